@@ -1,0 +1,61 @@
+//! Locks on ranges of keys.
+
+ghost use Rattle.std.specs.Prelude.{◌≡◌};
+
+use crate::range::Range;
+
+/// How a lock is held.
+#[derive(Clone, Copy, Debug, PartialEq, Eq, Hash)]
+pub enum Mode {
+    Shared,
+    Exclusive,
+}
+
+/// A range of keys, absent ones included, and how it is locked.
+#[derive(Clone, Copy, Debug, PartialEq, Eq, Hash)]
+pub struct Lock {
+    pub mode: Mode,
+    pub range: Range,
+}
+
+impl Mode {
+    ghost use Rattle.am_record.specs.Locks.{is_exclusive, are_compatible};
+
+    pub fn is_exclusive(self) -> bool
+        ensures { result ≡ is_exclusive self }
+    {
+        match self {
+            Mode::Shared => false,
+            Mode::Exclusive => true,
+        }
+    }
+
+    /// Whether two transactions may hold locks of these modes on one key: shared with shared, and no other pair.
+    pub fn is_compatible(self, other: Mode) -> bool
+        ensures { result ≡ are_compatible self other }
+    {
+        match (self, other) {
+            (Mode::Shared, Mode::Shared) => true,
+            (Mode::Shared, Mode::Exclusive) | (Mode::Exclusive, _) => false,
+        }
+    }
+}
+
+impl Lock {
+    ghost use Rattle.am_record.specs.Locks.{covers, conflicts};
+
+    /// Whether a transaction that holds this lock needs no other for what is asked.
+    pub fn covers(&self, asked: &Lock) -> bool
+        ensures { result ≡ covers self.now asked.now }
+    {
+        self.range.encloses(&asked.range)
+            && (self.mode.is_exclusive() || !asked.mode.is_exclusive())
+    }
+
+    /// Whether the locks can't be held by two transactions at once.
+    pub fn conflicts(&self, other: &Lock) -> bool
+        ensures { result ≡ conflicts self.now other.now }
+    {
+        self.range.meets(&other.range) && !self.mode.is_compatible(other.mode)
+    }
+}

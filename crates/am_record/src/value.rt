@@ -1,0 +1,56 @@
+//! Values of records.
+
+ghost use Rattle.std.specs.Prelude.{◌≡◌, ◌↔◌, ◌≤◌, IsSome, IfSome, length};
+
+use std::marker::Model;
+
+/// The most bytes that a value may have.
+pub const MAX_VALUE_LEN: usize = 64;
+
+/// At most 64 bytes. The bytes past its length are zero, so equal values are equal byte by byte.
+#[derive(Clone, Copy, Debug, PartialEq, Eq, PartialOrd, Ord, Hash)]
+pub struct Value {
+    bytes: [u8; 64],
+    len: usize,
+}
+
+impl Model for Value {
+    ghost use Rattle.std.specs.Prelude.{ℕ, List, take, length, replicate, ◌++◌, ◌-◌};
+    ghost use Rattle.am_record.specs.ValueBytes.{IsPadded};
+
+    ghost Value = { List ℕ };
+
+    ghost view = { λ v. take v.len v.bytes };
+
+    ghost invariant = { λ v. IsPadded v.bytes v.len };
+
+    ghost inverse = { λ xs. record { bytes = xs ++ replicate (64 - length xs) 0; len = length xs } };
+
+    ghost use Rattle.am_record.specs.ValueFields.{fields_of-view};
+
+    ghost inverse_ok = { λ a h. fields_of-view a h };
+}
+
+impl Value {
+    /// The value of the bytes, where they are at most 64.
+    pub fn new(bytes: &[u8]) -> Option<Value>
+        ensures short { IsSome result ↔ (length bytes.now ≤ 64) }
+        ensures value { IfSome result (λ v. v ≡ bytes.now) }
+    {
+        let len = bytes.len();
+        if len > MAX_VALUE_LEN {
+            return None;
+        }
+        let mut all = [0; 64];
+        all[..len].copy_from_slice(bytes);
+        Some(Value { bytes: all, len })
+    }
+
+    /// The bytes.
+    pub fn bytes(&self) -> &[u8]
+        ensures all { result.now ≡ self.now }
+        ensures short { length self.now ≤ 64 }
+    {
+        &self.bytes[..self.len]
+    }
+}
