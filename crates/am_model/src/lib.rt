@@ -1,0 +1,8 @@
+//! The plain map that every store is measured by: operations applied one after another, with nothing between.
+#![tactic(auto)]
+
+mod plain;
+#[cfg(test)]
+mod tests;
+
+pub use plain::{Plain, alone};
