@@ -1,0 +1,75 @@
+-- The content of an index: the map of the live entries of its list, no key being live in two partitions.
+use Rattle.std.specs.Prelude.{◌≡◌, ◌≢◌, ℕ, List, true, false, not, map, filter, Option, Some, None, if◌then◌else◌}
+use Rattle.std.specs.FinMap.{get, insert, remove, from_entries}
+use Rattle.am_record.specs.OrderedKey.{OrderedKey}
+use Rattle.am_record.specs.Plain.{PlainMap, Records}
+use Rattle.am_record.specs.declared.entry.Entry.{Entry}
+use Rattle.am_list.specs.Entries.{Slot, find, insert_entry, set_entry, remove_entry, IsRising}
+
+-- the records of the live entries
+abbrev pub live_records : List Entry → Records
+live_records es = map (λ (e : Entry). (e.key, e.value)) (filter (λ (e : Entry). not e.is_ghost) es)
+
+-- the map of the live entries
+abbrev pub content : List Entry → PlainMap
+content es = from_entries (live_records es)
+
+-- the key is live in the partition, with the value
+pub record IsLiveAt (es : List Entry) (part : ℕ) (key : OrderedKey) (value : List ℕ) : Type 0 where
+  pub there : find es part key ≡ Some (value, false)
+
+-- no key is live in two partitions
+pub record OnePlace (es : List Entry) : Type 0 where
+  pub one : (key : OrderedKey) (part part' : ℕ) (value value' : List ℕ) → IsLiveAt es part key value → IsLiveAt es part' key value' → part ≡ part'
+
+-- the entries rise, no key is live in two partitions, and this map is the content
+pub record HasContent (es : List Entry) (m : PlainMap) : Type 0 where
+  pub rising : IsRising es
+  pub one_place : OnePlace es
+  pub same : content es ≡ m
+
+-- the value of what stands at a place, where it is live
+abbrev pub live_value : Option Slot → Option (List ℕ)
+live_value None = None
+live_value (Some s) = if s.1 then None else Some s.0
+
+-- of the partitions one at most has a live value, and it is this one
+pub record HasOne (at : ℕ → Option (List ℕ)) (value : Option (List ℕ)) : Type 0 where
+  pub sound : (part : ℕ) (v : List ℕ) → at part ≡ Some v → value ≡ Some v
+  pub full : (v : List ℕ) → value ≡ Some v → (part : ℕ) × (at part ≡ Some v)
+  pub one : (part part' : ℕ) (v v' : List ℕ) → at part ≡ Some v → at part' ≡ Some v' → part ≡ part'
+
+-- what has the key live in the partitions of the list
+abbrev pub values_at : List Entry → OrderedKey → ℕ → Option (List ℕ)
+values_at es key part = live_value (find es part key)
+
+-- the content of a rising list in which no key is live in two partitions, and what edits of it do
+pub record ContentLaws (es : List Entry) : Type 0 where
+  -- the content has a key exactly where some partition has it live
+  pub live : (part : ℕ) (key : OrderedKey) (value : List ℕ) → IsLiveAt es part key value → get (content es) key ≡ Some value
+  pub found : (key : OrderedKey) (value : List ℕ) → get (content es) key ≡ Some value → (part : ℕ) × IsLiveAt es part key value
+  pub dead : (key : OrderedKey) → ((part : ℕ) (value : List ℕ) → IsLiveAt es part key value → ⊥) → get (content es) key ≡ None
+  pub has_one : (key : OrderedKey) → HasOne (values_at es key) (get (content es) key)
+  -- an entry is added where none stands
+  pub added : (x : Entry) → find es x.part x.key ≡ None → x.is_ghost ≡ false → get (content es) x.key ≡ None →
+      HasContent (insert_entry es x) (insert (content es) x.key x.value)
+  pub ghost_added : (x : Entry) → find es x.part x.key ≡ None → x.is_ghost ≡ true → HasContent (insert_entry es x) (content es)
+  -- the value and mark of an entry are set
+  pub replaced : (part : ℕ) (key : OrderedKey) (old value : List ℕ) → IsLiveAt es part key old →
+      HasContent (set_entry es part key value false) (insert (content es) key value)
+  pub marked : (part : ℕ) (key : OrderedKey) (old value : List ℕ) → IsLiveAt es part key old →
+      HasContent (set_entry es part key value true) (remove (content es) key)
+  pub revived : (part : ℕ) (key : OrderedKey) (old value : List ℕ) → find es part key ≡ Some (old, true) → get (content es) key ≡ None →
+      HasContent (set_entry es part key value false) (insert (content es) key value)
+  pub ghost_set : (part : ℕ) (key : OrderedKey) (old value : List ℕ) → find es part key ≡ Some (old, true) →
+      HasContent (set_entry es part key value true) (content es)
+  -- an entry is removed
+  pub removed : (part : ℕ) (key : OrderedKey) (old : List ℕ) → IsLiveAt es part key old →
+      HasContent (remove_entry es part key) (remove (content es) key)
+  pub ghost_removed : (part : ℕ) (key : OrderedKey) (old : List ℕ) → find es part key ≡ Some (old, true) →
+      HasContent (remove_entry es part key) (content es)
+  -- a live entry goes to another partition: to a new place, or over a ghost
+  pub moved : (x : Entry) (part : ℕ) → IsLiveAt es part x.key x.value → part ≢ x.part → x.is_ghost ≡ false → find es x.part x.key ≡ None →
+      HasContent (remove_entry (insert_entry es x) part x.key) (content es)
+  pub moved_over_ghost : (part part' : ℕ) (key : OrderedKey) (value old : List ℕ) → IsLiveAt es part key value → find es part' key ≡ Some (old, true) →
+      HasContent (remove_entry (set_entry es part' key value false) part key) (content es)

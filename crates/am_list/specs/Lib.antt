@@ -1,0 +1,6 @@
+pub mod EntryCode
+pub mod Entries
+pub mod Places
+pub mod Edits
+pub mod Walks
+pub mod Content

@@ -1,0 +1,28 @@
+//! Laws of lists of entries, for the proofs of whoever keeps an index. Their functions do nothing.
+
+ghost use Rattle.std.specs.Prelude.{List, []};
+ghost use Rattle.std.specs.FinMap.{get, empty};
+ghost use Rattle.am_record.specs.OrderedKey.{OrderedKey};
+ghost use Rattle.am_record.specs.Plain.{PlainMap};
+ghost use Rattle.am_record.specs.declared.entry.Entry.{Entry};
+ghost use Rattle.am_list.specs.Entries.{IsRising};
+ghost use Rattle.am_list.specs.Edits.{EditLaws};
+ghost use Rattle.am_list.specs.Walks.{WalkLaws};
+ghost use Rattle.am_list.specs.Content.{OnePlace, HasContent, HasOne, values_at, ContentLaws};
+
+/// What insertion, setting and removal do to a rising list, place by place.
+pub fn edits_follow()
+    ensures { (es : List Entry) → IsRising es → EditLaws es }
+{}
+
+/// What the walks over a rising list find, in terms of what stands at each place.
+pub fn walks_follow()
+    ensures { (es : List Entry) → IsRising es → WalkLaws es }
+{}
+
+/// What the content of a list is, and what edits of the list do to it.
+pub fn content_follows()
+    ensures edits { (es : List Entry) → IsRising es → OnePlace es → ContentLaws es }
+    ensures places { (es : List Entry) (m : PlainMap) → IsRising es → ((key : OrderedKey) → HasOne (values_at es key) (get m key)) → HasContent es m }
+    ensures nothing { HasContent [] empty }
+{}

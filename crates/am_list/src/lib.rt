@@ -1,0 +1,12 @@
+//! Indexes over partitions: each is seen as one sorted list of entries, however it keeps them.
+#![tactic(auto)]
+
+mod laws;
+mod list_index;
+mod part_index;
+#[cfg(test)]
+mod tests;
+
+pub use laws::{content_follows, edits_follow, walks_follow};
+pub use list_index::ListIndex;
+pub use part_index::PartIndex;

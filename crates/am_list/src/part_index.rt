@@ -1,0 +1,55 @@
+//! What every index over partitions does.
+
+ghost use Rattle.std.specs.Prelude.{◌≡◌, List, Some, None, IsSome, OnOk, OnErr};
+ghost use Rattle.am_record.specs.declared.entry.Entry.{Entry};
+ghost use Rattle.am_list.specs.Entries.{find, next_any, next_from, after, entry_at, insert_entry, set_entry, remove_entry, IsRising};
+
+use am_record::{Entry, Key, NoMemory, Value};
+
+/// An index over partitions, seen as the list of its entries. They rise strictly by partition and
+/// then by key, so no two entries have the same partition and key. Ghosts are entries as all others.
+pub trait PartIndex {
+    /// The entries, in order.
+    ghost entries: { Self → List Entry };
+
+    /// The value that stands under a partition and key, and whether it is a ghost.
+    fn find(&self, part: u32, key: Key) -> Option<(Value, bool)>
+        ensures found { result ≡ find (entries self.now) part key }
+        ensures rising { IsRising (entries self.now) };
+
+    /// The first entry of the partition at or above the key.
+    fn next_from(&self, part: u32, key: Key) -> Option<Entry>
+        ensures found { result ≡ next_from (entries self.now) part key }
+        ensures rising { IsRising (entries self.now) };
+
+    /// The first entry of the partition strictly above the key.
+    fn after(&self, part: u32, key: Key) -> Option<Entry>
+        ensures found { result ≡ after (entries self.now) part key }
+        ensures rising { IsRising (entries self.now) };
+
+    /// The first entry of the whole index at or above the place of a partition and key. It may be
+    /// one of a later partition.
+    fn next_any(&self, part: u32, key: Key) -> Option<Entry>
+        ensures found { result ≡ next_any (entries self.now) part key }
+        ensures rising { IsRising (entries self.now) };
+
+    /// Adds an entry. The caller sees to it that no entry has its partition and key.
+    ///
+    /// # Errors
+    /// NoMemory, where memory was refused; the entries are as before.
+    fn insert(&mut self, entry: Entry) -> Result<(), NoMemory>
+        requires { find (entries self.old) entry.part entry.key ≡ None }
+        ensures ok { OnOk result (entries self.new ≡ insert_entry (entries self.old) entry) }
+        ensures err { OnErr result (entries self.new ≡ entries self.old) };
+
+    /// Writes over the value and the mark of an entry. The caller sees to it that it is there.
+    fn set(&mut self, part: u32, key: Key, value: Value, is_ghost: bool)
+        requires { IsSome (find (entries self.old) part key) }
+        ensures { entries self.new ≡ set_entry (entries self.old) part key value is_ghost };
+
+    /// Takes an entry out. The caller sees to it that it is there.
+    fn remove(&mut self, part: u32, key: Key) -> Entry
+        requires { IsSome (find (entries self.old) part key) }
+        ensures entry { entry_at (entries self.old) part key ≡ Some result }
+        ensures others { entries self.new ≡ remove_entry (entries self.old) part key };
+}

@@ -1,0 +1,123 @@
+ghost use Rattle.std.specs.Prelude.{◌≡◌};
+
+use crate::{ListIndex, PartIndex};
+use am_record::{Entry, Key, NoMemory, Value};
+use std::test::Fail;
+
+fn value(byte: u8) -> Value {
+    Value::new(&[byte]).unwrap()
+}
+
+fn live(part: u32, number: u64, byte: u8) -> Entry {
+    Entry {
+        part,
+        key: Key::new(number),
+        value: value(byte),
+        is_ghost: false,
+    }
+}
+
+fn dead(part: u32, number: u64, byte: u8) -> Entry {
+    Entry {
+        part,
+        key: Key::new(number),
+        value: value(byte),
+        is_ghost: true,
+    }
+}
+
+// Adds the entry, unless its place is taken.
+fn add<I: PartIndex>(index: &mut I, entry: Entry) -> Result<(), NoMemory> {
+    if index.find(entry.part, entry.key).is_none() {
+        index.insert(entry)?;
+    }
+    Ok(())
+}
+
+// Takes the entry of the place out, where one stands there.
+fn take<I: PartIndex>(index: &mut I, part: u32, key: Key) -> Option<Entry> {
+    if index.find(part, key).is_none() {
+        return None;
+    }
+    Some(index.remove(part, key))
+}
+
+#[test]
+fn walks_over_two_partitions_and_their_ghosts(rt: HostRuntime) -> Result<(), Fail> {
+    let mut index = ListIndex::new(rt.alloc());
+    for e in [
+        live(1, 5, b'd'),
+        live(0, 2, b'a'),
+        dead(0, 5, b'g'),
+        live(1, 1, b'c'),
+    ] {
+        add(&mut index, e)?;
+    }
+
+    assert!(rt; index.find(0, Key::new(5)) == Some((value(b'g'), true)));
+    assert!(rt; index.find(1, Key::new(5)) == Some((value(b'd'), false)));
+    assert!(rt; index.find(0, Key::new(1)).is_none());
+
+    assert!(rt; index.next_from(0, Key::least()) == Some(live(0, 2, b'a')));
+    assert!(rt; index.next_from(0, Key::new(3)) == Some(dead(0, 5, b'g')));
+    assert!(rt; index.next_from(0, Key::new(5)) == Some(dead(0, 5, b'g')));
+    assert!(rt; index.next_from(0, Key::new(6)).is_none());
+    assert!(rt; index.next_from(2, Key::least()).is_none());
+
+    assert!(rt; index.after(0, Key::new(2)) == Some(dead(0, 5, b'g')));
+    assert!(rt; index.after(0, Key::new(5)).is_none());
+    assert!(rt; index.after(1, Key::new(1)) == Some(live(1, 5, b'd')));
+
+    assert!(rt; index.next_any(0, Key::new(3)) == Some(dead(0, 5, b'g')));
+    assert!(rt; index.next_any(0, Key::new(6)) == Some(live(1, 1, b'c')));
+    assert!(rt; index.next_any(1, Key::new(6)).is_none());
+    Ok(())
+}
+
+#[test]
+fn edits_the_entry_of_a_place(rt: HostRuntime) -> Result<(), Fail> {
+    let mut index = ListIndex::new(rt.alloc());
+    assert!(rt; index.entries().is_empty());
+    for e in [live(1, 5, b'b'), live(0, 5, b'a'), live(1, 7, b'c')] {
+        add(&mut index, e)?;
+    }
+    assert_eq!(rt;
+        index.entries(),
+        [live(0, 5, b'a'), live(1, 5, b'b'), live(1, 7, b'c')].as_slice()
+    );
+
+    let key = Key::new(5);
+    if index.find(1, key).is_some() {
+        index.set(1, key, value(b'x'), true);
+    }
+    assert_eq!(rt;
+        index.entries(),
+        [live(0, 5, b'a'), dead(1, 5, b'x'), live(1, 7, b'c')].as_slice()
+    );
+
+    assert!(rt; take(&mut index, 1, key) == Some(dead(1, 5, b'x')));
+    assert_eq!(rt;
+        index.entries(),
+        [live(0, 5, b'a'), live(1, 7, b'c')].as_slice()
+    );
+    assert!(rt; take(&mut index, 1, key).is_none());
+    Ok(())
+}
+
+#[test]
+fn refused_insert_changes_nothing(rt: HostRuntime) -> Result<(), Fail> {
+    let mut index = ListIndex::new(rt.alloc());
+    for number in 0..9_u64 {
+        let key = Key::new(20 - number);
+        if add(&mut index, live(0, 20 - number, b'a')).is_err() {
+            assert!(rt; index.entries().len() == number as usize);
+            assert!(rt; index.find(0, key).is_none());
+            assert!(rt; index.next_from(0, Key::least()) == index.after(0, key));
+            add(&mut index, live(0, 20 - number, b'a'))?;
+        }
+        assert!(rt; index.next_from(0, Key::least()) == Some(live(0, 20 - number, b'a')));
+        assert!(rt; index.entries().len() == number as usize + 1);
+    }
+    assert!(rt; index.after(0, Key::new(19)) == Some(live(0, 20, b'a')));
+    Ok(())
+}
