@@ -1,0 +1,23 @@
+//! How the program ends.
+
+ghost use Rattle.std.specs.Prelude.{◌≡◌};
+ghost use Rattle.am_server.specs.Endings.{status_of, words_of};
+
+use am_session::End;
+
+/// The status for a fault of the command line.
+pub const USAGE_STATUS: u8 = 2;
+
+/// The program's status, and what it says on standard error, by how its session ended. The text is empty where there is
+/// nothing to say.
+pub fn ending(end: &End) -> (u8, &'static str)
+    ensures status { result.0 ≡ status_of end.now }
+    ensures text { result.1.now ≡ words_of end.now }
+{
+    match end {
+        End::Quit | End::EndOfInput => (0, ""),
+        End::ReadFailed => (6, "amserve: read failed"),
+        End::WriteFailed => (6, "amserve: write failed"),
+        End::NoMemory => (5, "amserve: no memory"),
+    }
+}

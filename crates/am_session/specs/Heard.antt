@@ -1,0 +1,34 @@
+-- What a line says.
+use Rattle.std.specs.Prelude.{ℕ, List, [], ◌∷◌, Bool, true, false, cond, Option, Some, None, Result, Ok, Err}
+use Rattle.am_wire.specs.Reading.{reading}
+use Rattle.am_wire.specs.declared.request.Request.{Request}
+use Rattle.am_wire.specs.declared.request.Request.TheVariants.{Quit}
+use Rattle.am_wire.specs.declared.request.LineFault.{LineFault}
+use Rattle.am_session.specs.declared.hear.Heard.{Heard}
+use Rattle.am_session.specs.declared.hear.Heard.TheVariants.{Asked, Faulty, TooLong}
+
+-- a line of the input, None where it is too long
+abbrev pub Line : Type 0
+Line = Option (List ℕ)
+
+abbrev pub told : Result Request LineFault → Heard
+told (Ok request) = Asked request
+told (Err fault) = Faulty fault
+
+abbrev pub heard : Line → Heard
+heard None = TooLong
+heard (Some text) = told (reading text)
+
+abbrev pub is_quit : Heard → Bool
+is_quit (Asked Quit) = true
+is_quit _ = false
+
+-- the lines before the first QUIT
+abbrev pub before_quit : List Line → List Line
+before_quit [] = []
+before_quit (line ∷ lines) = cond (is_quit (heard line)) [] (line ∷ before_quit lines)
+
+-- whether there is a QUIT
+abbrev pub quits : List Line → Bool
+quits [] = false
+quits (line ∷ lines) = cond (is_quit (heard line)) true (quits lines)

@@ -1,0 +1,13 @@
+pub mod Heard
+pub mod Responses
+pub mod Dues
+pub mod Active
+pub mod Talk
+pub mod Served
+pub mod Store
+pub mod Home
+pub mod PrivateStore
+pub mod Say
+pub mod Spoke
+pub mod InMemory
+pub mod EachLine

@@ -1,0 +1,25 @@
+//! What a session stands on.
+
+ghost use Rattle.std.specs.Prelude.{◌≡◌, ℕ, Option};
+ghost use Rattle.am_record.specs.declared.step.Step.{Step};
+ghost use Rattle.am_record.specs.declared.step.Reply.{Reply};
+ghost use Rattle.am_session.specs.Active.{IsAllowed, active_after, EndsAbort};
+
+use am_record::{Reply, Step};
+use std::sync::Wait;
+
+/// A store as one session sees it.
+pub trait Backend {
+    /// The transaction that is active in it.
+    ghost active: { Self → Option ℕ };
+
+    /// From a state it may go by a step, with a reply, to another.
+    ghost goes: { Self → Step → Reply → Self → Type 0 };
+
+    /// Takes a step: a Begin where no transaction is active, and all others of the one that is. An Abort always succeeds.
+    fn call<W: Wait>(&mut self, rt: &W, step: Step) -> Reply
+        requires { IsAllowed (active self.old) step }
+        ensures goes { goes self.old step result self.new }
+        ensures active { active self.new ≡ active_after (active self.old) result }
+        ensures aborted { EndsAbort step result };
+}

@@ -1,0 +1,10 @@
+pub mod Streams
+pub mod Cutting
+pub mod ReadLines
+pub mod Texts
+pub mod Spaces
+pub mod Numerals
+pub mod Keys
+pub mod Values
+pub mod Forms
+pub mod Readings

@@ -1,0 +1,13 @@
+use Rattle.std.proofs.Common.{length, ◌-◌, ◌≡◌, ◌≤◌, take}
+use Rattle.am_wire.specs.Giving.{Gave}
+use Rattle.am_wire.proofs.sink.give_all.Given as goal
+
+abbrev pub invariant-loop-done : goal.invariant-loop-done
+invariant-loop-done g l = record {
+  within : l.done ≤ length l.piece;
+  given : Gave g.K.Sink.holds l.fn.sink (take l.done l.piece) l.sink;
+  ok : g.K.Sink.failures l.sink ≡ g.K.Sink.failures l.fn.sink;
+}
+
+abbrev pub decreases-loop-done : goal.decreases-loop-done
+decreases-loop-done g l = length l.piece - l.done

@@ -1,0 +1,11 @@
+pub mod Taking
+pub mod Giving
+pub mod OverStd
+pub mod Lines
+pub mod Seen
+pub mod Replies
+pub mod Numbers
+pub mod Keys
+pub mod Values
+pub mod Grammar
+pub mod Reading

@@ -1,0 +1,58 @@
+-- The texts of replies.
+use Rattle.std.specs.Prelude.{◌≡◌, ℕ, ◌≤◌, List, [], ◌∷◌, ◌++◌, codes, decimal, All}
+use Rattle.am_record.specs.OrderedKey.{OrderedKey, number_of}
+use Rattle.am_record.specs.declared.step.Reply.{Reply}
+use Rattle.am_record.specs.declared.step.Reply.TheVariants.{Begun, Done, Found, Absent, Exists, Committed, Aborted, Refused}
+use Rattle.am_record.specs.declared.step.Refusal.{Refusal}
+use Rattle.am_record.specs.declared.step.Refusal.TheVariants.{NoSuchTx, Busy, TooManyTx, TooManyLocks, TooManyOps, TooManyRuns, NotRising, BadLimit, NoMemory, SeatFull}
+use Rattle.am_wire.specs.Lines.{HasNoLf}
+
+-- a key, by the number that it is made of
+abbrev pub key_text : OrderedKey → List ℕ
+key_text k = decimal (number_of k)
+
+abbrev pub refusal_words : Refusal → List ℕ
+refusal_words NoSuchTx = codes "ERR NOTX"
+refusal_words (Busy holder) = codes "BUSY " ++ decimal holder
+refusal_words TooManyTx = codes "ERR TXS"
+refusal_words TooManyLocks = codes "ERR LOCKS"
+refusal_words TooManyOps = codes "ERR OPS"
+refusal_words TooManyRuns = codes "ERR RUNS"
+refusal_words NotRising = codes "ERR ORDER"
+refusal_words BadLimit = codes "ERR LIMIT"
+refusal_words NoMemory = codes "ERR MEMORY"
+refusal_words SeatFull = codes "ERR FULL"
+
+-- a reply, before the end of its line
+abbrev pub words_of : Reply → List ℕ
+words_of (Begun tx) = codes "BEGUN " ++ decimal tx
+words_of Done = codes "OK"
+words_of (Found value) = codes "VAL " ++ value
+words_of Absent = codes "NONE"
+words_of (Exists key) = codes "EXISTS " ++ key_text key
+words_of (Committed commit) = codes "COMMITTED " ++ decimal commit
+words_of Aborted = codes "ABORTED"
+words_of (Refused refusal) = refusal_words refusal
+
+-- a reply, with the LF that ends its line
+abbrev pub text_of : Reply → List ℕ
+text_of reply = words_of reply ++ 10 ∷ []
+
+-- the bytes that a value on a line may have: those with a glyph, the space not among them
+abbrev pub IsVisible : ℕ → Type 0
+IsVisible byte = (0x21 ≤ byte) × (byte ≤ 0x7E)
+
+-- the values that the reply tells have visible bytes alone
+abbrev pub TellsVisible : Reply → Type 0
+TellsVisible (Found value) = All IsVisible value
+TellsVisible (Begun tx) = Unit {0}
+TellsVisible Done = Unit {0}
+TellsVisible Absent = Unit {0}
+TellsVisible (Exists key) = Unit {0}
+TellsVisible (Committed commit) = Unit {0}
+TellsVisible Aborted = Unit {0}
+TellsVisible (Refused refusal) = Unit {0}
+
+-- the text is one line: an LF ends it, and no other stands in it
+abbrev pub IsOneLine : List ℕ → Type 0
+IsOneLine text = (words : List ℕ) × HasNoLf words × (text ≡ words ++ 10 ∷ [])

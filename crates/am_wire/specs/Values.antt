@@ -1,0 +1,16 @@
+-- Values as lines have them.
+use Rattle.std.specs.Prelude.{ℕ, ◌<◌, ◌≤◌, Bool, not, ◌&&◌, ◌==◌, nat_le, List, length, All, Option, Some, None, if◌then◌else◌}
+use Rattle.std.specs.Char.{is_ascii_graphic}
+use Rattle.std.specs.List.{list_all}
+
+-- one byte at least, each from 0x21 to 0x7E
+abbrev pub IsValueText : List ℕ → Type 0
+IsValueText text = (0 < length text) × All (λ b. (0x21 ≤ b) × (b ≤ 0x7E)) text
+
+-- the same as a test
+abbrev pub is_value_text : List ℕ → Bool
+is_value_text text = not (length text == 0) && list_all is_ascii_graphic text
+
+-- the value of the bytes, where they are in range: 64 at most
+abbrev pub value_for : List ℕ → Option (List ℕ)
+value_for bytes = if nat_le (length bytes) 64 then Some bytes else None

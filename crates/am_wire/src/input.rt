@@ -1,0 +1,160 @@
+//! Lines of a source.
+
+ghost use Rattle.std.specs.Prelude.{◌≡◌, ℕ, ◌+◌, ◌-◌, ◌^◌, ◌<◌, ◌≤◌, List, [], ◌++◌, take, drop, OnOk, OnErr, IfOk, IfSome, IfNone, vec_len, option_to_list};
+ghost use Rattle.am_wire.specs.Taking.{TookAhead, IsAtEnd};
+ghost use Rattle.am_wire.specs.Lines.{TookLine, TookPart};
+ghost use Rattle.am_wire.specs.Seen.{seen};
+
+use crate::line::{FoundLine, LineBuffer};
+use crate::source::{Failed, Source};
+use am_record::NoMemory;
+use std::alloc::Global;
+use std::marker::Model;
+use std::sync::Wait;
+
+/// How many bytes are taken from a source at once, at most.
+const PIECE_LEN: usize = 4096;
+
+/// Bytes that were taken from a source and wait to be used.
+#[derive(Drop)]
+pub struct Input {
+    buffer: Vec<u8>,
+    start: usize,
+    end: usize,
+}
+
+impl Model for Input {
+    ghost use Rattle.std.specs.Prelude.{◌≡◌, ◌≤◌, ℕ, List, take, drop, vec_len};
+    ghost use Rattle.am_wire.specs.declared.input.TheConstants.{PIECE_LEN};
+
+    ghost Value = { List ℕ };
+
+    ghost view = { λ i. drop i.start (take i.end i.buffer.items) };
+
+    ghost invariant = { λ i. (i.start ≤ i.end) × (i.end ≤ PIECE_LEN) × (vec_len i.buffer ≡ PIECE_LEN) };
+}
+
+/// Takes bytes into a buffer with room, and says how many of them there are. None means the end of the source.
+fn fill<S: Source>(source: &mut S, buffer: &mut Vec<u8>) -> Result<usize, Failed>
+    requires countable { S.failures source.old < 2 ^ 63 }
+    requires room { vec_len buffer.old ≡ PIECE_LEN }
+    ensures len { vec_len buffer.new ≡ PIECE_LEN }
+    ensures fits { IfOk result (λ n. n ≤ PIECE_LEN) }
+    ensures taken { IfOk result (λ n. TookAhead S.comes [] source.old [] (take n buffer.new.items) source.new) }
+    ensures end { IfOk result (λ n. n ≡ 0 → S.comes source.new []) }
+    ensures ok { OnOk result (S.failures source.new ≡ S.failures source.old) }
+    ensures failed { OnErr result (S.failures source.new ≡ S.failures source.old + 1) }
+    ensures kept { OnErr result (TookAhead S.comes [] source.old [] [] source.new) }
+{
+    source.take(buffer.as_mut_slice())
+}
+
+impl Input {
+    /// An input in which no byte waits. It gets all the memory that it will ever use.
+    pub fn new(alloc: Global) -> Result<Self, NoMemory>
+        ensures { IfOk result (λ i. i ≡ []) }
+    {
+        Ok(Input {
+            buffer: vec![in alloc; 0; PIECE_LEN]?,
+            start: 0,
+            end: 0,
+        })
+    }
+
+    /// Takes more bytes, where none wait. None come at the end of the source.
+    fn refill<S: Source>(&mut self, source: &mut S) -> Result<(), Failed>
+        requires countable { S.failures source.old < 2 ^ 63 }
+        requires empty { self.old ≡ [] }
+        ensures taken { OnOk result (TookAhead S.comes self.old source.old [] self.new source.new) }
+        ensures end { OnOk result (self.new ≡ [] → S.comes source.new []) }
+        ensures ok { OnOk result (S.failures source.new ≡ S.failures source.old) }
+        ensures failed { OnErr result (S.failures source.new ≡ S.failures source.old + 1) }
+        ensures kept { OnErr result (TookAhead S.comes self.old source.old [] self.new source.new) }
+        ensures empty { OnErr result (self.new ≡ []) }
+    {
+        self.start = 0;
+        self.end = 0;
+        self.end = fill(source, &mut self.buffer)?;
+        Ok(())
+    }
+
+    /// Uses the first byte that waits.
+    fn pop(&mut self) -> Option<u8>
+        ensures used { self.old ≡ option_to_list result ++ self.new }
+        ensures none { IfNone result (self.new ≡ []) }
+    {
+        if self.start == self.end {
+            return None;
+        }
+        let byte = self.buffer[self.start];
+        self.start += 1;
+        Some(byte)
+    }
+
+    /// Uses the next byte. None means that the source is at its end.
+    fn next<S: Source>(&mut self, source: &mut S) -> Result<Option<u8>, Failed>
+        requires countable { S.failures source.old < 2 ^ 63 }
+        ensures taken { IfOk result (λ byte. TookAhead S.comes self.old source.old (option_to_list byte) self.new source.new) }
+        ensures end { IfOk result (λ byte. IfNone byte (IsAtEnd S.comes self.new source.new)) }
+        ensures ok { OnOk result (S.failures source.new ≡ S.failures source.old) }
+        ensures failed { OnErr result (S.failures source.new ≡ S.failures source.old + 1) }
+        ensures kept { OnErr result (TookAhead S.comes self.old source.old [] self.new source.new) }
+        ensures empty { OnErr result (self.new ≡ []) }
+    {
+        match self.pop() {
+            Some(byte) => Ok(Some(byte)),
+            None => {
+                self.refill(source)?;
+                Ok(self.pop())
+            }
+        }
+    }
+}
+
+/// Reads the next line, however the source cuts its bytes. None means that there is no further line. Its bytes stand in
+/// `line`; of a line that is too long the rest up to the LF is passed over. After a failure what was read of a line that
+/// isn't ended is lost.
+pub fn read_line<R: Wait, S: Source>(
+    rt: &R,
+    input: &mut Input,
+    source: &mut S,
+    line: &mut LineBuffer,
+) -> Result<Option<FoundLine>, Failed>
+    requires countable { S.failures source.old < 2 ^ 63 }
+    ensures line { IfOk result (λ found. IfSome found (λ f.
+        TookLine S.comes input.old source.old (seen f.kind line.new) f.is_ended input.new source.new)) }
+    ensures end { IfOk result (λ found. IfNone found
+        (TookAhead S.comes input.old source.old [] input.new source.new × IsAtEnd S.comes input.new source.new)) }
+    ensures ok { OnOk result (S.failures source.new ≡ S.failures source.old) }
+    ensures failed { OnErr result (S.failures source.new ≡ S.failures source.old + 1) }
+    ensures part { OnErr result (TookPart S.comes input.old source.old input.new source.new) }
+    ensures empty { OnErr result (input.new ≡ []) }
+{
+    line.clear();
+    'bytes: for _ in rt.forever() {
+        let next = input.next(source)?;
+        match next {
+            None => {
+                if line.is_empty() {
+                    return Ok(None);
+                }
+                let kind = line.finish();
+                return Ok(Some(FoundLine {
+                    kind,
+                    is_ended: false,
+                }));
+            }
+            Some(byte) => {
+                if byte == b'\n' {
+                    let kind = line.finish();
+                    return Ok(Some(FoundLine {
+                        kind,
+                        is_ended: true,
+                    }));
+                }
+                line.add(byte);
+            }
+        }
+    }
+    unreachable!()
+}
