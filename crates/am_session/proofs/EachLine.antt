@@ -12,8 +12,8 @@ use Rattle.am_record.specs.declared.step.Step.TheVariants as step
 use Rattle.am_record.specs.declared.step.Reply.TheVariants.{Begun, Done, Exists, Refused}
 use Rattle.am_record.specs.declared.step.Refusal.TheVariants as refusal
 use Rattle.am_wire.specs.Lines.{lines_of, HasNoLf}
-use Rattle.am_wire.specs.Replies.{IsVisible, TellsVisible, IsOneLine, words_of}
-use Rattle.am_wire.specs.Values.{value_for}
+use Rattle.am_wire.specs.Replies.{TellsVisible, IsOneLine, words_of}
+use Rattle.am_wire.specs.Values.{IsVisible, value_for}
 use Rattle.am_wire.specs.Keys.{key_for}
 use Rattle.am_wire.specs.Grammar.{Form, begin, get, insert, commit, quit, IsProper, request_of, insert_request, Reads}
 use Rattle.am_wire.specs.Reading.{reading}

@@ -10,7 +10,8 @@ use Rattle.am_record.specs.declared.step.Reply.TheVariants.{Begun, Done, Found, 
 use Rattle.am_record.specs.declared.step.Refusal.{Refusal}
 use Rattle.am_record.specs.declared.step.Refusal.TheVariants.{NoSuchTx, Busy, TooManyTx, TooManyLocks, TooManyOps, TooManyRuns, NotRising, BadLimit, NoMemory, SeatFull}
 use Rattle.am_wire.specs.Lines.{HasNoLf}
-use Rattle.am_wire.specs.Replies.{refusal_words, words_of, IsVisible, TellsVisible}
+use Rattle.am_wire.specs.Replies.{refusal_words, words_of, TellsVisible}
+use Rattle.am_wire.specs.Values.{IsVisible}
 
 pub HasNoLf-append : (xs ys : List ℕ) → HasNoLf xs → HasNoLf ys → HasNoLf (xs ++ ys)
 HasNoLf-append [] ys f h = h

@@ -1,15 +1,12 @@
 -- The texts of replies.
 use Rattle.std.specs.Prelude.{◌≡◌, ℕ, ◌≤◌, List, [], ◌∷◌, ◌++◌, codes, decimal, All}
-use Rattle.am_record.specs.OrderedKey.{OrderedKey, number_of}
 use Rattle.am_record.specs.declared.step.Reply.{Reply}
 use Rattle.am_record.specs.declared.step.Reply.TheVariants.{Begun, Done, Found, Absent, Exists, Committed, Aborted, Refused}
 use Rattle.am_record.specs.declared.step.Refusal.{Refusal}
 use Rattle.am_record.specs.declared.step.Refusal.TheVariants.{NoSuchTx, Busy, TooManyTx, TooManyLocks, TooManyOps, TooManyRuns, NotRising, BadLimit, NoMemory, SeatFull}
 use Rattle.am_wire.specs.Lines.{HasNoLf}
-
--- a key, by the number that it is made of
-abbrev pub key_text : OrderedKey → List ℕ
-key_text k = decimal (number_of k)
+use Rattle.am_wire.specs.Keys.{printed_key}
+use Rattle.am_wire.specs.Values.{IsVisible}
 
 abbrev pub refusal_words : Refusal → List ℕ
 refusal_words NoSuchTx = codes "ERR NOTX"
@@ -29,7 +26,7 @@ words_of (Begun tx) = codes "BEGUN " ++ decimal tx
 words_of Done = codes "OK"
 words_of (Found value) = codes "VAL " ++ value
 words_of Absent = codes "NONE"
-words_of (Exists key) = codes "EXISTS " ++ key_text key
+words_of (Exists key) = codes "EXISTS " ++ printed_key key
 words_of (Committed commit) = codes "COMMITTED " ++ decimal commit
 words_of Aborted = codes "ABORTED"
 words_of (Refused refusal) = refusal_words refusal
@@ -37,10 +34,6 @@ words_of (Refused refusal) = refusal_words refusal
 -- a reply, with the LF that ends its line
 abbrev pub text_of : Reply → List ℕ
 text_of reply = words_of reply ++ 10 ∷ []
-
--- the bytes that a value on a line may have: those with a glyph, the space not among them
-abbrev pub IsVisible : ℕ → Type 0
-IsVisible byte = (0x21 ≤ byte) × (byte ≤ 0x7E)
 
 -- the values that the reply tells have visible bytes alone
 abbrev pub TellsVisible : Reply → Type 0

@@ -3,9 +3,13 @@ use Rattle.std.specs.Prelude.{ℕ, ◌<◌, ◌≤◌, Bool, not, ◌&&◌, ◌=
 use Rattle.std.specs.Char.{is_ascii_graphic}
 use Rattle.std.specs.List.{list_all}
 
--- one byte at least, each from 0x21 to 0x7E
+-- a byte that a value may have on a line: one with a glyph, the space not among them
+abbrev pub IsVisible : ℕ → Type 0
+IsVisible byte = (0x21 ≤ byte) × (byte ≤ 0x7E)
+
+-- one byte at least, each of them visible
 abbrev pub IsValueText : List ℕ → Type 0
-IsValueText text = (0 < length text) × All (λ b. (0x21 ≤ b) × (b ≤ 0x7E)) text
+IsValueText text = (0 < length text) × All IsVisible text
 
 -- the same as a test
 abbrev pub is_value_text : List ℕ → Bool

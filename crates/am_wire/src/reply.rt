@@ -3,7 +3,8 @@
 ghost use Rattle.std.specs.Prelude.{◌≡◌, ℕ, ◌+◌, ◌^◌, ◌<◌, ◌≤◌, List, ◌++◌, length, decimal, OnOk, OnErr, IfOk};
 ghost use Rattle.am_record.specs.declared.step.Reply.{Reply};
 ghost use Rattle.am_wire.specs.Giving.{Gave, GaveBeginning};
-ghost use Rattle.am_wire.specs.Replies.{key_text, refusal_words, words_of, text_of, TellsVisible, IsOneLine};
+ghost use Rattle.am_wire.specs.Keys.{printed_key};
+ghost use Rattle.am_wire.specs.Replies.{refusal_words, words_of, text_of, TellsVisible, IsOneLine};
 
 use crate::sink::{Sink, give_all};
 use crate::source::Failed;
@@ -65,7 +66,7 @@ impl Text {
     /// The text with a key behind it.
     fn then_key(self, key: Key) -> Self
         requires { length self + 20 ≤ MAX_REPLY_LEN }
-        ensures text { result ≡ self ++ key_text key }
+        ensures text { result ≡ self ++ printed_key key }
         ensures short { length result ≤ length self + 20 }
     {
         self.then_number(key.get())
