@@ -16,3 +16,6 @@ pub use memory::NoMemory;
 pub use range::Range;
 pub use step::{Op, Refusal, Reply, Step};
 pub use value::{MAX_VALUE_LEN, Value};
+
+#[cfg(test)]
+mod tests;

@@ -2,6 +2,7 @@
 
 ghost use Rattle.std.specs.Prelude.{◌≡◌};
 
+use crate::key::Key;
 use crate::range::Range;
 
 /// How a lock is held.
@@ -57,5 +58,21 @@ impl Lock {
         ensures { result ≡ conflicts self.now other.now }
     {
         self.range.meets(&other.range) && !self.mode.is_compatible(other.mode)
+    }
+}
+
+/// A shared lock of the least key: what fills an unused place of a fixed table.
+impl Default for Lock {
+    ghost use Rattle.am_record.specs.OrderedKey.{key_least};
+    ghost use Rattle.am_record.specs.Interval.{point};
+    ghost use Rattle.am_record.specs.declared.lock.Mode.TheVariants.{Shared};
+
+    ghost is_default = { λ l. l ≡ record { mode = Shared; range = point key_least } };
+
+    fn default() -> Lock {
+        Lock {
+            mode: Mode::Shared,
+            range: Range::point(Key::least()),
+        }
     }
 }

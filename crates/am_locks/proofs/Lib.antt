@@ -1,0 +1,5 @@
+pub mod Conflicts
+pub mod Apart
+pub mod Places
+pub mod Least
+pub mod Laws

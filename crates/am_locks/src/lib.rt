@@ -1,0 +1,13 @@
+//! The table of range locks: who holds which, and what is granted.
+#![tactic(auto)]
+
+mod asked;
+mod owner;
+mod table;
+
+pub use asked::Asked;
+pub use owner::{INLINE_LOCKS, MAX_LOCKS};
+pub use table::{LockTable, MAX_OWNERS};
+
+#[cfg(test)]
+mod tests;

@@ -1,0 +1,159 @@
+//! The table of locks.
+
+ghost use Rattle.std.specs.Prelude.{◌≡◌, ◌≢◌, ◌<◌, ◌≤◌, ◌↔◌, ◌∷◌, [], false, true, length, take, slice_index_or, slice_set, List, MatchOption};
+ghost use Rattle.std.specs.Option.{option_to_list};
+ghost use Rattle.am_record.specs.Locks.{is_covered, with_lock};
+ghost use Rattle.am_locks.specs.Held.{Held, blocks};
+ghost use Rattle.am_locks.specs.Table.{is_owner, locks_of, entered, with_locks, without, blockers, exclusive_holders, AreAllApart};
+ghost use Rattle.am_locks.specs.Answers.{IsLeastOf, MatchBusy};
+
+use crate::asked::Asked;
+use crate::owner::{INLINE_LOCKS, MAX_LOCKS, Owner};
+use am_record::{Key, Lock};
+use arrayvec::ArrayVec;
+use std::alloc::Global;
+use std::marker::Model;
+
+/// The most owners that a table may have.
+pub const MAX_OWNERS: usize = 64;
+
+/// Who holds which locks. Owners are named by the numbers of their transactions.
+///
+/// No lock of one owner conflicts with a lock of another.
+#[derive(Drop)]
+pub struct LockTable {
+    owners: ArrayVec<Owner, MAX_OWNERS, Global>,
+}
+
+impl Model for LockTable {
+    ghost use Rattle.std.specs.Prelude.{List};
+    ghost use Rattle.std.specs.Coded.{coded_list};
+    ghost use Rattle.am_locks.specs.Held.{Held, held_code};
+    ghost use Rattle.am_locks.specs.Table.{AreAllApart};
+
+    ghost Value = { List Held };
+
+    ghost coded = { coded_list held_code };
+
+    ghost view = { λ t. t.owners.items };
+
+    ghost invariant = { λ t. AreAllApart t.owners.items };
+}
+
+impl LockTable {
+    /// A table with no owners. It takes no memory: an owner's locks do, from the ninth on.
+    pub fn new(alloc: Global) -> LockTable
+        ensures { result ≡ [] }
+    {
+        LockTable {
+            owners: ArrayVec::new_in(alloc),
+        }
+    }
+
+    /// How many owners there are.
+    pub fn owners(&self) -> usize
+        ensures count { result ≡ length self.now }
+        ensures few { result ≤ MAX_OWNERS }
+    {
+        self.owners.len()
+    }
+
+    /// Whether the transaction is an owner.
+    pub fn is_owner(&self, tx: u64) -> bool
+        ensures { result ≡ is_owner self.now tx }
+    {
+        self.owners.iter().any(|owner| owner.number() == tx)
+    }
+
+    /// Makes the transaction an owner, the last one, which holds nothing yet. It takes no memory.
+    pub fn enter(&mut self, tx: u64)
+        requires room { length self.old < MAX_OWNERS }
+        requires new { is_owner self.old tx ≡ false }
+        ensures { self.new ≡ entered self.old tx }
+    {
+        self.owners.push(Owner::new(*self.owners.allocator(), tx));
+    }
+
+    /// Asks for a lock for an owner, at once and without waiting. A transaction's own locks are never in its way.
+    pub fn ask(&mut self, tx: u64, asked: Lock) -> Asked
+        requires { is_owner self.old tx ≡ true }
+
+        // Busy comes first, and names the least of the other owners with a conflicting lock.
+        ensures busy { MatchBusy result (IsLeastOf (blockers self.old tx asked)) (blockers self.old tx asked ≡ []) }
+
+        // Then the lock is granted, unless it would be added to 256, or memory is refused for it.
+        ensures too_many_locks { (result ≡ Asked.TooManyLocks)
+            ↔ ((blockers self.old tx asked ≡ [])
+            × (is_covered (locks_of self.old tx) asked ≡ false)
+            × (length (locks_of self.old tx) ≡ MAX_LOCKS)) }
+        ensures no_memory { result ≡ Asked.NoMemory
+            → (is_covered (locks_of self.old tx) asked ≡ false)
+            × (INLINE_LOCKS ≤ length (locks_of self.old tx)) }
+
+        ensures granted { result ≡ Asked.Granted → self.new ≡ with_locks self.old tx (with_lock (locks_of self.old tx) asked) }
+        ensures refused { result ≢ Asked.Granted → self.new ≡ self.old }
+    {
+        if let Some(holder) = self.least_blocker(tx, &asked) {
+            return Asked::Busy(holder);
+        }
+        let place = self.place_of(tx);
+        self.owners[place].add(asked)
+    }
+
+    /// Lets all locks of an owner go. The transaction is no owner any more.
+    pub fn release(&mut self, tx: u64)
+        requires { is_owner self.old tx ≡ true }
+        ensures { self.new ≡ without self.old tx }
+    {
+        self.owners.retain(|owner| owner.number() != tx);
+    }
+
+    /// How many locks an owner holds.
+    pub fn held(&self, tx: u64) -> usize
+        requires { is_owner self.now tx ≡ true }
+        ensures count { result ≡ length (locks_of self.now tx) }
+        ensures few { result ≤ MAX_LOCKS }
+    {
+        self.owners[self.place_of(tx)].held()
+    }
+
+    /// Keeps the first `n` locks of an owner, and lets the later ones go.
+    pub fn cut(&mut self, tx: u64, n: usize)
+        requires owner { is_owner self.old tx ≡ true }
+        requires held { n ≤ length (locks_of self.old tx) }
+        ensures { self.new ≡ with_locks self.old tx (take n (locks_of self.old tx)) }
+    {
+        let place = self.place_of(tx);
+        self.owners[place].cut(n);
+    }
+
+    /// The owner that holds an exclusive lock on the key. There is one at most.
+    pub fn exclusive_at(&self, key: Key) -> Option<u64>
+        ensures holder { exclusive_holders self.now key ≡ option_to_list result }
+        ensures apart { AreAllApart self.now }
+    {
+        let owner = self.owners.iter().find(|owner| owner.is_exclusive_at(key))?;
+        Some(owner.number())
+    }
+
+    fn least_blocker(&self, tx: u64, asked: &Lock) -> Option<u64>
+        ensures { MatchOption result (blockers self.now tx asked.now ≡ []) (IsLeastOf (blockers self.now tx asked.now)) }
+    {
+        self.owners
+            .iter()
+            .filter(|owner| owner.blocks(tx, asked))
+            .map(|owner| owner.number())
+            .min()
+    }
+
+    fn place_of(&self, tx: u64) -> usize
+        requires { is_owner self.now tx ≡ true }
+        ensures in_bounds { result < length self.now }
+        ensures held { (d : Held) → slice_index_or self.now result d ≡ record { owner = tx; locks = locks_of self.now tx } }
+        ensures write { (locks : List Lock)
+            → slice_set self.now result (record { owner = tx; locks = locks }) ≡ with_locks self.now tx locks }
+    {
+        let place = self.owners.iter().position(|owner| owner.number() == tx);
+        place.unwrap()
+    }
+}
