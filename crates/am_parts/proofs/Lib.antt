@@ -1,0 +1,3 @@
+pub mod Lives
+mod Changes
+pub mod Looks

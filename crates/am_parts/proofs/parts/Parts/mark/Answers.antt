@@ -1,0 +1,10 @@
+use Rattle.std.proofs.Common.{ap}
+use Rattle.am_parts.specs.Partitions.{Partitions}
+use Rattle.am_parts.proofs.Changes.{marks}
+use Rattle.am_parts.proofs.parts.Parts.mark.Goals as goal
+
+pub invariant_of-self : goal.invariant_of-self
+invariant_of-self g c = ((marks (ap (λ (p : Partitions). p.entries) c.self.view_is) c.self.invariant.0 c.args.part c.args.key c.args.value c.args.is_ghost c.requires.present c.requires.alone c.set.ensures).sound, c.self.invariant.1)
+
+pub returns-clause-content : goal.returns-clause-content
+returns-clause-content g c = (marks (ap (λ (p : Partitions). p.entries) c.self.view_is) c.self.invariant.0 c.args.part c.args.key c.args.value c.args.is_ghost c.requires.present c.requires.alone c.set.ensures).has

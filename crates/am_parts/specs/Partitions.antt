@@ -1,0 +1,48 @@
+-- What is seen of the partitions of an index, where a key lives in them, and what their changes do to the content.
+use Rattle.std.specs.Prelude.{◌≡◌, ◌<◌, ◌^◌, ℕ, List, Bool, Some, is_some, refl, if◌then◌else◌}
+use Rattle.std.specs.List.{AllByRecursion}
+use Rattle.std.specs.Coded.{Coded, code_by, coded×, coded_ℕ}
+use Rattle.std.specs.FinMap.{get, insert, remove}
+use Rattle.am_record.specs.OrderedKey.{OrderedKey}
+use Rattle.am_record.specs.Plain.{PlainMap}
+use Rattle.am_record.specs.declared.entry.Entry.{Entry}
+use Rattle.am_list.specs.Entries.{find, IsRising}
+use Rattle.am_list.specs.EntryCode.{entries_code}
+use Rattle.am_list.specs.Content.{content, OnePlace, IsLiveAt, live_value}
+
+-- the entries of all partitions, and how many runs were made
+pub record Partitions : Type 0 where
+  pub entries : List Entry
+  pub runs : ℕ
+
+abbrev pub partitions_code : Coded Partitions
+partitions_code =
+    code_by (List Entry × ℕ) (coded× entries_code coded_ℕ) (λ p. (p.entries, p.runs)) (λ p. record { entries = p.0; runs = p.1 }) (λ _. refl)
+
+-- the entries rise, no key is live in two partitions, and the numbers of partitions are u32s
+pub record IsSound (es : List Entry) : Type 0 where
+  pub rising : IsRising es
+  pub one_place : OnePlace es
+  pub fits : AllByRecursion (λ e. e.part < 2 ^ 32) es
+
+-- the key is live in the partition, with the value that the content has
+pub record LivesIn (es : List Entry) (part : ℕ) (key : OrderedKey) : Type 0 where
+  pub value : List ℕ
+  pub live : IsLiveAt es part key value
+  pub in_content : get (content es) key ≡ Some value
+
+-- the key is live in no other partition
+pub record LivesNowhereElse (es : List Entry) (part : ℕ) (key : OrderedKey) : Type 0 where
+  pub only : (part' : ℕ) (value : List ℕ) → IsLiveAt es part' key value → part' ≡ part
+
+-- the content with the entry, which a ghost leaves as it is
+abbrev pub content_with : List Entry → Entry → PlainMap
+content_with es x = if x.is_ghost then content es else insert (content es) x.key x.value
+
+-- the content without the entry of that partition and key
+abbrev pub content_without : List Entry → ℕ → OrderedKey → PlainMap
+content_without es part key = if is_some (live_value (find es part key)) then remove (content es) key else content es
+
+-- the content with that value and mark at that partition and key
+abbrev pub content_marked : List Entry → ℕ → OrderedKey → List ℕ → Bool → PlainMap
+content_marked es part key value is_ghost = if is_ghost then content_without es part key else insert (content es) key value

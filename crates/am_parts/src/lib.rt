@@ -1,0 +1,8 @@
+//! The partitions of one index: every change keeps each key live in at most one of them.
+#![tactic(auto)]
+
+mod parts;
+#[cfg(test)]
+mod tests;
+
+pub use parts::Parts;

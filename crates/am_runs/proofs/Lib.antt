@@ -1,0 +1,5 @@
+pub mod Rising
+pub mod Twice
+pub mod Pieces
+pub mod Taken
+pub mod Loaded

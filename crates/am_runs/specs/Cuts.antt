@@ -1,0 +1,54 @@
+-- How records are cut into runs, and why they can't be.
+use Rattle.std.specs.Prelude.{◌≡◌, ◌≤◌, ℕ, List, [], ◌∷◌, true, map, take, drop, count_by}
+use Rattle.std.specs.Ordering.{eq_by_cmp}
+use Rattle.std.specs.List.Sorted.{IsPermutation}
+use Rattle.am_record.specs.OrderedKey.{OrderedKey, key_cmp}
+use Rattle.am_record.specs.Interval.{key_le}
+use Rattle.am_record.specs.Plain.{Records}
+use Rattle.am_runs.specs.Runs.{is_run}
+use Rattle.am_runs.specs.declared.fault.LoadFault.{LoadFault}
+use Rattle.am_runs.specs.declared.fault.LoadFault.TheVariants.{NotRising, BadSize, Twice, NoMemory}
+
+abbrev pub keys_of : Records → List OrderedKey
+keys_of records = map (λ (r : OrderedKey × List ℕ). r.0) records
+
+-- how often the key stands among the keys
+abbrev pub times : OrderedKey → List OrderedKey → ℕ
+times key keys = count_by (λ k. eq_by_cmp key_cmp key k) keys
+
+-- no key stands twice
+pub record NoneTwice (keys : List OrderedKey) : Type 0 where
+  pub once : (key : OrderedKey) → times key keys ≤ 1
+
+-- the key stands twice or more, and no key below it does
+pub record IsLeastTwice (keys : List OrderedKey) (key : OrderedKey) : Type 0 where
+  pub twice : 2 ≤ times key keys
+  pub least : (other : OrderedKey) → 2 ≤ times other keys → key_le key other ≡ true
+
+-- the records of the piece, all of them, by rising key
+pub record IsRunOf (piece run : Records) : Type 0 where
+  pub rising : is_run run ≡ true
+  pub same : IsPermutation piece run
+
+-- the first n records make the first run, the next n the second, and so on; the last run may have fewer
+abbrev pub AreRunsOf : ℕ → Records → List Records → Type 0
+AreRunsOf n records [] = records ≡ []
+AreRunsOf n records (run ∷ runs) = IsRunOf (take n records) run × AreRunsOf n (drop n records) runs
+
+-- how many records a run may be cut to have
+pub record IsRunSize (n : ℕ) : Type 0 where
+  pub low : 1 ≤ n
+  pub high : n ≤ 65536
+
+-- the records are cut into these runs of n, and no key stands twice in them
+pub record IsCut (n : ℕ) (records : Records) (runs : List Records) : Type 0 where
+  pub size : IsRunSize n
+  pub apart : NoneTwice (keys_of records)
+  pub pieces : AreRunsOf n records runs
+
+-- when each fault may be answered
+abbrev pub IsCutFault : ℕ → Records → LoadFault → Type 0
+IsCutFault n records BadSize = ¬ (IsRunSize n)
+IsCutFault n records (Twice key) = IsRunSize n × IsLeastTwice (keys_of records) key
+IsCutFault n records NoMemory = IsRunSize n
+IsCutFault n records NotRising = ⊥

@@ -1,0 +1,56 @@
+-- What a load of a run answers, and what it does to the partitions.
+use Rattle.std.specs.Prelude.{◌≡◌, ◌+◌, ◌≤◌, ◌==◌, ◌⊎◌, ℕ, List, [], ◌∷◌, true, false, Option, Some, None, if◌then◌else◌}
+use Rattle.std.specs.List.{AllByRecursion}
+use Rattle.std.specs.FinMap.{get, is_sorted}
+use Rattle.am_record.specs.OrderedKey.{OrderedKey, key_cmp}
+use Rattle.am_record.specs.Plain.{Records, insert_all, least_taken}
+use Rattle.am_record.specs.declared.entry.Entry.{Entry}
+use Rattle.am_record.specs.declared.step.Reply.{Reply}
+use Rattle.am_record.specs.declared.step.Reply.TheVariants.{Done, Exists, Refused}
+use Rattle.am_record.specs.declared.step.Refusal.TheVariants.{TooManyRuns, NoMemory}
+use Rattle.am_list.specs.Entries.{find, insert_entry, IsRising}
+use Rattle.am_list.specs.Content.{content, OnePlace, HasContent}
+use Rattle.am_parts.specs.Partitions.{Partitions}
+
+-- the record as a live entry of the partition
+abbrev pub live_entry : ℕ → OrderedKey × List ℕ → Entry
+live_entry part r = record { part = part; key = r.0; value = r.1; is_ghost = false }
+
+-- the entries, and each of the records live in the partition
+abbrev pub with_run : ℕ → Records → List Entry → List Entry
+with_run part [] es = es
+with_run part (r ∷ rs) es = with_run part rs (insert_entry es (live_entry part r))
+
+-- no entry stands above the partition
+pub record NothingAbove (part : ℕ) (es : List Entry) : Type 0 where
+  pub all : AllByRecursion (λ e. e.part ≤ part) es
+
+abbrev pub exists_or_done : Option OrderedKey → Reply
+exists_or_done None = Done
+exists_or_done (Some key) = Exists key
+
+-- the reply that is due, where memory is ample
+abbrev pub load_due : Partitions → Records → Reply
+load_due parts pairs = if parts.runs == 65535 then Refused TooManyRuns else exists_or_done (least_taken pairs (content parts.entries))
+
+-- the reply is the one that is due, or memory was refused where Done is due
+abbrev pub IsAnswer : Reply → Reply → Type 0
+IsAnswer due reply = (reply ≡ due) ⊎ ((due ≡ Done) × (reply ≡ Refused NoMemory))
+
+-- one run more, the records all live in it, and all in the content
+pub record IsLoaded (before : Partitions) (pairs : Records) (after : Partitions) : Type 0 where
+  pub entries : after.entries ≡ with_run (before.runs + 1) pairs before.entries
+  pub runs : after.runs ≡ before.runs + 1
+  pub has : HasContent after.entries (insert_all pairs (content before.entries))
+
+-- the records' keys rise, none of them is live, and none stands in the partition
+pub record IsAwaited (part : ℕ) (pairs : Records) (es : List Entry) : Type 0 where
+  pub rising : IsRising es
+  pub one_place : OnePlace es
+  pub sorted : is_sorted key_cmp pairs ≡ true
+  pub absent : AllByRecursion (λ r. (find es part r.0 ≡ None) × (get (content es) r.0 ≡ None)) pairs
+
+-- the records were put into the partition last
+pub record HoldsRun (part : ℕ) (pairs : Records) (es : List Entry) : Type 0 where
+  pub before : List Entry
+  pub is : es ≡ with_run part pairs before

@@ -1,0 +1,14 @@
+//! Runs: cutting records into them, and loading one as a new partition.
+#![tactic(auto)]
+
+mod cut;
+mod fault;
+mod loading;
+mod run;
+#[cfg(test)]
+mod tests;
+
+pub use cut::{MAX_RUN_LEN, cut_runs};
+pub use fault::LoadFault;
+pub use loading::{MAX_RUNS, load};
+pub use run::Run;

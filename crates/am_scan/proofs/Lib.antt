@@ -1,0 +1,4 @@
+mod Rows
+mod Sorting
+mod PartWalk
+mod AllParts

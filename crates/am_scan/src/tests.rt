@@ -1,0 +1,139 @@
+use crate::scan;
+use am_list::{ListIndex, PartIndex};
+use am_parts::Parts;
+use am_record::{Entry, Key, NoMemory, Range, Value};
+use std::alloc::Global;
+use std::test::Fail;
+
+fn value(byte: u8) -> Value {
+    Value::new(&[byte]).unwrap()
+}
+
+fn row(number: u64, byte: u8) -> (Key, Value) {
+    (Key::new(number), value(byte))
+}
+
+fn range(lo: u64, hi: u64) -> Option<Range> {
+    Range::new(Key::new(lo), Key::new(hi))
+}
+
+fn live(part: u32, number: u64, byte: u8) -> Entry {
+    Entry {
+        part,
+        key: Key::new(number),
+        value: value(byte),
+        is_ghost: false,
+    }
+}
+
+fn dead(part: u32, number: u64, byte: u8) -> Entry {
+    Entry {
+        part,
+        key: Key::new(number),
+        value: value(byte),
+        is_ghost: true,
+    }
+}
+
+// Adds the entry, unless its place is taken or its key is live elsewhere.
+fn add<I: PartIndex + Drop>(parts: &mut Parts<I>, entry: Entry) -> Result<(), NoMemory> {
+    let is_free = parts.find(entry.part, entry.key).is_none();
+    if is_free && (entry.is_ghost || parts.place_of(entry.key).is_none()) {
+        parts.add(entry)?;
+    }
+    Ok(())
+}
+
+// Partitions with the entries. Where memory was refused to one it is added again.
+fn with_entries(alloc: Global, entries: &[Entry]) -> Result<Parts<ListIndex>, NoMemory> {
+    let mut parts = Parts::new(ListIndex::new(alloc));
+    for entry in entries {
+        if add(&mut parts, *entry).is_err() {
+            add(&mut parts, *entry)?;
+        }
+    }
+    Ok(parts)
+}
+
+// The rows of a scan. Where memory was refused it is asked again, since nothing was changed.
+fn rows_of<I: PartIndex + Drop>(
+    alloc: Global,
+    parts: &Parts<I>,
+    range: Range,
+    max: u64,
+) -> Result<Vec<(Key, Value)>, NoMemory> {
+    match scan(alloc, parts, range, max) {
+        Ok(rows) => Ok(rows),
+        Err(NoMemory) => scan(alloc, parts, range, max),
+    }
+}
+
+#[test]
+fn scan_reads_every_partition(rt: HostRuntime) -> Result<(), Fail> {
+    let entries = [
+        live(0, 1, b'c'),
+        dead(1, 1, b'a'),
+        dead(1, 2, b'b'),
+        live(2, 2, b'd'),
+    ];
+    let parts = with_entries(rt.alloc(), &entries)?;
+    let all = range(0, 9).expect(&rt, "in order");
+
+    let rows = rows_of(rt.alloc(), &parts, all, 9)?;
+    assert_eq!(rt; rows.as_slice(), [row(1, b'c'), row(2, b'd')].as_slice());
+    let first = rows_of(rt.alloc(), &parts, all, 1)?;
+    assert_eq!(rt; first.as_slice(), [row(1, b'c')].as_slice());
+    Ok(())
+}
+
+#[test]
+fn scan_cuts_after_sorting(rt: HostRuntime) -> Result<(), Fail> {
+    let entries = [live(1, 5, b'e'), live(0, 9, b'z'), live(2, 3, b'd')];
+    let parts = with_entries(rt.alloc(), &entries)?;
+    let all = range(0, 9).expect(&rt, "in order");
+
+    let rows = rows_of(rt.alloc(), &parts, all, 2)?;
+    assert_eq!(rt; rows.as_slice(), [row(3, b'd'), row(5, b'e')].as_slice());
+    Ok(())
+}
+
+#[test]
+fn scan_keeps_to_its_range(rt: HostRuntime) -> Result<(), Fail> {
+    let entries = [
+        live(0, 2, b'a'),
+        live(0, 3, b'b'),
+        live(0, 7, b'c'),
+        live(1, 1, b'd'),
+        live(1, 5, b'e'),
+        live(3, 8, b'f'),
+    ];
+    let parts = with_entries(rt.alloc(), &entries)?;
+
+    let inner = range(3, 7).expect(&rt, "in order");
+    let rows = rows_of(rt.alloc(), &parts, inner, 9)?;
+    assert_eq!(rt;
+        rows.as_slice(),
+        [row(3, b'b'), row(5, b'e'), row(7, b'c')].as_slice()
+    );
+
+    let gap = range(6, 6).expect(&rt, "in order");
+    assert!(rt; rows_of(rt.alloc(), &parts, gap, 9)?.is_empty());
+    let above = range(9, 20).expect(&rt, "in order");
+    assert!(rt; rows_of(rt.alloc(), &parts, above, 9)?.is_empty());
+    Ok(())
+}
+
+#[test]
+fn least_and_greatest_key(rt: HostRuntime) -> Result<(), Fail> {
+    let greatest = 18_446_744_073_709_551_615;
+    let entries = [live(1, greatest, b'z'), live(0, 0, b'a')];
+    let parts = with_entries(rt.alloc(), &entries)?;
+    let all = range(0, greatest).expect(&rt, "in order");
+
+    let rows = rows_of(rt.alloc(), &parts, all, u64::MAX)?;
+    assert_eq!(rt;
+        rows.as_slice(),
+        [row(0, b'a'), row(greatest, b'z')].as_slice()
+    );
+    Ok(())
+}

@@ -1,0 +1,67 @@
+-- The place of a transaction in the table, and what is written there.
+use Rattle.std.proofs.Common.{◌≡◌, ℕ, ◌<◌, zero, suc, List, [], ◌∷◌, length, get_or, set, drop, false, cond, ◌==◌, All, position, Some, refl, sym, ap, ◌∙◌, arith, eq-eqb}
+use Rattle.std.specs.List.{refill}
+use Rattle.std.proofs.lemmas.List.{length-set, take_at}
+use Rattle.std.proofs.lemmas.List.Quantifiers.{position-Some}
+use Rattle.std.proofs.lemmas.List.Elements.{All-head, All-tail}
+use Rattle.std.proofs.lemmas.Bool.{ne_eqb, eqb-true}
+use Rattle.am_tx.specs.declared.transaction.Transaction.{Transaction}
+use Rattle.am_tx.specs.Active.{numbers, ops_of, log_of, changed}
+use Rattle.am_tx.specs.Txs.{Rise}
+
+below : (n : ℕ) (xs : List Transaction) (i : ℕ) (d : Transaction) → All (λ m. n < m) (numbers xs) → i < length xs → n < (get_or xs i d).number
+below n [] i d a b = absurd (omega (arith, b))
+below n (x ∷ xs) zero d a b = All-head (λ m. n < m) x.number (numbers xs) a
+below n (x ∷ xs) (suc i) d a b = below n xs i d (All-tail (λ m. n < m) x.number (numbers xs) a) (omega (arith, b))
+
+-- an earlier transaction has another number
+earlier : (x : Transaction) (xs : List Transaction) (i : ℕ) (d : Transaction) (tx : ℕ) → All (λ m. x.number < m) (numbers xs) → i < length xs → (get_or xs i d).number ≡ tx → (x.number == tx) ≡ false
+earlier x xs i d tx a b e =
+    let less = below x.number xs i d a b in
+    ne_eqb x.number tx (λ p. omega (arith, less, e, p))
+
+pub ops-at : (xs : List Transaction) (i : ℕ) (d : Transaction) (tx : ℕ) → Rise (numbers xs) → i < length xs → (get_or xs i d).number ≡ tx → (get_or xs i d).ops ≡ ops_of xs tx
+ops-at [] i d tx r b e = absurd (omega (arith, b))
+ops-at (x ∷ xs) zero d tx r b e = ap (λ t. cond t x.ops (ops_of xs tx)) (sym (eq-eqb x.number tx e))
+ops-at (x ∷ xs) (suc i) d tx r b e =
+    let here : i < length xs = omega (arith, b) in
+    ops-at xs i d tx r.1 here e ∙ ap (λ t. cond t x.ops (ops_of xs tx)) (sym (earlier x xs i d tx r.0 here e))
+
+pub log-at : (xs : List Transaction) (i : ℕ) (d : Transaction) (tx : ℕ) → Rise (numbers xs) → i < length xs → (get_or xs i d).number ≡ tx → (get_or xs i d).log ≡ log_of xs tx
+log-at [] i d tx r b e = absurd (omega (arith, b))
+log-at (x ∷ xs) zero d tx r b e = ap (λ t. cond t x.log (log_of xs tx)) (sym (eq-eqb x.number tx e))
+log-at (x ∷ xs) (suc i) d tx r b e =
+    let here : i < length xs = omega (arith, b) in
+    log-at xs i d tx r.1 here e ∙ ap (λ t. cond t x.log (log_of xs tx)) (sym (earlier x xs i d tx r.0 here e))
+
+-- a change of one transaction leaves those with greater numbers
+all_kept : (f : Transaction → Transaction) (tx : ℕ) (xs : List Transaction) → All (λ m. tx < m) (numbers xs) → changed f tx xs ≡ xs
+all_kept f tx [] a = refl
+all_kept f tx (x ∷ xs) a =
+    let less : tx < x.number = All-head (λ m. tx < m) x.number (numbers xs) a in
+    let first : cond (x.number == tx) (f x) x ≡ x = ap (λ t. cond t (f x) x) (ne_eqb x.number tx (λ p. omega (arith, less, p))) in
+    let rest = all_kept f tx xs (All-tail (λ m. tx < m) x.number (numbers xs) a) in
+    λ i. first i ∷ rest i
+
+pub set-changed : (f : Transaction → Transaction) (xs : List Transaction) (i : ℕ) (d : Transaction) (tx : ℕ) → Rise (numbers xs) → i < length xs → (get_or xs i d).number ≡ tx → set xs i (f (get_or xs i d)) ≡ changed f tx xs
+set-changed f [] i d tx r b e = absurd (omega (arith, b))
+set-changed f (x ∷ xs) zero d tx r b e =
+    let first : f x ≡ cond (x.number == tx) (f x) x = ap (λ t. cond t (f x) x) (sym (eq-eqb x.number tx e)) in
+    let rest : xs ≡ changed f tx xs = sym (all_kept f tx xs (λ k c l. omega (arith, r.0 k c l, e))) in
+    λ j. first j ∷ rest j
+set-changed f (x ∷ xs) (suc i) d tx r b e =
+    let here : i < length xs = omega (arith, b) in
+    let first : x ≡ cond (x.number == tx) (f x) x = ap (λ t. cond t (f x) x) (sym (earlier x xs i d tx r.0 here e)) in
+    let rest = set-changed f xs i d tx r.1 here e in
+    λ j. first j ∷ rest j
+
+-- the transaction found has the number
+pub position-number : (xs : List Transaction) (i tx : ℕ) (d : Transaction) → position (λ (x : Transaction). x.number == tx) xs ≡ Some i → (i < length xs) × ((get_or xs i d).number ≡ tx)
+position-number xs i tx d e =
+    let found = position-Some (λ (x : Transaction). x.number == tx) xs i d e in
+    (found.0, eqb-true _ tx found.1)
+
+-- what a write through the lent transactions leaves
+pub written : (items lent : List Transaction) (place : ℕ) (new : Transaction) → lent ≡ items → refill (length items) items (set lent place new) ≡ set items place new
+written items lent place new e =
+    take_at (set lent place new) (drop (length (set lent place new)) items) (length items) (length-set lent place new ∙ ap length e) ∙ (λ i. set (e i) place new)

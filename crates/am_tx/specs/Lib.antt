@@ -1,0 +1,3 @@
+pub mod Active
+pub mod Txs
+pub mod Lending

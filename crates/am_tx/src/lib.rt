@@ -1,0 +1,10 @@
+//! The active transactions: their numbers, counts of operations, undo notes and locks.
+#![tactic(auto)]
+
+mod transaction;
+mod tx_table;
+
+pub use tx_table::{MAX_ACTIVE, MAX_BEGUN, MAX_OPS, TxTable};
+
+#[cfg(test)]
+mod tests;

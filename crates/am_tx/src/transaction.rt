@@ -1,0 +1,37 @@
+//! One active transaction.
+
+ghost use Rattle.std.specs.Prelude.{◌≡◌};
+
+use am_undo::UndoLog;
+use std::alloc::Global;
+use std::default::MadeWith;
+
+/// What the table keeps of a transaction, beside its locks.
+#[derive(Drop)]
+pub(crate) struct Transaction {
+    pub(crate) number: u64,
+    /// How many operations were answered and not refused.
+    pub(crate) ops: u64,
+    pub(crate) log: UndoLog,
+}
+
+/// What fills an unused place of the table.
+impl MadeWith<Global> for Transaction {
+    fn made_with(alloc: Global) -> Transaction {
+        Transaction::new(alloc, 0)
+    }
+}
+
+impl Transaction {
+    ghost use Rattle.am_tx.specs.Active.{fresh};
+
+    pub(crate) fn new(alloc: Global, number: u64) -> Transaction
+        ensures { result ≡ fresh number }
+    {
+        Transaction {
+            number,
+            ops: 0,
+            log: UndoLog::new(alloc),
+        }
+    }
+}

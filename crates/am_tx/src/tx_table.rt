@@ -1,0 +1,201 @@
+//! The table of active transactions.
+
+ghost use Rattle.std.specs.Prelude.{◌≡◌, ◌≢◌, ◌+◌, ◌<◌, ◌≤◌, ◌↔◌, [], Some, None, true, false, length, take, slice_index_or, slice_set, if◌then◌else◌};
+ghost use Rattle.std.specs.Borrow.{sem};
+ghost use Rattle.am_record.specs.Locks.{is_covered, with_lock};
+ghost use Rattle.am_locks.specs.Table.{locks_of, with_locks, blockers};
+ghost use Rattle.am_locks.specs.Answers.{IsLeastOf, MatchBusy};
+
+use crate::transaction::Transaction;
+use am_locks::{Asked, INLINE_LOCKS, LockTable, MAX_LOCKS};
+use am_record::Lock;
+use am_undo::UndoLog;
+use arrayvec::ArrayVec;
+use std::alloc::Global;
+use std::marker::Model;
+
+/// The most transactions that may be active at once.
+pub const MAX_ACTIVE: usize = 64;
+
+/// The most transactions that may ever begin.
+pub const MAX_BEGUN: u64 = 1 << 63;
+
+/// The most operations that a transaction may have.
+pub const MAX_OPS: u64 = 4096;
+
+/// The active transactions, each with its number, its count of operations and its undo log, and
+/// the locks of each.
+///
+/// Transactions are numbered 1, 2, 3 in the order in which they begin.
+#[derive(Drop)]
+pub struct TxTable {
+    begun: u64,
+    active: ArrayVec<Transaction, MAX_ACTIVE, Global>,
+    locks: LockTable,
+}
+
+impl Model for TxTable {
+    ghost use Rattle.am_tx.specs.Txs.{Txs, txs_code, IsConsistent};
+
+    ghost Value = { Txs };
+
+    ghost coded = { txs_code };
+
+    ghost view = { λ t. record { begun = t.begun; active = t.active.items; locks = t.locks } };
+
+    ghost invariant = { λ t. IsConsistent (record { begun = t.begun; active = t.active.items; locks = t.locks }) };
+}
+
+impl TxTable {
+    ghost use Rattle.am_tx.specs.declared.transaction.Transaction.{Transaction};
+    ghost use Rattle.am_tx.specs.Active.{is_active, ops_of, log_of, changed};
+    ghost use Rattle.am_tx.specs.Txs.{IsConsistent, can_begin, started, counted, ended};
+    ghost use Rattle.am_tx.specs.Lending.{LendsLog};
+
+    /// A table of no transactions. It takes no memory.
+    pub fn new(alloc: Global) -> TxTable
+        ensures { result ≡ record { begun = 0; active = []; locks = [] } }
+    {
+        TxTable {
+            begun: 0,
+            active: ArrayVec::new_in(alloc),
+            locks: LockTable::new(alloc),
+        }
+    }
+
+    /// Begins a transaction, with no operations, no notes and no locks, and answers its number.
+    /// None, where 64 transactions are active or 2^63 were begun. It takes no memory.
+    pub fn begin(&mut self) -> Option<u64>
+        ensures number { result ≡ (if can_begin self.old then Some (self.old.begun + 1) else None) }
+        ensures after { self.new ≡ (if can_begin self.old then started self.old else self.old) }
+    {
+        if self.active.is_full() || self.begun == MAX_BEGUN {
+            return None;
+        }
+        let number = self.begun + 1;
+        let alloc = *self.active.allocator();
+        self.active.push(Transaction::new(alloc, number));
+        self.locks.enter(number);
+        self.begun = number;
+        Some(number)
+    }
+
+    /// Whether the transaction is active.
+    pub fn is_active(&self, tx: u64) -> bool
+        ensures active { result ≡ is_active self.now.active tx }
+        ensures consistent { IsConsistent self.now }
+    {
+        self.active.iter().any(|active| active.number == tx)
+    }
+
+    /// How many transactions are active.
+    pub fn active(&self) -> usize
+        ensures count { result ≡ length self.now.active }
+        ensures consistent { IsConsistent self.now }
+    {
+        self.active.len()
+    }
+
+    /// How many operations of the transaction were counted.
+    pub fn ops(&self, tx: u64) -> u64
+        requires { is_active self.now.active tx ≡ true }
+        ensures count { result ≡ ops_of self.now.active tx }
+        ensures few { result ≤ MAX_OPS }
+    {
+        self.active[self.place_of(tx)].ops
+    }
+
+    /// Counts one operation of the transaction.
+    pub fn count_op(&mut self, tx: u64)
+        requires active { is_active self.old.active tx ≡ true }
+        requires few { ops_of self.old.active tx < MAX_OPS }
+        ensures { self.new ≡ counted self.old tx }
+    {
+        let place = self.place_of(tx);
+        let transaction = &mut self.active[place];
+        transaction.ops += 1;
+    }
+
+    /// The undo log of the transaction.
+    pub fn undo(&mut self, tx: u64) -> &mut UndoLog
+        requires { is_active self.old.active tx ≡ true }
+        ensures* writes_back { sem 𝓛 (LendsLog self.entry tx result) }
+        ensures log { result.now ≡ log_of self.old.active tx }
+    {
+        let place = self.place_of(tx);
+        let Some(transaction) = self.active.get_mut(place) else {
+            unreachable!()
+        };
+        &mut transaction.log
+    }
+
+    /// Asks for a lock for the transaction, as `LockTable::ask` does.
+    pub fn ask(&mut self, tx: u64, asked: Lock) -> Asked
+        requires { is_active self.old.active tx ≡ true }
+
+        // Busy comes first, and names the least of the other transactions with a conflicting lock.
+        ensures busy { MatchBusy result (IsLeastOf (blockers self.old.locks tx asked)) (blockers self.old.locks tx asked ≡ []) }
+
+        // Then the lock is granted, unless it would be added to 256, or memory is refused for it.
+        ensures too_many_locks { (result ≡ Asked.TooManyLocks)
+            ↔ ((blockers self.old.locks tx asked ≡ [])
+            × (is_covered (locks_of self.old.locks tx) asked ≡ false)
+            × (length (locks_of self.old.locks tx) ≡ MAX_LOCKS)) }
+        ensures no_memory { result ≡ Asked.NoMemory
+            → (is_covered (locks_of self.old.locks tx) asked ≡ false)
+            × (INLINE_LOCKS ≤ length (locks_of self.old.locks tx)) }
+
+        ensures granted { result ≡ Asked.Granted
+            → self.new ≡ record self.old { locks = with_locks self.old.locks tx (with_lock (locks_of self.old.locks tx) asked) } }
+        ensures refused { result ≢ Asked.Granted → self.new ≡ self.old }
+    {
+        self.locks.ask(tx, asked)
+    }
+
+    /// How many locks the transaction holds.
+    pub fn held(&self, tx: u64) -> usize
+        requires { is_active self.now.active tx ≡ true }
+        ensures count { result ≡ length (locks_of self.now.locks tx) }
+        ensures few { result ≤ MAX_LOCKS }
+    {
+        self.locks.held(tx)
+    }
+
+    /// Keeps the first `n` locks of the transaction, and lets the later ones go.
+    pub fn cut(&mut self, tx: u64, n: usize)
+        requires active { is_active self.old.active tx ≡ true }
+        requires held { n ≤ length (locks_of self.old.locks tx) }
+        ensures { self.new ≡ record self.old { locks = with_locks self.old.locks tx (take n (locks_of self.old.locks tx)) } }
+    {
+        self.locks.cut(tx, n);
+    }
+
+    /// Ends the transaction: it is not active any more, its locks and its notes are gone. It takes no memory.
+    pub fn end(&mut self, tx: u64)
+        requires { is_active self.old.active tx ≡ true }
+        ensures { self.new ≡ ended self.old tx }
+    {
+        self.locks.release(tx);
+        self.active.retain(|active| active.number != tx);
+    }
+
+    /// The locks of all active transactions.
+    pub fn locks(&self) -> &LockTable
+        ensures locks { result.now ≡ self.now.locks }
+        ensures consistent { IsConsistent self.now }
+    {
+        &self.locks
+    }
+
+    fn place_of(&self, tx: u64) -> usize
+        requires { is_active self.now.active tx ≡ true }
+        ensures in_bounds { result < length self.now.active }
+        ensures found { (d : Transaction) → let x = slice_index_or self.now.active result d in
+            (x.number ≡ tx) × (x.ops ≡ ops_of self.now.active tx) × (x.log ≡ log_of self.now.active tx) }
+        ensures write { (f : Transaction → Transaction) (d : Transaction)
+            → slice_set self.now.active result (f (slice_index_or self.now.active result d)) ≡ changed f tx self.now.active }
+    {
+        let place = self.active.iter().position(|active| active.number == tx);
+        place.unwrap()
+    }
+}

@@ -1,0 +1,5 @@
+mod Slots
+mod Undoing
+mod Run
+mod Log
+pub mod Noting

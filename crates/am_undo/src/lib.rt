@@ -1,0 +1,12 @@
+//! What a transaction changed, noted so that it can be taken back.
+#![tactic(auto)]
+
+mod laws;
+mod note;
+#[cfg(test)]
+mod tests;
+mod undo_log;
+
+pub use laws::undo_follows;
+pub use note::Note;
+pub use undo_log::UndoLog;

@@ -1,0 +1,128 @@
+//! The notes of one transaction.
+
+ghost use Rattle.std.specs.Prelude.{◌≡◌, ◌+◌, ◌<◌, ℕ, [], ◌∷◌, Bool, true, List, Option, length, IsOk, OnOk, OnErr, IsSome, if◌then◌else◌, ◌==◌};
+ghost use Rattle.am_record.specs.OrderedKey.{OrderedKey};
+ghost use Rattle.am_list.specs.Entries.{find, IsRising};
+ghost use Rattle.am_list.specs.Edits.{same_place};
+ghost use Rattle.am_undo.specs.Notes.{TakesBack, CanTakeBack, Stands, OneLive, back_at, back_one, ghosted};
+
+use crate::note::Note;
+use am_list::PartIndex;
+use am_parts::Parts;
+use am_record::{Key, NoMemory};
+use smallvec::SmallVec;
+use std::alloc::Global;
+use std::marker::Model;
+
+/// The notes of one transaction, seen with the newest first. Four stand in the value itself.
+#[derive(Drop)]
+pub struct UndoLog {
+    notes: SmallVec<Note, 4>,
+}
+
+impl Model for UndoLog {
+    ghost use Rattle.std.specs.Prelude.{◌+◌, ◌≤◌, nat_le, length, reverse};
+    ghost use Rattle.am_undo.specs.Log.{Log, log_code};
+
+    ghost Value = { Log };
+
+    ghost coded = { log_code };
+
+    ghost view = { λ a. record { notes = reverse a.notes.items; has_room = nat_le (length a.notes.items + 1) a.notes.capacity } };
+
+    ghost invariant = { λ a. 4 ≤ a.notes.capacity };
+}
+
+impl UndoLog {
+    /// A log without notes, which takes no memory.
+    pub fn new(alloc: Global) -> UndoLog
+        ensures notes { result.notes ≡ [] }
+        ensures room { result.has_room ≡ true }
+    {
+        UndoLog {
+            notes: SmallVec::new(alloc),
+        }
+    }
+
+    /// Gets the room for one more note. It wants memory only where four notes or more stand.
+    ///
+    /// # Errors
+    /// NoMemory, where memory was refused; nothing is changed.
+    pub fn reserve_one(&mut self) -> Result<(), NoMemory>
+        ensures notes { self.new.notes ≡ self.old.notes }
+        ensures ok { OnOk result (self.new.has_room ≡ true) }
+        ensures err { OnErr result (self.new ≡ self.old) }
+        ensures inline { length self.old.notes < 4 → IsOk result }
+    {
+        self.notes.reserve(1)?;
+        Ok(())
+    }
+
+    /// Adds a note as the newest. The caller has the room for it by `reserve_one`. Takes no memory.
+    pub fn note(&mut self, note: Note)
+        requires { self.old.has_room ≡ true }
+        ensures { self.new.notes ≡ note ∷ self.old.notes }
+    {
+        self.notes.push_reserved(note);
+    }
+
+    /// Takes all notes back, from the newest to the oldest. The caller sees to it that each noted
+    /// entry is still there, and that no key becomes live twice on the way. Takes no memory.
+    pub fn take_back<I: PartIndex + Drop>(&mut self, parts: &mut Parts<I>)
+        requires { CanTakeBack self.old.notes (find parts.old.entries) }
+        ensures entries { TakesBack self.old.notes parts.old.entries parts.new.entries }
+        ensures runs { parts.new.runs ≡ parts.old.runs }
+        ensures notes { self.new.notes ≡ [] }
+        ensures room { self.new.has_room ≡ true }
+    {
+        while let Some(note) = self.notes.pop() {
+            take_back_one(parts, note);
+        }
+    }
+}
+
+// Takes one note back.
+fn take_back_one<I: PartIndex + Drop>(parts: &mut Parts<I>, note: Note)
+    requires stands { Stands note (find parts.old.entries) }
+    requires one { OneLive (back_at note (find parts.old.entries)) }
+    ensures back { (part : ℕ) (key : OrderedKey) → find parts.new.entries part key ≡ back_one note part key (find parts.old.entries part key) }
+    ensures rising { IsRising parts.new.entries }
+    ensures runs { parts.new.runs ≡ parts.old.runs }
+{
+    match note {
+        Note::New(key) => bury(parts, 0, key),
+        Note::Before {
+            part,
+            key,
+            value,
+            is_ghost,
+        } => parts.mark(part, key, value, is_ghost),
+        Note::RunMade(run) => bury_run(parts, run),
+    }
+}
+
+// Makes an entry a ghost with its value.
+fn bury<I: PartIndex + Drop>(parts: &mut Parts<I>, part: u32, key: Key)
+    requires { IsSome (find parts.old.entries part key) }
+    ensures back { (p : ℕ) (k : OrderedKey) → find parts.new.entries p k ≡ (if same_place p k part key then ghosted (find parts.old.entries p k) else find parts.old.entries p k) }
+    ensures rising { IsRising parts.new.entries }
+    ensures runs { parts.new.runs ≡ parts.old.runs }
+{
+    let Some(found) = parts.find(part, key) else {
+        unreachable!()
+    };
+    parts.mark(part, key, found.0, true);
+}
+
+// Makes all entries of a partition ghosts with their values.
+fn bury_run<I: PartIndex + Drop>(parts: &mut Parts<I>, run: u32)
+    ensures back { (p : ℕ) (k : OrderedKey) → find parts.new.entries p k ≡ (if p == run then ghosted (find parts.old.entries p k) else find parts.old.entries p k) }
+    ensures rising { IsRising parts.new.entries }
+    ensures runs { parts.new.runs ≡ parts.old.runs }
+{
+    let mut next = parts.next_from(run, Key::least());
+    while let Some(entry) = next {
+        parts.mark(run, entry.key, entry.value, true);
+        next = parts.after(run, entry.key);
+    }
+}
