@@ -6,7 +6,7 @@ use Rattle.std.proofs.lemmas.List.Quantifiers.{position-Some}
 use Rattle.std.proofs.lemmas.List.Elements.{All-head, All-tail}
 use Rattle.std.proofs.lemmas.Bool.{ne_eqb, eqb-true}
 use Rattle.am_tx.specs.declared.transaction.Transaction.{Transaction}
-use Rattle.am_tx.specs.Active.{numbers, ops_of, log_of, changed}
+use Rattle.am_tx.specs.Active.{numbers, of_active, changed}
 use Rattle.am_tx.specs.Txs.{Rise}
 
 below : (n : ℕ) (xs : List Transaction) (i : ℕ) (d : Transaction) → All (λ m. n < m) (numbers xs) → i < length xs → n < (get_or xs i d).number
@@ -20,22 +20,16 @@ earlier x xs i d tx a b e =
     let less = below x.number xs i d a b in
     ne_eqb x.number tx (λ p. omega (arith, less, e, p))
 
-pub ops-at : (xs : List Transaction) (i : ℕ) (d : Transaction) (tx : ℕ) → Rise (numbers xs) → i < length xs → (get_or xs i d).number ≡ tx → (get_or xs i d).ops ≡ ops_of xs tx
-ops-at [] i d tx r b e = absurd (omega (arith, b))
-ops-at (x ∷ xs) zero d tx r b e = ap (λ t. cond t x.ops (ops_of xs tx)) (sym (eq-eqb x.number tx e))
-ops-at (x ∷ xs) (suc i) d tx r b e =
+-- what is known of the transaction at a place
+pub of_active-at : {A : Type 0} (what : Transaction → A) (none : A) (xs : List Transaction) (i : ℕ) (d : Transaction) (tx : ℕ) → Rise (numbers xs) → i < length xs → (get_or xs i d).number ≡ tx → what (get_or xs i d) ≡ of_active what none xs tx
+of_active-at what none [] i d tx r b e = absurd (omega (arith, b))
+of_active-at what none (x ∷ xs) zero d tx r b e = ap (λ t. cond t (what x) (of_active what none xs tx)) (sym (eq-eqb x.number tx e))
+of_active-at what none (x ∷ xs) (suc i) d tx r b e =
     let here : i < length xs = omega (arith, b) in
-    ops-at xs i d tx r.1 here e ∙ ap (λ t. cond t x.ops (ops_of xs tx)) (sym (earlier x xs i d tx r.0 here e))
-
-pub log-at : (xs : List Transaction) (i : ℕ) (d : Transaction) (tx : ℕ) → Rise (numbers xs) → i < length xs → (get_or xs i d).number ≡ tx → (get_or xs i d).log ≡ log_of xs tx
-log-at [] i d tx r b e = absurd (omega (arith, b))
-log-at (x ∷ xs) zero d tx r b e = ap (λ t. cond t x.log (log_of xs tx)) (sym (eq-eqb x.number tx e))
-log-at (x ∷ xs) (suc i) d tx r b e =
-    let here : i < length xs = omega (arith, b) in
-    log-at xs i d tx r.1 here e ∙ ap (λ t. cond t x.log (log_of xs tx)) (sym (earlier x xs i d tx r.0 here e))
+    of_active-at what none xs i d tx r.1 here e ∙ ap (λ t. cond t (what x) (of_active what none xs tx)) (sym (earlier x xs i d tx r.0 here e))
 
 -- a change of one transaction leaves those with greater numbers
-all_kept : (f : Transaction → Transaction) (tx : ℕ) (xs : List Transaction) → All (λ m. tx < m) (numbers xs) → changed f tx xs ≡ xs
+pub all_kept : (f : Transaction → Transaction) (tx : ℕ) (xs : List Transaction) → All (λ m. tx < m) (numbers xs) → changed f tx xs ≡ xs
 all_kept f tx [] a = refl
 all_kept f tx (x ∷ xs) a =
     let less : tx < x.number = All-head (λ m. tx < m) x.number (numbers xs) a in

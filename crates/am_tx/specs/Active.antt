@@ -1,7 +1,7 @@
 -- The active transactions, in the order in which they began.
 use Rattle.std.specs.Prelude.{ℕ, ◌==◌, List, [], ◌∷◌, Bool, true, cond, map}
 use Rattle.std.specs.List.{list_any}
-use Rattle.am_undo.specs.NotesCode.{Log}
+use Rattle.am_undo.specs.Log.{Log}
 use Rattle.am_tx.specs.declared.transaction.Transaction.{Transaction}
 
 -- a log without notes
@@ -19,15 +19,18 @@ numbers active = map (λ (t : Transaction). t.number) active
 abbrev pub is_active : List Transaction → ℕ → Bool
 is_active active tx = list_any (λ (t : Transaction). t.number == tx) active
 
+-- what is known of the transaction, and `none` where it is not active
+abbrev pub of_active : {A : Type 0} → (Transaction → A) → A → List Transaction → ℕ → A
+of_active what none [] tx = none
+of_active what none (t ∷ active) tx = cond (t.number == tx) (what t) (of_active what none active tx)
+
 -- how many operations the transaction has had, 0 where it is not active
 abbrev pub ops_of : List Transaction → ℕ → ℕ
-ops_of [] tx = 0
-ops_of (t ∷ active) tx = cond (t.number == tx) t.ops (ops_of active tx)
+ops_of active tx = of_active (λ t. t.ops) 0 active tx
 
 -- the log of the transaction, without notes where it is not active
 abbrev pub log_of : List Transaction → ℕ → Log
-log_of [] tx = no_notes
-log_of (t ∷ active) tx = cond (t.number == tx) t.log (log_of active tx)
+log_of active tx = of_active (λ t. t.log) no_notes active tx
 
 -- the transaction is changed, and no other
 abbrev pub changed : (Transaction → Transaction) → ℕ → List Transaction → List Transaction

@@ -1,7 +1,7 @@
 -- What the table ends as, where a transaction's log is lent.
 use Rattle.std.specs.Prelude.{ℕ}
 use Rattle.std.specs.Borrow.{Lends, MutBor, Fml}
-use Rattle.am_undo.specs.NotesCode.{Log}
+use Rattle.am_undo.specs.Log.{Log}
 use Rattle.am_undo.specs.contracts.undo_log.UndoLog as undo_log
 use Rattle.am_tx.specs.contracts.tx_table.TxTable.{the_row}
 use Rattle.am_tx.specs.Txs.{Txs, with_log}

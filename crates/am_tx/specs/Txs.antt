@@ -4,7 +4,7 @@ use Rattle.std.specs.List.{All}
 use Rattle.std.specs.Coded.{Coded, code_by, coded×, coded_ℕ, coded_list}
 use Rattle.am_locks.specs.Held.{Held, held_code}
 use Rattle.am_locks.specs.Table.{entered, without}
-use Rattle.am_undo.specs.NotesCode.{Log}
+use Rattle.am_undo.specs.Log.{Log}
 use Rattle.am_tx.specs.declared.transaction.Transaction.{Transaction}
 use Rattle.am_tx.specs.contracts.transaction.Transaction as transaction
 use Rattle.am_tx.specs.Active.{fresh, numbers, changed}

@@ -168,6 +168,12 @@ module _ (es : List Entry) (notes : List Note) (owned : OrderedKey → Bool) (be
     restored_law : (key : OrderedKey) → get (content es') key ≡ cond (owned key) (before key) (get (content es) key)
     restored_law key = same_has_one (values_at es' key) (get (content es') key) (cond (owned key) (before key) (get (content es) key)) (content_has_one es' (b.rising rising) one_place_law key) (after_back key)
 
+    untouched_law : (key : OrderedKey) → owned key ≡ false → (part : ℕ) → find es' part key ≡ find es part key
+    untouched_law key h part = b.at part key ∙ left key h part
+
+    none_made_law : (part : ℕ) (key : OrderedKey) → find es part key ≡ None → find es' part key ≡ None
+    none_made_law part key none = b.at part key ∙ ap (back notes part key) none ∙ back_none notes (find es) part key u.can none
+
   pub undo_laws : UndoLaws es notes owned before
   undo_laws = record {
     locked = locked_law;
@@ -177,6 +183,10 @@ module _ (es : List Entry) (notes : List Note) (owned : OrderedKey → Bool) (be
     others = others_law;
     one_place = one_place_law;
     restored = restored_law;
-    untouched = λ es' b key h part. b.at part key ∙ left key h part;
-    none_made = λ es' b part key none. b.at part key ∙ ap (back notes part key) none ∙ back_none notes (find es) part key u.can none;
+    untouched = untouched_law;
+    none_made = none_made_law;
+    leaves_others = λ es' b notes' owned' apart. record {
+      same = λ key h part. untouched_law es' b key (apart key h) part;
+      runs = λ part key run none. none_made_law es' b part key none;
+    };
   }

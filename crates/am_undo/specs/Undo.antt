@@ -59,3 +59,6 @@ pub record UndoLaws (es : List Entry) (notes : List Note) (owned : OrderedKey �
   pub restored : (es' : List Entry) → TakesBack notes es es' → (key : OrderedKey) → get (content es') key ≡ (if owned key then before key else get (content es) key)
   pub untouched : (es' : List Entry) → TakesBack notes es es' → (key : OrderedKey) → owned key ≡ false → (part : ℕ) → find es' part key ≡ find es part key
   pub none_made : (es' : List Entry) → TakesBack notes es es' → (part : ℕ) (key : OrderedKey) → find es part key ≡ None → find es' part key ≡ None
+  -- nothing that the notes of another transaction speak of is changed, where the two own no key together
+  pub leaves_others : (es' : List Entry) → TakesBack notes es es' → (notes' : List Note) (owned' : OrderedKey → Bool) →
+      ((key : OrderedKey) → owned' key ≡ true → owned key ≡ false) → LeavesNoted es es' notes' owned'
