@@ -150,31 +150,22 @@ on_ok (Ok v) h p = p
 on_ok (Err e) h p = absurd (true≢false h)
 
 -- what was added and counted is a run more; nothing stands above it
-module _ {T E : Type 0} (before middle after : Partitions) (pairs seen : Records) (part : ℕ) (r : Result T E) (ok : is_err r ≡ false) (same : seen ≡ pairs) (at : part ≡ before.runs)
-    (added : OnOk r (middle.entries ≡ with_run (part + 1) seen before.entries)) (kept : middle.runs ≡ before.runs) (counted : after.runs ≡ middle.runs + 1) (stays : after.entries ≡ middle.entries) where
+module _ {T E : Type 0} (before after : Partitions) (pairs seen : Records) (r : Result T E) (ok : is_err r ≡ false) (same : seen ≡ pairs)
+    (added : OnOk r (after.entries ≡ with_run (before.runs + 1) seen before.entries)) (counted : OnOk r (after.runs ≡ before.runs + 1)) where
   new_entries : after.entries ≡ with_run (before.runs + 1) pairs before.entries
-  new_entries = stays ∙ on_ok r ok added ∙ ap (λ (rs : Records). with_run (part + 1) rs before.entries) same ∙ ap (λ n. with_run (n + 1) pairs before.entries) at
+  new_entries = on_ok r ok added ∙ ap (λ (rs : Records). with_run (before.runs + 1) rs before.entries) same
 
-  new_runs : after.runs ≡ before.runs + 1
-  new_runs = counted ∙ ap (λ n. n + 1) kept
-
-  pub loaded : OnOk r (HasContent middle.entries (insert_all seen (content before.entries))) → IsLoaded before pairs after
+  pub loaded : OnOk r (HasContent after.entries (insert_all seen (content before.entries))) → IsLoaded before pairs after
   loaded has = record {
     entries = new_entries;
-    runs = new_runs;
-    has = subst (λ (l : List Entry). HasContent l (insert_all pairs (content before.entries))) (sym stays)
-        (subst (λ (rs : Records). HasContent middle.entries (insert_all rs (content before.entries))) same (on_ok r ok has));
+    runs = on_ok r ok counted;
+    has = subst (λ (rs : Records). HasContent after.entries (insert_all rs (content before.entries))) same (on_ok r ok has);
   }
 
   pub nothing_above-loaded : NothingAbove before.runs before.entries → NothingAbove after.runs after.entries
   nothing_above-loaded above =
-      subst (λ n. NothingAbove n after.entries) (sym new_runs)
+      subst (λ n. NothingAbove n after.entries) (sym (on_ok r ok counted))
       (subst (NothingAbove (before.runs + 1)) (sym new_entries) (nothing_above-with_run (before.runs + 1) pairs before.entries (nothing_above-later above)))
-
--- nothing was changed
-pub nothing_above-unchanged : {before after : Partitions} → NothingAbove before.runs before.entries → after.entries ≡ before.entries → after.runs ≡ before.runs → NothingAbove after.runs after.entries
-nothing_above-unchanged {before} {after} above entries runs =
-    subst (λ n. NothingAbove n after.entries) (sym runs) (subst (NothingAbove before.runs) (sym entries) above)
 
 -- ---- the records are taken out again
 

@@ -1,6 +1,6 @@
 //! Loading a run into the partitions.
 
-ghost use Rattle.std.specs.Prelude.{◌≡◌, ◌≢◌, List, true, OnOk, OnErr};
+ghost use Rattle.std.specs.Prelude.{◌≡◌, ◌≢◌, ◌+◌, ◌<◌, List, true, OnOk, OnErr};
 ghost use Rattle.am_record.specs.Plain.{insert_all, least_taken};
 ghost use Rattle.am_record.specs.declared.entry.Entry.{Entry as TheEntry};
 ghost use Rattle.am_list.specs.Content.{content, HasContent};
@@ -28,17 +28,15 @@ pub fn load<I: PartIndex + Drop>(parts: &mut Parts<I>, run: &Run) -> Reply
     ensures others { result ≢ Reply.Done → parts.new ≡ parts.old }
     ensures nothing_above { NothingAbove parts.new.runs parts.new.entries }
 {
-    let runs = parts.runs();
-    if runs == MAX_RUNS {
+    if parts.runs() == MAX_RUNS {
         return Reply::Refused(Refusal::TooManyRuns);
     }
     if let Some(key) = first_live(parts, run.pairs()) {
         return Reply::Exists(key);
     }
-    if add_all(parts, runs + 1, run.pairs()).is_err() {
+    if make_run(parts, run.pairs()).is_err() {
         return Reply::Refused(Refusal::NoMemory);
     }
-    parts.count_run();
     Reply::Done
 }
 
@@ -53,6 +51,24 @@ fn first_live<I: PartIndex + Drop>(parts: &Parts<I>, pairs: &[(Key, Value)]) -> 
         }
     }
     None
+}
+
+// Makes the pairs the next run. After an error nothing is changed.
+fn make_run<I: PartIndex + Drop>(
+    parts: &mut Parts<I>,
+    pairs: &[(Key, Value)],
+) -> Result<(), NoMemory>
+    requires room { parts.old.runs < 65535 }
+    requires awaited { IsAwaited (parts.old.runs + 1) pairs.now parts.old.entries }
+    ensures entries { OnOk result (parts.new.entries ≡ with_run (parts.old.runs + 1) pairs.now parts.old.entries) }
+    ensures content { OnOk result (HasContent parts.new.entries (insert_all pairs.now (content parts.old.entries))) }
+    ensures runs { OnOk result (parts.new.runs ≡ parts.old.runs + 1) }
+    ensures err { OnErr result (parts.new ≡ parts.old) }
+{
+    let part = parts.runs() + 1;
+    add_all(parts, part, pairs)?;
+    parts.count_run();
+    Ok(())
 }
 
 // Adds the pairs to a partition that has none of their keys. After an error nothing is changed.
