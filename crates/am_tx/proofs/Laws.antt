@@ -1,5 +1,5 @@
 -- What the calls leave of each transaction, for proofs above.
-use Rattle.std.proofs.Common.{◌<◌, map, length, get_or, All, arith, ◌≡◌, ◌≢◌, ℕ, List, [], ◌∷◌, ◌++◌, filter, Bool, true, false, cond, not, ◌||◌, ◌==◌, refl, sym, ap, ◌∙◌}
+use Rattle.std.proofs.Common.{◌<◌, All, arith, ◌≡◌, ◌≢◌, ℕ, List, [], ◌∷◌, ◌++◌, filter, Bool, true, false, cond, not, ◌||◌, ◌==◌, refl, sym, ap, ◌∙◌}
 use Rattle.std.specs.List.{list_any}
 use Rattle.std.proofs.lemmas.Bool.{ne_eqb, eqb-true}
 use Rattle.am_tx.specs.declared.transaction.Transaction.{Transaction}
