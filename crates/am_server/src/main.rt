@@ -9,10 +9,9 @@ mod tests;
 use am_session::serve_alone;
 use am_wire::{Reading, Writing};
 use ending::{USAGE_STATUS, ending};
-use std::env;
-use std::io;
 use std::process::ExitCode;
 use std::sync::Wait;
+use std::{env, io};
 
 /// Answers standard input on standard output, on a store of its own.
 fn alone<R: AllocGlobal + Input + Print + Eprint + Wait>(rt: &R) -> anyhow::Result<ExitCode> {

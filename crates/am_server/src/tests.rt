@@ -52,8 +52,20 @@ fn first_session(rt: HostRuntime) -> Result<(), Fail> {
 
 #[test]
 fn empty_input_and_empty_line(rt: HostRuntime) -> Result<(), Fail> {
-    check(&rt, rt.alloc(), b"".as_slice(), b"".as_slice(), End::EndOfInput)?;
-    check(&rt, rt.alloc(), b"\n".as_slice(), b"ERR SYNTAX\n".as_slice(), End::EndOfInput)?;
+    check(
+        &rt,
+        rt.alloc(),
+        b"".as_slice(),
+        b"".as_slice(),
+        End::EndOfInput,
+    )?;
+    check(
+        &rt,
+        rt.alloc(),
+        b"\n".as_slice(),
+        b"ERR SYNTAX\n".as_slice(),
+        End::EndOfInput,
+    )?;
     Ok(())
 }
 
@@ -67,29 +79,44 @@ fn no_transaction_and_active(rt: HostRuntime) -> Result<(), Fail> {
 
 #[test]
 fn line_without_end(rt: HostRuntime) -> Result<(), Fail> {
-    check(&rt, rt.alloc(), b"BEGIN".as_slice(), b"BEGUN 1\n".as_slice(), End::EndOfInput)?;
+    check(
+        &rt,
+        rt.alloc(),
+        b"BEGIN".as_slice(),
+        b"BEGUN 1\n".as_slice(),
+        End::EndOfInput,
+    )?;
     Ok(())
 }
 
 #[test]
 fn quit_ends_the_session(rt: HostRuntime) -> Result<(), Fail> {
     let input = b"BEGIN\nINS 1 a\nQUIT\nGET 1\n".as_slice();
-    check(&rt, rt.alloc(), input, b"BEGUN 1\nOK\nBYE\n".as_slice(), End::Quit)?;
+    check(
+        &rt,
+        rt.alloc(),
+        input,
+        b"BEGUN 1\nOK\nBYE\n".as_slice(),
+        End::Quit,
+    )?;
     Ok(())
 }
 
 #[test]
 fn existing_and_absent_keys(rt: HostRuntime) -> Result<(), Fail> {
     let input = b"BEGIN\nINS 5 a\nINS 5 b\nGET 5\nGET 6\nCOMMIT\nBEGIN\nGET 5\nGET 0\n".as_slice();
-    let expected = b"BEGUN 1\nOK\nEXISTS 5\nVAL a\nNONE\nCOMMITTED 1\nBEGUN 2\nVAL a\nNONE\n".as_slice();
+    let expected =
+        b"BEGUN 1\nOK\nEXISTS 5\nVAL a\nNONE\nCOMMITTED 1\nBEGUN 2\nVAL a\nNONE\n".as_slice();
     check(&rt, rt.alloc(), input, expected, End::EndOfInput)?;
     Ok(())
 }
 
 #[test]
 fn line_faults(rt: HostRuntime) -> Result<(), Fail> {
-    let input = b"GET 05\nGET 18446744073709551616\nget 5\nGET 5 \nINS 5\nGE\rT 5\nINS 5 a\x7f\nGET 5\r\n".as_slice();
-    let expected = b"ERR SYNTAX\nERR RANGE\nERR SYNTAX\nERR SYNTAX\nERR SYNTAX\nERR SYNTAX\nERR SYNTAX\nERR NOTX\n".as_slice();
+    let input =
+        b"GET 05\nGET 18446744073709551616\nget 5\nGET 5 \nINS 5\nGE\rT 5\nINS 5 a\x7f\nGET 5\r\n".as_slice();
+    let expected =
+        b"ERR SYNTAX\nERR RANGE\nERR SYNTAX\nERR SYNTAX\nERR SYNTAX\nERR SYNTAX\nERR SYNTAX\nERR NOTX\n".as_slice();
     check(&rt, rt.alloc(), input, expected, End::EndOfInput)?;
     Ok(())
 }
@@ -105,20 +132,51 @@ fn repeated(alloc: Global, byte: u8, times: usize, rest: &[u8]) -> Result<Vec<u8
 fn long_line(rt: HostRuntime) -> Result<(), Fail> {
     let alloc = rt.alloc();
     let over = repeated(alloc, b'A', 4097, b"\nGET 5\n")?;
-    check(&rt, alloc, over.as_slice(), b"ERR LONG\nERR NOTX\n".as_slice(), End::EndOfInput)?;
+    check(
+        &rt,
+        alloc,
+        over.as_slice(),
+        b"ERR LONG\nERR NOTX\n".as_slice(),
+        End::EndOfInput,
+    )?;
     let most = repeated(alloc, b'A', 4096, b"\nGET 5\n")?;
-    check(&rt, alloc, most.as_slice(), b"ERR SYNTAX\nERR NOTX\n".as_slice(), End::EndOfInput)?;
+    check(
+        &rt,
+        alloc,
+        most.as_slice(),
+        b"ERR SYNTAX\nERR NOTX\n".as_slice(),
+        End::EndOfInput,
+    )?;
     let over_with_cr = repeated(alloc, b'A', 4096, b"\r\nGET 5\n")?;
-    check(&rt, alloc, over_with_cr.as_slice(), b"ERR LONG\nERR NOTX\n".as_slice(), End::EndOfInput)?;
+    check(
+        &rt,
+        alloc,
+        over_with_cr.as_slice(),
+        b"ERR LONG\nERR NOTX\n".as_slice(),
+        End::EndOfInput,
+    )?;
     let most_with_cr = repeated(alloc, b'A', 4095, b"\r\nGET 5\n")?;
-    check(&rt, alloc, most_with_cr.as_slice(), b"ERR SYNTAX\nERR NOTX\n".as_slice(), End::EndOfInput)?;
+    check(
+        &rt,
+        alloc,
+        most_with_cr.as_slice(),
+        b"ERR SYNTAX\nERR NOTX\n".as_slice(),
+        End::EndOfInput,
+    )?;
     Ok(())
 }
 
 #[test]
 fn values_of_64_and_65_bytes(rt: HostRuntime) -> Result<(), Fail> {
-    let input = b"BEGIN\nINS 1 0123456789012345678901234567890123456789012345678901234567890123\nINS 2 01234567890123456789012345678901234567890123456789012345678901234\n".as_slice();
-    check(&rt, rt.alloc(), input, b"BEGUN 1\nOK\nERR RANGE\n".as_slice(), End::EndOfInput)?;
+    let input =
+        b"BEGIN\nINS 1 0123456789012345678901234567890123456789012345678901234567890123\nINS 2 01234567890123456789012345678901234567890123456789012345678901234\n".as_slice();
+    check(
+        &rt,
+        rt.alloc(),
+        input,
+        b"BEGUN 1\nOK\nERR RANGE\n".as_slice(),
+        End::EndOfInput,
+    )?;
     Ok(())
 }
 

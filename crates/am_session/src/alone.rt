@@ -43,7 +43,9 @@ pub fn serve_in_memory<W: Wait>(
 ) -> End
     requires source_countable { source.old.failures < 2 ^ 63 }
     requires sink_countable { sink.old.failures < 2 ^ 63 }
-    ensures { WroteFor source.old.rest sink.old.bytes sink.new.bytes result }
+    ensures wrote { WroteFor source.old.rest sink.old.bytes sink.new.bytes result }
+    ensures source_failures { source.new.failures ≡ source.old.failures + read_failures result }
+    ensures sink_failures { sink.new.failures ≡ sink.old.failures + write_failures result }
 {
     serve_alone(rt, alloc, source, sink)
 }
