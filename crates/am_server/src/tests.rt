@@ -8,6 +8,12 @@ use std::process::Abort;
 use std::sync::Wait;
 use std::test::Fail;
 
+/// Whether a line was answered with want of memory.
+fn tells_no_memory(text: &[u8]) -> bool {
+    text.windows(10)
+        .any(|words| words == b"ERR MEMORY".as_slice())
+}
+
 /// What a session writes for the input, which comes in pieces of these sizes and then byte by byte, and how it ends.
 fn session<R: Wait>(
     rt: &R,
@@ -20,7 +26,7 @@ fn session<R: Wait>(
     let end = serve_in_memory(rt, alloc, &mut source, &mut sink);
     let text = Vec::from_slice(alloc, sink.bytes())?;
     // Neither fails but for want of memory.
-    if end == End::NoMemory || end == End::WriteFailed {
+    if end == End::NoMemory || end == End::WriteFailed || tells_no_memory(text.as_slice()) {
         return Err(NoMemory);
     }
     Ok((text, end))
@@ -201,7 +207,7 @@ fn a_failing_sink_has_a_beginning(rt: HostRuntime) -> Result<(), Fail> {
         let mut source = PieceSource::new(input, &[32], 0);
         let mut sink = StopSink::new(rt.alloc(), fail_at);
         let end = serve_in_memory(&rt, rt.alloc(), &mut source, &mut sink);
-        if end == End::NoMemory {
+        if end == End::NoMemory || tells_no_memory(sink.bytes()) {
             return Err(NoMemory.into());
         }
         assert!(rt; end == End::WriteFailed);
