@@ -3,3 +3,4 @@ pub mod Twice
 pub mod Pieces
 pub mod Taken
 pub mod Loaded
+pub mod LoadLaws

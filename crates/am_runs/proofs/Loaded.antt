@@ -35,14 +35,14 @@ insert_all-push (q ∷ rs) r m = insert_all-push rs r (insert m q.0 q.1)
 
 -- ---- nothing above
 
-pub none_above : {part : ℕ} {es : List Entry} → NothingAbove part es → (key : OrderedKey) → find es (part + 1) key ≡ None
-none_above {part} {es} h key = absent es h.all
+pub none_above : {part : ℕ} {es : List Entry} → NothingAbove part es → (part' : ℕ) (key : OrderedKey) → part < part' → find es part' key ≡ None
+none_above {part} {es} h part' key above = absent es h.all
   where
-    absent : (es : List Entry) → AllByRecursion (λ e. e.part ≤ part) es → find es (part + 1) key ≡ None
+    absent : (es : List Entry) → AllByRecursion (λ e. e.part ≤ part) es → find es part' key ≡ None
     absent [] h = refl
     absent (e ∷ es) h =
-        let other : e.part ≢ part + 1 = λ same. let low : e.part ≤ part = h.0 in absurd (omega (arith, low, same)) in
-        find-miss (part + 1) key e es (other_part e.part (part + 1) e.key key other) ∙ absent es h.1
+        let other : e.part ≢ part' = λ same. let low : e.part ≤ part = h.0 in absurd (omega (arith, low, above, same)) in
+        find-miss part' key e es (other_part e.part part' e.key key other) ∙ absent es h.1
 
 all_inserted : (P : Entry → Type 0) (es : List Entry) (x : Entry) → P x → AllByRecursion P es → AllByRecursion P (insert_entry es x)
 all_inserted P [] x p a = (p, tt)
@@ -140,7 +140,7 @@ awaited {part} {rs} {es} sound above run none = record {
   rising = sound.rising;
   one_place = sound.one_place;
   sorted = run_sorted rs run;
-  absent = both_absent (part + 1) rs es (none_above above) none;
+  absent = both_absent (part + 1) rs es (λ key. none_above above (part + 1) key (omega arith)) none;
 }
 
 -- ---- what a load leaves

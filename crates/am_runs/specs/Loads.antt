@@ -1,9 +1,9 @@
 -- What a load of a run answers, and what it does to the partitions.
-use Rattle.std.specs.Prelude.{◌≡◌, ◌+◌, ◌≤◌, ◌==◌, ◌⊎◌, ℕ, List, [], ◌∷◌, true, false, Option, Some, None, if◌then◌else◌}
+use Rattle.std.specs.Prelude.{◌≡◌, ◌+◌, ◌<◌, ◌≤◌, ◌==◌, ◌⊎◌, ℕ, List, [], ◌∷◌, true, false, Option, Some, None, if◌then◌else◌}
 use Rattle.std.specs.List.{AllByRecursion}
 use Rattle.std.specs.FinMap.{get, is_sorted}
 use Rattle.am_record.specs.OrderedKey.{OrderedKey, key_cmp}
-use Rattle.am_record.specs.Plain.{Records, insert_all, least_taken}
+use Rattle.am_record.specs.Plain.{Records, is_key_of, insert_all, least_taken}
 use Rattle.am_record.specs.declared.entry.Entry.{Entry}
 use Rattle.am_record.specs.declared.step.Reply.{Reply}
 use Rattle.am_record.specs.declared.step.Reply.TheVariants.{Done, Exists, Refused}
@@ -54,3 +54,12 @@ pub record IsAwaited (part : ℕ) (pairs : Records) (es : List Entry) : Type 0 w
 pub record HoldsRun (part : ℕ) (pairs : Records) (es : List Entry) : Type 0 where
   pub before : List Entry
   pub is : es ≡ with_run part pairs before
+
+-- where the records of a run stand, and where nothing stands
+pub record LoadLaws (es : List Entry) : Type 0 where
+  -- a run changes no other partition, and in its own no other key
+  pub other_parts : (run : ℕ) (pairs : Records) (part : ℕ) (key : OrderedKey) → (part == run) ≡ false → find (with_run run pairs es) part key ≡ find es part key
+  pub other_keys : (run : ℕ) (pairs : Records) (key : OrderedKey) → is_key_of pairs key ≡ false → find (with_run run pairs es) run key ≡ find es run key
+  -- nothing stands above a partition exactly where nothing is found above it
+  pub none_above : (part : ℕ) → NothingAbove part es → (part' : ℕ) (key : OrderedKey) → part < part' → find es part' key ≡ None
+  pub nothing_above : (part : ℕ) → ((part' : ℕ) (key : OrderedKey) → part < part' → find es part' key ≡ None) → NothingAbove part es

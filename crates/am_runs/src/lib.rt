@@ -3,6 +3,7 @@
 
 mod cut;
 mod fault;
+mod laws;
 mod loading;
 mod run;
 #[cfg(test)]
@@ -10,5 +11,6 @@ mod tests;
 
 pub use cut::{MAX_RUN_LEN, cut_runs};
 pub use fault::LoadFault;
+pub use laws::load_follows;
 pub use loading::{MAX_RUNS, load};
 pub use run::Run;

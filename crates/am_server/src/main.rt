@@ -3,8 +3,6 @@
 
 mod command;
 mod ending;
-#[cfg(test)]
-mod tests;
 
 use am_session::serve_alone;
 use am_wire::{Reading, Writing};
