@@ -102,29 +102,6 @@ fn change<I: PartIndex + Drop>(
 }
 
 #[test]
-fn abort_restores_across_partitions(rt: HostRuntime) -> Result<(), Fail> {
-    let (one, five) = (Key::new(1), Key::new(5));
-    let mut parts = over(rt.alloc(), &[(1, 1, b'p', false), (2, 5, b'q', false)])?;
-    for _ in 0..2_u8 {
-        if parts.runs() < 65535 {
-            parts.count_run();
-        }
-    }
-
-    let mut log = UndoLog::new(rt.alloc());
-    change(&mut parts, &mut log, 2, five, b'q', true)?;
-    insert(&mut parts, &mut log, five, b'r')?;
-    assert!(rt; parts.place_of(five) == Some(0));
-    log.take_back(&mut parts);
-
-    assert!(rt; parts.find(0, five) == Some((value(b'r'), true)));
-    assert!(rt; parts.find(1, one) == Some((value(b'p'), false)));
-    assert!(rt; parts.find(2, five) == Some((value(b'q'), false)));
-    assert!(rt; parts.runs() == 2);
-    Ok(())
-}
-
-#[test]
 fn writes_of_one_key_are_taken_back_newest_first(rt: HostRuntime) -> Result<(), Fail> {
     let key = Key::new(5);
     let mut parts = over(rt.alloc(), &[])?;
