@@ -50,7 +50,6 @@ fn insert<I: PartIndex + Drop>(
     ensures nothing_above { NothingAbove parts.new.runs parts.new.entries }
 {
     undo_follows();
-    load_follows();
     let (key, value) = pair(number, byte);
     if parts.find(0, key).is_some() || parts.place_of(key).is_some() {
         return Ok(());
