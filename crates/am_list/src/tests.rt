@@ -11,7 +11,7 @@ fn value(byte: u8) -> Value {
 fn live(part: u32, number: u64, byte: u8) -> Entry {
     Entry {
         part,
-        key: Key::new(number),
+        key: Key::of_u64(number),
         value: value(byte),
         is_ghost: false,
     }
@@ -20,7 +20,7 @@ fn live(part: u32, number: u64, byte: u8) -> Entry {
 fn dead(part: u32, number: u64, byte: u8) -> Entry {
     Entry {
         part,
-        key: Key::new(number),
+        key: Key::of_u64(number),
         value: value(byte),
         is_ghost: true,
     }
@@ -54,23 +54,23 @@ fn walks_over_two_partitions_and_their_ghosts(rt: HostRuntime) -> Result<(), Fai
         add(&mut index, e)?;
     }
 
-    assert!(rt; index.find(0, Key::new(5)) == Some((value(b'g'), true)));
-    assert!(rt; index.find(1, Key::new(5)) == Some((value(b'd'), false)));
-    assert!(rt; index.find(0, Key::new(1)).is_none());
+    assert!(rt; index.find(0, Key::of_u64(5)) == Some((value(b'g'), true)));
+    assert!(rt; index.find(1, Key::of_u64(5)) == Some((value(b'd'), false)));
+    assert!(rt; index.find(0, Key::of_u64(1)).is_none());
 
     assert!(rt; index.next_from(0, Key::least()) == Some(live(0, 2, b'a')));
-    assert!(rt; index.next_from(0, Key::new(3)) == Some(dead(0, 5, b'g')));
-    assert!(rt; index.next_from(0, Key::new(5)) == Some(dead(0, 5, b'g')));
-    assert!(rt; index.next_from(0, Key::new(6)).is_none());
+    assert!(rt; index.next_from(0, Key::of_u64(3)) == Some(dead(0, 5, b'g')));
+    assert!(rt; index.next_from(0, Key::of_u64(5)) == Some(dead(0, 5, b'g')));
+    assert!(rt; index.next_from(0, Key::of_u64(6)).is_none());
     assert!(rt; index.next_from(2, Key::least()).is_none());
 
-    assert!(rt; index.after(0, Key::new(2)) == Some(dead(0, 5, b'g')));
-    assert!(rt; index.after(0, Key::new(5)).is_none());
-    assert!(rt; index.after(1, Key::new(1)) == Some(live(1, 5, b'd')));
+    assert!(rt; index.after(0, Key::of_u64(2)) == Some(dead(0, 5, b'g')));
+    assert!(rt; index.after(0, Key::of_u64(5)).is_none());
+    assert!(rt; index.after(1, Key::of_u64(1)) == Some(live(1, 5, b'd')));
 
-    assert!(rt; index.next_any(0, Key::new(3)) == Some(dead(0, 5, b'g')));
-    assert!(rt; index.next_any(0, Key::new(6)) == Some(live(1, 1, b'c')));
-    assert!(rt; index.next_any(1, Key::new(6)).is_none());
+    assert!(rt; index.next_any(0, Key::of_u64(3)) == Some(dead(0, 5, b'g')));
+    assert!(rt; index.next_any(0, Key::of_u64(6)) == Some(live(1, 1, b'c')));
+    assert!(rt; index.next_any(1, Key::of_u64(6)).is_none());
     Ok(())
 }
 
@@ -86,7 +86,7 @@ fn edits_the_entry_of_a_place(rt: HostRuntime) -> Result<(), Fail> {
         [live(0, 5, b'a'), live(1, 5, b'b'), live(1, 7, b'c')].as_slice()
     );
 
-    let key = Key::new(5);
+    let key = Key::of_u64(5);
     if index.find(1, key).is_some() {
         index.set(1, key, value(b'x'), true);
     }
@@ -108,7 +108,7 @@ fn edits_the_entry_of_a_place(rt: HostRuntime) -> Result<(), Fail> {
 fn refused_insert_changes_nothing(rt: HostRuntime) -> Result<(), Fail> {
     let mut index = ListIndex::new(rt.alloc());
     for number in 0..9_u64 {
-        let key = Key::new(20 - number);
+        let key = Key::of_u64(20 - number);
         if add(&mut index, live(0, 20 - number, b'a')).is_err() {
             assert!(rt; index.entries().len() == number as usize);
             assert!(rt; index.find(0, key).is_none());
@@ -118,6 +118,6 @@ fn refused_insert_changes_nothing(rt: HostRuntime) -> Result<(), Fail> {
         assert!(rt; index.next_from(0, Key::least()) == Some(live(0, 20 - number, b'a')));
         assert!(rt; index.entries().len() == number as usize + 1);
     }
-    assert!(rt; index.after(0, Key::new(19)) == Some(live(0, 20, b'a')));
+    assert!(rt; index.after(0, Key::of_u64(19)) == Some(live(0, 20, b'a')));
     Ok(())
 }

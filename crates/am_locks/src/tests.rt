@@ -4,7 +4,7 @@ use std::alloc::Global;
 use std::process::Abort;
 
 fn range(rt: &impl Abort, lo: u64, hi: u64) -> Range {
-    Range::new(Key::new(lo), Key::new(hi)).expect(rt, "the ends stand in order")
+    Range::new(Key::of_u64(lo), Key::of_u64(hi)).expect(rt, "the ends stand in order")
 }
 
 fn shared(rt: &impl Abort, lo: u64, hi: u64) -> Lock {
@@ -181,8 +181,8 @@ fn ninth_lock_refused(rt: HostRuntime) {
     let ninth = table.ask(1, exclusive(&rt, 8, 8));
     if ninth == Asked::NoMemory {
         assert_eq!(rt; held(&rt, &table, 1), 8);
-        assert_eq!(rt; table.exclusive_at(Key::new(7)), Some(1));
-        assert_eq!(rt; table.exclusive_at(Key::new(8)), None);
+        assert_eq!(rt; table.exclusive_at(Key::of_u64(7)), Some(1));
+        assert_eq!(rt; table.exclusive_at(Key::of_u64(8)), None);
         assert_eq!(rt; ask(&rt, &mut table, 2, &shared(&rt, 8, 8)), Asked::Granted);
         release(&rt, &mut table, 2);
         assert_eq!(rt;
@@ -193,7 +193,7 @@ fn ninth_lock_refused(rt: HostRuntime) {
         assert_eq!(rt; ninth, Asked::Granted);
     }
     assert_eq!(rt; held(&rt, &table, 1), 9);
-    assert_eq!(rt; table.exclusive_at(Key::new(8)), Some(1));
+    assert_eq!(rt; table.exclusive_at(Key::of_u64(8)), Some(1));
 }
 
 #[test]
@@ -211,7 +211,7 @@ fn cut_keeps_the_oldest_locks(rt: HostRuntime) {
     assert!(rt; table.is_owner(1) && table.held(1) == 2);
     table.cut(1, 1);
     assert_eq!(rt; held(&rt, &table, 1), 1);
-    assert_eq!(rt; table.exclusive_at(Key::new(2)), Some(1));
-    assert_eq!(rt; table.exclusive_at(Key::new(8)), None);
-    assert_eq!(rt; table.exclusive_at(Key::new(5)), None);
+    assert_eq!(rt; table.exclusive_at(Key::of_u64(2)), Some(1));
+    assert_eq!(rt; table.exclusive_at(Key::of_u64(8)), None);
+    assert_eq!(rt; table.exclusive_at(Key::of_u64(5)), None);
 }

@@ -10,13 +10,13 @@ fn value(bytes: &[u8]) -> Result<Value, &'static str> {
 
 #[test]
 fn an_insert_is_found_and_stays(rt: HostRuntime) -> Result<(), Fail> {
-    let (five, a, b) = (Key::new(5), value(b"a")?, value(b"b")?);
+    let (five, a, b) = (Key::of_u64(5), value(b"a")?, value(b"b")?);
     let ops = [
         Op::Get(five),
         Op::Insert(five, a),
         Op::Insert(five, b),
         Op::Get(five),
-        Op::Get(Key::new(6)),
+        Op::Get(Key::of_u64(6)),
     ];
     let mut plain = Plain::new(rt.alloc());
     let replies = alone(rt.alloc(), &mut plain, &ops)?;
@@ -33,7 +33,7 @@ fn an_insert_is_found_and_stays(rt: HostRuntime) -> Result<(), Fail> {
 
 #[test]
 fn a_refused_insert_may_be_asked_again(rt: HostRuntime) -> Result<(), Fail> {
-    let (five, a) = (Key::new(5), value(b"a")?);
+    let (five, a) = (Key::of_u64(5), value(b"a")?);
     let mut plain = Plain::new(rt.alloc());
     if plain.answer(&Op::Insert(five, a)) == Err(NoMemory) {
         assert!(rt; plain.answer(&Op::Get(five)) == Ok(Reply::Absent));

@@ -11,7 +11,7 @@ fn value(byte: u8) -> Value {
 fn entry(part: u32, number: u64, byte: u8, is_ghost: bool) -> Entry {
     Entry {
         part,
-        key: Key::new(number),
+        key: Key::of_u64(number),
         value: value(byte),
         is_ghost,
     }
@@ -61,7 +61,7 @@ fn place_of_passes_over_ghosts_and_empty_partitions(rt: HostRuntime) -> Result<(
         (6, None),
         (99, None),
     ] {
-        assert_eq!(rt; parts.place_of(Key::new(number)), place, "at {number}");
+        assert_eq!(rt; parts.place_of(Key::of_u64(number)), place, "at {number}");
     }
     Ok(())
 }
@@ -69,7 +69,7 @@ fn place_of_passes_over_ghosts_and_empty_partitions(rt: HostRuntime) -> Result<(
 #[test]
 #[tactic(auto, using(crate::proofs::Lives::live_nowhere))]
 fn changes_the_entry_of_the_named_partition(rt: HostRuntime) -> Result<(), Fail> {
-    let key = Key::new(5);
+    let key = Key::of_u64(5);
     let mut parts = over(
         rt.alloc(),
         &[entry(0, 5, b'g', true), entry(1, 5, b'p', false)],
@@ -106,7 +106,7 @@ fn changes_the_entry_of_the_named_partition(rt: HostRuntime) -> Result<(), Fail>
 fn refused_add_changes_nothing(rt: HostRuntime) -> Result<(), Fail> {
     let mut parts = Parts::new(ListIndex::new(rt.alloc()));
     for number in 0..9_u64 {
-        let key = Key::new(20 - number);
+        let key = Key::of_u64(20 - number);
         if add(&mut parts, entry(0, 20 - number, b'a', false)).is_err() {
             assert!(rt; parts.place_of(key).is_none());
             assert!(rt; parts.next_any(0, Key::least()) == parts.after(0, key));

@@ -1,8 +1,11 @@
+pub mod PaddedBytes
 pub mod OrderedKey
+pub mod KeyWords
 pub mod KeyFields
+pub mod Records
 pub mod Interval
-pub mod ValueBytes
 pub mod ValueFields
 pub mod EntryOrder
 pub mod Locks
 pub mod Plain
+pub mod Asks

@@ -1,44 +1,21 @@
 -- The plain map: what each operation answers on it and leaves of it, and what a list of operations gets alone.
-use Rattle.std.specs.Prelude.{ℕ, List, [], ◌∷◌, Bool, cond, filter, take, Option, Some, None}
+use Rattle.std.specs.Prelude.{ℕ, List, [], ◌∷◌, Bool, true, false, cond, filter, take, Option, Some, None}
 use Rattle.std.specs.List.{list_any}
 use Rattle.std.specs.Ordering.{eq_by_cmp}
-use Rattle.std.specs.FinMap.{FinMap, get, contains_key, insert, entries}
+use Rattle.std.specs.FinMap.{FinMap, get, contains_key, insert, remove, entries, is_sorted}
 use Rattle.am_record.specs.OrderedKey.{OrderedKey, key_cmp}
 use Rattle.am_record.specs.Interval.{Interval, within}
+pub use Rattle.am_record.specs.Records.{Records}
 use Rattle.am_record.specs.declared.step.Op.{Op}
-use Rattle.am_record.specs.declared.step.Op.TheVariants.{Get, Insert}
+use Rattle.am_record.specs.declared.step.Op.TheVariants.{Get, Scan, Insert, Replace, Delete, Load, Lock, Mark, Back}
 use Rattle.am_record.specs.declared.step.Reply.{Reply}
-use Rattle.am_record.specs.declared.step.Reply.TheVariants.{Done, Found, Absent, Exists}
+use Rattle.am_record.specs.declared.step.Reply.TheVariants.{Done, Found, Absent, Rows, Exists, Missing, NoMark}
 
 -- from keys to the bytes of their values
 abbrev pub PlainMap : Type 0
 PlainMap = FinMap key_cmp (List ℕ)
 
--- records by key; a value is its bytes
-abbrev pub Records : Type 0
-Records = List (OrderedKey × List ℕ)
-
-abbrev pub found : Option (List ℕ) → Reply
-found None = Absent
-found (Some v) = Found v
-
-abbrev pub answer : Op → PlainMap → Reply
-answer (Get k) m = found (get m k)
-answer (Insert k v) m = cond (contains_key m k) (Exists k) Done
-
-abbrev pub after : Op → PlainMap → PlainMap
-after (Get k) m = m
-after (Insert k v) m = cond (contains_key m k) m (insert m k v)
-
--- the answers to the operations, one after another with nothing between
-abbrev pub answers : List Op → PlainMap → List Reply
-answers [] m = []
-answers (op ∷ ops) m = answer op m ∷ answers ops (after op m)
-
--- the map that they leave
-abbrev pub left : List Op → PlainMap → PlainMap
-left [] m = m
-left (op ∷ ops) m = left ops (after op m)
+-- ---- records of a map
 
 -- the map's records whose keys pass the test, by rising key
 abbrev pub rows_where : (OrderedKey → Bool) → PlainMap → Records
@@ -64,3 +41,101 @@ first_key (row ∷ rows) = Some row.0
 
 abbrev pub least_taken : Records → PlainMap → Option OrderedKey
 least_taken records m = first_key (rows_where (is_key_of records) m)
+
+-- ---- one operation on a map
+
+abbrev pub found : Option (List ℕ) → Reply
+found None = Absent
+found (Some v) = Found v
+
+abbrev pub exists_or_done : Option OrderedKey → Reply
+exists_or_done None = Done
+exists_or_done (Some key) = Exists key
+
+-- what the operation answers on a map. What Back answers depends on more: answer, below
+abbrev pub map_answer : Op → PlainMap → Reply
+map_answer (Get k) m = found (get m k)
+map_answer (Scan range max) m = Rows (scan_rows range max m)
+map_answer (Insert k v) m = cond (contains_key m k) (Exists k) Done
+map_answer (Replace k v) m = cond (contains_key m k) Done Missing
+map_answer (Delete k) m = cond (contains_key m k) Done Missing
+map_answer (Load pairs) m = exists_or_done (least_taken pairs m)
+map_answer (Lock lock) m = Done
+map_answer Mark m = Done
+map_answer Back m = Done
+
+-- the records put in where none of their keys is taken
+abbrev pub load_where : Option OrderedKey → Records → PlainMap → PlainMap
+load_where None pairs m = insert_all pairs m
+load_where (Some key) pairs m = m
+
+-- the map that it leaves. What Mark and Back do is in after, below
+abbrev pub map_after : Op → PlainMap → PlainMap
+map_after (Get k) m = m
+map_after (Scan range max) m = m
+map_after (Insert k v) m = cond (contains_key m k) m (insert m k v)
+map_after (Replace k v) m = cond (contains_key m k) (insert m k v) m
+map_after (Delete k) m = remove m k
+map_after (Load pairs) m = load_where (least_taken pairs m) pairs m
+map_after (Lock lock) m = m
+map_after Mark m = m
+map_after Back m = m
+
+-- ---- operations alone
+
+-- what a body works on: its map, and the maps that it saved and hasn't gone back to, the newest first
+pub record Draft : Type 0 where
+  pub map : PlainMap
+  pub saved : List PlainMap
+
+-- a map of which nothing was saved
+abbrev pub fresh : PlainMap → Draft
+fresh m = record { map = m; saved = [] }
+
+-- what Back answers and does, by the saved maps
+abbrev pub went_back : List PlainMap → Reply
+went_back [] = NoMark
+went_back (m ∷ ms) = Done
+
+abbrev pub back : List PlainMap → Draft → Draft
+back [] d = d
+back (m ∷ ms) d = record { map = m; saved = ms }
+
+-- what an operation answers on a draft, and the draft that it leaves: Mark saves the map of the moment
+abbrev pub answer : Op → Draft → Reply
+answer Back d = went_back d.saved
+answer op d = map_answer op d.map
+
+abbrev pub after : Op → Draft → Draft
+after Mark d = record { map = d.map; saved = d.map ∷ d.saved }
+after Back d = back d.saved d
+after op d = record { map = map_after op d.map; saved = d.saved }
+
+-- the answers to the operations, one after another with nothing between
+abbrev pub answers_on : List Op → Draft → List Reply
+answers_on [] d = []
+answers_on (op ∷ ops) d = answer op d ∷ answers_on ops (after op d)
+
+-- what they leave
+abbrev pub left_on : List Op → Draft → Draft
+left_on [] d = d
+left_on (op ∷ ops) d = left_on ops (after op d)
+
+-- a whole body alone on a map: its answers, and the map that it leaves
+abbrev pub answers : List Op → PlainMap → List Reply
+answers ops m = answers_on ops (fresh m)
+
+abbrev pub left : List Op → PlainMap → PlainMap
+left ops m = (left_on ops (fresh m)).map
+
+-- ---- loads in order
+
+-- whether there are records and they rise strictly by key
+abbrev pub is_rising : Records → Bool
+is_rising [] = false
+is_rising (r ∷ rs) = is_sorted key_cmp (r ∷ rs)
+
+-- whether the operation is none that is refused for the order of its records
+abbrev pub is_orderly : Op → Bool
+is_orderly (Load pairs) = is_rising pairs
+is_orderly op = true

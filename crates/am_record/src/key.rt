@@ -1,57 +1,123 @@
 //! Keys. What a key is made of is known here alone: everybody else has their order.
 
-ghost use Rattle.std.specs.Prelude.{◌≡◌};
-ghost use Rattle.am_record.specs.OrderedKey.{key_of, key_least, IsLeast};
+ghost use Rattle.std.specs.Prelude.{◌≡◌, ◌↔◌, ◌+◌, ◌≤◌, IsSome, IfSome, length};
+ghost use Rattle.am_record.specs.KeyWords.{word_at, words_of, AreBytes};
+ghost use Rattle.am_record.specs.OrderedKey.{key_of, bytes_of, number_key, key_least, IsLeast};
 
 use std::cmp::Ordering;
 use std::hash::{Hash, Hasher};
 use std::marker::Model;
 
-/// The key of a record.
+/// The most bytes that a key may have.
+pub const MAX_KEY_LEN: usize = 32;
+
+/// The key of a record: at most 32 bytes, compared byte by byte, a beginning of a string before the string. The bytes past
+/// its length are zero.
 #[derive(Clone, Copy, Debug)]
 pub struct Key {
-    number: u64,
+    bytes: [u8; 32],
+    len: u8,
 }
 
 impl Model for Key {
-    ghost use Rattle.am_record.specs.OrderedKey.{OrderedKey, key_code, key_of, number_of};
+    ghost use Rattle.std.specs.Prelude.{take, length};
+    ghost use Rattle.am_record.specs.OrderedKey.{OrderedKey, key_code, key_of, bytes_of};
+    ghost use Rattle.am_record.specs.PaddedBytes.{IsPadded};
 
     ghost Value = { OrderedKey };
 
     ghost coded = { key_code };
 
-    ghost use Rattle.am_record.specs.KeyFields.{fields_of-view};
+    ghost use Rattle.am_record.specs.KeyFields.{padded, fields_of-view};
 
-    ghost view = { λ k. key_of k.number };
+    ghost view = { λ k. key_of (take k.len k.bytes) };
 
-    ghost inverse = { λ k. record { number = number_of k } };
+    ghost invariant = { λ k. IsPadded 32 k.bytes k.len };
 
-    ghost inverse_ok = { λ a h. fields_of-view a };
+    ghost inverse = { λ k. record { bytes = padded (bytes_of k); len = length (bytes_of k) } };
+
+    ghost inverse_ok = { λ a h. fields_of-view a h };
 }
 
 impl Key {
-    /// The key of a number.
-    pub fn new(number: u64) -> Self
-        ensures { result ≡ key_of number }
+    /// The key of the bytes, where they are at most 32.
+    pub fn new(bytes: &[u8]) -> Option<Self>
+        ensures short { IsSome result ↔ (length bytes.now ≤ 32) }
+        ensures value { IfSome result (λ k. k ≡ key_of bytes.now) }
     {
-        Key { number }
+        let len = bytes.len();
+        if len > MAX_KEY_LEN {
+            return None;
+        }
+        let mut all = [0; 32];
+        all[..len].copy_from_slice(bytes);
+        Some(Key {
+            bytes: all,
+            len: len as u8,
+        })
     }
 
-    /// The number that the key was made of.
-    pub fn get(self) -> u64
-        ensures { key_of result ≡ self }
+    /// The key of a number: its eight bytes, the highest first, so that keys of numbers are ordered as the numbers are.
+    #[tactic(auto, unfolding(crate::specs::OrderedKey::number_key))]
+    pub fn of_u64(number: u64) -> Self
+        ensures { result ≡ number_key number }
     {
-        self.number
+        let Some(key) = Key::new(&number.to_be_bytes()) else {
+            unreachable!()
+        };
+        key
     }
 
-    /// The least key, where walks over a partition begin.
+    /// The bytes.
+    pub fn bytes(&self) -> &[u8]
+        ensures all { result.now ≡ bytes_of self.now }
+        ensures short { length (bytes_of self.now) ≤ 32 }
+    {
+        &self.bytes[..self.len as usize]
+    }
+
+    /// The least key, the empty string, where walks over a partition begin.
     #[tactic(auto, using(crate::specs::OrderedKey::least_lemmas))]
     pub fn least() -> Self
         ensures value { result ≡ key_least }
         ensures least { IsLeast result }
     {
-        Key { number: 0 }
+        Key {
+            bytes: [0; 32],
+            len: 0,
+        }
     }
+}
+
+// The eight bytes from `at` on as a number, the first of them the highest.
+fn word(bytes: &[u8; 32], at: usize) -> u64
+    requires { at + 8 ≤ 32 }
+    ensures { result ≡ word_at bytes.now at }
+{
+    u64::from_be_bytes([
+        bytes[at],
+        bytes[at + 1],
+        bytes[at + 2],
+        bytes[at + 3],
+        bytes[at + 4],
+        bytes[at + 5],
+        bytes[at + 6],
+        bytes[at + 7],
+    ])
+}
+
+// Padded bytes compare as these numbers do, four steps in place of 32.
+fn words(bytes: &[u8; 32]) -> [u64; 4]
+    ensures value { result ≡ words_of bytes.now }
+    ensures bytes { AreBytes bytes.now }
+    ensures whole { length bytes.now ≡ 32 }
+{
+    [
+        word(bytes, 0),
+        word(bytes, 8),
+        word(bytes, 16),
+        word(bytes, 24),
+    ]
 }
 
 impl PartialEq for Key {
@@ -102,20 +168,22 @@ impl Ord for Key {
     ghost matches_eq = { λ a b. refl };
 
     fn cmp(&self, other: &Key) -> Ordering {
-        self.number.cmp(&other.number)
+        words(&self.bytes)
+            .cmp(&words(&other.bytes))
+            .then(self.len.cmp(&other.len))
     }
 }
 
 impl Hash for Key {
     ghost use Rattle.std.proofs.Common.{ap};
     ghost use Rattle.std.specs.Hash as fed;
-    ghost use Rattle.am_record.specs.OrderedKey.{number_of, key_eq-exact};
+    ghost use Rattle.am_record.specs.OrderedKey.{bytes_of, key_eq-exact};
 
-    ghost hash_input = { λ k. fed.u64 (number_of k) };
+    ghost hash_input = { λ k. fed.slice fed.u8 (bytes_of k) };
 
-    ghost respects_eq = { λ a b h. ap (λ k. fed.u64 (number_of k)) (key_eq-exact a b h) };
+    ghost respects_eq = { λ a b h. ap (λ k. fed.slice fed.u8 (bytes_of k)) (key_eq-exact a b h) };
 
     fn hash<H: Hasher>(&self, state: &mut H) {
-        self.number.hash(state);
+        self.bytes().hash(state);
     }
 }

@@ -3,16 +3,20 @@
 
 mod entry;
 mod key;
+mod laws;
 mod lock;
 mod memory;
+mod pairs;
 mod range;
 mod step;
 mod value;
 
 pub use entry::Entry;
-pub use key::Key;
+pub use key::{Key, MAX_KEY_LEN};
+pub use laws::keys_are_ordered;
 pub use lock::{Lock, Mode};
 pub use memory::NoMemory;
+pub use pairs::Pairs;
 pub use range::Range;
 pub use step::{Op, Refusal, Reply, Step};
 pub use value::{MAX_VALUE_LEN, Value};

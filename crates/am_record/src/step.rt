@@ -1,15 +1,36 @@
 //! Operations, steps and replies.
 
+ghost use Rattle.std.specs.Prelude.{◌≡◌, IfOk};
+
 use crate::key::Key;
+use crate::lock::Lock;
+use crate::memory::NoMemory;
+use crate::pairs::Pairs;
+use crate::range::Range;
 use crate::value::Value;
+use std::alloc::Global;
 
 /// What a transaction asks for.
 #[derive(Debug, PartialEq, Eq, Drop)]
 pub enum Op {
     /// The value under the key: [`Reply::Found`] or [`Reply::Absent`].
     Get(Key),
+    /// The first records of the range by key, at most so many: [`Reply::Rows`].
+    Scan(Range, u64),
     /// A new record: [`Reply::Done`], or [`Reply::Exists`] where the key has one.
     Insert(Key, Value),
+    /// Another value for a record: [`Reply::Done`], or [`Reply::Missing`] where there is none.
+    Replace(Key, Value),
+    /// A record goes: [`Reply::Done`], or [`Reply::Missing`] where there is none.
+    Delete(Key),
+    /// New records, all of them or none: [`Reply::Done`], or [`Reply::Exists`] with the least key that has one.
+    Load(Pairs),
+    /// The lock alone: [`Reply::Done`].
+    Lock(Lock),
+    /// A savepoint: [`Reply::Done`].
+    Mark,
+    /// Back to the newest savepoint, which goes: [`Reply::Done`], or [`Reply::NoMark`] where none stands.
+    Back,
 }
 
 /// What the store is asked to do. A transaction is named by its number.
@@ -19,6 +40,10 @@ pub enum Step {
     Do(u64, Op),
     Commit(u64),
     Abort(u64),
+    /// Records of the oldest range asked for go to the final partition, at most so many.
+    Merge(u64),
+    /// Ghosts of the range go, at most so many.
+    Clean(Range, u64),
 }
 
 /// What the store replies.
@@ -29,10 +54,24 @@ pub enum Reply {
     Done,
     Found(Value),
     Absent,
+    Rows(Pairs),
     Exists(Key),
+    Missing,
     /// The number of the commit: they rise by one from 1.
     Committed(u64),
     Aborted,
+    /// So many entries of this run were worked off.
+    Moved(u64, u32),
+    /// Nothing is left to merge for the oldest range asked for, which is forgotten.
+    MergeDone,
+    /// The key that is next is exclusively locked by this transaction: the range asked for is forgotten.
+    Ended(Key, u64),
+    /// No range is waiting to be merged.
+    Idle,
+    /// So many ghosts are gone.
+    Cleaned(u64),
+    /// No savepoint stands.
+    NoMark,
     Refused(Refusal),
 }
 
@@ -59,4 +98,65 @@ pub enum Refusal {
     NoMemory,
     /// The seat holds as many receipts as it may.
     SeatFull,
+}
+
+impl Op {
+    /// The same operation. Only a load's pairs take memory.
+    pub fn copy(&self, alloc: Global) -> Result<Op, NoMemory>
+        ensures { IfOk result (λ op. op ≡ self.now) }
+    {
+        Ok(match self {
+            Op::Get(key) => Op::Get(*key),
+            Op::Scan(range, max) => Op::Scan(*range, *max),
+            Op::Insert(key, value) => Op::Insert(*key, *value),
+            Op::Replace(key, value) => Op::Replace(*key, *value),
+            Op::Delete(key) => Op::Delete(*key),
+            Op::Load(pairs) => Op::Load(pairs.copy(alloc)?),
+            Op::Lock(lock) => Op::Lock(*lock),
+            Op::Mark => Op::Mark,
+            Op::Back => Op::Back,
+        })
+    }
+}
+
+impl Step {
+    /// The same step. Only a load's pairs take memory.
+    pub fn copy(&self, alloc: Global) -> Result<Step, NoMemory>
+        ensures { IfOk result (λ step. step ≡ self.now) }
+    {
+        Ok(match self {
+            Step::Begin => Step::Begin,
+            Step::Do(tx, op) => Step::Do(*tx, op.copy(alloc)?),
+            Step::Commit(tx) => Step::Commit(*tx),
+            Step::Abort(tx) => Step::Abort(*tx),
+            Step::Merge(limit) => Step::Merge(*limit),
+            Step::Clean(range, limit) => Step::Clean(*range, *limit),
+        })
+    }
+}
+
+impl Reply {
+    /// The same reply. Only a scan's rows take memory.
+    pub fn copy(&self, alloc: Global) -> Result<Reply, NoMemory>
+        ensures { IfOk result (λ reply. reply ≡ self.now) }
+    {
+        Ok(match self {
+            Reply::Begun(tx) => Reply::Begun(*tx),
+            Reply::Done => Reply::Done,
+            Reply::Found(value) => Reply::Found(*value),
+            Reply::Absent => Reply::Absent,
+            Reply::Rows(rows) => Reply::Rows(rows.copy(alloc)?),
+            Reply::Exists(key) => Reply::Exists(*key),
+            Reply::Missing => Reply::Missing,
+            Reply::Committed(commit) => Reply::Committed(*commit),
+            Reply::Aborted => Reply::Aborted,
+            Reply::Moved(n, run) => Reply::Moved(*n, *run),
+            Reply::MergeDone => Reply::MergeDone,
+            Reply::Ended(key, tx) => Reply::Ended(*key, *tx),
+            Reply::Idle => Reply::Idle,
+            Reply::Cleaned(n) => Reply::Cleaned(*n),
+            Reply::NoMark => Reply::NoMark,
+            Reply::Refused(why) => Reply::Refused(*why),
+        })
+    }
 }

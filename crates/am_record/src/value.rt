@@ -16,13 +16,13 @@ pub struct Value {
 
 impl Model for Value {
     ghost use Rattle.std.specs.Prelude.{ℕ, List, take, length, replicate, ◌++◌, ◌-◌};
-    ghost use Rattle.am_record.specs.ValueBytes.{IsPadded};
+    ghost use Rattle.am_record.specs.PaddedBytes.{IsPadded};
 
     ghost Value = { List ℕ };
 
     ghost view = { λ v. take v.len v.bytes };
 
-    ghost invariant = { λ v. IsPadded v.bytes v.len };
+    ghost invariant = { λ v. IsPadded 64 v.bytes v.len };
 
     ghost inverse = { λ xs. record { bytes = xs ++ replicate (64 - length xs) 0; len = length xs } };
 

@@ -13,7 +13,7 @@ fn value(byte: u8) -> Value {
 }
 
 fn pair(number: u64, byte: u8) -> (Key, Value) {
-    (Key::new(number), value(byte))
+    (Key::of_u64(number), value(byte))
 }
 
 fn no_entries(alloc: Global) -> Parts<ListIndex>
@@ -66,7 +66,7 @@ fn cut_runs_in_pieces(rt: HostRuntime) -> Result<(), Fail> {
     assert!(rt; cut_runs(alloc, &[], 2)?.is_empty());
 
     let twice = [pair(5, b'a'), pair(3, b'b'), pair(9, b'c'), pair(3, b'd')];
-    assert!(rt; fault(cut_runs(alloc, &twice, 2))? == Some(LoadFault::Twice(Key::new(3))));
+    assert!(rt; fault(cut_runs(alloc, &twice, 2))? == Some(LoadFault::Twice(Key::of_u64(3))));
     assert!(rt; fault(cut_runs(alloc, &twice, 0))? == Some(LoadFault::BadSize));
     assert!(rt; fault(cut_runs(alloc, &twice, MAX_RUN_LEN + 1))? == Some(LoadFault::BadSize));
     assert!(rt; fault(cut_runs(alloc, &records, MAX_RUN_LEN))?.is_none());
@@ -83,11 +83,11 @@ fn load_order_and_existing_key(rt: HostRuntime) -> Result<(), Fail> {
     let mut parts = no_entries(alloc);
     insert(&mut parts, 5, b'c')?;
     let run = Run::new(vec![in alloc; pair(3, b'a'), pair(5, b'b')]?)?;
-    assert!(rt; load(&mut parts, &run) == Reply::Exists(Key::new(5)));
+    assert!(rt; load(&mut parts, &run) == Reply::Exists(Key::of_u64(5)));
     assert!(rt; parts.runs() == 0);
-    assert!(rt; parts.place_of(Key::new(3)).is_none());
-    assert!(rt; parts.find(0, Key::new(5)) == Some((value(b'c'), false)));
-    assert!(rt; parts.after(0, Key::new(5)).is_none());
+    assert!(rt; parts.place_of(Key::of_u64(3)).is_none());
+    assert!(rt; parts.find(0, Key::of_u64(5)) == Some((value(b'c'), false)));
+    assert!(rt; parts.after(0, Key::of_u64(5)).is_none());
     assert!(rt; parts.next_any(1, Key::least()).is_none());
     Ok(())
 }
@@ -102,11 +102,11 @@ fn load_makes_one_run(rt: HostRuntime) -> Result<(), Fail> {
         return Err(NoMemory.into());
     }
     assert!(rt; parts.runs() == 2);
-    assert!(rt; parts.find(1, Key::new(3)) == Some((value(b'a'), false)));
-    assert!(rt; parts.find(1, Key::new(5)) == Some((value(b'b'), false)));
-    assert!(rt; parts.find(2, Key::new(4)) == Some((value(b'c'), false)));
+    assert!(rt; parts.find(1, Key::of_u64(3)) == Some((value(b'a'), false)));
+    assert!(rt; parts.find(1, Key::of_u64(5)) == Some((value(b'b'), false)));
+    assert!(rt; parts.find(2, Key::of_u64(4)) == Some((value(b'c'), false)));
     assert!(rt; parts.next_any(0, Key::least()).map(|e| e.part) == Some(1));
-    assert!(rt; load(&mut parts, &first) == Reply::Exists(Key::new(3)));
+    assert!(rt; load(&mut parts, &first) == Reply::Exists(Key::of_u64(3)));
     assert!(rt; parts.runs() == 2);
     Ok(())
 }
@@ -124,8 +124,8 @@ fn a_load_refused_memory_leaves_the_entries(rt: HostRuntime) -> Result<(), Fail>
     let mut reply = load(&mut parts, &run);
     if reply == Reply::Refused(Refusal::NoMemory) {
         assert!(rt; parts.runs() == 0);
-        assert!(rt; parts.find(0, Key::new(5)) == Some((value(b'z'), false)));
-        assert!(rt; parts.after(0, Key::new(5)).is_none());
+        assert!(rt; parts.find(0, Key::of_u64(5)) == Some((value(b'z'), false)));
+        assert!(rt; parts.after(0, Key::of_u64(5)).is_none());
         assert!(rt; parts.next_any(1, Key::least()).is_none());
         reply = load(&mut parts, &run);
     }

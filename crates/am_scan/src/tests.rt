@@ -10,17 +10,22 @@ fn value(byte: u8) -> Value {
 }
 
 fn row(number: u64, byte: u8) -> (Key, Value) {
-    (Key::new(number), value(byte))
+    (Key::of_u64(number), value(byte))
+}
+
+// The key of a text, or the least one where it is too long.
+fn named(text: &[u8]) -> Key {
+    Key::new(text).unwrap_or(Key::least())
 }
 
 fn range(lo: u64, hi: u64) -> Option<Range> {
-    Range::new(Key::new(lo), Key::new(hi))
+    Range::new(Key::of_u64(lo), Key::of_u64(hi))
 }
 
 fn live(part: u32, number: u64, byte: u8) -> Entry {
     Entry {
         part,
-        key: Key::new(number),
+        key: Key::of_u64(number),
         value: value(byte),
         is_ghost: false,
     }
@@ -29,7 +34,7 @@ fn live(part: u32, number: u64, byte: u8) -> Entry {
 fn dead(part: u32, number: u64, byte: u8) -> Entry {
     Entry {
         part,
-        key: Key::new(number),
+        key: Key::of_u64(number),
         value: value(byte),
         is_ghost: true,
     }
@@ -135,5 +140,29 @@ fn least_and_greatest_key(rt: HostRuntime) -> Result<(), Fail> {
         rows.as_slice(),
         [row(0, b'a'), row(greatest, b'z')].as_slice()
     );
+    Ok(())
+}
+
+#[test]
+fn scan_goes_by_the_order_of_strings(rt: HostRuntime) -> Result<(), Fail> {
+    let (a, ab, b) = (named(b"a"), named(b"ab"), named(b"b"));
+    let entry = |key, byte| Entry {
+        part: 1,
+        key,
+        value: value(byte),
+        is_ghost: false,
+    };
+    let parts = with_entries(
+        rt.alloc(),
+        &[entry(a, b'1'), entry(ab, b'2'), entry(b, b'3')],
+    )?;
+    let (from_a, from_capital) = (
+        Range::new(a, named(b"az")).ok_or("not in order")?,
+        Range::new(named(b"B"), a).ok_or("not in order")?,
+    );
+    let rows = rows_of(rt.alloc(), &parts, from_a, 9)?;
+    assert!(rt; rows.as_slice() == [(a, value(b'1')), (ab, value(b'2'))].as_slice());
+    let rows = rows_of(rt.alloc(), &parts, from_capital, 9)?;
+    assert!(rt; rows.as_slice() == [(a, value(b'1'))].as_slice());
     Ok(())
 }

@@ -14,13 +14,14 @@ use Rattle.am_record.specs.declared.step.Refusal.TheVariants as refusal
 use Rattle.am_wire.specs.Lines.{lines_of, HasNoLf}
 use Rattle.am_wire.specs.Replies.{TellsVisible, IsOneLine, words_of}
 use Rattle.am_wire.specs.Values.{IsVisible, value_for}
-use Rattle.am_wire.specs.Keys.{key_for}
+use Rattle.am_wire.specs.Keys.{key_for, printed_key}
 use Rattle.am_wire.specs.Grammar.{Form, begin, get, insert, commit, quit, IsProper, request_of, insert_request, Reads}
 use Rattle.am_wire.specs.Reading.{reading}
 use Rattle.am_wire.specs.declared.request.Request.{Request}
 use Rattle.am_wire.specs.declared.request.Request.TheVariants as request
 use Rattle.am_wire.specs.declared.request.LineFault.{LineFault}
 use Rattle.am_wire.specs.declared.request.LineFault.TheVariants as fault
+use Rattle.am_wire.proofs.Keys.{key_for-visible}
 use Rattle.am_wire.proofs.Readings.{reads_reading}
 use Rattle.am_wire.proofs.Texts.{HasNoLf-words_of, HasNoLf-free, is_free}
 use Rattle.am_session.specs.Heard.{Line, told, before_quit}
@@ -52,10 +53,10 @@ got false value w other v o e = o e
 insert_visible : (m : PlainMap) (key : OrderedKey) (value : List ℕ) → All IsVisible value → ShowsVisible m → ShowsVisible (map.insert m key value)
 insert_visible m key value v h = record { each = λ q w e. got (eq_by_cmp key_cmp q key) value w (map.get m q) v (h.each q w) (sym (map.get-insert key_cmp-total m key value q) ∙ e) }
 
--- the values that a step writes are visible
+-- the keys and values that a step writes are visible
 abbrev IsVisibleOp : Op → Type 0
 IsVisibleOp (Get k) = Unit {0}
-IsVisibleOp (Insert k v) = All IsVisible v
+IsVisibleOp (Insert k v) = All IsVisible (printed_key k) × All IsVisible v
 
 abbrev IsVisibleStep : Step → Type 0
 IsVisibleStep step.Begin = Unit {0}
@@ -69,7 +70,7 @@ either false m n a b = b
 
 after_visible : (op : Op) (m : PlainMap) → IsVisibleOp op → ShowsVisible m → ShowsVisible (after op m)
 after_visible (Get k) m v h = h
-after_visible (Insert k v) m visible h = either (map.contains_key m k) m (map.insert m k v) h (insert_visible m k v visible h)
+after_visible (Insert k v) m visible h = either (map.contains_key m k) m (map.insert m k v) h (insert_visible m k v visible.1 h)
 
 begun_visible : (b : Bool) (s : State) → IsVisibleState s → IsVisibleState (cond b s (record s { begun = s.begun + 1; own = Some s.committed }))
 begun_visible true s h = h
@@ -87,23 +88,23 @@ found_visible : (o : Option (List ℕ)) → ((value : List ℕ) → o ≡ Some v
 found_visible None h = tt
 found_visible (Some value) h = h value refl
 
-taken_visible : (b : Bool) (k : OrderedKey) → TellsVisible (cond b (Exists k) Done)
-taken_visible true k = tt
-taken_visible false k = tt
+taken_visible : (b : Bool) (k : OrderedKey) → All IsVisible (printed_key k) → TellsVisible (cond b (Exists k) Done)
+taken_visible true k v = v
+taken_visible false k v = tt
 
-answer_visible : (op : Op) (m : PlainMap) → ShowsVisible m → TellsVisible (answer op m)
-answer_visible (Get k) m h = found_visible (map.get m k) (h.each k)
-answer_visible (Insert k v) m h = taken_visible (map.contains_key m k) k
+answer_visible : (op : Op) (m : PlainMap) → IsVisibleOp op → ShowsVisible m → TellsVisible (answer op m)
+answer_visible (Get k) m v h = found_visible (map.get m k) (h.each k)
+answer_visible (Insert k text) m v h = taken_visible (map.contains_key m k) k v.0
 
 begun_told : (b : Bool) (n : ℕ) → TellsVisible (cond b (Refused refusal.TooManyTx) (Begun n))
 begun_told true n = tt
 begun_told false n = tt
 
-reply_visible : (s : State) (what : Step) → IsVisibleState s → TellsVisible (reply_due s what)
-reply_visible s step.Begin h = begun_told (nat_le (2 ^ 63) s.begun) (s.begun + 1)
-reply_visible s (step.Do tx op) h = answer_visible op (seen_by s) h.seen
-reply_visible s (step.Commit tx) h = tt
-reply_visible s (step.Abort tx) h = tt
+reply_visible : (s : State) (what : Step) → IsVisibleStep what → IsVisibleState s → TellsVisible (reply_due s what)
+reply_visible s step.Begin v h = begun_told (nat_le (2 ^ 63) s.begun) (s.begun + 1)
+reply_visible s (step.Do tx op) v h = answer_visible op (seen_by s) v h.seen
+reply_visible s (step.Commit tx) v h = tt
+reply_visible s (step.Abort tx) v h = tt
 
 -- ---- what is due
 
@@ -115,20 +116,21 @@ value_in_range : (b : Bool) (bytes v : List ℕ) → cond b (Some bytes) None �
 value_in_range true bytes v e = cc
 value_in_range false bytes v e = cc
 
-inserted : (k : Option OrderedKey) (v : Option (List ℕ)) (key : OrderedKey) (value : List ℕ) → insert_request k v ≡ Some (request.Do (Insert key value)) → v ≡ Some value
-inserted None v key value e = cc
-inserted (Some k) None key value e = cc
-inserted (Some k) (Some v) key value e = cc
+inserted : (k : Option OrderedKey) (v : Option (List ℕ)) (key : OrderedKey) (value : List ℕ) → insert_request k v ≡ Some (request.Do (Insert key value)) → (k ≡ Some key) × (v ≡ Some value)
+inserted None v key value e = absurd cc
+inserted (Some k) None key value e = absurd cc
+inserted (Some k) (Some v) key value e = (cc, cc)
 
 not_got : (k : Option OrderedKey) (key : OrderedKey) (value : List ℕ) → option_map (λ x. request.Do (Get x)) k ≡ Some (request.Do (Insert key value)) → ⊥
 not_got None key value e = cc
 not_got (Some k) key value e = cc
 
-form_visible : (form : Form) (key : OrderedKey) (value : List ℕ) → IsProper form → request_of form ≡ Some (request.Do (Insert key value)) → All IsVisible value
+form_visible : (form : Form) (key : OrderedKey) (value : List ℕ) → IsProper form → request_of form ≡ Some (request.Do (Insert key value)) → All IsVisible (printed_key key) × All IsVisible value
 form_visible begin key value p e = absurd cc
 form_visible (get name) key value p e = absurd (not_got (key_for name) key value e)
 form_visible (insert name text) key value p e =
-    subst (λ (x : List ℕ). All IsVisible x) (value_in_range _ text value (inserted (key_for name) (value_for text) key value e)) p.1
+    let both = inserted (key_for name) (value_for text) key value e in
+    (key_for-visible name key p.0 both.0, subst (λ (x : List ℕ). All IsVisible x) (value_in_range _ text value both.1) p.1.1)
 form_visible commit key value p e = absurd cc
 form_visible quit key value p e = absurd cc
 
@@ -184,7 +186,7 @@ due_visible s (Some text) = told_visible (active_in s) text (reading text) (read
 
 text_line : (s : State) (what : Due) → IsVisibleState s → IsVisibleDue what → IsOneLine (text_due s what)
 text_line s (Answer response) h v = v
-text_line s (Take what) h v = (words_of (reply_due s what), HasNoLf-words_of (reply_due s what) (reply_visible s what h), refl)
+text_line s (Take what) h v = (words_of (reply_due s what), HasNoLf-words_of (reply_due s what) (reply_visible s what v h), refl)
 
 due_state_visible : (s : State) (what : Due) → IsVisibleState s → IsVisibleDue what → IsVisibleState (state_due s what)
 due_state_visible s (Answer response) h v = h

@@ -20,7 +20,7 @@ fn value(byte: u8) -> Value {
 }
 
 fn pair(number: u64, byte: u8) -> (Key, Value) {
-    (Key::new(number), value(byte))
+    (Key::of_u64(number), value(byte))
 }
 
 fn no_entries(alloc: Global) -> Parts<ListIndex>
@@ -78,7 +78,7 @@ fn delete<I: PartIndex + Drop>(
 {
     undo_follows();
     load_follows();
-    let key = Key::new(number);
+    let key = Key::of_u64(number);
     let Some(part) = parts.place_of(key) else {
         return Ok(());
     };
@@ -162,7 +162,7 @@ fn check_scan<R: Abort>(
     max: u64,
     expected: &[(Key, Value)],
 ) -> Result<(), NoMemory> {
-    let range = Range::new(Key::new(0), Key::new(9)).expect(rt, "the ends stand in order");
+    let range = Range::new(Key::of_u64(0), Key::of_u64(9)).expect(rt, "the ends stand in order");
     assert!(rt; scan(alloc, parts, range, max)?.as_slice() == expected);
     Ok(())
 }
@@ -181,14 +181,14 @@ fn abort_restores_across_partitions(rt: HostRuntime) -> Result<(), Fail> {
     let mut second = begin(alloc);
     delete(&mut parts, &mut second, 5)?;
     insert(&mut parts, &mut second, 5, b'r')?;
-    assert!(rt; parts.place_of(Key::new(5)) == Some(0));
+    assert!(rt; parts.place_of(Key::of_u64(5)) == Some(0));
     let changed = [(0, 5, b'r', false), (1, 1, b'p', false), (2, 5, b'q', true)];
     check_entries(&rt, &parts, &changed);
 
     abort(&rt, &mut parts, &mut second);
     let restored = [(0, 5, b'r', true), (1, 1, b'p', false), (2, 5, b'q', false)];
     check_entries(&rt, &parts, &restored);
-    assert!(rt; parts.place_of(Key::new(5)) == Some(2));
+    assert!(rt; parts.place_of(Key::of_u64(5)) == Some(2));
     Ok(())
 }
 
@@ -244,7 +244,7 @@ fn a_refused_load_leaves_nothing_to_take_back(rt: HostRuntime) -> Result<(), Fai
     let mut log = begin(alloc);
     insert(&mut parts, &mut log, 1, b'c')?;
     let a_and_b = Run::new(vec![in alloc; pair(1, b'a'), pair(2, b'b')]?)?;
-    assert!(rt; load_noted(&mut parts, &mut log, &a_and_b)? == Reply::Exists(Key::new(1)));
+    assert!(rt; load_noted(&mut parts, &mut log, &a_and_b)? == Reply::Exists(Key::of_u64(1)));
     check_entries(&rt, &parts, &[(0, 1, b'c', false)]);
     abort(&rt, &mut parts, &mut log);
     check_entries(&rt, &parts, &[(0, 1, b'c', true)]);

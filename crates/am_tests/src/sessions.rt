@@ -122,7 +122,17 @@ fn line_faults(rt: HostRuntime) -> Result<(), Fail> {
     let input =
         b"GET 05\nGET 18446744073709551616\nget 5\nGET 5 \nINS 5\nGE\rT 5\nINS 5 a\x7f\nGET 5\r\n".as_slice();
     let expected =
-        b"ERR SYNTAX\nERR RANGE\nERR SYNTAX\nERR SYNTAX\nERR SYNTAX\nERR SYNTAX\nERR SYNTAX\nERR NOTX\n".as_slice();
+        b"ERR NOTX\nERR NOTX\nERR SYNTAX\nERR SYNTAX\nERR SYNTAX\nERR SYNTAX\nERR SYNTAX\nERR NOTX\n".as_slice();
+    check(&rt, rt.alloc(), input, expected, End::EndOfInput)?;
+    Ok(())
+}
+
+#[test]
+fn keys_are_strings(rt: HostRuntime) -> Result<(), Fail> {
+    let input =
+        b"BEGIN\nINS a 1\nINS ab 2\nINS a 3\nGET a\nGET ab\nGET b\nGET 05\nGET a=b\nGET aaaaaaaaaaaaaaaaaaaaaaaaaaaaaaaa\nGET aaaaaaaaaaaaaaaaaaaaaaaaaaaaaaaaa\n".as_slice();
+    let expected =
+        b"BEGUN 1\nOK\nOK\nEXISTS a\nVAL 1\nVAL 2\nNONE\nNONE\nERR SYNTAX\nNONE\nERR RANGE\n".as_slice();
     check(&rt, rt.alloc(), input, expected, End::EndOfInput)?;
     Ok(())
 }

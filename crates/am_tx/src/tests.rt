@@ -5,7 +5,7 @@ use am_undo::Note;
 use std::process::Abort;
 
 fn exclusive(rt: &impl Abort, lo: u64, hi: u64) -> Lock {
-    let range = Range::new(Key::new(lo), Key::new(hi));
+    let range = Range::new(Key::of_u64(lo), Key::of_u64(hi));
     Lock {
         mode: Mode::Exclusive,
         range: range.expect(rt, "the ends stand in order"),
@@ -73,13 +73,13 @@ fn counts_and_locks_end_with_their_transaction(rt: HostRuntime) {
     assert!(rt; table.is_active(1));
     let log = table.undo(1);
     log.reserve_one().expect(&rt, "four notes take no memory");
-    log.note(Note::New(Key::new(5)));
+    log.note(Note::New(Key::of_u64(5)));
     assert!(rt; table.is_active(2));
     assert_eq!(rt; table.ask(2, exclusive(&rt, 9, 9)), Asked::Busy(1));
-    assert_eq!(rt; table.locks().exclusive_at(Key::new(5)), Some(1));
+    assert_eq!(rt; table.locks().exclusive_at(Key::of_u64(5)), Some(1));
 
     end(&rt, &mut table, 1);
-    assert_eq!(rt; table.locks().exclusive_at(Key::new(5)), None);
+    assert_eq!(rt; table.locks().exclusive_at(Key::of_u64(5)), None);
     assert!(rt; table.is_active(2));
     assert_eq!(rt; table.ask(2, exclusive(&rt, 9, 9)), Asked::Granted);
 

@@ -1,5 +1,7 @@
-mod Slots
-mod Undoing
+pub mod Slots
+pub mod Undoing
 mod Run
 mod Log
 pub mod Noting
+mod Above
+pub mod Marking

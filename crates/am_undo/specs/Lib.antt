@@ -1,3 +1,4 @@
 pub mod Notes
 pub mod Log
 pub mod Undo
+pub mod Marks

@@ -7,6 +7,6 @@ mod note;
 mod tests;
 mod undo_log;
 
-pub use laws::undo_follows;
+pub use laws::{marks_follow, undo_follows};
 pub use note::Note;
 pub use undo_log::UndoLog;

@@ -17,7 +17,7 @@ fn value(byte: u8) -> Value {
 fn over(alloc: Global, entries: &[(u32, u64, u8, bool)]) -> Result<Parts<ListIndex>, NoMemory> {
     let mut parts = Parts::new(ListIndex::new(alloc));
     for &(part, number, byte, is_ghost) in entries {
-        add(&mut parts, part, Key::new(number), byte, is_ghost)?;
+        add(&mut parts, part, Key::of_u64(number), byte, is_ghost)?;
     }
     Ok(parts)
 }
@@ -103,7 +103,7 @@ fn change<I: PartIndex + Drop>(
 
 #[test]
 fn writes_of_one_key_are_taken_back_newest_first(rt: HostRuntime) -> Result<(), Fail> {
-    let key = Key::new(5);
+    let key = Key::of_u64(5);
     let mut parts = over(rt.alloc(), &[])?;
     let mut log = UndoLog::new(rt.alloc());
     insert(&mut parts, &mut log, key, b'a')?;
@@ -121,13 +121,13 @@ fn writes_of_one_key_are_taken_back_newest_first(rt: HostRuntime) -> Result<(), 
         is_ghost: true,
     };
     assert!(rt; parts.next_any(0, Key::least()) == Some(only));
-    assert!(rt; parts.next_any(0, Key::new(6)).is_none());
+    assert!(rt; parts.next_any(0, Key::of_u64(6)).is_none());
     Ok(())
 }
 
 #[test]
 fn two_replaces_restore_the_oldest(rt: HostRuntime) -> Result<(), Fail> {
-    let key = Key::new(5);
+    let key = Key::of_u64(5);
     let mut parts = over(rt.alloc(), &[(0, 5, b'a', false)])?;
     let mut log = UndoLog::new(rt.alloc());
     change(&mut parts, &mut log, 0, key, b'b', false)?;
@@ -179,18 +179,18 @@ fn a_run_that_was_made_becomes_ghosts(rt: HostRuntime) -> Result<(), Fail> {
     for (part, number, byte, is_ghost) in before {
         let stands = Some((value(byte), part == 1 || is_ghost));
         assert!(rt;
-            parts.find(part, Key::new(number)) == stands,
+            parts.find(part, Key::of_u64(number)) == stands,
             "at {part} {number}"
         );
     }
-    assert!(rt; parts.next_any(2, Key::new(6)).is_none());
+    assert!(rt; parts.next_any(2, Key::of_u64(6)).is_none());
     Ok(())
 }
 
 #[test]
 fn reserve_one_wants_memory_for_the_fifth_note_alone(rt: HostRuntime) -> Result<(), Fail> {
     let mut parts = over(rt.alloc(), &[(0, 5, b'a', false)])?;
-    let key = Key::new(5);
+    let key = Key::of_u64(5);
     let mut log = UndoLog::new(rt.alloc());
     for byte in [b'b', b'c', b'd', b'e'] {
         assert!(rt; change(&mut parts, &mut log, 0, key, byte, false).is_ok());

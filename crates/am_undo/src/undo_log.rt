@@ -1,9 +1,10 @@
 //! The notes of one transaction.
 
-ghost use Rattle.std.specs.Prelude.{◌≡◌, ◌+◌, ◌<◌, ℕ, [], ◌∷◌, Bool, true, List, Option, length, IsOk, OnOk, OnErr, IsSome, if◌then◌else◌, ◌==◌};
+ghost use Rattle.std.specs.Prelude.{◌≡◌, ◌+◌, ◌<◌, ℕ, [], ◌∷◌, Bool, true, List, Option, length, reverse, drop, take, IsOk, OnOk, OnErr, IsSome, if◌then◌else◌, ◌==◌};
 ghost use Rattle.am_record.specs.OrderedKey.{OrderedKey};
 ghost use Rattle.am_list.specs.Entries.{find, IsRising};
 ghost use Rattle.am_list.specs.Edits.{same_place};
+ghost use Rattle.am_undo.specs.Marks.{since_mark, until_mark, older, has_mark};
 ghost use Rattle.am_undo.specs.Notes.{TakesBack, CanTakeBack, Stands, OneLive, back_at, back_one, ghosted};
 
 use crate::note::Note;
@@ -14,10 +15,12 @@ use smallvec::SmallVec;
 use std::alloc::Global;
 use std::marker::Model;
 
-/// The notes of one transaction, seen with the newest first. Four stand in the value itself.
+/// The notes and marks of one transaction, seen with the newest first. Four notes and two marks
+/// stand in the value itself.
 #[derive(Drop)]
 pub struct UndoLog {
     notes: SmallVec<Note, 4>,
+    marks: SmallVec<usize, 2>,
 }
 
 impl Model for UndoLog {
@@ -28,19 +31,21 @@ impl Model for UndoLog {
 
     ghost coded = { log_code };
 
-    ghost view = { λ a. record { notes = reverse a.notes.items; has_room = nat_le (length a.notes.items + 1) a.notes.capacity } };
+    ghost view = { λ a. record { notes = reverse a.notes.items; marks = reverse a.marks.items; has_room = nat_le (length a.notes.items + 1) a.notes.capacity } };
 
     ghost invariant = { λ a. 4 ≤ a.notes.capacity };
 }
 
 impl UndoLog {
-    /// A log without notes, which takes no memory.
+    /// A log without notes and marks, which takes no memory.
     pub fn new(alloc: Global) -> UndoLog
         ensures notes { result.notes ≡ [] }
+        ensures marks { result.marks ≡ [] }
         ensures room { result.has_room ≡ true }
     {
         UndoLog {
             notes: SmallVec::new(alloc),
+            marks: SmallVec::new(alloc),
         }
     }
 
@@ -50,6 +55,7 @@ impl UndoLog {
     /// NoMemory, where memory was refused; nothing is changed.
     pub fn reserve_one(&mut self) -> Result<(), NoMemory>
         ensures notes { self.new.notes ≡ self.old.notes }
+        ensures marks { self.new.marks ≡ self.old.marks }
         ensures ok { OnOk result (self.new.has_room ≡ true) }
         ensures err { OnErr result (self.new ≡ self.old) }
         ensures inline { length self.old.notes < 4 → IsOk result }
@@ -61,23 +67,79 @@ impl UndoLog {
     /// Adds a note as the newest. The caller has the room for it by `reserve_one`. Takes no memory.
     pub fn note(&mut self, note: Note)
         requires { self.old.has_room ≡ true }
-        ensures { self.new.notes ≡ note ∷ self.old.notes }
+        ensures notes { self.new.notes ≡ note ∷ self.old.notes }
+        ensures marks { self.new.marks ≡ self.old.marks }
     {
         self.notes.push_reserved(note);
     }
 
-    /// Takes all notes back, from the newest to the oldest. The caller sees to it that each noted
+    /// Takes all notes back, from the newest to the oldest, and drops the marks. The caller sees to it that each noted
     /// entry is still there, and that no key becomes live twice on the way. Takes no memory.
     pub fn take_back<I: PartIndex + Drop>(&mut self, parts: &mut Parts<I>)
         requires { CanTakeBack self.old.notes (find parts.old.entries) }
         ensures entries { TakesBack self.old.notes parts.old.entries parts.new.entries }
         ensures runs { parts.new.runs ≡ parts.old.runs }
         ensures notes { self.new.notes ≡ [] }
+        ensures marks { self.new.marks ≡ [] }
         ensures room { self.new.has_room ≡ true }
     {
-        while let Some(note) = self.notes.pop() {
-            take_back_one(parts, note);
-        }
+        take_back_above(&mut self.notes, 0, parts);
+        self.marks.clear();
+    }
+
+    /// Sets a mark. It wants memory only where two marks or more stand.
+    ///
+    /// # Errors
+    /// NoMemory, where memory was refused; nothing is changed.
+    pub fn mark(&mut self) -> Result<(), NoMemory>
+        ensures notes { self.new.notes ≡ self.old.notes }
+        ensures room { self.new.has_room ≡ self.old.has_room }
+        ensures ok { OnOk result (self.new.marks ≡ length self.old.notes ∷ self.old.marks) }
+        ensures err { OnErr result (self.new ≡ self.old) }
+    {
+        let count = self.notes.len();
+        self.marks.push(count)?;
+        Ok(())
+    }
+
+    /// Takes the notes since the newest mark back, from the newest to the oldest, and drops the mark;
+    /// where no mark stands it does nothing and answers false. The caller sees to it that each of
+    /// these noted entries is still there, and that no key becomes live twice on the way. Takes no
+    /// memory.
+    pub fn back<I: PartIndex + Drop>(&mut self, parts: &mut Parts<I>) -> bool
+        requires { CanTakeBack (since_mark self.old.marks self.old.notes) (find parts.old.entries) }
+        ensures stood { result ≡ has_mark self.old.marks }
+        ensures entries { TakesBack (since_mark self.old.marks self.old.notes) parts.old.entries parts.new.entries }
+        ensures runs { parts.new.runs ≡ parts.old.runs }
+        ensures notes { self.new.notes ≡ until_mark self.old.marks self.old.notes }
+        ensures marks { self.new.marks ≡ older self.old.marks }
+        ensures room { self.old.has_room ≡ true → self.new.has_room ≡ true }
+    {
+        let Some(mark) = self.marks.pop() else {
+            return false;
+        };
+        take_back_above(&mut self.notes, mark, parts);
+        true
+    }
+}
+
+// Takes the notes but for the oldest `mark` back, from the newest on.
+fn take_back_above<I: PartIndex + Drop>(
+    notes: &mut SmallVec<Note, 4>,
+    mark: usize,
+    parts: &mut Parts<I>,
+)
+    requires { CanTakeBack (reverse (drop mark notes.old.items)) (find parts.old.entries) }
+    ensures entries { TakesBack (reverse (drop mark notes.old.items)) parts.old.entries parts.new.entries }
+    ensures runs { parts.new.runs ≡ parts.old.runs }
+    ensures notes { notes.new.items ≡ take mark notes.old.items }
+    ensures capacity { notes.new.capacity ≡ notes.old.capacity }
+{
+    while mark < notes.len() {
+        let Some(note) = notes.pop() else {
+            unreachable!()
+        };
+        take_back_one(parts, note);
     }
 }
 

@@ -3,11 +3,11 @@ use Rattle.std.proofs.Common.{◌≡◌, ℕ, ◌&&◌, cond, List, [], ◌∷�
 use Rattle.std.specs.Prelude.{codes, bytes_eq}
 use Rattle.std.proofs.lemmas.Bool.{and_parts, and_from, cond_both, cond-true}
 use Rattle.std.proofs.lemmas.Slice.Eq.{bytes_eq-Decides}
-use Rattle.am_wire.specs.Keys.{key_text, is_key_text, key_named}
+use Rattle.am_wire.specs.Keys.{is_key_text}
 use Rattle.am_wire.specs.Values.{is_value_text}
 use Rattle.am_wire.specs.Grammar.{Form, begin, get, insert, commit, quit, form_fields, spelling, IsProper}
 use Rattle.am_wire.specs.Reading.{line_fields, form_of, bare_form, get_form, insert_form}
-use Rattle.am_wire.proofs.Keys.{key_text-key_named, key_named-key_text, is_key_text-key_text, key_text-no_space}
+use Rattle.am_wire.proofs.Keys.{is_key_text-Decides, IsKeyText-no_space}
 use Rattle.am_wire.proofs.Values.{is_value_text-Decides, IsValueText-no_space}
 use Rattle.am_wire.proofs.Spaces.{line_fields-join}
 
@@ -35,8 +35,8 @@ bare-spells bare form word (f ∷ fs) proper same = λ e. cc
 get-spells : (form : Form) (fs : List (List ℕ)) → Spells (codes "GET" ∷ fs) form (get_form fs)
 get-spells form [] = λ e. cc
 get-spells form (key ∷ []) =
-    cond_both (is_key_text key) (Some (get (key_named key))) None (Spells (codes "GET" ∷ key ∷ []) form)
-    (λ h. spells (get (key_named key)) form (codes "GET" ∷ key ∷ []) tt (ap (λ k. codes "GET" ∷ k ∷ []) (key_text-key_named key h)))
+    cond_both (is_key_text key) (Some (get key)) None (Spells (codes "GET" ∷ key ∷ []) form)
+    (λ h. spells (get key) form (codes "GET" ∷ key ∷ []) ((is_key_text-Decides key).0 h) refl)
     (λ _ e. cc)
 get-spells form (key ∷ f ∷ fs) = λ e. cc
 
@@ -44,10 +44,10 @@ insert-spells : (form : Form) (fs : List (List ℕ)) → Spells (codes "INS" ∷
 insert-spells form [] = λ e. cc
 insert-spells form (key ∷ []) = λ e. cc
 insert-spells form (key ∷ value ∷ []) =
-    cond_both (is_key_text key && is_value_text value) (Some (insert (key_named key) value)) None (Spells (codes "INS" ∷ key ∷ value ∷ []) form)
+    cond_both (is_key_text key && is_value_text value) (Some (insert key value)) None (Spells (codes "INS" ∷ key ∷ value ∷ []) form)
     (λ h.
     let parts = and_parts (is_key_text key) (is_value_text value) h in
-    spells (insert (key_named key) value) form (codes "INS" ∷ key ∷ value ∷ []) ((is_value_text-Decides value).0 parts.1) (ap (λ k. codes "INS" ∷ k ∷ value ∷ []) (key_text-key_named key parts.0)))
+    spells (insert key value) form (codes "INS" ∷ key ∷ value ∷ []) ((is_key_text-Decides key).0 parts.0, (is_value_text-Decides value).0 parts.1) refl)
     (λ _ e. cc)
 insert-spells form (key ∷ value ∷ f ∷ fs) = λ e. cc
 
@@ -66,18 +66,16 @@ form_fields-form_of form (word ∷ fs) =
 pub form_of-form_fields : (form : Form) → IsProper form → form_of (form_fields form) ≡ Some form
 form_of-form_fields begin h = refl
 form_of-form_fields (get key) h =
-    cond-true (is_key_text (key_text key)) (Some (get (key_named (key_text key)))) None (is_key_text-key_text key)
-    ∙ ap (λ k. Some (get k)) (key_named-key_text key)
+    cond-true (is_key_text key) (Some (get key)) None ((is_key_text-Decides key).1 h)
 form_of-form_fields (insert key value) h =
-    cond-true (is_key_text (key_text key) && is_value_text value) (Some (insert (key_named (key_text key)) value)) None (and_from (is_key_text (key_text key)) (is_value_text value) (is_key_text-key_text key) ((is_value_text-Decides value).1 h))
-    ∙ ap (λ k. Some (insert k value)) (key_named-key_text key)
+    cond-true (is_key_text key && is_value_text value) (Some (insert key value)) None (and_from (is_key_text key) (is_value_text value) ((is_key_text-Decides key).1 h.0) ((is_value_text-Decides value).1 h.1))
 form_of-form_fields commit h = refl
 form_of-form_fields quit h = refl
 
 -- the fields of a proper form's line are its fields
 pub line_fields-spelling : (form : Form) → IsProper form → line_fields (spelling form) ≡ form_fields form
 line_fields-spelling begin h = line_fields-join (codes "BEGIN") [] refl tt
-line_fields-spelling (get key) h = line_fields-join (codes "GET") (key_text key ∷ []) refl (key_text-no_space key, tt)
-line_fields-spelling (insert key value) h = line_fields-join (codes "INS") (key_text key ∷ value ∷ []) refl (key_text-no_space key, (IsValueText-no_space value h, tt))
+line_fields-spelling (get key) h = line_fields-join (codes "GET") (key ∷ []) refl (IsKeyText-no_space key h, tt)
+line_fields-spelling (insert key value) h = line_fields-join (codes "INS") (key ∷ value ∷ []) refl (IsKeyText-no_space key h.0, (IsValueText-no_space value h.1, tt))
 line_fields-spelling commit h = line_fields-join (codes "COMMIT") [] refl tt
 line_fields-spelling quit h = line_fields-join (codes "QUIT") [] refl tt

@@ -4,13 +4,13 @@ use Rattle.std.specs.Prelude.{All}
 use Rattle.std.specs.Fmt.{digits, digits_onto, digit_glyph, decimal}
 use Rattle.std.proofs.lemmas.Bool.Decides.{nat_tests}
 use Rattle.std.proofs.lemmas.List.Elements.{All-head, All-tail}
-use Rattle.am_record.specs.OrderedKey.{number_of}
 use Rattle.am_record.specs.declared.step.Reply.{Reply}
 use Rattle.am_record.specs.declared.step.Reply.TheVariants.{Begun, Done, Found, Absent, Exists, Committed, Aborted, Refused}
 use Rattle.am_record.specs.declared.step.Refusal.{Refusal}
 use Rattle.am_record.specs.declared.step.Refusal.TheVariants.{NoSuchTx, Busy, TooManyTx, TooManyLocks, TooManyOps, TooManyRuns, NotRising, BadLimit, NoMemory, SeatFull}
 use Rattle.am_wire.specs.Lines.{HasNoLf}
 use Rattle.am_wire.specs.Replies.{refusal_words, words_of, TellsVisible}
+use Rattle.am_wire.specs.Keys.{printed_key}
 use Rattle.am_wire.specs.Values.{IsVisible}
 
 pub HasNoLf-append : (xs ys : List ℕ) → HasNoLf xs → HasNoLf ys → HasNoLf (xs ++ ys)
@@ -78,7 +78,7 @@ HasNoLf-words_of (Begun tx) h = behind (codes "BEGUN ") tx refl
 HasNoLf-words_of Done h = HasNoLf-free (codes "OK") refl
 HasNoLf-words_of (Found value) h = HasNoLf-append (codes "VAL ") value (HasNoLf-free (codes "VAL ") refl) (HasNoLf-visible value h)
 HasNoLf-words_of Absent h = HasNoLf-free (codes "NONE") refl
-HasNoLf-words_of (Exists key) h = behind (codes "EXISTS ") (number_of key) refl
+HasNoLf-words_of (Exists key) h = HasNoLf-append (codes "EXISTS ") (printed_key key) (HasNoLf-free (codes "EXISTS ") refl) (HasNoLf-visible (printed_key key) h)
 HasNoLf-words_of (Committed commit) h = behind (codes "COMMITTED ") commit refl
 HasNoLf-words_of Aborted h = HasNoLf-free (codes "ABORTED") refl
 HasNoLf-words_of (Refused refusal) h = HasNoLf-refusal_words refusal

@@ -7,10 +7,10 @@ use Rattle.std.proofs.lemmas.Bool.Decides.{nat_tests, Decides-and, Decides-by_an
 use Rattle.am_wire.specs.Values.{IsValueText, is_value_text}
 use Rattle.am_wire.proofs.Spaces.{has_no_space, list_all-weaker}
 
-graphic : (b : ℕ) → Decides (is_ascii_graphic b) ((0x21 ≤ b) × (b ≤ 0x7E))
+pub graphic : (b : ℕ) → Decides (is_ascii_graphic b) ((0x21 ≤ b) × (b ≤ 0x7E))
 graphic b = (λ h. (grind (arith, nat_tests), grind (arith, nat_tests)), λ h. grind (arith, nat_tests))
 
-some_bytes : (text : List ℕ) → Decides (not (eqb (length text) 0)) (0 < length text)
+pub some_bytes : (text : List ℕ) → Decides (not (eqb (length text) 0)) (0 < length text)
 some_bytes text = (λ h. grind (arith, nat_tests), λ h. grind (arith, nat_tests))
 
 -- the test decides what the grammar asks of a value

@@ -3,26 +3,26 @@ use Rattle.std.specs.Prelude.{◌≡◌, ◌≢◌, ℕ, List, [], ◌∷◌, co
 use Rattle.std.specs.List.{join_with_byte}
 use Rattle.am_record.specs.OrderedKey.{OrderedKey}
 use Rattle.am_record.specs.declared.step.Op.TheVariants.{Get, Insert}
-use Rattle.am_wire.specs.Keys.{KeyName, key_text, key_for}
+use Rattle.am_wire.specs.Keys.{IsKeyText, key_for}
 use Rattle.am_wire.specs.Values.{IsValueText, value_for}
 use Rattle.am_wire.specs.declared.request.Request.{Request}
 use Rattle.am_wire.specs.declared.request.Request.TheVariants.{Begin, Do, Commit, Quit}
 use Rattle.am_wire.specs.declared.request.LineFault.{LineFault}
 use Rattle.am_wire.specs.declared.request.LineFault.TheVariants.{Syntax, Range, NoMemory}
 
--- what a line may say, with numbers and values of any size
+-- what a line may say, with keys and values of any size
 pub data Form : Type 0 where
   begin : Form
-  get : (key : KeyName) → Form
-  insert : (key : KeyName) (value : List ℕ) → Form
+  get : (key : List ℕ) → Form
+  insert : (key : List ℕ) (value : List ℕ) → Form
   commit : Form
   quit : Form
 
 -- the fields of its line
 abbrev pub form_fields : Form → List (List ℕ)
 form_fields begin = codes "BEGIN" ∷ []
-form_fields (get key) = codes "GET" ∷ key_text key ∷ []
-form_fields (insert key value) = codes "INS" ∷ key_text key ∷ value ∷ []
+form_fields (get key) = codes "GET" ∷ key ∷ []
+form_fields (insert key value) = codes "INS" ∷ key ∷ value ∷ []
 form_fields commit = codes "COMMIT" ∷ []
 form_fields quit = codes "QUIT" ∷ []
 
@@ -30,11 +30,11 @@ form_fields quit = codes "QUIT" ∷ []
 abbrev pub spelling : Form → List ℕ
 spelling form = join_with_byte 32 (form_fields form)
 
--- whether its values may stand in a line
+-- whether its keys and values may stand in a line
 abbrev pub IsProper : Form → Type 0
 IsProper begin = Unit {0}
-IsProper (get key) = Unit {0}
-IsProper (insert key value) = IsValueText value
+IsProper (get key) = IsKeyText key
+IsProper (insert key value) = IsKeyText key × IsValueText value
 IsProper commit = Unit {0}
 IsProper quit = Unit {0}
 

@@ -1,29 +1,30 @@
 -- Keys as lines name them and as replies print them. All texts of keys stand here; the forms of lines and replies say only
 -- where a key is named.
-use Rattle.std.specs.Prelude.{ℕ, ◌^◌, Bool, List, Option, Some, None, nat_lt, decimal, if◌then◌else◌}
-use Rattle.am_record.specs.OrderedKey.{OrderedKey, key_of, number_of}
-use Rattle.am_wire.specs.Numbers.{numeral, is_numeral, numeral_value}
+use Rattle.std.specs.Prelude.{◌≢◌, ℕ, ◌<◌, Bool, not, ◌&&◌, ◌==◌, nat_le, List, length, All, Option, Some, None, if◌then◌else◌}
+use Rattle.std.specs.Char.{is_ascii_graphic}
+use Rattle.std.specs.List.{list_all}
+use Rattle.am_record.specs.OrderedKey.{OrderedKey, key_of, bytes_of}
+use Rattle.am_wire.specs.Values.{IsVisible}
 
--- a number of any size
-abbrev pub KeyName : Type 0
-KeyName = ℕ
+-- a byte that a key may have on a line: a visible one, but no =
+abbrev pub IsKeyByte : ℕ → Type 0
+IsKeyByte byte = IsVisible byte × (byte ≢ 0x3D)
 
--- the one text of a name
-abbrev pub key_text : KeyName → List ℕ
-key_text name = numeral name
+-- one byte at least, each of them such a one
+abbrev pub IsKeyText : List ℕ → Type 0
+IsKeyText text = (0 < length text) × All IsKeyByte text
 
--- whether the text is that of a name
+-- the same as tests
+abbrev pub is_key_byte : ℕ → Bool
+is_key_byte byte = is_ascii_graphic byte && not (byte == 0x3D)
+
 abbrev pub is_key_text : List ℕ → Bool
-is_key_text text = is_numeral text
+is_key_text text = not (length text == 0) && list_all is_key_byte text
 
--- the name whose text it is
-abbrev pub key_named : List ℕ → KeyName
-key_named text = numeral_value text
-
--- the key of the name, where it is in range: a number of 64 bits
-abbrev pub key_for : KeyName → Option OrderedKey
-key_for name = if nat_lt name (2 ^ 64) then Some (key_of name) else None
+-- the key of the text, where it is in range: 32 bytes at most
+abbrev pub key_for : List ℕ → Option OrderedKey
+key_for text = if nat_le (length text) 32 then Some (key_of text) else None
 
 -- the text that a reply has for a key
 abbrev pub printed_key : OrderedKey → List ℕ
-printed_key key = decimal (number_of key)
+printed_key key = bytes_of key

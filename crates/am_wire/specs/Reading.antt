@@ -1,7 +1,7 @@
 -- What a line is read as, by its fields.
 use Rattle.std.specs.Prelude.{◌≡◌, ℕ, ◌&&◌, ◌==◌, if◌then◌else◌, List, [], ◌∷◌, codes, Option, Some, None, Result, Err, bytes_eq, ok_or}
 use Rattle.std.specs.List.{slice_split}
-use Rattle.am_wire.specs.Keys.{is_key_text, key_named}
+use Rattle.am_wire.specs.Keys.{is_key_text}
 use Rattle.am_wire.specs.Values.{is_value_text}
 use Rattle.am_wire.specs.Grammar.{Form, begin, get, insert, commit, quit, request_of}
 use Rattle.am_wire.specs.declared.request.Request.{Request}
@@ -28,13 +28,13 @@ bare_form form (f ∷ fs) = None
 
 abbrev pub get_form : List (List ℕ) → Option Form
 get_form [] = None
-get_form (key ∷ []) = if is_key_text key then Some (get (key_named key)) else None
+get_form (key ∷ []) = if is_key_text key then Some (get key) else None
 get_form (key ∷ f ∷ fs) = None
 
 abbrev pub insert_form : List (List ℕ) → Option Form
 insert_form [] = None
 insert_form (key ∷ []) = None
-insert_form (key ∷ value ∷ []) = if is_key_text key && is_value_text value then Some (insert (key_named key) value) else None
+insert_form (key ∷ value ∷ []) = if is_key_text key && is_value_text value then Some (insert key value) else None
 insert_form (key ∷ value ∷ f ∷ fs) = None
 
 -- the form of a word and the fields after it

@@ -35,13 +35,13 @@ words_of (Refused refusal) = refusal_words refusal
 abbrev pub text_of : Reply → List ℕ
 text_of reply = words_of reply ++ 10 ∷ []
 
--- the values that the reply tells have visible bytes alone
+-- the keys and values that the reply tells have visible bytes alone
 abbrev pub TellsVisible : Reply → Type 0
 TellsVisible (Found value) = All IsVisible value
 TellsVisible (Begun tx) = Unit {0}
 TellsVisible Done = Unit {0}
 TellsVisible Absent = Unit {0}
-TellsVisible (Exists key) = Unit {0}
+TellsVisible (Exists key) = All IsVisible (printed_key key)
 TellsVisible (Committed commit) = Unit {0}
 TellsVisible Aborted = Unit {0}
 TellsVisible (Refused refusal) = Unit {0}

@@ -79,13 +79,23 @@ mod tests {
     #[test]
     fn lines_of_each_form_are_read(rt: HostRuntime) {
         let value = Value::new(b"h61~!").expect(&rt, "short");
-        let get = |number| Ok(Request::Do(Op::Get(Key::new(number))));
         assert!(rt; parse_line(b"BEGIN") == Ok(Request::Begin));
         assert!(rt; parse_line(b"COMMIT") == Ok(Request::Commit));
         assert!(rt; parse_line(b"QUIT") == Ok(Request::Quit));
-        assert!(rt; parse_line(b"GET 0") == get(0));
-        assert!(rt; parse_line(b"GET 18446744073709551615") == get(u64::MAX));
-        assert!(rt; parse_line(b"INS 5 h61~!") == Ok(Request::Do(Op::Insert(Key::new(5), value))));
+        for (line, key) in [
+            (b"GET 0".as_slice(), b"0".as_slice()),
+            (b"GET 05", b"05"),
+            (b"GET !~;<>?", b"!~;<>?"),
+            (
+                b"GET aaaaaaaaaaaaaaaaaaaaaaaaaaaaaaaa",
+                b"aaaaaaaaaaaaaaaaaaaaaaaaaaaaaaaa",
+            ),
+        ] {
+            let key = Key::new(key).expect(&rt, "short");
+            assert!(rt; parse_line(line) == Ok(Request::Do(Op::Get(key))));
+        }
+        let five = Key::new(b"5").expect(&rt, "short");
+        assert!(rt; parse_line(b"INS 5 h61~!") == Ok(Request::Do(Op::Insert(five, value))));
     }
 
     #[test]
@@ -96,16 +106,18 @@ mod tests {
             b"get 5",
             b"GET",
             b"GET ",
-            b"GET 05",
-            b"GET 00",
-            b"GET +5",
-            b"GET -5",
+            b"GET =",
+            b"GET a=b",
+            b"GET a=",
+            b"GET \x1F",
+            b"GET a\x7F",
+            b"GET \xFF",
             b"GET 5 ",
             b"GET  5",
             b" GET 5",
             b"GET 5\r",
-            b"GET 0x5",
-            b"GET 99999999999999999999 ",
+            b"GET a\tb",
+            b"GET aaaaaaaaaaaaaaaaaaaaaaaaaaaaaaaaa ",
             b"INS 5",
             b"INS 5 ",
             b"INS 5 a b",
@@ -113,9 +125,10 @@ mod tests {
             b"INS 5 \x1F",
             b"INS 5 \x7F",
             b"INS 5 a\r",
-            b"INS a a",
-            b"INS 99999999999999999999 ",
-            b"INS 99999999999999999999",
+            b"INS = a",
+            b"INS  a",
+            b"INS aaaaaaaaaaaaaaaaaaaaaaaaaaaaaaaaa ",
+            b"INS aaaaaaaaaaaaaaaaaaaaaaaaaaaaaaaaa",
             b"BEGIN ",
             b"BEGINX",
             b"BEGIN\t",
@@ -130,17 +143,20 @@ mod tests {
     }
 
     #[test]
-    fn numbers_and_values_out_of_range(rt: HostRuntime) {
-        assert!(rt; parse_line(b"GET 18446744073709551616") == Err(LineFault::Range));
-        assert!(rt; parse_line(b"INS 99999999999999999999 a") == Err(LineFault::Range));
+    fn keys_and_values_out_of_range(rt: HostRuntime) {
+        assert!(rt; parse_line(b"GET aaaaaaaaaaaaaaaaaaaaaaaaaaaaaaaaa") == Err(LineFault::Range));
+        assert!(rt;
+            parse_line(b"INS aaaaaaaaaaaaaaaaaaaaaaaaaaaaaaaaa a") == Err(LineFault::Range)
+        );
         let mut line = [b'a'; 71];
         line[..6].copy_from_slice(b"INS 5 ");
         let value = Value::new(&[b'a'; 64]).expect(&rt, "short");
-        let insert = Request::Do(Op::Insert(Key::new(5), value));
+        let key = Key::new(b"5").expect(&rt, "short");
+        let insert = Request::Do(Op::Insert(key, value));
         assert!(rt; parse_line(&line[..70]) == Ok(insert));
         assert!(rt; parse_line(&line) == Err(LineFault::Range));
-        let mut digits = [b'7'; 5004];
-        digits[..4].copy_from_slice(b"GET ");
-        assert!(rt; parse_line(&digits) == Err(LineFault::Range));
+        let mut bytes = [b'7'; 5004];
+        bytes[..4].copy_from_slice(b"GET ");
+        assert!(rt; parse_line(&bytes) == Err(LineFault::Range));
     }
 }

@@ -65,11 +65,11 @@ impl Text {
 
     /// The text with a key behind it.
     fn then_key(self, key: Key) -> Self
-        requires { length self + 20 ≤ MAX_REPLY_LEN }
+        requires { length self + 32 ≤ MAX_REPLY_LEN }
         ensures text { result ≡ self ++ printed_key key }
-        ensures short { length result ≤ length self + 20 }
+        ensures short { length result ≤ length self + 32 }
     {
-        self.then_number(key.get())
+        self.then(key.bytes())
     }
 
     fn as_slice(&self) -> &[u8]
@@ -139,8 +139,8 @@ pub fn reply_text(alloc: Global, reply: &Reply) -> Result<Vec<u8>, NoMemory>
     Ok(Vec::from_slice(alloc, text_of(reply).as_slice())?)
 }
 
-/// The text of a reply is one line: its only LF is the last byte. Values are to have visible bytes alone, as all those that
-/// came on a line have.
+/// The text of a reply is one line: its only LF is the last byte. Keys and values are to have visible bytes alone, as all
+/// those that came on a line have.
 pub fn replies_are_lines()
     ensures { (reply : Reply) → TellsVisible reply → IsOneLine (text_of reply) }
 {}

@@ -123,6 +123,8 @@ fn has_text(alloc: Global, reply: &Reply, text: &[u8]) -> Result<bool, Fail> {
 fn replies_have_their_texts(rt: HostRuntime) -> Result<(), Fail> {
     let value = Value::new(b"a=!~").ok_or("no value")?;
     let longest = Value::new([b'z'; 64].as_slice()).ok_or("no value")?;
+    let key = Key::new(b"0~").ok_or("no key")?;
+    let longest_key = Key::new([b'k'; 32].as_slice()).ok_or("no key")?;
     for (reply, text) in &[
         (Reply::Begun(1), b"BEGUN 1\n".as_slice()),
         (
@@ -136,10 +138,10 @@ fn replies_have_their_texts(rt: HostRuntime) -> Result<(), Fail> {
             b"VAL zzzzzzzzzzzzzzzzzzzzzzzzzzzzzzzzzzzzzzzzzzzzzzzzzzzzzzzzzzzzzzzz\n".as_slice(),
         ),
         (Reply::Absent, b"NONE\n".as_slice()),
-        (Reply::Exists(Key::new(0)), b"EXISTS 0\n".as_slice()),
+        (Reply::Exists(key), b"EXISTS 0~\n".as_slice()),
         (
-            Reply::Exists(Key::new(18446744073709551615)),
-            b"EXISTS 18446744073709551615\n".as_slice(),
+            Reply::Exists(longest_key),
+            b"EXISTS kkkkkkkkkkkkkkkkkkkkkkkkkkkkkkkk\n".as_slice(),
         ),
         (Reply::Committed(10), b"COMMITTED 10\n".as_slice()),
         (Reply::Aborted, b"ABORTED\n".as_slice()),

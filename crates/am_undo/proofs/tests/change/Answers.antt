@@ -16,4 +16,4 @@ mark-requires-clause-alone g c = λ _. elim c.match-place_of.branch [
 pub returns : goal.returns
 returns g c =
     let noted : List Note → List Note = λ ns. Before c.args.part c.args.key c.in-Some.old.0 c.in-Some.old.1 ∷ ns in
-    note_change c.find.ensures.sound c.requires c.args.part c.args.key c.in-Some.old.0 c.in-Some.old.1 _ c.args.is_ghost (sym c.find.ensures.found ∙ c.in-Some.is) c.mark.ensures.entries (c.note.ensures ∙ ap noted c.reserve_one.ensures.notes)
+    note_change c.find.ensures.sound c.requires c.args.part c.args.key c.in-Some.old.0 c.in-Some.old.1 _ c.args.is_ghost (sym c.find.ensures.found ∙ c.in-Some.is) c.mark.ensures.entries (c.note.ensures.notes ∙ ap noted c.reserve_one.ensures.notes)

@@ -9,4 +9,4 @@ pub returns : goal.returns
 returns g c =
     let noted : List Note → List Note = λ ns. New c.args.key ∷ ns in
     let absent : find c.args.parts.now.entries 0 c.args.key ≡ None = search rules in
-    note_insert c.find.ensures.sound c.requires _ refl absent c.in_ok-add.ensures.entries (c.note.ensures ∙ ap noted c.reserve_one.ensures.notes)
+    note_insert c.find.ensures.sound c.requires _ refl absent c.in_ok-add.ensures.entries (c.note.ensures.notes ∙ ap noted c.reserve_one.ensures.notes)

@@ -1,0 +1,10 @@
+pub mod Lists
+pub mod Merges
+pub mod Maintenance
+pub mod Noted
+pub mod Backs
+pub mod Marks
+pub mod TakenBack
+pub mod Lookings
+pub mod Knowing
+pub mod Next

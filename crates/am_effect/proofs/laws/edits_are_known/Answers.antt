@@ -1,0 +1,5 @@
+use Rattle.am_effect.proofs.Knowing.{known_laws}
+use Rattle.am_effect.proofs.laws.edits_are_known.Goals as goal
+
+pub returns : goal.returns
+returns c = known_laws

@@ -1,0 +1,7 @@
+pub mod Places
+pub mod Merging
+pub mod History
+pub mod Laws
+pub mod Store
+pub mod Looking
+pub mod Known

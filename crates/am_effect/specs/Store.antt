@@ -1,0 +1,214 @@
+-- The store that a trace describes: its entries, its wishes and its notes after each step, and the answers that it may give.
+use Rattle.std.specs.Prelude.{◌≡◌, ℕ, ◌+◌, ◌-◌, ◌≤◌, ◌==◌, length, List, [], ◌∷◌, ◌++◌, Bool, true, false, cond, not, ◌&&◌, drop, Option, Some, None, MatchBool}
+use Rattle.std.specs.List.{list_any, AllByRecursion}
+use Rattle.std.specs.Ordering.{eq_by_cmp}
+use Rattle.am_record.specs.OrderedKey.{OrderedKey, key_cmp}
+use Rattle.am_record.specs.Interval.{Interval, within, point}
+use Rattle.am_record.specs.Asks.{locks_of, owns}
+use Rattle.am_record.specs.declared.entry.Entry.{Entry}
+use Rattle.am_record.specs.declared.step.Refusal.TheVariants.{BadLimit}
+use Rattle.am_record.specs.declared.step.Op.{Op}
+use Rattle.am_record.specs.declared.step.Op.TheVariants.{Get, Scan, Insert, Replace, Delete, Load, Mark, Back}
+use Rattle.am_record.specs.declared.step.Step.{Step}
+use Rattle.am_record.specs.declared.step.Step.TheVariants.{Begin, Do, Abort, Merge, Clean}
+use Rattle.am_record.specs.declared.step.Reply.{Reply}
+use Rattle.am_record.specs.declared.step.Reply.TheVariants.{Begun, Done, Found, Absent, Rows, Aborted, Moved, Refused}
+use Rattle.am_list.specs.Entries.{Slot, first_such, find, set_entry}
+use Rattle.am_undo.specs.declared.note.Note.{Note}
+use Rattle.am_undo.specs.declared.note.Note.TheVariants.{New, Before, RunMade}
+use Rattle.am_undo.specs.Marks.{until_mark, older}
+use Rattle.am_runs.specs.Loads.{live_entry, with_run}
+use Rattle.am_serial.specs.Trace.{Event, Trace, effect, ops_of}
+use Rattle.am_serial.specs.Machine.{State, Transaction, start, is_limit, May, next}
+use Rattle.am_effect.specs.Places.{put}
+use Rattle.am_effect.specs.Merging.{Holders, all_worked_off, MergeRight, merged_by, wishes_left, CleanRight, cleaned_by}
+use Rattle.am_effect.specs.History.{Moment, aborted, gone_back}
+
+-- what a trace says of the store: its transactions with their locks, its entries, its wishes with the oldest first,
+-- its moments with the newest first, and the notes and marks of each transaction with the newest first
+pub record Store : Type 0 where
+  pub state : State
+  pub entries : List Entry
+  pub wishes : List Interval
+  pub past : List Moment
+  pub notes : ℕ → List Note
+  pub marks : ℕ → List ℕ
+
+abbrev pub opened : Store
+opened = record { state = start; entries = []; wishes = []; past = []; notes = λ t. []; marks = λ t. [] }
+
+-- who has exclusively locked the key
+abbrev pub holder : List Transaction → Holders
+holder [] q = None
+holder (x ∷ txs) q = cond (owns (locks_of (ops_of x.1)) q) (Some x.0) (holder txs q)
+
+-- ---- wishes
+
+-- the wish that an answered read leaves
+abbrev pub wished : Op → Reply → Option Interval
+wished (Get k) (Found v) = Some (point k)
+wished (Get k) Absent = Some (point k)
+wished (Scan range max) (Rows rows) = Some range
+wished _ _ = None
+
+-- at the end of the ring of 64: the oldest is lost where 64 are there
+abbrev pub with_wish : List Interval → Option Interval → List Interval
+with_wish wishes None = wishes
+with_wish wishes (Some range) = drop (length wishes - 63) wishes ++ range ∷ []
+
+abbrev pub wishes_after : List Interval → Step → Reply → List Interval
+wishes_after wishes (Do t op) reply = with_wish wishes (wished op reply)
+wishes_after wishes (Merge limit) reply = wishes_left wishes reply
+wishes_after wishes _ _ = wishes
+
+-- ---- entries
+
+-- the live entry of the key
+abbrev pub is_live : OrderedKey → Entry → Bool
+is_live k e = not e.is_ghost && eq_by_cmp key_cmp e.key k
+
+abbrev pub find_live : List Entry → OrderedKey → Option Entry
+find_live es k = first_such (is_live k) es
+
+-- the list with another value in the entry, or with the entry as a ghost
+abbrev pub with_value : Option Entry → List ℕ → List Entry → List Entry
+with_value None v es = es
+with_value (Some e) v es = set_entry es e.part e.key v false
+
+abbrev pub with_ghost : Option Entry → List Entry → List Entry
+with_ghost None es = es
+with_ghost (Some e) es = set_entry es e.part e.key e.value true
+
+-- what an operation with this answer does, after so many runs; Back leaves `back`
+abbrev pub changed : List Entry → ℕ → Op → Reply → List Entry → List Entry
+changed back runs (Insert k v) Done es = put (live_entry 0 (k, v)) es
+changed back runs (Replace k v) Done es = with_value (find_live es k) v es
+changed back runs (Delete k) Done es = with_ghost (find_live es k) es
+changed back runs (Load pairs) Done es = with_run (runs + 1) pairs es
+changed back runs Back Done es = back
+changed back runs _ _ es = es
+
+abbrev pub entries_after : Store → Step → Reply → List Entry
+entries_after s (Do t op) reply = changed (gone_back t s.past s.entries) s.state.runs op reply s.entries
+entries_after s (Abort t) Aborted = aborted t s.past s.entries
+entries_after s (Merge limit) reply = all_worked_off (merged_by s.entries s.wishes reply) s.entries
+entries_after s (Clean range limit) reply = all_worked_off (cleaned_by s.entries (holder s.state.active) range reply) s.entries
+entries_after s _ _ = s.entries
+
+-- ---- notes
+
+-- the note of a change at the place, by what stands there before
+abbrev pub note_of_slot : ℕ → OrderedKey → Option Slot → Note
+note_of_slot p k None = New k
+note_of_slot p k (Some s) = Before p k s.0 s.1
+
+abbrev pub note_of_entry : Option Entry → List Note
+note_of_entry None = []
+note_of_entry (Some e) = Before e.part e.key e.value e.is_ghost ∷ []
+
+-- what an operation with this answer notes
+abbrev pub noted : ℕ → Op → Reply → List Entry → List Note
+noted runs (Insert k v) Done es = note_of_slot 0 k (find es 0 k) ∷ []
+noted runs (Replace k v) Done es = note_of_entry (find_live es k)
+noted runs (Delete k) Done es = note_of_entry (find_live es k)
+noted runs (Load pairs) Done es = RunMade (runs + 1) ∷ []
+noted runs _ _ es = []
+
+-- the notes that stay, by the marks: those taken back are gone
+abbrev pub notes_left : Op → Reply → List ℕ → List Note → List Note
+notes_left Back Done marks notes = until_mark marks notes
+notes_left _ _ marks notes = notes
+
+-- the marks after, where there are so many notes: each is the number of notes at its Mark
+abbrev pub marks_left : Op → Reply → ℕ → List ℕ → List ℕ
+marks_left Mark Done count marks = count ∷ marks
+marks_left Back Done count marks = older marks
+marks_left _ _ count marks = marks
+
+abbrev pub notes_after : Store → Step → Reply → ℕ → List Note
+notes_after s Begin (Begun t) u = cond (t == u) [] (s.notes u)
+notes_after s (Do t op) reply u = cond (t == u) (noted s.state.runs op reply s.entries ++ notes_left op reply (s.marks u) (s.notes u)) (s.notes u)
+notes_after s _ _ u = s.notes u
+
+abbrev pub marks_after : Store → Step → Reply → ℕ → List ℕ
+marks_after s Begin (Begun t) u = cond (t == u) [] (s.marks u)
+marks_after s (Do t op) reply u = cond (t == u) (marks_left op reply (length (s.notes u)) (s.marks u)) (s.marks u)
+marks_after s _ _ u = s.marks u
+
+-- ---- steps
+
+-- the store after the step
+abbrev pub after_step : Store → Step → Reply → Store
+after_step s step reply = record {
+  state = next s.state (effect step reply);
+  entries = entries_after s step reply;
+  wishes = wishes_after s.wishes step reply;
+  past = (effect step reply, s.entries) ∷ s.past;
+  notes = notes_after s step reply;
+  marks = marks_after s step reply;
+}
+
+-- a limit from 1 to 64, or BadLimit
+abbrev pub WithinLimit : ℕ → Reply → Type 0 → Type 0
+WithinLimit limit reply right = MatchBool (is_limit limit) right (reply ≡ Refused BadLimit)
+
+-- the store may give this reply to the step
+abbrev pub MayReply : Store → Step → Reply → Type 0
+MayReply s (Merge limit) reply = WithinLimit limit reply (MergeRight s.entries s.wishes (holder s.state.active) limit reply)
+MayReply s (Clean range limit) reply = WithinLimit limit reply (CleanRight s.entries (holder s.state.active) range limit reply)
+MayReply s step reply = May s.state step reply
+
+abbrev pub Follows : Store → Trace → Type 0
+Follows s [] = Unit {0}
+Follows s (e ∷ trace) = MayReply s e.0 e.1 × Follows (after_step s e.0 e.1) trace
+
+abbrev pub after_all : Store → Trace → Store
+after_all s [] = s
+after_all s (e ∷ trace) = after_all (after_step s e.0 e.1) trace
+
+-- ---- what is asked for
+
+-- how many records a merge moved out of the run
+abbrev pub moved_from : ℕ → Step → Reply → ℕ
+moved_from run (Merge limit) (Moved n r) = cond (r == run) n 0
+moved_from run _ _ = 0
+
+abbrev pub all_moved_from : ℕ → Trace → ℕ
+all_moved_from run [] = 0
+all_moved_from run (e ∷ trace) = moved_from run e.0 e.1 + all_moved_from run trace
+
+-- how many records the load of the run put there
+abbrev pub loaded_into : ℕ → ℕ → Step → Reply → ℕ
+loaded_into run runs (Do t (Load pairs)) Done = cond (runs + 1 == run) (length pairs) 0
+loaded_into run runs _ _ = 0
+
+abbrev pub all_loaded_into : ℕ → Store → Trace → ℕ
+all_loaded_into run s [] = 0
+all_loaded_into run s (e ∷ trace) = loaded_into run s.state.runs e.0 e.1 + all_loaded_into run (after_step s e.0 e.1) trace
+
+-- the event is an answered read of the key
+abbrev pub asks_for : Option Interval → OrderedKey → Bool
+asks_for None q = false
+asks_for (Some range) q = within range q
+
+abbrev pub reads : OrderedKey → Step → Reply → Bool
+reads q (Do t op) reply = asks_for (wished op reply) q
+reads q _ _ = false
+
+-- one of the events is an answered read of the key
+abbrev pub was_read : OrderedKey → Trace → Bool
+was_read q trace = list_any (λ (e : Event). reads q e.0 e.1) trace
+
+-- whatever a merge takes out of a run, a read before it asked for
+abbrev pub AskedAt : Trace → Store → Step → Reply → Type 0
+AskedAt before s (Merge limit) reply = AllByRecursion (λ (e : Entry). was_read e.key before ≡ true) (merged_by s.entries s.wishes reply)
+AskedAt before s _ _ = Unit {0}
+
+abbrev pub EachAsked : Trace → Store → Trace → Type 0
+EachAsked before s [] = Unit {0}
+EachAsked before s (e ∷ trace) = AskedAt before s e.0 e.1 × EachAsked (before ++ e ∷ []) (after_step s e.0 e.1) trace
+
+-- nothing is merged that no read asked for, and nothing twice
+pub record IsAsked (trace : Trace) : Type 0 where
+  pub read : EachAsked [] opened trace
+  pub once : (run : ℕ) → all_moved_from run trace ≤ all_loaded_into run opened trace

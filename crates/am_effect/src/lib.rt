@@ -1,0 +1,8 @@
+//! What each step does to the list of entries.
+#![tactic(auto)]
+
+mod laws;
+
+pub use laws::{
+    aborts_take_back, backs_take_back, edits_are_known, maintenance_keeps, taking_back_is_known,
+};

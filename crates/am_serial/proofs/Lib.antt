@@ -1,0 +1,11 @@
+pub mod Keys
+pub mod Maps
+pub mod Drafts
+pub mod Bodies
+pub mod Views
+pub mod Serial
+pub mod Runs
+pub mod Overlays
+pub mod States
+pub mod Sound
+pub mod OneStep

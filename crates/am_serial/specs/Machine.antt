@@ -1,0 +1,169 @@
+-- The locked machine: the committed map, and of each active transaction its answered operations.
+use Rattle.std.specs.Prelude.{◌≡◌, ◌⊎◌, ℕ, ◌+◌, ◌^◌, ◌<◌, ◌≤◌, ◌==◌, nat_le, length, List, [], ◌∷◌, ◌++◌, Bool, true, false, cond, not, ◌&&◌, map, filter, Option, Some, None, MatchOption}
+use Rattle.std.specs.List.{list_any}
+use Rattle.std.specs.FinMap.{empty}
+use Rattle.am_record.specs.OrderedKey.{OrderedKey}
+use Rattle.am_record.specs.declared.lock.Lock.{Lock}
+use Rattle.am_record.specs.declared.step.Refusal.{Refusal}
+use Rattle.am_record.specs.declared.step.Refusal.TheVariants.{NoSuchTx, Busy, TooManyTx, TooManyLocks, TooManyOps, TooManyRuns, NotRising, BadLimit, NoMemory}
+use Rattle.am_record.specs.declared.step.Op.{Op}
+use Rattle.am_record.specs.declared.step.Op.TheVariants.{Scan, Load}
+use Rattle.am_record.specs.declared.step.Step.{Step}
+use Rattle.am_record.specs.declared.step.Step.TheVariants.{Begin, Do, Commit, Abort, Merge, Clean}
+use Rattle.am_record.specs.declared.step.Reply.{Reply}
+use Rattle.am_record.specs.declared.step.Reply.TheVariants.{Begun, Committed, Aborted, Moved, MergeDone, Ended, Idle, Cleaned, Refused}
+use Rattle.am_record.specs.Locks.{is_covered}
+use Rattle.am_record.specs.Plain.{PlainMap, Draft, fresh, answer, left_on, is_orderly}
+use Rattle.am_record.specs.Asks.{lock_of, clashes, locks_of, holds, owns}
+use Rattle.am_serial.specs.Trace.{Trace, Answered, ops_of, Effect, Begins, Answers, Commits, Aborts, Nothing, effect, runs_made, left_by, begun, committers, runs, committed, active, body}
+
+-- a transaction's number and its answered operations
+abbrev pub Transaction : Type 0
+Transaction = ℕ × List Answered
+
+pub record State : Type 0 where
+  pub begun : ℕ
+  pub commits : ℕ
+  pub runs : ℕ
+  pub committed : PlainMap
+  -- by rising number
+  pub active : List Transaction
+
+abbrev pub start : State
+start = record { begun = 0; commits = 0; runs = 0; committed = empty; active = [] }
+
+abbrev pub is_open : List Transaction → ℕ → Bool
+is_open txs t = list_any (λ (x : Transaction). t == x.0) txs
+
+-- the answered operations of a transaction, none where it isn't active
+abbrev pub body_in : List Transaction → ℕ → List Answered
+body_in [] t = []
+body_in (x ∷ txs) t = cond (t == x.0) x.1 (body_in txs t)
+
+-- what the transaction sees: its own body alone on the committed map
+abbrev pub view : State → ℕ → Draft
+view s t = left_on (ops_of (body_in s.active t)) (fresh s.committed)
+
+abbrev pub locks_in : List Transaction → ℕ → List Lock
+locks_in txs t = locks_of (ops_of (body_in txs t))
+
+-- whether the transaction has locked the key; whether it has done so exclusively
+abbrev pub holds_in : State → ℕ → OrderedKey → Bool
+holds_in s t q = holds (locks_in s.active t) q
+
+abbrev pub owns_in : State → ℕ → OrderedKey → Bool
+owns_in s t q = owns (locks_in s.active t) q
+
+-- the committed map with the bodies of all that is active applied
+abbrev pub overlay_in : State → PlainMap
+overlay_in s = left_by (map (λ (x : Transaction). x.1) s.active) s.committed
+
+-- ---- refusals
+
+-- whether a scan's number of rows is within its limits
+abbrev pub is_bounded : Op → Bool
+is_bounded (Scan range max) = nat_le 1 max && nat_le max 1000
+is_bounded _ = true
+
+abbrev pub is_load : Op → Bool
+is_load (Load pairs) = true
+is_load _ = false
+
+-- the refusal that is due before the lock is asked for
+abbrev pub due_early : State → ℕ → Op → Option Refusal
+due_early s t op =
+    cond (not (is_open s.active t)) (Some NoSuchTx)
+    (cond (nat_le 4096 (length (body_in s.active t))) (Some TooManyOps)
+    (cond (not (is_orderly op)) (Some NotRising)
+    (cond (not (is_bounded op)) (Some BadLimit)
+    (cond (is_load op && nat_le 65535 s.runs) (Some TooManyRuns)
+    None))))
+
+-- the least of the other transactions that hold a conflicting lock
+abbrev pub blocker : List Transaction → ℕ → Option Lock → Option ℕ
+blocker [] t asked = None
+blocker (x ∷ txs) t asked = cond (not (t == x.0) && clashes asked (locks_of (ops_of x.1))) (Some x.0) (blocker txs t asked)
+
+-- whether the lock would be added to 256 held ones
+abbrev pub is_one_too_many : List Lock → Option Lock → Bool
+is_one_too_many own None = false
+is_one_too_many own (Some asked) = nat_le 256 (length own) && not (is_covered own asked)
+
+abbrev pub busy : Option ℕ → Bool → Option Refusal
+busy (Some holder) full = Some (Busy holder)
+busy None full = cond full (Some TooManyLocks) None
+
+-- the refusal that is due where none is due early
+abbrev pub due_lock : State → ℕ → Op → Option Refusal
+due_lock s t op = busy (blocker s.active t (lock_of op)) (is_one_too_many (locks_in s.active t) (lock_of op))
+
+abbrev pub or_else : Option Refusal → Option Refusal → Option Refusal
+or_else None later = later
+or_else (Some why) later = Some why
+
+abbrev pub due : State → ℕ → Op → Option Refusal
+due s t op = or_else (due_early s t op) (due_lock s t op)
+
+-- ---- steps
+
+-- the reply to an operation: the refusal that is due, and else the answer on the transaction's own view, or want of memory
+abbrev pub MayDo : State → ℕ → Op → Reply → Type 0
+MayDo s t op reply = MatchOption (due s t op) ((reply ≡ answer op (view s t)) ⊎ (reply ≡ Refused NoMemory)) (λ why. reply ≡ Refused why)
+
+-- whether so many entries may be merged or cleaned at once
+abbrev pub is_limit : ℕ → Bool
+is_limit limit = nat_le 1 limit && nat_le limit 64
+
+-- the machine may give this reply to the step. Which entries a merge or a clean takes isn't the machine's
+abbrev pub May : State → Step → Reply → Type 0
+May s Begin (Begun t) = (t ≡ s.begun + 1) × (length s.active < 64) × (s.begun < 2 ^ 63)
+May s Begin (Refused TooManyTx) = (64 ≤ length s.active) ⊎ (2 ^ 63 ≤ s.begun)
+May s (Do t op) reply = MayDo s t op reply
+May s (Commit t) (Committed c) = (is_open s.active t ≡ true) × (c ≡ s.commits + 1)
+May s (Commit t) (Refused NoSuchTx) = is_open s.active t ≡ false
+May s (Abort t) Aborted = is_open s.active t ≡ true
+May s (Abort t) (Refused NoSuchTx) = is_open s.active t ≡ false
+May s (Merge limit) (Moved n run) = (is_limit limit ≡ true) × (1 ≤ n) × (n ≤ limit) × (1 ≤ run) × (run ≤ s.runs)
+May s (Merge limit) MergeDone = is_limit limit ≡ true
+May s (Merge limit) (Ended k h) = is_limit limit ≡ true
+May s (Merge limit) Idle = is_limit limit ≡ true
+May s (Merge limit) (Refused BadLimit) = is_limit limit ≡ false
+May s (Merge limit) (Refused NoMemory) = is_limit limit ≡ true
+May s (Clean range limit) (Cleaned n) = (is_limit limit ≡ true) × (n ≤ limit)
+May s (Clean range limit) (Refused BadLimit) = is_limit limit ≡ false
+May s (Clean range limit) (Refused NoMemory) = is_limit limit ≡ true
+May s _ _ = ⊥
+
+-- the operation at the end of its transaction's
+abbrev pub extended : ℕ → Answered → Transaction → Transaction
+extended t done x = (x.0, cond (t == x.0) (x.1 ++ done ∷ []) x.1)
+
+abbrev pub without : ℕ → List Transaction → List Transaction
+without t txs = filter (λ (x : Transaction). not (x.0 == t)) txs
+
+-- the state after. A commit rebases what is active: the other views are their bodies alone on the new committed map
+abbrev pub next : State → Effect → State
+next s (Begins t) = record s { begun = s.begun + 1; active = s.active ++ (t, []) ∷ [] }
+next s (Answers t op reply) = record s { runs = s.runs + runs_made op reply; active = map (extended t (op, reply)) s.active }
+next s (Commits t) = record s { commits = s.commits + 1; committed = (view s t).map; active = without t s.active }
+next s (Aborts t) = record s { active = without t s.active }
+next s Nothing = s
+
+-- the machine may give these replies to these steps
+abbrev pub Runs : State → Trace → Type 0
+Runs s [] = Unit {0}
+Runs s (e ∷ trace) = May s e.0 e.1 × Runs (next s (effect e.0 e.1)) trace
+
+abbrev pub after_run : State → Trace → State
+after_run s [] = s
+after_run s (e ∷ trace) = after_run (next s (effect e.0 e.1)) trace
+
+-- the state that the trace makes
+abbrev pub state_at : List Effect → State
+state_at es = record {
+  begun = length (begun es);
+  commits = length (committers es);
+  runs = runs es;
+  committed = committed es;
+  active = map (λ t. (t, body es t)) (active es);
+}

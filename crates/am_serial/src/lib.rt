@@ -1,0 +1,43 @@
+//! The locked machine, and what holds of each of its runs.
+#![tactic(auto)]
+
+ghost use Rattle.std.specs.Prelude.{◌↔◌, []};
+ghost use Rattle.am_serial.specs.Trace.{Trace, IsSerial, IsSteady, AtEachMoment};
+ghost use Rattle.am_serial.specs.Machine.{State, Runs, start, after_run};
+ghost use Rattle.am_serial.specs.Steps.{StepLaws};
+ghost use Rattle.am_serial.specs.Laws.{IsStateOf, OverlayLaws, ViewLaws};
+ghost use Rattle.am_serial.specs.Sound.{IsSound};
+ghost use Rattle.am_serial.specs.Rows.{nested_marks, back_keeps_locks, back_forgotten};
+
+/// At each moment of every run of the machine the trace is serial in the order of commit, and what is
+/// active has read only the committed map and its own writes.
+pub fn runs_are_serial()
+    ensures serial { (trace : Trace) → Runs start trace → AtEachMoment IsSerial [] trace }
+    ensures steady { (trace : Trace) → Runs start trace → AtEachMoment IsSteady [] trace }
+{}
+
+/// The machine's runs are the traces that are serial, steady, right in their Busy answers and formed
+/// at each moment.
+pub fn sound_traces_are_runs()
+    ensures { (trace : Trace) → IsSound trace ↔ Runs start trace }
+{}
+
+/// The machine's state is what its trace says, and its steps do to the overlay what they do to the
+/// transactions' own views.
+pub fn overlay_follows()
+    ensures state { (trace : Trace) → Runs start trace → IsStateOf trace (after_run start trace) }
+    ensures overlay { (trace : Trace) → Runs start trace → OverlayLaws (after_run start trace) }
+    ensures views { (trace : Trace) → Runs start trace → ViewLaws (after_run start trace) }
+{}
+
+/// What one step does to what each transaction sees and holds.
+pub fn steps_follow()
+    ensures { (s : State) → StepLaws s }
+{}
+
+/// The machine makes the worked traces with savepoints, and not the one in which a Back is forgotten.
+pub fn worked_savepoints()
+    ensures nested { Runs start nested_marks }
+    ensures locks_stay { Runs start back_keeps_locks }
+    ensures forgotten { ¬ (Runs start back_forgotten) }
+{}

@@ -1,0 +1,5 @@
+pub mod Operations
+pub mod Keeping
+pub mod Whole
+pub mod Sounds
+pub mod Counts

@@ -1,0 +1,338 @@
+-- What a granted operation does to the entries, to its transaction's notes and to looking back.
+use Rattle.std.proofs.Common.{◌≡◌, ◌≢◌, ◌≤◌, ◌<◌, ◌+◌, ℕ, List, [], ◌∷◌, ◌++◌, Bool, true, false, cond, ◌&&◌, refl, sym, ap, ◌∙◌, subst, ⊎_elim, Option, Some, None, arith}
+use Rattle.std.specs.Prelude.{◌==◌, not, is_some}
+use Rattle.std.specs.List.{AllByRecursion}
+use Rattle.std.specs.Option.{option_map}
+use Rattle.std.specs.Ordering.{eq_by_cmp, is_lt}
+use Rattle.std.specs.FinMap.{get, insert, remove, contains_key, same_map, get-insert, get-remove, retain_keys, get-retain_keys, get-entries, is_sorted}
+use Rattle.std.specs.FinMap.Entries.{below_all}
+use Rattle.std.specs.FinMap.Entries as fin
+use Rattle.std.proofs.lemmas.Bool.{cases_Bool, cond-true, cond-false, and_parts, and_from, both_ways, or_left, or_right, or_cases, eqb-true, eq-eqb, true≢false, false≢true, false_from_ne_true, not-true}
+use Rattle.std.proofs.lemmas.Option.{none-some}
+use Rattle.std.proofs.lemmas.Cmp.{tied_itself}
+use Rattle.am_record.specs.OrderedKey.{OrderedKey, key_cmp, key_cmp-total, key_cmp-exact, key_eq-exact}
+use Rattle.am_record.specs.EntryOrder.{Place, place_of}
+use Rattle.am_record.specs.Plain.{Records, PlainMap, is_key_of, rows_where, found, exists_or_done, first_key, least_taken, map_answer, insert_all, load_where, map_after, is_rising, is_orderly}
+use Rattle.am_record.specs.declared.entry.Entry.{Entry}
+use Rattle.am_record.specs.declared.step.Op.{Op}
+use Rattle.am_record.specs.declared.step.Op.TheVariants.{Get, Scan, Insert, Replace, Delete, Load, Lock as TakeLock, Mark, Back}
+use Rattle.am_record.specs.declared.step.Reply.{Reply}
+use Rattle.am_record.specs.declared.step.Reply.TheVariants.{Done, Exists, Missing}
+use Rattle.am_list.specs.Entries.{Slot, slot_of, first_such, entry_at, find, insert_entry, set_entry, IsRising}
+use Rattle.am_list.specs.Edits.{IsChangedAt}
+use Rattle.am_list.specs.Content.{content, IsLiveAt, OnePlace, HasContent}
+use Rattle.am_list.proofs.Edits.{first_such_all, first_such_passes, entry_at_place, entry_at_beside_inserted, other_key}
+use Rattle.am_list.proofs.EditLaws.{edit_laws}
+use Rattle.am_list.proofs.Content.{content_found}
+use Rattle.am_list.proofs.ContentLaws.{content_laws}
+use Rattle.am_undo.specs.declared.note.Note.{Note}
+use Rattle.am_undo.specs.declared.note.Note.TheVariants.{New, Before, RunMade}
+use Rattle.am_undo.specs.Undo.{is_noted_run, Undoes}
+use Rattle.am_undo.proofs.Undoing.{undo_laws}
+use Rattle.am_runs.specs.Loads.{live_entry, with_run}
+use Rattle.am_runs.proofs.LoadLaws.{load_laws}
+use Rattle.am_serial.specs.Trace.{Answers, runs_made}
+use Rattle.am_serial.proofs.Maps.{entries-retain_keys}
+use Rattle.am_serial.proofs.Keys.{in_point, in_span, eq_key_refl}
+use Rattle.am_effect.specs.Places.{look, put}
+use Rattle.am_effect.specs.History.{Moment, writes, wrote_by, is_plain}
+use Rattle.am_effect.specs.Laws.{Describes, DifferAt}
+use Rattle.am_effect.specs.Store.{is_live, find_live, with_value, with_ghost, changed, note_of_slot, note_of_entry, noted}
+use Rattle.am_effect.proofs.Lists.{Stands, stands_all, put_set, put_new, content-put, not_tied}
+use Rattle.am_effect.proofs.Backs.{describe_laws}
+use Rattle.am_follow.specs.At.{may_write}
+
+-- what an operation of t that is granted does, after so many runs
+pub record OpRight (t runs : ℕ) (op : Op) (reply : Reply) (es es' : List Entry) (new : List Note) : Type 0 where
+  pub has : HasContent es' (map_after op (content es))
+  pub only : (p : ℕ) (q : OrderedKey) → may_write op q ≡ false → find es' p q ≡ find es p q
+  pub keeps : (p : ℕ) (q : OrderedKey) → p ≢ 0 → p ≤ runs → find es p q ≡ None → find es' p q ≡ None
+  pub undo : (notes : List Note) (owned : OrderedKey → Bool) (before : OrderedKey → Option (List ℕ)) → ((q : OrderedKey) → may_write op q ≡ true → owned q ≡ true) → Undoes es notes owned before → Undoes es' (new ++ notes) owned before
+  pub describe : (past : List Moment) (notes : List Note) → Describes t past es notes → Describes t ((Answers t op reply, es) ∷ past) es' (new ++ notes)
+  pub below : (p : ℕ) (q : OrderedKey) → runs + runs_made op reply < p → find es' p q ≡ None
+  pub runs_noted : (p : ℕ) → is_noted_run new p ≡ true → (p ≢ 0) × (p ≤ runs + runs_made op reply)
+
+module _ (t runs : ℕ) (es : List Entry) (rise : IsRising es) (one : OnePlace es) (empty_above : (p : ℕ) (q : OrderedKey) → runs < p → find es p q ≡ None) where
+  abbrev m : PlainMap
+  m = content es
+
+  -- nothing is changed
+  idle : (op : Op) (reply : Reply) → map_after op m ≡ m → ((q : OrderedKey) → writes op reply q ≡ false) → OpRight t runs op reply es es []
+  idle op reply same none = record {
+    has = record { rising = rise; one_place = one; same = sym same };
+    only = λ p q h. refl;
+    keeps = λ p q n l e. e;
+    undo = λ notes owned before more u. u;
+    describe = λ past notes u. (describe_laws t past es notes u).others (Answers t op reply) es (λ q. either_no (t == t) (none q)) (λ q h p. refl) (λ q p r e. e);
+    below = λ p q h. empty_above p q (omega arith);
+    runs_noted = λ p h. absurd (false≢true h);
+  }
+    where
+      either_no : (b : Bool) {c : Bool} → c ≡ false → (b && c) ≡ false
+      either_no true e = e
+      either_no false e = refl
+
+  -- one entry is put
+  module _ (op : Op) (reply : Reply) (k : OrderedKey) (writes_k : writes op reply k ≡ true) (may_k : may_write op k ≡ true) (makes_none : runs_made op reply ≡ 0) where
+    wrote_k : wrote_by t k (Answers t op reply) ≡ true
+    wrote_k = and_from (t == t) (writes op reply k) (eq-eqb t t refl) writes_k
+
+    apart : (p p' : ℕ) (q : OrderedKey) → may_write op q ≡ false → ◌≢◌ {A = Place} (p, q) (p', k)
+    apart p p' q h e = both_ways (may_write op q) h (subst (λ x. may_write op x ≡ true) (sym (ap (λ (a : Place). a.1) e)) may_k)
+
+    over : (p : ℕ) (v : List ℕ) (g : Bool) (v' : List ℕ) (g' : Bool) → find es p k ≡ Some (v, g) → HasContent (set_entry es p k v' g') (map_after op m) → OpRight t runs op reply es (set_entry es p k v' g') (Before p k v g ∷ [])
+    over p v g v' g' was has = record {
+      has = has;
+      only = λ r q h. differ (r, q) (apart r p q h);
+      keeps = λ r q n l e. differ (r, q) (stood r q e) ∙ e;
+      undo = λ notes owned before more u. (undo_laws es notes owned before rise one u).changed p k v g v' g' (more k may_k) was;
+      describe = λ past notes u. (describe_laws t past es notes u).changed (Answers t op reply) (set_entry es p k v' g') p k (v, g) (v', g') wrote_k was change.here differ;
+      below = λ r q h. let e = empty_above r q (omega (arith, makes_none)) in differ (r, q) (stood r q e) ∙ e;
+      runs_noted = λ r h. absurd (false≢true h);
+    }
+      where
+        change : IsChangedAt es (set_entry es p k v' g') p k (Some (v', g'))
+        change = (edit_laws es rise).set_changes p k v' g' (ap is_some was)
+
+        differ : DifferAt (p, k) es (set_entry es p k v' g')
+        differ b n = change.elsewhere b.0 b.1 (not_tied b (p, k) n)
+
+        stood : (r : ℕ) (q : OrderedKey) → find es r q ≡ None → ◌≢◌ {A = Place} (r, q) (p, k)
+        stood r q e h = none-some (v, g) (sym e ∙ ap (look es) h ∙ was)
+
+    anew : (x : Entry) → x.part ≡ 0 → x.key ≡ k → find es 0 k ≡ None → HasContent (insert_entry es x) (map_after op m) → OpRight t runs op reply es (insert_entry es x) (New k ∷ [])
+    anew x zero key was has = record {
+      has = has;
+      only = λ r q h. differ (r, q) (apart r 0 q h);
+      keeps = λ r q n l e. differ (r, q) (λ h. n (ap (λ (a : Place). a.0) h)) ∙ e;
+      undo = λ notes owned before more u. subst (λ (q : OrderedKey). Undoes (insert_entry es x) (New q ∷ notes) owned before) key
+          ((undo_laws es notes owned before rise one u).made x zero (ap owned key ∙ more k may_k) (ap (find es 0) key ∙ was));
+      describe = λ past notes u. (describe_laws t past es notes u).made (Answers t op reply) (insert_entry es x) k (slot_of x) wrote_k was here differ;
+      below = λ r q h. differ (r, q) (λ e. let z : r ≡ 0 = ap (λ (a : Place). a.0) e in absurd (omega arith)) ∙ empty_above r q (omega (arith, makes_none));
+      runs_noted = λ r h. absurd (false≢true h);
+    }
+      where
+        change : IsChangedAt es (insert_entry es x) x.part x.key (Some (slot_of x))
+        change = (edit_laws es rise).insert_changes x
+
+        place : ◌≡◌ {A = Place} (place_of x) (0, k)
+        place i = (zero i, key i)
+
+        here : find (insert_entry es x) 0 k ≡ Some (slot_of x)
+        here = sym (ap (look (insert_entry es x)) place) ∙ change.here
+
+        differ : DifferAt (0, k) es (insert_entry es x)
+        differ b n = change.elsewhere b.0 b.1 (not_tied b (place_of x) (λ e. n (e ∙ place)))
+
+  -- ---- inserts
+
+  inserted : (k : OrderedKey) (v : List ℕ) → get m k ≡ None → OpRight t runs (Insert k v) Done es (put (live_entry 0 (k, v)) es) (note_of_slot 0 k (find es 0 k) ∷ [])
+  inserted k v none = by_slot (find es 0 k) refl
+    where
+      has : HasContent (put (live_entry 0 (k, v)) es) (map_after (Insert k v) m)
+      has = subst (λ (n : PlainMap). HasContent (put (live_entry 0 (k, v)) es) n) (sym (cond-false (contains_key m k) m (insert m k v) (ap is_some none))) (content-put (live_entry 0 (k, v)) es rise one refl none)
+
+      by_slot : (o : Option Slot) → find es 0 k ≡ o → OpRight t runs (Insert k v) Done es (put (live_entry 0 (k, v)) es) (note_of_slot 0 k o ∷ [])
+      by_slot None e =
+          let is = put_new (live_entry 0 (k, v)) es (ap is_some e) in
+          subst (λ l. OpRight t runs (Insert k v) Done es l (New k ∷ [])) (sym is)
+          (anew (Insert k v) Done k (eq_key_refl k) (in_point k) refl (live_entry 0 (k, v)) refl refl e (subst (λ l. HasContent l (map_after (Insert k v) m)) is has))
+      by_slot (Some s) e =
+          let is = put_set (live_entry 0 (k, v)) es (ap is_some e) in
+          subst (λ l. OpRight t runs (Insert k v) Done es l (Before 0 k s.0 s.1 ∷ [])) (sym is)
+          (over (Insert k v) Done k (eq_key_refl k) (in_point k) refl 0 s.0 s.1 v false e (subst (λ l. HasContent l (map_after (Insert k v) m)) is has))
+
+  -- ---- the live entry of a key
+
+  none_such : (test : Entry → Bool) (xs : List Entry) → first_such test xs ≡ None → AllByRecursion (λ e. test e ≡ false) xs
+  none_such test [] h = tt
+  none_such test (x ∷ xs) h = ⊎_elim
+      (λ yes. absurd (none-some x (sym h ∙ cond-true (test x) (Some x) (first_such test xs) yes)))
+      (λ fails. (fails, none_such test xs (sym (cond-false (test x) (Some x) (first_such test xs) fails) ∙ h)))
+      (cases_Bool (test x))
+
+  some_entry : (o : Option Entry) (v : List ℕ) (g : Bool) → option_map slot_of o ≡ Some (v, g) → (x : Entry) × ((o ≡ Some x) × (slot_of x ≡ (v, g)))
+  some_entry None v g h = absurd (none-some (v, g) h)
+  some_entry (Some x) v g h = (x, (refl, cc))
+
+  live_missed : (k : OrderedKey) (w : List ℕ) → find_live es k ≡ None → get m k ≡ Some w → ⊥
+  live_missed k w h has =
+      let there = content_found es rise k w has in
+      let x = some_entry (entry_at es there.0 k) w false there.1.there in
+      let fails : is_live k x.0 ≡ false = first_such_all (λ e. is_live k e ≡ false) _ es x.0 (none_such (is_live k) es h) x.1.0 in
+      let place = entry_at_place es there.0 k x.0 x.1.0 in
+      let ghost_not : x.0.is_ghost ≡ false = ap (λ (s : Slot). s.1) x.1.1 in
+      let key : x.0.key ≡ k = ap (λ (a : Place). a.1) place in
+      both_ways (is_live k x.0) fails (and_from (not x.0.is_ghost) (eq_by_cmp key_cmp x.0.key k) (ap not ghost_not) (ap (λ (q : OrderedKey). eq_by_cmp key_cmp q k) key ∙ eq_key_refl k))
+
+  live_found : (k : OrderedKey) (e : Entry) → find_live es k ≡ Some e → Stands es e × (is_live k e ≡ true)
+  live_found k e h = (first_such_all (Stands es) (is_live k) es e (stands_all es rise) h, first_such_passes (is_live k) es e h)
+
+  abbrev slotted : List ℕ → Bool → Option Slot
+  slotted v g = Some (v, g)
+
+  -- a change of the live entry
+  module _ (op : Op) (k : OrderedKey) (writes_k : (q : OrderedKey) → eq_by_cmp key_cmp q k ≡ true → writes op Done q ≡ true) (may_k : may_write op k ≡ true) (makes_none : runs_made op Done ≡ 0) (value : Entry → List ℕ) (is_ghost : Bool) where
+    at_live : (edit : Option Entry → List Entry) → ((e : Entry) → edit (Some e) ≡ set_entry es e.part e.key (value e) is_ghost) →
+        ((e : Entry) → IsLiveAt es e.part e.key e.value → e.key ≡ k → HasContent (set_entry es e.part e.key (value e) is_ghost) (map_after op m)) →
+        (w : List ℕ) → get m k ≡ Some w → OpRight t runs op Done es (edit (find_live es k)) (note_of_entry (find_live es k))
+    at_live edit is law w has = by_entry (find_live es k) refl
+      where
+        by_entry : (o : Option Entry) → find_live es k ≡ o → OpRight t runs op Done es (edit o) (note_of_entry o)
+        by_entry None e = absurd (live_missed k w e has)
+        by_entry (Some x) e =
+            let f = live_found k x e in
+            let parts = and_parts (not x.is_ghost) (eq_by_cmp key_cmp x.key k) f.1 in
+            let key : x.key ≡ k = key_eq-exact x.key k parts.1 in
+            let live : IsLiveAt es x.part x.key x.value = record { there = f.0 ∙ ap (slotted x.value) (not-true x.is_ghost parts.0) } in
+            subst (λ l. OpRight t runs op Done es l (Before x.part x.key x.value x.is_ghost ∷ [])) (sym (is x))
+            (over op Done x.key (writes_k x.key parts.1) (ap (may_write op) key ∙ may_k) makes_none x.part x.value x.is_ghost (value x) is_ghost f.0 (law x live key))
+
+-- ---- runs
+
+key_apart : (k : OrderedKey) (ps : Records) (q : OrderedKey) → below_all key_cmp k ps ≡ true → is_key_of ps q ≡ true → q ≢ k
+key_apart k [] q b h = absurd (false≢true h)
+key_apart k (x ∷ ps) q b h =
+    let parts = and_parts (is_lt (key_cmp k x.0)) (below_all key_cmp k ps) b in
+    ⊎_elim
+    (λ here same. true≢false (sym parts.0 ∙ ap (λ y. is_lt (key_cmp k y)) (sym (key_eq-exact q x.0 here) ∙ same) ∙ ap is_lt (tied_itself key_cmp-total k)))
+    (λ later. key_apart k ps q parts.1 later)
+    (or_cases (eq_by_cmp key_cmp q x.0) (is_key_of ps q) h)
+
+run_content : (run : ℕ) (pairs : Records) (es : List Entry) → IsRising es → OnePlace es → is_sorted key_cmp pairs ≡ true → ((q : OrderedKey) → is_key_of pairs q ≡ true → (find es run q ≡ None) × (get (content es) q ≡ None)) → HasContent (with_run run pairs es) (insert_all pairs (content es))
+run_content run [] es rising one s none = record { rising = rising; one_place = one; same = refl }
+run_content run (x ∷ ps) es rising one s none =
+    let parts = and_parts (below_all key_cmp x.0 ps) (is_sorted key_cmp ps) s in
+    let now = none x.0 (or_left _ _ (eq_key_refl x.0)) in
+    let law = (content_laws es rising one).added (live_entry run x) now.0 refl now.1 in
+    let rest = run_content run ps (insert_entry es (live_entry run x)) law.rising law.one_place parts.1 (λ q h.
+    let later = none q (or_right _ _ h) in
+    let n : q ≢ x.0 = key_apart x.0 ps q parts.0 h in (
+      ap (option_map slot_of) (entry_at_beside_inserted es (live_entry run x) run q (other_key run run x.0 q (λ e. n (sym e)))) ∙ later.0,
+      ap (λ (c : PlainMap). get c q) law.same
+          ∙ get-insert key_cmp-total (content es) x.0 x.1 q
+          ∙ cond-false _ (Some x.1) (get (content es) q) (false_from_ne_true _ (λ e. n (key_eq-exact q x.0 e)))
+          ∙ later.1,
+    )) in
+    record { rising = rest.rising; one_place = rest.one_place; same = rest.same ∙ ap (insert_all ps) law.same }
+
+-- a map that has no rows under the keys has none of them
+no_rows : (test : OrderedKey → Bool) (n : PlainMap) → rows_where test n ≡ [] → (q : OrderedKey) → test q ≡ true → get n q ≡ None
+no_rows test n none q h =
+    sym (cond-true (test q) (get n q) None h)
+    ∙ sym (get-retain_keys n test q (λ x e. ap test (sym (key_cmp-exact q x e))))
+    ∙ get-entries (retain_keys n test) q ∙ ap (fin.find key_cmp q) (entries-retain_keys test n ∙ none)
+
+no_first : (rows : Records) → first_key rows ≡ None → rows ≡ []
+no_first [] h = refl
+no_first (row ∷ rows) h = absurd (none-some row.0 (sym h))
+
+sorted_of : (pairs : Records) → is_rising pairs ≡ true → is_sorted key_cmp pairs ≡ true
+sorted_of [] h = refl
+sorted_of (x ∷ ps) h = h
+
+module _ (gone : List Entry) (t runs : ℕ) (es : List Entry) (rise : IsRising es) (one : OnePlace es) (empty_above : (p : ℕ) (q : OrderedKey) → runs < p → find es p q ≡ None) where
+  abbrev cm : PlainMap
+  cm = content es
+
+  loaded : (pairs : Records) → is_rising pairs ≡ true → least_taken pairs cm ≡ None → OpRight t runs (Load pairs) Done es (with_run (runs + 1) pairs es) (RunMade (runs + 1) ∷ [])
+  loaded pairs up none = record {
+    has = subst (λ (c : PlainMap). HasContent (with_run (runs + 1) pairs es) c) (sym (ap (λ o. load_where o pairs cm) none))
+        (run_content (runs + 1) pairs es rise one (sorted_of pairs up) (λ q h. (fresh q, no_rows (is_key_of pairs) cm (no_first (rows_where (is_key_of pairs) cm) none) q h)));
+    only = λ p q h. ⊎_elim
+        (λ yes. let here = eqb-true p (runs + 1) yes in ap (λ r. find (with_run (runs + 1) pairs es) r q) here ∙ other_keys q (absent q h) ∙ ap (λ r. find es r q) (sym here))
+        (λ no. other_parts p q no)
+        (cases_Bool (p == (runs + 1)));
+    keeps = λ p q n l e. other_parts p q (apart p (λ h. absurd (omega arith))) ∙ e;
+    undo = λ notes owned before more u. (undo_laws es notes owned before rise one u).loaded (with_run (runs + 1) pairs es) (runs + 1) (record {
+      fresh = fresh;
+      elsewhere = other_parts;
+      own = λ q not. other_keys q (absent q (false_from_ne_true _ (λ yes. both_ways (owned q) not (more q yes)))) ∙ fresh q;
+    });
+    describe = λ past notes u. (describe_laws t past es notes u).loaded (Answers t (Load pairs) Done) (with_run (runs + 1) pairs es) (runs + 1)
+        fresh
+        (λ q not. other_keys q (second (t == t) (is_key_of pairs q) (eq-eqb t t refl) not) ∙ fresh q)
+        (λ p q n. other_parts p q (apart p n));
+    below = λ p q h. other_parts p q (apart p (λ e. absurd (omega arith))) ∙ empty_above p q (omega arith);
+    runs_noted = λ p h. ⊎_elim (λ yes. let e = eqb-true p (runs + 1) yes in ((λ z. absurd (omega arith)), omega arith)) (λ no. absurd (false≢true no)) (or_cases (p == (runs + 1)) false h);
+  }
+    where
+      fresh : (q : OrderedKey) → find es (runs + 1) q ≡ None
+      fresh q = empty_above (runs + 1) q (omega arith)
+
+      other_parts : (p : ℕ) (q : OrderedKey) → (p == (runs + 1)) ≡ false → find (with_run (runs + 1) pairs es) p q ≡ find es p q
+      other_parts p q h = (load_laws es rise).other_parts (runs + 1) pairs p q h
+
+      other_keys : (q : OrderedKey) → is_key_of pairs q ≡ false → find (with_run (runs + 1) pairs es) (runs + 1) q ≡ find es (runs + 1) q
+      other_keys q h = (load_laws es rise).other_keys (runs + 1) pairs q h
+
+      apart : (p : ℕ) → p ≢ (runs + 1) → (p == (runs + 1)) ≡ false
+      apart p n = false_from_ne_true (p == (runs + 1)) (λ e. n (eqb-true p (runs + 1) e))
+
+      absent : (q : OrderedKey) → may_write (Load pairs) q ≡ false → is_key_of pairs q ≡ false
+      absent q h = false_from_ne_true _ (λ yes. both_ways (may_write (Load pairs) q) h (in_span pairs q up yes))
+
+      second : (a b : Bool) → a ≡ true → (a && b) ≡ false → b ≡ false
+      second true b e h = h
+      second false b e h = absurd (false≢true e)
+
+  some_of : (k : OrderedKey) → contains_key cm k ≡ true → (w : List ℕ) × (get cm k ≡ Some w)
+  some_of k h = by_value (get cm k) refl
+    where
+      by_value : (o : Option (List ℕ)) → get cm k ≡ o → (w : List ℕ) × (get cm k ≡ Some w)
+      by_value None e = absurd (false≢true (sym (ap is_some e) ∙ h))
+      by_value (Some w) e = (w, e)
+
+  none_of : (k : OrderedKey) → contains_key cm k ≡ false → get cm k ≡ None
+  none_of k h = by_value (get cm k) refl
+    where
+      by_value : (o : Option (List ℕ)) → get cm k ≡ o → get cm k ≡ None
+      by_value None e = e
+      by_value (Some w) e = absurd (true≢false (sym (ap is_some e) ∙ h))
+
+  -- the operation with this answer is right
+  abbrev Right : Op → Reply → Type 0
+  Right op reply = OpRight t runs op reply es (changed gone runs op reply es) (noted runs op reply es)
+
+  insert_right : (k : OrderedKey) (v : List ℕ) (b : Bool) → contains_key cm k ≡ b → Right (Insert k v) (cond b (Exists k) Done)
+  insert_right k v true h = idle t runs es rise one empty_above (Insert k v) (Exists k) (cond-true (contains_key cm k) cm (insert cm k v) h) (λ q. refl)
+  insert_right k v false h = inserted t runs es rise one empty_above k v (none_of k h)
+
+  replace_right : (k : OrderedKey) (v : List ℕ) (b : Bool) → contains_key cm k ≡ b → Right (Replace k v) (cond b Done Missing)
+  replace_right k v true h =
+      let some = some_of k h in
+      at_live t runs es rise one empty_above (Replace k v) k (λ q e. e) (in_point k) refl (λ e. v) false (λ o. with_value o v es) (λ e. refl)
+      (λ e live key. subst (λ (c : PlainMap). HasContent (set_entry es e.part e.key v false) c) (ap (λ (q : OrderedKey). insert cm q v) key ∙ sym (cond-true (contains_key cm k) (insert cm k v) cm h)) ((content_laws es rise one).replaced e.part e.key e.value v live))
+      some.0 some.1
+  replace_right k v false h = idle t runs es rise one empty_above (Replace k v) Missing (cond-false (contains_key cm k) (insert cm k v) cm h) (λ q. refl)
+
+  delete_right : (k : OrderedKey) (b : Bool) → contains_key cm k ≡ b → Right (Delete k) (cond b Done Missing)
+  delete_right k true h =
+      let some = some_of k h in
+      at_live t runs es rise one empty_above (Delete k) k (λ q e. e) (in_point k) refl (λ e. e.value) true (λ o. with_ghost o es) (λ e. refl)
+      (λ e live key. subst (λ (c : PlainMap). HasContent (set_entry es e.part e.key e.value true) c) (ap (λ (q : OrderedKey). remove cm q) key) ((content_laws es rise one).marked e.part e.key e.value e.value live))
+      some.0 some.1
+  delete_right k false h = idle t runs es rise one empty_above (Delete k) Missing
+      (same_map key_cmp-total key_cmp-exact _ _ (λ q. get-remove key_cmp-total cm k q ∙ ⊎_elim
+      (λ yes. cond-true _ None (get cm q) yes ∙ sym (none_of k h) ∙ ap (get cm) (sym (key_eq-exact q k yes)))
+      (λ no. cond-false _ None (get cm q) no)
+      (cases_Bool (eq_by_cmp key_cmp q k)))) (λ q. refl)
+
+  load_right : (pairs : Records) → is_rising pairs ≡ true → (o : Option OrderedKey) → least_taken pairs cm ≡ o → Right (Load pairs) (exists_or_done o)
+  load_right pairs up None h = loaded pairs up h
+  load_right pairs up (Some k) h = idle t runs es rise one empty_above (Load pairs) (Exists k) (ap (λ x. load_where x pairs cm) h) (λ q. refl)
+
+  found_idle : (k : OrderedKey) (o : Option (List ℕ)) → Right (Get k) (found o)
+  found_idle k None = idle t runs es rise one empty_above (Get k) (found None) refl (λ q. refl)
+  found_idle k (Some v) = idle t runs es rise one empty_above (Get k) (found (Some v)) refl (λ q. refl)
+
+  pub op_right : (op : Op) → is_orderly op ≡ true → is_plain op ≡ true → Right op (map_answer op cm)
+  op_right Mark o plain = absurd (false≢true plain)
+  op_right Back o plain = absurd (false≢true plain)
+  op_right (Get k) o plain = found_idle k (get cm k)
+  op_right (Scan range max) o plain = idle t runs es rise one empty_above (Scan range max) (map_answer (Scan range max) cm) refl (λ q. refl)
+  op_right (Insert k v) o plain = insert_right k v (contains_key cm k) refl
+  op_right (Replace k v) o plain = replace_right k v (contains_key cm k) refl
+  op_right (Delete k) o plain = delete_right k (contains_key cm k) refl
+  op_right (Load pairs) o plain = load_right pairs o (least_taken pairs cm) refl
+  op_right (TakeLock lock) o plain = idle t runs es rise one empty_above (TakeLock lock) Done refl (λ q. refl)

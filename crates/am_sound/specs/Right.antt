@@ -1,0 +1,45 @@
+-- What holds of every trace that the store of traces may make.
+use Rattle.std.specs.Prelude.{◌≡◌, ◌≢◌, ℕ, ◌<◌, ◌≤◌, length, [], ◌∷◌, true, None}
+use Rattle.am_record.specs.OrderedKey.{OrderedKey}
+use Rattle.am_record.specs.declared.step.Step.{Step}
+use Rattle.am_record.specs.declared.step.Step.TheVariants.{Merge, Clean}
+use Rattle.am_record.specs.declared.step.Reply.{Reply}
+use Rattle.am_list.specs.Entries.{find}
+use Rattle.am_list.specs.Content.{HasContent}
+use Rattle.am_undo.specs.Undo.{is_noted_run}
+use Rattle.am_serial.specs.Trace.{Trace, effects, overlay}
+use Rattle.am_serial.specs.Machine.{is_open}
+use Rattle.am_serial.specs.Sound.{IsSound}
+use Rattle.am_effect.specs.Laws.{DescribesEach}
+use Rattle.am_effect.specs.Store.{Store, opened, after_step, MayReply, after_all, IsAsked}
+use Rattle.am_follow.specs.At.{IsAt}
+
+-- the store is right: its entries rise, each key is live in one place at most, the content is the overlay, and the notes of each
+-- active transaction say what looking back leaves, to the begin and to each of its marks
+pub record IsRight (trace : Trace) (s : Store) : Type 0 where
+  pub has : HasContent s.entries (overlay (effects trace))
+  pub described : (t : ℕ) → is_open s.state.active t ≡ true → DescribesEach t s.past s.entries (s.notes t) 0 (length (s.notes t)) (s.marks t)
+
+-- what a step may rest on: the entries are where the machine is, nothing stands above the last run, and the notes name runs alone
+pub record IsReady (s : Store) : Type 0 where
+  pub at : IsAt s.state s.entries s.notes s.marks
+  pub below : (p : ℕ) (q : OrderedKey) → s.state.runs < p → find s.entries p q ≡ None
+  pub runs_noted : (t p : ℕ) → is_noted_run (s.notes t) p ≡ true → (p ≢ 0) × (p ≤ s.state.runs)
+
+-- the trace is sound: serial, steady, right in its Busy answers and formed at each moment, nothing is merged that no read asked
+-- for and nothing twice, and the store at its end is right
+pub record IsSoundStore (trace : Trace) : Type 0 where
+  pub sound : IsSound trace
+  pub asked : IsAsked trace
+  pub right : IsRight trace (after_all opened trace)
+  pub ready : IsReady (after_all opened trace)
+
+-- each merge and clean step of the trace is right: within its limit it meets what a merge or clean step may answer, else BadLimit
+abbrev pub MaintainedAt : Store → Step → Reply → Type 0
+MaintainedAt s (Merge limit) reply = MayReply s (Merge limit) reply
+MaintainedAt s (Clean range limit) reply = MayReply s (Clean range limit) reply
+MaintainedAt s _ _ = Unit {0}
+
+abbrev pub IsMaintained : Store → Trace → Type 0
+IsMaintained s [] = Unit {0}
+IsMaintained s (e ∷ trace) = MaintainedAt s e.0 e.1 × IsMaintained (after_step s e.0 e.1) trace

@@ -1,0 +1,13 @@
+use Rattle.std.proofs.Common.{◌≡◌, length}
+use Rattle.am_undo.proofs.Above.{Above}
+use Rattle.am_undo.proofs.undo_log.take_back_above.Given as goal
+
+abbrev pub invariant-loop-notes : goal.invariant-loop-notes
+invariant-loop-notes g l = record {
+  above : Above l.fn.parts.entries l.fn.notes.items l.fn.mark l.notes.items l.parts.entries;
+  runs : l.parts.runs ≡ l.fn.parts.runs;
+  capacity : l.notes.capacity ≡ l.fn.notes.capacity;
+}
+
+abbrev pub decreases-loop-notes : goal.decreases-loop-notes
+decreases-loop-notes g l = length l.notes.items
