@@ -1,0 +1,3 @@
+pub mod Code
+pub mod Least
+pub mod Loads

@@ -2,6 +2,7 @@
 #![tactic(auto)]
 
 mod plain;
+mod records;
 #[cfg(test)]
 mod tests;
 

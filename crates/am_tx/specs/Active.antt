@@ -6,7 +6,7 @@ use Rattle.am_tx.specs.declared.transaction.Transaction.{Transaction}
 
 -- a log without notes
 abbrev pub no_notes : Log
-no_notes = record { notes = []; has_room = true }
+no_notes = record { notes = []; marks = []; has_room = true }
 
 -- a transaction that has just begun
 abbrev pub fresh : ℕ → Transaction

@@ -1,0 +1,42 @@
+/* Refuses a program's allocations, to be preloaded. REFUSE=N refuses the Nth, REFUSE_FROM=N each from the Nth on.
+   At the end the number of allocations goes to the file that REFUSE_COUNT names. */
+#define _GNU_SOURCE
+#include <errno.h>
+#include <stdio.h>
+#include <stdlib.h>
+
+extern void *__libc_malloc(size_t);
+extern void *__libc_realloc(void *, size_t);
+
+static unsigned long made, one, from;
+
+__attribute__((constructor)) static void begin(void) {
+    const char *n = getenv("REFUSE"), *first = getenv("REFUSE_FROM");
+    made = 0;
+    one = n ? strtoul(n, NULL, 10) : 0;
+    from = first ? strtoul(first, NULL, 10) : 0;
+}
+
+__attribute__((destructor)) static void end(void) {
+    const char *path = getenv("REFUSE_COUNT");
+    unsigned long all = made;
+    one = from = 0;
+    FILE *file = path ? fopen(path, "w") : NULL;
+    if (file) {
+        fprintf(file, "%lu\n", all);
+        fclose(file);
+    }
+}
+
+static int refused(void) {
+    made++;
+    if (made == one || (from && made >= from)) {
+        errno = ENOMEM;
+        return 1;
+    }
+    return 0;
+}
+
+void *malloc(size_t size) { return refused() ? NULL : __libc_malloc(size); }
+
+void *realloc(void *old, size_t size) { return refused() ? NULL : __libc_realloc(old, size); }
