@@ -3,6 +3,7 @@ use Rattle.std.proofs.Common.{◌≡◌, List, Bool, true, false, not, ◌&&◌,
 use Rattle.std.proofs.lemmas.Cmp.{upto}
 use Rattle.am_record.specs.OrderedKey.{OrderedKey, key_cmp-total}
 use Rattle.am_record.specs.Interval.{key_le, within}
+use Rattle.am_record.proofs.KeyOrder.{key_le_trans}
 use Rattle.am_record.specs.Locks.{conflicts, is_exclusive, are_compatible}
 use Rattle.am_record.specs.declared.lock.Mode.{Mode}
 use Rattle.am_record.specs.declared.lock.Mode.TheVariants.{Shared, Exclusive}
@@ -27,19 +28,6 @@ conflicts-comm a b = swapped (key_le a.range.lo b.range.hi) (key_le b.range.lo a
 pub NoConflicts-comm : (ls ms : List Lock) → NoConflicts ls ms → NoConflicts ms ls
 NoConflicts-comm ls ms h = λ k d b j e c. conflicts-comm _ _ ∙ h j e c k d b
 
-not_above : (r : Ordering) → is_le r ≡ true → is_gt r ≡ false
-not_above Less e = refl
-not_above Equal e = refl
-not_above Greater e = sym e
-
-at_most : (r : Ordering) → is_gt r ≡ false → is_le r ≡ true
-at_most Less e = refl
-at_most Equal e = refl
-at_most Greater e = sym e
-
-pub key_le-trans : (a b c : OrderedKey) → key_le a b ≡ true → key_le b c ≡ true → key_le a c ≡ true
-key_le-trans a b c p q = at_most _ (upto key_cmp-total a b c (not_above _ p) (not_above _ q))
-
 both : (x y : Bool) → (x && y) ≡ true → (x ≡ true) × (y ≡ true)
 both true y e = (refl, e)
 both false y e = cc
@@ -55,4 +43,4 @@ exclusive-conflicts a b k p q =
     let there = both _ _ q in
     let inside = both _ _ here.1 in
     let other = both _ _ there.1 in
-    clash a.mode b.mode _ _ here.0 there.0 (key_le-trans _ _ _ inside.0 other.1) (key_le-trans _ _ _ other.0 inside.1)
+    clash a.mode b.mode _ _ here.0 there.0 (key_le_trans _ _ _ inside.0 other.1) (key_le_trans _ _ _ other.0 inside.1)

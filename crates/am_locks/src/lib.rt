@@ -2,10 +2,12 @@
 #![tactic(auto)]
 
 mod asked;
+mod invariant;
 mod owner;
 mod table;
 
 pub use asked::Asked;
+pub use invariant::owners_never_conflict;
 pub use owner::{INLINE_LOCKS, MAX_LOCKS};
 pub use table::{LockTable, MAX_OWNERS};
 

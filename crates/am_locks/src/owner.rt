@@ -63,7 +63,7 @@ impl Owner {
 
     pub(crate) fn held(&self) -> usize
         ensures count { result ≡ length self.now.locks }
-        ensures few { result ≤ MAX_LOCKS }
+        ensures few { result ≤ 256 }
     {
         self.locks.len()
     }
@@ -99,9 +99,9 @@ impl Owner {
         ensures granted { result ≡ Asked.Granted → self.new.locks ≡ with_lock self.old.locks asked }
         ensures refused { result ≢ Asked.Granted → self.new ≡ self.old }
         ensures too_many_locks { (result ≡ Asked.TooManyLocks)
-            ↔ ((is_covered self.old.locks asked ≡ false) × (length self.old.locks ≡ MAX_LOCKS)) }
+            ↔ ((is_covered self.old.locks asked ≡ false) × (length self.old.locks ≡ 256)) }
         ensures no_memory { result ≡ Asked.NoMemory
-            → (is_covered self.old.locks asked ≡ false) × (INLINE_LOCKS ≤ length self.old.locks) }
+            → (is_covered self.old.locks asked ≡ false) × (8 ≤ length self.old.locks) }
         ensures busy { (h : ℕ) → result ≢ Asked.Busy h }
     {
         if self.covers(&asked) {

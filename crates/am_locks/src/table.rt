@@ -53,7 +53,7 @@ impl LockTable {
     /// How many owners there are.
     pub fn owners(&self) -> usize
         ensures count { result ≡ length self.now }
-        ensures few { result ≤ MAX_OWNERS }
+        ensures few { result ≤ 64 }
     {
         self.owners.len()
     }
@@ -67,7 +67,7 @@ impl LockTable {
 
     /// Makes the transaction an owner, the last one, which holds nothing yet. It takes no memory.
     pub fn enter(&mut self, tx: u64)
-        requires room { length self.old < MAX_OWNERS }
+        requires room { length self.old < 64 }
         requires new { is_owner self.old tx ≡ false }
         ensures { self.new ≡ entered self.old tx }
     {
@@ -85,10 +85,10 @@ impl LockTable {
         ensures too_many_locks { (result ≡ Asked.TooManyLocks)
             ↔ ((blockers self.old tx asked ≡ [])
             × (is_covered (locks_of self.old tx) asked ≡ false)
-            × (length (locks_of self.old tx) ≡ MAX_LOCKS)) }
+            × (length (locks_of self.old tx) ≡ 256)) }
         ensures no_memory { result ≡ Asked.NoMemory
             → (is_covered (locks_of self.old tx) asked ≡ false)
-            × (INLINE_LOCKS ≤ length (locks_of self.old tx)) }
+            × (8 ≤ length (locks_of self.old tx)) }
 
         ensures granted { result ≡ Asked.Granted → self.new ≡ with_locks self.old tx (with_lock (locks_of self.old tx) asked) }
         ensures refused { result ≢ Asked.Granted → self.new ≡ self.old }
@@ -112,7 +112,7 @@ impl LockTable {
     pub fn held(&self, tx: u64) -> usize
         requires { is_owner self.now tx ≡ true }
         ensures count { result ≡ length (locks_of self.now tx) }
-        ensures few { result ≤ MAX_LOCKS }
+        ensures few { result ≤ 256 }
     {
         self.owners[self.place_of(tx)].held()
     }

@@ -14,6 +14,10 @@ pub record Interval : Type 0 where
 abbrev pub key_le : OrderedKey → OrderedKey → Bool
 key_le a b = is_le (key_cmp a b)
 
+-- the interval has its ends in order, so it has a key
+abbrev pub IsOrdered : Interval → Type 0
+IsOrdered r = key_le r.lo r.hi ≡ true
+
 -- whether the key lies in the interval
 abbrev pub within : Interval → OrderedKey → Bool
 within r k = key_le r.lo k && key_le k r.hi
@@ -22,7 +26,7 @@ within r k = key_le r.lo k && key_le k r.hi
 abbrev pub encloses : Interval → Interval → Bool
 encloses outer inner = key_le outer.lo inner.lo && key_le inner.hi outer.hi
 
--- whether the intervals have a key in common
+-- whether the intervals have a key in common, where each has its ends in order
 abbrev pub meets : Interval → Interval → Bool
 meets a b = key_le a.lo b.hi && key_le b.lo a.hi
 
