@@ -8,3 +8,4 @@ pub mod TakenBack
 pub mod Lookings
 pub mod Knowing
 pub mod Next
+pub mod Writing

@@ -5,3 +5,4 @@ pub mod Laws
 pub mod Store
 pub mod Looking
 pub mod Known
+pub mod Written

@@ -1,6 +1,7 @@
 //! Laws of merging, cleaning and going back, for the proofs of whoever keeps a store. Their functions do nothing.
 
-ghost use Rattle.std.specs.Prelude.{◌≡◌, ℕ, List, length, true};
+ghost use Rattle.std.specs.Prelude.{◌≡◌, ℕ, Bool, List, length, true};
+ghost use Rattle.am_record.specs.OrderedKey.{OrderedKey};
 ghost use Rattle.am_record.specs.EntryOrder.{Place};
 ghost use Rattle.am_record.specs.Interval.{Interval};
 ghost use Rattle.am_record.specs.declared.entry.Entry.{Entry};
@@ -14,6 +15,9 @@ ghost use Rattle.am_effect.specs.Merging.{Holders, all_worked_off, MergeRight, m
 ghost use Rattle.am_effect.specs.History.{Moment, wrote, left_at, moments_since};
 ghost use Rattle.am_effect.specs.Known.{KnownLaws};
 ghost use Rattle.am_effect.specs.Looking.{lists_since, looked_back};
+ghost use Rattle.am_serial.specs.Trace.{Trace};
+ghost use Rattle.am_effect.specs.Store.{opened, after_all};
+ghost use Rattle.am_effect.specs.Written.{TraceWritesKeys, HaveKeys};
 ghost use Rattle.am_effect.specs.Laws.{Describes, DescribeLaws, DescribesEach, BackLaws, Maintains, taken_back};
 
 /// Merge and clean steps keep the content, keep each key live in one place at most, and leave every
@@ -52,4 +56,11 @@ pub fn backs_take_back()
 /// The live entry of a key is the one that stands live, and an entry may be worked off in either order.
 pub fn edits_are_known()
     ensures { (es : List Entry) → IsRising es → OnePlace es → KnownLaws es }
+{}
+
+/// No entry stands under a key that no operation of the trace wrote: what a test says of all keys written
+/// it says of all keys of entries.
+pub fn keys_are_written()
+    ensures { (test : OrderedKey → Bool) (trace : Trace) → TraceWritesKeys (λ key. test key ≡ true) trace →
+        HaveKeys (λ key. test key ≡ true) (after_all opened trace).entries }
 {}

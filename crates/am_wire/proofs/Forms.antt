@@ -1,81 +1,137 @@
 -- The fields of a proper form spell that form and no other.
-use Rattle.std.proofs.Common.{◌≡◌, ℕ, ◌&&◌, cond, List, [], ◌∷◌, Option, Some, None, refl, sym, ap, ◌∙◌, subst}
+use Rattle.std.proofs.Common.{◌≡◌, ℕ, ◌<◌, Bool, true, false, ◌&&◌, cond, List, [], ◌∷◌, length, map, Option, Some, None, refl, sym, ap, ◌∙◌, subst, arith, option_map}
 use Rattle.std.specs.Prelude.{codes, bytes_eq}
+use Rattle.std.specs.List.{list_all, AllByRecursion}
 use Rattle.std.proofs.lemmas.Bool.{and_parts, and_from, cond_both, cond-true}
 use Rattle.std.proofs.lemmas.Slice.Eq.{bytes_eq-Decides}
+use Rattle.am_record.specs.declared.lock.Mode.{Mode}
+use Rattle.am_record.specs.declared.lock.Mode.TheVariants.{Shared, Exclusive}
+use Rattle.am_wire.specs.Numbers.{is_numeral, numeral, numeral_value}
 use Rattle.am_wire.specs.Keys.{is_key_text}
 use Rattle.am_wire.specs.Values.{is_value_text}
-use Rattle.am_wire.specs.Grammar.{Form, begin, get, insert, commit, quit, form_fields, spelling, IsProper}
-use Rattle.am_wire.specs.Reading.{line_fields, form_of, bare_form, get_form, insert_form}
+use Rattle.am_wire.specs.Verbs.{Shape, bare, one_key, one_record, one_number, range_and_number, mode_and_range, some_records}
+use Rattle.am_wire.specs.Arguments.{Arguments, RecordText, fields_of, AreProper, mode_word}
+use Rattle.am_wire.specs.Reading.{arguments_in, mode_for, is_record_text, is_record_field, record_text}
+use Rattle.am_wire.proofs.Spaces.{has_no_space}
 use Rattle.am_wire.proofs.Keys.{is_key_text-Decides, IsKeyText-no_space}
-use Rattle.am_wire.proofs.Values.{is_value_text-Decides, IsValueText-no_space}
-use Rattle.am_wire.proofs.Spaces.{line_fields-join}
+use Rattle.am_wire.proofs.Values.{IsValueText-no_space}
+use Rattle.am_wire.proofs.Numerals.{numeral-numeral_value, numeral_value-numeral, is_numeral-numeral, numeral-no_space}
+use Rattle.am_wire.proofs.Records.{is_record_text-proper, proper-is_record_text, are_proper, proper_fields, map_record_field-record_text, map_record_text-record_field, record_fields-no_space}
 
--- what the fields spell is the form, where the option is that of one
-abbrev Spells : List (List ℕ) → Form → Option Form → Type 0
-Spells fs form o = o ≡ Some form → IsProper form × (form_fields form ≡ fs)
+-- ---- from arguments to fields and back
 
--- a form that is found is the form
-spells : (found form : Form) (fs : List (List ℕ)) → IsProper found → form_fields found ≡ fs → Spells fs form (Some found)
-spells found form fs proper same e =
-    let one : found ≡ form = cc in
-    subst (λ f. IsProper f × (form_fields f ≡ fs)) one (proper, same)
+mode_for-mode_word : (m : Mode) → mode_for (mode_word m) ≡ Some m
+mode_for-mode_word Shared = refl
+mode_for-mode_word Exclusive = refl
 
--- one more word that a line may begin with
-by_word : (word known : List ℕ) (fs : List (List ℕ)) (form : Form) (this others : Option Form) → Spells (known ∷ fs) form this → Spells (word ∷ fs) form others → Spells (word ∷ fs) form (cond (bytes_eq word known) this others)
-by_word word known fs form this others here there =
-    cond_both (bytes_eq word known) this others (Spells (word ∷ fs) form)
-    (λ e. subst (λ w. Spells (w ∷ fs) form this) (sym ((bytes_eq-Decides word known).0 e)) here)
-    (λ _. there)
+records_back : (rs : List RecordText) → 0 < length rs → AllByRecursion (λ r. AreProper one_record r) rs → arguments_in some_records (fields_of some_records rs) ≡ Some rs
+records_back [] some h = absurd (omega arith)
+records_back (r ∷ rs) some h =
+    cond-true (list_all is_record_field (fields_of some_records (r ∷ rs))) (Some (map record_text (fields_of some_records (r ∷ rs)))) None (proper_fields (r ∷ rs) h)
+    ∙ ap (λ all. Some all) (map_record_text-record_field (r ∷ rs) h)
 
-bare-spells : (bare form : Form) (word : List ℕ) (fs : List (List ℕ)) → IsProper bare → form_fields bare ≡ word ∷ [] → Spells (word ∷ fs) form (bare_form bare fs)
-bare-spells bare form word [] proper same = spells bare form (word ∷ []) proper same
-bare-spells bare form word (f ∷ fs) proper same = λ e. cc
+-- the fields of proper arguments are read as these
+pub arguments_in-fields_of : (shape : Shape) (a : Arguments shape) → AreProper shape a → arguments_in shape (fields_of shape a) ≡ Some a
+arguments_in-fields_of bare a h = refl
+arguments_in-fields_of one_key a h = cond-true (is_key_text a) (Some a) None ((is_key_text-Decides a).1 h)
+arguments_in-fields_of one_record a h = cond-true (is_record_text a) (Some a) None (proper-is_record_text a h)
+arguments_in-fields_of one_number a h = cond-true (is_numeral (numeral a)) (Some (numeral_value (numeral a))) None (is_numeral-numeral a) ∙ ap (λ n. Some n) (numeral_value-numeral a)
+arguments_in-fields_of range_and_number a h =
+    let ends = and_from (is_key_text a.0) (is_key_text a.1) ((is_key_text-Decides a.0).1 h.0) ((is_key_text-Decides a.1).1 h.1) in
+    let all = and_from (is_key_text a.0 && is_key_text a.1) (is_numeral (numeral a.2)) ends (is_numeral-numeral a.2) in
+    cond-true (is_key_text a.0 && is_key_text a.1 && is_numeral (numeral a.2)) (Some (a.0, a.1, numeral_value (numeral a.2))) None all
+    ∙ ap (λ (n : ℕ). Some (a.0, a.1, n)) (numeral_value-numeral a.2)
+arguments_in-fields_of mode_and_range a h =
+    let ends = and_from (is_key_text a.1) (is_key_text a.2) ((is_key_text-Decides a.1).1 h.0) ((is_key_text-Decides a.2).1 h.1) in
+    cond-true (is_key_text a.1 && is_key_text a.2) (option_map (λ (m : Mode). (m, a.1, a.2)) (mode_for (mode_word a.0))) None ends
+    ∙ ap (option_map (λ (m : Mode). (m, a.1, a.2))) (mode_for-mode_word a.0)
+arguments_in-fields_of some_records a h = records_back a h.0 h.1
 
-get-spells : (form : Form) (fs : List (List ℕ)) → Spells (codes "GET" ∷ fs) form (get_form fs)
-get-spells form [] = λ e. cc
-get-spells form (key ∷ []) =
-    cond_both (is_key_text key) (Some (get key)) None (Spells (codes "GET" ∷ key ∷ []) form)
-    (λ h. spells (get key) form (codes "GET" ∷ key ∷ []) ((is_key_text-Decides key).0 h) refl)
+-- ---- from fields to arguments and back
+
+-- the arguments are proper, and these are their fields
+abbrev pub AreOf : (shape : Shape) → List (List ℕ) → Arguments shape → Type 0
+AreOf shape fs a = AreProper shape a × (fields_of shape a ≡ fs)
+
+-- what is found under a test
+found : {A : Type 0} (P : A → Type 0) (test : Bool) (here a : A) → (test ≡ true → P here) → cond test (Some here) None ≡ Some a → P a
+found P test here a h = cond_both test (Some here) None (λ o. o ≡ Some a → P a)
+    (λ t e. let same : here ≡ a = cc in subst P same (h t))
     (λ _ e. cc)
-get-spells form (key ∷ f ∷ fs) = λ e. cc
 
-insert-spells : (form : Form) (fs : List (List ℕ)) → Spells (codes "INS" ∷ fs) form (insert_form fs)
-insert-spells form [] = λ e. cc
-insert-spells form (key ∷ []) = λ e. cc
-insert-spells form (key ∷ value ∷ []) =
-    cond_both (is_key_text key && is_value_text value) (Some (insert key value)) None (Spells (codes "INS" ∷ key ∷ value ∷ []) form)
-    (λ h.
-    let parts = and_parts (is_key_text key) (is_value_text value) h in
-    spells (insert key value) form (codes "INS" ∷ key ∷ value ∷ []) ((is_key_text-Decides key).0 parts.0, (is_value_text-Decides value).0 parts.1) refl)
-    (λ _ e. cc)
-insert-spells form (key ∷ value ∷ f ∷ fs) = λ e. cc
+gate : {A : Type 0} (test : Bool) (o : Option A) (a : A) → cond test o None ≡ Some a → (test ≡ true) × (o ≡ Some a)
+gate true o a e = (refl, e)
+gate false o a e = cc
 
--- the form that fields spell is proper, and they are its fields
-pub form_fields-form_of : (form : Form) (fs : List (List ℕ)) → form_of fs ≡ Some form → IsProper form × (form_fields form ≡ fs)
-form_fields-form_of form [] = λ e. cc
-form_fields-form_of form (word ∷ fs) =
-    by_word word (codes "BEGIN") fs form _ _ (bare-spells begin form (codes "BEGIN") fs tt refl)
-    (by_word word (codes "GET") fs form _ _ (get-spells form fs)
-    (by_word word (codes "INS") fs form _ _ (insert-spells form fs)
-    (by_word word (codes "COMMIT") fs form _ _ (bare-spells commit form (codes "COMMIT") fs tt refl)
-    (by_word word (codes "QUIT") fs form _ _ (bare-spells quit form (codes "QUIT") fs tt refl)
-    (λ e. cc)))))
+mapped : {A B : Type 0} (f : A → B) (o : Option A) (b : B) → option_map f o ≡ Some b → (a : A) × (o ≡ Some a) × (f a ≡ b)
+mapped f None b e = cc
+mapped f (Some a) b e = (a, refl, cc)
 
--- and the fields of a proper form spell it
-pub form_of-form_fields : (form : Form) → IsProper form → form_of (form_fields form) ≡ Some form
-form_of-form_fields begin h = refl
-form_of-form_fields (get key) h =
-    cond-true (is_key_text key) (Some (get key)) None ((is_key_text-Decides key).1 h)
-form_of-form_fields (insert key value) h =
-    cond-true (is_key_text key && is_value_text value) (Some (insert key value)) None (and_from (is_key_text key) (is_value_text value) ((is_key_text-Decides key).1 h.0) ((is_value_text-Decides value).1 h.1))
-form_of-form_fields commit h = refl
-form_of-form_fields quit h = refl
+mode_word-mode_for : (field : List ℕ) (m : Mode) → mode_for field ≡ Some m → mode_word m ≡ field
+mode_word-mode_for field m =
+    cond_both (bytes_eq field (codes "S")) (Some Shared) (cond (bytes_eq field (codes "X")) (Some Exclusive) None) (λ o. o ≡ Some m → mode_word m ≡ field)
+    (λ t e. let same : Shared ≡ m = cc in ap mode_word (sym same) ∙ sym ((bytes_eq-Decides field (codes "S")).0 t))
+    (λ _. cond_both (bytes_eq field (codes "X")) (Some Exclusive) None (λ o. o ≡ Some m → mode_word m ≡ field)
+        (λ t e. let same : Exclusive ≡ m = cc in ap mode_word (sym same) ∙ sym ((bytes_eq-Decides field (codes "X")).0 t))
+        (λ _ e. cc))
 
--- the fields of a proper form's line are its fields
-pub line_fields-spelling : (form : Form) → IsProper form → line_fields (spelling form) ≡ form_fields form
-line_fields-spelling begin h = line_fields-join (codes "BEGIN") [] refl tt
-line_fields-spelling (get key) h = line_fields-join (codes "GET") (key ∷ []) refl (IsKeyText-no_space key h, tt)
-line_fields-spelling (insert key value) h = line_fields-join (codes "INS") (key ∷ value ∷ []) refl (IsKeyText-no_space key h.0, (IsValueText-no_space value h.1, tt))
-line_fields-spelling commit h = line_fields-join (codes "COMMIT") [] refl tt
-line_fields-spelling quit h = line_fields-join (codes "QUIT") [] refl tt
+range_and_number_of : (lo hi n : List ℕ) → (is_key_text lo && is_key_text hi && is_numeral n) ≡ true → AreOf range_and_number (lo ∷ hi ∷ n ∷ []) (lo, hi, numeral_value n)
+range_and_number_of lo hi n h =
+    let all = and_parts (is_key_text lo && is_key_text hi) (is_numeral n) h in
+    let ends = and_parts (is_key_text lo) (is_key_text hi) all.0 in
+    (((is_key_text-Decides lo).0 ends.0, (is_key_text-Decides hi).0 ends.1), ap (λ (m : List ℕ). lo ∷ hi ∷ m ∷ []) (numeral-numeral_value n all.1))
+
+mode_and_range_of : (mode lo hi : List ℕ) (m : Mode) → (is_key_text lo && is_key_text hi) ≡ true → mode_for mode ≡ Some m → AreOf mode_and_range (mode ∷ lo ∷ hi ∷ []) (m, lo, hi)
+mode_and_range_of mode lo hi m h e =
+    let ends = and_parts (is_key_text lo) (is_key_text hi) h in
+    (((is_key_text-Decides lo).0 ends.0, (is_key_text-Decides hi).0 ends.1), ap (λ (w : List ℕ). w ∷ lo ∷ hi ∷ []) (mode_word-mode_for mode m e))
+
+mode_and_range_in : (mode lo hi : List ℕ) (a : Arguments mode_and_range) → arguments_in mode_and_range (mode ∷ lo ∷ hi ∷ []) ≡ Some a → AreOf mode_and_range (mode ∷ lo ∷ hi ∷ []) a
+mode_and_range_in mode lo hi a e =
+    let in_form = gate (is_key_text lo && is_key_text hi) (option_map (λ (m : Mode). (m, lo, hi)) (mode_for mode)) a e in
+    let named = mapped (λ (m : Mode). (m, lo, hi)) (mode_for mode) a in_form.1 in
+    subst (AreOf mode_and_range (mode ∷ lo ∷ hi ∷ [])) named.2 (mode_and_range_of mode lo hi named.0 in_form.0 named.1)
+
+-- what fields are read as is proper, and these are its fields
+pub fields_of-arguments_in : (shape : Shape) (fs : List (List ℕ)) (a : Arguments shape) → arguments_in shape fs ≡ Some a → AreOf shape fs a
+fields_of-arguments_in bare [] a e = (tt, refl)
+fields_of-arguments_in bare (f ∷ fs) a e = cc
+fields_of-arguments_in one_key [] a e = cc
+fields_of-arguments_in one_key (key ∷ []) a e = found (AreOf one_key (key ∷ [])) (is_key_text key) key a (λ t. ((is_key_text-Decides key).0 t, refl)) e
+fields_of-arguments_in one_key (key ∷ f ∷ fs) a e = cc
+fields_of-arguments_in one_record [] a e = cc
+fields_of-arguments_in one_record (key ∷ []) a e = cc
+fields_of-arguments_in one_record (key ∷ value ∷ []) a e = found (AreOf one_record (key ∷ value ∷ [])) (is_record_text (key, value)) (key, value) a (λ t. (is_record_text-proper (key, value) t, refl)) e
+fields_of-arguments_in one_record (key ∷ value ∷ f ∷ fs) a e = cc
+fields_of-arguments_in one_number [] a e = cc
+fields_of-arguments_in one_number (n ∷ []) a e = found (AreOf one_number (n ∷ [])) (is_numeral n) (numeral_value n) a (λ t. (tt, ap (λ (m : List ℕ). m ∷ []) (numeral-numeral_value n t))) e
+fields_of-arguments_in one_number (n ∷ f ∷ fs) a e = cc
+fields_of-arguments_in range_and_number [] a e = cc
+fields_of-arguments_in range_and_number (lo ∷ []) a e = cc
+fields_of-arguments_in range_and_number (lo ∷ hi ∷ []) a e = cc
+fields_of-arguments_in range_and_number (lo ∷ hi ∷ n ∷ []) a e = found (AreOf range_and_number (lo ∷ hi ∷ n ∷ [])) (is_key_text lo && is_key_text hi && is_numeral n) (lo, hi, numeral_value n) a (range_and_number_of lo hi n) e
+fields_of-arguments_in range_and_number (lo ∷ hi ∷ n ∷ f ∷ fs) a e = cc
+fields_of-arguments_in mode_and_range [] a e = cc
+fields_of-arguments_in mode_and_range (mode ∷ []) a e = cc
+fields_of-arguments_in mode_and_range (mode ∷ lo ∷ []) a e = cc
+fields_of-arguments_in mode_and_range (mode ∷ lo ∷ hi ∷ []) a e = mode_and_range_in mode lo hi a e
+fields_of-arguments_in mode_and_range (mode ∷ lo ∷ hi ∷ f ∷ fs) a e = cc
+fields_of-arguments_in some_records [] a e = cc
+fields_of-arguments_in some_records (f ∷ fs) a e =
+    found (AreOf some_records (f ∷ fs)) (list_all is_record_field (f ∷ fs)) (map record_text (f ∷ fs)) a
+    (λ t. ((omega arith, are_proper (f ∷ fs) t), map_record_field-record_text (f ∷ fs) t)) e
+
+-- ---- fields have no space
+
+mode_word-no_space : (m : Mode) → has_no_space (mode_word m) ≡ true
+mode_word-no_space Shared = refl
+mode_word-no_space Exclusive = refl
+
+pub fields_of-no_space : (shape : Shape) (a : Arguments shape) → AreProper shape a → AllByRecursion (λ f. has_no_space f ≡ true) (fields_of shape a)
+fields_of-no_space bare a h = tt
+fields_of-no_space one_key a h = (IsKeyText-no_space a h, tt)
+fields_of-no_space one_record a h = (IsKeyText-no_space a.0 h.0, (IsValueText-no_space a.1 h.1, tt))
+fields_of-no_space one_number a h = (numeral-no_space a, tt)
+fields_of-no_space range_and_number a h = (IsKeyText-no_space a.0 h.0, (IsKeyText-no_space a.1 h.1, (numeral-no_space a.2, tt)))
+fields_of-no_space mode_and_range a h = (mode_word-no_space a.0, (IsKeyText-no_space a.1 h.0, (IsKeyText-no_space a.2 h.1, tt)))
+fields_of-no_space some_records a h = record_fields-no_space a h.1

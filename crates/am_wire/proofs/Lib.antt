@@ -6,5 +6,9 @@ pub mod Spaces
 pub mod Numerals
 pub mod Keys
 pub mod Values
+pub mod VerbWords
+pub mod Records
 pub mod Forms
 pub mod Readings
+pub mod RowTexts
+pub mod Loads

@@ -1,15 +1,18 @@
 -- Texts without an LF.
 use Rattle.std.proofs.Common.{◌≡◌, ◌≢◌, ℕ, ◌/◌, ◌%◌, List, [], ◌∷◌, ◌++◌, refl, arith, false, Bool, true, cond, eqb, suc, zero, codes, subst, if◌then◌else◌, ◌==◌}
-use Rattle.std.specs.Prelude.{All}
+use Rattle.std.specs.Prelude.{All, length}
 use Rattle.std.specs.Fmt.{digits, digits_onto, digit_glyph, decimal}
 use Rattle.std.proofs.lemmas.Bool.Decides.{nat_tests}
 use Rattle.std.proofs.lemmas.List.Elements.{All-head, All-tail}
 use Rattle.am_record.specs.declared.step.Reply.{Reply}
-use Rattle.am_record.specs.declared.step.Reply.TheVariants.{Begun, Done, Found, Absent, Exists, Committed, Aborted, Refused}
+use Rattle.am_record.specs.declared.step.Reply.TheVariants.{Begun, Done, Found, Absent, Rows, Exists, Missing, Committed, Aborted, Moved, MergeDone, Ended, Idle, Cleaned, NoMark, Refused}
 use Rattle.am_record.specs.declared.step.Refusal.{Refusal}
 use Rattle.am_record.specs.declared.step.Refusal.TheVariants.{NoSuchTx, Busy, TooManyTx, TooManyLocks, TooManyOps, TooManyRuns, NotRising, BadLimit, NoMemory, SeatFull}
 use Rattle.am_wire.specs.Lines.{HasNoLf}
-use Rattle.am_wire.specs.Replies.{refusal_words, words_of, TellsVisible}
+use Rattle.std.specs.List.{AllByRecursion}
+use Rattle.am_record.specs.OrderedKey.{OrderedKey}
+use Rattle.am_record.specs.Records.{Records}
+use Rattle.am_wire.specs.Replies.{refusal_words, row_words, rows_words, words_of, IsVisibleRow, TellsVisible}
 use Rattle.am_wire.specs.Keys.{printed_key}
 use Rattle.am_wire.specs.Values.{IsVisible}
 
@@ -72,13 +75,33 @@ HasNoLf-refusal_words BadLimit = HasNoLf-free (codes "ERR LIMIT") refl
 HasNoLf-refusal_words NoMemory = HasNoLf-free (codes "ERR MEMORY") refl
 HasNoLf-refusal_words SeatFull = HasNoLf-free (codes "ERR FULL") refl
 
+HasNoLf-row_words : (row : OrderedKey × List ℕ) → IsVisibleRow row → HasNoLf (row_words row)
+HasNoLf-row_words row h = (λ e. omega (arith, e), HasNoLf-append (printed_key row.0) (0x3D ∷ row.1) (HasNoLf-visible (printed_key row.0) h.0) (λ e. omega (arith, e), HasNoLf-visible row.1 h.1))
+
+HasNoLf-rows_words : (rows : Records) → AllByRecursion IsVisibleRow rows → HasNoLf (rows_words rows)
+HasNoLf-rows_words [] h = tt
+HasNoLf-rows_words (row ∷ rows) h = HasNoLf-append (row_words row) (rows_words rows) (HasNoLf-row_words row h.0) (HasNoLf-rows_words rows h.1)
+
+-- a number behind a space
+then_number : (xs : List ℕ) (n : ℕ) → HasNoLf xs → HasNoLf ((xs ++ codes " ") ++ decimal n)
+unfolding is_free
+then_number xs n h = HasNoLf-append (xs ++ codes " ") (decimal n) (HasNoLf-append xs (codes " ") h (HasNoLf-free (codes " ") refl)) (HasNoLf-decimal n)
+
 pub HasNoLf-words_of : (r : Reply) → TellsVisible r → HasNoLf (words_of r)
 unfolding is_free
 HasNoLf-words_of (Begun tx) h = behind (codes "BEGUN ") tx refl
 HasNoLf-words_of Done h = HasNoLf-free (codes "OK") refl
 HasNoLf-words_of (Found value) h = HasNoLf-append (codes "VAL ") value (HasNoLf-free (codes "VAL ") refl) (HasNoLf-visible value h)
 HasNoLf-words_of Absent h = HasNoLf-free (codes "NONE") refl
+HasNoLf-words_of (Rows rows) h = HasNoLf-append (codes "ROWS " ++ decimal (length rows)) (rows_words rows) (behind (codes "ROWS ") (length rows) refl) (HasNoLf-rows_words rows h)
 HasNoLf-words_of (Exists key) h = HasNoLf-append (codes "EXISTS ") (printed_key key) (HasNoLf-free (codes "EXISTS ") refl) (HasNoLf-visible (printed_key key) h)
+HasNoLf-words_of Missing h = HasNoLf-free (codes "MISSING") refl
 HasNoLf-words_of (Committed commit) h = behind (codes "COMMITTED ") commit refl
 HasNoLf-words_of Aborted h = HasNoLf-free (codes "ABORTED") refl
+HasNoLf-words_of (Moved n run) h = then_number (codes "MOVED " ++ decimal n) run (behind (codes "MOVED ") n refl)
+HasNoLf-words_of MergeDone h = HasNoLf-free (codes "DONE") refl
+HasNoLf-words_of (Ended key holder) h = then_number (codes "ENDED " ++ printed_key key) holder (HasNoLf-append (codes "ENDED ") (printed_key key) (HasNoLf-free (codes "ENDED ") refl) (HasNoLf-visible (printed_key key) h))
+HasNoLf-words_of Idle h = HasNoLf-free (codes "IDLE") refl
+HasNoLf-words_of (Cleaned n) h = behind (codes "CLEANED ") n refl
+HasNoLf-words_of NoMark h = HasNoLf-free (codes "NOMARK") refl
 HasNoLf-words_of (Refused refusal) h = HasNoLf-refusal_words refusal

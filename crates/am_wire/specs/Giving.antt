@@ -1,5 +1,5 @@
 -- What is given to a sink.
-use Rattle.std.specs.Prelude.{ℕ, List, Option, take}
+use Rattle.std.specs.Prelude.{ℕ, List, Bool, Option, take}
 use Rattle.std.specs.Io.KnownBytes.{Appends}
 
 -- `holds` says which bytes a sink holds, where they are known. These bytes were added at the end.
@@ -10,9 +10,10 @@ Gave holds old given new = Appends (holds old) (holds new) given
 abbrev pub GaveBeginning : {S : Type 0} → (S → Option (List ℕ)) → S → List ℕ → S → Type 0
 GaveBeginning holds old given new = (n : ℕ) × Gave holds old (take n given) new
 
--- What a sink over memory is: the bytes that it keeps, how many calls there are up to the one that fails (0: none does),
+-- What a sink over memory is: the bytes that it keeps, whether some of them are not sent on, how many calls there are up to the one that fails (0: none does),
 -- and how often it has failed.
 pub record Outgoing : Type 0 where
   pub bytes : List ℕ
+  pub pending : Bool
   pub calls_to_failure : ℕ
   pub failures : ℕ

@@ -1,60 +1,61 @@
 -- The lines of a session: what each form of line spells, and what it asks for.
-use Rattle.std.specs.Prelude.{◌≡◌, ◌≢◌, ℕ, List, [], ◌∷◌, codes, Option, Some, None, Result, Ok, Err, option_map}
+use Rattle.std.specs.Prelude.{◌≡◌, ◌≢◌, ℕ, List, ◌∷◌, Option, Some, None, Result, Ok, Err, option_map}
 use Rattle.std.specs.List.{join_with_byte}
-use Rattle.am_record.specs.OrderedKey.{OrderedKey}
-use Rattle.am_record.specs.declared.step.Op.TheVariants.{Get, Insert}
-use Rattle.am_wire.specs.Keys.{IsKeyText, key_for}
-use Rattle.am_wire.specs.Values.{IsValueText, value_for}
+use Rattle.am_record.specs.Records.{Records}
+use Rattle.am_record.specs.declared.step.Op.TheVariants as op
+use Rattle.am_wire.specs.Verbs.{word_of, shape_of}
+use Rattle.am_wire.specs.Arguments.{Arguments, Values, fields_of, AreProper, values_for}
+use Rattle.am_wire.specs.declared.verb.Verb.{Verb}
+use Rattle.am_wire.specs.declared.verb.Verb.TheVariants as verb
 use Rattle.am_wire.specs.declared.request.Request.{Request}
-use Rattle.am_wire.specs.declared.request.Request.TheVariants.{Begin, Do, Commit, Quit}
+use Rattle.am_wire.specs.declared.request.Request.TheVariants.{Begin, Do, Commit, Abort, Merge, Clean, Seen, Quit}
 use Rattle.am_wire.specs.declared.request.LineFault.{LineFault}
 use Rattle.am_wire.specs.declared.request.LineFault.TheVariants.{Syntax, Range, NoMemory}
 
--- what a line may say, with keys and values of any size
-pub data Form : Type 0 where
-  begin : Form
-  get : (key : List ℕ) → Form
-  insert : (key : List ℕ) (value : List ℕ) → Form
-  commit : Form
-  quit : Form
+-- what a line may say, with numbers, keys and values of any size
+pub record Form : Type 0 where
+  pub verb : Verb
+  pub arguments : Arguments (shape_of verb)
 
--- the fields of its line
-abbrev pub form_fields : Form → List (List ℕ)
-form_fields begin = codes "BEGIN" ∷ []
-form_fields (get key) = codes "GET" ∷ key ∷ []
-form_fields (insert key value) = codes "INS" ∷ key ∷ value ∷ []
-form_fields commit = codes "COMMIT" ∷ []
-form_fields quit = codes "QUIT" ∷ []
-
--- its line, the one text of the form: the fields, parted by one space
+-- its line, the one text of the form: the verb's word and the fields after it, parted by one space
 abbrev pub spelling : Form → List ℕ
-spelling form = join_with_byte 32 (form_fields form)
+spelling form = join_with_byte 32 (word_of form.verb ∷ fields_of (shape_of form.verb) form.arguments)
 
 -- whether its keys and values may stand in a line
 abbrev pub IsProper : Form → Type 0
-IsProper begin = Unit {0}
-IsProper (get key) = IsKeyText key
-IsProper (insert key value) = IsKeyText key × IsValueText value
-IsProper commit = Unit {0}
-IsProper quit = Unit {0}
+IsProper form = AreProper (shape_of form.verb) form.arguments
 
--- an insert, where its key and its value are in range
-abbrev pub insert_request : Option OrderedKey → Option (List ℕ) → Option Request
-insert_request None v = None
-insert_request (Some k) None = None
-insert_request (Some k) (Some v) = Some (Do (Insert k v))
+-- what a verb asks for with these values
+abbrev pub request_with : (v : Verb) → Values (shape_of v) → Request
+request_with verb.Begin a = Begin
+request_with verb.Get key = Do (op.Get key)
+request_with verb.Scan a = Do (op.Scan a.0 a.1)
+request_with verb.Insert r = Do (op.Insert r.0 r.1)
+request_with verb.Replace r = Do (op.Replace r.0 r.1)
+request_with verb.Delete key = Do (op.Delete key)
+request_with verb.Load rs = Do (op.Load rs)
+request_with verb.Lock lock = Do (op.Lock lock)
+request_with verb.Mark a = Do op.Mark
+request_with verb.Back a = Do op.Back
+request_with verb.Commit a = Commit
+request_with verb.Abort a = Abort
+request_with verb.Merge n = Merge n
+request_with verb.Clean a = Clean a.0 a.1
+request_with verb.Seen a = Seen
+request_with verb.Quit a = Quit
 
--- what the form asks for, where all in it is in range
+-- what the form asks for, where all in it is in bounds
 abbrev pub request_of : Form → Option Request
-request_of begin = Some Begin
-request_of (get key) = option_map (λ k. Do (Get k)) (key_for key)
-request_of (insert key value) = insert_request (key_for key) (value_for value)
-request_of commit = Some Commit
-request_of quit = Some Quit
+request_of form = option_map (request_with form.verb) (values_for (shape_of form.verb) form.arguments)
 
--- what a line is read as: the request of the form that it spells, Range where that form has none, Syntax where it spells none
+-- the line spells a form that is read so
+abbrev pub Spells : List ℕ → Option Request → Type 0
+Spells line read = (form : Form) × IsProper form × (line ≡ spelling form) × (request_of form ≡ read)
+
+-- What a line is read as: the request of the form that it spells, Range where that form has none, Syntax where it spells
+-- none. Memory may be refused where it asks for a load.
 abbrev pub Reads : List ℕ → Result Request LineFault → Type 0
-Reads line (Ok request) = (form : Form) × IsProper form × (line ≡ spelling form) × (request_of form ≡ Some request)
+Reads line (Ok request) = Spells line (Some request)
 Reads line (Err Syntax) = (form : Form) → IsProper form → line ≢ spelling form
-Reads line (Err Range) = (form : Form) × IsProper form × (line ≡ spelling form) × (request_of form ≡ None)
-Reads line (Err NoMemory) = ⊥
+Reads line (Err Range) = Spells line None
+Reads line (Err NoMemory) = (records : Records) × Spells line (Some (Do (op.Load records)))

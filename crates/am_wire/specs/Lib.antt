@@ -7,5 +7,7 @@ pub mod Replies
 pub mod Numbers
 pub mod Keys
 pub mod Values
+pub mod Verbs
+pub mod Arguments
 pub mod Grammar
 pub mod Reading

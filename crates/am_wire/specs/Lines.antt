@@ -1,7 +1,6 @@
 -- Bytes, cut into lines.
 use Rattle.std.specs.Prelude.{◌≡◌, ◌≢◌, ℕ, List, [], ◌∷◌, ◌++◌, length, map, Bool, ◌==◌, nat_lt, Option, Some, None, MatchBool, cond}
 use Rattle.am_wire.specs.Taking.{TookAhead, IsAtEnd}
-use Rattle.am_wire.specs.declared.line.TheConstants.{MAX_LINE_LEN}
 
 -- a byte goes onto the front of the first line
 abbrev pub onto : ℕ → List (List ℕ) → List (List ℕ)
@@ -19,9 +18,9 @@ without_cr [] = []
 without_cr (c ∷ []) = cond (c == 13) [] (c ∷ [])
 without_cr (c ∷ d ∷ bytes) = c ∷ without_cr (d ∷ bytes)
 
--- a line, or None where it is too long; a CR at its end counts
+-- a line, or None where it has more than 4,096 bytes; a CR at its end counts
 abbrev pub line_of : List ℕ → Option (List ℕ)
-line_of piece = cond (nat_lt MAX_LINE_LEN (length piece)) None (Some (without_cr piece))
+line_of piece = cond (nat_lt 4096 (length piece)) None (Some (without_cr piece))
 
 -- the lines of the input
 abbrev pub lines_of : List ℕ → List (Option (List ℕ))

@@ -1,5 +1,5 @@
--- What a source or a sink over one of std's streams is made of.
-use Rattle.std.specs.Prelude.{ℕ}
+-- What a source or a sink over one of std's streams is made of, and what an answer of such a stream means.
+use Rattle.std.specs.Prelude.{◌≡◌, ℕ, ◌+◌, Bool, Result, Ok, IsErr}
 use Rattle.am_wire.specs.declared.over_std.Reading.{Reading}
 use Rattle.am_wire.specs.declared.over_std.Writing.{Writing}
 
@@ -14,3 +14,14 @@ writer_of s = s.writer
 
 abbrev pub write_failures : {W : Type 0} → Writing W → ℕ
 write_failures s = s.failures
+
+abbrev pub is_unsent : {W : Type 0} → Writing W → Bool
+is_unsent s = s.is_pending
+
+-- The call is answered with x, and no failure is counted.
+abbrev pub IsAnswered : {A E : Type 0} → Result A E → A → ℕ → ℕ → Type 0
+IsAnswered result x before after = (result ≡ Ok x) × (after ≡ before)
+
+-- The call failed, and one failure more is counted.
+abbrev pub IsCounted : {A E : Type 0} → Result A E → ℕ → ℕ → Type 0
+IsCounted result before after = IsErr result × (after ≡ before + 1)

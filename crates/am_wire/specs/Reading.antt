@@ -1,12 +1,21 @@
 -- What a line is read as, by its fields.
-use Rattle.std.specs.Prelude.{◌≡◌, ℕ, ◌&&◌, ◌==◌, if◌then◌else◌, List, [], ◌∷◌, codes, Option, Some, None, Result, Err, bytes_eq, ok_or}
-use Rattle.std.specs.List.{slice_split}
+use Rattle.std.specs.Prelude.{◌≡◌, ◌⊎◌, ℕ, ◌&&◌, ◌==◌, if◌then◌else◌, List, [], ◌∷◌, ◌++◌, codes, map, Bool, Option, Some, None, Result, Ok, Err, IsOk, bytes_eq, option_map, ok_or}
+use Rattle.std.specs.List.{slice_split, list_all, before_first, after_first}
+use Rattle.am_record.specs.Records.{Records}
+use Rattle.am_record.specs.declared.step.Op.TheVariants.{Load}
+use Rattle.am_record.specs.declared.lock.Mode.{Mode}
+use Rattle.am_record.specs.declared.lock.Mode.TheVariants.{Shared, Exclusive}
+use Rattle.am_wire.specs.Numbers.{is_numeral, numeral_value}
 use Rattle.am_wire.specs.Keys.{is_key_text}
 use Rattle.am_wire.specs.Values.{is_value_text}
-use Rattle.am_wire.specs.Grammar.{Form, begin, get, insert, commit, quit, request_of}
+use Rattle.am_wire.specs.Verbs.{verb_for, shape_of, Shape, bare, one_key, one_record, one_number, range_and_number, mode_and_range, some_records}
+use Rattle.am_wire.specs.Arguments.{RecordText, Arguments, Values, values_for}
+use Rattle.am_wire.specs.Grammar.{request_with}
+use Rattle.am_wire.specs.declared.verb.Verb.{Verb}
 use Rattle.am_wire.specs.declared.request.Request.{Request}
+use Rattle.am_wire.specs.declared.request.Request.TheVariants.{Do}
 use Rattle.am_wire.specs.declared.request.LineFault.{LineFault}
-use Rattle.am_wire.specs.declared.request.LineFault.TheVariants.{Syntax, Range}
+use Rattle.am_wire.specs.declared.request.LineFault.TheVariants.{Syntax, Range, NoMemory}
 
 -- the fields of a line: its parts between spaces
 abbrev pub line_fields : List ℕ → List (List ℕ)
@@ -21,42 +30,69 @@ fields_left (Some rest) = line_fields rest
 abbrev pub HasField : List (List ℕ) → Type 0
 HasField fields = (f : List ℕ) × (fs : List (List ℕ)) × (fields ≡ f ∷ fs)
 
--- a form that is its word alone, by the fields after the word
-abbrev pub bare_form : Form → List (List ℕ) → Option Form
-bare_form form [] = Some form
-bare_form form (f ∷ fs) = None
+-- the mode of a field
+abbrev pub mode_for : List ℕ → Option Mode
+mode_for field = if bytes_eq field (codes "S") then Some Shared else if bytes_eq field (codes "X") then Some Exclusive else None
 
-abbrev pub get_form : List (List ℕ) → Option Form
-get_form [] = None
-get_form (key ∷ []) = if is_key_text key then Some (get key) else None
-get_form (key ∷ f ∷ fs) = None
+-- a field as a record: its key ends at the first =
+abbrev pub is_equals : ℕ → Bool
+is_equals byte = byte == 0x3D
 
-abbrev pub insert_form : List (List ℕ) → Option Form
-insert_form [] = None
-insert_form (key ∷ []) = None
-insert_form (key ∷ value ∷ []) = if is_key_text key && is_value_text value then Some (insert key value) else None
-insert_form (key ∷ value ∷ f ∷ fs) = None
+abbrev pub record_text : List ℕ → RecordText
+record_text field = (before_first is_equals field, after_first is_equals field)
 
--- the form of a word and the fields after it
-abbrev pub form_by_word : List ℕ → List (List ℕ) → Option Form
-form_by_word word fs =
-    if bytes_eq word (codes "BEGIN") then bare_form begin fs
-    else if bytes_eq word (codes "GET") then get_form fs
-    else if bytes_eq word (codes "INS") then insert_form fs
-    else if bytes_eq word (codes "COMMIT") then bare_form commit fs
-    else if bytes_eq word (codes "QUIT") then bare_form quit fs
-    else None
+abbrev pub is_record_text : RecordText → Bool
+is_record_text r = is_key_text r.0 && is_value_text r.1
 
--- the form that the fields spell
-abbrev pub form_of : List (List ℕ) → Option Form
-form_of [] = None
-form_of (word ∷ fs) = form_by_word word fs
+abbrev pub is_record_field : List ℕ → Bool
+is_record_field field = is_record_text (record_text field)
 
--- what a form is read as, or no form
-abbrev pub form_reading : Option Form → Result Request LineFault
-form_reading None = Err Syntax
-form_reading (Some form) = ok_or (request_of form) Range
+-- the records of fields
+abbrev pub records_in : List (List ℕ) → Option (List RecordText)
+records_in fs = if list_all is_record_field fs then Some (map record_text fs) else None
 
--- what a line is read as
+-- what the fields after a verb say, where they have its shape
+abbrev pub arguments_in : (shape : Shape) → List (List ℕ) → Option (Arguments shape)
+arguments_in bare [] = Some tt
+arguments_in one_key (key ∷ []) = if is_key_text key then Some key else None
+arguments_in one_record (key ∷ value ∷ []) = if is_record_text (key, value) then Some (key, value) else None
+arguments_in one_number (n ∷ []) = if is_numeral n then Some (numeral_value n) else None
+arguments_in range_and_number (lo ∷ hi ∷ n ∷ []) = if is_key_text lo && is_key_text hi && is_numeral n then Some (lo, hi, numeral_value n) else None
+arguments_in mode_and_range (mode ∷ lo ∷ hi ∷ []) = if is_key_text lo && is_key_text hi then option_map (λ m. (m, lo, hi)) (mode_for mode) else None
+arguments_in some_records (f ∷ fs) = records_in (f ∷ fs)
+arguments_in shape fs = None
+
+-- what texts are read as: Syntax where there are none, Range where a value is out of bounds
+abbrev pub judged : {A B : Type 0} → (A → Option B) → Option A → Result B LineFault
+judged values None = Err Syntax
+judged values (Some texts) = ok_or (values texts) Range
+
+-- the values of the fields after a verb
+abbrev pub values_in : (shape : Shape) → List (List ℕ) → Result (Values shape) LineFault
+values_in shape fs = judged (values_for shape) (arguments_in shape fs)
+
+-- this is what is due, or memory was refused where it is no fault
+abbrev pub MayBeRefused : {A : Type 0} → Result A LineFault → Result A LineFault → Type 0
+MayBeRefused due result = (result ≡ due) ⊎ ((result ≡ Err NoMemory) × IsOk due)
+
+-- a function of the value, where there is one
+abbrev pub map_ok : {A B E : Type 0} → (A → B) → Result A E → Result B E
+map_ok f (Ok a) = Ok (f a)
+map_ok f (Err e) = Err e
+
+-- what the fields after a verb ask for
+abbrev pub verb_reading : Option Verb → List (List ℕ) → Result Request LineFault
+verb_reading None fs = Err Syntax
+verb_reading (Some verb) fs = map_ok (request_with verb) (values_in (shape_of verb) fs)
+
+abbrev pub fields_reading : List (List ℕ) → Result Request LineFault
+fields_reading [] = Err Syntax
+fields_reading (word ∷ fs) = verb_reading (verb_for word) fs
+
+-- what a line is read as, where memory is not refused
 abbrev pub reading : List ℕ → Result Request LineFault
-reading line = form_reading (form_of (line_fields line))
+reading line = fields_reading (line_fields line)
+
+-- this is what is due, or memory was refused for the records of a load
+abbrev pub MayRead : Result Request LineFault → Result Request LineFault → Type 0
+MayRead due result = (result ≡ due) ⊎ ((result ≡ Err NoMemory) × ((records : Records) × (due ≡ Ok (Do (Load records)))))

@@ -1,12 +1,16 @@
 -- The texts of replies.
-use Rattle.std.specs.Prelude.{◌≡◌, ℕ, ◌≤◌, List, [], ◌∷◌, ◌++◌, codes, decimal, All}
+use Rattle.std.specs.Prelude.{◌≡◌, ℕ, List, [], ◌∷◌, ◌++◌, codes, decimal, length, All}
+use Rattle.std.specs.List.{AllByRecursion}
+use Rattle.am_record.specs.OrderedKey.{OrderedKey}
+use Rattle.am_record.specs.Records.{Records}
 use Rattle.am_record.specs.declared.step.Reply.{Reply}
-use Rattle.am_record.specs.declared.step.Reply.TheVariants.{Begun, Done, Found, Absent, Exists, Committed, Aborted, Refused}
+use Rattle.am_record.specs.declared.step.Reply.TheVariants.{Begun, Done, Found, Absent, Rows, Exists, Missing, Committed, Aborted, Moved, MergeDone, Ended, Idle, Cleaned, NoMark, Refused}
 use Rattle.am_record.specs.declared.step.Refusal.{Refusal}
 use Rattle.am_record.specs.declared.step.Refusal.TheVariants.{NoSuchTx, Busy, TooManyTx, TooManyLocks, TooManyOps, TooManyRuns, NotRising, BadLimit, NoMemory, SeatFull}
 use Rattle.am_wire.specs.Lines.{HasNoLf}
 use Rattle.am_wire.specs.Keys.{printed_key}
 use Rattle.am_wire.specs.Values.{IsVisible}
+use Rattle.am_wire.specs.Arguments.{record_field}
 
 abbrev pub refusal_words : Refusal → List ℕ
 refusal_words NoSuchTx = codes "ERR NOTX"
@@ -20,31 +24,53 @@ refusal_words BadLimit = codes "ERR LIMIT"
 refusal_words NoMemory = codes "ERR MEMORY"
 refusal_words SeatFull = codes "ERR FULL"
 
+-- each record with a space before it, as k=v
+abbrev pub row_words : OrderedKey × List ℕ → List ℕ
+row_words row = 32 ∷ record_field (printed_key row.0, row.1)
+
+abbrev pub rows_words : Records → List ℕ
+rows_words [] = []
+rows_words (row ∷ rows) = row_words row ++ rows_words rows
+
+-- a reply before the end of its line; of rows their number alone
+abbrev pub head_of : Reply → List ℕ
+head_of (Begun tx) = codes "BEGUN " ++ decimal tx
+head_of Done = codes "OK"
+head_of (Found value) = codes "VAL " ++ value
+head_of Absent = codes "NONE"
+head_of (Rows rows) = codes "ROWS " ++ decimal (length rows)
+head_of (Exists key) = codes "EXISTS " ++ printed_key key
+head_of Missing = codes "MISSING"
+head_of (Committed commit) = codes "COMMITTED " ++ decimal commit
+head_of Aborted = codes "ABORTED"
+head_of (Moved n run) = ((codes "MOVED " ++ decimal n) ++ codes " ") ++ decimal run
+head_of MergeDone = codes "DONE"
+head_of (Ended key holder) = ((codes "ENDED " ++ printed_key key) ++ codes " ") ++ decimal holder
+head_of Idle = codes "IDLE"
+head_of (Cleaned n) = codes "CLEANED " ++ decimal n
+head_of NoMark = codes "NOMARK"
+head_of (Refused refusal) = refusal_words refusal
+
 -- a reply, before the end of its line
 abbrev pub words_of : Reply → List ℕ
-words_of (Begun tx) = codes "BEGUN " ++ decimal tx
-words_of Done = codes "OK"
-words_of (Found value) = codes "VAL " ++ value
-words_of Absent = codes "NONE"
-words_of (Exists key) = codes "EXISTS " ++ printed_key key
-words_of (Committed commit) = codes "COMMITTED " ++ decimal commit
-words_of Aborted = codes "ABORTED"
-words_of (Refused refusal) = refusal_words refusal
+words_of (Rows rows) = head_of (Rows rows) ++ rows_words rows
+words_of reply = head_of reply
 
 -- a reply, with the LF that ends its line
 abbrev pub text_of : Reply → List ℕ
 text_of reply = words_of reply ++ 10 ∷ []
 
+-- the record's key and value have visible bytes alone
+abbrev pub IsVisibleRow : OrderedKey × List ℕ → Type 0
+IsVisibleRow row = All IsVisible (printed_key row.0) × All IsVisible row.1
+
 -- the keys and values that the reply tells have visible bytes alone
 abbrev pub TellsVisible : Reply → Type 0
 TellsVisible (Found value) = All IsVisible value
-TellsVisible (Begun tx) = Unit {0}
-TellsVisible Done = Unit {0}
-TellsVisible Absent = Unit {0}
+TellsVisible (Rows rows) = AllByRecursion IsVisibleRow rows
 TellsVisible (Exists key) = All IsVisible (printed_key key)
-TellsVisible (Committed commit) = Unit {0}
-TellsVisible Aborted = Unit {0}
-TellsVisible (Refused refusal) = Unit {0}
+TellsVisible (Ended key holder) = All IsVisible (printed_key key)
+TellsVisible reply = Unit {0}
 
 -- the text is one line: an LF ends it, and no other stands in it
 abbrev pub IsOneLine : List ℕ → Type 0

@@ -25,21 +25,20 @@ pub struct Input {
 
 impl Model for Input {
     ghost use Rattle.std.specs.Prelude.{◌≡◌, ◌≤◌, ℕ, List, take, drop, vec_len};
-    ghost use Rattle.am_wire.specs.declared.input.TheConstants.{PIECE_LEN};
 
     ghost Value = { List ℕ };
 
     ghost view = { λ i. drop i.start (take i.end i.buffer.items) };
 
-    ghost invariant = { λ i. (i.start ≤ i.end) × (i.end ≤ PIECE_LEN) × (vec_len i.buffer ≡ PIECE_LEN) };
+    ghost invariant = { λ i. (i.start ≤ i.end) × (i.end ≤ 4096) × (vec_len i.buffer ≡ 4096) };
 }
 
 /// Takes bytes into a buffer with room, and says how many of them there are. None means the end of the source.
 fn fill<S: Source>(source: &mut S, buffer: &mut Vec<u8>) -> Result<usize, Failed>
     requires countable { S.failures source.old < 2 ^ 63 }
-    requires room { vec_len buffer.old ≡ PIECE_LEN }
-    ensures len { vec_len buffer.new ≡ PIECE_LEN }
-    ensures fits { IfOk result (λ n. n ≤ PIECE_LEN) }
+    requires room { vec_len buffer.old ≡ 4096 }
+    ensures len { vec_len buffer.new ≡ 4096 }
+    ensures fits { IfOk result (λ n. n ≤ 4096) }
     ensures taken { IfOk result (λ n. TookAhead S.comes [] source.old [] (take n buffer.new.items) source.new) }
     ensures end { IfOk result (λ n. n ≡ 0 → S.comes source.new []) }
     ensures ok { OnOk result (S.failures source.new ≡ S.failures source.old) }

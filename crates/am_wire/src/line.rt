@@ -23,13 +23,12 @@ pub struct LineBuffer {
 
 impl Model for LineBuffer {
     ghost use Rattle.std.specs.Prelude.{◌≡◌, ◌≤◌, ℕ, List, take, vec_len};
-    ghost use Rattle.am_wire.specs.declared.line.TheConstants.{KEPT_LEN};
 
     ghost Value = { List ℕ };
 
     ghost view = { λ b. take b.len b.room.items };
 
-    ghost invariant = { λ b. (vec_len b.room ≡ KEPT_LEN) × (b.len ≤ KEPT_LEN) };
+    ghost invariant = { λ b. (vec_len b.room ≡ 4097) × (b.len ≤ 4097) };
 }
 
 impl LineBuffer {
@@ -52,7 +51,7 @@ impl LineBuffer {
 
     pub(crate) fn len(&self) -> usize
         ensures len { result ≡ length self.now }
-        ensures most { result ≤ MAX_LINE_LEN + 1 }
+        ensures most { result ≤ 4097 }
     {
         self.len
     }
@@ -70,7 +69,7 @@ impl LineBuffer {
     }
 
     fn push(&mut self, byte: u8)
-        requires { length self.old < KEPT_LEN }
+        requires { length self.old < 4097 }
         ensures { self.new ≡ self.old ++ byte ∷ [] }
     {
         self.room[self.len] = byte;
@@ -79,7 +78,7 @@ impl LineBuffer {
 
     /// Adds a byte at the end, where there is room for it.
     pub(crate) fn add(&mut self, byte: u8)
-        ensures { self.new ≡ take KEPT_LEN (self.old ++ byte ∷ []) }
+        ensures { self.new ≡ take 4097 (self.old ++ byte ∷ []) }
     {
         if self.len() < KEPT_LEN {
             self.push(byte);
@@ -115,7 +114,7 @@ impl LineBuffer {
 pub enum LineKind {
     /// Its bytes stand in the buffer, without one CR at the end.
     Text,
-    /// It has more than [`MAX_LINE_LEN`] bytes.
+    /// It has more than 4,096 bytes.
     Long,
 }
 

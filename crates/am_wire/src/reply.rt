@@ -1,87 +1,19 @@
 //! The texts of replies.
 
-ghost use Rattle.std.specs.Prelude.{◌≡◌, ℕ, ◌+◌, ◌^◌, ◌<◌, ◌≤◌, List, ◌++◌, length, decimal, OnOk, OnErr, IfOk};
+ghost use Rattle.std.specs.Prelude.{◌≡◌, ℕ, ◌+◌, ◌^◌, ◌<◌, ◌≤◌, ◌++◌, length, true, OnOk, OnErr, IfOk};
 ghost use Rattle.am_record.specs.declared.step.Reply.{Reply};
 ghost use Rattle.am_wire.specs.Giving.{Gave, GaveBeginning};
-ghost use Rattle.am_wire.specs.Keys.{printed_key};
-ghost use Rattle.am_wire.specs.Replies.{refusal_words, words_of, text_of, TellsVisible, IsOneLine};
+ghost use Rattle.am_wire.specs.Replies.{refusal_words, row_words, rows_words, head_of, text_of, TellsVisible, IsOneLine};
 
-use crate::sink::{Sink, give_all};
+use crate::sink::{Sink, StopSink, give_all};
 use crate::source::Failed;
-use am_record::{Key, NoMemory, Refusal, Reply};
-use arrayvec::ArrayVec;
-use itoa::Buffer;
+use crate::text::Text;
+use am_record::{Key, NoMemory, Refusal, Reply, Value};
 use std::alloc::Global;
-use std::marker::Model;
-
-/// The most bytes that a reply in one piece may have, its LF included.
-const MAX_REPLY_LEN: usize = 128;
-
-/// The text of a reply, built in place.
-#[derive(Drop)]
-struct Text {
-    bytes: ArrayVec<u8, MAX_REPLY_LEN>,
-}
-
-impl Model for Text {
-    ghost use Rattle.std.specs.Prelude.{ℕ, List};
-
-    ghost Value = { List ℕ };
-
-    ghost view = { λ t. t.bytes.items };
-}
-
-impl Text {
-    /// A text of these bytes.
-    fn new(bytes: &[u8]) -> Self
-        requires { length bytes.now ≤ MAX_REPLY_LEN }
-        ensures { result ≡ bytes.now }
-    {
-        let empty = Text {
-            bytes: ArrayVec::new(),
-        };
-        empty.then(bytes)
-    }
-
-    /// The text with these bytes behind it.
-    fn then(mut self, bytes: &[u8]) -> Self
-        requires { length self + length bytes.now ≤ MAX_REPLY_LEN }
-        ensures { result ≡ self ++ bytes.now }
-    {
-        let Ok(()) = self.bytes.try_extend_from_slice(bytes) else {
-            unreachable!()
-        };
-        self
-    }
-
-    /// The text with a number behind it.
-    fn then_number(self, number: u64) -> Self
-        requires { length self + 20 ≤ MAX_REPLY_LEN }
-        ensures text { result ≡ self ++ decimal number }
-        ensures short { length result ≤ length self + 20 }
-    {
-        self.then(Buffer::new().format(number).as_bytes())
-    }
-
-    /// The text with a key behind it.
-    fn then_key(self, key: Key) -> Self
-        requires { length self + 32 ≤ MAX_REPLY_LEN }
-        ensures text { result ≡ self ++ printed_key key }
-        ensures short { length result ≤ length self + 32 }
-    {
-        self.then(key.bytes())
-    }
-
-    fn as_slice(&self) -> &[u8]
-        ensures { result.now ≡ self.now }
-    {
-        self.bytes.as_slice()
-    }
-}
 
 fn refusal_words(refusal: Refusal) -> Text
     ensures words { result ≡ refusal_words refusal }
-    ensures short { length result < MAX_REPLY_LEN }
+    ensures short { length result ≤ 127 }
 {
     match refusal {
         Refusal::NoSuchTx => Text::new(b"ERR NOTX"),
@@ -97,46 +29,89 @@ fn refusal_words(refusal: Refusal) -> Text
     }
 }
 
-/// The reply, before the end of its line.
-fn words_of(reply: &Reply) -> Text
-    ensures words { result ≡ words_of reply.now }
-    ensures short { length result < MAX_REPLY_LEN }
+// The reply before the end of its line; of rows their number alone.
+fn head_of(reply: &Reply) -> Text
+    ensures words { result ≡ head_of reply.now }
+    ensures short { length result ≤ 127 }
 {
     match reply {
         Reply::Begun(tx) => Text::new(b"BEGUN ").then_number(*tx),
         Reply::Done => Text::new(b"OK"),
         Reply::Found(value) => Text::new(b"VAL ").then(value.bytes()),
         Reply::Absent => Text::new(b"NONE"),
+        Reply::Rows(rows) => Text::new(b"ROWS ").then_number(rows.as_slice().len() as u64),
         Reply::Exists(key) => Text::new(b"EXISTS ").then_key(*key),
+        Reply::Missing => Text::new(b"MISSING"),
         Reply::Committed(commit) => Text::new(b"COMMITTED ").then_number(*commit),
         Reply::Aborted => Text::new(b"ABORTED"),
+        Reply::Moved(n, run) => Text::new(b"MOVED ")
+            .then_number(*n)
+            .then(b" ")
+            .then_number(u64::from(*run)),
+        Reply::MergeDone => Text::new(b"DONE"),
+        Reply::Ended(key, holder) => Text::new(b"ENDED ")
+            .then_key(*key)
+            .then(b" ")
+            .then_number(*holder),
+        Reply::Idle => Text::new(b"IDLE"),
+        Reply::Cleaned(n) => Text::new(b"CLEANED ").then_number(*n),
+        Reply::NoMark => Text::new(b"NOMARK"),
         Reply::Refused(refusal) => refusal_words(*refusal),
     }
 }
 
-/// The reply as a line.
-fn text_of(reply: &Reply) -> Text
-    ensures { result ≡ text_of reply.now }
+// One record of rows.
+fn row_words(row: &(Key, Value)) -> Text
+    ensures { result ≡ row_words row.now }
 {
-    words_of(reply).then(b"\n")
+    Text::new(b" ")
+        .then_key(row.0)
+        .then(b"=")
+        .then(row.1.bytes())
 }
 
-/// Writes the text of a reply. It takes no memory. At a failure a beginning of the text went out.
+fn put_rows<K: Sink>(rows: &[(Key, Value)], sink: &mut K) -> Result<(), Failed>
+    requires countable { K.failures sink.old < 2 ^ 63 }
+    ensures given { OnOk result (Gave K.holds sink.old (rows_words rows.now) sink.new) }
+    ensures ok { OnOk result (K.failures sink.new ≡ K.failures sink.old) }
+    ensures failed { OnErr result (K.failures sink.new ≡ K.failures sink.old + 1) }
+    ensures torn { OnErr result (GaveBeginning K.holds sink.old (rows_words rows.now) sink.new) }
+{
+    for row in rows {
+        give_all(sink, row_words(row).as_slice())?;
+    }
+    Ok(())
+}
+
+/// Writes the text of a reply, in pieces of at most 128 bytes. It takes no memory of its own. At a failure a beginning of
+/// the text went out.
 pub fn put_reply<K: Sink>(reply: &Reply, sink: &mut K) -> Result<(), Failed>
     requires countable { K.failures sink.old < 2 ^ 63 }
     ensures given { OnOk result (Gave K.holds sink.old (text_of reply.now) sink.new) }
+    ensures pending { OnOk result (K.pending sink.new ≡ true) }
     ensures ok { OnOk result (K.failures sink.new ≡ K.failures sink.old) }
     ensures failed { OnErr result (K.failures sink.new ≡ K.failures sink.old + 1) }
     ensures torn { OnErr result (GaveBeginning K.holds sink.old (text_of reply.now) sink.new) }
 {
-    give_all(sink, text_of(reply).as_slice())
+    match reply {
+        Reply::Rows(rows) => {
+            give_all(sink, head_of(reply).as_slice())?;
+            put_rows(rows.as_slice(), sink)?;
+            give_all(sink, b"\n")
+        }
+        _ => give_all(sink, head_of(reply).then(b"\n").as_slice()),
+    }
 }
 
 /// The text of a reply: one line, ended by its LF.
 pub fn reply_text(alloc: Global, reply: &Reply) -> Result<Vec<u8>, NoMemory>
     ensures { IfOk result (λ text. text.items ≡ text_of reply.now) }
 {
-    Ok(Vec::from_slice(alloc, text_of(reply).as_slice())?)
+    let mut text = StopSink::new(alloc, 0);
+    match put_reply(reply, &mut text) {
+        Ok(()) => Ok(text.into_bytes()),
+        Err(Failed) => Err(NoMemory),
+    }
 }
 
 /// The text of a reply is one line: its only LF is the last byte. Keys and values are to have visible bytes alone, as all

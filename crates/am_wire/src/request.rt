@@ -1,14 +1,22 @@
 //! What a line asks for.
 
-use am_record::Op;
+use am_record::{Op, Range};
 use thiserror::Error;
 
 /// What a line asks of its session.
 #[derive(Debug, PartialEq, Eq, Drop)]
 pub enum Request {
     Begin,
+    /// An operation of the active transaction.
     Do(Op),
     Commit,
+    Abort,
+    /// Merge, at most so many entries.
+    Merge(u64),
+    /// Clean the range, at most so many ghosts.
+    Clean(Range, u64),
+    /// The number of the session, and the commits that it sees.
+    Seen,
     /// The session ends.
     Quit,
 }
@@ -16,13 +24,14 @@ pub enum Request {
 /// Why a line asks for nothing. Where several are due, the first of them here is told.
 #[derive(Clone, Copy, Debug, PartialEq, Eq, Error)]
 pub enum LineFault {
-    /// The line has none of the forms, whatever the size of its numbers and values.
+    /// The line has none of the forms, whatever the size of its numbers, keys and values.
     #[error("not a line of a session")]
     Syntax,
-    /// The form is right, and a number has more than 64 bits or a value more than 64 bytes.
-    #[error("a number or a value is out of range")]
+    /// The form is right, and a number has more than 64 bits, a key more than 32 bytes or a value more than 64, or the ends
+    /// of a range don't stand in order.
+    #[error("a number, a key, a value or a range is out of bounds")]
     Range,
-    /// Memory was refused.
+    /// Memory was refused for the records of a load.
     #[error("no memory")]
     NoMemory,
 }

@@ -1,9 +1,10 @@
-use Rattle.std.proofs.Common.{sym, subst, ◌∙◌, ap}
-use Rattle.am_wire.specs.Grammar.{Reads}
-use Rattle.am_wire.specs.Reading.{form_of, form_reading}
-use Rattle.am_wire.proofs.Readings.{reads_reading}
+use Rattle.std.proofs.Common.{◌≡◌, ℕ, List, sym, subst, ap, ◌∙◌}
+use Rattle.am_wire.specs.Reading.{fields_reading, reading, MayRead}
+use Rattle.am_wire.proofs.Readings.{reads_what_may_be}
 use Rattle.am_wire.proofs.parse.parse_line.Goals as goal
 
 pub returns-clause-grammar : goal.returns-clause-grammar
-returns-clause-grammar c =
-    subst (λ r. Reads c.args.line.now r) (sym (c.parse_fields.ensures ∙ ap (λ fs. form_reading (form_of fs)) c.new.ensures)) (reads_reading c.args.line.now)
+returns-clause-grammar c = reads_what_may_be c.args.line.now c.parse_fields.result (subst (λ (fs : List (List ℕ)). MayRead (fields_reading fs) c.parse_fields.result) c.new.ensures c.parse_fields.ensures)
+
+pub returns-clause-reading : goal.returns-clause-reading
+returns-clause-reading c = subst (λ (fs : List (List ℕ)). MayRead (fields_reading fs) c.parse_fields.result) c.new.ensures c.parse_fields.ensures

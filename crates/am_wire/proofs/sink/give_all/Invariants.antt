@@ -1,4 +1,4 @@
-use Rattle.std.proofs.Common.{length, ◌-◌, ◌≡◌, ◌≤◌, take}
+use Rattle.std.proofs.Common.{length, ◌-◌, ◌≡◌, ◌≤◌, ◌||◌, ltb, take}
 use Rattle.am_wire.specs.Giving.{Gave}
 use Rattle.am_wire.proofs.sink.give_all.Given as goal
 
@@ -6,6 +6,7 @@ abbrev pub invariant-loop-done : goal.invariant-loop-done
 invariant-loop-done g l = record {
   within : l.done ≤ length l.piece;
   given : Gave g.K.Sink.holds l.fn.sink (take l.done l.piece) l.sink;
+  pending : g.K.Sink.pending l.sink ≡ (g.K.Sink.pending l.fn.sink || ltb 0 l.done);
   ok : g.K.Sink.failures l.sink ≡ g.K.Sink.failures l.fn.sink;
 }
 

@@ -1,0 +1,48 @@
+-- A session alone, line by line: the answers, and the steps that were taken.
+use Rattle.std.specs.Prelude.{◌≡◌, ℕ, ◌+◌, ◌==◌, List, [], ◌∷◌, ◌++◌, Option, Some, None, MatchBool}
+use Rattle.am_record.specs.declared.step.Step.TheVariants as step
+use Rattle.am_record.specs.declared.step.Reply.{Reply}
+use Rattle.am_record.specs.declared.step.Reply.TheVariants as reply
+use Rattle.am_serial.specs.Trace.{Trace}
+use Rattle.am_talk.specs.Heard.{Line, MayHear}
+use Rattle.am_talk.specs.Dues.{due, active_after}
+use Rattle.am_talk.specs.declared.lines.Heard.{Heard}
+use Rattle.am_talk.specs.declared.due.Due.{Due}
+use Rattle.am_talk.specs.declared.due.Due.TheVariants.{Answer, Take, TellSeen}
+use Rattle.am_talk.specs.declared.response.Response.{Response}
+use Rattle.am_talk.specs.declared.response.Response.TheVariants.{Replied, Seen}
+
+-- a line, and the response to it
+abbrev pub Exchange : Type 0
+Exchange = Line × Response
+
+-- how many commits there are after a reply
+abbrev pub commits_after : ℕ → Reply → ℕ
+commits_after commits (reply.Committed number) = commits + 1
+commits_after commits _ = commits
+
+-- what a session stands at between two lines: the active transaction, and the commits so far
+abbrev pub Standing : Type 0
+Standing = Option ℕ × ℕ
+
+-- What was due was answered by this response, with these events; SEEN tells 0, a session alone, and the commits.
+abbrev pub AnsweredBy : Standing → Due → Response → Trace → Standing → Type 0
+AnsweredBy at (Answer due) response events at' = (response ≡ due) × (events ≡ []) × (at' ≡ at)
+AnsweredBy at (Take step) response events at' = (told : Reply) × (response ≡ Replied told) × (events ≡ (step, told) ∷ []) × (at' ≡ (active_after at.0 told, commits_after at.1 told))
+AnsweredBy at TellSeen response events at' = (response ≡ Seen 0 at.1) × (events ≡ []) × (at' ≡ at)
+
+-- a merge follows each answer, unless `auto` is 0
+abbrev pub Merges : ℕ → Trace → Trace → Type 0
+Merges auto events later = MatchBool (auto == 0) (events ≡ later) ((merged : Reply) × (events ≡ (step.Merge auto, merged) ∷ later))
+
+-- at the end the active transaction is aborted
+abbrev pub Leaves : Option ℕ → Trace → Type 0
+Leaves None events = events ≡ []
+Leaves (Some tx) events = events ≡ (step.Abort tx, reply.Aborted) ∷ []
+
+-- the lines were answered in order, and these are all events, the last abort among them
+abbrev pub Dialogue : ℕ → Standing → List Exchange → Trace → Type 0
+Dialogue auto at [] events = Leaves at.0 events
+Dialogue auto at (e ∷ exchanges) events =
+    (heard : Heard) × MayHear e.0 heard × (own rest later : Trace) × (at' : Standing) × AnsweredBy at (due at.0 heard) e.1 own at'
+    × (events ≡ own ++ rest) × Merges auto rest later × Dialogue auto at' exchanges later

@@ -1,0 +1,117 @@
+-- What a session on a store of its own says, by the plain map alone.
+use Rattle.std.specs.Prelude.{◌≡◌, ℕ, ◌+◌, ◌^◌, nat_le, length, List, [], ◌∷◌, ◌++◌, Bool, true, false, cond, not, ◌&&◌, filter, map, Option, Some, None}
+use Rattle.std.specs.FinMap.{empty}
+use Rattle.am_record.specs.Plain.{PlainMap, fresh, answer, left, left_on, is_orderly}
+use Rattle.am_record.specs.Asks.{lock_of, locks_of}
+use Rattle.am_record.specs.declared.step.Op.{Op}
+use Rattle.am_record.specs.declared.step.Reply.{Reply}
+use Rattle.am_record.specs.declared.step.Reply.TheVariants.{Begun, Committed, Aborted, Refused}
+use Rattle.am_record.specs.declared.step.Refusal.{Refusal}
+use Rattle.am_record.specs.declared.step.Refusal.TheVariants.{TooManyTx, TooManyLocks, TooManyOps, TooManyRuns, NotRising, BadLimit, NoMemory}
+use Rattle.am_serial.specs.Trace.{runs_made}
+use Rattle.am_serial.specs.Machine.{is_bounded, is_load, is_one_too_many}
+use Rattle.am_talk.specs.Heard.{Line, heard, is_upkeep}
+use Rattle.am_talk.specs.Dialogue.{Exchange}
+use Rattle.am_wire.specs.declared.request.Request.{Request}
+use Rattle.am_wire.specs.declared.request.Request.TheVariants as request
+use Rattle.am_wire.specs.declared.request.LineFault.TheVariants as fault
+use Rattle.am_talk.specs.declared.lines.Heard.{Heard}
+use Rattle.am_talk.specs.declared.lines.Heard.TheVariants as said
+use Rattle.am_talk.specs.declared.response.Response.{Response}
+use Rattle.am_talk.specs.declared.response.Response.TheVariants.{TooLong, Faulty, NoTransaction, Active, Replied, Seen}
+
+-- how many transactions were begun and committed and how many runs were made, the map that the committed ones left, and the operations
+-- of the active transaction
+pub record State : Type 0 where
+  pub begun : ℕ
+  pub commits : ℕ
+  pub runs : ℕ
+  pub committed : PlainMap
+  pub own : Option (List Op)
+
+abbrev pub opened : State
+opened = record { begun = 0; commits = 0; runs = 0; committed = empty; own = None }
+
+-- the refusal that is due to an operation, by those before it; a session alone meets no lock of another
+abbrev pub refusal_due : State → List Op → Op → Option Refusal
+refusal_due s ops op =
+    cond (nat_le 4096 (length ops)) (Some TooManyOps)
+    (cond (not (is_orderly op)) (Some NotRising)
+    (cond (not (is_bounded op)) (Some BadLimit)
+    (cond (is_load op && nat_le 65535 s.runs) (Some TooManyRuns)
+    (cond (is_one_too_many (locks_of ops) (lock_of op)) (Some TooManyLocks)
+    None))))
+
+-- the reply: the refusal that is due, and else the answer on the committed map with the transaction's own operations applied
+abbrev pub refused_or : Option Refusal → Reply → Reply
+refused_or None reply = reply
+refused_or (Some why) reply = Refused why
+
+abbrev pub reply_due : State → List Op → Op → Reply
+reply_due s ops op = refused_or (refusal_due s ops op) (answer op (left_on ops (fresh s.committed)))
+
+abbrev pub begin_due : State → Reply
+begin_due s = cond (nat_le (2 ^ 63) s.begun) (Refused TooManyTx) (Begun (s.begun + 1))
+
+-- the answer to a request; MERGE and CLEAN are not said by the plain map. A session ends at QUIT, before it asks here
+abbrev pub answer_to : State → Option (List Op) → Request → Option Response
+answer_to s None request.Begin = Some (Replied (begin_due s))
+answer_to s (Some ops) request.Begin = Some Active
+answer_to s (Some ops) (request.Do op) = Some (Replied (reply_due s ops op))
+answer_to s (Some ops) request.Commit = Some (Replied (Committed (s.commits + 1)))
+answer_to s (Some ops) request.Abort = Some (Replied Aborted)
+answer_to s own request.Seen = Some (Seen 0 s.commits)
+answer_to s own (request.Merge limit) = None
+answer_to s own (request.Clean range limit) = None
+answer_to s own _ = Some NoTransaction
+
+-- an operation that is answered is the transaction's own from then on
+abbrev pub state_did : State → List Op → Op → Reply → State
+state_did s ops op (Refused why) = s
+state_did s ops op reply = record s { runs = s.runs + runs_made op reply; own = Some (ops ++ op ∷ []) }
+
+abbrev pub state_asked : State → Option (List Op) → Request → State
+state_asked s None request.Begin = cond (nat_le (2 ^ 63) s.begun) s (record s { begun = s.begun + 1; own = Some [] })
+state_asked s (Some ops) (request.Do op) = state_did s ops op (reply_due s ops op)
+state_asked s (Some ops) request.Commit = record s { commits = s.commits + 1; committed = left ops s.committed; own = None }
+state_asked s (Some ops) request.Abort = record s { own = None }
+state_asked s own _ = s
+
+abbrev pub response_due : State → Heard → Option Response
+response_due s said.TooLong = Some TooLong
+response_due s (said.Faulty fault) = Some (Faulty fault)
+response_due s (said.Asked request) = answer_to s s.own request
+
+abbrev pub state_heard : State → Heard → State
+state_heard s (said.Asked request) = state_asked s s.own request
+state_heard s _ = s
+
+-- put in front, where there is one
+abbrev pub before : Option Response → List Response → List Response
+before None responses = responses
+before (Some response) responses = response ∷ responses
+
+-- what is said to the lines, one response for each but MERGE and CLEAN
+abbrev pub say_from : State → List Line → List Response
+say_from s [] = []
+say_from s (line ∷ lines) = before (response_due s (heard line)) (say_from (state_heard s (heard line)) lines)
+
+abbrev pub say : List Line → List Response
+say lines = say_from opened lines
+
+-- whether memory was refused to the line
+abbrev pub wants_memory : Response → Bool
+wants_memory (Faulty fault.NoMemory) = true
+wants_memory (Replied (Refused NoMemory)) = true
+wants_memory _ = false
+
+-- the exchanges in which memory was found, and among these those that are no MERGE or CLEAN
+abbrev pub with_memory : List Exchange → List Exchange
+with_memory exchanges = filter (λ (e : Exchange). not (wants_memory e.1)) exchanges
+
+abbrev pub without_upkeep : List Exchange → List Exchange
+without_upkeep exchanges = filter (λ (e : Exchange). not (is_upkeep (heard e.0))) exchanges
+
+-- A line to which memory was refused did nothing: the other lines were answered as they are said, MERGE and CLEAN aside.
+abbrev pub Says : List Exchange → Type 0
+Says exchanges = map (λ (e : Exchange). e.1) (without_upkeep (with_memory exchanges)) ≡ say (map (λ (e : Exchange). e.0) (with_memory exchanges))

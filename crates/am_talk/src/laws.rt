@@ -1,0 +1,17 @@
+//! What a session on a store of its own says.
+
+ghost use Rattle.std.specs.Prelude.{ℕ, List, [], None};
+ghost use Rattle.am_serial.specs.Trace.{Trace};
+ghost use Rattle.am_serial.specs.Sound.{IsSound};
+ghost use Rattle.am_talk.specs.Dialogue.{Exchange, Dialogue};
+ghost use Rattle.am_talk.specs.Say.{Says};
+
+use am_serial::sound_traces_are_runs;
+
+/// Where one session alone had its steps answered by a sound trace, what it was answered is what is said to its lines.
+pub fn sound_dialogues_say()
+    ensures { (auto : ℕ) (exchanges : List Exchange) (trace : Trace) → IsSound trace → Dialogue auto (None, 0) exchanges trace →
+        Says exchanges }
+{
+    sound_traces_are_runs();
+}

@@ -1,0 +1,88 @@
+//! What stands after the verb of a line. These functions get the fields after the verb.
+
+ghost use Rattle.std.specs.Prelude.{◌≡◌, if◌then◌else◌};
+ghost use Rattle.am_wire.specs.Verbs.{bare, one_key, one_record, one_number, range_and_number, mode_and_range};
+ghost use Rattle.am_wire.specs.Reading.{mode_for, values_in, map_ok};
+
+use crate::fields::Fields;
+use crate::key::parse_key;
+use crate::number::parse_number;
+use crate::range::parse_range;
+use crate::record::parse_record;
+use crate::request::{LineFault, Request};
+use am_record::{Key, Lock, Mode, Range, Value};
+
+/// Nothing: the verb alone asks for the request.
+pub fn parse_bare(fields: Fields<'_>, request: Request) -> Result<Request, LineFault>
+    ensures { result ≡ map_ok (λ _. request) (values_in bare fields.entry) }
+{
+    fields.end()?;
+    Ok(request)
+}
+
+/// A key.
+pub fn parse_one_key(mut fields: Fields<'_>) -> Result<Key, LineFault>
+    ensures { result ≡ values_in one_key fields.entry }
+{
+    let key = fields.next()?;
+    fields.end()?;
+    parse_key(key)?.ok_or(LineFault::Range)
+}
+
+/// A key and a value.
+pub fn parse_one_record(mut fields: Fields<'_>) -> Result<(Key, Value), LineFault>
+    ensures { result ≡ values_in one_record fields.entry }
+{
+    let key = fields.next()?;
+    let value = fields.next()?;
+    fields.end()?;
+    parse_record(key, value)?.ok_or(LineFault::Range)
+}
+
+/// A number.
+pub fn parse_one_number(mut fields: Fields<'_>) -> Result<u64, LineFault>
+    ensures { result ≡ values_in one_number fields.entry }
+{
+    let number = fields.next()?;
+    fields.end()?;
+    parse_number(number)?.ok_or(LineFault::Range)
+}
+
+/// The ends of a range, and a number.
+pub fn parse_range_and_number(mut fields: Fields<'_>) -> Result<(Range, u64), LineFault>
+    ensures { result ≡ values_in range_and_number fields.entry }
+{
+    let lo = fields.next()?;
+    let hi = fields.next()?;
+    let number = fields.next()?;
+    fields.end()?;
+    match (parse_range(lo, hi)?, parse_number(number)?) {
+        (Some(range), Some(number)) => Ok((range, number)),
+        _ => Err(LineFault::Range),
+    }
+}
+
+/// A mode, and the ends of a range.
+pub fn parse_mode_and_range(mut fields: Fields<'_>) -> Result<Lock, LineFault>
+    ensures { result ≡ values_in mode_and_range fields.entry }
+{
+    let mode = fields.next()?;
+    let lo = fields.next()?;
+    let hi = fields.next()?;
+    fields.end()?;
+    let mode = parse_mode(mode).ok_or(LineFault::Syntax)?;
+    let range = parse_range(lo, hi)?.ok_or(LineFault::Range)?;
+    Ok(Lock { mode, range })
+}
+
+fn parse_mode(field: &[u8]) -> Option<Mode>
+    ensures { result ≡ mode_for field.now }
+{
+    if field == b"S".as_slice() {
+        Some(Mode::Shared)
+    } else if field == b"X".as_slice() {
+        Some(Mode::Exclusive)
+    } else {
+        None
+    }
+}
