@@ -15,7 +15,7 @@ use Rattle.am_serial.specs.Machine as machine
 use Rattle.am_serial.specs.Machine.{due as due_of, next, Runs, May, view}
 use Rattle.am_talk.specs.Heard.{Line, heard, told, MayHear, is_upkeep}
 use Rattle.am_talk.specs.Dues.{due, active_after}
-use Rattle.am_talk.specs.Dialogue.{Exchange, Standing, AnsweredBy, Merges, Dialogue, commits_after}
+use Rattle.am_talk.specs.Dialogue.{Exchange, Standing, AnsweredBy, AnswersLine, Merges, Ends, Whole, TornAt, Dialogue, commits_after}
 use Rattle.am_talk.specs.Say as say
 use Rattle.am_talk.specs.Say.{refusal_due, reply_due, refused_or, begin_due, state_did, wants_memory, response_due, state_heard, say_from, with_memory, without_upkeep}
 use Rattle.am_wire.specs.declared.request.Request.{Request}
@@ -66,25 +66,25 @@ refused_line w h r own rest at' answered run = record {
 abbrev After : Where → Step → Reply → Trace → Type 0
 After w s told rest = May (machine_at w) s told × Runs (next (machine_at w) (effect s told)) rest
 
-abbrev Told : Where → Request → Reply → Trace → Type 0
-Told w asked told rest = Leads w (said.Asked asked) (Replied told) rest (active_after (standing_at w).0 told, commits_after w.commits told)
+abbrev Told : Where → Step → Request → Reply → Trace → Type 0
+Told w s asked told rest = Leads w (said.Asked asked) (Replied told) rest (active_after (standing_at w).0 told, commits_after w.commits s told)
 
-taken : (w : Where) (s : Step) (asked : Request) → ((t : Reply) (rest : Trace) → After w s t rest → Told w asked t rest) →
-    (r : Response) (own rest : Trace) (at' : Standing) → (t : Reply) × (r ≡ Replied t) × (own ≡ (s, t) ∷ []) × (at' ≡ (active_after (standing_at w).0 t, commits_after w.commits t)) →
+taken : (w : Where) (s : Step) (asked : Request) → ((t : Reply) (rest : Trace) → After w s t rest → Told w s asked t rest) →
+    (r : Response) (own rest : Trace) (at' : Standing) → (t : Reply) × (r ≡ Replied t) × (own ≡ (s, t) ∷ []) × (at' ≡ (active_after (standing_at w).0 t, commits_after w.commits s t)) →
     Runs (machine_at w) (own ++ rest) → Leads w (said.Asked asked) r rest at'
 taken w s asked tells r own rest at' a run =
-    let led : Told w asked a.0 rest = tells a.0 rest (subst (λ (x : Trace). Runs (machine_at w) (x ++ rest)) a.2 run) in
-    let with_reply : Leads w (said.Asked asked) r rest (active_after (standing_at w).0 a.0, commits_after w.commits a.0) = subst (λ (x : Response). Leads w (said.Asked asked) x rest (active_after (standing_at w).0 a.0, commits_after w.commits a.0)) (sym a.1) led in
+    let led : Told w s asked a.0 rest = tells a.0 rest (subst (λ (x : Trace). Runs (machine_at w) (x ++ rest)) a.2 run) in
+    let with_reply : Leads w (said.Asked asked) r rest (active_after (standing_at w).0 a.0, commits_after w.commits s a.0) = subst (λ (x : Response). Leads w (said.Asked asked) x rest (active_after (standing_at w).0 a.0, commits_after w.commits s a.0)) (sym a.1) led in
     subst (λ (x : Standing). Leads w (said.Asked asked) r rest x) (sym a.3) with_reply
 
 -- the reply is what is said
-said_so : (w : Where) (asked : Request) (told : Reply) (rest : Trace) (to : Where) → Runs (machine_at to) rest → (active_after (standing_at w).0 told, commits_after w.commits told) ≡ standing_at to →
-    wants_memory (Replied told) ≡ false → is_upkeep (said.Asked asked) ≡ false → response_due (state_at w) (said.Asked asked) ≡ Some (Replied told) → state_at to ≡ state_heard (state_at w) (said.Asked asked) → Told w asked told rest
-said_so w asked told rest to run standing memory upkeep says same = record { to = to; runs = run; standing = standing; outcome = inr (inr (memory, upkeep, says, same)) }
+said_so : (w : Where) (s : Step) (asked : Request) (told : Reply) (rest : Trace) (to : Where) → Runs (machine_at to) rest → (active_after (standing_at w).0 told, commits_after w.commits s told) ≡ standing_at to →
+    wants_memory (Replied told) ≡ false → is_upkeep (said.Asked asked) ≡ false → response_due (state_at w) (said.Asked asked) ≡ Some (Replied told) → state_at to ≡ state_heard (state_at w) (said.Asked asked) → Told w s asked told rest
+said_so w s asked told rest to run standing memory upkeep says same = record { to = to; runs = run; standing = standing; outcome = inr (inr (memory, upkeep, says, same)) }
 
 -- nothing was done
-refused_step : (w : Where) (asked : Request) (rest : Trace) → Runs (machine_at w) rest → Told w asked (reply.Refused why.NoMemory) rest
-refused_step w asked rest run = record { to = w; runs = run; standing = refl; outcome = inl (refl, refl) }
+refused_step : (w : Where) (s : Step) (asked : Request) (rest : Trace) → commits_after w.commits s (reply.Refused why.NoMemory) ≡ w.commits → Runs (machine_at w) rest → Told w s asked (reply.Refused why.NoMemory) rest
+refused_step w s asked rest e run = record { to = w; runs = run; standing = λ i. ((standing_at w).0, e i); outcome = inl (refl, refl) }
 
 -- ---- BEGIN
 
@@ -95,14 +95,14 @@ module _ (begun commits runs : ℕ) (m : PlainMap) where
   abbrev started : Where
   started = record { begun = begun + 1; commits = commits; runs = runs; committed = m; own = Some [] }
 
-  begins : (told : Reply) (rest : Trace) → After idle step.Begin told rest → Told idle request.Begin told rest
+  begins : (told : Reply) (rest : Trace) → After idle step.Begin told rest → Told idle step.Begin request.Begin told rest
   begins (reply.Begun t) rest a =
       let few : nat_le (2 ^ 63) begun ≡ false = lt-leb (2 ^ 63) begun a.0.2 in
-      subst (λ (x : ℕ). Told idle request.Begin (reply.Begun x) rest) (sym a.0.0)
-      (said_so idle request.Begin (reply.Begun (begun + 1)) rest started (subst (λ (x : ℕ). Runs (record { begun = begun + 1; commits = commits; runs = runs; committed = m; active = (x, []) ∷ [] }) rest) a.0.0 a.1) refl refl refl (ap (λ b. Some (Replied (cond b (reply.Refused why.TooManyTx) (reply.Begun (begun + 1))))) few) (sym (ap (λ b. cond b (state_at idle) (state_at started)) few)))
+      subst (λ (x : ℕ). Told idle step.Begin request.Begin (reply.Begun x) rest) (sym a.0.0)
+      (said_so idle step.Begin request.Begin (reply.Begun (begun + 1)) rest started (subst (λ (x : ℕ). Runs (record { begun = begun + 1; commits = commits; runs = runs; committed = m; active = (x, []) ∷ [] }) rest) a.0.0 a.1) refl refl refl (ap (λ b. Some (Replied (cond b (reply.Refused why.TooManyTx) (reply.Begun (begun + 1))))) few) (sym (ap (λ b. cond b (state_at idle) (state_at started)) few)))
   begins (reply.Refused why.TooManyTx) rest a =
       let many : nat_le (2 ^ 63) begun ≡ true = ⊎_elim (λ (h : 64 ≤ 0). absurd (omega (arith, h))) (λ h. le-leb (2 ^ 63) begun h) a.0 in
-      said_so idle request.Begin (reply.Refused why.TooManyTx) rest idle a.1 refl refl refl (ap (λ b. Some (Replied (cond b (reply.Refused why.TooManyTx) (reply.Begun (begun + 1))))) many) (sym (ap (λ b. cond b (state_at idle) (state_at started)) many))
+      said_so idle step.Begin request.Begin (reply.Refused why.TooManyTx) rest idle a.1 refl refl refl (ap (λ b. Some (Replied (cond b (reply.Refused why.TooManyTx) (reply.Begun (begun + 1))))) many) (sym (ap (λ b. cond b (state_at idle) (state_at started)) many))
   begins _ rest a = absurd a.0
 
 -- ---- one transaction active
@@ -121,30 +121,30 @@ module _ (begun commits runs : ℕ) (m : PlainMap) (body : List Answered) where
     abbrev due_answer : Reply
     due_answer = answer op (left_on own_ops (fresh m))
 
-    answered : (told : Reply) (rest : Trace) → told ≡ due_answer → refusal_due (state_at busy) own_ops op ≡ None → Runs (next (machine_at busy) (effect_of_do begun op told)) rest → Told busy asks told rest
+    answered : (told : Reply) (rest : Trace) → told ≡ due_answer → refusal_due (state_at busy) own_ops op ≡ None → Runs (next (machine_at busy) (effect_of_do begun op told)) rest → Told busy (step.Do begun op) asks told rest
     answered told rest is none run =
         let counts : Counts told = answer_counts told (ap is_answer is ∙ answer_answers op (left_on own_ops (fresh m))) in
         let due_reply : reply_due (state_at busy) own_ops op ≡ told = ap (λ o. refused_or o due_answer) none ∙ sym is in
-        said_so busy asks told rest (record busy { runs = runs + runs_made op told; own = Some (body ++ (op, told) ∷ []) })
+        said_so busy (step.Do begun op) asks told rest (record busy { runs = runs + runs_made op told; own = Some (body ++ (op, told) ∷ []) })
         (subst (λ (x : machine.State). Runs x rest) (ap (next (machine_at busy)) (counts.effect begun op) ∙ next_did begun commits runs m body op told) run)
-        (λ i. (counts.active (Some begun) i, counts.commits commits i))
+        (λ i. (counts.active (Some begun) i, commits))
         counts.found refl
         (ap (λ r. Some (Replied r)) due_reply)
         ((λ i. record { begun = begun; commits = commits; runs = runs + runs_made op told; committed = m; own = Some (ops_did begun commits runs m body op told i) }) ∙ sym (counts.did (state_at busy) own_ops op) ∙ ap (state_did (state_at busy) own_ops op) (sym due_reply))
 
-    refused : (why : Refusal) (told : Reply) (rest : Trace) → told ≡ reply.Refused why → refusal_due (state_at busy) own_ops op ≡ Some why → Runs (next (machine_at busy) (effect_of_do begun op told)) rest → Told busy asks told rest
+    refused : (why : Refusal) (told : Reply) (rest : Trace) → told ≡ reply.Refused why → refusal_due (state_at busy) own_ops op ≡ Some why → Runs (next (machine_at busy) (effect_of_do begun op told)) rest → Told busy (step.Do begun op) asks told rest
     refused why told rest is due run =
         let due_reply : reply_due (state_at busy) own_ops op ≡ reply.Refused why = ap (λ o. refused_or o due_answer) due in
-        subst (λ (x : Reply). Told busy asks x rest) (sym is)
-        (said_so busy asks (reply.Refused why) rest busy (subst (λ (x : Reply). Runs (next (machine_at busy) (effect_of_do begun op x)) rest) is run) refl
+        subst (λ (x : Reply). Told busy (step.Do begun op) asks x rest) (sym is)
+        (said_so busy (step.Do begun op) asks (reply.Refused why) rest busy (subst (λ (x : Reply). Runs (next (machine_at busy) (effect_of_do begun op x)) rest) is run) refl
         (due_found begun commits runs m body op why due) refl (ap (λ r. Some (Replied r)) due_reply) (sym (ap (state_did (state_at busy) own_ops op) due_reply)))
 
-    did : (told : Reply) (rest : Trace) → After busy (step.Do begun op) told rest → Told busy asks told rest
+    did : (told : Reply) (rest : Trace) → After busy (step.Do begun op) told rest → Told busy (step.Do begun op) asks told rest
     did told rest a = by_due (refusal_due (state_at busy) own_ops op) refl (subst (λ (o : Option Refusal). MatchOption o ((told ≡ answer op (view (machine_at busy) begun)) ⊎ (told ≡ reply.Refused why.NoMemory)) (λ why. told ≡ reply.Refused why)) (due_is begun commits runs m body op) a.0)
       where
-        by_due : (o : Option Refusal) → refusal_due (state_at busy) own_ops op ≡ o → MatchOption o ((told ≡ answer op (view (machine_at busy) begun)) ⊎ (told ≡ reply.Refused why.NoMemory)) (λ why. told ≡ reply.Refused why) → Told busy asks told rest
+        by_due : (o : Option Refusal) → refusal_due (state_at busy) own_ops op ≡ o → MatchOption o ((told ≡ answer op (view (machine_at busy) begun)) ⊎ (told ≡ reply.Refused why.NoMemory)) (λ why. told ≡ reply.Refused why) → Told busy (step.Do begun op) asks told rest
         by_due None none (inl is) = answered told rest (is ∙ ap (answer op) (one_view begun commits runs m body)) none a.1
-        by_due None none (inr wants) = subst (λ (x : Reply). Told busy asks x rest) (sym wants) (refused_step busy asks rest (subst (λ (x : Reply). Runs (next (machine_at busy) (effect_of_do begun op x)) rest) wants a.1))
+        by_due None none (inr wants) = subst (λ (x : Reply). Told busy (step.Do begun op) asks x rest) (sym wants) (refused_step busy (step.Do begun op) asks rest refl (subst (λ (x : Reply). Runs (next (machine_at busy) (effect_of_do begun op x)) rest) wants a.1))
         by_due (Some w) due is = refused w told rest is due a.1
 
   closed : Where
@@ -153,17 +153,17 @@ module _ (begun commits runs : ℕ) (m : PlainMap) (body : List Answered) where
   not_open : {P : Type 0} → machine.is_open (actives begun (Some body)) begun ≡ false → P
   not_open h = absurd (true≢false (sym (ap (λ b. b || false) (itself begun)) ∙ h))
 
-  commits_own : (told : Reply) (rest : Trace) → After busy (step.Commit begun) told rest → Told busy request.Commit told rest
+  commits_own : (told : Reply) (rest : Trace) → After busy (step.Commit begun) told rest → Told busy (step.Commit begun) request.Commit told rest
   commits_own (reply.Committed k) rest a =
-      subst (λ (x : ℕ). Told busy request.Commit (reply.Committed x) rest) (sym a.0.1)
-      (said_so busy request.Commit (reply.Committed (commits + 1)) rest (record busy { commits = commits + 1; committed = left own_ops m; own = None })
+      subst (λ (x : ℕ). Told busy (step.Commit begun) request.Commit (reply.Committed x) rest) (sym a.0.1)
+      (said_so busy (step.Commit begun) request.Commit (reply.Committed (commits + 1)) rest (record busy { commits = commits + 1; committed = left own_ops m; own = None })
       (subst (λ (x : machine.State). Runs x rest) (next_committed begun commits runs m body) a.1) refl refl refl refl refl)
   commits_own (reply.Refused why.NoSuchTx) rest a = not_open a.0
   commits_own _ rest a = absurd a.0
 
-  aborts_own : (told : Reply) (rest : Trace) → After busy (step.Abort begun) told rest → Told busy request.Abort told rest
+  aborts_own : (told : Reply) (rest : Trace) → After busy (step.Abort begun) told rest → Told busy (step.Abort begun) request.Abort told rest
   aborts_own reply.Aborted rest a =
-      said_so busy request.Abort reply.Aborted rest (record busy { own = None })
+      said_so busy (step.Abort begun) request.Abort reply.Aborted rest (record busy { own = None })
       (subst (λ (x : machine.State). Runs x rest) (next_aborted begun commits runs m body) a.1) refl refl refl refl refl
   aborts_own (reply.Refused why.NoSuchTx) rest a = not_open a.0
   aborts_own _ rest a = absurd a.0
@@ -171,9 +171,9 @@ module _ (begun commits runs : ℕ) (m : PlainMap) (body : List Answered) where
 -- ---- MERGE and CLEAN
 
 -- the machine is where it was
-kept_up : (w : Where) (asked : Request) (told : Reply) (rest : Trace) → Runs (machine_at w) rest → (active_after (standing_at w).0 told, commits_after w.commits told) ≡ standing_at w →
-    wants_memory (Replied told) ≡ false → is_upkeep (said.Asked asked) ≡ true → response_due (state_at w) (said.Asked asked) ≡ None → state_at w ≡ state_heard (state_at w) (said.Asked asked) → Told w asked told rest
-kept_up w asked told rest run standing memory upkeep says same = record { to = w; runs = run; standing = standing; outcome = inr (inl (memory, upkeep, says, same)) }
+kept_up : (w : Where) (s : Step) (asked : Request) (told : Reply) (rest : Trace) → Runs (machine_at w) rest → (active_after (standing_at w).0 told, commits_after w.commits s told) ≡ standing_at w →
+    wants_memory (Replied told) ≡ false → is_upkeep (said.Asked asked) ≡ true → response_due (state_at w) (said.Asked asked) ≡ None → state_at w ≡ state_heard (state_at w) (said.Asked asked) → Told w s asked told rest
+kept_up w s asked told rest run standing memory upkeep says same = record { to = w; runs = run; standing = standing; outcome = inr (inl (memory, upkeep, says, same)) }
 
 -- neither is said
 record IsUpkeep (w : Where) (asked : Request) : Type 0 where
@@ -188,19 +188,19 @@ merge_unsaid w limit = by_own w.own refl
     by_own None e = record { is = refl; unsaid = ap (λ o. say.answer_to (state_at w) (option_map ops_of o) (request.Merge limit)) e; same = sym (ap (λ o. say.state_asked (state_at w) (option_map ops_of o) (request.Merge limit)) e) }
     by_own (Some body) e = record { is = refl; unsaid = ap (λ o. say.answer_to (state_at w) (option_map ops_of o) (request.Merge limit)) e; same = sym (ap (λ o. say.state_asked (state_at w) (option_map ops_of o) (request.Merge limit)) e) }
 
-merges : (w : Where) (limit : ℕ) (told : Reply) (rest : Trace) → After w (step.Merge limit) told rest → Told w (request.Merge limit) told rest
+merges : (w : Where) (limit : ℕ) (told : Reply) (rest : Trace) → After w (step.Merge limit) told rest → Told w (step.Merge limit) (request.Merge limit) told rest
 merges w limit told rest a = by_told told a
   where
     u : IsUpkeep w (request.Merge limit)
     u = merge_unsaid w limit
 
-    by_told : (told : Reply) → After w (step.Merge limit) told rest → Told w (request.Merge limit) told rest
-    by_told (reply.Moved n run) a = kept_up w (request.Merge limit) (reply.Moved n run) rest a.1 refl refl u.is u.unsaid u.same
-    by_told reply.MergeDone a = kept_up w (request.Merge limit) reply.MergeDone rest a.1 refl refl u.is u.unsaid u.same
-    by_told (reply.Ended k h) a = kept_up w (request.Merge limit) (reply.Ended k h) rest a.1 refl refl u.is u.unsaid u.same
-    by_told reply.Idle a = kept_up w (request.Merge limit) reply.Idle rest a.1 refl refl u.is u.unsaid u.same
-    by_told (reply.Refused why.BadLimit) a = kept_up w (request.Merge limit) (reply.Refused why.BadLimit) rest a.1 refl refl u.is u.unsaid u.same
-    by_told (reply.Refused why.NoMemory) a = refused_step w (request.Merge limit) rest a.1
+    by_told : (told : Reply) → After w (step.Merge limit) told rest → Told w (step.Merge limit) (request.Merge limit) told rest
+    by_told (reply.Moved n run) a = kept_up w (step.Merge limit) (request.Merge limit) (reply.Moved n run) rest a.1 refl refl u.is u.unsaid u.same
+    by_told reply.MergeDone a = kept_up w (step.Merge limit) (request.Merge limit) reply.MergeDone rest a.1 refl refl u.is u.unsaid u.same
+    by_told (reply.Ended k h) a = kept_up w (step.Merge limit) (request.Merge limit) (reply.Ended k h) rest a.1 refl refl u.is u.unsaid u.same
+    by_told reply.Idle a = kept_up w (step.Merge limit) (request.Merge limit) reply.Idle rest a.1 refl refl u.is u.unsaid u.same
+    by_told (reply.Refused why.BadLimit) a = kept_up w (step.Merge limit) (request.Merge limit) (reply.Refused why.BadLimit) rest a.1 refl refl u.is u.unsaid u.same
+    by_told (reply.Refused why.NoMemory) a = refused_step w (step.Merge limit) (request.Merge limit) rest refl a.1
     by_told _ a = absurd a.0
 
 clean_unsaid : (w : Where) (range : Interval) (limit : ℕ) → IsUpkeep w (request.Clean range limit)
@@ -210,16 +210,16 @@ clean_unsaid w range limit = by_own w.own refl
     by_own None e = record { is = refl; unsaid = ap (λ o. say.answer_to (state_at w) (option_map ops_of o) (request.Clean range limit)) e; same = sym (ap (λ o. say.state_asked (state_at w) (option_map ops_of o) (request.Clean range limit)) e) }
     by_own (Some body) e = record { is = refl; unsaid = ap (λ o. say.answer_to (state_at w) (option_map ops_of o) (request.Clean range limit)) e; same = sym (ap (λ o. say.state_asked (state_at w) (option_map ops_of o) (request.Clean range limit)) e) }
 
-cleans : (w : Where) (range : Interval) (limit : ℕ) (told : Reply) (rest : Trace) → After w (step.Clean range limit) told rest → Told w (request.Clean range limit) told rest
+cleans : (w : Where) (range : Interval) (limit : ℕ) (told : Reply) (rest : Trace) → After w (step.Clean range limit) told rest → Told w (step.Clean range limit) (request.Clean range limit) told rest
 cleans w range limit told rest a = by_told told a
   where
     u : IsUpkeep w (request.Clean range limit)
     u = clean_unsaid w range limit
 
-    by_told : (told : Reply) → After w (step.Clean range limit) told rest → Told w (request.Clean range limit) told rest
-    by_told (reply.Cleaned n) a = kept_up w (request.Clean range limit) (reply.Cleaned n) rest a.1 refl refl u.is u.unsaid u.same
-    by_told (reply.Refused why.BadLimit) a = kept_up w (request.Clean range limit) (reply.Refused why.BadLimit) rest a.1 refl refl u.is u.unsaid u.same
-    by_told (reply.Refused why.NoMemory) a = refused_step w (request.Clean range limit) rest a.1
+    by_told : (told : Reply) → After w (step.Clean range limit) told rest → Told w (step.Clean range limit) (request.Clean range limit) told rest
+    by_told (reply.Cleaned n) a = kept_up w (step.Clean range limit) (request.Clean range limit) (reply.Cleaned n) rest a.1 refl refl u.is u.unsaid u.same
+    by_told (reply.Refused why.BadLimit) a = kept_up w (step.Clean range limit) (request.Clean range limit) (reply.Refused why.BadLimit) rest a.1 refl refl u.is u.unsaid u.same
+    by_told (reply.Refused why.NoMemory) a = refused_step w (step.Clean range limit) (request.Clean range limit) rest refl a.1
     by_told _ a = absurd a.0
 
 -- ---- each line
@@ -311,9 +311,25 @@ leads_line w line h may r own rest at' answered run =
     (λ (refused : h ≡ said.Faulty fault.NoMemory). refused_line w (heard line) r own rest at' (subst (λ (x : Heard). AnsweredBy (standing_at w) (due (standing_at w).0 x) r own at') refused answered) run)
     (heard_so line h may)
 
-pub dialogues_say : (auto : ℕ) (exchanges : List Exchange) (w : Where) (at : Standing) (trace : Trace) → at ≡ standing_at w → Runs (machine_at w) trace → Dialogue auto at exchanges trace → SaysFrom (state_at w) exchanges
-dialogues_say auto [] w at trace here run d = refl
-dialogues_say auto (e ∷ exchanges) w at trace here run d =
-    let led : Leads w (heard e.0) e.1 d.3 d.5 = leads_line w e.0 d.0 d.1 e.1 d.2 d.3 d.5 (subst (λ (x : Standing). AnsweredBy x (due x.0 d.0) e.1 d.2 d.5) here d.6) (subst (Runs (machine_at w)) d.7 run) in
-    says_next e exchanges (state_at w) (state_at led.to) led.outcome
-    (dialogues_say auto exchanges led.to d.5 d.4 led.standing (merged_between auto led.to d.3 d.4 d.8 led.runs) d.9)
+-- what a dialogue's end says of the last lines
+abbrev EndsSaying : Ends → List Exchange → Type 0
+EndsSaying ends tail = (w : Where) (at : Standing) (trace : Trace) → at ≡ standing_at w → Runs (machine_at w) trace → ends at trace → SaysFrom (state_at w) tail
+
+answers_so : (w : Where) (at : Standing) (e : Exchange) (own rest : Trace) (at' : Standing) → at ≡ standing_at w → AnswersLine at e own at' → Runs (machine_at w) (own ++ rest) → Leads w (heard e.0) e.1 rest at'
+answers_so w at e own rest at' here a run = leads_line w e.0 a.0 a.1 e.1 own rest at' (subst (λ (x : Standing). AnsweredBy x (due x.0 a.0) e.1 own at') here a.2) run
+
+pub whole_says : EndsSaying Whole []
+whole_says w at trace here run ended = refl
+
+pub torn_says : (last : Exchange) → EndsSaying (TornAt last) (last ∷ [])
+torn_says last w at trace here run d =
+    let led : Leads w (heard last.0) last.1 d.1 d.2 = answers_so w at last d.0 d.1 d.2 here d.3 (subst (Runs (machine_at w)) d.4 run) in
+    says_next last [] (state_at w) (state_at led.to) led.outcome refl
+
+pub dialogues_say : (auto : ℕ) (ends : Ends) (tail : List Exchange) → EndsSaying ends tail → (exchanges : List Exchange) (w : Where) (at : Standing) (trace : Trace) → at ≡ standing_at w → Runs (machine_at w) trace →
+    Dialogue auto ends at exchanges trace → SaysFrom (state_at w) (exchanges ++ tail)
+dialogues_say auto ends tail ending [] w at trace here run d = ending w at trace here run d
+dialogues_say auto ends tail ending (e ∷ exchanges) w at trace here run d =
+    let led : Leads w (heard e.0) e.1 d.1 d.3 = answers_so w at e d.0 d.1 d.3 here d.4 (subst (Runs (machine_at w)) d.5 run) in
+    says_next e (exchanges ++ tail) (state_at w) (state_at led.to) led.outcome
+    (dialogues_say auto ends tail ending exchanges led.to d.3 d.2 led.standing (merged_between auto led.to d.1 d.2 d.6 led.runs) d.7)

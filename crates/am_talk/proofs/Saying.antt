@@ -18,7 +18,7 @@ use Rattle.am_serial.specs.Trace.{Answered, ops_of, Answers, Commits, Aborts, ef
 use Rattle.am_serial.specs.Machine as machine
 use Rattle.am_serial.specs.Machine.{Transaction, due, due_early, due_lock, or_else, busy, blocker, is_one_too_many, is_bounded, is_load, next, Runs, May, view}
 use Rattle.am_talk.specs.Dues.{active_after}
-use Rattle.am_talk.specs.Dialogue.{Standing, commits_after}
+use Rattle.am_talk.specs.Dialogue.{Standing}
 use Rattle.am_talk.specs.Say as say
 use Rattle.am_talk.specs.Say.{refusal_due, reply_due, begin_due, state_did, wants_memory}
 use Rattle.am_talk.specs.declared.response.Response.TheVariants.{Replied}
@@ -112,16 +112,15 @@ pub record Counts (r : Reply) : Type 0 where
   pub effect : (t : ℕ) (op : Op) → effect_of_do t op r ≡ Answers t op r
   pub did : (s : say.State) (ops : List Op) (op : Op) → state_did s ops op r ≡ record s { runs = s.runs + runs_made op r; own = Some (ops ++ op ∷ []) }
   pub active : (a : Option ℕ) → active_after a r ≡ a
-  pub commits : (c : ℕ) → commits_after c r ≡ c
 
 pub answer_counts : (r : Reply) → is_answer r ≡ true → Counts r
-answer_counts reply.Done h = record { found = refl; effect = λ t op. refl; did = λ s ops op. refl; active = λ a. refl; commits = λ c. refl }
-answer_counts (reply.Found v) h = record { found = refl; effect = λ t op. refl; did = λ s ops op. refl; active = λ a. refl; commits = λ c. refl }
-answer_counts reply.Absent h = record { found = refl; effect = λ t op. refl; did = λ s ops op. refl; active = λ a. refl; commits = λ c. refl }
-answer_counts (reply.Rows rows) h = record { found = refl; effect = λ t op. refl; did = λ s ops op. refl; active = λ a. refl; commits = λ c. refl }
-answer_counts (reply.Exists k) h = record { found = refl; effect = λ t op. refl; did = λ s ops op. refl; active = λ a. refl; commits = λ c. refl }
-answer_counts reply.Missing h = record { found = refl; effect = λ t op. refl; did = λ s ops op. refl; active = λ a. refl; commits = λ c. refl }
-answer_counts reply.NoMark h = record { found = refl; effect = λ t op. refl; did = λ s ops op. refl; active = λ a. refl; commits = λ c. refl }
+answer_counts reply.Done h = record { found = refl; effect = λ t op. refl; did = λ s ops op. refl; active = λ a. refl }
+answer_counts (reply.Found v) h = record { found = refl; effect = λ t op. refl; did = λ s ops op. refl; active = λ a. refl }
+answer_counts reply.Absent h = record { found = refl; effect = λ t op. refl; did = λ s ops op. refl; active = λ a. refl }
+answer_counts (reply.Rows rows) h = record { found = refl; effect = λ t op. refl; did = λ s ops op. refl; active = λ a. refl }
+answer_counts (reply.Exists k) h = record { found = refl; effect = λ t op. refl; did = λ s ops op. refl; active = λ a. refl }
+answer_counts reply.Missing h = record { found = refl; effect = λ t op. refl; did = λ s ops op. refl; active = λ a. refl }
+answer_counts reply.NoMark h = record { found = refl; effect = λ t op. refl; did = λ s ops op. refl; active = λ a. refl }
 answer_counts _ h = absurd (false≢true h)
 
 module _ (begun commits runs : ℕ) (m : PlainMap) (body : List Answered) where

@@ -1,5 +1,6 @@
 -- A session alone, line by line: the answers, and the steps that were taken.
 use Rattle.std.specs.Prelude.{◌≡◌, ℕ, ◌+◌, ◌==◌, List, [], ◌∷◌, ◌++◌, Option, Some, None, MatchBool}
+use Rattle.am_record.specs.declared.step.Step.{Step}
 use Rattle.am_record.specs.declared.step.Step.TheVariants as step
 use Rattle.am_record.specs.declared.step.Reply.{Reply}
 use Rattle.am_record.specs.declared.step.Reply.TheVariants as reply
@@ -16,10 +17,10 @@ use Rattle.am_talk.specs.declared.response.Response.TheVariants.{Replied, Seen}
 abbrev pub Exchange : Type 0
 Exchange = Line × Response
 
--- how many commits there are after a reply
-abbrev pub commits_after : ℕ → Reply → ℕ
-commits_after commits (reply.Committed number) = commits + 1
-commits_after commits _ = commits
+-- how many commits there are after a step
+abbrev pub commits_after : ℕ → Step → Reply → ℕ
+commits_after commits (step.Commit tx) (reply.Committed number) = commits + 1
+commits_after commits _ _ = commits
 
 -- what a session stands at between two lines: the active transaction, and the commits so far
 abbrev pub Standing : Type 0
@@ -28,7 +29,7 @@ Standing = Option ℕ × ℕ
 -- What was due was answered by this response, with these events; SEEN tells 0, a session alone, and the commits.
 abbrev pub AnsweredBy : Standing → Due → Response → Trace → Standing → Type 0
 AnsweredBy at (Answer due) response events at' = (response ≡ due) × (events ≡ []) × (at' ≡ at)
-AnsweredBy at (Take step) response events at' = (told : Reply) × (response ≡ Replied told) × (events ≡ (step, told) ∷ []) × (at' ≡ (active_after at.0 told, commits_after at.1 told))
+AnsweredBy at (Take step) response events at' = (told : Reply) × (response ≡ Replied told) × (events ≡ (step, told) ∷ []) × (at' ≡ (active_after at.0 told, commits_after at.1 step told))
 AnsweredBy at TellSeen response events at' = (response ≡ Seen 0 at.1) × (events ≡ []) × (at' ≡ at)
 
 -- a merge follows each answer, unless `auto` is 0
@@ -40,9 +41,22 @@ abbrev pub Leaves : Option ℕ → Trace → Type 0
 Leaves None events = events ≡ []
 Leaves (Some tx) events = events ≡ (step.Abort tx, reply.Aborted) ∷ []
 
+-- the line was answered by this response, with these events
+abbrev pub AnswersLine : Standing → Exchange → Trace → Standing → Type 0
+AnswersLine at e events at' = (heard : Heard) × MayHear e.0 heard × AnsweredBy at (due at.0 heard) e.1 events at'
+
+-- how a dialogue ends: all is answered, or the answer to one more line was torn, and no merge follows it
+abbrev pub Ends : Type 1
+Ends = Standing → Trace → Type 0
+
+abbrev pub Whole : Ends
+Whole at events = Leaves at.0 events
+
+abbrev pub TornAt : Exchange → Ends
+TornAt last at events = (own rest : Trace) × (at' : Standing) × AnswersLine at last own at' × (events ≡ own ++ rest) × Leaves at'.0 rest
+
 -- the lines were answered in order, and these are all events, the last abort among them
-abbrev pub Dialogue : ℕ → Standing → List Exchange → Trace → Type 0
-Dialogue auto at [] events = Leaves at.0 events
-Dialogue auto at (e ∷ exchanges) events =
-    (heard : Heard) × MayHear e.0 heard × (own rest later : Trace) × (at' : Standing) × AnsweredBy at (due at.0 heard) e.1 own at'
-    × (events ≡ own ++ rest) × Merges auto rest later × Dialogue auto at' exchanges later
+abbrev pub Dialogue : ℕ → Ends → Standing → List Exchange → Trace → Type 0
+Dialogue auto ends at [] events = ends at events
+Dialogue auto ends at (e ∷ exchanges) events =
+    (own rest later : Trace) × (at' : Standing) × AnswersLine at e own at' × (events ≡ own ++ rest) × Merges auto rest later × Dialogue auto ends at' exchanges later
