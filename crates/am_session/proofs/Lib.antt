@@ -1,0 +1,4 @@
+pub mod Streams
+pub mod Hearing
+pub mod Talking
+pub mod Ending

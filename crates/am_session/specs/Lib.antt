@@ -1,0 +1,4 @@
+pub mod Talk
+pub mod Answering
+pub mod Served
+pub mod Pauses

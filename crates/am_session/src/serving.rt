@@ -1,0 +1,149 @@
+//! A session over any backend, to its end.
+
+ghost use Rattle.std.specs.Prelude.{◌≡◌, ℕ, ◌+◌, ◌^◌, ◌<◌, ◌≤◌, [], take, false, Option, Some, None, OnOk, OnErr};
+ghost use Rattle.am_wire.specs.Giving.{Gave};
+ghost use Rattle.am_talk.specs.Responses.{bye};
+ghost use Rattle.am_session.specs.Served.{Served, read_failures, write_failures, IsSentOn};
+ghost use Rattle.am_session.specs.Pauses.{Talked, Left, reads_failed, writes_failed, IsSentBy};
+
+use crate::backend::Backend;
+use crate::conversation::{answer, merge, next_line};
+use crate::end::End;
+use am_record::Step;
+use am_talk::hear;
+use am_wire::{Failed, Input, LineBuffer, Sink, Source, give_all};
+use std::alloc::Global;
+use std::sync::Wait;
+
+/// Why no further line is answered.
+#[derive(Clone, Copy, Debug, PartialEq, Eq)]
+enum Pause {
+    Quit,
+    EndOfInput,
+    ReadFailed,
+    WriteFailed,
+}
+
+// Answers QUIT, and sends the answer on.
+fn say_bye<K: Sink>(sink: &mut K) -> Result<(), Failed>
+    requires countable { K.failures sink.old < 2 ^ 63 }
+    ensures given { OnOk result (Gave K.holds sink.old bye sink.new) }
+    ensures sent { OnOk result (K.pending sink.new ≡ false) }
+    ensures ok { OnOk result (K.failures sink.new ≡ K.failures sink.old) }
+    ensures failed { OnErr result (K.failures sink.new ≡ K.failures sink.old + 1) }
+    ensures torn { OnErr result ((n : ℕ) × Gave K.holds sink.old (take n bye) sink.new) }
+{
+    give_all(sink, b"BYE\n")?;
+    sink.flush()
+}
+
+// Answers the lines of a source up to the first QUIT.
+fn talk<W: Wait, S: Source, K: Sink, B: Backend>(
+    rt: &W,
+    alloc: Global,
+    input: &mut Input,
+    line: &mut LineBuffer,
+    source: &mut S,
+    sink: &mut K,
+    backend: &mut B,
+    active: &mut Option<u64>,
+    auto: u64,
+) -> Pause
+    requires fresh { input.old ≡ [] }
+    requires source_countable { S.failures source.old < 2 ^ 63 }
+    requires sink_countable { K.failures sink.old < 2 ^ 63 }
+    requires sent { K.pending sink.old ≡ false }
+    requires active { B.active backend.old ≡ active.old }
+    ensures active { B.active backend.new ≡ active.new }
+    ensures talked { Talked S.comes K.holds B.active B.goes B.tells auto source.old sink.old backend.old source.new sink.new backend.new result }
+    ensures sent { IsSentBy result (K.pending sink.new ≡ false) }
+    ensures source_failures { S.failures source.new ≡ S.failures source.old + reads_failed result }
+    ensures sink_failures { K.failures sink.new ≡ K.failures sink.old + writes_failed result }
+{
+    'lines: for _ in rt.forever() {
+        let Ok(next) = next_line(rt, input, source, sink, line) else {
+            return Pause::ReadFailed;
+        };
+        let Some(found) = next else {
+            return Pause::EndOfInput;
+        };
+        let heard = hear(alloc, found.kind, line.as_slice());
+        if heard.is_quit() {
+            return Pause::Quit;
+        }
+        let Ok(()) = answer(rt, sink, backend, active, heard) else {
+            return Pause::WriteFailed;
+        };
+        merge(rt, backend, active, auto);
+        if !found.is_ended {
+            return Pause::EndOfInput;
+        }
+    }
+    unreachable!()
+}
+
+// Aborts the transaction that is active, if one is.
+fn leave<W: Wait, B: Backend>(rt: &W, backend: &mut B, active: Option<u64>)
+    requires { B.active backend.old ≡ active }
+    ensures left { Left B.active B.goes B.tells active backend.old backend.new }
+    ensures none { B.active backend.new ≡ None }
+{
+    if let Some(tx) = active {
+        let _ = backend.call(rt, Step::Abort(tx));
+    }
+}
+
+/// Answers the lines of a source up to the first QUIT, each by one line, merges once after each answer where `auto` is
+/// above 0, and at the end aborts what is active. The sink has nothing that isn't sent on.
+///
+/// The backend takes the steps of the lines, the merges and the last Abort; each line that is written is the text of a
+/// line's fault, or of the reply to its step, however the source cuts its bytes. Each answer is sent on before more is
+/// asked of the source.
+pub fn serve<W: Wait, S: Source, K: Sink, B: Backend>(
+    rt: &W,
+    alloc: Global,
+    source: &mut S,
+    sink: &mut K,
+    backend: &mut B,
+    auto: u64,
+) -> End
+    requires source_countable { S.failures source.old < 2 ^ 63 }
+    requires sink_countable { K.failures sink.old < 2 ^ 63 }
+    requires sent { K.pending sink.old ≡ false }
+    requires idle { B.active backend.old ≡ None }
+    requires limit { auto ≤ 64 }
+    ensures served { Served S.comes K.holds B.active B.goes B.tells auto source.old sink.old backend.old source.new sink.new backend.new result }
+    ensures idle { B.active backend.new ≡ None }
+    ensures sent { IsSentOn result (K.pending sink.new ≡ false) }
+    ensures source_failures { S.failures source.new ≡ S.failures source.old + read_failures result }
+    ensures sink_failures { K.failures sink.new ≡ K.failures sink.old + write_failures result }
+{
+    let Ok(mut input) = Input::new(alloc) else {
+        return End::NoMemory;
+    };
+    let Ok(mut line) = LineBuffer::new(alloc) else {
+        return End::NoMemory;
+    };
+    let mut active = None;
+    let pause = talk(
+        rt,
+        alloc,
+        &mut input,
+        &mut line,
+        source,
+        sink,
+        backend,
+        &mut active,
+        auto,
+    );
+    leave(rt, backend, active);
+    match pause {
+        Pause::EndOfInput => End::EndOfInput,
+        Pause::ReadFailed => End::ReadFailed,
+        Pause::WriteFailed => End::WriteFailed,
+        Pause::Quit => match say_bye(sink) {
+            Ok(()) => End::Quit,
+            Err(Failed) => End::WriteFailed,
+        },
+    }
+}
