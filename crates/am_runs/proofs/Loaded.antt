@@ -18,7 +18,7 @@ use Rattle.am_list.proofs.Lists.{AllByRecursion-map}
 use Rattle.am_list.proofs.Edits.{find-miss, other_part, other_key, entry_at_inserted, entry_at_beside_inserted, insert_back}
 use Rattle.am_list.proofs.ContentLaws.{get_beside_inserted}
 use Rattle.am_parts.specs.Partitions.{Partitions, IsSound}
-use Rattle.am_runs.specs.Runs.{is_run}
+use Rattle.am_record.specs.Plain.{is_rising}
 use Rattle.am_runs.specs.Loads.{live_entry, with_run, NothingAbove, IsAwaited, HoldsRun, IsLoaded}
 use Rattle.am_runs.proofs.Rising.{Record, Below, sorted_parts, run_sorted, take_next, drop_next}
 use Rattle.am_runs.proofs.Taken.{NoneTaken}
@@ -135,7 +135,7 @@ both_absent : (part : ℕ) (rs : Records) (es : List Entry) → ((key : OrderedK
 both_absent part [] es empty none = tt
 both_absent part (r ∷ rs) es empty none = ((empty r.0, none.0), both_absent part rs es empty none.1)
 
-pub awaited : {part : ℕ} {rs : Records} {es : List Entry} → IsSound es → NothingAbove part es → is_run rs ≡ true → NoneTaken (content es) rs → IsAwaited (part + 1) rs es
+pub awaited : {part : ℕ} {rs : Records} {es : List Entry} → IsSound es → NothingAbove part es → is_rising rs ≡ true → NoneTaken (content es) rs → IsAwaited (part + 1) rs es
 awaited {part} {rs} {es} sound above run none = record {
   rising = sound.rising;
   one_place = sound.one_place;

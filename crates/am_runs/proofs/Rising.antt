@@ -10,7 +10,7 @@ use Rattle.std.specs.FinMap.Entries.{below_all}
 use Rattle.am_record.specs.OrderedKey.{OrderedKey, key_cmp, key_cmp-total, key_least}
 use Rattle.am_record.specs.Plain.{Records}
 use Rattle.am_list.proofs.Lists.{AllByRecursion-map}
-use Rattle.am_runs.specs.Runs.{is_run}
+use Rattle.am_record.specs.Plain.{is_rising}
 
 abbrev pub Record : Type 0
 Record = OrderedKey × List ℕ
@@ -44,15 +44,23 @@ pub sorted_from : (r : Record) (rs : Records) → Below r.0 rs → is_sorted key
 sorted_from r rs b h = and_from (below_all key_cmp r.0 rs) (is_sorted key_cmp rs) (below_from r.0 rs b) h
 
 -- the records of a run rise, and records that rise are a run where there are some
-pub run_sorted : (rs : Records) → is_run rs ≡ true → is_sorted key_cmp rs ≡ true
+pub run_sorted : (rs : Records) → is_rising rs ≡ true → is_sorted key_cmp rs ≡ true
 run_sorted [] h = refl
 run_sorted (r ∷ rs) h = h
 
-pub sorted_run : (rs : Records) → 0 < length rs → is_sorted key_cmp rs ≡ true → is_run rs ≡ true
+pub sorted_run : (rs : Records) → 0 < length rs → is_sorted key_cmp rs ≡ true → is_rising rs ≡ true
 sorted_run [] some h = absurd (omega arith)
 sorted_run (r ∷ rs) some h = h
 
-pub run_some : (rs : Records) → is_run rs ≡ true → 0 < length rs
+pub rising_none : (rs : Records) → length rs ≡ 0 → is_rising rs ≡ false
+rising_none [] h = refl
+rising_none (r ∷ rs) h = absurd (omega arith)
+
+pub rising_some : (rs : Records) → 0 < length rs → is_rising rs ≡ is_sorted key_cmp rs
+rising_some [] h = absurd (omega arith)
+rising_some (r ∷ rs) h = refl
+
+pub run_some : (rs : Records) → is_rising rs ≡ true → 0 < length rs
 run_some [] h = absurd (true≢false (sym h))
 run_some (r ∷ rs) h = omega arith
 

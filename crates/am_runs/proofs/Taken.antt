@@ -15,7 +15,7 @@ use Rattle.am_list.specs.Content.{content}
 use Rattle.am_list.proofs.Lists.{AllByRecursion-append}
 use Rattle.am_record.specs.declared.entry.Entry.{Entry}
 use Rattle.am_parts.specs.Partitions.{LivesIn}
-use Rattle.am_runs.specs.Runs.{is_run}
+use Rattle.am_record.specs.Plain.{is_rising}
 use Rattle.am_runs.proofs.Rising.{Record, Below, sorted_parts, run_sorted, split_at, take_next}
 
 abbrev key_eq : OrderedKey → OrderedKey → Bool
@@ -219,7 +219,7 @@ module _ (es : List Entry) (key : OrderedKey) where
   dead_free (Some part) dead h = absurd (true≢false h)
 
 module _ (es : List Entry) (rs : Records) (i : ℕ) (r : Record) (in_range : i < length rs) (is : r ≡ get_or rs i r) (none : NoneTaken (content es) (take i rs)) (o : Option ℕ) where
-  pub first_live : is_run rs ≡ true → IfSome o (λ part. LivesIn es part r.0) → is_some o ≡ true → Some r.0 ≡ least_taken rs (content es)
+  pub first_live : is_rising rs ≡ true → IfSome o (λ part. LivesIn es part r.0) → is_some o ≡ true → Some r.0 ≡ least_taken rs (content es)
   first_live run live h =
       let whole : take i rs ++ r ∷ drop (suc i) rs ≡ rs = split_at rs i r in_range is in
       let sorted : is_sorted key_cmp (take i rs ++ r ∷ drop (suc i) rs) ≡ true = ap (is_sorted key_cmp) whole ∙ run_sorted rs run in

@@ -5,7 +5,7 @@ use Rattle.std.specs.List.Sorted.{IsPermutation}
 use Rattle.am_record.specs.OrderedKey.{OrderedKey, key_cmp}
 use Rattle.am_record.specs.Interval.{key_le}
 use Rattle.am_record.specs.Plain.{Records}
-use Rattle.am_runs.specs.Runs.{is_run}
+use Rattle.am_record.specs.Plain.{is_rising}
 use Rattle.am_runs.specs.declared.fault.LoadFault.{LoadFault}
 use Rattle.am_runs.specs.declared.fault.LoadFault.TheVariants.{NotRising, BadSize, Twice, NoMemory}
 
@@ -27,7 +27,7 @@ pub record IsLeastTwice (keys : List OrderedKey) (key : OrderedKey) : Type 0 whe
 
 -- the records of the piece, all of them, by rising key
 pub record IsRunOf (piece run : Records) : Type 0 where
-  pub rising : is_run run ≡ true
+  pub rising : is_rising run ≡ true
   pub same : IsPermutation piece run
 
 -- the first n records make the first run, the next n the second, and so on; the last run may have fewer

@@ -1,12 +1,12 @@
 -- What a load of a run answers, and what it does to the partitions.
-use Rattle.std.specs.Prelude.{◌≡◌, ◌+◌, ◌<◌, ◌≤◌, ◌==◌, ◌⊎◌, ℕ, List, [], ◌∷◌, true, false, Option, Some, None, if◌then◌else◌}
+use Rattle.std.specs.Prelude.{◌≡◌, ◌+◌, ◌<◌, ◌≤◌, ◌==◌, ◌⊎◌, ℕ, List, [], ◌∷◌, true, false, None, if◌then◌else◌}
 use Rattle.std.specs.List.{AllByRecursion}
 use Rattle.std.specs.FinMap.{get, is_sorted}
 use Rattle.am_record.specs.OrderedKey.{OrderedKey, key_cmp}
-use Rattle.am_record.specs.Plain.{Records, is_key_of, insert_all, least_taken}
+use Rattle.am_record.specs.Plain.{Records, is_key_of, insert_all, least_taken, exists_or_done}
 use Rattle.am_record.specs.declared.entry.Entry.{Entry}
 use Rattle.am_record.specs.declared.step.Reply.{Reply}
-use Rattle.am_record.specs.declared.step.Reply.TheVariants.{Done, Exists, Refused}
+use Rattle.am_record.specs.declared.step.Reply.TheVariants.{Done, Refused}
 use Rattle.am_record.specs.declared.step.Refusal.TheVariants.{TooManyRuns, NoMemory}
 use Rattle.am_list.specs.Entries.{find, insert_entry, IsRising}
 use Rattle.am_list.specs.Content.{content, OnePlace, HasContent}
@@ -24,10 +24,6 @@ with_run part (r ∷ rs) es = with_run part rs (insert_entry es (live_entry part
 -- no entry stands above the partition
 pub record NothingAbove (part : ℕ) (es : List Entry) : Type 0 where
   pub all : AllByRecursion (λ e. e.part ≤ part) es
-
-abbrev pub exists_or_done : Option OrderedKey → Reply
-exists_or_done None = Done
-exists_or_done (Some key) = Exists key
 
 -- the reply that is due, where memory is ample
 abbrev pub load_due : Partitions → Records → Reply

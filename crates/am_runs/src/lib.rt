@@ -13,4 +13,4 @@ pub use cut::{MAX_RUN_LEN, cut_runs};
 pub use fault::LoadFault;
 pub use laws::load_follows;
 pub use loading::{MAX_RUNS, load};
-pub use run::Run;
+pub use run::{Run, is_rising};

@@ -4,7 +4,7 @@ ghost use Rattle.std.specs.Prelude.{◌≡◌, ◌≢◌, ◌+◌, ◌<◌, List
 ghost use Rattle.am_record.specs.Plain.{insert_all, least_taken};
 ghost use Rattle.am_record.specs.declared.entry.Entry.{Entry as TheEntry};
 ghost use Rattle.am_list.specs.Content.{content, HasContent};
-ghost use Rattle.am_runs.specs.Runs.{is_run};
+ghost use Rattle.am_record.specs.Plain.{is_rising};
 ghost use Rattle.am_runs.specs.Loads.{with_run, NothingAbove, HoldsRun, IsAwaited, load_due, IsAnswer, IsLoaded};
 
 use crate::run::Run;
@@ -42,7 +42,7 @@ pub fn load<I: PartIndex + Drop>(parts: &mut Parts<I>, run: &Run) -> Reply
 
 // The first key of the pairs that is live.
 fn first_live<I: PartIndex + Drop>(parts: &Parts<I>, pairs: &[(Key, Value)]) -> Option<Key>
-    requires { is_run pairs.now ≡ true }
+    requires { is_rising pairs.now ≡ true }
     ensures { result ≡ least_taken pairs.now (content parts.now.entries) }
 {
     for pair in pairs {

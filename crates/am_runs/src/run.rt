@@ -1,7 +1,7 @@
 //! Runs: records that rise strictly by key.
 
 ghost use Rattle.std.specs.Prelude.{◌≡◌, ◌↔◌, true, IsOk, IfOk, IfErr};
-ghost use Rattle.am_runs.specs.Runs.{is_run};
+ghost use Rattle.am_record.specs.Plain.{is_rising};
 
 use crate::fault::LoadFault;
 use am_record::{Key, Value};
@@ -15,8 +15,8 @@ pub struct Run {
 
 impl Model for Run {
     ghost use Rattle.std.specs.Prelude.{◌≡◌, true};
-    ghost use Rattle.am_record.specs.Plain.{Records};
-    ghost use Rattle.am_runs.specs.Runs.{records_code, is_run};
+    ghost use Rattle.am_record.specs.Plain.{Records, is_rising};
+    ghost use Rattle.am_record.specs.Records.{records_code};
 
     ghost Value = { Records };
 
@@ -24,7 +24,17 @@ impl Model for Run {
 
     ghost view = { λ r. r.pairs.items };
 
-    ghost invariant = { λ r. is_run r.pairs.items ≡ true };
+    ghost invariant = { λ r. is_rising r.pairs.items ≡ true };
+}
+
+/// Whether there is a pair and the keys rise strictly.
+pub fn is_rising(pairs: &[(Key, Value)]) -> bool
+    ensures { result ≡ is_rising pairs.now }
+{
+    if pairs.is_empty() {
+        return false;
+    }
+    pairs.is_sorted_by(|a, b| a.0 < b.0)
 }
 
 impl Run {
@@ -33,11 +43,11 @@ impl Run {
     /// # Errors
     /// NotRising, where there is no pair or the keys don't rise strictly; the pairs are dropped.
     pub fn new(pairs: Vec<(Key, Value)>) -> Result<Run, LoadFault>
-        ensures rising { IsOk result ↔ (is_run pairs.items ≡ true) }
+        ensures rising { IsOk result ↔ (is_rising pairs.items ≡ true) }
         ensures value { IfOk result (λ run. run ≡ pairs.items) }
         ensures fault { IfErr result (λ fault. fault ≡ LoadFault.NotRising) }
     {
-        if pairs.is_empty() || !pairs.is_sorted_by(|a, b| a.0 < b.0) {
+        if !is_rising(&pairs) {
             return Err(LoadFault::NotRising);
         }
         Ok(Run { pairs })
@@ -46,7 +56,7 @@ impl Run {
     /// The pairs, by rising key.
     pub fn pairs(&self) -> &[(Key, Value)]
         ensures all { result.now ≡ self.now }
-        ensures rising { is_run self.now ≡ true }
+        ensures rising { is_rising self.now ≡ true }
     {
         &self.pairs
     }

@@ -11,11 +11,14 @@ use std::process::ExitCode;
 use std::sync::Wait;
 use std::{env, io};
 
+/// How many entries are merged after each answer, at most.
+const DEFAULT_AUTO: u64 = 16;
+
 /// Answers standard input on standard output, on a store of its own.
 fn alone<R: AllocGlobal + Input + Print + Eprint + Wait>(rt: &R) -> anyhow::Result<ExitCode> {
     let mut source = Reading::new(rt.reader());
     let mut sink = Writing::new(io::writer(rt));
-    let (status, text) = ending(&serve_alone(rt, rt.alloc(), &mut source, &mut sink));
+    let (status, text) = ending(&serve_alone(rt, rt.alloc(), &mut source, &mut sink, DEFAULT_AUTO));
     if !text.is_empty() {
         eprintln!(rt; "{text}")?;
     }

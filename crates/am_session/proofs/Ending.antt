@@ -8,7 +8,7 @@ use Rattle.am_talk.specs.Responses.{bye}
 use Rattle.am_session.specs.Talk.{texts, Leaves, Converses, AnswersAll}
 use Rattle.am_talk.specs.Dialogue.{Exchange}
 use Rattle.am_session.specs.Pauses.{AtQuit, AtEnd, AtReadFailure, AtWriteFailure, Left}
-use Rattle.am_session.specs.Served.{Served, QuitThere, EndedThere, ReadFailedThere, AnswerTorn, ByeTorn}
+use Rattle.am_session.specs.Served.{Served}
 use Rattle.am_session.specs.declared.end.End.TheVariants.{Quit, EndOfInput, ReadFailed, WriteFailed}
 use Rattle.am_session.proofs.Streams.{gave_then}
 
@@ -17,19 +17,19 @@ module _ {S K B : Type 0} (comes : S → List ℕ → Type 0) (holds : K → Opt
   all_answered exchanges own c = record { last = last; own = own; aborting = left.0; converses = c; leaves = left.1; are = refl }
 
   pub ended_whole : AtEnd comes holds active goes tells auto s k b s' k' last → Served comes holds active goes tells auto s k b s' k' b' EndOfInput
-  ended_whole t = (t.exchanges, t.events ++ left.0, record { read = t.read; took = t.took; done = t.done; no_quit = t.no_quit; lines = t.lines; gave = t.gave; answers = all_answered t.exchanges t.events t.converses })
+  ended_whole t = record { exchanges = t.exchanges; events = t.events ++ left.0; read = t.read; takes = t.took; done = t.done; no_quit = t.no_quit; lines = t.lines; gives = t.gave; does = all_answered t.exchanges t.events t.converses }
 
   pub ended_failed : AtReadFailure comes holds active goes tells auto s k b s' k' last → Served comes holds active goes tells auto s k b s' k' b' ReadFailed
-  ended_failed t = (t.exchanges, t.events ++ left.0, record { read = t.read; part = t.part; took = t.took; ended = t.ended; begins = t.begins; no_quit = t.no_quit; lines = t.lines; gave = t.gave; answers = all_answered t.exchanges t.events t.converses })
+  ended_failed t = record { exchanges = t.exchanges; events = t.events ++ left.0; read = t.read; part = t.part; takes = t.took; ended = t.ended; begins = t.begins; no_quit = t.no_quit; lines = t.lines; gives = t.gave; does = all_answered t.exchanges t.events t.converses }
 
   pub ended_torn : AtWriteFailure comes holds active goes tells auto s k b s' k' last → Served comes holds active goes tells auto s k b s' k' b' WriteFailed
-  ended_torn t = inl (t.exchanges, t.last, t.events ++ (t.its ++ left.0), record {
-    read = t.read; waiting = t.waiting; count = t.count; took = t.took; whole = t.whole; no_quit = t.no_quit; lines = t.lines; gave = t.gave;
-    answers = record { before = t.before; last = last; own = t.events; its = t.its; aborting = left.0; converses = t.converses; answers = t.answers; leaves = left.1; are = refl };
+  ended_torn t = inl (record {
+    exchanges = t.exchanges; last = t.last; events = t.events ++ (t.its ++ left.0); read = t.read; waiting = t.waiting; count = t.count; takes = t.took; whole = t.whole; no_quit = t.no_quit; lines = t.lines; gives = t.gave;
+    does = record { before = t.before; last = last; own = t.events; its = t.its; aborting = left.0; converses = t.converses; answers = t.answers; leaves = left.1; are = refl };
   })
 
   pub ended_quit : (k'' : K) → AtQuit comes holds active goes tells auto s k b s' k' last → Gave holds k' bye k'' → Served comes holds active goes tells auto s k b s' k'' b' Quit
-  ended_quit k'' t a = (t.exchanges, t.events ++ left.0, record { read = t.read; waiting = t.waiting; took = t.took; whole = t.whole; quit = t.quit; lines = t.lines; gave = gave_then holds k k' k'' (texts t.exchanges) bye t.gave a; answers = all_answered t.exchanges t.events t.converses })
+  ended_quit k'' t a = record { exchanges = t.exchanges; events = t.events ++ left.0; read = t.read; waiting = t.waiting; takes = t.took; whole = t.whole; quit = t.quit; lines = t.lines; gives = gave_then holds k k' k'' (texts t.exchanges) bye t.gave a; does = all_answered t.exchanges t.events t.converses }
 
   pub ended_bye_torn : (k'' : K) → AtQuit comes holds active goes tells auto s k b s' k' last → ((n : ℕ) × Gave holds k' (take n bye) k'') → Served comes holds active goes tells auto s k b s' k'' b' WriteFailed
-  ended_bye_torn k'' t a = inr (t.exchanges, t.events ++ left.0, record { read = t.read; waiting = t.waiting; count = a.0; took = t.took; whole = t.whole; quit = t.quit; lines = t.lines; gave = gave_then holds k k' k'' (texts t.exchanges) (take a.0 bye) t.gave a.1; answers = all_answered t.exchanges t.events t.converses })
+  ended_bye_torn k'' t a = inr (record { exchanges = t.exchanges; events = t.events ++ left.0; read = t.read; waiting = t.waiting; count = a.0; takes = t.took; whole = t.whole; quit = t.quit; lines = t.lines; gives = gave_then holds k k' k'' (texts t.exchanges) (take a.0 bye) t.gave a.1; does = all_answered t.exchanges t.events t.converses })

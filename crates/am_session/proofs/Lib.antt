@@ -2,3 +2,6 @@ pub mod Streams
 pub mod Hearing
 pub mod Talking
 pub mod Ending
+pub mod Solos
+pub mod Speaking
+pub mod InMemory

@@ -1,5 +1,5 @@
 -- A session so far, and at each of its pauses.
-use Rattle.std.proofs.Common.{◌≡◌, ℕ, List, [], ◌∷◌, ◌++◌, append_assoc, append-nil, ap, sym, ◌∙◌, refl, take, length, true, false, Bool, not, Option, Some, None, cond, inl, inr, subst, arith, ◌+◌}
+use Rattle.std.proofs.Common.{◌≡◌, ◌⊎◌, ℕ, List, [], ◌∷◌, ◌++◌, append_assoc, append-nil, ap, sym, ◌∙◌, refl, take, length, true, false, Bool, not, Option, Some, None, cond, inl, inr, subst, arith, ◌+◌}
 use Rattle.std.proofs.lemmas.List.{map-append}
 use Rattle.am_record.specs.declared.step.Step.{Step}
 use Rattle.am_record.specs.declared.step.Reply.{Reply}
@@ -11,7 +11,7 @@ use Rattle.am_talk.specs.Heard.{Line, heard, MayHear, is_quit, before_quit, quit
 use Rattle.am_talk.specs.Responses.{response_text}
 use Rattle.am_talk.specs.Dialogue.{Exchange}
 use Rattle.am_session.specs.Talk.{asked, texts, AnswersLine, MergesAfter, Converses}
-use Rattle.am_session.specs.Served.{AreWhole, AsksFor}
+use Rattle.am_session.specs.Served.{IsEnded, AsksFor}
 use Rattle.am_session.specs.Pauses.{AtQuit, AtEnd, AtReadFailure, AtWriteFailure}
 use Rattle.am_session.proofs.Streams.{took_then, took_total, gave_then, appends_none}
 
@@ -139,7 +139,7 @@ module _ {S K B : Type 0} (comes : S → List ℕ → Type 0) (holds : K → Opt
   only_of s s' w w' line false l = l.2.0
 
   -- either a line's end was read, or all was
-  whole_of : (s s' : S) (w w' : List ℕ) (line : Line) (ended : Bool) (l : TookLine comes w s line ended w' s') (read : List ℕ) (done : List Line) → ((more : List ℕ) → lines_of (read ++ more) ≡ done ++ lines_of more) → AreWhole comes s' (read ++ l.0) w'
+  whole_of : (s s' : S) (w w' : List ℕ) (line : Line) (ended : Bool) (l : TookLine comes w s line ended w' s') (read : List ℕ) (done : List Line) → ((more : List ℕ) → lines_of (read ++ more) ≡ done ++ lines_of more) → IsEnded (read ++ l.0) ⊎ ((w' ≡ []) × comes s' [])
   whole_of s s' w w' line true l read done cut = inl (λ more.
       let e : lines_of (read ++ l.0) ≡ done ++ line ∷ [] = cut l.0 ∙ ap (λ z. done ++ z) (ap lines_of (sym (append-nil l.0)) ∙ l.2 []) in
       ap lines_of (append_assoc read l.0 more) ∙ cut (l.0 ++ more) ∙ ap (λ z. done ++ z) (l.2 more) ∙ sym (append_assoc done (line ∷ []) (lines_of more)) ∙ ap (λ z. z ++ lines_of more) (sym e))

@@ -1,5 +1,5 @@
 -- What a session did up to a pause, when no further line is answered and what is active isn't aborted yet.
-use Rattle.std.specs.Prelude.{◌≡◌, ℕ, List, [], ◌∷◌, ◌++◌, true, false, Option, take}
+use Rattle.std.specs.Prelude.{◌≡◌, ℕ, List, [], ◌∷◌, ◌++◌, true, false, Option, take, ◌⊎◌}
 use Rattle.am_record.specs.declared.step.Step.{Step}
 use Rattle.am_record.specs.declared.step.Reply.{Reply}
 use Rattle.am_serial.specs.Trace.{Trace}
@@ -10,7 +10,7 @@ use Rattle.am_talk.specs.Heard.{quits}
 use Rattle.am_talk.specs.Responses.{response_text}
 use Rattle.am_talk.specs.Dialogue.{Exchange}
 use Rattle.am_session.specs.Talk.{texts, AnswersLine, Converses, Leaves}
-use Rattle.am_session.specs.Served.{IsEnded, AreWhole, AsksFor}
+use Rattle.am_session.specs.Served.{IsEnded, AsksFor}
 use Rattle.am_session.specs.declared.serving.Pause.{Pause}
 use Rattle.am_session.specs.declared.serving.Pause.TheVariants.{Quit, EndOfInput, ReadFailed, WriteFailed}
 
@@ -26,7 +26,7 @@ module _ {S K B : Type 0} (comes : S → List ℕ → Type 0) (holds : K → Opt
     pub exchanges : List Exchange
     pub events : Trace
     pub took : Took comes s (read ++ waiting) s'
-    pub whole : AreWhole comes s' read waiting
+    pub whole : IsEnded read ⊎ ((waiting ≡ []) × comes s' [])
     pub quit : quits (lines_of read) ≡ true
     pub lines : AsksFor read exchanges
     pub gave : Gave holds k (texts exchanges) k'
@@ -69,7 +69,7 @@ module _ {S K B : Type 0} (comes : S → List ℕ → Type 0) (holds : K → Opt
     pub before : B
     pub count : ℕ
     pub took : Took comes s (read ++ waiting) s'
-    pub whole : AreWhole comes s' read waiting
+    pub whole : IsEnded read ⊎ ((waiting ≡ []) × comes s' [])
     pub no_quit : quits (lines_of read) ≡ false
     pub lines : AsksFor read (exchanges ++ last ∷ [])
     pub gave : Gave holds k (texts exchanges ++ take count (response_text last.1)) k'

@@ -17,83 +17,104 @@ use Rattle.am_session.specs.declared.end.End.TheVariants.{Quit, EndOfInput, Read
 abbrev pub IsEnded : List ℕ → Type 0
 IsEnded bytes = (more : List ℕ) → lines_of (bytes ++ more) ≡ lines_of bytes ++ lines_of more
 
--- The bytes are whole lines, or all that comes.
-abbrev pub AreWhole : {S : Type 0} → (S → List ℕ → Type 0) → S → List ℕ → List ℕ → Type 0
-AreWhole comes source read waiting = IsEnded read ⊎ ((waiting ≡ []) × comes source [])
-
 -- the lines of these bytes up to QUIT
 abbrev pub AsksFor : List ℕ → List Exchange → Type 0
 AsksFor read exchanges = asked exchanges ≡ before_quit (lines_of read)
 
-module _ {S K B : Type 0} (comes : S → List ℕ → Type 0) (holds : K → Option (List ℕ)) (active : B → Option ℕ) (goes : B → Step → Reply → B → Type 0) (tells : B → ℕ → ℕ → B → Type 0) (auto : ℕ) (s : S) (k : K) (b : B) (s' : S) (k' : K) (b' : B) where
+-- By these bytes were taken, by these given, and whether nothing more comes; by exchanges with their events, or with one exchange more, whose
+-- answer was torn; and by where a session is left that did nothing.
+module _ (took gave : List ℕ → Type 0) (nothing_comes : Type 0) (answers : List Exchange → Trace → Type 0) (answers_more : List Exchange → Exchange → Trace → Type 0) (untouched : Type 0) where
+  -- the bytes are whole lines, or all that comes
+  abbrev pub AreWhole : List ℕ → List ℕ → Type 0
+  AreWhole read waiting = IsEnded read ⊎ ((waiting ≡ []) × nothing_comes)
+
   -- QUIT was answered by BYE; the bytes behind it were not answered
-  pub record QuitThere (exchanges : List Exchange) (events : Trace) : Type 0 where
+  pub record QuitThere : Type 0 where
     pub read : List ℕ
     pub waiting : List ℕ
-    pub took : Took comes s (read ++ waiting) s'
-    pub whole : AreWhole comes s' read waiting
+    pub exchanges : List Exchange
+    pub events : Trace
+    pub takes : took (read ++ waiting)
+    pub whole : AreWhole read waiting
     pub quit : quits (lines_of read) ≡ true
     pub lines : AsksFor read exchanges
-    pub gave : Gave holds k (texts exchanges ++ bye) k'
-    pub answers : AnswersAll active goes tells auto b exchanges events b'
+    pub gives : gave (texts exchanges ++ bye)
+    pub does : answers exchanges events
 
   -- every line was answered, and nothing more comes
-  pub record EndedThere (exchanges : List Exchange) (events : Trace) : Type 0 where
+  pub record EndedThere : Type 0 where
     pub read : List ℕ
-    pub took : Took comes s read s'
-    pub done : comes s' []
+    pub exchanges : List Exchange
+    pub events : Trace
+    pub takes : took read
+    pub done : nothing_comes
     pub no_quit : quits (lines_of read) ≡ false
     pub lines : AsksFor read exchanges
-    pub gave : Gave holds k (texts exchanges) k'
-    pub answers : AnswersAll active goes tells auto b exchanges events b'
+    pub gives : gave (texts exchanges)
+    pub does : answers exchanges events
 
   -- every line that was ended was answered; what else was taken begins one line
-  pub record ReadFailedThere (exchanges : List Exchange) (events : Trace) : Type 0 where
+  pub record ReadFailedThere : Type 0 where
     pub read : List ℕ
     pub part : List ℕ
-    pub took : Took comes s (read ++ part) s'
+    pub exchanges : List Exchange
+    pub events : Trace
+    pub takes : took (read ++ part)
     pub ended : IsEnded read
     pub begins : HasNoLf part
     pub no_quit : quits (lines_of read) ≡ false
     pub lines : AsksFor read exchanges
-    pub gave : Gave holds k (texts exchanges) k'
-    pub answers : AnswersAll active goes tells auto b exchanges events b'
+    pub gives : gave (texts exchanges)
+    pub does : answers exchanges events
 
   -- the answer to the last line that was read was torn, or couldn't be sent on; all others are whole
-  pub record AnswerTorn (exchanges : List Exchange) (last : Exchange) (events : Trace) : Type 0 where
+  pub record AnswerTorn : Type 0 where
     pub read : List ℕ
     pub waiting : List ℕ
+    pub exchanges : List Exchange
+    pub last : Exchange
+    pub events : Trace
     pub count : ℕ
-    pub took : Took comes s (read ++ waiting) s'
-    pub whole : AreWhole comes s' read waiting
+    pub takes : took (read ++ waiting)
+    pub whole : AreWhole read waiting
     pub no_quit : quits (lines_of read) ≡ false
     pub lines : AsksFor read (exchanges ++ last ∷ [])
-    pub gave : Gave holds k (texts exchanges ++ take count (response_text last.1)) k'
-    pub answers : AnswersOneMore active goes tells auto b exchanges last events b'
+    pub gives : gave (texts exchanges ++ take count (response_text last.1))
+    pub does : answers_more exchanges last events
 
   -- the answer to QUIT was torn
-  pub record ByeTorn (exchanges : List Exchange) (events : Trace) : Type 0 where
+  pub record ByeTorn : Type 0 where
     pub read : List ℕ
     pub waiting : List ℕ
+    pub exchanges : List Exchange
+    pub events : Trace
     pub count : ℕ
-    pub took : Took comes s (read ++ waiting) s'
-    pub whole : AreWhole comes s' read waiting
+    pub takes : took (read ++ waiting)
+    pub whole : AreWhole read waiting
     pub quit : quits (lines_of read) ≡ true
     pub lines : AsksFor read exchanges
-    pub gave : Gave holds k (texts exchanges ++ take count bye) k'
-    pub answers : AnswersAll active goes tells auto b exchanges events b'
+    pub gives : gave (texts exchanges ++ take count bye)
+    pub does : answers exchanges events
 
   pub record NothingDone : Type 0 where
-    pub took : Took comes s [] s'
-    pub gave : Gave holds k [] k'
-    pub same : b' ≡ b
+    pub takes : took []
+    pub gives : gave []
+    pub same : untouched
 
-  abbrev pub Served : End → Type 0
-  Served Quit = (exchanges : List Exchange) × (events : Trace) × QuitThere exchanges events
-  Served EndOfInput = (exchanges : List Exchange) × (events : Trace) × EndedThere exchanges events
-  Served ReadFailed = (exchanges : List Exchange) × (events : Trace) × ReadFailedThere exchanges events
-  Served WriteFailed = ((exchanges : List Exchange) × (last : Exchange) × (events : Trace) × AnswerTorn exchanges last events) ⊎ ((exchanges : List Exchange) × (events : Trace) × ByeTorn exchanges events)
-  Served NoMemory = NothingDone
+  abbrev pub EndsBy : End → Type 0
+  EndsBy Quit = QuitThere
+  EndsBy EndOfInput = EndedThere
+  EndsBy ReadFailed = ReadFailedThere
+  EndsBy WriteFailed = AnswerTorn ⊎ ByeTorn
+  EndsBy NoMemory = NothingDone
+
+-- the same over any source, sink and backend
+abbrev pub Served : {S K B : Type 0} → (S → List ℕ → Type 0) → (K → Option (List ℕ)) → (B → Option ℕ) → (B → Step → Reply → B → Type 0) → (B → ℕ → ℕ → B → Type 0) → ℕ → S → K → B → S → K → B → End → Type 0
+Served comes holds active goes tells auto s k b s' k' b' end =
+    EndsBy (λ bytes. Took comes s bytes s') (λ text. Gave holds k text k') (comes s' [])
+    (λ exchanges events. AnswersAll active goes tells auto b exchanges events b')
+    (λ exchanges last events. AnswersOneMore active goes tells auto b exchanges last events b')
+    (b' ≡ b) end
 
 -- how often the source and the sink failed
 abbrev pub read_failures : End → ℕ

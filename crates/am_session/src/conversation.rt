@@ -16,7 +16,7 @@ use am_wire::{Failed, FoundLine, Input, LineBuffer, Sink, Source, read_line};
 use std::sync::Wait;
 
 // The transaction that is active behind a reply.
-fn active_behind(active: Option<u64>, reply: &Reply) -> Option<u64>
+pub(crate) fn active_behind(active: Option<u64>, reply: &Reply) -> Option<u64>
     ensures { result ≡ active_after active reply.now }
 {
     match reply {

@@ -1,11 +1,14 @@
 //! Sessions: lines in, one answer line for each, over any backend or on a store of its own.
 #![tactic(auto)]
 
+mod alone;
 mod backend;
 mod conversation;
 mod end;
 mod serving;
+mod solo;
 
+pub use alone::{serve_alone, serve_in_memory};
 pub use backend::Backend;
 pub use end::End;
 pub use serving::serve;

@@ -8,7 +8,6 @@ use Rattle.am_record.specs.declared.lock.Mode.{Mode}
 use Rattle.am_record.specs.declared.lock.Mode.TheVariants.{Shared, Exclusive}
 use Rattle.am_wire.specs.Numbers.{is_numeral, numeral, numeral_value}
 use Rattle.am_wire.specs.Keys.{is_key_text}
-use Rattle.am_wire.specs.Values.{is_value_text}
 use Rattle.am_wire.specs.Verbs.{Shape, bare, one_key, one_record, one_number, range_and_number, mode_and_range, some_records}
 use Rattle.am_wire.specs.Arguments.{Arguments, RecordText, fields_of, AreProper, mode_word}
 use Rattle.am_wire.specs.Reading.{arguments_in, mode_for, is_record_text, is_record_field, record_text}
@@ -72,8 +71,8 @@ mode_word-mode_for field m =
     cond_both (bytes_eq field (codes "S")) (Some Shared) (cond (bytes_eq field (codes "X")) (Some Exclusive) None) (λ o. o ≡ Some m → mode_word m ≡ field)
     (λ t e. let same : Shared ≡ m = cc in ap mode_word (sym same) ∙ sym ((bytes_eq-Decides field (codes "S")).0 t))
     (λ _. cond_both (bytes_eq field (codes "X")) (Some Exclusive) None (λ o. o ≡ Some m → mode_word m ≡ field)
-        (λ t e. let same : Exclusive ≡ m = cc in ap mode_word (sym same) ∙ sym ((bytes_eq-Decides field (codes "X")).0 t))
-        (λ _ e. cc))
+    (λ t e. let same : Exclusive ≡ m = cc in ap mode_word (sym same) ∙ sym ((bytes_eq-Decides field (codes "X")).0 t))
+    (λ _ e. cc))
 
 range_and_number_of : (lo hi n : List ℕ) → (is_key_text lo && is_key_text hi && is_numeral n) ≡ true → AreOf range_and_number (lo ∷ hi ∷ n ∷ []) (lo, hi, numeral_value n)
 range_and_number_of lo hi n h =

@@ -12,3 +12,4 @@ pub mod Forms
 pub mod Readings
 pub mod RowTexts
 pub mod Loads
+pub mod VisibleRequests

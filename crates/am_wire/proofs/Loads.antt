@@ -1,5 +1,5 @@
 -- The fields of a load, judged and collected one by one.
-use Rattle.std.proofs.Common.{◌≡◌, ℕ, Bool, true, false, ◌&&◌, cond, List, [], ◌∷◌, ◌++◌, append_assoc, append-nil, map, Option, Some, None, is_some, option_map, Result, Ok, Err, ok_or, inl, inr, refl, sym, ap, ◌∙◌, subst}
+use Rattle.std.proofs.Common.{◌≡◌, ℕ, Bool, true, false, ◌&&◌, cond, List, [], ◌∷◌, ◌++◌, append_assoc, append-nil, map, Option, Some, None, is_some, option_map, Result, Ok, Err, ok_or, refl, sym, ap, ◌∙◌, subst}
 use Rattle.std.specs.Prelude.{IsOk}
 use Rattle.std.proofs.lemmas.Bool.{and_parts}
 use Rattle.std.specs.List.{list_all}
@@ -8,9 +8,9 @@ use Rattle.am_record.specs.OrderedKey.{OrderedKey}
 use Rattle.am_record.specs.Records.{Records}
 use Rattle.am_wire.specs.Verbs.{some_records}
 use Rattle.am_wire.specs.Arguments.{RecordText, record_for, records_for}
-use Rattle.am_wire.specs.Reading.{is_record_text, is_record_field, record_text, judged, values_in, map_ok, MayBeRefused}
+use Rattle.am_wire.specs.Reading.{is_record_field, record_text, judged, values_in, map_ok}
 use Rattle.am_wire.specs.declared.request.LineFault.{LineFault}
-use Rattle.am_wire.specs.declared.request.LineFault.TheVariants.{Syntax, Range, NoMemory}
+use Rattle.am_wire.specs.declared.request.LineFault.TheVariants.{Syntax, Range}
 
 -- ---- judging
 
@@ -84,7 +84,7 @@ collecting_start (f ∷ fs) h =
       are_all = ap (λ test. judged records_for (cond test (Some (map record_text (f ∷ fs))) None)) j.0 ∙ ap (λ o. ok_or o Range) j.2;
     }
 
-zipped : (r : Option (OrderedKey × List ℕ)) (rs : Option Records) (all : Records) → option_map (λ (p : (OrderedKey × List ℕ) × Records). p.0 ∷ p.1) (option_zip r rs) ≡ Some all → (first : OrderedKey × List ℕ) × (rest : Records) × (r ≡ Some first) × (rs ≡ Some rest) × (all ≡ first ∷ rest)
+pub zipped : (r : Option (OrderedKey × List ℕ)) (rs : Option Records) (all : Records) → option_map (λ (p : (OrderedKey × List ℕ) × Records). p.0 ∷ p.1) (option_zip r rs) ≡ Some all → (first : OrderedKey × List ℕ) × (rest : Records) × (r ≡ Some first) × (rs ≡ Some rest) × (all ≡ first ∷ rest)
 zipped None None all e = cc
 zipped None (Some rs) all e = cc
 zipped (Some r) None all e = cc
@@ -94,13 +94,17 @@ zipped (Some r) (Some rs) all e = (r, rs, refl, refl, cc)
 pub collecting_more : (all : List (List ℕ)) (items : Records) (f : List ℕ) (fs : List (List ℕ)) → IsCollecting all items (f ∷ fs) → (r : OrderedKey × List ℕ) × (is_record_field f ≡ true) × (record_for (record_text f) ≡ Some r) × IsCollecting all (items ++ r ∷ []) fs
 collecting_more all items f fs h =
     let parts = and_parts (is_record_field f) (list_all is_record_field fs) h.are_records in
-    let z = zipped (record_for (record_text f)) (records_for (map record_text fs)) h.rest h.are_rest in
-    (z.0, parts.0, z.2, record {
-      are_records = parts.1;
-      rest = z.1;
-      are_rest = z.3;
-      are_all = h.are_all ∙ ap (λ rs. Ok (items ++ rs)) z.4 ∙ ap (λ rs. Ok rs) (sym (append_assoc items (z.0 ∷ []) z.1));
-    })
+    let z = zipped (record_for (record_text f)) (records_for (map record_text fs)) h.rest h.are_rest in (
+      z.0,
+      parts.0,
+      z.2,
+      record {
+        are_records = parts.1;
+        rest = z.1;
+        are_rest = z.3;
+        are_all = h.are_all ∙ ap (λ rs. Ok (items ++ rs)) z.4 ∙ ap (λ rs. Ok rs) (sym (append_assoc items (z.0 ∷ []) z.1));
+      },
+    )
 
 pub collected : (all : List (List ℕ)) (items : Records) → IsCollecting all items [] → Ok items ≡ values_in some_records all
 collected all items h =

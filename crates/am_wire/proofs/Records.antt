@@ -1,5 +1,5 @@
 -- Records in one field: the key ends at the first =.
-use Rattle.std.proofs.Common.{◌≡◌, ℕ, ◌+◌, ◌-◌, ◌<◌, ◌≤◌, true, false, not, ◌&&◌, cond, eqb, ltb, Option, Some, None, List, [], ◌∷◌, ◌++◌, length, take, drop, get_or, map, refl, sym, ap, ◌∙◌, arith, inl, inr}
+use Rattle.std.proofs.Common.{◌≡◌, ℕ, ◌+◌, ◌-◌, ◌≤◌, true, false, not, cond, eqb, ltb, Some, None, List, [], ◌∷◌, ◌++◌, length, take, drop, get_or, map, refl, sym, ap, ◌∙◌, arith, inl, inr}
 use Rattle.std.specs.Char.{is_ascii_graphic}
 use Rattle.std.specs.List.{list_all, position_or_len, before_first, after_first, AllByRecursion}
 use Rattle.std.proofs.lemmas.Bool.{and_parts, and_from, cases_lt, cond-true, cond_both, ltb-false, false≢true}
@@ -49,12 +49,12 @@ record_field-record_text field h =
     let parts = and_parts (is_key_text (before_first is_equals field)) (is_value_text (after_first is_equals field)) h in
     elim (cases_lt (position_or_len is_equals field) (length field)) [
       | inl inside ↦
-        let byte : get_or field (position_or_len is_equals field) 0 ≡ 0x3D = grind (arith, nat_tests, passes_at_first is_equals field 0 inside) in
-        sym (split_at_first is_equals field 0 inside ∙ ap (λ b. before_first is_equals field ++ (b ∷ after_first is_equals field)) byte)
+          let byte : get_or field (position_or_len is_equals field) 0 ≡ 0x3D = grind (arith, nat_tests, passes_at_first is_equals field 0 inside) in
+          sym (split_at_first is_equals field 0 inside ∙ ap (λ b. before_first is_equals field ++ (b ∷ after_first is_equals field)) byte)
       | inr past ↦
-        let none : after_first is_equals field ≡ [] = drop_of_length-le field (omega arith) in
-        let wrong : false ≡ true = sym (ap is_value_text none) ∙ parts.1 in
-        absurd (false≢true wrong)
+          let none : after_first is_equals field ≡ [] = drop_of_length-le field (omega arith) in
+          let wrong : false ≡ true = sym (ap is_value_text none) ∙ parts.1 in
+          absurd (false≢true wrong)
     ]
 
 -- the same by the place of the first =

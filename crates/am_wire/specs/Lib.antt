@@ -11,3 +11,4 @@ pub mod Verbs
 pub mod Arguments
 pub mod Grammar
 pub mod Reading
+pub mod Visible

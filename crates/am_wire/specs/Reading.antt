@@ -1,5 +1,5 @@
 -- What a line is read as, by its fields.
-use Rattle.std.specs.Prelude.{◌≡◌, ◌⊎◌, ℕ, ◌&&◌, ◌==◌, if◌then◌else◌, List, [], ◌∷◌, ◌++◌, codes, map, Bool, Option, Some, None, Result, Ok, Err, IsOk, bytes_eq, option_map, ok_or}
+use Rattle.std.specs.Prelude.{◌≡◌, ◌⊎◌, ℕ, ◌&&◌, ◌==◌, if◌then◌else◌, List, [], ◌∷◌, codes, map, Bool, Option, Some, None, Result, Ok, Err, IsOk, bytes_eq, option_map, ok_or}
 use Rattle.std.specs.List.{slice_split, list_all, before_first, after_first}
 use Rattle.am_record.specs.Records.{Records}
 use Rattle.am_record.specs.declared.step.Op.TheVariants.{Load}

@@ -40,23 +40,31 @@ fn parse_with(alloc: Global, verb: Verb, fields: Fields<'_>) -> Result<Request, 
 {
     match verb {
         Verb::Begin => parse_bare(fields, Request::Begin),
-        Verb::Get => parse_one_key(fields).map(|key| Request::Do(Op::Get(key))),
-        Verb::Scan => parse_range_and_number(fields)
-            .map(|(range, max)| Request::Do(Op::Scan(range, max))),
-        Verb::Insert => parse_one_record(fields)
-            .map(|(key, value)| Request::Do(Op::Insert(key, value))),
-        Verb::Replace => parse_one_record(fields)
-            .map(|(key, value)| Request::Do(Op::Replace(key, value))),
-        Verb::Delete => parse_one_key(fields).map(|key| Request::Do(Op::Delete(key))),
-        Verb::Load => parse_records(alloc, fields).map(|pairs| Request::Do(Op::Load(pairs))),
-        Verb::Lock => parse_mode_and_range(fields).map(|lock| Request::Do(Op::Lock(lock))),
+        Verb::Get => Ok(Request::Do(Op::Get(parse_one_key(fields)?))),
+        Verb::Scan => {
+            let (range, max) = parse_range_and_number(fields)?;
+            Ok(Request::Do(Op::Scan(range, max)))
+        }
+        Verb::Insert => {
+            let (key, value) = parse_one_record(fields)?;
+            Ok(Request::Do(Op::Insert(key, value)))
+        }
+        Verb::Replace => {
+            let (key, value) = parse_one_record(fields)?;
+            Ok(Request::Do(Op::Replace(key, value)))
+        }
+        Verb::Delete => Ok(Request::Do(Op::Delete(parse_one_key(fields)?))),
+        Verb::Load => Ok(Request::Do(Op::Load(parse_records(alloc, fields)?))),
+        Verb::Lock => Ok(Request::Do(Op::Lock(parse_mode_and_range(fields)?))),
         Verb::Mark => parse_bare(fields, Request::Do(Op::Mark)),
         Verb::Back => parse_bare(fields, Request::Do(Op::Back)),
         Verb::Commit => parse_bare(fields, Request::Commit),
         Verb::Abort => parse_bare(fields, Request::Abort),
-        Verb::Merge => parse_one_number(fields).map(Request::Merge),
-        Verb::Clean => parse_range_and_number(fields)
-            .map(|(range, limit)| Request::Clean(range, limit)),
+        Verb::Merge => Ok(Request::Merge(parse_one_number(fields)?)),
+        Verb::Clean => {
+            let (range, limit) = parse_range_and_number(fields)?;
+            Ok(Request::Clean(range, limit))
+        }
         Verb::Seen => parse_bare(fields, Request::Seen),
         Verb::Quit => parse_bare(fields, Request::Quit),
     }

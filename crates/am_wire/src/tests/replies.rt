@@ -50,7 +50,7 @@ fn rows_are_one_line(rt: HostRuntime) -> Result<(), Fail> {
     assert!(rt; has_text(rt.alloc(), &none, b"ROWS 0\n")?);
     let rows = vec![in rt.alloc();
         (key(&rt, b"a"), value(&rt, b"1")),
-        (key(&rt, b"ab"), value(&rt, b"=2"))
+        (key(&rt, b"ab"), value(&rt, b"=2")),
     ]?;
     let two = Reply::Rows(Pairs::new(rows));
     assert!(rt; has_text(rt.alloc(), &two, b"ROWS 2 a=1 ab==2\n")?);

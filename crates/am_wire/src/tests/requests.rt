@@ -1,5 +1,5 @@
 use super::{key, range, value};
-use crate::{LineFault, Request, Verb, parse_line};
+use crate::{LineFault, Request, parse_line};
 use am_record::{Lock, Mode, Op, Pairs};
 use std::alloc::Global;
 use std::test::Fail;
@@ -40,10 +40,7 @@ fn lines_of_records_ranges_and_numbers_are_read(rt: HostRuntime) {
     let (five, a) = (key(&rt, b"5"), value(&rt, b"a=!~"));
     let all = range(&rt, b"10", b"9");
     for (line, request) in [
-        (
-            b"INS 5 a=!~".as_slice(),
-            Request::Do(Op::Insert(five, a)),
-        ),
+        (b"INS 5 a=!~".as_slice(), Request::Do(Op::Insert(five, a))),
         (b"REP 5 a=!~", Request::Do(Op::Replace(five, a))),
         (b"SCAN 10 9 0", Request::Do(Op::Scan(all, 0))),
         (
@@ -75,7 +72,7 @@ fn a_load_has_its_records_in_order(rt: HostRuntime) -> Result<(), Fail> {
     let three = vec![in rt.alloc();
         (key(&rt, b"9"), value(&rt, b"y")),
         (key(&rt, b"10"), value(&rt, b"x")),
-        (key(&rt, b"9"), value(&rt, b"z"))
+        (key(&rt, b"9"), value(&rt, b"z")),
     ]?;
     let load = Request::Do(Op::Load(Pairs::new(three)));
     assert!(rt; read(rt.alloc(), b"LOAD 9=y 10=x 9=z") == Ok(load));
@@ -116,7 +113,10 @@ fn lines_of_no_form(rt: HostRuntime) {
         b"LOAD aaaaaaaaaaaaaaaaaaaaaaaaaaaaaaaaa=a 2",
         b"QUITX",
     ] {
-        assert!(rt; read(rt.alloc(), line) == Err(LineFault::Syntax), "{line:?}");
+        assert!(rt;
+            read(rt.alloc(), line) == Err(LineFault::Syntax),
+            "{line:?}"
+        );
     }
 }
 
@@ -139,11 +139,4 @@ fn lines_out_of_bounds(rt: HostRuntime) {
     ] {
         assert!(rt; read(rt.alloc(), line) == Err(LineFault::Range), "{line:?}");
     }
-}
-
-#[test]
-fn verbs_have_their_words(rt: HostRuntime) {
-    assert_eq!(rt; Verb::of_word(b"CLEAN"), Some(Verb::Clean));
-    assert_eq!(rt; Verb::Clean.word(), b"CLEAN".as_slice());
-    assert_eq!(rt; Verb::of_word(b"CLEA"), None);
 }

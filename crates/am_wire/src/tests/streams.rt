@@ -1,8 +1,6 @@
 ghost use Rattle.std.specs.Prelude.{◌^◌, ◌<◌};
 
-use crate::{
-    Failed, Input, LineBuffer, LineKind, PieceSource, Sink, Source, StopSink, give_all, read_line,
-};
+use crate::{Input, LineBuffer, LineKind, PieceSource, Source, read_line};
 use am_record::NoMemory;
 use std::alloc::Global;
 use std::sync::Wait;
@@ -57,22 +55,6 @@ fn pieces_of_every_size_give_the_same_lines(rt: HostRuntime) -> Result<(), Fail>
 }
 
 #[test]
-fn a_source_that_fails_at_each_call_gives_whole_lines(rt: HostRuntime) -> Result<(), Fail> {
-    // One byte a call, and one call that finds the end.
-    for fail_at in 1..=LINES.len() as u64 + 1 {
-        let mut source = PieceSource::new(LINES, [].as_slice(), fail_at);
-        let seen = lines_of(&rt, rt.alloc(), &mut source)?;
-        let (last, whole) = seen.split_last().ok_or("nothing was seen")?;
-        assert_eq!(rt; *last, b'!', "failing at {fail_at}");
-        assert!(rt;
-            SEEN.starts_with(whole) && (whole.is_empty() || whole.ends_with(b"|")),
-            "failing at {fail_at}"
-        );
-    }
-    Ok(())
-}
-
-#[test]
 fn a_line_has_at_most_4096_bytes_and_a_long_one_is_passed_over(
     rt: HostRuntime,
 ) -> Result<(), Fail> {
@@ -94,16 +76,4 @@ fn a_line_has_at_most_4096_bytes_and_a_long_one_is_passed_over(
         assert!(rt; seen.as_slice() == wanted.as_slice(), "{len} bytes");
     }
     Ok(())
-}
-
-#[test]
-fn a_stop_sink_fails_at_its_call_alone(rt: HostRuntime) {
-    let mut sink = StopSink::new(rt.alloc(), 2);
-    let first = give_all(&mut sink, b"OK\n");
-    assert_eq!(rt; sink.flush(), Err(Failed));
-    let third = give_all(&mut sink, b"NONE\n");
-    assert_eq!(rt; sink.flush(), Ok(()));
-    if first.is_ok() && third.is_ok() {
-        assert_eq!(rt; sink.bytes(), b"OK\nNONE\n".as_slice());
-    }
 }

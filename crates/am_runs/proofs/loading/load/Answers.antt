@@ -1,7 +1,7 @@
 use Rattle.std.proofs.Common.{◌≡◌, None, true, sym, ap, ◌∙◌}
 use Rattle.am_record.specs.Plain.{Records, least_taken}
 use Rattle.am_list.specs.Content.{content}
-use Rattle.am_runs.specs.Runs.{is_run}
+use Rattle.am_record.specs.Plain.{is_rising}
 use Rattle.am_runs.proofs.Taken.{none_from_least}
 use Rattle.am_runs.proofs.Loaded.{awaited, loaded, nothing_above-loaded}
 use Rattle.am_runs.proofs.loading.load.Goals as goal
@@ -10,7 +10,7 @@ pub make_run-requires-clause-awaited : goal.make_run-requires-clause-awaited
 make_run-requires-clause-awaited g c =
     let es = c.args.parts.now.entries in
     let pairs = c.pairs-2.result.now in
-    let run : is_run pairs ≡ true = ap is_run c.pairs-2.ensures.all ∙ c.pairs-2.ensures.rising in
+    let run : is_rising pairs ≡ true = ap is_rising c.pairs-2.ensures.all ∙ c.pairs-2.ensures.rising in
     let none : least_taken pairs (content es) ≡ None = ap (λ (rs : Records). least_taken rs (content es)) (c.pairs-2.ensures.all ∙ sym c.pairs.ensures.all) ∙ sym c.first_live.ensures ∙ c.in_default.is in
     awaited c.runs.ensures.sound c.requires run (none_from_least (content es) pairs none)
 

@@ -1,5 +1,6 @@
 use Rattle.am_wire.proofs.Numerals.{numeral-decimal}
 use Rattle.am_wire.proofs.Readings.{one_form, one_result, reads_reading, refused_load}
+use Rattle.am_wire.proofs.VisibleRequests.{asks_visible}
 use Rattle.am_wire.proofs.grammar.one_reading.Goals as goal
 
 pub returns-clause-one_form : goal.returns-clause-one_form
@@ -16,3 +17,6 @@ returns-clause-memory c = refused_load
 
 pub returns-clause-printed : goal.returns-clause-printed
 returns-clause-printed c = numeral-decimal
+
+pub returns-clause-visible : goal.returns-clause-visible
+returns-clause-visible c = asks_visible

@@ -1,5 +1,5 @@
-use Rattle.std.proofs.Common.{◌≡◌, ℕ, List, sym, subst, ap, ◌∙◌}
-use Rattle.am_wire.specs.Reading.{fields_reading, reading, MayRead}
+use Rattle.std.proofs.Common.{ℕ, List, subst}
+use Rattle.am_wire.specs.Reading.{fields_reading, MayRead}
 use Rattle.am_wire.proofs.Readings.{reads_what_may_be}
 use Rattle.am_wire.proofs.parse.parse_line.Goals as goal
 

@@ -1,6 +1,6 @@
-use Rattle.std.proofs.Common.{◌≡◌, ℕ, List, [], ◌∷◌, ◌++◌, Result, Ok, Err, OnErr, refl, ap, ◌∙◌}
+use Rattle.std.proofs.Common.{Result, Ok, Err, OnErr, refl, ap, ◌∙◌}
 use Rattle.std.proofs.lemmas.Result.{err_from_is_err_and}
-use Rattle.am_wire.specs.Replies.{rows_words, head_of, text_of}
+use Rattle.am_wire.specs.Replies.{rows_words, text_of}
 use Rattle.am_wire.proofs.RowTexts.{in_pieces, torn_head, torn_rows, torn_end}
 use Rattle.am_wire.proofs.reply.put_reply.Goals as goal
 

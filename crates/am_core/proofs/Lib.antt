@@ -1,0 +1,9 @@
+pub mod Actives
+pub mod Endings
+pub mod Spans
+pub mod Grants
+pub mod Operations
+pub mod Merges
+pub mod Reaching
+pub mod Standings
+pub mod Listings

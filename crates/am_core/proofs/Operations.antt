@@ -1,0 +1,243 @@
+-- What an operation that is refused, that wants memory, and that is done leave of what is kept.
+use Rattle.std.proofs.Common.{◌≡◌, ◌≤◌, ◌<◌, ◌+◌, ◌++◌, ◌⊎◌, inl, inr, ℕ, List, length, map, take, Bool, true, false, cond, not, ◌||◌, Option, Some, None, refl, sym, ap, ◌∙◌, subst, ⊎_elim, arith}
+use Rattle.std.specs.Prelude.{nat_le, is_some, MatchOption}
+use Rattle.std.specs.FinMap.{get, contains_key}
+use Rattle.std.proofs.lemmas.Bool.{le-leb, leb-false, or_right, or_left}
+use Rattle.am_record.specs.Interval.{Interval}
+use Rattle.am_record.specs.OrderedKey.{OrderedKey}
+use Rattle.am_record.specs.Plain.{PlainMap, found, exists_or_done, least_taken}
+use Rattle.am_record.specs.Asks.{lock_of, with_asked}
+use Rattle.am_record.specs.declared.lock.Lock.{Lock as TheLock}
+use Rattle.am_record.specs.declared.step.Refusal.{Refusal}
+use Rattle.am_record.specs.declared.step.Refusal.TheVariants.{TooManyOps, NoMemory}
+use Rattle.am_record.specs.declared.step.Op.{Op}
+use Rattle.am_record.specs.declared.step.Op.TheVariants.{Get, Scan, Insert, Replace, Delete, Load, Lock, Mark, Back}
+use Rattle.am_record.specs.declared.step.Step.TheVariants.{Do}
+use Rattle.am_record.specs.declared.step.Reply.{Reply}
+use Rattle.am_record.specs.declared.step.Reply.TheVariants.{Done, NoMark, Exists, Missing, Refused}
+use Rattle.am_list.specs.Entries.{find}
+use Rattle.am_list.specs.Content.{content}
+use Rattle.am_parts.specs.Partitions.{Partitions}
+use Rattle.am_undo.specs.Log.{Log}
+use Rattle.am_undo.specs.Marks.{since_mark, has_mark}
+use Rattle.am_locks.specs.Table.{locks_of, with_locks}
+use Rattle.am_tx.specs.Active.{is_active, ops_of, log_of}
+use Rattle.am_tx.specs.Txs.{Txs, IsConsistent, with_log, counted}
+use Rattle.am_tx.proofs.Laws.{is_active-changed, of_active-kept}
+use Rattle.am_serial.specs.Machine.{is_one_too_many, busy, or_else}
+use Rattle.am_serial.specs.Trace.{runs_made}
+use Rattle.am_effect.specs.Laws.{taken_back}
+use Rattle.am_effect.specs.Store.{changed, noted, notes_left, marks_left, wished, with_wish}
+use Rattle.am_follow.specs.At.{told}
+use Rattle.am_steps.specs.Parts.{Parts, is_in, in_table, MaySay, due_in, takes_memory, after_do, did, backed, blocker_in}
+use Rattle.am_core.specs.Keeping.{parts_kept, actives}
+use Rattle.am_core.specs.Memory.{adds_ninth_lock, adds_fifth_note, may_want_room}
+use Rattle.am_core.specs.Asking.{due_first, due_lock, IsLockRefusal, HasLocks, IsGranted, wish_of}
+use Rattle.am_core.specs.Doing.{MayWantRoom, Works, IsIdle}
+use Rattle.am_core.proofs.Actives.{is_in-actives, ops-actives, notes-actives, marks-actives, locks-actives, actives-did, actives-undid}
+
+-- ---- refusals that are due
+
+-- nothing is due before the lock
+pub record IsClear (active : Bool) (ops runs : ℕ) (op : Op) : Type 0 where
+  pub is_active : active ≡ true
+  pub few : nat_le 4096 ops ≡ false
+
+pub cleared : (active : Bool) (ops runs : ℕ) (op : Op) → None ≡ due_first active ops runs op → IsClear active ops runs op
+cleared true ops runs op e = record { is_active = refl; few = by_test (nat_le 4096 ops) _ e }
+  where
+    by_test : (b : Bool) (later : Option Refusal) → None ≡ cond b (Some TooManyOps) later → b ≡ false
+    by_test true later e = cc
+    by_test false later e = refl
+cleared false ops runs op e = cc
+
+module _ (parts : Partitions) (t : Txs) (wishes : List Interval) (commits tx : ℕ) (op : Op) where
+  p : Parts
+  p = parts_kept parts t wishes commits
+
+  first_is : due_first (is_active t.active tx) (ops_of t.active tx) parts.runs op ≡ due_first (is_in (actives t) tx) (in_table (actives t) tx).ops parts.runs op
+  first_is = λ i. due_first (sym (is_in-actives (locks_of t.locks) t.active tx) i) (sym (ops-actives (locks_of t.locks) t.active tx) i) parts.runs op
+
+  due_at : (first : Option Refusal) → first ≡ due_first (is_active t.active tx) (ops_of t.active tx) parts.runs op
+      → due_in (parts_kept parts t wishes commits) tx op ≡ or_else first (busy (blocker_in (actives t) tx (lock_of op)) (is_one_too_many (in_table (actives t) tx).locks (lock_of op)))
+  due_at first e = ap (λ (o : Option Refusal). or_else o (busy (blocker_in (actives t) tx (lock_of op)) (is_one_too_many (in_table (actives t) tx).locks (lock_of op)))) (sym (e ∙ first_is))
+
+  due_then : None ≡ due_first (is_active t.active tx) (ops_of t.active tx) parts.runs op → due_in (parts_kept parts t wishes commits) tx op ≡ due_lock t tx (lock_of op)
+  due_then e =
+      let a = (cleared (is_active t.active tx) (ops_of t.active tx) parts.runs op e).is_active in
+      due_at None e ∙ (λ i. busy (blocker_in (actives t) tx (lock_of op)) (is_one_too_many (locks-actives (locks_of t.locks) t.active tx a i) (lock_of op)))
+
+  abbrev Says : Reply → Option Refusal → Type 0
+  Says reply due = MatchOption due ((reply ≡ told op (in_table (actives t) tx).marks (content parts.entries)) ⊎ ((reply ≡ Refused NoMemory) × (takes_memory op ≡ true))) (λ why. reply ≡ Refused why)
+
+  pub says_first : (why : Refusal) → Some why ≡ due_first (is_active t.active tx) (ops_of t.active tx) parts.runs op → MaySay (parts_kept parts t wishes commits) (Do tx op) (Refused why)
+  says_first why e = subst (Says (Refused why)) (sym (due_at (Some why) e)) refl
+
+  -- ---- a refused lock
+
+  needs : (op : Op) (own : List TheLock) → adds_ninth_lock own (lock_of op) ≡ true → takes_memory op ≡ true
+  needs Back own e = cc
+  needs op own e = refl
+
+  pub says_lock : (why : Refusal) → None ≡ due_first (is_active t.active tx) (ops_of t.active tx) parts.runs op → IsLockRefusal t tx (lock_of op) why → MaySay (parts_kept parts t wishes commits) (Do tx op) (Refused why)
+  says_lock why e r = ⊎_elim
+      (λ due. subst (Says (Refused why)) (sym (due_then e ∙ due)) refl)
+      (λ wants. subst (Says (Refused why)) (sym (due_then e ∙ wants.1)) (inr (ap Refused wants.0, needs op (locks_of t.locks tx) wants.2)))
+      r
+
+  never : (o : Option ℕ) (b : Bool) → busy o b ≡ Some NoMemory → ⊥
+  never (Some h) b e = cc
+  never None true e = cc
+  never None false e = cc
+
+  by_lock : (op : Op) → adds_ninth_lock (in_table (actives t) tx).locks (lock_of op) ≡ true → may_want_room (parts_kept parts t wishes commits) (in_table (actives t) tx) op ≡ true
+  by_lock (Get k) e = e
+  by_lock (Scan range max) e = refl
+  by_lock (Insert k v) e = or_right (not (is_some (find parts.entries 0 k))) (adds_ninth_lock (in_table (actives t) tx).locks (lock_of (Insert k v)) || adds_fifth_note (in_table (actives t) tx).notes)
+      (or_left (adds_ninth_lock (in_table (actives t) tx).locks (lock_of (Insert k v))) (adds_fifth_note (in_table (actives t) tx).notes) e)
+  by_lock (Replace k v) e = or_left (adds_ninth_lock (in_table (actives t) tx).locks (lock_of (Replace k v))) (adds_fifth_note (in_table (actives t) tx).notes) e
+  by_lock (Delete k) e = or_left (adds_ninth_lock (in_table (actives t) tx).locks (lock_of (Delete k))) (adds_fifth_note (in_table (actives t) tx).notes) e
+  by_lock (Load pairs) e = refl
+  by_lock (Lock lock) e = e
+  by_lock Mark e = refl
+  by_lock Back e = cc
+
+  pub wants_lock : (why : Refusal) → None ≡ due_first (is_active t.active tx) (ops_of t.active tx) parts.runs op → IsLockRefusal t tx (lock_of op) why → Refused why ≡ Refused NoMemory
+      → may_want_room (parts_kept parts t wishes commits) (in_table (actives t) tx) op ≡ true
+  wants_lock why e r is =
+      let same : why ≡ NoMemory = cc in
+      let a = (cleared (is_active t.active tx) (ops_of t.active tx) parts.runs op e).is_active in
+      ⊎_elim
+      (λ due. absurd (never (blocker_in (actives t) tx (lock_of op)) (is_one_too_many (locks_of t.locks tx) (lock_of op)) (due ∙ ap Some same)))
+      (λ wants. by_lock op (ap (λ own. adds_ninth_lock own (lock_of op)) (locks-actives (locks_of t.locks) t.active tx a) ∙ wants.2))
+      r
+
+  -- ---- no memory beside the lock's
+
+  room_needs : (op : Op) (log : Log) → MayWantRoom op parts.entries log → takes_memory op ≡ true
+  room_needs Back log w = absurd w
+  room_needs op log w = refl
+
+  pub says_room : (parts' : Partitions) (log : Log) → None ≡ due_first (is_active t.active tx) (ops_of t.active tx) parts.runs op → due_lock t tx (lock_of op) ≡ None
+      → MayWantRoom op parts.entries log → MaySay (parts_kept parts t wishes commits) (Do tx op) (Refused NoMemory)
+  says_room parts' log e due w = subst (Says (Refused NoMemory)) (sym (due_then e ∙ due)) (inr (refl, room_needs op log w))
+
+  five : (log : Log) → log.notes ≡ (in_table (actives t) tx).notes → 4 ≤ length log.notes → adds_fifth_note (in_table (actives t) tx).notes ≡ true
+  five log e h = ap adds_fifth_note (sym e) ∙ le-leb 4 (length log.notes) h
+
+  by_room : (op : Op) (log : Log) → log.notes ≡ (in_table (actives t) tx).notes → MayWantRoom op parts.entries log → may_want_room (parts_kept parts t wishes commits) (in_table (actives t) tx) op ≡ true
+  by_room (Get k) log e w = absurd w
+  by_room (Scan range max) log e w = refl
+  by_room (Insert k v) log e w = by_slot (is_some (find parts.entries 0 k)) refl
+    where
+      by_slot : (b : Bool) → is_some (find parts.entries 0 k) ≡ b → (not b || (adds_ninth_lock (in_table (actives t) tx).locks (lock_of (Insert k v)) || adds_fifth_note (in_table (actives t) tx).notes)) ≡ true
+      by_slot true s = or_right (adds_ninth_lock (in_table (actives t) tx).locks (lock_of (Insert k v))) (adds_fifth_note (in_table (actives t) tx).notes) (five log e (w s))
+      by_slot false s = refl
+  by_room (Replace k v) log e w = or_right (adds_ninth_lock (in_table (actives t) tx).locks (lock_of (Replace k v))) (adds_fifth_note (in_table (actives t) tx).notes) (five log e w)
+  by_room (Delete k) log e w = or_right (adds_ninth_lock (in_table (actives t) tx).locks (lock_of (Delete k))) (adds_fifth_note (in_table (actives t) tx).notes) (five log e w)
+  by_room (Load pairs) log e w = refl
+  by_room (Lock lock) log e w = absurd w
+  by_room Mark log e w = refl
+  by_room Back log e w = absurd w
+
+  pub wants_room : (log : Log) → log ≡ log_of t.active tx → MayWantRoom op parts.entries log → may_want_room (parts_kept parts t wishes commits) (in_table (actives t) tx) op ≡ true
+  wants_room log e w = by_room op log (ap (λ (l : Log). l.notes) e ∙ sym (notes-actives (locks_of t.locks) t.active tx)) w
+
+  pub idle : (t1 t2 t3 : Txs) (parts' : Partitions) (held : ℕ) → IsConsistent t → HasLocks t tx (with_asked (locks_of t.locks tx) (lock_of op)) t1 → IsIdle parts t1 tx parts' t2
+      → held ≡ length (locks_of t.locks tx) → t3 ≡ record t2 { locks = with_locks t2.locks tx (take held (locks_of t2.locks tx)) } → parts_kept parts' t3 wishes commits ≡ parts_kept parts t wishes commits
+  idle t1 t2 t3 parts' held ok has stays before cut =
+      let notes = stays.untouched.notes ∙ (λ i. (log_of (has.active i) tx).notes) in
+      let marks = stays.untouched.marks ∙ (λ i. (log_of (has.active i) tx).marks) in
+      let same = actives-undid t t1 t2 t3 tx held (lock_of op) stays.log ok has stays.written before cut notes marks in
+      let begun : t3.begun ≡ t.begun = (λ i. (cut i).begun) ∙ (λ i. (stays.written i).begun) ∙ has.begun in
+      λ i. record { entries = stays.untouched.entries i; wishes = wishes; begun = begun i; commits = commits; runs = stays.untouched.runs i; active = same i }
+
+  -- ---- an operation that is done
+
+  abbrev IsAnswer : Reply → Type 0
+  IsAnswer (Refused why) = ⊥
+  IsAnswer reply = Unit {0}
+
+  answered_found : (v : Option (List ℕ)) → IsAnswer (found v)
+  answered_found None = tt
+  answered_found (Some v) = tt
+
+  answered_or : (b : Bool) (x y : Reply) → IsAnswer x → IsAnswer y → IsAnswer (cond b x y)
+  answered_or true x y h k = h
+  answered_or false x y h k = k
+
+  answered_taken : (o : Option OrderedKey) → IsAnswer (exists_or_done o)
+  answered_taken None = tt
+  answered_taken (Some k) = tt
+
+  answered : (op : Op) (marks : List ℕ) (m : PlainMap) → IsAnswer (told op marks m)
+  answered (Get k) marks m = answered_found (get m k)
+  answered (Scan range max) marks m = tt
+  answered (Insert k v) marks m = answered_or (contains_key m k) (Exists k) Done tt tt
+  answered (Replace k v) marks m = answered_or (contains_key m k) Done Missing tt tt
+  answered (Delete k) marks m = answered_or (contains_key m k) Done Missing tt tt
+  answered (Load pairs) marks m = answered_taken (least_taken pairs m)
+  answered (Lock lock) marks m = tt
+  answered Mark marks m = tt
+  answered Back marks m = answered_or (has_mark marks) Done NoMark tt tt
+
+  done_by : (reply : Reply) → IsAnswer reply → after_do (parts_kept parts t wishes commits) tx op reply ≡ record {
+    entries = changed (backed (parts_kept parts t wishes commits) tx) parts.runs op reply parts.entries;
+    wishes = with_wish wishes (wished op reply);
+    begun = t.begun;
+    commits = commits;
+    runs = parts.runs + runs_made op reply;
+    active = map (did tx op reply (noted parts.runs op reply parts.entries)) (actives t);
+  }
+  done_by (Refused why) h = absurd h
+  done_by reply h = refl
+
+  wished_found : (k : OrderedKey) (v : Option (List ℕ)) → wished (Get k) (found v) ≡ wish_of (Get k)
+  wished_found k None = refl
+  wished_found k (Some v) = refl
+
+  wished_is : (op : Op) (marks : List ℕ) (m : PlainMap) → wished op (told op marks m) ≡ wish_of op
+  wished_is (Get k) marks m = wished_found k (get m k)
+  wished_is (Scan range max) marks m = refl
+  wished_is (Insert k v) marks m = refl
+  wished_is (Replace k v) marks m = refl
+  wished_is (Delete k) marks m = refl
+  wished_is (Load pairs) marks m = refl
+  wished_is (Lock lock) marks m = refl
+  wished_is Mark marks m = refl
+  wished_is Back marks m = refl
+
+  pub says_done : (t1 t2 : Txs) (parts' : Partitions) (reply : Reply) → None ≡ due_first (is_active t.active tx) (ops_of t.active tx) parts.runs op → IsGranted t tx (lock_of op) t1
+      → Works op reply parts t1 tx parts' t2 → MaySay (parts_kept parts t wishes commits) (Do tx op) reply
+  says_done t1 t2 parts' reply e grant w =
+      let marks = (λ i. (log_of (grant.locks.active i) tx).marks) ∙ sym (marks-actives (locks_of t.locks) t.active tx) in
+      subst (Says reply) (sym (due_then e ∙ grant.due)) (inl (w.done.said ∙ (λ i. told op (marks i) (content parts.entries))))
+
+  pub after_done : (t1 t2 t3 : Txs) (parts' : Partitions) (wishes' : List Interval) (reply : Reply) → IsConsistent t → HasLocks t tx (with_asked (locks_of t.locks tx) (lock_of op)) t1
+      → Works op reply parts t1 tx parts' t2 → t3 ≡ counted t2 tx → wishes' ≡ with_wish wishes (wish_of op)
+      → parts_kept parts' t3 wishes' commits ≡ after_do (parts_kept parts t wishes commits) tx op reply
+  after_done t1 t2 t3 parts' wishes' reply ok has w count wish =
+      let log : log_of t1.active tx ≡ log_of t.active tx = λ i. log_of (has.active i) tx in
+      let notes = w.done.notes ∙ (λ i. noted parts.runs op reply parts.entries ++ notes_left op reply (log i).marks (log i).notes) in
+      let marks = w.done.marks ∙ (λ i. marks_left op reply (length (log i).notes) (log i).marks) in
+      let all = actives-did t t1 t2 t3 tx op reply (noted parts.runs op reply parts.entries) w.log ok has w.written count notes marks in
+      let begun : t3.begun ≡ t.begun = (λ i. (count i).begun) ∙ (λ i. (w.written i).begun) ∙ has.begun in
+      let es = w.done.entries
+          ∙ (λ i. changed (taken_back (since_mark (log i).marks (log i).notes) parts.entries) parts.runs op reply parts.entries)
+          ∙ (λ i. changed (taken_back (since_mark (sym (marks-actives (locks_of t.locks) t.active tx) i) (sym (notes-actives (locks_of t.locks) t.active tx) i)) parts.entries) parts.runs op reply parts.entries) in
+      let ws = wish ∙ ap (with_wish wishes) (sym (ap (wished op) w.done.said ∙ wished_is op (log_of t1.active tx).marks (content parts.entries))) in
+      let is = subst IsAnswer (sym w.done.said) (answered op (log_of t1.active tx).marks (content parts.entries)) in
+      (λ i. record { entries = es i; wishes = ws i; begun = begun i; commits = commits; runs = w.done.runs i; active = all i }) ∙ sym (done_by reply is)
+
+-- ---- it stays active, with few operations
+
+pub active_then : (t t1 t2 : Txs) (tx : ℕ) (log : Log) → t1.active ≡ t.active → t2 ≡ with_log t1 tx log → is_active t.active tx ≡ true → is_active t2.active tx ≡ true
+active_then t t1 t2 tx log same written a =
+    (λ i. is_active (written i).active tx) ∙ is_active-changed (λ x. record x { log = log }) tx tx t1.active (λ x. refl) ∙ (λ i. is_active (same i) tx) ∙ a
+
+pub few_then : (t t1 t2 : Txs) (tx : ℕ) (log : Log) → t1.active ≡ t.active → t2 ≡ with_log t1 tx log → nat_le 4096 (ops_of t.active tx) ≡ false → ops_of t2.active tx < 4096
+few_then t t1 t2 tx log same written few =
+    let less = leb-false 4096 (ops_of t.active tx) few in
+    let is : ops_of t2.active tx ≡ ops_of t.active tx =
+    (λ i. ops_of (written i).active tx) ∙ of_active-kept (λ x. x.ops) 0 (λ x. record x { log = log }) tx tx t1.active (λ x. refl) (λ x. refl) ∙ (λ i. ops_of (same i) tx) in
+    omega (arith, less, is)

@@ -1,0 +1,55 @@
+-- What comes before an operation: the refusals that are due, and its lock.
+use Rattle.std.specs.Prelude.{◌≡◌, ◌≢◌, ◌⊎◌, ℕ, nat_le, List, Bool, true, cond, not, ◌&&◌, Option, Some, None}
+use Rattle.am_record.specs.Interval.{Interval, point}
+use Rattle.am_record.specs.Plain.{is_orderly}
+use Rattle.am_record.specs.Asks.{with_asked}
+use Rattle.am_record.specs.declared.lock.Lock.{Lock}
+use Rattle.am_record.specs.declared.step.Refusal.{Refusal}
+use Rattle.am_record.specs.declared.step.Refusal.TheVariants.{NoSuchTx, TooManyOps, NotRising, BadLimit, TooManyRuns, NoMemory}
+use Rattle.am_record.specs.declared.step.Op.{Op}
+use Rattle.am_record.specs.declared.step.Op.TheVariants.{Get, Scan}
+use Rattle.am_locks.specs.Table.{is_owner, locks_of}
+use Rattle.am_tx.specs.Txs.{Txs}
+use Rattle.am_serial.specs.Machine.{is_bounded, is_load, is_one_too_many, busy}
+use Rattle.am_steps.specs.Parts.{blocker_in}
+use Rattle.am_core.specs.Keeping.{actives}
+use Rattle.am_core.specs.Memory.{adds_ninth_lock}
+
+-- the refusal that is due before a lock is asked for
+abbrev pub due_first : Bool → ℕ → ℕ → Op → Option Refusal
+due_first active ops runs op =
+    cond (not active) (Some NoSuchTx)
+    (cond (nat_le 4096 ops) (Some TooManyOps)
+    (cond (not (is_orderly op)) (Some NotRising)
+    (cond (not (is_bounded op)) (Some BadLimit)
+    (cond (is_load op && nat_le 65535 runs) (Some TooManyRuns)
+    None))))
+
+-- the refusal that is due for the lock that is asked for
+abbrev pub due_lock : Txs → ℕ → Option Lock → Option Refusal
+due_lock txs tx asked = busy (blocker_in (actives txs) tx asked) (is_one_too_many (locks_of txs.locks tx) asked)
+
+-- the lock is refused: for the reason that is due, or for want of memory where none is
+abbrev pub IsLockRefusal : Txs → ℕ → Option Lock → Refusal → Type 0
+IsLockRefusal txs tx asked why =
+    (due_lock txs tx asked ≡ Some why)
+    ⊎ ((why ≡ NoMemory) × (due_lock txs tx asked ≡ None) × (adds_ninth_lock (locks_of txs.locks tx) asked ≡ true))
+
+-- of the table of transactions, the locks of this one are those, and nothing else is changed
+pub record HasLocks (txs : Txs) (tx : ℕ) (own : List Lock) (txs' : Txs) : Type 0 where
+  pub begun : txs'.begun ≡ txs.begun
+  pub active : txs'.active ≡ txs.active
+  pub owner : is_owner txs'.locks tx ≡ true
+  pub holds : locks_of txs'.locks tx ≡ own
+  pub others : (u : ℕ) → u ≢ tx → locks_of txs'.locks u ≡ locks_of txs.locks u
+
+-- the lock is granted
+pub record IsGranted (txs : Txs) (tx : ℕ) (asked : Option Lock) (txs' : Txs) : Type 0 where
+  pub due : due_lock txs tx asked ≡ None
+  pub locks : HasLocks txs tx (with_asked (locks_of txs.locks tx) asked) txs'
+
+-- the wish that the operation leaves once it is answered
+abbrev pub wish_of : Op → Option Interval
+wish_of (Get k) = Some (point k)
+wish_of (Scan range max) = Some range
+wish_of op = None

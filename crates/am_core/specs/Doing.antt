@@ -1,0 +1,68 @@
+-- What one operation of a transaction does to the partitions and to its log, once its lock is granted.
+use Rattle.std.specs.Prelude.{◌≡◌, ℕ, ◌+◌, ◌≤◌, length, List, ◌++◌, false, Some, IsSome}
+use Rattle.std.specs.FinMap.{get}
+use Rattle.am_record.specs.OrderedKey.{OrderedKey}
+use Rattle.am_record.specs.declared.entry.Entry.{Entry}
+use Rattle.am_record.specs.declared.step.Op.{Op}
+use Rattle.am_record.specs.declared.step.Op.TheVariants.{Insert, Replace, Delete, Load, Scan, Mark}
+use Rattle.am_record.specs.declared.step.Reply.{Reply}
+use Rattle.am_list.specs.Entries.{find}
+use Rattle.am_list.specs.Content.{content, IsLiveAt}
+use Rattle.am_parts.specs.Partitions.{Partitions}
+use Rattle.am_undo.specs.Log.{Log}
+use Rattle.am_undo.specs.Marks.{since_mark}
+use Rattle.am_serial.specs.Trace.{runs_made}
+use Rattle.am_effect.specs.Laws.{taken_back}
+use Rattle.am_effect.specs.Store.{changed, noted, notes_left, marks_left}
+use Rattle.am_follow.specs.At.{told}
+use Rattle.am_tx.specs.Active.{log_of}
+use Rattle.am_tx.specs.Txs.{Txs, with_log}
+
+-- the operation had this reply, and did with it what it does
+pub record IsDone (op : Op) (reply : Reply) (parts : Partitions) (log : Log) (parts' : Partitions) (log' : Log) : Type 0 where
+  pub said : reply ≡ told op log.marks (content parts.entries)
+  pub entries : parts'.entries ≡ changed (taken_back (since_mark log.marks log.notes) parts.entries) parts.runs op reply parts.entries
+  pub runs : parts'.runs ≡ parts.runs + runs_made op reply
+  pub notes : log'.notes ≡ noted parts.runs op reply parts.entries ++ notes_left op reply log.marks log.notes
+  pub marks : log'.marks ≡ marks_left op reply (length log.notes) log.marks
+
+-- nothing was done, though the log may have got room for a note
+pub record IsUntouched (parts : Partitions) (log : Log) (parts' : Partitions) (log' : Log) : Type 0 where
+  pub entries : parts'.entries ≡ parts.entries
+  pub runs : parts'.runs ≡ parts.runs
+  pub notes : log'.notes ≡ log.notes
+  pub marks : log'.marks ≡ log.marks
+
+-- the entry is the one that has the key live
+pub record IsLiveEntry (es : List Entry) (key : OrderedKey) (e : Entry) : Type 0 where
+  pub key_is : e.key ≡ key
+  pub no_ghost : e.is_ghost ≡ false
+  pub there : IsLiveAt es e.part key e.value
+  pub has : get (content es) key ≡ Some e.value
+
+-- when an operation may want memory beside its lock's: for the fifth note, the fifth and so on; a Scan, a Load, a Mark and an Insert
+-- of a key that has no entry in the final partition always may
+abbrev pub MayWantRoom : Op → List Entry → Log → Type 0
+MayWantRoom (Insert k v) es log = IsSome (find es 0 k) → 4 ≤ length log.notes
+MayWantRoom (Replace k v) es log = 4 ≤ length log.notes
+MayWantRoom (Delete k) es log = 4 ≤ length log.notes
+MayWantRoom (Scan range max) es log = Unit {0}
+MayWantRoom (Load pairs) es log = Unit {0}
+MayWantRoom Mark es log = Unit {0}
+MayWantRoom op es log = ⊥
+
+-- of the table of transactions, the log of this one was changed, and nothing else
+pub record HasNewLog (txs : Txs) (tx : ℕ) (txs' : Txs) : Type 0 where
+  pub log : Log
+  pub written : txs' ≡ with_log txs tx log
+
+-- the same of the table of transactions and its transaction's log
+pub record Works (op : Op) (reply : Reply) (parts : Partitions) (txs : Txs) (tx : ℕ) (parts' : Partitions) (txs' : Txs) : Type 0 where
+  pub log : Log
+  pub written : txs' ≡ with_log txs tx log
+  pub done : IsDone op reply parts (log_of txs.active tx) parts' log
+
+pub record IsIdle (parts : Partitions) (txs : Txs) (tx : ℕ) (parts' : Partitions) (txs' : Txs) : Type 0 where
+  pub log : Log
+  pub written : txs' ≡ with_log txs tx log
+  pub untouched : IsUntouched parts (log_of txs.active tx) parts' log

@@ -1,0 +1,39 @@
+-- Which steps may be refused for want of memory.
+use Rattle.std.specs.Prelude.{nat_le, length, List, Bool, true, false, not, ◌&&◌, ◌||◌, Option, Some, None, is_some}
+use Rattle.am_record.specs.Locks.{is_covered}
+use Rattle.am_record.specs.Asks.{lock_of}
+use Rattle.am_record.specs.declared.lock.Lock.{Lock}
+use Rattle.am_record.specs.declared.step.Op.{Op}
+use Rattle.am_record.specs.declared.step.Op.TheVariants.{Get, Scan, Insert, Replace, Delete, Load, Lock as TakeLock, Mark, Back}
+use Rattle.am_record.specs.declared.step.Step.{Step}
+use Rattle.am_record.specs.declared.step.Step.TheVariants.{Do, Merge}
+use Rattle.am_list.specs.Entries.{find}
+use Rattle.am_undo.specs.declared.note.Note.{Note}
+use Rattle.am_steps.specs.Parts.{Active, Parts, in_table}
+
+-- the lock would be added to eight or more: eight stand in the table itself
+abbrev pub adds_ninth_lock : List Lock → Option Lock → Bool
+adds_ninth_lock own None = false
+adds_ninth_lock own (Some asked) = not (is_covered own asked) && nat_le 8 (length own)
+
+-- a note would be added to four or more: four stand in the log itself
+abbrev pub adds_fifth_note : List Note → Bool
+adds_fifth_note notes = nat_le 4 (length notes)
+
+-- whether the operation of that transaction may want memory. An Insert does where the key has no entry in the final partition yet
+abbrev pub may_want_room : Parts → Active → Op → Bool
+may_want_room p x (Get k) = adds_ninth_lock x.locks (lock_of (Get k))
+may_want_room p x (TakeLock lock) = adds_ninth_lock x.locks (Some lock)
+may_want_room p x (Replace k v) = adds_ninth_lock x.locks (lock_of (Replace k v)) || adds_fifth_note x.notes
+may_want_room p x (Delete k) = adds_ninth_lock x.locks (lock_of (Delete k)) || adds_fifth_note x.notes
+may_want_room p x (Insert k v) = not (is_some (find p.entries 0 k)) || (adds_ninth_lock x.locks (lock_of (Insert k v)) || adds_fifth_note x.notes)
+may_want_room p x (Scan range max) = true
+may_want_room p x (Load pairs) = true
+may_want_room p x Mark = true
+may_want_room p x Back = false
+
+-- whether the step may be refused for want of memory: a Begin, a Commit, an Abort, a Clean and a Back never are
+abbrev pub may_want_memory : Parts → Step → Bool
+may_want_memory p (Do t op) = may_want_room p (in_table p.active t) op
+may_want_memory p (Merge limit) = true
+may_want_memory p _ = false

@@ -1,0 +1,43 @@
+//! What a store keeps, and its steps.
+
+ghost use Rattle.std.specs.Prelude.{◌≡◌, ◌+◌, ◌≤◌, ◌^◌, length, true};
+ghost use Rattle.am_record.specs.declared.step.Refusal.TheVariants.{NoMemory};
+ghost use Rattle.am_steps.specs.Parts.{MaySay, after, IsFit};
+ghost use Rattle.am_core.specs.Memory.{may_want_memory};
+ghost use Rattle.am_core.specs.Whole.{whole};
+
+use am_list::PartIndex;
+use am_merge::Wishes;
+use am_parts::Parts;
+use am_record::{Reply, Step};
+use am_tx::TxTable;
+use std::alloc::Global;
+
+/// The partitions, the active transactions, the wishes and the number of commits.
+#[derive(Drop)]
+pub(crate) struct Kept<I: PartIndex + Drop> {
+    pub(crate) alloc: Global,
+    pub(crate) parts: Parts<I>,
+    pub(crate) txs: TxTable,
+    pub(crate) wishes: Wishes,
+    pub(crate) commits: u64,
+}
+
+impl<I: PartIndex + Drop> Kept<I> {
+    pub(crate) fn step(&mut self, step: Step) -> Reply
+        requires fit { IsFit (whole self.old) }
+        requires few { self.old.commits + length self.old.txs.active ≤ 2 ^ 63 }
+        ensures says { MaySay (whole self.old) step result }
+        ensures after { whole self.new ≡ after (whole self.old) step result }
+        ensures memory { result ≡ Reply.Refused NoMemory → may_want_memory (whole self.old) step ≡ true }
+    {
+        match step {
+            Step::Begin => self.begin(),
+            Step::Do(tx, op) => self.operate(tx, op),
+            Step::Commit(tx) => self.commit(tx),
+            Step::Abort(tx) => self.abort(tx),
+            Step::Merge(limit) => self.merge(limit),
+            Step::Clean(range, limit) => self.clean(range, limit),
+        }
+    }
+}

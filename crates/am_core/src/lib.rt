@@ -1,0 +1,23 @@
+//! The store: every step of every transaction over a partitioned index.
+#![tactic(auto)]
+
+mod asking;
+mod entries;
+mod kept;
+mod loads;
+mod maintenance;
+mod operation;
+mod reads;
+mod running;
+mod savepoints;
+mod store;
+mod transactions;
+mod writes;
+
+pub use asking::MAX_ROWS;
+pub use maintenance::MAX_LIMIT;
+pub use running::run;
+pub use store::Store;
+
+#[cfg(test)]
+mod tests;

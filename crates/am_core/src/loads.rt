@@ -1,0 +1,39 @@
+//! Load.
+
+ghost use Rattle.std.specs.Prelude.{◌≡◌, ◌<◌, true, IfOk, OnErr};
+ghost use Rattle.am_record.specs.Plain.{is_rising};
+ghost use Rattle.am_runs.specs.Loads.{NothingAbove};
+ghost use Rattle.am_core.specs.Doing.{IsDone, IsUntouched};
+ghost use Rattle.am_record.specs.declared.step.Op.TheVariants.{Load};
+
+use am_list::PartIndex;
+use am_parts::Parts;
+use am_record::{NoMemory, Pairs, Reply};
+use am_runs::{Run, load};
+use am_undo::{Note, UndoLog};
+
+/// Makes the pairs a new run, where none of them is live.
+pub(crate) fn load_pairs<I: PartIndex + Drop>(
+    parts: &mut Parts<I>,
+    log: &mut UndoLog,
+    pairs: Pairs,
+) -> Result<Reply, NoMemory>
+    requires rising { is_rising pairs ≡ true }
+    requires room { parts.old.runs < 65535 }
+    requires above { NothingAbove parts.old.runs parts.old.entries }
+    ensures done { IfOk result (λ reply. IsDone (Load pairs) reply parts.old log.old parts.new log.new) }
+    ensures err { OnErr result (IsUntouched parts.old log.old parts.new log.new) }
+{
+    let Ok(run) = Run::new(pairs.into_vec()) else {
+        unreachable!()
+    };
+    log.reserve_one()?;
+    match load(parts, &run) {
+        Reply::Done => {
+            log.note(Note::RunMade(parts.runs()));
+            Ok(Reply::Done)
+        }
+        Reply::Exists(key) => Ok(Reply::Exists(key)),
+        _ => Err(NoMemory),
+    }
+}

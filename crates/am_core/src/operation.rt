@@ -1,0 +1,124 @@
+//! One operation of a transaction.
+
+ghost use Rattle.std.specs.Prelude.{◌≡◌, true, false, ◌&&◌, nat_le, IfOk, OnErr};
+ghost use Rattle.am_record.specs.Plain.{is_orderly};
+ghost use Rattle.am_record.specs.declared.step.Step.TheVariants.{Do};
+ghost use Rattle.am_record.specs.declared.step.Refusal.TheVariants.{NoMemory as OutOfMemory};
+ghost use Rattle.am_list.specs.Entries.{find};
+ghost use Rattle.am_undo.specs.Marks.{since_mark};
+ghost use Rattle.am_undo.specs.Notes.{CanTakeBack};
+ghost use Rattle.am_runs.specs.Loads.{NothingAbove};
+ghost use Rattle.am_tx.specs.Active.{is_active, log_of};
+ghost use Rattle.am_serial.specs.Machine.{is_load};
+ghost use Rattle.am_steps.specs.Parts.{MaySay, after, IsFit};
+ghost use Rattle.am_effect.specs.Store.{with_wish};
+ghost use Rattle.am_core.specs.Doing.{IsDone, IsUntouched, MayWantRoom, Works, IsIdle};
+ghost use Rattle.am_core.specs.Memory.{may_want_memory};
+ghost use Rattle.am_core.specs.Whole.{whole};
+
+use crate::asking::{ask, lock_of, refusal, wish_of};
+use crate::kept::Kept;
+use crate::loads::load_pairs;
+use crate::reads::get;
+use crate::savepoints::go_back;
+use crate::writes::{delete, insert, replace};
+use am_list::PartIndex;
+use am_merge::Wishes;
+use am_parts::Parts;
+use am_record::{NoMemory, Op, Pairs, Range, Refusal, Reply};
+use am_scan::scan;
+use am_tx::TxTable;
+use am_undo::UndoLog;
+use std::alloc::Global;
+
+impl<I: PartIndex + Drop> Kept<I> {
+    /// Asks for the operation's lock first, then does it, then counts it. A lock that was granted is
+    /// cut again where memory is refused later.
+    pub(crate) fn operate(&mut self, tx: u64, op: Op) -> Reply
+        requires { IsFit (whole self.old) }
+        ensures says { MaySay (whole self.old) (Do tx op) result }
+        ensures after { whole self.new ≡ after (whole self.old) (Do tx op) result }
+        ensures memory { result ≡ Reply.Refused OutOfMemory → may_want_memory (whole self.old) (Do tx op) ≡ true }
+    {
+        am_runs::load_follows();
+        // Read here, the numbers of the active transactions are known to rise.
+        let _active = self.txs.active();
+        if let Some(why) = refusal(&self.parts, &self.txs, tx, &op) {
+            return Reply::Refused(why);
+        }
+        let held = match ask(&mut self.txs, tx, lock_of(&op)) {
+            Ok(held) => held,
+            Err(why) => return Reply::Refused(why),
+        };
+        let wish = wish_of(&op);
+        let Ok(reply) = work(self.alloc, &mut self.parts, &mut self.txs, tx, op) else {
+            self.txs.cut(tx, held);
+            return Reply::Refused(Refusal::NoMemory);
+        };
+        self.txs.count_op(tx);
+        wish_for(&mut self.wishes, wish);
+        reply
+    }
+}
+
+fn wish_for(wishes: &mut Wishes, wish: Option<Range>)
+    ensures { wishes.new ≡ with_wish wishes.old wish }
+{
+    if let Some(range) = wish {
+        wishes.wish(range);
+    }
+}
+
+// Does the operation of the transaction, whose lock is granted.
+fn work<I: PartIndex + Drop>(
+    alloc: Global,
+    parts: &mut Parts<I>,
+    txs: &mut TxTable,
+    tx: u64,
+    op: Op,
+) -> Result<Reply, NoMemory>
+    requires active { is_active txs.old.active tx ≡ true }
+    requires orderly { is_orderly op ≡ true }
+    requires room { (is_load op && nat_le 65535 parts.old.runs) ≡ false }
+    requires above { NothingAbove parts.old.runs parts.old.entries }
+    requires back { CanTakeBack (since_mark (log_of txs.old.active tx).marks (log_of txs.old.active tx).notes) (find parts.old.entries) }
+    ensures done { IfOk result (λ reply. Works op reply parts.old txs.old tx parts.new txs.new) }
+    ensures err { OnErr result (IsIdle parts.old txs.old tx parts.new txs.new) }
+    ensures memory { OnErr result (MayWantRoom op parts.old.entries (log_of txs.old.active tx)) }
+{
+    carry_out(alloc, parts, txs.undo(tx), op)
+}
+
+// Does the operation, and notes it.
+fn carry_out<I: PartIndex + Drop>(
+    alloc: Global,
+    parts: &mut Parts<I>,
+    log: &mut UndoLog,
+    op: Op,
+) -> Result<Reply, NoMemory>
+    requires orderly { is_orderly op ≡ true }
+    requires room { (is_load op && nat_le 65535 parts.old.runs) ≡ false }
+    requires above { NothingAbove parts.old.runs parts.old.entries }
+    requires back { CanTakeBack (since_mark log.old.marks log.old.notes) (find parts.old.entries) }
+    ensures done { IfOk result (λ reply. IsDone op reply parts.old log.old parts.new log.new) }
+    ensures err { OnErr result (IsUntouched parts.old log.old parts.new log.new) }
+    ensures memory { OnErr result (MayWantRoom op parts.old.entries log.old) }
+{
+    match op {
+        Op::Get(key) => Ok(get(parts, key)),
+        Op::Scan(range, max) => {
+            let rows = scan(alloc, parts, range, max)?;
+            Ok(Reply::Rows(Pairs::new(rows)))
+        }
+        Op::Insert(key, value) => insert(parts, log, key, value),
+        Op::Replace(key, value) => replace(parts, log, key, value),
+        Op::Delete(key) => delete(parts, log, key),
+        Op::Load(pairs) => load_pairs(parts, log, pairs),
+        Op::Lock(_) => Ok(Reply::Done),
+        Op::Mark => {
+            log.mark()?;
+            Ok(Reply::Done)
+        }
+        Op::Back => Ok(go_back(parts, log)),
+    }
+}

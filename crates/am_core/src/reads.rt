@@ -1,0 +1,45 @@
+//! Get, and the live entry of a key.
+
+ghost use Rattle.std.specs.Prelude.{◌≡◌, Some, None, IfSome, IfNone};
+ghost use Rattle.std.specs.FinMap.{get};
+ghost use Rattle.am_record.specs.Plain.{found};
+ghost use Rattle.am_list.specs.Content.{content};
+ghost use Rattle.am_parts.specs.Partitions.{IsSound};
+ghost use Rattle.am_effect.specs.Store.{find_live};
+ghost use Rattle.am_core.specs.Doing.{IsLiveEntry};
+
+use am_list::PartIndex;
+use am_parts::Parts;
+use am_record::{Entry, Key, Reply};
+
+/// The value under the key.
+pub(crate) fn get<I: PartIndex + Drop>(parts: &Parts<I>, key: Key) -> Reply
+    ensures { result ≡ found (get (content parts.now.entries) key) }
+{
+    match find_live(parts, key) {
+        Some(entry) => Reply::Found(entry.value),
+        None => Reply::Absent,
+    }
+}
+
+/// The entry that has the key live.
+pub(crate) fn find_live<I: PartIndex + Drop>(parts: &Parts<I>, key: Key) -> Option<Entry>
+    ensures found { result ≡ find_live parts.now.entries key }
+    ensures live { IfSome result (λ e. IsLiveEntry parts.now.entries key e) }
+    ensures dead { IfNone result (get (content parts.now.entries) key ≡ None) }
+    ensures sound { IsSound parts.now.entries }
+{
+    am_effect::edits_are_known();
+    let Some(part) = parts.place_of(key) else {
+        return None;
+    };
+    let Some((value, is_ghost)) = parts.find(part, key) else {
+        unreachable!()
+    };
+    Some(Entry {
+        part,
+        key,
+        value,
+        is_ghost,
+    })
+}

@@ -1,0 +1,28 @@
+//! Mark and Back.
+
+ghost use Rattle.std.specs.Prelude.{◌≡◌, IfOk, OnErr};
+ghost use Rattle.am_list.specs.Entries.{find};
+ghost use Rattle.am_undo.specs.Marks.{since_mark};
+ghost use Rattle.am_undo.specs.Notes.{CanTakeBack};
+ghost use Rattle.am_core.specs.Doing.{IsDone};
+ghost use Rattle.am_record.specs.declared.step.Op.TheVariants.{Back};
+
+use am_list::PartIndex;
+use am_parts::Parts;
+use am_record::Reply;
+use am_undo::UndoLog;
+
+/// Back to the newest mark, which goes. Takes no memory.
+pub(crate) fn go_back<I: PartIndex + Drop>(parts: &mut Parts<I>, log: &mut UndoLog) -> Reply
+    requires { CanTakeBack (since_mark log.old.marks log.old.notes) (find parts.old.entries) }
+    ensures { IsDone Back result parts.old log.old parts.new log.new }
+{
+    am_effect::taking_back_is_known();
+    // Read here, the entries are known to rise.
+    let _runs = parts.runs();
+    if log.back(parts) {
+        Reply::Done
+    } else {
+        Reply::NoMark
+    }
+}

@@ -1,0 +1,94 @@
+//! The store.
+
+ghost use Rattle.std.specs.Prelude.{◌≡◌, [], ◌∷◌, true, IfOk};
+ghost use Rattle.am_record.specs.declared.step.Refusal.{Refusal as TheRefusal};
+ghost use Rattle.am_record.specs.declared.step.Refusal.TheVariants.{NoMemory as OutOfMemory};
+ghost use Rattle.am_steps.specs.Parts.{empty_parts, MaySay, after};
+ghost use Rattle.am_core.specs.Memory.{may_want_memory};
+ghost use Rattle.am_core.specs.Standing.{StandsAt, GoesOn, IsWithin};
+
+use crate::entries::all_entries;
+use crate::kept::Kept;
+use am_list::PartIndex;
+use am_merge::Wishes;
+use am_parts::Parts;
+use am_record::{Entry, NoMemory, Reply, Step};
+use am_tx::TxTable;
+use std::alloc::Global;
+use std::marker::Model;
+
+/// A transactional store over a partitioned index.
+#[derive(Drop)]
+pub struct Store<I: PartIndex + Drop> {
+    kept: Kept<I>,
+}
+
+impl<I: PartIndex + Drop> Model for Store<I> {
+    ghost use Rattle.am_steps.specs.Parts.{Parts};
+    ghost use Rattle.am_core.specs.Keeping.{parts_kept, parts_code, IsReached};
+
+    ghost Value = { Parts };
+
+    ghost coded = { parts_code };
+
+    ghost view = { λ s. parts_kept s.kept.parts s.kept.txs s.kept.wishes s.kept.commits };
+
+    ghost invariant = { λ s. IsReached (parts_kept s.kept.parts s.kept.txs s.kept.wishes s.kept.commits) };
+}
+
+impl<I: PartIndex + Drop> Store<I> {
+    /// A store over an empty index.
+    ///
+    /// # Errors
+    /// NoMemory, where memory was refused for the ring of wishes.
+    pub fn open(alloc: Global, index: I) -> Result<Store<I>, NoMemory>
+        requires { I.entries index ≡ [] }
+        ensures empty { IfOk result (λ store. store ≡ empty_parts) }
+        ensures stands { IfOk result (λ store. StandsAt [] store) }
+    {
+        am_steps::steps_lift();
+        let wishes = Wishes::new(alloc)?;
+        let kept = Kept {
+            alloc,
+            parts: Parts::new(index),
+            txs: TxTable::new(alloc),
+            wishes,
+            commits: 0,
+        };
+        Ok(Store { kept })
+    }
+
+    /// Takes one step, whole, and answers it. What a step owes is said by what the store keeps
+    /// before it, and wherever the store stood, it stands there with this step added: so the trace of
+    /// all its steps is sound at each moment.
+    pub fn step(&mut self, step: Step) -> Reply
+        ensures says { MaySay self.old step result }
+        ensures after { self.new ≡ after self.old step result }
+        ensures goes { GoesOn self.old ((step, result) ∷ []) self.new }
+
+        // A refused step leaves the store as it was.
+        ensures refused { (why : TheRefusal) → result ≡ Reply.Refused why → self.new ≡ self.old }
+        ensures memory { result ≡ Reply.Refused OutOfMemory → may_want_memory self.old step ≡ true }
+        ensures within { IsWithin step result }
+    {
+        am_steps::steps_lift();
+        self.kept.step(step)
+    }
+
+    /// The entries of all partitions, ghosts too, by partition and key.
+    ///
+    /// # Errors
+    /// NoMemory, where memory was refused.
+    pub fn entries(&self, alloc: Global) -> Result<Vec<Entry>, NoMemory>
+        ensures { IfOk result (λ entries. entries.items ≡ self.now.entries) }
+    {
+        all_entries(alloc, &self.kept.parts)
+    }
+
+    /// How many transactions committed.
+    pub fn commits(&self) -> u64
+        ensures { result ≡ self.now.commits }
+    {
+        self.kept.commits
+    }
+}

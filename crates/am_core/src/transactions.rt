@@ -1,0 +1,69 @@
+//! Begin, Commit and Abort. They take no memory.
+
+ghost use Rattle.std.specs.Prelude.{◌≡◌, ◌+◌, ◌≤◌, ◌<◌, ◌^◌, length, true};
+ghost use Rattle.am_record.specs.declared.step.Step.TheVariants.{Begin, Commit, Abort};
+ghost use Rattle.am_steps.specs.Parts.{MaySay, after, IsFit};
+ghost use Rattle.am_list.specs.Entries.{find};
+ghost use Rattle.am_undo.specs.Notes.{TakesBack, CanTakeBack};
+ghost use Rattle.am_tx.specs.Active.{is_active, log_of};
+ghost use Rattle.am_core.specs.Doing.{HasNewLog};
+ghost use Rattle.am_core.specs.Whole.{whole};
+
+use crate::kept::Kept;
+use am_list::PartIndex;
+use am_parts::Parts;
+use am_record::{Refusal, Reply};
+use am_tx::TxTable;
+
+impl<I: PartIndex + Drop> Kept<I> {
+    pub(crate) fn begin(&mut self) -> Reply
+        ensures says { MaySay (whole self.old) Begin result }
+        ensures after { whole self.new ≡ after (whole self.old) Begin result }
+    {
+        // Read here, the table's numbers are known to rise.
+        let _active = self.txs.active();
+        match self.txs.begin() {
+            Some(tx) => Reply::Begun(tx),
+            None => Reply::Refused(Refusal::TooManyTx),
+        }
+    }
+
+    pub(crate) fn commit(&mut self, tx: u64) -> Reply
+        requires { self.old.commits + length self.old.txs.active ≤ 2 ^ 63 }
+        ensures says { MaySay (whole self.old) (Commit tx) result }
+        ensures after { whole self.new ≡ after (whole self.old) (Commit tx) result }
+    {
+        if !self.txs.is_active(tx) {
+            return Reply::Refused(Refusal::NoSuchTx);
+        }
+        self.txs.end(tx);
+        self.commits += 1;
+        Reply::Committed(self.commits)
+    }
+
+    pub(crate) fn abort(&mut self, tx: u64) -> Reply
+        requires { IsFit (whole self.old) }
+        ensures says { MaySay (whole self.old) (Abort tx) result }
+        ensures after { whole self.new ≡ after (whole self.old) (Abort tx) result }
+    {
+        am_effect::taking_back_is_known();
+        if !self.txs.is_active(tx) {
+            return Reply::Refused(Refusal::NoSuchTx);
+        }
+        let txs = &mut self.txs;
+        take_back(txs, tx, &mut self.parts);
+        txs.end(tx);
+        Reply::Aborted
+    }
+}
+
+// Takes all that the transaction did back.
+fn take_back<I: PartIndex + Drop>(txs: &mut TxTable, tx: u64, parts: &mut Parts<I>)
+    requires active { is_active txs.old.active tx ≡ true }
+    requires can { CanTakeBack (log_of txs.old.active tx).notes (find parts.old.entries) }
+    ensures entries { TakesBack (log_of txs.old.active tx).notes parts.old.entries parts.new.entries }
+    ensures runs { parts.new.runs ≡ parts.old.runs }
+    ensures log { HasNewLog txs.old tx txs.new }
+{
+    txs.undo(tx).take_back(parts);
+}

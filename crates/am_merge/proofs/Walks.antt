@@ -1,0 +1,366 @@
+-- Walks over the entries of a range, from partition to partition.
+use Rattle.std.proofs.Common.{◌≡◌, ◌≢◌, ℕ, ◌+◌, ◌-◌, ◌^◌, ◌<◌, ◌≤◌, List, Bool, true, false, cond, Option, Some, None, refl, sym, ap, ◌∙◌, subst, arith, ◌⊎◌, inl, inr, ⊎_elim}
+use Rattle.std.specs.Prelude.{nat_le, ◌==◌, ◌&&◌, not}
+use Rattle.std.proofs.lemmas.Bool.{cases_Bool, cond-true, cond-false, both_ways, and_parts, and_from, and_left, false_from_ne_true, true_from_ne_false, leb-true, le-leb, eqb-true, eq-eqb}
+use Rattle.std.specs.declared.cmp.Ordering.{Ordering}
+use Rattle.std.specs.declared.cmp.Ordering.TheVariants.{Less, Equal, Greater}
+use Rattle.std.specs.Ordering.{is_lt, is_gt, is_le, is_ge, ordering_reverse}
+use Rattle.std.specs.Cmp.{upto}
+use Rattle.std.specs.List.{AllByRecursion}
+use Rattle.am_record.specs.OrderedKey.{OrderedKey, key_cmp, key_cmp-total}
+use Rattle.am_record.specs.Interval.{Interval, key_le, within}
+use Rattle.am_record.specs.EntryOrder.{Place, place_of, place_cmp, place_cmp-total, place_cmp-part, place_cmp-same, place_cmp-equal}
+use Rattle.am_record.specs.declared.entry.Entry.{Entry}
+use Rattle.am_list.specs.Entries.{first_such, next_any, after, IsRising}
+use Rattle.am_list.proofs.Order.{turned_greater}
+use Rattle.am_list.proofs.Lists.{AllByRecursion-map, first_such_none}
+use Rattle.am_list.proofs.Edits.{first_such_all, first_such_passes}
+use Rattle.am_parts.specs.Partitions.{IsSound}
+use Rattle.am_merge.specs.Walks.{in_parts_from, later_in_part, later, comes_to}
+use Rattle.am_merge.proofs.Firsts.{All-any, same_test, first_same, none_such, none_under, first_comes, first_is, first_stands}
+
+-- ---- orderings
+
+lt_less : (o : Ordering) → is_lt o ≡ true → o ≡ Less
+lt_less Less h = refl
+lt_less Equal h = absurd (cc)
+lt_less Greater h = absurd (cc)
+
+gt_greater : (o : Ordering) → is_gt o ≡ true → o ≡ Greater
+gt_greater Less h = absurd (cc)
+gt_greater Equal h = absurd (cc)
+gt_greater Greater h = refl
+
+le_not_greater : (o : Ordering) → is_le o ≡ true → o ≢ Greater
+le_not_greater Less h e = absurd (cc)
+le_not_greater Equal h e = absurd (cc)
+le_not_greater Greater h e = absurd (cc)
+
+not_le_greater : (o : Ordering) → is_le o ≡ false → o ≡ Greater
+not_le_greater Less h = absurd (cc)
+not_le_greater Equal h = absurd (cc)
+not_le_greater Greater h = refl
+
+pub lt_le : (o : Ordering) → is_lt o ≡ true → is_le o ≡ true
+lt_le Less h = refl
+lt_le Equal h = refl
+lt_le Greater h = h
+
+ge_reversed : (o : Ordering) → is_ge (ordering_reverse o) ≡ is_le o
+ge_reversed Less = refl
+ge_reversed Equal = refl
+ge_reversed Greater = refl
+
+le_reversed : (o : Ordering) → is_le (ordering_reverse o) ≡ is_ge o
+le_reversed Less = refl
+le_reversed Equal = refl
+le_reversed Greater = refl
+
+gt_reversed : (o : Ordering) → is_gt (ordering_reverse o) ≡ is_lt o
+gt_reversed Less = refl
+gt_reversed Equal = refl
+gt_reversed Greater = refl
+
+not_ge_lt : (o : Ordering) → is_ge o ≡ false → is_lt o ≡ true
+not_ge_lt Less h = refl
+not_ge_lt Equal h = absurd (cc)
+not_ge_lt Greater h = absurd (cc)
+
+not_le_gt : (o : Ordering) → is_le o ≡ false → is_gt o ≡ true
+not_le_gt Less h = absurd (cc)
+not_le_gt Equal h = absurd (cc)
+not_le_gt Greater h = refl
+
+-- ---- places
+
+pub ge_le : (a b : Place) → is_ge (place_cmp b a) ≡ true → is_le (place_cmp a b) ≡ true
+ge_le a b h = ap is_le (place_cmp-total.antisymm a b) ∙ le_reversed (place_cmp b a) ∙ h
+
+pub le_ge : (a b : Place) → is_le (place_cmp a b) ≡ true → is_ge (place_cmp b a) ≡ true
+le_ge a b h = ap is_ge (place_cmp-total.antisymm b a) ∙ ge_reversed (place_cmp a b) ∙ h
+
+gt_lt : (a b : Place) → is_gt (place_cmp b a) ≡ true → is_lt (place_cmp a b) ≡ true
+gt_lt a b h = sym (gt_reversed (place_cmp a b)) ∙ ap is_gt (sym (place_cmp-total.antisymm b a)) ∙ h
+
+lt_gt : (a b : Place) → is_lt (place_cmp a b) ≡ true → is_gt (place_cmp b a) ≡ true
+lt_gt a b h = ap is_gt (place_cmp-total.antisymm b a) ∙ gt_reversed (place_cmp a b) ∙ h
+
+-- what is not above stands in no greater partition
+pub le_part : (a b : Place) → is_le (place_cmp a b) ≡ true → a.0 ≤ b.0
+le_part a b h = place_cmp-part a b (le_not_greater (place_cmp a b) h)
+
+less_greater : Less ≡ Greater → ⊥
+less_greater e = cc
+
+below_part_at : (a b : Place) (o : Ordering) → place_cmp a b ≡ o → a.0 < b.0 → o ≡ Less
+below_part_at a b Less e lt = refl
+below_part_at a b Equal e lt = let same : a.0 ≡ b.0 = (place_cmp-equal a b e).0 in absurd (omega arith)
+below_part_at a b Greater e lt =
+    let le : b.0 ≤ a.0 = place_cmp-part b a (λ g. less_greater (sym (turned_greater a b e) ∙ g)) in
+    absurd (omega arith)
+
+-- what stands in a smaller partition is below
+pub below_part : (a b : Place) → a.0 < b.0 → place_cmp a b ≡ Less
+below_part a b lt = below_part_at a b (place_cmp a b) refl lt
+
+-- within a partition the keys decide
+pub same_part : (x e : Entry) → x.part ≡ e.part → place_cmp (place_of x) (place_of e) ≡ key_cmp x.key e.key
+same_part x e same = ap (λ p. place_cmp (p, x.key) (place_of e)) same ∙ place_cmp-same e.part x.key e.key
+
+-- ---- keys
+
+pub key_le_trans : (a b c : OrderedKey) → key_le a b ≡ true → key_le b c ≡ true → key_le a c ≡ true
+key_le_trans a b c h k = not_gt_le (key_cmp a c) (upto key_cmp-total a b c (le_not_gt (key_cmp a b) h) (le_not_gt (key_cmp b c) k))
+  where
+    le_not_gt : (o : Ordering) → is_le o ≡ true → is_gt o ≡ false
+    le_not_gt Less e = refl
+    le_not_gt Equal e = refl
+    le_not_gt Greater e = absurd (cc)
+
+    not_gt_le : (o : Ordering) → is_gt o ≡ false → is_le o ≡ true
+    not_gt_le Less e = refl
+    not_gt_le Equal e = refl
+    not_gt_le Greater e = absurd (cc)
+
+-- a key that is not below the range and not in it is above it
+pub above_range : (range : Interval) (k : OrderedKey) → within range k ≡ false → key_le range.lo k ≡ true → key_le k range.hi ≡ false
+above_range range k out from = false_from_ne_true (key_le k range.hi) (λ to. both_ways (within range k) out (and_from (key_le range.lo k) (key_le k range.hi) from to))
+
+-- ---- a look for the first entry at or above the least key of the range in a partition
+
+module _ (es : List Entry) (rise : IsRising es) (range : Interval) (part : ℕ) where
+  abbrev ahead : Entry → Bool
+  ahead e = is_ge (place_cmp (place_of e) (part, range.lo))
+
+  behind : (e : Entry) → part ≤ e.part → key_le range.lo e.key ≡ true → place_cmp (place_of e) (part, range.lo) ≡ Less → ⊥
+  behind e up from less =
+      let down : e.part ≤ part = place_cmp-part (place_of e) (part, range.lo) (λ g. less_greater (sym less ∙ g)) in
+      let same : e.part ≡ part = omega arith in
+      let keys : key_cmp e.key range.lo ≡ Less = sym (place_cmp-same part e.key range.lo) ∙ ap (λ p. place_cmp (p, e.key) (part, range.lo)) (sym same) ∙ less in
+      let turned : key_cmp range.lo e.key ≡ Greater = key_cmp-total.antisymm range.lo e.key ∙ ap ordering_reverse keys in
+      both_ways (key_le range.lo e.key) (ap is_le turned) from
+
+  in_ahead : (e : Entry) → in_parts_from part range e ≡ true → ahead e ≡ true
+  in_ahead e t =
+      let parts = and_parts (nat_le part e.part) (within range e.key) t in
+      let keys = and_parts (key_le range.lo e.key) (key_le e.key range.hi) parts.1 in
+      true_from_ne_false (ahead e) (λ no. behind e (leb-true part e.part parts.0) keys.0 (lt_less (place_cmp (place_of e) (part, range.lo)) (not_ge_lt (place_cmp (place_of e) (part, range.lo)) no)))
+
+  pub ended : next_any es part range.lo ≡ None → first_such (in_parts_from part range) es ≡ None
+  ended none = none_under (in_parts_from part range) ahead es (All-any (λ e. in_parts_from part range e ≡ true → ahead e ≡ true) in_ahead es) none
+
+  module _ (x : Entry) (found : next_any es part range.lo ≡ Some x) where
+    on : part ≤ x.part
+    on = le_part (part, range.lo) (place_of x) (ge_le (part, range.lo) (place_of x) (first_such_passes ahead es x found))
+
+    comes : AllByRecursion (λ f. in_parts_from part range f ≡ true → comes_to (Some x) f ≡ true) es
+    comes =
+        AllByRecursion-map (λ f. ahead f ≡ true → comes_to (Some x) f ≡ true) (λ f. in_parts_from part range f ≡ true → comes_to (Some x) f ≡ true) (λ f h t. h (in_ahead f t)) es
+        (subst (λ o. AllByRecursion (λ f. ahead f ≡ true → comes_to o f ≡ true) es) found (first_comes ahead es rise))
+
+    pub here : within range x.key ≡ true → first_such (in_parts_from part range) es ≡ Some x
+    here w = first_is (in_parts_from part range) es x rise (first_stands ahead es x rise found) (and_from (nat_le part x.part) (within range x.key) (le-leb part x.part on) w) comes
+
+    -- the walk goes on in another partition, if none of those that it is for stands before
+    goes_on : (to : ℕ) → part ≤ to → ((f : Entry) → within range f.key ≡ true → comes_to (Some x) f ≡ true → to ≤ f.part) → first_such (in_parts_from to range) es ≡ first_such (in_parts_from part range) es
+    goes_on to up f =
+        first_same (in_parts_from to range) (in_parts_from part range) es
+        (AllByRecursion-map (λ e. in_parts_from part range e ≡ true → comes_to (Some x) e ≡ true) (λ e. in_parts_from to range e ≡ in_parts_from part range e)
+        (λ e h. same_test (in_parts_from to range e) (in_parts_from part range e)
+        (λ t. let p = and_parts (nat_le to e.part) (within range e.key) t in
+        let le : to ≤ e.part = leb-true to e.part p.0 in
+        and_from (nat_le part e.part) (within range e.key) (le-leb part e.part (omega arith)) p.1)
+        (λ t. let p = and_parts (nat_le part e.part) (within range e.key) t in
+        and_from (nat_le to e.part) (within range e.key) (le-leb to e.part (f e p.1 (h t))) p.1))
+        es comes)
+
+    pub goes_to : first_such (in_parts_from x.part range) es ≡ first_such (in_parts_from part range) es
+    goes_to = goes_on x.part on (λ f w c. le_part (place_of x) (place_of f) c)
+
+    pub goes_past : key_le x.key range.hi ≡ false → first_such (in_parts_from (x.part + 1) range) es ≡ first_such (in_parts_from part range) es
+    goes_past above = goes_on (x.part + 1) (omega (arith, on)) (λ f w c.
+        let le : x.part ≤ f.part = le_part (place_of x) (place_of f) c in
+        let other : x.part ≢ f.part = λ same.
+        let keys : key_le x.key f.key ≡ true = ap is_le (sym (same_part x f same)) ∙ c in
+        both_ways (key_le x.key range.hi) above (key_le_trans x.key f.key range.hi keys (and_parts (key_le range.lo f.key) (key_le f.key range.hi) w).1) in
+        omega arith)
+
+    -- the partitions rise
+    pub goes_up : key_le range.lo x.key ≡ false → part < x.part
+    goes_up below =
+        let up : part ≤ x.part = on in
+        let other : x.part ≢ part = λ same.
+        let passes : is_ge (place_cmp (place_of x) (part, range.lo)) ≡ true = first_such_passes ahead es x found in
+        let keys : is_ge (key_cmp x.key range.lo) ≡ true = ap is_ge (sym (ap (λ p. place_cmp (p, x.key) (part, range.lo)) same ∙ place_cmp-same part x.key range.lo)) ∙ passes in
+        let from : key_le range.lo x.key ≡ true = ap is_le (key_cmp-total.antisymm range.lo x.key) ∙ le_reversed (key_cmp x.key range.lo) ∙ keys in
+        both_ways (key_le range.lo x.key) below from in
+        omega arith
+
+    pub goes_up_by_one : part < x.part + 1
+    goes_up_by_one = omega (arith, on)
+
+-- the numbers of partitions end
+pub none_past : (es : List Entry) → IsSound es → (range : Interval) (to : ℕ) → 2 ^ 32 ≤ to → first_such (in_parts_from to range) es ≡ None
+none_past es sound range to over =
+    first_such_none (in_parts_from to range) es
+    (AllByRecursion-map (λ e. e.part < 2 ^ 32) (λ e. in_parts_from to range e ≡ false)
+    (λ e fits. and_left (nat_le to e.part) (within range e.key) (false_from_ne_true (nat_le to e.part) (λ t. let le : to ≤ e.part = leb-true to e.part t in omega arith)))
+    es sound.fits)
+
+-- a step of the loop, by what its calls answer
+module _ (es : List Entry) (sound : IsSound es) (range : Interval) (part : ℕ) {lo : OrderedKey} (is_lo : lo ≡ range.lo) where
+  looks : {r : Option Entry} → r ≡ next_any es part lo → next_any es part range.lo ≡ r
+  looks found = sym (found ∙ ap (next_any es part) is_lo)
+
+  pub look_ends : None ≡ next_any es part lo → None ≡ first_such (in_parts_from part range) es
+  look_ends found = sym (ended es sound.rising range part (looks found))
+
+  module _ (x : Entry) (found : Some x ≡ next_any es part lo) where
+    at : next_any es part range.lo ≡ Some x
+    at = looks found
+
+    fits : x.part < 2 ^ 32
+    fits = first_such_all (λ y. y.part < 2 ^ 32) (ahead es sound.rising range part) es x sound.fits at
+
+    pub look_finds : within range x.key ≡ true → Some x ≡ first_such (in_parts_from part range) es
+    look_finds w = sym (here es sound.rising range part x at w)
+
+    pub look_goes_to : first_such (in_parts_from x.part range) es ≡ first_such (in_parts_from part range) es
+    look_goes_to = goes_to es sound.rising range part x at
+
+    pub look_goes_down : key_le range.lo x.key ≡ false → 2 ^ 32 - x.part < 2 ^ 32 - part
+    look_goes_down below = omega (arith, goes_up es sound.rising range part x at below, fits)
+
+    above : within range x.key ≡ false → key_le range.lo x.key ≡ true → key_le x.key range.hi ≡ false
+    above out from = above_range range x.key out from
+
+    pub look_goes_past : within range x.key ≡ false → key_le range.lo x.key ≡ true → first_such (in_parts_from (x.part + 1) range) es ≡ first_such (in_parts_from part range) es
+    look_goes_past out from = goes_past es sound.rising range part x at (above out from)
+
+    pub look_past_down : 2 ^ 32 - (x.part + 1) < 2 ^ 32 - part
+    look_past_down = omega (arith, goes_up_by_one es sound.rising range part x at, fits)
+
+    pub look_past_all : within range x.key ≡ false → key_le range.lo x.key ≡ true → 2 ^ 32 ≤ x.part + 1 → None ≡ first_such (in_parts_from part range) es
+    look_past_all out from over = sym (sym (look_goes_past out from) ∙ none_past es sound range (x.part + 1) over)
+
+ge_not_lt : (o : Ordering) → is_ge o ≡ not (is_lt o)
+ge_not_lt Less = refl
+ge_not_lt Equal = refl
+ge_not_lt Greater = refl
+
+-- a test of a key against the least key of a range
+pub tells_from : (range : Interval) (k lo : OrderedKey) (b t : Bool) → lo ≡ range.lo → b ≡ is_lt (key_cmp k lo) → b ≡ t → key_le range.lo k ≡ not t
+tells_from range k lo b t same is told =
+    ap is_le (key_cmp-total.antisymm range.lo k) ∙ le_reversed (key_cmp k range.lo) ∙ ge_not_lt (key_cmp k range.lo) ∙ ap not (ap (λ q. is_lt (key_cmp k q)) (sym same) ∙ sym is ∙ told)
+
+-- ---- on in one partition
+
+module _ (es : List Entry) (rise : IsRising es) (range : Interval) (x : Entry) (inside : within range x.key ≡ true) where
+  abbrev above_x : Entry → Bool
+  above_x e = (e.part == x.part) && is_gt (place_cmp (place_of e) (x.part, x.key))
+
+  in_above : (e : Entry) → later_in_part range x e ≡ true → above_x e ≡ true
+  in_above e t =
+      let p = and_parts (e.part == x.part) (is_lt (key_cmp x.key e.key) && within range e.key) t in
+      let keys = and_parts (is_lt (key_cmp x.key e.key)) (within range e.key) p.1 in
+      and_from (e.part == x.part) (is_gt (place_cmp (place_of e) (place_of x))) p.0
+      (lt_gt (place_of x) (place_of e) (ap is_lt (same_part x e (sym (eqb-true e.part x.part p.0))) ∙ keys.0))
+
+  -- what is above x in its partition has a key above x's
+  keys_above : (e : Entry) → above_x e ≡ true → (e.part ≡ x.part) × (is_lt (key_cmp x.key e.key) ≡ true)
+  keys_above e t =
+      let p = and_parts (e.part == x.part) (is_gt (place_cmp (place_of e) (place_of x))) t in
+      let same = eqb-true e.part x.part p.0 in
+      (same, sym (ap is_lt (same_part x e (sym same))) ∙ gt_lt (place_of x) (place_of e) p.1)
+
+  pub part_ends : None ≡ after es x.part x.key → None ≡ first_such (later_in_part range x) es
+  part_ends found =
+      sym (none_under (later_in_part range x) above_x es (All-any (λ e. later_in_part range x e ≡ true → above_x e ≡ true) in_above es) (sym found))
+
+  module _ (y : Entry) (found : Some y ≡ after es x.part x.key) where
+    at_y : first_such above_x es ≡ Some y
+    at_y = sym found
+
+    keys : (y.part ≡ x.part) × (is_lt (key_cmp x.key y.key) ≡ true)
+    keys = keys_above y (first_such_passes above_x es y at_y)
+
+    comes_to_y : AllByRecursion (λ f. later_in_part range x f ≡ true → comes_to (Some y) f ≡ true) es
+    comes_to_y =
+        AllByRecursion-map (λ f. above_x f ≡ true → comes_to (Some y) f ≡ true) (λ f. later_in_part range x f ≡ true → comes_to (Some y) f ≡ true) (λ f h t. h (in_above f t)) es
+        (subst (λ o. AllByRecursion (λ f. above_x f ≡ true → comes_to o f ≡ true) es) at_y (first_comes above_x es rise))
+
+    pub part_goes_on : within range y.key ≡ true → Some y ≡ first_such (later_in_part range x) es
+    part_goes_on w =
+        sym (first_is (later_in_part range x) es y rise (first_stands above_x es y rise at_y)
+        (and_from (y.part == x.part) (is_lt (key_cmp x.key y.key) && within range y.key) (eq-eqb y.part x.part keys.0) (and_from (is_lt (key_cmp x.key y.key)) (within range y.key) keys.1 w))
+        comes_to_y)
+
+    -- its key is above the range, and so are all later ones
+    pub part_is_past : within range y.key ≡ false → None ≡ first_such (later_in_part range x) es
+    part_is_past out =
+        let from : key_le range.lo y.key ≡ true = key_le_trans range.lo x.key y.key (and_parts (key_le range.lo x.key) (key_le x.key range.hi) inside).0 (lt_le (key_cmp x.key y.key) keys.1) in
+        let past : key_le y.key range.hi ≡ false = above_range range y.key out from in
+        sym (first_such_none (later_in_part range x) es
+        (AllByRecursion-map (λ f. later_in_part range x f ≡ true → comes_to (Some y) f ≡ true) (λ f. later_in_part range x f ≡ false)
+        (λ f h. false_from_ne_true (later_in_part range x f) (λ t.
+        let p = and_parts (f.part == x.part) (is_lt (key_cmp x.key f.key) && within range f.key) t in
+        let w = and_parts (is_lt (key_cmp x.key f.key)) (within range f.key) p.1 in
+        let hi = and_parts (key_le range.lo f.key) (key_le f.key range.hi) w.1 in
+        let same : y.part ≡ f.part = keys.0 ∙ sym (eqb-true f.part x.part p.0) in
+        let up : key_le y.key f.key ≡ true = ap is_le (sym (same_part y f same)) ∙ h t in
+        both_ways (key_le y.key range.hi) past (key_le_trans y.key f.key range.hi up hi.1)))
+        es comes_to_y))
+
+  -- ---- and on in the partitions after it
+
+  in_later : (e : Entry) → later_in_part range x e ≡ true → later range x e ≡ true
+  in_later e t =
+      let p = and_parts (e.part == x.part) (is_lt (key_cmp x.key e.key) && within range e.key) t in
+      let w = and_parts (is_lt (key_cmp x.key e.key)) (within range e.key) p.1 in
+      and_from (is_lt (place_cmp (place_of x) (place_of e))) (within range e.key) (ap is_lt (same_part x e (sym (eqb-true e.part x.part p.0))) ∙ w.0) w.1
+
+  -- what is later stands in x's partition or in a later one
+  later_where : (e : Entry) → later range x e ≡ true → (later_in_part range x e ≡ true) ⊎ ((x.part < e.part) × (within range e.key ≡ true))
+  later_where e t =
+      let p = and_parts (is_lt (place_cmp (place_of x) (place_of e))) (within range e.key) t in
+      let le : x.part ≤ e.part = le_part (place_of x) (place_of e) (lt_le (place_cmp (place_of x) (place_of e)) p.0) in
+      ⊎_elim
+      (λ same. inl (and_from (e.part == x.part) (is_lt (key_cmp x.key e.key) && within range e.key) same
+      (and_from (is_lt (key_cmp x.key e.key)) (within range e.key) (sym (ap is_lt (same_part x e (sym (eqb-true e.part x.part same)))) ∙ p.0) p.1)))
+      (λ other. let apart : e.part ≢ x.part = λ h. both_ways (e.part == x.part) other (eq-eqb e.part x.part h) in inr (omega arith, p.1))
+      (cases_Bool (e.part == x.part))
+
+  -- in x's partition
+  pub next_here : (y : Entry) → Some y ≡ first_such (later_in_part range x) es → Some y ≡ first_such (later range x) es
+  next_here y found =
+      let at = sym found in
+      let passes = first_such_passes (later_in_part range x) es y at in
+      let part : y.part ≡ x.part = eqb-true y.part x.part (and_parts (y.part == x.part) (is_lt (key_cmp x.key y.key) && within range y.key) passes).0 in
+      sym (first_is (later range x) es y rise (first_stands (later_in_part range x) es y rise at) (in_later y passes)
+      (AllByRecursion-map (λ f. later_in_part range x f ≡ true → comes_to (Some y) f ≡ true) (λ f. later range x f ≡ true → comes_to (Some y) f ≡ true)
+      (λ f h t. ⊎_elim (λ here. h here) (λ w. let up : y.part < f.part = omega (arith, w.0) in ap is_le (below_part (place_of y) (place_of f) up)) (later_where f t))
+      es (subst (λ o. AllByRecursion (λ f. later_in_part range x f ≡ true → comes_to o f ≡ true) es) at (first_comes (later_in_part range x) es rise))))
+
+  -- in a later one
+  pub next_there : None ≡ first_such (later_in_part range x) es → first_such (in_parts_from (x.part + 1) range) es ≡ first_such (later range x) es
+  next_there none =
+      first_same (in_parts_from (x.part + 1) range) (later range x) es
+      (AllByRecursion-map (λ f. later_in_part range x f ≡ false) (λ f. in_parts_from (x.part + 1) range f ≡ later range x f)
+      (λ f not_here. same_test (in_parts_from (x.part + 1) range f) (later range x f)
+      (λ t. let p = and_parts (nat_le (x.part + 1) f.part) (within range f.key) t in
+      let up : x.part + 1 ≤ f.part = leb-true (x.part + 1) f.part p.0 in
+      and_from (is_lt (place_cmp (place_of x) (place_of f))) (within range f.key) (ap is_lt (below_part (place_of x) (place_of f) (omega arith))) p.1)
+      (λ t. ⊎_elim
+      (λ here. absurd (both_ways (later_in_part range x f) not_here here))
+      (λ w. and_from (nat_le (x.part + 1) f.part) (within range f.key) (le-leb (x.part + 1) f.part (omega (arith, w.0))) w.1)
+      (later_where f t)))
+      es (none_such (later_in_part range x) es (sym none)))
+
+-- what a test of the range keeps
+pub part_next : (es : List Entry) → IsRising es → (range : Interval) (x : Entry) → within range x.key ≡ true → (y : Entry) → Some y ≡ after es x.part x.key
+    → cond (within range y.key) (Some y) None ≡ first_such (later_in_part range x) es
+part_next es rise range x inside y found =
+    ⊎_elim
+    (λ w. cond-true (within range y.key) (Some y) None w ∙ part_goes_on es rise range x inside y found w)
+    (λ out. cond-false (within range y.key) (Some y) None out ∙ part_is_past es rise range x inside y found out)
+    (cases_Bool (within range y.key))

@@ -1,0 +1,4 @@
+pub mod Holding
+pub mod Walks
+pub mod Moves
+pub mod Steps

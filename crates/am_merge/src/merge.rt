@@ -1,0 +1,103 @@
+//! Merge steps.
+
+ghost use Rattle.std.specs.Prelude.{◌≡◌, ◌≤◌, None, Some, take, true};
+ghost use Rattle.am_record.specs.Interval.{within};
+ghost use Rattle.am_list.specs.Content.{content};
+ghost use Rattle.am_list.specs.Entries.{first_such};
+ghost use Rattle.am_parts.specs.Partitions.{IsSound};
+ghost use Rattle.am_effect.specs.Merging.{MergeRight, merged_by, wishes_left, all_worked_off, candidates};
+ghost use Rattle.am_merge.specs.Holding.{holder_of, only_free};
+ghost use Rattle.am_merge.specs.Walks.{in_parts_from, later_in_part};
+ghost use Rattle.am_merge.specs.Steps.{IsAsFar};
+
+use crate::moves::work_off;
+use crate::walk::{first_within, is_free, next_in_part};
+use crate::wishes::Wishes;
+use am_list::PartIndex;
+use am_locks::LockTable;
+use am_parts::Parts;
+use am_record::{Entry, Range, Refusal, Reply};
+
+/// Works entries of the oldest wish off: of those in runs with keys in its range, the first `limit`
+/// at most, all of one run. A live one then stands in partition 0, a ghost is gone. The caller has a
+/// limit from 1 to 64.
+///
+/// Answers Idle, where there is no wish; MergeDone, where no run has an entry in the range, and
+/// Ended with the key of the first such entry, where somebody has it exclusively locked: the wish is
+/// dropped at these two. Else Moved with how many it worked off and the run: as many as it may, or
+/// fewer where the next one's new place in partition 0 was refused memory, or Refused(NoMemory),
+/// where the first one's was. The content is as before.
+pub fn merge_step<I: PartIndex + Drop>(
+    parts: &mut Parts<I>,
+    wishes: &mut Wishes,
+    locks: &LockTable,
+    limit: u64,
+) -> Reply
+    requires some { 1 ≤ limit }
+    requires few { limit ≤ 64 }
+    ensures reply { MergeRight parts.old.entries wishes.old (holder_of locks.now) limit result }
+    ensures entries { parts.new.entries ≡ all_worked_off (merged_by parts.old.entries wishes.old result) parts.old.entries }
+    ensures wishes { wishes.new ≡ wishes_left wishes.old result }
+    ensures runs { parts.new.runs ≡ parts.old.runs }
+    ensures content { content parts.new.entries ≡ content parts.old.entries }
+{
+    let Some(wish) = wishes.oldest() else {
+        return Reply::Idle;
+    };
+    let Some(first) = first_within(parts, 1, wish) else {
+        wishes.drop_oldest();
+        return Reply::MergeDone;
+    };
+    let Entry { part, key, .. } = first;
+    if let Some(holder) = locks.exclusive_at(key) {
+        wishes.drop_oldest();
+        return Reply::Ended(key, holder);
+    }
+    match work_off_run(parts, locks, wish, first, limit) {
+        0 => Reply::Refused(Refusal::NoMemory),
+        moved => Reply::Moved(moved, part),
+    }
+}
+
+// Works off the first candidate of the range and those that follow in its run, and counts them.
+fn work_off_run<I: PartIndex + Drop>(
+    parts: &mut Parts<I>,
+    locks: &LockTable,
+    range: Range,
+    first: Entry,
+    limit: u64,
+) -> u64
+    requires first { first_such (in_parts_from 1 range) parts.old.entries ≡ Some first }
+    requires free { holder_of locks.now first.key ≡ None }
+    requires sound { IsSound parts.old.entries }
+    requires some { 1 ≤ limit }
+    ensures far { IsAsFar parts.old.entries (holder_of locks.now) limit first.part (candidates parts.old.entries range) result }
+    ensures entries { parts.new.entries ≡ all_worked_off (take result (candidates parts.old.entries range)) parts.old.entries }
+    ensures runs { parts.new.runs ≡ parts.old.runs }
+{
+    let mut next = Some(first);
+    for moved in 0..limit {
+        let Some(entry) = next else {
+            return moved;
+        };
+        if work_off(parts, &entry).is_err() {
+            return moved;
+        }
+        next = next_free(parts, locks, range, &entry);
+    }
+    limit
+}
+
+// The next entry of the range in the entry's run, unless somebody has it exclusively locked.
+fn next_free<I: PartIndex + Drop>(
+    parts: &Parts<I>,
+    locks: &LockTable,
+    range: Range,
+    entry: &Entry,
+) -> Option<Entry>
+    requires { within range entry.now.key ≡ true }
+    ensures { result ≡ only_free locks.now (first_such (later_in_part range entry.now) parts.now.entries) }
+{
+    let next = next_in_part(parts, range, entry)?;
+    is_free(locks, next.key).then_some(next)
+}

@@ -1,0 +1,81 @@
+//! Walks over the entries of a range, from partition to partition.
+
+ghost use Rattle.std.specs.Prelude.{◌≡◌, true, Some, None, is_none, if◌then◌else◌};
+ghost use Rattle.am_record.specs.Interval.{within};
+ghost use Rattle.am_list.specs.Entries.{first_such};
+ghost use Rattle.am_parts.specs.Partitions.{IsSound};
+ghost use Rattle.am_merge.specs.Walks.{in_parts_from, later_in_part, later};
+ghost use Rattle.am_merge.specs.Holding.{holder_of};
+
+use am_list::PartIndex;
+use am_locks::LockTable;
+use am_parts::Parts;
+use am_record::{Entry, Key, Range};
+
+/// Whether nobody has the key exclusively locked.
+pub(crate) fn is_free(locks: &LockTable, key: Key) -> bool
+    ensures { result ≡ is_none (holder_of locks.now key) }
+{
+    locks.exclusive_at(key).is_none()
+}
+
+/// The first entry of the range in the partition `from` or a later one.
+pub(crate) fn first_within<I: PartIndex + Drop>(
+    parts: &Parts<I>,
+    from: u32,
+    range: Range,
+) -> Option<Entry>
+    ensures first { result ≡ first_such (in_parts_from from range) parts.now.entries }
+    ensures sound { IsSound parts.now.entries }
+{
+    let mut part = from;
+    while let Some(entry) = parts.next_any(part, range.lo()) {
+        if range.contains(entry.key) {
+            return Some(entry);
+        }
+        // A partition whose first key from `lo` on is above the range has nothing in it.
+        part = if entry.key < range.lo() {
+            entry.part
+        } else {
+            entry.part.checked_add(1)?
+        };
+    }
+    None
+}
+
+/// The next entry of the range in the entry's own partition.
+pub(crate) fn next_in_part<I: PartIndex + Drop>(
+    parts: &Parts<I>,
+    range: Range,
+    entry: &Entry,
+) -> Option<Entry>
+    requires { within range entry.now.key ≡ true }
+    ensures first { result ≡ first_such (later_in_part range entry.now) parts.now.entries }
+    ensures sound { IsSound parts.now.entries }
+{
+    let next = parts.after(entry.part, entry.key)?;
+    only_within(range, next)
+}
+
+// The entry, where its key lies in the range.
+fn only_within(range: Range, entry: Entry) -> Option<Entry>
+    ensures { result ≡ (if within range entry.key then Some entry else None) }
+{
+    range.contains(entry.key).then_some(entry)
+}
+
+/// The next entry of the range, in the entry's partition or a later one.
+pub(crate) fn next_within<I: PartIndex + Drop>(
+    parts: &Parts<I>,
+    range: Range,
+    entry: &Entry,
+) -> Option<Entry>
+    requires { within range entry.now.key ≡ true }
+    ensures first { result ≡ first_such (later range entry.now) parts.now.entries }
+    ensures sound { IsSound parts.now.entries }
+{
+    if let Some(next) = next_in_part(parts, range, entry) {
+        return Some(next);
+    }
+    first_within(parts, entry.part.checked_add(1)?, range)
+}

@@ -1,0 +1,167 @@
+-- A store with one session: its transaction stays open until it is ended.
+use Rattle.std.proofs.Common.{◌≡◌, ◌⊎◌, inl, inr, ℕ, ◌==◌, List, [], ◌∷◌, ◌++◌, Bool, true, false, cond, map, ◌||◌, Option, Some, None, refl, sym, ap, ◌∙◌, subst, ⊎_elim}
+use Rattle.std.specs.Prelude.{MatchOption, MatchBool, if◌then◌else◌}
+use Rattle.std.specs.List.{list_any}
+use Rattle.std.specs.FinMap.{get, contains_key}
+use Rattle.std.proofs.lemmas.Bool.{cases_Bool, or_left, or_right, true≢false, false≢true, eq-eqb}
+use Rattle.std.proofs.lemmas.List.Folds.{list_any-append}
+use Rattle.am_record.specs.OrderedKey.{OrderedKey}
+use Rattle.am_record.specs.Interval.{Interval}
+use Rattle.am_record.specs.Plain.{PlainMap, found, exists_or_done, least_taken}
+use Rattle.am_record.specs.declared.entry.Entry.{Entry}
+use Rattle.am_record.specs.declared.step.Op.{Op}
+use Rattle.am_record.specs.declared.step.Op.TheVariants as op
+use Rattle.am_record.specs.declared.step.Step.{Step}
+use Rattle.am_record.specs.declared.step.Step.TheVariants as step
+use Rattle.am_record.specs.declared.step.Reply.{Reply}
+use Rattle.am_record.specs.declared.step.Reply.TheVariants as reply
+use Rattle.am_record.specs.declared.step.Refusal.{Refusal}
+use Rattle.am_record.specs.declared.step.Refusal.TheVariants as why
+use Rattle.am_list.specs.Content.{content}
+use Rattle.am_undo.specs.declared.note.Note.{Note}
+use Rattle.am_undo.specs.Marks.{has_mark}
+use Rattle.am_follow.specs.At.{told}
+use Rattle.am_effect.specs.Merging.{Holders, candidates, MovesRight, AnswersFirst, AnswersCandidates, MergeRight, CleanRight}
+use Rattle.am_effect.specs.Store.{WithinLimit}
+use Rattle.am_serial.specs.Machine.{is_limit}
+use Rattle.am_steps.specs.Parts.{Active, Parts, is_in, in_table, newcomer, due_in, takes_memory, MaySay, did, after_do, after}
+use Rattle.am_talk.specs.Dues.{IsAllowed, active_after, EndsAbort}
+use Rattle.am_talk.specs.Dialogue.{commits_after}
+use Rattle.am_session.specs.Solo.{IsOpen}
+
+-- ---- replies that begin and end nothing
+
+abbrev pub Plain : Reply → Type 0
+Plain r = (a : Option ℕ) → active_after a r ≡ a
+
+found_plain : (v : Option (List ℕ)) → Plain (found v)
+found_plain None = λ a. refl
+found_plain (Some v) = λ a. refl
+
+either_plain : (b : Bool) (r s : Reply) → Plain r → Plain s → Plain (if b then r else s)
+either_plain true r s h k = h
+either_plain false r s h k = k
+
+load_plain : (o : Option OrderedKey) → Plain (exists_or_done o)
+load_plain None = λ a. refl
+load_plain (Some k) = λ a. refl
+
+told_plain : (o : Op) (marks : List ℕ) (m : PlainMap) → Plain (told o marks m)
+told_plain (op.Get k) marks m = found_plain (get m k)
+told_plain (op.Scan range max) marks m = λ a. refl
+told_plain (op.Insert k v) marks m = either_plain (contains_key m k) _ _ (λ a. refl) (λ a. refl)
+told_plain (op.Replace k v) marks m = either_plain (contains_key m k) _ _ (λ a. refl) (λ a. refl)
+told_plain (op.Delete k) marks m = either_plain (contains_key m k) _ _ (λ a. refl) (λ a. refl)
+told_plain (op.Load pairs) marks m = load_plain (least_taken pairs m)
+told_plain (op.Lock lock) marks m = λ a. refl
+told_plain op.Mark marks m = λ a. refl
+told_plain op.Back marks m = either_plain (has_mark marks) reply.Done reply.NoMark (λ a. refl) (λ a. refl)
+
+do_plain : (p : Parts) (t : ℕ) (o : Op) (r : Reply) → MaySay p (step.Do t o) r → Plain r
+do_plain p t o r = by_due (due_in p t o)
+  where
+    by_due : (due : Option Refusal) → MatchOption due ((r ≡ told o (in_table p.active t).marks (content p.entries)) ⊎ ((r ≡ reply.Refused why.NoMemory) × (takes_memory o ≡ true))) (λ why. r ≡ reply.Refused why) → Plain r
+    by_due None (inl is) = subst Plain (sym is) (told_plain o (in_table p.active t).marks (content p.entries))
+    by_due None (inr is) = subst Plain (sym is.0) (λ a. refl)
+    by_due (Some w) is = subst Plain (sym is) (λ a. refl)
+
+first_plain : (es : List Entry) (held : Holders) (limit : ℕ) (c : Entry) (cs : List Entry) (o : Option ℕ) (r : Reply) → AnswersFirst es held limit c cs o r → Plain r
+first_plain es held limit c cs (Some h) r is = subst Plain (sym is) (λ a. refl)
+first_plain es held limit c cs None (reply.Moved n run) is = λ a. refl
+first_plain es held limit c cs None r is = subst Plain (sym is.0) (λ a. refl)
+
+candidates_plain : (es : List Entry) (held : Holders) (limit : ℕ) (cs : List Entry) (r : Reply) → AnswersCandidates es held limit cs r → Plain r
+candidates_plain es held limit [] r is = subst Plain (sym is) (λ a. refl)
+candidates_plain es held limit (c ∷ cs) r is = first_plain es held limit c (c ∷ cs) (held c.key) r is
+
+merge_right_plain : (es : List Entry) (wishes : List Interval) (held : Holders) (limit : ℕ) (r : Reply) → MergeRight es wishes held limit r → Plain r
+merge_right_plain es [] held limit r is = subst Plain (sym is) (λ a. refl)
+merge_right_plain es (wish ∷ wishes) held limit r is = candidates_plain es held limit (candidates es wish) r is
+
+limit_plain : (limit : ℕ) (r : Reply) (right : Type 0) → (right → Plain r) → WithinLimit limit r right → Plain r
+limit_plain limit r right plain = by_limit (is_limit limit)
+  where
+    by_limit : (b : Bool) → MatchBool b right (r ≡ reply.Refused why.BadLimit) → Plain r
+    by_limit true is = plain is
+    by_limit false is = subst Plain (sym is) (λ a. refl)
+
+pub merge_plain : (p : Parts) (limit : ℕ) (r : Reply) → MaySay p (step.Merge limit) r → Plain r
+merge_plain p limit r h = limit_plain limit r _ (merge_right_plain p.entries p.wishes _ limit r) h
+
+clean_plain : (p : Parts) (range : Interval) (limit : ℕ) (r : Reply) → MaySay p (step.Clean range limit) r → Plain r
+clean_plain p range limit r h = limit_plain limit r _ (λ is. subst Plain (sym is) (λ a. refl)) h
+
+-- ---- who is active after a step
+
+-- an operation changes no number
+same_number : (b : Bool) (x y : Active) → y.number ≡ x.number → (cond b y x).number ≡ x.number
+same_number true x y h = h
+same_number false x y h = refl
+
+still_in : (f : Active → Active) → ((x : Active) → (f x).number ≡ x.number) → (xs : List Active) (u : ℕ) → is_in (map f xs) u ≡ is_in xs u
+still_in f same [] u = refl
+still_in f same (x ∷ xs) u = λ i. (u == same x i) || still_in f same xs u i
+
+did_in : (t : ℕ) (o : Op) (r : Reply) (new : List Note) (xs : List Active) (u : ℕ) → is_in (map (did t o r new) xs) u ≡ is_in xs u
+did_in t o r new xs u = still_in (did t o r new) (λ x. same_number (t == x.number) x _ refl) xs u
+
+do_in : (p : Parts) (t : ℕ) (o : Op) (r : Reply) (u : ℕ) → is_in (after_do p t o r).active u ≡ is_in p.active u
+do_in p t o (reply.Refused w) u = refl
+do_in p t o r u = did_in t o r _ p.active u
+
+do_commits : (p : Parts) (t : ℕ) (o : Op) (r : Reply) → (after_do p t o r).commits ≡ p.commits
+do_commits p t o (reply.Refused w) = refl
+do_commits p t o r = refl
+
+open_do : (p : Parts) (t : ℕ) (o : Op) (r : Reply) (a : Option ℕ) → IsOpen p a → IsOpen (after_do p t o r) a
+open_do p t o r None h = h
+open_do p t o r (Some u) h = do_in p t o r u ∙ h
+
+begun_in : (xs : List Active) (t : ℕ) → is_in (xs ++ newcomer t ∷ []) t ≡ true
+begun_in xs t =
+    list_any-append (λ (x : Active). t == x.number) xs (newcomer t ∷ [])
+    ∙ or_right (is_in xs t) ((t == t) || false) (or_left (t == t) false (eq-eqb t t refl))
+
+upkept : (p q : Parts) (a : Option ℕ) → q.active ≡ p.active → IsOpen p a → IsOpen q a
+upkept p q None e h = h
+upkept p q (Some t) e h = ap (λ xs. is_in xs t) e ∙ h
+
+merged_active : (p : Parts) (limit : ℕ) (r : Reply) → (after p (step.Merge limit) r).active ≡ p.active
+merged_active p limit r = refl
+
+-- the session's transaction stays open
+pub stays_open : (p : Parts) (a : Option ℕ) (s : Step) (r : Reply) → IsAllowed a s → IsOpen p a → MaySay p s r → IsOpen (after p s r) (active_after a r)
+stays_open p a step.Begin (reply.Begun t) allowed h says = begun_in p.active t
+stays_open p a step.Begin (reply.Refused why.TooManyTx) allowed h says = h
+stays_open p a (step.Do t o) r allowed h says = subst (IsOpen (after_do p t o r)) (sym (do_plain p t o r says a)) (open_do p t o r a h)
+stays_open p a (step.Commit t) (reply.Committed c) allowed h says = tt
+stays_open p a (step.Commit t) (reply.Refused why.NoSuchTx) allowed h says = h
+stays_open p a (step.Abort t) reply.Aborted allowed h says = tt
+stays_open p a (step.Abort t) (reply.Refused why.NoSuchTx) allowed h says = h
+stays_open p a (step.Merge limit) r allowed h says = subst (IsOpen (after p (step.Merge limit) r)) (sym (merge_plain p limit r says a)) (upkept p (after p (step.Merge limit) r) a refl h)
+stays_open p a (step.Clean range limit) r allowed h says = subst (IsOpen (after p (step.Clean range limit) r)) (sym (clean_plain p range limit r says a)) (upkept p (after p (step.Clean range limit) r) a refl h)
+stays_open p a _ _ allowed h says = absurd says
+
+-- an abort of it isn't refused
+pub abort_ends : (p : Parts) (a : Option ℕ) (s : Step) (r : Reply) → IsAllowed a s → IsOpen p a → MaySay p s r → EndsAbort s r
+abort_ends p a step.Begin r allowed h says = tt
+abort_ends p a (step.Do t o) r allowed h says = tt
+abort_ends p a (step.Commit t) r allowed h says = tt
+abort_ends p a (step.Abort t) reply.Aborted allowed h says = refl
+abort_ends p a (step.Abort t) (reply.Refused why.NoSuchTx) allowed h says = absurd (true≢false (sym (subst (IsOpen p) allowed h) ∙ says))
+abort_ends p a (step.Abort t) _ allowed h says = absurd says
+abort_ends p a (step.Merge limit) r allowed h says = tt
+abort_ends p a (step.Clean range limit) r allowed h says = tt
+
+-- the commits are counted
+pub commits_are : (p : Parts) (s : Step) (r : Reply) → MaySay p s r → (after p s r).commits ≡ commits_after p.commits s r
+commits_are p step.Begin (reply.Begun t) says = refl
+commits_are p step.Begin (reply.Refused why.TooManyTx) says = refl
+commits_are p (step.Do t o) r says = do_commits p t o r
+commits_are p (step.Commit t) (reply.Committed c) says = refl
+commits_are p (step.Commit t) (reply.Refused why.NoSuchTx) says = refl
+commits_are p (step.Abort t) reply.Aborted says = refl
+commits_are p (step.Abort t) (reply.Refused why.NoSuchTx) says = refl
+commits_are p (step.Merge limit) r says = refl
+commits_are p (step.Clean range limit) r says = refl
+commits_are p _ _ says = absurd says

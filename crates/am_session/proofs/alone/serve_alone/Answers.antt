@@ -1,0 +1,26 @@
+use Rattle.std.proofs.Common.{◌≡◌, ℕ, List, [], ◌∷◌, ◌++◌}
+use Rattle.am_serial.specs.Trace.{Trace}
+use Rattle.am_wire.specs.Taking.{Took}
+use Rattle.am_wire.specs.Giving.{Gave}
+use Rattle.am_talk.specs.Dialogue.{Exchange, Whole, TornAt}
+use Rattle.am_session.specs.Talk.{AnswersAll, AnswersOneMore}
+use Rattle.am_session.specs.Solo.{active_in, SoloGoes, SoloTells, IsSpoken}
+use Rattle.am_session.proofs.Speaking.{spoken_whole, spoken_torn, ends_by}
+use Rattle.am_session.proofs.alone.serve_alone.Goals as goal
+
+pub returns-clause-spoke : goal.returns-clause-spoke
+returns-clause-spoke g c =
+    let auto = c.args.auto in
+    let s0 = c.in-Ok.store in
+    let b = c.serve.new.backend in
+    let fresh = c.in-Ok.ensures in
+    let opened = c.steps_lift.ensures.opened in
+    let sound = c.steps_lift.ensures.sound in
+    let say_whole = c.sound_dialogues_say.ensures.whole auto in
+    let say_torn = c.sound_dialogues_say.ensures.torn auto in
+    ends_by (λ bytes. Took g.S.Source.comes c.args.source.now bytes c.serve.new.source) (λ text. Gave g.K.Sink.holds c.args.sink.now text c.serve.new.sink) (g.S.Source.comes c.serve.new.source [])
+    (λ exchanges events. AnswersAll active_in SoloGoes SoloTells auto s0 exchanges events b) (λ exchanges events. IsSpoken auto Whole exchanges exchanges events)
+    (λ exchanges last events. AnswersOneMore active_in SoloGoes SoloTells auto s0 exchanges last events b) (λ exchanges last events. IsSpoken auto (TornAt last) exchanges (exchanges ++ last ∷ []) events)
+    (b ≡ s0) (Unit {0})
+    (spoken_whole auto s0 fresh opened sound say_whole say_torn b) (spoken_torn auto s0 fresh opened sound say_whole say_torn b) (λ same. tt)
+    c.serve.result c.serve.ensures.served

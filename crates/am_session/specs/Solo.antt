@@ -1,0 +1,47 @@
+-- A session on a store of its own.
+use Rattle.std.specs.Prelude.{◌≡◌, ℕ, List, [], ◌∷◌, ◌++◌, true, Option, Some, None, refl}
+use Rattle.std.specs.Coded.{Coded, code_by, coded×, coded_ℕ, coded_option}
+use Rattle.am_record.specs.declared.step.Step.{Step}
+use Rattle.am_record.specs.declared.step.Reply.{Reply}
+use Rattle.am_serial.specs.Trace.{Trace}
+use Rattle.am_sound.specs.Right.{IsSoundStore}
+use Rattle.am_steps.specs.Parts.{Parts, is_in, MaySay, after}
+use Rattle.am_core.specs.Keeping.{parts_code}
+use Rattle.am_core.specs.Standing.{GoesOn}
+use Rattle.am_talk.specs.Dues.{active_after}
+use Rattle.am_talk.specs.Dialogue.{Exchange, Ends, Dialogue}
+use Rattle.am_talk.specs.Say.{Says}
+
+-- what the store keeps, and the transaction that is active in the session
+pub record Solo : Type 0 where
+  pub kept : Parts
+  pub active : Option ℕ
+
+abbrev pub solo_code : Coded Solo
+solo_code = code_by (Parts × Option ℕ) (coded× parts_code (coded_option coded_ℕ)) (λ s. (s.kept, s.active)) (λ p. record { kept = p.0; active = p.1 }) (λ _. refl)
+
+abbrev pub active_in : Solo → Option ℕ
+active_in s = s.active
+
+-- the session's transaction is active in the store
+abbrev pub IsOpen : Parts → Option ℕ → Type 0
+IsOpen p None = Unit {0}
+IsOpen p (Some t) = is_in p.active t ≡ true
+
+-- the store took the step: wherever it stood, it stands there with this event added
+pub record SoloGoes (old : Solo) (step : Step) (reply : Reply) (new : Solo) : Type 0 where
+  pub says : MaySay old.kept step reply
+  pub kept : new.kept ≡ after old.kept step reply
+  pub on : GoesOn old.kept ((step, reply) ∷ []) new.kept
+  pub active : new.active ≡ active_after old.active reply
+
+-- SEEN tells 0, a session alone, and the commits so far
+abbrev pub SoloTells : Solo → ℕ → ℕ → Solo → Type 0
+SoloTells old session commits new = (session ≡ 0) × (commits ≡ old.kept.commits) × (new ≡ old)
+
+-- The exchanges and events of a session alone, which ends in this way: the events are a sound trace, and all responses are those that are
+-- said, but where memory was refused.
+pub record IsSpoken (auto : ℕ) (ends : Ends) (exchanges all : List Exchange) (trace : Trace) : Type 0 where
+  pub dialogue : Dialogue auto ends (None, 0) exchanges trace
+  pub sound : IsSoundStore trace
+  pub says : Says all

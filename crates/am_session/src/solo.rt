@@ -1,0 +1,64 @@
+//! A store as its only session sees it.
+
+ghost use Rattle.std.specs.Prelude.{◌≡◌, None, IfOk};
+ghost use Rattle.am_steps.specs.Parts.{empty_parts};
+ghost use Rattle.am_talk.specs.Dues.{IsAllowed, active_after, EndsAbort};
+ghost use Rattle.am_session.specs.Solo.{active_in, SoloGoes, SoloTells};
+
+use crate::backend::Backend;
+use crate::conversation::active_behind;
+use am_core::Store;
+use am_list::ListIndex;
+use am_record::{NoMemory, Reply, Step};
+use std::alloc::Global;
+use std::marker::Model;
+use std::sync::Wait;
+
+/// A store with one session, and the transaction that is active in it.
+#[derive(Drop)]
+pub(crate) struct SoloStore {
+    store: Store<ListIndex>,
+    active: Option<u64>,
+}
+
+impl Model for SoloStore {
+    ghost use Rattle.am_session.specs.Solo.{Solo, solo_code, IsOpen};
+
+    ghost Value = { Solo };
+
+    ghost coded = { solo_code };
+
+    ghost view = { λ s. record { kept = s.store; active = s.active } };
+
+    ghost invariant = { λ s. IsOpen s.store s.active };
+}
+
+impl SoloStore {
+    pub(crate) fn new(alloc: Global) -> Result<SoloStore, NoMemory>
+        ensures { IfOk result (λ solo. solo ≡ record { kept = empty_parts; active = None }) }
+    {
+        let store = Store::open(alloc, ListIndex::new(alloc))?;
+        Ok(SoloStore {
+            store,
+            active: None,
+        })
+    }
+}
+
+impl Backend for SoloStore {
+    ghost active = { active_in };
+
+    ghost goes = { SoloGoes };
+
+    ghost tells = { SoloTells };
+
+    fn call<W: Wait>(&mut self, _rt: &W, step: Step) -> Reply {
+        let reply = self.store.step(step);
+        self.active = active_behind(self.active, &reply);
+        reply
+    }
+
+    fn seen(&mut self) -> (u64, u64) {
+        (0, self.store.commits())
+    }
+}
