@@ -119,7 +119,7 @@ pub actives-started : (t : Txs) → is_owner t.locks (t.begun + 1) ≡ false →
 actives-started t none =
     map-append (active_with (locks_of (entered t.locks (t.begun + 1)))) t.active (fresh (t.begun + 1) ∷ [])
     ∙ (λ i. same_locks (locks_of t.locks) (locks_of (entered t.locks (t.begun + 1))) t.active (λ n a. locks_of-entered t.locks (t.begun + 1) n) i
-        ++ record { number = t.begun + 1; ops = 0; locks = (locks_of-entered t.locks (t.begun + 1) (t.begun + 1) ∙ nothing t.locks none) i; notes = []; marks = [] } ∷ [])
+    ++ record { number = t.begun + 1; ops = 0; locks = (locks_of-entered t.locks (t.begun + 1) (t.begun + 1) ∙ nothing t.locks none) i; notes = []; marks = [] } ∷ [])
   where
     nothing_one : (h : Held) (rest : List Held) (n : ℕ) (b : Bool) → (b || is_owner rest n) ≡ false → (is_owner rest n ≡ false → locks_of rest n ≡ []) → cond b h.locks (locks_of rest n) ≡ []
     nothing_one h rest n true o r = cc
@@ -141,10 +141,10 @@ ended-with_log t tx log = λ i. record { begun = t.begun; active = gone t.active
         let rest' = filter (λ (y : Transaction). not (y.number == tx)) (changed (λ (y : Transaction). record y { log = log }) tx xs) in
         ⊎_elim
         (λ yes. (λ i. cond (not ((cond (yes i) (record x { log = log }) x).number == tx)) (cond (yes i) (record x { log = log }) x ∷ rest') rest')
-            ∙ (λ i. cond (not (yes i)) ((let y : Transaction = record x { log = log } in y) ∷ rest') rest')
-            ∙ rest ∙ sym (ap (λ b. cond (not b) (x ∷ filter (λ (y : Transaction). not (y.number == tx)) xs) (filter (λ (y : Transaction). not (y.number == tx)) xs)) yes))
+        ∙ (λ i. cond (not (yes i)) ((let y : Transaction = record x { log = log } in y) ∷ rest') rest')
+        ∙ rest ∙ sym (ap (λ b. cond (not b) (x ∷ filter (λ (y : Transaction). not (y.number == tx)) xs) (filter (λ (y : Transaction). not (y.number == tx)) xs)) yes))
         (λ no. (λ i. cond (not ((cond (no i) (record x { log = log }) x).number == tx)) (cond (no i) (record x { log = log }) x ∷ rest') rest')
-            ∙ (λ i. cond (not (x.number == tx)) (x ∷ rest i) (rest i)))
+        ∙ (λ i. cond (not (x.number == tx)) (x ∷ rest i) (rest i)))
         (cases_Bool (x.number == tx))
 
 -- ---- the locks as a table of their own
@@ -197,9 +197,9 @@ have_log : (tx : ℕ) (xs : List Transaction) → txs.Rise (numbers xs) → Have
 have_log tx [] r = tt
 have_log tx (x ∷ xs) r = ⊎_elim
     (λ here. let log = cond-true (x.number == tx) x.log (log_of xs tx) here in
-        (λ same. sym log, none_have x.number tx (cond (x.number == tx) x.log (log_of xs tx)) xs (eqb-true x.number tx here) r.0))
+    (λ same. sym log, none_have x.number tx (cond (x.number == tx) x.log (log_of xs tx)) xs (eqb-true x.number tx here) r.0))
     (λ other. let log = cond-false (x.number == tx) x.log (log_of xs tx) other in
-        (λ same. absurd (eqb-false x.number tx other same), subst (λ (l : Log). HaveLog tx l xs) (sym log) (have_log tx xs r.1)))
+    (λ same. absurd (eqb-false x.number tx other same), subst (λ (l : Log). HaveLog tx l xs) (sym log) (have_log tx xs r.1)))
     (cases_Bool (x.number == tx))
 
 module _ (look look' : ℕ → List Lock) (tx : ℕ) (op : Op) (reply : Reply) (new : List Note) (log log' : Log)
@@ -209,21 +209,21 @@ module _ (look look' : ℕ → List Lock) (tx : ℕ) (op : Op) (reply : Reply) (
       → active_with look' (cond ((cond (x.number == tx) (record x { log = log' }) x).number == tx) (let y : Transaction = cond (x.number == tx) (record x { log = log' }) x in record y { ops = y.ops + 1 }) (cond (x.number == tx) (record x { log = log' }) x)) ≡ did tx op reply new (active_with look x)
   did_one x has = ⊎_elim
       (λ here.
-          let is : x.number ≡ tx = eqb-true x.number tx here in
-          let l = has is in
-          let locks : look' x.number ≡ with_asked (look x.number) (lock_of op) = ap look' is ∙ own ∙ ap (λ n. with_asked (look n) (lock_of op)) (sym is) in
-          let ns = notes ∙ (λ i. new ++ notes_left op reply (sym l i).marks (sym l i).notes) in
-          let ms = marks ∙ (λ i. marks_left op reply (length (sym l i).notes) (sym l i).marks) in
-          (λ i. active_with look' (cond ((cond (here i) (record x { log = log' }) x).number == tx) (let y : Transaction = cond (here i) (record x { log = log' }) x in record y { ops = y.ops + 1 }) (cond (here i) (record x { log = log' }) x)))
-          ∙ (λ i. active_with look' (cond (here i) (let y : Transaction = record x { log = log' } in record y { ops = x.ops + 1 }) (let y : Transaction = record x { log = log' } in y)))
-          ∙ (λ i. record { number = x.number; ops = x.ops + 1; locks = locks i; notes = ns i; marks = ms i })
-          ∙ sym (cond-true (tx == x.number) (record { number = x.number; ops = x.ops + 1; locks = with_asked (look x.number) (lock_of op); notes = new ++ notes_left op reply x.log.marks x.log.notes; marks = marks_left op reply (length x.log.notes) x.log.marks }) (active_with look x) (turned tx x.number ∙ here)))
+      let is : x.number ≡ tx = eqb-true x.number tx here in
+      let l = has is in
+      let locks : look' x.number ≡ with_asked (look x.number) (lock_of op) = ap look' is ∙ own ∙ ap (λ n. with_asked (look n) (lock_of op)) (sym is) in
+      let ns = notes ∙ (λ i. new ++ notes_left op reply (sym l i).marks (sym l i).notes) in
+      let ms = marks ∙ (λ i. marks_left op reply (length (sym l i).notes) (sym l i).marks) in
+      (λ i. active_with look' (cond ((cond (here i) (record x { log = log' }) x).number == tx) (let y : Transaction = cond (here i) (record x { log = log' }) x in record y { ops = y.ops + 1 }) (cond (here i) (record x { log = log' }) x)))
+      ∙ (λ i. active_with look' (cond (here i) (let y : Transaction = record x { log = log' } in record y { ops = x.ops + 1 }) (let y : Transaction = record x { log = log' } in y)))
+      ∙ (λ i. record { number = x.number; ops = x.ops + 1; locks = locks i; notes = ns i; marks = ms i })
+      ∙ sym (cond-true (tx == x.number) (record { number = x.number; ops = x.ops + 1; locks = with_asked (look x.number) (lock_of op); notes = new ++ notes_left op reply x.log.marks x.log.notes; marks = marks_left op reply (length x.log.notes) x.log.marks }) (active_with look x) (turned tx x.number ∙ here)))
       (λ other.
-          let differs : x.number ≢ tx = eqb-false x.number tx other in
-          (λ i. active_with look' (cond ((cond (other i) (record x { log = log' }) x).number == tx) (let y : Transaction = cond (other i) (record x { log = log' }) x in record y { ops = y.ops + 1 }) (cond (other i) (record x { log = log' }) x)))
-          ∙ (λ i. active_with look' (cond (other i) (record x { ops = x.ops + 1 }) x))
-          ∙ (λ i. record { number = x.number; ops = x.ops; locks = others x.number differs i; notes = x.log.notes; marks = x.log.marks })
-          ∙ sym (cond-false (tx == x.number) (record { number = x.number; ops = x.ops + 1; locks = with_asked (look x.number) (lock_of op); notes = new ++ notes_left op reply x.log.marks x.log.notes; marks = marks_left op reply (length x.log.notes) x.log.marks }) (active_with look x) (turned tx x.number ∙ other)))
+      let differs : x.number ≢ tx = eqb-false x.number tx other in
+      (λ i. active_with look' (cond ((cond (other i) (record x { log = log' }) x).number == tx) (let y : Transaction = cond (other i) (record x { log = log' }) x in record y { ops = y.ops + 1 }) (cond (other i) (record x { log = log' }) x)))
+      ∙ (λ i. active_with look' (cond (other i) (record x { ops = x.ops + 1 }) x))
+      ∙ (λ i. record { number = x.number; ops = x.ops; locks = others x.number differs i; notes = x.log.notes; marks = x.log.marks })
+      ∙ sym (cond-false (tx == x.number) (record { number = x.number; ops = x.ops + 1; locks = with_asked (look x.number) (lock_of op); notes = new ++ notes_left op reply x.log.marks x.log.notes; marks = marks_left op reply (length x.log.notes) x.log.marks }) (active_with look x) (turned tx x.number ∙ other)))
       (cases_Bool (x.number == tx))
 
   did_each : (xs : List Transaction) → HaveLog tx log xs
@@ -248,14 +248,14 @@ module _ (look look' : ℕ → List Lock) (tx : ℕ) (log log' : Log) (same : (u
   undid_one : (x : Transaction) → (x.number ≡ tx → x.log ≡ log) → active_with look' (cond (x.number == tx) (record x { log = log' }) x) ≡ active_with look x
   undid_one x has = ⊎_elim
       (λ here.
-          let l = has (eqb-true x.number tx here) in
-          let ns = notes ∙ (λ i. (sym l i).notes) in
-          let ms = marks ∙ (λ i. (sym l i).marks) in
-          (λ i. active_with look' (cond (here i) (record x { log = log' }) x))
-          ∙ (λ i. record { number = x.number; ops = x.ops; locks = same x.number i; notes = ns i; marks = ms i }))
+      let l = has (eqb-true x.number tx here) in
+      let ns = notes ∙ (λ i. (sym l i).notes) in
+      let ms = marks ∙ (λ i. (sym l i).marks) in
+      (λ i. active_with look' (cond (here i) (record x { log = log' }) x))
+      ∙ (λ i. record { number = x.number; ops = x.ops; locks = same x.number i; notes = ns i; marks = ms i }))
       (λ other.
-          (λ i. active_with look' (cond (other i) (record x { log = log' }) x))
-          ∙ (λ i. record { number = x.number; ops = x.ops; locks = same x.number i; notes = x.log.notes; marks = x.log.marks }))
+      (λ i. active_with look' (cond (other i) (record x { log = log' }) x))
+      ∙ (λ i. record { number = x.number; ops = x.ops; locks = same x.number i; notes = x.log.notes; marks = x.log.marks }))
       (cases_Bool (x.number == tx))
 
   undid_each : (xs : List Transaction) → HaveLog tx log xs → map (active_with look') (changed (λ (x : Transaction). record x { log = log' }) tx xs) ≡ map (active_with look) xs
@@ -275,9 +275,9 @@ actives-undid t t1 t2 t3 tx held asked log' ok has written before cut notes mark
     let kept = take held (locks_of t1.locks tx) in
     let own : kept ≡ locks_of t.locks tx = (λ i. take (before i) (has.holds i)) ∙ taken_off (locks_of t.locks tx) asked in
     let same : (u : ℕ) → locks_of (with_locks t1.locks tx kept) u ≡ locks_of t.locks u = λ u. ⊎_elim
-        (λ yes. let is : u ≡ tx = eqb-true u tx yes in ap (locks_of (with_locks t1.locks tx kept)) is ∙ locks_of-with_locks t1.locks tx kept has.owner ∙ own ∙ ap (locks_of t.locks) (sym is))
-        (λ other. let differs : u ≢ tx = eqb-false u tx other in locks_of-with_locks_other t1.locks tx u kept differs ∙ has.others u differs)
-        (cases_Bool (u == tx)) in
+    (λ yes. let is : u ≡ tx = eqb-true u tx yes in ap (locks_of (with_locks t1.locks tx kept)) is ∙ locks_of-with_locks t1.locks tx kept has.owner ∙ own ∙ ap (locks_of t.locks) (sym is))
+    (λ other. let differs : u ≢ tx = eqb-false u tx other in locks_of-with_locks_other t1.locks tx u kept differs ∙ has.others u differs)
+    (cases_Bool (u == tx)) in
     (λ i. actives (cut i))
     ∙ (λ i. actives (let s : Txs = written i in record s { locks = with_locks s.locks tx (take held (locks_of s.locks tx)) }))
     ∙ (λ i. map (active_with (locks_of (with_locks t1.locks tx kept))) (changed (λ (x : Transaction). record x { log = log' }) tx (has.active i)))

@@ -110,9 +110,11 @@ module _ (es : List Entry) (e : Entry) (sound : IsSound es) (before behind : Lis
   far_from (x ∷ xs) a r h =
       let other = other_part x h in
       let up : e.part ≤ x.part = place_cmp-part (place_of e) (place_of x) (λ g. absurd (let t = turned_greater' x a.0 in cc)) in
-      let first : e.part + 1 ≤ x.part = omega arith in
-      (first, AllByRecursion-map (λ (f : Entry). place_cmp (place_of x) (place_of f) ≡ Less) (λ (f : Entry). e.part + 1 ≤ f.part)
-          (λ f less. let more : x.part ≤ f.part = place_cmp-part (place_of x) (place_of f) (λ g. absurd (cc)) in omega arith) xs r.0)
+      let first : e.part + 1 ≤ x.part = omega arith in (
+        first,
+        AllByRecursion-map (λ (f : Entry). place_cmp (place_of x) (place_of f) ≡ Less) (λ (f : Entry). e.part + 1 ≤ f.part)
+            (λ f less. let more : x.part ≤ f.part = place_cmp-part (place_of x) (place_of f) (λ g. absurd (cc)) in omega arith) xs r.0,
+      )
     where
       turned_greater' : (x : Entry) → place_cmp (place_of x) (place_of e) ≡ Greater → place_cmp (place_of e) (place_of x) ≡ Less
       turned_greater' x g = turned_greater (place_of x) (place_of e) g

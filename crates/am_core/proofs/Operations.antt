@@ -223,8 +223,8 @@ module _ (parts : Partitions) (t : Txs) (wishes : List Interval) (commits tx : �
       let all = actives-did t t1 t2 t3 tx op reply (noted parts.runs op reply parts.entries) w.log ok has w.written count notes marks in
       let begun : t3.begun ≡ t.begun = (λ i. (count i).begun) ∙ (λ i. (w.written i).begun) ∙ has.begun in
       let es = w.done.entries
-          ∙ (λ i. changed (taken_back (since_mark (log i).marks (log i).notes) parts.entries) parts.runs op reply parts.entries)
-          ∙ (λ i. changed (taken_back (since_mark (sym (marks-actives (locks_of t.locks) t.active tx) i) (sym (notes-actives (locks_of t.locks) t.active tx) i)) parts.entries) parts.runs op reply parts.entries) in
+      ∙ (λ i. changed (taken_back (since_mark (log i).marks (log i).notes) parts.entries) parts.runs op reply parts.entries)
+      ∙ (λ i. changed (taken_back (since_mark (sym (marks-actives (locks_of t.locks) t.active tx) i) (sym (notes-actives (locks_of t.locks) t.active tx) i)) parts.entries) parts.runs op reply parts.entries) in
       let ws = wish ∙ ap (with_wish wishes) (sym (ap (wished op) w.done.said ∙ wished_is op (log_of t1.active tx).marks (content parts.entries))) in
       let is = subst IsAnswer (sym w.done.said) (answered op (log_of t1.active tx).marks (content parts.entries)) in
       (λ i. record { entries = es i; wishes = ws i; begun = begun i; commits = commits; runs = w.done.runs i; active = all i }) ∙ sym (done_by reply is)

@@ -81,10 +81,10 @@ one_less t (x ∷ xs) h =
     ⊎_elim
     (λ here. let gone : length (cond (not (x.number == t)) (x ∷ ended t xs) (ended t xs)) ≡ length (ended t xs) = ap (λ b. length (cond (not b) (x ∷ ended t xs) (ended t xs))) here in omega (arith, gone, most_left))
     (λ other.
-        let later = ⊎_elim (λ yes. absurd (both_ways (t == x.number) (turned t x.number ∙ other) yes)) (λ rest. rest) (or_cases (t == x.number) (is_in xs t) h) in
-        let ih = one_less t xs later in
-        let stays : length (cond (not (x.number == t)) (x ∷ ended t xs) (ended t xs)) ≡ suc (length (ended t xs)) = ap (λ b. length (cond (not b) (x ∷ ended t xs) (ended t xs))) other in
-        omega (arith, stays, ih))
+    let later = ⊎_elim (λ yes. absurd (both_ways (t == x.number) (turned t x.number ∙ other) yes)) (λ rest. rest) (or_cases (t == x.number) (is_in xs t) h) in
+    let ih = one_less t xs later in
+    let stays : length (cond (not (x.number == t)) (x ∷ ended t xs) (ended t xs)) ≡ suc (length (ended t xs)) = ap (λ b. length (cond (not b) (x ∷ ended t xs) (ended t xs))) other in
+    omega (arith, stays, ih))
     (cases_Bool (x.number == t))
 
 pub counts : (p : Parts) (step : Step) (reply : Reply) → IsCounted p → MaySay p step reply → IsCounted (after p step reply)

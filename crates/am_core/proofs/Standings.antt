@@ -20,9 +20,11 @@ abbrev pub Sounds : Type 0
 Sounds = (trace : Trace) (p : Parts) → At trace p → IsSoundStore trace
 
 pub goes : (p p' : Parts) (step : Step) (reply : Reply) → Lifts → Sounds → MaySay p step reply → p' ≡ after p step reply → GoesOn p ((step, reply) ∷ []) p'
-goes p p' step reply lift sound says e = record { on = λ trace at.
-    let next : At (trace ++ (step, reply) ∷ []) p' = subst (λ (q : Parts). At (trace ++ (step, reply) ∷ []) q) (sym e) (lift trace p step reply at says) in
-    record { at = next; sound = sound (trace ++ (step, reply) ∷ []) p' next } }
+goes p p' step reply lift sound says e = record {
+  on = λ trace at.
+      let next : At (trace ++ (step, reply) ∷ []) p' = subst (λ (q : Parts). At (trace ++ (step, reply) ∷ []) q) (sym e) (lift trace p step reply at says) in
+      record { at = next; sound = sound (trace ++ (step, reply) ∷ []) p' next };
+}
 
 pub stays : (p p' : Parts) (step : Step) (reply : Reply) → p' ≡ after p step reply → (why : Refusal) → reply ≡ Refused why → p' ≡ p
 stays p p' step reply e why is = e ∙ ap (after p step) is ∙ refused_stays p step why

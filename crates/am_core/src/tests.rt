@@ -1,7 +1,8 @@
 use crate::{Store, run};
 use am_list::ListIndex;
-use am_record::{Entry, Key, Lock, Mode, NoMemory, Op, Range, Refusal, Reply, Step, Value};
+use am_record::{Entry, Key, Lock, Mode, NoMemory, Op, Pairs, Range, Refusal, Reply, Step, Value};
 use std::alloc::Global;
+use std::process::Abort;
 use std::test::Fail;
 
 fn open(alloc: Global) -> Result<Store<ListIndex>, NoMemory> {
@@ -12,12 +13,22 @@ fn value(byte: u8) -> Value {
     Value::new(&[byte]).unwrap()
 }
 
-fn shared(lo: u64, hi: u64) -> Option<Op> {
-    let range = Range::new(Key::of_u64(lo), Key::of_u64(hi))?;
-    Some(Op::Lock(Lock {
+fn shared(rt: &impl Abort, lo: u64, hi: u64) -> Op {
+    let range = Range::new(Key::of_u64(lo), Key::of_u64(hi));
+    Op::Lock(Lock {
         mode: Mode::Shared,
-        range,
-    }))
+        range: range.expect(rt, "the ends stand in order"),
+    })
+}
+
+// Takes the step, and sees that this is its reply.
+fn take(rt: &impl Abort, store: &mut Store<ListIndex>, step: Step, reply: Reply) {
+    let said = store.step(step);
+    assert!(rt; said == reply, "{said:?}");
+}
+
+fn take_op(rt: &impl Abort, store: &mut Store<ListIndex>, tx: u64, op: Op, reply: Reply) {
+    take(rt, store, Step::Do(tx, op), reply);
 }
 
 #[test]
@@ -31,36 +42,48 @@ fn an_opened_store_is_empty(rt: HostRuntime) -> Result<(), Fail> {
 #[test]
 fn shared_ranges_hold_back_a_delete(rt: HostRuntime) -> Result<(), Fail> {
     let mut store = open(rt.alloc())?;
-    let key = Key::of_u64(4);
     for tx in 1..=3 {
-        assert_eq!(rt; store.step(Step::Begin), Reply::Begun(tx));
+        take(&rt, &mut store, Step::Begin, Reply::Begun(tx));
     }
-    let lock = shared(1, 5).ok_or("the ends stand in order")?;
-    assert_eq!(rt; store.step(Step::Do(1, lock)), Reply::Done);
-    let lock = shared(3, 9).ok_or("the ends stand in order")?;
-    assert_eq!(rt; store.step(Step::Do(2, lock)), Reply::Done);
-    let busy = store.step(Step::Do(3, Op::Delete(key)));
-    assert_eq!(rt; busy, Reply::Refused(Refusal::Busy(1)));
-    assert_eq!(rt; store.step(Step::Commit(1)), Reply::Committed(1));
-    let busy = store.step(Step::Do(3, Op::Delete(key)));
-    assert_eq!(rt; busy, Reply::Refused(Refusal::Busy(2)));
-    assert_eq!(rt; store.step(Step::Abort(2)), Reply::Aborted);
-    assert_eq!(rt; store.step(Step::Do(3, Op::Delete(key))), Reply::Missing);
-    let ended = store.step(Step::Do(1, Op::Get(key)));
-    assert_eq!(rt; ended, Reply::Refused(Refusal::NoSuchTx));
-    assert_eq!(rt; store.commits(), 1);
+    take_op(&rt, &mut store, 1, shared(&rt, 1, 5), Reply::Done);
+    take_op(&rt, &mut store, 2, shared(&rt, 3, 9), Reply::Done);
+    delete_four(&rt, &mut store, Reply::Refused(Refusal::Busy(1)));
+    take(&rt, &mut store, Step::Commit(1), Reply::Committed(1));
+    delete_four(&rt, &mut store, Reply::Refused(Refusal::Busy(2)));
+    take(&rt, &mut store, Step::Abort(2), Reply::Aborted);
+    delete_four(&rt, &mut store, Reply::Missing);
+    let ended = Reply::Refused(Refusal::NoSuchTx);
+    take_op(&rt, &mut store, 1, Op::Get(Key::of_u64(4)), ended);
     assert!(rt; store.entries(rt.alloc())?.is_empty());
     Ok(())
+}
+
+fn delete_four(rt: &impl Abort, store: &mut Store<ListIndex>, reply: Reply) {
+    take_op(rt, store, 3, Op::Delete(Key::of_u64(4)), reply);
 }
 
 #[test]
 fn steps_of_two_transactions_as_one_run(rt: HostRuntime) -> Result<(), Fail> {
     let mut store = open(rt.alloc())?;
-    let (key, value) = (Key::of_u64(5), value(b'a'));
-    let steps = [
+    let key = Key::of_u64(5);
+    let mut replies = Vec::new(rt.alloc());
+    run(rt.alloc(), &mut store, &two_transactions(key), &mut replies)?;
+    assert!(rt; replies.as_slice() == their_replies().as_slice());
+    let only = Entry {
+        part: 0,
+        key,
+        value: value(b'a'),
+        is_ghost: false,
+    };
+    assert_eq!(rt; store.entries(rt.alloc())?.as_slice(), [only].as_slice());
+    Ok(())
+}
+
+fn two_transactions(key: Key) -> [Step; 10] {
+    [
         Step::Begin,
         Step::Begin,
-        Step::Do(1, Op::Insert(key, value)),
+        Step::Do(1, Op::Insert(key, value(b'a'))),
         Step::Do(2, Op::Get(key)),
         Step::Commit(1),
         Step::Do(2, Op::Get(key)),
@@ -68,28 +91,43 @@ fn steps_of_two_transactions_as_one_run(rt: HostRuntime) -> Result<(), Fail> {
         Step::Abort(2),
         Step::Do(2, Op::Get(key)),
         Step::Merge(65),
-    ];
-    let mut replies = Vec::new(rt.alloc());
-    run(rt.alloc(), &mut store, &steps, &mut replies)?;
-    let expected = [
+    ]
+}
+
+fn their_replies() -> [Reply; 10] {
+    [
         Reply::Begun(1),
         Reply::Begun(2),
         Reply::Done,
         Reply::Refused(Refusal::Busy(1)),
         Reply::Committed(1),
-        Reply::Found(value),
+        Reply::Found(value(b'a')),
         Reply::MergeDone,
         Reply::Aborted,
         Reply::Refused(Refusal::NoSuchTx),
         Reply::Refused(Refusal::BadLimit),
-    ];
-    assert_eq!(rt; replies.as_slice(), expected.as_slice());
-    let only = Entry {
-        part: 0,
-        key,
-        value,
-        is_ghost: false,
-    };
-    assert_eq!(rt; store.entries(rt.alloc())?.as_slice(), [only].as_slice());
+    ]
+}
+
+#[test]
+fn a_load_is_scanned_marked_and_cleaned(rt: HostRuntime) -> Result<(), Fail> {
+    let mut store = open(rt.alloc())?;
+    let pairs = vec![in rt.alloc();
+        (Key::of_u64(1), value(b'a')),
+        (Key::of_u64(2), value(b'b')),
+    ]?;
+    take(&rt, &mut store, Step::Begin, Reply::Begun(1));
+    take_op(&rt, &mut store, 1, Op::Load(Pairs::new(pairs)), Reply::Done);
+    take_op(&rt, &mut store, 1, Op::Mark, Reply::Done);
+    take_op(&rt, &mut store, 1, Op::Delete(Key::of_u64(1)), Reply::Done);
+    take_op(&rt, &mut store, 1, Op::Back, Reply::Done);
+    let rows = vec![in rt.alloc(); (Key::of_u64(1), value(b'a'))]?;
+    let scan = Op::Scan(Range::point(Key::of_u64(1)), 9);
+    take_op(&rt, &mut store, 1, scan, Reply::Rows(Pairs::new(rows)));
+    take(&rt, &mut store, Step::Abort(1), Reply::Aborted);
+    take(&rt, &mut store, Step::Merge(1), Reply::Moved(1, 1));
+    let range = Range::point(Key::of_u64(2));
+    take(&rt, &mut store, Step::Clean(range, 64), Reply::Cleaned(1));
+    assert!(rt; store.entries(rt.alloc())?.is_empty());
     Ok(())
 }

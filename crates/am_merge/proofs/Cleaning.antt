@@ -26,6 +26,7 @@ use Rattle.am_effect.proofs.Knowing.{known_laws}
 use Rattle.am_merge.specs.Walks.{in_parts_from, later, comes_to}
 use Rattle.am_merge.specs.Steps.{is_cleanable, HasPassedNone}
 use Rattle.am_merge.proofs.Firsts.{All-zip, All-passed, first_comes, first_is, first_stands, stands_there, first_head, no_head, a_head}
+use Rattle.am_merge.proofs.Walks.{lt_le}
 use Rattle.am_merge.proofs.Passing.{take-next, drop-next}
 use Rattle.am_merge.proofs.Homing.{ghost_goes}
 
@@ -43,11 +44,6 @@ le_trans a b c h k = not_gt_le (place_cmp a c) (upto place_cmp-total a b c (le_n
     not_gt_le Less e = refl
     not_gt_le Equal e = refl
     not_gt_le Greater e = absurd (cc)
-
-lt_le : (o : Ordering) → is_lt o ≡ true → is_le o ≡ true
-lt_le Less h = refl
-lt_le Equal h = refl
-lt_le Greater h = h
 
 lt_not_le_back : (a b : Place) → is_lt (place_cmp a b) ≡ true → is_le (place_cmp b a) ≡ false
 lt_not_le_back a b h = by (place_cmp a b) (place_cmp b a) (place_cmp-total.antisymm b a) h

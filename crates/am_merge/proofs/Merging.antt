@@ -57,9 +57,6 @@ module _ (cur : List Entry) (rise : IsRising cur) (range : Interval) (e : Entry)
   first_left = sym same_first ∙ first_head (is_candidate range) cur ∙ ap head_of left
 
   module _ (table : List Held) where
-    in_e's_run : Entry → Bool
-    in_e's_run f = may_move (holder_of table) e.part f
-
     none_there : (ds : List Entry) → first_such (in_parts_from (e.part + 1) range) cur ≡ head_of ds → None ≡ first_if (may_move (holder_of table) e.part) ds
     none_there [] h = refl
     none_there (d ∷ ds) h =
@@ -120,9 +117,6 @@ pub record IsOnTheWay (es : List Entry) (held : Holders) (limit run : ℕ) (rang
   pub is_next : next ≡ first_if (may_move held run) (drop n (candidates es range))
 
 module _ {es : List Entry} (sound : IsSound es) (table : List Held) (limit : ℕ) (range : Interval) where
-  cs : List Entry
-  cs = candidates es range
-
   abbrev held : Holders
   held = holder_of table
 
@@ -130,13 +124,10 @@ module _ {es : List Entry} (sound : IsSound es) (table : List Held) (limit : ℕ
   pub begins : (first : Entry) → first_such (is_candidate range) es ≡ Some first → (rest : List Entry) × (candidates es range ≡ first ∷ rest)
   begins first h = a_head (candidates es range) first (sym (first_head (is_candidate range) es) ∙ h)
 
-  none_held : (o : Option ℕ) → o ≡ None → is_none o ≡ true
-  none_held o h = ap is_none h
-
   pub starts : (first : Entry) → first_such (is_candidate range) es ≡ Some first → held first.key ≡ None → IsOnTheWay es held limit first.part range es (Some first) 0
   starts first h free =
       let c = begins first h in
-      let passes : may_move held first.part first ≡ true = and_from (first.part == first.part) (is_none (held first.key)) (eq-eqb first.part first.part refl) (none_held (held first.key) free) in
+      let passes : may_move held first.part first ≡ true = and_from (first.part == first.part) (is_none (held first.key)) (eq-eqb first.part first.part refl) (ap is_none free) in
       record {
         at_most = omega arith;
         entries = refl;
@@ -164,9 +155,6 @@ module _ {es : List Entry} (sound : IsSound es) (table : List Held) (limit : ℕ
     module _ (e : Entry) (is : next ≡ Some e) where
       found : (rest : List Entry) × (drop n (candidates es range) ≡ e ∷ rest) × (may_move held run e ≡ true)
       found = if_some (may_move held run) (drop n (candidates es range)) e (sym is ∙ way.is_next)
-
-      rest : List Entry
-      rest = found.0
 
       cur_rises : IsRising cur
       cur_rises = subst IsRising (sym way.entries) (rising-all_worked_off (take n (candidates es range)) es sound.rising)

@@ -26,30 +26,15 @@ lt_less Less h = refl
 lt_less Equal h = absurd (cc)
 lt_less Greater h = absurd (cc)
 
-gt_greater : (o : Ordering) → is_gt o ≡ true → o ≡ Greater
-gt_greater Less h = absurd (cc)
-gt_greater Equal h = absurd (cc)
-gt_greater Greater h = refl
-
 le_not_greater : (o : Ordering) → is_le o ≡ true → o ≢ Greater
 le_not_greater Less h e = absurd (cc)
 le_not_greater Equal h e = absurd (cc)
 le_not_greater Greater h e = absurd (cc)
 
-not_le_greater : (o : Ordering) → is_le o ≡ false → o ≡ Greater
-not_le_greater Less h = absurd (cc)
-not_le_greater Equal h = absurd (cc)
-not_le_greater Greater h = refl
-
 pub lt_le : (o : Ordering) → is_lt o ≡ true → is_le o ≡ true
 lt_le Less h = refl
 lt_le Equal h = refl
 lt_le Greater h = h
-
-ge_reversed : (o : Ordering) → is_ge (ordering_reverse o) ≡ is_le o
-ge_reversed Less = refl
-ge_reversed Equal = refl
-ge_reversed Greater = refl
 
 le_reversed : (o : Ordering) → is_le (ordering_reverse o) ≡ is_ge o
 le_reversed Less = refl
@@ -66,18 +51,10 @@ not_ge_lt Less h = refl
 not_ge_lt Equal h = absurd (cc)
 not_ge_lt Greater h = absurd (cc)
 
-not_le_gt : (o : Ordering) → is_le o ≡ false → is_gt o ≡ true
-not_le_gt Less h = absurd (cc)
-not_le_gt Equal h = absurd (cc)
-not_le_gt Greater h = refl
-
 -- ---- places
 
 pub ge_le : (a b : Place) → is_ge (place_cmp b a) ≡ true → is_le (place_cmp a b) ≡ true
 ge_le a b h = ap is_le (place_cmp-total.antisymm a b) ∙ le_reversed (place_cmp b a) ∙ h
-
-pub le_ge : (a b : Place) → is_le (place_cmp a b) ≡ true → is_ge (place_cmp b a) ≡ true
-le_ge a b h = ap is_ge (place_cmp-total.antisymm b a) ∙ ge_reversed (place_cmp a b) ∙ h
 
 gt_lt : (a b : Place) → is_gt (place_cmp b a) ≡ true → is_lt (place_cmp a b) ≡ true
 gt_lt a b h = sym (gt_reversed (place_cmp a b)) ∙ ap is_gt (sym (place_cmp-total.antisymm b a)) ∙ h

@@ -99,7 +99,7 @@ fn locks_by_range_and_mode(rt: HostRuntime) {
 #[test]
 fn pairs_copied_and_given_back(rt: HostRuntime) {
     let value = Value::new(b"a").expect(&rt, "one byte fits");
-    let items = vec![in rt.alloc(); (Key::new(2), value), (Key::new(1), value)];
+    let items = vec![in rt.alloc(); (Key::of_u64(2), value), (Key::of_u64(1), value)];
     let items = items.expect(&rt, "memory");
     let pairs = Pairs::new(items);
     let same = pairs.copy(rt.alloc()).expect(&rt, "memory");
@@ -111,7 +111,7 @@ fn pairs_copied_and_given_back(rt: HostRuntime) {
     let step = Step::Do(1, copy);
     assert!(rt; step.copy(rt.alloc()).expect(&rt, "memory") == step);
     let mut rest = pairs.into_vec();
-    assert!(rt; rest.pop() == Some((Key::new(1), value)));
+    assert!(rt; rest.pop() == Some((Key::of_u64(1), value)));
     let rows = Reply::Rows(Pairs::new(rest));
     assert!(rt; rows.copy(rt.alloc()).expect(&rt, "memory") == rows && rows != Reply::NoMark);
 }

@@ -1,0 +1,4 @@
+//! Sessions that fail, and the order of a session's calls.
+
+mod failing;
+mod recording;
