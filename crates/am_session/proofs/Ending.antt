@@ -24,7 +24,17 @@ module _ {S K B : Type 0} (comes : S → List ℕ → Type 0) (holds : K → Opt
 
   pub ended_torn : AtWriteFailure comes holds active goes tells auto s k b s' k' last → Served comes holds active goes tells auto s k b s' k' b' WriteFailed
   ended_torn t = inl (record {
-    exchanges = t.exchanges; last = t.last; events = t.events ++ (t.its ++ left.0); read = t.read; waiting = t.waiting; count = t.count; takes = t.took; whole = t.whole; no_quit = t.no_quit; lines = t.lines; gives = t.gave;
+    exchanges = t.exchanges;
+    last = t.last;
+    events = t.events ++ (t.its ++ left.0);
+    read = t.read;
+    waiting = t.waiting;
+    count = t.count;
+    takes = t.took;
+    whole = t.whole;
+    no_quit = t.no_quit;
+    lines = t.lines;
+    gives = t.gave;
     does = record { before = t.before; last = last; own = t.events; its = t.its; aborting = left.0; converses = t.converses; answers = t.answers; leaves = left.1; are = refl };
   })
 

@@ -104,7 +104,7 @@ lead auto ends (e ∷ exchanges) old new events tail trace c here end =
         subst (λ (at : Standing). Dialogue auto ends at exchanges (c.2 ++ tail)) (merge_stands auto c.3 c.4 c.1 (auto == 0) c.6) rest.dialogue_is,
       );
       stands = subst (λ (t : Trace). At t new.kept)
-      (append_assoc (trace ++ c.0) c.1 c.2 ∙ append_assoc trace c.0 (c.1 ++ c.2) ∙ ap (λ t. trace ++ t) (sym c.8)) rest.stands;
+          (append_assoc (trace ++ c.0) c.1 c.2 ∙ append_assoc trace c.0 (c.1 ++ c.2) ∙ ap (λ t. trace ++ t) (sym c.8)) rest.stands;
     }
 
 -- ---- the last abort

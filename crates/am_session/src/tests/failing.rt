@@ -9,6 +9,7 @@ use std::sync::Wait;
 use std::test::Fail;
 
 const LINES: &[u8] = b"BEGIN\nINS 5 a\nGET 5\nCOMMIT\nQUIT\n";
+
 const ANSWERS: &[u8] = b"BEGUN 1\nOK\nVAL a\nCOMMITTED 1\nBYE\n";
 
 /// What a session writes for the lines, with a failure at these calls, and how it ends.
@@ -29,7 +30,12 @@ fn session<R: Wait>(
 }
 
 /// Whether the session wrote a beginning of its answers.
-fn begins<R: Wait + Abort>(rt: &R, alloc: Global, read_fails: u64, write_fails: u64) -> Result<End, NoMemory> {
+fn begins<R: Wait + Abort>(
+    rt: &R,
+    alloc: Global,
+    read_fails: u64,
+    write_fails: u64,
+) -> Result<End, NoMemory> {
     let (text, end) = session(rt, alloc, LINES, read_fails, write_fails)?;
     assert!(rt; ANSWERS.starts_with(text.as_slice()));
     Ok(end)
