@@ -1,5 +1,5 @@
 -- From a session with the store as its backend to its dialogue, whose events are a sound trace.
-use Rattle.std.proofs.Common.{◌≡◌, ◌⊎◌, inl, inr, ℕ, ◌+◌, ◌==◌, List, [], ◌∷◌, ◌++◌, append_assoc, append-nil, Bool, true, false, Option, Some, None, refl, sym, ap, ◌∙◌, subst}
+use Rattle.std.proofs.Common.{◌≡◌, ◌⊎◌, inl, inr, ℕ, ◌+◌, ◌==◌, List, [], ◌∷◌, ◌++◌, append_assoc, append-nil, Bool, true, false, Option, Some, None, All, refl, sym, ap, ◌∙◌, subst}
 use Rattle.std.specs.Prelude.{MatchBool}
 use Rattle.am_record.specs.declared.step.Step.{Step}
 use Rattle.am_record.specs.declared.step.Step.TheVariants as step
@@ -7,7 +7,10 @@ use Rattle.am_record.specs.declared.step.Reply.{Reply}
 use Rattle.am_record.specs.declared.step.Reply.TheVariants as reply
 use Rattle.am_serial.specs.Trace.{Trace}
 use Rattle.am_serial.specs.Sound.{IsSound}
+use Rattle.am_effect.specs.Store.{Follows, opened as opened_store}
 use Rattle.am_sound.specs.Right.{IsSoundStore}
+use Rattle.am_wire.specs.Replies.{IsOneLine}
+use Rattle.am_talk.specs.Responses.{response_text}
 use Rattle.am_steps.specs.Parts.{Parts, empty_parts}
 use Rattle.am_steps.specs.At.{At}
 use Rattle.am_talk.specs.Heard.{Line, MayHear}
@@ -122,6 +125,8 @@ leaves_at (Some tx) old new events trace l here = subst (λ (t : Trace). At (tra
 module _ (auto : ℕ) (s0 : Solo) (fresh : s0 ≡ record { kept = empty_parts; active = None }) (opened : At [] empty_parts)
     (sound : (trace : Trace) (p : Parts) → At trace p → IsSoundStore trace)
     (say_whole : (exchanges : List Exchange) (trace : Trace) → IsSound trace → Dialogue auto Whole (None, 0) exchanges trace → Says exchanges)
+    (lines_whole : (exchanges : List Exchange) (trace : Trace) → Follows opened_store trace → Dialogue auto Whole (None, 0) exchanges trace → All (λ (e : Exchange). IsOneLine (response_text e.1)) exchanges)
+    (lines_torn : (exchanges : List Exchange) (last : Exchange) (trace : Trace) → Follows opened_store trace → Dialogue auto (TornAt last) (None, 0) exchanges trace → All (λ (e : Exchange). IsOneLine (response_text e.1)) (exchanges ++ last ∷ []))
     (say_torn : (exchanges : List Exchange) (last : Exchange) (trace : Trace) → IsSound trace → Dialogue auto (TornAt last) (None, 0) exchanges trace → Says (exchanges ++ last ∷ [])) where
   begins_at : At [] s0.kept
   begins_at = subst (λ (s : Solo). At [] s.kept) (sym fresh) opened
@@ -135,7 +140,7 @@ module _ (auto : ℕ) (s0 : Solo) (fresh : s0 ≡ record { kept = empty_parts; a
       let talk : Dialogue auto Whole (None, 0) exchanges events = subst (λ (t : Trace). Dialogue auto Whole (None, 0) exchanges t) (sym a.are) (subst (λ (at : Standing). Dialogue auto Whole at exchanges (a.own ++ a.aborting)) begins_so led.dialogue_is) in
       let at : At (a.own ++ a.aborting) b.kept = leaves_at a.last.active a.last b a.aborting a.own a.leaves led.stands in
       let right : IsSoundStore events = subst IsSoundStore (sym a.are) (sound (a.own ++ a.aborting) b.kept at) in
-      record { dialogue = talk; sound = right; says = say_whole exchanges events right.sound talk }
+      record { dialogue = talk; sound = right; says = say_whole exchanges events right.sound talk; lines = lines_whole exchanges events (subst (Follows opened_store) (sym a.are) at.follows) talk }
 
   pub spoken_torn : (b : Solo) (exchanges : List Exchange) (last : Exchange) (events : Trace) → AnswersOneMore active_in SoloGoes SoloTells auto s0 exchanges last events b → IsSpoken auto (TornAt last) exchanges (exchanges ++ last ∷ []) events
   spoken_torn b exchanges last events a =
@@ -144,7 +149,7 @@ module _ (auto : ℕ) (s0 : Solo) (fresh : s0 ≡ record { kept = empty_parts; a
       let talk : Dialogue auto (TornAt last) (None, 0) exchanges events = subst (λ (t : Trace). Dialogue auto (TornAt last) (None, 0) exchanges t) (sym a.are) (subst (λ (at : Standing). Dialogue auto (TornAt last) at exchanges (a.own ++ (a.its ++ a.aborting))) begins_so led.dialogue_is) in
       let at : At ((a.own ++ a.its) ++ a.aborting) b.kept = leaves_at a.last.active a.last b a.aborting (a.own ++ a.its) a.leaves (at_line a.before a.last last a.its a.own a.answers led.stands) in
       let right : IsSoundStore events = subst IsSoundStore (append_assoc a.own a.its a.aborting ∙ sym a.are) (sound ((a.own ++ a.its) ++ a.aborting) b.kept at) in
-      record { dialogue = talk; sound = right; says = say_torn exchanges last events right.sound talk }
+      record { dialogue = talk; sound = right; says = say_torn exchanges last events right.sound talk; lines = lines_torn exchanges last events (subst (Follows opened_store) (append_assoc a.own a.its a.aborting ∙ sym a.are) at.follows) talk }
 
 -- ---- by the session's end
 

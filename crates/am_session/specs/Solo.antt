@@ -1,5 +1,5 @@
 -- A session on a store of its own.
-use Rattle.std.specs.Prelude.{◌≡◌, ℕ, List, [], ◌∷◌, ◌++◌, true, Option, Some, None, refl}
+use Rattle.std.specs.Prelude.{◌≡◌, ℕ, List, [], ◌∷◌, ◌++◌, true, Option, Some, None, All, refl}
 use Rattle.std.specs.Coded.{Coded, code_by, coded×, coded_ℕ, coded_option}
 use Rattle.am_record.specs.declared.step.Step.{Step}
 use Rattle.am_record.specs.declared.step.Reply.{Reply}
@@ -10,7 +10,9 @@ use Rattle.am_core.specs.Keeping.{parts_code}
 use Rattle.am_core.specs.Standing.{GoesOn}
 use Rattle.am_talk.specs.Dues.{active_after}
 use Rattle.am_talk.specs.Dialogue.{Exchange, Ends, Dialogue}
+use Rattle.am_talk.specs.Responses.{response_text}
 use Rattle.am_talk.specs.Say.{Says}
+use Rattle.am_wire.specs.Replies.{IsOneLine}
 
 -- what the store keeps, and the transaction that is active in the session
 pub record Solo : Type 0 where
@@ -39,9 +41,10 @@ pub record SoloGoes (old : Solo) (step : Step) (reply : Reply) (new : Solo) : Ty
 abbrev pub SoloTells : Solo → ℕ → ℕ → Solo → Type 0
 SoloTells old session commits new = (session ≡ 0) × (commits ≡ old.kept.commits) × (new ≡ old)
 
--- The exchanges and events of a session alone, which ends in this way: the events are a sound trace, and all responses are those that are
--- said, but where memory was refused.
+-- The exchanges and events of a session alone, which ends in this way: the events are a sound trace, each response is one line, and all of
+-- them are those that are said, but where memory was refused.
 pub record IsSpoken (auto : ℕ) (ends : Ends) (exchanges all : List Exchange) (trace : Trace) : Type 0 where
   pub dialogue : Dialogue auto ends (None, 0) exchanges trace
   pub sound : IsSoundStore trace
   pub says : Says all
+  pub lines : All (λ (e : Exchange). IsOneLine (response_text e.1)) all

@@ -14,8 +14,8 @@ use std::sync::Wait;
 /// Answers the lines of a source up to the first QUIT, each by one line, on a store that begins with no records, and merges
 /// once after each answer where `auto` is above 0. The sink has nothing that isn't sent on.
 ///
-/// There is one sound trace whose steps are those of the lines, the merges and the last abort, and each line that is
-/// written is the text of what was answered there. All answers but those to MERGE and CLEAN are those of the plain map,
+/// There is one sound trace whose steps are those of the lines, the merges and the last abort, and each response is one
+/// line, the text of what was answered there. All answers but those to MERGE and CLEAN are those of the plain map,
 /// where memory was found; a line that was refused memory is answered ERR MEMORY and did nothing.
 pub fn serve_alone<W: Wait, S: Source, K: Sink>(
     rt: &W,
@@ -35,6 +35,7 @@ pub fn serve_alone<W: Wait, S: Source, K: Sink>(
 {
     am_steps::steps_lift();
     am_talk::sound_dialogues_say();
+    am_talk::answers_are_lines();
     let Ok(mut store) = SoloStore::new(alloc) else {
         return End::NoMemory;
     };

@@ -1,2 +1,5 @@
 pub mod Saying
 pub mod Dialogues
+pub mod VisibleMaps
+pub mod VisibleStores
+pub mod AnsweredLines

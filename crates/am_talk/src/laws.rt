@@ -1,8 +1,11 @@
 //! What a session on a store of its own says.
 
-ghost use Rattle.std.specs.Prelude.{ℕ, List, [], ◌∷◌, ◌++◌, None};
+ghost use Rattle.std.specs.Prelude.{ℕ, List, [], ◌∷◌, ◌++◌, All, None};
 ghost use Rattle.am_serial.specs.Trace.{Trace};
 ghost use Rattle.am_serial.specs.Sound.{IsSound};
+ghost use Rattle.am_effect.specs.Store.{opened, Follows};
+ghost use Rattle.am_wire.specs.Replies.{IsOneLine};
+ghost use Rattle.am_talk.specs.Responses.{response_text};
 ghost use Rattle.am_talk.specs.Dialogue.{Exchange, Dialogue, Whole, TornAt};
 ghost use Rattle.am_talk.specs.Say.{Says};
 
@@ -18,3 +21,14 @@ pub fn sound_dialogues_say()
 {
     sound_traces_are_runs();
 }
+
+/// Where one session alone had its steps answered by the store, each answer is one line: an LF ends it, and no other
+/// stands in it. What the store holds came on lines, so no LF is among it. The answer to a last line may have been torn.
+pub fn answers_are_lines()
+    ensures whole { (auto : ℕ) (exchanges : List Exchange) (trace : Trace) → Follows opened trace →
+        Dialogue auto Whole (None, 0) exchanges trace →
+        All (λ (e : Exchange). IsOneLine (response_text e.1)) exchanges }
+    ensures torn { (auto : ℕ) (exchanges : List Exchange) (last : Exchange) (trace : Trace) → Follows opened trace →
+        Dialogue auto (TornAt last) (None, 0) exchanges trace →
+        All (λ (e : Exchange). IsOneLine (response_text e.1)) (exchanges ++ last ∷ []) }
+{}

@@ -7,6 +7,6 @@ mod lines;
 mod response;
 
 pub use due::{Due, due_for};
-pub use laws::sound_dialogues_say;
+pub use laws::{answers_are_lines, sound_dialogues_say};
 pub use lines::{Heard, hear};
 pub use response::{Response, put_response};
