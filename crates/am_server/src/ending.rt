@@ -5,9 +5,6 @@ ghost use Rattle.am_server.specs.Endings.{status_of, words_of};
 
 use am_session::End;
 
-/// The status for a fault of the command line.
-pub const USAGE_STATUS: u8 = 2;
-
 /// The program's status, and what it says on standard error, by how its session ended. The text is empty where there is
 /// nothing to say.
 pub fn ending(end: &End) -> (u8, &'static str)
