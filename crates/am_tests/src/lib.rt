@@ -1,7 +1,16 @@
-//! Worked examples that take several crates: partitions that are loaded, changed and taken back, and whole sessions.
+//! Worked examples over the whole store: sessions line by line, calls at the limits, and a long random history against
+//! the plain map.
 #![tactic(auto)]
 
 #[cfg(test)]
-mod partitions;
+mod calls;
 #[cfg(test)]
-mod sessions;
+mod lines;
+#[cfg(test)]
+mod random;
+#[cfg(test)]
+mod rows;
+#[cfg(test)]
+mod scene;
+#[cfg(test)]
+mod steps;

@@ -1,0 +1,181 @@
+//! Sessions on one store, line by line.
+
+use am_core::Store;
+use am_list::ListIndex;
+use am_record::{Entry, NoMemory, Reply};
+use am_talk::{Due, Response, due_for, hear, put_response};
+use am_wire::{LineKind, MAX_LINE_LEN, StopSink, reply_text};
+use std::alloc::Global;
+use std::process::Abort;
+
+/// A line of a session, and its answer.
+pub(crate) type Exchange = (&'static str, &'static str);
+
+/// Who speaks, the line and its answer.
+pub(crate) type Turn = (Session, &'static str, &'static str);
+
+/// An entry as it is told: partition, key, value, and whether it is live.
+pub(crate) type Standing = (u32, &'static str, &'static str, Life);
+
+/// A session.
+#[derive(Clone, Copy, Debug, PartialEq, Eq)]
+pub(crate) enum Session {
+    S1,
+    S2,
+    S3,
+}
+
+/// Whether an entry counts.
+#[derive(Clone, Copy, Debug, PartialEq, Eq)]
+pub(crate) enum Life {
+    Live,
+    Ghost,
+}
+
+/// A store, and the transaction that is active in each of its sessions.
+#[derive(Drop)]
+pub(crate) struct Scene {
+    alloc: Global,
+    store: Store<ListIndex>,
+    first: Option<u64>,
+    second: Option<u64>,
+    third: Option<u64>,
+}
+
+impl Scene {
+    pub(crate) fn open(alloc: Global) -> Result<Scene, NoMemory> {
+        Ok(Scene {
+            alloc,
+            store: Store::open(alloc, ListIndex::new(alloc))?,
+            first: None,
+            second: None,
+            third: None,
+        })
+    }
+
+    fn active_in(&self, session: Session) -> Option<u64> {
+        match session {
+            Session::S1 => self.first,
+            Session::S2 => self.second,
+            Session::S3 => self.third,
+        }
+    }
+
+    fn set_active(&mut self, session: Session, active: Option<u64>) {
+        match session {
+            Session::S1 => self.first = active,
+            Session::S2 => self.second = active,
+            Session::S3 => self.third = active,
+        }
+    }
+
+    // What the session answers to the line, as text.
+    fn answer(&mut self, session: Session, line: &[u8]) -> Result<Vec<u8>, NoMemory> {
+        let active = self.active_in(session);
+        let heard = hear(self.alloc, kind_of(line), line);
+        match due_for(active, heard) {
+            Due::Answer(response) => text_of(self.alloc, &response),
+            Due::Take(step) => {
+                let reply = self.store.step(step);
+                self.set_active(session, active_behind(active, &reply));
+                reply_text(self.alloc, &reply)
+            }
+            Due::TellSeen => text_of(self.alloc, &Response::Seen(0, self.store.commits())),
+        }
+    }
+
+    /// Lets the session say the line, which is to have this answer.
+    ///
+    /// # Errors
+    /// NoMemory, where memory was refused on the way.
+    pub(crate) fn hears<R: Abort>(
+        &mut self,
+        rt: &R,
+        session: Session,
+        line: &[u8],
+        expected: &[u8],
+    ) -> Result<(), NoMemory> {
+        let answer = self.answer(session, line)?;
+        if answer.as_slice() == b"ERR MEMORY\n".as_slice() {
+            return Err(NoMemory);
+        }
+        assert!(rt;
+            is_line_of(answer.as_slice(), expected),
+            "{} gave {}",
+            shown(line),
+            shown(answer.as_slice())
+        );
+        Ok(())
+    }
+
+    /// Lets the first session say the lines.
+    pub(crate) fn plays<R: Abort>(&mut self, rt: &R, row: &[Exchange]) -> Result<(), NoMemory> {
+        for (line, answer) in row {
+            self.hears(rt, Session::S1, line.as_bytes(), answer.as_bytes())?;
+        }
+        Ok(())
+    }
+
+    /// Lets the sessions say the lines.
+    pub(crate) fn takes<R: Abort>(&mut self, rt: &R, row: &[Turn]) -> Result<(), NoMemory> {
+        for (session, line, answer) in row {
+            self.hears(rt, *session, line.as_bytes(), answer.as_bytes())?;
+        }
+        Ok(())
+    }
+
+    /// Whether these entries stand, and no others.
+    pub(crate) fn holds<R: Abort>(&self, rt: &R, expected: &[Standing]) -> Result<(), NoMemory> {
+        let entries = self.store.entries(self.alloc)?;
+        assert_eq!(rt; entries.len(), expected.len());
+        for (entry, standing) in entries.as_slice().iter().zip(expected) {
+            assert!(rt; is_standing(entry, *standing), "{entry:?}");
+        }
+        Ok(())
+    }
+}
+
+fn kind_of(line: &[u8]) -> LineKind {
+    if line.len() > MAX_LINE_LEN {
+        LineKind::Long
+    } else {
+        LineKind::Text
+    }
+}
+
+fn active_behind(active: Option<u64>, reply: &Reply) -> Option<u64> {
+    match reply {
+        Reply::Begun(tx) => Some(*tx),
+        Reply::Committed(_) | Reply::Aborted => None,
+        _ => active,
+    }
+}
+
+fn text_of(alloc: Global, response: &Response) -> Result<Vec<u8>, NoMemory> {
+    let mut sink = StopSink::new(alloc, 0);
+    match put_response(response, &mut sink) {
+        Ok(()) => Ok(sink.into_bytes()),
+        Err(_) => Err(NoMemory),
+    }
+}
+
+// Whether the text is the words and an LF.
+fn is_line_of(text: &[u8], words: &[u8]) -> bool {
+    match text.split_last() {
+        Some((last, rest)) => *last == b'\n' && rest == words,
+        None => false,
+    }
+}
+
+// The text, for a message.
+fn shown(text: &[u8]) -> &str {
+    std::str::from_utf8(text).unwrap_or("bytes")
+}
+
+fn is_standing(entry: &Entry, standing: Standing) -> bool {
+    let (part, key, value, life) = standing;
+    entry.part == part
+        && entry.key.bytes() == key.as_bytes()
+        && entry.value.bytes() == value.as_bytes()
+        && entry.is_ghost == (life == Life::Ghost)
+}
