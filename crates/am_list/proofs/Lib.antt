@@ -1,8 +1,10 @@
 pub mod Order
 pub mod Lists
+pub mod Batches
 pub mod Searches
 pub mod Edits
 pub mod EditLaws
 pub mod Content
 pub mod ContentLaws
 pub mod WalkLaws
+pub mod ReadLaws

@@ -42,11 +42,11 @@ first_such_none test (x ∷ xs) a = rw a.0 (first_such_none test xs a.1)
 pub first_such_here : (test : Entry → Bool) (x : Entry) (xs : List Entry) → test x ≡ true → first_such test (x ∷ xs) ≡ Some x
 first_such_here test x xs h = rw h
 
-and_false : (a b : Bool) → b ≡ false → (a && b) ≡ false
+pub and_false : (a b : Bool) → b ≡ false → (a && b) ≡ false
 and_false true b e = e
 and_false false b e = refl
 
-and_true : (a b : Bool) → a ≡ true → b ≡ true → (a && b) ≡ true
+pub and_true : (a b : Bool) → a ≡ true → b ≡ true → (a && b) ≡ true
 and_true true b e h = h
 and_true false b e h = e
 
@@ -54,17 +54,17 @@ first_false : (a b : Bool) → a ≡ false → (a && b) ≡ false
 first_false true b e = absurd (cc)
 first_false false b e = refl
 
-not_less : (o : Ordering) → o ≢ Less → is_ge o ≡ true
+pub not_less : (o : Ordering) → o ≢ Less → is_ge o ≡ true
 not_less Less n = absurd (n refl)
 not_less Equal n = refl
 not_less Greater n = refl
 
-not_greater : (o : Ordering) → o ≢ Greater → is_gt o ≡ false
+pub not_greater : (o : Ordering) → o ≢ Greater → is_gt o ≡ false
 not_greater Less n = refl
 not_greater Equal n = refl
 not_greater Greater n = absurd (n refl)
 
-differ : (a b : ℕ) → eqb a b ≡ false → a ≢ b
+pub differ : (a b : ℕ) → eqb a b ≡ false → a ≢ b
 differ a b h e = both_ways (eqb a b) h (eq-eqb a b e)
 
 module _ (part : ℕ) (key : OrderedKey) where
@@ -105,7 +105,7 @@ module _ (part : ℕ) (key : OrderedKey) where
   pub after_here : (y : Entry) (ys : List Entry) → c y ≡ Greater → y.part ≡ part → after (y ∷ ys) part key ≡ Some y
   after_here y ys h same = first_such_here (λ e. eqb e.part part && is_gt (c e)) y ys (and_true (eqb y.part part) (is_gt (c y)) (eq-eqb y.part part same) (ap is_gt h))
 
-  other_part : (t : Entry → Bool) (e : Entry) → e.part ≢ part → (eqb e.part part && t e) ≡ false
+  pub other_part : (t : Entry → Bool) (e : Entry) → e.part ≢ part → (eqb e.part part && t e) ≡ false
   other_part t e n = first_false (eqb e.part part) (t e) (ne_eqb e.part part n)
 
   -- an entry that is not below, of another partition, stands in a greater one

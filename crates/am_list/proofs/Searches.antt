@@ -22,7 +22,7 @@ all_at P [] k d a h = absurd (omega arith)
 all_at P (x ∷ xs) zero d a h = a.0
 all_at P (x ∷ xs) (suc k) d a h = all_at P xs k d a.1 (omega arith)
 
-all_take : {X : Type 0} (P : X → Type 0) (xs : List X) (i : ℕ) → i ≤ length xs → ((k : ℕ) (d : X) → k < i → P (get_or xs k d)) → AllByRecursion P (take i xs)
+pub all_take : {X : Type 0} (P : X → Type 0) (xs : List X) (i : ℕ) → i ≤ length xs → ((k : ℕ) (d : X) → k < i → P (get_or xs k d)) → AllByRecursion P (take i xs)
 all_take P [] i le f = subst (λ l. AllByRecursion P l) (sym (take_nothing i)) tt
   where
     take_nothing : {X : Type 0} (i : ℕ) → take i (let none : List X = [] in none) ≡ []
@@ -31,7 +31,7 @@ all_take P [] i le f = subst (λ l. AllByRecursion P l) (sym (take_nothing i)) t
 all_take P (x ∷ xs) zero le f = tt
 all_take P (x ∷ xs) (suc i) le f = (f 0 x (omega arith), all_take P xs i (omega arith) (λ k d lt. f (suc k) d (omega arith)))
 
-all_drop : {X : Type 0} (P : X → Type 0) (xs : List X) (i : ℕ) → ((k : ℕ) (d : X) → i ≤ k → k < length xs → P (get_or xs k d)) → AllByRecursion P (drop i xs)
+pub all_drop : {X : Type 0} (P : X → Type 0) (xs : List X) (i : ℕ) → ((k : ℕ) (d : X) → i ≤ k → k < length xs → P (get_or xs k d)) → AllByRecursion P (drop i xs)
 all_drop P [] zero f = tt
 all_drop P [] (suc i) f = tt
 all_drop P (x ∷ xs) zero f = (f 0 x (omega arith) (omega arith), all_drop P xs 0 (λ k d le lt. f (suc k) d (omega arith) (omega arith)))
@@ -89,7 +89,7 @@ searched es rising part key (Err at) in_range parted =
       },
     )
 
-slice_get-drop : (es : List Entry) (i : ℕ) → slice_get (drop i es) 0 ≡ slice_get es i
+pub slice_get-drop : (es : List Entry) (i : ℕ) → slice_get (drop i es) 0 ≡ slice_get es i
 slice_get-drop [] zero = refl
 slice_get-drop [] (suc i) = refl
 slice_get-drop (e ∷ es) zero = refl

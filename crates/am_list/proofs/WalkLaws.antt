@@ -97,7 +97,7 @@ module _ (part : ℕ) (key : OrderedKey) where
   in_part_from : (q : OrderedKey) → is_ge (place_cmp (part, q) (part, key)) ≡ key_le key q
   in_part_from q = at_or_above (part, q) ∙ ap is_le (place_cmp-same part key q)
 
-  in_part_after : (q : OrderedKey) → is_gt (place_cmp (part, q) (part, key)) ≡ is_gt (ordering_reverse (key_cmp key q))
+  pub in_part_after : (q : OrderedKey) → is_gt (place_cmp (part, q) (part, key)) ≡ is_gt (ordering_reverse (key_cmp key q))
   in_part_after q = ap is_gt (place_cmp-total.antisymm (part, q) (part, key)) ∙ ap (λ o. is_gt (ordering_reverse o)) (place_cmp-same part key q)
 
 -- ---- a walk within a partition

@@ -1,5 +1,5 @@
 -- An index is seen as the list of its entries. These are the list's own operations.
-use Rattle.std.specs.Prelude.{◌≡◌, ℕ, Bool, ◌&&◌, ◌==◌, List, [], ◌∷◌, Option, Some, None, if◌then◌else◌}
+use Rattle.std.specs.Prelude.{◌≡◌, ℕ, Bool, ◌&&◌, ◌==◌, List, [], ◌∷◌, filter, Option, Some, None, if◌then◌else◌}
 use Rattle.std.specs.declared.cmp.Ordering.TheVariants.{Less}
 use Rattle.std.specs.Ordering.{is_eq, is_lt, is_gt, is_ge}
 use Rattle.std.specs.Option.{option_map}
@@ -40,6 +40,10 @@ next_from es part key = first_such (λ e. e.part == part && is_ge (place_cmp (pl
 -- the first entry of that partition strictly above the key
 abbrev pub after : List Entry → ℕ → OrderedKey → Option Entry
 after es part key = first_such (λ e. e.part == part && is_gt (place_cmp (place_of e) (part, key))) es
+
+-- the entries of that partition strictly above the key, in order
+abbrev pub all_after : List Entry → ℕ → OrderedKey → List Entry
+all_after es part key = filter (λ e. e.part == part && is_gt (place_cmp (place_of e) (part, key))) es
 
 -- the first entry at or above that partition and key
 abbrev pub next_any : List Entry → ℕ → OrderedKey → Option Entry

@@ -1,11 +1,12 @@
 -- What the walks over a rising list find: the entry, and nothing before it.
-use Rattle.std.specs.Prelude.{◌≡◌, ◌≢◌, ℕ, List, true, Some, None}
+use Rattle.std.specs.Prelude.{◌≡◌, ◌≢◌, ℕ, List, [], ◌∷◌, ◌++◌, true, ◌&&◌, ◌==◌, Some, None, if◌then◌else◌}
 use Rattle.std.specs.declared.cmp.Ordering.TheVariants.{Less, Greater}
+use Rattle.std.specs.Ordering.{is_lt}
 use Rattle.am_record.specs.OrderedKey.{OrderedKey, key_cmp}
 use Rattle.am_record.specs.Interval.{key_le}
 use Rattle.am_record.specs.EntryOrder.{place_of, place_cmp}
 use Rattle.am_record.specs.declared.entry.Entry.{Entry}
-use Rattle.am_list.specs.Entries.{entry_at, find, next_from, after, next_any}
+use Rattle.am_list.specs.Entries.{entry_at, find, next_from, after, all_after, next_any, IsRising}
 
 -- the entry stands in the partition, and no entry of the partition with a key below its own has a key that is reached
 pub record IsFirstOf (es : List Entry) (part : ℕ) (reached : OrderedKey → Type 0) (x : Entry) : Type 0 where
@@ -29,3 +30,15 @@ pub record WalkLaws (es : List Entry) : Type 0 where
       (p : ℕ) (q : OrderedKey) → place_cmp (part, key) (p, q) ≢ Greater → place_cmp (p, q) (place_of x) ≡ Less → find es p q ≡ None
   pub any_none : (part : ℕ) (key : OrderedKey) → next_any es part key ≡ None →
       (p : ℕ) (q : OrderedKey) → place_cmp (part, key) (p, q) ≢ Greater → find es p q ≡ None
+
+-- what is read on from a key in a rising list
+pub record ReadLaws (es : List Entry) : Type 0 where
+  -- entry by entry it is what stands next
+  pub none : (part : ℕ) (key : OrderedKey) → after es part key ≡ None → all_after es part key ≡ []
+  pub some : (part : ℕ) (key : OrderedKey) (x : Entry) → after es part key ≡ Some x → all_after es part key ≡ x ∷ all_after es part x.key
+  -- from any entry that was read it goes on with those behind it
+  pub goes_on : (part : ℕ) (key : OrderedKey) (xs : List Entry) (x : Entry) (ys : List Entry) → all_after es part key ≡ xs ++ x ∷ ys → all_after es part x.key ≡ ys
+  -- the entries rise, and are those of the list at the places of the partition above the key
+  pub rises : (part : ℕ) (key : OrderedKey) → IsRising (all_after es part key)
+  pub stands : (part : ℕ) (key : OrderedKey) (p : ℕ) (q : OrderedKey) →
+      find (all_after es part key) p q ≡ (if p == part && is_lt (key_cmp key q) then find es p q else None)

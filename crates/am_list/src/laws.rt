@@ -7,7 +7,7 @@ ghost use Rattle.am_record.specs.Plain.{PlainMap};
 ghost use Rattle.am_record.specs.declared.entry.Entry.{Entry};
 ghost use Rattle.am_list.specs.Entries.{IsRising};
 ghost use Rattle.am_list.specs.Edits.{EditLaws};
-ghost use Rattle.am_list.specs.Walks.{WalkLaws};
+ghost use Rattle.am_list.specs.Walks.{WalkLaws, ReadLaws};
 ghost use Rattle.am_list.specs.Content.{OnePlace, HasContent, HasOne, values_at, ContentLaws};
 
 /// What insertion, setting and removal do to a rising list, place by place.
@@ -18,6 +18,11 @@ pub fn edits_follow()
 /// What the walks over a rising list find, in terms of what stands at each place.
 pub fn walks_follow()
     ensures { (es : List Entry) → IsRising es → WalkLaws es }
+{}
+
+/// What is read on from a key in a rising list, in terms of what stands next and at each place.
+pub fn reads_follow()
+    ensures { (es : List Entry) → IsRising es → ReadLaws es }
 {}
 
 /// What the content of a list is, and what edits of the list do to it.

@@ -1,12 +1,16 @@
 //! Indexes over partitions: each is seen as one sorted list of entries, however it keeps them.
 #![tactic(auto)]
 
+mod batch;
 mod laws;
 mod list_index;
 mod part_index;
 #[cfg(test)]
 mod tests;
+mod tight;
 
-pub use laws::{content_follows, edits_follow, walks_follow};
+pub use batch::Batch;
+pub use laws::{content_follows, edits_follow, reads_follow, walks_follow};
 pub use list_index::ListIndex;
 pub use part_index::PartIndex;
+pub use tight::Tight;

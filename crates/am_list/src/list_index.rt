@@ -4,7 +4,7 @@ ghost use Rattle.std.specs.Prelude.{◌≡◌, ◌<◌, ◌^◌, List, [], lengt
 ghost use Rattle.am_list.specs.Entries.{IsRising};
 ghost use Rattle.am_list.specs.Places.{IsPlaceOf, IsGapFor, IsLowerBound, IsUpperBound, only_of};
 
-use crate::PartIndex;
+use crate::{Batch, PartIndex};
 use am_record::{Entry, Key, NoMemory, Value};
 use std::alloc::Global;
 use std::marker::Model;
@@ -114,6 +114,11 @@ impl PartIndex for ListIndex {
 
     fn after(&self, part: u32, key: Key) -> Option<Entry> {
         self.of_part(part, self.upper_bound(part, key))
+    }
+
+    fn read_on(&self, part: u32, key: Key, batch: &mut Batch) {
+        let from = self.upper_bound(part, key);
+        batch.push_part(part, &self.items[from..]);
     }
 
     fn next_any(&self, part: u32, key: Key) -> Option<Entry> {

@@ -1,9 +1,10 @@
 //! What every index over partitions does.
 
-ghost use Rattle.std.specs.Prelude.{◌≡◌, List, Some, None, IsSome, OnOk, OnErr};
+ghost use Rattle.std.specs.Prelude.{◌≡◌, ◌++◌, List, take, Some, None, IsSome, OnOk, OnErr};
 ghost use Rattle.am_record.specs.declared.entry.Entry.{Entry};
-ghost use Rattle.am_list.specs.Entries.{find, next_any, next_from, after, entry_at, insert_entry, set_entry, remove_entry, IsRising};
+ghost use Rattle.am_list.specs.Entries.{find, next_any, next_from, after, all_after, entry_at, insert_entry, set_entry, remove_entry, IsRising};
 
+use crate::Batch;
 use am_record::{Entry, Key, NoMemory, Value};
 
 /// An index over partitions, seen as the list of its entries. They rise strictly by partition and
@@ -25,6 +26,12 @@ pub trait PartIndex {
     /// The first entry of the partition strictly above the key.
     fn after(&self, part: u32, key: Key) -> Option<Entry>
         ensures found { result ≡ after (entries self.now) part key }
+        ensures rising { IsRising (entries self.now) };
+
+    /// Appends the next entries of the partition strictly above the key, as many as the batch has
+    /// room for. Where it is not full afterwards, the partition has no further ones.
+    fn read_on(&self, part: u32, key: Key, batch: &mut Batch)
+        ensures read { batch.new ≡ take 8 (batch.old ++ all_after (entries self.now) part key) }
         ensures rising { IsRising (entries self.now) };
 
     /// The first entry of the whole index at or above the place of a partition and key. It may be

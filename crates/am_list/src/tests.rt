@@ -1,6 +1,6 @@
 ghost use Rattle.std.specs.Prelude.{◌≡◌};
 
-use crate::{ListIndex, PartIndex};
+use crate::{Batch, ListIndex, PartIndex};
 use am_record::{Entry, Key, NoMemory, Value};
 use std::test::Fail;
 
@@ -71,6 +71,52 @@ fn walks_over_two_partitions_and_their_ghosts(rt: HostRuntime) -> Result<(), Fai
     assert!(rt; index.next_any(0, Key::of_u64(3)) == Some(dead(0, 5, b'g')));
     assert!(rt; index.next_any(0, Key::of_u64(6)) == Some(live(1, 1, b'c')));
     assert!(rt; index.next_any(1, Key::of_u64(6)).is_none());
+    Ok(())
+}
+
+// The entry of partition 1 with the number, each third one a ghost.
+fn numbered(number: u64) -> Entry {
+    if number % 3 == 0 {
+        dead(1, number, b'g')
+    } else {
+        live(1, number, b'n')
+    }
+}
+
+// Whether the batch has the entries with these numbers.
+fn has_read(batch: &Batch, numbers: &[u64]) -> bool {
+    let entries = batch.entries();
+    entries.len() == numbers.len()
+        && entries
+            .iter()
+            .zip(numbers)
+            .all(|(e, number)| *e == numbered(*number))
+}
+
+#[test]
+fn reads_on_as_far_as_there_is_room(rt: HostRuntime) -> Result<(), Fail> {
+    let mut index = ListIndex::new(rt.alloc());
+    add(&mut index, live(0, 5, b'a'))?;
+    add(&mut index, live(2, 5, b'z'))?;
+    for number in 1..12_u64 {
+        add(&mut index, numbered(number))?;
+    }
+
+    let mut batch = Batch::new();
+    index.read_on(3, Key::least(), &mut batch);
+    assert!(rt; batch.entries().is_empty());
+    index.read_on(1, Key::of_u64(9), &mut batch);
+    assert!(rt; has_read(&batch, &[10, 11]));
+    assert!(rt; !batch.is_full());
+    index.read_on(1, Key::of_u64(2), &mut batch);
+    assert!(rt; has_read(&batch, &[10, 11, 3, 4, 5, 6, 7, 8]));
+    assert!(rt; batch.is_full());
+    index.read_on(1, Key::least(), &mut batch);
+    assert!(rt; has_read(&batch, &[10, 11, 3, 4, 5, 6, 7, 8]));
+
+    batch.clear();
+    index.read_on(1, Key::least(), &mut batch);
+    assert!(rt; has_read(&batch, &[1, 2, 3, 4, 5, 6, 7, 8]));
     Ok(())
 }
 

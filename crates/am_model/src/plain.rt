@@ -134,8 +134,8 @@ impl Plain {
         }
     }
 
-    /// Drops the saved maps.
-    fn forget_saved(&mut self)
+    /// Drops the saved maps: the next body begins with none. It takes no memory.
+    pub fn forget_saved(&mut self)
         ensures { self.new ≡ fresh self.old.map }
     {
         self.saved.clear();

@@ -1,11 +1,11 @@
 //! The partitions of an index, and the changes that keep each key live in at most one of them.
 
-ghost use Rattle.std.specs.Prelude.{◌≡◌, ◌≢◌, ◌+◌, ◌<◌, ◌≤◌, [], false, Some, None, IsSome, IfSome, IfNone, OnOk, OnErr};
+ghost use Rattle.std.specs.Prelude.{◌≡◌, ◌≢◌, ◌+◌, ◌<◌, ◌≤◌, ◌++◌, [], take, false, Some, None, IsSome, IfSome, IfNone, OnOk, OnErr};
 ghost use Rattle.std.specs.FinMap.{get};
-ghost use Rattle.am_list.specs.Entries.{find, next_any, next_from, after, entry_at, insert_entry, set_entry, remove_entry};
+ghost use Rattle.am_list.specs.Entries.{find, next_any, next_from, after, all_after, entry_at, insert_entry, set_entry, remove_entry};
 ghost use Rattle.am_list.specs.Content.{content, HasContent};
 
-use am_list::PartIndex;
+use am_list::{Batch, PartIndex};
 use am_record::{Entry, Key, NoMemory, Value};
 use std::cmp::Ordering;
 use std::marker::Model;
@@ -74,6 +74,15 @@ impl<I: PartIndex + Drop> Parts<I> {
         ensures sound { IsSound self.now.entries }
     {
         self.index.after(part, key)
+    }
+
+    /// Appends the next entries of the partition strictly above the key, as many as the batch has
+    /// room for. Where it is not full afterwards, the partition has no further ones.
+    pub fn read_on(&self, part: u32, key: Key, batch: &mut Batch)
+        ensures read { batch.new ≡ take 8 (batch.old ++ all_after self.now.entries part key) }
+        ensures sound { IsSound self.now.entries }
+    {
+        self.index.read_on(part, key, batch);
     }
 
     /// The first entry at or above the place of a partition and key. It may be one of a later

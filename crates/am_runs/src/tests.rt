@@ -1,7 +1,7 @@
 ghost use Rattle.std.specs.Prelude.{◌≡◌};
 ghost use Rattle.am_runs.specs.Loads.{NothingAbove};
 
-use crate::{LoadFault, MAX_RUN_LEN, MAX_RUNS, Run, cut_runs, load};
+use crate::{LoadFault, MAX_RUNS, Run, cut_runs, load};
 use am_list::ListIndex;
 use am_parts::Parts;
 use am_record::{Entry, Key, NoMemory, Refusal, Reply, Value};
@@ -68,8 +68,9 @@ fn cut_runs_in_pieces(rt: HostRuntime) -> Result<(), Fail> {
     let twice = [pair(5, b'a'), pair(3, b'b'), pair(9, b'c'), pair(3, b'd')];
     assert!(rt; fault(cut_runs(alloc, &twice, 2))? == Some(LoadFault::Twice(Key::of_u64(3))));
     assert!(rt; fault(cut_runs(alloc, &twice, 0))? == Some(LoadFault::BadSize));
-    assert!(rt; fault(cut_runs(alloc, &twice, MAX_RUN_LEN + 1))? == Some(LoadFault::BadSize));
-    assert!(rt; fault(cut_runs(alloc, &records, MAX_RUN_LEN))?.is_none());
+    assert!(rt; fault(cut_runs(alloc, &twice, 65_537))? == Some(LoadFault::BadSize));
+    assert!(rt; cut_runs(alloc, &records, 65_536)?.len() == 1);
+    assert!(rt; cut_runs(alloc, &records, 1)?.len() == 5);
     Ok(())
 }
 

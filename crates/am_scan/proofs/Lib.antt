@@ -1,4 +1,7 @@
-mod Rows
-mod Sorting
-mod PartWalk
-mod AllParts
+mod Rising
+mod Reading
+mod Moving
+mod Beginnings
+mod Gathering
+mod Merging
+mod Taking

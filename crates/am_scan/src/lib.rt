@@ -1,10 +1,14 @@
 //! Scans: the records of a range of keys, over all partitions of an index.
 #![tactic(auto)]
 
+mod cursor;
+mod head;
+mod heads;
 mod laws;
 mod scans;
 #[cfg(test)]
 mod tests;
 
+pub use cursor::Cursor;
 pub use laws::scans_rise;
 pub use scans::scan;

@@ -1,4 +1,4 @@
-use crate::scan;
+use crate::{Cursor, scan};
 use am_list::{ListIndex, PartIndex};
 use am_parts::Parts;
 use am_record::{Entry, Key, NoMemory, Range, Value};
@@ -49,13 +49,19 @@ fn add<I: PartIndex + Drop>(parts: &mut Parts<I>, entry: Entry) -> Result<(), No
     Ok(())
 }
 
-// Partitions with the entries. Where memory was refused to one it is added again.
+// The same, and where memory was refused it is added again.
+fn put<I: PartIndex + Drop>(parts: &mut Parts<I>, entry: &Entry) -> Result<(), NoMemory> {
+    if add(parts, *entry).is_err() {
+        add(parts, *entry)?;
+    }
+    Ok(())
+}
+
+// Partitions with the entries.
 fn with_entries(alloc: Global, entries: &[Entry]) -> Result<Parts<ListIndex>, NoMemory> {
     let mut parts = Parts::new(ListIndex::new(alloc));
     for entry in entries {
-        if add(&mut parts, *entry).is_err() {
-            add(&mut parts, *entry)?;
-        }
+        put(&mut parts, entry)?;
     }
     Ok(parts)
 }
@@ -71,6 +77,28 @@ fn rows_of<I: PartIndex + Drop>(
         Ok(rows) => Ok(rows),
         Err(NoMemory) => scan(alloc, parts, range, max),
     }
+}
+
+// A cursor before the first record of the range. Where memory was refused it is opened again.
+fn opened<I: PartIndex + Drop>(
+    alloc: Global,
+    parts: &Parts<I>,
+    range: Range,
+) -> Result<Cursor<'_, I>, NoMemory> {
+    match Cursor::open(alloc, parts, range) {
+        Ok(cursor) => Ok(cursor),
+        Err(NoMemory) => Cursor::open(alloc, parts, range),
+    }
+}
+
+// Each of the first numbers is live in one of three partitions, and a ghost in the next one.
+fn striped(alloc: Global, count: u32) -> Result<Parts<ListIndex>, NoMemory> {
+    let mut parts = Parts::new(ListIndex::new(alloc));
+    for number in 0..count {
+        put(&mut parts, &live(number % 3, u64::from(number), b'a'))?;
+        put(&mut parts, &dead((number % 3) + 1, u64::from(number), b'b'))?;
+    }
+    Ok(parts)
 }
 
 #[test]
@@ -164,5 +192,55 @@ fn scan_goes_by_the_order_of_strings(rt: HostRuntime) -> Result<(), Fail> {
     assert!(rt; rows.as_slice() == [(a, value(b'1')), (ab, value(b'2'))].as_slice());
     let rows = rows_of(rt.alloc(), &parts, from_capital, 9)?;
     assert!(rt; rows.as_slice() == [(a, value(b'1'))].as_slice());
+    Ok(())
+}
+
+#[test]
+fn a_cursor_over_all_partitions(rt: HostRuntime) -> Result<(), Fail> {
+    let entries = [
+        live(0, 1, b'c'),
+        dead(1, 1, b'a'),
+        dead(1, 2, b'b'),
+        live(2, 2, b'd'),
+    ];
+    let parts = with_entries(rt.alloc(), &entries)?;
+    let all = range(0, 9).expect(&rt, "in order");
+
+    let mut cursor = opened(rt.alloc(), &parts, all)?;
+    assert_eq!(rt; cursor.next(), Some(row(1, b'c')));
+    assert_eq!(rt; cursor.next(), Some(row(2, b'd')));
+    assert_eq!(rt; cursor.next(), None);
+    assert_eq!(rt; cursor.next(), None);
+    Ok(())
+}
+
+#[test]
+fn a_dropped_cursor_changes_nothing(rt: HostRuntime) -> Result<(), Fail> {
+    let entries = [live(0, 1, b'c'), dead(1, 1, b'a'), live(2, 2, b'd')];
+    let parts = with_entries(rt.alloc(), &entries)?;
+    let all = range(0, 9).expect(&rt, "in order");
+
+    let mut cursor = opened(rt.alloc(), &parts, all)?;
+    assert_eq!(rt; cursor.next(), Some(row(1, b'c')));
+    drop(cursor);
+    for entry in entries {
+        assert_eq!(rt;
+            parts.find(entry.part, entry.key),
+            Some((entry.value, entry.is_ghost))
+        );
+    }
+    Ok(())
+}
+
+#[test]
+fn a_cursor_reads_on_in_every_partition(rt: HostRuntime) -> Result<(), Fail> {
+    let parts = striped(rt.alloc(), 60)?;
+    let some = range(1, 57).expect(&rt, "in order");
+
+    let mut cursor = opened(rt.alloc(), &parts, some)?;
+    for number in 1..58 {
+        assert_eq!(rt; cursor.next(), Some(row(number, b'a')));
+    }
+    assert_eq!(rt; cursor.next(), None);
     Ok(())
 }

@@ -27,7 +27,7 @@ use Rattle.am_serial.proofs.Serial.{Inv, MayAnswer, MayBe, push_inv, none, none_
 with_body_alike : (f g : ℕ → List Answered) (ts : List ℕ) → ((t : ℕ) → f t ≡ g t) → map (with_body f) ts ≡ map (with_body g) ts
 with_body_alike f g ts h i = map (with_body (λ t. h t i)) ts
 
-extended-with_body : (t : ℕ) (done : Answered) (f : ℕ → List Answered) (ts : List ℕ) → map (extended t done) (map (with_body f) ts) ≡ map (with_body (λ u. cond (t == u) (f u ++ done ∷ []) (f u))) ts
+pub extended-with_body : (t : ℕ) (done : Answered) (f : ℕ → List Answered) (ts : List ℕ) → map (extended t done) (map (with_body f) ts) ≡ map (with_body (λ u. cond (t == u) (f u ++ done ∷ []) (f u))) ts
 extended-with_body t done f [] = refl
 extended-with_body t done f (x ∷ ts) = ap (λ xs. (x, cond (t == x) (f x ++ done ∷ []) (f x)) ∷ xs) (extended-with_body t done f ts)
 
@@ -56,16 +56,16 @@ filter_twice p q r h (x ∷ xs) =
       | false ↦ filter_twice p q r h xs
     ]
 
-same_state : (b b' c c' r r' : ℕ) (m m' : PlainMap) (a a' : List Transaction) → b ≡ b' → c ≡ c' → r ≡ r' → m ≡ m' → a ≡ a' →
+pub same_state : (b b' c c' r r' : ℕ) (m m' : PlainMap) (a a' : List Transaction) → b ≡ b' → c ≡ c' → r ≡ r' → m ≡ m' → a ≡ a' →
     ◌≡◌ {A = State} (record { begun = b; commits = c; runs = r; committed = m; active = a }) (record { begun = b'; commits = c'; runs = r'; committed = m'; active = a' })
 same_state b b' c c' r r' m m' a a' pb pc pr pm pa i = record { begun = pb i; commits = pc i; runs = pr i; committed = pm i; active = pa i }
 
-ended_active : (v : View) (t : ℕ) → map (with_body v.body) (active_in (push v (Aborts t))) ≡ without t (map (with_body v.body) (active_in v))
+pub ended_active : (v : View) (t : ℕ) → map (with_body v.body) (active_in (push v (Aborts t))) ≡ without t (map (with_body v.body) (active_in v))
 ended_active v t =
     ap (map (with_body v.body)) (filter_twice (λ x. not (among v.ended x)) (λ x. not (x == t)) (λ x. not (among (v.ended ++ t ∷ []) x)) (not_among_push v.ended t) v.begun)
     ∙ sym (without-with_body t v.body (active_in v))
 
-begun_active : (v : View) (t : ℕ) → among v.ended t ≡ false → v.body t ≡ [] → map (with_body v.body) (active_in (push v (Begins t))) ≡ map (with_body v.body) (active_in v) ++ (t, []) ∷ []
+pub begun_active : (v : View) (t : ℕ) → among v.ended t ≡ false → v.body t ≡ [] → map (with_body v.body) (active_in (push v (Begins t))) ≡ map (with_body v.body) (active_in v) ++ (t, []) ∷ []
 begun_active v t e none =
     ap (map (with_body v.body)) (filter-append (λ x. not (among v.ended x)) v.begun (t ∷ []) ∙ ap (λ b. active_in v ++ cond (not b) (t ∷ []) []) e)
     ∙ map-append (with_body v.body) (active_in v) (t ∷ [])

@@ -32,7 +32,7 @@ abbrev pub IsRisingFrom : ℕ → List ℕ → Type 0
 IsRisingFrom n [] = Unit {0}
 IsRisingFrom n (t ∷ ts) = (n < t) × IsRisingFrom t ts
 
-IsRisingFrom-push : (n : ℕ) (ts : List ℕ) (x : ℕ) → IsRisingFrom n ts → n < x → ((u : ℕ) → among ts u ≡ true → u < x) → IsRisingFrom n (ts ++ x ∷ [])
+pub IsRisingFrom-push : (n : ℕ) (ts : List ℕ) (x : ℕ) → IsRisingFrom n ts → n < x → ((u : ℕ) → among ts u ≡ true → u < x) → IsRisingFrom n (ts ++ x ∷ [])
 IsRisingFrom-push n [] x r h b = (h, tt)
 IsRisingFrom-push n (t ∷ ts) x r h b = (r.0, IsRisingFrom-push t ts x r.1 (b t (or_left (t == t) (among ts t) (eq-eqb t t refl))) (λ u k. b u (or_right (u == t) (among ts u) k)))
 
@@ -82,7 +82,7 @@ MayBe v (Commits t) = among (active_in v) t ≡ true
 MayBe v (Aborts t) = among (active_in v) t ≡ true
 MayBe v Nothing = Unit {0}
 
-by_contradiction : (a b : ℕ) → (b ≤ a → ⊥) → a < b
+pub by_contradiction : (a b : ℕ) → (b ≤ a → ⊥) → a < b
 by_contradiction a b h = ⊎_elim (λ lt. lt) (λ le. absurd (h le)) (cases_lt a b)
 
 -- ---- the empty trace

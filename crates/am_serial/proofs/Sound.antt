@@ -161,14 +161,14 @@ the_blocker f t asked n (x ∷ ts) r h e = at (not (t == x) && clash f asked x) 
               (or_cases (u == x) (among ts u) hu);
         }
 
-module _ (es : List Effect) (inv : Inv (view_of es)) (t : ℕ) (op : Op) where
+module _ (es : List Effect) (begun_rise : IsRisingFrom 0 (view_of es).begun) (t : ℕ) (op : Op) where
   actives : List ℕ
   actives = active_in (view_of es)
 
   rising : IsRisingFrom 0 (active_in (view_of es))
-  rising = IsRisingFrom-filter 0 (λ u. not (among (view_of es).ended u)) (view_of es).begun inv.rising
+  rising = IsRisingFrom-filter 0 (λ u. not (among (view_of es).ended u)) (view_of es).begun begun_rise
 
-  blocker_is_least : (h : ℕ) → blocker (state_at es).active t (lock_of op) ≡ Some h → IsLeastBlocker es t op h
+  pub blocker_is_least : (h : ℕ) → blocker (state_at es).active t (lock_of op) ≡ Some h → IsLeastBlocker es t op h
   blocker_is_least h e =
       let l = the_blocker (body es) t (lock_of op) 0 (active_in (view_of es)) rising h e in
       record {
@@ -176,7 +176,7 @@ module _ (es : List Effect) (inv : Inv (view_of es)) (t : ℕ) (op : Op) where
         least = λ u b. l.least u b.active b.other b.conflict;
       }
 
-  least_is_blocker : (h : ℕ) → IsLeastBlocker es t op h → blocker (state_at es).active t (lock_of op) ≡ Some h
+  pub least_is_blocker : (h : ℕ) → IsLeastBlocker es t op h → blocker (state_at es).active t (lock_of op) ≡ Some h
   least_is_blocker h l = at (blocker (state_at es).active t (lock_of op)) refl
     where
       at : (o : Option ℕ) → blocker (state_at es).active t (lock_of op) ≡ o → blocker (state_at es).active t (lock_of op) ≡ Some h
@@ -208,7 +208,7 @@ module _ (es : List Effect) (inv : Inv (view_of es)) (t : ℕ) (op : Op) where
 -- ---- from the machine to the trace
 
 busy_at : (es : List Effect) → Inv (view_of es) → (step : Step) (reply : Reply) → May (state_at es) step reply → BusyRightAt es step reply
-busy_at es inv (Do t op) reply m = busy_right es inv t op reply m
+busy_at es inv (Do t op) reply m = busy_right es inv.rising t op reply m
 busy_at es inv _ reply m = tt
 
 formed_at : (es : List Effect) (step : Step) (reply : Reply) → May (state_at es) step reply → FormedAt es step reply
@@ -277,12 +277,12 @@ steady_answer v inv t op reply on steady =
     sym (last_push Done reply (replies_of done)) ∙ ap (last Done) both ∙ last_push Done (answer op (left_on (ops_of done) (fresh m))) (answers (ops_of done) m)
     ∙ ap (answer op) (sym (view-state_of v t on))
 
-active_early : (es : List Effect) (t : ℕ) (op : Op) → due_early (state_at es) t op ≡ None → is_active es t ≡ true
+pub active_early : (es : List Effect) (t : ℕ) (op : Op) → due_early (state_at es) t op ≡ None → is_active es t ≡ true
 active_early es t op e = sym (is_open-with_body (body es) (active_in (view_of es)) t) ∙ not-false (is_open (state_at es).active t) (none_of_first (not (is_open (state_at es).active t)) NoSuchTx _ e).0
 
 may_at : (es : List Effect) → Inv (view_of es) → (step : Step) (reply : Reply) → FormedAt es step reply → BusyRightAt es step reply → IsSteady (es ++ effect step reply ∷ []) → May (state_at es) step reply
 may_at es inv (Do t op) reply f b steady =
-    from_sound es inv t op reply f b (λ early a.
+    from_sound es inv.rising t op reply f b (λ early a.
     let at_answers : SteadyAt (view_of (es ++ Answers t op reply ∷ [])) = subst (λ e. SteadyAt (view_of (es ++ e ∷ []))) (answer_effect t op reply a) steady in
     steady_answer (view_of es) inv t op reply (active_early es t op early) (subst SteadyAt (view_of-push es (Answers t op reply)) at_answers))
 may_at es inv Begin reply f b steady = f

@@ -5,3 +5,4 @@ pub mod Steps
 pub mod Laws
 pub mod Sound
 pub mod Rows
+pub mod Formed

@@ -7,6 +7,7 @@ ghost use Rattle.am_serial.specs.Machine.{State, Runs, start, after_run};
 ghost use Rattle.am_serial.specs.Steps.{StepLaws};
 ghost use Rattle.am_serial.specs.Laws.{IsStateOf, OverlayLaws, ViewLaws};
 ghost use Rattle.am_serial.specs.Sound.{IsSound};
+ghost use Rattle.am_serial.specs.Formed.{IsFormed, FormedLaws};
 ghost use Rattle.am_serial.specs.Rows.{nested_marks, back_keeps_locks, back_forgotten};
 
 /// At each moment of every run of the machine the trace is serial in the order of commit, and what is
@@ -20,6 +21,12 @@ pub fn runs_are_serial()
 /// at each moment.
 pub fn sound_traces_are_runs()
     ensures { (trace : Trace) → IsSound trace ↔ Runs start trace }
+{}
+
+/// What holds of every formed trace, also of one whose answers are wrong: the machine's state is what the
+/// trace says, it names the least blocker, and only a commit says more of the order.
+pub fn formed_traces_follow()
+    ensures { (trace : Trace) → IsFormed trace → FormedLaws trace }
 {}
 
 /// The machine's state is what its trace says, and its steps do to the overlay what they do to the

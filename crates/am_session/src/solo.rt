@@ -7,8 +7,8 @@ ghost use Rattle.am_session.specs.Solo.{active_in, SoloGoes, SoloTells};
 
 use crate::backend::Backend;
 use crate::conversation::active_behind;
+use am_btree::BTree;
 use am_core::Store;
-use am_list::ListIndex;
 use am_record::{NoMemory, Reply, Step};
 use std::alloc::Global;
 use std::marker::Model;
@@ -17,7 +17,7 @@ use std::sync::Wait;
 /// A store with one session, and the transaction that is active in it.
 #[derive(Drop)]
 pub(crate) struct SoloStore {
-    store: Store<ListIndex>,
+    store: Store<BTree>,
     active: Option<u64>,
 }
 
@@ -37,7 +37,7 @@ impl SoloStore {
     pub(crate) fn new(alloc: Global) -> Result<SoloStore, NoMemory>
         ensures { IfOk result (λ solo. solo ≡ record { kept = empty_parts; active = None }) }
     {
-        let store = Store::open(alloc, ListIndex::new(alloc))?;
+        let store = Store::open(alloc, BTree::new(alloc)?)?;
         Ok(SoloStore {
             store,
             active: None,

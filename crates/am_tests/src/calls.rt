@@ -1,19 +1,19 @@
 //! Worked steps at the limits of the store.
 
+use am_btree::BTree;
 use am_core::Store;
-use am_list::ListIndex;
 use am_record::{Entry, Key, NoMemory, Op, Pairs, Range, Refusal, Reply, Step, Value};
 use std::alloc::Global;
 use std::process::Abort;
 
-fn open(alloc: Global) -> Result<Store<ListIndex>, NoMemory> {
-    Store::open(alloc, ListIndex::new(alloc))
+fn open(alloc: Global) -> Result<Store<BTree>, NoMemory> {
+    Store::open(alloc, BTree::new(alloc)?)
 }
 
 // Whether the step is answered so.
 fn answers<R: Abort>(
     rt: &R,
-    store: &mut Store<ListIndex>,
+    store: &mut Store<BTree>,
     step: Step,
     expected: Reply,
 ) -> Result<(), NoMemory> {
@@ -59,7 +59,7 @@ fn pairs_from_20_to_39(alloc: Global) -> Result<Pairs, NoMemory> {
 }
 
 // A store whose three runs hold the numbers below 300 in turn.
-fn three_runs<R: Abort>(rt: &R, alloc: Global) -> Result<Store<ListIndex>, NoMemory> {
+fn three_runs<R: Abort>(rt: &R, alloc: Global) -> Result<Store<BTree>, NoMemory> {
     let mut store = open(alloc)?;
     answers(rt, &mut store, Step::Begin, Reply::Begun(1))?;
     for rest in 0..3 {
@@ -136,7 +136,7 @@ fn four_thousand_and_ninety_six_operations(rt: HostRuntime) -> Result<(), NoMemo
 }
 
 // A store with the key 0 in a run, and 65 reads after it.
-fn read_65_times<R: Abort>(rt: &R, alloc: Global) -> Result<Store<ListIndex>, NoMemory> {
+fn read_65_times<R: Abort>(rt: &R, alloc: Global) -> Result<Store<BTree>, NoMemory> {
     let mut store = open(alloc)?;
     answers(rt, &mut store, Step::Begin, Reply::Begun(1))?;
     answers(rt, &mut store, load_one(alloc, 1, 0)?, Reply::Done)?;
@@ -170,7 +170,7 @@ fn of_65_wishes_the_first_is_lost(rt: HostRuntime) -> Result<(), NoMemory> {
 fn run_in_vain<R: Abort>(
     rt: &R,
     alloc: Global,
-    store: &mut Store<ListIndex>,
+    store: &mut Store<BTree>,
     tx: u64,
 ) -> Result<(), NoMemory> {
     let clean = Step::Clean(Range::point(Key::of_u64(7)), 1);

@@ -7,7 +7,6 @@ mod calls;
 #[cfg(test)]
 mod lines;
 #[cfg(test)]
-mod random;
 #[cfg(test)]
 mod rows;
 #[cfg(test)]

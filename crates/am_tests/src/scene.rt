@@ -1,7 +1,7 @@
 //! Sessions on one store, line by line.
 
+use am_btree::BTree;
 use am_core::Store;
-use am_list::ListIndex;
 use am_record::{Entry, NoMemory, Reply};
 use am_talk::{Due, Response, due_for, hear, put_response};
 use am_wire::{LineKind, MAX_LINE_LEN, StopSink, reply_text};
@@ -36,7 +36,7 @@ pub(crate) enum Life {
 #[derive(Drop)]
 pub(crate) struct Scene {
     alloc: Global,
-    store: Store<ListIndex>,
+    store: Store<BTree>,
     first: Option<u64>,
     second: Option<u64>,
     third: Option<u64>,
@@ -46,7 +46,7 @@ impl Scene {
     pub(crate) fn open(alloc: Global) -> Result<Scene, NoMemory> {
         Ok(Scene {
             alloc,
-            store: Store::open(alloc, ListIndex::new(alloc))?,
+            store: Store::open(alloc, BTree::new(alloc)?)?,
             first: None,
             second: None,
             third: None,

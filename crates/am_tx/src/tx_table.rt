@@ -7,7 +7,7 @@ ghost use Rattle.am_locks.specs.Table.{locks_of, with_locks, blockers};
 ghost use Rattle.am_locks.specs.Answers.{IsLeastOf, MatchBusy};
 
 use crate::transaction::Transaction;
-use am_locks::{Asked, INLINE_LOCKS, LockTable, MAX_LOCKS};
+use am_locks::{Asked, LockTable};
 use am_record::Lock;
 use am_undo::UndoLog;
 use arrayvec::ArrayVec;
@@ -100,7 +100,7 @@ impl TxTable {
     pub fn ops(&self, tx: u64) -> u64
         requires { is_active self.now.active tx ≡ true }
         ensures count { result ≡ ops_of self.now.active tx }
-        ensures few { result ≤ MAX_OPS }
+        ensures few { result ≤ 4096 }
     {
         self.active[self.place_of(tx)].ops
     }
@@ -108,7 +108,7 @@ impl TxTable {
     /// Counts one operation of the transaction.
     pub fn count_op(&mut self, tx: u64)
         requires active { is_active self.old.active tx ≡ true }
-        requires few { ops_of self.old.active tx < MAX_OPS }
+        requires few { ops_of self.old.active tx < 4096 }
         ensures { self.new ≡ counted self.old tx }
     {
         let place = self.place_of(tx);
@@ -140,10 +140,10 @@ impl TxTable {
         ensures too_many_locks { (result ≡ Asked.TooManyLocks)
             ↔ ((blockers self.old.locks tx asked ≡ [])
             × (is_covered (locks_of self.old.locks tx) asked ≡ false)
-            × (length (locks_of self.old.locks tx) ≡ MAX_LOCKS)) }
+            × (length (locks_of self.old.locks tx) ≡ 256)) }
         ensures no_memory { result ≡ Asked.NoMemory
             → (is_covered (locks_of self.old.locks tx) asked ≡ false)
-            × (INLINE_LOCKS ≤ length (locks_of self.old.locks tx)) }
+            × (8 ≤ length (locks_of self.old.locks tx)) }
 
         ensures granted { result ≡ Asked.Granted
             → self.new ≡ record self.old { locks = with_locks self.old.locks tx (with_lock (locks_of self.old.locks tx) asked) } }
@@ -156,7 +156,7 @@ impl TxTable {
     pub fn held(&self, tx: u64) -> usize
         requires { is_active self.now.active tx ≡ true }
         ensures count { result ≡ length (locks_of self.now.locks tx) }
-        ensures few { result ≤ MAX_LOCKS }
+        ensures few { result ≤ 256 }
     {
         self.locks.held(tx)
     }

@@ -11,7 +11,7 @@ use Rattle.am_wire.specs.Keys.{is_key_text}
 use Rattle.am_wire.specs.Verbs.{Shape, bare, one_key, one_record, one_number, range_and_number, mode_and_range, some_records}
 use Rattle.am_wire.specs.Arguments.{Arguments, RecordText, fields_of, AreProper, mode_word}
 use Rattle.am_wire.specs.Reading.{arguments_in, mode_for, is_record_text, is_record_field, record_text}
-use Rattle.am_wire.proofs.Spaces.{has_no_space}
+use Rattle.am_wire.specs.Spaces.{has_no_space}
 use Rattle.am_wire.proofs.Keys.{is_key_text-Decides, IsKeyText-no_space}
 use Rattle.am_wire.proofs.Values.{IsValueText-no_space}
 use Rattle.am_wire.proofs.Numerals.{numeral-numeral_value, numeral_value-numeral, is_numeral-numeral, numeral-no_space}
@@ -19,7 +19,7 @@ use Rattle.am_wire.proofs.Records.{is_record_text-proper, proper-is_record_text,
 
 -- ---- from arguments to fields and back
 
-mode_for-mode_word : (m : Mode) → mode_for (mode_word m) ≡ Some m
+pub mode_for-mode_word : (m : Mode) → mode_for (mode_word m) ≡ Some m
 mode_for-mode_word Shared = refl
 mode_for-mode_word Exclusive = refl
 
@@ -66,7 +66,7 @@ mapped : {A B : Type 0} (f : A → B) (o : Option A) (b : B) → option_map f o 
 mapped f None b e = cc
 mapped f (Some a) b e = (a, refl, cc)
 
-mode_word-mode_for : (field : List ℕ) (m : Mode) → mode_for field ≡ Some m → mode_word m ≡ field
+pub mode_word-mode_for : (field : List ℕ) (m : Mode) → mode_for field ≡ Some m → mode_word m ≡ field
 mode_word-mode_for field m =
     cond_both (bytes_eq field (codes "S")) (Some Shared) (cond (bytes_eq field (codes "X")) (Some Exclusive) None) (λ o. o ≡ Some m → mode_word m ≡ field)
     (λ t e. let same : Shared ≡ m = cc in ap mode_word (sym same) ∙ sym ((bytes_eq-Decides field (codes "S")).0 t))

@@ -7,7 +7,8 @@ use Rattle.std.proofs.lemmas.Bool.Decides.{nat_tests, Decides-and, Decides-by_an
 use Rattle.am_record.specs.OrderedKey.{OrderedKey, key_of, bytes_of, bytes_of-key_of}
 use Rattle.am_wire.specs.Keys.{IsKeyByte, IsKeyText, is_key_byte, is_key_text, key_for, printed_key}
 use Rattle.am_wire.specs.Values.{IsVisible}
-use Rattle.am_wire.proofs.Spaces.{has_no_space, list_all-weaker}
+use Rattle.am_wire.specs.Spaces.{has_no_space}
+use Rattle.am_wire.proofs.Spaces.{list_all-weaker}
 use Rattle.am_wire.proofs.Values.{graphic, some_bytes}
 
 other : (b : ℕ) → Decides (not (eqb b 0x3D)) (b ≢ 0x3D)

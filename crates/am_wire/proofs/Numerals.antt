@@ -11,7 +11,8 @@ use Rattle.std.proofs.lemmas.Int.Digits.{digits_value_is, digits_of_step, all_be
 use Rattle.std.proofs.lemmas.Fmt.{decimal-digits_of, decimal_digit}
 use Rattle.std.proofs.lemmas.Str.{digit_value_digit}
 use Rattle.std.proofs.lemmas.Str.Parse.{IsNumeralModel, numerals_by_value, parse_digits, digit_from_value}
-use Rattle.am_wire.proofs.Spaces.{has_no_space, list_all-weaker}
+use Rattle.am_wire.specs.Spaces.{has_no_space}
+use Rattle.am_wire.proofs.Spaces.{list_all-weaker}
 use Rattle.am_wire.specs.Numbers.{numeral, is_numeral, numeral_value, number_for}
 
 pub are_digits : IsNumeralModel (λ ds. list_all is_ascii_digit ds ≡ true) (digits_value 10)

@@ -15,7 +15,7 @@ use Rattle.am_wire.specs.Arguments.{RecordText, IsRecordText, record_field}
 use Rattle.am_wire.specs.Reading.{is_equals, record_text, is_record_text, is_record_field}
 use Rattle.am_wire.proofs.Keys.{is_key_text-Decides, IsKeyText-no_space}
 use Rattle.am_wire.proofs.Values.{is_value_text-Decides, IsValueText-no_space}
-use Rattle.am_wire.proofs.Spaces.{has_no_space}
+use Rattle.am_wire.specs.Spaces.{has_no_space}
 
 pub is_record_text-proper : (r : RecordText) → is_record_text r ≡ true → IsRecordText r
 is_record_text-proper r h =

@@ -6,6 +6,7 @@ use Rattle.std.proofs.lemmas.Grind.{common_steps}
 use Rattle.std.proofs.lemmas.List.Splits.{slice_split_first, slice_split_none, slice_split_at}
 use Rattle.std.proofs.lemmas.List.Sums.{fails_before_first, AllPass-from_list_all}
 use Rattle.am_wire.specs.Reading.{line_fields}
+use Rattle.am_wire.specs.Spaces.{has_no_space}
 
 -- a split at the place of the first space
 pub line_fields-at : (line : List ℕ) (k : ℕ) → cond (ltb (position_or_len (λ b. eqb b 32) line) (length line)) (Some (position_or_len (λ b. eqb b 32) line)) None ≡ Some k → line_fields line ≡ take k line ∷ line_fields (take (length line - (k + 1)) (drop (k + 1) line))
@@ -42,10 +43,6 @@ line_fields-some [] = ([], [], refl)
 line_fields-some (b ∷ bs) =
     let P : List (List ℕ) → Type 0 = λ parts. (f : List ℕ) × (fs : List (List ℕ)) × (parts ≡ f ∷ fs) in
     cond_both (eqb b 32) ([] ∷ line_fields bs) (onto_first b (line_fields bs)) P (λ _. ([], line_fields bs, refl)) (λ _. onto_first-cons b (line_fields bs))
-
--- no byte of the word is a space
-abbrev pub has_no_space : List ℕ → Bool
-has_no_space word = list_all (λ b. not (eqb b 32)) word
 
 no_space : (word : List ℕ) → has_no_space word ≡ true → All (λ b. eqb b 32 ≡ false) word
 no_space word h = λ k d inside. not-true _ (AllPass-from_list_all (λ b. not (eqb b 32)) word h k d inside)

@@ -5,7 +5,8 @@ use Rattle.std.specs.List.{list_all}
 use Rattle.std.proofs.lemmas.Bool.{and_parts}
 use Rattle.std.proofs.lemmas.Bool.Decides.{nat_tests, Decides-and, Decides-by_and}
 use Rattle.am_wire.specs.Values.{IsValueText, is_value_text}
-use Rattle.am_wire.proofs.Spaces.{has_no_space, list_all-weaker}
+use Rattle.am_wire.specs.Spaces.{has_no_space}
+use Rattle.am_wire.proofs.Spaces.{list_all-weaker}
 
 pub graphic : (b : ℕ) → Decides (is_ascii_graphic b) ((0x21 ≤ b) × (b ≤ 0x7E))
 graphic b = (λ h. (grind (arith, nat_tests), grind (arith, nat_tests)), λ h. grind (arith, nat_tests))

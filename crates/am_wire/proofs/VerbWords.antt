@@ -5,7 +5,7 @@ use Rattle.std.proofs.lemmas.Slice.Eq.{bytes_eq-Decides}
 use Rattle.am_wire.specs.Verbs.{word_of, verb_for, verbs}
 use Rattle.am_wire.specs.declared.verb.Verb.{Verb}
 use Rattle.am_wire.specs.declared.verb.Verb.TheVariants.{Begin, Get, Scan, Insert, Replace, Delete, Load, Lock, Mark, Back, Commit, Abort, Merge, Clean, Seen, Quit}
-use Rattle.am_wire.proofs.Spaces.{has_no_space}
+use Rattle.am_wire.specs.Spaces.{has_no_space}
 
 pub verb_for-word_of : (verb : Verb) → verb_for (word_of verb) ≡ Some verb
 unfolding verb_for

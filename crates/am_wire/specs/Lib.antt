@@ -12,3 +12,4 @@ pub mod Arguments
 pub mod Grammar
 pub mod Reading
 pub mod Visible
+pub mod Spaces

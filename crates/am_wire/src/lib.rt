@@ -23,13 +23,17 @@ mod text;
 mod value;
 mod verb;
 
-pub use grammar::one_reading;
+pub use fields::Fields;
+pub use grammar::{one_reading, words_are_fields};
 pub use input::{Input, read_line};
 pub use line::{FoundLine, LineBuffer, LineKind, MAX_LINE_LEN};
+pub use number::parse_number;
 pub use over_std::{Reading, Writing, streams_are_those_of_std};
 pub use parse::parse_line;
+pub use record::split_record;
 pub use reply::{put_reply, replies_are_lines, reply_text};
 pub use request::{LineFault, Request};
+pub use shape::parse_mode;
 pub use sink::{Sink, StopSink, give_all};
 pub use source::{Failed, PieceSource, Source};
 pub use text::Text;

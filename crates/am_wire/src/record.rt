@@ -29,8 +29,8 @@ pub fn parse_record_field(field: &[u8]) -> Result<Option<(Key, Value)>, LineFaul
     parse_record(key, value)
 }
 
-// What stands before the first =, and what stands after it.
-fn split_record(field: &[u8]) -> (&[u8], &[u8])
+/// What stands before the first =, and what stands after it.
+pub fn split_record(field: &[u8]) -> (&[u8], &[u8])
     ensures { (result.0.now, result.1.now) ≡ record_text field.now }
 {
     match field.iter().position(|byte| *byte == b'=') {

@@ -75,7 +75,8 @@ pub fn parse_mode_and_range(mut fields: Fields<'_>) -> Result<Lock, LineFault>
     Ok(Lock { mode, range })
 }
 
-fn parse_mode(field: &[u8]) -> Option<Mode>
+/// The mode of a field.
+pub fn parse_mode(field: &[u8]) -> Option<Mode>
     ensures { result ≡ mode_for field.now }
 {
     if field == b"S".as_slice() {

@@ -1,0 +1,220 @@
+-- The places of a transaction's operations.
+use Rattle.std.proofs.Common.{◌≡◌, ℕ, ◌+◌, List, [], ◌∷◌, ◌++◌, length, map, Bool, true, false, cond, refl, sym, ap, ◌∙◌, subst, ⊎_elim, Option, Some, None, arith, append_assoc, length-append}
+use Rattle.std.specs.Prelude.{◌==◌, slice_get, IfSome, IfNone}
+use Rattle.std.specs.List.{cons_option, AllByRecursion}
+use Rattle.std.specs.Option.{option_map}
+use Rattle.std.proofs.lemmas.Bool.{cond_both, false≢true, both_ways, or_cases, eqb-true}
+use Rattle.std.proofs.lemmas.List.{length-map}
+use Rattle.am_record.specs.Plain.{PlainMap, Draft, fresh, answer, answers_on, left_on}
+use Rattle.am_record.specs.declared.step.Op.{Op}
+use Rattle.am_record.specs.declared.step.Step.{Step}
+use Rattle.am_record.specs.declared.step.Step.TheVariants.{Begin, Do, Commit, Abort}
+use Rattle.am_record.specs.declared.step.Reply.{Reply}
+use Rattle.am_record.specs.declared.step.Reply.TheVariants.{Begun, Committed, Aborted, Refused}
+use Rattle.am_serial.specs.Trace.{Trace, Event, Answered, Answers, answered_to, effect, effect_of_do, effects, body, ops_of, replies_of, IsAnsweredAlone}
+use Rattle.am_serial.specs.Machine.{State, Transaction, start, after_run, is_open, body_in}
+use Rattle.am_audit.specs.declared.active.Active.{Active}
+use Rattle.am_audit.specs.declared.pass.Pass.{Pass}
+use Rattle.am_audit.specs.Faults.{IsFirstWrongAnswer}
+use Rattle.am_audit.specs.Standing.{Placed, placed_from, placed, places_of, answered_of, Listed, listed, is_listed, places_in, Bodies, list_of, Stands, IsPlacedIn, IsFirstWrong, answered_in, own_at, IsFront}
+use Rattle.am_audit.proofs.Takings.{is_active}
+
+-- ---- what is listed of an active transaction
+
+pub body_is : (bodies : Bodies) (txs : List Transaction) → AllByRecursion (λ (x : Transaction). x.1 ≡ answered_of (bodies x.0)) txs → (t : ℕ) → is_open txs t ≡ true → body_in txs t ≡ answered_of (bodies t)
+body_is bodies [] a t on = absurd (false≢true on)
+body_is bodies (x ∷ txs) a t on =
+    cond_both (t == x.0) x.1 (body_in txs t) (λ b. b ≡ answered_of (bodies t))
+    (λ e. a.0 ∙ ap (λ u. answered_of (bodies u)) (sym (eqb-true t x.0 e)))
+    (λ e. body_is bodies txs a.1 t (⊎_elim (λ here. absurd (both_ways (t == x.0) e here)) (λ later. later) (or_cases (t == x.0) (is_open txs t) on)))
+
+places_are : (bodies : Bodies) (txs : List Transaction) (t : ℕ) → is_open txs t ≡ true → places_in (map (list_of bodies) txs) t ≡ places_of (bodies t)
+places_are bodies [] t on = absurd (false≢true on)
+places_are bodies (x ∷ txs) t on =
+    cond_both (t == x.0) (places_of (bodies x.0)) (places_in (map (list_of bodies) txs) t) (λ ps. ps ≡ places_of (bodies t))
+    (λ e. ap (λ u. places_of (bodies u)) (sym (eqb-true t x.0 e)))
+    (λ e. places_are bodies txs t (⊎_elim (λ here. absurd (both_ways (t == x.0) e here)) (λ later. later) (or_cases (t == x.0) (is_open txs t) on)))
+
+module _ (p : Pass) (seen : Trace) (h : Stands p seen) (all : List Active) (is : all ≡ p.active.items) (t : ℕ) where
+  abbrev s : State
+  s = after_run start seen
+
+  pub listed_open : is_listed (map listed all) t ≡ is_open s.active t
+  listed_open = ap (λ (xs : List Active). is_listed (map listed xs) t) is ∙ is_active p seen h t
+
+  pub places_placed : is_open s.active t ≡ true → places_in (map listed all) t ≡ places_of (placed seen t)
+  places_placed on = ap (λ (xs : List Active). places_in (map listed xs) t) is ∙ ap (λ (xs : List Listed). places_in xs t) h.active ∙ places_are (placed seen) s.active t on
+
+  pub body_placed : is_open s.active t ≡ true → body_in s.active t ≡ answered_of (placed seen t)
+  body_placed on = body_is (placed seen) s.active h.ordinary.made t on
+
+  pub counted : (o : Option ℕ) → IfSome o (λ n. (is_listed (map listed all) t ≡ true) × (n ≡ length (places_in (map listed all) t))) → IfSome o (λ n. (is_open s.active t ≡ true) × (n ≡ length (body_in s.active t)))
+  counted None f = tt
+  counted (Some n) f =
+      let on : is_open s.active t ≡ true = sym listed_open ∙ f.0 in (
+        on,
+        f.1 ∙ ap length (places_placed on) ∙ length-map (placed seen t) (λ (q : Placed). q.0) ∙ sym (ap length (body_placed on) ∙ length-map (placed seen t) (λ (q : Placed). q.1)),
+      )
+
+  pub not_counted : (o : Option ℕ) → IfNone o (is_listed (map listed all) t ≡ false) → IfNone o (is_open s.active t ≡ false)
+  not_counted None f = sym listed_open ∙ f
+  not_counted (Some n) f = tt
+
+-- ---- one event that answers
+
+same_answers : (t u : ℕ) (op : Op) (reply : Reply) (a : Answered) → cond (u == t) (Some (op, reply)) None ≡ Some a → (u ≡ t) × ((op, reply) ≡ a)
+same_answers t u op reply a e = at (u == t) refl e
+  where
+    at : (b : Bool) → (u == t) ≡ b → cond b (Some (op, reply)) None ≡ Some a → (u ≡ t) × ((op, reply) ≡ a)
+    at true same k = (eqb-true u t same, cc)
+    at false same k = absurd (cc)
+
+-- the event is the transaction's operation with that reply
+pub record IsAnswered (t : ℕ) (e : Event) (a : Answered) : Type 0 where
+  pub event : e ≡ (Do t a.0, a.1)
+  pub effect : effect (Do t a.0) a.1 ≡ Answers t a.0 a.1
+
+answered_do : (t u : ℕ) (op : Op) (reply : Reply) (a : Answered) → effect_of_do u op reply ≡ Answers u op reply → cond (u == t) (Some (op, reply)) None ≡ Some a → IsAnswered t (Do u op, reply) a
+answered_do t u op reply a is e =
+    let same = same_answers t u op reply a e in
+    subst (λ (b : Answered). IsAnswered t (Do u op, reply) b) same.1
+    (subst (λ v. IsAnswered v (Do u op, reply) (op, reply)) same.0 (record { event = refl; effect = is }))
+
+no_answer : {A : Type 0} (a : Answered) → ◌≡◌ {A = Option Answered} None (Some a) → A
+no_answer a e = absurd (cc)
+
+pub answered_event : (t : ℕ) (step : Step) (reply : Reply) (a : Answered) → answered_to t (effect step reply) ≡ Some a → IsAnswered t (step, reply) a
+answered_event t (Do u op) (Refused why) a e = no_answer a e
+answered_event t (Do u op) reply a e = answered_do t u op reply a refl e
+answered_event t Begin (Begun u) a e = no_answer a e
+answered_event t (Commit u) (Committed c) a e = no_answer a e
+answered_event t (Abort u) Aborted a e = no_answer a e
+answered_event t _ _ a e = no_answer a e
+
+-- ---- the places
+
+pub placed_body : (trace : Trace) (n t : ℕ) → answered_of (placed_from n t trace) ≡ body (effects trace) t
+placed_body [] n t = refl
+placed_body (e ∷ trace) n t = one (answered_to t (effect e.0 e.1)) (placed_body trace (n + 1) t)
+  where
+    one : (o : Option Answered) → answered_of (placed_from (n + 1) t trace) ≡ body (effects trace) t → answered_of (cons_option (option_map (λ (a : Answered). (n, a)) o) (placed_from (n + 1) t trace)) ≡ cons_option o (body (effects trace) t)
+    one None rest = rest
+    one (Some a) rest = ap (λ l. a ∷ l) rest
+
+-- where an operation of the body stands
+pub record Splits (trace : Trace) (n t : ℕ) (es : List Placed) (place : ℕ) (a : Answered) : Type 0 where
+  pub earlier : Trace
+  pub later : Trace
+  pub split : trace ≡ earlier ++ (Do t a.0, a.1) ∷ later
+  pub at : place ≡ n + length earlier
+  pub before : placed_from n t earlier ≡ es
+  pub effect : effect (Do t a.0) a.1 ≡ Answers t a.0 a.1
+
+cons_parts : {A : Type 0} (x y : A) (xs ys : List A) → x ∷ xs ≡ y ∷ ys → (x ≡ y) × (xs ≡ ys)
+cons_parts x y xs ys e = (cc, cc)
+
+pair_parts : (n m : ℕ) (a b : Answered) → ◌≡◌ {A = Placed} (n, a) (m, b) → (n ≡ m) × (a ≡ b)
+pair_parts n m a b e = (ap (λ (p : Placed). p.0) e, ap (λ (p : Placed). p.1) e)
+
+splits : (trace : Trace) (n t : ℕ) (es : List Placed) (place : ℕ) (a : Answered) (rest : List Placed) → placed_from n t trace ≡ es ++ (place, a) ∷ rest → Splits trace n t es place a
+splits [] n t [] place a rest e = absurd (cc)
+splits [] n t (x ∷ es) place a rest e = absurd (cc)
+splits (e ∷ trace) n t es place a rest is = one (answered_to t (effect e.0 e.1)) refl is (λ es' k. splits trace (n + 1) t es' place a rest k)
+  where
+    one : (o : Option Answered) → answered_to t (effect e.0 e.1) ≡ o → cons_option (option_map (λ (a : Answered). (n, a)) o) (placed_from (n + 1) t trace) ≡ es ++ (place, a) ∷ rest →
+        ((es' : List Placed) → placed_from (n + 1) t trace ≡ es' ++ (place, a) ∷ rest → Splits trace (n + 1) t es' place a) → Splits (e ∷ trace) n t es place a
+    one None none k later =
+        let f = later es k in
+        record {
+          earlier = e ∷ f.earlier;
+          later = f.later;
+          split = ap (λ l. e ∷ l) f.split;
+          at = let here = f.at in omega arith;
+          before = ap (λ o. cons_option (option_map (λ (a : Answered). (n, a)) o) (placed_from (n + 1) t f.earlier)) none ∙ f.before;
+          effect = f.effect;
+        }
+    one (Some b) some k later = here es k later
+      where
+        here : (fs : List Placed) → (n, b) ∷ placed_from (n + 1) t trace ≡ fs ++ (place, a) ∷ rest → ((es' : List Placed) → placed_from (n + 1) t trace ≡ es' ++ (place, a) ∷ rest → Splits trace (n + 1) t es' place a) → Splits (e ∷ trace) n t fs place a
+        here [] k later =
+            let parts = cons_parts (n, b) (place, a) (placed_from (n + 1) t trace) rest k in
+            let pair = pair_parts n place b a parts.0 in
+            let told = answered_event t e.0 e.1 b some in
+            let told' = subst (λ (c : Answered). IsAnswered t (e.0, e.1) c) pair.1 told in
+            record {
+              earlier = [];
+              later = trace;
+              split = ap (λ (x : Event). x ∷ trace) told'.event;
+              at = let same = pair.0 in omega arith;
+              before = refl;
+              effect = told'.effect;
+            }
+        here (x ∷ fs) k later =
+            let parts = cons_parts (n, b) x (placed_from (n + 1) t trace) (fs ++ (place, a) ∷ rest) k in
+            let f = later fs parts.1 in
+            record {
+              earlier = e ∷ f.earlier;
+              later = f.later;
+              split = ap (λ l. e ∷ l) f.split;
+              at = let here = f.at in omega arith;
+              before = ap (λ o. cons_option (option_map (λ (a : Answered). (n, a)) o) (placed_from (n + 1) t f.earlier)) some ∙ (λ i. parts.0 i ∷ f.before i);
+              effect = f.effect;
+            }
+
+-- ---- where a body is first answered wrongly
+
+pub first_wrong : (seen : Trace) (t : ℕ) (m : PlainMap) (d : Draft) (place : ℕ) → d ≡ fresh m → IsFirstWrong (placed seen t) d place → IsFirstWrongAnswer seen t m (place + 2)
+first_wrong seen t m d place is w =
+    let f = splits seen 0 t w.earlier place (w.op, w.reply) w.later w.split in
+    let before : body (effects f.earlier) t ≡ answered_of w.earlier = sym (placed_body f.earlier 0 t) ∙ ap answered_of f.before in
+    let w' : IsFirstWrong (placed seen t) (fresh m) place = subst (λ x. IsFirstWrong (placed seen t) x place) is w in
+    record {
+      earlier = f.earlier;
+      op = w.op;
+      reply = w.reply;
+      later = f.later;
+      split = f.split;
+      place = let here = f.at in omega arith;
+      answered = f.effect;
+      first = subst (λ (b : List Answered). IsAnsweredAlone b m) (sym before) (first_part w);
+      wrong = λ e. wrong_part w (e ∙ ap (λ (b : List Answered). answer w.op (left_on (ops_of b) (fresh m))) before);
+    }
+  where
+    first_part : (x : IsFirstWrong (placed seen t) d place) → IsAnsweredAlone (answered_of x.earlier) m
+    first_part x = let P : Draft → Type 0 = λ y. replies_of (answered_of x.earlier) ≡ answers_on (ops_of (answered_of x.earlier)) y in subst P is x.first
+
+    wrong_part : (x : IsFirstWrong (placed seen t) d place) → x.reply ≡ answer x.op (left_on (ops_of (answered_of x.earlier)) (fresh m)) → ⊥
+    wrong_part x e = x.wrong (e ∙ ap (λ y. answer x.op (left_on (ops_of (answered_of x.earlier)) y)) (sym is))
+
+-- ---- the operations are read where they stand
+
+get_here : (front : Trace) (e : Event) (rest : Trace) → slice_get (front ++ e ∷ rest) (length front) ≡ Some e
+get_here [] e rest = refl
+get_here (x ∷ front) e rest = get_here front e rest
+
+all_placed : (trace front seen rest : Trace) (n t : ℕ) → trace ≡ front ++ (seen ++ rest) → n ≡ length front → AllByRecursion (IsPlacedIn trace) (placed_from n t seen)
+all_placed trace front [] rest n t is long = tt
+all_placed trace front (e ∷ seen) rest n t is long =
+    one (answered_to t (effect e.0 e.1)) refl (all_placed trace (front ++ e ∷ []) seen rest (n + 1) t (is ∙ sym (append_assoc front (e ∷ []) (seen ++ rest))) (simp length-append (omega arith)))
+  where
+    one : (o : Option Answered) → answered_to t (effect e.0 e.1) ≡ o → AllByRecursion (IsPlacedIn trace) (placed_from (n + 1) t seen) → AllByRecursion (IsPlacedIn trace) (cons_option (option_map (λ (a : Answered). (n, a)) o) (placed_from (n + 1) t seen))
+    one None none later = later
+    one (Some a) some later = (
+      record {
+        t = t;
+        there = (λ i. slice_get (is i) (long i)) ∙ get_here front e (seen ++ rest) ∙ ap (λ (x : Event). Some x) (answered_event t e.0 e.1 a some).event;
+      },
+      later,
+    )
+
+pub placed_in : (seen trace : Trace) (t : ℕ) → IsFront seen trace → AllByRecursion (IsPlacedIn trace) (placed seen t)
+placed_in seen trace t f = all_placed trace [] seen f.rest 0 t f.is refl
+
+own_is : (trace : Trace) (own : List Placed) → AllByRecursion (IsPlacedIn trace) own → own_at trace (places_of own) ≡ own
+own_is trace [] a = refl
+own_is trace (p ∷ own) a =
+    ap (λ o. cons_option (option_map (λ (b : Answered). (p.0, b)) (answered_in o)) (own_at trace (places_of own))) a.0.there
+    ∙ ap (λ l. p ∷ l) (own_is trace own a.1)
+
+pub own_placed : (seen trace : Trace) (t : ℕ) (places : List ℕ) → IsFront seen trace → places ≡ places_of (placed seen t) → own_at trace places ≡ placed seen t
+own_placed seen trace t places f is = ap (own_at trace) is ∙ own_is trace (placed seen t) (placed_in seen trace t f)

@@ -1,0 +1,15 @@
+pub mod Rising
+pub mod Spans
+pub mod Rows
+pub mod Actives
+pub mod Tables
+pub mod Replays
+pub mod Judging
+pub mod Standings
+pub mod Takings
+pub mod Bodies
+pub mod Performs
+pub mod Moments
+pub mod Lifts
+pub mod Checks
+pub mod Faulty

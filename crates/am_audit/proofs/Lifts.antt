@@ -1,0 +1,154 @@
+-- What is right or wrong by the machine's state is so of the trace.
+use Rattle.std.proofs.Common.{◌≡◌, ℕ, ◌+◌, List, [], ◌∷◌, ◌++◌, length, true, refl, sym, ap, ◌∙◌, subst}
+use Rattle.am_record.specs.Plain.{PlainMap}
+use Rattle.am_record.specs.declared.step.Step.{Step}
+use Rattle.am_record.specs.declared.step.Step.TheVariants.{Begin, Do, Commit, Abort, Merge, Clean}
+use Rattle.am_record.specs.declared.step.Reply.{Reply}
+use Rattle.am_record.specs.declared.step.Reply.TheVariants.{Begun, Committed, Aborted, Refused}
+use Rattle.am_serial.specs.Trace.{Trace, Answered, Effect, Begins, Answers, Commits, Aborts, Nothing, effect, effects, committed, IsSerial, IsAnsweredAlone}
+use Rattle.am_serial.specs.Machine.{State, start, after_run, is_open, state_at}
+use Rattle.am_serial.specs.Sound.{FormedAt, BusyRightAt}
+use Rattle.am_serial.specs.Formed.{IsFormed, IsNextInOrder, FormedLaws}
+use Rattle.am_audit.specs.declared.flaw.Flaw.{Flaw}
+use Rattle.am_audit.specs.declared.flaw.Flaw.TheVariants.{Form, Busy, Answer, NoMemory}
+use Rattle.am_audit.specs.Legal.{IsLegal}
+use Rattle.am_audit.specs.Faults.{EarlyRightAt, IsMisformed, IsWronglyBusy, IsFirstWrongAnswer, CommitsWrongly, IsTrueFault}
+use Rattle.am_audit.specs.Standing.{FormedIn, EarlyIn, BusyIn, NextIn, IsRightIn, IsMisformedIn, IsWronglyBusyIn, CommitsWronglyIn, IsFlaw, fault_of}
+use Rattle.am_audit.proofs.Moments.{one_more_event, one_more_moment, last_moment}
+
+-- ---- the same words
+
+to_formed : (es : List Effect) (step : Step) (reply : Reply) → FormedIn (state_at es) step reply → FormedAt es step reply
+to_formed es (Do t op) reply h = h
+to_formed es Begin reply h = h
+to_formed es (Commit t) reply h = h
+to_formed es (Abort t) reply h = h
+to_formed es (Merge limit) reply h = h
+to_formed es (Clean range limit) reply h = h
+
+from_formed : (es : List Effect) (step : Step) (reply : Reply) → FormedAt es step reply → FormedIn (state_at es) step reply
+from_formed es (Do t op) reply h = h
+from_formed es Begin reply h = h
+from_formed es (Commit t) reply h = h
+from_formed es (Abort t) reply h = h
+from_formed es (Merge limit) reply h = h
+from_formed es (Clean range limit) reply h = h
+
+to_early : (es : List Effect) (step : Step) (reply : Reply) → EarlyIn (state_at es) step reply → EarlyRightAt es step reply
+to_early es (Do t op) reply h = h
+to_early es _ reply h = tt
+
+from_early : (es : List Effect) (step : Step) (reply : Reply) → EarlyRightAt es step reply → EarlyIn (state_at es) step reply
+from_early es (Do t op) reply h = h
+from_early es _ reply h = tt
+
+module _ (trace : Trace) (laws : FormedLaws trace) where
+  abbrev es : List Effect
+  es = effects trace
+
+  to_busy : (step : Step) (reply : Reply) → BusyIn (state_at es) step reply → BusyRightAt es step reply
+  to_busy (Do t op) reply b = λ h. (
+    λ e. let both = (b h).0 e in (both.0, (laws.least t op h).1 both.1),
+    λ both. (b h).1 (both.0, (laws.least t op h).0 both.1),
+  )
+  to_busy Begin reply b = tt
+  to_busy (Commit t) reply b = tt
+  to_busy (Abort t) reply b = tt
+  to_busy (Merge limit) reply b = tt
+  to_busy (Clean range limit) reply b = tt
+
+  from_busy : (step : Step) (reply : Reply) → BusyRightAt es step reply → BusyIn (state_at es) step reply
+  from_busy (Do t op) reply b = λ h. (
+    λ e. let both = (b h).0 e in (both.0, (laws.least t op h).0 both.1),
+    λ both. (b h).1 (both.0, (laws.least t op h).1 both.1),
+  )
+  from_busy Begin reply b = tt
+  from_busy (Commit t) reply b = tt
+  from_busy (Abort t) reply b = tt
+  from_busy (Merge limit) reply b = tt
+  from_busy (Clean range limit) reply b = tt
+
+-- a formed commit is one of an active transaction
+pub commit_open : (s : State) (step : Step) (reply : Reply) (t : ℕ) → effect step reply ≡ Commits t → FormedIn s step reply → is_open s.active t ≡ true
+commit_open s (Commit u) (Committed c) t e f = let same : u ≡ t = cc in ap (is_open s.active) (sym same) ∙ f.0
+commit_open s (Do u op) (Refused why) t e f = absurd (cc)
+commit_open s (Do u op) reply t e f = absurd (cc)
+commit_open s Begin (Begun u) t e f = absurd (cc)
+commit_open s (Abort u) Aborted t e f = absurd (cc)
+commit_open s _ _ t e f = absurd (cc)
+
+module _ (laws : (trace : Trace) → IsFormed trace → FormedLaws trace) (seen : Trace) (legal : IsLegal seen) where
+  abbrev here : FormedLaws seen
+  here = laws seen legal.formed
+
+  abbrev s : State
+  s = after_run start seen
+
+  state : state_at (effects seen) ≡ s
+  state = here.state
+
+  formed_here : (step : Step) (reply : Reply) → FormedIn s step reply → FormedAt (effects seen) step reply
+  formed_here step reply f = to_formed (effects seen) step reply (subst (λ x. FormedIn x step reply) (sym state) f)
+
+  formed_there : (step : Step) (reply : Reply) → FormedAt (effects seen) step reply → FormedIn s step reply
+  formed_there step reply f = subst (λ x. FormedIn x step reply) state (from_formed (effects seen) step reply f)
+
+  busy_here : (step : Step) (reply : Reply) → BusyIn s step reply → BusyRightAt (effects seen) step reply
+  busy_here step reply b = to_busy seen here step reply (subst (λ x. BusyIn x step reply) (sym state) b)
+
+  busy_there : (step : Step) (reply : Reply) → BusyRightAt (effects seen) step reply → BusyIn s step reply
+  busy_there step reply b = subst (λ x. BusyIn x step reply) state (from_busy seen here step reply b)
+
+  early_here : (step : Step) (reply : Reply) → EarlyIn s step reply → EarlyRightAt (effects seen) step reply
+  early_here step reply e = to_early (effects seen) step reply (subst (λ x. EarlyIn x step reply) (sym state) e)
+
+  early_there : (step : Step) (reply : Reply) → EarlyRightAt (effects seen) step reply → EarlyIn s step reply
+  early_there step reply e = subst (λ x. EarlyIn x step reply) state (from_early (effects seen) step reply e)
+
+  next_here : (e : Effect) → ((t : ℕ) → e ≡ Commits t → is_open (state_at (effects seen)).active t ≡ true) → NextIn (state_at (effects seen)) e → IsNextInOrder (effects seen) e
+  next_here (Commits t) on n = subst (λ (done : List Answered). IsAnsweredAlone done (committed (effects seen))) (here.bodies t (on t refl)) n
+  next_here (Begins t) on n = tt
+  next_here (Answers t op reply) on n = tt
+  next_here (Aborts t) on n = tt
+  next_here Nothing on n = tt
+
+  serial_now : IsSerial (effects seen)
+  serial_now = last_moment IsSerial seen legal.serial
+
+  -- a right event leaves the trace legal
+  pub goes_on : (step : Step) (reply : Reply) → IsRightIn s step reply → IsLegal (seen ++ (step, reply) ∷ [])
+  goes_on step reply right =
+      let formed = formed_here step reply right.said.formed in
+      record {
+        formed = one_more_event FormedAt seen step reply legal.formed formed;
+        busy = one_more_event BusyRightAt seen step reply legal.busy (busy_here step reply right.said.busy);
+        serial = one_more_moment IsSerial seen step reply legal.serial
+            ((here.serial step reply formed serial_now).1 (next_here (effect step reply) (λ t e. commit_open (state_at (effects seen)) step reply t e (from_formed (effects seen) step reply formed)) (subst (λ x. NextIn x (effect step reply)) (sym state) right.next)));
+      }
+
+  misformed_here : (step : Step) (reply : Reply) → IsMisformedIn s step reply → IsMisformed (effects seen) step reply
+  misformed_here step reply w = record {
+    form = λ f. w.form (formed_there step reply f);
+    first = λ e. busy_here step reply (w.first (early_there step reply e));
+  }
+
+  wrongly_busy_here : (step : Step) (reply : Reply) → IsWronglyBusyIn s step reply → IsWronglyBusy (effects seen) step reply
+  wrongly_busy_here step reply w = record {
+    busy = λ b. w.busy (busy_there step reply b);
+    first = early_here step reply w.first;
+  }
+
+  commits_wrongly_here : (step : Step) (reply : Reply) (place : ℕ) → CommitsWronglyIn seen s step reply place → CommitsWrongly seen step reply (place + 2)
+  commits_wrongly_here step reply place w = record {
+    t = w.t;
+    formed = formed_here step reply w.formed;
+    commit = w.commit;
+    answer = subst (λ (m : PlainMap). IsFirstWrongAnswer seen w.t m (place + 2)) (ap (λ (x : State). x.committed) (sym state)) w.answer;
+  }
+
+  -- a flaw of the event that comes next is the first fault
+  pub is_first : (trace : Trace) (step : Step) (reply : Reply) (later : Trace) → trace ≡ seen ++ (step, reply) ∷ later → (place : ℕ) → place ≡ length seen → (flaw : Flaw) → IsFlaw seen step reply flaw → IsTrueFault trace (fault_of place flaw)
+  is_first trace step reply later is place at Form w = record { earlier = seen; event = (step, reply); later = later; split = is; legal = legal; fault = (ap (λ n. n + 2) at, misformed_here step reply w) }
+  is_first trace step reply later is place at Busy w = record { earlier = seen; event = (step, reply); later = later; split = is; legal = legal; fault = (ap (λ n. n + 2) at, wrongly_busy_here step reply w) }
+  is_first trace step reply later is place at (Answer n) w = record { earlier = seen; event = (step, reply); later = later; split = is; legal = legal; fault = commits_wrongly_here step reply n w }
+  is_first trace step reply later is place at NoMemory w = tt

@@ -1,0 +1,161 @@
+-- Operations and commits that the pass takes.
+use Rattle.std.proofs.Common.{◌≡◌, ℕ, ◌+◌, ◌≤◌, List, length, map, take, Bool, true, false, cond, refl, sym, ap, ◌∙◌, subst, Option, Some, None}
+use Rattle.std.specs.Prelude.{◌==◌, not, filter}
+use Rattle.std.specs.List.{AllByRecursion}
+use Rattle.std.proofs.lemmas.Bool.{both_ways, false≢true, not-false}
+use Rattle.am_record.specs.Plain.{Draft, fresh, answers_on, left_on}
+use Rattle.am_record.specs.Asks.{lock_of, with_asked}
+use Rattle.am_record.specs.declared.lock.Lock.{Lock}
+use Rattle.am_record.specs.declared.step.Refusal.TheVariants.{NoSuchTx}
+use Rattle.am_record.specs.declared.step.Op.{Op}
+use Rattle.am_record.specs.declared.step.Step.TheVariants.{Do, Commit}
+use Rattle.am_record.specs.declared.step.Reply.{Reply}
+use Rattle.am_record.specs.declared.step.Reply.TheVariants.{Committed, Refused}
+use Rattle.am_locks.specs.Held.{Held}
+use Rattle.am_locks.specs.Table.{is_owner, locks_of, with_locks, without as released}
+use Rattle.am_serial.specs.Trace.{Trace, Answered, Answers, Commits, Nothing, effect, runs_made, ops_of, replies_of, IsAnsweredAlone}
+use Rattle.am_serial.specs.Machine.{State, start, after_run, is_open, body_in, locks_in, view, due_early, May}
+use Rattle.am_audit.specs.declared.flaw.Flaw.{Flaw}
+use Rattle.am_audit.specs.declared.flaw.Flaw.TheVariants.{Form, Busy, Answer, NoMemory}
+use Rattle.am_audit.specs.declared.active.Active.{Active}
+use Rattle.am_audit.specs.declared.pass.Pass.{Pass}
+use Rattle.am_audit.specs.Standing.{Placed, placed, places_of, answered_of, Listed, listed, is_listed, places_in, with_place, held_of, Stands, NextIn, IsRightOf, Takes, IsFlaw, AreAnsweredOn, left_by_all, IsPlacedIn, IsFirstWrong, IsReplayFlaw, refused_of, own_at, IsFront}
+use Rattle.am_audit.proofs.Tables.{still_owner, held_before, given_back}
+use Rattle.am_audit.proofs.Standings.{stands_behind, no_answer, answers, commits}
+use Rattle.am_audit.proofs.Takings.{takes_still, is_owned}
+use Rattle.am_audit.proofs.Bodies.{body_placed, places_placed, listed_open, first_wrong, own_placed, placed_in}
+
+-- ---- operations
+
+none_of_first : {A : Type 0} (b : Bool) (x : A) (o : Option A) → cond b (Some x) o ≡ None → b ≡ false
+none_of_first true x o h = absurd (cc)
+none_of_first false x o h = refl
+
+pub open_of_none : (s : State) (t : ℕ) (op : Op) → due_early s t op ≡ None → is_open s.active t ≡ true
+open_of_none s t op none = not-false (is_open s.active t) (none_of_first (not (is_open s.active t)) NoSuchTx _ none)
+
+pub refusal_nothing : (t : ℕ) (op : Op) (reply : Reply) → refused_of reply ≡ true → effect (Do t op) reply ≡ Nothing
+refusal_nothing t op (Refused why) h = refl
+refusal_nothing t op _ h = absurd (false≢true h)
+
+answer_effect : (t : ℕ) (op : Op) (reply : Reply) → refused_of reply ≡ false → effect (Do t op) reply ≡ Answers t op reply
+answer_effect t op (Refused why) h = absurd (false≢true (sym h))
+answer_effect t op _ h = refl
+
+-- the same but for the locks, which are the same too
+restored : (p p' : Pass) (seen : Trace) → Stands p seen → p'.begun ≡ p.begun → p'.commits ≡ p.commits → p'.runs ≡ p.runs → map listed p'.active.items ≡ map listed p.active.items → p'.locks ≡ p.locks → p'.committed ≡ p.committed → Stands p' seen
+restored p p' seen h b c r a l m = record {
+  begun = b ∙ h.begun;
+  commits = c ∙ h.commits;
+  runs = r ∙ h.runs;
+  active = a ∙ h.active;
+  locks = l ∙ h.locks;
+  committed = m ∙ h.committed;
+  ordinary = h.ordinary;
+}
+
+pub takes_refused : (p p' : Pass) (seen : Trace) (t : ℕ) (op : Op) (reply : Reply) → Stands p seen → refused_of reply ≡ true → IsRightOf (after_run start seen) (Do t op) reply →
+    p'.begun ≡ p.begun → p'.commits ≡ p.commits → p'.runs ≡ p.runs → map listed p'.active.items ≡ map listed p.active.items → p'.locks ≡ p.locks → p'.committed ≡ p.committed → Takes seen (Do t op) reply p'
+takes_refused p p' seen t op reply h refused right b c r a l m = takes_still p' seen (Do t op) reply (refusal_nothing t op reply refused) right (restored p p' seen h b c r a l m)
+
+module _ (p : Pass) (seen : Trace) (h : Stands p seen) (t : ℕ) (op : Op) (none : due_early (after_run start seen) t op ≡ None) where
+  abbrev s : State
+  s = after_run start seen
+
+  pub owner_here : is_owner p.locks t ≡ true
+  owner_here = is_owned p seen h t ∙ open_of_none s t op none
+
+  module _ (asked : Option Lock) (granted : List Held) (is : granted ≡ with_locks p.locks t (with_asked (locks_in s.active t) asked)) where
+    is' : granted ≡ with_locks (map held_of s.active) t (with_asked (locks_in s.active t) asked)
+    is' = is ∙ ap (λ (table : List Held). with_locks table t (with_asked (locks_in s.active t) asked)) h.locks
+
+    pub owner_still : is_owner granted t ≡ true
+    owner_still = still_owner s.active t asked h.ordinary.rising (open_of_none s t op none) granted is'
+
+    module _ (n : ℕ) (count : n ≡ length (locks_of p.locks t)) where
+      count' : n ≡ length (locks_of (map held_of s.active) t)
+      count' = count ∙ ap (λ (table : List Held). length (locks_of table t)) h.locks
+
+      pub enough : n ≤ length (locks_of granted t)
+      enough = held_before s.active t asked h.ordinary.rising (open_of_none s t op none) granted is' n count'
+
+      pub locks_back : with_locks granted t (take n (locks_of granted t)) ≡ p.locks
+      locks_back = given_back s.active t asked h.ordinary.rising (open_of_none s t op none) granted is' n count' ∙ sym h.locks
+
+  pub takes_answer : (p' : Pass) (reply : Reply) (n : ℕ) (asked : Option Lock) → n ≡ length seen → asked ≡ lock_of op → refused_of reply ≡ false → IsRightOf s (Do t op) reply → p'.begun ≡ p.begun → p'.commits ≡ p.commits → p'.runs ≡ p.runs + runs_made op reply → map listed p'.active.items ≡ map (with_place t n) (map listed p.active.items) → p'.locks ≡ with_locks p.locks t (with_asked (locks_in s.active t) asked) → p'.committed ≡ p.committed → Takes seen (Do t op) reply p'
+  takes_answer p' reply n asked place lock answered right b c r a l m =
+      let is = answer_effect t op reply answered in
+      record {
+        right = record { said = right; next = subst (NextIn s) (sym is) tt };
+        stands = stands_behind p' seen (Do t op) reply (Answers t op reply) is
+            (answers p p' (placed seen) s h (length seen) t op reply (open_of_none s t op none) b c r (a ∙ ap (λ k. map (with_place t k) (map listed p.active.items)) place) (l ∙ ap (λ o. with_locks p.locks t (with_asked (locks_in s.active t) o)) lock) m);
+      }
+
+-- ---- commits
+
+pub commit_nothing : (t : ℕ) (reply : Reply) → ((c : ℕ) → reply ≡ Committed c → ⊥) → effect (Commit t) reply ≡ Nothing
+commit_nothing t (Committed c) h = absurd (h c refl)
+commit_nothing t _ h = refl
+
+abbrev MayCommit : State → ℕ → ℕ → Type 0
+MayCommit s t n = (is_open s.active t ≡ true) × (n ≡ s.commits + 1)
+
+pub may_commit_with : (s : State) (t : ℕ) (reply : Reply) (n : ℕ) → reply ≡ Committed n → May s (Commit t) reply → MayCommit s t n
+may_commit_with s t reply n is f = let P : Reply → Type 0 = λ r. May s (Commit t) r in subst P is f
+
+module _ (p : Pass) (seen : Trace) (h : Stands p seen) (t : ℕ) (reply : Reply) (n : ℕ) (is : reply ≡ Committed n) (formed : May (after_run start seen) (Commit t) reply) where
+  abbrev s1 : State
+  s1 = after_run start seen
+
+  pub on : is_open s1.active t ≡ true
+  on = (may_commit_with s1 t reply n is formed).0
+
+  pub owner_ends : is_owner p.locks t ≡ true
+  owner_ends = is_owned p seen h t ∙ on
+
+  pub listed_here : (all : List Active) → all ≡ p.active.items → is_listed (map listed all) t ≡ false → ⊥
+  listed_here all same off = both_ways (is_open s1.active t) (sym (listed_open p seen h all same t) ∙ off) on
+
+  commits_effect : effect (Commit t) reply ≡ Commits t
+  commits_effect = ap (effect (Commit t)) is
+
+  module _ (trace : Trace) (front : IsFront seen trace) (all : List Active) (same : all ≡ p.active.items) (places : List ℕ) (found : places ≡ places_in (map listed all) t) where
+    places_seen : places ≡ places_of (placed seen t)
+    places_seen = found ∙ places_placed p seen h all same t on
+
+    own_seen : own_at trace places ≡ placed seen t
+    own_seen = own_placed seen trace t places front places_seen
+
+    pub own_places : places ≡ places_of (own_at trace places)
+    own_places = places_seen ∙ ap places_of (sym own_seen)
+
+    pub own_there : AllByRecursion (IsPlacedIn trace) (own_at trace places)
+    own_there = subst (λ (own : List Placed). AllByRecursion (IsPlacedIn trace) own) (sym own_seen) (placed_in seen trace t front)
+
+    -- the first wrong answer is a flaw of the commit
+    pub replay_flaw : (flaw : Flaw) → IsReplayFlaw (own_at trace places) p.committed flaw → IsFlaw seen (Commit t) reply flaw
+    replay_flaw (Answer place) w = record {
+      t = t;
+      formed = formed;
+      commit = commits_effect;
+      answer = first_wrong seen t s1.committed p.committed place h.committed (subst (λ (own : List Placed). IsFirstWrong own p.committed place) own_seen w);
+    }
+    replay_flaw NoMemory w = tt
+    replay_flaw Form w = absurd w
+    replay_flaw Busy w = absurd w
+
+    pub takes_commit : (p' : Pass) (left : Draft) → AreAnsweredOn (own_at trace places) p.committed → left ≡ left_by_all (own_at trace places) p.committed →
+        p'.begun ≡ p.begun → p'.commits ≡ n → p'.runs ≡ p.runs → map listed p'.active.items ≡ filter (λ (x : Listed). not (x.0 == t)) (map listed p.active.items) → p'.locks ≡ released p.locks t → p'.committed ≡ fresh left.map → Takes seen (Commit t) reply p'
+    takes_commit p' left alone is_left b c r a l m =
+        let body = body_placed p seen h all same t on in
+        let alone' : IsAnsweredAlone (body_in s1.active t) s1.committed =
+        subst (λ (done : List Answered). IsAnsweredAlone done s1.committed) (sym body)
+        (subst (λ d. replies_of (answered_of (placed seen t)) ≡ answers_on (ops_of (answered_of (placed seen t))) d) h.committed
+        (subst (λ (own : List Placed). AreAnsweredOn own p.committed) own_seen alone)) in
+        let view_is : left ≡ view s1 t =
+        is_left ∙ (λ i. left_by_all (own_seen i) (h.committed i)) ∙ ap (λ (done : List Answered). left_on (ops_of done) (fresh s1.committed)) (sym body) in
+        record {
+          right = record { said = record { formed = formed; busy = tt }; next = subst (NextIn s1) (sym commits_effect) alone' };
+          stands = stands_behind p' seen (Commit t) reply (Commits t) commits_effect
+              (no_answer p' seen _ (Commits t) (λ u. refl) (commits p p' (placed seen) s1 h t b (c ∙ (may_commit_with s1 t reply n is formed).1) r a l (m ∙ ap (λ (d : Draft). fresh d.map) view_is)));
+        }

@@ -1,0 +1,201 @@
+-- How one event moves what the pass stands for.
+use Rattle.std.proofs.Common.{◌≡◌, ℕ, ◌+◌, ◌<◌, ◌≤◌, List, [], ◌∷◌, ◌++◌, length, map, true, false, cond, refl, sym, ap, ◌∙◌, subst, ⊎_elim, Option, Some, None, arith}
+use Rattle.std.specs.Prelude.{◌==◌, not, filter}
+use Rattle.std.specs.List.{cons_option, AllByRecursion}
+use Rattle.std.specs.Option.{option_map}
+use Rattle.std.proofs.lemmas.Bool.{cond_both, cond-false, false≢true, or_cases, eqb-true, ne_eqb}
+use Rattle.std.proofs.lemmas.List.{map-append, append-nil}
+use Rattle.am_record.specs.Plain.{fresh}
+use Rattle.am_record.specs.Asks.{lock_of, with_asked}
+use Rattle.am_record.specs.declared.step.Op.{Op}
+use Rattle.am_record.specs.declared.step.Step.{Step}
+use Rattle.am_record.specs.declared.step.Reply.{Reply}
+use Rattle.am_locks.specs.Table.{with_locks, entered, without as released}
+use Rattle.am_serial.specs.Trace.{Trace, Event, Answered, Effect, Begins, Answers, Commits, Aborts, Nothing, answered_to, effect, runs_made}
+use Rattle.am_serial.specs.Machine.{State, Transaction, start, after_run, is_open, locks_in, view, extended, without, next}
+use Rattle.am_audit.specs.declared.pass.Pass.{Pass}
+use Rattle.am_audit.specs.Standing.{Placed, placed_from, placed, places_of, answered_of, Listed, listed, with_place, Bodies, list_of, held_of, Rise, StandsAt, Stands}
+use Rattle.am_audit.proofs.Tables.{relocked_done, entered_is, released_is}
+
+-- ---- one more event
+
+pub after_run-push : (trace : Trace) (s : State) (e : Event) → after_run s (trace ++ e ∷ []) ≡ next (after_run s trace) (effect e.0 e.1)
+after_run-push [] s e = refl
+after_run-push (x ∷ trace) s e = after_run-push trace (next s (effect x.0 x.1)) e
+
+-- what the effect adds to a transaction's body, at that place
+abbrev pub added : ℕ → ℕ → Effect → List Placed
+added n t e = cons_option (option_map (λ (a : Answered). (n, a)) (answered_to t e)) []
+
+cons_after : (o : Option Placed) (xs ys : List Placed) → cons_option o (xs ++ ys) ≡ cons_option o xs ++ ys
+cons_after None xs ys = refl
+cons_after (Some x) xs ys = refl
+
+placed_from-push : (trace : Trace) (n t : ℕ) (e : Event) → placed_from n t (trace ++ e ∷ []) ≡ placed_from n t trace ++ added (n + length trace) t (effect e.0 e.1)
+placed_from-push [] n t e = ap (λ k. added k t (effect e.0 e.1)) (let same : n ≡ n + 0 = omega arith in same)
+placed_from-push (x ∷ trace) n t e =
+    let rest : placed_from (n + 1) t (trace ++ e ∷ []) ≡ placed_from (n + 1) t trace ++ added (n + length (x ∷ trace)) t (effect e.0 e.1) =
+    placed_from-push trace (n + 1) t e ∙ ap (λ k. placed_from (n + 1) t trace ++ added k t (effect e.0 e.1)) (let same : n + 1 + length trace ≡ n + length (x ∷ trace) = omega arith in same) in
+    ap (cons_option (option_map (λ (a : Answered). (n, a)) (answered_to t (effect x.0 x.1)))) rest
+    ∙ cons_after (option_map (λ (a : Answered). (n, a)) (answered_to t (effect x.0 x.1))) (placed_from (n + 1) t trace) (added (n + length (x ∷ trace)) t (effect e.0 e.1))
+
+pub placed-push : (trace : Trace) (e : Event) (t : ℕ) → placed (trace ++ e ∷ []) t ≡ placed trace t ++ added (length trace) t (effect e.0 e.1)
+placed-push trace e t = placed_from-push trace 0 t e ∙ ap (λ k. placed trace t ++ added k t (effect e.0 e.1)) (let same : 0 + length trace ≡ length trace = omega arith in same)
+
+-- the pass stands behind the event where it stands at what its effect makes
+pub stands_behind : (p : Pass) (seen : Trace) (step : Step) (reply : Reply) (e : Effect) → effect step reply ≡ e →
+    StandsAt p (λ t. placed seen t ++ added (length seen) t e) (next (after_run start seen) e) → Stands p (seen ++ (step, reply) ∷ [])
+stands_behind p seen step reply e is h =
+    let at : StandsAt p (λ t. placed seen t ++ added (length seen) t (effect step reply)) (next (after_run start seen) (effect step reply)) =
+    subst (λ x. StandsAt p (λ t. placed seen t ++ added (length seen) t x) (next (after_run start seen) x)) (sym is) h in
+    let bodies : (λ (t : ℕ). placed seen t ++ added (length seen) t (effect step reply)) ≡ placed (seen ++ (step, reply) ∷ []) = λ i t. sym (placed-push seen (step, reply) t) i in
+    subst (λ (b : Bodies). StandsAt p b (after_run start (seen ++ (step, reply) ∷ []))) bodies
+    (subst (λ s. StandsAt p (λ t. placed seen t ++ added (length seen) t (effect step reply)) s) (sym (after_run-push seen start (step, reply))) at)
+
+-- an effect that is no answer adds nothing
+unchanged : (bodies : Bodies) → (λ (t : ℕ). bodies t ++ []) ≡ bodies
+unchanged bodies i t = append-nil (bodies t) i
+
+-- ---- the machine's transactions
+
+all_map : {X : Type 0} (P Q : X → Type 0) → ((x : X) → P x → Q x) → (xs : List X) → AllByRecursion P xs → AllByRecursion Q xs
+all_map P Q f [] a = tt
+all_map P Q f (x ∷ xs) a = (f x a.0, all_map P Q f xs a.1)
+
+all_push : {X : Type 0} (P : X → Type 0) (xs : List X) (y : X) → AllByRecursion P xs → P y → AllByRecursion P (xs ++ y ∷ [])
+all_push P [] y a h = (h, tt)
+all_push P (x ∷ xs) y a h = (a.0, all_push P xs y a.1 h)
+
+all_without : (P : Transaction → Type 0) (t : ℕ) (xs : List Transaction) → AllByRecursion P xs → AllByRecursion P (without t xs)
+all_without P t [] a = tt
+all_without P t (x ∷ xs) a = cond_both (not (x.0 == t)) (x ∷ without t xs) (without t xs) (AllByRecursion P) (λ _. (a.0, all_without P t xs a.1)) (λ _. all_without P t xs a.1)
+
+rise_push : (xs : List Transaction) (y : Transaction) → Rise xs → AllByRecursion (λ (x : Transaction). x.0 < y.0) xs → Rise (xs ++ y ∷ [])
+rise_push [] y r a = (tt, tt)
+rise_push (x ∷ xs) y r a = (all_push (λ (z : Transaction). x.0 < z.0) xs y r.0 a.0, rise_push xs y r.1 a.1)
+
+rise_without : (t : ℕ) (xs : List Transaction) → Rise xs → Rise (without t xs)
+rise_without t [] r = tt
+rise_without t (x ∷ xs) r = cond_both (not (x.0 == t)) (x ∷ without t xs) (without t xs) Rise (λ _. (all_without (λ (z : Transaction). x.0 < z.0) t xs r.0, rise_without t xs r.1)) (λ _. rise_without t xs r.1)
+
+all_extended : (P Q : Transaction → Type 0) (t : ℕ) (a : Answered) → ((x : Transaction) → P x → Q (extended t a x)) → (xs : List Transaction) → AllByRecursion P xs → AllByRecursion Q (map (extended t a) xs)
+all_extended P Q t a f [] h = tt
+all_extended P Q t a f (x ∷ xs) h = (f x h.0, all_extended P Q t a f xs h.1)
+
+rise_extended : (t : ℕ) (a : Answered) (xs : List Transaction) → Rise xs → Rise (map (extended t a) xs)
+rise_extended t a [] r = tt
+rise_extended t a (x ∷ xs) r = (all_extended (λ (z : Transaction). x.0 < z.0) (λ (z : Transaction). x.0 < z.0) t a (λ z h. h) xs r.0, rise_extended t a xs r.1)
+
+-- an active number is not above the numbers begun
+pub open_below : (n t : ℕ) (xs : List Transaction) → AllByRecursion (λ (x : Transaction). x.0 ≤ n) xs → is_open xs t ≡ true → t ≤ n
+open_below n t [] a on = absurd (false≢true on)
+open_below n t (x ∷ xs) a on =
+    let low : x.0 ≤ n = a.0 in
+    ⊎_elim
+    (λ here. let same : t ≡ x.0 = eqb-true t x.0 here in omega arith)
+    (λ later. open_below n t xs a.1 later)
+    (or_cases (t == x.0) (is_open xs t) on)
+
+-- ---- the lists
+
+list_without : (bodies : Bodies) (t : ℕ) (xs : List Transaction) → filter (λ (x : Listed). not (x.0 == t)) (map (list_of bodies) xs) ≡ map (list_of bodies) (without t xs)
+list_without bodies t [] = refl
+list_without bodies t (x ∷ xs) =
+    elim (not (x.0 == t)) as (λ b. cond b (list_of bodies x ∷ filter (λ (x : Listed). not (x.0 == t)) (map (list_of bodies) xs)) (filter (λ (x : Listed). not (x.0 == t)) (map (list_of bodies) xs)) ≡ map (list_of bodies) (cond b (x ∷ without t xs) (without t xs))) [
+      | true ↦ ap (λ ys. list_of bodies x ∷ ys) (list_without bodies t xs)
+      | false ↦ list_without bodies t xs
+    ]
+
+places_push : (ps : List Placed) (n : ℕ) (a : Answered) → places_of (ps ++ (n, a) ∷ []) ≡ places_of ps ++ n ∷ []
+places_push ps n a = map-append (λ (p : Placed). p.0) ps ((n, a) ∷ [])
+
+added_answer : (n t : ℕ) (op : Op) (reply : Reply) (u : ℕ) (ps : List Placed) → ps ++ added n u (Answers t op reply) ≡ cond (t == u) (ps ++ (n, (op, reply)) ∷ []) ps
+added_answer n t op reply u ps = elim (t == u) as (λ b. ps ++ cons_option (option_map (λ (a : Answered). (n, a)) (cond b (Some (op, reply)) None)) [] ≡ cond b (ps ++ (n, (op, reply)) ∷ []) ps) [ true ↦ refl | false ↦ append-nil ps ]
+
+list_extended : (bodies : Bodies) (n t : ℕ) (op : Op) (reply : Reply) (xs : List Transaction) → map (with_place t n) (map (list_of bodies) xs) ≡ map (list_of (λ u. bodies u ++ added n u (Answers t op reply))) (map (extended t (op, reply)) xs)
+list_extended bodies n t op reply [] = refl
+list_extended bodies n t op reply (x ∷ xs) =
+    let rest = list_extended bodies n t op reply xs in
+    let places : cond (t == x.0) (places_of (bodies x.0) ++ n ∷ []) (places_of (bodies x.0)) ≡ places_of (bodies x.0 ++ added n x.0 (Answers t op reply)) =
+    elim (t == x.0) as (λ b. cond b (places_of (bodies x.0) ++ n ∷ []) (places_of (bodies x.0)) ≡ places_of (cond b (bodies x.0 ++ (n, (op, reply)) ∷ []) (bodies x.0))) [ true ↦ sym (places_push (bodies x.0) n (op, reply)) | false ↦ refl ]
+    ∙ ap places_of (sym (added_answer n t op reply x.0 (bodies x.0))) in
+    λ i. (x.0, places i) ∷ rest i
+
+-- ---- by effect
+
+pub stands_still : (p : Pass) (seen : Trace) (step : Step) (reply : Reply) → effect step reply ≡ Nothing → Stands p seen → Stands p (seen ++ (step, reply) ∷ [])
+stands_still p seen step reply is h =
+    stands_behind p seen step reply Nothing is (subst (λ (b : Bodies). StandsAt p b (after_run start seen)) (sym (unchanged (placed seen))) h)
+
+module _ (p p' : Pass) (bodies : Bodies) (s : State) (h : StandsAt p bodies s) where
+  pub begins : (t : ℕ) → t ≡ s.begun + 1 → p'.begun ≡ t → p'.commits ≡ p.commits → p'.runs ≡ p.runs → map listed p'.active.items ≡ map listed p.active.items ++ (t, []) ∷ [] → p'.locks ≡ entered p.locks t → p'.committed ≡ p.committed → StandsAt p' bodies (next s (Begins t))
+  begins t new b c r a l m =
+      let none : bodies t ≡ [] = h.ordinary.new t (omega arith) in
+      record {
+        begun = b ∙ new;
+        commits = c ∙ h.commits;
+        runs = r ∙ h.runs;
+        active = a ∙ ap (λ xs. xs ++ (t, []) ∷ []) h.active ∙ ap (λ (ps : List Placed). map (list_of bodies) s.active ++ (t, places_of ps) ∷ []) (sym none) ∙ sym (map-append (list_of bodies) s.active ((t, []) ∷ []));
+        locks = l ∙ ap (λ table. entered table t) h.locks ∙ entered_is s.active t;
+        committed = m ∙ h.committed;
+        ordinary = record {
+          below = all_push (λ (x : Transaction). x.0 ≤ s.begun + 1) s.active (t, []) (all_map (λ (x : Transaction). x.0 ≤ s.begun) (λ (x : Transaction). x.0 ≤ s.begun + 1) (λ x low. omega arith) s.active h.ordinary.below) (omega arith);
+          rising = rise_push s.active (t, []) h.ordinary.rising (all_map (λ (x : Transaction). x.0 ≤ s.begun) (λ (x : Transaction). x.0 < t) (λ x low. omega arith) s.active h.ordinary.below);
+          made = all_push (λ (x : Transaction). x.1 ≡ answered_of (bodies x.0)) s.active (t, []) h.ordinary.made (ap answered_of (sym none));
+          new = λ u above. h.ordinary.new u (omega arith);
+        };
+      }
+
+  ended : (t : ℕ) → p'.begun ≡ p.begun → p'.runs ≡ p.runs → map listed p'.active.items ≡ filter (λ (x : Listed). not (x.0 == t)) (map listed p.active.items) → p'.locks ≡ released p.locks t → (s' : State) → s'.begun ≡ s.begun → s'.runs ≡ s.runs → s'.active ≡ without t s.active → p'.commits ≡ s'.commits → p'.committed ≡ fresh s'.committed → StandsAt p' bodies s'
+  ended t b r a l s' b' r' a' c m = record {
+    begun = b ∙ h.begun ∙ sym b';
+    commits = c;
+    runs = r ∙ h.runs ∙ sym r';
+    active = a ∙ ap (filter (λ (x : Listed). not (x.0 == t))) h.active ∙ list_without bodies t s.active ∙ ap (map (list_of bodies)) (sym a');
+    locks = l ∙ ap (λ table. released table t) h.locks ∙ released_is s.active t ∙ ap (map held_of) (sym a');
+    committed = m;
+    ordinary = record {
+      below = subst (λ (xs : List Transaction). AllByRecursion (λ (x : Transaction). x.0 ≤ s'.begun) xs) (sym a') (subst (λ (n : ℕ). AllByRecursion (λ (x : Transaction). x.0 ≤ n) (without t s.active)) (sym b') (all_without (λ (x : Transaction). x.0 ≤ s.begun) t s.active h.ordinary.below));
+      rising = subst Rise (sym a') (rise_without t s.active h.ordinary.rising);
+      made = subst (λ (xs : List Transaction). AllByRecursion (λ (x : Transaction). x.1 ≡ answered_of (bodies x.0)) xs) (sym a') (all_without (λ (x : Transaction). x.1 ≡ answered_of (bodies x.0)) t s.active h.ordinary.made);
+      new = λ u above. h.ordinary.new u (subst (λ n. n < u) b' above);
+    };
+  }
+
+  pub aborts : (t : ℕ) → p'.begun ≡ p.begun → p'.commits ≡ p.commits → p'.runs ≡ p.runs → map listed p'.active.items ≡ filter (λ (x : Listed). not (x.0 == t)) (map listed p.active.items) → p'.locks ≡ released p.locks t → p'.committed ≡ p.committed → StandsAt p' bodies (next s (Aborts t))
+  aborts t b c r a l m = ended t b r a l (next s (Aborts t)) refl refl refl (c ∙ h.commits) (m ∙ h.committed)
+
+  pub commits : (t : ℕ) → p'.begun ≡ p.begun → p'.commits ≡ s.commits + 1 → p'.runs ≡ p.runs → map listed p'.active.items ≡ filter (λ (x : Listed). not (x.0 == t)) (map listed p.active.items) → p'.locks ≡ released p.locks t → p'.committed ≡ fresh (view s t).map → StandsAt p' bodies (next s (Commits t))
+  commits t b c r a l m = ended t b r a l (next s (Commits t)) refl refl refl c m
+
+  pub answers : (n t : ℕ) (op : Op) (reply : Reply) → is_open s.active t ≡ true → p'.begun ≡ p.begun → p'.commits ≡ p.commits → p'.runs ≡ p.runs + runs_made op reply → map listed p'.active.items ≡ map (with_place t n) (map listed p.active.items) → p'.locks ≡ with_locks p.locks t (with_asked (locks_in s.active t) (lock_of op)) → p'.committed ≡ p.committed → StandsAt p' (λ u. bodies u ++ added n u (Answers t op reply)) (next s (Answers t op reply))
+  answers n t op reply on b c r a l m =
+      let low : t ≤ s.begun = open_below s.begun t s.active h.ordinary.below on in
+      record {
+        begun = b ∙ h.begun;
+        commits = c ∙ h.commits;
+        runs = r ∙ ap (λ k. k + runs_made op reply) h.runs;
+        active = a ∙ ap (map (with_place t n)) h.active ∙ list_extended bodies n t op reply s.active;
+        locks = l ∙ ap (λ table. with_locks table t (with_asked (locks_in s.active t) (lock_of op))) h.locks ∙ relocked_done s.active t op reply h.ordinary.rising;
+        committed = m ∙ h.committed;
+        ordinary = record {
+          below = all_extended (λ (x : Transaction). x.0 ≤ s.begun) (λ (x : Transaction). x.0 ≤ s.begun) t (op, reply) (λ x k. k) s.active h.ordinary.below;
+          rising = rise_extended t (op, reply) s.active h.ordinary.rising;
+          made = all_extended (λ (x : Transaction). x.1 ≡ answered_of (bodies x.0)) (λ (x : Transaction). x.1 ≡ answered_of (bodies x.0 ++ added n x.0 (Answers t op reply))) t (op, reply) (λ x k. made_one x k) s.active h.ordinary.made;
+          new = λ u above. added_answer n t op reply u (bodies u) ∙ cond-false (t == u) (bodies u ++ (n, (op, reply)) ∷ []) (bodies u) (ne_eqb t u (λ e. let no : ⊥ = omega arith in no)) ∙ h.ordinary.new u above;
+        };
+      }
+    where
+      made_one : (x : Transaction) → x.1 ≡ answered_of (bodies x.0) → cond (t == x.0) (x.1 ++ (op, reply) ∷ []) x.1 ≡ answered_of (bodies x.0 ++ added n x.0 (Answers t op reply))
+      made_one x k =
+          elim (t == x.0) as (λ b. cond b (x.1 ++ (op, reply) ∷ []) x.1 ≡ answered_of (cond b (bodies x.0 ++ (n, (op, reply)) ∷ []) (bodies x.0))) [
+            | true ↦ ap (λ xs. xs ++ (op, reply) ∷ []) k ∙ sym (map-append (λ (p : Placed). p.1) (bodies x.0) ((n, (op, reply)) ∷ []))
+            | false ↦ k
+          ]
+          ∙ ap answered_of (sym (added_answer n t op reply x.0 (bodies x.0)))
+
+-- an effect that is no answer adds nothing to the bodies
+pub no_answer : (p : Pass) (seen : Trace) (s : State) (e : Effect) → ((t : ℕ) → answered_to t e ≡ None) → StandsAt p (placed seen) s → StandsAt p (λ t. placed seen t ++ added (length seen) t e) s
+no_answer p seen s e none h =
+    let bodies : placed seen ≡ (λ (t : ℕ). placed seen t ++ added (length seen) t e) = λ i t. (sym (append-nil (placed seen t)) ∙ ap (λ o. placed seen t ++ cons_option (option_map (λ (a : Answered). (length seen, a)) o) []) (sym (none t))) i in
+    subst (λ (b : Bodies). StandsAt p b s) bodies h

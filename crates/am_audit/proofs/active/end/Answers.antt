@@ -1,0 +1,12 @@
+use Rattle.std.proofs.Common.{rules, map, ap, ◌∙◌}
+use Rattle.std.specs.Prelude.{not, ◌==◌}
+use Rattle.std.proofs.lemmas.Fn.{filter_same}
+use Rattle.am_audit.specs.declared.active.Active.{Active}
+use Rattle.am_audit.specs.Standing.{listed}
+use Rattle.am_audit.proofs.Actives.{list_kept}
+use Rattle.am_audit.proofs.active.end.Goals as goal
+
+pub returns-clause-active : goal.returns-clause-active
+returns-clause-active c =
+    ap (map listed) (filter_same _ (λ (x : Active). not (x.number == c.args.tx)) _ (λ x b f' called. search rules) _ _ c.retain.ensures.filtered)
+    ∙ list_kept c.args.tx c.args.all.now.items

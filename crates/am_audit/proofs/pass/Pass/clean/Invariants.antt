@@ -1,0 +1,5 @@
+use Rattle.am_serial.specs.Machine.{start, after_run}
+use Rattle.am_audit.proofs.pass.Pass.clean.Given as goal
+
+abbrev pub ghost-may_clean : goal.ghost-may_clean
+ghost-may_clean g a = after_run start g.seen

@@ -1,0 +1,80 @@
+-- The first fault of a trace, and its line. The header is line 1, so an event behind n others stands on line n + 2.
+use Rattle.std.specs.Prelude.{◌≡◌, ◌≢◌, ◌↔◌, ℕ, ◌+◌, length, List, ◌∷◌, ◌++◌, Bool, true, false, Some}
+use Rattle.am_record.specs.Plain.{PlainMap, fresh, answer, left_on}
+use Rattle.am_record.specs.declared.step.Refusal.{Refusal}
+use Rattle.am_record.specs.declared.step.Refusal.TheVariants.{NoSuchTx, TooManyOps, NotRising, BadLimit, TooManyRuns}
+use Rattle.am_record.specs.declared.step.Op.{Op}
+use Rattle.am_record.specs.declared.step.Step.{Step}
+use Rattle.am_record.specs.declared.step.Step.TheVariants.{Do}
+use Rattle.am_record.specs.declared.step.Reply.{Reply}
+use Rattle.am_record.specs.declared.step.Reply.TheVariants.{Refused}
+use Rattle.am_serial.specs.Trace.{Trace, Event, Effect, Answers, Commits, effect, effects, body, ops_of, committed, IsAnsweredAlone}
+use Rattle.am_serial.specs.Machine.{state_at, due_early}
+use Rattle.am_serial.specs.Sound.{FormedAt, BusyRightAt}
+use Rattle.am_audit.specs.Legal.{IsLegal}
+use Rattle.am_audit.specs.declared.fault.Kind.{Kind}
+use Rattle.am_audit.specs.declared.fault.Kind.TheVariants.{Form, Busy, Answer}
+use Rattle.am_audit.specs.declared.fault.Fault.{Fault}
+use Rattle.am_audit.specs.declared.fault.Fault.TheVariants.{Wrong, NoMemory}
+
+-- whether the refusal is one of those that are tested before the lock is asked for
+abbrev pub is_early : Refusal → Bool
+is_early NoSuchTx = true
+is_early TooManyOps = true
+is_early NotRising = true
+is_early BadLimit = true
+is_early TooManyRuns = true
+is_early why = false
+
+-- such a refusal is answered to an operation exactly where it is due
+abbrev pub EarlyRightAt : List Effect → Step → Reply → Type 0
+EarlyRightAt es (Do t op) reply = (why : Refusal) → is_early why ≡ true → (reply ≡ Refused why) ↔ (due_early (state_at es) t op ≡ Some why)
+EarlyRightAt es _ reply = Unit {0}
+
+-- Busy is tested after the early refusals, and before all else of the form
+pub record IsMisformed (es : List Effect) (step : Step) (reply : Reply) : Type 0 where
+  pub form : ¬ (FormedAt es step reply)
+  pub first : EarlyRightAt es step reply → BusyRightAt es step reply
+
+pub record IsWronglyBusy (es : List Effect) (step : Step) (reply : Reply) : Type 0 where
+  pub busy : ¬ (BusyRightAt es step reply)
+  pub first : EarlyRightAt es step reply
+
+-- the operation on that line is the first of the transaction's whose answer isn't the one that its body gets alone on the map
+pub record IsFirstWrongAnswer (trace : Trace) (t : ℕ) (m : PlainMap) (line : ℕ) : Type 0 where
+  pub earlier : Trace
+  pub op : Op
+  pub reply : Reply
+  pub later : Trace
+  pub split : trace ≡ earlier ++ (Do t op, reply) ∷ later
+  pub place : line ≡ length earlier + 2
+  pub answered : effect (Do t op) reply ≡ Answers t op reply
+  pub first : IsAnsweredAlone (body (effects earlier) t) m
+  pub wrong : reply ≢ answer op (left_on (ops_of (body (effects earlier) t)) (fresh m))
+
+-- a formed commit of a body with a wrong answer
+pub record CommitsWrongly (trace : Trace) (step : Step) (reply : Reply) (line : ℕ) : Type 0 where
+  pub t : ℕ
+  pub formed : FormedAt (effects trace) step reply
+  pub commit : effect step reply ≡ Commits t
+  pub answer : IsFirstWrongAnswer trace t (committed (effects trace)) line
+
+-- the event that comes after the trace has a fault of that kind, which is told by that line
+abbrev pub IsFault : Trace → Event → ℕ → Kind → Type 0
+IsFault trace e line Form = (line ≡ length trace + 2) × IsMisformed (effects trace) e.0 e.1
+IsFault trace e line Busy = (line ≡ length trace + 2) × IsWronglyBusy (effects trace) e.0 e.1
+IsFault trace e line Answer = CommitsWrongly trace e.0 e.1 line
+
+-- all is legal up to an event, and that one has the fault
+pub record IsFirstFault (trace : Trace) (line : ℕ) (kind : Kind) : Type 0 where
+  pub earlier : Trace
+  pub event : Event
+  pub later : Trace
+  pub split : trace ≡ earlier ++ event ∷ later
+  pub legal : IsLegal earlier
+  pub fault : IsFault earlier event line kind
+
+-- want of memory says nothing of the trace
+abbrev pub IsTrueFault : Trace → Fault → Type 0
+IsTrueFault trace (Wrong line kind) = IsFirstFault trace line kind
+IsTrueFault trace NoMemory = Unit {0}

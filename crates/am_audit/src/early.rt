@@ -1,0 +1,60 @@
+//! The refusals that are tested before a lock is asked for.
+
+ghost use Rattle.std.specs.Prelude.{◌≡◌, ℕ, Some, length, IsTrue, IfNone, IfSome, true, false};
+ghost use Rattle.am_record.specs.declared.step.Refusal.{Refusal as TheRefusal};
+ghost use Rattle.am_record.specs.declared.step.Reply.TheVariants.{Refused};
+ghost use Rattle.am_serial.specs.Machine.{State, is_open, body_in, due_early};
+ghost use Rattle.am_audit.specs.Faults.{is_early};
+ghost use Rattle.am_audit.specs.Standing.{early_of};
+
+use crate::operations::{is_bounded, is_load, is_orderly};
+use am_record::{Op, Refusal, Reply};
+
+/// The most operations that a transaction may have.
+const MAX_OPS: usize = 4096;
+
+/// The most runs that may be made.
+const MAX_RUNS: u32 = 65_535;
+
+/// The early refusal that is due to an operation of a transaction that is active with so many operations, if it is, where
+/// so many runs were made.
+pub(crate) fn refusal(done: Option<usize>, runs: u32, tx: u64, op: &Op) -> Option<Refusal>
+    ghost s: { State }
+    requires runs { runs ≡ s.runs }
+    requires active { IfSome done (λ n. (is_open s.active tx ≡ true) × (n ≡ length (body_in s.active tx))) }
+    requires inactive { IfNone done (is_open s.active tx ≡ false) }
+    ensures { result ≡ due_early s tx op.now }
+{
+    let Some(ops) = done else {
+        return Some(Refusal::NoSuchTx);
+    };
+    if ops >= MAX_OPS {
+        return Some(Refusal::TooManyOps);
+    }
+    if !is_orderly(op) {
+        return Some(Refusal::NotRising);
+    }
+    if !is_bounded(op) {
+        return Some(Refusal::BadLimit);
+    }
+    if is_load(op) && runs >= MAX_RUNS {
+        return Some(Refusal::TooManyRuns);
+    }
+    None
+}
+
+/// Whether the reply is one of these refusals.
+pub(crate) fn is_early(reply: &Reply) -> bool
+    ensures { result ≡ early_of reply.now }
+{
+    matches!(
+        reply,
+        Reply::Refused(
+            Refusal::NoSuchTx
+                | Refusal::TooManyOps
+                | Refusal::NotRising
+                | Refusal::BadLimit
+                | Refusal::TooManyRuns
+        )
+    )
+}

@@ -1,0 +1,54 @@
+//! Replies compared.
+
+ghost use Rattle.std.specs.Prelude.{◌≡◌, ◌↔◌, IsTrue};
+
+use am_record::{Key, Pairs, Refusal, Reply, Value};
+
+/// Whether the replies are the same.
+pub(crate) fn is_same(a: &Reply, b: &Reply) -> bool
+    ensures { IsTrue result ↔ (a.now ≡ b.now) }
+{
+    match (a, b) {
+        (Reply::Begun(a), Reply::Begun(b)) => a == b,
+        (Reply::Done, Reply::Done) => true,
+        (Reply::Found(a), Reply::Found(b)) => is_same_value(a, b),
+        (Reply::Absent, Reply::Absent) => true,
+        (Reply::Rows(a), Reply::Rows(b)) => are_same_rows(a, b),
+        (Reply::Exists(a), Reply::Exists(b)) => is_same_key(*a, *b),
+        (Reply::Missing, Reply::Missing) => true,
+        (Reply::Committed(a), Reply::Committed(b)) => a == b,
+        (Reply::Aborted, Reply::Aborted) => true,
+        (Reply::Moved(n, run), Reply::Moved(m, other)) => n == m && run == other,
+        (Reply::MergeDone, Reply::MergeDone) => true,
+        (Reply::Ended(a, t), Reply::Ended(b, u)) => is_same_key(*a, *b) && t == u,
+        (Reply::Idle, Reply::Idle) => true,
+        (Reply::Cleaned(a), Reply::Cleaned(b)) => a == b,
+        (Reply::NoMark, Reply::NoMark) => true,
+        (Reply::Refused(a), Reply::Refused(b)) => is_same_refusal(*a, *b),
+        _ => false,
+    }
+}
+
+pub(crate) fn is_same_key(a: Key, b: Key) -> bool
+    ensures { IsTrue result ↔ (a ≡ b) }
+{
+    a == b
+}
+
+fn is_same_value(a: &Value, b: &Value) -> bool
+    ensures { IsTrue result ↔ (a.now ≡ b.now) }
+{
+    a.bytes() == b.bytes()
+}
+
+fn are_same_rows(a: &Pairs, b: &Pairs) -> bool
+    ensures { IsTrue result ↔ (a.now ≡ b.now) }
+{
+    a == b
+}
+
+pub(crate) fn is_same_refusal(a: Refusal, b: Refusal) -> bool
+    ensures { IsTrue result ↔ (a ≡ b) }
+{
+    a == b
+}

@@ -1,0 +1,78 @@
+//! The verdict on an operation's reply.
+
+ghost use Rattle.std.specs.Prelude.{◌≡◌, ◌↔◌, None, false, IsTrue, IfErr, OnOk};
+ghost use Rattle.am_record.specs.Asks.{lock_of};
+ghost use Rattle.am_record.specs.declared.step.Step.TheVariants.{Do};
+ghost use Rattle.am_record.specs.declared.step.Reply.TheVariants.{Refused};
+ghost use Rattle.am_serial.specs.Machine.{State, due_early};
+ghost use Rattle.am_audit.specs.Standing.{busy_of, early_of, refused_of, IsAnswerTo, IsRightOf, IsFlawOf};
+
+use crate::flaw::Flaw;
+use crate::operations::is_answer;
+use crate::replies::is_same_refusal;
+use am_locks::Asked;
+use am_record::{Op, Refusal, Reply};
+
+/// Judges the reply to an operation to which no early refusal is due, by what came of asking for its lock.
+///
+/// # Errors
+/// Busy, then Form. NoMemory, where the lock wanted memory.
+pub(crate) fn verdict(asked: Asked, tx: u64, op: &Op, reply: &Reply) -> Result<(), Flaw>
+    ghost s: { State }
+    requires early { due_early s tx op.now ≡ None }
+    requires not_early { early_of reply.now ≡ false }
+    requires asked { IsAnswerTo s.active tx (lock_of op.now) asked }
+    ensures right { OnOk result (IsRightOf s (Do tx op.now) reply.now) }
+    ensures granted { OnOk result (refused_of reply.now ≡ false → asked ≡ Asked.Granted) }
+    ensures flaw { IfErr result (IsFlawOf s (Do tx op.now) reply.now) }
+{
+    match asked {
+        Asked::NoMemory => Err(Flaw::NoMemory),
+        Asked::Busy(holder) => {
+            if !is_refused(reply, Refusal::Busy(holder)) {
+                return Err(Flaw::Busy);
+            }
+            Ok(())
+        }
+        Asked::TooManyLocks => {
+            if is_busy(reply) {
+                return Err(Flaw::Busy);
+            }
+            if !is_refused(reply, Refusal::TooManyLocks) {
+                return Err(Flaw::Form);
+            }
+            Ok(())
+        }
+        Asked::Granted => {
+            if is_busy(reply) {
+                return Err(Flaw::Busy);
+            }
+            if !is_refused(reply, Refusal::NoMemory) && !is_answer(op, reply) {
+                return Err(Flaw::Form);
+            }
+            Ok(())
+        }
+    }
+}
+
+/// Whether the reply is that refusal.
+pub(crate) fn is_refused(reply: &Reply, why: Refusal) -> bool
+    ensures { IsTrue result ↔ (reply.now ≡ Refused why) }
+{
+    match reply {
+        Reply::Refused(refusal) => is_same_refusal(*refusal, why),
+        _ => false,
+    }
+}
+
+fn is_busy(reply: &Reply) -> bool
+    ensures { result ≡ busy_of reply.now }
+{
+    matches!(reply, Reply::Refused(Refusal::Busy(_)))
+}
+
+pub(crate) fn is_refusal(reply: &Reply) -> bool
+    ensures { result ≡ refused_of reply.now }
+{
+    matches!(reply, Reply::Refused(_))
+}

@@ -1,0 +1,45 @@
+-- What is said of a text: of the trace that it is the text of, or that it is none.
+use Rattle.std.specs.Prelude.{◌≡◌, ℕ, List, ◌++◌, codes, decimal, length, Option}
+use Rattle.am_serial.specs.Trace.{Trace, effects, committers}
+use Rattle.am_wire.specs.Giving.{Gave}
+use Rattle.am_trace.specs.Lines.{IsTextOf, IsBadLine}
+use Rattle.am_audit.specs.Legal.{IsLegal}
+use Rattle.am_audit.specs.Faults.{IsFirstFault}
+use Rattle.am_audit.specs.declared.fault.Kind.{Kind}
+use Rattle.am_audit.specs.declared.fault.Kind.TheVariants.{Form, Busy, Answer}
+use Rattle.am_auditor.specs.declared.judgement.Judgement.{Judgement}
+use Rattle.am_auditor.specs.declared.judgement.Judgement.TheVariants.{Legal, Wrong, Bad, NoFile, NoMemory}
+
+-- of a legal trace its number of commits, of another its first fault, of what is no trace its first bad line; want of memory says nothing
+abbrev pub IsTrueOf : List ℕ → Judgement → Type 0
+IsTrueOf text (Legal commits) = (trace : Trace) × IsTextOf text trace × IsLegal trace × (commits ≡ length (committers (effects trace)))
+IsTrueOf text (Wrong line kind) = (trace : Trace) × IsTextOf text trace × IsFirstFault trace line kind
+IsTrueOf text (Bad line) = IsBadLine text line
+IsTrueOf text NoFile = ⊥
+IsTrueOf text NoMemory = Unit {0}
+
+abbrev pub kind_word : Kind → List ℕ
+kind_word Form = codes " FORM\n"
+kind_word Busy = codes " BUSY\n"
+kind_word Answer = codes " ANSWER\n"
+
+abbrev pub line_of : Judgement → List ℕ
+line_of (Legal commits) = codes "LEGAL " ++ decimal commits ++ codes "\n"
+line_of (Wrong line kind) = codes "WRONG " ++ decimal line ++ kind_word kind
+line_of (Bad line) = codes "BAD " ++ decimal line ++ codes "\n"
+line_of NoFile = codes "NO FILE\n"
+line_of NoMemory = codes "NO MEMORY\n"
+
+abbrev pub status_of : Judgement → ℕ
+status_of (Legal commits) = 0
+status_of (Wrong line kind) = 1
+status_of (Bad line) = 3
+status_of NoFile = 4
+status_of NoMemory = 5
+
+-- a true judgement of the text was said, and this is its status
+pub record IsSaid {S : Type 0} (holds : S → Option (List ℕ)) (text : List ℕ) (old new : S) (status : ℕ) : Type 0 where
+  pub judgement : Judgement
+  pub true_of : IsTrueOf text judgement
+  pub said : Gave holds old (line_of judgement) new
+  pub status_is : status ≡ status_of judgement

@@ -1,0 +1,98 @@
+//! What is said of a text.
+
+ghost use Rattle.std.specs.Prelude.{◌≡◌, ◌^◌, ◌<◌, ◌≤◌, ◌+◌, length, true, false, OnOk, OnErr, IfOk};
+ghost use Rattle.am_wire.specs.Giving.{Gave};
+ghost use Rattle.am_auditor.specs.Judgements.{IsTrueOf, IsSaid, line_of, status_of};
+
+use am_audit::{Fault, Kind, check};
+use am_trace::{TraceFault, read_trace};
+use am_wire::{Failed, Sink, Text, give_all};
+use std::alloc::Global;
+
+/// What is to be said of a text, or of one that can't be had.
+#[derive(Clone, Copy, Debug, PartialEq, Eq)]
+pub enum Judgement {
+    /// A legal trace of so many commits.
+    Legal(u64),
+    /// A trace, and this line of it is the first that has a fault, which is of this kind.
+    Wrong(u64, Kind),
+    /// No trace: this line is the first that is none of a trace.
+    Bad(u64),
+    /// The text can't be read.
+    NoFile,
+    /// Memory was refused.
+    NoMemory,
+}
+
+// Judges a text. Memory may be refused, and then nothing is known of it.
+fn judge_text(alloc: Global, text: &[u8]) -> Judgement
+    ensures { IsTrueOf text.now result }
+{
+    let trace = match read_trace(alloc, text) {
+        Ok(trace) => trace,
+        Err(TraceFault::Bad(line)) => return Judgement::Bad(line),
+        Err(TraceFault::NoMemory) => return Judgement::NoMemory,
+    };
+    match check(alloc, &trace) {
+        Ok(commits) => Judgement::Legal(commits),
+        Err(Fault::Wrong(line, kind)) => Judgement::Wrong(line, kind),
+        Err(Fault::NoMemory) => Judgement::NoMemory,
+    }
+}
+
+// The line that says it.
+fn line(judgement: &Judgement) -> Text
+    ensures { result ≡ line_of judgement.now }
+{
+    match judgement {
+        Judgement::Legal(commits) => Text::new(b"LEGAL ").then_number(*commits).then(b"\n"),
+        Judgement::Wrong(line, kind) => {
+            let begun = Text::new(b"WRONG ").then_number(*line);
+            match kind {
+                Kind::Form => begun.then(b" FORM\n"),
+                Kind::Busy => begun.then(b" BUSY\n"),
+                Kind::Answer => begun.then(b" ANSWER\n"),
+            }
+        }
+        Judgement::Bad(line) => Text::new(b"BAD ").then_number(*line).then(b"\n"),
+        Judgement::NoFile => Text::new(b"NO FILE\n"),
+        Judgement::NoMemory => Text::new(b"NO MEMORY\n"),
+    }
+}
+
+// The program's status.
+fn status(judgement: &Judgement) -> u8
+    ensures { result ≡ status_of judgement.now }
+{
+    match judgement {
+        Judgement::Legal(_) => 0,
+        Judgement::Wrong(_, _) => 1,
+        Judgement::Bad(_) => 3,
+        Judgement::NoFile => 4,
+        Judgement::NoMemory => 5,
+    }
+}
+
+/// Writes the line that says it, and answers the program's status. At a failure a beginning of the line went out.
+pub fn say<K: Sink>(judgement: &Judgement, sink: &mut K) -> Result<u8, Failed>
+    requires countable { K.failures sink.old + 1 < 2 ^ 63 }
+    ensures status { IfOk result (λ status. status ≡ status_of judgement.now) }
+    ensures said { OnOk result (Gave K.holds sink.old (line_of judgement.now) sink.new) }
+    ensures sent { OnOk result (K.pending sink.new ≡ false) }
+{
+    give_all(sink, line(judgement).as_slice())?;
+    sink.flush()?;
+    Ok(status(judgement))
+}
+
+/// Judges a text, writes the line that says how, and answers the program's status.
+///
+/// # Errors
+/// Failed, where the line can't be written; a beginning of it went out.
+pub fn judge<K: Sink>(alloc: Global, text: &[u8], sink: &mut K) -> Result<u8, Failed>
+    requires countable { K.failures sink.old + 1 < 2 ^ 63 }
+    ensures judged { IfOk result (IsSaid K.holds text.now sink.old sink.new) }
+    ensures sent { OnOk result (K.pending sink.new ≡ false) }
+{
+    say(&judge_text(alloc, text), sink)
+}

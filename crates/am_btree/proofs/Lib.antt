@@ -1,0 +1,11 @@
+pub mod Children
+pub mod Halving
+pub mod LeafSplit
+pub mod Growing
+pub mod Parting
+pub mod Rooted
+pub mod Editing
+pub mod Leaves
+pub mod Seeking
+pub mod Walking
+pub mod Inner

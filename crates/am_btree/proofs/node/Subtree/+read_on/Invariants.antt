@@ -1,0 +1,13 @@
+use Rattle.std.proofs.Common.{◌≡◌, ◌++◌, ◌≤◌, take, drop, length}
+use Rattle.am_list.specs.Entries.{all_after}
+use Rattle.am_btree.specs.Nodes.{all_entries}
+use Rattle.am_btree.proofs.node.Subtree.+read_on.Given as goal
+
+abbrev pub decreases-read_on : goal.decreases-read_on
+decreases-read_on l = goal.size-read_on l
+
+abbrev pub invariant-loop-at : goal.invariant-loop-at
+invariant-loop-at l = record {
+  fits : length l.batch ≤ 8;
+  same : take 8 (l.batch ++ all_after (all_entries (drop l.at l.children.items)) l.fn.part l.fn.key) ≡ take 8 (l.fn.batch ++ all_after (all_entries l.children.items) l.fn.part l.fn.key);
+}

@@ -1,0 +1,104 @@
+//! The tree as an index.
+
+ghost use Rattle.std.specs.Prelude.{◌≡◌, ◌<◌, ◌^◌, [], IfOk};
+ghost use Rattle.am_list.specs.Places.{only_of};
+
+use crate::node::Subtree;
+use crate::read::Start;
+use am_list::{Batch, PartIndex};
+use am_record::{Entry, Key, NoMemory, Value};
+use std::alloc::Global;
+use std::marker::Model;
+
+/// An index that is a B-tree, seen as how deep its leaves stand, all of them alike, and as its
+/// entries in order.
+#[derive(Drop)]
+pub struct BTree {
+    root: Subtree,
+    alloc: Global,
+}
+
+impl Model for BTree {
+    ghost use Rattle.am_btree.specs.Shape.{Shape, shape_code};
+
+    ghost Value = { Shape };
+
+    ghost coded = { shape_code };
+
+    ghost view = { λ t. t.root };
+}
+
+impl BTree {
+    /// A tree of one leaf with no entries, which takes its memory from the allocator from now on.
+    ///
+    /// # Errors
+    /// NoMemory, where memory was refused.
+    pub fn new(alloc: Global) -> Result<BTree, NoMemory>
+        ensures { IfOk result (λ tree. (tree.depth ≡ 0) × (tree.entries ≡ [])) }
+    {
+        Ok(BTree {
+            root: Subtree::new(alloc)?,
+            alloc,
+        })
+    }
+
+    /// How many inner nodes stand above the leaf in which the place is looked for. It is the same
+    /// at every place: all leaves stand at one depth. (No memory holds a tree of depth 2^64.)
+    pub fn depth_at(&self, part: u32, key: Key) -> usize
+        ensures { self.now.depth < 2 ^ 64 → result ≡ self.now.depth }
+    {
+        self.root.depth_at(part, key)
+    }
+
+    /// How many inner nodes stand above each leaf.
+    pub fn depth(&self) -> usize
+        ensures { self.now.depth < 2 ^ 64 → result ≡ self.now.depth }
+    {
+        self.depth_at(0, Key::least())
+    }
+}
+
+impl PartIndex for BTree {
+    ghost entries = { λ t. t.entries };
+
+    fn find(&self, part: u32, key: Key) -> Option<(Value, bool)> {
+        self.root.find(part, key)
+    }
+
+    fn next_from(&self, part: u32, key: Key) -> Option<Entry> {
+        of_part(self.root.seek(part, key, Start::At), part)
+    }
+
+    fn after(&self, part: u32, key: Key) -> Option<Entry> {
+        of_part(self.root.seek(part, key, Start::Above), part)
+    }
+
+    fn read_on(&self, part: u32, key: Key, batch: &mut Batch) {
+        self.root.read_on(part, key, batch);
+    }
+
+    fn next_any(&self, part: u32, key: Key) -> Option<Entry> {
+        self.root.seek(part, key, Start::At)
+    }
+
+    fn insert(&mut self, entry: Entry) -> Result<(), NoMemory> {
+        self.root.insert(self.alloc, entry)
+    }
+
+    fn set(&mut self, part: u32, key: Key, value: Value, is_ghost: bool) {
+        self.root.set(part, key, value, is_ghost);
+    }
+
+    fn remove(&mut self, part: u32, key: Key) -> Entry {
+        let removed = self.root.remove(part, key);
+        self.root.collapse();
+        removed.entry
+    }
+}
+
+// The entry, where it is one of the partition.
+fn of_part(entry: Option<Entry>, part: u32) -> Option<Entry>
+    ensures { result ≡ only_of part entry }
+{
+    entry.filter(|e| e.part == part)
+}

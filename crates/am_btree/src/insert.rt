@@ -1,0 +1,209 @@
+//! Adding an entry.
+
+ghost use Rattle.std.specs.Prelude.{◌≡◌, ◌+◌, ◌<◌, ◌≤◌, [], length, take, drop, None, OnOk, OnErr, IfOk, IfSome, vec_len, vec_capacity};
+ghost use Rattle.std.specs.List.{insert};
+ghost use Rattle.am_list.specs.Entries.{find, insert_entry, IsRising};
+ghost use Rattle.am_list.specs.Places.{IsGapFor};
+ghost use Rattle.am_btree.specs.Grown.{Grows, NowHolds};
+ghost use Rattle.am_btree.specs.Nodes.{all_entries, depth_of, leaf_shape, inner_shape, AreFilledChildren, IsInner};
+ghost use Rattle.am_btree.specs.Splits.{lower_size};
+
+use crate::node::{Node, Subtree};
+use crate::room::{ROOM, keep_of, put, split_put};
+use crate::separator::{Separator, lower, reached};
+use crate::spare::{Spare, spares};
+use am_leaf::RawLeaf;
+use am_record::{Entry, Key, NoMemory};
+use std::alloc::Global;
+use std::mem;
+
+/// A new right sibling, where it begins, and the room that was got for the nodes above.
+#[derive(Drop)]
+pub(crate) struct Split {
+    pub(crate) separator: Separator,
+    pub(crate) right: Subtree,
+    pub(crate) spares: Vec<Spare>,
+}
+
+impl Subtree {
+    /// Adds an entry at an absent place. Where the topmost node is split, a new one comes above it.
+    pub(crate) fn insert(&mut self, alloc: Global, entry: Entry) -> Result<(), NoMemory>
+        requires { find self.old.entries entry.part entry.key ≡ None }
+        ensures ok { OnOk result (self.new.entries ≡ insert_entry self.old.entries entry) }
+        ensures depth { OnOk result ((self.old.depth ≤ self.new.depth) × (self.new.depth ≤ self.old.depth + 1)) }
+        ensures err { OnErr result (self.new ≡ self.old) }
+    {
+        // Read here, the node's invariant is known before it is changed.
+        let _ = &self.node;
+        // A topmost node that is split wants room for the one above it.
+        let Some(split) = self.insert_below(alloc, entry, true, 1)? else {
+            return Ok(());
+        };
+        let Split {
+            separator,
+            right,
+            mut spares,
+        } = split;
+        let Some(spare) = spares.pop() else {
+            unreachable!()
+        };
+        let mut separators = spare.separators;
+        let mut children = spare.children;
+        let node = mem::replace(
+            &mut self.node,
+            Node::Inner(Vec::new(alloc), Vec::new(alloc)),
+        );
+        let left = Subtree { node };
+        let least = Separator {
+            part: 0,
+            key: Key::least(),
+        };
+        put(&mut separators, 0, least);
+        put(&mut separators, 1, separator);
+        put(&mut children, 0, left);
+        put(&mut children, 1, right);
+        self.node = Node::Inner(separators, children);
+        Ok(())
+    }
+
+    // Adds the entry below this node. Where the node is split, its new right sibling comes back, with room for
+    // as many inner nodes as are wanted above it. All room is got before anything changes.
+    fn insert_below(
+        &mut self,
+        alloc: Global,
+        entry: Entry,
+        last: bool,
+        wanted: usize,
+    ) -> Result<Option<Split>, NoMemory>
+        requires { find self.old.entries entry.part entry.key ≡ None }
+        ensures ok { IfOk result (Grows self.old self.new entry wanted) }
+        ensures err { OnErr result (self.new ≡ self.old) }
+    {
+        match &mut self.node {
+            Node::Leaf(leaf) => insert_in_leaf(alloc, leaf, entry, last, wanted),
+            Node::Inner(separators, children) => {
+                let more = wanted_below(children.len(), wanted)?;
+                let reach = reached(separators, entry.part, entry.key);
+                let at = reach.saturating_sub(1);
+                let last_child = last && at + 1 == children.len();
+                let child = &mut children[at];
+                let grown = child.insert_below(alloc, entry, last_child, more)?;
+                lower(separators, reach, &entry);
+                let Some(split) = grown else {
+                    return Ok(None);
+                };
+                Ok(add_child(separators, children, at + 1, split, last))
+            }
+        }
+    }
+}
+
+// How many spare nodes a node's children are to get, where as many are wanted above the node.
+fn wanted_below(len: usize, wanted: usize) -> Result<usize, NoMemory>
+    ensures { IfOk result (λ n. len ≡ 32 → n ≡ wanted + 1) }
+{
+    if len < ROOM {
+        return Ok(0);
+    }
+    // No memory holds a path of 2^64 full nodes.
+    wanted.checked_add(1).ok_or(NoMemory)
+}
+
+// Adds an entry to a leaf, which is split where it is full.
+fn insert_in_leaf(
+    alloc: Global,
+    leaf: &mut RawLeaf,
+    entry: Entry,
+    last: bool,
+    wanted: usize,
+) -> Result<Option<Split>, NoMemory>
+    requires { find leaf.old entry.part entry.key ≡ None }
+    ensures ok { IfOk result (Grows (leaf_shape leaf.old) (leaf_shape leaf.new) entry wanted) }
+    ensures err { OnErr result (leaf.new ≡ leaf.old) }
+    ensures most { length leaf.new ≤ 32 }
+    ensures rising { IsRising leaf.new }
+{
+    let Err(at) = leaf.find(entry.part, entry.key) else {
+        unreachable!()
+    };
+    if leaf.len() < ROOM {
+        leaf.insert_at(at, entry);
+        return Ok(None);
+    }
+    let mut upper = RawLeaf::new(alloc)?;
+    let spares = spares(alloc, wanted)?;
+    split_insert(leaf, keep_of(last, at), at, entry, &mut upper);
+    let separator = Separator::of(&upper.get(0));
+    let right = Subtree {
+        node: Node::Leaf(upper),
+    };
+    Ok(Some(Split {
+        separator,
+        right,
+        spares,
+    }))
+}
+
+// Puts an entry at the index of a full leaf, the upper part of which is moved to an empty one.
+fn split_insert(leaf: &mut RawLeaf, keep: usize, at: usize, entry: Entry, upper: &mut RawLeaf)
+    requires full { length leaf.old ≡ 32 }
+    requires place { IsGapFor leaf.old entry.part entry.key at }
+    requires keeps { (0 < keep) × (keep ≤ 32) }
+    requires room { at < keep → keep < 32 }
+    requires empty { upper.old ≡ [] }
+    ensures front { leaf.new ≡ take (lower_size keep at) (insert leaf.old at entry) }
+    ensures back { upper.new ≡ drop (lower_size keep at) (insert leaf.old at entry) }
+{
+    leaf.split_into(upper, keep);
+    if at < keep {
+        leaf.insert_at(at, entry);
+    } else {
+        upper.insert_at(at - keep, entry);
+    }
+}
+
+// Adds a child, and splits the node where it is full.
+fn add_child(
+    separators: &mut Vec<Separator>,
+    children: &mut Vec<Subtree>,
+    at: usize,
+    split: Split,
+    last: bool,
+) -> Option<Split>
+    requires children { AreFilledChildren (depth_of children.old.items) (insert separators.old.items at split.separator) (insert children.old.items at split.right) }
+    requires pairs { vec_len separators.old ≡ vec_len children.old }
+    requires in_range { at ≤ vec_len children.old }
+    requires most { vec_len children.old ≤ 32 }
+    requires room { (32 ≤ vec_capacity separators.old) × (32 ≤ vec_capacity children.old) }
+    requires spares { vec_len children.old ≡ 32 → 0 < vec_len split.spares }
+    ensures inner { IsInner separators.new.items children.new.items (vec_capacity separators.new) (vec_capacity children.new) }
+    ensures holds { NowHolds (depth_of children.old.items) (all_entries (insert children.old.items at split.right)) (inner_shape children.new.items) result }
+    ensures spares { IfSome result (λ s. (vec_len children.old ≡ 32) × (vec_len s.spares + 1 ≡ vec_len split.spares)) }
+{
+    let Split {
+        separator,
+        right,
+        mut spares,
+    } = split;
+    if children.len() < ROOM {
+        put(separators, at, separator);
+        put(children, at, right);
+        return None;
+    }
+    let Some(spare) = spares.pop() else {
+        unreachable!()
+    };
+    let mut upper_separators = spare.separators;
+    let mut upper_children = spare.children;
+    let keep = keep_of(last, at);
+    split_put(separators, keep, at, separator, &mut upper_separators);
+    split_put(children, keep, at, right, &mut upper_children);
+    let first = upper_separators[0];
+    Some(Split {
+        separator: first,
+        right: Subtree {
+            node: Node::Inner(upper_separators, upper_children),
+        },
+        spares,
+    })
+}

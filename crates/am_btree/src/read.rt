@@ -1,0 +1,125 @@
+//! Walks from a place on.
+
+ghost use Rattle.std.specs.Prelude.{◌≡◌, ◌++◌, take, slice_get};
+ghost use Rattle.am_list.specs.Entries.{all_after, IsRising};
+ghost use Rattle.am_btree.specs.Seek.{first_from, IsStart};
+
+use crate::node::{Node, Subtree};
+use crate::separator::child_for;
+use am_leaf::RawLeaf;
+use am_list::Batch;
+use am_record::{Entry, Key};
+
+/// Where a walk begins.
+#[derive(Clone, Copy, Debug)]
+pub(crate) enum Start {
+    /// With the entry of the place, where there is one.
+    At,
+    /// Strictly above the place.
+    Above,
+}
+
+impl Subtree {
+    /// The first entry from the place on, of any partition.
+    pub(crate) fn seek(&self, part: u32, key: Key, start: Start) -> Option<Entry>
+        ensures found { result ≡ first_from start self.now.entries part key }
+        ensures rising { IsRising self.now.entries }
+    {
+        match &self.node {
+            Node::Leaf(leaf) => seek_in_leaf(leaf, part, key, start),
+            Node::Inner(separators, children) => {
+                let at = child_for(separators, part, key);
+                if let Some(entry) = children[at].seek(part, key, start) {
+                    return Some(entry);
+                }
+                if at + 1 == children.len() {
+                    return None;
+                }
+                children[at + 1].first()
+            }
+        }
+    }
+
+    /// The first entry.
+    pub(crate) fn first(&self) -> Option<Entry>
+        ensures { result ≡ slice_get self.now.entries 0 }
+    {
+        match &self.node {
+            Node::Leaf(leaf) => entry_at(leaf, 0),
+            Node::Inner(_, children) => children[0].first(),
+        }
+    }
+
+    /// Appends the next entries of the partition strictly above the key, as many as the batch has
+    /// room for.
+    pub(crate) fn read_on(&self, part: u32, key: Key, batch: &mut Batch)
+        ensures read { batch.new ≡ take 8 (batch.old ++ all_after self.now.entries part key) }
+        ensures rising { IsRising self.now.entries }
+    {
+        match &self.node {
+            Node::Leaf(leaf) => read_on_in_leaf(leaf, part, key, batch),
+            Node::Inner(separators, children) => {
+                prove!(batch.entries().len() <= 8);
+                for at in child_for(separators, part, key)..children.len() {
+                    if batch.is_full() || separators[at].part > part {
+                        return;
+                    }
+                    children[at].read_on(part, key, batch);
+                }
+            }
+        }
+    }
+}
+
+// The entry of the leaf at the index, if there is one.
+fn entry_at(leaf: &RawLeaf, at: usize) -> Option<Entry>
+    ensures { result ≡ slice_get leaf.now at }
+{
+    if at < leaf.len() {
+        Some(leaf.get(at))
+    } else {
+        None
+    }
+}
+
+// Where a walk over the leaf begins.
+fn start_in_leaf(leaf: &RawLeaf, part: u32, key: Key, start: Start) -> usize
+    ensures begins { IsStart start leaf.now part key result }
+    ensures rising { IsRising leaf.now }
+{
+    // Asked here, an entry's index is known to have a next one.
+    prove!(leaf.len() <= 32);
+    match leaf.find(part, key) {
+        Ok(at) => match start {
+            Start::At => at,
+            Start::Above => at + 1,
+        },
+        Err(at) => at,
+    }
+}
+
+// The first entry of the leaf from the place on.
+fn seek_in_leaf(leaf: &RawLeaf, part: u32, key: Key, start: Start) -> Option<Entry>
+    ensures found { result ≡ first_from start leaf.now part key }
+    ensures rising { IsRising leaf.now }
+{
+    entry_at(leaf, start_in_leaf(leaf, part, key, start))
+}
+
+// Appends the next entries of the partition of a leaf, as many as the batch has room for.
+fn read_on_in_leaf(leaf: &RawLeaf, part: u32, key: Key, batch: &mut Batch)
+    ensures read { batch.new ≡ take 8 (batch.old ++ all_after leaf.now part key) }
+    ensures rising { IsRising leaf.now }
+{
+    prove!(batch.entries().len() <= 8);
+    for at in start_in_leaf(leaf, part, key, Start::Above)..leaf.len() {
+        if batch.is_full() {
+            return;
+        }
+        let entry = leaf.get(at);
+        if entry.part != part {
+            return;
+        }
+        batch.push(entry);
+    }
+}

@@ -1,0 +1,38 @@
+//! Writing over an entry.
+
+ghost use Rattle.std.specs.Prelude.{◌≡◌, IsSome};
+ghost use Rattle.am_list.specs.Entries.{find, set_entry, IsRising};
+
+use crate::node::{Node, Subtree};
+use crate::separator::child_for;
+use am_leaf::RawLeaf;
+use am_record::{Key, Value};
+
+impl Subtree {
+    /// Writes over the value and the mark of the entry of a present place.
+    pub(crate) fn set(&mut self, part: u32, key: Key, value: Value, is_ghost: bool)
+        requires { IsSome (find self.old.entries part key) }
+        ensures entries { self.new.entries ≡ set_entry self.old.entries part key value is_ghost }
+        ensures depth { self.new.depth ≡ self.old.depth }
+    {
+        match &mut self.node {
+            Node::Leaf(leaf) => set_in_leaf(leaf, part, key, value, is_ghost),
+            Node::Inner(separators, children) => {
+                let at = child_for(separators, part, key);
+                children[at].set(part, key, value, is_ghost);
+            }
+        }
+    }
+}
+
+// Writes over the entry of a present place of a leaf.
+fn set_in_leaf(leaf: &mut RawLeaf, part: u32, key: Key, value: Value, is_ghost: bool)
+    requires { IsSome (find leaf.old part key) }
+    ensures entries { leaf.new ≡ set_entry leaf.old part key value is_ghost }
+    ensures rising { IsRising leaf.new }
+{
+    let Ok(at) = leaf.find(part, key) else {
+        unreachable!()
+    };
+    leaf.set_at(at, value, is_ghost);
+}

@@ -1,0 +1,191 @@
+ghost use Rattle.std.specs.Prelude.{◌<◌};
+
+use crate::BTree;
+use crate::node::{Node, Subtree};
+use am_list::{Batch, ListIndex, PartIndex};
+use am_record::{Entry, Key, NoMemory, Value};
+use std::test::Fail;
+
+fn numbered(part: u32, number: u64) -> Entry {
+    Entry {
+        part,
+        key: Key::of_u64(number),
+        value: Value::new(&number.to_be_bytes()).unwrap(),
+        is_ghost: number % 3 == 0,
+    }
+}
+
+// Adds the entry, unless its place is taken.
+fn add<I: PartIndex>(index: &mut I, entry: Entry) -> Result<(), NoMemory> {
+    if index.find(entry.part, entry.key).is_none() {
+        index.insert(entry)?;
+    }
+    Ok(())
+}
+
+// Takes the entry of the place out, where one stands there.
+fn take<I: PartIndex>(index: &mut I, part: u32, key: Key) -> Option<Entry> {
+    if index.find(part, key).is_none() {
+        return None;
+    }
+    Some(index.remove(part, key))
+}
+
+// Whether both indexes give the same walks over the partition, of at most so many entries.
+fn same_walks<A: PartIndex, B: PartIndex>(a: &A, b: &B, part: u32, most: usize) -> bool {
+    let mut at = Key::least();
+    for _ in 0..most {
+        if a.next_from(part, at) != b.next_from(part, at) {
+            return false;
+        }
+        let next = a.after(part, at);
+        if next != b.after(part, at) {
+            return false;
+        }
+        match next {
+            Some(entry) => at = entry.key,
+            None => return true,
+        }
+    }
+    false
+}
+
+// Whether both indexes read the same batch.
+fn same_batch<A: PartIndex, B: PartIndex>(a: &A, b: &B, part: u32, key: Key) -> bool {
+    let mut batch = Batch::new();
+    a.read_on(part, key, &mut batch);
+    let mut other = Batch::new();
+    b.read_on(part, key, &mut other);
+    batch.entries() == other.entries()
+}
+
+// How many leaves there are.
+fn leaves(tree: &Subtree) -> usize {
+    match &tree.node {
+        Node::Leaf(_) => 1,
+        Node::Inner(_, children) => {
+            let mut count = 0_usize;
+            for child in children {
+                count = count.saturating_add(leaves(child));
+            }
+            count
+        }
+    }
+}
+
+// The numbers up to 10,006, each once and out of order.
+fn scattered(i: u64) -> u64
+    requires { i < 10007 }
+{
+    (7919 * i) % 10_007
+}
+
+// Gives both indexes the same inserts. Whether their walks are the same after each thousandth call,
+// and after the last.
+fn insert_all<A: PartIndex, B: PartIndex>(a: &mut A, b: &mut B) -> Result<bool, NoMemory> {
+    for i in 0..10_007_u64 {
+        let number = scattered(i);
+        add(a, numbered(0, number))?;
+        add(b, numbered(0, number))?;
+        if (i + 1) % 1000 == 0 && !same_walks(a, b, 0, 10_008) {
+            return Ok(false);
+        }
+    }
+    Ok(same_walks(a, b, 0, 10_008))
+}
+
+// The same with removals, which are to answer alike.
+fn remove_all<A: PartIndex, B: PartIndex>(a: &mut A, b: &mut B) -> bool {
+    for i in 0..10_007_u64 {
+        let key = Key::of_u64(scattered(i));
+        if take(a, 0, key) != take(b, 0, key) {
+            return false;
+        }
+        if (10_008 + i) % 1000 == 0 && !same_walks(a, b, 0, 10_008) {
+            return false;
+        }
+    }
+    same_walks(a, b, 0, 1)
+}
+
+#[test]
+fn inserts_and_removals_beside_a_list(rt: HostRuntime) -> Result<(), Fail> {
+    let mut tree = BTree::new(rt.alloc())?;
+    let mut list = ListIndex::new(rt.alloc());
+    assert!(rt; insert_all(&mut tree, &mut list)?);
+    assert!(rt; remove_all(&mut tree, &mut list));
+    assert!(rt; tree.next_any(0, Key::least()).is_none());
+    assert!(rt; list.next_any(0, Key::least()).is_none());
+    add(&mut tree, numbered(0, 5))?;
+    add(&mut list, numbered(0, 5))?;
+    assert!(rt; tree.next_any(0, Key::least()) == Some(numbered(0, 5)));
+    assert!(rt; same_walks(&tree, &list, 0, 2));
+    Ok(())
+}
+
+#[test]
+fn reads_on_past_the_end_of_a_leaf(rt: HostRuntime) -> Result<(), Fail> {
+    let mut tree = BTree::new(rt.alloc())?;
+    let mut list = ListIndex::new(rt.alloc());
+    for number in 0..200_u64 {
+        let part = if number < 90 { 1 } else { 2 };
+        add(&mut tree, numbered(part, number))?;
+        add(&mut list, numbered(part, number))?;
+    }
+    for number in 0..200_u64 {
+        assert!(rt; same_batch(&tree, &list, 1, Key::of_u64(number)));
+        assert!(rt; same_batch(&tree, &list, 2, Key::of_u64(number)));
+    }
+    assert!(rt; same_batch(&tree, &list, 3, Key::least()));
+    Ok(())
+}
+
+#[test]
+fn all_leaves_stand_at_one_depth(rt: HostRuntime) -> Result<(), Fail> {
+    let mut tree = BTree::new(rt.alloc())?;
+    assert!(rt; tree.depth() == 0);
+    for number in 0..3200_u64 {
+        add(&mut tree, numbered(0, 3200 - number))?;
+    }
+    assert!(rt; tree.depth() == 2);
+    for number in 0..3200_u64 {
+        assert!(rt; tree.depth_at(0, Key::of_u64(number)) == 2);
+    }
+    for number in 0..3200_u64 {
+        take(&mut tree, 0, Key::of_u64(3200 - number));
+    }
+    assert!(rt; tree.depth() == 0);
+    Ok(())
+}
+
+#[test]
+fn a_loaded_run_fills_its_leaves(rt: HostRuntime) -> Result<(), Fail> {
+    let mut tree = Subtree::new(rt.alloc())?;
+    for number in 0..3200_u64 {
+        let entry = numbered(1, number);
+        if tree.find(entry.part, entry.key).is_none() {
+            tree.insert(rt.alloc(), entry)?;
+        }
+    }
+    assert!(rt; leaves(&tree) == 100);
+    Ok(())
+}
+
+#[test]
+fn refused_insert_changes_nothing(rt: HostRuntime) -> Result<(), Fail> {
+    let Ok(mut tree) = BTree::new(rt.alloc()) else {
+        return Ok(());
+    };
+    let mut list = ListIndex::new(rt.alloc());
+    for number in 0..40_u64 {
+        if add(&mut tree, numbered(0, 40 - number)).is_err() {
+            assert!(rt; same_walks(&tree, &list, 0, 41));
+            add(&mut tree, numbered(0, 40 - number))?;
+        }
+        if add(&mut list, numbered(0, 40 - number)).is_err() {
+            add(&mut list, numbered(0, 40 - number))?;
+        }
+        assert!(rt; same_walks(&tree, &list, 0, 41));
+    }
+    Ok(())
+}

@@ -1,0 +1,58 @@
+//! The program `am_calls`: makes worked calls of the libraries, one after another, and prints a line for each. A call that is
+//! refused memory has to leave everything as it was, and is made again: so with any one allocation refused the program
+//! prints the same.
+#![tactic(auto)]
+
+mod acts;
+mod call;
+mod cutting;
+mod fault;
+mod filling;
+mod holding;
+mod locking;
+mod mapping;
+mod merging;
+mod numbers;
+mod reading;
+mod sessions;
+mod stage;
+mod tracing;
+mod undoing;
+
+use call::{CALLS, Call};
+use fault::Fault;
+use std::alloc::Global;
+use std::process::ExitCode;
+
+// Makes the call. Where memory is refused while it is prepared, it is prepared anew, once.
+fn attempt(alloc: Global, call: Call) -> Result<(), Fault> {
+    match call.make(alloc) {
+        Err(Fault::NoMemory) => call.make(alloc),
+        outcome => outcome,
+    }
+}
+
+fn word(outcome: Result<(), Fault>) -> &'static str {
+    match outcome {
+        Ok(()) => "ok",
+        Err(Fault::NoMemory) => "no memory",
+        Err(Fault::Changed) => "changed",
+        Err(Fault::Differs) => "differs",
+        Err(Fault::Refused) => "refused",
+    }
+}
+
+fn main(rt: HostRuntime) -> ExitCode {
+    for call in CALLS {
+        let outcome = attempt(rt.alloc(), call);
+        if println!(rt; "{} {}", call.name(), word(outcome)).is_err() {
+            return ExitCode::from(1);
+        }
+        match outcome {
+            Ok(()) => {}
+            Err(Fault::NoMemory) => return ExitCode::from(5),
+            Err(Fault::Changed | Fault::Differs | Fault::Refused) => return ExitCode::from(1),
+        }
+    }
+    ExitCode::SUCCESS
+}

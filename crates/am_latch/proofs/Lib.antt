@@ -1,0 +1,11 @@
+pub mod Calling
+pub mod Holding
+pub mod Keeping
+pub mod Opens
+pub mod Places
+pub mod Replies
+pub mod Rooms
+pub mod Rules
+pub mod Seats
+pub mod Storing
+pub mod Tying

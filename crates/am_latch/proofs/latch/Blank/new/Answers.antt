@@ -1,0 +1,5 @@
+use Rattle.am_latch.proofs.Rules.{starts}
+use Rattle.am_latch.proofs.latch.Blank.new.Goals as goal
+
+pub of_words-requires : goal.of_words-requires
+of_words-requires c = starts

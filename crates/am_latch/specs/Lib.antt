@@ -1,0 +1,7 @@
+pub mod Book
+pub mod Changes
+pub mod Faults
+pub mod Receipts
+pub mod Tables
+pub mod Ties
+pub mod Traces

@@ -1,0 +1,67 @@
+-- The transaction of each seat, and how the seats' transactions are those that are active.
+use Rattle.std.specs.Prelude.{◌≡◌, ◌<◌, ◌≤◌, ℕ, List, [], ◌∷◌, true, Option, Some, None, slice_get}
+use Rattle.am_record.specs.declared.step.Step.{Step}
+use Rattle.am_record.specs.declared.step.Step.TheVariants.{Begin, Do, Commit, Abort, Merge, Clean}
+use Rattle.am_record.specs.declared.step.Reply.{Reply}
+use Rattle.am_latch.specs.declared.change.Change.TheVariants.{Ends}
+use Rattle.am_latch.specs.Changes.{change, end_of, opened, has, active}
+use Rattle.am_latch.specs.declared.receipt.Receipt.{Receipt}
+use Rattle.am_latch.specs.Traces.{Engined}
+use Rattle.am_latch.specs.Receipts.{Seated, receipts_of}
+
+abbrev pub open_from : Option ℕ → List Receipt → Option ℕ
+open_from o [] = o
+open_from o (r ∷ rs) = open_from (opened o (change r.step r.reply)) rs
+
+-- the open transaction of a seat with these receipts
+abbrev pub open_of : List Receipt → Option ℕ
+open_of rs = open_from None rs
+
+-- the steps that a seat with this open transaction may take
+abbrev pub MayTake : Option ℕ → Step → Type 0
+MayTake o Begin = o ≡ None
+MayTake o (Do t op) = o ≡ Some t
+MayTake o (Commit t) = o ≡ Some t
+MayTake o (Abort t) = o ≡ Some t
+MayTake o (Merge limit) = Unit {0}
+MayTake o (Clean range limit) = Unit {0}
+
+-- a Commit was answered Committed, an Abort Aborted
+abbrev pub Ended : Step → Reply → Type 0
+Ended st r = (t : ℕ) → end_of st ≡ Some t → change st r ≡ Ends t
+
+-- what is open in a seat is active, no two seats have one transaction, and each that is active is some seat's
+pub record AreTied (o : ℕ → Option ℕ) (ts : List ℕ) : Type 0 where
+  pub active : (k t : ℕ) → o k ≡ Some t → has t ts ≡ true
+  pub apart : (k l t : ℕ) → o k ≡ Some t → o l ≡ Some t → k ≡ l
+  pub owned : (t : ℕ) → has t ts ≡ true → (k : ℕ) × (o k ≡ Some t)
+
+abbrev pub open_in : Engined → ℕ → Option ℕ
+open_in e k = open_of (receipts_of k e)
+
+abbrev pub Tied : Engined → Type 0
+Tied e = AreTied (open_in e) (active e.trace)
+
+-- what is open in the seats is what is active, each in one seat
+pub record OpenIs (seats : List Seated) (ts : List ℕ) : Type 0 where
+  pub active : (i t : ℕ) (s : Seated) → slice_get seats i ≡ Some s → open_of s.receipts ≡ Some t → has t ts ≡ true
+  pub apart : (i j t : ℕ) (s u : Seated) → slice_get seats i ≡ Some s → slice_get seats j ≡ Some u → open_of s.receipts ≡ Some t → open_of u.receipts ≡ Some t → i ≡ j
+  pub owned : (t : ℕ) → has t ts ≡ true → (i : ℕ) × (s : Seated) × (slice_get seats i ≡ Some s) × (open_of s.receipts ≡ Some t)
+
+-- how many receipts need room: that of the end of an open transaction too
+abbrev pub places_with : Option ℕ → ℕ
+places_with (Some t) = 2
+places_with None = 1
+
+abbrev pub places : Option ℕ → Step → ℕ
+places o Begin = 2
+places o (Commit t) = 1
+places o (Abort t) = 1
+places o (Do t op) = places_with o
+places o (Merge limit) = places_with o
+places o (Clean range limit) = places_with o
+
+-- so many receipts, with room for one more while a transaction is open
+abbrev pub HasRoom : Option ℕ → ℕ → ℕ → Type 0
+HasRoom None len cap = len ≤ 1000001
+HasRoom (Some t) len cap = (len < cap) × (len ≤ 1000000)

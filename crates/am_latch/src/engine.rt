@@ -1,0 +1,208 @@
+//! The store with its trace.
+
+ghost use Rattle.std.specs.Prelude.{◌≡◌, ◌≢◌, ◌≤◌, ◌+◌, ◌<◌, ◌^◌, ℕ, IfOk, IfSome, IsSome, None, length, true, false, if◌then◌else◌, vec_len, vec_capacity};
+ghost use Rattle.am_record.specs.declared.step.Reply.TheVariants.{Refused};
+ghost use Rattle.am_record.specs.declared.step.Refusal.TheVariants.{SeatFull};
+ghost use Rattle.am_serial.specs.Trace.{Trace};
+ghost use Rattle.am_core.specs.Standing.{StandsAt};
+ghost use Rattle.am_sound.specs.Right.{IsSoundStore};
+ghost use Rattle.am_latch.specs.Changes.{active, end_of, is_begin, is_refused, is_stored, room_of, HasTrace, Goes, Answers, Bounded};
+ghost use Rattle.am_latch.specs.Traces.{Engined, fresh, Stepped, ends_after};
+
+use crate::change::{Change, change_by, starts_tx, tx_to_end, was_refused, was_stored};
+use crate::receipt::Maker;
+use crate::room::{Room, copy_reply, copy_step, rows_of};
+use am_core::Store;
+use am_list::ListIndex;
+use am_record::{NoMemory, Refusal, Reply, Step};
+use std::alloc::Global;
+use std::marker::Model;
+
+/// The index over which the store of an engine stands.
+pub type Index = ListIndex;
+
+/// A store and its stored trace, with room in it for the end of each active transaction.
+#[derive(Drop)]
+pub struct Engine {
+    store: Store<Index>,
+    trace: Vec<(Step, Reply)>,
+    makers: Vec<Maker>,
+    /// For how many ends room is kept.
+    ends: usize,
+    alloc: Global,
+}
+
+impl Model for Engine {
+    ghost use Rattle.std.specs.Prelude.{◌≡◌, ◌≤◌, ◌+◌, length, vec_len, vec_capacity};
+    ghost use Rattle.am_latch.specs.Changes.{active, HasTrace};
+    ghost use Rattle.am_latch.specs.Traces.{engined_code, Engined};
+
+    ghost Value = { Engined };
+
+    ghost coded = { engined_code };
+
+    ghost view = { λ e. record { trace = e.trace.items; makers = e.makers.items } };
+
+    ghost invariant = { λ e. HasTrace e.trace.items e.store × (vec_len e.makers ≡ vec_len e.trace) × (length (active e.trace.items) ≤ e.ends) × (vec_len e.trace + e.ends ≤ vec_capacity e.trace) × (vec_len e.makers + e.ends ≤ vec_capacity e.makers) };
+}
+
+impl Engine {
+    /// An engine over an empty store, with an empty trace.
+    ///
+    /// # Errors
+    /// NoMemory, where memory was refused for the store.
+    pub fn open(alloc: Global) -> Result<Engine, NoMemory>
+        ensures { IfOk result (λ e. e ≡ fresh) }
+    {
+        am_steps::steps_lift();
+        let store = Store::open(alloc, Index::new(alloc))?;
+        Ok(Engine {
+            store,
+            trace: Vec::new(alloc),
+            makers: Vec::new(alloc),
+            ends: 0,
+            alloc,
+        })
+    }
+
+    /// Takes a step and stores it, with its reply and its maker; or answers NoMemory, and nothing
+    /// changes. The end of an active transaction is never refused: its room is kept from its begin on.
+    pub fn step(&mut self, maker: Maker, step: Step) -> Reply
+        ensures stepped { Stepped self.old maker step result self.new }
+        ensures never_full { result ≢ Refused SeatFull }
+        ensures answers { Answers (active self.old.trace) step result }
+        ensures bounded { Bounded step result }
+    {
+        let more = pairs_for(&step);
+        let has_room = get_room(&mut self.trace, &mut self.makers, self.ends, more);
+        if !may_go_on(has_room, &step) {
+            return Reply::Refused(Refusal::NoMemory);
+        }
+        let Some((copy, rows)) = copies_for(self.alloc, &step) else {
+            return Reply::Refused(Refusal::NoMemory);
+        };
+        let reply = take_step(&mut self.store, step);
+        if !is_kept(has_room, &reply) {
+            return Reply::Refused(Refusal::NoMemory);
+        }
+        self.ends = count_ends(self.ends, change_by(&copy, &reply));
+        self.trace.push_reserved((copy, copy_reply(&reply, rows)));
+        self.makers.push_reserved(maker);
+        reply
+    }
+
+    /// The stored calls: each step with its reply. The trace is sound.
+    pub fn trace(&self) -> &[(Step, Reply)]
+        ensures trace { result.now ≡ self.now.trace }
+        ensures sound { IsSoundStore result.now }
+    {
+        self.trace.as_slice()
+    }
+
+    /// Whose call each pair of the trace is.
+    pub fn makers(&self) -> &[Maker]
+        ensures makers { result.now ≡ self.now.makers }
+        ensures each { length result.now ≡ length self.now.trace }
+    {
+        self.makers.as_slice()
+    }
+
+    /// The store, which is where the stored trace leaves it.
+    pub fn store(&self) -> &Store<Index>
+        ensures { StandsAt self.now.trace result.now }
+    {
+        &self.store
+    }
+}
+
+impl Engine {
+    /// The trace, and the store that it leaves.
+    pub(crate) fn into_parts(self) -> (Vec<(Step, Reply)>, Store<Index>)
+        ensures trace { result.0.items ≡ self.trace }
+        ensures stands { StandsAt self.trace result.1 }
+        ensures even { length self.makers ≡ length self.trace }
+    {
+        (self.trace, self.store)
+    }
+}
+
+// Takes a step of the store, wherever it stands.
+fn take_step(store: &mut Store<Index>, step: Step) -> Reply
+    ensures goes { (trace : Trace) → HasTrace trace store.old → Goes trace step result store.new }
+    ensures bounded { (trace : Trace) → HasTrace trace store.old → Bounded step result }
+{
+    am_steps::steps_lift();
+    store.step(step)
+}
+
+// How many pairs need room: a Begin's end needs it too.
+fn pairs_for(step: &Step) -> usize
+    ensures { result ≡ (if is_begin step.now then 2 else 1) }
+{
+    if starts_tx(step) { 2 } else { 1 }
+}
+
+// The end of an active transaction has its room.
+fn may_go_on(has_room: bool, step: &Step) -> bool
+    ensures yes { result ≡ true → has_room ≡ false → IsSome (end_of step.now) }
+    ensures no { result ≡ false → end_of step.now ≡ None }
+{
+    has_room || tx_to_end(step).is_some()
+}
+
+// Whether the store took a step for which there is room.
+fn is_kept(has_room: bool, reply: &Reply) -> bool
+    ensures stored { result ≡ true → is_stored reply.now ≡ true }
+    ensures real { result ≡ true → has_room ≡ false → is_refused reply.now ≡ false }
+    ensures no { result ≡ false → is_refused reply.now ≡ true }
+{
+    if was_refused(reply) {
+        has_room && was_stored(reply)
+    } else {
+        true
+    }
+}
+
+/// A copy of the step, and room for a copy of its reply's rows.
+pub(crate) fn copies_for(alloc: Global, step: &Step) -> Option<(Step, Room)>
+    ensures copies { IfSome result (λ r. (r.0 ≡ step.now) × (r.1 ≡ room_of step.now)) }
+    ensures ends { IsSome (end_of step.now) → IsSome result }
+{
+    let Ok(rows) = Room::new(alloc, rows_of(step)) else {
+        return None;
+    };
+    let Ok(copy) = copy_step(alloc, step) else {
+        return None;
+    };
+    Some((copy, rows))
+}
+
+// Room for so many more than the ends that it is kept for.
+fn get_room(
+    trace: &mut Vec<(Step, Reply)>,
+    makers: &mut Vec<Maker>,
+    ends: usize,
+    more: usize,
+) -> bool
+    ensures same { (trace.new.items ≡ trace.old.items) × (makers.new.items ≡ makers.old.items) }
+    ensures long { (vec_len trace.new ≡ vec_len trace.old) × (vec_len makers.new ≡ vec_len makers.old) }
+    ensures kept { (vec_capacity trace.old ≤ vec_capacity trace.new) × (vec_capacity makers.old ≤ vec_capacity makers.new) }
+    ensures got { result ≡ true → (ends + more < 2 ^ 64) × (vec_len trace.new + (ends + more) ≤ vec_capacity trace.new) × (vec_len makers.new + (ends + more) ≤ vec_capacity makers.new) }
+{
+    let Some(wanted) = ends.checked_add(more) else {
+        return false;
+    };
+    trace.reserve(wanted).is_ok() && makers.reserve(wanted).is_ok()
+}
+
+// For how many ends room is kept after that.
+fn count_ends(ends: usize, change: Change) -> usize
+    requires { (t : ℕ) → change ≡ Change.Begins t → ends + 1 < 2 ^ 64 }
+    ensures { result ≡ ends_after ends change }
+{
+    match change {
+        Change::Begins(_) => ends + 1,
+        Change::Ends(_) => ends.saturating_sub(1),
+        Change::Nothing => ends,
+    }
+}

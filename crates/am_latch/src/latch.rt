@@ -1,0 +1,133 @@
+//! The latch, round the engine.
+ghost use Rattle.std.specs.Prelude.{◌≡◌, ◌↔◌, ◌⊎◌, ◌<◌, ◌≤◌, IfOk, IfErr};
+ghost use Rattle.am_latch.specs.Receipts.{numbered};
+ghost use Rattle.am_latch.specs.Faults.{IsBadSeats};
+
+use crate::book::{Board, Token};
+use crate::engine::Engine;
+use crate::entering::{deal, settle};
+use crate::held::Held;
+use crate::naming::Naming;
+use crate::seat::Seat;
+use std::alloc::Global;
+use std::marker::{Model, PhantomData};
+use std::sync::{Mutex, Wait};
+use thiserror::Error;
+
+/// Why there is no latch.
+#[derive(Clone, Copy, Debug, PartialEq, Eq, Error)]
+pub enum LatchFault {
+    /// A latch has 1 to 1,024 seats.
+    #[error("the number of seats is out of its range")]
+    BadSeats,
+    /// Memory was refused.
+    #[error("no memory")]
+    NoMemory,
+}
+
+/// A new latch, which no type stands for yet. A function generic over its name opens it and does the work.
+#[derive(Drop)]
+pub struct Blank {
+    seats: u64,
+    board: Board,
+    book: Token,
+    alloc: Global,
+}
+
+impl Model for Blank {
+    ghost use Rattle.std.specs.Prelude.{◌≡◌, ◌<◌, []};
+    ghost use Rattle.am_latch.specs.Tables.{Named};
+    ghost use Rattle.am_latch.specs.Book.{dealer};
+
+    ghost Value = { Named };
+
+    ghost view = { λ b. record { table = b.board.shared.table_id; seats = b.seats } };
+
+    ghost invariant = { λ b. (0 < b.seats) × (b.seats < 1025) × (0 < b.board.shared.table_id.words) × (b.book.table_id ≡ b.board.shared.table_id) × (b.book.me ≡ (dealer 0, [])) };
+}
+
+impl Blank {
+    /// A blank for so many seats.
+    ///
+    /// # Errors
+    /// BadSeats, unless 1 to 1,024 seats are asked for; NoMemory, where memory was refused.
+    pub fn new(alloc: Global, seats: u64) -> Result<Blank, LatchFault>
+        ensures ok { IfOk result (λ b. (b.seats ≡ seats) × (0 < seats) × (seats ≤ 1024)) }
+        ensures bad { IfErr result (λ e. IsBadSeats e ↔ ((seats ≡ 0) ⊎ (1024 < seats))) }
+    {
+        if seats == 0 || seats > 1024 {
+            return Err(LatchFault::BadSeats);
+        }
+        let Ok((board, book)) = Board::of_words(alloc, &[0], &()) else {
+            return Err(LatchFault::NoMemory);
+        };
+        Ok(Blank {
+            seats,
+            board,
+            book,
+            alloc,
+        })
+    }
+}
+
+/// An engine that one thread at a time may step. Its seats are those of its type parameter.
+#[derive(Drop)]
+pub struct Latch<L: Naming> {
+    pub(crate) held: Mutex<Held<L>>,
+    pub(crate) board: Board,
+    pub(crate) seats: u64,
+    pub(crate) of: PhantomData<L>,
+    ghost all: { seats ≡ L.seats },
+    ghost named: { (board.shared.table_id ≡ L.table) × (0 < board.shared.table_id.words) },
+}
+
+impl<L: Naming> Latch<L> {
+    /// The latch over an empty store, and its seats by number, with no receipts.
+    ///
+    /// # Errors
+    /// NoMemory, where memory was refused. The blank is spent.
+    pub fn open(blank: Blank) -> Result<(Latch<L>, Vec<Seat<L>>), LatchFault>
+        requires { (blank.seats ≡ L.seats) × (blank.table ≡ L.table) }
+        ensures seats { IfOk result (λ r. r.1.items ≡ numbered L.seats) }
+        ensures fault { IfErr result (λ e. ¬ (IsBadSeats e)) }
+    {
+        let Blank {
+            seats: count,
+            board,
+            mut book,
+            alloc,
+        } = blank;
+        let Ok(engine) = Engine::open(alloc) else {
+            return Err(LatchFault::NoMemory);
+        };
+        let mut seats = Vec::new(alloc);
+        if seats.reserve(count as usize).is_err() {
+            return Err(LatchFault::NoMemory);
+        }
+        for number in 0..count {
+            let token = deal(&board, &mut book, number);
+            if seats.push(Seat::new(alloc, number, token)).is_err() {
+                return Err(LatchFault::NoMemory);
+            }
+        }
+        settle(&board, &mut book, count);
+        let held = Held::new(engine, book);
+        Ok((
+            Latch {
+                held: Mutex::new(held),
+                board,
+                seats: count,
+                of: PhantomData,
+            },
+            seats,
+        ))
+    }
+
+    /// Lends the engine to the closure, which has the latch to itself meanwhile.
+    pub fn look<T, R: Wait, F: FnOnce(&Engine) -> T>(&self, rt: &R, f: F) -> T
+        requires { F.IsAlwaysCallable f }
+    {
+        let held = self.held.lock(rt);
+        f(&held.engine)
+    }
+}

@@ -1,0 +1,33 @@
+//! A store under one latch, whose calls stand in one trace, and seats that keep a receipt for each call.
+//!
+//! - [`Engine`]: a store with the trace of its calls, each with its [`Maker`].
+//! - [`Blank`], [`Latch`]: the engine under a lock, and its seats.
+//! - [`Seat`]: calls through the latch, with a [`Receipt`] for each; [`CommitReceipt`] says that a commit stands.
+//! - [`close`]: when the threads have ended, receipts and trace are the same.
+//!
+//! A rule over views ties the receipts to the trace, so that what is open in a seat is one of the
+//! store's active transactions, and its end always finds its room.
+#![tactic(auto)]
+
+mod book;
+mod change;
+mod closing;
+mod engine;
+mod entering;
+mod held;
+mod latch;
+mod naming;
+mod receipt;
+mod room;
+mod seat;
+
+pub use change::{was_refused, was_stored};
+pub use closing::{Closed, Missing, close};
+pub use engine::{Engine, Index};
+pub use latch::{Blank, Latch, LatchFault};
+pub use naming::Naming;
+pub use receipt::{CommitReceipt, Maker, Receipt};
+pub use seat::Seat;
+
+#[cfg(test)]
+mod tests;

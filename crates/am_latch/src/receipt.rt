@@ -1,0 +1,47 @@
+//! What a seat keeps of a call.
+
+ghost use Rattle.std.specs.Prelude.{◌≡◌};
+
+use am_record::{Reply, Step};
+use std::marker::Model;
+
+/// One call of a seat: the step and its reply, and where the pair stands in the trace.
+#[derive(Drop)]
+pub struct Receipt {
+    pub seat: u64,
+    /// The calls of a seat are numbered from 0.
+    pub call: u64,
+    pub step: Step,
+    pub reply: Reply,
+    pub place: u64,
+}
+
+/// Whose call a pair of the trace is.
+#[derive(Clone, Copy, Debug, PartialEq, Eq)]
+pub struct Maker {
+    pub seat: u64,
+    pub call: u64,
+}
+
+/// Says that a commit stands in the trace. Contracts see it as the commit's number.
+#[derive(Drop)]
+pub struct CommitReceipt {
+    pub(crate) commit: u64,
+}
+
+impl Model for CommitReceipt {
+    ghost use Rattle.std.specs.Prelude.{ℕ};
+
+    ghost Value = { ℕ };
+
+    ghost view = { λ r. r.commit };
+}
+
+impl CommitReceipt {
+    /// The number of the commit.
+    pub fn commit(&self) -> u64
+        ensures { result ≡ self.now }
+    {
+        self.commit
+    }
+}

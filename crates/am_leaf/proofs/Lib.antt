@@ -1,0 +1,5 @@
+pub mod Leaves
+pub mod MarkLemmas
+pub mod Rising
+pub mod Rows
+pub mod Zips

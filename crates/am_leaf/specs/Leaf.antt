@@ -1,0 +1,24 @@
+-- What a leaf is seen as, and what holds of it.
+use Rattle.std.specs.Prelude.{ℕ, ◌/◌, ◌^◌, ◌<◌, List, [], ◌∷◌}
+use Rattle.am_record.specs.declared.entry.Entry.{Entry}
+use Rattle.am_record.specs.EntryOrder.{Place}
+use Rattle.am_list.specs.Entries.{IsRising}
+use Rattle.am_leaf.specs.declared.leaf.RawLeaf.TheInside.{Inside}
+use Rattle.am_leaf.specs.Blocks.{first_values, HasFirst}
+use Rattle.am_leaf.specs.Marks.{mark}
+
+-- places, values and marks, one by one
+abbrev pub entries_of : List Place → List (List ℕ) → ℕ → List Entry
+entries_of [] vs m = []
+entries_of (p ∷ ps) [] m = []
+entries_of (p ∷ ps) (v ∷ vs) m = record { part = p.0; key = p.1; value = v; is_ghost = mark m 0 } ∷ entries_of ps vs (m / 2)
+
+abbrev pub entries : Inside → List Entry
+entries a = entries_of (first_values a.places.slots a.len) (first_values a.values.slots a.len) a.marks
+
+-- as many places as values stand at the front of the two blocks, a mark stands only at these, and the entries rise
+pub record IsLeaf (a : Inside) : Type 0 where
+  pub places : HasFirst a.places.slots a.len
+  pub values : HasFirst a.values.slots a.len
+  pub marks : a.marks < 2 ^ a.len
+  pub rising : IsRising (entries a)

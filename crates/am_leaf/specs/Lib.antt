@@ -1,0 +1,4 @@
+pub mod Blocks
+pub mod Changes
+pub mod Leaf
+pub mod Marks

@@ -1,0 +1,175 @@
+//! A leaf: at most 32 entries over raw memory.
+
+ghost use Rattle.std.specs.Prelude.{◌≡◌, ◌<◌, ◌≤◌, [], length, take, drop, IfOk, IfErr, slice_index_or};
+ghost use Rattle.std.specs.List.{insert, remove};
+ghost use Rattle.am_record.specs.EntryOrder.{place_cmp, place_of};
+ghost use Rattle.am_record.specs.declared.entry.Entry.{Entry};
+ghost use Rattle.am_list.specs.Entries.{IsRising};
+ghost use Rattle.am_list.specs.Places.{IsPlaceOf, IsGapFor};
+ghost use Rattle.am_leaf.specs.Changes.{set_at};
+
+use crate::block::Block;
+use crate::marks::{change_mark, insert_mark, mark_at, remove_mark, split_marks};
+use am_record::{Entry, Key, NoMemory, Value};
+use std::alloc::Global;
+use std::cmp::Ordering;
+use std::marker::Model;
+
+/// A leaf of a B-tree: at most 32 entries that rise by partition and then by key. The places of
+/// the entries lie side by side, apart from their values, so that a search reads no value. The
+/// marks of the ghosts are the bits of one word.
+#[derive(Drop)]
+pub struct RawLeaf {
+    places: Block<(u32, Key)>,
+    values: Block<Value>,
+    len: usize,
+    marks: u32,
+}
+
+impl Model for RawLeaf {
+    ghost use Rattle.std.specs.Prelude.{List};
+    ghost use Rattle.am_record.specs.declared.entry.Entry.{Entry};
+    ghost use Rattle.am_list.specs.EntryCode.{entries_code};
+    ghost use Rattle.am_leaf.specs.Leaf.{entries, IsLeaf};
+
+    ghost Value = { List Entry };
+
+    ghost coded = { entries_code };
+
+    ghost view = { entries };
+
+    ghost invariant = { IsLeaf };
+}
+
+impl RawLeaf {
+    /// A leaf with no entries, and all the memory that it will ever have.
+    ///
+    /// # Errors
+    /// NoMemory, where memory was refused.
+    pub fn new(alloc: Global) -> Result<RawLeaf, NoMemory>
+        ensures { IfOk result (λ leaf. leaf ≡ []) }
+    {
+        let Some(value) = Value::new(&[]) else {
+            unreachable!()
+        };
+        Ok(RawLeaf {
+            places: Block::new(alloc, (0, Key::least()))?,
+            values: Block::new(alloc, value)?,
+            len: 0,
+            marks: 0,
+        })
+    }
+
+    /// How many entries it holds.
+    pub fn len(&self) -> usize
+        ensures all { result ≡ length self.now }
+        ensures most { result ≤ 32 }
+        ensures rising { IsRising self.now }
+    {
+        self.len
+    }
+
+    /// The entry at the index.
+    #[tactic(auto, using(crate::proofs::Leaves::counted))]
+    pub fn get(&self, at: usize) -> Entry
+        requires { at < length self.now }
+        ensures { result ≡ slice_index_or self.now at result }
+    {
+        let (part, key) = *self.places.get(self.len, at);
+        Entry {
+            part,
+            key,
+            value: *self.values.get(self.len, at),
+            is_ghost: mark_at(self.marks, at),
+        }
+    }
+
+    // Where the entry at the index stands against a place. Its value is not read.
+    #[tactic(auto, using(crate::proofs::Leaves::counted))]
+    fn cmp_at(&self, at: usize, part: u32, key: Key) -> Ordering
+        requires { at < length self.now }
+        ensures { (d : Entry) → result ≡ place_cmp (place_of (slice_index_or self.now at d)) (part, key) }
+    {
+        let place = self.places.get(self.len, at);
+        place.0.cmp(&part).then(place.1.cmp(&key))
+    }
+
+    /// The index of the entry of a partition and key, or else, as an error, the index where it
+    /// would stand: the number of entries below.
+    pub fn find(&self, part: u32, key: Key) -> Result<usize, usize>
+        ensures found { IfOk result (IsPlaceOf self.now part key) }
+        ensures absent { IfErr result (IsGapFor self.now part key) }
+        ensures rising { IsRising self.now }
+    {
+        let mut low = 0;
+        let mut high = self.len();
+        while low < high {
+            let middle = low + (high - low) / 2;
+            match self.cmp_at(middle, part, key) {
+                Ordering::Less => low = middle + 1,
+                Ordering::Equal => return Ok(middle),
+                Ordering::Greater => high = middle,
+            }
+        }
+        Err(low)
+    }
+
+    /// Inserts an entry at the index; those from there on move up by one. The caller sees to it
+    /// that there is room, and that the entry's place goes there.
+    #[tactic(auto, using(crate::proofs::Leaves::counted, crate::proofs::Leaves::room_in_marks))]
+    pub fn insert_at(&mut self, at: usize, entry: Entry)
+        requires room { length self.old < 32 }
+        requires place { IsGapFor self.old entry.part entry.key at }
+        ensures { self.new ≡ insert self.old at entry }
+    {
+        self.places.insert(self.len, at, (entry.part, entry.key));
+        self.values.insert(self.len, at, entry.value);
+        self.marks = insert_mark(self.marks, at, entry.is_ghost);
+        self.len += 1;
+    }
+
+    /// Writes over the value and the mark of the entry at the index.
+    #[tactic(auto, using(crate::proofs::Leaves::counted))]
+    pub fn set_at(&mut self, at: usize, value: Value, is_ghost: bool)
+        requires { at < length self.old }
+        ensures { self.new ≡ set_at self.old at value is_ghost }
+    {
+        self.values.set(self.len, at, value);
+        self.marks = change_mark(self.marks, at, is_ghost);
+    }
+
+    /// Takes the entry at the index out; those above it move down by one.
+    #[tactic(auto, using(crate::proofs::Leaves::counted))]
+    pub fn remove_at(&mut self, at: usize) -> Entry
+        requires { at < length self.old }
+        ensures entry { result ≡ slice_index_or self.old at result }
+        ensures others { self.new ≡ remove self.old at }
+    {
+        let is_ghost = mark_at(self.marks, at);
+        let (part, key) = self.places.remove(self.len, at);
+        let value = self.values.remove(self.len, at);
+        self.marks = remove_mark(self.marks, at);
+        self.len -= 1;
+        Entry {
+            part,
+            key,
+            value,
+            is_ghost,
+        }
+    }
+
+    /// Moves the entries from the index on to another leaf, which is empty.
+    #[tactic(auto, using(crate::proofs::Leaves::counted))]
+    pub fn split_into(&mut self, other: &mut RawLeaf, at: usize)
+        requires in_range { at ≤ length self.old }
+        requires empty { other.old ≡ [] }
+        ensures front { self.new ≡ take at self.old }
+        ensures back { other.new ≡ drop at self.old }
+    {
+        self.places.split_into(self.len, &mut other.places, at);
+        self.values.split_into(self.len, &mut other.values, at);
+        (self.marks, other.marks) = split_marks(self.marks, at);
+        other.len = self.len - at;
+        self.len = at;
+    }
+}

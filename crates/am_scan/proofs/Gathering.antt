@@ -1,0 +1,168 @@
+-- Heads gathered from partition to partition.
+use Rattle.std.proofs.Common.{◌≡◌, ℕ, ◌+◌, ◌^◌, ◌<◌, ◌≤◌, List, [], ◌∷◌, Bool, true, false, ◌&&◌, ◌||◌, ◌==◌, Some, refl, sym, ap, ◌∙◌, subst, arith, ⊎_elim}
+use Rattle.std.proofs.lemmas.Bool.{and_parts, true≢false, cases_lt, cases_Bool, cond-false, eqb-true}
+use Rattle.std.proofs.lemmas.Bool.Decides.{nat_tests}
+use Rattle.std.proofs.lemmas.Option.{none-some}
+use Rattle.std.proofs.lemmas.List.Elements.{All-cons, All-nil, All-from_recursion, recursion_from_All}
+use Rattle.std.proofs.lemmas.List.Sorted.{All-permutation, list_any-IsPermutation}
+use Rattle.std.proofs.lemmas.Map.Keys.{IsDistinct-cons, IsDistinct-IsPermutation}
+use Rattle.std.specs.declared.cmp.Ordering.{Ordering}
+use Rattle.std.specs.declared.cmp.Ordering.TheVariants.{Less, Equal, Greater}
+use Rattle.std.specs.Ordering.{is_eq, is_le}
+use Rattle.std.specs.Option.{option_map}
+use Rattle.std.specs.List.{All, AllByRecursion, IsDistinct}
+use Rattle.std.specs.List.Sorted.{IsPermutation}
+use Rattle.std.specs.BinaryHeap.{IsHeap, KeepsHeap}
+use Rattle.am_record.specs.OrderedKey.{OrderedKey, key_cmp}
+use Rattle.am_record.specs.Interval.{Interval, key_le, within}
+use Rattle.am_record.specs.EntryOrder.{place_of, place_cmp, place_cmp-equal}
+use Rattle.am_record.specs.declared.entry.Entry.{Entry}
+use Rattle.am_list.specs.Entries.{Slot, slot_of, first_such, find}
+use Rattle.am_list.specs.Content.{IsLiveAt}
+use Rattle.am_parts.specs.Partitions.{IsSound}
+use Rattle.am_scan.specs.Looks.{AreEmptyFrom, IsFirstFrom, HasNoneLive}
+use Rattle.am_scan.specs.declared.head.Head.{Head}
+use Rattle.am_scan.specs.Heads.{head_cmp, IsHead, IsFirstHead}
+use Rattle.am_scan.specs.Cursors.{is_ahead_in, same_part, AreHeads, AreAllHeads}
+use Rattle.am_scan.proofs.Moving.{turned, none_live}
+
+pub or_true : (a b : Bool) → b ≡ true → (a || b) ≡ true
+or_true true b h = refl
+or_true false b h = h
+
+pub or_first : (a b : Bool) → a ≡ true → (a || b) ≡ true
+or_first true b h = refl
+or_first false b h = absurd (true≢false (sym h))
+
+pub both : (a b : Bool) → a ≡ true → b ≡ true → (a && b) ≡ true
+both true b g h = h
+both false b g h = g
+
+-- ---- numbers of partitions
+
+pub same_number : (x y : ℕ) → x ≡ y → (x == y) ≡ true
+same_number x y h = grind (arith, nat_tests)
+
+pub other_number : (x y : ℕ) → (x ≡ y → ⊥) → (x == y) ≡ false
+other_number x y h = ⊎_elim (λ yes. absurd (h (eqb-true x y yes))) (λ no. no) (cases_Bool (x == y))
+
+pub same_either_way : (g h : Head) → same_part g h ≡ same_part h g
+same_either_way g h =
+    ⊎_elim
+    (λ yes. yes ∙ sym (same_number h.entry.part g.entry.part (sym (eqb-true g.entry.part h.entry.part yes))))
+    (λ no. no ∙ sym (other_number h.entry.part g.entry.part (λ same. true≢false (sym (same_number g.entry.part h.entry.part (sym same)) ∙ no))))
+    (cases_Bool (g.entry.part == h.entry.part))
+
+-- what is live stands in a partition whose number is one
+pub live_fits : (es : List Entry) (part : ℕ) (key : OrderedKey) (s : Slot) → AllByRecursion (λ (e : Entry). e.part < 2 ^ 32) es → find es part key ≡ Some s → part < 2 ^ 32
+live_fits [] part key s fits there = absurd (none-some s there)
+live_fits (e ∷ es) part key s fits there =
+    ⊎_elim
+    (λ hit. let same = (place_cmp-equal (place_of e) (part, key) (tie (place_cmp (place_of e) (part, key)) hit)).0 in let low : e.part < 2 ^ 32 = fits.0 in omega (arith, same, low))
+    (λ miss. live_fits es part key s fits.1 (sym (ap (option_map slot_of) (cond-false (is_eq (place_cmp (place_of e) (part, key))) (Some e) (first_such (λ f. is_eq (place_cmp (place_of f) (part, key))) es) miss)) ∙ there))
+    (cases_Bool (is_eq (place_cmp (place_of e) (part, key))))
+  where
+    tie : (o : Ordering) → is_eq o ≡ true → o ≡ Equal
+    tie Less h = absurd (true≢false (sym h))
+    tie Equal h = refl
+    tie Greater h = absurd (true≢false (sym h))
+
+-- ---- gathering
+
+-- of the partitions below this one the heads have all that is live in the range before them
+pub record AreHeadsBelow (es : List Entry) (range : Interval) (to : ℕ) (heads : List Head) : Type 0 where
+  pub are_heads : AreHeads es range heads
+  pub below : All (λ (h : Head). h.entry.part < to) heads
+  pub before : (part : ℕ) (key : OrderedKey) (value : List ℕ) → part < to → IsLiveAt es part key value → within range key ≡ true → is_ahead_in heads part key ≡ true
+
+pub none_yet : (es : List Entry) (range : Interval) (heads : List Head) → heads ≡ [] → IsHeap head_cmp heads → AreHeadsBelow es range 0 heads
+unfolding IsDistinct
+none_yet es range heads none heap = record {
+  are_heads = record { each = subst (All (IsHead es range)) (sym none) (All-nil (IsHead es range)); apart = subst (IsDistinct same_part) (sym none) tt; heap = heap };
+  below = subst (All (λ (h : Head). h.entry.part < 0)) (sym none) (All-nil (λ (h : Head). h.entry.part < 0));
+  before = λ part key value less live inside. absurd (omega arith);
+}
+
+lower_all : (to to' : ℕ) (heads : List Head) → to ≤ to' → AllByRecursion (λ (h : Head). h.entry.part < to) heads → AllByRecursion (λ (h : Head). h.entry.part < to') heads
+lower_all to to' [] le all = tt
+lower_all to to' (h ∷ heads) le all = let low : h.entry.part < to = all.0 in (omega (arith, low), lower_all to to' heads le all.1)
+
+apart_from : (to : ℕ) (h : Head) (heads : List Head) → to ≤ h.entry.part → AllByRecursion (λ (g : Head). g.entry.part < to) heads → AllByRecursion (λ (g : Head). same_part h g ≡ false) heads
+apart_from to h [] le all = tt
+apart_from to h (g ∷ heads) le all = let low : g.entry.part < to = all.0 in (other_number h.entry.part g.entry.part (λ same. omega (arith, low, same)), apart_from to h heads le all.1)
+
+module _ {es : List Entry} {range : Interval} {to : ℕ} {heads : List Head} (gathered : AreHeadsBelow es range to heads) where
+  module _ (e : Entry) (first : IsFirstFrom es to range.lo e) where
+    -- nothing of the range is live in the partitions that were skipped
+    skipped : (part : ℕ) (key : OrderedKey) (value : List ℕ) → to ≤ part → part < e.part → within range key ≡ true → ¬ IsLiveAt es part key value
+    skipped part key value from below inside = none_live es part key (first.skipped.none part key from below (and_parts (key_le range.lo key) (key_le key range.hi) inside).0) value
+
+    pub passes_part : HasNoneLive es range e.part → AreHeadsBelow es range (e.part + 1) heads
+    passes_part none = let low = first.not_before in record {
+      are_heads = gathered.are_heads;
+      below = All-from_recursion (λ (h : Head). h.entry.part < e.part + 1) heads (lower_all to (e.part + 1) heads (omega (arith, low)) (recursion_from_All (λ (h : Head). h.entry.part < to) heads gathered.below));
+      before = λ part key value less live inside.
+          ⊎_elim (λ old. gathered.before part key value old live inside)
+          (λ new. ⊎_elim (λ before. absurd (skipped part key value new before inside live))
+          (λ not_before. let same : part ≡ e.part = omega (arith, less, not_before) in absurd (none.none key value inside (subst (λ p. IsLiveAt es p key value) same live)))
+          (cases_lt part e.part))
+          (cases_lt part to);
+    }
+
+    module _ (h : Head) (begins : IsFirstHead es range e.part h) {heads' : List Head} (moved : IsPermutation (h ∷ heads) heads') (keeps : KeepsHeap head_cmp heads heads') where
+      below_h : AllByRecursion (λ (g : Head). g.entry.part < to) heads
+      below_h = recursion_from_All (λ (g : Head). g.entry.part < to) heads gathered.below
+
+      above_to : to ≤ h.entry.part
+      above_to = let low = first.not_before in let same = begins.in_part in omega (arith, low, same)
+
+      reached : (key : OrderedKey) (value : List ℕ) → within range key ≡ true → IsLiveAt es e.part key value → key_le h.entry.key key ≡ true
+      reached key value inside live = by_order (key_cmp h.entry.key key) refl
+        where
+          by_order : (o : Ordering) → key_cmp h.entry.key key ≡ o → key_le h.entry.key key ≡ true
+          by_order Less e = ap is_le e
+          by_order Equal e = ap is_le e
+          by_order Greater e = absurd (begins.none_before key value inside (turned h.entry.key key e) live)
+
+      -- of the new list before it was put in order
+      ahead : (part : ℕ) (key : OrderedKey) (value : List ℕ) → part < e.part + 1 → IsLiveAt es part key value → within range key ≡ true → is_ahead_in (h ∷ heads) part key ≡ true
+      ahead part key value less live inside =
+          ⊎_elim (λ old. or_true (h.entry.part == part && key_le h.entry.key key) (is_ahead_in heads part key) (gathered.before part key value old live inside))
+          (λ new. ⊎_elim (λ before. absurd (skipped part key value new before inside live))
+          (λ not_before.
+          let same : part ≡ e.part = omega (arith, less, not_before) in
+          or_first (h.entry.part == part && key_le h.entry.key key) (is_ahead_in heads part key)
+          (both (h.entry.part == part) (key_le h.entry.key key) (same_number h.entry.part part (begins.in_part ∙ sym same)) (reached key value inside (subst (λ p. IsLiveAt es p key value) same live))))
+          (cases_lt part e.part))
+          (cases_lt part to)
+
+      pub takes_head : AreHeadsBelow es range (e.part + 1) heads'
+      takes_head = let low = first.not_before in record {
+        are_heads = record {
+          each = All-permutation (IsHead es range) (h ∷ heads) heads' moved (All-cons (IsHead es range) h heads begins.head gathered.are_heads.each);
+          apart = IsDistinct-IsPermutation same_part same_either_way (h ∷ heads) heads' moved (IsDistinct-cons same_part h heads (apart_from to h heads above_to below_h) gathered.are_heads.apart);
+          heap = keeps gathered.are_heads.heap;
+        };
+        below = All-permutation (λ (g : Head). g.entry.part < e.part + 1) (h ∷ heads) heads' moved (All-from_recursion (λ (g : Head). g.entry.part < e.part + 1) (h ∷ heads)
+            (let same = begins.in_part in (omega (arith, same), lower_all to (e.part + 1) heads (omega (arith, low)) below_h)));
+        before = λ part key value less live inside.
+            sym (list_any-IsPermutation (λ (g : Head). g.entry.part == part && key_le g.entry.key key) (h ∷ heads) heads' moved) ∙ ahead part key value less live inside;
+      }
+
+  -- there is no entry left
+  pub has_all : AreEmptyFrom es to range.lo → AreAllHeads es range heads
+  has_all empty = record {
+    are_heads = gathered.are_heads;
+    before = λ part key value live inside.
+        ⊎_elim (λ old. gathered.before part key value old live inside)
+        (λ new. absurd (none_live es part key (empty.none part key new (and_parts (key_le range.lo key) (key_le key range.hi) inside).0) value live)) (cases_lt part to);
+  }
+
+  -- or no number of a partition
+  pub has_all_numbers : IsSound es → ¬ (to < 2 ^ 32) → AreAllHeads es range heads
+  has_all_numbers sound past = record {
+    are_heads = gathered.are_heads;
+    before = λ part key value live inside.
+        ⊎_elim (λ old. gathered.before part key value old live inside)
+        (λ new. let fits = live_fits es part key (value, false) sound.fits live.there in absurd (past (omega (arith, new, fits)))) (cases_lt part to);
+  }

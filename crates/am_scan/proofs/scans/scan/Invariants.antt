@@ -1,0 +1,5 @@
+use Rattle.am_scan.proofs.Taking.{AreTaken}
+use Rattle.am_scan.proofs.scans.scan.Given as goal
+
+abbrev pub invariant-loop : goal.invariant-loop
+invariant-loop g l = AreTaken l.initial.cursor l.rows.items l.cursor l.counter

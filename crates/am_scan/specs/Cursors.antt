@@ -1,0 +1,44 @@
+-- What a cursor has still to give, by where its heads stand.
+use Rattle.std.specs.Prelude.{◌≡◌, ℕ, List, true, Bool, ◌&&◌, ◌==◌}
+use Rattle.std.specs.List.{list_any, All, IsDistinct}
+use Rattle.std.specs.BinaryHeap.{IsHeap}
+use Rattle.am_record.specs.OrderedKey.{OrderedKey}
+use Rattle.am_record.specs.Interval.{Interval, key_le, within}
+use Rattle.am_record.specs.Plain.{PlainMap, Records, rows_where}
+use Rattle.am_record.specs.declared.entry.Entry.{Entry}
+use Rattle.am_list.specs.Content.{IsLiveAt}
+use Rattle.am_parts.specs.Partitions.{IsSound}
+use Rattle.am_scan.specs.declared.head.Head.{Head}
+use Rattle.am_scan.specs.Heads.{head_cmp, IsHead}
+
+-- whether a head stands at the key or below it
+abbrev pub is_ahead : List Head → OrderedKey → Bool
+is_ahead heads key = list_any (λ (h : Head). key_le h.entry.key key) heads
+
+-- the records of the range from the least head on, by rising key
+abbrev pub rows_ahead : List Head → Interval → PlainMap → Records
+rows_ahead heads range m = rows_where (λ key. is_ahead heads key && within range key) m
+
+-- whether the head of the partition stands at the key or below it
+abbrev pub is_ahead_in : List Head → ℕ → OrderedKey → Bool
+is_ahead_in heads part key = list_any (λ (h : Head). h.entry.part == part && key_le h.entry.key key) heads
+
+abbrev pub same_part : Head → Head → Bool
+same_part g h = g.entry.part == h.entry.part
+
+-- heads at live entries of the range, one of a partition at most, in a heap
+pub record AreHeads (es : List Entry) (range : Interval) (heads : List Head) : Type 0 where
+  pub each : All (IsHead es range) heads
+  pub apart : IsDistinct same_part heads
+  pub heap : IsHeap head_cmp heads
+
+-- the heads have all that is live from the least head on before them
+pub record IsCursor (es : List Entry) (range : Interval) (heads : List Head) : Type 0 where
+  pub sound : IsSound es
+  pub are_heads : AreHeads es range heads
+  pub before : (part : ℕ) (key : OrderedKey) (value : List ℕ) → IsLiveAt es part key value → within range key ≡ true → is_ahead heads key ≡ true → is_ahead_in heads part key ≡ true
+
+-- the heads have all that is live in the range before them
+pub record AreAllHeads (es : List Entry) (range : Interval) (heads : List Head) : Type 0 where
+  pub are_heads : AreHeads es range heads
+  pub before : (part : ℕ) (key : OrderedKey) (value : List ℕ) → IsLiveAt es part key value → within range key ≡ true → is_ahead_in heads part key ≡ true

@@ -1,0 +1,76 @@
+//! A cursor: the records of a range, over all partitions, one at a time.
+
+ghost use Rattle.std.specs.Prelude.{◌≡◌, IfOk, drop, slice_get};
+ghost use Rattle.am_record.specs.Interval.{within};
+ghost use Rattle.am_record.specs.Plain.{rows_where};
+ghost use Rattle.am_list.specs.Content.{content};
+
+use crate::head::Head;
+use crate::heads::heads_of;
+use am_list::{PartIndex, content_follows};
+use am_parts::Parts;
+use am_record::{Key, NoMemory, Range, Value};
+use std::alloc::Global;
+use std::collections::BinaryHeap;
+use std::marker::Model;
+
+/// A place in the records of a range, seen as the list of the records still to come. It merges the
+/// partitions as runs are merged in an external sort: each has a head at its next record, and a heap
+/// has the least of them first.
+#[derive(Drop)]
+pub struct Cursor<'a, I: PartIndex + Drop> {
+    parts: &'a Parts<I>,
+    range: Range,
+    // Those of the partitions that have a record left.
+    heads: BinaryHeap<Head>,
+}
+
+impl<'a, I: PartIndex + Drop> Model for Cursor<'a, I> {
+    ghost use Rattle.std.specs.BinaryHeap.{heap_items};
+    ghost use Rattle.am_record.specs.Records.{Records, records_code};
+    ghost use Rattle.am_list.specs.Content.{content};
+
+    ghost Value = { Records };
+
+    ghost coded = { records_code };
+
+    ghost use Rattle.am_scan.specs.Cursors.{rows_ahead, IsCursor};
+
+    ghost view = { λ c. rows_ahead (heap_items c.heads) c.range (content c.parts.now.entries) };
+
+    ghost invariant = { λ c. IsCursor c.parts.now.entries c.range (heap_items c.heads) };
+}
+
+impl<'a, I: PartIndex + Drop> Cursor<'a, I> {
+    /// A cursor before the first record of the range.
+    ///
+    /// # Errors
+    /// NoMemory, where memory was refused.
+    pub fn open(alloc: Global, parts: &'a Parts<I>, range: Range) -> Result<Cursor<'a, I>, NoMemory>
+        ensures { IfOk result (λ rows. rows ≡ rows_where (within range) (content parts.now.entries)) }
+    {
+        content_follows();
+        let heads = heads_of(alloc, parts, range)?;
+        Ok(Cursor {
+            parts,
+            range,
+            heads,
+        })
+    }
+
+    /// The next record, if there is one. Takes no memory.
+    pub fn next(&mut self) -> Option<(Key, Value)>
+        ensures record { result ≡ slice_get self.old 0 }
+        ensures rest { self.new ≡ drop 1 self.old }
+    {
+        content_follows();
+        let mut head = self.heads.pop()?;
+        let record = head.record();
+        if head.move_on(self.parts, self.range) {
+            let Ok(()) = self.heads.push(head) else {
+                unreachable!()
+            };
+        }
+        Some(record)
+    }
+}

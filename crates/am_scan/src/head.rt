@@ -1,0 +1,196 @@
+//! The head of a partition: the entry at which a cursor stands in it, and what was read behind it.
+
+ghost use Rattle.std.specs.Prelude.{◌≡◌, [], ◌≤◌, true, false, length, take, slice_get, IfOk, IfSome, IfNone};
+ghost use Rattle.am_record.specs.Interval.{key_le};
+ghost use Rattle.am_list.specs.Entries.{after, all_after, IsRising};
+
+use am_list::{Batch, PartIndex, reads_follow, walks_follow};
+use am_parts::Parts;
+use am_record::{Entry, Key, NoMemory, Range, Value};
+use std::alloc::Global;
+use std::cmp::Ordering;
+
+/// Where a cursor stands in one partition. The head with the least key is the greatest, so that a
+/// heap gives it first.
+#[derive(Drop)]
+pub(crate) struct Head {
+    entry: Entry,
+    // Entries that follow in the partition, of which the first ones were passed. They are boxed, so
+    // that a heap moves little.
+    ahead: Box<Batch>,
+    passed: usize,
+}
+
+impl Head {
+    ghost use Rattle.am_scan.specs.Heads.{HasReadOn, IsReady, IsNextHead, IsFirstHead, HasNoNext};
+    ghost use Rattle.am_scan.specs.Looks.{IsFirstIn, HasNoneLive};
+
+    // At the entry, with nothing read behind it.
+    fn at(alloc: Global, entry: Entry) -> Result<Head, NoMemory>
+        ensures entry { IfOk result (λ head. head.entry ≡ entry) }
+        ensures ahead { IfOk result (λ head. head.ahead.value ≡ []) }
+        ensures passed { IfOk result (λ head. head.passed ≡ 0) }
+    {
+        let ahead = Box::new(alloc, Batch::new())?;
+        Ok(Head {
+            entry,
+            ahead,
+            passed: 0,
+        })
+    }
+
+    /// The head of a partition at its first live entry in the range, if there is one. The caller
+    /// gives the partition's first entry at or above the range's least key.
+    ///
+    /// # Errors
+    /// NoMemory, where memory was refused.
+    pub(crate) fn first<I: PartIndex + Drop>(
+        alloc: Global,
+        parts: &Parts<I>,
+        range: Range,
+        entry: Entry,
+    ) -> Result<Option<Head>, NoMemory>
+        requires first { IsFirstIn parts.now.entries range.lo entry }
+        requires rising { IsRising parts.now.entries }
+        ensures some { IfOk result (λ first. IfSome first (λ head. IsFirstHead parts.now.entries range entry.part head)) }
+        ensures none { IfOk result (λ first. IfNone first (HasNoneLive parts.now.entries range entry.part)) }
+    {
+        if range.hi() < entry.key {
+            return Ok(None);
+        }
+        let mut head = Head::at(alloc, entry)?;
+        if !head.entry.is_ghost {
+            return Ok(Some(head));
+        }
+        if head.move_on(parts, range) {
+            Ok(Some(head))
+        } else {
+            Ok(None)
+        }
+    }
+
+    /// The record at which the head stands.
+    pub(crate) fn record(&self) -> (Key, Value)
+        ensures { result ≡ (self.now.entry.key, self.now.entry.value) }
+    {
+        (self.entry.key, self.entry.value)
+    }
+
+    /// Moves to the next live entry of the partition in the range, and says whether there is one.
+    pub(crate) fn move_on<I: PartIndex + Drop>(&mut self, parts: &Parts<I>, range: Range) -> bool
+        requires reads { HasReadOn parts.now.entries self.old }
+        requires reached { key_le range.lo self.old.entry.key ≡ true }
+        requires rising { IsRising parts.now.entries }
+        ensures moved { result ≡ true → IsNextHead parts.now.entries range self.old self.new }
+        ensures ended { result ≡ false → HasNoNext parts.now.entries range self.old }
+    {
+        reads_follow();
+        walks_follow();
+        while let Some(entry) = self.following(parts) {
+            if range.hi() < entry.key {
+                return false;
+            }
+            if !entry.is_ghost {
+                return true;
+            }
+        }
+        false
+    }
+
+    // Moves to the next entry of the partition, a ghost or not, if there is one.
+    fn following<I: PartIndex + Drop>(&mut self, parts: &Parts<I>) -> Option<Entry>
+        requires reads { HasReadOn parts.now.entries self.old }
+        requires rising { IsRising parts.now.entries }
+        ensures found { result ≡ after parts.now.entries self.old.entry.part self.old.entry.key }
+        ensures moved { IfSome result (λ entry. self.new.entry ≡ entry) }
+        ensures reads { HasReadOn parts.now.entries self.new }
+    {
+        reads_follow();
+        walks_follow();
+        self.look_ahead(parts);
+        let entry = self.next_read()?;
+        self.entry = entry;
+        self.passed += 1;
+        Some(self.entry)
+    }
+
+    // The first entry that was read and not passed, if there is one.
+    fn next_read(&self) -> Option<Entry>
+        ensures next { result ≡ slice_get self.now.ahead.value self.now.passed }
+        ensures fits { length self.now.ahead.value ≤ 8 }
+    {
+        self.ahead.entries().get(self.passed).copied()
+    }
+
+    // Reads on, where all that was read is passed.
+    fn look_ahead<I: PartIndex + Drop>(&mut self, parts: &Parts<I>)
+        requires reads { HasReadOn parts.now.entries self.old }
+        ensures ready { IsReady parts.now.entries self.new }
+        ensures entry { self.new.entry ≡ self.old.entry }
+    {
+        if self.passed == self.ahead.entries().len() {
+            self.passed = 0;
+            read_behind(parts, self.entry.part, self.entry.key, &mut self.ahead);
+        }
+    }
+}
+
+// Fills the batch with the first entries of the partition strictly above the key.
+fn read_behind<I: PartIndex + Drop>(parts: &Parts<I>, part: u32, key: Key, batch: &mut Batch)
+    ensures { batch.new ≡ take 8 (all_after parts.now.entries part key) }
+{
+    batch.clear();
+    parts.read_on(part, key, batch);
+}
+
+impl Ord for Head {
+    ghost use Rattle.std.specs.Prelude.{refl};
+    ghost use Rattle.am_scan.specs.Heads.{head_cmp, head_cmp-total};
+
+    ghost cmp = { head_cmp };
+
+    ghost total = { head_cmp-total };
+
+    ghost matches_partial_cmp = { λ a b. refl };
+
+    ghost matches_eq = { λ a b. refl };
+
+    fn cmp(&self, other: &Head) -> Ordering {
+        other.entry.key.cmp(&self.entry.key)
+    }
+}
+
+impl PartialOrd for Head {
+    ghost use Rattle.std.specs.Prelude.{Some, refl};
+    ghost use Rattle.std.specs.Cmp.{po};
+    ghost use Rattle.am_scan.specs.Heads.{head_cmp, head_cmp-total};
+
+    ghost partial_cmp = { λ a b. Some (head_cmp a b) };
+
+    ghost laws = { po head_cmp-total (λ a b. refl) };
+
+    fn partial_cmp(&self, other: &Head) -> Option<Ordering> {
+        Some(self.cmp(other))
+    }
+}
+
+impl PartialEq for Head {
+    ghost use Rattle.std.specs.Ordering.{eq_by_cmp};
+    ghost use Rattle.std.specs.Cmp.{partial_equiv_from_equiv, eq_by_cmp_equiv};
+    ghost use Rattle.am_scan.specs.Heads.{head_cmp, head_cmp-total};
+
+    ghost eq = { eq_by_cmp head_cmp };
+
+    ghost laws = { partial_equiv_from_equiv (eq_by_cmp_equiv head_cmp-total) };
+
+    fn eq(&self, other: &Head) -> bool {
+        self.cmp(other).is_eq()
+    }
+}
+
+impl Eq for Head {
+    ghost use Rattle.std.specs.Cmp.{eq_by_cmp_equiv};
+    ghost use Rattle.am_scan.specs.Heads.{head_cmp-total};
+
+    ghost laws = { eq_by_cmp_equiv head_cmp-total };
+}

@@ -1,0 +1,12 @@
+pub mod Hex
+pub mod CutLemmas
+pub mod Joins
+pub mod Writing
+pub mod Digits
+pub mod ReadRecords
+pub mod IsText
+pub mod FieldTexts
+pub mod StepTexts
+pub mod WordTexts
+pub mod ReplyTexts
+pub mod EventTexts

@@ -1,0 +1,20 @@
+//! The text of a stored trace: how it is written, and how a text from a stranger is read.
+#![tactic(auto)]
+
+mod cut;
+mod event;
+mod field;
+mod print;
+mod read;
+mod read_reply;
+mod read_step;
+mod shape;
+mod text;
+mod version;
+mod word;
+
+pub use text::{TraceFault, read_trace, trace_text, traces_are_texts};
+pub use version::Version;
+
+#[cfg(test)]
+mod tests;

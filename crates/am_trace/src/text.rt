@@ -1,0 +1,92 @@
+//! The whole text.
+
+ghost use Rattle.std.specs.Prelude.{◌≡◌, ◌++◌, List, ℕ, IfOk, IfSome, IfNone, Err};
+ghost use Rattle.am_trace.specs.Lines.{Event, AreEvents, header, trace_text, IsTextOf, IsBadLine, BeginsNoHeader, CanBeStored};
+
+use crate::cut::cut;
+use crate::event::read_event;
+use crate::print::Page;
+use crate::read::ReadFault;
+use crate::version::Version;
+use am_record::{NoMemory, Reply, Step};
+use am_wire::words_are_fields;
+use std::alloc::Global;
+use thiserror::Error;
+
+/// Why a text is no trace.
+#[derive(Clone, Copy, Debug, PartialEq, Eq, Error)]
+pub enum TraceFault {
+    /// This line, the first that isn't one of a trace. Lines count from 1, the header included.
+    #[error("line {0} is none of a trace")]
+    Bad(u64),
+    /// Memory was refused.
+    #[error("no memory")]
+    NoMemory,
+}
+
+/// The text of a trace, in version 2.
+///
+/// # Errors
+/// NoMemory, where memory was refused.
+pub fn trace_text(alloc: Global, trace: &[(Step, Reply)]) -> Result<Vec<u8>, NoMemory>
+    ensures text { IfOk result (λ text. text.items ≡ trace_text Version.Two trace.now) }
+    ensures events { IfOk result (λ text. CanBeStored trace.now → AreEvents Version.Two trace.now) }
+{
+    let mut page = Page::new(alloc);
+    page.put(b"TRACE 2\n")?;
+    for event in trace {
+        page.put_event(&event.0, &event.1)?;
+    }
+    Ok(page.into_bytes())
+}
+
+/// The trace of a text, which may come from anybody.
+///
+/// # Errors
+/// The first line that isn't one of a trace; or NoMemory, where memory was refused.
+pub fn read_trace(alloc: Global, text: &[u8]) -> Result<Vec<(Step, Reply)>, TraceFault>
+    ensures trace { IfOk result (λ trace. IsTextOf text.now trace.items) }
+    ensures bad { (n : ℕ) → result ≡ Err (TraceFault.Bad n) → IsBadLine text.now n }
+{
+    words_are_fields();
+    let (version, mut rest) = read_header(text).ok_or(TraceFault::Bad(1))?;
+    let mut trace = Vec::new(alloc);
+    'lines: while !rest.is_empty() {
+        let bad = TraceFault::Bad(trace.len() as u64 + 2);
+        let Some((line, further)) = cut(rest, b'\n') else {
+            return Err(bad);
+        };
+        match read_event(alloc, version, line) {
+            Ok(event) => {
+                if trace.push(event).is_err() {
+                    return Err(TraceFault::NoMemory);
+                }
+            }
+            Err(ReadFault::Bad) => return Err(bad),
+            Err(ReadFault::NoMemory) => return Err(TraceFault::NoMemory),
+        }
+        rest = further;
+    }
+    Ok(trace)
+}
+
+// The version that the header names, and what stands behind the header.
+fn read_header(text: &[u8]) -> Option<(Version, &[u8])>
+    ensures some { IfSome result (λ p. text.now ≡ header p.0 ++ p.1.now) }
+    ensures none { IfNone result (BeginsNoHeader text.now) }
+{
+    if let Some(rest) = text.strip_prefix(b"TRACE 1\n") {
+        return Some((Version::One, rest));
+    }
+    let rest = text.strip_prefix(b"TRACE 2\n")?;
+    Some((Version::Two, rest))
+}
+
+/// A text is that of one trace, and either the text of a trace or bad in one line.
+pub fn traces_are_texts()
+    ensures one_trace { (text : List ℕ) (a b : List Event) → IsTextOf text a → IsTextOf text b → a ≡ b }
+    ensures not_bad { (text : List ℕ) (trace : List Event) (n : ℕ) → IsTextOf text trace → IsBadLine text n → ⊥ }
+    ensures one_line { (text : List ℕ) (m n : ℕ) → IsBadLine text m → IsBadLine text n → m ≡ n }
+{
+    words_are_fields();
+}
