@@ -123,9 +123,10 @@ impl<L: Naming> Latch<L> {
         ))
     }
 
-    /// Lends the engine to the closure, which has the latch to itself meanwhile.
+    /// Lends the engine to the closure, which has the latch to itself meanwhile, and answers what it answers of that engine.
     pub fn look<T, R: Wait, F: FnOnce(&Engine) -> T>(&self, rt: &R, f: F) -> T
         requires { F.IsAlwaysCallable f }
+        ensures { (engine : _) × F.post f engine result }
     {
         let held = self.held.lock(rt);
         f(&held.engine)

@@ -1,5 +1,4 @@
-//! Worked examples over the whole store: sessions line by line, calls at the limits, and a long random history against
-//! the plain map.
+//! Worked examples over the whole store: sessions line by line, steps, and calls at the limits.
 #![tactic(auto)]
 
 #[cfg(test)]
@@ -7,6 +6,7 @@ mod calls;
 #[cfg(test)]
 mod lines;
 #[cfg(test)]
+mod refused;
 #[cfg(test)]
 mod rows;
 #[cfg(test)]
