@@ -1,11 +1,12 @@
 //! The store.
 
-ghost use Rattle.std.specs.Prelude.{◌≡◌, [], ◌∷◌, true, IfOk};
+ghost use Rattle.std.specs.Prelude.{◌≡◌, ◌+◌, ◌≤◌, ◌^◌, [], ◌∷◌, true, length, IfOk};
 ghost use Rattle.am_record.specs.declared.step.Refusal.{Refusal as TheRefusal};
 ghost use Rattle.am_record.specs.declared.step.Refusal.TheVariants.{NoMemory as OutOfMemory};
-ghost use Rattle.am_steps.specs.Parts.{empty_parts, MaySay, after};
+ghost use Rattle.am_steps.specs.Parts.{empty_parts, IsFit, MaySay, after};
 ghost use Rattle.am_core.specs.Memory.{may_want_memory};
 ghost use Rattle.am_core.specs.Standing.{StandsAt, GoesOn, IsWithin};
+ghost use Rattle.am_core.specs.Whole.{whole};
 
 use crate::entries::all_entries;
 use crate::kept::Kept;
@@ -20,27 +21,29 @@ use std::marker::Model;
 /// A transactional store over a partitioned index.
 #[derive(Drop)]
 pub struct Store<I: PartIndex + Drop> {
-    kept: Kept<I>,
+    // On the heap, since it is large: so a store is moved by a pointer.
+    kept: Box<Kept<I>>,
 }
 
 impl<I: PartIndex + Drop> Model for Store<I> {
     ghost use Rattle.am_steps.specs.Parts.{Parts};
-    ghost use Rattle.am_core.specs.Keeping.{parts_kept, parts_code, IsReached};
+    ghost use Rattle.am_core.specs.Keeping.{parts_code, IsReached};
+    ghost use Rattle.am_core.specs.Whole.{whole};
 
     ghost Value = { Parts };
 
     ghost coded = { parts_code };
 
-    ghost view = { λ s. parts_kept s.kept.parts s.kept.txs s.kept.wishes s.kept.commits };
+    ghost view = { λ s. whole s.kept.value };
 
-    ghost invariant = { λ s. IsReached (parts_kept s.kept.parts s.kept.txs s.kept.wishes s.kept.commits) };
+    ghost invariant = { λ s. IsReached (whole s.kept.value) };
 }
 
 impl<I: PartIndex + Drop> Store<I> {
     /// A store over an empty index.
     ///
     /// # Errors
-    /// NoMemory, where memory was refused for the ring of wishes.
+    /// NoMemory, where memory was refused for the ring of wishes or the tables.
     pub fn open(alloc: Global, index: I) -> Result<Store<I>, NoMemory>
         requires { I.entries index ≡ [] }
         ensures empty { IfOk result (λ store. store ≡ empty_parts) }
@@ -55,7 +58,9 @@ impl<I: PartIndex + Drop> Store<I> {
             wishes,
             commits: 0,
         };
-        Ok(Store { kept })
+        Ok(Store {
+            kept: Box::new(alloc, kept)?,
+        })
     }
 
     /// Takes one step, whole, and answers it. What a step owes is said by what the store keeps
@@ -72,7 +77,7 @@ impl<I: PartIndex + Drop> Store<I> {
         ensures within { IsWithin step result }
     {
         am_steps::steps_lift();
-        self.kept.step(step)
+        step_there(&mut self.kept, step)
     }
 
     /// The entries of all partitions, ghosts too, by partition and key.
@@ -91,4 +96,16 @@ impl<I: PartIndex + Drop> Store<I> {
     {
         self.kept.commits
     }
+}
+
+// Takes the step where the store stands.
+fn step_there<I: PartIndex + Drop>(kept: &mut Box<Kept<I>>, step: Step) -> Reply
+    requires fit { IsFit (whole kept.old.value) }
+    requires few { kept.old.value.commits + length kept.old.value.txs.active ≤ 2 ^ 63 }
+    ensures says { MaySay (whole kept.old.value) step result }
+    ensures after { whole kept.new.value ≡ after (whole kept.old.value) step result }
+    ensures memory { result ≡ Reply.Refused OutOfMemory → may_want_memory (whole kept.old.value) step ≡ true }
+{
+    let kept = &mut **kept;
+    kept.step(step)
 }
