@@ -5,6 +5,7 @@ use crate::node::{Node, Subtree};
 use am_list::{Batch, ListIndex, PartIndex};
 use am_record::{Entry, Key, NoMemory, Value};
 use std::test::Fail;
+use std::thread;
 
 fn numbered(part: u32, number: u64) -> Entry {
     Entry {
@@ -187,5 +188,28 @@ fn refused_insert_changes_nothing(rt: HostRuntime) -> Result<(), Fail> {
         }
         assert!(rt; same_walks(&tree, &list, 0, 41));
     }
+    Ok(())
+}
+
+// The tree with the entries of the numbers below 100.
+fn filled(mut tree: BTree) -> Result<BTree, NoMemory> {
+    for number in 0..100_u64 {
+        add(&mut tree, numbered(0, number))?;
+    }
+    Ok(tree)
+}
+
+#[test]
+fn a_tree_crosses_threads(rt: HostRuntime) -> Result<(), Fail> {
+    let tree = BTree::new(rt.alloc())?;
+    let filling = thread::spawn(&rt, move || filled(tree))?;
+    let tree = filling.join(&rt)?;
+    let (low, high) = thread::join(
+        &rt,
+        || tree.next_from(0, Key::least()),
+        || tree.next_from(0, Key::of_u64(99)),
+    );
+    assert!(rt; low == Some(numbered(0, 0)));
+    assert!(rt; high == Some(numbered(0, 99)));
     Ok(())
 }

@@ -1,3 +1,4 @@
+pub mod Crosses
 pub mod Leaves
 pub mod MarkLemmas
 pub mod Rising

@@ -9,15 +9,50 @@ ghost use Rattle.am_leaf.specs.Blocks.{first_values, HasFirst};
 
 use core::slots::{Lease, Slots, release, reserve};
 use std::alloc::{AllocError, Global};
+use std::marker::Model;
 
-/// A block of 32 places. The first ones hold values, how many is told to each function; the
-/// others are raw memory.
-pub(crate) struct Block<T> {
+/// A row of 32 places, and the right to give it back to the allocator.
+struct Row<T> {
     slots: Slots<T>,
     lease: Lease<T, Global>,
     alloc: Global,
     ghost size: { slots_len slots ≡ 32 },
     ghost leased: { (lease_ptr lease ≡ slots_ptr slots) × (lease_len lease ≡ slots_len slots) × (lease_heap lease ≡ alloc) },
+}
+
+/// A block of 32 places. The first ones hold values, how many is told to each function; the
+/// others are raw memory.
+pub(crate) struct Block<T> {
+    row: Row<T>,
+}
+
+// A block is seen as its row, and owns and lends nothing beside it. A type that says so, by
+// `also_owns`, may have a proof of its own that it crosses threads; the row has none.
+impl<T> Model for Block<T> {
+    ghost use base.Fml.{ftrue};
+    ghost use Rattle.am_leaf.specs.declared.block.Row.{Row};
+
+    ghost Value = { Row T };
+
+    ghost view = { λ a. a.row };
+
+    ghost also_owns = { λ _. ftrue };
+
+    ghost also_shares = { λ _ _ _. ftrue };
+}
+
+// What a row owns and lends names no thread: values that may cross, raw memory, and the right to
+// give it back, which any thread may use (`proofs/Crosses.antt`).
+unsafe impl<T: Send> Send for Block<T> {}
+
+unsafe impl<T: Sync> Sync for Block<T> {}
+
+impl<T> Block<T> {
+    fn of(row: Row<T>) -> Block<T>
+        ensures { result ≡ row }
+    {
+        Block { row }
+    }
 }
 
 impl<T: Copy> Block<T> {
@@ -27,11 +62,11 @@ impl<T: Copy> Block<T> {
         ensures { IfOk result (λ b. HasFirst b.slots 0) }
     {
         let (slots, lease) = unsafe { reserve(&alloc, &[like; 32]) }?;
-        Ok(Block {
+        Ok(Block::of(Row {
             slots,
             lease,
             alloc,
-        })
+        }))
     }
 
     /// The value at `at`.
@@ -40,7 +75,7 @@ impl<T: Copy> Block<T> {
         requires in_range { at < len }
         ensures { result.now ≡ slice_index_or (first_values self.now.slots len) at result.now }
     {
-        self.slots.get(at)
+        self.row.slots.get(at)
     }
 
     /// Writes over the value at `at`.
@@ -50,7 +85,7 @@ impl<T: Copy> Block<T> {
         ensures held { HasFirst self.new.slots len }
         ensures values { first_values self.new.slots len ≡ slice_set (first_values self.old.slots len) at value }
     {
-        self.slots.put(at, value);
+        self.row.slots.put(at, value);
     }
 
     /// Moves the values from `at` on up by one, and writes one there.
@@ -61,8 +96,8 @@ impl<T: Copy> Block<T> {
         ensures held { HasFirst self.new.slots (len + 1) }
         ensures values { first_values self.new.slots (len + 1) ≡ insert (first_values self.old.slots len) at value }
     {
-        self.slots.move_within(at, at + 1, len - at);
-        self.slots.put(at, value);
+        self.row.slots.move_within(at, at + 1, len - at);
+        self.row.slots.put(at, value);
     }
 
     /// Reads the value at `at`, and moves those above it down by one.
@@ -73,8 +108,8 @@ impl<T: Copy> Block<T> {
         ensures held { HasFirst self.new.slots (len - 1) }
         ensures values { first_values self.new.slots (len - 1) ≡ remove (first_values self.old.slots len) at }
     {
-        let value = self.slots.take(at);
-        self.slots.move_within(at + 1, at, len - 1 - at);
+        let value = self.row.slots.take(at);
+        self.row.slots.move_within(at + 1, at, len - 1 - at);
         value
     }
 
@@ -87,18 +122,21 @@ impl<T: Copy> Block<T> {
         ensures other_held { HasFirst other.new.slots (len - at) }
         ensures other_values { first_values other.new.slots (len - at) ≡ drop at (first_values self.old.slots len) }
     {
-        self.slots.move_run(at, &mut other.slots, 0, len - at);
+        self.row
+            .slots
+            .move_run(at, &mut other.row.slots, 0, len - at);
     }
 }
 
 impl<T> Drop for Block<T> {
     // Only values that are `Copy` are ever put in, so none needs a drop of its own.
     fn drop(self) {
-        let Block {
+        let Block { row } = self;
+        let Row {
             slots,
             lease,
             alloc,
-        } = self;
+        } = row;
         release(&alloc, slots, lease);
     }
 }
