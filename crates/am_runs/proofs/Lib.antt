@@ -4,3 +4,8 @@ pub mod Pieces
 pub mod Taken
 pub mod Loaded
 pub mod LoadLaws
+pub mod Parting
+pub mod Beginnings
+pub mod Passing
+pub mod Settling
+pub mod Walking

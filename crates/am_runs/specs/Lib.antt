@@ -1,2 +1,4 @@
 pub mod Cuts
 pub mod Loads
+pub mod Looks
+pub mod Walk

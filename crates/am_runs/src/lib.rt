@@ -5,9 +5,11 @@ mod cut;
 mod fault;
 mod laws;
 mod loading;
+mod look;
 mod run;
 #[cfg(test)]
 mod tests;
+mod walk;
 
 pub use cut::{MAX_RUN_LEN, cut_runs};
 pub use fault::LoadFault;

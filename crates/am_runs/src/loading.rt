@@ -1,12 +1,12 @@
 //! Loading a run into the partitions.
 
 ghost use Rattle.std.specs.Prelude.{◌≡◌, ◌≢◌, ◌+◌, ◌<◌, List, true, OnOk, OnErr};
-ghost use Rattle.am_record.specs.Plain.{insert_all, least_taken};
+ghost use Rattle.am_record.specs.Plain.{insert_all};
 ghost use Rattle.am_record.specs.declared.entry.Entry.{Entry as TheEntry};
 ghost use Rattle.am_list.specs.Content.{content, HasContent};
-ghost use Rattle.am_record.specs.Plain.{is_rising};
 ghost use Rattle.am_runs.specs.Loads.{with_run, NothingAbove, HoldsRun, IsAwaited, load_due, IsAnswer, IsLoaded};
 
+use crate::look::first_live;
 use crate::run::Run;
 use am_list::PartIndex;
 use am_parts::Parts;
@@ -38,19 +38,6 @@ pub fn load<I: PartIndex + Drop>(parts: &mut Parts<I>, run: &Run) -> Reply
         return Reply::Refused(Refusal::NoMemory);
     }
     Reply::Done
-}
-
-// The first key of the pairs that is live.
-fn first_live<I: PartIndex + Drop>(parts: &Parts<I>, pairs: &[(Key, Value)]) -> Option<Key>
-    requires { is_rising pairs.now ≡ true }
-    ensures { result ≡ least_taken pairs.now (content parts.now.entries) }
-{
-    for pair in pairs {
-        if parts.place_of(pair.0).is_some() {
-            return Some(pair.0);
-        }
-    }
-    None
 }
 
 // Makes the pairs the next run. After an error nothing is changed.

@@ -1,6 +1,7 @@
 ghost use Rattle.std.specs.Prelude.{◌≡◌};
 ghost use Rattle.am_runs.specs.Loads.{NothingAbove};
 
+use crate::look::first_live;
 use crate::{LoadFault, MAX_RUNS, Run, cut_runs, load};
 use am_list::ListIndex;
 use am_parts::Parts;
@@ -109,6 +110,75 @@ fn load_makes_one_run(rt: HostRuntime) -> Result<(), Fail> {
     assert!(rt; parts.next_any(0, Key::least()).map(|e| e.part) == Some(1));
     assert!(rt; load(&mut parts, &first) == Reply::Exists(Key::of_u64(3)));
     assert!(rt; parts.runs() == 2);
+    Ok(())
+}
+
+// Adds an entry, unless its place is taken or its key is live elsewhere.
+fn add(
+    parts: &mut Parts<ListIndex>,
+    part: u32,
+    number: u64,
+    is_ghost: bool,
+) -> Result<(), NoMemory> {
+    let key = Key::of_u64(number);
+    let is_free = parts.find(part, key).is_none();
+    if is_free && (is_ghost || parts.place_of(key).is_none()) {
+        parts.add(Entry {
+            part,
+            key,
+            value: value(b'e'),
+            is_ghost,
+        })?;
+    }
+    Ok(())
+}
+
+// The first of the numbers from the first to the last one that is live.
+fn first_live_among(
+    alloc: Global,
+    parts: &Parts<ListIndex>,
+    first: u64,
+    last: u64,
+) -> Result<Option<Key>, LoadFault> {
+    let mut pairs = Vec::new(alloc);
+    for number in first..=last {
+        pairs.push(pair(number, b'p'))?;
+    }
+    let run = Run::new(pairs)?;
+    Ok(first_live(parts, run.pairs()))
+}
+
+#[test]
+fn the_least_live_key_of_all_partitions(rt: HostRuntime) -> Result<(), Fail> {
+    let mut parts = no_entries(rt.alloc());
+    for (part, number, is_ghost) in [
+        (0, 5, false),
+        (0, 12, true),
+        (0, 31, false),
+        (2, 30, false),
+        (7, 12, false),
+        (7, 30, true),
+        (7, 50, false),
+    ] {
+        add(&mut parts, part, number, is_ghost)?;
+    }
+    for number in 10..30 {
+        add(&mut parts, 2, number, true)?;
+    }
+    for (first, last, least) in [
+        (0, 90, Some(5)),
+        (6, 90, Some(12)),
+        (13, 90, Some(30)),
+        (13, 30, Some(30)),
+        (13, 29, None),
+        (31, 90, Some(31)),
+        (32, 90, Some(50)),
+        (32, 49, None),
+        (51, 90, None),
+    ] {
+        let found = first_live_among(rt.alloc(), &parts, first, last)?;
+        assert!(rt; found == least.map(Key::of_u64), "from {first} to {last}");
+    }
     Ok(())
 }
 

@@ -1,0 +1,114 @@
+//! Looking for live keys of a run: its pairs and the entries of each partition, side by side.
+
+ghost use Rattle.std.specs.Prelude.{◌≡◌, ◌≤◌, true, false, length, take, drop, filter, not, Some, MatchOption, IfSome};
+ghost use Rattle.std.specs.List.{AllWithin};
+ghost use Rattle.std.specs.Ordering.{is_lt};
+ghost use Rattle.std.specs.FinMap.{is_sorted};
+ghost use Rattle.am_record.specs.OrderedKey.{key_cmp};
+ghost use Rattle.am_record.specs.Plain.{first_key, is_rising, least_taken};
+ghost use Rattle.am_list.specs.Entries.{next_from};
+ghost use Rattle.am_list.specs.Content.{content};
+ghost use Rattle.am_parts.specs.Partitions.{IsSound};
+ghost use Rattle.am_runs.specs.Looks.{AreEmptyFrom, IsFirstFrom, NoneLiveIn, IsLeastLiveIn};
+
+use crate::walk::Walk;
+use am_list::PartIndex;
+use am_parts::Parts;
+use am_record::{Entry, Key, Value};
+
+/// The first key of the pairs that is live. What lies between the pairs and the entries of a
+/// partition is passed over, and partitions whose entries are all below the pairs cost one look each.
+pub(crate) fn first_live<I: PartIndex + Drop>(
+    parts: &Parts<I>,
+    pairs: &[(Key, Value)],
+) -> Option<Key>
+    requires { is_rising pairs.now ≡ true }
+    ensures { result ≡ least_taken pairs.now (content parts.now.entries) }
+{
+    let mut least = None;
+    // The pairs below the least key found so far: no other one matters.
+    let mut left = pairs;
+    let mut part = 0;
+    while let Some(low) = left.first() {
+        let Some(entry) = first_from(parts, part, low.0) else {
+            return least;
+        };
+        let here = entry.part;
+        if let Some(key) = least_live_in(parts, entry, left) {
+            least = Some(key);
+            left = &left[..count_below(left, key)];
+        }
+        let Some(above) = here.checked_add(1) else {
+            return least;
+        };
+        part = above;
+    }
+    least
+}
+
+// The first entry at or above the key, of the first partition from this one on that has one.
+fn first_from<I: PartIndex + Drop>(parts: &Parts<I>, part: u32, low: Key) -> Option<Entry>
+    ensures found { MatchOption result (AreEmptyFrom parts.now.entries part low) (IsFirstFrom parts.now.entries part low) }
+    ensures sound { IsSound parts.now.entries }
+{
+    let mut from = part;
+    while let Some(entry) = parts.next_any(from, low) {
+        if low <= entry.key {
+            return Some(entry);
+        }
+        from = entry.part;
+    }
+    None
+}
+
+// The least key of the pairs that is live in a partition. The caller gives the partition's first
+// entry at or above the least pair's key.
+fn least_live_in<I: PartIndex + Drop>(
+    parts: &Parts<I>,
+    first: Entry,
+    pairs: &[(Key, Value)],
+) -> Option<Key>
+    requires sound { IsSound parts.now.entries }
+    requires sorted { is_sorted key_cmp pairs.now ≡ true }
+    requires first { IfSome (first_key pairs.now) (λ low. next_from parts.now.entries first.part low ≡ Some first) }
+    ensures { MatchOption result (NoneLiveIn parts.now.entries first.part pairs.now) (IsLeastLiveIn parts.now.entries first.part pairs.now) }
+{
+    let mut walk = Walk::at(first);
+    let mut left = pairs;
+    while let Some((pair, above)) = left.split_first() {
+        let entry = walk.first_from(parts, pair.0)?;
+        if entry.key == pair.0 && !entry.is_ghost {
+            return Some(entry.key);
+        }
+        left = &above[count_below(above, entry.key)..];
+    }
+    None
+}
+
+// How many pairs are below the key.
+fn count_below(pairs: &[(Key, Value)], key: Key) -> usize
+    requires { is_sorted key_cmp pairs.now ≡ true }
+    ensures in_range { result ≤ length pairs.now }
+    ensures below { take result pairs.now ≡ filter (λ r. is_lt (key_cmp r.0 key)) pairs.now }
+    ensures others { drop result pairs.now ≡ filter (λ r. not (is_lt (key_cmp r.0 key))) pairs.now }
+{
+    let front = &pairs[..front_len(pairs, key)];
+    front.partition_point(|pair| pair.0 < key)
+}
+
+// The length of a front that has all pairs below the key. The key is mostly near, so the search
+// begins with short fronts.
+fn front_len(pairs: &[(Key, Value)], key: Key) -> usize
+    requires { is_sorted key_cmp pairs.now ≡ true }
+    ensures in_range { result ≤ length pairs.now }
+    ensures all { AllWithin (λ r. is_lt (key_cmp r.0 key) ≡ false) pairs.now result (length pairs.now) }
+{
+    let mut len = 1;
+    while len < pairs.len() {
+        if key <= pairs[len - 1].0 {
+            return len;
+        }
+        len = len.saturating_mul(2);
+    }
+    pairs.len()
+}
