@@ -1,4 +1,5 @@
 pub mod Calling
+pub mod Fitting
 pub mod Holding
 pub mod Keeping
 pub mod Opens

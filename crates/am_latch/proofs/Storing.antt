@@ -23,6 +23,7 @@ use Rattle.am_core.specs.Standing.{StandsAt, GoesOn, IsWithin}
 use Rattle.am_latch.specs.declared.change.Change.TheVariants.{Ends, Nothing}
 use Rattle.am_latch.specs.Changes.{change, end_of, room_of, rows_in, moves_in, has, without, moved, active_from, numbers, HasTrace, Answers, Bounded, Goes}
 use Rattle.am_latch.proofs.Replies.{why_refused}
+use Rattle.am_latch.proofs.Fitting.{fits_formed}
 
 pub active_from-snoc : (ts : List ℕ) (h : Trace) (p : Step × Reply) → active_from ts (h ++ p ∷ []) ≡ moved (active_from ts h) (change p.0 p.1)
 active_from-snoc ts [] p = refl
@@ -499,7 +500,7 @@ last_event es (e ∷ h) st r each = last_event (es ++ serial.effect e.0 e.1 ∷ 
 pub is_bounded_by : (h : Trace) (st : Step) (r : Reply) (p : Parts) → StandsAt (h ++ (st, r) ∷ []) p → IsWithin st r → Bounded st r
 is_bounded_by h st r p stands within =
     let last = last_event [] h st r stands.sound.sound.formed in
-    record { rows = rows_within last.0 st r last.1 within; moves = moves_within last.0 st r last.1 within }
+    record { fits = fits_formed last.0 st r last.1; rows = rows_within last.0 st r last.1 within; moves = moves_within last.0 st r last.1 within }
 
 pub goes : (h : Trace) (p p' : Parts) (st : Step) (r : Reply) → HasTrace h p → IsFit p → MaySay p st r → p' ≡ after p st r → ((why : Refusal) → r ≡ Refused why → p' ≡ p) → GoesOn p ((st, r) ∷ []) p' → Goes h st r p'
 goes h p p' st r has fit may step same on = record {

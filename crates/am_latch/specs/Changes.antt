@@ -95,8 +95,16 @@ pub record Answers (ts : List ℕ) (st : Step) (r : Reply) : Type 0 where
   pub ended : (t : ℕ) → end_of st ≡ Some t → has t ts ≡ true → change st r ≡ Ends t
   pub unknown : (t : ℕ) → end_of st ≡ Some t → has t ts ≡ false → is_refused r ≡ true
 
--- how long a reply may be, and how much a merge may move
+-- Begun answers a Begin, Committed a Commit, and Aborted an Abort.
+abbrev pub Fits : Step → Reply → Type 0
+Fits st (Begun t) = st ≡ Begin
+Fits st (Committed c) = (t : ℕ) × (st ≡ Commit t)
+Fits st Aborted = (t : ℕ) × (st ≡ Abort t)
+Fits st _ = Unit {0}
+
+-- what a reply may answer, how long it may be, and how much a merge may move
 pub record Bounded (st : Step) (r : Reply) : Type 0 where
+  pub fits : Fits st r
   pub rows : rows_in r ≤ room_of st
   pub moves : moves_in r ≤ 64
 

@@ -28,3 +28,6 @@ pub use latch::{Blank, Latch, LatchFault};
 pub use naming::Naming;
 pub use receipt::{CommitReceipt, Maker, Receipt};
 pub use seat::Seat;
+
+#[cfg(test)]
+mod tests;

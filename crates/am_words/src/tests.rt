@@ -1,5 +1,17 @@
-use crate::Words;
+ghost use Rattle.std.specs.Prelude.{◌≡◌};
+ghost use Rattle.am_words.specs.Words.{newcomer};
+
+use crate::{WordSeat, Words};
+use am_latch::{Blank, Latch, Naming, Seat, was_refused};
+use am_record::Step;
+use std::marker::Brand;
+use std::process::Abort;
+use std::sync::Wait;
+use std::sync::atomic::{AtomicBool, Ordering};
 use std::test::Fail;
+use std::thread;
+use std::thread::Threads;
+use std::time::{Clock, Duration};
 
 #[test]
 fn draws_are_shared(rt: HostRuntime) -> Result<(), Fail> {
@@ -9,5 +21,117 @@ fn draws_are_shared(rt: HostRuntime) -> Result<(), Fail> {
     assert_eq!(rt; words.draw(&mut first), Some(0));
     assert_eq!(rt; words.draw(&mut second), Some(1));
     assert_eq!(rt; words.draw(&mut first), Some(2));
+    Ok(())
+}
+
+// Looks for the flag once a millisecond, at most 10,000 times.
+fn comes<R: Clock>(rt: &R, flag: &AtomicBool) -> bool {
+    for _ in 0..10_000 {
+        if flag.load(Ordering::SeqCst) {
+            return true;
+        }
+        thread::sleep(rt, Duration::from_millis(1));
+    }
+    false
+}
+
+// Draws and looks once the latch is held, and then lets its holder go.
+fn draw_and_see<R: Clock>(
+    rt: &R,
+    words: &Words,
+    hand: &mut WordSeat,
+    is_held: &AtomicBool,
+    may_go: &AtomicBool,
+) -> (Option<u64>, u64)
+    requires { hand.old.of ≡ words.now }
+{
+    let _ = comes(rt, is_held);
+    let drawn = words.draw(hand);
+    let seen = words.seen(hand);
+    may_go.store(true, Ordering::SeqCst);
+    (drawn, seen)
+}
+
+// Draws and looks while another thread holds the latch. What it drew, what it saw, and whether the latch was held.
+fn beside_the_latch<L: Naming + Send + Sync, R: Threads + Wait + Clock + Sync>(
+    rt: &R,
+    blank: Blank,
+    words: &Words,
+    hand: &mut WordSeat,
+) -> Result<(Option<u64>, u64, bool), Fail>
+    requires named { (blank.seats ≡ L.seats) × (blank.table ≡ L.table) }
+    requires hand { hand.old.of ≡ words.now }
+{
+    let (latch, _seats) = Latch::<L>::open(blank)?;
+    let is_held = AtomicBool::new(false);
+    let may_go = AtomicBool::new(false);
+    let (went, (drawn, seen)) = thread::join(
+        rt,
+        || {
+            latch.look(rt, |_| {
+                is_held.store(true, Ordering::SeqCst);
+                comes(rt, &may_go)
+            })
+        },
+        ||
+            requires { hand.now.of ≡ words.now }
+        { draw_and_see(rt, words, hand, &is_held, &may_go) },
+    );
+    Ok((drawn, seen, went))
+}
+
+#[test]
+fn words_while_the_latch_is_held(rt: HostRuntime) -> Result<(), Fail> {
+    let (words, mut hands) = Words::open(rt.alloc(), 1)?;
+    let mut hand = hands.pop().ok_or("no seat")?;
+    let blank = Blank::new(rt.alloc(), 1)?;
+    let found = beside_the_latch::<Brand, HostRuntime>(&rt, blank, &words, &mut hand)?;
+    assert_eq!(rt; found, (Some(0), 0, true));
+    Ok(())
+}
+
+// One transaction that does nothing. Whether it committed.
+fn commits<L: Naming, R: Wait>(rt: &R, latch: &Latch<L>, seat: &mut Seat<L>) -> bool {
+    if seat.open_tx().is_some() || was_refused(&seat.call(rt, latch, Step::Begin)) {
+        return false;
+    }
+    let Some(tx) = seat.open_tx() else {
+        return false;
+    };
+    !was_refused(&seat.call(rt, latch, Step::Commit(tx)))
+}
+
+// Publishes the last of three commits. What another seat of the words saw before and afterwards, and then the own one.
+fn publishes_the_third<L: Naming, R: Wait + Abort>(
+    rt: &R,
+    blank: Blank,
+    words: &Words,
+    hand: &mut WordSeat,
+    other: &mut WordSeat,
+) -> Result<(u64, u64, u64), Fail>
+    requires named { (blank.seats ≡ L.seats) × (blank.table ≡ L.table) }
+    requires hands { (hand.old.of ≡ words.now) × (other.old.of ≡ words.now) }
+{
+    let (latch, mut seats) = Latch::<L>::open(blank)?;
+    let mut seat = seats.pop().ok_or("no seat")?;
+    for _ in 0..3 {
+        assert!(rt; commits(rt, &latch, &mut seat));
+    }
+    let receipt = seat.last_commit().ok_or("no commit")?;
+    let before = words.seen(other);
+    words.publish(hand, &receipt);
+    Ok((before, words.seen(other), words.seen(hand)))
+}
+
+#[test]
+fn publish_then_seen(rt: HostRuntime) -> Result<(), Fail> {
+    let (words, mut hands) = Words::open(rt.alloc(), 2)?;
+    let mut other = hands.pop().ok_or("no seat")?;
+    let mut hand = hands.pop().ok_or("no seat")?;
+    let blank = Blank::new(rt.alloc(), 1)?;
+    let seen = publishes_the_third::<Brand, HostRuntime>(
+        &rt, blank, &words, &mut hand, &mut other,
+    )?;
+    assert_eq!(rt; seen, (0, 3, 3));
     Ok(())
 }
