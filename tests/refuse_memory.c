@@ -4,6 +4,8 @@
 #include <errno.h>
 #include <stdio.h>
 #include <stdlib.h>
+#include <sys/syscall.h>
+#include <unistd.h>
 
 extern void *__libc_malloc(size_t);
 extern void *__libc_realloc(void *, size_t);
@@ -26,6 +28,12 @@ __attribute__((destructor)) static void end(void) {
         fprintf(file, "%lu\n", all);
         fclose(file);
     }
+}
+
+/* A program that may have threads ends by this call, which runs no destructor. */
+void _exit(int status) {
+    end();
+    for (;;) syscall(SYS_exit_group, status);
 }
 
 static int refused(void) {

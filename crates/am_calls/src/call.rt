@@ -7,12 +7,14 @@ use crate::locking::twelve_locks;
 use crate::mapping::{plain_alone, plain_answers};
 use crate::merging::merge_of_forty;
 use crate::reading::{cursors, scans};
+use crate::seating::seats;
 use crate::sessions::{
     abort_restores_across_partitions, merge_cuts_by_limit_and_run, merge_ends_at_a_locked_key,
 };
 use crate::tracing::{replies, traces};
 use crate::undoing::six_notes;
 use std::alloc::Global;
+use std::sync::Wait;
 
 /// A worked call, or several that belong together.
 #[derive(Clone, Copy, Debug, PartialEq, Eq)]
@@ -36,10 +38,11 @@ pub(crate) enum Call {
     AbortRestores,
     Traces,
     Replies,
+    Seats,
 }
 
 /// All calls.
-pub(crate) const CALLS: [Call; 19] = [
+pub(crate) const CALLS: [Call; 20] = [
     Call::FullLeaf,
     Call::ListOfFive,
     Call::TreeOfTwoThousand,
@@ -59,6 +62,7 @@ pub(crate) const CALLS: [Call; 19] = [
     Call::AbortRestores,
     Call::Traces,
     Call::Replies,
+    Call::Seats,
 ];
 
 impl Call {
@@ -83,11 +87,12 @@ impl Call {
             Call::AbortRestores => "abort_restores_across_partitions",
             Call::Traces => "traces",
             Call::Replies => "replies",
+            Call::Seats => "seats",
         }
     }
 
     /// Makes the call, and looks at what it did.
-    pub(crate) fn make(self, alloc: Global) -> Result<(), Fault> {
+    pub(crate) fn make<R: Wait>(self, rt: &R, alloc: Global) -> Result<(), Fault> {
         match self {
             Call::FullLeaf => full_leaf(alloc),
             Call::ListOfFive => list_of_five(alloc),
@@ -108,6 +113,7 @@ impl Call {
             Call::AbortRestores => abort_restores_across_partitions(alloc),
             Call::Traces => traces(alloc),
             Call::Replies => replies(alloc),
+            Call::Seats => seats(rt, alloc),
         }
     }
 }

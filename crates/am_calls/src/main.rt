@@ -14,6 +14,7 @@ mod mapping;
 mod merging;
 mod numbers;
 mod reading;
+mod seating;
 mod sessions;
 mod stage;
 mod tracing;
@@ -23,11 +24,12 @@ use call::{CALLS, Call};
 use fault::Fault;
 use std::alloc::Global;
 use std::process::ExitCode;
+use std::sync::Wait;
 
 // Makes the call. Where memory is refused while it is prepared, it is prepared anew, once.
-fn attempt(alloc: Global, call: Call) -> Result<(), Fault> {
-    match call.make(alloc) {
-        Err(Fault::NoMemory) => call.make(alloc),
+fn attempt<R: Wait>(rt: &R, alloc: Global, call: Call) -> Result<(), Fault> {
+    match call.make(rt, alloc) {
+        Err(Fault::NoMemory) => call.make(rt, alloc),
         outcome => outcome,
     }
 }
@@ -44,7 +46,7 @@ fn word(outcome: Result<(), Fault>) -> &'static str {
 
 fn main(rt: HostRuntime) -> ExitCode {
     for call in CALLS {
-        let outcome = attempt(rt.alloc(), call);
+        let outcome = attempt(&rt, rt.alloc(), call);
         if println!(rt; "{} {}", call.name(), word(outcome)).is_err() {
             return ExitCode::from(1);
         }

@@ -1,41 +1,31 @@
 -- From clap's clauses to the options that words name.
-use Rattle.std.proofs.Common.{◌≡◌, ◌∙◌, ◌⊎◌, ◌≢◌, ◌≤◌, ℕ, List, [], ◌∷◌, Option, Some, None, refl, sym, subst, ap, inl, inr, true, codes, option_map}
-use Rattle.std.specs.Prelude.{MatchOption}
-use Rattle.std.specs.Box.{box_value}
-use Rattle.clap.specs.Words.{App, HasMatchesOf, Row, Text, fault_of, first_of, found_of, is_simple, is_simple_and_free, kind_of, rows_of, subcommand_name_of, subcommand_of, subcommand_rows_of}
+use Rattle.std.proofs.Common.{◌≡◌, ◌∙◌, ◌⊎◌, ◌≢◌, List, [], ◌∷◌, refl, sym, subst, ap, ap₂, inl, inr, true, false, ◌||◌}
+use Rattle.std.specs.Prelude.{IsSomeAnd}
+use Rattle.clap.specs.Words.{AddsArg, App, HasMatchesOf, Rule, Text, fault_of, is_simple, is_simple_and_free, kind_of, rule_of, subcommand_of, subcommand_rows_of, with_rule}
 use Rattle.clap.specs.Kinds.{IsAmong, Kinds}
+use Rattle.clap.specs.declared.builder.arg.Arg.{Arg}
+use Rattle.clap.specs.declared.builder.command.Command.{Command}
 use Rattle.clap.specs.declared.error.Error.{Error}
 use Rattle.clap.specs.declared.error.kind.ErrorKind.{ErrorKind}
 use Rattle.clap.specs.declared.error.kind.ErrorKind.TheVariants.{DisplayHelp, OutOfMemory}
 use Rattle.clap.specs.declared.parser.matches.ArgMatches.{ArgMatches}
-use Rattle.clap.specs.declared.parser.matches.ArgMatches.TheViews.{out-ArgMatches, out-SubCommand}
 use Rattle.clap.proofs.OnLiterals.{clap_on_literals}
-use Rattle.am_server.specs.Options.{IsNoMemory, NamesAlone, NamesAuto, Names, Refuses, amserve_app}
+use Rattle.am_server.specs.Options.{IsCommand, IsNoMemory, Names, Refuses, Selects, amserve_app, number_rule}
 use Rattle.am_server.specs.declared.choice.Options.{Options}
-use Rattle.am_server.specs.declared.choice.Options.TheVariants.{Alone}
 use Rattle.am_server.specs.declared.choice.OptionsFault.{OptionsFault}
+use Rattle.am_server.specs.declared.command.Setting.{Setting}
 
--- what is read as a and as b is read as the pair
-halves : {X A B : Type 0} (f : X → A) (g : X → B) (s : Option X) (a : A) (b : B) → Some a ≡ option_map f s
-    → Some b ≡ option_map (λ (p : A × B). p.1) (option_map {U = A × B} (λ x. (f x, g x)) s) → option_map {U = A × B} (λ x. (f x, g x)) s ≡ Some (a, b)
-halves f g None a b first second = cc
-halves f g (Some x) a b first second = cc
+pub arg_added : (before after : Command) (argument : Arg) (app : App) (rule : Rule) → IsCommand app before
+    → (rule_of argument ≡ rule) × (argument.global ≡ false) → AddsArg before argument after → IsCommand (with_rule app rule) after
+arg_added before after argument app rule is_app is_rule adds =
+    (adds.shape is_rule.1 ∙ ap₂ with_rule is_app.0 is_rule.0, adds.globals ∙ ap₂ (λ a b. a || b) is_app.1 is_rule.1)
 
-pub subcommand_is : (m : ArgMatches) (name : Text) (rows : List Row) → Some name ≡ subcommand_name_of m
-    → Some rows ≡ option_map (λ (p : Text × List Row). p.1) (subcommand_rows_of m) → subcommand_rows_of m ≡ Some (name, rows)
-subcommand_is m name rows first second = halves (λ b. (out-SubCommand (box_value b)).name.now)
-    (λ b. rows_of (found_of (out-SubCommand (box_value b)).matches)) (out-ArgMatches m).subcommand name rows first second
-
--- the number for `--auto` is the number for `alone`
-pub auto_named : (entered : Option (Text × List Row)) (name : Text) (rows : List Row) (given : Option Text) (r : Option ℕ)
-    → entered ≡ Some (name, rows) → name ≡ codes "alone" → given ≡ first_of (codes "auto") rows
-    → MatchOption r ((n : ℕ) → NamesAuto given n → n ≤ 64 → ⊥) (λ n. NamesAuto given n × (n ≤ 64))
-    → MatchOption r ((n : ℕ) → NamesAlone entered n → ⊥) (NamesAlone entered)
-auto_named entered name rows given None entered_is name_is given_is named = λ n alone.
-    let p = subst (λ e. NamesAlone e n) entered_is alone in
-    named n (subst (λ g. NamesAuto g n) (sym given_is) p.1) p.2
-auto_named entered name rows given (Some n) entered_is name_is given_is named =
-    subst (λ e. NamesAlone e n) (sym entered_is) (name_is, subst (λ g. NamesAuto g n) given_is named.0, named.1)
+pub number_added : (before after : Command) (option argument : Arg) (app : App) (rule : Rule) (setting : Setting) → IsCommand app before
+    → (rule_of option ≡ rule) × (option.global ≡ false) → (rule_of argument ≡ number_rule (rule_of option) setting) × (argument.global ≡ option.global)
+    → AddsArg before argument after → IsCommand (with_rule app (number_rule rule setting)) after
+number_added before after option argument app rule setting is_app is_option is_number =
+    arg_added before after argument app (number_rule rule setting) is_app
+    (is_number.0 ∙ ap (λ r. number_rule r setting) is_option.0, is_number.1 ∙ is_option.1)
 
 is_plain : is_simple amserve_app ≡ true
 unfolding clap_on_literals
@@ -50,21 +40,20 @@ entered_as : (app : App) (m : ArgMatches) (words : List Text) → app ≡ amserv
     → subcommand_rows_of m ≡ subcommand_of amserve_app words
 entered_as app m words app_is rows = (rows (ap is_simple app_is ∙ is_plain)).1 ∙ ap (λ a. subcommand_of a words) app_is
 
-pub accepted : (app : App) (m : ArgMatches) (words : List Text) (n : ℕ) → app ≡ amserve_app → HasMatchesOf app words m
-    → (is_simple_and_free app ≡ true → fault_of app words ≡ []) → NamesAlone (subcommand_rows_of m) n → Names words (Alone n)
-accepted app m words n app_is rows faults named = (
+pub accepted : (app : App) (m : ArgMatches) (words : List Text) (options : Options) → app ≡ amserve_app → HasMatchesOf app words m
+    → (is_simple_and_free app ≡ true → fault_of app words ≡ []) → IsSomeAnd (subcommand_rows_of m) (λ entered. Selects entered options)
+    → Names words options
+accepted app m words options app_is rows faults named = (
   ap (λ a. fault_of a words) (sym app_is) ∙ faults (ap is_simple_and_free app_is ∙ is_free),
-  subst (λ e. NamesAlone e n) (entered_as app m words app_is rows) named,
+  subst (λ e. IsSomeAnd e (λ entered. Selects entered options)) (entered_as app m words app_is rows) named,
 )
 
-names_nothing : (words : List Text) → ((n : ℕ) → NamesAlone (subcommand_of amserve_app words) n → ⊥) → (options : Options) → Names words options → ⊥
-names_nothing words none (Alone n) named = none n named.1
-
 pub refused_as_nothing : (app : App) (m : ArgMatches) (words : List Text) (fault : OptionsFault) → app ≡ amserve_app → HasMatchesOf app words m
-    → ((n : ℕ) → NamesAlone (subcommand_rows_of m) n → ⊥) → fault.status ≡ 2 → Refuses words fault
+    → ((options : Options) → IsSomeAnd (subcommand_rows_of m) (λ entered. Selects entered options) → ⊥) → fault.status ≡ 2
+    → Refuses words fault
 refused_as_nothing app m words fault app_is rows none status = inr (inr (
   status,
-  names_nothing words (λ n h. none n (subst (λ e. NamesAlone e n) (sym (entered_as app m words app_is rows)) h)),
+  λ options named. none options (subst (λ e. IsSomeAnd e (λ entered. Selects entered options)) (sym (entered_as app m words app_is rows)) named.1),
 ))
 
 among_some : (k : ErrorKind) (kinds : Kinds) → IsAmong k kinds → kinds ≡ [] → ⊥
@@ -72,7 +61,7 @@ among_some k [] among e = among
 among_some k (x ∷ xs) among e = cc
 
 faulty : (words : List Text) → (fault_of amserve_app words ≡ [] → ⊥) → (options : Options) → Names words options → ⊥
-faulty words fault (Alone n) named = fault named.0
+faulty words fault options named = fault named.0
 
 pub refused_by_clap : (app : App) (e : Error) (words : List Text) (fault : OptionsFault) → app ≡ amserve_app
     → (is_simple_and_free app ≡ true → (kind_of e ≡ OutOfMemory) ⊎ IsAmong (kind_of e) (fault_of app words))

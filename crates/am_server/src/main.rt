@@ -6,12 +6,14 @@ ghost use Rattle.std.specs.Prelude.{◌≤◌};
 mod choice;
 mod command;
 mod ending;
+mod listening;
 
 use am_session::serve_alone;
 use am_wire::{Reading, Writing};
 use choice::{Options, OptionsFault};
 use command::options;
 use ending::ending;
+use listening::listen;
 use std::borrow::CowStr;
 use std::env::Env;
 use std::process::ExitCode;
@@ -64,6 +66,7 @@ fn main(rt: HostRuntime) -> anyhow::Result<ExitCode> {
     };
     match options(rt.alloc(), words.as_slice()) {
         Ok(Options::Alone { auto }) => alone(&rt, auto),
+        Ok(Options::Listen(listening)) => Ok(listen(&rt, &listening)?),
         Err(fault) => refuse(&rt, &fault),
     }
 }

@@ -3,7 +3,7 @@ use Rattle.am_server.proofs.command.options.Goals as goal
 
 pub returns-in-Some-clause-accepted : goal.returns-in-Some-clause-accepted
 returns-in-Some-clause-accepted g c =
-    accepted _ c.in-Ok.matches _ c.in-Some.auto c.in_ok-amserve.ensures c.in-Ok.ensures.matches c.in-Ok.ensures.kinds c.in-Some.ensures
+    accepted _ c.in-Ok.matches _ c.in-Some.options c.in_ok-amserve.ensures c.in-Ok.ensures.matches c.in-Ok.ensures.kinds c.in-Some.ensures
 
 pub returns-in-Ok-clause-refused : goal.returns-in-Ok-clause-refused
 returns-in-Ok-clause-refused g c =

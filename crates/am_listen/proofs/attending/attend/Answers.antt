@@ -1,0 +1,7 @@
+use Rattle.am_listen.proofs.Sessions.{has_same_seat}
+use Rattle.am_listen.proofs.attending.attend.Goals as goal
+
+pub returns-clause-seat : goal.returns-clause-seat
+returns-clause-seat g c =
+    has_same_seat g.S.Source.comes g.K.Sink.holds 0 c.args.source.now c.args.sink.now c.args.place.now c.serve.new.source c.serve.new.sink c.serve.new.backend
+    c.sessions_have_receipts.ensures.all c.sessions_have_receipts.ensures.one_more c.serve.result c.serve.ensures.served

@@ -1,0 +1,41 @@
+use Rattle.std.proofs.Common.{◌≡◌, ◌∙◌, sym, subst, arith, All, None, List}
+use Rattle.am_latch.specs.Receipts.{Seated}
+use Rattle.am_latch.specs.Ties.{open_of}
+use Rattle.am_listen.proofs.Sitting.{all_idle, all_back, count_back, all_there}
+use Rattle.am_listen.proofs.hosting.host.Goals as goal
+
+pub seat_all-requires-clause-idle : goal.seat_all-requires-clause-idle
+seat_all-requires-clause-idle g c = subst (λ (xs : List Seated). All (λ (s : Seated). open_of s.receipts ≡ None) xs) (sym c.in-Ok.ensures.seats) (all_idle g.L.Naming.seats)
+
+pub take_seats-requires : goal.take_seats-requires
+take_seats-requires g c =
+    let back = all_back 16 1000000 c.in_ok-places.places.items c.join-places.result.0.items c.in_ok-places.working.items c.join-places.result.1.seats.items c.in-Ok.seats.items
+    c.join-places.ensures.first c.join-places.ensures.second c.in_ok-places.ensures.seats in
+    let all = count_back c.join-places.result.0.items c.join-places.result.1.seats.items c.in-Ok.seats.items back in
+    omega (arith, all, c.new-all.ensures.len, c.reserve.ensures.len, c.in_ok-reserve.ensures.ok, c.len.ensures)
+
+pub unreachable-requires : goal.unreachable-requires
+unreachable-requires g c =
+    let back = all_back 16 1000000 c.in_ok-places.places.items c.join-places.result.0.items c.in_ok-places.working.items c.join-places.result.1.seats.items c.in-Ok.seats.items
+    c.join-places.ensures.first c.join-places.ensures.second c.in_ok-places.ensures.seats in
+    let all = count_back c.join-places.result.0.items c.join-places.result.1.seats.items c.in-Ok.seats.items back in
+    omega (
+      arith,
+      all,
+      c.new-all.ensures.len,
+      c.reserve.ensures.len,
+      c.in_ok-reserve.ensures.ok,
+      c.len.ensures,
+      c.take_seats.ensures.len,
+      c.take_seats.ensures.capacity,
+      c.in_default-append.ensures.full,
+      c.join-places.result.1.seats.ok,
+    )
+
+pub unreachable-requires-in_default-close : goal.unreachable-requires-in_default-close
+unreachable-requires-in_default-close g c =
+    let back = all_back 16 1000000 c.in_ok-places.places.items c.join-places.result.0.items c.in_ok-places.working.items c.join-places.result.1.seats.items c.in-Ok.seats.items
+    c.join-places.ensures.first c.join-places.ensures.second c.in_ok-places.ensures.seats in
+    c.in_default-close.ensures.all
+    (all_there g.L.Naming.seats c.append.new.self.items c.take_seats.new.all.items c.reserve.new.self.items c.join-places.result.1.seats.items c.in-Ok.seats.items
+    c.join-places.result.0.items c.in-Ok-append.ensures.items c.take_seats.ensures.seats (c.reserve.ensures.items ∙ c.new-all.ensures.items) back c.in-Ok.ensures.seats)

@@ -1,0 +1,88 @@
+//! A port of this machine.
+
+ghost use Rattle.std.specs.Prelude.{◌≡◌, ◌≤◌, ◌<◌, IfOk};
+ghost use Rattle.am_listen.specs.Hosting.{IsServed};
+
+use crate::hosting::{Served, host};
+use am_latch::Blank;
+use am_record::NoMemory;
+use am_words::Words;
+use std::alloc::Global;
+use std::io;
+use std::marker::Brand;
+use std::net::{Ipv4Addr, Net, TcpListener, TcpStream};
+use std::sync::Wait;
+use std::thread::Threads;
+use thiserror::Error;
+
+/// Why no port is listened at.
+#[derive(Clone, Copy, Debug, PartialEq, Eq, Error)]
+pub enum BindFault {
+    /// The system refused it.
+    #[error("cannot listen")]
+    CannotListen,
+}
+
+/// A listener at a port of this machine, which takes connections from this machine alone.
+#[derive(Drop)]
+pub struct Bound {
+    listener: TcpListener,
+    port: u16,
+    alloc: Global,
+}
+
+/// Listens at 127.0.0.1, at that port, or at any free one where it is 0.
+///
+/// # Errors
+/// CannotListen, where the system refuses it, as it does where the port is in use.
+pub fn bind<R: AllocGlobal + Net<Listener = TcpListener, Stream = TcpStream>>(
+    rt: &R,
+    port: u16,
+) -> Result<Bound, BindFault> {
+    listen(rt, port).map_err(|_| BindFault::CannotListen)
+}
+
+fn listen<R: AllocGlobal + Net<Listener = TcpListener, Stream = TcpStream>>(
+    rt: &R,
+    port: u16,
+) -> io::Result<Bound> {
+    let listener = TcpListener::bind(rt, (Ipv4Addr::LOCALHOST, port))?;
+    let port = listener.local_addr()?.port();
+    Ok(Bound {
+        listener,
+        port,
+        alloc: rt.alloc(),
+    })
+}
+
+impl Bound {
+    /// The port.
+    pub fn port(&self) -> u16 {
+        self.port
+    }
+
+    /// Accepts so many connections, each of which is served on a thread and a seat of its own, over one store that
+    /// begins with no records, and lets so many workers merge beside them: one turn for each answered line. It returns
+    /// once all sessions have ended.
+    ///
+    /// # Errors
+    /// NoMemory, where memory was refused before a connection was accepted.
+    pub fn serve<R: Threads + Wait + Sync>(
+        &self,
+        rt: &R,
+        sessions: u64,
+        workers: u64,
+    ) -> Result<Served, NoMemory>
+        requires sessions { (1 ≤ sessions) × (sessions ≤ 256) }
+        requires workers { workers ≤ 16 }
+        ensures { IfOk result IsServed }
+    {
+        let Ok(blank) = Blank::new(self.alloc, sessions + workers) else {
+            return Err(NoMemory);
+        };
+        let Ok((words, hands)) = Words::open(self.alloc, sessions as usize) else {
+            return Err(NoMemory);
+        };
+        host::<Brand, R>(rt, self.alloc, &self.listener, blank, &words, hands)
+    }
+}

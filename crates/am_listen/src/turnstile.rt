@@ -1,0 +1,67 @@
+//! When a worker may take a turn.
+
+ghost use Rattle.std.specs.Prelude.{◌≡◌};
+
+use am_workers::Gate;
+use std::sync::Wait;
+use std::sync::atomic::{AtomicU64, Ordering};
+
+/// Lets workers have one turn for each answered line, until all sessions have ended.
+#[derive(Drop)]
+pub struct Turnstile {
+    // Both only rise, so that a worker which sleeps at one value of the first misses no later one.
+    answered: AtomicU64,
+    taken: AtomicU64,
+    sessions: AtomicU64,
+}
+
+impl Turnstile {
+    /// A turnstile for so many sessions, of which no line was answered yet.
+    pub fn new(sessions: u64) -> Turnstile {
+        Turnstile {
+            answered: AtomicU64::new(0),
+            taken: AtomicU64::new(0),
+            sessions: AtomicU64::new(sessions),
+        }
+    }
+
+    /// A line was answered.
+    pub fn count_answer(&self) {
+        self.answered.fetch_add(1, Ordering::SeqCst);
+        self.answered.wake_one();
+    }
+
+    /// A session ended. After the last one no worker waits any more.
+    pub fn end_session(&self) {
+        if self.sessions.fetch_sub(1, Ordering::SeqCst) <= 1 {
+            self.answered.fetch_add(1, Ordering::SeqCst);
+            self.answered.wake_all();
+        }
+    }
+
+    // Takes the turn behind `taken`, unless another worker has it.
+    fn try_take(&self, taken: u64) -> bool {
+        let next = taken.wrapping_add(1);
+        self.taken
+            .compare_exchange(taken, next, Ordering::SeqCst, Ordering::SeqCst)
+            .is_ok()
+    }
+}
+
+impl Gate for Turnstile {
+    fn pass<R: Wait>(&self, rt: &R, _worker: u32, _turn: u64) -> bool {
+        for _ in rt.forever() {
+            let answered = self.answered.load(Ordering::SeqCst);
+            if self.sessions.load(Ordering::SeqCst) == 0 {
+                return false;
+            }
+            let taken = self.taken.load(Ordering::SeqCst);
+            if taken >= answered {
+                self.answered.park(rt, (answered % (1 << 32)) as u32);
+            } else if self.try_take(taken) {
+                return true;
+            }
+        }
+        unreachable!()
+    }
+}

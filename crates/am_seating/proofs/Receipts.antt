@@ -1,0 +1,83 @@
+-- A session's receipts, event by event.
+use Rattle.std.proofs.Common.{◌≡◌, ℕ, List, [], ◌∷◌, ◌++◌, Bool, true, false, Option, Some, None, length, refl, sym, ap, subst, ◌∙◌, append_assoc}
+use Rattle.std.specs.Prelude.{MatchBool, ◌==◌, cond}
+use Rattle.std.proofs.lemmas.List.{append-nil, map-append}
+use Rattle.std.proofs.lemmas.List.Elements.{filter-append}
+use Rattle.am_record.specs.declared.step.Step.{Step}
+use Rattle.am_record.specs.declared.step.Step.TheVariants.{Abort, Merge}
+use Rattle.am_record.specs.declared.step.Reply.{Reply}
+use Rattle.am_record.specs.declared.step.Reply.TheVariants.{Aborted}
+use Rattle.am_serial.specs.Trace.{Trace}
+use Rattle.am_latch.specs.declared.receipt.Receipt.{Receipt}
+use Rattle.am_latch.specs.Changes.{is_stored}
+use Rattle.am_latch.specs.Receipts.{Seated, Receives, receipt}
+use Rattle.am_talk.specs.Dialogue.{Exchange}
+use Rattle.am_talk.specs.declared.due.Due.{Due}
+use Rattle.am_talk.specs.declared.due.Due.TheVariants.{Answer, Take, TellSeen}
+use Rattle.am_talk.specs.declared.response.Response.{Response}
+use Rattle.am_session.specs.Talk.{AnswersDue, AnswersLine, Converses, Leaves, AnswersAll, AnswersOneMore}
+use Rattle.am_seating.specs.Places.{Placed, open_in, Goes, Tells, HasReceipts, taken, stored}
+
+none : (p : Placed) → HasReceipts p [] p
+none p = record { seat = refl; receipts = sym (append-nil (taken p.seat.receipts)) }
+
+-- so does a state that is the same but for the words
+like : (old new : Placed) → new.seat ≡ old.seat → HasReceipts old [] new
+like old new e = record {
+  seat = ap (λ (s : Seated). s.number) e;
+  receipts = ap (λ (s : Seated). taken s.receipts) e ∙ sym (append-nil (taken old.seat.receipts));
+}
+
+joined : (a b c : Placed) (es fs : Trace) → HasReceipts a es b → HasReceipts b fs c → HasReceipts a (es ++ fs) c
+joined a b c es fs h k = record {
+  seat = k.seat ∙ h.seat;
+  receipts =
+      k.receipts ∙ ap (λ (t : Trace). t ++ stored fs) h.receipts ∙ append_assoc (taken a.seat.receipts) (stored es) (stored fs)
+      ∙ ap (λ (t : Trace). taken a.seat.receipts ++ t) (sym (filter-append (λ (e : Step × Reply). is_stored e.1) es fs));
+}
+
+-- the receipts behind a call, whether it is stored or not
+behind : (s s' : Seated) (st : Step) (r : Reply) (b : Bool) → MatchBool b (Receives s st r s') (s' ≡ s)
+    → (s'.number ≡ s.number) × (taken s'.receipts ≡ taken s.receipts ++ cond b ((st, r) ∷ []) [])
+behind s s' st r true h =
+    (ap (λ (x : Seated). x.number) h.1, ap (λ (x : Seated). taken x.receipts) h.1 ∙ map-append (λ (x : Receipt). (x.step, x.reply)) s.receipts (receipt s.number (length s.receipts) st r h.0 ∷ []))
+behind s s' st r false h = (ap (λ (x : Seated). x.number) h, ap (λ (x : Seated). taken x.receipts) h ∙ sym (append-nil (taken s.receipts)))
+
+went : (old new : Placed) (st : Step) (r : Reply) → Goes old st r new → HasReceipts old ((st, r) ∷ []) new
+went old new st r h = let b = behind old.seat new.seat st r (is_stored r) h.called in record { seat = b.0; receipts = b.1 }
+
+answered : (old new : Placed) (due : Due) (response : Response) (events : Trace) → AnswersDue open_in Goes Tells old due response events new → HasReceipts old events new
+answered old new (Answer due) response events h = subst (λ (es : Trace). HasReceipts old es new) (sym h.1) (like old new (ap (λ (p : Placed). p.seat) h.2))
+answered old new (Take step) response events h = subst (λ (es : Trace). HasReceipts old es new) (sym h.3) (went old new step h.0 h.1)
+answered old new TellSeen response events h = subst (λ (es : Trace). HasReceipts old es new) (sym h.4) (like old new (ap (λ (p : Placed). p.seat) h.2.saw))
+
+line : (old new : Placed) (e : Exchange) (events : Trace) → AnswersLine open_in Goes Tells old e events new → HasReceipts old events new
+line old new e events h = answered old new _ _ events h.2
+
+merged : (auto : ℕ) (b : Bool) (old new : Placed) (events : Trace)
+    → MatchBool b ((events ≡ []) × (new ≡ old)) ((m : Reply) × Goes old (Merge auto) m new × (events ≡ (Merge auto, m) ∷ [])) → HasReceipts old events new
+merged auto true old new events h = subst (λ (es : Trace). HasReceipts old es new) (sym h.0) (like old new (ap (λ (p : Placed). p.seat) h.1))
+merged auto false old new events h = subst (λ (es : Trace). HasReceipts old es new) (sym h.2) (went old new (Merge auto) h.0 h.1)
+
+converse : (auto : ℕ) (exchanges : List Exchange) (old new : Placed) (events : Trace) → Converses open_in Goes Tells auto old exchanges events new → HasReceipts old events new
+converse auto [] old new events h = subst (λ (es : Trace). HasReceipts old es new) (sym h.0) (like old new (ap (λ (p : Placed). p.seat) h.1))
+converse auto (e ∷ exchanges) old new events (own, merges, later, mid, merging, answers, merge, rest, are) =
+    subst (λ (es : Trace). HasReceipts old es new) (sym are)
+    (joined old mid new own (merges ++ later) (line old mid e own answers)
+    (joined mid merging new merges later (merged auto (auto == 0) mid merging merges merge) (converse auto exchanges merging new later rest)))
+
+left : (tx : Option ℕ) (old new : Placed) (events : Trace) → Leaves open_in Goes Tells tx old events new → HasReceipts old events new
+left None old new events h = subst (λ (es : Trace). HasReceipts old es new) (sym h.0) (like old new (ap (λ (p : Placed). p.seat) h.1))
+left (Some tx) old new events h = subst (λ (es : Trace). HasReceipts old es new) (sym h.1) (went old new (Abort tx) Aborted h.0)
+
+pub all : (auto : ℕ) (old new : Placed) (exchanges : List Exchange) (events : Trace) → AnswersAll open_in Goes Tells auto old exchanges events new → HasReceipts old events new
+all auto old new exchanges events h =
+    subst (λ (es : Trace). HasReceipts old es new) (sym h.are)
+    (joined old h.last new h.own h.aborting (converse auto exchanges old h.last h.own h.converses) (left _ h.last new h.aborting h.leaves))
+
+pub one_more : (auto : ℕ) (old new : Placed) (exchanges : List Exchange) (more : Exchange) (events : Trace)
+    → AnswersOneMore open_in Goes Tells auto old exchanges more events new → HasReceipts old events new
+one_more auto old new exchanges more events h =
+    subst (λ (es : Trace). HasReceipts old es new) (sym h.are)
+    (joined old h.before new h.own (h.its ++ h.aborting) (converse auto exchanges old h.before h.own h.converses)
+    (joined h.before h.last new h.its h.aborting (line h.before h.last more h.its h.answers) (left _ h.last new h.aborting h.leaves)))

@@ -1,0 +1,10 @@
+use Rattle.std.proofs.Common.{◌∙◌, ap}
+use Rattle.am_talk.specs.Dues.{active_after}
+use Rattle.am_seating.specs.Places.{Placed, open_in}
+use Rattle.am_seating.proofs.Calls.{active_behind}
+use Rattle.am_seating.proofs.place.PlaceBackend.call.Goals as goal
+
+pub returns-clause-active : goal.returns-clause-active
+returns-clause-active g c =
+    active_behind c.self.inside.seat c.call-reply.new.self c.args.step c.call-reply.result c.call-reply.ensures.bounded c.call-reply.ensures.called
+    ∙ ap (λ (p : Placed). active_after (open_in p) c.call-reply.result) c.self.view_is

@@ -1,0 +1,5 @@
+use Rattle.am_workers.specs.Turns.{Turned}
+use Rattle.am_workers.proofs.turns.take_turns.Given as goal
+
+abbrev pub invariant-loop-turn : goal.invariant-loop-turn
+invariant-loop-turn g l = Turned l.limit l.turn l.initial.seat l.seat

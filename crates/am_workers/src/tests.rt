@@ -1,0 +1,172 @@
+ghost use Rattle.std.specs.Prelude.{◌≡◌};
+
+use crate::{Gate, run_workers};
+use am_latch::{Blank, Latch, Naming, Seat, close};
+use am_record::{Key, Op, Pairs, Range, Reply, Step, Value};
+use std::alloc::Global;
+use std::marker::Brand;
+use std::process::Abort;
+use std::sync::Wait;
+use std::sync::atomic::{AtomicU64, Ordering};
+use std::test::Fail;
+use std::thread;
+use std::thread::Threads;
+use std::time::{Clock, Duration};
+
+const BOTH: u64 = 3;
+
+const MOST_LOOKS: u64 = 10_000;
+
+// Holds each of two workers before its first turn until both are there, and ends one that waits too long.
+// The second has no other turn.
+#[derive(Drop)]
+struct Meeting<'a, C: Clock> {
+    // A bit for each worker.
+    there: AtomicU64,
+    clock: &'a C,
+}
+
+impl<'a, C: Clock> Meeting<'a, C> {
+    fn meets(&self, worker: u32) -> bool {
+        let bit = if worker == 0 { 1 } else { 2 };
+        self.there.fetch_or(bit, Ordering::SeqCst);
+        for _ in 0..MOST_LOOKS {
+            if self.there.load(Ordering::SeqCst) == BOTH {
+                return true;
+            }
+            thread::sleep(self.clock, Duration::from_millis(1));
+        }
+        false
+    }
+}
+
+impl<'a, C: Clock> Gate for Meeting<'a, C> {
+    fn pass<R: Wait>(&self, _rt: &R, worker: u32, turn: u64) -> bool {
+        if turn == 0 {
+            self.meets(worker)
+        } else {
+            worker == 0
+        }
+    }
+}
+
+fn by_two_workers<L: Naming + Send + Sync, R: Threads + Wait + Clock + Abort + Sync>(
+    rt: &R,
+    blank: Blank,
+) -> Result<(), Fail>
+    requires { (blank.seats ≡ L.seats) × (blank.table ≡ L.table) }
+{
+    let (latch, seats) = Latch::<L>::open(blank)?;
+    let meeting = Meeting {
+        there: AtomicU64::new(0),
+        clock: rt,
+    };
+    let worked = run_workers(rt, &latch, seats, 2, 16, &meeting);
+    assert_eq!(rt; worked.seats.len(), 2);
+    assert_eq!(rt; worked.seats[0].receipts().len(), 2);
+    assert_eq!(rt; worked.seats[1].receipts().len(), 1);
+    Ok(())
+}
+
+// Workers that have their turns one after another never meet.
+#[test]
+fn workers_at_the_same_time(rt: HostRuntime) -> Result<(), Fail> {
+    by_two_workers::<Brand, HostRuntime>(&rt, Blank::new(rt.alloc(), 2)?)
+}
+
+struct Always;
+
+impl Gate for Always {
+    fn pass<R: Wait>(&self, _rt: &R, _worker: u32, _turn: u64) -> bool {
+        true
+    }
+}
+
+fn begin<L: Naming, R: Wait>(rt: &R, latch: &Latch<L>, seat: &mut Seat<L>) {
+    if seat.open_tx().is_none() {
+        seat.call(rt, latch, Step::Begin);
+    }
+}
+
+// What the operation is answered in the transaction that is open in the seat.
+fn answer_of<L: Naming, R: Wait + Abort>(
+    rt: &R,
+    latch: &Latch<L>,
+    seat: &mut Seat<L>,
+    op: Op,
+) -> Reply {
+    let Some(tx) = seat.open_tx() else {
+        panic!(rt; "no transaction is open")
+    };
+    seat.call(rt, latch, Step::Do(tx, op))
+}
+
+fn commit<L: Naming, R: Wait + Abort>(rt: &R, latch: &Latch<L>, seat: &mut Seat<L>) {
+    let Some(tx) = seat.open_tx() else {
+        panic!(rt; "no transaction is open")
+    };
+    seat.call(rt, latch, Step::Commit(tx));
+    assert!(rt; seat.last_commit().is_some());
+}
+
+// Three runs of one record each.
+fn load_three<L: Naming, R: Wait + Abort>(
+    rt: &R,
+    alloc: Global,
+    latch: &Latch<L>,
+    seat: &mut Seat<L>,
+) -> Result<(), Fail> {
+    begin(rt, latch, seat);
+    for number in 1..=3 {
+        let record = (Key::of_u64(number), Value::new(b"a").ok_or("no value")?);
+        let load = Op::Load(Pairs::new(vec![in alloc; record]?));
+        let reply = answer_of(rt, latch, seat, load);
+        assert!(rt; reply == Reply::Done, "{reply:?}");
+    }
+    commit(rt, latch, seat);
+    Ok(())
+}
+
+// A scan over all three, which asks for them.
+fn scan_three<L: Naming, R: Wait + Abort>(
+    rt: &R,
+    latch: &Latch<L>,
+    seat: &mut Seat<L>,
+) -> Result<(), Fail> {
+    begin(rt, latch, seat);
+    let range = Range::new(Key::of_u64(1), Key::of_u64(3)).ok_or("no range")?;
+    let Reply::Rows(rows) = answer_of(rt, latch, seat, Op::Scan(range, 10)) else {
+        panic!(rt; "the scan has no rows")
+    };
+    assert_eq!(rt; rows.as_slice().len(), 3);
+    commit(rt, latch, seat);
+    Ok(())
+}
+
+fn by_one_worker<L: Naming + Send + Sync, R: Threads + Wait + Abort + Sync>(
+    rt: &R,
+    alloc: Global,
+    blank: Blank,
+) -> Result<(), Fail>
+    requires { (blank.seats ≡ L.seats) × (blank.table ≡ L.table) }
+{
+    let (latch, mut seats) = Latch::<L>::open(blank)?;
+    let worker = seats.pop().ok_or("no seat")?;
+    let mut reader = seats.pop().ok_or("no seat")?;
+    load_three(rt, alloc, &latch, &mut reader)?;
+    scan_three(rt, &latch, &mut reader)?;
+    let mut worked = run_workers(rt, &latch, vec![in alloc; worker]?, 5, 16, &Always);
+    assert_eq!(rt; worked.moved, 3);
+    let worker = worked.seats.pop().ok_or("no seat")?;
+    assert_eq!(rt; worker.receipts().len(), 5);
+    let Ok(closed) = close(latch, vec![in alloc; reader, worker]?) else {
+        panic!(rt; "all seats are there")
+    };
+    assert_eq!(rt; closed.store.commits(), 2);
+    Ok(())
+}
+
+#[test]
+fn moves_come_back(rt: HostRuntime) -> Result<(), Fail> {
+    by_one_worker::<Brand, HostRuntime>(&rt, rt.alloc(), Blank::new(rt.alloc(), 2)?)
+}
