@@ -1,7 +1,7 @@
 -- What a server leaves, and what its sessions leave of their seats.
 use Rattle.std.specs.Prelude.{◌≡◌, ℕ, List, map, None}
 use Rattle.am_sound.specs.Right.{IsSoundStore}
-use Rattle.am_latch.specs.Receipts.{Seated, Kept}
+use Rattle.am_latch.specs.Receipts.{Seated}
 use Rattle.am_core.specs.Standing.{StandsAt}
 use Rattle.am_steps.specs.Parts.{Parts}
 use Rattle.am_seating.specs.Places.{Placed, open_in}
@@ -21,11 +21,9 @@ IsIdle p = open_in p ≡ None
 abbrev pub HasSameSeat : Placed → Placed → Type 0
 HasSameSeat p q = q.seat.number ≡ p.seat.number
 
--- The trace is sound, is that of the receipts of some seats, and leads to a store with so many commits.
+-- The trace is sound, and leads to a store with so many commits.
 pub record IsServed (s : Served) : Type 0 where
   pub sound : IsSoundStore s.trace.items
-  pub seats : List Seated
-  pub kept : Kept seats s.trace.items
   pub store : Parts
   pub stands : StandsAt s.trace.items store
   pub commits : s.commits ≡ store.commits
