@@ -1,5 +1,5 @@
 /* Refuses a program's allocations, to be preloaded. REFUSE=N refuses the Nth, REFUSE_FROM=N each from the Nth on.
-   At the end the number of allocations goes to the file that REFUSE_COUNT names. */
+   At the end the number of allocations, and how many blocks were not given back, go to the file that REFUSE_COUNT names. */
 #define _GNU_SOURCE
 #include <errno.h>
 #include <stdio.h>
@@ -8,9 +8,12 @@
 #include <unistd.h>
 
 extern void *__libc_malloc(size_t);
+extern void *__libc_calloc(size_t, size_t);
 extern void *__libc_realloc(void *, size_t);
+extern void __libc_free(void *);
 
 static unsigned long made, one, from;
+static _Atomic long held;
 
 __attribute__((constructor)) static void begin(void) {
     const char *n = getenv("REFUSE"), *first = getenv("REFUSE_FROM");
@@ -22,10 +25,11 @@ __attribute__((constructor)) static void begin(void) {
 __attribute__((destructor)) static void end(void) {
     const char *path = getenv("REFUSE_COUNT");
     unsigned long all = made;
+    long left = held;
     one = from = 0;
     FILE *file = path ? fopen(path, "w") : NULL;
     if (file) {
-        fprintf(file, "%lu\n", all);
+        fprintf(file, "%lu %ld\n", all, left);
         fclose(file);
     }
 }
@@ -45,6 +49,21 @@ static int refused(void) {
     return 0;
 }
 
-void *malloc(size_t size) { return refused() ? NULL : __libc_malloc(size); }
+static void *counted(void *block) {
+    held += block != NULL;
+    return block;
+}
 
-void *realloc(void *old, size_t size) { return refused() ? NULL : __libc_realloc(old, size); }
+void *malloc(size_t size) { return refused() ? NULL : counted(__libc_malloc(size)); }
+
+void *calloc(size_t number, size_t size) { return counted(__libc_calloc(number, size)); }
+
+void *realloc(void *old, size_t size) {
+    if (refused()) return NULL;
+    return old ? __libc_realloc(old, size) : counted(__libc_realloc(old, size));
+}
+
+void free(void *block) {
+    held -= block != NULL;
+    __libc_free(block);
+}

@@ -1,31 +1,63 @@
-//! The program `am_bench`: work to be timed from outside. A word names the work, a second how often it is done; with no
-//! word it does nothing.
+//! The program `am_bench`: times the indexes and the store beside std's map, in one run. With no word it does nothing. With
+//! the word `figures`, and the number of keys where it isn't to be 1,000,000, it prints a line for each figure.
 #![tactic(auto)]
 
-mod work;
+mod fault;
+mod figure;
+mod keys;
+mod map;
+mod runs;
+mod store;
+mod tree;
+mod trees;
+mod watch;
 
+use fault::Fault;
+use keys::Keys;
 use std::env;
 use std::env::Env;
 use std::process::ExitCode;
-use work::{Work, do_work};
+use std::time::Clock;
+
+/// How many keys there are, where no number is named.
+const KEYS: u64 = 1_000_000;
 
 // The words of the command line behind the program's name.
 fn words<R: AllocGlobal + Env>(rt: &R) -> Option<Vec<String>> {
     env::args(rt).ok()?.collect(rt.alloc()).ok()
 }
 
+// The number of keys that the words name, if they ask for the figures.
+fn count_of(words: &[String]) -> Option<u64> {
+    if words.get(1)?.as_str() != "figures" {
+        return None;
+    }
+    match words.get(2) {
+        Some(word) => word.as_str().parse().ok(),
+        None => Some(KEYS),
+    }
+}
+
+fn print_figures<R: AllocGlobal + Print + Clock>(rt: &R, count: u64) -> Result<(), Fault> {
+    let keys = Keys::draw(rt.alloc(), count)?;
+    let filled = trees::print_figures(rt, &keys)?;
+    runs::print_figures(rt, &keys, filled)
+}
+
 fn main(rt: HostRuntime) -> ExitCode {
     let Some(words) = words(&rt) else {
         return ExitCode::from(5);
     };
-    let (Some(word), Some(count)) = (words.get(1), words.get(2)) else {
+    if words.len() < 2 {
         return ExitCode::SUCCESS;
-    };
-    let (Some(work), Ok(count)) = (Work::of_word(word.as_str()), count.as_str().parse()) else {
+    }
+    let Some(count) = count_of(&words) else {
         return ExitCode::from(2);
     };
-    match do_work(rt.alloc(), work, count) {
-        Ok(_) => ExitCode::SUCCESS,
-        Err(_) => ExitCode::from(5),
+    match print_figures(&rt, count) {
+        Ok(()) => ExitCode::SUCCESS,
+        Err(Fault::Differs) => ExitCode::from(1),
+        Err(Fault::Outside) => ExitCode::from(4),
+        Err(Fault::NoMemory) => ExitCode::from(5),
     }
 }

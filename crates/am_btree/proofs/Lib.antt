@@ -1,4 +1,5 @@
 pub mod Children
+pub mod Crosses
 pub mod Halving
 pub mod LeafSplit
 pub mod Growing
@@ -9,3 +10,4 @@ pub mod Leaves
 pub mod Seeking
 pub mod Walking
 pub mod Inner
+pub mod Reaching

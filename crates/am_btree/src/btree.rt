@@ -1,8 +1,10 @@
 //! The tree as an index.
 
-ghost use Rattle.std.specs.Prelude.{◌≡◌, ◌<◌, ◌^◌, [], IfOk};
+ghost use Rattle.std.specs.Prelude.{◌≡◌, ◌<◌, ◌^◌, [], IfOk, OnErr, is_none, if◌then◌else◌};
+ghost use Rattle.am_list.specs.Entries.{find, insert_entry};
 ghost use Rattle.am_list.specs.Places.{only_of};
 
+use crate::insert::Obstacle;
 use crate::node::Subtree;
 use crate::read::Start;
 use am_list::{Batch, PartIndex};
@@ -56,6 +58,23 @@ impl BTree {
     {
         self.depth_at(0, Key::least())
     }
+
+    /// Adds an entry, unless its place is taken, and says whether it did. It goes down once, where
+    /// to find and then to insert is to go down twice.
+    ///
+    /// # Errors
+    /// NoMemory, where memory was refused; nothing is changed.
+    pub fn insert_new(&mut self, entry: Entry) -> Result<bool, NoMemory>
+        ensures new { IfOk result (λ is_new. is_new ≡ is_none (find self.old.entries entry.part entry.key)) }
+        ensures entries { IfOk result (λ is_new. self.new.entries ≡ (if is_new then insert_entry self.old.entries entry else self.old.entries)) }
+        ensures err { OnErr result (self.new ≡ self.old) }
+    {
+        match self.root.insert(self.alloc, entry) {
+            Ok(()) => Ok(true),
+            Err(Obstacle::Taken) => Ok(false),
+            Err(Obstacle::NoMemory) => Err(NoMemory),
+        }
+    }
 }
 
 impl PartIndex for BTree {
@@ -82,7 +101,11 @@ impl PartIndex for BTree {
     }
 
     fn insert(&mut self, entry: Entry) -> Result<(), NoMemory> {
-        self.root.insert(self.alloc, entry)
+        match self.root.insert(self.alloc, entry) {
+            Ok(()) => Ok(()),
+            Err(Obstacle::NoMemory) => Err(NoMemory),
+            Err(Obstacle::Taken) => unreachable!(),
+        }
     }
 
     fn set(&mut self, part: u32, key: Key, value: Value, is_ghost: bool) {

@@ -1,6 +1,6 @@
 //! Adding an entry.
 
-ghost use Rattle.std.specs.Prelude.{◌≡◌, ◌+◌, ◌<◌, ◌≤◌, [], length, take, drop, None, OnOk, OnErr, IfOk, IfSome, vec_len, vec_capacity};
+ghost use Rattle.std.specs.Prelude.{◌≡◌, ◌+◌, ◌<◌, ◌≤◌, [], length, take, drop, None, IsSome, IsErrOf, OnOk, OnErr, IfOk, IfSome, vec_len, vec_capacity};
 ghost use Rattle.std.specs.List.{insert};
 ghost use Rattle.am_list.specs.Entries.{find, insert_entry, IsRising};
 ghost use Rattle.am_list.specs.Places.{IsGapFor};
@@ -14,8 +14,38 @@ use crate::separator::{Separator, lower, reached};
 use crate::spare::{Spare, spares};
 use am_leaf::RawLeaf;
 use am_record::{Entry, Key, NoMemory};
-use std::alloc::Global;
+use std::alloc::{AllocError, Global};
 use std::mem;
+
+/// Why an entry isn't added.
+#[derive(Clone, Copy, Debug, PartialEq, Eq)]
+pub(crate) enum Obstacle {
+    NoMemory,
+    /// Its place is taken.
+    Taken,
+}
+
+impl From<NoMemory> for Obstacle {
+    ghost use Rattle.std.specs.Prelude.{◌≡◌};
+    ghost use Rattle.am_btree.specs.declared.insert.Obstacle.TheVariants.{NoMemory as OutOfMemory};
+
+    ghost from_gives = { λ _ o. o ≡ OutOfMemory };
+
+    fn from(_: NoMemory) -> Obstacle {
+        Obstacle::NoMemory
+    }
+}
+
+impl From<AllocError> for Obstacle {
+    ghost use Rattle.std.specs.Prelude.{◌≡◌};
+    ghost use Rattle.am_btree.specs.declared.insert.Obstacle.TheVariants.{NoMemory as OutOfMemory};
+
+    ghost from_gives = { λ _ o. o ≡ OutOfMemory };
+
+    fn from(_: AllocError) -> Obstacle {
+        Obstacle::NoMemory
+    }
+}
 
 /// A new right sibling, where it begins, and the room that was got for the nodes above.
 #[derive(Drop)]
@@ -26,10 +56,11 @@ pub(crate) struct Split {
 }
 
 impl Subtree {
-    /// Adds an entry at an absent place. Where the topmost node is split, a new one comes above it.
-    pub(crate) fn insert(&mut self, alloc: Global, entry: Entry) -> Result<(), NoMemory>
-        requires { find self.old.entries entry.part entry.key ≡ None }
+    /// Adds an entry, unless its place is taken. Where the topmost node is split, a new one comes above it.
+    pub(crate) fn insert(&mut self, alloc: Global, entry: Entry) -> Result<(), Obstacle>
         ensures ok { OnOk result (self.new.entries ≡ insert_entry self.old.entries entry) }
+        ensures absent { OnOk result (find self.old.entries entry.part entry.key ≡ None) }
+        ensures taken { IsErrOf result Obstacle.Taken → IsSome (find self.old.entries entry.part entry.key) }
         ensures depth { OnOk result ((self.old.depth ≤ self.new.depth) × (self.new.depth ≤ self.old.depth + 1)) }
         ensures err { OnErr result (self.new ≡ self.old) }
     {
@@ -66,7 +97,7 @@ impl Subtree {
         Ok(())
     }
 
-    // Adds the entry below this node. Where the node is split, its new right sibling comes back, with room for
+    // Adds the entry below this node, unless its place is taken. Where the node is split, its new right sibling comes back, with room for
     // as many inner nodes as are wanted above it. All room is got before anything changes.
     fn insert_below(
         &mut self,
@@ -74,9 +105,10 @@ impl Subtree {
         entry: Entry,
         last: bool,
         wanted: usize,
-    ) -> Result<Option<Split>, NoMemory>
-        requires { find self.old.entries entry.part entry.key ≡ None }
+    ) -> Result<Option<Split>, Obstacle>
         ensures ok { IfOk result (Grows self.old self.new entry wanted) }
+        ensures absent { OnOk result (find self.old.entries entry.part entry.key ≡ None) }
+        ensures taken { IsErrOf result Obstacle.Taken → IsSome (find self.old.entries entry.part entry.key) }
         ensures err { OnErr result (self.new ≡ self.old) }
     {
         match &mut self.node {
@@ -109,24 +141,28 @@ fn wanted_below(len: usize, wanted: usize) -> Result<usize, NoMemory>
     wanted.checked_add(1).ok_or(NoMemory)
 }
 
-// Adds an entry to a leaf, which is split where it is full.
+// Adds an entry to a leaf, unless its place is taken. The leaf is split where it is full. A call of its own: so the nodes
+// above don't clear room for what only a leaf needs.
+#[inline(never)]
 fn insert_in_leaf(
     alloc: Global,
     leaf: &mut RawLeaf,
     entry: Entry,
     last: bool,
     wanted: usize,
-) -> Result<Option<Split>, NoMemory>
-    requires { find leaf.old entry.part entry.key ≡ None }
+) -> Result<Option<Split>, Obstacle>
     ensures ok { IfOk result (Grows (leaf_shape leaf.old) (leaf_shape leaf.new) entry wanted) }
+    ensures absent { OnOk result (find leaf.old entry.part entry.key ≡ None) }
+    ensures taken { IsErrOf result Obstacle.Taken → IsSome (find leaf.old entry.part entry.key) }
     ensures err { OnErr result (leaf.new ≡ leaf.old) }
     ensures most { length leaf.new ≤ 32 }
     ensures rising { IsRising leaf.new }
 {
+    let len = leaf.len();
     let Err(at) = leaf.find(entry.part, entry.key) else {
-        unreachable!()
+        return Err(Obstacle::Taken);
     };
-    if leaf.len() < ROOM {
+    if len < ROOM {
         leaf.insert_at(at, entry);
         return Ok(None);
     }
@@ -163,6 +199,7 @@ fn split_insert(leaf: &mut RawLeaf, keep: usize, at: usize, entry: Entry, upper:
 }
 
 // Adds a child, and splits the node where it is full.
+#[inline(never)]
 fn add_child(
     separators: &mut Vec<Separator>,
     children: &mut Vec<Subtree>,

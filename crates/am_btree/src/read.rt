@@ -116,10 +116,9 @@ fn read_on_in_leaf(leaf: &RawLeaf, part: u32, key: Key, batch: &mut Batch)
         if batch.is_full() {
             return;
         }
-        let entry = leaf.get(at);
-        if entry.part != part {
+        if leaf.get(at).part != part {
             return;
         }
-        batch.push(entry);
+        batch.push(leaf.get(at));
     }
 }

@@ -6,6 +6,9 @@ ghost use Rattle.am_btree.specs.Separators.{IsReach, IsChildFor, SeparatorsRise,
 use am_record::{Entry, Key};
 use std::cmp::Ordering;
 
+/// How many separators a long step of a search passes.
+const STEP: usize = 8;
+
 /// The least place that a child may hold.
 #[derive(Clone, Copy, Debug)]
 pub(crate) struct Separator {
@@ -14,6 +17,7 @@ pub(crate) struct Separator {
 }
 
 impl Separator {
+    ghost use Rattle.std.specs.Ordering.{is_le};
     ghost use Rattle.am_record.specs.EntryOrder.{place_cmp};
     ghost use Rattle.am_btree.specs.Separators.{separator_for, separator_place};
 
@@ -27,6 +31,13 @@ impl Separator {
         }
     }
 
+    // Whether it stands at or below the place.
+    fn is_reached(&self, part: u32, key: Key) -> bool
+        ensures { result ≡ is_le (place_cmp (separator_place self.now) (part, key)) }
+    {
+        self.cmp_place(part, key).is_le()
+    }
+
     #[tactic(auto, unfolding(am_record::specs::EntryOrder::place_cmp))]
     fn cmp_place(&self, part: u32, key: Key) -> Ordering
         ensures { result ≡ place_cmp (separator_place self.now) (part, key) }
@@ -35,12 +46,25 @@ impl Separator {
     }
 }
 
-/// How many children begin at or below the place.
+/// How many children begin at or below the place. The last one is asked first, since a load goes there. Then the search
+/// takes long steps and short ones, each to a separator that doesn't depend on what the one before it was: so several of
+/// them come from memory at once, where a search by halves would wait for each.
 pub(crate) fn reached(separators: &[Separator], part: u32, key: Key) -> usize
     requires { SeparatorsRise separators.now }
     ensures { IsReach separators.now part key result }
 {
-    separators.partition_point(|s| s.cmp_place(part, key).is_le())
+    let len = separators.len();
+    if len > 0 && separators[len - 1].is_reached(part, key) {
+        return len;
+    }
+    let mut reach = 0;
+    while len - reach > STEP && separators[reach + STEP - 1].is_reached(part, key) {
+        reach += STEP;
+    }
+    while reach < len && separators[reach].is_reached(part, key) {
+        reach += 1;
+    }
+    reach
 }
 
 /// The child in which the place is to be looked for: the last one that begins at or below it, and

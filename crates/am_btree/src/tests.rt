@@ -160,6 +160,17 @@ fn all_leaves_stand_at_one_depth(rt: HostRuntime) -> Result<(), Fail> {
 }
 
 #[test]
+fn a_new_entry_is_added_once(rt: HostRuntime) -> Result<(), Fail> {
+    let mut tree = BTree::new(rt.alloc())?;
+    for number in 0..100_u64 {
+        assert!(rt; tree.insert_new(numbered(0, number))?);
+        assert!(rt; !tree.insert_new(numbered(0, number))?);
+    }
+    assert!(rt; tree.next_from(0, Key::of_u64(99)) == Some(numbered(0, 99)));
+    Ok(())
+}
+
+#[test]
 fn a_loaded_run_fills_its_leaves(rt: HostRuntime) -> Result<(), Fail> {
     let mut tree = Subtree::new(rt.alloc())?;
     for number in 0..3200_u64 {

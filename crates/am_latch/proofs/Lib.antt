@@ -1,3 +1,4 @@
+pub mod Crosses
 pub mod Calling
 pub mod Fitting
 pub mod Holding

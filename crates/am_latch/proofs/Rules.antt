@@ -11,7 +11,7 @@ use Rattle.am_latch.specs.declared.receipt.Maker.{Maker}
 use Rattle.am_latch.specs.declared.book.View.{View}
 use Rattle.am_latch.specs.Traces.{Engined, longer}
 use Rattle.am_latch.specs.Receipts.{receipt, receipts_of}
-use Rattle.am_latch.specs.Book.{keeper, dealer, sitter, nobody, joined, both, sitting, keeping, dealt_one, new_sitter, Fits, Ruled, appended, Appended, Checked, log_of, IsKeeper, IsSitter, IsJoined, Settled}
+use Rattle.am_latch.specs.Book.{keeper, dealer, sitter, nobody, joined, both, sitting, keeping, dealt_one, new_sitter, Agrees, Ruled, appended, Appended, Checked, log_of, IsKeeper, IsSitter, IsJoined, Settled}
 use Rattle.am_latch.proofs.Places.{mine_more, others_same}
 
 off : false ≡ true → ⊥
@@ -24,32 +24,32 @@ at_end (x ∷ xs) a b zero e = inl e
 at_end (x ∷ xs) a b (suc j) e = ⊎_elim inl (λ t. inr (ap suc t.0, t.1)) (at_end xs a b j e)
 
 -- what holds of the other views and of the one that is set
-fits_set : (P : ℕ → View → Type 0) (views : List View) (id : ℕ) (w : View) → ((j : ℕ) (u : View) → j ≢ id → get_elem? views j ≡ some u → P j u) → P id w → (j : ℕ) (u : View) → get_elem? (set views id w) j ≡ some u → P j u
-fits_set P views id w others mine j u e =
+each_of_set : (P : ℕ → View → Type 0) (views : List View) (id : ℕ) (w : View) → ((j : ℕ) (u : View) → j ≢ id → get_elem? views j ≡ some u → P j u) → P id w → (j : ℕ) (u : View) → get_elem? (set views id w) j ≡ some u → P j u
+each_of_set P views id w others mine j u e =
     ⊎_elim
     (λ (t : (j ≡ id) × (w ≡ u)). subst (λ (y : ℕ × View). P y.0 y.1) (λ i. (sym t.0 i, t.1 i)) mine)
     (λ (t : (j ≢ id) × (get_elem? views j ≡ some u)). others j u t.0 t.1)
     (at_set views id j w u e)
 
-fits_end : (P : ℕ → View → Type 0) (views : List View) (w : View) → ((j : ℕ) (u : View) → get_elem? views j ≡ some u → P j u) → P (length views) w → (j : ℕ) (u : View) → get_elem? (views ++ w ∷ []) j ≡ some u → P j u
-fits_end P views w others mine j u e =
+each_of_end : (P : ℕ → View → Type 0) (views : List View) (w : View) → ((j : ℕ) (u : View) → get_elem? views j ≡ some u → P j u) → P (length views) w → (j : ℕ) (u : View) → get_elem? (views ++ w ∷ []) j ≡ some u → P j u
+each_of_end P views w others mine j u e =
     ⊎_elim
     (λ (t : get_elem? views j ≡ some u). others j u t)
     (λ (t : (j ≡ length views) × (w ≡ u)). subst (λ (y : ℕ × View). P y.0 y.1) (λ i. (sym t.0 i, t.1 i)) mine)
     (at_end views w u j e)
 
-fits_nobody : (book count by : ℕ) (e : Engined) → Fits book e count by nobody
-fits_nobody book count by e = record { here = λ k. absurd (off k); trace = λ k. absurd (off k); makers = λ k. absurd (off k); deals = λ k d. absurd (off k); place = λ k. absurd (off k); mine = λ k. absurd (off k) }
+agrees_nobody : (book count by : ℕ) (e : Engined) → Agrees book e count by nobody
+agrees_nobody book count by e = record { here = λ k. absurd (off k); trace = λ k. absurd (off k); makers = λ k. absurd (off k); deals = λ k d. absurd (off k); place = λ k. absurd (off k); mine = λ k. absurd (off k) }
 
 pub starts : Ruled (opening (0 ∷ []) [] (dealer 0))
 starts = record { book = 0; log = record { trace = []; makers = [] }; even = refl; each = one }
   where
-    one : (by : ℕ) (v : View) → get_elem? (dealer 0 ∷ []) by ≡ some v → Fits 0 record { trace = []; makers = [] } 1 by v
-    one zero v e = subst (Fits 0 record { trace = []; makers = [] } 1 0) (some-injective _ _ e) record { here = λ _. refl; trace = λ _. refl; makers = λ _. refl; deals = λ _ _. refl; place = λ k. absurd (off k); mine = λ k. absurd (off k) }
+    one : (by : ℕ) (v : View) → get_elem? (dealer 0 ∷ []) by ≡ some v → Agrees 0 record { trace = []; makers = [] } 1 by v
+    one zero v e = subst (Agrees 0 record { trace = []; makers = [] } 1 0) (some-injective _ _ e) record { here = λ _. refl; trace = λ _. refl; makers = λ _. refl; deals = λ _ _. refl; place = λ k. absurd (off k); mine = λ k. absurd (off k) }
     one (suc by) v e = absurd (some-ne-none v (sym e))
 
 -- a view that does not keep the book, where the book has moved to another place
-moved : (book book' count by : ℕ) (e : Engined) (v : View) → by ≢ book → Fits book e count by v → Fits book' e count by v
+moved : (book book' count by : ℕ) (e : Engined) (v : View) → by ≢ book → Agrees book e count by v → Agrees book' e count by v
 moved book book' count by e v apart f = record { here = λ k. absurd (apart (f.here k)); trace = f.trace; makers = f.makers; deals = λ kp d. f.deals kp d; place = f.place; mine = f.mine }
 
 pub joins : (id k other : ℕ) (rs : List Receipt) (e : Engined) → Joins Ruled id (sitter k rs) other (keeper e) (both (sitter k rs) (keeper e)) nobody
@@ -58,17 +58,17 @@ joins id k other rs e s h at apart there =
     let old : get_elem? s.views other ≡ some (keeper e) = ⊎_elim (λ (t : (other ≡ id) × (w ≡ keeper e)). absurd (apart t.0)) (λ (t : (other ≢ id) × (get_elem? s.views other ≡ some (keeper e))). t.1) (at_set s.views id other w (keeper e) there) in
     let book = h.each other (keeper e) old in
     let seat = h.each id (sitter k rs) at in
-    let mine : Fits id h.log (length s.views) id w = record { here = λ _. refl; trace = λ _. book.trace refl; makers = λ _. book.makers refl; deals = λ _ d. absurd (off d); place = λ _. seat.place refl; mine = λ _. seat.mine refl } in
+    let mine : Agrees id h.log (length s.views) id w = record { here = λ _. refl; trace = λ _. book.trace refl; makers = λ _. book.makers refl; deals = λ _ d. absurd (off d); place = λ _. seat.place refl; mine = λ _. seat.mine refl } in
     record {
       book = id;
       log = h.log;
       even = h.even;
       each = λ j u e'. let count : length (set (set s.views id w) other nobody) ≡ length s.views = length-set (set s.views id w) other nobody ∙ length-set s.views id w in
-          subst (λ (n : ℕ). Fits id h.log n j u) (sym count)
-          (fits_set (λ i v. Fits id h.log (length s.views) i v) (set s.views id w) other nobody
-          (λ i v far f. ⊎_elim (λ (t : (i ≡ id) × (w ≡ v)). subst (λ (y : ℕ × View). Fits id h.log (length s.views) y.0 y.1) (λ z. (sym t.0 z, t.1 z)) mine)
+          subst (λ (n : ℕ). Agrees id h.log n j u) (sym count)
+          (each_of_set (λ i v. Agrees id h.log (length s.views) i v) (set s.views id w) other nobody
+          (λ i v far f. ⊎_elim (λ (t : (i ≡ id) × (w ≡ v)). subst (λ (y : ℕ × View). Agrees id h.log (length s.views) y.0 y.1) (λ z. (sym t.0 z, t.1 z)) mine)
           (λ (t : (i ≢ id) × (get_elem? s.views i ≡ some v)). moved h.book id (length s.views) i h.log v (λ b. far (b ∙ sym (book.here refl))) (h.each i v t.1)) (at_set s.views id i w v f))
-          (fits_nobody id (length s.views) other h.log) j u e');
+          (agrees_nobody id (length s.views) other h.log) j u e');
     }
 
 pub appends : (slots id k : ℕ) (rs : List Receipt) (e : Engined) (held : List (ℕ × ℕ)) (st : what.Step) (r : Reply) (m : Maker) → m.seat ≡ k
@@ -89,8 +89,8 @@ appends slots id k rs e held st r m made s h long at fits =
         book = h.book;
         log = log;
         even = omega (arith, length-append h.log.trace ((st, r) ∷ []), length-append h.log.makers (m ∷ []), h.even);
-        each = λ j u e'. subst (λ (n : ℕ). Fits h.book log n j u) (sym count)
-            (fits_set (λ i x. Fits h.book log (length s.views) i x) s.views id w
+        each = λ j u e'. subst (λ (n : ℕ). Agrees h.book log n j u) (sym count)
+            (each_of_set (λ i x. Agrees h.book log (length s.views) i x) s.views id w
             (λ i x apart f. let o = h.each i x f in record {
               here = o.here;
               trace = λ kp. absurd (apart (o.here kp ∙ sym (mine.here refl)));
@@ -113,7 +113,7 @@ checks slots id k rs e held s h long at fits =
       v,
       keeps,
       tt,
-      record { book = h.book; log = h.log; even = h.even; each = subst (λ (l : List View). (by : ℕ) (u : View) → get_elem? l by ≡ some u → Fits h.book h.log (length l) by u) (sym again) h.each },
+      record { book = h.book; log = h.log; even = h.even; each = subst (λ (l : List View). (by : ℕ) (u : View) → get_elem? l by ≡ some u → Agrees h.book h.log (length l) by u) (sym again) h.each },
       (refl, mine.mine refl ∙ (λ i. receipts_of k record { trace = sym (mine.trace refl) i; makers = sym (mine.makers refl) i })),
     )
 
@@ -129,9 +129,9 @@ parts id k rs e s h at =
       book = length vs;
       log = h.log;
       even = h.even;
-      each = λ j u e'. subst (λ (n : ℕ). Fits (length vs) h.log n j u) (sym count)
-          (fits_end (λ i x. Fits (length vs) h.log (suc (length s.views)) i x) vs (keeper e)
-          (fits_set (λ i x. Fits (length vs) h.log (suc (length s.views)) i x) s.views id w
+      each = λ j u e'. subst (λ (n : ℕ). Agrees (length vs) h.log n j u) (sym count)
+          (each_of_end (λ i x. Agrees (length vs) h.log (suc (length s.views)) i x) vs (keeper e)
+          (each_of_set (λ i x. Agrees (length vs) h.log (suc (length s.views)) i x) s.views id w
           (λ i x apart f. let o = h.each i x f in record { here = λ kp. absurd (apart (o.here kp ∙ sym (mine.here refl))); trace = o.trace; makers = o.makers; deals = λ kp d. absurd (apart (o.here kp ∙ sym (mine.here refl))); place = o.place; mine = o.mine })
           record { here = λ kp. absurd (off kp); trace = λ kp. absurd (off kp); makers = λ kp. absurd (off kp); deals = λ kp d. absurd (off kp); place = λ _. mine.place refl; mine = λ _. mine.mine refl })
           record { here = λ _. refl; trace = λ _. mine.trace refl; makers = λ _. mine.makers refl; deals = λ _ d. absurd (off d); place = λ d. absurd (off d); mine = λ d. absurd (off d) }
@@ -152,9 +152,9 @@ deals id n s h at =
       book = h.book;
       log = h.log;
       even = h.even;
-      each = λ j u e'. subst (λ (k : ℕ). Fits h.book h.log k j u) (sym count)
-          (fits_end (λ i x. Fits h.book h.log (suc (length s.views)) i x) vs (sitter n [])
-          (fits_set (λ i x. Fits h.book h.log (suc (length s.views)) i x) s.views id w
+      each = λ j u e'. subst (λ (k : ℕ). Agrees h.book h.log k j u) (sym count)
+          (each_of_end (λ i x. Agrees h.book h.log (suc (length s.views)) i x) vs (sitter n [])
+          (each_of_set (λ i x. Agrees h.book h.log (suc (length s.views)) i x) s.views id w
           (λ i x apart f. let o = h.each i x f in record { here = o.here; trace = o.trace; makers = o.makers; deals = λ kp d. absurd (apart (o.here kp ∙ sym (mine.here refl))); place = o.place; mine = o.mine })
           record { here = λ _. mine.here refl; trace = λ _. mine.trace refl; makers = λ _. mine.makers refl; deals = λ _ _. omega arith; place = λ kp. absurd (off kp); mine = λ kp. absurd (off kp) })
           record { here = λ kp. absurd (off kp); trace = λ kp. absurd (off kp); makers = λ kp. absurd (off kp); deals = λ kp d. absurd (off kp); place = λ _. end ∙ dealt; mine = λ _. ap (receipts_of n) (sym none_yet) }
@@ -208,8 +208,8 @@ settles slots id n held s h long at fits =
         book = h.book;
         log = h.log;
         even = h.even;
-        each = λ j u e'. subst (λ (k : ℕ). Fits h.book h.log k j u) (sym count)
-            (fits_set (λ i x. Fits h.book h.log (length s.views) i x) s.views id w
+        each = λ j u e'. subst (λ (k : ℕ). Agrees h.book h.log k j u) (sym count)
+            (each_of_set (λ i x. Agrees h.book h.log (length s.views) i x) s.views id w
             (λ i x apart f. h.each i x f)
             record { here = λ _. mine.here refl; trace = λ _. mine.trace refl; makers = λ _. mine.makers refl; deals = λ _ d. absurd (off d); place = λ kp. absurd (off kp); mine = λ kp. absurd (off kp) }
             j u e');

@@ -44,7 +44,7 @@ abbrev pub new_sitter : View → View
 new_sitter v = sitter v.dealt []
 
 -- what holds of each view: one view at most keeps the book, and each seat has the receipts of its calls. The seat k has the view k + 1
-pub record Fits (book : ℕ) (e : Engined) (count by : ℕ) (v : View) : Type 0 where
+pub record Agrees (book : ℕ) (e : Engined) (count by : ℕ) (v : View) : Type 0 where
   pub here : v.keeps ≡ true → by ≡ book
   pub trace : v.keeps ≡ true → v.trace ≡ e.trace
   pub makers : v.keeps ≡ true → v.makers ≡ e.makers
@@ -56,7 +56,7 @@ pub record Ruled (s : State ℕ View) : Type 0 where
   pub book : ℕ
   pub log : Engined
   pub even : length log.makers ≡ length log.trace
-  pub each : (by : ℕ) (v : View) → get_elem? s.views by ≡ some v → Fits book log (length s.views) by v
+  pub each : (by : ℕ) (v : View) → get_elem? s.views by ≡ some v → Agrees book log (length s.views) by v
 
 abbrev pub appended : step.Step → Reply → Maker → View → View
 appended st r m v = record { keeps = v.keeps; trace = v.trace ++ (st, r) ∷ []; makers = v.makers ++ m ∷ []; deals = v.deals; dealt = v.dealt; sits = v.sits; seat = v.seat; mine = v.mine ++ receipt v.seat (length v.mine) st r (length v.trace) ∷ [] }

@@ -7,11 +7,11 @@ ghost use Rattle.am_latch.specs.Changes.{active};
 ghost use Rattle.am_latch.specs.Book.{IsKeeper, log_of};
 
 use crate::book::{Board, Token};
-use crate::engine::Index;
 use crate::held::Held;
 use crate::latch::Latch;
 use crate::naming::Naming;
 use crate::seat::Seat;
+use am_btree::BTree;
 use am_core::Store;
 use am_record::{Reply, Step};
 use std::marker::PhantomData;
@@ -22,7 +22,7 @@ use std::sync::Mutex;
 #[derive(Drop)]
 pub struct Closed<L: Naming> {
     pub trace: Vec<(Step, Reply)>,
-    pub store: Store<Index>,
+    pub store: Store<BTree>,
     pub seats: Vec<Seat<L>>,
 }
 

@@ -12,19 +12,16 @@ ghost use Rattle.am_latch.specs.Traces.{Engined, fresh, Stepped, ends_after};
 use crate::change::{Change, change_by, starts_tx, tx_to_end, was_refused, was_stored};
 use crate::receipt::Maker;
 use crate::room::{Room, copy_reply, copy_step, rows_of};
+use am_btree::BTree;
 use am_core::Store;
-use am_list::ListIndex;
 use am_record::{NoMemory, Refusal, Reply, Step};
 use std::alloc::Global;
 use std::marker::Model;
 
-/// The index over which the store of an engine stands.
-pub type Index = ListIndex;
-
 /// A store and its stored trace, with room in it for the end of each active transaction.
 #[derive(Drop)]
 pub struct Engine {
-    store: Store<Index>,
+    store: Store<BTree>,
     trace: Vec<(Step, Reply)>,
     makers: Vec<Maker>,
     /// For how many ends room is kept.
@@ -55,7 +52,7 @@ impl Engine {
         ensures { IfOk result (λ e. e ≡ fresh) }
     {
         am_steps::steps_lift();
-        let store = Store::open(alloc, Index::new(alloc))?;
+        let store = Store::open(alloc, BTree::new(alloc)?)?;
         Ok(Engine {
             store,
             trace: Vec::new(alloc),
@@ -108,7 +105,7 @@ impl Engine {
     }
 
     /// The store, which is where the stored trace leaves it.
-    pub fn store(&self) -> &Store<Index>
+    pub fn store(&self) -> &Store<BTree>
         ensures { StandsAt self.now.trace result.now }
     {
         &self.store
@@ -117,7 +114,7 @@ impl Engine {
 
 impl Engine {
     /// The trace, and the store that it leaves.
-    pub(crate) fn into_parts(self) -> (Vec<(Step, Reply)>, Store<Index>)
+    pub(crate) fn into_parts(self) -> (Vec<(Step, Reply)>, Store<BTree>)
         ensures trace { result.0.items ≡ self.trace }
         ensures stands { StandsAt self.trace result.1 }
         ensures even { length self.makers ≡ length self.trace }
@@ -127,7 +124,7 @@ impl Engine {
 }
 
 // Takes a step of the store, wherever it stands.
-fn take_step(store: &mut Store<Index>, step: Step) -> Reply
+fn take_step(store: &mut Store<BTree>, step: Step) -> Reply
     ensures goes { (trace : Trace) → HasTrace trace store.old → Goes trace step result store.new }
     ensures bounded { (trace : Trace) → HasTrace trace store.old → Bounded step result }
 {

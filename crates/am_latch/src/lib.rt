@@ -23,7 +23,7 @@ mod seat;
 
 pub use change::{was_refused, was_stored};
 pub use closing::{Closed, Missing, close};
-pub use engine::{Engine, Index};
+pub use engine::Engine;
 pub use latch::{Blank, Latch, LatchFault};
 pub use naming::Naming;
 pub use receipt::{CommitReceipt, Maker, Receipt};

@@ -1,6 +1,8 @@
 pub mod Crosses
+pub mod Heap
 pub mod Leaves
 pub mod MarkLemmas
+pub mod Memory
+pub mod Moves
 pub mod Rising
-pub mod Rows
 pub mod Zips

@@ -1,10 +1,9 @@
 -- What a leaf is seen as, and what holds of it.
-use Rattle.std.specs.Prelude.{ℕ, ◌/◌, ◌^◌, ◌<◌, List, [], ◌∷◌}
+use Rattle.std.specs.Prelude.{◌≡◌, ℕ, ◌/◌, ◌^◌, ◌<◌, ◌≤◌, List, [], ◌∷◌, length}
 use Rattle.am_record.specs.declared.entry.Entry.{Entry}
 use Rattle.am_record.specs.EntryOrder.{Place}
 use Rattle.am_list.specs.Entries.{IsRising}
 use Rattle.am_leaf.specs.declared.leaf.RawLeaf.TheInside.{Inside}
-use Rattle.am_leaf.specs.Blocks.{first_values, HasFirst}
 use Rattle.am_leaf.specs.Marks.{mark}
 
 -- places, values and marks, one by one
@@ -14,11 +13,12 @@ entries_of (p ∷ ps) [] m = []
 entries_of (p ∷ ps) (v ∷ vs) m = record { part = p.0; key = p.1; value = v; is_ghost = mark m 0 } ∷ entries_of ps vs (m / 2)
 
 abbrev pub entries : Inside → List Entry
-entries a = entries_of (first_values a.places.slots a.len) (first_values a.values.slots a.len) a.marks
+entries a = entries_of a.places a.values a.marks
 
--- as many places as values stand at the front of the two blocks, a mark stands only at these, and the entries rise
+-- as many places as values stand in the two blocks, a mark stands only at these, and the entries rise
 pub record IsLeaf (a : Inside) : Type 0 where
-  pub places : HasFirst a.places.slots a.len
-  pub values : HasFirst a.values.slots a.len
+  pub places : length a.places ≡ a.len
+  pub values : length a.values ≡ a.len
+  pub most : a.len ≤ 32
   pub marks : a.marks < 2 ^ a.len
   pub rising : IsRising (entries a)

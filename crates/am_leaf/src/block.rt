@@ -1,142 +1,126 @@
-//! Raw memory for 32 values, behind a pointer. What is proved of it rests on the row of places of `core`, which tells the
-//! places that hold a value from those that don't.
+//! Raw memory for 32 values, behind a pointer. Each function here that uses the pointer is proved by hand
+//! (`proofs/block`), and no other code sees it.
 
-ghost use Rattle.std.specs.Prelude.{◌≡◌, ◌+◌, ◌-◌, ◌*◌, ◌^◌, ◌<◌, ◌≤◌, take, drop, IfOk, slice_index_or, slice_set};
+ghost use Rattle.std.specs.Prelude.{◌≡◌, ◌*◌, ◌^◌, ◌<◌, ◌≤◌, List, [], take, drop, length, IfOk, slice_index_or, slice_set};
 ghost use Rattle.std.specs.List.{insert, remove};
 ghost use Rattle.std.specs.Mem.{type_size};
-ghost use Rattle.core.specs.Mem.Slots.{slots_ptr, slots_len, lease_ptr, lease_len, lease_heap};
-ghost use Rattle.am_leaf.specs.Blocks.{first_values, HasFirst};
 
-use core::slots::{Lease, Slots, release, reserve};
-use std::alloc::{AllocError, Global};
+use std::alloc::{AllocError, Allocator, Global};
 use std::marker::Model;
+use std::mem::{align_of, size_of};
+use std::ptr::{copy, copy_nonoverlapping};
 
-/// A row of 32 places, and the right to give it back to the allocator.
-struct Row<T> {
-    slots: Slots<T>,
-    lease: Lease<T, Global>,
-    alloc: Global,
-    ghost size: { slots_len slots ≡ 32 },
-    ghost leased: { (lease_ptr lease ≡ slots_ptr slots) × (lease_len lease ≡ slots_len slots) × (lease_heap lease ≡ alloc) },
-}
-
-/// A block of 32 places. The first ones hold values, how many is told to each function; the
-/// others are raw memory.
+/// A block of 32 places. The first ones hold values, how many is told to each function that moves
+/// them; the others are raw memory.
 pub(crate) struct Block<T> {
-    row: Row<T>,
+    at: *mut T,
+    alloc: Global,
+    ghost values: { List T },
+    ghost fits: { length values ≤ 32 },
 }
 
-// A block is seen as its row, and owns and lends nothing beside it. A type that says so, by
-// `also_owns`, may have a proof of its own that it crosses threads; the row has none.
+// A block is seen as its values. It owns its 32 places and the right to give them back, and a `&` to it
+// reaches the values.
 impl<T> Model for Block<T> {
-    ghost use base.Fml.{ftrue};
-    ghost use Rattle.am_leaf.specs.declared.block.Row.{Row};
+    ghost use Rattle.std.specs.Prelude.{List};
+    ghost use base.Stored.{coded_list};
+    ghost use Rattle.am_leaf.specs.Blocks.{block_owns, block_lends};
 
-    ghost Value = { Row T };
+    ghost Value = { List T };
 
-    ghost view = { λ a. a.row };
+    ghost coded = { coded_list T.code };
 
-    ghost also_owns = { λ _. ftrue };
+    ghost view = { λ b. b.values };
 
-    ghost also_shares = { λ _ _ _. ftrue };
+    ghost also_owns = { λ b. block_owns T.row b.alloc b.at b.values };
+
+    ghost also_shares = { λ b _ κ. block_lends T.row b.at b.values κ };
 }
 
-// What a row owns and lends names no thread: values that may cross, raw memory, and the right to
+// What a block owns and lends names no thread: values that may cross, raw memory, and the right to
 // give it back, which any thread may use (`proofs/Crosses.antt`).
 unsafe impl<T: Send> Send for Block<T> {}
 
 unsafe impl<T: Sync> Sync for Block<T> {}
 
-impl<T> Block<T> {
-    fn of(row: Row<T>) -> Block<T>
-        ensures { result ≡ row }
-    {
-        Block { row }
-    }
-}
-
 impl<T: Copy> Block<T> {
-    /// A block whose places are all empty. `like` only shows that the type has a value.
-    pub(crate) fn new(alloc: Global, like: T) -> Result<Block<T>, AllocError>
+    /// A block that holds nothing yet.
+    pub(crate) fn new(alloc: Global) -> Result<Block<T>, AllocError>
         requires { 32 * type_size T.row < 2 ^ 63 }
-        ensures { IfOk result (λ b. HasFirst b.slots 0) }
+        ensures { IfOk result (λ b. b ≡ []) }
     {
-        let (slots, lease) = unsafe { reserve(&alloc, &[like; 32]) }?;
-        Ok(Block::of(Row {
-            slots,
-            lease,
-            alloc,
-        }))
+        match alloc.allocate(32 * size_of::<T>(), align_of::<T>()) {
+            Ok(block) => Ok(Block {
+                at: block as *mut T,
+                alloc,
+            }),
+            Err(refused) => Err(refused),
+        }
     }
 
     /// The value at `at`.
-    pub(crate) fn get(&self, len: usize, at: usize) -> &T
-        requires held { HasFirst self.now.slots len }
-        requires in_range { at < len }
-        ensures { result.now ≡ slice_index_or (first_values self.now.slots len) at result.now }
+    pub(crate) fn get(&self, at: usize) -> &T
+        requires { at < length self.now }
+        ensures { result.now ≡ slice_index_or self.now at result.now }
     {
-        self.row.slots.get(at)
+        unsafe { &*self.at.add(at) }
     }
 
     /// Writes over the value at `at`.
-    pub(crate) fn set(&mut self, len: usize, at: usize, value: T)
-        requires held { HasFirst self.old.slots len }
-        requires in_range { at < len }
-        ensures held { HasFirst self.new.slots len }
-        ensures values { first_values self.new.slots len ≡ slice_set (first_values self.old.slots len) at value }
+    pub(crate) fn set(&mut self, at: usize, value: T)
+        requires { at < length self.old }
+        ensures { self.new ≡ slice_set self.old at value }
     {
-        self.row.slots.put(at, value);
+        unsafe { self.at.add(at).write(value) }
     }
 
     /// Moves the values from `at` on up by one, and writes one there.
     pub(crate) fn insert(&mut self, len: usize, at: usize, value: T)
-        requires held { HasFirst self.old.slots len }
+        requires all { len ≡ length self.old }
         requires room { len < 32 }
         requires in_range { at ≤ len }
-        ensures held { HasFirst self.new.slots (len + 1) }
-        ensures values { first_values self.new.slots (len + 1) ≡ insert (first_values self.old.slots len) at value }
+        ensures { self.new ≡ insert self.old at value }
     {
-        self.row.slots.move_within(at, at + 1, len - at);
-        self.row.slots.put(at, value);
+        unsafe {
+            let place = self.at.add(at);
+            copy(place, place.add(1), len - at);
+            place.write(value);
+        }
     }
 
     /// Reads the value at `at`, and moves those above it down by one.
     pub(crate) fn remove(&mut self, len: usize, at: usize) -> T
-        requires held { HasFirst self.old.slots len }
+        requires all { len ≡ length self.old }
         requires in_range { at < len }
-        ensures value { result ≡ slice_index_or (first_values self.old.slots len) at result }
-        ensures held { HasFirst self.new.slots (len - 1) }
-        ensures values { first_values self.new.slots (len - 1) ≡ remove (first_values self.old.slots len) at }
+        ensures value { result ≡ slice_index_or self.old at result }
+        ensures others { self.new ≡ remove self.old at }
     {
-        let value = self.row.slots.take(at);
-        self.row.slots.move_within(at + 1, at, len - 1 - at);
-        value
+        unsafe {
+            let place = self.at.add(at);
+            let value = place.read();
+            copy(place.add(1), place, len - 1 - at);
+            value
+        }
     }
 
-    /// Moves the values from `at` on to the beginning of the other block.
+    /// Moves the values from `at` on to the other block, which holds none.
     pub(crate) fn split_into(&mut self, len: usize, other: &mut Block<T>, at: usize)
-        requires held { HasFirst self.old.slots len }
+        requires all { len ≡ length self.old }
         requires in_range { at ≤ len }
-        ensures held { HasFirst self.new.slots at }
-        ensures values { first_values self.new.slots at ≡ take at (first_values self.old.slots len) }
-        ensures other_held { HasFirst other.new.slots (len - at) }
-        ensures other_values { first_values other.new.slots (len - at) ≡ drop at (first_values self.old.slots len) }
+        requires empty { other.old ≡ [] }
+        ensures front { self.new ≡ take at self.old }
+        ensures back { other.new ≡ drop at self.old }
     {
-        self.row
-            .slots
-            .move_run(at, &mut other.row.slots, 0, len - at);
+        unsafe { copy_nonoverlapping(self.at.add(at), other.at, len - at) }
     }
 }
 
 impl<T> Drop for Block<T> {
     // Only values that are `Copy` are ever put in, so none needs a drop of its own.
     fn drop(self) {
-        let Block { row } = self;
-        let Row {
-            slots,
-            lease,
-            alloc,
-        } = row;
-        release(&alloc, slots, lease);
+        let Block { at, alloc } = self;
+        unsafe {
+            alloc.deallocate(at as *mut u8, 32 * size_of::<T>(), align_of::<T>());
+        }
     }
 }

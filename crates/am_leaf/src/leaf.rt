@@ -49,12 +49,9 @@ impl RawLeaf {
     pub fn new(alloc: Global) -> Result<RawLeaf, NoMemory>
         ensures { IfOk result (λ leaf. leaf ≡ []) }
     {
-        let Some(value) = Value::new(&[]) else {
-            unreachable!()
-        };
         Ok(RawLeaf {
-            places: Block::new(alloc, (0, Key::least()))?,
-            values: Block::new(alloc, value)?,
+            places: Block::new(alloc)?,
+            values: Block::new(alloc)?,
             len: 0,
             marks: 0,
         })
@@ -75,11 +72,11 @@ impl RawLeaf {
         requires { at < length self.now }
         ensures { result ≡ slice_index_or self.now at result }
     {
-        let (part, key) = *self.places.get(self.len, at);
+        let (part, key) = *self.places.get(at);
         Entry {
             part,
             key,
-            value: *self.values.get(self.len, at),
+            value: *self.values.get(at),
             is_ghost: mark_at(self.marks, at),
         }
     }
@@ -90,7 +87,7 @@ impl RawLeaf {
         requires { at < length self.now }
         ensures { (d : Entry) → result ≡ place_cmp (place_of (slice_index_or self.now at d)) (part, key) }
     {
-        let place = self.places.get(self.len, at);
+        let place = self.places.get(at);
         place.0.cmp(&part).then(place.1.cmp(&key))
     }
 
@@ -134,7 +131,7 @@ impl RawLeaf {
         requires { at < length self.old }
         ensures { self.new ≡ set_at self.old at value is_ghost }
     {
-        self.values.set(self.len, at, value);
+        self.values.set(at, value);
         self.marks = change_mark(self.marks, at, is_ghost);
     }
 

@@ -1,7 +1,7 @@
-use Rattle.std.proofs.Common.{◌≡◌, ℕ, ◌<◌, List, [], ◌∷◌, zero, suc, length, get_or, refl, sym, ap, ◌∙◌, subst, length-take, arith}
+use Rattle.std.proofs.Common.{◌≡◌, ◌≢◌, Option, None, Some, IsSome, ℕ, ◌<◌, List, [], ◌∷◌, zero, suc, length, get_or, refl, sym, ap, ◌∙◌, subst, length-take, arith}
 use Rattle.am_record.specs.EntryOrder.{place_of}
-use Rattle.am_list.specs.Entries.{IsRising}
-use Rattle.am_list.proofs.Searches.{insert_gap, rising_insert_gap, find_present}
+use Rattle.am_list.specs.Entries.{find, IsRising}
+use Rattle.am_list.proofs.Searches.{insert_gap, rising_insert_gap, find_present, find_absent}
 use Rattle.am_list.proofs.Lists.{rising_front}
 use Rattle.std.specs.List.{insert}
 use Rattle.std.proofs.lemmas.List.Edits.{length-insert}
@@ -10,9 +10,6 @@ use Rattle.am_btree.specs.Splits.{lower_size}
 use Rattle.am_btree.proofs.Halving.{size_range}
 use Rattle.am_btree.proofs.LeafSplit.{joined, rising_both, rising_upper, upper_long, parted_at}
 use Rattle.am_btree.proofs.insert.insert_in_leaf.Goals as goal
-
-pub unreachable-requires : goal.unreachable-requires
-unreachable-requires c = find_present c.args.leaf.now c.args.entry.part c.args.entry.key c.in_default.field-0 c.in_default.ensures.found c.requires
 
 pub returns-then-len-lt-ROOM-clause-ok : goal.returns-then-len-lt-ROOM-clause-ok
 returns-then-len-lt-ROOM-clause-ok c = ((refl, c.insert_at.ensures ∙ insert_gap c.args.leaf.now c.args.entry c.in-Err.at c.in-Err.ensures.absent), tt)
@@ -26,7 +23,7 @@ invariant_of-right c =
     let out = c.split_insert.ensures in
     let range = size_range c.keep_of.result i c.keep_of.ensures.keeps c.keep_of.ensures.room in
     let long = upper_long xs x i gap c.in-Err.ensures.rising m c.split_insert.new.leaf c.split_insert.new.upper out.front out.back in
-    (omega (arith, c.len.ensures.most, c.len.ensures.all), rising_upper xs x i gap c.in-Err.ensures.rising m c.split_insert.new.leaf c.split_insert.new.upper out.front out.back)
+    (omega (arith, c.len-len.ensures.most, c.len-len.ensures.all), rising_upper xs x i gap c.in-Err.ensures.rising m c.split_insert.new.leaf c.split_insert.new.upper out.front out.back)
 
 pub get-requires : goal.get-requires
 get-requires c =
@@ -34,7 +31,7 @@ get-requires c =
     let out = c.split_insert.ensures in
     let range = size_range c.keep_of.result i c.keep_of.ensures.keeps c.keep_of.ensures.room in
     let long = upper_long xs x i gap c.in-Err.ensures.rising m c.split_insert.new.leaf c.split_insert.new.upper out.front out.back in
-    omega (arith, c.len.ensures.all, c.if-len-lt-ROOM.false)
+    omega (arith, c.len-len.ensures.all, c.if-len-lt-ROOM.false)
 
 pub returns-clause-ok : goal.returns-clause-ok
 returns-clause-ok c =
@@ -43,7 +40,7 @@ returns-clause-ok c =
     let range = size_range c.keep_of.result i c.keep_of.ensures.keeps c.keep_of.ensures.room in
     let long = upper_long xs x i gap c.in-Err.ensures.rising m lower upper out.front out.back in
     let longer = length-insert xs i x gap.in_range in
-    let some : 0 < length upper = omega (arith, c.len.ensures.all, c.if-len-lt-ROOM.false) in
+    let some : 0 < length upper = omega (arith, c.len-len.ensures.all, c.if-len-lt-ROOM.false) in
     let cut = length-take m (insert xs i x) in
     let first = c.get.result in
     let separator = c.of-separator.result in
@@ -71,3 +68,16 @@ returns-clause-rising c =
     let xs = c.args.leaf.now in let x = c.args.entry in let i = c.in-Err.at in let gap = c.in-Err.ensures.absent in let m = lower_size c.keep_of.result i in
     let out = c.split_insert.ensures in
     rising_front c.split_insert.new.leaf c.split_insert.new.upper (rising_both xs x i gap c.in-Err.ensures.rising m c.split_insert.new.leaf c.split_insert.new.upper out.front out.back)
+
+is_some : {X : Type 0} (o : Option X) → o ≢ None → IsSome o
+is_some None n = absurd (n refl)
+is_some (Some x) n = refl
+
+pub returns-in_default-clause-taken : goal.returns-in_default-clause-taken
+returns-in_default-clause-taken c = λ _. is_some (find c.args.leaf.now c.args.entry.part c.args.entry.key) (find_present c.args.leaf.now c.args.entry.part c.args.entry.key c.in_default.field-0 c.in_default.ensures.found)
+
+pub returns-then-len-lt-ROOM-clause-absent : goal.returns-then-len-lt-ROOM-clause-absent
+returns-then-len-lt-ROOM-clause-absent c = find_absent c.args.leaf.now c.args.entry.part c.args.entry.key c.in-Err.at c.in-Err.ensures.absent
+
+pub returns-clause-absent : goal.returns-clause-absent
+returns-clause-absent c = find_absent c.args.leaf.now c.args.entry.part c.args.entry.key c.in-Err.at c.in-Err.ensures.absent

@@ -1,6 +1,6 @@
-use Rattle.std.proofs.Common.{◌≢◌, ◌++◌, ◌+◌, ◌<◌, ◌≤◌, Bool, [], ◌∷◌, length, take, drop, eqb, sym, ap, ◌∙◌, append_assoc, arith}
+use Rattle.std.proofs.Common.{◌≡◌, ◌≢◌, ◌++◌, ◌+◌, ◌<◌, ◌≤◌, Bool, [], ◌∷◌, length, take, drop, eqb, sym, ap, ◌∙◌, append_assoc, arith}
 use Rattle.std.proofs.lemmas.Bool.{eq-eqb, ne_eqb, eqb-true, true≢false}
-use Rattle.std.proofs.lemmas.List.{drop_all, length-append}
+use Rattle.std.proofs.lemmas.List.{drop_all, length-append, get_or_default}
 use Rattle.std.specs.List.{take_while}
 use Rattle.am_record.specs.declared.entry.Entry.{Entry}
 use Rattle.am_list.proofs.Batches.{take_whole, take_full, passes_on, ends_here, all_after_at}
@@ -18,22 +18,23 @@ returns-then-is_full-clause-read c =
     let in_part : Entry → Bool = λ e. eqb e.part c.args.part in
     sym (take_full 8 batch (take_while in_part (drop c.loop-at.at c.args.leaf.now)) (eqb-true _ _ (sym c.is_full.ensures.full ∙ c.if-is_full.true))) ∙ c.loop-at.invariant.same
 
-pub returns-then-entry-part-clause-read : goal.returns-then-entry-part-clause-read
-returns-then-entry-part-clause-read c =
+pub returns-then-get-part-clause-read : goal.returns-then-get-part-clause-read
+returns-then-get-part-clause-read c =
     let batch = c.loop-at.batch in
     let in_part : Entry → Bool = λ e. eqb e.part c.args.part in
     let within : c.loop-at.at < length c.args.leaf.now = omega (arith, c.loop-at-test.true, c.len-at-end.ensures.all) in
-    let none = ends_here in_part c.args.leaf.now c.loop-at.at c.get-entry.result within c.get-entry.ensures (ne_eqb _ _ c.if-entry-part.true) in
+    let none = ends_here in_part c.args.leaf.now c.loop-at.at c.get.result within c.get.ensures (ne_eqb _ _ c.if-get-part.true) in
     sym (take_whole 8 batch c.loop-at.invariant.fits) ∙ ap (λ es. take 8 (batch ++ es)) (sym none) ∙ c.loop-at.invariant.same
 
 pub loop-at-preserved : goal.loop-at-preserved
 loop-at-preserved c =
-    let batch = c.loop-at.batch in let e = c.get-entry.result in
+    let batch = c.loop-at.batch in let e = c.get-in-loop-at.result in
     let in_part : Entry → Bool = λ e. eqb e.part c.args.part in
     let rest = take_while in_part (drop (c.loop-at.at + 1) c.args.leaf.now) in
     let within : c.loop-at.at < length c.args.leaf.now = omega (arith, c.loop-at-test.true, c.len-at-end.ensures.all) in
     let not_full : length batch ≢ 8 = λ full. true≢false (sym (eq-eqb _ _ full) ∙ (sym c.is_full.ensures.full ∙ c.if-is_full.false)) in
-    let goes_on = passes_on in_part c.args.leaf.now c.loop-at.at e within c.get-entry.ensures (eq-eqb _ _ c.if-entry-part.false) in
+    let same : c.get.result ≡ e = c.get.ensures ∙ get_or_default c.args.leaf.now c.loop-at.at c.get.result e within ∙ sym c.get-in-loop-at.ensures in
+    let goes_on = passes_on in_part c.args.leaf.now c.loop-at.at e within c.get-in-loop-at.ensures (eq-eqb _ _ (ap (λ (x : Entry). x.part) (sym same) ∙ c.if-get-part.false)) in
     record {
       fits = omega (arith, c.is_full.ensures.fits, not_full, ap length c.push.ensures, length-append batch (e ∷ []));
       same = ap (λ es. take 8 (es ++ rest)) c.push.ensures ∙ ap (take 8) (append_assoc batch (e ∷ []) rest) ∙ ap (λ es. take 8 (batch ++ es)) (sym goes_on) ∙ c.loop-at.invariant.same;

@@ -1,42 +1,40 @@
-use Rattle.std.proofs.Common.{◌≡◌, ◌≢◌, zero, suc, true, false, List, [], ◌∷◌, get_or, refl, ap, rules, arith}
-use Rattle.std.specs.declared.cmp.Ordering.{Ordering}
-use Rattle.std.specs.declared.cmp.Ordering.TheVariants.{Less, Equal, Greater}
-use Rattle.std.specs.Ordering.{is_le}
-use Rattle.std.specs.List.Sorted.{IsPartitionedBy}
-use Rattle.std.proofs.lemmas.List.Sorted.{IsPartitionPoint-from_clause}
-use Rattle.am_record.specs.EntryOrder.{Place, place_cmp}
-use Rattle.am_list.proofs.Searches.{all_take, all_drop}
-use Rattle.am_btree.specs.declared.separator.Separator.{Separator}
-use Rattle.am_btree.specs.Separators.{separator_place, SeparatorsRise}
-use Rattle.am_btree.proofs.Children.{below_through}
-use Rattle.am_btree.proofs.Parting.{all_at}
+use Rattle.std.proofs.Common.{◌+◌, ◌-◌, length, refl, sym, ◌∙◌, arith}
+use Rattle.am_record.specs.EntryOrder.{Place}
+use Rattle.am_btree.proofs.Reaching.{reached_to, reached_no_further, reached_all}
 use Rattle.am_btree.proofs.separator.reached.Goals as goal
 
-le_true : (o : Ordering) → is_le o ≡ true → o ≢ Greater
-le_true Less e g = absurd (cc)
-le_true Equal e g = absurd (cc)
-le_true Greater e g = absurd (cc)
+pub returns-then-is_reached : goal.returns-then-is_reached
+returns-then-is_reached c =
+    let p : Place = (c.args.part, c.args.key) in let ls = c.args.separators.now in
+    reached_all p ls (length ls) refl
+    (reached_to p ls c.requires (length ls - 1) c.index-separators-len.result (omega (arith, c.if-len-gt0.true)) c.index-separators-len.is (sym c.is_reached.ensures ∙ c.if-is_reached.true) (length ls) (omega arith))
 
-le_false : (o : Ordering) → is_le o ≡ false → o ≡ Greater
-le_false Less e = absurd (cc)
-le_false Equal e = absurd (cc)
-le_false Greater e = refl
+pub loop-reach-init : goal.loop-reach-init
+loop-reach-init c = record { in_range = omega arith; passed = λ k d lt. absurd (omega (arith, lt)) }
 
-parted : (p : Place) (ls : List Separator) → SeparatorsRise ls → IsPartitionedBy (λ l. is_le (place_cmp (separator_place l) p)) ls
-parted p [] r i j d le lt h = absurd (omega arith)
-parted p (l ∷ ls) r zero zero d le lt h = h
-parted p (l ∷ ls) r zero (suc j) d le lt h =
-    let m = get_or ls j d in
-    ap is_le (below_through (separator_place l) (separator_place m) p (all_at (λ n. place_cmp (separator_place l) (separator_place n) ≡ Less) ls j d r.0 (omega arith)) (le_true (place_cmp (separator_place m) p) h))
-parted p (l ∷ ls) r (suc i) zero d le lt h = absurd (omega arith)
-parted p (l ∷ ls) r (suc i) (suc j) d le lt h = parted p ls r.1 i j d (omega arith) (omega arith) h
-
-pub returns : goal.returns
-returns c =
-    let p : Place = (c.args.part, c.args.key) in let ls = c.args.separators.now in let n = c.partition_point.result in
-    let point = IsPartitionPoint-from_clause (λ l. is_le (place_cmp (separator_place l) p)) ls n c.partition_point.ensures.partitioned (parted p ls c.requires) (λ a r q k. search rules) in
+pub loop-reach-preserved : goal.loop-reach-preserved
+loop-reach-preserved c =
+    let p : Place = (c.args.part, c.args.key) in let ls = c.args.separators.now in let n = c.loop-reach.reach in let le = c.loop-reach.invariant.in_range in
     record {
-      in_range = c.partition_point.ensures.bound;
-      reached = all_take (λ l. place_cmp (separator_place l) p ≢ Greater) ls n c.partition_point.ensures.bound (λ k d lt. le_true _ (point.0 k d (omega arith) lt));
-      above = all_drop (λ l. place_cmp (separator_place l) p ≡ Greater) ls n (λ k d le lt. le_false _ (point.1 k d le lt));
+      in_range = omega (arith, c.loop-reach-test.true, le);
+      passed = reached_to p ls c.requires (n + 8 - 1) c.index-separators-reach.result (omega (arith, c.loop-reach-test.true, le)) c.index-separators-reach.is (sym c.is_reached-in-loop-reach.ensures ∙ c.if-is_reached-2.true) (n + 8) (omega arith);
     }
+
+pub loop-reach-2-init : goal.loop-reach-2-init
+loop-reach-2-init c = record { in_range = c.loop-reach.invariant.in_range; passed = c.loop-reach.invariant.passed }
+
+pub loop-reach-2-preserved : goal.loop-reach-2-preserved
+loop-reach-2-preserved c =
+    let p : Place = (c.args.part, c.args.key) in let ls = c.args.separators.now in let n = c.loop-reach-2.reach in
+    record {
+      in_range = omega (arith, c.loop-reach-2-test.true);
+      passed = reached_to p ls c.requires n c.index-separators-reach-in-loop-reach-2.result c.loop-reach-2-test.true c.index-separators-reach-in-loop-reach-2.is (sym c.is_reached-in-loop-reach-2.ensures ∙ c.if-is_reached-3.true) (n + 1) (omega arith);
+    }
+
+pub returns-else-is_reached-3 : goal.returns-else-is_reached-3
+returns-else-is_reached-3 c =
+    reached_no_further (c.args.part, c.args.key) c.args.separators.now c.requires c.loop-reach-2.reach c.index-separators-reach-in-loop-reach-2.result c.loop-reach-2-test.true c.index-separators-reach-in-loop-reach-2.is
+    (sym c.is_reached-in-loop-reach-2.ensures ∙ c.if-is_reached-3.false) c.loop-reach-2.invariant.passed
+
+pub returns-after-loop-reach-2 : goal.returns-after-loop-reach-2
+returns-after-loop-reach-2 c = reached_all (c.args.part, c.args.key) c.args.separators.now c.loop-reach-2.reach (omega (arith, c.loop-reach-2-test.false, c.loop-reach-2.invariant.in_range)) c.loop-reach-2.invariant.passed

@@ -1,8 +1,30 @@
 use Rattle.std.proofs.Common.{◌≡◌, ◌∙◌, sym, subst, arith, All, None, List}
+use Rattle.std.proofs.Crossing.{Vec-send}
+use Rattle.std.proofs.alloc.Global.TheSendSync as heap
+use Rattle.std.proofs.sync.Mutex.TheSendSync as mutex
+use mir.Syntax.{named}
+use denote.Exit.{no}
+use denote.Param.{param}
+use denote.Param.Send.{arg_send, param_send, shr_send, sendable}
+use Rattle.am_seating.proofs.Crosses.{place_send}
 use Rattle.am_latch.specs.Receipts.{Seated}
 use Rattle.am_latch.specs.Ties.{open_of}
 use Rattle.am_listen.proofs.Sitting.{all_idle, all_back, count_back, all_there}
+use Rattle.std.specs.contracts.alloc.Global as Global
+use Rattle.am_listen.specs.contracts.turnstile.Turnstile as Turnstile
+use Rattle.am_listen.proofs.Crosses.{captures_send}
+use Rattle.am_listen.proofs.door.Door.TheSendSync as door
+use Rattle.am_listen.proofs.turnstile.Turnstile.TheSendSync as turnstile
 use Rattle.am_listen.proofs.hosting.host.Goals as goal
+
+pub join-places-requires-send-F : goal.join-places-requires-send-F
+join-places-requires-send-F g c κs within = param_send _ _ (arg_send _ no _ (captures_send _ _ _ _ _ _
+    (shr_send _ _ (param 1 g.row.R) (search (c.type_bounds, sendable) depth 10)) (shr_send _ _ Global.the_row heap.the_sync)
+    (shr_send _ _ _ (mutex.the_sync _ (door.the_send _))) (shr_send _ _ Turnstile.the_row turnstile.the_sync)
+    (Vec-send _ (place_send record { mir = named 4; lft = κs.1.1.1.1.0 } (param 0 g.row.L) g.L.Naming))))
+
+pub join-places-requires-send-A : goal.join-places-requires-send-A
+join-places-requires-send-A g c κs within = param_send _ _ (arg_send _ no _ (Vec-send _ (place_send record { mir = named 4; lft = κs.1.1.1.1.0 } (param 0 g.row.L) g.L.Naming)))
 
 pub seat_all-requires-clause-idle : goal.seat_all-requires-clause-idle
 seat_all-requires-clause-idle g c = subst (λ (xs : List Seated). All (λ (s : Seated). open_of s.receipts ≡ None) xs) (sym c.in-Ok.ensures.seats) (all_idle g.L.Naming.seats)

@@ -1,5 +1,7 @@
-use Rattle.std.proofs.Common.{◌≡◌, ℕ, ◌+◌, ◌<◌, length, get_or, set, IfOk, IfSome, Option, None, Some, vec_len, vec_capacity, sym, ap, ◌∙◌, subst, rules, arith}
+use Rattle.std.proofs.Common.{◌≡◌, ℕ, ◌+◌, ◌<◌, length, get_or, set, IfOk, OnOk, IfSome, IsSome, Option, None, Some, Err, vec_len, vec_capacity, sym, ap, ◌∙◌, subst, rules, arith}
 use Rattle.std.specs.List.{insert}
+use Rattle.std.specs.Result.{IsErrAnd}
+use Rattle.am_btree.specs.declared.insert.Obstacle.TheVariants.{Taken}
 use Rattle.am_list.specs.Entries.{find, insert_entry}
 use Rattle.am_btree.specs.Shape.{Shape}
 use Rattle.am_btree.specs.Separators.{SeparatorsRise, IsReach}
@@ -7,7 +9,8 @@ use Rattle.am_btree.specs.Nodes.{all_entries, depth_of, leaf_shape, inner_shape,
 use Rattle.am_btree.specs.Grown.{Grows, NowHolds}
 use Rattle.am_btree.proofs.Parting.{parted_lengths, children_rise}
 use Rattle.am_btree.proofs.Children.{find_in_child}
-use Rattle.am_btree.proofs.Growing.{before, before_is, child_from_reach, one_inner, one_entries, two_children, two_entries, set_deep, deep, within, length_lowered}
+use Rattle.am_btree.proofs.Growing.{before, before_is, child_from_reach, one_inner, one_entries, two_children, two_entries, set_deep, within, length_lowered}
+use Rattle.am_btree.proofs.Inner.{one_below}
 use Rattle.am_btree.proofs.node.Subtree.+insert_below.Goals as goal
 use Rattle.am_btree.proofs.node.Subtree.+insert_below.Goals.{in-Leaf, in-Inner+in_ok-more-in-Inner+in_ok-grown-in-Inner+in-Some}
 
@@ -29,18 +32,56 @@ index_mut-child-requires t c =
 
 pub insert_below-requires : goal.insert_below-requires
 insert_below-requires t c =
-    let x = c.args.entry in let ls = c.in-Inner.separators.items in let ks = c.in-Inner.children.items in let n = c.reached-reach.result in let d = depth_of ks in
+    let ls = c.in-Inner.separators.items in let ks = c.in-Inner.children.items in let k = c.index_mut-child.result.now in
+    let inner = subst IsTree c.in-Inner.is c.self.invariant in
+    let seen : c.args.self.now ≡ inner_shape ks = sym c.self.view_is ∙ ap shape_of c.in-Inner.is in
+    let lower = one_below ls ks _ _ inner c.saturating_sub-at.result k (omega (arith, c.saturating_sub-at.ensures, c.reached-reach.ensures.in_range, c.deref.ensures.len, c.in-Inner.separators.ok.0, parted_lengths ls ks inner.children.parted, inner.some)) c.index_mut-child.ensures.value in
+    let falls : k.depth < c.args.self.now.depth = omega (arith, lower, ap (λ (s : Shape). s.depth) seen) in
+    (search rules, tt)
+
+pub returns-in_err-grown-in-Inner-clause-taken : goal.returns-in_err-grown-in-Inner-clause-taken
+returns-in_err-grown-in-Inner-clause-taken t c =
+    let x = c.args.entry in let ls = c.in-Inner.separators.items in let ks = c.in-Inner.children.items in let n = c.reached-reach.result in
     let inner = subst IsTree c.in-Inner.is c.self.invariant in
     let seen : c.args.self.now ≡ inner_shape ks = sym c.self.view_is ∙ ap shape_of c.in-Inner.is in
     let r = subst (λ ms. IsReach ms x.part x.key n) c.deref.ensures.value c.reached-reach.ensures in
     let at_is : c.saturating_sub-at.result ≡ before n = c.saturating_sub-at.ensures ∙ sym (before_is n) in
-    let absent : find (all_entries ks) x.part x.key ≡ None = ap (λ (s : Shape). find s.entries x.part x.key) (sym seen) ∙ c.requires in
     let k = c.index_mut-child.result.now in
     let here : k ≡ get_or ks (before n) k = c.index_mut-child.ensures.value ∙ ap (λ (j : ℕ). get_or ks j k) at_is in
-    let lower = deep x d ls ks n k inner.children inner.some r absent here in
-    let falls : k.depth < c.args.self.now.depth = omega (arith, ap (λ (s : Shape). s.depth) seen) in
     let child = child_from_reach ls x.part x.key n (omega (arith, inner.some, parted_lengths ls ks inner.children.parted)) r in
-    (search rules, sym (find_in_child x.part x.key ls ks (before n) k inner.children.parted child here) ∙ absent)
+    let same : find k.entries x.part x.key ≡ find c.args.self.now.entries x.part x.key =
+    sym (find_in_child x.part x.key ls ks (before n) k inner.children.parted child here) ∙ sym (ap (λ (s : Shape). find s.entries x.part x.key) seen) in
+    let why = c.in_err-grown-in-Inner.field-0.0 in
+    λ taken. let it_is : Taken ≡ why = subst (λ g. IsErrAnd g (λ o. o ≡ why)) taken c.from_residual-in_err-grown-in-Inner.ensures.1 in subst IsSome same (c.in_err-grown-in-Inner.ensures.taken (ap Err (sym it_is)))
+
+pub returns-in_default-clause-absent : goal.returns-in_default-clause-absent
+returns-in_default-clause-absent t c =
+    let x = c.args.entry in let ls = c.in-Inner.separators.items in let ks = c.in-Inner.children.items in let n = c.reached-reach.result in
+    let inner = subst IsTree c.in-Inner.is c.self.invariant in
+    let seen : c.args.self.now ≡ inner_shape ks = sym c.self.view_is ∙ ap shape_of c.in-Inner.is in
+    let r = subst (λ ms. IsReach ms x.part x.key n) c.deref.ensures.value c.reached-reach.ensures in
+    let at_is : c.saturating_sub-at.result ≡ before n = c.saturating_sub-at.ensures ∙ sym (before_is n) in
+    let k = c.index_mut-child.result.now in
+    let here : k ≡ get_or ks (before n) k = c.index_mut-child.ensures.value ∙ ap (λ (j : ℕ). get_or ks j k) at_is in
+    let child = child_from_reach ls x.part x.key n (omega (arith, inner.some, parted_lengths ls ks inner.children.parted)) r in
+    ap (λ (s : Shape). find s.entries x.part x.key) seen ∙ find_in_child x.part x.key ls ks (before n) k inner.children.parted child here ∙ c.in_ok-grown-in-Inner.ensures.absent
+
+pub returns-clause-absent : goal.returns-clause-absent
+returns-clause-absent t c = elim c.match-self.branch [
+  | in-Leaf w ↦
+      let seen : c.args.self.now ≡ leaf_shape w.in-Leaf.leaf = sym c.self.view_is ∙ ap shape_of w.in-Leaf.is in
+      rw w.result-is (subst (λ (s : Shape). OnOk w.insert_in_leaf.result (find s.entries c.args.entry.part c.args.entry.key ≡ None)) (sym seen) w.insert_in_leaf.ensures.absent)
+  | in-Inner+in_ok-more-in-Inner+in_ok-grown-in-Inner+in-Some w ↦
+      let x = c.args.entry in let ls = w.in-Inner.separators.items in let ks = w.in-Inner.children.items in let n = w.reached-reach.result in
+      let inner = subst IsTree w.in-Inner.is c.self.invariant in
+      let seen : c.args.self.now ≡ inner_shape ks = sym c.self.view_is ∙ ap shape_of w.in-Inner.is in
+      let r = subst (λ ms. IsReach ms x.part x.key n) w.deref.ensures.value w.reached-reach.ensures in
+      let at_is : w.saturating_sub-at.result ≡ before n = w.saturating_sub-at.ensures ∙ sym (before_is n) in
+      let k = w.index_mut-child.result.now in
+      let here : k ≡ get_or ks (before n) k = w.index_mut-child.ensures.value ∙ ap (λ (j : ℕ). get_or ks j k) at_is in
+      let child = child_from_reach ls x.part x.key n (omega (arith, inner.some, parted_lengths ls ks inner.children.parted)) r in
+      rw w.result-is (ap (λ (s : Shape). find s.entries x.part x.key) seen ∙ find_in_child x.part x.key ls ks (before n) k inner.children.parted child here ∙ w.in_ok-grown-in-Inner.ensures.absent)
+]
 
 pub invariant_of-self-in_default : goal.invariant_of-self-in_default
 invariant_of-self-in_default t c =
@@ -49,9 +90,10 @@ invariant_of-self-in_default t c =
     let seen : c.args.self.now ≡ inner_shape ks = sym c.self.view_is ∙ ap shape_of c.in-Inner.is in
     let r = subst (λ ms. IsReach ms x.part x.key n) c.deref.ensures.value c.reached-reach.ensures in
     let at_is : c.saturating_sub-at.result ≡ before n = c.saturating_sub-at.ensures ∙ sym (before_is n) in
-    let absent : find (all_entries ks) x.part x.key ≡ None = ap (λ (s : Shape). find s.entries x.part x.key) (sym seen) ∙ c.requires in
     let k = c.index_mut-child.result.now in
     let here : k ≡ get_or ks (before n) k = c.index_mut-child.ensures.value ∙ ap (λ (j : ℕ). get_or ks j k) at_is in
+    let child = child_from_reach ls x.part x.key n (omega (arith, inner.some, parted_lengths ls ks inner.children.parted)) r in
+    let absent : find (all_entries ks) x.part x.key ≡ None = find_in_child x.part x.key ls ks (before n) k inner.children.parted child here ∙ c.in_ok-grown-in-Inner.ensures.absent in
     let k' = c.insert_below.new.self in
     let h = subst (λ g. NowHolds k.depth (insert_entry k.entries x) k' g) c.in_default.is c.in_ok-grown-in-Inner.ensures.ok.0 in
     let cap = c.lower.ensures.capacity in
@@ -65,9 +107,10 @@ returns-in_default-clause-ok t c =
     let seen : c.args.self.now ≡ inner_shape ks = sym c.self.view_is ∙ ap shape_of c.in-Inner.is in
     let r = subst (λ ms. IsReach ms x.part x.key n) c.deref.ensures.value c.reached-reach.ensures in
     let at_is : c.saturating_sub-at.result ≡ before n = c.saturating_sub-at.ensures ∙ sym (before_is n) in
-    let absent : find (all_entries ks) x.part x.key ≡ None = ap (λ (s : Shape). find s.entries x.part x.key) (sym seen) ∙ c.requires in
     let k = c.index_mut-child.result.now in
     let here : k ≡ get_or ks (before n) k = c.index_mut-child.ensures.value ∙ ap (λ (j : ℕ). get_or ks j k) at_is in
+    let child = child_from_reach ls x.part x.key n (omega (arith, inner.some, parted_lengths ls ks inner.children.parted)) r in
+    let absent : find (all_entries ks) x.part x.key ≡ None = find_in_child x.part x.key ls ks (before n) k inner.children.parted child here ∙ c.in_ok-grown-in-Inner.ensures.absent in
     let k' = c.insert_below.new.self in
     let h = subst (λ g. NowHolds k.depth (insert_entry k.entries x) k' g) c.in_default.is c.in_ok-grown-in-Inner.ensures.ok.0 in
     let holds : all_entries (set ks (before n) k') ≡ insert_entry (all_entries ks) x = one_entries x d ls ks n k inner.children inner.some r absent here k' h.0 h.1 in
@@ -86,9 +129,10 @@ add_child-requires-clause-children t c =
     let seen : c.args.self.now ≡ inner_shape ks = sym c.self.view_is ∙ ap shape_of c.in-Inner.is in
     let r = subst (λ ms. IsReach ms x.part x.key n) c.deref.ensures.value c.reached-reach.ensures in
     let at_is : c.saturating_sub-at.result ≡ before n = c.saturating_sub-at.ensures ∙ sym (before_is n) in
-    let absent : find (all_entries ks) x.part x.key ≡ None = ap (λ (s : Shape). find s.entries x.part x.key) (sym seen) ∙ c.requires in
     let k = c.index_mut-child.result.now in
     let here : k ≡ get_or ks (before n) k = c.index_mut-child.ensures.value ∙ ap (λ (j : ℕ). get_or ks j k) at_is in
+    let child = child_from_reach ls x.part x.key n (omega (arith, inner.some, parted_lengths ls ks inner.children.parted)) r in
+    let absent : find (all_entries ks) x.part x.key ≡ None = find_in_child x.part x.key ls ks (before n) k inner.children.parted child here ∙ c.in_ok-grown-in-Inner.ensures.absent in
     let k' = c.insert_below.new.self in let s = c.in-Some.split in
     let h = subst (λ g. NowHolds k.depth (insert_entry k.entries x) k' g) c.in-Some.is c.in_ok-grown-in-Inner.ensures.ok.0 in
     subst (λ (j : ℕ). AreFilledChildren (depth_of (set ks j k')) (insert c.lower.new.separators.items (j + 1) s.separator) (insert (set ks j k') (j + 1) s.right)) (sym at_is)
@@ -106,9 +150,10 @@ add_child-requires-clause-in_range t c =
     let seen : c.args.self.now ≡ inner_shape ks = sym c.self.view_is ∙ ap shape_of c.in-Inner.is in
     let r = subst (λ ms. IsReach ms x.part x.key n) c.deref.ensures.value c.reached-reach.ensures in
     let at_is : c.saturating_sub-at.result ≡ before n = c.saturating_sub-at.ensures ∙ sym (before_is n) in
-    let absent : find (all_entries ks) x.part x.key ≡ None = ap (λ (s : Shape). find s.entries x.part x.key) (sym seen) ∙ c.requires in
     let k = c.index_mut-child.result.now in
     let here : k ≡ get_or ks (before n) k = c.index_mut-child.ensures.value ∙ ap (λ (j : ℕ). get_or ks j k) at_is in
+    let child = child_from_reach ls x.part x.key n (omega (arith, inner.some, parted_lengths ls ks inner.children.parted)) r in
+    let absent : find (all_entries ks) x.part x.key ≡ None = find_in_child x.part x.key ls ks (before n) k inner.children.parted child here ∙ c.in_ok-grown-in-Inner.ensures.absent in
     let fits = within x d ls ks n k inner.children inner.some r absent here in
     omega (arith, at_is, c.in-Inner.children.ok.0)
 
@@ -123,9 +168,10 @@ returns-clause-ok t c = elim c.match-self.branch [
       let seen : c.args.self.now ≡ inner_shape ks = sym c.self.view_is ∙ ap shape_of w.in-Inner.is in
       let r = subst (λ ms. IsReach ms x.part x.key n) w.deref.ensures.value w.reached-reach.ensures in
       let at_is : w.saturating_sub-at.result ≡ before n = w.saturating_sub-at.ensures ∙ sym (before_is n) in
-      let absent : find (all_entries ks) x.part x.key ≡ None = ap (λ (s : Shape). find s.entries x.part x.key) (sym seen) ∙ c.requires in
       let k = w.index_mut-child.result.now in
       let here : k ≡ get_or ks (before n) k = w.index_mut-child.ensures.value ∙ ap (λ (j : ℕ). get_or ks j k) at_is in
+      let child = child_from_reach ls x.part x.key n (omega (arith, inner.some, parted_lengths ls ks inner.children.parted)) r in
+      let absent : find (all_entries ks) x.part x.key ≡ None = find_in_child x.part x.key ls ks (before n) k inner.children.parted child here ∙ w.in_ok-grown-in-Inner.ensures.absent in
       let k' = w.insert_below.new.self in let s = w.in-Some.split in let more = w.in_ok-more-in-Inner.more in
       let up = subst (λ g. Grows k k' x more g) w.in-Some.is w.in_ok-grown-in-Inner.ensures.ok in
       let holds : all_entries (insert (set ks (before n) k') (before n + 1) s.right) ≡ insert_entry (all_entries ks) x = two_entries x d ls ks n k inner.children inner.some r absent here k' s up.0 in

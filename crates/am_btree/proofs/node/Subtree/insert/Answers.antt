@@ -15,7 +15,7 @@ invariant_of-self c =
     let x = c.args.entry in let old = c.args.self.now in let k = c.least.result in let s = c.in-Some.split in let left = c.insert_below.new.self in
     let rising : IsRising old.entries = subst (λ (o : Shape). IsRising o.entries) c.self.view_is (tree_rises c.self.inside.node c.self.invariant) in
     let h = (subst (λ g. Grows old left x 1 g) c.in-Some.is c.in_ok-split.ensures.ok).0 in
-    let all = root_children k c.least.ensures.least old.depth (insert_entry old.entries x) left s h (rising_inserted old.entries x rising c.requires) in
+    let all = root_children k c.least.ensures.least old.depth (insert_entry old.entries x) left s h (rising_inserted old.entries x rising c.in_ok-split.ensures.absent) in
     let low : Separator = record { part = 0; key = k } in
     let separators = c.put-2.ensures.items ∙ ap (λ ls. insert ls 1 s.separator) (c.put.ensures.items ∙ ap (λ ls. insert ls 0 low) c.in-Some-pop.spare.empty.0) in
     let there = shape_of c.replace-node.result in

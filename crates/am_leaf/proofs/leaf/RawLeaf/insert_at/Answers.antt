@@ -1,4 +1,5 @@
-use Rattle.std.proofs.Common.{◌≡◌, ℕ, ◌+◌, ◌^◌, ◌<◌, suc, sym, ap, ◌∙◌, subst, arith}
+use Rattle.std.proofs.Common.{◌≡◌, ℕ, ◌+◌, ◌^◌, ◌<◌, ◌≤◌, List, length, suc, sym, ap, ◌∙◌, subst, arith}
+use Rattle.std.proofs.lemmas.List.Edits.{length-insert}
 use Rattle.std.specs.List.{insert}
 use Rattle.am_leaf.specs.Marks.{inserted_mark}
 use Rattle.am_leaf.specs.Leaf.{entries_of}
@@ -6,14 +7,17 @@ use Rattle.am_list.specs.Entries.{IsRising}
 use Rattle.am_leaf.proofs.MarkLemmas.{inserted_below}
 use Rattle.am_leaf.proofs.Rising.{rising-insert}
 use Rattle.am_leaf.proofs.Zips.{entries_of-insert}
-use Rattle.am_leaf.proofs.Leaves.{places, values, length_places, alike, counted}
+use Rattle.am_leaf.proofs.Leaves.{alike, counted}
 use Rattle.am_leaf.proofs.leaf.RawLeaf.insert_at.Goals as goal
+
+longer : {X : Type 0} (xs : List X) (i : ℕ) (x : X) {ys : List X} {n : ℕ} → length xs ≡ n → ys ≡ insert xs i x → i ≤ n → length ys ≡ n + 1
+longer xs i x e is le = ap length is ∙ length-insert xs i x (omega arith) ∙ ap (λ k. k + 1) e
 
 pub returns : goal.returns
 returns c =
     let a = c.self.inside in let held = c.self.invariant in let at = c.args.at in
-    (λ j. entries_of (c.insert.ensures.values j) (c.insert-2.ensures.values j) (c.insert_mark-self-inside.ensures j))
-    ∙ entries_of-insert (places a held) (values a held) a.marks at _ _ c.args.entry.is_ghost (alike a held) (omega (arith, length_places a held, counted a held _ c.self.view_is, c.requires.place.in_range))
+    (λ j. entries_of (c.insert.ensures j) (c.insert-2.ensures j) (c.insert_mark-self-inside.ensures j))
+    ∙ entries_of-insert a.places a.values a.marks at _ _ c.args.entry.is_ghost (alike a held) (omega (arith, held.places, counted a held _ c.self.view_is, c.requires.place.in_range))
     ∙ ap (λ l. insert l at c.args.entry) c.self.view_is
 
 pub invariant_of-self : goal.invariant_of-self
@@ -22,9 +26,11 @@ invariant_of-self c =
     let rising : IsRising c.args.self.now = subst IsRising c.self.view_is held.rising in
     let below = inserted_below a.marks at a.len c.args.entry.is_ghost (omega (arith, counted a held _ c.self.view_is, c.requires.place.in_range)) held.marks in
     let next : suc a.len ≡ a.len + 1 = omega arith in
+    let le : at ≤ a.len = omega (arith, counted a held _ c.self.view_is, c.requires.place.in_range) in
     record {
-      places = c.insert.ensures.held;
-      values = c.insert-2.ensures.held;
+      places = longer a.places at _ held.places c.insert.ensures le;
+      values = longer a.values at _ held.values c.insert-2.ensures le;
+      most = omega (arith, counted a held _ c.self.view_is, c.requires.room);
       marks = subst (λ (m : ℕ). m < 2 ^ (a.len + 1)) (sym c.insert_mark-self-inside.ensures) (subst (λ (k : ℕ). inserted_mark a.marks at c.args.entry.is_ghost < 2 ^ k) next below);
       rising = subst IsRising (sym (returns c)) (rising-insert c.args.self.now at c.args.entry rising c.requires.place.in_range c.requires.place.below c.requires.place.above);
     }

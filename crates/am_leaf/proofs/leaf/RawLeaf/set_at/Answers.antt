@@ -1,18 +1,19 @@
-use Rattle.std.proofs.Common.{ℕ, ◌^◌, ◌<◌, sym, ap, ◌∙◌, subst, arith}
+use Rattle.std.proofs.Common.{ℕ, length, ◌^◌, ◌<◌, sym, ap, ◌∙◌, subst, arith}
+use Rattle.std.proofs.lemmas.List.{length-set}
 use Rattle.am_leaf.specs.Leaf.{entries_of}
 use Rattle.am_leaf.specs.Changes.{set_at}
 use Rattle.am_list.specs.Entries.{IsRising}
 use Rattle.am_leaf.proofs.MarkLemmas.{changed_below}
 use Rattle.am_leaf.proofs.Rising.{rising-set_at}
 use Rattle.am_leaf.proofs.Zips.{entries_of-set}
-use Rattle.am_leaf.proofs.Leaves.{places, values, length_places, alike, counted}
+use Rattle.am_leaf.proofs.Leaves.{alike, counted}
 use Rattle.am_leaf.proofs.leaf.RawLeaf.set_at.Goals as goal
 
 pub returns : goal.returns
 returns c =
     let a = c.self.inside in let held = c.self.invariant in let at = c.args.at in
-    (λ j. entries_of (places a held) (c.set.ensures.values j) (c.change_mark-self-inside.ensures j))
-    ∙ entries_of-set (places a held) (values a held) a.marks at c.args.value c.args.is_ghost (alike a held) (omega (arith, length_places a held, counted a held _ c.self.view_is, c.requires))
+    (λ j. entries_of a.places (c.set.ensures j) (c.change_mark-self-inside.ensures j))
+    ∙ entries_of-set a.places a.values a.marks at c.args.value c.args.is_ghost (alike a held) (omega (arith, held.places, counted a held _ c.self.view_is, c.requires))
     ∙ ap (λ l. set_at l at c.args.value c.args.is_ghost) c.self.view_is
 
 pub invariant_of-self : goal.invariant_of-self
@@ -22,7 +23,8 @@ invariant_of-self c =
     let below = changed_below a.marks at a.len c.args.is_ghost (omega (arith, counted a held _ c.self.view_is, c.requires)) held.marks in
     record {
       places = held.places;
-      values = c.set.ensures.held;
+      values = ap length c.set.ensures ∙ length-set a.values at c.args.value ∙ held.values;
+      most = held.most;
       marks = subst (λ (m : ℕ). m < 2 ^ a.len) (sym c.change_mark-self-inside.ensures) below;
       rising = subst IsRising (sym (returns c)) (rising-set_at c.args.self.now at c.args.value c.args.is_ghost rising);
     }

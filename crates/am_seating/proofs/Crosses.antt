@@ -1,0 +1,19 @@
+-- A place may go to another thread.
+use denote.Ref.{NamedLft}
+use denote.RattleType.{RattleType}
+use denote.Param.Send.{IsSend, struct_send, recorded_send, plain_send, shr_send, view_send}
+use denote.Struct.Declared as declared
+use Rattle.am_latch.proofs.Crosses.{latch_sync}
+use Rattle.am_latch.proofs.seat.Seat.TheSendSync as seat
+use Rattle.am_latch.specs.contracts.latch.Latch as Latch
+use Rattle.am_latch.specs.declared.naming.Naming as naming
+use Rattle.am_words.proofs.words.Words.TheSendSync as words
+use Rattle.am_words.proofs.words.WordSeat.TheSendSync as hand
+use Rattle.am_words.specs.contracts.words.Words as Words
+use Rattle.am_seating.specs.contracts.place.Place as Place
+use Rattle.am_seating.specs.contracts.place.Place.TheInside as Inside
+
+pub place_send : (a : NamedLft) (T : RattleType) (g : naming.Ghosts T.Denot) → IsSend (Place.the_row a T g)
+place_send a T g = view_send (Inside.the_row a T g) _ _ _ _ (recorded_send (Inside.the_field a T g).row _ _ (Inside.the_type a T g).to_one
+    (struct_send (declared.shape (Inside.the_type a T g))
+    (shr_send _ _ (Latch.the_row T g) (latch_sync T g), (shr_send _ _ Words.the_row words.the_sync, (seat.the_send T g, (hand.the_send, (plain_send _ _ _ _ _, tt)))))))
