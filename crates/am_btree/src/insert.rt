@@ -97,8 +97,9 @@ impl Subtree {
         Ok(())
     }
 
-    // Adds the entry below this node, unless its place is taken. Where the node is split, its new right sibling comes back, with room for
-    // as many inner nodes as are wanted above it. All room is got before anything changes.
+    // Adds the entry below this node, unless its place is taken. Where the node is split, its new right
+    // sibling comes back, with room for as many inner nodes as are wanted above it. All room is got
+    // before anything changes.
     fn insert_below(
         &mut self,
         alloc: Global,
