@@ -17,6 +17,7 @@ use std::alloc::Global;
 /// # Errors
 /// Wrong, exactly where the trace isn't formed, right in its Busy answers and serial: the first fault
 /// and its line. NoMemory in place of any answer, where memory was refused.
+#[inline(never)]
 pub fn check(alloc: Global, trace: &[(Step, Reply)]) -> Result<u64, Fault>
     ensures legal { IfOk result (λ commits. IsLegal trace.now × (commits ≡ length (committers (effects trace.now)))) }
     ensures wrong { IfErr result (IsTrueFault trace.now) }

@@ -18,6 +18,3 @@ mod verdict;
 pub use checking::check;
 pub use exclusion::first_faults_exclude;
 pub use fault::{Fault, Kind};
-
-#[cfg(test)]
-mod tests;

@@ -19,6 +19,7 @@ use am_tx::{MAX_OPS, TxTable};
 pub const MAX_ROWS: u64 = 1000;
 
 /// The refusal that is due before a lock is asked for.
+#[inline(never)]
 pub(crate) fn refusal<I: PartIndex + Drop>(
     parts: &Parts<I>,
     txs: &TxTable,
@@ -75,6 +76,7 @@ fn is_load(op: &Op) -> bool
 ///
 /// # Errors
 /// The refusal that is due, or NoMemory; nothing is changed.
+#[inline(never)]
 pub(crate) fn ask(txs: &mut TxTable, tx: u64, asked: Option<Lock>) -> Result<usize, Refusal>
     requires { is_active txs.old.active tx ≡ true }
     ensures granted { OnOk result (IsGranted txs.old tx asked txs.new) }

@@ -12,6 +12,7 @@ use std::alloc::Global;
 ///
 /// # Errors
 /// NoMemory, where memory was refused.
+#[inline(never)]
 pub(crate) fn all_entries<I: PartIndex + Drop>(
     alloc: Global,
     parts: &Parts<I>,

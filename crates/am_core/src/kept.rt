@@ -24,6 +24,7 @@ pub(crate) struct Kept<I: PartIndex + Drop> {
 }
 
 impl<I: PartIndex + Drop> Kept<I> {
+    #[inline(never)]
     pub(crate) fn step(&mut self, step: Step) -> Reply
         requires fit { IsFit (whole self.old) }
         requires few { self.old.commits + length self.old.txs.active ≤ 2 ^ 63 }

@@ -18,6 +18,3 @@ pub use asking::MAX_ROWS;
 pub use maintenance::MAX_LIMIT;
 pub use running::run;
 pub use store::Store;
-
-#[cfg(test)]
-mod tests;

@@ -13,6 +13,7 @@ use am_runs::{Run, load};
 use am_undo::{Note, UndoLog};
 
 /// Makes the pairs a new run, where none of them is live.
+#[inline(never)]
 pub(crate) fn load_pairs<I: PartIndex + Drop>(
     parts: &mut Parts<I>,
     log: &mut UndoLog,

@@ -15,6 +15,7 @@ use am_record::{Range, Refusal, Reply};
 pub const MAX_LIMIT: u64 = 64;
 
 impl<I: PartIndex + Drop> Kept<I> {
+    #[inline(never)]
     pub(crate) fn merge(&mut self, limit: u64) -> Reply
         ensures says { MaySay (whole self.old) (Merge limit) result }
         ensures after { whole self.new ≡ after (whole self.old) (Merge limit) result }
@@ -25,6 +26,7 @@ impl<I: PartIndex + Drop> Kept<I> {
         merge_step(&mut self.parts, &mut self.wishes, self.txs.locks(), limit)
     }
 
+    #[inline(never)]
     pub(crate) fn clean(&mut self, range: Range, limit: u64) -> Reply
         ensures says { MaySay (whole self.old) (Clean range limit) result }
         ensures after { whole self.new ≡ after (whole self.old) (Clean range limit) result }

@@ -34,6 +34,7 @@ use std::alloc::Global;
 impl<I: PartIndex + Drop> Kept<I> {
     /// Asks for the operation's lock first, then does it, then counts it. A lock that was granted is
     /// cut again where memory is refused later.
+    #[inline(never)]
     pub(crate) fn operate(&mut self, tx: u64, op: Op) -> Reply
         requires { IsFit (whole self.old) }
         ensures says { MaySay (whole self.old) (Do tx op) result }
@@ -70,6 +71,7 @@ fn wish_for(wishes: &mut Wishes, wish: Option<Range>)
 }
 
 // Does the operation of the transaction, whose lock is granted.
+#[inline(never)]
 fn work<I: PartIndex + Drop>(
     alloc: Global,
     parts: &mut Parts<I>,

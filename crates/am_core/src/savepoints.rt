@@ -13,6 +13,7 @@ use am_record::Reply;
 use am_undo::UndoLog;
 
 /// Back to the newest mark, which goes. Takes no memory.
+#[inline(never)]
 pub(crate) fn go_back<I: PartIndex + Drop>(parts: &mut Parts<I>, log: &mut UndoLog) -> Reply
     requires { CanTakeBack (since_mark log.old.marks log.old.notes) (find parts.old.entries) }
     ensures { IsDone Back result parts.old log.old parts.new log.new }

@@ -28,6 +28,7 @@ impl<I: PartIndex + Drop> Kept<I> {
         }
     }
 
+    #[inline(never)]
     pub(crate) fn commit(&mut self, tx: u64) -> Reply
         requires { self.old.commits + length self.old.txs.active ≤ 2 ^ 63 }
         ensures says { MaySay (whole self.old) (Commit tx) result }
@@ -41,6 +42,7 @@ impl<I: PartIndex + Drop> Kept<I> {
         Reply::Committed(self.commits)
     }
 
+    #[inline(never)]
     pub(crate) fn abort(&mut self, tx: u64) -> Reply
         requires { IsFit (whole self.old) }
         ensures says { MaySay (whole self.old) (Abort tx) result }

@@ -11,6 +11,7 @@ use am_record::{Entry, Key, NoMemory, Reply, Value};
 use am_undo::{Note, UndoLog};
 
 /// A new record in the final partition, over a ghost that stands there.
+#[inline(never)]
 pub(crate) fn insert<I: PartIndex + Drop>(
     parts: &mut Parts<I>,
     log: &mut UndoLog,
@@ -51,6 +52,7 @@ pub(crate) fn insert<I: PartIndex + Drop>(
 }
 
 /// Another value where the live entry of the key stands.
+#[inline(never)]
 pub(crate) fn replace<I: PartIndex + Drop>(
     parts: &mut Parts<I>,
     log: &mut UndoLog,
@@ -71,6 +73,7 @@ pub(crate) fn replace<I: PartIndex + Drop>(
 }
 
 /// Marks the live entry of the key as a ghost, which keeps its value.
+#[inline(never)]
 pub(crate) fn delete<I: PartIndex + Drop>(
     parts: &mut Parts<I>,
     log: &mut UndoLog,

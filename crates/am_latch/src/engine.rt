@@ -64,6 +64,7 @@ impl Engine {
 
     /// Takes a step and stores it, with its reply and its maker; or answers NoMemory, and nothing
     /// changes. The end of an active transaction is never refused: its room is kept from its begin on.
+    #[inline(never)]
     pub fn step(&mut self, maker: Maker, step: Step) -> Reply
         ensures stepped { Stepped self.old maker step result self.new }
         ensures never_full { result ≢ Refused SeatFull }

@@ -28,6 +28,3 @@ pub use latch::{Blank, Latch, LatchFault};
 pub use naming::Naming;
 pub use receipt::{CommitReceipt, Maker, Receipt};
 pub use seat::Seat;
-
-#[cfg(test)]
-mod tests;

@@ -113,6 +113,7 @@ impl<L: Naming> Seat<L> {
     /// The reply is SeatFull where the seat holds 1,000,000 receipts or more and the step is no Commit or Abort,
     /// and NoMemory where memory was refused: then the seat is unchanged, and nothing was stored. A Commit or Abort
     /// gets neither: its room is kept from the Begin on.
+    #[inline(never)]
     pub fn call<R: Wait>(&mut self, rt: &R, latch: &Latch<L>, step: Step) -> Reply
         requires { MayTake (open_of self.old.receipts) step }
         ensures called { Called self.old step result self.new }

@@ -16,6 +16,3 @@ pub use attending::attend;
 pub use bound::{BindFault, Bound, bind};
 pub use hosting::Served;
 pub use turnstile::Turnstile;
-
-#[cfg(test)]
-mod tests;

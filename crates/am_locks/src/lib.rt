@@ -10,6 +10,3 @@ pub use asked::Asked;
 pub use invariant::owners_never_conflict;
 pub use owner::{INLINE_LOCKS, MAX_LOCKS};
 pub use table::{LockTable, MAX_OWNERS};
-
-#[cfg(test)]
-mod tests;

@@ -16,6 +16,7 @@ use am_record::{Entry, Range, Reply};
 /// Takes away the first ghosts of the range, in any partition, that nobody has exclusively locked,
 /// `limit` at most, and answers Cleaned with their number. The caller has a limit from 1 to 64. The
 /// content is as before. Takes no memory.
+#[inline(never)]
 pub fn clean_step<I: PartIndex + Drop>(
     parts: &mut Parts<I>,
     locks: &LockTable,

@@ -5,8 +5,6 @@ mod clean;
 mod laws;
 mod merge;
 mod moves;
-#[cfg(test)]
-mod tests;
 mod walk;
 mod wishes;
 

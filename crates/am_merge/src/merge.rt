@@ -27,6 +27,7 @@ use am_record::{Entry, Range, Refusal, Reply};
 /// dropped at these two. Else Moved with how many it worked off and the run: as many as it may, or
 /// fewer where the next one's new place in partition 0 was refused memory, or Refused(NoMemory),
 /// where the first one's was. The content is as before.
+#[inline(never)]
 pub fn merge_step<I: PartIndex + Drop>(
     parts: &mut Parts<I>,
     wishes: &mut Wishes,

@@ -3,7 +3,5 @@
 
 mod plain;
 mod records;
-#[cfg(test)]
-mod tests;
 
 pub use plain::{Plain, alone};

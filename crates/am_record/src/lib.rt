@@ -20,6 +20,3 @@ pub use pairs::Pairs;
 pub use range::Range;
 pub use step::{Op, Refusal, Reply, Step};
 pub use value::{MAX_VALUE_LEN, Value};
-
-#[cfg(test)]
-mod tests;

@@ -21,6 +21,7 @@ pub const MAX_RUNS: u32 = 65_535;
 /// Answers Refused(TooManyRuns) where 65,535 runs were made; else Exists with the least key of the
 /// pairs that is live, where one is; else Done. Refused(NoMemory) comes in place of Done alone,
 /// where memory was refused. All but Done change nothing.
+#[inline(never)]
 pub fn load<I: PartIndex + Drop>(parts: &mut Parts<I>, run: &Run) -> Reply
     requires { NothingAbove parts.old.runs parts.old.entries }
     ensures answer { IsAnswer (load_due parts.old run.now) result }

@@ -15,6 +15,7 @@ use std::alloc::Global;
 ///
 /// # Errors
 /// NoMemory, where memory was refused.
+#[inline(never)]
 pub fn scan<I: PartIndex + Drop>(
     alloc: Global,
     parts: &Parts<I>,

@@ -2,7 +2,7 @@
 
 ghost use Rattle.std.specs.Prelude.{◌≤◌};
 
-use crate::choice::Listening;
+use am_command::Listening;
 use am_listen::bind;
 use am_record::{Reply, Step};
 use am_trace::trace_text;

@@ -3,15 +3,12 @@
 
 ghost use Rattle.std.specs.Prelude.{◌≤◌};
 
-mod choice;
-mod command;
 mod ending;
 mod listening;
 
+use am_command::{Options, OptionsFault, options};
 use am_session::serve_alone;
 use am_wire::{Reading, Writing};
-use choice::{Options, OptionsFault};
-use command::options;
 use ending::ending;
 use listening::listen;
 use std::borrow::CowStr;
@@ -70,6 +67,3 @@ fn main(rt: HostRuntime) -> anyhow::Result<ExitCode> {
         Err(fault) => refuse(&rt, &fault),
     }
 }
-
-#[cfg(test)]
-mod tests;

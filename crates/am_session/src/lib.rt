@@ -7,8 +7,6 @@ mod conversation;
 mod end;
 mod serving;
 mod solo;
-#[cfg(test)]
-mod tests;
 
 pub use alone::{serve_alone, serve_in_memory};
 pub use backend::Backend;

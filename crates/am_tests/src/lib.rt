@@ -4,11 +4,19 @@
 #[cfg(test)]
 mod calls;
 #[cfg(test)]
+mod failing;
+#[cfg(test)]
 mod lines;
+#[cfg(test)]
+mod ordering;
+#[cfg(test)]
+mod recording;
 #[cfg(test)]
 mod refused;
 #[cfg(test)]
 mod rows;
+#[cfg(test)]
+mod runs;
 #[cfg(test)]
 mod scene;
 #[cfg(test)]

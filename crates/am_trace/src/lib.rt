@@ -15,6 +15,3 @@ mod word;
 
 pub use text::{TraceFault, read_trace, trace_text, traces_are_texts};
 pub use version::Version;
-
-#[cfg(test)]
-mod tests;

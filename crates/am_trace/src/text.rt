@@ -28,6 +28,7 @@ pub enum TraceFault {
 ///
 /// # Errors
 /// NoMemory, where memory was refused.
+#[inline(never)]
 pub fn trace_text(alloc: Global, trace: &[(Step, Reply)]) -> Result<Vec<u8>, NoMemory>
     ensures text { IfOk result (λ text. text.items ≡ trace_text Version.Two trace.now) }
     ensures events { IfOk result (λ text. CanBeStored trace.now → AreEvents Version.Two trace.now) }
@@ -44,6 +45,7 @@ pub fn trace_text(alloc: Global, trace: &[(Step, Reply)]) -> Result<Vec<u8>, NoM
 ///
 /// # Errors
 /// The first line that isn't one of a trace; or NoMemory, where memory was refused.
+#[inline(never)]
 pub fn read_trace(alloc: Global, text: &[u8]) -> Result<Vec<(Step, Reply)>, TraceFault>
     ensures trace { IfOk result (λ trace. IsTextOf text.now trace.items) }
     ensures bad { (n : ℕ) → result ≡ Err (TraceFault.Bad n) → IsBadLine text.now n }

@@ -5,6 +5,3 @@ mod transaction;
 mod tx_table;
 
 pub use tx_table::{MAX_ACTIVE, MAX_BEGUN, MAX_OPS, TxTable};
-
-#[cfg(test)]
-mod tests;

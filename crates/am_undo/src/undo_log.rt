@@ -75,6 +75,7 @@ impl UndoLog {
 
     /// Takes all notes back, from the newest to the oldest, and drops the marks. The caller sees to it that each noted
     /// entry is still there, and that no key becomes live twice on the way. Takes no memory.
+    #[inline(never)]
     pub fn take_back<I: PartIndex + Drop>(&mut self, parts: &mut Parts<I>)
         requires { CanTakeBack self.old.notes (find parts.old.entries) }
         ensures entries { TakesBack self.old.notes parts.old.entries parts.new.entries }
@@ -106,6 +107,7 @@ impl UndoLog {
     /// where no mark stands it does nothing and answers false. The caller sees to it that each of
     /// these noted entries is still there, and that no key becomes live twice on the way. Takes no
     /// memory.
+    #[inline(never)]
     pub fn back<I: PartIndex + Drop>(&mut self, parts: &mut Parts<I>) -> bool
         requires { CanTakeBack (since_mark self.old.marks self.old.notes) (find parts.old.entries) }
         ensures stood { result ≡ has_mark self.old.marks }

@@ -17,8 +17,6 @@ mod request;
 mod shape;
 mod sink;
 mod source;
-#[cfg(test)]
-mod tests;
 mod text;
 mod value;
 mod verb;

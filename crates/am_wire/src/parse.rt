@@ -17,6 +17,7 @@ use std::alloc::Global;
 
 /// Reads the bytes of a line, which its LF or CR LF isn't part of. Only the records of a load take memory, once the whole
 /// line is judged.
+#[inline(never)]
 pub fn parse_line(alloc: Global, line: &[u8]) -> Result<Request, LineFault>
     ensures grammar { Reads line.now result }
     ensures reading { MayRead (reading line.now) result }

@@ -85,6 +85,7 @@ fn put_rows<K: Sink>(rows: &[(Key, Value)], sink: &mut K) -> Result<(), Failed>
 
 /// Writes the text of a reply, in pieces of at most 128 bytes. It takes no memory of its own. At a failure a beginning of
 /// the text went out.
+#[inline(never)]
 pub fn put_reply<K: Sink>(reply: &Reply, sink: &mut K) -> Result<(), Failed>
     requires countable { K.failures sink.old < 2 ^ 63 }
     ensures given { OnOk result (Gave K.holds sink.old (text_of reply.now) sink.new) }
@@ -104,6 +105,7 @@ pub fn put_reply<K: Sink>(reply: &Reply, sink: &mut K) -> Result<(), Failed>
 }
 
 /// The text of a reply, the LF that ends its line included.
+#[inline(never)]
 pub fn reply_text(alloc: Global, reply: &Reply) -> Result<Vec<u8>, NoMemory>
     ensures { IfOk result (λ text. text.items ≡ text_of reply.now) }
 {

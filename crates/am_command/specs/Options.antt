@@ -1,0 +1,102 @@
+-- What a command line asks for, by clap's meaning of its words.
+use Rattle.std.specs.Prelude.{◌≡◌, ◌≤◌, ◌⊎◌, ℕ, List, [], Option, Some, None, codes, false, is_some, not, true}
+use Rattle.std.specs.Prelude.{IsSomeAnd, option_map}
+use Rattle.std.specs.Cow.{cow_str_bytes}
+use Rattle.std.specs.Str.Parse.{IsNumeral, digits_value, without_leading_plus}
+use Rattle.clap.specs.Words.{App, Row, Rule, Shape, Text, app_of, first_of, new_app, new_rule}
+use Rattle.clap.specs.Words.{fault_of, subcommand_of, with_rule, with_subcommand}
+use Rattle.clap.specs.Kinds.{IsAmong}
+use Rattle.clap.specs.declared.builder.command.Command.{Command}
+use Rattle.clap.specs.declared.builder.command.Command.TheViews.{out-Command}
+use Rattle.clap.specs.declared.builder.value_parser.ValueParser.TheVariants.{Unsigned}
+use Rattle.clap.specs.declared.error.kind.ErrorKind.TheVariants.{DisplayHelp}
+use Rattle.am_command.specs.declared.choice.Listening.{Listening}
+use Rattle.am_command.specs.declared.choice.Options.{Options}
+use Rattle.am_command.specs.declared.choice.Options.TheVariants.{Alone, Listen}
+use Rattle.am_command.specs.declared.choice.OptionsFault.{OptionsFault}
+use Rattle.am_command.specs.declared.command.Setting.{Setting}
+
+-- the bounds of each number, and what it is where the words don't give it
+abbrev pub auto : Setting
+auto = record { least = 0; most = 64; default = Some 16 }
+
+abbrev pub port : Setting
+port = record { least = 0; most = 65535; default = None }
+
+abbrev pub sessions : Setting
+sessions = record { least = 1; most = 256; default = Some 1 }
+
+abbrev pub workers : Setting
+workers = record { least = 0; most = 16; default = Some 1 }
+
+-- `--NAME VALUE`
+abbrev pub option_rule : Text → Rule
+option_rule name = record (new_rule name) { long = Some name; value_names = 1 }
+
+-- the option takes a number, and must be given if the number has no default
+abbrev pub number_rule : Rule → Setting → Rule
+number_rule rule setting = record rule {
+  parser = Some (Unsigned setting.least setting.most);
+  required = not (is_some setting.default);
+}
+
+-- `alone [--auto N]`
+abbrev pub alone_app : App
+alone_app = with_rule (new_app (codes "alone")) (number_rule (option_rule (codes "auto")) auto)
+
+-- `listen --port P [--sessions N] [--workers W] [--trace FILE]`
+abbrev pub listen_app : App
+listen_app =
+    let with_port = with_rule (new_app (codes "listen")) (number_rule (option_rule (codes "port")) port) in
+    let with_sessions = with_rule with_port (number_rule (option_rule (codes "sessions")) sessions) in
+    let with_workers = with_rule with_sessions (number_rule (option_rule (codes "workers")) workers) in
+    with_rule with_workers (option_rule (codes "trace"))
+
+-- the command is this one, with no global argument
+abbrev pub IsCommand : App → Command → Type 0
+IsCommand app command = (app_of command ≡ app) × ((out-Command command).has_globals ≡ false)
+
+-- `amserve`, which wants a subcommand
+abbrev pub amserve_shape : Shape
+amserve_shape = record (new_app (codes "amserve")).top { subcommand_required = true }
+
+abbrev pub amserve_app : App
+amserve_app =
+    let with_alone = with_subcommand (record { top = amserve_shape; subs = [] }) alone_app.top in
+    with_subcommand with_alone listen_app.top
+
+-- the number that the text writes, or the default where there is no text
+abbrev pub Gives : Setting → Option Text → ℕ → Type 0
+Gives setting None n = setting.default ≡ Some n
+Gives setting (Some text) n =
+    IsNumeral 10 (without_leading_plus text) × (n ≡ digits_value 10 (without_leading_plus text))
+
+-- the number that an option's text gives, within the setting's bounds
+abbrev pub Sets : Setting → Option Text → ℕ → Type 0
+Sets setting text n = (setting.least ≤ n) × (n ≤ setting.most) × Gives setting text n
+
+-- the rows of `listen` give these numbers and this file
+pub record NamesListening (rows : List Row) (listening : Listening) : Type 0 where
+  pub port_set : Sets port (first_of (codes "port") rows) listening.port
+  pub sessions_set : Sets sessions (first_of (codes "sessions") rows) listening.sessions
+  pub workers_set : Sets workers (first_of (codes "workers") rows) listening.workers
+  pub trace_named : option_map (λ file. file.now) listening.trace ≡ first_of (codes "trace") rows
+
+-- the name of a subcommand and its rows name these options
+abbrev pub Selects : Text × List Row → Options → Type 0
+Selects p (Alone n) = (p.0 ≡ codes "alone") × Sets auto (first_of (codes "auto") p.1) n
+Selects p (Listen listening) = (p.0 ≡ codes "listen") × NamesListening p.1 listening
+
+-- clap finds no fault in the words, and the subcommand that they enter names these options
+abbrev pub Names : List Text → Options → Type 0
+Names words options = (fault_of amserve_app words ≡ [])
+    × IsSomeAnd (subcommand_of amserve_app words) (λ entered. Selects entered options)
+
+abbrev pub IsNoMemory : OptionsFault → Type 0
+IsNoMemory fault = (fault.status ≡ 5) × (cow_str_bytes fault.text ≡ codes "amserve: no memory")
+
+-- memory was refused, or the words ask for help, or they name no options
+abbrev pub Refuses : List Text → OptionsFault → Type 0
+Refuses words fault = IsNoMemory fault
+    ⊎ ((fault.status ≡ 0) × IsAmong DisplayHelp (fault_of amserve_app words))
+    ⊎ ((fault.status ≡ 2) × ((options : Options) → Names words options → ⊥))

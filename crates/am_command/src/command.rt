@@ -1,0 +1,256 @@
+//! The command line.
+
+ghost use Rattle.std.specs.Prelude.{◌≡◌, ◌≢◌, ◌⊎◌, ℕ, IfErr, IfOk, IsSomeAnd, MatchOption, false, map, option_map};
+ghost use Rattle.clap.specs.Words.{app_of, first_of, found_of, kind_of, rows_of, rule_of, subcommand_rows_of};
+ghost use Rattle.am_command.specs.Options.{IsCommand, IsNoMemory, Names, NamesListening, Refuses, Selects, Sets, alone_app, amserve_app, listen_app, number_rule, option_rule};
+
+use crate::choice::{Listening, Options, OptionsFault};
+use clap::error::ErrorKind;
+use clap::{Arg, ArgMatches, Command, Error, value_parser};
+use std::alloc::{AllocError, Global};
+use std::borrow::CowStr;
+use std::convert::AsStr;
+
+/// A number that an option takes: from `least` to `most`. Without a default it must be given.
+#[derive(Clone, Copy)]
+struct Setting {
+    least: u16,
+    most: u16,
+    default: Option<u16>,
+}
+
+/// How many entries are merged after each answer.
+const AUTO: Setting = Setting {
+    least: 0,
+    most: 64,
+    default: Some(16),
+};
+
+/// The port to listen at; 0 for any that is free.
+const PORT: Setting = Setting {
+    least: 0,
+    most: 65535,
+    default: None,
+};
+
+/// How many sessions are served.
+const SESSIONS: Setting = Setting {
+    least: 1,
+    most: 256,
+    default: Some(1),
+};
+
+/// How many workers merge.
+const WORKERS: Setting = Setting {
+    least: 0,
+    most: 16,
+    default: Some(1),
+};
+
+/// What the words ask for; the first word is the program's name.
+///
+/// # Errors
+/// A text and a status: 0 where help was asked for, 2 where the words name no options, 5 where memory was refused.
+pub fn options<'a, S: AsStr>(alloc: Global, words: &'a [S]) -> Result<Options<'a>, OptionsFault>
+    ensures accepted { IfOk result (Names (map S.text words.entry.now)) }
+    ensures refused { IfErr result (Refuses (map S.text words.entry.now)) }
+{
+    match amserve(alloc)?.try_get_matches_from(words) {
+        Ok(matches) => match selected(&matches) {
+            Some(options) => Ok(options),
+            None => Err(no_options()),
+        },
+        Err(error) => Err(fault_of(alloc, &error)),
+    }
+}
+
+/// `amserve`, which wants a subcommand.
+fn amserve<'a>(alloc: Global) -> Result<Command<'a>, AllocError>
+    ensures { IfOk result (λ command. app_of command ≡ amserve_app) }
+{
+    Command::new(alloc, "amserve")
+        .about("A transactional keyed store that answers lines")
+        .subcommand_required(true)
+        .subcommand(alone(alloc)?)?
+        .subcommand(listen(alloc)?)
+}
+
+/// `alone [--auto N]`.
+fn alone<'a>(alloc: Global) -> Result<Command<'a>, AllocError>
+    ensures { IfOk result (λ command. IsCommand alone_app command) }
+{
+    let auto = option(
+        alloc,
+        "auto",
+        "N",
+        "How many entries are merged after each answer, 0 to 64 [default: 16]",
+    );
+    Command::new(alloc, "alone")
+        .about("Serves one session over standard input and output, on a store of its own")
+        .arg(number(auto, AUTO))
+}
+
+/// `listen --port P [--sessions N] [--workers W] [--trace FILE]`.
+fn listen<'a>(alloc: Global) -> Result<Command<'a>, AllocError>
+    ensures { IfOk result (λ command. IsCommand listen_app command) }
+{
+    let port = option(
+        alloc,
+        "port",
+        "P",
+        "The port to listen at, 0 to 65535; 0 for any that is free",
+    );
+    let sessions = option(
+        alloc,
+        "sessions",
+        "N",
+        "How many sessions are served, 1 to 256 [default: 1]",
+    );
+    let workers = option(
+        alloc,
+        "workers",
+        "W",
+        "How many workers merge, 0 to 16 [default: 1]",
+    );
+    let trace = option(
+        alloc,
+        "trace",
+        "FILE",
+        "The file that gets the trace; none by default",
+    );
+    Command::new(alloc, "listen")
+        .about("Serves sessions over TCP, on one store")
+        .arg(number(port, PORT))?
+        .arg(number(sessions, SESSIONS))?
+        .arg(number(workers, WORKERS))?
+        .arg(trace)
+}
+
+/// `--NAME VALUE`.
+fn option<'a>(alloc: Global, name: &'a str, value: &'a str, help: &'a str) -> Arg<'a>
+    ensures { (rule_of result ≡ option_rule name.now) × (result.global ≡ false) }
+{
+    Arg::new(alloc, name)
+        .long(name)
+        .value_name(value)
+        .help(help)
+}
+
+/// The option takes a number, and is wanted where the number has no default.
+fn number<'a>(option: Arg<'a>, setting: Setting) -> Arg<'a>
+    ensures { (rule_of result ≡ number_rule (rule_of option.entry) setting)
+        × (result.global ≡ option.entry.global) }
+{
+    let bounds = i64::from(setting.least)..=i64::from(setting.most);
+    option
+        .value_parser(value_parser!(u64).range(bounds))
+        .required(setting.default.is_none())
+}
+
+/// The options that the subcommand names.
+fn selected<'a>(matches: &ArgMatches<'a>) -> Option<Options<'a>>
+    ensures { MatchOption result
+        ((options : Options) → IsSomeAnd (subcommand_rows_of matches.now) (λ entered. Selects entered options) → ⊥)
+        (λ options. IsSomeAnd (subcommand_rows_of matches.now) (λ entered. Selects entered options)) }
+{
+    let (name, given) = matches.subcommand()?;
+    options_of(name, given)
+}
+
+/// The options that a subcommand names by what it was given.
+fn options_of<'a>(name: &str, given: &ArgMatches<'a>) -> Option<Options<'a>>
+    ensures { MatchOption result
+        ((options : Options) → Selects (name.now, rows_of (found_of given.now)) options → ⊥)
+        (Selects (name.now, rows_of (found_of given.now))) }
+{
+    match name {
+        "alone" => Some(Options::Alone {
+            auto: u64::from(number_in(given, "auto", AUTO)?),
+        }),
+        "listen" => Some(Options::Listen(listening_in(given)?)),
+        _ => None,
+    }
+}
+
+/// What `listen` was given, or has by default.
+fn listening_in<'a>(given: &ArgMatches<'a>) -> Option<Listening<'a>>
+    ensures { MatchOption result
+        ((listening : Listening) → NamesListening (rows_of (found_of given.now)) listening → ⊥)
+        (NamesListening (rows_of (found_of given.now))) }
+{
+    Some(Listening {
+        port: number_in(given, "port", PORT)?,
+        sessions: u64::from(number_in(given, "sessions", SESSIONS)?),
+        workers: u64::from(number_in(given, "workers", WORKERS)?),
+        trace: text_in(given, "trace"),
+    })
+}
+
+/// The number that an option was given, or has by default, where it is within its bounds.
+fn number_in(given: &ArgMatches<'_>, name: &str, setting: Setting) -> Option<u16>
+    ensures { MatchOption result
+        ((n : ℕ) → Sets setting (first_of name.now (rows_of (found_of given.now))) n → ⊥)
+        (Sets setting (first_of name.now (rows_of (found_of given.now)))) }
+{
+    number_of(text_in(given, name), setting)
+}
+
+/// The text that an option was given.
+fn text_in<'a>(given: &ArgMatches<'a>, name: &str) -> Option<&'a str>
+    ensures { option_map (λ text. text.now) result ≡ first_of name.now (rows_of (found_of given.now)) }
+{
+    given.get_str(name)
+}
+
+/// The number that an option's text gives, or the default, where it is within its bounds.
+fn number_of(given: Option<&str>, setting: Setting) -> Option<u16>
+    ensures { MatchOption result
+        ((n : ℕ) → Sets setting (option_map (λ text. text.now) given.entry) n → ⊥)
+        (Sets setting (option_map (λ text. text.now) given.entry)) }
+{
+    let number = match given {
+        None => setting.default?,
+        Some(text) => text.parse::<u16>().ok()?,
+    };
+    if setting.least <= number && number <= setting.most {
+        Some(number)
+    } else {
+        None
+    }
+}
+
+/// What clap says of the words.
+fn fault_of(alloc: Global, error: &Error) -> OptionsFault
+    ensures { IsNoMemory result
+        ⊎ ((result.status ≡ 0) × (kind_of error.now ≡ ErrorKind.DisplayHelp))
+        ⊎ ((result.status ≡ 2) × (kind_of error.now ≢ ErrorKind.OutOfMemory)) }
+{
+    match error.kind() {
+        ErrorKind::OutOfMemory => OptionsFault::no_memory(),
+        ErrorKind::DisplayHelp => said(alloc, 0, error),
+        _ => said(alloc, 2, error),
+    }
+}
+
+/// The text of clap, with the status.
+fn said(alloc: Global, status: u8, error: &Error) -> OptionsFault
+    ensures { IsNoMemory result ⊎ (result.status ≡ status) }
+{
+    match error.to_string(alloc) {
+        Ok(text) => OptionsFault {
+            status,
+            text: CowStr::Owned(text),
+        },
+        Err(_) => OptionsFault::no_memory(),
+    }
+}
+
+/// The words are well formed and name no options.
+fn no_options() -> OptionsFault
+    ensures { result.status ≡ 2 }
+{
+    OptionsFault {
+        status: 2,
+        text: CowStr::Borrowed("amserve: expected alone or listen"),
+    }
+}

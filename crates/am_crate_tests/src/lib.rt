@@ -1,0 +1,30 @@
+//! Worked examples of single crates: records, locks, transactions, merges, the plain map, lines, replies, streams, stored
+//! traces with their audits, and command lines.
+#![tactic(auto)]
+
+#[cfg(test)]
+mod audits;
+#[cfg(test)]
+mod commands;
+#[cfg(test)]
+mod keys;
+#[cfg(test)]
+mod locks;
+#[cfg(test)]
+mod merges;
+#[cfg(test)]
+mod over_std;
+#[cfg(test)]
+mod plain;
+#[cfg(test)]
+mod records;
+#[cfg(test)]
+mod replies;
+#[cfg(test)]
+mod requests;
+#[cfg(test)]
+mod streams;
+#[cfg(test)]
+mod traces;
+#[cfg(test)]
+mod transactions;

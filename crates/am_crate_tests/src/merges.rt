@@ -1,0 +1,253 @@
+//! Merge steps, clean steps and their wishes.
+
+use am_list::{ListIndex, PartIndex};
+use am_locks::{Asked, LockTable};
+use am_merge::{Wishes, clean_step, merge_step};
+use am_parts::Parts;
+use am_record::{Entry, Key, Lock, Mode, NoMemory, Range, Refusal, Reply, Value};
+use std::alloc::Global;
+use std::process::Abort;
+use std::test::Fail;
+
+fn value(byte: u8) -> Value {
+    Value::new(&[byte]).unwrap()
+}
+
+fn range(rt: &impl Abort, lo: u64, hi: u64) -> Range {
+    Range::new(Key::of_u64(lo), Key::of_u64(hi)).expect(rt, "the ends stand in order")
+}
+
+// Adds the entry, unless its place is taken or a live one's key is live elsewhere.
+fn add<I: PartIndex + Drop>(
+    parts: &mut Parts<I>,
+    part: u32,
+    number: u64,
+    byte: u8,
+    is_ghost: bool,
+) -> Result<(), NoMemory> {
+    let (key, value) = (Key::of_u64(number), value(byte));
+    if parts.find(part, key).is_some() {
+        return Ok(());
+    }
+    if !is_ghost && parts.place_of(key).is_some() {
+        return Ok(());
+    }
+    parts.add(Entry {
+        part,
+        key,
+        value,
+        is_ghost,
+    })
+}
+
+fn over(alloc: Global, entries: &[(u32, u64, u8, bool)]) -> Result<Parts<ListIndex>, NoMemory> {
+    let mut parts = Parts::new(ListIndex::new(alloc));
+    for &(part, number, byte, is_ghost) in entries {
+        add(&mut parts, part, number, byte, is_ghost)?;
+    }
+    Ok(parts)
+}
+
+// A run of the 100 keys from `first` on in steps of three.
+fn load(parts: &mut Parts<ListIndex>, run: u32, first: u8) -> Result<(), NoMemory> {
+    if parts.runs() < 65_535 {
+        parts.count_run();
+    }
+    for step in 0..100 {
+        add(parts, run, u64::from(first) + 3 * step, b'a', false)?;
+    }
+    Ok(())
+}
+
+fn has(parts: &Parts<ListIndex>, part: u32, number: u64, byte: u8, is_ghost: bool) -> bool {
+    parts.find(part, Key::of_u64(number)) == Some((value(byte), is_ghost))
+}
+
+// How many entries of the keys 0 to 299 stand in the partition.
+fn count_in(parts: &Parts<ListIndex>, part: u32) -> u64 {
+    let mut count: u64 = 0;
+    for number in 0..300 {
+        if parts.find(part, Key::of_u64(number)).is_some() {
+            count = count.saturating_add(1);
+        }
+    }
+    count
+}
+
+// A table in which transaction 2 has the key exclusively locked.
+fn locked(rt: &impl Abort, alloc: Global, number: u64) -> LockTable {
+    let mut locks = LockTable::new(alloc);
+    assert!(rt; locks.owners() == 0 && !locks.is_owner(2));
+    locks.enter(2);
+    assert!(rt; locks.is_owner(2));
+    let lock = Lock {
+        mode: Mode::Exclusive,
+        range: Range::point(Key::of_u64(number)),
+    };
+    assert!(rt; locks.ask(2, lock) == Asked::Granted);
+    locks
+}
+
+#[test]
+fn sixty_five_wishes_lose_the_oldest(rt: HostRuntime) -> Result<(), Fail> {
+    let mut parts = over(rt.alloc(), &[(1, 0, b'a', false)])?;
+    let mut wishes = Wishes::new(rt.alloc())?;
+    let locks = LockTable::new(rt.alloc());
+    for number in 0..65 {
+        wishes.wish(Range::point(Key::of_u64(number)));
+    }
+    for _ in 0..64 {
+        assert_eq!(rt;
+            merge_step(&mut parts, &mut wishes, &locks, 16),
+            Reply::MergeDone
+        );
+    }
+    assert_eq!(rt;
+        merge_step(&mut parts, &mut wishes, &locks, 16),
+        Reply::Idle
+    );
+    assert!(rt; has(&parts, 1, 0, b'a', false));
+    Ok(())
+}
+
+#[test]
+fn merge_cuts_by_limit_and_run(rt: HostRuntime) -> Result<(), Fail> {
+    let mut parts = over(rt.alloc(), &[])?;
+    let mut wishes = Wishes::new(rt.alloc())?;
+    let locks = LockTable::new(rt.alloc());
+    load(&mut parts, 1, 0)?;
+    load(&mut parts, 2, 1)?;
+    load(&mut parts, 3, 2)?;
+    wishes.wish(range(&rt, 20, 39));
+    for reply in [
+        Reply::Moved(7, 1),
+        Reply::Moved(6, 2),
+        Reply::Moved(7, 3),
+        Reply::MergeDone,
+    ] {
+        assert_eq!(rt; merge_step(&mut parts, &mut wishes, &locks, 64), reply);
+    }
+    assert!(rt; count_in(&parts, 0) == 20);
+    assert!(rt;
+        count_in(&parts, 1) == 93 && count_in(&parts, 2) == 94 && count_in(&parts, 3) == 93
+    );
+    Ok(())
+}
+
+#[test]
+fn merge_ends_at_a_locked_key(rt: HostRuntime) -> Result<(), Fail> {
+    let mut parts = over(
+        rt.alloc(),
+        &[(1, 2, b'a', false), (1, 4, b'b', true), (1, 6, b'c', false)],
+    )?;
+    let mut wishes = Wishes::new(rt.alloc())?;
+    let locks = locked(&rt, rt.alloc(), 4);
+    wishes.wish(range(&rt, 1, 9));
+    assert_eq!(rt;
+        merge_step(&mut parts, &mut wishes, &locks, 16),
+        Reply::Moved(1, 1)
+    );
+    assert_eq!(rt;
+        merge_step(&mut parts, &mut wishes, &locks, 16),
+        Reply::Ended(Key::of_u64(4), 2)
+    );
+    assert_eq!(rt;
+        merge_step(&mut parts, &mut wishes, &locks, 16),
+        Reply::Idle
+    );
+    assert!(rt; has(&parts, 0, 2, b'a', false) && !has(&parts, 1, 2, b'a', false));
+    assert!(rt; has(&parts, 1, 4, b'b', true) && has(&parts, 1, 6, b'c', false));
+    Ok(())
+}
+
+#[test]
+fn merge_goes_home_over_a_ghost(rt: HostRuntime) -> Result<(), Fail> {
+    let mut parts = over(
+        rt.alloc(),
+        &[(0, 5, b'a', true), (1, 5, b'b', false), (1, 7, b'c', false)],
+    )?;
+    let mut wishes = Wishes::new(rt.alloc())?;
+    let locks = LockTable::new(rt.alloc());
+    wishes.wish(Range::point(Key::of_u64(5)));
+    wishes.wish(Range::point(Key::of_u64(5)));
+    for reply in [
+        Reply::Moved(1, 1),
+        Reply::MergeDone,
+        Reply::MergeDone,
+        Reply::Idle,
+    ] {
+        assert_eq!(rt; merge_step(&mut parts, &mut wishes, &locks, 16), reply);
+    }
+    assert!(rt; has(&parts, 0, 5, b'b', false) && has(&parts, 1, 7, b'c', false));
+    assert!(rt; parts.find(1, Key::of_u64(5)).is_none());
+    Ok(())
+}
+
+// Merges until no candidate is left. Where memory is refused the step ends, and is taken again.
+fn merge_all(
+    rt: &impl Abort,
+    parts: &mut Parts<ListIndex>,
+    wishes: &mut Wishes,
+    locks: &LockTable,
+) -> u64 {
+    let mut moved: u64 = 0;
+    for _ in 0..10 {
+        match merge_step(parts, wishes, locks, 64) {
+            Reply::Moved(n, 1) => moved = moved.saturating_add(n),
+            Reply::Refused(Refusal::NoMemory) => {}
+            Reply::MergeDone => return moved,
+            _ => panic!(rt; "no such reply is due"),
+        }
+    }
+    moved
+}
+
+#[test]
+fn merges_add_up_where_memory_is_refused(rt: HostRuntime) -> Result<(), Fail> {
+    let mut parts = over(rt.alloc(), &[])?;
+    let mut wishes = Wishes::new(rt.alloc())?;
+    let locks = LockTable::new(rt.alloc());
+    for number in 0..8 {
+        add(&mut parts, 1, number, b'a', false)?;
+    }
+    wishes.wish(range(&rt, 0, 9));
+    assert!(rt; merge_all(&rt, &mut parts, &mut wishes, &locks) == 8);
+    assert!(rt; count_in(&parts, 0) == 8 && count_in(&parts, 1) == 0);
+    Ok(())
+}
+
+#[test]
+fn clean_takes_ghosts(rt: HostRuntime) -> Result<(), Fail> {
+    let mut parts = over(rt.alloc(), &[(0, 5, b'a', true)])?;
+    let locks = LockTable::new(rt.alloc());
+    let all = range(&rt, 0, 9);
+    assert_eq!(rt; clean_step(&mut parts, &locks, all, 10), Reply::Cleaned(1));
+    assert_eq!(rt; clean_step(&mut parts, &locks, all, 10), Reply::Cleaned(0));
+    assert!(rt; parts.next_any(0, Key::least()).is_none());
+    Ok(())
+}
+
+#[test]
+fn clean_passes_over_locked_and_live_entries(rt: HostRuntime) -> Result<(), Fail> {
+    let mut parts = over(
+        rt.alloc(),
+        &[
+            (0, 3, b'a', true),
+            (0, 4, b'b', false),
+            (0, 12, b'c', true),
+            (1, 2, b'd', true),
+            (1, 5, b'e', true),
+            (u32::MAX, 5, b'f', true),
+            (u32::MAX, 9, b'g', true),
+        ],
+    )?;
+    let locks = locked(&rt, rt.alloc(), 5);
+    let some = range(&rt, 2, 9);
+    assert_eq!(rt; clean_step(&mut parts, &locks, some, 2), Reply::Cleaned(2));
+    assert!(rt; has(&parts, u32::MAX, 9, b'g', true));
+    assert_eq!(rt; clean_step(&mut parts, &locks, some, 2), Reply::Cleaned(1));
+    assert_eq!(rt; clean_step(&mut parts, &locks, some, 64), Reply::Cleaned(0));
+    assert!(rt; has(&parts, 0, 4, b'b', false) && has(&parts, 0, 12, b'c', true));
+    assert!(rt; has(&parts, 1, 5, b'e', true) && has(&parts, u32::MAX, 5, b'f', true));
+    Ok(())
+}

@@ -1,0 +1,77 @@
+//! The texts of stored traces.
+
+use am_record::{Key, Op, Reply, Step, Value};
+use am_trace::{TraceFault, read_trace, trace_text};
+use std::test::Fail;
+
+const STORED: &[u8] = b"TRACE 2
+SCAN 1 h h6162 18446744073709551615 | ROWS 2 h61=h h6162=h00ff
+LOAD 1 h61=h78 | ENDED h61 2
+";
+
+// The row of numbers as keys.
+const NUMBERED: &[u8] = b"TRACE 1
+BEGIN | BEGUN 1
+INS 1 5 h61 | OK
+SCAN 1 0 18446744073709551615 5 | ROWS 1 5=h61
+";
+
+// Texts that are none of a trace, each with its first bad line.
+const BAD: [(&[u8], u64); 24] = [
+    (b"", 1),
+    (b"TRACE 2", 1),
+    (b"TRACE 3\n", 1),
+    (b"TRACE 2\r\n", 1),
+    (b"TRACE 2\n\n", 2),
+    (b"TRACE 2\nBEGIN | BEGUN 1", 2),
+    (b"TRACE 2\nBEGIN | BEGUN 1\r\n", 2),
+    (b"TRACE 2\nBEGIN | BEGUN 1\nBEGIN| BEGUN 2\n", 3),
+    (b"TRACE 2\nBEGIN | BEGUN 1 \n", 2),
+    (b"TRACE 2\nBEGIN | BEGUN 18446744073709551616\n", 2),
+    (b"TRACE 2\nGET 01 h61 | NONE\n", 2),
+    (b"TRACE 2\nGET 1 h6A | NONE\n", 2),
+    (b"TRACE 2\nGET 1 h6 | NONE\n", 2),
+    (b"TRACE 2\nGET 1 5 | ERR NOTX\n", 2),
+    (b"TRACE 2\nSCAN 1 h62 h61 1 | ROWS 0\n", 2),
+    (b"TRACE 2\nSCAN 1 h61 h62 1 | ROWS 1\n", 2),
+    (b"TRACE 2\nSCAN 1 h61 h62 1 | ROWS 0 h61=h62\n", 2),
+    (b"TRACE 2\nMERGE 1 | MOVED 1 4294967296\n", 2),
+    (b"TRACE 2\nGET 1 h61 | ERR FULL\n", 2),
+    (b"TRACE 2\nSEEN | IDLE\n", 2),
+    (
+        b"TRACE 2\nGET 1 h000000000000000000000000000000000000000000000000000000000000000000 | NONE\n",
+        2,
+    ),
+    (b"TRACE 1\nMARK 1 | OK\n", 2),
+    (b"TRACE 1\nBACK 1 | NOMARK\n", 2),
+    (b"TRACE 1\nGET 7 01 | ERR NOTX\n", 2),
+];
+
+#[test]
+fn stored_text_is_read_and_written_again(rt: HostRuntime) -> Result<(), Fail> {
+    let trace = read_trace(rt.alloc(), STORED)?;
+    assert_eq!(rt; trace.len(), 2);
+    let text = trace_text(rt.alloc(), &trace)?;
+    assert_eq!(rt; text.as_slice(), STORED);
+    Ok(())
+}
+
+#[test]
+fn version_1_has_numbers_as_keys(rt: HostRuntime) -> Result<(), Fail> {
+    let trace = read_trace(rt.alloc(), NUMBERED)?;
+    assert_eq!(rt; trace.len(), 3);
+    let value = Value::new(b"a").unwrap();
+    assert!(rt; trace[1] == (Step::Do(1, Op::Insert(Key::of_u64(5), value)), Reply::Done));
+    Ok(())
+}
+
+#[test]
+fn the_first_bad_line_is_named(rt: HostRuntime) -> Result<(), Fail> {
+    for (text, line) in BAD {
+        match read_trace(rt.alloc(), text) {
+            Err(TraceFault::NoMemory) => return Err("no memory".into()),
+            read => assert!(rt; read.err() == Some(TraceFault::Bad(line)), "line {line}"),
+        }
+    }
+    Ok(())
+}

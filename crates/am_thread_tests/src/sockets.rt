@@ -1,0 +1,58 @@
+//! Clients of a server, over sockets.
+
+use am_listen::{Served, bind};
+use std::io::{Read, Write};
+use std::net::{Ipv4Addr, Net, Shutdown, TcpListener, TcpStream};
+use std::test::Fail;
+use std::{io, thread};
+
+// What the server says to the lines.
+fn ask<R: AllocGlobal + Net<Listener = TcpListener, Stream = TcpStream>>(
+    rt: &R,
+    port: u16,
+    lines: &str,
+) -> io::Result<String> {
+    let stream = TcpStream::connect(rt, (Ipv4Addr::LOCALHOST, port))?;
+    (&stream).write_all(lines.as_bytes())?;
+    stream.shutdown(Shutdown::Write)?;
+    let mut said = String::new(rt.alloc());
+    (&stream).read_to_string(&mut said)?;
+    Ok(said)
+}
+
+// Two clients, one after the other.
+fn ask_twice<R: AllocGlobal + Net<Listener = TcpListener, Stream = TcpStream>>(
+    rt: &R,
+    port: u16,
+) -> io::Result<(String, String)> {
+    let first = ask(rt, port, "BEGIN\nINS 5 a\nCOMMIT\nSEEN\nQUIT\n")?;
+    let second = ask(rt, port, "BEGIN\nGET 5\nCOMMIT\nQUIT\n")?;
+    Ok((first, second))
+}
+
+#[test]
+fn two_clients_beside_a_worker(rt: HostRuntime) -> Result<(), Fail> {
+    let bound = bind(&rt, 0).ok().ok_or("no port")?;
+    let port = bound.port();
+    let (served, said) = thread::join(&rt, || bound.serve(&rt, 2, 1), || ask_twice(&rt, port));
+    let Served {
+        trace,
+        commits,
+        accepted_all,
+    } = served.ok().ok_or("no memory")?;
+    let (first, second) = said?;
+    assert!(rt; first.as_str() == "BEGUN 1\nOK\nCOMMITTED 1\nSEEN 0 1\nBYE\n");
+    assert!(rt; second.as_str() == "BEGUN 2\nVAL a\nCOMMITTED 2\nBYE\n");
+    assert!(rt; commits == 2);
+    assert!(rt; accepted_all);
+    // Six steps, and at most a turn of the worker for each of nine lines.
+    assert!(rt; 6 <= trace.len() && trace.len() <= 15);
+    Ok(())
+}
+
+#[test]
+fn a_port_in_use_is_refused(rt: HostRuntime) -> Result<(), Fail> {
+    let bound = bind(&rt, 0).ok().ok_or("no port")?;
+    assert!(rt; bind(&rt, bound.port()).is_err());
+    Ok(())
+}
