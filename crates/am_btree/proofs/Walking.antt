@@ -100,14 +100,14 @@ module _ (part : ℕ) (key : OrderedKey) where
   -- ---- reading on
 
   pub next_child : (batch : List Entry) (ks : List Shape) (i : ℕ) (k : Shape) → i < length ks → k ≡ get_or ks i k
-      → take 8 (take 8 (batch ++ all_after k.entries part key) ++ all_after (all_entries (drop (i + 1) ks)) part key) ≡ take 8 (batch ++ all_after (all_entries (drop i ks)) part key)
+      → take 16 (take 16 (batch ++ all_after k.entries part key) ++ all_after (all_entries (drop (i + 1) ks)) part key) ≡ take 16 (batch ++ all_after (all_entries (drop i ks)) part key)
   next_child batch ks i k lt here =
       let left = all_entries (drop (suc i) ks) in
       let whole : all_entries (drop i ks) ≡ k.entries ++ left = ap all_entries (drop-cons ks i k lt) ∙ ap (λ (s : Shape). s.entries ++ left) (sym here) in
-      ap (λ (j : ℕ). take 8 (take 8 (batch ++ all_after k.entries part key) ++ all_after (all_entries (drop j ks)) part key)) (add-one i)
-      ∙ take_both 8 (batch ++ all_after k.entries part key) (all_after left part key)
-      ∙ ap (take 8) (append_assoc batch (all_after k.entries part key) (all_after left part key))
-      ∙ ap (λ es. take 8 (batch ++ es)) (sym (all_after-append part key k.entries left) ∙ ap (λ es. all_after es part key) (sym whole))
+      ap (λ (j : ℕ). take 16 (take 16 (batch ++ all_after k.entries part key) ++ all_after (all_entries (drop j ks)) part key)) (add-one i)
+      ∙ take_both 16 (batch ++ all_after k.entries part key) (all_after left part key)
+      ∙ ap (take 16) (append_assoc batch (all_after k.entries part key) (all_after left part key))
+      ∙ ap (λ es. take 16 (batch ++ es)) (sym (all_after-append part key k.entries left) ∙ ap (λ es. all_after es part key) (sym whole))
 
   none_in_part : (l : Place) (es : List Entry) → part < l.0 → NoneBelow l es → all_after es part key ≡ []
   none_in_part l es lt n =

@@ -53,13 +53,13 @@ impl Subtree {
     /// Appends the next entries of the partition strictly above the key, as many as the batch has
     /// room for.
     pub(crate) fn read_on(&self, part: u32, key: Key, batch: &mut Batch)
-        ensures read { batch.new ≡ take 8 (batch.old ++ all_after self.now.entries part key) }
+        ensures read { batch.new ≡ take 16 (batch.old ++ all_after self.now.entries part key) }
         ensures rising { IsRising self.now.entries }
     {
         match &self.node {
             Node::Leaf(leaf) => read_on_in_leaf(leaf, part, key, batch),
             Node::Inner(separators, children) => {
-                prove!(batch.entries().len() <= 8);
+                prove!(batch.entries().len() <= 16);
                 for at in child_for(separators, part, key)..children.len() {
                     if batch.is_full() || separators[at].part > part {
                         return;
@@ -108,17 +108,18 @@ fn seek_in_leaf(leaf: &RawLeaf, part: u32, key: Key, start: Start) -> Option<Ent
 
 // Appends the next entries of the partition of a leaf, as many as the batch has room for.
 fn read_on_in_leaf(leaf: &RawLeaf, part: u32, key: Key, batch: &mut Batch)
-    ensures read { batch.new ≡ take 8 (batch.old ++ all_after leaf.now part key) }
+    ensures read { batch.new ≡ take 16 (batch.old ++ all_after leaf.now part key) }
     ensures rising { IsRising leaf.now }
 {
-    prove!(batch.entries().len() <= 8);
+    prove!(batch.entries().len() <= 16);
     for at in start_in_leaf(leaf, part, key, Start::Above)..leaf.len() {
         if batch.is_full() {
             return;
         }
-        if leaf.get(at).part != part {
+        let entry = leaf.get(at);
+        if entry.part != part {
             return;
         }
-        batch.push(leaf.get(at));
+        batch.push(entry);
     }
 }

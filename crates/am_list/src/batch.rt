@@ -6,9 +6,9 @@ use am_record::{Entry, Key, Value};
 use std::marker::Model;
 
 // How many entries a batch has room for.
-const ROOM: usize = 8;
+const ROOM: usize = 16;
 
-/// Entries in the order in which they were read, eight at most.
+/// Entries in the order in which they were read, sixteen at most.
 #[derive(Debug, Drop)]
 pub struct Batch {
     // Blanks from the length on, or what was read before.
@@ -27,7 +27,7 @@ impl Model for Batch {
 
     ghost view = { λ b. take b.len b.entries };
 
-    ghost invariant = { λ b. (b.len ≤ 8) × (length b.entries ≡ 8) };
+    ghost invariant = { λ b. (b.len ≤ 16) × (length b.entries ≡ 16) };
 }
 
 impl Batch {
@@ -50,22 +50,22 @@ impl Batch {
     /// The entries that were read.
     pub fn entries(&self) -> &[Entry]
         ensures all { result.now ≡ self.now }
-        ensures fits { length self.now ≤ 8 }
+        ensures fits { length self.now ≤ 16 }
     {
         &self.entries[..self.len]
     }
 
     /// Whether there is no room left.
     pub fn is_full(&self) -> bool
-        ensures full { result ≡ (length self.now == 8) }
-        ensures fits { length self.now ≤ 8 }
+        ensures full { result ≡ (length self.now == 16) }
+        ensures fits { length self.now ≤ 16 }
     {
         self.len == ROOM
     }
 
     /// Appends an entry. The caller sees to it that there is room.
     pub fn push(&mut self, entry: Entry)
-        requires { length self.old < 8 }
+        requires { length self.old < 16 }
         ensures { self.new ≡ self.old ++ entry ∷ [] }
     {
         self.entries[self.len] = entry;
@@ -75,7 +75,7 @@ impl Batch {
     /// Appends the entries of the partition with which the list begins, as many as there is room
     /// for.
     pub fn push_part(&mut self, part: u32, list: &[Entry])
-        ensures { self.new ≡ take 8 (self.old ++ take_while (λ e. e.part == part) list.now) }
+        ensures { self.new ≡ take 16 (self.old ++ take_while (λ e. e.part == part) list.now) }
     {
         prove!(self.entries().len() <= ROOM);
         for entry in list {

@@ -31,7 +31,7 @@ pub trait PartIndex {
     /// Appends the next entries of the partition strictly above the key, as many as the batch has
     /// room for. Where it is not full afterwards, the partition has no further ones.
     fn read_on(&self, part: u32, key: Key, batch: &mut Batch)
-        ensures read { batch.new ≡ take 8 (batch.old ++ all_after (entries self.now) part key) }
+        ensures read { batch.new ≡ take 16 (batch.old ++ all_after (entries self.now) part key) }
         ensures rising { IsRising (entries self.now) };
 
     /// The first entry of the whole index at or above the place of a partition and key. It may be

@@ -98,25 +98,27 @@ fn reads_on_as_far_as_there_is_room(rt: HostRuntime) -> Result<(), Fail> {
     let mut index = ListIndex::new(rt.alloc());
     add(&mut index, live(0, 5, b'a'))?;
     add(&mut index, live(2, 5, b'z'))?;
-    for number in 1..12_u64 {
+    for number in 1..20_u64 {
         add(&mut index, numbered(number))?;
     }
 
     let mut batch = Batch::new();
     index.read_on(3, Key::least(), &mut batch);
     assert!(rt; batch.entries().is_empty());
-    index.read_on(1, Key::of_u64(9), &mut batch);
-    assert!(rt; has_read(&batch, &[10, 11]));
+    index.read_on(1, Key::of_u64(17), &mut batch);
+    assert!(rt; has_read(&batch, &[18, 19]));
     assert!(rt; !batch.is_full());
     index.read_on(1, Key::of_u64(2), &mut batch);
-    assert!(rt; has_read(&batch, &[10, 11, 3, 4, 5, 6, 7, 8]));
+    let read = [18, 19, 3, 4, 5, 6, 7, 8, 9, 10, 11, 12, 13, 14, 15, 16];
+    assert!(rt; has_read(&batch, &read));
     assert!(rt; batch.is_full());
     index.read_on(1, Key::least(), &mut batch);
-    assert!(rt; has_read(&batch, &[10, 11, 3, 4, 5, 6, 7, 8]));
+    assert!(rt; has_read(&batch, &read));
 
     batch.clear();
     index.read_on(1, Key::least(), &mut batch);
-    assert!(rt; has_read(&batch, &[1, 2, 3, 4, 5, 6, 7, 8]));
+    let first = [1, 2, 3, 4, 5, 6, 7, 8, 9, 10, 11, 12, 13, 14, 15, 16];
+    assert!(rt; has_read(&batch, &first));
     Ok(())
 }
 

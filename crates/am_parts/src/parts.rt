@@ -79,7 +79,7 @@ impl<I: PartIndex + Drop> Parts<I> {
     /// Appends the next entries of the partition strictly above the key, as many as the batch has
     /// room for. Where it is not full afterwards, the partition has no further ones.
     pub fn read_on(&self, part: u32, key: Key, batch: &mut Batch)
-        ensures read { batch.new ≡ take 8 (batch.old ++ all_after self.now.entries part key) }
+        ensures read { batch.new ≡ take 16 (batch.old ++ all_after self.now.entries part key) }
         ensures sound { IsSound self.now.entries }
     {
         self.index.read_on(part, key, batch);

@@ -9,3 +9,4 @@ pub mod Beginnings
 pub mod Passing
 pub mod Settling
 pub mod Walking
+pub mod ByPieces

@@ -29,7 +29,7 @@ module _ (m : PlainMap) where
   only_one rs (Some k) None x y = absurd (false≢true (sym (ap is_some (y k x.0)) ∙ x.1))
   only_one rs (Some k) (Some l) x y = ap (λ q. Some q) (le_both k l (x.2 l y.0 y.1) (y.2 k x.0 x.1))
 
-  is_least : (rs : Records) → IsLeast m rs (least_taken rs m)
+  pub is_least : (rs : Records) → IsLeast m rs (least_taken rs m)
   is_least rs = by_cases (least_taken rs m) refl
     where
       by_cases : (o : Option OrderedKey) → least_taken rs m ≡ o → IsLeast m rs o

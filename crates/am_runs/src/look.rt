@@ -16,13 +16,35 @@ use am_list::PartIndex;
 use am_parts::Parts;
 use am_record::{Entry, Key, Value};
 
-/// The first key of the pairs that is live. What lies between the pairs and the entries of a
-/// partition is passed over, and partitions whose entries are all below the pairs cost one look each.
+// How many pairs are looked for in all partitions before the next ones are: so few that they stay in
+// a processor's cache.
+const PIECE_LEN: usize = 2048;
+
+/// The first key of the pairs that is live.
 pub(crate) fn first_live<I: PartIndex + Drop>(
     parts: &Parts<I>,
     pairs: &[(Key, Value)],
 ) -> Option<Key>
     requires { is_rising pairs.now ≡ true }
+    ensures { result ≡ least_taken pairs.now (content parts.now.entries) }
+{
+    let mut walk = Walk::new();
+    for piece in pairs.chunks(PIECE_LEN) {
+        if let Some(key) = least_live(parts, &mut walk, piece) {
+            return Some(key);
+        }
+    }
+    None
+}
+
+// The least key of the pairs that is live. What lies between the pairs and the entries of a partition
+// is passed over, and partitions whose entries are all below the pairs cost one look each.
+fn least_live<I: PartIndex + Drop>(
+    parts: &Parts<I>,
+    walk: &mut Walk,
+    pairs: &[(Key, Value)],
+) -> Option<Key>
+    requires { is_sorted key_cmp pairs.now ≡ true }
     ensures { result ≡ least_taken pairs.now (content parts.now.entries) }
 {
     let mut least = None;
@@ -34,7 +56,7 @@ pub(crate) fn first_live<I: PartIndex + Drop>(
             return least;
         };
         let here = entry.part;
-        if let Some(key) = least_live_in(parts, entry, left) {
+        if let Some(key) = least_live_in(parts, walk, entry, left) {
             least = Some(key);
             left = &left[..count_below(left, key)];
         }
@@ -61,10 +83,11 @@ fn first_from<I: PartIndex + Drop>(parts: &Parts<I>, part: u32, low: Key) -> Opt
     None
 }
 
-// The least key of the pairs that is live in a partition. The caller gives the partition's first
-// entry at or above the least pair's key.
+// The least key of the pairs that is live in a partition, by a new walk through it. The caller gives
+// the partition's first entry at or above the least pair's key.
 fn least_live_in<I: PartIndex + Drop>(
     parts: &Parts<I>,
+    walk: &mut Walk,
     first: Entry,
     pairs: &[(Key, Value)],
 ) -> Option<Key>
@@ -73,10 +96,11 @@ fn least_live_in<I: PartIndex + Drop>(
     requires first { IfSome (first_key pairs.now) (λ low. next_from parts.now.entries first.part low ≡ Some first) }
     ensures { MatchOption result (NoneLiveIn parts.now.entries first.part pairs.now) (IsLeastLiveIn parts.now.entries first.part pairs.now) }
 {
-    let mut walk = Walk::at(first);
+    walk.begin(&first);
     let mut left = pairs;
     while let Some((pair, above)) = left.split_first() {
-        let entry = walk.first_from(parts, pair.0)?;
+        walk.go_to(parts, pair.0);
+        let entry = walk.entry()?;
         if entry.key == pair.0 && !entry.is_ghost {
             return Some(entry.key);
         }
@@ -96,19 +120,19 @@ fn count_below(pairs: &[(Key, Value)], key: Key) -> usize
     front.partition_point(|pair| pair.0 < key)
 }
 
-// The length of a front that has all pairs below the key. The key is mostly near, so the search
+// The length of a front, behind which no pair is below the key. The key is mostly near, so the search
 // begins with short fronts.
 fn front_len(pairs: &[(Key, Value)], key: Key) -> usize
     requires { is_sorted key_cmp pairs.now ≡ true }
     ensures in_range { result ≤ length pairs.now }
     ensures all { AllWithin (λ r. is_lt (key_cmp r.0 key) ≡ false) pairs.now result (length pairs.now) }
 {
-    let mut len = 1;
+    let mut len: usize = 0;
     while len < pairs.len() {
-        if key <= pairs[len - 1].0 {
+        if key <= pairs[len].0 {
             return len;
         }
-        len = len.saturating_mul(2);
+        len = len.saturating_mul(2).saturating_add(1);
     }
     pairs.len()
 }

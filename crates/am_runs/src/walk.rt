@@ -1,123 +1,148 @@
 //! A walk through one partition, from key to higher key.
 
-ghost use Rattle.std.specs.Prelude.{◌≡◌, ◌++◌, [], ◌∷◌, take};
+ghost use Rattle.std.specs.Prelude.{◌≡◌, ◌++◌, [], ◌∷◌, List, true, false, None, IfSome, is_some, slice_get, option_copied};
 ghost use Rattle.am_record.specs.Interval.{key_le};
-ghost use Rattle.am_list.specs.Entries.{first_such, next_from, all_after};
+ghost use Rattle.am_record.specs.declared.entry.Entry.{Entry as TheEntry};
+ghost use Rattle.am_list.specs.Entries.{next_from, all_after};
 
 use am_list::{Batch, PartIndex};
 use am_parts::Parts;
 use am_record::{Entry, Key};
 
-// How many looks go down to their entry after a batch that didn't reach the key.
+// How many steps go down to their entry after a batch that didn't reach the key.
 const DESCENTS: u32 = 8;
 
-/// Looks for entries of one partition, from key to higher key. Where they lie close together several
-/// of them are read at once; where they don't, that would be in vain, and each look goes down from
+/// Goes through one partition, from key to higher key. Where the entries lie close together several
+/// of them are read at once; where they don't, that would be in vain, and each step goes down from
 /// the root.
 #[derive(Drop)]
 pub(crate) struct Walk {
     part: u32,
     // Entries that follow one another in the partition.
     read: Batch,
+    // How many of these are below the keys that were asked for.
+    passed: usize,
     // The key of the last entry that was read.
     last: Key,
-    // How many looks go down before entries are read ahead again.
+    // How many steps go down before entries are read ahead again.
     descents: u32,
 }
 
 impl Walk {
     ghost use Rattle.am_runs.specs.Walk.{IsWalkFrom};
 
-    /// A walk that begins at the entry.
-    pub(crate) fn at(entry: Entry) -> Walk
-        ensures part { result.part ≡ entry.part }
-        ensures read { result.read ≡ entry ∷ [] }
-        ensures last { result.last ≡ entry.key }
-    {
-        let mut walk = Walk {
-            part: entry.part,
+    /// A walk that is yet to begin.
+    pub(crate) fn new() -> Walk {
+        Walk {
+            part: 0,
             read: Batch::new(),
-            last: entry.key,
+            passed: 0,
+            last: Key::least(),
             descents: 0,
-        };
-        walk.read.push(entry);
-        walk
+        }
     }
 
-    /// The first entry of the partition at or above the key. From then on no lower key may be asked
-    /// for.
-    pub(crate) fn first_from<I: PartIndex + Drop>(
-        &mut self,
-        parts: &Parts<I>,
-        key: Key,
-    ) -> Option<Entry>
+    /// Begins at an entry, in its partition.
+    pub(crate) fn begin(&mut self, entry: &Entry)
+        ensures part { self.new.part ≡ entry.now.part }
+        ensures read { self.new.read ≡ entry.now ∷ [] }
+        ensures passed { self.new.passed ≡ 0 }
+        ensures last { self.new.last ≡ entry.now.key }
+    {
+        self.part = entry.part;
+        self.descents = 0;
+        self.stand_at(entry);
+    }
+
+    /// The entry to which the walk has come, or none at the partition's end.
+    pub(crate) fn entry(&self) -> Option<&Entry>
+        ensures { option_copied result ≡ slice_get self.now.read self.now.passed }
+    {
+        self.read.entries().get(self.passed)
+    }
+
+    /// Goes on to the first entry of the partition at or above the key. From then on no lower key may
+    /// be asked for.
+    pub(crate) fn go_to<I: PartIndex + Drop>(&mut self, parts: &Parts<I>, key: Key)
         requires { IsWalkFrom parts.now.entries key self.old }
-        ensures found { result ≡ next_from parts.now.entries self.old.part key }
+        ensures found { slice_get self.new.read self.new.passed ≡ next_from parts.now.entries self.old.part key }
         ensures part { self.new.part ≡ self.old.part }
         ensures walk { IsWalkFrom parts.now.entries key self.new }
     {
-        if let Some(entry) = self.first_read(key) {
-            return Some(entry);
+        if self.pass_below(key) {
+            return;
         }
         if self.descents > 0 {
             self.descents -= 1;
-            return self.descend(parts, key);
+            self.descend(parts, key);
+            return;
         }
-        self.read_on(parts);
-        if let Some(entry) = self.first_read(key) {
-            return Some(entry);
-        }
-        if !self.read.is_full() {
-            return None;
+        let more = self.read_on(parts);
+        if self.pass_below(key) || !more {
+            return;
         }
         self.descents = DESCENTS;
-        self.descend(parts, key)
+        self.descend(parts, key);
     }
 
-    // The first of the entries that were read at or above the key.
-    fn first_read(&self, key: Key) -> Option<Entry>
-        ensures { result ≡ first_such (λ e. key_le key e.key) self.now.read }
-    {
-        let mut entries = self.read.entries().iter();
-        entries.find(|entry| key <= entry.key).copied()
-    }
-
-    // Reads the entries behind the last one, as many as a batch has room for.
-    fn read_on<I: PartIndex + Drop>(&mut self, parts: &Parts<I>)
-        ensures read { self.new.read ≡ take 8 (all_after parts.now.entries self.old.part self.old.last) }
-        ensures goes_on { all_after parts.now.entries self.old.part self.old.last ≡ self.new.read ++ all_after parts.now.entries self.new.part self.new.last }
+    // Passes the entries below the key, of those that were read, and says whether one is left.
+    fn pass_below(&mut self, key: Key) -> bool
+        ensures walk { (es : List TheEntry) → IsWalkFrom es key self.old → IsWalkFrom es key self.new }
+        ensures left { result ≡ is_some (slice_get self.new.read self.new.passed) }
+        ensures reached { IfSome (slice_get self.new.read self.new.passed) (λ e. key_le key e.key ≡ true) }
         ensures part { self.new.part ≡ self.old.part }
+        ensures last { self.new.last ≡ self.old.last }
         ensures descents { self.new.descents ≡ self.old.descents }
     {
+        while let Some(entry) = self.read.entries().get(self.passed) {
+            if key <= entry.key {
+                return true;
+            }
+            self.passed += 1;
+        }
+        false
+    }
+
+    // Reads the entries behind the last one, as many as a batch has room for, and says whether there
+    // may be more.
+    fn read_on<I: PartIndex + Drop>(&mut self, parts: &Parts<I>) -> bool
+        ensures goes_on { all_after parts.now.entries self.old.part self.old.last ≡ self.new.read ++ all_after parts.now.entries self.new.part self.new.last }
+        ensures ends { result ≡ false → all_after parts.now.entries self.new.part self.new.last ≡ [] }
+        ensures passed { self.new.passed ≡ 0 }
+        ensures part { self.new.part ≡ self.old.part }
+    {
         self.read.clear();
+        self.passed = 0;
         parts.read_on(self.part, self.last, &mut self.read);
         if let Some(entry) = self.read.entries().last() {
             self.last = entry.key;
         }
+        self.read.is_full()
     }
 
-    // Goes down to the first entry at or above the key.
-    fn descend<I: PartIndex + Drop>(&mut self, parts: &Parts<I>, key: Key) -> Option<Entry>
-        requires { IsWalkFrom parts.now.entries key self.old }
-        ensures found { result ≡ next_from parts.now.entries self.old.part key }
+    // Goes down to the first entry at or above the key. All that were read are passed.
+    fn descend<I: PartIndex + Drop>(&mut self, parts: &Parts<I>, key: Key)
+        requires walk { IsWalkFrom parts.now.entries key self.old }
+        requires passed { slice_get self.old.read self.old.passed ≡ None }
+        ensures found { slice_get self.new.read self.new.passed ≡ next_from parts.now.entries self.old.part key }
         ensures part { self.new.part ≡ self.old.part }
         ensures walk { IsWalkFrom parts.now.entries key self.new }
-        ensures descents { self.new.descents ≡ self.old.descents }
     {
-        let entry = parts.next_from(self.part, key)?;
-        self.go_to(&entry);
-        Some(entry)
+        if let Some(entry) = parts.next_from(self.part, key) {
+            self.stand_at(&entry);
+        }
     }
 
     // Takes the entry for the only one that was read.
-    fn go_to(&mut self, entry: &Entry)
+    fn stand_at(&mut self, entry: &Entry)
         ensures read { self.new.read ≡ entry.now ∷ [] }
+        ensures passed { self.new.passed ≡ 0 }
         ensures last { self.new.last ≡ entry.now.key }
         ensures part { self.new.part ≡ self.old.part }
-        ensures descents { self.new.descents ≡ self.old.descents }
     {
-        self.last = entry.key;
         self.read.clear();
         self.read.push(*entry);
+        self.passed = 0;
+        self.last = entry.key;
     }
 }

@@ -72,13 +72,15 @@ live_fits (e ∷ es) part key s fits there =
 -- of the partitions below this one the heads have all that is live in the range before them
 pub record AreHeadsBelow (es : List Entry) (range : Interval) (to : ℕ) (heads : List Head) : Type 0 where
   pub are_heads : AreHeads es range heads
+  pub heap : IsHeap head_cmp heads
   pub below : All (λ (h : Head). h.entry.part < to) heads
   pub before : (part : ℕ) (key : OrderedKey) (value : List ℕ) → part < to → IsLiveAt es part key value → within range key ≡ true → is_ahead_in heads part key ≡ true
 
 pub none_yet : (es : List Entry) (range : Interval) (heads : List Head) → heads ≡ [] → IsHeap head_cmp heads → AreHeadsBelow es range 0 heads
 unfolding IsDistinct
 none_yet es range heads none heap = record {
-  are_heads = record { each = subst (All (IsHead es range)) (sym none) (All-nil (IsHead es range)); apart = subst (IsDistinct same_part) (sym none) tt; heap = heap };
+  are_heads = record { each = subst (All (IsHead es range)) (sym none) (All-nil (IsHead es range)); apart = subst (IsDistinct same_part) (sym none) tt };
+  heap = heap;
   below = subst (All (λ (h : Head). h.entry.part < 0)) (sym none) (All-nil (λ (h : Head). h.entry.part < 0));
   before = λ part key value less live inside. absurd (omega arith);
 }
@@ -100,6 +102,7 @@ module _ {es : List Entry} {range : Interval} {to : ℕ} {heads : List Head} (ga
     pub passes_part : HasNoneLive es range e.part → AreHeadsBelow es range (e.part + 1) heads
     passes_part none = let low = first.not_before in record {
       are_heads = gathered.are_heads;
+      heap = gathered.heap;
       below = All-from_recursion (λ (h : Head). h.entry.part < e.part + 1) heads (lower_all to (e.part + 1) heads (omega (arith, low)) (recursion_from_All (λ (h : Head). h.entry.part < to) heads gathered.below));
       before = λ part key value less live inside.
           ⊎_elim (λ old. gathered.before part key value old live inside)
@@ -141,8 +144,8 @@ module _ {es : List Entry} {range : Interval} {to : ℕ} {heads : List Head} (ga
         are_heads = record {
           each = All-permutation (IsHead es range) (h ∷ heads) heads' moved (All-cons (IsHead es range) h heads begins.head gathered.are_heads.each);
           apart = IsDistinct-IsPermutation same_part same_either_way (h ∷ heads) heads' moved (IsDistinct-cons same_part h heads (apart_from to h heads above_to below_h) gathered.are_heads.apart);
-          heap = keeps gathered.are_heads.heap;
         };
+        heap = keeps gathered.heap;
         below = All-permutation (λ (g : Head). g.entry.part < e.part + 1) (h ∷ heads) heads' moved (All-from_recursion (λ (g : Head). g.entry.part < e.part + 1) (h ∷ heads)
             (let same = begins.in_part in (omega (arith, same), lower_all to (e.part + 1) heads (omega (arith, low)) below_h)));
         before = λ part key value less live inside.
@@ -153,6 +156,7 @@ module _ {es : List Entry} {range : Interval} {to : ℕ} {heads : List Head} (ga
   pub has_all : AreEmptyFrom es to range.lo → AreAllHeads es range heads
   has_all empty = record {
     are_heads = gathered.are_heads;
+    heap = gathered.heap;
     before = λ part key value live inside.
         ⊎_elim (λ old. gathered.before part key value old live inside)
         (λ new. absurd (none_live es part key (empty.none part key new (and_parts (key_le range.lo key) (key_le key range.hi) inside).0) value live)) (cases_lt part to);
@@ -162,6 +166,7 @@ module _ {es : List Entry} {range : Interval} {to : ℕ} {heads : List Head} (ga
   pub has_all_numbers : IsSound es → ¬ (to < 2 ^ 32) → AreAllHeads es range heads
   has_all_numbers sound past = record {
     are_heads = gathered.are_heads;
+    heap = gathered.heap;
     before = λ part key value live inside.
         ⊎_elim (λ old. gathered.before part key value old live inside)
         (λ new. let fits = live_fits es part key (value, false) sound.fits live.there in absurd (past (omega (arith, new, fits)))) (cases_lt part to);

@@ -3,5 +3,6 @@ mod Reading
 mod Moving
 mod Beginnings
 mod Gathering
+mod Leading
 mod Merging
 mod Taking

@@ -1,5 +1,5 @@
 -- The least head has the first of the records still to come.
-use Rattle.std.proofs.Common.{◌≡◌, ℕ, List, [], ◌∷◌, Bool, true, false, ◌&&◌, ◌||◌, ◌==◌, cond, T, length, filter, drop, Option, Some, None, refl, sym, ap, ◌∙◌, subst, arith, ⊎_elim}
+use Rattle.std.proofs.Common.{◌≡◌, ℕ, List, [], ◌∷◌, Bool, true, false, ◌&&◌, ◌||◌, ◌==◌, cond, T, filter, drop, Option, Some, None, refl, sym, ap, ◌∙◌, subst, ⊎_elim}
 use Rattle.std.proofs.lemmas.Bool.{and_parts, true≢false, cases_Bool, cond-true, cond-false, eqb-true}
 use Rattle.std.proofs.lemmas.List.Elements.{All-cons, All-head, All-tail, All-from_recursion, recursion_from_All}
 use Rattle.std.proofs.lemmas.List.Sorted.{All-permutation, list_any-IsPermutation}
@@ -7,9 +7,10 @@ use Rattle.std.proofs.lemmas.Map.Keys.{IsDistinct-cons, IsDistinct-head, IsDisti
 use Rattle.std.specs.declared.cmp.Ordering.{Ordering}
 use Rattle.std.specs.declared.cmp.Ordering.TheVariants.{Less, Equal, Greater}
 use Rattle.std.specs.Ordering.{is_eq, is_le, is_lt, eq_by_cmp, ordering_reverse}
-use Rattle.std.specs.List.{All, AllByRecursion, IsDistinct, list_any, slice_get}
+use Rattle.std.specs.Option.{MatchOption}
+use Rattle.std.specs.List.{All, AllByRecursion, list_any, slice_get, cons_option}
 use Rattle.std.specs.List.Sorted.{IsPermutation}
-use Rattle.std.specs.BinaryHeap.{IsHeap, IsUpperBound, KeepsHeap}
+use Rattle.std.specs.BinaryHeap.{IsUpperBound}
 use Rattle.std.specs.FinMap.{get, entries, entries_sorted, get-entries, is_sorted, find}
 use Rattle.std.specs.FinMap.Entries.{is_sorted-where_key, find-where_key, same_entries, below_all}
 use Rattle.am_record.specs.OrderedKey.{OrderedKey, key_cmp, key_cmp-total, key_cmp-exact, key_cmp-itself}
@@ -20,7 +21,7 @@ use Rattle.am_list.specs.Content.{content, IsLiveAt, ContentLaws}
 use Rattle.am_parts.specs.Partitions.{IsSound}
 use Rattle.am_scan.specs.declared.head.Head.{Head}
 use Rattle.am_scan.specs.Heads.{head_cmp, IsHead, IsNextHead, HasNoNext}
-use Rattle.am_scan.specs.Cursors.{is_ahead, rows_ahead, is_ahead_in, same_part, AreHeads, AreAllHeads, IsCursor}
+use Rattle.am_scan.specs.Cursors.{is_ahead, rows_ahead, is_ahead_in, same_part, AreHeads, AreAhead, AreAllHeads, IsLeastBeside}
 use Rattle.am_scan.proofs.Moving.{turned, less_le, le_of_less, not_below_itself}
 use Rattle.am_scan.proofs.Gathering.{or_true, or_first, both, same_number, same_either_way}
 
@@ -125,18 +126,28 @@ ahead_somewhere (g ∷ heads) part key h =
 
 -- ---- a cursor begins
 
-module _ {es : List Entry} (range : Interval) (sound : IsSound es) (laws : ContentLaws es) {heads : List Head} (all : AreAllHeads es range heads) where
-  pub begins : IsCursor es range heads
-  begins = record { sound = sound; are_heads = all.are_heads; before = λ part key value live inside ahead. all.before part key value live inside }
+module _ {es : List Entry} (range : Interval) (sound : IsSound es) (laws : ContentLaws es) {heads : List Head} (all : AreAllHeads es range heads) {heads' : List Head} (popped : IsPermutation heads heads') where
+  all_before : (part : ℕ) (key : OrderedKey) (value : List ℕ) → IsLiveAt es part key value → within range key ≡ true → is_ahead_in heads' part key ≡ true
+  all_before part key value live inside = sym (list_any-IsPermutation (λ (g : Head). g.entry.part == part && key_le g.entry.key key) heads heads' popped) ∙ all.before part key value live inside
 
-  pub has_all_rows : rows_ahead heads range (content es) ≡ rows_where (within range) (content es)
-  has_all_rows = same_rows (λ key. is_ahead heads key && within range key) (within range) (content es) (λ q v there. by_test q v there (within range q) refl)
+  pub begins : AreAhead es range heads'
+  begins = record {
+    sound = sound;
+    are_heads = record {
+      each = All-permutation (IsHead es range) heads heads' popped all.are_heads.each;
+      apart = IsDistinct-IsPermutation same_part same_either_way heads heads' popped all.are_heads.apart;
+    };
+    before = λ part key value live inside ahead. all_before part key value live inside;
+  }
+
+  pub has_all_rows : rows_ahead heads' range (content es) ≡ rows_where (within range) (content es)
+  has_all_rows = same_rows (λ key. is_ahead heads' key && within range key) (within range) (content es) (λ q v there. by_test q v there (within range q) refl)
     where
-      by_test : (q : OrderedKey) (v : List ℕ) → get (content es) q ≡ Some v → (b : Bool) → within range q ≡ b → (is_ahead heads q && within range q) ≡ within range q
+      by_test : (q : OrderedKey) (v : List ℕ) → get (content es) q ≡ Some v → (b : Bool) → within range q ≡ b → (is_ahead heads' q && within range q) ≡ within range q
       by_test q v there true e =
           let home = laws.found q v there in
-          both (is_ahead heads q) (within range q) (ahead_somewhere heads home.0 q (all.before home.0 q v home.1 e)) e ∙ sym e
-      by_test q v there false e = ap (λ b. is_ahead heads q && b) e ∙ never (is_ahead heads q) ∙ sym e
+          both (is_ahead heads' q) (within range q) (ahead_somewhere heads' home.0 q (all_before home.0 q v home.1 e)) e ∙ sym e
+      by_test q v there false e = ap (λ b. is_ahead heads' q && b) e ∙ never (is_ahead heads' q) ∙ sym e
         where
           never : (b : Bool) → (b && false) ≡ false
           never true = refl
@@ -147,17 +158,18 @@ module _ {es : List Entry} (range : Interval) (sound : IsSound es) (laws : Conte
 pub at_end : (heads : List Head) (range : Interval) (m : PlainMap) → heads ≡ [] → rows_ahead heads range m ≡ []
 at_end heads range m none = ap (λ l. rows_ahead l range m) none ∙ no_rows (λ q. false) (λ q. refl) (entries m)
 
+pub none_left : (least : Option Head) (others : List Head) → IsLeastBeside least others → least ≡ None → cons_option least others ≡ []
+none_left least others beside none =
+    ap (λ o. cons_option o others) none ∙ subst (λ o. MatchOption o (others ≡ []) (λ h. IsUpperBound head_cmp h others)) none beside.first
+
 -- ---- a cursor goes on
 
-module _ {es : List Entry} {range : Interval} {heads : List Head} (cursor : IsCursor es range heads) (h : Head) (rest : List Head) (popped : IsPermutation heads (h ∷ rest)) (least : IsUpperBound head_cmp h rest) where
-  is_head : IsHead es range h
-  is_head = All-head (IsHead es range) h rest (All-permutation (IsHead es range) heads (h ∷ rest) popped cursor.are_heads.each)
+module _ {es : List Entry} {range : Interval} (h : Head) (rest : List Head) (cursor : AreAhead es range (h ∷ rest)) (least : IsUpperBound head_cmp h rest) where
+  pub standing : IsHead es range h
+  standing = All-head (IsHead es range) h rest cursor.are_heads.each
 
   rest_heads : All (IsHead es range) rest
-  rest_heads = All-tail (IsHead es range) h rest (All-permutation (IsHead es range) heads (h ∷ rest) popped cursor.are_heads.each)
-
-  all_apart : IsDistinct same_part (h ∷ rest)
-  all_apart = IsDistinct-IsPermutation same_part same_either_way heads (h ∷ rest) popped cursor.are_heads.apart
+  rest_heads = All-tail (IsHead es range) h rest cursor.are_heads.each
 
   -- every other head is above it
   rest_above : (gs : List Head) → AllByRecursion (IsHead es range) gs → AllByRecursion (λ (g : Head). same_part h g ≡ false) gs → AllByRecursion (λ (g : Head). is_lt (head_cmp h g) ≡ false) gs
@@ -169,13 +181,13 @@ module _ {es : List Entry} {range : Interval} {heads : List Head} (cursor : IsCu
       by_order Less e = e
       by_order Equal e =
           let one : h.entry.key ≡ g.entry.key = key_cmp-exact h.entry.key g.entry.key e in
-          let live : IsLiveAt es h.entry.part g.entry.key h.entry.value = subst (λ k. IsLiveAt es h.entry.part k h.entry.value) one is_head.live in
+          let live : IsLiveAt es h.entry.part g.entry.key h.entry.value = subst (λ k. IsLiveAt es h.entry.part k h.entry.value) one standing.live in
           let same : h.entry.part ≡ g.entry.part = cursor.sound.one_place.one g.entry.key h.entry.part g.entry.part h.entry.value g.entry.value live each.0.live in
           absurd (true≢false (sym (same_number h.entry.part g.entry.part same) ∙ apart.0))
       by_order Greater e = absurd (true≢false (sym (ap is_lt (turned h.entry.key g.entry.key e)) ∙ bound.0))
 
   others_above : AllByRecursion (λ (g : Head). key_cmp h.entry.key g.entry.key ≡ Less) rest
-  others_above = rest_above rest (recursion_from_All (IsHead es range) rest rest_heads) (IsDistinct-head same_part h rest all_apart) least
+  others_above = rest_above rest (recursion_from_All (IsHead es range) rest rest_heads) (IsDistinct-head same_part h rest cursor.are_heads.apart) least
 
   -- what is left: heads above it, which have all that is live above it before them
   module _ (heads' : List Head) (are : AreHeads es range heads') (above : All (λ (g : Head). key_cmp h.entry.key g.entry.key ≡ Less) heads')
@@ -185,14 +197,14 @@ module _ {es : List Entry} {range : Interval} {heads : List Head} (cursor : IsCu
         let g = some_head (λ (g : Head). key_cmp h.entry.key g.entry.key ≡ Less) (λ (g : Head). key_le g.entry.key key) heads' (recursion_from_All (λ (g : Head). key_cmp h.entry.key g.entry.key ≡ Less) heads' above) any in
         less_le h.entry.key g.0.entry.key key (key_cmp g.0.entry.key key) g.1 refl g.2
 
-    pub goes_on : IsCursor es range heads'
+    goes_on : AreAhead es range heads'
     goes_on = record { sound = cursor.sound; are_heads = are; before = λ part key value live inside any. ahead part key value live inside (above_head key any) }
 
-    from_head : (key : OrderedKey) → key_le h.entry.key key ≡ true → is_ahead heads key ≡ true
-    from_head key le = list_any-IsPermutation (λ (g : Head). key_le g.entry.key key) heads (h ∷ rest) popped ∙ or_first (key_le h.entry.key key) (is_ahead rest key) le
+    from_head : (key : OrderedKey) → key_le h.entry.key key ≡ true → is_ahead (h ∷ rest) key ≡ true
+    from_head key le = or_first (key_le h.entry.key key) (is_ahead rest key) le
 
-    none_below : (key : OrderedKey) → key_cmp key h.entry.key ≡ Less → is_ahead heads key ≡ false
-    none_below key below = list_any-IsPermutation (λ (g : Head). key_le g.entry.key key) heads (h ∷ rest) popped ∙ no_head (λ (g : Head). key_le g.entry.key key) (h ∷ rest) (not_le h.entry.key below, not_rest rest others_above)
+    none_below : (key : OrderedKey) → key_cmp key h.entry.key ≡ Less → is_ahead (h ∷ rest) key ≡ false
+    none_below key below = no_head (λ (g : Head). key_le g.entry.key key) (h ∷ rest) (not_le h.entry.key below, not_rest rest others_above)
       where
         not_le : (k : OrderedKey) → key_cmp key k ≡ Less → key_le k key ≡ false
         not_le k less = ap is_le (key_cmp-total.antisymm k key ∙ ap ordering_reverse less)
@@ -201,11 +213,11 @@ module _ {es : List Entry} {range : Interval} {heads : List Head} (cursor : IsCu
         not_rest [] all = tt
         not_rest (g ∷ gs) all = (not_le g.entry.key (key_cmp-total.trans key h.entry.key g.entry.key below all.0), not_rest gs all.1)
 
-    pub gives_first : ContentLaws es → rows_ahead heads range (content es) ≡ (h.entry.key, h.entry.value) ∷ rows_ahead heads' range (content es)
+    gives_first : ContentLaws es → rows_ahead (h ∷ rest) range (content es) ≡ (h.entry.key, h.entry.value) ∷ rows_ahead heads' range (content es)
     gives_first laws =
-        first_row (λ key. is_ahead heads key && within range key) (λ key. is_ahead heads' key && within range key) (content es) h.entry.key h.entry.value
-        (laws.live h.entry.part h.entry.key h.entry.value is_head.live)
-        (both (is_ahead heads h.entry.key) (within range h.entry.key) (from_head h.entry.key (ap is_le (key_cmp-itself h.entry.key))) is_head.inside)
+        first_row (λ key. is_ahead (h ∷ rest) key && within range key) (λ key. is_ahead heads' key && within range key) (content es) h.entry.key h.entry.value
+        (laws.live h.entry.part h.entry.key h.entry.value standing.live)
+        (both (is_ahead (h ∷ rest) h.entry.key) (within range h.entry.key) (from_head h.entry.key (ap is_le (key_cmp-itself h.entry.key))) standing.inside)
         (λ q passed. above_head q (and_parts (is_ahead heads' q) (within range q) passed).0)
         (λ q below. ap (λ b. b && within range q) (none_below q below))
         (λ q v there over. by_test q v there over (within range q) refl)
@@ -217,52 +229,58 @@ module _ {es : List Entry} {range : Interval} {heads : List Head} (cursor : IsCu
         never false false = refl
 
         by_test : (q : OrderedKey) (v : List ℕ) → get (content es) q ≡ Some v → key_cmp h.entry.key q ≡ Less → (b : Bool) → within range q ≡ b
-            → (is_ahead heads q && within range q) ≡ (is_ahead heads' q && within range q)
+            → (is_ahead (h ∷ rest) q && within range q) ≡ (is_ahead heads' q && within range q)
         by_test q v there over true e =
             let home = laws.found q v there in
             ap (λ b. b && within range q) (from_head q (le_of_less h.entry.key q over) ∙ sym (ahead_somewhere heads' home.0 q (ahead home.0 q v home.1 e over)))
-        by_test q v there over false e = ap (λ b. is_ahead heads q && b) e ∙ never (is_ahead heads q) (is_ahead heads' q) ∙ ap (λ b. is_ahead heads' q && b) (sym e)
+        by_test q v there over false e = ap (λ b. is_ahead (h ∷ rest) q && b) e ∙ never (is_ahead (h ∷ rest) q) (is_ahead heads' q) ∙ ap (λ b. is_ahead heads' q && b) (sym e)
 
   -- the heads that it was one of have what is live above it before them
   among : (part : ℕ) (key : OrderedKey) (value : List ℕ) → IsLiveAt es part key value → within range key ≡ true → key_cmp h.entry.key key ≡ Less → is_ahead_in (h ∷ rest) part key ≡ true
-  among part key value live inside over =
-      sym (list_any-IsPermutation (λ (g : Head). g.entry.part == part && key_le g.entry.key key) heads (h ∷ rest) popped)
-      ∙ cursor.before part key value live inside
-      (list_any-IsPermutation (λ (g : Head). key_le g.entry.key key) heads (h ∷ rest) popped ∙ or_first (key_le h.entry.key key) (is_ahead rest key) (le_of_less h.entry.key key over))
+  among part key value live inside over = cursor.before part key value live inside (or_first (key_le h.entry.key key) (is_ahead rest key) (le_of_less h.entry.key key over))
 
   -- it was the last of its partition
-  module _ (ended : HasNoNext es range h) (heap : IsHeap head_cmp rest) where
-    pub without_are : AreHeads es range rest
-    without_are = record { each = rest_heads; apart = IsDistinct-tail same_part h rest all_apart; heap = heap }
+  module _ (ended : HasNoNext es range h) (heads' : List Head) (popped : IsPermutation rest heads') where
+    without_are : AreHeads es range heads'
+    without_are = record {
+      each = All-permutation (IsHead es range) rest heads' popped rest_heads;
+      apart = IsDistinct-IsPermutation same_part same_either_way rest heads' popped (IsDistinct-tail same_part h rest cursor.are_heads.apart);
+    }
 
-    pub without_above : All (λ (g : Head). key_cmp h.entry.key g.entry.key ≡ Less) rest
-    without_above = All-from_recursion (λ (g : Head). key_cmp h.entry.key g.entry.key ≡ Less) rest others_above
+    without_above : All (λ (g : Head). key_cmp h.entry.key g.entry.key ≡ Less) heads'
+    without_above = All-permutation (λ (g : Head). key_cmp h.entry.key g.entry.key ≡ Less) rest heads' popped (All-from_recursion (λ (g : Head). key_cmp h.entry.key g.entry.key ≡ Less) rest others_above)
 
-    pub without_ahead : (part : ℕ) (key : OrderedKey) (value : List ℕ) → IsLiveAt es part key value → within range key ≡ true → key_cmp h.entry.key key ≡ Less → is_ahead_in rest part key ≡ true
+    without_ahead : (part : ℕ) (key : OrderedKey) (value : List ℕ) → IsLiveAt es part key value → within range key ≡ true → key_cmp h.entry.key key ≡ Less → is_ahead_in heads' part key ≡ true
     without_ahead part key value live inside over =
-        ⊎_elim
+        sym (list_any-IsPermutation (λ (g : Head). g.entry.part == part && key_le g.entry.key key) rest heads' popped)
+        ∙ ⊎_elim
         (λ here.
         let same : h.entry.part ≡ part = eqb-true h.entry.part part (and_parts (h.entry.part == part) (key_le h.entry.key key) here).0 in
         absurd (ended.none key value over inside (subst (λ p. IsLiveAt es p key value) (sym same) live)))
         (λ no. ap (λ b. b || is_ahead_in rest part key) (sym no) ∙ among part key value live inside over)
         (cases_Bool (h.entry.part == part && key_le h.entry.key key))
 
+    pub ends_on : AreAhead es range heads'
+    ends_on = goes_on heads' without_are without_above without_ahead
+
+    pub ends_first : ContentLaws es → rows_ahead (h ∷ rest) range (content es) ≡ (h.entry.key, h.entry.value) ∷ rows_ahead heads' range (content es)
+    ends_first = gives_first heads' without_are without_above without_ahead
+
   -- it moved on
-  module _ (new : Head) (moved : IsNextHead es range h new) (heap : IsHeap head_cmp rest) (heads' : List Head) (pushed : IsPermutation (new ∷ rest) heads') (keeps : KeepsHeap head_cmp rest heads') where
+  module _ (new : Head) (moved : IsNextHead es range h new) (heads' : List Head) (kept : IsPermutation (new ∷ rest) heads') where
     new_apart : (gs : List Head) → AllByRecursion (λ (g : Head). same_part h g ≡ false) gs → AllByRecursion (λ (g : Head). same_part new g ≡ false) gs
     new_apart [] all = tt
     new_apart (g ∷ gs) all = (ap (λ p. p == g.entry.part) moved.in_part ∙ all.0, new_apart gs all.1)
 
-    pub with_are : AreHeads es range heads'
+    with_are : AreHeads es range heads'
     with_are = record {
-      each = All-permutation (IsHead es range) (new ∷ rest) heads' pushed (All-cons (IsHead es range) new rest moved.head rest_heads);
-      apart = IsDistinct-IsPermutation same_part same_either_way (new ∷ rest) heads' pushed
-          (IsDistinct-cons same_part new rest (new_apart rest (IsDistinct-head same_part h rest all_apart)) (IsDistinct-tail same_part h rest all_apart));
-      heap = keeps heap;
+      each = All-permutation (IsHead es range) (new ∷ rest) heads' kept (All-cons (IsHead es range) new rest moved.head rest_heads);
+      apart = IsDistinct-IsPermutation same_part same_either_way (new ∷ rest) heads' kept
+          (IsDistinct-cons same_part new rest (new_apart rest (IsDistinct-head same_part h rest cursor.are_heads.apart)) (IsDistinct-tail same_part h rest cursor.are_heads.apart));
     }
 
-    pub with_above : All (λ (g : Head). key_cmp h.entry.key g.entry.key ≡ Less) heads'
-    with_above = All-permutation (λ (g : Head). key_cmp h.entry.key g.entry.key ≡ Less) (new ∷ rest) heads' pushed (All-from_recursion (λ (g : Head). key_cmp h.entry.key g.entry.key ≡ Less) (new ∷ rest) (moved.above, others_above))
+    with_above : All (λ (g : Head). key_cmp h.entry.key g.entry.key ≡ Less) heads'
+    with_above = All-permutation (λ (g : Head). key_cmp h.entry.key g.entry.key ≡ Less) (new ∷ rest) heads' kept (All-from_recursion (λ (g : Head). key_cmp h.entry.key g.entry.key ≡ Less) (new ∷ rest) (moved.above, others_above))
 
     reached : (part : ℕ) (key : OrderedKey) (value : List ℕ) → h.entry.part ≡ part → IsLiveAt es part key value → key_cmp h.entry.key key ≡ Less → key_le new.entry.key key ≡ true
     reached part key value same live over = by_order (key_cmp new.entry.key key) refl
@@ -272,9 +290,9 @@ module _ {es : List Entry} {range : Interval} {heads : List Head} (cursor : IsCu
         by_order Equal e = ap is_le e
         by_order Greater e = absurd (moved.none_between key value over (turned new.entry.key key e) (subst (λ p. IsLiveAt es p key value) (sym same) live))
 
-    pub with_ahead : (part : ℕ) (key : OrderedKey) (value : List ℕ) → IsLiveAt es part key value → within range key ≡ true → key_cmp h.entry.key key ≡ Less → is_ahead_in heads' part key ≡ true
+    with_ahead : (part : ℕ) (key : OrderedKey) (value : List ℕ) → IsLiveAt es part key value → within range key ≡ true → key_cmp h.entry.key key ≡ Less → is_ahead_in heads' part key ≡ true
     with_ahead part key value live inside over =
-        sym (list_any-IsPermutation (λ (g : Head). g.entry.part == part && key_le g.entry.key key) (new ∷ rest) heads' pushed)
+        sym (list_any-IsPermutation (λ (g : Head). g.entry.part == part && key_le g.entry.key key) (new ∷ rest) heads' kept)
         ∙ ⊎_elim
         (λ here.
         let same : h.entry.part ≡ part = eqb-true h.entry.part part (and_parts (h.entry.part == part) (key_le h.entry.key key) here).0 in
@@ -285,9 +303,11 @@ module _ {es : List Entry} {range : Interval} {heads : List Head} (cursor : IsCu
         (ap (λ b. b || is_ahead_in rest part key) (sym no) ∙ among part key value live inside over))
         (cases_Bool (h.entry.part == part && key_le h.entry.key key))
 
-pub nothing : (heads : List Head) → length heads ≡ 0 → heads ≡ []
-nothing [] h = refl
-nothing (h ∷ heads) none = absurd (omega (arith, none))
+    pub moves_on : AreAhead es range heads'
+    moves_on = goes_on heads' with_are with_above with_ahead
+
+    pub moves_first : ContentLaws es → rows_ahead (h ∷ rest) range (content es) ≡ (h.entry.key, h.entry.value) ∷ rows_ahead heads' range (content es)
+    moves_first = gives_first heads' with_are with_above with_ahead
 
 pub is_first : {A : Type 0} {rows rest : List A} {row : A} → rows ≡ row ∷ rest → Some row ≡ slice_get rows 0
 is_first is = sym (ap (λ l. slice_get l 0) is)

@@ -1,5 +1,5 @@
 -- A head on its way to the next live entry of the range.
-use Rattle.std.proofs.Common.{◌≡◌, ℕ, ◌<◌, List, ◌∷◌, Bool, true, false, ◌&&◌, length, Option, Some, None, refl, sym, ap, ◌∙◌, subst, arith}
+use Rattle.std.proofs.Common.{◌≡◌, ℕ, ◌<◌, List, ◌∷◌, Bool, true, false, ◌&&◌, length, Option, Some, None, IfSome, refl, sym, ap, ◌∙◌, subst, arith}
 use Rattle.std.proofs.lemmas.Bool.{and_parts, true≢false}
 use Rattle.std.proofs.lemmas.Option.{none-some, same_Some}
 use Rattle.std.specs.declared.cmp.Ordering.{Ordering}
@@ -44,7 +44,7 @@ pub le_of_less : (a b : OrderedKey) → key_cmp a b ≡ Less → key_le a b ≡ 
 le_of_less a b h = ap is_le h
 
 -- the upper end that was read, and what its test against the key gave
-at_most : (o : Ordering) → is_lt o ≡ false → is_le (ordering_reverse o) ≡ true
+pub at_most : (o : Ordering) → is_lt o ≡ false → is_le (ordering_reverse o) ≡ true
 at_most Less h = absurd (true≢false h)
 at_most Equal h = refl
 at_most Greater h = refl
@@ -100,23 +100,17 @@ sets_out es h reads = record {
 
 module _ {es : List Entry} (walks : WalkLaws es) (reads : ReadLaws es) {old now : Head} (way : IsOnTheWay es old now) where
   -- no entry follows
-  pub way_ends : (range : Interval) {o : Option Entry} → o ≡ after es now.entry.part now.entry.key → o ≡ None → HasNoNext es range old
-  way_ends range look is = record {
+  way_ends : (range : Interval) → after es now.entry.part now.entry.key ≡ None → HasNoNext es range old
+  way_ends range last = record {
     none = λ key value above inside live. by_order key value above (key_cmp now.entry.key key) refl live;
   }
     where
-      last : after es now.entry.part now.entry.key ≡ None
-      last = sym look ∙ is
-
       by_order : (key : OrderedKey) (value : List ℕ) → key_cmp old.entry.key key ≡ Less → (o : Ordering) → key_cmp now.entry.key key ≡ o → ¬ IsLiveAt es old.entry.part key value
       by_order key value above Less h live = none_live es now.entry.part key (walks.after_none now.entry.part now.entry.key last key h) value (subst (λ p. IsLiveAt es p key value) (sym way.in_part) live)
       by_order key value above Equal h live = way.none_passed key value above (ap is_le (key_cmp-total.antisymm key now.entry.key ∙ ap ordering_reverse h)) live
       by_order key value above Greater h live = way.none_passed key value above (le_of_less key now.entry.key (turned now.entry.key key h)) live
 
-  module _ (e : Entry) {o : Option Entry} (look : o ≡ after es now.entry.part now.entry.key) (is : o ≡ Some e) where
-    next : after es now.entry.part now.entry.key ≡ Some e
-    next = sym look ∙ is
-
+  module _ (e : Entry) (next : after es now.entry.part now.entry.key ≡ Some e) where
     stands_in : e.part ≡ old.entry.part
     stands_in = (walks.after_some now.entry.part now.entry.key e next).in_part ∙ way.in_part
 
@@ -136,7 +130,7 @@ module _ {es : List Entry} (walks : WalkLaws es) (reads : ReadLaws es) {old now 
         by_order Greater h = way.none_passed key value above (le_of_less key now.entry.key (turned now.entry.key key h)) live
 
     -- it is past the range
-    pub way_leaves : (range : Interval) → key_cmp range.hi e.key ≡ Less → HasNoNext es range old
+    way_leaves : (range : Interval) → key_cmp range.hi e.key ≡ Less → HasNoNext es range old
     way_leaves range above = record {
       none = λ key value over inside.
           none_below key value over (le_less key range.hi e.key (key_cmp key range.hi) refl (and_parts (key_le range.lo key) (key_le key range.hi) inside).1 above);
@@ -175,3 +169,8 @@ module _ {es : List Entry} (walks : WalkLaws es) (reads : ReadLaws es) {old now 
         let here : length (all_after es new.entry.part new.entry.key) ≡ length (all_after es now.entry.part e.key) =
         ap (λ (x : Entry). length (all_after es x.part x.key)) same ∙ ap (λ p. length (all_after es p e.key)) (walks.after_some now.entry.part now.entry.key e next).in_part in
         omega (arith, longer, here)
+
+  -- no entry follows up to the range's end
+  pub way_stops : (range : Interval) (o : Option Entry) → after es now.entry.part now.entry.key ≡ o → IfSome o (λ e. key_cmp range.hi e.key ≡ Less) → HasNoNext es range old
+  way_stops range None is end = way_ends range is
+  way_stops range (Some e) is end = way_leaves e is range end

@@ -1,8 +1,6 @@
 -- What was read behind a head, and the entry that follows it.
-use Rattle.std.proofs.Common.{◌≡◌, ℕ, zero, suc, ◌+◌, ◌<◌, ◌≤◌, ◌++◌, List, [], ◌∷◌, length, take, drop, Option, Some, None, refl, sym, ap, ◌∙◌, arith}
+use Rattle.std.proofs.Common.{◌≡◌, ℕ, suc, ◌+◌, ◌<◌, ◌≤◌, ◌++◌, List, [], ◌∷◌, length, take, drop, get_or, Option, Some, None, refl, sym, ap, ◌∙◌, arith, add-one, drop-cons}
 use Rattle.std.proofs.lemmas.List.{take-append-drop}
-use Rattle.std.proofs.lemmas.Option.{none-some, same_Some}
-use Rattle.std.specs.List.{slice_get}
 use Rattle.am_record.specs.declared.entry.Entry.{Entry}
 use Rattle.am_list.specs.Entries.{after, all_after}
 use Rattle.am_list.specs.Walks.{WalkLaws, ReadLaws}
@@ -11,35 +9,23 @@ use Rattle.am_scan.specs.Heads.{HasReadOn, IsReady}
 
 -- ---- lists
 
-none_taken : {X : Type 0} (xs : List X) → 0 ≡ length (take 8 xs) → xs ≡ []
+none_taken : {X : Type 0} (xs : List X) → 0 ≡ length (take 16 xs) → xs ≡ []
 none_taken [] h = refl
 none_taken (x ∷ xs) h = absurd (omega (arith, h))
 
-pub at_place : {X : Type 0} (xs : List X) (i : ℕ) (x : X) → slice_get xs i ≡ Some x → drop i xs ≡ x ∷ drop (i + 1) xs
-at_place [] i x h = absurd (none-some x h)
-at_place (y ∷ ys) zero x h = ap (λ z. z ∷ ys) (same_Some _ _ h)
-at_place (y ∷ ys) (suc i) x h = let e : suc i + 1 ≡ suc (i + 1) = omega arith in at_place ys i x h ∙ ap (λ n. x ∷ drop n (y ∷ ys)) (sym e)
-
-pub in_range : {X : Type 0} (xs : List X) (i : ℕ) (x : X) → slice_get xs i ≡ Some x → i < length xs
-in_range [] i x h = absurd (none-some x h)
-in_range (y ∷ ys) zero x h = omega arith
-in_range (y ∷ ys) (suc i) x h = omega (arith, in_range ys i x h)
-
-pub past_end : {X : Type 0} (xs : List X) (i : ℕ) → slice_get xs i ≡ None → length xs ≤ i
-past_end [] i h = omega arith
-past_end (y ∷ ys) zero h = absurd (none-some y (sym h))
-past_end (y ∷ ys) (suc i) h = omega (arith, past_end ys i h)
+at_place : {X : Type 0} (xs : List X) (i : ℕ) (x : X) → i < length xs → x ≡ get_or xs i x → drop i xs ≡ x ∷ drop (i + 1) xs
+at_place xs i x inside stands = drop-cons xs i x inside ∙ ap (λ y. y ∷ drop (suc i) xs) (sym stands) ∙ ap (λ n. x ∷ drop n xs) (sym (add-one i))
 
 -- ---- reading on
 
-pub ready : (es : List Entry) (h : Head) → h.passed ≡ 0 → h.ahead.value ≡ take 8 (all_after es h.entry.part h.entry.key) → IsReady es h
+pub ready : (es : List Entry) (h : Head) → h.passed ≡ 0 → h.ahead.value ≡ take 16 (all_after es h.entry.part h.entry.key) → IsReady es h
 ready es h none read =
     let all = all_after es h.entry.part h.entry.key in
     record {
       reads = record {
-        further = drop 8 all;
+        further = drop 16 all;
         in_range = omega (arith, none);
-        follows = sym (take-append-drop 8 all) ∙ ap (λ l. l ++ drop 8 all) (sym read ∙ ap (λ n. drop n h.ahead.value) (sym none));
+        follows = sym (take-append-drop 16 all) ∙ ap (λ l. l ++ drop 16 all) (sym read ∙ ap (λ n. drop n h.ahead.value) (sym none));
       };
       at_end = λ end. none_taken all (sym none ∙ end ∙ ap length read);
     }
@@ -56,8 +42,8 @@ module _ {es : List Entry} (walks : WalkLaws es) (laws : ReadLaws es) (h : Head)
   abbrev all : List Entry
   all = all_after es h.entry.part h.entry.key
 
-  none_follows : (o : Option Entry) → after es h.entry.part h.entry.key ≡ o → all ≡ [] → o ≡ None
-  none_follows None is end = refl
+  none_follows : (o : Option Entry) → after es h.entry.part h.entry.key ≡ o → all ≡ [] → after es h.entry.part h.entry.key ≡ None
+  none_follows None is end = is
   none_follows (Some x) is end = absurd (no_cons x (all_after es h.entry.part x.key) (sym end ∙ laws.some h.entry.part h.entry.key x is))
 
   first_follows : (o : Option Entry) (x : Entry) (xs : List Entry) → after es h.entry.part h.entry.key ≡ o → all ≡ x ∷ xs → Some x ≡ o
@@ -67,24 +53,22 @@ module _ {es : List Entry} (walks : WalkLaws es) (laws : ReadLaws es) (h : Head)
       heads_same : {a b : Entry} {xs ys : List Entry} → a ∷ xs ≡ b ∷ ys → a ≡ b
       heads_same e = cc
 
-  pub ends : {o : Option Entry} → o ≡ slice_get h.ahead.value h.passed → o ≡ None → None ≡ after es h.entry.part h.entry.key
-  ends next is =
-      let past = past_end h.ahead.value h.passed (sym next ∙ is) in
-      sym (none_follows (after es h.entry.part h.entry.key) refl (is_ready.at_end (omega (arith, past, is_ready.reads.in_range))))
+  pub ends : length h.ahead.value ≤ h.passed → after es h.entry.part h.entry.key ≡ None
+  ends past = none_follows (after es h.entry.part h.entry.key) refl (is_ready.at_end (omega (arith, past, is_ready.reads.in_range)))
 
-  module _ {o : Option Entry} (x : Entry) (next : o ≡ slice_get h.ahead.value h.passed) (is : o ≡ Some x) where
+  module _ (x : Entry) (inside : h.passed < length h.ahead.value) (stands : x ≡ get_or h.ahead.value h.passed x) where
     front : all ≡ x ∷ (drop (h.passed + 1) h.ahead.value ++ is_ready.reads.further)
-    front = is_ready.reads.follows ∙ ap (λ l. l ++ is_ready.reads.further) (at_place h.ahead.value h.passed x (sym next ∙ is))
+    front = is_ready.reads.follows ∙ ap (λ l. l ++ is_ready.reads.further) (at_place h.ahead.value h.passed x inside stands)
 
-    pub follows : Some x ≡ after es h.entry.part h.entry.key
-    follows = first_follows (after es h.entry.part h.entry.key) x (drop (h.passed + 1) h.ahead.value ++ is_ready.reads.further) refl front
+    pub follows : after es h.entry.part h.entry.key ≡ Some x
+    follows = sym (first_follows (after es h.entry.part h.entry.key) x (drop (h.passed + 1) h.ahead.value ++ is_ready.reads.further) refl front)
 
     pub goes_on : (new : Head) → new.entry ≡ x → new.ahead.value ≡ h.ahead.value → new.passed ≡ h.passed + 1 → HasReadOn es new
     goes_on new entry ahead passed =
-        let part : x.part ≡ h.entry.part = (walks.after_some h.entry.part h.entry.key x (sym follows)).in_part in
+        let part : x.part ≡ h.entry.part = (walks.after_some h.entry.part h.entry.key x follows).in_part in
         record {
           further = is_ready.reads.further;
-          in_range = let inside = in_range h.ahead.value h.passed x (sym next ∙ is) in let long : length new.ahead.value ≡ length h.ahead.value = ap length ahead in omega (arith, inside, long, passed);
+          in_range = let long : length new.ahead.value ≡ length h.ahead.value = ap length ahead in omega (arith, inside, long, passed);
           follows =
               ap (λ (e : Entry). all_after es e.part e.key) entry
               ∙ ap (λ p. all_after es p x.key) part

@@ -1,7 +1,7 @@
 -- What a cursor has still to give, by where its heads stand.
-use Rattle.std.specs.Prelude.{◌≡◌, ℕ, List, true, Bool, ◌&&◌, ◌==◌}
-use Rattle.std.specs.List.{list_any, All, IsDistinct}
-use Rattle.std.specs.BinaryHeap.{IsHeap}
+use Rattle.std.specs.Prelude.{◌≡◌, ℕ, List, [], Option, true, Bool, ◌&&◌, ◌==◌, MatchOption}
+use Rattle.std.specs.List.{list_any, cons_option, All, IsDistinct}
+use Rattle.std.specs.BinaryHeap.{IsHeap, IsUpperBound}
 use Rattle.am_record.specs.OrderedKey.{OrderedKey}
 use Rattle.am_record.specs.Interval.{Interval, key_le, within}
 use Rattle.am_record.specs.Plain.{PlainMap, Records, rows_where}
@@ -26,19 +26,29 @@ is_ahead_in heads part key = list_any (λ (h : Head). h.entry.part == part && ke
 abbrev pub same_part : Head → Head → Bool
 same_part g h = g.entry.part == h.entry.part
 
--- heads at live entries of the range, one of a partition at most, in a heap
+-- heads at live entries of the range, one of a partition at most
 pub record AreHeads (es : List Entry) (range : Interval) (heads : List Head) : Type 0 where
   pub each : All (IsHead es range) heads
   pub apart : IsDistinct same_part heads
-  pub heap : IsHeap head_cmp heads
 
 -- the heads have all that is live from the least head on before them
-pub record IsCursor (es : List Entry) (range : Interval) (heads : List Head) : Type 0 where
+pub record AreAhead (es : List Entry) (range : Interval) (heads : List Head) : Type 0 where
   pub sound : IsSound es
   pub are_heads : AreHeads es range heads
   pub before : (part : ℕ) (key : OrderedKey) (value : List ℕ) → IsLiveAt es part key value → within range key ≡ true → is_ahead heads key ≡ true → is_ahead_in heads part key ≡ true
 
--- the heads have all that is live in the range before them
+-- the heads, in a heap, have all that is live in the range before them
 pub record AreAllHeads (es : List Entry) (range : Interval) (heads : List Head) : Type 0 where
   pub are_heads : AreHeads es range heads
+  pub heap : IsHeap head_cmp heads
   pub before : (part : ℕ) (key : OrderedKey) (value : List ℕ) → IsLiveAt es part key value → within range key ≡ true → is_ahead_in heads part key ≡ true
+
+-- the head is the least one, the others are in a heap, and where there is none there are no others
+pub record IsLeastBeside (least : Option Head) (others : List Head) : Type 0 where
+  pub heap : IsHeap head_cmp others
+  pub first : MatchOption least (others ≡ []) (λ h. IsUpperBound head_cmp h others)
+
+-- a cursor's heads
+pub record IsCursor (es : List Entry) (range : Interval) (least : Option Head) (others : List Head) : Type 0 where
+  pub beside : IsLeastBeside least others
+  pub ahead : AreAhead es range (cons_option least others)

@@ -6,7 +6,7 @@ ghost use Rattle.am_record.specs.Plain.{rows_where};
 ghost use Rattle.am_list.specs.Content.{content};
 
 use crate::head::Head;
-use crate::heads::heads_of;
+use crate::heads::{heads_of, keep_least, pop_least};
 use am_list::{PartIndex, content_follows};
 use am_parts::Parts;
 use am_record::{Key, NoMemory, Range, Value};
@@ -15,17 +15,21 @@ use std::collections::BinaryHeap;
 use std::marker::Model;
 
 /// A place in the records of a range, seen as the list of the records still to come. It merges the
-/// partitions as runs are merged in an external sort: each has a head at its next record, and a heap
-/// has the least of them first.
+/// partitions as runs are merged in an external sort: each has a head at its next record, and the
+/// least of them has the next record of all.
 #[derive(Drop)]
 pub struct Cursor<'a, I: PartIndex + Drop> {
     parts: &'a Parts<I>,
     range: Range,
-    // Those of the partitions that have a record left.
-    heads: BinaryHeap<Head>,
+    // The least head, if a partition has a record left. It stands beside the heap, so that it moves
+    // on in its place as long as it is the least.
+    least: Option<Head>,
+    // Those of the other partitions that have a record left.
+    others: BinaryHeap<Head>,
 }
 
 impl<'a, I: PartIndex + Drop> Model for Cursor<'a, I> {
+    ghost use Rattle.std.specs.List.{cons_option};
     ghost use Rattle.std.specs.BinaryHeap.{heap_items};
     ghost use Rattle.am_record.specs.Records.{Records, records_code};
     ghost use Rattle.am_list.specs.Content.{content};
@@ -36,9 +40,9 @@ impl<'a, I: PartIndex + Drop> Model for Cursor<'a, I> {
 
     ghost use Rattle.am_scan.specs.Cursors.{rows_ahead, IsCursor};
 
-    ghost view = { λ c. rows_ahead (heap_items c.heads) c.range (content c.parts.now.entries) };
+    ghost view = { λ c. rows_ahead (cons_option c.least (heap_items c.others)) c.range (content c.parts.now.entries) };
 
-    ghost invariant = { λ c. IsCursor c.parts.now.entries c.range (heap_items c.heads) };
+    ghost invariant = { λ c. IsCursor c.parts.now.entries c.range c.least (heap_items c.others) };
 }
 
 impl<'a, I: PartIndex + Drop> Cursor<'a, I> {
@@ -50,11 +54,13 @@ impl<'a, I: PartIndex + Drop> Cursor<'a, I> {
         ensures { IfOk result (λ rows. rows ≡ rows_where (within range) (content parts.now.entries)) }
     {
         content_follows();
-        let heads = heads_of(alloc, parts, range)?;
+        let mut others = heads_of(alloc, parts, range)?;
+        let least = pop_least(&mut others);
         Ok(Cursor {
             parts,
             range,
-            heads,
+            least,
+            others,
         })
     }
 
@@ -64,13 +70,15 @@ impl<'a, I: PartIndex + Drop> Cursor<'a, I> {
         ensures rest { self.new ≡ drop 1 self.old }
     {
         content_follows();
-        let mut head = self.heads.pop()?;
-        let record = head.record();
+        let Some(head) = &mut self.least else {
+            return None;
+        };
+        let record = Some(head.record());
         if head.move_on(self.parts, self.range) {
-            let Ok(()) = self.heads.push(head) else {
-                unreachable!()
-            };
+            keep_least(head, &mut self.others);
+        } else {
+            self.least = pop_least(&mut self.others);
         }
-        Some(record)
+        record
     }
 }

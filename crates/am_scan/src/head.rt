@@ -1,6 +1,8 @@
 //! The head of a partition: the entry at which a cursor stands in it, and what was read behind it.
 
-ghost use Rattle.std.specs.Prelude.{◌≡◌, [], ◌≤◌, true, false, length, take, slice_get, IfOk, IfSome, IfNone};
+ghost use Rattle.std.specs.Prelude.{◌≡◌, [], true, false, take, IfOk, IfSome, IfNone, Some};
+ghost use Rattle.std.specs.declared.cmp.Ordering.TheVariants.{Less};
+ghost use Rattle.am_record.specs.OrderedKey.{key_cmp};
 ghost use Rattle.am_record.specs.Interval.{key_le};
 ghost use Rattle.am_list.specs.Entries.{after, all_after, IsRising};
 
@@ -86,40 +88,36 @@ impl Head {
     {
         reads_follow();
         walks_follow();
-        while let Some(entry) = self.following(parts) {
-            if range.hi() < entry.key {
-                return false;
-            }
-            if !entry.is_ghost {
+        while self.follow(parts, range) {
+            if !self.entry.is_ghost {
                 return true;
             }
         }
         false
     }
 
-    // Moves to the next entry of the partition, a ghost or not, if there is one.
-    fn following<I: PartIndex + Drop>(&mut self, parts: &Parts<I>) -> Option<Entry>
+    // Moves to the next entry of the partition, a ghost or not, and says whether there is one up to
+    // the range's end.
+    fn follow<I: PartIndex + Drop>(&mut self, parts: &Parts<I>, range: Range) -> bool
         requires reads { HasReadOn parts.now.entries self.old }
         requires rising { IsRising parts.now.entries }
-        ensures found { result ≡ after parts.now.entries self.old.entry.part self.old.entry.key }
-        ensures moved { IfSome result (λ entry. self.new.entry ≡ entry) }
+        ensures moved { result ≡ true → after parts.now.entries self.old.entry.part self.old.entry.key ≡ Some self.new.entry }
+        ensures inside { result ≡ true → key_le self.new.entry.key range.hi ≡ true }
+        ensures ended { result ≡ false → IfSome (after parts.now.entries self.old.entry.part self.old.entry.key) (λ entry. key_cmp range.hi entry.key ≡ Less) }
         ensures reads { HasReadOn parts.now.entries self.new }
     {
         reads_follow();
         walks_follow();
         self.look_ahead(parts);
-        let entry = self.next_read()?;
-        self.entry = entry;
+        let Some(entry) = self.ahead.entries().get(self.passed) else {
+            return false;
+        };
+        if range.hi() < entry.key {
+            return false;
+        }
+        self.entry = *entry;
         self.passed += 1;
-        Some(self.entry)
-    }
-
-    // The first entry that was read and not passed, if there is one.
-    fn next_read(&self) -> Option<Entry>
-        ensures next { result ≡ slice_get self.now.ahead.value self.now.passed }
-        ensures fits { length self.now.ahead.value ≤ 8 }
-    {
-        self.ahead.entries().get(self.passed).copied()
+        true
     }
 
     // Reads on, where all that was read is passed.
@@ -137,7 +135,7 @@ impl Head {
 
 // Fills the batch with the first entries of the partition strictly above the key.
 fn read_behind<I: PartIndex + Drop>(parts: &Parts<I>, part: u32, key: Key, batch: &mut Batch)
-    ensures { batch.new ≡ take 8 (all_after parts.now.entries part key) }
+    ensures { batch.new ≡ take 16 (all_after parts.now.entries part key) }
 {
     batch.clear();
     parts.read_on(part, key, batch);

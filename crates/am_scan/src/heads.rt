@@ -1,10 +1,13 @@
-//! The heads with which a cursor begins.
+//! The heads with which a cursor begins, and the least one of several.
 
-ghost use Rattle.std.specs.Prelude.{◌≡◌, IfOk, IfSome, IfNone};
-ghost use Rattle.std.specs.BinaryHeap.{heap_items};
+ghost use Rattle.std.specs.Prelude.{◌≡◌, ◌∷◌, IfOk, IfSome, IfNone, Some};
+ghost use Rattle.std.specs.List.{cons_option};
+ghost use Rattle.std.specs.List.Sorted.{IsPermutation};
+ghost use Rattle.std.specs.BinaryHeap.{heap_items, IsHeap};
 ghost use Rattle.am_parts.specs.Partitions.{IsSound};
 ghost use Rattle.am_scan.specs.Looks.{IsFirstFrom, AreEmptyFrom};
-ghost use Rattle.am_scan.specs.Cursors.{AreAllHeads};
+ghost use Rattle.am_scan.specs.Heads.{head_cmp};
+ghost use Rattle.am_scan.specs.Cursors.{AreAllHeads, IsLeastBeside};
 
 use crate::head::Head;
 use am_list::{PartIndex, walks_follow};
@@ -12,6 +15,7 @@ use am_parts::Parts;
 use am_record::{Entry, Key, NoMemory, Range};
 use std::alloc::Global;
 use std::collections::BinaryHeap;
+use std::mem;
 
 /// The heads of all partitions that have a live entry in the range, each at its first one.
 ///
@@ -56,4 +60,34 @@ fn first_from<I: PartIndex + Drop>(parts: &Parts<I>, part: u32, lo: Key) -> Opti
         from = entry.part;
     }
     None
+}
+
+/// Takes the least head out of the heap, if there is one.
+pub(crate) fn pop_least(others: &mut BinaryHeap<Head>) -> Option<Head>
+    requires { IsHeap head_cmp (heap_items others.old) }
+    ensures same { IsPermutation (heap_items others.old) (cons_option result (heap_items others.new)) }
+    ensures least { IsLeastBeside result (heap_items others.new) }
+{
+    others.pop()
+}
+
+/// Lets a head change places with the least of the others, where that one is less. Takes no memory.
+pub(crate) fn keep_least(head: &mut Head, others: &mut BinaryHeap<Head>)
+    requires { IsHeap head_cmp (heap_items others.old) }
+    ensures same { IsPermutation (head.old ∷ heap_items others.old) (head.new ∷ heap_items others.new) }
+    ensures least { IsLeastBeside (Some head.new) (heap_items others.new) }
+{
+    let Some(other) = others.peek() else {
+        return;
+    };
+    if *other <= *head {
+        return;
+    }
+    let Some(least) = others.pop() else {
+        unreachable!()
+    };
+    let passed = mem::replace(head, least);
+    let Ok(()) = others.push(passed) else {
+        unreachable!()
+    };
 }

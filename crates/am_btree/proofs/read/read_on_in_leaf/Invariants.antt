@@ -5,6 +5,6 @@ use Rattle.am_btree.proofs.read.read_on_in_leaf.Given as goal
 
 abbrev pub invariant-loop-at : goal.invariant-loop-at
 invariant-loop-at l = record {
-  fits : length l.batch ≤ 8;
-  same : take 8 (l.batch ++ take_while (λ e. eqb e.part l.fn.part) (drop l.at l.leaf)) ≡ take 8 (l.fn.batch ++ all_after l.leaf l.fn.part l.fn.key);
+  fits : length l.batch ≤ 16;
+  same : take 16 (l.batch ++ take_while (λ e. eqb e.part l.fn.part) (drop l.at l.leaf)) ≡ take 16 (l.fn.batch ++ all_after l.leaf l.fn.part l.fn.key);
 }

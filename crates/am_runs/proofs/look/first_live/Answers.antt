@@ -1,35 +1,21 @@
-use Rattle.std.proofs.Common.{◌+◌, sym, ap, ◌∙◌}
-use Rattle.am_runs.proofs.Rising.{run_sorted}
-use Rattle.am_runs.proofs.Settling.{IsSettled, nothing_settled, from_first, settles_none, settles_one, none_is_left, nothing_further, no_number}
-use Rattle.am_runs.proofs.look.first_live.Given.{Over}
+use Rattle.std.proofs.Common.{◌<◌, sym, ◌∙◌, subst}
+use Rattle.std.specs.Slice.Iter.{chunks_rest}
+use Rattle.am_runs.proofs.ByPieces.{piece_sorted, none_in_piece, found_in_piece, none_to_come}
 use Rattle.am_runs.proofs.look.first_live.Goals as goal
-use Rattle.am_runs.proofs.look.first_live.Goals.{After-checked_add, in-Some-least_live_in, in_default-least_live_in}
 
--- after the look into the entry's partition
-looked : (g : Over) (c : After-checked_add g) → IsSettled c.args.parts.now.entries (c.in-Some-first_from.entry.part + 1) c.args.pairs.now c.match-least_live_in.least c.match-least_live_in.left.now
-looked g c =
-    let sound = c.first_from.ensures.sound in
-    let e = c.in-Some-first_from.entry in
-    let first = sym c.in-Some.ensures.value in
-    elim c.match-least_live_in.branch [
-      | in-Some-least_live_in w ↦ rw w.least-is (settles_one sound c.loop-low.invariant c.in-Some.low.now first e c.in-Some-first_from.ensures.found w.in-Some-least_live_in.key w.in-Some-least_live_in.ensures _ (ap (λ s. s.now) w.left-is ∙ w.count_below.ensures.below))
-      | in_default-least_live_in w ↦ rw (w.least-is, w.left-is) (settles_none sound c.loop-low.invariant c.in-Some.low.now first e c.in-Some-first_from.ensures.found w.in_default-least_live_in.ensures)
-    ]
+pub least_live-requires : goal.least_live-requires
+least_live-requires g c = piece_sorted c.loop-piece.invariant.rest c.in-Some.piece.now (chunks_rest c.next.new.self) c.in-Some.ensures.steps.1.0
 
-pub loop-low-init : goal.loop-low-init
-loop-low-init g c = nothing_settled c.args.parts.now.entries c.args.pairs.now (run_sorted c.args.pairs.now c.requires)
+pub returns-in-Some-least_live : goal.returns-in-Some-least_live
+returns-in-Some-least_live g c =
+    found_in_piece c.loop-piece.invariant.rest c.in-Some.piece.now (chunks_rest c.next.new.self) c.in-Some.ensures.steps.1.0 c.in-Some-least_live.key (sym c.in-Some-least_live.ensures)
 
-pub least_live_in-requires-clause-first : goal.least_live_in-requires-clause-first
-least_live_in-requires-clause-first g c = from_first c.args.parts.now.entries c.loop-low.left.now c.in-Some.low.now c.in-Some-first_from.entry (sym c.in-Some.ensures.value) c.in-Some-first_from.ensures.found.first
-
-pub returns-in_default-first_from : goal.returns-in_default-first_from
-returns-in_default-first_from g c = nothing_further c.loop-low.invariant c.first_from.ensures.sound c.in-Some.low.now (sym c.in-Some.ensures.value) c.in_default-first_from.ensures.found
-
-pub returns-in_default-checked_add : goal.returns-in_default-checked_add
-returns-in_default-checked_add g c = no_number (looked g (goal.at.returns-in_default-checked_add g c).After-checked_add) c.first_from.ensures.sound c.in_default-checked_add.ensures
-
-pub loop-low-preserved : goal.loop-low-preserved
-loop-low-preserved g c = rw c.in-Some-checked_add.ensures.1 (looked g (goal.at.loop-low-preserved g c).After-checked_add)
+pub loop-piece-preserved : goal.loop-piece-preserved
+loop-piece-preserved g c = record {
+  can = subst (λ n. 0 < n) (sym c.in-Some.ensures.steps.0) c.loop-piece.invariant.can;
+  finite = tt;
+  rest = none_in_piece c.loop-piece.invariant.rest c.in-Some.piece.now (chunks_rest c.next.new.self) c.in-Some.ensures.steps.1.0 (sym c.least_live.ensures ∙ c.in_default.is);
+}
 
 pub returns : goal.returns
-returns g c = none_is_left c.loop-low.invariant (sym c.in_default.ensures.value)
+returns g c = none_to_come c.loop-piece.invariant.rest c.in-None.ensures.steps.1.0

@@ -5,4 +5,4 @@ use Rattle.am_list.proofs.batch.Batch.is_full.Goals as goal
 pub returns-clause-full : goal.returns-clause-full
 returns-clause-full c =
     let same : c.self.inside.len ≡ length c.args.self.now = grind (arith, common_steps) in
-    ap (λ n. nat_eq n 8) same
+    ap (λ n. nat_eq n 16) same

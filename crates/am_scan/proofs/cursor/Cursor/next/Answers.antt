@@ -1,97 +1,111 @@
-use Rattle.std.proofs.Common.{rules, sym, ap, ◌∙◌, Some, slice_get, drop}
-use Rattle.std.specs.BinaryHeap.{heap_items}
+use Rattle.std.proofs.Common.{◌≡◌, [], ◌∷◌, Option, Some, slice_get, drop, sym, ap, ◌∙◌, subst}
+use Rattle.std.specs.Option.{MatchOption}
+use Rattle.std.specs.List.{cons_option}
+use Rattle.std.specs.BinaryHeap.{heap_items, IsUpperBound}
 use Rattle.am_list.specs.Content.{content}
-use Rattle.am_scan.proofs.Merging.{at_end, nothing, goes_on, gives_first, is_first, is_rest, without_are, without_above, without_ahead, with_are, with_above, with_ahead}
+use Rattle.am_scan.specs.declared.head.Head.{Head}
+use Rattle.am_scan.specs.Heads.{head_cmp}
+use Rattle.am_scan.specs.Cursors.{AreAhead, rows_ahead}
+use Rattle.am_scan.proofs.Merging.{at_end, none_left, standing, moves_on, moves_first, ends_on, ends_first, is_first, is_rest}
 use Rattle.am_scan.proofs.cursor.Cursor.next.Goals as goal
-use Rattle.am_scan.proofs.cursor.Cursor.next.Goals.{then-move_on+in-Ok, else-move_on}
+use Rattle.am_scan.proofs.cursor.Cursor.next.Goals.{in-Some-1, in-None-1}
 
-pub returns-in_err-head-clause-record : goal.returns-in_err-head-clause-record
-returns-in_err-head-clause-record g c =
-    let none = nothing (heap_items c.self.inside.heads) (search rules) in
-    c.from_residual.ensures ∙ ap (λ rows. slice_get rows 0) (sym (at_end (heap_items c.self.inside.heads) c.self.inside.range (content c.self.inside.parts.now.entries) none) ∙ c.self.view_is)
+pub returns-in_default-clause-record : goal.returns-in_default-clause-record
+returns-in_default-clause-record g c =
+    let heads = cons_option c.self.inside.least (heap_items c.self.inside.others) in
+    let none = none_left c.self.inside.least (heap_items c.self.inside.others) c.self.invariant.beside c.in_default.is in
+    ap (λ rows. slice_get rows 0) (sym (at_end heads c.self.inside.range (content c.self.inside.parts.now.entries) none) ∙ c.self.view_is)
 
-pub returns-in_err-head-clause-rest : goal.returns-in_err-head-clause-rest
-returns-in_err-head-clause-rest g c =
-    let none = nothing (heap_items c.self.inside.heads) (search rules) in
-    at_end (heap_items c.pop.new.self) c.self.inside.range (content c.self.inside.parts.now.entries) (c.in_err-head.ensures.unchanged.0 ∙ none)
-    ∙ ap (drop 1) (sym (at_end (heap_items c.self.inside.heads) c.self.inside.range (content c.self.inside.parts.now.entries) none) ∙ c.self.view_is)
+pub returns-in_default-clause-rest : goal.returns-in_default-clause-rest
+returns-in_default-clause-rest g c =
+    let heads = cons_option c.self.inside.least (heap_items c.self.inside.others) in
+    let none = none_left c.self.inside.least (heap_items c.self.inside.others) c.self.invariant.beside c.in_default.is in
+    let end = at_end heads c.self.inside.range (content c.self.inside.parts.now.entries) none in
+    end ∙ ap (drop 1) (sym end ∙ c.self.view_is)
 
-pub invariant_of-self-in-Ok : goal.invariant_of-self-in-Ok
-invariant_of-self-in-Ok g c =
-    let pop = c.in_ok-head.ensures in
-    let h = c.in_ok-head.head in
-    let rest = heap_items c.pop.new.self in
-    let least = pop.below_top c.self.invariant.are_heads.heap in
-    let heap = (pop.heap_order c.self.invariant.are_heads.heap).0 in
-    let moved = c.move_on.ensures.moved c.if-move_on.true in
-    let new = c.move_on.new.self in
-    let heads = heap_items c.push.new.self in
-    goes_on c.self.invariant h rest pop.permutation least heads
-    (with_are c.self.invariant h rest pop.permutation least new moved heap heads c.in-Ok.ensures.permutation c.in-Ok.ensures.heap_order)
-    (with_above c.self.invariant h rest pop.permutation least new moved heap heads c.in-Ok.ensures.permutation c.in-Ok.ensures.heap_order)
-    (with_ahead c.self.invariant h rest pop.permutation least new moved heap heads c.in-Ok.ensures.permutation c.in-Ok.ensures.heap_order)
+pub move_on-requires-clause-reads : goal.move_on-requires-clause-reads
+move_on-requires-clause-reads g c =
+    let es = c.self.inside.parts.now.entries in
+    let range = c.self.inside.range in
+    let others = heap_items c.self.inside.others in
+    let h = c.in-Some.head in
+    let ahead = subst (λ (o : Option Head). AreAhead es range (cons_option o others)) c.in-Some.is c.self.invariant.ahead in
+    let least = subst (λ (o : Option Head). MatchOption o (others ≡ []) (λ g. IsUpperBound head_cmp g others)) c.in-Some.is c.self.invariant.beside.first in
+    (standing h others ahead least).reads
+
+pub invariant_of-self-then-move_on : goal.invariant_of-self-then-move_on
+invariant_of-self-then-move_on g c =
+    let es = c.self.inside.parts.now.entries in
+    let range = c.self.inside.range in
+    let others = heap_items c.self.inside.others in
+    let h = c.in-Some.head in
+    let ahead = subst (λ (o : Option Head). AreAhead es range (cons_option o others)) c.in-Some.is c.self.invariant.ahead in
+    let least = subst (λ (o : Option Head). MatchOption o (others ≡ []) (λ g. IsUpperBound head_cmp g others)) c.in-Some.is c.self.invariant.beside.first in
+    record {
+      beside = c.keep_least.ensures.least;
+      ahead = moves_on h others ahead least c.move_on.new.self (c.move_on.ensures.moved c.if-move_on.true) (c.keep_least.new.head ∷ heap_items c.keep_least.new.others) c.keep_least.ensures.same;
+    }
 
 pub invariant_of-self-else-move_on : goal.invariant_of-self-else-move_on
 invariant_of-self-else-move_on g c =
-    let pop = c.in_ok-head.ensures in
-    let h = c.in_ok-head.head in
-    let rest = heap_items c.pop.new.self in
-    let least = pop.below_top c.self.invariant.are_heads.heap in
-    let heap = (pop.heap_order c.self.invariant.are_heads.heap).0 in
-    let ended = c.move_on.ensures.ended c.if-move_on.false in
-    goes_on c.self.invariant h rest pop.permutation least rest
-    (without_are c.self.invariant h rest pop.permutation least ended heap)
-    (without_above c.self.invariant h rest pop.permutation least ended heap)
-    (without_ahead c.self.invariant h rest pop.permutation least ended heap)
-
-pub returns-clause-record : goal.returns-clause-record
-returns-clause-record g c =
     let es = c.self.inside.parts.now.entries in
-    let laws = c.content_follows.ensures.edits es c.self.invariant.sound.rising c.self.invariant.sound.one_place in
-    let pop = c.in_ok-head.ensures in
-    let h = c.in_ok-head.head in
-    let rest = heap_items c.pop.new.self in
-    let least = pop.below_top c.self.invariant.are_heads.heap in
-    let heap = (pop.heap_order c.self.invariant.are_heads.heap).0 in
-    elim c.if-move_on.branch [
-      | then-move_on+in-Ok w ↦
-          let moved = c.move_on.ensures.moved w.if-move_on.true in
-          let new = c.move_on.new.self in
-          let heads = heap_items w.push.new.self in
-          ap Some c.record-record.ensures ∙ is_first (sym c.self.view_is ∙ gives_first c.self.invariant h rest pop.permutation least heads
-          (with_are c.self.invariant h rest pop.permutation least new moved heap heads w.in-Ok.ensures.permutation w.in-Ok.ensures.heap_order)
-          (with_above c.self.invariant h rest pop.permutation least new moved heap heads w.in-Ok.ensures.permutation w.in-Ok.ensures.heap_order)
-          (with_ahead c.self.invariant h rest pop.permutation least new moved heap heads w.in-Ok.ensures.permutation w.in-Ok.ensures.heap_order) laws)
-      | else-move_on w ↦
-          let ended = c.move_on.ensures.ended w.if-move_on.false in
-          ap Some c.record-record.ensures ∙ is_first (sym c.self.view_is ∙ gives_first c.self.invariant h rest pop.permutation least rest
-          (without_are c.self.invariant h rest pop.permutation least ended heap)
-          (without_above c.self.invariant h rest pop.permutation least ended heap)
-          (without_ahead c.self.invariant h rest pop.permutation least ended heap) laws)
-    ]
+    let range = c.self.inside.range in
+    let others = heap_items c.self.inside.others in
+    let h = c.in-Some.head in
+    let ahead = subst (λ (o : Option Head). AreAhead es range (cons_option o others)) c.in-Some.is c.self.invariant.ahead in
+    let least = subst (λ (o : Option Head). MatchOption o (others ≡ []) (λ g. IsUpperBound head_cmp g others)) c.in-Some.is c.self.invariant.beside.first in
+    record {
+      beside = c.pop_least.ensures.least;
+      ahead = ends_on h others ahead least (c.move_on.ensures.ended c.if-move_on.false) (cons_option c.pop_least.result (heap_items c.pop_least.new.others)) c.pop_least.ensures.same;
+    }
 
-pub returns-clause-rest : goal.returns-clause-rest
-returns-clause-rest g c =
+pub returns-then-move_on-clause-record : goal.returns-then-move_on-clause-record
+returns-then-move_on-clause-record g c =
     let es = c.self.inside.parts.now.entries in
-    let laws = c.content_follows.ensures.edits es c.self.invariant.sound.rising c.self.invariant.sound.one_place in
-    let pop = c.in_ok-head.ensures in
-    let h = c.in_ok-head.head in
-    let rest = heap_items c.pop.new.self in
-    let least = pop.below_top c.self.invariant.are_heads.heap in
-    let heap = (pop.heap_order c.self.invariant.are_heads.heap).0 in
-    elim c.if-move_on.branch [
-      | then-move_on+in-Ok w ↦
-          let moved = c.move_on.ensures.moved w.if-move_on.true in
-          let new = c.move_on.new.self in
-          let heads = heap_items w.push.new.self in
-          w.self-is ∙ is_rest (sym c.self.view_is ∙ gives_first c.self.invariant h rest pop.permutation least heads
-          (with_are c.self.invariant h rest pop.permutation least new moved heap heads w.in-Ok.ensures.permutation w.in-Ok.ensures.heap_order)
-          (with_above c.self.invariant h rest pop.permutation least new moved heap heads w.in-Ok.ensures.permutation w.in-Ok.ensures.heap_order)
-          (with_ahead c.self.invariant h rest pop.permutation least new moved heap heads w.in-Ok.ensures.permutation w.in-Ok.ensures.heap_order) laws)
-      | else-move_on w ↦
-          let ended = c.move_on.ensures.ended w.if-move_on.false in
-          w.self-is ∙ is_rest (sym c.self.view_is ∙ gives_first c.self.invariant h rest pop.permutation least rest
-          (without_are c.self.invariant h rest pop.permutation least ended heap)
-          (without_above c.self.invariant h rest pop.permutation least ended heap)
-          (without_ahead c.self.invariant h rest pop.permutation least ended heap) laws)
+    let range = c.self.inside.range in
+    let others = heap_items c.self.inside.others in
+    let h = c.in-Some.head in
+    let ahead = subst (λ (o : Option Head). AreAhead es range (cons_option o others)) c.in-Some.is c.self.invariant.ahead in
+    let least = subst (λ (o : Option Head). MatchOption o (others ≡ []) (λ g. IsUpperBound head_cmp g others)) c.in-Some.is c.self.invariant.beside.first in
+    let laws = c.content_follows.ensures.edits es c.self.invariant.ahead.sound.rising c.self.invariant.ahead.sound.one_place in
+    let seen = sym c.self.view_is ∙ ap (λ (o : Option Head). rows_ahead (cons_option o others) range (content es)) c.in-Some.is in
+    ap Some c.record.ensures ∙ is_first (seen ∙ moves_first h others ahead least c.move_on.new.self (c.move_on.ensures.moved c.if-move_on.true) (c.keep_least.new.head ∷ heap_items c.keep_least.new.others) c.keep_least.ensures.same laws)
+
+pub returns-then-move_on-clause-rest : goal.returns-then-move_on-clause-rest
+returns-then-move_on-clause-rest g c =
+    let es = c.self.inside.parts.now.entries in
+    let range = c.self.inside.range in
+    let others = heap_items c.self.inside.others in
+    let h = c.in-Some.head in
+    let ahead = subst (λ (o : Option Head). AreAhead es range (cons_option o others)) c.in-Some.is c.self.invariant.ahead in
+    let least = subst (λ (o : Option Head). MatchOption o (others ≡ []) (λ g. IsUpperBound head_cmp g others)) c.in-Some.is c.self.invariant.beside.first in
+    let laws = c.content_follows.ensures.edits es c.self.invariant.ahead.sound.rising c.self.invariant.ahead.sound.one_place in
+    let seen = sym c.self.view_is ∙ ap (λ (o : Option Head). rows_ahead (cons_option o others) range (content es)) c.in-Some.is in
+    is_rest (seen ∙ moves_first h others ahead least c.move_on.new.self (c.move_on.ensures.moved c.if-move_on.true) (c.keep_least.new.head ∷ heap_items c.keep_least.new.others) c.keep_least.ensures.same laws)
+
+pub returns-else-move_on-clause-record : goal.returns-else-move_on-clause-record
+returns-else-move_on-clause-record g c =
+    let es = c.self.inside.parts.now.entries in
+    let range = c.self.inside.range in
+    let others = heap_items c.self.inside.others in
+    let h = c.in-Some.head in
+    let ahead = subst (λ (o : Option Head). AreAhead es range (cons_option o others)) c.in-Some.is c.self.invariant.ahead in
+    let least = subst (λ (o : Option Head). MatchOption o (others ≡ []) (λ g. IsUpperBound head_cmp g others)) c.in-Some.is c.self.invariant.beside.first in
+    let laws = c.content_follows.ensures.edits es c.self.invariant.ahead.sound.rising c.self.invariant.ahead.sound.one_place in
+    let seen = sym c.self.view_is ∙ ap (λ (o : Option Head). rows_ahead (cons_option o others) range (content es)) c.in-Some.is in
+    ap Some c.record.ensures ∙ is_first (seen ∙ ends_first h others ahead least (c.move_on.ensures.ended c.if-move_on.false) (cons_option c.pop_least.result (heap_items c.pop_least.new.others)) c.pop_least.ensures.same laws)
+
+pub returns-else-move_on-clause-rest : goal.returns-else-move_on-clause-rest
+returns-else-move_on-clause-rest g c =
+    let es = c.self.inside.parts.now.entries in
+    let range = c.self.inside.range in
+    let others = heap_items c.self.inside.others in
+    let h = c.in-Some.head in
+    let ahead = subst (λ (o : Option Head). AreAhead es range (cons_option o others)) c.in-Some.is c.self.invariant.ahead in
+    let least = subst (λ (o : Option Head). MatchOption o (others ≡ []) (λ g. IsUpperBound head_cmp g others)) c.in-Some.is c.self.invariant.beside.first in
+    let laws = c.content_follows.ensures.edits es c.self.invariant.ahead.sound.rising c.self.invariant.ahead.sound.one_place in
+    let seen = sym c.self.view_is ∙ ap (λ (o : Option Head). rows_ahead (cons_option o others) range (content es)) c.in-Some.is in
+    elim c.match-self-pop_least.branch [
+      | in-Some-1 w ↦ w.self-is ∙ is_rest (seen ∙ ends_first h others ahead least (c.move_on.ensures.ended c.if-move_on.false) (cons_option c.pop_least.result (heap_items c.pop_least.new.others)) c.pop_least.ensures.same laws)
+      | in-None-1 w ↦ w.self-is ∙ is_rest (seen ∙ ends_first h others ahead least (c.move_on.ensures.ended c.if-move_on.false) (cons_option c.pop_least.result (heap_items c.pop_least.new.others)) c.pop_least.ensures.same laws)
     ]

@@ -1,34 +1,32 @@
-use Rattle.am_scan.proofs.Moving.{sets_out, above_end, within_end, way_ends, way_leaves, arrives, way_on, way_shortens}
+use Rattle.std.proofs.Common.{refl}
+use Rattle.am_list.specs.Entries.{after}
+use Rattle.am_scan.proofs.Moving.{sets_out, way_stops, arrives, way_on, way_shortens}
 use Rattle.am_scan.proofs.head.Head.move_on.Goals as goal
 
-pub loop-entry-init : goal.loop-entry-init
-loop-entry-init g c = sets_out c.args.parts.now.entries c.args.self.now c.requires.reads
+pub loop-range-init : goal.loop-range-init
+loop-range-init g c = sets_out c.args.parts.now.entries c.args.self.now c.requires.reads
 
-pub returns-then-lt-clause-ended : goal.returns-then-lt-clause-ended
-returns-then-lt-clause-ended g c =
+pub returns-then-not-self-clause-moved : goal.returns-then-not-self-clause-moved
+returns-then-not-self-clause-moved g c =
     let es = c.args.parts.now.entries in
-    λ _. way_leaves (c.walks_follow.ensures es c.requires.rising) (c.reads_follow.ensures es c.requires.rising) c.loop-entry.invariant c.in-Some.entry c.following.ensures.found c.in-Some.is
-    c.args.range (above_end c.in-Some.entry.key c.hi.ensures.value c.lt.ensures c.if-lt.true)
+    let e = c.follow.new.self.entry in
+    λ _. arrives (c.walks_follow.ensures es c.requires.rising) (c.reads_follow.ensures es c.requires.rising) c.loop-range.invariant e (c.follow.ensures.moved c.loop-range-test.true)
+    c.args.range refl c.follow.ensures.reads c.requires.reached (c.follow.ensures.inside c.loop-range-test.true) c.if-not-self.true
 
-pub returns-then-not-entry-clause-moved : goal.returns-then-not-entry-clause-moved
-returns-then-not-entry-clause-moved g c =
+pub loop-range-smaller : goal.loop-range-smaller
+loop-range-smaller g c =
     let es = c.args.parts.now.entries in
-    λ _. arrives (c.walks_follow.ensures es c.requires.rising) (c.reads_follow.ensures es c.requires.rising) c.loop-entry.invariant c.in-Some.entry c.following.ensures.found c.in-Some.is
-    c.args.range c.in-Some.ensures.moved c.following.ensures.reads c.requires.reached (within_end c.in-Some.entry.key c.hi.ensures.value c.lt.ensures c.if-lt.false) c.if-not-entry.true
+    let new = c.follow.new.self in
+    way_shortens (c.walks_follow.ensures es c.requires.rising) (c.reads_follow.ensures es c.requires.rising) c.loop-range.invariant new.entry (c.follow.ensures.moved c.loop-range-test.true) new refl
 
-pub loop-entry-smaller : goal.loop-entry-smaller
-loop-entry-smaller g c =
+pub loop-range-preserved : goal.loop-range-preserved
+loop-range-preserved g c =
     let es = c.args.parts.now.entries in
-    way_shortens (c.walks_follow.ensures es c.requires.rising) (c.reads_follow.ensures es c.requires.rising) c.loop-entry.invariant c.in-Some.entry c.following.ensures.found c.in-Some.is
-    c.following.new.self c.in-Some.ensures.moved
-
-pub loop-entry-preserved : goal.loop-entry-preserved
-loop-entry-preserved g c =
-    let es = c.args.parts.now.entries in
-    way_on (c.walks_follow.ensures es c.requires.rising) (c.reads_follow.ensures es c.requires.rising) c.loop-entry.invariant c.in-Some.entry c.following.ensures.found c.in-Some.is
-    c.in-Some.ensures.moved c.following.ensures.reads c.if-not-entry.false
+    way_on (c.walks_follow.ensures es c.requires.rising) (c.reads_follow.ensures es c.requires.rising) c.loop-range.invariant c.follow.new.self.entry (c.follow.ensures.moved c.loop-range-test.true)
+    refl c.follow.ensures.reads c.if-not-self.false
 
 pub returns-clause-ended : goal.returns-clause-ended
 returns-clause-ended g c =
     let es = c.args.parts.now.entries in
-    λ _. way_ends (c.walks_follow.ensures es c.requires.rising) (c.reads_follow.ensures es c.requires.rising) c.loop-entry.invariant c.args.range c.following.ensures.found c.in_default.is
+    let now = c.loop-range.self in
+    λ _. way_stops (c.walks_follow.ensures es c.requires.rising) (c.reads_follow.ensures es c.requires.rising) c.loop-range.invariant c.args.range (after es now.entry.part now.entry.key) refl (c.follow.ensures.ended c.loop-range-test.false)

@@ -3,8 +3,8 @@ use Rattle.am_list.specs.Entries.{all_after}
 use Rattle.am_scan.proofs.Moving.{IsOnTheWay}
 use Rattle.am_scan.proofs.head.Head.move_on.Given as goal
 
-abbrev pub invariant-loop-entry : goal.invariant-loop-entry
-invariant-loop-entry g l = IsOnTheWay l.parts.entries l.initial.self l.self
+abbrev pub invariant-loop-range : goal.invariant-loop-range
+invariant-loop-range g l = IsOnTheWay l.parts.entries l.initial.self l.self
 
-abbrev pub decreases-loop-entry : goal.decreases-loop-entry
-decreases-loop-entry g l = length (all_after l.parts.entries l.self.entry.part l.self.entry.key)
+abbrev pub decreases-loop-range : goal.decreases-loop-range
+decreases-loop-range g l = length (all_after l.parts.entries l.self.entry.part l.self.entry.key)
