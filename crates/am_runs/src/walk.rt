@@ -1,6 +1,6 @@
 //! A walk through one partition, from key to higher key.
 
-ghost use Rattle.std.specs.Prelude.{◌≡◌, ◌++◌, [], ◌∷◌, List, true, false, None, IfSome, is_some, slice_get, option_copied};
+ghost use Rattle.std.specs.Prelude.{◌≡◌, ◌++◌, [], ◌∷◌, List, true, false, None, IfSome, is_some, slice_get, option_copied, take};
 ghost use Rattle.am_record.specs.Interval.{key_le};
 ghost use Rattle.am_record.specs.declared.entry.Entry.{Entry as TheEntry};
 ghost use Rattle.am_list.specs.Entries.{next_from, all_after};
@@ -48,6 +48,7 @@ impl Walk {
         ensures read { self.new.read ≡ entry.now ∷ [] }
         ensures passed { self.new.passed ≡ 0 }
         ensures last { self.new.last ≡ entry.now.key }
+        ensures descents { self.new.descents ≡ 0 }
     {
         self.part = entry.part;
         self.descents = 0;
@@ -106,10 +107,12 @@ impl Walk {
     // Reads the entries behind the last one, as many as a batch has room for, and says whether there
     // may be more.
     fn read_on<I: PartIndex + Drop>(&mut self, parts: &Parts<I>) -> bool
+        ensures read { self.new.read ≡ take 16 (all_after parts.now.entries self.old.part self.old.last) }
         ensures goes_on { all_after parts.now.entries self.old.part self.old.last ≡ self.new.read ++ all_after parts.now.entries self.new.part self.new.last }
         ensures ends { result ≡ false → all_after parts.now.entries self.new.part self.new.last ≡ [] }
         ensures passed { self.new.passed ≡ 0 }
         ensures part { self.new.part ≡ self.old.part }
+        ensures descents { self.new.descents ≡ self.old.descents }
     {
         self.read.clear();
         self.passed = 0;
@@ -127,6 +130,7 @@ impl Walk {
         ensures found { slice_get self.new.read self.new.passed ≡ next_from parts.now.entries self.old.part key }
         ensures part { self.new.part ≡ self.old.part }
         ensures walk { IsWalkFrom parts.now.entries key self.new }
+        ensures descents { self.new.descents ≡ self.old.descents }
     {
         if let Some(entry) = parts.next_from(self.part, key) {
             self.stand_at(&entry);
@@ -139,6 +143,7 @@ impl Walk {
         ensures passed { self.new.passed ≡ 0 }
         ensures last { self.new.last ≡ entry.now.key }
         ensures part { self.new.part ≡ self.old.part }
+        ensures descents { self.new.descents ≡ self.old.descents }
     {
         self.read.clear();
         self.read.push(*entry);

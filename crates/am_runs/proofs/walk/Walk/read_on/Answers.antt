@@ -19,6 +19,9 @@ batch g c = c.read_on.ensures.read ∙ ap (λ l. take room (l ++ all_after c.arg
 read : (g : Over) (c : After-is_full g) → c.match-last.self.read ≡ take room (all_after c.args.parts.now.entries c.args.self.now.part c.args.self.now.last)
 read g c = elim c.match-last.branch [ in-Some w ↦ rw w.self-is (batch g c) | in_default w ↦ rw w.self-is (batch g c) ]
 
+pub returns-clause-read : goal.returns-clause-read
+returns-clause-read g c = read g c
+
 pub returns-clause-goes_on : goal.returns-clause-goes_on
 returns-clause-goes_on g c =
     let es = c.args.parts.now.entries in
