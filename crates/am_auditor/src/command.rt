@@ -28,19 +28,20 @@ pub fn options<'a, S: AsStr>(alloc: Global, words: &'a [S]) -> Result<Options<'a
 fn amaudit<'a>(alloc: Global) -> Result<Command<'a>, AllocError> {
     let file = Arg::new(alloc, "file")
         .value_name("FILE")
-        .help("The stored trace; standard input where none is named");
+        .help("The stored trace; standard input where none or - is named");
     Command::new(alloc, "amaudit")
         .about(
             "Judges a stored trace: whether it is formed, right in its refusals, and serial in order of commit",
         )
+        .version("0.1.0")
         .arg(file)
 }
 
-// What to say of clap's error: help has status 0.
+// What to say of clap's error: help and the version have status 0.
 fn fault_of(alloc: Global, error: &Error) -> OptionsFault {
     match error.kind() {
         ErrorKind::OutOfMemory => OptionsFault::no_memory(),
-        ErrorKind::DisplayHelp => said(alloc, 0, error),
+        ErrorKind::DisplayHelp | ErrorKind::DisplayVersion => said(alloc, 0, error),
         _ => said(alloc, 2, error),
     }
 }

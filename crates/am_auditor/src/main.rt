@@ -15,11 +15,11 @@ use std::process::ExitCode;
 use std::rt::Files;
 use std::{env, fs, io};
 
-/// What is read: a file, or standard input where none is named.
+/// What is read: a file, or standard input where none or `-` is named.
 fn bytes<R: AllocGlobal + Files + Input>(rt: &R, file: Option<&str>) -> io::Result<Vec<u8>> {
     match file {
-        Some(path) => fs::read(rt, path),
-        None => {
+        Some(path) if path != "-" => fs::read(rt, path),
+        _ => {
             let mut bytes = Vec::new(rt.alloc());
             rt.reader().read_to_end(&mut bytes)?;
             Ok(bytes)
@@ -49,7 +49,7 @@ fn words<R: AllocGlobal + Env>(rt: &R) -> Result<Vec<String>, OptionsFault> {
     }
 }
 
-/// Help goes to standard output, and a fault to standard error.
+/// Help and the version go to standard output, and a fault to standard error.
 fn refuse<R: Print + Eprint>(rt: &R, fault: &OptionsFault) -> anyhow::Result<ExitCode> {
     let text = fault.text.as_str().trim_end();
     if fault.status == 0 {

@@ -1,16 +1,15 @@
 -- From clap's clauses to the options that words name.
-use Rattle.std.proofs.Common.{◌≡◌, ◌∙◌, ◌⊎◌, ◌≢◌, List, [], ◌∷◌, refl, sym, subst, ap, ap₂, inl, inr, true, false, ◌||◌}
+use Rattle.std.proofs.Common.{◌≡◌, ◌∙◌, ◌⊎◌, ◌≢◌, List, [], refl, sym, subst, ap, ap₂, inl, inr, true, false, ◌||◌}
 use Rattle.std.specs.Prelude.{IsSomeAnd}
 use Rattle.clap.specs.Words.{AddsArg, App, HasMatchesOf, Rule, Text, fault_of, is_simple, is_simple_and_free, kind_of, rule_of, subcommand_of, subcommand_rows_of, with_rule}
-use Rattle.clap.specs.Kinds.{IsAmong, Kinds}
+use Rattle.clap.specs.Kinds.{IsAmong}
 use Rattle.clap.specs.declared.builder.arg.Arg.{Arg}
 use Rattle.clap.specs.declared.builder.command.Command.{Command}
 use Rattle.clap.specs.declared.error.Error.{Error}
-use Rattle.clap.specs.declared.error.kind.ErrorKind.{ErrorKind}
-use Rattle.clap.specs.declared.error.kind.ErrorKind.TheVariants.{DisplayHelp, OutOfMemory}
+use Rattle.clap.specs.declared.error.kind.ErrorKind.TheVariants.{OutOfMemory}
 use Rattle.clap.specs.declared.parser.matches.ArgMatches.{ArgMatches}
 use Rattle.clap.proofs.OnLiterals.{clap_on_literals}
-use Rattle.am_command.specs.Options.{IsCommand, IsNoMemory, Names, Refuses, Selects, amserve_app, number_rule}
+use Rattle.am_command.specs.Options.{IsCommand, IsNoMemory, Names, Refuses, Selects, amserve_app, number_rule, status_of}
 use Rattle.am_command.specs.declared.choice.Options.{Options}
 use Rattle.am_command.specs.declared.choice.OptionsFault.{OptionsFault}
 use Rattle.am_command.specs.declared.command.Setting.{Setting}
@@ -49,37 +48,23 @@ accepted app m words options app_is rows faults named = (
 )
 
 pub refused_as_nothing : (app : App) (m : ArgMatches) (words : List Text) (fault : OptionsFault) → app ≡ amserve_app → HasMatchesOf app words m
+    → (is_simple_and_free app ≡ true → fault_of app words ≡ [])
     → ((options : Options) → IsSomeAnd (subcommand_rows_of m) (λ entered. Selects entered options) → ⊥) → fault.status ≡ 2
     → Refuses words fault
-refused_as_nothing app m words fault app_is rows none status = inr (inr (
+refused_as_nothing app m words fault app_is rows faults none status = inr (inr (
   status,
+  ap (λ a. fault_of a words) (sym app_is) ∙ faults (ap is_simple_and_free app_is ∙ is_free),
   λ options named. none options (subst (λ e. IsSomeAnd e (λ entered. Selects entered options)) (sym (entered_as app m words app_is rows)) named.1),
 ))
 
-among_some : (k : ErrorKind) (kinds : Kinds) → IsAmong k kinds → kinds ≡ [] → ⊥
-among_some k [] among e = among
-among_some k (x ∷ xs) among e = cc
-
-faulty : (words : List Text) → (fault_of amserve_app words ≡ [] → ⊥) → (options : Options) → Names words options → ⊥
-faulty words fault options named = fault named.0
-
 pub refused_by_clap : (app : App) (e : Error) (words : List Text) (fault : OptionsFault) → app ≡ amserve_app
     → (is_simple_and_free app ≡ true → (kind_of e ≡ OutOfMemory) ⊎ IsAmong (kind_of e) (fault_of app words))
-    → (IsNoMemory fault ⊎ ((fault.status ≡ 0) × (kind_of e ≡ DisplayHelp)) ⊎ ((fault.status ≡ 2) × (kind_of e ≢ OutOfMemory)))
+    → (IsNoMemory fault ⊎ ((fault.status ≡ status_of (kind_of e)) × (kind_of e ≢ OutOfMemory)))
     → Refuses words fault
 refused_by_clap app e words fault app_is kinds said = finish (kinds (ap is_simple_and_free app_is ∙ is_free)) said
   where
     finish : ((kind_of e ≡ OutOfMemory) ⊎ IsAmong (kind_of e) (fault_of app words))
-        → (IsNoMemory fault ⊎ ((fault.status ≡ 0) × (kind_of e ≡ DisplayHelp)) ⊎ ((fault.status ≡ 2) × (kind_of e ≢ OutOfMemory)))
-        → Refuses words fault
+        → (IsNoMemory fault ⊎ ((fault.status ≡ status_of (kind_of e)) × (kind_of e ≢ OutOfMemory))) → Refuses words fault
     finish k (inl none) = inl none
-    finish (inl memory) (inr (inl help)) =
-        let bad : OutOfMemory ≡ DisplayHelp = sym memory ∙ help.1 in
-        cc
-    finish (inl memory) (inr (inr other)) = absurd (other.1 memory)
-    finish (inr among) (inr (inl help)) =
-        inr (inl (help.0, subst (λ a. IsAmong DisplayHelp (fault_of a words)) app_is (subst (λ k. IsAmong k (fault_of app words)) help.1 among)))
-    finish (inr among) (inr (inr other)) = inr (inr (
-      other.0,
-      faulty words (among_some (kind_of e) (fault_of amserve_app words) (subst (λ a. IsAmong (kind_of e) (fault_of a words)) app_is among)),
-    ))
+    finish (inl memory) (inr other) = absurd (other.1 memory)
+    finish (inr among) (inr other) = inr (inl (kind_of e, (subst (λ a. IsAmong (kind_of e) (fault_of a words)) app_is among, other.0)))

@@ -1,5 +1,5 @@
 -- What a command line asks for, by clap's meaning of its words.
-use Rattle.std.specs.Prelude.{◌≡◌, ◌≤◌, ◌⊎◌, ℕ, List, [], Option, Some, None, codes, false, is_some, not, true}
+use Rattle.std.specs.Prelude.{◌≡◌, ◌≢◌, ◌≤◌, ◌⊎◌, ◌↔◌, IsTrue, ℕ, List, [], Option, Some, None, codes, false, is_some, not, true}
 use Rattle.std.specs.Prelude.{IsSomeAnd, option_map}
 use Rattle.std.specs.Cow.{cow_str_bytes}
 use Rattle.std.specs.Str.Parse.{IsNumeral, digits_value, without_leading_plus}
@@ -8,8 +8,10 @@ use Rattle.clap.specs.Words.{fault_of, subcommand_of, with_rule, with_subcommand
 use Rattle.clap.specs.Kinds.{IsAmong}
 use Rattle.clap.specs.declared.builder.command.Command.{Command}
 use Rattle.clap.specs.declared.builder.command.Command.TheViews.{out-Command}
+use Rattle.clap.specs.declared.builder.action.ArgAction.TheVariants.{SetTrue}
 use Rattle.clap.specs.declared.builder.value_parser.ValueParser.TheVariants.{Unsigned}
-use Rattle.clap.specs.declared.error.kind.ErrorKind.TheVariants.{DisplayHelp}
+use Rattle.clap.specs.declared.error.kind.ErrorKind.{ErrorKind}
+use Rattle.clap.specs.declared.error.kind.ErrorKind.TheVariants.{DisplayHelp, DisplayVersion}
 use Rattle.am_command.specs.declared.choice.Listening.{Listening}
 use Rattle.am_command.specs.declared.choice.Options.{Options}
 use Rattle.am_command.specs.declared.choice.Options.TheVariants.{Alone, Listen}
@@ -44,21 +46,29 @@ number_rule rule setting = record rule {
 abbrev pub alone_app : App
 alone_app = with_rule (new_app (codes "alone")) (number_rule (option_rule (codes "auto")) auto)
 
--- `listen --port P [--sessions N] [--workers W] [--trace FILE]`
+-- `--NAME`
+abbrev pub flag_rule : Text → Rule
+flag_rule name = record (new_rule name) { long = Some name; action = Some SetTrue }
+
+-- `listen --port P [--sessions N] [--workers W] [--trace FILE] [--stop]`
 abbrev pub listen_app : App
 listen_app =
     let with_port = with_rule (new_app (codes "listen")) (number_rule (option_rule (codes "port")) port) in
     let with_sessions = with_rule with_port (number_rule (option_rule (codes "sessions")) sessions) in
     let with_workers = with_rule with_sessions (number_rule (option_rule (codes "workers")) workers) in
-    with_rule with_workers (option_rule (codes "trace"))
+    let with_trace = with_rule with_workers (option_rule (codes "trace")) in
+    with_rule with_trace (flag_rule (codes "stop"))
 
 -- the command is this one, with no global argument
 abbrev pub IsCommand : App → Command → Type 0
 IsCommand app command = (app_of command ≡ app) × ((out-Command command).has_globals ≡ false)
 
--- `amserve`, which wants a subcommand
+-- `amserve`, which has a version and wants a subcommand
 abbrev pub amserve_shape : Shape
-amserve_shape = record (new_app (codes "amserve")).top { subcommand_required = true }
+amserve_shape = record (new_app (codes "amserve")).top {
+  has_version = true;
+  subcommand_required = true;
+}
 
 abbrev pub amserve_app : App
 amserve_app =
@@ -75,12 +85,14 @@ Gives setting (Some text) n =
 abbrev pub Sets : Setting → Option Text → ℕ → Type 0
 Sets setting text n = (setting.least ≤ n) × (n ≤ setting.most) × Gives setting text n
 
--- the rows of `listen` give these numbers and this file
+-- the rows of `listen` give these numbers and this file, which has a name, and say whether to await a STOP
 pub record NamesListening (rows : List Row) (listening : Listening) : Type 0 where
   pub port_set : Sets port (first_of (codes "port") rows) listening.port
   pub sessions_set : Sets sessions (first_of (codes "sessions") rows) listening.sessions
   pub workers_set : Sets workers (first_of (codes "workers") rows) listening.workers
   pub trace_named : option_map (λ file. file.now) listening.trace ≡ first_of (codes "trace") rows
+  pub trace_has_name : first_of (codes "trace") rows ≢ Some []
+  pub stop_awaited : IsTrue listening.awaits_stop ↔ (first_of (codes "stop") rows ≡ Some (codes "true"))
 
 -- the name of a subcommand and its rows name these options
 abbrev pub Selects : Text × List Row → Options → Type 0
@@ -95,8 +107,14 @@ Names words options = (fault_of amserve_app words ≡ [])
 abbrev pub IsNoMemory : OptionsFault → Type 0
 IsNoMemory fault = (fault.status ≡ 5) × (cow_str_bytes fault.text ≡ codes "amserve: no memory")
 
--- memory was refused, or the words ask for help, or they name no options
+-- the status of a fault that clap finds: that of help or the version is 0
+abbrev pub status_of : ErrorKind → ℕ
+status_of DisplayHelp = 0
+status_of DisplayVersion = 0
+status_of _ = 2
+
+-- memory was refused, or clap finds this fault in the words, or it finds none and they name no options
 abbrev pub Refuses : List Text → OptionsFault → Type 0
 Refuses words fault = IsNoMemory fault
-    ⊎ ((fault.status ≡ 0) × IsAmong DisplayHelp (fault_of amserve_app words))
-    ⊎ ((fault.status ≡ 2) × ((options : Options) → Names words options → ⊥))
+    ⊎ ((kind : ErrorKind) × (IsAmong kind (fault_of amserve_app words) × (fault.status ≡ status_of kind)))
+    ⊎ ((fault.status ≡ 2) × (fault_of amserve_app words ≡ []) × ((options : Options) → Names words options → ⊥))

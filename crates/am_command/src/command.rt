@@ -1,12 +1,12 @@
 //! The command line.
 
-ghost use Rattle.std.specs.Prelude.{◌≡◌, ◌≢◌, ◌⊎◌, ℕ, IfErr, IfOk, IsSomeAnd, MatchOption, false, map, option_map};
+ghost use Rattle.std.specs.Prelude.{◌≡◌, ◌≢◌, ◌⊎◌, ℕ, [], IfErr, IfOk, IsSomeAnd, MatchOption, false, map, option_map};
 ghost use Rattle.clap.specs.Words.{app_of, first_of, found_of, kind_of, rows_of, rule_of, subcommand_rows_of};
-ghost use Rattle.am_command.specs.Options.{IsCommand, IsNoMemory, Names, NamesListening, Refuses, Selects, Sets, alone_app, amserve_app, listen_app, number_rule, option_rule};
+ghost use Rattle.am_command.specs.Options.{IsCommand, IsNoMemory, Names, NamesListening, Refuses, Selects, Sets, alone_app, amserve_app, flag_rule, listen_app, number_rule, option_rule, status_of};
 
 use crate::choice::{Listening, Options, OptionsFault};
 use clap::error::ErrorKind;
-use clap::{Arg, ArgMatches, Command, Error, value_parser};
+use clap::{Arg, ArgAction, ArgMatches, Command, Error, value_parser};
 use std::alloc::{AllocError, Global};
 use std::borrow::CowStr;
 use std::convert::AsStr;
@@ -25,6 +25,9 @@ const AUTO: Setting = Setting {
     most: 64,
     default: Some(16),
 };
+
+/// What `--version` prints behind the program's name.
+const VERSION: &str = "0.1.0";
 
 /// The port to listen at; 0 for any that is free.
 const PORT: Setting = Setting {
@@ -50,7 +53,8 @@ const WORKERS: Setting = Setting {
 /// What the words ask for; the first word is the program's name.
 ///
 /// # Errors
-/// A text and a status: 0 where help was asked for, 2 where the words name no options, 5 where memory was refused.
+/// A text and a status: 0 where help or the version was asked for, 2 where the words name no options, 5 where memory was
+/// refused.
 pub fn options<'a, S: AsStr>(alloc: Global, words: &'a [S]) -> Result<Options<'a>, OptionsFault>
     ensures accepted { IfOk result (Names (map S.text words.entry.now)) }
     ensures refused { IfErr result (Refuses (map S.text words.entry.now)) }
@@ -70,6 +74,7 @@ fn amserve<'a>(alloc: Global) -> Result<Command<'a>, AllocError>
 {
     Command::new(alloc, "amserve")
         .about("A transactional keyed store that answers lines")
+        .version(VERSION)
         .subcommand_required(true)
         .subcommand(alone(alloc)?)?
         .subcommand(listen(alloc)?)
@@ -90,7 +95,7 @@ fn alone<'a>(alloc: Global) -> Result<Command<'a>, AllocError>
         .arg(number(auto, AUTO))
 }
 
-/// `listen --port P [--sessions N] [--workers W] [--trace FILE]`.
+/// `listen --port P [--sessions N] [--workers W] [--trace FILE] [--stop]`.
 fn listen<'a>(alloc: Global) -> Result<Command<'a>, AllocError>
     ensures { IfOk result (λ command. IsCommand listen_app command) }
 {
@@ -118,12 +123,18 @@ fn listen<'a>(alloc: Global) -> Result<Command<'a>, AllocError>
         "FILE",
         "The file that gets the trace; none by default",
     );
+    let stop = flag(
+        alloc,
+        "stop",
+        "Serve until a line STOP, or the end, comes on standard input",
+    );
     Command::new(alloc, "listen")
         .about("Serves sessions over TCP, on one store")
         .arg(number(port, PORT))?
         .arg(number(sessions, SESSIONS))?
         .arg(number(workers, WORKERS))?
-        .arg(trace)
+        .arg(trace)?
+        .arg(stop)
 }
 
 /// `--NAME VALUE`.
@@ -134,6 +145,16 @@ fn option<'a>(alloc: Global, name: &'a str, value: &'a str, help: &'a str) -> Ar
         .long(name)
         .value_name(value)
         .help(help)
+}
+
+/// `--NAME`.
+fn flag<'a>(alloc: Global, name: &'a str, help: &'a str) -> Arg<'a>
+    ensures { (rule_of result ≡ flag_rule name.now) × (result.global ≡ false) }
+{
+    Arg::new(alloc, name)
+        .long(name)
+        .help(help)
+        .action(ArgAction::SetTrue)
 }
 
 /// The option takes a number, and is wanted where the number has no default.
@@ -182,8 +203,21 @@ fn listening_in<'a>(given: &ArgMatches<'a>) -> Option<Listening<'a>>
         port: number_in(given, "port", PORT)?,
         sessions: u64::from(number_in(given, "sessions", SESSIONS)?),
         workers: u64::from(number_in(given, "workers", WORKERS)?),
-        trace: text_in(given, "trace"),
+        trace: file_in(text_in(given, "trace"))?,
+        awaits_stop: text_in(given, "stop") == Some("true"),
     })
+}
+
+/// The file that an option names, if it does. None where the name is empty.
+fn file_in(name: Option<&str>) -> Option<Option<&str>>
+    ensures { MatchOption result
+        (option_map (λ text. text.now) name.entry ≡ Some [])
+        (λ file. (file ≡ name.entry) × (option_map (λ text. text.now) name.entry ≢ Some [])) }
+{
+    match name {
+        Some(text) if text.is_empty() => None,
+        other => Some(other),
+    }
 }
 
 /// The number that an option was given, or has by default, where it is within its bounds.
@@ -222,12 +256,11 @@ fn number_of(given: Option<&str>, setting: Setting) -> Option<u16>
 /// What clap says of the words.
 fn fault_of(alloc: Global, error: &Error) -> OptionsFault
     ensures { IsNoMemory result
-        ⊎ ((result.status ≡ 0) × (kind_of error.now ≡ ErrorKind.DisplayHelp))
-        ⊎ ((result.status ≡ 2) × (kind_of error.now ≢ ErrorKind.OutOfMemory)) }
+        ⊎ ((result.status ≡ status_of (kind_of error.now)) × (kind_of error.now ≢ ErrorKind.OutOfMemory)) }
 {
     match error.kind() {
         ErrorKind::OutOfMemory => OptionsFault::no_memory(),
-        ErrorKind::DisplayHelp => said(alloc, 0, error),
+        ErrorKind::DisplayHelp | ErrorKind::DisplayVersion => said(alloc, 0, error),
         _ => said(alloc, 2, error),
     }
 }
@@ -249,8 +282,5 @@ fn said(alloc: Global, status: u8, error: &Error) -> OptionsFault
 fn no_options() -> OptionsFault
     ensures { result.status ≡ 2 }
 {
-    OptionsFault {
-        status: 2,
-        text: CowStr::Borrowed("amserve: expected alone or listen"),
-    }
+    OptionsFault::other("amserve: expected alone or listen, and a file that has a name")
 }

@@ -37,6 +37,7 @@ fn listening_has_defaults(rt: HostRuntime) {
         sessions: 1,
         workers: 1,
         trace: None,
+        awaits_stop: false,
     };
     assert!(rt;
         asked(&rt, &["amserve", "listen", "--port", "0"]) == Ok(Options::Listen(listening))
@@ -56,12 +57,14 @@ fn listening_at_its_most(rt: HostRuntime) {
         "16",
         "--trace",
         "t",
+        "--stop",
     ];
     let listening = Listening {
         port: 65535,
         sessions: 256,
         workers: 16,
         trace: Some("t"),
+        awaits_stop: true,
     };
     assert!(rt; asked(&rt, &words) == Ok(Options::Listen(listening)));
 }
@@ -103,6 +106,16 @@ fn options_of_the_other_subcommand(rt: HostRuntime) {
 #[test]
 fn a_subcommand_is_wanted(rt: HostRuntime) {
     assert!(rt; asked(&rt, &["amserve"]) == Err(2));
+}
+
+#[test]
+fn a_file_has_a_name(rt: HostRuntime) {
+    assert!(rt; asked(&rt, &["amserve", "listen", "--port", "0", "--trace", ""]) == Err(2));
+}
+
+#[test]
+fn the_version_is_told(rt: HostRuntime) {
+    assert!(rt; asked(&rt, &["amserve", "--version"]) == Err(0));
 }
 
 #[test]

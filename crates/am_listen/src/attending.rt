@@ -12,7 +12,7 @@ use am_seating::Place;
 use am_session::{End, serve};
 use am_wire::{Reading, Sink, Source, Writing};
 use std::alloc::Global;
-use std::io::BufWriter;
+use std::io::{BufWriter, Write};
 use std::net::TcpStream;
 use std::sync::{Mutex, Wait};
 
@@ -51,11 +51,20 @@ fn converse<'a, W: Wait, L: Naming>(
     // Each answer is written whole, and goes out at once where the system can be told so.
     let _ = stream.set_nodelay(true);
     let Ok(writer) = BufWriter::new(alloc, stream) else {
+        refuse(stream);
         return;
     };
     let mut source = Reading::new(stream);
     let mut sink = Answers::new(Writing::new(writer), turnstile);
-    let _ = attend(rt, alloc, &mut source, &mut sink, place);
+    if let End::NoMemory = attend(rt, alloc, &mut source, &mut sink, place) {
+        refuse(stream);
+    }
+}
+
+// Says that there was no memory for a session's buffers, before anything was read.
+fn refuse(stream: &TcpStream) {
+    let mut writer = stream;
+    let _ = writer.write_all(b"ERR MEMORY\n");
 }
 
 /// Takes the next connection at the door, if one comes, and serves it to its end.

@@ -3,6 +3,7 @@
 ghost use Rattle.std.specs.Prelude.{◌≡◌, ◌≤◌, ◌<◌, IfOk};
 ghost use Rattle.am_listen.specs.Hosting.{IsServed};
 
+use crate::door::Door;
 use crate::hosting::{Served, host};
 use am_latch::Blank;
 use am_record::NoMemory;
@@ -12,6 +13,7 @@ use std::io;
 use std::marker::Brand;
 use std::net::{Ipv4Addr, Net, TcpListener, TcpStream};
 use std::sync::Wait;
+use std::sync::atomic::{AtomicBool, Ordering};
 use std::thread::Threads;
 use thiserror::Error;
 
@@ -29,6 +31,7 @@ pub struct Bound {
     listener: TcpListener,
     port: u16,
     alloc: Global,
+    is_stopped: AtomicBool,
 }
 
 /// Listens at 127.0.0.1, at that port, or at any free one where it is 0.
@@ -52,6 +55,7 @@ fn listen<R: AllocGlobal + Net<Listener = TcpListener, Stream = TcpStream>>(
         listener,
         port,
         alloc: rt.alloc(),
+        is_stopped: AtomicBool::new(false),
     })
 }
 
@@ -61,7 +65,15 @@ impl Bound {
         self.port
     }
 
-    /// Accepts so many connections, each of which is served on a thread and a seat of its own, over one store that
+    /// No further connection is served: one that comes is closed, and `serve` returns once the sessions begun have
+    /// ended. May be called from another thread while `serve` runs.
+    pub fn stop<R: Net<Listener = TcpListener, Stream = TcpStream>>(&self, rt: &R) {
+        self.is_stopped.store(true, Ordering::SeqCst);
+        // A thread that waits for a connection gets this one, and sees that it is to stop.
+        drop(TcpStream::connect(rt, (Ipv4Addr::LOCALHOST, self.port)));
+    }
+
+    /// Accepts so many connections, or those that come before [`Bound::stop`], each of which is served on a thread and a seat of its own, over one store that
     /// begins with no records, and lets so many workers merge beside them: one turn for each answered line. It returns
     /// once all sessions have ended.
     ///
@@ -83,6 +95,7 @@ impl Bound {
         let Ok((words, hands)) = Words::open(self.alloc, sessions as usize) else {
             return Err(NoMemory);
         };
-        host::<Brand, R>(rt, self.alloc, &self.listener, blank, &words, hands)
+        let door = Door::new(&self.listener, &self.is_stopped);
+        host::<Brand, R>(rt, self.alloc, door, blank, &words, hands)
     }
 }

@@ -15,7 +15,6 @@ use am_seating::Place;
 use am_words::{WordSeat, Words};
 use am_workers::{Worked, run_workers};
 use std::alloc::Global;
-use std::net::TcpListener;
 use std::sync::{Mutex, Wait};
 use std::thread;
 use std::thread::Threads;
@@ -116,7 +115,7 @@ fn take_seats<'a, L: Naming>(all: &mut Vec<Seat<L>>, places: Vec<Place<'a, L>>)
 pub(crate) fn host<L: Naming + Send + Sync, R: Threads + Wait + Sync>(
     rt: &R,
     alloc: Global,
-    listener: &TcpListener,
+    door: Door<'_>,
     blank: Blank,
     words: &Words,
     hands: Vec<WordSeat>,
@@ -131,17 +130,18 @@ pub(crate) fn host<L: Naming + Send + Sync, R: Threads + Wait + Sync>(
     let mut all = Vec::new(alloc);
     all.reserve(seats.len())?;
     let turnstile = Turnstile::new(hands.len() as u64);
-    let door = Mutex::new(Door::new(listener));
+    let door = Mutex::new(door);
     let (places, working) = seat_all(alloc, &latch, words, seats, hands)?;
-    let (places, worked) = thread::join(
+    // Where no second thread can be started the first of these comes last: the workers, who wait for sessions.
+    let (worked, places) = thread::join(
         rt,
+        || -> Worked<L>
+            ensures { AllZip (Turned 16 1000000) working.items result.seats.items }
+        { run_workers(rt, &latch, working, TURNS, LIMIT, &turnstile) },
         || -> Vec<Place<'_, L>>
             requires { All IsIdle places.items }
             ensures { AllZip HasSameSeat places.entry.items result.items }
         { attend_all(rt, alloc, &door, &turnstile, places) },
-        || -> Worked<L>
-            ensures { AllZip (Turned 16 1000000) working.items result.seats.items }
-        { run_workers(rt, &latch, working, TURNS, LIMIT, &turnstile) },
     );
     take_seats(&mut all, places);
     let mut worked = worked.seats;

@@ -13,6 +13,8 @@ pub struct Turnstile {
     answered: AtomicU64,
     taken: AtomicU64,
     sessions: AtomicU64,
+    // How many workers sleep or are about to: where there is none, nobody is woken.
+    sleeping: AtomicU64,
 }
 
 impl Turnstile {
@@ -22,13 +24,16 @@ impl Turnstile {
             answered: AtomicU64::new(0),
             taken: AtomicU64::new(0),
             sessions: AtomicU64::new(sessions),
+            sleeping: AtomicU64::new(0),
         }
     }
 
     /// A line was answered.
     pub fn count_answer(&self) {
         self.answered.fetch_add(1, Ordering::SeqCst);
-        self.answered.wake_one();
+        if self.sleeping.load(Ordering::SeqCst) > 0 {
+            self.answered.wake_one();
+        }
     }
 
     /// A session ended. After the last one no worker waits any more.
@@ -37,6 +42,14 @@ impl Turnstile {
             self.answered.fetch_add(1, Ordering::SeqCst);
             self.answered.wake_all();
         }
+    }
+
+    // Sleeps until a line more than these was answered, or all sessions have ended. Whoever counts a line behind the
+    // first of these steps sees that somebody sleeps; a line counted before it changes what the sleeper compares.
+    fn sleep<R: Wait>(&self, rt: &R, answered: u64) {
+        self.sleeping.fetch_add(1, Ordering::SeqCst);
+        self.answered.park(rt, (answered % (1 << 32)) as u32);
+        self.sleeping.fetch_sub(1, Ordering::SeqCst);
     }
 
     // Takes the turn behind `taken`, unless another worker has it.
@@ -57,7 +70,7 @@ impl Gate for Turnstile {
             }
             let taken = self.taken.load(Ordering::SeqCst);
             if taken >= answered {
-                self.answered.park(rt, (answered % (1 << 32)) as u32);
+                self.sleep(rt, answered);
             } else if self.try_take(taken) {
                 return true;
             }

@@ -1,22 +1,19 @@
-//! Serving at a port.
+//! Serving at a port: what comes before the sessions, and behind them.
 
-ghost use Rattle.std.specs.Prelude.{◌≤◌};
-
+use crate::trace_file::TraceFile;
 use am_command::Listening;
-use am_listen::bind;
-use am_record::{Reply, Step};
-use am_trace::trace_text;
+use am_listen::{Bound, Served, bind};
+use am_record::NoMemory;
+use std::io;
+use std::io::{BufRead, BufReader};
 use std::net::{Net, TcpListener, TcpStream};
 use std::process::ExitCode;
 use std::rt::Files;
-use std::sync::Wait;
-use std::thread::Threads;
-use std::{fs, io};
 use thiserror::Error;
 
 /// Why a server doesn't end well.
 #[derive(Clone, Copy, Debug, PartialEq, Eq, Error)]
-enum ListenFault {
+pub(crate) enum ListenFault {
     #[error("amserve: cannot listen")]
     CannotListen,
     #[error("amserve: cannot accept")]
@@ -37,71 +34,76 @@ impl ListenFault {
     }
 }
 
-/// Writes the text of the trace to the file, if one is named.
-fn store<R: AllocGlobal + Files>(
+/// The file for the trace, where one is named, and then the port.
+pub(crate) fn open<'a, R: AllocGlobal + Files + Net<Listener = TcpListener, Stream = TcpStream>>(
     rt: &R,
-    file: Option<&str>,
-    trace: &[(Step, Reply)],
-) -> Result<(), ListenFault> {
-    let Some(path) = file else {
-        return Ok(());
+    listening: &Listening<'a>,
+) -> Result<(Option<TraceFile<'a>>, Bound), ListenFault> {
+    let file = match listening.trace {
+        Some(path) => Some(TraceFile::prepare(rt, path)?),
+        None => None,
     };
-    let Ok(text) = trace_text(rt.alloc(), trace) else {
-        return Err(ListenFault::CannotWriteTrace);
-    };
-    fs::write(rt, path, &text).map_err(|_| ListenFault::CannotWriteTrace)
+    match bind(rt, listening.port) {
+        Ok(bound) => Ok((file, bound)),
+        Err(_) => {
+            forget(rt, file.as_ref());
+            Err(ListenFault::CannotListen)
+        }
+    }
 }
 
-/// Serves to the end, and tells the port and what was stored. What is wrong, if something is.
-fn serve<
-    R: AllocGlobal
-        + Files
-        + Print
-        + Net<Listener = TcpListener, Stream = TcpStream>
-        + Threads
-        + Wait
-        + Sync,
->(rt: &R, listening: &Listening<'_>) -> io::Result<Result<(), ListenFault>>
-    requires sessions { (1 ≤ listening.now.sessions) × (listening.now.sessions ≤ 256) }
-    requires workers { listening.now.workers ≤ 16 }
-{
-    let Ok(bound) = bind(rt, listening.port) else {
-        return Ok(Err(ListenFault::CannotListen));
+fn forget<R: Files>(rt: &R, file: Option<&TraceFile<'_>>) {
+    if let Some(file) = file {
+        file.forget(rt);
+    }
+}
+
+/// Has the server stop once a line STOP, or the end of standard input or a fault of it, has come.
+pub(crate) fn stop_at_word<
+    R: AllocGlobal + Input + Net<Listener = TcpListener, Stream = TcpStream>,
+>(rt: &R, bound: &Bound) {
+    await_stop(rt);
+    bound.stop(rt);
+}
+
+fn await_stop<R: AllocGlobal + Input>(rt: &R) {
+    let Ok(input) = BufReader::new(rt.alloc(), rt.reader()) else {
+        return;
     };
-    println!(rt; "LISTEN {}", bound.port())?;
-    let Ok(served) = bound.serve(rt, listening.sessions, listening.workers) else {
-        return Ok(Err(ListenFault::NoMemory));
+    for line in input.lines(rt.alloc()) {
+        match line {
+            Ok(text) if text.as_str().trim_end() != "STOP" => {}
+            _ => return,
+        }
+    }
+}
+
+/// Stores the trace, and tells what was stored. The program's status.
+pub(crate) fn close<R: AllocGlobal + Files + Print + Eprint>(
+    rt: &R,
+    file: Option<&TraceFile<'_>>,
+    served: Result<Served, NoMemory>,
+) -> io::Result<ExitCode> {
+    let Ok(served) = served else {
+        forget(rt, file);
+        return tell(rt, ListenFault::NoMemory);
     };
-    let stored = store(rt, listening.trace, &served.trace);
+    let stored = match file {
+        Some(file) => file.store(rt, &served.trace),
+        None => Ok(()),
+    };
     if stored.is_ok() {
         println!(rt; "CLOSED {} {}", served.trace.len(), served.commits)?;
     }
-    if served.accepted_all {
-        Ok(stored)
-    } else {
-        Ok(Err(ListenFault::CannotAccept))
+    match stored {
+        _ if !served.accepted_all => tell(rt, ListenFault::CannotAccept),
+        Ok(()) => Ok(ExitCode::SUCCESS),
+        Err(fault) => tell(rt, fault),
     }
 }
 
-/// Serves sessions at a port, over one store, to their end.
-pub(crate) fn listen<
-    R: AllocGlobal
-        + Files
-        + Print
-        + Eprint
-        + Net<Listener = TcpListener, Stream = TcpStream>
-        + Threads
-        + Wait
-        + Sync,
->(rt: &R, listening: &Listening<'_>) -> io::Result<ExitCode>
-    requires sessions { (1 ≤ listening.now.sessions) × (listening.now.sessions ≤ 256) }
-    requires workers { listening.now.workers ≤ 16 }
-{
-    match serve(rt, listening)? {
-        Ok(()) => Ok(ExitCode::SUCCESS),
-        Err(fault) => {
-            eprintln!(rt; "{fault}")?;
-            Ok(ExitCode::from(fault.status()))
-        }
-    }
+/// Says what is wrong, and answers the program's status.
+pub(crate) fn tell<R: Eprint>(rt: &R, fault: ListenFault) -> io::Result<ExitCode> {
+    eprintln!(rt; "{fault}")?;
+    Ok(ExitCode::from(fault.status()))
 }

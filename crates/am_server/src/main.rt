@@ -1,69 +1,45 @@
-//! The program `amserve`: a store that answers lines.
+//! The program `amserve listen`: many sessions over TCP, on one store.
 #![tactic(auto)]
 
 ghost use Rattle.std.specs.Prelude.{◌≤◌};
 
-mod ending;
 mod listening;
+mod trace_file;
 
-use am_command::{Options, OptionsFault, options};
-use am_session::serve_alone;
-use am_wire::{Reading, Writing};
-use ending::ending;
-use listening::listen;
-use std::borrow::CowStr;
-use std::env::Env;
+use am_command::{Options, OptionsFault, options, words};
+use listening::{close, open, stop_at_word, tell};
 use std::process::ExitCode;
-use std::sync::Wait;
-use std::{env, io};
+use std::{io, thread};
 
-/// Answers standard input on standard output, on a store of its own; after each answer at most `auto` entries are merged.
-fn alone<R: AllocGlobal + Input + Print + Eprint + Wait>(
-    rt: &R,
-    auto: u64,
-) -> anyhow::Result<ExitCode>
-    requires { auto ≤ 64 }
-{
-    let mut source = Reading::new(rt.reader());
-    let mut sink = Writing::new(io::writer(rt));
-    let (status, text) = ending(&serve_alone(rt, rt.alloc(), &mut source, &mut sink, auto));
-    if !text.is_empty() {
-        eprintln!(rt; "{text}")?;
-    }
-    Ok(ExitCode::from(status))
-}
-
-/// The words of the command line, the program's name first.
-fn words<R: AllocGlobal + Env>(rt: &R) -> Result<Vec<String>, OptionsFault> {
-    match env::args(rt) {
-        Ok(args) => Ok(args.collect(rt.alloc())?),
-        Err(error) if error.kind() == io::ErrorKind::OutOfMemory => Err(OptionsFault::no_memory()),
-        Err(_) => Err(OptionsFault {
-            status: 2,
-            text: CowStr::Borrowed("amserve: a word is not UTF-8"),
-        }),
-    }
-}
-
-/// Help goes to standard output, and a fault to standard error.
-fn refuse<R: Print + Eprint>(rt: &R, fault: &OptionsFault) -> anyhow::Result<ExitCode> {
-    let text = fault.text.as_str().trim_end();
-    if fault.status == 0 {
-        println!(rt; "{text}")?;
-    } else {
-        eprintln!(rt; "{text}")?;
-    }
-    Ok(ExitCode::from(fault.status))
-}
-
-fn main(rt: HostRuntime) -> anyhow::Result<ExitCode> {
+fn main(rt: HostRuntime) -> io::Result<ExitCode> {
     let words = match words(&rt) {
         Ok(words) => words,
-        Err(fault) => return refuse(&rt, &fault),
+        Err(fault) => return fault.tell(&rt),
     };
-    match options(rt.alloc(), words.as_slice()) {
-        Ok(Options::Alone { auto }) => alone(&rt, auto),
-        Ok(Options::Listen(listening)) => Ok(listen(&rt, &listening)?),
-        Err(fault) => refuse(&rt, &fault),
-    }
+    let listening = match options(rt.alloc(), words.as_slice()) {
+        Ok(Options::Listen(listening)) => listening,
+        Ok(Options::Alone { .. }) => return OptionsFault::other(
+            "amserve: this program listens",
+        ).tell(&rt),
+        Err(fault) => return fault.tell(&rt),
+    };
+    let (file, bound) = match open(&rt, &listening) {
+        Ok(opened) => opened,
+        Err(fault) => return tell(&rt, fault),
+    };
+    println!(&rt; "LISTEN {}", bound.port())?;
+    let (sessions, workers) = (listening.sessions, listening.workers);
+    let served = if listening.awaits_stop {
+        let ((), served) = thread::join(
+            &rt,
+            || stop_at_word(&rt, &bound),
+            ||
+                requires { (1 ≤ sessions) × (sessions ≤ 256) × (workers ≤ 16) }
+            { bound.serve(&rt, sessions, workers) },
+        );
+        served
+    } else {
+        bound.serve(&rt, sessions, workers)
+    };
+    close(&rt, file.as_ref(), served)
 }

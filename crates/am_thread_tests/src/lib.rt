@@ -1,7 +1,11 @@
-//! Worked examples that take threads: seats of one latch, and clients of a server.
+//! Worked examples that take threads: seats of one latch, the shared words, workers, and clients of a server.
 #![tactic(auto)]
 
 #[cfg(test)]
 mod seats;
 #[cfg(test)]
 mod sockets;
+#[cfg(test)]
+mod words;
+#[cfg(test)]
+mod workers;

@@ -2,8 +2,9 @@
 
 ghost use Rattle.std.specs.Prelude.{◌≡◌};
 
+use am_audit::check;
 use am_latch::{Blank, Latch, Naming, Seat, close, was_refused};
-use am_record::{Key, Op, Step, Value};
+use am_record::{Key, Op, Refusal, Reply, Step, Value};
 use std::alloc::Global;
 use std::marker::Brand;
 use std::process::Abort;
@@ -46,6 +47,7 @@ fn insert_all<L: Naming, R: Wait>(
 
 fn by_two_threads<L: Naming + Send + Sync, R: Threads + Wait + Abort + Sync>(
     rt: &R,
+    alloc: Global,
     blank: Blank,
 ) -> Result<(), Fail>
     requires { (blank.seats ≡ L.seats) × (blank.table ≡ L.table) }
@@ -69,6 +71,7 @@ fn by_two_threads<L: Naming + Send + Sync, R: Threads + Wait + Abort + Sync>(
     };
     assert_eq!(rt; closed.trace.len(), 600);
     assert_eq!(rt; closed.store.commits(), 200);
+    assert!(rt; check(alloc, &closed.trace) == Ok(200));
     for seat in &closed.seats {
         assert_eq!(rt; seat.receipts().len(), 300);
         assert!(rt; seat.last_commit().is_some());
@@ -78,7 +81,7 @@ fn by_two_threads<L: Naming + Send + Sync, R: Threads + Wait + Abort + Sync>(
 
 #[test]
 fn two_seats_on_two_threads(rt: HostRuntime) -> Result<(), Fail> {
-    by_two_threads::<Brand, HostRuntime>(&rt, Blank::new(rt.alloc(), 2)?)
+    by_two_threads::<Brand, HostRuntime>(&rt, rt.alloc(), Blank::new(rt.alloc(), 2)?)
 }
 
 fn without_one<L: Naming, R: Abort>(rt: &R, blank: Blank) -> Result<(), Fail>
@@ -103,4 +106,68 @@ fn without_one<L: Naming, R: Abort>(rt: &R, blank: Blank) -> Result<(), Fail>
 #[test]
 fn a_missing_seat_is_told(rt: HostRuntime) -> Result<(), Fail> {
     without_one::<Brand, HostRuntime>(&rt, Blank::new(rt.alloc(), 2)?)
+}
+
+// How each of the seats is answered that begins a transaction.
+fn begun_by_all<L: Naming, R: Wait + Abort>(
+    rt: &R,
+    alloc: Global,
+    blank: Blank,
+) -> Result<Vec<Reply>, Fail>
+    requires { (blank.seats ≡ L.seats) × (blank.table ≡ L.table) }
+{
+    let (latch, seats) = Latch::<L>::open(blank)?;
+    let mut replies = Vec::new(alloc);
+    for mut seat in seats {
+        if seat.open_tx().is_none() {
+            replies.push(seat.call(rt, &latch, Step::Begin))?;
+        }
+    }
+    Ok(replies)
+}
+
+#[test]
+fn sixty_five_seats_of_one_latch(rt: HostRuntime) -> Result<(), Fail> {
+    let blank = Blank::new(rt.alloc(), 65)?;
+    let replies = begun_by_all::<Brand, HostRuntime>(&rt, rt.alloc(), blank)?;
+    assert_eq!(rt; replies.len(), 65);
+    assert!(rt; replies[0] == Reply::Begun(1));
+    assert!(rt; replies[63] == Reply::Begun(64));
+    assert!(rt; replies[64] == Reply::Refused(Refusal::TooManyTx));
+    Ok(())
+}
+
+// Where no room may be had for so many receipts, as in a seat that holds its most: the transaction that is open still
+// ends.
+fn filled<L: Naming, R: Wait + Abort>(
+    rt: &R,
+    blank: Blank,
+) -> Result<(usize, Reply, Reply), Fail>
+    requires { (blank.seats ≡ L.seats) × (blank.table ≡ L.table) }
+{
+    let (latch, mut seats) = Latch::<L>::open(blank)?;
+    let mut seat = seats.pop().ok_or("no seat")?;
+    if seat.open_tx().is_none() {
+        seat.call(rt, &latch, Step::Begin);
+    }
+    let tx = seat.open_tx().ok_or("no transaction")?;
+    for _ in 0..999_999 {
+        seat.call(rt, &latch, Step::Merge(16));
+    }
+    let full = seat.call(rt, &latch, Step::Merge(16));
+    if seat.open_tx() != Some(tx) {
+        return Err("the transaction is gone")?;
+    }
+    let ended = seat.call(rt, &latch, Step::Commit(tx));
+    Ok((seat.receipts().len(), full, ended))
+}
+
+#[test]
+fn a_full_seat_still_commits(rt: HostRuntime) -> Result<(), Fail> {
+    let (receipts, full, ended) =
+        filled::<Brand, HostRuntime>(&rt, Blank::new(rt.alloc(), 1)?)?;
+    assert!(rt; full == Reply::Refused(Refusal::SeatFull));
+    assert!(rt; ended == Reply::Committed(1));
+    assert_eq!(rt; receipts, 1_000_001);
+    Ok(())
 }

@@ -8,6 +8,3 @@ mod rule;
 mod words;
 
 pub use words::{WordSeat, Words, WordsFault};
-
-#[cfg(test)]
-mod tests;

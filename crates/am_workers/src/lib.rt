@@ -11,6 +11,3 @@ mod workers;
 
 pub use gate::Gate;
 pub use workers::{Worked, run_workers};
-
-#[cfg(test)]
-mod tests;

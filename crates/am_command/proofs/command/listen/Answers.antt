@@ -14,5 +14,7 @@ returns c =
     with_port c.option-sessions.ensures c.number-2.ensures c.in_ok-arg-2.ensures in
     let with_workers = number_added c.in_ok-arg-2.field-0 c.in_ok-arg-3.field-0 c.option-workers.result c.number-3.result _ _ workers
     with_sessions c.option-workers.ensures c.number-3.ensures c.in_ok-arg-3.ensures in
-    IfOk-weaker c.arg-4.result _ _
-    (λ command adds. arg_added c.in_ok-arg-3.field-0 command c.option-trace.result _ _ with_workers c.option-trace.ensures adds) c.arg-4.ensures
+    let with_trace = arg_added c.in_ok-arg-3.field-0 c.in_ok-arg-4.field-0 c.option-trace.result _ _
+    with_workers c.option-trace.ensures c.in_ok-arg-4.ensures in
+    IfOk-weaker c.arg-5.result _ _
+    (λ command adds. arg_added c.in_ok-arg-4.field-0 command c.flag-stop.result _ _ with_trace c.flag-stop.ensures adds) c.arg-5.ensures

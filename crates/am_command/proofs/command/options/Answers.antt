@@ -7,7 +7,7 @@ returns-in-Some-clause-accepted g c =
 
 pub returns-in-Ok-clause-refused : goal.returns-in-Ok-clause-refused
 returns-in-Ok-clause-refused g c =
-    refused_as_nothing _ c.in-Ok.matches _ c.no_options.result c.in_ok-amserve.ensures c.in-Ok.ensures.matches c.in-None.ensures c.no_options.ensures
+    refused_as_nothing _ c.in-Ok.matches _ c.no_options.result c.in_ok-amserve.ensures c.in-Ok.ensures.matches c.in-Ok.ensures.kinds c.in-None.ensures c.no_options.ensures
 
 pub returns-clause-refused : goal.returns-clause-refused
 returns-clause-refused g c =

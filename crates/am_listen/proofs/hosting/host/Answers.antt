@@ -1,46 +1,39 @@
 use Rattle.std.proofs.Common.{◌≡◌, ◌∙◌, sym, subst, arith, All, None, List}
 use Rattle.std.proofs.Crossing.{Vec-send}
-use Rattle.std.proofs.alloc.Global.TheSendSync as heap
-use Rattle.std.proofs.sync.Mutex.TheSendSync as mutex
-use mir.Syntax.{named}
 use denote.Exit.{no}
 use denote.Param.{param}
 use denote.Param.Send.{arg_send, param_send, shr_send, sendable}
-use Rattle.am_seating.proofs.Crosses.{place_send}
+use Rattle.am_latch.proofs.Crosses.{latch_sync}
+use Rattle.am_latch.proofs.seat.Seat.TheSendSync as seat
+use Rattle.am_latch.specs.contracts.latch.Latch as Latch
 use Rattle.am_latch.specs.Receipts.{Seated}
 use Rattle.am_latch.specs.Ties.{open_of}
 use Rattle.am_listen.proofs.Sitting.{all_idle, all_back, count_back, all_there}
-use Rattle.std.specs.contracts.alloc.Global as Global
 use Rattle.am_listen.specs.contracts.turnstile.Turnstile as Turnstile
 use Rattle.am_listen.proofs.Crosses.{captures_send}
-use Rattle.am_listen.proofs.door.Door.TheSendSync as door
 use Rattle.am_listen.proofs.turnstile.Turnstile.TheSendSync as turnstile
 use Rattle.am_listen.proofs.hosting.host.Goals as goal
 
-pub join-places-requires-send-F : goal.join-places-requires-send-F
-join-places-requires-send-F g c κs within = param_send _ _ (arg_send _ no _ (captures_send _ _ _ _ _ _
-    (shr_send _ _ (param 1 g.row.R) (search (c.type_bounds, sendable) depth 10)) (shr_send _ _ Global.the_row heap.the_sync)
-    (shr_send _ _ _ (mutex.the_sync _ (door.the_send _))) (shr_send _ _ Turnstile.the_row turnstile.the_sync)
-    (Vec-send _ (place_send record { mir = named 4; lft = κs.1.1.1.1.0 } (param 0 g.row.L) g.L.Naming))))
-
-pub join-places-requires-send-A : goal.join-places-requires-send-A
-join-places-requires-send-A g c κs within = param_send _ _ (arg_send _ no _ (Vec-send _ (place_send record { mir = named 4; lft = κs.1.1.1.1.0 } (param 0 g.row.L) g.L.Naming)))
+pub join-worked-requires-send-F : goal.join-worked-requires-send-F
+join-worked-requires-send-F g c κs within = param_send _ _ (arg_send _ no _ (captures_send _ _ _ _ _
+    (shr_send _ _ (param 1 g.row.R) (search (c.type_bounds, sendable) depth 10)) (shr_send _ _ (Latch.the_row (param 0 g.row.L) g.L.Naming) (latch_sync (param 0 g.row.L) g.L.Naming))
+    (Vec-send _ (seat.the_send (param 0 g.row.L) g.L.Naming)) (shr_send _ _ Turnstile.the_row turnstile.the_sync)))
 
 pub seat_all-requires-clause-idle : goal.seat_all-requires-clause-idle
 seat_all-requires-clause-idle g c = subst (λ (xs : List Seated). All (λ (s : Seated). open_of s.receipts ≡ None) xs) (sym c.in-Ok.ensures.seats) (all_idle g.L.Naming.seats)
 
 pub take_seats-requires : goal.take_seats-requires
 take_seats-requires g c =
-    let back = all_back 16 1000000 c.in_ok-places.places.items c.join-places.result.0.items c.in_ok-places.working.items c.join-places.result.1.seats.items c.in-Ok.seats.items
-    c.join-places.ensures.first c.join-places.ensures.second c.in_ok-places.ensures.seats in
-    let all = count_back c.join-places.result.0.items c.join-places.result.1.seats.items c.in-Ok.seats.items back in
+    let back = all_back 16 1000000 c.in_ok-places.places.items c.join-worked.result.1.items c.in_ok-places.working.items c.join-worked.result.0.seats.items c.in-Ok.seats.items
+    c.join-worked.ensures.second c.join-worked.ensures.first c.in_ok-places.ensures.seats in
+    let all = count_back c.join-worked.result.1.items c.join-worked.result.0.seats.items c.in-Ok.seats.items back in
     omega (arith, all, c.new-all.ensures.len, c.reserve.ensures.len, c.in_ok-reserve.ensures.ok, c.len.ensures)
 
 pub unreachable-requires : goal.unreachable-requires
 unreachable-requires g c =
-    let back = all_back 16 1000000 c.in_ok-places.places.items c.join-places.result.0.items c.in_ok-places.working.items c.join-places.result.1.seats.items c.in-Ok.seats.items
-    c.join-places.ensures.first c.join-places.ensures.second c.in_ok-places.ensures.seats in
-    let all = count_back c.join-places.result.0.items c.join-places.result.1.seats.items c.in-Ok.seats.items back in
+    let back = all_back 16 1000000 c.in_ok-places.places.items c.join-worked.result.1.items c.in_ok-places.working.items c.join-worked.result.0.seats.items c.in-Ok.seats.items
+    c.join-worked.ensures.second c.join-worked.ensures.first c.in_ok-places.ensures.seats in
+    let all = count_back c.join-worked.result.1.items c.join-worked.result.0.seats.items c.in-Ok.seats.items back in
     omega (
       arith,
       all,
@@ -51,13 +44,13 @@ unreachable-requires g c =
       c.take_seats.ensures.len,
       c.take_seats.ensures.capacity,
       c.in_default-append.ensures.full,
-      c.join-places.result.1.seats.ok,
+      c.join-worked.result.0.seats.ok,
     )
 
 pub unreachable-requires-in_default-close : goal.unreachable-requires-in_default-close
 unreachable-requires-in_default-close g c =
-    let back = all_back 16 1000000 c.in_ok-places.places.items c.join-places.result.0.items c.in_ok-places.working.items c.join-places.result.1.seats.items c.in-Ok.seats.items
-    c.join-places.ensures.first c.join-places.ensures.second c.in_ok-places.ensures.seats in
+    let back = all_back 16 1000000 c.in_ok-places.places.items c.join-worked.result.1.items c.in_ok-places.working.items c.join-worked.result.0.seats.items c.in-Ok.seats.items
+    c.join-worked.ensures.second c.join-worked.ensures.first c.in_ok-places.ensures.seats in
     c.in_default-close.ensures.all
-    (all_there g.L.Naming.seats c.append.new.self.items c.take_seats.new.all.items c.reserve.new.self.items c.join-places.result.1.seats.items c.in-Ok.seats.items
-    c.join-places.result.0.items c.in-Ok-append.ensures.items c.take_seats.ensures.seats (c.reserve.ensures.items ∙ c.new-all.ensures.items) back c.in-Ok.ensures.seats)
+    (all_there g.L.Naming.seats c.append.new.self.items c.take_seats.new.all.items c.reserve.new.self.items c.join-worked.result.0.seats.items c.in-Ok.seats.items
+    c.join-worked.result.1.items c.in-Ok-append.ensures.items c.take_seats.ensures.seats (c.reserve.ensures.items ∙ c.new-all.ensures.items) back c.in-Ok.ensures.seats)

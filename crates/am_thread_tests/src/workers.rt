@@ -1,8 +1,10 @@
+//! Workers that merge on the seats of a latch.
+
 ghost use Rattle.std.specs.Prelude.{◌≡◌};
 
-use crate::{Gate, run_workers};
 use am_latch::{Blank, Latch, Naming, Seat, close};
-use am_record::{Key, Op, Pairs, Range, Reply, Step, Value};
+use am_record::{Key, Lock, Mode, Op, Pairs, Range, Refusal, Reply, Step, Value};
+use am_workers::{Gate, run_workers};
 use std::alloc::Global;
 use std::marker::Brand;
 use std::process::Abort;
@@ -169,4 +171,109 @@ fn by_one_worker<L: Naming + Send + Sync, R: Threads + Wait + Abort + Sync>(
 #[test]
 fn moves_come_back(rt: HostRuntime) -> Result<(), Fail> {
     by_one_worker::<Brand, HostRuntime>(&rt, rt.alloc(), Blank::new(rt.alloc(), 2)?)
+}
+
+// Turns of a worker on a store with nothing to merge, by this limit. What it was answered.
+fn answers_of_one_worker<L: Naming + Send + Sync, R: Threads + Wait + Abort + Sync>(
+    rt: &R,
+    alloc: Global,
+    blank: Blank,
+    turns: u64,
+    limit: u64,
+) -> Result<Vec<Reply>, Fail>
+    requires { (blank.seats ≡ L.seats) × (blank.table ≡ L.table) }
+{
+    let (latch, seats) = Latch::<L>::open(blank)?;
+    let mut worked = run_workers(rt, &latch, seats, turns, limit, &Always);
+    assert_eq!(rt; worked.moved, 0);
+    let worker = worked.seats.pop().ok_or("no seat")?;
+    let mut answers = Vec::new(alloc);
+    for receipt in worker.receipts() {
+        answers.push(receipt.reply.copy(alloc)?)?;
+    }
+    Ok(answers)
+}
+
+// A limit out of bounds is refused at each turn, and the turns go on.
+#[test]
+fn a_limit_of_65(rt: HostRuntime) -> Result<(), Fail> {
+    let blank = Blank::new(rt.alloc(), 1)?;
+    let answers = answers_of_one_worker::<Brand, HostRuntime>(&rt, rt.alloc(), blank, 3, 65)?;
+    assert_eq!(rt; answers.len(), 3);
+    for answer in &answers {
+        assert!(rt; *answer == Reply::Refused(Refusal::BadLimit), "{answer:?}");
+    }
+    Ok(())
+}
+
+// A worker that finds nothing to merge goes on, and ends where its seat is full.
+#[test]
+fn a_full_seat_ends_a_worker(rt: HostRuntime) -> Result<(), Fail> {
+    let blank = Blank::new(rt.alloc(), 1)?;
+    let answers =
+        answers_of_one_worker::<Brand, HostRuntime>(&rt, rt.alloc(), blank, 1_000_002, 16)?;
+    assert_eq!(rt; answers.len(), 1_000_000);
+    assert!(rt; answers.last() == Some(&Reply::Idle));
+    Ok(())
+}
+
+// How many turns so many seats have had in all, where each is to have two.
+fn turns_of<L: Naming + Send + Sync, R: Threads + Wait + Abort + Sync>(
+    rt: &R,
+    blank: Blank,
+) -> Result<u64, Fail>
+    requires { (blank.seats ≡ L.seats) × (blank.table ≡ L.table) }
+{
+    let (latch, seats) = Latch::<L>::open(blank)?;
+    let worked = run_workers(rt, &latch, seats, 2, 16, &Always);
+    let mut turns = 0_u64;
+    for seat in &worked.seats {
+        turns = turns.saturating_add(seat.receipts().len() as u64);
+    }
+    Ok(turns)
+}
+
+#[test]
+fn all_seats_have_their_turns(rt: HostRuntime) -> Result<(), Fail> {
+    for seats in [17, 1_024] {
+        let blank = Blank::new(rt.alloc(), seats)?;
+        assert_eq!(rt; turns_of::<Brand, HostRuntime>(&rt, blank)?, 2 * seats);
+    }
+    Ok(())
+}
+
+// A locked record ends a merge, and the worker goes on behind that.
+fn behind_a_locked_record<L: Naming + Send + Sync, R: Threads + Wait + Abort + Sync>(
+    rt: &R,
+    alloc: Global,
+    blank: Blank,
+) -> Result<u64, Fail>
+    requires { (blank.seats ≡ L.seats) × (blank.table ≡ L.table) }
+{
+    let (latch, mut seats) = Latch::<L>::open(blank)?;
+    let worker = seats.pop().ok_or("no seat")?;
+    let mut reader = seats.pop().ok_or("no seat")?;
+    load_three(rt, alloc, &latch, &mut reader)?;
+    scan_three(rt, &latch, &mut reader)?;
+    begin(rt, &latch, &mut reader);
+    let range = Range::new(Key::of_u64(2), Key::of_u64(2)).ok_or("no range")?;
+    let mode = Mode::Exclusive;
+    answer_of(rt, &latch, &mut reader, Op::Lock(Lock { mode, range }));
+    let mut worked = run_workers(rt, &latch, vec![in alloc; worker]?, 5, 16, &Always);
+    let worker = worked.seats.pop().ok_or("no seat")?;
+    assert_eq!(rt; worker.receipts().len(), 5);
+    let met = worker
+        .receipts()
+        .iter()
+        .any(|receipt| matches!(receipt.reply, Reply::Ended(_, _)));
+    assert!(rt; met);
+    Ok(worked.moved)
+}
+
+#[test]
+fn workers_go_on_behind_a_lock(rt: HostRuntime) -> Result<(), Fail> {
+    let blank = Blank::new(rt.alloc(), 2)?;
+    let moved = behind_a_locked_record::<Brand, HostRuntime>(&rt, rt.alloc(), blank)?;
+    assert_eq!(rt; moved, 1);
+    Ok(())
 }

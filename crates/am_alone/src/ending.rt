@@ -1,7 +1,7 @@
 //! How the program ends.
 
 ghost use Rattle.std.specs.Prelude.{◌≡◌};
-ghost use Rattle.am_server.specs.Endings.{status_of, words_of};
+ghost use Rattle.am_alone.specs.Endings.{status_of, words_of};
 
 use am_session::End;
 

@@ -1,9 +1,11 @@
+//! The two shared words.
+
 ghost use Rattle.std.specs.Prelude.{◌≡◌};
 ghost use Rattle.am_words.specs.Words.{newcomer};
 
-use crate::{WordSeat, Words};
 use am_latch::{Blank, Latch, Naming, Seat, was_refused};
 use am_record::Step;
+use am_words::{WordSeat, Words};
 use std::marker::Brand;
 use std::process::Abort;
 use std::sync::Wait;

@@ -1,0 +1,49 @@
+//! The program `amserve alone`: one session over standard input and output, on a store of its own.
+#![tactic(auto)]
+
+ghost use Rattle.std.specs.Prelude.{◌≤◌};
+
+mod ending;
+
+use am_command::{Options, OptionsFault, options, words};
+use am_session::serve_alone;
+use am_wire::{Reading, Writing};
+use ending::ending;
+use std::env::Env;
+use std::io;
+use std::io::BufWriter;
+use std::process::ExitCode;
+use std::sync::Wait;
+
+/// Answers standard input on standard output; after each answer at most `auto` entries are merged.
+fn alone<R: AllocGlobal + Input + Print + Eprint + Wait>(rt: &R, auto: u64) -> io::Result<ExitCode>
+    requires { auto ≤ 64 }
+{
+    // Pieces of one answer, as the rows of a scan, go out together.
+    let Ok(writer) = BufWriter::new(rt.alloc(), io::writer(rt)) else {
+        return OptionsFault::no_memory().tell(rt);
+    };
+    let mut source = Reading::new(rt.reader());
+    let mut sink = Writing::new(writer);
+    let (status, text) = ending(&serve_alone(rt, rt.alloc(), &mut source, &mut sink, auto));
+    if !text.is_empty() {
+        eprintln!(rt; "{text}")?;
+    }
+    Ok(ExitCode::from(status))
+}
+
+fn selected<R: AllocGlobal + Input + Print + Eprint + Env + Wait>(rt: &R) -> io::Result<ExitCode> {
+    let words = match words(rt) {
+        Ok(words) => words,
+        Err(fault) => return fault.tell(rt),
+    };
+    match options(rt.alloc(), words.as_slice()) {
+        Ok(Options::Alone { auto }) => alone(rt, auto),
+        Ok(Options::Listen(_)) => OptionsFault::other("amserve: this program serves alone").tell(rt),
+        Err(fault) => fault.tell(rt),
+    }
+}
+
+fn main(rt: HostRuntime) -> io::Result<ExitCode> {
+    selected(&rt)
+}
