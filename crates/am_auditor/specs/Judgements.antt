@@ -3,7 +3,7 @@ use Rattle.std.specs.Prelude.{◌≡◌, ℕ, List, ◌++◌, codes, decimal, le
 use Rattle.am_serial.specs.Trace.{Trace, effects, committers}
 use Rattle.am_wire.specs.Giving.{Gave}
 use Rattle.am_trace.specs.Lines.{IsTextOf, IsBadLine}
-use Rattle.am_audit.specs.Legal.{IsLegal}
+use Rattle.am_serial.specs.Legal.{IsLegal}
 use Rattle.am_audit.specs.Faults.{IsFirstFault}
 use Rattle.am_audit.specs.declared.fault.Kind.{Kind}
 use Rattle.am_audit.specs.declared.fault.Kind.TheVariants.{Form, Busy, Answer}
