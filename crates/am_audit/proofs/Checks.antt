@@ -5,7 +5,7 @@ use Rattle.am_serial.specs.Trace.{Trace, Event}
 use Rattle.am_serial.specs.Formed.{IsFormed, FormedLaws}
 use Rattle.am_audit.specs.declared.flaw.Flaw.{Flaw}
 use Rattle.am_audit.specs.declared.pass.Pass.{Pass}
-use Rattle.am_audit.specs.Legal.{IsLegal}
+use Rattle.am_serial.specs.Legal.{IsLegal}
 use Rattle.am_audit.specs.Faults.{IsTrueFault}
 use Rattle.am_audit.specs.Standing.{Stands, Takes, IsFlaw, IsFront, fault_of}
 use Rattle.am_audit.proofs.Lifts.{goes_on, is_first}

@@ -16,7 +16,7 @@ use Rattle.am_serial.specs.Sound.{FormedAt, BusyRightAt}
 use Rattle.am_serial.specs.Formed.{IsFormed, IsNextInOrder, FormedLaws}
 use Rattle.am_audit.specs.declared.fault.Kind.{Kind}
 use Rattle.am_audit.specs.declared.fault.Kind.TheVariants.{Form, Busy, Answer}
-use Rattle.am_audit.specs.Legal.{IsLegal}
+use Rattle.am_serial.specs.Legal.{IsLegal}
 use Rattle.am_audit.specs.Faults.{IsFirstWrongAnswer, IsFault, IsFirstFault}
 use Rattle.am_audit.proofs.Moments.{event_at, moment_after, last_moment}
 

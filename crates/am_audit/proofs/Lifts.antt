@@ -11,7 +11,7 @@ use Rattle.am_serial.specs.Sound.{FormedAt, BusyRightAt}
 use Rattle.am_serial.specs.Formed.{IsFormed, IsNextInOrder, FormedLaws}
 use Rattle.am_audit.specs.declared.flaw.Flaw.{Flaw}
 use Rattle.am_audit.specs.declared.flaw.Flaw.TheVariants.{Form, Busy, Answer, NoMemory}
-use Rattle.am_audit.specs.Legal.{IsLegal}
+use Rattle.am_serial.specs.Legal.{IsLegal}
 use Rattle.am_audit.specs.Faults.{EarlyRightAt, IsMisformed, IsWronglyBusy, IsFirstWrongAnswer, CommitsWrongly, IsTrueFault}
 use Rattle.am_audit.specs.Standing.{FormedIn, EarlyIn, BusyIn, NextIn, IsRightIn, IsMisformedIn, IsWronglyBusyIn, CommitsWronglyIn, IsFlaw, fault_of}
 use Rattle.am_audit.proofs.Moments.{one_more_event, one_more_moment, last_moment}

@@ -11,7 +11,7 @@ use Rattle.am_record.specs.declared.step.Reply.TheVariants.{Refused}
 use Rattle.am_serial.specs.Trace.{Trace, Event, Effect, Answers, Commits, effect, effects, body, ops_of, committed, IsAnsweredAlone}
 use Rattle.am_serial.specs.Machine.{state_at, due_early}
 use Rattle.am_serial.specs.Sound.{FormedAt, BusyRightAt}
-use Rattle.am_audit.specs.Legal.{IsLegal}
+use Rattle.am_serial.specs.Legal.{IsLegal}
 use Rattle.am_audit.specs.declared.fault.Kind.{Kind}
 use Rattle.am_audit.specs.declared.fault.Kind.TheVariants.{Form, Busy, Answer}
 use Rattle.am_audit.specs.declared.fault.Fault.{Fault}

@@ -1,3 +1,2 @@
-pub mod Legal
 pub mod Faults
 pub mod Standing

@@ -2,7 +2,7 @@
 
 ghost use Rattle.std.specs.Prelude.{◌≡◌, ◌+◌, ◌<◌, ◌^◌, length, IfOk, IfErr};
 ghost use Rattle.am_serial.specs.Trace.{effects, committers};
-ghost use Rattle.am_audit.specs.Legal.{IsLegal};
+ghost use Rattle.am_serial.specs.Legal.{IsLegal};
 ghost use Rattle.am_audit.specs.Faults.{IsTrueFault};
 ghost use Rattle.am_audit.specs.Standing.{fault_of, told_place};
 

@@ -2,7 +2,7 @@
 
 ghost use Rattle.std.specs.Prelude.{◌≡◌, ℕ};
 ghost use Rattle.am_serial.specs.Trace.{Trace};
-ghost use Rattle.am_audit.specs.Legal.{IsLegal};
+ghost use Rattle.am_serial.specs.Legal.{IsLegal};
 ghost use Rattle.am_audit.specs.Faults.{IsFirstFault};
 ghost use Rattle.am_audit.specs.declared.fault.Kind.{Kind};
 

@@ -1,9 +1,9 @@
 -- What is said of a text: of the trace that it is the text of, or that it is none.
 use Rattle.std.specs.Prelude.{◌≡◌, ℕ, List, ◌++◌, codes, decimal, length, Option}
 use Rattle.am_serial.specs.Trace.{Trace, effects, committers}
-use Rattle.am_wire.specs.Giving.{Gave}
+use Rattle.am_wire.specs.Giving.{Gave, GaveBeginning}
 use Rattle.am_trace.specs.Lines.{IsTextOf, IsBadLine}
-use Rattle.am_audit.specs.Legal.{IsLegal}
+use Rattle.am_serial.specs.Legal.{IsLegal}
 use Rattle.am_audit.specs.Faults.{IsFirstFault}
 use Rattle.am_audit.specs.declared.fault.Kind.{Kind}
 use Rattle.am_audit.specs.declared.fault.Kind.TheVariants.{Form, Busy, Answer}
@@ -43,3 +43,9 @@ pub record IsSaid {S : Type 0} (holds : S → Option (List ℕ)) (text : List �
   pub true_of : IsTrueOf text judgement
   pub said : Gave holds old (line_of judgement) new
   pub status_is : status ≡ status_of judgement
+
+-- a beginning of the line that says a true judgement of the text went out
+pub record IsBegun {S : Type 0} (holds : S → Option (List ℕ)) (text : List ℕ) (old new : S) : Type 0 where
+  pub judgement : Judgement
+  pub true_of : IsTrueOf text judgement
+  pub begun : GaveBeginning holds old (line_of judgement) new

@@ -1,8 +1,8 @@
 //! What is said of a text.
 
 ghost use Rattle.std.specs.Prelude.{◌≡◌, ◌^◌, ◌<◌, ◌≤◌, ◌+◌, length, true, false, OnOk, OnErr, IfOk};
-ghost use Rattle.am_wire.specs.Giving.{Gave};
-ghost use Rattle.am_auditor.specs.Judgements.{IsTrueOf, IsSaid, line_of, status_of};
+ghost use Rattle.am_wire.specs.Giving.{Gave, GaveBeginning};
+ghost use Rattle.am_auditor.specs.Judgements.{IsTrueOf, IsSaid, IsBegun, line_of, status_of};
 
 use am_audit::{Fault, Kind, check};
 use am_trace::{TraceFault, read_trace};
@@ -73,12 +73,18 @@ fn status(judgement: &Judgement) -> u8
     }
 }
 
-/// Writes the line that says it, and answers the program's status. At a failure a beginning of the line went out.
+/// Writes the line that says it, and answers the program's status.
+///
+/// # Errors
+/// Failed, where the sink failed once; a beginning of the line went out.
 pub fn say<K: Sink>(judgement: &Judgement, sink: &mut K) -> Result<u8, Failed>
     requires countable { K.failures sink.old + 1 < 2 ^ 63 }
     ensures status { IfOk result (λ status. status ≡ status_of judgement.now) }
     ensures said { OnOk result (Gave K.holds sink.old (line_of judgement.now) sink.new) }
     ensures sent { OnOk result (K.pending sink.new ≡ false) }
+    ensures ok { OnOk result (K.failures sink.new ≡ K.failures sink.old) }
+    ensures failed { OnErr result (K.failures sink.new ≡ K.failures sink.old + 1) }
+    ensures torn { OnErr result (GaveBeginning K.holds sink.old (line_of judgement.now) sink.new) }
 {
     give_all(sink, line(judgement).as_slice())?;
     sink.flush()?;
@@ -88,11 +94,14 @@ pub fn say<K: Sink>(judgement: &Judgement, sink: &mut K) -> Result<u8, Failed>
 /// Judges a text, writes the line that says how, and answers the program's status.
 ///
 /// # Errors
-/// Failed, where the line can't be written; a beginning of it went out.
+/// Failed, where the sink failed once; a beginning of the line went out.
 pub fn judge<K: Sink>(alloc: Global, text: &[u8], sink: &mut K) -> Result<u8, Failed>
     requires countable { K.failures sink.old + 1 < 2 ^ 63 }
     ensures judged { IfOk result (IsSaid K.holds text.now sink.old sink.new) }
     ensures sent { OnOk result (K.pending sink.new ≡ false) }
+    ensures ok { OnOk result (K.failures sink.new ≡ K.failures sink.old) }
+    ensures failed { OnErr result (K.failures sink.new ≡ K.failures sink.old + 1) }
+    ensures torn { OnErr result (IsBegun K.holds text.now sink.old sink.new) }
 {
     say(&judge_text(alloc, text), sink)
 }

@@ -31,7 +31,7 @@ use Rattle.am_effect.specs.Store.{changed, noted, notes_left, marks_left, wished
 use Rattle.am_follow.specs.At.{told}
 use Rattle.am_steps.specs.Parts.{Parts, is_in, in_table, MaySay, due_in, takes_memory, after_do, did, backed, blocker_in}
 use Rattle.am_core.specs.Keeping.{parts_kept, actives}
-use Rattle.am_core.specs.Memory.{adds_ninth_lock, adds_fifth_note, may_want_room}
+use Rattle.am_core.specs.Memory.{adds_ninth_lock, adds_fifth_note, adds_third_mark, may_want_room}
 use Rattle.am_core.specs.Asking.{due_first, due_lock, IsLockRefusal, HasLocks, IsGranted, wish_of}
 use Rattle.am_core.specs.Doing.{MayWantRoom, Works, IsIdle}
 use Rattle.am_core.proofs.Actives.{is_in-actives, ops-actives, notes-actives, marks-actives, locks-actives, actives-did, actives-undid}
@@ -99,7 +99,7 @@ module _ (parts : Partitions) (t : Txs) (wishes : List Interval) (commits tx : �
   by_lock (Delete k) e = or_left (adds_ninth_lock (in_table (actives t) tx).locks (lock_of (Delete k))) (adds_fifth_note (in_table (actives t) tx).notes) e
   by_lock (Load pairs) e = refl
   by_lock (Lock lock) e = e
-  by_lock Mark e = refl
+  by_lock Mark e = cc
   by_lock Back e = cc
 
   pub wants_lock : (why : Refusal) → None ≡ due_first (is_active t.active tx) (ops_of t.active tx) parts.runs op → IsLockRefusal t tx (lock_of op) why → Refused why ≡ Refused NoMemory
@@ -125,23 +125,24 @@ module _ (parts : Partitions) (t : Txs) (wishes : List Interval) (commits tx : �
   five : (log : Log) → log.notes ≡ (in_table (actives t) tx).notes → 4 ≤ length log.notes → adds_fifth_note (in_table (actives t) tx).notes ≡ true
   five log e h = ap adds_fifth_note (sym e) ∙ le-leb 4 (length log.notes) h
 
-  by_room : (op : Op) (log : Log) → log.notes ≡ (in_table (actives t) tx).notes → MayWantRoom op parts.entries log → may_want_room (parts_kept parts t wishes commits) (in_table (actives t) tx) op ≡ true
-  by_room (Get k) log e w = absurd w
-  by_room (Scan range max) log e w = refl
-  by_room (Insert k v) log e w = by_slot (is_some (find parts.entries 0 k)) refl
+  by_room : (op : Op) (log : Log) → log.notes ≡ (in_table (actives t) tx).notes → log.marks ≡ (in_table (actives t) tx).marks → MayWantRoom op parts.entries log → may_want_room (parts_kept parts t wishes commits) (in_table (actives t) tx) op ≡ true
+  by_room (Get k) log e m w = absurd w
+  by_room (Scan range max) log e m w = refl
+  by_room (Insert k v) log e m w = by_slot (is_some (find parts.entries 0 k)) refl
     where
       by_slot : (b : Bool) → is_some (find parts.entries 0 k) ≡ b → (not b || (adds_ninth_lock (in_table (actives t) tx).locks (lock_of (Insert k v)) || adds_fifth_note (in_table (actives t) tx).notes)) ≡ true
       by_slot true s = or_right (adds_ninth_lock (in_table (actives t) tx).locks (lock_of (Insert k v))) (adds_fifth_note (in_table (actives t) tx).notes) (five log e (w s))
       by_slot false s = refl
-  by_room (Replace k v) log e w = or_right (adds_ninth_lock (in_table (actives t) tx).locks (lock_of (Replace k v))) (adds_fifth_note (in_table (actives t) tx).notes) (five log e w)
-  by_room (Delete k) log e w = or_right (adds_ninth_lock (in_table (actives t) tx).locks (lock_of (Delete k))) (adds_fifth_note (in_table (actives t) tx).notes) (five log e w)
-  by_room (Load pairs) log e w = refl
-  by_room (Lock lock) log e w = absurd w
-  by_room Mark log e w = refl
-  by_room Back log e w = absurd w
+  by_room (Replace k v) log e m w = or_right (adds_ninth_lock (in_table (actives t) tx).locks (lock_of (Replace k v))) (adds_fifth_note (in_table (actives t) tx).notes) (five log e w)
+  by_room (Delete k) log e m w = or_right (adds_ninth_lock (in_table (actives t) tx).locks (lock_of (Delete k))) (adds_fifth_note (in_table (actives t) tx).notes) (five log e w)
+  by_room (Load pairs) log e m w = refl
+  by_room (Lock lock) log e m w = absurd w
+  by_room Mark log e m w = ap adds_third_mark (sym m) ∙ le-leb 2 (length log.marks) w
+  by_room Back log e m w = absurd w
 
   pub wants_room : (log : Log) → log ≡ log_of t.active tx → MayWantRoom op parts.entries log → may_want_room (parts_kept parts t wishes commits) (in_table (actives t) tx) op ≡ true
-  wants_room log e w = by_room op log (ap (λ (l : Log). l.notes) e ∙ sym (notes-actives (locks_of t.locks) t.active tx)) w
+  wants_room log e w =
+      by_room op log (ap (λ (l : Log). l.notes) e ∙ sym (notes-actives (locks_of t.locks) t.active tx)) (ap (λ (l : Log). l.marks) e ∙ sym (marks-actives (locks_of t.locks) t.active tx)) w
 
   pub idle : (t1 t2 t3 : Txs) (parts' : Partitions) (held : ℕ) → IsConsistent t → HasLocks t tx (with_asked (locks_of t.locks tx) (lock_of op)) t1 → IsIdle parts t1 tx parts' t2
       → held ≡ length (locks_of t.locks tx) → t3 ≡ record t2 { locks = with_locks t2.locks tx (take held (locks_of t2.locks tx)) } → parts_kept parts' t3 wishes commits ≡ parts_kept parts t wishes commits

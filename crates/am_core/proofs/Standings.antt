@@ -8,9 +8,9 @@ use Rattle.am_record.specs.declared.step.Reply.{Reply}
 use Rattle.am_record.specs.declared.step.Reply.TheVariants.{Refused}
 use Rattle.am_serial.specs.Trace.{Trace}
 use Rattle.am_sound.specs.Right.{IsSoundStore}
-use Rattle.am_steps.specs.Parts.{Parts, MaySay, after}
+use Rattle.am_steps.specs.Parts.{Parts, MaySay, after, empty_parts}
 use Rattle.am_steps.specs.At.{At, events}
-use Rattle.am_core.specs.Standing.{StandsAt, GoesOn, IsWithin, HasRun}
+use Rattle.am_core.specs.Standing.{StandsAt, GoesOn, IsWithin, IsOwed, TakesEach, HasRun}
 use Rattle.am_core.proofs.Reaching.{refused_stays, within_do, within_merge}
 
 abbrev pub Lifts : Type 0
@@ -51,16 +51,26 @@ events-push [] (r ∷ replies) step reply h = absurd (omega arith)
 events-push (s ∷ steps) [] step reply h = absurd (omega arith)
 events-push (s ∷ steps) (r ∷ replies) step reply h = let h' : length steps ≡ length replies = omega arith in ap (λ (es : Trace). (s, r) ∷ es) (events-push steps replies step reply h')
 
+pub stands_opened : (p : Parts) → At [] empty_parts → Sounds → p ≡ empty_parts → StandsAt [] p
+stands_opened p at sound is = let here : At [] p = subst (λ (q : Parts). At [] q) (sym is) at in record { at = here; sound = sound [] p here }
+
+-- ---- what each step owes
+
+pub takes_one_more : (p q r : Parts) (more : Trace) (step : Step) (reply : Reply) → TakesEach p more q → IsOwed q step reply r → TakesEach p (more ++ (step, reply) ∷ []) r
+takes_one_more p q r [] step reply is owed = (r, subst (λ (x : Parts). IsOwed x step reply r) is owed, refl)
+takes_one_more p q r (e ∷ more) step reply has owed = (has.0, has.1, takes_one_more has.0 q r more step reply has.2 owed)
+
 -- ---- a run
 
 pub run_starts : (p : Parts) (before after : List Reply) → Sounds → after ≡ before → HasRun p [] before p after
-run_starts p before after sound e = record { replies = []; appended = e ∙ sym (append-nil before); each = refl; goes = goes_nowhere p sound }
+run_starts p before after sound e = record { replies = []; appended = e ∙ sym (append-nil before); each = refl; takes = refl; goes = goes_nowhere p sound }
 
-pub run_goes_on : (p q r : Parts) (steps : List Step) (before after after' : List Reply) (step : Step) (reply : Reply) → HasRun p steps before q after → GoesOn q ((step, reply) ∷ []) r
+pub run_goes_on : (p q r : Parts) (steps : List Step) (before after after' : List Reply) (step : Step) (reply : Reply) → HasRun p steps before q after → GoesOn q ((step, reply) ∷ []) r → IsOwed q step reply r
     → after' ≡ after ++ reply ∷ [] → HasRun p (steps ++ step ∷ []) before r after'
-run_goes_on p q r steps before after after' step reply has goes e = record {
+run_goes_on p q r steps before after after' step reply has goes owed e = record {
   replies = has.replies ++ reply ∷ [];
   appended = e ∙ ap (λ (rs : List Reply). rs ++ reply ∷ []) has.appended ∙ append_assoc before has.replies (reply ∷ []);
   each = omega (arith, length-append has.replies (reply ∷ []), length-append steps (step ∷ []), has.each);
+  takes = subst (λ (t : Trace). TakesEach p t r) (sym (events-push steps has.replies step reply (sym has.each))) (takes_one_more p q r (events steps has.replies) step reply has.takes owed);
   goes = subst (λ (t : Trace). GoesOn p t r) (sym (events-push steps has.replies step reply (sym has.each))) (goes_further p q r (events steps has.replies) ((step, reply) ∷ []) has.goes goes);
 }

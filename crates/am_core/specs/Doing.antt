@@ -40,15 +40,15 @@ pub record IsLiveEntry (es : List Entry) (key : OrderedKey) (e : Entry) : Type 0
   pub there : IsLiveAt es e.part key e.value
   pub has : get (content es) key ≡ Some e.value
 
--- when an operation may want memory beside its lock's: for the fifth note, the fifth and so on; a Scan, a Load, a Mark and an Insert
--- of a key that has no entry in the final partition always may
+-- when an operation may want memory beside its lock's: for the fifth note or the third mark, and those behind them; a Scan, a Load and
+-- an Insert of a key that has no entry in the final partition always may
 abbrev pub MayWantRoom : Op → List Entry → Log → Type 0
 MayWantRoom (Insert k v) es log = IsSome (find es 0 k) → 4 ≤ length log.notes
 MayWantRoom (Replace k v) es log = 4 ≤ length log.notes
 MayWantRoom (Delete k) es log = 4 ≤ length log.notes
 MayWantRoom (Scan range max) es log = Unit {0}
 MayWantRoom (Load pairs) es log = Unit {0}
-MayWantRoom Mark es log = Unit {0}
+MayWantRoom Mark es log = 2 ≤ length log.marks
 MayWantRoom op es log = ⊥
 
 -- of the table of transactions, the log of this one was changed, and nothing else

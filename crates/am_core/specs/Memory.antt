@@ -1,5 +1,5 @@
 -- Which steps may be refused for want of memory.
-use Rattle.std.specs.Prelude.{nat_le, length, List, Bool, true, false, not, ◌&&◌, ◌||◌, Option, Some, None, is_some}
+use Rattle.std.specs.Prelude.{ℕ, nat_le, length, List, Bool, true, false, not, ◌&&◌, ◌||◌, Option, Some, None, is_some}
 use Rattle.am_record.specs.Locks.{is_covered}
 use Rattle.am_record.specs.Asks.{lock_of}
 use Rattle.am_record.specs.declared.lock.Lock.{Lock}
@@ -20,6 +20,10 @@ adds_ninth_lock own (Some asked) = not (is_covered own asked) && nat_le 8 (lengt
 abbrev pub adds_fifth_note : List Note → Bool
 adds_fifth_note notes = nat_le 4 (length notes)
 
+-- a mark would be added to two or more: two stand in the log itself
+abbrev pub adds_third_mark : List ℕ → Bool
+adds_third_mark marks = nat_le 2 (length marks)
+
 -- whether the operation of that transaction may want memory. An Insert does where the key has no entry in the final partition yet
 abbrev pub may_want_room : Parts → Active → Op → Bool
 may_want_room p x (Get k) = adds_ninth_lock x.locks (lock_of (Get k))
@@ -29,7 +33,7 @@ may_want_room p x (Delete k) = adds_ninth_lock x.locks (lock_of (Delete k)) || a
 may_want_room p x (Insert k v) = not (is_some (find p.entries 0 k)) || (adds_ninth_lock x.locks (lock_of (Insert k v)) || adds_fifth_note x.notes)
 may_want_room p x (Scan range max) = true
 may_want_room p x (Load pairs) = true
-may_want_room p x Mark = true
+may_want_room p x Mark = adds_third_mark x.marks
 may_want_room p x Back = false
 
 -- whether the step may be refused for want of memory: a Begin, a Commit, an Abort, a Clean and a Back never are

@@ -4,6 +4,7 @@ ghost use Rattle.std.specs.Prelude.{◌≡◌, ◌+◌, ◌≤◌, ◌^◌, leng
 ghost use Rattle.am_record.specs.declared.step.Refusal.TheVariants.{NoMemory};
 ghost use Rattle.am_steps.specs.Parts.{MaySay, after, IsFit};
 ghost use Rattle.am_core.specs.Memory.{may_want_memory};
+ghost use Rattle.am_core.specs.Standing.{KeepsContent};
 ghost use Rattle.am_core.specs.Whole.{whole};
 
 use am_list::PartIndex;
@@ -31,6 +32,7 @@ impl<I: PartIndex + Drop> Kept<I> {
         ensures says { MaySay (whole self.old) step result }
         ensures after { whole self.new ≡ after (whole self.old) step result }
         ensures memory { result ≡ Reply.Refused NoMemory → may_want_memory (whole self.old) step ≡ true }
+        ensures content { KeepsContent (whole self.old) step (whole self.new) }
     {
         match step {
             Step::Begin => self.begin(),

@@ -2,6 +2,7 @@
 
 ghost use Rattle.std.specs.Prelude.{◌≡◌};
 ghost use Rattle.am_record.specs.declared.step.Step.TheVariants.{Merge, Clean};
+ghost use Rattle.am_list.specs.Content.{content};
 ghost use Rattle.am_serial.specs.Machine.{is_limit};
 ghost use Rattle.am_steps.specs.Parts.{MaySay, after};
 ghost use Rattle.am_core.specs.Whole.{whole};
@@ -19,6 +20,7 @@ impl<I: PartIndex + Drop> Kept<I> {
     pub(crate) fn merge(&mut self, limit: u64) -> Reply
         ensures says { MaySay (whole self.old) (Merge limit) result }
         ensures after { whole self.new ≡ after (whole self.old) (Merge limit) result }
+        ensures content { content self.new.parts.entries ≡ content self.old.parts.entries }
     {
         if !is_limit(limit) {
             return Reply::Refused(Refusal::BadLimit);
@@ -30,6 +32,7 @@ impl<I: PartIndex + Drop> Kept<I> {
     pub(crate) fn clean(&mut self, range: Range, limit: u64) -> Reply
         ensures says { MaySay (whole self.old) (Clean range limit) result }
         ensures after { whole self.new ≡ after (whole self.old) (Clean range limit) result }
+        ensures content { content self.new.parts.entries ≡ content self.old.parts.entries }
     {
         if !is_limit(limit) {
             return Reply::Refused(Refusal::BadLimit);

@@ -5,7 +5,7 @@ ghost use Rattle.am_record.specs.declared.step.Refusal.{Refusal as TheRefusal};
 ghost use Rattle.am_record.specs.declared.step.Refusal.TheVariants.{NoMemory as OutOfMemory};
 ghost use Rattle.am_steps.specs.Parts.{empty_parts, IsFit, MaySay, after};
 ghost use Rattle.am_core.specs.Memory.{may_want_memory};
-ghost use Rattle.am_core.specs.Standing.{StandsAt, GoesOn, IsWithin};
+ghost use Rattle.am_core.specs.Standing.{StandsAt, GoesOn, IsWithin, KeepsContent};
 ghost use Rattle.am_core.specs.Whole.{whole};
 
 use crate::entries::all_entries;
@@ -74,6 +74,9 @@ impl<I: PartIndex + Drop> Store<I> {
         // A refused step leaves the store as it was.
         ensures refused { (why : TheRefusal) → result ≡ Reply.Refused why → self.new ≡ self.old }
         ensures memory { result ≡ Reply.Refused OutOfMemory → may_want_memory self.old step ≡ true }
+
+        // A Merge or a Clean leaves the content as it was.
+        ensures content { KeepsContent self.old step self.new }
         ensures within { IsWithin step result }
     {
         am_steps::steps_lift();
@@ -105,6 +108,7 @@ fn step_there<I: PartIndex + Drop>(kept: &mut Box<Kept<I>>, step: Step) -> Reply
     ensures says { MaySay (whole kept.old.value) step result }
     ensures after { whole kept.new.value ≡ after (whole kept.old.value) step result }
     ensures memory { result ≡ Reply.Refused OutOfMemory → may_want_memory (whole kept.old.value) step ≡ true }
+    ensures content { KeepsContent (whole kept.old.value) step (whole kept.new.value) }
 {
     let kept = &mut **kept;
     kept.step(step)

@@ -2,7 +2,7 @@
 
 use crate::streams::{LINES, SEEN, lines_of};
 use am_record::Reply;
-use am_wire::{Failed, Reading, Sink, Source, Writing, put_reply};
+use am_wire::{Failed, Reading, Sink, Source, StopSink, Writing, put_reply};
 use std::io::{ErrorKind, Read, Write};
 use std::test::Fail;
 
@@ -87,15 +87,16 @@ fn a_reader_that_fails_once_is_not_asked_again(rt: HostRuntime) {
 
 #[test]
 fn lines_of_a_reader(rt: HostRuntime) -> Result<(), Fail> {
+    let sink = StopSink::new(rt.alloc(), 0);
     let mut whole = Reading::new(LINES);
-    let seen = lines_of(&rt, rt.alloc(), &mut whole)?;
+    let seen = lines_of(&rt, rt.alloc(), &mut whole, &sink)?;
     assert_eq!(rt; seen.as_slice(), SEEN);
     let mut bytewise = Reading::new(Script {
         calls: [].as_slice(),
         left: LINES,
         written: Vec::new(rt.alloc()),
     });
-    let seen = lines_of(&rt, rt.alloc(), &mut bytewise)?;
+    let seen = lines_of(&rt, rt.alloc(), &mut bytewise, &sink)?;
     assert_eq!(rt; seen.as_slice(), SEEN);
     Ok(())
 }

@@ -4,9 +4,10 @@ use Rattle.am_record.specs.declared.step.Step.{Step}
 use Rattle.am_record.specs.declared.step.Step.TheVariants.{Begin, Do, Commit, Abort, Merge, Clean}
 use Rattle.am_record.specs.declared.step.Reply.{Reply}
 use Rattle.am_latch.specs.declared.change.Change.TheVariants.{Ends}
+use Rattle.am_latch.specs.declared.engine.Engine.{Engine}
 use Rattle.am_latch.specs.Changes.{change, end_of, opened, has, active}
 use Rattle.am_latch.specs.declared.receipt.Receipt.{Receipt}
-use Rattle.am_latch.specs.Traces.{Engined}
+use Rattle.am_latch.specs.Traces.{Engined, AllBelow}
 use Rattle.am_latch.specs.Receipts.{Seated, receipts_of}
 
 abbrev pub open_from : Option ℕ → List Receipt → Option ℕ
@@ -41,6 +42,14 @@ open_in e k = open_of (receipts_of k e)
 
 abbrev pub Tied : Engined → Type 0
 Tied e = AreTied (open_in e) (active e.trace)
+
+-- what an engine stores
+abbrev pub engined : Engine → Engined
+engined e = record { trace = e.trace; makers = e.makers }
+
+-- each call was made by one of the n seats of a latch, and what is open in them is what is active
+abbrev pub IsEngineOf : ℕ → Engine → Type 0
+IsEngineOf n e = AllBelow n (engined e).makers × Tied (engined e)
 
 -- what is open in the seats is what is active, each in one seat
 pub record OpenIs (seats : List Seated) (ts : List ℕ) : Type 0 where

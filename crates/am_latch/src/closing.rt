@@ -3,7 +3,8 @@ ghost use Rattle.std.specs.Prelude.{◌≡◌, ◌<◌, ◌↔◌, [], IfOk, Mat
 ghost use Rattle.am_core.specs.Standing.{StandsAt};
 ghost use Rattle.am_latch.specs.Receipts.{Kept, AreAll, NumberedBelow, AreKnown};
 ghost use Rattle.am_latch.specs.Ties.{OpenIs};
-ghost use Rattle.am_latch.specs.Changes.{active};
+ghost use Rattle.am_latch.specs.Changes.{active, numbers};
+ghost use Rattle.am_serial.specs.Legal.{IsLegal};
 ghost use Rattle.am_latch.specs.Book.{IsKeeper, log_of};
 
 use crate::book::{Board, Token};
@@ -58,7 +59,8 @@ fn audit_all<L: Naming>(board: &Board, book: Token, seats: &mut [Seat<L>])
     }
 }
 
-/// Ends a latch with all its seats, in the order of their numbers. It ends no transaction.
+/// Ends a latch with all its seats, in the order of their numbers. It ends no transaction: what the store has active is
+/// what is open in the seats. Whoever judges the trace finds nothing wrong in it.
 ///
 /// # Errors
 /// Missing, with the latch and the seats as they were, where these aren't all seats of the latch.
@@ -66,9 +68,12 @@ pub fn close<L: Naming>(latch: Latch<L>, seats: Vec<Seat<L>>) -> Result<Closed<L
     ensures seats { MatchResult result (λ c. c.seats.items ≡ seats.items) (λ m. m.seats.items ≡ seats.items) }
     ensures all { MatchResult result (λ _. AreAll L.seats seats.items) (λ _. AreAll L.seats seats.items → ⊥) }
     ensures kept { IfOk result (λ c. Kept c.seats.items c.trace.items) }
-    ensures open_txs { IfOk result (λ c. OpenIs c.seats.items (active c.trace.items)) }
+    ensures open_txs { IfOk result (λ c. OpenIs c.seats.items (numbers c.store)) }
+    ensures active { IfOk result (λ c. numbers c.store ≡ active c.trace.items) }
     ensures stands { IfOk result (λ c. StandsAt c.trace.items c.store) }
+    ensures legal { IfOk result (λ c. IsLegal c.trace.items) }
 {
+    am_serial::sound_traces_are_legal();
     let Latch {
         held,
         board,

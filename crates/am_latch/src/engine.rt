@@ -6,7 +6,7 @@ ghost use Rattle.am_record.specs.declared.step.Refusal.TheVariants.{SeatFull};
 ghost use Rattle.am_serial.specs.Trace.{Trace};
 ghost use Rattle.am_core.specs.Standing.{StandsAt};
 ghost use Rattle.am_sound.specs.Right.{IsSoundStore};
-ghost use Rattle.am_latch.specs.Changes.{active, end_of, is_begin, is_refused, is_stored, room_of, HasTrace, Goes, Answers, Bounded};
+ghost use Rattle.am_latch.specs.Changes.{active, numbers, end_of, is_begin, is_refused, is_stored, room_of, HasTrace, Goes, Answers, Bounded};
 ghost use Rattle.am_latch.specs.Traces.{Engined, fresh, Stepped, ends_after};
 
 use crate::change::{Change, change_by, starts_tx, tx_to_end, was_refused, was_stored};
@@ -118,6 +118,7 @@ impl Engine {
     pub(crate) fn into_parts(self) -> (Vec<(Step, Reply)>, Store<BTree>)
         ensures trace { result.0.items ≡ self.trace }
         ensures stands { StandsAt self.trace result.1 }
+        ensures active { numbers result.1 ≡ active self.trace }
         ensures even { length self.makers ≡ length self.trace }
     {
         (self.trace, self.store)

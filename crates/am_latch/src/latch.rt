@@ -2,6 +2,7 @@
 ghost use Rattle.std.specs.Prelude.{◌≡◌, ◌↔◌, ◌⊎◌, ◌<◌, ◌≤◌, IfOk, IfErr};
 ghost use Rattle.am_latch.specs.Receipts.{numbered};
 ghost use Rattle.am_latch.specs.Faults.{IsBadSeats};
+ghost use Rattle.am_latch.specs.Ties.{IsEngineOf};
 
 use crate::book::{Board, Token};
 use crate::engine::Engine;
@@ -123,10 +124,11 @@ impl<L: Naming> Latch<L> {
         ))
     }
 
-    /// Lends the engine to the closure, which has the latch to itself meanwhile, and answers what it answers of that engine.
+    /// Lends the engine to the closure, which has the latch to itself meanwhile, and answers what it answers of that engine:
+    /// each of its calls was made by a seat of this latch, and what is active in it is open in these seats.
     pub fn look<T, R: Wait, F: FnOnce(&Engine) -> T>(&self, rt: &R, f: F) -> T
         requires { F.IsAlwaysCallable f }
-        ensures { (engine : _) × F.post f engine result }
+        ensures { (engine : _) × IsEngineOf L.seats engine.now × F.post f engine result }
     {
         let held = self.held.lock(rt);
         f(&held.engine)

@@ -1,4 +1,5 @@
 pub mod EntryCode
+pub mod Refusing
 pub mod Entries
 pub mod Places
 pub mod Edits

@@ -1,6 +1,8 @@
 //! An index to which some inserts are refused.
 
-ghost use Rattle.std.specs.Prelude.{◌≡◌};
+ghost use Rattle.std.specs.Prelude.{◌≡◌, ◌+◌, ◌-◌, ◌^◌, min, Some, None, IsSome, IsErr, OnOk, OnErr};
+ghost use Rattle.std.specs.List.{Contains};
+ghost use Rattle.am_list.specs.Entries.{find, entry_at, insert_entry, set_entry, remove_entry};
 
 use crate::{Batch, PartIndex};
 use am_record::{Entry, Key, NoMemory, Value};
@@ -17,21 +19,21 @@ pub struct Tight<I: PartIndex + Drop> {
 }
 
 impl<I: PartIndex + Drop> Model for Tight<I> {
-    ghost use Rattle.std.specs.Prelude.{List};
-    ghost use Rattle.am_record.specs.declared.entry.Entry.{Entry};
-    ghost use Rattle.am_list.specs.EntryCode.{entries_code};
+    ghost use Rattle.am_list.specs.Refusing.{Refusing, refusing_code};
 
-    ghost Value = { List Entry };
+    ghost Value = { Refusing };
 
-    ghost coded = { entries_code };
+    ghost coded = { refusing_code };
 
-    ghost view = { λ t. I.entries t.index };
+    ghost view = { λ t. record { entries = I.entries t.index; refused = t.refused.items; inserts = t.inserts } };
 }
 
 impl<I: PartIndex + Drop> Tight<I> {
     /// The index, with no insert counted yet. It takes no memory.
     pub fn new(index: I, refused: Vec<u64>) -> Tight<I>
-        ensures { result ≡ I.entries index }
+        ensures entries { result.entries ≡ I.entries index }
+        ensures refused { result.refused ≡ refused.items }
+        ensures none { result.inserts ≡ 0 }
     {
         Tight {
             index,
@@ -42,7 +44,7 @@ impl<I: PartIndex + Drop> Tight<I> {
 }
 
 impl<I: PartIndex + Drop> PartIndex for Tight<I> {
-    ghost entries = { λ es. es };
+    ghost entries = { λ t. t.entries };
 
     fn find(&self, part: u32, key: Key) -> Option<(Value, bool)> {
         self.index.find(part, key)
@@ -64,7 +66,14 @@ impl<I: PartIndex + Drop> PartIndex for Tight<I> {
         self.index.next_any(part, key)
     }
 
-    fn insert(&mut self, entry: Entry) -> Result<(), NoMemory> {
+    fn insert(&mut self, entry: Entry) -> Result<(), NoMemory>
+        requires { find self.old.entries entry.part entry.key ≡ None }
+        ensures ok { OnOk result (self.new.entries ≡ insert_entry self.old.entries entry) }
+        ensures err { OnErr result (self.new.entries ≡ self.old.entries) }
+        ensures counted { self.new.inserts ≡ min (self.old.inserts + 1) (2 ^ 64 - 1) }
+        ensures same_refused { self.new.refused ≡ self.old.refused }
+        ensures refused { Contains self.old.refused self.new.inserts → IsErr result }
+    {
         self.inserts = self.inserts.saturating_add(1);
         if self.refused.contains(&self.inserts) {
             return Err(NoMemory);
@@ -72,11 +81,22 @@ impl<I: PartIndex + Drop> PartIndex for Tight<I> {
         self.index.insert(entry)
     }
 
-    fn set(&mut self, part: u32, key: Key, value: Value, is_ghost: bool) {
+    fn set(&mut self, part: u32, key: Key, value: Value, is_ghost: bool)
+        requires { IsSome (find self.old.entries part key) }
+        ensures set { self.new.entries ≡ set_entry self.old.entries part key value is_ghost }
+        ensures counted { self.new.inserts ≡ self.old.inserts }
+        ensures same_refused { self.new.refused ≡ self.old.refused }
+    {
         self.index.set(part, key, value, is_ghost);
     }
 
-    fn remove(&mut self, part: u32, key: Key) -> Entry {
+    fn remove(&mut self, part: u32, key: Key) -> Entry
+        requires { IsSome (find self.old.entries part key) }
+        ensures entry { entry_at self.old.entries part key ≡ Some result }
+        ensures others { self.new.entries ≡ remove_entry self.old.entries part key }
+        ensures counted { self.new.inserts ≡ self.old.inserts }
+        ensures same_refused { self.new.refused ≡ self.old.refused }
+    {
         self.index.remove(part, key)
     }
 }

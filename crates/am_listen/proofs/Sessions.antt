@@ -1,17 +1,25 @@
 -- Whatever its end, a session keeps its seat.
-use Rattle.std.proofs.Common.{ℕ, List, Option, ap, inl, inr}
+use Rattle.std.proofs.Common.{ℕ, List, Option, ap, sym, subst, inl, inr}
 use Rattle.am_serial.specs.Trace.{Trace}
 use Rattle.am_talk.specs.Dialogue.{Exchange}
 use Rattle.am_session.specs.Talk.{AnswersAll, AnswersOneMore}
 use Rattle.am_session.specs.Served.{Served}
 use Rattle.am_session.specs.declared.end.End.{End}
 use Rattle.am_session.specs.declared.end.End.TheVariants.{Quit, EndOfInput, ReadFailed, WriteFailed, NoMemory}
-use Rattle.am_seating.specs.Places.{Placed, open_in, Goes, Tells, HasReceipts}
+use Rattle.am_seating.specs.Places.{Placed, open_in, Goes, Tells, HasReceipts, IsOfReceipt}
 use Rattle.am_listen.specs.Hosting.{HasSameSeat}
 
 module _ {S K : Type 0} (comes : S → List ℕ → Type 0) (holds : K → Option (List ℕ)) (auto : ℕ) (s : S) (k : K) (b : Placed) (s' : S) (k' : K) (b' : Placed)
     (all : (auto : ℕ) (old new : Placed) (exchanges : List Exchange) (events : Trace) → AnswersAll open_in Goes Tells auto old exchanges events new → HasReceipts old events new)
     (one_more : (auto : ℕ) (old new : Placed) (exchanges : List Exchange) (more : Exchange) (events : Trace) → AnswersOneMore open_in Goes Tells auto old exchanges more events new → HasReceipts old events new) where
+  pub has_published : (end : End) → Served comes holds open_in Goes Tells auto s k b s' k' b' end → IsOfReceipt b → IsOfReceipt b'
+  has_published Quit h = (all auto b b' h.exchanges h.events h.does).published
+  has_published EndOfInput h = (all auto b b' h.exchanges h.events h.does).published
+  has_published ReadFailed h = (all auto b b' h.exchanges h.events h.does).published
+  has_published WriteFailed (inl h) = (one_more auto b b' h.exchanges h.last h.events h.does).published
+  has_published WriteFailed (inr h) = (all auto b b' h.exchanges h.events h.does).published
+  has_published NoMemory h = λ is. subst IsOfReceipt (sym h.same) is
+
   pub has_same_seat : (end : End) → Served comes holds open_in Goes Tells auto s k b s' k' b' end → HasSameSeat b b'
   has_same_seat Quit h = (all auto b b' h.exchanges h.events h.does).seat
   has_same_seat EndOfInput h = (all auto b b' h.exchanges h.events h.does).seat

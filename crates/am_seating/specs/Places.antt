@@ -1,5 +1,5 @@
 -- A session's place: its seats, and what it does there.
-use Rattle.std.specs.Prelude.{◌≡◌, ◌≤◌, ℕ, List, ◌∷◌, [], ◌++◌, Bool, Option, max, map, filter, length, MatchBool}
+use Rattle.std.specs.Prelude.{◌≡◌, ◌≤◌, ◌⊎◌, ℕ, List, ◌∷◌, [], ◌++◌, Bool, Option, max, map, filter, length, MatchBool}
 use Rattle.am_record.specs.declared.step.Step.{Step}
 use Rattle.am_record.specs.declared.step.Reply.{Reply}
 use Rattle.am_record.specs.declared.step.Reply.TheVariants.{Committed}
@@ -50,7 +50,19 @@ taken receipts = map (λ (r : Receipt). (r.step, r.reply)) receipts
 abbrev pub stored : Trace → Trace
 stored events = filter (λ (e : Step × Reply). is_stored e.1) events
 
--- The seat has a receipt of each event that is stored, in their order.
+-- What was published at the place is 0, or the number of a commit of which its seat has the receipt. So the watch, which is the
+-- greatest published number, is such a number: and each receipt's pair stands in the trace of its latch.
+abbrev pub IsOfReceipt : Placed → Type 0
+IsOfReceipt p =
+    (p.hand.published ≡ 0)
+    ⊎ ((before after : Trace) × (step : Step) × (taken p.seat.receipts ≡ before ++ (step, Committed p.hand.published) ∷ after))
+
+-- the number of the place is the newest that was drawn there
+abbrev pub IsNumbered : Placed → Type 0
+IsNumbered p = (before : List ℕ) × (p.hand.drawn ≡ before ++ p.number ∷ [])
+
+-- The seat has a receipt of each event that is stored, in their order, and what is published is one of them.
 pub record HasReceipts (old : Placed) (events : Trace) (new : Placed) : Type 0 where
   pub seat : new.seat.number ≡ old.seat.number
   pub receipts : taken new.seat.receipts ≡ taken old.seat.receipts ++ stored events
+  pub published : IsOfReceipt old → IsOfReceipt new

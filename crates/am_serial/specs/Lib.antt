@@ -6,3 +6,4 @@ pub mod Laws
 pub mod Sound
 pub mod Rows
 pub mod Formed
+pub mod Legal

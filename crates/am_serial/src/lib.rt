@@ -8,6 +8,7 @@ ghost use Rattle.am_serial.specs.Steps.{StepLaws};
 ghost use Rattle.am_serial.specs.Laws.{IsStateOf, OverlayLaws, ViewLaws};
 ghost use Rattle.am_serial.specs.Sound.{IsSound};
 ghost use Rattle.am_serial.specs.Formed.{IsFormed, FormedLaws};
+ghost use Rattle.am_serial.specs.Legal.{IsLegal};
 ghost use Rattle.am_serial.specs.Rows.{nested_marks, back_keeps_locks, back_forgotten};
 
 /// At each moment of every run of the machine the trace is serial in the order of commit, and what is
@@ -21,6 +22,11 @@ pub fn runs_are_serial()
 /// at each moment.
 pub fn sound_traces_are_runs()
     ensures { (trace : Trace) → IsSound trace ↔ Runs start trace }
+{}
+
+/// Whoever judges a sound trace without the store finds nothing wrong in it.
+pub fn sound_traces_are_legal()
+    ensures { (trace : Trace) → IsSound trace → IsLegal trace }
 {}
 
 /// What holds of every formed trace, also of one whose answers are wrong: the machine's state is what the

@@ -5,6 +5,7 @@ use Rattle.am_record.specs.declared.step.Step.{Step}
 use Rattle.am_record.specs.declared.step.Step.TheVariants as step
 use Rattle.am_record.specs.declared.step.Reply.{Reply}
 use Rattle.am_record.specs.declared.step.Reply.TheVariants as reply
+use Rattle.am_serial.specs.Legal.{IsLegal}
 use Rattle.am_serial.specs.Trace.{Trace}
 use Rattle.am_serial.specs.Sound.{IsSound}
 use Rattle.am_effect.specs.Store.{Follows, opened as opened_store}
@@ -124,6 +125,7 @@ leaves_at (Some tx) old new events trace l here = subst (λ (t : Trace). At (tra
 
 module _ (auto : ℕ) (s0 : Solo) (fresh : s0 ≡ record { kept = empty_parts; active = None }) (opened : At [] empty_parts)
     (sound : (trace : Trace) (p : Parts) → At trace p → IsSoundStore trace)
+    (legal_of : (trace : Trace) → IsSound trace → IsLegal trace)
     (say_whole : (exchanges : List Exchange) (trace : Trace) → IsSound trace → Dialogue auto Whole (None, 0) exchanges trace → Says exchanges)
     (lines_whole : (exchanges : List Exchange) (trace : Trace) → Follows opened_store trace → Dialogue auto Whole (None, 0) exchanges trace → All (λ (e : Exchange). IsOneLine (response_text e.1)) exchanges)
     (lines_torn : (exchanges : List Exchange) (last : Exchange) (trace : Trace) → Follows opened_store trace → Dialogue auto (TornAt last) (None, 0) exchanges trace → All (λ (e : Exchange). IsOneLine (response_text e.1)) (exchanges ++ last ∷ []))
@@ -140,7 +142,7 @@ module _ (auto : ℕ) (s0 : Solo) (fresh : s0 ≡ record { kept = empty_parts; a
       let talk : Dialogue auto Whole (None, 0) exchanges events = subst (λ (t : Trace). Dialogue auto Whole (None, 0) exchanges t) (sym a.are) (subst (λ (at : Standing). Dialogue auto Whole at exchanges (a.own ++ a.aborting)) begins_so led.dialogue_is) in
       let at : At (a.own ++ a.aborting) b.kept = leaves_at a.last.active a.last b a.aborting a.own a.leaves led.stands in
       let right : IsSoundStore events = subst IsSoundStore (sym a.are) (sound (a.own ++ a.aborting) b.kept at) in
-      record { dialogue = talk; sound = right; says = say_whole exchanges events right.sound talk; lines = lines_whole exchanges events (subst (Follows opened_store) (sym a.are) at.follows) talk }
+      record { dialogue = talk; sound = right; legal = legal_of events right.sound; says = say_whole exchanges events right.sound talk; lines = lines_whole exchanges events (subst (Follows opened_store) (sym a.are) at.follows) talk }
 
   pub spoken_torn : (b : Solo) (exchanges : List Exchange) (last : Exchange) (events : Trace) → AnswersOneMore active_in SoloGoes SoloTells auto s0 exchanges last events b → IsSpoken auto (TornAt last) exchanges (exchanges ++ last ∷ []) events
   spoken_torn b exchanges last events a =
@@ -149,7 +151,7 @@ module _ (auto : ℕ) (s0 : Solo) (fresh : s0 ≡ record { kept = empty_parts; a
       let talk : Dialogue auto (TornAt last) (None, 0) exchanges events = subst (λ (t : Trace). Dialogue auto (TornAt last) (None, 0) exchanges t) (sym a.are) (subst (λ (at : Standing). Dialogue auto (TornAt last) at exchanges (a.own ++ (a.its ++ a.aborting))) begins_so led.dialogue_is) in
       let at : At ((a.own ++ a.its) ++ a.aborting) b.kept = leaves_at a.last.active a.last b a.aborting (a.own ++ a.its) a.leaves (at_line a.before a.last last a.its a.own a.answers led.stands) in
       let right : IsSoundStore events = subst IsSoundStore (append_assoc a.own a.its a.aborting ∙ sym a.are) (sound ((a.own ++ a.its) ++ a.aborting) b.kept at) in
-      record { dialogue = talk; sound = right; says = say_torn exchanges last events right.sound talk; lines = lines_torn exchanges last events (subst (Follows opened_store) (append_assoc a.own a.its a.aborting ∙ sym a.are) at.follows) talk }
+      record { dialogue = talk; sound = right; legal = legal_of events right.sound; says = say_torn exchanges last events right.sound talk; lines = lines_torn exchanges last events (subst (Follows opened_store) (append_assoc a.own a.its a.aborting ∙ sym a.are) at.follows) talk }
 
 -- ---- by the session's end
 

@@ -125,8 +125,7 @@ abbrev pub write_failures : End → ℕ
 write_failures WriteFailed = 1
 write_failures _ = 0
 
--- whether all that was written was sent on
+-- all that was written was sent on, unless the sink failed
 abbrev pub IsSentOn : End → Type 0 → Type 0
-IsSentOn Quit sent = sent
-IsSentOn EndOfInput sent = sent
-IsSentOn end sent = Unit {0}
+IsSentOn WriteFailed sent = Unit {0}
+IsSentOn end sent = sent

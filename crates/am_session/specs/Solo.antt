@@ -4,6 +4,7 @@ use Rattle.std.specs.Coded.{Coded, code_by, coded×, coded_ℕ, coded_option}
 use Rattle.am_record.specs.declared.step.Step.{Step}
 use Rattle.am_record.specs.declared.step.Reply.{Reply}
 use Rattle.am_serial.specs.Trace.{Trace}
+use Rattle.am_serial.specs.Legal.{IsLegal}
 use Rattle.am_sound.specs.Right.{IsSoundStore}
 use Rattle.am_steps.specs.Parts.{Parts, is_in, MaySay, after}
 use Rattle.am_core.specs.Keeping.{parts_code}
@@ -41,10 +42,11 @@ pub record SoloGoes (old : Solo) (step : Step) (reply : Reply) (new : Solo) : Ty
 abbrev pub SoloTells : Solo → ℕ → ℕ → Solo → Type 0
 SoloTells old session commits new = (session ≡ 0) × (commits ≡ old.kept.commits) × (new ≡ old)
 
--- The exchanges and events of a session alone, which ends in this way: the events are a sound trace, each response is one line, and all of
--- them are those that are said, but where memory was refused.
+-- The exchanges and events of a session alone, which ends in this way: the events are a sound trace, with every merge and clean right, and
+-- a legal one; each response is one line, and all of them are those that are said, but where memory was refused.
 pub record IsSpoken (auto : ℕ) (ends : Ends) (exchanges all : List Exchange) (trace : Trace) : Type 0 where
   pub dialogue : Dialogue auto ends (None, 0) exchanges trace
   pub sound : IsSoundStore trace
+  pub legal : IsLegal trace
   pub says : Says all
   pub lines : All (λ (e : Exchange). IsOneLine (response_text e.1)) all

@@ -7,7 +7,7 @@ ghost use Rattle.am_session.specs.Spoke.{Spoke, WroteFor};
 use crate::end::End;
 use crate::serving::serve;
 use crate::solo::SoloStore;
-use am_wire::{PieceSource, Sink, Source, StopSink};
+use am_wire::{AnsweredSource, PieceSource, Sink, StopSink};
 use std::alloc::Global;
 use std::sync::Wait;
 
@@ -16,8 +16,9 @@ use std::sync::Wait;
 ///
 /// There is one sound trace whose steps are those of the lines, the merges and the last abort, and each response is one
 /// line, the text of what was answered there. All answers but those to MERGE and CLEAN are those of the plain map,
-/// where memory was found; a line that was refused memory is answered ERR MEMORY and did nothing.
-pub fn serve_alone<W: Wait, S: Source, K: Sink>(
+/// where memory was found; a line that was refused memory is answered ERR MEMORY and did nothing. Each merge and clean
+/// of the trace is right, and whoever judges the trace finds nothing wrong in it.
+pub fn serve_alone<W: Wait, K: Sink, S: AnsweredSource<K>>(
     rt: &W,
     alloc: Global,
     source: &mut S,
@@ -34,6 +35,7 @@ pub fn serve_alone<W: Wait, S: Source, K: Sink>(
     ensures sink_failures { K.failures sink.new ≡ K.failures sink.old + write_failures result }
 {
     am_steps::steps_lift();
+    am_serial::sound_traces_are_legal();
     am_talk::sound_dialogues_say();
     am_talk::answers_are_lines();
     let Ok(mut store) = SoloStore::new(alloc) else {

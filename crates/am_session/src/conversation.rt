@@ -12,7 +12,7 @@ ghost use Rattle.am_session.specs.Answering.{Responds, Answered, Torn, Merged};
 use crate::backend::Backend;
 use am_record::{Reply, Step};
 use am_talk::{Due, Heard, Response, due_for, put_response};
-use am_wire::{Failed, FoundLine, Input, LineBuffer, Sink, Source, read_line};
+use am_wire::{AnsweredSource, Failed, FoundLine, Input, LineBuffer, Sink, read_line};
 use std::sync::Wait;
 
 // The transaction that is active behind a reply.
@@ -27,15 +27,15 @@ pub(crate) fn active_behind(active: Option<u64>, reply: &Reply) -> Option<u64>
 }
 
 /// Reads the next line. What was answered is sent on before more is asked of the source.
-pub(crate) fn next_line<W: Wait, S: Source, K: Sink>(
+pub(crate) fn next_line<W: Wait, K: Sink, S: AnsweredSource<K>>(
     rt: &W,
     input: &mut Input,
     source: &mut S,
-    _sink: &K,
+    sink: &K,
     line: &mut LineBuffer,
 ) -> Result<Option<FoundLine>, Failed>
     requires countable { S.failures source.old < 2 ^ 63 }
-    requires sent { K.pending _sink.now ≡ false }
+    requires sent { K.pending sink.now ≡ false }
     ensures line { IfOk result (λ found. IfSome found (λ f.
         TookLine S.comes input.old source.old (seen f.kind line.new) f.is_ended input.new source.new)) }
     ensures end { IfOk result (λ found. IfNone found
@@ -45,7 +45,7 @@ pub(crate) fn next_line<W: Wait, S: Source, K: Sink>(
     ensures part { OnErr result (TookPart S.comes input.old source.old input.new source.new) }
     ensures empty { OnErr result (input.new ≡ []) }
 {
-    read_line(rt, input, source, line)
+    read_line(rt, input, source, sink, line)
 }
 
 // Takes the step that is due for a line, if one is.

@@ -11,7 +11,7 @@ use crate::conversation::{answer, merge, next_line};
 use crate::end::End;
 use am_record::Step;
 use am_talk::hear;
-use am_wire::{Failed, Input, LineBuffer, Sink, Source, give_all};
+use am_wire::{AnsweredSource, Failed, Input, LineBuffer, Sink, give_all};
 use std::alloc::Global;
 use std::sync::Wait;
 
@@ -24,9 +24,10 @@ enum Pause {
     WriteFailed,
 }
 
-// Answers QUIT, and sends the answer on.
-fn say_bye<K: Sink>(sink: &mut K) -> Result<(), Failed>
+/// Answers QUIT, and sends the answer on. Who reads it knows that nothing is active any more.
+pub fn say_bye<K: Sink, B: Backend>(sink: &mut K, _backend: &B) -> Result<(), Failed>
     requires countable { K.failures sink.old < 2 ^ 63 }
+    requires idle { B.active _backend.now ≡ None }
     ensures given { OnOk result (Gave K.holds sink.old bye sink.new) }
     ensures sent { OnOk result (K.pending sink.new ≡ false) }
     ensures ok { OnOk result (K.failures sink.new ≡ K.failures sink.old) }
@@ -38,7 +39,7 @@ fn say_bye<K: Sink>(sink: &mut K) -> Result<(), Failed>
 }
 
 // Answers the lines of a source up to the first QUIT.
-fn talk<W: Wait, S: Source, K: Sink, B: Backend>(
+fn talk<W: Wait, K: Sink, S: AnsweredSource<K>, B: Backend>(
     rt: &W,
     alloc: Global,
     input: &mut Input,
@@ -97,9 +98,9 @@ fn leave<W: Wait, B: Backend>(rt: &W, backend: &mut B, active: Option<u64>)
 /// above 0, and at the end aborts what is active. The sink has nothing that isn't sent on.
 ///
 /// The backend takes the steps of the lines, the merges and the last Abort; each line that is written is the text of a
-/// line's fault, or of the reply to its step, however the source cuts its bytes. Each answer is sent on before more is
-/// asked of the source.
-pub fn serve<W: Wait, S: Source, K: Sink, B: Backend>(
+/// line's fault, or of the reply to its step, however the source cuts its bytes. Nothing is unsent whenever the source is
+/// asked ([`AnsweredSource`]). BYE is said once nothing is active ([`say_bye`]).
+pub fn serve<W: Wait, K: Sink, S: AnsweredSource<K>, B: Backend>(
     rt: &W,
     alloc: Global,
     source: &mut S,
@@ -141,7 +142,7 @@ pub fn serve<W: Wait, S: Source, K: Sink, B: Backend>(
         Pause::EndOfInput => End::EndOfInput,
         Pause::ReadFailed => End::ReadFailed,
         Pause::WriteFailed => End::WriteFailed,
-        Pause::Quit => match say_bye(sink) {
+        Pause::Quit => match say_bye(sink, backend) {
             Ok(()) => End::Quit,
             Err(Failed) => End::WriteFailed,
         },

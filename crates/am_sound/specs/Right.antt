@@ -1,5 +1,5 @@
 -- What holds of every trace that the store of traces may make.
-use Rattle.std.specs.Prelude.{◌≡◌, ◌≢◌, ℕ, ◌<◌, ◌≤◌, length, [], ◌∷◌, true, None}
+use Rattle.std.specs.Prelude.{◌≡◌, ◌≢◌, ℕ, ◌<◌, ◌≤◌, length, [], ◌∷◌, ◌++◌, true, None}
 use Rattle.am_record.specs.OrderedKey.{OrderedKey}
 use Rattle.am_record.specs.declared.step.Step.{Step}
 use Rattle.am_record.specs.declared.step.Step.TheVariants.{Merge, Clean}
@@ -26,14 +26,6 @@ pub record IsReady (s : Store) : Type 0 where
   pub below : (p : ℕ) (q : OrderedKey) → s.state.runs < p → find s.entries p q ≡ None
   pub runs_noted : (t p : ℕ) → is_noted_run (s.notes t) p ≡ true → (p ≢ 0) × (p ≤ s.state.runs)
 
--- the trace is sound: serial, steady, right in its Busy answers and formed at each moment, nothing is merged that no read asked
--- for and nothing twice, and the store at its end is right
-pub record IsSoundStore (trace : Trace) : Type 0 where
-  pub sound : IsSound trace
-  pub asked : IsAsked trace
-  pub right : IsRight trace (after_all opened trace)
-  pub ready : IsReady (after_all opened trace)
-
 -- each merge and clean step of the trace is right: within its limit it meets what a merge or clean step may answer, else BadLimit
 abbrev pub MaintainedAt : Store → Step → Reply → Type 0
 MaintainedAt s (Merge limit) reply = MayReply s (Merge limit) reply
@@ -43,3 +35,19 @@ MaintainedAt s _ _ = Unit {0}
 abbrev pub IsMaintained : Store → Trace → Type 0
 IsMaintained s [] = Unit {0}
 IsMaintained s (e ∷ trace) = MaintainedAt s e.0 e.1 × IsMaintained (after_step s e.0 e.1) trace
+
+-- each key is live in one place at most, and the content is the committed map with the active transactions' writes: so it is behind
+-- each beginning of the trace
+abbrev pub IsPlacedAtEachMoment : Trace → Type 0
+IsPlacedAtEachMoment trace = (before rest : Trace) → before ++ rest ≡ trace → HasContent (after_all opened before).entries (overlay (effects before))
+
+-- A trace is sound: serial, steady, right in its Busy answers and formed at each moment; at each moment each key is live in one place
+-- at most and the content is the overlay; nothing is merged that no read asked for and nothing twice, and each merge and clean step is
+-- right. The store at its end is right.
+pub record IsSoundStore (trace : Trace) : Type 0 where
+  pub sound : IsSound trace
+  pub placed : IsPlacedAtEachMoment trace
+  pub asked : IsAsked trace
+  pub maintained : IsMaintained opened trace
+  pub right : IsRight trace (after_all opened trace)
+  pub ready : IsReady (after_all opened trace)

@@ -33,7 +33,7 @@ impl Model for UndoLog {
 
     ghost view = { λ a. record { notes = reverse a.notes.items; marks = reverse a.marks.items; has_room = nat_le (length a.notes.items + 1) a.notes.capacity } };
 
-    ghost invariant = { λ a. 4 ≤ a.notes.capacity };
+    ghost invariant = { λ a. (4 ≤ a.notes.capacity) × (2 ≤ a.marks.capacity) };
 }
 
 impl UndoLog {
@@ -97,6 +97,7 @@ impl UndoLog {
         ensures room { self.new.has_room ≡ self.old.has_room }
         ensures ok { OnOk result (self.new.marks ≡ length self.old.notes ∷ self.old.marks) }
         ensures err { OnErr result (self.new ≡ self.old) }
+        ensures inline { length self.old.marks < 2 → IsOk result }
     {
         let count = self.notes.len();
         self.marks.push(count)?;

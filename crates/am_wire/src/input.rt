@@ -1,12 +1,14 @@
 //! Lines of a source.
 
-ghost use Rattle.std.specs.Prelude.{◌≡◌, ℕ, ◌+◌, ◌-◌, ◌^◌, ◌<◌, ◌≤◌, List, [], ◌++◌, take, drop, OnOk, OnErr, IfOk, IfSome, IfNone, vec_len, option_to_list};
+ghost use Rattle.std.specs.Prelude.{◌≡◌, ℕ, ◌+◌, ◌-◌, ◌^◌, ◌<◌, ◌≤◌, List, [], ◌++◌, take, false, drop, OnOk, OnErr, IfOk, IfSome, IfNone, vec_len, option_to_list};
 ghost use Rattle.am_wire.specs.Taking.{TookAhead, IsAtEnd};
 ghost use Rattle.am_wire.specs.Lines.{TookLine, TookPart};
 ghost use Rattle.am_wire.specs.Seen.{seen};
 
 use crate::line::{FoundLine, LineBuffer};
-use crate::source::{Failed, Source};
+use crate::answered::AnsweredSource;
+use crate::sink::Sink;
+use crate::source::Failed;
 use am_record::NoMemory;
 use std::alloc::Global;
 use std::marker::Model;
@@ -34,8 +36,13 @@ impl Model for Input {
 }
 
 /// Takes bytes into a buffer with room, and says how many of them there are. None means the end of the source.
-fn fill<S: Source>(source: &mut S, buffer: &mut Vec<u8>) -> Result<usize, Failed>
+fn fill<K: Sink, S: AnsweredSource<K>>(
+    source: &mut S,
+    sink: &K,
+    buffer: &mut Vec<u8>,
+) -> Result<usize, Failed>
     requires countable { S.failures source.old < 2 ^ 63 }
+    requires sent { K.pending sink.now ≡ false }
     requires room { vec_len buffer.old ≡ 4096 }
     ensures len { vec_len buffer.new ≡ 4096 }
     ensures fits { IfOk result (λ n. n ≤ 4096) }
@@ -45,7 +52,7 @@ fn fill<S: Source>(source: &mut S, buffer: &mut Vec<u8>) -> Result<usize, Failed
     ensures failed { OnErr result (S.failures source.new ≡ S.failures source.old + 1) }
     ensures kept { OnErr result (TookAhead S.comes [] source.old [] [] source.new) }
 {
-    source.take(buffer.as_mut_slice())
+    source.take_answered(buffer.as_mut_slice(), sink)
 }
 
 impl Input {
@@ -61,8 +68,13 @@ impl Input {
     }
 
     /// Takes more bytes, where none wait. None come at the end of the source.
-    fn refill<S: Source>(&mut self, source: &mut S) -> Result<(), Failed>
+    fn refill<K: Sink, S: AnsweredSource<K>>(
+        &mut self,
+        source: &mut S,
+        sink: &K,
+    ) -> Result<(), Failed>
         requires countable { S.failures source.old < 2 ^ 63 }
+        requires sent { K.pending sink.now ≡ false }
         requires empty { self.old ≡ [] }
         ensures taken { OnOk result (TookAhead S.comes self.old source.old [] self.new source.new) }
         ensures end { OnOk result (self.new ≡ [] → S.comes source.new []) }
@@ -73,7 +85,7 @@ impl Input {
     {
         self.start = 0;
         self.end = 0;
-        self.end = fill(source, &mut self.buffer)?;
+        self.end = fill(source, sink, &mut self.buffer)?;
         Ok(())
     }
 
@@ -91,8 +103,13 @@ impl Input {
     }
 
     /// Uses the next byte. None means that the source is at its end.
-    fn next<S: Source>(&mut self, source: &mut S) -> Result<Option<u8>, Failed>
+    fn next<K: Sink, S: AnsweredSource<K>>(
+        &mut self,
+        source: &mut S,
+        sink: &K,
+    ) -> Result<Option<u8>, Failed>
         requires countable { S.failures source.old < 2 ^ 63 }
+        requires sent { K.pending sink.now ≡ false }
         ensures taken { IfOk result (λ byte. TookAhead S.comes self.old source.old (option_to_list byte) self.new source.new) }
         ensures end { IfOk result (λ byte. IfNone byte (IsAtEnd S.comes self.new source.new)) }
         ensures ok { OnOk result (S.failures source.new ≡ S.failures source.old) }
@@ -103,7 +120,7 @@ impl Input {
         match self.pop() {
             Some(byte) => Ok(Some(byte)),
             None => {
-                self.refill(source)?;
+                self.refill(source, sink)?;
                 Ok(self.pop())
             }
         }
@@ -112,14 +129,16 @@ impl Input {
 
 /// Reads the next line, however the source cuts its bytes. None means that there is no further line. Its bytes stand in
 /// `line`; of a line that is too long the rest up to the LF is passed over. After a failure what was read of a line that
-/// isn't ended is lost.
-pub fn read_line<R: Wait, S: Source>(
+/// isn't ended is lost. The source is asked with nothing unsent in the sink.
+pub fn read_line<R: Wait, K: Sink, S: AnsweredSource<K>>(
     rt: &R,
     input: &mut Input,
     source: &mut S,
+    sink: &K,
     line: &mut LineBuffer,
 ) -> Result<Option<FoundLine>, Failed>
     requires countable { S.failures source.old < 2 ^ 63 }
+    requires sent { K.pending sink.now ≡ false }
     ensures line { IfOk result (λ found. IfSome found (λ f.
         TookLine S.comes input.old source.old (seen f.kind line.new) f.is_ended input.new source.new)) }
     ensures end { IfOk result (λ found. IfNone found
@@ -131,7 +150,7 @@ pub fn read_line<R: Wait, S: Source>(
 {
     line.clear();
     'bytes: for _ in rt.forever() {
-        let next = input.next(source)?;
+        let next = input.next(source, sink)?;
         match next {
             None => {
                 if line.is_empty() {

@@ -1,6 +1,7 @@
 //! Streams of bytes, the lines cut from them, what the lines ask for, and the texts of replies.
 #![tactic(auto)]
 
+mod answered;
 mod fields;
 mod grammar;
 mod input;
@@ -21,6 +22,7 @@ mod text;
 mod value;
 mod verb;
 
+pub use answered::AnsweredSource;
 pub use fields::Fields;
 pub use grammar::{one_reading, words_are_fields};
 pub use input::{Input, read_line};

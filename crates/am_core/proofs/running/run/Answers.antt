@@ -12,6 +12,7 @@ loop-step-init g c =
 pub loop-step-preserved : goal.loop-step-preserved
 loop-step-preserved g c =
     record {
-      taken = run_goes_on c.args.store.now c.loop-step.store c.step-reply.new.self c.loop-step.yielded c.args.replies.now.items c.loop-step.replies.items c.push_within.new.replies.items c.in-Some.step c.step-reply.result c.loop-step.invariant.taken c.step-reply.ensures.goes c.push_within.ensures.items;
+      taken = run_goes_on c.args.store.now c.loop-step.store c.step-reply.new.self c.loop-step.yielded c.args.replies.now.items c.loop-step.replies.items c.push_within.new.replies.items c.in-Some.step c.step-reply.result c.loop-step.invariant.taken c.step-reply.ensures.goes
+          (record { says = c.step-reply.ensures.says; leaves = c.step-reply.ensures.after; memory = c.step-reply.ensures.memory; content = c.step-reply.ensures.content; within = c.step-reply.ensures.within }) c.push_within.ensures.items;
       room = omega (arith, c.loop-step.invariant.room, c.push_within.ensures.len, c.push_within.ensures.capacity, length-append c.loop-step.yielded (c.in-Some.step ∷ []));
     }

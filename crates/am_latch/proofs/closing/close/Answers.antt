@@ -1,5 +1,6 @@
-use Rattle.std.proofs.Common.{rules, ap, sym, ◌≡◌, ◌∙◌, subst, length, List, take, drop, ◌++◌}
+use Rattle.std.proofs.Common.{rules, ap, sym, ◌≡◌, ◌∙◌, subst, length, ℕ, List, take, drop, ◌++◌}
 use Rattle.am_serial.specs.Trace.{Trace}
+use Rattle.am_serial.specs.Legal.{IsLegal}
 use Rattle.am_latch.specs.Traces.{Engined}
 use Rattle.am_latch.specs.Receipts.{Seated, AreAll, AreKnown, Kept, NumberedBelow}
 use Rattle.am_latch.specs.Book.{log_of}
@@ -30,7 +31,13 @@ returns-clause-open_txs g c =
     let whole : take c.args.seats.len (c.audit_all.new.seats ++ drop (length c.audit_all.new.seats) c.args.seats.items) ≡ c.args.seats.items = whole_again _ _ _ (c.audit_all.ensures.same ∙ old) (ap length c.audit_all.ensures.same ∙ c.as_mut_slice.ensures.len) in
     let count : length c.args.seats.items ≡ g.L.Naming.seats = search rules in
     let all : AreAll g.L.Naming.seats c.args.seats.items = (count, subst (NumberedBelow c.args.seats.items) count (subst (λ (l : List Seated). NumberedBelow l (length l)) c.as_slice.ensures.value (c.in_order.ensures.0 c.if-not-in_order.false))) in
-    subst (λ (y : List Seated × Trace). OpenIs y.0 (active y.1)) (λ j. (sym whole j, sym c.into_parts-trace.ensures.trace j)) (open_is e g.L.Naming.seats c.args.seats.items c.engine.invariant.2 all known c.engine.invariant.3)
+    subst (λ (y : List Seated × List ℕ). OpenIs y.0 y.1) (λ j. (sym whole j, sym c.into_parts-trace.ensures.active j)) (open_is e g.L.Naming.seats c.args.seats.items c.engine.invariant.2 all known c.engine.invariant.3)
+
+pub returns-clause-active : goal.returns-clause-active
+returns-clause-active g c = c.into_parts-trace.ensures.active ∙ ap active (sym c.into_parts-trace.ensures.trace)
+
+pub returns-clause-legal : goal.returns-clause-legal
+returns-clause-legal g c = subst IsLegal (sym c.into_parts-trace.ensures.trace) (c.sound_traces_are_legal.ensures _ c.into_parts-trace.ensures.stands.sound.sound)
 
 pub returns-clause-all : goal.returns-clause-all
 returns-clause-all g c =

@@ -16,13 +16,14 @@ returns-clause-spoke g c =
     let fresh = c.in-Ok.ensures in
     let opened = c.steps_lift.ensures.opened in
     let sound = c.steps_lift.ensures.sound in
+    let legal_of = c.sound_traces_are_legal.ensures in
     let say_whole = c.sound_dialogues_say.ensures.whole auto in
     let lines_whole = c.answers_are_lines.ensures.whole auto in
     let lines_torn = c.answers_are_lines.ensures.torn auto in
     let say_torn = c.sound_dialogues_say.ensures.torn auto in
-    ends_by (λ bytes. Took g.S.Source.comes c.args.source.now bytes c.serve.new.source) (λ text. Gave g.K.Sink.holds c.args.sink.now text c.serve.new.sink) (g.S.Source.comes c.serve.new.source [])
+    ends_by (λ bytes. Took g.S.AnsweredSource.comes c.args.source.now bytes c.serve.new.source) (λ text. Gave g.K.Sink.holds c.args.sink.now text c.serve.new.sink) (g.S.AnsweredSource.comes c.serve.new.source [])
     (λ exchanges events. AnswersAll active_in SoloGoes SoloTells auto s0 exchanges events b) (λ exchanges events. IsSpoken auto Whole exchanges exchanges events)
     (λ exchanges last events. AnswersOneMore active_in SoloGoes SoloTells auto s0 exchanges last events b) (λ exchanges last events. IsSpoken auto (TornAt last) exchanges (exchanges ++ last ∷ []) events)
     (b ≡ s0) (Unit {0})
-    (spoken_whole auto s0 fresh opened sound say_whole lines_whole lines_torn say_torn b) (spoken_torn auto s0 fresh opened sound say_whole lines_whole lines_torn say_torn b) (λ same. tt)
+    (spoken_whole auto s0 fresh opened sound legal_of say_whole lines_whole lines_torn say_torn b) (spoken_torn auto s0 fresh opened sound legal_of say_whole lines_whole lines_torn say_torn b) (λ same. tt)
     c.serve.result c.serve.ensures.served

@@ -4,6 +4,6 @@ use Rattle.am_wire.proofs.input.read_line.Given as goal
 
 abbrev pub invariant-bytes : goal.invariant-bytes
 invariant-bytes g l = record {
-  line : IsReading g.S.Source.comes l.fn.input l.fn.source l.line l.input l.source;
-  ok : g.S.Source.failures l.source ≡ g.S.Source.failures l.fn.source;
+  line : IsReading g.S.AnsweredSource.comes l.fn.input l.fn.source l.line l.input l.source;
+  ok : g.S.AnsweredSource.failures l.source ≡ g.S.AnsweredSource.failures l.fn.source;
 }
