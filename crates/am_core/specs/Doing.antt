@@ -40,8 +40,8 @@ pub record IsLiveEntry (es : List Entry) (key : OrderedKey) (e : Entry) : Type 0
   pub there : IsLiveAt es e.part key e.value
   pub has : get (content es) key ≡ Some e.value
 
--- when an operation may want memory beside its lock's: for the fifth note or the third mark, and those behind them; a Scan, a Load and
--- an Insert of a key that has no entry in the final partition always may
+-- when an operation may want memory beside its lock's: for the fifth note or the third mark, and those behind them;
+-- a Scan, a Load and an Insert of a key that has no entry in the final partition always may
 abbrev pub MayWantRoom : Op → List Entry → Log → Type 0
 MayWantRoom (Insert k v) es log = IsSome (find es 0 k) → 4 ≤ length log.notes
 MayWantRoom (Replace k v) es log = 4 ≤ length log.notes

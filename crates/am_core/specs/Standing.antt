@@ -34,8 +34,8 @@ KeepsContent old (Merge limit) new = content new.entries ≡ content old.entries
 KeepsContent old (Clean range limit) new = content new.entries ≡ content old.entries
 KeepsContent old _ new = Unit {0}
 
--- One step, by what the store keeps before it: the reply is one that the step may have, the store is what such a step leaves, memory is
--- refused only to a step that may want it, and a Merge or a Clean keeps the content.
+-- One step, by what the store keeps before it: the reply is one that the step may have, the store is what such a step
+-- leaves, memory is refused only to a step that may want it, and a Merge or a Clean keeps the content.
 pub record IsOwed (old : Parts) (step : Step) (reply : Reply) (new : Parts) : Type 0 where
   pub says : MaySay old step reply
   pub leaves : new ≡ after old step reply

@@ -6,7 +6,8 @@ ghost use Rattle.am_record.specs.declared.step.Refusal.TheVariants.{SeatFull};
 ghost use Rattle.am_serial.specs.Trace.{Trace};
 ghost use Rattle.am_core.specs.Standing.{StandsAt};
 ghost use Rattle.am_sound.specs.Right.{IsSoundStore};
-ghost use Rattle.am_latch.specs.Changes.{active, numbers, end_of, is_begin, is_refused, is_stored, room_of, HasTrace, Goes, Answers, Bounded};
+ghost use Rattle.am_latch.specs.Changes.{active, numbers, end_of, is_begin, is_refused, is_stored, room_of};
+ghost use Rattle.am_latch.specs.Changes.{HasTrace, Goes, Answers, Bounded};
 ghost use Rattle.am_latch.specs.Traces.{Engined, fresh, Stepped, ends_after};
 
 use crate::change::{Change, change_by, starts_tx, tx_to_end, was_refused, was_stored};

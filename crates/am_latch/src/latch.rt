@@ -124,8 +124,8 @@ impl<L: Naming> Latch<L> {
         ))
     }
 
-    /// Lends the engine to the closure, which has the latch to itself meanwhile, and answers what it answers of that engine:
-    /// each of its calls was made by a seat of this latch, and what is active in it is open in these seats.
+    /// Lends the engine to the closure, which has the latch to itself meanwhile, and answers what it answers of that
+    /// engine: each of its calls was made by a seat of this latch, and what is active in it is open in these seats.
     pub fn look<T, R: Wait, F: FnOnce(&Engine) -> T>(&self, rt: &R, f: F) -> T
         requires { F.IsAlwaysCallable f }
         ensures { (engine : _) × IsEngineOf L.seats engine.now × F.post f engine result }

@@ -17,8 +17,8 @@ use std::net::TcpStream;
 use std::sync::{Mutex, Wait};
 
 /// Answers the lines of a source at a place, each by one line, and at the end aborts what is open there. The sink has
-/// nothing that isn't sent on, and the number of the place is drawn. The number of the seat stays, and what is published
-/// there is the commit of one of its receipts.
+/// nothing that isn't sent on, and the number of the place is drawn. The number of the seat stays, and what is
+/// published there is the commit of one of its receipts.
 pub fn attend<'a, W: Wait, K: Sink, S: AnsweredSource<K>, L: Naming>(
     rt: &W,
     alloc: Global,

@@ -50,12 +50,13 @@ taken receipts = map (λ (r : Receipt). (r.step, r.reply)) receipts
 abbrev pub stored : Trace → Trace
 stored events = filter (λ (e : Step × Reply). is_stored e.1) events
 
--- What was published at the place is 0, or the number of a commit of which its seat has the receipt. So the watch, which is the
--- greatest published number, is such a number: and each receipt's pair stands in the trace of its latch.
+-- What was published at the place is 0, or the number of a commit of which its seat has the receipt. So the watch,
+-- which is the greatest published number, is such a number: and each receipt's pair stands in the trace of its latch.
 abbrev pub IsOfReceipt : Placed → Type 0
 IsOfReceipt p =
     (p.hand.published ≡ 0)
-    ⊎ ((before after : Trace) × (step : Step) × (taken p.seat.receipts ≡ before ++ (step, Committed p.hand.published) ∷ after))
+    ⊎ ((before after : Trace) × (step : Step)
+    × (taken p.seat.receipts ≡ before ++ (step, Committed p.hand.published) ∷ after))
 
 -- the number of the place is the newest that was drawn there
 abbrev pub IsNumbered : Placed → Type 0

@@ -42,8 +42,9 @@ pub record SoloGoes (old : Solo) (step : Step) (reply : Reply) (new : Solo) : Ty
 abbrev pub SoloTells : Solo → ℕ → ℕ → Solo → Type 0
 SoloTells old session commits new = (session ≡ 0) × (commits ≡ old.kept.commits) × (new ≡ old)
 
--- The exchanges and events of a session alone, which ends in this way: the events are a sound trace, with every merge and clean right, and
--- a legal one; each response is one line, and all of them are those that are said, but where memory was refused.
+-- The exchanges and events of a session alone, which ends in this way: the events are a sound trace, with every merge
+-- and clean right, and a legal one; each response is one line, and all of them are those that are said, but where
+-- memory was refused.
 pub record IsSpoken (auto : ℕ) (ends : Ends) (exchanges all : List Exchange) (trace : Trace) : Type 0 where
   pub dialogue : Dialogue auto ends (None, 0) exchanges trace
   pub sound : IsSoundStore trace

@@ -98,8 +98,8 @@ fn leave<W: Wait, B: Backend>(rt: &W, backend: &mut B, active: Option<u64>)
 /// above 0, and at the end aborts what is active. The sink has nothing that isn't sent on.
 ///
 /// The backend takes the steps of the lines, the merges and the last Abort; each line that is written is the text of a
-/// line's fault, or of the reply to its step, however the source cuts its bytes. Nothing is unsent whenever the source is
-/// asked ([`AnsweredSource`]). BYE is said once nothing is active ([`say_bye`]).
+/// line's fault, or of the reply to its step, however the source cuts its bytes. Nothing is unsent whenever the source
+/// is asked ([`AnsweredSource`]). BYE is said once nothing is active ([`say_bye`]).
 pub fn serve<W: Wait, K: Sink, S: AnsweredSource<K>, B: Backend>(
     rt: &W,
     alloc: Global,

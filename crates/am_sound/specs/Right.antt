@@ -36,14 +36,15 @@ abbrev pub IsMaintained : Store → Trace → Type 0
 IsMaintained s [] = Unit {0}
 IsMaintained s (e ∷ trace) = MaintainedAt s e.0 e.1 × IsMaintained (after_step s e.0 e.1) trace
 
--- each key is live in one place at most, and the content is the committed map with the active transactions' writes: so it is behind
--- each beginning of the trace
+-- behind each beginning of the trace each key is live in one place at most, and the content is the committed map with the
+-- active transactions' writes
 abbrev pub IsPlacedAtEachMoment : Trace → Type 0
-IsPlacedAtEachMoment trace = (before rest : Trace) → before ++ rest ≡ trace → HasContent (after_all opened before).entries (overlay (effects before))
+IsPlacedAtEachMoment trace =
+    (before rest : Trace) → before ++ rest ≡ trace → HasContent (after_all opened before).entries (overlay (effects before))
 
--- A trace is sound: serial, steady, right in its Busy answers and formed at each moment; at each moment each key is live in one place
--- at most and the content is the overlay; nothing is merged that no read asked for and nothing twice, and each merge and clean step is
--- right. The store at its end is right.
+-- A trace is sound: serial, steady, right in its Busy answers and formed at each moment; at each moment each key is live
+-- in one place at most and the content is the overlay; nothing is merged that no read asked for and nothing twice, and
+-- each merge and clean step is right. The store at its end is right.
 pub record IsSoundStore (trace : Trace) : Type 0 where
   pub sound : IsSound trace
   pub placed : IsPlacedAtEachMoment trace

@@ -6,8 +6,8 @@ ghost use Rattle.am_wire.specs.Taking.{Took};
 use crate::sink::Sink;
 use crate::source::{Failed, Source};
 
-/// A source that is asked for more only while nothing that the sink was given is unsent: whoever asks it shows the sink.
-/// Every source is one beside every sink. Code over any such source has no other way to ask it.
+/// A source that is asked for more only while nothing that the sink was given is unsent: whoever asks it shows the
+/// sink. Every source is one beside every sink. Code over any such source has no other way to ask it.
 pub trait AnsweredSource<K: Sink> {
     // The bytes that may still come.
     ghost comes: { Self → List ℕ → Type 0 };

@@ -5,8 +5,8 @@ ghost use Rattle.am_wire.specs.Taking.{TookAhead, IsAtEnd};
 ghost use Rattle.am_wire.specs.Lines.{TookLine, TookPart};
 ghost use Rattle.am_wire.specs.Seen.{seen};
 
-use crate::line::{FoundLine, LineBuffer};
 use crate::answered::AnsweredSource;
+use crate::line::{FoundLine, LineBuffer};
 use crate::sink::Sink;
 use crate::source::Failed;
 use am_record::NoMemory;

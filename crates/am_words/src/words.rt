@@ -118,8 +118,8 @@ impl Words {
             .fetch_max::<Publishes>(&mut me.seat, WATCH, receipt.commit());
     }
 
-    /// Ends the words, and gives the next number and the watch. The rule held of them and of all views, this seat's among
-    /// them: this is where a contract says it.
+    /// Ends the words, and gives the next number and the watch. The rule held of them and of all views, this seat's
+    /// among them: this is where a contract says it.
     pub fn end(self, me: WordSeat) -> (u64, u64)
         requires { me.of ≡ self }
         ensures { WereKept result.0 result.1 me }
