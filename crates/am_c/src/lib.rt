@@ -1,0 +1,5 @@
+//! A store for C.
+#![tactic(auto)]
+
+mod handle;
+mod loose;
