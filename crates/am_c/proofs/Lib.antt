@@ -1,2 +1,3 @@
 mod Handles
 mod Loosened
+mod Zeros

@@ -1,5 +1,12 @@
 //! A store for C.
 #![tactic(auto)]
 
+mod asking;
 mod handle;
 mod loose;
+mod records;
+mod status;
+mod store;
+mod taking;
+mod text;
+mod transactions;
