@@ -1,3 +1,4 @@
 mod Handles
 mod Loosened
+mod Rows
 mod Zeros

@@ -1,7 +1,6 @@
 -- Which step a call asks the store for, or what is wrong with what was given.
-use Rattle.std.specs.Prelude.{ℕ, ◌==◌, cond, List, [], ◌∷◌, Result, Ok, Err}
-use Rattle.std.specs.Ordering.{eq_by_cmp}
-use Rattle.am_record.specs.OrderedKey.{OrderedKey, key_cmp}
+use Rattle.std.specs.Prelude.{◌≡◌, ◌⊎◌, ℕ, ◌==◌, cond, List, [], ◌∷◌, Result, Ok, Err}
+use Rattle.am_record.specs.OrderedKey.{OrderedKey}
 use Rattle.am_record.specs.Interval.{Interval}
 use Rattle.am_record.specs.declared.lock.Mode.{Mode}
 use Rattle.am_record.specs.declared.lock.Mode.TheVariants.{Shared, Exclusive}
@@ -9,7 +8,7 @@ use Rattle.am_record.specs.declared.step.Op.TheVariants.{Get, Scan, Insert, Repl
 use Rattle.am_record.specs.declared.step.Step.{Step}
 use Rattle.am_record.specs.declared.step.Step.TheVariants.{Do, Clean}
 use Rattle.am_c.specs.declared.status.Status.{Status}
-use Rattle.am_c.specs.declared.status.Status.TheVariants.{BadMode}
+use Rattle.am_c.specs.declared.status.Status.TheVariants.{BadMode, NoMemory}
 use Rattle.am_c.specs.declared.text.Record.{Record}
 use Rattle.am_c.specs.Texts.{of_both, key_given, value_given, range_given, pair_given}
 
@@ -47,7 +46,11 @@ pairs_given (r ∷ rs) = of_both (λ pair pairs. Ok (pair ∷ pairs)) (pair_give
 abbrev pub clean_asked : List ℕ → List ℕ → ℕ → Result Step Status
 clean_asked lo hi limit = of_one (λ range. Clean range limit) (range_given lo hi)
 
--- the rows of an answer to a scan from that key on, without the record of the key itself: those behind it
-abbrev pub behind : OrderedKey → List (OrderedKey × List ℕ) → List (OrderedKey × List ℕ)
-behind k [] = []
-behind k (r ∷ rs) = cond (eq_by_cmp key_cmp r.0 k) rs (r ∷ rs)
+-- all of the records in a load, or what is wrong with them, or memory is refused for them
+abbrev pub IsLoadAsked : ℕ → List Record → Result Step Status → Type 0
+IsLoadAsked tx records asked = (asked ≡ of_one (λ pairs. Do tx (Load pairs)) (pairs_given records)) ⊎ (asked ≡ Err NoMemory)
+
+-- the pairs of all records were made, or what is wrong was told, or memory was refused
+abbrev pub IsAdded : List Record → Result (Unit {0}) Status → List (OrderedKey × List ℕ) → Type 0
+IsAdded records (Ok done) pairs = pairs_given records ≡ Ok pairs
+IsAdded records (Err why) pairs = (pairs_given records ≡ Err why) ⊎ (why ≡ NoMemory)

@@ -1,11 +1,12 @@
 //! The steps that C asks for.
 
-ghost use Rattle.std.specs.Prelude.{◌≡◌};
-ghost use Rattle.am_c.specs.Asking.{get_asked, insert_asked, replace_asked, delete_asked, scan_asked, mode_given, lock_asked, clean_asked};
+ghost use Rattle.std.specs.Prelude.{◌≡◌, []};
+ghost use Rattle.am_c.specs.Asking.{get_asked, insert_asked, replace_asked, delete_asked, scan_asked, mode_given, lock_asked, IsLoadAsked, IsAdded, clean_asked};
 
 use crate::status::Status;
-use crate::text::{key_given, range_given, value_given};
-use am_record::{Lock, Mode, Op, Step};
+use crate::text::{Record, key_given, range_given, value_given};
+use am_record::{Key, Lock, Mode, Op, Pairs, Step, Value};
+use std::alloc::Global;
 
 pub(crate) fn get_asked(tx: u64, key: &[u8]) -> Result<Step, Status>
     ensures { result ≡ get_asked tx key.now }
@@ -67,4 +68,30 @@ pub(crate) fn clean_asked(lo: &[u8], hi: &[u8], limit: u64) -> Result<Step, Stat
     ensures { result ≡ clean_asked lo.now hi.now limit }
 {
     Ok(Step::Clean(range_given(lo, hi)?, limit))
+}
+
+pub(crate) fn load_asked(alloc: Global, tx: u64, records: &[Record]) -> Result<Step, Status>
+    ensures { IsLoadAsked tx records.now result }
+{
+    let Ok(mut pairs) = Vec::with_capacity(alloc, records.len()) else {
+        return Err(Status::NoMemory);
+    };
+    match add_pairs(records, &mut pairs) {
+        Ok(()) => Ok(Step::Do(tx, Op::Load(Pairs::new(pairs)))),
+        Err(why) => Err(why),
+    }
+}
+
+// Adds the pairs of the records.
+fn add_pairs(records: &[Record], pairs: &mut Vec<(Key, Value)>) -> Result<(), Status>
+    requires { pairs.old.items ≡ [] }
+    ensures { IsAdded records.now result pairs.new.items }
+{
+    for record in records {
+        let pair = record.pair()?;
+        if pairs.push(pair).is_err() {
+            return Err(Status::NoMemory);
+        }
+    }
+    Ok(())
 }

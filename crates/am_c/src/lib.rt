@@ -4,6 +4,7 @@
 mod asking;
 mod handle;
 mod loose;
+mod ranges;
 mod records;
 mod status;
 mod store;
