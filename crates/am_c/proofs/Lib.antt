@@ -1,3 +1,4 @@
+mod Given
 mod Handles
 mod Loosened
 mod Rows

@@ -17,19 +17,13 @@ pub(crate) fn get_asked(tx: u64, key: &[u8]) -> Result<Step, Status>
 pub(crate) fn insert_asked(tx: u64, key: &[u8], value: &[u8]) -> Result<Step, Status>
     ensures { result ≡ insert_asked tx key.now value.now }
 {
-    Ok(Step::Do(
-        tx,
-        Op::Insert(key_given(key)?, value_given(value)?),
-    ))
+    Ok(Step::Do(tx, Op::Insert(key_given(key)?, value_given(value)?)))
 }
 
 pub(crate) fn replace_asked(tx: u64, key: &[u8], value: &[u8]) -> Result<Step, Status>
     ensures { result ≡ replace_asked tx key.now value.now }
 {
-    Ok(Step::Do(
-        tx,
-        Op::Replace(key_given(key)?, value_given(value)?),
-    ))
+    Ok(Step::Do(tx, Op::Replace(key_given(key)?, value_given(value)?)))
 }
 
 pub(crate) fn delete_asked(tx: u64, key: &[u8]) -> Result<Step, Status>
@@ -88,9 +82,13 @@ fn add_pairs(records: &[Record], pairs: &mut Vec<(Key, Value)>) -> Result<(), St
     ensures { IsAdded records.now result pairs.new.items }
 {
     for record in records {
-        let pair = record.pair()?;
-        if pairs.push(pair).is_err() {
-            return Err(Status::NoMemory);
+        match record.pair() {
+            Ok(pair) => {
+                if pairs.push(pair).is_err() {
+                    return Err(Status::NoMemory);
+                }
+            }
+            Err(why) => return Err(why),
         }
     }
     Ok(())

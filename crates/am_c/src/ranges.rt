@@ -1,7 +1,6 @@
 //! The calls of ranges and of many records.
 
 ghost use Rattle.std.specs.Prelude.{◌≡◌, ◌≤◌, ◌+◌, length};
-
 ghost use Rattle.am_c.specs.Asking.{scan_asked, lock_asked, IsLoadAsked};
 ghost use Rattle.am_c.specs.Taking.{Tells, status, number};
 ghost use Rattle.am_c.specs.Telling.{all, without, behind, rows_over, rows_told, count_told, key_told, TellsLoad};

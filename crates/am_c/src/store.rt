@@ -56,7 +56,12 @@ pub extern "C" fn tiuvrokk_close(alloc: Global, store: &mut Handle) -> u32
 
 /// One merge step: the number told is how many entries were worked off, or who is in the way.
 #[unsafe(no_mangle)]
-pub extern "C" fn tiuvrokk_merge(alloc: Global, store: &mut Handle, limit: u64, told: &mut u64) -> u32
+pub extern "C" fn tiuvrokk_merge(
+    alloc: Global,
+    store: &mut Handle,
+    limit: u64,
+    told: &mut u64,
+) -> u32
     ensures { Tells store.old.held (Ok (Merge limit)) store.new.held (λ answer. (result ≡ status answer) × (told.new ≡ number answer)) }
 {
     tell(alloc, store, Ok(Step::Merge(limit)), told)
