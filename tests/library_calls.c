@@ -1,7 +1,8 @@
 /* Random calls of up to four transactions on one store, each answer compared with that of a model made of lists: the
  * committed records, each transaction's writes over them, and the ranges that each has locked.
- *     library_calls CALLS SEED [refused]
- * With `refused` a call may answer TVK_NO_MEMORY, and must have done nothing then. Nothing here allocates. */
+ *     library_calls CALLS SEED [once|ever]
+ * With `once` a call may answer TVK_NO_MEMORY, and must have done nothing then; with `ever` no call is tried again for that, so
+ * that the records aren't compared in the end. Nothing here allocates. */
 #include <stdio.h>
 #include <stdlib.h>
 #include <string.h>
@@ -29,7 +30,7 @@ static uint64_t begun, commits, loads;
 static tvk_store store = TVK_CLOSED;
 static tvk_record rows[TVK_MAX_ROWS + 1];
 static long call;
-static int may_refuse;
+static int may_refuse, is_ever_refused;
 static long refused, answers[TVK_NULL + 1];
 
 static uint64_t state;
@@ -267,7 +268,7 @@ static void test_load(transaction *tx) {
 }
 
 static void test_scan(transaction *tx, int is_behind) {
-    int lo = below(KEYS), hi = lo + below(below(4) ? 8 : KEYS), limit = 1 + below(below(4) ? 8 : TVK_MAX_ROWS - 1);
+    int lo = below(KEYS), hi = lo + below(below(16) ? 8 : KEYS), limit = 1 + below(below(4) ? 8 : TVK_MAX_ROWS - 1);
     if (hi >= KEYS) hi = KEYS - 1;
     lock asked = {lo, hi, 0};
     uint64_t told = 7, holder, number = 0;
@@ -322,8 +323,9 @@ static void test_bad_use(void) {
     tvk_store closed = TVK_CLOSED;
     tvk_value value;
     uint64_t tx = begun + 1, told;
+    tvk_status got;
 #define EXPECT(due, what) \
-    if ((what) != (due)) fail(#what)
+    if ((got = (what)) != (due) && !(got == TVK_NO_MEMORY && may_refuse)) fail(#what)
     EXPECT(TVK_NO_STORE, tvk_begin(NULL, &told));
     EXPECT(TVK_NO_STORE, tvk_begin(&closed, &told));
     EXPECT(TVK_NO_STORE, tvk_close(&closed));
@@ -390,7 +392,7 @@ static void test_any(void) {
 /* What must not be refused memory in the end is asked again until it isn't. */
 #define ASK(what) \
     do got = (what); \
-    while (got == TVK_NO_MEMORY && may_refuse && ++refused < 1000000)
+    while (got == TVK_NO_MEMORY && may_refuse && !is_ever_refused)
 
 static void test_end(void) {
     uint64_t told = 7, due = 0, tx;
@@ -399,6 +401,7 @@ static void test_end(void) {
         if (active[s].number) test_abort(&active[s]);
     tvk_commits(&store, &told);
     if (told != commits) fail("another number of commits");
+    if (is_ever_refused) return;
     do
         if (tvk_clean(&store, NULL, 0, keys[KEYS - 1].bytes, TVK_MAX_KEY, TVK_MAX_LIMIT, &told)) fail("the last clean steps");
     while (told);
@@ -429,8 +432,10 @@ int main(int words, char **word) {
     tvk_status got;
     state = words > 2 ? strtoull(word[2], NULL, 10) : 1;
     may_refuse = words > 3;
+    is_ever_refused = may_refuse && !strcmp(word[3], "ever");
     make_keys();
     ASK(tvk_open(&store));
+    if (is_ever_refused && got == TVK_NO_MEMORY) return store.at != NULL;
     if (got) fail("no store was opened");
     for (call = 1; call <= number; call++) {
         test_any();

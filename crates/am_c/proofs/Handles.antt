@@ -1,8 +1,7 @@
 -- The machine values of a `Handle`: a pointer and the heap's handle. Assumes `Logic`.
-use Rattle.std.proofs.Common.{◌≡◌, ℕ, List, [], ◌∷◌, ◌++◌, refl, subst, sym, ap, ◌∙◌}
+use Rattle.std.proofs.Common.{◌≡◌, ℕ, List, [], ◌∷◌, ◌++◌, refl, subst}
 use seplogic.Ra.Ura.{Ura}
 use mir.Val.{Val, vstruct, of_list}
-use lib.Dec.{T}
 use mir.Raw.{raw as bare}
 use base.Fml.{Fml, fex, ftrue}
 use base.Fraction.{full_share}

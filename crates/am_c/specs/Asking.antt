@@ -1,7 +1,6 @@
 -- Which step a call asks the store for, or what is wrong with what was given.
 use Rattle.std.specs.Prelude.{◌≡◌, ◌⊎◌, ℕ, ◌==◌, cond, List, [], ◌∷◌, Result, Ok, Err}
 use Rattle.am_record.specs.OrderedKey.{OrderedKey}
-use Rattle.am_record.specs.Interval.{Interval}
 use Rattle.am_record.specs.declared.lock.Mode.{Mode}
 use Rattle.am_record.specs.declared.lock.Mode.TheVariants.{Shared, Exclusive}
 use Rattle.am_record.specs.declared.step.Op.TheVariants.{Get, Scan, Insert, Replace, Delete, Load, Lock}

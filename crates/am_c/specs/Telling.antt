@@ -1,5 +1,5 @@
 -- What of an answer C is given beside its status and its number.
-use Rattle.std.specs.Prelude.{ℕ, nat_eq, cond, List, [], ◌∷◌, ◌++◌, map, take, drop, length, Option, Result, Ok, Err}
+use Rattle.std.specs.Prelude.{ℕ, nat_eq, cond, List, [], ◌∷◌, ◌++◌, map, take, drop, length, Option, Result, Ok}
 use Rattle.std.specs.Cmp.Lexicographic.{pointwise}
 use Rattle.am_record.specs.OrderedKey.{OrderedKey, bytes_of}
 use Rattle.am_record.specs.declared.step.Reply.{Reply}

@@ -1,5 +1,5 @@
 -- Keys, values and records as C gives and gets them.
-use Rattle.std.specs.Prelude.{ℕ, nat_le, length, List, [], ◌∷◌, ◌++◌, ◌-◌, take, replicate, cond, Result, Ok, Err}
+use Rattle.std.specs.Prelude.{ℕ, nat_le, length, List, ◌++◌, ◌-◌, take, replicate, cond, Result, Ok, Err}
 use Rattle.am_record.specs.OrderedKey.{OrderedKey, key_of, bytes_of}
 use Rattle.am_record.specs.Interval.{Interval, key_le}
 use Rattle.am_c.specs.declared.status.Status.{Status}

@@ -1,4 +1,4 @@
-use Rattle.std.proofs.Common.{rules, arith, sym, ap, ◌∙◌, Ok, refl, inl}
+use Rattle.std.proofs.Common.{arith, sym, ap, ◌∙◌, Ok, refl, inl}
 use Rattle.am_c.proofs.Given.{one_more, one_wrong, pushed}
 use Rattle.am_c.proofs.asking.add_pairs.Goals as goal
 

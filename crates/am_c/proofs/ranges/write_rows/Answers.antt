@@ -1,4 +1,4 @@
-use Rattle.std.proofs.Common.{◌≡◌, ◌∙◌, sym, rules, length, arith}
+use Rattle.std.proofs.Common.{◌∙◌, sym, rules, arith}
 use Rattle.std.proofs.lemmas.List.{length-set}
 use Rattle.am_c.proofs.Rows.{writes_next}
 use Rattle.am_c.proofs.ranges.write_rows.Goals as goal
