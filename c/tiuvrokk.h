@@ -36,6 +36,9 @@
  * until the transaction ends. A lock is granted or refused at once: no call waits. TVK_BUSY names the transaction that is
  * in the way; the caller may do something else, abort, or try again once that one has ended.
  *
+ * UPKEEP. Loaded records are merged where tvk_merge is called, and deleted ones stay, marked, until tvk_clean takes them away;
+ * reads pass over both, so a program calls the two now and then, as after each commit. Neither changes what anybody reads.
+ *
  * BAD USE that the library can see is answered by a status and changes nothing: a null pointer, a handle without a store,
  * a length, limit or mode out of bounds. What it can't see is the caller's to uphold: a handle is TVK_CLOSED before it is
  * opened, is not copied, and is changed by these calls alone; a pointer leads to as many bytes, rows or records as are
