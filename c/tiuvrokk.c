@@ -1,0 +1,202 @@
+/* The calls of tiuvrokk.h over the exports of crates/am_c, which take no null pointer: here each pointer is tested, and
+ * nothing else is done. */
+#include "tiuvrokk.h"
+
+/* What the exports take: a handle that isn't null, texts as pointer and length, and where to write what they tell. */
+uint32_t tiuvrokk_open(tvk_store *store);
+uint32_t tiuvrokk_close(tvk_store *store);
+uint32_t tiuvrokk_begin(tvk_store *store, uint64_t *told);
+uint32_t tiuvrokk_commit(tvk_store *store, uint64_t tx, uint64_t *told);
+uint32_t tiuvrokk_abort(tvk_store *store, uint64_t tx, uint64_t *told);
+uint32_t tiuvrokk_mark(tvk_store *store, uint64_t tx, uint64_t *told);
+uint32_t tiuvrokk_back(tvk_store *store, uint64_t tx, uint64_t *told);
+uint32_t tiuvrokk_get(tvk_store *store, uint64_t tx, const void *key, size_t key_length, tvk_value *value, uint64_t *told);
+uint32_t tiuvrokk_insert(tvk_store *store, uint64_t tx, const void *key, size_t key_length, const void *value,
+                         size_t value_length, uint64_t *told);
+uint32_t tiuvrokk_replace(tvk_store *store, uint64_t tx, const void *key, size_t key_length, const void *value,
+                          size_t value_length, uint64_t *told);
+uint32_t tiuvrokk_delete(tvk_store *store, uint64_t tx, const void *key, size_t key_length, uint64_t *told);
+uint32_t tiuvrokk_load(tvk_store *store, uint64_t tx, const tvk_record *records, size_t number, tvk_key *exists,
+                       uint64_t *told);
+uint32_t tiuvrokk_scan(tvk_store *store, uint64_t tx, const void *lo, size_t lo_length, const void *hi, size_t hi_length,
+                       tvk_record *rows, size_t limit, uint64_t *told);
+uint32_t tiuvrokk_scan_behind(tvk_store *store, uint64_t tx, const void *key, size_t key_length, const void *hi,
+                              size_t hi_length, tvk_record *rows, size_t limit, uint64_t *told);
+uint32_t tiuvrokk_lock(tvk_store *store, uint64_t tx, uint32_t mode, const void *lo, size_t lo_length, const void *hi,
+                       size_t hi_length, uint64_t *told);
+uint32_t tiuvrokk_merge(tvk_store *store, uint64_t limit, uint64_t *told);
+uint32_t tiuvrokk_clean(tvk_store *store, const void *lo, size_t lo_length, const void *hi, size_t hi_length,
+                        uint64_t limit, uint64_t *told);
+uint32_t tiuvrokk_commits(tvk_store *store, uint64_t *told);
+uint32_t tiuvrokk_entries(tvk_store *store, uint64_t *told);
+
+/* What a text of no bytes points to, and a list of no records. */
+static const char no_bytes[1];
+static tvk_record no_records[1];
+
+/* Tests the handle, and lets the number go nowhere where it isn't wanted. */
+#define BEGIN                                \
+    uint64_t unwanted;                       \
+    if (!told) told = &unwanted;             \
+    *told = 0;                               \
+    if (!store) return TVK_NO_STORE
+
+#define NEEDS(pointer)                       \
+    if (!(pointer)) return TVK_NULL
+
+/* A text is as long as its kind may be, and is null only where it is empty. */
+#define TEXT(text, most, bad)                \
+    if (text##_length > (most)) return bad;  \
+    if (!(text)) {                           \
+        if (text##_length) return TVK_NULL;  \
+        text = no_bytes;                     \
+    }
+
+#define KEY(key) TEXT(key, TVK_MAX_KEY, TVK_BAD_KEY)
+#define VALUE(value) TEXT(value, TVK_MAX_VALUE, TVK_BAD_VALUE)
+
+const char *tvk_name(tvk_status status) {
+    static const char *const names[] = {
+        "TVK_OK", "TVK_ABSENT", "TVK_EXISTS", "TVK_BUSY", "TVK_NO_TX", "TVK_NO_MARK", "TVK_DONE", "TVK_IDLE", "TVK_ENDED",
+        "TVK_TOO_MANY_TX", "TVK_TOO_MANY_LOCKS", "TVK_TOO_MANY_OPS", "TVK_TOO_MANY_RUNS", "TVK_NOT_RISING",
+        "TVK_BAD_LIMIT", "TVK_NO_MEMORY", "?", "TVK_NO_STORE", "TVK_IS_OPEN", "TVK_BAD_KEY", "TVK_BAD_VALUE",
+        "TVK_BAD_RANGE", "TVK_BAD_MODE", "TVK_NULL",
+    };
+    return (size_t)status < sizeof names / sizeof *names ? names[status] : "?";
+}
+
+tvk_status tvk_open(tvk_store *store) {
+    if (!store) return TVK_NO_STORE;
+    return tiuvrokk_open(store);
+}
+
+tvk_status tvk_close(tvk_store *store) {
+    if (!store) return TVK_NO_STORE;
+    return tiuvrokk_close(store);
+}
+
+tvk_status tvk_begin(tvk_store *store, uint64_t *told) {
+    BEGIN;
+    return tiuvrokk_begin(store, told);
+}
+
+tvk_status tvk_commit(tvk_store *store, uint64_t tx, uint64_t *told) {
+    BEGIN;
+    return tiuvrokk_commit(store, tx, told);
+}
+
+tvk_status tvk_abort(tvk_store *store, uint64_t tx) {
+    uint64_t told;
+    if (!store) return TVK_NO_STORE;
+    return tiuvrokk_abort(store, tx, &told);
+}
+
+tvk_status tvk_mark(tvk_store *store, uint64_t tx) {
+    uint64_t told;
+    if (!store) return TVK_NO_STORE;
+    return tiuvrokk_mark(store, tx, &told);
+}
+
+tvk_status tvk_back(tvk_store *store, uint64_t tx) {
+    uint64_t told;
+    if (!store) return TVK_NO_STORE;
+    return tiuvrokk_back(store, tx, &told);
+}
+
+tvk_status tvk_get(tvk_store *store, uint64_t tx, const void *key, size_t key_length, tvk_value *value, uint64_t *told) {
+    BEGIN;
+    KEY(key);
+    NEEDS(value);
+    return tiuvrokk_get(store, tx, key, key_length, value, told);
+}
+
+tvk_status tvk_insert(tvk_store *store, uint64_t tx, const void *key, size_t key_length, const void *value,
+                      size_t value_length, uint64_t *told) {
+    BEGIN;
+    KEY(key);
+    VALUE(value);
+    return tiuvrokk_insert(store, tx, key, key_length, value, value_length, told);
+}
+
+tvk_status tvk_replace(tvk_store *store, uint64_t tx, const void *key, size_t key_length, const void *value,
+                       size_t value_length, uint64_t *told) {
+    BEGIN;
+    KEY(key);
+    VALUE(value);
+    return tiuvrokk_replace(store, tx, key, key_length, value, value_length, told);
+}
+
+tvk_status tvk_delete(tvk_store *store, uint64_t tx, const void *key, size_t key_length, uint64_t *told) {
+    BEGIN;
+    KEY(key);
+    return tiuvrokk_delete(store, tx, key, key_length, told);
+}
+
+tvk_status tvk_load(tvk_store *store, uint64_t tx, const tvk_record *records, size_t number, tvk_key *exists,
+                    uint64_t *told) {
+    tvk_key unread;
+    BEGIN;
+    if (!exists) {
+        unread.length = 0;
+        exists = &unread;
+    }
+    if (!records) {
+        if (number) return TVK_NULL;
+        records = no_records;
+    }
+    return tiuvrokk_load(store, tx, records, number, exists, told);
+}
+
+tvk_status tvk_scan(tvk_store *store, uint64_t tx, const void *lo, size_t lo_length, const void *hi, size_t hi_length,
+                    tvk_record *rows, size_t limit, uint64_t *told) {
+    BEGIN;
+    KEY(lo);
+    KEY(hi);
+    if (limit > TVK_MAX_ROWS) return TVK_BAD_LIMIT;
+    if (!rows) {
+        if (limit) return TVK_NULL;
+        rows = no_records;
+    }
+    return tiuvrokk_scan(store, tx, lo, lo_length, hi, hi_length, rows, limit, told);
+}
+
+tvk_status tvk_scan_behind(tvk_store *store, uint64_t tx, const void *key, size_t key_length, const void *hi,
+                           size_t hi_length, tvk_record *rows, size_t limit, uint64_t *told) {
+    BEGIN;
+    KEY(key);
+    KEY(hi);
+    if (limit < 1 || limit > TVK_MAX_ROWS - 1) return TVK_BAD_LIMIT;
+    NEEDS(rows);
+    return tiuvrokk_scan_behind(store, tx, key, key_length, hi, hi_length, rows, limit, told);
+}
+
+tvk_status tvk_lock(tvk_store *store, uint64_t tx, tvk_mode mode, const void *lo, size_t lo_length, const void *hi,
+                    size_t hi_length, uint64_t *told) {
+    BEGIN;
+    KEY(lo);
+    KEY(hi);
+    return tiuvrokk_lock(store, tx, (uint32_t)mode, lo, lo_length, hi, hi_length, told);
+}
+
+tvk_status tvk_merge(tvk_store *store, uint64_t limit, uint64_t *told) {
+    BEGIN;
+    return tiuvrokk_merge(store, limit, told);
+}
+
+tvk_status tvk_clean(tvk_store *store, const void *lo, size_t lo_length, const void *hi, size_t hi_length, uint64_t limit,
+                     uint64_t *told) {
+    BEGIN;
+    KEY(lo);
+    KEY(hi);
+    return tiuvrokk_clean(store, lo, lo_length, hi, hi_length, limit, told);
+}
+
+tvk_status tvk_commits(tvk_store *store, uint64_t *told) {
+    BEGIN;
+    return tiuvrokk_commits(store, told);
+}
+
+tvk_status tvk_entries(tvk_store *store, uint64_t *told) {
+    BEGIN;
+    return tiuvrokk_entries(store, told);
+}

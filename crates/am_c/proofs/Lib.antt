@@ -1,0 +1,5 @@
+mod Given
+mod Handles
+mod Loosened
+mod Rows
+mod Zeros

@@ -1,0 +1,77 @@
+-- What a reply of the store is to C: a status, under the number of the header, and a number beside it.
+use Rattle.std.specs.Prelude.{ℕ}
+use Rattle.am_record.specs.declared.step.Refusal.{Refusal}
+use Rattle.am_record.specs.declared.step.Refusal.TheVariants.{NoSuchTx, Busy, TooManyTx, TooManyLocks, TooManyOps, TooManyRuns, NotRising, BadLimit, NoMemory, SeatFull}
+use Rattle.am_record.specs.declared.step.Reply.{Reply}
+use Rattle.am_record.specs.declared.step.Reply.TheVariants.{Begun, Done, Found, Absent, Rows, Exists, Missing, Committed, Aborted, Moved, MergeDone, Ended, Idle, Cleaned, NoMark, Refused}
+use Rattle.am_c.specs.declared.status.Status.{Status}
+use Rattle.am_c.specs.declared.status.Status.TheVariants as is
+
+abbrev pub code : Status → ℕ
+code is.Fine = 0
+code is.Absent = 1
+code is.Exists = 2
+code is.Busy = 3
+code is.NoTx = 4
+code is.NoMark = 5
+code is.Done = 6
+code is.Idle = 7
+code is.Ended = 8
+code is.TooManyTx = 9
+code is.TooManyLocks = 10
+code is.TooManyOps = 11
+code is.TooManyRuns = 12
+code is.NotRising = 13
+code is.BadLimit = 14
+code is.NoMemory = 15
+code is.SeatFull = 16
+code is.NoStore = 17
+code is.IsOpen = 18
+code is.BadKey = 19
+code is.BadValue = 20
+code is.BadRange = 21
+code is.BadMode = 22
+
+abbrev pub refusal_status : Refusal → Status
+refusal_status NoSuchTx = is.NoTx
+refusal_status (Busy t) = is.Busy
+refusal_status TooManyTx = is.TooManyTx
+refusal_status TooManyLocks = is.TooManyLocks
+refusal_status TooManyOps = is.TooManyOps
+refusal_status TooManyRuns = is.TooManyRuns
+refusal_status NotRising = is.NotRising
+refusal_status BadLimit = is.BadLimit
+refusal_status NoMemory = is.NoMemory
+refusal_status SeatFull = is.SeatFull
+
+abbrev pub status_of : Reply → Status
+status_of (Begun t) = is.Fine
+status_of Done = is.Fine
+status_of (Found v) = is.Fine
+status_of Absent = is.Absent
+status_of (Rows rows) = is.Fine
+status_of (Exists k) = is.Exists
+status_of Missing = is.Absent
+status_of (Committed n) = is.Fine
+status_of Aborted = is.Fine
+status_of (Moved n run) = is.Fine
+status_of MergeDone = is.Done
+status_of (Ended k t) = is.Ended
+status_of Idle = is.Idle
+status_of (Cleaned n) = is.Fine
+status_of NoMark = is.NoMark
+status_of (Refused why) = refusal_status why
+
+-- the transaction that is in the way
+abbrev pub refusal_number : Refusal → ℕ
+refusal_number (Busy t) = t
+refusal_number why = 0
+
+abbrev pub number_of : Reply → ℕ
+number_of (Begun t) = t
+number_of (Committed n) = n
+number_of (Moved n run) = n
+number_of (Ended k t) = t
+number_of (Cleaned n) = n
+number_of (Refused why) = refusal_number why
+number_of reply = 0

@@ -1,0 +1,128 @@
+//! The calls of a store itself: it is opened and closed, merged and cleaned, and counted.
+
+ghost use Rattle.std.specs.Prelude.{◌≡◌, None, Ok, IfOk, length};
+ghost use Rattle.am_record.specs.declared.step.Step.TheVariants.{Merge};
+ghost use Rattle.am_c.specs.Asking.{clean_asked};
+ghost use Rattle.am_c.specs.Taking.{Tells, Opens, IsNew, Closes, Counts, CountsOrFails, status, number};
+
+use crate::asking::clean_asked;
+use crate::handle::Handle;
+use crate::status::Status;
+use crate::taking::tell;
+use am_btree::BTree;
+use am_core::Store;
+use am_record::{NoMemory, Step};
+use std::alloc::Global;
+
+/// Opens an empty store behind a handle that has none.
+#[unsafe(no_mangle)]
+pub extern "C" fn tiuvrokk_open(alloc: Global, store: &mut Handle) -> u32
+    ensures { Opens store.old.held result store.new.held }
+{
+    if let Some(open) = store.take(alloc) {
+        store.put(open);
+        return Status::IsOpen.code();
+    }
+    match new_store(alloc) {
+        Ok(new) => {
+            store.put(new);
+            Status::Fine.code()
+        }
+        Err(NoMemory) => Status::NoMemory.code(),
+    }
+}
+
+fn new_store(alloc: Global) -> Result<Box<Store<BTree>>, NoMemory>
+    ensures { IfOk result (λ b. IsNew b.value) }
+{
+    let store = Store::open(alloc, BTree::new(alloc)?)?;
+    Ok(Box::new(alloc, store)?)
+}
+
+/// Gives back all memory of the store, whatever is open in it, and leaves the handle without one.
+#[unsafe(no_mangle)]
+pub extern "C" fn tiuvrokk_close(alloc: Global, store: &mut Handle) -> u32
+    ensures told { Closes store.old.held result }
+    ensures closed { store.new.held ≡ None }
+{
+    match store.take(alloc) {
+        Some(open) => {
+            drop(open);
+            Status::Fine.code()
+        }
+        None => Status::NoStore.code(),
+    }
+}
+
+/// One merge step: the number told is how many entries were worked off, or who is in the way.
+#[unsafe(no_mangle)]
+pub extern "C" fn tiuvrokk_merge(
+    alloc: Global,
+    store: &mut Handle,
+    limit: u64,
+    told: &mut u64,
+) -> u32
+    ensures { Tells store.old.held (Ok (Merge limit)) store.new.held (λ answer. (result ≡ status answer) × (told.new ≡ number answer)) }
+{
+    tell(alloc, store, Ok(Step::Merge(limit)), told)
+}
+
+/// One clean step: the number told is how many ghosts are gone.
+#[unsafe(no_mangle)]
+pub extern "C" fn tiuvrokk_clean(
+    alloc: Global,
+    store: &mut Handle,
+    lo: &[u8],
+    hi: &[u8],
+    limit: u64,
+    told: &mut u64,
+) -> u32
+    ensures { Tells store.old.held (clean_asked lo.now hi.now limit) store.new.held (λ answer. (result ≡ status answer) × (told.new ≡ number answer)) }
+{
+    tell(alloc, store, clean_asked(lo, hi, limit), told)
+}
+
+/// How many transactions committed.
+#[unsafe(no_mangle)]
+pub extern "C" fn tiuvrokk_commits(alloc: Global, store: &mut Handle, told: &mut u64) -> u32
+    ensures count { Counts (λ p. p.commits) store.old.held result told.new }
+    ensures kept { store.new.held ≡ store.old.held }
+{
+    let Some(open) = store.take(alloc) else {
+        *told = 0;
+        return Status::NoStore.code();
+    };
+    *told = open.commits();
+    store.put(open);
+    Status::Fine.code()
+}
+
+/// How many entries the index has, those marked as deleted too. All are copied to be counted.
+#[unsafe(no_mangle)]
+pub extern "C" fn tiuvrokk_entries(alloc: Global, store: &mut Handle, told: &mut u64) -> u32
+    ensures count { CountsOrFails (λ p. length p.entries) store.old.held result told.new }
+    ensures kept { store.new.held ≡ store.old.held }
+{
+    let Some(open) = store.take(alloc) else {
+        *told = 0;
+        return Status::NoStore.code();
+    };
+    let counted = count_entries(alloc, &open);
+    store.put(open);
+    match counted {
+        Ok(entries) => {
+            *told = entries;
+            Status::Fine.code()
+        }
+        Err(NoMemory) => {
+            *told = 0;
+            Status::NoMemory.code()
+        }
+    }
+}
+
+fn count_entries(alloc: Global, store: &Box<Store<BTree>>) -> Result<u64, NoMemory>
+    ensures { IfOk result (λ count. count ≡ length store.now.value.entries) }
+{
+    Ok(store.entries(alloc)?.len() as u64)
+}

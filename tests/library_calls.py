@@ -1,0 +1,106 @@
+#!/usr/bin/env python3
+"""Random transactions through the Python package, compared with plain dictionaries: tests/library_calls.py CALLS SEED"""
+
+import random
+import sys
+
+import tiuvrokk
+
+
+def keys_between(seen, lo, hi):
+    return sorted(item for item in seen.items() if lo <= item[0] <= hi)
+
+
+def expect(error, call, *words):
+    """The exception of a call that is to fail."""
+    try:
+        call(*words)
+    except error as raised:
+        return raised
+    raise AssertionError(f"no {error.__name__}")
+
+
+def change(rng, tx, seen, keys):
+    """One random call; `seen` is what the transaction sees."""
+    key, value = rng.choice(keys), rng.randbytes(rng.choice((0, 1, 8, 64)))
+    match rng.randrange(10):
+        case 0 | 1:
+            assert tx.get(key) == seen.get(key) and (key in tx) == (key in seen)
+        case 2:
+            tx[key] = value
+            seen[key] = value
+        case 3 if key in seen:
+            assert expect(tiuvrokk.Exists, tx.insert, key, value).key == key
+        case 3:
+            tx.insert(key, value)
+            seen[key] = value
+        case 4 if key in seen:
+            tx.replace(key, value)
+            seen[key] = value
+        case 4:
+            expect(tiuvrokk.Absent, tx.replace, key, value)
+        case 5 if key in seen:
+            del tx[key]
+            del seen[key]
+        case 5:
+            expect(KeyError, tx.__delitem__, key)
+        case 6 | 7:
+            lo, hi = sorted((rng.choice(keys), rng.choice(keys)))
+            assert list(tx.scan(lo, hi, page=rng.choice((1, 3, 100, 999)))) == keys_between(seen, lo, hi)
+        case 8:
+            new = {k: rng.randbytes(3) for k in rng.sample(keys, 8) if k not in seen}
+            assert tx.load(new.items(), run=rng.choice((1, 3, 4096))) == len(new)
+            seen.update(new)
+        case 9:
+            before = dict(seen)
+            tx.mark()
+            tx[key] = value
+            tx.back()
+            assert keys_between(before, b"", keys[-1]) == list(tx.scan())
+
+
+def main(calls: int, seed: int) -> None:
+    rng = random.Random(seed)
+    keys = sorted({rng.randbytes(rng.randrange(33)) for _ in range(120)})
+    committed, done, commits = {}, 0, 0
+    with tiuvrokk.Store() as store:
+        while done < calls:
+            seen, number = dict(committed), rng.randrange(40)
+            is_kept = rng.random() < 0.8
+            try:
+                with store.transaction() as tx:
+                    for _ in range(number):
+                        change(rng, tx, seen, keys)
+                    if not is_kept:
+                        raise InterruptedError
+                commits += 1
+                assert tx.commit_number == commits == store.commits
+                committed = seen
+            except InterruptedError:
+                pass
+            expect(tiuvrokk.NoTransaction, tx.get, keys[0])
+            done += number + 1
+            while rng.random() < 0.7 and store.merge() is not None:
+                pass
+        while store.clean():
+            pass
+        assert store.entries() == len(committed)
+
+        first, second = store.transaction(), store.transaction()
+        first.lock(b"a", b"c", exclusive=True)
+        assert expect(tiuvrokk.Busy, second.get, b"b").holder == first.number
+        first.abort()
+        second.lock(b"b")
+        expect(tiuvrokk.Bad, second.get, b"x" * 33)
+        expect(ValueError, second.insert, b"x", b"x" * 65)
+        expect(tiuvrokk.Bad, second.load, [(b"x", b"x" * 65)])
+        expect(tiuvrokk.NotRising, second.load, [(b"xx", b"1"), (b"xx", b"2")])
+        expect(tiuvrokk.Bad, second.scan, b"b", b"a")
+        expect(tiuvrokk.NoMark, second.back)
+    expect(tiuvrokk.Closed, second.get, b"b")
+    expect(tiuvrokk.Closed, store.transaction)
+    print(f"library: {done} calls from Python, {commits} commits")
+
+
+if __name__ == "__main__":
+    main(int(sys.argv[1]), int(sys.argv[2]))
