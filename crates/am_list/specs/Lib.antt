@@ -4,3 +4,4 @@ pub mod Places
 pub mod Edits
 pub mod Walks
 pub mod Content
+pub mod Runs

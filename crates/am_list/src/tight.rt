@@ -72,6 +72,14 @@ impl<I: PartIndex + Drop> PartIndex for Tight<I> {
         self.index.insert(entry)
     }
 
+    fn append_run(&mut self, part: u32, pairs: &[(Key, Value)]) -> Result<(), NoMemory> {
+        self.inserts = self.inserts.saturating_add(1);
+        if self.refused.contains(&self.inserts) {
+            return Err(NoMemory);
+        }
+        self.index.append_run(part, pairs)
+    }
+
     fn set(&mut self, part: u32, key: Key, value: Value, is_ghost: bool) {
         self.index.set(part, key, value, is_ghost);
     }
