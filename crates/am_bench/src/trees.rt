@@ -94,7 +94,7 @@ fn print_scans<R: AllocGlobal + Print + Clock>(
     keys: &Keys,
 ) -> Result<(), Fault> {
     let alloc = rt.alloc();
-    let mut parts = Parts::new(BTree::new(alloc)?);
+    let mut parts = Parts::new(alloc, BTree::new(alloc)?);
     tree::fill_parts(&mut parts, &keys.drawn)?;
     let starts = &keys.asked[..keys.asked.len() / ROWS];
     let watch = Watch::start(rt)?;

@@ -1,3 +1,4 @@
+pub mod Appended
 pub mod Children
 pub mod Crosses
 pub mod Halving

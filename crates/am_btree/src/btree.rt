@@ -108,6 +108,10 @@ impl PartIndex for BTree {
         }
     }
 
+    fn append_run(&mut self, part: u32, pairs: &[(Key, Value)]) -> Result<(), NoMemory> {
+        self.append(part, pairs)
+    }
+
     fn set(&mut self, part: u32, key: Key, value: Value, is_ghost: bool) {
         self.root.set(part, key, value, is_ghost);
     }

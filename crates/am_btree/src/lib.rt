@@ -8,6 +8,7 @@
 //! nodes before it changes anything, and nothing else takes memory.
 #![tactic(auto)]
 
+mod append;
 mod btree;
 mod find;
 mod insert;

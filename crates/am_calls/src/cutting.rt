@@ -128,7 +128,7 @@ fn load_from<I: PartIndex + Drop>(
 fn loads<I: PartIndex + Drop>(alloc: Global, index: I) -> Result<(), Fault>
     requires { I.entries index ≡ [] }
 {
-    let mut parts = Parts::new(index);
+    let mut parts = Parts::new(alloc, index);
     let mut entries = Vec::new(alloc);
     load_from(alloc, &mut parts, &mut entries, 1, 0)?;
     load_from(alloc, &mut parts, &mut entries, 2, 100)

@@ -15,7 +15,7 @@ const RECORDS: u64 = 40;
 
 // A run, and nothing beside it.
 fn one_run(alloc: Global) -> Result<Parts<BTree>, Fault> {
-    let mut parts = Parts::new(BTree::new(alloc)?);
+    let mut parts = Parts::new(alloc, BTree::new(alloc)?);
     for number in 0..RECORDS {
         place(&mut parts, live(1, number))?;
     }

@@ -11,7 +11,7 @@ use std::alloc::Global;
 
 // The numbers below 30 in three partitions in turn.
 fn three_partitions(alloc: Global) -> Result<Parts<BTree>, Fault> {
-    let mut parts = Parts::new(BTree::new(alloc)?);
+    let mut parts = Parts::new(alloc, BTree::new(alloc)?);
     for number in 0..30 {
         place(&mut parts, live((number % 3) as u32, number))?;
     }

@@ -91,7 +91,7 @@ fn change_often(
 /// Six changes of one entry, each with a note and a mark, are taken back. The first four notes and the first two marks
 /// take no memory.
 pub(crate) fn six_notes(alloc: Global) -> Result<(), Fault> {
-    let mut parts = Parts::new(ListIndex::new(alloc));
+    let mut parts = Parts::new(alloc, ListIndex::new(alloc));
     place(&mut parts, live(0, 5))?;
     let mut log = begin(alloc, &parts);
     change_often(&mut parts, &mut log, Key::of_u64(5), b"bcdefg")?;

@@ -53,7 +53,7 @@ impl<I: PartIndex + Drop> Store<I> {
         let wishes = Wishes::new(alloc)?;
         let kept = Kept {
             alloc,
-            parts: Parts::new(index),
+            parts: Parts::new(alloc, index),
             txs: TxTable::new(alloc),
             wishes,
             commits: 0,

@@ -41,7 +41,7 @@ fn add<I: PartIndex + Drop>(
 }
 
 fn over(alloc: Global, entries: &[(u32, u64, u8, bool)]) -> Result<Parts<ListIndex>, NoMemory> {
-    let mut parts = Parts::new(ListIndex::new(alloc));
+    let mut parts = Parts::new(alloc, ListIndex::new(alloc));
     for &(part, number, byte, is_ghost) in entries {
         add(&mut parts, part, number, byte, is_ghost)?;
     }

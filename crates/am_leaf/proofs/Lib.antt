@@ -1,4 +1,5 @@
 pub mod Crosses
+pub mod Filling
 pub mod Heap
 pub mod Leaves
 pub mod MarkLemmas

@@ -6,6 +6,7 @@ ghost use Rattle.am_record.specs.EntryOrder.{place_cmp, place_of};
 ghost use Rattle.am_record.specs.declared.entry.Entry.{Entry};
 ghost use Rattle.am_list.specs.Entries.{IsRising};
 ghost use Rattle.am_list.specs.Places.{IsPlaceOf, IsGapFor};
+ghost use Rattle.am_list.specs.Runs.{run_entries};
 ghost use Rattle.am_leaf.specs.Changes.{set_at};
 
 use crate::block::Block;
@@ -123,6 +124,27 @@ impl RawLeaf {
         self.values.insert(self.len, at, entry.value);
         self.marks = insert_mark(self.marks, at, entry.is_ghost);
         self.len += 1;
+    }
+
+    /// Fills an empty leaf with records of one partition, all live. The caller sees to it that they rise and that there
+    /// is room.
+    pub fn fill(&mut self, part: u32, pairs: &[(Key, Value)])
+        requires empty { self.old ≡ [] }
+        requires room { length pairs.now ≤ 32 }
+        requires rising { IsRising (run_entries part pairs.now) }
+        ensures { self.new ≡ run_entries part pairs.now }
+    {
+        for (at, pair) in pairs.iter().enumerate() {
+            self.insert_at(
+                at,
+                Entry {
+                    part,
+                    key: pair.0,
+                    value: pair.1,
+                    is_ghost: false,
+                },
+            );
+        }
     }
 
     /// Writes over the value and the mark of the entry at the index.

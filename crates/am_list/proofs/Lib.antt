@@ -8,3 +8,4 @@ pub mod Content
 pub mod ContentLaws
 pub mod WalkLaws
 pub mod ReadLaws
+pub mod Runs

@@ -5,3 +5,4 @@ pub mod Places
 pub mod Edits
 pub mod Walks
 pub mod Content
+pub mod Runs

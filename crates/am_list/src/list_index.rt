@@ -1,8 +1,9 @@
 //! The plain index: a sorted vector.
 
-ghost use Rattle.std.specs.Prelude.{◌≡◌, ◌<◌, ◌^◌, List, [], length, slice_get, IfOk, IfErr};
+ghost use Rattle.std.specs.Prelude.{◌≡◌, ◌<◌, ◌^◌, List, [], length, slice_get, ◌++◌, IfOk, IfErr, OnOk, OnErr};
 ghost use Rattle.am_list.specs.Entries.{IsRising};
 ghost use Rattle.am_list.specs.Places.{IsPlaceOf, IsGapFor, IsLowerBound, IsUpperBound, only_of};
+ghost use Rattle.am_list.specs.Runs.{run_entries};
 
 use crate::{Batch, PartIndex};
 use am_record::{Entry, Key, NoMemory, Value};
@@ -133,6 +134,10 @@ impl PartIndex for ListIndex {
         Ok(())
     }
 
+    fn append_run(&mut self, part: u32, pairs: &[(Key, Value)]) -> Result<(), NoMemory> {
+        push_run(&mut self.items, part, pairs)
+    }
+
     fn set(&mut self, part: u32, key: Key, value: Value, is_ghost: bool) {
         let Ok(at) = self.search(part, key) else {
             unreachable!()
@@ -148,4 +153,25 @@ impl PartIndex for ListIndex {
         };
         self.items.remove(at)
     }
+}
+
+// Appends the records as entries of the partition, or nothing where memory was refused.
+fn push_run(items: &mut Vec<Entry>, part: u32, pairs: &[(Key, Value)]) -> Result<(), NoMemory>
+    ensures ok { OnOk result (items.new.items ≡ items.old.items ++ run_entries part pairs.now) }
+    ensures err { OnErr result (items.new.items ≡ items.old.items) }
+{
+    let was = items.len();
+    for pair in pairs {
+        let entry = Entry {
+            part,
+            key: pair.0,
+            value: pair.1,
+            is_ghost: false,
+        };
+        if items.push(entry).is_err() {
+            items.truncate(was);
+            return Err(NoMemory);
+        }
+    }
+    Ok(())
 }

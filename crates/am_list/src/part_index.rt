@@ -1,8 +1,10 @@
 //! What every index over partitions does.
 
-ghost use Rattle.std.specs.Prelude.{◌≡◌, ◌++◌, List, take, Some, None, IsSome, OnOk, OnErr};
+ghost use Rattle.std.specs.Prelude.{◌≡◌, ◌<◌, ◌++◌, List, take, Some, None, IsSome, OnOk, OnErr};
+ghost use Rattle.std.specs.List.{AllByRecursion};
 ghost use Rattle.am_record.specs.declared.entry.Entry.{Entry};
 ghost use Rattle.am_list.specs.Entries.{find, next_any, next_from, after, all_after, entry_at, insert_entry, set_entry, remove_entry, IsRising};
+ghost use Rattle.am_list.specs.Runs.{run_entries};
 
 use crate::Batch;
 use am_record::{Entry, Key, NoMemory, Value};
@@ -47,6 +49,16 @@ pub trait PartIndex {
     fn insert(&mut self, entry: Entry) -> Result<(), NoMemory>
         requires { find (entries self.old) entry.part entry.key ≡ None }
         ensures ok { OnOk result (entries self.new ≡ insert_entry (entries self.old) entry) }
+        ensures err { OnErr result (entries self.new ≡ entries self.old) };
+
+    /// Appends a run: its records, all live, in a partition above those of all entries.
+    ///
+    /// # Errors
+    /// NoMemory, where memory was refused; the entries are as before.
+    fn append_run(&mut self, part: u32, pairs: &[(Key, Value)]) -> Result<(), NoMemory>
+        requires above { AllByRecursion (λ e. e.part < part) (entries self.old) }
+        requires rising { IsRising (run_entries part pairs.now) }
+        ensures ok { OnOk result (entries self.new ≡ entries self.old ++ run_entries part pairs.now) }
         ensures err { OnErr result (entries self.new ≡ entries self.old) };
 
     /// Writes over the value and the mark of an entry. The caller sees to it that it is there.

@@ -1,8 +1,9 @@
 //! An index to which some inserts are refused.
 
-ghost use Rattle.std.specs.Prelude.{◌≡◌, ◌+◌, ◌-◌, ◌^◌, min, Some, None, IsSome, IsErr, OnOk, OnErr};
-ghost use Rattle.std.specs.List.{Contains};
-ghost use Rattle.am_list.specs.Entries.{find, entry_at, insert_entry, set_entry, remove_entry};
+ghost use Rattle.std.specs.Prelude.{◌≡◌, ◌<◌, ◌+◌, ◌-◌, ◌^◌, ◌++◌, min, Some, None, IsSome, IsErr, OnOk, OnErr};
+ghost use Rattle.std.specs.List.{AllByRecursion, Contains};
+ghost use Rattle.am_list.specs.Entries.{find, entry_at, insert_entry, set_entry, remove_entry, IsRising};
+ghost use Rattle.am_list.specs.Runs.{run_entries};
 
 use crate::{Batch, PartIndex};
 use am_record::{Entry, Key, NoMemory, Value};
@@ -79,6 +80,22 @@ impl<I: PartIndex + Drop> PartIndex for Tight<I> {
             return Err(NoMemory);
         }
         self.index.insert(entry)
+    }
+
+    fn append_run(&mut self, part: u32, pairs: &[(Key, Value)]) -> Result<(), NoMemory>
+        requires above { AllByRecursion (λ e. e.part < part) self.old.entries }
+        requires rising { IsRising (run_entries part pairs.now) }
+        ensures ok { OnOk result (self.new.entries ≡ self.old.entries ++ run_entries part pairs.now) }
+        ensures err { OnErr result (self.new.entries ≡ self.old.entries) }
+        ensures counted { self.new.inserts ≡ min (self.old.inserts + 1) (2 ^ 64 - 1) }
+        ensures same_refused { self.new.refused ≡ self.old.refused }
+        ensures refused { Contains self.old.refused self.new.inserts → IsErr result }
+    {
+        self.inserts = self.inserts.saturating_add(1);
+        if self.refused.contains(&self.inserts) {
+            return Err(NoMemory);
+        }
+        self.index.append_run(part, pairs)
     }
 
     fn set(&mut self, part: u32, key: Key, value: Value, is_ghost: bool)

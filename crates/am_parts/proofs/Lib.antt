@@ -1,3 +1,9 @@
+pub mod Bridge
+pub mod Counts
+pub mod Listed
+pub mod Catalogued
+pub mod Appending
+pub mod Finding
 pub mod Lives
 mod Changes
 pub mod Looks

@@ -1,1 +1,2 @@
+pub mod Catalogs
 pub mod Partitions

@@ -31,6 +31,10 @@ pub record LivesIn (es : List Entry) (part : ℕ) (key : OrderedKey) : Type 0 wh
   pub live : IsLiveAt es part key value
   pub in_content : get (content es) key ≡ Some value
 
+-- the key is live in no partition but the final one
+pub record LivesInNoRun (es : List Entry) (key : OrderedKey) : Type 0 where
+  pub none : (part : ℕ) (value : List ℕ) → 0 < part → ¬ IsLiveAt es part key value
+
 -- the key is live in no other partition
 pub record LivesNowhereElse (es : List Entry) (part : ℕ) (key : OrderedKey) : Type 0 where
   pub only : (part' : ℕ) (value : List ℕ) → IsLiveAt es part' key value → part' ≡ part

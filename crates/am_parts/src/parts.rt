@@ -1,13 +1,18 @@
 //! The partitions of an index, and the changes that keep each key live in at most one of them.
 
-ghost use Rattle.std.specs.Prelude.{◌≡◌, ◌≢◌, ◌+◌, ◌<◌, ◌≤◌, ◌++◌, [], take, false, Some, None, IsSome, IfSome, IfNone, OnOk, OnErr};
+ghost use Rattle.std.specs.Prelude.{◌≡◌, ◌≢◌, ◌+◌, ◌<◌, ◌≤◌, ◌++◌, [], take, true, false, Some, None, IsSome, is_some, IfSome, IfNone, OnOk, OnErr};
+ghost use Rattle.std.specs.List.{AllByRecursion};
 ghost use Rattle.std.specs.FinMap.{get};
+ghost use Rattle.am_record.specs.Plain.{insert_all, is_rising};
 ghost use Rattle.am_list.specs.Entries.{find, next_any, next_from, after, all_after, entry_at, insert_entry, set_entry, remove_entry};
-ghost use Rattle.am_list.specs.Content.{content, HasContent};
+ghost use Rattle.am_list.specs.Runs.{run_entries};
+ghost use Rattle.am_list.specs.Content.{content, live_value, HasContent};
+ghost use Rattle.am_parts.specs.Catalogs.{IsCatalog};
 
+use crate::catalog::Catalog;
 use am_list::{Batch, PartIndex};
 use am_record::{Entry, Key, NoMemory, Value};
-use std::cmp::Ordering;
+use std::alloc::Global;
 use std::marker::Model;
 
 /// The partitions of an index, seen as its entries and the number of runs made. Partition 0 is the
@@ -15,11 +20,13 @@ use std::marker::Model;
 #[derive(Drop)]
 pub struct Parts<I: PartIndex + Drop> {
     index: I,
+    catalog: Catalog,
     runs: u32,
 }
 
 impl<I: PartIndex + Drop> Model for Parts<I> {
     ghost use Rattle.std.specs.Prelude.{◌≤◌};
+    ghost use Rattle.am_parts.specs.Catalogs.{IsCatalog};
     ghost use Rattle.am_parts.specs.Partitions.{Partitions, partitions_code, IsSound};
 
     ghost Value = { Partitions };
@@ -28,19 +35,23 @@ impl<I: PartIndex + Drop> Model for Parts<I> {
 
     ghost view = { λ p. record { entries = I.entries p.index; runs = p.runs } };
 
-    ghost invariant = { λ p. IsSound (I.entries p.index) × (p.runs ≤ 65535) };
+    ghost invariant = { λ p. IsSound (I.entries p.index) × (p.runs ≤ 65535) × IsCatalog (I.entries p.index) p.catalog };
 }
 
 impl<I: PartIndex + Drop> Parts<I> {
-    ghost use Rattle.am_parts.specs.Partitions.{IsSound, LivesIn, LivesNowhereElse, content_with, content_without, content_marked};
+    ghost use Rattle.am_parts.specs.Partitions.{IsSound, LivesIn, LivesInNoRun, LivesNowhereElse, content_with, content_without, content_marked};
 
     /// The partitions of an empty index.
-    pub fn new(index: I) -> Parts<I>
+    pub fn new(alloc: Global, index: I) -> Parts<I>
         requires { I.entries index ≡ [] }
         ensures entries { result.entries ≡ [] }
         ensures runs { result.runs ≡ 0 }
     {
-        Parts { index, runs: 0 }
+        Parts {
+            index,
+            catalog: Catalog::new(alloc),
+            runs: 0,
+        }
     }
 
     /// How many runs were made, 65,535 at most.
@@ -52,11 +63,15 @@ impl<I: PartIndex + Drop> Parts<I> {
         self.runs
     }
 
-    /// The value that stands under a partition and key, and whether it is a ghost.
+    /// The value that stands under a partition and key, and whether it is a ghost. Where the final partition is empty, it
+    /// isn't searched.
     pub fn find(&self, part: u32, key: Key) -> Option<(Value, bool)>
         ensures found { result ≡ find self.now.entries part key }
         ensures sound { IsSound self.now.entries }
     {
+        if part == 0 && !self.catalog.has_final() {
+            return None;
+        }
         self.index.find(part, key)
     }
 
@@ -100,13 +115,31 @@ impl<I: PartIndex + Drop> Parts<I> {
         ensures absent { IfNone result (get (content self.now.entries) key ≡ None) }
         ensures sound { IsSound self.now.entries }
     {
-        let mut part = 0;
-        while let Some(entry) = self.index.next_any(part, key) {
-            part = match entry.key.cmp(&key) {
-                Ordering::Less => entry.part,
-                Ordering::Equal if !entry.is_ghost => return Some(entry.part),
-                Ordering::Equal | Ordering::Greater => entry.part.checked_add(1)?,
-            };
+        if self.is_in_final(key) {
+            return Some(0);
+        }
+        self.run_of(key)
+    }
+
+    // Whether the key is live in the final partition.
+    fn is_in_final(&self, key: Key) -> bool
+        ensures value { result ≡ is_some (live_value (find self.now.entries 0 key)) }
+        ensures sound { IsSound self.now.entries }
+    {
+        is_live(self.find(0, key))
+    }
+
+    /// The run in which the key is live. Those whose filters rule it out aren't searched.
+    pub fn run_of(&self, key: Key) -> Option<u32>
+        ensures live { IfSome result (λ part. LivesIn self.now.entries part key) }
+        ensures absent { IfNone result (LivesInNoRun self.now.entries key) }
+        ensures sound { IsSound self.now.entries }
+    {
+        let number = key.mixed();
+        for run in self.catalog.runs() {
+            if run.may_have(number) && is_live(self.index.find(run.part, key)) {
+                return Some(run.part);
+            }
         }
         None
     }
@@ -126,7 +159,8 @@ impl<I: PartIndex + Drop> Parts<I> {
     {
         // Read here, the number is known to fit its type.
         prove!(entry.part <= u32::MAX);
-        self.index.insert(entry)
+        self.catalog.add(entry.part, entry.key)?;
+        insert_or_forget(&mut self.index, &mut self.catalog, entry)
     }
 
     /// Writes over the value and the mark of an entry. The caller sees to it that it is there, and
@@ -149,6 +183,7 @@ impl<I: PartIndex + Drop> Parts<I> {
         ensures content { HasContent self.new.entries (content_without self.old.entries part key) }
         ensures runs { self.new.runs ≡ self.old.runs }
     {
+        self.catalog.take(part);
         self.index.remove(part, key)
     }
 
@@ -159,5 +194,59 @@ impl<I: PartIndex + Drop> Parts<I> {
         ensures entries { self.new.entries ≡ self.old.entries }
     {
         self.runs += 1;
+    }
+
+    /// Makes the records the next run, all of them live in it, and counts it. The caller sees to it that fewer than
+    /// 65,535 runs were made, that no entry stands above them, that there is a record, that the records rise, and that
+    /// none of their keys is live.
+    ///
+    /// # Errors
+    /// NoMemory, where memory was refused; nothing is changed.
+    pub fn append_run(&mut self, pairs: &[(Key, Value)]) -> Result<(), NoMemory>
+        requires room { self.old.runs < 65535 }
+        requires above { AllByRecursion (λ e. e.part ≤ self.old.runs) self.old.entries }
+        requires rising { is_rising pairs.now ≡ true }
+        requires dead { AllByRecursion (λ r. get (content self.old.entries) r.0 ≡ None) pairs.now }
+        ensures entries { OnOk result (self.new.entries ≡ self.old.entries ++ run_entries (self.old.runs + 1) pairs.now) }
+        ensures content { OnOk result (HasContent self.new.entries (insert_all pairs.now (content self.old.entries))) }
+        ensures runs { OnOk result (self.new.runs ≡ self.old.runs + 1) }
+        ensures err { OnErr result (self.new ≡ self.old) }
+    {
+        let part = self.runs + 1;
+        let run = self.catalog.make_room(part, pairs)?;
+        self.index.append_run(part, pairs)?;
+        self.catalog.push(run);
+        self.runs = part;
+        Ok(())
+    }
+}
+
+// Adds an entry that is counted, or counts it as gone where memory is refused.
+fn insert_or_forget<I: PartIndex + Drop>(
+    index: &mut I,
+    catalog: &mut Catalog,
+    entry: Entry,
+) -> Result<(), NoMemory>
+    requires absent { find (I.entries index.old) entry.part entry.key ≡ None }
+    requires counted { IsCatalog (insert_entry (I.entries index.old) entry) catalog.old }
+    ensures ok { OnOk result (I.entries index.new ≡ insert_entry (I.entries index.old) entry) }
+    ensures err { OnErr result (I.entries index.new ≡ I.entries index.old) }
+    ensures catalog { IsCatalog (I.entries index.new) catalog.new }
+{
+    let part = entry.part;
+    let added = index.insert(entry);
+    if added.is_err() {
+        catalog.take(part);
+    }
+    added
+}
+
+// Whether what stands at a place is live.
+fn is_live(slot: Option<(Value, bool)>) -> bool
+    ensures { result ≡ is_some (live_value slot) }
+{
+    match slot {
+        Some((_, is_ghost)) => !is_ghost,
+        None => false,
     }
 }

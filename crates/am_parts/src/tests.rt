@@ -29,7 +29,7 @@ fn add<I: PartIndex + Drop>(parts: &mut Parts<I>, entry: Entry) -> Result<(), No
 }
 
 fn over(alloc: Global, entries: &[Entry]) -> Result<Parts<ListIndex>, NoMemory> {
-    let mut parts = Parts::new(ListIndex::new(alloc));
+    let mut parts = Parts::new(alloc, ListIndex::new(alloc));
     for e in entries {
         add(&mut parts, *e)?;
     }
@@ -104,7 +104,7 @@ fn changes_the_entry_of_the_named_partition(rt: HostRuntime) -> Result<(), Fail>
 
 #[test]
 fn refused_add_changes_nothing(rt: HostRuntime) -> Result<(), Fail> {
-    let mut parts = Parts::new(ListIndex::new(rt.alloc()));
+    let mut parts = Parts::new(rt.alloc(), ListIndex::new(rt.alloc()));
     for number in 0..9_u64 {
         let key = Key::of_u64(20 - number);
         if add(&mut parts, entry(0, 20 - number, b'a', false)).is_err() {
@@ -113,6 +113,38 @@ fn refused_add_changes_nothing(rt: HostRuntime) -> Result<(), Fail> {
             add(&mut parts, entry(0, 20 - number, b'a', false))?;
         }
         assert!(rt; parts.next_any(0, Key::least()) == Some(entry(0, 20 - number, b'a', false)));
+    }
+    Ok(())
+}
+
+// Takes the entry of the place out, where one stands there.
+fn take<I: PartIndex + Drop>(parts: &mut Parts<I>, part: u32, number: u64) {
+    if parts.find(part, Key::of_u64(number)).is_some() {
+        let _ = parts.take(part, Key::of_u64(number));
+    }
+}
+
+#[test]
+fn runs_empty_out_and_are_filled_again(rt: HostRuntime) -> Result<(), Fail> {
+    let mut parts = over(
+        rt.alloc(),
+        &[
+            entry(1, 1, b'a', false),
+            entry(2, 2, b'b', false),
+            entry(2, 3, b'g', true),
+            entry(3, 4, b'c', false),
+        ],
+    )?;
+    take(&mut parts, 2, 2);
+    assert!(rt; parts.place_of(Key::of_u64(2)).is_none());
+    assert!(rt; parts.find(2, Key::of_u64(3)) == Some((value(b'g'), true)));
+    take(&mut parts, 2, 3);
+    take(&mut parts, 1, 1);
+    assert!(rt; parts.place_of(Key::of_u64(4)) == Some(3));
+    for number in [1, 2, 3] {
+        assert!(rt; parts.place_of(Key::of_u64(number)).is_none());
+        add(&mut parts, entry(2, number, b'd', false))?;
+        assert!(rt; parts.place_of(Key::of_u64(number)) == Some(2));
     }
     Ok(())
 }

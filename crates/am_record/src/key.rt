@@ -1,6 +1,7 @@
 //! Keys. What a key is made of is known here alone: everybody else has their order.
 
 ghost use Rattle.std.specs.Prelude.{◌≡◌, ◌↔◌, ◌+◌, ◌≤◌, IsSome, IfSome, length};
+ghost use Rattle.am_record.specs.KeyMix.{mix_in, key_mix};
 ghost use Rattle.am_record.specs.KeyWords.{word_at, words_of, AreBytes};
 ghost use Rattle.am_record.specs.OrderedKey.{key_of, bytes_of, number_key, key_least, IsLeast};
 
@@ -76,6 +77,16 @@ impl Key {
         &self.bytes[..self.len as usize]
     }
 
+    /// A number that looks drawn at random, the same for equal keys. The key's words are mixed in one after another by
+    /// SplitMix64's multiplier (Steele, Lea and Flood, 2014). It has no secret: keys can be chosen that meet in a number.
+    pub fn mixed(&self) -> u64
+        ensures { result ≡ key_mix self.now }
+    {
+        let words = words(&self.bytes);
+        let front = mix(mix(u64::from(self.len), words[0]), words[1]);
+        mix(mix(front, words[2]), words[3])
+    }
+
     /// The least key, the empty string, where walks over a partition begin.
     #[tactic(auto, using(crate::specs::OrderedKey::least_lemmas))]
     pub fn least() -> Self
@@ -118,6 +129,15 @@ fn words(bytes: &[u8; 32]) -> [u64; 4]
         word(bytes, 16),
         word(bytes, 24),
     ]
+}
+
+// A number with a word mixed into it.
+#[tactic(auto, unfolding(crate::specs::KeyMix::mix_in))]
+fn mix(number: u64, word: u64) -> u64
+    ensures { result ≡ mix_in number word }
+{
+    let mixed = (number ^ word).wrapping_mul(0xBF58_476D_1CE4_E5B9);
+    mixed ^ (mixed >> 32)
 }
 
 impl PartialEq for Key {

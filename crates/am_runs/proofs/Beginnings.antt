@@ -12,7 +12,6 @@ use Rattle.am_record.specs.declared.entry.Entry.{Entry}
 use Rattle.am_list.specs.Entries.{slot_of, entry_at, find, next_any, next_from}
 use Rattle.am_list.specs.Walks.{WalkLaws}
 use Rattle.am_list.proofs.Edits.{entry_at_slot}
-use Rattle.am_runs.specs.Looks.{AreEmptyFrom, IsFirstFrom}
 
 -- ---- places
 
@@ -66,57 +65,3 @@ module _ {es : List Entry} (walks : WalkLaws es) (part : ℕ) (low : OrderedKey)
           by_order Greater greater =
               let first = walks.from_some part low x h in
               absurd (none-some (slot_of e) (sym (first.none_before e.key reached (key_cmp-total.antisymm e.key x.key ∙ ap ordering_reverse greater)) ∙ entry_at_slot es part e.key e stands))
-
--- ---- from partition to partition
-
--- the partitions that the look has left behind
-pub record IsLooking (es : List Entry) (part from : ℕ) (low : OrderedKey) : Type 0 where
-  pub not_before : part ≤ from
-  pub skipped : (p : ℕ) → part ≤ p → p < from → next_from es p low ≡ None
-
-module _ {es : List Entry} (walks : WalkLaws es) {part from : ℕ} {low : OrderedKey} (looking : IsLooking es part from low) where
-  pub looks_nowhere : {o : Option Entry} → o ≡ next_any es from low → o ≡ None → AreEmptyFrom es part low
-  looks_nowhere look is = record {
-    none = λ p le.
-        ⊎_elim (looking.skipped p le)
-        (λ above. nothing_from walks p low (λ key reached. walks.any_none from low (sym look ∙ is) p key (from_place from p low key above reached))) (cases_lt p from);
-  }
-
-  module _ {o : Option Entry} (e : Entry) (look : o ≡ next_any es from low) (is : o ≡ Some e) where
-    found : next_any es from low ≡ Some e
-    found = sym look ∙ is
-
-    not_back : from ≤ e.part
-    not_back = place_cmp-part (from, low) (place_of e) (walks.any_reached from low e found)
-
-    empty : (p : ℕ) → part ≤ p → p < e.part → next_from es p low ≡ None
-    empty p le below =
-        ⊎_elim (looking.skipped p le)
-        (λ above. nothing_from walks p low (λ key reached. walks.any_none_before from low e found p key (from_place from p low key above reached) (lower_part (p, key) (place_of e) below))) (cases_lt p from)
-
-    pub looks_found : key_le low e.key ≡ true → IsFirstFrom es part low e
-    looks_found reached = let le = not_back in let before = looking.not_before in record {
-      not_before = omega (arith, le, before);
-      first = first_is walks e.part low e (walks.any_stands from low e found) reached
-          (λ key above below. walks.any_none_before from low e found e.part key (from_place from e.part low key not_back above) (place_cmp-same e.part key e.key ∙ below));
-      skipped = empty;
-    }
-
-    pub looks_later : key_le low e.key ≡ false → from < e.part
-    looks_later below =
-        ⊎_elim (λ less. less)
-        (λ no. let le = not_back in
-        let same : e.part ≡ from = omega (arith, le, no) in
-        absurd (below_start same))
-        (cases_lt from e.part)
-      where
-        greater_of : (o : Ordering) → is_le o ≡ false → o ≡ Greater
-        greater_of Less h = absurd (true≢false h)
-        greater_of Equal h = absurd (true≢false h)
-        greater_of Greater h = refl
-
-        below_start : e.part ≡ from → ⊥
-        below_start same = walks.any_reached from low e found (ap (λ p. place_cmp (from, low) (p, e.key)) same ∙ place_cmp-same from low e.key ∙ greater_of (key_cmp low e.key) below)
-
-    pub looks_on : IsLooking es part e.part low
-    looks_on = let le = not_back in let before = looking.not_before in record { not_before = omega (arith, le, before); skipped = empty }

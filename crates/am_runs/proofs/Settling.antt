@@ -1,143 +1,143 @@
--- The least live key of rising records, found one partition after another.
-use Rattle.std.proofs.Common.{◌≡◌, ℕ, ◌+◌, ◌^◌, ◌<◌, ◌≤◌, List, [], ◌∷◌, length, true, false, Option, Some, None, refl, sym, ap, ◌∙◌, subst, arith, ⊎_elim}
+-- The least live key of rising records: in the final partition, and below it in the runs.
+use Rattle.std.proofs.Common.{◌≡◌, ◌≢◌, ℕ, zero, suc, ◌+◌, ◌<◌, ◌≤◌, List, [], ◌∷◌, length, get_or, take, true, false, Option, Some, None, refl, sym, ap, ◌∙◌, subst, arith, ⊎_elim}
 use Rattle.std.specs.Prelude.{is_some, IfSome}
-use Rattle.std.proofs.lemmas.Bool.{cases_Bool, cases_lt, and_parts, and_from, true≢false, false≢true}
+use Rattle.std.proofs.lemmas.Bool.{cases_Bool, cases_eq, and_parts, and_from, or_left, or_right, or_cases, true≢false, false≢true}
 use Rattle.std.proofs.lemmas.Option.{none-some, same_Some}
-use Rattle.std.specs.Ordering.{is_le, is_eq}
-use Rattle.std.specs.List.{slice_get}
+use Rattle.std.specs.Ordering.{is_le, is_lt}
+use Rattle.std.specs.List.{AllByRecursion, slice_get}
 use Rattle.std.specs.FinMap.{get, is_sorted}
-use Rattle.am_record.specs.OrderedKey.{OrderedKey, key_cmp}
+use Rattle.am_record.specs.OrderedKey.{OrderedKey, key_cmp, key_cmp-total, key_eq-exact}
 use Rattle.am_record.specs.Interval.{key_le}
-use Rattle.am_record.specs.EntryOrder.{Place, place_of, place_cmp}
 use Rattle.am_record.specs.Plain.{Records, is_key_of, first_key, least_taken}
 use Rattle.am_record.specs.declared.entry.Entry.{Entry}
-use Rattle.am_record.proofs.KeyOrder.{key_le_trans}
-use Rattle.am_list.specs.Entries.{entry_at, next_from}
+use Rattle.am_record.proofs.FirstRows.{key_eq}
+use Rattle.am_list.specs.Entries.{next_from}
 use Rattle.am_list.specs.Content.{content, IsLiveAt}
-use Rattle.am_list.proofs.Edits.{first_such_all, entry_at_place}
 use Rattle.am_list.proofs.WalkLaws.{walk_laws}
-use Rattle.am_parts.specs.Partitions.{IsSound}
+use Rattle.am_parts.specs.Partitions.{IsSound, LivesIn, LivesInNoRun}
 use Rattle.am_parts.proofs.Lives.{laws_of}
-use Rattle.am_parts.proofs.Looks.{entry_of}
-use Rattle.am_runs.specs.Looks.{AreEmptyFrom, IsFirstFrom, NoneLiveIn, IsLeastLiveIn}
-use Rattle.am_runs.proofs.Rising.{Record, is_less}
+use Rattle.am_runs.specs.Looks.{NoneLiveIn, IsLeastLiveIn, NoneInRuns, IsLeastInRuns}
+use Rattle.am_runs.proofs.Rising.{Record, is_less, sorted_parts}
 use Rattle.am_runs.proofs.Parting.{not_less, less_not, is_below, kept, is_key_kept, sorted_kept}
-use Rattle.am_runs.proofs.Passing.{nothing_reached, no_key}
+use Rattle.am_runs.proofs.Passing.{same_key, first_below, nothing_reached, no_key}
 use Rattle.am_runs.proofs.Taken.{IsLeast, least_found}
 
--- ---- the partitions that were looked into
+-- ---- the final partition
 
--- the key is below the bound, and it is not
-abbrev IsBefore : Option OrderedKey → OrderedKey → Type 0
-IsBefore bound q = IfSome bound (λ k. is_below k q ≡ true)
+pub empty_final : {es : List Entry} → IsSound es → (pairs : Records) (r : Record) → slice_get pairs 0 ≡ Some r → is_sorted key_cmp pairs ≡ true → next_from es 0 r.0 ≡ None → NoneLiveIn es 0 pairs
+empty_final sound [] r first sorted none = absurd (none-some r first)
+empty_final {es} sound (x ∷ rs) r first sorted none = nothing_reached (walk_laws es sound.rising) 0 x rs sorted (ap (λ (y : Record). next_from es 0 y.0) (same_Some _ _ first) ∙ none)
 
-abbrev IsPast : Option OrderedKey → OrderedKey → Type 0
-IsPast None q = ⊥
-IsPast (Some k) q = key_le k q ≡ true
+pub no_pairs : (es : List Entry) (pairs : Records) → slice_get pairs 0 ≡ None → NoneLiveIn es 0 pairs
+no_pairs es [] none = record { none = λ q value key. absurd (no_key [] q refl key) }
+no_pairs es (x ∷ rs) none = absurd (none-some x (sym none))
 
--- the least key is live, where there is one; of the records those below it are left, and none of these is live in the partitions so far
-pub record IsSettled (es : List Entry) (to : ℕ) (pairs : Records) (least : Option OrderedKey) (left : Records) : Type 0 where
-  pub sorted : is_sorted key_cmp left ≡ true
-  pub within : (q : OrderedKey) → is_key_of left q ≡ true → is_key_of pairs q ≡ true
-  pub is_live : IfSome least (λ k. (is_key_of pairs k ≡ true) × (is_some (get (content es) k) ≡ true))
-  pub below : (q : OrderedKey) → is_key_of left q ≡ true → IsBefore least q
-  pub others : (q : OrderedKey) → is_key_of pairs q ≡ true → is_key_of left q ≡ false → IsPast least q
-  pub none : (part : ℕ) → part < to → NoneLiveIn es part left
+pub first_of_final : {es : List Entry} (sound : IsSound es) (low : OrderedKey) (e : Entry) → next_from es 0 low ≡ Some e → e.part ≡ 0
+first_of_final {es} sound low e next = ((walk_laws es sound.rising).from_some 0 low e next).in_part
 
-pub nothing_settled : (es : List Entry) (pairs : Records) → is_sorted key_cmp pairs ≡ true → IsSettled es 0 pairs None pairs
-nothing_settled es pairs sorted = record {
-  sorted = sorted;
-  within = λ q key. key;
-  is_live = tt;
-  below = λ q key. tt;
-  others = λ q key other. true≢false (sym key ∙ other);
-  none = λ part below. absurd (omega arith);
-}
+pub from_first : (es : List Entry) (pairs : Records) (r : Record) (e : Entry) → slice_get pairs 0 ≡ Some r → e.part ≡ 0 → next_from es 0 r.0 ≡ Some e → IfSome (first_key pairs) (λ low. next_from es e.part low ≡ Some e)
+from_first es [] r e first final next = tt
+from_first es (x ∷ rs) r e first final next = (λ i. next_from es (final i) (same_Some _ _ first i).0) ∙ next
 
--- a partition with no entry at or above the first of the records
-empty_part : {es : List Entry} → IsSound es → (part : ℕ) (left : Records) (r : Record) → slice_get left 0 ≡ Some r → is_sorted key_cmp left ≡ true → next_from es part r.0 ≡ None → NoneLiveIn es part left
-empty_part sound part [] r first sorted none = absurd (none-some r first)
-empty_part {es} sound part (x ∷ rs) r first sorted none = nothing_reached (walk_laws es sound.rising) part x rs sorted (ap (λ (y : Record). next_from es part y.0) (same_Some _ _ first) ∙ none)
+-- ---- the runs
 
--- the entry is the first one from the least of the records' keys on
-pub from_first : (es : List Entry) (left : Records) (r : Record) (e : Entry) → slice_get left 0 ≡ Some r → next_from es e.part r.0 ≡ Some e → IfSome (first_key left) (λ low. next_from es e.part low ≡ Some e)
-from_first es [] r e first next = tt
-from_first es (x ∷ rs) r e first next = ap (λ (y : Record). next_from es e.part y.0) (same_Some _ _ first) ∙ next
+-- none of the records' keys is live in a run
+abbrev pub NoneSeen : List Entry → Records → Type 0
+NoneSeen es rs = AllByRecursion (λ (r : Record). LivesInNoRun es r.0) rs
 
-module _ {es : List Entry} {to : ℕ} {pairs left : Records} {least : Option OrderedKey} (sound : IsSound es) (settled : IsSettled es to pairs least left) (r : Record) (first : slice_get left 0 ≡ Some r) where
-  module _ (e : Entry) (from : IsFirstFrom es to r.0 e) where
-    before : (part : ℕ) → part < e.part → NoneLiveIn es part left
-    before part below = ⊎_elim (settled.none part) (λ le. empty_part sound part left r first settled.sorted (from.skipped part le below)) (cases_lt part to)
+pub one_more_seen : (es : List Entry) (rs : Records) (i : ℕ) (r : Record) → i < length rs → r ≡ get_or rs i r → LivesInNoRun es r.0 → NoneSeen es (take i rs) → NoneSeen es (take (suc i) rs)
+one_more_seen es [] i r lt e none seen = absurd (omega arith)
+one_more_seen es (q ∷ rs) zero r lt e none seen = (subst (λ (x : Record). LivesInNoRun es x.0) e none, tt)
+one_more_seen es (q ∷ rs) (suc i) r lt e none seen = (seen.0, one_more_seen es rs i r (omega arith) e none seen.1)
 
-    -- no partition up to this one has the key live
-    up_to : {P : ℕ → Type 0} → ((part : ℕ) → part < e.part → P part) → P e.part → (part : ℕ) → part < e.part + 1 → P part
-    up_to {P} earlier here part below = ⊎_elim (earlier part) (λ le. let same : e.part ≡ part = omega arith in subst P same here) (cases_lt part e.part)
+pub none_of_seen : (es : List Entry) (rs : Records) → NoneSeen es rs → (q : OrderedKey) → is_key_of rs q ≡ true → LivesInNoRun es q
+none_of_seen es [] seen q key = absurd (false≢true key)
+none_of_seen es (r ∷ rs) seen q key =
+    ⊎_elim
+    (λ here. subst (LivesInNoRun es) (sym (key_eq-exact q r.0 here)) seen.0)
+    (λ later. none_of_seen es rs seen.1 q later)
+    (or_cases (key_eq q r.0) (is_key_of rs q) key)
 
-    pub settles_none : NoneLiveIn es e.part left → IsSettled es (e.part + 1) pairs least left
-    settles_none none = record {
-      sorted = settled.sorted;
-      within = settled.within;
-      is_live = settled.is_live;
-      below = settled.below;
-      others = settled.others;
-      none = up_to before none;
-    }
+pub is_key_at : (rs : Records) (i : ℕ) (r : Record) → i < length rs → r ≡ get_or rs i r → is_key_of rs r.0 ≡ true
+is_key_at [] i r lt e = absurd (omega arith)
+is_key_at (q ∷ rs) zero r lt e = or_left (key_eq r.0 q.0) (is_key_of rs r.0) (same_key (ap (λ (x : Record). x.0) e))
+is_key_at (q ∷ rs) (suc i) r lt e = or_right (key_eq r.0 q.0) (is_key_of rs r.0) (is_key_at rs i r (omega arith) e)
 
-    pub settles_one : (key : OrderedKey) → IsLeastLiveIn es e.part left key → (left' : Records) → left' ≡ kept (is_below key) left → IsSettled es (e.part + 1) pairs (Some key) left'
-    settles_one key found left' is = subst (IsSettled es (e.part + 1) pairs (Some key)) (sym is) (record {
-      sorted = sorted_kept (is_below key) left settled.sorted;
-      within = λ q h. settled.within q (parts q h).0;
-      is_live = (settled.within key found.is_key, ap is_some found.lives.in_content);
-      below = λ q h. (parts q h).1;
-      others = λ q h other. ⊎_elim (λ there. not_less q key (not_low q there other)) (λ past. past_key q (settled.others q h past)) (cases_Bool (is_key_of left q));
-      none = up_to (λ part below. record { none = λ q value h. (before part below).none q value (parts q h).0 })
-          (record { none = λ q value h live. less_not q key (parts q h).1 (found.least q value (parts q h).0 live) });
-    })
-      where
-        parts : (q : OrderedKey) → is_key_of (kept (is_below key) left) q ≡ true → (is_key_of left q ≡ true) × (is_below key q ≡ true)
-        parts q h = and_parts (is_key_of left q) (is_below key q) (sym (is_key_kept (is_below key) left q) ∙ h)
+-- what is below the record at an index stands before it
+pub none_below_at : (es : List Entry) (rs : Records) (i : ℕ) (r : Record) → is_sorted key_cmp rs ≡ true → i < length rs → r ≡ get_or rs i r → NoneSeen es (take i rs)
+    → (q : OrderedKey) → is_key_of rs q ≡ true → is_lt (key_cmp q r.0) ≡ true → LivesInNoRun es q
+none_below_at es [] i r sorted lt e seen q key less = absurd (omega arith)
+none_below_at es (x ∷ rs) zero r sorted lt e seen q key less =
+    absurd (less_not q r.0 less (ap (λ (y : Record). key_le y.0 q) e ∙ first_below x rs q sorted key))
+none_below_at es (x ∷ rs) (suc i) r sorted lt e seen q key less =
+    ⊎_elim
+    (λ here. subst (LivesInNoRun es) (sym (key_eq-exact q x.0 here)) seen.0)
+    (λ later. none_below_at es rs i r (sorted_parts x rs sorted).1 (omega arith) e seen.1 q later less)
+    (or_cases (key_eq q x.0) (is_key_of rs q) key)
 
-        not_low : (q : OrderedKey) → is_key_of left q ≡ true → is_key_of (kept (is_below key) left) q ≡ false → is_below key q ≡ false
-        not_low q there other = ⊎_elim (λ yes. absurd (true≢false (sym (and_from (is_key_of left q) (is_below key q) there yes) ∙ sym (is_key_kept (is_below key) left q) ∙ other))) (λ no. no) (cases_Bool (is_below key q))
+-- what the look into the runs answers
+abbrev pub IsRunsAnswer : List Entry → Records → Option OrderedKey → Type 0
+IsRunsAnswer es pairs None = NoneInRuns es pairs
+IsRunsAnswer es pairs (Some k) = IsLeastInRuns es pairs k
 
-        past_key : (q : OrderedKey) → IsPast least q → key_le key q ≡ true
-        past_key q past = by_cases least (settled.below key found.is_key) past
-          where
-            by_cases : (o : Option OrderedKey) → IsBefore o key → IsPast o q → key_le key q ≡ true
-            by_cases None below past = absurd past
-            by_cases (Some k) below past = key_le_trans key k q (ap is_le (is_less (key_cmp key k) below)) past
+-- ---- both
 
--- ---- the end
+module _ {es : List Entry} (sound : IsSound es) (pairs : Records) where
+  -- the key is below the one that was found, or none was
+  abbrev IsBefore : Option OrderedKey → OrderedKey → Type 0
+  IsBefore None q = Unit {0}
+  IsBefore (Some k) q = is_below k q ≡ true
 
-module _ {es : List Entry} {to : ℕ} {pairs left : Records} {least : Option OrderedKey} (settled : IsSettled es to pairs least left) where
-  is_the_least : ((q : OrderedKey) → is_key_of left q ≡ true → get (content es) q ≡ None) → least ≡ least_taken pairs (content es)
-  is_the_least free = least_found (content es) pairs least (by_cases least settled.is_live settled.others)
-    where
-      by_cases : (o : Option OrderedKey) → IfSome o (λ k. (is_key_of pairs k ≡ true) × (is_some (get (content es) k) ≡ true))
-          → ((q : OrderedKey) → is_key_of pairs q ≡ true → is_key_of left q ≡ false → IsPast o q) → IsLeast (content es) pairs o
-      by_cases None live others = λ q key. ⊎_elim (free q) (λ other. absurd (others q key other)) (cases_Bool (is_key_of left q))
-      by_cases (Some k) live others = (live.0, live.1, λ q key taken. ⊎_elim (λ there. absurd (false≢true (sym (ap is_some (free q there)) ∙ taken))) (others q key) (cases_Bool (is_key_of left q)))
+  dead : (q : OrderedKey) → ((value : List ℕ) → IsLiveAt es 0 q value → ⊥) → LivesInNoRun es q → get (content es) q ≡ None
+  dead q not_final runs = (laws_of sound).dead q (λ part value live.
+      ⊎_elim
+      (λ (same : part ≡ 0). not_final value (subst (λ (p : ℕ). IsLiveAt es p q value) same live))
+      (λ (other : part ≢ 0). runs.none part value (omega (arith, other)) live)
+      (cases_eq part 0))
 
-  -- no record is left
-  pub none_is_left : slice_get left 0 ≡ None → least ≡ least_taken pairs (content es)
-  none_is_left none = is_the_least (λ q key. absurd (no_key left q (empty left none) key))
-    where
-      empty : (rs : Records) → slice_get rs 0 ≡ None → length rs ≡ 0
-      empty [] none = refl
-      empty (r ∷ rs) none = absurd (none-some r (sym none))
+  settled : (o : Option OrderedKey) → ((q : OrderedKey) → is_key_of pairs q ≡ true → IsBefore o q → get (content es) q ≡ None)
+      → IfSome o (λ k. (is_key_of pairs k ≡ true) × (is_some (get (content es) k) ≡ true)) → o ≡ least_taken pairs (content es)
+  settled None none live = least_found (content es) pairs None (λ q key. none q key tt)
+  settled (Some k) none live = least_found (content es) pairs (Some k) (
+    live.0,
+    live.1,
+    λ q key taken.
+        ⊎_elim
+        (λ less. absurd (false≢true (sym (ap is_some (none q key less)) ∙ taken)))
+        (λ other. not_less q k other)
+        (cases_Bool (is_below k q)),
+  )
 
-  -- no partition is left
-  module _ (sound : IsSound es) where
-    none_anywhere : ((part : ℕ) (value : List ℕ) (q : OrderedKey) → to ≤ part → is_key_of left q ≡ true → IsLiveAt es part q value → ⊥) → least ≡ least_taken pairs (content es)
-    none_anywhere later = is_the_least (λ q key. (laws_of sound).dead q (λ part value live. ⊎_elim (λ below. (settled.none part below).none q value key live) (λ le. later part value q le key live) (cases_lt part to)))
+  taken : (k : OrderedKey) (part : ℕ) → LivesIn es part k → is_some (get (content es) k) ≡ true
+  taken k part lives = ap is_some lives.in_content
 
-    pub nothing_further : (r : Record) → slice_get left 0 ≡ Some r → AreEmptyFrom es to r.0 → least ≡ least_taken pairs (content es)
-    nothing_further r first empty = none_anywhere (λ part value q le key live. (empty_part sound part left r first settled.sorted (empty.none part le)).none q value key live)
+  -- none is live in the final partition
+  pub none_in_final : NoneLiveIn es 0 pairs → (o : Option OrderedKey) → IsRunsAnswer es pairs o → o ≡ least_taken pairs (content es)
+  none_in_final final None runs = settled None (λ q key _. dead q (λ value. final.none q value key) (runs.none q key)) tt
+  none_in_final final (Some k) runs =
+      settled (Some k) (λ q key less. dead q (λ value. final.none q value key) (runs.least q key less)) (runs.is_key, taken k runs.part runs.lives)
 
-    -- or no number of one
-    pub no_number : ¬ (to < 2 ^ 32) → least ≡ least_taken pairs (content es)
-    no_number over = none_anywhere (λ part value q le key live.
-        let f = entry_of (entry_at es part q) (value, false) live.there in
-        let fits : f.0.part < 2 ^ 32 = first_such_all (λ x. x.part < 2 ^ 32) (λ x. is_eq (place_cmp (place_of x) (part, q))) es f.0 sound.fits f.1 in
-        let same : f.0.part ≡ part = ap (λ (p : Place). p.0) (entry_at_place es part q f.0 f.1) in
-        over (omega arith))
+  module _ (key : OrderedKey) (final : IsLeastLiveIn es 0 pairs key) (left : Records) (is : left ≡ kept (is_below key) pairs) where
+    in_left : (q : OrderedKey) → is_key_of pairs q ≡ true → is_below key q ≡ true → is_key_of left q ≡ true
+    in_left q there less = ap (λ (rs : Records). is_key_of rs q) is ∙ is_key_kept (is_below key) pairs q ∙ and_from (is_key_of pairs q) (is_below key q) there less
+
+    from_left : (q : OrderedKey) → is_key_of left q ≡ true → (is_key_of pairs q ≡ true) × (is_below key q ≡ true)
+    from_left q h = and_parts (is_key_of pairs q) (is_below key q) (sym (ap (λ (rs : Records). is_key_of rs q) is ∙ is_key_kept (is_below key) pairs q) ∙ h)
+
+    not_there : (q : OrderedKey) → is_key_of pairs q ≡ true → is_below key q ≡ true → (value : List ℕ) → IsLiveAt es 0 q value → ⊥
+    not_there q there less value live = less_not q key less (final.least q value there live)
+
+    pub left_sorted : is_sorted key_cmp pairs ≡ true → is_sorted key_cmp left ≡ true
+    left_sorted sorted = ap (λ (rs : Records). is_sorted key_cmp rs) is ∙ sorted_kept (is_below key) pairs sorted
+
+    -- none below it is live in a run
+    pub final_is_least : NoneInRuns es left → Some key ≡ least_taken pairs (content es)
+    final_is_least runs =
+        settled (Some key) (λ q there less. dead q (not_there q there less) (runs.none q (in_left q there less))) (final.is_key, taken key 0 final.lives)
+
+    pub run_is_least : (k : OrderedKey) → IsLeastInRuns es left k → Some k ≡ least_taken pairs (content es)
+    run_is_least k runs =
+        let its = from_left k runs.is_key in
+        settled (Some k) (λ q there less.
+        let lower : is_below key q ≡ true = ap is_lt (key_cmp-total.trans q k key (is_less (key_cmp q k) less) (is_less (key_cmp k key) its.1)) in
+        dead q (not_there q there lower) (runs.least q (in_left q there lower) less)) (its.0, taken k runs.part runs.lives)

@@ -39,18 +39,6 @@ pub record IsLoaded (before : Partitions) (pairs : Records) (after : Partitions)
   pub runs : after.runs ≡ before.runs + 1
   pub has : HasContent after.entries (insert_all pairs (content before.entries))
 
--- the records' keys rise, none of them is live, and none stands in the partition
-pub record IsAwaited (part : ℕ) (pairs : Records) (es : List Entry) : Type 0 where
-  pub rising : IsRising es
-  pub one_place : OnePlace es
-  pub sorted : is_sorted key_cmp pairs ≡ true
-  pub absent : AllByRecursion (λ r. (find es part r.0 ≡ None) × (get (content es) r.0 ≡ None)) pairs
-
--- the records were put into the partition last
-pub record HoldsRun (part : ℕ) (pairs : Records) (es : List Entry) : Type 0 where
-  pub before : List Entry
-  pub is : es ≡ with_run part pairs before
-
 -- where the records of a run stand, and where nothing stands
 pub record LoadLaws (es : List Entry) : Type 0 where
   -- a run changes no other partition, and in its own no other key

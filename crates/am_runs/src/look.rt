@@ -9,7 +9,7 @@ ghost use Rattle.am_record.specs.Plain.{first_key, is_rising, least_taken};
 ghost use Rattle.am_list.specs.Entries.{next_from};
 ghost use Rattle.am_list.specs.Content.{content};
 ghost use Rattle.am_parts.specs.Partitions.{IsSound};
-ghost use Rattle.am_runs.specs.Looks.{AreEmptyFrom, IsFirstFrom, NoneLiveIn, IsLeastLiveIn};
+ghost use Rattle.am_runs.specs.Looks.{NoneLiveIn, IsLeastLiveIn, NoneInRuns, IsLeastInRuns};
 
 use crate::walk::Walk;
 use am_list::PartIndex;
@@ -37,8 +37,8 @@ pub(crate) fn first_live<I: PartIndex + Drop>(
     None
 }
 
-// The least key of the pairs that is live. What lies between the pairs and the entries of a partition
-// is passed over, and partitions whose entries are all below the pairs cost one look each.
+// The least key of the pairs that is live. The final partition is walked through beside them, what lies between being
+// passed over; of the runs only those are searched whose filters don't rule a key out.
 fn least_live<I: PartIndex + Drop>(
     parts: &Parts<I>,
     walk: &mut Walk,
@@ -47,38 +47,42 @@ fn least_live<I: PartIndex + Drop>(
     requires { is_sorted key_cmp pairs.now ≡ true }
     ensures { result ≡ least_taken pairs.now (content parts.now.entries) }
 {
-    let mut least = None;
-    // The pairs below the least key found so far: no other one matters.
-    let mut left = pairs;
-    let mut part = 0;
-    while let Some(low) = left.first() {
-        let Some(entry) = first_from(parts, part, low.0) else {
-            return least;
-        };
-        let here = entry.part;
-        if let Some(key) = least_live_in(parts, walk, entry, left) {
-            least = Some(key);
-            left = &left[..count_below(left, key)];
-        }
-        let Some(above) = here.checked_add(1) else {
-            return least;
-        };
-        part = above;
+    let Some(key) = least_in_final(parts, walk, pairs) else {
+        return first_in_runs(parts, pairs);
+    };
+    let below = &pairs[..count_below(pairs, key)];
+    if let Some(lower) = first_in_runs(parts, below) {
+        return Some(lower);
     }
-    least
+    Some(key)
 }
 
-// The first entry at or above the key, of the first partition from this one on that has one.
-fn first_from<I: PartIndex + Drop>(parts: &Parts<I>, part: u32, low: Key) -> Option<Entry>
-    ensures found { MatchOption result (AreEmptyFrom parts.now.entries part low) (IsFirstFrom parts.now.entries part low) }
+// The least key of the pairs that is live in the final partition.
+fn least_in_final<I: PartIndex + Drop>(
+    parts: &Parts<I>,
+    walk: &mut Walk,
+    pairs: &[(Key, Value)],
+) -> Option<Key>
+    requires { is_sorted key_cmp pairs.now ≡ true }
+    ensures found { MatchOption result (NoneLiveIn parts.now.entries 0 pairs.now) (IsLeastLiveIn parts.now.entries 0 pairs.now) }
     ensures sound { IsSound parts.now.entries }
 {
-    let mut from = part;
-    while let Some(entry) = parts.next_any(from, low) {
-        if low <= entry.key {
-            return Some(entry);
+    // Read here, the entries are known to be sound.
+    let _ = parts.runs();
+    let low = pairs.first()?;
+    let first = parts.next_from(0, low.0)?;
+    least_live_in(parts, walk, first, pairs)
+}
+
+// The first key of the pairs that is live in a run.
+fn first_in_runs<I: PartIndex + Drop>(parts: &Parts<I>, pairs: &[(Key, Value)]) -> Option<Key>
+    requires { is_sorted key_cmp pairs.now ≡ true }
+    ensures { MatchOption result (NoneInRuns parts.now.entries pairs.now) (IsLeastInRuns parts.now.entries pairs.now) }
+{
+    for pair in pairs {
+        if parts.run_of(pair.0).is_some() {
+            return Some(pair.0);
         }
-        from = entry.part;
     }
     None
 }

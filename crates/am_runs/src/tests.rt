@@ -20,7 +20,7 @@ fn pair(number: u64, byte: u8) -> (Key, Value) {
 fn no_entries(alloc: Global) -> Parts<ListIndex>
     ensures { NothingAbove result.runs result.entries }
 {
-    Parts::new(ListIndex::new(alloc))
+    Parts::new(alloc, ListIndex::new(alloc))
 }
 
 // Adds a live entry to the final partition, unless its key is there or is live elsewhere.

@@ -59,7 +59,7 @@ fn put<I: PartIndex + Drop>(parts: &mut Parts<I>, entry: &Entry) -> Result<(), N
 
 // Partitions with the entries.
 fn with_entries(alloc: Global, entries: &[Entry]) -> Result<Parts<ListIndex>, NoMemory> {
-    let mut parts = Parts::new(ListIndex::new(alloc));
+    let mut parts = Parts::new(alloc, ListIndex::new(alloc));
     for entry in entries {
         put(&mut parts, entry)?;
     }
@@ -93,7 +93,7 @@ fn opened<I: PartIndex + Drop>(
 
 // Each of the first numbers is live in one of three partitions, and a ghost in the next one.
 fn striped(alloc: Global, count: u32) -> Result<Parts<ListIndex>, NoMemory> {
-    let mut parts = Parts::new(ListIndex::new(alloc));
+    let mut parts = Parts::new(alloc, ListIndex::new(alloc));
     for number in 0..count {
         put(&mut parts, &live(number % 3, u64::from(number), b'a'))?;
         put(&mut parts, &dead((number % 3) + 1, u64::from(number), b'b'))?;

@@ -15,7 +15,7 @@ fn value(byte: u8) -> Value {
 
 // Partitions with the entries, but for those that would make a place or a live key stand twice.
 fn over(alloc: Global, entries: &[(u32, u64, u8, bool)]) -> Result<Parts<ListIndex>, NoMemory> {
-    let mut parts = Parts::new(ListIndex::new(alloc));
+    let mut parts = Parts::new(alloc, ListIndex::new(alloc));
     for &(part, number, byte, is_ghost) in entries {
         add(&mut parts, part, Key::of_u64(number), byte, is_ghost)?;
     }

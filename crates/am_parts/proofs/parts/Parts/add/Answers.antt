@@ -1,10 +1,17 @@
-use Rattle.std.proofs.Common.{ap, arith}
+use Rattle.std.proofs.Common.{◌≡◌, List, refl, sym, ap, arith}
 use Rattle.am_parts.specs.Partitions.{Partitions}
 use Rattle.am_parts.proofs.Changes.{adds_sound, adds_content}
 use Rattle.am_parts.proofs.parts.Parts.add.Goals as goal
 
-pub invariant_of-self : goal.invariant_of-self
-invariant_of-self g c = (adds_sound (ap (λ (p : Partitions). p.entries) c.self.view_is) c.self.invariant.0 c.args.entry (omega arith) c.requires.absent c.requires.dead c.insert.result c.insert.ensures.ok c.insert.ensures.err, c.self.invariant.1)
+pub insert_or_forget-requires-clause-counted : goal.insert_or_forget-requires-clause-counted
+insert_or_forget-requires-clause-counted g c = c.in_ok-add.ensures.ok _ c.args.entry refl refl c.self.invariant.2
+
+pub invariant_of-self-2 : goal.invariant_of-self-2
+invariant_of-self-2 g c = (
+  adds_sound (ap (λ (p : Partitions). p.entries) c.self.view_is) c.self.invariant.0 c.args.entry (omega arith) c.requires.absent c.requires.dead c.insert_or_forget.result c.insert_or_forget.ensures.ok c.insert_or_forget.ensures.err,
+  c.self.invariant.1,
+  c.insert_or_forget.ensures.catalog,
+)
 
 pub returns-clause-content : goal.returns-clause-content
-returns-clause-content g c = adds_content (ap (λ (p : Partitions). p.entries) c.self.view_is) c.self.invariant.0 c.args.entry (omega arith) c.requires.absent c.requires.dead _ c.insert.result c.insert.ensures.ok
+returns-clause-content g c = adds_content (ap (λ (p : Partitions). p.entries) c.self.view_is) c.self.invariant.0 c.args.entry (omega arith) c.requires.absent c.requires.dead _ c.insert_or_forget.result c.insert_or_forget.ensures.ok

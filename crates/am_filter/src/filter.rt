@@ -1,0 +1,108 @@
+//! A filter of keys.
+
+ghost use Rattle.std.specs.Prelude.{◌≡◌, ◌<◌, ◌%◌, ◌^◌, true, length, IfOk};
+ghost use Rattle.std.specs.List.{AllByRecursion};
+ghost use Rattle.am_record.specs.OrderedKey.{OrderedKey};
+ghost use Rattle.am_record.specs.KeyMix.{key_mix};
+ghost use Rattle.am_filter.specs.Held.{mask_of, slot_of, holds};
+
+use am_record::{Key, NoMemory, Value};
+use std::alloc::Global;
+use std::marker::Model;
+
+/// For how many keys a word is got.
+const KEYS_A_WORD: usize = 4;
+
+/// A set of keys, of which it is known whether a key *may* be in it: a key that was added is held, and of the others about
+/// one in a hundred is. It has a word for each four keys, and a key sets five bits of one word (Putze, Sanders and
+/// Singler, 2009).
+#[derive(Debug, Drop)]
+pub struct Filter {
+    words: Vec<u64>,
+}
+
+impl Model for Filter {
+    ghost use Rattle.std.specs.Prelude.{◌<◌, ◌^◌, ℕ, List, length};
+    ghost use Rattle.std.specs.Coded.{coded_list, coded_ℕ};
+
+    ghost Value = { List ℕ };
+
+    ghost coded = { coded_list coded_ℕ };
+
+    ghost view = { λ f. f.words.items };
+
+    ghost invariant = { λ f. (0 < length f.words.items) × (length f.words.items < 2 ^ 32) };
+}
+
+impl Filter {
+    /// An empty filter with room for so many keys. It may be given more, and then holds more keys that it was not given.
+    ///
+    /// # Errors
+    /// NoMemory, where memory was refused.
+    pub fn new(alloc: Global, keys: usize) -> Result<Filter, NoMemory> {
+        let mut words = Vec::new(alloc);
+        words.resize((keys / KEYS_A_WORD).min(1 << 30) + 1, 0)?;
+        Ok(Filter { words })
+    }
+
+    /// The filter of the keys of records.
+    ///
+    /// # Errors
+    /// NoMemory, where memory was refused.
+    pub fn of(alloc: Global, pairs: &[(Key, Value)]) -> Result<Filter, NoMemory>
+        ensures { IfOk result (λ f. AllByRecursion (λ r. holds f r.0 ≡ true) pairs.now) }
+    {
+        let mut filter = Filter::new(alloc, pairs.len())?;
+        for pair in pairs {
+            filter.add(pair.0);
+        }
+        Ok(filter)
+    }
+
+    /// Adds a key. Takes no memory.
+    pub fn add(&mut self, key: Key)
+        ensures added { holds self.new key ≡ true }
+        ensures kept { (k : OrderedKey) → holds self.old k ≡ true → holds self.new k ≡ true }
+    {
+        let number = key.mixed();
+        let at = self.slot(number);
+        self.words[at] |= mask(number);
+    }
+
+    /// Whether the key may have been added.
+    pub fn holds(&self, key: Key) -> bool
+        ensures { result ≡ holds self.now key }
+    {
+        self.holds_mixed(key.mixed())
+    }
+
+    // The word of a number.
+    fn slot(&self, number: u64) -> usize
+        ensures in_range { result < length self.now }
+        ensures value { result ≡ slot_of self.now number }
+    {
+        let count = self.words.len() as u64;
+        (((number >> 32) * count) >> 32) as usize
+    }
+
+    /// The same by the number of the key.
+    pub fn holds_mixed(&self, number: u64) -> bool
+        ensures { (k : OrderedKey) → number ≡ key_mix k → result ≡ holds self.now k }
+    {
+        let mask = mask(number);
+        self.words[self.slot(number)] & mask == mask
+    }
+}
+
+// Five bits.
+fn mask(number: u64) -> u64
+    ensures { result ≡ mask_of number }
+{
+    bit(number) | bit(number >> 6) | bit(number >> 12) | bit(number >> 18) | bit(number >> 24)
+}
+
+fn bit(number: u64) -> u64
+    ensures { result ≡ 2 ^ (number % 64) }
+{
+    1 << (number % 64)
+}

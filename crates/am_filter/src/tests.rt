@@ -1,0 +1,31 @@
+use crate::Filter;
+use am_record::{Key, NoMemory};
+use std::alloc::Global;
+use std::test::Fail;
+
+// The filter of the keys of the numbers below this one.
+fn of_numbers(alloc: Global, count: u64) -> Result<Filter, NoMemory> {
+    let mut filter = Filter::new(alloc, count as usize)?;
+    for number in 0..count {
+        filter.add(Key::of_u64(number));
+    }
+    Ok(filter)
+}
+
+#[test]
+fn holds_what_was_added_and_one_other_key_in_a_hundred_at_most(
+    rt: HostRuntime,
+) -> Result<(), Fail> {
+    for count in [25, 4096, 62_500] {
+        let filter = of_numbers(rt.alloc(), count)?;
+        let held = (0..count)
+            .filter(|number| filter.holds(Key::of_u64(*number)))
+            .count();
+        assert!(rt; held as u64 == count, "of {count} keys");
+        let others = (0..10_000_u64)
+            .filter(|number| filter.holds(Key::of_u64(u64::MAX - *number)))
+            .count();
+        assert!(rt; others <= 100, "{others} of 10,000 beside {count} keys");
+    }
+    Ok(())
+}

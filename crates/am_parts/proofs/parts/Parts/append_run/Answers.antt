@@ -1,0 +1,38 @@
+use Rattle.std.proofs.Common.{◌≡◌, ◌+◌, ◌≤◌, ◌++◌, None, ℕ, List, sym, ap, ◌∙◌, subst, refl, arith}
+use Rattle.std.specs.List.{AllByRecursion}
+use Rattle.std.specs.FinMap.{get}
+use Rattle.am_record.specs.Plain.{insert_all}
+use Rattle.am_record.specs.declared.entry.Entry.{Entry}
+use Rattle.am_list.specs.Content.{content, HasContent}
+use Rattle.am_list.specs.Runs.{run_entries}
+use Rattle.am_parts.specs.Catalogs.{AreListed}
+use Rattle.am_parts.specs.Partitions.{Partitions, IsSound}
+use Rattle.am_parts.proofs.Appending.{is_next, next_rises, next_content, next_sound}
+use Rattle.am_parts.proofs.parts.Parts.append_run.Goals as goal
+
+pub append_run-requires-clause-above : goal.append_run-requires-clause-above
+append_run-requires-clause-above g c =
+    (is_next _ c.self.inside.runs c.args.pairs.now (subst (λ (p : Partitions). AllByRecursion (λ (e : Entry). e.part ≤ p.runs) p.entries) (sym c.self.view_is) c.requires.above) c.requires.rising).above
+
+pub append_run-requires-clause-rising : goal.append_run-requires-clause-rising
+append_run-requires-clause-rising g c =
+    next_rises c.self.inside.runs c.args.pairs.now c.self.invariant.0 (subst (λ (p : Partitions). AllByRecursion (λ (e : Entry). e.part ≤ p.runs) p.entries) (sym c.self.view_is) c.requires.above) c.requires.rising
+
+pub invariant_of-self-2 : goal.invariant_of-self-2
+invariant_of-self-2 g c =
+    let above = subst (λ (p : Partitions). AllByRecursion (λ (e : Entry). e.part ≤ p.runs) p.entries) (sym c.self.view_is) c.requires.above in
+    let dead = subst (λ (p : Partitions). AllByRecursion (λ r. get (content p.entries) r.0 ≡ None) c.args.pairs.now) (sym c.self.view_is) c.requires.dead in
+    let runs : c.self.inside.runs ≡ c.args.self.now.runs = ap (λ (p : Partitions). p.runs) c.self.view_is in (
+      subst IsSound (sym c.in_ok-append_run.ensures.ok) (next_sound c.self.inside.runs c.args.pairs.now c.self.invariant.0 above c.requires.rising dead (omega (arith, runs, c.requires.room))),
+      omega (arith, runs, c.requires.room),
+      subst (λ (es : List Entry). AreListed es c.push.new.self.in_final c.push.new.self.runs.items) (sym c.in_ok-append_run.ensures.ok)
+          (c.push.ensures _ (c.self.inside.runs + 1) c.args.pairs.now (c.make_room.ensures.same _ c.self.invariant.2) (is_next _ c.self.inside.runs c.args.pairs.now above c.requires.rising) c.in_ok-run.ensures.run),
+    )
+
+pub returns-clause-content : goal.returns-clause-content
+returns-clause-content g c =
+    let sound = subst (λ (p : Partitions). IsSound p.entries) c.self.view_is c.self.invariant.0 in
+    let runs : c.self.inside.runs ≡ c.args.self.now.runs = ap (λ (p : Partitions). p.runs) c.self.view_is in
+    let is : g.I.PartIndex.entries c.append_run.new.self ≡ c.args.self.now.entries ++ run_entries (c.args.self.now.runs + 1) c.args.pairs.now =
+    c.in_ok-append_run.ensures.ok ∙ ap (λ (p : Partitions). p.entries ++ run_entries (p.runs + 1) c.args.pairs.now) c.self.view_is in
+    subst (λ (es : List Entry). HasContent es (insert_all c.args.pairs.now (content c.args.self.now.entries))) (sym is) (next_content c.args.self.now.runs c.args.pairs.now sound c.requires.above c.requires.rising c.requires.dead)

@@ -1,0 +1,80 @@
+-- What is known of the runs that have entries left.
+use Rattle.std.specs.Prelude.{◌≡◌, ◌+◌, ◌<◌, ◌≤◌, ◌==◌, ℕ, Bool, true, List, [], ◌∷◌, map, length, take, drop, slice_index_or, IsSome, if◌then◌else◌}
+use Rattle.std.specs.List.{AllByRecursion, list_any}
+use Rattle.am_record.specs.OrderedKey.{OrderedKey}
+use Rattle.am_record.specs.Plain.{Records}
+use Rattle.am_record.specs.declared.entry.Entry.{Entry}
+use Rattle.am_list.specs.Entries.{find}
+use Rattle.am_filter.specs.Held.{holds}
+use Rattle.am_parts.specs.declared.catalog.OpenRun.{OpenRun}
+use Rattle.am_parts.specs.declared.catalog.Catalog.{Catalog}
+
+-- how many entries stand in the partition
+abbrev pub left_in : ℕ → List Entry → ℕ
+left_in part [] = 0
+left_in part (e ∷ es) = (if e.part == part then 1 else 0) + left_in part es
+
+-- the run has entries, just as many as are counted, and its filter holds the keys of all
+pub record IsOpenRun (es : List Entry) (run : OpenRun) : Type 0 where
+  pub is_run : 0 < run.part
+  pub some : 0 < run.left
+  pub exact : run.left ≡ left_in run.part es
+  pub held : AllByRecursion (λ e. e.part ≡ run.part → holds run.filter e.key ≡ true) es
+
+abbrev pub parts_of : List OpenRun → List ℕ
+parts_of runs = map (λ (r : OpenRun). r.part) runs
+
+-- each is below all later ones
+abbrev pub PartsRise : List ℕ → Type 0
+PartsRise [] = Unit {0}
+PartsRise (p ∷ ps) = AllByRecursion (λ q. p < q) ps × PartsRise ps
+
+abbrev pub is_one_of : List ℕ → ℕ → Bool
+is_one_of ps part = list_any (λ p. p == part) ps
+
+-- the final partition has so many entries, and the runs are just those in which entries stand
+pub record AreListed (es : List Entry) (in_final : ℕ) (runs : List OpenRun) : Type 0 where
+  pub counted : in_final ≡ left_in 0 es
+  pub each : AllByRecursion (IsOpenRun es) runs
+  pub every : AllByRecursion (λ e. 0 < e.part → is_one_of (parts_of runs) e.part ≡ true) es
+  pub rising : PartsRise (parts_of runs)
+
+abbrev pub IsCatalog : List Entry → Catalog → Type 0
+IsCatalog es c = AreListed es c.in_final c.runs.items
+
+-- the run at the index is that of the partition
+pub record IsRunAt (runs : List OpenRun) (part : ℕ) (i : ℕ) : Type 0 where
+  pub in_range : i < length runs
+  pub here : (d : OpenRun) → (slice_index_or runs i d).part ≡ part
+
+-- no run is that of the partition, and one would go to the index
+pub record IsGapAt (runs : List OpenRun) (part : ℕ) (i : ℕ) : Type 0 where
+  pub in_range : i ≤ length runs
+  pub below : AllByRecursion (λ r. r.part < part) (take i runs)
+  pub above : AllByRecursion (λ r. part < r.part) (drop i runs)
+
+-- an entry of the partition was counted
+pub record HasCounted (c : Catalog) (part : ℕ) : Type 0 where
+  pub entries : List Entry
+  pub key : OrderedKey
+  pub catalog : IsCatalog entries c
+  pub stands : IsSome (find entries part key)
+
+-- the run with one entry more, of that key
+pub record HasMore (old : OpenRun) (key : OrderedKey) (new : OpenRun) : Type 0 where
+  pub part : new.part ≡ old.part
+  pub left : new.left ≡ old.left + 1
+  pub added : holds new.filter key ≡ true
+  pub kept : (k : OrderedKey) → holds old.filter k ≡ true → holds new.filter k ≡ true
+
+-- the run of those records
+pub record IsRunOf (part : ℕ) (rs : Records) (run : OpenRun) : Type 0 where
+  pub at : run.part ≡ part
+  pub left : run.left ≡ length rs
+  pub held : AllByRecursion (λ r. holds run.filter r.0 ≡ true) rs
+
+-- the records may follow the entries as a run of that partition
+pub record IsNext (es : List Entry) (part : ℕ) (rs : Records) : Type 0 where
+  pub is_run : 0 < part
+  pub some : 0 < length rs
+  pub above : AllByRecursion (λ e. e.part < part) es
