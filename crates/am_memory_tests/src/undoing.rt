@@ -1,7 +1,7 @@
 //! Notes that are taken back.
 
 ghost use Rattle.std.specs.Prelude.{◌≡◌, true, OnOk};
-ghost use Rattle.am_calls.specs.Restoring.{CanRestore};
+ghost use Rattle.am_memory_tests.specs.Restoring.{CanRestore};
 
 use crate::fault::{Fault, expect};
 use crate::holding::{hold_just, place};

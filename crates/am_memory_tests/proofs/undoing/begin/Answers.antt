@@ -3,7 +3,7 @@ use Rattle.std.specs.FinMap.{get}
 use Rattle.am_list.specs.Content.{content}
 use Rattle.am_undo.specs.declared.note.Note.{Note}
 use Rattle.am_undo.specs.Undo.{Undoes}
-use Rattle.am_calls.proofs.undoing.begin.Goals as goal
+use Rattle.am_memory_tests.proofs.undoing.begin.Goals as goal
 
 pub returns : goal.returns
 returns c =

@@ -3,7 +3,7 @@ use Rattle.am_record.specs.declared.entry.Entry.{Entry}
 use Rattle.am_undo.specs.declared.note.Note.{Note}
 use Rattle.am_undo.specs.declared.note.Note.TheVariants.{Before}
 use Rattle.am_undo.specs.Undo.{Undoes}
-use Rattle.am_calls.proofs.undoing.change.Goals as goal
+use Rattle.am_memory_tests.proofs.undoing.change.Goals as goal
 
 pub returns : goal.returns
 returns c =
