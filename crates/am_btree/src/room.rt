@@ -1,6 +1,6 @@
 //! Vectors whose room was got once.
 
-ghost use Rattle.std.specs.Prelude.{◌≡◌, ◌+◌, ◌<◌, ◌≤◌, [], ◌++◌, length, take, drop, vec_len, vec_capacity, IfOk};
+ghost use Rattle.std.specs.Prelude.{◌≡◌, ◌+◌, ◌<◌, ◌≤◌, ◌==◌, ◌&&◌, [], ◌++◌, length, take, drop, vec_len, vec_capacity, IfOk, if◌then◌else◌};
 ghost use Rattle.std.specs.List.{insert, remove};
 ghost use Rattle.am_btree.specs.Splits.{lower_size};
 
@@ -59,6 +59,7 @@ pub(crate) fn move_tail<T: Drop>(from: &mut Vec<T>, at: usize, to: &mut Vec<T>)
 /// node grows at its end, all of them do.
 pub(crate) fn keep_of(last: bool, at: usize) -> usize
     requires { at ≤ 32 }
+    ensures size { result ≡ (if last && at == 32 then 32 else 16) }
     ensures keeps { (0 < result) × (result ≤ 32) }
     ensures room { at < result → result < 32 }
 {
