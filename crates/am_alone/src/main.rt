@@ -39,7 +39,9 @@ fn selected<R: AllocGlobal + Input + Print + Eprint + Env + Wait>(rt: &R) -> io:
     };
     match options(rt.alloc(), words.as_slice()) {
         Ok(Options::Alone { auto }) => alone(rt, auto),
-        Ok(Options::Listen(_)) => OptionsFault::other("amserve: this program serves alone").tell(rt),
+        Ok(Options::Listen(_)) => OptionsFault::other("amserve: this program serves alone").tell(
+            rt,
+        ),
         Err(fault) => fault.tell(rt),
     }
 }

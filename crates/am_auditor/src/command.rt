@@ -26,9 +26,9 @@ pub fn options<'a, S: AsStr>(alloc: Global, words: &'a [S]) -> Result<Options<'a
 
 /// `amaudit [FILE]`.
 fn amaudit<'a>(alloc: Global) -> Result<Command<'a>, AllocError> {
-    let file = Arg::new(alloc, "file")
-        .value_name("FILE")
-        .help("The stored trace; standard input where none or - is named");
+    let file = Arg::new(alloc, "file").value_name("FILE").help(
+        "The stored trace; standard input where none or - is named",
+    );
     Command::new(alloc, "amaudit")
         .about(
             "Judges a stored trace: whether it is formed, right in its refusals, and serial in order of commit",

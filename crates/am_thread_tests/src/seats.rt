@@ -139,10 +139,7 @@ fn sixty_five_seats_of_one_latch(rt: HostRuntime) -> Result<(), Fail> {
 
 // Where no room may be had for so many receipts, as in a seat that holds its most: the transaction that is open still
 // ends.
-fn filled<L: Naming, R: Wait + Abort>(
-    rt: &R,
-    blank: Blank,
-) -> Result<(usize, Reply, Reply), Fail>
+fn filled<L: Naming, R: Wait + Abort>(rt: &R, blank: Blank) -> Result<(usize, Reply, Reply), Fail>
     requires { (blank.seats ≡ L.seats) × (blank.table ≡ L.table) }
 {
     let (latch, mut seats) = Latch::<L>::open(blank)?;
@@ -164,8 +161,7 @@ fn filled<L: Naming, R: Wait + Abort>(
 
 #[test]
 fn a_full_seat_still_commits(rt: HostRuntime) -> Result<(), Fail> {
-    let (receipts, full, ended) =
-        filled::<Brand, HostRuntime>(&rt, Blank::new(rt.alloc(), 1)?)?;
+    let (receipts, full, ended) = filled::<Brand, HostRuntime>(&rt, Blank::new(rt.alloc(), 1)?)?;
     assert!(rt; full == Reply::Refused(Refusal::SeatFull));
     assert!(rt; ended == Reply::Committed(1));
     assert_eq!(rt; receipts, 1_000_001);

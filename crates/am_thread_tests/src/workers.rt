@@ -210,8 +210,13 @@ fn a_limit_of_65(rt: HostRuntime) -> Result<(), Fail> {
 #[test]
 fn a_full_seat_ends_a_worker(rt: HostRuntime) -> Result<(), Fail> {
     let blank = Blank::new(rt.alloc(), 1)?;
-    let answers =
-        answers_of_one_worker::<Brand, HostRuntime>(&rt, rt.alloc(), blank, 1_000_002, 16)?;
+    let answers = answers_of_one_worker::<Brand, HostRuntime>(
+        &rt,
+        rt.alloc(),
+        blank,
+        1_000_002,
+        16,
+    )?;
     assert_eq!(rt; answers.len(), 1_000_000);
     assert!(rt; answers.last() == Some(&Reply::Idle));
     Ok(())
