@@ -111,7 +111,6 @@ fn transactions<L: Naming, R: Wait>(rt: &R, blank: Blank) -> Result<(), Fault>
         expect(rows.as_slice().len() as u64 == number)?;
         expect(commit(rt, &latch, &mut seat, tx)? == Reply::Committed(number))?;
     }
-    expect(latch.look(rt, |engine| engine.store().commits()) == 3)?;
     expect(latch.look(rt, |engine| engine.trace().len()) == 12)
 }
 
