@@ -25,7 +25,8 @@ pub extern "C" fn tiuvrokk_scan(
     told: &mut u64,
 ) -> u32
     ensures { Tells store.old.held (scan_asked tx lo.now hi.now (length rows.old)) store.new.held
-        (λ answer. (result ≡ status answer) × (told.new ≡ count_told all answer) × (rows.new ≡ rows_told all answer rows.old)) }
+        (λ answer. (result ≡ status answer) × (told.new ≡ count_told all answer)
+        × (rows.new ≡ rows_told all answer rows.old)) }
 {
     let answer = take_step(alloc, store, scan_asked(tx, lo, hi, rows.len() as u64));
     if let Ok(Reply::Rows(pairs)) = &answer {
@@ -48,8 +49,8 @@ fn write_rows(pairs: &[(Key, Value)], rows: &mut [Record])
     }
 }
 
-/// Scans what lies behind a key, up to another one, so that a scan goes on. There may be 999 rows: the record of the key
-/// itself is read too.
+/// Scans what lies behind a key, up to another one, so that a scan goes on. There may be 999 rows: the record of the
+/// key itself is read too.
 #[unsafe(no_mangle)]
 pub extern "C" fn tiuvrokk_scan_behind(
     alloc: Global,
@@ -61,7 +62,8 @@ pub extern "C" fn tiuvrokk_scan_behind(
     told: &mut u64,
 ) -> u32
     ensures { Tells store.old.held (scan_asked tx key.now hi.now (length rows.old + 1)) store.new.held
-        (λ answer. (result ≡ status answer) × (told.new ≡ count_told (behind key.now (length rows.old)) answer) × (rows.new ≡ rows_told (behind key.now (length rows.old)) answer rows.old)) }
+        (λ answer. (result ≡ status answer) × (told.new ≡ count_told (behind key.now (length rows.old)) answer)
+        × (rows.new ≡ rows_told (behind key.now (length rows.old)) answer rows.old)) }
 {
     let asked = scan_asked(tx, key, hi, rows.len() as u64 + 1);
     let answer = take_step(alloc, store, asked);
