@@ -35,7 +35,8 @@ abbrev pub mode_given : ℕ → Result Mode Status
 mode_given m = cond (m == 0) (Ok Shared) (cond (m == 1) (Ok Exclusive) (Err BadMode))
 
 abbrev pub lock_asked : ℕ → ℕ → List ℕ → List ℕ → Result Step Status
-lock_asked tx mode lo hi = of_both (λ m range. Ok (Do tx (Lock (record { mode = m; range = range })))) (mode_given mode) (range_given lo hi)
+lock_asked tx mode lo hi =
+    of_both (λ m range. Ok (Do tx (Lock (record { mode = m; range = range })))) (mode_given mode) (range_given lo hi)
 
 -- all of the records, or what is wrong with the first that isn't one
 abbrev pub pairs_given : List Record → Result (List (OrderedKey × List ℕ)) Status
@@ -47,7 +48,8 @@ clean_asked lo hi limit = of_one (λ range. Clean range limit) (range_given lo h
 
 -- all of the records in a load, or what is wrong with them, or memory is refused for them
 abbrev pub IsLoadAsked : ℕ → List Record → Result Step Status → Type 0
-IsLoadAsked tx records asked = (asked ≡ of_one (λ pairs. Do tx (Load pairs)) (pairs_given records)) ⊎ (asked ≡ Err NoMemory)
+IsLoadAsked tx records asked =
+    (asked ≡ of_one (λ pairs. Do tx (Load pairs)) (pairs_given records)) ⊎ (asked ≡ Err NoMemory)
 
 -- the pairs of all records were made, or what is wrong was told, or memory was refused
 abbrev pub IsAdded : List Record → Result (Unit {0}) Status → List (OrderedKey × List ℕ) → Type 0

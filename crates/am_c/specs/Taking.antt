@@ -44,7 +44,8 @@ number (Ok reply) = number_of reply
 number (Err why) = 0
 
 -- the store was asked, and what C has of its answer is so
-pub record Tells (old : Option Parts) (asked : Result Step Status) (new : Option Parts) (So : Result Reply Status → Type 0) : Type 0 where
+pub record Tells (old : Option Parts) (asked : Result Step Status) (new : Option Parts)
+    (So : Result Reply Status → Type 0) : Type 0 where
   pub answer : Result Reply Status
   pub answers : Answers old asked answer new
   pub so : So answer

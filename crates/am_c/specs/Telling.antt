@@ -40,7 +40,8 @@ abbrev pub behind : List ℕ → ℕ → List (OrderedKey × List ℕ) → List 
 behind key max rows = take max (without key rows)
 
 -- those of the rows that are chosen are written
-abbrev pub rows_told : (List (OrderedKey × List ℕ) → List (OrderedKey × List ℕ)) → Result Reply Status → List Record → List Record
+abbrev pub rows_told :
+    (List (OrderedKey × List ℕ) → List (OrderedKey × List ℕ)) → Result Reply Status → List Record → List Record
 rows_told chosen (Ok (Rows rows)) old = rows_over (chosen rows) old
 rows_told chosen answer old = old
 
@@ -50,7 +51,8 @@ count_told chosen (Ok (Rows rows)) = length (chosen rows)
 count_told chosen answer = number answer
 
 -- the same of a load: what is asked of the store is made of the records
-pub record TellsLoad (old : Option Parts) (tx : ℕ) (records : List Record) (new : Option Parts) (So : Result Reply Status → Type 0) : Type 0 where
+pub record TellsLoad (old : Option Parts) (tx : ℕ) (records : List Record) (new : Option Parts)
+    (So : Result Reply Status → Type 0) : Type 0 where
   pub asked : Result Step Status
   pub load : IsLoadAsked tx records asked
   pub tells : Tells old asked new So

@@ -30,7 +30,8 @@ range_given lo hi = of_both in_order (key_given lo) (key_given hi)
 abbrev pub pair_given : Record → Result (OrderedKey × List ℕ) Status
 pair_given r =
     cond (nat_le r.key.len 32)
-    (cond (nat_le r.value.len 64) (Ok (key_of (take r.key.len r.key.bytes), take r.value.len r.value.bytes)) (Err BadValue))
+    (cond (nat_le r.value.len 64)
+    (Ok (key_of (take r.key.len r.key.bytes), take r.value.len r.value.bytes)) (Err BadValue))
     (Err BadKey)
 
 -- bytes with zeros behind them

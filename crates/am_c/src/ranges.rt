@@ -24,7 +24,9 @@ pub extern "C" fn tiuvrokk_scan(
     rows: &mut [Record],
     told: &mut u64,
 ) -> u32
-    ensures { Tells store.old.held (scan_asked tx lo.now hi.now (length rows.old)) store.new.held (λ answer. (result ≡ status answer) × (told.new ≡ count_told all answer) × (rows.new ≡ rows_told all answer rows.old)) }
+    ensures { Tells store.old.held (scan_asked tx lo.now hi.now (length rows.old)) store.new.held
+        (λ answer. (result ≡ status answer) × (told.new ≡ count_told all answer)
+        × (rows.new ≡ rows_told all answer rows.old)) }
 {
     let answer = take_step(alloc, store, scan_asked(tx, lo, hi, rows.len() as u64));
     if let Ok(Reply::Rows(pairs)) = &answer {
@@ -47,8 +49,8 @@ fn write_rows(pairs: &[(Key, Value)], rows: &mut [Record])
     }
 }
 
-/// Scans what lies behind a key, up to another one, so that a scan goes on. There may be 999 rows: the record of the key
-/// itself is read too.
+/// Scans what lies behind a key, up to another one, so that a scan goes on. There may be 999 rows: the record of the
+/// key itself is read too.
 #[unsafe(no_mangle)]
 pub extern "C" fn tiuvrokk_scan_behind(
     alloc: Global,
@@ -59,7 +61,9 @@ pub extern "C" fn tiuvrokk_scan_behind(
     rows: &mut [Record],
     told: &mut u64,
 ) -> u32
-    ensures { Tells store.old.held (scan_asked tx key.now hi.now (length rows.old + 1)) store.new.held (λ answer. (result ≡ status answer) × (told.new ≡ count_told (behind key.now (length rows.old)) answer) × (rows.new ≡ rows_told (behind key.now (length rows.old)) answer rows.old)) }
+    ensures { Tells store.old.held (scan_asked tx key.now hi.now (length rows.old + 1)) store.new.held
+        (λ answer. (result ≡ status answer) × (told.new ≡ count_told (behind key.now (length rows.old)) answer)
+        × (rows.new ≡ rows_told (behind key.now (length rows.old)) answer rows.old)) }
 {
     let asked = scan_asked(tx, key, hi, rows.len() as u64 + 1);
     let answer = take_step(alloc, store, asked);
@@ -106,7 +110,8 @@ pub extern "C" fn tiuvrokk_lock(
     hi: &[u8],
     told: &mut u64,
 ) -> u32
-    ensures { Tells store.old.held (lock_asked tx mode lo.now hi.now) store.new.held (λ answer. (result ≡ status answer) × (told.new ≡ number answer)) }
+    ensures { Tells store.old.held (lock_asked tx mode lo.now hi.now) store.new.held
+        (λ answer. (result ≡ status answer) × (told.new ≡ number answer)) }
 {
     tell(alloc, store, lock_asked(tx, mode, lo, hi), told)
 }
@@ -121,7 +126,8 @@ pub extern "C" fn tiuvrokk_load(
     exists: &mut KeyText,
     told: &mut u64,
 ) -> u32
-    ensures { TellsLoad store.old.held tx records.now store.new.held (λ answer. (result ≡ status answer) × (told.new ≡ number answer) × (exists.new ≡ key_told answer exists.old)) }
+    ensures { TellsLoad store.old.held tx records.now store.new.held
+        (λ answer. (result ≡ status answer) × (told.new ≡ number answer) × (exists.new ≡ key_told answer exists.old)) }
 {
     let asked = load_asked(alloc, tx, records);
     let answer = take_step(alloc, store, asked);

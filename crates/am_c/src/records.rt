@@ -23,7 +23,8 @@ pub extern "C" fn tiuvrokk_get(
     value: &mut ValueText,
     told: &mut u64,
 ) -> u32
-    ensures { Tells store.old.held (get_asked tx key.now) store.new.held (λ answer. (result ≡ status answer) × (told.new ≡ number answer) × (value.new ≡ value_told answer value.old)) }
+    ensures { Tells store.old.held (get_asked tx key.now) store.new.held
+        (λ answer. (result ≡ status answer) × (told.new ≡ number answer) × (value.new ≡ value_told answer value.old)) }
 {
     let answer = take_step(alloc, store, get_asked(tx, key));
     tell_value(&answer, value);
@@ -49,7 +50,8 @@ pub extern "C" fn tiuvrokk_insert(
     value: &[u8],
     told: &mut u64,
 ) -> u32
-    ensures { Tells store.old.held (insert_asked tx key.now value.now) store.new.held (λ answer. (result ≡ status answer) × (told.new ≡ number answer)) }
+    ensures { Tells store.old.held (insert_asked tx key.now value.now) store.new.held
+        (λ answer. (result ≡ status answer) × (told.new ≡ number answer)) }
 {
     tell(alloc, store, insert_asked(tx, key, value), told)
 }
@@ -64,7 +66,8 @@ pub extern "C" fn tiuvrokk_replace(
     value: &[u8],
     told: &mut u64,
 ) -> u32
-    ensures { Tells store.old.held (replace_asked tx key.now value.now) store.new.held (λ answer. (result ≡ status answer) × (told.new ≡ number answer)) }
+    ensures { Tells store.old.held (replace_asked tx key.now value.now) store.new.held
+        (λ answer. (result ≡ status answer) × (told.new ≡ number answer)) }
 {
     tell(alloc, store, replace_asked(tx, key, value), told)
 }
@@ -78,7 +81,8 @@ pub extern "C" fn tiuvrokk_delete(
     key: &[u8],
     told: &mut u64,
 ) -> u32
-    ensures { Tells store.old.held (delete_asked tx key.now) store.new.held (λ answer. (result ≡ status answer) × (told.new ≡ number answer)) }
+    ensures { Tells store.old.held (delete_asked tx key.now) store.new.held
+        (λ answer. (result ≡ status answer) × (told.new ≡ number answer)) }
 {
     tell(alloc, store, delete_asked(tx, key), told)
 }

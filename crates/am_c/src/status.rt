@@ -109,8 +109,8 @@ fn refusal_status(why: Refusal) -> Status
     }
 }
 
-/// The number that goes with a reply: of the transaction that was begun, of the commit, of the transaction that is in the
-/// way, or how many entries were worked off or cleaned; else 0.
+/// The number that goes with a reply: of the transaction that was begun, of the commit, of the transaction that is in
+/// the way, or how many entries were worked off or cleaned; else 0.
 pub(crate) fn number_of(reply: &Reply) -> u64
     ensures { result ≡ number_of reply.now }
 {

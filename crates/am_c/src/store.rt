@@ -62,7 +62,8 @@ pub extern "C" fn tiuvrokk_merge(
     limit: u64,
     told: &mut u64,
 ) -> u32
-    ensures { Tells store.old.held (Ok (Merge limit)) store.new.held (λ answer. (result ≡ status answer) × (told.new ≡ number answer)) }
+    ensures { Tells store.old.held (Ok (Merge limit)) store.new.held
+        (λ answer. (result ≡ status answer) × (told.new ≡ number answer)) }
 {
     tell(alloc, store, Ok(Step::Merge(limit)), told)
 }
@@ -77,7 +78,8 @@ pub extern "C" fn tiuvrokk_clean(
     limit: u64,
     told: &mut u64,
 ) -> u32
-    ensures { Tells store.old.held (clean_asked lo.now hi.now limit) store.new.held (λ answer. (result ≡ status answer) × (told.new ≡ number answer)) }
+    ensures { Tells store.old.held (clean_asked lo.now hi.now limit) store.new.held
+        (λ answer. (result ≡ status answer) × (told.new ≡ number answer)) }
 {
     tell(alloc, store, clean_asked(lo, hi, limit), told)
 }

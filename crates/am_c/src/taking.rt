@@ -68,7 +68,8 @@ pub(crate) fn tell(
     asked: Result<Step, Status>,
     told: &mut u64,
 ) -> u32
-    ensures { Tells handle.old.held asked handle.new.held (λ answer. (result ≡ status answer) × (told.new ≡ number answer)) }
+    ensures { Tells handle.old.held asked handle.new.held
+        (λ answer. (result ≡ status answer) × (told.new ≡ number answer)) }
 {
     let answer = take_step(alloc, handle, asked);
     *told = number_told(&answer);

@@ -13,7 +13,8 @@ use std::alloc::Global;
 /// Begins a transaction: the number told is its number.
 #[unsafe(no_mangle)]
 pub extern "C" fn tiuvrokk_begin(alloc: Global, store: &mut Handle, told: &mut u64) -> u32
-    ensures { Tells store.old.held (Ok Begin) store.new.held (λ answer. (result ≡ status answer) × (told.new ≡ number answer)) }
+    ensures { Tells store.old.held (Ok Begin) store.new.held
+        (λ answer. (result ≡ status answer) × (told.new ≡ number answer)) }
 {
     tell(alloc, store, Ok(Step::Begin), told)
 }
@@ -21,7 +22,8 @@ pub extern "C" fn tiuvrokk_begin(alloc: Global, store: &mut Handle, told: &mut u
 /// Commits a transaction: the number told is that of the commit.
 #[unsafe(no_mangle)]
 pub extern "C" fn tiuvrokk_commit(alloc: Global, store: &mut Handle, tx: u64, told: &mut u64) -> u32
-    ensures { Tells store.old.held (Ok (Commit tx)) store.new.held (λ answer. (result ≡ status answer) × (told.new ≡ number answer)) }
+    ensures { Tells store.old.held (Ok (Commit tx)) store.new.held
+        (λ answer. (result ≡ status answer) × (told.new ≡ number answer)) }
 {
     tell(alloc, store, Ok(Step::Commit(tx)), told)
 }
@@ -29,7 +31,8 @@ pub extern "C" fn tiuvrokk_commit(alloc: Global, store: &mut Handle, tx: u64, to
 /// Takes back what a transaction wrote, and ends it.
 #[unsafe(no_mangle)]
 pub extern "C" fn tiuvrokk_abort(alloc: Global, store: &mut Handle, tx: u64, told: &mut u64) -> u32
-    ensures { Tells store.old.held (Ok (Abort tx)) store.new.held (λ answer. (result ≡ status answer) × (told.new ≡ number answer)) }
+    ensures { Tells store.old.held (Ok (Abort tx)) store.new.held
+        (λ answer. (result ≡ status answer) × (told.new ≡ number answer)) }
 {
     tell(alloc, store, Ok(Step::Abort(tx)), told)
 }
@@ -37,7 +40,8 @@ pub extern "C" fn tiuvrokk_abort(alloc: Global, store: &mut Handle, tx: u64, tol
 /// Sets a savepoint.
 #[unsafe(no_mangle)]
 pub extern "C" fn tiuvrokk_mark(alloc: Global, store: &mut Handle, tx: u64, told: &mut u64) -> u32
-    ensures { Tells store.old.held (Ok (Do tx Mark)) store.new.held (λ answer. (result ≡ status answer) × (told.new ≡ number answer)) }
+    ensures { Tells store.old.held (Ok (Do tx Mark)) store.new.held
+        (λ answer. (result ≡ status answer) × (told.new ≡ number answer)) }
 {
     tell(alloc, store, Ok(Step::Do(tx, Op::Mark)), told)
 }
@@ -45,7 +49,8 @@ pub extern "C" fn tiuvrokk_mark(alloc: Global, store: &mut Handle, tx: u64, told
 /// Goes back to the newest savepoint.
 #[unsafe(no_mangle)]
 pub extern "C" fn tiuvrokk_back(alloc: Global, store: &mut Handle, tx: u64, told: &mut u64) -> u32
-    ensures { Tells store.old.held (Ok (Do tx Back)) store.new.held (λ answer. (result ≡ status answer) × (told.new ≡ number answer)) }
+    ensures { Tells store.old.held (Ok (Do tx Back)) store.new.held
+        (λ answer. (result ≡ status answer) × (told.new ≡ number answer)) }
 {
     tell(alloc, store, Ok(Step::Do(tx, Op::Back)), told)
 }
