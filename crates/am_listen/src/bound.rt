@@ -65,8 +65,8 @@ impl Bound {
         self.port
     }
 
-    /// No further connection is served: one that comes is closed, and `serve` returns once the sessions begun have
-    /// ended. May be called from another thread while `serve` runs.
+    /// No further connection is taken, and `serve` returns once the sessions begun have ended. May be called from another
+    /// thread while `serve` runs.
     pub fn stop<R: Net<Listener = TcpListener, Stream = TcpStream>>(&self, rt: &R) {
         self.is_stopped.store(true, Ordering::SeqCst);
         // A thread that waits for a connection gets this one, and sees that it is to stop.
