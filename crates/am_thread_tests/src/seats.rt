@@ -64,6 +64,7 @@ fn by_two_threads<L: Naming + Send + Sync, R: Threads + Wait + Abort + Sync>(
     );
     assert!(rt; one);
     assert!(rt; other);
+    assert_eq!(rt; shared.look(rt, |engine| engine.store().commits()), 200);
     seats.push(first)?;
     seats.push(second)?;
     let Ok(closed) = close(latch, seats) else {

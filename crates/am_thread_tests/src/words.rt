@@ -23,6 +23,7 @@ fn draws_are_shared(rt: HostRuntime) -> Result<(), Fail> {
     assert_eq!(rt; words.draw(&mut first), Some(0));
     assert_eq!(rt; words.draw(&mut second), Some(1));
     assert_eq!(rt; words.draw(&mut first), Some(2));
+    assert_eq!(rt; words.end(first), (3, 0));
     Ok(())
 }
 
