@@ -15,9 +15,10 @@ fn three_pairs(alloc: Global) -> Result<Pairs, NoMemory> {
     Ok(Pairs::new(pairs))
 }
 
-// A store with one run, which is asked for, and in which the third and the fourth insert of its merge are refused.
+// A store with one run, which is asked for, and in which the third and the fourth insert of its merge are refused; the
+// load is the first that is counted.
 fn asked(alloc: Global) -> Result<Store<Tight<BTree>>, NoMemory> {
-    let refused = vec![in alloc; 6, 7]?;
+    let refused = vec![in alloc; 4, 5]?;
     let mut store = Store::open(alloc, Tight::new(BTree::new(alloc)?, refused))?;
     let Some(range) = Range::new(Key::of_u64(1), Key::of_u64(3)) else {
         return Err(NoMemory);
