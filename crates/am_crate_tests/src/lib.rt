@@ -1,5 +1,5 @@
-//! Worked examples of single crates: records, locks, transactions, merges, the plain map, lines, replies, streams, stored
-//! traces with their audits, and command lines.
+//! Worked examples of single crates: records, indexes, partitions, filters, loads, scans, locks, what is undone, transactions,
+//! merges, the plain map, lines, replies, streams, stored traces with their audits, and command lines.
 #![tactic(auto)]
 
 #[cfg(test)]
@@ -7,13 +7,23 @@ mod audits;
 #[cfg(test)]
 mod commands;
 #[cfg(test)]
+mod entries;
+#[cfg(test)]
+mod filters;
+#[cfg(test)]
 mod keys;
+#[cfg(test)]
+mod lists;
+#[cfg(test)]
+mod loads;
 #[cfg(test)]
 mod locks;
 #[cfg(test)]
 mod merges;
 #[cfg(test)]
 mod over_std;
+#[cfg(test)]
+mod partitions;
 #[cfg(test)]
 mod plain;
 #[cfg(test)]
@@ -23,8 +33,12 @@ mod replies;
 #[cfg(test)]
 mod requests;
 #[cfg(test)]
+mod scans;
+#[cfg(test)]
 mod streams;
 #[cfg(test)]
 mod traces;
 #[cfg(test)]
 mod transactions;
+#[cfg(test)]
+mod undo;

@@ -7,7 +7,6 @@ use am_parts::Parts;
 use am_record::{Entry, Key, Lock, Mode, NoMemory, Range, Refusal, Reply, Value};
 use std::alloc::Global;
 use std::process::Abort;
-use std::test::Fail;
 
 fn value(byte: u8) -> Value {
     Value::new(&[byte]).unwrap()
@@ -48,17 +47,6 @@ fn over(alloc: Global, entries: &[(u32, u64, u8, bool)]) -> Result<Parts<ListInd
     Ok(parts)
 }
 
-// A run of the 100 keys from `first` on in steps of three.
-fn load(parts: &mut Parts<ListIndex>, run: u32, first: u8) -> Result<(), NoMemory> {
-    if parts.runs() < 65_535 {
-        parts.count_run();
-    }
-    for step in 0..100 {
-        add(parts, run, u64::from(first) + 3 * step, b'a', false)?;
-    }
-    Ok(())
-}
-
 fn has(parts: &Parts<ListIndex>, part: u32, number: u64, byte: u8, is_ghost: bool) -> bool {
     parts.find(part, Key::of_u64(number)) == Some((value(byte), is_ghost))
 }
@@ -89,84 +77,13 @@ fn locked(rt: &impl Abort, alloc: Global, number: u64) -> LockTable {
 }
 
 #[test]
-fn sixty_five_wishes_lose_the_oldest(rt: HostRuntime) -> Result<(), Fail> {
-    let mut parts = over(rt.alloc(), &[(1, 0, b'a', false)])?;
-    let mut wishes = Wishes::new(rt.alloc())?;
-    let locks = LockTable::new(rt.alloc());
-    for number in 0..65 {
-        wishes.wish(Range::point(Key::of_u64(number)));
-    }
-    for _ in 0..64 {
-        assert_eq!(rt;
-            merge_step(&mut parts, &mut wishes, &locks, 16),
-            Reply::MergeDone
-        );
-    }
-    assert_eq!(rt;
-        merge_step(&mut parts, &mut wishes, &locks, 16),
-        Reply::Idle
-    );
-    assert!(rt; has(&parts, 1, 0, b'a', false));
-    Ok(())
-}
-
-#[test]
-fn merge_cuts_by_limit_and_run(rt: HostRuntime) -> Result<(), Fail> {
-    let mut parts = over(rt.alloc(), &[])?;
-    let mut wishes = Wishes::new(rt.alloc())?;
-    let locks = LockTable::new(rt.alloc());
-    load(&mut parts, 1, 0)?;
-    load(&mut parts, 2, 1)?;
-    load(&mut parts, 3, 2)?;
-    wishes.wish(range(&rt, 20, 39));
-    for reply in [
-        Reply::Moved(7, 1),
-        Reply::Moved(6, 2),
-        Reply::Moved(7, 3),
-        Reply::MergeDone,
-    ] {
-        assert_eq!(rt; merge_step(&mut parts, &mut wishes, &locks, 64), reply);
-    }
-    assert!(rt; count_in(&parts, 0) == 20);
-    assert!(rt;
-        count_in(&parts, 1) == 93 && count_in(&parts, 2) == 94 && count_in(&parts, 3) == 93
-    );
-    Ok(())
-}
-
-#[test]
-fn merge_ends_at_a_locked_key(rt: HostRuntime) -> Result<(), Fail> {
-    let mut parts = over(
-        rt.alloc(),
-        &[(1, 2, b'a', false), (1, 4, b'b', true), (1, 6, b'c', false)],
-    )?;
-    let mut wishes = Wishes::new(rt.alloc())?;
-    let locks = locked(&rt, rt.alloc(), 4);
-    wishes.wish(range(&rt, 1, 9));
-    assert_eq!(rt;
-        merge_step(&mut parts, &mut wishes, &locks, 16),
-        Reply::Moved(1, 1)
-    );
-    assert_eq!(rt;
-        merge_step(&mut parts, &mut wishes, &locks, 16),
-        Reply::Ended(Key::of_u64(4), 2)
-    );
-    assert_eq!(rt;
-        merge_step(&mut parts, &mut wishes, &locks, 16),
-        Reply::Idle
-    );
-    assert!(rt; has(&parts, 0, 2, b'a', false) && !has(&parts, 1, 2, b'a', false));
-    assert!(rt; has(&parts, 1, 4, b'b', true) && has(&parts, 1, 6, b'c', false));
-    Ok(())
-}
-
-#[test]
-fn merge_goes_home_over_a_ghost(rt: HostRuntime) -> Result<(), Fail> {
+fn merge_goes_home_over_a_ghost(rt: HostRuntime) {
     let mut parts = over(
         rt.alloc(),
         &[(0, 5, b'a', true), (1, 5, b'b', false), (1, 7, b'c', false)],
-    )?;
-    let mut wishes = Wishes::new(rt.alloc())?;
+    )
+    .expect(&rt, "memory");
+    let mut wishes = Wishes::new(rt.alloc()).expect(&rt, "memory");
     let locks = LockTable::new(rt.alloc());
     wishes.wish(Range::point(Key::of_u64(5)));
     wishes.wish(Range::point(Key::of_u64(5)));
@@ -180,7 +97,6 @@ fn merge_goes_home_over_a_ghost(rt: HostRuntime) -> Result<(), Fail> {
     }
     assert!(rt; has(&parts, 0, 5, b'b', false) && has(&parts, 1, 7, b'c', false));
     assert!(rt; parts.find(1, Key::of_u64(5)).is_none());
-    Ok(())
 }
 
 // Merges until no candidate is left. Where memory is refused the step ends, and is taken again.
@@ -203,32 +119,20 @@ fn merge_all(
 }
 
 #[test]
-fn merges_add_up_where_memory_is_refused(rt: HostRuntime) -> Result<(), Fail> {
-    let mut parts = over(rt.alloc(), &[])?;
-    let mut wishes = Wishes::new(rt.alloc())?;
+fn merges_add_up_where_memory_is_refused(rt: HostRuntime) {
+    let mut parts = over(rt.alloc(), &[]).expect(&rt, "memory");
+    let mut wishes = Wishes::new(rt.alloc()).expect(&rt, "memory");
     let locks = LockTable::new(rt.alloc());
     for number in 0..8 {
-        add(&mut parts, 1, number, b'a', false)?;
+        add(&mut parts, 1, number, b'a', false).expect(&rt, "memory");
     }
     wishes.wish(range(&rt, 0, 9));
     assert!(rt; merge_all(&rt, &mut parts, &mut wishes, &locks) == 8);
     assert!(rt; count_in(&parts, 0) == 8 && count_in(&parts, 1) == 0);
-    Ok(())
 }
 
 #[test]
-fn clean_takes_ghosts(rt: HostRuntime) -> Result<(), Fail> {
-    let mut parts = over(rt.alloc(), &[(0, 5, b'a', true)])?;
-    let locks = LockTable::new(rt.alloc());
-    let all = range(&rt, 0, 9);
-    assert_eq!(rt; clean_step(&mut parts, &locks, all, 10), Reply::Cleaned(1));
-    assert_eq!(rt; clean_step(&mut parts, &locks, all, 10), Reply::Cleaned(0));
-    assert!(rt; parts.next_any(0, Key::least()).is_none());
-    Ok(())
-}
-
-#[test]
-fn clean_passes_over_locked_and_live_entries(rt: HostRuntime) -> Result<(), Fail> {
+fn clean_passes_over_locked_and_live_entries(rt: HostRuntime) {
     let mut parts = over(
         rt.alloc(),
         &[
@@ -240,7 +144,8 @@ fn clean_passes_over_locked_and_live_entries(rt: HostRuntime) -> Result<(), Fail
             (u32::MAX, 5, b'f', true),
             (u32::MAX, 9, b'g', true),
         ],
-    )?;
+    )
+    .expect(&rt, "memory");
     let locks = locked(&rt, rt.alloc(), 5);
     let some = range(&rt, 2, 9);
     assert_eq!(rt; clean_step(&mut parts, &locks, some, 2), Reply::Cleaned(2));
@@ -249,5 +154,4 @@ fn clean_passes_over_locked_and_live_entries(rt: HostRuntime) -> Result<(), Fail
     assert_eq!(rt; clean_step(&mut parts, &locks, some, 64), Reply::Cleaned(0));
     assert!(rt; has(&parts, 0, 4, b'b', false) && has(&parts, 0, 12, b'c', true));
     assert!(rt; has(&parts, 1, 5, b'e', true) && has(&parts, u32::MAX, 5, b'f', true));
-    Ok(())
 }

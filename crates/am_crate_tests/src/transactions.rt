@@ -21,19 +21,6 @@ fn end(rt: &impl Abort, table: &mut TxTable, tx: u64) {
 }
 
 #[test]
-fn sixty_four_transactions(rt: HostRuntime) {
-    let mut table = TxTable::new(rt.alloc());
-    for tx in 1..=64 {
-        assert_eq!(rt; table.begin(), Some(tx));
-    }
-    assert_eq!(rt; table.begin(), None);
-    assert_eq!(rt; table.active(), 64);
-    end(&rt, &mut table, 1);
-    assert_eq!(rt; table.begin(), Some(65));
-    assert_eq!(rt; table.active(), 64);
-}
-
-#[test]
 fn numbers_are_given_once(rt: HostRuntime) {
     let mut table = TxTable::new(rt.alloc());
     assert_eq!(rt; table.begin(), Some(1));
@@ -91,24 +78,4 @@ fn counts_and_locks_end_with_their_transaction(rt: HostRuntime) {
     assert_eq!(rt; table.begin(), Some(3));
     assert!(rt; table.is_active(3) && table.ops(3) == 0);
     assert!(rt; table.is_active(3) && table.held(3) == 0);
-}
-
-// The ninth lock is the first that takes memory. Where it is refused the eight stay, and it is granted when asked again.
-#[test]
-fn ninth_lock_refused(rt: HostRuntime) {
-    let mut table = TxTable::new(rt.alloc());
-    assert_eq!(rt; table.begin(), Some(1));
-    for i in 0..8 {
-        assert!(rt; table.is_active(1));
-        assert_eq!(rt; table.ask(1, exclusive(&rt, i, i)), Asked::Granted);
-    }
-    assert!(rt; table.is_active(1));
-    let mut ninth = table.ask(1, exclusive(&rt, 8, 8));
-    if ninth == Asked::NoMemory {
-        assert!(rt; table.is_active(1) && table.held(1) == 8);
-        assert!(rt; table.is_active(1));
-        ninth = table.ask(1, exclusive(&rt, 8, 8));
-    }
-    assert_eq!(rt; ninth, Asked::Granted);
-    assert!(rt; table.is_active(1) && table.held(1) == 9);
 }

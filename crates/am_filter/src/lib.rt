@@ -2,7 +2,5 @@
 #![tactic(auto)]
 
 mod filter;
-#[cfg(test)]
-mod tests;
 
 pub use filter::Filter;

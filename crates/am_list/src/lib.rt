@@ -5,8 +5,6 @@ mod batch;
 mod laws;
 mod list_index;
 mod part_index;
-#[cfg(test)]
-mod tests;
 mod tight;
 
 pub use batch::Batch;

@@ -3,7 +3,5 @@
 
 mod catalog;
 mod parts;
-#[cfg(test)]
-mod tests;
 
 pub use parts::Parts;

@@ -7,8 +7,6 @@ mod laws;
 mod loading;
 mod look;
 mod run;
-#[cfg(test)]
-mod tests;
 mod walk;
 
 pub use cut::{MAX_RUN_LEN, cut_runs};

@@ -6,8 +6,6 @@ mod head;
 mod heads;
 mod laws;
 mod scans;
-#[cfg(test)]
-mod tests;
 
 pub use cursor::Cursor;
 pub use laws::scans_rise;

@@ -10,19 +10,9 @@ fn open(alloc: Global) -> Result<Store<BTree>, NoMemory> {
     Store::open(alloc, BTree::new(alloc)?)
 }
 
-// Whether the step is answered so.
-fn answers<R: Abort>(
-    rt: &R,
-    store: &mut Store<BTree>,
-    step: Step,
-    expected: Reply,
-) -> Result<(), NoMemory> {
-    let reply = store.step(step);
-    if reply == Reply::Refused(Refusal::NoMemory) {
-        return Err(NoMemory);
-    }
-    assert_eq!(rt; reply, expected);
-    Ok(())
+// The step is answered so.
+fn answers<R: Abort>(rt: &R, store: &mut Store<BTree>, step: Step, expected: Reply) {
+    assert_eq!(rt; store.step(step), expected);
 }
 
 fn get(tx: u64, number: u64) -> Step {
@@ -61,12 +51,12 @@ fn pairs_from_20_to_39(alloc: Global) -> Result<Pairs, NoMemory> {
 // A store whose three runs hold the numbers below 300 in turn.
 fn three_runs<R: Abort>(rt: &R, alloc: Global) -> Result<Store<BTree>, NoMemory> {
     let mut store = open(alloc)?;
-    answers(rt, &mut store, Step::Begin, Reply::Begun(1))?;
+    answers(rt, &mut store, Step::Begin, Reply::Begun(1));
     for rest in 0..3 {
         let load = Op::Load(every_third(alloc, rest)?);
-        answers(rt, &mut store, Step::Do(1, load), Reply::Done)?;
+        answers(rt, &mut store, Step::Do(1, load), Reply::Done);
     }
-    answers(rt, &mut store, Step::Commit(1), Reply::Committed(1))?;
+    answers(rt, &mut store, Step::Commit(1), Reply::Committed(1));
     Ok(store)
 }
 
@@ -78,17 +68,17 @@ fn stands_in_run(entry: &&Entry) -> bool {
 fn merge_cuts_by_limit_and_run(rt: HostRuntime) -> Result<(), NoMemory> {
     let alloc = rt.alloc();
     let mut store = three_runs(&rt, alloc)?;
-    answers(&rt, &mut store, Step::Begin, Reply::Begun(2))?;
+    answers(&rt, &mut store, Step::Begin, Reply::Begun(2));
     let range = Range::new(Key::of_u64(20), Key::of_u64(39)).expect(&rt, "the ends stand in order");
     let rows = Reply::Rows(pairs_from_20_to_39(alloc)?);
-    answers(&rt, &mut store, Step::Do(2, Op::Scan(range, 1000)), rows)?;
+    answers(&rt, &mut store, Step::Do(2, Op::Scan(range, 1000)), rows);
     for reply in [
         Reply::Moved(7, 1),
         Reply::Moved(6, 2),
         Reply::Moved(7, 3),
         Reply::MergeDone,
     ] {
-        answers(&rt, &mut store, Step::Merge(64), reply)?;
+        answers(&rt, &mut store, Step::Merge(64), reply);
     }
     let entries = store.entries(alloc)?;
     assert_eq!(rt; entries.len(), 300);
@@ -103,48 +93,51 @@ fn merge_cuts_by_limit_and_run(rt: HostRuntime) -> Result<(), NoMemory> {
 fn sixty_four_transactions(rt: HostRuntime) -> Result<(), NoMemory> {
     let mut store = open(rt.alloc())?;
     for tx in 1..=64 {
-        answers(&rt, &mut store, Step::Begin, Reply::Begun(tx))?;
+        answers(&rt, &mut store, Step::Begin, Reply::Begun(tx));
     }
     let refused = Reply::Refused(Refusal::TooManyTx);
-    answers(&rt, &mut store, Step::Begin, refused)?;
-    answers(&rt, &mut store, Step::Commit(1), Reply::Committed(1))?;
-    answers(&rt, &mut store, Step::Begin, Reply::Begun(65))
+    answers(&rt, &mut store, Step::Begin, refused);
+    answers(&rt, &mut store, Step::Commit(1), Reply::Committed(1));
+    answers(&rt, &mut store, Step::Begin, Reply::Begun(65));
+    Ok(())
 }
 
 #[test]
 fn two_hundred_and_fifty_six_locks(rt: HostRuntime) -> Result<(), NoMemory> {
     let mut store = open(rt.alloc())?;
-    answers(&rt, &mut store, Step::Begin, Reply::Begun(1))?;
+    answers(&rt, &mut store, Step::Begin, Reply::Begun(1));
     for half in 0..256 {
-        answers(&rt, &mut store, get(1, 2 * half), Reply::Absent)?;
+        answers(&rt, &mut store, get(1, 2 * half), Reply::Absent);
     }
     let refused = Reply::Refused(Refusal::TooManyLocks);
-    answers(&rt, &mut store, get(1, 512), refused)?;
-    answers(&rt, &mut store, get(1, 0), Reply::Absent)
+    answers(&rt, &mut store, get(1, 512), refused);
+    answers(&rt, &mut store, get(1, 0), Reply::Absent);
+    Ok(())
 }
 
 #[test]
 fn four_thousand_and_ninety_six_operations(rt: HostRuntime) -> Result<(), NoMemory> {
     let mut store = open(rt.alloc())?;
-    answers(&rt, &mut store, Step::Begin, Reply::Begun(1))?;
+    answers(&rt, &mut store, Step::Begin, Reply::Begun(1));
     for _ in 0..4096 {
-        answers(&rt, &mut store, get(1, 0), Reply::Absent)?;
+        answers(&rt, &mut store, get(1, 0), Reply::Absent);
     }
     let refused = Reply::Refused(Refusal::TooManyOps);
-    answers(&rt, &mut store, get(1, 0), refused)?;
-    answers(&rt, &mut store, Step::Commit(1), Reply::Committed(1))
+    answers(&rt, &mut store, get(1, 0), refused);
+    answers(&rt, &mut store, Step::Commit(1), Reply::Committed(1));
+    Ok(())
 }
 
 // A store with the key 0 in a run, and 65 reads after it.
 fn read_65_times<R: Abort>(rt: &R, alloc: Global) -> Result<Store<BTree>, NoMemory> {
     let mut store = open(alloc)?;
-    answers(rt, &mut store, Step::Begin, Reply::Begun(1))?;
-    answers(rt, &mut store, load_one(alloc, 1, 0)?, Reply::Done)?;
-    answers(rt, &mut store, Step::Commit(1), Reply::Committed(1))?;
-    answers(rt, &mut store, Step::Begin, Reply::Begun(2))?;
-    answers(rt, &mut store, get(2, 0), Reply::Found(value()))?;
+    answers(rt, &mut store, Step::Begin, Reply::Begun(1));
+    answers(rt, &mut store, load_one(alloc, 1, 0)?, Reply::Done);
+    answers(rt, &mut store, Step::Commit(1), Reply::Committed(1));
+    answers(rt, &mut store, Step::Begin, Reply::Begun(2));
+    answers(rt, &mut store, get(2, 0), Reply::Found(value()));
     for number in 1..65 {
-        answers(rt, &mut store, get(2, number), Reply::Absent)?;
+        answers(rt, &mut store, get(2, number), Reply::Absent);
     }
     Ok(store)
 }
@@ -153,9 +146,9 @@ fn read_65_times<R: Abort>(rt: &R, alloc: Global) -> Result<Store<BTree>, NoMemo
 fn of_65_wishes_the_first_is_lost(rt: HostRuntime) -> Result<(), NoMemory> {
     let mut store = read_65_times(&rt, rt.alloc())?;
     for _ in 0..64 {
-        answers(&rt, &mut store, Step::Merge(16), Reply::MergeDone)?;
+        answers(&rt, &mut store, Step::Merge(16), Reply::MergeDone);
     }
-    answers(&rt, &mut store, Step::Merge(16), Reply::Idle)?;
+    answers(&rt, &mut store, Step::Merge(16), Reply::Idle);
     let only = Entry {
         part: 1,
         key: Key::of_u64(0),
@@ -174,10 +167,11 @@ fn run_in_vain<R: Abort>(
     tx: u64,
 ) -> Result<(), NoMemory> {
     let clean = Step::Clean(Range::point(Key::of_u64(7)), 1);
-    answers(rt, store, Step::Begin, Reply::Begun(tx))?;
-    answers(rt, store, load_one(alloc, tx, 7)?, Reply::Done)?;
-    answers(rt, store, Step::Abort(tx), Reply::Aborted)?;
-    answers(rt, store, clean, Reply::Cleaned(1))
+    answers(rt, store, Step::Begin, Reply::Begun(tx));
+    answers(rt, store, load_one(alloc, tx, 7)?, Reply::Done);
+    answers(rt, store, Step::Abort(tx), Reply::Aborted);
+    answers(rt, store, clean, Reply::Cleaned(1));
+    Ok(())
 }
 
 #[test]
@@ -188,10 +182,11 @@ fn sixty_five_thousand_runs(rt: HostRuntime) -> Result<(), NoMemory> {
         run_in_vain(&rt, alloc, &mut store, tx)?;
     }
     assert!(rt; store.entries(alloc)?.is_empty());
-    answers(&rt, &mut store, Step::Begin, Reply::Begun(65536))?;
+    answers(&rt, &mut store, Step::Begin, Reply::Begun(65536));
     let refused = Reply::Refused(Refusal::TooManyRuns);
-    answers(&rt, &mut store, load_one(alloc, 65536, 7)?, refused)?;
+    answers(&rt, &mut store, load_one(alloc, 65536, 7)?, refused);
     let none = Op::Load(Pairs::new(Vec::new(alloc)));
     let refused = Reply::Refused(Refusal::NotRising);
-    answers(&rt, &mut store, Step::Do(65536, none), refused)
+    answers(&rt, &mut store, Step::Do(65536, none), refused);
+    Ok(())
 }

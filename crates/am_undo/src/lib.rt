@@ -3,8 +3,6 @@
 
 mod laws;
 mod note;
-#[cfg(test)]
-mod tests;
 mod undo_log;
 
 pub use laws::{marks_follow, undo_follows};

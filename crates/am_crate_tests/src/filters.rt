@@ -1,7 +1,8 @@
-use crate::Filter;
+//! Filters of keys.
+
+use am_filter::Filter;
 use am_record::{Key, NoMemory};
 use std::alloc::Global;
-use std::test::Fail;
 
 // The filter of the keys of the numbers below this one.
 fn of_numbers(alloc: Global, count: u64) -> Result<Filter, NoMemory> {
@@ -13,11 +14,9 @@ fn of_numbers(alloc: Global, count: u64) -> Result<Filter, NoMemory> {
 }
 
 #[test]
-fn holds_what_was_added_and_one_other_key_in_a_hundred_at_most(
-    rt: HostRuntime,
-) -> Result<(), Fail> {
+fn holds_what_was_added_and_one_other_key_in_a_hundred_at_most(rt: HostRuntime) {
     for count in [25, 4096, 62_500] {
-        let filter = of_numbers(rt.alloc(), count)?;
+        let filter = of_numbers(rt.alloc(), count).expect(&rt, "memory");
         let held = (0..count)
             .filter(|number| filter.holds(Key::of_u64(*number)))
             .count();
@@ -27,5 +26,4 @@ fn holds_what_was_added_and_one_other_key_in_a_hundred_at_most(
             .count();
         assert!(rt; others <= 100, "{others} of 10,000 beside {count} keys");
     }
-    Ok(())
 }

@@ -1,30 +1,8 @@
-ghost use Rattle.std.specs.Prelude.{◌≡◌};
+//! The index that is a list.
 
-use crate::{Batch, ListIndex, PartIndex};
-use am_record::{Entry, Key, NoMemory, Value};
-use std::test::Fail;
-
-fn value(byte: u8) -> Value {
-    Value::new(&[byte]).unwrap()
-}
-
-fn live(part: u32, number: u64, byte: u8) -> Entry {
-    Entry {
-        part,
-        key: Key::of_u64(number),
-        value: value(byte),
-        is_ghost: false,
-    }
-}
-
-fn dead(part: u32, number: u64, byte: u8) -> Entry {
-    Entry {
-        part,
-        key: Key::of_u64(number),
-        value: value(byte),
-        is_ghost: true,
-    }
-}
+use crate::entries::{byte, dead, live};
+use am_list::{Batch, ListIndex, PartIndex};
+use am_record::{Entry, Key, NoMemory};
 
 // Adds the entry, unless its place is taken.
 fn add<I: PartIndex>(index: &mut I, entry: Entry) -> Result<(), NoMemory> {
@@ -43,7 +21,7 @@ fn take<I: PartIndex>(index: &mut I, part: u32, key: Key) -> Option<Entry> {
 }
 
 #[test]
-fn walks_over_two_partitions_and_their_ghosts(rt: HostRuntime) -> Result<(), Fail> {
+fn walks_over_two_partitions_and_their_ghosts(rt: HostRuntime) {
     let mut index = ListIndex::new(rt.alloc());
     for e in [
         live(1, 5, b'd'),
@@ -51,11 +29,11 @@ fn walks_over_two_partitions_and_their_ghosts(rt: HostRuntime) -> Result<(), Fai
         dead(0, 5, b'g'),
         live(1, 1, b'c'),
     ] {
-        add(&mut index, e)?;
+        add(&mut index, e).expect(&rt, "memory");
     }
 
-    assert!(rt; index.find(0, Key::of_u64(5)) == Some((value(b'g'), true)));
-    assert!(rt; index.find(1, Key::of_u64(5)) == Some((value(b'd'), false)));
+    assert!(rt; index.find(0, Key::of_u64(5)) == Some((byte(b'g'), true)));
+    assert!(rt; index.find(1, Key::of_u64(5)) == Some((byte(b'd'), false)));
     assert!(rt; index.find(0, Key::of_u64(1)).is_none());
 
     assert!(rt; index.next_from(0, Key::least()) == Some(live(0, 2, b'a')));
@@ -71,7 +49,6 @@ fn walks_over_two_partitions_and_their_ghosts(rt: HostRuntime) -> Result<(), Fai
     assert!(rt; index.next_any(0, Key::of_u64(3)) == Some(dead(0, 5, b'g')));
     assert!(rt; index.next_any(0, Key::of_u64(6)) == Some(live(1, 1, b'c')));
     assert!(rt; index.next_any(1, Key::of_u64(6)).is_none());
-    Ok(())
 }
 
 // The entry of partition 1 with the number, each third one a ghost.
@@ -94,12 +71,12 @@ fn has_read(batch: &Batch, numbers: &[u64]) -> bool {
 }
 
 #[test]
-fn reads_on_as_far_as_there_is_room(rt: HostRuntime) -> Result<(), Fail> {
+fn reads_on_as_far_as_there_is_room(rt: HostRuntime) {
     let mut index = ListIndex::new(rt.alloc());
-    add(&mut index, live(0, 5, b'a'))?;
-    add(&mut index, live(2, 5, b'z'))?;
+    add(&mut index, live(0, 5, b'a')).expect(&rt, "memory");
+    add(&mut index, live(2, 5, b'z')).expect(&rt, "memory");
     for number in 1..20_u64 {
-        add(&mut index, numbered(number))?;
+        add(&mut index, numbered(number)).expect(&rt, "memory");
     }
 
     let mut batch = Batch::new();
@@ -119,15 +96,14 @@ fn reads_on_as_far_as_there_is_room(rt: HostRuntime) -> Result<(), Fail> {
     index.read_on(1, Key::least(), &mut batch);
     let first = [1, 2, 3, 4, 5, 6, 7, 8, 9, 10, 11, 12, 13, 14, 15, 16];
     assert!(rt; has_read(&batch, &first));
-    Ok(())
 }
 
 #[test]
-fn edits_the_entry_of_a_place(rt: HostRuntime) -> Result<(), Fail> {
+fn edits_the_entry_of_a_place(rt: HostRuntime) {
     let mut index = ListIndex::new(rt.alloc());
     assert!(rt; index.entries().is_empty());
     for e in [live(1, 5, b'b'), live(0, 5, b'a'), live(1, 7, b'c')] {
-        add(&mut index, e)?;
+        add(&mut index, e).expect(&rt, "memory");
     }
     assert_eq!(rt;
         index.entries(),
@@ -136,7 +112,7 @@ fn edits_the_entry_of_a_place(rt: HostRuntime) -> Result<(), Fail> {
 
     let key = Key::of_u64(5);
     if index.find(1, key).is_some() {
-        index.set(1, key, value(b'x'), true);
+        index.set(1, key, byte(b'x'), true);
     }
     assert_eq!(rt;
         index.entries(),
@@ -149,11 +125,10 @@ fn edits_the_entry_of_a_place(rt: HostRuntime) -> Result<(), Fail> {
         [live(0, 5, b'a'), live(1, 7, b'c')].as_slice()
     );
     assert!(rt; take(&mut index, 1, key).is_none());
-    Ok(())
 }
 
 #[test]
-fn refused_insert_changes_nothing(rt: HostRuntime) -> Result<(), Fail> {
+fn refused_insert_changes_nothing(rt: HostRuntime) {
     let mut index = ListIndex::new(rt.alloc());
     for number in 0..9_u64 {
         let key = Key::of_u64(20 - number);
@@ -161,11 +136,10 @@ fn refused_insert_changes_nothing(rt: HostRuntime) -> Result<(), Fail> {
             assert!(rt; index.entries().len() == number as usize);
             assert!(rt; index.find(0, key).is_none());
             assert!(rt; index.next_from(0, Key::least()) == index.after(0, key));
-            add(&mut index, live(0, 20 - number, b'a'))?;
+            add(&mut index, live(0, 20 - number, b'a')).expect(&rt, "memory");
         }
         assert!(rt; index.next_from(0, Key::least()) == Some(live(0, 20 - number, b'a')));
         assert!(rt; index.entries().len() == number as usize + 1);
     }
     assert!(rt; index.after(0, Key::of_u64(19)) == Some(live(0, 20, b'a')));
-    Ok(())
 }

@@ -4,8 +4,8 @@ use Rattle.am_parts.proofs.Lives.{live_only, live_nowhere}
 use Rattle.am_undo.specs.declared.note.Note.{Note}
 use Rattle.am_undo.specs.declared.note.Note.TheVariants.{Before}
 use Rattle.am_undo.proofs.Noting.{note_change}
-use Rattle.am_undo.proofs.tests.change.Goals as goal
-use Rattle.am_undo.proofs.tests.change.Goals.{in-Some-place_of+else-place-part, in_default-place_of}
+use Rattle.am_crate_tests.proofs.undo.change.Goals as goal
+use Rattle.am_crate_tests.proofs.undo.change.Goals.{in-Some-place_of+else-place-part, in_default-place_of}
 
 pub mark-requires-clause-alone : goal.mark-requires-clause-alone
 mark-requires-clause-alone g c = λ _. elim c.match-place_of.branch [

@@ -1,6 +1,6 @@
 use Rattle.std.proofs.Common.{◌-◌}
 use Rattle.am_runs.specs.Loads.{NothingAbove}
-use Rattle.am_runs.proofs.tests.make_all_runs.Given as goal
+use Rattle.am_crate_tests.proofs.loads.make_runs.Given as goal
 
 abbrev pub invariant-loop-parts : goal.invariant-loop-parts
 invariant-loop-parts l = NothingAbove l.parts.runs l.parts.entries

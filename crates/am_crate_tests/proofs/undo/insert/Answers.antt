@@ -3,7 +3,7 @@ use Rattle.am_list.specs.Entries.{find}
 use Rattle.am_undo.specs.declared.note.Note.{Note}
 use Rattle.am_undo.specs.declared.note.Note.TheVariants.{New}
 use Rattle.am_undo.proofs.Noting.{note_insert}
-use Rattle.am_undo.proofs.tests.insert.Goals as goal
+use Rattle.am_crate_tests.proofs.undo.insert.Goals as goal
 
 pub returns : goal.returns
 returns g c =

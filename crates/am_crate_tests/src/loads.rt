@@ -1,0 +1,195 @@
+//! Runs and their loads.
+
+ghost use Rattle.std.specs.Prelude.{◌≡◌};
+ghost use Rattle.am_runs.specs.Loads.{NothingAbove};
+
+use crate::entries::{byte, dead, live};
+use am_list::ListIndex;
+use am_parts::Parts;
+use am_record::{Entry, Key, NoMemory, Refusal, Reply, Value};
+use am_runs::{LoadFault, MAX_RUNS, Run, cut_runs, load};
+use std::alloc::Global;
+use std::process::Abort;
+
+fn pair(number: u64, value: u8) -> (Key, Value) {
+    (Key::of_u64(number), byte(value))
+}
+
+fn no_entries(alloc: Global) -> Parts<ListIndex>
+    ensures { NothingAbove result.runs result.entries }
+{
+    Parts::new(alloc, ListIndex::new(alloc))
+}
+
+// Adds the entry, unless it is one of a run that wasn't made, its place is taken or a live one's key is live elsewhere.
+#[tactic(auto, using(am_runs::proofs::Loaded::above_lemmas))]
+fn add(parts: &mut Parts<ListIndex>, entry: Entry) -> Result<(), NoMemory>
+    requires { NothingAbove parts.old.runs parts.old.entries }
+    ensures { NothingAbove parts.new.runs parts.new.entries }
+{
+    if entry.part > parts.runs() || parts.find(entry.part, entry.key).is_some() {
+        return Ok(());
+    }
+    if !entry.is_ghost && parts.place_of(entry.key).is_some() {
+        return Ok(());
+    }
+    parts.add(entry)
+}
+
+// The run of the pairs, which rise.
+fn run_with(rt: &impl Abort, alloc: Global, pairs: &[(Key, Value)]) -> Run {
+    let mut all = Vec::new(alloc);
+    for pair in pairs {
+        all.push(*pair).expect(rt, "memory");
+    }
+    Run::new(all).expect(rt, "they rise")
+}
+
+#[test]
+fn cut_runs_in_pieces(rt: HostRuntime) {
+    let alloc = rt.alloc();
+    let records = [
+        pair(5, b'a'),
+        pair(3, b'b'),
+        pair(9, b'c'),
+        pair(1, b'd'),
+        pair(7, b'e'),
+    ];
+    let runs = cut_runs(alloc, &records, 2).expect(&rt, "memory");
+    assert!(rt; runs.len() == 3);
+    assert_eq!(rt; runs[0].pairs(), [pair(3, b'b'), pair(5, b'a')].as_slice());
+    assert_eq!(rt; runs[1].pairs(), [pair(1, b'd'), pair(9, b'c')].as_slice());
+    assert_eq!(rt; runs[2].pairs(), [pair(7, b'e')].as_slice());
+    assert!(rt; cut_runs(alloc, &[], 2).expect(&rt, "memory").is_empty());
+
+    let twice = [pair(5, b'a'), pair(3, b'b'), pair(9, b'c'), pair(3, b'd')];
+    assert!(rt; cut_runs(alloc, &twice, 2).err() == Some(LoadFault::Twice(Key::of_u64(3))));
+    assert!(rt; cut_runs(alloc, &twice, 0).err() == Some(LoadFault::BadSize));
+    assert!(rt; cut_runs(alloc, &twice, 65_537).err() == Some(LoadFault::BadSize));
+    assert!(rt;
+        cut_runs(alloc, &records, 65_536)
+            .expect(&rt, "memory")
+            .len()
+            == 1
+    );
+    assert!(rt; cut_runs(alloc, &records, 1).expect(&rt, "memory").len() == 5);
+}
+
+#[test]
+fn a_run_rises_and_has_a_record(rt: HostRuntime) {
+    let alloc = rt.alloc();
+    let equal_keys = vec![in alloc; pair(7, b'a'), pair(7, b'b')].expect(&rt, "memory");
+    assert!(rt; Run::new(equal_keys).err() == Some(LoadFault::NotRising));
+    assert!(rt; Run::new(Vec::new(alloc)).err() == Some(LoadFault::NotRising));
+}
+
+#[test]
+fn load_makes_one_run(rt: HostRuntime) {
+    let alloc = rt.alloc();
+    let mut parts = no_entries(alloc);
+    let first = run_with(&rt, alloc, &[pair(3, b'a'), pair(5, b'b')]);
+    let second = run_with(&rt, alloc, &[pair(4, b'c')]);
+    assert!(rt; load(&mut parts, &first) == Reply::Done);
+    assert!(rt; load(&mut parts, &second) == Reply::Done);
+    assert!(rt; parts.runs() == 2);
+    assert!(rt; parts.find(1, Key::of_u64(3)) == Some((byte(b'a'), false)));
+    assert!(rt; parts.find(1, Key::of_u64(5)) == Some((byte(b'b'), false)));
+    assert!(rt; parts.find(2, Key::of_u64(4)) == Some((byte(b'c'), false)));
+    assert!(rt; parts.next_any(0, Key::least()).map(|e| e.part) == Some(1));
+    assert!(rt; load(&mut parts, &first) == Reply::Exists(Key::of_u64(3)));
+    assert!(rt; parts.runs() == 2);
+}
+
+// The run of the numbers from the first to the last one.
+fn run_of(rt: &impl Abort, alloc: Global, first: u64, last: u64) -> Run {
+    let mut pairs = Vec::new(alloc);
+    for number in first..=last {
+        pairs.push(pair(number, b'p')).expect(rt, "memory");
+    }
+    Run::new(pairs).expect(rt, "they rise")
+}
+
+#[test]
+fn the_least_live_key_of_all_partitions(rt: HostRuntime) {
+    let mut parts = no_entries(rt.alloc());
+    make_runs(&mut parts, 7);
+    for entry in [
+        live(0, 5, b'e'),
+        dead(0, 12, b'e'),
+        live(0, 31, b'e'),
+        live(2, 30, b'e'),
+        live(7, 12, b'e'),
+        dead(7, 30, b'e'),
+        live(7, 50, b'e'),
+    ] {
+        add(&mut parts, entry).expect(&rt, "memory");
+    }
+    for number in 10..30 {
+        add(&mut parts, dead(2, number, b'e')).expect(&rt, "memory");
+    }
+    for (first, last, least) in [
+        (0, 90, 5),
+        (6, 90, 12),
+        (13, 90, 30),
+        (13, 30, 30),
+        (31, 90, 31),
+        (32, 90, 50),
+    ] {
+        let run = run_of(&rt, rt.alloc(), first, last);
+        let exists = Reply::Exists(Key::of_u64(least));
+        assert!(rt; load(&mut parts, &run) == exists, "from {first} to {last}");
+    }
+    for (first, last) in [(13, 29), (32, 49), (51, 90)] {
+        let run = run_of(&rt, rt.alloc(), first, last);
+        assert!(rt;
+            load(&mut parts, &run) == Reply::Done,
+            "from {first} to {last}"
+        );
+    }
+}
+
+#[test]
+fn a_load_refused_memory_leaves_the_entries(rt: HostRuntime) {
+    let alloc = rt.alloc();
+    let mut parts = no_entries(alloc);
+    add(&mut parts, live(0, 5, b'z')).expect(&rt, "memory");
+    let mut pairs = Vec::new(alloc);
+    for number in 10..22 {
+        pairs.push(pair(number, b'a')).expect(&rt, "memory");
+    }
+    let run = Run::new(pairs).expect(&rt, "they rise");
+    let mut reply = load(&mut parts, &run);
+    if reply == Reply::Refused(Refusal::NoMemory) {
+        assert!(rt; parts.runs() == 0);
+        assert!(rt; parts.find(0, Key::of_u64(5)) == Some((byte(b'z'), false)));
+        assert!(rt; parts.after(0, Key::of_u64(5)).is_none());
+        assert!(rt; parts.next_any(1, Key::least()).is_none());
+        reply = load(&mut parts, &run);
+    }
+    assert!(rt; reply == Reply::Done);
+    assert!(rt; parts.runs() == 1);
+    for pair in run.pairs() {
+        assert!(rt; parts.find(1, pair.0) == Some((pair.1, false)));
+    }
+}
+
+#[test]
+fn runs_are_limited(rt: HostRuntime) {
+    let mut parts = no_entries(rt.alloc());
+    let run = run_with(&rt, rt.alloc(), &[pair(1, b'a')]);
+    make_runs(&mut parts, MAX_RUNS);
+    assert!(rt; parts.runs() == 65_535);
+    assert!(rt; load(&mut parts, &run) == Reply::Refused(Refusal::TooManyRuns));
+    assert!(rt; parts.next_any(0, Key::least()).is_none());
+}
+
+// Counts runs with no entries until there are so many, or no more may be made.
+#[tactic(auto, using(am_runs::proofs::Loaded::above_lemmas))]
+fn make_runs(parts: &mut Parts<ListIndex>, count: u32)
+    requires { NothingAbove parts.old.runs parts.old.entries }
+    ensures { NothingAbove parts.new.runs parts.new.entries }
+{
+    while parts.runs() < count.min(MAX_RUNS) {
+        parts.count_run();
+    }
+}
