@@ -1,9 +1,10 @@
 //! The table of locks.
 
-use am_locks::{Asked, LockTable, MAX_OWNERS};
+use am_locks::{Asked, LockTable, MAX_LOCKS, MAX_OWNERS};
 use am_record::{Key, Lock, Mode, Range};
 use std::alloc::Global;
 use std::process::Abort;
+use std::test::Fail;
 
 fn range(rt: &impl Abort, lo: u64, hi: u64) -> Range {
     Range::new(Key::of_u64(lo), Key::of_u64(hi)).expect(rt, "the ends stand in order")
@@ -123,4 +124,134 @@ fn cut_keeps_the_oldest_locks(rt: HostRuntime) {
     assert_eq!(rt; table.exclusive_at(Key::of_u64(2)), Some(1));
     assert_eq!(rt; table.exclusive_at(Key::of_u64(8)), None);
     assert_eq!(rt; table.exclusive_at(Key::of_u64(5)), None);
+}
+
+// The locks of all owners as one list, in the order in which they were granted.
+#[derive(Drop)]
+struct PlainTable {
+    held: Vec<(u64, Lock)>,
+}
+
+impl PlainTable {
+    fn of(&self, tx: u64) -> usize {
+        self.held.iter().filter(|lock| lock.0 == tx).count()
+    }
+
+    fn exclusive_at(&self, key: Key) -> Option<u64> {
+        let mut locks = self.held.iter();
+        let lock = locks.find(|lock| lock.1.mode.is_exclusive() && lock.1.range.contains(key))?;
+        Some(lock.0)
+    }
+
+    fn least_holder(&self, tx: u64, asked: &Lock) -> Option<u64> {
+        self.held
+            .iter()
+            .filter(|lock| lock.0 != tx && lock.1.conflicts(asked))
+            .map(|lock| lock.0)
+            .min()
+    }
+
+    fn ask(&mut self, tx: u64, asked: &Lock) -> Result<Asked, Fail> {
+        if let Some(holder) = self.least_holder(tx, asked) {
+            return Ok(Asked::Busy(holder));
+        }
+        let mut locks = self.held.iter();
+        if locks.any(|lock| lock.0 == tx && lock.1.covers(asked)) {
+            return Ok(Asked::Granted);
+        }
+        if self.of(tx) == MAX_LOCKS {
+            return Ok(Asked::TooManyLocks);
+        }
+        self.held.push((tx, *asked))?;
+        Ok(Asked::Granted)
+    }
+
+    fn cut(&mut self, alloc: Global, tx: u64, n: usize) -> Result<(), Fail> {
+        let mut kept = Vec::new(alloc);
+        let mut own = 0;
+        for lock in &self.held {
+            if lock.0 != tx {
+                kept.push(*lock)?;
+            } else if own < n {
+                own += 1;
+                kept.push(*lock)?;
+            }
+        }
+        self.held = kept;
+        Ok(())
+    }
+}
+
+// Numbers that look drawn at random, the same in each run: a linear congruential generator (Knuth's MMIX).
+struct Dice {
+    state: u64,
+}
+
+impl Dice {
+    fn roll(&mut self) -> u64 {
+        let state = self.state.wrapping_mul(6_364_136_223_846_793_005);
+        self.state = state.wrapping_add(1_442_695_040_888_963_407);
+        self.state >> 33
+    }
+}
+
+// A lock of one of four lengths. Those of neighbours overlap.
+fn rolled_lock(rt: &impl Abort, dice: &mut Dice, tx: u64) -> Lock {
+    let lo = tx * 2000 + dice.roll() % 2500;
+    let len = [0, 0, 3, 40][(dice.roll() % 4) as usize];
+    if dice.roll() % 4 == 0 {
+        exclusive(rt, lo, lo + len)
+    } else {
+        shared(rt, lo, lo + len)
+    }
+}
+
+fn do_both(
+    rt: &impl Abort,
+    alloc: Global,
+    dice: &mut Dice,
+    table: &mut LockTable,
+    plain: &mut PlainTable,
+) -> Result<(), Fail> {
+    let tx = 1 + dice.roll() % 3;
+    match dice.roll() % 1000 {
+        0 => {
+            release(rt, table, tx);
+            assert!(rt; table.owners() < MAX_OWNERS);
+            table.enter(tx);
+            plain.cut(alloc, tx, 0)?;
+        }
+        1..10 => {
+            let n = held(rt, table, tx) * 3 / 4;
+            assert!(rt; table.is_owner(tx) && n <= table.held(tx));
+            table.cut(tx, n);
+            plain.cut(alloc, tx, n)?;
+        }
+        _ => {
+            let asked = rolled_lock(rt, dice, tx);
+            let wanted = plain.ask(tx, &asked)?;
+            assert_eq!(rt; ask(rt, table, tx, &asked), wanted);
+        }
+    }
+    assert_eq!(rt; held(rt, table, tx), plain.of(tx));
+    let key = Key::of_u64(dice.roll() % 9000);
+    assert_eq!(rt; table.exclusive_at(key), plain.exclusive_at(key));
+    Ok(())
+}
+
+// Some thousand calls get what they get of a plain list of locks.
+#[test]
+fn table_beside_a_plain_list(rt: HostRuntime) -> Result<(), Fail> {
+    let mut table = table_of(&rt, rt.alloc(), 3);
+    let mut plain = PlainTable {
+        held: Vec::new(rt.alloc()),
+    };
+    let mut dice = Dice { state: 1 };
+    let mut most = 0;
+    for _ in 0..6000 {
+        do_both(&rt, rt.alloc(), &mut dice, &mut table, &mut plain)?;
+        most = plain.of(1).max(most);
+    }
+    assert_eq!(rt; most, MAX_LOCKS);
+    Ok(())
 }

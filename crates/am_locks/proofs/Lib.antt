@@ -1,3 +1,6 @@
+pub mod Spans
+pub mod Puts
+pub mod FirstLocks
 pub mod Conflicts
 pub mod Apart
 pub mod Places

@@ -1,3 +1,4 @@
 pub mod Held
+pub mod Fronts
 pub mod Table
 pub mod Answers

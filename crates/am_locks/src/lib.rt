@@ -2,6 +2,8 @@
 #![tactic(auto)]
 
 mod asked;
+mod front;
+mod fronts;
 mod invariant;
 mod owner;
 mod table;

@@ -1,14 +1,18 @@
 //! One owner of locks.
 
-ghost use Rattle.std.specs.Prelude.{◌≡◌, ◌≢◌, ◌≤◌, ◌↔◌, ℕ, ◌++◌, ◌∷◌, [], false, length, take};
+ghost use Rattle.std.specs.Prelude.{◌≡◌, ◌≢◌, ◌<◌, ◌≤◌, ◌↔◌, ◌&&◌, ℕ, ◌++◌, ◌∷◌, [], false, length, take, drop, IsOk, OnOk, vec_capacity};
 ghost use Rattle.std.specs.List.{list_any};
-ghost use Rattle.am_record.specs.Locks.{is_covered, with_lock};
+ghost use Rattle.am_record.specs.Interval.{within};
+ghost use Rattle.am_record.specs.Locks.{conflicts, is_covered, is_exclusive, with_lock};
 ghost use Rattle.am_locks.specs.Held.{has_conflict, blocks, is_exclusive_at};
+ghost use Rattle.am_locks.specs.Fronts.{any_exclusive, AreFrontsOf};
+ghost use Rattle.smallvec.specs.SmallVec.{HasRoomFor};
 
 use crate::asked::Asked;
+use crate::fronts::Fronts;
 use am_record::{Key, Lock};
 use smallvec::SmallVec;
-use std::alloc::Global;
+use std::alloc::{AllocError, Global};
 use std::default::MadeWith;
 use std::marker::Model;
 
@@ -19,15 +23,20 @@ pub const MAX_LOCKS: usize = 256;
 pub const INLINE_LOCKS: usize = 8;
 
 /// A transaction and its locks, the oldest first.
+///
+/// The first ones are looked at one by one: that is quicker for few locks, and takes no memory. All later ones are searched.
 #[derive(Drop)]
 pub(crate) struct Owner {
     number: u64,
+    has_exclusive: bool,
     locks: SmallVec<Lock, INLINE_LOCKS>,
+    later: Fronts,
 }
 
 impl Model for Owner {
-    ghost use Rattle.std.specs.Prelude.{◌≤◌, length};
+    ghost use Rattle.std.specs.Prelude.{◌≡◌, ◌≤◌, length, drop, vec_capacity};
     ghost use Rattle.am_locks.specs.Held.{Held, held_code};
+    ghost use Rattle.am_locks.specs.Fronts.{any_exclusive, AreFrontsOf};
 
     ghost Value = { Held };
 
@@ -35,7 +44,11 @@ impl Model for Owner {
 
     ghost view = { λ o. record { owner = o.number; locks = o.locks.items } };
 
-    ghost invariant = { λ o. (8 ≤ o.locks.capacity) × (length o.locks.items ≤ 256) };
+    ghost invariant = { λ o. (8 ≤ o.locks.capacity) × (length o.locks.items ≤ 256)
+        × (o.has_exclusive ≡ any_exclusive o.locks.items)
+        × AreFrontsOf (drop 8 o.locks.items) o.later.all.ranges.items o.later.exclusive.ranges.items
+        × (length (drop 8 o.locks.items) ≤ vec_capacity o.later.all.ranges)
+        × (length (drop 8 o.locks.items) ≤ vec_capacity o.later.exclusive.ranges) };
 }
 
 /// What fills an unused place of the table.
@@ -51,7 +64,9 @@ impl Owner {
     {
         Owner {
             number,
+            has_exclusive: false,
             locks: SmallVec::new(alloc),
+            later: Fronts::new(alloc),
         }
     }
 
@@ -78,19 +93,25 @@ impl Owner {
     fn has_conflict(&self, asked: &Lock) -> bool
         ensures { result ≡ has_conflict asked.now self.now }
     {
-        self.locks.iter().any(|held| asked.conflicts(held))
+        if !self.has_exclusive && !asked.mode.is_exclusive() {
+            return false;
+        }
+        conflict_among(first_of(&self.locks), asked) || self.later.conflict(asked)
     }
 
     pub(crate) fn is_exclusive_at(&self, key: Key) -> bool
         ensures { result ≡ is_exclusive_at key self.now }
     {
-        self.locks.iter().any(|held| held.mode.is_exclusive() && held.range.contains(key))
+        if !self.has_exclusive {
+            return false;
+        }
+        is_exclusive_among(first_of(&self.locks), key) || self.later.is_exclusive_at(key)
     }
 
     fn covers(&self, asked: &Lock) -> bool
         ensures { result ≡ is_covered self.now.locks asked.now }
     {
-        self.locks.iter().any(|own| own.covers(asked))
+        covered_among(first_of(&self.locks), asked) || self.later.cover(asked)
     }
 
     /// Adds the lock, unless an own one covers it. It doesn't look at other owners.
@@ -110,16 +131,104 @@ impl Owner {
         if self.locks.len() == MAX_LOCKS {
             return Asked::TooManyLocks;
         }
-        match self.locks.push(asked) {
-            Ok(()) => Asked::Granted,
-            Err(_) => Asked::NoMemory,
+        if make_room(&mut self.locks, &mut self.later).is_err() {
+            return Asked::NoMemory;
         }
+        add_later(&mut self.later, &self.locks, &asked);
+        self.has_exclusive |= asked.mode.is_exclusive();
+        self.locks.push_reserved(asked);
+        Asked::Granted
     }
 
     /// Keeps the first `n` locks.
     pub(crate) fn cut(&mut self, n: usize)
         ensures { self.new ≡ record self.old { locks = take n self.old.locks } }
     {
+        if n >= self.locks.len() {
+            return;
+        }
         self.locks.truncate(n);
+        self.has_exclusive = has_exclusive(&self.locks);
+        self.later.renew(later_of(&self.locks));
     }
+}
+
+// Makes room for one lock more. The first eight need none.
+fn make_room(
+    locks: &mut SmallVec<Lock, INLINE_LOCKS>,
+    later: &mut Fronts,
+) -> Result<(), AllocError>
+    requires { 8 ≤ locks.old.capacity }
+    ensures locks { locks.new.items ≡ locks.old.items }
+    ensures inline { 8 ≤ locks.new.capacity }
+    ensures all { later.new.all.ranges.items ≡ later.old.all.ranges.items }
+    ensures exclusive { later.new.exclusive.ranges.items ≡ later.old.exclusive.ranges.items }
+    ensures room { OnOk result (HasRoomFor locks.new 1) }
+    ensures later_room { OnOk result (8 ≤ length locks.old.items →
+        (length (drop 8 locks.old.items) < vec_capacity later.new.all.ranges)
+        × (length (drop 8 locks.old.items) < vec_capacity later.new.exclusive.ranges)) }
+    ensures all_capacity { vec_capacity later.old.all.ranges ≤ vec_capacity later.new.all.ranges }
+    ensures exclusive_capacity { vec_capacity later.old.exclusive.ranges ≤ vec_capacity later.new.exclusive.ranges }
+    ensures memory { length locks.old.items < 8 → IsOk result }
+{
+    let Some(count) = locks.len().checked_sub(INLINE_LOCKS) else {
+        return Ok(());
+    };
+    locks.reserve(1)?;
+    later.reserve(count + 1)
+}
+
+// Adds to the later ones the lock that comes behind these, if it is one.
+fn add_later(later: &mut Fronts, locks: &[Lock], asked: &Lock)
+    requires fronts { AreFrontsOf (drop 8 locks.now) later.old.all.ranges.items later.old.exclusive.ranges.items }
+    requires room { 8 ≤ length locks.now → (length (drop 8 locks.now) < vec_capacity later.old.all.ranges)
+        × (length (drop 8 locks.now) < vec_capacity later.old.exclusive.ranges) }
+    ensures fronts { AreFrontsOf (drop 8 (locks.now ++ asked.now ∷ []))
+        later.new.all.ranges.items later.new.exclusive.ranges.items }
+    ensures capacity { (vec_capacity later.new.all.ranges ≡ vec_capacity later.old.all.ranges)
+        × (vec_capacity later.new.exclusive.ranges ≡ vec_capacity later.old.exclusive.ranges) }
+{
+    if locks.len() >= INLINE_LOCKS {
+        later.add(asked);
+    }
+}
+
+// The locks that are looked at one by one.
+fn first_of(locks: &[Lock]) -> &[Lock]
+    ensures { result.now ≡ take 8 locks.now }
+{
+    &locks[..locks.len().min(INLINE_LOCKS)]
+}
+
+// The locks that are searched.
+fn later_of(locks: &[Lock]) -> &[Lock]
+    ensures { result.now ≡ drop 8 locks.now }
+{
+    &locks[locks.len().min(INLINE_LOCKS)..]
+}
+
+fn has_exclusive(locks: &[Lock]) -> bool
+    ensures { result ≡ any_exclusive locks.now }
+{
+    locks.iter().any(|held| held.mode.is_exclusive())
+}
+
+fn conflict_among(locks: &[Lock], asked: &Lock) -> bool
+    ensures { result ≡ list_any (conflicts asked.now) locks.now }
+{
+    locks.iter().any(|held| asked.conflicts(held))
+}
+
+fn covered_among(locks: &[Lock], asked: &Lock) -> bool
+    ensures { result ≡ is_covered locks.now asked.now }
+{
+    locks.iter().any(|own| own.covers(asked))
+}
+
+fn is_exclusive_among(locks: &[Lock], key: Key) -> bool
+    ensures { result ≡ list_any (λ l. is_exclusive l.mode && within l.range key) locks.now }
+{
+    locks
+        .iter()
+        .any(|held| held.mode.is_exclusive() && held.range.contains(key))
 }

@@ -1,0 +1,25 @@
+use Rattle.std.proofs.Common.{◌≡◌, take, drop, true, false, ◌&&◌, sym, ap, ◌∙◌}
+use Rattle.std.specs.List.{list_any}
+use Rattle.am_record.specs.Interval.{within}
+use Rattle.am_record.specs.Locks.{is_exclusive}
+use Rattle.am_record.specs.declared.lock.Lock.{Lock}
+use Rattle.am_locks.specs.Held.{is_exclusive_at}
+use Rattle.am_locks.proofs.FirstLocks.{found_first, none_first, none_exclusive_at}
+use Rattle.am_locks.proofs.owner.Owner.is_exclusive_at.Goals as goal
+
+pub returns-then-not-self : goal.returns-then-not-self
+returns-then-not-self c = sym (none_exclusive_at c.args.key c.self.inside.locks.items (sym c.self.invariant.2 ∙ c.if-not-self.true)) ∙ ap (is_exclusive_at c.args.key) c.self.view_is
+
+pub returns-then-is_exclusive_among : goal.returns-then-is_exclusive_among
+returns-then-is_exclusive_among c =
+    let test = λ (l : Lock). is_exclusive l.mode && within l.range c.args.key in
+    let first : list_any test (take 8 c.self.inside.locks.items) ≡ true =
+    ap (λ ls. list_any test (take 8 ls)) (sym c.deref.ensures) ∙ ap (list_any test) (sym c.first_of.ensures) ∙ sym c.is_exclusive_among.ensures ∙ c.if-is_exclusive_among.true in
+    c.if-is_exclusive_among.true ∙ sym (found_first test 8 c.self.inside.locks.items first) ∙ ap (is_exclusive_at c.args.key) c.self.view_is
+
+pub returns-else-is_exclusive_among : goal.returns-else-is_exclusive_among
+returns-else-is_exclusive_among c =
+    let test = λ (l : Lock). is_exclusive l.mode && within l.range c.args.key in
+    let first : list_any test (take 8 c.self.inside.locks.items) ≡ false =
+    ap (λ ls. list_any test (take 8 ls)) (sym c.deref.ensures) ∙ ap (list_any test) (sym c.first_of.ensures) ∙ sym c.is_exclusive_among.ensures ∙ c.if-is_exclusive_among.false in
+    c.is_exclusive_at.ensures (drop 8 c.self.inside.locks.items) c.self.invariant.3 ∙ sym (none_first test 8 c.self.inside.locks.items first) ∙ ap (is_exclusive_at c.args.key) c.self.view_is
