@@ -23,12 +23,12 @@ nil_behind [] = refl
 nil_behind (e ∷ es) = ap (λ l. e ∷ l) (nil_behind es)
 
 -- the records before one of a rising run are below it
-under_at : (part : ℕ) (e : Entry) (rs : Records) (i : ℕ) (r : Record) → i < length rs → r ≡ get_or rs i r → AllByRecursion (λ f. place_cmp (place_of e) (place_of f) ≡ Less) (run_entries part rs) → place_cmp (place_of e) (part, r.0) ≡ Less
+pub under_at : (part : ℕ) (e : Entry) (rs : Records) (i : ℕ) (r : Record) → i < length rs → r ≡ get_or rs i r → AllByRecursion (λ f. place_cmp (place_of e) (place_of f) ≡ Less) (run_entries part rs) → place_cmp (place_of e) (part, r.0) ≡ Less
 under_at part e [] i r lt h a = absurd (omega arith)
 under_at part e (q ∷ rs) zero r lt h a = subst (λ (x : Record). place_cmp (place_of e) (part, x.0) ≡ Less) (sym h) a.0
 under_at part e (q ∷ rs) (suc i) r lt h a = under_at part e rs i r (omega arith) h a.1
 
-run_below : (part : ℕ) (rs : Records) (i : ℕ) (r : Record) → i < length rs → r ≡ get_or rs i r → IsRising (run_entries part rs) → AllBelow (part, r.0) (run_entries part (take i rs))
+pub run_below : (part : ℕ) (rs : Records) (i : ℕ) (r : Record) → i < length rs → r ≡ get_or rs i r → IsRising (run_entries part rs) → AllBelow (part, r.0) (run_entries part (take i rs))
 run_below part [] i r lt h up = absurd (omega arith)
 run_below part (q ∷ rs) zero r lt h up = tt
 run_below part (q ∷ rs) (suc i) r lt h up = (under_at part (live_entry part q) rs i r (omega arith) h up.0, run_below part rs i r (omega arith) h up.1)
