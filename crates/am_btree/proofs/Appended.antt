@@ -1,17 +1,17 @@
 -- Records of a run, put behind all entries one after another and taken out again.
-use Rattle.std.proofs.Common.{◌≡◌, ℕ, zero, suc, ◌+◌, ◌<◌, false, true, List, [], ◌∷◌, ◌++◌, length, get_or, take, None, refl, sym, ap, ◌∙◌, subst, arith}
+use Rattle.std.proofs.Common.{◌≡◌, ℕ, zero, suc, ◌<◌, List, [], ◌∷◌, ◌++◌, length, get_or, take, None, refl, sym, ap, ◌∙◌, subst, arith}
 use Rattle.std.specs.Prelude.{IsSome, is_some}
 use Rattle.std.specs.Option.{option_map}
-use Rattle.std.specs.declared.cmp.Ordering.TheVariants.{Less, Equal}
+use Rattle.std.specs.declared.cmp.Ordering.TheVariants.{Less}
 use Rattle.std.specs.List.{AllByRecursion}
 use Rattle.am_record.specs.OrderedKey.{OrderedKey}
 use Rattle.am_record.specs.Plain.{Records}
-use Rattle.am_record.specs.EntryOrder.{Place, place_of, place_cmp}
+use Rattle.am_record.specs.EntryOrder.{place_of, place_cmp}
 use Rattle.am_record.specs.declared.entry.Entry.{Entry}
 use Rattle.am_list.specs.Entries.{slot_of, entry_at, find, insert_entry, remove_entry, IsRising}
 use Rattle.am_list.specs.Places.{AllBelow}
 use Rattle.am_list.specs.Runs.{live_entry, run_entries}
-use Rattle.am_list.proofs.Edits.{place_cmp-itself, entry_at_inserted, insert_back}
+use Rattle.am_list.proofs.Edits.{entry_at_inserted, insert_back}
 use Rattle.am_list.proofs.Lists.{AllByRecursion-map, AllByRecursion-append, entry_at-append, insert_entry-append}
 use Rattle.am_list.proofs.Runs.{lower_part, one_more_pushed}
 

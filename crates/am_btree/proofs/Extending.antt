@@ -1,16 +1,16 @@
 -- Entries put behind those of a node's last child.
-use Rattle.std.proofs.Common.{◌≡◌, ◌≢◌, ℕ, zero, suc, ◌+◌, ◌<◌, ◌≤◌, List, [], ◌∷◌, ◌++◌, length, get_or, set, refl, sym, ap, ◌∙◌, subst, append-nil, append_assoc, length-append, length-set, arith}
+use Rattle.std.proofs.Common.{◌≡◌, ◌≢◌, ℕ, zero, suc, ◌+◌, ◌<◌, List, [], ◌∷◌, ◌++◌, length, get_or, set, refl, sym, ap, ◌∙◌, subst, append-nil, append_assoc, length-append, length-set, arith}
 use Rattle.std.specs.declared.cmp.Ordering.TheVariants.{Less}
 use Rattle.std.specs.List.{AllByRecursion}
 use Rattle.am_record.specs.declared.entry.Entry.{Entry}
 use Rattle.am_record.specs.EntryOrder.{Place, place_of, place_cmp, place_cmp-total}
 use Rattle.am_list.specs.Entries.{IsRising}
 use Rattle.am_list.specs.Places.{NoneBelow}
-use Rattle.am_list.proofs.Lists.{AllByRecursion-map, AllByRecursion-append, AllByRecursion-back, rising_back}
+use Rattle.am_list.proofs.Lists.{AllByRecursion-map, rising_back}
 use Rattle.am_btree.specs.declared.separator.Separator.{Separator}
 use Rattle.am_btree.specs.Shape.{Shape}
 use Rattle.am_btree.specs.Separators.{separator_place}
-use Rattle.am_btree.specs.Nodes.{all_entries, depth_of, AreParted, AreChildren, IsInner}
+use Rattle.am_btree.specs.Nodes.{all_entries, depth_of, AreParted, IsInner}
 use Rattle.am_btree.proofs.Parting.{all_at, depth_level, inner_with}
 use Rattle.am_btree.proofs.Editing.{all_set}
 

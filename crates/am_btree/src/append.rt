@@ -13,7 +13,12 @@ impl Subtree {
     /// Appends the records of a run, all live, in a partition above those of all entries: one is inserted, which makes a
     /// new leaf where the last one is full, and as many of the next ones as its leaf has room for go in behind it. Where
     /// memory is refused, those that went in are taken out again, the newest first.
-    pub(crate) fn append(&mut self, alloc: Global, part: u32, pairs: &[(Key, Value)]) -> Result<(), NoMemory>
+    pub(crate) fn append(
+        &mut self,
+        alloc: Global,
+        part: u32,
+        pairs: &[(Key, Value)],
+    ) -> Result<(), NoMemory>
         requires above { AllByRecursion (λ e. e.part < part) self.old.entries }
         requires rising { IsRising (run_entries part pairs.now) }
         ensures ok { OnOk result (self.new.entries ≡ self.old.entries ++ run_entries part pairs.now) }

@@ -1,7 +1,6 @@
-use Rattle.std.proofs.Common.{◌≡◌, ◌<◌, ◌≤◌, ◌+◌, ℕ, List, length, get_or, take, sym, ap, ◌∙◌, subst, add-one, arith}
+use Rattle.std.proofs.Common.{◌≡◌, ◌<◌, ◌≤◌, ◌+◌, ℕ, length, get_or, ap, ◌∙◌, subst, add-one, arith}
 use Rattle.std.proofs.lemmas.List.{get_or-take, length-take-le}
 use Rattle.std.specs.List.{insert}
-use Rattle.am_record.specs.declared.entry.Entry.{Entry}
 use Rattle.am_list.specs.Places.{IsGapFor}
 use Rattle.am_list.specs.Runs.{live_entry}
 use Rattle.am_btree.proofs.Filling.{filled_long, next_gap, next_filled}

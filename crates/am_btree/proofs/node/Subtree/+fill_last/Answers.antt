@@ -52,7 +52,7 @@ returns-clause-entries t c = elim c.match-self.branch [
       let rising = front_rises c.args.part _ c.args.pairs.now (subst (λ (s : Shape). IsRising (s.entries ++ run_entries c.args.part c.args.pairs.now)) seen c.requires.rising) w.fill_last.result in
       let e = w.fill_last.ensures in
       rw (w.result-is, w.self-inside-is) (more_entries ls ks _ _ inner i k _ last w.index_mut.ensures.value some rising w.fill_last.new.self e.depth e.entries
-        ∙ sym (ap (λ (s : Shape). s.entries ++ run_entries c.args.part (take w.fill_last.result c.args.pairs.now)) seen))
+      ∙ sym (ap (λ (s : Shape). s.entries ++ run_entries c.args.part (take w.fill_last.result c.args.pairs.now)) seen))
 ]
 
 pub returns-clause-depth : goal.returns-clause-depth

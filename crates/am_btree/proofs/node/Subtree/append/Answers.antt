@@ -1,16 +1,16 @@
-use Rattle.std.proofs.Common.{◌≡◌, ◌<◌, ◌+◌, ◌-◌, drop, ℕ, suc, false, true, List, ◌++◌, length, get_or, take, Result, Ok, Err, refl, sym, ap, ◌∙◌, subst, add-one, arith}
+use Rattle.std.proofs.Common.{◌≡◌, ◌<◌, ◌+◌, ◌-◌, ℕ, suc, false, List, ◌++◌, length, get_or, take, Result, Ok, Err, sym, ap, ◌∙◌, subst, add-one, arith}
 use Rattle.std.specs.Prelude.{is_err, OnOk}
 use Rattle.std.proofs.lemmas.Bool.{true≢false}
 use Rattle.std.proofs.lemmas.List.{get_or_default}
 use Rattle.am_record.specs.declared.entry.Entry.{Entry}
-use Rattle.am_list.specs.Entries.{find, insert_entry, IsRising}
+use Rattle.am_list.specs.Entries.{insert_entry, IsRising}
 use Rattle.am_list.specs.Runs.{live_entry, run_entries}
 use Rattle.am_list.proofs.Runs.{rising_with_run}
 use Rattle.am_btree.specs.Shape.{Shape}
 use Rattle.am_btree.proofs.Growing.{insert_some}
 use Rattle.am_btree.proofs.Rooted.{tree_rises}
 use Rattle.am_btree.proofs.Filling.{left_rise, further, within}
-use Rattle.am_btree.proofs.Appended.{Record, free, put, stands, out}
+use Rattle.am_btree.proofs.Appended.{Record, put, stands, out}
 use Rattle.am_btree.proofs.node.Subtree.append.Goals as goal
 
 on_ok : {T E P : Type 0} (r : Result T E) → is_err r ≡ false → OnOk r P → P
