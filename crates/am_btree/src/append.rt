@@ -10,9 +10,10 @@ use am_record::{Entry, Key, NoMemory, Value};
 use std::alloc::Global;
 
 impl Subtree {
-    /// Appends the records of a run, all live, in a partition above those of all entries: one is inserted, which makes a
-    /// new leaf where the last one is full, and as many of the next ones as its leaf has room for go in behind it. Where
-    /// memory is refused, those that went in are taken out again, the newest first.
+    /// Appends the records of a run, all live, in a partition above those of all entries. One is inserted, which makes
+    /// a new leaf where the last one is full; as many of the next ones as its leaf has room for go in behind it, by one
+    /// walk and with no search; and so on. Where memory is refused, those that went in are taken out again, the newest
+    /// first.
     pub(crate) fn append(
         &mut self,
         alloc: Global,

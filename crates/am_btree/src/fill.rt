@@ -10,7 +10,8 @@ use am_leaf::RawLeaf;
 use am_record::{Entry, Key, Value};
 
 impl Subtree {
-    /// Puts the first of the records, all live, behind all entries: as many as the last leaf has room for. Says how many.
+    /// Puts the first of the records, all live, behind all entries: as many as the last leaf has room for. Says how
+    /// many. (Where there is no entry, the records may belong below a separator that was left.)
     pub(crate) fn fill_last(&mut self, part: u32, pairs: &[(Key, Value)]) -> usize
         requires some { 0 < length self.old.entries }
         requires rising { IsRising (self.old.entries ++ run_entries part pairs.now) }

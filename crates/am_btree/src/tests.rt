@@ -299,7 +299,7 @@ fn with_scattered(alloc: Global, many: u64) -> Result<Subtree, NoMemory> {
     Ok(tree)
 }
 
-// Whether the tree has as many entries and those of the run, and no others.
+// Whether the tree has the run, and besides it as many entries.
 fn has_run(tree: &Subtree, many: usize, part: u32, pairs: &[(Key, Value)]) -> bool {
     count(tree) == many.saturating_add(pairs.len())
         && pairs.iter().all(|(key, value)| tree.find(part, *key) == Some((*value, false)))
