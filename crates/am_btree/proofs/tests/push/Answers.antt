@@ -1,11 +1,10 @@
-use Rattle.std.proofs.Common.{◌≡◌, ℕ, zero, suc, ◌-◌, ◌<◌, true, List, [], ◌∷◌, ◌++◌, length, get_or, refl, sym, ap, ◌∙◌, subst, append-nil, eqb-true, arith}
+use Rattle.std.proofs.Common.{◌≡◌, ℕ, zero, suc, ◌-◌, true, [], ◌∷◌, ◌++◌, length, get_or, refl, sym, ap, ◌∙◌, subst, append-nil, eqb-true, arith}
 use Rattle.std.proofs.lemmas.Bool.{eqb-false, true≢false}
 use Rattle.std.specs.declared.cmp.Ordering.{Ordering}
 use Rattle.std.specs.declared.cmp.Ordering.TheVariants.{Less, Equal, Greater}
 use Rattle.std.specs.Ordering.{is_lt}
-use Rattle.am_record.specs.OrderedKey.{key_cmp}
 use Rattle.am_record.specs.Plain.{Records}
-use Rattle.am_record.specs.EntryOrder.{place_of, place_cmp, place_cmp-same, place_cmp-total}
+use Rattle.am_record.specs.EntryOrder.{place_cmp, place_cmp-same, place_cmp-total}
 use Rattle.am_list.specs.Entries.{IsRising}
 use Rattle.am_list.specs.Places.{AllBelow}
 use Rattle.am_list.specs.Runs.{live_entry, run_entries}
