@@ -1,17 +1,17 @@
 -- Records of a run, put behind all entries one after another and taken out again.
-use Rattle.std.proofs.Common.{◌≡◌, ℕ, zero, suc, ◌+◌, ◌<◌, false, true, List, [], ◌∷◌, ◌++◌, length, get_or, take, None, refl, sym, ap, ◌∙◌, subst, arith}
+use Rattle.std.proofs.Common.{◌≡◌, ℕ, zero, suc, ◌<◌, List, [], ◌∷◌, ◌++◌, length, get_or, take, None, refl, sym, ap, ◌∙◌, subst, arith}
 use Rattle.std.specs.Prelude.{IsSome, is_some}
 use Rattle.std.specs.Option.{option_map}
-use Rattle.std.specs.declared.cmp.Ordering.TheVariants.{Less, Equal}
+use Rattle.std.specs.declared.cmp.Ordering.TheVariants.{Less}
 use Rattle.std.specs.List.{AllByRecursion}
 use Rattle.am_record.specs.OrderedKey.{OrderedKey}
 use Rattle.am_record.specs.Plain.{Records}
-use Rattle.am_record.specs.EntryOrder.{Place, place_of, place_cmp}
+use Rattle.am_record.specs.EntryOrder.{place_of, place_cmp}
 use Rattle.am_record.specs.declared.entry.Entry.{Entry}
 use Rattle.am_list.specs.Entries.{slot_of, entry_at, find, insert_entry, remove_entry, IsRising}
 use Rattle.am_list.specs.Places.{AllBelow}
 use Rattle.am_list.specs.Runs.{live_entry, run_entries}
-use Rattle.am_list.proofs.Edits.{place_cmp-itself, entry_at_inserted, insert_back}
+use Rattle.am_list.proofs.Edits.{entry_at_inserted, insert_back}
 use Rattle.am_list.proofs.Lists.{AllByRecursion-map, AllByRecursion-append, entry_at-append, insert_entry-append}
 use Rattle.am_list.proofs.Runs.{lower_part, one_more_pushed}
 
@@ -23,12 +23,12 @@ nil_behind [] = refl
 nil_behind (e ∷ es) = ap (λ l. e ∷ l) (nil_behind es)
 
 -- the records before one of a rising run are below it
-under_at : (part : ℕ) (e : Entry) (rs : Records) (i : ℕ) (r : Record) → i < length rs → r ≡ get_or rs i r → AllByRecursion (λ f. place_cmp (place_of e) (place_of f) ≡ Less) (run_entries part rs) → place_cmp (place_of e) (part, r.0) ≡ Less
+pub under_at : (part : ℕ) (e : Entry) (rs : Records) (i : ℕ) (r : Record) → i < length rs → r ≡ get_or rs i r → AllByRecursion (λ f. place_cmp (place_of e) (place_of f) ≡ Less) (run_entries part rs) → place_cmp (place_of e) (part, r.0) ≡ Less
 under_at part e [] i r lt h a = absurd (omega arith)
 under_at part e (q ∷ rs) zero r lt h a = subst (λ (x : Record). place_cmp (place_of e) (part, x.0) ≡ Less) (sym h) a.0
 under_at part e (q ∷ rs) (suc i) r lt h a = under_at part e rs i r (omega arith) h a.1
 
-run_below : (part : ℕ) (rs : Records) (i : ℕ) (r : Record) → i < length rs → r ≡ get_or rs i r → IsRising (run_entries part rs) → AllBelow (part, r.0) (run_entries part (take i rs))
+pub run_below : (part : ℕ) (rs : Records) (i : ℕ) (r : Record) → i < length rs → r ≡ get_or rs i r → IsRising (run_entries part rs) → AllBelow (part, r.0) (run_entries part (take i rs))
 run_below part [] i r lt h up = absurd (omega arith)
 run_below part (q ∷ rs) zero r lt h up = tt
 run_below part (q ∷ rs) (suc i) r lt h up = (under_at part (live_entry part q) rs i r (omega arith) h up.0, run_below part rs i r (omega arith) h up.1)

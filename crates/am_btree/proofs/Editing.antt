@@ -20,7 +20,7 @@ use Rattle.am_btree.proofs.Parting.{all_take, all_drop, all_at, parted_lengths, 
 pub all_removed : {X : Type 0} (P : X → Type 0) (xs : List X) (i : ℕ) → AllByRecursion P xs → AllByRecursion P (remove xs i)
 all_removed P xs i a = AllByRecursion-append P (take i xs) (drop (suc i) xs) (all_take P i xs a) (all_drop P (suc i) xs a)
 
-all_set : {X : Type 0} (P : X → Type 0) (xs : List X) (i : ℕ) (y : X) → AllByRecursion P xs → P y → AllByRecursion P (set xs i y)
+pub all_set : {X : Type 0} (P : X → Type 0) (xs : List X) (i : ℕ) (y : X) → AllByRecursion P xs → P y → AllByRecursion P (set xs i y)
 all_set P [] i y a h = tt
 all_set P (x ∷ xs) zero y a h = (h, a.1)
 all_set P (x ∷ xs) (suc i) y a h = (a.0, all_set P xs i y a.1 h)

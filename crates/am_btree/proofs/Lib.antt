@@ -7,6 +7,8 @@ pub mod Growing
 pub mod Parting
 pub mod Rooted
 pub mod Editing
+pub mod Extending
+pub mod Filling
 pub mod Leaves
 pub mod Seeking
 pub mod Walking

@@ -5,19 +5,28 @@ ghost use Rattle.std.specs.List.{AllByRecursion};
 ghost use Rattle.am_list.specs.Entries.{IsRising};
 ghost use Rattle.am_list.specs.Runs.{run_entries};
 
-use crate::BTree;
-use am_list::PartIndex;
+use crate::node::Subtree;
 use am_record::{Entry, Key, NoMemory, Value};
+use std::alloc::Global;
 
-impl BTree {
-    /// Appends the records of a run, all live, in a partition above those of all entries. Where memory is refused, those
-    /// that went in are taken out again, the newest first.
-    pub(crate) fn append(&mut self, part: u32, pairs: &[(Key, Value)]) -> Result<(), NoMemory>
+impl Subtree {
+    /// Appends the records of a run, all live, in a partition above those of all entries. One is inserted, which makes
+    /// a new leaf where the last one is full; as many of the next ones as its leaf has room for go in behind it, by one
+    /// walk and with no search; and so on. Where memory is refused, those that went in are taken out again, the newest
+    /// first.
+    pub(crate) fn append(
+        &mut self,
+        alloc: Global,
+        part: u32,
+        pairs: &[(Key, Value)],
+    ) -> Result<(), NoMemory>
         requires above { AllByRecursion (λ e. e.part < part) self.old.entries }
         requires rising { IsRising (run_entries part pairs.now) }
         ensures ok { OnOk result (self.new.entries ≡ self.old.entries ++ run_entries part pairs.now) }
         ensures err { OnErr result (self.new.entries ≡ self.old.entries) }
     {
+        // Read here, the node's invariant is known before it is changed.
+        let _ = &self.node;
         let mut added = 0;
         'put: while added < pairs.len() {
             let (key, value) = pairs[added];
@@ -27,10 +36,11 @@ impl BTree {
                 value,
                 is_ghost: false,
             };
-            if self.insert(entry).is_err() {
+            if self.insert(alloc, entry).is_err() {
                 break;
             }
             added += 1;
+            added += self.fill_last(part, &pairs[added..]);
         }
         if added == pairs.len() {
             return Ok(());
@@ -39,6 +49,7 @@ impl BTree {
             added -= 1;
             self.remove(part, pairs[added].0);
         }
+        self.collapse();
         Err(NoMemory)
     }
 }

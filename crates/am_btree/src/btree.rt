@@ -109,7 +109,7 @@ impl PartIndex for BTree {
     }
 
     fn append_run(&mut self, part: u32, pairs: &[(Key, Value)]) -> Result<(), NoMemory> {
-        self.append(part, pairs)
+        self.root.append(self.alloc, part, pairs)
     }
 
     fn set(&mut self, part: u32, key: Key, value: Value, is_ghost: bool) {

@@ -10,6 +10,7 @@
 
 mod append;
 mod btree;
+mod fill;
 mod find;
 mod insert;
 mod node;

@@ -1,9 +1,14 @@
-ghost use Rattle.std.specs.Prelude.{◌<◌};
+ghost use Rattle.std.specs.Prelude.{◌<◌, ℕ, IfOk};
+ghost use Rattle.am_list.specs.Entries.{IsRising};
+ghost use Rattle.am_list.specs.Runs.{run_entries};
 
 use crate::BTree;
+use crate::insert::Obstacle;
 use crate::node::{Node, Subtree};
+use crate::read::Start;
 use am_list::{Batch, ListIndex, PartIndex};
 use am_record::{Entry, Key, NoMemory, Value};
+use std::alloc::Global;
 use std::test::Fail;
 use std::thread;
 
@@ -222,5 +227,124 @@ fn a_tree_crosses_threads(rt: HostRuntime) -> Result<(), Fail> {
     );
     assert!(rt; low == Some(numbered(0, 0)));
     assert!(rt; high == Some(numbered(0, 99)));
+    Ok(())
+}
+
+// Puts a record behind the others, if its key is above theirs.
+fn push(pairs: &mut Vec<(Key, Value)>, number: u64) -> Result<(), NoMemory>
+    requires { (part : ℕ) → IsRising (run_entries part pairs.old.items) }
+    ensures { (part : ℕ) → IsRising (run_entries part pairs.new.items) }
+{
+    let Entry { key, value, .. } = numbered(1, number);
+    if pairs.is_empty() || pairs[pairs.len() - 1].0 < key {
+        pairs.push((key, value))?;
+    }
+    Ok(())
+}
+
+// The records of the even numbers below twice the count.
+fn records(alloc: Global, count: u64) -> Result<Vec<(Key, Value)>, NoMemory>
+    ensures { IfOk result (λ v. (part : ℕ) → IsRising (run_entries part v.items)) }
+{
+    let mut pairs = Vec::new(alloc);
+    for number in 0..count {
+        push(&mut pairs, number.saturating_mul(2))?;
+    }
+    Ok(pairs)
+}
+
+// Appends the records as a run of the partition, unless an entry stands in it or above.
+fn append(
+    tree: &mut Subtree,
+    alloc: Global,
+    part: u32,
+    pairs: &[(Key, Value)],
+) -> Result<(), NoMemory>
+    requires { IsRising (run_entries part pairs.now) }
+{
+    if tree.seek(part, Key::least(), Start::At).is_some() {
+        return Ok(());
+    }
+    tree.append(alloc, part, pairs)
+}
+
+// How many entries there are.
+fn count(tree: &Subtree) -> usize {
+    match &tree.node {
+        Node::Leaf(leaf) => leaf.len(),
+        Node::Inner(_, children) => {
+            let mut all = 0_usize;
+            for child in children {
+                all = all.saturating_add(count(child));
+            }
+            all
+        }
+    }
+}
+
+// Adds the entry to a tree, unless its place is taken.
+fn add_to(tree: &mut Subtree, alloc: Global, entry: Entry) -> Result<(), NoMemory> {
+    match tree.insert(alloc, entry) {
+        Err(Obstacle::NoMemory) => Err(NoMemory),
+        Ok(()) | Err(Obstacle::Taken) => Ok(()),
+    }
+}
+
+// A tree with so many entries of partition 0, out of order.
+fn with_scattered(alloc: Global, many: u64) -> Result<Subtree, NoMemory> {
+    let mut tree = Subtree::new(alloc)?;
+    for i in 0..many.min(10_007) {
+        add_to(&mut tree, alloc, numbered(0, scattered(i)))?;
+    }
+    Ok(tree)
+}
+
+// Whether the tree has the run, and besides it as many entries.
+fn has_run(tree: &Subtree, many: usize, part: u32, pairs: &[(Key, Value)]) -> bool {
+    count(tree) == many.saturating_add(pairs.len())
+        && pairs.iter().all(|(key, value)| tree.find(part, *key) == Some((*value, false)))
+}
+
+#[test]
+fn runs_are_appended(rt: HostRuntime) -> Result<(), Fail> {
+    for many in [0, 1000] {
+        for length in [1, 31, 32, 33, 1_025, 40_000] {
+            let mut tree = with_scattered(rt.alloc(), many)?;
+            let before = leaves(&tree);
+            let pairs = records(rt.alloc(), length)?;
+            append(&mut tree, rt.alloc(), 1, &pairs)?;
+            assert!(rt; has_run(&tree, many as usize, 1, &pairs));
+            // The last leaf and the new ones are full, but for the last.
+            assert!(rt; leaves(&tree) <= before.saturating_add(pairs.len().div_ceil(32)));
+            assert!(rt; tree.depth_at(1, Key::least()) <= 3);
+        }
+    }
+    Ok(())
+}
+
+#[test]
+fn many_small_runs_share_leaves(rt: HostRuntime) -> Result<(), Fail> {
+    let mut tree = Subtree::new(rt.alloc())?;
+    let pairs = records(rt.alloc(), 5)?;
+    for part in 1..321 {
+        append(&mut tree, rt.alloc(), part, &pairs)?;
+    }
+    assert!(rt; count(&tree) == 1600);
+    assert!(rt; leaves(&tree) == 50);
+    Ok(())
+}
+
+#[test]
+fn a_loaded_run_takes_inserts_in_its_middle(rt: HostRuntime) -> Result<(), Fail> {
+    let mut tree = with_scattered(rt.alloc(), 40)?;
+    let pairs = records(rt.alloc(), 3_200)?;
+    append(&mut tree, rt.alloc(), 1, &pairs)?;
+    for number in 0..3_200_u64 {
+        add_to(&mut tree, rt.alloc(), numbered(1, 2 * number + 1))?;
+    }
+    assert!(rt; count(&tree) == 6_440);
+    for number in 0..6_400_u64 {
+        assert!(rt; tree.find(1, Key::of_u64(number)).is_some());
+    }
     Ok(())
 }

@@ -1,6 +1,6 @@
 use Rattle.std.proofs.Common.{◌≡◌, ◌≤◌, ◌-◌, ◌++◌, length, take}
 use Rattle.am_list.specs.Runs.{run_entries}
-use Rattle.am_btree.proofs.btree.BTree.append.Given as goal
+use Rattle.am_btree.proofs.node.Subtree.append.Given as goal
 
 abbrev pub invariant-put : goal.invariant-put
 invariant-put l = record { most : l.added ≤ length l.pairs; so_far : l.self.entries ≡ l.fn.self.entries ++ run_entries l.part (take l.added l.pairs) }
