@@ -10,5 +10,6 @@ pub mod Editing
 pub mod Leaves
 pub mod Seeking
 pub mod Walking
+pub mod Ghosts
 pub mod Inner
 pub mod Reaching
