@@ -1,5 +1,6 @@
 -- Looking for ghosts through the children of a node.
-use Rattle.std.proofs.Common.{◌≡◌, ◌≢◌, ℕ, ◌+◌, ◌<◌, Bool, ◌&&◌, List, ◌++◌, length, take, get_or, drop, Option, Some, None, sym, ap, ◌∙◌, subst, add-one, arith}
+use Rattle.std.proofs.Common.{◌≡◌, ◌≢◌, ℕ, ◌+◌, ◌<◌, ◌≤◌, Bool, ◌&&◌, List, ◌++◌, length, take, get_or, drop, Option, Some, None, sym, ap, ◌∙◌, subst, add-one, arith}
+use Rattle.std.proofs.lemmas.List.{drop_all}
 use Rattle.std.proofs.Math.Seq.{drop-cons}
 use Rattle.std.specs.Ordering.{is_ge}
 use Rattle.std.specs.declared.cmp.Ordering.TheVariants.{Less, Greater}
@@ -31,6 +32,10 @@ module _ (ks : List Shape) (i : ℕ) (k : Shape) (within : i < length ks) (here 
 
   pub ghost_later : None ≡ first_ghost k.entries → first_ghost (all_entries (drop (i + 1) ks)) ≡ first_ghost (all_entries (drop i ks))
   ghost_later none = sym (ap first_ghost cut ∙ such_later (λ x. x.is_ghost) k.entries (all_entries (drop (i + 1) ks)) (sym none))
+
+-- after the last child
+pub no_ghost_left : (ks : List Shape) (i : ℕ) → length ks ≤ i → None ≡ first_ghost (all_entries (drop i ks))
+no_ghost_left ks i past = sym (ap (λ (l : List Shape). first_ghost (all_entries l)) (drop_all i ks past))
 
 -- ---- from a place on
 

@@ -62,8 +62,8 @@ impl Subtree {
                 if let Some(entry) = children[at].next_ghost(part, key) {
                     return Some(entry);
                 }
-                for later in at + 1..children.len() {
-                    if let Some(entry) = children[later].first_ghost() {
+                for child in &children[at + 1..] {
+                    if let Some(entry) = child.first_ghost() {
                         return Some(entry);
                     }
                 }

@@ -7,5 +7,5 @@ use Rattle.am_btree.proofs.node.Subtree.+next_ghost.Given as goal
 abbrev pub decreases-next_ghost : goal.decreases-next_ghost
 decreases-next_ghost l = goal.size-next_ghost l
 
-abbrev pub invariant-loop-later : goal.invariant-loop-later
-invariant-loop-later l = first_ghost (all_entries (drop l.later l.children.items)) ≡ next_ghost (all_entries l.children.items) l.fn.part l.fn.key
+abbrev pub invariant-loop-child : goal.invariant-loop-child
+invariant-loop-child l = first_ghost (all_entries (drop l.child-index l.child-items)) ≡ next_ghost l.fn.self.entries l.fn.part l.fn.key
