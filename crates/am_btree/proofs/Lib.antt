@@ -12,5 +12,6 @@ pub mod Filling
 pub mod Leaves
 pub mod Seeking
 pub mod Walking
+pub mod Ghosts
 pub mod Inner
 pub mod Reaching

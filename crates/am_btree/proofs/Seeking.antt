@@ -50,6 +50,14 @@ first_such-parts test [] ys = refl
 first_such-parts test (x ∷ xs) ys =
     elim (test x) as (λ b. (if b then Some x else first_such test (xs ++ ys)) ≡ option_or (if b then Some x else first_such test xs) (first_such test ys)) [ true ↦ refl | false ↦ first_such-parts test xs ys ]
 
+-- what passes is found in the first part
+pub such_here : (test : Entry → Bool) (xs ys : List Entry) (e : Entry) → first_such test xs ≡ Some e → first_such test (xs ++ ys) ≡ Some e
+such_here test xs ys e h = first_such-parts test xs ys ∙ ap (λ o. option_or o (first_such test ys)) h
+
+-- or not
+pub such_later : (test : Entry → Bool) (xs ys : List Entry) → first_such test xs ≡ None → first_such test (xs ++ ys) ≡ first_such test ys
+such_later test xs ys h = first_such-parts test xs ys ∙ ap (λ o. option_or o (first_such test ys)) h
+
 first_front : (test : Entry → Bool) (es : List Entry) → AllByRecursion (λ e. test e ≡ true) es → first_such test es ≡ slice_get es 0
 first_front test [] a = refl
 first_front test (e ∷ es) a = cond-true (test e) (Some e) (first_such test es) a.0
@@ -71,11 +79,11 @@ module _ (start : Start) (part : ℕ) (key : OrderedKey) where
 
   -- found in the first part
   pub first_here : (xs ys : List Entry) (e : Entry) → first_from start xs part key ≡ Some e → first_from start (xs ++ ys) part key ≡ Some e
-  first_here xs ys e h = first_such-parts reached xs ys ∙ ap (λ o. option_or o (first_from start ys part key)) h
+  first_here xs ys e h = such_here reached xs ys e h
 
   -- or not
   pub first_later : (xs ys : List Entry) → first_from start xs part key ≡ None → first_from start (xs ++ ys) part key ≡ first_from start ys part key
-  first_later xs ys h = first_such-parts reached xs ys ∙ ap (λ o. option_or o (first_from start ys part key)) h
+  first_later xs ys h = such_later reached xs ys h
 
 -- where a walk begins stands what it finds
 pub first_at : (start : Start) (es : List Entry) (part : ℕ) (key : OrderedKey) (i : ℕ) → IsStart start es part key i → slice_get es i ≡ first_from start es part key

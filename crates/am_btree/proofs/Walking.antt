@@ -51,10 +51,10 @@ module _ (part : ℕ) (key : OrderedKey) where
       (all_below_through (separator_place (get_or ls i l)) p k.entries later (reached l)) (below_child ls ks i a.2 (omega arith) (inr reached))
 
   module _ (d : ℕ) (ls : List Separator) (ks : List Shape) (c : AreChildren d ls ks) (i : ℕ) (child : IsChildFor ls part key i) where
-    below : AllBelow p (all_entries (take i ks))
+    pub below : AllBelow p (all_entries (take i ks))
     below = below_child ls ks i c.parted child.in_range child.reached
 
-    above : AllAbove p (all_entries (drop (suc i) ks))
+    pub above : AllAbove p (all_entries (drop (suc i) ks))
     above = children_above p (drop (suc i) ls) (drop (suc i) ks) (AreParted-drop (suc i) ls ks c.parted) child.above
 
     none_above : NoneAbove p (all_entries (take i ks))

@@ -100,6 +100,10 @@ impl PartIndex for BTree {
         self.root.seek(part, key, Start::At)
     }
 
+    fn next_ghost(&self, part: u32, key: Key) -> Option<Entry> {
+        self.root.next_ghost(part, key)
+    }
+
     fn insert(&mut self, entry: Entry) -> Result<(), NoMemory> {
         match self.root.insert(self.alloc, entry) {
             Ok(()) => Ok(()),

@@ -1,7 +1,7 @@
 //! Walks from a place on.
 
 ghost use Rattle.std.specs.Prelude.{◌≡◌, ◌++◌, take, slice_get};
-ghost use Rattle.am_list.specs.Entries.{all_after, IsRising};
+ghost use Rattle.am_list.specs.Entries.{first_such, all_after, next_ghost, IsRising};
 ghost use Rattle.am_btree.specs.Seek.{first_from, IsStart};
 
 use crate::node::{Node, Subtree};
@@ -47,6 +47,45 @@ impl Subtree {
         match &self.node {
             Node::Leaf(leaf) => entry_at(leaf, 0),
             Node::Inner(_, children) => children[0].first(),
+        }
+    }
+
+    /// The first ghost from the place on, of any partition. It goes down to the place once, and then from leaf to leaf.
+    pub(crate) fn next_ghost(&self, part: u32, key: Key) -> Option<Entry>
+        ensures found { result ≡ next_ghost self.now.entries part key }
+        ensures rising { IsRising self.now.entries }
+    {
+        match &self.node {
+            Node::Leaf(leaf) => next_ghost_in_leaf(leaf, part, key),
+            Node::Inner(separators, children) => {
+                let at = child_for(separators, part, key);
+                if let Some(entry) = children[at].next_ghost(part, key) {
+                    return Some(entry);
+                }
+                for child in &children[at + 1..] {
+                    if let Some(entry) = child.first_ghost() {
+                        return Some(entry);
+                    }
+                }
+                None
+            }
+        }
+    }
+
+    /// The first ghost.
+    pub(crate) fn first_ghost(&self) -> Option<Entry>
+        ensures { result ≡ first_such (λ e. e.is_ghost) self.now.entries }
+    {
+        match &self.node {
+            Node::Leaf(leaf) => leaf.ghost_from(0),
+            Node::Inner(_, children) => {
+                for child in children {
+                    if let Some(entry) = child.first_ghost() {
+                        return Some(entry);
+                    }
+                }
+                None
+            }
         }
     }
 
@@ -104,6 +143,14 @@ fn seek_in_leaf(leaf: &RawLeaf, part: u32, key: Key, start: Start) -> Option<Ent
     ensures rising { IsRising leaf.now }
 {
     entry_at(leaf, start_in_leaf(leaf, part, key, start))
+}
+
+// The first ghost of the leaf from the place on.
+fn next_ghost_in_leaf(leaf: &RawLeaf, part: u32, key: Key) -> Option<Entry>
+    ensures found { result ≡ next_ghost leaf.now part key }
+    ensures rising { IsRising leaf.now }
+{
+    leaf.ghost_from(start_in_leaf(leaf, part, key, Start::At))
 }
 
 // Appends the next entries of the partition of a leaf, as many as the batch has room for.

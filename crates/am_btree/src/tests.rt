@@ -146,6 +146,58 @@ fn reads_on_past_the_end_of_a_leaf(rt: HostRuntime) -> Result<(), Fail> {
     Ok(())
 }
 
+// A tree of the numbers below 2,000, of which these are ghosts. The upper half stands in partition 1.
+fn with_ghosts(alloc: Global, ghosts: &[u64]) -> Result<BTree, NoMemory> {
+    let mut tree = BTree::new(alloc)?;
+    for number in 0..2000_u64 {
+        let is_ghost = ghosts.contains(&number);
+        let entry = numbered(part_of(number), number);
+        add(&mut tree, Entry { is_ghost, ..entry })?;
+    }
+    Ok(tree)
+}
+
+fn part_of(number: u64) -> u32 {
+    if number < 1000 { 0 } else { 1 }
+}
+
+// Whether the first ghost from each number on is the least of these that isn't below it.
+fn finds(tree: &BTree, ghosts: &[u64]) -> bool {
+    for number in 0..2000_u64 {
+        let due = ghosts.iter().copied().find(|due| *due >= number);
+        let found = tree.next_ghost(part_of(number), Key::of_u64(number));
+        if found.map(|entry| entry.key) != due.map(|due| Key::of_u64(due)) {
+            return false;
+        }
+    }
+    true
+}
+
+#[test]
+fn finds_the_next_ghost(rt: HostRuntime) -> Result<(), Fail> {
+    let at_the_ends = [0, 1999];
+    assert!(rt; finds(&with_ghosts(rt.alloc(), &at_the_ends)?, &at_the_ends));
+    let in_the_middle = [31, 32, 33, 999, 1000, 1500];
+    assert!(rt; finds(&with_ghosts(rt.alloc(), &in_the_middle)?, &in_the_middle));
+    let none = with_ghosts(rt.alloc(), &[])?;
+    assert!(rt; finds(&none, &[]));
+    assert!(rt; none.next_ghost(2, Key::least()).is_none());
+    Ok(())
+}
+
+#[test]
+fn scattered_inserts_leave_leaves_half_full(rt: HostRuntime) -> Result<(), Fail> {
+    let mut tree = Subtree::new(rt.alloc())?;
+    for i in 0..1500_u64 {
+        let entry = numbered(0, 7919 * i % 1500);
+        if tree.find(entry.part, entry.key).is_none() {
+            tree.insert(rt.alloc(), entry)?;
+        }
+    }
+    assert!(rt; leaves(&tree) <= 100);
+    Ok(())
+}
+
 #[test]
 fn all_leaves_stand_at_one_depth(rt: HostRuntime) -> Result<(), Fail> {
     let mut tree = BTree::new(rt.alloc())?;

@@ -49,6 +49,10 @@ fn walks_over_two_partitions_and_their_ghosts(rt: HostRuntime) {
     assert!(rt; index.next_any(0, Key::of_u64(3)) == Some(dead(0, 5, b'g')));
     assert!(rt; index.next_any(0, Key::of_u64(6)) == Some(live(1, 1, b'c')));
     assert!(rt; index.next_any(1, Key::of_u64(6)).is_none());
+
+    assert!(rt; index.next_ghost(0, Key::least()) == Some(dead(0, 5, b'g')));
+    assert!(rt; index.next_ghost(0, Key::of_u64(5)) == Some(dead(0, 5, b'g')));
+    assert!(rt; index.next_ghost(0, Key::of_u64(6)).is_none());
 }
 
 // The entry of partition 1 with the number, each third one a ghost.

@@ -1,5 +1,6 @@
 pub mod Crosses
 pub mod Filling
+pub mod Ghosts
 pub mod Heap
 pub mod Leaves
 pub mod MarkLemmas

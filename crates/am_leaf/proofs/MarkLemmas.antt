@@ -1,10 +1,12 @@
 -- Words of marks, bit by bit.
-use Rattle.std.proofs.Common.{◌≡◌, ℕ, zero, suc, ◌+◌, ◌-◌, ◌*◌, ◌/◌, ◌%◌, ◌^◌, ◌<◌, ◌≤◌, Bool, true, false, eqb, refl, sym, ap, ◌∙◌, subst, arith}
+use Rattle.std.proofs.Common.{◌≡◌, ◌≢◌, ℕ, zero, suc, ◌+◌, ◌-◌, ◌*◌, ◌/◌, ◌%◌, ◌^◌, ◌<◌, ◌≤◌, Bool, true, false, eqb, refl, sym, ap, ◌∙◌, subst, arith}
 use mir.Val.{bool_byte}
 use Rattle.std.proofs.Math.Nat.{pow-suc, pow-succ', div-div-eq-div-mul, div-one, mod-eq_of_lt}
 use Rattle.std.proofs.Math.Arith.{mod-mul}
-use Rattle.std.proofs.lemmas.Bool.{eq-eqb, ne_eqb}
-use Rattle.am_leaf.specs.Marks.{mark, bit, inserted_mark, removed_mark, changed_mark}
+use Rattle.std.proofs.lemmas.Bool.{eq-eqb, ne_eqb, true≢false}
+use Rattle.std.specs.Int.{w64, bit_at, trailing_zeros}
+use Rattle.std.proofs.lemmas.Nat.Bits.{bit_at-trailing_zeros}
+use Rattle.am_leaf.specs.Marks.{mark, IsNextMark, bit, inserted_mark, removed_mark, changed_mark}
 
 pub pow_double : (i : ℕ) → 2 ^ suc i ≡ 2 * 2 ^ i
 pow_double i = pow-succ' 2 i
@@ -69,6 +71,39 @@ pub computed_change : (m i a b : ℕ) (is_marked : Bool) → a ≡ m → b ≡ b
     → a % (1 * 2 ^ i % 2 ^ 64) + 1 * 2 ^ i % 2 ^ 64 * (2 * (a / (1 * 2 ^ i % 2 ^ 64) / 2) + b) ≡ changed_mark m i is_marked
 computed_change m i a b is_marked same byte lt =
     let w = one_at i (omega arith) in (λ j. same j % w j + w j * (2 * (same j / w j / 2) + (byte ∙ byte_is is_marked) j)) ∙ changed_is m i is_marked
+
+-- ---- the next mark
+
+-- the mark at an index from `from` on
+mark_from : (m from n k : ℕ) → n ≡ from + k → mark m n ≡ mark (m / 2 ^ from) k
+mark_from m zero n k is = ap (mark m) {x = n} {y = k} (omega arith) ∙ ap (λ (w : ℕ). mark w k) (sym (div-one m))
+mark_from m (suc from) zero k is = absurd (omega arith)
+mark_from m (suc from) (suc n) k is = mark_from (m / 2) from n k (omega arith) ∙ ap (λ (w : ℕ). mark w k) (sym (shifted m from))
+
+mark_none : (k : ℕ) → mark 0 k ≡ false
+mark_none zero = refl
+mark_none (suc k) = mark_none k
+
+pub no_mark : (m from left : ℕ) → left ≡ m / 2 ^ from → left ≡ 0 → (k : ℕ) → from ≤ k → mark m k ≡ false
+no_mark m from left is none k le = mark_from m from k (k - from) (omega arith) ∙ ap (λ (n : ℕ). mark n (k - from)) (sym is ∙ none) ∙ mark_none (k - from)
+
+pub lowest_mark : (m from left : ℕ) → left ≡ m / 2 ^ from → left ≢ 0 → left < 2 ^ 64 → IsNextMark m from (from + trailing_zeros w64 left)
+lowest_mark m from left is some fits =
+    let lowest = bit_at-trailing_zeros w64 left (omega (arith, some)) fits in
+    let at = trailing_zeros w64 left in
+    record {
+      reached = omega arith;
+      marked = mark_from m from (from + at) at refl ∙ ap (λ (n : ℕ). mark n at) (sym is) ∙ sym (mark_is left at) ∙ eq-eqb _ _ lowest.1;
+      none_before = λ k le lt.
+          let unset : bit_at left (k - from) ≡ 0 = lowest.2 (k - from) (omega arith) in
+          mark_from m from k (k - from) (omega arith) ∙ ap (λ (n : ℕ). mark n (k - from)) (sym is) ∙ sym (mark_is left (k - from)) ∙ ap (λ (b : ℕ). eqb b 1) unset;
+    }
+
+-- a mark stands only where the word is long enough
+pub mark_within : (m n i : ℕ) → m < 2 ^ n → mark m i ≡ true → i < n
+mark_within m zero i lt is = absurd (true≢false (sym is ∙ ap (λ (k : ℕ). mark k i) {x = m} {y = 0} (omega arith) ∙ mark_none i))
+mark_within m (suc n) zero lt is = omega arith
+mark_within m (suc n) (suc i) lt is = let d = pow_double n in let h = mark_within (m / 2) n i (omega arith) is in omega arith
 
 -- ---- how large they are
 

@@ -1,10 +1,16 @@
 -- A word of marks: its lowest bit belongs to the first entry.
-use Rattle.std.specs.Prelude.{ℕ, zero, suc, ◌+◌, ◌*◌, ◌/◌, ◌%◌, Bool, true, false, ◌==◌}
+use Rattle.std.specs.Prelude.{◌≡◌, ℕ, zero, suc, ◌+◌, ◌*◌, ◌/◌, ◌%◌, ◌<◌, ◌≤◌, Bool, true, false, ◌==◌}
 
 -- the mark at the index
 abbrev pub mark : ℕ → ℕ → Bool
 mark m zero = m % 2 == 1
 mark m (suc i) = mark (m / 2) i
+
+-- the index is the first marked one from another one on
+pub record IsNextMark (m from i : ℕ) : Type 0 where
+  pub reached : from ≤ i
+  pub marked : mark m i ≡ true
+  pub none_before : (k : ℕ) → from ≤ k → k < i → mark m k ≡ false
 
 -- a mark as a bit
 abbrev pub bit : Bool → ℕ

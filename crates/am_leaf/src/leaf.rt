@@ -4,13 +4,13 @@ ghost use Rattle.std.specs.Prelude.{◌≡◌, ◌<◌, ◌≤◌, [], length, t
 ghost use Rattle.std.specs.List.{insert, remove};
 ghost use Rattle.am_record.specs.EntryOrder.{place_cmp, place_of};
 ghost use Rattle.am_record.specs.declared.entry.Entry.{Entry};
-ghost use Rattle.am_list.specs.Entries.{IsRising};
+ghost use Rattle.am_list.specs.Entries.{first_such, IsRising};
 ghost use Rattle.am_list.specs.Places.{IsPlaceOf, IsGapFor};
 ghost use Rattle.am_list.specs.Runs.{run_entries};
 ghost use Rattle.am_leaf.specs.Changes.{set_at};
 
 use crate::block::Block;
-use crate::marks::{change_mark, insert_mark, mark_at, remove_mark, split_marks};
+use crate::marks::{change_mark, insert_mark, mark_at, next_mark, remove_mark, split_marks};
 use am_record::{Entry, Key, NoMemory, Value};
 use std::alloc::Global;
 use std::cmp::Ordering;
@@ -80,6 +80,15 @@ impl RawLeaf {
             value: *self.values.get(at),
             is_ghost: mark_at(self.marks, at),
         }
+    }
+
+    /// The first ghost from the index on. The word of marks says where it is, so that no other entry is looked at.
+    pub fn ghost_from(&self, at: usize) -> Option<Entry>
+        requires { at ≤ length self.now }
+        ensures { result ≡ first_such (λ e. e.is_ghost) (drop at self.now) }
+    {
+        let next = next_mark(self.marks, at)?;
+        Some(self.get(next))
     }
 
     // Where the entry at the index stands against a place. Its value is not read.

@@ -1,13 +1,26 @@
 //! A word of marks: the mark of the entry at an index is the bit of that number.
 
-ghost use Rattle.std.specs.Prelude.{◌≡◌, ◌/◌, ◌%◌, ◌^◌, ◌<◌, ◌≤◌};
-ghost use Rattle.am_leaf.specs.Marks.{mark, inserted_mark, removed_mark, changed_mark};
+ghost use Rattle.std.specs.Prelude.{◌≡◌, ℕ, ◌/◌, ◌%◌, ◌^◌, ◌<◌, ◌≤◌, false, IfSome, IfNone};
+ghost use Rattle.am_leaf.specs.Marks.{mark, IsNextMark, inserted_mark, removed_mark, changed_mark};
 
 pub(crate) fn mark_at(marks: u32, at: usize) -> bool
     requires { at < 32 }
     ensures { result ≡ mark marks at }
 {
     (marks >> at) % 2 == 1
+}
+
+/// The first marked index from the one that is given on.
+pub(crate) fn next_mark(marks: u32, from: usize) -> Option<usize>
+    requires { from ≤ 32 }
+    ensures first { IfSome result (λ at. IsNextMark marks from at) }
+    ensures none { IfNone result ((k : ℕ) → from ≤ k → mark marks k ≡ false) }
+{
+    let left = u64::from(marks) >> from;
+    if left == 0 {
+        return None;
+    }
+    Some(from + left.trailing_zeros() as usize)
 }
 
 /// One more mark at the index; those from there on move up.

@@ -69,6 +69,13 @@ fn get(leaf: &RawLeaf, at: usize) -> Option<Entry> {
     Some(leaf.get(at))
 }
 
+fn ghost_from(leaf: &RawLeaf, at: usize) -> Option<Entry> {
+    if at > leaf.len() {
+        return None;
+    }
+    leaf.ghost_from(at)
+}
+
 // Gives the entry at the index the value and mark of another.
 fn set(leaf: &mut RawLeaf, at: usize, like: Entry) {
     if at < leaf.len() {
@@ -121,5 +128,19 @@ fn an_entry_gets_its_value_and_mark(rt: HostRuntime) -> Result<(), Fail> {
     assert!(rt; get(&leaf, 8) == Some(entry(8)));
     assert!(rt; get(&leaf, 11) == Some(entry(11)));
     assert!(rt; leaf.len() == 32);
+    Ok(())
+}
+
+#[test]
+fn finds_the_next_ghost(rt: HostRuntime) -> Result<(), Fail> {
+    let mut leaf = full(rt.alloc())?;
+    for at in 0..leaf.len() {
+        assert!(rt; leaf.ghost_from(at) == Some(entry(at as u64 | 1)));
+    }
+    assert!(rt; leaf.ghost_from(leaf.len()).is_none());
+    set(&mut leaf, 31, entry(0));
+    assert!(rt; ghost_from(&leaf, 29) == Some(entry(29)));
+    assert!(rt; ghost_from(&leaf, 30).is_none());
+    assert!(rt; ghost_from(&leaf, 32).is_none());
     Ok(())
 }

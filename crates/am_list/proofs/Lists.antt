@@ -1,5 +1,5 @@
 -- Lists of entries that are cut at a place: all of xs below it, none of ys.
-use Rattle.std.proofs.Common.{◌≡◌, ◌≢◌, ℕ, ◌<◌, ◌≤◌, Bool, true, false, ◌&&◌, eqb, List, [], ◌∷◌, ◌++◌, Some, None, refl, sym, ap, ◌∙◌, subst, ⊎_elim, arith}
+use Rattle.std.proofs.Common.{◌≡◌, ◌≢◌, ℕ, ◌<◌, ◌≤◌, Bool, true, false, cond, ◌&&◌, eqb, List, [], ◌∷◌, ◌++◌, Some, None, refl, sym, ap, ◌∙◌, subst, ⊎_elim, arith}
 use Rattle.std.proofs.lemmas.Bool.{eq-eqb, ne_eqb, eqb-true, both_ways, cases_Bool, cond-true, cond-false}
 use Rattle.std.specs.declared.cmp.Ordering.{Ordering}
 use Rattle.std.specs.declared.cmp.Ordering.TheVariants.{Less, Equal, Greater}
@@ -8,7 +8,7 @@ use Rattle.std.specs.List.{AllByRecursion, slice_get}
 use Rattle.am_record.specs.OrderedKey.{OrderedKey}
 use Rattle.am_record.specs.declared.entry.Entry.{Entry}
 use Rattle.am_record.specs.EntryOrder.{Place, place_of, place_cmp, place_cmp-part}
-use Rattle.am_list.specs.Entries.{first_such, entry_at, next_any, next_from, after, insert_entry, set_entry, remove_entry, IsRising}
+use Rattle.am_list.specs.Entries.{first_such, entry_at, next_any, next_ghost, next_from, after, insert_entry, set_entry, remove_entry, IsRising}
 use Rattle.am_list.specs.Places.{AllBelow, NoneBelow, AllAbove, NoneAbove, only_of}
 use Rattle.am_list.proofs.Order.{above_from, turned_greater}
 
@@ -50,6 +50,10 @@ pub and_true : (a b : Bool) → a ≡ true → b ≡ true → (a && b) ≡ true
 and_true true b e h = h
 and_true false b e h = e
 
+and_alone : (a b : Bool) → b ≡ true → (a && b) ≡ a
+and_alone true b e = e
+and_alone false b e = refl
+
 first_false : (a b : Bool) → a ≡ false → (a && b) ≡ false
 first_false true b e = absurd (cc)
 first_false false b e = refl
@@ -81,6 +85,9 @@ module _ (part : ℕ) (key : OrderedKey) where
 
   pub next_any-append : (xs ys : List Entry) → AllBelow p xs → next_any (xs ++ ys) part key ≡ next_any ys part key
   next_any-append xs ys b = first_such-append (λ e. is_ge (c e)) xs ys (AllByRecursion-map (λ e. c e ≡ Less) (λ e. is_ge (c e) ≡ false) (λ e h. ap is_ge h) xs b)
+
+  pub next_ghost-append : (xs ys : List Entry) → AllBelow p xs → next_ghost (xs ++ ys) part key ≡ next_ghost ys part key
+  next_ghost-append xs ys b = first_such-append (λ e. e.is_ghost && is_ge (c e)) xs ys (AllByRecursion-map (λ e. c e ≡ Less) (λ e. (e.is_ghost && is_ge (c e)) ≡ false) (λ e h. and_false e.is_ghost (is_ge (c e)) (ap is_ge h)) xs b)
 
   pub next_from-append : (xs ys : List Entry) → AllBelow p xs → next_from (xs ++ ys) part key ≡ next_from ys part key
   next_from-append xs ys b = first_such-append (λ e. eqb e.part part && is_ge (c e)) xs ys (AllByRecursion-map (λ e. c e ≡ Less) (λ e. (eqb e.part part && is_ge (c e)) ≡ false) (λ e h. and_false (eqb e.part part) (is_ge (c e)) (ap is_ge h)) xs b)
@@ -133,6 +140,10 @@ module _ (part : ℕ) (key : OrderedKey) where
   pub next_any_front : (ys : List Entry) → NoneBelow p ys → next_any ys part key ≡ slice_get ys 0
   next_any_front [] n = refl
   next_any_front (y ∷ ys) n = next_any_here y ys n.0
+
+  pub next_ghost_front : (ys : List Entry) → NoneBelow p ys → next_ghost ys part key ≡ first_such (λ e. e.is_ghost) ys
+  next_ghost_front [] n = refl
+  next_ghost_front (y ∷ ys) n = λ i. cond (and_alone y.is_ghost (is_ge (c y)) (not_less (c y) n.0) i) (Some y) (next_ghost_front ys n.1 i)
 
   pub next_from_front : (ys : List Entry) → IsRising ys → NoneBelow p ys → next_from ys part key ≡ only_of part (slice_get ys 0)
   next_from_front [] rising n = refl

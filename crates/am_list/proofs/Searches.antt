@@ -1,6 +1,6 @@
 -- What a binary search by place finds in a rising list.
-use Rattle.std.proofs.Common.{◌≡◌, ◌≢◌, ℕ, zero, suc, ◌+◌, ◌<◌, ◌≤◌, List, [], ◌∷◌, ◌++◌, length, get_or, set, take, drop, Bool, Some, None, Result, Ok, Err, IfOk, IfErr, refl, sym, ap, ◌∙◌, subst, arith}
-use Rattle.std.proofs.lemmas.List.{take-append-drop, set_split, take_more}
+use Rattle.std.proofs.Common.{◌≡◌, ◌≢◌, ℕ, zero, suc, ◌+◌, ◌-◌, ◌<◌, ◌≤◌, List, [], ◌∷◌, ◌++◌, length, get_or, set, take, drop, Bool, Some, None, Result, Ok, Err, IfOk, IfErr, refl, sym, ap, ◌∙◌, subst, arith}
+use Rattle.std.proofs.lemmas.List.{take-append-drop, set_split, take_more, take_all, length-drop}
 use Rattle.std.proofs.Math.Seq.{drop-cons}
 use Rattle.std.specs.List.{insert, remove, slice_get}
 use Rattle.std.specs.Option.{option_map}
@@ -12,10 +12,10 @@ use Rattle.std.specs.List.Sorted.{IsSearchInRange, IsBinarySearchResult, IsNonDe
 use Rattle.am_record.specs.OrderedKey.{OrderedKey}
 use Rattle.am_record.specs.declared.entry.Entry.{Entry}
 use Rattle.am_record.specs.EntryOrder.{Place, place_of, place_cmp}
-use Rattle.am_list.specs.Entries.{entry_at, find, next_any, next_from, after, insert_entry, set_entry, remove_entry, IsRising}
+use Rattle.am_list.specs.Entries.{first_such, entry_at, find, next_any, next_ghost, next_from, after, insert_entry, set_entry, remove_entry, IsRising}
 use Rattle.am_list.specs.Places.{AllBelow, NoneBelow, AllAbove, NoneAbove, IsPlaceOf, IsGapFor, IsLowerBound, IsUpperBound, only_of}
 use Rattle.am_list.proofs.Order.{below_same, ranks_rise}
-use Rattle.am_list.proofs.Lists.{rising_back, rising_above, rising_insert, rising_remove, rising_set, AllByRecursion-map, AllByRecursion-append, AllByRecursion-back, entry_at-append, entry_at_here, entry_at_none, next_any-append, next_any_front, next_from_front, after_front, next_from-append, after-append, set_entry-append, remove_entry-append, insert_entry-append}
+use Rattle.am_list.proofs.Lists.{rising_back, rising_above, rising_insert, rising_remove, rising_set, AllByRecursion-map, AllByRecursion-append, AllByRecursion-back, entry_at-append, entry_at_here, entry_at_none, next_any-append, next_any_front, next_ghost-append, next_ghost_front, next_from_front, after_front, next_from-append, after-append, set_entry-append, remove_entry-append, insert_entry-append}
 
 all_at : {X : Type 0} (P : X → Type 0) (xs : List X) (k : ℕ) (d : X) → AllByRecursion P xs → k < length xs → P (get_or xs k d)
 all_at P [] k d a h = absurd (omega arith)
@@ -88,6 +88,10 @@ searched es rising part key (Err at) in_range parted =
         above = all_drop _ es at (λ k d le lt. sides.1 k d le lt);
       },
     )
+
+-- the slice from an index on
+pub whole_rest : {X : Type 0} (from : ℕ) (xs : List X) → take (length xs - from) (drop from xs) ≡ drop from xs
+whole_rest from xs = take_all (length xs - from) (drop from xs) (omega (arith, length-drop from xs))
 
 pub slice_get-drop : (es : List Entry) (i : ℕ) → slice_get (drop i es) 0 ≡ slice_get es i
 slice_get-drop [] zero = refl
@@ -175,6 +179,10 @@ module _ (es : List Entry) (part : ℕ) (key : OrderedKey) (i : ℕ) where
   pub next_any_at : IsLowerBound es part key i → slice_get es i ≡ next_any es part key
   next_any_at b =
       sym (sym (ap (λ l. next_any l part key) whole) ∙ next_any-append part key (take i es) (drop i es) b.below ∙ next_any_front part key (drop i es) b.others ∙ first_left)
+
+  pub next_ghost_at : IsLowerBound es part key i → first_such (λ e. e.is_ghost) (drop i es) ≡ next_ghost es part key
+  next_ghost_at b =
+      sym (sym (ap (λ l. next_ghost l part key) whole) ∙ next_ghost-append part key (take i es) (drop i es) b.below ∙ next_ghost_front part key (drop i es) b.others)
 
   risen_rest : IsRising es → IsRising (drop i es)
   risen_rest rising = rising_back (take i es) (drop i es) (subst IsRising (sym whole) rising)

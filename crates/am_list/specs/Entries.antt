@@ -49,6 +49,10 @@ all_after es part key = filter (λ e. e.part == part && is_gt (place_cmp (place_
 abbrev pub next_any : List Entry → ℕ → OrderedKey → Option Entry
 next_any es part key = first_such (λ e. is_ge (place_cmp (place_of e) (part, key))) es
 
+-- the first ghost at or above that partition and key
+abbrev pub next_ghost : List Entry → ℕ → OrderedKey → Option Entry
+next_ghost es part key = first_such (λ e. e.is_ghost && is_ge (place_cmp (place_of e) (part, key))) es
+
 -- the list with the entry before the first one that is not below it
 abbrev pub insert_entry : List Entry → Entry → List Entry
 insert_entry [] x = x ∷ []

@@ -126,6 +126,11 @@ impl PartIndex for ListIndex {
         self.get(self.lower_bound(part, key))
     }
 
+    fn next_ghost(&self, part: u32, key: Key) -> Option<Entry> {
+        let from = self.lower_bound(part, key);
+        self.items[from..].iter().copied().find(|e| e.is_ghost)
+    }
+
     fn insert(&mut self, entry: Entry) -> Result<(), NoMemory> {
         let Err(at) = self.search(entry.part, entry.key) else {
             unreachable!()

@@ -3,7 +3,7 @@
 ghost use Rattle.std.specs.Prelude.{◌≡◌, ◌<◌, ◌++◌, List, take, Some, None, IsSome, OnOk, OnErr};
 ghost use Rattle.std.specs.List.{AllByRecursion};
 ghost use Rattle.am_record.specs.declared.entry.Entry.{Entry};
-ghost use Rattle.am_list.specs.Entries.{find, next_any, next_from, after, all_after, entry_at, insert_entry, set_entry, remove_entry, IsRising};
+ghost use Rattle.am_list.specs.Entries.{find, next_any, next_ghost, next_from, after, all_after, entry_at, insert_entry, set_entry, remove_entry, IsRising};
 ghost use Rattle.am_list.specs.Runs.{run_entries};
 
 use crate::Batch;
@@ -40,6 +40,12 @@ pub trait PartIndex {
     /// one of a later partition.
     fn next_any(&self, part: u32, key: Key) -> Option<Entry>
         ensures found { result ≡ next_any (entries self.now) part key }
+        ensures rising { IsRising (entries self.now) };
+
+    /// The first ghost of the whole index at or above the place of a partition and key. It may be
+    /// one of a later partition.
+    fn next_ghost(&self, part: u32, key: Key) -> Option<Entry>
+        ensures found { result ≡ next_ghost (entries self.now) part key }
         ensures rising { IsRising (entries self.now) };
 
     /// Adds an entry. The caller sees to it that no entry has its partition and key.

@@ -67,6 +67,10 @@ impl<I: PartIndex + Drop> PartIndex for Tight<I> {
         self.index.next_any(part, key)
     }
 
+    fn next_ghost(&self, part: u32, key: Key) -> Option<Entry> {
+        self.index.next_ghost(part, key)
+    }
+
     fn insert(&mut self, entry: Entry) -> Result<(), NoMemory>
         requires { find self.old.entries entry.part entry.key ≡ None }
         ensures ok { OnOk result (self.new.entries ≡ insert_entry self.old.entries entry) }

@@ -7,13 +7,17 @@ use Rattle.std.specs.Ordering.{is_eq, is_le}
 use Rattle.std.specs.List.{AllByRecursion}
 use Rattle.am_record.specs.EntryOrder.{Place, place_of, place_cmp}
 use Rattle.am_record.specs.declared.entry.Entry.{Entry}
-use Rattle.am_list.specs.Entries.{Slot, slot_of, first_such, entry_at, find, IsRising}
+use Rattle.am_list.specs.Entries.{first_such, entry_at, IsRising}
 use Rattle.am_list.proofs.Order.{turned_less}
 use Rattle.am_list.proofs.Lists.{AllByRecursion-map, first_such_none}
-use Rattle.am_list.proofs.Edits.{place_cmp-itself, first_such_all, entry_at_place}
+use Rattle.am_list.proofs.Edits.{place_cmp-itself, first_such_all}
 use Rattle.am_list.proofs.Content.{all_found}
-use Rattle.am_parts.proofs.Looks.{entry_of}
-use Rattle.am_merge.specs.Walks.{comes_to}
+use Rattle.am_merge.specs.Walks.{is_from}
+
+-- whether a walk that stands at the first entry still comes to the second one; where it stands at none it has ended
+abbrev pub comes_to : Option Entry → Entry → Bool
+comes_to None e = false
+comes_to (Some x) e = is_from (place_of x) e
 
 -- ---- what holds of each entry
 
@@ -97,13 +101,6 @@ first_is test (e ∷ es) x r there t all =
 -- what is found stands there
 pub first_stands : (test : Entry → Bool) (es : List Entry) (x : Entry) → IsRising es → first_such test es ≡ Some x → entry_at es x.part x.key ≡ Some x
 first_stands test es x r h = first_such_all (λ y. entry_at es y.part y.key ≡ Some y) test es x (all_found es r) h
-
--- an entry whose value and mark stand at its place is the entry there
-pub stands_there : (es : List Entry) (x : Entry) → find es x.part x.key ≡ Some (slot_of x) → entry_at es x.part x.key ≡ Some x
-stands_there es x h =
-    let y = entry_of (entry_at es x.part x.key) (slot_of x) h in
-    let place : place_of y.0 ≡ (x.part, x.key) = entry_at_place es x.part x.key y.0 y.1 in
-    y.1 ∙ (λ i. Some (record { part = ap (λ (a : Place). a.0) place i; key = ap (λ (a : Place). a.1) place i; value = ap (λ (s : Slot). s.0) y.2 i; is_ghost = ap (λ (s : Slot). s.1) y.2 i }))
 
 -- ---- the first of those that pass
 

@@ -1,11 +1,11 @@
 -- How far a merge or a clean step has come.
-use Rattle.std.specs.Prelude.{◌≡◌, ◌⊎◌, ◌≤◌, ℕ, List, Bool, true, ◌&&◌, drop, is_none, Option, Some, IfSome}
+use Rattle.std.specs.Prelude.{◌≡◌, ◌⊎◌, ◌≤◌, ℕ, List, Bool, true, ◌&&◌, drop, is_none}
 use Rattle.std.specs.List.{AllByRecursion}
-use Rattle.am_record.specs.Interval.{Interval, within}
+use Rattle.am_record.specs.Interval.{Interval, key_le, within}
+use Rattle.am_record.specs.EntryOrder.{Place}
 use Rattle.am_record.specs.declared.entry.Entry.{Entry}
-use Rattle.am_list.specs.Entries.{find, slot_of}
 use Rattle.am_effect.specs.Merging.{Holders, most, FirstNeedsPlace}
-use Rattle.am_merge.specs.Walks.{comes_to}
+use Rattle.am_merge.specs.Walks.{is_from}
 
 -- n of the candidates cs are worked off: as many as may be, or fewer where the next one needs a place
 pub record IsAsFar (es : List Entry) (held : Holders) (limit run : ℕ) (cs : List Entry) (n : ℕ) : Type 0 where
@@ -16,7 +16,7 @@ pub record IsAsFar (es : List Entry) (held : Holders) (limit run : ℕ) (cs : Li
 abbrev pub is_cleanable : Holders → Interval → Entry → Bool
 is_cleanable held range e = e.is_ghost && (within range e.key && is_none (held e.key))
 
--- a walk over the range stands at an entry of the list, and has passed over none that is to be cleaned; at none it has ended
-pub record HasPassedNone (es : List Entry) (held : Holders) (range : Interval) (next : Option Entry) : Type 0 where
-  pub stands : IfSome next (λ e. (find es e.part e.key ≡ Some (slot_of e)) × (within range e.key ≡ true))
-  pub ahead : AllByRecursion (λ e. is_cleanable held range e ≡ true → comes_to next e ≡ true) es
+-- a walk over the range has come to the place, and has passed over none that is to be cleaned
+pub record HasPassedNone (es : List Entry) (held : Holders) (range : Interval) (from : Place) : Type 0 where
+  pub in_range : key_le range.lo from.1 ≡ true
+  pub ahead : AllByRecursion (λ e. is_cleanable held range e ≡ true → is_from from e ≡ true) es

@@ -1,17 +1,17 @@
 //! Clean steps.
 
-ghost use Rattle.std.specs.Prelude.{◌≡◌, ◌≤◌, ◌&&◌, is_none};
+ghost use Rattle.std.specs.Prelude.{◌≡◌, ◌≤◌};
 ghost use Rattle.am_list.specs.Content.{content};
-ghost use Rattle.am_list.specs.Entries.{first_such, IsRising};
+ghost use Rattle.am_list.specs.Entries.{first_such};
 ghost use Rattle.am_effect.specs.Merging.{CleanRight, cleaned_by, all_worked_off};
 ghost use Rattle.am_merge.specs.Holding.{holder_of};
 ghost use Rattle.am_merge.specs.Steps.{is_cleanable, HasPassedNone};
 
-use crate::walk::{first_within, is_free, next_within};
+use crate::walk::{first_ghost, is_free, place_after};
 use am_list::PartIndex;
 use am_locks::LockTable;
 use am_parts::Parts;
-use am_record::{Entry, Range, Reply};
+use am_record::{Entry, Key, Range, Reply};
 
 /// Takes away the first ghosts of the range, in any partition, that nobody has exclusively locked,
 /// `limit` at most, and answers Cleaned with their number. The caller has a limit from 1 to 64. The
@@ -30,40 +30,34 @@ pub fn clean_step<I: PartIndex + Drop>(
     ensures runs { parts.new.runs ≡ parts.old.runs }
     ensures content { content parts.new.entries ≡ content parts.old.entries }
 {
-    let mut next = first_within(parts, 0, range);
+    // Asked here, the entries are known to be sound.
+    prove!(parts.runs() <= 65535);
+    let mut from = (0, range.lo());
     for cleaned in 0..limit {
-        let Some(entry) = first_cleanable(parts, locks, range, next) else {
+        let Some(entry) = first_cleanable(parts, locks, range, from) else {
             return Reply::Cleaned(cleaned);
         };
         parts.take(entry.part, entry.key);
-        next = next_within(parts, range, &entry);
+        from = (entry.part, entry.key);
     }
     Reply::Cleaned(limit)
 }
 
-// The first ghost of the range, from `next` on, that nobody has exclusively locked.
+// The first ghost of the range, from the place on, that nobody has exclusively locked.
 fn first_cleanable<I: PartIndex + Drop>(
     parts: &Parts<I>,
     locks: &LockTable,
     range: Range,
-    mut next: Option<Entry>,
+    mut from: (u32, Key),
 ) -> Option<Entry>
-    requires passed { HasPassedNone parts.now.entries (holder_of locks.now) range next }
-    requires rising { IsRising parts.now.entries }
+    requires { HasPassedNone parts.now.entries (holder_of locks.now) range from }
     ensures { result ≡ first_such (is_cleanable (holder_of locks.now) range) parts.now.entries }
 {
-    while let Some(entry) = next {
-        if is_free_ghost(locks, &entry) {
+    while let Some(entry) = first_ghost(parts, range, from) {
+        if is_free(locks, entry.key) {
             return Some(entry);
         }
-        next = next_within(parts, range, &entry);
+        from = place_after(parts, range, &entry)?;
     }
     None
-}
-
-// Whether the entry is a ghost that nobody has exclusively locked.
-fn is_free_ghost(locks: &LockTable, entry: &Entry) -> bool
-    ensures { result ≡ (entry.now.is_ghost && is_none (holder_of locks.now entry.now.key)) }
-{
-    entry.is_ghost && is_free(locks, entry.key)
 }

@@ -1,10 +1,10 @@
 //! Walks over the entries of a range, from partition to partition.
 
-ghost use Rattle.std.specs.Prelude.{◌≡◌, true, Some, None, is_none, if◌then◌else◌};
-ghost use Rattle.am_record.specs.Interval.{within};
+ghost use Rattle.std.specs.Prelude.{◌≡◌, true, Some, None, is_none, IfSome, IfNone, if◌then◌else◌};
+ghost use Rattle.am_record.specs.Interval.{key_le, within};
 ghost use Rattle.am_list.specs.Entries.{first_such};
 ghost use Rattle.am_parts.specs.Partitions.{IsSound};
-ghost use Rattle.am_merge.specs.Walks.{in_parts_from, later_in_part, later};
+ghost use Rattle.am_merge.specs.Walks.{in_parts_from, later_in_part, later, ghost_from, GoesOnAt};
 ghost use Rattle.am_merge.specs.Holding.{holder_of};
 
 use am_list::PartIndex;
@@ -64,18 +64,44 @@ fn only_within(range: Range, entry: Entry) -> Option<Entry>
     range.contains(entry.key).then_some(entry)
 }
 
-/// The next entry of the range, in the entry's partition or a later one.
-pub(crate) fn next_within<I: PartIndex + Drop>(
+/// The first ghost of the range at or above the place.
+pub(crate) fn first_ghost<I: PartIndex + Drop>(
+    parts: &Parts<I>,
+    range: Range,
+    from: (u32, Key),
+) -> Option<Entry>
+    requires { key_le range.lo from.1 ≡ true }
+    ensures first { result ≡ first_such (ghost_from range from) parts.now.entries }
+    ensures sound { IsSound parts.now.entries }
+{
+    let (mut part, mut key) = from;
+    while let Some(entry) = parts.next_ghost(part, key) {
+        if range.contains(entry.key) {
+            return Some(entry);
+        }
+        // Behind a ghost below the range one of the range may stand in its partition, behind one above it none does.
+        key = range.lo();
+        part = if entry.key < key {
+            entry.part
+        } else {
+            entry.part.checked_add(1)?
+        };
+    }
+    None
+}
+
+/// Where a walk over the range goes on after the entry.
+pub(crate) fn place_after<I: PartIndex + Drop>(
     parts: &Parts<I>,
     range: Range,
     entry: &Entry,
-) -> Option<Entry>
+) -> Option<(u32, Key)>
     requires { within range entry.now.key ≡ true }
-    ensures first { result ≡ first_such (later range entry.now) parts.now.entries }
-    ensures sound { IsSound parts.now.entries }
+    ensures next { IfSome result (λ next. GoesOnAt parts.now.entries range entry.now next) }
+    ensures none { IfNone result (first_such (later range entry.now) parts.now.entries ≡ None) }
 {
-    if let Some(next) = next_in_part(parts, range, entry) {
-        return Some(next);
+    if let Some(next) = parts.after(entry.part, entry.key) {
+        return Some((next.part, next.key));
     }
-    first_within(parts, entry.part.checked_add(1)?, range)
+    Some((entry.part.checked_add(1)?, range.lo()))
 }

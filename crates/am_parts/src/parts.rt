@@ -4,7 +4,7 @@ ghost use Rattle.std.specs.Prelude.{◌≡◌, ◌≢◌, ◌+◌, ◌<◌, ◌�
 ghost use Rattle.std.specs.List.{AllByRecursion};
 ghost use Rattle.std.specs.FinMap.{get};
 ghost use Rattle.am_record.specs.Plain.{insert_all, is_rising};
-ghost use Rattle.am_list.specs.Entries.{find, next_any, next_from, after, all_after, entry_at, insert_entry, set_entry, remove_entry};
+ghost use Rattle.am_list.specs.Entries.{find, next_any, next_ghost, next_from, after, all_after, entry_at, insert_entry, set_entry, remove_entry};
 ghost use Rattle.am_list.specs.Runs.{run_entries};
 ghost use Rattle.am_list.specs.Content.{content, live_value, HasContent};
 ghost use Rattle.am_parts.specs.Catalogs.{IsCatalog};
@@ -107,6 +107,15 @@ impl<I: PartIndex + Drop> Parts<I> {
         ensures sound { IsSound self.now.entries }
     {
         self.index.next_any(part, key)
+    }
+
+    /// The first ghost at or above the place of a partition and key. It may be one of a later
+    /// partition.
+    pub fn next_ghost(&self, part: u32, key: Key) -> Option<Entry>
+        ensures found { result ≡ next_ghost self.now.entries part key }
+        ensures sound { IsSound self.now.entries }
+    {
+        self.index.next_ghost(part, key)
     }
 
     /// The partition in which the key is live.

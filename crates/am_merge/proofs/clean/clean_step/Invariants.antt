@@ -6,7 +6,7 @@ use Rattle.am_merge.proofs.clean.clean_step.Given as goal
 
 abbrev pub invariant-loop-cleaned : goal.invariant-loop-cleaned
 invariant-loop-cleaned g l = record {
-  way : IsCleaned l.initial.parts.entries (holder_of l.locks) l.range l.parts.entries l.next l.cleaned;
+  way : IsCleaned l.initial.parts.entries (holder_of l.locks) l.range l.parts.entries l.from l.cleaned;
   sound : IsSound l.initial.parts.entries;
   runs : l.parts.runs ≡ l.initial.parts.runs;
 }

@@ -1,31 +1,31 @@
-use Rattle.std.proofs.Common.{◌<◌, Option, subst, sym}
-use Rattle.am_record.specs.declared.entry.Entry.{Entry}
+use Rattle.std.proofs.Common.{◌∙◌}
 use Rattle.am_merge.specs.Holding.{holder_of}
-use Rattle.am_merge.specs.Steps.{HasPassedNone}
-use Rattle.am_merge.proofs.Cleaning.{walk_ends, walk_finds, walk_goes_on, walk_goes_down, ahead_of}
+use Rattle.am_merge.proofs.Cleaning.{inside, walk_ends, walk_finds, walk_goes_on, walk_stops, walk_goes_down}
 use Rattle.am_merge.proofs.clean.first_cleanable.Goals as goal
 
-pub returns-then-is_free_ghost : goal.returns-then-is_free_ghost
-returns-then-is_free_ghost g c =
-    let es = c.args.parts.now.entries in
-    let held = holder_of c.args.locks.now in
-    walk_finds es held c.args.range c.requires.rising c.in-Some.entry (subst (HasPassedNone es held c.args.range) c.in-Some.is c.loop-next.invariant) c.is_free_ghost.result c.is_free_ghost.ensures c.if-is_free_ghost.true
+pub returns-then-is_free : goal.returns-then-is_free
+returns-then-is_free g c =
+    walk_finds c.args.parts.now.entries (holder_of c.args.locks.now) c.args.range c.first_ghost.ensures.sound.rising c.loop-entry.from c.loop-entry.invariant c.in-Some.entry c.in-Some.ensures.first c.is_free.result c.is_free.ensures c.if-is_free.true
 
-pub loop-next-smaller : goal.loop-next-smaller
-loop-next-smaller g c =
-    let es = c.args.parts.now.entries in
-    let held = holder_of c.args.locks.now in
-    subst (λ (o : Option Entry). ahead_of es c.next_within-next.result < ahead_of es o) (sym c.in-Some.is)
-    (walk_goes_down es held c.args.range c.requires.rising c.in-Some.entry (subst (HasPassedNone es held c.args.range) c.in-Some.is c.loop-next.invariant) c.is_free_ghost.result c.is_free_ghost.ensures c.next_within-next.result c.next_within-next.ensures.first)
+pub place_after-requires : goal.place_after-requires
+place_after-requires g c =
+    inside c.args.parts.now.entries (holder_of c.args.locks.now) c.args.range c.first_ghost.ensures.sound.rising c.loop-entry.from c.loop-entry.invariant c.in-Some.entry c.in-Some.ensures.first
 
-pub loop-next-preserved : goal.loop-next-preserved
-loop-next-preserved g c =
-    let es = c.args.parts.now.entries in
-    let held = holder_of c.args.locks.now in
-    walk_goes_on es held c.args.range c.requires.rising c.in-Some.entry (subst (HasPassedNone es held c.args.range) c.in-Some.is c.loop-next.invariant) c.is_free_ghost.result c.is_free_ghost.ensures c.next_within-next.result c.next_within-next.ensures.first c.if-is_free_ghost.false
+pub returns-in_err-from : goal.returns-in_err-from
+returns-in_err-from g c =
+    c.from_residual.ensures
+    ∙ walk_stops c.args.parts.now.entries (holder_of c.args.locks.now) c.args.range c.first_ghost.ensures.sound.rising c.loop-entry.from c.loop-entry.invariant c.in-Some.entry c.in-Some.ensures.first c.is_free.result c.is_free.ensures c.if-is_free.false
+    c.in_err-from.ensures.none
+
+pub loop-entry-smaller : goal.loop-entry-smaller
+loop-entry-smaller g c =
+    walk_goes_down c.args.parts.now.entries (holder_of c.args.locks.now) c.args.range c.first_ghost.ensures.sound.rising c.loop-entry.from c.loop-entry.invariant c.in-Some.entry c.in-Some.ensures.first c.in_ok-from.from c.in_ok-from.ensures.next
+
+pub loop-entry-preserved : goal.loop-entry-preserved
+loop-entry-preserved g c =
+    walk_goes_on c.args.parts.now.entries (holder_of c.args.locks.now) c.args.range c.first_ghost.ensures.sound.rising c.loop-entry.from c.loop-entry.invariant c.in-Some.entry c.in-Some.ensures.first c.is_free.result c.is_free.ensures c.if-is_free.false
+    c.in_ok-from.from c.in_ok-from.ensures.next
 
 pub returns : goal.returns
 returns g c =
-    let es = c.args.parts.now.entries in
-    let held = holder_of c.args.locks.now in
-    walk_ends es held c.args.range c.requires.rising (subst (HasPassedNone es held c.args.range) c.in_default.is c.loop-next.invariant)
+    walk_ends c.args.parts.now.entries (holder_of c.args.locks.now) c.args.range c.first_ghost.ensures.sound.rising c.loop-entry.from c.loop-entry.invariant c.in_default.ensures.first

@@ -1,12 +1,8 @@
-use Rattle.std.proofs.Common.{◌≡◌, ap, ◌∙◌, ◌++◌, ℕ, ◌-◌, List, length, take, drop, eqb, arith}
-use Rattle.std.proofs.lemmas.List.{take_all, length-drop}
+use Rattle.std.proofs.Common.{ap, ◌∙◌, ◌++◌, ◌-◌, length, take, drop, eqb}
 use Rattle.std.specs.List.{take_while}
 use Rattle.am_list.proofs.Batches.{all_after_at}
+use Rattle.am_list.proofs.Searches.{whole_rest}
 use Rattle.am_list.proofs.list_index.ListIndexPartIndex.read_on.Goals as goal
-
--- the slice from an index on
-whole_rest : {X : Type 0} (from : ℕ) (xs : List X) → take (length xs - from) (drop from xs) ≡ drop from xs
-whole_rest from xs = take_all (length xs - from) (drop from xs) (omega (arith, length-drop from xs))
 
 pub returns-clause-read : goal.returns-clause-read
 returns-clause-read c =
