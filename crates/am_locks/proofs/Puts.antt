@@ -1,7 +1,7 @@
 -- A range put among ranges that rise, in the place of those that it encloses.
 use Rattle.std.proofs.Common.{◌≡◌, ◌⊎◌, inl, inr, ℕ, zero, suc, ◌+◌, ◌-◌, ◌<◌, ◌≤◌, List, [], ◌∷◌, ◌++◌, length, get_or, take, drop, Bool, true, false, ◌||◌, All, refl, sym, ap, ◌∙◌, subst, arith, ⊎_elim}
 use Rattle.std.specs.List.{list_any}
-use Rattle.std.proofs.lemmas.Bool.{cases_lt, and_parts, and_from, true≢false, false≢true, false_from_ne_true}
+use Rattle.std.proofs.lemmas.Bool.{cases_lt, and_parts, and_from, true≢false, false≢true}
 use Rattle.std.proofs.lemmas.List.{length-take, length-drop, length-append, get_or-take, get_or-drop, take-append-drop}
 use Rattle.std.proofs.lemmas.List.Elements.{All-append, All-cons}
 use Rattle.std.proofs.lemmas.List.Folds.{list_any-append, list_any_at, Any-from_list_any}
@@ -107,10 +107,10 @@ module _ (xs : List Interval) (r : Interval) (from upto : ℕ) (rises : Rises xs
       (λ from_on. inr
       (⊎_elim
       (λ less.
-          let parts = and_parts _ _ here in
-          inl
-          (and_from _ _ (key_le_trans r.lo (get_or xs k x).lo low (not_le (get_or xs k x).lo r.lo (begun.1 k x from_on some.2)) parts.0)
-          (key_le_trans high (get_or xs k x).hi r.hi parts.1 (ended.0 k x (omega arith) less))))
+      let parts = and_parts _ _ here in
+      inl
+      (and_from _ _ (key_le_trans r.lo (get_or xs k x).lo low (not_le (get_or xs k x).lo r.lo (begun.1 k x from_on some.2)) parts.0)
+      (key_le_trans high (get_or xs k x).hi r.hi parts.1 (ended.0 k x (omega arith) less))))
       (λ past. inr
       (list_any_at (spans low high) (drop upto xs) (k - upto) x (omega (arith, length-drop upto xs, past, some.2))
       (ap (spans low high) (get_or-drop upto xs (k - upto) x) ∙ ap (λ n. spans low high (get_or xs n x)) (omega (arith, past)) ∙ here)))
@@ -144,3 +144,25 @@ module _ (xs : List Interval) (r : Interval) (from upto : ℕ) (rises : Rises xs
   put_tells low high =
       list_any-append (spans low high) (take from xs) (r ∷ drop upto xs)
       ∙ same (list_any (spans low high) xs) (list_any (spans low high) (take from xs)) (spans low high r) (list_any (spans low high) (drop upto xs)) (stays low high) (in_front low high) (behind low high)
+
+-- what the range makes of the ranges, in the terms of whoever puts it there
+pub record IsPut (xs : List Interval) (r : Interval) (from upto : ℕ) : Type 0 where
+  pub ordered : from ≤ upto
+  pub rises : Rises (take from xs ++ r ∷ drop upto xs)
+  pub few : length (take from xs ++ r ∷ drop upto xs) ≤ length xs + 1
+  pub tells : (low high : OrderedKey) → list_any (spans low high) (take from xs ++ r ∷ drop upto xs) ≡ (list_any (spans low high) xs || spans low high r)
+
+pub put_found : (xs seen again : List Interval) (r : Interval) (low high top : OrderedKey) (from upto : ℕ) → seen ≡ xs → again ≡ xs → low ≡ r.lo → high ≡ r.hi → top ≡ r.hi → Rises xs
+    → list_any (spans low high) seen ≡ false → from ≤ length seen → IsBegun low seen from → upto ≤ length again → IsEnded top again upto → IsPut xs r from upto
+put_found xs seen again r low high top from upto s a l h t rises free begun_fits begun ended_fits ended =
+    let fits = subst (λ ys. from ≤ length ys) s begun_fits in
+    let begins = subst (λ ys. IsBegun r.lo ys from) s (subst (λ k. IsBegun k seen from) l begun) in
+    let all = subst (λ ys. upto ≤ length ys) a ended_fits in
+    let ends = subst (λ ys. IsEnded r.hi ys upto) a (subst (λ k. IsEnded k again upto) t ended) in
+    let none = (λ i. list_any (spans (sym l i) (sym h i)) (sym s i)) ∙ free in
+    record {
+      ordered = put_ordered xs r from upto rises begins fits ends all none;
+      rises = put_rises xs r from upto rises begins fits ends all none;
+      few = put_few xs r from upto rises begins fits ends all none;
+      tells = put_tells xs r from upto rises begins fits ends all none;
+    }

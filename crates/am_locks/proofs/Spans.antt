@@ -1,14 +1,13 @@
 -- Ranges that rise, and which of them span two keys.
-use Rattle.std.proofs.Common.{◌≡◌, ℕ, ◌+◌, ◌-◌, ◌<◌, ◌≤◌, List, [], ◌∷◌, ◌++◌, length, get_or, take, drop, Bool, true, false, ◌&&◌, ◌||◌, All, refl, sym, ap, ◌∙◌, subst, arith, ⊎_elim}
+use Rattle.std.proofs.Common.{◌≡◌, ℕ, ◌-◌, ◌<◌, ◌≤◌, List, length, get_or, Bool, true, false, ◌||◌, refl, sym, ap, ◌∙◌, arith, ⊎_elim}
 use Rattle.std.specs.List.{list_any}
 use Rattle.std.specs.List.Sorted.{IsPartitionedBy, IsPartitionPoint}
-use Rattle.std.proofs.lemmas.Bool.{cases_lt, and_parts, and_from, and_left, and_right, true≢false, false≢true, false_from_ne_true}
-use Rattle.std.proofs.lemmas.List.{length-take, length-drop, length-take-le, get_or-take, get_or-drop, get_or_default, take-append-drop}
-use Rattle.std.proofs.lemmas.List.Folds.{list_any-append, list_any_none, list_any_at, Any-from_list_any}
+use Rattle.std.proofs.lemmas.Bool.{cases_lt, and_parts, and_from, and_left, and_right, true≢false, false_from_ne_true}
+use Rattle.std.proofs.lemmas.List.Folds.{list_any_none, list_any_at, Any-from_list_any}
 use Rattle.am_record.specs.OrderedKey.{OrderedKey}
 use Rattle.am_record.specs.Interval.{Interval, key_le}
-use Rattle.am_record.proofs.KeyOrder.{key_le_trans, key_le_total}
-use Rattle.am_locks.specs.Fronts.{spans, IsBelow, Rises}
+use Rattle.am_record.proofs.KeyOrder.{key_le_trans}
+use Rattle.am_locks.specs.Fronts.{spans, Rises}
 
 abbrev pub begins_by : OrderedKey → Interval → Bool
 begins_by key r = key_le r.lo key

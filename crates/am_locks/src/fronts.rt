@@ -72,7 +72,8 @@ impl Fronts {
     pub(crate) fn reserve(&mut self, count: usize) -> Result<(), AllocError>
         ensures all { self.new.all.ranges.items ≡ self.old.all.ranges.items }
         ensures exclusive { self.new.exclusive.ranges.items ≡ self.old.exclusive.ranges.items }
-        ensures room { OnOk result ((count ≤ vec_capacity self.new.all.ranges) × (count ≤ vec_capacity self.new.exclusive.ranges)) }
+        ensures room { OnOk result ((count ≤ vec_capacity self.new.all.ranges)
+            × (count ≤ vec_capacity self.new.exclusive.ranges)) }
         ensures capacity { (vec_capacity self.old.all.ranges ≤ vec_capacity self.new.all.ranges)
             × (vec_capacity self.old.exclusive.ranges ≤ vec_capacity self.new.exclusive.ranges) }
     {
@@ -86,7 +87,8 @@ impl Fronts {
         requires exclusive { Rises self.old.exclusive.ranges.items }
         requires room_in_all { length self.old.all.ranges.items < vec_capacity self.old.all.ranges }
         requires room_in_exclusive { length self.old.exclusive.ranges.items < vec_capacity self.old.exclusive.ranges }
-        ensures added { (locks : List Lock) → AreFrontsOf locks self.old.all.ranges.items self.old.exclusive.ranges.items
+        ensures added { (locks : List Lock)
+            → AreFrontsOf locks self.old.all.ranges.items self.old.exclusive.ranges.items
             → AreFrontsOf (locks ++ lock.now ∷ []) self.new.all.ranges.items self.new.exclusive.ranges.items }
         ensures capacity { (vec_capacity self.new.all.ranges ≡ vec_capacity self.old.all.ranges)
             × (vec_capacity self.new.exclusive.ranges ≡ vec_capacity self.old.exclusive.ranges) }

@@ -24,7 +24,8 @@ pub const INLINE_LOCKS: usize = 8;
 
 /// A transaction and its locks, the oldest first.
 ///
-/// The first ones are looked at one by one: that is quicker for few locks, and takes no memory. All later ones are searched.
+/// The first ones are looked at one by one: that is quicker for few locks, and takes no memory. The later
+/// ones are searched.
 #[derive(Drop)]
 pub(crate) struct Owner {
     number: u64,
@@ -154,10 +155,7 @@ impl Owner {
 }
 
 // Makes room for one lock more. The first eight need none.
-fn make_room(
-    locks: &mut SmallVec<Lock, INLINE_LOCKS>,
-    later: &mut Fronts,
-) -> Result<(), AllocError>
+fn make_room(locks: &mut SmallVec<Lock, INLINE_LOCKS>, later: &mut Fronts) -> Result<(), AllocError>
     requires { 8 ≤ locks.old.capacity }
     ensures locks { locks.new.items ≡ locks.old.items }
     ensures inline { 8 ≤ locks.new.capacity }
@@ -228,7 +226,5 @@ fn covered_among(locks: &[Lock], asked: &Lock) -> bool
 fn is_exclusive_among(locks: &[Lock], key: Key) -> bool
     ensures { result ≡ list_any (λ l. is_exclusive l.mode && within l.range key) locks.now }
 {
-    locks
-        .iter()
-        .any(|held| held.mode.is_exclusive() && held.range.contains(key))
+    locks.iter().any(|held| held.mode.is_exclusive() && held.range.contains(key))
 }
