@@ -198,12 +198,13 @@ impl Dice {
 
 // A lock of one of four lengths. Those of neighbours overlap.
 fn rolled_lock(rt: &impl Abort, dice: &mut Dice, tx: u64) -> Lock {
-    let lo = tx * 2000 + dice.roll() % 3000;
+    let lo = tx.saturating_mul(2000).saturating_add(dice.roll() % 3000);
     let len = [0, 0, 3, 40][(dice.roll() % 4) as usize];
+    let hi = lo.saturating_add(len);
     if dice.roll() % 4 == 0 {
-        exclusive(rt, lo, lo + len)
+        exclusive(rt, lo, hi)
     } else {
-        shared(rt, lo, lo + len)
+        shared(rt, lo, hi)
     }
 }
 
@@ -218,7 +219,7 @@ fn do_both(
     match dice.roll() % 1000 {
         0 => {
             release(rt, table, tx);
-            assert!(rt; table.owners() < MAX_OWNERS);
+            assert!(rt; table.owners() < MAX_OWNERS && !table.is_owner(tx));
             table.enter(tx);
             plain.cut(alloc, tx, 0)?;
         }
