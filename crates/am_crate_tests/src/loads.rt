@@ -10,6 +10,7 @@ use am_record::{Entry, Key, NoMemory, Refusal, Reply, Value};
 use am_runs::{LoadFault, MAX_RUNS, Run, cut_runs, load};
 use std::alloc::Global;
 use std::process::Abort;
+use std::test::Fail;
 
 fn pair(number: u64, value: u8) -> (Key, Value) {
     (Key::of_u64(number), byte(value))
@@ -110,7 +111,7 @@ fn run_of(rt: &impl Abort, alloc: Global, first: u64, last: u64) -> Run {
 }
 
 #[test]
-fn the_least_live_key_of_all_partitions(rt: HostRuntime) {
+fn the_least_live_key_of_all_partitions(rt: HostRuntime) -> Result<(), Fail> {
     let mut parts = no_entries(rt.alloc());
     make_runs(&mut parts, 7);
     for entry in [
@@ -122,10 +123,10 @@ fn the_least_live_key_of_all_partitions(rt: HostRuntime) {
         dead(7, 30, b'e'),
         live(7, 50, b'e'),
     ] {
-        add(&mut parts, entry).expect(&rt, "memory");
+        add(&mut parts, entry)?;
     }
     for number in 10..30 {
-        add(&mut parts, dead(2, number, b'e')).expect(&rt, "memory");
+        add(&mut parts, dead(2, number, b'e'))?;
     }
     for (first, last, least) in [
         (0, 90, 5),
@@ -146,6 +147,7 @@ fn the_least_live_key_of_all_partitions(rt: HostRuntime) {
             "from {first} to {last}"
         );
     }
+    Ok(())
 }
 
 #[test]
