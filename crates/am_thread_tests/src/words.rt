@@ -38,21 +38,35 @@ fn comes<R: Clock>(rt: &R, flag: &AtomicBool) -> bool {
     false
 }
 
+/// What two threads tell each other: that the one holds the latch, and that it may let go.
+#[derive(Drop)]
+struct Signals {
+    is_held: AtomicBool,
+    may_go: AtomicBool,
+}
+
 // Draws and looks once the latch is held, and then lets its holder go.
 fn draw_and_see<R: Clock>(
     rt: &R,
     words: &Words,
     hand: &mut WordSeat,
-    is_held: &AtomicBool,
-    may_go: &AtomicBool,
+    signals: &Signals,
 ) -> (Option<u64>, u64)
     requires { hand.old.of ≡ words.now }
 {
-    let _ = comes(rt, is_held);
+    let _ = comes(rt, &signals.is_held);
     let drawn = words.draw(hand);
     let seen = words.seen(hand);
-    may_go.store(true, Ordering::SeqCst);
+    signals.may_go.store(true, Ordering::SeqCst);
     (drawn, seen)
+}
+
+// Holds the latch until it may let go. Whether it was told to.
+fn hold<L: Naming, R: Wait + Clock>(rt: &R, latch: &Latch<L>, signals: &Signals) -> bool {
+    latch.look(rt, |_| {
+        signals.is_held.store(true, Ordering::SeqCst);
+        comes(rt, &signals.may_go)
+    })
 }
 
 // Draws and looks while another thread holds the latch. What it drew, what it saw, and whether the latch was held.
@@ -66,19 +80,16 @@ fn beside_the_latch<L: Naming + Send + Sync, R: Threads + Wait + Clock + Sync>(
     requires hand { hand.old.of ≡ words.now }
 {
     let (latch, _seats) = Latch::<L>::open(blank)?;
-    let is_held = AtomicBool::new(false);
-    let may_go = AtomicBool::new(false);
+    let signals = Signals {
+        is_held: AtomicBool::new(false),
+        may_go: AtomicBool::new(false),
+    };
     let (went, (drawn, seen)) = thread::join(
         rt,
-        || {
-            latch.look(rt, |_| {
-                is_held.store(true, Ordering::SeqCst);
-                comes(rt, &may_go)
-            })
-        },
+        || hold(rt, &latch, &signals),
         ||
             requires { hand.now.of ≡ words.now }
-        { draw_and_see(rt, words, hand, &is_held, &may_go) },
+        { draw_and_see(rt, words, hand, &signals) },
     );
     Ok((drawn, seen, went))
 }
