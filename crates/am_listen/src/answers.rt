@@ -1,22 +1,36 @@
 //! A sink that tells how many answers were sent on.
 
-ghost use Rattle.std.specs.Prelude.{◌≡◌};
+ghost use Rattle.std.specs.Prelude.{◌≡◌, ◌==◌, ◌||◌, ◌+◌, ◌^◌, ◌<◌, ◌≤◌, [], length, take, min, count_by, nat_lt, OnOk, OnErr, IfOk};
+ghost use Rattle.am_wire.specs.Giving.{Gave};
 
 use crate::turnstile::Turnstile;
 use am_wire::{Failed, Sink};
 
-/// A sink of a session, each of whose answers lets a worker have a turn.
+/// A sink of a session, each of whose answers lets a worker have a turn once it was sent on.
 #[derive(Drop)]
 pub(crate) struct Answers<'a, K: Sink + Drop> {
     sink: K,
     turnstile: &'a Turnstile,
+    // How many answers were written and not sent on yet.
+    unsent: u64,
+}
+
+// How many answers end in the piece: each is a line.
+fn answers_in(piece: &[u8]) -> u64
+    ensures { result ≡ count_by (λ byte. byte == 10) piece.now }
+{
+    piece.iter().filter(|byte| **byte == b'\n').count() as u64
 }
 
 impl<'a, K: Sink + Drop> Answers<'a, K> {
     pub(crate) fn new(sink: K, turnstile: &'a Turnstile) -> Answers<'a, K>
         ensures { result.sink ≡ sink }
     {
-        Answers { sink, turnstile }
+        Answers {
+            sink,
+            turnstile,
+            unsent: 0,
+        }
     }
 }
 
@@ -27,13 +41,31 @@ impl<'a, K: Sink + Drop> Sink for Answers<'a, K> {
 
     ghost pending = { λ s. K.pending s.sink };
 
-    fn give(&mut self, piece: &[u8]) -> Result<usize, Failed> {
-        self.sink.give(piece)
+    fn give(&mut self, piece: &[u8]) -> Result<usize, Failed>
+        requires countable { K.failures self.old.sink < 2 ^ 63 }
+        ensures fits { IfOk result (λ n. n ≤ length piece.now) }
+        ensures given { IfOk result (λ n. Gave K.holds self.old.sink (take n piece.now) self.new.sink) }
+        ensures some { IfOk result (λ n. 0 < length piece.now → 0 < n) }
+        ensures pending { IfOk result (λ n. K.pending self.new.sink ≡ (K.pending self.old.sink || nat_lt 0 n)) }
+        ensures ok { OnOk result (K.failures self.new.sink ≡ K.failures self.old.sink) }
+        ensures failed { OnErr result (K.failures self.new.sink ≡ K.failures self.old.sink + 1) }
+        ensures kept { OnErr result (Gave K.holds self.old.sink [] self.new.sink) }
+        ensures same { OnErr result (K.pending self.new.sink ≡ K.pending self.old.sink) }
+
+        // Of a piece that is written in part, the answers of that part are counted.
+        ensures counted { IfOk result (λ n. self.new.unsent ≡
+            min 18446744073709551615 (self.old.unsent + count_by (λ byte. byte == 10) (take n piece.now))) }
+        ensures uncounted { OnErr result (self.new.unsent ≡ self.old.unsent) }
+    {
+        let len = self.sink.give(piece)?;
+        self.unsent = self.unsent.saturating_add(answers_in(&piece[..len]));
+        Ok(len)
     }
 
     fn flush(&mut self) -> Result<(), Failed> {
         self.sink.flush()?;
-        self.turnstile.count_answer();
+        self.turnstile.count_answers(self.unsent);
+        self.unsent = 0;
         Ok(())
     }
 }

@@ -28,11 +28,16 @@ impl Turnstile {
         }
     }
 
-    /// A line was answered.
-    pub fn count_answer(&self) {
-        self.answered.fetch_add(1, Ordering::SeqCst);
-        if self.sleeping.load(Ordering::SeqCst) > 0 {
-            self.answered.wake_one();
+    /// So many lines were answered.
+    pub fn count_answers(&self, lines: u64) {
+        self.answered.fetch_add(lines, Ordering::SeqCst);
+        if self.sleeping.load(Ordering::SeqCst) == 0 {
+            return;
+        }
+        match lines {
+            0 => {}
+            1 => self.answered.wake_one(),
+            _ => self.answered.wake_all(),
         }
     }
 

@@ -1,11 +1,11 @@
 -- From a pause, with what was active aborted, to the end.
-use Rattle.std.proofs.Common.{◌≡◌, ◌⊎◌, inl, inr, ℕ, List, ◌++◌, refl, take, Option}
+use Rattle.std.proofs.Common.{inl, inr, ℕ, List, ◌++◌, refl, take, Option}
 use Rattle.am_record.specs.declared.step.Step.{Step}
 use Rattle.am_record.specs.declared.step.Reply.{Reply}
 use Rattle.am_serial.specs.Trace.{Trace}
 use Rattle.am_wire.specs.Giving.{Gave}
 use Rattle.am_talk.specs.Responses.{bye}
-use Rattle.am_session.specs.Talk.{texts, Leaves, Converses, AnswersAll}
+use Rattle.am_session.specs.Talk.{texts, Converses, AnswersAll}
 use Rattle.am_talk.specs.Dialogue.{Exchange}
 use Rattle.am_session.specs.Pauses.{AtQuit, AtEnd, AtReadFailure, AtWriteFailure, Left}
 use Rattle.am_session.specs.Served.{Served}

@@ -1,17 +1,11 @@
 -- What was heard of a line, and how it was answered.
-use Rattle.std.proofs.Common.{◌≡◌, ◌⊎◌, inl, inr, ℕ, List, Bool, true, false, Option, Some, None, Result, Ok, Err, refl, sym, ap, ◌∙◌, subst, ⊎_elim}
-use Rattle.am_record.specs.declared.step.Op.TheVariants.{Load}
+use Rattle.std.proofs.Common.{◌≡◌, ℕ, Option, Some, None, sym, ap, ◌∙◌, subst, ⊎_elim}
 use Rattle.am_record.specs.declared.step.Step.{Step}
 use Rattle.am_record.specs.declared.step.Reply.{Reply}
 use Rattle.am_serial.specs.Trace.{Trace}
-use Rattle.am_wire.specs.Reading.{reading, MayRead}
-use Rattle.am_wire.specs.declared.request.Request.{Request}
-use Rattle.am_wire.specs.declared.request.Request.TheVariants.{Do}
-use Rattle.am_wire.specs.declared.request.LineFault.{LineFault}
-use Rattle.am_wire.specs.declared.request.LineFault.TheVariants.{NoMemory}
+use Rattle.am_wire.specs.Reading.{reading}
 use Rattle.am_talk.specs.Heard.{Line, told, heard, MayHear, is_quit}
 use Rattle.am_talk.specs.Dues.{due}
-use Rattle.am_talk.specs.Dialogue.{Exchange}
 use Rattle.am_talk.specs.declared.lines.Heard.{Heard}
 use Rattle.am_talk.specs.declared.response.Response.{Response}
 use Rattle.am_session.specs.Talk.{AnswersDue, AnswersLine}

@@ -1,9 +1,8 @@
 -- A store with one session: its transaction stays open until it is ended.
-use Rattle.std.proofs.Common.{◌≡◌, ◌⊎◌, inl, inr, ℕ, ◌==◌, List, [], ◌∷◌, ◌++◌, Bool, true, false, cond, map, ◌||◌, Option, Some, None, refl, sym, ap, ◌∙◌, subst, ⊎_elim}
+use Rattle.std.proofs.Common.{◌≡◌, ◌⊎◌, inl, inr, ℕ, ◌==◌, List, [], ◌∷◌, ◌++◌, Bool, true, false, cond, map, ◌||◌, Option, Some, None, refl, sym, ap, ◌∙◌, subst}
 use Rattle.std.specs.Prelude.{MatchOption, MatchBool, if◌then◌else◌}
-use Rattle.std.specs.List.{list_any}
 use Rattle.std.specs.FinMap.{get, contains_key}
-use Rattle.std.proofs.lemmas.Bool.{cases_Bool, or_left, or_right, true≢false, false≢true, eq-eqb}
+use Rattle.std.proofs.lemmas.Bool.{or_left, or_right, true≢false, eq-eqb}
 use Rattle.std.proofs.lemmas.List.Folds.{list_any-append}
 use Rattle.am_record.specs.OrderedKey.{OrderedKey}
 use Rattle.am_record.specs.Interval.{Interval}
@@ -21,7 +20,7 @@ use Rattle.am_list.specs.Content.{content}
 use Rattle.am_undo.specs.declared.note.Note.{Note}
 use Rattle.am_undo.specs.Marks.{has_mark}
 use Rattle.am_follow.specs.At.{told}
-use Rattle.am_effect.specs.Merging.{Holders, candidates, MovesRight, AnswersFirst, AnswersCandidates, MergeRight, CleanRight}
+use Rattle.am_effect.specs.Merging.{Holders, candidates, AnswersFirst, AnswersCandidates, MergeRight}
 use Rattle.am_effect.specs.Store.{WithinLimit}
 use Rattle.am_serial.specs.Machine.{is_limit}
 use Rattle.am_steps.specs.Parts.{Active, Parts, is_in, in_table, newcomer, due_in, takes_memory, MaySay, did, after_do, after}

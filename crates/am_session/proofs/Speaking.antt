@@ -1,10 +1,9 @@
 -- From a session with the store as its backend to its dialogue, whose events are a sound trace.
-use Rattle.std.proofs.Common.{◌≡◌, ◌⊎◌, inl, inr, ℕ, ◌+◌, ◌==◌, List, [], ◌∷◌, ◌++◌, append_assoc, append-nil, Bool, true, false, Option, Some, None, All, refl, sym, ap, ◌∙◌, subst}
+use Rattle.std.proofs.Common.{◌≡◌, inl, inr, ℕ, ◌==◌, List, [], ◌∷◌, ◌++◌, append_assoc, append-nil, Bool, true, false, Option, Some, None, All, refl, sym, ap, ◌∙◌, subst}
 use Rattle.std.specs.Prelude.{MatchBool}
 use Rattle.am_record.specs.declared.step.Step.{Step}
 use Rattle.am_record.specs.declared.step.Step.TheVariants as step
 use Rattle.am_record.specs.declared.step.Reply.{Reply}
-use Rattle.am_record.specs.declared.step.Reply.TheVariants as reply
 use Rattle.am_serial.specs.Legal.{IsLegal}
 use Rattle.am_serial.specs.Trace.{Trace}
 use Rattle.am_serial.specs.Sound.{IsSound}
@@ -14,7 +13,6 @@ use Rattle.am_wire.specs.Replies.{IsOneLine}
 use Rattle.am_talk.specs.Responses.{response_text}
 use Rattle.am_steps.specs.Parts.{Parts, empty_parts}
 use Rattle.am_steps.specs.At.{At}
-use Rattle.am_talk.specs.Heard.{Line, MayHear}
 use Rattle.am_talk.specs.Dues.{due, active_after}
 use Rattle.am_talk.specs.Dialogue as dialogue
 use Rattle.am_talk.specs.Dialogue.{Exchange, Standing, Ends, Whole, TornAt, AnsweredBy, Merges, Dialogue, commits_after}
@@ -23,7 +21,7 @@ use Rattle.am_talk.specs.declared.due.Due.{Due}
 use Rattle.am_talk.specs.declared.due.Due.TheVariants.{Answer, Take, TellSeen}
 use Rattle.am_talk.specs.declared.response.Response.{Response}
 use Rattle.am_talk.specs.declared.response.Response.TheVariants.{Seen}
-use Rattle.am_session.specs.Talk.{AnswersDue, AnswersLine, MergesAfter, Converses, Leaves, AnswersAll, AnswersOneMore}
+use Rattle.am_session.specs.Talk.{AnswersDue, AnswersLine, Converses, Leaves, AnswersAll, AnswersOneMore}
 use Rattle.am_session.specs.Served.{EndsBy}
 use Rattle.am_session.specs.Solo.{Solo, active_in, SoloGoes, SoloTells, IsSpoken}
 use Rattle.am_session.specs.declared.end.End.{End}

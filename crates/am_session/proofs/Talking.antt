@@ -1,5 +1,5 @@
 -- A session so far, and at each of its pauses.
-use Rattle.std.proofs.Common.{◌≡◌, ◌⊎◌, ℕ, List, [], ◌∷◌, ◌++◌, append_assoc, append-nil, ap, sym, ◌∙◌, refl, take, length, true, false, Bool, not, Option, Some, None, cond, inl, inr, subst, arith, ◌+◌}
+use Rattle.std.proofs.Common.{◌≡◌, ◌⊎◌, ℕ, List, [], ◌∷◌, ◌++◌, append_assoc, append-nil, ap, sym, ◌∙◌, refl, take, true, false, Bool, not, Option, cond, inl, inr, subst}
 use Rattle.std.proofs.lemmas.List.{map-append}
 use Rattle.am_record.specs.declared.step.Step.{Step}
 use Rattle.am_record.specs.declared.step.Reply.{Reply}
@@ -7,7 +7,7 @@ use Rattle.am_serial.specs.Trace.{Trace}
 use Rattle.am_wire.specs.Lines.{lines_of, TookLine, TookPart}
 use Rattle.am_wire.specs.Taking.{Took, TookAhead, IsAtEnd}
 use Rattle.am_wire.specs.Giving.{Gave}
-use Rattle.am_talk.specs.Heard.{Line, heard, MayHear, is_quit, before_quit, quits}
+use Rattle.am_talk.specs.Heard.{Line, heard, is_quit, before_quit, quits}
 use Rattle.am_talk.specs.Responses.{response_text}
 use Rattle.am_talk.specs.Dialogue.{Exchange}
 use Rattle.am_session.specs.Talk.{asked, texts, AnswersLine, MergesAfter, Converses}

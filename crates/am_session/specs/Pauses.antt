@@ -90,7 +90,8 @@ abbrev pub writes_failed : Pause → ℕ
 writes_failed WriteFailed = 1
 writes_failed _ = 0
 
--- whether all that was written was sent on
+-- whether all that was written was sent on; at QUIT it goes out with BYE
 abbrev pub IsSentBy : Pause → Type 0 → Type 0
+IsSentBy Quit sent = Unit {0}
 IsSentBy WriteFailed sent = Unit {0}
 IsSentBy pause sent = sent

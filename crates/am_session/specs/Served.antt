@@ -67,7 +67,7 @@ module _ (took gave : List ℕ → Type 0) (nothing_comes : Type 0) (answers : L
     pub gives : gave (texts exchanges)
     pub does : answers exchanges events
 
-  -- the answer to the last line that was read was torn, or couldn't be sent on; all others are whole
+  -- the answer to the last line that was read was torn, or couldn't be sent on; all others were given whole
   pub record AnswerTorn : Type 0 where
     pub read : List ℕ
     pub waiting : List ℕ

@@ -2,7 +2,7 @@
 
 ghost use Rattle.std.specs.Prelude.{◌≡◌, ℕ, ◌+◌, ◌^◌, ◌<◌, ◌≤◌, [], take, false, Option, Some, None, OnOk, OnErr, IfOk, IfSome, IfNone};
 ghost use Rattle.am_wire.specs.Giving.{Gave};
-ghost use Rattle.am_wire.specs.Lines.{TookLine, TookPart};
+ghost use Rattle.am_wire.specs.Lines.{has_lf, TookLine, TookPart};
 ghost use Rattle.am_wire.specs.Seen.{seen};
 ghost use Rattle.am_wire.specs.Taking.{TookAhead, IsAtEnd};
 ghost use Rattle.am_talk.specs.Responses.{response_text};
@@ -26,7 +26,7 @@ pub(crate) fn active_behind(active: Option<u64>, reply: &Reply) -> Option<u64>
     }
 }
 
-/// Reads the next line. What was answered is sent on before more is asked of the source.
+/// Takes the next line. The source is asked only where no whole line is at hand, and then nothing is unsent.
 pub(crate) fn next_line<W: Wait, K: Sink, S: AnsweredSource<K>>(
     rt: &W,
     input: &mut Input,
@@ -35,7 +35,7 @@ pub(crate) fn next_line<W: Wait, K: Sink, S: AnsweredSource<K>>(
     line: &mut LineBuffer,
 ) -> Result<Option<FoundLine>, Failed>
     requires countable { S.failures source.old < 2 ^ 63 }
-    requires sent { K.pending sink.now ≡ false }
+    requires sent { has_lf input.old ≡ false → K.pending sink.now ≡ false }
     ensures line { IfOk result (λ found. IfSome found (λ f.
         TookLine S.comes input.old source.old (seen f.kind line.new) f.is_ended input.new source.new)) }
     ensures end { IfOk result (λ found. IfNone found
@@ -44,7 +44,12 @@ pub(crate) fn next_line<W: Wait, K: Sink, S: AnsweredSource<K>>(
     ensures failed { OnErr result (S.failures source.new ≡ S.failures source.old + 1) }
     ensures part { OnErr result (TookPart S.comes input.old source.old input.new source.new) }
     ensures empty { OnErr result (input.new ≡ []) }
+    ensures sent_at_end { IfOk result (λ found. IfNone found (K.pending sink.now ≡ false)) }
+    ensures sent_at_failure { OnErr result (K.pending sink.now ≡ false) }
 {
+    if let Some(found) = input.take_line(line) {
+        return Ok(Some(found));
+    }
     read_line(rt, input, source, sink, line)
 }
 
@@ -73,22 +78,27 @@ fn respond<W: Wait, B: Backend>(
     }
 }
 
-// Writes a response, and sends it on.
-fn send<K: Sink>(sink: &mut K, response: &Response) -> Result<(), Failed>
+// Writes a response, and sends on what was written, unless a whole line is at hand.
+fn send<K: Sink>(sink: &mut K, input: &Input, response: &Response) -> Result<(), Failed>
     requires countable { K.failures sink.old < 2 ^ 63 }
     ensures given { OnOk result (Gave K.holds sink.old (response_text response.now) sink.new) }
-    ensures sent { OnOk result (K.pending sink.new ≡ false) }
+    ensures sent { OnOk result (has_lf input.now ≡ false → K.pending sink.new ≡ false) }
     ensures ok { OnOk result (K.failures sink.new ≡ K.failures sink.old) }
     ensures failed { OnErr result (K.failures sink.new ≡ K.failures sink.old + 1) }
     ensures torn { OnErr result ((n : ℕ) × Gave K.holds sink.old (take n (response_text response.now)) sink.new) }
 {
     put_response(response, sink)?;
+    if input.has_line() {
+        return Ok(());
+    }
     sink.flush()
 }
 
-/// Answers a line, and sends the answer on.
+/// Answers a line, and sends the answers on, unless a whole line is at hand: answers to lines that came together go
+/// out together.
 pub(crate) fn answer<W: Wait, K: Sink, B: Backend>(
     rt: &W,
+    input: &Input,
     sink: &mut K,
     backend: &mut B,
     active: &mut Option<u64>,
@@ -98,13 +108,13 @@ pub(crate) fn answer<W: Wait, K: Sink, B: Backend>(
     requires active { B.active backend.old ≡ active.old }
     ensures active { B.active backend.new ≡ active.new }
     ensures answered { OnOk result (Answered K.holds B.active B.goes B.tells sink.old backend.old (due active.old heard) sink.new backend.new) }
-    ensures sent { OnOk result (K.pending sink.new ≡ false) }
+    ensures sent { OnOk result (has_lf input.now ≡ false → K.pending sink.new ≡ false) }
     ensures ok { OnOk result (K.failures sink.new ≡ K.failures sink.old) }
     ensures failed { OnErr result (K.failures sink.new ≡ K.failures sink.old + 1) }
     ensures torn { OnErr result (Torn K.holds B.active B.goes B.tells sink.old backend.old (due active.old heard) sink.new backend.new) }
 {
     let response = respond(rt, backend, active, heard);
-    send(sink, &response)
+    send(sink, input, &response)
 }
 
 /// Merges once, unless `auto` is 0.

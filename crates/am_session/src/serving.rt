@@ -72,7 +72,7 @@ fn talk<W: Wait, K: Sink, S: AnsweredSource<K>, B: Backend>(
         if heard.is_quit() {
             return Pause::Quit;
         }
-        let Ok(()) = answer(rt, sink, backend, active, heard) else {
+        let Ok(()) = answer(rt, input, sink, backend, active, heard) else {
             return Pause::WriteFailed;
         };
         merge(rt, backend, active, auto);

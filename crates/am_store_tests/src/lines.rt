@@ -215,10 +215,11 @@ fn a_failing_source_ends_the_session(rt: HostRuntime) -> Result<(), NoMemory> {
 fn breaks_off<R: Wait + Abort>(
     rt: &R,
     alloc: Global,
+    sizes: &[usize],
     failing: Failing,
     expected_end: End,
 ) -> Result<(), NoMemory> {
-    let (text, end) = talk(rt, alloc, FIRST_INPUT, &[], failing, 0)?;
+    let (text, end) = talk(rt, alloc, FIRST_INPUT, sizes, failing, 0)?;
     assert_eq!(rt; end, expected_end);
     assert!(rt; FIRST_OUTPUT.starts_with(text.as_slice()), "{text:?}");
     Ok(())
@@ -228,16 +229,24 @@ fn breaks_off<R: Wait + Abort>(
 fn each_read_failing_leaves_a_beginning(rt: HostRuntime) -> Result<(), NoMemory> {
     let bytes = FIRST_INPUT.len() as u64;
     for call in 1..=bytes {
-        breaks_off(&rt, rt.alloc(), Failing::Read(call), End::ReadFailed)?;
+        breaks_off(&rt, rt.alloc(), &[], Failing::Read(call), End::ReadFailed)?;
     }
     Ok(())
 }
 
 #[test]
 fn each_write_failing_leaves_a_beginning(rt: HostRuntime) -> Result<(), NoMemory> {
-    // Each of the five answers is given and sent on.
-    for call in 1..=10 {
-        breaks_off(&rt, rt.alloc(), Failing::Write(call), End::WriteFailed)?;
+    // Byte by byte each of the five answers is given and sent on; all at once they are given, and sent on together.
+    for (sizes, calls) in [([].as_slice(), 10), (&[FIRST_INPUT.len()], 6)] {
+        for call in 1..=calls {
+            breaks_off(
+                &rt,
+                rt.alloc(),
+                sizes,
+                Failing::Write(call),
+                End::WriteFailed,
+            )?;
+        }
     }
     Ok(())
 }

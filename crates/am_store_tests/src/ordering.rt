@@ -1,7 +1,9 @@
 //! A sink that notes the calls to it.
 
-use am_session::{End, serve_alone};
+use am_session::serve_alone;
 use am_wire::{Failed, PieceSource, Sink, StopSink};
+use std::alloc::Global;
+use std::sync::Wait;
 use std::test::Fail;
 
 /// A sink over memory, and its calls in order: g for `give`, f for `flush`.
@@ -31,16 +33,53 @@ impl Sink for Noted {
     }
 }
 
-// Catches an answer that is not sent on before the next line is read, and a flush before its answer.
-#[test]
-fn each_answer_is_given_and_then_sent_on(rt: HostRuntime) -> Result<(), Fail> {
-    let mut source = PieceSource::new(b"BEGIN\nCOMMIT\n", &[], 0);
+// What a session calls its sink for, where the input comes in pieces of these sizes, and the text that it writes.
+fn calls<R: Wait>(rt: &R, alloc: Global, input: &[u8], sizes: &[usize]) -> (Vec<u8>, Vec<u8>) {
+    let mut source = PieceSource::new(input, sizes, 0);
     let mut sink = Noted {
-        sink: StopSink::new(rt.alloc(), 0),
-        calls: Vec::new(rt.alloc()),
+        sink: StopSink::new(alloc, 0),
+        calls: Vec::new(alloc),
     };
-    let end = serve_alone(&rt, rt.alloc(), &mut source, &mut sink, 0);
-    assert!(rt; end == End::EndOfInput);
-    assert_eq!(rt; sink.calls.as_slice(), b"gfgf".as_slice());
+    let _end = serve_alone(rt, alloc, &mut source, &mut sink, 16);
+    (sink.calls, sink.sink.into_bytes())
+}
+
+// Catches an answer that is not sent on before more is asked of the source, and a flush before its answer.
+#[test]
+fn answers_are_sent_on_where_no_whole_line_is_at_hand(rt: HostRuntime) -> Result<(), Fail> {
+    for (input, sizes, expected) in [
+        // byte by byte
+        (
+            b"BEGIN\nCOMMIT\n".as_slice(),
+            [].as_slice(),
+            b"gfgf".as_slice(),
+        ),
+        // both lines at once
+        (b"BEGIN\nCOMMIT\n", &[13], b"ggf"),
+        // two lines and a half, and the rest
+        (b"BEGIN\nGET 5\nCOMMIT\n", &[15, 4], b"ggfgf"),
+        // a last line that no LF ends
+        (b"BEGIN\nCOMMIT", &[12], b"gfgf"),
+        // with QUIT
+        (b"BEGIN\nQUIT\n", &[11], b"ggf"),
+    ] {
+        let (noted, _text) = calls(&rt, rt.alloc(), input, sizes);
+        assert_eq!(rt; noted.as_slice(), expected);
+    }
+    Ok(())
+}
+
+#[test]
+fn a_thousand_lines_in_one_write(rt: HostRuntime) -> Result<(), Fail> {
+    let input = vec![in rt.alloc(); b'\n'; 1000].expect(&rt, "room for the lines");
+    let (noted, text) = calls(&rt, rt.alloc(), input.as_slice(), &[1000]);
+    assert_eq!(rt; noted.len(), 1001);
+    assert!(rt; noted.as_slice().ends_with(b"gf"));
+    assert_eq!(rt; text.len(), 11_000);
+    assert!(rt;
+        text.as_slice()
+            .chunks(11)
+            .all(|line| line == b"ERR SYNTAX\n".as_slice())
+    );
     Ok(())
 }

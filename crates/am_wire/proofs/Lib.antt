@@ -1,5 +1,6 @@
 pub mod Streams
 pub mod Cutting
+pub mod LineEnds
 pub mod ReadLines
 pub mod Texts
 pub mod Spaces

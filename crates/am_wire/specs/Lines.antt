@@ -1,5 +1,5 @@
 -- Bytes, cut into lines.
-use Rattle.std.specs.Prelude.{◌≡◌, ◌≢◌, ℕ, List, [], ◌∷◌, ◌++◌, length, map, Bool, ◌==◌, nat_lt, Option, Some, None, MatchBool, cond}
+use Rattle.std.specs.Prelude.{◌≡◌, ◌≢◌, ℕ, List, [], ◌∷◌, ◌++◌, length, map, Bool, true, false, ◌==◌, nat_lt, Option, Some, None, MatchBool, cond}
 use Rattle.am_wire.specs.Taking.{TookAhead, IsAtEnd}
 
 -- a byte goes onto the front of the first line
@@ -30,6 +30,16 @@ lines_of bytes = map line_of (pieces_of bytes)
 abbrev pub HasNoLf : List ℕ → Type 0
 HasNoLf [] = Unit {0}
 HasNoLf (c ∷ bytes) = (c ≢ 10) × HasNoLf bytes
+
+-- whether one does
+abbrev pub has_lf : List ℕ → Bool
+has_lf [] = false
+has_lf (c ∷ bytes) = cond (c == 10) true (has_lf bytes)
+
+-- The bytes begin with a whole line, its LF with it, and these stand behind it.
+abbrev pub CutsLine : List ℕ → Option (List ℕ) → List ℕ → Type 0
+CutsLine bytes line rest = (taken : List ℕ) × (bytes ≡ taken ++ rest)
+    × ((more : List ℕ) → lines_of (taken ++ more) ≡ line ∷ lines_of more)
 
 -- One line was taken, ended by its LF, or else by the end of the input.
 abbrev pub TookLine : {S : Type 0} → (S → List ℕ → Type 0) → List ℕ → S → Option (List ℕ) → Bool → List ℕ → S → Type 0

@@ -1,8 +1,8 @@
 //! Lines of a source.
 
-ghost use Rattle.std.specs.Prelude.{◌≡◌, ℕ, ◌+◌, ◌-◌, ◌^◌, ◌<◌, ◌≤◌, List, [], ◌++◌, take, false, drop, OnOk, OnErr, IfOk, IfSome, IfNone, vec_len, option_to_list};
+ghost use Rattle.std.specs.Prelude.{◌≡◌, ℕ, ◌+◌, ◌-◌, ◌^◌, ◌<◌, ◌≤◌, List, [], ◌∷◌, ◌++◌, length, take, true, false, drop, is_some, OnOk, OnErr, IfOk, IfSome, IfNone, vec_len, option_to_list};
 ghost use Rattle.am_wire.specs.Taking.{TookAhead, IsAtEnd};
-ghost use Rattle.am_wire.specs.Lines.{TookLine, TookPart};
+ghost use Rattle.am_wire.specs.Lines.{HasNoLf, has_lf, CutsLine, TookLine, TookPart};
 ghost use Rattle.am_wire.specs.Seen.{seen};
 
 use crate::answered::AnsweredSource;
@@ -55,6 +55,16 @@ fn fill<K: Sink, S: AnsweredSource<K>>(
     source.take_answered(buffer.as_mut_slice(), sink)
 }
 
+// The first line of these bytes, without its LF, where a whole one is there.
+fn first_line(bytes: &[u8]) -> Option<&[u8]>
+    ensures line { IfSome result (λ l. bytes.now ≡ l.now ++ 10 ∷ drop (length l.now + 1) bytes.now) }
+    ensures one { IfSome result (λ l. HasNoLf l.now) }
+    ensures exact { is_some result ≡ has_lf bytes.now }
+{
+    let end = bytes.iter().position(|byte| *byte == b'\n')?;
+    Some(&bytes[..end])
+}
+
 impl Input {
     /// An input in which no byte waits. It gets all the memory that it will ever use.
     pub fn new(alloc: Global) -> Result<Self, NoMemory>
@@ -64,6 +74,37 @@ impl Input {
             buffer: vec![in alloc; 0; PIECE_LEN]?,
             start: 0,
             end: 0,
+        })
+    }
+
+    // The bytes that wait.
+    fn waiting(&self) -> &[u8]
+        ensures bytes { result.now ≡ self.now }
+        ensures most { length result.now ≤ 4096 }
+    {
+        &self.buffer[self.start..self.end]
+    }
+
+    /// Whether a whole line waits, its LF with it.
+    pub fn has_line(&self) -> bool
+        ensures { result ≡ has_lf self.now }
+    {
+        first_line(self.waiting()).is_some()
+    }
+
+    /// Takes the next line, where a whole one waits, and asks no source. Its bytes stand in `line`.
+    pub fn take_line(&mut self, line: &mut LineBuffer) -> Option<FoundLine>
+        ensures line { IfSome result (λ f. CutsLine self.old (seen f.kind line.new) self.new) }
+        ensures ended { IfSome result (λ f. f.is_ended ≡ true) }
+        ensures none { IfNone result (has_lf self.old ≡ false) }
+        ensures same { IfNone result (self.new ≡ self.old) }
+    {
+        let found = first_line(self.waiting())?;
+        line.set(found);
+        self.start += found.len() + 1;
+        Some(FoundLine {
+            kind: line.finish(),
+            is_ended: true,
         })
     }
 

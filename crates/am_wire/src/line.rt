@@ -31,6 +31,15 @@ impl Model for LineBuffer {
     ghost invariant = { λ b. (vec_len b.room ≡ 4097) × (b.len ≤ 4097) };
 }
 
+// Writes bytes over the front of the room.
+fn write_front(room: &mut [u8], bytes: &[u8])
+    requires { length bytes.now ≤ length room.old }
+    ensures len { length room.new ≡ length room.old }
+    ensures front { take (length bytes.now) room.new ≡ bytes.now }
+{
+    room[..bytes.len()].copy_from_slice(bytes);
+}
+
 impl LineBuffer {
     /// A buffer with no byte in it. It gets all the memory that it will ever use.
     pub fn new(alloc: Global) -> Result<Self, NoMemory>
@@ -66,6 +75,15 @@ impl LineBuffer {
         ensures { self.new ≡ [] }
     {
         self.len = 0;
+    }
+
+    /// Takes these bytes in place of its own.
+    pub(crate) fn set(&mut self, bytes: &[u8])
+        requires { length bytes.now ≤ 4097 }
+        ensures { self.new ≡ bytes.now }
+    {
+        write_front(self.room.as_mut_slice(), bytes);
+        self.len = bytes.len();
     }
 
     fn push(&mut self, byte: u8)

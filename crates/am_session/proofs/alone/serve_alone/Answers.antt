@@ -1,8 +1,7 @@
-use Rattle.std.proofs.Common.{◌≡◌, ℕ, List, [], ◌∷◌, ◌++◌}
-use Rattle.am_serial.specs.Trace.{Trace}
+use Rattle.std.proofs.Common.{◌≡◌, [], ◌∷◌, ◌++◌}
 use Rattle.am_wire.specs.Taking.{Took}
 use Rattle.am_wire.specs.Giving.{Gave}
-use Rattle.am_talk.specs.Dialogue.{Exchange, Whole, TornAt}
+use Rattle.am_talk.specs.Dialogue.{Whole, TornAt}
 use Rattle.am_session.specs.Talk.{AnswersAll, AnswersOneMore}
 use Rattle.am_session.specs.Solo.{active_in, SoloGoes, SoloTells, IsSpoken}
 use Rattle.am_session.proofs.Speaking.{spoken_whole, spoken_torn, ends_by}

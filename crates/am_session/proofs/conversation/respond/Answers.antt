@@ -1,7 +1,7 @@
 use Rattle.std.proofs.Common.{◌≡◌, [], ◌∷◌, refl, sym, ◌∙◌, subst}
 use Rattle.am_talk.specs.Dues.{due}
 use Rattle.am_talk.specs.declared.due.Due.{Due}
-use Rattle.am_talk.specs.declared.due.Due.TheVariants.{Answer, Take, TellSeen}
+use Rattle.am_talk.specs.declared.due.Due.TheVariants.{Take}
 use Rattle.am_talk.specs.declared.response.Response.TheVariants.{Replied}
 use Rattle.am_session.specs.Answering.{Responds}
 use Rattle.am_session.proofs.conversation.respond.Goals as goal

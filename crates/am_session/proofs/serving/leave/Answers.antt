@@ -1,4 +1,4 @@
-use Rattle.std.proofs.Common.{◌≡◌, ℕ, Option, Some, [], ◌∷◌, refl, sym, subst}
+use Rattle.std.proofs.Common.{ℕ, Option, [], ◌∷◌, refl, sym, subst}
 use Rattle.am_record.specs.declared.step.Step.TheVariants.{Abort}
 use Rattle.am_record.specs.declared.step.Reply.{Reply}
 use Rattle.am_record.specs.declared.step.Reply.TheVariants.{Aborted}

@@ -1,4 +1,4 @@
-use Rattle.std.proofs.Common.{◌≡◌, ap, sym, ◌∙◌, refl, true, false, Bool, List, ℕ, subst}
+use Rattle.std.proofs.Common.{◌≡◌, sym, ◌∙◌, refl, true, false, Bool, List, ℕ, subst}
 use Rattle.am_wire.specs.Seen.{seen}
 use Rattle.am_wire.specs.Lines.{TookLine}
 use Rattle.am_talk.specs.Heard.{MayHear, is_quit, heard}
@@ -10,7 +10,7 @@ pub lines-init : goal.lines-init
 lines-init g c = record {
   talks = talk_start g.S.AnsweredSource.comes g.K.Sink.holds g.B.Backend.active g.B.Backend.goes g.B.Backend.tells c.args.auto c.args.source.now c.args.sink.now c.args.backend.now c.args.input.now c.requires.fresh;
   known = c.requires.active;
-  sent = c.requires.sent;
+  sent = λ _. c.requires.sent;
   source_ok = refl;
   sink_ok = refl;
 }

@@ -1,7 +1,7 @@
-use Rattle.std.proofs.Common.{◌≡◌, ℕ, ◌<◌, ◌^◌, List, decimal, true, Some, None, cond, sym, ap, ◌∙◌, subst, arith, ltb}
+use Rattle.std.proofs.Common.{◌≡◌, ℕ, ◌<◌, ◌^◌, List, decimal, Some, None, sym, ap, ◌∙◌, subst, ltb}
 use Rattle.std.proofs.lemmas.Bool.{cond_both, ltb-true}
 use Rattle.std.proofs.lemmas.List.Splits.{join_with_byte-slice_split}
-use Rattle.am_wire.specs.Numbers.{numeral, is_numeral, numeral_value, number_for}
+use Rattle.am_wire.specs.Numbers.{numeral, numeral_value, number_for}
 use Rattle.am_wire.specs.Spaces.{IsNumeralOf}
 use Rattle.am_wire.proofs.Spaces.{line_fields-join}
 use Rattle.am_wire.proofs.Numerals.{numeral-numeral_value, numeral_value-numeral, is_numeral-numeral, is_numeral-digits, numeral-decimal}

@@ -1,8 +1,8 @@
-use Rattle.std.proofs.Common.{◌≡◌, ℕ, Option, sym, ap, ◌∙◌, subst}
+use Rattle.std.proofs.Common.{◌≡◌, ℕ, Option, sym, ap, subst}
 use Rattle.am_steps.specs.Parts.{Parts}
 use Rattle.am_talk.specs.Dues.{IsAllowed, active_after}
 use Rattle.am_session.specs.Solo.{Solo, IsOpen}
-use Rattle.am_session.proofs.Solos.{stays_open, abort_ends}
+use Rattle.am_session.proofs.Solos.{stays_open}
 use Rattle.am_session.proofs.solo.SoloStoreBackend.call.Goals as goal
 
 pub invariant_of-self : goal.invariant_of-self
