@@ -30,7 +30,15 @@ fn answer(plain: &mut Plain, op: &Op, end: u64) -> Result<Reply, Fault> {
     Ok(plain.answer(op)?)
 }
 
-/// Inserts, a scan and a savepoint. After want of memory they are asked again.
+// To go back takes no memory, also where all records were deleted.
+fn back(plain: &mut Plain) -> Result<Reply, Fault> {
+    match plain.answer(&Op::Back) {
+        Ok(reply) => Ok(reply),
+        Err(NoMemory) => Err(Fault::Refused),
+    }
+}
+
+/// Inserts, a scan, and deletes behind a savepoint. After want of memory they are asked again.
 pub(crate) fn plain_answers(alloc: Global) -> Result<(), Fault> {
     let mut plain = Plain::new(alloc);
     for number in 0..20 {
@@ -40,13 +48,13 @@ pub(crate) fn plain_answers(alloc: Global) -> Result<(), Fault> {
     let scan = Op::Scan(range(5, 14).ok_or(Fault::Differs)?, 100);
     let rows = Reply::Rows(Pairs::new(pairs_of(alloc, 5, 15)?));
     expect(answer(&mut plain, &scan, 20)? == rows)?;
-    for (op, due) in [
-        (Op::Mark, Reply::Done),
-        (Op::Back, Reply::Done),
-        (Op::Back, Reply::NoMark),
-    ] {
-        expect(answer(&mut plain, &op, 20)? == due)?;
+    expect(answer(&mut plain, &Op::Mark, 20)? == Reply::Done)?;
+    for number in 0..20 {
+        let delete = Op::Delete(Key::of_u64(19 - number));
+        expect(answer(&mut plain, &delete, 20 - number)? == Reply::Done)?;
     }
+    expect(back(&mut plain)? == Reply::Done)?;
+    expect(back(&mut plain)? == Reply::NoMark)?;
     expect(has_below(&mut plain, 20)?)
 }
 

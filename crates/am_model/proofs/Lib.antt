@@ -1,3 +1,7 @@
-pub mod Maps
-pub mod Ordered
-pub mod Leasts
+mod Above
+mod Leasts
+mod Live
+mod Maps
+mod Marks
+mod Ordered
+mod Sorted

@@ -1,6 +1,8 @@
 //! The plain map that every store is measured by: operations applied one after another, with nothing between.
 #![tactic(auto)]
 
+mod log;
+mod note;
 mod plain;
 mod records;
 

@@ -2,33 +2,37 @@
 
 ghost use Rattle.std.specs.Prelude.{◌≡◌, Option, None, Some, false, IfOk, OnOk, OnErr};
 ghost use Rattle.std.specs.FinMap as map;
-ghost use Rattle.am_record.specs.Plain.{answer, after, answers, left, fresh};
+ghost use Rattle.am_record.specs.Plain.{answer, after, answers, left, fresh, insert_all};
 ghost use Rattle.am_record.specs.declared.step.Op.TheVariants.{Insert, Replace, Delete, Load, Mark, Back};
 ghost use Rattle.am_model.specs.Loads.{is_load};
+ghost use Rattle.am_model.specs.Slots.{put};
 
+use crate::log::ChangeLog;
 use crate::records::Records;
 use am_record::{Key, NoMemory, Op, Pairs, Reply, Value};
 use std::alloc::Global;
 use std::marker::Model;
 
 /// A map from keys to values, slow and plain, with the maps that Mark saved and Back hasn't gone back to. It knows no
-/// locks, limits or refusals.
+/// locks, limits or refusals. No map is copied: of each change since a mark it keeps what was there before.
 #[derive(Drop)]
 pub struct Plain {
     records: Records,
-    saved: Vec<Records>,
+    log: ChangeLog,
 }
 
 impl Model for Plain {
-    ghost use Rattle.std.specs.Prelude.{reverse};
     ghost use Rattle.am_record.specs.Plain.{Draft};
     ghost use Rattle.am_model.specs.Code.{draft_code};
+    ghost use Rattle.am_model.specs.Marks.{draft, Stand};
 
     ghost Value = { Draft };
 
     ghost coded = { draft_code };
 
-    ghost view = { λ p. record { map = p.records; saved = reverse p.saved.items } };
+    ghost view = { λ p. draft p.records p.log };
+
+    ghost invariant = { λ p. Stand p.records p.log };
 }
 
 impl Plain {
@@ -38,7 +42,7 @@ impl Plain {
     {
         Plain {
             records: Records::new(alloc),
-            saved: Vec::new(alloc),
+            log: ChangeLog::new(alloc),
         }
     }
 
@@ -51,12 +55,12 @@ impl Plain {
         match op {
             Op::Get(key) => Ok(self.records.get(*key).map_or(Reply::Absent, Reply::Found)),
             Op::Scan(range, max) => {
-                let alloc = *self.saved.allocator();
+                let alloc = self.log.allocator();
                 Ok(Reply::Rows(Pairs::new(self.records.rows(alloc, *range, *max)?)))
             }
             Op::Insert(key, value) => self.insert(*key, *value),
             Op::Replace(key, value) => self.replace(*key, *value),
-            Op::Delete(key) => Ok(self.delete(*key)),
+            Op::Delete(key) => self.delete(*key),
             Op::Load(pairs) => self.load(pairs),
             Op::Lock(_) => Ok(Reply::Done),
             Op::Mark => self.mark(),
@@ -72,7 +76,7 @@ impl Plain {
         if self.records.get(key).is_some() {
             return Ok(Reply::Exists(key));
         }
-        self.records.put(key, value)?;
+        self.set(key, Some(value))?;
         Ok(Reply::Done)
     }
 
@@ -84,20 +88,20 @@ impl Plain {
         if self.records.get(key).is_none() {
             return Ok(Reply::Missing);
         }
-        self.records.put(key, value)?;
+        self.set(key, Some(value))?;
         Ok(Reply::Done)
     }
 
-    fn delete(&mut self, key: Key) -> Reply
-        ensures answer { result ≡ answer (Delete key) self.old }
-        ensures after { self.new ≡ after (Delete key) self.old }
+    fn delete(&mut self, key: Key) -> Result<Reply, NoMemory>
+        ensures answer { IfOk result (λ reply. reply ≡ answer (Delete key) self.old) }
+        ensures after { OnOk result (self.new ≡ after (Delete key) self.old) }
+        ensures err { OnErr result (self.new ≡ self.old) }
     {
-        let found = self.records.get(key);
-        self.records.remove(key);
-        match found {
-            Some(_) => Reply::Done,
-            None => Reply::Missing,
+        if self.records.get(key).is_none() {
+            return Ok(Reply::Missing);
         }
+        self.set(key, None)?;
+        Ok(Reply::Done)
     }
 
     fn load(&mut self, pairs: &Pairs) -> Result<Reply, NoMemory>
@@ -107,7 +111,7 @@ impl Plain {
         if let Some(key) = self.records.least_taken(pairs.as_slice()) {
             return Ok(Reply::Exists(key));
         }
-        self.records.put_all(pairs.as_slice())?;
+        self.put_all(pairs.as_slice())?;
         Ok(Reply::Done)
     }
 
@@ -116,8 +120,7 @@ impl Plain {
         ensures after { OnOk result (self.new ≡ after Mark self.old) }
         ensures err { OnErr result (self.new ≡ self.old) }
     {
-        let copy = self.records.copy()?;
-        self.saved.push(copy)?;
+        self.log.mark()?;
         Ok(Reply::Done)
     }
 
@@ -125,12 +128,10 @@ impl Plain {
         ensures answer { result ≡ answer Back self.old }
         ensures after { self.new ≡ after Back self.old }
     {
-        match self.saved.pop() {
-            Some(records) => {
-                self.records = records;
-                Reply::Done
-            }
-            None => Reply::NoMark,
+        if self.log.back(&mut self.records) {
+            Reply::Done
+        } else {
+            Reply::NoMark
         }
     }
 
@@ -138,7 +139,46 @@ impl Plain {
     pub fn forget_saved(&mut self)
         ensures { self.new ≡ fresh self.old.map }
     {
-        self.saved.clear();
+        self.log.forget(&mut self.records);
+    }
+
+    // Puts in all pairs, a later one over an earlier one of the same key. After want of memory some of them may be
+    // there.
+    fn put_all(&mut self, pairs: &[(Key, Value)]) -> Result<(), NoMemory>
+        ensures { OnOk result (self.new ≡ record { map = insert_all pairs.now self.old.map; saved = self.old.saved }) }
+    {
+        for pair in pairs {
+            self.set(pair.0, Some(pair.1))?;
+        }
+        Ok(())
+    }
+
+    // Puts a value under the key, or none. Where no mark stands nobody goes back, so nothing is noted.
+    fn set(&mut self, key: Key, value: Option<Value>) -> Result<(), NoMemory>
+        ensures ok { OnOk result (self.new ≡ record { map = put self.old.map key value; saved = self.old.saved }) }
+        ensures err { OnErr result (self.new ≡ self.old) }
+    {
+        if self.log.has_mark() {
+            return self.set_noted(key, value);
+        }
+        match value {
+            Some(_) => self.records.set(key, value)?,
+            None => self.records.remove(key),
+        }
+        Ok(())
+    }
+
+    // The same, with a note of what was there. Its room comes first, so that a refusal leaves all as it was. A deleted
+    // record's place stays, so that to go back takes no memory.
+    fn set_noted(&mut self, key: Key, value: Option<Value>) -> Result<(), NoMemory>
+        ensures ok { OnOk result (self.new ≡ record { map = put self.old.map key value; saved = self.old.saved }) }
+        ensures err { OnErr result (self.new ≡ self.old) }
+    {
+        self.log.reserve_one()?;
+        let before = self.records.slot(key);
+        self.records.set(key, value)?;
+        self.log.note(key, before);
+        Ok(())
     }
 }
 

@@ -2,28 +2,31 @@
 
 ghost use Rattle.std.specs.Prelude.{◌≡◌, Option, None, Some, IfOk, OnOk, OnErr};
 ghost use Rattle.std.specs.FinMap as map;
-ghost use Rattle.am_record.specs.Plain.{scan_rows, least_taken, insert_all};
+ghost use Rattle.am_record.specs.Plain.{scan_rows, least_taken};
 ghost use Rattle.am_model.specs.Least.{lesser_key};
+ghost use Rattle.am_model.specs.Slots.{live};
+ghost use Rattle.am_model.specs.Notes.{taken_back, HasPlace};
 
+use crate::note::{Note, Slot};
 use am_record::{Key, NoMemory, Range, Value};
 use std::alloc::Global;
 use std::collections::BTreeMap;
 use std::marker::Model;
 
-/// A finite map from keys to values.
+/// A finite map from keys to slots: records, and the places of deleted ones.
 #[derive(Drop)]
 pub(crate) struct Records {
-    by_key: BTreeMap<Key, Value>,
+    by_key: BTreeMap<Key, Slot>,
 }
 
 impl Model for Records {
     ghost use Rattle.std.specs.FinMap as map;
-    ghost use Rattle.am_record.specs.Plain.{PlainMap};
-    ghost use Rattle.am_model.specs.Code.{map_code};
+    ghost use Rattle.am_model.specs.Slots.{Slots};
+    ghost use Rattle.am_model.specs.Code.{slots_code};
 
-    ghost Value = { PlainMap };
+    ghost Value = { Slots };
 
-    ghost coded = { map_code };
+    ghost coded = { slots_code };
 
     ghost view = { λ r. map.from_entries r.by_key.entries };
 }
@@ -39,34 +42,58 @@ impl Records {
 
     /// The value under the key.
     pub(crate) fn get(&self, key: Key) -> Option<Value>
+        ensures { result ≡ map.get (live self.now) key }
+    {
+        self.slot(key).flatten()
+    }
+
+    /// What stands under the key.
+    pub(crate) fn slot(&self, key: Key) -> Option<Slot>
         ensures { result ≡ map.get self.now key }
     {
         self.by_key.get(&key).copied()
     }
 
-    /// Puts a value under the key, in place of any there.
-    pub(crate) fn put(&mut self, key: Key, value: Value) -> Result<(), NoMemory>
-        ensures ok { OnOk result (self.new ≡ map.insert self.old key value) }
+    /// Puts a slot under the key, in place of any there. It wants memory only where none is there.
+    pub(crate) fn set(&mut self, key: Key, slot: Slot) -> Result<(), NoMemory>
+        ensures ok { OnOk result (self.new ≡ map.insert self.old key slot) }
         ensures err { OnErr result (self.new ≡ self.old) }
+        ensures absent { OnErr result (map.get self.old key ≡ None) }
     {
-        self.by_key.insert(key, value)?;
+        self.by_key.insert(key, slot)?;
         Ok(())
     }
 
-    /// Takes the key's record away.
+    /// Takes what stands under the key away.
     pub(crate) fn remove(&mut self, key: Key)
         ensures { self.new ≡ map.remove self.old key }
     {
         let _ = self.by_key.remove(&key);
     }
 
-    /// The same records, in memory of their own.
-    pub(crate) fn copy(&self) -> Result<Records, NoMemory>
-        ensures { IfOk result (λ copy. copy ≡ self.now) }
+    /// Takes the place of a deleted record away.
+    pub(crate) fn clean(&mut self, key: Key)
+        ensures { live self.new ≡ live self.old }
     {
-        Ok(Records {
-            by_key: self.by_key.clone()?,
-        })
+        if self.get(key).is_none() {
+            self.remove(key);
+        }
+    }
+
+    /// Takes one change back. Takes no memory.
+    pub(crate) fn take_back(&mut self, note: Note)
+        requires { HasPlace note self.old }
+        ensures { self.new ≡ taken_back note self.old }
+    {
+        let Note { key, before } = note;
+        match before {
+            None => self.remove(key),
+            Some(slot) => {
+                let Ok(()) = self.set(key, slot) else {
+                    unreachable!()
+                };
+            }
+        }
     }
 
     /// The first records in the range by key, `max` at most.
@@ -76,21 +103,23 @@ impl Records {
         range: Range,
         max: u64,
     ) -> Result<Vec<(Key, Value)>, NoMemory>
-        ensures { IfOk result (λ rows. rows.items ≡ scan_rows range max self.now) }
+        ensures { IfOk result (λ rows. rows.items ≡ scan_rows range max (live self.now)) }
     {
         let mut rows = Vec::new(alloc);
-        for (key, value) in self.by_key.range(range.lo()..=range.hi()) {
+        for (key, slot) in self.by_key.range(range.lo()..=range.hi()) {
             if rows.len() as u64 == max {
                 break;
             }
-            rows.push((*key, *value))?;
+            if let Some(value) = slot {
+                rows.push((*key, *value))?;
+            }
         }
         Ok(rows)
     }
 
     /// The least of the keys that has a record.
     pub(crate) fn least_taken(&self, pairs: &[(Key, Value)]) -> Option<Key>
-        ensures { result ≡ least_taken pairs.now self.now }
+        ensures { result ≡ least_taken pairs.now (live self.now) }
     {
         let mut least = None;
         for pair in pairs {
@@ -99,17 +128,6 @@ impl Records {
             }
         }
         least
-    }
-
-    /// Puts in all pairs, a later one over an earlier one of the same key. After want of memory some of
-    /// them may be there.
-    pub(crate) fn put_all(&mut self, pairs: &[(Key, Value)]) -> Result<(), NoMemory>
-        ensures { OnOk result (self.new ≡ insert_all pairs.now self.old) }
-    {
-        for pair in pairs {
-            self.put(pair.0, pair.1)?;
-        }
-        Ok(())
     }
 }
 

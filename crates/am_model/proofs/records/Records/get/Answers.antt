@@ -1,9 +1,7 @@
-use Rattle.std.proofs.Common.{ap, ◌∙◌}
-use Rattle.std.specs.FinMap as map
-use Rattle.am_model.proofs.Maps.{got_where}
+use Rattle.std.proofs.Common.{sym, ap, ◌∙◌}
+use Rattle.std.specs.Option.{option_flatten}
+use Rattle.am_model.proofs.Live.{get_live}
 use Rattle.am_model.proofs.records.Records.get.Goals as goal
 
 pub returns : goal.returns
-returns c =
-    c.copied.ensures ∙ c.get.ensures.value ∙ got_where c.self.inside.by_key.entries c.args.key
-    ∙ ap (λ m. map.get m c.args.key) c.self.view_is
+returns c = c.flatten.ensures ∙ ap option_flatten c.slot.ensures ∙ sym (get_live c.args.self.now c.args.key)

@@ -1,0 +1,73 @@
+-- The notes above a mark taken back one by one.
+use Rattle.std.proofs.Common.{◌≡◌, ℕ, ◌-◌, ◌<◌, ◌≤◌, List, [], ◌∷◌, ◌++◌, length, reverse, take, drop, arith, sym, ap, ◌∙◌, subst, length-drop, length-append}
+use Rattle.std.proofs.lemmas.List.{drop-append-le, take-append-le, take-append-drop, reverse-append, length-reverse, append-nil}
+use Rattle.std.proofs.Math.ListN.{drop_of_length-le}
+use Rattle.std.proofs.Math.Seq.{take-append_seam, drop-append_seam}
+use Rattle.am_model.specs.declared.note.Note.{Note}
+use Rattle.am_model.specs.Slots.{Slots}
+use Rattle.am_model.specs.Notes.{taken_back, all_taken_back, HasPlace, CanTakeBack}
+use Rattle.am_model.specs.Marks.{since, until, since_mark, until_mark}
+
+-- some of the notes above the mark were taken back, and those under it are untouched. The newest stand last
+pub record Above (was : Slots) (items : List Note) (mark : ℕ) (left : List Note) (slots : Slots) : Type 0 where
+  pub can : CanTakeBack (reverse (drop mark left)) slots
+  pub leads : all_taken_back (reverse (drop mark left)) slots ≡ all_taken_back (reverse (drop mark items)) was
+  pub kept : take mark left ≡ take mark items
+
+module _ {was : Slots} {items : List Note} {mark : ℕ} {left : List Note} {slots : Slots} (a : Above was items mark left slots) where
+  none_left : length left ≤ mark → drop mark left ≡ []
+  none_left few = drop_of_length-le left few
+
+  pub above_ended : length left ≤ mark → slots ≡ all_taken_back (reverse (drop mark items)) was
+  above_ended few = sym (ap (λ (ns : List Note). all_taken_back (reverse ns) slots) (none_left few)) ∙ a.leads
+
+  pub above_kept : length left ≤ mark → left ≡ take mark items
+  above_kept few = sym (sym (append-nil (take mark left)) ∙ ap (λ ys. take mark left ++ ys) (sym (none_left few)) ∙ take-append-drop mark left) ∙ a.kept
+
+  module _ (some : mark < length left) (older : List Note) (n : Note) (is : left ≡ older ++ n ∷ []) where
+    low : mark ≤ length older
+    low = let e = ap length is ∙ length-append older (n ∷ []) in omega arith
+
+    newest : reverse (drop mark left) ≡ n ∷ reverse (drop mark older)
+    newest = ap reverse (ap (drop mark) is ∙ drop-append-le mark older (n ∷ []) low) ∙ reverse-append (drop mark older) (n ∷ [])
+
+    can_newest : CanTakeBack (n ∷ reverse (drop mark older)) slots
+    can_newest = subst (λ (ns : List Note). CanTakeBack ns slots) newest a.can
+
+    pub above_place : HasPlace n slots
+    above_place = can_newest.0
+
+    pub above_goes_on : (slots' : Slots) → slots' ≡ taken_back n slots → Above was items mark older slots'
+    above_goes_on slots' is' = record {
+      can = subst (CanTakeBack (reverse (drop mark older))) (sym is') can_newest.1;
+      leads = ap (all_taken_back (reverse (drop mark older))) is' ∙ sym (ap (λ (ns : List Note). all_taken_back ns slots) newest) ∙ a.leads;
+      kept = sym (ap (take mark) is ∙ take-append-le mark older (n ∷ []) low) ∙ a.kept;
+    }
+
+-- ---- with the newest first
+
+parts : (items : List Note) (mark : ℕ) → reverse items ≡ reverse (drop mark items) ++ reverse (take mark items)
+parts items mark = ap reverse (sym (take-append-drop mark items)) ∙ reverse-append (take mark items) (drop mark items)
+
+long : (items : List Note) (mark : ℕ) → length (reverse items) - mark ≡ length (reverse (drop mark items))
+long items mark = ap (λ n. n - mark) (length-reverse items) ∙ sym (length-reverse (drop mark items) ∙ length-drop mark items)
+
+since_is : (items : List Note) (mark : ℕ) → since mark (reverse items) ≡ reverse (drop mark items)
+since_is items mark =
+    ap (λ n. take n (reverse items)) (long items mark) ∙ ap (take (length (reverse (drop mark items)))) (parts items mark)
+    ∙ take-append_seam (reverse (drop mark items)) (reverse (take mark items))
+
+until_is : (items : List Note) (mark : ℕ) → until mark (reverse items) ≡ reverse (take mark items)
+until_is items mark =
+    ap (λ n. drop n (reverse items)) (long items mark) ∙ ap (drop (length (reverse (drop mark items)))) (parts items mark)
+    ∙ drop-append_seam (reverse (drop mark items)) (reverse (take mark items))
+
+module _ (items notes : List Note) (inside marks : List ℕ) (notes_are : reverse items ≡ notes) (marks_are : reverse inside ≡ marks) (rest : List ℕ) (mark : ℕ) (is : inside ≡ rest ++ mark ∷ []) where
+  newest_mark : marks ≡ mark ∷ reverse rest
+  newest_mark = sym marks_are ∙ ap reverse is ∙ reverse-append rest (mark ∷ [])
+
+  pub since_mark_is : since_mark marks notes ≡ reverse (drop mark items)
+  since_mark_is = ap (λ ms. since_mark ms notes) newest_mark ∙ ap (since mark) (sym notes_are) ∙ since_is items mark
+
+  pub until_mark_is : until_mark marks notes ≡ reverse (take mark items)
+  until_mark_is = ap (λ ms. until_mark ms notes) newest_mark ∙ ap (until mark) (sym notes_are) ∙ until_is items mark

@@ -1,0 +1,178 @@
+-- What the notes since each mark lead back to.
+use Rattle.std.proofs.Common.{◌≡◌, ℕ, suc, ◌+◌, ◌-◌, ◌≤◌, false, cond, List, [], ◌∷◌, ◌++◌, length, take, map, Option, Some, arith, refl, sym, ap, ◌∙◌, subst}
+use Rattle.std.specs.Prelude.{is_some}
+use Rattle.std.specs.Option.{option_flatten}
+use Rattle.std.specs.List.{AllByRecursion}
+use Rattle.std.specs.FinMap.{get, insert, empty}
+use Rattle.std.proofs.lemmas.Bool.{true≢false}
+use Rattle.std.proofs.lemmas.List.{length-drop}
+use Rattle.std.proofs.Math.Seq.{take-add}
+use Rattle.am_record.specs.OrderedKey.{OrderedKey}
+use Rattle.am_record.specs.Plain.{Draft, PlainMap, back, fresh, went_back}
+use Rattle.am_record.specs.declared.step.Reply.TheVariants.{Done, NoMark}
+use Rattle.am_model.specs.declared.note.Note.{Note}
+use Rattle.am_model.specs.Slots.{Slot, Slots, live, put}
+use Rattle.am_model.specs.Notes.{taken_back, all_taken_back, HasPlace, CanTakeBack}
+use Rattle.am_model.specs.Marks.{Log, since, until, since_mark, until_mark, older, has_mark, draft, AreFalling, Stand}
+use Rattle.am_model.proofs.Live.{live_empty, live_put, put_again, got_there}
+
+-- ---- lists of notes
+
+since_more : (n : Note) (notes : List Note) (mark : ℕ) → mark ≤ length notes → since mark (n ∷ notes) ≡ n ∷ since mark notes
+since_more n notes mark low = let e : length (n ∷ notes) - mark ≡ suc (length notes - mark) = omega arith in ap (λ k. take k (n ∷ notes)) e
+
+since_all : (notes : List Note) → since (length notes) notes ≡ []
+since_all notes = let e : length notes - length notes ≡ 0 = omega arith in ap (λ k. take k notes) e
+
+length_until : (notes : List Note) (k : ℕ) → k ≤ length notes → length (until k notes) ≡ k
+length_until notes k low = length-drop (length notes - k) notes ∙ omega arith
+
+since_split : (notes : List Note) (m k : ℕ) → m ≤ k → k ≤ length notes → since m notes ≡ since k notes ++ since m (until k notes)
+since_split notes m k le low =
+    let e : length notes - m ≡ (length notes - k) + (k - m) = omega arith in
+    ap (λ i. take i notes) e ∙ take-add (length notes - k) (k - m) notes
+    ∙ ap (λ i. since k notes ++ take (i - m) (until k notes)) (sym (length_until notes k low))
+
+back_twice : (xs ys : List Note) (slots : Slots) → all_taken_back (xs ++ ys) slots ≡ all_taken_back ys (all_taken_back xs slots)
+back_twice [] ys slots = refl
+back_twice (n ∷ xs) ys slots = back_twice xs ys (taken_back n slots)
+
+can_later : (xs ys : List Note) (slots : Slots) → CanTakeBack (xs ++ ys) slots → CanTakeBack ys (all_taken_back xs slots)
+can_later [] ys slots can = can
+can_later (n ∷ xs) ys slots can = can_later xs ys (taken_back n slots) can.1
+
+-- ---- drafts
+
+abbrev saved_at : List Note → Slots → ℕ → PlainMap
+saved_at notes slots mark = live (all_taken_back (since mark notes) slots)
+
+abbrev draft_at : Slots → List Note → List ℕ → Draft
+draft_at slots notes marks = record { map = live slots; saved = map (saved_at notes slots) marks }
+
+abbrev CanEach : List Note → Slots → List ℕ → Type 0
+CanEach notes slots marks = AllByRecursion (λ mark. CanTakeBack (since mark notes) slots) marks
+
+-- a key is changed, and what was there is noted
+module _ (slots : Slots) (notes : List Note) (k : OrderedKey) (slot : Slot) where
+  abbrev note : Note
+  note = record { key = k; before = get slots k }
+
+  abbrev changed : Slots
+  changed = insert slots k slot
+
+  as_before : taken_back note changed ≡ slots
+  as_before = put_again slots k (Some slot)
+
+  same_saved : (marks : List ℕ) (top : ℕ) → top ≤ length notes → AreFalling top marks → map (saved_at (note ∷ notes) changed) marks ≡ map (saved_at notes slots) marks
+  same_saved [] top low falling = refl
+  same_saved (m ∷ ms) top low falling =
+      let le : m ≤ length notes = omega (arith, falling.0) in
+      let here : saved_at (note ∷ notes) changed m ≡ saved_at notes slots m =
+      ap (λ (ns : List Note). live (all_taken_back ns changed)) (since_more note notes m le) ∙ ap (λ s. live (all_taken_back (since m notes) s)) as_before in
+      ap (λ x. x ∷ map (saved_at (note ∷ notes) changed) ms) here ∙ ap (λ xs. saved_at notes slots m ∷ xs) (same_saved ms m le falling.1)
+
+  has_place : HasPlace note changed
+  has_place some = ap is_some (got_there slots k slot)
+
+  can_each : (marks : List ℕ) (top : ℕ) → top ≤ length notes → AreFalling top marks → CanEach notes slots marks → CanEach (note ∷ notes) changed marks
+  can_each [] top low falling can = tt
+  can_each (m ∷ ms) top low falling can =
+      let le : m ≤ length notes = omega (arith, falling.0) in (
+        subst (λ (ns : List Note). CanTakeBack ns changed) (sym (since_more note notes m le)) (has_place, subst (CanTakeBack (since m notes)) (sym as_before) can.0),
+        can_each ms m le falling.1 can.1,
+      )
+
+  noted_at : (marks : List ℕ) → AreFalling (length notes) marks → draft_at changed (note ∷ notes) marks ≡ record { map = put (live slots) k slot; saved = map (saved_at notes slots) marks }
+  noted_at marks falling = λ i. record { map = live_put slots k (Some slot) i; saved = same_saved marks (length notes) (omega arith) falling i }
+
+higher : (top top' : ℕ) (marks : List ℕ) → top ≤ top' → AreFalling top marks → AreFalling top' marks
+higher top top' [] le falling = tt
+higher top top' (m ∷ ms) le falling = (omega (arith, falling.0), falling.1)
+
+module _ (slots slots' : Slots) (log log' : Log) (k : OrderedKey) (slot : Slot) (stand : Stand slots log) (is : slots' ≡ insert slots k slot) (notes : log'.notes ≡ note slots log.notes k slot ∷ log.notes) (marks : log'.marks ≡ log.marks) where
+  pub noted : draft slots' log' ≡ record { map = put (live slots) k slot; saved = (draft slots log).saved }
+  noted =
+      ap (λ s. draft_at s log'.notes log'.marks) is ∙ ap (λ (ns : List Note). draft_at (insert slots k slot) ns log'.marks) notes
+      ∙ ap (draft_at (insert slots k slot) (note slots log.notes k slot ∷ log.notes)) marks ∙ noted_at slots log.notes k slot log.marks stand.falling
+
+  pub noted_stand : Stand slots' log'
+  noted_stand = record {
+    falling = subst (λ (ns : List Note). AreFalling (length ns) log'.marks) (sym notes) (subst (AreFalling (suc (length log.notes))) (sym marks) (higher (length log.notes) (suc (length log.notes)) log.marks (omega arith) stand.falling));
+    can = subst (λ s. CanEach log'.notes s log'.marks) (sym is) (subst (λ (ns : List Note). CanEach ns (insert slots k slot) log'.marks) (sym notes)
+        (subst (CanEach (note slots log.notes k slot ∷ log.notes) (insert slots k slot)) (sym marks) (can_each slots log.notes k slot log.marks (length log.notes) (omega arith) stand.falling stand.can)));
+  }
+
+-- a key is changed where no mark stands
+none_saved : (f g : ℕ → PlainMap) (marks : List ℕ) → has_mark marks ≡ false → map f marks ≡ map g marks
+none_saved f g [] h = refl
+none_saved f g (m ∷ ms) h = absurd (true≢false h)
+
+pub unnoted : (slots slots' : Slots) (log : Log) (k : OrderedKey) (o : Option Slot) → has_mark log.marks ≡ false → slots' ≡ put slots k o →
+    draft slots' log ≡ record { map = put (live slots) k (option_flatten o); saved = (draft slots log).saved }
+unnoted slots slots' log k o none is = λ i. record { map = (ap live is ∙ live_put slots k o) i; saved = none_saved (saved_at log.notes slots') (saved_at log.notes slots) log.marks none i }
+
+-- ---- back
+
+module _ (slots : Slots) (notes : List Note) (k : ℕ) (low : k ≤ length notes) where
+  abbrev backed : Slots
+  backed = all_taken_back (since k notes) slots
+
+  same_older : (marks : List ℕ) (top : ℕ) → top ≤ k → AreFalling top marks → map (saved_at (until k notes) backed) marks ≡ map (saved_at notes slots) marks
+  same_older [] top le falling = refl
+  same_older (m ∷ ms) top le falling =
+      let under : m ≤ k = omega (arith, falling.0) in
+      let here : saved_at (until k notes) backed m ≡ saved_at notes slots m =
+      ap live (sym (back_twice (since k notes) (since m (until k notes)) slots) ∙ ap (λ (ns : List Note). all_taken_back ns slots) (sym (since_split notes m k under low))) in
+      ap (λ x. x ∷ map (saved_at (until k notes) backed) ms) here ∙ ap (λ xs. saved_at notes slots m ∷ xs) (same_older ms m under falling.1)
+
+  can_older : (marks : List ℕ) (top : ℕ) → top ≤ k → AreFalling top marks → CanEach notes slots marks → CanEach (until k notes) backed marks
+  can_older [] top le falling can = tt
+  can_older (m ∷ ms) top le falling can =
+      let under : m ≤ k = omega (arith, falling.0) in (
+        can_later (since k notes) (since m (until k notes)) slots (subst (λ (ns : List Note). CanTakeBack ns slots) (since_split notes m k under low) can.0),
+        can_older ms m under falling.1 can.1,
+      )
+
+back_at : (slots : Slots) (notes : List Note) (marks : List ℕ) → AreFalling (length notes) marks →
+    draft_at (all_taken_back (since_mark marks notes) slots) (until_mark marks notes) (older marks) ≡ back (map (saved_at notes slots) marks) (draft_at slots notes marks)
+back_at slots notes [] falling = refl
+back_at slots notes (k ∷ marks) falling = λ i. record { map = saved_at notes slots k; saved = same_older slots notes k falling.0 marks k (omega arith) falling.1 i }
+
+back_falling : (notes : List Note) (marks : List ℕ) → AreFalling (length notes) marks → AreFalling (length (until_mark marks notes)) (older marks)
+back_falling notes [] falling = tt
+back_falling notes (k ∷ marks) falling = subst (λ n. AreFalling n marks) (sym (length_until notes k falling.0)) falling.1
+
+back_can : (slots : Slots) (notes : List Note) (marks : List ℕ) → AreFalling (length notes) marks → CanEach notes slots marks →
+    CanEach (until_mark marks notes) (all_taken_back (since_mark marks notes) slots) (older marks)
+back_can slots notes [] falling can = tt
+back_can slots notes (k ∷ marks) falling can = can_older slots notes k falling.0 marks k (omega arith) falling.1 can.1
+
+-- the caller's condition of back
+pub can_back : (slots : Slots) (log : Log) → Stand slots log → CanTakeBack (since_mark log.marks log.notes) slots
+can_back slots log stand = newest log.marks stand.can
+  where
+    newest : (marks : List ℕ) → CanEach log.notes slots marks → CanTakeBack (since_mark marks log.notes) slots
+    newest [] can = tt
+    newest (k ∷ marks) can = can.0
+
+module _ (slots slots' : Slots) (log log' : Log) (stand : Stand slots log) (is : slots' ≡ all_taken_back (since_mark log.marks log.notes) slots) (notes : log'.notes ≡ until_mark log.marks log.notes) (marks : log'.marks ≡ older log.marks) where
+  pub went_back_to : draft slots' log' ≡ back (draft slots log).saved (draft slots log)
+  went_back_to =
+      ap (λ s. draft_at s log'.notes log'.marks) is ∙ ap (λ (ns : List Note). draft_at (all_taken_back (since_mark log.marks log.notes) slots) ns log'.marks) notes
+      ∙ ap (draft_at (all_taken_back (since_mark log.marks log.notes) slots) (until_mark log.marks log.notes)) marks ∙ back_at slots log.notes log.marks stand.falling
+
+  pub back_stand : Stand slots' log'
+  back_stand = record {
+    falling = subst (λ (ns : List Note). AreFalling (length ns) log'.marks) (sym notes) (subst (AreFalling (length (until_mark log.marks log.notes))) (sym marks) (back_falling log.notes log.marks stand.falling));
+    can = subst (λ s. CanEach log'.notes s log'.marks) (sym is) (subst (λ (ns : List Note). CanEach ns (all_taken_back (since_mark log.marks log.notes) slots) log'.marks) (sym notes)
+        (subst (CanEach (until_mark log.marks log.notes) (all_taken_back (since_mark log.marks log.notes) slots)) (sym marks) (back_can slots log.notes log.marks stand.falling stand.can)));
+  }
+
+-- what Back answers
+pub answers_back : (f : ℕ → PlainMap) (marks : List ℕ) → went_back (map f marks) ≡ cond (has_mark marks) Done NoMark
+answers_back f [] = refl
+answers_back f (m ∷ marks) = refl
+
+-- a new map with a new log
+pub new_draft : (slots : Slots) (log : Log) → slots ≡ empty → log.marks ≡ [] → draft slots log ≡ fresh empty
+new_draft slots log is none = ap (λ s. draft_at s log.notes log.marks) is ∙ ap (draft_at empty log.notes) none ∙ ap (λ m. fresh m) live_empty
