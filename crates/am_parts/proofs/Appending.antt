@@ -34,7 +34,7 @@ some_record : (rs : Records) → is_rising rs ≡ true → 0 < length rs
 some_record [] h = absurd (true≢false (sym h))
 some_record (r ∷ rs) h = omega arith
 
-under_next : (es : List Entry) (runs : ℕ) → AllByRecursion (λ e. e.part ≤ runs) es → AllByRecursion (λ e. e.part < runs + 1) es
+pub under_next : (es : List Entry) (runs : ℕ) → AllByRecursion (λ e. e.part ≤ runs) es → AllByRecursion (λ e. e.part < runs + 1) es
 under_next es runs above = AllByRecursion-map (λ e. e.part ≤ runs) (λ e. e.part < runs + 1) (λ e low. omega (arith, low)) es above
 
 pub is_next : (es : List Entry) (runs : ℕ) (rs : Records) → AllByRecursion (λ e. e.part ≤ runs) es → is_rising rs ≡ true → IsNext es (runs + 1) rs

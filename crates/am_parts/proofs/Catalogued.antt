@@ -1,16 +1,22 @@
 -- What each call of the catalog leaves.
-use Rattle.std.proofs.Common.{◌≡◌, ◌≢◌, ℕ, zero, suc, ◌+◌, ◌-◌, ◌<◌, ◌≤◌, Bool, true, false, List, [], ◌∷◌, ◌++◌, length, get_or, set, take, drop, Option, Some, None, Result, Ok, Err, refl, sym, ap, ◌∙◌, subst, ⊎_elim, arith}
+use Rattle.std.proofs.Common.{◌≡◌, ◌≢◌, ℕ, zero, suc, ◌+◌, ◌-◌, ◌<◌, ◌≤◌, Bool, true, List, [], ◌∷◌, length, get_or, set, take, drop, Result, Ok, Err, refl, sym, ap, ◌∙◌, subst, ⊎_elim, arith}
 use Rattle.std.specs.Prelude.{IsSome, OnOk, OnErr, ◌==◌, nat_lt}
-use Rattle.std.proofs.lemmas.Bool.{cases_lt, ltb-true, lt-ltb}
+use Rattle.std.proofs.lemmas.Bool.{cases_lt, cases_eq, or_cases, eqb-true, false≢true, ltb-true, lt-ltb}
 use Rattle.std.proofs.lemmas.List.{get_or_default}
 use Rattle.std.specs.List.{AllByRecursion}
 use Rattle.std.specs.List.Sorted.{IsPartitionedBy}
 use Rattle.am_record.specs.OrderedKey.{OrderedKey}
 use Rattle.am_record.specs.declared.entry.Entry.{Entry}
-use Rattle.am_list.specs.Entries.{find, insert_entry, remove_entry}
+use Rattle.am_list.specs.Entries.{find, insert_entry, set_entry, remove_entry}
+use Rattle.am_list.proofs.Lists.{AllByRecursion-map}
 use Rattle.am_parts.specs.declared.catalog.OpenRun.{OpenRun}
-use Rattle.am_parts.specs.Catalogs.{parts_of, PartsRise, AreListed, IsRunAt, IsGapAt, HasMore}
-use Rattle.am_parts.proofs.Listed.{run_more, run_less, run_gone}
+use Rattle.am_parts.specs.declared.catalog.Catalog.{Catalog}
+use Rattle.am_parts.specs.declared.generations.Generation.{Generation}
+use Rattle.am_parts.specs.declared.generations.Generations.{Generations}
+use Rattle.am_parts.specs.Generations.{is_held, AreHeld, IsGenerationAt, IsStretch}
+use Rattle.am_parts.specs.Catalogs.{parts_of, PartsRise, is_one_of, AreListed, AreCounted, IsCatalog, IsRunAt, HasMore}
+use Rattle.am_parts.proofs.Counts.{all_removed, all_set}
+use Rattle.am_parts.proofs.Listed.{run_more, run_less, listed_set}
 
 -- ---- the search
 
@@ -76,3 +82,70 @@ module _ {runs : List OpenRun} {part i : ℕ} (at : IsRunAt runs part i) (old ne
   less_at n some p less f left = λ es key h there.
       let is = stands_as in
       run_less h part key there (omega (arith, some)) i at new (p ∙ ap (λ (o : OpenRun). o.part) is) (less ∙ ap (λ (o : OpenRun). o.left) is) (f ∙ ap (λ (o : OpenRun). o.filter) is) left
+
+-- ---- the whole catalog
+
+pub ok_map : {T E : Type 0} {A B : Type 0} (r : Result T E) → (A → B) → OnOk r A → OnOk r B
+ok_map (Ok v) f a = f a
+ok_map (Err e) f a = tt
+
+pub catalog_set : {es : List Entry} {c : Catalog} (part : ℕ) (key : OrderedKey) (value : List ℕ) (is_ghost : Bool) → IsCatalog es c → IsCatalog (set_entry es part key value is_ghost) c
+catalog_set {es} {c} part key value is_ghost h = record {
+  counted = listed_set part key value is_ghost h.counted;
+  held = all_set (λ p k. 0 < p → is_held c.generations.list.items p k ≡ true) part key value is_ghost es h.held;
+}
+
+-- after an entry was counted as gone
+pub catalog_less : {es : List Entry} {c c' : Catalog} (part : ℕ) (key : OrderedKey) → IsCatalog es c → AreCounted (remove_entry es part key) c' → c'.generations ≡ c.generations → IsCatalog (remove_entry es part key) c'
+catalog_less {es} {c} {c'} part key h counted same = record {
+  counted = counted;
+  held = subst (λ (g : Generations). AreHeld (remove_entry es part key) g.list.items) (sym same)
+      (all_removed (λ e. 0 < e.part → is_held c.generations.list.items e.part e.key ≡ true) part key es h.held);
+}
+
+-- ---- a generation whose runs are all gone
+
+-- each run is below a bound or not below another
+abbrev pub Beside : ℕ → ℕ → List OpenRun → Type 0
+Beside from to rs = AllByRecursion (λ (r : OpenRun). from ≤ r.part → r.part < to → ⊥) rs
+
+pub beside : (from to : ℕ) (rs : List OpenRun) (i : ℕ) → AllByRecursion (λ (r : OpenRun). r.part < from) (take i rs) → AllByRecursion (λ (r : OpenRun). to ≤ r.part) (drop i rs) → Beside from to rs
+beside from to [] i below above = tt
+beside from to (r ∷ rs) zero below above = (let le : to ≤ r.part = above.0 in (λ low high. absurd (omega (arith, le, high))), beside from to rs zero (nothing rs) above.1)
+  where
+    nothing : (rs : List OpenRun) → AllByRecursion (λ (r : OpenRun). r.part < from) (take 0 rs)
+    nothing [] = tt
+    nothing (r ∷ rs) = tt
+beside from to (r ∷ rs) (suc i) below above = (let lt : r.part < from = below.0 in (λ low high. absurd (omega (arith, lt, low))), beside from to rs i below.1 above)
+
+none_within : (from to part : ℕ) (rs : List OpenRun) → Beside from to rs → from ≤ part → part < to → is_one_of (parts_of rs) part ≡ true → ⊥
+none_within from to part [] out low high one = false≢true one
+none_within from to part (r ∷ rs) out low high one =
+    ⊎_elim
+    (λ here. let same : r.part ≡ part = eqb-true r.part part here in out.0 (omega (arith, same, low)) (omega (arith, same, high)))
+    (λ later. none_within from to part rs out.1 low high later)
+    (or_cases (r.part == part) (is_one_of (parts_of rs) part) one)
+
+-- the end of the one before
+end_before : (gens : List Generation) (part i j : ℕ) (d : Generation) → i ≡ j + 1 → i ≤ length gens → AllByRecursion (λ (g : Generation). g.end ≤ part) (take i gens) → (get_or gens j d).end ≤ part
+end_before [] part i j d next le below = absurd (omega (arith, next, le))
+end_before (g ∷ gs) part zero j d next le below = absurd (omega (arith, next))
+end_before (g ∷ gs) part (suc i) zero d next le below = below.0
+end_before (g ∷ gs) part (suc i) (suc j) d next le below = end_before gs part i j d (omega (arith, next)) (omega (arith, le)) below.1
+
+any_of : (gens : List Generation) (i : ℕ) → i < length gens → Generation
+any_of [] i lt = absurd (omega arith)
+any_of (g ∷ gs) i lt = g
+
+-- the index is the generation of no entry's partition
+pub of_no_entry : {es : List Entry} {n : ℕ} {runs : List OpenRun} (gens : List Generation) (i from to : ℕ) → AreListed es n runs → i < length gens → IsStretch gens i from to → Beside from to runs
+    → AllByRecursion (λ (e : Entry). 0 < e.part → ¬ IsGenerationAt gens e.part i) es
+of_no_entry {es} {n} {runs} gens i from to h lt stretch out =
+    let d : Generation = any_of gens i lt in
+    AllByRecursion-map (λ e. 0 < e.part → is_one_of (parts_of runs) e.part ≡ true) (λ e. 0 < e.part → ¬ IsGenerationAt gens e.part i)
+    (λ e one some at.
+    let high : e.part < to = omega (arith, at.here d lt, stretch.end d) in
+    let low : from ≤ e.part =
+    ⊎_elim (λ (first : i ≡ 0). omega (arith, stretch.first first))
+    (λ (later : i ≢ 0). omega (arith, stretch.after d (omega (arith, later)), end_before gens e.part i (i - 1) d (omega (arith, later)) at.in_range at.below)) (cases_eq i 0) in
+    none_within from to e.part runs out low high (one some)) es h.every

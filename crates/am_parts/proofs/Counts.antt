@@ -1,5 +1,5 @@
 -- How many entries stand in a partition, after each change.
-use Rattle.std.proofs.Common.{◌≡◌, ◌≢◌, ℕ, ◌+◌, ◌<◌, ◌≤◌, Bool, true, false, cond, List, [], ◌∷◌, ◌++◌, length, Option, Some, None, refl, sym, ap, ◌∙◌, subst, ⊎_elim, arith}
+use Rattle.std.proofs.Common.{◌≡◌, ◌≢◌, ℕ, ◌+◌, Bool, true, false, cond, List, [], ◌∷◌, ◌++◌, length, refl, sym, ap, ◌∙◌, ⊎_elim, arith}
 use Rattle.std.specs.Prelude.{IsSome, is_some, ◌==◌}
 use Rattle.std.proofs.lemmas.Bool.{cases_Bool, cond-true, cond-false, eqb-true, eq-eqb, true≢false, false_from_ne_true}
 use Rattle.std.specs.Ordering.{is_eq, is_lt}
@@ -11,7 +11,7 @@ use Rattle.am_record.specs.declared.entry.Entry.{Entry}
 use Rattle.am_list.specs.Entries.{find, insert_entry, set_entry, remove_entry}
 use Rattle.am_list.specs.Edits.{same_place}
 use Rattle.am_list.specs.Runs.{run_entries}
-use Rattle.am_list.proofs.Edits.{one_place, find-hit, find-miss, remove-hit, remove-miss}
+use Rattle.am_list.proofs.Edits.{one_place, find-miss, remove-hit, remove-miss}
 use Rattle.am_parts.specs.Catalogs.{left_in}
 
 pub one_if : (a b : ℕ) → a ≡ b → ◌≡◌ {A = ℕ} (cond (a == b) 1 0) 1

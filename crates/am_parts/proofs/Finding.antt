@@ -1,9 +1,9 @@
 -- The look for a live key, by what the catalog says.
-use Rattle.std.proofs.Common.{◌≡◌, ◌≢◌, ℕ, zero, suc, ◌+◌, ◌<◌, ◌≤◌, Bool, true, false, List, [], ◌∷◌, length, get_or, take, Option, Some, None, refl, sym, ap, ◌∙◌, subst, ⊎_elim, arith}
-use Rattle.std.specs.Prelude.{IsSome, is_some, ◌==◌}
+use Rattle.std.proofs.Common.{◌≡◌, ◌≢◌, ℕ, zero, suc, ◌+◌, ◌<◌, ◌≤◌, true, false, List, [], ◌∷◌, length, get_or, take, drop, Option, Some, None, refl, sym, ap, ◌∙◌, subst, ⊎_elim, arith}
+use Rattle.std.specs.Prelude.{is_some, ◌==◌}
 use Rattle.std.specs.Option.{option_map}
-use Rattle.std.proofs.lemmas.Bool.{or_cases, cases_eq, eqb-true, true≢false, false≢true}
-use Rattle.std.proofs.lemmas.Option.{none-some, same_Some}
+use Rattle.std.proofs.lemmas.Bool.{or_cases, cases_eq, cases_lt, eqb-true, true≢false, false≢true}
+use Rattle.std.proofs.lemmas.Option.{none-some}
 use Rattle.std.specs.List.{AllByRecursion}
 use Rattle.std.specs.FinMap.{get}
 use Rattle.am_record.specs.OrderedKey.{OrderedKey}
@@ -14,10 +14,12 @@ use Rattle.am_list.specs.Content.{content, live_value, IsLiveAt}
 use Rattle.am_list.proofs.Edits.{first_such_all, entry_at_place}
 use Rattle.am_filter.specs.Held.{holds}
 use Rattle.am_parts.specs.declared.catalog.OpenRun.{OpenRun}
-use Rattle.am_parts.specs.Catalogs.{left_in, parts_of, is_one_of, IsOpenRun, AreListed}
+use Rattle.am_parts.specs.declared.generations.Generation.{Generation}
+use Rattle.am_parts.specs.Generations.{is_held, AreHeld}
+use Rattle.am_parts.specs.Catalogs.{parts_of, is_one_of, PartsRise, IsOpenRun, AreListed, Lacks}
 use Rattle.am_parts.specs.Partitions.{IsSound, LivesIn, LivesInNoRun}
 use Rattle.am_parts.proofs.Lives.{laws_of, lives_in}
-use Rattle.am_parts.proofs.Listed.{all_at, is_listed, some_left}
+use Rattle.am_parts.proofs.Listed.{is_listed, some_left}
 
 not_live : (o : Option Slot) (v : List ℕ) → is_some (live_value o) ≡ false → o ≡ Some (v, false) → ⊥
 not_live o v h e = true≢false (sym (ap (λ (p : Option Slot). is_some (live_value p)) e) ∙ h)
@@ -32,10 +34,6 @@ standing : (o : Option Entry) (s : Slot) → option_map slot_of o ≡ Some s →
 standing None s h = absurd (none-some s h)
 standing (Some e) s h = (e, refl)
 
--- the key is live in none of the runs
-abbrev pub NoneLive : List Entry → OrderedKey → List OpenRun → Type 0
-NoneLive es key rs = AllByRecursion (λ (r : OpenRun). (value : List ℕ) → IsLiveAt es r.part key value → ⊥) rs
-
 pub nothing_in_final : {es : List Entry} (k : OrderedKey) {n : ℕ} {runs : List OpenRun} → AreListed es n runs → n ≡ 0 → find es 0 k ≡ None
 nothing_in_final {es} k {n} {runs} h none = by_cases (find es 0 k) refl
   where
@@ -43,35 +41,51 @@ nothing_in_final {es} k {n} {runs} h none = by_cases (find es 0 k) refl
     by_cases None e = refl
     by_cases (Some s) e = absurd (omega (arith, some_left h 0 k (ap is_some e), h.counted, none))
 
-abbrev pub AllOpen : List Entry → List OpenRun → Type 0
-AllOpen es rs = AllByRecursion (IsOpenRun es) rs
+-- ---- partitions in which the key has no entry
 
-module _ {es : List Entry} {key : OrderedKey} where
-  pub ruled_out : (r : OpenRun) → IsOpenRun es r → holds r.filter key ≡ false → (value : List ℕ) → IsLiveAt es r.part key value → ⊥
-  ruled_out r it denied value live =
-      let e = standing (entry_at es r.part key) (value, false) live.there in
-      let place : (e.0.part, e.0.key) ≡ (r.part, key) = entry_at_place es r.part key e.0 e.1 in
-      let held = first_such_all (λ f. f.part ≡ r.part → holds r.filter f.key ≡ true) _ es e.0 it.held e.1 in
-      true≢false (sym (held (ap (λ (p : Place). p.0) place)) ∙ ap (holds r.filter) (ap (λ (p : Place). p.1) place) ∙ denied)
+-- the filters of the runs from one partition up to another rule the key out
+abbrev pub Deny : OrderedKey → ℕ → ℕ → List OpenRun → Type 0
+Deny key from to rs = AllByRecursion (λ (r : OpenRun). from ≤ r.part → r.part < to → holds r.filter key ≡ false) rs
 
-  pub found_dead : (part : ℕ) → is_some (live_value (find es part key)) ≡ false → (value : List ℕ) → IsLiveAt es part key value → ⊥
-  found_dead part dead value live = not_live (find es part key) value dead live.there
+module _ (es : List Entry) (key : OrderedKey) where
+  -- where an entry of the key stands, what is said of it
+  of_key : (P : ℕ → OrderedKey → Type 0) (part : ℕ) (e : Entry) → entry_at es part key ≡ Some e → AllByRecursion (λ f. P f.part f.key) es → P part key
+  of_key P part e at all =
+      let place : (e.part, e.key) ≡ (part, key) = entry_at_place es part key e at in
+      subst (λ (p : Place). P p.0 p.1) place (first_such_all (λ f. P f.part f.key) _ es e all at)
 
-  pub one_more_dead : (rs : List OpenRun) (i : ℕ) (r : OpenRun) → i < length rs → r ≡ get_or rs i r → ((value : List ℕ) → IsLiveAt es r.part key value → ⊥) → NoneLive es key (take i rs) → NoneLive es key (take (suc i) rs)
-  one_more_dead [] i r lt e dead before = absurd (omega arith)
-  one_more_dead (q ∷ rs) zero r lt e dead before = (subst (λ (x : OpenRun). (value : List ℕ) → IsLiveAt es x.part key value → ⊥) e dead, tt)
-  one_more_dead (q ∷ rs) (suc i) r lt e dead before = (before.0, one_more_dead rs i r (omega arith) e dead before.1)
+  none_stands : (part : ℕ) → ((e : Entry) → entry_at es part key ≡ Some e → ⊥) → find es part key ≡ None
+  none_stands part not = by_cases (find es part key) refl
+    where
+      by_cases : (o : Option Slot) → find es part key ≡ o → o ≡ None
+      by_cases None h = refl
+      by_cases (Some s) h = let e = standing (entry_at es part key) s h in absurd (not e.0 e.1)
 
-  one_dead : (part : ℕ) (value : List ℕ) (rs : List OpenRun) → NoneLive es key rs → is_one_of (parts_of rs) part ≡ true → IsLiveAt es part key value → ⊥
-  one_dead part value [] none one live = false≢true one
-  one_dead part value (r ∷ rs) none one live =
+  pub unheld : (gens : List Generation) (part : ℕ) → AreHeld es gens → 0 < part → is_held gens part key ≡ false → find es part key ≡ None
+  unheld gens part held some denied =
+      none_stands part (λ e at. true≢false (sym (of_key (λ p k. 0 < p → is_held gens p k ≡ true) part e at held some) ∙ denied))
+
+  one_denied : (from to part : ℕ) (e : Entry) (rs : List OpenRun) → entry_at es part key ≡ Some e → from ≤ part → part < to → AllByRecursion (IsOpenRun es) rs → Deny key from to rs → is_one_of (parts_of rs) part ≡ true → ⊥
+  one_denied from to part e [] at low high each deny one = false≢true one
+  one_denied from to part e (r ∷ rs) at low high each deny one =
       ⊎_elim
-      (λ here. none.0 value (subst (λ (p : ℕ). IsLiveAt es p key value) (sym (eqb-true r.part part here)) live))
-      (λ later. one_dead part value rs none.1 later live)
+      (λ here.
+      let same : r.part ≡ part = eqb-true r.part part here in
+      let held = of_key (λ p k. p ≡ r.part → holds r.filter k ≡ true) part e at each.0.held (sym same) in
+      true≢false (sym held ∙ deny.0 (omega (arith, same, low)) (omega (arith, same, high))))
+      (λ later. one_denied from to part e rs at low high each.1 deny.1 later)
       (or_cases (r.part == part) (is_one_of (parts_of rs) part) one)
 
-  pub in_no_run : {n : ℕ} {runs : List OpenRun} → AreListed es n runs → NoneLive es key runs → LivesInNoRun es key
-  in_no_run {n} {runs} h none = record { none = λ part value lt live. one_dead part value runs none (is_listed h part key lt (ap is_some live.there)) live }
+  pub denied : {n : ℕ} {runs : List OpenRun} (from to : ℕ) → AreListed es n runs → 0 < from → Deny key from to runs → Lacks es key from to
+  denied {n} {runs} from to h some deny = λ part low high.
+      none_stands part (λ e at. one_denied from to part e runs at low high h.each deny (is_listed h part key (omega (arith, some, low)) (ap (λ o. is_some (option_map slot_of o)) at)))
+
+  pub lacks_on : (from mid to : ℕ) → Lacks es key from mid → Lacks es key mid to → Lacks es key from to
+  lacks_on from mid to first then = λ part low high. ⊎_elim (λ (lt : part < mid). first part low lt) (λ (le : mid ≤ part). then part le high) (cases_lt part mid)
+
+module _ {es : List Entry} {key : OrderedKey} where
+  pub found_dead : (part : ℕ) → is_some (live_value (find es part key)) ≡ false → (value : List ℕ) → IsLiveAt es part key value → ⊥
+  found_dead part dead value live = not_live (find es part key) value dead live.there
 
   pub lives_found : IsSound es → (part : ℕ) → is_some (live_value (find es part key)) ≡ true → LivesIn es part key
   lives_found sound part live = let slot = live_slot (find es part key) live in lives_in sound (record { there = slot.1 })
@@ -82,3 +96,52 @@ module _ {es : List Entry} {key : OrderedKey} where
       (λ (same : part ≡ 0). found_dead 0 dead value (subst (λ (p : ℕ). IsLiveAt es p key value) same live))
       (λ (other : part ≢ 0). none.none part value (omega (arith, other)) live)
       (cases_eq part 0))
+
+module _ (es : List Entry) (key : OrderedKey) where
+  -- the key is live in none of the runs below a partition
+  abbrev pub NotLiveBelow : ℕ → Type 0
+  NotLiveBelow to = (part : ℕ) (value : List ℕ) → 0 < part → part < to → IsLiveAt es part key value → ⊥
+
+  pub lacks_live : (from to : ℕ) → NotLiveBelow from → Lacks es key from to → NotLiveBelow to
+  lacks_live from to below lacks = λ part value some lt live.
+      ⊎_elim (λ (less : part < from). below part value some less live) (λ (le : from ≤ part). none-some (value, false) (sym (lacks part le lt) ∙ live.there)) (cases_lt part from)
+
+  pub one_more_dead : (part : ℕ) → NotLiveBelow part → is_some (live_value (find es part key)) ≡ false → NotLiveBelow (part + 1)
+  one_more_dead part below dead = λ p value some lt live.
+      ⊎_elim
+      (λ (same : p ≡ part). found_dead {es = es} {key = key} part dead value (subst (λ (q : ℕ). IsLiveAt es q key value) same live))
+      (λ (other : p ≢ part). below p value some (omega (arith, other, lt)) live)
+      (cases_eq p part)
+
+-- ---- the runs that a look went through
+
+module _ (key : OrderedKey) (from to : ℕ) where
+  over_later : (p : ℕ) (rs : List OpenRun) → to ≤ p → AllByRecursion (λ q. p < q) (parts_of rs) → Deny key from to rs
+  over_later p [] le up = tt
+  over_later p (r ∷ rs) le up = ((λ low high. let lt : p < r.part = up.0 in absurd (omega (arith, lt, le, high))), over_later p rs le up.1)
+
+  from_here : (rs : List OpenRun) (i : ℕ) → PartsRise (parts_of rs) → AllByRecursion (λ (r : OpenRun). holds r.filter key ≡ false) (take i rs) → ((d : OpenRun) → i < length rs → to ≤ (get_or rs i d).part) → Deny key from to rs
+  from_here [] i up none stop = tt
+  from_here (r ∷ rs) zero up none stop =
+      let le : to ≤ r.part = stop r (omega arith) in
+      ((λ low high. absurd (omega (arith, le, high))), over_later r.part rs le up.0)
+  from_here (r ∷ rs) (suc i) up none stop = ((λ low high. none.0), from_here rs i up.1 none.1 (λ d lt. stop d (omega arith)))
+
+  pub went : (rs : List OpenRun) (at i : ℕ) → PartsRise (parts_of rs) → AllByRecursion (λ (r : OpenRun). r.part < from) (take at rs) → AllByRecursion (λ (r : OpenRun). holds r.filter key ≡ false) (take i (drop at rs))
+      → ((d : OpenRun) → i < length (drop at rs) → to ≤ (get_or (drop at rs) i d).part) → Deny key from to rs
+  went rs zero i up below none stop = from_here rs i up none stop
+  went [] (suc at) i up below none stop = tt
+  went (r ∷ rs) (suc at) i up below none stop = (let lt : r.part < from = below.0 in (λ low high. absurd (omega (arith, lt, low))), went rs at i up.1 below.1 none stop)
+
+  pub one_more_denied : (rs : List OpenRun) (i : ℕ) (r : OpenRun) → i < length rs → r ≡ get_or rs i r → holds r.filter key ≡ false → AllByRecursion (λ (q : OpenRun). holds q.filter key ≡ false) (take i rs)
+      → AllByRecursion (λ (q : OpenRun). holds q.filter key ≡ false) (take (suc i) rs)
+  one_more_denied [] i r lt e out before = absurd (omega arith)
+  one_more_denied (q ∷ rs) zero r lt e out before = (subst (λ (x : OpenRun). holds x.filter key ≡ false) e out, tt)
+  one_more_denied (q ∷ rs) (suc i) r lt e out before = (before.0, one_more_denied rs i r (omega arith) e out before.1)
+
+  -- where the rest was cut out as a slice
+  pub went_on : (rs rest : List OpenRun) (at i : ℕ) → rest ≡ drop at rs → PartsRise (parts_of rs) → AllByRecursion (λ (r : OpenRun). r.part < from) (take at rs) → AllByRecursion (λ (r : OpenRun). holds r.filter key ≡ false) (take i rest)
+      → ((d : OpenRun) → i < length rest → to ≤ (get_or rest i d).part) → Deny key from to rs
+  went_on rs rest at i same up below none stop =
+      went rs at i up below (subst (λ (l : List OpenRun). AllByRecursion (λ (r : OpenRun). holds r.filter key ≡ false) (take i l)) same none)
+      (λ d lt. subst (λ (l : List OpenRun). to ≤ (get_or l i d).part) same (stop d (subst (λ (l : List OpenRun). i < length l) (sym same) lt)))

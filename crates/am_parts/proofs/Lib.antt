@@ -1,5 +1,6 @@
 pub mod Bridge
 pub mod Counts
+pub mod Held
 pub mod Listed
 pub mod Catalogued
 pub mod Appending

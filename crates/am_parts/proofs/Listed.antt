@@ -1,6 +1,6 @@
 -- The runs that are listed, after each change.
-use Rattle.std.proofs.Common.{◌≡◌, ◌≢◌, ℕ, zero, suc, ◌+◌, ◌-◌, ◌<◌, ◌≤◌, Bool, true, false, cond, List, [], ◌∷◌, ◌++◌, length, get_or, set, take, drop, Option, Some, None, refl, sym, ap, ◌∙◌, subst, ⊎_elim, arith}
-use Rattle.std.specs.Prelude.{IsSome, is_some, ◌==◌}
+use Rattle.std.proofs.Common.{◌≡◌, ◌≢◌, ℕ, zero, suc, ◌+◌, ◌-◌, ◌<◌, ◌≤◌, Bool, true, false, cond, List, [], ◌∷◌, ◌++◌, length, get_or, set, take, drop, refl, sym, ap, ◌∙◌, subst, ⊎_elim, arith}
+use Rattle.std.specs.Prelude.{IsSome, ◌==◌}
 use Rattle.std.proofs.lemmas.Bool.{or_left, or_right, or_cases, cases_eq, cases_lt, eqb-true, eq-eqb, false≢true}
 use Rattle.std.specs.List.{AllByRecursion, insert, remove}
 use Rattle.am_record.specs.OrderedKey.{OrderedKey}

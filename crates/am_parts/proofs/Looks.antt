@@ -1,21 +1,12 @@
 -- What two tests of one list find, and the entry behind a slot.
-use Rattle.std.proofs.Common.{◌≡◌, ◌≢◌, ℕ, ◌+◌, ◌-◌, ◌^◌, ◌<◌, ◌≤◌, List, [], ◌∷◌, Bool, true, false, Option, Some, None, refl, sym, ap, ◌∙◌, subst, arith, ◌⊎◌, inl, inr, ⊎_elim}
-use Rattle.std.proofs.lemmas.Bool.{cases_Bool, cond-true, cond-false, both_ways, true≢false}
+use Rattle.std.proofs.Common.{◌≡◌, List, [], ◌∷◌, Bool, true, false, Option, Some, None, refl, sym, ◌∙◌, subst, ◌⊎◌, inl, inr, ⊎_elim}
+use Rattle.std.proofs.lemmas.Bool.{cases_Bool, cond-true, cond-false, both_ways}
 use Rattle.std.proofs.lemmas.Option.{none-some, same_Some}
-use Rattle.std.specs.declared.cmp.Ordering.{Ordering}
-use Rattle.std.specs.declared.cmp.Ordering.TheVariants.{Less, Equal, Greater}
-use Rattle.std.specs.Ordering.{is_eq, is_ge}
-use Rattle.std.specs.FinMap.{get}
-use Rattle.am_record.specs.OrderedKey.{OrderedKey, key_cmp, key_cmp-itself, key_cmp-exact}
-use Rattle.am_record.specs.EntryOrder.{Place, place_of, place_cmp, place_cmp-part, place_cmp-same}
+use Rattle.std.specs.declared.cmp.Ordering.TheVariants.{Less}
+use Rattle.am_record.specs.EntryOrder.{place_of, place_cmp}
 use Rattle.am_record.specs.declared.entry.Entry.{Entry}
-use Rattle.am_list.specs.Entries.{Slot, slot_of, first_such, entry_at, find, next_any, IsRising}
-use Rattle.am_list.specs.Content.{content, IsLiveAt}
-use Rattle.am_list.proofs.Order.{turned_greater}
-use Rattle.am_list.proofs.Edits.{first_such_all, first_such_passes, entry_at_place}
-use Rattle.am_list.proofs.Content.{all_found}
-use Rattle.am_parts.specs.Partitions.{IsSound, LivesIn}
-use Rattle.am_parts.proofs.Lives.{laws_of, lives_in}
+use Rattle.am_list.specs.Entries.{Slot, slot_of, first_such, IsRising}
+use Rattle.am_list.proofs.Edits.{first_such_all}
 
 -- ---- two tests of one list
 

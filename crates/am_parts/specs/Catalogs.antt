@@ -1,11 +1,13 @@
 -- What is known of the runs that have entries left.
-use Rattle.std.specs.Prelude.{◌≡◌, ◌+◌, ◌<◌, ◌≤◌, ◌==◌, ℕ, Bool, true, List, [], ◌∷◌, map, length, take, drop, slice_index_or, IsSome, if◌then◌else◌}
+use Rattle.std.specs.Prelude.{◌≡◌, ◌+◌, ◌<◌, ◌≤◌, ◌==◌, ℕ, Bool, true, List, [], ◌∷◌, map, length, take, drop, slice_index_or, None, IsSome, if◌then◌else◌}
 use Rattle.std.specs.List.{AllByRecursion, list_any}
 use Rattle.am_record.specs.OrderedKey.{OrderedKey}
+use Rattle.am_record.specs.KeyMix.{key_mix}
 use Rattle.am_record.specs.Plain.{Records}
 use Rattle.am_record.specs.declared.entry.Entry.{Entry}
 use Rattle.am_list.specs.Entries.{find}
 use Rattle.am_filter.specs.Held.{holds}
+use Rattle.am_parts.specs.Generations.{AreHeld}
 use Rattle.am_parts.specs.declared.catalog.OpenRun.{OpenRun}
 use Rattle.am_parts.specs.declared.catalog.Catalog.{Catalog}
 
@@ -39,8 +41,21 @@ pub record AreListed (es : List Entry) (in_final : ℕ) (runs : List OpenRun) : 
   pub every : AllByRecursion (λ e. 0 < e.part → is_one_of (parts_of runs) e.part ≡ true) es
   pub rising : PartsRise (parts_of runs)
 
-abbrev pub IsCatalog : List Entry → Catalog → Type 0
-IsCatalog es c = AreListed es c.in_final c.runs.items
+abbrev pub AreCounted : List Entry → Catalog → Type 0
+AreCounted es c = AreListed es c.in_final c.runs.items
+
+-- the entries are counted, and the generations hold the keys of all runs
+pub record IsCatalog (es : List Entry) (c : Catalog) : Type 0 where
+  pub counted : AreCounted es c
+  pub held : AreHeld es c.generations.list.items
+
+-- no entry of the key stands in the partitions from one up to another
+abbrev pub Lacks : List Entry → OrderedKey → ℕ → ℕ → Type 0
+Lacks es key from to = (part : ℕ) → from ≤ part → part < to → find es part key ≡ None
+
+-- whatever the entries, the keys of that number have none there
+abbrev pub Passes : Catalog → ℕ → ℕ → ℕ → Type 0
+Passes c number from to = (es : List Entry) (key : OrderedKey) → number ≡ key_mix key → IsCatalog es c → Lacks es key from to
 
 -- the run at the index is that of the partition
 pub record IsRunAt (runs : List OpenRun) (part : ℕ) (i : ℕ) : Type 0 where

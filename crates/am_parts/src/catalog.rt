@@ -1,27 +1,26 @@
 //! What is known of the partitions without a look into the index.
 
-ghost use Rattle.std.specs.Prelude.{ℕ, ◌≡◌, ◌<◌, ◌≤◌, ◌++◌, [], List, length, take, drop, false, IsSome, IfOk, IfErr, OnOk, OnErr, vec_len, vec_capacity};
+ghost use Rattle.std.specs.Prelude.{ℕ, ◌≡◌, ◌<◌, ◌≤◌, ◌++◌, [], List, length, take, drop, slice_index_or, false, IsSome, IfSome, IfNone, IfOk, IfErr, OnOk, OnErr, vec_len, vec_capacity};
 ghost use Rattle.std.specs.List.{AllByRecursion};
 ghost use Rattle.am_record.specs.KeyMix.{key_mix};
 ghost use Rattle.am_record.specs.OrderedKey.{OrderedKey};
-ghost use Rattle.am_record.specs.Plain.{Records};
 ghost use Rattle.am_record.specs.declared.entry.Entry.{Entry};
 ghost use Rattle.am_list.specs.Entries.{find, insert_entry, remove_entry};
 ghost use Rattle.am_list.specs.Runs.{run_entries};
 ghost use Rattle.am_filter.specs.Held.{holds};
+ghost use Rattle.am_parts.specs.Generations.{IsReached};
+ghost use Rattle.am_parts.specs.declared.generations.Generation.{Generation};
 ghost use Rattle.am_parts.specs.Catalogs.{parts_of, PartsRise, IsRunAt, IsGapAt, HasCounted, HasMore, IsRunOf, IsNext};
 
+use crate::generations::{Generations, SOME_KEYS};
 use am_filter::Filter;
 use am_record::{Key, NoMemory, Value};
 use std::alloc::Global;
 
-// For how many keys a filter is made where it isn't known how many will come.
-const SOME_KEYS: usize = 64;
-
 /// A run that has entries left.
 #[derive(Drop)]
 pub(crate) struct OpenRun {
-    pub(crate) part: u32,
+    part: u32,
     // How many entries are left in it.
     left: u64,
     // The keys of its entries, and of some that are gone.
@@ -40,8 +39,8 @@ impl OpenRun {
         })
     }
 
-    /// Whether an entry of the key may stand in the run. The number is the key's, made once for all runs.
-    pub(crate) fn may_have(&self, number: u64) -> bool
+    // Whether an entry of the key may stand in the run. The number is the key's, made once for all runs.
+    fn may_have(&self, number: u64) -> bool
         ensures { (key : OrderedKey) → number ≡ key_mix key → result ≡ holds self.now.filter key }
     {
         self.filter.holds_mixed(number)
@@ -58,18 +57,19 @@ impl OpenRun {
     }
 }
 
-/// How many entries stand in the final partition, and the runs that have entries left. A run that is
+/// How many entries stand in the final partition, and the runs that have entries left, with filters over all of them. A run that is
 /// not among them has none.
 #[derive(Drop)]
 pub(crate) struct Catalog {
     in_final: u64,
     // By rising partition.
     runs: Vec<OpenRun>,
+    generations: Generations,
     alloc: Global,
 }
 
 impl Catalog {
-    ghost use Rattle.am_parts.specs.Catalogs.{IsCatalog};
+    ghost use Rattle.am_parts.specs.Catalogs.{AreCounted, IsCatalog, Passes};
 
     /// That of an empty index. It takes no memory.
     pub(crate) fn new(alloc: Global) -> Catalog
@@ -78,6 +78,7 @@ impl Catalog {
         Catalog {
             in_final: 0,
             runs: Vec::new(alloc),
+            generations: Generations::new(alloc),
             alloc,
         }
     }
@@ -89,11 +90,59 @@ impl Catalog {
         self.in_final > 0
     }
 
-    /// The runs that have entries left, by rising partition.
-    pub(crate) fn runs(&self) -> &[OpenRun]
-        ensures { result.now ≡ self.now.runs.items }
+    /// The first run from a partition on that may have an entry of the key. The number is the key's.
+    pub(crate) fn next_place(&self, from: u64, number: u64) -> Option<u32>
+        requires some { 0 < from }
+        requires rising { PartsRise (parts_of self.now.runs.items) }
+        ensures further { IfSome result (λ part. from ≤ part) }
+        ensures passed { IfSome result (λ part. Passes self.now number from part) }
+        ensures none { IfNone result ((to : ℕ) → Passes self.now number from to) }
     {
-        &self.runs
+        let mut next = from;
+        for (at, generation) in self.generations.list().iter().enumerate() {
+            if let Some(part) = self.next_of(at, next, number) {
+                return Some(part);
+            }
+            next = next.max(generation.end);
+        }
+        None
+    }
+
+    // The same among the runs of one generation, where those before it end at the partition or below.
+    fn next_of(&self, at: usize, from: u64, number: u64) -> Option<u32>
+        requires some { 0 < from }
+        requires rising { PartsRise (parts_of self.now.runs.items) }
+        requires in_range { at < length self.now.generations.list.items }
+        requires before { AllByRecursion (λ g. g.end ≤ from) (take at self.now.generations.list.items) }
+        ensures further { IfSome result (λ part. from ≤ part) }
+        ensures passed { IfSome result (λ part. Passes self.now number from part) }
+        ensures none { IfNone result ((d : Generation) → Passes self.now number from (slice_index_or self.now.generations.list.items at d).end) }
+    {
+        let generation = &self.generations.list()[at];
+        if generation.end <= from || !generation.may_have(number) {
+            return None;
+        }
+        self.next_before(from, generation.end, number)
+    }
+
+    // The first run from one partition on, and before another, whose own filter may have the key.
+    fn next_before(&self, from: u64, to: u64, number: u64) -> Option<u32>
+        requires some { 0 < from }
+        requires rising { PartsRise (parts_of self.now.runs.items) }
+        ensures further { IfSome result (λ part. from ≤ part) }
+        ensures passed { IfSome result (λ part. Passes self.now number from part) }
+        ensures none { IfNone result (Passes self.now number from to) }
+    {
+        let at = count_below(&self.runs, from);
+        for run in &self.runs[at..] {
+            if u64::from(run.part) >= to {
+                return None;
+            }
+            if run.may_have(number) {
+                return Some(run.part);
+            }
+        }
+        None
     }
 
     /// Counts an entry of that partition and key.
@@ -109,6 +158,18 @@ impl Catalog {
             self.in_final = self.in_final.checked_add(1).ok_or(NoMemory)?;
             return Ok(());
         }
+        self.generations.add(part, key)?;
+        self.add_to_run(part, key)
+    }
+
+    // Counts an entry of a run.
+    fn add_to_run(&mut self, part: u32, key: Key) -> Result<(), NoMemory>
+        requires is_run { 0 < part }
+        requires rising { PartsRise (parts_of self.old.runs.items) }
+        ensures ok { OnOk result ((es : List Entry) (x : Entry) → x.part ≡ part → x.key ≡ key → AreCounted es self.old → AreCounted (insert_entry es x) self.new) }
+        ensures err { OnErr result ((es : List Entry) → AreCounted es self.old → AreCounted es self.new) }
+        ensures generations { self.new.generations ≡ self.old.generations }
+    {
         match search(&self.runs, part) {
             Ok(at) => self.runs[at].add(key),
             Err(at) => self.open(at, part, key),
@@ -119,8 +180,9 @@ impl Catalog {
     fn open(&mut self, at: usize, part: u32, key: Key) -> Result<(), NoMemory>
         requires is_run { 0 < part }
         requires gap { IsGapAt self.old.runs.items part at }
-        ensures ok { OnOk result ((es : List Entry) (x : Entry) → x.part ≡ part → x.key ≡ key → IsCatalog es self.old → IsCatalog (insert_entry es x) self.new) }
-        ensures err { OnErr result ((es : List Entry) → IsCatalog es self.old → IsCatalog es self.new) }
+        ensures ok { OnOk result ((es : List Entry) (x : Entry) → x.part ≡ part → x.key ≡ key → AreCounted es self.old → AreCounted (insert_entry es x) self.new) }
+        ensures err { OnErr result ((es : List Entry) → AreCounted es self.old → AreCounted es self.new) }
+        ensures generations { self.new.generations ≡ self.old.generations }
     {
         let mut filter = Filter::new(self.alloc, SOME_KEYS)?;
         filter.add(key);
@@ -142,17 +204,45 @@ impl Catalog {
             self.in_final -= 1;
             return;
         }
+        if self.take_from_run(part) {
+            self.let_go(part);
+        }
+    }
+
+    // Counts an entry of a run as gone. Whether the run leaves.
+    fn take_from_run(&mut self, part: u32) -> bool
+        requires is_run { 0 < part }
+        requires counted { HasCounted self.old part }
+        ensures listed { (es : List Entry) (key : OrderedKey) → AreCounted es self.old → IsSome (find es part key) → AreCounted (remove_entry es part key) self.new }
+        ensures generations { self.new.generations ≡ self.old.generations }
+    {
         let Ok(at) = search(&self.runs, part) else {
             unreachable!()
         };
         if self.runs[at].left > 1 {
             self.runs[at].left -= 1;
-        } else {
-            let _ = self.runs.remove(at);
+            return false;
+        }
+        let _ = self.runs.remove(at);
+        true
+    }
+
+    // Lets go the generation of a partition, where none of its runs is left.
+    fn let_go(&mut self, part: u32)
+        requires { PartsRise (parts_of self.old.runs.items) }
+        ensures { (es : List Entry) → IsCatalog es self.old → IsCatalog es self.new }
+    {
+        let at = self.generations.place(part);
+        if at == self.generations.list().len() {
+            return;
+        }
+        let (from, to) = self.generations.stretch(at);
+        if count_below(&self.runs, from) == count_below(&self.runs, to) {
+            self.generations.remove(at);
         }
     }
 
-    /// The run of these records, with room got for it.
+    /// The run of these records, with room got for it and for its keys. No entry stands in its partition or above it.
     ///
     /// # Errors
     /// NoMemory, where memory was refused.
@@ -163,17 +253,32 @@ impl Catalog {
     ) -> Result<OpenRun, NoMemory>
         ensures run { IfOk result (IsRunOf part pairs.now) }
         ensures room { OnOk result (vec_len self.new.runs < vec_capacity self.new.runs) }
-        ensures same { (es : List Entry) → IsCatalog es self.old → IsCatalog es self.new }
+        ensures reached { OnOk result (IsReached self.new.generations.list.items part) }
+        ensures same { (es : List Entry) → AllByRecursion (λ e. e.part < part) es → IsCatalog es self.old → IsCatalog es self.new }
     {
         self.runs.reserve(1)?;
-        OpenRun::of(self.alloc, part, pairs)
+        let run = OpenRun::of(self.alloc, part, pairs)?;
+        let left = self.left();
+        self.generations.make_room(part, pairs.len(), left)?;
+        Ok(run)
     }
 
-    /// Puts a run behind all others, for which room was got.
-    pub(crate) fn push(&mut self, run: OpenRun)
-        requires { vec_len self.old.runs < vec_capacity self.old.runs }
-        ensures { (es : List Entry) (part : ℕ) (rs : Records) → IsCatalog es self.old → IsNext es part rs → IsRunOf part rs run → IsCatalog (es ++ run_entries part rs) self.new }
+    // How many entries are left in all runs.
+    fn left(&self) -> usize {
+        let mut left: u64 = 0;
+        for run in &self.runs {
+            left = left.saturating_add(run.left);
+        }
+        left as usize
+    }
+
+    /// Puts the run of these records behind all others, for which room was got. Takes no memory.
+    pub(crate) fn push(&mut self, run: OpenRun, pairs: &[(Key, Value)])
+        requires room { vec_len self.old.runs < vec_capacity self.old.runs }
+        requires reached { IsReached self.old.generations.list.items run.part }
+        ensures { (es : List Entry) (part : ℕ) → IsCatalog es self.old → IsNext es part pairs.now → IsRunOf part pairs.now run → IsCatalog (es ++ run_entries part pairs.now) self.new }
     {
+        self.generations.push(run.part, pairs);
         let Ok(()) = self.runs.push(run) else {
             unreachable!()
         };
@@ -186,7 +291,7 @@ fn search(runs: &[OpenRun], part: u32) -> Result<usize, usize>
     ensures found { IfOk result (IsRunAt runs.now part) }
     ensures absent { IfErr result (IsGapAt runs.now part) }
 {
-    let at = count_below(runs, part);
+    let at = count_below(runs, u64::from(part));
     match runs.get(at) {
         Some(run) if run.part == part => Ok(at),
         _ => Err(at),
@@ -194,11 +299,11 @@ fn search(runs: &[OpenRun], part: u32) -> Result<usize, usize>
 }
 
 // The number of runs below the partition.
-fn count_below(runs: &[OpenRun], part: u32) -> usize
+fn count_below(runs: &[OpenRun], part: u64) -> usize
     requires { PartsRise (parts_of runs.now) }
     ensures in_range { result ≤ length runs.now }
     ensures below { AllByRecursion (λ r. r.part < part) (take result runs.now) }
     ensures others { AllByRecursion (λ r. part ≤ r.part) (drop result runs.now) }
 {
-    runs.partition_point(|run| run.part < part)
+    runs.partition_point(|run| u64::from(run.part) < part)
 }

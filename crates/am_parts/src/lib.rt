@@ -2,6 +2,7 @@
 #![tactic(auto)]
 
 mod catalog;
+mod generations;
 mod parts;
 
 pub use parts::Parts;

@@ -145,10 +145,12 @@ impl<I: PartIndex + Drop> Parts<I> {
         ensures sound { IsSound self.now.entries }
     {
         let number = key.mixed();
-        for run in self.catalog.runs() {
-            if run.may_have(number) && is_live(self.index.find(run.part, key)) {
-                return Some(run.part);
+        let mut from = 1;
+        while let Some(part) = self.catalog.next_place(from, number) {
+            if is_live(self.index.find(part, key)) {
+                return Some(part);
             }
+            from = u64::from(part) + 1;
         }
         None
     }
@@ -224,7 +226,7 @@ impl<I: PartIndex + Drop> Parts<I> {
         let part = self.runs + 1;
         let run = self.catalog.make_room(part, pairs)?;
         self.index.append_run(part, pairs)?;
-        self.catalog.push(run);
+        self.catalog.push(run, pairs);
         self.runs = part;
         Ok(())
     }

@@ -1,10 +1,10 @@
-use Rattle.std.proofs.Common.{◌≡◌, List, sym, ap, ◌∙◌, subst, true}
-use Rattle.std.specs.Prelude.{IsSome, is_some, is_err, OnErr}
+use Rattle.std.proofs.Common.{◌≡◌, List, sym, ap, ◌∙◌, subst}
+use Rattle.std.specs.Prelude.{is_some}
 use Rattle.std.specs.Option.{option_map}
 use Rattle.am_record.specs.declared.entry.Entry.{Entry}
-use Rattle.am_list.specs.Entries.{slot_of, find, insert_entry}
+use Rattle.am_list.specs.Entries.{slot_of, insert_entry}
 use Rattle.am_list.proofs.Edits.{entry_at_inserted, insert_back}
-use Rattle.am_parts.specs.Catalogs.{AreListed}
+use Rattle.am_parts.specs.Catalogs.{IsCatalog}
 use Rattle.am_parts.proofs.Appending.{on_err}
 use Rattle.am_parts.proofs.parts.insert_or_forget.Goals as goal
 
@@ -20,5 +20,5 @@ pub returns-then-is_err-clause-catalog : goal.returns-then-is_err-clause-catalog
 returns-then-is_err-clause-catalog g c =
     let es = g.I.PartIndex.entries c.args.index.now in let x = c.args.entry in
     let back : g.I.PartIndex.entries c.insert-added.new.self ≡ es = on_err c.insert-added.result (sym c.is_err.ensures.value ∙ c.if-is_err.true) c.insert-added.ensures.err in
-    subst (λ (l : List Entry). AreListed l c.take.new.self.in_final c.take.new.self.runs.items) (insert_back es x ∙ sym back)
+    subst (λ (l : List Entry). IsCatalog l c.take.new.self) (insert_back es x ∙ sym back)
     (c.take.ensures (insert_entry es x) x.key c.requires.counted (ap is_some (ap (option_map slot_of) (entry_at_inserted es x))))

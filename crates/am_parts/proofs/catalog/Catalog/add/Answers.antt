@@ -1,22 +1,24 @@
-use Rattle.std.proofs.Common.{◌≡◌, ◌≢◌, ◌+◌, ℕ, sym, ap, ◌∙◌, subst, rules, arith}
+use Rattle.std.proofs.Common.{◌≡◌, ◌<◌, ◌+◌, ℕ, true, sym, ◌∙◌, subst, rules, arith}
 use Rattle.am_list.specs.Entries.{insert_entry}
-use Rattle.am_parts.specs.declared.catalog.OpenRun.{OpenRun}
-use Rattle.am_parts.specs.Catalogs.{AreListed, IsRunAt}
+use Rattle.am_parts.specs.declared.generations.Generations.{Generations}
+use Rattle.am_parts.specs.Catalogs.{AreListed}
+use Rattle.am_parts.specs.Generations.{is_held, AreHeld}
+use Rattle.am_parts.proofs.Counts.{all_inserted}
 use Rattle.am_parts.proofs.Listed.{final_more}
-use Rattle.am_parts.proofs.Catalogued.{more_at, as_before}
+use Rattle.am_parts.proofs.Catalogued.{ok_map}
 use Rattle.am_parts.proofs.catalog.Catalog.add.Goals as goal
 
 pub returns-then-part-eq0-clause-ok : goal.returns-then-part-eq0-clause-ok
-returns-then-part-eq0-clause-ok c = λ es x p k h.
+returns-then-part-eq0-clause-ok c = λ es x p k whole.
     let more : c.in_ok-self.field-0 ≡ c.args.self.now.in_final + 1 = search rules in
-    subst (λ (n : ℕ). AreListed (insert_entry es x) n c.args.self.now.runs.items) (sym more) (final_more h x (p ∙ c.if-part-eq0.true))
+    record {
+      counted = subst (λ (n : ℕ). AreListed (insert_entry es x) n c.args.self.now.runs.items) (sym more) (final_more whole.counted x (p ∙ c.if-part-eq0.true));
+      held = all_inserted (λ e. 0 < e.part → is_held c.args.self.now.generations.list.items e.part e.key ≡ true) es x (λ some. absurd (omega (arith, some, p, c.if-part-eq0.true))) whole.held;
+    }
 
-pub returns-in-Ok-clause-ok : goal.returns-in-Ok-clause-ok
-returns-in-Ok-clause-ok c =
-    let at = subst (λ l. IsRunAt l c.args.part c.in-Ok.at) c.deref.ensures.value c.in-Ok.ensures.found in
-    more_at at c.index_mut.result.now c.add.new.self c.index_mut.ensures.value c.args.self.now.in_final c.add.result c.args.key c.if-part-eq0.false c.add.ensures.ok
-
-pub returns-in-Ok-clause-err : goal.returns-in-Ok-clause-err
-returns-in-Ok-clause-err c =
-    let at = subst (λ l. IsRunAt l c.args.part c.in-Ok.at) c.deref.ensures.value c.in-Ok.ensures.found in
-    as_before at c.index_mut.result.now c.add.new.self c.index_mut.ensures.value c.args.self.now.in_final c.add.result c.add.ensures.err
+pub returns-clause-ok : goal.returns-clause-ok
+returns-clause-ok c = ok_map c.add_to_run.result
+    (λ more es x p k whole. record {
+      counted = more es x p k whole.counted;
+      held = subst (λ (g : Generations). AreHeld (insert_entry es x) g.list.items) (sym c.add_to_run.ensures.generations) (c.in_ok-add.ensures.ok es x p k whole.held);
+    }) c.add_to_run.ensures.ok

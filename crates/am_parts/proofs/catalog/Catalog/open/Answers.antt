@@ -1,5 +1,4 @@
-use Rattle.std.proofs.Common.{◌≡◌, ◌<◌, ℕ, sym, ap, ◌∙◌, subst, refl}
-use Rattle.am_record.specs.OrderedKey.{OrderedKey}
+use Rattle.std.proofs.Common.{◌<◌, ℕ, sym, ap, ◌∙◌, subst, refl}
 use Rattle.am_filter.specs.Held.{holds}
 use Rattle.am_parts.specs.Catalogs.{AreListed, IsGapAt}
 use Rattle.am_parts.proofs.Listed.{opened}

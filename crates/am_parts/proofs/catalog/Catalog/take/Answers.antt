@@ -1,37 +1,27 @@
-use Rattle.std.proofs.Common.{◌≡◌, ◌≢◌, ◌<◌, ◌≤◌, ◌+◌, ◌-◌, ℕ, sym, ap, ◌∙◌, subst, refl, arith}
-use Rattle.std.proofs.lemmas.List.{get_or_default}
+use Rattle.std.proofs.Common.{◌≡◌, ◌<◌, ℕ, true, subst, arith}
 use Rattle.std.specs.Prelude.{IsSome}
-use Rattle.am_list.specs.Entries.{find}
-use Rattle.am_record.specs.OrderedKey.{OrderedKey}
-use Rattle.am_parts.specs.declared.catalog.OpenRun.{OpenRun}
-use Rattle.am_parts.specs.Catalogs.{AreListed, IsRunAt, IsGapAt}
-use Rattle.am_parts.proofs.Listed.{some_left, is_listed, not_one, no_run_at_gap, final_less, run_gone}
-use Rattle.am_parts.proofs.Catalogued.{less_at}
+use Rattle.am_list.specs.Entries.{find, remove_entry}
+use Rattle.am_parts.specs.Generations.{is_held}
+use Rattle.am_parts.proofs.Counts.{all_removed}
+use Rattle.am_parts.proofs.Listed.{some_left, final_less}
+use Rattle.am_parts.proofs.Catalogued.{catalog_less}
 use Rattle.am_parts.proofs.catalog.Catalog.take.Goals as goal
 
 pub overflow_sub-self : goal.overflow_sub-self
 overflow_sub-self c =
     let stands : IsSome (find c.requires.entries 0 c.requires.key) = subst (λ (p : ℕ). IsSome (find c.requires.entries p c.requires.key)) c.if-part-eq0.true c.requires.stands in
-    omega (arith, some_left c.requires.catalog 0 c.requires.key stands, c.requires.catalog.counted)
+    omega (arith, some_left c.requires.catalog.counted 0 c.requires.key stands, c.requires.catalog.counted.counted)
 
 pub returns-then-part-eq0 : goal.returns-then-part-eq0
-returns-then-part-eq0 c = λ es key h stands. final_less h c.args.part key stands c.if-part-eq0.true
+returns-then-part-eq0 c = λ es key whole stands. record {
+  counted = final_less whole.counted c.args.part key stands c.if-part-eq0.true;
+  held = all_removed (λ e. 0 < e.part → is_held c.args.self.now.generations.list.items e.part e.key ≡ true) c.args.part key es whole.held;
+}
 
-pub unreachable-requires : goal.unreachable-requires
-unreachable-requires c =
-    let gap = subst (λ l. IsGapAt l c.args.part c.in_default.field-0) c.deref.ensures.value c.in_default.ensures.absent in
-    not_one c.args.part c.args.self.now.runs.items (no_run_at_gap c.args.part c.args.self.now.runs.items c.in_default.field-0 gap.below gap.above)
-    (is_listed c.requires.catalog c.args.part c.requires.key (omega (arith, c.if-part-eq0.false)) c.requires.stands)
+pub returns-then-take_from_run : goal.returns-then-take_from_run
+returns-then-take_from_run c = λ es key whole stands.
+    c.let_go.ensures (remove_entry es c.args.part key) (catalog_less c.args.part key whole (c.take_from_run.ensures.listed es key whole.counted stands) c.take_from_run.ensures.generations)
 
-pub returns-then-index-gt1 : goal.returns-then-index-gt1
-returns-then-index-gt1 c =
-    let at = subst (λ l. IsRunAt l c.args.part c.in-Ok.at) c.deref.ensures.value c.in-Ok.ensures.found in
-    let old = c.index_mut.result.now in
-    let same : old.left ≡ c.index.result.now.left = ap (λ (r : OpenRun). r.left) (c.index_mut.ensures.value ∙ get_or_default c.args.self.now.runs.items c.in-Ok.at old c.index.result.now at.in_range ∙ sym c.index.ensures) in
-    let many : 1 < old.left = omega (arith, same, c.if-index-gt1.true) in
-    less_at at old (record { part = old.part; left = old.left - 1; filter = old.filter }) c.index_mut.ensures.value c.args.self.now.in_final c.if-part-eq0.false refl (omega (arith, many)) refl (omega (arith, many))
-
-pub returns-else-index-gt1 : goal.returns-else-index-gt1
-returns-else-index-gt1 c = λ es key h stands.
-    let at = subst (λ l. IsRunAt l c.args.part c.in-Ok.at) c.deref.ensures.value c.in-Ok.ensures.found in
-    subst (AreListed _ _) (sym c.remove.ensures.items) (run_gone h c.args.part key stands (omega (arith, c.if-part-eq0.false)) c.in-Ok.at at c.index.result.now (omega (arith, ap (λ (r : OpenRun). r.left) c.index.ensures, c.if-index-gt1.false)))
+pub returns-else-take_from_run : goal.returns-else-take_from_run
+returns-else-take_from_run c = λ es key whole stands.
+    catalog_less c.args.part key whole (c.take_from_run.ensures.listed es key whole.counted stands) c.take_from_run.ensures.generations

@@ -1,4 +1,4 @@
-use Rattle.std.proofs.Common.{◌≡◌, List, refl, sym, ap, arith}
+use Rattle.std.proofs.Common.{refl, ap, arith}
 use Rattle.am_parts.specs.Partitions.{Partitions}
 use Rattle.am_parts.proofs.Changes.{adds_sound, adds_content}
 use Rattle.am_parts.proofs.parts.Parts.add.Goals as goal

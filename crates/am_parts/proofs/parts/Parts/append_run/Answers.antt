@@ -1,13 +1,13 @@
-use Rattle.std.proofs.Common.{◌≡◌, ◌+◌, ◌≤◌, ◌++◌, None, ℕ, List, sym, ap, ◌∙◌, subst, refl, arith}
+use Rattle.std.proofs.Common.{◌≡◌, ◌+◌, ◌≤◌, ◌++◌, None, List, sym, ap, ◌∙◌, subst, arith}
 use Rattle.std.specs.List.{AllByRecursion}
 use Rattle.std.specs.FinMap.{get}
 use Rattle.am_record.specs.Plain.{insert_all}
 use Rattle.am_record.specs.declared.entry.Entry.{Entry}
 use Rattle.am_list.specs.Content.{content, HasContent}
 use Rattle.am_list.specs.Runs.{run_entries}
-use Rattle.am_parts.specs.Catalogs.{AreListed}
+use Rattle.am_parts.specs.Catalogs.{IsCatalog}
 use Rattle.am_parts.specs.Partitions.{Partitions, IsSound}
-use Rattle.am_parts.proofs.Appending.{is_next, next_rises, next_content, next_sound}
+use Rattle.am_parts.proofs.Appending.{is_next, under_next, next_rises, next_content, next_sound}
 use Rattle.am_parts.proofs.parts.Parts.append_run.Goals as goal
 
 pub append_run-requires-clause-above : goal.append_run-requires-clause-above
@@ -25,8 +25,17 @@ invariant_of-self-2 g c =
     let runs : c.self.inside.runs ≡ c.args.self.now.runs = ap (λ (p : Partitions). p.runs) c.self.view_is in (
       subst IsSound (sym c.in_ok-append_run.ensures.ok) (next_sound c.self.inside.runs c.args.pairs.now c.self.invariant.0 above c.requires.rising dead (omega (arith, runs, c.requires.room))),
       omega (arith, runs, c.requires.room),
-      subst (λ (es : List Entry). AreListed es c.push.new.self.in_final c.push.new.self.runs.items) (sym c.in_ok-append_run.ensures.ok)
-          (c.push.ensures _ (c.self.inside.runs + 1) c.args.pairs.now (c.make_room.ensures.same _ c.self.invariant.2) (is_next _ c.self.inside.runs c.args.pairs.now above c.requires.rising) c.in_ok-run.ensures.run),
+      subst (λ (es : List Entry). IsCatalog es c.push.new.self) (sym c.in_ok-append_run.ensures.ok)
+          (c.push.ensures _ (c.self.inside.runs + 1) (c.make_room.ensures.same _ (under_next _ c.self.inside.runs above) c.self.invariant.2) (is_next _ c.self.inside.runs c.args.pairs.now above c.requires.rising) c.in_ok-run.ensures.run),
+    )
+
+pub invariant_of-self-in_err-append_run : goal.invariant_of-self-in_err-append_run
+invariant_of-self-in_err-append_run g c =
+    let above = subst (λ (p : Partitions). AllByRecursion (λ (e : Entry). e.part ≤ p.runs) p.entries) (sym c.self.view_is) c.requires.above in
+    let same = sym c.in_err-append_run.ensures.err in (
+      subst IsSound same c.self.invariant.0,
+      c.self.invariant.1,
+      subst (λ (es : List Entry). IsCatalog es c.make_room.new.self) same (c.make_room.ensures.same _ (under_next _ c.self.inside.runs above) c.self.invariant.2),
     )
 
 pub returns-clause-content : goal.returns-clause-content

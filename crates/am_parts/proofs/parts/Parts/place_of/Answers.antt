@@ -1,5 +1,5 @@
-use Rattle.std.proofs.Common.{◌≡◌, false, Option, Some, None, ℕ, sym, ◌∙◌}
-use Rattle.std.specs.Prelude.{IfNone, is_some}
+use Rattle.std.proofs.Common.{◌≡◌, Option, Some, None, ℕ, sym, ◌∙◌}
+use Rattle.std.specs.Prelude.{IfNone}
 use Rattle.std.specs.FinMap.{get}
 use Rattle.am_list.specs.Content.{content}
 use Rattle.am_parts.specs.Partitions.{LivesInNoRun}

@@ -1,7 +1,7 @@
 use Rattle.std.proofs.Common.{sym, subst, ap}
 use Rattle.std.specs.Prelude.{IsSome}
 use Rattle.am_list.specs.Entries.{find}
-use Rattle.am_parts.specs.Catalogs.{AreListed}
+use Rattle.am_parts.specs.Catalogs.{IsCatalog}
 use Rattle.am_parts.specs.Partitions.{Partitions}
 use Rattle.am_parts.proofs.Changes.{takes}
 use Rattle.am_parts.proofs.parts.Parts.take.Goals as goal
@@ -18,7 +18,7 @@ pub invariant_of-self : goal.invariant_of-self
 invariant_of-self g c = (
   (takes (ap (λ (p : Partitions). p.entries) c.self.view_is) c.self.invariant.0 c.args.part c.args.key c.requires c.remove.ensures.others).sound,
   c.self.invariant.1,
-  subst (λ es. AreListed es c.take.new.self.in_final c.take.new.self.runs.items) (sym c.remove.ensures.others)
+  subst (λ es. IsCatalog es c.take.new.self) (sym c.remove.ensures.others)
       (c.take.ensures _ c.args.key c.self.invariant.2 (subst (λ (p : Partitions). IsSome (find p.entries c.args.part c.args.key)) (sym c.self.view_is) c.requires)),
 )
 

@@ -1,0 +1,10 @@
+use Rattle.std.proofs.Common.{◌++◌, ◌∷◌, [], sym, subst}
+use Rattle.am_parts.specs.Generations.{AreHeld}
+use Rattle.am_parts.proofs.Held.{all_held, held_behind}
+use Rattle.am_parts.proofs.generations.Generations.make_room.Goals as goal
+
+pub returns-clause-kept : goal.returns-clause-kept
+returns-clause-kept c = λ es below held.
+    let gens = c.close.new.self.list.items in let s = c.in_ok-generation.generation in
+    subst (AreHeld es) (sym c.in_ok-push.ensures.items)
+    (all_held gens (gens ++ s ∷ []) (λ q r. held_behind q r gens s) es (c.close.ensures es below (subst (AreHeld es) (sym c.reserve.ensures.items) held)))
