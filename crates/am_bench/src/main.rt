@@ -5,6 +5,7 @@
 mod fault;
 mod figure;
 mod keys;
+mod locks;
 mod map;
 mod runs;
 mod store;
@@ -41,7 +42,8 @@ fn count_of(words: &[String]) -> Option<u64> {
 fn print_figures<R: AllocGlobal + Print + Clock>(rt: &R, count: u64) -> Result<(), Fault> {
     let keys = Keys::draw(rt.alloc(), count)?;
     let filled = trees::print_figures(rt, &keys)?;
-    runs::print_figures(rt, &keys, filled)
+    runs::print_figures(rt, &keys, filled)?;
+    locks::print_figures(rt)
 }
 
 fn main(rt: HostRuntime) -> ExitCode {

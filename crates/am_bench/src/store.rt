@@ -65,7 +65,7 @@ pub(crate) fn read(store: &mut Store<BTree>, keys: &[Key]) -> Result<u64, Fault>
     let mut sum: u64 = 0;
     for part in keys.chunks(READS) {
         let tx = begin(store)?;
-        lock_all(store, tx)?;
+        lock(store, tx, all_keys())?;
         for key in part {
             sum = sum.wrapping_add(read_one(store, tx, *key)?);
         }
@@ -74,10 +74,10 @@ pub(crate) fn read(store: &mut Store<BTree>, keys: &[Key]) -> Result<u64, Fault>
     Ok(sum)
 }
 
-fn lock_all(store: &mut Store<BTree>, tx: u64) -> Result<(), Fault> {
+fn lock(store: &mut Store<BTree>, tx: u64, range: Range) -> Result<(), Fault> {
     let lock = Lock {
         mode: Mode::Shared,
-        range: all_keys(),
+        range,
     };
     match store.step(Step::Do(tx, Op::Lock(lock))) {
         Reply::Done => Ok(()),
@@ -90,6 +90,31 @@ fn read_one(store: &mut Store<BTree>, tx: u64, key: Key) -> Result<u64, Fault> {
         Reply::Found(value) => Ok(weight(&value)),
         _ => Err(Fault::Differs),
     }
+}
+
+/// Begins so many transactions, each of which holds so many locks, each of a key alone.
+pub(crate) fn hold(store: &mut Store<BTree>, owners: u64, locks: u64) -> Result<(), Fault> {
+    for owner in 0..owners {
+        let tx = begin(store)?;
+        for number in 0..locks {
+            let key = Key::of_u64(owner.wrapping_mul(locks).wrapping_add(number));
+            lock(store, tx, Range::point(key))?;
+        }
+    }
+    Ok(())
+}
+
+/// Reads so many absent keys, each in a transaction of its own, and answers how many.
+pub(crate) fn read_alone(store: &mut Store<BTree>, count: u64) -> Result<u64, Fault> {
+    for number in 0..count {
+        let tx = begin(store)?;
+        let key = Key::of_u64(u64::MAX.wrapping_sub(number));
+        if store.step(Step::Do(tx, Op::Get(key))) != Reply::Absent {
+            return Err(Fault::Differs);
+        }
+        commit(store, tx)?;
+    }
+    Ok(count)
 }
 
 /// Asks for all keys by a scan, so that they are to be merged.

@@ -34,7 +34,7 @@ impl Room {
         Ok(Room { items })
     }
 
-    /// A copy of these pairs.
+    /// A copy of these pairs. What room they leave is given back, as it would be kept as long as they are.
     fn fill(self, pairs: &Pairs) -> Pairs
         requires { length pairs.now ≤ self }
         ensures { result ≡ pairs.now }
@@ -43,6 +43,7 @@ impl Room {
         let Ok(()) = items.extend_from_slice(pairs.as_slice()) else {
             unreachable!();
         };
+        items.shrink_to_fit();
         Pairs::new(items)
     }
 }
