@@ -67,7 +67,7 @@ fn lines_of_records_ranges_and_numbers_are_read(rt: HostRuntime) {
 }
 
 #[test]
-fn a_load_has_its_records_in_order(rt: HostRuntime) -> Result<(), Fail> {
+fn records_are_in_the_order_of_their_line(rt: HostRuntime) -> Result<(), Fail> {
     let one = vec![in rt.alloc(); (key(&rt, b"9"), value(&rt, b"=="))]?;
     let load = Request::Do(Op::Load(Pairs::new(one)));
     assert!(rt; read(rt.alloc(), b"LOAD 9===") == Ok(load));
@@ -78,6 +78,12 @@ fn a_load_has_its_records_in_order(rt: HostRuntime) -> Result<(), Fail> {
     ]?;
     let load = Request::Do(Op::Load(Pairs::new(three)));
     assert!(rt; read(rt.alloc(), b"LOAD 9=y 10=x 9=z") == Ok(load));
+    let two = vec![in rt.alloc();
+        (key(&rt, b"9"), value(&rt, b"=")),
+        (key(&rt, b"10"), value(&rt, b"x")),
+    ]?;
+    let stage = Request::Stage(Pairs::new(two));
+    assert!(rt; read(rt.alloc(), b"STAGE 9== 10=x") == Ok(stage));
     Ok(())
 }
 
@@ -113,6 +119,8 @@ fn lines_of_no_form(rt: HostRuntime) {
         b"LOAD 1=",
         b"LOAD 1=a ",
         b"LOAD aaaaaaaaaaaaaaaaaaaaaaaaaaaaaaaaa=a 2",
+        b"STAGE",
+        b"STAGE 1=a  2=b",
         b"QUITX",
     ] {
         assert!(rt;
@@ -138,6 +146,7 @@ fn lines_out_of_bounds(rt: HostRuntime) {
         b"MERGE 99999999999999999999999",
         b"CLEAN a B 1",
         b"LOAD 1=a aaaaaaaaaaaaaaaaaaaaaaaaaaaaaaaaa=b 2=c",
+        b"STAGE 1=a aaaaaaaaaaaaaaaaaaaaaaaaaaaaaaaaa=b 2=c",
     ] {
         assert!(rt; read(rt.alloc(), line) == Err(LineFault::Range), "{line:?}");
     }

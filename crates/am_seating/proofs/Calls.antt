@@ -13,7 +13,8 @@ use Rattle.am_latch.specs.Changes.{change, opened, is_stored, Fits, Bounded}
 use Rattle.am_latch.specs.Receipts.{Seated, receipt, Receives, Called, commit_in, last_commit_of}
 use Rattle.am_latch.specs.Ties.{open_from, open_of, MayTake}
 use Rattle.am_latch.specs.Ties.{Ended as IsEnded}
-use Rattle.am_talk.specs.Dues.{IsAllowed, active_after, EndsAbort}
+use Rattle.am_talk.specs.Session.{active_after}
+use Rattle.am_talk.specs.Dues.{IsAllowed, EndsAbort}
 
 pub may_take : (o : Option ℕ) (st : Step) → IsAllowed o st → MayTake o st
 may_take o Begin h = h

@@ -12,11 +12,12 @@ use Rattle.am_serial.specs.Trace.{Trace}
 use Rattle.am_latch.specs.declared.receipt.Receipt.{Receipt}
 use Rattle.am_latch.specs.Changes.{is_stored}
 use Rattle.am_latch.specs.Receipts.{Seated, Receives, receipt}
+use Rattle.am_talk.specs.Session.{staged_after}
 use Rattle.am_talk.specs.Dialogue.{Exchange}
 use Rattle.am_talk.specs.declared.due.Due.{Due}
 use Rattle.am_talk.specs.declared.due.Due.TheVariants.{Answer, Take, TellSeen}
 use Rattle.am_talk.specs.declared.response.Response.{Response}
-use Rattle.am_session.specs.Talk.{AnswersDue, AnswersLine, Converses, Leaves, AnswersAll, AnswersOneMore}
+use Rattle.am_session.specs.Talk.{Place, AnswersDue, AnswersLine, Converses, Leaves, AnswersAll, AnswersOneMore}
 use Rattle.am_seating.specs.Places.{Placed, open_in, published, Goes, Tells, HasReceipts, taken, stored}
 use Rattle.am_words.specs.Words.{Hand}
 
@@ -73,6 +74,9 @@ behind s s' st r true h =
     (ap (λ (x : Seated). x.number) h.1, ap (λ (x : Seated). taken x.receipts) h.1 ∙ map-append (λ (x : Receipt). (x.step, x.reply)) s.receipts (receipt s.number (length s.receipts) st r h.0 ∷ []))
 behind s s' st r false h = (ap (λ (x : Seated). x.number) h, ap (λ (x : Seated). taken x.receipts) h ∙ sym (append-nil (taken s.receipts)))
 
+stayed : (old new : Place Placed) (events : Trace) → events ≡ [] → new ≡ old → HasReceipts old.0 events new.0
+stayed old new events none same = subst (λ (es : Trace). HasReceipts old.0 es new.0) (sym none) (like old.0 new.0 (ap (λ (p : Place Placed). p.0.seat) same) (ap (λ (p : Place Placed). p.0.hand.published) same))
+
 went : (old new : Placed) (st : Step) (r : Reply) → Goes old st r new → HasReceipts old ((st, r) ∷ []) new
 went old new st r h =
     let b = behind old.seat new.seat st r (is_stored r) h.called in
@@ -82,25 +86,25 @@ went old new st r h =
       published = λ is. subst (λ (z : Trace × ℕ). IsPair z.0 z.1) (λ i. (sym b.1 i, (sym h.hand i).published)) (publishes old.hand (taken old.seat.receipts) st r is);
     }
 
-answered : (old new : Placed) (due : Due) (response : Response) (events : Trace) → AnswersDue open_in Goes Tells old due response events new → HasReceipts old events new
-answered old new (Answer due) response events h = subst (λ (es : Trace). HasReceipts old es new) (sym h.1) (like old new (ap (λ (p : Placed). p.seat) h.2) (ap (λ (p : Placed). p.hand.published) h.2))
-answered old new (Take step) response events h = subst (λ (es : Trace). HasReceipts old es new) (sym h.3) (went old new step h.0 h.1)
-answered old new TellSeen response events h = subst (λ (es : Trace). HasReceipts old es new) (sym h.4) (like old new (ap (λ (p : Placed). p.seat) h.2.saw) (ap (λ (p : Placed). p.hand.published) h.2.saw))
+answered : (old new : Place Placed) (due : Due) (response : Response) (events : Trace) → AnswersDue open_in Goes Tells old due response events new → HasReceipts old.0 events new.0
+answered old new (Answer due) response events h = stayed old new events h.1 h.2
+answered old new (Take step) response events h = subst (λ (es : Trace). HasReceipts old.0 es new.0) (sym h.3) (went old.0 new.0 step h.0 h.1)
+answered old new TellSeen response events h = subst (λ (es : Trace). HasReceipts old.0 es new.0) (sym h.4) (like old.0 new.0 (ap (λ (p : Placed). p.seat) h.2.saw) (ap (λ (p : Placed). p.hand.published) h.2.saw))
 
-line : (old new : Placed) (e : Exchange) (events : Trace) → AnswersLine open_in Goes Tells old e events new → HasReceipts old events new
-line old new e events h = answered old new _ _ events h.2
+line : (old new : Place Placed) (e : Exchange) (events : Trace) → AnswersLine open_in Goes Tells old e events new → HasReceipts old.0 events new.0
+line old new e events h = answered (old.0, h.2.1) new h.2.0 e.1 events h.2.3
 
-merged : (auto : ℕ) (b : Bool) (old new : Placed) (events : Trace)
-    → MatchBool b ((events ≡ []) × (new ≡ old)) ((m : Reply) × Goes old (Merge auto) m new × (events ≡ (Merge auto, m) ∷ [])) → HasReceipts old events new
-merged auto true old new events h = subst (λ (es : Trace). HasReceipts old es new) (sym h.0) (like old new (ap (λ (p : Placed). p.seat) h.1) (ap (λ (p : Placed). p.hand.published) h.1))
-merged auto false old new events h = subst (λ (es : Trace). HasReceipts old es new) (sym h.2) (went old new (Merge auto) h.0 h.1)
+merged : (auto : ℕ) (b : Bool) (old new : Place Placed) (events : Trace)
+    → MatchBool b ((events ≡ []) × (new ≡ old)) ((m : Reply) × Goes old.0 (Merge auto) m new.0 × (events ≡ (Merge auto, m) ∷ []) × (new.1 ≡ staged_after old.1 m)) → HasReceipts old.0 events new.0
+merged auto true old new events h = stayed old new events h.0 h.1
+merged auto false old new events h = subst (λ (es : Trace). HasReceipts old.0 es new.0) (sym h.2) (went old.0 new.0 (Merge auto) h.0 h.1)
 
-converse : (auto : ℕ) (exchanges : List Exchange) (old new : Placed) (events : Trace) → Converses open_in Goes Tells auto old exchanges events new → HasReceipts old events new
-converse auto [] old new events h = subst (λ (es : Trace). HasReceipts old es new) (sym h.0) (like old new (ap (λ (p : Placed). p.seat) h.1) (ap (λ (p : Placed). p.hand.published) h.1))
+converse : (auto : ℕ) (exchanges : List Exchange) (old new : Place Placed) (events : Trace) → Converses open_in Goes Tells auto old exchanges events new → HasReceipts old.0 events new.0
+converse auto [] old new events h = stayed old new events h.0 h.1
 converse auto (e ∷ exchanges) old new events (own, merges, later, mid, merging, answers, merge, rest, are) =
-    subst (λ (es : Trace). HasReceipts old es new) (sym are)
-    (joined old mid new own (merges ++ later) (line old mid e own answers)
-    (joined mid merging new merges later (merged auto (auto == 0) mid merging merges merge) (converse auto exchanges merging new later rest)))
+    subst (λ (es : Trace). HasReceipts old.0 es new.0) (sym are)
+    (joined old.0 mid.0 new.0 own (merges ++ later) (line old mid e own answers)
+    (joined mid.0 merging.0 new.0 merges later (merged auto (auto == 0) mid merging merges merge) (converse auto exchanges merging new later rest)))
 
 left : (tx : Option ℕ) (old new : Placed) (events : Trace) → Leaves open_in Goes Tells tx old events new → HasReceipts old events new
 left None old new events h = subst (λ (es : Trace). HasReceipts old es new) (sym h.0) (like old new (ap (λ (p : Placed). p.seat) h.1) (ap (λ (p : Placed). p.hand.published) h.1))
@@ -109,11 +113,11 @@ left (Some tx) old new events h = subst (λ (es : Trace). HasReceipts old es new
 pub all : (auto : ℕ) (old new : Placed) (exchanges : List Exchange) (events : Trace) → AnswersAll open_in Goes Tells auto old exchanges events new → HasReceipts old events new
 all auto old new exchanges events h =
     subst (λ (es : Trace). HasReceipts old es new) (sym h.are)
-    (joined old h.last new h.own h.aborting (converse auto exchanges old h.last h.own h.converses) (left _ h.last new h.aborting h.leaves))
+    (joined old h.last.0 new h.own h.aborting (converse auto exchanges (old, []) h.last h.own h.converses) (left _ h.last.0 new h.aborting h.leaves))
 
 pub one_more : (auto : ℕ) (old new : Placed) (exchanges : List Exchange) (more : Exchange) (events : Trace)
     → AnswersOneMore open_in Goes Tells auto old exchanges more events new → HasReceipts old events new
 one_more auto old new exchanges more events h =
     subst (λ (es : Trace). HasReceipts old es new) (sym h.are)
-    (joined old h.before new h.own (h.its ++ h.aborting) (converse auto exchanges old h.before h.own h.converses)
-    (joined h.before h.last new h.its h.aborting (line h.before h.last more h.its h.answers) (left _ h.last new h.aborting h.leaves)))
+    (joined old h.before.0 new h.own (h.its ++ h.aborting) (converse auto exchanges (old, []) h.before h.own h.converses)
+    (joined h.before.0 h.last.0 new h.its h.aborting (line h.before h.last more h.its h.answers) (left _ h.last.0 new h.aborting h.leaves)))

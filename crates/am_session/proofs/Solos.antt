@@ -24,57 +24,62 @@ use Rattle.am_effect.specs.Merging.{Holders, candidates, AnswersFirst, AnswersCa
 use Rattle.am_effect.specs.Store.{WithinLimit}
 use Rattle.am_serial.specs.Machine.{is_limit}
 use Rattle.am_steps.specs.Parts.{Active, Parts, is_in, in_table, newcomer, due_in, takes_memory, MaySay, did, after_do, after}
-use Rattle.am_talk.specs.Dues.{IsAllowed, active_after, EndsAbort}
+use Rattle.am_talk.specs.Session.{SessionState, active_after, behind}
+use Rattle.am_talk.specs.Dues.{IsAllowed, EndsAbort}
 use Rattle.am_talk.specs.Dialogue.{commits_after}
 use Rattle.am_session.specs.Solo.{IsOpen}
 
 -- ---- replies that begin and end nothing
 
 abbrev pub Plain : Reply → Type 0
-Plain r = (a : Option ℕ) → active_after a r ≡ a
+Plain r = (s : SessionState) → behind s r ≡ s
+
+-- the same transaction is active
+active_on : (r : Reply) → Plain r → (a : Option ℕ) → active_after a r ≡ a
+active_on r plain a = ap (λ (s : SessionState). s.active) (plain (record { active = a; staged = [] }))
 
 found_plain : (v : Option (List ℕ)) → Plain (found v)
-found_plain None = λ a. refl
-found_plain (Some v) = λ a. refl
+found_plain None = λ s. refl
+found_plain (Some v) = λ s. refl
 
 either_plain : (b : Bool) (r s : Reply) → Plain r → Plain s → Plain (if b then r else s)
 either_plain true r s h k = h
 either_plain false r s h k = k
 
 load_plain : (o : Option OrderedKey) → Plain (exists_or_done o)
-load_plain None = λ a. refl
-load_plain (Some k) = λ a. refl
+load_plain None = λ s. refl
+load_plain (Some k) = λ s. refl
 
 told_plain : (o : Op) (marks : List ℕ) (m : PlainMap) → Plain (told o marks m)
 told_plain (op.Get k) marks m = found_plain (get m k)
-told_plain (op.Scan range max) marks m = λ a. refl
-told_plain (op.Insert k v) marks m = either_plain (contains_key m k) _ _ (λ a. refl) (λ a. refl)
-told_plain (op.Replace k v) marks m = either_plain (contains_key m k) _ _ (λ a. refl) (λ a. refl)
-told_plain (op.Delete k) marks m = either_plain (contains_key m k) _ _ (λ a. refl) (λ a. refl)
+told_plain (op.Scan range max) marks m = λ s. refl
+told_plain (op.Insert k v) marks m = either_plain (contains_key m k) _ _ (λ s. refl) (λ s. refl)
+told_plain (op.Replace k v) marks m = either_plain (contains_key m k) _ _ (λ s. refl) (λ s. refl)
+told_plain (op.Delete k) marks m = either_plain (contains_key m k) _ _ (λ s. refl) (λ s. refl)
 told_plain (op.Load pairs) marks m = load_plain (least_taken pairs m)
-told_plain (op.Lock lock) marks m = λ a. refl
-told_plain op.Mark marks m = λ a. refl
-told_plain op.Back marks m = either_plain (has_mark marks) reply.Done reply.NoMark (λ a. refl) (λ a. refl)
+told_plain (op.Lock lock) marks m = λ s. refl
+told_plain op.Mark marks m = λ s. refl
+told_plain op.Back marks m = either_plain (has_mark marks) reply.Done reply.NoMark (λ s. refl) (λ s. refl)
 
 do_plain : (p : Parts) (t : ℕ) (o : Op) (r : Reply) → MaySay p (step.Do t o) r → Plain r
 do_plain p t o r = by_due (due_in p t o)
   where
     by_due : (due : Option Refusal) → MatchOption due ((r ≡ told o (in_table p.active t).marks (content p.entries)) ⊎ ((r ≡ reply.Refused why.NoMemory) × (takes_memory o ≡ true))) (λ why. r ≡ reply.Refused why) → Plain r
     by_due None (inl is) = subst Plain (sym is) (told_plain o (in_table p.active t).marks (content p.entries))
-    by_due None (inr is) = subst Plain (sym is.0) (λ a. refl)
-    by_due (Some w) is = subst Plain (sym is) (λ a. refl)
+    by_due None (inr is) = subst Plain (sym is.0) (λ s. refl)
+    by_due (Some w) is = subst Plain (sym is) (λ s. refl)
 
 first_plain : (es : List Entry) (held : Holders) (limit : ℕ) (c : Entry) (cs : List Entry) (o : Option ℕ) (r : Reply) → AnswersFirst es held limit c cs o r → Plain r
-first_plain es held limit c cs (Some h) r is = subst Plain (sym is) (λ a. refl)
-first_plain es held limit c cs None (reply.Moved n run) is = λ a. refl
-first_plain es held limit c cs None r is = subst Plain (sym is.0) (λ a. refl)
+first_plain es held limit c cs (Some h) r is = subst Plain (sym is) (λ s. refl)
+first_plain es held limit c cs None (reply.Moved n run) is = λ s. refl
+first_plain es held limit c cs None r is = subst Plain (sym is.0) (λ s. refl)
 
 candidates_plain : (es : List Entry) (held : Holders) (limit : ℕ) (cs : List Entry) (r : Reply) → AnswersCandidates es held limit cs r → Plain r
-candidates_plain es held limit [] r is = subst Plain (sym is) (λ a. refl)
+candidates_plain es held limit [] r is = subst Plain (sym is) (λ s. refl)
 candidates_plain es held limit (c ∷ cs) r is = first_plain es held limit c (c ∷ cs) (held c.key) r is
 
 merge_right_plain : (es : List Entry) (wishes : List Interval) (held : Holders) (limit : ℕ) (r : Reply) → MergeRight es wishes held limit r → Plain r
-merge_right_plain es [] held limit r is = subst Plain (sym is) (λ a. refl)
+merge_right_plain es [] held limit r is = subst Plain (sym is) (λ s. refl)
 merge_right_plain es (wish ∷ wishes) held limit r is = candidates_plain es held limit (candidates es wish) r is
 
 limit_plain : (limit : ℕ) (r : Reply) (right : Type 0) → (right → Plain r) → WithinLimit limit r right → Plain r
@@ -82,13 +87,13 @@ limit_plain limit r right plain = by_limit (is_limit limit)
   where
     by_limit : (b : Bool) → MatchBool b right (r ≡ reply.Refused why.BadLimit) → Plain r
     by_limit true is = plain is
-    by_limit false is = subst Plain (sym is) (λ a. refl)
+    by_limit false is = subst Plain (sym is) (λ s. refl)
 
 pub merge_plain : (p : Parts) (limit : ℕ) (r : Reply) → MaySay p (step.Merge limit) r → Plain r
 merge_plain p limit r h = limit_plain limit r _ (merge_right_plain p.entries p.wishes _ limit r) h
 
 clean_plain : (p : Parts) (range : Interval) (limit : ℕ) (r : Reply) → MaySay p (step.Clean range limit) r → Plain r
-clean_plain p range limit r h = limit_plain limit r _ (λ is. subst Plain (sym is) (λ a. refl)) h
+clean_plain p range limit r h = limit_plain limit r _ (λ is. subst Plain (sym is) (λ s. refl)) h
 
 -- ---- who is active after a step
 
@@ -132,13 +137,13 @@ merged_active p limit r = refl
 pub stays_open : (p : Parts) (a : Option ℕ) (s : Step) (r : Reply) → IsAllowed a s → IsOpen p a → MaySay p s r → IsOpen (after p s r) (active_after a r)
 stays_open p a step.Begin (reply.Begun t) allowed h says = begun_in p.active t
 stays_open p a step.Begin (reply.Refused why.TooManyTx) allowed h says = h
-stays_open p a (step.Do t o) r allowed h says = subst (IsOpen (after_do p t o r)) (sym (do_plain p t o r says a)) (open_do p t o r a h)
+stays_open p a (step.Do t o) r allowed h says = subst (IsOpen (after_do p t o r)) (sym (active_on r (do_plain p t o r says) a)) (open_do p t o r a h)
 stays_open p a (step.Commit t) (reply.Committed c) allowed h says = tt
 stays_open p a (step.Commit t) (reply.Refused why.NoSuchTx) allowed h says = h
 stays_open p a (step.Abort t) reply.Aborted allowed h says = tt
 stays_open p a (step.Abort t) (reply.Refused why.NoSuchTx) allowed h says = h
-stays_open p a (step.Merge limit) r allowed h says = subst (IsOpen (after p (step.Merge limit) r)) (sym (merge_plain p limit r says a)) (upkept p (after p (step.Merge limit) r) a refl h)
-stays_open p a (step.Clean range limit) r allowed h says = subst (IsOpen (after p (step.Clean range limit) r)) (sym (clean_plain p range limit r says a)) (upkept p (after p (step.Clean range limit) r) a refl h)
+stays_open p a (step.Merge limit) r allowed h says = subst (IsOpen (after p (step.Merge limit) r)) (sym (active_on r (merge_plain p limit r says) a)) (upkept p (after p (step.Merge limit) r) a refl h)
+stays_open p a (step.Clean range limit) r allowed h says = subst (IsOpen (after p (step.Clean range limit) r)) (sym (active_on r (clean_plain p range limit r says) a)) (upkept p (after p (step.Clean range limit) r) a refl h)
 stays_open p a _ _ allowed h says = absurd says
 
 -- an abort of it isn't refused

@@ -10,13 +10,13 @@ use Rattle.am_wire.specs.Giving.{Gave}
 use Rattle.am_talk.specs.Heard.{Line, heard, is_quit, before_quit, quits}
 use Rattle.am_talk.specs.Responses.{response_text}
 use Rattle.am_talk.specs.Dialogue.{Exchange}
-use Rattle.am_session.specs.Talk.{asked, texts, AnswersLine, MergesAfter, Converses}
+use Rattle.am_session.specs.Talk.{Place, asked, texts, AnswersLine, MergesAfter, Converses}
 use Rattle.am_session.specs.Served.{IsEnded, AsksFor}
 use Rattle.am_session.specs.Pauses.{AtQuit, AtEnd, AtReadFailure, AtWriteFailure}
 use Rattle.am_session.proofs.Streams.{took_then, took_total, gave_then, appends_none}
 
 -- whole lines were read and answered, none of them QUIT
-pub record Talks {S K B : Type 0} (comes : S → List ℕ → Type 0) (holds : K → Option (List ℕ)) (active : B → Option ℕ) (goes : B → Step → Reply → B → Type 0) (tells : B → ℕ → ℕ → B → Type 0) (auto : ℕ) (s0 : S) (k0 : K) (b0 : B) (waiting : List ℕ) (s : S) (k : K) (b : B) : Type 0 where
+pub record Talks {S K B : Type 0} (comes : S → List ℕ → Type 0) (holds : K → Option (List ℕ)) (active : B → Option ℕ) (goes : B → Step → Reply → B → Type 0) (tells : B → ℕ → ℕ → B → Type 0) (auto : ℕ) (s0 : S) (k0 : K) (b0 : Place B) (waiting : List ℕ) (s : S) (k : K) (b : Place B) : Type 0 where
   pub read : List ℕ
   pub done : List Line
   pub exchanges : List Exchange
@@ -27,7 +27,7 @@ pub record Talks {S K B : Type 0} (comes : S → List ℕ → Type 0) (holds : K
   pub cut : (more : List ℕ) → lines_of (read ++ more) ≡ done ++ lines_of more
   pub before : (more : List Line) → before_quit (done ++ more) ≡ done ++ before_quit more
   pub quitting : (more : List Line) → quits (done ++ more) ≡ quits more
-  pub said : (more : List Exchange) (later : Trace) (end : B) → Converses active goes tells auto b more later end → Converses active goes tells auto b0 (exchanges ++ more) (events ++ later) end
+  pub said : (more : List Exchange) (later : Trace) (end : Place B) → Converses active goes tells auto b more later end → Converses active goes tells auto b0 (exchanges ++ more) (events ++ later) end
 
 pub texts-append : (xs ys : List Exchange) → texts (xs ++ ys) ≡ texts xs ++ texts ys
 texts-append [] ys = refl
@@ -48,10 +48,10 @@ not_false true e = refl
 not_false false e = cc
 
 module _ {S K B : Type 0} (comes : S → List ℕ → Type 0) (holds : K → Option (List ℕ)) (active : B → Option ℕ) (goes : B → Step → Reply → B → Type 0) (tells : B → ℕ → ℕ → B → Type 0) (auto : ℕ) where
-  abbrev So : S → K → B → List ℕ → S → K → B → Type 0
+  abbrev So : S → K → Place B → List ℕ → S → K → Place B → Type 0
   So s0 k0 b0 w s k b = Talks comes holds active goes tells auto s0 k0 b0 w s k b
 
-  pub talk_start : (s : S) (k : K) (b : B) (w : List ℕ) → w ≡ [] → So s k b w s k b
+  pub talk_start : (s : S) (k : K) (b : Place B) (w : List ℕ) → w ≡ [] → So s k b w s k b
   talk_start s k b w e = record {
     read = [];
     done = [];
@@ -66,7 +66,7 @@ module _ {S K B : Type 0} (comes : S → List ℕ → Type 0) (holds : K → Opt
     said = λ more later end h. h;
   }
 
-  pub talk_more : (s0 s s' : S) (k0 k k' : K) (b0 b answered merging : B) (w w' : List ℕ) (e : Exchange) (own merged : Trace)
+  pub talk_more : (s0 s s' : S) (k0 k k' : K) (b0 b answered merging : Place B) (w w' : List ℕ) (e : Exchange) (own merged : Trace)
       → So s0 k0 b0 w s k b → TookLine comes w s e.0 true w' s' → is_quit (heard e.0) ≡ false → Gave holds k (response_text e.1) k' → AnswersLine active goes tells b e own answered
       → MergesAfter active goes tells auto answered merged merging → So s0 k0 b0 w' s' k' merging
   talk_more s0 s s' k0 k k' b0 b answered merging w w' e own merged t l q g a m = record {
@@ -88,21 +88,21 @@ module _ {S K B : Type 0} (comes : S → List ℕ → Type 0) (holds : K → Opt
   }
 
   -- the lines that were read are those that were answered
-  all_of : (s0 s : S) (k0 k : K) (b0 b : B) (w : List ℕ) (t : So s0 k0 b0 w s k b) → lines_of t.read ≡ t.done
+  all_of : (s0 s : S) (k0 k : K) (b0 b : Place B) (w : List ℕ) (t : So s0 k0 b0 w s k b) → lines_of t.read ≡ t.done
   all_of s0 s k0 k b0 b w t = ap lines_of (sym (append-nil t.read)) ∙ t.cut [] ∙ append-nil t.done
 
   -- they were answered by the exchanges
-  said_all : (s0 s : S) (k0 k : K) (b0 b : B) (w : List ℕ) (t : So s0 k0 b0 w s k b) → Converses active goes tells auto b0 t.exchanges t.events b
+  said_all : (s0 s : S) (k0 k : K) (b0 b : Place B) (w : List ℕ) (t : So s0 k0 b0 w s k b) → Converses active goes tells auto b0 t.exchanges t.events b
   said_all s0 s k0 k b0 b w t = subst (λ (z : List Exchange). Converses active goes tells auto b0 z t.events b) (append-nil t.exchanges) (subst (λ (z : Trace). Converses active goes tells auto b0 (t.exchanges ++ []) z b) (append-nil t.events) (t.said [] [] b (refl, refl)))
 
-  asks_of : (s0 s : S) (k0 k : K) (b0 b : B) (w : List ℕ) (t : So s0 k0 b0 w s k b) → AsksFor t.read t.exchanges
+  asks_of : (s0 s : S) (k0 k : K) (b0 b : Place B) (w : List ℕ) (t : So s0 k0 b0 w s k b) → AsksFor t.read t.exchanges
   asks_of s0 s k0 k b0 b w t = t.asks ∙ sym (ap before_quit (all_of s0 s k0 k b0 b w t ∙ sym (append-nil t.done)) ∙ t.before [] ∙ append-nil t.done)
 
-  quits_of : (s0 s : S) (k0 k : K) (b0 b : B) (w : List ℕ) (t : So s0 k0 b0 w s k b) → quits (lines_of t.read) ≡ false
+  quits_of : (s0 s : S) (k0 k : K) (b0 b : Place B) (w : List ℕ) (t : So s0 k0 b0 w s k b) → quits (lines_of t.read) ≡ false
   quits_of s0 s k0 k b0 b w t = ap quits (all_of s0 s k0 k b0 b w t ∙ sym (append-nil t.done)) ∙ t.quitting []
 
   -- no line is left
-  pub talk_end : (s0 s s' : S) (k0 k : K) (b0 b : B) (w w' : List ℕ)
+  pub talk_end : (s0 s s' : S) (k0 k : K) (b0 b : Place B) (w w' : List ℕ)
       → So s0 k0 b0 w s k b → TookAhead comes w s [] w' s' → IsAtEnd comes w' s' → AtEnd comes holds active goes tells auto s0 k0 b0 s' k b
   talk_end s0 s s' k0 k b0 b w w' t f e = record {
     read = t.read;
@@ -117,7 +117,7 @@ module _ {S K B : Type 0} (comes : S → List ℕ → Type 0) (holds : K → Opt
   }
 
   -- the source failed within a line
-  pub talk_failed : (s0 s s' : S) (k0 k : K) (b0 b : B) (w w' : List ℕ)
+  pub talk_failed : (s0 s s' : S) (k0 k : K) (b0 b : Place B) (w w' : List ℕ)
       → So s0 k0 b0 w s k b → TookPart comes w s w' s' → w' ≡ [] → AtReadFailure comes holds active goes tells auto s0 k0 b0 s' k b
   talk_failed s0 s s' k0 k b0 b w w' t l e = record {
     read = t.read;
@@ -145,7 +145,7 @@ module _ {S K B : Type 0} (comes : S → List ℕ → Type 0) (holds : K → Opt
       ap lines_of (append_assoc read l.0 more) ∙ cut (l.0 ++ more) ∙ ap (λ z. done ++ z) (l.2 more) ∙ sym (append_assoc done (line ∷ []) (lines_of more)) ∙ ap (λ z. z ++ lines_of more) (sym e))
   whole_of s s' w w' line false l read done cut = inr (l.2.1.0, l.2.1.1)
 
-  module _ (s0 s s' : S) (k0 k : K) (b0 b : B) (w w' : List ℕ) (line : Line) (ended : Bool) (t : So s0 k0 b0 w s k b) (l : TookLine comes w s line ended w' s') where
+  module _ (s0 s s' : S) (k0 k : K) (b0 b : Place B) (w w' : List ℕ) (line : Line) (ended : Bool) (t : So s0 k0 b0 w s k b) (l : TookLine comes w s line ended w' s') where
     -- the lines with one more
     lines_more : lines_of (t.read ++ l.0) ≡ t.done ++ (line ∷ [])
     lines_more = t.cut l.0 ∙ ap (λ z. t.done ++ z) (only_of s s' w w' line ended l)
@@ -175,7 +175,7 @@ module _ {S K B : Type 0} (comes : S → List ℕ → Type 0) (holds : K → Opt
     }
 
   -- a line was read, and not wholly answered
-  pub talk_torn : (s0 s s' : S) (k0 k k' : K) (b0 b b' : B) (w w' : List ℕ) (e : Exchange) (ended : Bool) (its : Trace) (n : ℕ)
+  pub talk_torn : (s0 s s' : S) (k0 k k' : K) (b0 b b' : Place B) (w w' : List ℕ) (e : Exchange) (ended : Bool) (its : Trace) (n : ℕ)
       → So s0 k0 b0 w s k b → TookLine comes w s e.0 ended w' s' → is_quit (heard e.0) ≡ false → Gave holds k (take n (response_text e.1)) k' → AnswersLine active goes tells b e its b'
       → AtWriteFailure comes holds active goes tells auto s0 k0 b0 s' k' b'
   talk_torn s0 s s' k0 k k' b0 b b' w w' e ended its n t l q g a = record {
@@ -197,7 +197,7 @@ module _ {S K B : Type 0} (comes : S → List ℕ → Type 0) (holds : K → Opt
   }
 
   -- the last line, which no LF ended, was read and answered
-  pub talk_last : (s0 s s' : S) (k0 k k' : K) (b0 b answered merging : B) (w w' : List ℕ) (e : Exchange) (own merged : Trace)
+  pub talk_last : (s0 s s' : S) (k0 k k' : K) (b0 b answered merging : Place B) (w w' : List ℕ) (e : Exchange) (own merged : Trace)
       → So s0 k0 b0 w s k b → TookLine comes w s e.0 false w' s' → is_quit (heard e.0) ≡ false → Gave holds k (response_text e.1) k' → AnswersLine active goes tells b e own answered
       → MergesAfter active goes tells auto answered merged merging → AtEnd comes holds active goes tells auto s0 k0 b0 s' k' merging
   talk_last s0 s s' k0 k k' b0 b answered merging w w' e own merged t l q g a m = record {

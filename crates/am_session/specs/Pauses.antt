@@ -9,7 +9,7 @@ use Rattle.am_wire.specs.Giving.{Gave}
 use Rattle.am_talk.specs.Heard.{quits}
 use Rattle.am_talk.specs.Responses.{response_text}
 use Rattle.am_talk.specs.Dialogue.{Exchange}
-use Rattle.am_session.specs.Talk.{texts, AnswersLine, Converses, Leaves}
+use Rattle.am_session.specs.Talk.{Place, texts, AnswersLine, Converses, Leaves}
 use Rattle.am_session.specs.Served.{IsEnded, AsksFor}
 use Rattle.am_session.specs.declared.serving.Pause.{Pause}
 use Rattle.am_session.specs.declared.serving.Pause.TheVariants.{Quit, EndOfInput, ReadFailed, WriteFailed}
@@ -18,7 +18,7 @@ module _ {B : Type 0} (active : B → Option ℕ) (goes : B → Step → Reply �
   abbrev pub Left : Option ℕ → B → B → Type 0
   Left tx b b' = (events : Trace) × Leaves active goes tells tx b events b'
 
-module _ {S K B : Type 0} (comes : S → List ℕ → Type 0) (holds : K → Option (List ℕ)) (active : B → Option ℕ) (goes : B → Step → Reply → B → Type 0) (tells : B → ℕ → ℕ → B → Type 0) (auto : ℕ) (s : S) (k : K) (b : B) (s' : S) (k' : K) (b' : B) where
+module _ {S K B : Type 0} (comes : S → List ℕ → Type 0) (holds : K → Option (List ℕ)) (active : B → Option ℕ) (goes : B → Step → Reply → B → Type 0) (tells : B → ℕ → ℕ → B → Type 0) (auto : ℕ) (s : S) (k : K) (b : Place B) (s' : S) (k' : K) (b' : Place B) where
   -- QUIT was read
   pub record AtQuit : Type 0 where
     pub read : List ℕ
@@ -66,7 +66,7 @@ module _ {S K B : Type 0} (comes : S → List ℕ → Type 0) (holds : K → Opt
     pub last : Exchange
     pub events : Trace
     pub its : Trace
-    pub before : B
+    pub before : Place B
     pub count : ℕ
     pub took : Took comes s (read ++ waiting) s'
     pub whole : IsEnded read ⊎ ((waiting ≡ []) × comes s' [])

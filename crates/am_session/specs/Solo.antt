@@ -9,7 +9,7 @@ use Rattle.am_sound.specs.Right.{IsSoundStore}
 use Rattle.am_steps.specs.Parts.{Parts, is_in, MaySay, after}
 use Rattle.am_core.specs.Keeping.{parts_code}
 use Rattle.am_core.specs.Standing.{GoesOn}
-use Rattle.am_talk.specs.Dues.{active_after}
+use Rattle.am_talk.specs.Session.{at_start, active_after}
 use Rattle.am_talk.specs.Dialogue.{Exchange, Ends, Dialogue}
 use Rattle.am_talk.specs.Responses.{response_text}
 use Rattle.am_talk.specs.Say.{Says}
@@ -46,7 +46,7 @@ SoloTells old session commits new = (session ≡ 0) × (commits ≡ old.kept.com
 -- and clean right, and a legal one; each response is one line, and all of them are those that are said, but where
 -- memory was refused.
 pub record IsSpoken (auto : ℕ) (ends : Ends) (exchanges all : List Exchange) (trace : Trace) : Type 0 where
-  pub dialogue : Dialogue auto ends (None, 0) exchanges trace
+  pub dialogue : Dialogue auto ends (at_start, 0) exchanges trace
   pub sound : IsSoundStore trace
   pub legal : IsLegal trace
   pub says : Says all

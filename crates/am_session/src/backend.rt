@@ -3,7 +3,8 @@
 ghost use Rattle.std.specs.Prelude.{◌≡◌, ℕ, Option};
 ghost use Rattle.am_record.specs.declared.step.Step.{Step};
 ghost use Rattle.am_record.specs.declared.step.Reply.{Reply};
-ghost use Rattle.am_talk.specs.Dues.{IsAllowed, active_after, EndsAbort};
+ghost use Rattle.am_talk.specs.Dues.{IsAllowed, EndsAbort};
+ghost use Rattle.am_talk.specs.Session.{active_after};
 
 use am_record::{Reply, Step};
 use std::sync::Wait;

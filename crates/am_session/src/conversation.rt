@@ -6,25 +6,13 @@ ghost use Rattle.am_wire.specs.Lines.{has_lf, TookLine, TookPart};
 ghost use Rattle.am_wire.specs.Seen.{seen};
 ghost use Rattle.am_wire.specs.Taking.{TookAhead, IsAtEnd};
 ghost use Rattle.am_talk.specs.Responses.{response_text};
-ghost use Rattle.am_talk.specs.Dues.{due, active_after};
 ghost use Rattle.am_session.specs.Answering.{Responds, Answered, Torn, Merged};
 
 use crate::backend::Backend;
-use am_record::{Reply, Step};
-use am_talk::{Due, Heard, Response, due_for, put_response};
+use am_record::Step;
+use am_talk::{Due, Heard, Response, Session, put_response};
 use am_wire::{AnsweredSource, Failed, FoundLine, Input, LineBuffer, Sink, read_line};
 use std::sync::Wait;
-
-// The transaction that is active behind a reply.
-pub(crate) fn active_behind(active: Option<u64>, reply: &Reply) -> Option<u64>
-    ensures { result ≡ active_after active reply.now }
-{
-    match reply {
-        Reply::Begun(tx) => Some(*tx),
-        Reply::Committed(_) | Reply::Aborted => None,
-        _ => active,
-    }
-}
 
 /// Takes the next line. The source is asked only where no whole line is at hand, and then nothing is unsent.
 pub(crate) fn next_line<W: Wait, K: Sink, S: AnsweredSource<K>>(
@@ -57,18 +45,18 @@ pub(crate) fn next_line<W: Wait, K: Sink, S: AnsweredSource<K>>(
 fn respond<W: Wait, B: Backend>(
     rt: &W,
     backend: &mut B,
-    active: &mut Option<u64>,
+    session: &mut Session,
     heard: Heard,
 ) -> Response
-    requires { B.active backend.old ≡ active.old }
-    ensures responds { Responds B.active B.goes B.tells backend.old (due active.old heard) result backend.new }
-    ensures active { B.active backend.new ≡ active.new }
+    requires { B.active backend.old ≡ session.old.active }
+    ensures responds { Responds B.active B.goes B.tells (backend.old, session.old.staged) heard result (backend.new, session.new.staged) }
+    ensures active { B.active backend.new ≡ session.new.active }
 {
-    match due_for(*active, heard) {
+    match session.due(heard) {
         Due::Answer(response) => response,
         Due::Take(step) => {
             let reply = backend.call(rt, step);
-            *active = active_behind(*active, &reply);
+            session.reply(&reply);
             Response::Replied(reply)
         }
         Due::TellSeen => {
@@ -101,35 +89,30 @@ pub(crate) fn answer<W: Wait, K: Sink, B: Backend>(
     input: &Input,
     sink: &mut K,
     backend: &mut B,
-    active: &mut Option<u64>,
+    session: &mut Session,
     heard: Heard,
 ) -> Result<(), Failed>
     requires countable { K.failures sink.old < 2 ^ 63 }
-    requires active { B.active backend.old ≡ active.old }
-    ensures active { B.active backend.new ≡ active.new }
-    ensures answered { OnOk result (Answered K.holds B.active B.goes B.tells sink.old backend.old (due active.old heard) sink.new backend.new) }
+    requires active { B.active backend.old ≡ session.old.active }
+    ensures active { B.active backend.new ≡ session.new.active }
+    ensures answered { OnOk result (Answered K.holds B.active B.goes B.tells sink.old (backend.old, session.old.staged) heard sink.new (backend.new, session.new.staged)) }
     ensures sent { OnOk result (has_lf input.now ≡ false → K.pending sink.new ≡ false) }
     ensures ok { OnOk result (K.failures sink.new ≡ K.failures sink.old) }
     ensures failed { OnErr result (K.failures sink.new ≡ K.failures sink.old + 1) }
-    ensures torn { OnErr result (Torn K.holds B.active B.goes B.tells sink.old backend.old (due active.old heard) sink.new backend.new) }
+    ensures torn { OnErr result (Torn K.holds B.active B.goes B.tells sink.old (backend.old, session.old.staged) heard sink.new (backend.new, session.new.staged)) }
 {
-    let response = respond(rt, backend, active, heard);
+    let response = respond(rt, backend, session, heard);
     send(sink, input, &response)
 }
 
 /// Merges once, unless `auto` is 0.
-pub(crate) fn merge<W: Wait, B: Backend>(
-    rt: &W,
-    backend: &mut B,
-    active: &mut Option<u64>,
-    auto: u64,
-)
-    requires { B.active backend.old ≡ active.old }
-    ensures merged { Merged B.active B.goes B.tells auto backend.old backend.new }
-    ensures active { B.active backend.new ≡ active.new }
+pub(crate) fn merge<W: Wait, B: Backend>(rt: &W, backend: &mut B, session: &mut Session, auto: u64)
+    requires { B.active backend.old ≡ session.old.active }
+    ensures merged { Merged B.active B.goes B.tells auto (backend.old, session.old.staged) (backend.new, session.new.staged) }
+    ensures active { B.active backend.new ≡ session.new.active }
 {
     if auto != 0 {
         let reply = backend.call(rt, Step::Merge(auto));
-        *active = active_behind(*active, &reply);
+        session.reply(&reply);
     }
 }

@@ -10,7 +10,7 @@ use crate::backend::Backend;
 use crate::conversation::{answer, merge, next_line};
 use crate::end::End;
 use am_record::Step;
-use am_talk::hear;
+use am_talk::{Session, hear};
 use am_wire::{AnsweredSource, Failed, Input, LineBuffer, Sink, give_all};
 use std::alloc::Global;
 use std::sync::Wait;
@@ -47,16 +47,16 @@ fn talk<W: Wait, K: Sink, S: AnsweredSource<K>, B: Backend>(
     source: &mut S,
     sink: &mut K,
     backend: &mut B,
-    active: &mut Option<u64>,
+    session: &mut Session,
     auto: u64,
 ) -> Pause
     requires fresh { input.old ≡ [] }
     requires source_countable { S.failures source.old < 2 ^ 63 }
     requires sink_countable { K.failures sink.old < 2 ^ 63 }
     requires sent { K.pending sink.old ≡ false }
-    requires active { B.active backend.old ≡ active.old }
-    ensures active { B.active backend.new ≡ active.new }
-    ensures talked { Talked S.comes K.holds B.active B.goes B.tells auto source.old sink.old backend.old source.new sink.new backend.new result }
+    requires active { B.active backend.old ≡ session.old.active }
+    ensures active { B.active backend.new ≡ session.new.active }
+    ensures talked { Talked S.comes K.holds B.active B.goes B.tells auto source.old sink.old (backend.old, session.old.staged) source.new sink.new (backend.new, session.new.staged) result }
     ensures sent { IsSentBy result (K.pending sink.new ≡ false) }
     ensures source_failures { S.failures source.new ≡ S.failures source.old + reads_failed result }
     ensures sink_failures { K.failures sink.new ≡ K.failures sink.old + writes_failed result }
@@ -72,10 +72,10 @@ fn talk<W: Wait, K: Sink, S: AnsweredSource<K>, B: Backend>(
         if heard.is_quit() {
             return Pause::Quit;
         }
-        let Ok(()) = answer(rt, input, sink, backend, active, heard) else {
+        let Ok(()) = answer(rt, input, sink, backend, session, heard) else {
             return Pause::WriteFailed;
         };
-        merge(rt, backend, active, auto);
+        merge(rt, backend, session, auto);
         if !found.is_ended {
             return Pause::EndOfInput;
         }
@@ -125,7 +125,7 @@ pub fn serve<W: Wait, K: Sink, S: AnsweredSource<K>, B: Backend>(
     let Ok(mut line) = LineBuffer::new(alloc) else {
         return End::NoMemory;
     };
-    let mut active = None;
+    let mut session = Session::new(alloc);
     let pause = talk(
         rt,
         alloc,
@@ -134,10 +134,10 @@ pub fn serve<W: Wait, K: Sink, S: AnsweredSource<K>, B: Backend>(
         source,
         sink,
         backend,
-        &mut active,
+        &mut session,
         auto,
     );
-    leave(rt, backend, active);
+    leave(rt, backend, session.active());
     match pause {
         Pause::EndOfInput => End::EndOfInput,
         Pause::ReadFailed => End::ReadFailed,

@@ -2,14 +2,15 @@
 
 ghost use Rattle.std.specs.Prelude.{◌≡◌, None, IfOk};
 ghost use Rattle.am_steps.specs.Parts.{empty_parts};
-ghost use Rattle.am_talk.specs.Dues.{IsAllowed, active_after, EndsAbort};
+ghost use Rattle.am_talk.specs.Dues.{IsAllowed, EndsAbort};
+ghost use Rattle.am_talk.specs.Session.{active_after};
 ghost use Rattle.am_session.specs.Solo.{active_in, SoloGoes, SoloTells};
 
 use crate::backend::Backend;
-use crate::conversation::active_behind;
 use am_btree::BTree;
 use am_core::Store;
 use am_record::{NoMemory, Reply, Step};
+use am_talk::active_behind;
 use std::alloc::Global;
 use std::marker::Model;
 use std::sync::Wait;

@@ -175,6 +175,46 @@ pub(crate) const SAVEPOINTS_ARE_NESTED: &[Exchange] = &[
     ("COMMIT", "COMMITTED 1"),
 ];
 
+pub(crate) const STAGED_RECORDS_ARE_ONE_RUN: &[Exchange] = &[
+    ("BEGIN", "BEGUN 1"),
+    ("STAGE a=1 b=2", "OK"),
+    ("STAGE c=3", "OK"),
+    ("LOAD d=4", "OK"),
+    ("SCAN a z 9", "ROWS 4 a=1 b=2 c=3 d=4"),
+    ("COMMIT", "COMMITTED 1"),
+];
+
+/// Sessions that stage records, each on a store of its own.
+pub(crate) const STAGED: &[&[Exchange]] = &[
+    &[("STAGE a=1", "ERR NOTX")],
+    &[
+        ("BEGIN", "BEGUN 1"),
+        ("STAGE b=1", "OK"),
+        ("COMMIT", "ERR STAGED"),
+        ("LOAD a=2", "ERR ORDER"),
+        ("COMMIT", "COMMITTED 1"),
+        ("BEGIN", "BEGUN 2"),
+        ("SCAN a z 9", "ROWS 0"),
+    ],
+    &[
+        ("BEGIN", "BEGUN 1"),
+        ("STAGE a=1", "OK"),
+        ("ABORT", "ABORTED"),
+        ("BEGIN", "BEGUN 2"),
+        ("LOAD b=2", "OK"),
+        ("GET a", "NONE"),
+    ],
+    &[
+        ("BEGIN", "BEGUN 1"),
+        ("STAGE a=1", "OK"),
+        ("LOAD", "ERR SYNTAX"),
+        ("MARK", "OK"),
+        ("BACK", "OK"),
+        ("LOAD b=2", "OK"),
+        ("GET a", "VAL 1"),
+    ],
+];
+
 pub(crate) const BAD_LINES: &[Exchange] = &[
     ("LOAD 1", "ERR SYNTAX"),
     ("LOAD =a", "ERR SYNTAX"),

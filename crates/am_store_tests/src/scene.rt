@@ -2,8 +2,8 @@
 
 use am_btree::BTree;
 use am_core::Store;
-use am_record::{Entry, NoMemory, Reply};
-use am_talk::{Due, Response, due_for, hear, put_response};
+use am_record::{Entry, NoMemory};
+use am_talk::{Due, Response, Session, hear, put_response};
 use am_wire::{LineKind, MAX_LINE_LEN, StopSink, reply_text};
 use std::alloc::Global;
 use std::process::Abort;
@@ -12,14 +12,14 @@ use std::process::Abort;
 pub(crate) type Exchange = (&'static str, &'static str);
 
 /// Who speaks, the line and its answer.
-pub(crate) type Turn = (Session, &'static str, &'static str);
+pub(crate) type Turn = (Speaker, &'static str, &'static str);
 
 /// An entry as it is told: partition, key, value, and whether it is live.
 pub(crate) type Standing = (u32, &'static str, &'static str, Life);
 
-/// A session.
+/// One of the sessions.
 #[derive(Clone, Copy, Debug, PartialEq, Eq)]
-pub(crate) enum Session {
+pub(crate) enum Speaker {
     S1,
     S2,
     S3,
@@ -32,14 +32,14 @@ pub(crate) enum Life {
     Ghost,
 }
 
-/// A store, and the transaction that is active in each of its sessions.
+/// A store, and its sessions.
 #[derive(Drop)]
 pub(crate) struct Scene {
     alloc: Global,
     store: Store<BTree>,
-    first: Option<u64>,
-    second: Option<u64>,
-    third: Option<u64>,
+    first: Session,
+    second: Session,
+    third: Session,
 }
 
 impl Scene {
@@ -47,55 +47,43 @@ impl Scene {
         Ok(Scene {
             alloc,
             store: Store::open(alloc, BTree::new(alloc)?)?,
-            first: None,
-            second: None,
-            third: None,
+            first: Session::new(alloc),
+            second: Session::new(alloc),
+            third: Session::new(alloc),
         })
     }
 
-    fn active_in(&self, session: Session) -> Option<u64> {
-        match session {
-            Session::S1 => self.first,
-            Session::S2 => self.second,
-            Session::S3 => self.third,
-        }
-    }
-
-    fn set_active(&mut self, session: Session, active: Option<u64>) {
-        match session {
-            Session::S1 => self.first = active,
-            Session::S2 => self.second = active,
-            Session::S3 => self.third = active,
-        }
-    }
-
-    // What the session answers to the line, as text.
-    fn answer(&mut self, session: Session, line: &[u8]) -> Result<Vec<u8>, NoMemory> {
-        let active = self.active_in(session);
+    // What the speaker is answered to the line, as text.
+    fn answer(&mut self, speaker: Speaker, line: &[u8]) -> Result<Vec<u8>, NoMemory> {
         let heard = hear(self.alloc, kind_of(line), line);
-        match due_for(active, heard) {
+        let session = match speaker {
+            Speaker::S1 => &mut self.first,
+            Speaker::S2 => &mut self.second,
+            Speaker::S3 => &mut self.third,
+        };
+        match session.due(heard) {
             Due::Answer(response) => text_of(self.alloc, &response),
             Due::Take(step) => {
                 let reply = self.store.step(step);
-                self.set_active(session, active_behind(active, &reply));
+                session.reply(&reply);
                 reply_text(self.alloc, &reply)
             }
             Due::TellSeen => text_of(self.alloc, &Response::Seen(0, self.store.commits())),
         }
     }
 
-    /// Lets the session say the line, which is to have this answer.
+    /// Lets the speaker say the line, which is to have this answer.
     ///
     /// # Errors
     /// NoMemory, where memory was refused on the way.
     pub(crate) fn hears<R: Abort>(
         &mut self,
         rt: &R,
-        session: Session,
+        speaker: Speaker,
         line: &[u8],
         expected: &[u8],
     ) -> Result<(), NoMemory> {
-        let answer = self.answer(session, line)?;
+        let answer = self.answer(speaker, line)?;
         if answer.as_slice() == b"ERR MEMORY\n".as_slice() {
             return Err(NoMemory);
         }
@@ -108,18 +96,18 @@ impl Scene {
         Ok(())
     }
 
-    /// Lets the first session say the lines.
+    /// Lets the first speaker say the lines.
     pub(crate) fn plays<R: Abort>(&mut self, rt: &R, row: &[Exchange]) -> Result<(), NoMemory> {
         for (line, answer) in row {
-            self.hears(rt, Session::S1, line.as_bytes(), answer.as_bytes())?;
+            self.hears(rt, Speaker::S1, line.as_bytes(), answer.as_bytes())?;
         }
         Ok(())
     }
 
-    /// Lets the sessions say the lines.
+    /// Lets the speakers say the lines.
     pub(crate) fn takes<R: Abort>(&mut self, rt: &R, row: &[Turn]) -> Result<(), NoMemory> {
-        for (session, line, answer) in row {
-            self.hears(rt, *session, line.as_bytes(), answer.as_bytes())?;
+        for (speaker, line, answer) in row {
+            self.hears(rt, *speaker, line.as_bytes(), answer.as_bytes())?;
         }
         Ok(())
     }
@@ -140,14 +128,6 @@ fn kind_of(line: &[u8]) -> LineKind {
         LineKind::Long
     } else {
         LineKind::Text
-    }
-}
-
-fn active_behind(active: Option<u64>, reply: &Reply) -> Option<u64> {
-    match reply {
-        Reply::Begun(tx) => Some(*tx),
-        Reply::Committed(_) | Reply::Aborted => None,
-        _ => active,
     }
 }
 

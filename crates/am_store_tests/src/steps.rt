@@ -1,9 +1,9 @@
 //! Worked sessions over one store, step by step.
 
 use crate::rows;
-use crate::scene::{Exchange, Life, Scene, Session, Standing, Turn};
+use crate::scene::{Exchange, Life, Scene, Speaker, Standing, Turn};
 use Life::{Ghost, Live};
-use Session::{S1, S2, S3};
+use Speaker::{S1, S2, S3};
 use am_record::NoMemory;
 use std::alloc::Global;
 use std::process::Abort;
@@ -267,4 +267,44 @@ fn back_keeps_the_locks(rt: HostRuntime) -> Result<(), NoMemory> {
         (S2, "GET a", "NONE"),
     ];
     take_turns(&rt, rt.alloc(), &row)
+}
+
+#[test]
+fn staged_records_are_one_run(rt: HostRuntime) -> Result<(), NoMemory> {
+    leaves(
+        &rt,
+        rt.alloc(),
+        rows::STAGED_RECORDS_ARE_ONE_RUN,
+        &[
+            (1, "a", "1", Live),
+            (1, "b", "2", Live),
+            (1, "c", "3", Live),
+            (1, "d", "4", Live),
+        ],
+    )
+}
+
+#[test]
+fn staged_records_wait(rt: HostRuntime) -> Result<(), NoMemory> {
+    for row in rows::STAGED {
+        says(&rt, rt.alloc(), row)?;
+    }
+    Ok(())
+}
+
+#[test]
+fn a_busy_load_leaves_nothing_staged(rt: HostRuntime) -> Result<(), NoMemory> {
+    let row = [
+        (S1, "BEGIN", "BEGUN 1"),
+        (S1, "STAGE a=1 c=3", "OK"),
+        (S2, "BEGIN", "BEGUN 2"),
+        (S2, "GET b", "NONE"),
+        (S1, "LOAD d=4", "BUSY 2"),
+        (S1, "LOAD e=5", "OK"),
+        (S2, "COMMIT", "COMMITTED 1"),
+        (S1, "COMMIT", "COMMITTED 2"),
+    ];
+    let mut scene = Scene::open(rt.alloc())?;
+    scene.takes(&rt, &row)?;
+    scene.holds(&rt, &[(1, "e", "5", Live)])
 }

@@ -1,13 +1,17 @@
 -- Each answer of a dialogue is one line: what the store tells was read from lines.
-use Rattle.std.proofs.Common.{◌≡◌, ℕ, ◌==◌, List, [], ◌∷◌, ◌++◌, Bool, true, false, Option, Some, None, Result, Ok, Err, refl, sym, subst}
+use Rattle.std.proofs.Common.{◌≡◌, inl, inr, cond, ℕ, ◌==◌, List, [], ◌∷◌, ◌++◌, Bool, true, false, Option, Some, None, Result, Ok, Err, refl, sym, subst}
 use Rattle.std.specs.Prelude.{MatchBool, codes, decimal}
 use Rattle.std.specs.List.{AllByRecursion}
+use Rattle.am_record.specs.Records.{Records}
+use Rattle.am_record.specs.declared.step.Op.{Op}
+use Rattle.am_record.specs.declared.step.Op.TheVariants as op
 use Rattle.am_record.specs.declared.step.Step.TheVariants as step
 use Rattle.am_record.specs.declared.step.Reply.{Reply}
+use Rattle.am_record.specs.declared.step.Reply.TheVariants as reply
 use Rattle.am_serial.specs.Trace.{Trace}
 use Rattle.am_effect.specs.Store.{Store, Follows, after_step}
-use Rattle.am_wire.specs.Replies.{TellsVisible, IsOneLine, words_of}
-use Rattle.am_wire.specs.Visible.{AsksVisible}
+use Rattle.am_wire.specs.Replies.{IsVisibleRow, TellsVisible, IsOneLine, words_of}
+use Rattle.am_wire.specs.Visible.{WritesVisible, AsksVisible}
 use Rattle.am_wire.specs.Grammar.{Reads}
 use Rattle.am_wire.specs.declared.request.Request.{Request}
 use Rattle.am_wire.specs.declared.request.Request.TheVariants as request
@@ -17,14 +21,17 @@ use Rattle.am_wire.proofs.Readings.{reads_what_may_be}
 use Rattle.am_wire.proofs.VisibleRequests.{asks_visible}
 use Rattle.am_wire.proofs.Texts.{HasNoLf-append, HasNoLf-decimal, HasNoLf-free, HasNoLf-words_of, is_free}
 use Rattle.am_talk.specs.Heard.{Line, MayHear, told}
-use Rattle.am_talk.specs.Dues.{due, step_due}
+use Rattle.am_talk.specs.Session.{SessionState, staged_after}
+use Rattle.am_talk.specs.Dues.{may_wait, with_staged, left_by, commit_due, step_due, due, no_room, staged_asked, hearing, MayBeDue}
 use Rattle.am_talk.specs.Responses.{response_text, line}
 use Rattle.am_talk.specs.Dialogue.{Exchange, Standing, AnsweredBy, AnswersLine, Merges, Ends, Whole, TornAt, Dialogue}
 use Rattle.am_talk.specs.declared.lines.Heard.{Heard}
+use Rattle.am_talk.specs.declared.lines.Heard.TheVariants as said
 use Rattle.am_talk.specs.declared.due.Due.{Due}
 use Rattle.am_talk.specs.declared.due.Due.TheVariants.{Answer, Take, TellSeen}
 use Rattle.am_talk.specs.declared.response.Response.{Response}
-use Rattle.am_talk.specs.declared.response.Response.TheVariants.{TooLong, Faulty, NoTransaction, Active, Replied, Seen}
+use Rattle.am_talk.specs.declared.response.Response.TheVariants.{TooLong, Faulty, NoTransaction, Active, Staged, TooManyStaged, StillStaged, Replied, Seen}
+use Rattle.am_talk.proofs.VisibleMaps.{all_append}
 use Rattle.am_talk.proofs.VisibleStores.{IsVisibleStore, IsVisibleStep, after_visible, tells_visible}
 
 -- ---- texts
@@ -67,6 +74,62 @@ seen_line session commits = (
 reply_line : (r : Reply) → TellsVisible r → IsLine (Replied r)
 reply_line r h = (words_of r, HasNoLf-words_of r h, refl)
 
+-- ---- what waits
+
+abbrev AreVisible : Records → Type 0
+AreVisible records = AllByRecursion IsVisibleRow records
+
+with_visible : (staged : Records) (o : Op) → AreVisible staged → WritesVisible o → WritesVisible (with_staged staged o)
+with_visible staged (op.Get k) v w = w
+with_visible staged (op.Scan range max) v w = w
+with_visible staged (op.Insert k value) v w = w
+with_visible staged (op.Replace k value) v w = w
+with_visible staged (op.Delete k) v w = w
+with_visible staged (op.Load records) v w = all_append IsVisibleRow staged records v w
+with_visible staged (op.Lock lock) v w = w
+with_visible staged op.Mark v w = w
+with_visible staged op.Back v w = w
+
+left_visible : (staged : Records) (o : Op) → AreVisible staged → AreVisible (left_by staged o)
+left_visible staged (op.Get k) v = v
+left_visible staged (op.Scan range max) v = v
+left_visible staged (op.Insert k value) v = v
+left_visible staged (op.Replace k value) v = v
+left_visible staged (op.Delete k) v = v
+left_visible staged (op.Load records) v = tt
+left_visible staged (op.Lock lock) v = v
+left_visible staged op.Mark v = v
+left_visible staged op.Back v = v
+
+either_visible : (b : Bool) (xs ys : Records) → AreVisible xs → AreVisible ys → AreVisible (cond b xs ys)
+either_visible true xs ys v w = v
+either_visible false xs ys v w = w
+
+asked_visible : (active : Option ℕ) (staged : Records) (asked : Request) → AreVisible staged → AsksVisible asked → AreVisible (staged_asked active staged asked)
+asked_visible (Some tx) staged (request.Do o) v h = left_visible staged o v
+asked_visible (Some tx) staged (request.Stage records) v h = either_visible (may_wait staged records) (staged ++ records) staged (all_append IsVisibleRow staged records v h) v
+asked_visible None staged (request.Do o) v h = v
+asked_visible None staged (request.Stage records) v h = v
+asked_visible None staged request.Begin v h = v
+asked_visible (Some tx) staged request.Begin v h = v
+asked_visible None staged request.Commit v h = v
+asked_visible (Some tx) staged request.Commit v h = v
+asked_visible None staged request.Abort v h = v
+asked_visible (Some tx) staged request.Abort v h = v
+asked_visible None staged (request.Merge limit) v h = v
+asked_visible (Some tx) staged (request.Merge limit) v h = v
+asked_visible None staged (request.Clean range limit) v h = v
+asked_visible (Some tx) staged (request.Clean range limit) v h = v
+asked_visible None staged request.Seen v h = v
+asked_visible (Some tx) staged request.Seen v h = v
+asked_visible None staged request.Quit v h = v
+asked_visible (Some tx) staged request.Quit v h = v
+
+after_reply : (staged : Records) (r : Reply) → AreVisible staged → AreVisible (staged_after staged r)
+after_reply staged (reply.Committed n) v = tt
+after_reply staged reply.Aborted v = tt
+after_reply staged _ v = v
+
 -- ---- what is due
 
 abbrev IsVisibleDue : Due → Type 0
@@ -74,65 +137,100 @@ IsVisibleDue (Answer response) = IsLine response
 IsVisibleDue (Take what) = IsVisibleStep what
 IsVisibleDue TellSeen = Unit {0}
 
-request_visible : (active : Option ℕ) (asked : Request) → AsksVisible asked → IsVisibleDue (step_due active asked)
-request_visible None request.Begin h = tt
-request_visible (Some tx) request.Begin h = active_line
-request_visible None (request.Do op) h = none_line
-request_visible (Some tx) (request.Do op) h = h
-request_visible None request.Commit h = none_line
-request_visible (Some tx) request.Commit h = tt
-request_visible None request.Abort h = none_line
-request_visible (Some tx) request.Abort h = tt
-request_visible None (request.Merge limit) h = tt
-request_visible (Some tx) (request.Merge limit) h = tt
-request_visible None (request.Clean range limit) h = tt
-request_visible (Some tx) (request.Clean range limit) h = tt
-request_visible None request.Seen h = tt
-request_visible (Some tx) request.Seen h = tt
-request_visible None request.Quit h = none_line
-request_visible (Some tx) request.Quit h = none_line
+stage_line : (b : Bool) → IsLine (cond b Staged TooManyStaged)
+unfolding is_free
+stage_line true = fixed (codes "OK") refl
+stage_line false = fixed (codes "ERR LIMIT") refl
 
-told_visible : (active : Option ℕ) (text : List ℕ) (r : Result Request LineFault) → Reads text r → IsVisibleDue (due active (told r))
-told_visible active text (Ok asked) reads = request_visible active asked (asks_visible text asked reads)
-told_visible active text (Err f) reads = fault_line f
+still_line : IsLine StillStaged
+unfolding is_free
+still_line = fixed (codes "ERR STAGED") refl
 
-due_visible : (active : Option ℕ) (l : Line) (h : Heard) → MayHear l h → IsVisibleDue (due active h)
-due_visible active None h may = subst (λ (x : Heard). IsVisibleDue (due active x)) (sym may) long_line
-due_visible active (Some text) h may = subst (λ (x : Heard). IsVisibleDue (due active x)) (sym may.2) (told_visible active text may.0 (reads_what_may_be text may.0 may.1))
+commit_visible : (tx : ℕ) (staged : Records) → IsVisibleDue (commit_due tx staged)
+commit_visible tx [] = tt
+commit_visible tx (r ∷ rs) = still_line
+
+request_visible : (active : Option ℕ) (staged : Records) (asked : Request) → AreVisible staged → AsksVisible asked → IsVisibleDue (step_due active staged asked)
+request_visible None staged request.Begin v h = tt
+request_visible (Some tx) staged request.Begin v h = active_line
+request_visible None staged (request.Do o) v h = none_line
+request_visible (Some tx) staged (request.Do o) v h = with_visible staged o v h
+request_visible None staged (request.Stage records) v h = none_line
+request_visible (Some tx) staged (request.Stage records) v h = stage_line (may_wait staged records)
+request_visible None staged request.Commit v h = none_line
+request_visible (Some tx) staged request.Commit v h = commit_visible tx staged
+request_visible None staged request.Abort v h = none_line
+request_visible (Some tx) staged request.Abort v h = tt
+request_visible None staged (request.Merge limit) v h = tt
+request_visible (Some tx) staged (request.Merge limit) v h = tt
+request_visible None staged (request.Clean range limit) v h = tt
+request_visible (Some tx) staged (request.Clean range limit) v h = tt
+request_visible None staged request.Seen v h = tt
+request_visible (Some tx) staged request.Seen v h = tt
+request_visible None staged request.Quit v h = none_line
+request_visible (Some tx) staged request.Quit v h = none_line
+
+-- what is due is visible, and so is what waits on
+abbrev GoesVisibly : Due → SessionState → Type 0
+GoesVisibly what here = IsVisibleDue what × AreVisible here.staged
+
+as_due : (s : SessionState) (h : Heard) (what : Due) (here : SessionState) → GoesVisibly (due s h) (hearing s h) → (what ≡ due s h) × (here ≡ hearing s h) → GoesVisibly what here
+as_due s h what here v is = (subst IsVisibleDue (sym is.0) v.0, subst (λ (x : SessionState). AreVisible x.staged) (sym is.1) v.1)
+
+no_room_visible : (s : SessionState) (what : Due) (here : SessionState) → AreVisible s.staged → (what ≡ no_room) × (here ≡ s) → GoesVisibly what here
+no_room_visible s what here v is = (subst IsVisibleDue (sym is.0) (fault_line fault.NoMemory), subst (λ (x : SessionState). AreVisible x.staged) (sym is.1) v)
+
+asked_due : (s : SessionState) (asked : Request) (what : Due) (here : SessionState) → AreVisible s.staged → AsksVisible asked → MayBeDue s (said.Asked asked) what here → GoesVisibly what here
+asked_due s asked what here v h (inl is) = as_due s (said.Asked asked) what here (request_visible s.active s.staged asked v h, asked_visible s.active s.staged asked v h) is
+asked_due s asked what here v h (inr refused) = no_room_visible s what here v (refused.1, refused.2)
+
+told_visible : (s : SessionState) (text : List ℕ) (r : Result Request LineFault) (what : Due) (here : SessionState) → AreVisible s.staged → Reads text r → MayBeDue s (told r) what here → GoesVisibly what here
+told_visible s text (Ok asked) what here v reads may = asked_due s asked what here v (asks_visible text asked reads) may
+told_visible s text (Err f) what here v reads may = as_due s (said.Faulty f) what here (fault_line f, v) may
+
+due_visible : (s : SessionState) (l : Line) (h : Heard) (what : Due) (here : SessionState) → AreVisible s.staged → MayHear l h → MayBeDue s h what here → GoesVisibly what here
+due_visible s None h what here v may d = as_due s said.TooLong what here (long_line, v) (subst (λ (x : Heard). MayBeDue s x what here) may d)
+due_visible s (Some text) h what here v may d = told_visible s text may.0 what here v (reads_what_may_be text may.0 may.1) (subst (λ (x : Heard). MayBeDue s x what here) may.2 d)
 
 -- ---- exchanges
 
--- the response is a line, and the store goes on from one that is visible
-record GoesOn (response : Response) (rest : Trace) : Type 0 where
+-- the response is a line, and the session and the store go on visibly
+record GoesOn (response : Response) (rest : Trace) (at' : Standing) : Type 0 where
   to : Store
   visible : IsVisibleStore to
+  waits : AreVisible at'.0.staged
   follows : Follows to rest
   line : IsLine response
 
-answered : (s : Store) (at : Standing) (d : Due) (response : Response) (own rest : Trace) (at' : Standing) → IsVisibleDue d → IsVisibleStore s → AnsweredBy at d response own at' → Follows s (own ++ rest) → GoesOn response rest
-answered s at (Answer known) response own rest at' v h a f = record {
+answered : (s : Store) (at : Standing) (d : Due) (response : Response) (own rest : Trace) (at' : Standing) → IsVisibleDue d → AreVisible at.0.staged → IsVisibleStore s → AnsweredBy at d response own at' → Follows s (own ++ rest) → GoesOn response rest at'
+answered s at (Answer known) response own rest at' v w h a f = record {
   to = s;
   visible = h;
+  waits = subst (λ (x : Standing). AreVisible x.0.staged) (sym a.2) w;
   follows = subst (λ (x : Trace). Follows s (x ++ rest)) a.1 f;
   line = subst IsLine (sym a.0) v;
 }
-answered s at (Take what) response own rest at' v h a f =
+answered s at (Take what) response own rest at' v w h a f =
     let step : Follows s ((what, a.0) ∷ rest) = subst (λ (x : Trace). Follows s (x ++ rest)) a.2 f in
     record {
       to = after_step s what a.0;
       visible = after_visible s what a.0 v h;
+      waits = subst (λ (x : Standing). AreVisible x.0.staged) (sym a.3) (after_reply at.0.staged a.0 w);
       follows = step.1;
       line = subst IsLine (sym a.1) (reply_line a.0 (tells_visible s what a.0 v h step.0));
     }
-answered s at TellSeen response own rest at' v h a f = record {
+answered s at TellSeen response own rest at' v w h a f = record {
   to = s;
   visible = h;
+  waits = subst (λ (x : Standing). AreVisible x.0.staged) (sym a.2) w;
   follows = subst (λ (x : Trace). Follows s (x ++ rest)) a.1 f;
   line = subst IsLine (sym a.0) (seen_line 0 at.1);
 }
 
-answered_line : (s : Store) (at : Standing) (e : Exchange) (own rest : Trace) (at' : Standing) → IsVisibleStore s → AnswersLine at e own at' → Follows s (own ++ rest) → GoesOn e.1 rest
-answered_line s at e own rest at' h a f = answered s at (due at.0 a.0) e.1 own rest at' (due_visible at.0 e.0 a.0 a.1) h a.2 f
+answered_line : (s : Store) (at : Standing) (e : Exchange) (own rest : Trace) (at' : Standing) → IsVisibleStore s → AreVisible at.0.staged → AnswersLine at e own at' → Follows s (own ++ rest) → GoesOn e.1 rest at'
+answered_line s at e own rest at' h w a f =
+    let due : GoesVisibly a.1 a.2 = due_visible at.0 e.0 a.0 a.1 a.2 w a.3 a.4 in
+    answered s (a.2, at.1) a.1 e.1 own rest at' due.0 due.1 h a.5 f
 
 -- a merge may follow
 record Merged (later : Trace) : Type 0 where
@@ -154,20 +252,20 @@ AreLines exchanges = AllByRecursion (λ (e : Exchange). IsOneLine (response_text
 
 -- what a dialogue's end says of the last responses
 abbrev EndsInLines : Ends → List Exchange → Type 0
-EndsInLines ends tail = (s : Store) (at : Standing) (trace : Trace) → IsVisibleStore s → Follows s trace → ends at trace → AreLines tail
+EndsInLines ends tail = (s : Store) (at : Standing) (trace : Trace) → IsVisibleStore s → AreVisible at.0.staged → Follows s trace → ends at trace → AreLines tail
 
 pub whole_lines : EndsInLines Whole []
-whole_lines s at trace h f ended = tt
+whole_lines s at trace h w f ended = tt
 
 pub torn_lines : (last : Exchange) → EndsInLines (TornAt last) (last ∷ [])
-torn_lines last s at trace h f d =
-    let on : GoesOn last.1 d.1 = answered_line s at last d.0 d.1 d.2 h d.3 (subst (Follows s) d.4 f) in
+torn_lines last s at trace h w f d =
+    let on : GoesOn last.1 d.1 d.2 = answered_line s at last d.0 d.1 d.2 h w d.3 (subst (Follows s) d.4 f) in
     (on.line, tt)
 
-pub dialogue_lines : (auto : ℕ) (ends : Ends) (tail : List Exchange) → EndsInLines ends tail → (exchanges : List Exchange) (s : Store) (at : Standing) (trace : Trace) → IsVisibleStore s → Follows s trace →
+pub dialogue_lines : (auto : ℕ) (ends : Ends) (tail : List Exchange) → EndsInLines ends tail → (exchanges : List Exchange) (s : Store) (at : Standing) (trace : Trace) → IsVisibleStore s → AreVisible at.0.staged → Follows s trace →
     Dialogue auto ends at exchanges trace → AreLines (exchanges ++ tail)
-dialogue_lines auto ends tail ending [] s at trace h f d = ending s at trace h f d
-dialogue_lines auto ends tail ending (e ∷ exchanges) s at trace h f d =
-    let on : GoesOn e.1 d.1 = answered_line s at e d.0 d.1 d.3 h d.4 (subst (Follows s) d.5 f) in
+dialogue_lines auto ends tail ending [] s at trace h w f d = ending s at trace h w f d
+dialogue_lines auto ends tail ending (e ∷ exchanges) s at trace h w f d =
+    let on : GoesOn e.1 d.1 d.3 = answered_line s at e d.0 d.1 d.3 h w d.4 (subst (Follows s) d.5 f) in
     let next : Merged d.2 = merged_between auto on.to d.1 d.2 on.visible d.6 on.follows in
-    (on.line, dialogue_lines auto ends tail ending exchanges next.to d.3 d.2 next.visible next.follows d.7)
+    (on.line, dialogue_lines auto ends tail ending exchanges next.to d.3 d.2 next.visible on.waits next.follows d.7)

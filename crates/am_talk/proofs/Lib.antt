@@ -3,3 +3,5 @@ pub mod Dialogues
 pub mod VisibleMaps
 pub mod VisibleStores
 pub mod AnsweredLines
+pub mod FoundMemory
+pub mod StagedLines

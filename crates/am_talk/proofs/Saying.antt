@@ -5,6 +5,7 @@ use Rattle.std.proofs.lemmas.Bool.{false≢true, eq-eqb}
 use Rattle.std.proofs.lemmas.Option.{none-some, same_Some}
 use Rattle.std.proofs.lemmas.List.{length-map, map-append}
 use Rattle.am_record.specs.OrderedKey.{OrderedKey}
+use Rattle.am_record.specs.Records.{Records}
 use Rattle.std.specs.FinMap.{get, contains_key}
 use Rattle.am_record.specs.Plain.{PlainMap, Draft, fresh, answer, found, exists_or_done, went_back, least_taken, left, left_on, is_orderly}
 use Rattle.am_record.specs.Asks.{lock_of, locks_of, clashes}
@@ -17,19 +18,21 @@ use Rattle.am_record.specs.declared.step.Refusal.TheVariants as why
 use Rattle.am_serial.specs.Trace.{Answered, ops_of, Answers, Commits, Aborts, effect_of_do, runs_made}
 use Rattle.am_serial.specs.Machine as machine
 use Rattle.am_serial.specs.Machine.{Transaction, due, due_early, due_lock, or_else, busy, blocker, is_one_too_many, is_bounded, is_load, next, Runs, May, view}
-use Rattle.am_talk.specs.Dues.{active_after}
+use Rattle.am_talk.specs.Session.{active_after, staged_after}
 use Rattle.am_talk.specs.Dialogue.{Standing}
 use Rattle.am_talk.specs.Say as say
 use Rattle.am_talk.specs.Say.{refusal_due, reply_due, begin_due, state_did, wants_memory}
 use Rattle.am_talk.specs.declared.response.Response.TheVariants.{Replied}
 
--- a machine with one active transaction, or none: the one that was begun last, with its answered operations
+-- a machine with one active transaction, or none: the one that was begun last, with its answered operations; and what
+-- waits in its session
 pub record Where : Type 0 where
   pub begun : ℕ
   pub commits : ℕ
   pub runs : ℕ
   pub committed : PlainMap
   pub own : Option (List Answered)
+  pub staged : Records
 
 abbrev pub actives : ℕ → Option (List Answered) → List Transaction
 actives begun None = []
@@ -39,10 +42,10 @@ abbrev pub machine_at : Where → machine.State
 machine_at w = record { begun = w.begun; commits = w.commits; runs = w.runs; committed = w.committed; active = actives w.begun w.own }
 
 abbrev pub state_at : Where → say.State
-state_at w = record { begun = w.begun; commits = w.commits; runs = w.runs; committed = w.committed; own = option_map ops_of w.own }
+state_at w = record { begun = w.begun; commits = w.commits; runs = w.runs; committed = w.committed; own = option_map ops_of w.own; staged = w.staged }
 
 abbrev pub standing_at : Where → Standing
-standing_at w = (option_map (λ _. w.begun) w.own, w.commits)
+standing_at w = (record { active = option_map (λ _. w.begun) w.own; staged = w.staged }, w.commits)
 
 pub itself : (n : ℕ) → (n == n) ≡ true
 itself n = eq-eqb n n refl
@@ -112,20 +115,21 @@ pub record Counts (r : Reply) : Type 0 where
   pub effect : (t : ℕ) (op : Op) → effect_of_do t op r ≡ Answers t op r
   pub did : (s : say.State) (ops : List Op) (op : Op) → state_did s ops op r ≡ record s { runs = s.runs + runs_made op r; own = Some (ops ++ op ∷ []) }
   pub active : (a : Option ℕ) → active_after a r ≡ a
+  pub staged : (rs : Records) → staged_after rs r ≡ rs
 
 pub answer_counts : (r : Reply) → is_answer r ≡ true → Counts r
-answer_counts reply.Done h = record { found = refl; effect = λ t op. refl; did = λ s ops op. refl; active = λ a. refl }
-answer_counts (reply.Found v) h = record { found = refl; effect = λ t op. refl; did = λ s ops op. refl; active = λ a. refl }
-answer_counts reply.Absent h = record { found = refl; effect = λ t op. refl; did = λ s ops op. refl; active = λ a. refl }
-answer_counts (reply.Rows rows) h = record { found = refl; effect = λ t op. refl; did = λ s ops op. refl; active = λ a. refl }
-answer_counts (reply.Exists k) h = record { found = refl; effect = λ t op. refl; did = λ s ops op. refl; active = λ a. refl }
-answer_counts reply.Missing h = record { found = refl; effect = λ t op. refl; did = λ s ops op. refl; active = λ a. refl }
-answer_counts reply.NoMark h = record { found = refl; effect = λ t op. refl; did = λ s ops op. refl; active = λ a. refl }
+answer_counts reply.Done h = record { found = refl; effect = λ t op. refl; did = λ s ops op. refl; active = λ a. refl; staged = λ rs. refl }
+answer_counts (reply.Found v) h = record { found = refl; effect = λ t op. refl; did = λ s ops op. refl; active = λ a. refl; staged = λ rs. refl }
+answer_counts reply.Absent h = record { found = refl; effect = λ t op. refl; did = λ s ops op. refl; active = λ a. refl; staged = λ rs. refl }
+answer_counts (reply.Rows rows) h = record { found = refl; effect = λ t op. refl; did = λ s ops op. refl; active = λ a. refl; staged = λ rs. refl }
+answer_counts (reply.Exists k) h = record { found = refl; effect = λ t op. refl; did = λ s ops op. refl; active = λ a. refl; staged = λ rs. refl }
+answer_counts reply.Missing h = record { found = refl; effect = λ t op. refl; did = λ s ops op. refl; active = λ a. refl; staged = λ rs. refl }
+answer_counts reply.NoMark h = record { found = refl; effect = λ t op. refl; did = λ s ops op. refl; active = λ a. refl; staged = λ rs. refl }
 answer_counts _ h = absurd (false≢true h)
 
-module _ (begun commits runs : ℕ) (m : PlainMap) (body : List Answered) where
+module _ (begun commits runs : ℕ) (m : PlainMap) (body : List Answered) (staged : Records) where
   abbrev here : Where
-  here = record { begun = begun; commits = commits; runs = runs; committed = m; own = Some body }
+  here = record { begun = begun; commits = commits; runs = runs; committed = m; own = Some body; staged = staged }
 
   abbrev ops : List Op
   ops = ops_of body

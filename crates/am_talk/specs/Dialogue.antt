@@ -6,7 +6,8 @@ use Rattle.am_record.specs.declared.step.Reply.{Reply}
 use Rattle.am_record.specs.declared.step.Reply.TheVariants as reply
 use Rattle.am_serial.specs.Trace.{Trace}
 use Rattle.am_talk.specs.Heard.{Line, MayHear}
-use Rattle.am_talk.specs.Dues.{due, active_after}
+use Rattle.am_talk.specs.Session.{SessionState, behind}
+use Rattle.am_talk.specs.Dues.{MayBeDue}
 use Rattle.am_talk.specs.declared.lines.Heard.{Heard}
 use Rattle.am_talk.specs.declared.due.Due.{Due}
 use Rattle.am_talk.specs.declared.due.Due.TheVariants.{Answer, Take, TellSeen}
@@ -22,14 +23,14 @@ abbrev pub commits_after : ℕ → Step → Reply → ℕ
 commits_after commits (step.Commit tx) (reply.Committed number) = commits + 1
 commits_after commits _ _ = commits
 
--- what a session stands at between two lines: the active transaction, and the commits so far
+-- where a session alone stands between two lines, and the commits so far
 abbrev pub Standing : Type 0
-Standing = Option ℕ × ℕ
+Standing = SessionState × ℕ
 
 -- What was due was answered by this response, with these events; SEEN tells 0, a session alone, and the commits.
 abbrev pub AnsweredBy : Standing → Due → Response → Trace → Standing → Type 0
 AnsweredBy at (Answer due) response events at' = (response ≡ due) × (events ≡ []) × (at' ≡ at)
-AnsweredBy at (Take step) response events at' = (told : Reply) × (response ≡ Replied told) × (events ≡ (step, told) ∷ []) × (at' ≡ (active_after at.0 told, commits_after at.1 step told))
+AnsweredBy at (Take step) response events at' = (told : Reply) × (response ≡ Replied told) × (events ≡ (step, told) ∷ []) × (at' ≡ (behind at.0 told, commits_after at.1 step told))
 AnsweredBy at TellSeen response events at' = (response ≡ Seen 0 at.1) × (events ≡ []) × (at' ≡ at)
 
 -- a merge follows each answer, unless `auto` is 0
@@ -43,17 +44,18 @@ Leaves (Some tx) events = events ≡ (step.Abort tx, reply.Aborted) ∷ []
 
 -- the line was answered by this response, with these events
 abbrev pub AnswersLine : Standing → Exchange → Trace → Standing → Type 0
-AnswersLine at e events at' = (heard : Heard) × MayHear e.0 heard × AnsweredBy at (due at.0 heard) e.1 events at'
+AnswersLine at e events at' =
+    (heard : Heard) × (what : Due) × (here : SessionState) × MayHear e.0 heard × MayBeDue at.0 heard what here × AnsweredBy (here, at.1) what e.1 events at'
 
 -- how a dialogue ends: all is answered, or the answer to one more line was torn, and no merge follows it
 abbrev pub Ends : Type 1
 Ends = Standing → Trace → Type 0
 
 abbrev pub Whole : Ends
-Whole at events = Leaves at.0 events
+Whole at events = Leaves at.0.active events
 
 abbrev pub TornAt : Exchange → Ends
-TornAt last at events = (own rest : Trace) × (at' : Standing) × AnswersLine at last own at' × (events ≡ own ++ rest) × Leaves at'.0 rest
+TornAt last at events = (own rest : Trace) × (at' : Standing) × AnswersLine at last own at' × (events ≡ own ++ rest) × Leaves at'.0.active rest
 
 -- the lines were answered in order, and these are all events, the last abort among them
 abbrev pub Dialogue : ℕ → Ends → Standing → List Exchange → Trace → Type 0

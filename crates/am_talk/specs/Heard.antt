@@ -2,7 +2,7 @@
 use Rattle.std.specs.Prelude.{◌≡◌, ℕ, List, [], ◌∷◌, Bool, true, false, cond, Option, Some, None, Result, Ok, Err}
 use Rattle.am_wire.specs.Reading.{reading, MayRead}
 use Rattle.am_wire.specs.declared.request.Request.{Request}
-use Rattle.am_wire.specs.declared.request.Request.TheVariants.{Merge, Clean, Quit}
+use Rattle.am_wire.specs.declared.request.Request.TheVariants.{Stage, Merge, Clean, Quit}
 use Rattle.am_wire.specs.declared.request.LineFault.{LineFault}
 use Rattle.am_talk.specs.declared.lines.Heard.{Heard}
 use Rattle.am_talk.specs.declared.lines.Heard.TheVariants.{Asked, Faulty, TooLong}
@@ -20,7 +20,7 @@ abbrev pub heard : Line → Heard
 heard None = TooLong
 heard (Some text) = told (reading text)
 
--- what it may be heard as: memory may be refused for the records of a load
+-- what it may be heard as: memory may be refused for the records that it brings
 abbrev pub MayHear : Line → Heard → Type 0
 MayHear None h = h ≡ TooLong
 MayHear (Some text) h = (read : Result Request LineFault) × MayRead (reading text) read × (h ≡ told read)
@@ -34,6 +34,10 @@ abbrev pub is_upkeep : Heard → Bool
 is_upkeep (Asked (Merge limit)) = true
 is_upkeep (Asked (Clean range limit)) = true
 is_upkeep _ = false
+
+abbrev pub is_stage : Heard → Bool
+is_stage (Asked (Stage records)) = true
+is_stage _ = false
 
 -- the lines before the first QUIT
 abbrev pub before_quit : List Line → List Line

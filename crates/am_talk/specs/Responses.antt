@@ -4,7 +4,7 @@ use Rattle.am_wire.specs.Replies.{text_of}
 use Rattle.am_wire.specs.declared.request.LineFault.{LineFault}
 use Rattle.am_wire.specs.declared.request.LineFault.TheVariants.{Syntax, Range, NoMemory}
 use Rattle.am_talk.specs.declared.response.Response.{Response}
-use Rattle.am_talk.specs.declared.response.Response.TheVariants.{TooLong, Faulty, NoTransaction, Active, Replied, Seen}
+use Rattle.am_talk.specs.declared.response.Response.TheVariants.{TooLong, Faulty, NoTransaction, Active, Staged, TooManyStaged, StillStaged, Replied, Seen}
 
 -- the text as a line
 abbrev pub line : List ℕ → List ℕ
@@ -24,6 +24,9 @@ response_text TooLong = line (codes "ERR LONG")
 response_text (Faulty fault) = fault_text fault
 response_text NoTransaction = line (codes "ERR NOTX")
 response_text Active = line (codes "ERR ACTIVE")
+response_text Staged = line (codes "OK")
+response_text TooManyStaged = line (codes "ERR LIMIT")
+response_text StillStaged = line (codes "ERR STAGED")
 response_text (Replied reply) = text_of reply
 response_text (Seen session commits) = seen_text session commits
 

@@ -1,16 +1,19 @@
 -- What a session on a store of its own says, by the plain map alone.
-use Rattle.std.specs.Prelude.{◌≡◌, ℕ, ◌+◌, ◌^◌, nat_le, length, List, [], ◌∷◌, ◌++◌, Bool, true, false, cond, not, ◌&&◌, filter, map, Option, Some, None}
+use Rattle.std.specs.Prelude.{◌≡◌, ℕ, ◌+◌, ◌^◌, nat_le, length, List, [], ◌∷◌, ◌++◌, Bool, true, false, cond, not, ◌&&◌, filter, map, Option, Some, None, MatchBool, MatchOption}
 use Rattle.std.specs.FinMap.{empty}
+use Rattle.am_record.specs.Records.{Records}
 use Rattle.am_record.specs.Plain.{PlainMap, fresh, answer, left, left_on, is_orderly}
 use Rattle.am_record.specs.Asks.{lock_of, locks_of}
 use Rattle.am_record.specs.declared.step.Op.{Op}
+use Rattle.am_record.specs.declared.step.Op.TheVariants.{Load}
 use Rattle.am_record.specs.declared.step.Reply.{Reply}
 use Rattle.am_record.specs.declared.step.Reply.TheVariants.{Begun, Committed, Aborted, Refused}
 use Rattle.am_record.specs.declared.step.Refusal.{Refusal}
 use Rattle.am_record.specs.declared.step.Refusal.TheVariants.{TooManyTx, TooManyLocks, TooManyOps, TooManyRuns, NotRising, BadLimit, NoMemory}
 use Rattle.am_serial.specs.Trace.{runs_made}
 use Rattle.am_serial.specs.Machine.{is_bounded, is_load, is_one_too_many}
-use Rattle.am_talk.specs.Heard.{Line, heard, is_upkeep}
+use Rattle.am_talk.specs.Heard.{Line, heard, is_upkeep, is_stage}
+use Rattle.am_talk.specs.Dues.{with_staged, left_by, stage_due, may_wait}
 use Rattle.am_talk.specs.Dialogue.{Exchange}
 use Rattle.am_wire.specs.declared.request.Request.{Request}
 use Rattle.am_wire.specs.declared.request.Request.TheVariants as request
@@ -18,19 +21,20 @@ use Rattle.am_wire.specs.declared.request.LineFault.TheVariants as fault
 use Rattle.am_talk.specs.declared.lines.Heard.{Heard}
 use Rattle.am_talk.specs.declared.lines.Heard.TheVariants as said
 use Rattle.am_talk.specs.declared.response.Response.{Response}
-use Rattle.am_talk.specs.declared.response.Response.TheVariants.{TooLong, Faulty, NoTransaction, Active, Replied, Seen}
+use Rattle.am_talk.specs.declared.response.Response.TheVariants.{TooLong, Faulty, NoTransaction, Active, StillStaged, Replied, Seen}
 
--- how many transactions were begun and committed and how many runs were made, the map that the committed ones left, and the operations
--- of the active transaction
+-- how many transactions were begun and committed and how many runs were made, the map that the committed ones left, the operations
+-- of the active transaction, and the records that wait for its next load
 pub record State : Type 0 where
   pub begun : ℕ
   pub commits : ℕ
   pub runs : ℕ
   pub committed : PlainMap
   pub own : Option (List Op)
+  pub staged : Records
 
 abbrev pub opened : State
-opened = record { begun = 0; commits = 0; runs = 0; committed = empty; own = None }
+opened = record { begun = 0; commits = 0; runs = 0; committed = empty; own = None; staged = [] }
 
 -- the refusal that is due to an operation, by those before it; a session alone meets no lock of another
 abbrev pub refusal_due : State → List Op → Op → Option Refusal
@@ -53,12 +57,17 @@ reply_due s ops op = refused_or (refusal_due s ops op) (answer op (left_on ops (
 abbrev pub begin_due : State → Reply
 begin_due s = cond (nat_le (2 ^ 63) s.begun) (Refused TooManyTx) (Begun (s.begun + 1))
 
+abbrev pub commit_response : State → Records → Response
+commit_response s [] = Replied (Committed (s.commits + 1))
+commit_response s (r ∷ rs) = StillStaged
+
 -- the answer to a request; MERGE and CLEAN are not said by the plain map. A session ends at QUIT, before it asks here
 abbrev pub answer_to : State → Option (List Op) → Request → Option Response
 answer_to s None request.Begin = Some (Replied (begin_due s))
 answer_to s (Some ops) request.Begin = Some Active
-answer_to s (Some ops) (request.Do op) = Some (Replied (reply_due s ops op))
-answer_to s (Some ops) request.Commit = Some (Replied (Committed (s.commits + 1)))
+answer_to s (Some ops) (request.Do op) = Some (Replied (reply_due s ops (with_staged s.staged op)))
+answer_to s (Some ops) (request.Stage records) = Some (stage_due s.staged records)
+answer_to s (Some ops) request.Commit = Some (commit_response s s.staged)
 answer_to s (Some ops) request.Abort = Some (Replied Aborted)
 answer_to s own request.Seen = Some (Seen 0 s.commits)
 answer_to s own (request.Merge limit) = None
@@ -70,11 +79,23 @@ abbrev pub state_did : State → List Op → Op → Reply → State
 state_did s ops op (Refused why) = s
 state_did s ops op reply = record s { runs = s.runs + runs_made op reply; own = Some (ops ++ op ∷ []) }
 
+-- with what waits a load goes on, whatever it is answered
+abbrev pub state_done : State → List Op → Op → State
+state_done s ops op = state_did (record s { staged = left_by s.staged op }) ops (with_staged s.staged op) (reply_due s ops (with_staged s.staged op))
+
+abbrev pub state_staged : State → Records → State
+state_staged s records = cond (may_wait s.staged records) (record s { staged = s.staged ++ records }) s
+
+abbrev pub state_committed : State → List Op → Records → State
+state_committed s ops [] = record s { commits = s.commits + 1; committed = left ops s.committed; own = None }
+state_committed s ops (r ∷ rs) = s
+
 abbrev pub state_asked : State → Option (List Op) → Request → State
 state_asked s None request.Begin = cond (nat_le (2 ^ 63) s.begun) s (record s { begun = s.begun + 1; own = Some [] })
-state_asked s (Some ops) (request.Do op) = state_did s ops op (reply_due s ops op)
-state_asked s (Some ops) request.Commit = record s { commits = s.commits + 1; committed = left ops s.committed; own = None }
-state_asked s (Some ops) request.Abort = record s { own = None }
+state_asked s (Some ops) (request.Do op) = state_done s ops op
+state_asked s (Some ops) (request.Stage records) = state_staged s records
+state_asked s (Some ops) request.Commit = state_committed s ops s.staged
+state_asked s (Some ops) request.Abort = record s { own = None; staged = [] }
 state_asked s own _ = s
 
 abbrev pub response_due : State → Heard → Option Response
@@ -105,13 +126,45 @@ wants_memory (Faulty fault.NoMemory) = true
 wants_memory (Replied (Refused NoMemory)) = true
 wants_memory _ = false
 
--- the exchanges in which memory was found, and among these those that are no MERGE or CLEAN
+-- A line to which memory was refused did nothing; but where it is the load itself that was refused, what waited is let go.
+abbrev pub is_load_line : Heard → Bool
+is_load_line (said.Asked (request.Do (Load records))) = true
+is_load_line _ = false
+
+abbrev pub is_refused_load : Heard → Response → Bool
+is_refused_load heard (Replied reply) = is_load_line heard
+is_refused_load heard _ = false
+
+abbrev pub state_refused : State → Heard → Response → State
+state_refused s heard response = cond (is_refused_load heard response) (record s { staged = [] }) s
+
+-- All other lines were answered as they are said, MERGE and CLEAN aside.
+abbrev pub IsSaid : Option Response → Response → Type 0
+IsSaid due response = MatchOption due (Unit {0}) (λ said. response ≡ said)
+
+abbrev pub SaysFrom : State → List Exchange → Type 0
+SaysFrom s [] = Unit {0}
+SaysFrom s (e ∷ exchanges) = MatchBool (wants_memory e.1)
+    (SaysFrom (state_refused s (heard e.0) e.1) exchanges)
+    (IsSaid (response_due s (heard e.0)) e.1 × SaysFrom (state_heard s (heard e.0)) exchanges)
+
+abbrev pub Says : List Exchange → Type 0
+Says exchanges = SaysFrom opened exchanges
+
+-- The same in one piece: the exchanges in which memory was found, and among these those that are no MERGE or CLEAN.
 abbrev pub with_memory : List Exchange → List Exchange
 with_memory exchanges = filter (λ (e : Exchange). not (wants_memory e.1)) exchanges
 
 abbrev pub without_upkeep : List Exchange → List Exchange
 without_upkeep exchanges = filter (λ (e : Exchange). not (is_upkeep (heard e.0))) exchanges
 
--- A line to which memory was refused did nothing: the other lines were answered as they are said, MERGE and CLEAN aside.
-abbrev pub Says : List Exchange → Type 0
-Says exchanges = map (λ (e : Exchange). e.1) (without_upkeep (with_memory exchanges)) ≡ say (map (λ (e : Exchange). e.0) (with_memory exchanges))
+-- the lines to which memory was not refused were answered as they are said
+abbrev pub AreSay : List Exchange → Type 0
+AreSay exchanges = map (λ (e : Exchange). e.1) (without_upkeep (with_memory exchanges)) ≡ say (map (λ (e : Exchange). e.0) (with_memory exchanges))
+
+-- the line stages nothing; the load of the line wasn't refused memory
+abbrev pub StagesNothing : Exchange → Type 0
+StagesNothing e = is_stage (heard e.0) ≡ false
+
+abbrev pub LosesNothing : Exchange → Type 0
+LosesNothing e = (wants_memory e.1 && is_refused_load (heard e.0) e.1) ≡ false

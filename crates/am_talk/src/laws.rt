@@ -1,13 +1,17 @@
 //! What a session on a store of its own says.
 
-ghost use Rattle.std.specs.Prelude.{ℕ, List, [], ◌∷◌, ◌++◌, All, None};
+ghost use Rattle.std.specs.Prelude.{◌≡◌, ℕ, ◌≤◌, length, List, [], ◌∷◌, ◌++◌, All, Some};
 ghost use Rattle.am_serial.specs.Trace.{Trace};
 ghost use Rattle.am_serial.specs.Sound.{IsSound};
 ghost use Rattle.am_effect.specs.Store.{opened, Follows};
 ghost use Rattle.am_wire.specs.Replies.{IsOneLine};
 ghost use Rattle.am_talk.specs.Responses.{response_text};
 ghost use Rattle.am_talk.specs.Dialogue.{Exchange, Dialogue, Whole, TornAt};
-ghost use Rattle.am_talk.specs.Say.{Says};
+ghost use Rattle.am_talk.specs.Session.{at_start};
+ghost use Rattle.am_talk.specs.Say.{State, Says, AreSay, StagesNothing, LosesNothing};
+ghost use Rattle.am_talk.specs.Staging.{all_of, IsOneLoad};
+ghost use Rattle.am_record.specs.Records.{Records};
+ghost use Rattle.am_record.specs.declared.step.Op.{Op};
 
 use am_serial::sound_traces_are_runs;
 
@@ -15,20 +19,33 @@ use am_serial::sound_traces_are_runs;
 /// The answer to a last line may have been torn.
 pub fn sound_dialogues_say()
     ensures whole { (auto : ℕ) (exchanges : List Exchange) (trace : Trace) → IsSound trace →
-        Dialogue auto Whole (None, 0) exchanges trace → Says exchanges }
+        Dialogue auto Whole (at_start, 0) exchanges trace → Says exchanges }
     ensures torn { (auto : ℕ) (exchanges : List Exchange) (last : Exchange) (trace : Trace) → IsSound trace →
-        Dialogue auto (TornAt last) (None, 0) exchanges trace → Says (exchanges ++ last ∷ []) }
+        Dialogue auto (TornAt last) (at_start, 0) exchanges trace → Says (exchanges ++ last ∷ []) }
 {
     sound_traces_are_runs();
 }
+
+/// In one piece: where nothing is staged, or no load that the store was asked for was refused memory, the lines that found
+/// memory are answered as those lines alone would be.
+pub fn found_memory_is_said()
+    ensures unstaged { (exchanges : List Exchange) → Says exchanges → All StagesNothing exchanges → AreSay exchanges }
+    ensures found { (exchanges : List Exchange) → Says exchanges → All LosesNothing exchanges → AreSay exchanges }
+{}
+
+/// Lines that stage records and load them are answered as one LOAD of all of them would be.
+pub fn staging_is_loading()
+    ensures { (s : State) (ops : List Op) (staged : List Records) (last : Records) →
+        s.own ≡ Some ops → s.staged ≡ [] → length (all_of staged) ≤ 65536 → IsOneLoad s staged last }
+{}
 
 /// Where one session alone had its steps answered by the store, each answer is one line: an LF ends it, and no other
 /// stands in it. What the store holds came on lines, so no LF is among it. The answer to a last line may have been torn.
 pub fn answers_are_lines()
     ensures whole { (auto : ℕ) (exchanges : List Exchange) (trace : Trace) → Follows opened trace →
-        Dialogue auto Whole (None, 0) exchanges trace →
+        Dialogue auto Whole (at_start, 0) exchanges trace →
         All (λ (e : Exchange). IsOneLine (response_text e.1)) exchanges }
     ensures torn { (auto : ℕ) (exchanges : List Exchange) (last : Exchange) (trace : Trace) → Follows opened trace →
-        Dialogue auto (TornAt last) (None, 0) exchanges trace →
+        Dialogue auto (TornAt last) (at_start, 0) exchanges trace →
         All (λ (e : Exchange). IsOneLine (response_text e.1)) (exchanges ++ last ∷ []) }
 {}

@@ -5,8 +5,10 @@ mod due;
 mod laws;
 mod lines;
 mod response;
+mod session;
 
-pub use due::{Due, due_for};
-pub use laws::{answers_are_lines, sound_dialogues_say};
+pub use due::Due;
+pub use laws::{answers_are_lines, found_memory_is_said, sound_dialogues_say, staging_is_loading};
 pub use lines::{Heard, hear};
 pub use response::{Response, put_response};
+pub use session::{Session, active_behind};

@@ -15,7 +15,7 @@ pub enum Heard {
     TooLong,
 }
 
-/// Reads a line that was cut from the input. Only the records of a LOAD take memory.
+/// Reads a line that was cut from the input. Only the records that it brings take memory.
 pub fn hear(alloc: Global, kind: LineKind, line: &[u8]) -> Heard
     ensures { MayHear (seen kind line.now) result }
 {

@@ -17,6 +17,12 @@ pub enum Response {
     NoTransaction,
     /// A transaction is active already.
     Active,
+    /// The records of the line wait for the next load.
+    Staged,
+    /// More records would wait than may.
+    TooManyStaged,
+    /// Records wait, so there is no commit.
+    StillStaged,
     Replied(Reply),
     /// The number of the session, and the number of commits that it sees.
     Seen(u64, u64),
@@ -36,6 +42,9 @@ pub fn put_response<K: Sink>(response: &Response, sink: &mut K) -> Result<(), Fa
         Response::Faulty(fault) => give_all(sink, text_of_fault(*fault)),
         Response::NoTransaction => give_all(sink, b"ERR NOTX\n"),
         Response::Active => give_all(sink, b"ERR ACTIVE\n"),
+        Response::Staged => give_all(sink, b"OK\n"),
+        Response::TooManyStaged => give_all(sink, b"ERR LIMIT\n"),
+        Response::StillStaged => give_all(sink, b"ERR STAGED\n"),
         Response::Replied(reply) => put_reply(reply, sink),
         Response::Seen(session, commits) => give_all(
             sink,

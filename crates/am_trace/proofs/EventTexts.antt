@@ -60,6 +60,7 @@ verb_letters verb.Insert = refl
 verb_letters verb.Replace = refl
 verb_letters verb.Delete = refl
 verb_letters verb.Load = refl
+verb_letters verb.Stage = refl
 verb_letters verb.Lock = refl
 verb_letters verb.Mark = refl
 verb_letters verb.Back = refl

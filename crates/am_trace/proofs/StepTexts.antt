@@ -164,6 +164,7 @@ module _ (laws : WordLaws) where
   op_back v verb.Abort fs o e = cc
   op_back v verb.Merge fs o e = cc
   op_back v verb.Clean fs o e = cc
+  op_back v verb.Stage fs o e = cc
   op_back v verb.Seen fs o e = cc
   op_back v verb.Quit fs o e = cc
 
@@ -219,6 +220,7 @@ module _ (laws : WordLaws) where
   of_back v verb.Replace fs s e = do_back v verb.Replace fs s e
   of_back v verb.Delete fs s e = do_back v verb.Delete fs s e
   of_back v verb.Load fs s e = do_back v verb.Load fs s e
+  of_back v verb.Stage fs s e = do_back v verb.Stage fs s e
   of_back v verb.Lock fs s e = do_back v verb.Lock fs s e
   of_back v verb.Mark fs s e = do_back v verb.Mark fs s e
   of_back v verb.Back fs s e = do_back v verb.Back fs s e

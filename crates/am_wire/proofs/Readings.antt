@@ -2,14 +2,12 @@
 use Rattle.std.proofs.Common.{◌≡◌, ◌≢◌, ℕ, List, [], ◌∷◌, Option, Some, None, Result, Ok, Err, ok_or, option_map, inl, inr, refl, sym, ap, subst, ◌∙◌}
 use Rattle.std.proofs.lemmas.List.Splits.{join_with_byte-slice_split}
 use Rattle.std.specs.List.{join_with_byte}
-use Rattle.am_record.specs.declared.step.Op.TheVariants.{Load}
 use Rattle.am_wire.specs.Verbs.{word_of, verb_for, shape_of}
 use Rattle.am_wire.specs.Arguments.{Arguments, fields_of, values_for}
 use Rattle.am_wire.specs.Grammar.{Form, spelling, IsProper, request_with, request_of, Spells, Reads}
 use Rattle.am_wire.specs.Reading.{line_fields, arguments_in, judged, map_ok, verb_reading, fields_reading, reading, MayRead}
 use Rattle.am_wire.specs.declared.verb.Verb.{Verb}
 use Rattle.am_wire.specs.declared.request.Request.{Request}
-use Rattle.am_wire.specs.declared.request.Request.TheVariants.{Do}
 use Rattle.am_wire.specs.declared.request.LineFault.{LineFault}
 use Rattle.am_wire.specs.declared.request.LineFault.TheVariants.{Syntax, Range, NoMemory}
 use Rattle.am_wire.proofs.Spaces.{line_fields-join}
@@ -114,7 +112,7 @@ reads_reading line = subst (Reads line) (sym (by_form (line_fields line))) (read
 pub reads_what_may_be : (line : List ℕ) (r : Result Request LineFault) → MayRead (reading line) r → Reads line r
 reads_what_may_be line r (inl same) = subst (Reads line) (sym same) (reads_reading line)
 reads_what_may_be line r (inr refused) =
-    subst (Reads line) (sym refused.0) (refused.1.0, subst (Reads line) refused.1.1 (reads_reading line))
+    subst (Reads line) (sym refused.0) (refused.1.0, subst (Reads line) refused.1.1 (reads_reading line), refused.1.2)
 
 reading-spelled : (line : List ℕ) (read : Option Request) → Spells line read → reading line ≡ ok_or read Range
 reading-spelled line read h =
@@ -137,6 +135,6 @@ reading-by_grammar line (Err NoMemory) h n = absurd (n refl)
 pub one_result : (line : List ℕ) (r s : Result Request LineFault) → Reads line r → Reads line s → r ≢ Err NoMemory → s ≢ Err NoMemory → r ≡ s
 one_result line r s h k m n = sym (reading-by_grammar line r h m) ∙ reading-by_grammar line s k n
 
--- memory is refused of loads alone
-pub refused_load : (line : List ℕ) → Reads line (Err NoMemory) → MayRead (reading line) (Err NoMemory)
-refused_load line h = inr (refl, (h.0, reading-spelled line (Some (Do (Load h.0))) h.1))
+-- memory is refused of what brings records alone
+pub refused_records : (line : List ℕ) → Reads line (Err NoMemory) → MayRead (reading line) (Err NoMemory)
+refused_records line h = inr (refl, (h.0, reading-spelled line (Some h.0) h.1, h.2))

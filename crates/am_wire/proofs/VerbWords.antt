@@ -4,7 +4,7 @@ use Rattle.std.specs.Prelude.{bytes_eq, find}
 use Rattle.std.proofs.lemmas.Slice.Eq.{bytes_eq-Decides}
 use Rattle.am_wire.specs.Verbs.{word_of, verb_for, verbs}
 use Rattle.am_wire.specs.declared.verb.Verb.{Verb}
-use Rattle.am_wire.specs.declared.verb.Verb.TheVariants.{Begin, Get, Scan, Insert, Replace, Delete, Load, Lock, Mark, Back, Commit, Abort, Merge, Clean, Seen, Quit}
+use Rattle.am_wire.specs.declared.verb.Verb.TheVariants.{Begin, Get, Scan, Insert, Replace, Delete, Load, Stage, Lock, Mark, Back, Commit, Abort, Merge, Clean, Seen, Quit}
 use Rattle.am_wire.specs.Spaces.{has_no_space}
 
 pub verb_for-word_of : (verb : Verb) → verb_for (word_of verb) ≡ Some verb
@@ -16,6 +16,7 @@ verb_for-word_of Insert = refl
 verb_for-word_of Replace = refl
 verb_for-word_of Delete = refl
 verb_for-word_of Load = refl
+verb_for-word_of Stage = refl
 verb_for-word_of Lock = refl
 verb_for-word_of Mark = refl
 verb_for-word_of Back = refl
@@ -34,6 +35,7 @@ word_of-no_space Insert = refl
 word_of-no_space Replace = refl
 word_of-no_space Delete = refl
 word_of-no_space Load = refl
+word_of-no_space Stage = refl
 word_of-no_space Lock = refl
 word_of-no_space Mark = refl
 word_of-no_space Back = refl

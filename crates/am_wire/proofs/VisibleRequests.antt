@@ -57,6 +57,7 @@ visible_with verb.Insert a r h e = told (request_with verb.Insert) (values_for o
 visible_with verb.Replace a r h e = told (request_with verb.Replace) (values_for one_record a) r (λ x f. record_visible a x h f) e
 visible_with verb.Delete a r h e = told (request_with verb.Delete) (values_for one_key a) r (λ x f. tt) e
 visible_with verb.Load a r h e = told (request_with verb.Load) (values_for some_records a) r (λ x f. records_visible a x h.1 f) e
+visible_with verb.Stage a r h e = told (request_with verb.Stage) (values_for some_records a) r (λ x f. records_visible a x h.1 f) e
 visible_with verb.Lock a r h e = told (request_with verb.Lock) (values_for mode_and_range a) r (λ x f. tt) e
 visible_with verb.Mark a r h e = told (request_with verb.Mark) (values_for bare a) r (λ x f. tt) e
 visible_with verb.Back a r h e = told (request_with verb.Back) (values_for bare a) r (λ x f. tt) e

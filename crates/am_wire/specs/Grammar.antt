@@ -1,14 +1,13 @@
 -- The lines of a session: what each form of line spells, and what it asks for.
-use Rattle.std.specs.Prelude.{◌≡◌, ◌≢◌, ℕ, List, ◌∷◌, Option, Some, None, Result, Ok, Err, option_map}
+use Rattle.std.specs.Prelude.{◌≡◌, ◌≢◌, ℕ, List, ◌∷◌, Bool, true, false, Option, Some, None, Result, Ok, Err, option_map}
 use Rattle.std.specs.List.{join_with_byte}
-use Rattle.am_record.specs.Records.{Records}
 use Rattle.am_record.specs.declared.step.Op.TheVariants as op
 use Rattle.am_wire.specs.Verbs.{word_of, shape_of}
 use Rattle.am_wire.specs.Arguments.{Arguments, Values, fields_of, AreProper, values_for}
 use Rattle.am_wire.specs.declared.verb.Verb.{Verb}
 use Rattle.am_wire.specs.declared.verb.Verb.TheVariants as verb
 use Rattle.am_wire.specs.declared.request.Request.{Request}
-use Rattle.am_wire.specs.declared.request.Request.TheVariants.{Begin, Do, Commit, Abort, Merge, Clean, Seen, Quit}
+use Rattle.am_wire.specs.declared.request.Request.TheVariants.{Begin, Do, Stage, Commit, Abort, Merge, Clean, Seen, Quit}
 use Rattle.am_wire.specs.declared.request.LineFault.{LineFault}
 use Rattle.am_wire.specs.declared.request.LineFault.TheVariants.{Syntax, Range, NoMemory}
 
@@ -34,6 +33,7 @@ request_with verb.Insert r = Do (op.Insert r.0 r.1)
 request_with verb.Replace r = Do (op.Replace r.0 r.1)
 request_with verb.Delete key = Do (op.Delete key)
 request_with verb.Load rs = Do (op.Load rs)
+request_with verb.Stage rs = Stage rs
 request_with verb.Lock lock = Do (op.Lock lock)
 request_with verb.Mark a = Do op.Mark
 request_with verb.Back a = Do op.Back
@@ -52,10 +52,16 @@ request_of form = option_map (request_with form.verb) (values_for (shape_of form
 abbrev pub Spells : List ℕ → Option Request → Type 0
 Spells line read = (form : Form) × IsProper form × (line ≡ spelling form) × (request_of form ≡ read)
 
+-- whether records come with it
+abbrev pub brings_records : Request → Bool
+brings_records (Do (op.Load records)) = true
+brings_records (Stage records) = true
+brings_records _ = false
+
 -- What a line is read as: the request of the form that it spells, Range where that form has none, Syntax where it spells
--- none. Memory may be refused where it asks for a load.
+-- none. Memory may be refused where it brings records.
 abbrev pub Reads : List ℕ → Result Request LineFault → Type 0
 Reads line (Ok request) = Spells line (Some request)
 Reads line (Err Syntax) = (form : Form) → IsProper form → line ≢ spelling form
 Reads line (Err Range) = Spells line None
-Reads line (Err NoMemory) = (records : Records) × Spells line (Some (Do (op.Load records)))
+Reads line (Err NoMemory) = (request : Request) × Spells line (Some request) × (brings_records request ≡ true)

@@ -1,8 +1,6 @@
 -- What a line is read as, by its fields.
-use Rattle.std.specs.Prelude.{◌≡◌, ◌⊎◌, ℕ, ◌&&◌, ◌==◌, if◌then◌else◌, List, [], ◌∷◌, codes, map, Bool, Option, Some, None, Result, Ok, Err, IsOk, bytes_eq, option_map, ok_or}
+use Rattle.std.specs.Prelude.{◌≡◌, ◌⊎◌, ℕ, ◌&&◌, ◌==◌, if◌then◌else◌, List, [], ◌∷◌, codes, map, Bool, true, Option, Some, None, Result, Ok, Err, IsOk, bytes_eq, option_map, ok_or}
 use Rattle.std.specs.List.{slice_split, list_all, before_first, after_first}
-use Rattle.am_record.specs.Records.{Records}
-use Rattle.am_record.specs.declared.step.Op.TheVariants.{Load}
 use Rattle.am_record.specs.declared.lock.Mode.{Mode}
 use Rattle.am_record.specs.declared.lock.Mode.TheVariants.{Shared, Exclusive}
 use Rattle.am_wire.specs.Numbers.{is_numeral, numeral_value}
@@ -10,10 +8,9 @@ use Rattle.am_wire.specs.Keys.{is_key_text}
 use Rattle.am_wire.specs.Values.{is_value_text}
 use Rattle.am_wire.specs.Verbs.{verb_for, shape_of, Shape, bare, one_key, one_record, one_number, range_and_number, mode_and_range, some_records}
 use Rattle.am_wire.specs.Arguments.{RecordText, Arguments, Values, values_for}
-use Rattle.am_wire.specs.Grammar.{request_with}
+use Rattle.am_wire.specs.Grammar.{request_with, brings_records}
 use Rattle.am_wire.specs.declared.verb.Verb.{Verb}
 use Rattle.am_wire.specs.declared.request.Request.{Request}
-use Rattle.am_wire.specs.declared.request.Request.TheVariants.{Do}
 use Rattle.am_wire.specs.declared.request.LineFault.{LineFault}
 use Rattle.am_wire.specs.declared.request.LineFault.TheVariants.{Syntax, Range, NoMemory}
 
@@ -93,6 +90,6 @@ fields_reading (word ∷ fs) = verb_reading (verb_for word) fs
 abbrev pub reading : List ℕ → Result Request LineFault
 reading line = fields_reading (line_fields line)
 
--- this is what is due, or memory was refused for the records of a load
+-- this is what is due, or memory was refused for the records that the line brings
 abbrev pub MayRead : Result Request LineFault → Result Request LineFault → Type 0
-MayRead due result = (result ≡ due) ⊎ ((result ≡ Err NoMemory) × ((records : Records) × (due ≡ Ok (Do (Load records)))))
+MayRead due result = (result ≡ due) ⊎ ((result ≡ Err NoMemory) × ((request : Request) × (due ≡ Ok request) × (brings_records request ≡ true)))

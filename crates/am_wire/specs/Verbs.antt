@@ -1,7 +1,7 @@
 -- The verbs of lines: the word that begins a line, and what stands after it.
 use Rattle.std.specs.Prelude.{ℕ, List, [], ◌∷◌, codes, Option, bytes_eq, find}
 use Rattle.am_wire.specs.declared.verb.Verb.{Verb}
-use Rattle.am_wire.specs.declared.verb.Verb.TheVariants.{Begin, Get, Scan, Insert, Replace, Delete, Load, Lock, Mark, Back, Commit, Abort, Merge, Clean, Seen, Quit}
+use Rattle.am_wire.specs.declared.verb.Verb.TheVariants.{Begin, Get, Scan, Insert, Replace, Delete, Load, Stage, Lock, Mark, Back, Commit, Abort, Merge, Clean, Seen, Quit}
 
 abbrev pub word_of : Verb → List ℕ
 word_of Begin = codes "BEGIN"
@@ -11,6 +11,7 @@ word_of Insert = codes "INS"
 word_of Replace = codes "REP"
 word_of Delete = codes "DEL"
 word_of Load = codes "LOAD"
+word_of Stage = codes "STAGE"
 word_of Lock = codes "LOCK"
 word_of Mark = codes "MARK"
 word_of Back = codes "BACK"
@@ -40,6 +41,7 @@ shape_of Insert = one_record
 shape_of Replace = one_record
 shape_of Delete = one_key
 shape_of Load = some_records
+shape_of Stage = some_records
 shape_of Lock = mode_and_range
 shape_of Mark = bare
 shape_of Back = bare
@@ -51,7 +53,7 @@ shape_of Seen = bare
 shape_of Quit = bare
 
 abbrev pub verbs : List Verb
-verbs = Begin ∷ Get ∷ Scan ∷ Insert ∷ Replace ∷ Delete ∷ Load ∷ Lock ∷ Mark ∷ Back ∷ Commit ∷ Abort ∷ Merge ∷ Clean ∷ Seen ∷ Quit ∷ []
+verbs = Begin ∷ Get ∷ Scan ∷ Insert ∷ Replace ∷ Delete ∷ Load ∷ Stage ∷ Lock ∷ Mark ∷ Back ∷ Commit ∷ Abort ∷ Merge ∷ Clean ∷ Seen ∷ Quit ∷ []
 
 -- the verb of a word
 unfoldable pub verb_for : List ℕ → Option Verb

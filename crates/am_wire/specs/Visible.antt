@@ -4,7 +4,7 @@ use Rattle.am_record.specs.declared.step.Op.{Op}
 use Rattle.am_record.specs.declared.step.Op.TheVariants.{Insert, Replace, Load}
 use Rattle.am_wire.specs.Replies.{IsVisibleRow}
 use Rattle.am_wire.specs.declared.request.Request.{Request}
-use Rattle.am_wire.specs.declared.request.Request.TheVariants.{Do}
+use Rattle.am_wire.specs.declared.request.Request.TheVariants.{Do, Stage}
 
 -- the records that the operation writes
 abbrev pub WritesVisible : Op → Type 0
@@ -15,4 +15,5 @@ WritesVisible op = Unit {0}
 
 abbrev pub AsksVisible : Request → Type 0
 AsksVisible (Do op) = WritesVisible op
+AsksVisible (Stage records) = AllByRecursion IsVisibleRow records
 AsksVisible request = Unit {0}

@@ -15,8 +15,8 @@ ghost use Rattle.am_wire.specs.Visible.{AsksVisible};
 use crate::request::{LineFault, Request};
 use crate::verb::Verb;
 
-/// Each line has one reading, the one by its fields, and no line is that of two forms. Memory may be refused of a load
-/// alone. The records that a line writes are visible, and the text of a number is what is printed of it.
+/// Each line has one reading, the one by its fields, and no line is that of two forms. Memory may be refused of what
+/// brings records alone. The records that a line brings or writes are visible, and the text of a number is what is printed of it.
 pub fn one_reading()
     ensures one_form { (a b : Form) →
         IsProper a → IsProper b → spelling a ≡ spelling b → a ≡ b }

@@ -1,4 +1,4 @@
-//! The records of a load.
+//! The records of a load, and of those that wait for one.
 
 ghost use Rattle.std.specs.Prelude.{◌≡◌, IsOk};
 ghost use Rattle.am_wire.specs.Verbs.{some_records};

@@ -15,8 +15,8 @@ use crate::verb::Verb;
 use am_record::Op;
 use std::alloc::Global;
 
-/// Reads the bytes of a line, which its LF or CR LF isn't part of. Only the records of a load take memory, once the whole
-/// line is judged.
+/// Reads the bytes of a line, which its LF or CR LF isn't part of. Only records that it brings take memory, once the
+/// whole line is judged.
 #[inline(never)]
 pub fn parse_line(alloc: Global, line: &[u8]) -> Result<Request, LineFault>
     ensures grammar { Reads line.now result }
@@ -56,6 +56,7 @@ fn parse_with(alloc: Global, verb: Verb, fields: Fields<'_>) -> Result<Request, 
         }
         Verb::Delete => Ok(Request::Do(Op::Delete(parse_one_key(fields)?))),
         Verb::Load => Ok(Request::Do(Op::Load(parse_records(alloc, fields)?))),
+        Verb::Stage => Ok(Request::Stage(parse_records(alloc, fields)?)),
         Verb::Lock => Ok(Request::Do(Op::Lock(parse_mode_and_range(fields)?))),
         Verb::Mark => parse_bare(fields, Request::Do(Op::Mark)),
         Verb::Back => parse_bare(fields, Request::Do(Op::Back)),

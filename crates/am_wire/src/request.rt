@@ -1,6 +1,6 @@
 //! What a line asks for.
 
-use am_record::{Op, Range};
+use am_record::{Op, Pairs, Range};
 use thiserror::Error;
 
 /// What a line asks of its session.
@@ -9,6 +9,8 @@ pub enum Request {
     Begin,
     /// An operation of the active transaction.
     Do(Op),
+    /// Records that wait in the session for its next load.
+    Stage(Pairs),
     Commit,
     Abort,
     /// Merge, at most so many entries.
@@ -31,7 +33,7 @@ pub enum LineFault {
     /// of a range don't stand in order.
     #[error("a number, a key, a value or a range is out of bounds")]
     Range,
-    /// Memory was refused for the records of a load.
+    /// Memory was refused for the records of the line.
     #[error("no memory")]
     NoMemory,
 }

@@ -13,6 +13,7 @@ pub enum Verb {
     Replace,
     Delete,
     Load,
+    Stage,
     Lock,
     Mark,
     Back,
@@ -24,7 +25,7 @@ pub enum Verb {
     Quit,
 }
 
-const VERBS: [Verb; 16] = [
+const VERBS: [Verb; 17] = [
     Verb::Begin,
     Verb::Get,
     Verb::Scan,
@@ -32,6 +33,7 @@ const VERBS: [Verb; 16] = [
     Verb::Replace,
     Verb::Delete,
     Verb::Load,
+    Verb::Stage,
     Verb::Lock,
     Verb::Mark,
     Verb::Back,
@@ -56,6 +58,7 @@ impl Verb {
             Verb::Replace => b"REP",
             Verb::Delete => b"DEL",
             Verb::Load => b"LOAD",
+            Verb::Stage => b"STAGE",
             Verb::Lock => b"LOCK",
             Verb::Mark => b"MARK",
             Verb::Back => b"BACK",

@@ -1,14 +1,10 @@
-use Rattle.std.proofs.Common.{◌≡◌, ◌==◌, Bool, false, [], ◌∷◌, refl, sym, subst}
-use Rattle.std.specs.Prelude.{MatchBool}
+use Rattle.std.proofs.Common.{ap}
 use Rattle.std.proofs.lemmas.Bool.{ne_eqb}
-use Rattle.am_record.specs.declared.step.Step.TheVariants.{Merge}
-use Rattle.am_record.specs.declared.step.Reply.{Reply}
-use Rattle.am_serial.specs.Trace.{Trace}
+use Rattle.am_talk.specs.Session.{SessionState}
+use Rattle.am_session.proofs.Hearing.{merged_once}
 use Rattle.am_session.proofs.conversation.merge.Goals as goal
 
 pub returns-then-auto-ne0-clause-merged : goal.returns-then-auto-ne0-clause-merged
 returns-then-auto-ne0-clause-merged g c =
-    let events : Trace = (Merge c.args.auto, c.call-reply.result) ∷ [] in
-    let merges = λ (b : Bool). MatchBool b ((events ≡ []) × (c.call-reply.new.self ≡ c.args.backend.now)) ((merged : Reply) × g.B.Backend.goes c.args.backend.now (Merge c.args.auto) merged c.call-reply.new.self × (events ≡ (Merge c.args.auto, merged) ∷ [])) in
-    let some : (c.args.auto == 0) ≡ false = ne_eqb _ _ c.if-auto-ne0.true in
-    (events, subst merges (sym some) (c.call-reply.result, c.call-reply.ensures.goes, refl))
+    merged_once g.B.Backend.active g.B.Backend.goes g.B.Backend.tells c.args.auto (c.args.backend.now, c.args.session.now.staged) (c.call-reply.new.self, c.reply.new.self.staged) c.call-reply.result
+    (ne_eqb _ _ c.if-auto-ne0.true) c.call-reply.ensures.goes (ap (λ (s : SessionState). s.staged) c.reply.ensures)

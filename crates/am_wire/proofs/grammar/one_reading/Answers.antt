@@ -1,5 +1,5 @@
 use Rattle.am_wire.proofs.Numerals.{numeral-decimal}
-use Rattle.am_wire.proofs.Readings.{one_form, one_result, reads_reading, refused_load}
+use Rattle.am_wire.proofs.Readings.{one_form, one_result, reads_reading, refused_records}
 use Rattle.am_wire.proofs.VisibleRequests.{asks_visible}
 use Rattle.am_wire.proofs.grammar.one_reading.Goals as goal
 
@@ -13,7 +13,7 @@ pub returns-clause-by_fields : goal.returns-clause-by_fields
 returns-clause-by_fields c = reads_reading
 
 pub returns-clause-memory : goal.returns-clause-memory
-returns-clause-memory c = refused_load
+returns-clause-memory c = refused_records
 
 pub returns-clause-printed : goal.returns-clause-printed
 returns-clause-printed c = numeral-decimal

@@ -1,8 +1,8 @@
-use Rattle.std.proofs.Common.{◌≡◌, ℕ, List, Some, Result, Ok, Err, inl, inr, refl, sym, ap, subst, ◌∙◌, rules}
+use Rattle.std.proofs.Common.{◌≡◌, ℕ, List, true, Some, Result, Ok, Err, inl, inr, refl, sym, ap, subst, ◌∙◌, rules}
 use Rattle.std.specs.Prelude.{IsOk}
 use Rattle.am_record.specs.Records.{Records}
 use Rattle.am_wire.specs.Verbs.{some_records}
-use Rattle.am_wire.specs.Grammar.{request_with}
+use Rattle.am_wire.specs.Grammar.{request_with, brings_records}
 use Rattle.am_wire.specs.Reading.{values_in, map_ok, verb_reading, MayBeRefused, MayRead}
 use Rattle.am_wire.specs.declared.verb.Verb.{Verb}
 use Rattle.am_wire.specs.declared.verb.Verb.TheVariants as verb
@@ -16,13 +16,15 @@ at v w fs r e h = subst (λ (x : Verb). MayRead (verb_reading (Some x) fs) r) (s
 due : (v w : Verb) (fs : List (List ℕ)) (r : Result Request LineFault) → w ≡ v → r ≡ verb_reading (Some v) fs → MayRead (verb_reading (Some w) fs) r
 due v w fs r e f = at v w fs r e (inl f)
 
-refused : (values : Result Records LineFault) → IsOk values → (records : Records) × (map_ok (request_with verb.Load) values ≡ Ok (request_with verb.Load records))
-refused (Ok records) h = (records, refl)
-refused (Err e) h = cc
+-- a request made of the records that the line brings
+module _ (request : Records → Request) (brings : (records : Records) → brings_records (request records) ≡ true) where
+  refused : (values : Result Records LineFault) → IsOk values → (asked : Request) × (map_ok request values ≡ Ok asked) × (brings_records asked ≡ true)
+  refused (Ok records) h = (request records, refl, brings records)
+  refused (Err e) h = cc
 
-loaded : (values read : Result Records LineFault) (r : Result Request LineFault) → MayBeRefused values read → r ≡ map_ok (request_with verb.Load) read → MayRead (map_ok (request_with verb.Load) values) r
-loaded values read r (inl same) e = inl (e ∙ ap (map_ok (request_with verb.Load)) same)
-loaded values read r (inr none) e = inr (e ∙ ap (map_ok (request_with verb.Load)) none.0, refused values none.1)
+  brought : (values read : Result Records LineFault) (r : Result Request LineFault) → MayBeRefused values read → r ≡ map_ok request read → MayRead (map_ok request values) r
+  brought values read r (inl same) e = inl (e ∙ ap (map_ok request) same)
+  brought values read r (inr none) e = inr (e ∙ ap (map_ok request) none.0, refused values none.1)
 
 pub returns-in-Begin : goal.returns-in-Begin
 returns-in-Begin c = due verb.Begin c.args.verb c.args.fields _ c.in-Begin.is c.parse_bare.ensures
@@ -58,10 +60,16 @@ pub returns-in_ok-parse_one_key-in-Delete : goal.returns-in_ok-parse_one_key-in-
 returns-in_ok-parse_one_key-in-Delete c = due verb.Delete c.args.verb c.args.fields _ c.in-Delete.is (search rules)
 
 pub returns-in_err-parse_records-in-Load : goal.returns-in_err-parse_records-in-Load
-returns-in_err-parse_records-in-Load c = at verb.Load c.args.verb c.args.fields _ c.in-Load.is (loaded (values_in some_records c.args.fields) c.parse_records.result _ c.parse_records.ensures (search rules))
+returns-in_err-parse_records-in-Load c = at verb.Load c.args.verb c.args.fields _ c.in-Load.is (brought (request_with verb.Load) (λ records. refl) (values_in some_records c.args.fields) c.parse_records.result _ c.parse_records.ensures (search rules))
 
 pub returns-in_ok-parse_records-in-Load : goal.returns-in_ok-parse_records-in-Load
-returns-in_ok-parse_records-in-Load c = at verb.Load c.args.verb c.args.fields _ c.in-Load.is (loaded (values_in some_records c.args.fields) c.parse_records.result _ c.parse_records.ensures (search rules))
+returns-in_ok-parse_records-in-Load c = at verb.Load c.args.verb c.args.fields _ c.in-Load.is (brought (request_with verb.Load) (λ records. refl) (values_in some_records c.args.fields) c.parse_records.result _ c.parse_records.ensures (search rules))
+
+pub returns-in_err-parse_records-in-Stage : goal.returns-in_err-parse_records-in-Stage
+returns-in_err-parse_records-in-Stage c = at verb.Stage c.args.verb c.args.fields _ c.in-Stage.is (brought (request_with verb.Stage) (λ records. refl) (values_in some_records c.args.fields) c.parse_records-in-Stage.result _ c.parse_records-in-Stage.ensures (search rules))
+
+pub returns-in_ok-parse_records-in-Stage : goal.returns-in_ok-parse_records-in-Stage
+returns-in_ok-parse_records-in-Stage c = at verb.Stage c.args.verb c.args.fields _ c.in-Stage.is (brought (request_with verb.Stage) (λ records. refl) (values_in some_records c.args.fields) c.parse_records-in-Stage.result _ c.parse_records-in-Stage.ensures (search rules))
 
 pub returns-in_err-parse_mode_and_range-in-Lock : goal.returns-in_err-parse_mode_and_range-in-Lock
 returns-in_err-parse_mode_and_range-in-Lock c = due verb.Lock c.args.verb c.args.fields _ c.in-Lock.is (search rules)

@@ -1,6 +1,7 @@
 use Rattle.std.proofs.Common.{◌≡◌, ℕ, Option, sym, ap, subst}
 use Rattle.am_steps.specs.Parts.{Parts}
-use Rattle.am_talk.specs.Dues.{IsAllowed, active_after}
+use Rattle.am_talk.specs.Session.{active_after}
+use Rattle.am_talk.specs.Dues.{IsAllowed}
 use Rattle.am_session.specs.Solo.{Solo, IsOpen}
 use Rattle.am_session.proofs.Solos.{stays_open}
 use Rattle.am_session.proofs.solo.SoloStoreBackend.call.Goals as goal
