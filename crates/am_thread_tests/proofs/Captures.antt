@@ -1,0 +1,11 @@
+-- What a closure captured may go to another thread, where each of three captures may.
+use Rattle.std.proofs.Common.{ℕ, List, [], ◌∷◌}
+use denote.Param.Send.{IsSend, struct_send, recorded_send}
+use denote.RattleType.{RattleType}
+use denote.Struct.Declared.{shape}
+use denote.Struct.Tuple.{TupleAt, type_at, field_at}
+
+pub captures_send : (name : List ℕ) (A B C : RattleType) → IsSend A → IsSend B → IsSend C → IsSend (TupleAt name (A ∷ B ∷ C ∷ []))
+captures_send name A B C a b c =
+    let captures : List RattleType = A ∷ B ∷ C ∷ [] in
+    recorded_send (field_at name captures).row _ _ (type_at name captures).to_one (struct_send (shape (type_at name captures)) (a, (b, (c, tt))))
