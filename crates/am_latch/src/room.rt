@@ -34,16 +34,21 @@ impl Room {
         Ok(Room { items })
     }
 
-    /// A copy of these pairs. What room they leave is given back, as it would be kept as long as they are.
-    fn fill(self, pairs: &Pairs) -> Pairs
+    /// A copy of these pairs, which is kept as long as the trace is: so where it leaves room, and memory is found, it has
+    /// memory of its own, and the room is given back whole.
+    fn fill(self, alloc: Global, pairs: &Pairs) -> Pairs
         requires { length pairs.now ≤ self }
         ensures { result ≡ pairs.now }
     {
+        if pairs.as_slice().len() < self.items.capacity()
+            && let Ok(copy) = pairs.copy(alloc)
+        {
+            return copy;
+        }
         let mut items = self.items;
         let Ok(()) = items.extend_from_slice(pairs.as_slice()) else {
             unreachable!();
         };
-        items.shrink_to_fit();
         Pairs::new(items)
     }
 }
@@ -73,8 +78,8 @@ pub(crate) fn copy_step(alloc: Global, step: &Step) -> Result<Step, NoMemory>
     }
 }
 
-/// The same reply, its rows in that room. Takes no memory.
-pub(crate) fn copy_reply(reply: &Reply, room: Room) -> Reply
+/// The same reply, its rows in that room, or in less where memory is found for them: it is never refused.
+pub(crate) fn copy_reply(alloc: Global, reply: &Reply, room: Room) -> Reply
     requires { rows_in reply.now ≤ room }
     ensures { result ≡ reply.now }
 {
@@ -83,7 +88,7 @@ pub(crate) fn copy_reply(reply: &Reply, room: Room) -> Reply
         Reply::Done => Reply::Done,
         Reply::Found(value) => Reply::Found(*value),
         Reply::Absent => Reply::Absent,
-        Reply::Rows(rows) => Reply::Rows(room.fill(rows)),
+        Reply::Rows(rows) => Reply::Rows(room.fill(alloc, rows)),
         Reply::Exists(key) => Reply::Exists(*key),
         Reply::Missing => Reply::Missing,
         Reply::Committed(commit) => Reply::Committed(*commit),

@@ -161,7 +161,7 @@ impl<L: Naming> Seat<L> {
             seat: maker.seat,
             call: maker.call,
             step: kept,
-            reply: copy_reply(&reply, rows),
+            reply: copy_reply(self.alloc, &reply, rows),
             place,
         });
         reply

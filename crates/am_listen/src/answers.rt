@@ -1,6 +1,6 @@
 //! A sink that tells how many answers were sent on.
 
-ghost use Rattle.std.specs.Prelude.{◌≡◌, ◌==◌, ◌||◌, ◌+◌, ◌^◌, ◌<◌, ◌≤◌, [], length, take, min, count_by, nat_lt, OnOk, OnErr, IfOk};
+ghost use Rattle.std.specs.Prelude.{◌≡◌, ◌==◌, ◌||◌, ◌+◌, ◌^◌, ◌<◌, ◌≤◌, false, [], length, take, min, count_by, nat_lt, OnOk, OnErr, IfOk};
 ghost use Rattle.am_wire.specs.Giving.{Gave};
 
 use crate::turnstile::Turnstile;
@@ -62,7 +62,18 @@ impl<'a, K: Sink + Drop> Sink for Answers<'a, K> {
         Ok(len)
     }
 
-    fn flush(&mut self) -> Result<(), Failed> {
+    fn flush(&mut self) -> Result<(), Failed>
+        requires countable { K.failures self.old.sink < 2 ^ 63 }
+        ensures kept { Gave K.holds self.old.sink [] self.new.sink }
+        ensures sent { OnOk result (K.pending self.new.sink ≡ false) }
+        ensures ok { OnOk result (K.failures self.new.sink ≡ K.failures self.old.sink) }
+        ensures failed { OnErr result (K.failures self.new.sink ≡ K.failures self.old.sink + 1) }
+        ensures same { OnErr result (K.pending self.new.sink ≡ K.pending self.old.sink) }
+
+        // Answers that were sent on are counted once.
+        ensures counted { OnOk result (self.new.unsent ≡ 0) }
+        ensures uncounted { OnErr result (self.new.unsent ≡ self.old.unsent) }
+    {
         self.sink.flush()?;
         self.turnstile.count_answers(self.unsent);
         self.unsent = 0;
