@@ -4,6 +4,7 @@ use am_list::{ListIndex, PartIndex};
 use am_parts::Parts;
 use am_record::{Entry, Key, NoMemory, Value};
 use std::alloc::Global;
+use std::process::Abort;
 
 pub(crate) fn byte(byte: u8) -> Value {
     Value::new(&[byte]).unwrap()
@@ -39,10 +40,10 @@ pub(crate) fn add<I: PartIndex + Drop>(parts: &mut Parts<I>, entry: Entry) -> Re
 }
 
 /// Partitions with the entries.
-pub(crate) fn over(alloc: Global, entries: &[Entry]) -> Result<Parts<ListIndex>, NoMemory> {
+pub(crate) fn over(rt: &impl Abort, alloc: Global, entries: &[Entry]) -> Parts<ListIndex> {
     let mut parts = Parts::new(alloc, ListIndex::new(alloc));
     for entry in entries {
-        add(&mut parts, *entry)?;
+        add(&mut parts, *entry).expect(rt, "memory");
     }
-    Ok(parts)
+    parts
 }

@@ -3,6 +3,8 @@
 use crate::entries::{byte, dead, live};
 use am_list::{Batch, ListIndex, PartIndex};
 use am_record::{Entry, Key, NoMemory};
+use std::alloc::Global;
+use std::process::Abort;
 
 // Adds the entry, unless its place is taken.
 fn add<I: PartIndex>(index: &mut I, entry: Entry) -> Result<(), NoMemory> {
@@ -20,39 +22,61 @@ fn take<I: PartIndex>(index: &mut I, part: u32, key: Key) -> Option<Entry> {
     Some(index.remove(part, key))
 }
 
-#[test]
-fn walks_over_two_partitions_and_their_ghosts(rt: HostRuntime) {
-    let mut index = ListIndex::new(rt.alloc());
-    for e in [
-        live(1, 5, b'd'),
-        live(0, 2, b'a'),
-        dead(0, 5, b'g'),
-        live(1, 1, b'c'),
-    ] {
-        add(&mut index, e).expect(&rt, "memory");
+// An index with the entries. (A test whose parts borrow what it holds is proved sooner than a long one.)
+fn of(rt: &impl Abort, alloc: Global, entries: &[Entry]) -> ListIndex {
+    let mut index = ListIndex::new(alloc);
+    for entry in entries {
+        add(&mut index, *entry).expect(rt, "memory");
     }
+    index
+}
 
+fn finds_entries(rt: &impl Abort, index: &ListIndex) {
     assert!(rt; index.find(0, Key::of_u64(5)) == Some((byte(b'g'), true)));
     assert!(rt; index.find(1, Key::of_u64(5)) == Some((byte(b'd'), false)));
     assert!(rt; index.find(0, Key::of_u64(1)).is_none());
+}
 
+fn walks_from_a_key(rt: &impl Abort, index: &ListIndex) {
     assert!(rt; index.next_from(0, Key::least()) == Some(live(0, 2, b'a')));
     assert!(rt; index.next_from(0, Key::of_u64(3)) == Some(dead(0, 5, b'g')));
     assert!(rt; index.next_from(0, Key::of_u64(5)) == Some(dead(0, 5, b'g')));
     assert!(rt; index.next_from(0, Key::of_u64(6)).is_none());
     assert!(rt; index.next_from(2, Key::least()).is_none());
+}
 
+fn walks_behind_a_key(rt: &impl Abort, index: &ListIndex) {
     assert!(rt; index.after(0, Key::of_u64(2)) == Some(dead(0, 5, b'g')));
     assert!(rt; index.after(0, Key::of_u64(5)).is_none());
     assert!(rt; index.after(1, Key::of_u64(1)) == Some(live(1, 5, b'd')));
+}
 
+fn walks_into_the_next_partition(rt: &impl Abort, index: &ListIndex) {
     assert!(rt; index.next_any(0, Key::of_u64(3)) == Some(dead(0, 5, b'g')));
     assert!(rt; index.next_any(0, Key::of_u64(6)) == Some(live(1, 1, b'c')));
     assert!(rt; index.next_any(1, Key::of_u64(6)).is_none());
+}
 
+fn walks_over_ghosts(rt: &impl Abort, index: &ListIndex) {
     assert!(rt; index.next_ghost(0, Key::least()) == Some(dead(0, 5, b'g')));
     assert!(rt; index.next_ghost(0, Key::of_u64(5)) == Some(dead(0, 5, b'g')));
     assert!(rt; index.next_ghost(0, Key::of_u64(6)).is_none());
+}
+
+#[test]
+fn walks_over_two_partitions_and_their_ghosts(rt: HostRuntime) {
+    let entries = [
+        live(1, 5, b'd'),
+        live(0, 2, b'a'),
+        dead(0, 5, b'g'),
+        live(1, 1, b'c'),
+    ];
+    let index = of(&rt, rt.alloc(), &entries);
+    finds_entries(&rt, &index);
+    walks_from_a_key(&rt, &index);
+    walks_behind_a_key(&rt, &index);
+    walks_into_the_next_partition(&rt, &index);
+    walks_over_ghosts(&rt, &index);
 }
 
 // The entry of partition 1 with the number, each third one a ghost.
@@ -74,75 +98,86 @@ fn has_read(batch: &Batch, numbers: &[u64]) -> bool {
             .all(|(e, number)| *e == numbered(*number))
 }
 
+// The numbers below 20 in one partition, between entries of two others.
+fn of_three_partitions(rt: &impl Abort, alloc: Global) -> ListIndex {
+    let mut index = of(rt, alloc, &[live(0, 5, b'a'), live(2, 5, b'z')]);
+    for number in 1..20_u64 {
+        add(&mut index, numbered(number)).expect(rt, "memory");
+    }
+    index
+}
+
+// Reads on, and then the batch has the entries with these numbers.
+fn reads(
+    rt: &impl Abort,
+    index: &ListIndex,
+    batch: &mut Batch,
+    part: u32,
+    from: Key,
+    numbers: &[u64],
+) {
+    index.read_on(part, from, batch);
+    assert!(rt; has_read(batch, numbers));
+    assert!(rt; batch.is_full() == (numbers.len() == 16));
+}
+
 #[test]
 fn reads_on_as_far_as_there_is_room(rt: HostRuntime) {
-    let mut index = ListIndex::new(rt.alloc());
-    add(&mut index, live(0, 5, b'a')).expect(&rt, "memory");
-    add(&mut index, live(2, 5, b'z')).expect(&rt, "memory");
-    for number in 1..20_u64 {
-        add(&mut index, numbered(number)).expect(&rt, "memory");
-    }
-
+    let index = of_three_partitions(&rt, rt.alloc());
     let mut batch = Batch::new();
-    index.read_on(3, Key::least(), &mut batch);
-    assert!(rt; batch.entries().is_empty());
-    index.read_on(1, Key::of_u64(17), &mut batch);
-    assert!(rt; has_read(&batch, &[18, 19]));
-    assert!(rt; !batch.is_full());
-    index.read_on(1, Key::of_u64(2), &mut batch);
+    reads(&rt, &index, &mut batch, 3, Key::least(), &[]);
+    reads(&rt, &index, &mut batch, 1, Key::of_u64(17), &[18, 19]);
     let read = [18, 19, 3, 4, 5, 6, 7, 8, 9, 10, 11, 12, 13, 14, 15, 16];
-    assert!(rt; has_read(&batch, &read));
-    assert!(rt; batch.is_full());
-    index.read_on(1, Key::least(), &mut batch);
-    assert!(rt; has_read(&batch, &read));
+    reads(&rt, &index, &mut batch, 1, Key::of_u64(2), &read);
+    reads(&rt, &index, &mut batch, 1, Key::least(), &read);
 
     batch.clear();
-    index.read_on(1, Key::least(), &mut batch);
     let first = [1, 2, 3, 4, 5, 6, 7, 8, 9, 10, 11, 12, 13, 14, 15, 16];
-    assert!(rt; has_read(&batch, &first));
+    reads(&rt, &index, &mut batch, 1, Key::least(), &first);
+}
+
+fn has(rt: &impl Abort, index: &ListIndex, entries: &[Entry]) {
+    assert!(rt; index.entries() == entries);
 }
 
 #[test]
 fn edits_the_entry_of_a_place(rt: HostRuntime) {
-    let mut index = ListIndex::new(rt.alloc());
-    assert!(rt; index.entries().is_empty());
-    for e in [live(1, 5, b'b'), live(0, 5, b'a'), live(1, 7, b'c')] {
-        add(&mut index, e).expect(&rt, "memory");
-    }
-    assert_eq!(rt;
-        index.entries(),
-        [live(0, 5, b'a'), live(1, 5, b'b'), live(1, 7, b'c')].as_slice()
-    );
+    has(&rt, &ListIndex::new(rt.alloc()), &[]);
+    let entries = [live(1, 5, b'b'), live(0, 5, b'a'), live(1, 7, b'c')];
+    let mut index = of(&rt, rt.alloc(), &entries);
+    let in_order = [live(0, 5, b'a'), live(1, 5, b'b'), live(1, 7, b'c')];
+    has(&rt, &index, &in_order);
 
     let key = Key::of_u64(5);
     if index.find(1, key).is_some() {
         index.set(1, key, byte(b'x'), true);
     }
-    assert_eq!(rt;
-        index.entries(),
-        [live(0, 5, b'a'), dead(1, 5, b'x'), live(1, 7, b'c')].as_slice()
-    );
+    let changed = [live(0, 5, b'a'), dead(1, 5, b'x'), live(1, 7, b'c')];
+    has(&rt, &index, &changed);
 
     assert!(rt; take(&mut index, 1, key) == Some(dead(1, 5, b'x')));
-    assert_eq!(rt;
-        index.entries(),
-        [live(0, 5, b'a'), live(1, 7, b'c')].as_slice()
-    );
+    has(&rt, &index, &[live(0, 5, b'a'), live(1, 7, b'c')]);
     assert!(rt; take(&mut index, 1, key).is_none());
+}
+
+// Adds the entry of the number, which is less than all others: where memory is refused, once more.
+fn add_below(rt: &impl Abort, index: &mut ListIndex, number: u64) {
+    let (key, count) = (Key::of_u64(number), index.entries().len());
+    if add(index, live(0, number, b'a')).is_err() {
+        assert!(rt; index.entries().len() == count);
+        assert!(rt; index.find(0, key).is_none());
+        assert!(rt; index.next_from(0, Key::least()) == index.after(0, key));
+        add(index, live(0, number, b'a')).expect(rt, "memory");
+    }
+    assert!(rt; index.next_from(0, Key::least()) == Some(live(0, number, b'a')));
 }
 
 #[test]
 fn refused_insert_changes_nothing(rt: HostRuntime) {
     let mut index = ListIndex::new(rt.alloc());
     for number in 0..9_u64 {
-        let key = Key::of_u64(20 - number);
-        if add(&mut index, live(0, 20 - number, b'a')).is_err() {
-            assert!(rt; index.entries().len() == number as usize);
-            assert!(rt; index.find(0, key).is_none());
-            assert!(rt; index.next_from(0, Key::least()) == index.after(0, key));
-            add(&mut index, live(0, 20 - number, b'a')).expect(&rt, "memory");
-        }
-        assert!(rt; index.next_from(0, Key::least()) == Some(live(0, 20 - number, b'a')));
+        assert!(rt; index.entries().len() == number as usize);
+        add_below(&rt, &mut index, 20 - number);
         assert!(rt; index.entries().len() == number as usize + 1);
     }
     assert!(rt; index.after(0, Key::of_u64(19)) == Some(live(0, 20, b'a')));

@@ -10,7 +10,6 @@ use am_record::{Entry, Key, NoMemory, Refusal, Reply, Value};
 use am_runs::{LoadFault, MAX_RUNS, Run, cut_runs, load};
 use std::alloc::Global;
 use std::process::Abort;
-use std::test::Fail;
 
 fn pair(number: u64, value: u8) -> (Key, Value) {
     (Key::of_u64(number), byte(value))
@@ -46,6 +45,34 @@ fn run_with(rt: &impl Abort, alloc: Global, pairs: &[(Key, Value)]) -> Run {
     Run::new(all).expect(rt, "they rise")
 }
 
+// The records are cut into so many runs.
+fn makes(rt: &impl Abort, alloc: Global, records: &[(Key, Value)], len: usize, runs: usize) {
+    let cut = cut_runs(alloc, records, len).expect(rt, "memory");
+    assert!(rt; cut.len() == runs);
+}
+
+fn is_refused(
+    rt: &impl Abort,
+    alloc: Global,
+    records: &[(Key, Value)],
+    len: usize,
+    fault: LoadFault,
+) {
+    assert!(rt; cut_runs(alloc, records, len).err() == Some(fault));
+}
+
+fn has_pairs(rt: &impl Abort, run: &Run, pairs: &[(Key, Value)]) {
+    assert!(rt; run.pairs() == pairs);
+}
+
+fn has_pieces_of_two(rt: &impl Abort, alloc: Global, records: &[(Key, Value)]) {
+    let runs = cut_runs(alloc, records, 2).expect(rt, "memory");
+    assert!(rt; runs.len() == 3);
+    has_pairs(rt, &runs[0], &[pair(3, b'b'), pair(5, b'a')]);
+    has_pairs(rt, &runs[1], &[pair(1, b'd'), pair(9, b'c')]);
+    has_pairs(rt, &runs[2], &[pair(7, b'e')]);
+}
+
 #[test]
 fn cut_runs_in_pieces(rt: HostRuntime) {
     let alloc = rt.alloc();
@@ -56,24 +83,16 @@ fn cut_runs_in_pieces(rt: HostRuntime) {
         pair(1, b'd'),
         pair(7, b'e'),
     ];
-    let runs = cut_runs(alloc, &records, 2).expect(&rt, "memory");
-    assert!(rt; runs.len() == 3);
-    assert_eq!(rt; runs[0].pairs(), [pair(3, b'b'), pair(5, b'a')].as_slice());
-    assert_eq!(rt; runs[1].pairs(), [pair(1, b'd'), pair(9, b'c')].as_slice());
-    assert_eq!(rt; runs[2].pairs(), [pair(7, b'e')].as_slice());
-    assert!(rt; cut_runs(alloc, &[], 2).expect(&rt, "memory").is_empty());
+    has_pieces_of_two(&rt, alloc, &records);
+    makes(&rt, alloc, &[], 2, 0);
+    makes(&rt, alloc, &records, 65_536, 1);
+    makes(&rt, alloc, &records, 1, 5);
 
     let twice = [pair(5, b'a'), pair(3, b'b'), pair(9, b'c'), pair(3, b'd')];
-    assert!(rt; cut_runs(alloc, &twice, 2).err() == Some(LoadFault::Twice(Key::of_u64(3))));
-    assert!(rt; cut_runs(alloc, &twice, 0).err() == Some(LoadFault::BadSize));
-    assert!(rt; cut_runs(alloc, &twice, 65_537).err() == Some(LoadFault::BadSize));
-    assert!(rt;
-        cut_runs(alloc, &records, 65_536)
-            .expect(&rt, "memory")
-            .len()
-            == 1
-    );
-    assert!(rt; cut_runs(alloc, &records, 1).expect(&rt, "memory").len() == 5);
+    let fault = LoadFault::Twice(Key::of_u64(3));
+    is_refused(&rt, alloc, &twice, 2, fault);
+    is_refused(&rt, alloc, &twice, 0, LoadFault::BadSize);
+    is_refused(&rt, alloc, &twice, 65_537, LoadFault::BadSize);
 }
 
 #[test]
@@ -84,35 +103,60 @@ fn a_run_rises_and_has_a_record(rt: HostRuntime) {
     assert!(rt; Run::new(Vec::new(alloc)).err() == Some(LoadFault::NotRising));
 }
 
+fn stands(rt: &impl Abort, parts: &Parts<ListIndex>, part: u32, number: u64, value: u8) {
+    assert!(rt; parts.find(part, Key::of_u64(number)) == Some((byte(value), false)));
+}
+
+// The run of the pairs is loaded, and answered so.
+fn loads(rt: &impl Abort, parts: &mut Parts<ListIndex>, run: &Run, reply: Reply)
+    requires { NothingAbove parts.old.runs parts.old.entries }
+    ensures { NothingAbove parts.new.runs parts.new.entries }
+{
+    assert!(rt; load(parts, run) == reply);
+}
+
 #[test]
 fn load_makes_one_run(rt: HostRuntime) {
     let alloc = rt.alloc();
     let mut parts = no_entries(alloc);
     let first = run_with(&rt, alloc, &[pair(3, b'a'), pair(5, b'b')]);
     let second = run_with(&rt, alloc, &[pair(4, b'c')]);
-    assert!(rt; load(&mut parts, &first) == Reply::Done);
-    assert!(rt; load(&mut parts, &second) == Reply::Done);
+    loads(&rt, &mut parts, &first, Reply::Done);
+    loads(&rt, &mut parts, &second, Reply::Done);
     assert!(rt; parts.runs() == 2);
-    assert!(rt; parts.find(1, Key::of_u64(3)) == Some((byte(b'a'), false)));
-    assert!(rt; parts.find(1, Key::of_u64(5)) == Some((byte(b'b'), false)));
-    assert!(rt; parts.find(2, Key::of_u64(4)) == Some((byte(b'c'), false)));
+    stands(&rt, &parts, 1, 3, b'a');
+    stands(&rt, &parts, 1, 5, b'b');
+    stands(&rt, &parts, 2, 4, b'c');
     assert!(rt; parts.next_any(0, Key::least()).map(|e| e.part) == Some(1));
-    assert!(rt; load(&mut parts, &first) == Reply::Exists(Key::of_u64(3)));
+    loads(&rt, &mut parts, &first, Reply::Exists(Key::of_u64(3)));
     assert!(rt; parts.runs() == 2);
 }
 
-// The run of the numbers from the first to the last one.
-fn run_of(rt: &impl Abort, alloc: Global, first: u64, last: u64) -> Run {
+// The run of the numbers from the first to the last one is loaded, and answered so.
+fn loads_all(
+    rt: &impl Abort,
+    alloc: Global,
+    parts: &mut Parts<ListIndex>,
+    first: u64,
+    last: u64,
+    reply: Reply,
+)
+    requires { NothingAbove parts.old.runs parts.old.entries }
+    ensures { NothingAbove parts.new.runs parts.new.entries }
+{
     let mut pairs = Vec::new(alloc);
     for number in first..=last {
         pairs.push(pair(number, b'p')).expect(rt, "memory");
     }
-    Run::new(pairs).expect(rt, "they rise")
+    let run = Run::new(pairs).expect(rt, "they rise");
+    assert!(rt; load(parts, &run) == reply, "from {first} to {last}");
 }
 
-#[test]
-fn the_least_live_key_of_all_partitions(rt: HostRuntime) -> Result<(), Fail> {
-    let mut parts = no_entries(rt.alloc());
+// Seven runs, of which the second and the seventh have entries, as partition 0 has.
+fn of_seven_runs(rt: &impl Abort, alloc: Global) -> Parts<ListIndex>
+    ensures { NothingAbove result.runs result.entries }
+{
+    let mut parts = no_entries(alloc);
     make_runs(&mut parts, 7);
     for entry in [
         live(0, 5, b'e'),
@@ -123,11 +167,17 @@ fn the_least_live_key_of_all_partitions(rt: HostRuntime) -> Result<(), Fail> {
         dead(7, 30, b'e'),
         live(7, 50, b'e'),
     ] {
-        add(&mut parts, entry)?;
+        add(&mut parts, entry).expect(rt, "memory");
     }
     for number in 10..30 {
-        add(&mut parts, dead(2, number, b'e'))?;
+        add(&mut parts, dead(2, number, b'e')).expect(rt, "memory");
     }
+    parts
+}
+
+#[test]
+fn the_least_live_key_of_all_partitions(rt: HostRuntime) {
+    let mut parts = of_seven_runs(&rt, rt.alloc());
     for (first, last, least) in [
         (0, 90, 5),
         (6, 90, 12),
@@ -136,18 +186,12 @@ fn the_least_live_key_of_all_partitions(rt: HostRuntime) -> Result<(), Fail> {
         (31, 90, 31),
         (32, 90, 50),
     ] {
-        let run = run_of(&rt, rt.alloc(), first, last);
         let exists = Reply::Exists(Key::of_u64(least));
-        assert!(rt; load(&mut parts, &run) == exists, "from {first} to {last}");
+        loads_all(&rt, rt.alloc(), &mut parts, first, last, exists);
     }
     for (first, last) in [(13, 29), (32, 49), (51, 90)] {
-        let run = run_of(&rt, rt.alloc(), first, last);
-        assert!(rt;
-            load(&mut parts, &run) == Reply::Done,
-            "from {first} to {last}"
-        );
+        loads_all(&rt, rt.alloc(), &mut parts, first, last, Reply::Done);
     }
-    Ok(())
 }
 
 #[test]

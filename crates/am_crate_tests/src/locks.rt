@@ -4,7 +4,6 @@ use am_locks::{Asked, LockTable, MAX_LOCKS, MAX_OWNERS};
 use am_record::{Key, Lock, Mode, Range};
 use std::alloc::Global;
 use std::process::Abort;
-use std::test::Fail;
 
 fn range(rt: &impl Abort, lo: u64, hi: u64) -> Range {
     Range::new(Key::of_u64(lo), Key::of_u64(hi)).expect(rt, "the ends stand in order")
@@ -42,7 +41,7 @@ fn ask(rt: &impl Abort, table: &mut LockTable, tx: u64, asked: &Lock) -> Asked {
     if answer != Asked::NoMemory {
         return answer;
     }
-    assert_eq!(rt; held(rt, table, tx), before);
+    assert!(rt; held(rt, table, tx) == before);
     assert!(rt; table.is_owner(tx));
     table.ask(tx, *asked)
 }
@@ -58,25 +57,39 @@ fn release(rt: &impl Abort, table: &mut LockTable, tx: u64) {
     assert!(rt; !table.is_owner(tx));
 }
 
+// The lock is asked for, and answered so.
+fn answers(rt: &impl Abort, table: &mut LockTable, tx: u64, asked: Lock, answer: Asked) {
+    assert!(rt; ask(rt, table, tx, &asked) == answer);
+}
+
+fn is_locked(rt: &impl Abort, table: &LockTable, number: u64, holder: Option<u64>) {
+    assert!(rt; table.exclusive_at(Key::of_u64(number)) == holder);
+}
+
+fn holds(rt: &impl Abort, table: &LockTable, tx: u64, count: usize) {
+    assert!(rt; held(rt, table, tx) == count);
+}
+
 #[test]
 fn three_owners_and_the_least_holder(rt: HostRuntime) {
     let mut table = table_of(&rt, rt.alloc(), 3);
-    assert_eq!(rt; ask(&rt, &mut table, 1, &shared(&rt, 1, 5)), Asked::Granted);
-    assert_eq!(rt; ask(&rt, &mut table, 2, &shared(&rt, 3, 9)), Asked::Granted);
-    assert_eq!(rt;
-        ask(&rt, &mut table, 3, &exclusive(&rt, 4, 4)),
-        Asked::Busy(1)
-    );
+    answers(&rt, &mut table, 1, shared(&rt, 1, 5), Asked::Granted);
+    answers(&rt, &mut table, 2, shared(&rt, 3, 9), Asked::Granted);
+    answers(&rt, &mut table, 3, exclusive(&rt, 4, 4), Asked::Busy(1));
     release(&rt, &mut table, 1);
-    assert_eq!(rt;
-        ask(&rt, &mut table, 3, &exclusive(&rt, 4, 4)),
-        Asked::Busy(2)
-    );
+    answers(&rt, &mut table, 3, exclusive(&rt, 4, 4), Asked::Busy(2));
     release(&rt, &mut table, 2);
-    assert_eq!(rt;
-        ask(&rt, &mut table, 3, &exclusive(&rt, 4, 4)),
-        Asked::Granted
-    );
+    answers(&rt, &mut table, 3, exclusive(&rt, 4, 4), Asked::Granted);
+}
+
+// Eight locks stand where the ninth was refused, which is granted when asked again.
+fn ask_for_ninth_again(rt: &impl Abort, table: &mut LockTable) {
+    holds(rt, table, 1, 8);
+    is_locked(rt, table, 7, Some(1));
+    is_locked(rt, table, 8, None);
+    answers(rt, table, 2, shared(rt, 8, 8), Asked::Granted);
+    release(rt, table, 2);
+    answers(rt, table, 1, exclusive(rt, 8, 8), Asked::Granted);
 }
 
 // The ninth lock is the first that takes memory. Where it is refused the eight stay, and it is granted when asked again.
@@ -85,45 +98,31 @@ fn ninth_lock_refused(rt: HostRuntime) {
     let mut table = table_of(&rt, rt.alloc(), 2);
     for i in 0..8 {
         assert!(rt; table.is_owner(1));
-        assert_eq!(rt; table.ask(1, exclusive(&rt, i, i)), Asked::Granted);
+        assert!(rt; table.ask(1, exclusive(&rt, i, i)) == Asked::Granted);
     }
     assert!(rt; table.is_owner(1));
     let ninth = table.ask(1, exclusive(&rt, 8, 8));
     if ninth == Asked::NoMemory {
-        assert_eq!(rt; held(&rt, &table, 1), 8);
-        assert_eq!(rt; table.exclusive_at(Key::of_u64(7)), Some(1));
-        assert_eq!(rt; table.exclusive_at(Key::of_u64(8)), None);
-        assert_eq!(rt; ask(&rt, &mut table, 2, &shared(&rt, 8, 8)), Asked::Granted);
-        release(&rt, &mut table, 2);
-        assert_eq!(rt;
-            ask(&rt, &mut table, 1, &exclusive(&rt, 8, 8)),
-            Asked::Granted
-        );
+        ask_for_ninth_again(&rt, &mut table);
     } else {
-        assert_eq!(rt; ninth, Asked::Granted);
+        assert!(rt; ninth == Asked::Granted);
     }
-    assert_eq!(rt; held(&rt, &table, 1), 9);
-    assert_eq!(rt; table.exclusive_at(Key::of_u64(8)), Some(1));
+    holds(&rt, &table, 1, 9);
+    is_locked(&rt, &table, 8, Some(1));
 }
 
 #[test]
 fn cut_keeps_the_oldest_locks(rt: HostRuntime) {
     let mut table = table_of(&rt, rt.alloc(), 2);
-    assert_eq!(rt;
-        ask(&rt, &mut table, 1, &exclusive(&rt, 1, 3)),
-        Asked::Granted
-    );
-    assert_eq!(rt;
-        ask(&rt, &mut table, 1, &exclusive(&rt, 7, 9)),
-        Asked::Granted
-    );
-    assert_eq!(rt; ask(&rt, &mut table, 2, &shared(&rt, 5, 5)), Asked::Granted);
+    answers(&rt, &mut table, 1, exclusive(&rt, 1, 3), Asked::Granted);
+    answers(&rt, &mut table, 1, exclusive(&rt, 7, 9), Asked::Granted);
+    answers(&rt, &mut table, 2, shared(&rt, 5, 5), Asked::Granted);
     assert!(rt; table.is_owner(1) && table.held(1) == 2);
     table.cut(1, 1);
-    assert_eq!(rt; held(&rt, &table, 1), 1);
-    assert_eq!(rt; table.exclusive_at(Key::of_u64(2)), Some(1));
-    assert_eq!(rt; table.exclusive_at(Key::of_u64(8)), None);
-    assert_eq!(rt; table.exclusive_at(Key::of_u64(5)), None);
+    holds(&rt, &table, 1, 1);
+    is_locked(&rt, &table, 2, Some(1));
+    is_locked(&rt, &table, 8, None);
+    is_locked(&rt, &table, 5, None);
 }
 
 // The locks of all owners as one list, in the order in which they were granted.
@@ -151,34 +150,33 @@ impl PlainTable {
             .min()
     }
 
-    fn ask(&mut self, tx: u64, asked: &Lock) -> Result<Asked, Fail> {
+    fn ask(&mut self, rt: &impl Abort, tx: u64, asked: &Lock) -> Asked {
         if let Some(holder) = self.least_holder(tx, asked) {
-            return Ok(Asked::Busy(holder));
+            return Asked::Busy(holder);
         }
         let mut locks = self.held.iter();
         if locks.any(|lock| lock.0 == tx && lock.1.covers(asked)) {
-            return Ok(Asked::Granted);
+            return Asked::Granted;
         }
         if self.of(tx) == MAX_LOCKS {
-            return Ok(Asked::TooManyLocks);
+            return Asked::TooManyLocks;
         }
-        self.held.push((tx, *asked))?;
-        Ok(Asked::Granted)
+        self.held.push((tx, *asked)).expect(rt, "memory");
+        Asked::Granted
     }
 
-    fn cut(&mut self, alloc: Global, tx: u64, n: usize) -> Result<(), Fail> {
+    fn cut(&mut self, rt: &impl Abort, alloc: Global, tx: u64, n: usize) {
         let mut kept = Vec::new(alloc);
         let mut own = 0;
         for lock in &self.held {
             if lock.0 != tx {
-                kept.push(*lock)?;
+                kept.push(*lock).expect(rt, "memory");
             } else if own < n {
                 own += 1;
-                kept.push(*lock)?;
+                kept.push(*lock).expect(rt, "memory");
             }
         }
         self.held = kept;
-        Ok(())
     }
 }
 
@@ -208,42 +206,59 @@ fn rolled_lock(rt: &impl Abort, dice: &mut Dice, tx: u64) -> Lock {
     }
 }
 
+// Ends the transaction, and begins one of the same number.
+fn begin_anew(
+    rt: &impl Abort,
+    alloc: Global,
+    tx: u64,
+    table: &mut LockTable,
+    plain: &mut PlainTable,
+) {
+    release(rt, table, tx);
+    assert!(rt; table.owners() < MAX_OWNERS && !table.is_owner(tx));
+    table.enter(tx);
+    plain.cut(rt, alloc, tx, 0);
+}
+
+// Lets the locks behind some first ones go.
+fn cut_both(
+    rt: &impl Abort,
+    alloc: Global,
+    tx: u64,
+    table: &mut LockTable,
+    plain: &mut PlainTable,
+) {
+    let n = held(rt, table, tx) / 16 * 16;
+    assert!(rt; table.is_owner(tx) && n <= table.held(tx));
+    table.cut(tx, n);
+    plain.cut(rt, alloc, tx, n);
+}
+
 fn do_both(
     rt: &impl Abort,
     alloc: Global,
     dice: &mut Dice,
     table: &mut LockTable,
     plain: &mut PlainTable,
-) -> Result<(), Fail> {
+) {
     let tx = [1, 1, 2, 3][(dice.roll() % 4) as usize];
     match dice.roll() % 1000 {
-        0 => {
-            release(rt, table, tx);
-            assert!(rt; table.owners() < MAX_OWNERS && !table.is_owner(tx));
-            table.enter(tx);
-            plain.cut(alloc, tx, 0)?;
-        }
-        1..20 => {
-            let n = held(rt, table, tx) / 16 * 16;
-            assert!(rt; table.is_owner(tx) && n <= table.held(tx));
-            table.cut(tx, n);
-            plain.cut(alloc, tx, n)?;
-        }
+        0 => begin_anew(rt, alloc, tx, table, plain),
+        1..20 => cut_both(rt, alloc, tx, table, plain),
         _ => {
             let asked = rolled_lock(rt, dice, tx);
-            let wanted = plain.ask(tx, &asked)?;
-            assert_eq!(rt; ask(rt, table, tx, &asked), wanted);
+            let wanted = plain.ask(rt, tx, &asked);
+            assert!(rt; ask(rt, table, tx, &asked) == wanted);
         }
     }
-    assert_eq!(rt; held(rt, table, tx), plain.of(tx));
+    holds(rt, table, tx, plain.of(tx));
     let key = Key::of_u64(dice.roll() % 9000);
-    assert_eq!(rt; table.exclusive_at(key), plain.exclusive_at(key));
-    Ok(())
+    assert!(rt; table.exclusive_at(key) == plain.exclusive_at(key));
 }
 
 // Two thousand calls get what they get of a plain list of locks.
 #[test]
-fn table_beside_a_plain_list(rt: HostRuntime) -> Result<(), Fail> {
+fn table_beside_a_plain_list(rt: HostRuntime) {
     let mut table = table_of(&rt, rt.alloc(), 3);
     let mut plain = PlainTable {
         held: Vec::new(rt.alloc()),
@@ -251,9 +266,8 @@ fn table_beside_a_plain_list(rt: HostRuntime) -> Result<(), Fail> {
     let mut dice = Dice { state: 1 };
     let mut most = 0;
     for _ in 0..2000 {
-        do_both(&rt, rt.alloc(), &mut dice, &mut table, &mut plain)?;
+        do_both(&rt, rt.alloc(), &mut dice, &mut table, &mut plain);
         most = held(&rt, &table, 1).max(most);
     }
-    assert_eq!(rt; most, MAX_LOCKS);
-    Ok(())
+    assert!(rt; most == MAX_LOCKS);
 }

@@ -1,5 +1,7 @@
 //! Merge steps, clean steps and their wishes.
 
+ghost use Rattle.std.specs.Prelude.{◌≤◌};
+
 use am_list::{ListIndex, PartIndex};
 use am_locks::{Asked, LockTable};
 use am_merge::{Wishes, clean_step, merge_step};
@@ -7,6 +9,9 @@ use am_parts::Parts;
 use am_record::{Entry, Key, Lock, Mode, NoMemory, Range, Refusal, Reply, Value};
 use std::alloc::Global;
 use std::process::Abort;
+
+// An entry: its partition, key and value, and whether it is a ghost.
+type Standing = (u32, u64, u8, bool);
 
 fn value(byte: u8) -> Value {
     Value::new(&[byte]).unwrap()
@@ -39,16 +44,23 @@ fn add<I: PartIndex + Drop>(
     })
 }
 
-fn over(alloc: Global, entries: &[(u32, u64, u8, bool)]) -> Result<Parts<ListIndex>, NoMemory> {
+fn over(rt: &impl Abort, alloc: Global, entries: &[Standing]) -> Parts<ListIndex> {
     let mut parts = Parts::new(alloc, ListIndex::new(alloc));
     for &(part, number, byte, is_ghost) in entries {
-        add(&mut parts, part, number, byte, is_ghost)?;
+        add(&mut parts, part, number, byte, is_ghost).expect(rt, "memory");
     }
-    Ok(parts)
+    parts
 }
 
-fn has(parts: &Parts<ListIndex>, part: u32, number: u64, byte: u8, is_ghost: bool) -> bool {
-    parts.find(part, Key::of_u64(number)) == Some((value(byte), is_ghost))
+// The entries stand, among others.
+fn has(rt: &impl Abort, parts: &Parts<ListIndex>, entries: &[Standing]) {
+    for &(part, number, byte, is_ghost) in entries {
+        let found = parts.find(part, Key::of_u64(number));
+        assert!(rt;
+            found == Some((value(byte), is_ghost)),
+            "{number} in {part}"
+        );
+    }
 }
 
 // How many entries of the keys 0 to 299 stand in the partition.
@@ -76,26 +88,29 @@ fn locked(rt: &impl Abort, alloc: Global, number: u64) -> LockTable {
     locks
 }
 
+fn merges(
+    rt: &impl Abort,
+    parts: &mut Parts<ListIndex>,
+    wishes: &mut Wishes,
+    locks: &LockTable,
+    reply: Reply,
+) {
+    assert!(rt; merge_step(parts, wishes, locks, 16) == reply);
+}
+
 #[test]
 fn merge_goes_home_over_a_ghost(rt: HostRuntime) {
-    let mut parts = over(
-        rt.alloc(),
-        &[(0, 5, b'a', true), (1, 5, b'b', false), (1, 7, b'c', false)],
-    )
-    .expect(&rt, "memory");
+    let entries = [(0, 5, b'a', true), (1, 5, b'b', false), (1, 7, b'c', false)];
+    let mut parts = over(&rt, rt.alloc(), &entries);
     let mut wishes = Wishes::new(rt.alloc()).expect(&rt, "memory");
     let locks = LockTable::new(rt.alloc());
     wishes.wish(Range::point(Key::of_u64(5)));
     wishes.wish(Range::point(Key::of_u64(5)));
-    for reply in [
-        Reply::Moved(1, 1),
-        Reply::MergeDone,
-        Reply::MergeDone,
-        Reply::Idle,
-    ] {
-        assert_eq!(rt; merge_step(&mut parts, &mut wishes, &locks, 16), reply);
-    }
-    assert!(rt; has(&parts, 0, 5, b'b', false) && has(&parts, 1, 7, b'c', false));
+    merges(&rt, &mut parts, &mut wishes, &locks, Reply::Moved(1, 1));
+    merges(&rt, &mut parts, &mut wishes, &locks, Reply::MergeDone);
+    merges(&rt, &mut parts, &mut wishes, &locks, Reply::MergeDone);
+    merges(&rt, &mut parts, &mut wishes, &locks, Reply::Idle);
+    has(&rt, &parts, &[(0, 5, b'b', false), (1, 7, b'c', false)]);
     assert!(rt; parts.find(1, Key::of_u64(5)).is_none());
 }
 
@@ -120,7 +135,7 @@ fn merge_all(
 
 #[test]
 fn merges_add_up_where_memory_is_refused(rt: HostRuntime) {
-    let mut parts = over(rt.alloc(), &[]).expect(&rt, "memory");
+    let mut parts = over(&rt, rt.alloc(), &[]);
     let mut wishes = Wishes::new(rt.alloc()).expect(&rt, "memory");
     let locks = LockTable::new(rt.alloc());
     for number in 0..8 {
@@ -131,27 +146,43 @@ fn merges_add_up_where_memory_is_refused(rt: HostRuntime) {
     assert!(rt; count_in(&parts, 0) == 8 && count_in(&parts, 1) == 0);
 }
 
+// The keys 2 to 9 are cleaned.
+fn cleans(
+    rt: &impl Abort,
+    parts: &mut Parts<ListIndex>,
+    locks: &LockTable,
+    limit: u64,
+    cleaned: u64,
+)
+    requires some { 1 ≤ limit }
+    requires few { limit ≤ 64 }
+{
+    let reply = clean_step(parts, locks, range(rt, 2, 9), limit);
+    assert!(rt; reply == Reply::Cleaned(cleaned));
+}
+
 #[test]
 fn clean_passes_over_locked_and_live_entries(rt: HostRuntime) {
-    let mut parts = over(
-        rt.alloc(),
-        &[
-            (0, 3, b'a', true),
-            (0, 4, b'b', false),
-            (0, 12, b'c', true),
-            (1, 2, b'd', true),
-            (1, 5, b'e', true),
-            (u32::MAX, 5, b'f', true),
-            (u32::MAX, 9, b'g', true),
-        ],
-    )
-    .expect(&rt, "memory");
+    let entries = [
+        (0, 3, b'a', true),
+        (0, 4, b'b', false),
+        (0, 12, b'c', true),
+        (1, 2, b'd', true),
+        (1, 5, b'e', true),
+        (u32::MAX, 5, b'f', true),
+        (u32::MAX, 9, b'g', true),
+    ];
+    let mut parts = over(&rt, rt.alloc(), &entries);
     let locks = locked(&rt, rt.alloc(), 5);
-    let some = range(&rt, 2, 9);
-    assert_eq!(rt; clean_step(&mut parts, &locks, some, 2), Reply::Cleaned(2));
-    assert!(rt; has(&parts, u32::MAX, 9, b'g', true));
-    assert_eq!(rt; clean_step(&mut parts, &locks, some, 2), Reply::Cleaned(1));
-    assert_eq!(rt; clean_step(&mut parts, &locks, some, 64), Reply::Cleaned(0));
-    assert!(rt; has(&parts, 0, 4, b'b', false) && has(&parts, 0, 12, b'c', true));
-    assert!(rt; has(&parts, 1, 5, b'e', true) && has(&parts, u32::MAX, 5, b'f', true));
+    cleans(&rt, &mut parts, &locks, 2, 2);
+    has(&rt, &parts, &[(u32::MAX, 9, b'g', true)]);
+    cleans(&rt, &mut parts, &locks, 2, 1);
+    cleans(&rt, &mut parts, &locks, 64, 0);
+    let kept = [
+        (0, 4, b'b', false),
+        (0, 12, b'c', true),
+        (1, 5, b'e', true),
+        (u32::MAX, 5, b'f', true),
+    ];
+    has(&rt, &parts, &kept);
 }

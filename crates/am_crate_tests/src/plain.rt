@@ -1,35 +1,37 @@
 //! Worked answers of the plain map.
 
+use crate::keys::{key, range, value};
 use am_model::{Plain, alone};
-use am_record::{Key, NoMemory, Op, Pairs, Range, Reply, Value};
+use am_record::{Key, NoMemory, Op, Pairs, Reply};
 use std::alloc::Global;
-use std::test::Fail;
+use std::process::Abort;
 
-fn key(bytes: &[u8]) -> Result<Key, &'static str> {
-    Key::new(bytes).ok_or("a key of at most 32 bytes")
+// The record of the key 9 with this value, as it is loaded and scanned.
+fn nine(rt: &impl Abort, alloc: Global, text: &[u8]) -> Pairs {
+    let pairs = Vec::from_array(alloc, [(key(rt, b"9"), value(rt, text))]);
+    Pairs::new(pairs.expect(rt, "memory"))
 }
 
-fn value(bytes: &[u8]) -> Result<Value, &'static str> {
-    Value::new(bytes).ok_or("a value of at most 64 bytes")
-}
-
-fn pair(alloc: Global, name: &[u8], text: &[u8]) -> Result<Pairs, Fail> {
-    Ok(Pairs::new(Vec::from_array(alloc, [(key(name)?, value(text)?)])?))
+// The operations are answered so by a plain map with nothing in it, from the one with this place on.
+fn answers(rt: &impl Abort, alloc: Global, ops: &[Op], from: usize, expected: &[Reply]) {
+    let mut plain = Plain::new(alloc);
+    let replies = alone(alloc, &mut plain, ops).expect(rt, "memory");
+    assert!(rt; replies.len() == ops.len() && from <= replies.len());
+    assert!(rt; &replies[from..] == expected);
 }
 
 #[test]
-fn an_insert_is_found_and_stays(rt: HostRuntime) -> Result<(), Fail> {
-    let (five, a, b) = (key(b"5")?, value(b"a")?, value(b"b")?);
+fn an_insert_is_found_and_stays(rt: HostRuntime) {
+    let (five, six) = (key(&rt, b"5"), key(&rt, b"6"));
+    let (a, b) = (value(&rt, b"a"), value(&rt, b"b"));
     let ops = [
         Op::Get(five),
         Op::Insert(five, a),
         Op::Insert(five, b),
         Op::Replace(five, b),
         Op::Get(five),
-        Op::Get(key(b"6")?),
+        Op::Get(six),
     ];
-    let mut plain = Plain::new(rt.alloc());
-    let replies = alone(rt.alloc(), &mut plain, &ops)?;
     let expected = [
         Reply::Absent,
         Reply::Done,
@@ -38,18 +40,18 @@ fn an_insert_is_found_and_stays(rt: HostRuntime) -> Result<(), Fail> {
         Reply::Found(b),
         Reply::Absent,
     ];
-    assert!(rt; replies.as_slice() == expected.as_slice());
-    Ok(())
+    answers(&rt, rt.alloc(), &ops, 0, &expected);
 }
 
 #[test]
-fn savepoints_are_nested(rt: HostRuntime) -> Result<(), Fail> {
-    let (a, b) = (key(b"a")?, key(b"b")?);
+fn savepoints_are_nested(rt: HostRuntime) {
+    let (a, b) = (key(&rt, b"a"), key(&rt, b"b"));
+    let (one, two, three) = (value(&rt, b"1"), value(&rt, b"2"), value(&rt, b"3"));
     let ops = [
-        Op::Insert(a, value(b"1")?),
+        Op::Insert(a, one),
         Op::Mark,
-        Op::Replace(a, value(b"2")?),
-        Op::Insert(b, value(b"3")?),
+        Op::Replace(a, two),
+        Op::Insert(b, three),
         Op::Mark,
         Op::Delete(a),
         Op::Back,
@@ -59,41 +61,41 @@ fn savepoints_are_nested(rt: HostRuntime) -> Result<(), Fail> {
         Op::Get(b),
         Op::Back,
     ];
-    let mut plain = Plain::new(rt.alloc());
-    let replies = alone(rt.alloc(), &mut plain, &ops)?;
     let expected = [
         Reply::Done,
-        Reply::Found(value(b"2")?),
+        Reply::Found(two),
         Reply::Done,
-        Reply::Found(value(b"1")?),
+        Reply::Found(one),
         Reply::Absent,
         Reply::NoMark,
     ];
-    assert!(rt; replies.len() == 12 && &replies[6..] == expected.as_slice());
-    Ok(())
+    answers(&rt, rt.alloc(), &ops, 6, &expected);
+}
+
+fn is_answered(rt: &impl Abort, plain: &mut Plain, op: Op, reply: Reply) {
+    assert!(rt; plain.answer(&op) == Ok(reply));
 }
 
 #[test]
-fn a_load_is_scanned_from_end_to_end(rt: HostRuntime) -> Result<(), Fail> {
+fn a_load_is_scanned_from_end_to_end(rt: HostRuntime) {
     let alloc = rt.alloc();
-    let (lo, hi) = (key(b"0")?, key(b"9")?);
-    let range = Range::new(lo, hi).ok_or("ends in order")?;
     let mut plain = Plain::new(alloc);
-    assert!(rt; plain.answer(&Op::Load(pair(alloc, b"9", b"z")?)) == Ok(Reply::Done));
-    assert!(rt; plain.answer(&Op::Load(pair(alloc, b"9", b"y")?)) == Ok(Reply::Exists(hi)));
-    let row = pair(alloc, b"9", b"z")?;
-    assert!(rt; plain.answer(&Op::Scan(range, 1)) == Ok(Reply::Rows(row)));
-    Ok(())
+    let load = Op::Load(nine(&rt, alloc, b"z"));
+    is_answered(&rt, &mut plain, load, Reply::Done);
+    let again = Op::Load(nine(&rt, alloc, b"y"));
+    is_answered(&rt, &mut plain, again, Reply::Exists(key(&rt, b"9")));
+    let scan = Op::Scan(range(&rt, b"0", b"9"), 1);
+    let row = Reply::Rows(nine(&rt, alloc, b"z"));
+    is_answered(&rt, &mut plain, scan, row);
 }
 
 #[test]
-fn a_refused_insert_may_be_asked_again(rt: HostRuntime) -> Result<(), Fail> {
-    let (five, a) = (key(b"5")?, value(b"a")?);
+fn a_refused_insert_may_be_asked_again(rt: HostRuntime) {
+    let (five, a) = (key(&rt, b"5"), value(&rt, b"a"));
     let mut plain = Plain::new(rt.alloc());
     if plain.answer(&Op::Insert(five, a)) == Err(NoMemory) {
-        assert!(rt; plain.answer(&Op::Get(five)) == Ok(Reply::Absent));
-        assert!(rt; plain.answer(&Op::Insert(five, a)) == Ok(Reply::Done));
+        is_answered(&rt, &mut plain, Op::Get(five), Reply::Absent);
+        is_answered(&rt, &mut plain, Op::Insert(five, a), Reply::Done);
     }
-    assert!(rt; plain.answer(&Op::Get(five)) == Ok(Reply::Found(a)));
-    Ok(())
+    is_answered(&rt, &mut plain, Op::Get(five), Reply::Found(a));
 }

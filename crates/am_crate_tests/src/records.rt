@@ -1,6 +1,8 @@
 //! Keys, values, ranges and locks.
 
 use am_record::{Key, Lock, Mode, Op, Pairs, Range, Reply, Step, Value};
+use std::alloc::Global;
+use std::process::Abort;
 
 #[test]
 fn values_of_64_and_65_bytes(rt: HostRuntime) {
@@ -24,24 +26,23 @@ fn a_range_needs_its_ends_in_order(rt: HostRuntime) {
     assert!(rt; !range.encloses(&Range::point(three)) && !range.meets(&Range::point(three)));
 }
 
+// The keys of the numbers are as their places in a rising list.
+fn are_ordered(rt: &impl Abort, i: usize, a: u64, j: usize, b: u64) {
+    let (one, other) = (Key::of_u64(a), Key::of_u64(b));
+    assert!(rt; one.cmp(&other) == i.cmp(&j), "at {a} and {b}");
+    assert!(rt; (one == other) == (i == j), "at {a} and {b}");
+}
+
 #[test]
 fn keys_by_their_order(rt: HostRuntime) {
     let numbers = [0, 1, 255, 256, 65_536, u64::MAX];
     for (i, a) in numbers.iter().enumerate() {
         for (j, b) in numbers.iter().enumerate() {
-            assert_eq!(rt;
-                Key::of_u64(*a).cmp(&Key::of_u64(*b)),
-                i.cmp(&j),
-                "at {a} and {b}"
-            );
-            assert_eq!(rt;
-                Key::of_u64(*a) == Key::of_u64(*b),
-                i == j,
-                "at {a} and {b}"
-            );
+            are_ordered(&rt, i, *a, j, *b);
         }
-        assert_eq!(rt; Key::of_u64(*a).bytes(), a.to_be_bytes().as_slice());
-        assert!(rt; Key::least() <= Key::of_u64(*a));
+        let key = Key::of_u64(*a);
+        assert!(rt; key.bytes() == a.to_be_bytes().as_slice());
+        assert!(rt; Key::least() <= key);
     }
 }
 
@@ -98,20 +99,31 @@ fn locks_by_range_and_mode(rt: HostRuntime) {
     assert!(rt; !reader.covers(&writer) && !writer.covers(&reader) && writer.covers(&writer));
 }
 
+// Two records, the later key first.
+fn two_pairs(rt: &impl Abort, alloc: Global, value: Value) -> Pairs {
+    let items = vec![in alloc; (Key::of_u64(2), value), (Key::of_u64(1), value)];
+    Pairs::new(items.expect(rt, "memory"))
+}
+
+fn is_copied(rt: &impl Abort, alloc: Global, pairs: &Pairs) {
+    let same = pairs.copy(alloc).expect(rt, "memory");
+    assert!(rt; same == *pairs);
+    assert!(rt; same.as_slice().len() == 2);
+    step_is_copied(rt, alloc, Op::Load(same));
+}
+
+fn step_is_copied(rt: &impl Abort, alloc: Global, load: Op) {
+    let copy = load.copy(alloc).expect(rt, "memory");
+    assert!(rt; copy == load && copy != Op::Mark && Op::Mark != Op::Back);
+    let step = Step::Do(1, copy);
+    assert!(rt; step.copy(alloc).expect(rt, "memory") == step);
+}
+
 #[test]
 fn pairs_copied_and_given_back(rt: HostRuntime) {
     let value = Value::new(b"a").expect(&rt, "one byte fits");
-    let items = vec![in rt.alloc(); (Key::of_u64(2), value), (Key::of_u64(1), value)];
-    let items = items.expect(&rt, "memory");
-    let pairs = Pairs::new(items);
-    let same = pairs.copy(rt.alloc()).expect(&rt, "memory");
-    assert!(rt; same == pairs);
-    assert_eq!(rt; same.as_slice().len(), 2);
-    let load = Op::Load(same);
-    let copy = load.copy(rt.alloc()).expect(&rt, "memory");
-    assert!(rt; copy == load && copy != Op::Mark && Op::Mark != Op::Back);
-    let step = Step::Do(1, copy);
-    assert!(rt; step.copy(rt.alloc()).expect(&rt, "memory") == step);
+    let pairs = two_pairs(&rt, rt.alloc(), value);
+    is_copied(&rt, rt.alloc(), &pairs);
     let mut rest = pairs.into_vec();
     assert!(rt; rest.pop() == Some((Key::of_u64(1), value)));
     let rows = Reply::Rows(Pairs::new(rest));

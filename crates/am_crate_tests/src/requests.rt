@@ -4,7 +4,7 @@ use crate::keys::{key, range, value};
 use am_record::{Lock, Mode, Op, Pairs};
 use am_wire::{LineFault, Request, parse_line};
 use std::alloc::Global;
-use std::test::Fail;
+use std::process::Abort;
 
 const LONGEST_KEY: &[u8] = b"aaaaaaaaaaaaaaaaaaaaaaaaaaaaaaaa";
 
@@ -16,75 +16,67 @@ fn read(alloc: Global, line: &[u8]) -> Result<Request, LineFault> {
     }
 }
 
+fn asks(rt: &impl Abort, alloc: Global, line: &[u8], request: Request) {
+    assert!(rt; read(alloc, line) == Ok(request), "{line:?}");
+}
+
 #[test]
 fn lines_of_a_word_or_a_key_are_read(rt: HostRuntime) {
-    for (line, request) in [
-        (b"BEGIN".as_slice(), Request::Begin),
-        (b"MARK", Request::Do(Op::Mark)),
-        (b"BACK", Request::Do(Op::Back)),
-        (b"COMMIT", Request::Commit),
-        (b"ABORT", Request::Abort),
-        (b"SEEN", Request::Seen),
-        (b"QUIT", Request::Quit),
-        (b"GET 05", Request::Do(Op::Get(key(&rt, b"05")))),
-        (b"GET !~;<>?", Request::Do(Op::Get(key(&rt, b"!~;<>?")))),
-        (
-            b"DEL aaaaaaaaaaaaaaaaaaaaaaaaaaaaaaaa",
-            Request::Do(Op::Delete(key(&rt, LONGEST_KEY))),
-        ),
-    ] {
-        assert!(rt; read(rt.alloc(), line) == Ok(request), "{line:?}");
-    }
+    let alloc = rt.alloc();
+    asks(&rt, alloc, b"BEGIN", Request::Begin);
+    asks(&rt, alloc, b"MARK", Request::Do(Op::Mark));
+    asks(&rt, alloc, b"BACK", Request::Do(Op::Back));
+    asks(&rt, alloc, b"COMMIT", Request::Commit);
+    asks(&rt, alloc, b"ABORT", Request::Abort);
+    asks(&rt, alloc, b"SEEN", Request::Seen);
+    asks(&rt, alloc, b"QUIT", Request::Quit);
+    let get = Op::Get(key(&rt, b"05"));
+    asks(&rt, alloc, b"GET 05", Request::Do(get));
+    let get = Op::Get(key(&rt, b"!~;<>?"));
+    asks(&rt, alloc, b"GET !~;<>?", Request::Do(get));
+    let delete = Op::Delete(key(&rt, LONGEST_KEY));
+    let line = b"DEL aaaaaaaaaaaaaaaaaaaaaaaaaaaaaaaa";
+    asks(&rt, alloc, line, Request::Do(delete));
 }
 
 #[test]
 fn lines_of_records_ranges_and_numbers_are_read(rt: HostRuntime) {
-    let (five, a) = (key(&rt, b"5"), value(&rt, b"a=!~"));
-    let all = range(&rt, b"10", b"9");
-    for (line, request) in [
-        (b"INS 5 a=!~".as_slice(), Request::Do(Op::Insert(five, a))),
-        (b"REP 5 a=!~", Request::Do(Op::Replace(five, a))),
-        (b"SCAN 10 9 0", Request::Do(Op::Scan(all, 0))),
-        (
-            b"LOCK S 10 9",
-            Request::Do(Op::Lock(Lock {
-                mode: Mode::Shared,
-                range: all,
-            })),
-        ),
-        (
-            b"LOCK X 10 9",
-            Request::Do(Op::Lock(Lock {
-                mode: Mode::Exclusive,
-                range: all,
-            })),
-        ),
-        (b"MERGE 18446744073709551615", Request::Merge(u64::MAX)),
-        (b"CLEAN 10 9 64", Request::Clean(all, 64)),
-    ] {
-        assert!(rt; read(rt.alloc(), line) == Ok(request), "{line:?}");
-    }
+    let (alloc, five, a) = (rt.alloc(), key(&rt, b"5"), value(&rt, b"a=!~"));
+    let range = range(&rt, b"10", b"9");
+    let insert = Op::Insert(five, a);
+    asks(&rt, alloc, b"INS 5 a=!~", Request::Do(insert));
+    let replace = Op::Replace(five, a);
+    asks(&rt, alloc, b"REP 5 a=!~", Request::Do(replace));
+    let scan = Op::Scan(range, 0);
+    asks(&rt, alloc, b"SCAN 10 9 0", Request::Do(scan));
+    let mode = Mode::Shared;
+    let lock = Op::Lock(Lock { mode, range });
+    asks(&rt, alloc, b"LOCK S 10 9", Request::Do(lock));
+    let mode = Mode::Exclusive;
+    let lock = Op::Lock(Lock { mode, range });
+    asks(&rt, alloc, b"LOCK X 10 9", Request::Do(lock));
+    let merge = Request::Merge(u64::MAX);
+    asks(&rt, alloc, b"MERGE 18446744073709551615", merge);
+    asks(&rt, alloc, b"CLEAN 10 9 64", Request::Clean(range, 64));
 }
 
 #[test]
-fn records_are_in_the_order_of_their_line(rt: HostRuntime) -> Result<(), Fail> {
-    let one = vec![in rt.alloc(); (key(&rt, b"9"), value(&rt, b"=="))]?;
-    let load = Request::Do(Op::Load(Pairs::new(one)));
-    assert!(rt; read(rt.alloc(), b"LOAD 9===") == Ok(load));
-    let three = vec![in rt.alloc();
-        (key(&rt, b"9"), value(&rt, b"y")),
-        (key(&rt, b"10"), value(&rt, b"x")),
-        (key(&rt, b"9"), value(&rt, b"z")),
-    ]?;
-    let load = Request::Do(Op::Load(Pairs::new(three)));
-    assert!(rt; read(rt.alloc(), b"LOAD 9=y 10=x 9=z") == Ok(load));
-    let two = vec![in rt.alloc();
-        (key(&rt, b"9"), value(&rt, b"=")),
-        (key(&rt, b"10"), value(&rt, b"x")),
-    ]?;
-    let stage = Request::Stage(Pairs::new(two));
-    assert!(rt; read(rt.alloc(), b"STAGE 9== 10=x") == Ok(stage));
-    Ok(())
+fn records_are_in_the_order_of_their_line(rt: HostRuntime) {
+    let alloc = rt.alloc();
+    let (nine, ten) = (key(&rt, b"9"), key(&rt, b"10"));
+    let one = vec![in alloc; (nine, value(&rt, b"=="))];
+    let load = Op::Load(Pairs::new(one.expect(&rt, "memory")));
+    asks(&rt, alloc, b"LOAD 9===", Request::Do(load));
+    let three = vec![in alloc;
+        (nine, value(&rt, b"y")),
+        (ten, value(&rt, b"x")),
+        (nine, value(&rt, b"z")),
+    ];
+    let load = Op::Load(Pairs::new(three.expect(&rt, "memory")));
+    asks(&rt, alloc, b"LOAD 9=y 10=x 9=z", Request::Do(load));
+    let two = vec![in alloc; (nine, value(&rt, b"=")), (ten, value(&rt, b"x"))];
+    let stage = Request::Stage(Pairs::new(two.expect(&rt, "memory")));
+    asks(&rt, alloc, b"STAGE 9== 10=x", stage);
 }
 
 #[test]

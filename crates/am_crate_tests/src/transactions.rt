@@ -20,62 +20,90 @@ fn end(rt: &impl Abort, table: &mut TxTable, tx: u64) {
     assert!(rt; !table.is_active(tx));
 }
 
+fn begins(rt: &impl Abort, table: &mut TxTable, tx: u64) {
+    assert!(rt; table.begin() == Some(tx));
+}
+
+fn count_op(rt: &impl Abort, table: &mut TxTable, tx: u64) {
+    assert!(rt; table.is_active(tx) && table.ops(tx) < MAX_OPS);
+    table.count_op(tx);
+}
+
+fn has_ops(rt: &impl Abort, table: &TxTable, tx: u64, count: u64) {
+    assert!(rt; table.is_active(tx) && table.ops(tx) == count);
+}
+
+fn holds(rt: &impl Abort, table: &TxTable, tx: u64, count: usize) {
+    assert!(rt; table.is_active(tx) && table.held(tx) == count);
+}
+
+fn asks(rt: &impl Abort, table: &mut TxTable, tx: u64, lock: Lock, answer: Asked) {
+    assert!(rt; table.is_active(tx));
+    assert!(rt; table.ask(tx, lock) == answer);
+}
+
+fn is_locked(rt: &impl Abort, table: &TxTable, number: u64, holder: Option<u64>) {
+    assert!(rt; table.locks().exclusive_at(Key::of_u64(number)) == holder);
+}
+
 #[test]
 fn numbers_are_given_once(rt: HostRuntime) {
     let mut table = TxTable::new(rt.alloc());
-    assert_eq!(rt; table.begin(), Some(1));
-    assert_eq!(rt; table.begin(), Some(2));
+    begins(&rt, &mut table, 1);
+    begins(&rt, &mut table, 2);
     end(&rt, &mut table, 2);
-    assert_eq!(rt; table.begin(), Some(3));
+    begins(&rt, &mut table, 3);
     end(&rt, &mut table, 1);
     end(&rt, &mut table, 3);
-    assert_eq!(rt; table.active(), 0);
-    assert_eq!(rt; table.begin(), Some(4));
+    assert!(rt; table.active() == 0);
+    begins(&rt, &mut table, 4);
 }
 
 #[test]
 fn ops_are_counted(rt: HostRuntime) {
     let mut table = TxTable::new(rt.alloc());
-    assert_eq!(rt; table.begin(), Some(1));
-    assert_eq!(rt; table.begin(), Some(2));
+    begins(&rt, &mut table, 1);
+    begins(&rt, &mut table, 2);
     for i in 0..4096 {
-        assert!(rt; table.is_active(2));
-        let ops = table.ops(2);
-        assert_eq!(rt; ops, i);
-        assert!(rt; ops < MAX_OPS && table.is_active(2));
-        table.count_op(2);
+        has_ops(&rt, &table, 2, i);
+        count_op(&rt, &mut table, 2);
     }
-    assert!(rt; table.is_active(2) && table.ops(2) == 4096);
-    assert!(rt; table.is_active(1) && table.ops(1) == 0);
+    has_ops(&rt, &table, 2, 4096);
+    has_ops(&rt, &table, 1, 0);
+}
+
+fn note_one(rt: &impl Abort, table: &mut TxTable, tx: u64) {
+    assert!(rt; table.is_active(tx));
+    let log = table.undo(tx);
+    log.reserve_one().expect(rt, "four notes take no memory");
+    log.note(Note::New(Key::of_u64(5)));
+}
+
+fn cut_to_none(rt: &impl Abort, table: &mut TxTable, tx: u64) {
+    assert!(rt; table.is_active(tx));
+    table.cut(tx, 0);
+    holds(rt, table, tx, 0);
 }
 
 #[test]
 fn counts_and_locks_end_with_their_transaction(rt: HostRuntime) {
     let mut table = TxTable::new(rt.alloc());
-    assert_eq!(rt; table.begin(), Some(1));
-    assert_eq!(rt; table.begin(), Some(2));
-    assert!(rt; table.is_active(1) && table.ops(1) < MAX_OPS);
-    table.count_op(1);
-    assert!(rt; table.is_active(1));
-    assert_eq!(rt; table.ask(1, exclusive(&rt, 1, 9)), Asked::Granted);
-    assert!(rt; table.is_active(1) && table.held(1) == 1);
-    assert!(rt; table.is_active(1));
-    let log = table.undo(1);
-    log.reserve_one().expect(&rt, "four notes take no memory");
-    log.note(Note::New(Key::of_u64(5)));
-    assert!(rt; table.is_active(2));
-    assert_eq!(rt; table.ask(2, exclusive(&rt, 9, 9)), Asked::Busy(1));
-    assert_eq!(rt; table.locks().exclusive_at(Key::of_u64(5)), Some(1));
+    begins(&rt, &mut table, 1);
+    begins(&rt, &mut table, 2);
+    count_op(&rt, &mut table, 1);
+    asks(&rt, &mut table, 1, exclusive(&rt, 1, 9), Asked::Granted);
+    holds(&rt, &table, 1, 1);
+    note_one(&rt, &mut table, 1);
+    asks(&rt, &mut table, 2, exclusive(&rt, 9, 9), Asked::Busy(1));
+    is_locked(&rt, &table, 5, Some(1));
 
     end(&rt, &mut table, 1);
-    assert_eq!(rt; table.locks().exclusive_at(Key::of_u64(5)), None);
-    assert!(rt; table.is_active(2));
-    assert_eq!(rt; table.ask(2, exclusive(&rt, 9, 9)), Asked::Granted);
+    is_locked(&rt, &table, 5, None);
+    asks(&rt, &mut table, 2, exclusive(&rt, 9, 9), Asked::Granted);
 
-    assert!(rt; table.is_active(2) && table.held(2) == 1);
-    table.cut(2, 0);
-    assert!(rt; table.is_active(2) && table.held(2) == 0);
-    assert_eq!(rt; table.begin(), Some(3));
-    assert!(rt; table.is_active(3) && table.ops(3) == 0);
-    assert!(rt; table.is_active(3) && table.held(3) == 0);
+    holds(&rt, &table, 2, 1);
+    cut_to_none(&rt, &mut table, 2);
+    begins(&rt, &mut table, 3);
+    has_ops(&rt, &table, 3, 0);
+    holds(&rt, &table, 3, 0);
 }

@@ -71,7 +71,7 @@ fn change<I: PartIndex + Drop>(
 #[test]
 fn writes_of_one_key_are_taken_back_newest_first(rt: HostRuntime) {
     let key = Key::of_u64(5);
-    let mut parts = over(rt.alloc(), &[]).expect(&rt, "memory");
+    let mut parts = over(&rt, rt.alloc(), &[]);
     let mut log = UndoLog::new(rt.alloc());
     insert(&mut parts, &mut log, key, b'a').expect(&rt, "memory");
     change(&mut parts, &mut log, 0, key, b'b', false).expect(&rt, "memory");
@@ -88,7 +88,7 @@ fn writes_of_one_key_are_taken_back_newest_first(rt: HostRuntime) {
 #[test]
 fn two_replaces_restore_the_oldest(rt: HostRuntime) {
     let key = Key::of_u64(5);
-    let mut parts = over(rt.alloc(), &[live(0, 5, b'a')]).expect(&rt, "memory");
+    let mut parts = over(&rt, rt.alloc(), &[live(0, 5, b'a')]);
     let mut log = UndoLog::new(rt.alloc());
     change(&mut parts, &mut log, 0, key, b'b', false).expect(&rt, "memory");
     change(&mut parts, &mut log, 0, key, b'c', false).expect(&rt, "memory");
@@ -127,7 +127,7 @@ fn a_run_that_was_made_becomes_ghosts(rt: HostRuntime) {
         dead(2, 2, b'h'),
         live(2, 5, b'd'),
     ];
-    let mut parts = over(rt.alloc(), &before).expect(&rt, "memory");
+    let mut parts = over(&rt, rt.alloc(), &before);
     for _ in 0..2_u8 {
         if parts.runs() < 65535 {
             parts.count_run();
@@ -145,7 +145,7 @@ fn a_run_that_was_made_becomes_ghosts(rt: HostRuntime) {
 
 #[test]
 fn reserve_one_wants_memory_for_the_fifth_note_alone(rt: HostRuntime) {
-    let mut parts = over(rt.alloc(), &[live(0, 5, b'a')]).expect(&rt, "memory");
+    let mut parts = over(&rt, rt.alloc(), &[live(0, 5, b'a')]);
     let key = Key::of_u64(5);
     let mut log = UndoLog::new(rt.alloc());
     for new in [b'b', b'c', b'd', b'e'] {

@@ -1,12 +1,6 @@
 use Rattle.am_runs.specs.Loads.{NothingAbove}
 use Rattle.am_crate_tests.proofs.loads.the_least_live_key_of_all_partitions.Given as goal
 
-abbrev pub invariant-loop-entry : goal.invariant-loop-entry
-invariant-loop-entry g l = NothingAbove l.parts.runs l.parts.entries
-
-abbrev pub invariant-loop-number : goal.invariant-loop-number
-invariant-loop-number g l = NothingAbove l.parts.runs l.parts.entries
-
 abbrev pub invariant-loop-first : goal.invariant-loop-first
 invariant-loop-first g l = NothingAbove l.parts.runs l.parts.entries
 
