@@ -1,5 +1,5 @@
 -- The moment that a pass tells by itself: what it keeps of the active transactions are their bodies.
-use Rattle.std.proofs.Common.{◌≡◌, ℕ, ◌+◌, ◌<◌, ◌≤◌, List, [], ◌∷◌, ◌++◌, map, Bool, true, false, refl, sym, ap, ◌∙◌, subst, arith}
+use Rattle.std.proofs.Common.{◌≡◌, ℕ, ◌+◌, ◌<◌, ◌≤◌, List, [], ◌∷◌, ◌++◌, map, true, false, refl, sym, ap, ◌∙◌, subst, arith}
 use Rattle.std.specs.Prelude.{◌==◌, ◌||◌}
 use Rattle.std.specs.List.{AllByRecursion}
 use Rattle.std.proofs.lemmas.Bool.{cond_both, eq-eqb, true≢false, false_from_ne_true}
@@ -9,8 +9,8 @@ use Rattle.am_record.specs.declared.step.Step.{Step}
 use Rattle.am_record.specs.declared.step.Step.TheVariants.{Begin, Do, Commit, Abort}
 use Rattle.am_record.specs.declared.step.Reply.{Reply}
 use Rattle.am_record.specs.declared.step.Reply.TheVariants.{Begun, Committed, Aborted, Refused}
-use Rattle.am_serial.specs.Trace.{Answered, Effect, Begins, Answers, Commits, Aborts, Nothing, effect}
-use Rattle.am_serial.specs.Machine.{State, Transaction, is_open, extended, without, next}
+use Rattle.am_serial.specs.Trace.{Effect, Begins, Answers, Commits, Aborts, Nothing, effect}
+use Rattle.am_serial.specs.Machine.{State, Transaction, is_open, next}
 use Rattle.am_audit.specs.declared.flaw.Flaw.{Flaw}
 use Rattle.am_audit.specs.declared.flaw.Flaw.TheVariants.{Form, Busy, Answer, NoMemory}
 use Rattle.am_audit.specs.declared.pass.Pass.{Pass}

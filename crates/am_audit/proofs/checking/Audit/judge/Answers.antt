@@ -1,4 +1,4 @@
-use Rattle.std.proofs.Common.{◌≡◌, ◌∙◌, ◌++◌, ◌∷◌, [], Some, refl, sym, ap, subst, arith}
+use Rattle.std.proofs.Common.{◌∙◌, ◌++◌, ◌∷◌, [], Some, refl, sym, ap, subst, arith}
 use Rattle.am_audit.specs.Judged.{IsSoFar}
 use Rattle.am_audit.specs.declared.checking.Audit.{Audit}
 use Rattle.am_audit.proofs.Checks.{none_there, some_there, stands_here, is_told, goes_wrong, goes_right, stays_wrong, one_more}
