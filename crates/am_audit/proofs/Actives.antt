@@ -1,54 +1,32 @@
 -- Lists of active transactions.
-use Rattle.std.proofs.Common.{◌≡◌, ℕ, ◌+◌, ◌<◌, List, [], ◌∷◌, ◌++◌, cond, Vec, Global, length, map, get_or, take, drop, refl, sym, ap, ◌∙◌, arith, add-one}
+use Rattle.std.proofs.Common.{◌≡◌, ℕ, ◌+◌, ◌<◌, List, [], ◌∷◌, ◌++◌, cond, Vec, Global, length, map, get_or, take, drop, refl, sym, ap, ◌∙◌, arith, append_assoc}
 use Rattle.std.specs.Prelude.{◌==◌, not, filter, true, false}
 use Rattle.std.proofs.Math.ListN.{set}
-use Rattle.std.proofs.lemmas.Bool.{cond-true, cond-false, eq-eqb, ne_eqb}
-use Rattle.std.proofs.Math.Seq.{drop-cons, take-suc}
-use Rattle.std.proofs.lemmas.List.{map-append, take_more_set, drop-set-lt, drop_all, take_all, append-nil}
+use Rattle.std.proofs.lemmas.Bool.{cond-true, eq-eqb}
+use Rattle.std.proofs.lemmas.List.{map-append, drop_more, take_more_set, take-append-drop, drop-set-lt, drop_all, take_all, append-nil}
 use Rattle.std.specs.Vec.{with_items}
 use Rattle.am_audit.specs.declared.active.Active.{Active}
-use Rattle.am_audit.specs.Standing.{Listed, listed, with_place}
+use Rattle.am_audit.specs.Standing.{Placed, placed_of, Listed, listed, with_own}
 
--- the first of these are noted, the others are as they were
-pub record IsNotedTo (t n : ℕ) (old all : List Active) (i : ℕ) : Type 0 where
-  pub done : map listed (take i all) ≡ map (with_place t n) (map listed (take i old))
-  pub rest : drop i all ≡ drop i old
+-- the list is as it was, and the first of it are others
+pub record IsKeptTo (t : ℕ) (p : Placed) (old all : List Active) (i : ℕ) : Type 0 where
+  pub same : all ≡ old
+  pub others : with_own t p (map listed old) ≡ map listed (take i old) ++ with_own t p (map listed (drop i old))
 
-cons_parts : {A : Type 0} (x y : A) (xs ys : List A) → x ∷ xs ≡ y ∷ ys → (x ≡ y) × (xs ≡ ys)
-cons_parts x y xs ys e = (cc, cc)
+split_here : (all : List Active) (i : ℕ) (x : Active) → i < length all → x ≡ get_or all i x → drop i all ≡ x ∷ drop (i + 1) all
+split_here all i x less is = drop_more all i x less ∙ ap (λ y. y ∷ drop (i + 1) all) (sym is)
 
-pub noted_one : (t n : ℕ) (old all all' : List Active) (i : ℕ) (x y : Active) → i < length old → length all ≡ length old → IsNotedTo t n old all i → x ≡ get_or all i x → all' ≡ set all i y → listed y ≡ with_place t n (listed x) → IsNotedTo t n old all' (i + 1)
-noted_one t n old all all' i x y less long h is changed new =
-    let less' : i < length all = omega arith in
-    let parts = cons_parts (get_or all i x) (get_or old i x) (drop (i + 1) all) (drop (i + 1) old)
-    ((rw (← add-one) at (sym (drop-cons all i x less'))) ∙ h.rest ∙ (rw (← add-one) at (drop-cons old i x less))) in
-    let first : map listed (take (i + 1) all') ≡ map listed (take i all) ++ listed y ∷ [] =
-    ap (λ l. map listed (take (i + 1) l)) changed ∙ ap (map listed) (take_more_set all i y less') ∙ map-append listed (take i all) (y ∷ []) in
-    let second : map (with_place t n) (map listed (take (i + 1) old)) ≡ map (with_place t n) (map listed (take i old)) ++ with_place t n (listed (get_or old i x)) ∷ [] =
-    ap (λ l. map (with_place t n) (map listed l)) (rw (← add-one) at (take-suc old i x less))
-    ∙ ap (map (with_place t n)) (map-append listed (take i old) (get_or old i x ∷ []))
-    ∙ map-append (with_place t n) (map listed (take i old)) (listed (get_or old i x) ∷ []) in
-    let same : listed y ≡ with_place t n (listed (get_or old i x)) = new ∙ ap (λ (a : Active). with_place t n (listed a)) (is ∙ parts.0) in
-    record {
-      done = first ∙ (λ j. h.done j ++ same j ∷ []) ∙ sym second;
-      rest = ap (drop (i + 1)) changed ∙ drop-set-lt (i + 1) all i y (omega arith) ∙ parts.1;
-    }
-
--- the element that the loop is at
-pub noted_here : (t n : ℕ) (x x' : Active) (number : ℕ) (places : Vec ℕ Global) → x ≡ x' → number ≡ x'.number → x'.number ≡ t → places.items ≡ x'.places.items ++ n ∷ [] → (number, places.items) ≡ with_place t n (listed x)
-noted_here t n x x' number places is same found pushed =
-    let here : cond (t == x.number) (x.places.items ++ n ∷ []) x.places.items ≡ x.places.items ++ n ∷ [] =
-    cond-true (t == x.number) (x.places.items ++ n ∷ []) x.places.items (eq-eqb t x.number (sym found ∙ ap (λ (a : Active). a.number) (sym is))) in
-    let items : places.items ≡ x.places.items ++ n ∷ [] = pushed ∙ ap (λ (a : Active). a.places.items ++ n ∷ []) (sym is) in
-    let name : number ≡ x.number = same ∙ ap (λ (a : Active). a.number) (sym is) in
-    λ i. (name i, (items ∙ sym here) i)
-
-pub other_here : (t n : ℕ) (x x' : Active) → x ≡ x' → (x'.number ≡ t → ⊥) → listed x' ≡ with_place t n (listed x)
-other_here t n x x' is other =
-    let there : cond (t == x.number) (x.places.items ++ n ∷ []) x.places.items ≡ x.places.items =
-    cond-false (t == x.number) (x.places.items ++ n ∷ []) x.places.items (ne_eqb t x.number (λ e. other (sym (e ∙ ap (λ (a : Active). a.number) is)))) in
-    let name = ap (λ (a : Active). a.number) (sym is) in
-    λ i. (name i, (ap (λ (a : Active). a.places.items) (sym is) ∙ sym there) i)
+-- the transaction is found
+pub kept_here : (t : ℕ) (p : Placed) (old all all' : List Active) (i : ℕ) (x y : Active) → i < length old → IsKeptTo t p old all i → x ≡ get_or all i x → x.number ≡ t → all' ≡ set all i y → listed y ≡ (x.number, map placed_of x.own.items ++ p ∷ []) → map listed all' ≡ with_own t p (map listed old)
+kept_here t p old all all' i x y less h is found changed new =
+    let is' : x ≡ get_or old i x = is ∙ ap (λ l. get_or l i x) h.same in
+    let changed' : all' ≡ set old i y = changed ∙ ap (λ l. set l i y) h.same in
+    ap (map listed) (sym (take-append-drop (i + 1) all') ∙ (λ j. (ap (take (i + 1)) changed' ∙ take_more_set old i y less) j ++ (ap (drop (i + 1)) changed' ∙ drop-set-lt (i + 1) old i y (omega arith)) j) ∙ append_assoc (take i old) (y ∷ []) (drop (i + 1) old))
+    ∙ map-append listed (take i old) (y ∷ drop (i + 1) old)
+    ∙ ap (λ z. map listed (take i old) ++ z ∷ map listed (drop (i + 1) old)) new
+    ∙ sym (h.others
+    ∙ ap (λ l. map listed (take i old) ++ with_own t p (map listed l)) (split_here old i x less is')
+    ∙ ap (λ l. map listed (take i old) ++ l) (cond-true (t == x.number) _ _ (eq-eqb t x.number (sym found))))
 
 -- the list without a transaction
 pub list_kept : (t : ℕ) (all : List Active) → map listed (filter (λ (x : Active). not (x.number == t)) all) ≡ filter (λ (x : Listed). not (x.0 == t)) (map listed all)

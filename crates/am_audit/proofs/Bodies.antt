@@ -1,6 +1,6 @@
--- The places of a transaction's operations.
-use Rattle.std.proofs.Common.{◌≡◌, ℕ, ◌+◌, List, [], ◌∷◌, ◌++◌, length, map, Bool, true, false, cond, refl, sym, ap, ◌∙◌, subst, ⊎_elim, Option, Some, None, arith, append_assoc, length-append}
-use Rattle.std.specs.Prelude.{◌==◌, slice_get, IfSome, IfNone}
+-- The operations of a transaction, with their places.
+use Rattle.std.proofs.Common.{◌≡◌, ℕ, ◌+◌, List, [], ◌∷◌, ◌++◌, length, map, Bool, true, false, cond, refl, sym, ap, ◌∙◌, subst, ⊎_elim, Option, Some, None, arith}
+use Rattle.std.specs.Prelude.{◌==◌, IfSome, IfNone}
 use Rattle.std.specs.List.{cons_option, AllByRecursion}
 use Rattle.std.specs.Option.{option_map}
 use Rattle.std.proofs.lemmas.Bool.{cond_both, false≢true, both_ways, or_cases, eqb-true}
@@ -12,11 +12,11 @@ use Rattle.am_record.specs.declared.step.Step.TheVariants.{Begin, Do, Commit, Ab
 use Rattle.am_record.specs.declared.step.Reply.{Reply}
 use Rattle.am_record.specs.declared.step.Reply.TheVariants.{Begun, Committed, Aborted, Refused}
 use Rattle.am_serial.specs.Trace.{Trace, Event, Answered, Answers, answered_to, effect, effect_of_do, effects, body, ops_of, replies_of, IsAnsweredAlone}
-use Rattle.am_serial.specs.Machine.{State, Transaction, start, after_run, is_open, body_in}
+use Rattle.am_serial.specs.Machine.{State, Transaction, is_open, body_in}
 use Rattle.am_audit.specs.declared.active.Active.{Active}
 use Rattle.am_audit.specs.declared.pass.Pass.{Pass}
 use Rattle.am_audit.specs.Faults.{IsFirstWrongAnswer}
-use Rattle.am_audit.specs.Standing.{Placed, placed_from, placed, places_of, answered_of, Listed, listed, is_listed, places_in, Bodies, list_of, Stands, IsPlacedIn, IsFirstWrong, answered_in, own_at, IsFront}
+use Rattle.am_audit.specs.Standing.{Placed, placed_from, placed, answered_of, Listed, listed, is_listed, own_in, Bodies, list_of, Moment, Stands, IsFirstWrong}
 use Rattle.am_audit.proofs.Takings.{is_active}
 
 -- ---- what is listed of an active transaction
@@ -28,32 +28,32 @@ body_is bodies (x ∷ txs) a t on =
     (λ e. a.0 ∙ ap (λ u. answered_of (bodies u)) (sym (eqb-true t x.0 e)))
     (λ e. body_is bodies txs a.1 t (⊎_elim (λ here. absurd (both_ways (t == x.0) e here)) (λ later. later) (or_cases (t == x.0) (is_open txs t) on)))
 
-places_are : (bodies : Bodies) (txs : List Transaction) (t : ℕ) → is_open txs t ≡ true → places_in (map (list_of bodies) txs) t ≡ places_of (bodies t)
-places_are bodies [] t on = absurd (false≢true on)
-places_are bodies (x ∷ txs) t on =
-    cond_both (t == x.0) (places_of (bodies x.0)) (places_in (map (list_of bodies) txs) t) (λ ps. ps ≡ places_of (bodies t))
-    (λ e. ap (λ u. places_of (bodies u)) (sym (eqb-true t x.0 e)))
-    (λ e. places_are bodies txs t (⊎_elim (λ here. absurd (both_ways (t == x.0) e here)) (λ later. later) (or_cases (t == x.0) (is_open txs t) on)))
+pub own_are : (bodies : Bodies) (txs : List Transaction) (t : ℕ) → is_open txs t ≡ true → own_in (map (list_of bodies) txs) t ≡ bodies t
+own_are bodies [] t on = absurd (false≢true on)
+own_are bodies (x ∷ txs) t on =
+    cond_both (t == x.0) (bodies x.0) (own_in (map (list_of bodies) txs) t) (λ ps. ps ≡ bodies t)
+    (λ e. ap bodies (sym (eqb-true t x.0 e)))
+    (λ e. own_are bodies txs t (⊎_elim (λ here. absurd (both_ways (t == x.0) e here)) (λ later. later) (or_cases (t == x.0) (is_open txs t) on)))
 
-module _ (p : Pass) (seen : Trace) (h : Stands p seen) (all : List Active) (is : all ≡ p.active.items) (t : ℕ) where
+module _ (p : Pass) (here : Moment) (h : Stands p here) (all : List Active) (is : all ≡ p.active.items) (t : ℕ) where
   abbrev s : State
-  s = after_run start seen
+  s = here.state
 
   pub listed_open : is_listed (map listed all) t ≡ is_open s.active t
-  listed_open = ap (λ (xs : List Active). is_listed (map listed xs) t) is ∙ is_active p seen h t
+  listed_open = ap (λ (xs : List Active). is_listed (map listed xs) t) is ∙ is_active p here h t
 
-  pub places_placed : is_open s.active t ≡ true → places_in (map listed all) t ≡ places_of (placed seen t)
-  places_placed on = ap (λ (xs : List Active). places_in (map listed xs) t) is ∙ ap (λ (xs : List Listed). places_in xs t) h.active ∙ places_are (placed seen) s.active t on
+  pub own_placed : is_open s.active t ≡ true → own_in (map listed all) t ≡ here.bodies t
+  own_placed on = ap (λ (xs : List Active). own_in (map listed xs) t) is ∙ ap (λ (xs : List Listed). own_in xs t) h.active ∙ own_are here.bodies s.active t on
 
-  pub body_placed : is_open s.active t ≡ true → body_in s.active t ≡ answered_of (placed seen t)
-  body_placed on = body_is (placed seen) s.active h.ordinary.made t on
+  pub body_placed : is_open s.active t ≡ true → body_in s.active t ≡ answered_of (here.bodies t)
+  body_placed on = body_is here.bodies s.active h.ordinary.made t on
 
-  pub counted : (o : Option ℕ) → IfSome o (λ n. (is_listed (map listed all) t ≡ true) × (n ≡ length (places_in (map listed all) t))) → IfSome o (λ n. (is_open s.active t ≡ true) × (n ≡ length (body_in s.active t)))
+  pub counted : (o : Option ℕ) → IfSome o (λ n. (is_listed (map listed all) t ≡ true) × (n ≡ length (own_in (map listed all) t))) → IfSome o (λ n. (is_open s.active t ≡ true) × (n ≡ length (body_in s.active t)))
   counted None f = tt
   counted (Some n) f =
       let on : is_open s.active t ≡ true = sym listed_open ∙ f.0 in (
         on,
-        f.1 ∙ ap length (places_placed on) ∙ length-map (placed seen t) (λ (q : Placed). q.0) ∙ sym (ap length (body_placed on) ∙ length-map (placed seen t) (λ (q : Placed). q.1)),
+        f.1 ∙ ap length (own_placed on) ∙ sym (ap length (body_placed on) ∙ length-map (here.bodies t) (λ (q : Placed). q.1)),
       )
 
   pub not_counted : (o : Option ℕ) → IfNone o (is_listed (map listed all) t ≡ false) → IfNone o (is_open s.active t ≡ false)
@@ -185,36 +185,3 @@ first_wrong seen t m d place is w =
 
     wrong_part : (x : IsFirstWrong (placed seen t) d place) → x.reply ≡ answer x.op (left_on (ops_of (answered_of x.earlier)) (fresh m)) → ⊥
     wrong_part x e = x.wrong (e ∙ ap (λ y. answer x.op (left_on (ops_of (answered_of x.earlier)) y)) (sym is))
-
--- ---- the operations are read where they stand
-
-get_here : (front : Trace) (e : Event) (rest : Trace) → slice_get (front ++ e ∷ rest) (length front) ≡ Some e
-get_here [] e rest = refl
-get_here (x ∷ front) e rest = get_here front e rest
-
-all_placed : (trace front seen rest : Trace) (n t : ℕ) → trace ≡ front ++ (seen ++ rest) → n ≡ length front → AllByRecursion (IsPlacedIn trace) (placed_from n t seen)
-all_placed trace front [] rest n t is long = tt
-all_placed trace front (e ∷ seen) rest n t is long =
-    one (answered_to t (effect e.0 e.1)) refl (all_placed trace (front ++ e ∷ []) seen rest (n + 1) t (is ∙ sym (append_assoc front (e ∷ []) (seen ++ rest))) (simp length-append (omega arith)))
-  where
-    one : (o : Option Answered) → answered_to t (effect e.0 e.1) ≡ o → AllByRecursion (IsPlacedIn trace) (placed_from (n + 1) t seen) → AllByRecursion (IsPlacedIn trace) (cons_option (option_map (λ (a : Answered). (n, a)) o) (placed_from (n + 1) t seen))
-    one None none later = later
-    one (Some a) some later = (
-      record {
-        t = t;
-        there = (λ i. slice_get (is i) (long i)) ∙ get_here front e (seen ++ rest) ∙ ap (λ (x : Event). Some x) (answered_event t e.0 e.1 a some).event;
-      },
-      later,
-    )
-
-pub placed_in : (seen trace : Trace) (t : ℕ) → IsFront seen trace → AllByRecursion (IsPlacedIn trace) (placed seen t)
-placed_in seen trace t f = all_placed trace [] seen f.rest 0 t f.is refl
-
-own_is : (trace : Trace) (own : List Placed) → AllByRecursion (IsPlacedIn trace) own → own_at trace (places_of own) ≡ own
-own_is trace [] a = refl
-own_is trace (p ∷ own) a =
-    ap (λ o. cons_option (option_map (λ (b : Answered). (p.0, b)) (answered_in o)) (own_at trace (places_of own))) a.0.there
-    ∙ ap (λ l. p ∷ l) (own_is trace own a.1)
-
-pub own_placed : (seen trace : Trace) (t : ℕ) (places : List ℕ) → IsFront seen trace → places ≡ places_of (placed seen t) → own_at trace places ≡ placed seen t
-own_placed seen trace t places f is = ap (own_at trace) is ∙ own_is trace (placed seen t) (placed_in seen trace t f)

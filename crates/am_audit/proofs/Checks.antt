@@ -1,38 +1,101 @@
--- The pass over a trace, as far as it has come.
-use Rattle.std.proofs.Common.{◌≡◌, ℕ, ◌+◌, ◌<◌, [], ◌∷◌, ◌++◌, length, get_or, take, drop, sym, ap, ◌∙◌, subst, arith}
-use Rattle.std.proofs.lemmas.List.{take_more, drop_more, take-append-drop, length-take-le}
-use Rattle.am_serial.specs.Trace.{Trace, Event}
+-- Events that are judged as they come.
+use Rattle.std.proofs.Common.{◌≡◌, ℕ, ◌+◌, ◌<◌, [], ◌∷◌, ◌++◌, length, get_or, take, sym, ap, ◌∙◌, subst, arith, refl, append_assoc, length-append, Bool, true, false, Option, Some, None, ◌≤◌}
+use Rattle.std.specs.Prelude.{not}
+use Rattle.std.specs.Option.{is_some}
+use Rattle.std.proofs.lemmas.Bool.{true≢false}
+use Rattle.am_record.specs.Plain.{fresh}
+use Rattle.std.proofs.lemmas.List.{take_more}
+use Rattle.am_record.specs.declared.step.Step.{Step}
+use Rattle.am_record.specs.declared.step.Reply.{Reply}
+use Rattle.am_serial.specs.Trace.{Trace, Event, effects, committers}
 use Rattle.am_serial.specs.Formed.{IsFormed, FormedLaws}
-use Rattle.am_audit.specs.declared.flaw.Flaw.{Flaw}
-use Rattle.am_audit.specs.declared.pass.Pass.{Pass}
 use Rattle.am_serial.specs.Legal.{IsLegal}
+use Rattle.am_serial.specs.Machine.{State, start, after_run}
+use Rattle.am_audit.specs.declared.fault.Fault.{Fault}
+use Rattle.am_audit.specs.declared.fault.Fault.TheVariants.{Wrong, NoMemory}
+use Rattle.am_audit.specs.declared.flaw.Flaw.{Flaw}
+use Rattle.am_audit.specs.declared.flaw.Flaw.TheVariants.{Form, Busy, Answer, NoMemory as Starved}
+use Rattle.am_audit.specs.declared.pass.Pass.{Pass}
 use Rattle.am_audit.specs.Faults.{IsTrueFault}
-use Rattle.am_audit.specs.Standing.{Stands, Takes, IsFlaw, IsFront, fault_of}
+use Rattle.am_audit.specs.declared.checking.Audit.{Audit}
+use Rattle.am_audit.specs.Judged.{IsSoFar, HasJudged}
+use Rattle.am_audit.specs.Standing.{placed, moment_of, Stands, Takes, IsFlaw, fault_of, told_place}
+use Rattle.am_audit.proofs.Bodies.{first_wrong}
+use Rattle.am_audit.proofs.OwnMoments.{own_moment, stands_own, takes_there, flaw_there}
+use Rattle.am_audit.proofs.Standings.{stands_on}
 use Rattle.am_audit.proofs.Lifts.{goes_on, is_first}
 
-pub record IsCheckedTo (p : Pass) (trace : Trace) (i : ℕ) : Type 0 where
-  pub stands : Stands p (take i trace)
-  pub legal : IsLegal (take i trace)
+-- a fault is one of what goes on behind it too
+pub still_faulty : (seen more : Trace) (fault : Fault) → IsTrueFault seen fault → IsTrueFault (seen ++ more) fault
+still_faulty seen more (Wrong line kind) f = record {
+  earlier = f.earlier;
+  event = f.event;
+  later = f.later ++ more;
+  split = ap (λ l. l ++ more) f.split ∙ append_assoc f.earlier (f.event ∷ f.later) more;
+  legal = f.legal;
+  fault = f.fault;
+}
+still_faulty seen more NoMemory f = tt
 
-module _ (trace : Trace) (i : ℕ) (e : Event) (less : i < length trace) (is : e ≡ get_or trace i e) where
-  pub front : IsFront (take i trace) trace
-  front = record { rest = drop i trace; is = sym (take-append-drop i trace) }
+module _ (laws : (trace : Trace) → IsFormed trace → FormedLaws trace) (seen : Trace) (p : Pass) (fault : Option Fault) where
+  right_so_far : fault ≡ None → IsSoFar fault p seen → IsSoFar None p seen
+  right_so_far none h = subst (λ f. IsSoFar f p seen) none h
 
-  pub place_is : i ≡ length (take i trace)
-  place_is = sym (length-take-le i trace (omega arith))
+  flaw_here : (n : ℕ) (step : Step) (reply : Reply) (flaw : Flaw) → fault ≡ None → IsSoFar fault p seen → IsFlaw (own_moment p n) step reply flaw → IsFlaw (moment_of seen) step reply flaw
+  flaw_here n step reply Form none h w = flaw_there p (placed seen) (after_run start seen) (right_so_far none h).0 n step reply Form w
+  flaw_here n step reply Busy none h w = flaw_there p (placed seen) (after_run start seen) (right_so_far none h).0 n step reply Busy w
+  flaw_here n step reply (Answer place) none h w =
+      let there = flaw_there p (placed seen) (after_run start seen) (right_so_far none h).0 n step reply (Answer place) w in
+      record { t = there.t; formed = there.formed; commit = there.commit; answer = there.answer }
+  flaw_here n step reply Starved none h w = tt
 
-  taken : take i trace ++ e ∷ [] ≡ take (i + 1) trace
-  taken = ap (λ x. take i trace ++ x ∷ []) is ∙ sym (take_more trace i e less)
+  pub stands_here : (n : ℕ) → fault ≡ None → IsSoFar fault p seen → Stands p (own_moment p n)
+  stands_here n none h = stands_own p (placed seen) (after_run start seen) (right_so_far none h).0 n
 
-  split : trace ≡ take i trace ++ e ∷ drop (i + 1) trace
-  split = sym (take-append-drop i trace) ∙ ap (λ l. take i trace ++ l) (drop_more trace i e less ∙ ap (λ x. x ∷ drop (i + 1) trace) (sym is))
+  pub goes_wrong : (n : ℕ) (step : Step) (reply : Reply) (q : Pass) (flaw : Flaw) → fault ≡ None → IsSoFar fault p seen → n ≡ length seen → IsFlaw (own_moment p n) step reply flaw → IsSoFar (Some (fault_of n flaw)) q (seen ++ (step, reply) ∷ [])
+  goes_wrong n step reply q flaw none h at w = is_first laws seen (right_so_far none h).1 (seen ++ (step, reply) ∷ []) step reply [] refl n at flaw (flaw_here n step reply flaw none h w)
 
-  module _ (laws : (trace : Trace) → IsFormed trace → FormedLaws trace) (p : Pass) (h : IsCheckedTo p trace i) where
-    pub one_more : (p' : Pass) → Takes (take i trace) e.0 e.1 p' → IsCheckedTo p' trace (i + 1)
-    one_more p' t = record {
-      stands = subst (Stands p') taken t.stands;
-      legal = subst IsLegal taken (goes_on laws (take i trace) h.legal e.0 e.1 t.right);
-    }
+  -- the line that is told is one that was read
+  pub is_told : (n : ℕ) (step : Step) (reply : Reply) (flaw : Flaw) → fault ≡ None → IsSoFar fault p seen → n ≡ length seen → IsFlaw (own_moment p n) step reply flaw → told_place n flaw ≤ length seen
+  is_told n step reply Form none h at w = omega arith
+  is_told n step reply Busy none h at w = omega arith
+  is_told n step reply (Answer place) none h at w =
+      let there = flaw_here n step reply (Answer place) none h w in
+      let found = first_wrong seen there.t (after_run start seen).committed (fresh (after_run start seen).committed) place refl there.answer in
+      let long = ap length found.split ∙ length-append found.earlier _ in
+      let line = found.place in
+      omega arith
+  is_told n step reply Starved none h at w = omega arith
 
-    pub first_fault : (flaw : Flaw) → IsFlaw (take i trace) e.0 e.1 flaw → IsTrueFault trace (fault_of i flaw)
-    first_fault flaw w = is_first laws (take i trace) h.legal trace e.0 e.1 (drop (i + 1) trace) split i place_is flaw w
+  pub goes_right : (n : ℕ) (step : Step) (reply : Reply) (q : Pass) → fault ≡ None → IsSoFar fault p seen → n ≡ length seen → Takes (own_moment p n) step reply q → IsSoFar fault q (seen ++ (step, reply) ∷ [])
+  goes_right n step reply q none h at k =
+      let right = right_so_far none h in
+      let k' : Takes (moment_of seen) step reply q = takes_there p (placed seen) (after_run start seen) right.0 (length seen) step reply q (subst (λ m. Takes (own_moment p m) step reply q) at k) in
+      subst (λ f. IsSoFar f q (seen ++ (step, reply) ∷ [])) (sym none) (stands_on q seen step reply k'.stands, goes_on laws seen right.1 step reply k'.right)
+
+  pub is_legal : fault ≡ None → IsSoFar fault p seen → IsLegal seen × (p.commits ≡ length (committers (effects seen)))
+  is_legal none h =
+      let right : IsSoFar None p seen = subst (λ f. IsSoFar f p seen) none h in
+      (right.1, right.0.commits ∙ ap (λ (s : State). s.commits) (sym (laws seen right.1.formed).state))
+
+pub none_there : {A : Type 0} (o : Option A) (b : Bool) → is_some o ≡ not b → b ≡ true → o ≡ None
+none_there None b e f = refl
+none_there (Some x) b e f = absurd (true≢false (e ∙ ap not f))
+
+pub some_there : {A : Type 0} (o : Option A) (b : Bool) → is_some o ≡ not b → b ≡ false → o ≡ None → ⊥
+some_there o b e f none = true≢false (sym (ap not f) ∙ sym e ∙ ap is_some none)
+
+-- one more event is counted
+pub one_more : (a b : Audit) (seen : Trace) (step : Step) (reply : Reply) → HasJudged a seen → b.seen ≡ a.seen → IsSoFar b.fault b.pass (seen ++ (step, reply) ∷ []) → HasJudged (record { pass = b.pass; seen = b.seen + 1; fault = b.fault }) (seen ++ (step, reply) ∷ [])
+one_more a b seen step reply h same so_far = record {
+  count = ap (λ n. n + 1) (same ∙ h.count) ∙ sym (length-append seen ((step, reply) ∷ []));
+  so_far = so_far;
+}
+
+-- events behind a fault change nothing
+pub stays_wrong : (seen more : Trace) (p q : Pass) (fault : Option Fault) → (fault ≡ None → ⊥) → IsSoFar fault p seen → IsSoFar fault q (seen ++ more)
+stays_wrong seen more p q None some h = absurd (some refl)
+stays_wrong seen more p q (Some fault) some h = still_faulty seen more fault h
+
+pub taken : (trace : Trace) (i : ℕ) (e : Event) → i < length trace → e ≡ get_or trace i e → take i trace ++ e ∷ [] ≡ take (i + 1) trace
+taken trace i e less is = ap (λ x. take i trace ++ x ∷ []) is ∙ sym (take_more trace i e less)

@@ -11,5 +11,6 @@ pub mod Bodies
 pub mod Performs
 pub mod Moments
 pub mod Lifts
+pub mod OwnMoments
 pub mod Checks
 pub mod Faulty

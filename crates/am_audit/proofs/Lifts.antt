@@ -1,6 +1,6 @@
 -- What is right or wrong by the machine's state is so of the trace.
 use Rattle.std.proofs.Common.{◌≡◌, ℕ, ◌+◌, List, [], ◌∷◌, ◌++◌, length, true, refl, sym, ap, ◌∙◌, subst}
-use Rattle.am_record.specs.Plain.{PlainMap}
+use Rattle.am_record.specs.Plain.{PlainMap, fresh}
 use Rattle.am_record.specs.declared.step.Step.{Step}
 use Rattle.am_record.specs.declared.step.Step.TheVariants.{Begin, Do, Commit, Abort, Merge, Clean}
 use Rattle.am_record.specs.declared.step.Reply.{Reply}
@@ -13,7 +13,8 @@ use Rattle.am_audit.specs.declared.flaw.Flaw.{Flaw}
 use Rattle.am_audit.specs.declared.flaw.Flaw.TheVariants.{Form, Busy, Answer, NoMemory}
 use Rattle.am_serial.specs.Legal.{IsLegal}
 use Rattle.am_audit.specs.Faults.{EarlyRightAt, IsMisformed, IsWronglyBusy, IsFirstWrongAnswer, CommitsWrongly, IsTrueFault}
-use Rattle.am_audit.specs.Standing.{FormedIn, EarlyIn, BusyIn, NextIn, IsRightIn, IsMisformedIn, IsWronglyBusyIn, CommitsWronglyIn, IsFlaw, fault_of}
+use Rattle.am_audit.specs.Standing.{FormedIn, EarlyIn, BusyIn, NextIn, IsRightIn, IsMisformedIn, IsWronglyBusyIn, CommitsWronglyIn, moment_of, IsFlaw, fault_of}
+use Rattle.am_audit.proofs.Bodies.{first_wrong}
 use Rattle.am_audit.proofs.Moments.{one_more_event, one_more_moment, last_moment}
 
 -- ---- the same words
@@ -138,16 +139,16 @@ module _ (laws : (trace : Trace) → IsFormed trace → FormedLaws trace) (seen 
     first = early_here step reply w.first;
   }
 
-  commits_wrongly_here : (step : Step) (reply : Reply) (place : ℕ) → CommitsWronglyIn seen s step reply place → CommitsWrongly seen step reply (place + 2)
+  commits_wrongly_here : (step : Step) (reply : Reply) (place : ℕ) → CommitsWronglyIn (moment_of seen) step reply place → CommitsWrongly seen step reply (place + 2)
   commits_wrongly_here step reply place w = record {
     t = w.t;
     formed = formed_here step reply w.formed;
     commit = w.commit;
-    answer = subst (λ (m : PlainMap). IsFirstWrongAnswer seen w.t m (place + 2)) (ap (λ (x : State). x.committed) (sym state)) w.answer;
+    answer = subst (λ (m : PlainMap). IsFirstWrongAnswer seen w.t m (place + 2)) (ap (λ (x : State). x.committed) (sym state)) (first_wrong seen w.t s.committed (fresh s.committed) place refl w.answer);
   }
 
   -- a flaw of the event that comes next is the first fault
-  pub is_first : (trace : Trace) (step : Step) (reply : Reply) (later : Trace) → trace ≡ seen ++ (step, reply) ∷ later → (place : ℕ) → place ≡ length seen → (flaw : Flaw) → IsFlaw seen step reply flaw → IsTrueFault trace (fault_of place flaw)
+  pub is_first : (trace : Trace) (step : Step) (reply : Reply) (later : Trace) → trace ≡ seen ++ (step, reply) ∷ later → (place : ℕ) → place ≡ length seen → (flaw : Flaw) → IsFlaw (moment_of seen) step reply flaw → IsTrueFault trace (fault_of place flaw)
   is_first trace step reply later is place at Form w = record { earlier = seen; event = (step, reply); later = later; split = is; legal = legal; fault = (ap (λ n. n + 2) at, misformed_here step reply w) }
   is_first trace step reply later is place at Busy w = record { earlier = seen; event = (step, reply); later = later; split = is; legal = legal; fault = (ap (λ n. n + 2) at, wrongly_busy_here step reply w) }
   is_first trace step reply later is place at (Answer n) w = record { earlier = seen; event = (step, reply); later = later; split = is; legal = legal; fault = commits_wrongly_here step reply n w }

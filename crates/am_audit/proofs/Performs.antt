@@ -1,7 +1,6 @@
 -- Operations and commits that the pass takes.
 use Rattle.std.proofs.Common.{◌≡◌, ℕ, ◌+◌, ◌≤◌, List, length, map, take, Bool, true, false, cond, refl, sym, ap, ◌∙◌, subst, Option, Some, None}
 use Rattle.std.specs.Prelude.{◌==◌, not, filter}
-use Rattle.std.specs.List.{AllByRecursion}
 use Rattle.std.proofs.lemmas.Bool.{both_ways, false≢true, not-false}
 use Rattle.am_record.specs.Plain.{Draft, fresh, answers_on, left_on}
 use Rattle.am_record.specs.Asks.{lock_of, with_asked}
@@ -13,17 +12,17 @@ use Rattle.am_record.specs.declared.step.Reply.{Reply}
 use Rattle.am_record.specs.declared.step.Reply.TheVariants.{Committed, Refused}
 use Rattle.am_locks.specs.Held.{Held}
 use Rattle.am_locks.specs.Table.{is_owner, locks_of, with_locks, without as released}
-use Rattle.am_serial.specs.Trace.{Trace, Answered, Answers, Commits, Nothing, effect, runs_made, ops_of, replies_of, IsAnsweredAlone}
-use Rattle.am_serial.specs.Machine.{State, start, after_run, is_open, body_in, locks_in, view, due_early, May}
+use Rattle.am_serial.specs.Trace.{Answered, Answers, Commits, Nothing, effect, runs_made, ops_of, replies_of, IsAnsweredAlone}
+use Rattle.am_serial.specs.Machine.{State, is_open, body_in, locks_in, view, due_early, May}
 use Rattle.am_audit.specs.declared.flaw.Flaw.{Flaw}
 use Rattle.am_audit.specs.declared.flaw.Flaw.TheVariants.{Form, Busy, Answer, NoMemory}
 use Rattle.am_audit.specs.declared.active.Active.{Active}
 use Rattle.am_audit.specs.declared.pass.Pass.{Pass}
-use Rattle.am_audit.specs.Standing.{Placed, placed, places_of, answered_of, Listed, listed, is_listed, places_in, with_place, held_of, Stands, NextIn, IsRightOf, Takes, IsFlaw, AreAnsweredOn, left_by_all, IsPlacedIn, IsFirstWrong, IsReplayFlaw, refused_of, own_at, IsFront}
+use Rattle.am_audit.specs.Standing.{Placed, answered_of, Listed, listed, is_listed, own_in, with_own, held_of, Moment, Stands, NextIn, IsRightOf, Takes, IsFlaw, AreAnsweredOn, left_by_all, IsFirstWrong, IsReplayFlaw, refused_of}
 use Rattle.am_audit.proofs.Tables.{still_owner, held_before, given_back}
 use Rattle.am_audit.proofs.Standings.{stands_behind, no_answer, answers, commits}
 use Rattle.am_audit.proofs.Takings.{takes_still, is_owned}
-use Rattle.am_audit.proofs.Bodies.{body_placed, places_placed, listed_open, first_wrong, own_placed, placed_in}
+use Rattle.am_audit.proofs.Bodies.{body_placed, own_placed, listed_open}
 
 -- ---- operations
 
@@ -43,8 +42,8 @@ answer_effect t op (Refused why) h = absurd (false≢true (sym h))
 answer_effect t op _ h = refl
 
 -- the same but for the locks, which are the same too
-restored : (p p' : Pass) (seen : Trace) → Stands p seen → p'.begun ≡ p.begun → p'.commits ≡ p.commits → p'.runs ≡ p.runs → map listed p'.active.items ≡ map listed p.active.items → p'.locks ≡ p.locks → p'.committed ≡ p.committed → Stands p' seen
-restored p p' seen h b c r a l m = record {
+restored : (p p' : Pass) (here : Moment) → Stands p here → p'.begun ≡ p.begun → p'.commits ≡ p.commits → p'.runs ≡ p.runs → map listed p'.active.items ≡ map listed p.active.items → p'.locks ≡ p.locks → p'.committed ≡ p.committed → Stands p' here
+restored p p' here h b c r a l m = record {
   begun = b ∙ h.begun;
   commits = c ∙ h.commits;
   runs = r ∙ h.runs;
@@ -54,16 +53,16 @@ restored p p' seen h b c r a l m = record {
   ordinary = h.ordinary;
 }
 
-pub takes_refused : (p p' : Pass) (seen : Trace) (t : ℕ) (op : Op) (reply : Reply) → Stands p seen → refused_of reply ≡ true → IsRightOf (after_run start seen) (Do t op) reply →
-    p'.begun ≡ p.begun → p'.commits ≡ p.commits → p'.runs ≡ p.runs → map listed p'.active.items ≡ map listed p.active.items → p'.locks ≡ p.locks → p'.committed ≡ p.committed → Takes seen (Do t op) reply p'
-takes_refused p p' seen t op reply h refused right b c r a l m = takes_still p' seen (Do t op) reply (refusal_nothing t op reply refused) right (restored p p' seen h b c r a l m)
+pub takes_refused : (p p' : Pass) (here : Moment) (t : ℕ) (op : Op) (reply : Reply) → Stands p here → refused_of reply ≡ true → IsRightOf here.state (Do t op) reply →
+    p'.begun ≡ p.begun → p'.commits ≡ p.commits → p'.runs ≡ p.runs → map listed p'.active.items ≡ map listed p.active.items → p'.locks ≡ p.locks → p'.committed ≡ p.committed → Takes here (Do t op) reply p'
+takes_refused p p' here t op reply h refused right b c r a l m = takes_still p' here (Do t op) reply (refusal_nothing t op reply refused) right (restored p p' here h b c r a l m)
 
-module _ (p : Pass) (seen : Trace) (h : Stands p seen) (t : ℕ) (op : Op) (none : due_early (after_run start seen) t op ≡ None) where
+module _ (p : Pass) (here : Moment) (h : Stands p here) (t : ℕ) (op : Op) (none : due_early here.state t op ≡ None) where
   abbrev s : State
-  s = after_run start seen
+  s = here.state
 
   pub owner_here : is_owner p.locks t ≡ true
-  owner_here = is_owned p seen h t ∙ open_of_none s t op none
+  owner_here = is_owned p here h t ∙ open_of_none s t op none
 
   module _ (asked : Option Lock) (granted : List Held) (is : granted ≡ with_locks p.locks t (with_asked (locks_in s.active t) asked)) where
     is' : granted ≡ with_locks (map held_of s.active) t (with_asked (locks_in s.active t) asked)
@@ -82,13 +81,13 @@ module _ (p : Pass) (seen : Trace) (h : Stands p seen) (t : ℕ) (op : Op) (none
       pub locks_back : with_locks granted t (take n (locks_of granted t)) ≡ p.locks
       locks_back = given_back s.active t asked h.ordinary.rising (open_of_none s t op none) granted is' n count' ∙ sym h.locks
 
-  pub takes_answer : (p' : Pass) (reply : Reply) (n : ℕ) (asked : Option Lock) → n ≡ length seen → asked ≡ lock_of op → refused_of reply ≡ false → IsRightOf s (Do t op) reply → p'.begun ≡ p.begun → p'.commits ≡ p.commits → p'.runs ≡ p.runs + runs_made op reply → map listed p'.active.items ≡ map (with_place t n) (map listed p.active.items) → p'.locks ≡ with_locks p.locks t (with_asked (locks_in s.active t) asked) → p'.committed ≡ p.committed → Takes seen (Do t op) reply p'
+  pub takes_answer : (p' : Pass) (reply : Reply) (n : ℕ) (asked : Option Lock) → n ≡ here.count → asked ≡ lock_of op → refused_of reply ≡ false → IsRightOf s (Do t op) reply → p'.begun ≡ p.begun → p'.commits ≡ p.commits → p'.runs ≡ p.runs + runs_made op reply → map listed p'.active.items ≡ with_own t (n, (op, reply)) (map listed p.active.items) → p'.locks ≡ with_locks p.locks t (with_asked (locks_in s.active t) asked) → p'.committed ≡ p.committed → Takes here (Do t op) reply p'
   takes_answer p' reply n asked place lock answered right b c r a l m =
       let is = answer_effect t op reply answered in
       record {
         right = record { said = right; next = subst (NextIn s) (sym is) tt };
-        stands = stands_behind p' seen (Do t op) reply (Answers t op reply) is
-            (answers p p' (placed seen) s h (length seen) t op reply (open_of_none s t op none) b c r (a ∙ ap (λ k. map (with_place t k) (map listed p.active.items)) place) (l ∙ ap (λ o. with_locks p.locks t (with_asked (locks_in s.active t) o)) lock) m);
+        stands = stands_behind p' here (Do t op) reply (Answers t op reply) is
+            (answers p p' here.bodies s h here.count t op reply (open_of_none s t op none) b c r (a ∙ ap (λ k. with_own t (k, (op, reply)) (map listed p.active.items)) place) (l ∙ ap (λ o. with_locks p.locks t (with_asked (locks_in s.active t) o)) lock) m);
       }
 
 -- ---- commits
@@ -103,59 +102,50 @@ MayCommit s t n = (is_open s.active t ≡ true) × (n ≡ s.commits + 1)
 pub may_commit_with : (s : State) (t : ℕ) (reply : Reply) (n : ℕ) → reply ≡ Committed n → May s (Commit t) reply → MayCommit s t n
 may_commit_with s t reply n is f = let P : Reply → Type 0 = λ r. May s (Commit t) r in subst P is f
 
-module _ (p : Pass) (seen : Trace) (h : Stands p seen) (t : ℕ) (reply : Reply) (n : ℕ) (is : reply ≡ Committed n) (formed : May (after_run start seen) (Commit t) reply) where
+module _ (p : Pass) (here : Moment) (h : Stands p here) (t : ℕ) (reply : Reply) (n : ℕ) (is : reply ≡ Committed n) (formed : May here.state (Commit t) reply) where
   abbrev s1 : State
-  s1 = after_run start seen
+  s1 = here.state
 
   pub on : is_open s1.active t ≡ true
   on = (may_commit_with s1 t reply n is formed).0
 
   pub owner_ends : is_owner p.locks t ≡ true
-  owner_ends = is_owned p seen h t ∙ on
+  owner_ends = is_owned p here h t ∙ on
 
   pub listed_here : (all : List Active) → all ≡ p.active.items → is_listed (map listed all) t ≡ false → ⊥
-  listed_here all same off = both_ways (is_open s1.active t) (sym (listed_open p seen h all same t) ∙ off) on
+  listed_here all same off = both_ways (is_open s1.active t) (sym (listed_open p here h all same t) ∙ off) on
 
   commits_effect : effect (Commit t) reply ≡ Commits t
   commits_effect = ap (effect (Commit t)) is
 
-  module _ (trace : Trace) (front : IsFront seen trace) (all : List Active) (same : all ≡ p.active.items) (places : List ℕ) (found : places ≡ places_in (map listed all) t) where
-    places_seen : places ≡ places_of (placed seen t)
-    places_seen = found ∙ places_placed p seen h all same t on
-
-    own_seen : own_at trace places ≡ placed seen t
-    own_seen = own_placed seen trace t places front places_seen
-
-    pub own_places : places ≡ places_of (own_at trace places)
-    own_places = places_seen ∙ ap places_of (sym own_seen)
-
-    pub own_there : AllByRecursion (IsPlacedIn trace) (own_at trace places)
-    own_there = subst (λ (own : List Placed). AllByRecursion (IsPlacedIn trace) own) (sym own_seen) (placed_in seen trace t front)
+  module _ (all : List Active) (same : all ≡ p.active.items) (own : List Placed) (found : own ≡ own_in (map listed all) t) where
+    own_seen : own ≡ here.bodies t
+    own_seen = found ∙ own_placed p here h all same t on
 
     -- the first wrong answer is a flaw of the commit
-    pub replay_flaw : (flaw : Flaw) → IsReplayFlaw (own_at trace places) p.committed flaw → IsFlaw seen (Commit t) reply flaw
+    pub replay_flaw : (flaw : Flaw) → IsReplayFlaw own p.committed flaw → IsFlaw here (Commit t) reply flaw
     replay_flaw (Answer place) w = record {
       t = t;
       formed = formed;
       commit = commits_effect;
-      answer = first_wrong seen t s1.committed p.committed place h.committed (subst (λ (own : List Placed). IsFirstWrong own p.committed place) own_seen w);
+      answer = subst (λ (own : List Placed). IsFirstWrong own (fresh s1.committed) place) own_seen (let P : Draft → Type 0 = λ d. IsFirstWrong own d place in subst P h.committed w);
     }
     replay_flaw NoMemory w = tt
     replay_flaw Form w = absurd w
     replay_flaw Busy w = absurd w
 
-    pub takes_commit : (p' : Pass) (left : Draft) → AreAnsweredOn (own_at trace places) p.committed → left ≡ left_by_all (own_at trace places) p.committed →
-        p'.begun ≡ p.begun → p'.commits ≡ n → p'.runs ≡ p.runs → map listed p'.active.items ≡ filter (λ (x : Listed). not (x.0 == t)) (map listed p.active.items) → p'.locks ≡ released p.locks t → p'.committed ≡ fresh left.map → Takes seen (Commit t) reply p'
+    pub takes_commit : (p' : Pass) (left : Draft) → AreAnsweredOn own p.committed → left ≡ left_by_all own p.committed →
+        p'.begun ≡ p.begun → p'.commits ≡ n → p'.runs ≡ p.runs → map listed p'.active.items ≡ filter (λ (x : Listed). not (x.0 == t)) (map listed p.active.items) → p'.locks ≡ released p.locks t → p'.committed ≡ fresh left.map → Takes here (Commit t) reply p'
     takes_commit p' left alone is_left b c r a l m =
-        let body = body_placed p seen h all same t on in
+        let body = body_placed p here h all same t on in
         let alone' : IsAnsweredAlone (body_in s1.active t) s1.committed =
         subst (λ (done : List Answered). IsAnsweredAlone done s1.committed) (sym body)
-        (subst (λ d. replies_of (answered_of (placed seen t)) ≡ answers_on (ops_of (answered_of (placed seen t))) d) h.committed
+        (subst (λ d. replies_of (answered_of (here.bodies t)) ≡ answers_on (ops_of (answered_of (here.bodies t))) d) h.committed
         (subst (λ (own : List Placed). AreAnsweredOn own p.committed) own_seen alone)) in
         let view_is : left ≡ view s1 t =
         is_left ∙ (λ i. left_by_all (own_seen i) (h.committed i)) ∙ ap (λ (done : List Answered). left_on (ops_of done) (fresh s1.committed)) (sym body) in
         record {
           right = record { said = record { formed = formed; busy = tt }; next = subst (NextIn s1) (sym commits_effect) alone' };
-          stands = stands_behind p' seen (Commit t) reply (Commits t) commits_effect
-              (no_answer p' seen _ (Commits t) (λ u. refl) (commits p p' (placed seen) s1 h t b (c ∙ (may_commit_with s1 t reply n is formed).1) r a l (m ∙ ap (λ (d : Draft). fresh d.map) view_is)));
+          stands = stands_behind p' here (Commit t) reply (Commits t) commits_effect
+              (no_answer p' here _ (Commits t) (λ u. refl) (commits p p' here.bodies s1 h t b (c ∙ (may_commit_with s1 t reply n is formed).1) r a l (m ∙ ap (λ (d : Draft). fresh d.map) view_is)));
         }

@@ -1,16 +1,12 @@
 -- The operations of a body, applied one after another.
-use Rattle.std.proofs.Common.{◌≡◌, ℕ, ◌+◌, ◌<◌, List, [], ◌∷◌, ◌++◌, length, get_or, take, drop, refl, sym, ap, ◌∙◌, subst, arith, zero, suc, false, Some, None}
-use Rattle.std.specs.Prelude.{slice_get, nat_lt}
-use Rattle.std.proofs.lemmas.Bool.{both_ways, lt-ltb}
-use Rattle.std.specs.List.{AllByRecursion}
+use Rattle.std.proofs.Common.{◌≡◌, ℕ, ◌+◌, ◌<◌, List, [], ◌∷◌, ◌++◌, length, map, get_or, take, drop, refl, sym, ap, ◌∙◌, subst, arith, zero, suc}
 use Rattle.std.proofs.lemmas.List.{take_more, drop_more, take-append-drop, length-map}
-use Rattle.std.proofs.lemmas.Option.{slice_get-get_or, slice_get_within}
 use Rattle.am_record.specs.Plain.{Draft, answer, after, answers_on, left_on}
 use Rattle.am_record.specs.declared.step.Op.{Op}
-use Rattle.am_record.specs.declared.step.Step.TheVariants.{Do}
 use Rattle.am_record.specs.declared.step.Reply.{Reply}
-use Rattle.am_serial.specs.Trace.{Trace, Event, ops_of, replies_of}
-use Rattle.am_audit.specs.Standing.{Placed, places_of, answered_of, IsPlacedIn, AreAnsweredOn, left_by_all, IsFirstWrong, operation_of}
+use Rattle.am_serial.specs.Trace.{ops_of, replies_of}
+use Rattle.am_audit.specs.declared.active.Kept.{Kept}
+use Rattle.am_audit.specs.Standing.{Placed, placed_of, answered_of, AreAnsweredOn, left_by_all, IsFirstWrong}
 
 -- the first of them were answered rightly, and left this
 pub record IsReplayedTo (own : List Placed) (d now : Draft) (i : ℕ) : Type 0 where
@@ -66,46 +62,14 @@ wrong_here own d now i place op reply told h n answered differ = record {
   wrong = λ e. differ (answered ∙ ap (answer op) h.left ∙ sym e);
 }
 
--- what stands in the trace at the place that comes next
-pub record Found (trace : Trace) (own : List Placed) (i place : ℕ) : Type 0 where
-  pub t : ℕ
-  pub op : Op
-  pub reply : Reply
-  pub there : slice_get trace place ≡ Some (Do t op, reply)
-  pub next : IsNext own i place op reply
-
-found_at : (trace : Trace) (own : List Placed) (i : ℕ) → AllByRecursion (IsPlacedIn trace) own → i < length own → Found trace own i (get_or (places_of own) i 0)
-found_at trace [] i a less = absurd (omega arith)
-found_at trace (p ∷ own) zero a less = record { t = a.0.t; op = p.1.0; reply = p.1.1; there = a.0.there; next = record { less = omega arith; is = refl } }
-found_at trace (p ∷ own) (suc i) a less =
-    let f = found_at trace own i a.1 (omega arith) in
-    record { t = f.t; op = f.op; reply = f.reply; there = f.there; next = record { less = less; is = f.next.is } }
-
-pub found : (trace : Trace) (own : List Placed) (places : List ℕ) (i : ℕ) → places ≡ places_of own → AllByRecursion (IsPlacedIn trace) own → i < length places → Found trace own i (get_or places i 0)
-found trace own places i is a less =
-    subst (λ (ps : List ℕ). Found trace own i (get_or ps i 0)) (sym is)
-    (found_at trace own i a (let long = ap length is in let same : length (places_of own) ≡ length own = length-map own (λ (p : Placed). p.0) in omega arith))
-
-some_parts : (a b : Event) → Some a ≡ Some b → a ≡ b
-some_parts a b e = cc
-
--- what was read there is that operation and that reply
-pub read : (trace : Trace) (own : List Placed) (i place : ℕ) (e : Event) (op : Op) → Found trace own i place → e ≡ get_or trace place e → operation_of e.0 ≡ Some op → IsNext own i place op e.1
-read trace own i place e op f is operation =
-    let there : slice_get trace place ≡ Some e = slice_get-get_or trace place e (slice_get_within trace place (Do f.t f.op, f.reply) f.there) ∙ ap (λ (x : Event). Some x) (sym is) in
-    let event = some_parts (Do f.t f.op, f.reply) e (sym f.there ∙ there) in
-    let same_op : Some f.op ≡ Some op = ap (λ (x : Event). operation_of x.0) event ∙ operation in
-    let same : f.op ≡ op = cc in
-    subst (λ o. IsNext own i place o e.1) same (subst (λ r. IsNext own i place f.op r) (ap (λ (x : Event). x.1) event) f.next)
-
-pub not_read : (trace : Trace) (own : List Placed) (i place : ℕ) (e : Event) → Found trace own i place → e ≡ get_or trace place e → operation_of e.0 ≡ None → ⊥
-not_read trace own i place e f is none =
-    let there : slice_get trace place ≡ Some e = slice_get-get_or trace place e (slice_get_within trace place (Do f.t f.op, f.reply) f.there) ∙ ap (λ (x : Event). Some x) (sym is) in
-    let event = some_parts (Do f.t f.op, f.reply) e (sym f.there ∙ there) in
-    let same_op : Some f.op ≡ None = ap (λ (x : Event). operation_of x.0) event ∙ none in
-    cc
-
-pub not_past : (trace : Trace) (own : List Placed) (i place : ℕ) → Found trace own i place → false ≡ nat_lt place (length trace) → ⊥
-not_past trace own i place f past =
-    let less = slice_get_within trace place (Do f.t f.op, f.reply) f.there in
-    both_ways (nat_lt place (length trace)) (sym past) (lt-ltb place (length trace) less)
+-- the operation that the loop is at
+pub next_is : (own : List Kept) (i : ℕ) (kept : Kept) → i < length own → kept ≡ get_or own i kept → IsNext (map placed_of own) i kept.place kept.op kept.reply
+next_is own i kept less is = record {
+  less = let long : length (map placed_of own) ≡ length own = length-map own placed_of in omega arith;
+  is = ap placed_of is ∙ get_placed own i kept;
+}
+  where
+    get_placed : (own : List Kept) (i : ℕ) (kept : Kept) → placed_of (get_or own i kept) ≡ get_or (map placed_of own) i (placed_of kept)
+    get_placed [] i kept = refl
+    get_placed (k ∷ own) zero kept = refl
+    get_placed (k ∷ own) (suc i) kept = get_placed own i kept

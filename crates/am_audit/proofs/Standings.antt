@@ -3,7 +3,7 @@ use Rattle.std.proofs.Common.{◌≡◌, ℕ, ◌+◌, ◌<◌, ◌≤◌, List,
 use Rattle.std.specs.Prelude.{◌==◌, not, filter}
 use Rattle.std.specs.List.{cons_option, AllByRecursion}
 use Rattle.std.specs.Option.{option_map}
-use Rattle.std.proofs.lemmas.Bool.{cond_both, cond-false, false≢true, or_cases, eqb-true, ne_eqb}
+use Rattle.std.proofs.lemmas.Bool.{cond_both, cond-true, cond-false, false≢true, or_cases, eqb-true, ne_eqb}
 use Rattle.std.proofs.lemmas.List.{map-append, append-nil}
 use Rattle.am_record.specs.Plain.{fresh}
 use Rattle.am_record.specs.Asks.{lock_of, with_asked}
@@ -14,7 +14,7 @@ use Rattle.am_locks.specs.Table.{with_locks, entered, without as released}
 use Rattle.am_serial.specs.Trace.{Trace, Event, Answered, Effect, Begins, Answers, Commits, Aborts, Nothing, answered_to, effect, runs_made}
 use Rattle.am_serial.specs.Machine.{State, Transaction, start, after_run, is_open, locks_in, view, extended, without, next}
 use Rattle.am_audit.specs.declared.pass.Pass.{Pass}
-use Rattle.am_audit.specs.Standing.{Placed, placed_from, placed, places_of, answered_of, Listed, listed, with_place, Bodies, list_of, held_of, Rise, StandsAt, Stands}
+use Rattle.am_audit.specs.Standing.{Placed, placed_from, placed, answered_of, Listed, listed, with_own, Bodies, list_of, held_of, Rise, StandsAt, added, Moment, moment_of, behind, Stands}
 use Rattle.am_audit.proofs.Tables.{relocked_done, entered_is, released_is}
 
 -- ---- one more event
@@ -22,10 +22,6 @@ use Rattle.am_audit.proofs.Tables.{relocked_done, entered_is, released_is}
 pub after_run-push : (trace : Trace) (s : State) (e : Event) → after_run s (trace ++ e ∷ []) ≡ next (after_run s trace) (effect e.0 e.1)
 after_run-push [] s e = refl
 after_run-push (x ∷ trace) s e = after_run-push trace (next s (effect x.0 x.1)) e
-
--- what the effect adds to a transaction's body, at that place
-abbrev pub added : ℕ → ℕ → Effect → List Placed
-added n t e = cons_option (option_map (λ (a : Answered). (n, a)) (answered_to t e)) []
 
 cons_after : (o : Option Placed) (xs ys : List Placed) → cons_option o (xs ++ ys) ≡ cons_option o xs ++ ys
 cons_after None xs ys = refl
@@ -43,11 +39,12 @@ pub placed-push : (trace : Trace) (e : Event) (t : ℕ) → placed (trace ++ e �
 placed-push trace e t = placed_from-push trace 0 t e ∙ ap (λ k. placed trace t ++ added k t (effect e.0 e.1)) (let same : 0 + length trace ≡ length trace = omega arith in same)
 
 -- the pass stands behind the event where it stands at what its effect makes
-pub stands_behind : (p : Pass) (seen : Trace) (step : Step) (reply : Reply) (e : Effect) → effect step reply ≡ e →
-    StandsAt p (λ t. placed seen t ++ added (length seen) t e) (next (after_run start seen) e) → Stands p (seen ++ (step, reply) ∷ [])
-stands_behind p seen step reply e is h =
-    let at : StandsAt p (λ t. placed seen t ++ added (length seen) t (effect step reply)) (next (after_run start seen) (effect step reply)) =
-    subst (λ x. StandsAt p (λ t. placed seen t ++ added (length seen) t x) (next (after_run start seen) x)) (sym is) h in
+pub stands_behind : (p : Pass) (here : Moment) (step : Step) (reply : Reply) (e : Effect) → effect step reply ≡ e → Stands p (behind here e) → Stands p (behind here (effect step reply))
+stands_behind p here step reply e is h = subst (λ x. Stands p (behind here x)) (sym is) h
+
+-- and at the trace that the event makes longer
+pub stands_on : (p : Pass) (seen : Trace) (step : Step) (reply : Reply) → Stands p (behind (moment_of seen) (effect step reply)) → Stands p (moment_of (seen ++ (step, reply) ∷ []))
+stands_on p seen step reply at =
     let bodies : (λ (t : ℕ). placed seen t ++ added (length seen) t (effect step reply)) ≡ placed (seen ++ (step, reply) ∷ []) = λ i t. sym (placed-push seen (step, reply) t) i in
     subst (λ (b : Bodies). StandsAt p b (after_run start (seen ++ (step, reply) ∷ []))) bodies
     (subst (λ s. StandsAt p (λ t. placed seen t ++ added (length seen) t (effect step reply)) s) (sym (after_run-push seen start (step, reply))) at)
@@ -58,15 +55,15 @@ unchanged bodies i t = append-nil (bodies t) i
 
 -- ---- the machine's transactions
 
-all_map : {X : Type 0} (P Q : X → Type 0) → ((x : X) → P x → Q x) → (xs : List X) → AllByRecursion P xs → AllByRecursion Q xs
+pub all_map : {X : Type 0} (P Q : X → Type 0) → ((x : X) → P x → Q x) → (xs : List X) → AllByRecursion P xs → AllByRecursion Q xs
 all_map P Q f [] a = tt
 all_map P Q f (x ∷ xs) a = (f x a.0, all_map P Q f xs a.1)
 
-all_push : {X : Type 0} (P : X → Type 0) (xs : List X) (y : X) → AllByRecursion P xs → P y → AllByRecursion P (xs ++ y ∷ [])
+pub all_push : {X : Type 0} (P : X → Type 0) (xs : List X) (y : X) → AllByRecursion P xs → P y → AllByRecursion P (xs ++ y ∷ [])
 all_push P [] y a h = (h, tt)
 all_push P (x ∷ xs) y a h = (a.0, all_push P xs y a.1 h)
 
-all_without : (P : Transaction → Type 0) (t : ℕ) (xs : List Transaction) → AllByRecursion P xs → AllByRecursion P (without t xs)
+pub all_without : (P : Transaction → Type 0) (t : ℕ) (xs : List Transaction) → AllByRecursion P xs → AllByRecursion P (without t xs)
 all_without P t [] a = tt
 all_without P t (x ∷ xs) a = cond_both (not (x.0 == t)) (x ∷ without t xs) (without t xs) (AllByRecursion P) (λ _. (a.0, all_without P t xs a.1)) (λ _. all_without P t xs a.1)
 
@@ -78,7 +75,7 @@ rise_without : (t : ℕ) (xs : List Transaction) → Rise xs → Rise (without t
 rise_without t [] r = tt
 rise_without t (x ∷ xs) r = cond_both (not (x.0 == t)) (x ∷ without t xs) (without t xs) Rise (λ _. (all_without (λ (z : Transaction). x.0 < z.0) t xs r.0, rise_without t xs r.1)) (λ _. rise_without t xs r.1)
 
-all_extended : (P Q : Transaction → Type 0) (t : ℕ) (a : Answered) → ((x : Transaction) → P x → Q (extended t a x)) → (xs : List Transaction) → AllByRecursion P xs → AllByRecursion Q (map (extended t a) xs)
+pub all_extended : (P Q : Transaction → Type 0) (t : ℕ) (a : Answered) → ((x : Transaction) → P x → Q (extended t a x)) → (xs : List Transaction) → AllByRecursion P xs → AllByRecursion Q (map (extended t a) xs)
 all_extended P Q t a f [] h = tt
 all_extended P Q t a f (x ∷ xs) h = (f x h.0, all_extended P Q t a f xs h.1)
 
@@ -106,26 +103,39 @@ list_without bodies t (x ∷ xs) =
       | false ↦ list_without bodies t xs
     ]
 
-places_push : (ps : List Placed) (n : ℕ) (a : Answered) → places_of (ps ++ (n, a) ∷ []) ≡ places_of ps ++ n ∷ []
-places_push ps n a = map-append (λ (p : Placed). p.0) ps ((n, a) ∷ [])
-
 added_answer : (n t : ℕ) (op : Op) (reply : Reply) (u : ℕ) (ps : List Placed) → ps ++ added n u (Answers t op reply) ≡ cond (t == u) (ps ++ (n, (op, reply)) ∷ []) ps
 added_answer n t op reply u ps = elim (t == u) as (λ b. ps ++ cons_option (option_map (λ (a : Answered). (n, a)) (cond b (Some (op, reply)) None)) [] ≡ cond b (ps ++ (n, (op, reply)) ∷ []) ps) [ true ↦ refl | false ↦ append-nil ps ]
 
-list_extended : (bodies : Bodies) (n t : ℕ) (op : Op) (reply : Reply) (xs : List Transaction) → map (with_place t n) (map (list_of bodies) xs) ≡ map (list_of (λ u. bodies u ++ added n u (Answers t op reply))) (map (extended t (op, reply)) xs)
-list_extended bodies n t op reply [] = refl
-list_extended bodies n t op reply (x ∷ xs) =
-    let rest = list_extended bodies n t op reply xs in
-    let places : cond (t == x.0) (places_of (bodies x.0) ++ n ∷ []) (places_of (bodies x.0)) ≡ places_of (bodies x.0 ++ added n x.0 (Answers t op reply)) =
-    elim (t == x.0) as (λ b. cond b (places_of (bodies x.0) ++ n ∷ []) (places_of (bodies x.0)) ≡ places_of (cond b (bodies x.0 ++ (n, (op, reply)) ∷ []) (bodies x.0))) [ true ↦ sym (places_push (bodies x.0) n (op, reply)) | false ↦ refl ]
-    ∙ ap places_of (sym (added_answer n t op reply x.0 (bodies x.0))) in
-    λ i. (x.0, places i) ∷ rest i
+-- transactions of higher numbers
+list_beside : (bodies : Bodies) (n t : ℕ) (op : Op) (reply : Reply) (xs : List Transaction) → AllByRecursion (λ (y : Transaction). t < y.0) xs → map (list_of (λ u. bodies u ++ added n u (Answers t op reply))) (map (extended t (op, reply)) xs) ≡ map (list_of bodies) xs
+list_beside bodies n t op reply [] a = refl
+list_beside bodies n t op reply (x ∷ xs) a =
+    let above : t < x.0 = a.0 in
+    let here = added_answer n t op reply x.0 (bodies x.0) ∙ cond-false (t == x.0) _ _ (ne_eqb t x.0 (λ e. let no : ⊥ = omega arith in no)) in
+    let rest = list_beside bodies n t op reply xs a.1 in
+    λ i. (x.0, here i) ∷ rest i
+
+list_extended : (bodies : Bodies) (n t : ℕ) (op : Op) (reply : Reply) (xs : List Transaction) → Rise xs → with_own t (n, (op, reply)) (map (list_of bodies) xs) ≡ map (list_of (λ u. bodies u ++ added n u (Answers t op reply))) (map (extended t (op, reply)) xs)
+list_extended bodies n t op reply [] r = refl
+list_extended bodies n t op reply (x ∷ xs) r =
+    let own = added_answer n t op reply x.0 (bodies x.0) in
+    cond_both (t == x.0) ((x.0, bodies x.0 ++ (n, (op, reply)) ∷ []) ∷ map (list_of bodies) xs) (list_of bodies x ∷ with_own t (n, (op, reply)) (map (list_of bodies) xs))
+    (λ l. l ≡ map (list_of (λ u. bodies u ++ added n u (Answers t op reply))) (map (extended t (op, reply)) (x ∷ xs)))
+    (λ e.
+    let later = subst (λ u. AllByRecursion (λ (y : Transaction). u < y.0) xs) (sym (eqb-true t x.0 e)) r.0 in
+    let here = sym (own ∙ cond-true (t == x.0) _ _ e) in
+    let rest = sym (list_beside bodies n t op reply xs later) in
+    λ i. (x.0, here i) ∷ rest i)
+    (λ e.
+    let here = sym (own ∙ cond-false (t == x.0) _ _ e) in
+    let rest = list_extended bodies n t op reply xs r.1 in
+    λ i. (x.0, here i) ∷ rest i)
 
 -- ---- by effect
 
-pub stands_still : (p : Pass) (seen : Trace) (step : Step) (reply : Reply) → effect step reply ≡ Nothing → Stands p seen → Stands p (seen ++ (step, reply) ∷ [])
-stands_still p seen step reply is h =
-    stands_behind p seen step reply Nothing is (subst (λ (b : Bodies). StandsAt p b (after_run start seen)) (sym (unchanged (placed seen))) h)
+pub stands_still : (p : Pass) (here : Moment) (step : Step) (reply : Reply) → effect step reply ≡ Nothing → Stands p here → Stands p (behind here (effect step reply))
+stands_still p here step reply is h =
+    stands_behind p here step reply Nothing is (subst (λ (b : Bodies). StandsAt p b here.state) (sym (unchanged here.bodies)) h)
 
 module _ (p p' : Pass) (bodies : Bodies) (s : State) (h : StandsAt p bodies s) where
   pub begins : (t : ℕ) → t ≡ s.begun + 1 → p'.begun ≡ t → p'.commits ≡ p.commits → p'.runs ≡ p.runs → map listed p'.active.items ≡ map listed p.active.items ++ (t, []) ∷ [] → p'.locks ≡ entered p.locks t → p'.committed ≡ p.committed → StandsAt p' bodies (next s (Begins t))
@@ -135,7 +145,7 @@ module _ (p p' : Pass) (bodies : Bodies) (s : State) (h : StandsAt p bodies s) w
         begun = b ∙ new;
         commits = c ∙ h.commits;
         runs = r ∙ h.runs;
-        active = a ∙ ap (λ xs. xs ++ (t, []) ∷ []) h.active ∙ ap (λ (ps : List Placed). map (list_of bodies) s.active ++ (t, places_of ps) ∷ []) (sym none) ∙ sym (map-append (list_of bodies) s.active ((t, []) ∷ []));
+        active = a ∙ ap (λ xs. xs ++ (t, []) ∷ []) h.active ∙ ap (λ (ps : List Placed). map (list_of bodies) s.active ++ (t, ps) ∷ []) (sym none) ∙ sym (map-append (list_of bodies) s.active ((t, []) ∷ []));
         locks = l ∙ ap (λ table. entered table t) h.locks ∙ entered_is s.active t;
         committed = m ∙ h.committed;
         ordinary = record {
@@ -168,14 +178,14 @@ module _ (p p' : Pass) (bodies : Bodies) (s : State) (h : StandsAt p bodies s) w
   pub commits : (t : ℕ) → p'.begun ≡ p.begun → p'.commits ≡ s.commits + 1 → p'.runs ≡ p.runs → map listed p'.active.items ≡ filter (λ (x : Listed). not (x.0 == t)) (map listed p.active.items) → p'.locks ≡ released p.locks t → p'.committed ≡ fresh (view s t).map → StandsAt p' bodies (next s (Commits t))
   commits t b c r a l m = ended t b r a l (next s (Commits t)) refl refl refl c m
 
-  pub answers : (n t : ℕ) (op : Op) (reply : Reply) → is_open s.active t ≡ true → p'.begun ≡ p.begun → p'.commits ≡ p.commits → p'.runs ≡ p.runs + runs_made op reply → map listed p'.active.items ≡ map (with_place t n) (map listed p.active.items) → p'.locks ≡ with_locks p.locks t (with_asked (locks_in s.active t) (lock_of op)) → p'.committed ≡ p.committed → StandsAt p' (λ u. bodies u ++ added n u (Answers t op reply)) (next s (Answers t op reply))
+  pub answers : (n t : ℕ) (op : Op) (reply : Reply) → is_open s.active t ≡ true → p'.begun ≡ p.begun → p'.commits ≡ p.commits → p'.runs ≡ p.runs + runs_made op reply → map listed p'.active.items ≡ with_own t (n, (op, reply)) (map listed p.active.items) → p'.locks ≡ with_locks p.locks t (with_asked (locks_in s.active t) (lock_of op)) → p'.committed ≡ p.committed → StandsAt p' (λ u. bodies u ++ added n u (Answers t op reply)) (next s (Answers t op reply))
   answers n t op reply on b c r a l m =
       let low : t ≤ s.begun = open_below s.begun t s.active h.ordinary.below on in
       record {
         begun = b ∙ h.begun;
         commits = c ∙ h.commits;
         runs = r ∙ ap (λ k. k + runs_made op reply) h.runs;
-        active = a ∙ ap (map (with_place t n)) h.active ∙ list_extended bodies n t op reply s.active;
+        active = a ∙ ap (with_own t (n, (op, reply))) h.active ∙ list_extended bodies n t op reply s.active h.ordinary.rising;
         locks = l ∙ ap (λ table. with_locks table t (with_asked (locks_in s.active t) (lock_of op))) h.locks ∙ relocked_done s.active t op reply h.ordinary.rising;
         committed = m ∙ h.committed;
         ordinary = record {
@@ -195,7 +205,7 @@ module _ (p p' : Pass) (bodies : Bodies) (s : State) (h : StandsAt p bodies s) w
           ∙ ap answered_of (sym (added_answer n t op reply x.0 (bodies x.0)))
 
 -- an effect that is no answer adds nothing to the bodies
-pub no_answer : (p : Pass) (seen : Trace) (s : State) (e : Effect) → ((t : ℕ) → answered_to t e ≡ None) → StandsAt p (placed seen) s → StandsAt p (λ t. placed seen t ++ added (length seen) t e) s
-no_answer p seen s e none h =
-    let bodies : placed seen ≡ (λ (t : ℕ). placed seen t ++ added (length seen) t e) = λ i t. (sym (append-nil (placed seen t)) ∙ ap (λ o. placed seen t ++ cons_option (option_map (λ (a : Answered). (length seen, a)) o) []) (sym (none t))) i in
+pub no_answer : (p : Pass) (here : Moment) (s : State) (e : Effect) → ((t : ℕ) → answered_to t e ≡ None) → StandsAt p here.bodies s → StandsAt p (λ t. here.bodies t ++ added here.count t e) s
+no_answer p here s e none h =
+    let bodies : here.bodies ≡ (λ (t : ℕ). here.bodies t ++ added here.count t e) = λ i t. (sym (append-nil (here.bodies t)) ∙ ap (λ o. here.bodies t ++ cons_option (option_map (λ (a : Answered). (here.count, a)) o) []) (sym (none t))) i in
     subst (λ (b : Bodies). StandsAt p b s) bodies h

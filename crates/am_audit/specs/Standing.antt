@@ -1,5 +1,5 @@
 -- Where the pass over a trace stands after the events that it has seen.
-use Rattle.std.specs.Prelude.{◌≡◌, ◌≢◌, ◌↔◌, ℕ, ◌+◌, ◌<◌, ◌≤◌, ◌==◌, map, slice_get, List, [], ◌∷◌, ◌++◌, Bool, true, false, cond, Option, Some, None}
+use Rattle.std.specs.Prelude.{◌≡◌, ◌≢◌, ◌↔◌, ℕ, ◌+◌, ◌<◌, ◌≤◌, ◌==◌, map, length, List, [], ◌∷◌, ◌++◌, Bool, true, false, cond, Option, Some, None}
 use Rattle.std.specs.List.{cons_option, list_any, AllByRecursion}
 use Rattle.std.specs.Option.{option_map}
 use Rattle.am_record.specs.Plain.{Draft, fresh, answer, answers_on, left_on}
@@ -15,11 +15,12 @@ use Rattle.am_record.specs.declared.step.Reply.TheVariants.{Refused}
 use Rattle.am_locks.specs.Held.{Held}
 use Rattle.am_locks.specs.declared.asked.Asked.{Asked}
 use Rattle.am_locks.specs.declared.asked.Asked.TheVariants.{Granted, Busy as IsBlocked, TooManyLocks, NoMemory as WantsMemory}
-use Rattle.am_serial.specs.Trace.{Trace, Event, Answered, Effect, Commits, answered_to, effect, ops_of, replies_of, IsAnsweredAlone}
-use Rattle.am_serial.specs.Machine.{State, Transaction, start, after_run, due_early, blocker, is_one_too_many, locks_in, body_in, May}
+use Rattle.am_serial.specs.Trace.{Trace, Answered, Effect, Commits, answered_to, effect, ops_of, replies_of, IsAnsweredAlone}
+use Rattle.am_serial.specs.Machine.{State, Transaction, start, after_run, next, due_early, blocker, is_one_too_many, locks_in, body_in, May}
 use Rattle.am_serial.specs.Sound.{FormedDo}
-use Rattle.am_audit.specs.Faults.{is_early, IsFirstWrongAnswer}
+use Rattle.am_audit.specs.Faults.{is_early}
 use Rattle.am_audit.specs.declared.active.Active.{Active}
+use Rattle.am_audit.specs.declared.active.Kept.{Kept}
 use Rattle.am_audit.specs.declared.fault.Kind.TheVariants.{Form as OfForm, Busy as OfBusy, Answer as OfAnswer}
 use Rattle.am_audit.specs.declared.fault.Fault.{Fault}
 use Rattle.am_audit.specs.declared.fault.Fault.TheVariants.{Wrong, NoMemory as NothingKnown}
@@ -41,32 +42,33 @@ placed_from n t (e ∷ trace) = cons_option (option_map (λ (a : Answered). (n, 
 abbrev pub placed : Trace → ℕ → List Placed
 placed trace t = placed_from 0 t trace
 
-abbrev pub places_of : List Placed → List ℕ
-places_of ps = map (λ (p : Placed). p.0) ps
-
 abbrev pub answered_of : List Placed → List Answered
 answered_of ps = map (λ (p : Placed). p.1) ps
 
 -- ---- the active transactions
 
--- a number, and places
+abbrev pub placed_of : Kept → Placed
+placed_of k = (k.place, (k.op, k.reply))
+
+-- a number, and the answered operations with their places
 abbrev pub Listed : Type 0
-Listed = ℕ × List ℕ
+Listed = ℕ × List Placed
 
 abbrev pub listed : Active → Listed
-listed x = (x.number, x.places.items)
+listed x = (x.number, map placed_of x.own.items)
 
 abbrev pub is_listed : List Listed → ℕ → Bool
 is_listed xs t = list_any (λ (x : Listed). t == x.0) xs
 
--- the places of that transaction, none where it isn't listed
-abbrev pub places_in : List Listed → ℕ → List ℕ
-places_in [] t = []
-places_in (x ∷ xs) t = cond (t == x.0) x.1 (places_in xs t)
+-- the operations of that transaction, none where it isn't listed
+abbrev pub own_in : List Listed → ℕ → List Placed
+own_in [] t = []
+own_in (x ∷ xs) t = cond (t == x.0) x.1 (own_in xs t)
 
--- one more place of the transaction
-abbrev pub with_place : ℕ → ℕ → Listed → Listed
-with_place t n x = (x.0, cond (t == x.0) (x.1 ++ n ∷ []) x.1)
+-- one more operation of the transaction
+abbrev pub with_own : ℕ → Placed → List Listed → List Listed
+with_own t p [] = []
+with_own t p (x ∷ xs) = cond (t == x.0) ((x.0, x.1 ++ p ∷ []) ∷ xs) (x ∷ with_own t p xs)
 
 -- ---- the machine at the events seen
 
@@ -75,7 +77,7 @@ abbrev pub Bodies : Type 0
 Bodies = ℕ → List Placed
 
 abbrev pub list_of : Bodies → Transaction → Listed
-list_of bodies x = (x.0, places_of (bodies x.0))
+list_of bodies x = (x.0, bodies x.0)
 
 abbrev pub held_of : Transaction → Held
 held_of x = record { owner = x.0; locks = locks_of (ops_of x.1) }
@@ -101,8 +103,25 @@ pub record StandsAt (p : Pass) (bodies : Bodies) (s : State) : Type 0 where
   pub committed : p.committed ≡ fresh s.committed
   pub ordinary : IsOrdinary bodies s
 
-abbrev pub Stands : Pass → Trace → Type 0
-Stands p seen = StandsAt p (placed seen) (after_run start seen)
+-- what an effect adds to a transaction's body, at that place
+abbrev pub added : ℕ → ℕ → Effect → List Placed
+added n t e = cons_option (option_map (λ (a : Answered). (n, a)) (answered_to t e)) []
+
+-- the machine, the bodies, and how many events were seen
+pub record Moment : Type 0 where
+  pub bodies : Bodies
+  pub state : State
+  pub count : ℕ
+
+abbrev pub moment_of : Trace → Moment
+moment_of seen = record { bodies = placed seen; state = after_run start seen; count = length seen }
+
+-- one more event
+abbrev pub behind : Moment → Effect → Moment
+behind here e = record { bodies = λ t. here.bodies t ++ added here.count t e; state = next here.state e; count = here.count + 1 }
+
+abbrev pub Stands : Pass → Moment → Type 0
+Stands p here = StandsAt p here.bodies here.state
 
 -- ---- one event, by the machine's state before it
 
@@ -132,9 +151,9 @@ pub record IsRightIn (s : State) (step : Step) (reply : Reply) : Type 0 where
   pub next : NextIn s (effect step reply)
 
 -- the event is right, and the pass stands behind it
-pub record Takes (seen : Trace) (step : Step) (reply : Reply) (p : Pass) : Type 0 where
-  pub right : IsRightIn (after_run start seen) step reply
-  pub stands : Stands p (seen ++ (step, reply) ∷ [])
+pub record Takes (here : Moment) (step : Step) (reply : Reply) (p : Pass) : Type 0 where
+  pub right : IsRightIn here.state step reply
+  pub stands : Stands p (behind here (effect step reply))
 
 -- ---- a flaw of the event that comes next
 
@@ -146,12 +165,6 @@ pub record IsWronglyBusyIn (s : State) (step : Step) (reply : Reply) : Type 0 wh
   pub busy : ¬ (BusyIn s step reply)
   pub first : EarlyIn s step reply
 
-pub record CommitsWronglyIn (seen : Trace) (s : State) (step : Step) (reply : Reply) (place : ℕ) : Type 0 where
-  pub t : ℕ
-  pub formed : FormedIn s step reply
-  pub commit : effect step reply ≡ Commits t
-  pub answer : IsFirstWrongAnswer seen t s.committed (place + 2)
-
 -- the flaw is one of the reply itself
 abbrev pub IsFlawOf : State → Step → Reply → Flaw → Type 0
 IsFlawOf s step reply Form = IsMisformedIn s step reply
@@ -159,25 +172,7 @@ IsFlawOf s step reply Busy = IsWronglyBusyIn s step reply
 IsFlawOf s step reply (Answer place) = ⊥
 IsFlawOf s step reply NoMemory = Unit {0}
 
-abbrev pub IsFlawIn : Trace → State → Step → Reply → Flaw → Type 0
-IsFlawIn seen s step reply Form = IsMisformedIn s step reply
-IsFlawIn seen s step reply Busy = IsWronglyBusyIn s step reply
-IsFlawIn seen s step reply (Answer place) = CommitsWronglyIn seen s step reply place
-IsFlawIn seen s step reply NoMemory = Unit {0}
-
-abbrev pub IsFlaw : Trace → Step → Reply → Flaw → Type 0
-IsFlaw seen step reply flaw = IsFlawIn seen (after_run start seen) step reply flaw
-
 -- ---- the operations of one body
-
--- the operation with its reply stands there in the trace
-pub record IsPlacedIn (trace : Trace) (p : Placed) : Type 0 where
-  pub t : ℕ
-  pub there : slice_get trace p.0 ≡ Some (Do t p.1.0, p.1.1)
-
-abbrev pub operation_of : Step → Option Op
-operation_of (Do t op) = Some op
-operation_of step = None
 
 -- the replies of these operations are those that they get from the draft
 abbrev pub AreAnsweredOn : List Placed → Draft → Type 0
@@ -195,6 +190,19 @@ pub record IsFirstWrong (own : List Placed) (d : Draft) (place : ℕ) : Type 0 w
   pub split : own ≡ earlier ++ (place, (op, reply)) ∷ later
   pub first : AreAnsweredOn earlier d
   pub wrong : reply ≢ answer op (left_by_all earlier d)
+
+-- a formed commit of a body with that wrong answer
+pub record CommitsWronglyIn (here : Moment) (step : Step) (reply : Reply) (place : ℕ) : Type 0 where
+  pub t : ℕ
+  pub formed : FormedIn here.state step reply
+  pub commit : effect step reply ≡ Commits t
+  pub answer : IsFirstWrong (here.bodies t) (fresh here.state.committed) place
+
+abbrev pub IsFlaw : Moment → Step → Reply → Flaw → Type 0
+IsFlaw here step reply Form = IsMisformedIn here.state step reply
+IsFlaw here step reply Busy = IsWronglyBusyIn here.state step reply
+IsFlaw here step reply (Answer place) = CommitsWronglyIn here step reply place
+IsFlaw here step reply NoMemory = Unit {0}
 
 abbrev pub IsReplayFlaw : List Placed → Draft → Flaw → Type 0
 IsReplayFlaw own d (Answer place) = IsFirstWrong own d place
@@ -218,24 +226,9 @@ abbrev pub busy_of : Reply → Bool
 busy_of (Refused (IsBusy h)) = true
 busy_of reply = false
 
--- the events seen are those at the front of the trace
-pub record IsFront (seen : Trace) (trace : Trace) : Type 0 where
-  pub rest : Trace
-  pub is : trace ≡ seen ++ rest
-
 abbrev pub refused_of : Reply → Bool
 refused_of (Refused why) = true
 refused_of reply = false
-
--- the operation that is read with its reply
-abbrev pub answered_in : Option Event → Option Answered
-answered_in (Some (Do t op, reply)) = Some (op, reply)
-answered_in event = None
-
--- the operations that stand at these places of the trace
-abbrev pub own_at : Trace → List ℕ → List Placed
-own_at trace [] = []
-own_at trace (p ∷ ps) = cons_option (option_map (λ (a : Answered). (p, a)) (answered_in (slice_get trace p))) (own_at trace ps)
 
 -- how the flaw of the event at that place is told
 abbrev pub fault_of : ℕ → Flaw → Fault

@@ -1,38 +1,47 @@
 //! The active transactions of a trace.
 
-ghost use Rattle.std.specs.Prelude.{◌≡◌, ◌==◌, not, map, filter, length, Option, Some, None, true, false, IfSome, IfNone, OnOk};
+ghost use Rattle.std.specs.Prelude.{◌≡◌, ◌==◌, not, map, filter, length, true, false, IfSome, IfNone, OnOk};
 ghost use Rattle.am_locks.specs.Table.{is_owner, without};
-ghost use Rattle.am_audit.specs.Standing.{listed, is_listed, places_in, with_place};
+ghost use Rattle.am_audit.specs.Standing.{listed, is_listed, own_in, placed_of, with_own};
 
 use am_locks::LockTable;
-use am_record::NoMemory;
+use am_record::{NoMemory, Op, Reply};
+
+/// An answered operation with its reply, until its transaction ends.
+#[derive(Drop)]
+pub(crate) struct Kept {
+    /// Where it stands in the trace.
+    pub(crate) place: usize,
+    pub(crate) op: Op,
+    pub(crate) reply: Reply,
+}
 
 /// An active transaction.
 #[derive(Drop)]
 pub(crate) struct Active {
     pub(crate) number: u64,
-    /// Where its answered operations stand in the trace.
-    pub(crate) places: Vec<usize>,
+    /// Its answered operations.
+    pub(crate) own: Vec<Kept>,
 }
 
 /// Whether the transaction is active.
 pub(crate) fn is_active(all: &[Active], tx: u64) -> bool
     ensures { result ≡ is_listed (map listed all.now) tx }
 {
-    match places(all, tx) {
+    match own(all, tx) {
         Some(_) => true,
         None => false,
     }
 }
 
-/// The places of the transaction's answered operations, where it is active.
-pub(crate) fn places(all: &[Active], tx: u64) -> Option<&[usize]>
-    ensures found { IfSome result (λ places. (is_listed (map listed all.now) tx ≡ true) × (places.now ≡ places_in (map listed all.now) tx)) }
+/// The transaction's answered operations, where it is active.
+pub(crate) fn own(all: &[Active], tx: u64) -> Option<&[Kept]>
+    ensures found { IfSome result (λ own. (is_listed (map listed all.now) tx ≡ true) × (map placed_of own.now ≡ own_in (map listed all.now) tx)) }
     ensures none { IfNone result (is_listed (map listed all.now) tx ≡ false) }
 {
     for active in all {
         if active.number == tx {
-            return Some(&active.places);
+            return Some(&active.own);
         }
     }
     None
@@ -40,22 +49,23 @@ pub(crate) fn places(all: &[Active], tx: u64) -> Option<&[usize]>
 
 /// How many operations of the transaction were answered, where it is active.
 pub(crate) fn operations(all: &[Active], tx: u64) -> Option<usize>
-    ensures found { IfSome result (λ n. (is_listed (map listed all.now) tx ≡ true) × (n ≡ length (places_in (map listed all.now) tx))) }
+    ensures found { IfSome result (λ n. (is_listed (map listed all.now) tx ≡ true) × (n ≡ length (own_in (map listed all.now) tx))) }
     ensures none { IfNone result (is_listed (map listed all.now) tx ≡ false) }
 {
-    match places(all, tx) {
-        Some(places) => Some(places.len()),
+    match own(all, tx) {
+        Some(own) => Some(own.len()),
         None => None,
     }
 }
 
-/// Notes where one more answered operation of the transaction stands.
-pub(crate) fn note(all: &mut [Active], tx: u64, place: usize) -> Result<(), NoMemory>
-    ensures { OnOk result (map listed all.new ≡ map (with_place tx place) (map listed all.old)) }
+/// Keeps one more answered operation of the transaction, where it is active.
+pub(crate) fn keep(all: &mut [Active], tx: u64, kept: Kept) -> Result<(), NoMemory>
+    ensures { OnOk result (map listed all.new ≡ with_own tx (placed_of kept) (map listed all.old)) }
 {
     for active in all.iter_mut() {
         if active.number == tx {
-            active.places.push(place)?;
+            active.own.push(kept)?;
+            return Ok(());
         }
     }
     Ok(())

@@ -15,6 +15,6 @@ mod replay;
 mod replies;
 mod verdict;
 
-pub use checking::check;
+pub use checking::{Audit, check};
 pub use exclusion::first_faults_exclude;
 pub use fault::{Fault, Kind};

@@ -2,10 +2,9 @@
 
 ghost use Rattle.std.specs.Prelude.{◌≡◌, ◌≤◌, ◌++◌, ◌∷◌, [], length, None, true, false, IfErr, OnOk};
 ghost use Rattle.am_record.specs.declared.step.Step.TheVariants.{Begin, Do, Commit, Abort, Merge, Clean};
-ghost use Rattle.am_serial.specs.Trace.{Trace};
-ghost use Rattle.am_serial.specs.Machine.{start, after_run, due_early};
+ghost use Rattle.am_serial.specs.Machine.{due_early};
 
-use crate::active::{Active, end, is_active, note, operations, places};
+use crate::active::{Active, Kept, end, is_active, keep, operations, own};
 use crate::asking::ask;
 use crate::early::{is_early, refusal};
 use crate::flaw::Flaw;
@@ -31,11 +30,11 @@ pub(crate) struct Pass {
 }
 
 impl Pass {
-    ghost use Rattle.am_audit.specs.Standing.{early_of, Stands, Takes, IsFlaw, IsFront};
+    ghost use Rattle.am_audit.specs.Standing.{early_of, Moment, moment_of, Stands, Takes, IsFlaw};
 
     /// No line is seen. Takes no memory.
     pub(crate) fn new(alloc: Global) -> Pass
-        ensures { Stands result [] }
+        ensures { Stands result (moment_of []) }
     {
         Pass {
             begun: 0,
@@ -54,33 +53,31 @@ impl Pass {
     pub(crate) fn judge(
         &mut self,
         alloc: Global,
-        trace: &[(Step, Reply)],
         place: usize,
-        step: &Step,
-        reply: &Reply,
+        step: Step,
+        reply: Reply,
     ) -> Result<(), Flaw>
-        ghost seen: { Trace }
-        requires stands { Stands self.old seen }
-        requires front { IsFront seen trace.now }
-        requires place { place ≡ length seen }
-        ensures takes { OnOk result (Takes seen step.now reply.now self.new) }
-        ensures flaw { IfErr result (IsFlaw seen step.now reply.now) }
+        ghost here: { Moment }
+        requires stands { Stands self.old here }
+        requires place { place ≡ here.count }
+        ensures takes { OnOk result (Takes here step reply self.new) }
+        ensures flaw { IfErr result (IsFlaw here step reply) }
     {
         match step {
-            Step::Begin => self.begin(alloc, reply),
-            Step::Do(tx, op) => self.operate(place, *tx, op, reply),
-            Step::Commit(tx) => self.commit(trace, *tx, reply),
-            Step::Abort(tx) => self.abort(*tx, reply),
-            Step::Merge(limit) => self.merge(*limit, reply),
-            Step::Clean(range, limit) => self.clean(*range, *limit, reply),
+            Step::Begin => self.begin(alloc, &reply),
+            Step::Do(tx, op) => self.operate(place, tx, op, reply),
+            Step::Commit(tx) => self.commit(tx, &reply),
+            Step::Abort(tx) => self.abort(tx, &reply),
+            Step::Merge(limit) => self.merge(limit, &reply),
+            Step::Clean(range, limit) => self.clean(range, limit, &reply),
         }
     }
 
     fn begin(&mut self, alloc: Global, reply: &Reply) -> Result<(), Flaw>
-        ghost seen: { Trace }
-        requires { Stands self.old seen }
-        ensures takes { OnOk result (Takes seen Begin reply.now self.new) }
-        ensures flaw { IfErr result (IsFlaw seen Begin reply.now) }
+        ghost here: { Moment }
+        requires { Stands self.old here }
+        ensures takes { OnOk result (Takes here Begin reply.now self.new) }
+        ensures flaw { IfErr result (IsFlaw here Begin reply.now) }
     {
         if !may_begin(self.begun, self.active.len(), reply) {
             return Err(Flaw::Form);
@@ -88,7 +85,7 @@ impl Pass {
         if let Reply::Begun(tx) = reply {
             self.active.push(Active {
                 number: *tx,
-                places: Vec::new(alloc),
+                own: Vec::new(alloc),
             })?;
             self.locks.enter(*tx);
             self.begun = *tx;
@@ -97,10 +94,10 @@ impl Pass {
     }
 
     fn abort(&mut self, tx: u64, reply: &Reply) -> Result<(), Flaw>
-        ghost seen: { Trace }
-        requires { Stands self.old seen }
-        ensures takes { OnOk result (Takes seen (Abort tx) reply.now self.new) }
-        ensures flaw { IfErr result (IsFlaw seen (Abort tx) reply.now) }
+        ghost here: { Moment }
+        requires { Stands self.old here }
+        ensures takes { OnOk result (Takes here (Abort tx) reply.now self.new) }
+        ensures flaw { IfErr result (IsFlaw here (Abort tx) reply.now) }
     {
         let was_active = is_active(&self.active, tx);
         if !may_abort(was_active, tx, reply) {
@@ -112,12 +109,11 @@ impl Pass {
         Ok(())
     }
 
-    fn commit(&mut self, trace: &[(Step, Reply)], tx: u64, reply: &Reply) -> Result<(), Flaw>
-        ghost seen: { Trace }
-        requires stands { Stands self.old seen }
-        requires front { IsFront seen trace.now }
-        ensures takes { OnOk result (Takes seen (Commit tx) reply.now self.new) }
-        ensures flaw { IfErr result (IsFlaw seen (Commit tx) reply.now) }
+    fn commit(&mut self, tx: u64, reply: &Reply) -> Result<(), Flaw>
+        ghost here: { Moment }
+        requires { Stands self.old here }
+        ensures takes { OnOk result (Takes here (Commit tx) reply.now self.new) }
+        ensures flaw { IfErr result (IsFlaw here (Commit tx) reply.now) }
     {
         if !may_commit(is_active(&self.active, tx), self.commits, tx, reply) {
             return Err(Flaw::Form);
@@ -125,10 +121,10 @@ impl Pass {
         let Reply::Committed(commit) = reply else {
             return Ok(());
         };
-        let Some(own) = places(&self.active, tx) else {
+        let Some(own) = own(&self.active, tx) else {
             unreachable!()
         };
-        if let Err(flaw) = replay(&mut self.committed, trace, own) {
+        if let Err(flaw) = replay(&mut self.committed, own) {
             return Err(flaw);
         }
         self.committed.forget_saved();
@@ -137,56 +133,57 @@ impl Pass {
         Ok(())
     }
 
-    fn operate(&mut self, place: usize, tx: u64, op: &Op, reply: &Reply) -> Result<(), Flaw>
-        ghost seen: { Trace }
-        requires stands { Stands self.old seen }
-        requires place { place ≡ length seen }
-        ensures takes { OnOk result (Takes seen (Do tx op.now) reply.now self.new) }
-        ensures flaw { IfErr result (IsFlaw seen (Do tx op.now) reply.now) }
+    fn operate(&mut self, place: usize, tx: u64, op: Op, reply: Reply) -> Result<(), Flaw>
+        ghost here: { Moment }
+        requires stands { Stands self.old here }
+        requires place { place ≡ here.count }
+        ensures takes { OnOk result (Takes here (Do tx op) reply self.new) }
+        ensures flaw { IfErr result (IsFlaw here (Do tx op) reply) }
     {
-        if let Some(why) = refusal(operations(&self.active, tx), self.runs, tx, op) {
-            if !is_refused(reply, why) {
+        if let Some(why) = refusal(operations(&self.active, tx), self.runs, tx, &op) {
+            if !is_refused(&reply, why) {
                 return Err(Flaw::Form);
             }
             return Ok(());
         }
-        if is_early(reply) {
+        if is_early(&reply) {
             return Err(Flaw::Form);
         }
         self.perform(place, tx, op, reply)
     }
 
     // The operation is one to which no early refusal is due.
-    fn perform(&mut self, place: usize, tx: u64, op: &Op, reply: &Reply) -> Result<(), Flaw>
-        ghost seen: { Trace }
-        requires stands { Stands self.old seen }
-        requires place { place ≡ length seen }
-        requires early { due_early (after_run start seen) tx op.now ≡ None }
-        requires not_early { early_of reply.now ≡ false }
-        ensures takes { OnOk result (Takes seen (Do tx op.now) reply.now self.new) }
-        ensures flaw { IfErr result (IsFlaw seen (Do tx op.now) reply.now) }
+    fn perform(&mut self, place: usize, tx: u64, op: Op, reply: Reply) -> Result<(), Flaw>
+        ghost here: { Moment }
+        requires stands { Stands self.old here }
+        requires place { place ≡ here.count }
+        requires early { due_early here.state tx op ≡ None }
+        requires not_early { early_of reply ≡ false }
+        ensures takes { OnOk result (Takes here (Do tx op) reply self.new) }
+        ensures flaw { IfErr result (IsFlaw here (Do tx op) reply) }
     {
         let held = self.locks.held(tx);
-        let asked = ask(&mut self.locks, tx, lock_of(op));
-        if let Err(flaw) = verdict(asked, tx, op, reply) {
+        let asked = ask(&mut self.locks, tx, lock_of(&op));
+        if let Err(flaw) = verdict(asked, tx, &op, &reply) {
             return Err(flaw);
         }
-        if is_refusal(reply) {
+        if is_refusal(&reply) {
             if let Asked::Granted = asked {
                 self.locks.cut(tx, held);
             }
             return Ok(());
         }
-        note(&mut self.active, tx, place)?;
-        self.runs += runs_made(op, reply);
+        let made = runs_made(&op, &reply);
+        keep(&mut self.active, tx, Kept { place, op, reply })?;
+        self.runs += made;
         Ok(())
     }
 
     fn merge(&mut self, limit: u64, reply: &Reply) -> Result<(), Flaw>
-        ghost seen: { Trace }
-        requires { Stands self.old seen }
-        ensures takes { OnOk result (Takes seen (Merge limit) reply.now self.new) }
-        ensures flaw { IfErr result (IsFlaw seen (Merge limit) reply.now) }
+        ghost here: { Moment }
+        requires { Stands self.old here }
+        ensures takes { OnOk result (Takes here (Merge limit) reply.now self.new) }
+        ensures flaw { IfErr result (IsFlaw here (Merge limit) reply.now) }
     {
         if !may_merge(self.runs, limit, reply) {
             return Err(Flaw::Form);
@@ -195,10 +192,10 @@ impl Pass {
     }
 
     fn clean(&mut self, range: Range, limit: u64, reply: &Reply) -> Result<(), Flaw>
-        ghost seen: { Trace }
-        requires { Stands self.old seen }
-        ensures takes { OnOk result (Takes seen (Clean range limit) reply.now self.new) }
-        ensures flaw { IfErr result (IsFlaw seen (Clean range limit) reply.now) }
+        ghost here: { Moment }
+        requires { Stands self.old here }
+        ensures takes { OnOk result (Takes here (Clean range limit) reply.now self.new) }
+        ensures flaw { IfErr result (IsFlaw here (Clean range limit) reply.now) }
     {
         if !may_clean(range, limit, reply) {
             return Err(Flaw::Form);

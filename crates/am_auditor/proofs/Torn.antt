@@ -1,5 +1,5 @@
 -- What went out of a line that couldn't be sent on.
-use Rattle.std.proofs.Common.{◌≡◌, ℕ, List, [], append-nil, take, length, Option, subst, arith}
+use Rattle.std.proofs.Common.{ℕ, List, [], append-nil, length, Option, subst, arith}
 use Rattle.std.proofs.lemmas.List.{take_all}
 use Rattle.std.specs.Prelude.{Result, Ok, Err, OnErr}
 use Rattle.am_wire.specs.Giving.{Gave, GaveBeginning}

@@ -4,8 +4,8 @@ ghost use Rattle.std.specs.Prelude.{◌≡◌, ◌^◌, ◌<◌, ◌≤◌, ◌+
 ghost use Rattle.am_wire.specs.Giving.{Gave, GaveBeginning};
 ghost use Rattle.am_auditor.specs.Judgements.{IsTrueOf, IsSaid, IsBegun, line_of, status_of};
 
-use am_audit::{Fault, Kind, check};
-use am_trace::{TraceFault, read_trace};
+use am_audit::{Audit, Fault, Kind};
+use am_trace::{ReadFault, read_header, read_line};
 use am_wire::{Failed, Sink, Text, give_all};
 use std::alloc::Global;
 
@@ -24,16 +24,29 @@ pub enum Judgement {
     NoMemory,
 }
 
-// Judges a text. Memory may be refused, and then nothing is known of it.
+// Judges a text, a line at a time. Memory may be refused, and then nothing is known of it.
 fn judge_text(alloc: Global, text: &[u8]) -> Judgement
     ensures { IsTrueOf text.now result }
 {
-    let trace = match read_trace(alloc, text) {
-        Ok(trace) => trace,
-        Err(TraceFault::Bad(line)) => return Judgement::Bad(line),
-        Err(TraceFault::NoMemory) => return Judgement::NoMemory,
+    let Some((version, mut rest)) = read_header(text) else {
+        return Judgement::Bad(1);
     };
-    match check(alloc, &trace) {
+    let mut audit = Audit::new(alloc);
+    let _bytes = text.len();
+    let mut line = 2;
+    'lines: while !rest.is_empty() {
+        match read_line(alloc, version, rest) {
+            Ok(read) => {
+                let ((step, reply), further) = read;
+                audit.judge(alloc, step, reply);
+                line += 1;
+                rest = further;
+            }
+            Err(ReadFault::Bad) => return Judgement::Bad(line),
+            Err(ReadFault::NoMemory) => return Judgement::NoMemory,
+        }
+    }
+    match audit.verdict() {
         Ok(commits) => Judgement::Legal(commits),
         Err(Fault::Wrong(line, kind)) => Judgement::Wrong(line, kind),
         Err(Fault::NoMemory) => Judgement::NoMemory,

@@ -13,5 +13,6 @@ mod text;
 mod version;
 mod word;
 
-pub use text::{TraceFault, read_trace, trace_text, traces_are_texts};
+pub use read::ReadFault;
+pub use text::{TraceFault, read_header, read_line, read_trace, trace_text, traces_are_texts};
 pub use version::Version;

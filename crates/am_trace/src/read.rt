@@ -4,7 +4,7 @@ use am_record::NoMemory;
 
 /// Why a line isn't read.
 #[derive(Clone, Copy, Debug, PartialEq, Eq)]
-pub(crate) enum ReadFault {
+pub enum ReadFault {
     /// It is none of a trace.
     Bad,
     /// Memory was refused.

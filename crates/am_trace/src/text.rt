@@ -1,7 +1,7 @@
 //! The whole text.
 
 ghost use Rattle.std.specs.Prelude.{◌≡◌, ◌++◌, List, ℕ, IfOk, IfSome, IfNone, Err};
-ghost use Rattle.am_trace.specs.Lines.{Event, AreEvents, header, trace_text, IsTextOf, IsBadLine, BeginsNoHeader, CanBeStored};
+ghost use Rattle.am_trace.specs.Lines.{Event, IsEvent, AreEvents, event_words, ended, header, trace_text, IsTextOf, IsBadLine, BeginsNoEvent, BeginsNoHeader, CanBeStored};
 
 use crate::cut::cut;
 use crate::event::read_event;
@@ -50,30 +50,47 @@ pub fn read_trace(alloc: Global, text: &[u8]) -> Result<Vec<(Step, Reply)>, Trac
     ensures trace { IfOk result (λ trace. IsTextOf text.now trace.items) }
     ensures bad { (n : ℕ) → result ≡ Err (TraceFault.Bad n) → IsBadLine text.now n }
 {
-    words_are_fields();
     let (version, mut rest) = read_header(text).ok_or(TraceFault::Bad(1))?;
     let mut trace = Vec::new(alloc);
     'lines: while !rest.is_empty() {
-        let bad = TraceFault::Bad(trace.len() as u64 + 2);
-        let Some((line, further)) = cut(rest, b'\n') else {
-            return Err(bad);
-        };
-        match read_event(alloc, version, line) {
-            Ok(event) => {
+        match read_line(alloc, version, rest) {
+            Ok((event, further)) => {
                 if trace.push(event).is_err() {
                     return Err(TraceFault::NoMemory);
                 }
+                rest = further;
             }
-            Err(ReadFault::Bad) => return Err(bad),
+            Err(ReadFault::Bad) => return Err(TraceFault::Bad(trace.len() as u64 + 2)),
             Err(ReadFault::NoMemory) => return Err(TraceFault::NoMemory),
         }
-        rest = further;
     }
     Ok(trace)
 }
 
-// The version that the header names, and what stands behind the header.
-fn read_header(text: &[u8]) -> Option<(Version, &[u8])>
+/// The event of the first line, and the lines behind it: so a text is read a line at a time.
+///
+/// # Errors
+/// Bad, where the text begins with no line of an event; or NoMemory, where memory was refused.
+pub fn read_line(
+    alloc: Global,
+    version: Version,
+    text: &[u8],
+) -> Result<((Step, Reply), &[u8]), ReadFault>
+    ensures event { IfOk result (λ p. IsEvent version p.0 × (text.now ≡ ended (event_words version p.0) ++ p.1.now)) }
+    ensures bad { result ≡ Err ReadFault.Bad → BeginsNoEvent version text.now }
+{
+    words_are_fields();
+    let Some((line, further)) = cut(text, b'\n') else {
+        return Err(ReadFault::Bad);
+    };
+    match read_event(alloc, version, line) {
+        Ok(event) => Ok((event, further)),
+        Err(fault) => Err(fault),
+    }
+}
+
+/// The version that the header names, and what stands behind the header.
+pub fn read_header(text: &[u8]) -> Option<(Version, &[u8])>
     ensures some { IfSome result (λ p. text.now ≡ header p.0 ++ p.1.now) }
     ensures none { IfNone result (BeginsNoHeader text.now) }
 {

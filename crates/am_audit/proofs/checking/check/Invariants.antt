@@ -1,9 +1,6 @@
 use Rattle.std.specs.Prelude.{take}
-use Rattle.am_audit.proofs.Checks.{IsCheckedTo}
+use Rattle.am_audit.specs.Judged.{HasJudged}
 use Rattle.am_audit.proofs.checking.check.Given as goal
 
-abbrev pub invariant-loop-place : goal.invariant-loop-place
-invariant-loop-place l = IsCheckedTo l.pass l.trace l.place
-
-abbrev pub ghost-judge : goal.ghost-judge
-ghost-judge a = take a.place a.trace.now
+abbrev pub invariant-loop-step : goal.invariant-loop-step
+invariant-loop-step l = HasJudged l.audit (take l.step-index l.trace)

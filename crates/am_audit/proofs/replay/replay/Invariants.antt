@@ -1,5 +1,7 @@
+use Rattle.std.specs.Prelude.{map}
+use Rattle.am_audit.specs.Standing.{placed_of}
 use Rattle.am_audit.proofs.Replays.{IsReplayedTo}
 use Rattle.am_audit.proofs.replay.replay.Given as goal
 
-abbrev pub invariant-loop-place : goal.invariant-loop-place
-invariant-loop-place g l = IsReplayedTo g.own l.fn.committed l.committed l.place-index
+abbrev pub invariant-loop-kept : goal.invariant-loop-kept
+invariant-loop-kept l = IsReplayedTo (map placed_of l.own) l.fn.committed l.committed l.kept-index

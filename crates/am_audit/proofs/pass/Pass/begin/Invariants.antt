@@ -1,5 +1,4 @@
-use Rattle.am_serial.specs.Machine.{start, after_run}
 use Rattle.am_audit.proofs.pass.Pass.begin.Given as goal
 
 abbrev pub ghost-may_begin : goal.ghost-may_begin
-ghost-may_begin g a = after_run start g.seen
+ghost-may_begin g a = g.here.state

@@ -1,5 +1,4 @@
-use Rattle.am_serial.specs.Machine.{start, after_run}
 use Rattle.am_audit.proofs.pass.Pass.clean.Given as goal
 
 abbrev pub ghost-may_clean : goal.ghost-may_clean
-ghost-may_clean g a = after_run start g.seen
+ghost-may_clean g a = g.here.state

@@ -1,5 +1,4 @@
-use Rattle.am_serial.specs.Machine.{start, after_run}
 use Rattle.am_audit.proofs.pass.Pass.merge.Given as goal
 
 abbrev pub ghost-may_merge : goal.ghost-may_merge
-ghost-may_merge g a = after_run start g.seen
+ghost-may_merge g a = g.here.state

@@ -1,8 +1,7 @@
-use Rattle.am_serial.specs.Machine.{start, after_run}
 use Rattle.am_audit.proofs.pass.Pass.perform.Given as goal
 
 abbrev pub ghost-ask : goal.ghost-ask
-ghost-ask g a = (after_run start g.seen).active
+ghost-ask g a = g.here.state.active
 
 abbrev pub ghost-verdict : goal.ghost-verdict
-ghost-verdict g a = after_run start g.seen
+ghost-verdict g a = g.here.state

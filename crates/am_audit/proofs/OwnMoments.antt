@@ -1,0 +1,164 @@
+-- The moment that a pass tells by itself: what it keeps of the active transactions are their bodies.
+use Rattle.std.proofs.Common.{◌≡◌, ℕ, ◌+◌, ◌<◌, ◌≤◌, List, [], ◌∷◌, ◌++◌, map, true, false, refl, sym, ap, ◌∙◌, subst, arith}
+use Rattle.std.specs.Prelude.{◌==◌, ◌||◌}
+use Rattle.std.specs.List.{AllByRecursion}
+use Rattle.std.proofs.lemmas.Bool.{cond_both, eq-eqb, true≢false, false_from_ne_true}
+use Rattle.std.proofs.Math.Bool.{or-true}
+use Rattle.am_record.specs.Plain.{Draft, fresh}
+use Rattle.am_record.specs.declared.step.Step.{Step}
+use Rattle.am_record.specs.declared.step.Step.TheVariants.{Begin, Do, Commit, Abort}
+use Rattle.am_record.specs.declared.step.Reply.{Reply}
+use Rattle.am_record.specs.declared.step.Reply.TheVariants.{Begun, Committed, Aborted, Refused}
+use Rattle.am_serial.specs.Trace.{Effect, Begins, Answers, Commits, Aborts, Nothing, effect}
+use Rattle.am_serial.specs.Machine.{State, Transaction, is_open, next}
+use Rattle.am_audit.specs.declared.flaw.Flaw.{Flaw}
+use Rattle.am_audit.specs.declared.flaw.Flaw.TheVariants.{Form, Busy, Answer, NoMemory}
+use Rattle.am_audit.specs.declared.pass.Pass.{Pass}
+use Rattle.am_audit.specs.Standing.{Placed, answered_of, Listed, listed, own_in, Bodies, list_of, StandsAt, added, Moment, Stands, FormedIn, IsRightIn, IsMisformedIn, IsWronglyBusyIn, Takes, IsFlaw, IsFirstWrong}
+use Rattle.am_audit.proofs.Standings.{all_map, all_push, all_without, all_extended, open_below}
+use Rattle.am_audit.proofs.Bodies.{own_are}
+use Rattle.am_audit.proofs.Lifts.{commit_open}
+
+abbrev pub own_bodies : Pass → Bodies
+own_bodies p = own_in (map listed p.active.items)
+
+abbrev pub own_state : Pass → State
+own_state p = record { begun = p.begun; commits = p.commits; runs = p.runs; committed = p.committed.map; active = map (λ (x : Listed). (x.0, answered_of x.1)) (map listed p.active.items) }
+
+abbrev pub own_moment : Pass → ℕ → Moment
+own_moment p n = record { bodies = own_bodies p; state = own_state p; count = n }
+
+-- ---- its state
+
+active_are : (bodies : Bodies) (txs : List Transaction) → AllByRecursion (λ (x : Transaction). x.1 ≡ answered_of (bodies x.0)) txs → map (λ (x : Listed). (x.0, answered_of x.1)) (map (list_of bodies) txs) ≡ txs
+active_are bodies [] a = refl
+active_are bodies (x ∷ txs) a = let rest = active_are bodies txs a.1 in λ i. (x.0, sym a.0 i) ∷ rest i
+
+state_is : (p : Pass) (bodies : Bodies) (s : State) → StandsAt p bodies s → own_state p ≡ s
+state_is p bodies s h =
+    let active = ap (map (λ (x : Listed). (x.0, answered_of x.1))) h.active ∙ active_are bodies s.active h.ordinary.made in
+    λ i. record { begun = h.begun i; commits = h.commits i; runs = h.runs i; committed = (ap (λ (d : Draft). d.map) h.committed) i; active = active i }
+
+-- ---- its bodies
+
+abbrev AgreeOn : List Transaction → Bodies → Bodies → Type 0
+AgreeOn txs b c = AllByRecursion (λ (x : Transaction). b x.0 ≡ c x.0) txs
+
+each_open : (txs : List Transaction) → AllByRecursion (λ (x : Transaction). is_open txs x.0 ≡ true) txs
+each_open [] = tt
+each_open (x ∷ txs) = (
+  ap (λ b. b || is_open txs x.0) (eq-eqb x.0 x.0 refl),
+  all_map (λ (y : Transaction). is_open txs y.0 ≡ true) (λ (y : Transaction). (y.0 == x.0) || is_open txs y.0 ≡ true) (λ y on. ap (λ b. (y.0 == x.0) || b) on ∙ or-true (y.0 == x.0)) txs (each_open txs),
+)
+
+lists_agree : (b c : Bodies) (txs : List Transaction) → AgreeOn txs b c → map (list_of b) txs ≡ map (list_of c) txs
+lists_agree b c [] a = refl
+lists_agree b c (x ∷ txs) a = let rest = lists_agree b c txs a.1 in λ i. (x.0, a.0 i) ∷ rest i
+
+-- other bodies that are the same for the active transactions
+rebodied : (p : Pass) (b c : Bodies) (s : State) → AgreeOn s.active b c → ((t : ℕ) → s.begun < t → c t ≡ []) → StandsAt p b s → StandsAt p c s
+rebodied p b c s same none h = record {
+  begun = h.begun;
+  commits = h.commits;
+  runs = h.runs;
+  active = h.active ∙ lists_agree b c s.active same;
+  locks = h.locks;
+  committed = h.committed;
+  ordinary = record {
+    below = h.ordinary.below;
+    rising = h.ordinary.rising;
+    made = made s.active h.ordinary.made same;
+    new = none;
+  };
+}
+  where
+    made : (txs : List Transaction) → AllByRecursion (λ (x : Transaction). x.1 ≡ answered_of (b x.0)) txs → AgreeOn txs b c → AllByRecursion (λ (x : Transaction). x.1 ≡ answered_of (c x.0)) txs
+    made [] m a = tt
+    made (x ∷ txs) m a = (m.0 ∙ ap answered_of a.0, made txs m.1 a.1)
+
+none_listed : (b : Bodies) (txs : List Transaction) (t : ℕ) → is_open txs t ≡ false → own_in (map (list_of b) txs) t ≡ []
+none_listed b [] t off = refl
+none_listed b (x ∷ txs) t off =
+    cond_both (t == x.0) (b x.0) (own_in (map (list_of b) txs) t) (λ ps. ps ≡ [])
+    (λ e. absurd (true≢false (sym (ap (λ o. o || is_open txs t) e) ∙ off)))
+    (λ e. none_listed b txs t (sym (ap (λ o. o || is_open txs t) e) ∙ off))
+
+module _ (p : Pass) (b : Bodies) (s : State) (h : StandsAt p b s) where
+  own_here : (t : ℕ) → is_open s.active t ≡ true → own_bodies p t ≡ b t
+  own_here t on = ap (λ (xs : List Listed). own_in xs t) h.active ∙ own_are b s.active t on
+
+  own_none : (t : ℕ) → s.begun < t → own_bodies p t ≡ []
+  own_none t above =
+      ap (λ (xs : List Listed). own_in xs t) h.active
+      ∙ none_listed b s.active t (false_from_ne_true (is_open s.active t) (λ on. let low = open_below s.begun t s.active h.ordinary.below on in let no : ⊥ = omega arith in no))
+
+  all_here : AgreeOn s.active (own_bodies p) b
+  all_here = all_map (λ (x : Transaction). is_open s.active x.0 ≡ true) (λ (x : Transaction). own_bodies p x.0 ≡ b x.0) (λ x on. own_here x.0 on) s.active (each_open s.active)
+
+  -- the pass stands where it tells itself
+  pub stands_own : (n : ℕ) → Stands p (own_moment p n)
+  stands_own n =
+      subst (λ x. StandsAt p (own_bodies p) x) (sym (state_is p b s h))
+      (rebodied p b (own_bodies p) s (all_map (λ (x : Transaction). own_bodies p x.0 ≡ b x.0) (λ (x : Transaction). b x.0 ≡ own_bodies p x.0) (λ x e. sym e) s.active all_here) own_none h)
+
+  -- ---- the event that comes next
+
+  abbrev here : ℕ → Moment
+  here n = record { bodies = b; state = s; count = n }
+
+  -- what begins is new
+  begins_new : (step : Step) (reply : Reply) (t : ℕ) → effect step reply ≡ Begins t → FormedIn s step reply → t ≡ s.begun + 1
+  begins_new Begin (Begun u) t e f = let same : u ≡ t = cc in sym same ∙ f.0
+  begins_new (Do u op) (Refused why) t e f = absurd (cc)
+  begins_new (Do u op) reply t e f = absurd (cc)
+  begins_new (Commit u) (Committed c) t e f = absurd (cc)
+  begins_new (Abort u) Aborted t e f = absurd (cc)
+  begins_new _ _ t e f = absurd (cc)
+
+  agree_next : (e : Effect) → ((t : ℕ) → e ≡ Begins t → t ≡ s.begun + 1) → AgreeOn (next s e).active (own_bodies p) b
+  agree_next (Begins t) new =
+      let above : s.begun < t = let is = new t refl in omega arith in
+      all_push (λ (x : Transaction). own_bodies p x.0 ≡ b x.0) s.active (t, []) all_here (own_none t above ∙ sym (h.ordinary.new t above))
+  agree_next (Answers t op reply) new = all_extended (λ (x : Transaction). own_bodies p x.0 ≡ b x.0) (λ (x : Transaction). own_bodies p x.0 ≡ b x.0) t (op, reply) (λ x k. k) s.active all_here
+  agree_next (Commits t) new = all_without (λ (x : Transaction). own_bodies p x.0 ≡ b x.0) t s.active all_here
+  agree_next (Aborts t) new = all_without (λ (x : Transaction). own_bodies p x.0 ≡ b x.0) t s.active all_here
+  agree_next Nothing new = all_here
+
+  abbrev with_added : Bodies → ℕ → Effect → Bodies
+  with_added c n e = λ t. c t ++ added n t e
+
+  no_less : (e : Effect) → s.begun ≤ (next s e).begun
+  no_less (Begins t) = omega arith
+  no_less _ = omega arith
+
+  pub takes_there : (n : ℕ) (step : Step) (reply : Reply) (p' : Pass) → Takes (own_moment p n) step reply p' → Takes (here n) step reply p'
+  takes_there n step reply p' k =
+      let is = state_is p b s h in
+      let stands = subst (λ x. StandsAt p' (with_added (own_bodies p) n (effect step reply)) (next x (effect step reply))) is k.stands in
+      let right = subst (λ x. IsRightIn x step reply) is k.right in
+      record {
+        right = right;
+        stands = rebodied p' (with_added (own_bodies p) n (effect step reply)) (with_added b n (effect step reply)) (next s (effect step reply))
+            (all_map (λ (x : Transaction). own_bodies p x.0 ≡ b x.0) (λ (x : Transaction). with_added (own_bodies p) n (effect step reply) x.0 ≡ with_added b n (effect step reply) x.0) (λ x e. ap (λ l. l ++ added n x.0 (effect step reply)) e) (next s (effect step reply)).active
+            (agree_next (effect step reply) (λ t e. begins_new step reply t e right.said.formed)))
+            (λ t above.
+            let low = no_less (effect step reply) in
+            let above' : s.begun < t = omega arith in
+            ap (λ l. l ++ added n t (effect step reply)) (h.ordinary.new t above' ∙ sym (own_none t above')) ∙ stands.ordinary.new t above)
+            stands;
+      }
+
+  pub flaw_there : (n : ℕ) (step : Step) (reply : Reply) (flaw : Flaw) → IsFlaw (own_moment p n) step reply flaw → IsFlaw (here n) step reply flaw
+  flaw_there n step reply Form w = subst (λ x. IsMisformedIn x step reply) (state_is p b s h) w
+  flaw_there n step reply Busy w = subst (λ x. IsWronglyBusyIn x step reply) (state_is p b s h) w
+  flaw_there n step reply (Answer place) w =
+      let is = state_is p b s h in
+      let formed = subst (λ x. FormedIn x step reply) is w.formed in
+      record {
+        t = w.t;
+        formed = formed;
+        commit = w.commit;
+        answer = subst (λ (own : List Placed). IsFirstWrong own (fresh s.committed) place) (own_here w.t (commit_open s step reply w.t w.commit formed))
+            (subst (λ (x : State). IsFirstWrong (own_bodies p w.t) (fresh x.committed) place) is w.answer);
+      }
+  flaw_there n step reply NoMemory w = tt
