@@ -1,5 +1,6 @@
-/* Clients of `amserve listen` on threads of their own, each with its lines in flight: requests a second, and how long an
-   answer takes. Usage: load_clients PORT CLIENTS REQUESTS IN_FLIGHT */
+/* Clients on threads of their own, each with its requests in flight: requests a second, and how long an answer takes. They
+   speak to `amserve listen`, or the same pattern to redis-server. Usage: load_clients lines|redis PORT CLIENTS REQUESTS
+   IN_FLIGHT */
 #include <arpa/inet.h>
 #include <netinet/in.h>
 #include <netinet/tcp.h>
@@ -11,7 +12,7 @@
 #include <time.h>
 #include <unistd.h>
 
-static int port, requests, in_flight;
+static int is_redis, port, requests, in_flight;
 
 struct client { pthread_t thread; int number; double *took; int counted; };
 
@@ -26,13 +27,35 @@ static void fail(const char *text) {
     exit(1);
 }
 
-/* The i-th line of a client: transactions of fifty lines, half of them reads, over a thousand keys of its own. */
-static int line(char *to, int client, int i) {
-    int at = i % 50, key = (i * 7919) % 1000;
-    if (at == 0) return sprintf(to, "BEGIN\n");
-    if (at == 49) return sprintf(to, "COMMIT\n");
-    if (at % 2) return sprintf(to, "GET k%d.%d\n", client, key);
-    return sprintf(to, i < 20000 ? "INS k%d.%d xxx\n" : "REP k%d.%d xxx\n", client, key);
+/* The i-th request of a client: transactions of fifty, half of them reads, over a thousand keys of its own. Redis has no
+   transaction that answers as it goes, so a PING stands for its begin and its end. */
+static int request(char *to, int client, int i) {
+    int at = i % 50;
+    char key[32];
+    int length = sprintf(key, "k%d.%d", client, (i * 7919) % 1000);
+    int is_end = at == 0 || at == 49, is_read = at % 2;
+    if (is_redis) {
+        if (is_end) return sprintf(to, "*1\r\n$4\r\nPING\r\n");
+        if (is_read) return sprintf(to, "*2\r\n$3\r\nGET\r\n$%d\r\n%s\r\n", length, key);
+        return sprintf(to, "*3\r\n$3\r\nSET\r\n$%d\r\n%s\r\n$3\r\nxxx\r\n", length, key);
+    }
+    if (is_end) return sprintf(to, at ? "COMMIT\n" : "BEGIN\n");
+    if (is_read) return sprintf(to, "GET %s\n", key);
+    return sprintf(to, i < 20000 ? "INS %s xxx\n" : "REP %s xxx\n", key);
+}
+
+/* How many answers end in what came. One of Redis that begins with $ and a length has a second line. */
+static int answers_in(const char *came, ssize_t count, int *at_start, int *has_more) {
+    int answers = 0;
+    for (ssize_t i = 0; i < count; i++) {
+        if (*at_start && is_redis) *has_more = *has_more == 2 ? 0 : came[i] == '$';
+        if (!*at_start && *has_more == 1 && came[i] == '-') *has_more = 0;
+        *at_start = came[i] == '\n';
+        if (!*at_start) continue;
+        if (*has_more == 1) *has_more = 2;
+        else answers++;
+    }
+    return answers;
 }
 
 static void *run(void *of) {
@@ -43,20 +66,22 @@ static void *run(void *of) {
     if (connect(s, (struct sockaddr *)&to, sizeof to)) fail("no connection");
     setsockopt(s, IPPROTO_TCP, TCP_NODELAY, &one, sizeof one);
     char out[65536], in[65536];
+    int at_start = 1, has_more = 0;
     for (int sent = 0; sent < requests;) {
         int n = 0, count = requests - sent < in_flight ? requests - sent : in_flight;
-        for (int i = 0; i < count; i++) n += line(out + n, me->number, sent + i);
+        for (int i = 0; i < count; i++) n += request(out + n, me->number, sent + i);
         double begun = now();
         if (write(s, out, (size_t)n) != n) fail("not written");
         for (int left = count; left > 0;) {
             ssize_t got = read(s, in, sizeof in);
             if (got <= 0) fail("the server went away");
-            for (ssize_t i = 0; i < got; i++) left -= in[i] == '\n';
+            left -= answers_in(in, got, &at_start, &has_more);
         }
         me->took[me->counted++] = now() - begun;
         sent += count;
     }
-    if (write(s, "QUIT\n", 5) != 5) fail("not written");
+    const char *quit = is_redis ? "*1\r\n$4\r\nQUIT\r\n" : "QUIT\n";
+    if (write(s, quit, strlen(quit)) != (ssize_t)strlen(quit)) fail("not written");
     while (read(s, in, sizeof in) > 0) {}
     close(s);
     return NULL;
@@ -68,11 +93,12 @@ static int by_size(const void *a, const void *b) {
 }
 
 int main(int argc, char **argv) {
-    if (argc != 5) fail("wants PORT CLIENTS REQUESTS IN_FLIGHT");
-    port = atoi(argv[1]);
-    int clients = atoi(argv[2]);
-    requests = atoi(argv[3]) / clients;
-    in_flight = atoi(argv[4]);
+    if (argc != 6) fail("wants lines|redis PORT CLIENTS REQUESTS IN_FLIGHT");
+    is_redis = !strcmp(argv[1], "redis");
+    port = atoi(argv[2]);
+    int clients = atoi(argv[3]);
+    requests = atoi(argv[4]) / clients;
+    in_flight = atoi(argv[5]);
     struct client *all = calloc((size_t)clients, sizeof *all);
     double begun = now();
     for (int i = 0; i < clients; i++) {
