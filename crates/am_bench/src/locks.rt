@@ -10,6 +10,7 @@ use std::time::Clock;
 
 /// How many transactions there can be beside one, and how many locks each can hold.
 const OWNERS: u64 = 63;
+
 const LOCKS: u64 = 256;
 
 /// How many transactions are timed.

@@ -85,7 +85,8 @@ impl Engine {
             return Reply::Refused(Refusal::NoMemory);
         }
         self.ends = count_ends(self.ends, change_by(&copy, &reply));
-        self.trace.push_reserved((copy, copy_reply(self.alloc, &reply, rows)));
+        self.trace
+            .push_reserved((copy, copy_reply(self.alloc, &reply, rows)));
         self.makers.push_reserved(maker);
         reply
     }
