@@ -53,19 +53,22 @@ impl Scene {
         })
     }
 
-    // What the speaker is answered to the line, as text.
-    fn answer(&mut self, speaker: Speaker, line: &[u8]) -> Result<Vec<u8>, NoMemory> {
-        let heard = hear(self.alloc, kind_of(line), line);
-        let session = match speaker {
+    fn session(&mut self, speaker: Speaker) -> &mut Session {
+        match speaker {
             Speaker::S1 => &mut self.first,
             Speaker::S2 => &mut self.second,
             Speaker::S3 => &mut self.third,
-        };
-        match session.due(heard) {
+        }
+    }
+
+    // What the speaker is answered to the line, as text.
+    fn answer(&mut self, speaker: Speaker, line: &[u8]) -> Result<Vec<u8>, NoMemory> {
+        let heard = hear(self.alloc, kind_of(line), line);
+        match self.session(speaker).due(heard) {
             Due::Answer(response) => text_of(self.alloc, &response),
             Due::Take(step) => {
                 let reply = self.store.step(step);
-                session.reply(&reply);
+                self.session(speaker).reply(&reply);
                 reply_text(self.alloc, &reply)
             }
             Due::TellSeen => text_of(self.alloc, &Response::Seen(0, self.store.commits())),
