@@ -1,13 +1,11 @@
 -- What one operation of a transaction does to the partitions and to its log, once its lock is granted.
-use Rattle.std.specs.Prelude.{◌≡◌, ℕ, ◌+◌, ◌≤◌, length, List, ◌++◌, false, Some, IsSome}
-use Rattle.std.specs.FinMap.{get}
-use Rattle.am_record.specs.OrderedKey.{OrderedKey}
+use Rattle.std.specs.Prelude.{◌≡◌, ℕ, ◌+◌, ◌≤◌, length, List, ◌++◌, IsSome}
 use Rattle.am_record.specs.declared.entry.Entry.{Entry}
 use Rattle.am_record.specs.declared.step.Op.{Op}
 use Rattle.am_record.specs.declared.step.Op.TheVariants.{Insert, Replace, Delete, Load, Scan, Mark}
 use Rattle.am_record.specs.declared.step.Reply.{Reply}
 use Rattle.am_list.specs.Entries.{find}
-use Rattle.am_list.specs.Content.{content, IsLiveAt}
+use Rattle.am_list.specs.Content.{content}
 use Rattle.am_parts.specs.Partitions.{Partitions}
 use Rattle.am_undo.specs.Log.{Log}
 use Rattle.am_undo.specs.Marks.{since_mark}
@@ -32,13 +30,6 @@ pub record IsUntouched (parts : Partitions) (log : Log) (parts' : Partitions) (l
   pub runs : parts'.runs ≡ parts.runs
   pub notes : log'.notes ≡ log.notes
   pub marks : log'.marks ≡ log.marks
-
--- the entry is the one that has the key live
-pub record IsLiveEntry (es : List Entry) (key : OrderedKey) (e : Entry) : Type 0 where
-  pub key_is : e.key ≡ key
-  pub no_ghost : e.is_ghost ≡ false
-  pub there : IsLiveAt es e.part key e.value
-  pub has : get (content es) key ≡ Some e.value
 
 -- when an operation may want memory beside its lock's: for the fifth note or the third mark, and those behind them;
 -- a Scan, a Load and an Insert of a key that has no entry in the final partition always may

@@ -4,9 +4,8 @@ ghost use Rattle.std.specs.Prelude.{◌≡◌, Some, None, IfSome, IfNone};
 ghost use Rattle.std.specs.FinMap.{get};
 ghost use Rattle.am_record.specs.Plain.{found};
 ghost use Rattle.am_list.specs.Content.{content};
-ghost use Rattle.am_parts.specs.Partitions.{IsSound};
+ghost use Rattle.am_parts.specs.Partitions.{IsSound, IsLiveEntry};
 ghost use Rattle.am_effect.specs.Store.{find_live};
-ghost use Rattle.am_core.specs.Doing.{IsLiveEntry};
 
 use am_list::PartIndex;
 use am_parts::Parts;
@@ -30,16 +29,5 @@ pub(crate) fn find_live<I: PartIndex + Drop>(parts: &Parts<I>, key: Key) -> Opti
     ensures sound { IsSound parts.now.entries }
 {
     am_effect::edits_are_known();
-    let Some(part) = parts.place_of(key) else {
-        return None;
-    };
-    let Some((value, is_ghost)) = parts.find(part, key) else {
-        unreachable!()
-    };
-    Some(Entry {
-        part,
-        key,
-        value,
-        is_ghost,
-    })
+    parts.live_entry(key)
 }

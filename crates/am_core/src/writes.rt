@@ -6,7 +6,7 @@ ghost use Rattle.am_record.specs.declared.step.Op.TheVariants.{Insert, Replace, 
 
 use crate::reads::find_live;
 use am_list::PartIndex;
-use am_parts::Parts;
+use am_parts::{Parts, Vacancy};
 use am_record::{Entry, Key, NoMemory, Reply, Value};
 use am_undo::{Note, UndoLog};
 
@@ -23,21 +23,22 @@ pub(crate) fn insert<I: PartIndex + Drop>(
     ensures memory { OnErr result (MayWantRoom (Insert key value) parts.old.entries log.old) }
 {
     am_list::content_follows();
-    if parts.place_of(key).is_some() {
+    let vacancy = parts.vacancy(key);
+    if vacancy == Vacancy::Taken {
         return Ok(Reply::Exists(key));
     }
     log.reserve_one()?;
-    let note = match parts.find(0, key) {
-        Some((old, was_ghost)) => {
+    let note = match vacancy {
+        Vacancy::Ghost(old) => {
             parts.mark(0, key, value, false);
             Note::Before {
                 part: 0,
                 key,
                 value: old,
-                is_ghost: was_ghost,
+                is_ghost: true,
             }
         }
-        None => {
+        _ => {
             parts.add(Entry {
                 part: 0,
                 key,

@@ -1,4 +1,3 @@
 pub mod Holding
 pub mod Walks
-pub mod Moves
 pub mod Steps

@@ -1,5 +1,5 @@
 -- What the changes of partitions keep, and what they do to the content.
-use Rattle.std.proofs.Common.{◌≡◌, ◌<◌, ◌^◌, ℕ, List, [], ◌∷◌, Bool, true, false, cond, Option, Some, None, refl, sym, ap, ◌∙◌, subst, ⊎_elim, Result, Ok, Err}
+use Rattle.std.proofs.Common.{◌≡◌, ◌≢◌, ◌<◌, ◌^◌, ℕ, List, [], ◌∷◌, Bool, true, false, cond, Option, Some, None, refl, sym, ap, ◌∙◌, subst, ⊎_elim, Result, Ok, Err, arith}
 use Rattle.std.specs.Prelude.{IsSome, is_some, OnOk, OnErr}
 use Rattle.std.proofs.lemmas.Bool.{cases_Bool, cond-true, cond-false, false≢true, true≢false}
 use Rattle.std.proofs.lemmas.Option.{same_Some}
@@ -10,10 +10,11 @@ use Rattle.am_record.specs.OrderedKey.{OrderedKey}
 use Rattle.am_record.specs.Plain.{PlainMap}
 use Rattle.am_record.specs.EntryOrder.{place_cmp, place_of}
 use Rattle.am_record.specs.declared.entry.Entry.{Entry}
-use Rattle.am_list.specs.Entries.{Slot, find, insert_entry, set_entry, remove_entry}
+use Rattle.am_list.specs.Entries.{Slot, slot_of, find, insert_entry, set_entry, remove_entry}
 use Rattle.am_list.specs.Content.{content, HasContent, live_value, ContentLaws}
-use Rattle.am_parts.specs.Partitions.{IsSound, LivesNowhereElse, content_with, content_without, content_marked}
+use Rattle.am_parts.specs.Partitions.{IsSound, LivesNowhereElse, content_with, content_without, content_marked, settled, brought_home}
 use Rattle.am_parts.proofs.Lives.{laws_of}
+use Rattle.am_parts.proofs.Homes.{content_at_home}
 
 -- ---- the numbers of partitions
 
@@ -44,6 +45,12 @@ module _ (part : ℕ) (key : OrderedKey) where
         | true ↦ fits.1
         | false ↦ (fits.0, fits_removed es fits.1)
       ]
+
+fits_settled : (e : Entry) (es : List Entry) → PartsFit es → PartsFit (settled e es)
+fits_settled e es fits = elim (is_some (find es 0 e.key)) as (λ b. PartsFit (cond b (set_entry es 0 e.key e.value false) (insert_entry es (record e { part = 0; is_ghost = false })))) [
+  | true ↦ fits_set 0 e.key es e.value false fits
+  | false ↦ fits_inserted es (record e { part = 0; is_ghost = false }) (omega arith) fits
+]
 
 -- ---- the content
 
@@ -114,6 +121,10 @@ module _ {es seen : List Entry} (e : es ≡ seen) (was : IsSound es) where
 
   pub takes : {es' : List Entry} (part : ℕ) (key : OrderedKey) → IsSome (find seen part key) → es' ≡ remove_entry es part key → IsAfter es' (content_without seen part key)
   takes part key there is = becomes (taken seen_sound part key there) (fits_removed part key seen seen_sound.fits) (is ∙ ap (λ l. remove_entry l part key) e)
+
+  pub homes : {es' : List Entry} (x : Entry) → find seen x.part x.key ≡ Some (slot_of x) → x.part ≢ 0 → x.is_ghost ≡ false → es' ≡ brought_home x es → IsAfter es' (content seen)
+  homes x stands in_run live is =
+      becomes (content_at_home x seen in_run seen_sound stands live) (fits_removed x.part x.key (settled x seen) (fits_settled x seen seen_sound.fits)) (is ∙ ap (λ l. brought_home x l) e)
 
   module _ (x : Entry) (fits : x.part < 2 ^ 32) (absent : find seen x.part x.key ≡ None) (dead : x.is_ghost ≡ false → get (content seen) x.key ≡ None) where
     adds : {es' : List Entry} → es' ≡ insert_entry es x → IsAfter es' (content_with seen x)

@@ -1,6 +1,6 @@
 -- The look for a live key, by what the catalog says.
 use Rattle.std.proofs.Common.{◌≡◌, ◌≢◌, ℕ, zero, suc, ◌+◌, ◌<◌, ◌≤◌, true, false, List, [], ◌∷◌, length, get_or, take, drop, Option, Some, None, refl, sym, ap, ◌∙◌, subst, ⊎_elim, arith}
-use Rattle.std.specs.Prelude.{is_some, ◌==◌}
+use Rattle.std.specs.Prelude.{IsSome, IfSome, IfNone, is_some, ◌==◌}
 use Rattle.std.specs.Option.{option_map}
 use Rattle.std.proofs.lemmas.Bool.{or_cases, cases_eq, cases_lt, eqb-true, true≢false, false≢true}
 use Rattle.std.proofs.lemmas.Option.{none-some}
@@ -17,7 +17,7 @@ use Rattle.am_parts.specs.declared.catalog.OpenRun.{OpenRun}
 use Rattle.am_parts.specs.declared.generations.Generation.{Generation}
 use Rattle.am_parts.specs.Generations.{is_held, AreHeld}
 use Rattle.am_parts.specs.Catalogs.{parts_of, is_one_of, PartsRise, IsOpenRun, AreListed, Lacks}
-use Rattle.am_parts.specs.Partitions.{IsSound, LivesIn, LivesInNoRun}
+use Rattle.am_parts.specs.Partitions.{IsSound, LivesIn, LivesInNoRun, IsLiveEntry, IsVacancy, vacancy_over}
 use Rattle.am_parts.proofs.Lives.{laws_of, lives_in}
 use Rattle.am_parts.proofs.Listed.{is_listed, some_left}
 
@@ -90,6 +90,12 @@ module _ {es : List Entry} {key : OrderedKey} where
   pub lives_found : IsSound es → (part : ℕ) → is_some (live_value (find es part key)) ≡ true → LivesIn es part key
   lives_found sound part live = let slot = live_slot (find es part key) live in lives_in sound (record { there = slot.1 })
 
+  -- what stands live at a place is the live entry
+  pub stands_live : IsSound es → (part : ℕ) (e : Entry) → find es part key ≡ Some (e.value, false) → e.part ≡ part → e.key ≡ key → e.is_ghost ≡ false → IsLiveEntry es key e
+  stands_live sound part e stands same key_is live =
+      let there : find es e.part key ≡ Some (e.value, false) = ap (λ p. find es p key) same ∙ stands in
+      record { key_is = key_is; no_ghost = live; there = record { there = there }; has = (laws_of sound).live e.part key e.value (record { there = there }) }
+
   pub lives_nowhere : IsSound es → is_some (live_value (find es 0 key)) ≡ false → LivesInNoRun es key → get (content es) key ≡ None
   lives_nowhere sound dead none = (laws_of sound).dead key (λ part value live.
       ⊎_elim
@@ -145,3 +151,33 @@ module _ (key : OrderedKey) (from to : ℕ) where
   went_on rs rest at i same up below none stop =
       went rs at i up below (subst (λ (l : List OpenRun). AllByRecursion (λ (r : OpenRun). holds r.filter key ≡ false) (take i l)) same none)
       (λ d lt. subst (λ (l : List OpenRun). to ≤ (get_or l i d).part) same (stop d (subst (λ (l : List OpenRun). i < length l) (sym same) lt)))
+
+pub of_none : {P : Type 0} (o : Option Entry) → ((e : Entry) → o ≡ Some e → ⊥) → IfNone o P → P
+of_none None not h = h
+of_none (Some e) not h = absurd (not e refl)
+
+-- a key that is live has an entry that lives in the content
+module _ (es : List Entry) (key : OrderedKey) (sound : IsSound es) where
+  pub taken_in_final : is_some (live_value (find es 0 key)) ≡ true → IsSome (get (content es) key)
+  taken_in_final live = ap is_some (lives_found {es = es} {key = key} sound 0 live).in_content
+
+  pub taken_in_run : (o : Option Entry) → IfSome o (IsLiveEntry es key) → is_some o ≡ true → IsSome (get (content es) key)
+  taken_in_run None h some = absurd (false≢true some)
+  taken_in_run (Some e) h some = ap is_some h.has
+
+  pub none_lives : (o : Option Entry) → is_some (live_value (find es 0 key)) ≡ false → IfNone o (LivesInNoRun es key) → IfNone o (get (content es) key ≡ None)
+  none_lives None dead none = lives_nowhere sound dead none
+  none_lives (Some e) dead none = tt
+
+  dead_everywhere : (o : Option Entry) → is_some (live_value (find es 0 key)) ≡ false → IfNone o (LivesInNoRun es key) → is_some o ≡ false → get (content es) key ≡ None
+  dead_everywhere None dead none h = lives_nowhere sound dead none
+  dead_everywhere (Some e) dead none h = absurd (true≢false h)
+
+  -- what stands at a place where nothing lives is a ghost
+  pub vacant : (o : Option Entry) → is_some (live_value (find es 0 key)) ≡ false → IfNone o (LivesInNoRun es key) → is_some o ≡ false → IsVacancy es key (vacancy_over (find es 0 key))
+  vacant o dead none h = by_cases (find es 0 key) refl
+    where
+      by_cases : (s : Option Slot) → find es 0 key ≡ s → IsVacancy es key (vacancy_over s)
+      by_cases None is = (is, dead_everywhere o dead none h)
+      by_cases (Some (value, true)) is = (is, dead_everywhere o dead none h)
+      by_cases (Some (value, false)) is = absurd (true≢false (sym (ap (λ (s : Option Slot). is_some (live_value s)) is) ∙ dead))

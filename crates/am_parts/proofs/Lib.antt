@@ -6,5 +6,6 @@ pub mod Catalogued
 pub mod Appending
 pub mod Finding
 pub mod Lives
+mod Homes
 mod Changes
 pub mod Looks

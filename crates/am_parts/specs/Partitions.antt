@@ -1,14 +1,16 @@
 -- What is seen of the partitions of an index, where a key lives in them, and what their changes do to the content.
-use Rattle.std.specs.Prelude.{◌≡◌, ◌<◌, ◌^◌, ℕ, List, Bool, Some, is_some, refl, if◌then◌else◌}
+use Rattle.std.specs.Prelude.{◌≡◌, ◌<◌, ◌^◌, ℕ, List, Bool, true, false, Option, Some, None, IsSome, is_some, refl, if◌then◌else◌}
 use Rattle.std.specs.List.{AllByRecursion}
 use Rattle.std.specs.Coded.{Coded, code_by, coded×, coded_ℕ}
 use Rattle.std.specs.FinMap.{get, insert, remove}
 use Rattle.am_record.specs.OrderedKey.{OrderedKey}
 use Rattle.am_record.specs.Plain.{PlainMap}
 use Rattle.am_record.specs.declared.entry.Entry.{Entry}
-use Rattle.am_list.specs.Entries.{find, IsRising}
+use Rattle.am_list.specs.Entries.{Slot, find, insert_entry, set_entry, remove_entry, IsRising}
 use Rattle.am_list.specs.EntryCode.{entries_code}
 use Rattle.am_list.specs.Content.{content, OnePlace, IsLiveAt, live_value}
+use Rattle.am_parts.specs.declared.parts.Vacancy.{Vacancy}
+use Rattle.am_parts.specs.declared.parts.Vacancy.TheVariants.{Taken, Ghost, Free}
 
 -- the entries of all partitions, and how many runs were made
 pub record Partitions : Type 0 where
@@ -31,6 +33,13 @@ pub record LivesIn (es : List Entry) (part : ℕ) (key : OrderedKey) : Type 0 wh
   pub live : IsLiveAt es part key value
   pub in_content : get (content es) key ≡ Some value
 
+-- the entry is the one that has the key live
+pub record IsLiveEntry (es : List Entry) (key : OrderedKey) (e : Entry) : Type 0 where
+  pub key_is : e.key ≡ key
+  pub no_ghost : e.is_ghost ≡ false
+  pub there : IsLiveAt es e.part key e.value
+  pub has : get (content es) key ≡ Some e.value
+
 -- the key is live in no partition but the final one
 pub record LivesInNoRun (es : List Entry) (key : OrderedKey) : Type 0 where
   pub none : (part : ℕ) (value : List ℕ) → 0 < part → ¬ IsLiveAt es part key value
@@ -50,3 +59,22 @@ content_without es part key = if is_some (live_value (find es part key)) then re
 -- the content with that value and mark at that partition and key
 abbrev pub content_marked : List Entry → ℕ → OrderedKey → List ℕ → Bool → PlainMap
 content_marked es part key value is_ghost = if is_ghost then content_without es part key else insert (content es) key value
+
+-- what a new record of the key meets: the key is live; else a ghost of it may stand in the final partition, or nothing
+abbrev pub IsVacancy : List Entry → OrderedKey → Vacancy → Type 0
+IsVacancy es key Taken = IsSome (get (content es) key)
+IsVacancy es key (Ghost value) = (find es 0 key ≡ Some (value, true)) × (get (content es) key ≡ None)
+IsVacancy es key Free = (find es 0 key ≡ None) × (get (content es) key ≡ None)
+
+-- that of a key which is live nowhere, by what stands in the final partition
+abbrev pub vacancy_over : Option Slot → Vacancy
+vacancy_over None = Free
+vacancy_over (Some s) = Ghost s.0
+
+-- the list in which the live entry of a run stands in the final partition too, in place of any ghost there
+abbrev pub settled : Entry → List Entry → List Entry
+settled e es = if is_some (find es 0 e.key) then set_entry es 0 e.key e.value false else insert_entry es (record e { part = 0; is_ghost = false })
+
+-- the list in which it has moved there
+abbrev pub brought_home : Entry → List Entry → List Entry
+brought_home e es = remove_entry (settled e es) e.part e.key

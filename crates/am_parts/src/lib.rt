@@ -5,4 +5,4 @@ mod catalog;
 mod generations;
 mod parts;
 
-pub use parts::Parts;
+pub use parts::{Parts, Vacancy};

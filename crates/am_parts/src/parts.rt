@@ -4,16 +4,28 @@ ghost use Rattle.std.specs.Prelude.{◌≡◌, ◌≢◌, ◌+◌, ◌<◌, ◌�
 ghost use Rattle.std.specs.List.{AllByRecursion};
 ghost use Rattle.std.specs.FinMap.{get};
 ghost use Rattle.am_record.specs.Plain.{insert_all, is_rising};
-ghost use Rattle.am_list.specs.Entries.{find, next_any, next_ghost, next_from, after, all_after, entry_at, insert_entry, set_entry, remove_entry};
+ghost use Rattle.am_list.specs.Entries.{find, slot_of, next_any, next_ghost, next_from, after, all_after, entry_at, insert_entry, set_entry, remove_entry, IsRising};
 ghost use Rattle.am_list.specs.Runs.{run_entries};
 ghost use Rattle.am_list.specs.Content.{content, live_value, HasContent};
 ghost use Rattle.am_parts.specs.Catalogs.{IsCatalog};
+ghost use Rattle.am_parts.specs.Partitions.{settled, vacancy_over};
 
 use crate::catalog::Catalog;
 use am_list::{Batch, PartIndex};
 use am_record::{Entry, Key, NoMemory, Value};
 use std::alloc::Global;
 use std::marker::Model;
+
+/// What a new record of a key meets.
+#[derive(Clone, Copy, Debug, PartialEq, Eq)]
+pub enum Vacancy {
+    /// The key is live.
+    Taken,
+    /// A ghost of it stands in the final partition, with this value.
+    Ghost(Value),
+    /// Nothing of it stands there.
+    Free,
+}
 
 /// The partitions of an index, seen as its entries and the number of runs made. Partition 0 is the
 /// final one, run n is partition n. No key is live, that is not a ghost, in two partitions.
@@ -39,7 +51,7 @@ impl<I: PartIndex + Drop> Model for Parts<I> {
 }
 
 impl<I: PartIndex + Drop> Parts<I> {
-    ghost use Rattle.am_parts.specs.Partitions.{IsSound, LivesIn, LivesInNoRun, LivesNowhereElse, content_with, content_without, content_marked};
+    ghost use Rattle.am_parts.specs.Partitions.{IsSound, LivesIn, LivesInNoRun, LivesNowhereElse, IsLiveEntry, IsVacancy, content_with, content_without, content_marked, brought_home};
 
     /// The partitions of an empty index.
     pub fn new(alloc: Global, index: I) -> Parts<I>
@@ -124,35 +136,50 @@ impl<I: PartIndex + Drop> Parts<I> {
         ensures absent { IfNone result (get (content self.now.entries) key ≡ None) }
         ensures sound { IsSound self.now.entries }
     {
-        if self.is_in_final(key) {
-            return Some(0);
-        }
-        self.run_of(key)
+        Some(self.live_entry(key)?.part)
     }
 
-    // Whether the key is live in the final partition.
-    fn is_in_final(&self, key: Key) -> bool
-        ensures value { result ≡ is_some (live_value (find self.now.entries 0 key)) }
+    /// The entry that has the key live. Runs whose filters rule the key out aren't searched.
+    pub fn live_entry(&self, key: Key) -> Option<Entry>
+        ensures live { IfSome result (λ e. IsLiveEntry self.now.entries key e) }
+        ensures absent { IfNone result (get (content self.now.entries) key ≡ None) }
         ensures sound { IsSound self.now.entries }
     {
-        is_live(self.find(0, key))
+        let slot = self.find(0, key);
+        if let Some(entry) = live_at(0, key, slot) {
+            return Some(entry);
+        }
+        self.live_in_runs(key)
     }
 
-    /// The run in which the key is live. Those whose filters rule it out aren't searched.
-    pub fn run_of(&self, key: Key) -> Option<u32>
-        ensures live { IfSome result (λ part. LivesIn self.now.entries part key) }
+    /// The entry of a run that has the key live.
+    pub fn live_in_runs(&self, key: Key) -> Option<Entry>
+        ensures live { IfSome result (λ e. IsLiveEntry self.now.entries key e) }
         ensures absent { IfNone result (LivesInNoRun self.now.entries key) }
         ensures sound { IsSound self.now.entries }
     {
         let number = key.mixed();
         let mut from = 1;
         while let Some(part) = self.catalog.next_place(from, number) {
-            if is_live(self.index.find(part, key)) {
-                return Some(part);
+            let slot = self.index.find(part, key);
+            if let Some(entry) = live_at(part, key, slot) {
+                return Some(entry);
             }
             from = u64::from(part) + 1;
         }
         None
+    }
+
+    /// What a new record of the key meets.
+    pub fn vacancy(&self, key: Key) -> Vacancy
+        ensures met { IsVacancy self.now.entries key result }
+        ensures sound { IsSound self.now.entries }
+    {
+        let slot = self.find(0, key);
+        if is_live(&slot) || self.live_in_runs(key).is_some() {
+            return Vacancy::Taken;
+        }
+        vacancy_over(&slot)
     }
 
     /// Adds an entry. The caller sees to it that no entry has its partition and key, and where it
@@ -196,6 +223,28 @@ impl<I: PartIndex + Drop> Parts<I> {
     {
         self.catalog.take(part);
         self.index.remove(part, key)
+    }
+
+    /// Brings a live entry of a run home: it goes to the final partition, over a ghost that stands there. The caller
+    /// sees to it that it stands in that run.
+    ///
+    /// # Errors
+    /// NoMemory, where its new place was refused memory; nothing is changed.
+    pub fn bring_home(&mut self, entry: &Entry) -> Result<(), NoMemory>
+        requires stands { find self.old.entries entry.now.part entry.now.key ≡ Some (slot_of entry.now) }
+        requires in_run { entry.now.part ≢ 0 }
+        requires live { entry.now.is_ghost ≡ false }
+        ensures entries { OnOk result (self.new.entries ≡ brought_home entry.now self.old.entries) }
+        ensures content { OnOk result (HasContent self.new.entries (content self.old.entries)) }
+        ensures sound { IsSound self.old.entries }
+        ensures err { OnErr result (self.new.entries ≡ self.old.entries) }
+        ensures place { OnErr result (find self.old.entries 0 entry.now.key ≡ None) }
+        ensures runs { self.new.runs ≡ self.old.runs }
+    {
+        settle(&mut self.index, &mut self.catalog, entry)?;
+        self.catalog.take(entry.part);
+        self.index.remove(entry.part, entry.key);
+        Ok(())
     }
 
     /// Counts one more run. The caller sees to it that fewer than 65,535 were made.
@@ -252,12 +301,65 @@ fn insert_or_forget<I: PartIndex + Drop>(
     added
 }
 
+// Lets a live entry of a run stand in the final partition too, over a ghost there.
+fn settle<I: PartIndex + Drop>(
+    index: &mut I,
+    catalog: &mut Catalog,
+    entry: &Entry,
+) -> Result<(), NoMemory>
+    requires counted { IsCatalog (I.entries index.old) catalog.old }
+    ensures ok { OnOk result (I.entries index.new ≡ settled entry.now (I.entries index.old)) }
+    ensures err { OnErr result (I.entries index.new ≡ I.entries index.old) }
+    ensures place { OnErr result (find (I.entries index.old) 0 entry.now.key ≡ None) }
+    ensures rising { IsRising (I.entries index.old) }
+    ensures catalog { IsCatalog (I.entries index.new) catalog.new }
+{
+    if index.find(0, entry.key).is_some() {
+        index.set(0, entry.key, entry.value, false);
+        return Ok(());
+    }
+    catalog.add(0, entry.key)?;
+    let settled = Entry {
+        part: 0,
+        is_ghost: false,
+        ..*entry
+    };
+    insert_or_forget(index, catalog, settled)
+}
+
 // Whether what stands at a place is live.
-fn is_live(slot: Option<(Value, bool)>) -> bool
-    ensures { result ≡ is_some (live_value slot) }
+fn is_live(slot: &Option<(Value, bool)>) -> bool
+    ensures { result ≡ is_some (live_value slot.now) }
 {
     match slot {
-        Some((_, is_ghost)) => !is_ghost,
+        Some((_, is_ghost)) => !*is_ghost,
         None => false,
     }
+}
+
+// What a new record meets, whose key is live nowhere, by what stands in the final partition.
+fn vacancy_over(slot: &Option<(Value, bool)>) -> Vacancy
+    ensures { result ≡ vacancy_over slot.now }
+{
+    match slot {
+        Some((value, _)) => Vacancy::Ghost(*value),
+        None => Vacancy::Free,
+    }
+}
+
+// The entry of what stands live at a place.
+fn live_at(part: u32, key: Key, slot: Option<(Value, bool)>) -> Option<Entry>
+    ensures live { IfSome result (λ e. (slot ≡ Some (e.value, false)) × (e.part ≡ part) × (e.key ≡ key) × (e.is_ghost ≡ false)) }
+    ensures none { IfNone result (is_some (live_value slot) ≡ false) }
+{
+    let (value, is_ghost) = slot?;
+    if is_ghost {
+        return None;
+    }
+    Some(Entry {
+        part,
+        key,
+        value,
+        is_ghost,
+    })
 }

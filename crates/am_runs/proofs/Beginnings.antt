@@ -1,5 +1,5 @@
 -- The first entries at or above a key, from partition to partition.
-use Rattle.std.proofs.Common.{◌≡◌, ◌≢◌, ℕ, ◌<◌, ◌≤◌, List, true, false, Option, Some, None, refl, sym, ap, ◌∙◌, arith, ⊎_elim}
+use Rattle.std.proofs.Common.{◌≡◌, ◌≢◌, ℕ, ◌<◌, ◌≤◌, List, true, Option, Some, None, refl, sym, ap, ◌∙◌, arith, ⊎_elim}
 use Rattle.std.proofs.lemmas.Bool.{true≢false, cases_lt}
 use Rattle.std.proofs.lemmas.Option.{none-some}
 use Rattle.std.specs.declared.cmp.Ordering.{Ordering}
@@ -7,9 +7,9 @@ use Rattle.std.specs.declared.cmp.Ordering.TheVariants.{Less, Equal, Greater}
 use Rattle.std.specs.Ordering.{is_le, ordering_reverse}
 use Rattle.am_record.specs.OrderedKey.{OrderedKey, key_cmp, key_cmp-total, key_cmp-exact}
 use Rattle.am_record.specs.Interval.{key_le}
-use Rattle.am_record.specs.EntryOrder.{Place, place_of, place_cmp, place_cmp-part, place_cmp-equal, place_cmp-same, place_cmp-total}
+use Rattle.am_record.specs.EntryOrder.{Place, place_cmp, place_cmp-part, place_cmp-equal, place_cmp-same, place_cmp-total}
 use Rattle.am_record.specs.declared.entry.Entry.{Entry}
-use Rattle.am_list.specs.Entries.{slot_of, entry_at, find, next_any, next_from}
+use Rattle.am_list.specs.Entries.{slot_of, entry_at, find, next_from}
 use Rattle.am_list.specs.Walks.{WalkLaws}
 use Rattle.am_list.proofs.Edits.{entry_at_slot}
 

@@ -1,29 +1,23 @@
 -- The entries and the content while the records of a run go in, and while they are taken out again.
-use Rattle.std.proofs.Common.{◌≡◌, ◌≢◌, ℕ, ◌+◌, ◌<◌, ◌≤◌, true, false, cond, List, [], ◌∷◌, ◌++◌, length, get_or, take, drop, None, Result, Ok, Err, refl, sym, ap, ◌∙◌, subst, arith}
-use Rattle.std.specs.Prelude.{IsSome, is_some, is_err, OnOk}
+use Rattle.std.proofs.Common.{◌≡◌, ◌≢◌, ℕ, ◌+◌, ◌<◌, ◌≤◌, true, false, cond, List, [], ◌∷◌, ◌++◌, None, Result, Ok, Err, refl, sym, ap, ◌∙◌, subst, arith}
+use Rattle.std.specs.Prelude.{is_err, OnOk}
 use Rattle.std.proofs.lemmas.Bool.{true≢false}
-use Rattle.std.specs.declared.cmp.Ordering.{Ordering}
-use Rattle.std.specs.declared.cmp.Ordering.TheVariants.{Less, Equal, Greater}
-use Rattle.std.specs.Ordering.{is_eq, is_lt, eq_by_cmp, ordering_reverse}
-use Rattle.std.specs.Option.{option_map}
+use Rattle.std.specs.Ordering.{is_lt}
 use Rattle.std.specs.List.{AllByRecursion}
-use Rattle.std.specs.FinMap.{get, insert}
-use Rattle.am_record.specs.OrderedKey.{OrderedKey, key_cmp, key_cmp-total, key_cmp-itself}
-use Rattle.am_record.specs.Plain.{PlainMap, Records, insert_all}
+use Rattle.am_record.specs.OrderedKey.{OrderedKey}
+use Rattle.am_record.specs.Plain.{Records, insert_all}
 use Rattle.am_record.specs.EntryOrder.{place_cmp, place_of}
 use Rattle.am_record.specs.declared.entry.Entry.{Entry}
-use Rattle.am_list.specs.Entries.{slot_of, find, insert_entry, remove_entry}
+use Rattle.am_list.specs.Entries.{find, insert_entry}
 use Rattle.am_list.specs.Content.{content, HasContent}
 use Rattle.am_list.proofs.Lists.{AllByRecursion-map}
-use Rattle.am_list.proofs.Edits.{find-miss, other_part, other_key, entry_at_inserted, entry_at_beside_inserted, insert_back}
-use Rattle.am_list.proofs.ContentLaws.{get_beside_inserted}
-use Rattle.am_parts.specs.Partitions.{Partitions, IsSound}
+use Rattle.am_list.proofs.Edits.{find-miss, other_part}
+use Rattle.am_parts.specs.Partitions.{Partitions}
 use Rattle.am_record.specs.Plain.{is_rising}
 use Rattle.am_list.specs.Runs.{run_entries}
 use Rattle.am_parts.proofs.Bridge.{with_run as part_run, with_run_appends}
 use Rattle.am_runs.specs.Loads.{live_entry, with_run, NothingAbove, IsLoaded}
-use Rattle.am_runs.proofs.Rising.{Record, run_sorted}
-use Rattle.am_runs.proofs.Taken.{NoneTaken}
+use Rattle.am_runs.proofs.Rising.{run_sorted}
 
 -- ---- nothing above
 

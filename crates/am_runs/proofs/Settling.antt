@@ -1,9 +1,9 @@
 -- The least live key of rising records: in the final partition, and below it in the runs.
-use Rattle.std.proofs.Common.{◌≡◌, ◌≢◌, ℕ, zero, suc, ◌+◌, ◌<◌, ◌≤◌, List, [], ◌∷◌, length, get_or, take, true, false, Option, Some, None, refl, sym, ap, ◌∙◌, subst, arith, ⊎_elim}
+use Rattle.std.proofs.Common.{◌≡◌, ◌≢◌, ℕ, zero, suc, ◌<◌, List, [], ◌∷◌, length, get_or, take, true, Option, Some, None, refl, sym, ap, ◌∙◌, subst, arith, ⊎_elim}
 use Rattle.std.specs.Prelude.{is_some, IfSome}
-use Rattle.std.proofs.lemmas.Bool.{cases_Bool, cases_eq, and_parts, and_from, or_left, or_right, or_cases, true≢false, false≢true}
+use Rattle.std.proofs.lemmas.Bool.{cases_Bool, cases_eq, and_parts, and_from, or_left, or_right, or_cases, false≢true}
 use Rattle.std.proofs.lemmas.Option.{none-some, same_Some}
-use Rattle.std.specs.Ordering.{is_le, is_lt}
+use Rattle.std.specs.Ordering.{is_lt}
 use Rattle.std.specs.List.{AllByRecursion, slice_get}
 use Rattle.std.specs.FinMap.{get, is_sorted}
 use Rattle.am_record.specs.OrderedKey.{OrderedKey, key_cmp, key_cmp-total, key_eq-exact}
@@ -20,7 +20,7 @@ use Rattle.am_runs.specs.Looks.{NoneLiveIn, IsLeastLiveIn, NoneInRuns, IsLeastIn
 use Rattle.am_runs.proofs.Rising.{Record, is_less, sorted_parts}
 use Rattle.am_runs.proofs.Parting.{not_less, less_not, is_below, kept, is_key_kept, sorted_kept}
 use Rattle.am_runs.proofs.Passing.{same_key, first_below, nothing_reached, no_key}
-use Rattle.am_runs.proofs.Taken.{IsLeast, least_found}
+use Rattle.am_runs.proofs.Taken.{least_found}
 
 -- ---- the final partition
 

@@ -1,15 +1,14 @@
 -- What a load of a run answers, and what it does to the partitions.
-use Rattle.std.specs.Prelude.{◌≡◌, ◌+◌, ◌<◌, ◌≤◌, ◌==◌, ◌⊎◌, ℕ, List, [], ◌∷◌, true, false, None, if◌then◌else◌}
+use Rattle.std.specs.Prelude.{◌≡◌, ◌+◌, ◌<◌, ◌≤◌, ◌==◌, ◌⊎◌, ℕ, List, [], ◌∷◌, false, None, if◌then◌else◌}
 use Rattle.std.specs.List.{AllByRecursion}
-use Rattle.std.specs.FinMap.{get, is_sorted}
-use Rattle.am_record.specs.OrderedKey.{OrderedKey, key_cmp}
+use Rattle.am_record.specs.OrderedKey.{OrderedKey}
 use Rattle.am_record.specs.Plain.{Records, is_key_of, insert_all, least_taken, exists_or_done}
 use Rattle.am_record.specs.declared.entry.Entry.{Entry}
 use Rattle.am_record.specs.declared.step.Reply.{Reply}
 use Rattle.am_record.specs.declared.step.Reply.TheVariants.{Done, Refused}
 use Rattle.am_record.specs.declared.step.Refusal.TheVariants.{TooManyRuns, NoMemory}
-use Rattle.am_list.specs.Entries.{find, insert_entry, IsRising}
-use Rattle.am_list.specs.Content.{content, OnePlace, HasContent}
+use Rattle.am_list.specs.Entries.{find, insert_entry}
+use Rattle.am_list.specs.Content.{content, HasContent}
 use Rattle.am_parts.specs.Partitions.{Partitions}
 
 -- the record as a live entry of the partition

@@ -80,7 +80,7 @@ fn first_in_runs<I: PartIndex + Drop>(parts: &Parts<I>, pairs: &[(Key, Value)]) 
     ensures { MatchOption result (NoneInRuns parts.now.entries pairs.now) (IsLeastInRuns parts.now.entries pairs.now) }
 {
     for pair in pairs {
-        if parts.run_of(pair.0).is_some() {
+        if parts.live_in_runs(pair.0).is_some() {
             return Some(pair.0);
         }
     }

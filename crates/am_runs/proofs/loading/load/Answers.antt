@@ -1,7 +1,7 @@
-use Rattle.std.proofs.Common.{◌≡◌, None, true, sym, ap, ◌∙◌}
+use Rattle.std.proofs.Common.{sym, ap, ◌∙◌}
 use Rattle.am_record.specs.Plain.{Records, is_rising, least_taken}
 use Rattle.am_list.specs.Content.{content}
-use Rattle.am_runs.proofs.Taken.{NoneTaken, none_from_least}
+use Rattle.am_runs.proofs.Taken.{none_from_least}
 use Rattle.am_runs.proofs.Loaded.{loaded, nothing_above-loaded}
 use Rattle.am_runs.proofs.loading.load.Goals as goal
 

@@ -1,4 +1,4 @@
-use Rattle.std.proofs.Common.{◌≡◌, ℕ, sym, subst}
+use Rattle.std.proofs.Common.{ℕ, sym, subst}
 use Rattle.std.specs.Prelude.{MatchOption}
 use Rattle.am_runs.specs.Looks.{NoneLiveIn, IsLeastLiveIn}
 use Rattle.am_runs.proofs.Settling.{empty_final, first_of_final, from_first}
