@@ -12,8 +12,12 @@ use crate::naming::Naming;
 use crate::seat::Seat;
 use std::alloc::Global;
 use std::marker::{Model, PhantomData};
-use std::sync::{Mutex, Wait};
+use std::sync::{Mutex, MutexGuard, Wait};
+use std::thread;
 use thiserror::Error;
+
+/// How often a thread lets others run before it sleeps at the latch.
+const PATIENCE: u32 = 1000;
 
 /// Why there is no latch.
 #[derive(Clone, Copy, Debug, PartialEq, Eq, Error)]
@@ -124,13 +128,26 @@ impl<L: Naming> Latch<L> {
         ))
     }
 
+    /// Takes the lock. A call holds it for some microseconds, and a thread that sleeps is woken much later than that: among
+    /// many threads each call would then wait for the next one to wake. So a thread lets others run first, and sleeps only
+    /// where that doesn't help.
+    pub(crate) fn hold<R: Wait>(&self, rt: &R) -> MutexGuard<'_, Held<L>> {
+        for _ in 0..PATIENCE {
+            if let Some(held) = self.held.try_lock() {
+                return held;
+            }
+            thread::yield_now();
+        }
+        self.held.lock(rt)
+    }
+
     /// Lends the engine to the closure, which has the latch to itself meanwhile, and answers what it answers of that
     /// engine: each of its calls was made by a seat of this latch, and what is active in it is open in these seats.
     pub fn look<T, R: Wait, F: FnOnce(&Engine) -> T>(&self, rt: &R, f: F) -> T
         requires { F.IsAlwaysCallable f }
         ensures { (engine : _) × IsEngineOf L.seats engine.now × F.post f engine result }
     {
-        let held = self.held.lock(rt);
+        let held = self.hold(rt);
         f(&held.engine)
     }
 }

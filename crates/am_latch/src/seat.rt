@@ -125,7 +125,7 @@ impl<L: Naming> Seat<L> {
         if self.receipts.len() >= MOST_RECEIPTS && tx_to_end(&step).is_none() {
             return Reply::Refused(Refusal::SeatFull);
         }
-        self.call_under(&latch.board, &mut latch.held.lock(rt), step)
+        self.call_under(&latch.board, &mut latch.hold(rt), step)
     }
 
     // Takes a step under the latch.
