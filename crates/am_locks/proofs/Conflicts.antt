@@ -1,7 +1,6 @@
 -- When locks conflict: the order of the two doesn't matter, and two exclusive locks on one key do.
-use Rattle.std.proofs.Common.{◌≡◌, List, Bool, true, false, not, ◌&&◌, refl, sym, ap, ◌∙◌, Less, Equal, Greater, Ordering, is_le, is_gt}
-use Rattle.std.proofs.lemmas.Cmp.{upto}
-use Rattle.am_record.specs.OrderedKey.{OrderedKey, key_cmp-total}
+use Rattle.std.proofs.Common.{◌≡◌, List, Bool, true, false, not, ◌&&◌, refl, ap, ◌∙◌}
+use Rattle.am_record.specs.OrderedKey.{OrderedKey}
 use Rattle.am_record.specs.Interval.{key_le, within}
 use Rattle.am_record.proofs.KeyOrder.{key_le_trans}
 use Rattle.am_record.specs.Locks.{conflicts, is_exclusive, are_compatible}

@@ -1,4 +1,5 @@
 pub mod Held
 pub mod Fronts
+pub mod Marks
 pub mod Table
 pub mod Answers

@@ -5,6 +5,7 @@ mod asked;
 mod front;
 mod fronts;
 mod invariant;
+mod marks;
 mod owner;
 mod table;
 

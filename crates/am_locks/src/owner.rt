@@ -1,15 +1,18 @@
 //! One owner of locks.
 
-ghost use Rattle.std.specs.Prelude.{◌≡◌, ◌≢◌, ◌<◌, ◌≤◌, ◌↔◌, ◌&&◌, ℕ, ◌++◌, ◌∷◌, [], false, length, take, drop, IsOk, OnOk, vec_capacity};
+ghost use Rattle.std.specs.Prelude.{◌≡◌, ◌≢◌, ◌<◌, ◌≤◌, ◌↔◌, ◌&&◌, ℕ, ◌++◌, ◌∷◌, [], false, length, take, drop, IfSome, IsOk, OnOk, vec_capacity};
 ghost use Rattle.std.specs.List.{list_any};
 ghost use Rattle.am_record.specs.Interval.{within};
+ghost use Rattle.am_record.specs.KeyMix.{key_mix};
 ghost use Rattle.am_record.specs.Locks.{conflicts, is_covered, is_exclusive, with_lock};
 ghost use Rattle.am_locks.specs.Held.{has_conflict, blocks, is_exclusive_at};
 ghost use Rattle.am_locks.specs.Fronts.{any_exclusive, AreFrontsOf};
+ghost use Rattle.am_locks.specs.Marks.{AreMarksOf, IsNumberOf};
 ghost use Rattle.smallvec.specs.SmallVec.{HasRoomFor};
 
 use crate::asked::Asked;
 use crate::fronts::Fronts;
+use crate::marks::{Marks, marks_of};
 use am_record::{Key, Lock};
 use smallvec::SmallVec;
 use std::alloc::{AllocError, Global};
@@ -25,11 +28,12 @@ pub const INLINE_LOCKS: usize = 8;
 /// A transaction and its locks, the oldest first.
 ///
 /// The first ones are looked at one by one: that is quicker for few locks, and takes no memory. The later
-/// ones are searched.
+/// ones are searched. Where the marks deny the key of what is asked, neither is done.
 #[derive(Drop)]
 pub(crate) struct Owner {
     number: u64,
     has_exclusive: bool,
+    marks: Marks,
     locks: SmallVec<Lock, INLINE_LOCKS>,
     later: Fronts,
 }
@@ -38,6 +42,7 @@ impl Model for Owner {
     ghost use Rattle.std.specs.Prelude.{◌≡◌, ◌≤◌, length, drop, vec_capacity};
     ghost use Rattle.am_locks.specs.Held.{Held, held_code};
     ghost use Rattle.am_locks.specs.Fronts.{any_exclusive, AreFrontsOf};
+    ghost use Rattle.am_locks.specs.Marks.{AreMarksOf};
 
     ghost Value = { Held };
 
@@ -47,6 +52,7 @@ impl Model for Owner {
 
     ghost invariant = { λ o. (8 ≤ o.locks.capacity) × (length o.locks.items ≤ 256)
         × (o.has_exclusive ≡ any_exclusive o.locks.items)
+        × AreMarksOf o.locks.items o.marks
         × AreFrontsOf (drop 8 o.locks.items) o.later.all.ranges.items o.later.exclusive.ranges.items
         × (length (drop 8 o.locks.items) ≤ vec_capacity o.later.all.ranges)
         × (length (drop 8 o.locks.items) ≤ vec_capacity o.later.exclusive.ranges) };
@@ -66,6 +72,7 @@ impl Owner {
         Owner {
             number,
             has_exclusive: false,
+            marks: Marks::new(),
             locks: SmallVec::new(alloc),
             later: Fronts::new(alloc),
         }
@@ -84,26 +91,36 @@ impl Owner {
         self.locks.len()
     }
 
-    /// Whether one of its locks keeps the transaction from the asked lock. Its own never do.
-    pub(crate) fn blocks(&self, tx: u64, asked: &Lock) -> bool
+    /// Whether one of its locks keeps the transaction from the asked lock. Its own never do. The number is that of the
+    /// asked lock's key, so that it is made once for many owners; it is given where that lock has one key alone.
+    pub(crate) fn blocks(&self, tx: u64, asked: &Lock, number: Option<u64>) -> bool
+        requires { IfSome number (IsNumberOf asked.now) }
         ensures { result ≡ blocks tx asked.now self.now }
     {
-        self.number != tx && self.has_conflict(asked)
+        self.number != tx && self.has_conflict(asked, number)
     }
 
-    fn has_conflict(&self, asked: &Lock) -> bool
+    fn has_conflict(&self, asked: &Lock, number: Option<u64>) -> bool
+        requires { IfSome number (IsNumberOf asked.now) }
         ensures { result ≡ has_conflict asked.now self.now }
     {
         if !self.has_exclusive && !asked.mode.is_exclusive() {
             return false;
         }
+        if let Some(number) = number {
+            if self.marks.denies(number) {
+                return false;
+            }
+        }
         conflict_among(first_of(&self.locks), asked) || self.later.conflict(asked)
     }
 
-    pub(crate) fn is_exclusive_at(&self, key: Key) -> bool
+    /// Whether one of its locks is exclusive, on the key of this number.
+    pub(crate) fn is_exclusive_at(&self, key: Key, number: u64) -> bool
+        requires { number ≡ key_mix key }
         ensures { result ≡ is_exclusive_at key self.now }
     {
-        if !self.has_exclusive {
+        if !self.has_exclusive || self.marks.denies(number) {
             return false;
         }
         is_exclusive_among(first_of(&self.locks), key) || self.later.is_exclusive_at(key)
@@ -137,6 +154,7 @@ impl Owner {
         }
         add_later(&mut self.later, &self.locks, &asked);
         self.has_exclusive |= asked.mode.is_exclusive();
+        self.marks.add(&asked);
         self.locks.push_reserved(asked);
         Asked::Granted
     }
@@ -150,6 +168,7 @@ impl Owner {
         }
         self.locks.truncate(n);
         self.has_exclusive = has_exclusive(&self.locks);
+        self.marks = marks_of(&self.locks);
         self.later.renew(later_of(&self.locks));
     }
 }

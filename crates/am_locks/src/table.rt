@@ -8,6 +8,7 @@ ghost use Rattle.am_locks.specs.Table.{is_owner, locks_of, entered, with_locks, 
 ghost use Rattle.am_locks.specs.Answers.{IsLeastOf, MatchBusy};
 
 use crate::asked::Asked;
+use crate::marks::number_of;
 use crate::owner::{INLINE_LOCKS, MAX_LOCKS, Owner};
 use am_record::{Key, Lock};
 use arrayvec::ArrayVec;
@@ -132,16 +133,21 @@ impl LockTable {
         ensures holder { exclusive_holders self.now key ≡ option_to_list result }
         ensures apart { AreAllApart self.now }
     {
-        let owner = self.owners.iter().find(|owner| owner.is_exclusive_at(key))?;
+        let number = key.mixed();
+        let owner = self
+            .owners
+            .iter()
+            .find(|owner| owner.is_exclusive_at(key, number))?;
         Some(owner.number())
     }
 
     fn least_blocker(&self, tx: u64, asked: &Lock) -> Option<u64>
         ensures { MatchOption result (blockers self.now tx asked.now ≡ []) (IsLeastOf (blockers self.now tx asked.now)) }
     {
+        let number = number_of(asked);
         self.owners
             .iter()
-            .filter(|owner| owner.blocks(tx, asked))
+            .filter(|owner| owner.blocks(tx, asked, number))
             .map(|owner| owner.number())
             .min()
     }

@@ -1,0 +1,91 @@
+-- What the marks of locks tell.
+use Rattle.std.proofs.Common.{◌≡◌, ◌≢◌, ℕ, ◌%◌, ◌<◌, List, [], ◌∷◌, ◌++◌, length, get_or, set, Bool, true, false, not, ◌&&◌, ◌||◌, refl, sym, ap, ◌∙◌, subst}
+use Rattle.std.specs.List.{list_any}
+use Rattle.std.specs.declared.cmp.Ordering.{Ordering}
+use Rattle.std.specs.declared.cmp.Ordering.TheVariants.{Less, Equal, Greater}
+use Rattle.std.specs.Ordering.{is_le, ordering_reverse}
+use Rattle.std.proofs.lemmas.Bool.{and_parts, true≢false, false_from_ne_true}
+use Rattle.std.proofs.lemmas.List.{get_or-set_same, get_or-set_other}
+use Rattle.std.proofs.lemmas.List.Folds.{list_any-append}
+use Rattle.am_record.specs.OrderedKey.{OrderedKey, key_cmp, key_cmp-total, key_cmp-exact}
+use Rattle.am_record.specs.Interval.{Interval, key_le, within}
+use Rattle.am_record.specs.KeyMix.{key_mix}
+use Rattle.am_record.specs.Locks.{conflicts, is_exclusive, are_compatible}
+use Rattle.am_record.specs.declared.lock.Lock.{Lock}
+use Rattle.am_locks.specs.declared.marks.Marks.{Marks}
+use Rattle.am_locks.specs.Marks.{denies, AreMarksOf, IsNumberOf}
+
+-- ---- the one key of a range
+
+key_le_both : (a b : OrderedKey) → key_le a b ≡ true → key_le b a ≡ true → a ≡ b
+key_le_both a b h k = by_order (key_cmp a b) refl h
+  where
+    by_order : (o : Ordering) → key_cmp a b ≡ o → is_le o ≡ true → a ≡ b
+    by_order Less less _ = absurd (true≢false (sym k ∙ ap is_le (key_cmp-total.antisymm b a ∙ ap ordering_reverse less)))
+    by_order Equal same _ = key_cmp-exact a b same
+    by_order Greater _ le = cc
+
+the_one_key : (r : Interval) (key : OrderedKey) → r.lo ≡ r.hi → within r key ≡ true → key ≡ r.lo
+the_one_key r key one h =
+    let parts = and_parts _ _ h in
+    key_le_both key r.lo (ap (key_le key) one ∙ parts.1) parts.0
+
+-- ---- what is denied
+
+-- the lock is none of what stays denied once its place is marked
+module _ (marks : Marks) (lock : Lock) (number i : ℕ) (is : IsNumberOf lock number) (place : i ≡ number % 256) (inside : i < length marks.places) where
+  abbrev pub marked : Marks
+  marked = record marks { places = set marks.places i true }
+
+  elsewhere : (key : OrderedKey) → denies marked (key_mix key) ≡ true → key_mix key % 256 ≢ i
+  elsewhere key h e =
+      true≢false (sym (and_parts _ _ h).1 ∙ ap not (ap (λ (j : ℕ). get_or (set marks.places i true) j true) e ∙ get_or-set_same marks.places i true true inside))
+
+  before : (key : OrderedKey) → denies marked (key_mix key) ≡ true → denies marks (key_mix key) ≡ true
+  before key h = ap (λ b. not marks.has_wide && not b) (sym (get_or-set_other marks.places i (key_mix key % 256) true true (elsewhere key h))) ∙ h
+
+  outside : (key : OrderedKey) → denies marked (key_mix key) ≡ true → within lock.range key ≡ false
+  outside key h = false_from_ne_true (within lock.range key) (λ w.
+      elsewhere key h (ap (λ k. key_mix k % 256) (the_one_key lock.range key is.one_key w) ∙ ap (λ (n : ℕ). n % 256) (sym is.mixed) ∙ sym place))
+
+  pub marks-point : (locks : List Lock) → AreMarksOf locks marks → AreMarksOf (locks ++ lock ∷ []) marked
+  marks-point locks promise = λ key h.
+      list_any-append (λ (l : Lock). within l.range key) locks (lock ∷ [])
+      ∙ (λ j. promise key (before key h) j || (outside key h j || false))
+
+-- where a lock has more keys than one, nothing is denied
+pub marks-wide : (places : List Bool) (locks : List Lock) → AreMarksOf locks (record { places = places; has_wide = true })
+marks-wide places locks = λ key h. cc
+
+-- ---- what a denied key spares
+
+fails_too : (test other : Lock → Bool) (l : Lock) (b later others : Bool) → test l ≡ b → (b || later) ≡ false → (test l ≡ false → other l ≡ false) → (later ≡ false → others ≡ false) → (other l || others) ≡ false
+fails_too test other l true later others k h fails rest = cc
+fails_too test other l false later others k h fails rest = (λ i. fails k i || others) ∙ rest h
+
+none_of : (test other : Lock → Bool) → ((l : Lock) → test l ≡ false → other l ≡ false) → (locks : List Lock) → list_any test locks ≡ false → list_any other locks ≡ false
+none_of test other fails [] e = refl
+none_of test other fails (l ∷ locks) e = fails_too test other l (test l) (list_any test locks) (list_any other locks) refl e (fails l) (none_of test other fails locks)
+
+apart : (x y c : Bool) → (x && y) ≡ false → ((y && x) && c) ≡ false
+apart true true c e = cc
+apart true false c e = refl
+apart false true c e = refl
+apart false false c e = refl
+
+-- a lock of one key that is denied conflicts with none
+pub denied_conflict : (marks : Marks) (asked : Lock) (number : ℕ) (locks : List Lock) → AreMarksOf locks marks → IsNumberOf asked number → denies marks number ≡ true → list_any (conflicts asked) locks ≡ false
+denied_conflict marks asked number locks promise is h =
+    none_of (λ l. within l.range asked.range.lo) (conflicts asked)
+    (λ l e. (λ i. (key_le asked.range.lo l.range.hi && key_le l.range.lo (sym is.one_key i)) && not (are_compatible asked.mode l.mode))
+    ∙ apart (key_le l.range.lo asked.range.lo) (key_le asked.range.lo l.range.hi) (not (are_compatible asked.mode l.mode)) e)
+    locks (promise asked.range.lo (subst (λ n. denies marks n ≡ true) is.mixed h))
+
+and_false : (x y : Bool) → y ≡ false → (x && y) ≡ false
+and_false true y e = e
+and_false false y e = refl
+
+-- and no lock on it is exclusive
+pub denied_exclusive : (marks : Marks) (key : OrderedKey) (locks : List Lock) → AreMarksOf locks marks → denies marks (key_mix key) ≡ true → list_any (λ l. is_exclusive l.mode && within l.range key) locks ≡ false
+denied_exclusive marks key locks promise h =
+    none_of (λ l. within l.range key) (λ l. is_exclusive l.mode && within l.range key) (λ l e. and_false (is_exclusive l.mode) (within l.range key) e) locks (promise key h)

@@ -1,0 +1,75 @@
+//! Marks of an owner's locks.
+
+ghost use Rattle.std.specs.Prelude.{◌≡◌, ◌≢◌, ◌%◌, ℕ, List, ◌∷◌, ◌++◌, [], true, IfSome, IfNone};
+ghost use Rattle.am_record.specs.declared.lock.Lock.{Lock};
+ghost use Rattle.am_locks.specs.Marks.{denies, AreMarksOf, IsNumberOf};
+
+use am_record::Lock;
+
+/// Which keys none of some locks has, as far as one look tells.
+///
+/// A lock of one key is marked at the place that the key's number gives. Of the others it is kept only that there is one.
+#[derive(Drop)]
+pub(crate) struct Marks {
+    places: [bool; 256],
+    has_wide: bool,
+}
+
+impl Marks {
+    /// Marks of no locks.
+    pub(crate) fn new() -> Marks
+        ensures { (number : ℕ) → denies result number ≡ true }
+    {
+        Marks {
+            places: [false; 256],
+            has_wide: false,
+        }
+    }
+
+    /// Whether none of the locks has the key of this number. Where they may have it, a look at each tells.
+    pub(crate) fn denies(&self, number: u64) -> bool
+        ensures { result ≡ denies self.now number }
+    {
+        !self.has_wide && !self.places[place_of(number)]
+    }
+
+    /// Marks one lock more.
+    pub(crate) fn add(&mut self, lock: &Lock)
+        ensures { (locks : List Lock) → AreMarksOf locks self.old → AreMarksOf (locks ++ lock.now ∷ []) self.new }
+    {
+        if let Some(number) = number_of(lock) {
+            self.places[place_of(number)] = true;
+        } else {
+            self.has_wide = true;
+        }
+    }
+}
+
+/// The marks of these locks.
+pub(crate) fn marks_of(locks: &[Lock]) -> Marks
+    ensures { AreMarksOf locks.now result }
+{
+    let mut marks = Marks::new();
+    for lock in locks {
+        marks.add(lock);
+    }
+    marks
+}
+
+/// The number of the lock's key, where it has one key alone.
+pub(crate) fn number_of(lock: &Lock) -> Option<u64>
+    ensures one { IfSome result (IsNumberOf lock.now) }
+    ensures more { IfNone result (lock.now.range.lo ≢ lock.now.range.hi) }
+{
+    let key = lock.range.lo();
+    if key != lock.range.hi() {
+        return None;
+    }
+    Some(key.mixed())
+}
+
+fn place_of(number: u64) -> usize
+    ensures { result ≡ number % 256 }
+{
+    (number % 256) as usize
+}
