@@ -53,10 +53,6 @@ module _ (marks : Marks) (lock : Lock) (number i : ℕ) (is : IsNumberOf lock nu
       list_any-append (λ (l : Lock). within l.range key) locks (lock ∷ [])
       ∙ (λ j. promise key (before key h) j || (outside key h j || false))
 
--- where a lock has more keys than one, nothing is denied
-pub marks-wide : (places : List Bool) (locks : List Lock) → AreMarksOf locks (record { places = places; has_wide = true })
-marks-wide places locks = λ key h. cc
-
 -- ---- what a denied key spares
 
 fails_too : (test other : Lock → Bool) (l : Lock) (b later others : Bool) → test l ≡ b → (b || later) ≡ false → (test l ≡ false → other l ≡ false) → (later ≡ false → others ≡ false) → (other l || others) ≡ false

@@ -11,9 +11,13 @@ use Rattle.am_locks.specs.declared.marks.Marks.{Marks}
 abbrev pub denies : Marks → ℕ → Bool
 denies marks number = not marks.has_wide && not (slice_index_or marks.places (number % 256) true)
 
--- a key that the marks deny lies in the range of none of the locks
+-- whether one of the locks has the key in its range
+abbrev pub any_within : List Lock → OrderedKey → Bool
+any_within locks key = list_any (λ l. within l.range key) locks
+
+-- none of the locks has a key that the marks deny
 abbrev pub AreMarksOf : List Lock → Marks → Type 0
-AreMarksOf locks marks = (key : OrderedKey) → denies marks (key_mix key) ≡ true → list_any (λ l. within l.range key) locks ≡ false
+AreMarksOf locks marks = (key : OrderedKey) → denies marks (key_mix key) ≡ true → any_within locks key ≡ false
 
 -- the lock has one key alone, and this is its number
 pub record IsNumberOf (lock : Lock) (number : ℕ) : Type 0 where
