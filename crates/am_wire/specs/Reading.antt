@@ -1,5 +1,5 @@
 -- What a line is read as, by its fields.
-use Rattle.std.specs.Prelude.{◌≡◌, ◌⊎◌, ℕ, ◌&&◌, ◌==◌, if◌then◌else◌, List, [], ◌∷◌, codes, map, Bool, true, Option, Some, None, Result, Ok, Err, IsOk, bytes_eq, option_map, ok_or}
+use Rattle.std.specs.Prelude.{◌≡◌, ◌⊎◌, ℕ, ◌&&◌, ◌==◌, if◌then◌else◌, List, [], ◌∷◌, codes, map, Bool, true, Option, Some, None, Result, Ok, Err, IsOk, bytes_eq, is_some, option_map, ok_or}
 use Rattle.std.specs.List.{slice_split, list_all, before_first, after_first}
 use Rattle.am_record.specs.declared.lock.Mode.{Mode}
 use Rattle.am_record.specs.declared.lock.Mode.TheVariants.{Shared, Exclusive}
@@ -7,7 +7,7 @@ use Rattle.am_wire.specs.Numbers.{is_numeral, numeral_value}
 use Rattle.am_wire.specs.Keys.{is_key_text}
 use Rattle.am_wire.specs.Values.{is_value_text}
 use Rattle.am_wire.specs.Verbs.{verb_for, shape_of, Shape, bare, one_key, one_record, one_number, range_and_number, mode_and_range, some_records}
-use Rattle.am_wire.specs.Arguments.{RecordText, Arguments, Values, values_for}
+use Rattle.am_wire.specs.Arguments.{RecordText, Arguments, Values, values_for, records_for}
 use Rattle.am_wire.specs.Grammar.{request_with, brings_records}
 use Rattle.am_wire.specs.declared.verb.Verb.{Verb}
 use Rattle.am_wire.specs.declared.request.Request.{Request}
@@ -71,6 +71,10 @@ values_in shape fs = judged (values_for shape) (arguments_in shape fs)
 -- this is what is due, or memory was refused where it is no fault
 abbrev pub MayBeRefused : {A : Type 0} → Result A LineFault → Result A LineFault → Type 0
 MayBeRefused due result = (result ≡ due) ⊎ ((result ≡ Err NoMemory) × IsOk due)
+
+-- the fault of a line that has one before these fields: one that is no record outranks it, and one out of bounds does
+abbrev pub fault_behind : LineFault → List (List ℕ) → LineFault
+fault_behind fault fs = if list_all is_record_field fs then (if is_some (records_for (map record_text fs)) then fault else Range) else Syntax
 
 -- a function of the value, where there is one
 abbrev pub map_ok : {A B E : Type 0} → (A → B) → Result A E → Result B E

@@ -15,8 +15,7 @@ use crate::verb::Verb;
 use am_record::Op;
 use std::alloc::Global;
 
-/// Reads the bytes of a line, which its LF or CR LF isn't part of. Only records that it brings take memory, once the
-/// whole line is judged.
+/// Reads the bytes of a line, which its LF or CR LF isn't part of. Only records that it brings take memory.
 #[inline(never)]
 pub fn parse_line(alloc: Global, line: &[u8]) -> Result<Request, LineFault>
     ensures grammar { Reads line.now result }
