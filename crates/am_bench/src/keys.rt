@@ -1,6 +1,6 @@
 //! The keys, in the orders in which they are used.
 
-use am_record::{Key, NoMemory, Value};
+use am_record::{Key, NoMemory, Range, Value};
 use std::alloc::Global;
 
 /// The same keys in three orders.
@@ -29,6 +29,27 @@ impl Keys {
             rising,
         })
     }
+}
+
+/// So many keys of the range that are not among the first `count` drawn, or fewer where a hundred times as many have too few.
+pub(crate) fn others(
+    alloc: Global,
+    count: u64,
+    range: Range,
+    wanted: usize,
+) -> Result<Vec<Key>, NoMemory> {
+    let mut others = Vec::new(alloc);
+    let draws = (wanted as u64).saturating_mul(100);
+    for number in count..count.saturating_add(draws) {
+        let key = Key::of_u64(mixed(number));
+        if range.contains(key) {
+            others.push(key)?;
+        }
+        if others.len() >= wanted {
+            break;
+        }
+    }
+    Ok(others)
 }
 
 // A number that looks drawn. Each step can be undone, so different numbers stay different (Steele, Lea and Flood, 2014).

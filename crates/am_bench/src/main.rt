@@ -7,6 +7,7 @@ mod figure;
 mod keys;
 mod locks;
 mod map;
+mod merged;
 mod runs;
 mod store;
 mod tree;
@@ -43,6 +44,7 @@ fn print_figures<R: AllocGlobal + Print + Clock>(rt: &R, count: u64) -> Result<(
     let keys = Keys::draw(rt.alloc(), count)?;
     let filled = trees::print_figures(rt, &keys)?;
     runs::print_figures(rt, &keys, filled)?;
+    merged::print_figures(rt, &keys)?;
     locks::print_figures(rt)
 }
 

@@ -74,6 +74,44 @@ pub(crate) fn read(store: &mut Store<BTree>, keys: &[Key]) -> Result<u64, Fault>
     Ok(sum)
 }
 
+/// Looks for keys that are absent, in such transactions, and answers how many.
+pub(crate) fn miss(store: &mut Store<BTree>, keys: &[Key]) -> Result<u64, Fault> {
+    for part in keys.chunks(READS) {
+        let tx = begin(store)?;
+        lock(store, tx, all_keys())?;
+        for key in part {
+            if store.step(Step::Do(tx, Op::Get(*key))) != Reply::Absent {
+                return Err(Fault::Differs);
+            }
+        }
+        commit(store, tx)?;
+    }
+    Ok(keys.len() as u64)
+}
+
+/// Scans so many rows at most from each key up to the last, in such transactions, and answers how many rows came.
+pub(crate) fn scan(
+    store: &mut Store<BTree>,
+    keys: &[Key],
+    last: Key,
+    rows: u64,
+) -> Result<u64, Fault> {
+    let mut count: u64 = 0;
+    for part in keys.chunks(READS) {
+        let tx = begin(store)?;
+        lock(store, tx, all_keys())?;
+        for key in part {
+            let range = Range::new(*key, last).ok_or(Fault::Differs)?;
+            match store.step(Step::Do(tx, Op::Scan(range, rows))) {
+                Reply::Rows(came) => count = count.saturating_add(came.as_slice().len() as u64),
+                _ => return Err(Fault::Differs),
+            }
+        }
+        commit(store, tx)?;
+    }
+    Ok(count)
+}
+
 fn lock(store: &mut Store<BTree>, tx: u64, range: Range) -> Result<(), Fault> {
     let lock = Lock {
         mode: Mode::Shared,
@@ -119,8 +157,13 @@ pub(crate) fn read_alone(store: &mut Store<BTree>, count: u64) -> Result<u64, Fa
 
 /// Asks for all keys by a scan, so that they are to be merged.
 pub(crate) fn ask_for_all(store: &mut Store<BTree>) -> Result<(), Fault> {
+    ask_for(store, all_keys())
+}
+
+/// Asks for the keys of a range.
+pub(crate) fn ask_for(store: &mut Store<BTree>, range: Range) -> Result<(), Fault> {
     let tx = begin(store)?;
-    match store.step(Step::Do(tx, Op::Scan(all_keys(), 1))) {
+    match store.step(Step::Do(tx, Op::Scan(range, 1))) {
         Reply::Rows(_) => commit(store, tx),
         _ => Err(Fault::Differs),
     }

@@ -19,6 +19,8 @@ mod loads;
 #[cfg(test)]
 mod locks;
 #[cfg(test)]
+mod merged;
+#[cfg(test)]
 mod merges;
 #[cfg(test)]
 mod over_std;

@@ -15,7 +15,7 @@ fn pair(number: u64, value: u8) -> (Key, Value) {
     (Key::of_u64(number), byte(value))
 }
 
-fn no_entries(alloc: Global) -> Parts<ListIndex>
+pub(crate) fn no_entries(alloc: Global) -> Parts<ListIndex>
     ensures { NothingAbove result.runs result.entries }
 {
     Parts::new(alloc, ListIndex::new(alloc))
@@ -133,7 +133,7 @@ fn load_makes_one_run(rt: HostRuntime) {
 }
 
 // The run of the numbers from the first to the last one is loaded, and answered so.
-fn loads_all(
+pub(crate) fn loads_all(
     rt: &impl Abort,
     alloc: Global,
     parts: &mut Parts<ListIndex>,

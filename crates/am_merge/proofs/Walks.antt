@@ -1,7 +1,7 @@
 -- Walks over the entries of a range, from partition to partition.
 use Rattle.std.proofs.Common.{◌≡◌, ◌≢◌, ℕ, ◌+◌, ◌-◌, ◌^◌, ◌<◌, ◌≤◌, List, Bool, true, false, cond, Option, Some, None, refl, sym, ap, ◌∙◌, subst, arith, ◌⊎◌, inl, inr, ⊎_elim}
 use Rattle.std.specs.Prelude.{nat_le, ◌==◌, ◌&&◌, not}
-use Rattle.std.proofs.lemmas.Bool.{cases_Bool, cond-true, cond-false, both_ways, and_parts, and_from, and_left, false_from_ne_true, true_from_ne_false, leb-true, le-leb, eqb-true, eq-eqb}
+use Rattle.std.proofs.lemmas.Bool.{cases_Bool, cond-true, cond-false, both_ways, and_parts, and_from, and_left, false_from_ne_true, true_from_ne_false, leb-true, le-leb, eqb-true, eq-eqb, cases_lt}
 use Rattle.std.specs.declared.cmp.Ordering.{Ordering}
 use Rattle.std.specs.declared.cmp.Ordering.TheVariants.{Less, Equal, Greater}
 use Rattle.std.specs.Ordering.{is_lt, is_gt, is_le, is_ge, ordering_reverse}
@@ -15,6 +15,7 @@ use Rattle.am_list.specs.Entries.{first_such, next_any, next_ghost, after, IsRis
 use Rattle.am_list.proofs.Order.{turned_greater}
 use Rattle.am_list.proofs.Lists.{AllByRecursion-map, first_such_none}
 use Rattle.am_list.proofs.Edits.{first_such_all, first_such_passes}
+use Rattle.am_parts.specs.Merged.{HasNoneBefore}
 use Rattle.am_parts.specs.Partitions.{IsSound}
 use Rattle.am_merge.specs.Walks.{in_parts_from, later_in_part, later, is_from, ghost_from, GoesOnAt}
 use Rattle.am_merge.proofs.Firsts.{comes_to, All-zip, All-any, same_test, first_same, none_such, none_under, first_comes, first_is, first_stands}
@@ -509,3 +510,27 @@ part_next es rise range x inside y found =
     (λ w. cond-true (within range y.key) (Some y) None w ∙ part_goes_on es rise range x inside y found w)
     (λ out. cond-false (within range y.key) (Some y) None out ∙ part_is_past es rise range x inside y found out)
     (cases_Bool (within range y.key))
+
+-- ---- runs that have nothing in the range
+
+-- a look may pass them
+pub look_passes : (es : List Entry) (range : Interval) (run : ℕ) → 0 < run → HasNoneBefore es range run → first_such (in_parts_from run range) es ≡ first_such (in_parts_from 1 range) es
+look_passes es range run some none =
+    first_same (in_parts_from run range) (in_parts_from 1 range) es
+    (AllByRecursion-map (λ e. 0 < e.part → e.part < run → within range e.key ≡ false) (λ e. in_parts_from run range e ≡ in_parts_from 1 range e)
+    (λ e h. same_test (in_parts_from run range e) (in_parts_from 1 range e)
+    (λ t. let p = and_parts (nat_le run e.part) (within range e.key) t in
+    let le : run ≤ e.part = leb-true run e.part p.0 in
+    and_from (nat_le 1 e.part) (within range e.key) (le-leb 1 e.part (omega (arith, le, some))) p.1)
+    (λ t. let p = and_parts (nat_le 1 e.part) (within range e.key) t in
+    let le : 1 ≤ e.part = leb-true 1 e.part p.0 in
+    and_from (nat_le run e.part) (within range e.key)
+    (⊎_elim (λ (less : e.part < run). absurd (both_ways (within range e.key) (h (omega (arith, le)) less) p.1)) (λ (on : run ≤ e.part). le-leb run e.part on) (cases_lt e.part run)) p.1))
+    es none)
+
+-- and where it finds nothing, it has passed all
+pub none_in_runs : (es : List Entry) (range : Interval) (run : ℕ) → first_such (in_parts_from 1 range) es ≡ None → HasNoneBefore es range run
+none_in_runs es range run none =
+    AllByRecursion-map (λ e. in_parts_from 1 range e ≡ false) (λ e. 0 < e.part → e.part < run → within range e.key ≡ false)
+    (λ e h some less. false_from_ne_true (within range e.key) (λ yes. both_ways (in_parts_from 1 range e) h (and_from (nat_le 1 e.part) (within range e.key) (le-leb 1 e.part (omega (arith, some))) yes))) es
+    (none_such (in_parts_from 1 range) es none)

@@ -11,7 +11,7 @@ ghost use Rattle.am_merge.specs.Walks.{in_parts_from, later_in_part};
 ghost use Rattle.am_merge.specs.Steps.{IsAsFar};
 
 use crate::moves::work_off;
-use crate::walk::{first_within, is_free, next_in_part};
+use crate::walk::{first_in_runs, is_free, next_in_part};
 use crate::wishes::Wishes;
 use am_list::PartIndex;
 use am_locks::LockTable;
@@ -45,7 +45,8 @@ pub fn merge_step<I: PartIndex + Drop>(
     let Some(wish) = wishes.oldest() else {
         return Reply::Idle;
     };
-    let Some(first) = first_within(parts, 1, wish) else {
+    let Some(first) = first_in_runs(parts, wish) else {
+        parts.note_merged(wish);
         wishes.drop_oldest();
         return Reply::MergeDone;
     };

@@ -19,12 +19,16 @@ pub(crate) fn is_free(locks: &LockTable, key: Key) -> bool
     locks.exclusive_at(key).is_none()
 }
 
-/// The first entry of the range in the partition `from` or a later one.
-pub(crate) fn first_within<I: PartIndex + Drop>(
-    parts: &Parts<I>,
-    from: u32,
-    range: Range,
-) -> Option<Entry>
+/// The first entry of the range in a run. Runs that are known to have none there aren't searched.
+pub(crate) fn first_in_runs<I: PartIndex + Drop>(parts: &Parts<I>, range: Range) -> Option<Entry>
+    ensures first { result ≡ first_such (in_parts_from 1 range) parts.now.entries }
+    ensures sound { IsSound parts.now.entries }
+{
+    first_within(parts, parts.first_run(range), range)
+}
+
+// The first entry of the range in the partition `from` or a later one.
+fn first_within<I: PartIndex + Drop>(parts: &Parts<I>, from: u32, range: Range) -> Option<Entry>
     ensures first { result ≡ first_such (in_parts_from from range) parts.now.entries }
     ensures sound { IsSound parts.now.entries }
 {

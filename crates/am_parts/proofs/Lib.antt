@@ -6,6 +6,7 @@ pub mod Catalogued
 pub mod Appending
 pub mod Finding
 pub mod Lives
+mod Emptied
 mod Homes
 mod Changes
 pub mod Looks

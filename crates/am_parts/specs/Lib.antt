@@ -1,3 +1,4 @@
 pub mod Catalogs
 pub mod Generations
+pub mod Merged
 pub mod Partitions

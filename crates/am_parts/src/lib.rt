@@ -3,6 +3,7 @@
 
 mod catalog;
 mod generations;
+mod merged;
 mod parts;
 
 pub use parts::{Parts, Vacancy};

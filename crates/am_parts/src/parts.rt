@@ -8,11 +8,13 @@ ghost use Rattle.am_list.specs.Entries.{find, slot_of, next_any, next_ghost, nex
 ghost use Rattle.am_list.specs.Runs.{run_entries};
 ghost use Rattle.am_list.specs.Content.{content, live_value, HasContent};
 ghost use Rattle.am_parts.specs.Catalogs.{IsCatalog};
+ghost use Rattle.am_parts.specs.Merged.{HasNoneBefore};
 ghost use Rattle.am_parts.specs.Partitions.{settled, vacancy_over};
 
 use crate::catalog::Catalog;
+use crate::merged::MergedRanges;
 use am_list::{Batch, PartIndex};
-use am_record::{Entry, Key, NoMemory, Value};
+use am_record::{Entry, Key, NoMemory, Range, Value};
 use std::alloc::Global;
 use std::marker::Model;
 
@@ -33,12 +35,14 @@ pub enum Vacancy {
 pub struct Parts<I: PartIndex + Drop> {
     index: I,
     catalog: Catalog,
+    merged: MergedRanges,
     runs: u32,
 }
 
 impl<I: PartIndex + Drop> Model for Parts<I> {
     ghost use Rattle.std.specs.Prelude.{◌≤◌};
     ghost use Rattle.am_parts.specs.Catalogs.{IsCatalog};
+    ghost use Rattle.am_parts.specs.Merged.{AreMerged};
     ghost use Rattle.am_parts.specs.Partitions.{Partitions, partitions_code, IsSound};
 
     ghost Value = { Partitions };
@@ -47,7 +51,7 @@ impl<I: PartIndex + Drop> Model for Parts<I> {
 
     ghost view = { λ p. record { entries = I.entries p.index; runs = p.runs } };
 
-    ghost invariant = { λ p. IsSound (I.entries p.index) × (p.runs ≤ 65535) × IsCatalog (I.entries p.index) p.catalog };
+    ghost invariant = { λ p. IsSound (I.entries p.index) × (p.runs ≤ 65535) × IsCatalog (I.entries p.index) p.catalog × AreMerged (I.entries p.index) p.runs p.merged.list.items };
 }
 
 impl<I: PartIndex + Drop> Parts<I> {
@@ -62,6 +66,7 @@ impl<I: PartIndex + Drop> Parts<I> {
         Parts {
             index,
             catalog: Catalog::new(alloc),
+            merged: MergedRanges::new(alloc),
             runs: 0,
         }
     }
@@ -198,6 +203,7 @@ impl<I: PartIndex + Drop> Parts<I> {
         // Read here, the number is known to fit its type.
         prove!(entry.part <= u32::MAX);
         self.catalog.add(entry.part, entry.key)?;
+        self.merged.add(entry.part);
         insert_or_forget(&mut self.index, &mut self.catalog, entry)
     }
 
@@ -247,6 +253,25 @@ impl<I: PartIndex + Drop> Parts<I> {
         Ok(())
     }
 
+    /// The first run that may have an entry with a key in the range, as far as is known.
+    pub fn first_run(&self, range: Range) -> u32
+        ensures is_run { 0 < result }
+        ensures none_before { HasNoneBefore self.now.entries range result }
+        ensures sound { IsSound self.now.entries }
+    {
+        self.merged.first_run(&range)
+    }
+
+    /// Puts a range down as merged. The caller sees to it that no run made so far has an entry with a key in it. What is
+    /// known of other ranges may be let go. Takes no memory.
+    pub fn note_merged(&mut self, range: Range)
+        requires { HasNoneBefore self.old.entries range (self.old.runs + 1) }
+        ensures entries { self.new.entries ≡ self.old.entries }
+        ensures runs { self.new.runs ≡ self.old.runs }
+    {
+        self.merged.note(range, self.runs + 1);
+    }
+
     /// Counts one more run. The caller sees to it that fewer than 65,535 were made.
     pub fn count_run(&mut self)
         requires { self.old.runs < 65535 }
@@ -273,6 +298,7 @@ impl<I: PartIndex + Drop> Parts<I> {
         ensures err { OnErr result (self.new ≡ self.old) }
     {
         let part = self.runs + 1;
+        self.merged.reserve()?;
         let run = self.catalog.make_room(part, pairs)?;
         self.index.append_run(part, pairs)?;
         self.catalog.push(run, pairs);

@@ -1,6 +1,7 @@
 -- Heads gathered from partition to partition.
-use Rattle.std.proofs.Common.{◌≡◌, ℕ, ◌+◌, ◌^◌, ◌<◌, ◌≤◌, List, [], ◌∷◌, Bool, true, false, ◌&&◌, ◌||◌, ◌==◌, Some, refl, sym, ap, ◌∙◌, subst, arith, ⊎_elim}
-use Rattle.std.proofs.lemmas.Bool.{and_parts, true≢false, cases_lt, cases_Bool, cond-false, eqb-true}
+use Rattle.std.proofs.Common.{◌≡◌, ℕ, ◌+◌, ◌^◌, ◌<◌, ◌≤◌, List, [], ◌∷◌, Bool, true, false, ◌&&◌, ◌||◌, ◌==◌, Some, None, ◌⊎◌, inl, inr, max, refl, sym, ap, ◌∙◌, subst, arith, ⊎_elim}
+use Rattle.std.proofs.Math.Nat.{max-le, max-eq_left}
+use Rattle.std.proofs.lemmas.Bool.{and_parts, true≢false, both_ways, false_from_ne_true, cases_lt, cases_Bool, cond-false, eqb-true}
 use Rattle.std.proofs.lemmas.Bool.Decides.{nat_tests}
 use Rattle.std.proofs.lemmas.Option.{none-some}
 use Rattle.std.proofs.lemmas.List.Elements.{All-cons, All-nil, All-from_recursion, recursion_from_All}
@@ -15,10 +16,13 @@ use Rattle.std.specs.List.Sorted.{IsPermutation}
 use Rattle.std.specs.BinaryHeap.{IsHeap, KeepsHeap}
 use Rattle.am_record.specs.OrderedKey.{OrderedKey, key_cmp}
 use Rattle.am_record.specs.Interval.{Interval, key_le, within}
-use Rattle.am_record.specs.EntryOrder.{place_of, place_cmp, place_cmp-equal}
+use Rattle.am_record.specs.EntryOrder.{Place, place_of, place_cmp, place_cmp-equal}
 use Rattle.am_record.specs.declared.entry.Entry.{Entry}
 use Rattle.am_list.specs.Entries.{Slot, slot_of, first_such, find}
 use Rattle.am_list.specs.Content.{IsLiveAt}
+use Rattle.am_list.proofs.Lists.{AllByRecursion-map, first_such_none}
+use Rattle.am_list.proofs.Edits.{one_place}
+use Rattle.am_parts.specs.Merged.{HasNoneBefore}
 use Rattle.am_parts.specs.Partitions.{IsSound}
 use Rattle.am_scan.specs.Looks.{AreEmptyFrom, IsFirstFrom, HasNoneLive}
 use Rattle.am_scan.specs.declared.head.Head.{Head}
@@ -66,6 +70,22 @@ live_fits (e ∷ es) part key s fits there =
     tie Less h = absurd (true≢false (sym h))
     tie Equal h = refl
     tie Greater h = absurd (true≢false (sym h))
+
+-- no key of the range stands in a run before that one
+none_found : (es : List Entry) (range : Interval) (run part : ℕ) (key : OrderedKey) → HasNoneBefore es range run → 0 < part → part < run → within range key ≡ true → find es part key ≡ None
+none_found es range run part key none some less inside =
+    ap (option_map slot_of)
+    (first_such_none (λ e. is_eq (place_cmp (place_of e) (part, key))) es
+    (AllByRecursion-map (λ e. 0 < e.part → e.part < run → within range e.key ≡ false) (λ e. is_eq (place_cmp (place_of e) (part, key)) ≡ false)
+    (λ e h. false_from_ne_true (is_eq (place_cmp (place_of e) (part, key))) (λ tied.
+    let there = one_place (place_of e) (part, key) tied in
+    let in_part : e.part ≡ part = ap (λ (q : Place). q.0) there in
+    both_ways (within range e.key) (h (omega (arith, in_part, some)) (omega (arith, in_part, less))) (ap (λ (q : Place). within range q.1) there ∙ inside)))
+    es none))
+
+-- the greater of two numbers is the first, or the second is at or above it
+pub max_one : (a b : ℕ) → (max a b ≡ a) ⊎ (max a b ≤ b)
+max_one a b = ⊎_elim (λ (less : a < b). inr (max-le (omega arith) (omega arith))) (λ (le : b ≤ a). inl (max-eq_left le)) (cases_lt a b)
 
 -- ---- gathering
 
@@ -151,6 +171,19 @@ module _ {es : List Entry} {range : Interval} {to : ℕ} {heads : List Head} (ga
         before = λ part key value less live inside.
             sym (list_any-IsPermutation (λ (g : Head). g.entry.part == part && key_le g.entry.key key) (h ∷ heads) heads' moved) ∙ ahead part key value less live inside;
       }
+
+  -- runs that have nothing in the range are passed
+  pub passes_runs : (run to' : ℕ) → 0 < to → to ≤ to' → (to' ≡ to) ⊎ (to' ≤ run) → HasNoneBefore es range run → AreHeadsBelow es range to' heads
+  passes_runs run to' some up which none = record {
+    are_heads = gathered.are_heads;
+    heap = gathered.heap;
+    below = All-from_recursion (λ (h : Head). h.entry.part < to') heads (lower_all to to' heads up (recursion_from_All (λ (h : Head). h.entry.part < to) heads gathered.below));
+    before = λ part key value less live inside.
+        ⊎_elim (λ old. gathered.before part key value old live inside)
+        (λ new. ⊎_elim (λ (same : to' ≡ to). absurd (omega (arith, same, less, new)))
+        (λ (low : to' ≤ run). absurd (none_live es part key (none_found es range run part key none (omega (arith, some, new)) (omega (arith, low, less)) inside) value live)) which)
+        (cases_lt part to);
+  }
 
   -- there is no entry left
   pub has_all : AreEmptyFrom es to range.lo → AreAllHeads es range heads

@@ -29,6 +29,7 @@ pub(crate) fn heads_of<I: PartIndex + Drop>(
     ensures heads { IfOk result (λ heads. AreAllHeads parts.now.entries range (heap_items heads)) }
     ensures sound { IsSound parts.now.entries }
 {
+    let first_run = parts.first_run(range);
     let mut heads = BinaryHeap::new(alloc);
     let mut part = 0;
     while let Some(entry) = first_from(parts, part, range.lo()) {
@@ -40,7 +41,8 @@ pub(crate) fn heads_of<I: PartIndex + Drop>(
         let Some(above) = here.checked_add(1) else {
             break;
         };
-        part = above;
+        // The runs before that one have nothing in the range.
+        part = above.max(first_run);
     }
     Ok(heads)
 }

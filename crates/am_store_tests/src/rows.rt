@@ -40,6 +40,26 @@ pub(crate) const LOAD_BESIDE_A_GHOST_THEN_MERGE: &[Exchange] = &[
     ("MERGE 16", "IDLE"),
 ];
 
+pub(crate) const RUN_LOADED_AFTER_A_MERGE: &[Exchange] = &[
+    ("BEGIN", "BEGUN 1"),
+    ("LOAD 3=a 5=b 9=c", "OK"),
+    ("COMMIT", "COMMITTED 1"),
+    ("BEGIN", "BEGUN 2"),
+    ("SCAN 2 6 9", "ROWS 2 3=a 5=b"),
+    ("MERGE 16", "MOVED 2 1"),
+    ("MERGE 16", "DONE"),
+    ("LOAD 4=d 7=e", "OK"),
+    ("COMMIT", "COMMITTED 2"),
+    ("BEGIN", "BEGUN 3"),
+    ("SCAN 3 5 9", "ROWS 3 3=a 4=d 5=b"),
+    ("GET 7", "VAL e"),
+    ("MERGE 16", "MOVED 1 2"),
+    ("MERGE 16", "DONE"),
+    ("MERGE 16", "MOVED 1 2"),
+    ("MERGE 16", "DONE"),
+    ("MERGE 16", "IDLE"),
+];
+
 pub(crate) const CLEAN_TAKES_GHOSTS: &[Exchange] = &[
     ("BEGIN", "BEGUN 1"),
     ("INS 5 a", "OK"),
@@ -246,6 +266,7 @@ pub(crate) const NEVER_MERGED: &[&[Exchange]] = &[
 /// The rows in which lines merge or clean.
 pub(crate) const MERGED: &[&[Exchange]] = &[
     LOAD_BESIDE_A_GHOST_THEN_MERGE,
+    RUN_LOADED_AFTER_A_MERGE,
     CLEAN_TAKES_GHOSTS,
     MERGE_ENDS_AT_A_LOCKED_KEY,
     MERGE_LIMITS,

@@ -61,6 +61,18 @@ fn load_beside_a_ghost_then_merge(rt: HostRuntime) -> Result<(), NoMemory> {
 }
 
 #[test]
+fn run_loaded_after_a_merge(rt: HostRuntime) -> Result<(), NoMemory> {
+    let entries = [
+        (0, "3", "a", Live),
+        (0, "4", "d", Live),
+        (0, "5", "b", Live),
+        (0, "7", "e", Live),
+        (1, "9", "c", Live),
+    ];
+    leaves(&rt, rt.alloc(), rows::RUN_LOADED_AFTER_A_MERGE, &entries)
+}
+
+#[test]
 fn least_and_greatest_key(rt: HostRuntime) -> Result<(), NoMemory> {
     says(&rt, rt.alloc(), rows::LEAST_AND_GREATEST_KEY)
 }

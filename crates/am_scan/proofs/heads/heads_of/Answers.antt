@@ -1,8 +1,9 @@
-use Rattle.std.proofs.Common.{IfSome, IfNone, ◌+◌, sym, subst}
+use Rattle.std.proofs.Common.{ℕ, ◌≡◌, ◌⊎◌, ◌≤◌, IfSome, IfNone, ◌+◌, sym, subst, arith}
+use Rattle.std.proofs.Math.Nat.{le-max_left}
 use Rattle.std.specs.BinaryHeap.{heap_items}
 use Rattle.am_scan.specs.Looks.{IsFirstFrom, AreEmptyFrom, HasNoneLive}
 use Rattle.am_scan.specs.Heads.{IsFirstHead}
-use Rattle.am_scan.proofs.Gathering.{AreHeadsBelow, none_yet, passes_part, takes_head, has_all, has_all_numbers}
+use Rattle.am_scan.proofs.Gathering.{AreHeadsBelow, none_yet, passes_part, passes_runs, max_one, takes_head, has_all, has_all_numbers}
 use Rattle.am_scan.proofs.heads.heads_of.Goals as goal
 use Rattle.am_scan.proofs.heads.heads_of.Goals.{in-Some+in_ok-first+in_default-checked_add, in-Some-first+in_ok-push, in_default-first, in_default}
 
@@ -12,12 +13,15 @@ loop-entry-init g c = none_yet c.args.parts.now.entries c.args.range (heap_items
 pub loop-entry-preserved : goal.loop-entry-preserved
 loop-entry-preserved g c =
     let es = c.args.parts.now.entries in
+    let above = c.in-Some-checked_add.above in
     let first = subst (λ lo. IsFirstFrom es c.loop-entry.part lo c.in-Some.entry) c.lo.ensures.value c.in-Some.ensures.some in
-    subst (λ n. AreHeadsBelow es c.args.range n (heap_items c.match-first.heads)) (sym c.in-Some-checked_add.ensures.1)
+    let gathered : AreHeadsBelow es c.args.range above (heap_items c.match-first.heads) = subst (λ n. AreHeadsBelow es c.args.range n (heap_items c.match-first.heads)) (sym c.in-Some-checked_add.ensures.1)
     (elim c.match-first.branch [
       | in-Some-first+in_ok-push w ↦ rw w.heads-is (takes_head c.loop-entry.invariant c.in-Some.entry first w.in-Some-first.head (subst (λ o. IfSome o (IsFirstHead es c.args.range c.in-Some.entry.part)) w.in-Some-first.is c.in_ok-first.ensures.some) w.in_ok-push.ensures.permutation w.in_ok-push.ensures.heap_order)
       | in_default-first w ↦ rw w.heads-is (passes_part c.loop-entry.invariant c.in-Some.entry first (subst (λ o. IfNone o (HasNoneLive es c.args.range c.in-Some.entry.part)) w.in_default-first.is c.in_ok-first.ensures.none))
-    ])
+    ]) in
+    passes_runs gathered c.first_run-first_run.result c.max-part.result (omega (arith, c.in-Some-checked_add.ensures.1)) (subst (λ (n : ℕ). above ≤ n) (sym c.max-part.ensures) (le-max_left above c.first_run-first_run.result))
+    (subst (λ (n : ℕ). (n ≡ above) ⊎ (n ≤ c.first_run-first_run.result)) (sym c.max-part.ensures) (max_one above c.first_run-first_run.result)) c.first_run-first_run.ensures.none_before
 
 pub returns-clause-heads : goal.returns-clause-heads
 returns-clause-heads g c =

@@ -6,8 +6,10 @@ use Rattle.am_record.specs.declared.entry.Entry.{Entry}
 use Rattle.am_list.specs.Content.{content, HasContent}
 use Rattle.am_list.specs.Runs.{run_entries}
 use Rattle.am_parts.specs.Catalogs.{IsCatalog}
+use Rattle.am_parts.specs.Merged.{AreMerged}
 use Rattle.am_parts.specs.Partitions.{Partitions, IsSound}
 use Rattle.am_parts.proofs.Appending.{is_next, under_next, next_rises, next_content, next_sound}
+use Rattle.am_parts.proofs.Emptied.{merged_appended}
 use Rattle.am_parts.proofs.parts.Parts.append_run.Goals as goal
 
 pub append_run-requires-clause-above : goal.append_run-requires-clause-above
@@ -27,6 +29,9 @@ invariant_of-self-2 g c =
       omega (arith, runs, c.requires.room),
       subst (λ (es : List Entry). IsCatalog es c.push.new.self) (sym c.in_ok-append_run.ensures.ok)
           (c.push.ensures _ (c.self.inside.runs + 1) (c.make_room.ensures.same _ (under_next _ c.self.inside.runs above) c.self.invariant.2) (is_next _ c.self.inside.runs c.args.pairs.now above c.requires.rising) c.in_ok-run.ensures.run),
+      subst (λ (es : List Entry). AreMerged es (c.self.inside.runs + 1) c.reserve.new.self.list.items) (sym c.in_ok-append_run.ensures.ok)
+          (merged_appended (g.I.PartIndex.entries c.self.inside.index) c.self.inside.runs c.args.pairs.now c.reserve.new.self.list.items
+          (subst (AreMerged (g.I.PartIndex.entries c.self.inside.index) c.self.inside.runs) (sym c.reserve.ensures) c.self.invariant.3)),
     )
 
 pub invariant_of-self-in_err-append_run : goal.invariant_of-self-in_err-append_run
@@ -36,6 +41,8 @@ invariant_of-self-in_err-append_run g c =
       subst IsSound same c.self.invariant.0,
       c.self.invariant.1,
       subst (λ (es : List Entry). IsCatalog es c.make_room.new.self) same (c.make_room.ensures.same _ (under_next _ c.self.inside.runs above) c.self.invariant.2),
+      subst (λ (es : List Entry). AreMerged es c.self.inside.runs c.reserve.new.self.list.items) same
+          (subst (AreMerged (g.I.PartIndex.entries c.self.inside.index) c.self.inside.runs) (sym c.reserve.ensures) c.self.invariant.3),
     )
 
 pub returns-clause-content : goal.returns-clause-content

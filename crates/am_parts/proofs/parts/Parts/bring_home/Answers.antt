@@ -3,9 +3,11 @@ use Rattle.std.specs.Prelude.{IsSome, is_some}
 use Rattle.am_record.specs.declared.entry.Entry.{Entry}
 use Rattle.am_list.specs.Entries.{find, remove_entry}
 use Rattle.am_parts.specs.Catalogs.{IsCatalog}
+use Rattle.am_parts.specs.Merged.{AreMerged}
 use Rattle.am_parts.specs.Partitions.{Partitions}
 use Rattle.am_parts.proofs.Changes.{homes}
 use Rattle.am_parts.proofs.Homes.{still_stands}
+use Rattle.am_parts.proofs.Emptied.{merged_home}
 use Rattle.am_parts.proofs.parts.Parts.bring_home.Goals as goal
 
 pub take-requires : goal.take-requires
@@ -35,6 +37,8 @@ invariant_of-self-2 g c =
       (homes (ap (λ (p : Partitions). p.entries) c.self.view_is) c.self.invariant.0 e c.requires.stands c.requires.in_run c.requires.live (c.remove.ensures.others ∙ ap (λ l. remove_entry l e.part e.key) c.in_ok-settle.ensures.ok)).sound,
       c.self.invariant.1,
       subst (λ (l : List Entry). IsCatalog l c.take.new.self) (sym c.remove.ensures.others) (c.take.ensures _ e.key c.settle.ensures.catalog stays),
+      subst (λ (l : List Entry). AreMerged l c.self.inside.runs c.self.inside.merged.list.items) (sym (c.remove.ensures.others ∙ ap (λ l. remove_entry l e.part e.key) c.in_ok-settle.ensures.ok))
+          (merged_home es c.self.inside.runs e c.self.inside.merged.list.items c.self.invariant.3),
     )
 
 pub returns-clause-content : goal.returns-clause-content

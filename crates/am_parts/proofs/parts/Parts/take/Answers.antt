@@ -2,8 +2,10 @@ use Rattle.std.proofs.Common.{sym, subst, ap}
 use Rattle.std.specs.Prelude.{IsSome}
 use Rattle.am_list.specs.Entries.{find}
 use Rattle.am_parts.specs.Catalogs.{IsCatalog}
+use Rattle.am_parts.specs.Merged.{AreMerged}
 use Rattle.am_parts.specs.Partitions.{Partitions}
 use Rattle.am_parts.proofs.Changes.{takes}
+use Rattle.am_parts.proofs.Emptied.{merged_removed}
 use Rattle.am_parts.proofs.parts.Parts.take.Goals as goal
 
 pub take-requires : goal.take-requires
@@ -20,6 +22,8 @@ invariant_of-self g c = (
   c.self.invariant.1,
   subst (λ es. IsCatalog es c.take.new.self) (sym c.remove.ensures.others)
       (c.take.ensures _ c.args.key c.self.invariant.2 (subst (λ (p : Partitions). IsSome (find p.entries c.args.part c.args.key)) (sym c.self.view_is) c.requires)),
+  subst (λ es. AreMerged es c.self.inside.runs c.self.inside.merged.list.items) (sym c.remove.ensures.others)
+      (merged_removed (g.I.PartIndex.entries c.self.inside.index) c.self.inside.runs c.args.part c.args.key c.self.inside.merged.list.items c.self.invariant.3),
 )
 
 pub returns-clause-content : goal.returns-clause-content

@@ -1,0 +1,7 @@
+use Rattle.std.proofs.Common.{ℕ, ◌<◌, List}
+use Rattle.am_record.specs.declared.entry.Entry.{Entry}
+use Rattle.am_parts.specs.Merged.{AreMerged, HasNoneBefore}
+use Rattle.am_parts.proofs.merged.MergedRanges.first_run.Given as goal
+
+abbrev pub invariant-loop-merged : goal.invariant-loop-merged
+invariant-loop-merged l = (0 < l.first) × ((es : List Entry) (runs : ℕ) → AreMerged es runs l.self.list.items → HasNoneBefore es l.range l.first)
