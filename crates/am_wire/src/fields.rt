@@ -29,13 +29,6 @@ impl<'a> Fields<'a> {
         Fields { rest: Some(line) }
     }
 
-    /// The same fields, to be read once more.
-    pub fn again(&self) -> Fields<'a>
-        ensures { result ≡ self.now }
-    {
-        Fields { rest: self.rest }
-    }
-
     /// The next field; Syntax where none is left.
     pub fn next(&mut self) -> Result<&'a [u8], LineFault>
         ensures { MatchResult result
