@@ -59,8 +59,52 @@ def change(rng, tx, seen, keys):
             assert keys_between(before, b"", keys[-1]) == list(tx.scan())
 
 
+LAST = b"\xff" * 32
+WORD = 2**64
+MIXER = 0xBF58_476D_1CE4_E5B9
+
+
+def mix(number: int, word: int) -> int:
+    mixed = (number ^ word) * MIXER % WORD
+    return mixed ^ mixed >> 32
+
+
+def keys_of_number(rng: random.Random, number: int, count: int) -> list[bytes]:
+    """Keys of 32 bytes whose number, by which filters know them, is this one: the last word undoes what the others made."""
+    keys = []
+    for _ in range(count):
+        words = [rng.randrange(WORD) for _ in range(3)]
+        front = 32
+        for word in words:
+            front = mix(front, word)
+        mixed = (number ^ number >> 32) * pow(MIXER, -1, WORD) % WORD
+        words.append(mixed ^ front)
+        assert mix(front, words[-1]) == number
+        keys.append(b"".join(word.to_bytes(8, "big") for word in words))
+    return keys
+
+
+def chosen_keys(rng: random.Random) -> None:
+    """Keys that were chosen so that no filter tells them apart are found, and the absent ones are not, beside 300 runs."""
+    keys = keys_of_number(rng, rng.randrange(WORD), 4000)
+    held, absent = keys[:3000], keys[3000:]
+    with tiuvrokk.Store() as store:
+        with store.transaction() as tx:
+            tx.lock(b"", LAST, exclusive=True)
+            tx.load(((key, b"1") for key in held), run=10)
+        with store.transaction() as tx:
+            tx.lock(b"", LAST, exclusive=True)
+            assert all(tx[key] == b"1" for key in held)
+            assert not any(key in tx for key in absent)
+            assert expect(tiuvrokk.Exists, tx.insert, held[0], b"2").key == held[0]
+            assert expect(tiuvrokk.Exists, tx.load, [(key, b"2") for key in keys]).key == min(held)
+            assert tx.load((key, b"2") for key in absent) == len(absent)
+            assert [key for key, _ in tx.scan()] == sorted(keys)
+
+
 def main(calls: int, seed: int) -> None:
     rng = random.Random(seed)
+    chosen_keys(rng)
     keys = sorted({rng.randbytes(rng.randrange(33)) for _ in range(120)})
     committed, done, commits = {}, 0, 0
     with tiuvrokk.Store() as store:

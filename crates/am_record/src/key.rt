@@ -17,7 +17,8 @@ pub const MAX_KEY_LEN: usize = 32;
 #[derive(Clone, Copy, Debug)]
 pub struct Key {
     bytes: [u8; 32],
-    len: u8,
+    // As wide as a word that memory is copied by: an entry has no odd bytes then.
+    len: u32,
 }
 
 impl Model for Key {
@@ -54,7 +55,7 @@ impl Key {
         all[..len].copy_from_slice(bytes);
         Some(Key {
             bytes: all,
-            len: len as u8,
+            len: len as u32,
         })
     }
 

@@ -11,7 +11,7 @@ pub const MAX_VALUE_LEN: usize = 64;
 #[derive(Clone, Copy, Debug, PartialEq, Eq, PartialOrd, Ord, Hash)]
 pub struct Value {
     bytes: [u8; 64],
-    len: usize,
+    len: u32,
 }
 
 impl Model for Value {
@@ -43,7 +43,10 @@ impl Value {
         }
         let mut all = [0; 64];
         all[..len].copy_from_slice(bytes);
-        Some(Value { bytes: all, len })
+        Some(Value {
+            bytes: all,
+            len: len as u32,
+        })
     }
 
     /// The bytes.
@@ -51,6 +54,6 @@ impl Value {
         ensures all { result.now ≡ self.now }
         ensures short { length self.now ≤ 64 }
     {
-        &self.bytes[..self.len]
+        &self.bytes[..self.len as usize]
     }
 }
