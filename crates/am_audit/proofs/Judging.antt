@@ -9,7 +9,8 @@ use Rattle.am_record.specs.declared.step.Op.TheVariants.{Get, Scan, Insert, Repl
 use Rattle.am_record.specs.declared.step.Step.TheVariants.{Do}
 use Rattle.am_record.specs.declared.step.Reply.{Reply}
 use Rattle.am_record.specs.declared.step.Reply.TheVariants.{Refused}
-use Rattle.am_serial.specs.Machine.{State, due_early, blocker, is_one_too_many, locks_in}
+use Rattle.am_record.specs.Refusals.{is_one_too_many}
+use Rattle.am_serial.specs.Machine.{State, due_early, blocker, locks_in}
 use Rattle.am_serial.specs.Sound.{IsAnswerOf, FormedDo}
 use Rattle.am_audit.specs.Faults.{is_early}
 use Rattle.am_audit.specs.Standing.{FormedIn, EarlyIn, IsRightOf, IsMisformedIn, IsWronglyBusyIn, early_of, busy_of}

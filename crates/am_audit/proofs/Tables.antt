@@ -16,7 +16,8 @@ use Rattle.am_locks.specs.Answers.{IsLeastOf, MatchBusy}
 use Rattle.am_locks.specs.declared.asked.Asked.{Asked}
 use Rattle.am_locks.specs.declared.asked.Asked.TheVariants.{Granted, Busy, TooManyLocks, NoMemory}
 use Rattle.am_serial.specs.Trace.{Answered, ops_of}
-use Rattle.am_serial.specs.Machine.{Transaction, is_open, body_in, locks_in, blocker, is_one_too_many, extended, without}
+use Rattle.am_record.specs.Refusals.{is_one_too_many}
+use Rattle.am_serial.specs.Machine.{Transaction, is_open, body_in, locks_in, blocker, extended, without}
 use Rattle.am_audit.specs.Standing.{held_of, Rise, IsAnswerTo}
 
 pub turned : (a b : ℕ) → (a == b) ≡ (b == a)

@@ -16,7 +16,8 @@ use Rattle.am_locks.specs.Held.{Held}
 use Rattle.am_locks.specs.declared.asked.Asked.{Asked}
 use Rattle.am_locks.specs.declared.asked.Asked.TheVariants.{Granted, Busy as IsBlocked, TooManyLocks, NoMemory as WantsMemory}
 use Rattle.am_serial.specs.Trace.{Trace, Answered, Effect, Commits, answered_to, effect, ops_of, replies_of, IsAnsweredAlone}
-use Rattle.am_serial.specs.Machine.{State, Transaction, start, after_run, next, due_early, blocker, is_one_too_many, locks_in, body_in, May}
+use Rattle.am_record.specs.Refusals.{is_one_too_many}
+use Rattle.am_serial.specs.Machine.{State, Transaction, start, after_run, next, due_early, blocker, locks_in, body_in, May}
 use Rattle.am_serial.specs.Sound.{FormedDo}
 use Rattle.am_audit.specs.Faults.{is_early}
 use Rattle.am_audit.specs.declared.active.Active.{Active}

@@ -4,7 +4,7 @@ ghost use Rattle.std.specs.Prelude.{◌≡◌, ◌↔◌, true, IsTrue};
 ghost use Rattle.am_record.specs.Plain.{is_orderly, is_rising, is_key_of};
 ghost use Rattle.am_record.specs.Asks.{lock_of, span};
 ghost use Rattle.am_serial.specs.Trace.{runs_made};
-ghost use Rattle.am_serial.specs.Machine.{is_bounded, is_load};
+ghost use Rattle.am_record.specs.Refusals.{is_bounded, is_load};
 ghost use Rattle.am_serial.specs.Sound.{IsAnswerOf};
 
 use crate::replies::is_same_key;

@@ -5,31 +5,31 @@ use Rattle.am_record.specs.declared.step.Refusal.TheVariants.{NoMemory as OutOfM
 use Rattle.am_record.specs.declared.step.Step.{Step}
 use Rattle.am_record.specs.declared.step.Reply.{Reply}
 use Rattle.am_record.specs.declared.step.Reply.TheVariants.{Refused}
-use Rattle.am_steps.specs.Parts.{Parts, MaySay, after, empty_parts}
+use Rattle.am_sound.specs.StoreState.{StoreState, MayAnswer, state_after, empty_state}
 use Rattle.am_core.specs.Memory.{may_want_memory}
-use Rattle.am_core.specs.Standing.{StandsAt, GoesOn, IsWithin}
+use Rattle.am_core.specs.Standing.{IsSoundAt, Extends, IsWithin}
 use Rattle.am_c.specs.declared.status.Status.{Status}
 use Rattle.am_c.specs.declared.status.Status.TheVariants.{Fine, NoStore, IsOpen, NoMemory}
 use Rattle.am_c.specs.Statuses.{code, status_of, number_of}
 
 -- the store took the step, and replied: each clause is one of the store's
-pub record Takes (old : Parts) (step : Step) (reply : Reply) (new : Parts) : Type 0 where
-  pub says : MaySay old step reply
-  pub after_it : new ≡ after old step reply
-  pub goes : GoesOn old ((step, reply) ∷ []) new
+pub record Takes (old : StoreState) (step : Step) (reply : Reply) (new : StoreState) : Type 0 where
+  pub says : MayAnswer old step reply
+  pub after_it : new ≡ state_after old step reply
+  pub goes : Extends old ((step, reply) ∷ []) new
   pub refused : (why : Refusal) → reply ≡ Refused why → new ≡ old
   pub memory : reply ≡ Refused OutOfMemory → may_want_memory old step ≡ true
   pub within : IsWithin step reply
 
-pub record Took (old : Parts) (step : Step) (answer : Result Reply Status) (held : Option Parts) : Type 0 where
+pub record Took (old : StoreState) (step : Step) (answer : Result Reply Status) (held : Option StoreState) : Type 0 where
   pub reply : Reply
-  pub new : Parts
+  pub new : StoreState
   pub replied : answer ≡ Ok reply
   pub stands : held ≡ Some new
   pub takes : Takes old step reply new
 
 -- without a store, or where what is asked for is no step, nothing is done; else the store takes the step
-abbrev pub Answers : Option Parts → Result Step Status → Result Reply Status → Option Parts → Type 0
+abbrev pub Answers : Option StoreState → Result Step Status → Result Reply Status → Option StoreState → Type 0
 Answers None asked answer held = (answer ≡ Err NoStore) × (held ≡ None)
 Answers (Some p) (Err why) answer held = (answer ≡ Err why) × (held ≡ Some p)
 Answers (Some p) (Ok step) answer held = Took p step answer held
@@ -44,33 +44,33 @@ number (Ok reply) = number_of reply
 number (Err why) = 0
 
 -- the store was asked, and what C has of its answer is so
-pub record Tells (old : Option Parts) (asked : Result Step Status) (new : Option Parts)
+pub record Tells (old : Option StoreState) (asked : Result Step Status) (new : Option StoreState)
     (So : Result Reply Status → Type 0) : Type 0 where
   pub answer : Result Reply Status
   pub answers : Answers old asked answer new
   pub so : So answer
 
 -- no step was taken yet
-pub record IsNew (p : Parts) : Type 0 where
-  pub empty : p ≡ empty_parts
-  pub stands : StandsAt [] p
+pub record IsNew (p : StoreState) : Type 0 where
+  pub empty : p ≡ empty_state
+  pub stands : IsSoundAt [] p
 
 -- a store is opened where there is none, or memory is refused; where there is one, it stays
-abbrev pub Opens : Option Parts → ℕ → Option Parts → Type 0
+abbrev pub Opens : Option StoreState → ℕ → Option StoreState → Type 0
 Opens (Some p) told held = (told ≡ code IsOpen) × (held ≡ Some p)
 Opens None told (Some p) = (told ≡ code Fine) × IsNew p
 Opens None told None = told ≡ code NoMemory
 
-abbrev pub Closes : Option Parts → ℕ → Type 0
+abbrev pub Closes : Option StoreState → ℕ → Type 0
 Closes (Some p) told = told ≡ code Fine
 Closes None told = told ≡ code NoStore
 
 -- the number is told, where there is a store
-abbrev pub Counts : (Parts → ℕ) → Option Parts → ℕ → ℕ → Type 0
+abbrev pub Counts : (StoreState → ℕ) → Option StoreState → ℕ → ℕ → Type 0
 Counts count (Some p) told n = (told ≡ code Fine) × (n ≡ count p)
 Counts count None told n = (told ≡ code NoStore) × (n ≡ 0)
 
 -- the same, or memory is refused
-abbrev pub CountsOrFails : (Parts → ℕ) → Option Parts → ℕ → ℕ → Type 0
+abbrev pub CountsOrFails : (StoreState → ℕ) → Option StoreState → ℕ → ℕ → Type 0
 CountsOrFails count (Some p) told n = ((told ≡ code Fine) × (n ≡ count p)) ⊎ ((told ≡ code NoMemory) × (n ≡ 0))
 CountsOrFails count None told n = (told ≡ code NoStore) × (n ≡ 0)

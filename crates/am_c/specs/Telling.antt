@@ -8,7 +8,7 @@ use Rattle.am_c.specs.declared.status.Status.{Status}
 use Rattle.am_c.specs.declared.text.KeyText.{KeyText}
 use Rattle.am_c.specs.declared.text.ValueText.{ValueText}
 use Rattle.am_c.specs.declared.text.Record.{Record}
-use Rattle.am_steps.specs.Parts.{Parts}
+use Rattle.am_sound.specs.StoreState.{StoreState}
 use Rattle.am_record.specs.declared.step.Step.{Step}
 use Rattle.am_c.specs.Asking.{IsLoadAsked}
 use Rattle.am_c.specs.Taking.{Tells, number}
@@ -51,7 +51,7 @@ count_told chosen (Ok (Rows rows)) = length (chosen rows)
 count_told chosen answer = number answer
 
 -- the same of a load: what is asked of the store is made of the records
-pub record TellsLoad (old : Option Parts) (tx : ℕ) (records : List Record) (new : Option Parts)
+pub record TellsLoad (old : Option StoreState) (tx : ℕ) (records : List Record) (new : Option StoreState)
     (So : Result Reply Status → Type 0) : Type 0 where
   pub asked : Result Step Status
   pub load : IsLoadAsked tx records asked

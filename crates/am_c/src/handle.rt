@@ -2,8 +2,8 @@
 //! pointer is proved by hand (`proofs/handle`), and no other code sees it.
 
 ghost use Rattle.std.specs.Prelude.{◌≡◌, Option as Maybe, None as Nothing, Some as Just};
-ghost use Rattle.am_steps.specs.Parts.{Parts};
-ghost use Rattle.am_core.specs.Keeping.{parts_code};
+ghost use Rattle.am_sound.specs.StoreState.{StoreState};
+ghost use Rattle.am_core.specs.Keeping.{state_code};
 ghost use Rattle.std.specs.Coded.{coded_option};
 ghost use Rattle.am_c.specs.Held.{IsSame};
 
@@ -20,7 +20,7 @@ use std::ptr::null_mut;
 pub struct Handle {
     at: *mut u8,
     alloc: Global,
-    ghost held: { Maybe Parts } by { coded_option parts_code },
+    ghost held: { Maybe StoreState } by { coded_option state_code },
 }
 
 impl Model for Handle {

@@ -20,9 +20,9 @@ use Rattle.am_tx.specs.Active.{numbers, is_active, ops_of, log_of, changed, fres
 use Rattle.am_tx.specs.Txs.{Txs, IsConsistent, started}
 use Rattle.am_tx.specs.Txs as txs
 use Rattle.am_effect.specs.Store.{notes_left, marks_left}
-use Rattle.am_steps.specs.Parts.{Active, is_in, in_table, newcomer, ended, did}
-use Rattle.am_steps.specs.Tables.{held_of}
-use Rattle.am_steps.specs.Tables as tables
+use Rattle.am_sound.specs.StoreState.{Active, is_in, in_table, newcomer, without_tx, with_op}
+use Rattle.am_sound.specs.Tables.{held_of}
+use Rattle.am_sound.specs.Tables as tables
 use Rattle.am_core.specs.Keeping.{active_with, actives}
 use Rattle.am_core.specs.Asking.{HasLocks}
 
@@ -73,7 +73,7 @@ module _ (locks : ℕ → List Lock) where
   above-actives n [] a = tt
   above-actives n (x ∷ xs) a = (All-head (λ m. n < m) x.number (numbers xs) a, above-actives n xs (All-tail (λ m. n < m) x.number (numbers xs) a))
 
-  pub rise-actives : (xs : List Transaction) → txs.Rise (numbers xs) → tables.Rise (map (active_with locks) xs)
+  pub rise-actives : (xs : List Transaction) → txs.Rise (numbers xs) → tables.AreByNumber (map (active_with locks) xs)
   rise-actives [] r = tt
   rise-actives (x ∷ xs) r = (above-actives x.number xs r.0, rise-actives xs r.1)
 
@@ -83,10 +83,10 @@ module _ (locks : ℕ → List Lock) where
 
   -- ---- one transaction ends
 
-  pub ended-actives : (t : ℕ) (xs : List Transaction) → map (active_with locks) (filter (λ (x : Transaction). not (x.number == t)) xs) ≡ ended t (map (active_with locks) xs)
+  pub ended-actives : (t : ℕ) (xs : List Transaction) → map (active_with locks) (filter (λ (x : Transaction). not (x.number == t)) xs) ≡ without_tx t (map (active_with locks) xs)
   ended-actives t [] = refl
   ended-actives t (x ∷ xs) =
-      elim (x.number == t) as (λ b. map (active_with locks) (cond (not b) (x ∷ filter (λ (y : Transaction). not (y.number == t)) xs) (filter (λ (y : Transaction). not (y.number == t)) xs)) ≡ cond (not b) (active_with locks x ∷ ended t (map (active_with locks) xs)) (ended t (map (active_with locks) xs))) [
+      elim (x.number == t) as (λ b. map (active_with locks) (cond (not b) (x ∷ filter (λ (y : Transaction). not (y.number == t)) xs) (filter (λ (y : Transaction). not (y.number == t)) xs)) ≡ cond (not b) (active_with locks x ∷ without_tx t (map (active_with locks) xs)) (without_tx t (map (active_with locks) xs))) [
         | true ↦ ended-actives t xs
         | false ↦ ap (λ l. active_with locks x ∷ l) (ended-actives t xs)
       ]
@@ -99,7 +99,7 @@ same_locks locks locks' (x ∷ xs) h =
     let rest = same_locks locks locks' xs (λ n a. h n (or_right (x.number == n) (is_active xs n) a)) in
     λ i. record { number = x.number; ops = x.ops; locks = here i; notes = x.log.notes; marks = x.log.marks } ∷ rest i
 
-pub actives-ended : (t : Txs) (tx : ℕ) → actives (txs.ended t tx) ≡ ended tx (actives t)
+pub actives-ended : (t : Txs) (tx : ℕ) → actives (txs.ended t tx) ≡ without_tx tx (actives t)
 actives-ended t tx =
     same_locks (locks_of t.locks) (locks_of (without t.locks tx)) (filter (λ (x : Transaction). not (x.number == tx)) t.active)
     (λ n a. locks_of-without t.locks tx n (λ e. both_ways (is_active (filter (λ (x : Transaction). not (x.number == tx)) t.active) n) (ap (is_active (filter (λ (x : Transaction). not (x.number == tx)) t.active)) e ∙ gone t.active) a))
@@ -206,7 +206,7 @@ module _ (look look' : ℕ → List Lock) (tx : ℕ) (op : Op) (reply : Reply) (
     (own : look' tx ≡ with_asked (look tx) (lock_of op)) (others : (u : ℕ) → u ≢ tx → look' u ≡ look u)
     (notes : log'.notes ≡ new ++ notes_left op reply log.marks log.notes) (marks : log'.marks ≡ marks_left op reply (length log.notes) log.marks) where
   did_one : (x : Transaction) → (x.number ≡ tx → x.log ≡ log)
-      → active_with look' (cond ((cond (x.number == tx) (record x { log = log' }) x).number == tx) (let y : Transaction = cond (x.number == tx) (record x { log = log' }) x in record y { ops = y.ops + 1 }) (cond (x.number == tx) (record x { log = log' }) x)) ≡ did tx op reply new (active_with look x)
+      → active_with look' (cond ((cond (x.number == tx) (record x { log = log' }) x).number == tx) (let y : Transaction = cond (x.number == tx) (record x { log = log' }) x in record y { ops = y.ops + 1 }) (cond (x.number == tx) (record x { log = log' }) x)) ≡ with_op tx op reply new (active_with look x)
   did_one x has = ⊎_elim
       (λ here.
       let is : x.number ≡ tx = eqb-true x.number tx here in
@@ -227,7 +227,7 @@ module _ (look look' : ℕ → List Lock) (tx : ℕ) (op : Op) (reply : Reply) (
       (cases_Bool (x.number == tx))
 
   did_each : (xs : List Transaction) → HaveLog tx log xs
-      → map (active_with look') (changed (λ (x : Transaction). record x { ops = x.ops + 1 }) tx (changed (λ (x : Transaction). record x { log = log' }) tx xs)) ≡ map (did tx op reply new) (map (active_with look) xs)
+      → map (active_with look') (changed (λ (x : Transaction). record x { ops = x.ops + 1 }) tx (changed (λ (x : Transaction). record x { log = log' }) tx xs)) ≡ map (with_op tx op reply new) (map (active_with look) xs)
   did_each [] h = refl
   did_each (x ∷ xs) h = λ i. did_one x h.0 i ∷ did_each xs h.1 i
 
@@ -235,7 +235,7 @@ module _ (look look' : ℕ → List Lock) (tx : ℕ) (op : Op) (reply : Reply) (
 pub actives-did : (t t1 t2 t3 : Txs) (tx : ℕ) (op : Op) (reply : Reply) (new : List Note) (log' : Log) → IsConsistent t → HasLocks t tx (with_asked (locks_of t.locks tx) (lock_of op)) t1
     → t2 ≡ txs.with_log t1 tx log' → t3 ≡ txs.counted t2 tx
     → log'.notes ≡ new ++ notes_left op reply (log_of t.active tx).marks (log_of t.active tx).notes → log'.marks ≡ marks_left op reply (length (log_of t.active tx).notes) (log_of t.active tx).marks
-    → actives t3 ≡ map (did tx op reply new) (actives t)
+    → actives t3 ≡ map (with_op tx op reply new) (actives t)
 actives-did t t1 t2 t3 tx op reply new log' ok has written counted notes marks =
     (λ i. actives (counted i))
     ∙ (λ i. actives (txs.counted (written i) tx))

@@ -11,9 +11,9 @@ use Rattle.am_locks.proofs.Laws.{locks_of-with_locks, locks_of-with_locks_other,
 use Rattle.am_tx.specs.Active.{is_active}
 use Rattle.am_tx.specs.Txs.{Txs, IsConsistent}
 use Rattle.am_tx.proofs.Consistent.{is_owner-is_active}
-use Rattle.am_serial.specs.Machine.{is_one_too_many, busy}
-use Rattle.am_steps.specs.Parts.{Active, blocker_in}
-use Rattle.am_steps.specs.Tables.{TableLaws}
+use Rattle.am_record.specs.Refusals.{is_one_too_many, lock_refusal}
+use Rattle.am_sound.specs.StoreState.{Active, blocker_in}
+use Rattle.am_sound.specs.Tables.{TableLaws}
 use Rattle.am_core.specs.Keeping.{actives}
 use Rattle.am_core.specs.Asking.{due_lock, IsLockRefusal, HasLocks, IsGranted}
 use Rattle.am_core.proofs.Actives.{held_of-actives, rise-actives}
@@ -26,7 +26,7 @@ none_blocks (x ∷ xs) t = ap (λ b. cond b (Some x.number) (blocker_in xs t Non
 
 pub granted_nothing : (t : Txs) (tx : ℕ) (asked : Option Lock) → IsConsistent t → is_active t.active tx ≡ true → asked ≡ None → IsGranted t tx asked t
 granted_nothing t tx asked ok a e = subst (λ (o : Option Lock). IsGranted t tx o t) (sym e) (record {
-  due = ap (λ (o : Option ℕ). busy o false) (none_blocks (actives t) tx);
+  due = ap (λ (o : Option ℕ). lock_refusal o false) (none_blocks (actives t) tx);
   locks = record { begun = refl; active = refl; owner = is_owner-is_active t tx ok ∙ a; holds = refl; others = λ u d. refl };
 })
 
@@ -57,7 +57,7 @@ module _ (t : Txs) (tx : ℕ) (lock : Lock) (ok : IsConsistent t) (laws : TableL
   nothing_due : blockers t.locks tx lock ≡ [] → length (locks_of t.locks tx) ≤ 256
       → ((blockers t.locks tx lock ≡ []) × (is_covered (locks_of t.locks tx) lock ≡ false) × (length (locks_of t.locks tx) ≡ 256) → ⊥)
       → due_lock t tx (Some lock) ≡ None
-  nothing_due none few unless = λ i. busy (free none i) (not_too_many none few unless i)
+  nothing_due none few unless = λ i. lock_refusal (free none i) (not_too_many none few unless i)
 
   pub granted : (asked : Option Lock) (t' : Txs) → asked ≡ Some lock → is_active t.active tx ≡ true → blockers t.locks tx lock ≡ [] → length (locks_of t.locks tx) ≤ 256
       → ((blockers t.locks tx lock ≡ []) × (is_covered (locks_of t.locks tx) lock ≡ false) × (length (locks_of t.locks tx) ≡ 256) → ⊥)
@@ -77,14 +77,14 @@ module _ (t : Txs) (tx : ℕ) (lock : Lock) (ok : IsConsistent t) (laws : TableL
       })
 
   pub refused_busy : (asked : Option Lock) (h : ℕ) → asked ≡ Some lock → IsLeastOf (blockers t.locks tx lock) h → IsLockRefusal t tx asked (Busy h)
-  refused_busy asked h e least = subst (λ (o : Option Lock). IsLockRefusal t tx o (Busy h)) (sym e) (inl (ap (λ (o : Option ℕ). busy o (is_one_too_many (locks_of t.locks tx) (Some lock))) (blocked h least)))
+  refused_busy asked h e least = subst (λ (o : Option Lock). IsLockRefusal t tx o (Busy h)) (sym e) (inl (ap (λ (o : Option ℕ). lock_refusal o (is_one_too_many (locks_of t.locks tx) (Some lock))) (blocked h least)))
 
   pub refused_many : (asked : Option Lock) → asked ≡ Some lock → (blockers t.locks tx lock ≡ []) × (is_covered (locks_of t.locks tx) lock ≡ false) × (length (locks_of t.locks tx) ≡ 256)
       → IsLockRefusal t tx asked TooManyLocks
   refused_many asked e many =
       let n = length (locks_of t.locks tx) in
       let full : nat_le 256 n ≡ true = le-leb 256 n (omega (arith, many.2)) in
-      subst (λ (o : Option Lock). IsLockRefusal t tx o TooManyLocks) (sym e) (inl (λ i. busy (free many.0 i) (full i && not (many.1 i))))
+      subst (λ (o : Option Lock). IsLockRefusal t tx o TooManyLocks) (sym e) (inl (λ i. lock_refusal (free many.0 i) (full i && not (many.1 i))))
 
   pub refused_memory : (asked : Option Lock) → asked ≡ Some lock → blockers t.locks tx lock ≡ [] → length (locks_of t.locks tx) ≤ 256
       → ((blockers t.locks tx lock ≡ []) × (is_covered (locks_of t.locks tx) lock ≡ false) × (length (locks_of t.locks tx) ≡ 256) → ⊥)

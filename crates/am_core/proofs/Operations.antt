@@ -24,15 +24,15 @@ use Rattle.am_locks.specs.Table.{locks_of, with_locks}
 use Rattle.am_tx.specs.Active.{is_active, ops_of, log_of}
 use Rattle.am_tx.specs.Txs.{Txs, IsConsistent, with_log, counted}
 use Rattle.am_tx.proofs.Laws.{is_active-changed, of_active-kept}
-use Rattle.am_serial.specs.Machine.{is_one_too_many, busy, or_else}
+use Rattle.am_record.specs.Refusals.{refusal_before_lock, is_one_too_many, lock_refusal, or_else}
 use Rattle.am_serial.specs.Trace.{runs_made}
 use Rattle.am_effect.specs.Laws.{taken_back}
 use Rattle.am_effect.specs.Store.{changed, noted, notes_left, marks_left, wished, with_wish}
-use Rattle.am_follow.specs.At.{told}
-use Rattle.am_steps.specs.Parts.{Parts, is_in, in_table, MaySay, due_in, takes_memory, after_do, did, backed, blocker_in}
-use Rattle.am_core.specs.Keeping.{parts_kept, actives}
+use Rattle.am_sound.specs.Represents.{stored_answer}
+use Rattle.am_sound.specs.StoreState.{StoreState, is_in, in_table, MayAnswer, refusal_in, takes_memory, state_after_op, with_op, taken_back_to_mark, blocker_in}
+use Rattle.am_core.specs.Keeping.{state_kept, actives}
 use Rattle.am_core.specs.Memory.{adds_ninth_lock, adds_fifth_note, adds_third_mark, may_want_room}
-use Rattle.am_core.specs.Asking.{due_first, due_lock, IsLockRefusal, HasLocks, IsGranted, wish_of}
+use Rattle.am_core.specs.Asking.{due_lock, IsLockRefusal, HasLocks, IsGranted, wish_of}
 use Rattle.am_core.specs.Doing.{MayWantRoom, Works, IsIdle}
 use Rattle.am_core.proofs.Actives.{is_in-actives, ops-actives, notes-actives, marks-actives, locks-actives, actives-did, actives-undid}
 
@@ -43,7 +43,7 @@ pub record IsClear (active : Bool) (ops runs : ℕ) (op : Op) : Type 0 where
   pub is_active : active ≡ true
   pub few : nat_le 4096 ops ≡ false
 
-pub cleared : (active : Bool) (ops runs : ℕ) (op : Op) → None ≡ due_first active ops runs op → IsClear active ops runs op
+pub cleared : (active : Bool) (ops runs : ℕ) (op : Op) → None ≡ refusal_before_lock active ops runs op → IsClear active ops runs op
 cleared true ops runs op e = record { is_active = refl; few = by_test (nat_le 4096 ops) _ e }
   where
     by_test : (b : Bool) (later : Option Refusal) → None ≡ cond b (Some TooManyOps) later → b ≡ false
@@ -52,25 +52,25 @@ cleared true ops runs op e = record { is_active = refl; few = by_test (nat_le 40
 cleared false ops runs op e = cc
 
 module _ (parts : Partitions) (t : Txs) (wishes : List Interval) (commits tx : ℕ) (op : Op) where
-  p : Parts
-  p = parts_kept parts t wishes commits
+  p : StoreState
+  p = state_kept parts t wishes commits
 
-  first_is : due_first (is_active t.active tx) (ops_of t.active tx) parts.runs op ≡ due_first (is_in (actives t) tx) (in_table (actives t) tx).ops parts.runs op
-  first_is = λ i. due_first (sym (is_in-actives (locks_of t.locks) t.active tx) i) (sym (ops-actives (locks_of t.locks) t.active tx) i) parts.runs op
+  first_is : refusal_before_lock (is_active t.active tx) (ops_of t.active tx) parts.runs op ≡ refusal_before_lock (is_in (actives t) tx) (in_table (actives t) tx).ops parts.runs op
+  first_is = λ i. refusal_before_lock (sym (is_in-actives (locks_of t.locks) t.active tx) i) (sym (ops-actives (locks_of t.locks) t.active tx) i) parts.runs op
 
-  due_at : (first : Option Refusal) → first ≡ due_first (is_active t.active tx) (ops_of t.active tx) parts.runs op
-      → due_in (parts_kept parts t wishes commits) tx op ≡ or_else first (busy (blocker_in (actives t) tx (lock_of op)) (is_one_too_many (in_table (actives t) tx).locks (lock_of op)))
-  due_at first e = ap (λ (o : Option Refusal). or_else o (busy (blocker_in (actives t) tx (lock_of op)) (is_one_too_many (in_table (actives t) tx).locks (lock_of op)))) (sym (e ∙ first_is))
+  due_at : (first : Option Refusal) → first ≡ refusal_before_lock (is_active t.active tx) (ops_of t.active tx) parts.runs op
+      → refusal_in (state_kept parts t wishes commits) tx op ≡ or_else first (lock_refusal (blocker_in (actives t) tx (lock_of op)) (is_one_too_many (in_table (actives t) tx).locks (lock_of op)))
+  due_at first e = ap (λ (o : Option Refusal). or_else o (lock_refusal (blocker_in (actives t) tx (lock_of op)) (is_one_too_many (in_table (actives t) tx).locks (lock_of op)))) (sym (e ∙ first_is))
 
-  due_then : None ≡ due_first (is_active t.active tx) (ops_of t.active tx) parts.runs op → due_in (parts_kept parts t wishes commits) tx op ≡ due_lock t tx (lock_of op)
+  due_then : None ≡ refusal_before_lock (is_active t.active tx) (ops_of t.active tx) parts.runs op → refusal_in (state_kept parts t wishes commits) tx op ≡ due_lock t tx (lock_of op)
   due_then e =
       let a = (cleared (is_active t.active tx) (ops_of t.active tx) parts.runs op e).is_active in
-      due_at None e ∙ (λ i. busy (blocker_in (actives t) tx (lock_of op)) (is_one_too_many (locks-actives (locks_of t.locks) t.active tx a i) (lock_of op)))
+      due_at None e ∙ (λ i. lock_refusal (blocker_in (actives t) tx (lock_of op)) (is_one_too_many (locks-actives (locks_of t.locks) t.active tx a i) (lock_of op)))
 
   abbrev Says : Reply → Option Refusal → Type 0
-  Says reply due = MatchOption due ((reply ≡ told op (in_table (actives t) tx).marks (content parts.entries)) ⊎ ((reply ≡ Refused NoMemory) × (takes_memory op ≡ true))) (λ why. reply ≡ Refused why)
+  Says reply due = MatchOption due ((reply ≡ stored_answer op (in_table (actives t) tx).marks (content parts.entries)) ⊎ ((reply ≡ Refused NoMemory) × (takes_memory op ≡ true))) (λ why. reply ≡ Refused why)
 
-  pub says_first : (why : Refusal) → Some why ≡ due_first (is_active t.active tx) (ops_of t.active tx) parts.runs op → MaySay (parts_kept parts t wishes commits) (Do tx op) (Refused why)
+  pub says_first : (why : Refusal) → Some why ≡ refusal_before_lock (is_active t.active tx) (ops_of t.active tx) parts.runs op → MayAnswer (state_kept parts t wishes commits) (Do tx op) (Refused why)
   says_first why e = subst (Says (Refused why)) (sym (due_at (Some why) e)) refl
 
   -- ---- a refused lock
@@ -79,18 +79,18 @@ module _ (parts : Partitions) (t : Txs) (wishes : List Interval) (commits tx : �
   needs Back own e = cc
   needs op own e = refl
 
-  pub says_lock : (why : Refusal) → None ≡ due_first (is_active t.active tx) (ops_of t.active tx) parts.runs op → IsLockRefusal t tx (lock_of op) why → MaySay (parts_kept parts t wishes commits) (Do tx op) (Refused why)
+  pub says_lock : (why : Refusal) → None ≡ refusal_before_lock (is_active t.active tx) (ops_of t.active tx) parts.runs op → IsLockRefusal t tx (lock_of op) why → MayAnswer (state_kept parts t wishes commits) (Do tx op) (Refused why)
   says_lock why e r = ⊎_elim
       (λ due. subst (Says (Refused why)) (sym (due_then e ∙ due)) refl)
       (λ wants. subst (Says (Refused why)) (sym (due_then e ∙ wants.1)) (inr (ap Refused wants.0, needs op (locks_of t.locks tx) wants.2)))
       r
 
-  never : (o : Option ℕ) (b : Bool) → busy o b ≡ Some NoMemory → ⊥
+  never : (o : Option ℕ) (b : Bool) → lock_refusal o b ≡ Some NoMemory → ⊥
   never (Some h) b e = cc
   never None true e = cc
   never None false e = cc
 
-  by_lock : (op : Op) → adds_ninth_lock (in_table (actives t) tx).locks (lock_of op) ≡ true → may_want_room (parts_kept parts t wishes commits) (in_table (actives t) tx) op ≡ true
+  by_lock : (op : Op) → adds_ninth_lock (in_table (actives t) tx).locks (lock_of op) ≡ true → may_want_room (state_kept parts t wishes commits) (in_table (actives t) tx) op ≡ true
   by_lock (Get k) e = e
   by_lock (Scan range max) e = refl
   by_lock (Insert k v) e = or_right (not (is_some (find parts.entries 0 k))) (adds_ninth_lock (in_table (actives t) tx).locks (lock_of (Insert k v)) || adds_fifth_note (in_table (actives t) tx).notes)
@@ -102,8 +102,8 @@ module _ (parts : Partitions) (t : Txs) (wishes : List Interval) (commits tx : �
   by_lock Mark e = cc
   by_lock Back e = cc
 
-  pub wants_lock : (why : Refusal) → None ≡ due_first (is_active t.active tx) (ops_of t.active tx) parts.runs op → IsLockRefusal t tx (lock_of op) why → Refused why ≡ Refused NoMemory
-      → may_want_room (parts_kept parts t wishes commits) (in_table (actives t) tx) op ≡ true
+  pub wants_lock : (why : Refusal) → None ≡ refusal_before_lock (is_active t.active tx) (ops_of t.active tx) parts.runs op → IsLockRefusal t tx (lock_of op) why → Refused why ≡ Refused NoMemory
+      → may_want_room (state_kept parts t wishes commits) (in_table (actives t) tx) op ≡ true
   wants_lock why e r is =
       let same : why ≡ NoMemory = cc in
       let a = (cleared (is_active t.active tx) (ops_of t.active tx) parts.runs op e).is_active in
@@ -118,14 +118,14 @@ module _ (parts : Partitions) (t : Txs) (wishes : List Interval) (commits tx : �
   room_needs Back log w = absurd w
   room_needs op log w = refl
 
-  pub says_room : (parts' : Partitions) (log : Log) → None ≡ due_first (is_active t.active tx) (ops_of t.active tx) parts.runs op → due_lock t tx (lock_of op) ≡ None
-      → MayWantRoom op parts.entries log → MaySay (parts_kept parts t wishes commits) (Do tx op) (Refused NoMemory)
+  pub says_room : (parts' : Partitions) (log : Log) → None ≡ refusal_before_lock (is_active t.active tx) (ops_of t.active tx) parts.runs op → due_lock t tx (lock_of op) ≡ None
+      → MayWantRoom op parts.entries log → MayAnswer (state_kept parts t wishes commits) (Do tx op) (Refused NoMemory)
   says_room parts' log e due w = subst (Says (Refused NoMemory)) (sym (due_then e ∙ due)) (inr (refl, room_needs op log w))
 
   five : (log : Log) → log.notes ≡ (in_table (actives t) tx).notes → 4 ≤ length log.notes → adds_fifth_note (in_table (actives t) tx).notes ≡ true
   five log e h = ap adds_fifth_note (sym e) ∙ le-leb 4 (length log.notes) h
 
-  by_room : (op : Op) (log : Log) → log.notes ≡ (in_table (actives t) tx).notes → log.marks ≡ (in_table (actives t) tx).marks → MayWantRoom op parts.entries log → may_want_room (parts_kept parts t wishes commits) (in_table (actives t) tx) op ≡ true
+  by_room : (op : Op) (log : Log) → log.notes ≡ (in_table (actives t) tx).notes → log.marks ≡ (in_table (actives t) tx).marks → MayWantRoom op parts.entries log → may_want_room (state_kept parts t wishes commits) (in_table (actives t) tx) op ≡ true
   by_room (Get k) log e m w = absurd w
   by_room (Scan range max) log e m w = refl
   by_room (Insert k v) log e m w = by_slot (is_some (find parts.entries 0 k)) refl
@@ -140,12 +140,12 @@ module _ (parts : Partitions) (t : Txs) (wishes : List Interval) (commits tx : �
   by_room Mark log e m w = ap adds_third_mark (sym m) ∙ le-leb 2 (length log.marks) w
   by_room Back log e m w = absurd w
 
-  pub wants_room : (log : Log) → log ≡ log_of t.active tx → MayWantRoom op parts.entries log → may_want_room (parts_kept parts t wishes commits) (in_table (actives t) tx) op ≡ true
+  pub wants_room : (log : Log) → log ≡ log_of t.active tx → MayWantRoom op parts.entries log → may_want_room (state_kept parts t wishes commits) (in_table (actives t) tx) op ≡ true
   wants_room log e w =
       by_room op log (ap (λ (l : Log). l.notes) e ∙ sym (notes-actives (locks_of t.locks) t.active tx)) (ap (λ (l : Log). l.marks) e ∙ sym (marks-actives (locks_of t.locks) t.active tx)) w
 
   pub idle : (t1 t2 t3 : Txs) (parts' : Partitions) (held : ℕ) → IsConsistent t → HasLocks t tx (with_asked (locks_of t.locks tx) (lock_of op)) t1 → IsIdle parts t1 tx parts' t2
-      → held ≡ length (locks_of t.locks tx) → t3 ≡ record t2 { locks = with_locks t2.locks tx (take held (locks_of t2.locks tx)) } → parts_kept parts' t3 wishes commits ≡ parts_kept parts t wishes commits
+      → held ≡ length (locks_of t.locks tx) → t3 ≡ record t2 { locks = with_locks t2.locks tx (take held (locks_of t2.locks tx)) } → state_kept parts' t3 wishes commits ≡ state_kept parts t wishes commits
   idle t1 t2 t3 parts' held ok has stays before cut =
       let notes = stays.untouched.notes ∙ (λ i. (log_of (has.active i) tx).notes) in
       let marks = stays.untouched.marks ∙ (λ i. (log_of (has.active i) tx).marks) in
@@ -171,7 +171,7 @@ module _ (parts : Partitions) (t : Txs) (wishes : List Interval) (commits tx : �
   answered_taken None = tt
   answered_taken (Some k) = tt
 
-  answered : (op : Op) (marks : List ℕ) (m : PlainMap) → IsAnswer (told op marks m)
+  answered : (op : Op) (marks : List ℕ) (m : PlainMap) → IsAnswer (stored_answer op marks m)
   answered (Get k) marks m = answered_found (get m k)
   answered (Scan range max) marks m = tt
   answered (Insert k v) marks m = answered_or (contains_key m k) (Exists k) Done tt tt
@@ -182,13 +182,13 @@ module _ (parts : Partitions) (t : Txs) (wishes : List Interval) (commits tx : �
   answered Mark marks m = tt
   answered Back marks m = answered_or (has_mark marks) Done NoMark tt tt
 
-  done_by : (reply : Reply) → IsAnswer reply → after_do (parts_kept parts t wishes commits) tx op reply ≡ record {
-    entries = changed (backed (parts_kept parts t wishes commits) tx) parts.runs op reply parts.entries;
+  done_by : (reply : Reply) → IsAnswer reply → state_after_op (state_kept parts t wishes commits) tx op reply ≡ record {
+    entries = changed (taken_back_to_mark (state_kept parts t wishes commits) tx) parts.runs op reply parts.entries;
     wishes = with_wish wishes (wished op reply);
     begun = t.begun;
     commits = commits;
     runs = parts.runs + runs_made op reply;
-    active = map (did tx op reply (noted parts.runs op reply parts.entries)) (actives t);
+    active = map (with_op tx op reply (noted parts.runs op reply parts.entries)) (actives t);
   }
   done_by (Refused why) h = absurd h
   done_by reply h = refl
@@ -197,7 +197,7 @@ module _ (parts : Partitions) (t : Txs) (wishes : List Interval) (commits tx : �
   wished_found k None = refl
   wished_found k (Some v) = refl
 
-  wished_is : (op : Op) (marks : List ℕ) (m : PlainMap) → wished op (told op marks m) ≡ wish_of op
+  wished_is : (op : Op) (marks : List ℕ) (m : PlainMap) → wished op (stored_answer op marks m) ≡ wish_of op
   wished_is (Get k) marks m = wished_found k (get m k)
   wished_is (Scan range max) marks m = refl
   wished_is (Insert k v) marks m = refl
@@ -208,15 +208,15 @@ module _ (parts : Partitions) (t : Txs) (wishes : List Interval) (commits tx : �
   wished_is Mark marks m = refl
   wished_is Back marks m = refl
 
-  pub says_done : (t1 t2 : Txs) (parts' : Partitions) (reply : Reply) → None ≡ due_first (is_active t.active tx) (ops_of t.active tx) parts.runs op → IsGranted t tx (lock_of op) t1
-      → Works op reply parts t1 tx parts' t2 → MaySay (parts_kept parts t wishes commits) (Do tx op) reply
+  pub says_done : (t1 t2 : Txs) (parts' : Partitions) (reply : Reply) → None ≡ refusal_before_lock (is_active t.active tx) (ops_of t.active tx) parts.runs op → IsGranted t tx (lock_of op) t1
+      → Works op reply parts t1 tx parts' t2 → MayAnswer (state_kept parts t wishes commits) (Do tx op) reply
   says_done t1 t2 parts' reply e grant w =
       let marks = (λ i. (log_of (grant.locks.active i) tx).marks) ∙ sym (marks-actives (locks_of t.locks) t.active tx) in
-      subst (Says reply) (sym (due_then e ∙ grant.due)) (inl (w.done.said ∙ (λ i. told op (marks i) (content parts.entries))))
+      subst (Says reply) (sym (due_then e ∙ grant.due)) (inl (w.done.said ∙ (λ i. stored_answer op (marks i) (content parts.entries))))
 
   pub after_done : (t1 t2 t3 : Txs) (parts' : Partitions) (wishes' : List Interval) (reply : Reply) → IsConsistent t → HasLocks t tx (with_asked (locks_of t.locks tx) (lock_of op)) t1
       → Works op reply parts t1 tx parts' t2 → t3 ≡ counted t2 tx → wishes' ≡ with_wish wishes (wish_of op)
-      → parts_kept parts' t3 wishes' commits ≡ after_do (parts_kept parts t wishes commits) tx op reply
+      → state_kept parts' t3 wishes' commits ≡ state_after_op (state_kept parts t wishes commits) tx op reply
   after_done t1 t2 t3 parts' wishes' reply ok has w count wish =
       let log : log_of t1.active tx ≡ log_of t.active tx = λ i. log_of (has.active i) tx in
       let notes = w.done.notes ∙ (λ i. noted parts.runs op reply parts.entries ++ notes_left op reply (log i).marks (log i).notes) in

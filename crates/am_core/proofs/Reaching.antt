@@ -19,10 +19,10 @@ use Rattle.am_list.specs.Content.{content}
 use Rattle.am_serial.specs.Machine.{is_limit}
 use Rattle.am_serial.specs.Trace.{Trace}
 use Rattle.am_effect.specs.Merging.{all_worked_off, candidates, MergeRight, AnswersFirst, AnswersCandidates, CleanRight}
-use Rattle.am_follow.specs.At.{told}
-use Rattle.am_steps.specs.Parts.{Parts, Active, MaySay, after, due_in, in_table, is_in, ended, newcomer, did, takes_memory, holder_in}
-use Rattle.am_steps.specs.At.{At}
-use Rattle.am_core.specs.Keeping.{IsReached, parts_kept}
+use Rattle.am_sound.specs.Represents.{stored_answer}
+use Rattle.am_sound.specs.StoreState.{StoreState, Active, MayAnswer, state_after, refusal_in, in_table, is_in, without_tx, newcomer, with_op, takes_memory, holder_in}
+use Rattle.am_sound.specs.StateOf.{IsStateOf}
+use Rattle.am_core.specs.Keeping.{IsReached, state_kept}
 use Rattle.am_locks.specs.Table.{locks_of}
 use Rattle.am_parts.specs.Partitions.{Partitions}
 use Rattle.am_tx.specs.declared.transaction.Transaction.{Transaction}
@@ -35,17 +35,17 @@ use Rattle.am_core.proofs.Merges.{none_merged}
 
 -- ---- want of memory
 
-pub unwanted_begin : (p : Parts) (reply : Reply) → MaySay p Begin reply → reply ≡ Refused NoMemory → ⊥
-unwanted_begin p reply says e = subst (λ (r : Reply). MaySay p Begin r) e says
+pub unwanted_begin : (p : StoreState) (reply : Reply) → MayAnswer p Begin reply → reply ≡ Refused NoMemory → ⊥
+unwanted_begin p reply says e = subst (λ (r : Reply). MayAnswer p Begin r) e says
 
-pub unwanted_commit : (p : Parts) (t : ℕ) (reply : Reply) → MaySay p (Commit t) reply → reply ≡ Refused NoMemory → ⊥
-unwanted_commit p t reply says e = subst (λ (r : Reply). MaySay p (Commit t) r) e says
+pub unwanted_commit : (p : StoreState) (t : ℕ) (reply : Reply) → MayAnswer p (Commit t) reply → reply ≡ Refused NoMemory → ⊥
+unwanted_commit p t reply says e = subst (λ (r : Reply). MayAnswer p (Commit t) r) e says
 
-pub unwanted_abort : (p : Parts) (t : ℕ) (reply : Reply) → MaySay p (Abort t) reply → reply ≡ Refused NoMemory → ⊥
-unwanted_abort p t reply says e = subst (λ (r : Reply). MaySay p (Abort t) r) e says
+pub unwanted_abort : (p : StoreState) (t : ℕ) (reply : Reply) → MayAnswer p (Abort t) reply → reply ≡ Refused NoMemory → ⊥
+unwanted_abort p t reply says e = subst (λ (r : Reply). MayAnswer p (Abort t) r) e says
 
-pub unwanted_clean : (p : Parts) (range : Interval) (limit : ℕ) (reply : Reply) → MaySay p (Clean range limit) reply → reply ≡ Refused NoMemory → ⊥
-unwanted_clean p range limit reply says e = by_limit (is_limit limit) (subst (λ (r : Reply). MaySay p (Clean range limit) r) e says)
+pub unwanted_clean : (p : StoreState) (range : Interval) (limit : ℕ) (reply : Reply) → MayAnswer p (Clean range limit) reply → reply ≡ Refused NoMemory → ⊥
+unwanted_clean p range limit reply says e = by_limit (is_limit limit) (subst (λ (r : Reply). MayAnswer p (Clean range limit) r) e says)
   where
     by_limit : (b : Bool) → MatchBool b (CleanRight p.entries (holder_in p.active) range limit (Refused NoMemory)) (◌≡◌ {A = Reply} (Refused NoMemory) (Refused BadLimit)) → ⊥
     by_limit true h = cc
@@ -53,7 +53,7 @@ unwanted_clean p range limit reply says e = by_limit (is_limit limit) (subst (λ
 
 -- ---- a refused step
 
-pub refused_stays : (p : Parts) (step : Step) (why : Refusal) → after p step (Refused why) ≡ p
+pub refused_stays : (p : StoreState) (step : Step) (why : Refusal) → state_after p step (Refused why) ≡ p
 refused_stays p Begin why = refl
 refused_stays p (Do t op) why = refl
 refused_stays p (Commit t) why = refl
@@ -64,35 +64,35 @@ refused_stays p (Clean range limit) why = refl
 -- ---- numbers
 
 -- commits and active transactions are no more than were begun
-pub record IsCounted (p : Parts) : Type 0 where
+pub record IsCounted (p : StoreState) : Type 0 where
   pub counted : p.commits + length p.active ≤ p.begun
   pub few_begun : p.begun ≤ 2 ^ 63
 
-no_more : (t : ℕ) (xs : List Active) → length (ended t xs) ≤ length xs
+no_more : (t : ℕ) (xs : List Active) → length (without_tx t xs) ≤ length xs
 no_more t [] = omega arith
 no_more t (x ∷ xs) =
     let ih = no_more t xs in
-    elim (x.number == t) as (λ b. length (cond (not b) (x ∷ ended t xs) (ended t xs)) ≤ suc (length xs)) [ true ↦ omega arith | false ↦ omega arith ]
+    elim (x.number == t) as (λ b. length (cond (not b) (x ∷ without_tx t xs) (without_tx t xs)) ≤ suc (length xs)) [ true ↦ omega arith | false ↦ omega arith ]
 
-one_less : (t : ℕ) (xs : List Active) → is_in xs t ≡ true → length (ended t xs) < length xs
+one_less : (t : ℕ) (xs : List Active) → is_in xs t ≡ true → length (without_tx t xs) < length xs
 one_less t [] h = absurd (false≢true h)
 one_less t (x ∷ xs) h =
     let most_left = no_more t xs in
     ⊎_elim
-    (λ here. let gone : length (cond (not (x.number == t)) (x ∷ ended t xs) (ended t xs)) ≡ length (ended t xs) = ap (λ b. length (cond (not b) (x ∷ ended t xs) (ended t xs))) here in omega (arith, gone, most_left))
+    (λ here. let gone : length (cond (not (x.number == t)) (x ∷ without_tx t xs) (without_tx t xs)) ≡ length (without_tx t xs) = ap (λ b. length (cond (not b) (x ∷ without_tx t xs) (without_tx t xs))) here in omega (arith, gone, most_left))
     (λ other.
     let later = ⊎_elim (λ yes. absurd (both_ways (t == x.number) (turned t x.number ∙ other) yes)) (λ rest. rest) (or_cases (t == x.number) (is_in xs t) h) in
     let ih = one_less t xs later in
-    let stays : length (cond (not (x.number == t)) (x ∷ ended t xs) (ended t xs)) ≡ suc (length (ended t xs)) = ap (λ b. length (cond (not b) (x ∷ ended t xs) (ended t xs))) other in
+    let stays : length (cond (not (x.number == t)) (x ∷ without_tx t xs) (without_tx t xs)) ≡ suc (length (without_tx t xs)) = ap (λ b. length (cond (not b) (x ∷ without_tx t xs) (without_tx t xs))) other in
     omega (arith, stays, ih))
     (cases_Bool (x.number == t))
 
-pub counts : (p : Parts) (step : Step) (reply : Reply) → IsCounted p → MaySay p step reply → IsCounted (after p step reply)
+pub counts : (p : StoreState) (step : Step) (reply : Reply) → IsCounted p → MayAnswer p step reply → IsCounted (state_after p step reply)
 counts p Begin (Begun t) c says = record { counted = omega (arith, c.counted, length-append p.active (newcomer t ∷ [])); few_begun = omega (arith, says.2) }
 counts p Begin (Refused why) c says = c
 counts p Begin reply c says = absurd says
 counts p (Do t op) (Refused why) c says = c
-counts p (Do t op) reply c says = record { counted = omega (arith, c.counted, length-map p.active (did t op reply (noted p.runs op reply p.entries))); few_begun = c.few_begun }
+counts p (Do t op) reply c says = record { counted = omega (arith, c.counted, length-map p.active (with_op t op reply (noted p.runs op reply p.entries))); few_begun = c.few_begun }
 counts p (Commit t) (Committed n) c says = record { counted = omega (arith, c.counted, one_less t p.active says.0); few_begun = c.few_begun }
 counts p (Commit t) (Refused why) c says = c
 counts p (Commit t) reply c says = absurd says
@@ -104,13 +104,13 @@ counts p (Clean range limit) reply c says = record { counted = c.counted; few_be
 
 -- ---- the store's invariant
 
-pub reaches : (p p' : Parts) (step : Step) (reply : Reply) → ((trace : Trace) → At trace p → MaySay p step reply → At (trace ++ (step, reply) ∷ []) (after p step reply))
-    → IsReached p → MaySay p step reply → p' ≡ after p step reply → IsReached p'
+pub reaches : (p p' : StoreState) (step : Step) (reply : Reply) → ((trace : Trace) → IsStateOf trace p → MayAnswer p step reply → IsStateOf (trace ++ (step, reply) ∷ []) (state_after p step reply))
+    → IsReached p → MayAnswer p step reply → p' ≡ state_after p step reply → IsReached p'
 reaches p p' step reply lift r says e =
     let c = counts p step reply (record { counted = r.counted; few_begun = r.few_begun }) says in
-    subst (λ (q : Parts). IsReached q) (sym e) (record { trace = r.trace ++ (step, reply) ∷ []; at = lift r.trace r.at says; counted = c.counted; few_begun = c.few_begun })
+    subst (λ (q : StoreState). IsReached q) (sym e) (record { trace = r.trace ++ (step, reply) ∷ []; at = lift r.trace r.at says; counted = c.counted; few_begun = c.few_begun })
 
-pub few_commits : (parts : Partitions) (t : Txs) (wishes : List Interval) (commits : ℕ) → IsReached (parts_kept parts t wishes commits) → commits + length t.active ≤ 2 ^ 63
+pub few_commits : (parts : Partitions) (t : Txs) (wishes : List Interval) (commits : ℕ) → IsReached (state_kept parts t wishes commits) → commits + length t.active ≤ 2 ^ 63
 few_commits parts t wishes commits r = omega (arith, r.counted, r.few_begun, length-actives (locks_of t.locks) t.active)
 
 pub some_active : (xs : List Transaction) (tx : ℕ) → is_active xs tx ≡ true → 1 ≤ length xs
@@ -119,27 +119,27 @@ some_active (x ∷ xs) tx a = omega arith
 
 -- ---- how much a reply has
 
-few_rows : (p : Parts) (t : ℕ) (range : Interval) (max : ℕ) (reply : Reply) → MaySay p (Do t (Scan range max)) reply → IsWithin (Do t (Scan range max)) reply
-few_rows p t range max reply says = by_due (due_in p t (Scan range max)) says
+few_rows : (p : StoreState) (t : ℕ) (range : Interval) (max : ℕ) (reply : Reply) → MayAnswer p (Do t (Scan range max)) reply → IsWithin (Do t (Scan range max)) reply
+few_rows p t range max reply says = by_due (refusal_in p t (Scan range max)) says
   where
     asked : (m : PlainMap) → length (scan_rows range max m) ≤ max
     asked m = omega (arith, length-take max (rows_where (within range) m))
 
-    by_due : (o : Option Refusal) → MatchOption o ((reply ≡ told (Scan range max) (in_table p.active t).marks (content p.entries)) ⊎ ((reply ≡ Refused NoMemory) × (takes_memory (Scan range max) ≡ true))) (λ why. reply ≡ Refused why) → IsWithin (Do t (Scan range max)) reply
+    by_due : (o : Option Refusal) → MatchOption o ((reply ≡ stored_answer (Scan range max) (in_table p.active t).marks (content p.entries)) ⊎ ((reply ≡ Refused NoMemory) × (takes_memory (Scan range max) ≡ true))) (λ why. reply ≡ Refused why) → IsWithin (Do t (Scan range max)) reply
     by_due None h = ⊎_elim
         (λ e. subst (λ (r : Reply). IsWithin (Do t (Scan range max)) r) (sym e) (asked (content p.entries)))
         (λ w. subst (λ (r : Reply). IsWithin (Do t (Scan range max)) r) (sym w.0) tt)
         h
     by_due (Some why) e = subst (λ (r : Reply). IsWithin (Do t (Scan range max)) r) (sym e) tt
 
-pub within_do : (p : Parts) (t : ℕ) (op : Op) (reply : Reply) → MaySay p (Do t op) reply → IsWithin (Do t op) reply
+pub within_do : (p : StoreState) (t : ℕ) (op : Op) (reply : Reply) → MayAnswer p (Do t op) reply → IsWithin (Do t op) reply
 within_do p t (Scan range max) reply says = few_rows p t range max reply says
 within_do p t op reply says = tt
 
 at_most : (test : Entry → Bool) (xs : List Entry) → length (take_while test xs) ≤ length xs
 at_most test xs = omega (arith, length-take (prefix_len test xs) xs)
 
-pub within_merge : (p : Parts) (limit : ℕ) (reply : Reply) → MaySay p (Merge limit) reply → IsWithin (Merge limit) reply
+pub within_merge : (p : StoreState) (limit : ℕ) (reply : Reply) → MayAnswer p (Merge limit) reply → IsWithin (Merge limit) reply
 within_merge p limit (Moved n run) says = by_limit (is_limit limit) refl says
   where
     of_first : (c : Entry) (cs : List Entry) (o : Option ℕ) → AnswersFirst p.entries (holder_in p.active) limit c cs o (Moved n run) → n ≤ limit

@@ -10,24 +10,14 @@ use Rattle.am_record.specs.declared.step.Op.{Op}
 use Rattle.am_record.specs.declared.step.Op.TheVariants.{Get, Scan}
 use Rattle.am_locks.specs.Table.{is_owner, locks_of}
 use Rattle.am_tx.specs.Txs.{Txs}
-use Rattle.am_serial.specs.Machine.{is_bounded, is_load, is_one_too_many, busy}
-use Rattle.am_steps.specs.Parts.{blocker_in}
+use Rattle.am_record.specs.Refusals.{is_one_too_many, lock_refusal}
+use Rattle.am_sound.specs.StoreState.{blocker_in}
 use Rattle.am_core.specs.Keeping.{actives}
 use Rattle.am_core.specs.Memory.{adds_ninth_lock}
 
--- the refusal that is due before a lock is asked for
-abbrev pub due_first : Bool → ℕ → ℕ → Op → Option Refusal
-due_first active ops runs op =
-    cond (not active) (Some NoSuchTx)
-    (cond (nat_le 4096 ops) (Some TooManyOps)
-    (cond (not (is_orderly op)) (Some NotRising)
-    (cond (not (is_bounded op)) (Some BadLimit)
-    (cond (is_load op && nat_le 65535 runs) (Some TooManyRuns)
-    None))))
-
 -- the refusal that is due for the lock that is asked for
 abbrev pub due_lock : Txs → ℕ → Option Lock → Option Refusal
-due_lock txs tx asked = busy (blocker_in (actives txs) tx asked) (is_one_too_many (locks_of txs.locks tx) asked)
+due_lock txs tx asked = lock_refusal (blocker_in (actives txs) tx asked) (is_one_too_many (locks_of txs.locks tx) asked)
 
 -- the lock is refused: for the reason that is due, or for want of memory where none is
 abbrev pub IsLockRefusal : Txs → ℕ → Option Lock → Refusal → Type 0

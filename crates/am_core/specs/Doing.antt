@@ -12,13 +12,13 @@ use Rattle.am_undo.specs.Marks.{since_mark}
 use Rattle.am_serial.specs.Trace.{runs_made}
 use Rattle.am_effect.specs.Laws.{taken_back}
 use Rattle.am_effect.specs.Store.{changed, noted, notes_left, marks_left}
-use Rattle.am_follow.specs.At.{told}
+use Rattle.am_sound.specs.Represents.{stored_answer}
 use Rattle.am_tx.specs.Active.{log_of}
 use Rattle.am_tx.specs.Txs.{Txs, with_log}
 
 -- the operation had this reply, and did with it what it does
 pub record IsDone (op : Op) (reply : Reply) (parts : Partitions) (log : Log) (parts' : Partitions) (log' : Log) : Type 0 where
-  pub said : reply ≡ told op log.marks (content parts.entries)
+  pub said : reply ≡ stored_answer op log.marks (content parts.entries)
   pub entries : parts'.entries ≡ changed (taken_back (since_mark log.marks log.notes) parts.entries) parts.runs op reply parts.entries
   pub runs : parts'.runs ≡ parts.runs + runs_made op reply
   pub notes : log'.notes ≡ noted parts.runs op reply parts.entries ++ notes_left op reply log.marks log.notes

@@ -13,8 +13,8 @@ use Rattle.am_undo.specs.Log.{note_code}
 use Rattle.am_tx.specs.declared.transaction.Transaction.{Transaction}
 use Rattle.am_tx.specs.Txs.{Txs}
 use Rattle.am_serial.specs.Trace.{Trace}
-use Rattle.am_steps.specs.Parts.{Active, Parts}
-use Rattle.am_steps.specs.At.{At}
+use Rattle.am_sound.specs.StoreState.{Active, StoreState}
+use Rattle.am_sound.specs.StateOf.{IsStateOf}
 
 -- an active transaction with the locks that it holds
 abbrev pub active_with : (ℕ → List Lock) → Transaction → Active
@@ -25,8 +25,8 @@ abbrev pub actives : Txs → List Active
 actives txs = map (active_with (locks_of txs.locks)) txs.active
 
 -- what is kept, by its parts
-abbrev pub parts_kept : Partitions → Txs → List Interval → ℕ → Parts
-parts_kept parts txs wishes commits = record { entries = parts.entries; wishes = wishes; begun = txs.begun; commits = commits; runs = parts.runs; active = actives txs }
+abbrev pub state_kept : Partitions → Txs → List Interval → ℕ → StoreState
+state_kept parts txs wishes commits = record { entries = parts.entries; wishes = wishes; begun = txs.begun; commits = commits; runs = parts.runs; active = actives txs }
 
 -- it is stored as its fields
 abbrev pub ActiveFields : Type 0
@@ -37,18 +37,18 @@ active_code =
     code_by ActiveFields (coded× (coded× coded_ℕ coded_ℕ) (coded× (coded_list lock.the_row.coded) (coded× (coded_list note_code) (coded_list coded_ℕ))))
     (λ x. ((x.number, x.ops), (x.locks, (x.notes, x.marks)))) (λ f. record { number = f.0.0; ops = f.0.1; locks = f.1.0; notes = f.1.1.0; marks = f.1.1.1 }) (λ _. refl)
 
-abbrev pub PartsFields : Type 0
-PartsFields = (List Entry × List Interval) × ((ℕ × ℕ) × (ℕ × List Active))
+abbrev pub StateFields : Type 0
+StateFields = (List Entry × List Interval) × ((ℕ × ℕ) × (ℕ × List Active))
 
-abbrev pub parts_code : Coded Parts
-parts_code =
-    code_by PartsFields (coded× (coded× entries_code (coded_list interval_code)) (coded× (coded× coded_ℕ coded_ℕ) (coded× coded_ℕ (coded_list active_code))))
+abbrev pub state_code : Coded StoreState
+state_code =
+    code_by StateFields (coded× (coded× entries_code (coded_list interval_code)) (coded× (coded× coded_ℕ coded_ℕ) (coded× coded_ℕ (coded_list active_code))))
     (λ p. ((p.entries, p.wishes), ((p.begun, p.commits), (p.runs, p.active))))
     (λ f. record { entries = f.0.0; wishes = f.0.1; begun = f.1.0.0; commits = f.1.0.1; runs = f.1.1.0; active = f.1.1.1 }) (λ _. refl)
 
 -- some steps and replies lead there, from an empty store; and there were no more commits than transactions begun that aren't active any more
-pub record IsReached (p : Parts) : Type 0 where
+pub record IsReached (p : StoreState) : Type 0 where
   pub trace : Trace
-  pub at : At trace p
+  pub at : IsStateOf trace p
   pub counted : p.commits + length p.active ≤ p.begun
   pub few_begun : p.begun ≤ 2 ^ 63

@@ -9,7 +9,7 @@ use Rattle.am_record.specs.declared.step.Step.{Step}
 use Rattle.am_record.specs.declared.step.Step.TheVariants.{Do, Merge}
 use Rattle.am_list.specs.Entries.{find}
 use Rattle.am_undo.specs.declared.note.Note.{Note}
-use Rattle.am_steps.specs.Parts.{Active, Parts, in_table}
+use Rattle.am_sound.specs.StoreState.{Active, StoreState, in_table}
 
 -- the lock would be added to eight or more: eight stand in the table itself
 abbrev pub adds_ninth_lock : List Lock → Option Lock → Bool
@@ -25,7 +25,7 @@ abbrev pub adds_third_mark : List ℕ → Bool
 adds_third_mark marks = nat_le 2 (length marks)
 
 -- whether the operation of that transaction may want memory. An Insert does where the key has no entry in the final partition yet
-abbrev pub may_want_room : Parts → Active → Op → Bool
+abbrev pub may_want_room : StoreState → Active → Op → Bool
 may_want_room p x (Get k) = adds_ninth_lock x.locks (lock_of (Get k))
 may_want_room p x (TakeLock lock) = adds_ninth_lock x.locks (Some lock)
 may_want_room p x (Replace k v) = adds_ninth_lock x.locks (lock_of (Replace k v)) || adds_fifth_note x.notes
@@ -37,7 +37,7 @@ may_want_room p x Mark = adds_third_mark x.marks
 may_want_room p x Back = false
 
 -- whether the step may be refused for want of memory: a Begin, a Commit, an Abort, a Clean and a Back never are
-abbrev pub may_want_memory : Parts → Step → Bool
+abbrev pub may_want_memory : StoreState → Step → Bool
 may_want_memory p (Do t op) = may_want_room p (in_table p.active t) op
 may_want_memory p (Merge limit) = true
 may_want_memory p _ = false

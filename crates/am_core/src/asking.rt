@@ -5,8 +5,8 @@ ghost use Rattle.am_record.specs.Plain.{is_orderly, is_rising};
 ghost use Rattle.am_record.specs.Asks.{lock_of, span};
 ghost use Rattle.am_locks.specs.Table.{locks_of};
 ghost use Rattle.am_tx.specs.Active.{is_active, ops_of};
-ghost use Rattle.am_serial.specs.Machine.{is_bounded, is_load};
-ghost use Rattle.am_core.specs.Asking.{due_first, IsLockRefusal, IsGranted, wish_of};
+ghost use Rattle.am_record.specs.Refusals.{refusal_before_lock, is_bounded, is_load};
+ghost use Rattle.am_core.specs.Asking.{IsLockRefusal, IsGranted, wish_of};
 
 use am_list::PartIndex;
 use am_locks::Asked;
@@ -26,7 +26,7 @@ pub(crate) fn refusal<I: PartIndex + Drop>(
     tx: u64,
     op: &Op,
 ) -> Option<Refusal>
-    ensures { result ≡ due_first (is_active txs.now.active tx) (ops_of txs.now.active tx) parts.now.runs op.now }
+    ensures { result ≡ refusal_before_lock (is_active txs.now.active tx) (ops_of txs.now.active tx) parts.now.runs op.now }
 {
     if !txs.is_active(tx) {
         return Some(Refusal::NoSuchTx);
@@ -84,7 +84,7 @@ pub(crate) fn ask(txs: &mut TxTable, tx: u64, asked: Option<Lock>) -> Result<usi
     ensures refused { IfErr result (IsLockRefusal txs.old tx asked) }
     ensures unchanged { OnErr result (txs.new ≡ txs.old) }
 {
-    am_steps::tables_follow();
+    am_sound::tables_follow();
     // Read here, the owners of locks are known to be the active transactions.
     let _active = txs.active();
     let held = txs.held(tx);

@@ -2,7 +2,7 @@
 
 ghost use Rattle.std.specs.Prelude.{◌≡◌, ◌+◌, ◌≤◌, ◌^◌, length, true};
 ghost use Rattle.am_record.specs.declared.step.Refusal.TheVariants.{NoMemory};
-ghost use Rattle.am_steps.specs.Parts.{MaySay, after, IsFit};
+ghost use Rattle.am_sound.specs.StoreState.{MayAnswer, state_after, IsFit};
 ghost use Rattle.am_core.specs.Memory.{may_want_memory};
 ghost use Rattle.am_core.specs.Standing.{KeepsContent};
 ghost use Rattle.am_core.specs.Whole.{whole};
@@ -29,8 +29,8 @@ impl<I: PartIndex + Drop> Kept<I> {
     pub(crate) fn step(&mut self, step: Step) -> Reply
         requires fit { IsFit (whole self.old) }
         requires few { self.old.commits + length self.old.txs.active ≤ 2 ^ 63 }
-        ensures says { MaySay (whole self.old) step result }
-        ensures after { whole self.new ≡ after (whole self.old) step result }
+        ensures says { MayAnswer (whole self.old) step result }
+        ensures after { whole self.new ≡ state_after (whole self.old) step result }
         ensures memory { result ≡ Reply.Refused NoMemory → may_want_memory (whole self.old) step ≡ true }
         ensures content { KeepsContent (whole self.old) step (whole self.new) }
     {

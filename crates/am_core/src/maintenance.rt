@@ -4,7 +4,7 @@ ghost use Rattle.std.specs.Prelude.{◌≡◌};
 ghost use Rattle.am_record.specs.declared.step.Step.TheVariants.{Merge, Clean};
 ghost use Rattle.am_list.specs.Content.{content};
 ghost use Rattle.am_serial.specs.Machine.{is_limit};
-ghost use Rattle.am_steps.specs.Parts.{MaySay, after};
+ghost use Rattle.am_sound.specs.StoreState.{MayAnswer, state_after};
 ghost use Rattle.am_core.specs.Whole.{whole};
 
 use crate::kept::Kept;
@@ -18,8 +18,8 @@ pub const MAX_LIMIT: u64 = 64;
 impl<I: PartIndex + Drop> Kept<I> {
     #[inline(never)]
     pub(crate) fn merge(&mut self, limit: u64) -> Reply
-        ensures says { MaySay (whole self.old) (Merge limit) result }
-        ensures after { whole self.new ≡ after (whole self.old) (Merge limit) result }
+        ensures says { MayAnswer (whole self.old) (Merge limit) result }
+        ensures after { whole self.new ≡ state_after (whole self.old) (Merge limit) result }
         ensures content { content self.new.parts.entries ≡ content self.old.parts.entries }
     {
         if !is_limit(limit) {
@@ -30,8 +30,8 @@ impl<I: PartIndex + Drop> Kept<I> {
 
     #[inline(never)]
     pub(crate) fn clean(&mut self, range: Range, limit: u64) -> Reply
-        ensures says { MaySay (whole self.old) (Clean range limit) result }
-        ensures after { whole self.new ≡ after (whole self.old) (Clean range limit) result }
+        ensures says { MayAnswer (whole self.old) (Clean range limit) result }
+        ensures after { whole self.new ≡ state_after (whole self.old) (Clean range limit) result }
         ensures content { content self.new.parts.entries ≡ content self.old.parts.entries }
     {
         if !is_limit(limit) {

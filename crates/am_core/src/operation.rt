@@ -9,8 +9,8 @@ ghost use Rattle.am_undo.specs.Marks.{since_mark};
 ghost use Rattle.am_undo.specs.Notes.{CanTakeBack};
 ghost use Rattle.am_runs.specs.Loads.{NothingAbove};
 ghost use Rattle.am_tx.specs.Active.{is_active, log_of};
-ghost use Rattle.am_serial.specs.Machine.{is_load};
-ghost use Rattle.am_steps.specs.Parts.{MaySay, after, IsFit};
+ghost use Rattle.am_record.specs.Refusals.{is_load};
+ghost use Rattle.am_sound.specs.StoreState.{MayAnswer, state_after, IsFit};
 ghost use Rattle.am_effect.specs.Store.{with_wish};
 ghost use Rattle.am_core.specs.Doing.{IsDone, IsUntouched, MayWantRoom, Works, IsIdle};
 ghost use Rattle.am_core.specs.Memory.{may_want_memory};
@@ -37,8 +37,8 @@ impl<I: PartIndex + Drop> Kept<I> {
     #[inline(never)]
     pub(crate) fn operate(&mut self, tx: u64, op: Op) -> Reply
         requires { IsFit (whole self.old) }
-        ensures says { MaySay (whole self.old) (Do tx op) result }
-        ensures after { whole self.new ≡ after (whole self.old) (Do tx op) result }
+        ensures says { MayAnswer (whole self.old) (Do tx op) result }
+        ensures after { whole self.new ≡ state_after (whole self.old) (Do tx op) result }
         ensures memory { result ≡ Reply.Refused OutOfMemory → may_want_memory (whole self.old) (Do tx op) ≡ true }
     {
         am_runs::load_follows();

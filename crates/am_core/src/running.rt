@@ -25,7 +25,7 @@ pub fn run<I: PartIndex + Drop>(
     ensures run { OnOk result (HasRun store.old steps.now replies.old.items store.new replies.new.items) }
     ensures err { OnErr result ((store.new ≡ store.old) × (replies.new.items ≡ replies.old.items)) }
 {
-    am_steps::steps_lift();
+    am_sound::steps_lift();
     let copies = copies_of(alloc, steps)?;
     replies.reserve(copies.len())?;
     for step in copies {

@@ -3,9 +3,9 @@
 ghost use Rattle.std.specs.Prelude.{◌≡◌, ◌+◌, ◌≤◌, ◌^◌, [], ◌∷◌, true, length, IfOk};
 ghost use Rattle.am_record.specs.declared.step.Refusal.{Refusal as TheRefusal};
 ghost use Rattle.am_record.specs.declared.step.Refusal.TheVariants.{NoMemory as OutOfMemory};
-ghost use Rattle.am_steps.specs.Parts.{empty_parts, IsFit, MaySay, after};
+ghost use Rattle.am_sound.specs.StoreState.{empty_state, IsFit, MayAnswer, state_after};
 ghost use Rattle.am_core.specs.Memory.{may_want_memory};
-ghost use Rattle.am_core.specs.Standing.{StandsAt, GoesOn, IsWithin, KeepsContent};
+ghost use Rattle.am_core.specs.Standing.{IsSoundAt, Extends, IsWithin, KeepsContent};
 ghost use Rattle.am_core.specs.Whole.{whole};
 
 use crate::entries::all_entries;
@@ -26,13 +26,13 @@ pub struct Store<I: PartIndex + Drop> {
 }
 
 impl<I: PartIndex + Drop> Model for Store<I> {
-    ghost use Rattle.am_steps.specs.Parts.{Parts};
-    ghost use Rattle.am_core.specs.Keeping.{parts_code, IsReached};
+    ghost use Rattle.am_sound.specs.StoreState.{StoreState};
+    ghost use Rattle.am_core.specs.Keeping.{state_code, IsReached};
     ghost use Rattle.am_core.specs.Whole.{whole};
 
-    ghost Value = { Parts };
+    ghost Value = { StoreState };
 
-    ghost coded = { parts_code };
+    ghost coded = { state_code };
 
     ghost view = { λ s. whole s.kept.value };
 
@@ -46,10 +46,10 @@ impl<I: PartIndex + Drop> Store<I> {
     /// NoMemory, where memory was refused for the ring of wishes or the tables.
     pub fn open(alloc: Global, index: I) -> Result<Store<I>, NoMemory>
         requires { I.entries index ≡ [] }
-        ensures empty { IfOk result (λ store. store ≡ empty_parts) }
-        ensures stands { IfOk result (λ store. StandsAt [] store) }
+        ensures empty { IfOk result (λ store. store ≡ empty_state) }
+        ensures stands { IfOk result (λ store. IsSoundAt [] store) }
     {
-        am_steps::steps_lift();
+        am_sound::steps_lift();
         let wishes = Wishes::new(alloc)?;
         let kept = Kept {
             alloc,
@@ -67,9 +67,9 @@ impl<I: PartIndex + Drop> Store<I> {
     /// before it, and wherever the store stood, it stands there with this step added: so the trace of
     /// all its steps is sound at each moment.
     pub fn step(&mut self, step: Step) -> Reply
-        ensures says { MaySay self.old step result }
-        ensures after { self.new ≡ after self.old step result }
-        ensures goes { GoesOn self.old ((step, result) ∷ []) self.new }
+        ensures says { MayAnswer self.old step result }
+        ensures after { self.new ≡ state_after self.old step result }
+        ensures goes { Extends self.old ((step, result) ∷ []) self.new }
 
         // A refused step leaves the store as it was.
         ensures refused { (why : TheRefusal) → result ≡ Reply.Refused why → self.new ≡ self.old }
@@ -79,7 +79,7 @@ impl<I: PartIndex + Drop> Store<I> {
         ensures content { KeepsContent self.old step self.new }
         ensures within { IsWithin step result }
     {
-        am_steps::steps_lift();
+        am_sound::steps_lift();
         step_there(&mut self.kept, step)
     }
 
@@ -105,8 +105,8 @@ impl<I: PartIndex + Drop> Store<I> {
 fn step_there<I: PartIndex + Drop>(kept: &mut Box<Kept<I>>, step: Step) -> Reply
     requires fit { IsFit (whole kept.old.value) }
     requires few { kept.old.value.commits + length kept.old.value.txs.active ≤ 2 ^ 63 }
-    ensures says { MaySay (whole kept.old.value) step result }
-    ensures after { whole kept.new.value ≡ after (whole kept.old.value) step result }
+    ensures says { MayAnswer (whole kept.old.value) step result }
+    ensures after { whole kept.new.value ≡ state_after (whole kept.old.value) step result }
     ensures memory { result ≡ Reply.Refused OutOfMemory → may_want_memory (whole kept.old.value) step ≡ true }
     ensures content { KeepsContent (whole kept.old.value) step (whole kept.new.value) }
 {

@@ -2,7 +2,7 @@
 
 ghost use Rattle.std.specs.Prelude.{◌≡◌, ◌+◌, ◌≤◌, ◌<◌, ◌^◌, length, true};
 ghost use Rattle.am_record.specs.declared.step.Step.TheVariants.{Begin, Commit, Abort};
-ghost use Rattle.am_steps.specs.Parts.{MaySay, after, IsFit};
+ghost use Rattle.am_sound.specs.StoreState.{MayAnswer, state_after, IsFit};
 ghost use Rattle.am_list.specs.Entries.{find};
 ghost use Rattle.am_undo.specs.Notes.{TakesBack, CanTakeBack};
 ghost use Rattle.am_tx.specs.Active.{is_active, log_of};
@@ -17,8 +17,8 @@ use am_tx::TxTable;
 
 impl<I: PartIndex + Drop> Kept<I> {
     pub(crate) fn begin(&mut self) -> Reply
-        ensures says { MaySay (whole self.old) Begin result }
-        ensures after { whole self.new ≡ after (whole self.old) Begin result }
+        ensures says { MayAnswer (whole self.old) Begin result }
+        ensures after { whole self.new ≡ state_after (whole self.old) Begin result }
     {
         // Read here, the table's numbers are known to rise.
         let _active = self.txs.active();
@@ -31,8 +31,8 @@ impl<I: PartIndex + Drop> Kept<I> {
     #[inline(never)]
     pub(crate) fn commit(&mut self, tx: u64) -> Reply
         requires { self.old.commits + length self.old.txs.active ≤ 2 ^ 63 }
-        ensures says { MaySay (whole self.old) (Commit tx) result }
-        ensures after { whole self.new ≡ after (whole self.old) (Commit tx) result }
+        ensures says { MayAnswer (whole self.old) (Commit tx) result }
+        ensures after { whole self.new ≡ state_after (whole self.old) (Commit tx) result }
     {
         if !self.txs.is_active(tx) {
             return Reply::Refused(Refusal::NoSuchTx);
@@ -45,8 +45,8 @@ impl<I: PartIndex + Drop> Kept<I> {
     #[inline(never)]
     pub(crate) fn abort(&mut self, tx: u64) -> Reply
         requires { IsFit (whole self.old) }
-        ensures says { MaySay (whole self.old) (Abort tx) result }
-        ensures after { whole self.new ≡ after (whole self.old) (Abort tx) result }
+        ensures says { MayAnswer (whole self.old) (Abort tx) result }
+        ensures after { whole self.new ≡ state_after (whole self.old) (Abort tx) result }
     {
         am_effect::taking_back_is_known();
         if !self.txs.is_active(tx) {

@@ -10,7 +10,8 @@ use Rattle.am_record.specs.declared.step.Reply.{Reply}
 use Rattle.am_record.specs.declared.step.Reply.TheVariants.{Begun, Done, Found, Absent, Rows, Exists, Missing, Committed, Aborted, Moved, MergeDone, Ended, Idle, Cleaned, NoMark, Refused}
 use Rattle.am_record.specs.Asks.{lock_of}
 use Rattle.am_serial.specs.Trace.{Effect}
-use Rattle.am_serial.specs.Machine.{state_at, due_early, is_one_too_many, locks_in}
+use Rattle.am_record.specs.Refusals.{is_one_too_many}
+use Rattle.am_serial.specs.Machine.{state_at, due_early, locks_in}
 use Rattle.am_serial.specs.Sound.{IsAnswerOf, IsBusy, FormedDo, FormedAt}
 use Rattle.am_latch.specs.Changes.{Fits}
 

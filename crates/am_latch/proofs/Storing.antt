@@ -14,12 +14,13 @@ use Rattle.am_record.specs.declared.step.Reply.TheVariants.{Begun, Done, Found, 
 use Rattle.am_undo.specs.declared.note.Note.{Note}
 use Rattle.am_serial.specs.Trace.{Trace, Effect}
 use Rattle.am_serial.specs.Trace as serial
-use Rattle.am_serial.specs.Machine.{state_at, due_early, is_bounded, is_one_too_many, locks_in}
+use Rattle.am_record.specs.Refusals.{is_bounded, is_one_too_many}
+use Rattle.am_serial.specs.Machine.{state_at, due_early, locks_in}
 use Rattle.am_serial.specs.Sound.{IsAnswerOf, IsBusy, FormedDo, FormedAt, EachEvent}
 use Rattle.am_record.specs.Asks.{lock_of, with_asked}
 use Rattle.am_effect.specs.Store.{notes_left, marks_left}
-use Rattle.am_steps.specs.Parts.{Active, Parts, MaySay, IsFit, after, did, ended, is_in, newcomer}
-use Rattle.am_core.specs.Standing.{StandsAt, GoesOn, IsWithin}
+use Rattle.am_sound.specs.StoreState.{Active, StoreState, MayAnswer, IsFit, state_after, with_op, without_tx, is_in, newcomer}
+use Rattle.am_core.specs.Standing.{IsSoundAt, Extends, IsWithin}
 use Rattle.am_latch.specs.declared.change.Change.TheVariants.{Ends, Nothing}
 use Rattle.am_latch.specs.Changes.{change, end_of, room_of, rows_in, moves_in, has, without, moved, active_from, numbers, HasTrace, Answers, Bounded, Goes}
 use Rattle.am_latch.proofs.Replies.{why_refused}
@@ -43,10 +44,10 @@ kept_number : (b : Bool) (x y : Active) → y.number ≡ x.number → (cond b y 
 kept_number true x y e = e
 kept_number false x y e = refl
 
-did_number : (t : ℕ) (op : Op) (r : Reply) (new : List Note) (x : Active) → (did t op r new x).number ≡ x.number
+did_number : (t : ℕ) (op : Op) (r : Reply) (new : List Note) (x : Active) → (with_op t op r new x).number ≡ x.number
 did_number t op r new x = kept_number (t == x.number) x record x { ops = x.ops + 1; locks = with_asked x.locks (lock_of op); notes = new ++ notes_left op r x.marks x.notes; marks = marks_left op r (length x.notes) x.marks } refl
 
-did_numbers : (t : ℕ) (op : Op) (r : Reply) (new : List Note) (xs : List Active) → map (λ (x : Active). x.number) (map (did t op r new) xs) ≡ map (λ (x : Active). x.number) xs
+did_numbers : (t : ℕ) (op : Op) (r : Reply) (new : List Note) (xs : List Active) → map (λ (x : Active). x.number) (map (with_op t op r new) xs) ≡ map (λ (x : Active). x.number) xs
 did_numbers t op r new [] = refl
 did_numbers t op r new (x ∷ xs) = (λ i. did_number t op r new x i ∷ did_numbers t op r new xs i)
 
@@ -54,11 +55,11 @@ kept_numbers : (b : Bool) (x : Active) (xs : List Active) (ns : List ℕ) → ma
 kept_numbers true x xs ns e = ap (λ l. x.number ∷ l) e
 kept_numbers false x xs ns e = e
 
-ended_numbers : (t : ℕ) (xs : List Active) → map (λ (x : Active). x.number) (ended t xs) ≡ without t (map (λ (x : Active). x.number) xs)
+ended_numbers : (t : ℕ) (xs : List Active) → map (λ (x : Active). x.number) (without_tx t xs) ≡ without t (map (λ (x : Active). x.number) xs)
 ended_numbers t [] = refl
-ended_numbers t (x ∷ xs) = kept_numbers (not (x.number == t)) x (ended t xs) _ (ended_numbers t xs)
+ended_numbers t (x ∷ xs) = kept_numbers (not (x.number == t)) x (without_tx t xs) _ (ended_numbers t xs)
 
-numbers_after : (p : Parts) (st : Step) (r : Reply) → numbers (after p st r) ≡ moved (numbers p) (change st r)
+numbers_after : (p : StoreState) (st : Step) (r : Reply) → numbers (state_after p st r) ≡ moved (numbers p) (change st r)
 numbers_after p Begin (Begun t) = map-append (λ (x : Active). x.number) p.active (newcomer t ∷ [])
 numbers_after p Begin Done = refl
 numbers_after p Begin (Found v) = refl
@@ -136,11 +137,11 @@ no_end ts st r nothing none = record {
   unknown = λ t e h. absurd (cc);
 }
 
-is_new : (p : Parts) (t : ℕ) (b : Bool) → has t (numbers p) ≡ b → IsFit p → t ≡ p.begun + 1 → has t (numbers p) ≡ false
+is_new : (p : StoreState) (t : ℕ) (b : Bool) → has t (numbers p) ≡ b → IsFit p → t ≡ p.begun + 1 → has t (numbers p) ≡ false
 is_new p t true is fit new = let old = fit.begun t (sym (has_is_in t p.active) ∙ is) in absurd (omega (arith, old, new))
 is_new p t false is fit new = is
 
-does_end : (p : Parts) (st : Step) (r : Reply) (u : ℕ) → end_of st ≡ Some u → change st r ≡ Ends u → is_in p.active u ≡ true → Answers (numbers p) st r
+does_end : (p : StoreState) (st : Step) (r : Reply) (u : ℕ) → end_of st ≡ Some u → change st r ≡ Ends u → is_in p.active u ≡ true → Answers (numbers p) st r
 does_end p st r u end is on = record {
   begins = λ t e. absurd (cc);
   ends = λ t e. let same : u ≡ t = cc in subst (λ (n : ℕ). has n (numbers p) ≡ true) same (has_is_in u p.active ∙ on);
@@ -148,7 +149,7 @@ does_end p st r u end is on = record {
   unknown = λ t e h. let same : u ≡ t = cc in let there = subst (λ (n : ℕ). has n (numbers p) ≡ true) same (has_is_in u p.active ∙ on) in absurd (cc);
 }
 
-is_unknown : (p : Parts) (st : Step) (why : Refusal) (u : ℕ) → end_of st ≡ Some u → change st (Refused why) ≡ Nothing → is_in p.active u ≡ false → Answers (numbers p) st (Refused why)
+is_unknown : (p : StoreState) (st : Step) (why : Refusal) (u : ℕ) → end_of st ≡ Some u → change st (Refused why) ≡ Nothing → is_in p.active u ≡ false → Answers (numbers p) st (Refused why)
 is_unknown p st why u end is off = record {
   begins = λ t e. absurd (cc);
   ends = λ t e. absurd (cc);
@@ -156,7 +157,7 @@ is_unknown p st why u end is off = record {
   unknown = λ t e h. refl;
 }
 
-answers_of : (p : Parts) (st : Step) (r : Reply) → IsFit p → MaySay p st r → Answers (numbers p) st r
+answers_of : (p : StoreState) (st : Step) (r : Reply) → IsFit p → MayAnswer p st r → Answers (numbers p) st r
 answers_of p Begin (Begun u) fit may = record {
   begins = λ t e. let same : u ≡ t = cc in subst (λ (n : ℕ). has n (numbers p) ≡ false) same (is_new p u (has u (numbers p)) refl fit may.0);
   ends = λ t e. absurd (cc);
@@ -497,17 +498,17 @@ last_event es (e ∷ h) st r each = last_event (es ++ serial.effect e.0 e.1 ∷ 
 
 -- ---- a step of the store
 
-pub is_bounded_by : (h : Trace) (st : Step) (r : Reply) (p : Parts) → StandsAt (h ++ (st, r) ∷ []) p → IsWithin st r → Bounded st r
+pub is_bounded_by : (h : Trace) (st : Step) (r : Reply) (p : StoreState) → IsSoundAt (h ++ (st, r) ∷ []) p → IsWithin st r → Bounded st r
 is_bounded_by h st r p stands within =
     let last = last_event [] h st r stands.sound.sound.formed in
     record { fits = fits_formed last.0 st r last.1; rows = rows_within last.0 st r last.1 within; moves = moves_within last.0 st r last.1 within }
 
-pub goes : (h : Trace) (p p' : Parts) (st : Step) (r : Reply) → HasTrace h p → IsFit p → MaySay p st r → p' ≡ after p st r → ((why : Refusal) → r ≡ Refused why → p' ≡ p) → GoesOn p ((st, r) ∷ []) p' → Goes h st r p'
+pub goes : (h : Trace) (p p' : StoreState) (st : Step) (r : Reply) → HasTrace h p → IsFit p → MayAnswer p st r → p' ≡ state_after p st r → ((why : Refusal) → r ≡ Refused why → p' ≡ p) → Extends p ((st, r) ∷ []) p' → Goes h st r p'
 goes h p p' st r has fit may step same on = record {
   here = record { stands = on.on h has.stands.at; active = ap numbers step ∙ numbers_after p st r ∙ ap (λ ts. moved ts (change st r)) has.active ∙ sym (active_from-snoc [] h (st, r)) };
   refused = λ no. let w = why_refused r no in subst (HasTrace h) (sym (same w.0 w.1)) has;
   answers = subst (λ (ts : List ℕ). Answers ts st r) has.active (answers_of p st r fit may);
 }
 
-pub opens : (p : Parts) → p.active ≡ [] → StandsAt [] p → HasTrace [] p
+pub opens : (p : StoreState) → p.active ≡ [] → IsSoundAt [] p → HasTrace [] p
 opens p none stands = record { stands = stands; active = ap (λ l. map (λ (x : Active). x.number) l) none }

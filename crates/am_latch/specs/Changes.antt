@@ -8,8 +8,8 @@ use Rattle.am_record.specs.declared.step.Refusal.TheVariants.{NoMemory, SeatFull
 use Rattle.am_record.specs.declared.step.Reply.{Reply}
 use Rattle.am_record.specs.declared.step.Reply.TheVariants.{Begun, Rows, Committed, Aborted, Moved, Refused}
 use Rattle.am_serial.specs.Trace.{Trace}
-use Rattle.am_steps.specs.Parts.{Active, Parts}
-use Rattle.am_core.specs.Standing.{StandsAt}
+use Rattle.am_sound.specs.StoreState.{Active, StoreState}
+use Rattle.am_core.specs.Standing.{IsSoundAt}
 use Rattle.am_latch.specs.declared.change.Change.{Change}
 use Rattle.am_latch.specs.declared.change.Change.TheVariants.{Begins, Ends, Nothing}
 
@@ -79,12 +79,12 @@ opened o (Ends t) = None
 opened o Nothing = o
 
 -- the active transactions of a store
-abbrev pub numbers : Parts → List ℕ
+abbrev pub numbers : StoreState → List ℕ
 numbers p = map (λ (x : Active). x.number) p.active
 
 -- the trace is sound, the store is where it leaves it, and has its active transactions
-pub record HasTrace (trace : Trace) (p : Parts) : Type 0 where
-  pub stands : StandsAt trace p
+pub record HasTrace (trace : Trace) (p : StoreState) : Type 0 where
+  pub stands : IsSoundAt trace p
   pub active : numbers p ≡ active trace
 
 -- The pair may follow where these transactions are active: one that begins is not active yet, and one that ends is.
@@ -109,7 +109,7 @@ pub record Bounded (st : Step) (r : Reply) : Type 0 where
   pub moves : moves_in r ≤ 64
 
 -- what a step owes: the trace goes on, and a refused step leaves the store where it was
-pub record Goes (trace : Trace) (st : Step) (r : Reply) (p : Parts) : Type 0 where
+pub record Goes (trace : Trace) (st : Step) (r : Reply) (p : StoreState) : Type 0 where
   pub here : HasTrace (trace ++ (st, r) ∷ []) p
   pub refused : is_refused r ≡ true → HasTrace trace p
   pub answers : Answers (active trace) st r

@@ -1,6 +1,6 @@
 //! The end of a latch.
 ghost use Rattle.std.specs.Prelude.{◌≡◌, ◌<◌, ◌↔◌, [], IfOk, MatchResult, length, true};
-ghost use Rattle.am_core.specs.Standing.{StandsAt};
+ghost use Rattle.am_core.specs.Standing.{IsSoundAt};
 ghost use Rattle.am_latch.specs.Receipts.{Kept, AreAll, NumberedBelow, AreKnown};
 ghost use Rattle.am_latch.specs.Ties.{OpenIs};
 ghost use Rattle.am_latch.specs.Changes.{active, numbers};
@@ -70,7 +70,7 @@ pub fn close<L: Naming>(latch: Latch<L>, seats: Vec<Seat<L>>) -> Result<Closed<L
     ensures kept { IfOk result (λ c. Kept c.seats.items c.trace.items) }
     ensures open_txs { IfOk result (λ c. OpenIs c.seats.items (numbers c.store)) }
     ensures active { IfOk result (λ c. numbers c.store ≡ active c.trace.items) }
-    ensures stands { IfOk result (λ c. StandsAt c.trace.items c.store) }
+    ensures stands { IfOk result (λ c. IsSoundAt c.trace.items c.store) }
     ensures legal { IfOk result (λ c. IsLegal c.trace.items) }
 {
     am_serial::sound_traces_are_legal();

@@ -4,7 +4,7 @@ ghost use Rattle.std.specs.Prelude.{◌≡◌, ◌≢◌, ◌≤◌, ◌+◌, �
 ghost use Rattle.am_record.specs.declared.step.Reply.TheVariants.{Refused};
 ghost use Rattle.am_record.specs.declared.step.Refusal.TheVariants.{SeatFull};
 ghost use Rattle.am_serial.specs.Trace.{Trace};
-ghost use Rattle.am_core.specs.Standing.{StandsAt};
+ghost use Rattle.am_core.specs.Standing.{IsSoundAt};
 ghost use Rattle.am_sound.specs.Right.{IsSoundStore};
 ghost use Rattle.am_latch.specs.Changes.{active, numbers, end_of, is_begin, is_refused, is_stored, room_of};
 ghost use Rattle.am_latch.specs.Changes.{HasTrace, Goes, Answers, Bounded};
@@ -52,7 +52,7 @@ impl Engine {
     pub fn open(alloc: Global) -> Result<Engine, NoMemory>
         ensures { IfOk result (λ e. e ≡ fresh) }
     {
-        am_steps::steps_lift();
+        am_sound::steps_lift();
         let store = Store::open(alloc, BTree::new(alloc)?)?;
         Ok(Engine {
             store,
@@ -109,7 +109,7 @@ impl Engine {
 
     /// The store, which is where the stored trace leaves it.
     pub fn store(&self) -> &Store<BTree>
-        ensures { StandsAt self.now.trace result.now }
+        ensures { IsSoundAt self.now.trace result.now }
     {
         &self.store
     }
@@ -119,7 +119,7 @@ impl Engine {
     /// The trace, and the store that it leaves.
     pub(crate) fn into_parts(self) -> (Vec<(Step, Reply)>, Store<BTree>)
         ensures trace { result.0.items ≡ self.trace }
-        ensures stands { StandsAt self.trace result.1 }
+        ensures stands { IsSoundAt self.trace result.1 }
         ensures active { numbers result.1 ≡ active self.trace }
         ensures even { length self.makers ≡ length self.trace }
     {
@@ -132,7 +132,7 @@ fn take_step(store: &mut Store<BTree>, step: Step) -> Reply
     ensures goes { (trace : Trace) → HasTrace trace store.old → Goes trace step result store.new }
     ensures bounded { (trace : Trace) → HasTrace trace store.old → Bounded step result }
 {
-    am_steps::steps_lift();
+    am_sound::steps_lift();
     store.step(step)
 }
 

@@ -3,8 +3,8 @@ use Rattle.std.specs.Prelude.{◌≡◌, ℕ, List, map, None}
 use Rattle.am_sound.specs.Right.{IsSoundStore}
 use Rattle.am_serial.specs.Legal.{IsLegal}
 use Rattle.am_latch.specs.Receipts.{Seated}
-use Rattle.am_core.specs.Standing.{StandsAt}
-use Rattle.am_steps.specs.Parts.{Parts}
+use Rattle.am_core.specs.Standing.{IsSoundAt}
+use Rattle.am_sound.specs.StoreState.{StoreState}
 use Rattle.am_seating.specs.Places.{Placed, open_in}
 use Rattle.am_listen.specs.declared.hosting.Served.{Served}
 
@@ -26,6 +26,6 @@ HasSameSeat p q = q.seat.number ≡ p.seat.number
 pub record IsServed (s : Served) : Type 0 where
   pub sound : IsSoundStore s.trace.items
   pub legal : IsLegal s.trace.items
-  pub store : Parts
-  pub stands : StandsAt s.trace.items store
+  pub store : StoreState
+  pub stands : IsSoundAt s.trace.items store
   pub commits : s.commits ≡ store.commits

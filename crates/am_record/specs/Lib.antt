@@ -11,3 +11,4 @@ pub mod Locks
 pub mod Plain
 pub mod Asks
 pub mod Copies
+pub mod Refusals

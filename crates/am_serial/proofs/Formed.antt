@@ -13,7 +13,8 @@ use Rattle.am_record.specs.declared.step.Reply.TheVariants.{Begun, Committed, Ab
 use Rattle.am_record.specs.Plain.{PlainMap, left}
 use Rattle.am_record.specs.Asks.{lock_of}
 use Rattle.am_serial.specs.Trace.{Event, Trace, Answered, Effect, Begins, Answers, Commits, Aborts, Nothing, effect, effect_of_do, effects, ops_of, left_by, IsSerial, IsAnsweredAlone, AreAnsweredInTurn}
-use Rattle.am_serial.specs.Machine.{State, start, due_early, is_one_too_many, locks_in, next, after_run, state_at}
+use Rattle.am_record.specs.Refusals.{is_one_too_many}
+use Rattle.am_serial.specs.Machine.{State, start, due_early, locks_in, next, after_run, state_at}
 use Rattle.am_serial.specs.Sound.{FormedAt, FormedDo, EachEvent}
 use Rattle.am_serial.specs.Formed.{IsFormed, IsNextInOrder, FormedLaws}
 use Rattle.am_serial.proofs.Views.{View, view_of, view_of-push, push, among, active_in, active_parts, committed_in, state_of, is_open-with_body, body_in-with_body, among_push, among_push_old, among_push_last, among_push_none}

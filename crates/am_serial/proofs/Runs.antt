@@ -18,7 +18,8 @@ use Rattle.am_record.specs.OrderedKey.{OrderedKey}
 use Rattle.am_record.specs.Plain.{PlainMap, Draft, fresh, answer, left_on, is_orderly, found, exists_or_done, least_taken, went_back}
 use Rattle.am_record.specs.Asks.{lock_of, clashes, locks_of}
 use Rattle.am_serial.specs.Trace.{Event, Trace, Answered, Effect, Begins, Answers, Commits, Aborts, Nothing, effect, effect_of_do, effects, ops_of, left_by}
-use Rattle.am_serial.specs.Machine.{State, Transaction, start, is_open, view, blocker, due_early, due_lock, due, or_else, busy, May, extended, without, next, Runs, after_run}
+use Rattle.am_record.specs.Refusals.{or_else, lock_refusal}
+use Rattle.am_serial.specs.Machine.{State, Transaction, start, is_open, view, blocker, due_early, due_lock, due, May, extended, without, next, Runs, after_run}
 use Rattle.am_serial.proofs.Views.{View, view_of, view_of-push, push, among, active_in, committed_in, with_body, state_of, is_open-with_body, body_in-with_body}
 use Rattle.am_serial.proofs.Serial.{Inv, MayAnswer, MayBe, push_inv, none, none_inv, same_committed_bodies, commits_committed}
 
@@ -98,7 +99,7 @@ pub none_of_both : (a b : Option Refusal) → or_else a b ≡ None → (a ≡ No
 none_of_both None b h = (refl, h)
 none_of_both (Some why) b h = absurd (cc)
 
-pub not_busy : (o : Option ℕ) (full : Bool) → busy o full ≡ None → o ≡ None
+pub not_busy : (o : Option ℕ) (full : Bool) → lock_refusal o full ≡ None → o ≡ None
 not_busy None full h = refl
 not_busy (Some h') full h = absurd (cc)
 

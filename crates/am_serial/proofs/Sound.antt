@@ -17,7 +17,8 @@ use Rattle.am_record.specs.declared.step.Reply.TheVariants.{Done, Exists, Missin
 use Rattle.am_record.specs.Plain.{Records, PlainMap, Draft, fresh, answer, answers, left_on, found, exists_or_done, first_key, went_back, rows_where, is_key_of}
 use Rattle.am_record.specs.Asks.{clashes, lock_of, locks_of}
 use Rattle.am_serial.specs.Trace.{Trace, Answered, Effect, Answers, Nothing, effect, effect_of_do, is_active, body, held_by, ops_of, replies_of, IsSteady, IsAnsweredAlone, left_by, AtEachMoment}
-use Rattle.am_serial.specs.Machine.{State, start, state_at, due_early, or_else, busy, blocker, is_open, view, locks_in, is_one_too_many, May, next, Runs}
+use Rattle.am_record.specs.Refusals.{or_else, lock_refusal, is_one_too_many}
+use Rattle.am_serial.specs.Machine.{State, start, state_at, due_early, blocker, is_open, view, locks_in, May, next, Runs}
 use Rattle.am_serial.specs.Sound.{IsLeastBlocker, BusyRightAt, IsAnswerOf, FormedDo, FormedAt, IsSoundFrom, IsSound}
 use Rattle.am_serial.proofs.Bodies.{answers_push}
 use Rattle.am_serial.proofs.Views.{View, view_of, view_of-push, push, among, active_in, committed_in, with_body, state_of, is_open-with_body}
@@ -71,7 +72,7 @@ answer_form Back d = at d.saved
 
 -- the reply by the refusal that is due early, the blocker, and whether the lock is one too many
 abbrev Replies : Option Refusal → Option ℕ → Bool → Op → Draft → Reply → Type 0
-Replies early blocked full op m reply = MatchOption (or_else early (busy blocked full)) ((reply ≡ answer op m) ⊎ (reply ≡ Refused NoMemory)) (λ why. reply ≡ Refused why)
+Replies early blocked full op m reply = MatchOption (or_else early (lock_refusal blocked full)) ((reply ≡ answer op m) ⊎ (reply ≡ Refused NoMemory)) (λ why. reply ≡ Refused why)
 
 same_refusal : (v w : Refusal) → Refused v ≡ Refused w → v ≡ w
 same_refusal v w h = cc

@@ -5,16 +5,15 @@ use Rattle.std.specs.FinMap.{empty}
 use Rattle.am_record.specs.OrderedKey.{OrderedKey}
 use Rattle.am_record.specs.declared.lock.Lock.{Lock}
 use Rattle.am_record.specs.declared.step.Refusal.{Refusal}
-use Rattle.am_record.specs.declared.step.Refusal.TheVariants.{NoSuchTx, Busy, TooManyTx, TooManyLocks, TooManyOps, TooManyRuns, NotRising, BadLimit, NoMemory}
+use Rattle.am_record.specs.declared.step.Refusal.TheVariants.{NoSuchTx, TooManyTx, BadLimit, NoMemory}
 use Rattle.am_record.specs.declared.step.Op.{Op}
-use Rattle.am_record.specs.declared.step.Op.TheVariants.{Scan, Load}
 use Rattle.am_record.specs.declared.step.Step.{Step}
 use Rattle.am_record.specs.declared.step.Step.TheVariants.{Begin, Do, Commit, Abort, Merge, Clean}
 use Rattle.am_record.specs.declared.step.Reply.{Reply}
 use Rattle.am_record.specs.declared.step.Reply.TheVariants.{Begun, Committed, Aborted, Moved, MergeDone, Ended, Idle, Cleaned, Refused}
-use Rattle.am_record.specs.Locks.{is_covered}
-use Rattle.am_record.specs.Plain.{PlainMap, Draft, fresh, answer, left_on, is_orderly}
+use Rattle.am_record.specs.Plain.{PlainMap, Draft, fresh, answer, left_on}
 use Rattle.am_record.specs.Asks.{lock_of, clashes, locks_of, holds, owns}
+use Rattle.am_record.specs.Refusals.{refusal_before_lock, is_one_too_many, lock_refusal, or_else}
 use Rattle.am_serial.specs.Trace.{Trace, Answered, ops_of, Effect, Begins, Answers, Commits, Aborts, Nothing, effect, runs_made, left_by, begun, committers, runs, committed, active, body}
 
 -- a transaction's number and its answered operations
@@ -60,46 +59,18 @@ overlay_in s = left_by (map (λ (x : Transaction). x.1) s.active) s.committed
 
 -- ---- refusals
 
--- whether a scan's number of rows is within its limits
-abbrev pub is_bounded : Op → Bool
-is_bounded (Scan range max) = nat_le 1 max && nat_le max 1000
-is_bounded _ = true
-
-abbrev pub is_load : Op → Bool
-is_load (Load pairs) = true
-is_load _ = false
-
 -- the refusal that is due before the lock is asked for
 abbrev pub due_early : State → ℕ → Op → Option Refusal
-due_early s t op =
-    cond (not (is_open s.active t)) (Some NoSuchTx)
-    (cond (nat_le 4096 (length (body_in s.active t))) (Some TooManyOps)
-    (cond (not (is_orderly op)) (Some NotRising)
-    (cond (not (is_bounded op)) (Some BadLimit)
-    (cond (is_load op && nat_le 65535 s.runs) (Some TooManyRuns)
-    None))))
+due_early s t op = refusal_before_lock (is_open s.active t) (length (body_in s.active t)) s.runs op
 
 -- the least of the other transactions that hold a conflicting lock
 abbrev pub blocker : List Transaction → ℕ → Option Lock → Option ℕ
 blocker [] t asked = None
 blocker (x ∷ txs) t asked = cond (not (t == x.0) && clashes asked (locks_of (ops_of x.1))) (Some x.0) (blocker txs t asked)
 
--- whether the lock would be added to 256 held ones
-abbrev pub is_one_too_many : List Lock → Option Lock → Bool
-is_one_too_many own None = false
-is_one_too_many own (Some asked) = nat_le 256 (length own) && not (is_covered own asked)
-
-abbrev pub busy : Option ℕ → Bool → Option Refusal
-busy (Some holder) full = Some (Busy holder)
-busy None full = cond full (Some TooManyLocks) None
-
 -- the refusal that is due where none is due early
 abbrev pub due_lock : State → ℕ → Op → Option Refusal
-due_lock s t op = busy (blocker s.active t (lock_of op)) (is_one_too_many (locks_in s.active t) (lock_of op))
-
-abbrev pub or_else : Option Refusal → Option Refusal → Option Refusal
-or_else None later = later
-or_else (Some why) later = Some why
+due_lock s t op = lock_refusal (blocker s.active t (lock_of op)) (is_one_too_many (locks_in s.active t) (lock_of op))
 
 abbrev pub due : State → ℕ → Op → Option Refusal
 due s t op = or_else (due_early s t op) (due_lock s t op)

@@ -11,7 +11,8 @@ use Rattle.am_record.specs.declared.step.Reply.TheVariants.{Done, Found, Absent,
 use Rattle.am_record.specs.Plain.{is_key_of}
 use Rattle.am_record.specs.Asks.{clashes, lock_of}
 use Rattle.am_serial.specs.Trace.{Trace, Effect, effect, is_active, held_by, IsSerial, IsSteady, AtEachMoment}
-use Rattle.am_serial.specs.Machine.{state_at, due_early, is_one_too_many, locks_in, May}
+use Rattle.am_record.specs.Refusals.{is_one_too_many}
+use Rattle.am_serial.specs.Machine.{state_at, due_early, locks_in, May}
 
 -- another active transaction holds a lock that conflicts with the operation's
 pub record Blocks (es : List Effect) (t : ℕ) (op : Op) (u : ℕ) : Type 0 where

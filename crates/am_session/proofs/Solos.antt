@@ -19,11 +19,11 @@ use Rattle.am_record.specs.declared.step.Refusal.TheVariants as why
 use Rattle.am_list.specs.Content.{content}
 use Rattle.am_undo.specs.declared.note.Note.{Note}
 use Rattle.am_undo.specs.Marks.{has_mark}
-use Rattle.am_follow.specs.At.{told}
+use Rattle.am_sound.specs.Represents.{stored_answer}
 use Rattle.am_effect.specs.Merging.{Holders, candidates, AnswersFirst, AnswersCandidates, MergeRight}
 use Rattle.am_effect.specs.Store.{WithinLimit}
 use Rattle.am_serial.specs.Machine.{is_limit}
-use Rattle.am_steps.specs.Parts.{Active, Parts, is_in, in_table, newcomer, due_in, takes_memory, MaySay, did, after_do, after}
+use Rattle.am_sound.specs.StoreState.{Active, StoreState, is_in, in_table, newcomer, refusal_in, takes_memory, MayAnswer, with_op, state_after_op, state_after}
 use Rattle.am_talk.specs.Session.{SessionState, active_after, behind}
 use Rattle.am_talk.specs.Dues.{IsAllowed, EndsAbort}
 use Rattle.am_talk.specs.Dialogue.{commits_after}
@@ -50,7 +50,7 @@ load_plain : (o : Option OrderedKey) → Plain (exists_or_done o)
 load_plain None = λ s. refl
 load_plain (Some k) = λ s. refl
 
-told_plain : (o : Op) (marks : List ℕ) (m : PlainMap) → Plain (told o marks m)
+told_plain : (o : Op) (marks : List ℕ) (m : PlainMap) → Plain (stored_answer o marks m)
 told_plain (op.Get k) marks m = found_plain (get m k)
 told_plain (op.Scan range max) marks m = λ s. refl
 told_plain (op.Insert k v) marks m = either_plain (contains_key m k) _ _ (λ s. refl) (λ s. refl)
@@ -61,10 +61,10 @@ told_plain (op.Lock lock) marks m = λ s. refl
 told_plain op.Mark marks m = λ s. refl
 told_plain op.Back marks m = either_plain (has_mark marks) reply.Done reply.NoMark (λ s. refl) (λ s. refl)
 
-do_plain : (p : Parts) (t : ℕ) (o : Op) (r : Reply) → MaySay p (step.Do t o) r → Plain r
-do_plain p t o r = by_due (due_in p t o)
+do_plain : (p : StoreState) (t : ℕ) (o : Op) (r : Reply) → MayAnswer p (step.Do t o) r → Plain r
+do_plain p t o r = by_due (refusal_in p t o)
   where
-    by_due : (due : Option Refusal) → MatchOption due ((r ≡ told o (in_table p.active t).marks (content p.entries)) ⊎ ((r ≡ reply.Refused why.NoMemory) × (takes_memory o ≡ true))) (λ why. r ≡ reply.Refused why) → Plain r
+    by_due : (due : Option Refusal) → MatchOption due ((r ≡ stored_answer o (in_table p.active t).marks (content p.entries)) ⊎ ((r ≡ reply.Refused why.NoMemory) × (takes_memory o ≡ true))) (λ why. r ≡ reply.Refused why) → Plain r
     by_due None (inl is) = subst Plain (sym is) (told_plain o (in_table p.active t).marks (content p.entries))
     by_due None (inr is) = subst Plain (sym is.0) (λ s. refl)
     by_due (Some w) is = subst Plain (sym is) (λ s. refl)
@@ -89,10 +89,10 @@ limit_plain limit r right plain = by_limit (is_limit limit)
     by_limit true is = plain is
     by_limit false is = subst Plain (sym is) (λ s. refl)
 
-pub merge_plain : (p : Parts) (limit : ℕ) (r : Reply) → MaySay p (step.Merge limit) r → Plain r
+pub merge_plain : (p : StoreState) (limit : ℕ) (r : Reply) → MayAnswer p (step.Merge limit) r → Plain r
 merge_plain p limit r h = limit_plain limit r _ (merge_right_plain p.entries p.wishes _ limit r) h
 
-clean_plain : (p : Parts) (range : Interval) (limit : ℕ) (r : Reply) → MaySay p (step.Clean range limit) r → Plain r
+clean_plain : (p : StoreState) (range : Interval) (limit : ℕ) (r : Reply) → MayAnswer p (step.Clean range limit) r → Plain r
 clean_plain p range limit r h = limit_plain limit r _ (λ is. subst Plain (sym is) (λ s. refl)) h
 
 -- ---- who is active after a step
@@ -106,18 +106,18 @@ still_in : (f : Active → Active) → ((x : Active) → (f x).number ≡ x.numb
 still_in f same [] u = refl
 still_in f same (x ∷ xs) u = λ i. (u == same x i) || still_in f same xs u i
 
-did_in : (t : ℕ) (o : Op) (r : Reply) (new : List Note) (xs : List Active) (u : ℕ) → is_in (map (did t o r new) xs) u ≡ is_in xs u
-did_in t o r new xs u = still_in (did t o r new) (λ x. same_number (t == x.number) x _ refl) xs u
+did_in : (t : ℕ) (o : Op) (r : Reply) (new : List Note) (xs : List Active) (u : ℕ) → is_in (map (with_op t o r new) xs) u ≡ is_in xs u
+did_in t o r new xs u = still_in (with_op t o r new) (λ x. same_number (t == x.number) x _ refl) xs u
 
-do_in : (p : Parts) (t : ℕ) (o : Op) (r : Reply) (u : ℕ) → is_in (after_do p t o r).active u ≡ is_in p.active u
+do_in : (p : StoreState) (t : ℕ) (o : Op) (r : Reply) (u : ℕ) → is_in (state_after_op p t o r).active u ≡ is_in p.active u
 do_in p t o (reply.Refused w) u = refl
 do_in p t o r u = did_in t o r _ p.active u
 
-do_commits : (p : Parts) (t : ℕ) (o : Op) (r : Reply) → (after_do p t o r).commits ≡ p.commits
+do_commits : (p : StoreState) (t : ℕ) (o : Op) (r : Reply) → (state_after_op p t o r).commits ≡ p.commits
 do_commits p t o (reply.Refused w) = refl
 do_commits p t o r = refl
 
-open_do : (p : Parts) (t : ℕ) (o : Op) (r : Reply) (a : Option ℕ) → IsOpen p a → IsOpen (after_do p t o r) a
+open_do : (p : StoreState) (t : ℕ) (o : Op) (r : Reply) (a : Option ℕ) → IsOpen p a → IsOpen (state_after_op p t o r) a
 open_do p t o r None h = h
 open_do p t o r (Some u) h = do_in p t o r u ∙ h
 
@@ -126,28 +126,28 @@ begun_in xs t =
     list_any-append (λ (x : Active). t == x.number) xs (newcomer t ∷ [])
     ∙ or_right (is_in xs t) ((t == t) || false) (or_left (t == t) false (eq-eqb t t refl))
 
-upkept : (p q : Parts) (a : Option ℕ) → q.active ≡ p.active → IsOpen p a → IsOpen q a
+upkept : (p q : StoreState) (a : Option ℕ) → q.active ≡ p.active → IsOpen p a → IsOpen q a
 upkept p q None e h = h
 upkept p q (Some t) e h = ap (λ xs. is_in xs t) e ∙ h
 
-merged_active : (p : Parts) (limit : ℕ) (r : Reply) → (after p (step.Merge limit) r).active ≡ p.active
+merged_active : (p : StoreState) (limit : ℕ) (r : Reply) → (state_after p (step.Merge limit) r).active ≡ p.active
 merged_active p limit r = refl
 
 -- the session's transaction stays open
-pub stays_open : (p : Parts) (a : Option ℕ) (s : Step) (r : Reply) → IsAllowed a s → IsOpen p a → MaySay p s r → IsOpen (after p s r) (active_after a r)
+pub stays_open : (p : StoreState) (a : Option ℕ) (s : Step) (r : Reply) → IsAllowed a s → IsOpen p a → MayAnswer p s r → IsOpen (state_after p s r) (active_after a r)
 stays_open p a step.Begin (reply.Begun t) allowed h says = begun_in p.active t
 stays_open p a step.Begin (reply.Refused why.TooManyTx) allowed h says = h
-stays_open p a (step.Do t o) r allowed h says = subst (IsOpen (after_do p t o r)) (sym (active_on r (do_plain p t o r says) a)) (open_do p t o r a h)
+stays_open p a (step.Do t o) r allowed h says = subst (IsOpen (state_after_op p t o r)) (sym (active_on r (do_plain p t o r says) a)) (open_do p t o r a h)
 stays_open p a (step.Commit t) (reply.Committed c) allowed h says = tt
 stays_open p a (step.Commit t) (reply.Refused why.NoSuchTx) allowed h says = h
 stays_open p a (step.Abort t) reply.Aborted allowed h says = tt
 stays_open p a (step.Abort t) (reply.Refused why.NoSuchTx) allowed h says = h
-stays_open p a (step.Merge limit) r allowed h says = subst (IsOpen (after p (step.Merge limit) r)) (sym (active_on r (merge_plain p limit r says) a)) (upkept p (after p (step.Merge limit) r) a refl h)
-stays_open p a (step.Clean range limit) r allowed h says = subst (IsOpen (after p (step.Clean range limit) r)) (sym (active_on r (clean_plain p range limit r says) a)) (upkept p (after p (step.Clean range limit) r) a refl h)
+stays_open p a (step.Merge limit) r allowed h says = subst (IsOpen (state_after p (step.Merge limit) r)) (sym (active_on r (merge_plain p limit r says) a)) (upkept p (state_after p (step.Merge limit) r) a refl h)
+stays_open p a (step.Clean range limit) r allowed h says = subst (IsOpen (state_after p (step.Clean range limit) r)) (sym (active_on r (clean_plain p range limit r says) a)) (upkept p (state_after p (step.Clean range limit) r) a refl h)
 stays_open p a _ _ allowed h says = absurd says
 
 -- an abort of it isn't refused
-pub abort_ends : (p : Parts) (a : Option ℕ) (s : Step) (r : Reply) → IsAllowed a s → IsOpen p a → MaySay p s r → EndsAbort s r
+pub abort_ends : (p : StoreState) (a : Option ℕ) (s : Step) (r : Reply) → IsAllowed a s → IsOpen p a → MayAnswer p s r → EndsAbort s r
 abort_ends p a step.Begin r allowed h says = tt
 abort_ends p a (step.Do t o) r allowed h says = tt
 abort_ends p a (step.Commit t) r allowed h says = tt
@@ -158,7 +158,7 @@ abort_ends p a (step.Merge limit) r allowed h says = tt
 abort_ends p a (step.Clean range limit) r allowed h says = tt
 
 -- the commits are counted
-pub commits_are : (p : Parts) (s : Step) (r : Reply) → MaySay p s r → (after p s r).commits ≡ commits_after p.commits s r
+pub commits_are : (p : StoreState) (s : Step) (r : Reply) → MayAnswer p s r → (state_after p s r).commits ≡ commits_after p.commits s r
 commits_are p step.Begin (reply.Begun t) says = refl
 commits_are p step.Begin (reply.Refused why.TooManyTx) says = refl
 commits_are p (step.Do t o) r says = do_commits p t o r

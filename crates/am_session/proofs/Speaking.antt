@@ -11,8 +11,8 @@ use Rattle.am_effect.specs.Store.{Follows, opened as opened_store}
 use Rattle.am_sound.specs.Right.{IsSoundStore}
 use Rattle.am_wire.specs.Replies.{IsOneLine}
 use Rattle.am_talk.specs.Responses.{response_text}
-use Rattle.am_steps.specs.Parts.{Parts, empty_parts}
-use Rattle.am_steps.specs.At.{At}
+use Rattle.am_sound.specs.StoreState.{StoreState, empty_state}
+use Rattle.am_sound.specs.StateOf.{IsStateOf}
 use Rattle.am_talk.specs.Session.{at_start, behind, staged_after}
 use Rattle.am_talk.specs.Dialogue as dialogue
 use Rattle.am_talk.specs.Dialogue.{Exchange, Standing, Ends, Whole, TornAt, AnsweredBy, Merges, Dialogue, commits_after}
@@ -32,7 +32,7 @@ abbrev standing : Place Solo → Standing
 standing at = (record { active = at.0.active; staged = at.1 }, at.0.kept.commits)
 
 went : (old new : Place Solo) (s : Step) (r : Reply) → SoloGoes old.0 s r new.0 → new.1 ≡ staged_after old.1 r → standing new ≡ (behind (standing old).0 r, commits_after old.0.kept.commits s r)
-went old new s r g waits = λ i. (record { active = g.active i; staged = waits i }, (ap (λ (p : Parts). p.commits) g.kept ∙ commits_are old.0.kept s r g.says) i)
+went old new s r g waits = λ i. (record { active = g.active i; staged = waits i }, (ap (λ (p : StoreState). p.commits) g.kept ∙ commits_are old.0.kept s r g.says) i)
 
 -- ---- one line
 
@@ -43,21 +43,21 @@ module _ (old new : Place Solo) (response : Response) (own : Trace) where
   by_due TellSeen a = (a.3 ∙ (λ i. Seen (a.2.0 i) (a.2.1 i)), a.4, (λ i. standing (a.2.2 i, a.5 i)))
 
   -- and where the store stands then
-  at_due : (what : Due) (trace : Trace) → AnswersDue active_in SoloGoes SoloTells old what response own new → At trace old.0.kept → At (trace ++ own) new.0.kept
+  at_due : (what : Due) (trace : Trace) → AnswersDue active_in SoloGoes SoloTells old what response own new → IsStateOf trace old.0.kept → IsStateOf (trace ++ own) new.0.kept
   at_due (Answer d) trace a here = nothing trace a.1 (ap (λ (p : Place Solo). p.0) a.2) here
     where
-      nothing : (trace : Trace) → own ≡ [] → new.0 ≡ old.0 → At trace old.0.kept → At (trace ++ own) new.0.kept
-      nothing trace none same here = subst (λ (t : Trace). At (trace ++ t) new.0.kept) (sym none) (subst (λ (t : Trace). At t new.0.kept) (sym (append-nil trace)) (subst (λ (s : Solo). At trace s.kept) (sym same) here))
-  at_due (Take s) trace a here = subst (λ (t : Trace). At (trace ++ t) new.0.kept) (sym a.3) (a.1.on.on trace here).at
+      nothing : (trace : Trace) → own ≡ [] → new.0 ≡ old.0 → IsStateOf trace old.0.kept → IsStateOf (trace ++ own) new.0.kept
+      nothing trace none same here = subst (λ (t : Trace). IsStateOf (trace ++ t) new.0.kept) (sym none) (subst (λ (t : Trace). IsStateOf t new.0.kept) (sym (append-nil trace)) (subst (λ (s : Solo). IsStateOf trace s.kept) (sym same) here))
+  at_due (Take s) trace a here = subst (λ (t : Trace). IsStateOf (trace ++ t) new.0.kept) (sym a.3) (a.1.on.on trace here).at
   at_due TellSeen trace a here = nothing trace a.4 a.2.2 here
     where
-      nothing : (trace : Trace) → own ≡ [] → new.0 ≡ old.0 → At trace old.0.kept → At (trace ++ own) new.0.kept
-      nothing trace none same here = subst (λ (t : Trace). At (trace ++ t) new.0.kept) (sym none) (subst (λ (t : Trace). At t new.0.kept) (sym (append-nil trace)) (subst (λ (s : Solo). At trace s.kept) (sym same) here))
+      nothing : (trace : Trace) → own ≡ [] → new.0 ≡ old.0 → IsStateOf trace old.0.kept → IsStateOf (trace ++ own) new.0.kept
+      nothing trace none same here = subst (λ (t : Trace). IsStateOf (trace ++ t) new.0.kept) (sym none) (subst (λ (t : Trace). IsStateOf t new.0.kept) (sym (append-nil trace)) (subst (λ (s : Solo). IsStateOf trace s.kept) (sym same) here))
 
 line_of : (old new : Place Solo) (e : Exchange) (own : Trace) → AnswersLine active_in SoloGoes SoloTells old e own new → dialogue.AnswersLine (standing old) e own (standing new)
 line_of old new e own a = (a.0, a.2.0, record { active = old.0.active; staged = a.2.1 }, a.1, a.2.2, by_due (old.0, a.2.1) new e.1 own a.2.0 a.2.3)
 
-at_line : (old new : Place Solo) (e : Exchange) (own trace : Trace) → AnswersLine active_in SoloGoes SoloTells old e own new → At trace old.0.kept → At (trace ++ own) new.0.kept
+at_line : (old new : Place Solo) (e : Exchange) (own trace : Trace) → AnswersLine active_in SoloGoes SoloTells old e own new → IsStateOf trace old.0.kept → IsStateOf (trace ++ own) new.0.kept
 at_line old new e own trace a here = at_due (old.0, a.2.1) new e.1 own a.2.0 trace a.2.3 here
 
 -- ---- the merge after it
@@ -74,21 +74,21 @@ module _ (auto : ℕ) (old new : Place Solo) (merged : Trace) where
   merge_stands true m = ap standing m.1
   merge_stands false m = went old new (step.Merge auto) m.0 m.1 m.3 ∙ (λ i. (merge_plain old.0.kept auto m.0 m.1.says (standing old).0 i, old.0.kept.commits))
 
-  merge_at : (b : Bool) (trace : Trace) → MergedBy b → At trace old.0.kept → At (trace ++ merged) new.0.kept
-  merge_at true trace m here = subst (λ (t : Trace). At (trace ++ t) new.0.kept) (sym m.0) (subst (λ (t : Trace). At t new.0.kept) (sym (append-nil trace)) (subst (λ (p : Place Solo). At trace p.0.kept) (sym m.1) here))
-  merge_at false trace m here = subst (λ (t : Trace). At (trace ++ t) new.0.kept) (sym m.2) (m.1.on.on trace here).at
+  merge_at : (b : Bool) (trace : Trace) → MergedBy b → IsStateOf trace old.0.kept → IsStateOf (trace ++ merged) new.0.kept
+  merge_at true trace m here = subst (λ (t : Trace). IsStateOf (trace ++ t) new.0.kept) (sym m.0) (subst (λ (t : Trace). IsStateOf t new.0.kept) (sym (append-nil trace)) (subst (λ (p : Place Solo). IsStateOf trace p.0.kept) (sym m.1) here))
+  merge_at false trace m here = subst (λ (t : Trace). IsStateOf (trace ++ t) new.0.kept) (sym m.2) (m.1.on.on trace here).at
 
 -- ---- all lines
 
 -- the dialogue of some exchanges, behind which the events go on to its end, and where the store stands before these
 record Leading (auto : ℕ) (ends : Ends) (old new : Place Solo) (exchanges : List Exchange) (events tail trace : Trace) : Type 0 where
   dialogue_is : Dialogue auto ends (standing old) exchanges (events ++ tail)
-  stands : At (trace ++ events) new.0.kept
+  stands : IsStateOf (trace ++ events) new.0.kept
 
-lead : (auto : ℕ) (ends : Ends) (exchanges : List Exchange) (old new : Place Solo) (events tail trace : Trace) → Converses active_in SoloGoes SoloTells auto old exchanges events new → At trace old.0.kept → ends (standing new) tail → Leading auto ends old new exchanges events tail trace
+lead : (auto : ℕ) (ends : Ends) (exchanges : List Exchange) (old new : Place Solo) (events tail trace : Trace) → Converses active_in SoloGoes SoloTells auto old exchanges events new → IsStateOf trace old.0.kept → ends (standing new) tail → Leading auto ends old new exchanges events tail trace
 lead auto ends [] old new events tail trace c here end = record {
   dialogue_is = subst (λ (t : Trace). ends (standing old) (t ++ tail)) (sym c.0) (subst (λ (p : Place Solo). ends (standing p) tail) c.1 end);
-  stands = subst (λ (t : Trace). At (trace ++ t) new.0.kept) (sym c.0) (subst (λ (t : Trace). At t new.0.kept) (sym (append-nil trace)) (subst (λ (p : Place Solo). At trace p.0.kept) (sym c.1) here));
+  stands = subst (λ (t : Trace). IsStateOf (trace ++ t) new.0.kept) (sym c.0) (subst (λ (t : Trace). IsStateOf t new.0.kept) (sym (append-nil trace)) (subst (λ (p : Place Solo). IsStateOf trace p.0.kept) (sym c.1) here));
 }
 lead auto ends (e ∷ exchanges) old new events tail trace c here end =
     let answered_at = at_line old c.3 e c.0 trace c.5 here in
@@ -105,7 +105,7 @@ lead auto ends (e ∷ exchanges) old new events tail trace c here end =
         merge_events auto c.3 c.4 c.1 (auto == 0) (c.2 ++ tail) c.6,
         subst (λ (at : Standing). Dialogue auto ends at exchanges (c.2 ++ tail)) (merge_stands auto c.3 c.4 c.1 (auto == 0) c.6) rest.dialogue_is,
       );
-      stands = subst (λ (t : Trace). At t new.0.kept)
+      stands = subst (λ (t : Trace). IsStateOf t new.0.kept)
           (append_assoc (trace ++ c.0) c.1 c.2 ∙ append_assoc trace c.0 (c.1 ++ c.2) ∙ ap (λ t. trace ++ t) (sym c.8)) rest.stands;
     }
 
@@ -115,21 +115,21 @@ leaves_of : (a : Option ℕ) (old new : Solo) (events : Trace) → Leaves active
 leaves_of None old new events l = l.0
 leaves_of (Some tx) old new events l = l.1
 
-leaves_at : (a : Option ℕ) (old new : Solo) (events trace : Trace) → Leaves active_in SoloGoes SoloTells a old events new → At trace old.kept → At (trace ++ events) new.kept
-leaves_at None old new events trace l here = subst (λ (t : Trace). At (trace ++ t) new.kept) (sym l.0) (subst (λ (t : Trace). At t new.kept) (sym (append-nil trace)) (subst (λ (s : Solo). At trace s.kept) (sym l.1) here))
-leaves_at (Some tx) old new events trace l here = subst (λ (t : Trace). At (trace ++ t) new.kept) (sym l.1) (l.0.on.on trace here).at
+leaves_at : (a : Option ℕ) (old new : Solo) (events trace : Trace) → Leaves active_in SoloGoes SoloTells a old events new → IsStateOf trace old.kept → IsStateOf (trace ++ events) new.kept
+leaves_at None old new events trace l here = subst (λ (t : Trace). IsStateOf (trace ++ t) new.kept) (sym l.0) (subst (λ (t : Trace). IsStateOf t new.kept) (sym (append-nil trace)) (subst (λ (s : Solo). IsStateOf trace s.kept) (sym l.1) here))
+leaves_at (Some tx) old new events trace l here = subst (λ (t : Trace). IsStateOf (trace ++ t) new.kept) (sym l.1) (l.0.on.on trace here).at
 
 -- ---- the whole
 
-module _ (auto : ℕ) (s0 : Solo) (fresh : s0 ≡ record { kept = empty_parts; active = None }) (opened : At [] empty_parts)
-    (sound : (trace : Trace) (p : Parts) → At trace p → IsSoundStore trace)
+module _ (auto : ℕ) (s0 : Solo) (fresh : s0 ≡ record { kept = empty_state; active = None }) (opened : IsStateOf [] empty_state)
+    (sound : (trace : Trace) (p : StoreState) → IsStateOf trace p → IsSoundStore trace)
     (legal_of : (trace : Trace) → IsSound trace → IsLegal trace)
     (say_whole : (exchanges : List Exchange) (trace : Trace) → IsSound trace → Dialogue auto Whole (at_start, 0) exchanges trace → Says exchanges)
     (lines_whole : (exchanges : List Exchange) (trace : Trace) → Follows opened_store trace → Dialogue auto Whole (at_start, 0) exchanges trace → All (λ (e : Exchange). IsOneLine (response_text e.1)) exchanges)
     (lines_torn : (exchanges : List Exchange) (last : Exchange) (trace : Trace) → Follows opened_store trace → Dialogue auto (TornAt last) (at_start, 0) exchanges trace → All (λ (e : Exchange). IsOneLine (response_text e.1)) (exchanges ++ last ∷ []))
     (say_torn : (exchanges : List Exchange) (last : Exchange) (trace : Trace) → IsSound trace → Dialogue auto (TornAt last) (at_start, 0) exchanges trace → Says (exchanges ++ last ∷ [])) where
-  begins_at : At [] s0.kept
-  begins_at = subst (λ (s : Solo). At [] s.kept) (sym fresh) opened
+  begins_at : IsStateOf [] s0.kept
+  begins_at = subst (λ (s : Solo). IsStateOf [] s.kept) (sym fresh) opened
 
   begins_so : standing (s0, []) ≡ (at_start, 0)
   begins_so = ap (λ (s : Solo). standing (s, [])) fresh
@@ -138,7 +138,7 @@ module _ (auto : ℕ) (s0 : Solo) (fresh : s0 ≡ record { kept = empty_parts; a
   spoken_whole b exchanges events a =
       let led : Leading auto Whole (s0, []) a.last exchanges a.own a.aborting [] = lead auto Whole exchanges (s0, []) a.last a.own a.aborting [] a.converses begins_at (leaves_of a.last.0.active a.last.0 b a.aborting a.leaves) in
       let talk : Dialogue auto Whole (at_start, 0) exchanges events = subst (λ (t : Trace). Dialogue auto Whole (at_start, 0) exchanges t) (sym a.are) (subst (λ (at : Standing). Dialogue auto Whole at exchanges (a.own ++ a.aborting)) begins_so led.dialogue_is) in
-      let at : At (a.own ++ a.aborting) b.kept = leaves_at a.last.0.active a.last.0 b a.aborting a.own a.leaves led.stands in
+      let at : IsStateOf (a.own ++ a.aborting) b.kept = leaves_at a.last.0.active a.last.0 b a.aborting a.own a.leaves led.stands in
       let right : IsSoundStore events = subst IsSoundStore (sym a.are) (sound (a.own ++ a.aborting) b.kept at) in
       record { dialogue = talk; sound = right; legal = legal_of events right.sound; says = say_whole exchanges events right.sound talk; lines = lines_whole exchanges events (subst (Follows opened_store) (sym a.are) at.follows) talk }
 
@@ -147,7 +147,7 @@ module _ (auto : ℕ) (s0 : Solo) (fresh : s0 ≡ record { kept = empty_parts; a
       let end : TornAt last (standing a.before) (a.its ++ a.aborting) = (a.its, a.aborting, standing a.last, line_of a.before a.last last a.its a.answers, refl, leaves_of a.last.0.active a.last.0 b a.aborting a.leaves) in
       let led : Leading auto (TornAt last) (s0, []) a.before exchanges a.own (a.its ++ a.aborting) [] = lead auto (TornAt last) exchanges (s0, []) a.before a.own (a.its ++ a.aborting) [] a.converses begins_at end in
       let talk : Dialogue auto (TornAt last) (at_start, 0) exchanges events = subst (λ (t : Trace). Dialogue auto (TornAt last) (at_start, 0) exchanges t) (sym a.are) (subst (λ (at : Standing). Dialogue auto (TornAt last) at exchanges (a.own ++ (a.its ++ a.aborting))) begins_so led.dialogue_is) in
-      let at : At ((a.own ++ a.its) ++ a.aborting) b.kept = leaves_at a.last.0.active a.last.0 b a.aborting (a.own ++ a.its) a.leaves (at_line a.before a.last last a.its a.own a.answers led.stands) in
+      let at : IsStateOf ((a.own ++ a.its) ++ a.aborting) b.kept = leaves_at a.last.0.active a.last.0 b a.aborting (a.own ++ a.its) a.leaves (at_line a.before a.last last a.its a.own a.answers led.stands) in
       let right : IsSoundStore events = subst IsSoundStore (append_assoc a.own a.its a.aborting ∙ sym a.are) (sound ((a.own ++ a.its) ++ a.aborting) b.kept at) in
       record { dialogue = talk; sound = right; legal = legal_of events right.sound; says = say_torn exchanges last events right.sound talk; lines = lines_torn exchanges last events (subst (Follows opened_store) (append_assoc a.own a.its a.aborting ∙ sym a.are) at.follows) talk }
 

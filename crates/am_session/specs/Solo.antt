@@ -6,9 +6,9 @@ use Rattle.am_record.specs.declared.step.Reply.{Reply}
 use Rattle.am_serial.specs.Trace.{Trace}
 use Rattle.am_serial.specs.Legal.{IsLegal}
 use Rattle.am_sound.specs.Right.{IsSoundStore}
-use Rattle.am_steps.specs.Parts.{Parts, is_in, MaySay, after}
-use Rattle.am_core.specs.Keeping.{parts_code}
-use Rattle.am_core.specs.Standing.{GoesOn}
+use Rattle.am_sound.specs.StoreState.{StoreState, is_in, MayAnswer, state_after}
+use Rattle.am_core.specs.Keeping.{state_code}
+use Rattle.am_core.specs.Standing.{Extends}
 use Rattle.am_talk.specs.Session.{at_start, active_after}
 use Rattle.am_talk.specs.Dialogue.{Exchange, Ends, Dialogue}
 use Rattle.am_talk.specs.Responses.{response_text}
@@ -17,25 +17,25 @@ use Rattle.am_wire.specs.Replies.{IsOneLine}
 
 -- what the store keeps, and the transaction that is active in the session
 pub record Solo : Type 0 where
-  pub kept : Parts
+  pub kept : StoreState
   pub active : Option ℕ
 
 abbrev pub solo_code : Coded Solo
-solo_code = code_by (Parts × Option ℕ) (coded× parts_code (coded_option coded_ℕ)) (λ s. (s.kept, s.active)) (λ p. record { kept = p.0; active = p.1 }) (λ _. refl)
+solo_code = code_by (StoreState × Option ℕ) (coded× state_code (coded_option coded_ℕ)) (λ s. (s.kept, s.active)) (λ p. record { kept = p.0; active = p.1 }) (λ _. refl)
 
 abbrev pub active_in : Solo → Option ℕ
 active_in s = s.active
 
 -- the session's transaction is active in the store
-abbrev pub IsOpen : Parts → Option ℕ → Type 0
+abbrev pub IsOpen : StoreState → Option ℕ → Type 0
 IsOpen p None = Unit {0}
 IsOpen p (Some t) = is_in p.active t ≡ true
 
 -- the store took the step: wherever it stood, it stands there with this event added
 pub record SoloGoes (old : Solo) (step : Step) (reply : Reply) (new : Solo) : Type 0 where
-  pub says : MaySay old.kept step reply
-  pub kept : new.kept ≡ after old.kept step reply
-  pub on : GoesOn old.kept ((step, reply) ∷ []) new.kept
+  pub says : MayAnswer old.kept step reply
+  pub kept : new.kept ≡ state_after old.kept step reply
+  pub on : Extends old.kept ((step, reply) ∷ []) new.kept
   pub active : new.active ≡ active_after old.active reply
 
 -- SEEN tells 0, a session alone, and the commits so far

@@ -34,7 +34,7 @@ pub fn serve_alone<W: Wait, K: Sink, S: AnsweredSource<K>>(
     ensures source_failures { S.failures source.new ≡ S.failures source.old + read_failures result }
     ensures sink_failures { K.failures sink.new ≡ K.failures sink.old + write_failures result }
 {
-    am_steps::steps_lift();
+    am_sound::steps_lift();
     am_serial::sound_traces_are_legal();
     am_talk::sound_dialogues_say();
     am_talk::answers_are_lines();

@@ -1,7 +1,7 @@
 //! A store as its only session sees it.
 
 ghost use Rattle.std.specs.Prelude.{◌≡◌, None, IfOk};
-ghost use Rattle.am_steps.specs.Parts.{empty_parts};
+ghost use Rattle.am_sound.specs.StoreState.{empty_state};
 ghost use Rattle.am_talk.specs.Dues.{IsAllowed, EndsAbort};
 ghost use Rattle.am_talk.specs.Session.{active_after};
 ghost use Rattle.am_session.specs.Solo.{active_in, SoloGoes, SoloTells};
@@ -36,7 +36,7 @@ impl Model for SoloStore {
 
 impl SoloStore {
     pub(crate) fn new(alloc: Global) -> Result<SoloStore, NoMemory>
-        ensures { IfOk result (λ solo. solo ≡ record { kept = empty_parts; active = None }) }
+        ensures { IfOk result (λ solo. solo ≡ record { kept = empty_state; active = None }) }
     {
         let store = Store::open(alloc, BTree::new(alloc)?)?;
         Ok(SoloStore {

@@ -25,8 +25,8 @@ use Rattle.am_effect.specs.History.{Moment, writes, wrote_by, wrote, sets_mark, 
 use Rattle.am_effect.specs.Laws.{Describes, DescribesEach}
 use Rattle.am_effect.proofs.Backs.{describe_laws, unwritten}
 use Rattle.am_effect.proofs.Marks.{each_next, plain_unmarked, plain_unbacked}
-use Rattle.am_follow.specs.At.{may_write}
-use Rattle.am_follow.proofs.Follows.{same_ask}
+use Rattle.am_sound.specs.Represents.{may_write}
+use Rattle.am_sound.proofs.Representing.{same_ask}
 use Rattle.am_sound.proofs.Operations.{OpRight}
 
 pub record Keeps (s : State) (es : List Entry) (past : List Moment) (notes : ℕ → List Note) (marks : ℕ → List ℕ) : Type 0 where

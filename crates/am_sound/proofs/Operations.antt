@@ -40,7 +40,7 @@ use Rattle.am_effect.specs.Laws.{Describes, DifferAt}
 use Rattle.am_effect.specs.Store.{is_live, find_live, with_value, with_ghost, changed, note_of_slot, note_of_entry, noted}
 use Rattle.am_effect.proofs.Lists.{Stands, stands_all, put_set, put_new, content-put, not_tied}
 use Rattle.am_effect.proofs.Backs.{describe_laws}
-use Rattle.am_follow.specs.At.{may_write}
+use Rattle.am_sound.specs.Represents.{may_write}
 
 -- what an operation of t that is granted does, after so many runs
 pub record OpRight (t runs : ℕ) (op : Op) (reply : Reply) (es es' : List Entry) (new : List Note) : Type 0 where

@@ -18,10 +18,10 @@ use Rattle.am_effect.specs.Laws.{Maintains}
 use Rattle.am_effect.specs.Merging.{AnswersCandidates, AnswersFirst, Holders, MergeRight, all_worked_off, candidates, cleanable, merged_by}
 use Rattle.am_effect.specs.Places.{look}
 use Rattle.am_effect.specs.Store.{Follows, MayReply, Store, WithinLimit, after_all, after_step, changed, entries_after, holder, marks_after, marks_left, noted, notes_after, notes_left}
-use Rattle.am_follow.proofs.Follows.{goes_on, plain_told}
-use Rattle.am_follow.proofs.Follows as follows
+use Rattle.am_sound.proofs.Representing.{goes_on, plain_told}
+use Rattle.am_sound.proofs.Representing as follows
 use Rattle.am_effect.specs.Store.{opened}
-use Rattle.am_follow.specs.At.{GoesOnWith, IsAt}
+use Rattle.am_sound.specs.Represents.{RepresentsNext, Represents}
 use Rattle.am_list.proofs.ContentLaws.{empty_content}
 use Rattle.am_list.specs.Content.{OnePlace, content}
 use Rattle.am_list.specs.Entries.{IsRising, Slot, find, slot_of}
@@ -230,21 +230,21 @@ marks_left_plain Back reply n marks plain = absurd (false≢true plain)
 pub record Right (trace : Trace) (s : Store) : Type 0 where
   pub runs : Runs start trace
   pub is : s.state ≡ after_run start trace
-  pub at : IsAt s.state s.entries s.notes s.marks
+  pub at : Represents s.state s.entries s.notes s.marks
   pub keeps : Keeps s.state s.entries s.past s.notes s.marks
 
 -- the store goes on
 abbrev NextAt : Store → Effect → List Entry → (ℕ → List Note) → (ℕ → List ℕ) → Type 0
-NextAt s d es' notes' marks' = IsAt (next s.state d) es' notes' marks' × Keeps (next s.state d) es' ((d, s.entries) ∷ s.past) notes' marks'
+NextAt s d es' notes' marks' = Represents (next s.state d) es' notes' marks' × Keeps (next s.state d) es' ((d, s.entries) ∷ s.past) notes' marks'
 
 abbrev Next : Store → Step → Reply → Type 0
 Next s step reply = NextAt s (effect step reply) (entries_after s step reply) (notes_after s step reply) (marks_after s step reply)
 
-module _ (s : Store) (o : OverlayLaws s.state) (w : ViewLaws s.state) (at : IsAt s.state s.entries s.notes s.marks) (k : Keeps s.state s.entries s.past s.notes s.marks) where
+module _ (s : Store) (o : OverlayLaws s.state) (w : ViewLaws s.state) (at : Represents s.state s.entries s.notes s.marks) (k : Keeps s.state s.entries s.past s.notes s.marks) where
   st : StepLaws s.state
   st = step_laws s.state
 
-  go : GoesOnWith s.state s.entries s.notes s.marks
+  go : RepresentsNext s.state s.entries s.notes s.marks
   go = goes_on s.state o w st s.entries s.notes s.marks at
 
   abbrev rising : IsRising s.entries
@@ -257,7 +257,7 @@ module _ (s : Store) (o : OverlayLaws s.state) (w : ViewLaws s.state) (at : IsAt
   nothing : Keeps s.state s.entries ((Nothing, s.entries) ∷ s.past) s.notes s.marks
   nothing = quiet s.state w st s.entries s.past s.notes s.marks k s.state Nothing s.entries (λ t q. refl) (λ t. refl) (λ t. refl) (λ t on. on) (λ t on. refl) refl refl (λ t on q h p. refl) (λ p q n e. e)
 
-  maintained : (es' : List Entry) → Maintains (holder s.state.active) s.entries es' → IsAt s.state es' s.notes s.marks × Keeps s.state es' ((Nothing, s.entries) ∷ s.past) s.notes s.marks
+  maintained : (es' : List Entry) → Maintains (holder s.state.active) s.entries es' → Represents s.state es' s.notes s.marks × Keeps s.state es' ((Nothing, s.entries) ∷ s.past) s.notes s.marks
   maintained es' m = (
     go.maintained es' (record { rising = m.rising; one_place = m.one one; same = m.same one })
         (λ t q on h p. let held = holder_of s.state.active t q on h in m.locked q held.0 held.1 p)

@@ -1,1 +1,5 @@
+pub mod Represents
 pub mod Right
+pub mod StoreState
+pub mod StateOf
+pub mod Tables

@@ -12,7 +12,7 @@ use Rattle.am_serial.specs.Machine.{is_open}
 use Rattle.am_serial.specs.Sound.{IsSound}
 use Rattle.am_effect.specs.Laws.{DescribesEach}
 use Rattle.am_effect.specs.Store.{Store, opened, after_step, MayReply, after_all, IsAsked}
-use Rattle.am_follow.specs.At.{IsAt}
+use Rattle.am_sound.specs.Represents.{Represents}
 
 -- the store is right: its entries rise, each key is live in one place at most, the content is the overlay, and the notes of each
 -- active transaction say what looking back leaves, to the begin and to each of its marks
@@ -22,7 +22,7 @@ pub record IsRight (trace : Trace) (s : Store) : Type 0 where
 
 -- what a step may rest on: the entries are where the machine is, nothing stands above the last run, and the notes name runs alone
 pub record IsReady (s : Store) : Type 0 where
-  pub at : IsAt s.state s.entries s.notes s.marks
+  pub at : Represents s.state s.entries s.notes s.marks
   pub below : (p : ℕ) (q : OrderedKey) → s.state.runs < p → find s.entries p q ≡ None
   pub runs_noted : (t p : ℕ) → is_noted_run (s.notes t) p ≡ true → (p ≢ 0) × (p ≤ s.state.runs)
 

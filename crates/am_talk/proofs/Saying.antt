@@ -17,7 +17,8 @@ use Rattle.am_record.specs.declared.step.Refusal.{Refusal}
 use Rattle.am_record.specs.declared.step.Refusal.TheVariants as why
 use Rattle.am_serial.specs.Trace.{Answered, ops_of, Answers, Commits, Aborts, effect_of_do, runs_made}
 use Rattle.am_serial.specs.Machine as machine
-use Rattle.am_serial.specs.Machine.{Transaction, due, due_early, due_lock, or_else, busy, blocker, is_one_too_many, is_bounded, is_load, next, Runs, May, view}
+use Rattle.am_record.specs.Refusals.{refusal_before_lock, or_else, lock_refusal, is_one_too_many, is_bounded, is_load}
+use Rattle.am_serial.specs.Machine.{Transaction, due, due_early, due_lock, blocker, next, Runs, May, view}
 use Rattle.am_talk.specs.Session.{active_after, staged_after}
 use Rattle.am_talk.specs.Dialogue.{Standing}
 use Rattle.am_talk.specs.Say as say
@@ -52,23 +53,20 @@ itself n = eq-eqb n n refl
 
 -- ---- refusals
 
-joined : (a b c d e : Bool) → or_else (cond a (Some why.TooManyOps) (cond b (Some why.NotRising) (cond c (Some why.BadLimit) (cond d (Some why.TooManyRuns) None)))) (cond e (Some why.TooManyLocks) None) ≡ cond a (Some why.TooManyOps) (cond b (Some why.NotRising) (cond c (Some why.BadLimit) (cond d (Some why.TooManyRuns) (cond e (Some why.TooManyLocks) None))))
-joined true b c d e = refl
-joined false true c d e = refl
-joined false false true d e = refl
-joined false false false true e = refl
-joined false false false false e = refl
-
 abbrev no_want : Refusal → Type 0
 no_want w = wants_memory (Replied (reply.Refused w)) ≡ false
 
-found_among : (a b c d e : Bool) (w : Refusal) → cond a (Some why.TooManyOps) (cond b (Some why.NotRising) (cond c (Some why.BadLimit) (cond d (Some why.TooManyRuns) (cond e (Some why.TooManyLocks) None)))) ≡ Some w → no_want w
-found_among true b c d e w h = subst no_want (same_Some _ _ h) refl
-found_among false true c d e w h = subst no_want (same_Some _ _ h) refl
-found_among false false true d e w h = subst no_want (same_Some _ _ h) refl
-found_among false false false true e w h = subst no_want (same_Some _ _ h) refl
-found_among false false false false true w h = subst no_want (same_Some _ _ h) refl
-found_among false false false false false w h = absurd (none-some w h)
+early_found : (a b c d : Bool) (late : Option Refusal) (w : Refusal) → ((v : Refusal) → late ≡ Some v → no_want v)
+    → or_else (cond a (Some why.TooManyOps) (cond b (Some why.NotRising) (cond c (Some why.BadLimit) (cond d (Some why.TooManyRuns) None)))) late ≡ Some w → no_want w
+early_found true b c d late w l h = subst no_want (same_Some _ _ h) refl
+early_found false true c d late w l h = subst no_want (same_Some _ _ h) refl
+early_found false false true d late w l h = subst no_want (same_Some _ _ h) refl
+early_found false false false true late w l h = subst no_want (same_Some _ _ h) refl
+early_found false false false false late w l h = l w h
+
+late_found : (is_too_many : Bool) (w : Refusal) → lock_refusal None is_too_many ≡ Some w → no_want w
+late_found true w h = subst no_want (same_Some _ _ h) refl
+late_found false w h = absurd (none-some w h)
 
 -- ---- answers
 
@@ -137,34 +135,25 @@ module _ (begun commits runs : ℕ) (m : PlainMap) (body : List Answered) (stage
   pub one_view : view (machine_at here) begun ≡ left_on ops (fresh m)
   one_view = λ i. left_on (ops_of (cond (itself begun i) body [])) (fresh m)
 
-  early : (op : Op) → due_early (machine_at here) begun op ≡
-      cond (nat_le 4096 (length body)) (Some why.TooManyOps)
-      (cond (not (is_orderly op)) (Some why.NotRising)
-      (cond (not (is_bounded op)) (Some why.BadLimit)
-      (cond (is_load op && nat_le 65535 runs) (Some why.TooManyRuns) None)))
-  early op = ap
-      (λ b. cond (not (b || false)) (Some why.NoSuchTx)
-      (cond (nat_le 4096 (length (cond b body []))) (Some why.TooManyOps)
-      (cond (not (is_orderly op)) (Some why.NotRising)
-      (cond (not (is_bounded op)) (Some why.BadLimit)
-      (cond (is_load op && nat_le 65535 runs) (Some why.TooManyRuns) None)))))
-      (itself begun)
+  early : (op : Op) → due_early (machine_at here) begun op ≡ refusal_before_lock true (length body) runs op
+  early op = ap (λ b. refusal_before_lock (b || false) (length (cond b body [])) runs op) (itself begun)
 
-  late : (op : Op) → due_lock (machine_at here) begun op ≡ cond (is_one_too_many (locks_of ops) (lock_of op)) (Some why.TooManyLocks) None
+  late : (op : Op) → due_lock (machine_at here) begun op ≡ lock_refusal None (is_one_too_many (locks_of ops) (lock_of op))
   late op = ap
-      (λ b. busy (cond (not b && clashes (lock_of op) (locks_of ops)) (Some begun) None) (is_one_too_many (locks_of (ops_of (cond b body []))) (lock_of op)))
+      (λ b. lock_refusal (cond (not b && clashes (lock_of op) (locks_of ops)) (Some begun) None) (is_one_too_many (locks_of (ops_of (cond b body []))) (lock_of op)))
       (itself begun)
 
   -- the refusal that the machine owes is the one that is due alone
   pub due_is : (op : Op) → due (machine_at here) begun op ≡ refusal_due (state_at here) ops op
   due_is op =
       (λ i. or_else (early op i) (late op i))
-      ∙ joined (nat_le 4096 (length body)) (not (is_orderly op)) (not (is_bounded op)) (is_load op && nat_le 65535 runs) (is_one_too_many (locks_of ops) (lock_of op))
-      ∙ ap (λ n. cond (nat_le 4096 n) (Some why.TooManyOps) (cond (not (is_orderly op)) (Some why.NotRising) (cond (not (is_bounded op)) (Some why.BadLimit) (cond (is_load op && nat_le 65535 runs) (Some why.TooManyRuns) (cond (is_one_too_many (locks_of ops) (lock_of op)) (Some why.TooManyLocks) None))))) (sym (length-map body (λ (a : Answered). a.0)))
+      ∙ ap (λ n. or_else (refusal_before_lock true n runs op) (lock_refusal None (is_one_too_many (locks_of ops) (lock_of op)))) (sym (length-map body (λ (a : Answered). a.0)))
 
   -- it is never want of memory
   pub due_found : (op : Op) (w : Refusal) → refusal_due (state_at here) ops op ≡ Some w → wants_memory (Replied (reply.Refused w)) ≡ false
-  due_found op w h = found_among (nat_le 4096 (length ops)) (not (is_orderly op)) (not (is_bounded op)) (is_load op && nat_le 65535 runs) (is_one_too_many (locks_of ops) (lock_of op)) w h
+  due_found op w h =
+      early_found (nat_le 4096 (length ops)) (not (is_orderly op)) (not (is_bounded op)) (is_load op && nat_le 65535 runs)
+      (lock_refusal None (is_one_too_many (locks_of ops) (lock_of op))) w (late_found (is_one_too_many (locks_of ops) (lock_of op))) h
 
   -- ---- steps
 

@@ -11,7 +11,7 @@ use Rattle.am_record.specs.declared.step.Reply.TheVariants.{Begun, Committed, Ab
 use Rattle.am_record.specs.declared.step.Refusal.{Refusal}
 use Rattle.am_record.specs.declared.step.Refusal.TheVariants.{TooManyTx, TooManyLocks, TooManyOps, TooManyRuns, NotRising, BadLimit, NoMemory}
 use Rattle.am_serial.specs.Trace.{runs_made}
-use Rattle.am_serial.specs.Machine.{is_bounded, is_load, is_one_too_many}
+use Rattle.am_record.specs.Refusals.{refusal_before_lock, is_one_too_many, lock_refusal, or_else}
 use Rattle.am_talk.specs.Heard.{Line, heard, is_upkeep, is_stage}
 use Rattle.am_talk.specs.Dues.{with_staged, left_by, stage_due, may_wait}
 use Rattle.am_talk.specs.Dialogue.{Exchange}
@@ -39,12 +39,7 @@ opened = record { begun = 0; commits = 0; runs = 0; committed = empty; own = Non
 -- the refusal that is due to an operation, by those before it; a session alone meets no lock of another
 abbrev pub refusal_due : State → List Op → Op → Option Refusal
 refusal_due s ops op =
-    cond (nat_le 4096 (length ops)) (Some TooManyOps)
-    (cond (not (is_orderly op)) (Some NotRising)
-    (cond (not (is_bounded op)) (Some BadLimit)
-    (cond (is_load op && nat_le 65535 s.runs) (Some TooManyRuns)
-    (cond (is_one_too_many (locks_of ops) (lock_of op)) (Some TooManyLocks)
-    None))))
+    or_else (refusal_before_lock true (length ops) s.runs op) (lock_refusal None (is_one_too_many (locks_of ops) (lock_of op)))
 
 -- the reply: the refusal that is due, and else the answer on the committed map with the transaction's own operations applied
 abbrev pub refused_or : Option Refusal → Reply → Reply

@@ -1,5 +1,5 @@
 use Rattle.std.proofs.Common.{◌∙◌, ap, subst}
-use Rattle.am_steps.specs.Parts.{Parts, MaySay, after}
+use Rattle.am_sound.specs.StoreState.{StoreState, MayAnswer, state_after}
 use Rattle.am_core.specs.Whole.{whole}
 use Rattle.am_core.proofs.Reaching.{reaches, few_commits}
 use Rattle.am_core.proofs.Standings.{goes, within, stays}
@@ -18,10 +18,10 @@ invariant_of-self g c =
 pub returns-clause-goes : goal.returns-clause-goes
 returns-clause-goes g c =
     goes c.args.self.now (whole c.step_there.new.kept.value) c.args.step c.step_there.result c.steps_lift.ensures.lift c.steps_lift.ensures.sound
-    (subst (λ (p : Parts). MaySay p c.args.step c.step_there.result) c.self.view_is c.step_there.ensures.says) (c.step_there.ensures.after ∙ ap (λ (p : Parts). after p c.args.step c.step_there.result) c.self.view_is)
+    (subst (λ (p : StoreState). MayAnswer p c.args.step c.step_there.result) c.self.view_is c.step_there.ensures.says) (c.step_there.ensures.after ∙ ap (λ (p : StoreState). state_after p c.args.step c.step_there.result) c.self.view_is)
 
 pub returns-clause-refused : goal.returns-clause-refused
-returns-clause-refused g c = stays c.args.self.now (whole c.step_there.new.kept.value) c.args.step c.step_there.result (c.step_there.ensures.after ∙ ap (λ (p : Parts). after p c.args.step c.step_there.result) c.self.view_is)
+returns-clause-refused g c = stays c.args.self.now (whole c.step_there.new.kept.value) c.args.step c.step_there.result (c.step_there.ensures.after ∙ ap (λ (p : StoreState). state_after p c.args.step c.step_there.result) c.self.view_is)
 
 pub returns-clause-within : goal.returns-clause-within
-returns-clause-within g c = within c.args.self.now c.args.step c.step_there.result (subst (λ (p : Parts). MaySay p c.args.step c.step_there.result) c.self.view_is c.step_there.ensures.says)
+returns-clause-within g c = within c.args.self.now c.args.step c.step_there.result (subst (λ (p : StoreState). MayAnswer p c.args.step c.step_there.result) c.self.view_is c.step_there.ensures.says)

@@ -1,5 +1,5 @@
 use Rattle.std.proofs.Common.{◌≡◌, ℕ, Option, sym, ap, subst}
-use Rattle.am_steps.specs.Parts.{Parts}
+use Rattle.am_sound.specs.StoreState.{StoreState}
 use Rattle.am_talk.specs.Session.{active_after}
 use Rattle.am_talk.specs.Dues.{IsAllowed}
 use Rattle.am_session.specs.Solo.{Solo, IsOpen}
@@ -11,5 +11,5 @@ invariant_of-self g c =
     let same : c.args.self.now.active ≡ c.self.inside.active = sym (ap (λ (s : Solo). s.active) c.self.view_is) in
     let allowed = subst (λ (a : Option ℕ). IsAllowed a c.args.step) same c.requires in
     let stays = stays_open c.self.inside.store c.self.inside.active c.args.step c.step-reply.result allowed c.self.invariant c.step-reply.ensures.says in
-    let here = subst (λ (p : Parts). IsOpen p (active_after c.self.inside.active c.step-reply.result)) (sym c.step-reply.ensures.after) stays in
+    let here = subst (λ (p : StoreState). IsOpen p (active_after c.self.inside.active c.step-reply.result)) (sym c.step-reply.ensures.after) stays in
     subst (IsOpen c.step-reply.new.self) (sym c.active_behind-self-inside.ensures) here

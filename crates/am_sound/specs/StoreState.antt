@@ -21,11 +21,11 @@ use Rattle.am_undo.specs.declared.note.Note.{Note}
 use Rattle.am_undo.specs.Notes.{CanTakeBack}
 use Rattle.am_undo.specs.Marks.{since_mark}
 use Rattle.am_serial.specs.Trace.{runs_made}
-use Rattle.am_serial.specs.Machine.{is_bounded, is_load, is_one_too_many, busy, or_else}
+use Rattle.am_record.specs.Refusals.{refusal_before_lock, is_one_too_many, lock_refusal, or_else}
 use Rattle.am_effect.specs.Merging.{Holders, all_worked_off, MergeRight, merged_by, CleanRight, cleaned_by}
 use Rattle.am_effect.specs.Laws.{taken_back}
 use Rattle.am_effect.specs.Store.{WithinLimit, changed, noted, notes_left, marks_left, wishes_after}
-use Rattle.am_follow.specs.At.{told}
+use Rattle.am_sound.specs.Represents.{stored_answer}
 
 -- an active transaction; notes and marks stand with the newest first, and each mark is the number of notes at its Mark
 pub record Active : Type 0 where
@@ -35,7 +35,7 @@ pub record Active : Type 0 where
   pub notes : List Note
   pub marks : List ℕ
 
-pub record Parts : Type 0 where
+pub record StoreState : Type 0 where
   pub entries : List Entry
   pub wishes : List Interval
   pub begun : ℕ
@@ -67,16 +67,11 @@ blocker_in [] t asked = None
 blocker_in (x ∷ xs) t asked = cond (not (t == x.number) && clashes asked x.locks) (Some x.number) (blocker_in xs t asked)
 
 -- the refusal that is due
-abbrev pub due_in : Parts → ℕ → Op → Option Refusal
-due_in p t op =
+abbrev pub refusal_in : StoreState → ℕ → Op → Option Refusal
+refusal_in p t op =
     or_else
-    (cond (not (is_in p.active t)) (Some NoSuchTx)
-    (cond (nat_le 4096 (in_table p.active t).ops) (Some TooManyOps)
-    (cond (not (is_orderly op)) (Some NotRising)
-    (cond (not (is_bounded op)) (Some BadLimit)
-    (cond (is_load op && nat_le 65535 p.runs) (Some TooManyRuns)
-    None)))))
-    (busy (blocker_in p.active t (lock_of op)) (is_one_too_many (in_table p.active t).locks (lock_of op)))
+    (refusal_before_lock (is_in p.active t) (in_table p.active t).ops p.runs op)
+    (lock_refusal (blocker_in p.active t (lock_of op)) (is_one_too_many (in_table p.active t).locks (lock_of op)))
 
 -- whether memory may be wanting: going back takes none
 abbrev pub takes_memory : Op → Bool
@@ -84,58 +79,58 @@ takes_memory Back = false
 takes_memory op = true
 
 -- the reply that a step may have
-abbrev pub MaySay : Parts → Step → Reply → Type 0
-MaySay p Begin (Begun t) = (t ≡ p.begun + 1) × (length p.active < 64) × (p.begun < 2 ^ 63)
-MaySay p Begin (Refused TooManyTx) = (64 ≤ length p.active) ⊎ (2 ^ 63 ≤ p.begun)
-MaySay p (Do t op) reply = MatchOption (due_in p t op) ((reply ≡ told op (in_table p.active t).marks (content p.entries)) ⊎ ((reply ≡ Refused NoMemory) × (takes_memory op ≡ true))) (λ why. reply ≡ Refused why)
-MaySay p (Commit t) (Committed c) = (is_in p.active t ≡ true) × (c ≡ p.commits + 1)
-MaySay p (Commit t) (Refused NoSuchTx) = is_in p.active t ≡ false
-MaySay p (Abort t) Aborted = is_in p.active t ≡ true
-MaySay p (Abort t) (Refused NoSuchTx) = is_in p.active t ≡ false
-MaySay p (Merge limit) reply = WithinLimit limit reply (MergeRight p.entries p.wishes (holder_in p.active) limit reply)
-MaySay p (Clean range limit) reply = WithinLimit limit reply (CleanRight p.entries (holder_in p.active) range limit reply)
-MaySay p _ _ = ⊥
+abbrev pub MayAnswer : StoreState → Step → Reply → Type 0
+MayAnswer p Begin (Begun t) = (t ≡ p.begun + 1) × (length p.active < 64) × (p.begun < 2 ^ 63)
+MayAnswer p Begin (Refused TooManyTx) = (64 ≤ length p.active) ⊎ (2 ^ 63 ≤ p.begun)
+MayAnswer p (Do t op) reply = MatchOption (refusal_in p t op) ((reply ≡ stored_answer op (in_table p.active t).marks (content p.entries)) ⊎ ((reply ≡ Refused NoMemory) × (takes_memory op ≡ true))) (λ why. reply ≡ Refused why)
+MayAnswer p (Commit t) (Committed c) = (is_in p.active t ≡ true) × (c ≡ p.commits + 1)
+MayAnswer p (Commit t) (Refused NoSuchTx) = is_in p.active t ≡ false
+MayAnswer p (Abort t) Aborted = is_in p.active t ≡ true
+MayAnswer p (Abort t) (Refused NoSuchTx) = is_in p.active t ≡ false
+MayAnswer p (Merge limit) reply = WithinLimit limit reply (MergeRight p.entries p.wishes (holder_in p.active) limit reply)
+MayAnswer p (Clean range limit) reply = WithinLimit limit reply (CleanRight p.entries (holder_in p.active) range limit reply)
+MayAnswer p _ _ = ⊥
 
-abbrev pub ended : ℕ → List Active → List Active
-ended t xs = filter (λ (x : Active). not (x.number == t)) xs
+abbrev pub without_tx : ℕ → List Active → List Active
+without_tx t xs = filter (λ (x : Active). not (x.number == t)) xs
 
 -- the transaction after an operation that was answered: one more, its lock and its note. Back drops the notes since the newest mark,
 -- and the mark
-abbrev pub did : ℕ → Op → Reply → List Note → Active → Active
-did t op reply new x =
+abbrev pub with_op : ℕ → Op → Reply → List Note → Active → Active
+with_op t op reply new x =
     cond (t == x.number)
     (record x { ops = x.ops + 1; locks = with_asked x.locks (lock_of op); notes = new ++ notes_left op reply x.marks x.notes; marks = marks_left op reply (length x.notes) x.marks })
     x
 
 -- the entries when the notes since the transaction's newest mark are taken back
-abbrev pub backed : Parts → ℕ → List Entry
-backed p t = taken_back (since_mark (in_table p.active t).marks (in_table p.active t).notes) p.entries
+abbrev pub taken_back_to_mark : StoreState → ℕ → List Entry
+taken_back_to_mark p t = taken_back (since_mark (in_table p.active t).marks (in_table p.active t).notes) p.entries
 
-abbrev pub after_do : Parts → ℕ → Op → Reply → Parts
-after_do p t op (Refused why) = p
-after_do p t op reply = record p {
-  entries = changed (backed p t) p.runs op reply p.entries;
+abbrev pub state_after_op : StoreState → ℕ → Op → Reply → StoreState
+state_after_op p t op (Refused why) = p
+state_after_op p t op reply = record p {
+  entries = changed (taken_back_to_mark p t) p.runs op reply p.entries;
   wishes = wishes_after p.wishes (Do t op) reply;
   runs = p.runs + runs_made op reply;
-  active = map (did t op reply (noted p.runs op reply p.entries)) p.active;
+  active = map (with_op t op reply (noted p.runs op reply p.entries)) p.active;
 }
 
 -- what the step leaves
-abbrev pub after : Parts → Step → Reply → Parts
-after p Begin (Begun t) = record p { begun = p.begun + 1; active = p.active ++ newcomer t ∷ [] }
-after p (Do t op) reply = after_do p t op reply
-after p (Commit t) (Committed c) = record p { commits = p.commits + 1; active = ended t p.active }
-after p (Abort t) Aborted = record p { entries = taken_back (in_table p.active t).notes p.entries; active = ended t p.active }
-after p (Merge limit) reply = record p { entries = all_worked_off (merged_by p.entries p.wishes reply) p.entries; wishes = wishes_after p.wishes (Merge limit) reply }
-after p (Clean range limit) reply = record p { entries = all_worked_off (cleaned_by p.entries (holder_in p.active) range reply) p.entries }
-after p _ _ = p
+abbrev pub state_after : StoreState → Step → Reply → StoreState
+state_after p Begin (Begun t) = record p { begun = p.begun + 1; active = p.active ++ newcomer t ∷ [] }
+state_after p (Do t op) reply = state_after_op p t op reply
+state_after p (Commit t) (Committed c) = record p { commits = p.commits + 1; active = without_tx t p.active }
+state_after p (Abort t) Aborted = record p { entries = taken_back (in_table p.active t).notes p.entries; active = without_tx t p.active }
+state_after p (Merge limit) reply = record p { entries = all_worked_off (merged_by p.entries p.wishes reply) p.entries; wishes = wishes_after p.wishes (Merge limit) reply }
+state_after p (Clean range limit) reply = record p { entries = all_worked_off (cleaned_by p.entries (holder_in p.active) range reply) p.entries }
+state_after p _ _ = p
 
-abbrev pub empty_parts : Parts
-empty_parts = record { entries = []; wishes = []; begun = 0; commits = 0; runs = 0; active = [] }
+abbrev pub empty_state : StoreState
+empty_state = record { entries = []; wishes = []; begun = 0; commits = 0; runs = 0; active = [] }
 
 -- what a step may rest on: the entries rise, no key is live in two partitions, nothing stands above the last run, and the notes of each
 -- active transaction can be taken back, all of them and those since its newest mark
-pub record IsFit (p : Parts) : Type 0 where
+pub record IsFit (p : StoreState) : Type 0 where
   pub rising : IsRising p.entries
   pub one_place : OnePlace p.entries
   pub below : (part : ℕ) (key : OrderedKey) → p.runs < part → find p.entries part key ≡ None

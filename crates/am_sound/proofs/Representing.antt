@@ -31,7 +31,7 @@ use Rattle.am_serial.specs.Laws.{is_back, OverlayLaws, ViewLaws}
 use Rattle.am_serial.proofs.Bodies.{owns_holds, asked_keeps, asked_has, asked_only, owns_key_up, not_held}
 use Rattle.am_effect.specs.History.{is_plain}
 use Rattle.am_serial.proofs.Maps.{of_asked}
-use Rattle.am_follow.specs.At.{IsAt, asks_own, told, may_write, KeepsRuns, Does, GoesOnWith}
+use Rattle.am_sound.specs.Represents.{Represents, asks_own, stored_answer, may_write, KeepsRuns, Does, RepresentsNext}
 
 -- ---- operations
 
@@ -46,7 +46,7 @@ plain_no_back (Delete k) h = refl
 plain_no_back (Load pairs) h = refl
 plain_no_back (TakeLock lock) h = refl
 
-pub plain_told : (op : Op) (marks : List ℕ) (m : PlainMap) → is_plain op ≡ true → told op marks m ≡ map_answer op m
+pub plain_told : (op : Op) (marks : List ℕ) (m : PlainMap) → is_plain op ≡ true → stored_answer op marks m ≡ map_answer op m
 plain_told Mark marks m h = refl
 plain_told Back marks m h = absurd (false≢true h)
 plain_told (Get k) marks m h = refl
@@ -122,7 +122,7 @@ left_by_none (b ∷ bodies) m = left_by_none bodies (left (ops_of b) m)
 abbrev Each : List Entry → List Note → List Lock → PlainMap → List ℕ → Draft → Type 0
 Each es notes locks c marks d = UndoesEach es notes (λ q. owns locks q) c (length notes) marks d.saved
 
-module _ (s : State) (o : OverlayLaws s) (w : ViewLaws s) (st : StepLaws s) (es : List Entry) (notes : ℕ → List Note) (marks : ℕ → List ℕ) (at : IsAt s es notes marks) where
+module _ (s : State) (o : OverlayLaws s) (w : ViewLaws s) (st : StepLaws s) (es : List Entry) (notes : ℕ → List Note) (marks : ℕ → List ℕ) (at : Represents s es notes marks) where
   abbrev rising : IsRising es
   rising = at.has.rising
 
@@ -140,13 +140,13 @@ module _ (s : State) (o : OverlayLaws s) (w : ViewLaws s) (st : StepLaws s) (es 
   apart : (t u : ℕ) → is_open s.active t ≡ true → is_open s.active u ≡ true → u ≢ t → (q : OrderedKey) → owns_in s u q ≡ true → owns_in s t q ≡ false
   apart t u ht hu n q h = w.apart u t q hu ht n (owns_holds (locks_in s.active u) q h)
 
-  answered_law : (t : ℕ) (op : Op) → due s t op ≡ None → answer op (view s t) ≡ told op (marks t) (content es)
+  answered_law : (t : ℕ) (op : Op) → due s t op ≡ None → answer op (view s t) ≡ stored_answer op (marks t) (content es)
   answered_law t op none = by_op op none
     where
-      plain : (op : Op) → is_plain op ≡ true → due s t op ≡ None → answer op (view s t) ≡ told op (marks t) (content es)
+      plain : (op : Op) → is_plain op ≡ true → due s t op ≡ None → answer op (view s t) ≡ stored_answer op (marks t) (content es)
       plain op h none = (o.granted t op (plain_no_back op h) none).answered ∙ ap (map_answer op) (sym at.has.same) ∙ sym (plain_told op (marks t) (content es) h)
 
-      by_op : (op : Op) → due s t op ≡ None → answer op (view s t) ≡ told op (marks t) (content es)
+      by_op : (op : Op) → due s t op ≡ None → answer op (view s t) ≡ stored_answer op (marks t) (content es)
       by_op Mark none = refl
       by_op Back none = let on = (st.granted t Back none).is_active in any_is es (notes t) (owns_in s t) s.committed (length (notes t)) (marks t) (view s t).saved (at.undoes t on)
       by_op (Get k) none = plain (Get k) refl none
@@ -216,7 +216,7 @@ module _ (s : State) (o : OverlayLaws s) (w : ViewLaws s) (st : StepLaws s) (es 
           other es' d.has.one_place u n on (λ was. record { same = λ q h p. d.only p q (not_written u was n q h); runs = λ p q run gone. d.keeps u n p q run gone })
 
   done_law : (t : ℕ) (op : Op) (es' : List Entry) (new : List Note) → due s t op ≡ None → is_plain op ≡ true → Does es notes t op es' new →
-      IsAt (next s (Answers t op (answer op (view s t)))) es' (λ u. cond (t == u) (new ++ notes u) (notes u)) marks
+      Represents (next s (Answers t op (answer op (view s t)))) es' (λ u. cond (t == u) (new ++ notes u) (notes u)) marks
   done_law t op es' new none plain d = record {
     has = record { rising = d.has.rising; one_place = d.has.one_place; same = d.has.same ∙ ap (map_after op) at.has.same ∙ sym (o.granted t op (plain_no_back op plain) none).changed };
     undoes = λ u on. by_case t op none (answer op (view s t)) es' new plain d u on (t == u) refl;
@@ -227,7 +227,7 @@ module _ (s : State) (o : OverlayLaws s) (w : ViewLaws s) (st : StepLaws s) (es 
   leaves_itself : (u : ℕ) → LeavesNoted es es (notes u) (owns_in s u)
   leaves_itself u = record { same = λ q h p. refl; runs = λ p q run gone. gone }
 
-  marked_law : (t : ℕ) → due s t Mark ≡ None → IsAt (next s (Answers t Mark Done)) es notes (λ u. cond (t == u) (length (notes u) ∷ marks u) (marks u))
+  marked_law : (t : ℕ) → due s t Mark ≡ None → Represents (next s (Answers t Mark Done)) es notes (λ u. cond (t == u) (length (notes u) ∷ marks u) (marks u))
   marked_law t none = record {
     has = record { rising = rising; one_place = one; same = at.has.same ∙ sym (o.granted t Mark refl none).changed };
     undoes = λ u on. by_mark u on (t == u) refl;
@@ -270,7 +270,7 @@ module _ (s : State) (o : OverlayLaws s) (w : ViewLaws s) (st : StepLaws s) (es 
     back_on = (st.granted t Back none).is_active
 
     backed_law : (es' : List Entry) → has_mark (marks t) ≡ true → TakesBack (since_mark (marks t) (notes t)) es es' →
-        IsAt (next s (Answers t Back Done)) es' (λ u. cond (t == u) (until_mark (marks u) (notes u)) (notes u)) (λ u. cond (t == u) (older (marks u)) (marks u))
+        Represents (next s (Answers t Back Done)) es' (λ u. cond (t == u) (until_mark (marks u) (notes u)) (notes u)) (λ u. cond (t == u) (older (marks u)) (marks u))
     backed_law es' some b = record {
       has = restored_has t back_on (since_mark (marks t) (notes t)) n.map both.0 es' b then (λ q.
           sym (ap (λ r. get (overlay_in (next s (Answers t Back r))) q) (ap went_back n.is))
@@ -294,7 +294,7 @@ module _ (s : State) (o : OverlayLaws s) (w : ViewLaws s) (st : StepLaws s) (es 
             other t Back none Done es' ((its t back_on (since_mark (marks t) (notes t)) n.map both.0 es' b).one_place es' b) u k hu
             (λ was. leaves t back_on (since_mark (marks t) (notes t)) n.map both.0 es' b u was k)
 
-    stayed_law : has_mark (marks t) ≡ false → IsAt (next s (Answers t Back NoMark)) es notes marks
+    stayed_law : has_mark (marks t) ≡ false → Represents (next s (Answers t Back NoMark)) es notes marks
     stayed_law without = record {
       has = record {
         rising = rising;
@@ -326,7 +326,7 @@ module _ (s : State) (o : OverlayLaws s) (w : ViewLaws s) (st : StepLaws s) (es 
 
   -- ---- transactions begin and end
 
-  begun_law : (t : ℕ) → is_open s.active t ≡ false → IsAt (next s (Begins t)) es (λ u. cond (t == u) [] (notes u)) (λ u. cond (t == u) [] (marks u))
+  begun_law : (t : ℕ) → is_open s.active t ≡ false → Represents (next s (Begins t)) es (λ u. cond (t == u) [] (notes u)) (λ u. cond (t == u) [] (marks u))
   begun_law t closed = record {
     has = record { rising = rising; one_place = one; same = at.has.same ∙ sym same_overlay };
     undoes = λ u on. by_begin u on (t == u) refl;
@@ -352,7 +352,7 @@ module _ (s : State) (o : OverlayLaws s) (w : ViewLaws s) (st : StepLaws s) (es 
           subst (λ (d : Draft). Each es (notes u) (locks_in then.active u) s.committed (marks u) d) (sym x.view)
           (subst (λ (ls : List Lock). Each es (notes u) ls s.committed (marks u) (view s u)) (sym x.keeps.locks) (at.undoes u (sym x.keeps.is_active ∙ hu)))
 
-  committed_law : (t : ℕ) → is_open s.active t ≡ true → IsAt (next s (Commits t)) es notes marks
+  committed_law : (t : ℕ) → is_open s.active t ≡ true → Represents (next s (Commits t)) es notes marks
   committed_law t on = record {
     has = record { rising = rising; one_place = one; same = at.has.same ∙ sym (o.commits t on) };
     undoes = λ u hu. by_commit u hu (λ e. true≢false (sym (ap (is_open then.active) (sym e) ∙ hu) ∙ st.commits t));
@@ -371,7 +371,7 @@ module _ (s : State) (o : OverlayLaws s) (w : ViewLaws s) (st : StepLaws s) (es 
             same_pairs (holds_in s u) (owns_in s u) (λ q h. owns_holds (locks_in s.active u) q h) (view s u).saved (view then u).saved (w.rebased u t was on n).saved,
           ))
 
-  aborted_law : (t : ℕ) (es' : List Entry) → is_open s.active t ≡ true → TakesBack (notes t) es es' → IsAt (next s (Aborts t)) es' notes marks
+  aborted_law : (t : ℕ) (es' : List Entry) → is_open s.active t ≡ true → TakesBack (notes t) es es' → Represents (next s (Aborts t)) es' notes marks
   aborted_law t es' on b = record {
     has = restored_has t on (notes t) s.committed (laws t on).whole es' b then (o.aborts t on);
     undoes = λ u hu. by_abort u hu (λ e. true≢false (sym (ap (is_open then.active) (sym e) ∙ hu) ∙ st.aborts t));
@@ -389,13 +389,13 @@ module _ (s : State) (o : OverlayLaws s) (w : ViewLaws s) (st : StepLaws s) (es 
           (others u was es' ((its t on (notes t) s.committed (laws t on).whole es' b).one_place es' b) (leaves t on (notes t) s.committed (laws t on).whole es' b u was n)))
 
   maintained_law : (es' : List Entry) → HasContent es' (content es) → ((t : ℕ) (q : OrderedKey) → is_open s.active t ≡ true → owns_in s t q ≡ true → (p : ℕ) → find es' p q ≡ find es p q) →
-      ((t : ℕ) → is_open s.active t ≡ true → KeepsRuns es es' (notes t)) → IsAt s es' notes marks
+      ((t : ℕ) → is_open s.active t ≡ true → KeepsRuns es es' (notes t)) → Represents s es' notes marks
   maintained_law es' has only keeps = record {
     has = record { rising = has.rising; one_place = has.one_place; same = has.same ∙ at.has.same };
     undoes = λ t on. others t on es' has.one_place (record { same = λ q h p. only t q on h p; runs = λ p q run gone. keeps t on p q run gone });
   }
 
-  pub goes_on : GoesOnWith s es notes marks
+  pub goes_on : RepresentsNext s es notes marks
   goes_on = record {
     answered = answered_law;
     done = done_law;
@@ -408,5 +408,5 @@ module _ (s : State) (o : OverlayLaws s) (w : ViewLaws s) (st : StepLaws s) (es 
     maintained = maintained_law;
   }
 
-pub opened : (marks : ℕ → List ℕ) → HasContent [] (overlay_in start) → IsAt start [] (λ t. []) marks
+pub opened : (marks : ℕ → List ℕ) → HasContent [] (overlay_in start) → Represents start [] (λ t. []) marks
 opened marks has = record { has = has; undoes = λ t on. absurd (false≢true on) }

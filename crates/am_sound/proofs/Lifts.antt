@@ -9,8 +9,8 @@ use Rattle.am_effect.specs.History.{aborted, goes_back, gone_back}
 use Rattle.am_effect.specs.Laws.{taken_back}
 use Rattle.am_effect.specs.Merging.{CleanRight, Holders, MergeRight, all_worked_off, cleaned_by}
 use Rattle.am_effect.specs.Store.{Follows, MayReply, Store, WithinLimit, after_all, after_step, changed, holder, marks_after, marks_left, noted, notes_after, notes_left, opened, wished, with_wish}
-use Rattle.am_follow.proofs.Follows.{goes_on}
-use Rattle.am_follow.specs.At.{GoesOnWith, told}
+use Rattle.am_sound.proofs.Representing.{goes_on}
+use Rattle.am_sound.specs.Represents.{RepresentsNext, stored_answer}
 use Rattle.am_list.specs.Content.{content}
 use Rattle.am_list.specs.Entries.{find}
 use Rattle.am_record.specs.Asks.{clashes, lock_of, locks_of, owns, with_asked}
@@ -31,12 +31,13 @@ use Rattle.am_serial.proofs.Bodies.{locks_of-push}
 use Rattle.am_serial.proofs.OneStep.{step_laws}
 use Rattle.am_serial.proofs.States.{overlay_laws, view_laws}
 use Rattle.am_serial.specs.Laws.{OverlayLaws, ViewLaws}
-use Rattle.am_serial.specs.Machine.{State, Transaction, blocker, body_in, busy, due, extended, is_bounded, is_load, is_one_too_many, is_open, locks_in, or_else, owns_in, view, without}
+use Rattle.am_record.specs.Refusals.{lock_refusal, is_bounded, is_load, is_one_too_many, or_else}
+use Rattle.am_serial.specs.Machine.{State, Transaction, blocker, body_in, due, extended, is_open, locks_in, owns_in, view, without}
 use Rattle.am_serial.specs.Trace.{Answered, Event, Trace, ops_of, runs_made}
 use Rattle.am_sound.proofs.Keeping.{not_begun}
 use Rattle.am_sound.proofs.Whole.{Right, changed_refused, either_way, marks_left_refused, noted_refused, notes_left_refused, right_at}
-use Rattle.am_steps.specs.At.{At, active_of, parts_of}
-use Rattle.am_steps.specs.Parts.{Active, IsFit, MaySay, Parts, after, backed, blocker_in, did, due_in, ended, holder_in, in_table, is_in, takes_memory}
+use Rattle.am_sound.specs.StateOf.{IsStateOf, active_of, state_of}
+use Rattle.am_sound.specs.StoreState.{Active, IsFit, MayAnswer, StoreState, state_after, taken_back_to_mark, blocker_in, with_op, refusal_in, without_tx, holder_in, in_table, is_in, takes_memory}
 use Rattle.am_undo.proofs.Marking.{mark_laws}
 use Rattle.am_undo.specs.Marks.{MarkLaws, has_mark, since_mark}
 use Rattle.am_undo.specs.Notes.{CanTakeBack}
@@ -81,9 +82,9 @@ module _ (notes : ℕ → List Note) (marks : ℕ → List ℕ) where
   blocker-map [] t asked = refl
   blocker-map (x ∷ txs) t asked = ap (cond (not (t == x.0) && clashes asked (locks_of (ops_of x.1))) (Some x.0)) (blocker-map txs t asked)
 
-  ended-map : (t : ℕ) (txs : List Transaction) → map (active_of notes marks) (without t txs) ≡ ended t (map (active_of notes marks) txs)
+  ended-map : (t : ℕ) (txs : List Transaction) → map (active_of notes marks) (without t txs) ≡ without_tx t (map (active_of notes marks) txs)
   ended-map t [] = refl
-  ended-map t (x ∷ txs) = elim (x.0 == t) as (λ b. map (active_of notes marks) (cond (not b) (x ∷ without t txs) (without t txs)) ≡ cond (not b) (active_of notes marks x ∷ ended t (map (active_of notes marks) txs)) (ended t (map (active_of notes marks) txs))) [
+  ended-map t (x ∷ txs) = elim (x.0 == t) as (λ b. map (active_of notes marks) (cond (not b) (x ∷ without t txs) (without t txs)) ≡ cond (not b) (active_of notes marks x ∷ without_tx t (map (active_of notes marks) txs)) (without_tx t (map (active_of notes marks) txs))) [
     | true ↦ ended-map t txs
     | false ↦ ap (λ l. active_of notes marks x ∷ l) (ended-map t txs)
   ]
@@ -111,7 +112,7 @@ notes_then t op reply new notes marks u = cond (t == u) (new ++ notes_left op re
 abbrev marks_then : ℕ → Op → Reply → (ℕ → List Note) → (ℕ → List ℕ) → ℕ → List ℕ
 marks_then t op reply notes marks u = cond (t == u) (marks_left op reply (length (notes u)) (marks u)) (marks u)
 
-did_one : (t : ℕ) (op : Op) (reply : Reply) (new : List Note) (notes : ℕ → List Note) (marks : ℕ → List ℕ) (x : Transaction) → active_of (notes_then t op reply new notes marks) (marks_then t op reply notes marks) (extended t (op, reply) x) ≡ did t op reply new (active_of notes marks x)
+did_one : (t : ℕ) (op : Op) (reply : Reply) (new : List Note) (notes : ℕ → List Note) (marks : ℕ → List ℕ) (x : Transaction) → active_of (notes_then t op reply new notes marks) (marks_then t op reply notes marks) (extended t (op, reply) x) ≡ with_op t op reply new (active_of notes marks x)
 did_one t op reply new notes marks x = by_test (t == x.0)
   where
     grown : (x : Transaction) → ops_of (x.1 ++ (op, reply) ∷ []) ≡ ops_of x.1 ++ op ∷ []
@@ -126,7 +127,7 @@ did_one t op reply new notes marks x = by_test (t == x.0)
         λ i. record { number = x.0; ops = long i; locks = locks i; notes = new ++ notes_left op reply (marks x.0) (notes x.0); marks = marks_left op reply (length (notes x.0)) (marks x.0) }
     by_test false = refl
 
-did_all : (t : ℕ) (op : Op) (reply : Reply) (new : List Note) (notes : ℕ → List Note) (marks : ℕ → List ℕ) (txs : List Transaction) → map (active_of (notes_then t op reply new notes marks) (marks_then t op reply notes marks)) (map (extended t (op, reply)) txs) ≡ map (did t op reply new) (map (active_of notes marks) txs)
+did_all : (t : ℕ) (op : Op) (reply : Reply) (new : List Note) (notes : ℕ → List Note) (marks : ℕ → List ℕ) (txs : List Transaction) → map (active_of (notes_then t op reply new notes marks) (marks_then t op reply notes marks)) (map (extended t (op, reply)) txs) ≡ map (with_op t op reply new) (map (active_of notes marks) txs)
 did_all t op reply new notes marks [] = refl
 did_all t op reply new notes marks (x ∷ txs) = λ i. did_one t op reply new notes marks x i ∷ did_all t op reply new notes marks txs i
 
@@ -159,10 +160,10 @@ module _ (trace : Trace) (s : Store) (r : Right trace s) where
   w : ViewLaws s.state
   w = subst (λ (st : State). ViewLaws st) (sym r.is) (view_laws trace r.runs)
 
-  go : GoesOnWith s.state s.entries s.notes s.marks
+  go : RepresentsNext s.state s.entries s.notes s.marks
   go = goes_on s.state o w (step_laws s.state) s.entries s.notes s.marks r.at
 
-  due_is : (t : ℕ) (op : Op) → due_in (parts_of s) t op ≡ due s.state t op
+  due_is : (t : ℕ) (op : Op) → refusal_in (state_of s) t op ≡ due s.state t op
   due_is t op =
       let a = is_in-map s.notes s.marks s.state.active t in
       let b = ops-map s.notes s.marks s.state.active t in
@@ -175,7 +176,7 @@ module _ (trace : Trace) (s : Store) (r : Right trace s) where
       (cond (not (is_bounded op)) (Some BadLimit)
       (cond (is_load op && nat_le 65535 s.state.runs) (Some TooManyRuns)
       None)))))
-      (busy (c i) (is_one_too_many (d i) (lock_of op)))
+      (lock_refusal (c i) (is_one_too_many (d i) (lock_of op)))
 
   holders_are : holder_in (map (active_of s.notes s.marks) s.state.active) ≡ holder s.state.active
   holders_are i q = holder-map s.notes s.marks s.state.active q i
@@ -188,14 +189,14 @@ module _ (trace : Trace) (s : Store) (r : Right trace s) where
   is_active t op e = ((step_laws s.state).granted t op e).is_active
 
   abbrev Given : ℕ → Op → Reply → Option Refusal → Type 0
-  Given t op reply o = MatchOption o ((reply ≡ told op (in_table (map (active_of s.notes s.marks) s.state.active) t).marks (content s.entries)) ⊎ ((reply ≡ Refused NoMemory) × (takes_memory op ≡ true))) (λ why. reply ≡ Refused why)
+  Given t op reply o = MatchOption o ((reply ≡ stored_answer op (in_table (map (active_of s.notes s.marks) s.state.active) t).marks (content s.entries)) ⊎ ((reply ≡ Refused NoMemory) × (takes_memory op ≡ true))) (λ why. reply ≡ Refused why)
 
-  may_do : (t : ℕ) (op : Op) (reply : Reply) → MaySay (parts_of s) (Do t op) reply → MayReply s (Do t op) reply
+  may_do : (t : ℕ) (op : Op) (reply : Reply) → MayAnswer (state_of s) (Do t op) reply → MayReply s (Do t op) reply
   may_do t op reply h = by_due (due s.state t op) refl (subst (Given t op reply) (due_is t op) h)
     where
       by_due : (o : Option Refusal) → due s.state t op ≡ o → Given t op reply o → MatchOption (due s.state t op) ((reply ≡ answer op (view s.state t)) ⊎ (reply ≡ Refused NoMemory)) (λ why. reply ≡ Refused why)
       by_due None e m = subst (λ o. MatchOption o ((reply ≡ answer op (view s.state t)) ⊎ (reply ≡ Refused NoMemory)) (λ why. reply ≡ Refused why)) (sym e)
-          (⊎_elim (λ a. inl (a ∙ ap (λ (ms : List ℕ). told op ms (content s.entries)) (marks_are t (is_active t op e)) ∙ sym (go.answered t op e))) (λ w. inr w.0) m)
+          (⊎_elim (λ a. inl (a ∙ ap (λ (ms : List ℕ). stored_answer op ms (content s.entries)) (marks_are t (is_active t op e)) ∙ sym (go.answered t op e))) (λ w. inr w.0) m)
       by_due (Some why) e m = subst (λ o. MatchOption o ((reply ≡ answer op (view s.state t)) ⊎ (reply ≡ Refused NoMemory)) (λ why. reply ≡ Refused why)) (sym e) m
 
   -- Back is answered Done where a mark stands
@@ -219,7 +220,7 @@ module _ (trace : Trace) (s : Store) (r : Right trace s) where
   long : length (map (active_of s.notes s.marks) s.state.active) ≡ length s.state.active
   long = length_table s.notes s.marks s.state.active
 
-  pub may_reply : (step : Step) (reply : Reply) → MaySay (parts_of s) step reply → MayReply s step reply
+  pub may_reply : (step : Step) (reply : Reply) → MayAnswer (state_of s) step reply → MayReply s step reply
   may_reply Begin (Begun t) h = (h.0, subst (λ n. n < 64) long h.1, h.2)
   may_reply Begin (Refused TooManyTx) h = ⊎_elim (λ a. inl (subst (λ n. 64 ≤ n) long a)) (λ b. inr b) h
   may_reply Begin reply h = absurd h
@@ -237,7 +238,7 @@ module _ (trace : Trace) (s : Store) (r : Right trace s) where
   unborn : (t : ℕ) → t ≡ s.state.begun + 1 → is_open s.state.active t ≡ false
   unborn t e = not_begun s.state w (step_laws s.state) s.entries s.past s.notes s.marks r.keeps t e
 
-  begun_parts : (t : ℕ) → t ≡ s.state.begun + 1 → parts_of (after_step s Begin (Begun t)) ≡ after (parts_of s) Begin (Begun t)
+  begun_parts : (t : ℕ) → t ≡ s.state.begun + 1 → state_of (after_step s Begin (Begun t)) ≡ state_after (state_of s) Begin (Begun t)
   begun_parts t e =
       let notes' = λ (u : ℕ). cond (t == u) [] (s.notes u) in
       let marks' = λ (u : ℕ). cond (t == u) [] (s.marks u) in
@@ -251,17 +252,17 @@ module _ (trace : Trace) (s : Store) (r : Right trace s) where
       λ i. record { entries = s.entries; wishes = s.wishes; begun = s.state.begun + 1; commits = s.state.commits; runs = s.state.runs; active = table i }
 
   -- going back is taking back what was noted since the mark
-  backed_is : (t : ℕ) → MayReply s (Do t Back) Done → gone_back t s.past s.entries ≡ backed (parts_of s) t
+  backed_is : (t : ℕ) → MayReply s (Do t Back) Done → gone_back t s.past s.entries ≡ taken_back_to_mark (state_of s) t
   backed_is t h =
       let stands = mark_stands t h in
       (back_laws t s.past s.entries (s.notes t) (s.marks t) (r.keeps.describes t stands.0) stands.1).backed r.at.has.rising
       ∙ (λ i. taken_back (since_mark (sym (marks-map s.notes s.marks s.state.active t stands.0) i) (sym (notes-map s.notes s.marks s.state.active t stands.0) i)) s.entries)
 
-  back_counts : (t : ℕ) (op : Op) (reply : Reply) → MayReply s (Do t op) reply → goes_back op reply ≡ true → gone_back t s.past s.entries ≡ backed (parts_of s) t
+  back_counts : (t : ℕ) (op : Op) (reply : Reply) → MayReply s (Do t op) reply → goes_back op reply ≡ true → gone_back t s.past s.entries ≡ taken_back_to_mark (state_of s) t
   back_counts t Back Done h e = backed_is t h
   back_counts t op reply h e = absurd (false≢true e)
 
-  do_parts : (t : ℕ) (op : Op) (reply : Reply) → MayReply s (Do t op) reply → parts_of (after_step s (Do t op) reply) ≡ after (parts_of s) (Do t op) reply
+  do_parts : (t : ℕ) (op : Op) (reply : Reply) → MayReply s (Do t op) reply → state_of (after_step s (Do t op) reply) ≡ state_after (state_of s) (Do t op) reply
   do_parts t op (Refused why) h =
       let es = changed_refused (gone_back t s.past s.entries) s.state.runs op why s.entries in
       let ws : with_wish s.wishes (wished op (Refused why)) ≡ s.wishes = ap (with_wish s.wishes) (wished_refused op why) in
@@ -272,25 +273,25 @@ module _ (trace : Trace) (s : Store) (r : Right trace s) where
       )) in
       λ i. record { entries = es i; wishes = ws i; begun = s.state.begun; commits = s.state.commits; runs = s.state.runs; active = table i }
   do_parts t op reply h =
-      let es = changed_alike (gone_back t s.past s.entries) (backed (parts_of s) t) s.state.runs op reply s.entries (back_counts t op reply h) in
+      let es = changed_alike (gone_back t s.past s.entries) (taken_back_to_mark (state_of s) t) s.state.runs op reply s.entries (back_counts t op reply h) in
       let table = did_all t op reply (noted s.state.runs op reply s.entries) s.notes s.marks s.state.active in
       λ i. record { entries = es i; wishes = with_wish s.wishes (wished op reply); begun = s.state.begun; commits = s.state.commits; runs = s.state.runs + runs_made op reply; active = table i }
 
-  ended_parts : (t c : ℕ) → parts_of (after_step s (Commit t) (Committed c)) ≡ after (parts_of s) (Commit t) (Committed c)
+  ended_parts : (t c : ℕ) → state_of (after_step s (Commit t) (Committed c)) ≡ state_after (state_of s) (Commit t) (Committed c)
   ended_parts t c = let table = ended-map s.notes s.marks t s.state.active in
       λ i. record { entries = s.entries; wishes = s.wishes; begun = s.state.begun; commits = s.state.commits + 1; runs = s.state.runs; active = table i }
 
-  aborted_parts : (t : ℕ) → is_open s.state.active t ≡ true → parts_of (after_step s (Abort t) Aborted) ≡ after (parts_of s) (Abort t) Aborted
+  aborted_parts : (t : ℕ) → is_open s.state.active t ≡ true → state_of (after_step s (Abort t) Aborted) ≡ state_after (state_of s) (Abort t) Aborted
   aborted_parts t on =
       let table = ended-map s.notes s.marks t s.state.active in
       let es : aborted t s.past s.entries ≡ taken_back (in_table (map (active_of s.notes s.marks) s.state.active) t).notes s.entries =
       (describe_laws t s.past s.entries (s.notes t) (whole_describes t s.past s.entries (s.notes t) 0 (length (s.notes t)) (s.marks t) (r.keeps.describes t on))).aborted r.at.has.rising ∙ ap (λ ns. taken_back ns s.entries) (sym (notes-map s.notes s.marks s.state.active t on)) in
       λ i. record { entries = es i; wishes = s.wishes; begun = s.state.begun; commits = s.state.commits; runs = s.state.runs; active = table i }
 
-  clean_parts : (range : Interval) (limit : ℕ) (reply : Reply) → parts_of (after_step s (Clean range limit) reply) ≡ after (parts_of s) (Clean range limit) reply
+  clean_parts : (range : Interval) (limit : ℕ) (reply : Reply) → state_of (after_step s (Clean range limit) reply) ≡ state_after (state_of s) (Clean range limit) reply
   clean_parts range limit reply = sym (ap (λ (hs : Holders). record { entries = all_worked_off (cleaned_by s.entries hs range reply) s.entries; wishes = s.wishes; begun = s.state.begun; commits = s.state.commits; runs = s.state.runs; active = map (active_of s.notes s.marks) s.state.active }) holders_are)
 
-  pub parts_after : (step : Step) (reply : Reply) → MayReply s step reply → parts_of (after_step s step reply) ≡ after (parts_of s) step reply
+  pub parts_after : (step : Step) (reply : Reply) → MayReply s step reply → state_of (after_step s step reply) ≡ state_after (state_of s) step reply
   parts_after Begin (Begun t) h = begun_parts t h.0
   parts_after Begin (Refused why) h = refl
   parts_after Begin reply h = absurd h
@@ -314,19 +315,19 @@ after_all-push : (trace : Trace) (s : Store) (e : Event) → after_all s (trace 
 after_all-push [] s e = refl
 after_all-push (x ∷ trace) s e = after_all-push trace (after_step s x.0 x.1) e
 
-pub lift : (trace : Trace) (p : Parts) (step : Step) (reply : Reply) → At trace p → MaySay p step reply → At (trace ++ (step, reply) ∷ []) (after p step reply)
+pub lift : (trace : Trace) (p : StoreState) (step : Step) (reply : Reply) → IsStateOf trace p → MayAnswer p step reply → IsStateOf (trace ++ (step, reply) ∷ []) (state_after p step reply)
 lift trace p step reply at may =
     let s = after_all opened trace in
     let r = right_at trace at.follows in
-    let m : MayReply s step reply = may_reply trace s r step reply (subst (λ (x : Parts). MaySay x step reply) at.here may) in
+    let m : MayReply s step reply = may_reply trace s r step reply (subst (λ (x : StoreState). MayAnswer x step reply) at.here may) in
     record {
       follows = follows_push trace opened (step, reply) at.follows m;
-      here = ap (λ (x : Parts). after x step reply) at.here ∙ sym (parts_after trace s r step reply m) ∙ ap parts_of (sym (after_all-push trace opened (step, reply)));
+      here = ap (λ (x : StoreState). state_after x step reply) at.here ∙ sym (parts_after trace s r step reply m) ∙ ap state_of (sym (after_all-push trace opened (step, reply)));
     }
 
 -- ---- what a step may rest on
 
-fit_of : (trace : Trace) (s : Store) → Right trace s → IsFit (parts_of s)
+fit_of : (trace : Trace) (s : Store) → Right trace s → IsFit (state_of s)
 fit_of trace s r = record {
   rising = r.at.has.rising;
   one_place = r.at.has.one_place;
@@ -342,5 +343,5 @@ fit_of trace s r = record {
     laws : (t : ℕ) → is_open s.state.active t ≡ true → MarkLaws s.entries (s.notes t) (owns_in s.state t) s.state.committed (s.marks t) (view s.state t).saved
     laws t on = mark_laws s.entries (s.notes t) (owns_in s.state t) s.state.committed r.at.has.rising r.at.has.one_place (s.marks t) (view s.state t).saved (r.at.undoes t on)
 
-pub fit : (trace : Trace) (p : Parts) → At trace p → IsFit p
-fit trace p at = subst (λ (x : Parts). IsFit x) (sym at.here) (fit_of trace (after_all opened trace) (right_at trace at.follows))
+pub fit : (trace : Trace) (p : StoreState) → IsStateOf trace p → IsFit p
+fit trace p at = subst (λ (x : StoreState). IsFit x) (sym at.here) (fit_of trace (after_all opened trace) (right_at trace at.follows))

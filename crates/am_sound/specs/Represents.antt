@@ -21,14 +21,14 @@ use Rattle.am_effect.specs.History.{is_plain}
 
 -- the entries rise, no key is live in two partitions, the content is the overlay, and each active transaction's notes undo what it did
 -- since each of its marks, and all that it did
-pub record IsAt (s : State) (es : List Entry) (notes : ℕ → List Note) (marks : ℕ → List ℕ) : Type 0 where
+pub record Represents (s : State) (es : List Entry) (notes : ℕ → List Note) (marks : ℕ → List ℕ) : Type 0 where
   pub has : HasContent es (overlay_in s)
   pub undoes : (t : ℕ) → is_open s.active t ≡ true → UndoesEach es (notes t) (owns_in s t) s.committed (length (notes t)) (marks t) (view s t).saved
 
 -- what an operation is answered by the content, and Back by the marks that stand
-abbrev pub told : Op → List ℕ → PlainMap → Reply
-told Back marks m = if has_mark marks then Done else NoMark
-told op marks m = map_answer op m
+abbrev pub stored_answer : Op → List ℕ → PlainMap → Reply
+stored_answer Back marks m = if has_mark marks then Done else NoMark
+stored_answer op marks m = map_answer op m
 
 -- whether the lock that is asked for owns the key
 abbrev pub asks_own : Option Lock → OrderedKey → Bool
@@ -52,19 +52,19 @@ pub record Does (es : List Entry) (notes : ℕ → List Note) (t : ℕ) (op : Op
   pub own : (part : List Note) (owned : OrderedKey → Bool) (before : OrderedKey → Option (List ℕ)) → ((q : OrderedKey) → may_write op q ≡ true → owned q ≡ true) →
       Undoes es part owned before → Undoes es' (new ++ part) owned before
 
-pub record GoesOnWith (s : State) (es : List Entry) (notes : ℕ → List Note) (marks : ℕ → List ℕ) : Type 0 where
+pub record RepresentsNext (s : State) (es : List Entry) (notes : ℕ → List Note) (marks : ℕ → List ℕ) : Type 0 where
   -- the answer is that of the content, and, for Back, whether a mark stands
-  pub answered : (t : ℕ) (op : Op) → due s t op ≡ None → answer op (view s t) ≡ told op (marks t) (content es)
+  pub answered : (t : ℕ) (op : Op) → due s t op ≡ None → answer op (view s t) ≡ stored_answer op (marks t) (content es)
   pub done : (t : ℕ) (op : Op) (es' : List Entry) (new : List Note) → due s t op ≡ None → is_plain op ≡ true → Does es notes t op es' new →
-      IsAt (next s (Answers t op (answer op (view s t)))) es' (λ u. cond (t == u) (new ++ notes u) (notes u)) marks
-  pub marked : (t : ℕ) → due s t Mark ≡ None → IsAt (next s (Answers t Mark Done)) es notes (λ u. cond (t == u) (length (notes u) ∷ marks u) (marks u))
+      Represents (next s (Answers t op (answer op (view s t)))) es' (λ u. cond (t == u) (new ++ notes u) (notes u)) marks
+  pub marked : (t : ℕ) → due s t Mark ≡ None → Represents (next s (Answers t Mark Done)) es notes (λ u. cond (t == u) (length (notes u) ∷ marks u) (marks u))
   -- the notes since the newest mark are taken back, and the mark is gone
   pub backed : (t : ℕ) (es' : List Entry) → due s t Back ≡ None → has_mark (marks t) ≡ true → TakesBack (since_mark (marks t) (notes t)) es es' →
-      IsAt (next s (Answers t Back Done)) es' (λ u. cond (t == u) (until_mark (marks u) (notes u)) (notes u)) (λ u. cond (t == u) (older (marks u)) (marks u))
-  pub stayed : (t : ℕ) → due s t Back ≡ None → has_mark (marks t) ≡ false → IsAt (next s (Answers t Back NoMark)) es notes marks
-  pub begun : (t : ℕ) → is_open s.active t ≡ false → IsAt (next s (Begins t)) es (λ u. cond (t == u) [] (notes u)) (λ u. cond (t == u) [] (marks u))
-  pub committed : (t : ℕ) → is_open s.active t ≡ true → IsAt (next s (Commits t)) es notes marks
-  pub aborted : (t : ℕ) (es' : List Entry) → is_open s.active t ≡ true → TakesBack (notes t) es es' → IsAt (next s (Aborts t)) es' notes marks
+      Represents (next s (Answers t Back Done)) es' (λ u. cond (t == u) (until_mark (marks u) (notes u)) (notes u)) (λ u. cond (t == u) (older (marks u)) (marks u))
+  pub stayed : (t : ℕ) → due s t Back ≡ None → has_mark (marks t) ≡ false → Represents (next s (Answers t Back NoMark)) es notes marks
+  pub begun : (t : ℕ) → is_open s.active t ≡ false → Represents (next s (Begins t)) es (λ u. cond (t == u) [] (notes u)) (λ u. cond (t == u) [] (marks u))
+  pub committed : (t : ℕ) → is_open s.active t ≡ true → Represents (next s (Commits t)) es notes marks
+  pub aborted : (t : ℕ) (es' : List Entry) → is_open s.active t ≡ true → TakesBack (notes t) es es' → Represents (next s (Aborts t)) es' notes marks
   -- a merge or a clean step
   pub maintained : (es' : List Entry) → HasContent es' (content es) → ((t : ℕ) (q : OrderedKey) → is_open s.active t ≡ true → owns_in s t q ≡ true → (p : ℕ) → find es' p q ≡ find es p q) →
-      ((t : ℕ) → is_open s.active t ≡ true → KeepsRuns es es' (notes t)) → IsAt s es' notes marks
+      ((t : ℕ) → is_open s.active t ≡ true → KeepsRuns es es' (notes t)) → Represents s es' notes marks

@@ -1,7 +1,7 @@
 use Rattle.std.proofs.Common.{refl}
 use Rattle.am_sound.proofs.Sounds.{sound_store}
-use Rattle.am_steps.proofs.Lifts.{lift, fit}
-use Rattle.am_steps.proofs.steps_lift.Goals as goal
+use Rattle.am_sound.proofs.Lifts.{lift, fit}
+use Rattle.am_sound.proofs.steps_lift.Goals as goal
 
 pub returns : goal.returns
 returns c = record { opened = record { follows = tt; here = refl }; lift = lift; fit = fit; sound = λ trace p at. sound_store trace at.follows }

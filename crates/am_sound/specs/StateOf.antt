@@ -7,19 +7,19 @@ use Rattle.am_undo.specs.declared.note.Note.{Note}
 use Rattle.am_serial.specs.Trace.{Trace, ops_of}
 use Rattle.am_serial.specs.Machine.{Transaction}
 use Rattle.am_effect.specs.Store.{Store, opened, Follows, after_all}
-use Rattle.am_steps.specs.Parts.{Active, Parts}
+use Rattle.am_sound.specs.StoreState.{Active, StoreState}
 
 abbrev pub active_of : (ℕ → List Note) → (ℕ → List ℕ) → Transaction → Active
 active_of notes marks x = record { number = x.0; ops = length x.1; locks = locks_of (ops_of x.1); notes = notes x.0; marks = marks x.0 }
 
 -- what a store keeps, by the store that the trace describes
-abbrev pub parts_of : Store → Parts
-parts_of s = record { entries = s.entries; wishes = s.wishes; begun = s.state.begun; commits = s.state.commits; runs = s.state.runs; active = map (active_of s.notes s.marks) s.state.active }
+abbrev pub state_of : Store → StoreState
+state_of s = record { entries = s.entries; wishes = s.wishes; begun = s.state.begun; commits = s.state.commits; runs = s.state.runs; active = map (active_of s.notes s.marks) s.state.active }
 
 -- the trace is one that the store may make, and the store is where it leaves it
-pub record At (trace : Trace) (parts : Parts) : Type 0 where
+pub record IsStateOf (trace : Trace) (parts : StoreState) : Type 0 where
   pub follows : Follows opened trace
-  pub here : parts ≡ parts_of (after_all opened trace)
+  pub here : parts ≡ state_of (after_all opened trace)
 
 -- the steps with their replies
 abbrev pub events : List Step → List Reply → Trace

@@ -12,8 +12,8 @@ use Rattle.am_record.specs.declared.lock.Lock.{Lock}
 use Rattle.am_locks.specs.Held.{Held, blocks, is_exclusive_at}
 use Rattle.am_locks.specs.Table.{blockers, exclusive_holders}
 use Rattle.am_locks.specs.Answers.{IsLeastOf}
-use Rattle.am_steps.specs.Parts.{Active, blocker_in, holder_in}
-use Rattle.am_steps.specs.Tables.{held_of, Rise, TableLaws}
+use Rattle.am_sound.specs.StoreState.{Active, blocker_in, holder_in}
+use Rattle.am_sound.specs.Tables.{held_of, AreByNumber, TableLaws}
 
 abbrev first_of : List ℕ → Option ℕ
 first_of [] = None
@@ -68,7 +68,7 @@ module _ (test : Held → Bool) where
   FirstLow [] = Unit {0}
   FirstLow (n ∷ ns) = All (λ k. n ≤ k) (n ∷ ns)
 
-  first_low : (xs : List Active) → Rise xs → FirstLow (map (λ (h : Held). h.owner) (filter test (held_of xs)))
+  first_low : (xs : List Active) → AreByNumber xs → FirstLow (map (λ (h : Held). h.owner) (filter test (held_of xs)))
   first_low [] r = tt
   first_low (x ∷ xs) r =
       let rest = first_low xs r.1 in

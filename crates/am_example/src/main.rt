@@ -1,0 +1,58 @@
+//! The store as a library: a run is loaded and queried at once, what was asked for is merged, and a record is changed.
+#![tactic(auto)]
+
+use am_btree::BTree;
+use am_core::Store;
+use am_record::{Key, Op, Pairs, Range, Reply, Step, Value};
+use anyhow::{Context, Result, bail};
+use std::alloc::Global;
+
+/// Records of a run, by rising key.
+const PRICES: [(&str, &str); 3] = [("apple", "6"), ("cherry", "4"), ("plum", "9")];
+
+fn key(text: &str) -> Result<Key> {
+    Key::new(text.as_bytes()).context("a key has at most 32 bytes")
+}
+
+fn value(text: &str) -> Result<Value> {
+    Value::new(text.as_bytes()).context("a value has at most 64 bytes")
+}
+
+fn run_of(alloc: Global, records: &[(&str, &str)]) -> Result<Pairs> {
+    let mut run = Vec::new(alloc);
+    for (name, price) in records {
+        run.push((key(name)?, value(price)?))?;
+    }
+    Ok(Pairs::new(run))
+}
+
+/// Takes operations as one transaction, and answers the last reply.
+fn transact(store: &mut Store<BTree>, ops: Vec<Op>) -> Result<Reply> {
+    let Reply::Begun(tx) = store.step(Step::Begin) else {
+        bail!("64 transactions are active");
+    };
+    let mut last = Reply::Done;
+    for op in ops {
+        last = store.step(Step::Do(tx, op));
+    }
+    store.step(Step::Commit(tx));
+    Ok(last)
+}
+
+fn main(rt: HostRuntime) -> Result<()> {
+    let alloc = rt.alloc();
+    let mut store = Store::open(alloc, BTree::new(alloc)?)?;
+    let fruit = Range::new(key("a")?, key("z")?).context("a range goes from a key to a higher one")?;
+    let load = Op::Load(run_of(alloc, &PRICES)?);
+    if let Reply::Rows(rows) = transact(&mut store, vec![in alloc; load, Op::Scan(fruit, 10)]?)? {
+        println!(rt; "{} records, loaded as a run", rows.as_slice().len())?;
+    }
+    if let Reply::Moved(entries, run) = store.step(Step::Merge(16)) {
+        println!(rt; "{entries} of run {run} merged, since the scan asked for them")?;
+    }
+    let dearer = Op::Replace(key("plum")?, value("10")?);
+    if let Reply::Found(price) = transact(&mut store, vec![in alloc; dearer, Op::Get(key("plum")?)]?)? {
+        println!(rt; "plum {}", str::from_utf8(price.bytes())?)?;
+    }
+    Ok(())
+}

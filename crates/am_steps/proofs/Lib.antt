@@ -1,2 +1,0 @@
-pub mod Lifts
-pub mod Tables
