@@ -7,14 +7,7 @@ ghost use Rattle.am_serial.specs.Machine.{State, is_open, body_in, due_early};
 ghost use Rattle.am_audit.specs.Faults.{is_early};
 ghost use Rattle.am_audit.specs.Standing.{early_of};
 
-use crate::operations::{is_bounded, is_load, is_orderly};
 use am_record::{Op, Refusal, Reply};
-
-/// The most operations that a transaction may have.
-const MAX_OPS: usize = 4096;
-
-/// The most runs that may be made.
-const MAX_RUNS: u32 = 65_535;
 
 /// The early refusal that is due to an operation of a transaction that is active with so many operations, if it is, where
 /// so many runs were made.
@@ -25,22 +18,8 @@ pub(crate) fn refusal(done: Option<usize>, runs: u32, tx: u64, op: &Op) -> Optio
     requires inactive { IfNone done (is_open s.active tx ≡ false) }
     ensures { result ≡ due_early s tx op.now }
 {
-    let Some(ops) = done else {
-        return Some(Refusal::NoSuchTx);
-    };
-    if ops >= MAX_OPS {
-        return Some(Refusal::TooManyOps);
-    }
-    if !is_orderly(op) {
-        return Some(Refusal::NotRising);
-    }
-    if !is_bounded(op) {
-        return Some(Refusal::BadLimit);
-    }
-    if is_load(op) && runs >= MAX_RUNS {
-        return Some(Refusal::TooManyRuns);
-    }
-    None
+    let ops = done.unwrap_or(0) as u64;
+    op.refusal(done.is_some(), ops, runs)
 }
 
 /// Whether the reply is one of these refusals.

@@ -4,16 +4,7 @@ ghost use Rattle.std.specs.Prelude.{◌≡◌, ◌↔◌, true, length, IsTrue};
 ghost use Rattle.am_record.specs.declared.step.Step.TheVariants.{Begin, Commit, Abort, Merge, Clean};
 ghost use Rattle.am_serial.specs.Machine.{State, May, is_open, is_limit};
 
-use am_record::{Range, Refusal, Reply};
-
-/// The most transactions that may be active at once.
-const MAX_ACTIVE: usize = 64;
-
-/// The most transactions that may ever begin.
-const MAX_BEGUN: u64 = 1 << 63;
-
-/// The most entries that a merge or a clean may take at once.
-const MAX_LIMIT: u64 = 64;
+use am_record::{MAX_ACTIVE, MAX_BEGUN, MAX_LIMIT, Range, Refusal, Reply};
 
 /// Whether the reply may be that of a Begin, where so many were begun and are active.
 pub(crate) fn may_begin(begun: u64, active: usize, reply: &Reply) -> bool

@@ -9,7 +9,7 @@ use crate::asking::ask;
 use crate::early::{is_early, refusal};
 use crate::flaw::Flaw;
 use crate::forms::{may_abort, may_begin, may_clean, may_commit, may_merge};
-use crate::operations::{lock_of, runs_made};
+use crate::operations::runs_made;
 use crate::replay::replay;
 use crate::verdict::{is_refusal, is_refused, verdict};
 use am_locks::{Asked, LockTable};
@@ -163,7 +163,7 @@ impl Pass {
         ensures flaw { IfErr result (IsFlaw here (Do tx op) reply) }
     {
         let held = self.locks.held(tx);
-        let asked = ask(&mut self.locks, tx, lock_of(&op));
+        let asked = ask(&mut self.locks, tx, op.asked_lock());
         if let Err(flaw) = verdict(asked, tx, &op, &reply) {
             return Err(flaw);
         }

@@ -10,10 +10,7 @@ ghost use Rattle.am_core.specs.Whole.{whole};
 use crate::kept::Kept;
 use am_list::PartIndex;
 use am_merge::{clean_step, merge_step};
-use am_record::{Range, Refusal, Reply};
-
-/// The most entries that a merge or a clean may take at once.
-pub const MAX_LIMIT: u64 = 64;
+use am_record::{MAX_LIMIT, Range, Refusal, Reply};
 
 impl<I: PartIndex + Drop> Kept<I> {
     #[inline(never)]

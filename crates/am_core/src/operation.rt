@@ -16,7 +16,7 @@ ghost use Rattle.am_core.specs.Doing.{IsDone, IsUntouched, MayWantRoom, Works, I
 ghost use Rattle.am_core.specs.Memory.{may_want_memory};
 ghost use Rattle.am_core.specs.Whole.{whole};
 
-use crate::asking::{ask, lock_of, refusal, wish_of};
+use crate::asking::{ask, refusal, wish_of};
 use crate::kept::Kept;
 use crate::loads::load_pairs;
 use crate::reads::get;
@@ -47,7 +47,7 @@ impl<I: PartIndex + Drop> Kept<I> {
         if let Some(why) = refusal(&self.parts, &self.txs, tx, &op) {
             return Reply::Refused(why);
         }
-        let held = match ask(&mut self.txs, tx, lock_of(&op)) {
+        let held = match ask(&mut self.txs, tx, op.asked_lock()) {
             Ok(held) => held,
             Err(why) => return Reply::Refused(why),
         };

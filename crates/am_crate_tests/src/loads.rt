@@ -6,8 +6,8 @@ ghost use Rattle.am_runs.specs.Loads.{NothingAbove};
 use crate::entries::{byte, dead, live};
 use am_list::ListIndex;
 use am_parts::Parts;
-use am_record::{Entry, Key, NoMemory, Refusal, Reply, Value};
-use am_runs::{LoadFault, MAX_RUNS, Run, cut_runs, load};
+use am_record::{Entry, Key, MAX_RUNS, NoMemory, Refusal, Reply, Value};
+use am_runs::{LoadFault, Run, cut_runs, load};
 use std::alloc::Global;
 use std::process::Abort;
 

@@ -1,7 +1,7 @@
 //! The table of locks.
 
-use am_locks::{Asked, LockTable, MAX_LOCKS, MAX_OWNERS};
-use am_record::{Key, Lock, Mode, Range};
+use am_locks::{Asked, LockTable};
+use am_record::{Key, Lock, MAX_ACTIVE, MAX_LOCKS, Mode, Range};
 use std::alloc::Global;
 use std::process::Abort;
 
@@ -27,7 +27,7 @@ fn exclusive(rt: &impl Abort, lo: u64, hi: u64) -> Lock {
 fn table_of(rt: &impl Abort, alloc: Global, owners: u64) -> LockTable {
     let mut table = LockTable::new(alloc);
     for tx in 1..=owners {
-        assert!(rt; table.owners() < MAX_OWNERS && !table.is_owner(tx));
+        assert!(rt; table.owners() < MAX_ACTIVE && !table.is_owner(tx));
         table.enter(tx);
     }
     table
@@ -215,7 +215,7 @@ fn begin_anew(
     plain: &mut PlainTable,
 ) {
     release(rt, table, tx);
-    assert!(rt; table.owners() < MAX_OWNERS && !table.is_owner(tx));
+    assert!(rt; table.owners() < MAX_ACTIVE && !table.is_owner(tx));
     table.enter(tx);
     plain.cut(rt, alloc, tx, 0);
 }

@@ -1,8 +1,8 @@
 //! The table of active transactions.
 
 use am_locks::Asked;
-use am_record::{Key, Lock, Mode, Range};
-use am_tx::{MAX_OPS, TxTable};
+use am_record::{Key, Lock, MAX_OPS, Mode, Range};
+use am_tx::TxTable;
 use am_undo::Note;
 use std::process::Abort;
 

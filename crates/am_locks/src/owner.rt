@@ -13,17 +13,14 @@ ghost use Rattle.smallvec.specs.SmallVec.{HasRoomFor};
 use crate::asked::Asked;
 use crate::fronts::Fronts;
 use crate::marks::{Marks, marks_of};
-use am_record::{Key, Lock};
+use am_record::{Key, Lock, MAX_LOCKS};
 use smallvec::SmallVec;
 use std::alloc::{AllocError, Global};
 use std::default::MadeWith;
 use std::marker::Model;
 
-/// The most locks that a transaction may hold.
-pub const MAX_LOCKS: usize = 256;
-
 /// So many locks of a transaction take no memory.
-pub const INLINE_LOCKS: usize = 8;
+const INLINE_LOCKS: usize = 8;
 
 /// A transaction and its locks, the oldest first.
 ///

@@ -9,21 +9,18 @@ ghost use Rattle.am_locks.specs.Answers.{IsLeastOf, MatchBusy};
 
 use crate::asked::Asked;
 use crate::marks::number_of;
-use crate::owner::{INLINE_LOCKS, MAX_LOCKS, Owner};
-use am_record::{Key, Lock};
+use crate::owner::Owner;
+use am_record::{Key, Lock, MAX_ACTIVE};
 use arrayvec::ArrayVec;
 use std::alloc::Global;
 use std::marker::Model;
-
-/// The most owners that a table may have.
-pub const MAX_OWNERS: usize = 64;
 
 /// Who holds which locks. Owners are named by the numbers of their transactions.
 ///
 /// No lock of one owner conflicts with a lock of another.
 #[derive(Drop)]
 pub struct LockTable {
-    owners: ArrayVec<Owner, MAX_OWNERS, Global>,
+    owners: ArrayVec<Owner, MAX_ACTIVE, Global>,
 }
 
 impl Model for LockTable {

@@ -5,12 +5,10 @@ ghost use Rattle.am_record.specs.KeyMix.{mix_in, key_mix};
 ghost use Rattle.am_record.specs.KeyWords.{word_at, words_of, AreBytes};
 ghost use Rattle.am_record.specs.OrderedKey.{key_of, bytes_of, number_key, key_least, IsLeast};
 
+use crate::limits::MAX_KEY_LEN;
 use std::cmp::Ordering;
 use std::hash::{Hash, Hasher};
 use std::marker::Model;
-
-/// The most bytes that a key may have.
-pub const MAX_KEY_LEN: usize = 32;
 
 /// The key of a record: at most 32 bytes, compared byte by byte, a beginning of a string before the string. The bytes past
 /// its length are zero.

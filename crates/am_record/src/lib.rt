@@ -1,9 +1,11 @@
 //! What the store speaks of: keys, values, ranges, entries, steps and replies.
 #![tactic(auto)]
 
+mod admission;
 mod entry;
 mod key;
 mod laws;
+mod limits;
 mod lock;
 mod memory;
 mod pairs;
@@ -12,11 +14,15 @@ mod step;
 mod value;
 
 pub use entry::Entry;
-pub use key::{Key, MAX_KEY_LEN};
+pub use key::Key;
 pub use laws::{keys_are_ordered, ranges_are_sets_of_keys, shared_is_compatible_with_shared};
+pub use limits::{
+    MAX_ACTIVE, MAX_BEGUN, MAX_KEY_LEN, MAX_LIMIT, MAX_LOCKS, MAX_OPS, MAX_ROWS, MAX_RUNS,
+    MAX_VALUE_LEN,
+};
 pub use lock::{Lock, Mode};
 pub use memory::NoMemory;
-pub use pairs::Pairs;
+pub use pairs::{Pairs, is_rising};
 pub use range::Range;
 pub use step::{Op, Refusal, Reply, Step};
-pub use value::{MAX_VALUE_LEN, Value};
+pub use value::Value;

@@ -45,6 +45,24 @@ impl Mode {
 impl Lock {
     ghost use Rattle.am_record.specs.Locks.{covers, conflicts};
 
+    pub fn shared(range: Range) -> Lock
+        ensures { result ≡ record { mode = Mode.Shared; range = range } }
+    {
+        Lock {
+            mode: Mode::Shared,
+            range,
+        }
+    }
+
+    pub fn exclusive(range: Range) -> Lock
+        ensures { result ≡ record { mode = Mode.Exclusive; range = range } }
+    {
+        Lock {
+            mode: Mode::Exclusive,
+            range,
+        }
+    }
+
     /// Whether a transaction that holds this lock needs no other for what is asked.
     pub fn covers(&self, asked: &Lock) -> bool
         ensures { result ≡ covers self.now asked.now }

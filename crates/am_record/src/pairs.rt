@@ -1,6 +1,7 @@
 //! Lists of records.
 
 ghost use Rattle.std.specs.Prelude.{◌≡◌, IfOk};
+ghost use Rattle.am_record.specs.Plain.{is_rising};
 
 use crate::key::Key;
 use crate::memory::NoMemory;
@@ -53,6 +54,16 @@ impl Pairs {
         items.extend_from_slice(&self.items)?;
         Ok(Pairs { items })
     }
+}
+
+/// Whether there is a pair and the keys rise strictly.
+pub fn is_rising(pairs: &[(Key, Value)]) -> bool
+    ensures { result ≡ is_rising pairs.now }
+{
+    if pairs.is_empty() {
+        return false;
+    }
+    pairs.is_sorted_by(|a, b| a.0 < b.0)
 }
 
 impl PartialEq for Pairs {

@@ -2,10 +2,8 @@
 
 ghost use Rattle.std.specs.Prelude.{◌≡◌, ◌↔◌, ◌≤◌, IsSome, IfSome, length};
 
+use crate::limits::MAX_VALUE_LEN;
 use std::marker::Model;
-
-/// The most bytes that a value may have.
-pub const MAX_VALUE_LEN: usize = 64;
 
 /// At most 64 bytes. The bytes past its length are zero, so equal values are equal byte by byte.
 #[derive(Clone, Copy, Debug, PartialEq, Eq, PartialOrd, Ord, Hash)]

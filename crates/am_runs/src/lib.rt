@@ -12,5 +12,5 @@ mod walk;
 pub use cut::{MAX_RUN_LEN, cut_runs};
 pub use fault::LoadFault;
 pub use laws::load_follows;
-pub use loading::{MAX_RUNS, load};
-pub use run::{Run, is_rising};
+pub use loading::load;
+pub use run::Run;

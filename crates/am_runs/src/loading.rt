@@ -7,10 +7,7 @@ use crate::look::first_live;
 use crate::run::Run;
 use am_list::PartIndex;
 use am_parts::Parts;
-use am_record::{Refusal, Reply};
-
-/// The most runs that are ever made.
-pub const MAX_RUNS: u32 = 65_535;
+use am_record::{MAX_RUNS, Refusal, Reply};
 
 /// Makes the run a new partition, all of its pairs live in it, and counts it. The caller sees to it
 /// that no entry stands above partition `runs()`.

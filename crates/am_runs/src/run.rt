@@ -4,7 +4,7 @@ ghost use Rattle.std.specs.Prelude.{◌≡◌, ◌↔◌, true, IsOk, IfOk, IfEr
 ghost use Rattle.am_record.specs.Plain.{is_rising};
 
 use crate::fault::LoadFault;
-use am_record::{Key, Value};
+use am_record::{Key, Value, is_rising};
 use std::marker::Model;
 
 /// One record or more, their keys rising strictly.
@@ -25,16 +25,6 @@ impl Model for Run {
     ghost view = { λ r. r.pairs.items };
 
     ghost invariant = { λ r. is_rising r.pairs.items ≡ true };
-}
-
-/// Whether there is a pair and the keys rise strictly.
-pub fn is_rising(pairs: &[(Key, Value)]) -> bool
-    ensures { result ≡ is_rising pairs.now }
-{
-    if pairs.is_empty() {
-        return false;
-    }
-    pairs.is_sorted_by(|a, b| a.0 < b.0)
 }
 
 impl Run {

@@ -8,20 +8,11 @@ ghost use Rattle.am_locks.specs.Answers.{IsLeastOf, MatchBusy};
 
 use crate::transaction::Transaction;
 use am_locks::{Asked, LockTable};
-use am_record::Lock;
+use am_record::{Lock, MAX_ACTIVE, MAX_BEGUN};
 use am_undo::UndoLog;
 use arrayvec::ArrayVec;
 use std::alloc::Global;
 use std::marker::Model;
-
-/// The most transactions that may be active at once.
-pub const MAX_ACTIVE: usize = 64;
-
-/// The most transactions that may ever begin.
-pub const MAX_BEGUN: u64 = 1 << 63;
-
-/// The most operations that a transaction may have.
-pub const MAX_OPS: u64 = 4096;
 
 /// The active transactions, each with its number, its count of operations and its undo log, and
 /// the locks of each.

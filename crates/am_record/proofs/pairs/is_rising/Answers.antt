@@ -3,8 +3,9 @@ use Rattle.std.proofs.lemmas.Bool.{eqb-false}
 use Rattle.std.proofs.lemmas.List.Sorted.{answers_always}
 use Rattle.std.specs.Ordering.{is_lt}
 use Rattle.am_record.specs.OrderedKey.{key_cmp}
-use Rattle.am_runs.proofs.Rising.{Record, adjacent_answer, rising_none, rising_some}
-use Rattle.am_runs.proofs.run.is_rising.Goals as goal
+use Rattle.am_record.proofs.FirstRows.{Record}
+use Rattle.am_record.proofs.Rising.{adjacent_answer, rising_none, rising_some}
+use Rattle.am_record.proofs.pairs.is_rising.Goals as goal
 
 pub returns-then-is_empty : goal.returns-then-is_empty
 returns-then-is_empty c = sym (rising_none c.args.pairs.now (eqb-true _ _ (sym c.is_empty.ensures ∙ c.if-is_empty.true)))

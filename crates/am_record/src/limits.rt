@@ -1,0 +1,28 @@
+//! The limits of the store, each in one place. Definitions have them as numbers, so another limit in the code is refused.
+
+/// The most bytes that a key may have.
+pub const MAX_KEY_LEN: usize = 32;
+
+/// The most bytes that a value may have.
+pub const MAX_VALUE_LEN: usize = 64;
+
+/// The most transactions that are active at once.
+pub const MAX_ACTIVE: usize = 64;
+
+/// The most transactions that are ever begun.
+pub const MAX_BEGUN: u64 = 1 << 63;
+
+/// The most operations that are answered to one transaction.
+pub const MAX_OPS: u64 = 4096;
+
+/// The most locks that a transaction holds.
+pub const MAX_LOCKS: usize = 256;
+
+/// The most rows that a scan may ask for.
+pub const MAX_ROWS: u64 = 1000;
+
+/// The most runs that are ever made.
+pub const MAX_RUNS: u32 = 65_535;
+
+/// The most entries that a merge or a clean step may be asked to work off.
+pub const MAX_LIMIT: u64 = 64;
