@@ -22,7 +22,9 @@ pub(crate) fn refusal<I: PartIndex + Drop>(
 ) -> Option<Refusal>
     ensures { result ≡ refusal_before_lock (is_active txs.now.active tx) (ops_of txs.now.active tx) parts.now.runs op.now }
 {
-    op.refusal(txs.is_active(tx), txs.ops(tx), parts.runs())
+    let is_active = txs.is_active(tx);
+    let ops = if is_active { txs.ops(tx) } else { 0 };
+    op.refusal(is_active, ops, parts.runs())
 }
 
 /// Asks for the lock, if there is one, and answers how many locks the transaction held before.

@@ -42,7 +42,9 @@ fn transact(store: &mut Store<BTree>, ops: Vec<Op>) -> Result<Reply> {
 fn main(rt: HostRuntime) -> Result<()> {
     let alloc = rt.alloc();
     let mut store = Store::open(alloc, BTree::new(alloc)?)?;
-    let fruit = Range::new(key("a")?, key("z")?).context("a range goes from a key to a higher one")?;
+    let fruit = Range::new(key("a")?, key("z")?).context(
+        "a range goes from a key to a higher one",
+    )?;
     let load = Op::Load(run_of(alloc, &PRICES)?);
     if let Reply::Rows(rows) = transact(&mut store, vec![in alloc; load, Op::Scan(fruit, 10)]?)? {
         println!(rt; "{} records, loaded as a run", rows.as_slice().len())?;
@@ -51,7 +53,10 @@ fn main(rt: HostRuntime) -> Result<()> {
         println!(rt; "{entries} of run {run} merged, since the scan asked for them")?;
     }
     let dearer = Op::Replace(key("plum")?, value("10")?);
-    if let Reply::Found(price) = transact(&mut store, vec![in alloc; dearer, Op::Get(key("plum")?)]?)? {
+    if let Reply::Found(price) = transact(
+        &mut store,
+        vec![in alloc; dearer, Op::Get(key("plum")?)]?,
+    )? {
         println!(rt; "plum {}", str::from_utf8(price.bytes())?)?;
     }
     Ok(())

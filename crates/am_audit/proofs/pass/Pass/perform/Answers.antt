@@ -35,7 +35,7 @@ returns-then-is_refusal-clause-takes g c =
 pub returns-clause-takes : goal.returns-clause-takes
 returns-clause-takes g c =
     let answered = sym c.is_refusal.ensures ∙ c.if-is_refusal.false in
-    takes_answer c.args.self.now g.here c.requires.0 c.args.tx c.args.op c.requires.1.1.0 _ c.args.reply c.args.place c.lock_of.result c.requires.1.0 c.lock_of.ensures answered c.in_default.ensures.right
+    takes_answer c.args.self.now g.here c.requires.0 c.args.tx c.args.op c.requires.1.1.0 _ c.args.reply c.args.place c.asked_lock.result c.requires.1.0 c.asked_lock.ensures answered c.in_default.ensures.right
     refl refl (ap (λ n. c.args.self.now.runs + n) c.runs_made-made.ensures)
     (ap (map listed) (items_kept c.args.self.now.active c.keep.new.all c.deref_mut.result.now c.deref_mut.ensures.value c.keep.auto.all) ∙ c.in_ok-keep.ensures ∙ ap (λ all. with_own c.args.tx (c.args.place, (c.args.op, c.args.reply)) (map listed all)) c.deref_mut.ensures.value)
     (c.ask-asked.ensures.granted (c.in_default.ensures.granted answered)) refl

@@ -20,13 +20,13 @@ pub returns-in-Err-clause-says : goal.returns-in-Err-clause-says
 returns-in-Err-clause-says g c =
     let old = c.args.self.now in
     says_lock old.parts old.txs old.wishes old.commits c.args.tx c.args.op c.in-Err.why (sym c.in_default.is ∙ c.refusal.ensures)
-    (subst (λ (a : Option Lock). IsLockRefusal old.txs c.args.tx a c.in-Err.why) c.lock_of.ensures c.in-Err.ensures.refused)
+    (subst (λ (a : Option Lock). IsLockRefusal old.txs c.args.tx a c.in-Err.why) c.asked_lock.ensures c.in-Err.ensures.refused)
 
 pub returns-in-Err-clause-memory : goal.returns-in-Err-clause-memory
 returns-in-Err-clause-memory g c = λ is.
     let old = c.args.self.now in
     wants_lock old.parts old.txs old.wishes old.commits c.args.tx c.args.op c.in-Err.why (sym c.in_default.is ∙ c.refusal.ensures)
-    (subst (λ (a : Option Lock). IsLockRefusal old.txs c.args.tx a c.in-Err.why) c.lock_of.ensures c.in-Err.ensures.refused) is
+    (subst (λ (a : Option Lock). IsLockRefusal old.txs c.args.tx a c.in-Err.why) c.asked_lock.ensures c.in-Err.ensures.refused) is
 
 pub work-requires-clause-back : goal.work-requires-clause-back
 work-requires-clause-back g c =
@@ -45,13 +45,13 @@ cut-requires-clause-active g c =
 pub returns-in_default-work-clause-says : goal.returns-in_default-work-clause-says
 returns-in_default-work-clause-says g c =
     let old = c.args.self.now in
-    let grant = subst (λ (a : Option Lock). IsGranted old.txs c.args.tx a c.ask.new.txs) c.lock_of.ensures c.in-Ok.ensures.granted in
+    let grant = subst (λ (a : Option Lock). IsGranted old.txs c.args.tx a c.ask.new.txs) c.asked_lock.ensures c.in-Ok.ensures.granted in
     says_room old.parts old.txs old.wishes old.commits c.args.tx c.args.op c.work.new.parts (log_of c.ask.new.txs.active c.args.tx) (sym c.in_default.is ∙ c.refusal.ensures) grant.due c.in_default-work.ensures.memory
 
 pub returns-in_default-work-clause-after : goal.returns-in_default-work-clause-after
 returns-in_default-work-clause-after g c =
     let old = c.args.self.now in
-    let grant = subst (λ (a : Option Lock). IsGranted old.txs c.args.tx a c.ask.new.txs) c.lock_of.ensures c.in-Ok.ensures.granted in
+    let grant = subst (λ (a : Option Lock). IsGranted old.txs c.args.tx a c.ask.new.txs) c.asked_lock.ensures c.in-Ok.ensures.granted in
     idle old.parts old.txs old.wishes old.commits c.args.tx c.args.op c.ask.new.txs c.work.new.txs c.cut.new.self c.work.new.parts c.in-Ok.held c.active-active.ensures.consistent grant.locks c.in_default-work.ensures.err c.in-Ok.ensures.held c.cut.ensures
 
 pub returns-in_default-work-clause-memory : goal.returns-in_default-work-clause-memory
@@ -76,12 +76,12 @@ count_op-requires-clause-few g c =
 pub returns-clause-says : goal.returns-clause-says
 returns-clause-says g c =
     let old = c.args.self.now in
-    let grant = subst (λ (a : Option Lock). IsGranted old.txs c.args.tx a c.ask.new.txs) c.lock_of.ensures c.in-Ok.ensures.granted in
+    let grant = subst (λ (a : Option Lock). IsGranted old.txs c.args.tx a c.ask.new.txs) c.asked_lock.ensures c.in-Ok.ensures.granted in
     says_done old.parts old.txs old.wishes old.commits c.args.tx c.args.op c.ask.new.txs c.work.new.txs c.work.new.parts c.in-Ok-work.reply (sym c.in_default.is ∙ c.refusal.ensures) grant c.in-Ok-work.ensures.done
 
 pub returns-clause-after : goal.returns-clause-after
 returns-clause-after g c =
     let old = c.args.self.now in
-    let grant = subst (λ (a : Option Lock). IsGranted old.txs c.args.tx a c.ask.new.txs) c.lock_of.ensures c.in-Ok.ensures.granted in
+    let grant = subst (λ (a : Option Lock). IsGranted old.txs c.args.tx a c.ask.new.txs) c.asked_lock.ensures c.in-Ok.ensures.granted in
     let wish = c.wish_for.ensures ∙ ap (with_wish old.wishes) c.wish_of-wish.ensures in
     after_done old.parts old.txs old.wishes old.commits c.args.tx c.args.op c.ask.new.txs c.work.new.txs c.count_op.new.self c.work.new.parts c.wish_for.new.wishes c.in-Ok-work.reply c.active-active.ensures.consistent grant.locks c.in-Ok-work.ensures.done c.count_op.ensures wish
