@@ -13,7 +13,9 @@ mod value;
 
 pub use entry::Entry;
 pub use key::{Key, MAX_KEY_LEN};
-pub use laws::{keys_are_ordered, ranges_are_sets_of_keys, shared_is_compatible_with_shared};
+pub use laws::{
+    fronts_follow_keys, keys_are_ordered, ranges_are_sets_of_keys, shared_is_compatible_with_shared,
+};
 pub use lock::{Lock, Mode};
 pub use memory::NoMemory;
 pub use pairs::Pairs;
