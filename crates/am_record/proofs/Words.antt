@@ -1,5 +1,5 @@
 -- Lists of bytes, compared eight bytes at a time as numbers.
-use Rattle.std.proofs.Common.{◌≡◌, ℕ, zero, suc, ◌+◌, ◌*◌, ◌<◌, ◌≤◌, List, [], length, get_or, drop, refl, sym, ap, ◌∙◌, arith, drop-cons}
+use Rattle.std.proofs.Common.{◌≡◌, ℕ, zero, suc, ◌+◌, ◌*◌, ◌<◌, ◌≤◌, List, length, get_or, drop, refl, sym, ap, ◌∙◌, arith, drop-cons}
 use Rattle.std.specs.declared.cmp.Ordering.{Ordering}
 use Rattle.std.specs.declared.cmp.Ordering.TheVariants.{Less, Equal, Greater}
 use Rattle.std.specs.Ordering.{nat_cmp, ordering_then, MatchOrdering}
@@ -18,11 +18,11 @@ grown a b u v x y s Equal Equal m n = ap (λ r. ordering_then r s) (sym (nat_cmp
 grown a b u v x y s Equal Greater m n = ap (λ r. ordering_then r s) (sym (nat_cmp_is (a * 256 + u) (b * 256 + v) Greater (omega (arith, m, n))))
 
 -- the number of a and the n bytes from i + k on behind it
-abbrev spelt : List ℕ → ℕ → ℕ → ℕ → ℕ → ℕ
+abbrev pub spelt : List ℕ → ℕ → ℕ → ℕ → ℕ → ℕ
 spelt bs i a k zero = a
 spelt bs i a k (suc n) = spelt bs i (a * 256 + get_or bs (i + k) 0) (suc k) n
 
-word_at-spelt : (bs : List ℕ) (i : ℕ) → word_at bs i ≡ spelt bs i 0 0 8
+pub word_at-spelt : (bs : List ℕ) (i : ℕ) → word_at bs i ≡ spelt bs i 0 0 8
 word_at-spelt bs i = let here : get_or bs (i + 0) 0 ≡ get_or bs i 0 = ap (λ k. get_or bs k 0) (omega arith) in omega (arith, here)
 
 module _ (xs ys : List ℕ) (bx : AreBytes xs) (by : AreBytes ys) where

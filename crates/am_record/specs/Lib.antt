@@ -2,6 +2,7 @@ pub mod PaddedBytes
 pub mod OrderedKey
 pub mod KeyWords
 pub mod KeyFields
+pub mod KeyFront
 pub mod KeyMix
 pub mod Records
 pub mod Interval

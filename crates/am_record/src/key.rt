@@ -1,6 +1,7 @@
 //! Keys. What a key is made of is known here alone: everybody else has their order.
 
 ghost use Rattle.std.specs.Prelude.{◌≡◌, ◌↔◌, ◌+◌, ◌≤◌, IsSome, IfSome, length};
+ghost use Rattle.am_record.specs.KeyFront.{key_front};
 ghost use Rattle.am_record.specs.KeyMix.{mix_in, key_mix};
 ghost use Rattle.am_record.specs.KeyWords.{word_at, words_of, AreBytes};
 ghost use Rattle.am_record.specs.OrderedKey.{key_of, bytes_of, number_key, key_least, IsLeast};
@@ -76,6 +77,14 @@ impl Key {
         &self.bytes[..self.len as usize]
     }
 
+    /// The first eight bytes as a number, the first of them the highest, with zeros behind a shorter key. Where it is below
+    /// another key's, so is the key (`fronts_follow_keys`); where they are equal, it says nothing.
+    pub fn front(&self) -> u64
+        ensures { result ≡ key_front self.now }
+    {
+        word(&self.bytes, 0)
+    }
+
     /// A number that looks drawn at random, the same for equal keys. The key's words are mixed in one after another by
     /// SplitMix64's multiplier (Steele, Lea and Flood, 2014). It has no secret: keys can be chosen that meet in a number.
     pub fn mixed(&self) -> u64
@@ -102,7 +111,8 @@ impl Key {
 // The eight bytes from `at` on as a number, the first of them the highest.
 fn word(bytes: &[u8; 32], at: usize) -> u64
     requires { at + 8 ≤ 32 }
-    ensures { result ≡ word_at bytes.now at }
+    ensures value { result ≡ word_at bytes.now at }
+    ensures bytes { AreBytes bytes.now }
 {
     u64::from_be_bytes([
         bytes[at],

@@ -1,9 +1,11 @@
 //! What holds of keys, whatever makes them, and what the tests of ranges and modes mean.
 
 ghost use Rattle.std.specs.Prelude.{◌≡◌, ◌↔◌, ℕ, List, ◌<◌, ◌^◌, true};
+ghost use Rattle.std.specs.declared.cmp.Ordering.TheVariants.{Less};
 ghost use Rattle.std.specs.Ordering.{nat_cmp};
 ghost use Rattle.std.specs.Cmp.Lexicographic.{slice_cmp};
 ghost use Rattle.am_record.specs.OrderedKey.{OrderedKey, key_cmp, key_of, number_key};
+ghost use Rattle.am_record.specs.KeyFront.{key_front};
 ghost use Rattle.am_record.specs.Interval.{Interval, IsOrdered, within, meets, encloses};
 ghost use Rattle.am_record.specs.Locks.{are_compatible};
 ghost use Rattle.am_record.specs.declared.lock.Mode.{Mode};
@@ -14,6 +16,11 @@ pub fn keys_are_ordered()
     ensures by_bytes { (a b : List ℕ) → key_cmp (key_of a) (key_of b) ≡ slice_cmp nat_cmp a b }
     ensures by_numbers { (a b : ℕ) → a < 2 ^ 64 → b < 2 ^ 64 →
         key_cmp (number_key a) (number_key b) ≡ nat_cmp a b }
+{}
+
+/// Where the number of one key's first eight bytes is below another's, so is the key.
+pub fn fronts_follow_keys()
+    ensures { (a b : OrderedKey) → key_front a < key_front b → key_cmp a b ≡ Less }
 {}
 
 /// Two ranges meet exactly where they have a key in common, and one encloses the other exactly where it

@@ -15,7 +15,9 @@ mod value;
 
 pub use entry::Entry;
 pub use key::Key;
-pub use laws::{keys_are_ordered, ranges_are_sets_of_keys, shared_is_compatible_with_shared};
+pub use laws::{
+    fronts_follow_keys, keys_are_ordered, ranges_are_sets_of_keys, shared_is_compatible_with_shared,
+};
 pub use limits::{
     MAX_ACTIVE, MAX_BEGUN, MAX_KEY_LEN, MAX_LIMIT, MAX_LOCKS, MAX_OPS, MAX_ROWS, MAX_RUNS,
     MAX_VALUE_LEN,
