@@ -1,5 +1,6 @@
 -- A seat after a call.
 use Rattle.std.proofs.Common.{◌≡◌, ℕ, ◌+◌, ◌<◌, ◌≤◌, List, [], ◌∷◌, ◌++◌, Option, Some, None, refl, sym, ap, ◌∙◌, subst, arith, add_assoc, add-zero, zero-add}
+use Rattle.am_record.specs.Sessions.{IsAllowed}
 use Rattle.am_record.specs.declared.step.Step.{Step}
 use Rattle.am_record.specs.declared.step.Step.TheVariants.{Begin, Do, Commit, Abort, Merge, Clean}
 use Rattle.am_record.specs.declared.step.Reply.{Reply}
@@ -8,7 +9,7 @@ use Rattle.am_latch.specs.declared.change.Change.TheVariants.{Ends}
 use Rattle.am_latch.specs.Changes.{change, end_of, opened, moves_in}
 use Rattle.am_latch.specs.declared.receipt.Receipt.{Receipt}
 use Rattle.am_latch.specs.Receipts.{moved_in}
-use Rattle.am_latch.specs.Ties.{MayTake, Ended, HasRoom, places, places_with}
+use Rattle.am_latch.specs.Ties.{Ended, HasRoom, places, places_with}
 
 any_room : (o : Option ℕ) (len cap : ℕ) → len + 2 ≤ cap → len < 1000000 → HasRoom o (len + 1) cap
 any_room None len cap more few = omega arith
@@ -31,7 +32,7 @@ end_room o e t len cap is ends h =
     let here : HasRoom (Some t) len cap = subst (λ (p : Option ℕ). HasRoom p len cap) is h in
     subst (λ (p : Change). HasRoom (opened o p) (len + 1) cap) (sym ends) (omega (arith, here.1))
 
-pub room_after : (o : Option ℕ) (st : Step) (r : Reply) (len cap : ℕ) → MayTake o st → Ended st r → HasRoom o len cap → len + places o st ≤ cap → (end_of st ≡ None → len < 1000000) → HasRoom (opened o (change st r)) (len + 1) cap
+pub room_after : (o : Option ℕ) (st : Step) (r : Reply) (len cap : ℕ) → IsAllowed o st → Ended st r → HasRoom o len cap → len + places o st ≤ cap → (end_of st ≡ None → len < 1000000) → HasRoom (opened o (change st r)) (len + 1) cap
 room_after o Begin r len cap may ended h more few = any_room (opened o (change Begin r)) len cap more (few refl)
 room_after o (Do t op) r len cap may ended h more few = with_room o len cap h more (few refl)
 room_after o (Commit t) r len cap may ended h more few = end_room o (change (Commit t) r) t len cap may (ended t refl) h

@@ -2,6 +2,7 @@
 use Rattle.std.proofs.Common.{◌≡◌, ◌≢◌, ℕ, ◌+◌, ◌==◌, if◌then◌else◌, List, [], ◌∷◌, ◌++◌, length, Bool, true, false, not, ◌||◌, Option, Some, None, refl, sym, ap, ◌∙◌, subst, eq-eqb, zero-add}
 use Rattle.std.proofs.lemmas.Bool.{eqb-true, eqb-false}
 use Rattle.std.proofs.lemmas.List.Folds.{list_any-append}
+use Rattle.am_record.specs.Sessions.{IsAllowed}
 use Rattle.am_record.specs.declared.step.Step.{Step}
 use Rattle.am_record.specs.declared.step.Step.TheVariants.{Begin, Do, Commit, Abort, Merge, Clean}
 use Rattle.am_record.specs.declared.step.Reply.{Reply}
@@ -12,7 +13,7 @@ use Rattle.am_latch.specs.declared.receipt.Receipt.{Receipt}
 use Rattle.am_latch.specs.declared.receipt.Maker.{Maker}
 use Rattle.am_latch.specs.Traces.{Engined, longer}
 use Rattle.am_latch.specs.Receipts.{receipt, receipts_of}
-use Rattle.am_latch.specs.Ties.{open_from, open_of, MayTake, AreTied, open_in, Tied}
+use Rattle.am_latch.specs.Ties.{open_from, open_of, AreTied, open_in, Tied}
 use Rattle.am_latch.proofs.Places.{mine_more, others_same}
 use Rattle.am_latch.proofs.Replies.{begins_begin, ends_end}
 use Rattle.am_latch.proofs.Storing.{active_from-snoc}
@@ -107,7 +108,7 @@ tied_by o p ts s (Ends t) h mine others begin end = tied_end o p ts s t h mine o
 tied_by o p ts s Nothing h mine others begin end = tied_same o p ts h (λ k. same_or k s (λ x. ap p x ∙ mine ∙ ap o (sym x)) (others k))
 
 -- a seat begins where nothing is open in it, and ends what is
-begins_free : (o : Option ℕ) (st : Step) (r : Reply) (t : ℕ) → MayTake o st → change st r ≡ Begins t → o ≡ None
+begins_free : (o : Option ℕ) (st : Step) (r : Reply) (t : ℕ) → IsAllowed o st → change st r ≡ Begins t → o ≡ None
 begins_free o Begin r t may e = may
 begins_free o (Do u op) r t may e = absurd (cc)
 begins_free o (Commit u) r t may e = let b = begins_begin (Commit u) r t e in let x = b.0 in absurd (cc)
@@ -115,7 +116,7 @@ begins_free o (Abort u) r t may e = let b = begins_begin (Abort u) r t e in let 
 begins_free o (Merge n) r t may e = absurd (cc)
 begins_free o (Clean range n) r t may e = absurd (cc)
 
-pub end_is_open : (o : Option ℕ) (st : Step) (t : ℕ) → MayTake o st → end_of st ≡ Some t → o ≡ Some t
+pub end_is_open : (o : Option ℕ) (st : Step) (t : ℕ) → IsAllowed o st → end_of st ≡ Some t → o ≡ Some t
 end_is_open o Begin t may e = absurd (cc)
 end_is_open o (Do u op) t may e = absurd (cc)
 end_is_open o (Commit u) t may e = may ∙ e
@@ -128,7 +129,7 @@ open_from-snoc o [] x = refl
 open_from-snoc o (r ∷ rs) x = open_from-snoc (opened o (change r.step r.reply)) rs x
 
 -- the seats' transactions are still the active ones
-pub tied_more : (e : Engined) (m : Maker) (st : Step) (r : Reply) → length e.makers ≡ length e.trace → Tied e → MayTake (open_in e m.seat) st → Answers (active e.trace) st r → Tied (longer e m st r)
+pub tied_more : (e : Engined) (m : Maker) (st : Step) (r : Reply) → length e.makers ≡ length e.trace → Tied e → IsAllowed (open_in e m.seat) st → Answers (active e.trace) st r → Tied (longer e m st r)
 tied_more e m st r even h may a =
     let mine = ap open_of (mine_more m.seat 0 0 (length e.trace) e.trace e.makers st r m even refl (sym (zero-add (length e.trace)))) ∙ open_from-snoc None (receipts_of m.seat e) (receipt m.seat (0 + length (receipts_of m.seat e)) st r (length e.trace)) in
     subst (AreTied (open_in (longer e m st r))) (sym (active_from-snoc [] e.trace (st, r)))
@@ -138,5 +139,5 @@ tied_more e m st r even h may a =
     (λ t x. end_is_open (open_in e m.seat) st t may (ends_end r st t x)))
 
 -- what a seat ends is active
-pub ends_active : (e : Engined) (k : ℕ) (st : Step) (r : Reply) → Tied e → MayTake (open_in e k) st → Answers (active e.trace) st r → (t : ℕ) → end_of st ≡ Some t → change st r ≡ Ends t
+pub ends_active : (e : Engined) (k : ℕ) (st : Step) (r : Reply) → Tied e → IsAllowed (open_in e k) st → Answers (active e.trace) st r → (t : ℕ) → end_of st ≡ Some t → change st r ≡ Ends t
 ends_active e k st r h may a t x = a.ended t x (h.active k t (end_is_open (open_in e k) st t may x))

@@ -18,15 +18,6 @@ open_from o (r ∷ rs) = open_from (opened o (change r.step r.reply)) rs
 abbrev pub open_of : List Receipt → Option ℕ
 open_of rs = open_from None rs
 
--- the steps that a seat with this open transaction may take
-abbrev pub MayTake : Option ℕ → Step → Type 0
-MayTake o Begin = o ≡ None
-MayTake o (Do t op) = o ≡ Some t
-MayTake o (Commit t) = o ≡ Some t
-MayTake o (Abort t) = o ≡ Some t
-MayTake o (Merge limit) = Unit {0}
-MayTake o (Clean range limit) = Unit {0}
-
 -- a Commit was answered Committed, an Abort Aborted
 abbrev pub Ended : Step → Reply → Type 0
 Ended st r = (t : ℕ) → end_of st ≡ Some t → change st r ≡ Ends t

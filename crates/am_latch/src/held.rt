@@ -1,12 +1,13 @@
 //! What lies under the latch: the engine, with the token that knows its trace.
 ghost use Rattle.std.specs.Prelude.{◌≡◌, ◌≢◌, ◌<◌, [], ◌∷◌, ◌++◌, length, MatchBool};
+ghost use Rattle.am_record.specs.Sessions.{IsAllowed};
 ghost use Rattle.am_record.specs.declared.step.Reply.TheVariants.{Refused};
 ghost use Rattle.am_record.specs.declared.step.Refusal.TheVariants.{SeatFull};
 ghost use Rattle.am_latch.specs.Changes.{is_stored};
 ghost use Rattle.am_latch.specs.Changes.{Bounded};
 ghost use Rattle.am_latch.specs.Traces.{Engined, fresh, Stepped, AllBelow};
 ghost use Rattle.am_latch.specs.Receipts.{receipt};
-ghost use Rattle.am_latch.specs.Ties.{open_of, MayTake, Ended, Tied};
+ghost use Rattle.am_latch.specs.Ties.{open_of, Ended, Tied};
 ghost use Rattle.am_latch.specs.Book.{keeper, sitter, IsSitter};
 
 use crate::book::{Board, Token, View};
@@ -74,7 +75,7 @@ impl<L: Naming> Held<L> {
     ) -> Reply
         requires board { (board.now.shared.table_id ≡ L.table) × (0 < board.now.shared.table_id.words) × (token.old.table_id ≡ L.table) }
         requires token { IsSitter token.old.me.0 × (maker.seat ≡ token.old.me.0.seat) × (maker.seat < L.seats) }
-        requires may { MayTake (open_of token.old.me.0.mine) step }
+        requires may { IsAllowed (open_of token.old.me.0.mine) step }
         requires kept { kept.now ≡ step }
         ensures stepped { Stepped self.old maker step result self.new }
         ensures never_full { result ≢ Refused SeatFull }

@@ -1,11 +1,12 @@
 //! A seat, which keeps a receipt for each of its calls.
 ghost use Rattle.std.specs.Prelude.{◌≡◌, ◌≢◌, ◌↔◌, ◌<◌, ◌≤◌, ◌+◌, [], length, IsSome, Some, None, true, vec_len, vec_capacity};
+ghost use Rattle.am_record.specs.Sessions.{IsAllowed};
 ghost use Rattle.am_record.specs.declared.step.Reply.TheVariants.{Refused};
 ghost use Rattle.am_record.specs.declared.step.Refusal.TheVariants.{SeatFull};
 ghost use Rattle.am_latch.specs.Changes.{end_of, is_stored, opened};
 ghost use Rattle.am_latch.specs.Changes.{Bounded};
 ghost use Rattle.am_latch.specs.Receipts.{Seated, new_seat, Called, receipts_of, moved_in, last_commit_of};
-ghost use Rattle.am_latch.specs.Ties.{open_of, MayTake, Ended, places};
+ghost use Rattle.am_latch.specs.Ties.{open_of, Ended, places};
 ghost use Rattle.am_latch.specs.Traces.{Stepped};
 ghost use Rattle.am_latch.specs.Book.{sitter, keeper, log_of, IsKeeper};
 
@@ -115,7 +116,7 @@ impl<L: Naming> Seat<L> {
     /// gets neither: its room is kept from the Begin on.
     #[inline(never)]
     pub fn call<R: Wait>(&mut self, rt: &R, latch: &Latch<L>, step: Step) -> Reply
-        requires { MayTake (open_of self.old.receipts) step }
+        requires { IsAllowed (open_of self.old.receipts) step }
         ensures called { Called self.old step result self.new }
         ensures full { (result ≡ Refused SeatFull) ↔ ((1000000 ≤ length self.old.receipts) × (end_of step ≡ None)) }
         ensures ended { Ended step result }
@@ -131,7 +132,7 @@ impl<L: Naming> Seat<L> {
     // Takes a step under the latch.
     fn call_under(&mut self, board: &Board, held: &mut Held<L>, step: Step) -> Reply
         requires board { (board.now.shared.table_id ≡ L.table) × (0 < board.now.shared.table_id.words) }
-        requires may { MayTake (open_of self.old.receipts) step }
+        requires may { IsAllowed (open_of self.old.receipts) step }
         requires room { end_of step ≡ None → length self.old.receipts < 1000000 }
         ensures called { Called self.old step result self.new }
         ensures never_full { result ≢ Refused SeatFull }

@@ -13,3 +13,4 @@ pub mod Plain
 pub mod Asks
 pub mod Copies
 pub mod Refusals
+pub mod Sessions

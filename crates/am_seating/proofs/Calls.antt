@@ -3,6 +3,7 @@ use Rattle.std.proofs.Common.{◌≡◌, ℕ, List, [], ◌∷◌, ◌++◌, Boo
 use Rattle.std.specs.Prelude.{MatchBool, slice_get}
 use Rattle.std.proofs.lemmas.Option.{slice_get-get_or}
 use Rattle.std.proofs.Math.Seq.{get_or-append_seam}
+use Rattle.am_record.specs.Sessions.{IsAllowed, active_after}
 use Rattle.am_record.specs.declared.step.Step.{Step}
 use Rattle.am_record.specs.declared.step.Step.TheVariants.{Begin, Do, Commit, Abort, Merge, Clean}
 use Rattle.am_record.specs.declared.step.Reply.{Reply}
@@ -11,12 +12,11 @@ use Rattle.am_latch.specs.declared.receipt.Receipt.{Receipt}
 use Rattle.am_latch.specs.declared.change.Change.TheVariants.{Ends}
 use Rattle.am_latch.specs.Changes.{change, opened, is_stored, Fits, Bounded}
 use Rattle.am_latch.specs.Receipts.{Seated, receipt, Receives, Called, commit_in, last_commit_of}
-use Rattle.am_latch.specs.Ties.{open_from, open_of, MayTake}
+use Rattle.am_latch.specs.Ties.{open_from, open_of}
 use Rattle.am_latch.specs.Ties.{Ended as IsEnded}
-use Rattle.am_talk.specs.Session.{active_after}
-use Rattle.am_talk.specs.Dues.{IsAllowed, EndsAbort}
+use Rattle.am_talk.specs.Dues.{EndsAbort}
 
-pub may_take : (o : Option ℕ) (st : Step) → IsAllowed o st → MayTake o st
+pub may_take : (o : Option ℕ) (st : Step) → IsAllowed o st → IsAllowed o st
 may_take o Begin h = h
 may_take o (Do t op) h = h
 may_take o (Commit t) h = h

@@ -4,6 +4,7 @@ use Rattle.std.specs.Prelude.{MatchOption, MatchBool, if◌then◌else◌}
 use Rattle.std.specs.FinMap.{get, contains_key}
 use Rattle.std.proofs.lemmas.Bool.{or_left, or_right, true≢false, eq-eqb}
 use Rattle.std.proofs.lemmas.List.Folds.{list_any-append}
+use Rattle.am_record.specs.Sessions.{IsAllowed, active_after}
 use Rattle.am_record.specs.OrderedKey.{OrderedKey}
 use Rattle.am_record.specs.Interval.{Interval}
 use Rattle.am_record.specs.Plain.{PlainMap, found, exists_or_done, least_taken}
@@ -24,8 +25,8 @@ use Rattle.am_effect.specs.Merging.{Holders, candidates, AnswersFirst, AnswersCa
 use Rattle.am_effect.specs.Store.{WithinLimit}
 use Rattle.am_serial.specs.Machine.{is_limit}
 use Rattle.am_sound.specs.StoreState.{Active, StoreState, is_in, in_table, newcomer, refusal_in, takes_memory, MayAnswer, with_op, state_after_op, state_after}
-use Rattle.am_talk.specs.Session.{SessionState, active_after, behind}
-use Rattle.am_talk.specs.Dues.{IsAllowed, EndsAbort}
+use Rattle.am_talk.specs.Session.{SessionState, behind}
+use Rattle.am_talk.specs.Dues.{EndsAbort}
 use Rattle.am_talk.specs.Dialogue.{commits_after}
 use Rattle.am_session.specs.Solo.{IsOpen}
 

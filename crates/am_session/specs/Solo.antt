@@ -1,6 +1,7 @@
 -- A session on a store of its own.
 use Rattle.std.specs.Prelude.{◌≡◌, ℕ, List, [], ◌∷◌, true, Option, Some, None, All, refl}
 use Rattle.std.specs.Coded.{Coded, code_by, coded×, coded_ℕ, coded_option}
+use Rattle.am_record.specs.Sessions.{active_after}
 use Rattle.am_record.specs.declared.step.Step.{Step}
 use Rattle.am_record.specs.declared.step.Reply.{Reply}
 use Rattle.am_serial.specs.Trace.{Trace}
@@ -9,7 +10,7 @@ use Rattle.am_sound.specs.Right.{IsSoundStore}
 use Rattle.am_sound.specs.StoreState.{StoreState, is_in, MayAnswer, state_after}
 use Rattle.am_core.specs.Keeping.{state_code}
 use Rattle.am_core.specs.Standing.{Extends}
-use Rattle.am_talk.specs.Session.{at_start, active_after}
+use Rattle.am_talk.specs.Session.{at_start}
 use Rattle.am_talk.specs.Dialogue.{Exchange, Ends, Dialogue}
 use Rattle.am_talk.specs.Responses.{response_text}
 use Rattle.am_talk.specs.Say.{Says}

@@ -1,10 +1,10 @@
 //! What a session stands on.
 
 ghost use Rattle.std.specs.Prelude.{◌≡◌, ℕ, Option};
+ghost use Rattle.am_record.specs.Sessions.{IsAllowed, active_after};
 ghost use Rattle.am_record.specs.declared.step.Step.{Step};
 ghost use Rattle.am_record.specs.declared.step.Reply.{Reply};
-ghost use Rattle.am_talk.specs.Dues.{IsAllowed, EndsAbort};
-ghost use Rattle.am_talk.specs.Session.{active_after};
+ghost use Rattle.am_talk.specs.Dues.{EndsAbort};
 
 use am_record::{Reply, Step};
 use std::sync::Wait;

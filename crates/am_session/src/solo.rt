@@ -1,9 +1,9 @@
 //! A store as its only session sees it.
 
+ghost use Rattle.am_record.specs.Sessions.{IsAllowed, active_after};
 ghost use Rattle.std.specs.Prelude.{◌≡◌, None, IfOk};
 ghost use Rattle.am_sound.specs.StoreState.{empty_state};
-ghost use Rattle.am_talk.specs.Dues.{IsAllowed, EndsAbort};
-ghost use Rattle.am_talk.specs.Session.{active_after};
+ghost use Rattle.am_talk.specs.Dues.{EndsAbort};
 ghost use Rattle.am_session.specs.Solo.{active_in, SoloGoes, SoloTells};
 
 use crate::backend::Backend;

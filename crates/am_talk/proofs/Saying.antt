@@ -4,6 +4,7 @@ use Rattle.std.specs.Prelude.{option_map}
 use Rattle.std.proofs.lemmas.Bool.{false≢true, eq-eqb}
 use Rattle.std.proofs.lemmas.Option.{none-some, same_Some}
 use Rattle.std.proofs.lemmas.List.{length-map, map-append}
+use Rattle.am_record.specs.Sessions.{active_after}
 use Rattle.am_record.specs.OrderedKey.{OrderedKey}
 use Rattle.am_record.specs.Records.{Records}
 use Rattle.std.specs.FinMap.{get, contains_key}
@@ -19,7 +20,7 @@ use Rattle.am_serial.specs.Trace.{Answered, ops_of, Answers, Commits, Aborts, ef
 use Rattle.am_serial.specs.Machine as machine
 use Rattle.am_record.specs.Refusals.{refusal_before_lock, or_else, lock_refusal, is_one_too_many, is_bounded, is_load}
 use Rattle.am_serial.specs.Machine.{Transaction, due, due_early, due_lock, blocker, next, Runs, May, view}
-use Rattle.am_talk.specs.Session.{active_after, staged_after}
+use Rattle.am_talk.specs.Session.{staged_after}
 use Rattle.am_talk.specs.Dialogue.{Standing}
 use Rattle.am_talk.specs.Say as say
 use Rattle.am_talk.specs.Say.{refusal_due, reply_due, begin_due, state_did, wants_memory}

@@ -1,5 +1,6 @@
 -- What is due for a line, by where the session stands, and where it stands then.
 use Rattle.std.specs.Prelude.{◌≡◌, ◌⊎◌, ℕ, ◌+◌, nat_le, length, [], ◌∷◌, ◌++◌, Bool, true, false, cond, Option, Some, None, Result, Ok, Err}
+use Rattle.am_record.specs.Sessions.{IsAllowed}
 use Rattle.am_record.specs.Records.{Records}
 use Rattle.am_record.specs.declared.step.Op.{Op}
 use Rattle.am_record.specs.declared.step.Op.TheVariants.{Load}
@@ -110,15 +111,6 @@ MayLoad s records (Ok all) s' = (all ≡ s.staged ++ records) × (s' ≡ record 
 MayLoad s records (Err e) s' = (some_wait s.staged ≡ true) × (s' ≡ s)
 
 -- ---- steps
-
--- a Begin where no transaction is active, and what is done in one of the active one alone
-abbrev pub IsAllowed : Option ℕ → Step → Type 0
-IsAllowed active step.Begin = active ≡ None
-IsAllowed active (step.Do tx op) = active ≡ Some tx
-IsAllowed active (step.Commit tx) = active ≡ Some tx
-IsAllowed active (step.Abort tx) = active ≡ Some tx
-IsAllowed active (step.Merge limit) = Unit {0}
-IsAllowed active (step.Clean range limit) = Unit {0}
 
 abbrev pub IsAllowedDue : Option ℕ → Due → Type 0
 IsAllowedDue active (Take step) = IsAllowed active step

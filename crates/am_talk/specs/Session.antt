@@ -1,6 +1,7 @@
 -- Where a session stands between two lines.
 use Rattle.std.specs.Prelude.{ℕ, [], Option, Some, None, refl}
 use Rattle.std.specs.Coded.{Coded, code_by, coded×, coded_ℕ, coded_option}
+use Rattle.am_record.specs.Sessions.{active_after}
 use Rattle.am_record.specs.Records.{Records, records_code}
 use Rattle.am_record.specs.declared.step.Reply.{Reply}
 use Rattle.am_record.specs.declared.step.Reply.TheVariants.{Begun, Committed, Aborted}
@@ -15,13 +16,6 @@ session_code = code_by (Option ℕ × Records) (coded× (coded_option coded_ℕ)
 
 abbrev pub at_start : SessionState
 at_start = record { active = None; staged = [] }
-
--- which transaction is active behind a reply
-abbrev pub active_after : Option ℕ → Reply → Option ℕ
-active_after active (Begun tx) = Some tx
-active_after active (Committed number) = None
-active_after active Aborted = None
-active_after active _ = active
 
 -- what waits ends with its transaction
 abbrev pub staged_after : Records → Reply → Records

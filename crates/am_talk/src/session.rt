@@ -1,7 +1,8 @@
 //! Where a session stands between two lines, and what is due for the next one.
 
+ghost use Rattle.am_record.specs.Sessions.{active_after};
 ghost use Rattle.std.specs.Prelude.{◌≡◌, ◌≤◌, ℕ, Some, [], length};
-ghost use Rattle.am_talk.specs.Session.{at_start, active_after, behind};
+ghost use Rattle.am_talk.specs.Session.{at_start, behind};
 ghost use Rattle.am_talk.specs.Dues.{MayBeDue, MayBeAsked, MayStage, MayLoad, IsAllowedDue};
 
 use crate::due::Due;

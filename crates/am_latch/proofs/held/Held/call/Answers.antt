@@ -1,8 +1,9 @@
+use Rattle.am_record.specs.Sessions.{IsAllowed}
 use Rattle.std.proofs.Common.{rules, ap, sym, subst, ◌≡◌, ◌∙◌, [], ◌∷◌, List, length}
 use Rattle.am_latch.specs.declared.receipt.Receipt.{Receipt}
 use Rattle.am_latch.specs.Traces.{Engined, longer, AllBelow}
 use Rattle.am_latch.specs.Receipts.{receipts_of}
-use Rattle.am_latch.specs.Ties.{open_of, open_in, MayTake, Tied}
+use Rattle.am_latch.specs.Ties.{open_of, open_in, Tied}
 use Rattle.am_latch.specs.Book.{keeper, log_of}
 use Rattle.am_latch.specs.declared.book.View.{View}
 use Rattle.am_latch.proofs.Holding.{grown, below-snoc, only}
@@ -15,7 +16,7 @@ returns-then-not-was_stored-clause-ended g c =
     let e = c.self.inside.engine in
     let book = only _ _ (sym c.into_seat-book.ensures.2 ∙ ap (λ b. b.views) c.replace.ensures.value ∙ i.1) in
     let known : c.args.token.now.me.0.mine ≡ receipts_of c.args.maker.seat e = c.check-book.ensures.known ∙ (λ j. receipts_of (sym c.requires.token.1 j) (log_of (book j))) in
-    let may : MayTake (open_in e c.args.maker.seat) c.args.step = subst (λ (rs : List Receipt). MayTake (open_of rs) c.args.step) known c.requires.may in
+    let may : IsAllowed (open_in e c.args.maker.seat) c.args.step = subst (λ (rs : List Receipt). IsAllowed (open_of rs) c.args.step) known c.requires.may in
     ends_active e c.args.maker.seat c.args.step c.step-reply.result i.3 may c.step-reply.ensures.answers
 
 pub returns-clause-ended : goal.returns-clause-ended
@@ -24,7 +25,7 @@ returns-clause-ended g c =
     let e = c.self.inside.engine in
     let book = only _ _ (sym c.into_seat-book.ensures.2 ∙ ap (λ b. b.views) c.replace.ensures.value ∙ i.1) in
     let known : c.args.token.now.me.0.mine ≡ receipts_of c.args.maker.seat e = c.check-book.ensures.known ∙ (λ j. receipts_of (sym c.requires.token.1 j) (log_of (book j))) in
-    let may : MayTake (open_in e c.args.maker.seat) c.args.step = subst (λ (rs : List Receipt). MayTake (open_of rs) c.args.step) known c.requires.may in
+    let may : IsAllowed (open_in e c.args.maker.seat) c.args.step = subst (λ (rs : List Receipt). IsAllowed (open_of rs) c.args.step) known c.requires.may in
     ends_active e c.args.maker.seat c.args.step c.step-reply.result i.3 may c.step-reply.ensures.answers
 
 pub invariant_of-self-2 : goal.invariant_of-self-2
@@ -36,7 +37,7 @@ invariant_of-self-2 g c =
     let book = only _ _ (sym c.into_seat-book.ensures.2 ∙ ap (λ b. b.views) c.replace.ensures.value ∙ i.1) in
     let again : c.check-book.result.me.0 ≡ keeper e = ap (λ m. m.0) c.check-book.ensures.same.3 ∙ book in
     let known : c.args.token.now.me.0.mine ≡ receipts_of c.args.maker.seat e = c.check-book.ensures.known ∙ (λ j. receipts_of (sym c.requires.token.1 j) (log_of (book j))) in
-    let may : MayTake (open_in e c.args.maker.seat) c.args.step = subst (λ (rs : List Receipt). MayTake (open_of rs) c.args.step) known c.requires.may in
+    let may : IsAllowed (open_in e c.args.maker.seat) c.args.step = subst (λ (rs : List Receipt). IsAllowed (open_of rs) c.args.step) known c.requires.may in
     let even : length e.makers ≡ length e.trace = sym (ap length c.makers-makers.ensures.makers) ∙ c.makers-makers.ensures.each in
     let entered = ap (λ m. m.0) c.enter.ensures.book in (
       search rules,

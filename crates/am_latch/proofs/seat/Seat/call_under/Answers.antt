@@ -1,9 +1,10 @@
 use Rattle.std.proofs.Common.{rules, arith, length, ap, sym, subst, ◌≡◌, ◌∙◌, ◌+◌, ◌<◌, ℕ, List, [], ◌∷◌, ◌++◌, Option, None, vec_len, vec_capacity}
+use Rattle.am_record.specs.Sessions.{IsAllowed}
 use Rattle.am_record.specs.declared.step.Step.{Step}
 use Rattle.am_latch.specs.Changes.{change, end_of, opened}
 use Rattle.am_latch.specs.declared.receipt.Receipt.{Receipt}
 use Rattle.am_latch.specs.Receipts.{Seated, receipt, moved_in}
-use Rattle.am_latch.specs.Ties.{open_of, MayTake, HasRoom}
+use Rattle.am_latch.specs.Ties.{open_of, HasRoom}
 use Rattle.am_latch.proofs.Calling.{received}
 use Rattle.am_latch.proofs.Seats.{room_after, wider, moved_in-snoc}
 use Rattle.am_latch.proofs.Tying.{open_from-snoc}
@@ -19,7 +20,7 @@ invariant_of-self-2 g c =
     let st = c.args.step in
     let r = c.call-reply.result in
     let was : old.items ≡ c.args.self.now.receipts = ap (λ (s : Seated). s.receipts) c.self.view_is in
-    let may : MayTake c.self.inside.open_now st = subst (λ (o : Option ℕ). MayTake o st) (ap open_of (sym was) ∙ sym i.3) c.requires.may in
+    let may : IsAllowed c.self.inside.open_now st = subst (λ (o : Option ℕ). IsAllowed o st) (ap open_of (sym was) ∙ sym i.3) c.requires.may in
     let few : (end_of st ≡ None) → vec_len old < 1000000 = λ e. let f = c.requires.room e in omega (arith, ap (λ (l : List Receipt). length l) was) in
     let kept = c.in-Some.ensures.copies.0 in
     let done : c.change_by.result ≡ change st r = c.change_by.ensures ∙ ap (λ (s : Step). change s r) kept in

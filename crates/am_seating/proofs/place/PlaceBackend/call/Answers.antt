@@ -1,5 +1,5 @@
+use Rattle.am_record.specs.Sessions.{active_after}
 use Rattle.std.proofs.Common.{◌∙◌, ap}
-use Rattle.am_talk.specs.Session.{active_after}
 use Rattle.am_seating.specs.Places.{Placed, open_in}
 use Rattle.am_seating.proofs.Calls.{active_behind}
 use Rattle.am_seating.proofs.place.PlaceBackend.call.Goals as goal

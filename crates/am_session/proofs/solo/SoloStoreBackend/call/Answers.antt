@@ -1,7 +1,6 @@
+use Rattle.am_record.specs.Sessions.{IsAllowed, active_after}
 use Rattle.std.proofs.Common.{◌≡◌, ℕ, Option, sym, ap, subst}
 use Rattle.am_sound.specs.StoreState.{StoreState}
-use Rattle.am_talk.specs.Session.{active_after}
-use Rattle.am_talk.specs.Dues.{IsAllowed}
 use Rattle.am_session.specs.Solo.{Solo, IsOpen}
 use Rattle.am_session.proofs.Solos.{stays_open}
 use Rattle.am_session.proofs.solo.SoloStoreBackend.call.Goals as goal
