@@ -1,5 +1,5 @@
 -- The first record whose key passes a test, among records whose keys rise.
-use Rattle.std.proofs.Common.{◌≡◌, ℕ, Bool, true, false, List, [], ◌∷◌, filter, Option, Some, None, refl, sym, ap, ◌∙◌, subst, ⊎_elim}
+use Rattle.std.proofs.Common.{◌≡◌, ℕ, Bool, true, false, List, [], ◌∷◌, filter, Some, None, refl, sym, ap, ◌∙◌, subst, ⊎_elim}
 use Rattle.std.specs.Prelude.{is_some}
 use Rattle.std.proofs.lemmas.Bool.{cases_Bool, cond-true, cond-false, and_parts, true≢false, false≢true}
 use Rattle.std.proofs.lemmas.Option.{none-some, same_Some}
@@ -12,14 +12,10 @@ use Rattle.am_record.specs.OrderedKey.{OrderedKey, key_cmp, key_cmp-total, key_c
 use Rattle.am_record.specs.Interval.{key_le, key_le-itself}
 use Rattle.am_record.specs.Records.{Records}
 use Rattle.am_record.specs.Plain.{first_key}
+use Rattle.am_record.proofs.Orderings.{is_less}
 
 abbrev pub Record : Type 0
 Record = OrderedKey × List ℕ
-
-is_less : (o : Ordering) → is_lt o ≡ true → o ≡ Less
-is_less Less h = refl
-is_less Equal h = absurd (true≢false (sym h))
-is_less Greater h = absurd (true≢false (sym h))
 
 below_parts : (k : OrderedKey) (r : Record) (rs : Records) → below_all key_cmp k (r ∷ rs) ≡ true → (is_lt (key_cmp k r.0) ≡ true) × (below_all key_cmp k rs ≡ true)
 below_parts k r rs h = and_parts (is_lt (key_cmp k r.0)) (below_all key_cmp k rs) h

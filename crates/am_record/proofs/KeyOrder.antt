@@ -1,5 +1,5 @@
 -- Keys at or below one another.
-use Rattle.std.proofs.Common.{◌≡◌, ◌⊎◌, inl, inr, Bool, true, false, refl, sym, ap, ◌∙◌}
+use Rattle.std.proofs.Common.{◌≡◌, ◌⊎◌, inl, inr, Bool, true, refl, sym, ap, ◌∙◌}
 use Rattle.std.proofs.lemmas.Bool.{false≢true}
 use Rattle.std.specs.declared.cmp.Ordering.{Ordering}
 use Rattle.std.specs.declared.cmp.Ordering.TheVariants.{Less, Equal, Greater}
@@ -27,3 +27,7 @@ key_le_total a b = by_order (key_cmp a b) refl
     by_order Less h = inl (ap is_le h)
     by_order Equal h = inl (ap is_le h)
     by_order Greater h = inr (ap is_le (key_cmp-total.antisymm b a ∙ ap ordering_reverse h))
+
+-- keys that tie are one
+pub ties_alike : (test : OrderedKey → Bool) (q x : OrderedKey) → key_cmp q x ≡ Equal → test x ≡ test q
+ties_alike test q x e = ap test (sym (key_cmp-exact q x e))

@@ -1,10 +1,11 @@
 -- Records that `==` finds the same: what it asks of the padded bytes says the same of the bytes alone.
-use Rattle.std.proofs.Common.{◌≡◌, List, [], ◌∷◌, ◌++◌, ◌-◌, ℕ, Bool, true, false, refl, sym, ap, ◌∙◌, subst, length}
+use Rattle.std.proofs.Common.{◌≡◌, List, [], ◌∷◌, ◌++◌, ◌-◌, ℕ, Bool, true, refl, sym, ap, ◌∙◌, subst, length}
 use Rattle.std.specs.Prelude.{◌&&◌, nat_eq, take, replicate}
 use Rattle.std.specs.Cmp.Lexicographic.{pointwise, same_text}
 use Rattle.std.proofs.lemmas.Bool.{and_parts, and_from, eqb-true, eq-eqb}
 use Rattle.std.proofs.lemmas.Cmp.{nat_list_eq_equiv}
 use Rattle.std.proofs.Math.Seq.{take-append_seam}
+use Rattle.am_record.proofs.Outcomes.{same_test}
 
 pub pointwise_alike : {A : Type 0} (E F : A → A → Bool) → ((x y : A) → E x y ≡ F x y) → (xs ys : List A) → pointwise E xs ys ≡ pointwise F xs ys
 pointwise_alike E F h [] [] = refl
@@ -12,15 +13,10 @@ pointwise_alike E F h [] (y ∷ ys) = refl
 pointwise_alike E F h (x ∷ xs) [] = refl
 pointwise_alike E F h (x ∷ xs) (y ∷ ys) = ap (λ b. b && pointwise E xs ys) (h x y) ∙ ap (λ b. F x y && b) (pointwise_alike E F h xs ys)
 
-both_or_none : (a b : Bool) → (a ≡ true → b ≡ true) → (b ≡ true → a ≡ true) → a ≡ b
-both_or_none true b h k = sym (h refl)
-both_or_none false true h k = k refl
-both_or_none false false h k = refl
-
 pub same_bytes : (xs ys : List ℕ) → (pointwise nat_eq (xs ++ replicate (64 - length xs) 0) (ys ++ replicate (64 - length ys) 0) && nat_eq (length xs) (length ys)) ≡ pointwise nat_eq xs ys
 same_bytes xs ys =
     let zeros : List ℕ → List ℕ = λ zs. replicate (64 - length zs) 0 in
-    both_or_none _ _
+    same_test _ _
     (λ h.
     let parts = and_parts (pointwise nat_eq (xs ++ zeros xs) (ys ++ zeros ys)) (nat_eq (length xs) (length ys)) h in
     let long : length xs ≡ length ys = eqb-true (length xs) (length ys) parts.1 in
