@@ -4,19 +4,18 @@ use Rattle.std.specs.Prelude.{IsSome, is_some}
 use Rattle.std.specs.Option.{option_map}
 use Rattle.std.specs.declared.cmp.Ordering.TheVariants.{Less}
 use Rattle.std.specs.List.{AllByRecursion}
-use Rattle.am_record.specs.OrderedKey.{OrderedKey}
 use Rattle.am_record.specs.Plain.{Records}
 use Rattle.am_record.specs.EntryOrder.{place_of, place_cmp}
 use Rattle.am_record.specs.declared.entry.Entry.{Entry}
+use Rattle.am_record.proofs.Lists.{AllByRecursion-map, AllByRecursion-append}
+use Rattle.am_record.proofs.PlaceOrder.{lower_part}
+use Rattle.am_record.proofs.FirstRows.{Record}
 use Rattle.am_list.specs.Entries.{slot_of, entry_at, find, insert_entry, remove_entry, IsRising}
 use Rattle.am_list.specs.Places.{AllBelow}
 use Rattle.am_list.specs.Runs.{live_entry, run_entries}
 use Rattle.am_list.proofs.Edits.{entry_at_inserted, insert_back}
-use Rattle.am_list.proofs.Lists.{AllByRecursion-map, AllByRecursion-append, entry_at-append, insert_entry-append}
-use Rattle.am_list.proofs.Runs.{lower_part, one_more_pushed}
-
-abbrev pub Record : Type 0
-Record = OrderedKey × List ℕ
+use Rattle.am_list.proofs.Lists.{entry_at-append, insert_entry-append}
+use Rattle.am_list.proofs.Runs.{one_more_pushed}
 
 nil_behind : (es : List Entry) → es ++ [] ≡ es
 nil_behind [] = refl

@@ -7,18 +7,18 @@ use Rattle.std.proofs.lemmas.List.Edits.{length-remove}
 use Rattle.am_record.specs.OrderedKey.{OrderedKey}
 use Rattle.am_record.specs.declared.entry.Entry.{Entry}
 use Rattle.am_record.specs.EntryOrder.{Place, place_of, place_cmp}
+use Rattle.am_record.proofs.Lists.{AllByRecursion-map, AllByRecursion-append, AllByRecursion-take, AllByRecursion-drop, AllByRecursion-at}
 use Rattle.am_list.specs.Entries.{remove_entry, set_entry, IsRising}
 use Rattle.am_list.specs.Places.{AllBelow, NoneBelow, AllAbove}
-use Rattle.am_list.proofs.Lists.{AllByRecursion-map, AllByRecursion-append}
 use Rattle.am_btree.specs.declared.separator.Separator.{Separator}
 use Rattle.am_btree.specs.Shape.{Shape}
 use Rattle.am_btree.specs.Separators.{separator_place, IsChildFor}
 use Rattle.am_btree.specs.Nodes.{all_entries, depth_of, AreParted, AreChildren, IsInner}
 use Rattle.am_btree.proofs.Children.{all_below_through, children_above}
-use Rattle.am_btree.proofs.Parting.{all_take, all_drop, all_at, parted_lengths, depth_level, inner_with, some_entries}
+use Rattle.am_btree.proofs.Parting.{parted_lengths, depth_level, inner_with, some_entries}
 
 pub all_removed : {X : Type 0} (P : X → Type 0) (xs : List X) (i : ℕ) → AllByRecursion P xs → AllByRecursion P (remove xs i)
-all_removed P xs i a = AllByRecursion-append P (take i xs) (drop (suc i) xs) (all_take P i xs a) (all_drop P (suc i) xs a)
+all_removed P xs i a = AllByRecursion-append P (take i xs) (drop (suc i) xs) (AllByRecursion-take P i xs a) (AllByRecursion-drop P (suc i) xs a)
 
 pub all_set : {X : Type 0} (P : X → Type 0) (xs : List X) (i : ℕ) (y : X) → AllByRecursion P xs → P y → AllByRecursion P (set xs i y)
 all_set P [] i y a h = tt
@@ -161,7 +161,7 @@ module _ (part : ℕ) (key : OrderedKey) where
         ap (λ es. es ++ all_entries ks) h ∙ ap (λ (s : Shape). edit s.entries ++ all_entries ks) here ∙ sym (is.front c.entries (all_entries ks) (children_above p ls ks a.2 above))
     entries_edited (l ∷ ls) (c ∷ ks) (suc j) k k' a lt here (inl none) above h = absurd (omega arith)
     entries_edited (l ∷ ls) (c ∷ ks) (suc j) k k' a lt here (inr reached) above h =
-        let later = all_at (λ n. AllBelow (separator_place n) c.entries) ls j l a.1 (omega arith) in
+        let later = AllByRecursion-at (λ n. AllBelow (separator_place n) c.entries) ls j l a.1 (omega arith) in
         ap (λ es. c.entries ++ es) (entries_edited ls ks j k k' a.2 (omega arith) here (inr reached) above h)
         ∙ sym (is.back c.entries (all_entries ks) (all_below_through (separator_place (get_or ls j l)) p c.entries later (reached l)))
 
@@ -171,7 +171,7 @@ module _ (part : ℕ) (key : OrderedKey) where
 
       level_kept : AllByRecursion (λ (j : Shape). j.depth + 1 ≡ d) (set ks i k')
       level_kept =
-          let old = subst (λ (s : Shape). s.depth + 1 ≡ d) (sym here) (all_at (λ (j : Shape). j.depth + 1 ≡ d) ks i k c.level inside) in
+          let old = subst (λ (s : Shape). s.depth + 1 ≡ d) (sym here) (AllByRecursion-at (λ (j : Shape). j.depth + 1 ≡ d) ks i k c.level inside) in
           all_set (λ (j : Shape). j.depth + 1 ≡ d) ks i k' c.level (omega (arith, old, deep))
 
       pub kept_depth : depth_of (set ks i k') ≡ d

@@ -4,14 +4,15 @@ use Rattle.std.specs.declared.cmp.Ordering.TheVariants.{Less}
 use Rattle.std.specs.List.{AllByRecursion}
 use Rattle.am_record.specs.declared.entry.Entry.{Entry}
 use Rattle.am_record.specs.EntryOrder.{Place, place_of, place_cmp, place_cmp-total}
+use Rattle.am_record.proofs.Lists.{AllByRecursion-map, AllByRecursion-at}
 use Rattle.am_list.specs.Entries.{IsRising}
 use Rattle.am_list.specs.Places.{NoneBelow}
-use Rattle.am_list.proofs.Lists.{AllByRecursion-map, rising_back}
+use Rattle.am_list.proofs.Lists.{rising_back}
 use Rattle.am_btree.specs.declared.separator.Separator.{Separator}
 use Rattle.am_btree.specs.Shape.{Shape}
 use Rattle.am_btree.specs.Separators.{separator_place}
 use Rattle.am_btree.specs.Nodes.{all_entries, depth_of, AreParted, IsInner}
-use Rattle.am_btree.proofs.Parting.{all_at, depth_level, inner_with}
+use Rattle.am_btree.proofs.Parting.{depth_level, inner_with}
 use Rattle.am_btree.proofs.Editing.{all_set}
 
 -- behind an entry that is not below a place stands none below it
@@ -25,7 +26,7 @@ some_last i [] k last here filled some = absurd (omega arith)
 some_last zero (c ∷ []) k last here filled some = omega (arith, ap (λ (s : Shape). length s.entries) here, length-append c.entries [])
 some_last (suc i) (c ∷ []) k last here filled some = absurd (omega arith)
 some_last i (c ∷ j ∷ ks) k last here filled some =
-    subst (λ (s : Shape). 0 < length s.entries) (sym here) (all_at (λ (s : Shape). 0 < length s.entries) (c ∷ j ∷ ks) i k (filled (omega arith)) (omega arith))
+    subst (λ (s : Shape). 0 < length s.entries) (sym here) (AllByRecursion-at (λ (s : Shape). 0 < length s.entries) (c ∷ j ∷ ks) i k (filled (omega arith)) (omega arith))
 
 rising_last : (i : ℕ) (ks : List Shape) (k : Shape) (more : List Entry) → suc i ≡ length ks → k ≡ get_or ks i k → IsRising (all_entries ks ++ more) → IsRising (k.entries ++ more)
 rising_last i [] k more last here rising = absurd (omega arith)
@@ -68,7 +69,7 @@ module _ (ls : List Separator) (ks : List Shape) (rl rk : ℕ) (inner : IsInner 
 
     level : AllByRecursion (λ (j : Shape). j.depth + 1 ≡ depth_of ks) (set ks i k')
     level =
-        let old = subst (λ (s : Shape). s.depth + 1 ≡ depth_of ks) (sym here) (all_at (λ (j : Shape). j.depth + 1 ≡ depth_of ks) ks i k inner.children.level (omega arith)) in
+        let old = subst (λ (s : Shape). s.depth + 1 ≡ depth_of ks) (sym here) (AllByRecursion-at (λ (j : Shape). j.depth + 1 ≡ depth_of ks) ks i k inner.children.level (omega arith)) in
         all_set (λ (j : Shape). j.depth + 1 ≡ depth_of ks) ks i k' inner.children.level (omega (arith, old, deep))
 
     pub more_depth : depth_of (set ks i k') ≡ depth_of ks

@@ -7,19 +7,16 @@ use Rattle.std.specs.List.{insert}
 use Rattle.am_record.specs.Plain.{Records}
 use Rattle.am_record.specs.EntryOrder.{place_of, place_cmp}
 use Rattle.am_record.specs.declared.entry.Entry.{Entry}
+use Rattle.am_record.proofs.Lists.{AllByRecursion-back}
+use Rattle.am_record.proofs.FirstRows.{Record}
 use Rattle.am_list.specs.Entries.{IsRising}
 use Rattle.am_list.specs.Places.{AllBelow, AllAbove, IsGapFor}
 use Rattle.am_list.specs.Runs.{live_entry, run_entries}
-use Rattle.am_list.proofs.Lists.{AllByRecursion-back, rising_front}
-use Rattle.am_list.proofs.Runs.{one_more_pushed}
-use Rattle.am_btree.proofs.Appended.{Record, under_at, run_below}
+use Rattle.am_list.proofs.Lists.{rising_front}
+use Rattle.am_list.proofs.Runs.{one_more_pushed, length-front}
+use Rattle.am_btree.proofs.Appended.{under_at, run_below}
 
 module _ (part : ℕ) where
-  run_long : (rs : Records) (i : ℕ) → i ≤ length rs → length (run_entries part (take i rs)) ≡ i
-  run_long rs zero le = refl
-  run_long [] (suc i) le = absurd (omega arith)
-  run_long (r ∷ rs) (suc i) le = ap suc (run_long rs i (omega arith))
-
   run_cut : (rs : Records) (i : ℕ) → run_entries part (take i rs) ++ run_entries part (drop i rs) ≡ run_entries part rs
   run_cut rs zero = refl
   run_cut [] (suc i) = refl
@@ -46,7 +43,7 @@ module _ (part : ℕ) where
     front_rises = rising_front so_far (run_entries part (drop i rs)) rest_rises
 
     pub filled_long : i ≤ length rs → length so_far ≡ length es + i
-    filled_long le = length-append es (run_entries part (take i rs)) ∙ ap (λ (n : ℕ). length es + n) (run_long rs i le)
+    filled_long le = length-append es (run_entries part (take i rs)) ∙ ap (λ (n : ℕ). length es + n) (length-front part rs i le)
 
     -- the records that are left
     abbrev left : Records

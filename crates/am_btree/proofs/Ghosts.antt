@@ -7,9 +7,10 @@ use Rattle.std.specs.declared.cmp.Ordering.TheVariants.{Less, Greater}
 use Rattle.am_record.specs.OrderedKey.{OrderedKey}
 use Rattle.am_record.specs.declared.entry.Entry.{Entry}
 use Rattle.am_record.specs.EntryOrder.{place_of, place_cmp}
+use Rattle.am_record.proofs.Lists.{AllByRecursion-map}
 use Rattle.am_list.specs.Entries.{first_such, next_ghost}
 use Rattle.am_list.specs.Places.{AllAbove}
-use Rattle.am_list.proofs.Lists.{AllByRecursion-map, next_ghost-append, next_ghost_front}
+use Rattle.am_list.proofs.Lists.{next_ghost-append, next_ghost_front}
 use Rattle.am_btree.specs.declared.separator.Separator.{Separator}
 use Rattle.am_btree.specs.Shape.{Shape}
 use Rattle.am_btree.specs.Separators.{IsChildFor}

@@ -1,8 +1,7 @@
 -- One entry more below one of a node's children.
 use Rattle.std.proofs.Common.{◌≡◌, ◌≢◌, ℕ, zero, suc, ◌+◌, ◌-◌, ◌<◌, ◌≤◌, true, false, List, [], ◌∷◌, ◌++◌, length, get_or, set, take, drop, Option, Some, None, if◌then◌else◌, refl, sym, ap, ◌∙◌, subst, append-nil, length-set, inl, inr, ◌⊎◌, arith}
-use Rattle.std.specs.declared.cmp.Ordering.{Ordering}
-use Rattle.std.specs.declared.cmp.Ordering.TheVariants.{Less, Equal, Greater}
-use Rattle.std.specs.Ordering.{is_eq, is_lt}
+use Rattle.std.specs.declared.cmp.Ordering.TheVariants.{Less, Greater}
+use Rattle.std.specs.Ordering.{is_lt}
 use Rattle.std.specs.Cmp.{tied_itself}
 use Rattle.std.specs.List.{insert, AllByRecursion}
 use Rattle.std.proofs.lemmas.List.{take-append-drop, set_split}
@@ -11,10 +10,12 @@ use Rattle.std.specs.Option.{option_map}
 use Rattle.am_record.specs.OrderedKey.{OrderedKey}
 use Rattle.am_record.specs.declared.entry.Entry.{Entry}
 use Rattle.am_record.specs.EntryOrder.{Place, place_of, place_cmp, place_cmp-total}
+use Rattle.am_record.proofs.Lists.{AllByRecursion-map, AllByRecursion-append, AllByRecursion-front, AllByRecursion-take, AllByRecursion-drop, AllByRecursion-at}
+use Rattle.am_record.proofs.PlaceOrder.{turned_less, turned_greater}
 use Rattle.am_list.specs.Entries.{entry_at, find, insert_entry, IsRising}
 use Rattle.am_list.specs.Places.{AllBelow, NoneBelow, AllAbove}
-use Rattle.am_list.proofs.Order.{turned_less, turned_greater}
-use Rattle.am_list.proofs.Lists.{AllByRecursion-map, AllByRecursion-append, AllByRecursion-front, insert_entry-append}
+use Rattle.am_list.proofs.Lists.{insert_entry-append}
+use Rattle.am_list.proofs.Edits.{rising_inserted as entry_inserted}
 use Rattle.am_btree.specs.declared.separator.Separator.{Separator}
 use Rattle.am_btree.specs.Shape.{Shape}
 use Rattle.am_btree.specs.Separators.{separator_place, separator_for, lowered, IsReach, IsChildFor}
@@ -22,7 +23,7 @@ use Rattle.am_btree.specs.Nodes.{all_entries, depth_of, AreParted, AreFilledChil
 use Rattle.am_btree.specs.declared.insert.Split.{Split}
 use Rattle.am_btree.specs.Grown.{HasSplit}
 use Rattle.am_btree.proofs.Children.{all_below_through, all_above_through, children_above}
-use Rattle.am_btree.proofs.Parting.{all_take, all_drop, all_at, all_both, all_in_each, parted_lengths, all_entries-append, depth_level, separators_apart, inner_from}
+use Rattle.am_btree.proofs.Parting.{all_both, all_in_each, parted_lengths, all_entries-append, depth_level, separators_apart, inner_from}
 
 -- ---- the list with the entry
 
@@ -48,27 +49,12 @@ insert_some [] x = omega arith
 insert_some (e ∷ es) x =
     elim (is_lt (place_cmp (place_of e) (place_of x))) as (λ b. 0 < length (if b then e ∷ insert_entry es x else x ∷ e ∷ es)) [ true ↦ omega arith | false ↦ omega arith ]
 
-rising_by : (e x : Entry) (es : List Entry) (o : Ordering) → place_cmp (place_of e) (place_of x) ≡ o → IsRising (e ∷ es) → entry_at (e ∷ es) x.part x.key ≡ None
-    → (entry_at es x.part x.key ≡ None → IsRising (insert_entry es x)) → IsRising (insert_entry (e ∷ es) x)
-rising_by e x es Less c r n more =
-    let rest : entry_at es x.part x.key ≡ None = subst (λ (o : Ordering). (if is_eq o then Some e else entry_at es x.part x.key) ≡ None) c n in
-    rw c (all_insert (λ f. place_cmp (place_of e) (place_of f) ≡ Less) es x r.0 c, more rest)
-rising_by e x es Equal c r n more =
-    let found : Some e ≡ None = subst (λ (o : Ordering). (if is_eq o then Some e else entry_at es x.part x.key) ≡ None) c n in absurd (cc found)
-rising_by e x es Greater c r n more =
-    let less = turned_greater (place_of e) (place_of x) c in
-    rw c ((less, AllByRecursion-map (λ f. place_cmp (place_of e) (place_of f) ≡ Less) (λ f. place_cmp (place_of x) (place_of f) ≡ Less) (λ f h. place_cmp-total.trans (place_of x) (place_of e) (place_of f) less h) es r.0), r)
-
-rising_insert_entry : (es : List Entry) (x : Entry) → IsRising es → entry_at es x.part x.key ≡ None → IsRising (insert_entry es x)
-rising_insert_entry [] x r n = (tt, tt)
-rising_insert_entry (e ∷ es) x r n = rising_by e x es (place_cmp (place_of e) (place_of x)) refl r n (λ m. rising_insert_entry es x r.1 m)
-
 option_none : {X Y : Type 0} (f : X → Y) (o : Option X) → option_map f o ≡ None → o ≡ None
 option_none f None e = refl
 option_none f (Some x) e = absurd (cc e)
 
 pub rising_inserted : (es : List Entry) (x : Entry) → IsRising es → find es x.part x.key ≡ None → IsRising (insert_entry es x)
-rising_inserted es x r n = rising_insert_entry es x r (option_none _ (entry_at es x.part x.key) n)
+rising_inserted es x r n = entry_inserted es x r (option_none _ (entry_at es x.part x.key) n)
 
 -- ---- a part of a list in place of one value
 
@@ -82,7 +68,7 @@ insert_next (x ∷ xs) D zero y z lt = refl
 insert_next (x ∷ xs) D (suc i) y z lt = ap (λ l. x ∷ l) (insert_next xs D i y z (omega arith))
 
 pub all_in_place : {X : Type 0} (P : X → Type 0) (xs : List X) (i : ℕ) (ys : List X) → AllByRecursion P xs → AllByRecursion P ys → AllByRecursion P (in_place xs i ys)
-all_in_place P xs i ys a b = AllByRecursion-append P (take i xs) (ys ++ drop (suc i) xs) (all_take P i xs a) (AllByRecursion-append P ys (drop (suc i) xs) b (all_drop P (suc i) xs a))
+all_in_place P xs i ys a b = AllByRecursion-append P (take i xs) (ys ++ drop (suc i) xs) (AllByRecursion-take P i xs a) (AllByRecursion-append P ys (drop (suc i) xs) b (AllByRecursion-drop P (suc i) xs a))
 
 -- where a list of one alone may fail
 filled_in_place : {X : Type 0} (P : X → Type 0) (xs : List X) (i : ℕ) (ys : List X) → i < length xs → (1 < length xs → AllByRecursion P xs) → AllByRecursion P ys → AllByRecursion P (in_place xs i ys)
@@ -116,7 +102,7 @@ regrow zero (l ∷ ls) (k ∷ ks) low ms nk a lt same own apart later = join (lo
 regrow (suc i) (l ∷ ls) (k ∷ ks) low ms nk a lt (inl none) own apart later = absurd (omega arith)
 regrow (suc i) (l ∷ ls) (k ∷ ks) low ms nk a lt (inr same) own apart later =
     let P : Separator → Type 0 = λ m. AllBelow (separator_place m) k.entries in
-    let here : P low = subst P (sym same) (all_at P ls i low a.1 (omega arith)) in
+    let here : P low = subst P (sym same) (AllByRecursion-at P ls i low a.1 (omega arith)) in
     let more : AllByRecursion P ms = AllByRecursion-map (λ m. place_cmp (separator_place low) (separator_place m) ≡ Less) P (λ m h. all_below_up (separator_place low) (separator_place m) k.entries h here) ms apart in
     (a.0, all_in_place P ls i (low ∷ ms) a.1 (here, more), regrow i ls ks low ms nk a.2 (omega arith) (inr same) own apart later)
 
@@ -150,7 +136,7 @@ entries_in_place x (l ∷ ls) (c ∷ ks) zero k nk a lt here reached above h =
     ∙ sym (insert_entry-front x c.entries (all_entries ks) (children_above (place_of x) ls ks a.2 above))
 entries_in_place x (l ∷ ls) (c ∷ ks) (suc j) k nk a lt here (inl none) above h = absurd (omega arith)
 entries_in_place x (l ∷ ls) (c ∷ ks) (suc j) k nk a lt here (inr reached) above h =
-    let later = all_at (λ n. AllBelow (separator_place n) c.entries) ls j l a.1 (omega arith) in
+    let later = AllByRecursion-at (λ n. AllBelow (separator_place n) c.entries) ls j l a.1 (omega arith) in
     ap (λ es. c.entries ++ es) (entries_in_place x ls ks j k nk a.2 (omega arith) here (inr reached) above h)
     ∙ sym (insert_entry-back x c.entries (all_entries ks) (all_below_through (separator_place (get_or ls j l)) (place_of x) c.entries later (reached l)))
 
@@ -166,7 +152,7 @@ pub child_from_reach : (ls : List Separator) (part : ℕ) (key : OrderedKey) (n 
 child_from_reach ls part key zero some r = record {
   in_range = some;
   reached = inl refl;
-  above = all_drop (λ l. place_cmp (separator_place l) (part, key) ≡ Greater) 1 ls r.above;
+  above = AllByRecursion-drop (λ l. place_cmp (separator_place l) (part, key) ≡ Greater) 1 ls r.above;
 }
 child_from_reach ls part key (suc n) some r = record {
   in_range = omega (arith, r.in_range);
@@ -199,7 +185,7 @@ not_above ls (suc n) x r g = all_at_take (λ l. place_cmp (separator_place l) (p
 none_below_separator : (ls : List Separator) (ks : List Shape) (n : ℕ) (x : Entry) (k : Shape) → AreParted ls ks → 0 < length ls → IsReach ls x.part x.key n → k ≡ get_or ks (before n) k → NoneBelow (separator_place (new_separator ls n x)) k.entries
 none_below_separator ls ks zero x k a some r here =
     let l = get_or ls 0 (separator_for x) in
-    none_below_above (place_of x) k.entries (all_above_through (separator_place l) (place_of x) k.entries (own_separator 0 ls ks k (separator_for x) a some here) (all_at (λ m. place_cmp (separator_place m) (place_of x) ≡ Greater) ls 0 (separator_for x) r.above some))
+    none_below_above (place_of x) k.entries (all_above_through (separator_place l) (place_of x) k.entries (own_separator 0 ls ks k (separator_for x) a some here) (AllByRecursion-at (λ m. place_cmp (separator_place m) (place_of x) ≡ Greater) ls 0 (separator_for x) r.above some))
 none_below_separator ls ks (suc n) x k a some r here = own_separator n ls ks k (separator_for x) a (omega (arith, r.in_range)) here
 
 module _ (x : Entry) (d : ℕ) (ls : List Separator) (ks : List Shape) (n : ℕ) (k : Shape) (c : AreChildren d ls ks) (some : 0 < length ks) (r : IsReach ls x.part x.key n) (absent : find (all_entries ks) x.part x.key ≡ None) (here : k ≡ get_or ks (before n) k) where
@@ -239,7 +225,7 @@ module _ (x : Entry) (d : ℕ) (ls : List Separator) (ks : List Shape) (n : ℕ)
     }
 
   pub deep : k.depth + 1 ≡ d
-  deep = subst (λ (s : Shape). s.depth + 1 ≡ d) (sym here) (all_at (λ (j : Shape). j.depth + 1 ≡ d) ks (before n) k c.level (omega (arith, child.in_range, parted_lengths ls ks c.parted)))
+  deep = subst (λ (s : Shape). s.depth + 1 ≡ d) (sym here) (AllByRecursion-at (λ (j : Shape). j.depth + 1 ≡ d) ks (before n) k c.level (omega (arith, child.in_range, parted_lengths ls ks c.parted)))
 
   pub within : before n < length ks
   within = omega (arith, child.in_range, parted_lengths ls ks c.parted)

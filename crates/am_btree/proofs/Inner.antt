@@ -1,10 +1,11 @@
 -- An inner node and one of its children.
 use Rattle.std.proofs.Common.{◌≡◌, ℕ, ◌+◌, ◌<◌, List, length, get_or, sym, subst, arith}
+use Rattle.am_record.proofs.Lists.{AllByRecursion-at}
 use Rattle.am_btree.specs.declared.separator.Separator.{Separator}
 use Rattle.am_btree.specs.Shape.{Shape}
 use Rattle.am_btree.specs.Separators.{SeparatorsRise}
 use Rattle.am_btree.specs.Nodes.{depth_of, IsInner}
-use Rattle.am_btree.proofs.Parting.{parted_lengths, children_rise, all_at}
+use Rattle.am_btree.proofs.Parting.{parted_lengths, children_rise}
 
 -- an inner node, and the index of the child for a place
 module _ (separators : List Separator) (ks : List Shape) (rl rk : ℕ) (inner : IsInner separators ks rl rk) where
@@ -19,4 +20,4 @@ module _ (separators : List Separator) (ks : List Shape) (rl rk : ℕ) (inner : 
 
   module _ (i : ℕ) (k : Shape) (within : i < length ks) (here : k ≡ get_or ks i k) where
     pub one_below : k.depth + 1 ≡ depth_of ks
-    one_below = subst (λ (s : Shape). s.depth + 1 ≡ depth_of ks) (sym here) (all_at (λ (j : Shape). j.depth + 1 ≡ depth_of ks) ks i k inner.children.level within)
+    one_below = subst (λ (s : Shape). s.depth + 1 ≡ depth_of ks) (sym here) (AllByRecursion-at (λ (j : Shape). j.depth + 1 ≡ depth_of ks) ks i k inner.children.level within)

@@ -2,22 +2,17 @@
 use Rattle.std.proofs.Common.{◌≡◌, ◌≢◌, ℕ, ◌+◌, ◌-◌, ◌<◌, List, [], ◌∷◌, ◌++◌, length, get_or, take, drop, sym, ap, ◌∙◌, subst, arith, length-drop}
 use Rattle.std.proofs.lemmas.List.{take-append-drop}
 use Rattle.std.proofs.lemmas.List.Edits.{length-insert}
-use Rattle.std.specs.List.{insert, AllByRecursion}
+use Rattle.std.specs.List.{insert}
 use Rattle.std.specs.declared.cmp.Ordering.TheVariants.{Less}
 use Rattle.std.specs.Cmp.{tied_itself}
 use Rattle.am_record.specs.declared.entry.Entry.{Entry}
 use Rattle.am_record.specs.EntryOrder.{Place, place_of, place_cmp, place_cmp-total}
+use Rattle.am_record.proofs.Lists.{AllByRecursion-map}
+use Rattle.am_record.proofs.PlaceOrder.{turned_less}
 use Rattle.am_list.specs.Entries.{insert_entry, IsRising}
 use Rattle.am_list.specs.Places.{AllBelow, NoneBelow, IsGapFor}
-use Rattle.am_list.proofs.Order.{turned_less}
-use Rattle.am_list.proofs.Lists.{AllByRecursion-map, AllByRecursion-back, rising_back}
+use Rattle.am_list.proofs.Lists.{rising_back, below_itself}
 use Rattle.am_list.proofs.Searches.{insert_gap, rising_insert_gap}
-
-below_first : (ls : List Entry) (r : Entry) (rs : List Entry) → IsRising (ls ++ r ∷ rs) → AllBelow (place_of r) ls
-below_first [] r rs h = tt
-below_first (l ∷ ls) r rs h =
-    let back : AllByRecursion (λ f. place_cmp (place_of l) (place_of f) ≡ Less) (r ∷ rs) = AllByRecursion-back (λ f. place_cmp (place_of l) (place_of f) ≡ Less) ls (r ∷ rs) h.0 in
-    (back.0, below_first ls r rs h.1)
 
 none_below_first : (r : Entry) (rs : List Entry) → IsRising (r ∷ rs) → NoneBelow (place_of r) (r ∷ rs)
 none_below_first r rs h =
@@ -27,7 +22,7 @@ none_below_first r rs h =
 pub parted_at : (ls rs : List Entry) (p : Place) → IsRising (ls ++ rs) → 0 < length rs → ((d : Entry) → p ≡ place_of (get_or rs 0 d)) → AllBelow p ls × NoneBelow p rs
 parted_at ls [] p h lt is = absurd (omega arith)
 parted_at ls (r ∷ rs) p h lt is =
-    (subst (λ (q : Place). AllBelow q ls) (sym (is r)) (below_first ls r rs h), subst (λ (q : Place). NoneBelow q (r ∷ rs)) (sym (is r)) (none_below_first r rs (rising_back ls (r ∷ rs) h)))
+    (subst (λ (q : Place). AllBelow q ls) (sym (is r)) (below_itself ls r rs h), subst (λ (q : Place). NoneBelow q (r ∷ rs)) (sym (is r)) (none_below_first r rs (rising_back ls (r ∷ rs) h)))
 
 module _ (xs : List Entry) (x : Entry) (i : ℕ) (gap : IsGapFor xs x.part x.key i) (rising : IsRising xs) (m : ℕ) (lower upper : List Entry) (front : lower ≡ take m (insert xs i x)) (back : upper ≡ drop m (insert xs i x)) where
   cut : lower ++ upper ≡ insert xs i x

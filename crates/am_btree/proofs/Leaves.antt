@@ -6,12 +6,12 @@ use Rattle.std.specs.declared.cmp.Ordering.TheVariants.{Less, Greater}
 use Rattle.am_record.specs.OrderedKey.{OrderedKey}
 use Rattle.am_record.specs.declared.entry.Entry.{Entry}
 use Rattle.am_record.specs.EntryOrder.{Place, place_of, place_cmp}
+use Rattle.am_record.proofs.Lists.{AllByRecursion-take, AllByRecursion-drop}
 use Rattle.am_list.specs.Entries.{set_entry, IsRising}
 use Rattle.am_list.specs.Places.{AllBelow, AllAbove, IsPlaceOf, IsGapFor}
 use Rattle.am_list.proofs.Lists.{rising_front, rising_back}
 use Rattle.am_list.proofs.Searches.{set_found}
 use Rattle.am_leaf.specs.Changes.{set_at}
-use Rattle.am_btree.proofs.Parting.{all_take, all_drop}
 use Rattle.am_btree.proofs.Editing.{all_removed}
 
 -- the entry at an index
@@ -69,7 +69,7 @@ module _ (es : List Entry) (part : ℕ) (key : OrderedKey) (i : ℕ) (gap : IsGa
       record {
         in_range = omega (arith, length-take-le m es within);
         below = subst (AllBelow (part, key)) (sym (take-take i m es le)) gap.below;
-        above = subst (AllAbove (part, key)) (sym cut) (all_take (λ e. place_cmp (place_of e) (part, key) ≡ Greater) (m - i) (drop i es) gap.above);
+        above = subst (AllAbove (part, key)) (sym cut) (AllByRecursion-take (λ e. place_cmp (place_of e) (part, key) ≡ Greater) (m - i) (drop i es) gap.above);
       }
 
   pub gap_dropped : m ≤ i → IsGapFor (drop m es) part key (i - m)
@@ -79,6 +79,6 @@ module _ (es : List Entry) (part : ℕ) (key : OrderedKey) (i : ℕ) (gap : IsGa
       let back : drop (i - m) (drop m es) ≡ drop i es = drop-drop (i - m) m es ∙ ap (λ (n : ℕ). drop n es) (sym whole) in
       record {
         in_range = omega (arith, gap.in_range, length-drop m es);
-        below = subst (AllBelow (part, key)) (sym front) (all_drop (λ e. place_cmp (place_of e) (part, key) ≡ Less) m (take i es) gap.below);
+        below = subst (AllBelow (part, key)) (sym front) (AllByRecursion-drop (λ e. place_cmp (place_of e) (part, key) ≡ Less) m (take i es) gap.below);
         above = subst (AllAbove (part, key)) (sym back) gap.above;
       }

@@ -6,29 +6,15 @@ use Rattle.std.specs.List.{AllByRecursion}
 use Rattle.std.proofs.lemmas.List.{take-append-drop}
 use Rattle.am_record.specs.declared.entry.Entry.{Entry}
 use Rattle.am_record.specs.EntryOrder.{Place, place_of, place_cmp, place_cmp-total}
+use Rattle.am_record.proofs.Lists.{AllByRecursion-map, AllByRecursion-append, AllByRecursion-front, AllByRecursion-back, AllByRecursion-at, AllByRecursion-take, AllByRecursion-drop}
+use Rattle.am_record.proofs.PlaceOrder.{turned_greater}
 use Rattle.am_list.specs.Entries.{IsRising}
 use Rattle.am_list.specs.Places.{AllBelow, NoneBelow}
-use Rattle.am_list.proofs.Order.{turned_greater}
-use Rattle.am_list.proofs.Lists.{AllByRecursion-map, AllByRecursion-append, AllByRecursion-front, AllByRecursion-back, rising_front, rising_back}
+use Rattle.am_list.proofs.Lists.{rising_front, rising_back}
 use Rattle.am_btree.specs.declared.separator.Separator.{Separator}
 use Rattle.am_btree.specs.Shape.{Shape}
 use Rattle.am_btree.specs.Separators.{separator_place, SeparatorsRise}
 use Rattle.am_btree.specs.Nodes.{all_entries, depth_of, AreParted, AreFilledChildren, AreChildren, IsInner}
-
-pub all_take : {X : Type 0} (P : X → Type 0) (m : ℕ) (xs : List X) → AllByRecursion P xs → AllByRecursion P (take m xs)
-all_take P zero xs a = tt
-all_take P (suc m) [] a = tt
-all_take P (suc m) (x ∷ xs) a = (a.0, all_take P m xs a.1)
-
-pub all_drop : {X : Type 0} (P : X → Type 0) (m : ℕ) (xs : List X) → AllByRecursion P xs → AllByRecursion P (drop m xs)
-all_drop P zero xs a = a
-all_drop P (suc m) [] a = tt
-all_drop P (suc m) (x ∷ xs) a = all_drop P m xs a.1
-
-pub all_at : {X : Type 0} (P : X → Type 0) (xs : List X) (j : ℕ) (d : X) → AllByRecursion P xs → j < length xs → P (get_or xs j d)
-all_at P [] j d a lt = absurd (omega arith)
-all_at P (x ∷ xs) zero d a lt = a.0
-all_at P (x ∷ xs) (suc j) d a lt = all_at P xs j d a.1 (omega arith)
 
 pub all_both : {X : Type 0} (P Q R : X → Type 0) → ((x : X) → P x → Q x → R x) → (xs : List X) → AllByRecursion P xs → AllByRecursion Q xs → AllByRecursion R xs
 all_both P Q R f [] a b = tt
@@ -50,7 +36,7 @@ AreParted-take zero ls ks a = tt
 AreParted-take (suc m) [] [] a = tt
 AreParted-take (suc m) [] (k ∷ ks) a = absurd (omega (arith, a))
 AreParted-take (suc m) (l ∷ ls) [] a = absurd (omega (arith, a))
-AreParted-take (suc m) (l ∷ ls) (k ∷ ks) a = (a.0, all_take (λ n. AllBelow (separator_place n) k.entries) m ls a.1, AreParted-take m ls ks a.2)
+AreParted-take (suc m) (l ∷ ls) (k ∷ ks) a = (a.0, AllByRecursion-take (λ n. AllBelow (separator_place n) k.entries) m ls a.1, AreParted-take m ls ks a.2)
 
 pub AreParted-drop : (m : ℕ) (ls : List Separator) (ks : List Shape) → AreParted ls ks → AreParted (drop m ls) (drop m ks)
 AreParted-drop zero ls ks a = a
@@ -114,7 +100,7 @@ parted_cut zero (l ∷ ls) (k ∷ ks) d a f lt =
     (tt, AllByRecursion-append (λ e. place_cmp (place_of e) (separator_place l) ≢ Less) k.entries (all_entries ks) a.0 (none_below_all (separator_place l) ls ks a.2 (separators_rise (l ∷ ls) (k ∷ ks) a f).0))
 parted_cut (suc m) (l ∷ ls) (k ∷ ks) d a f lt =
     let low = get_or ls m d in let rest = parted_cut m ls ks d a.2 f.1 (omega arith) in
-    (AllByRecursion-append (λ e. place_cmp (place_of e) (separator_place low) ≡ Less) k.entries (all_entries (take m ks)) (all_at (λ n. AllBelow (separator_place n) k.entries) ls m d a.1 (omega arith)) rest.0, rest.1)
+    (AllByRecursion-append (λ e. place_cmp (place_of e) (separator_place low) ≡ Less) k.entries (all_entries (take m ks)) (AllByRecursion-at (λ n. AllBelow (separator_place n) k.entries) ls m d a.1 (omega arith)) rest.0, rest.1)
 
 module _ (m d : ℕ) (ls : List Separator) (ks : List Shape) (c : AreFilledChildren d ls ks) where
   both : IsRising (all_entries (take m ks) ++ all_entries (drop m ks))
@@ -122,16 +108,16 @@ module _ (m d : ℕ) (ls : List Separator) (ks : List Shape) (c : AreFilledChild
 
   pub children_taken : AreFilledChildren d (take m ls) (take m ks)
   children_taken = record {
-    level = all_take (λ k. k.depth + 1 ≡ d) m ks c.level;
-    filled = all_take (λ k. 0 < length k.entries) m ks c.filled;
+    level = AllByRecursion-take (λ k. k.depth + 1 ≡ d) m ks c.level;
+    filled = AllByRecursion-take (λ k. 0 < length k.entries) m ks c.filled;
     parted = AreParted-take m ls ks c.parted;
     rising = rising_front (all_entries (take m ks)) (all_entries (drop m ks)) both;
   }
 
   pub children_dropped : AreFilledChildren d (drop m ls) (drop m ks)
   children_dropped = record {
-    level = all_drop (λ k. k.depth + 1 ≡ d) m ks c.level;
-    filled = all_drop (λ k. 0 < length k.entries) m ks c.filled;
+    level = AllByRecursion-drop (λ k. k.depth + 1 ≡ d) m ks c.level;
+    filled = AllByRecursion-drop (λ k. 0 < length k.entries) m ks c.filled;
     parted = AreParted-drop m ls ks c.parted;
     rising = rising_back (all_entries (take m ks)) (all_entries (drop m ks)) both;
   }

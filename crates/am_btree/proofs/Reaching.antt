@@ -7,16 +7,12 @@ use Rattle.std.specs.declared.cmp.Ordering.TheVariants.{Less, Equal, Greater}
 use Rattle.std.specs.Ordering.{is_le}
 use Rattle.std.specs.List.Sorted.{IsPartitionedBy}
 use Rattle.am_record.specs.EntryOrder.{Place, place_cmp}
+use Rattle.am_record.proofs.Orderings.{le_not_greater}
+use Rattle.am_record.proofs.Lists.{AllByRecursion-at}
 use Rattle.am_list.proofs.Searches.{all_take, all_drop}
 use Rattle.am_btree.specs.declared.separator.Separator.{Separator}
 use Rattle.am_btree.specs.Separators.{separator_place, SeparatorsRise, IsReach}
 use Rattle.am_btree.proofs.Children.{below_through}
-use Rattle.am_btree.proofs.Parting.{all_at}
-
-le_true : (o : Ordering) → is_le o ≡ true → o ≢ Greater
-le_true Less e g = absurd (cc)
-le_true Equal e g = absurd (cc)
-le_true Greater e g = absurd (cc)
 
 le_false : (o : Ordering) → is_le o ≡ false → o ≡ Greater
 le_false Less e = absurd (cc)
@@ -28,7 +24,7 @@ parted p [] r i j d le lt h = absurd (omega arith)
 parted p (l ∷ ls) r zero zero d le lt h = h
 parted p (l ∷ ls) r zero (suc j) d le lt h =
     let m = get_or ls j d in
-    ap is_le (below_through (separator_place l) (separator_place m) p (all_at (λ n. place_cmp (separator_place l) (separator_place n) ≡ Less) ls j d r.0 (omega arith)) (le_true (place_cmp (separator_place m) p) h))
+    ap is_le (below_through (separator_place l) (separator_place m) p (AllByRecursion-at (λ n. place_cmp (separator_place l) (separator_place n) ≡ Less) ls j d r.0 (omega arith)) (le_not_greater (place_cmp (separator_place m) p) h))
 parted p (l ∷ ls) r (suc i) zero d le lt h = absurd (omega arith)
 parted p (l ∷ ls) r (suc i) (suc j) d le lt h = parted p ls r.1 i j d (omega arith) (omega arith) h
 
@@ -52,7 +48,7 @@ module _ (p : Place) (ls : List Separator) (rise : SeparatorsRise ls) (j : ℕ) 
   pub reached_no_further : is_le (place_cmp (separator_place s) p) ≡ false → AreReached p ls j → IsReach ls p.0 p.1 j
   reached_no_further h passed = record {
     in_range = omega (arith, within);
-    reached = all_take (λ l. place_cmp (separator_place l) p ≢ Greater) ls j (omega (arith, within)) (λ k d lt. le_true _ (passed k d lt));
+    reached = all_take (λ l. place_cmp (separator_place l) p ≢ Greater) ls j (omega (arith, within)) (λ k d lt. le_not_greater _ (passed k d lt));
     above = all_drop (λ l. place_cmp (separator_place l) p ≡ Greater) ls j (λ k d le lt. le_false _ (above_from h k d le lt));
   }
 
@@ -60,6 +56,6 @@ module _ (p : Place) (ls : List Separator) (rise : SeparatorsRise ls) (j : ℕ) 
 pub reached_all : (p : Place) (ls : List Separator) (n : ℕ) → n ≡ length ls → AreReached p ls n → IsReach ls p.0 p.1 n
 reached_all p ls n whole passed = record {
   in_range = omega (arith, whole);
-  reached = all_take (λ l. place_cmp (separator_place l) p ≢ Greater) ls n (omega (arith, whole)) (λ k d lt. le_true _ (passed k d lt));
+  reached = all_take (λ l. place_cmp (separator_place l) p ≢ Greater) ls n (omega (arith, whole)) (λ k d lt. le_not_greater _ (passed k d lt));
   above = all_drop (λ l. place_cmp (separator_place l) p ≡ Greater) ls n (λ k d le lt. absurd (omega (arith, whole, le, lt)));
 }

@@ -1,6 +1,6 @@
 -- The first entry from a place on, and the entries read on from it.
 use Rattle.std.proofs.Common.{◌≡◌, ◌≢◌, ℕ, ◌+◌, Bool, true, false, ◌&&◌, eqb, List, [], ◌∷◌, ◌++◌, take, drop, Option, Some, None, if◌then◌else◌, refl, sym, ap, ◌∙◌, ⊎_elim}
-use Rattle.std.proofs.lemmas.Bool.{cases_Bool, cond-true, cond-false, eqb-true}
+use Rattle.std.proofs.lemmas.Bool.{cases_Bool, cond-true, cond-false, eqb-true, and_right}
 use Rattle.std.proofs.lemmas.List.{take-append-drop}
 use Rattle.std.specs.List.{AllByRecursion, slice_get}
 use Rattle.std.specs.declared.cmp.Ordering.{Ordering}
@@ -9,9 +9,10 @@ use Rattle.std.specs.Ordering.{is_ge, is_gt}
 use Rattle.am_record.specs.OrderedKey.{OrderedKey}
 use Rattle.am_record.specs.declared.entry.Entry.{Entry}
 use Rattle.am_record.specs.EntryOrder.{place_of, place_cmp}
+use Rattle.am_record.proofs.Lists.{AllByRecursion-map}
 use Rattle.am_list.specs.Entries.{first_such, next_from, after, IsRising}
 use Rattle.am_list.specs.Places.{AllBelow, AllAbove, IsPlaceOf, IsGapFor, only_of}
-use Rattle.am_list.proofs.Lists.{AllByRecursion-map, first_such-append, not_less, not_greater, differ, and_false, later_parts, next_from_none, after_none, next_from_here, after_here}
+use Rattle.am_list.proofs.Lists.{first_such-append, not_less, not_greater, differ, later_parts, next_from_none, after_none, next_from_here, after_here}
 use Rattle.am_list.proofs.Searches.{lower_from_place, lower_from_gap, upper_from_place, upper_from_gap, slice_get-drop}
 use Rattle.am_btree.specs.declared.read.Start.{Start}
 use Rattle.am_btree.specs.declared.read.Start.TheVariants.{At, Above}
@@ -126,7 +127,7 @@ module _ (part : ℕ) (key : OrderedKey) where
       (cases_Bool (eqb y.part part)))
       (λ not.
       ap (only_of part) (cond-false (is_ge (at y)) (Some y) (first_from At ys part key) not) ∙ next_from_is ys r.1
-      ∙ sym (cond-false (eqb y.part part && is_ge (at y)) (Some y) (next_from ys part key) (and_false (eqb y.part part) (is_ge (at y)) not)))
+      ∙ sym (cond-false (eqb y.part part && is_ge (at y)) (Some y) (next_from ys part key) (and_right (eqb y.part part) (is_ge (at y)) not)))
       (cases_Bool (is_ge (at y)))
 
   pub after_is : (es : List Entry) → IsRising es → only_of part (first_from Above es part key) ≡ after es part key
@@ -142,5 +143,5 @@ module _ (part : ℕ) (key : OrderedKey) where
       (cases_Bool (eqb y.part part)))
       (λ not.
       ap (only_of part) (cond-false (is_gt (at y)) (Some y) (first_from Above ys part key) not) ∙ after_is ys r.1
-      ∙ sym (cond-false (eqb y.part part && is_gt (at y)) (Some y) (after ys part key) (and_false (eqb y.part part) (is_gt (at y)) not)))
+      ∙ sym (cond-false (eqb y.part part && is_gt (at y)) (Some y) (after ys part key) (and_right (eqb y.part part) (is_gt (at y)) not)))
       (cases_Bool (is_gt (at y)))

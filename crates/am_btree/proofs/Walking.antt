@@ -7,10 +7,10 @@ use Rattle.std.specs.declared.cmp.Ordering.TheVariants.{Less, Greater}
 use Rattle.am_record.specs.OrderedKey.{OrderedKey}
 use Rattle.am_record.specs.declared.entry.Entry.{Entry}
 use Rattle.am_record.specs.EntryOrder.{Place, place_of, place_cmp, place_cmp-part}
+use Rattle.am_record.proofs.Lists.{AllByRecursion-map, AllByRecursion-append, AllByRecursion-at, AllByRecursion-drop}
+use Rattle.am_record.proofs.PlaceOrder.{turned_greater}
 use Rattle.am_list.specs.Entries.{all_after}
 use Rattle.am_list.specs.Places.{AllBelow, NoneBelow, AllAbove, NoneAbove}
-use Rattle.am_list.proofs.Order.{turned_greater}
-use Rattle.am_list.proofs.Lists.{AllByRecursion-map, AllByRecursion-append}
 use Rattle.am_list.proofs.Batches.{take_both, all_after-append, all_after_below, all_after_others}
 use Rattle.am_btree.specs.declared.separator.Separator.{Separator}
 use Rattle.am_btree.specs.declared.read.Start.{Start}
@@ -19,7 +19,7 @@ use Rattle.am_btree.specs.Shape.{Shape}
 use Rattle.am_btree.specs.Separators.{separator_place, IsChildFor}
 use Rattle.am_btree.specs.Nodes.{all_entries, AreParted, AreChildren}
 use Rattle.am_btree.proofs.Children.{all_below_through, children_above}
-use Rattle.am_btree.proofs.Parting.{all_at, all_drop, AreParted-drop, all_entries_cut, parted_cut, parted_lengths}
+use Rattle.am_btree.proofs.Parting.{AreParted-drop, all_entries_cut, parted_cut, parted_lengths}
 use Rattle.am_btree.proofs.Seeking.{first_past, first_above, first_here, first_later}
 
 -- ---- the first entry of several children
@@ -46,7 +46,7 @@ module _ (part : ℕ) (key : OrderedKey) where
   below_child (l ∷ ls) [] (suc i) a lt reached = absurd (omega (arith, a))
   below_child (l ∷ ls) (k ∷ ks) (suc i) a lt (inl none) = absurd (omega arith)
   below_child (l ∷ ls) (k ∷ ks) (suc i) a lt (inr reached) =
-      let later = all_at (λ n. AllBelow (separator_place n) k.entries) ls i l a.1 (omega arith) in
+      let later = AllByRecursion-at (λ n. AllBelow (separator_place n) k.entries) ls i l a.1 (omega arith) in
       AllByRecursion-append (λ e. place_cmp (place_of e) p ≡ Less) k.entries (all_entries (take i ks))
       (all_below_through (separator_place (get_or ls i l)) p k.entries later (reached l)) (below_child ls ks i a.2 (omega arith) (inr reached))
 
@@ -88,7 +88,7 @@ module _ (part : ℕ) (key : OrderedKey) where
       -- in the next one
       pub found_next : (n : Shape) → first_from start k.entries part key ≡ None → i + 1 < length ks → n ≡ get_or ks (i + 1) n → first_from start (all_entries ks) part key ≡ slice_get n.entries 0
       found_next n h lt next =
-          let filled = all_drop (λ (j : Shape). 0 < length j.entries) (suc i) ks (c.filled (omega (arith, lt))) in
+          let filled = AllByRecursion-drop (λ (j : Shape). 0 < length j.entries) (suc i) ks (c.filled (omega (arith, lt))) in
           let cut : drop (suc i) ks ≡ get_or ks (suc i) n ∷ drop (suc (suc i)) ks = drop-cons ks (suc i) n (omega (arith, lt)) in
           let first : n ≡ get_or (drop (suc i) ks) 0 n = next ∙ ap (λ (j : ℕ). get_or ks j n) (add-one i) ∙ ap (λ xs. get_or xs 0 n) (sym cut) in
           past_child h ∙ first_of_all (drop (suc i) ks) n (omega (arith, ap length cut)) (λ _. filled) first

@@ -5,7 +5,7 @@ use Rattle.std.specs.List.{AllByRecursion}
 use Rattle.std.specs.Ordering.{eq_by_cmp}
 use Rattle.std.proofs.lemmas.Bool.{cases_Bool, cond-true, cond-false, both_ways, or_parts, or_left, or_right, or_cases, eqb-true, eqb-false}
 use Rattle.am_effect.proofs.Lists.{Stands, look-reslotted, look-reslotted_none, rising-reslotted, stands_all, tied_place}
-use Rattle.am_effect.proofs.Noted.{some_none, all_before, all_later, back, back-append, back_some, ghosted_stays, none_before, one_some, owned_more, run_before, run_later, some_or_none, unowned_leaves}
+use Rattle.am_effect.proofs.Noted.{some_none, back, back-append, back_some, ghosted_stays, none_before, one_some, owned_more, run_before, run_later, some_or_none, unowned_leaves}
 use Rattle.am_effect.specs.History.{Moment, left_at, or_made, wrote, wrote_by}
 use Rattle.am_effect.specs.Laws.{DescribeLaws, Describes, DifferAt, IsOfKey, taken_back}
 use Rattle.am_effect.specs.Places.{look, reslotted, with_slot}
@@ -15,6 +15,7 @@ use Rattle.am_record.specs.EntryOrder.{Place, place_cmp, place_of}
 use Rattle.am_record.specs.OrderedKey.{OrderedKey}
 use Rattle.am_record.specs.Plain.{fresh}
 use Rattle.am_record.specs.declared.entry.Entry.{Entry}
+use Rattle.am_record.proofs.Lists.{AllByRecursion-front, AllByRecursion-back}
 use Rattle.am_serial.specs.Trace.{Effect}
 use Rattle.am_undo.specs.Notes.{ghosted}
 use Rattle.am_undo.specs.Undo.{is_noted_run}
@@ -179,7 +180,7 @@ module _ (t : ℕ) (past : List Moment) (es : List Entry) (notes : List Note) (u
 module _ (t : ℕ) (past : List Moment) (es : List Entry) (xs ys : List Note) (u : Describes t past es (xs ++ ys)) (v : (a : Place) → look es a ≡ None → back xs a None ≡ None)
     (d : Effect) (es' : List Entry) (none : (q : OrderedKey) → wrote_by t q d ≡ false) (is : (a : Place) → look es' a ≡ back xs a (look es a)) where
   same_elsewhere : (a : Place) → wrote t a.1 past ≡ false → look es' a ≡ look es a
-  same_elsewhere a not = is a ∙ unowned_leaves (λ k. wrote t k past) xs (all_before (IsOfKey (λ k. wrote t k past)) xs ys u.owns) a.1 not a.0 (look es a)
+  same_elsewhere a not = is a ∙ unowned_leaves (λ k. wrote t k past) xs (AllByRecursion-front (IsOfKey (λ k. wrote t k past)) xs ys u.owns) a.1 not a.0 (look es a)
       (⊎_elim (λ yes. inr (u.own_runs a.1 not a.0 (run_before xs ys a.0 yes))) (λ no. inl no) (cases_Bool (is_noted_run xs a.0)))
 
   as_before : (a : Place) → back ys a (look es' a) ≡ left_at t a past es
@@ -193,7 +194,7 @@ module _ (t : ℕ) (past : List Moment) (es : List Entry) (xs ys : List Note) (u
         (cases_Bool (wrote t a.1 past));
     stands = λ a e. let nothing_there = none_before xs a (look es a) (sym (is a) ∙ e) in
         ap (back ys a) (sym (v a nothing_there)) ∙ sym (back-append xs ys a None) ∙ u.stands a nothing_there;
-    owns = all_later (IsOfKey (λ q. wrote t q ((d, es) ∷ past))) xs ys (owns_more t past es (xs ++ ys) u d es);
+    owns = AllByRecursion-back (IsOfKey (λ q. wrote t q ((d, es) ∷ past))) xs ys (owns_more t past es (xs ++ ys) u d es);
     own_runs = λ q h p made. let not = (or_parts (wrote_by t q d) (wrote t q past) h).1 in same_elsewhere (p, q) not ∙ u.own_runs q not p (run_later xs ys p made);
   }
     where

@@ -1,19 +1,19 @@
 -- What a step's edits of the list are, one by one.
 use Rattle.std.proofs.Common.{◌≡◌, ◌≢◌, ℕ, List, [], ◌∷◌, ◌++◌, Bool, true, false, refl, sym, ap, ◌∙◌, ⊎_elim, Option, Some, None}
 use Rattle.std.specs.Prelude.{not, is_some}
-use Rattle.std.specs.List.{AllByRecursion}
 use Rattle.std.specs.Option.{option_map}
-use Rattle.std.specs.Ordering.{is_eq, eq_by_cmp}
+use Rattle.std.specs.Ordering.{eq_by_cmp}
 use Rattle.std.specs.FinMap.{get}
-use Rattle.std.proofs.lemmas.Bool.{cases_Bool, cond-true, cond-false, and_parts, and_from, both_ways, not-true}
+use Rattle.std.proofs.lemmas.Bool.{cases_Bool, cond-false, and_parts, and_from, both_ways, not-true}
 use Rattle.std.proofs.lemmas.Option.{none-some}
-use Rattle.am_record.specs.OrderedKey.{OrderedKey, key_cmp, key_cmp-itself, key_eq-exact}
+use Rattle.am_record.specs.OrderedKey.{OrderedKey, key_cmp, key_eq-exact}
 use Rattle.am_record.specs.EntryOrder.{Place}
 use Rattle.am_record.specs.declared.entry.Entry.{Entry}
-use Rattle.am_list.specs.Entries.{Slot, slot_of, first_such, entry_at, find, remove_entry, IsRising}
+use Rattle.am_record.proofs.FirstRows.{key_eq-itself}
+use Rattle.am_list.specs.Entries.{Slot, slot_of, entry_at, find, remove_entry, IsRising}
 use Rattle.am_list.specs.Edits.{same_place}
 use Rattle.am_list.specs.Content.{content, IsLiveAt, OnePlace}
-use Rattle.am_list.proofs.Edits.{first_such_all, first_such_passes, entry_at_place, entry_at_beside_removed, other_part}
+use Rattle.am_list.proofs.Edits.{first_such_all, first_such_passes, entry_at_place, entry_at_beside_removed, other_part, none_such}
 use Rattle.am_list.proofs.EditLaws.{edit_laws}
 use Rattle.am_list.proofs.Content.{content_live}
 use Rattle.am_effect.specs.Places.{put}
@@ -22,16 +22,6 @@ use Rattle.am_effect.specs.Merging.{candidates, worked_off, all_worked_off}
 use Rattle.am_effect.specs.Store.{is_live, find_live}
 use Rattle.am_effect.specs.Known.{KnownLaws}
 use Rattle.am_effect.proofs.Lists.{Stands, stands_all, put_set, put_new}
-
-eq_key_refl : (k : OrderedKey) → eq_by_cmp key_cmp k k ≡ true
-eq_key_refl k = ap is_eq (key_cmp-itself k)
-
-none_such : (test : Entry → Bool) (xs : List Entry) → first_such test xs ≡ None → AllByRecursion (λ e. test e ≡ false) xs
-none_such test [] h = tt
-none_such test (x ∷ xs) h = ⊎_elim
-    (λ yes. absurd (none-some x (sym h ∙ cond-true (test x) (Some x) (first_such test xs) yes)))
-    (λ fails. (fails, none_such test xs (sym (cond-false (test x) (Some x) (first_such test xs) fails) ∙ h)))
-    (cases_Bool (test x))
 
 some_entry : (o : Option Entry) (v : List ℕ) (g : Bool) → option_map slot_of o ≡ Some (v, g) → (x : Entry) × ((o ≡ Some x) × (slot_of x ≡ (v, g)))
 some_entry None v g h = absurd (none-some (v, g) h)
@@ -48,7 +38,7 @@ module _ (es : List Entry) (rise : IsRising es) (one : OnePlace es) where
       let place = entry_at_place es p k x.0 x.1.0 in
       let ghost_not : x.0.is_ghost ≡ false = ap (λ (s : Slot). s.1) x.1.1 in
       let key : x.0.key ≡ k = ap (λ (a : Place). a.1) place in
-      both_ways (is_live k x.0) fails (and_from (not x.0.is_ghost) (eq_by_cmp key_cmp x.0.key k) (ap not ghost_not) (ap (λ (q : OrderedKey). eq_by_cmp key_cmp q k) key ∙ eq_key_refl k))
+      both_ways (is_live k x.0) fails (and_from (not x.0.is_ghost) (eq_by_cmp key_cmp x.0.key k) (ap not ghost_not) (ap (λ (q : OrderedKey). eq_by_cmp key_cmp q k) key ∙ key_eq-itself k))
 
   -- the live entry that is found is live under its key
   found_live : (k : OrderedKey) (e : Entry) → find_live es k ≡ Some e → (e.key ≡ k) × ((e.is_ghost ≡ false) × IsLiveAt es e.part e.key e.value)

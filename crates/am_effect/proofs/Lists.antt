@@ -1,5 +1,5 @@
 -- Lists of entries, place by place.
-use Rattle.std.proofs.Common.{◌≡◌, ◌≢◌, ℕ, zero, suc, List, [], ◌∷◌, filter, take, Bool, true, false, cond, refl, sym, ap, ◌∙◌, subst, ⊎_elim, Option, Some, None}
+use Rattle.std.proofs.Common.{◌≡◌, ◌≢◌, ℕ, List, [], ◌∷◌, filter, Bool, true, false, cond, refl, sym, ap, ◌∙◌, subst, ⊎_elim, Option, Some, None}
 use Rattle.std.specs.Prelude.{is_some}
 use Rattle.std.specs.Option.{option_map}
 use Rattle.std.specs.List.{AllByRecursion}
@@ -13,10 +13,10 @@ use Rattle.am_record.specs.OrderedKey.{OrderedKey, key_cmp, key_cmp-total, key_c
 use Rattle.am_record.specs.EntryOrder.{Place, place_of, place_cmp, place_cmp-total}
 use Rattle.am_record.specs.Plain.{PlainMap}
 use Rattle.am_record.specs.declared.entry.Entry.{Entry}
+use Rattle.am_record.proofs.Lists.{AllByRecursion-map, AllByRecursion-filter}
 use Rattle.am_list.specs.Entries.{Slot, slot_of, entry_at, find, insert_entry, set_entry, remove_entry, IsRising}
 use Rattle.am_list.specs.Content.{content, OnePlace, HasContent}
-use Rattle.am_list.proofs.Lists.{AllByRecursion-map}
-use Rattle.am_list.proofs.Edits.{one_place, place_cmp-itself, apart_places, turned_apart, entry_at_inserted, entry_at_beside_inserted, rising_inserted, entry_at_removed, entry_at_beside_removed, find_reset, entry_at_beside_reset, rising_reset}
+use Rattle.am_list.proofs.Edits.{one_place, place_cmp-itself, turned_apart, entry_at_inserted, entry_at_beside_inserted, rising_inserted, entry_at_removed, entry_at_beside_removed, find_reset, entry_at_beside_reset, rising_reset}
 use Rattle.am_list.proofs.Content.{all_found, content_live}
 use Rattle.am_list.proofs.ContentLaws.{content_laws}
 use Rattle.am_effect.specs.Places.{look, put, with_slot, reslotted}
@@ -25,9 +25,6 @@ use Rattle.am_effect.specs.Places.{look, put, with_slot, reslotted}
 
 pub tied_place : (a : Place) → eq_by_cmp place_cmp a a ≡ true
 tied_place a = ap is_eq (place_cmp-itself a)
-
-pub not_tied : (a b : Place) → a ≢ b → eq_by_cmp place_cmp a b ≡ false
-not_tied a b n = apart_places a b n
 
 -- ---- what stands at a place of an edited list
 
@@ -77,30 +74,14 @@ look-removed b es rising a = ⊎_elim
 
 -- ---- rising lists
 
-pub All-filtered : {X : Type 0} (P : X → Type 0) (test : X → Bool) (xs : List X) → AllByRecursion P xs → AllByRecursion P (filter test xs)
-All-filtered P test [] a = tt
-All-filtered P test (x ∷ xs) a =
-    let rest = All-filtered P test xs a.1 in
-    elim (test x) as (λ b. AllByRecursion P (cond b (x ∷ filter test xs) (filter test xs))) [ true ↦ (a.0, rest) | false ↦ rest ]
-
 pub rising-filter : (test : Entry → Bool) (es : List Entry) → IsRising es → IsRising (filter test es)
 rising-filter test [] h = tt
 rising-filter test (e ∷ es) h =
     let rest = rising-filter test es h.1 in
     elim (test e) as (λ b. IsRising (cond b (e ∷ filter test es) (filter test es))) [
-      | true ↦ (All-filtered (λ f. place_cmp (place_of e) (place_of f) ≡ Less) test es h.0, rest)
+      | true ↦ (AllByRecursion-filter (λ f. place_cmp (place_of e) (place_of f) ≡ Less) test es h.0, rest)
       | false ↦ rest
     ]
-
-pub All-take : {X : Type 0} (P : X → Type 0) (n : ℕ) (xs : List X) → AllByRecursion P xs → AllByRecursion P (take n xs)
-All-take P zero xs a = tt
-All-take P (suc n) [] a = tt
-All-take P (suc n) (x ∷ xs) a = (a.0, All-take P n xs a.1)
-
-pub rising-take : (n : ℕ) (es : List Entry) → IsRising es → IsRising (take n es)
-rising-take zero es h = tt
-rising-take (suc n) [] h = tt
-rising-take (suc n) (e ∷ es) h = (All-take (λ f. place_cmp (place_of e) (place_of f) ≡ Less) n es h.0, rising-take n es h.1)
 
 absent : (o : Option Entry) → is_some (option_map slot_of o) ≡ false → o ≡ None
 absent None h = refl
@@ -119,10 +100,6 @@ Stands es e = look es (place_of e) ≡ Some (slot_of e)
 
 pub stands_all : (es : List Entry) → IsRising es → AllByRecursion (Stands es) es
 stands_all es h = AllByRecursion-map (λ e. entry_at es e.part e.key ≡ Some e) (Stands es) (λ e found. ap (option_map slot_of) found) es (all_found es h)
-
-pub All-map : {X : Type 0} (P Q : X → Type 0) → ((x : X) → P x → Q x) → (xs : List X) → AllByRecursion P xs → AllByRecursion Q xs
-All-map P Q f [] a = tt
-All-map P Q f (x ∷ xs) a = (f x a.0, All-map P Q f xs a.1)
 
 pub All-filter : {X : Type 0} (P : X → Type 0) (test : X → Bool) (xs : List X) → AllByRecursion P xs → AllByRecursion (λ x. P x × (test x ≡ true)) (filter test xs)
 All-filter P test [] a = tt

@@ -3,16 +3,18 @@ use Rattle.std.proofs.Common.{◌≡◌, ◌≢◌, ◌≤◌, ◌+◌, ℕ, zer
 use Rattle.std.specs.Prelude.{◌==◌, nat_le, is_none, take_while}
 use Rattle.std.specs.List.{AllByRecursion, prefix_len}
 use Rattle.std.proofs.lemmas.Bool.{cases_Bool, and_parts, false≢true}
-use Rattle.am_effect.proofs.Lists.{All-filter, All-map, All-take, rising-filter, rising-take, stands_all}
+use Rattle.am_effect.proofs.Lists.{All-filter, rising-filter, stands_all}
 use Rattle.am_effect.proofs.Merges.{InRuns, all_keep, all_keep_ghosts, keeps, no_more, no_more_ghost, other_keys, rising-worked_off}
 use Rattle.am_effect.specs.Laws.{Maintains}
 use Rattle.am_effect.specs.Merging.{AnswersCandidates, AnswersFirst, Holders, MergeRight, all_worked_off, candidates, cleanable, cleaned_by, merged_by, most, worked_off}
 use Rattle.am_list.specs.Entries.{IsRising}
+use Rattle.am_list.proofs.Lists.{rising-take}
 use Rattle.am_record.specs.Interval.{Interval, within}
 use Rattle.am_record.specs.OrderedKey.{OrderedKey}
 use Rattle.am_record.specs.declared.entry.Entry.{Entry}
 use Rattle.am_record.specs.declared.step.Reply.{Reply}
 use Rattle.am_record.specs.declared.step.Reply.TheVariants.{Cleaned, Moved}
+use Rattle.am_record.proofs.Lists.{AllByRecursion-map, AllByRecursion-take}
 use Rattle.am_effect.proofs.Lists.{Stands}
 
 -- the first n of the list pass, where the list's beginning that passes is as long
@@ -45,12 +47,12 @@ none_of (Some h) e = absurd (false≢true e)
 
 pub free_of : (held : Holders) (limit run n : ℕ) (cs : List Entry) → n ≤ most held limit run cs → AllByRecursion (λ e. held e.key ≡ None) (take n cs)
 free_of held limit run n cs h =
-    All-map (λ e. ((e.part == run) && is_none (held e.key)) ≡ true) (λ e. held e.key ≡ None) (λ e t. none_of (held e.key) (and_parts (e.part == run) (is_none (held e.key)) t).1)
+    AllByRecursion-map (λ e. ((e.part == run) && is_none (held e.key)) ≡ true) (λ e. held e.key ≡ None) (λ e t. none_of (held e.key) (and_parts (e.part == run) (is_none (held e.key)) t).1)
     (take n cs) (passed (λ e. (e.part == run) && is_none (held e.key)) limit n cs h)
 
 pub of_run : (held : Holders) (limit run n : ℕ) (cs : List Entry) → n ≤ most held limit run cs → AllByRecursion (λ e. (e.part == run) ≡ true) (take n cs)
 of_run held limit run n cs h =
-    All-map (λ e. ((e.part == run) && is_none (held e.key)) ≡ true) (λ e. (e.part == run) ≡ true) (λ e t. (and_parts (e.part == run) (is_none (held e.key)) t).0)
+    AllByRecursion-map (λ e. ((e.part == run) && is_none (held e.key)) ≡ true) (λ e. (e.part == run) ≡ true) (λ e t. (and_parts (e.part == run) (is_none (held e.key)) t).0)
     (take n cs) (passed (λ e. (e.part == run) && is_none (held e.key)) limit n cs h)
 
 pub as_many : {X : Type 0} (p : X → Bool) (limit n : ℕ) (xs : List X) → n ≤ length (take_while p (take limit xs)) → length (take n xs) ≡ n
@@ -106,13 +108,13 @@ above_none (suc p) e = λ h. absurd (omega arith)
 
 pub candidates_stand : (es : List Entry) (range : Interval) → IsRising es → InRuns es (candidates es range)
 candidates_stand es range r =
-    All-map (λ e. Stands es e × ((nat_le 1 e.part && within range e.key) ≡ true)) (λ e. (e.part ≢ 0) × Stands es e)
+    AllByRecursion-map (λ e. Stands es e × ((nat_le 1 e.part && within range e.key) ≡ true)) (λ e. (e.part ≢ 0) × Stands es e)
     (λ e h. (above_none e.part (and_parts (nat_le 1 e.part) (within range e.key) h.1).0, h.0))
     (candidates es range) (All-filter (Stands es) (λ e. nat_le 1 e.part && within range e.key) es (stands_all es r))
 
 pub merged_stand : (es : List Entry) (wishes : List Interval) (reply : Reply) → IsRising es → InRuns es (merged_by es wishes reply)
 merged_stand es [] reply r = tt
-merged_stand es (wish ∷ wishes) (Moved n run) r = All-take (λ e. (e.part ≢ 0) × Stands es e) n (candidates es wish) (candidates_stand es wish r)
+merged_stand es (wish ∷ wishes) (Moved n run) r = AllByRecursion-take (λ e. (e.part ≢ 0) × Stands es e) n (candidates es wish) (candidates_stand es wish r)
 merged_stand es (wish ∷ wishes) reply r = tt
 
 pub merged_rise : (es : List Entry) (wishes : List Interval) (reply : Reply) → IsRising es → IsRising (merged_by es wishes reply)
@@ -159,11 +161,11 @@ merge_maintains es wishes held limit reply r h =
 pub clean_maintains : (es : List Entry) (held : Holders) (range : Interval) (n : ℕ) → IsRising es → Maintains held es (all_worked_off (take n (cleanable es held range)) es)
 clean_maintains es held range n r =
     let test = λ (e : Entry). e.is_ghost && (within range e.key && is_none (held e.key)) in
-    let all = All-take (λ e. Stands es e × (test e ≡ true)) n (cleanable es held range) (cleanable_stand es held range r) in
+    let all = AllByRecursion-take (λ e. Stands es e × (test e ≡ true)) n (cleanable es held range) (cleanable_stand es held range r) in
     all_keep_ghosts (Maintains held es) (λ e. held e.key ≡ None) (λ l k. k.rising) (step_ghost held es) (take n (cleanable es held range)) es
     (rising-take n (cleanable es held range) (rising-filter test es r))
-    (All-map (λ e. Stands es e × (test e ≡ true)) (λ e. held e.key ≡ None) (λ e a. none_of (held e.key) (and_parts (within range e.key) (is_none (held e.key)) (and_parts e.is_ghost (within range e.key && is_none (held e.key)) a.1).1).1) _ all)
-    (All-map (λ e. Stands es e × (test e ≡ true)) (λ e. (e.is_ghost ≡ true) × Stands es e) (λ e a. ((and_parts e.is_ghost (within range e.key && is_none (held e.key)) a.1).0, a.0)) _ all)
+    (AllByRecursion-map (λ e. Stands es e × (test e ≡ true)) (λ e. held e.key ≡ None) (λ e a. none_of (held e.key) (and_parts (within range e.key) (is_none (held e.key)) (and_parts e.is_ghost (within range e.key && is_none (held e.key)) a.1).1).1) _ all)
+    (AllByRecursion-map (λ e. Stands es e × (test e ≡ true)) (λ e. (e.is_ghost ≡ true) × Stands es e) (λ e a. ((and_parts e.is_ghost (within range e.key && is_none (held e.key)) a.1).0, a.0)) _ all)
     (unchanged held es r)
 
 pub clean_step_maintains : (es : List Entry) (held : Holders) (range : Interval) (reply : Reply) → IsRising es → Maintains held es (all_worked_off (cleaned_by es held range reply) es)

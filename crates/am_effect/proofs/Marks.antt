@@ -3,7 +3,7 @@ use Rattle.std.proofs.Common.{◌≡◌, ◌≤◌, ◌-◌, ℕ, zero, suc, Lis
 use Rattle.std.proofs.lemmas.Bool.{cases_Bool, cond-true, cond-false, or_cases, or_left, or_right, eq-eqb, false≢true}
 use Rattle.am_effect.proofs.Backs.{describe_laws, older_describe}
 use Rattle.am_effect.proofs.Lists.{look-reslotted, look-reslotted_none}
-use Rattle.am_effect.proofs.Noted.{back, back_some, length-until, run_taken, since-new, since-none, since-older, since-until}
+use Rattle.am_effect.proofs.Noted.{back, back_some}
 use Rattle.am_effect.specs.History.{Moment, aborted, backed_by, from_mark, goes_back, gone_back, is_plain, left_at, marked_by, moments_since, sets_mark, wrote, wrote_by}
 use Rattle.am_effect.specs.Laws.{BackLaws, Describes, DescribesEach}
 use Rattle.am_effect.specs.Places.{look}
@@ -15,10 +15,12 @@ use Rattle.am_record.specs.declared.step.Op.{Op}
 use Rattle.am_record.specs.declared.step.Op.TheVariants.{Back, Delete, Get, Insert, Load, Lock, Mark, Replace, Scan}
 use Rattle.am_record.specs.declared.step.Reply.{Reply}
 use Rattle.am_record.specs.declared.step.Reply.TheVariants.{Done}
+use Rattle.am_record.proofs.Newest.{length-until, since-new, since-none, since-older, since-until}
 use Rattle.am_serial.specs.Trace.{Answers, Effect}
 use Rattle.am_undo.specs.Marks.{has_mark, since, since_mark, until}
 use Rattle.am_undo.specs.Undo.{is_noted_run}
 use Rattle.am_undo.specs.declared.note.Note.{Note}
+use Rattle.am_undo.proofs.Marking.{run_taken}
 
 -- ---- moments
 

@@ -10,12 +10,12 @@ use Rattle.am_record.specs.EntryOrder.{Place, place_of, place_cmp}
 use Rattle.am_record.specs.declared.entry.Entry.{Entry}
 use Rattle.am_list.specs.Entries.{Slot, slot_of, remove_entry, IsRising}
 use Rattle.am_list.specs.Content.{content, OnePlace, HasContent, IsLiveAt}
-use Rattle.am_list.proofs.Edits.{one_place, place_cmp-itself, rising_removed}
+use Rattle.am_list.proofs.Edits.{one_place, place_cmp-itself, rising_removed, apart_places}
 use Rattle.am_list.proofs.Content.{content_live}
 use Rattle.am_list.proofs.ContentLaws.{content_laws, get_removed}
 use Rattle.am_effect.specs.Places.{look, put}
 use Rattle.am_effect.specs.Merging.{worked_off, all_worked_off}
-use Rattle.am_effect.proofs.Lists.{look-put, look-removed, tied_place, not_tied, rising-put, Stands, content-put, back_again}
+use Rattle.am_effect.proofs.Lists.{look-put, look-removed, tied_place, rising-put, Stands, content-put, back_again}
 
 abbrev slotted : List ℕ → Bool → Option Slot
 slotted v b = Some (v, b)
@@ -42,10 +42,10 @@ rising-worked_off e es h =
 -- places other than the entry's and the final one are as they were
 pub elsewhere : (e : Entry) (es : List Entry) → IsRising es → (a : Place) → a ≢ place_of e → a ≢ (0, e.key) → look (worked_off e es) a ≡ look es a
 elsewhere e es r a n m =
-    let out : look (without e es) a ≡ look es a = look-removed (place_of e) es r a ∙ cond-false _ None (look es a) (not_tied a (place_of e) n) in
+    let out : look (without e es) a ≡ look es a = look-removed (place_of e) es r a ∙ cond-false _ None (look es a) (apart_places a (place_of e) n) in
     ⊎_elim
     (λ g. ap (λ l. look l a) (ghost_case e es g) ∙ out)
-    (λ g. ap (λ l. look l a) (live_case e es g) ∙ look-put (final e) (without e es) a ∙ cond-false _ (Some (slot_of e)) (look (without e es) a) (not_tied a (0, e.key) m) ∙ out)
+    (λ g. ap (λ l. look l a) (live_case e es g) ∙ look-put (final e) (without e es) a ∙ cond-false _ (Some (slot_of e)) (look (without e es) a) (apart_places a (0, e.key) m) ∙ out)
     (cases_Bool e.is_ghost)
 
 -- its own place is empty
@@ -55,7 +55,7 @@ vacated e es r n =
     let apart : ◌≢◌ {A = Place} (place_of e) (0, e.key) = λ h. n (ap (λ (a : Place). a.0) h) in
     ⊎_elim
     (λ g. ap (λ l. look l (place_of e)) (ghost_case e es g) ∙ gone)
-    (λ g. ap (λ l. look l (place_of e)) (live_case e es g) ∙ look-put (final e) (without e es) (place_of e) ∙ cond-false _ (Some (slot_of e)) (look (without e es) (place_of e)) (not_tied (place_of e) (0, e.key) apart) ∙ gone)
+    (λ g. ap (λ l. look l (place_of e)) (live_case e es g) ∙ look-put (final e) (without e es) (place_of e) ∙ cond-false _ (Some (slot_of e)) (look (without e es) (place_of e)) (apart_places (place_of e) (0, e.key) apart) ∙ gone)
     (cases_Bool e.is_ghost)
 
 -- another key's places are as they were
@@ -112,7 +112,7 @@ all_keep P F rises step (e ∷ m) es r f s h = all_keep P F rises step m (worked
 
 -- a ghost is taken away, and all other places are as they were
 pub beside_ghost : (e : Entry) (es : List Entry) → IsRising es → (a : Place) → e.is_ghost ≡ true → a ≢ place_of e → look (worked_off e es) a ≡ look es a
-beside_ghost e es r a g n = ap (λ l. look l a) (ghost_case e es g) ∙ look-removed (place_of e) es r a ∙ cond-false _ None (look es a) (not_tied a (place_of e) n)
+beside_ghost e es r a g n = ap (λ l. look l a) (ghost_case e es g) ∙ look-removed (place_of e) es r a ∙ cond-false _ None (look es a) (apart_places a (place_of e) n)
 
 pub ghost_gone : (e : Entry) (es : List Entry) → IsRising es → e.is_ghost ≡ true → look (worked_off e es) (place_of e) ≡ None
 ghost_gone e es r g = ap (λ l. look l (place_of e)) (ghost_case e es g) ∙ look-removed (place_of e) es r (place_of e) ∙ cond-true _ None (look es (place_of e)) (tied_place (place_of e))

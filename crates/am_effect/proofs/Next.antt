@@ -1,60 +1,28 @@
 -- Working off the first candidate leaves the others.
-use Rattle.std.proofs.Common.{◌≡◌, ℕ, zero, suc, List, [], ◌∷◌, filter, take, drop, Bool, true, false, cond, ◌&&◌, refl, sym, ap, ◌∙◌, subst, ⊎_elim}
+use Rattle.std.proofs.Common.{◌≡◌, ℕ, zero, suc, List, [], ◌∷◌, filter, take, drop, Bool, true, false, cond, ◌&&◌, refl, sym, ap, ◌∙◌, ⊎_elim}
 use Rattle.std.specs.Prelude.{nat_le, is_some}
-use Rattle.std.specs.List.{AllByRecursion}
-use Rattle.std.specs.declared.cmp.Ordering.TheVariants.{Less}
-use Rattle.std.specs.Ordering.{is_eq, is_lt}
+use Rattle.std.specs.Ordering.{is_lt}
 use Rattle.std.proofs.lemmas.Bool.{cases_Bool, cond-true, cond-false}
 use Rattle.am_record.specs.OrderedKey.{OrderedKey}
 use Rattle.am_record.specs.EntryOrder.{Place, place_of, place_cmp}
 use Rattle.am_record.specs.Interval.{Interval, within}
 use Rattle.am_record.specs.declared.entry.Entry.{Entry}
+use Rattle.am_record.proofs.Lists.{filter-no}
 use Rattle.am_list.specs.Entries.{find, insert_entry, set_entry, remove_entry, IsRising}
 use Rattle.am_list.specs.Edits.{same_place}
-use Rattle.am_list.proofs.Edits.{one_place, same_place-itself, remove-hit, remove-miss}
+use Rattle.am_list.proofs.Edits.{one_place, filter-removed}
 use Rattle.am_effect.specs.Places.{put}
 use Rattle.am_effect.specs.Merging.{candidates, worked_off, all_worked_off}
-use Rattle.am_effect.proofs.Lists.{All-filtered}
 use Rattle.am_effect.proofs.Merges.{rising-worked_off}
-
-filter-yes : (test : Entry → Bool) (e : Entry) (es : List Entry) → test e ≡ true → filter test (e ∷ es) ≡ e ∷ filter test es
-filter-yes test e es h = cond-true (test e) (e ∷ filter test es) (filter test es) h
-
-filter-not : (test : Entry → Bool) (e : Entry) (es : List Entry) → test e ≡ false → filter test (e ∷ es) ≡ filter test es
-filter-not test e es h = cond-false (test e) (e ∷ filter test es) (filter test es) h
-
-heads : {x y : Entry} {xs ys : List Entry} → x ∷ xs ≡ y ∷ ys → x ≡ y
-heads e = cc
-
-tails : {x y : Entry} {xs ys : List Entry} → x ∷ xs ≡ y ∷ ys → xs ≡ ys
-tails e = cc
-
-none_first : {c : Entry} {cs : List Entry} → [] ≡ c ∷ cs → ⊥
-none_first e = cc
-
--- the first that passes is taken away
-filter-removed : (test : Entry → Bool) (es : List Entry) (c : Entry) (cs : List Entry) → IsRising es → filter test es ≡ c ∷ cs → filter test (remove_entry es c.part c.key) ≡ cs
-filter-removed test [] c cs r h = absurd (none_first h)
-filter-removed test (e ∷ es) c cs r h = ⊎_elim
-    (λ yes.
-    let all = sym (filter-yes test e es yes) ∙ h in
-    let same : e ≡ c = heads all in
-    let hit : same_place e.part e.key c.part c.key ≡ true = subst (λ (x : Entry). same_place e.part e.key x.part x.key ≡ true) same (same_place-itself e.part e.key) in
-    ap (filter test) (remove-hit c.part c.key e es hit) ∙ tails all)
-    (λ fails.
-    let rest = sym (filter-not test e es fails) ∙ h in
-    let below : AllByRecursion (λ f. place_cmp (place_of e) (place_of f) ≡ Less) (c ∷ cs) = subst (λ (l : List Entry). AllByRecursion (λ f. place_cmp (place_of e) (place_of f) ≡ Less) l) rest (All-filtered (λ f. place_cmp (place_of e) (place_of f) ≡ Less) test es r.0) in
-    ap (filter test) (remove-miss c.part c.key e es (ap is_eq below.0)) ∙ filter-not test e (remove_entry es c.part c.key) fails ∙ filter-removed test es c cs r.1 rest)
-    (cases_Bool (test e))
 
 -- what fails the test is put in
 filter-inserted : (test : Entry → Bool) (x : Entry) (es : List Entry) → test x ≡ false → filter test (insert_entry es x) ≡ filter test es
-filter-inserted test x [] h = filter-not test x [] h
+filter-inserted test x [] h = filter-no test x [] h
 filter-inserted test x (e ∷ es) h =
     let ih = filter-inserted test x es h in
     elim (is_lt (place_cmp (place_of e) (place_of x))) as (λ b. filter test (cond b (e ∷ insert_entry es x) (x ∷ e ∷ es)) ≡ filter test (e ∷ es)) [
       | true ↦ ap (λ (l : List Entry). cond (test e) (e ∷ l) l) ih
-      | false ↦ filter-not test x (e ∷ es) h
+      | false ↦ filter-no test x (e ∷ es) h
     ]
 
 module _ (range : Interval) where
@@ -70,7 +38,7 @@ module _ (range : Interval) where
       (λ hit.
       let zero_ : e.part ≡ 0 = ap (λ (a : Place). a.0) (one_place (place_of e) (0, k) hit) in
       ap (filter passes) (cond-true (same_place e.part e.key 0 k) (record e { value = v; is_ghost = g } ∷ es) (e ∷ set_entry es 0 k v g) hit)
-      ∙ filter-not passes (record e { value = v; is_ghost = g }) es (fails_at_0 e zero_) ∙ sym (filter-not passes e es (fails_at_0 e zero_)))
+      ∙ filter-no passes (record e { value = v; is_ghost = g }) es (fails_at_0 e zero_) ∙ sym (filter-no passes e es (fails_at_0 e zero_)))
       (λ miss.
       ap (filter passes) (cond-false (same_place e.part e.key 0 k) (record e { value = v; is_ghost = g } ∷ es) (e ∷ set_entry es 0 k v g) miss)
       ∙ ap (λ (l : List Entry). cond (passes e) (e ∷ l) l) (filter-set k v g es))

@@ -1,9 +1,8 @@
 -- What notes do at one place, and notes since marks.
-use Rattle.std.proofs.Common.{◌≡◌, ◌≤◌, ◌+◌, ◌-◌, ℕ, List, [], ◌∷◌, ◌++◌, length, Bool, true, false, cond, refl, sym, ap, ◌∙◌, subst, ⊎_elim, ◌⊎◌, inl, inr, Option, Some, None, arith, length-append, length-drop}
+use Rattle.std.proofs.Common.{◌≡◌, ◌+◌, ◌-◌, ℕ, List, [], ◌∷◌, ◌++◌, Bool, true, false, cond, refl, sym, ap, ◌∙◌, subst, ⊎_elim, ◌⊎◌, inl, inr, Option, Some, None}
 use Rattle.std.specs.Prelude.{◌==◌, take, drop}
 use Rattle.std.specs.List.{AllByRecursion}
 use Rattle.std.specs.Ordering.{eq_by_cmp}
-use Rattle.std.proofs.Math.Seq.{take-append-add}
 use Rattle.std.proofs.lemmas.Bool.{cases_Bool, cond-true, cond-false, both_ways, or_parts, or_left, or_right, false_from_ne_true}
 use Rattle.std.proofs.lemmas.List.Folds.{list_any-append}
 use Rattle.std.proofs.lemmas.List.{take-append-drop}
@@ -16,7 +15,6 @@ use Rattle.am_undo.specs.declared.note.Note.TheVariants.{New, Before, RunMade}
 use Rattle.am_undo.specs.Notes.{ghosted}
 use Rattle.am_undo.specs.Notes as notes_of
 use Rattle.am_undo.specs.Undo.{is_noted_run}
-use Rattle.am_undo.specs.Marks.{since, until}
 use Rattle.am_effect.specs.Laws.{IsOfKey}
 
 -- what stands at a place when a note, or all notes, are taken back
@@ -76,21 +74,10 @@ run_later xs ys p h = list_any-append _ xs ys ∙ or_right (is_noted_run xs p) (
 pub run_before : (xs ys : List Note) (p : ℕ) → is_noted_run xs p ≡ true → is_noted_run (xs ++ ys) p ≡ true
 run_before xs ys p h = list_any-append _ xs ys ∙ or_left (is_noted_run xs p) (is_noted_run ys p) h
 
-pub run_taken : (n : ℕ) (notes : List Note) (p : ℕ) → is_noted_run (take n notes) p ≡ true → is_noted_run notes p ≡ true
-run_taken n notes p h = subst (λ ns. is_noted_run ns p ≡ true) (take-append-drop n notes) (run_before (take n notes) (drop n notes) p h)
-
 pub run_dropped : (n : ℕ) (notes : List Note) (p : ℕ) → is_noted_run (drop n notes) p ≡ true → is_noted_run notes p ≡ true
 run_dropped n notes p h = subst (λ ns. is_noted_run ns p ≡ true) (take-append-drop n notes) (run_later (take n notes) (drop n notes) p h)
 
 -- ---- the keys of notes
-
-pub all_before : (P : Note → Type 0) (xs ys : List Note) → AllByRecursion P (xs ++ ys) → AllByRecursion P xs
-all_before P [] ys h = tt
-all_before P (n ∷ xs) ys h = (h.0, all_before P xs ys h.1)
-
-pub all_later : (P : Note → Type 0) (xs ys : List Note) → AllByRecursion P (xs ++ ys) → AllByRecursion P ys
-all_later P [] ys h = h
-all_later P (n ∷ xs) ys h = all_later P xs ys h.1
 
 owned_more_one : (n : Note) (owned owned' : OrderedKey → Bool) → ((q : OrderedKey) → owned q ≡ true → owned' q ≡ true) → IsOfKey owned n → IsOfKey owned' n
 owned_more_one (New k) owned owned' more h = more k h
@@ -129,26 +116,3 @@ module _ (owned : OrderedKey → Bool) where
 
       run_tail : (n : Note) (notes : List Note) (p : ℕ) → is_noted_run (n ∷ notes) p ≡ false → is_noted_run notes p ≡ false
       run_tail n notes p h = false_from_ne_true _ (λ e. both_ways _ h (run_later (n ∷ []) notes p e))
-
--- ---- lists of notes and their marks
-
-pub since-new : (new notes : List Note) (mark : ℕ) → mark ≤ length notes → since mark (new ++ notes) ≡ new ++ since mark notes
-since-new new notes mark h =
-    let e : length (new ++ notes) - mark ≡ length new + (length notes - mark) = omega (arith, length-append new notes) in
-    ap (λ n. take n (new ++ notes)) e ∙ take-append-add new notes (length notes - mark)
-
-pub since-none : (notes : List Note) → since (length notes) notes ≡ []
-since-none notes = let e : length notes - length notes ≡ 0 = omega arith in ap (λ n. take n notes) e
-
-pub since-until : (notes : List Note) (mark : ℕ) → since mark notes ++ until mark notes ≡ notes
-since-until notes mark = take-append-drop (length notes - mark) notes
-
-pub length-until : (notes : List Note) (mark : ℕ) → mark ≤ length notes → length (until mark notes) ≡ mark
-length-until notes mark h = length-drop (length notes - mark) notes ∙ omega arith
-
--- the notes since an older mark are those since the newer one and those before that
-pub since-older : (notes : List Note) (mark old : ℕ) → mark ≤ length notes → old ≤ mark → since old notes ≡ since mark notes ++ since old (until mark notes)
-since-older notes mark old h k =
-    let len = length-until notes mark h in
-    ap (since old) (sym (since-until notes mark))
-    ∙ since-new (since mark notes) (until mark notes) old (subst (λ n. old ≤ n) (sym len) k)

@@ -1,24 +1,17 @@
 -- A leaf that is filled with records, one after another.
-use Rattle.std.proofs.Common.{◌≡◌, ℕ, zero, suc, ◌+◌, ◌<◌, ◌≤◌, List, [], ◌∷◌, length, get_or, take, drop, refl, sym, ap, ◌∙◌, subst, arith}
+use Rattle.std.proofs.Common.{◌≡◌, ℕ, zero, suc, ◌+◌, ◌<◌, List, [], ◌∷◌, length, get_or, take, drop, sym, ap, ◌∙◌, subst, arith}
 use Rattle.std.specs.declared.cmp.Ordering.TheVariants.{Less}
 use Rattle.std.specs.List.{AllByRecursion, insert}
-use Rattle.am_record.specs.OrderedKey.{OrderedKey}
 use Rattle.am_record.specs.Plain.{Records}
 use Rattle.am_record.specs.EntryOrder.{place_of, place_cmp}
 use Rattle.am_record.specs.declared.entry.Entry.{Entry}
+use Rattle.am_record.proofs.FirstRows.{Record}
 use Rattle.am_list.specs.Entries.{IsRising}
 use Rattle.am_list.specs.Places.{AllBelow, AllAbove, IsGapFor}
 use Rattle.am_list.specs.Runs.{live_entry, run_entries}
-
-abbrev pub Record : Type 0
-Record = OrderedKey × List ℕ
+use Rattle.am_list.proofs.Runs.{length-front}
 
 module _ (part : ℕ) where
-  pub length-front : (rs : Records) (i : ℕ) → i ≤ length rs → length (run_entries part (take i rs)) ≡ i
-  length-front rs zero le = refl
-  length-front [] (suc i) le = absurd (omega arith)
-  length-front (r ∷ rs) (suc i) le = ap suc (length-front rs i (omega arith))
-
   -- nothing stands behind them
   nothing_behind : (rs : Records) (i : ℕ) (P : Entry → Type 0) → AllByRecursion P (drop i (run_entries part (take i rs)))
   nothing_behind rs zero P = tt
@@ -41,7 +34,7 @@ module _ (part : ℕ) where
   pub next_gap : (rs : Records) (i : ℕ) (r : Record) (es : List Entry) → i < length rs → r ≡ get_or rs i r → IsRising (run_entries part rs) → es ≡ run_entries part (take i rs)
       → IsGapFor es part r.0 i
   next_gap rs i r es lt e rising is = subst (λ (l : List Entry). IsGapFor l part r.0 i) (sym is) record {
-    in_range = omega (arith, length-front rs i (omega arith));
+    in_range = omega (arith, length-front part rs i (omega arith));
     below = all_front rs i r lt e rising;
     above = nothing_behind rs i _;
   }

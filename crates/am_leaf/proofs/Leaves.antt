@@ -1,14 +1,11 @@
 -- How many entries a leaf has.
-use Rattle.std.proofs.Common.{◌≡◌, List, [], ◌∷◌, ◌^◌, ◌<◌, length, refl, sym, ap, ◌∙◌, arith}
+use Rattle.std.proofs.Common.{◌≡◌, List, [], ◌^◌, ◌<◌, length, sym, ap, ◌∙◌, arith}
+use Rattle.std.proofs.lemmas.List.{nil_from_length}
 use Rattle.am_record.specs.declared.entry.Entry.{Entry}
 use Rattle.am_leaf.specs.declared.leaf.RawLeaf.TheInside.{Inside}
 use Rattle.am_leaf.specs.Leaf.{entries, IsLeaf}
 use Rattle.am_leaf.proofs.MarkLemmas.{pow_mono}
 use Rattle.am_leaf.proofs.Zips.{length-entries_of}
-
-none : {X : Type 0} (xs : List X) → length xs ≡ 0 → xs ≡ []
-none [] e = refl
-none (x ∷ xs) e = absurd (omega arith)
 
 module _ (a : Inside) (held : IsLeaf a) where
   pub alike : length a.places ≡ length a.values
@@ -21,9 +18,9 @@ module _ (a : Inside) (held : IsLeaf a) where
   pub room_in_marks : a.len < 32 → a.marks < 2 ^ 31
   room_in_marks room = let up = pow_mono a.len 31 (omega arith) in omega (arith, held.marks)
 
-  -- a leaf with no entries has none in its blocks
+  -- a leaf with no entries has nil_from_length in its blocks
   pub no_places : entries a ≡ [] → a.places ≡ []
-  no_places empty = none a.places (held.places ∙ sym (counted [] empty))
+  no_places empty = nil_from_length a.places (held.places ∙ sym (counted [] empty))
 
   pub no_values : entries a ≡ [] → a.values ≡ []
-  no_values empty = none a.values (held.values ∙ sym (counted [] empty))
+  no_values empty = nil_from_length a.values (held.values ∙ sym (counted [] empty))

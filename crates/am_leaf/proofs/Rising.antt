@@ -1,11 +1,12 @@
 -- Rising lists of entries, cut, changed and searched at an index.
-use Rattle.std.proofs.Common.{◌≡◌, ℕ, zero, suc, ◌<◌, ◌≤◌, Bool, List, [], ◌∷◌, ◌++◌, length, get_or, take, drop, sym, ap, ◌∙◌, arith}
+use Rattle.std.proofs.Common.{◌≡◌, ℕ, zero, suc, ◌<◌, ◌≤◌, Bool, List, [], ◌∷◌, length, get_or, take, drop, sym, ◌∙◌, arith}
 use Rattle.std.specs.declared.cmp.Ordering.TheVariants.{Less, Equal, Greater}
-use Rattle.std.specs.Ordering.{ordering_reverse}
 use Rattle.std.specs.Cmp.{alike_right}
 use Rattle.std.specs.List.{AllByRecursion, insert, remove}
 use Rattle.am_record.specs.declared.entry.Entry.{Entry}
 use Rattle.am_record.specs.EntryOrder.{Place, place_of, place_cmp, place_cmp-total}
+use Rattle.am_record.proofs.PlaceOrder.{turned_less, turned_greater}
+use Rattle.am_record.proofs.Lists.{AllByRecursion-map, AllByRecursion-at, AllByRecursion-take, AllByRecursion-drop, AllByRecursion-append}
 use Rattle.am_list.specs.Entries.{IsRising}
 use Rattle.am_list.specs.Places.{AllBelow, AllAbove}
 use Rattle.am_leaf.specs.Changes.{set_at}
@@ -14,41 +15,7 @@ use Rattle.am_leaf.specs.Changes.{set_at}
 abbrev IsBelow : Entry → Entry → Type 0
 IsBelow e f = place_cmp (place_of e) (place_of f) ≡ Less
 
-turned_less : (a b : Place) → place_cmp a b ≡ Less → place_cmp b a ≡ Greater
-turned_less a b h = place_cmp-total.antisymm b a ∙ ap ordering_reverse h
-
-turned_greater : (a b : Place) → place_cmp a b ≡ Greater → place_cmp b a ≡ Less
-turned_greater a b h = place_cmp-total.antisymm b a ∙ ap ordering_reverse h
-
-all_map : {X : Type 0} (P Q : X → Type 0) → ((x : X) → P x → Q x) → (xs : List X) → AllByRecursion P xs → AllByRecursion Q xs
-all_map P Q f [] a = tt
-all_map P Q f (x ∷ xs) a = (f x a.0, all_map P Q f xs a.1)
-
-all_at : {X : Type 0} (P : X → Type 0) (xs : List X) (i : ℕ) (d : X) → AllByRecursion P xs → i < length xs → P (get_or xs i d)
-all_at P [] i d a lt = absurd (omega arith)
-all_at P (x ∷ xs) zero d a lt = a.0
-all_at P (x ∷ xs) (suc i) d a lt = all_at P xs i d a.1 (omega arith)
-
-all_take : {X : Type 0} (P : X → Type 0) (n : ℕ) (xs : List X) → AllByRecursion P xs → AllByRecursion P (take n xs)
-all_take P zero xs a = tt
-all_take P (suc n) [] a = tt
-all_take P (suc n) (x ∷ xs) a = (a.0, all_take P n xs a.1)
-
-all_drop : {X : Type 0} (P : X → Type 0) (n : ℕ) (xs : List X) → AllByRecursion P xs → AllByRecursion P (drop n xs)
-all_drop P zero xs a = a
-all_drop P (suc n) [] a = tt
-all_drop P (suc n) (x ∷ xs) a = all_drop P n xs a.1
-
-all_append : {X : Type 0} (P : X → Type 0) (xs ys : List X) → AllByRecursion P xs → AllByRecursion P ys → AllByRecursion P (xs ++ ys)
-all_append P [] ys a b = b
-all_append P (x ∷ xs) ys a b = (a.0, all_append P xs ys a.1 b)
-
 -- ---- cuts and changes
-
-pub rising-take : (n : ℕ) (es : List Entry) → IsRising es → IsRising (take n es)
-rising-take zero es r = tt
-rising-take (suc n) [] r = tt
-rising-take (suc n) (e ∷ es) r = (all_take (IsBelow e) n es r.0, rising-take n es r.1)
 
 pub rising-drop : (n : ℕ) (es : List Entry) → IsRising es → IsRising (drop n es)
 rising-drop zero es r = r
@@ -56,15 +23,15 @@ rising-drop (suc n) [] r = tt
 rising-drop (suc n) (e ∷ es) r = rising-drop n es r.1
 
 pub rising-insert : (es : List Entry) (i : ℕ) (x : Entry) → IsRising es → i ≤ length es → AllBelow (place_of x) (take i es) → AllAbove (place_of x) (drop i es) → IsRising (insert es i x)
-rising-insert es zero x r le b a = (all_map (λ f. place_cmp (place_of f) (place_of x) ≡ Greater) (IsBelow x) (λ f h. turned_greater (place_of f) (place_of x) h) es a, r)
+rising-insert es zero x r le b a = (AllByRecursion-map (λ f. place_cmp (place_of f) (place_of x) ≡ Greater) (IsBelow x) (λ f h. turned_greater (place_of f) (place_of x) h) es a, r)
 rising-insert [] (suc i) x r le b a = absurd (omega arith)
 rising-insert (e ∷ es) (suc i) x r le b a =
-    (all_append (IsBelow e) (take i es) (x ∷ drop i es) (all_take (IsBelow e) i es r.0) (b.0, all_drop (IsBelow e) i es r.0), rising-insert es i x r.1 (omega arith) b.1 a)
+    (AllByRecursion-append (IsBelow e) (take i es) (x ∷ drop i es) (AllByRecursion-take (IsBelow e) i es r.0) (b.0, AllByRecursion-drop (IsBelow e) i es r.0), rising-insert es i x r.1 (omega arith) b.1 a)
 
 pub rising-remove : (es : List Entry) (i : ℕ) → IsRising es → i < length es → IsRising (remove es i)
 rising-remove [] i r lt = absurd (omega arith)
 rising-remove (e ∷ es) zero r lt = r.1
-rising-remove (e ∷ es) (suc i) r lt = (all_append (IsBelow e) (take i es) (drop (suc i) es) (all_take (IsBelow e) i es r.0) (all_drop (IsBelow e) (suc i) es r.0), rising-remove es i r.1 (omega arith))
+rising-remove (e ∷ es) (suc i) r lt = (AllByRecursion-append (IsBelow e) (take i es) (drop (suc i) es) (AllByRecursion-take (IsBelow e) i es r.0) (AllByRecursion-drop (IsBelow e) (suc i) es r.0), rising-remove es i r.1 (omega arith))
 
 all_set : (e : Entry) (es : List Entry) (i : ℕ) (v : List ℕ) (b : Bool) → AllByRecursion (IsBelow e) es → AllByRecursion (IsBelow e) (set_at es i v b)
 all_set e [] i v b a = tt
@@ -85,13 +52,13 @@ module _ (p : Place) where
   all_below [] i d r lt h = absurd (omega arith)
   all_below (e ∷ es) zero d r lt h = (h, tt)
   all_below (e ∷ es) (suc i) d r lt h =
-      (place_cmp-total.trans (place_of e) (place_of (get_or es i d)) p (all_at (IsBelow e) es i d r.0 (omega arith)) h, all_below es i d r.1 (omega arith) h)
+      (place_cmp-total.trans (place_of e) (place_of (get_or es i d)) p (AllByRecursion-at (IsBelow e) es i d r.0 (omega arith)) h, all_below es i d r.1 (omega arith) h)
 
   -- from an entry above the place on, all are
   pub all_above : (es : List Entry) (i : ℕ) (d : Entry) → IsRising es → i < length es → place_cmp (place_of (get_or es i d)) p ≡ Greater → AllAbove p (drop i es)
   all_above [] i d r lt h = absurd (omega arith)
   all_above (e ∷ es) zero d r lt h =
-      (h, all_map (IsBelow e) (λ f. place_cmp (place_of f) p ≡ Greater) (λ f below. turned_less p (place_of f) (place_cmp-total.trans p (place_of e) (place_of f) (turned_greater (place_of e) p h) below)) es r.0)
+      (h, AllByRecursion-map (IsBelow e) (λ f. place_cmp (place_of f) p ≡ Greater) (λ f below. turned_less p (place_of f) (place_cmp-total.trans p (place_of e) (place_of f) (turned_greater (place_of e) p h) below)) es r.0)
   all_above (e ∷ es) (suc i) d r lt h = all_above es i d r.1 (omega arith) h
 
   -- before the entry of the place all are below it, and after it above
@@ -99,15 +66,10 @@ module _ (p : Place) where
   below_here [] i d r lt h = absurd (omega arith)
   below_here (e ∷ es) zero d r lt h = tt
   below_here (e ∷ es) (suc i) d r lt h =
-      (sym (alike_right place_cmp-total (place_of (get_or es i d)) p (place_of e) h) ∙ all_at (IsBelow e) es i d r.0 (omega arith), below_here es i d r.1 (omega arith) h)
+      (sym (alike_right place_cmp-total (place_of (get_or es i d)) p (place_of e) h) ∙ AllByRecursion-at (IsBelow e) es i d r.0 (omega arith), below_here es i d r.1 (omega arith) h)
 
   pub above_here : (es : List Entry) (i : ℕ) (d : Entry) → IsRising es → i < length es → place_cmp (place_of (get_or es i d)) p ≡ Equal → AllAbove p (drop (suc i) es)
   above_here [] i d r lt h = absurd (omega arith)
   above_here (e ∷ es) zero d r lt h =
-      all_map (IsBelow e) (λ f. place_cmp (place_of f) p ≡ Greater) (λ f below. turned_less p (place_of f) (sym (place_cmp-total.congr (place_of e) p (place_of f) h) ∙ below)) es r.0
+      AllByRecursion-map (IsBelow e) (λ f. place_cmp (place_of f) p ≡ Greater) (λ f below. turned_less p (place_of f) (sym (place_cmp-total.congr (place_of e) p (place_of f) h) ∙ below)) es r.0
   above_here (e ∷ es) (suc i) d r lt h = above_here es i d r.1 (omega arith) h
-
--- an entry of a list that has one
-pub some_entry : (es : List Entry) (i : ℕ) → i < length es → Entry
-some_entry [] i lt = absurd (omega arith)
-some_entry (e ∷ es) i lt = e

@@ -2,7 +2,7 @@
 use Rattle.std.proofs.Common.{◌≡◌, ◌≢◌, ℕ, zero, suc, ◌+◌, ◌<◌, ◌≤◌, add-one, Bool, true, false, ◌&&◌, eqb, List, [], ◌∷◌, ◌++◌, length, get_or, take, drop, refl, sym, ap, ◌∙◌, subst, ⊎_elim, arith}
 use Rattle.std.proofs.Math.Seq.{drop-cons}
 use Rattle.std.proofs.lemmas.List.Sums.{take_while-cons}
-use Rattle.std.proofs.lemmas.Bool.{cond-true, cond-false, cases_Bool}
+use Rattle.std.proofs.lemmas.Bool.{cond-true, cond-false, cases_Bool, and_from, and_right}
 use Rattle.std.proofs.lemmas.List.{take-append-drop}
 use Rattle.std.proofs.lemmas.List.Elements.{filter-append}
 use Rattle.std.specs.List.{AllByRecursion, filter, take_while}
@@ -12,9 +12,10 @@ use Rattle.std.specs.Ordering.{is_gt}
 use Rattle.am_record.specs.OrderedKey.{OrderedKey}
 use Rattle.am_record.specs.declared.entry.Entry.{Entry}
 use Rattle.am_record.specs.EntryOrder.{Place, place_of, place_cmp}
+use Rattle.am_record.proofs.Lists.{AllByRecursion-map}
 use Rattle.am_list.specs.Entries.{all_after, IsRising}
 use Rattle.am_list.specs.Places.{AllAbove, NoneAbove, IsUpperBound}
-use Rattle.am_list.proofs.Lists.{AllByRecursion-map, and_false, and_true, not_greater, differ, other_part, later_parts, rising_back}
+use Rattle.am_list.proofs.Lists.{not_greater, differ, other_part, later_parts, rising_back}
 
 -- a list that is not too long is taken whole
 pub take_whole : {X : Type 0} (n : ℕ) (xs : List X) → length xs ≤ n → take n (xs ++ []) ≡ xs
@@ -70,7 +71,7 @@ module _ (part : ℕ) (key : OrderedKey) where
   all_after-append xs ys = filter-append (λ e. in_part e && is_gt (c e)) xs ys
 
   pub all_after_below : (xs : List Entry) → NoneAbove p xs → all_after xs part key ≡ []
-  all_after_below xs b = filter_none (λ e. in_part e && is_gt (c e)) xs (AllByRecursion-map (λ e. c e ≢ Greater) (λ e. (in_part e && is_gt (c e)) ≡ false) (λ e h. and_false (in_part e) (is_gt (c e)) (not_greater (c e) h)) xs b)
+  all_after_below xs b = filter_none (λ e. in_part e && is_gt (c e)) xs (AllByRecursion-map (λ e. c e ≢ Greater) (λ e. (in_part e && is_gt (c e)) ≡ false) (λ e h. and_right (in_part e) (is_gt (c e)) (not_greater (c e) h)) xs b)
 
   pub all_after_others : (xs : List Entry) → AllByRecursion (λ e. e.part ≢ part) xs → all_after xs part key ≡ []
   all_after_others xs others = filter_none (λ e. in_part e && is_gt (c e)) xs (AllByRecursion-map (λ e. e.part ≢ part) (λ e. (in_part e && is_gt (c e)) ≡ false) (λ e h. other_part part key (λ f. is_gt (c f)) e h) xs others)
@@ -82,7 +83,7 @@ module _ (part : ℕ) (key : OrderedKey) where
       ⊎_elim
       (λ same.
       take_while-cons in_part y ys ∙ cond-true (in_part y) (y ∷ take_while in_part ys) [] same ∙ ap (λ l. y ∷ l) (all_after_front ys rising.1 above.1)
-      ∙ sym (cond-true (in_part y && is_gt (c y)) (y ∷ all_after ys part key) (all_after ys part key) (and_true (in_part y) (is_gt (c y)) same (ap is_gt above.0))))
+      ∙ sym (cond-true (in_part y && is_gt (c y)) (y ∷ all_after ys part key) (all_after ys part key) (and_from (in_part y) (is_gt (c y)) same (ap is_gt above.0))))
       (λ other.
       let not_less : c y ≢ Less = λ less. absurd (cc above.0) in
       take_while-cons in_part y ys ∙ cond-false (in_part y) (y ∷ take_while in_part ys) [] other ∙ sym (all_after_others (y ∷ ys) (later_parts part key y ys not_less (differ y.part part other) rising)))

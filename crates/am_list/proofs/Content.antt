@@ -3,15 +3,16 @@ use Rattle.std.proofs.Common.{◌≡◌, ℕ, List, [], ◌∷◌, Bool, true, f
 use Rattle.std.specs.Prelude.{is_some}
 use Rattle.std.proofs.lemmas.Bool.{cases_Bool, cond-true, cond-false, false≢true}
 use Rattle.std.specs.declared.cmp.Ordering.TheVariants.{Less}
-use Rattle.std.specs.Ordering.{is_eq, eq_by_cmp}
+use Rattle.std.specs.Ordering.{is_eq}
 use Rattle.std.specs.Option.{option_map}
-use Rattle.std.proofs.lemmas.Option.{same_Some}
+use Rattle.std.proofs.lemmas.Option.{none-some, same_Some}
 use Rattle.std.specs.List.{AllByRecursion}
 use Rattle.std.specs.FinMap.{get, find as looked_up, same_map, get-from_entries}
-use Rattle.am_record.specs.OrderedKey.{OrderedKey, key_cmp, key_cmp-total, key_cmp-exact, key_cmp-itself, key_eq-exact}
+use Rattle.am_record.specs.OrderedKey.{OrderedKey, key_cmp, key_cmp-total, key_cmp-exact, key_eq-exact}
 use Rattle.am_record.specs.Plain.{PlainMap}
 use Rattle.am_record.specs.EntryOrder.{Place, place_of, place_cmp}
 use Rattle.am_record.specs.declared.entry.Entry.{Entry}
+use Rattle.am_record.proofs.FirstRows.{key_eq, key_eq-itself}
 use Rattle.am_list.specs.Entries.{Slot, slot_of, entry_at, find, IsRising}
 use Rattle.am_list.specs.Edits.{same_place}
 use Rattle.am_list.specs.Content.{live_records, content, IsLiveAt, OnePlace, HasContent, live_value, HasOne, values_at}
@@ -32,12 +33,6 @@ all_found [] rising = tt
 all_found (e ∷ es) rising = (entry_at-hit e.part e.key e es (same_place-itself e.part e.key), past_first e es es rising.0 (all_found es rising.1))
 
 -- ---- one step through the records
-
-abbrev key_eq : OrderedKey → OrderedKey → Bool
-key_eq a b = eq_by_cmp key_cmp a b
-
-key_eq-itself : (k : OrderedKey) → key_eq k k ≡ true
-key_eq-itself k = ap is_eq (key_cmp-itself k)
 
 module _ (e : Entry) (es : List Entry) (key : OrderedKey) where
   abbrev later : Option (List ℕ)
@@ -167,3 +162,7 @@ content_from es m rising h =
 -- what the partitions have of the key, the map has
 pub content_values : {es : List Entry} {m : PlainMap} → HasContent es m → (key : OrderedKey) → HasOne (values_at es key) (get m key)
 content_values {es} {m} h key = subst (λ (x : PlainMap). HasOne (values_at es key) (get x key)) h.same (content_has_one es h.rising h.one_place key)
+
+-- where nothing stands nothing is live
+pub none_live : (es : List Entry) (part : ℕ) (key : OrderedKey) → find es part key ≡ None → (value : List ℕ) → ¬ IsLiveAt es part key value
+none_live es part key none value live = none-some (value, false) (sym none ∙ live.there)

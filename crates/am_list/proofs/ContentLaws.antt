@@ -3,12 +3,14 @@ use Rattle.std.proofs.Common.{◌≡◌, ◌≢◌, ℕ, List, [], true, false, 
 use Rattle.std.specs.Prelude.{IsSome, is_some}
 use Rattle.std.proofs.lemmas.Bool.{cases_Bool, cond-true, cond-false, true≢false, both_ways}
 use Rattle.std.proofs.lemmas.Option.{none-some, same_Some}
-use Rattle.std.specs.Ordering.{is_eq, eq_by_cmp}
+use Rattle.std.specs.Ordering.{eq_by_cmp}
 use Rattle.std.specs.FinMap.{get, insert, remove, empty, same_map, get-insert, get-remove, get-empty}
-use Rattle.am_record.specs.OrderedKey.{OrderedKey, key_cmp, key_cmp-total, key_cmp-exact, key_cmp-itself, key_eq-exact}
+use Rattle.am_record.specs.OrderedKey.{OrderedKey, key_cmp, key_cmp-total, key_cmp-exact, key_eq-exact}
 use Rattle.am_record.specs.Plain.{PlainMap}
 use Rattle.am_record.specs.EntryOrder.{Place}
 use Rattle.am_record.specs.declared.entry.Entry.{Entry}
+use Rattle.am_record.proofs.FirstRows.{key_eq-itself}
+use Rattle.am_record.proofs.Maps.{get_beside_inserted, get_beside_removed}
 use Rattle.am_list.specs.Entries.{Slot, slot_of, find, insert_entry, set_entry, remove_entry, IsRising}
 use Rattle.am_list.specs.Edits.{same_place, IsChangedAt, EditLaws}
 use Rattle.am_list.specs.Content.{content, IsLiveAt, OnePlace, HasContent, live_value, HasOne, values_at, ContentLaws}
@@ -18,23 +20,14 @@ use Rattle.am_list.proofs.Content.{content_found, content_dead, content_live, co
 
 -- ---- maps with one key changed
 
-key_eq-itself : (k : OrderedKey) → eq_by_cmp key_cmp k k ≡ true
-key_eq-itself k = ap is_eq (key_cmp-itself k)
-
 apart_keys : (q k : OrderedKey) → eq_by_cmp key_cmp q k ≡ false → q ≢ k
 apart_keys q k h e = both_ways (eq_by_cmp key_cmp q k) h (subst (λ x. eq_by_cmp key_cmp q x ≡ true) e (key_eq-itself q))
 
 pub get_inserted : (m : PlainMap) (k : OrderedKey) (v : List ℕ) → get (insert m k v) k ≡ Some v
 get_inserted m k v = get-insert key_cmp-total m k v k ∙ cond-true (eq_by_cmp key_cmp k k) (Some v) (get m k) (key_eq-itself k)
 
-pub get_beside_inserted : (m : PlainMap) (k : OrderedKey) (v : List ℕ) (q : OrderedKey) → eq_by_cmp key_cmp q k ≡ false → get (insert m k v) q ≡ get m q
-get_beside_inserted m k v q n = get-insert key_cmp-total m k v q ∙ cond-false (eq_by_cmp key_cmp q k) (Some v) (get m q) n
-
 pub get_removed : (m : PlainMap) (k : OrderedKey) → get (remove m k) k ≡ None
 get_removed m k = get-remove key_cmp-total m k k ∙ cond-true (eq_by_cmp key_cmp k k) None (get m k) (key_eq-itself k)
-
-pub get_beside_removed : (m : PlainMap) (k q : OrderedKey) → eq_by_cmp key_cmp q k ≡ false → get (remove m k) q ≡ get m q
-get_beside_removed m k q n = get-remove key_cmp-total m k q ∙ cond-false (eq_by_cmp key_cmp q k) None (get m q) n
 
 -- a key that is set to the value that it has
 pub insert_again : (m : PlainMap) (k : OrderedKey) (v : List ℕ) → get m k ≡ Some v → insert m k v ≡ m

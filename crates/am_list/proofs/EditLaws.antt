@@ -10,9 +10,9 @@ use Rattle.std.proofs.lemmas.Option.{none-some, same_Some}
 use Rattle.am_record.specs.OrderedKey.{OrderedKey}
 use Rattle.am_record.specs.EntryOrder.{Place, place_of, place_cmp, place_cmp-exact}
 use Rattle.am_record.specs.declared.entry.Entry.{Entry}
+use Rattle.am_record.proofs.PlaceOrder.{turned_less, turned_greater}
 use Rattle.am_list.specs.Entries.{Slot, slot_of, entry_at, find, insert_entry, set_entry, remove_entry, IsRising}
 use Rattle.am_list.specs.Edits.{same_place, IsChangedAt, EditLaws}
-use Rattle.am_list.proofs.Order.{turned_less, turned_greater}
 use Rattle.am_list.proofs.Lists.{entry_at_none, rising_above}
 use Rattle.am_list.proofs.Edits.{one_place, same_place-itself, turned_apart, first_such_all, entry_at_slot, entry_at-hit, entry_at-miss, find-hit, find-miss, remove-hit, remove-miss, set-hit, set-miss, insert-later, insert-here, later_none, entry_at_inserted, entry_at_beside_inserted, rising_inserted, insert_back, entry_at_removed, entry_at_beside_removed, rising_removed, find_reset, entry_at_beside_reset, rising_reset}
 

@@ -1,5 +1,5 @@
 -- The edits of lists of entries, place by place.
-use Rattle.std.proofs.Common.{◌≡◌, ◌≢◌, ℕ, List, [], ◌∷◌, Bool, true, false, cond, Option, Some, None, refl, sym, ap, ◌∙◌, subst, ⊎_elim}
+use Rattle.std.proofs.Common.{◌≡◌, ◌≢◌, ℕ, List, [], ◌∷◌, Bool, true, false, cond, filter, Option, Some, None, refl, sym, ap, ◌∙◌, subst, ⊎_elim}
 use Rattle.std.specs.Prelude.{IsSome}
 use Rattle.std.proofs.lemmas.Bool.{cases_Bool, cond-true, cond-false, true≢false, false≢true, false_from_ne_true}
 use Rattle.std.specs.declared.cmp.Ordering.{Ordering}
@@ -8,24 +8,22 @@ use Rattle.std.specs.Ordering.{is_eq, is_lt, eq_by_cmp, ordering_reverse}
 use Rattle.std.specs.Cmp.{tied_itself}
 use Rattle.std.specs.Option.{option_map}
 use Rattle.std.specs.List.{AllByRecursion}
+use Rattle.std.proofs.lemmas.Option.{none-some}
 use Rattle.am_record.specs.OrderedKey.{OrderedKey}
 use Rattle.am_record.specs.EntryOrder.{Place, place_of, place_cmp, place_cmp-total, place_cmp-exact}
 use Rattle.am_record.specs.declared.entry.Entry.{Entry}
+use Rattle.am_record.proofs.Lists.{AllByRecursion-map, heads, tails, none_first, filter-yes, filter-no, AllByRecursion-filter}
+use Rattle.am_record.proofs.PlaceOrder.{turned_greater}
+use Rattle.am_record.proofs.Orderings.{is_equal, lt_not_eq}
 use Rattle.am_list.specs.Entries.{Slot, slot_of, first_such, entry_at, find, insert_entry, set_entry, remove_entry, IsRising}
 use Rattle.am_list.specs.Edits.{same_place}
-use Rattle.am_list.proofs.Order.{turned_greater}
-use Rattle.am_list.proofs.Lists.{AllByRecursion-map, entry_at_none, rising_above}
+use Rattle.am_list.proofs.Lists.{entry_at_none, rising_above}
 
 -- ---- places
 
-tied : (o : Ordering) → is_eq o ≡ true → o ≡ Equal
-tied Less h = absurd (false≢true h)
-tied Equal h = refl
-tied Greater h = absurd (false≢true h)
-
 -- places that compare as equal are one
 pub one_place : (a b : Place) → eq_by_cmp place_cmp a b ≡ true → a ≡ b
-one_place a b h = place_cmp-exact a b (tied (place_cmp a b) h)
+one_place a b h = place_cmp-exact a b (is_equal (place_cmp a b) h)
 
 pub place_cmp-itself : (a : Place) → place_cmp a a ≡ Equal
 place_cmp-itself a = tied_itself place_cmp-total a
@@ -121,15 +119,10 @@ module _ (x e : Entry) (es : List Entry) where
   pub insert-here : comes_first ≡ false → insert_entry (e ∷ es) x ≡ x ∷ e ∷ es
   insert-here h = cond-false comes_first (e ∷ insert_entry es x) (x ∷ e ∷ es) h
 
-below_apart : (o : Ordering) → is_lt o ≡ true → is_eq o ≡ false
-below_apart Less h = refl
-below_apart Equal h = absurd (false≢true h)
-below_apart Greater h = refl
-
 -- in a rising list no later entry has the place of the first
 pub later_none : (part : ℕ) (key : OrderedKey) (e : Entry) (es : List Entry) → IsRising (e ∷ es) → same_place e.part e.key part key ≡ true → entry_at es part key ≡ None
 later_none part key e es rising h =
-    let equal = tied (place_cmp (place_of e) (part, key)) h in
+    let equal = is_equal (place_cmp (place_of e) (part, key)) h in
     let not_less : place_cmp (place_of e) (part, key) ≢ Less = λ less. absurd (cc equal) in
     entry_at_none part key es (rising_above (part, key) e es not_less rising)
 
@@ -140,7 +133,7 @@ entry_at_inserted [] x = entry_at-hit x.part x.key x [] (same_place-itself x.par
 entry_at_inserted (e ∷ es) x =
     let at : List Entry → Option Entry = λ l. entry_at l x.part x.key in
     ⊎_elim
-    (λ lt. ap at (insert-later x e es lt) ∙ entry_at-miss x.part x.key e (insert_entry es x) (below_apart (place_cmp (place_of e) (place_of x)) lt) ∙ entry_at_inserted es x)
+    (λ lt. ap at (insert-later x e es lt) ∙ entry_at-miss x.part x.key e (insert_entry es x) (lt_not_eq (place_cmp (place_of e) (place_of x)) lt) ∙ entry_at_inserted es x)
     (λ ge. ap at (insert-here x e es ge) ∙ entry_at-hit x.part x.key x (e ∷ es) (same_place-itself x.part x.key))
     (cases_Bool (is_lt (place_cmp (place_of e) (place_of x))))
 
@@ -153,7 +146,7 @@ entry_at_beside_inserted (e ∷ es) x part key n =
     (λ ge. ap at (insert-here x e es ge) ∙ entry_at-miss part key x (e ∷ es) n)
     (cases_Bool (is_lt (place_cmp (place_of e) (place_of x))))
 
-all_inserted : (P : Entry → Type 0) (es : List Entry) (x : Entry) → P x → AllByRecursion P es → AllByRecursion P (insert_entry es x)
+pub all_inserted : (P : Entry → Type 0) (es : List Entry) (x : Entry) → P x → AllByRecursion P es → AllByRecursion P (insert_entry es x)
 all_inserted P [] x p a = (p, tt)
 all_inserted P (e ∷ es) x p a =
     elim (is_lt (place_cmp (place_of e) (place_of x))) as (λ b. AllByRecursion P (cond b (e ∷ insert_entry es x) (x ∷ e ∷ es))) [
@@ -183,7 +176,7 @@ insert_back [] x = remove-hit x.part x.key x [] (same_place-itself x.part x.key)
 insert_back (e ∷ es) x =
     let out : List Entry → List Entry = λ l. remove_entry l x.part x.key in
     ⊎_elim
-    (λ lt. ap out (insert-later x e es lt) ∙ remove-miss x.part x.key e (insert_entry es x) (below_apart (place_cmp (place_of e) (place_of x)) lt) ∙ ap (λ l. e ∷ l) (insert_back es x))
+    (λ lt. ap out (insert-later x e es lt) ∙ remove-miss x.part x.key e (insert_entry es x) (lt_not_eq (place_cmp (place_of e) (place_of x)) lt) ∙ ap (λ l. e ∷ l) (insert_back es x))
     (λ ge. ap out (insert-here x e es ge) ∙ remove-hit x.part x.key x (e ∷ es) (same_place-itself x.part x.key))
     (cases_Bool (is_lt (place_cmp (place_of e) (place_of x))))
 
@@ -268,3 +261,28 @@ module _ (part : ℕ) (key : OrderedKey) (value : List ℕ) (is_ghost : Bool) wh
         | true ↦ rising
         | false ↦ (all_reset (λ q. place_cmp (place_of e) q ≡ Less) es rising.0, rising_reset es rising.1)
       ]
+
+-- ---- what passes a test
+
+-- the first that passes is taken away
+pub filter-removed : (test : Entry → Bool) (es : List Entry) (c : Entry) (cs : List Entry) → IsRising es → filter test es ≡ c ∷ cs → filter test (remove_entry es c.part c.key) ≡ cs
+filter-removed test [] c cs r h = absurd (none_first h)
+filter-removed test (e ∷ es) c cs r h = ⊎_elim
+    (λ passes.
+    let all = sym (filter-yes test e es passes) ∙ h in
+    let same : e ≡ c = heads all in
+    let hit : same_place e.part e.key c.part c.key ≡ true = subst (λ (x : Entry). same_place e.part e.key x.part x.key ≡ true) same (same_place-itself e.part e.key) in
+    ap (filter test) (remove-hit c.part c.key e es hit) ∙ tails all)
+    (λ fails.
+    let rest = sym (filter-no test e es fails) ∙ h in
+    let below : AllByRecursion (λ f. place_cmp (place_of e) (place_of f) ≡ Less) (c ∷ cs) = subst (λ (l : List Entry). AllByRecursion (λ f. place_cmp (place_of e) (place_of f) ≡ Less) l) rest (AllByRecursion-filter (λ f. place_cmp (place_of e) (place_of f) ≡ Less) test es r.0) in
+    ap (filter test) (remove-miss c.part c.key e es (ap is_eq below.0)) ∙ filter-no test e (remove_entry es c.part c.key) fails ∙ filter-removed test es c cs r.1 rest)
+    (cases_Bool (test e))
+
+-- where no entry passes, each fails
+pub none_such : (test : Entry → Bool) (es : List Entry) → first_such test es ≡ None → AllByRecursion (λ e. test e ≡ false) es
+none_such test [] h = tt
+none_such test (e ∷ es) h = ⊎_elim
+    (λ yes. absurd (none-some e (sym h ∙ cond-true (test e) (Some e) (first_such test es) yes)))
+    (λ no. (no, none_such test es (sym (cond-false (test e) (Some e) (first_such test es) no) ∙ h)))
+    (cases_Bool (test e))

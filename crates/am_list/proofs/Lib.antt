@@ -1,4 +1,3 @@
-pub mod Order
 pub mod Lists
 pub mod Batches
 pub mod Searches

@@ -1,6 +1,6 @@
 -- Lists of entries that are cut at a place: all of xs below it, none of ys.
-use Rattle.std.proofs.Common.{◌≡◌, ◌≢◌, ℕ, ◌<◌, ◌≤◌, Bool, true, false, cond, ◌&&◌, eqb, List, [], ◌∷◌, ◌++◌, Some, None, refl, sym, ap, ◌∙◌, subst, ⊎_elim, arith}
-use Rattle.std.proofs.lemmas.Bool.{eq-eqb, ne_eqb, eqb-true, both_ways, cases_Bool, cond-true, cond-false}
+use Rattle.std.proofs.Common.{◌≡◌, ◌≢◌, ℕ, zero, suc, take, ◌<◌, ◌≤◌, Bool, true, false, cond, ◌&&◌, eqb, List, [], ◌∷◌, ◌++◌, Some, None, refl, sym, ap, ◌∙◌, subst, ⊎_elim, arith}
+use Rattle.std.proofs.lemmas.Bool.{eq-eqb, ne_eqb, eqb-true, both_ways, cases_Bool, cond-true, cond-false, and_from, and_right}
 use Rattle.std.specs.declared.cmp.Ordering.{Ordering}
 use Rattle.std.specs.declared.cmp.Ordering.TheVariants.{Less, Equal, Greater}
 use Rattle.std.specs.Ordering.{is_eq, is_lt, is_gt, is_ge}
@@ -8,25 +8,10 @@ use Rattle.std.specs.List.{AllByRecursion, slice_get}
 use Rattle.am_record.specs.OrderedKey.{OrderedKey}
 use Rattle.am_record.specs.declared.entry.Entry.{Entry}
 use Rattle.am_record.specs.EntryOrder.{Place, place_of, place_cmp, place_cmp-part}
+use Rattle.am_record.proofs.Lists.{AllByRecursion-map, AllByRecursion-append, AllByRecursion-front, AllByRecursion-back, AllByRecursion-take}
+use Rattle.am_record.proofs.PlaceOrder.{above_from, turned_greater}
 use Rattle.am_list.specs.Entries.{first_such, entry_at, next_any, next_ghost, next_from, after, insert_entry, set_entry, remove_entry, IsRising}
 use Rattle.am_list.specs.Places.{AllBelow, NoneBelow, AllAbove, NoneAbove, only_of}
-use Rattle.am_list.proofs.Order.{above_from, turned_greater}
-
-pub AllByRecursion-map : {X : Type 0} (P Q : X → Type 0) → ((x : X) → P x → Q x) → (xs : List X) → AllByRecursion P xs → AllByRecursion Q xs
-AllByRecursion-map P Q f [] a = tt
-AllByRecursion-map P Q f (x ∷ xs) a = (f x a.0, AllByRecursion-map P Q f xs a.1)
-
-pub AllByRecursion-append : {X : Type 0} (P : X → Type 0) (xs ys : List X) → AllByRecursion P xs → AllByRecursion P ys → AllByRecursion P (xs ++ ys)
-AllByRecursion-append P [] ys a b = b
-AllByRecursion-append P (x ∷ xs) ys a b = (a.0, AllByRecursion-append P xs ys a.1 b)
-
-pub AllByRecursion-front : {X : Type 0} (P : X → Type 0) (xs ys : List X) → AllByRecursion P (xs ++ ys) → AllByRecursion P xs
-AllByRecursion-front P [] ys a = tt
-AllByRecursion-front P (x ∷ xs) ys a = (a.0, AllByRecursion-front P xs ys a.1)
-
-pub AllByRecursion-back : {X : Type 0} (P : X → Type 0) (xs ys : List X) → AllByRecursion P (xs ++ ys) → AllByRecursion P ys
-AllByRecursion-back P [] ys a = a
-AllByRecursion-back P (x ∷ xs) ys a = AllByRecursion-back P xs ys a.1
 
 -- ---- the first entry that passes a test
 
@@ -41,14 +26,6 @@ first_such_none test (x ∷ xs) a = rw a.0 (first_such_none test xs a.1)
 
 pub first_such_here : (test : Entry → Bool) (x : Entry) (xs : List Entry) → test x ≡ true → first_such test (x ∷ xs) ≡ Some x
 first_such_here test x xs h = rw h
-
-pub and_false : (a b : Bool) → b ≡ false → (a && b) ≡ false
-and_false true b e = e
-and_false false b e = refl
-
-pub and_true : (a b : Bool) → a ≡ true → b ≡ true → (a && b) ≡ true
-and_true true b e h = h
-and_true false b e h = e
 
 and_alone : (a b : Bool) → b ≡ true → (a && b) ≡ a
 and_alone true b e = e
@@ -87,13 +64,13 @@ module _ (part : ℕ) (key : OrderedKey) where
   next_any-append xs ys b = first_such-append (λ e. is_ge (c e)) xs ys (AllByRecursion-map (λ e. c e ≡ Less) (λ e. is_ge (c e) ≡ false) (λ e h. ap is_ge h) xs b)
 
   pub next_ghost-append : (xs ys : List Entry) → AllBelow p xs → next_ghost (xs ++ ys) part key ≡ next_ghost ys part key
-  next_ghost-append xs ys b = first_such-append (λ e. e.is_ghost && is_ge (c e)) xs ys (AllByRecursion-map (λ e. c e ≡ Less) (λ e. (e.is_ghost && is_ge (c e)) ≡ false) (λ e h. and_false e.is_ghost (is_ge (c e)) (ap is_ge h)) xs b)
+  next_ghost-append xs ys b = first_such-append (λ e. e.is_ghost && is_ge (c e)) xs ys (AllByRecursion-map (λ e. c e ≡ Less) (λ e. (e.is_ghost && is_ge (c e)) ≡ false) (λ e h. and_right e.is_ghost (is_ge (c e)) (ap is_ge h)) xs b)
 
   pub next_from-append : (xs ys : List Entry) → AllBelow p xs → next_from (xs ++ ys) part key ≡ next_from ys part key
-  next_from-append xs ys b = first_such-append (λ e. eqb e.part part && is_ge (c e)) xs ys (AllByRecursion-map (λ e. c e ≡ Less) (λ e. (eqb e.part part && is_ge (c e)) ≡ false) (λ e h. and_false (eqb e.part part) (is_ge (c e)) (ap is_ge h)) xs b)
+  next_from-append xs ys b = first_such-append (λ e. eqb e.part part && is_ge (c e)) xs ys (AllByRecursion-map (λ e. c e ≡ Less) (λ e. (eqb e.part part && is_ge (c e)) ≡ false) (λ e h. and_right (eqb e.part part) (is_ge (c e)) (ap is_ge h)) xs b)
 
   pub after-append : (xs ys : List Entry) → NoneAbove p xs → after (xs ++ ys) part key ≡ after ys part key
-  after-append xs ys b = first_such-append (λ e. eqb e.part part && is_gt (c e)) xs ys (AllByRecursion-map (λ e. c e ≢ Greater) (λ e. (eqb e.part part && is_gt (c e)) ≡ false) (λ e h. and_false (eqb e.part part) (is_gt (c e)) (not_greater (c e) h)) xs b)
+  after-append xs ys b = first_such-append (λ e. eqb e.part part && is_gt (c e)) xs ys (AllByRecursion-map (λ e. c e ≢ Greater) (λ e. (eqb e.part part && is_gt (c e)) ≡ false) (λ e h. and_right (eqb e.part part) (is_gt (c e)) (not_greater (c e) h)) xs b)
 
   -- ---- at the first entry that is not below
 
@@ -107,10 +84,10 @@ module _ (part : ℕ) (key : OrderedKey) where
   next_any_here y ys h = first_such_here (λ e. is_ge (c e)) y ys (not_less (c y) h)
 
   pub next_from_here : (y : Entry) (ys : List Entry) → c y ≢ Less → y.part ≡ part → next_from (y ∷ ys) part key ≡ Some y
-  next_from_here y ys h same = first_such_here (λ e. eqb e.part part && is_ge (c e)) y ys (and_true (eqb y.part part) (is_ge (c y)) (eq-eqb y.part part same) (not_less (c y) h))
+  next_from_here y ys h same = first_such_here (λ e. eqb e.part part && is_ge (c e)) y ys (and_from (eqb y.part part) (is_ge (c y)) (eq-eqb y.part part same) (not_less (c y) h))
 
   pub after_here : (y : Entry) (ys : List Entry) → c y ≡ Greater → y.part ≡ part → after (y ∷ ys) part key ≡ Some y
-  after_here y ys h same = first_such_here (λ e. eqb e.part part && is_gt (c e)) y ys (and_true (eqb y.part part) (is_gt (c y)) (eq-eqb y.part part same) (ap is_gt h))
+  after_here y ys h same = first_such_here (λ e. eqb e.part part && is_gt (c e)) y ys (and_from (eqb y.part part) (is_gt (c y)) (eq-eqb y.part part same) (ap is_gt h))
 
   pub other_part : (t : Entry → Bool) (e : Entry) → e.part ≢ part → (eqb e.part part && t e) ≡ false
   other_part t e n = first_false (eqb e.part part) (t e) (ne_eqb e.part part n)
@@ -195,6 +172,15 @@ rising_front (x ∷ xs) ys r = (AllByRecursion-front (λ f. place_cmp (place_of 
 pub rising_back : (xs ys : List Entry) → IsRising (xs ++ ys) → IsRising ys
 rising_back [] ys r = r
 rising_back (x ∷ xs) ys r = rising_back xs ys r.1
+
+pub rising-take : (n : ℕ) (es : List Entry) → IsRising es → IsRising (take n es)
+rising-take zero es r = tt
+rising-take (suc n) [] r = tt
+rising-take (suc n) (e ∷ es) r = (AllByRecursion-take (λ f. place_cmp (place_of e) (place_of f) ≡ Less) n es r.0, rising-take n es r.1)
+
+pub below_itself : (before : List Entry) (e : Entry) (behind : List Entry) → IsRising (before ++ e ∷ behind) → AllBelow (place_of e) before
+below_itself [] e behind r = tt
+below_itself (x ∷ xs) e behind r = ((AllByRecursion-back (λ (f : Entry). place_cmp (place_of x) (place_of f) ≡ Less) xs (e ∷ behind) r.0).0, below_itself xs e behind r.1)
 
 pub rising_insert : (x : Entry) (xs ys : List Entry) → IsRising (xs ++ ys) → AllBelow (place_of x) xs → AllAbove (place_of x) ys → IsRising (xs ++ x ∷ ys)
 rising_insert x [] ys r b a = (AllByRecursion-map (λ f. place_cmp (place_of f) (place_of x) ≡ Greater) (λ f. place_cmp (place_of x) (place_of f) ≡ Less) (λ f h. turned_greater (place_of f) (place_of x) h) ys a, r)

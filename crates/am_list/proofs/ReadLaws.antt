@@ -1,20 +1,21 @@
 -- What is read on in a rising list, in terms of `after` and of what stands at each place.
 use Rattle.std.proofs.Common.{◌≡◌, ℕ, Bool, true, false, ◌&&◌, eqb, cond, List, [], ◌∷◌, ◌++◌, Some, None, if◌then◌else◌, refl, sym, ap, ◌∙◌, subst, ⊎_elim}
-use Rattle.std.proofs.lemmas.Bool.{cases_Bool, cond-true, cond-false, and_parts, eqb-true}
+use Rattle.std.proofs.lemmas.Bool.{cases_Bool, cond-true, cond-false, and_parts, eqb-true, and_right}
 use Rattle.std.proofs.lemmas.Option.{none-some, same_Some}
 use Rattle.std.specs.List.{AllByRecursion, filter, slice_get}
-use Rattle.std.specs.declared.cmp.Ordering.{Ordering}
 use Rattle.std.specs.declared.cmp.Ordering.TheVariants.{Less, Equal, Greater}
-use Rattle.std.specs.Ordering.{is_lt, is_gt, ordering_reverse}
+use Rattle.std.specs.Ordering.{is_lt, is_gt}
 use Rattle.std.specs.Option.{option_map}
 use Rattle.am_record.specs.OrderedKey.{OrderedKey, key_cmp}
 use Rattle.am_record.specs.EntryOrder.{Place, place_of, place_cmp}
 use Rattle.am_record.specs.declared.entry.Entry.{Entry}
+use Rattle.am_record.proofs.Lists.{AllByRecursion-map, tails}
+use Rattle.am_record.proofs.PlaceOrder.{turned_less}
+use Rattle.am_record.proofs.Orderings.{is_greater, gt_reversed}
 use Rattle.am_list.specs.Entries.{slot_of, first_such, entry_at, find, after, all_after, IsRising}
 use Rattle.am_list.specs.Edits.{same_place}
 use Rattle.am_list.specs.Walks.{ReadLaws}
-use Rattle.am_list.proofs.Order.{turned_less}
-use Rattle.am_list.proofs.Lists.{AllByRecursion-map, and_false, rising_above}
+use Rattle.am_list.proofs.Lists.{rising_above}
 use Rattle.am_list.proofs.Batches.{all_after_front}
 use Rattle.am_list.proofs.Edits.{first_such_all, first_such_passes, entry_at-hit, entry_at-miss, one_place, place_cmp-itself}
 use Rattle.am_list.proofs.WalkLaws.{in_part_after}
@@ -81,22 +82,6 @@ module _ (passes : Place → Bool) (part : ℕ) (key : OrderedKey) where
 
 -- ---- reading on
 
-greater : (o : Ordering) → is_gt o ≡ true → o ≡ Greater
-greater Less h = absurd (cc)
-greater Equal h = absurd (cc)
-greater Greater h = refl
-
-gt_reversed : (o : Ordering) → is_gt (ordering_reverse o) ≡ is_lt o
-gt_reversed Less = refl
-gt_reversed Equal = refl
-gt_reversed Greater = refl
-
-same_first : {X : Type 0} {x y : X} {xs ys : List X} → x ∷ xs ≡ y ∷ ys → x ≡ y
-same_first h = cc
-
-same_rest : {X : Type 0} {x y : X} {xs ys : List X} → x ∷ xs ≡ y ∷ ys → xs ≡ ys
-same_rest h = cc
-
 module _ (part : ℕ) where
   abbrev is_after : OrderedKey → Entry → Bool
   is_after key e = eqb e.part part && is_gt (place_cmp (place_of e) (part, key))
@@ -117,7 +102,7 @@ module _ (part : ℕ) where
       let in_part : x.part ≡ part = eqb-true x.part part (and_parts (eqb x.part part) (is_gt (place_cmp (place_of x) (part, key))) (first_such_passes (is_after key) es x first)).0 in
       let less : place_cmp (place_of y) (part, x.key) ≡ Less =
       ap (λ p. place_cmp (place_of y) (p, x.key)) (sym in_part) ∙ first_such_all (λ f. place_cmp (place_of y) (place_of f) ≡ Less) (is_after key) es x below first in
-      and_false (eqb y.part part) (is_gt (place_cmp (place_of y) (part, x.key))) (ap is_gt less)
+      and_right (eqb y.part part) (is_gt (place_cmp (place_of y) (part, x.key))) (ap is_gt less)
 
   one_more : (es : List Entry) → IsRising es → (key : OrderedKey) (x : Entry) → after es part key ≡ Some x → all_after es part key ≡ x ∷ all_after es part x.key
   one_more [] rising key x first = absurd (none-some x first)
@@ -126,7 +111,7 @@ module _ (part : ℕ) where
       (λ passes.
       let parts = and_parts (eqb y.part part) (is_gt (place_cmp (place_of y) (part, key))) passes in
       let in_part : y.part ≡ part = eqb-true y.part part parts.0 in
-      let above : place_cmp (place_of y) (part, key) ≡ Greater = greater (place_cmp (place_of y) (part, key)) parts.1 in
+      let above : place_cmp (place_of y) (part, key) ≡ Greater = is_greater (place_cmp (place_of y) (part, key)) parts.1 in
       let same : y ≡ x = same_Some _ _ (sym (cond-true (is_after key y) (Some y) (after ys part key) passes) ∙ first) in
       let others_above = rising_above (part, key) y ys (λ less. absurd (cc above)) rising in
       let from_here : all_after (y ∷ ys) part y.key ≡ all_after ys part y.key = cond-false (is_after y.key y) (y ∷ all_after ys part y.key) (all_after ys part y.key) (not_after_itself y in_part) in
@@ -144,12 +129,12 @@ module _ (part : ℕ) where
       not_after_itself : (y : Entry) → y.part ≡ part → is_after y.key y ≡ false
       not_after_itself y in_part =
           let at_itself : place_cmp (place_of y) (part, y.key) ≡ Equal = ap (λ p. place_cmp (place_of y) (p, y.key)) (sym in_part) ∙ place_cmp-itself (place_of y) in
-          and_false (eqb y.part part) (is_gt (place_cmp (place_of y) (part, y.key))) (ap is_gt at_itself)
+          and_right (eqb y.part part) (is_gt (place_cmp (place_of y) (part, y.key))) (ap is_gt at_itself)
 
   goes_on : (es : List Entry) → IsRising es → (key : OrderedKey) (xs : List Entry) (x : Entry) (ys : List Entry) → all_after es part key ≡ xs ++ x ∷ ys → all_after es part x.key ≡ ys
-  goes_on es rising key [] x ys h = same_rest (sym (one_more es rising key x (after_first es key ∙ ap (λ l. slice_get l 0) h)) ∙ h)
+  goes_on es rising key [] x ys h = tails (sym (one_more es rising key x (after_first es key ∙ ap (λ l. slice_get l 0) h)) ∙ h)
   goes_on es rising key (z ∷ xs) x ys h =
-      let from_z = same_rest (sym (one_more es rising key z (after_first es key ∙ ap (λ l. slice_get l 0) h)) ∙ h) in
+      let from_z = tails (sym (one_more es rising key z (after_first es key ∙ ap (λ l. slice_get l 0) h)) ∙ h) in
       goes_on es rising z.key xs x ys from_z
 
   read_at : (es : List Entry) (key : OrderedKey) (p : ℕ) (q : OrderedKey) → find (all_after es part key) p q ≡ (if eqb p part && is_lt (key_cmp key q) then find es p q else None)

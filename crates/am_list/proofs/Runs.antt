@@ -1,17 +1,16 @@
 -- A run behind entries of lower partitions.
-use Rattle.std.proofs.Common.{◌≡◌, ◌≢◌, ℕ, zero, suc, ◌<◌, ◌≤◌, false, cond, List, [], ◌∷◌, ◌++◌, length, get_or, take, Result, Ok, Err, refl, sym, ap, ◌∙◌, subst, arith}
+use Rattle.std.proofs.Common.{◌≡◌, ◌≢◌, ℕ, zero, suc, ◌<◌, ◌≤◌, false, cond, List, [], ◌∷◌, ◌++◌, length, get_or, take, Result, Ok, Err, refl, sym, ap, subst, arith}
 use Rattle.std.specs.Prelude.{is_ok, is_err, OnOk, OnErr}
-use Rattle.std.specs.declared.cmp.Ordering.{Ordering}
-use Rattle.std.specs.declared.cmp.Ordering.TheVariants.{Less, Equal, Greater}
+use Rattle.std.specs.declared.cmp.Ordering.TheVariants.{Less}
 use Rattle.std.specs.List.{AllByRecursion}
 use Rattle.am_record.specs.OrderedKey.{OrderedKey}
 use Rattle.am_record.specs.Plain.{Records}
-use Rattle.am_record.specs.EntryOrder.{Place, place_of, place_cmp, place_cmp-part}
+use Rattle.am_record.specs.EntryOrder.{place_of, place_cmp}
 use Rattle.am_record.specs.declared.entry.Entry.{Entry}
+use Rattle.am_record.proofs.Lists.{AllByRecursion-map, AllByRecursion-append}
+use Rattle.am_record.proofs.PlaceOrder.{lower_part}
 use Rattle.am_list.specs.Entries.{IsRising}
 use Rattle.am_list.specs.Runs.{live_entry, run_entries}
-use Rattle.am_list.proofs.Order.{turned_greater}
-use Rattle.am_list.proofs.Lists.{AllByRecursion-map, AllByRecursion-append}
 
 -- ---- one record more
 
@@ -22,19 +21,16 @@ one_more_pushed part [] [] i r lt h = absurd (omega arith)
 one_more_pushed part [] (q ∷ rs) zero r lt h = ap (λ (x : OrderedKey × List ℕ). live_entry part x ∷ []) h
 one_more_pushed part [] (q ∷ rs) (suc i) r lt h = ap (λ l. live_entry part q ∷ l) (one_more_pushed part [] rs i r (omega arith) h)
 
+pub length-front : (part : ℕ) (rs : Records) (i : ℕ) → i ≤ length rs → length (run_entries part (take i rs)) ≡ i
+length-front part rs zero le = refl
+length-front part [] (suc i) le = absurd (omega arith)
+length-front part (r ∷ rs) (suc i) le = ap suc (length-front part rs i (omega arith))
+
 pub taken_back : (es fs : List Entry) → take (length es) (es ++ fs) ≡ es
 taken_back [] fs = refl
 taken_back (e ∷ es) fs = ap (λ l. e ∷ l) (taken_back es fs)
 
 -- ---- the order
-
-greater_else : (a b : Place) (o : Ordering) → a.0 < b.0 → place_cmp b a ≡ o → o ≡ Greater
-greater_else a b Less lt e = let le : b.0 ≤ a.0 = place_cmp-part b a (λ g. absurd (cc (sym e ∙ g))) in absurd (omega arith)
-greater_else a b Equal lt e = let le : b.0 ≤ a.0 = place_cmp-part b a (λ g. absurd (cc (sym e ∙ g))) in absurd (omega arith)
-greater_else a b Greater lt e = refl
-
-pub lower_part : (a b : Place) → a.0 < b.0 → place_cmp a b ≡ Less
-lower_part a b lt = turned_greater b a (greater_else a b (place_cmp b a) lt refl)
 
 all_of_run : (part : ℕ) (e : Entry) (rs : Records) → e.part < part → AllByRecursion (λ f. place_cmp (place_of e) (place_of f) ≡ Less) (run_entries part rs)
 all_of_run part e [] lt = tt

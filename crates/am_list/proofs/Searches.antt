@@ -12,15 +12,11 @@ use Rattle.std.specs.List.Sorted.{IsSearchInRange, IsBinarySearchResult, IsNonDe
 use Rattle.am_record.specs.OrderedKey.{OrderedKey}
 use Rattle.am_record.specs.declared.entry.Entry.{Entry}
 use Rattle.am_record.specs.EntryOrder.{Place, place_of, place_cmp}
+use Rattle.am_record.proofs.Lists.{AllByRecursion-map, AllByRecursion-append, AllByRecursion-back, some_item, AllByRecursion-at}
+use Rattle.am_record.proofs.PlaceOrder.{below_same, ranks_rise}
 use Rattle.am_list.specs.Entries.{first_such, entry_at, find, next_any, next_ghost, next_from, after, insert_entry, set_entry, remove_entry, IsRising}
 use Rattle.am_list.specs.Places.{AllBelow, NoneBelow, AllAbove, NoneAbove, IsPlaceOf, IsGapFor, IsLowerBound, IsUpperBound, only_of}
-use Rattle.am_list.proofs.Order.{below_same, ranks_rise}
-use Rattle.am_list.proofs.Lists.{rising_back, rising_above, rising_insert, rising_remove, rising_set, AllByRecursion-map, AllByRecursion-append, AllByRecursion-back, entry_at-append, entry_at_here, entry_at_none, next_any-append, next_any_front, next_ghost-append, next_ghost_front, next_from_front, after_front, next_from-append, after-append, set_entry-append, remove_entry-append, insert_entry-append}
-
-all_at : {X : Type 0} (P : X → Type 0) (xs : List X) (k : ℕ) (d : X) → AllByRecursion P xs → k < length xs → P (get_or xs k d)
-all_at P [] k d a h = absurd (omega arith)
-all_at P (x ∷ xs) zero d a h = a.0
-all_at P (x ∷ xs) (suc k) d a h = all_at P xs k d a.1 (omega arith)
+use Rattle.am_list.proofs.Lists.{rising_back, rising_above, rising_insert, rising_remove, rising_set, entry_at-append, entry_at_here, entry_at_none, next_any-append, next_any_front, next_ghost-append, next_ghost_front, next_from_front, after_front, next_from-append, after-append, set_entry-append, remove_entry-append, insert_entry-append}
 
 pub all_take : {X : Type 0} (P : X → Type 0) (xs : List X) (i : ℕ) → i ≤ length xs → ((k : ℕ) (d : X) → k < i → P (get_or xs k d)) → AllByRecursion P (take i xs)
 all_take P [] i le f = subst (λ l. AllByRecursion P l) (sym (take_nothing i)) tt
@@ -44,7 +40,7 @@ module _ (p : Place) where
   comparisons_rise : (es : List Entry) → IsRising es → IsNonDecreasingBy (λ e. ordering_index (c e)) es
   comparisons_rise [] r i j d le lt = absurd (omega arith)
   comparisons_rise (e ∷ es) r zero zero d le lt = omega arith
-  comparisons_rise (e ∷ es) r zero (suc j) d le lt = ranks_rise (place_of e) (place_of (get_or es j d)) p (all_at (λ f. place_cmp (place_of e) (place_of f) ≡ Less) es j d r.0 (omega arith))
+  comparisons_rise (e ∷ es) r zero (suc j) d le lt = ranks_rise (place_of e) (place_of (get_or es j d)) p (AllByRecursion-at (λ f. place_cmp (place_of e) (place_of f) ≡ Less) es j d r.0 (omega arith))
   comparisons_rise (e ∷ es) r (suc i) zero d le lt = absurd (omega arith)
   comparisons_rise (e ∷ es) r (suc i) (suc j) d le lt = comparisons_rise es r.1 i j d (omega arith) (omega arith)
 
@@ -59,15 +55,11 @@ module _ (p : Place) where
 pub cut_at : (es : List Entry) (i : ℕ) (d : Entry) → i < length es → es ≡ take i es ++ get_or es i d ∷ drop (suc i) es
 cut_at es i d lt = sym (take-append-drop i es) ∙ ap (λ l. take i es ++ l) (drop-cons es i d lt)
 
-some_entry : (es : List Entry) (i : ℕ) → i < length es → Entry
-some_entry [] i lt = absurd (omega arith)
-some_entry (e ∷ es) i lt = e
-
 -- a binary search by place ends at the place, or at the gap for it
 pub searched : (es : List Entry) → IsRising es → (part : ℕ) (key : OrderedKey) (r : Result ℕ ℕ) → IsSearchInRange r (length es) → IsBinarySearchResult (λ e. place_cmp (place_of e) (part, key)) es r
     → IfOk r (IsPlaceOf es part key) × IfErr r (IsGapFor es part key)
 searched es rising part key (Ok at) in_range equal =
-    let d = some_entry es at in_range in
+    let d = some_item es at in_range in
     let split = cut_at es at d in_range in
     let risen : IsRising (take at es ++ get_or es at d ∷ drop (suc at) es) = subst IsRising split rising in
     let not_less : place_cmp (place_of (get_or es at d)) (part, key) ≢ Less = λ less. absurd (cc (equal d)) in (
@@ -126,7 +118,7 @@ module _ (es : List Entry) (part : ℕ) (key : OrderedKey) (i : ℕ) where
   find_absent f = ap (option_map (λ (x : Entry). (x.value, x.is_ghost))) (entry_at_absent f)
 
   pub find_present : IsPlaceOf es part key i → find es part key ≢ None
-  find_present f none = let d = some_entry es i f.in_range in let e = get_or es i d in
+  find_present f none = let d = some_item es i f.in_range in let e = get_or es i d in
       absurd (cc (find_found f e (same_default es i d e f.in_range)))
     where
       same_default : {X : Type 0} (xs : List X) (k : ℕ) (c d : X) → k < length xs → get_or xs k c ≡ get_or xs k d
@@ -141,7 +133,7 @@ module _ (es : List Entry) (part : ℕ) (key : OrderedKey) (i : ℕ) where
 
   pub lower_from_place : IsPlaceOf es part key i → IsLowerBound es part key i
   lower_from_place f =
-      let d = some_entry es i f.in_range in
+      let d = some_item es i f.in_range in
       record {
         in_range = omega (arith, f.in_range);
         below = f.below;
@@ -163,7 +155,7 @@ module _ (es : List Entry) (part : ℕ) (key : OrderedKey) (i : ℕ) where
 
   pub upper_from_place : IsPlaceOf es part key i → IsUpperBound es part key (i + 1)
   upper_from_place f =
-      let d = some_entry es i f.in_range in
+      let d = some_item es i f.in_range in
       let more : take (i + 1) es ≡ take i es ++ get_or es i d ∷ [] = take_more es i d f.in_range in
       record {
         in_range = omega (arith, f.in_range);
@@ -211,12 +203,12 @@ module _ (es : List Entry) (part : ℕ) (key : OrderedKey) (i : ℕ) where
 
   pub remove_found : IsPlaceOf es part key i → remove es i ≡ remove_entry es part key
   remove_found f =
-      let d = some_entry es i f.in_range in
+      let d = some_item es i f.in_range in
       sym (remove_entry-append part key (take i es) (get_or es i d) (drop (suc i) es) f.below (f.here d)) ∙ ap (λ l. remove_entry l part key) (sym (cut_at es i d f.in_range))
 
   pub rising_remove_found : IsRising es → IsPlaceOf es part key i → IsRising (remove es i)
   rising_remove_found rising f =
-      let d = some_entry es i f.in_range in
+      let d = some_item es i f.in_range in
       rising_remove (take i es) (get_or es i d) (drop (suc i) es) (subst IsRising (cut_at es i d f.in_range) rising)
 
 module _ (es : List Entry) (x : Entry) (i : ℕ) (f : IsGapFor es x.part x.key i) where

@@ -10,6 +10,7 @@ use Rattle.am_record.specs.OrderedKey.{OrderedKey, key_cmp}
 use Rattle.am_record.specs.Interval.{key_le}
 use Rattle.am_record.specs.EntryOrder.{Place, place_of, place_cmp, place_cmp-total, place_cmp-same}
 use Rattle.am_record.specs.declared.entry.Entry.{Entry}
+use Rattle.am_record.proofs.Orderings.{ge_reversed, le_not_greater}
 use Rattle.am_list.specs.Entries.{slot_of, first_such, entry_at, find, IsRising}
 use Rattle.am_list.specs.Edits.{same_place}
 use Rattle.am_list.specs.Walks.{IsFirstOf, WalkLaws}
@@ -56,7 +57,7 @@ module _ (test : Entry → Bool) where
       (cases_Bool (test y))
 
 -- it stands at its own place
-first_stands : (test : Entry → Bool) (es : List Entry) (x : Entry) → IsRising es → first_such test es ≡ Some x → entry_at es x.part x.key ≡ Some x
+pub first_stands : (test : Entry → Bool) (es : List Entry) (x : Entry) → IsRising es → first_such test es ≡ Some x → entry_at es x.part x.key ≡ Some x
 first_stands test es x rising first = first_such_all (λ e. entry_at es e.part e.key ≡ Some e) test es x (all_found es rising) first
 
 -- nothing is found at a place where no entry can stand
@@ -68,16 +69,6 @@ none_there es part key none = ap (option_map slot_of) (by_cases (entry_at es par
     by_cases (Some e) h = absurd (none e h)
 
 -- ---- comparisons read from the other side
-
-ge_reversed : (o : Ordering) → is_ge (ordering_reverse o) ≡ is_le o
-ge_reversed Less = refl
-ge_reversed Equal = refl
-ge_reversed Greater = refl
-
-not_greater : (o : Ordering) → is_le o ≡ true → o ≢ Greater
-not_greater Less h g = cc
-not_greater Equal h g = cc
-not_greater Greater h g = false≢true h
 
 is_less_or_equal : (o : Ordering) → o ≢ Greater → is_le o ≡ true
 is_less_or_equal Less n = refl
@@ -163,7 +154,7 @@ walk_laws es rising = record {
   after_some = λ part key x h. first_of es rising part (λ a. is_gt (place_cmp a (part, key))) (λ q. key_cmp key q ≡ Less) (after_there es rising part key) (after_back es rising part key) x h;
   after_none = λ part key h. none_of es rising part (λ a. is_gt (place_cmp a (part, key))) (λ q. key_cmp key q ≡ Less) (after_there es rising part key) (after_back es rising part key) h;
   any_stands = λ part key x h. first_stands (λ e. is_ge (place_cmp (place_of e) (part, key))) es x rising h;
-  any_reached = λ part key x h. not_greater (place_cmp (part, key) (place_of x)) (sym (any_test es rising part key x) ∙ first_such_passes (λ e. is_ge (place_cmp (place_of e) (part, key))) es x h);
+  any_reached = λ part key x h. le_not_greater (place_cmp (part, key) (place_of x)) (sym (any_test es rising part key x) ∙ first_such_passes (λ e. is_ge (place_cmp (place_of e) (part, key))) es x h);
   any_none_before = λ part key x h p q n less. none_there es p q (λ e there.
       let below : place_cmp (place_of e) (place_of x) ≡ Less = ap (λ a. place_cmp a (place_of x)) (entry_at_place es p q e there) ∙ less in
       true≢false (sym (passes_any es rising part key p q e there n) ∙ earlier_fails (λ f. is_ge (place_cmp (place_of f) (part, key))) es x e p q rising h there below));

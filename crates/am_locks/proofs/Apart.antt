@@ -3,7 +3,7 @@ use Rattle.std.proofs.Common.{◌≡◌, ℕ, List, [], ◌∷◌, ◌++◌, get
 use Rattle.std.specs.List.{list_any}
 use Rattle.std.proofs.lemmas.List.Elements.{All-nil, All-cons, All-head, All-tail, All-push, All-filter, All-map, All-take}
 use Rattle.std.proofs.lemmas.List.Folds.{Any-from_list_any, list_any_none}
-use Rattle.std.proofs.lemmas.Bool.{eqb-true, eqb-false}
+use Rattle.std.proofs.lemmas.Bool.{eqb-true, eqb-false, both_ways}
 use Rattle.am_record.specs.OrderedKey.{OrderedKey}
 use Rattle.am_record.specs.Interval.{within}
 use Rattle.am_record.specs.Locks.{conflicts, is_covered, is_exclusive, with_lock}
@@ -60,7 +60,7 @@ AreAllApart-with_locks (h ∷ table) tx locks a s = (
 
 -- ---- which locks spare the others
 
-spares_none : (x : Held) (table : List Held) (tx : ℕ) → All (AreApart x) table → NoConflicts x.locks (locks_of table tx)
+pub spares_none : (x : Held) (table : List Held) (tx : ℕ) → All (AreApart x) table → NoConflicts x.locks (locks_of table tx)
 spares_none x [] tx a = λ k d b. All-nil _
 spares_none x (h ∷ table) tx a =
     elim (h.owner == tx) as (λ b. NoConflicts x.locks (cond b h.locks (locks_of table tx))) [ true ↦ (All-head (AreApart x) h table a).locks | false ↦ spares_none x table tx (All-tail (AreApart x) h table a) ]
@@ -110,17 +110,14 @@ not_true : (b : Bool) → (b ≡ true → ⊥) → b ≡ false
 not_true true h = absurd (h refl)
 not_true false h = refl
 
-true_and_false : (b : Bool) → b ≡ true → b ≡ false → ⊥
-true_and_false b t f = cc
-
 not_both : (key : OrderedKey) (h g : Held) → AreApart h g → is_exclusive_at key h ≡ true → is_exclusive_at key g ≡ false
 not_both key h g a e =
     let holds : Lock → Bool = λ l. is_exclusive l.mode && within l.range key in
     let some = Any-from_list_any holds h.locks e in
     list_any_none holds g.locks (λ j d c. not_true (holds (get_or g.locks j d)) (λ t.
-    true_and_false (conflicts (get_or h.locks some.0 some.1) (get_or g.locks j d))
-    (exclusive-conflicts _ _ key (subst (λ (l : Lock). holds l ≡ true) (sym some.3) some.4) t)
-    (a.locks some.0 some.1 some.2 j d c)))
+    both_ways (conflicts (get_or h.locks some.0 some.1) (get_or g.locks j d))
+    (a.locks some.0 some.1 some.2 j d c)
+    (exclusive-conflicts _ _ key (subst (λ (l : Lock). holds l ≡ true) (sym some.3) some.4) t)))
 
 found : (key : OrderedKey) (h : Held) (table : List Held) (b : Bool) → is_exclusive_at key h ≡ b → All (AreApart h) table
     → exclusive_holders table key ≡ option_to_list (option_map (λ (g : Held). g.owner) (find (is_exclusive_at key) table))

@@ -3,6 +3,7 @@ use Rattle.std.proofs.Common.{◌≡◌, ◌≢◌, ℕ, zero, suc, List, [], �
 use Rattle.std.specs.List.{list_any}
 use Rattle.std.proofs.lemmas.Bool.{ne_eqb, eq-eqb, eqb-true, eqb-false}
 use Rattle.std.proofs.lemmas.List.Elements.{All-head, All-tail}
+use Rattle.std.proofs.Math.Bool.{or_assoc, or-false}
 use Rattle.am_record.specs.OrderedKey.{OrderedKey}
 use Rattle.am_record.specs.Interval.{within}
 use Rattle.am_record.specs.Locks.{conflicts, is_exclusive}
@@ -56,17 +57,9 @@ pub locks_of-entered : (table : List Held) (tx n : ℕ) → locks_of (entered ta
 locks_of-entered [] tx n = nothing_new (tx == n)
 locks_of-entered (h ∷ table) tx n = ap (λ ls. cond (h.owner == n) h.locks ls) (locks_of-entered table tx n)
 
-or_false : (b : Bool) → (b || false) ≡ b
-or_false true = refl
-or_false false = refl
-
-or_assoc : (a b c : Bool) → (a || (b || c)) ≡ ((a || b) || c)
-or_assoc true b c = refl
-or_assoc false b c = refl
-
 pub is_owner-entered : (table : List Held) (tx n : ℕ) → is_owner (entered table tx) n ≡ (is_owner table n || (tx == n))
-is_owner-entered [] tx n = or_false (tx == n)
-is_owner-entered (h ∷ table) tx n = ap (λ t. (h.owner == n) || t) (is_owner-entered table tx n) ∙ or_assoc (h.owner == n) (is_owner table n) (tx == n)
+is_owner-entered [] tx n = or-false (tx == n)
+is_owner-entered (h ∷ table) tx n = ap (λ t. (h.owner == n) || t) (is_owner-entered table tx n) ∙ sym (or_assoc (h.owner == n) (is_owner table n) (tx == n))
 
 -- ---- leaving
 

@@ -7,3 +7,4 @@ pub mod Apart
 pub mod Places
 pub mod Least
 pub mod Laws
+pub mod FirstOwners

@@ -1,34 +1,24 @@
 -- What the marks of locks tell.
 use Rattle.std.proofs.Common.{◌≡◌, ◌≢◌, ℕ, ◌%◌, ◌<◌, List, [], ◌∷◌, ◌++◌, length, get_or, set, Bool, true, false, not, ◌&&◌, ◌||◌, refl, sym, ap, ◌∙◌, subst}
 use Rattle.std.specs.List.{list_any}
-use Rattle.std.specs.declared.cmp.Ordering.{Ordering}
-use Rattle.std.specs.declared.cmp.Ordering.TheVariants.{Less, Equal, Greater}
-use Rattle.std.specs.Ordering.{is_le, ordering_reverse}
-use Rattle.std.proofs.lemmas.Bool.{and_parts, true≢false, false_from_ne_true}
+use Rattle.std.proofs.lemmas.Bool.{and_parts, true≢false, false_from_ne_true, and_right}
 use Rattle.std.proofs.lemmas.List.{get_or-set_same, get_or-set_other}
 use Rattle.std.proofs.lemmas.List.Folds.{list_any-append}
-use Rattle.am_record.specs.OrderedKey.{OrderedKey, key_cmp, key_cmp-total, key_cmp-exact}
+use Rattle.am_record.specs.OrderedKey.{OrderedKey}
 use Rattle.am_record.specs.Interval.{Interval, key_le, within}
 use Rattle.am_record.specs.KeyMix.{key_mix}
 use Rattle.am_record.specs.Locks.{conflicts, is_exclusive, are_compatible}
 use Rattle.am_record.specs.declared.lock.Lock.{Lock}
+use Rattle.am_record.proofs.FirstRows.{le_both}
 use Rattle.am_locks.specs.declared.marks.Marks.{Marks}
 use Rattle.am_locks.specs.Marks.{denies, AreMarksOf, IsNumberOf}
 
 -- ---- the one key of a range
 
-key_le_both : (a b : OrderedKey) → key_le a b ≡ true → key_le b a ≡ true → a ≡ b
-key_le_both a b h k = by_order (key_cmp a b) refl h
-  where
-    by_order : (o : Ordering) → key_cmp a b ≡ o → is_le o ≡ true → a ≡ b
-    by_order Less less _ = absurd (true≢false (sym k ∙ ap is_le (key_cmp-total.antisymm b a ∙ ap ordering_reverse less)))
-    by_order Equal same _ = key_cmp-exact a b same
-    by_order Greater _ le = cc
-
 the_one_key : (r : Interval) (key : OrderedKey) → r.lo ≡ r.hi → within r key ≡ true → key ≡ r.lo
 the_one_key r key one h =
     let parts = and_parts _ _ h in
-    key_le_both key r.lo (ap (key_le key) one ∙ parts.1) parts.0
+    le_both key r.lo (ap (key_le key) one ∙ parts.1) parts.0
 
 -- ---- what is denied
 
@@ -77,11 +67,7 @@ denied_conflict marks asked number locks promise is h =
     ∙ apart (key_le l.range.lo asked.range.lo) (key_le asked.range.lo l.range.hi) (not (are_compatible asked.mode l.mode)) e)
     locks (promise asked.range.lo (subst (λ n. denies marks n ≡ true) is.mixed h))
 
-and_false : (x y : Bool) → y ≡ false → (x && y) ≡ false
-and_false true y e = e
-and_false false y e = refl
-
 -- and no lock on it is exclusive
 pub denied_exclusive : (marks : Marks) (key : OrderedKey) (locks : List Lock) → AreMarksOf locks marks → denies marks (key_mix key) ≡ true → list_any (λ l. is_exclusive l.mode && within l.range key) locks ≡ false
 denied_exclusive marks key locks promise h =
-    none_of (λ l. within l.range key) (λ l. is_exclusive l.mode && within l.range key) (λ l e. and_false (is_exclusive l.mode) (within l.range key) e) locks (promise key h)
+    none_of (λ l. within l.range key) (λ l. is_exclusive l.mode && within l.range key) (λ l e. and_right (is_exclusive l.mode) (within l.range key) e) locks (promise key h)

@@ -1,8 +1,8 @@
 -- Ranges that rise, and which of them span two keys.
-use Rattle.std.proofs.Common.{◌≡◌, ℕ, ◌-◌, ◌<◌, ◌≤◌, List, length, get_or, Bool, true, false, ◌||◌, refl, sym, ap, ◌∙◌, arith, ⊎_elim}
+use Rattle.std.proofs.Common.{◌≡◌, ℕ, ◌-◌, ◌<◌, ◌≤◌, List, length, get_or, Bool, true, false, ◌||◌, refl, ap, ◌∙◌, arith, ⊎_elim}
 use Rattle.std.specs.List.{list_any}
 use Rattle.std.specs.List.Sorted.{IsPartitionedBy, IsPartitionPoint}
-use Rattle.std.proofs.lemmas.Bool.{cases_lt, and_parts, and_from, and_left, and_right, true≢false, false_from_ne_true}
+use Rattle.std.proofs.lemmas.Bool.{cases_lt, and_parts, and_from, and_left, and_right, false_from_ne_true, both_ways}
 use Rattle.std.proofs.lemmas.List.Folds.{list_any_none, list_any_at, Any-from_list_any}
 use Rattle.am_record.specs.OrderedKey.{OrderedKey}
 use Rattle.am_record.specs.Interval.{Interval, key_le}
@@ -28,9 +28,6 @@ begins_partitioned key ranges rises = λ i j d le less h. key_le_trans (get_or r
 pub ends_partitioned : (key : OrderedKey) (ranges : List Interval) → Rises ranges → IsPartitionedBy (ends_by key) ranges
 ends_partitioned key ranges rises = λ i j d le less h. key_le_trans (get_or ranges i d).hi (get_or ranges j d).hi key (rises i j d le less).ends h
 
-not_both : (b : Bool) → b ≡ true → b ≡ false → ⊥
-not_both b t f = true≢false (sym t ∙ f)
-
 -- the last range that begins at or below the low key spans the two where it ends at or above the high one
 pub spanned_by_last : (low high : OrderedKey) (ranges : List Interval) (n : ℕ) (d : Interval) → IsBegun low ranges n → 0 < n → n ≤ length ranges → key_le high (get_or ranges (n - 1) d).hi ≡ true → list_any (spans low high) ranges ≡ true
 spanned_by_last low high ranges n d begun some fits h =
@@ -43,9 +40,9 @@ spanned_by_none low high ranges n rises begun fits short = list_any_none (spans 
     ends_early : (k : ℕ) (d : Interval) → k < n → spans low high (get_or ranges k d) ≡ false
     ends_early k d less =
         and_right _ _ (false_from_ne_true (key_le high (get_or ranges k d).hi) (λ h.
-        not_both _
-        (key_le_trans high (get_or ranges k d).hi (get_or ranges (n - 1) d).hi h (rises k (n - 1) d (omega (arith, less)) (omega (arith, less, fits))).ends)
-        (short (omega (arith, less)) d)))
+        both_ways _
+        (short (omega (arith, less)) d)
+        (key_le_trans high (get_or ranges k d).hi (get_or ranges (n - 1) d).hi h (rises k (n - 1) d (omega (arith, less)) (omega (arith, less, fits))).ends)))
 
 -- a range that one of the ranges encloses spans no keys that none of them spans
 pub spanned_by_wider : (ranges : List Interval) (r : Interval) → list_any (spans r.lo r.hi) ranges ≡ true → (low high : OrderedKey) → list_any (spans low high) ranges ≡ (list_any (spans low high) ranges || spans low high r)

@@ -1,12 +1,10 @@
 -- The notes above a mark taken back one by one.
-use Rattle.std.proofs.Common.{◌≡◌, ℕ, ◌-◌, ◌<◌, ◌≤◌, List, [], ◌∷◌, ◌++◌, length, reverse, take, drop, arith, sym, ap, ◌∙◌, subst, length-drop, length-append}
-use Rattle.std.proofs.lemmas.List.{drop-append-le, take-append-le, take-append-drop, reverse-append, length-reverse, append-nil}
+use Rattle.std.proofs.Common.{◌≡◌, ℕ, ◌-◌, ◌<◌, ◌≤◌, List, [], ◌∷◌, ◌++◌, length, reverse, take, drop, arith, sym, ap, ◌∙◌, subst, length-append}
+use Rattle.std.proofs.lemmas.List.{drop-append-le, take-append-le, take-append-drop, reverse-append, append-nil}
 use Rattle.std.proofs.Math.ListN.{drop_of_length-le}
-use Rattle.std.proofs.Math.Seq.{take-append_seam, drop-append_seam}
 use Rattle.am_model.specs.declared.note.Note.{Note}
 use Rattle.am_model.specs.Slots.{Slots}
 use Rattle.am_model.specs.Notes.{taken_back, all_taken_back, HasPlace, CanTakeBack}
-use Rattle.am_model.specs.Marks.{since, until, since_mark, until_mark}
 
 -- some of the notes above the mark were taken back, and those under it are untouched. The newest stand last
 pub record Above (was : Slots) (items : List Note) (mark : ℕ) (left : List Note) (slots : Slots) : Type 0 where
@@ -43,31 +41,3 @@ module _ {was : Slots} {items : List Note} {mark : ℕ} {left : List Note} {slot
       leads = ap (all_taken_back (reverse (drop mark older))) is' ∙ sym (ap (λ (ns : List Note). all_taken_back ns slots) newest) ∙ a.leads;
       kept = sym (ap (take mark) is ∙ take-append-le mark older (n ∷ []) low) ∙ a.kept;
     }
-
--- ---- with the newest first
-
-parts : (items : List Note) (mark : ℕ) → reverse items ≡ reverse (drop mark items) ++ reverse (take mark items)
-parts items mark = ap reverse (sym (take-append-drop mark items)) ∙ reverse-append (take mark items) (drop mark items)
-
-long : (items : List Note) (mark : ℕ) → length (reverse items) - mark ≡ length (reverse (drop mark items))
-long items mark = ap (λ n. n - mark) (length-reverse items) ∙ sym (length-reverse (drop mark items) ∙ length-drop mark items)
-
-since_is : (items : List Note) (mark : ℕ) → since mark (reverse items) ≡ reverse (drop mark items)
-since_is items mark =
-    ap (λ n. take n (reverse items)) (long items mark) ∙ ap (take (length (reverse (drop mark items)))) (parts items mark)
-    ∙ take-append_seam (reverse (drop mark items)) (reverse (take mark items))
-
-until_is : (items : List Note) (mark : ℕ) → until mark (reverse items) ≡ reverse (take mark items)
-until_is items mark =
-    ap (λ n. drop n (reverse items)) (long items mark) ∙ ap (drop (length (reverse (drop mark items)))) (parts items mark)
-    ∙ drop-append_seam (reverse (drop mark items)) (reverse (take mark items))
-
-module _ (items notes : List Note) (inside marks : List ℕ) (notes_are : reverse items ≡ notes) (marks_are : reverse inside ≡ marks) (rest : List ℕ) (mark : ℕ) (is : inside ≡ rest ++ mark ∷ []) where
-  newest_mark : marks ≡ mark ∷ reverse rest
-  newest_mark = sym marks_are ∙ ap reverse is ∙ reverse-append rest (mark ∷ [])
-
-  pub since_mark_is : since_mark marks notes ≡ reverse (drop mark items)
-  since_mark_is = ap (λ ms. since_mark ms notes) newest_mark ∙ ap (since mark) (sym notes_are) ∙ since_is items mark
-
-  pub until_mark_is : until_mark marks notes ≡ reverse (take mark items)
-  until_mark_is = ap (λ ms. until_mark ms notes) newest_mark ∙ ap (until mark) (sym notes_are) ∙ until_is items mark

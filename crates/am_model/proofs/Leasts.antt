@@ -1,5 +1,5 @@
 -- The least key of some records that a map has, found one record after another.
-use Rattle.std.proofs.Common.{◌≡◌, Bool, true, false, [], ◌∷◌, ◌++◌, ◌||◌, Option, Some, None, T, refl, sym, ap, ◌∙◌, subst, ⊎_elim}
+use Rattle.std.proofs.Common.{◌≡◌, true, false, [], ◌∷◌, ◌++◌, ◌||◌, Option, Some, None, refl, sym, ap, ◌∙◌, subst, ⊎_elim}
 use Rattle.std.specs.Prelude.{is_some, cond}
 use Rattle.std.proofs.lemmas.Bool.{or_cases, or_left, or_right, true≢false, false≢true}
 use Rattle.std.proofs.lemmas.List.Folds.{list_any-append}
@@ -11,6 +11,7 @@ use Rattle.am_record.specs.OrderedKey.{OrderedKey, key_cmp, key_cmp-total, key_c
 use Rattle.am_record.specs.Interval.{key_le, key_le-itself}
 use Rattle.am_record.specs.Plain.{PlainMap, Records, is_key_of, least_taken}
 use Rattle.am_record.proofs.FirstRows.{Record, key_eq, key_eq-itself, le_both, first_passes, first_found, none_found, first_least}
+use Rattle.am_record.proofs.Outcomes.{is_true}
 use Rattle.am_model.specs.Least.{lesser_key}
 
 le_after : (a b c : OrderedKey) → key_cmp a b ≡ Less → key_le b c ≡ true → key_le a c ≡ true
@@ -25,10 +26,6 @@ le_after a b c less le = by_order (key_cmp b c) refl le
 abbrev pub IsLeast : PlainMap → Records → Option OrderedKey → Type 0
 IsLeast m rs None = (q : OrderedKey) → is_key_of rs q ≡ true → get m q ≡ None
 IsLeast m rs (Some k) = (is_key_of rs k ≡ true) × (is_some (get m k) ≡ true) × ((q : OrderedKey) → is_key_of rs q ≡ true → is_some (get m q) ≡ true → key_le k q ≡ true)
-
-is_true : (b : Bool) → T b → b ≡ true
-is_true true h = refl
-is_true false h = absurd h
 
 some_none : {A : Type 0} → (o : Option A) → is_some o ≡ false → o ≡ None
 some_none None h = refl

@@ -1,21 +1,17 @@
 -- The records among slots.
-use Rattle.std.proofs.Common.{◌≡◌, ℕ, Bool, true, false, cond, List, [], ◌∷◌, Option, Some, None, T, filter, refl, sym, ap, ◌∙◌, subst}
-use Rattle.std.specs.Option.{is_some, option_flatten}
-use Rattle.std.proofs.lemmas.Bool.{and_from, and_parts, true≢false}
-use Rattle.std.specs.declared.cmp.Ordering.{Ordering}
-use Rattle.std.specs.declared.cmp.Ordering.TheVariants.{Less, Equal, Greater}
+use Rattle.std.proofs.Common.{◌≡◌, ℕ, Bool, true, false, cond, List, [], ◌∷◌, Option, Some, None, filter, refl, sym, ap, ◌∙◌, subst}
+use Rattle.std.specs.Option.{option_flatten}
+use Rattle.std.proofs.lemmas.Bool.{and_from, and_parts}
 use Rattle.std.specs.Ordering.{is_lt, is_eq, eq_by_cmp}
 use Rattle.std.specs.FinMap.{find, get, insert, remove, entries, entries_sorted, get-entries, get-empty, get-from_entries, get-insert, get-remove, same_map, is_sorted}
 use Rattle.std.specs.FinMap as map
 use Rattle.std.specs.FinMap.Entries.{below_all}
 use Rattle.am_record.specs.OrderedKey.{OrderedKey, key_cmp, key_cmp-total, key_cmp-exact, key_eq-exact, key_cmp-itself}
 use Rattle.am_record.specs.Plain.{Records, PlainMap}
+use Rattle.am_record.proofs.Outcomes.{is_true}
+use Rattle.am_record.proofs.Orderings.{lt_not_eq}
 use Rattle.am_model.specs.Slots.{Slot, Slots, live, live_records, record_before, put}
 use Rattle.am_model.proofs.Sorted.{entries_stay}
-
-is_true : (b : Bool) → T b → b ≡ true
-is_true true h = refl
-is_true false h = absurd h
 
 abbrev Entries : Type 0
 Entries = List (OrderedKey × Slot)
@@ -62,16 +58,11 @@ live_where test (e ∷ es) = where_record test e.0 e.1 (filter (λ (x : OrderedK
 
 -- ---- what stands under a key
 
-apart : (o : Ordering) → is_lt o ≡ true → is_eq o ≡ false
-apart Less h = refl
-apart Equal h = cc
-apart Greater h = cc
-
 not_above : (k : OrderedKey) (es : Entries) → below_all key_cmp k es ≡ true → find key_cmp k es ≡ None
 not_above k [] h = refl
 not_above k (e ∷ es) h =
     let both = and_parts (is_lt (key_cmp k e.0)) (below_all key_cmp k es) h in
-    ap (λ b. cond b (Some e.1) (find key_cmp k es)) (apart (key_cmp k e.0) both.0) ∙ not_above k es both.1
+    ap (λ b. cond b (Some e.1) (find key_cmp k es)) (lt_not_eq (key_cmp k e.0) both.0) ∙ not_above k es both.1
 
 find_record : (q key : OrderedKey) (s : Slot) (o : Option Slot) (rs : Records) (b : Bool) → eq_by_cmp key_cmp q key ≡ b → (b ≡ true → o ≡ None) → find key_cmp q rs ≡ option_flatten o →
     find key_cmp q (record_before key s rs) ≡ option_flatten (cond b (Some s) o)
@@ -142,7 +133,3 @@ cleaned slots k none = live_put slots k None ∙ put_there (live slots) k None n
 
 pub removed_none : (m : PlainMap) (k : OrderedKey) → get m k ≡ None → m ≡ remove m k
 removed_none m k none = sym (put_there m k None none)
-
-pub none_from : {A : Type 0} (o : Option A) → is_some o ≡ false → o ≡ None
-none_from None h = refl
-none_from (Some x) h = absurd (true≢false h)

@@ -1,6 +1,5 @@
 -- A map of std as a finite map.
 use Rattle.std.proofs.Common.{◌≡◌, List, [], ◌∷◌, Some, None, cond, refl, ap, sym, ◌∙◌}
-use Rattle.std.specs.Prelude.{Result, Ok, Err, OnErr}
 use Rattle.std.specs.Map.{lookup}
 use Rattle.std.specs.Ordering.{eq_by_cmp, is_eq}
 use Rattle.std.specs.Cmp.{eq_by_cmp_equiv}
@@ -32,7 +31,3 @@ module _ {X : Type 0} where
     where
       turned : (q : OrderedKey) → is_eq (key_cmp k q) ≡ is_eq (key_cmp q k)
       turned q = (eq_by_cmp_equiv key_cmp-total).symm k q
-
-pub on_err : {T E P : Type 0} (r : Result T E) → P → OnErr r P
-on_err (Ok x) p = tt
-on_err (Err e) p = p

@@ -5,11 +5,10 @@ use Rattle.std.specs.Option.{option_flatten}
 use Rattle.std.specs.List.{AllByRecursion}
 use Rattle.std.specs.FinMap.{get, insert, empty}
 use Rattle.std.proofs.lemmas.Bool.{true≢false}
-use Rattle.std.proofs.lemmas.List.{length-drop}
-use Rattle.std.proofs.Math.Seq.{take-add}
 use Rattle.am_record.specs.OrderedKey.{OrderedKey}
 use Rattle.am_record.specs.Plain.{Draft, PlainMap, back, fresh, went_back}
 use Rattle.am_record.specs.declared.step.Reply.TheVariants.{Done, NoMark}
+use Rattle.am_record.proofs.Newest.{length-until, since-older}
 use Rattle.am_model.specs.declared.note.Note.{Note}
 use Rattle.am_model.specs.Slots.{Slot, Slots, live, put}
 use Rattle.am_model.specs.Notes.{taken_back, all_taken_back, HasPlace, CanTakeBack}
@@ -20,18 +19,6 @@ use Rattle.am_model.proofs.Live.{live_empty, live_put, put_again, got_there}
 
 since_more : (n : Note) (notes : List Note) (mark : ℕ) → mark ≤ length notes → since mark (n ∷ notes) ≡ n ∷ since mark notes
 since_more n notes mark low = let e : length (n ∷ notes) - mark ≡ suc (length notes - mark) = omega arith in ap (λ k. take k (n ∷ notes)) e
-
-since_all : (notes : List Note) → since (length notes) notes ≡ []
-since_all notes = let e : length notes - length notes ≡ 0 = omega arith in ap (λ k. take k notes) e
-
-length_until : (notes : List Note) (k : ℕ) → k ≤ length notes → length (until k notes) ≡ k
-length_until notes k low = length-drop (length notes - k) notes ∙ omega arith
-
-since_split : (notes : List Note) (m k : ℕ) → m ≤ k → k ≤ length notes → since m notes ≡ since k notes ++ since m (until k notes)
-since_split notes m k le low =
-    let e : length notes - m ≡ (length notes - k) + (k - m) = omega arith in
-    ap (λ i. take i notes) e ∙ take-add (length notes - k) (k - m) notes
-    ∙ ap (λ i. since k notes ++ take (i - m) (until k notes)) (sym (length_until notes k low))
 
 back_twice : (xs ys : List Note) (slots : Slots) → all_taken_back (xs ++ ys) slots ≡ all_taken_back ys (all_taken_back xs slots)
 back_twice [] ys slots = refl
@@ -122,14 +109,14 @@ module _ (slots : Slots) (notes : List Note) (k : ℕ) (low : k ≤ length notes
   same_older (m ∷ ms) top le falling =
       let under : m ≤ k = omega (arith, falling.0) in
       let here : saved_at (until k notes) backed m ≡ saved_at notes slots m =
-      ap live (sym (back_twice (since k notes) (since m (until k notes)) slots) ∙ ap (λ (ns : List Note). all_taken_back ns slots) (sym (since_split notes m k under low))) in
+      ap live (sym (back_twice (since k notes) (since m (until k notes)) slots) ∙ ap (λ (ns : List Note). all_taken_back ns slots) (sym (since-older notes k m low under))) in
       ap (λ x. x ∷ map (saved_at (until k notes) backed) ms) here ∙ ap (λ xs. saved_at notes slots m ∷ xs) (same_older ms m under falling.1)
 
   can_older : (marks : List ℕ) (top : ℕ) → top ≤ k → AreFalling top marks → CanEach notes slots marks → CanEach (until k notes) backed marks
   can_older [] top le falling can = tt
   can_older (m ∷ ms) top le falling can =
       let under : m ≤ k = omega (arith, falling.0) in (
-        can_later (since k notes) (since m (until k notes)) slots (subst (λ (ns : List Note). CanTakeBack ns slots) (since_split notes m k under low) can.0),
+        can_later (since k notes) (since m (until k notes)) slots (subst (λ (ns : List Note). CanTakeBack ns slots) (since-older notes k m low under) can.0),
         can_older ms m under falling.1 can.1,
       )
 
@@ -140,7 +127,7 @@ back_at slots notes (k ∷ marks) falling = λ i. record { map = saved_at notes 
 
 back_falling : (notes : List Note) (marks : List ℕ) → AreFalling (length notes) marks → AreFalling (length (until_mark marks notes)) (older marks)
 back_falling notes [] falling = tt
-back_falling notes (k ∷ marks) falling = subst (λ n. AreFalling n marks) (sym (length_until notes k falling.0)) falling.1
+back_falling notes (k ∷ marks) falling = subst (λ n. AreFalling n marks) (sym (length-until notes k falling.0)) falling.1
 
 back_can : (slots : Slots) (notes : List Note) (marks : List ℕ) → AreFalling (length notes) marks → CanEach notes slots marks →
     CanEach (until_mark marks notes) (all_taken_back (since_mark marks notes) slots) (older marks)

@@ -1,6 +1,5 @@
 -- A run more at the end.
-use Rattle.std.proofs.Common.{◌≡◌, ◌≢◌, ℕ, ◌+◌, ◌<◌, ◌≤◌, ◌^◌, true, false, List, [], ◌∷◌, ◌++◌, length, None, Result, Ok, Err, refl, sym, ap, ◌∙◌, subst, arith}
-use Rattle.std.specs.Prelude.{is_err, OnErr}
+use Rattle.std.proofs.Common.{◌≡◌, ◌≢◌, ℕ, ◌+◌, ◌<◌, ◌≤◌, ◌^◌, true, false, List, [], ◌∷◌, ◌++◌, None, refl, sym, ap, ◌∙◌, subst, arith}
 use Rattle.std.specs.declared.cmp.Ordering.{Ordering}
 use Rattle.std.specs.declared.cmp.Ordering.TheVariants.{Less, Equal, Greater}
 use Rattle.std.specs.Ordering.{is_eq, is_lt, eq_by_cmp, ordering_reverse}
@@ -8,44 +7,31 @@ use Rattle.std.specs.Option.{option_map}
 use Rattle.std.specs.List.{AllByRecursion}
 use Rattle.std.specs.FinMap.{get, insert, is_sorted}
 use Rattle.std.specs.FinMap.Entries.{below_all}
-use Rattle.std.proofs.lemmas.Bool.{and_parts, true≢false}
+use Rattle.std.proofs.lemmas.Bool.{and_parts}
 use Rattle.am_record.specs.OrderedKey.{OrderedKey, key_cmp, key_cmp-total, key_cmp-itself}
 use Rattle.am_record.specs.Plain.{PlainMap, Records, insert_all, is_rising}
 use Rattle.am_record.specs.declared.entry.Entry.{Entry}
+use Rattle.am_record.proofs.Lists.{AllByRecursion-map, AllByRecursion-append}
+use Rattle.am_record.proofs.Maps.{get_beside_inserted}
+use Rattle.am_record.proofs.Rising.{run_sorted, run_some}
+use Rattle.am_record.proofs.Orderings.{is_less}
+use Rattle.am_record.proofs.FirstRows.{Record}
 use Rattle.am_list.specs.Entries.{slot_of, find, insert_entry, IsRising}
 use Rattle.am_list.specs.Content.{content, HasContent, OnePlace}
 use Rattle.am_list.specs.Runs.{live_entry, run_entries}
-use Rattle.am_list.proofs.Lists.{AllByRecursion-map, AllByRecursion-append}
 use Rattle.am_list.proofs.Edits.{find-miss, other_part, other_key, entry_at_beside_inserted}
-use Rattle.am_list.proofs.ContentLaws.{content_laws, get_beside_inserted}
+use Rattle.am_list.proofs.ContentLaws.{content_laws}
 use Rattle.am_parts.specs.Partitions.{IsSound}
 use Rattle.am_parts.specs.Catalogs.{IsNext}
-use Rattle.am_parts.proofs.Bridge.{Record, with_run, with_run_appends, run_rises}
-
-pub on_err : {T E : Type 0} {P : Type 0} (r : Result T E) → is_err r ≡ true → OnErr r P → P
-on_err (Ok v) h p = absurd (true≢false (sym h))
-on_err (Err e) h p = p
-
-pub run_sorted : (rs : Records) → is_rising rs ≡ true → is_sorted key_cmp rs ≡ true
-run_sorted [] h = refl
-run_sorted (r ∷ rs) h = h
-
-some_record : (rs : Records) → is_rising rs ≡ true → 0 < length rs
-some_record [] h = absurd (true≢false (sym h))
-some_record (r ∷ rs) h = omega arith
+use Rattle.am_parts.proofs.Bridge.{with_run, with_run_appends, run_rises}
 
 pub under_next : (es : List Entry) (runs : ℕ) → AllByRecursion (λ e. e.part ≤ runs) es → AllByRecursion (λ e. e.part < runs + 1) es
 under_next es runs above = AllByRecursion-map (λ e. e.part ≤ runs) (λ e. e.part < runs + 1) (λ e low. omega (arith, low)) es above
 
 pub is_next : (es : List Entry) (runs : ℕ) (rs : Records) → AllByRecursion (λ e. e.part ≤ runs) es → is_rising rs ≡ true → IsNext es (runs + 1) rs
-is_next es runs rs above rising = record { is_run = omega arith; some = some_record rs rising; above = under_next es runs above }
+is_next es runs rs above rising = record { is_run = omega arith; some = run_some rs rising; above = under_next es runs above }
 
 -- ---- the content, record by record
-
-is_less : (o : Ordering) → is_lt o ≡ true → o ≡ Less
-is_less Less h = refl
-is_less Equal h = absurd (true≢false (sym h))
-is_less Greater h = absurd (true≢false (sym h))
 
 apart_keys : (k l : OrderedKey) → key_cmp k l ≡ Less → k ≢ l
 apart_keys k l less same = let tied : key_cmp k l ≡ Equal = ap (key_cmp k) (sym same) ∙ key_cmp-itself k in absurd (cc (sym less ∙ tied))

@@ -7,8 +7,8 @@ use Rattle.std.specs.List.{AllByRecursion}
 use Rattle.std.specs.List.Sorted.{IsPartitionedBy}
 use Rattle.am_record.specs.OrderedKey.{OrderedKey}
 use Rattle.am_record.specs.declared.entry.Entry.{Entry}
+use Rattle.am_record.proofs.Lists.{AllByRecursion-map}
 use Rattle.am_list.specs.Entries.{find, insert_entry, set_entry, remove_entry}
-use Rattle.am_list.proofs.Lists.{AllByRecursion-map}
 use Rattle.am_parts.specs.declared.catalog.OpenRun.{OpenRun}
 use Rattle.am_parts.specs.declared.catalog.Catalog.{Catalog}
 use Rattle.am_parts.specs.declared.generations.Generation.{Generation}
@@ -16,14 +16,9 @@ use Rattle.am_parts.specs.declared.generations.Generations.{Generations}
 use Rattle.am_parts.specs.Generations.{is_held, AreHeld, IsGenerationAt, IsStretch}
 use Rattle.am_parts.specs.Catalogs.{parts_of, PartsRise, is_one_of, AreListed, AreCounted, IsCatalog, IsRunAt, HasMore}
 use Rattle.am_parts.proofs.Counts.{all_removed, all_set}
-use Rattle.am_parts.proofs.Listed.{run_more, run_less, listed_set}
+use Rattle.am_parts.proofs.Listed.{run_more, run_less, listed_set, below_at}
 
 -- ---- the search
-
-below_later : (p : ℕ) (rs : List OpenRun) (j : ℕ) (d : OpenRun) → AllByRecursion (λ q. p < q) (parts_of rs) → j < length rs → p < (get_or rs j d).part
-below_later p [] j d up lt = absurd (omega arith)
-below_later p (r ∷ rs) zero d up lt = up.0
-below_later p (r ∷ rs) (suc j) d up lt = below_later p rs j d up.1 (omega arith)
 
 abbrev pub is_under : ℕ → OpenRun → Bool
 is_under part r = nat_lt r.part part
@@ -32,7 +27,7 @@ pub partitioned : (part : ℕ) (rs : List OpenRun) → PartsRise (parts_of rs) �
 partitioned part [] up i j d le lt h = absurd (omega arith)
 partitioned part (r ∷ rs) up zero zero d le lt h = h
 partitioned part (r ∷ rs) up zero (suc j) d le lt h =
-    let less = below_later r.part rs j d up.0 (omega arith) in
+    let less = below_at r.part rs j d up.0 (omega arith) in
     let under = ltb-true (get_or rs j d).part part h in
     lt-ltb r.part part (omega (arith, less, under))
 partitioned part (r ∷ rs) up (suc i) zero d le lt h = absurd (omega arith)

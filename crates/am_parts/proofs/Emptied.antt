@@ -1,17 +1,17 @@
 -- What is known of merged ranges, after each change.
 use Rattle.std.proofs.Common.{◌≡◌, ◌⊎◌, inl, inr, ℕ, zero, suc, ◌+◌, ◌<◌, ◌≤◌, Bool, true, false, cond, ◌||◌, List, [], ◌∷◌, ◌++◌, get_or, length, Option, Some, None, Result, Ok, Err, refl, sym, ap, ◌∙◌, subst, ⊎_elim, arith}
 use Rattle.std.specs.Prelude.{is_some, IfSome, OnOk, OnErr}
-use Rattle.std.proofs.lemmas.Bool.{and_parts, both_ways, cases_lt, false_from_ne_true, or_cases, or_left, or_right}
+use Rattle.std.proofs.lemmas.Bool.{and_parts, both_ways, cases_lt, false_from_ne_true, or_cases, or_left, or_right, and_from}
 use Rattle.std.specs.List.{AllByRecursion, remove}
 use Rattle.std.specs.Ordering.{ord_max, ord_min, is_lt}
 use Rattle.am_record.specs.OrderedKey.{OrderedKey, key_cmp}
 use Rattle.am_record.specs.Interval.{Interval, key_le, within, encloses, meets}
 use Rattle.am_record.specs.Plain.{Records}
 use Rattle.am_record.specs.declared.entry.Entry.{Entry}
-use Rattle.am_record.proofs.KeyOrder.{key_le_trans, key_le_total}
+use Rattle.am_record.proofs.KeyOrder.{key_le_trans, key_le_total, encloses_key}
+use Rattle.am_record.proofs.Lists.{AllByRecursion-map, AllByRecursion-append}
 use Rattle.am_list.specs.Entries.{find, insert_entry, set_entry, remove_entry}
 use Rattle.am_list.specs.Runs.{run_entries}
-use Rattle.am_list.proofs.Lists.{AllByRecursion-map, AllByRecursion-append, and_true}
 use Rattle.am_parts.specs.declared.merged.MergedRange.{MergedRange}
 use Rattle.am_parts.specs.Merged.{HasNoneBefore, IsMerged, AreMerged, SayNoMore}
 use Rattle.am_parts.specs.Partitions.{settled, brought_home}
@@ -19,20 +19,13 @@ use Rattle.am_parts.proofs.Counts.{all_inserted, all_removed, all_set}
 
 -- ---- ranges
 
--- a key in the inner range is one in the outer
-pub inside : (outer inner : Interval) (key : OrderedKey) → encloses outer inner ≡ true → within inner key ≡ true → within outer key ≡ true
-inside outer inner key holds there =
-    let ends = and_parts (key_le outer.lo inner.lo) (key_le inner.hi outer.hi) holds in
-    let ordered = and_parts (key_le inner.lo key) (key_le key inner.hi) there in
-    and_true (key_le outer.lo key) (key_le key outer.hi) (key_le_trans outer.lo inner.lo key ends.0 ordered.0) (key_le_trans key inner.hi outer.hi ordered.1 ends.1)
-
 -- a key from the one range on, and up to one of both ends, lies in one of the two, where the other begins below the end of the first
 from_first : (a b : Interval) (key : OrderedKey) → key_le b.lo a.hi ≡ true → key_le a.lo key ≡ true → (key_le key a.hi ≡ true) ⊎ (key_le key b.hi ≡ true) → (within a key ≡ true) ⊎ (within b key ≡ true)
-from_first a b key meet above (inl below) = inl (and_true (key_le a.lo key) (key_le key a.hi) above below)
+from_first a b key meet above (inl below) = inl (and_from (key_le a.lo key) (key_le key a.hi) above below)
 from_first a b key meet above (inr below) =
     ⊎_elim
-    (λ within_a. inl (and_true (key_le a.lo key) (key_le key a.hi) above within_a))
-    (λ behind_a. inr (and_true (key_le b.lo key) (key_le key b.hi) (key_le_trans b.lo a.hi key meet behind_a) below))
+    (λ within_a. inl (and_from (key_le a.lo key) (key_le key a.hi) above within_a))
+    (λ behind_a. inr (and_from (key_le b.lo key) (key_le key b.hi) (key_le_trans b.lo a.hi key meet behind_a) below))
     (key_le_total key a.hi)
 
 swapped : (P Q : Type 0) → P ⊎ Q → Q ⊎ P
@@ -76,7 +69,7 @@ earlier es range run run' le = AllByRecursion-map (λ e. 0 < e.part → e.part <
 pub narrower : (es : List Entry) (outer inner : Interval) (run : ℕ) → encloses outer inner ≡ true → HasNoneBefore es outer run → HasNoneBefore es inner run
 narrower es outer inner run holds =
     AllByRecursion-map (λ e. 0 < e.part → e.part < run → within outer e.key ≡ false) (λ e. 0 < e.part → e.part < run → within inner e.key ≡ false)
-    (λ e none some less. false_from_ne_true (within inner e.key) (λ yes. both_ways (within outer e.key) (none some less) (inside outer inner e.key holds yes))) es
+    (λ e none some less. false_from_ne_true (within inner e.key) (λ yes. both_ways (within outer e.key) (none some less) (encloses_key outer inner e.key holds yes))) es
 
 -- of two that have every key of a third one
 pub of_both : (es : List Entry) (a b range : Interval) (run : ℕ) → ((key : OrderedKey) → within range key ≡ true → (within a key || within b key) ≡ true) → HasNoneBefore es a run → HasNoneBefore es b run → HasNoneBefore es range run

@@ -5,9 +5,9 @@ use Rattle.std.specs.List.{AllByRecursion, remove}
 use Rattle.am_record.specs.OrderedKey.{OrderedKey}
 use Rattle.am_record.specs.Plain.{Records}
 use Rattle.am_record.specs.declared.entry.Entry.{Entry}
+use Rattle.am_record.proofs.Lists.{AllByRecursion-map, AllByRecursion-append}
 use Rattle.am_list.specs.Entries.{insert_entry}
 use Rattle.am_list.specs.Runs.{run_entries}
-use Rattle.am_list.proofs.Lists.{AllByRecursion-map, AllByRecursion-append}
 use Rattle.am_filter.specs.Held.{holds}
 use Rattle.am_parts.specs.declared.generations.Generation.{Generation}
 use Rattle.am_parts.specs.Generations.{is_held, AreHeld, IsGenerationAt, IsReached, HasGrown}

@@ -6,9 +6,9 @@ use Rattle.std.specs.List.{AllByRecursion, insert, remove}
 use Rattle.am_record.specs.OrderedKey.{OrderedKey}
 use Rattle.am_record.specs.Plain.{Records}
 use Rattle.am_record.specs.declared.entry.Entry.{Entry}
+use Rattle.am_record.proofs.Lists.{AllByRecursion-map, AllByRecursion-append, AllByRecursion-at}
 use Rattle.am_list.specs.Entries.{find, insert_entry, set_entry, remove_entry}
 use Rattle.am_list.specs.Runs.{run_entries}
-use Rattle.am_list.proofs.Lists.{AllByRecursion-map, AllByRecursion-append}
 use Rattle.am_filter.specs.Held.{holds}
 use Rattle.am_parts.specs.declared.catalog.OpenRun.{OpenRun}
 use Rattle.am_parts.specs.Catalogs.{left_in, IsOpenRun, parts_of, PartsRise, is_one_of, AreListed, IsRunAt, IsGapAt, HasMore, IsRunOf, IsNext}
@@ -16,12 +16,7 @@ use Rattle.am_parts.proofs.Counts.{one_if, none_if, all_inserted, all_removed, a
 
 -- ---- rising partitions
 
-pub all_at : {X : Type 0} (P : X → Type 0) (xs : List X) (i : ℕ) (d : X) → AllByRecursion P xs → i < length xs → P (get_or xs i d)
-all_at P [] i d a lt = absurd (omega arith)
-all_at P (x ∷ xs) zero d a lt = a.0
-all_at P (x ∷ xs) (suc i) d a lt = all_at P xs i d a.1 (omega arith)
-
-below_at : (p : ℕ) (rs : List OpenRun) (i : ℕ) (d : OpenRun) → AllByRecursion (λ q. p < q) (parts_of rs) → i < length rs → p < (get_or rs i d).part
+pub below_at : (p : ℕ) (rs : List OpenRun) (i : ℕ) (d : OpenRun) → AllByRecursion (λ q. p < q) (parts_of rs) → i < length rs → p < (get_or rs i d).part
 below_at p [] i d up lt = absurd (omega arith)
 below_at p (r ∷ rs) zero d up lt = up.0
 below_at p (r ∷ rs) (suc i) d up lt = below_at p rs i d up.1 (omega arith)
@@ -173,7 +168,7 @@ module _ {es : List Entry} {n : ℕ} {runs : List OpenRun} (h : AreListed es n r
         record {
           counted = omega (arith, h.counted, count_inserted 0 es x, not_final);
           each = replaced x.part (IsOpenRun es) (IsOpenRun (insert_entry es x)) (untouched es x) runs i s h.rising at.in_range (at.here s)
-              (grown es x (get_or runs i s) s (at.here s) more (all_at (IsOpenRun es) runs i s h.each at.in_range)) h.each;
+              (grown es x (get_or runs i s) s (at.here s) more (AllByRecursion-at (IsOpenRun es) runs i s h.each at.in_range)) h.each;
           every = subst (λ ps. AllByRecursion (λ (e : Entry). 0 < e.part → is_one_of ps e.part ≡ true) (insert_entry es x)) (sym same)
               (all_inserted (λ e. 0 < e.part → is_one_of (parts_of runs) e.part ≡ true) es x (λ _. ap (is_one_of (parts_of runs)) (sym (at.here s)) ∙ one_at runs i s at.in_range) h.every);
           rising = subst PartsRise (sym same) h.rising;
@@ -251,7 +246,7 @@ module _ {es : List Entry} {n : ℕ} {runs : List OpenRun} (h : AreListed es n r
       -- the run has others left
       pub run_less : (s : OpenRun) → s.part ≡ (get_or runs i s).part → s.left + 1 ≡ (get_or runs i s).left → s.filter ≡ (get_or runs i s).filter → 0 < s.left → AreListed (remove_entry es part key) n (set runs i s)
       run_less s here less filter some =
-          let was = all_at (IsOpenRun es) runs i s h.each at.in_range in
+          let was = AllByRecursion-at (IsOpenRun es) runs i s h.each at.in_range in
           let same : parts_of (set runs i s) ≡ parts_of runs = parts_set runs i s at.in_range here in
           let its : s.part ≡ part = here ∙ at.here s in
           let exact : (get_or runs i s).left ≡ left_in part es = was.exact ∙ ap (λ (p : ℕ). left_in p es) (at.here s) in
@@ -275,7 +270,7 @@ module _ {es : List Entry} {n : ℕ} {runs : List OpenRun} (h : AreListed es n r
       -- it was the last one
       pub run_gone : (d : OpenRun) → (get_or runs i d).left ≤ 1 → AreListed (remove_entry es part key) n (remove runs i)
       run_gone d last =
-          let was = all_at (IsOpenRun es) runs i d h.each at.in_range in
+          let was = AllByRecursion-at (IsOpenRun es) runs i d h.each at.in_range in
           let exact : (get_or runs i d).left ≡ left_in part es = was.exact ∙ ap (λ (p : ℕ). left_in p es) (at.here d) in
           let none : left_in part (remove_entry es part key) ≡ 0 = omega (arith, last, exact, count_removed part part key es stands, one_if part part refl) in
           record {

@@ -1,11 +1,11 @@
 -- Keys at or below one another.
 use Rattle.std.proofs.Common.{◌≡◌, ◌⊎◌, inl, inr, Bool, true, refl, sym, ap, ◌∙◌}
-use Rattle.std.proofs.lemmas.Bool.{false≢true}
+use Rattle.std.proofs.lemmas.Bool.{false≢true, and_parts, and_from}
 use Rattle.std.specs.declared.cmp.Ordering.{Ordering}
 use Rattle.std.specs.declared.cmp.Ordering.TheVariants.{Less, Equal, Greater}
 use Rattle.std.specs.Ordering.{is_le, ordering_reverse}
 use Rattle.am_record.specs.OrderedKey.{OrderedKey, key_cmp, key_cmp-total, key_cmp-exact}
-use Rattle.am_record.specs.Interval.{key_le}
+use Rattle.am_record.specs.Interval.{Interval, key_le, within, encloses}
 
 pub key_le_trans : (a b c : OrderedKey) → key_le a b ≡ true → key_le b c ≡ true → key_le a c ≡ true
 key_le_trans a b c h k = first (key_cmp a b) refl h
@@ -31,3 +31,15 @@ key_le_total a b = by_order (key_cmp a b) refl
 -- keys that tie are one
 pub ties_alike : (test : OrderedKey → Bool) (q x : OrderedKey) → key_cmp q x ≡ Equal → test x ≡ test q
 ties_alike test q x e = ap test (sym (key_cmp-exact q x e))
+
+-- ---- ranges
+
+pub in_ends : (range : Interval) (key : OrderedKey) → key_le range.lo key ≡ true → key_le key range.hi ≡ true → within range key ≡ true
+in_ends range key from to = and_from (key_le range.lo key) (key_le key range.hi) from to
+
+-- a key in the inner range is one in the outer
+pub encloses_key : (outer inner : Interval) (key : OrderedKey) → encloses outer inner ≡ true → within inner key ≡ true → within outer key ≡ true
+encloses_key outer inner key holds there =
+    let ends = and_parts (key_le outer.lo inner.lo) (key_le inner.hi outer.hi) holds in
+    let ordered = and_parts (key_le inner.lo key) (key_le key inner.hi) there in
+    in_ends outer key (key_le_trans outer.lo inner.lo key ends.0 ordered.0) (key_le_trans key inner.hi outer.hi ordered.1 ends.1)

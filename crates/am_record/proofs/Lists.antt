@@ -19,6 +19,10 @@ pub AllByRecursion-back : {X : Type 0} (P : X → Type 0) (xs ys : List X) → A
 AllByRecursion-back P [] ys a = a
 AllByRecursion-back P (x ∷ xs) ys a = AllByRecursion-back P xs ys a.1
 
+pub AllByRecursion-push : {X : Type 0} (P : X → Type 0) (xs : List X) (y : X) → AllByRecursion P xs → P y → AllByRecursion P (xs ++ y ∷ [])
+AllByRecursion-push P [] y a h = (h, tt)
+AllByRecursion-push P (x ∷ xs) y a h = (a.0, AllByRecursion-push P xs y a.1 h)
+
 pub AllByRecursion-take : {X : Type 0} (P : X → Type 0) (n : ℕ) (xs : List X) → AllByRecursion P xs → AllByRecursion P (take n xs)
 AllByRecursion-take P zero xs a = tt
 AllByRecursion-take P (suc n) [] a = tt

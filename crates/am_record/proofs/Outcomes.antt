@@ -1,6 +1,6 @@
 -- What a test, a Result or an Option tells.
 use Rattle.std.proofs.Common.{◌≡◌, Bool, true, false, cond, Result, Ok, Err, Option, Some, None, refl, sym}
-use Rattle.std.specs.Prelude.{T, is_ok, is_err, OnOk, OnErr}
+use Rattle.std.specs.Prelude.{T, is_some, is_ok, is_err, OnOk, OnErr}
 use Rattle.std.specs.Option.{option_map}
 use Rattle.std.proofs.lemmas.Bool.{true≢false, false≢true}
 use Rattle.am_record.specs.Plain.{Records}
@@ -43,3 +43,7 @@ gate false o a e = cc
 pub mapped : {A B : Type 0} (f : A → B) (o : Option A) (b : B) → option_map f o ≡ Some b → (a : A) × (o ≡ Some a) × (f a ≡ b)
 mapped f None b e = cc
 mapped f (Some a) b e = (a, refl, cc)
+
+pub is_none : {A : Type 0} (o : Option A) → is_some o ≡ false → o ≡ None
+is_none None h = refl
+is_none (Some x) h = absurd (true≢false h)

@@ -1,10 +1,13 @@
 -- What the order of places says of three places.
-use Rattle.std.proofs.Common.{◌≡◌, ◌≢◌, ◌<◌, ◌≤◌, refl, sym, ap, ◌∙◌, arith}
+use Rattle.std.proofs.Common.{◌≡◌, ◌≢◌, ℕ, ◌<◌, ◌≤◌, true, refl, sym, ap, ◌∙◌, ⊎_elim, arith}
+use Rattle.std.proofs.lemmas.Bool.{true≢false, cases_lt}
 use Rattle.std.specs.declared.cmp.Ordering.{Ordering}
 use Rattle.std.specs.declared.cmp.Ordering.TheVariants.{Less, Equal, Greater}
-use Rattle.std.specs.Ordering.{ordering_reverse, ordering_index}
+use Rattle.std.specs.Ordering.{is_le, ordering_reverse, ordering_index}
 use Rattle.std.specs.Cmp.{alike_right}
-use Rattle.am_record.specs.EntryOrder.{Place, place_cmp, place_cmp-total, place_cmp-part, place_cmp-equal}
+use Rattle.am_record.specs.OrderedKey.{OrderedKey, key_cmp}
+use Rattle.am_record.specs.Interval.{key_le}
+use Rattle.am_record.specs.EntryOrder.{Place, place_cmp, place_cmp-total, place_cmp-part, place_cmp-equal, place_cmp-same}
 use Rattle.am_record.proofs.Orderings.{less_or_greater}
 
 -- the other way round
@@ -51,3 +54,13 @@ lower_part a b lt = by_order (place_cmp a b) refl
     by_order Greater h =
         let back : b.0 ≤ a.0 = place_cmp-part b a (λ greater. less_or_greater (place_cmp b a) (turned_greater a b h) greater) in
         absurd (omega arith)
+
+pub from_place : (part p : ℕ) (low key : OrderedKey) → part ≤ p → key_le low key ≡ true → place_cmp (part, low) (p, key) ≢ Greater
+from_place part p low key le from greater =
+    ⊎_elim
+    (λ below. less_or_greater (place_cmp (part, low) (p, key)) (lower_part (part, low) (p, key) below) greater)
+    (λ above.
+    let same : p ≡ part = omega arith in
+    let ranks : key_cmp low key ≡ Greater = sym (place_cmp-same part low key) ∙ ap (λ q. place_cmp (part, low) (q, key)) (sym same) ∙ greater in
+    true≢false (sym from ∙ ap is_le ranks))
+    (cases_lt part p)

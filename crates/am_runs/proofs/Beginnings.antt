@@ -1,42 +1,17 @@
 -- The first entries at or above a key, from partition to partition.
-use Rattle.std.proofs.Common.{◌≡◌, ◌≢◌, ℕ, ◌<◌, ◌≤◌, List, true, Option, Some, None, refl, sym, ap, ◌∙◌, arith, ⊎_elim}
-use Rattle.std.proofs.lemmas.Bool.{true≢false, cases_lt}
+use Rattle.std.proofs.Common.{◌≡◌, ℕ, List, true, Option, Some, None, refl, sym, ap, ◌∙◌}
 use Rattle.std.proofs.lemmas.Option.{none-some}
 use Rattle.std.specs.declared.cmp.Ordering.{Ordering}
 use Rattle.std.specs.declared.cmp.Ordering.TheVariants.{Less, Equal, Greater}
-use Rattle.std.specs.Ordering.{is_le, ordering_reverse}
+use Rattle.std.specs.Ordering.{ordering_reverse}
 use Rattle.am_record.specs.OrderedKey.{OrderedKey, key_cmp, key_cmp-total, key_cmp-exact}
 use Rattle.am_record.specs.Interval.{key_le}
-use Rattle.am_record.specs.EntryOrder.{Place, place_cmp, place_cmp-part, place_cmp-equal, place_cmp-same, place_cmp-total}
 use Rattle.am_record.specs.declared.entry.Entry.{Entry}
 use Rattle.am_list.specs.Entries.{slot_of, entry_at, find, next_from}
 use Rattle.am_list.specs.Walks.{WalkLaws}
 use Rattle.am_list.proofs.Edits.{entry_at_slot}
 
 -- ---- places
-
-not_both : (o : Ordering) → o ≡ Less → o ≡ Greater → ⊥
-not_both o less greater = cc
-
-lower_part : (a b : Place) → a.0 < b.0 → place_cmp a b ≡ Less
-lower_part a b less = by_order (place_cmp a b) refl
-  where
-    by_order : (o : Ordering) → place_cmp a b ≡ o → place_cmp a b ≡ Less
-    by_order Less h = h
-    by_order Equal h = let same = (place_cmp-equal a b h).0 in absurd (omega (arith, same))
-    by_order Greater h =
-        let back : b.0 ≤ a.0 = place_cmp-part b a (λ greater. not_both (place_cmp b a) (place_cmp-total.antisymm b a ∙ ap ordering_reverse h) greater) in
-        absurd (omega arith)
-
-from_place : (part p : ℕ) (low key : OrderedKey) → part ≤ p → key_le low key ≡ true → place_cmp (part, low) (p, key) ≢ Greater
-from_place part p low key le from greater =
-    ⊎_elim
-    (λ below. not_both (place_cmp (part, low) (p, key)) (lower_part (part, low) (p, key) below) greater)
-    (λ above.
-    let same : p ≡ part = omega arith in
-    let ranks : key_cmp low key ≡ Greater = sym (place_cmp-same part low key) ∙ ap (λ q. place_cmp (part, low) (q, key)) (sym same) ∙ greater in
-    true≢false (sym from ∙ ap is_le ranks))
-    (cases_lt part p)
 
 -- ---- one partition
 

@@ -7,7 +7,7 @@ use Rattle.am_record.specs.OrderedKey.{OrderedKey, key_cmp, key_eq-exact}
 use Rattle.am_record.specs.Interval.{key_le}
 use Rattle.am_record.specs.Plain.{PlainMap, Records, is_key_of, least_taken}
 use Rattle.am_record.proofs.FirstRows.{key_eq}
-use Rattle.am_runs.proofs.Rising.{Below, sorted_parts, sorted_from}
+use Rattle.am_record.proofs.Rising.{Below, sorted_parts, sorted_from}
 use Rattle.am_runs.proofs.Passing.{first_below, no_key}
 use Rattle.am_runs.proofs.Taken.{IsLeast, is_least, least_found}
 

@@ -1,4 +1,3 @@
-pub mod Rising
 pub mod Twice
 pub mod Pieces
 pub mod Taken

@@ -1,29 +1,27 @@
 -- Where the records of a run stand, and where nothing stands.
-use Rattle.std.proofs.Common.{◌≡◌, ◌≢◌, ℕ, ◌<◌, ◌≤◌, List, [], ◌∷◌, true, false, None, Some, sym, ap, ◌∙◌, refl, arith, rules}
+use Rattle.std.proofs.Common.{◌≡◌, ◌≢◌, ℕ, ◌<◌, ◌≤◌, List, [], ◌∷◌, false, None, Some, sym, ap, ◌∙◌, refl, arith}
 use Rattle.std.specs.Prelude.{◌==◌}
 use Rattle.std.proofs.lemmas.Bool.{true≢false, or_parts}
 use Rattle.std.proofs.lemmas.Option.{none-some}
 use Rattle.std.specs.Ordering.{is_eq, eq_by_cmp}
 use Rattle.std.specs.Option.{option_map}
+use Rattle.std.proofs.lemmas.Cmp.{nat_eq_equiv}
 use Rattle.am_record.specs.OrderedKey.{OrderedKey, key_cmp, key_cmp-itself}
 use Rattle.am_record.specs.Plain.{Records, is_key_of}
 use Rattle.am_record.specs.declared.entry.Entry.{Entry}
+use Rattle.am_record.proofs.Lists.{AllByRecursion-map}
 use Rattle.am_list.specs.Entries.{slot_of, entry_at, find, insert_entry, IsRising}
-use Rattle.am_list.proofs.Lists.{AllByRecursion-map}
 use Rattle.am_list.proofs.Edits.{other_part, other_key, entry_at_slot, entry_at_beside_inserted}
 use Rattle.am_list.proofs.Content.{all_found}
 use Rattle.am_runs.specs.Loads.{live_entry, with_run, NothingAbove, LoadLaws}
 use Rattle.am_runs.proofs.Loaded.{none_above}
-
-eqb-itself : (n : ℕ) → (n == n) ≡ true
-eqb-itself n = search rules
 
 module _ (run : ℕ) where
   other_parts : (pairs : Records) (es : List Entry) (part : ℕ) (key : OrderedKey) → (part == run) ≡ false → find (with_run run pairs es) part key ≡ find es part key
   other_parts [] es part key other = refl
   other_parts (r ∷ rs) es part key other =
       other_parts rs (insert_entry es (live_entry run r)) part key other
-      ∙ ap (option_map slot_of) (entry_at_beside_inserted es (live_entry run r) part key (other_part run part r.0 key (λ same. true≢false (sym (ap (λ n. n == run) (sym same) ∙ eqb-itself run) ∙ other))))
+      ∙ ap (option_map slot_of) (entry_at_beside_inserted es (live_entry run r) part key (other_part run part r.0 key (λ same. true≢false (sym (ap (λ n. n == run) (sym same) ∙ nat_eq_equiv.refl run) ∙ other))))
 
   apart : (key key' : OrderedKey) → eq_by_cmp key_cmp key key' ≡ false → key' ≢ key
   apart key key' h same = true≢false (sym (ap is_eq (ap (key_cmp key) same ∙ key_cmp-itself key)) ∙ h)

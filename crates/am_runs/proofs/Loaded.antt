@@ -1,23 +1,21 @@
 -- The entries and the content while the records of a run go in, and while they are taken out again.
-use Rattle.std.proofs.Common.{◌≡◌, ◌≢◌, ℕ, ◌+◌, ◌<◌, ◌≤◌, true, false, cond, List, [], ◌∷◌, ◌++◌, None, Result, Ok, Err, refl, sym, ap, ◌∙◌, subst, arith}
+use Rattle.std.proofs.Common.{◌≡◌, ◌≢◌, ℕ, ◌+◌, ◌<◌, ◌≤◌, true, false, List, [], ◌∷◌, ◌++◌, None, Result, refl, sym, ap, ◌∙◌, subst, arith}
 use Rattle.std.specs.Prelude.{is_err, OnOk}
-use Rattle.std.proofs.lemmas.Bool.{true≢false}
-use Rattle.std.specs.Ordering.{is_lt}
 use Rattle.std.specs.List.{AllByRecursion}
 use Rattle.am_record.specs.OrderedKey.{OrderedKey}
 use Rattle.am_record.specs.Plain.{Records, insert_all}
-use Rattle.am_record.specs.EntryOrder.{place_cmp, place_of}
 use Rattle.am_record.specs.declared.entry.Entry.{Entry}
 use Rattle.am_list.specs.Entries.{find, insert_entry}
 use Rattle.am_list.specs.Content.{content, HasContent}
-use Rattle.am_list.proofs.Lists.{AllByRecursion-map}
-use Rattle.am_list.proofs.Edits.{find-miss, other_part}
+use Rattle.am_list.proofs.Edits.{find-miss, other_part, all_inserted}
 use Rattle.am_parts.specs.Partitions.{Partitions}
 use Rattle.am_record.specs.Plain.{is_rising}
+use Rattle.am_record.proofs.Lists.{AllByRecursion-map}
+use Rattle.am_record.proofs.Rising.{run_sorted}
+use Rattle.am_record.proofs.Outcomes.{on_ok}
 use Rattle.am_list.specs.Runs.{run_entries}
 use Rattle.am_parts.proofs.Bridge.{with_run as part_run, with_run_appends}
 use Rattle.am_runs.specs.Loads.{live_entry, with_run, NothingAbove, IsLoaded}
-use Rattle.am_runs.proofs.Rising.{run_sorted}
 
 -- ---- nothing above
 
@@ -29,14 +27,6 @@ none_above {part} {es} h part' key above = absent es h.all
     absent (e ∷ es) h =
         let other : e.part ≢ part' = λ same. let low : e.part ≤ part = h.0 in absurd (omega (arith, low, above, same)) in
         find-miss part' key e es (other_part e.part part' e.key key other) ∙ absent es h.1
-
-all_inserted : (P : Entry → Type 0) (es : List Entry) (x : Entry) → P x → AllByRecursion P es → AllByRecursion P (insert_entry es x)
-all_inserted P [] x p a = (p, tt)
-all_inserted P (e ∷ es) x p a =
-    elim (is_lt (place_cmp (place_of e) (place_of x))) as (λ b. AllByRecursion P (cond b (e ∷ insert_entry es x) (x ∷ e ∷ es))) [
-      | true ↦ (a.0, all_inserted P es x p a.1)
-      | false ↦ (p, a)
-    ]
 
 -- an entry of the partition or of an earlier one was added
 pub nothing_above-inserted : {part : ℕ} {es : List Entry} → NothingAbove part es → (x : Entry) → x.part ≤ part → NothingAbove part (insert_entry es x)
@@ -50,10 +40,6 @@ nothing_above-with_run part [] es h = h
 nothing_above-with_run part (r ∷ rs) es h = nothing_above-with_run part rs (insert_entry es (live_entry part r)) (nothing_above-inserted h (live_entry part r) (omega arith))
 
 -- ---- what a load leaves
-
-on_ok : {T E P : Type 0} (r : Result T E) → is_err r ≡ false → OnOk r P → P
-on_ok (Ok v) h p = p
-on_ok (Err e) h p = absurd (true≢false h)
 
 -- a run that was appended went in record by record
 as_parts : (part : ℕ) (rs : Records) (es : List Entry) → with_run part rs es ≡ part_run part rs es

@@ -11,8 +11,9 @@ use Rattle.std.specs.FinMap.{is_sorted}
 use Rattle.am_record.specs.OrderedKey.{OrderedKey, key_cmp, key_cmp-total, key_eq-exact}
 use Rattle.am_record.specs.Interval.{key_le}
 use Rattle.am_record.specs.Plain.{Records, is_key_of}
-use Rattle.am_record.proofs.FirstRows.{key_eq}
-use Rattle.am_runs.proofs.Rising.{Record, Below, is_less, sorted_parts, sorted_from}
+use Rattle.am_record.proofs.FirstRows.{key_eq, Record}
+use Rattle.am_record.proofs.Rising.{Below, sorted_parts, sorted_from}
+use Rattle.am_record.proofs.Orderings.{is_less}
 
 -- ---- orders of keys
 

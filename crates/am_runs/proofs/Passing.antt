@@ -1,7 +1,7 @@
 -- Rising records and the entries of one partition, passed over side by side.
 use Rattle.std.proofs.Common.{◌≡◌, ℕ, List, [], ◌∷◌, length, Bool, true, false, ◌&&◌, not, Some, None, refl, sym, ap, ◌∙◌, subst, arith, ⊎_elim}
 use Rattle.std.proofs.lemmas.Bool.{cases_Bool, and_parts, or_cases, or_left, or_right, true≢false, false≢true}
-use Rattle.std.proofs.lemmas.Option.{none-some, same_Some}
+use Rattle.std.proofs.lemmas.Option.{same_Some}
 use Rattle.std.specs.declared.cmp.Ordering.{Ordering}
 use Rattle.std.specs.declared.cmp.Ordering.TheVariants.{Less, Equal, Greater}
 use Rattle.std.specs.Ordering.{is_lt, is_le}
@@ -10,16 +10,17 @@ use Rattle.am_record.specs.OrderedKey.{OrderedKey, key_cmp, key_cmp-exact, key_e
 use Rattle.am_record.specs.Interval.{key_le, key_le-itself}
 use Rattle.am_record.specs.Plain.{Records, is_key_of}
 use Rattle.am_record.specs.declared.entry.Entry.{Entry}
-use Rattle.am_record.proofs.FirstRows.{key_eq, key_eq-itself, le_of_less, le_of_equal}
+use Rattle.am_record.proofs.FirstRows.{key_eq, key_eq-itself, le_of_less, le_of_equal, Record}
+use Rattle.am_record.proofs.Rising.{Below, sorted_parts}
 use Rattle.am_list.specs.Entries.{slot_of, find, next_from}
 use Rattle.am_list.specs.Walks.{WalkLaws}
 use Rattle.am_list.specs.Content.{IsLiveAt}
 use Rattle.am_list.proofs.Edits.{entry_at_slot}
 use Rattle.am_list.proofs.WalkLaws.{walk_laws}
+use Rattle.am_list.proofs.Content.{none_live}
 use Rattle.am_parts.specs.Partitions.{IsSound}
 use Rattle.am_parts.proofs.Lives.{lives_in}
 use Rattle.am_runs.specs.Looks.{NoneLiveIn, IsLeastLiveIn}
-use Rattle.am_runs.proofs.Rising.{Record, Below, sorted_parts}
 use Rattle.am_runs.proofs.Parting.{is_below, kept, is_key_kept, sorted_kept}
 
 -- ---- keys of records
@@ -42,10 +43,6 @@ first_below r rs q sorted h =
 
 pub first_is_key : (left : Records) (r : Record) (rs : Records) → left ≡ r ∷ rs → is_key_of left r.0 ≡ true
 first_is_key left r rs is = ap (λ (l : Records). is_key_of l r.0) is ∙ or_left (key_eq r.0 r.0) (is_key_of rs r.0) (key_eq-itself r.0)
-
--- where nothing stands, nothing is live
-none_live : (es : List Entry) (part : ℕ) (key : OrderedKey) → find es part key ≡ None → (value : List ℕ) → ¬ IsLiveAt es part key value
-none_live es part key none value live = none-some (value, false) (sym none ∙ live.there)
 
 -- a partition with no entry at or above the first of rising records
 pub nothing_reached : {es : List Entry} → WalkLaws es → (part : ℕ) (r : Record) (rs : Records) → is_sorted key_cmp (r ∷ rs) ≡ true → next_from es part r.0 ≡ None → NoneLiveIn es part (r ∷ rs)

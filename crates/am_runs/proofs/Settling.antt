@@ -10,14 +10,15 @@ use Rattle.am_record.specs.OrderedKey.{OrderedKey, key_cmp, key_cmp-total, key_e
 use Rattle.am_record.specs.Interval.{key_le}
 use Rattle.am_record.specs.Plain.{Records, is_key_of, first_key, least_taken}
 use Rattle.am_record.specs.declared.entry.Entry.{Entry}
-use Rattle.am_record.proofs.FirstRows.{key_eq}
+use Rattle.am_record.proofs.FirstRows.{key_eq, Record}
+use Rattle.am_record.proofs.Rising.{sorted_parts}
+use Rattle.am_record.proofs.Orderings.{is_less}
 use Rattle.am_list.specs.Entries.{next_from}
 use Rattle.am_list.specs.Content.{content, IsLiveAt}
 use Rattle.am_list.proofs.WalkLaws.{walk_laws}
 use Rattle.am_parts.specs.Partitions.{IsSound, LivesIn, LivesInNoRun}
 use Rattle.am_parts.proofs.Lives.{laws_of}
 use Rattle.am_runs.specs.Looks.{NoneLiveIn, IsLeastLiveIn, NoneInRuns, IsLeastInRuns}
-use Rattle.am_runs.proofs.Rising.{Record, is_less, sorted_parts}
 use Rattle.am_runs.proofs.Parting.{not_less, less_not, is_below, kept, is_key_kept, sorted_kept}
 use Rattle.am_runs.proofs.Passing.{same_key, first_below, nothing_reached, no_key}
 use Rattle.am_runs.proofs.Taken.{least_found}

@@ -11,11 +11,13 @@ use Rattle.std.specs.Ordering.{is_lt, is_eq, is_le, eq_by_cmp, ordering_reverse}
 use Rattle.std.specs.List.{AllByRecursion}
 use Rattle.std.specs.List.Sorted.{IsPermutation, IsSorted, IsSortedByKey}
 use Rattle.std.specs.FinMap.{is_sorted}
-use Rattle.am_record.specs.OrderedKey.{OrderedKey, key_cmp, key_cmp-total, key_cmp-itself, key_eq-exact}
+use Rattle.am_record.specs.OrderedKey.{OrderedKey, key_cmp, key_cmp-total, key_eq-exact}
 use Rattle.am_record.specs.Interval.{key_le, key_le-itself}
 use Rattle.am_record.specs.Plain.{Records}
+use Rattle.am_record.proofs.Rising.{Below, sorted_from}
+use Rattle.am_record.proofs.FirstRows.{key_eq-itself}
+use Rattle.am_record.proofs.Orderings.{not_lt_le_back}
 use Rattle.am_runs.specs.Cuts.{keys_of, times, NoneTwice, IsLeastTwice}
-use Rattle.am_runs.proofs.Rising.{Below, sorted_from}
 
 -- ---- how often a key stands
 
@@ -30,9 +32,6 @@ none_at key k h = ap (λ b. cond b 1 0) h
 
 times-cons : (key k : OrderedKey) (ks : List OrderedKey) → times key (k ∷ ks) ≡ one_if key k + times key ks
 times-cons key k ks = sum_by-cons (one_if key) k ks
-
-itself : (k : OrderedKey) → eq_by_cmp key_cmp k k ≡ true
-itself k = ap is_eq (key_cmp-itself k)
 
 times-append : (key : OrderedKey) (ks ls : List OrderedKey) → times key (ks ++ ls) ≡ times key ks + times key ls
 times-append key ks ls = sum_by-append (one_if key) ks ls
@@ -86,13 +85,8 @@ map_same (k ∷ ks) = ap (λ ls. k ∷ ls) (map_same ks)
 ascends : (ks : List OrderedKey) → IsSorted key_cmp ks → Ascends ks
 ascends ks h = subst Ascends (map_same ks) (ascends_by (λ k. k) ks h)
 
-not_below : (o : Ordering) → is_lt o ≡ false → is_le (ordering_reverse o) ≡ true
-not_below Less h = absurd (true≢false h)
-not_below Equal h = refl
-not_below Greater h = refl
-
 at_least : (k l : OrderedKey) → is_lt (key_cmp l k) ≡ false → key_le k l ≡ true
-at_least k l h = ap is_le (key_cmp-total.antisymm k l) ∙ not_below (key_cmp l k) h
+at_least k l h = ap is_le (key_cmp-total.antisymm k l) ∙ not_lt_le_back (key_cmp l k) h
 
 strictly : (o : Ordering) → is_lt (ordering_reverse o) ≡ false → is_eq o ≡ false → o ≡ Less
 strictly Less h n = refl
@@ -122,7 +116,7 @@ below_of k (r ∷ rs) from none =
 pub rising_of : (rs : Records) → Ascends (keys_of rs) → NoneTwice (keys_of rs) → is_sorted key_cmp rs ≡ true
 rising_of [] h once = refl
 rising_of (r ∷ rs) h once =
-    let alone : times r.0 (keys_of rs) ≡ 0 = omega (arith, once.once r.0, times-cons r.0 r.0 (keys_of rs), one_at r.0 r.0 (itself r.0)) in
+    let alone : times r.0 (keys_of rs) ≡ 0 = omega (arith, once.once r.0, times-cons r.0 r.0 (keys_of rs), one_at r.0 r.0 (key_eq-itself r.0)) in
     sorted_from r rs (below_of r.0 rs h.0 alone) (rising_of rs h.1 (none_twice-append (r.0 ∷ []) (keys_of rs) once).1)
 
 -- ---- the walk over sorted keys: a key stands twice among all where it does among those that are left
@@ -138,8 +132,8 @@ all_left ks h = record { ascending = ascends ks h; here = λ key two. two; there
 pub tie_is_least : (all : List OrderedKey) (k l : OrderedKey) (ks : List OrderedKey) → IsLeftOf all (k ∷ l ∷ ks) → eq_by_cmp key_cmp l k ≡ true → IsLeastTwice all k
 tie_is_least all k l ks h tie =
     let same : l ≡ k = key_eq-exact l k tie in
-    let first : one_if k k ≡ 1 = one_at k k (itself k) in
-    let second : one_if k l ≡ 1 = one_at k l (subst (λ x. eq_by_cmp key_cmp k x ≡ true) (sym same) (itself k)) in
+    let first : one_if k k ≡ 1 = one_at k k (key_eq-itself k) in
+    let second : one_if k l ≡ 1 = one_at k l (subst (λ x. eq_by_cmp key_cmp k x ≡ true) (sym same) (key_eq-itself k)) in
     record {
       twice = h.there k (omega (arith, first, second, times-cons k k (l ∷ ks), times-cons k l ks));
       least = λ other two.
@@ -187,7 +181,7 @@ tie_of all [] k l h two first second tie = absurd (omega arith)
 tie_of all (x ∷ []) k l h two first second tie = absurd (omega arith)
 tie_of all (x ∷ y ∷ rest) k l h two first second tie =
     subst (IsLeastTwice all) (sym first)
-    (tie_is_least all x y rest h (ap is_eq (ap (λ z. key_cmp z x) (sym second)) ∙ ap (λ z. eq_by_cmp key_cmp l z) (sym first) ∙ subst (λ z. eq_by_cmp key_cmp l z ≡ true) (sym (key_eq-exact k l tie)) (itself l)))
+    (tie_is_least all x y rest h (ap is_eq (ap (λ z. key_cmp z x) (sym second)) ∙ ap (λ z. eq_by_cmp key_cmp l z) (sym first) ∙ subst (λ z. eq_by_cmp key_cmp l z ≡ true) (sym (key_eq-exact k l tie)) (key_eq-itself l)))
 
 take_rest : (x : OrderedKey) (xs : List OrderedKey) → take (length (x ∷ xs) - 1) (drop 1 (x ∷ xs)) ≡ xs
 take_rest x xs = grind (arith, common_steps)

@@ -14,8 +14,9 @@ use Rattle.am_record.specs.Interval.{key_le, key_le-itself}
 use Rattle.am_record.specs.EntryOrder.{place_of, place_cmp, place_cmp-same}
 use Rattle.am_record.specs.declared.entry.Entry.{Entry}
 use Rattle.am_record.specs.Plain.{Records, is_key_of, first_key}
-use Rattle.am_record.proofs.FirstRows.{key_eq}
+use Rattle.am_record.proofs.FirstRows.{key_eq, Record}
 use Rattle.am_record.proofs.KeyOrder.{key_le_trans}
+use Rattle.am_record.proofs.Orderings.{ge_reversed, gt_reversed}
 use Rattle.am_list.specs.Entries.{first_such, next_from, all_after, IsRising}
 use Rattle.am_list.specs.Walks.{WalkLaws}
 use Rattle.am_list.proofs.Lists.{first_such_here}
@@ -23,7 +24,6 @@ use Rattle.am_list.proofs.WalkLaws.{walk_laws}
 use Rattle.am_list.proofs.ReadLaws.{read_laws}
 use Rattle.am_runs.specs.declared.walk.Walk.{Walk}
 use Rattle.am_runs.specs.Walk.{IsWalkFrom}
-use Rattle.am_runs.proofs.Rising.{Record}
 use Rattle.am_runs.proofs.Parting.{kept, is_key_kept}
 use Rattle.am_runs.proofs.Beginnings.{first_is}
 use Rattle.am_runs.proofs.Passing.{first_below}
@@ -50,16 +50,6 @@ less_after a b c less le = by_order (key_cmp b c) refl le
     by_order Less below h = ap is_lt (key_cmp-total.trans a b c less below)
     by_order Equal same h = ap is_lt (ap (key_cmp a) (sym (key_cmp-exact b c same)) ∙ less)
     by_order Greater above h = absurd (false≢true h)
-
-ge_reversed : (o : Ordering) → is_ge (ordering_reverse o) ≡ is_le o
-ge_reversed Less = refl
-ge_reversed Equal = refl
-ge_reversed Greater = refl
-
-gt_reversed : (o : Ordering) → is_gt (ordering_reverse o) ≡ is_lt o
-gt_reversed Less = refl
-gt_reversed Equal = refl
-gt_reversed Greater = refl
 
 module _ (part : ℕ) (key q : OrderedKey) where
   place_ge : is_ge (place_cmp (part, q) (part, key)) ≡ key_le key q

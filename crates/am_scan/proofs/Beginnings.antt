@@ -3,18 +3,21 @@ use Rattle.std.proofs.Common.{◌≡◌, ◌≢◌, ℕ, ◌<◌, ◌≤◌, ◌
 use Rattle.std.proofs.lemmas.Bool.{and_parts, true≢false, cases_lt}
 use Rattle.std.specs.declared.cmp.Ordering.{Ordering}
 use Rattle.std.specs.declared.cmp.Ordering.TheVariants.{Less, Equal, Greater}
-use Rattle.std.specs.Ordering.{is_le, ordering_reverse}
+use Rattle.std.specs.Ordering.{is_le}
 use Rattle.am_record.specs.OrderedKey.{OrderedKey, key_cmp, key_cmp-exact}
 use Rattle.am_record.specs.Interval.{Interval, key_le, within}
-use Rattle.am_record.specs.EntryOrder.{Place, place_of, place_cmp, place_cmp-part, place_cmp-equal, place_cmp-same, place_cmp-total}
+use Rattle.am_record.specs.EntryOrder.{place_of, place_cmp, place_cmp-part, place_cmp-same}
 use Rattle.am_record.specs.declared.entry.Entry.{Entry}
+use Rattle.am_record.proofs.PlaceOrder.{lower_part, from_place}
+use Rattle.am_record.proofs.KeyOrder.{in_ends}
 use Rattle.am_list.specs.Entries.{next_any, all_after}
 use Rattle.am_list.specs.Walks.{WalkLaws}
 use Rattle.am_list.specs.Content.{IsLiveAt}
+use Rattle.am_list.proofs.Content.{none_live}
 use Rattle.am_scan.specs.Looks.{AreEmpty, AreEmptyFrom, IsFirstIn, IsFirstFrom, HasNoneLive}
 use Rattle.am_scan.specs.declared.head.Head.{Head}
 use Rattle.am_scan.specs.Heads.{HasReadOn, IsFirstHead, IsNextHead, HasNoNext}
-use Rattle.am_scan.proofs.Moving.{turned, le_less, in_ends, none_live, ghost_not_live, live_there}
+use Rattle.am_scan.proofs.Moving.{turned, le_less, ghost_not_live, live_there}
 
 -- ---- the head of one partition
 
@@ -72,29 +75,6 @@ module _ {es : List Entry} (range : Interval) (e : Entry) (first : IsFirstIn es 
         by_order key value inside Greater h live = none_before key value inside (turned e.key key h) live
 
 -- ---- places
-
-not_both : (o : Ordering) → o ≡ Less → o ≡ Greater → ⊥
-not_both o less greater = cc
-
-pub lower_part : (a b : Place) → a.0 < b.0 → place_cmp a b ≡ Less
-lower_part a b less = by_order (place_cmp a b) refl
-  where
-    by_order : (o : Ordering) → place_cmp a b ≡ o → place_cmp a b ≡ Less
-    by_order Less h = h
-    by_order Equal h = let same = (place_cmp-equal a b h).0 in absurd (omega (arith, same))
-    by_order Greater h =
-        let back : b.0 ≤ a.0 = place_cmp-part b a (λ greater. not_both (place_cmp b a) (place_cmp-total.antisymm b a ∙ ap ordering_reverse h) greater) in
-        absurd (omega arith)
-
-pub from_place : (part p : ℕ) (lo key : OrderedKey) → part ≤ p → key_le lo key ≡ true → place_cmp (part, lo) (p, key) ≢ Greater
-from_place part p lo key le from greater =
-    ⊎_elim
-    (λ below. not_both (place_cmp (part, lo) (p, key)) (lower_part (part, lo) (p, key) below) greater)
-    (λ above.
-    let same : p ≡ part = omega arith in
-    let ranks : key_cmp lo key ≡ Greater = sym (place_cmp-same part lo key) ∙ ap (λ q. place_cmp (part, lo) (q, key)) (sym same) ∙ greater in
-    true≢false (sym from ∙ ap is_le ranks))
-    (cases_lt part p)
 
 -- ---- the first entry from partition to partition
 

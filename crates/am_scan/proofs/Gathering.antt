@@ -1,7 +1,7 @@
 -- Heads gathered from partition to partition.
-use Rattle.std.proofs.Common.{◌≡◌, ℕ, ◌+◌, ◌^◌, ◌<◌, ◌≤◌, List, [], ◌∷◌, Bool, true, false, ◌&&◌, ◌||◌, ◌==◌, Some, None, ◌⊎◌, inl, inr, max, refl, sym, ap, ◌∙◌, subst, arith, ⊎_elim}
+use Rattle.std.proofs.Common.{◌≡◌, ℕ, ◌+◌, ◌^◌, ◌<◌, ◌≤◌, List, [], ◌∷◌, true, false, ◌&&◌, ◌==◌, Some, None, ◌⊎◌, inl, inr, max, refl, sym, ap, ◌∙◌, subst, arith, ⊎_elim}
 use Rattle.std.proofs.Math.Nat.{max-le, max-eq_left}
-use Rattle.std.proofs.lemmas.Bool.{and_parts, true≢false, both_ways, false_from_ne_true, cases_lt, cases_Bool, cond-false, eqb-true}
+use Rattle.std.proofs.lemmas.Bool.{and_parts, true≢false, both_ways, false_from_ne_true, cases_lt, cases_Bool, cond-false, eqb-true, or_right, or_left, and_from}
 use Rattle.std.proofs.lemmas.Bool.Decides.{nat_tests}
 use Rattle.std.proofs.lemmas.Option.{none-some}
 use Rattle.std.proofs.lemmas.List.Elements.{All-cons, All-nil, All-from_recursion, recursion_from_All}
@@ -18,29 +18,19 @@ use Rattle.am_record.specs.OrderedKey.{OrderedKey, key_cmp}
 use Rattle.am_record.specs.Interval.{Interval, key_le, within}
 use Rattle.am_record.specs.EntryOrder.{Place, place_of, place_cmp, place_cmp-equal}
 use Rattle.am_record.specs.declared.entry.Entry.{Entry}
+use Rattle.am_record.proofs.Lists.{AllByRecursion-map}
 use Rattle.am_list.specs.Entries.{Slot, slot_of, first_such, find}
 use Rattle.am_list.specs.Content.{IsLiveAt}
-use Rattle.am_list.proofs.Lists.{AllByRecursion-map, first_such_none}
+use Rattle.am_list.proofs.Lists.{first_such_none}
 use Rattle.am_list.proofs.Edits.{one_place}
+use Rattle.am_list.proofs.Content.{none_live}
 use Rattle.am_parts.specs.Merged.{HasNoneBefore}
 use Rattle.am_parts.specs.Partitions.{IsSound}
 use Rattle.am_scan.specs.Looks.{AreEmptyFrom, IsFirstFrom, HasNoneLive}
 use Rattle.am_scan.specs.declared.head.Head.{Head}
 use Rattle.am_scan.specs.Heads.{head_cmp, IsHead, IsFirstHead}
 use Rattle.am_scan.specs.Cursors.{is_ahead_in, same_part, AreHeads, AreAllHeads}
-use Rattle.am_scan.proofs.Moving.{turned, none_live}
-
-pub or_true : (a b : Bool) → b ≡ true → (a || b) ≡ true
-or_true true b h = refl
-or_true false b h = h
-
-pub or_first : (a b : Bool) → a ≡ true → (a || b) ≡ true
-or_first true b h = refl
-or_first false b h = absurd (true≢false (sym h))
-
-pub both : (a b : Bool) → a ≡ true → b ≡ true → (a && b) ≡ true
-both true b g h = h
-both false b g h = g
+use Rattle.am_scan.proofs.Moving.{turned}
 
 -- ---- numbers of partitions
 
@@ -150,12 +140,12 @@ module _ {es : List Entry} {range : Interval} {to : ℕ} {heads : List Head} (ga
       -- of the new list before it was put in order
       ahead : (part : ℕ) (key : OrderedKey) (value : List ℕ) → part < e.part + 1 → IsLiveAt es part key value → within range key ≡ true → is_ahead_in (h ∷ heads) part key ≡ true
       ahead part key value less live inside =
-          ⊎_elim (λ old. or_true (h.entry.part == part && key_le h.entry.key key) (is_ahead_in heads part key) (gathered.before part key value old live inside))
+          ⊎_elim (λ old. or_right (h.entry.part == part && key_le h.entry.key key) (is_ahead_in heads part key) (gathered.before part key value old live inside))
           (λ new. ⊎_elim (λ before. absurd (skipped part key value new before inside live))
           (λ not_before.
           let same : part ≡ e.part = omega (arith, less, not_before) in
-          or_first (h.entry.part == part && key_le h.entry.key key) (is_ahead_in heads part key)
-          (both (h.entry.part == part) (key_le h.entry.key key) (same_number h.entry.part part (begins.in_part ∙ sym same)) (reached key value inside (subst (λ p. IsLiveAt es p key value) same live))))
+          or_left (h.entry.part == part && key_le h.entry.key key) (is_ahead_in heads part key)
+          (and_from (h.entry.part == part) (key_le h.entry.key key) (same_number h.entry.part part (begins.in_part ∙ sym same)) (reached key value inside (subst (λ p. IsLiveAt es p key value) same live))))
           (cases_lt part e.part))
           (cases_lt part to)
 

@@ -1,6 +1,6 @@
 -- The least head has the first of the records still to come.
 use Rattle.std.proofs.Common.{◌≡◌, ℕ, List, [], ◌∷◌, Bool, true, false, ◌&&◌, ◌||◌, ◌==◌, cond, T, filter, drop, Option, Some, None, refl, sym, ap, ◌∙◌, subst, ⊎_elim}
-use Rattle.std.proofs.lemmas.Bool.{and_parts, true≢false, cases_Bool, cond-true, cond-false, eqb-true}
+use Rattle.std.proofs.lemmas.Bool.{and_parts, true≢false, cases_Bool, cond-true, cond-false, eqb-true, or_right, or_left, and_from}
 use Rattle.std.proofs.lemmas.List.Elements.{All-cons, All-head, All-tail, All-from_recursion, recursion_from_All}
 use Rattle.std.proofs.lemmas.List.Sorted.{All-permutation, list_any-IsPermutation}
 use Rattle.std.proofs.lemmas.Map.Keys.{IsDistinct-cons, IsDistinct-head, IsDistinct-tail, IsDistinct-IsPermutation}
@@ -17,28 +17,24 @@ use Rattle.am_record.specs.OrderedKey.{OrderedKey, key_cmp, key_cmp-total, key_c
 use Rattle.am_record.specs.Interval.{Interval, key_le, within}
 use Rattle.am_record.specs.Plain.{PlainMap, Records, rows_where}
 use Rattle.am_record.specs.declared.entry.Entry.{Entry}
+use Rattle.am_record.proofs.Outcomes.{is_true}
+use Rattle.am_record.proofs.KeyOrder.{ties_alike}
+use Rattle.am_record.proofs.FirstRows.{le_of_less}
 use Rattle.am_list.specs.Content.{content, IsLiveAt, ContentLaws}
 use Rattle.am_parts.specs.Partitions.{IsSound}
 use Rattle.am_scan.specs.declared.head.Head.{Head}
 use Rattle.am_scan.specs.Heads.{head_cmp, IsHead, IsNextHead, HasNoNext}
 use Rattle.am_scan.specs.Cursors.{is_ahead, rows_ahead, is_ahead_in, same_part, AreHeads, AreAhead, AreAllHeads, IsLeastBeside}
-use Rattle.am_scan.proofs.Moving.{turned, less_le, le_of_less, not_below_itself}
-use Rattle.am_scan.proofs.Gathering.{or_true, or_first, both, same_number, same_either_way}
+use Rattle.am_scan.proofs.Moving.{turned, less_le, not_below_itself}
+use Rattle.am_scan.proofs.Gathering.{same_number, same_either_way}
 
 abbrev Row : Type 0
 Row = OrderedKey × List ℕ
 
 -- ---- records of a map by a test of their keys
 
-alike : (test : OrderedKey → Bool) (q x : OrderedKey) → key_cmp q x ≡ Equal → test x ≡ test q
-alike test q x e = ap test (sym (key_cmp-exact q x e))
-
-true_of : (b : Bool) → T b → b ≡ true
-true_of true h = refl
-true_of false h = absurd h
-
 value_where : (test : OrderedKey → Bool) (m : PlainMap) (q : OrderedKey) → find key_cmp q (rows_where test m) ≡ cond (test q) (get m q) None
-value_where test m q = find-where_key key_cmp test q (alike test q) (entries m) ∙ ap (λ o. cond (test q) o None) (sym (get-entries m q))
+value_where test m q = find-where_key key_cmp test q (ties_alike test q) (entries m) ∙ ap (λ o. cond (test q) o None) (sym (get-entries m q))
 
 rise_where : (test : OrderedKey → Bool) (m : PlainMap) → T (is_sorted key_cmp (rows_where test m))
 rise_where test m = is_sorted-where_key key_cmp test (entries m) (entries_sorted m)
@@ -64,7 +60,7 @@ below_passed key test h (row ∷ rows) =
     ⊎_elim
     (λ yes.
     ap (below_all key_cmp key) (cond-true (test row.0) (row ∷ rest) rest yes)
-    ∙ both (is_lt (key_cmp key row.0)) (below_all key_cmp key rest) (ap is_lt (h row.0 yes)) (below_passed key test h rows))
+    ∙ and_from (is_lt (key_cmp key row.0)) (below_all key_cmp key rest) (ap is_lt (h row.0 yes)) (below_passed key test h rows))
     (λ no. ap (below_all key_cmp key) (cond-false (test row.0) (row ∷ rest) rest no) ∙ below_passed key test h rows)
     (cases_Bool (test row.0))
 
@@ -76,7 +72,7 @@ pub first_row : (t u : OrderedKey → Bool) (m : PlainMap) (key : OrderedKey) (v
     → rows_where t m ≡ (key, value) ∷ rows_where u m
 first_row t u m key value there passes above below same =
     same_entries key_cmp key_cmp-total key_cmp-exact (rows_where t m) ((key, value) ∷ rows_where u m) (rise_where t m)
-    (subst T (sym (both (below_all key_cmp key (rows_where u m)) (is_sorted key_cmp (rows_where u m)) (below_passed key u above (entries m)) (true_of (is_sorted key_cmp (rows_where u m)) (rise_where u m)))) tt)
+    (subst T (sym (and_from (below_all key_cmp key (rows_where u m)) (is_sorted key_cmp (rows_where u m)) (below_passed key u above (entries m)) (is_true (is_sorted key_cmp (rows_where u m)) (rise_where u m)))) tt)
     (λ q. value_where t m q ∙ by_order q (key_cmp q key) refl ∙ ap (λ o. cond (eq_by_cmp key_cmp q key) (Some value) o) (sym (value_where u m q)))
   where
     no_test : (q : OrderedKey) → key_cmp q key ≡ Less → (b : Bool) → u q ≡ b → cond (u q) (get m q) None ≡ None
@@ -120,8 +116,8 @@ pub ahead_somewhere : (heads : List Head) (part : ℕ) (key : OrderedKey) → is
 ahead_somewhere [] part key h = h
 ahead_somewhere (g ∷ heads) part key h =
     ⊎_elim
-    (λ here. or_first (key_le g.entry.key key) (is_ahead heads key) (and_parts (g.entry.part == part) (key_le g.entry.key key) here).1)
-    (λ no. or_true (key_le g.entry.key key) (is_ahead heads key) (ahead_somewhere heads part key (ap (λ b. b || is_ahead_in heads part key) (sym no) ∙ h)))
+    (λ here. or_left (key_le g.entry.key key) (is_ahead heads key) (and_parts (g.entry.part == part) (key_le g.entry.key key) here).1)
+    (λ no. or_right (key_le g.entry.key key) (is_ahead heads key) (ahead_somewhere heads part key (ap (λ b. b || is_ahead_in heads part key) (sym no) ∙ h)))
     (cases_Bool (g.entry.part == part && key_le g.entry.key key))
 
 -- ---- a cursor begins
@@ -146,7 +142,7 @@ module _ {es : List Entry} (range : Interval) (sound : IsSound es) (laws : Conte
       by_test : (q : OrderedKey) (v : List ℕ) → get (content es) q ≡ Some v → (b : Bool) → within range q ≡ b → (is_ahead heads' q && within range q) ≡ within range q
       by_test q v there true e =
           let home = laws.found q v there in
-          both (is_ahead heads' q) (within range q) (ahead_somewhere heads' home.0 q (all_before home.0 q v home.1 e)) e ∙ sym e
+          and_from (is_ahead heads' q) (within range q) (ahead_somewhere heads' home.0 q (all_before home.0 q v home.1 e)) e ∙ sym e
       by_test q v there false e = ap (λ b. is_ahead heads' q && b) e ∙ never (is_ahead heads' q) ∙ sym e
         where
           never : (b : Bool) → (b && false) ≡ false
@@ -201,7 +197,7 @@ module _ {es : List Entry} {range : Interval} (h : Head) (rest : List Head) (cur
     goes_on = record { sound = cursor.sound; are_heads = are; before = λ part key value live inside any. ahead part key value live inside (above_head key any) }
 
     from_head : (key : OrderedKey) → key_le h.entry.key key ≡ true → is_ahead (h ∷ rest) key ≡ true
-    from_head key le = or_first (key_le h.entry.key key) (is_ahead rest key) le
+    from_head key le = or_left (key_le h.entry.key key) (is_ahead rest key) le
 
     none_below : (key : OrderedKey) → key_cmp key h.entry.key ≡ Less → is_ahead (h ∷ rest) key ≡ false
     none_below key below = no_head (λ (g : Head). key_le g.entry.key key) (h ∷ rest) (not_le h.entry.key below, not_rest rest others_above)
@@ -217,7 +213,7 @@ module _ {es : List Entry} {range : Interval} (h : Head) (rest : List Head) (cur
     gives_first laws =
         first_row (λ key. is_ahead (h ∷ rest) key && within range key) (λ key. is_ahead heads' key && within range key) (content es) h.entry.key h.entry.value
         (laws.live h.entry.part h.entry.key h.entry.value standing.live)
-        (both (is_ahead (h ∷ rest) h.entry.key) (within range h.entry.key) (from_head h.entry.key (ap is_le (key_cmp-itself h.entry.key))) standing.inside)
+        (and_from (is_ahead (h ∷ rest) h.entry.key) (within range h.entry.key) (from_head h.entry.key (ap is_le (key_cmp-itself h.entry.key))) standing.inside)
         (λ q passed. above_head q (and_parts (is_ahead heads' q) (within range q) passed).0)
         (λ q below. ap (λ b. b && within range q) (none_below q below))
         (λ q v there over. by_test q v there over (within range q) refl)
@@ -237,7 +233,7 @@ module _ {es : List Entry} {range : Interval} (h : Head) (rest : List Head) (cur
 
   -- the heads that it was one of have what is live above it before them
   among : (part : ℕ) (key : OrderedKey) (value : List ℕ) → IsLiveAt es part key value → within range key ≡ true → key_cmp h.entry.key key ≡ Less → is_ahead_in (h ∷ rest) part key ≡ true
-  among part key value live inside over = cursor.before part key value live inside (or_first (key_le h.entry.key key) (is_ahead rest key) (le_of_less h.entry.key key over))
+  among part key value live inside over = cursor.before part key value live inside (or_left (key_le h.entry.key key) (is_ahead rest key) (le_of_less h.entry.key key over))
 
   -- it was the last of its partition
   module _ (ended : HasNoNext es range h) (heads' : List Head) (popped : IsPermutation rest heads') where
@@ -296,10 +292,10 @@ module _ {es : List Entry} {range : Interval} (h : Head) (rest : List Head) (cur
         ∙ ⊎_elim
         (λ here.
         let same : h.entry.part ≡ part = eqb-true h.entry.part part (and_parts (h.entry.part == part) (key_le h.entry.key key) here).0 in
-        or_first (new.entry.part == part && key_le new.entry.key key) (is_ahead_in rest part key)
-        (both (new.entry.part == part) (key_le new.entry.key key) (same_number new.entry.part part (moved.in_part ∙ same)) (reached part key value same live over)))
+        or_left (new.entry.part == part && key_le new.entry.key key) (is_ahead_in rest part key)
+        (and_from (new.entry.part == part) (key_le new.entry.key key) (same_number new.entry.part part (moved.in_part ∙ same)) (reached part key value same live over)))
         (λ no.
-        or_true (new.entry.part == part && key_le new.entry.key key) (is_ahead_in rest part key)
+        or_right (new.entry.part == part && key_le new.entry.key key) (is_ahead_in rest part key)
         (ap (λ b. b || is_ahead_in rest part key) (sym no) ∙ among part key value live inside over))
         (cases_Bool (h.entry.part == part && key_le h.entry.key key))
 

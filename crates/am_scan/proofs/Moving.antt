@@ -1,5 +1,5 @@
 -- A head on its way to the next live entry of the range.
-use Rattle.std.proofs.Common.{◌≡◌, ℕ, ◌<◌, List, ◌∷◌, Bool, true, false, ◌&&◌, length, Option, Some, None, IfSome, refl, sym, ap, ◌∙◌, subst, arith}
+use Rattle.std.proofs.Common.{◌≡◌, ℕ, ◌<◌, List, ◌∷◌, Bool, true, false, length, Option, Some, None, IfSome, refl, sym, ap, ◌∙◌, subst, arith}
 use Rattle.std.proofs.lemmas.Bool.{and_parts, true≢false}
 use Rattle.std.proofs.lemmas.Option.{none-some, same_Some}
 use Rattle.std.specs.declared.cmp.Ordering.{Ordering}
@@ -7,20 +7,19 @@ use Rattle.std.specs.declared.cmp.Ordering.TheVariants.{Less, Equal, Greater}
 use Rattle.std.specs.Ordering.{is_lt, is_le, ordering_reverse}
 use Rattle.std.specs.Option.{option_map}
 use Rattle.am_record.specs.OrderedKey.{OrderedKey, key_cmp, key_cmp-total, key_cmp-exact, key_cmp-itself}
-use Rattle.am_record.specs.Interval.{Interval, key_le, within}
+use Rattle.am_record.specs.Interval.{Interval, key_le}
 use Rattle.am_record.specs.declared.entry.Entry.{Entry}
+use Rattle.am_record.proofs.Orderings.{is_less, not_lt_le_back}
+use Rattle.am_record.proofs.FirstRows.{le_of_less}
+use Rattle.am_record.proofs.KeyOrder.{in_ends}
 use Rattle.am_list.specs.Entries.{Slot, slot_of, entry_at, find, after, all_after}
 use Rattle.am_list.specs.Walks.{WalkLaws, ReadLaws}
 use Rattle.am_list.specs.Content.{IsLiveAt}
+use Rattle.am_list.proofs.Content.{none_live}
 use Rattle.am_scan.specs.declared.head.Head.{Head}
 use Rattle.am_scan.specs.Heads.{HasReadOn, IsNextHead, HasNoNext}
 
 -- ---- keys
-
-pub less_of : (o : Ordering) → is_lt o ≡ true → o ≡ Less
-less_of Less h = refl
-less_of Equal h = absurd (true≢false (sym h))
-less_of Greater h = absurd (true≢false (sym h))
 
 pub turned : (a b : OrderedKey) → key_cmp a b ≡ Greater → key_cmp b a ≡ Less
 turned a b h = key_cmp-total.antisymm b a ∙ ap ordering_reverse h
@@ -40,35 +39,20 @@ less_le a b c Greater less e h = absurd (true≢false (sym h))
 pub not_below_itself : (k : OrderedKey) → key_cmp k k ≡ Less → ⊥
 not_below_itself k h = true≢false (ap is_lt (sym h) ∙ ap is_lt (key_cmp-itself k))
 
-pub le_of_less : (a b : OrderedKey) → key_cmp a b ≡ Less → key_le a b ≡ true
-le_of_less a b h = ap is_le h
-
--- the upper end that was read, and what its test against the key gave
-pub at_most : (o : Ordering) → is_lt o ≡ false → is_le (ordering_reverse o) ≡ true
-at_most Less h = absurd (true≢false h)
-at_most Equal h = refl
-at_most Greater h = refl
-
 module _ (key : OrderedKey) {h hi : OrderedKey} {b : Bool} (is : h ≡ hi) (tested : b ≡ is_lt (key_cmp h key)) where
   answer : is_lt (key_cmp hi key) ≡ b
   answer = ap (λ k. is_lt (key_cmp k key)) (sym is) ∙ sym tested
 
   pub above_end : b ≡ true → key_cmp hi key ≡ Less
-  above_end passed = less_of (key_cmp hi key) (answer ∙ passed)
+  above_end passed = is_less (key_cmp hi key) (answer ∙ passed)
 
   pub within_end : b ≡ false → key_le key hi ≡ true
-  within_end failed = ap is_le (key_cmp-total.antisymm key hi) ∙ at_most (key_cmp hi key) (answer ∙ failed)
-
-pub in_ends : (range : Interval) (key : OrderedKey) → key_le range.lo key ≡ true → key_le key range.hi ≡ true → within range key ≡ true
-in_ends range key from to = ap (λ b. b && key_le key range.hi) from ∙ to
+  within_end failed = ap is_le (key_cmp-total.antisymm key hi) ∙ not_lt_le_back (key_cmp hi key) (answer ∙ failed)
 
 -- ---- what is live
 
 no_slot : (s : Slot) → None ≡ Some s → ⊥
 no_slot s h = none-some s h
-
-pub none_live : (es : List Entry) (part : ℕ) (key : OrderedKey) → find es part key ≡ None → (value : List ℕ) → ¬ IsLiveAt es part key value
-none_live es part key none value live = no_slot (value, false) (sym none ∙ live.there)
 
 found : (es : List Entry) (part : ℕ) (key : OrderedKey) {e : Entry} → entry_at es part key ≡ Some e → find es part key ≡ Some (slot_of e)
 found es part key stands = ap (option_map slot_of) stands

@@ -1,12 +1,12 @@
 -- Whole bodies: they depend on the keys under their locks, and leave each key as it is that they haven't exclusively locked.
-use Rattle.std.proofs.Common.{◌≡◌, List, [], ◌∷◌, ◌++◌, Bool, true, false, refl, sym, ap, ◌∙◌, ⊎_elim, inl, inr, ◌⊎◌, Option, Some, None}
+use Rattle.std.proofs.Common.{◌≡◌, List, [], ◌∷◌, ◌++◌, Bool, true, false, refl, sym, ◌∙◌, ⊎_elim, inl, inr, ◌⊎◌, Option, Some, None}
 use Rattle.std.specs.Prelude.{◌||◌, not}
 use Rattle.std.specs.List.{list_any}
 use Rattle.std.specs.FinMap.{get}
 use Rattle.std.proofs.lemmas.Bool.{false≢true, both_ways, and_parts, and_from, or_cases, or_left, or_right, cond_both, false_from_ne_true}
 use Rattle.std.proofs.lemmas.List.Folds.{list_any-append}
 use Rattle.am_record.specs.OrderedKey.{OrderedKey}
-use Rattle.am_record.specs.Interval.{Interval, key_le, within, encloses, meets}
+use Rattle.am_record.specs.Interval.{key_le, within, encloses, meets}
 use Rattle.am_record.specs.declared.lock.Mode.{Mode}
 use Rattle.am_record.specs.declared.lock.Mode.TheVariants.{Shared, Exclusive}
 use Rattle.am_record.specs.declared.lock.Lock.{Lock}
@@ -14,8 +14,9 @@ use Rattle.am_record.specs.declared.step.Op.{Op}
 use Rattle.am_record.specs.Plain.{PlainMap, Draft, fresh, answer, after, answers_on, left_on, answers, left, is_orderly}
 use Rattle.am_record.specs.Locks.{is_exclusive, are_compatible, covers, conflicts, is_covered, with_lock}
 use Rattle.am_record.specs.Asks.{lock_of, with_asked, clashes, locks_from, locks_of, has_key, owns_key, holds, owns}
+use Rattle.am_record.proofs.KeyOrder.{key_le_trans, encloses_key}
+use Rattle.am_record.proofs.Bodies.{answers_on_push, locks_from_push}
 use Rattle.am_serial.specs.Agreement.{Agree, Alike, Has}
-use Rattle.am_serial.proofs.Keys.{key_le_trans}
 use Rattle.am_serial.proofs.Maps.{of_asked, reads, writes, Within}
 use Rattle.am_serial.proofs.Drafts.{fresh_alike, same_answer, still_alike, fresh_has, still_has}
 
@@ -70,16 +71,8 @@ module _ (S X : OrderedKey → Bool) where
   pub left_frame : (ops : List Op) (m : PlainMap) (q : OrderedKey) → AllInScope S X ops → X q ≡ false → get (left ops m) q ≡ get m q
   left_frame ops m q s h = (view_frame ops m q s h).map
 
-answers_on_push : (ops : List Op) (op : Op) (d : Draft) → answers_on (ops ++ op ∷ []) d ≡ answers_on ops d ++ answer op (left_on ops d) ∷ []
-answers_on_push [] op d = refl
-answers_on_push (o ∷ ops) op d = ap (λ rs. answer o d ∷ rs) (answers_on_push ops op (after o d))
-
 pub answers_push : (ops : List Op) (op : Op) (m : PlainMap) → answers (ops ++ op ∷ []) m ≡ answers ops m ++ answer op (left_on ops (fresh m)) ∷ []
 answers_push ops op m = answers_on_push ops op (fresh m)
-
-pub left_on_push : (ops : List Op) (op : Op) (d : Draft) → left_on (ops ++ op ∷ []) d ≡ after op (left_on ops d)
-left_on_push [] op d = refl
-left_on_push (o ∷ ops) op d = left_on_push ops op (after o d)
 
 -- ---- locks
 
@@ -129,18 +122,8 @@ module _ (test : Lock → Bool) where
   locks_from_keeps [] locks h = h
   locks_from_keeps (op ∷ ops) locks h = locks_from_keeps ops (with_asked locks (lock_of op)) (asked_keeps locks (lock_of op) h)
 
-locks_from_push : (ops : List Op) (op : Op) (locks : List Lock) → locks_from locks (ops ++ op ∷ []) ≡ with_asked (locks_from locks ops) (lock_of op)
-locks_from_push [] op locks = refl
-locks_from_push (o ∷ ops) op locks = locks_from_push ops op (with_asked locks (lock_of o))
-
 pub locks_of-push : (ops : List Op) (op : Op) → locks_of (ops ++ op ∷ []) ≡ with_asked (locks_of ops) (lock_of op)
 locks_of-push ops op = locks_from_push ops op []
-
-encloses_key : (outer inner : Interval) (q : OrderedKey) → encloses outer inner ≡ true → within inner q ≡ true → within outer q ≡ true
-encloses_key outer inner q e h =
-    let a = and_parts (key_le outer.lo inner.lo) (key_le inner.hi outer.hi) e in
-    let b = and_parts (key_le inner.lo q) (key_le q inner.hi) h in
-    and_from (key_le outer.lo q) (key_le q outer.hi) (key_le_trans outer.lo inner.lo q a.0 b.0) (key_le_trans q inner.hi outer.hi b.1 a.1)
 
 has_key_up : (q : OrderedKey) → GoesUp (has_key q)
 has_key_up q = record { up = λ own asked c h. encloses_key own.range asked.range q (and_parts (encloses own.range asked.range) (is_exclusive own.mode || not (is_exclusive asked.mode)) c).0 h }

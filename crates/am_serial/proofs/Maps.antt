@@ -1,11 +1,11 @@
 -- Maps that agree on some keys, and what operations do with them.
-use Rattle.std.proofs.Common.{◌≡◌, arith, length, ℕ, List, [], ◌∷◌, Bool, true, false, cond, refl, sym, ap, ◌∙◌, subst, Option, Some, None}
+use Rattle.std.proofs.Common.{◌≡◌, ℕ, List, [], ◌∷◌, Bool, true, false, cond, refl, sym, ap, ◌∙◌, subst, Option, Some, None}
 use Rattle.std.specs.Prelude.{take, is_some}
-use Rattle.std.specs.declared.cmp.Ordering.TheVariants.{Equal}
 use Rattle.std.specs.Ordering.{eq_by_cmp}
 use Rattle.std.specs.FinMap.{get, empty, len-empty, len-entries, contains_key, insert, remove, entries, retain_keys, from_sorted, entries_sorted, same_map, get-entries, get-insert, get-remove, get-retain_keys, get-from_sorted, entries-from_sorted}
 use Rattle.std.specs.FinMap.Entries.{is_sorted-where_key, find-where_key}
 use Rattle.std.proofs.lemmas.Bool.{both_ways, or_parts, false_from_ne_true}
+use Rattle.std.proofs.lemmas.List.{nil_from_length}
 use Rattle.am_record.specs.OrderedKey.{OrderedKey, key_cmp, key_cmp-total, key_cmp-exact}
 use Rattle.am_record.specs.Interval.{within, point}
 use Rattle.am_record.specs.declared.lock.Lock.{Lock}
@@ -14,6 +14,8 @@ use Rattle.am_record.specs.declared.step.Op.TheVariants.{Get, Scan, Insert, Repl
 use Rattle.am_record.specs.declared.step.Reply.TheVariants.{Rows, Exists, Missing, Done}
 use Rattle.am_record.specs.Plain.{Records, PlainMap, is_key_of, rows_where, first_key, least_taken, found, exists_or_done, map_answer, insert_all, load_where, map_after, is_rising, is_orderly}
 use Rattle.am_record.specs.Asks.{lock_of, span, has_key, owns_key}
+use Rattle.am_record.proofs.KeyOrder.{ties_alike}
+use Rattle.am_record.proofs.Maps.{get_beside_inserted, get_beside_removed}
 use Rattle.am_serial.specs.Agreement.{Agree}
 use Rattle.am_serial.proofs.Keys.{in_span, not_in_point, in_point}
 
@@ -46,15 +48,8 @@ cond_alike : {A : Type 0} (b : Bool) (x y z : A) → (b ≡ true → x ≡ y) �
 cond_alike true x y z h = h refl
 cond_alike false x y z h = refl
 
-ties_alike : (test : OrderedKey → Bool) (q x : OrderedKey) → key_cmp q x ≡ Equal → test x ≡ test q
-ties_alike test q x e = ap test (sym (key_cmp-exact q x e))
-
-no_items : {A : Type 0} (xs : List A) → length xs ≡ 0 → xs ≡ []
-no_items [] e = refl
-no_items (x ∷ xs) e = absurd (omega arith)
-
 pub entries-empty : entries (empty {X = List ℕ} {R = key_cmp}) ≡ []
-entries-empty = no_items _ (sym (len-entries (empty {X = List ℕ} {R = key_cmp})) ∙ len-empty key_cmp (List ℕ))
+entries-empty = nil_from_length _ (sym (len-entries (empty {X = List ℕ} {R = key_cmp})) ∙ len-empty key_cmp (List ℕ))
 
 -- what the map keeps of the keys that pass
 pub entries-retain_keys : (test : OrderedKey → Bool) (m : PlainMap) → entries (retain_keys m test) ≡ rows_where test m
@@ -128,17 +123,11 @@ after_local (TakeLock lock) m n o w a = a
 after_local Mark m n o w a = a
 after_local Back m n o w a = a
 
-get-insert_other : (m : PlainMap) (k : OrderedKey) (v : List ℕ) (q : OrderedKey) → eq_by_cmp key_cmp q k ≡ false → get (insert m k v) q ≡ get m q
-get-insert_other m k v q h = get-insert key_cmp-total m k v q ∙ ap (λ b. cond b (Some v) (get m q)) h
-
-get-remove_other : (m : PlainMap) (k q : OrderedKey) → eq_by_cmp key_cmp q k ≡ false → get (remove m k) q ≡ get m q
-get-remove_other m k q h = get-remove key_cmp-total m k q ∙ ap (λ b. cond b None (get m q)) h
-
 get-insert_all_other : (ps : Records) (m : PlainMap) (q : OrderedKey) → is_key_of ps q ≡ false → get (insert_all ps m) q ≡ get m q
 get-insert_all_other [] m q h = refl
 get-insert_all_other (p ∷ ps) m q h =
     let parts = or_parts (eq_by_cmp key_cmp q p.0) (is_key_of ps q) h in
-    get-insert_all_other ps (insert m p.0 p.1) q parts.1 ∙ get-insert_other m p.0 p.1 q parts.0
+    get-insert_all_other ps (insert m p.0 p.1) q parts.1 ∙ get_beside_inserted m p.0 p.1 q parts.0
 
 get-load_other : (taken : Option OrderedKey) (ps : Records) (m : PlainMap) (q : OrderedKey) → is_key_of ps q ≡ false → get (load_where taken ps m) q ≡ get m q
 get-load_other None ps m q h = get-insert_all_other ps m q h
@@ -152,9 +141,9 @@ get-cond false m n q x h k = k
 pub after_frame : (op : Op) (m : PlainMap) (q : OrderedKey) → is_orderly op ≡ true → writes op q ≡ false → get (map_after op m) q ≡ get m q
 after_frame (Get k) m q o h = refl
 after_frame (Scan range max) m q o h = refl
-after_frame (Insert k v) m q o h = get-cond (contains_key m k) m (insert m k v) q (get m q) refl (get-insert_other m k v q (not_in_point q k h))
-after_frame (Replace k v) m q o h = get-cond (contains_key m k) (insert m k v) m q (get m q) (get-insert_other m k v q (not_in_point q k h)) refl
-after_frame (Delete k) m q o h = get-remove_other m k q (not_in_point q k h)
+after_frame (Insert k v) m q o h = get-cond (contains_key m k) m (insert m k v) q (get m q) refl (get_beside_inserted m k v q (not_in_point q k h))
+after_frame (Replace k v) m q o h = get-cond (contains_key m k) (insert m k v) m q (get m q) (get_beside_inserted m k v q (not_in_point q k h)) refl
+after_frame (Delete k) m q o h = get_beside_removed m k q (not_in_point q k h)
 after_frame (Load pairs) m q o h =
     get-load_other (least_taken pairs m) pairs m q
     (false_from_ne_true (is_key_of pairs q) (λ e. both_ways (within (span pairs) q) h ((load_within pairs o).at q e)))

@@ -7,10 +7,11 @@ use Rattle.am_record.specs.declared.lock.Lock.{Lock}
 use Rattle.am_record.specs.declared.step.Refusal.TheVariants.{NoSuchTx}
 use Rattle.am_record.specs.Plain.{PlainMap, Draft, fresh, left_on}
 use Rattle.am_record.specs.Asks.{lock_of, clashes, locks_of}
+use Rattle.am_record.proofs.Bodies.{left_on_push}
 use Rattle.am_serial.specs.Trace.{Answered, ops_of}
 use Rattle.am_serial.specs.Machine.{State, Transaction, is_open, body_in, locks_in, due_early, due_lock, blocker, extended, without}
 use Rattle.am_serial.specs.Steps.{StepLaws}
-use Rattle.am_serial.proofs.Bodies.{locks_of-push, left_on_push}
+use Rattle.am_serial.proofs.Bodies.{locks_of-push}
 use Rattle.am_serial.proofs.Runs.{none_of_first, none_of_both, not_busy}
 
 -- ---- the transactions' bodies

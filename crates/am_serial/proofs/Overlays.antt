@@ -9,11 +9,12 @@ use Rattle.am_record.specs.declared.step.Op.{Op}
 use Rattle.am_record.specs.declared.step.Op.TheVariants.{Get, Scan, Insert, Replace, Delete, Load, Lock as TakeLock, Mark, Back}
 use Rattle.am_record.specs.Plain.{PlainMap, Draft, fresh, answer, after, map_answer, map_after, left_on, left, is_orderly}
 use Rattle.am_record.specs.Asks.{lock_of, with_asked, clashes, locks_of, has_key, holds, owns}
+use Rattle.am_record.proofs.Bodies.{left_on_push}
 use Rattle.am_serial.specs.Laws.{is_back}
 use Rattle.am_serial.specs.Trace.{Answered, left_by, ops_of}
 use Rattle.am_serial.specs.Agreement.{Agree}
 use Rattle.am_serial.proofs.Maps.{Within, agree_refl, answer_local, after_local, after_frame, reads, writes}
-use Rattle.am_serial.proofs.Bodies.{AllOrderly, Apart, owns_holds, writes_reads, scope_of, scope_within, left_local, left_frame, left_on_push, asked_only, not_owned}
+use Rattle.am_serial.proofs.Bodies.{AllOrderly, Apart, owns_holds, writes_reads, scope_of, scope_within, left_local, left_frame, asked_only, not_owned}
 use Rattle.am_serial.proofs.Views.{among, among_filter, among_filter_from}
 use Rattle.am_serial.proofs.Serial.{AreDistinct}
 

@@ -25,6 +25,10 @@ use Rattle.am_serial.proofs.Serial.{Inv, MayAnswer, MayBe, push_inv, none, none_
 
 -- ---- the state after an event
 
+pub after_run-push : (trace : Trace) (s : State) (e : Event) → after_run s (trace ++ e ∷ []) ≡ next (after_run s trace) (effect e.0 e.1)
+after_run-push [] s e = refl
+after_run-push (x ∷ trace) s e = after_run-push trace (next s (effect x.0 x.1)) e
+
 with_body_alike : (f g : ℕ → List Answered) (ts : List ℕ) → ((t : ℕ) → f t ≡ g t) → map (with_body f) ts ≡ map (with_body g) ts
 with_body_alike f g ts h i = map (with_body (λ t. h t i)) ts
 

@@ -74,7 +74,7 @@ answer_form Back d = at d.saved
 abbrev Replies : Option Refusal → Option ℕ → Bool → Op → Draft → Reply → Type 0
 Replies early blocked full op m reply = MatchOption (or_else early (lock_refusal blocked full)) ((reply ≡ answer op m) ⊎ (reply ≡ Refused NoMemory)) (λ why. reply ≡ Refused why)
 
-same_refusal : (v w : Refusal) → Refused v ≡ Refused w → v ≡ w
+pub same_refusal : (v w : Refusal) → Refused v ≡ Refused w → v ≡ w
 same_refusal v w h = cc
 
 busy_from : (early : Option Refusal) (blocked : Option ℕ) (full : Bool) (op : Op) (m : Draft) (reply : Reply) (h : ℕ) →
@@ -234,7 +234,7 @@ sound_from (e ∷ trace) es s f r =
 
 -- ---- from the trace to the machine
 
-not_answer : (op : Op) (why : Refusal) → IsAnswerOf op (Refused why) → ⊥
+pub not_answer : (op : Op) (why : Refusal) → IsAnswerOf op (Refused why) → ⊥
 not_answer (Get k) why a = a
 not_answer (Scan range max) why a = a
 not_answer (Insert k v) why a = a

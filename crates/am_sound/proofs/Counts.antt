@@ -8,7 +8,7 @@ use Rattle.std.proofs.lemmas.List.Folds.{list_any-append}
 use Rattle.std.specs.Prelude.{is_some}
 use Rattle.std.specs.Ordering.{is_eq, is_lt}
 use Rattle.std.proofs.lemmas.Option.{none-some}
-use Rattle.am_effect.proofs.Lists.{All-filter, All-map, All-take}
+use Rattle.am_effect.proofs.Lists.{All-filter}
 use Rattle.am_effect.proofs.Maintenance.{as_many, candidates_stand, merged_rise, merged_stand, moved_bound, of_run}
 use Rattle.am_effect.proofs.Merges.{InRuns, others_stand, rising-worked_off}
 use Rattle.am_effect.specs.History.{gone_back, left_at, moments_since}
@@ -29,6 +29,7 @@ use Rattle.am_record.specs.declared.step.Reply.{Reply}
 use Rattle.am_record.specs.declared.step.Reply.TheVariants.{Aborted, Cleaned, Done, Ended, MergeDone, Moved, Refused}
 use Rattle.am_record.specs.declared.step.Step.{Step}
 use Rattle.am_record.specs.declared.step.Step.TheVariants.{Abort, Clean, Do, Merge}
+use Rattle.am_record.proofs.Lists.{AllByRecursion-map, AllByRecursion-take, AllByRecursion-drop, AllByRecursion-push}
 use Rattle.am_runs.specs.Loads.{live_entry, with_run}
 use Rattle.am_serial.specs.Trace.{Event, Trace}
 use Rattle.am_sound.proofs.Whole.{at_start, Right, by_limit, one_more}
@@ -195,46 +196,37 @@ Read before w = (q : OrderedKey) → within w q ≡ true → was_read q before �
 later_read : (before : Trace) (e : Event) (w : Interval) → Read before w → Read (before ++ e ∷ []) w
 later_read before e w h q k = list_any-append (λ (x : Event). reads q x.0 x.1) before (e ∷ []) ∙ or_left (was_read q before) (was_read q (e ∷ [])) (h q k)
 
-All-drop : {X : Type 0} (P : X → Type 0) (n : ℕ) (xs : List X) → AllByRecursion P xs → AllByRecursion P (drop n xs)
-All-drop P zero xs a = a
-All-drop P (suc n) [] a = tt
-All-drop P (suc n) (x ∷ xs) a = All-drop P n xs a.1
-
-All-snoc : {X : Type 0} (P : X → Type 0) (xs : List X) (x : X) → AllByRecursion P xs → P x → AllByRecursion P (xs ++ x ∷ [])
-All-snoc P [] x a h = (h, tt)
-All-snoc P (y ∷ ys) x a h = (a.0, All-snoc P ys x a.1 h)
-
 new_wish : (before : Trace) (t : ℕ) (op : Op) (reply : Reply) (wishes : List Interval) → AllByRecursion (Read before) wishes → AllByRecursion (Read (before ++ (Do t op, reply) ∷ [])) (with_wish wishes (wished op reply))
 new_wish before t op reply wishes h = by_wish (wished op reply) refl
   where
     old : AllByRecursion (Read (before ++ (Do t op, reply) ∷ [])) wishes
-    old = All-map (Read before) (Read (before ++ (Do t op, reply) ∷ [])) (later_read before (Do t op, reply)) wishes h
+    old = AllByRecursion-map (Read before) (Read (before ++ (Do t op, reply) ∷ [])) (later_read before (Do t op, reply)) wishes h
 
     by_wish : (o : Option Interval) → wished op reply ≡ o → AllByRecursion (Read (before ++ (Do t op, reply) ∷ [])) (with_wish wishes o)
     by_wish None is = old
     by_wish (Some range) is =
-        All-snoc (Read (before ++ (Do t op, reply) ∷ [])) (drop (length wishes - 63) wishes) range
-        (All-drop (Read (before ++ (Do t op, reply) ∷ [])) (length wishes - 63) wishes old)
+        AllByRecursion-push (Read (before ++ (Do t op, reply) ∷ [])) (drop (length wishes - 63) wishes) range
+        (AllByRecursion-drop (Read (before ++ (Do t op, reply) ∷ [])) (length wishes - 63) wishes old)
         (λ q k.
         list_any-append (λ (x : Event). reads q x.0 x.1) before ((Do t op, reply) ∷ [])
         ∙ or_right (was_read q before) (was_read q ((Do t op, reply) ∷ []))
         (or_left (reads q (Do t op) reply) false (ap (λ o. asks_for o q) is ∙ k)))
 
 wishes_left_read : (before : Trace) (wishes : List Interval) (reply : Reply) → AllByRecursion (Read before) wishes → AllByRecursion (Read before) (wishes_left wishes reply)
-wishes_left_read before wishes MergeDone h = All-drop (Read before) 1 wishes h
-wishes_left_read before wishes (Ended k x) h = All-drop (Read before) 1 wishes h
+wishes_left_read before wishes MergeDone h = AllByRecursion-drop (Read before) 1 wishes h
+wishes_left_read before wishes (Ended k x) h = AllByRecursion-drop (Read before) 1 wishes h
 wishes_left_read before wishes reply h = h
 
 wishes_read : (before : Trace) (s : Store) (step : Step) (reply : Reply) → AllByRecursion (Read before) s.wishes → AllByRecursion (Read (before ++ (step, reply) ∷ [])) (wishes_after s.wishes step reply)
 wishes_read before s (Do t op) reply h = new_wish before t op reply s.wishes h
-wishes_read before s (Merge limit) reply h = All-map (Read before) (Read (before ++ (Merge limit, reply) ∷ [])) (later_read before (Merge limit, reply)) (wishes_left s.wishes reply) (wishes_left_read before s.wishes reply h)
-wishes_read before s step reply h = All-map (Read before) (Read (before ++ (step, reply) ∷ [])) (later_read before (step, reply)) s.wishes h
+wishes_read before s (Merge limit) reply h = AllByRecursion-map (Read before) (Read (before ++ (Merge limit, reply) ∷ [])) (later_read before (Merge limit, reply)) (wishes_left s.wishes reply) (wishes_left_read before s.wishes reply h)
+wishes_read before s step reply h = AllByRecursion-map (Read before) (Read (before ++ (step, reply) ∷ [])) (later_read before (step, reply)) s.wishes h
 
 merged_read : (before : Trace) (es : List Entry) (wishes : List Interval) (reply : Reply) → AllByRecursion (Read before) wishes → AllByRecursion (λ e. was_read e.key before ≡ true) (merged_by es wishes reply)
 merged_read before es [] reply h = tt
 merged_read before es (wish ∷ wishes) (Moved n r) h =
-    All-take (λ e. was_read e.key before ≡ true) n (candidates es wish)
-    (All-map (λ e. Unit {0} × ((nat_le 1 e.part && within wish e.key) ≡ true)) (λ e. was_read e.key before ≡ true) (λ e a. h.0 e.key (and_parts (nat_le 1 e.part) (within wish e.key) a.1).1)
+    AllByRecursion-take (λ e. was_read e.key before ≡ true) n (candidates es wish)
+    (AllByRecursion-map (λ e. Unit {0} × ((nat_le 1 e.part && within wish e.key) ≡ true)) (λ e. was_read e.key before ≡ true) (λ e a. h.0 e.key (and_parts (nat_le 1 e.part) (within wish e.key) a.1).1)
     (candidates es wish) (All-filter (λ e. Unit {0}) (λ e. nat_le 1 e.part && within wish e.key) es (anything es)))
   where
     anything : (es : List Entry) → AllByRecursion (λ e. Unit {0}) es

@@ -18,10 +18,12 @@ use Rattle.am_record.specs.declared.step.Op.{Op}
 use Rattle.am_record.specs.declared.step.Op.TheVariants.{Get, Scan, Insert, Replace, Delete, Load, Lock as TakeLock, Mark, Back}
 use Rattle.am_record.specs.declared.step.Reply.{Reply}
 use Rattle.am_record.specs.declared.step.Reply.TheVariants.{Done, Exists, Missing}
+use Rattle.am_record.proofs.FirstRows.{key_eq-itself}
+use Rattle.am_record.proofs.Rising.{run_sorted}
 use Rattle.am_list.specs.Entries.{Slot, slot_of, first_such, entry_at, find, insert_entry, set_entry, IsRising}
 use Rattle.am_list.specs.Edits.{IsChangedAt}
 use Rattle.am_list.specs.Content.{content, IsLiveAt, OnePlace, HasContent}
-use Rattle.am_list.proofs.Edits.{first_such_all, first_such_passes, entry_at_place, entry_at_beside_inserted, other_key}
+use Rattle.am_list.proofs.Edits.{first_such_all, first_such_passes, entry_at_place, entry_at_beside_inserted, other_key, apart_places}
 use Rattle.am_list.proofs.EditLaws.{edit_laws}
 use Rattle.am_list.proofs.Content.{content_found}
 use Rattle.am_list.proofs.ContentLaws.{content_laws}
@@ -33,12 +35,12 @@ use Rattle.am_runs.specs.Loads.{live_entry, with_run}
 use Rattle.am_runs.proofs.LoadLaws.{load_laws}
 use Rattle.am_serial.specs.Trace.{Answers, runs_made}
 use Rattle.am_serial.proofs.Maps.{entries-retain_keys}
-use Rattle.am_serial.proofs.Keys.{in_point, in_span, eq_key_refl}
+use Rattle.am_serial.proofs.Keys.{in_point, in_span}
 use Rattle.am_effect.specs.Places.{look, put}
 use Rattle.am_effect.specs.History.{Moment, writes, wrote_by, is_plain}
 use Rattle.am_effect.specs.Laws.{Describes, DifferAt}
 use Rattle.am_effect.specs.Store.{is_live, find_live, with_value, with_ghost, changed, note_of_slot, note_of_entry, noted}
-use Rattle.am_effect.proofs.Lists.{Stands, stands_all, put_set, put_new, content-put, not_tied}
+use Rattle.am_effect.proofs.Lists.{Stands, stands_all, put_set, put_new, content-put}
 use Rattle.am_effect.proofs.Backs.{describe_laws}
 use Rattle.am_sound.specs.Represents.{may_write}
 
@@ -95,7 +97,7 @@ module _ (t runs : ℕ) (es : List Entry) (rise : IsRising es) (one : OnePlace e
         change = (edit_laws es rise).set_changes p k v' g' (ap is_some was)
 
         differ : DifferAt (p, k) es (set_entry es p k v' g')
-        differ b n = change.elsewhere b.0 b.1 (not_tied b (p, k) n)
+        differ b n = change.elsewhere b.0 b.1 (apart_places b (p, k) n)
 
         stood : (r : ℕ) (q : OrderedKey) → find es r q ≡ None → ◌≢◌ {A = Place} (r, q) (p, k)
         stood r q e h = none-some (v, g) (sym e ∙ ap (look es) h ∙ was)
@@ -122,7 +124,7 @@ module _ (t runs : ℕ) (es : List Entry) (rise : IsRising es) (one : OnePlace e
         here = sym (ap (look (insert_entry es x)) place) ∙ change.here
 
         differ : DifferAt (0, k) es (insert_entry es x)
-        differ b n = change.elsewhere b.0 b.1 (not_tied b (place_of x) (λ e. n (e ∙ place)))
+        differ b n = change.elsewhere b.0 b.1 (apart_places b (place_of x) (λ e. n (e ∙ place)))
 
   -- ---- inserts
 
@@ -136,11 +138,11 @@ module _ (t runs : ℕ) (es : List Entry) (rise : IsRising es) (one : OnePlace e
       by_slot None e =
           let is = put_new (live_entry 0 (k, v)) es (ap is_some e) in
           subst (λ l. OpRight t runs (Insert k v) Done es l (New k ∷ [])) (sym is)
-          (anew (Insert k v) Done k (eq_key_refl k) (in_point k) refl (live_entry 0 (k, v)) refl refl e (subst (λ l. HasContent l (map_after (Insert k v) m)) is has))
+          (anew (Insert k v) Done k (key_eq-itself k) (in_point k) refl (live_entry 0 (k, v)) refl refl e (subst (λ l. HasContent l (map_after (Insert k v) m)) is has))
       by_slot (Some s) e =
           let is = put_set (live_entry 0 (k, v)) es (ap is_some e) in
           subst (λ l. OpRight t runs (Insert k v) Done es l (Before 0 k s.0 s.1 ∷ [])) (sym is)
-          (over (Insert k v) Done k (eq_key_refl k) (in_point k) refl 0 s.0 s.1 v false e (subst (λ l. HasContent l (map_after (Insert k v) m)) is has))
+          (over (Insert k v) Done k (key_eq-itself k) (in_point k) refl 0 s.0 s.1 v false e (subst (λ l. HasContent l (map_after (Insert k v) m)) is has))
 
   -- ---- the live entry of a key
 
@@ -163,7 +165,7 @@ module _ (t runs : ℕ) (es : List Entry) (rise : IsRising es) (one : OnePlace e
       let place = entry_at_place es there.0 k x.0 x.1.0 in
       let ghost_not : x.0.is_ghost ≡ false = ap (λ (s : Slot). s.1) x.1.1 in
       let key : x.0.key ≡ k = ap (λ (a : Place). a.1) place in
-      both_ways (is_live k x.0) fails (and_from (not x.0.is_ghost) (eq_by_cmp key_cmp x.0.key k) (ap not ghost_not) (ap (λ (q : OrderedKey). eq_by_cmp key_cmp q k) key ∙ eq_key_refl k))
+      both_ways (is_live k x.0) fails (and_from (not x.0.is_ghost) (eq_by_cmp key_cmp x.0.key k) (ap not ghost_not) (ap (λ (q : OrderedKey). eq_by_cmp key_cmp q k) key ∙ key_eq-itself k))
 
   live_found : (k : OrderedKey) (e : Entry) → find_live es k ≡ Some e → Stands es e × (is_live k e ≡ true)
   live_found k e h = (first_such_all (Stands es) (is_live k) es e (stands_all es rise) h, first_such_passes (is_live k) es e h)
@@ -203,7 +205,7 @@ run_content : (run : ℕ) (pairs : Records) (es : List Entry) → IsRising es �
 run_content run [] es rising one s none = record { rising = rising; one_place = one; same = refl }
 run_content run (x ∷ ps) es rising one s none =
     let parts = and_parts (below_all key_cmp x.0 ps) (is_sorted key_cmp ps) s in
-    let now = none x.0 (or_left _ _ (eq_key_refl x.0)) in
+    let now = none x.0 (or_left _ _ (key_eq-itself x.0)) in
     let law = (content_laws es rising one).added (live_entry run x) now.0 refl now.1 in
     let rest = run_content run ps (insert_entry es (live_entry run x)) law.rising law.one_place parts.1 (λ q h.
     let later = none q (or_right _ _ h) in
@@ -227,10 +229,6 @@ no_first : (rows : Records) → first_key rows ≡ None → rows ≡ []
 no_first [] h = refl
 no_first (row ∷ rows) h = absurd (none-some row.0 (sym h))
 
-sorted_of : (pairs : Records) → is_rising pairs ≡ true → is_sorted key_cmp pairs ≡ true
-sorted_of [] h = refl
-sorted_of (x ∷ ps) h = h
-
 module _ (gone : List Entry) (t runs : ℕ) (es : List Entry) (rise : IsRising es) (one : OnePlace es) (empty_above : (p : ℕ) (q : OrderedKey) → runs < p → find es p q ≡ None) where
   abbrev cm : PlainMap
   cm = content es
@@ -238,7 +236,7 @@ module _ (gone : List Entry) (t runs : ℕ) (es : List Entry) (rise : IsRising e
   loaded : (pairs : Records) → is_rising pairs ≡ true → least_taken pairs cm ≡ None → OpRight t runs (Load pairs) Done es (with_run (runs + 1) pairs es) (RunMade (runs + 1) ∷ [])
   loaded pairs up none = record {
     has = subst (λ (c : PlainMap). HasContent (with_run (runs + 1) pairs es) c) (sym (ap (λ o. load_where o pairs cm) none))
-        (run_content (runs + 1) pairs es rise one (sorted_of pairs up) (λ q h. (fresh q, no_rows (is_key_of pairs) cm (no_first (rows_where (is_key_of pairs) cm) none) q h)));
+        (run_content (runs + 1) pairs es rise one (run_sorted pairs up) (λ q h. (fresh q, no_rows (is_key_of pairs) cm (no_first (rows_where (is_key_of pairs) cm) none) q h)));
     only = λ p q h. ⊎_elim
         (λ yes. let here = eqb-true p (runs + 1) yes in ap (λ r. find (with_run (runs + 1) pairs es) r q) here ∙ other_keys q (absent q h) ∙ ap (λ r. find es r q) (sym here))
         (λ no. other_parts p q no)

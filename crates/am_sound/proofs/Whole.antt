@@ -40,7 +40,7 @@ use Rattle.am_record.specs.declared.step.Reply.TheVariants.{Aborted, Begun, Clea
 use Rattle.am_record.specs.declared.step.Step.{Step}
 use Rattle.am_record.specs.declared.step.Step.TheVariants.{Abort, Begin, Clean, Commit, Do, Merge}
 use Rattle.am_serial.proofs.OneStep.{step_laws}
-use Rattle.am_serial.proofs.Runs.{answer_is_answer, none_of_both, none_of_first}
+use Rattle.am_serial.proofs.Runs.{answer_is_answer, none_of_both, none_of_first, after_run-push}
 use Rattle.am_serial.proofs.States.{overlay_laws, view_laws}
 use Rattle.am_serial.specs.Laws.{OverlayLaws, ViewLaws}
 use Rattle.am_serial.specs.Machine.{May, MayDo, Runs, State, Transaction, after_run, body_in, due, due_early, due_lock, is_limit, is_open, next, owns_in, start, view}
@@ -457,10 +457,6 @@ module _ (s : Store) (o : OverlayLaws s.state) (w : ViewLaws s.state) (at : Repr
 runs_push : (trace : Trace) (s : State) (e : Event) → Runs s trace → May (after_run s trace) e.0 e.1 → Runs s (trace ++ e ∷ [])
 runs_push [] s e r m = (m, tt)
 runs_push (x ∷ trace) s e r m = (r.0, runs_push trace (next s (effect x.0 x.1)) e r.1 m)
-
-after_run-push : (trace : Trace) (s : State) (e : Event) → after_run s (trace ++ e ∷ []) ≡ next (after_run s trace) (effect e.0 e.1)
-after_run-push [] s e = refl
-after_run-push (x ∷ trace) s e = after_run-push trace (next s (effect x.0 x.1)) e
 
 pub one_more : (trace : Trace) (s : Store) (e : Event) → Right trace s → MayReply s e.0 e.1 → Right (trace ++ e ∷ []) (after_step s e.0 e.1)
 one_more trace s e r may =

@@ -2,6 +2,7 @@
 use Rattle.std.proofs.Common.{◌<◌, All, arith, ◌≡◌, ◌≢◌, ℕ, List, [], ◌∷◌, ◌++◌, filter, Bool, true, false, cond, not, ◌||◌, ◌==◌, refl, sym, ap, ◌∙◌}
 use Rattle.std.specs.List.{list_any}
 use Rattle.std.proofs.lemmas.Bool.{ne_eqb, eqb-true}
+use Rattle.std.proofs.Math.Bool.{or_assoc, or-false}
 use Rattle.am_tx.specs.declared.transaction.Transaction.{Transaction}
 use Rattle.am_undo.specs.Log.{Log}
 use Rattle.am_tx.specs.Active.{fresh, numbers, is_active, of_active, log_of, changed}
@@ -51,17 +52,9 @@ of_active-kept what none f tx n (x ∷ xs) same says =
 
 -- ---- a transaction begins
 
-or_false : (b : Bool) → (b || false) ≡ b
-or_false true = refl
-or_false false = refl
-
-or_assoc : (a b c : Bool) → (a || (b || c)) ≡ ((a || b) || c)
-or_assoc true b c = refl
-or_assoc false b c = refl
-
 pub is_active-started : (xs : List Transaction) (tx n : ℕ) → is_active (xs ++ fresh tx ∷ []) n ≡ (is_active xs n || (tx == n))
-is_active-started [] tx n = or_false (tx == n)
-is_active-started (x ∷ xs) tx n = ap (λ t. (x.number == n) || t) (is_active-started xs tx n) ∙ or_assoc (x.number == n) (is_active xs n) (tx == n)
+is_active-started [] tx n = or-false (tx == n)
+is_active-started (x ∷ xs) tx n = ap (λ t. (x.number == n) || t) (is_active-started xs tx n) ∙ sym (or_assoc (x.number == n) (is_active xs n) (tx == n))
 
 nothing_new : {A : Type 0} (new none : A) (b : Bool) → new ≡ none → cond b new none ≡ none
 nothing_new new none true e = e

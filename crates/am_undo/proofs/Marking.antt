@@ -1,14 +1,15 @@
 -- Notes since marks.
-use Rattle.std.proofs.Common.{◌≡◌, ◌≤◌, ◌-◌, ◌+◌, ℕ, List, [], ◌∷◌, ◌++◌, length, take, drop, Bool, true, refl, sym, ap, ◌∙◌, subst, Option, arith, length-append, length-drop}
+use Rattle.std.proofs.Common.{◌≡◌, ◌≤◌, ◌-◌, ◌+◌, ℕ, List, [], ◌∷◌, ◌++◌, length, take, drop, Bool, true, refl, sym, ap, ◌∙◌, subst, Option, arith}
 use Rattle.std.specs.List.{AllByRecursion}
 use Rattle.std.specs.FinMap.{get}
-use Rattle.std.proofs.Math.Seq.{take-append-add}
 use Rattle.std.proofs.lemmas.List.{take-append-drop}
 use Rattle.std.proofs.lemmas.List.Folds.{list_any-append}
 use Rattle.std.proofs.lemmas.Bool.{or_left}
 use Rattle.am_record.specs.OrderedKey.{OrderedKey}
 use Rattle.am_record.specs.Plain.{PlainMap}
 use Rattle.am_record.specs.declared.entry.Entry.{Entry}
+use Rattle.am_record.proofs.Lists.{AllByRecursion-back}
+use Rattle.am_record.proofs.Newest.{since-new, since-none, since-until, length-until, since-older}
 use Rattle.am_list.specs.Entries.{Slot, find, IsRising}
 use Rattle.am_list.specs.Content.{content, OnePlace, live_value, HasOne}
 use Rattle.am_list.proofs.Content.{content_has_one, has_one_along}
@@ -29,34 +30,8 @@ can-append : (xs ys : List Note) (slots : Slots) → CanTakeBack (xs ++ ys) slot
 can-append [] ys slots can = can
 can-append (n ∷ xs) ys slots can = can-append xs ys (back_at n slots) can.older
 
-all_later : (P : Note → Type 0) (xs ys : List Note) → AllByRecursion P (xs ++ ys) → AllByRecursion P ys
-all_later P [] ys h = h
-all_later P (n ∷ xs) ys h = all_later P xs ys h.1
-
-run_taken : (n : ℕ) (notes : List Note) (p : ℕ) → is_noted_run (take n notes) p ≡ true → is_noted_run notes p ≡ true
+pub run_taken : (n : ℕ) (notes : List Note) (p : ℕ) → is_noted_run (take n notes) p ≡ true → is_noted_run notes p ≡ true
 run_taken n notes p h = subst (λ (ns : List Note). is_noted_run ns p ≡ true) (take-append-drop n notes) (list_any-append _ (take n notes) (drop n notes) ∙ or_left (is_noted_run (take n notes) p) (is_noted_run (drop n notes) p) h)
-
--- ---- notes and their marks
-
-since-new : (new notes : List Note) (mark : ℕ) → mark ≤ length notes → since mark (new ++ notes) ≡ new ++ since mark notes
-since-new new notes mark h =
-    let e : length (new ++ notes) - mark ≡ length new + (length notes - mark) = omega (arith, length-append new notes) in
-    ap (λ n. take n (new ++ notes)) e ∙ take-append-add new notes (length notes - mark)
-
-since-none : (notes : List Note) → since (length notes) notes ≡ []
-since-none notes = let e : length notes - length notes ≡ 0 = omega arith in ap (λ n. take n notes) e
-
-since-until : (notes : List Note) (mark : ℕ) → since mark notes ++ until mark notes ≡ notes
-since-until notes mark = take-append-drop (length notes - mark) notes
-
-length-until : (notes : List Note) (mark : ℕ) → mark ≤ length notes → length (until mark notes) ≡ mark
-length-until notes mark h = length-drop (length notes - mark) notes ∙ omega arith
-
-since-older : (notes : List Note) (mark old : ℕ) → mark ≤ length notes → old ≤ mark → since old notes ≡ since mark notes ++ since old (until mark notes)
-since-older notes mark old h k =
-    let len = length-until notes mark h in
-    ap (since old) (sym (since-until notes mark))
-    ∙ since-new (since mark notes) (until mark notes) old (subst (λ n. old ≤ n) (sym len) k)
 
 -- ---- one list of notes
 
@@ -73,7 +48,7 @@ older_undo es es' xs ys owned before saved u v b =
     let slots : (λ (part : ℕ) (key : OrderedKey). back xs part key (find es part key)) ≡ find es' = λ i part key. sym (b.at part key) i in
     record {
       can = subst (CanTakeBack ys) slots (can-append xs ys (find es) u.can);
-      owns = owned_along owned (find es) (find es') ys (λ p key run none. b.at p key ∙ ap (back xs p key) none ∙ back_none xs (find es) p key v.can none) (all_later (IsOwned owned (find es)) xs ys u.owns);
+      owns = owned_along owned (find es) (find es') ys (λ p key run none. b.at p key ∙ ap (back xs p key) none ∙ back_none xs (find es) p key v.can none) (AllByRecursion-back (IsOwned owned (find es)) xs ys u.owns);
       restores = λ key h. has_one_along (λ p. ap (λ s. live_value (back ys p key s)) (b.at p key) ∙ ap live_value (sym (back-append xs ys p key (find es p key)))) (u.restores key h);
     }
 

@@ -1,19 +1,20 @@
 -- A walk along one partition that makes a ghost of each of its entries.
 use Rattle.std.proofs.Common.{◌≡◌, ◌≢◌, ℕ, suc, ◌<◌, ◌≤◌, List, [], ◌∷◌, Bool, true, false, cond, Option, Some, None, refl, sym, ap, ◌∙◌, subst, arith, ⊎_elim}
 use Rattle.std.specs.Prelude.{IsSome, is_some, ◌==◌, ◌&&◌}
-use Rattle.std.proofs.lemmas.Bool.{cases_Bool, cond-true, cond-false, both_ways, true≢false, false≢true, eqb-true}
-use Rattle.std.proofs.lemmas.Bool.Decides.{nat_tests}
+use Rattle.std.proofs.lemmas.Bool.{cases_Bool, cond-true, cond-false, both_ways, true≢false, false≢true, eqb-true, and_from}
 use Rattle.std.proofs.lemmas.Option.{none-some, same_Some}
 use Rattle.std.specs.declared.cmp.Ordering.{Ordering}
 use Rattle.std.specs.declared.cmp.Ordering.TheVariants.{Less, Equal, Greater}
 use Rattle.std.specs.Ordering.{is_eq, is_lt, is_gt, is_ge, ordering_reverse}
 use Rattle.std.specs.Option.{option_map}
+use Rattle.std.proofs.lemmas.Cmp.{nat_eq_equiv}
 use Rattle.am_record.specs.OrderedKey.{OrderedKey, key_cmp, key_cmp-total, key_cmp-exact, key_cmp-itself, IsLeast}
 use Rattle.am_record.specs.EntryOrder.{Place, place_of, place_cmp, place_cmp-same, place_cmp-total}
 use Rattle.am_record.specs.declared.entry.Entry.{Entry}
+use Rattle.am_record.proofs.PlaceOrder.{turned_greater}
+use Rattle.am_record.proofs.Orderings.{is_less, is_greater}
 use Rattle.am_list.specs.Entries.{slot_of, first_such, entry_at, find, next_from, after, set_entry, IsRising}
 use Rattle.am_list.specs.Edits.{same_place}
-use Rattle.am_list.proofs.Order.{turned_greater}
 use Rattle.am_list.proofs.Edits.{one_place, place_cmp-itself, other_part, first_such_all, first_such_passes, entry_at_place, find_reset, entry_at_beside_reset, turned_apart}
 use Rattle.am_list.proofs.Content.{all_found}
 use Rattle.am_parts.proofs.Looks.{none_pass, first_of_both, entry_of}
@@ -51,16 +52,6 @@ buried es part key value was_ghost there p k =
 flipped : (a b : OrderedKey) (o : Ordering) → key_cmp b a ≡ o → key_cmp a b ≡ ordering_reverse o
 flipped a b o h = key_cmp-total.antisymm a b ∙ ap ordering_reverse h
 
-lt_less : (o : Ordering) → is_lt o ≡ true → o ≡ Less
-lt_less Less h = refl
-lt_less Equal h = absurd (false≢true h)
-lt_less Greater h = absurd (false≢true h)
-
-gt_greater : (o : Ordering) → is_gt o ≡ true → o ≡ Greater
-gt_greater Less h = absurd (false≢true h)
-gt_greater Equal h = absurd (false≢true h)
-gt_greater Greater h = refl
-
 -- whether the key is below the next entry
 abbrev pub is_passed : Option Entry → OrderedKey → Bool
 is_passed None key = true
@@ -78,7 +69,7 @@ module _ (run : ℕ) (es : List Entry) (rising : IsRising es) (test : Entry → 
           true≢false (sym (tests x (entry_at_place es run k x at)) ∙ none_pass test (λ e. is_eq (place_cmp (place_of e) (run, k))) es x (sym found) at)
       meets x at (Some e) found passed =
           let place : place_of x ≡ (run, k) = entry_at_place es run k x at in
-          let less : key_cmp k e.key ≡ Less = lt_less (key_cmp k e.key) passed in
+          let less : key_cmp k e.key ≡ Less = is_less (key_cmp k e.key) passed in
           let part : e.part ≡ run = in_run e (first_such_passes test es e (sym found)) in
           ⊎_elim
           (λ same. let equal : key_cmp k e.key ≡ Equal = ap (λ (q : Place). key_cmp k q.1) (ap place_of same ∙ place) ∙ key_cmp-itself k in absurd (cc (sym equal ∙ less)))
@@ -111,14 +102,6 @@ from_test run key e = e.part == run && is_ge (place_cmp (place_of e) (run, key))
 abbrev above_test : ℕ → OrderedKey → Entry → Bool
 above_test run key e = e.part == run && is_gt (place_cmp (place_of e) (run, key))
 
-eqb-itself : (n : ℕ) → (n == n) ≡ true
-eqb-itself n = grind (arith, nat_tests)
-
-both : (a b : Bool) → a ≡ true → b ≡ true → (a && b) ≡ true
-both true true h k = refl
-both true false h k = absurd (false≢true k)
-both false b h k = absurd (false≢true h)
-
 first_of : (a b : Bool) → (a && b) ≡ true → a ≡ true
 first_of true b h = refl
 first_of false b h = absurd (false≢true h)
@@ -146,7 +129,7 @@ starts es run least r rising is_least found = record {
       (λ yes.
       let none : find es run k ≡ None = none_before run es rising (from_test run least) (in_from run least) r found k yes (λ x place.
       let part : x.part ≡ run = ap (λ (q : Place). q.0) place in
-      both (x.part == run) (is_ge (place_cmp (place_of x) (run, least))) (ap (λ p. p == run) part ∙ eqb-itself run)
+      and_from (x.part == run) (is_ge (place_cmp (place_of x) (run, least))) (ap (λ p. p == run) part ∙ nat_eq_equiv.refl run)
       (ap (λ (q : Place). is_ge (place_cmp q (run, least))) place ∙ ap is_ge (place_cmp-same run k least) ∙ not_lt (key_cmp k least) (is_least k))) in
       none ∙ sym (ap ghosted none) ∙ sym (cond-true (is_passed r k) (ghosted (find es run k)) (find es run k) yes))
       (λ no. sym (cond-false (is_passed r k) (ghosted (find es run k)) (find es run k) no))
@@ -190,7 +173,7 @@ module _ (was es : List Entry) (run : ℕ) (e : Entry) (b : Buries was es run (S
         by_cases (Some x) found =
             let passes = first_such_passes (above_test run e.key) es' x (sym found) in
             let part : x.part ≡ run = in_above run e.key x passes in
-            let above : place_cmp (place_of x) (run, e.key) ≡ Greater = gt_greater (place_cmp (place_of x) (run, e.key)) (second_of (x.part == run) (is_gt (place_cmp (place_of x) (run, e.key))) passes) in
+            let above : place_cmp (place_of x) (run, e.key) ≡ Greater = is_greater (place_cmp (place_of x) (run, e.key)) (second_of (x.part == run) (is_gt (place_cmp (place_of x) (run, e.key))) passes) in
             let keys : key_cmp x.key e.key ≡ Greater = sym (place_cmp-same run x.key e.key) ∙ ap (λ p. place_cmp (p, x.key) (run, e.key)) (sym part) ∙ above in
             below x (key_cmp e.key k) refl (flipped e.key x.key Greater keys)
 
@@ -218,7 +201,7 @@ module _ (was es : List Entry) (run : ℕ) (e : Entry) (b : Buries was es run (S
         (λ yes.
         let none : find es' run k ≡ None = none_before run es' rising' (above_test run e.key) (in_above run e.key) r found k yes (λ x place.
         let part : x.part ≡ run = ap (λ (q : Place). q.0) place in
-        both (x.part == run) (is_gt (place_cmp (place_of x) (run, e.key))) (ap (λ p. p == run) part ∙ eqb-itself run)
+        and_from (x.part == run) (is_gt (place_cmp (place_of x) (run, e.key))) (ap (λ p. p == run) part ∙ nat_eq_equiv.refl run)
         (ap (λ (q : Place). is_gt (place_cmp q (run, e.key))) place ∙ ap is_gt (place_cmp-same run k e.key ∙ more))) in
         none ∙ ap ghosted (sym none ∙ kept) ∙ sym (cond-true (is_passed r k) (ghosted (find was run k)) (find was run k) yes))
         (λ no. kept ∙ sym (cond-false (is_passed r k) (ghosted (find was run k)) (find was run k) no))
@@ -228,7 +211,7 @@ module _ (was es : List Entry) (run : ℕ) (e : Entry) (b : Buries was es run (S
     goes_on = record {
       rising = rising';
       others = λ p k n.
-          at p k ∙ cond-false (same_place p k run e.key) (ghosted (find es p k)) (find es p k) (other_part p run k e.key (λ same. both_ways (p == run) n (ap (λ q. q == run) same ∙ eqb-itself run)))
+          at p k ∙ cond-false (same_place p k run e.key) (ghosted (find es p k)) (find es p k) (other_part p run k e.key (λ same. both_ways (p == run) n (ap (λ q. q == run) same ∙ nat_eq_equiv.refl run)))
           ∙ b.others p k n;
       here = λ k. here_after k (key_cmp e.key k) refl;
       ahead = λ x is. found_there run es' rising' (above_test run e.key) (in_above run e.key) x (sym is ∙ found);
@@ -322,7 +305,7 @@ module _ (was es : List Entry) (run : ℕ) (e : Entry) (b : Buries was es run (S
           omega (arith, less)
       by_cases (Some x) found =
           let passes = first_such_passes (above_test run e.key) es' x (sym found) in
-          let above : place_cmp (place_of x) (run, e.key) ≡ Greater = gt_greater (place_cmp (place_of x) (run, e.key)) (second_of (x.part == run) (is_gt (place_cmp (place_of x) (run, e.key))) passes) in
+          let above : place_cmp (place_of x) (run, e.key) ≡ Greater = is_greater (place_cmp (place_of x) (run, e.key)) (second_of (x.part == run) (is_gt (place_cmp (place_of x) (run, e.key))) passes) in
           let below : place_cmp (place_of e) (place_of x) ≡ Less = turned_greater (place_of x) (place_of e) (ap (place_cmp (place_of x)) place ∙ above) in
           count_lt (λ f. is_ge (place_cmp (place_of f) (place_of e))) (λ f. is_ge (place_cmp (place_of f) (place_of x)))
           (λ f h. ge_down (place_of f) (place_of e) (place_of x) below h)

@@ -1,10 +1,10 @@
 -- What stands at each place while notes are taken back.
-use Rattle.std.proofs.Common.{◌≡◌, ◌≢◌, ℕ, List, [], ◌∷◌, Bool, true, false, cond, Option, Some, None, refl, sym, ap, ◌∙◌, subst, ◌⊎◌, inl, inr, ⊎_elim, arith}
+use Rattle.std.proofs.Common.{◌≡◌, ◌≢◌, ℕ, List, [], ◌∷◌, Bool, true, false, cond, Option, Some, None, refl, sym, ap, ◌∙◌, subst, ◌⊎◌, inl, inr, ⊎_elim}
 use Rattle.std.specs.Prelude.{IsSome, is_some, ◌==◌, ◌||◌}
 use Rattle.std.specs.List.{AllByRecursion}
 use Rattle.std.proofs.lemmas.Bool.{cases_Bool, cond-false, both_ways, false≢true, eqb-true, or_right}
-use Rattle.std.proofs.lemmas.Bool.Decides.{nat_tests}
 use Rattle.std.proofs.lemmas.Option.{none-some}
+use Rattle.std.proofs.lemmas.Cmp.{nat_eq_equiv}
 use Rattle.am_record.specs.OrderedKey.{OrderedKey}
 use Rattle.am_record.specs.EntryOrder.{Place}
 use Rattle.am_list.specs.Entries.{Slot}
@@ -15,9 +15,6 @@ use Rattle.am_undo.specs.declared.note.Note.{Note}
 use Rattle.am_undo.specs.declared.note.Note.TheVariants.{New, Before, RunMade}
 use Rattle.am_undo.specs.Notes.{Slots, ghosted, back_one, back, back_at, Stands, OneLive, CanTakeBack}
 use Rattle.am_undo.specs.Undo.{IsOwned, is_noted_run}
-
-eqb-itself : (n : ℕ) → (n == n) ≡ true
-eqb-itself n = grind (arith, nat_tests)
 
 pub ghosted_dead : (o : Option Slot) → live_value (ghosted o) ≡ None
 ghosted_dead None = refl
@@ -152,7 +149,7 @@ module _ (owned : OrderedKey → Bool) where
   owned_along a b (New k ∷ notes) same own = (own.0, owned_along a b notes same own.1)
   owned_along a b (Before p k value is_ghost ∷ notes) same own = (own.0, owned_along a b notes same own.1)
   owned_along a b (RunMade p ∷ notes) same own = (
-    λ key h. same p key (ap (λ t. t || is_noted_run notes p) (eqb-itself p)) (own.0 key h),
+    λ key h. same p key (ap (λ t. t || is_noted_run notes p) (nat_eq_equiv.refl p)) (own.0 key h),
     owned_along a b notes (λ q key r. same q key (or_right (q == p) (is_noted_run notes q) r)) own.1,
   )
 

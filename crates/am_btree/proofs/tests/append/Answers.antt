@@ -1,4 +1,4 @@
-use Rattle.std.proofs.Common.{◌≡◌, ◌≢◌, ℕ, ◌<◌, ◌≤◌, false, List, [], ◌∷◌, Option, None, Some, refl, sym, ap, ◌∙◌, arith}
+use Rattle.std.proofs.Common.{◌≡◌, ◌≢◌, ℕ, ◌<◌, ◌≤◌, false, List, [], ◌∷◌, None, refl, sym, ap, ◌∙◌, arith}
 use Rattle.std.specs.Prelude.{is_some}
 use Rattle.std.proofs.lemmas.Bool.{true≢false}
 use Rattle.std.specs.declared.cmp.Ordering.{Ordering}
@@ -8,6 +8,7 @@ use Rattle.std.specs.List.{AllByRecursion}
 use Rattle.am_record.specs.OrderedKey.{OrderedKey, IsLeast}
 use Rattle.am_record.specs.EntryOrder.{place_of, place_cmp, place_cmp-part, place_cmp-same}
 use Rattle.am_record.specs.declared.entry.Entry.{Entry}
+use Rattle.am_record.proofs.Outcomes.{is_none}
 use Rattle.am_list.specs.Entries.{first_such}
 use Rattle.am_btree.proofs.tests.append.Goals as goal
 
@@ -28,10 +29,6 @@ by_first part k least e es Greater h none more = let found = rw h at none in abs
 all_lower : (part : ℕ) (k : OrderedKey) → IsLeast k → (es : List Entry) → first_such (λ e. is_ge (place_cmp (place_of e) (part, k))) es ≡ None → AllByRecursion (λ e. e.part < part) es
 all_lower part k least [] none = tt
 all_lower part k least (e ∷ es) none = by_first part k least e es (place_cmp (place_of e) (part, k)) refl none (λ rest. all_lower part k least es rest)
-
-is_none : {X : Type 0} (o : Option X) → is_some o ≡ false → o ≡ None
-is_none None h = refl
-is_none (Some x) h = absurd (true≢false h)
 
 pub append-requires-clause-above : goal.append-requires-clause-above
 append-requires-clause-above c =

@@ -1,22 +1,16 @@
 use Rattle.std.proofs.Common.{◌≡◌, ℕ, zero, suc, ◌-◌, true, [], ◌∷◌, ◌++◌, length, get_or, refl, sym, ap, ◌∙◌, subst, append-nil, eqb-true, arith}
-use Rattle.std.proofs.lemmas.Bool.{eqb-false, true≢false}
-use Rattle.std.specs.declared.cmp.Ordering.{Ordering}
-use Rattle.std.specs.declared.cmp.Ordering.TheVariants.{Less, Equal, Greater}
-use Rattle.std.specs.Ordering.{is_lt}
+use Rattle.std.proofs.lemmas.Bool.{eqb-false}
+use Rattle.std.specs.declared.cmp.Ordering.TheVariants.{Less}
 use Rattle.am_record.specs.Plain.{Records}
 use Rattle.am_record.specs.EntryOrder.{place_cmp, place_cmp-same, place_cmp-total}
+use Rattle.am_record.proofs.Orderings.{is_less}
+use Rattle.am_record.proofs.FirstRows.{Record}
 use Rattle.am_list.specs.Entries.{IsRising}
 use Rattle.am_list.specs.Places.{AllBelow}
 use Rattle.am_list.specs.Runs.{live_entry, run_entries}
 use Rattle.am_list.proofs.Lists.{rising_insert}
-use Rattle.am_btree.proofs.Appended.{Record}
 use Rattle.am_btree.proofs.tests.push.Goals as goal
 use Rattle.am_btree.proofs.tests.push.Goals.{then-is_empty-via-then-is_empty, then-is_empty-via-else-is_empty+then-lt}
-
-is_less : (o : Ordering) → is_lt o ≡ true → o ≡ Less
-is_less Less h = refl
-is_less Equal h = absurd (true≢false (sym h))
-is_less Greater h = absurd (true≢false (sym h))
 
 module _ (part : ℕ) (r : Record) where
   run_end : (rs : Records) → run_entries part (rs ++ r ∷ []) ≡ run_entries part rs ++ live_entry part r ∷ []

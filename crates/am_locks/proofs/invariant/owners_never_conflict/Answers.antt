@@ -1,24 +1,17 @@
 use Rattle.std.proofs.Common.{◌≡◌, ◌≢◌, ℕ, List, [], ◌∷◌, Bool, true, false, cond, ◌==◌, All, refl, sym, ◌∙◌}
 use Rattle.std.proofs.lemmas.Bool.{eqb-true}
-use Rattle.std.proofs.lemmas.List.Elements.{All-nil, All-head, All-tail, All-contains}
+use Rattle.std.proofs.lemmas.List.Elements.{All-nil, All-contains}
 use Rattle.am_record.specs.Locks.{conflicts}
 use Rattle.am_record.specs.declared.lock.Lock.{Lock}
-use Rattle.am_locks.specs.Held.{Held, NoConflicts, AreApart}
+use Rattle.am_locks.specs.Held.{Held, NoConflicts}
 use Rattle.am_locks.specs.Table.{locks_of, AreAllApart}
 use Rattle.am_locks.proofs.Conflicts.{NoConflicts-comm}
 use Rattle.am_locks.proofs.invariant.owners_never_conflict.Goals as goal
+use Rattle.am_locks.proofs.Apart.{spares_none}
 
 -- no lock conflicts with one of nothing
 none : (locks : List Lock) → NoConflicts locks []
 none locks = λ k d b. All-nil _
-
-spared : (h : Held) (table : List Held) (u : ℕ) → All (AreApart h) table → NoConflicts h.locks (locks_of table u)
-spared h [] u a = none h.locks
-spared h (k ∷ table) u a =
-    elim (k.owner == u) as (λ b. NoConflicts h.locks (cond b k.locks (locks_of table u))) [
-      | true ↦ (All-head (AreApart h) k table a).locks
-      | false ↦ spared h table u (All-tail (AreApart h) k table a)
-    ]
 
 apart : (table : List Held) → AreAllApart table → (t u : ℕ) → t ≢ u → NoConflicts (locks_of table t) (locks_of table u)
 apart [] a t u other = none []
@@ -26,8 +19,8 @@ apart (h ∷ table) a t u other = by_owner (h.owner == t) (h.owner == u) refl re
   where
     by_owner : (b c : Bool) → (h.owner == t) ≡ b → (h.owner == u) ≡ c → NoConflicts (locks_of table t) (locks_of table u) → NoConflicts (cond b h.locks (locks_of table t)) (cond c h.locks (locks_of table u))
     by_owner true true e f later = absurd (other (sym (eqb-true _ _ e) ∙ eqb-true _ _ f))
-    by_owner true false e f later = spared h table u a.0
-    by_owner false true e f later = NoConflicts-comm h.locks (locks_of table t) (spared h table t a.0)
+    by_owner true false e f later = spares_none h table u a.0
+    by_owner false true e f later = NoConflicts-comm h.locks (locks_of table t) (spares_none h table t a.0)
     by_owner false false e f later = later
 
 pub returns : goal.returns

@@ -1,12 +1,9 @@
-use Rattle.std.proofs.Common.{◌≡◌, Bool, true, false, not, refl, sym, ap, ◌∙◌}
+use Rattle.std.proofs.Common.{◌≡◌, true, false, not, sym, ap, ◌∙◌}
 use Rattle.std.specs.Ordering.{is_eq, eq_by_cmp}
+use Rattle.std.proofs.lemmas.Bool.{not-false}
 use Rattle.am_record.specs.OrderedKey.{OrderedKey, key_cmp, key_cmp-itself, key_eq-exact}
 use Rattle.am_record.specs.KeyMix.{key_mix}
 use Rattle.am_locks.proofs.marks.number_of.Goals as goal
-
-not_false : (b : Bool) → not b ≡ false → b ≡ true
-not_false true e = refl
-not_false false e = cc
 
 eq_itself : (a b : OrderedKey) → a ≡ b → not (eq_by_cmp key_cmp a b) ≡ false
 eq_itself a b e = ap (λ k. not (eq_by_cmp key_cmp a k)) (sym e) ∙ ap (λ o. not (is_eq o)) (key_cmp-itself a)
@@ -18,6 +15,6 @@ returns-then-ne-clause-more c = λ e.
 
 pub returns-clause-one : goal.returns-clause-one
 returns-clause-one c = record {
-  one_key = sym c.lo-key.ensures.value ∙ key_eq-exact _ _ (not_false _ (sym c.ne.ensures ∙ c.if-ne.false)) ∙ c.hi.ensures.value;
+  one_key = sym c.lo-key.ensures.value ∙ key_eq-exact _ _ (not-false _ (sym c.ne.ensures ∙ c.if-ne.false)) ∙ c.hi.ensures.value;
   mixed = c.mixed.ensures ∙ ap key_mix c.lo-key.ensures.value;
 }

@@ -5,8 +5,9 @@ use Rattle.std.specs.List.Sorted.{IsPermutation}
 use Rattle.std.proofs.lemmas.List.Sorted.{answers_always, IsPermutation-map, length_permutation}
 use Rattle.am_record.specs.Plain.{Records}
 use Rattle.am_record.specs.Plain.{is_rising}
+use Rattle.am_record.proofs.Rising.{sorted_run}
+use Rattle.am_record.proofs.FirstRows.{Record}
 use Rattle.am_runs.specs.Cuts.{keys_of}
-use Rattle.am_runs.proofs.Rising.{Record, sorted_run}
 use Rattle.am_runs.proofs.Twice.{ascends_by, rising_of, none_twice-permuted}
 use Rattle.am_runs.proofs.cut.sorted_run.Goals as goal
 

@@ -4,8 +4,8 @@ use Rattle.std.proofs.lemmas.List.{take_all}
 use Rattle.std.specs.Option.{option_copied}
 use Rattle.am_record.specs.OrderedKey.{key_eq-exact}
 use Rattle.am_record.proofs.FirstRows.{key_eq}
+use Rattle.am_record.proofs.Rising.{sorted_parts}
 use Rattle.am_list.specs.Entries.{next_from}
-use Rattle.am_runs.proofs.Rising.{sorted_parts}
 use Rattle.am_runs.proofs.Passing.{IsLeft, all_left, ends_here, found, passes_on, none_left, same_key, not_below, first_is_key}
 use Rattle.am_runs.proofs.Walking.{begins_along, goes_along}
 use Rattle.am_runs.proofs.look.least_live_in.Given.{Over}

@@ -1,12 +1,13 @@
 use mathlib.Core.Bool.{not}
 use Rattle.std.specs.List.{remove}
-use Rattle.std.proofs.Common.{◌≡◌, ◌<◌, Bool, true, false, [], length, set, MatchBool, refl, sym, ap, ◌∙◌, subst, rules, arith}
+use Rattle.std.proofs.Common.{◌≡◌, ◌<◌, true, false, [], length, set, MatchBool, sym, ap, ◌∙◌, subst, rules, arith}
 use Rattle.am_list.specs.Entries.{find, entry_at, remove_entry}
 use Rattle.am_btree.specs.Separators.{SeparatorsRise, IsChildFor}
 use Rattle.am_btree.specs.Shape.{Shape}
 use Rattle.am_btree.specs.Nodes.{all_entries, shape_of, depth_of, IsTree, inner_shape, leaf_shape}
 use Rattle.am_btree.proofs.Inner.{as_many, they_rise, some_separators, one_below}
 use Rattle.std.specs.Prelude.{IsSome}
+use Rattle.std.proofs.lemmas.Bool.{not-true, not-false}
 use Rattle.am_btree.proofs.Children.{find_in_child, entry_in_child}
 use Rattle.am_btree.proofs.Parting.{inner_with}
 use Rattle.am_btree.proofs.Editing.{removing, kept_inner, kept_entries, kept_depth, kept_some, kept_none, left_entries, left_children, left_long, left_depth, left_some}
@@ -43,14 +44,6 @@ remove_from_leaf-requires t c =
     let seen : c.args.self.now ≡ leaf_shape c.in-Leaf.leaf = sym c.self.view_is ∙ ap shape_of c.in-Leaf.is in
     subst IsSome (ap (λ (s : Shape). find s.entries c.args.part c.args.key) seen) c.requires
 
-not_true : (b : Bool) → not b ≡ true → b ≡ false
-not_true true e = sym e
-not_true false e = refl
-
-not_false : (b : Bool) → not b ≡ false → b ≡ true
-not_false true e = refl
-not_false false e = sym e
-
 -- ---- where no child is freed
 
 pub invariant_of-self : goal.invariant_of-self
@@ -63,7 +56,7 @@ invariant_of-self t c =
     let is = removing part key in let e = c.remove-removed.ensures in
     elim c.then-not-removed.branch [
       | then-not-removed-via-then-not-removed w ↦
-          let some = subst (λ b. MatchBool b (k'.entries ≡ []) (0 < length k'.entries)) (not_true _ w.if-not-removed.true) e.empty in
+          let some = subst (λ b. MatchBool b (k'.entries ≡ []) (0 < length k'.entries)) (not-true _ w.if-not-removed.true) e.empty in
           rw w.self-inside-is (kept_inner part key (λ es. remove_entry es part key) is (depth_of ks) ls ks at k k' inner.children child here e.depth e.others _ _ (λ _. some) inner.most inner.room)
       | then-not-removed-via-else-not-removed+then-len-eq1 w ↦
           rw w.self-inside-is (kept_inner part key (λ es. remove_entry es part key) is (depth_of ks) ls ks at k k' inner.children child here e.depth e.others _ _ (λ more. absurd (omega (arith, more, w.len.ensures, w.if-len-eq1.true, c.in-Inner.children.ok.0))) inner.most inner.room)
@@ -117,11 +110,11 @@ returns-then-not-removed-clause-empty t c =
     let is = removing part key in let e = c.remove-removed.ensures in
     elim c.then-not-removed.branch [
       | then-not-removed-via-then-not-removed w ↦
-          let test = not_true _ w.if-not-removed.true in
+          let test = not-true _ w.if-not-removed.true in
           let some = subst (λ b. MatchBool b (k'.entries ≡ []) (0 < length k'.entries)) test e.empty in
           rw w.self-inside-is (subst (λ b. MatchBool b (all_entries (set ks at k') ≡ []) (0 < length (all_entries (set ks at k')))) (sym test) (kept_some part key (λ es. remove_entry es part key) is (depth_of ks) ls ks at k k' inner.children child here e.depth e.others some))
       | then-not-removed-via-else-not-removed+then-len-eq1 w ↦
-          let test = not_false _ w.if-not-removed.false in
+          let test = not-false _ w.if-not-removed.false in
           let empty = subst (λ b. MatchBool b (k'.entries ≡ []) (0 < length k'.entries)) test e.empty in
           let one : length ks ≡ 1 = omega (arith, w.len.ensures, w.if-len-eq1.true, c.in-Inner.children.ok.0) in
           rw w.self-inside-is (subst (λ b. MatchBool b (all_entries (set ks at k') ≡ []) (0 < length (all_entries (set ks at k')))) (sym test) (kept_none part key (λ es. remove_entry es part key) is (depth_of ks) ls ks at k k' inner.children child here e.depth e.others one empty))
@@ -144,7 +137,7 @@ invariant_of-self-2 t c = elim c.match-self.branch [
       let child = subst (λ ms. IsChildFor ms part key at) w.deref.ensures.value w.child_for-at.ensures in
       let k = w.index_mut.result.now in let k' = w.remove-removed.new.self in let here = w.index_mut.ensures.value in
       let is = removing part key in let e = w.remove-removed.ensures in
-      let empty : k'.entries ≡ [] = subst (λ b. MatchBool b (k'.entries ≡ []) (0 < length k'.entries)) (not_false _ w.if-not-removed.false) e.empty in
+      let empty : k'.entries ≡ [] = subst (λ b. MatchBool b (k'.entries ≡ []) (0 < length k'.entries)) (not-false _ w.if-not-removed.false) e.empty in
       let many : 1 < length ks = omega (arith, inner.some, w.len.ensures, w.if-len-eq1.false, w.in-Inner.children.ok.0) in
       let long = left_long part key (λ es. remove_entry es part key) is (depth_of ks) ls ks at k k' inner.children child here e.depth e.others many empty in
       rw w.self-inside-is (inner_with (depth_of ks) (remove ls at) (remove (set ks at k') at) w.take_out.new.v.items w.take_out-in-Inner.new.v.items _ _ w.take_out.ensures.items w.take_out-in-Inner.ensures.items (left_children part key (λ es. remove_entry es part key) is (depth_of ks) ls ks at k k' inner.children child here e.depth e.others many empty)
@@ -178,7 +171,7 @@ returns-clause-others t c = elim c.match-self.branch [
       let child = subst (λ ms. IsChildFor ms part key at) w.deref.ensures.value w.child_for-at.ensures in
       let k = w.index_mut.result.now in let k' = w.remove-removed.new.self in let here = w.index_mut.ensures.value in
       let is = removing part key in let e = w.remove-removed.ensures in
-      let empty : k'.entries ≡ [] = subst (λ b. MatchBool b (k'.entries ≡ []) (0 < length k'.entries)) (not_false _ w.if-not-removed.false) e.empty in
+      let empty : k'.entries ≡ [] = subst (λ b. MatchBool b (k'.entries ≡ []) (0 < length k'.entries)) (not-false _ w.if-not-removed.false) e.empty in
       let many : 1 < length ks = omega (arith, inner.some, w.len.ensures, w.if-len-eq1.false, w.in-Inner.children.ok.0) in
       rw w.self-inside-is (ap all_entries w.take_out-in-Inner.ensures.items ∙ left_entries part key (λ es. remove_entry es part key) is (depth_of ks) ls ks at k k' inner.children child here e.depth e.others many empty ∙ sym (ap (λ (s : Shape). remove_entry s.entries part key) seen))
 ]
@@ -195,7 +188,7 @@ returns-clause-depth t c = elim c.match-self.branch [
       let child = subst (λ ms. IsChildFor ms part key at) w.deref.ensures.value w.child_for-at.ensures in
       let k = w.index_mut.result.now in let k' = w.remove-removed.new.self in let here = w.index_mut.ensures.value in
       let is = removing part key in let e = w.remove-removed.ensures in
-      let empty : k'.entries ≡ [] = subst (λ b. MatchBool b (k'.entries ≡ []) (0 < length k'.entries)) (not_false _ w.if-not-removed.false) e.empty in
+      let empty : k'.entries ≡ [] = subst (λ b. MatchBool b (k'.entries ≡ []) (0 < length k'.entries)) (not-false _ w.if-not-removed.false) e.empty in
       let many : 1 < length ks = omega (arith, inner.some, w.len.ensures, w.if-len-eq1.false, w.in-Inner.children.ok.0) in
       rw w.self-inside-is (ap depth_of w.take_out-in-Inner.ensures.items ∙ left_depth part key (λ es. remove_entry es part key) is (depth_of ks) ls ks at k k' inner.children child here e.depth e.others many empty ∙ sym (ap (λ (s : Shape). s.depth) seen))
 ]
@@ -210,7 +203,7 @@ returns-clause-empty t c = elim c.match-self.branch [
       let child = subst (λ ms. IsChildFor ms part key at) w.deref.ensures.value w.child_for-at.ensures in
       let k = w.index_mut.result.now in let k' = w.remove-removed.new.self in let here = w.index_mut.ensures.value in
       let is = removing part key in let e = w.remove-removed.ensures in
-      let empty : k'.entries ≡ [] = subst (λ b. MatchBool b (k'.entries ≡ []) (0 < length k'.entries)) (not_false _ w.if-not-removed.false) e.empty in
+      let empty : k'.entries ≡ [] = subst (λ b. MatchBool b (k'.entries ≡ []) (0 < length k'.entries)) (not-false _ w.if-not-removed.false) e.empty in
       let many : 1 < length ks = omega (arith, inner.some, w.len.ensures, w.if-len-eq1.false, w.in-Inner.children.ok.0) in
       rw (w.result-is, w.self-inside-is) (subst (λ js. 0 < length (all_entries js)) (sym w.take_out-in-Inner.ensures.items) (left_some part key (λ es. remove_entry es part key) is (depth_of ks) ls ks at k k' inner.children child here e.depth e.others many empty))
 ]

@@ -5,9 +5,9 @@ use Rattle.am_btree.specs.Shape.{Shape}
 use Rattle.am_btree.specs.Nodes.{shape_of, depth_of, IsTree, inner_shape, leaf_shape}
 use Rattle.am_btree.proofs.Inner.{as_many, they_rise, some_separators, one_below}
 use Rattle.std.specs.Prelude.{IsSome}
+use Rattle.am_record.proofs.Lists.{AllByRecursion-at}
 use Rattle.am_btree.proofs.Children.{find_in_child}
 use Rattle.am_btree.proofs.Editing.{writing, written_long, kept_inner, kept_entries, kept_depth}
-use Rattle.am_btree.proofs.Parting.{all_at}
 use Rattle.am_btree.proofs.node.Subtree.+set.Goals as goal
 use Rattle.am_btree.proofs.node.Subtree.+set.Goals.{in-Leaf, in-Inner}
 
@@ -54,7 +54,7 @@ invariant_of-self t c = elim c.match-self.branch [
       let k = w.index_mut.result.now in let k' = w.set.new.self in let here = w.index_mut.ensures.value in
       let is = writing part key c.args.value c.args.is_ghost in let e = w.set.ensures in
       let filled : 1 < length ks → 0 < length k'.entries = λ more.
-      let old = all_at (λ (j : Shape). 0 < length j.entries) ks at k (inner.children.filled more) (omega (arith, child.in_range, as_many ls ks _ _ inner)) in
+      let old = AllByRecursion-at (λ (j : Shape). 0 < length j.entries) ks at k (inner.children.filled more) (omega (arith, child.in_range, as_many ls ks _ _ inner)) in
       omega (arith, old, ap (λ (s : Shape). length s.entries) here, ap length e.entries, written_long part key c.args.value c.args.is_ghost k.entries) in
       rw w.self-inside-is (kept_inner part key (λ es. set_entry es part key c.args.value c.args.is_ghost) is (depth_of ks) ls ks at k k' inner.children child here e.depth e.entries _ _ filled inner.most inner.room)
 ]

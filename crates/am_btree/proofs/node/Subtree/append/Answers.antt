@@ -1,8 +1,9 @@
-use Rattle.std.proofs.Common.{◌≡◌, ◌<◌, ◌+◌, ◌-◌, ℕ, suc, false, List, ◌++◌, length, get_or, take, Result, Ok, Err, sym, ap, ◌∙◌, subst, add-one, arith}
-use Rattle.std.specs.Prelude.{is_err, OnOk}
-use Rattle.std.proofs.lemmas.Bool.{true≢false}
+use Rattle.std.proofs.Common.{◌≡◌, ◌<◌, ◌+◌, ◌-◌, ℕ, suc, false, List, ◌++◌, length, get_or, take, sym, ap, ◌∙◌, subst, add-one, arith}
+use Rattle.std.specs.Prelude.{is_err}
 use Rattle.std.proofs.lemmas.List.{get_or_default}
 use Rattle.am_record.specs.declared.entry.Entry.{Entry}
+use Rattle.am_record.proofs.Outcomes.{on_ok}
+use Rattle.am_record.proofs.FirstRows.{Record}
 use Rattle.am_list.specs.Entries.{insert_entry, IsRising}
 use Rattle.am_list.specs.Runs.{live_entry, run_entries}
 use Rattle.am_list.proofs.Runs.{rising_with_run}
@@ -10,12 +11,8 @@ use Rattle.am_btree.specs.Shape.{Shape}
 use Rattle.am_btree.proofs.Growing.{insert_some}
 use Rattle.am_btree.proofs.Rooted.{tree_rises}
 use Rattle.am_btree.proofs.Filling.{left_rise, further, within}
-use Rattle.am_btree.proofs.Appended.{Record, put, stands, out}
+use Rattle.am_btree.proofs.Appended.{put, stands, out}
 use Rattle.am_btree.proofs.node.Subtree.append.Goals as goal
-
-on_ok : {T E P : Type 0} (r : Result T E) → is_err r ≡ false → OnOk r P → P
-on_ok (Ok v) h p = p
-on_ok (Err e) h p = absurd (true≢false h)
 
 pub fill_last-added-requires-clause-some : goal.fill_last-added-requires-clause-some
 fill_last-added-requires-clause-some c =

@@ -2,7 +2,8 @@ use Rattle.std.proofs.Common.{◌≡◌, length, List, take, sym, ap, ◌∙◌,
 use Rattle.std.specs.List.{insert}
 use Rattle.am_record.specs.declared.entry.Entry.{Entry}
 use Rattle.am_list.specs.Runs.{live_entry, run_entries}
-use Rattle.am_leaf.proofs.Filling.{length-front, next_gap, next_filled}
+use Rattle.am_list.proofs.Runs.{length-front}
+use Rattle.am_leaf.proofs.Filling.{next_gap, next_filled}
 use Rattle.am_leaf.proofs.leaf.RawLeaf.fill.Goals as goal
 
 pub insert_at-requires-clause-room : goal.insert_at-requires-clause-room

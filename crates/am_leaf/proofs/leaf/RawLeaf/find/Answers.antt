@@ -1,7 +1,8 @@
 use Rattle.std.proofs.Common.{◌≡◌, ℕ, ◌+◌, ◌-◌, ◌/◌, ◌<◌, suc, length, take, sym, subst, arith}
 use Rattle.am_record.specs.EntryOrder.{Place}
+use Rattle.am_record.proofs.Lists.{some_item}
 use Rattle.am_list.specs.Places.{AllBelow}
-use Rattle.am_leaf.proofs.Rising.{all_below, all_above, below_here, above_here, some_entry}
+use Rattle.am_leaf.proofs.Rising.{all_below, all_above, below_here, above_here}
 use Rattle.am_leaf.proofs.leaf.RawLeaf.find.Goals as goal
 
 pub loop-low-preserved-in-Less : goal.loop-low-preserved-in-Less
@@ -11,7 +12,7 @@ loop-low-preserved-in-Less c =
     let apart : low < high = c.loop-low-test.true in
     let within : middle < length es = omega (arith, held.in_range) in
     let next : suc middle ≡ middle + 1 = omega arith in
-    let p : Place = (c.args.part, c.args.key) in let d = some_entry es middle within in
+    let p : Place = (c.args.part, c.args.key) in let d = some_item es middle within in
     record {
       ordered = omega arith;
       in_range = held.in_range;
@@ -25,7 +26,7 @@ loop-low-preserved c =
     let low : ℕ = c.loop-low.low in let high : ℕ = c.loop-low.high in let middle : ℕ = low + (high - low) / 2 in
     let apart : low < high = c.loop-low-test.true in
     let within : middle < length es = omega (arith, held.in_range) in
-    let p : Place = (c.args.part, c.args.key) in let d = some_entry es middle within in
+    let p : Place = (c.args.part, c.args.key) in let d = some_item es middle within in
     record {
       ordered = omega arith;
       in_range = omega arith;
@@ -39,7 +40,7 @@ returns-in-Equal-clause-found c =
     let low : ℕ = c.loop-low.low in let high : ℕ = c.loop-low.high in let middle : ℕ = low + (high - low) / 2 in
     let apart : low < high = c.loop-low-test.true in
     let within : middle < length es = omega (arith, held.in_range) in
-    let p : Place = (c.args.part, c.args.key) in let d = some_entry es middle within in
+    let p : Place = (c.args.part, c.args.key) in let d = some_item es middle within in
     record {
       in_range = within;
       below = below_here p es middle d c.len-high.ensures.rising within (sym (c.in-Equal.ensures d));

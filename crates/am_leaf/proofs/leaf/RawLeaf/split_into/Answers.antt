@@ -2,8 +2,9 @@ use Rattle.std.proofs.Common.{ℕ, length, ◌-◌, ◌^◌, ◌<◌, ◌≤◌,
 use Rattle.std.proofs.lemmas.List.{length-take-le, length-drop}
 use Rattle.am_leaf.specs.Leaf.{entries_of}
 use Rattle.am_list.specs.Entries.{IsRising}
+use Rattle.am_list.proofs.Lists.{rising-take}
 use Rattle.am_leaf.proofs.MarkLemmas.{cut_below, rest_below}
-use Rattle.am_leaf.proofs.Rising.{rising-take, rising-drop}
+use Rattle.am_leaf.proofs.Rising.{rising-drop}
 use Rattle.am_leaf.proofs.Zips.{entries_of-take, entries_of-drop}
 use Rattle.am_leaf.proofs.Leaves.{alike, counted, no_places, no_values}
 use Rattle.am_leaf.proofs.leaf.RawLeaf.split_into.Goals as goal

@@ -1,8 +1,8 @@
 use Rattle.std.proofs.Common.{List, reverse, sym, ap, ◌∙◌, subst}
+use Rattle.am_record.proofs.Newest.{since_mark_is, until_mark_is}
 use Rattle.am_model.specs.declared.note.Note.{Note}
 use Rattle.am_model.specs.Marks.{Log}
 use Rattle.am_model.specs.Notes.{all_taken_back, CanTakeBack}
-use Rattle.am_model.proofs.Above.{since_mark_is, until_mark_is}
 use Rattle.am_model.proofs.log.ChangeLog.back.Goals as goal
 
 pub take_back_above-requires : goal.take_back_above-requires

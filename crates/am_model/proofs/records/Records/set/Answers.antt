@@ -1,6 +1,7 @@
 use Rattle.std.proofs.Common.{sym, ap, ◌∙◌}
 use Rattle.std.specs.FinMap as map
-use Rattle.am_model.proofs.Maps.{got_where, on_err, put_is_insert}
+use Rattle.am_record.proofs.Outcomes.{OnErr-from}
+use Rattle.am_model.proofs.Maps.{got_where, put_is_insert}
 use Rattle.am_model.proofs.records.Records.set.Goals as goal
 
 pub returns-clause-ok : goal.returns-clause-ok
@@ -10,5 +11,5 @@ returns-clause-ok c =
 
 pub returns-in_err-insert-clause-absent : goal.returns-in_err-insert-clause-absent
 returns-in_err-insert-clause-absent c =
-    on_err c.from_residual.result
+    OnErr-from c.from_residual.result
     (sym (ap (λ m. map.get m c.args.key) c.self.view_is) ∙ sym (got_where c.self.inside.by_key.entries c.args.key) ∙ c.in_err-insert.ensures.absent)

@@ -2,7 +2,7 @@ use Rattle.std.proofs.Common.{◌<◌, ◌≤◌, ◌∙◌, subst, ⊎_elim, ar
 use Rattle.std.proofs.lemmas.Bool.{cases_lt}
 use Rattle.std.proofs.lemmas.List.{take_all}
 use Rattle.std.specs.List.{AllByRecursion}
-use Rattle.am_list.proofs.Lists.{AllByRecursion-map}
+use Rattle.am_record.proofs.Lists.{AllByRecursion-map}
 use Rattle.am_parts.specs.declared.generations.Generation.{Generation}
 use Rattle.am_parts.proofs.Held.{held_by_none}
 use Rattle.am_parts.proofs.Finding.{unheld}

@@ -1,9 +1,9 @@
 use Rattle.std.proofs.Common.{List, reverse, sym, ap, ◌∙◌, subst}
+use Rattle.am_record.proofs.Newest.{since_mark_is, until_mark_is}
 use Rattle.am_list.specs.Entries.{find}
 use Rattle.am_undo.specs.declared.note.Note.{Note}
 use Rattle.am_undo.specs.Log.{Log}
 use Rattle.am_undo.specs.Notes.{TakesBack, CanTakeBack}
-use Rattle.am_undo.proofs.Above.{since_mark_is, until_mark_is}
 use Rattle.am_undo.proofs.undo_log.UndoLog.back.Goals as goal
 
 pub take_back_above-requires : goal.take_back_above-requires
