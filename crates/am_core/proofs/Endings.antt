@@ -6,7 +6,7 @@ use Rattle.am_list.specs.Entries.{find}
 use Rattle.am_parts.specs.Partitions.{Partitions}
 use Rattle.am_undo.specs.declared.note.Note.{Note}
 use Rattle.am_undo.specs.Notes.{CanTakeBack}
-use Rattle.am_undo.specs.Marks.{since_mark}
+use Rattle.am_record.specs.Marks.{since_mark}
 use Rattle.am_locks.specs.Table.{locks_of}
 use Rattle.am_tx.specs.Active.{is_active, log_of}
 use Rattle.am_tx.specs.Txs.{Txs, IsConsistent, started, ended, can_begin}

@@ -19,7 +19,7 @@ use Rattle.am_list.specs.Entries.{find}
 use Rattle.am_list.specs.Content.{content}
 use Rattle.am_parts.specs.Partitions.{Partitions}
 use Rattle.am_undo.specs.Log.{Log}
-use Rattle.am_undo.specs.Marks.{since_mark, has_mark}
+use Rattle.am_record.specs.Marks.{since_mark, has_mark}
 use Rattle.am_locks.specs.Table.{locks_of, with_locks}
 use Rattle.am_tx.specs.Active.{is_active, ops_of, log_of}
 use Rattle.am_tx.specs.Txs.{Txs, IsConsistent, with_log, counted}

@@ -8,7 +8,7 @@ use Rattle.am_list.specs.Entries.{find}
 use Rattle.am_list.specs.Content.{content}
 use Rattle.am_parts.specs.Partitions.{Partitions}
 use Rattle.am_undo.specs.Log.{Log}
-use Rattle.am_undo.specs.Marks.{since_mark}
+use Rattle.am_record.specs.Marks.{since_mark}
 use Rattle.am_serial.specs.Trace.{runs_made}
 use Rattle.am_effect.specs.Laws.{taken_back}
 use Rattle.am_effect.specs.Store.{changed, noted, notes_left, marks_left}

@@ -5,7 +5,7 @@ ghost use Rattle.am_record.specs.Plain.{is_orderly};
 ghost use Rattle.am_record.specs.declared.step.Step.TheVariants.{Do};
 ghost use Rattle.am_record.specs.declared.step.Refusal.TheVariants.{NoMemory as OutOfMemory};
 ghost use Rattle.am_list.specs.Entries.{find};
-ghost use Rattle.am_undo.specs.Marks.{since_mark};
+ghost use Rattle.am_record.specs.Marks.{since_mark};
 ghost use Rattle.am_undo.specs.Notes.{CanTakeBack};
 ghost use Rattle.am_runs.specs.Loads.{NothingAbove};
 ghost use Rattle.am_tx.specs.Active.{is_active, log_of};

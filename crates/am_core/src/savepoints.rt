@@ -2,7 +2,7 @@
 
 ghost use Rattle.std.specs.Prelude.{◌≡◌, IfOk, OnErr};
 ghost use Rattle.am_list.specs.Entries.{find};
-ghost use Rattle.am_undo.specs.Marks.{since_mark};
+ghost use Rattle.am_record.specs.Marks.{since_mark};
 ghost use Rattle.am_undo.specs.Notes.{CanTakeBack};
 ghost use Rattle.am_core.specs.Doing.{IsDone};
 ghost use Rattle.am_record.specs.declared.step.Op.TheVariants.{Back};

@@ -17,7 +17,7 @@ use Rattle.am_record.specs.declared.step.Reply.{Reply}
 use Rattle.am_record.specs.declared.step.Reply.TheVariants.{Done}
 use Rattle.am_record.proofs.Newest.{length-until, since-new, since-none, since-older, since-until}
 use Rattle.am_serial.specs.Trace.{Answers, Effect}
-use Rattle.am_undo.specs.Marks.{has_mark, since, since_mark, until}
+use Rattle.am_record.specs.Marks.{since, until, since_mark, has_mark}
 use Rattle.am_undo.specs.Undo.{is_noted_run}
 use Rattle.am_undo.specs.declared.note.Note.{Note}
 use Rattle.am_undo.proofs.Marking.{run_taken}

@@ -12,7 +12,7 @@ use Rattle.am_undo.specs.declared.note.Note.{Note}
 use Rattle.am_undo.specs.declared.note.Note.TheVariants.{New, Before, RunMade}
 use Rattle.am_undo.specs.Notes.{back_one, back}
 use Rattle.am_undo.specs.Undo.{is_noted_run}
-use Rattle.am_undo.specs.Marks.{since, since_mark, until_mark, older}
+use Rattle.am_record.specs.Marks.{since, since_mark, until_mark, older}
 use Rattle.am_serial.specs.Trace.{Effect, Answers}
 use Rattle.am_effect.specs.Places.{look, reslotted}
 use Rattle.am_effect.specs.Merging.{Holders}

@@ -10,7 +10,7 @@ ghost use Rattle.am_list.specs.Entries.{find, IsRising};
 ghost use Rattle.am_list.specs.Content.{OnePlace};
 ghost use Rattle.am_undo.specs.declared.note.Note.{Note};
 ghost use Rattle.am_undo.specs.Notes.{TakesBack, CanTakeBack};
-ghost use Rattle.am_undo.specs.Marks.{has_mark};
+ghost use Rattle.am_record.specs.Marks.{has_mark};
 ghost use Rattle.am_effect.specs.Merging.{Holders, all_worked_off, MergeRight, merged_by, cleaned_by};
 ghost use Rattle.am_effect.specs.History.{Moment, wrote, left_at, moments_since};
 ghost use Rattle.am_effect.specs.Known.{KnownLaws};

@@ -12,7 +12,8 @@ use Rattle.am_record.proofs.Newest.{length-until, since-older}
 use Rattle.am_model.specs.declared.note.Note.{Note}
 use Rattle.am_model.specs.Slots.{Slot, Slots, live, put}
 use Rattle.am_model.specs.Notes.{taken_back, all_taken_back, HasPlace, CanTakeBack}
-use Rattle.am_model.specs.Marks.{Log, since, until, since_mark, until_mark, older, has_mark, draft, AreFalling, Stand}
+use Rattle.am_record.specs.Marks.{since, until, since_mark, until_mark, older, has_mark}
+use Rattle.am_model.specs.Marks.{Log, draft, AreFalling, Stand}
 use Rattle.am_model.proofs.Live.{live_empty, live_put, put_again, got_there}
 
 -- ---- lists of notes

@@ -3,7 +3,7 @@
 ghost use Rattle.std.specs.Prelude.{◌≡◌, [], ◌∷◌, true, length, reverse, take, drop, OnOk, OnErr};
 ghost use Rattle.am_model.specs.Slots.{live};
 ghost use Rattle.am_model.specs.Notes.{all_taken_back, CanTakeBack};
-ghost use Rattle.am_model.specs.Marks.{has_mark, older, since_mark, until_mark};
+ghost use Rattle.am_record.specs.Marks.{since_mark, until_mark, older, has_mark};
 
 use crate::note::{Note, Slot};
 use crate::records::Records;

@@ -2,21 +2,7 @@
 use Rattle.std.proofs.Common.{◌≡◌, ℕ, ◌-◌, ◌+◌, ◌≤◌, List, [], ◌∷◌, ◌++◌, length, reverse, take, drop, arith, sym, ap, ◌∙◌, subst, length-append, length-drop}
 use Rattle.std.proofs.lemmas.List.{take-append-drop, reverse-append, length-reverse}
 use Rattle.std.proofs.Math.Seq.{take-append-add, take-append_seam, drop-append_seam}
-
-abbrev pub since : {X : Type 0} → ℕ → List X → List X
-since count items = take (length items - count) items
-
-abbrev pub until : {X : Type 0} → ℕ → List X → List X
-until count items = drop (length items - count) items
-
--- the items since the newest mark, none where no mark stands, and all the others
-abbrev pub since_mark : {X : Type 0} → List ℕ → List X → List X
-since_mark [] items = []
-since_mark (mark ∷ marks) items = since mark items
-
-abbrev pub until_mark : {X : Type 0} → List ℕ → List X → List X
-until_mark [] items = items
-until_mark (mark ∷ marks) items = until mark items
+use Rattle.am_record.specs.Marks.{since, until, since_mark, until_mark, older}
 
 pub since-new : {X : Type 0} (new items : List X) (mark : ℕ) → mark ≤ length items → since mark (new ++ items) ≡ new ++ since mark items
 since-new new items mark h =

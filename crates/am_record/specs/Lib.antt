@@ -14,3 +14,4 @@ pub mod Asks
 pub mod Copies
 pub mod Refusals
 pub mod Sessions
+pub mod Marks

@@ -19,7 +19,7 @@ use Rattle.am_record.specs.declared.step.Refusal.{Refusal}
 use Rattle.am_record.specs.declared.step.Refusal.TheVariants as why
 use Rattle.am_list.specs.Content.{content}
 use Rattle.am_undo.specs.declared.note.Note.{Note}
-use Rattle.am_undo.specs.Marks.{has_mark}
+use Rattle.am_record.specs.Marks.{has_mark}
 use Rattle.am_sound.specs.Represents.{stored_answer}
 use Rattle.am_effect.specs.Merging.{Holders, candidates, AnswersFirst, AnswersCandidates, MergeRight}
 use Rattle.am_effect.specs.Store.{WithinLimit}

@@ -39,7 +39,8 @@ use Rattle.am_sound.proofs.Whole.{Right, changed_refused, either_way, marks_left
 use Rattle.am_sound.specs.StateOf.{IsStateOf, active_of, state_of}
 use Rattle.am_sound.specs.StoreState.{Active, IsFit, MayAnswer, StoreState, state_after, taken_back_to_mark, blocker_in, with_op, refusal_in, without_tx, holder_in, in_table, is_in, takes_memory}
 use Rattle.am_undo.proofs.Marking.{mark_laws}
-use Rattle.am_undo.specs.Marks.{MarkLaws, has_mark, since_mark}
+use Rattle.am_record.specs.Marks.{since_mark, has_mark}
+use Rattle.am_undo.specs.Marks.{MarkLaws}
 use Rattle.am_undo.specs.Notes.{CanTakeBack}
 use Rattle.am_undo.specs.declared.note.Note.{Note}
 

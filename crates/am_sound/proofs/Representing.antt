@@ -19,7 +19,8 @@ use Rattle.am_list.specs.Content.{content, OnePlace, HasContent}
 use Rattle.am_undo.specs.declared.note.Note.{Note}
 use Rattle.am_undo.specs.Notes.{TakesBack}
 use Rattle.am_undo.specs.Undo.{Undoes, UndoLaws, LeavesNoted}
-use Rattle.am_undo.specs.Marks.{has_mark, since_mark, until_mark, older, UndoesEach, AllPairs, SameOwned, MarkLaws}
+use Rattle.am_record.specs.Marks.{since_mark, until_mark, older, has_mark}
+use Rattle.am_undo.specs.Marks.{UndoesEach, AllPairs, SameOwned, MarkLaws}
 use Rattle.am_undo.specs.Marks as marks_of
 use Rattle.am_undo.proofs.Undoing.{undo_laws, nothing_undone}
 use Rattle.am_undo.proofs.Marking.{mark_laws}

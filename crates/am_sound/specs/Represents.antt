@@ -14,7 +14,8 @@ use Rattle.am_list.specs.Content.{content, HasContent}
 use Rattle.am_undo.specs.declared.note.Note.{Note}
 use Rattle.am_undo.specs.Notes.{TakesBack}
 use Rattle.am_undo.specs.Undo.{is_noted_run, Undoes}
-use Rattle.am_undo.specs.Marks.{has_mark, since_mark, until_mark, older, UndoesEach}
+use Rattle.am_record.specs.Marks.{since_mark, until_mark, older, has_mark}
+use Rattle.am_undo.specs.Marks.{UndoesEach}
 use Rattle.am_serial.specs.Trace.{Begins, Answers, Commits, Aborts}
 use Rattle.am_serial.specs.Machine.{State, is_open, view, due, next, overlay_in, owns_in}
 use Rattle.am_effect.specs.History.{is_plain}

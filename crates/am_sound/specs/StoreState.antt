@@ -19,7 +19,7 @@ use Rattle.am_list.specs.Entries.{find, IsRising}
 use Rattle.am_list.specs.Content.{content, OnePlace}
 use Rattle.am_undo.specs.declared.note.Note.{Note}
 use Rattle.am_undo.specs.Notes.{CanTakeBack}
-use Rattle.am_undo.specs.Marks.{since_mark}
+use Rattle.am_record.specs.Marks.{since_mark}
 use Rattle.am_serial.specs.Trace.{runs_made}
 use Rattle.am_record.specs.Refusals.{refusal_before_lock, is_one_too_many, lock_refusal, or_else}
 use Rattle.am_effect.specs.Merging.{Holders, all_worked_off, MergeRight, merged_by, CleanRight, cleaned_by}

@@ -16,7 +16,8 @@ use Rattle.am_list.proofs.Content.{content_has_one, has_one_along}
 use Rattle.am_undo.specs.declared.note.Note.{Note}
 use Rattle.am_undo.specs.Notes.{Slots, back, TakesBack, back_at, CanTakeBack}
 use Rattle.am_undo.specs.Undo.{IsOwned, is_noted_run, Undoes}
-use Rattle.am_undo.specs.Marks.{since, until, since_mark, until_mark, older, UndoesEach, AllPairs, HasContent, SameOwned, MarkLaws}
+use Rattle.am_record.specs.Marks.{since, until, since_mark, until_mark, older}
+use Rattle.am_undo.specs.Marks.{UndoesEach, AllPairs, HasContent, SameOwned, MarkLaws}
 use Rattle.am_undo.proofs.Undoing.{undo_laws}
 use Rattle.am_undo.proofs.Slots.{back_none, owned_along}
 

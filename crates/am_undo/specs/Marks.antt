@@ -2,6 +2,7 @@
 use Rattle.std.specs.Prelude.{◌≡◌, ℕ, ◌≤◌, ◌-◌, length, take, drop, List, [], ◌∷◌, ◌++◌, Bool, true, false}
 use Rattle.std.specs.List.{AllByRecursion}
 use Rattle.std.specs.FinMap.{get}
+use Rattle.am_record.specs.Marks.{since, since_mark, until_mark, older}
 use Rattle.am_record.specs.OrderedKey.{OrderedKey}
 use Rattle.am_record.specs.Plain.{PlainMap}
 use Rattle.am_record.specs.declared.entry.Entry.{Entry}
@@ -10,32 +11,6 @@ use Rattle.am_list.specs.Entries.{find}
 use Rattle.am_undo.specs.declared.note.Note.{Note}
 use Rattle.am_undo.specs.Notes.{TakesBack, CanTakeBack}
 use Rattle.am_undo.specs.Undo.{Undoes, LeavesNoted}
-
--- the notes made since there were so many, and those that were there
-abbrev pub since : ℕ → List Note → List Note
-since count notes = take (length notes - count) notes
-
-abbrev pub until : ℕ → List Note → List Note
-until count notes = drop (length notes - count) notes
-
--- the notes since the newest mark, none where no mark stands, and all the others
-abbrev pub since_mark : List ℕ → List Note → List Note
-since_mark [] notes = []
-since_mark (mark ∷ marks) notes = since mark notes
-
-abbrev pub until_mark : List ℕ → List Note → List Note
-until_mark [] notes = notes
-until_mark (mark ∷ marks) notes = until mark notes
-
--- the marks without the newest
-abbrev pub older : List ℕ → List ℕ
-older [] = []
-older (mark ∷ marks) = marks
-
--- whether a mark stands
-abbrev pub has_mark : List ℕ → Bool
-has_mark [] = false
-has_mark (mark ∷ marks) = true
 
 -- the notes since each mark undo what was done since its map was saved, and all of them what the transaction did. No mark is above
 -- the newer ones, nor above `top`

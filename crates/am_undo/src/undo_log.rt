@@ -4,7 +4,7 @@ ghost use Rattle.std.specs.Prelude.{◌≡◌, ◌+◌, ◌<◌, ℕ, [], ◌∷
 ghost use Rattle.am_record.specs.OrderedKey.{OrderedKey};
 ghost use Rattle.am_list.specs.Entries.{find, IsRising};
 ghost use Rattle.am_list.specs.Edits.{same_place};
-ghost use Rattle.am_undo.specs.Marks.{since_mark, until_mark, older, has_mark};
+ghost use Rattle.am_record.specs.Marks.{since_mark, until_mark, older, has_mark};
 ghost use Rattle.am_undo.specs.Notes.{TakesBack, CanTakeBack, Stands, OneLive, back_at, back_one, ghosted};
 
 use crate::note::Note;

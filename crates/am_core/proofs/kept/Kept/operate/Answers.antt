@@ -1,7 +1,7 @@
 use Rattle.std.proofs.Common.{Option, List, sym, ap, subst, ◌∙◌}
 use Rattle.am_record.specs.declared.lock.Lock.{Lock}
 use Rattle.am_list.specs.Entries.{find}
-use Rattle.am_undo.specs.Marks.{since_mark}
+use Rattle.am_record.specs.Marks.{since_mark}
 use Rattle.am_undo.specs.Notes.{CanTakeBack}
 use Rattle.am_tx.specs.declared.transaction.Transaction.{Transaction}
 use Rattle.am_tx.specs.Active.{is_active, ops_of, log_of}
