@@ -1,2 +1,3 @@
 pub mod Lifts
 pub mod Tables
+pub mod Actives
