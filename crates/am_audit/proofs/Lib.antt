@@ -1,5 +1,3 @@
-pub mod Rising
-pub mod Spans
 pub mod Rows
 pub mod Actives
 pub mod Tables

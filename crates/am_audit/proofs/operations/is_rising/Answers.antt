@@ -3,7 +3,8 @@ use Rattle.std.proofs.lemmas.Bool.{eqb-false}
 use Rattle.std.proofs.lemmas.List.Sorted.{answers_always}
 use Rattle.std.specs.Ordering.{is_lt}
 use Rattle.am_record.specs.OrderedKey.{key_cmp}
-use Rattle.am_audit.proofs.Rising.{Record, adjacent_answer, rising_none, rising_some}
+use Rattle.am_record.proofs.Rising.{adjacent_answer, rising_none, rising_some}
+use Rattle.am_record.proofs.FirstRows.{Record}
 use Rattle.am_audit.proofs.operations.is_rising.Goals as goal
 
 pub returns-then-is_empty : goal.returns-then-is_empty
