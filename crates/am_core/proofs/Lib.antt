@@ -1,6 +1,5 @@
 pub mod Actives
 pub mod Endings
-pub mod Spans
 pub mod Grants
 pub mod Operations
 pub mod Merges
