@@ -11,6 +11,7 @@ use Rattle.am_record.specs.declared.step.Step.{Step}
 use Rattle.am_record.specs.declared.step.Step.TheVariants.{Begin, Do, Commit, Abort}
 use Rattle.am_record.specs.declared.step.Reply.{Reply}
 use Rattle.am_record.specs.declared.step.Reply.TheVariants.{Begun, Committed, Aborted, Refused}
+use Rattle.am_record.proofs.Lists.{heads, tails}
 use Rattle.am_serial.specs.Trace.{Trace, Event, Answered, Answers, answered_to, effect, effect_of_do, effects, body, ops_of, replies_of, IsAnsweredAlone}
 use Rattle.am_serial.specs.Machine.{State, Transaction, is_open, body_in}
 use Rattle.am_audit.specs.declared.active.Active.{Active}
@@ -110,9 +111,6 @@ pub record Splits (trace : Trace) (n t : ℕ) (es : List Placed) (place : ℕ) (
   pub before : placed_from n t earlier ≡ es
   pub effect : effect (Do t a.0) a.1 ≡ Answers t a.0 a.1
 
-cons_parts : {A : Type 0} (x y : A) (xs ys : List A) → x ∷ xs ≡ y ∷ ys → (x ≡ y) × (xs ≡ ys)
-cons_parts x y xs ys e = (cc, cc)
-
 pair_parts : (n m : ℕ) (a b : Answered) → ◌≡◌ {A = Placed} (n, a) (m, b) → (n ≡ m) × (a ≡ b)
 pair_parts n m a b e = (ap (λ (p : Placed). p.0) e, ap (λ (p : Placed). p.1) e)
 
@@ -137,8 +135,7 @@ splits (e ∷ trace) n t es place a rest is = one (answered_to t (effect e.0 e.1
       where
         here : (fs : List Placed) → (n, b) ∷ placed_from (n + 1) t trace ≡ fs ++ (place, a) ∷ rest → ((es' : List Placed) → placed_from (n + 1) t trace ≡ es' ++ (place, a) ∷ rest → Splits trace (n + 1) t es' place a) → Splits (e ∷ trace) n t fs place a
         here [] k later =
-            let parts = cons_parts (n, b) (place, a) (placed_from (n + 1) t trace) rest k in
-            let pair = pair_parts n place b a parts.0 in
+            let pair = pair_parts n place b a (heads k) in
             let told = answered_event t e.0 e.1 b some in
             let told' = subst (λ (c : Answered). IsAnswered t (e.0, e.1) c) pair.1 told in
             record {
@@ -150,14 +147,14 @@ splits (e ∷ trace) n t es place a rest is = one (answered_to t (effect e.0 e.1
               effect = told'.effect;
             }
         here (x ∷ fs) k later =
-            let parts = cons_parts (n, b) x (placed_from (n + 1) t trace) (fs ++ (place, a) ∷ rest) k in
-            let f = later fs parts.1 in
+            let first : (n, b) ≡ x = heads k in
+            let f = later fs (tails k) in
             record {
               earlier = e ∷ f.earlier;
               later = f.later;
               split = ap (λ l. e ∷ l) f.split;
               at = let here = f.at in omega arith;
-              before = ap (λ o. cons_option (option_map (λ (a : Answered). (n, a)) o) (placed_from (n + 1) t f.earlier)) some ∙ (λ i. parts.0 i ∷ f.before i);
+              before = ap (λ o. cons_option (option_map (λ (a : Answered). (n, a)) o) (placed_from (n + 1) t f.earlier)) some ∙ (λ i. first i ∷ f.before i);
               effect = f.effect;
             }
 

@@ -11,6 +11,7 @@ use Rattle.am_record.specs.declared.step.Step.{Step}
 use Rattle.am_record.specs.declared.step.Step.TheVariants.{Begin, Do, Commit, Abort, Merge, Clean}
 use Rattle.am_record.specs.declared.step.Reply.{Reply}
 use Rattle.am_record.specs.declared.step.Reply.TheVariants.{Refused}
+use Rattle.am_record.proofs.Lists.{heads, tails}
 use Rattle.am_serial.specs.Trace.{Trace, Event, Answered, Effect, Answers, Commits, answered_to, effect, effects, body, ops_of, replies_of, committed, IsSerial, IsAnsweredAlone}
 use Rattle.am_serial.specs.Sound.{FormedAt, BusyRightAt}
 use Rattle.am_serial.specs.Formed.{IsFormed, IsNextInOrder, FormedLaws}
@@ -67,16 +68,12 @@ data Parted {A : Type 0} (xs : List A) (x : A) (ys : List A) (y : A) : Type 0 wh
   Before : (rest : List A) → ys ≡ xs ++ x ∷ rest → Parted xs x ys y
   After : (rest : List A) → xs ≡ ys ++ y ∷ rest → Parted xs x ys y
 
-parts_of : {A : Type 0} (x y : A) (xs ys : List A) → x ∷ xs ≡ y ∷ ys → (x ≡ y) × (xs ≡ ys)
-parts_of x y xs ys e = (cc, cc)
-
 parted : {A : Type 0} (xs : List A) (x : A) (xs' ys : List A) (y : A) (ys' : List A) → xs ++ x ∷ xs' ≡ ys ++ y ∷ ys' → Parted xs x ys y
-parted [] x xs' [] y ys' e = Same refl (parts_of x y xs' ys' e).0
-parted [] x xs' (b ∷ ys) y ys' e = Before ys (ap (λ c. c ∷ ys) (sym (parts_of x b xs' (ys ++ y ∷ ys') e).0))
-parted (a ∷ xs) x xs' [] y ys' e = After xs (ap (λ c. c ∷ xs) (parts_of a y (xs ++ x ∷ xs') ys' e).0)
+parted [] x xs' [] y ys' e = Same refl (heads e)
+parted [] x xs' (b ∷ ys) y ys' e = Before ys (ap (λ c. c ∷ ys) (sym (heads e)))
+parted (a ∷ xs) x xs' [] y ys' e = After xs (ap (λ c. c ∷ xs) (heads e))
 parted (a ∷ xs) x xs' (b ∷ ys) y ys' e =
-    let parts = parts_of a b (xs ++ x ∷ xs') (ys ++ y ∷ ys') e in
-    one (parted xs x xs' ys y ys' parts.1) parts.0
+    one (parted xs x xs' ys y ys' (tails e)) (heads e)
   where
     one : Parted xs x ys y → a ≡ b → Parted (a ∷ xs) x (b ∷ ys) y
     one (Same same here) first = Same (λ i. first i ∷ same i) here

@@ -5,13 +5,13 @@ use Rattle.am_record.specs.Asks.{lock_of}
 use Rattle.am_record.specs.declared.step.Refusal.{Refusal}
 use Rattle.am_record.specs.declared.step.Refusal.TheVariants.{NoSuchTx, Busy, TooManyLocks, TooManyOps, TooManyRuns, NotRising, BadLimit, NoMemory}
 use Rattle.am_record.specs.declared.step.Op.{Op}
-use Rattle.am_record.specs.declared.step.Op.TheVariants.{Get, Scan, Insert, Replace, Delete, Load, Lock as TakeLock, Mark, Back}
 use Rattle.am_record.specs.declared.step.Step.TheVariants.{Do}
 use Rattle.am_record.specs.declared.step.Reply.{Reply}
 use Rattle.am_record.specs.declared.step.Reply.TheVariants.{Refused}
 use Rattle.am_record.specs.Refusals.{is_one_too_many}
 use Rattle.am_serial.specs.Machine.{State, due_early, blocker, locks_in}
-use Rattle.am_serial.specs.Sound.{IsAnswerOf, FormedDo}
+use Rattle.am_serial.specs.Sound.{FormedDo}
+use Rattle.am_serial.proofs.Sound.{not_answer, same_refusal}
 use Rattle.am_audit.specs.Faults.{is_early}
 use Rattle.am_audit.specs.Standing.{FormedIn, EarlyIn, IsRightOf, IsMisformedIn, IsWronglyBusyIn, early_of, busy_of}
 
@@ -26,20 +26,6 @@ early_of_due false false false false false why h = absurd (cc)
 -- a refusal that is due early is an early one
 due_is_early : (s : State) (t : ℕ) (op : Op) (why : Refusal) → due_early s t op ≡ Some why → is_early why ≡ true
 due_is_early s t op why h = early_of_due _ _ _ _ _ why h
-
-not_answer : (op : Op) (why : Refusal) → IsAnswerOf op (Refused why) → ⊥
-not_answer (Get k) why a = a
-not_answer (Scan range max) why a = a
-not_answer (Insert k v) why a = a
-not_answer (Replace k v) why a = a
-not_answer (Delete k) why a = a
-not_answer (Load pairs) why a = a
-not_answer (TakeLock lock) why a = a
-not_answer Mark why a = a
-not_answer Back why a = a
-
-same_refusal : (v w : Refusal) → Refused v ≡ Refused w → v ≡ w
-same_refusal v w h = cc
 
 same_number : (h k : ℕ) → Refused (Busy h) ≡ Refused (Busy k) → h ≡ k
 same_number h k e = let same : Busy h ≡ Busy k = cc in cc

@@ -9,13 +9,14 @@ use Rattle.am_record.specs.declared.step.Step.{Step}
 use Rattle.am_record.specs.declared.step.Step.TheVariants.{Begin, Do, Commit, Abort}
 use Rattle.am_record.specs.declared.step.Reply.{Reply}
 use Rattle.am_record.specs.declared.step.Reply.TheVariants.{Begun, Committed, Aborted, Refused}
+use Rattle.am_record.proofs.Lists.{AllByRecursion-map, AllByRecursion-push}
 use Rattle.am_serial.specs.Trace.{Effect, Begins, Answers, Commits, Aborts, Nothing, effect}
 use Rattle.am_serial.specs.Machine.{State, Transaction, is_open, next}
 use Rattle.am_audit.specs.declared.flaw.Flaw.{Flaw}
 use Rattle.am_audit.specs.declared.flaw.Flaw.TheVariants.{Form, Busy, Answer, NoMemory}
 use Rattle.am_audit.specs.declared.pass.Pass.{Pass}
 use Rattle.am_audit.specs.Standing.{Placed, answered_of, Listed, listed, own_in, Bodies, list_of, StandsAt, added, Moment, Stands, FormedIn, IsRightIn, IsMisformedIn, IsWronglyBusyIn, Takes, IsFlaw, IsFirstWrong}
-use Rattle.am_audit.proofs.Standings.{all_map, all_push, all_without, all_extended, open_below}
+use Rattle.am_audit.proofs.Standings.{all_without, all_extended, open_below}
 use Rattle.am_audit.proofs.Bodies.{own_are}
 use Rattle.am_audit.proofs.Lifts.{commit_open}
 
@@ -48,7 +49,7 @@ each_open : (txs : List Transaction) → AllByRecursion (λ (x : Transaction). i
 each_open [] = tt
 each_open (x ∷ txs) = (
   ap (λ b. b || is_open txs x.0) (eq-eqb x.0 x.0 refl),
-  all_map (λ (y : Transaction). is_open txs y.0 ≡ true) (λ (y : Transaction). (y.0 == x.0) || is_open txs y.0 ≡ true) (λ y on. ap (λ b. (y.0 == x.0) || b) on ∙ or-true (y.0 == x.0)) txs (each_open txs),
+  AllByRecursion-map (λ (y : Transaction). is_open txs y.0 ≡ true) (λ (y : Transaction). (y.0 == x.0) || is_open txs y.0 ≡ true) (λ y on. ap (λ b. (y.0 == x.0) || b) on ∙ or-true (y.0 == x.0)) txs (each_open txs),
 )
 
 lists_agree : (b c : Bodies) (txs : List Transaction) → AgreeOn txs b c → map (list_of b) txs ≡ map (list_of c) txs
@@ -93,13 +94,13 @@ module _ (p : Pass) (b : Bodies) (s : State) (h : StandsAt p b s) where
       ∙ none_listed b s.active t (false_from_ne_true (is_open s.active t) (λ on. let low = open_below s.begun t s.active h.ordinary.below on in let no : ⊥ = omega arith in no))
 
   all_here : AgreeOn s.active (own_bodies p) b
-  all_here = all_map (λ (x : Transaction). is_open s.active x.0 ≡ true) (λ (x : Transaction). own_bodies p x.0 ≡ b x.0) (λ x on. own_here x.0 on) s.active (each_open s.active)
+  all_here = AllByRecursion-map (λ (x : Transaction). is_open s.active x.0 ≡ true) (λ (x : Transaction). own_bodies p x.0 ≡ b x.0) (λ x on. own_here x.0 on) s.active (each_open s.active)
 
   -- the pass stands where it tells itself
   pub stands_own : (n : ℕ) → Stands p (own_moment p n)
   stands_own n =
       subst (λ x. StandsAt p (own_bodies p) x) (sym (state_is p b s h))
-      (rebodied p b (own_bodies p) s (all_map (λ (x : Transaction). own_bodies p x.0 ≡ b x.0) (λ (x : Transaction). b x.0 ≡ own_bodies p x.0) (λ x e. sym e) s.active all_here) own_none h)
+      (rebodied p b (own_bodies p) s (AllByRecursion-map (λ (x : Transaction). own_bodies p x.0 ≡ b x.0) (λ (x : Transaction). b x.0 ≡ own_bodies p x.0) (λ x e. sym e) s.active all_here) own_none h)
 
   -- ---- the event that comes next
 
@@ -118,7 +119,7 @@ module _ (p : Pass) (b : Bodies) (s : State) (h : StandsAt p b s) where
   agree_next : (e : Effect) → ((t : ℕ) → e ≡ Begins t → t ≡ s.begun + 1) → AgreeOn (next s e).active (own_bodies p) b
   agree_next (Begins t) new =
       let above : s.begun < t = let is = new t refl in omega arith in
-      all_push (λ (x : Transaction). own_bodies p x.0 ≡ b x.0) s.active (t, []) all_here (own_none t above ∙ sym (h.ordinary.new t above))
+      AllByRecursion-push (λ (x : Transaction). own_bodies p x.0 ≡ b x.0) s.active (t, []) all_here (own_none t above ∙ sym (h.ordinary.new t above))
   agree_next (Answers t op reply) new = all_extended (λ (x : Transaction). own_bodies p x.0 ≡ b x.0) (λ (x : Transaction). own_bodies p x.0 ≡ b x.0) t (op, reply) (λ x k. k) s.active all_here
   agree_next (Commits t) new = all_without (λ (x : Transaction). own_bodies p x.0 ≡ b x.0) t s.active all_here
   agree_next (Aborts t) new = all_without (λ (x : Transaction). own_bodies p x.0 ≡ b x.0) t s.active all_here
@@ -139,7 +140,7 @@ module _ (p : Pass) (b : Bodies) (s : State) (h : StandsAt p b s) where
       record {
         right = right;
         stands = rebodied p' (with_added (own_bodies p) n (effect step reply)) (with_added b n (effect step reply)) (next s (effect step reply))
-            (all_map (λ (x : Transaction). own_bodies p x.0 ≡ b x.0) (λ (x : Transaction). with_added (own_bodies p) n (effect step reply) x.0 ≡ with_added b n (effect step reply) x.0) (λ x e. ap (λ l. l ++ added n x.0 (effect step reply)) e) (next s (effect step reply)).active
+            (AllByRecursion-map (λ (x : Transaction). own_bodies p x.0 ≡ b x.0) (λ (x : Transaction). with_added (own_bodies p) n (effect step reply) x.0 ≡ with_added b n (effect step reply) x.0) (λ x e. ap (λ l. l ++ added n x.0 (effect step reply)) e) (next s (effect step reply)).active
             (agree_next (effect step reply) (λ t e. begins_new step reply t e right.said.formed)))
             (λ t above.
             let low = no_less (effect step reply) in

@@ -4,6 +4,7 @@ use Rattle.std.proofs.lemmas.List.{take_more, drop_more, take-append-drop, lengt
 use Rattle.am_record.specs.Plain.{Draft, answer, after, answers_on, left_on}
 use Rattle.am_record.specs.declared.step.Op.{Op}
 use Rattle.am_record.specs.declared.step.Reply.{Reply}
+use Rattle.am_record.proofs.Bodies.{answers_on_push, left_on_push}
 use Rattle.am_serial.specs.Trace.{ops_of, replies_of}
 use Rattle.am_audit.specs.declared.active.Kept.{Kept}
 use Rattle.am_audit.specs.Standing.{Placed, placed_of, answered_of, AreAnsweredOn, left_by_all, IsFirstWrong}
@@ -12,14 +13,6 @@ use Rattle.am_audit.specs.Standing.{Placed, placed_of, answered_of, AreAnsweredO
 pub record IsReplayedTo (own : List Placed) (d now : Draft) (i : ℕ) : Type 0 where
   pub right : AreAnsweredOn (take i own) d
   pub left : now ≡ left_by_all (take i own) d
-
-answers_push : (ops : List Op) (op : Op) (d : Draft) → answers_on (ops ++ op ∷ []) d ≡ answers_on ops d ++ answer op (left_on ops d) ∷ []
-answers_push [] op d = refl
-answers_push (o ∷ ops) op d = ap (λ rs. answer o d ∷ rs) (answers_push ops op (after o d))
-
-left_push : (ops : List Op) (op : Op) (d : Draft) → left_on (ops ++ op ∷ []) d ≡ after op (left_on ops d)
-left_push [] op d = refl
-left_push (o ∷ ops) op d = left_push ops op (after o d)
 
 ops_push : (own : List Placed) (n : ℕ) (op : Op) (reply : Reply) → ops_of (answered_of (own ++ (n, (op, reply)) ∷ [])) ≡ ops_of (answered_of own) ++ op ∷ []
 ops_push [] n op reply = refl
@@ -44,11 +37,11 @@ one_more own d now now' i place op reply told h n answered same moved =
     let right : replies_of (answered_of (done ++ (place, (op, reply)) ∷ [])) ≡ answers_on (ops_of (answered_of (done ++ (place, (op, reply)) ∷ []))) d =
     replies_push done place op reply
     ∙ (λ j. h.right j ++ (sym same ∙ answered ∙ ap (answer op) h.left) j ∷ [])
-    ∙ sym (answers_push (ops_of (answered_of done)) op d)
+    ∙ sym (answers_on_push (ops_of (answered_of done)) op d)
     ∙ ap (λ ops. answers_on ops d) (sym (ops_push done place op reply)) in
     record {
       right = subst (λ l. AreAnsweredOn l d) (sym taken) right;
-      left = moved ∙ ap (after op) h.left ∙ sym (left_push (ops_of (answered_of done)) op d) ∙ ap (λ ops. left_on ops d) (sym (ops_push done place op reply)) ∙ ap (λ l. left_by_all l d) (sym taken);
+      left = moved ∙ ap (after op) h.left ∙ sym (left_on_push (ops_of (answered_of done)) op d) ∙ ap (λ ops. left_on ops d) (sym (ops_push done place op reply)) ∙ ap (λ l. left_by_all l d) (sym taken);
     }
 
 pub wrong_here : (own : List Placed) (d now : Draft) (i place : ℕ) (op : Op) (reply told : Reply) → IsReplayedTo own d now i → IsNext own i place op reply → told ≡ answer op now → (told ≡ reply → ⊥) → IsFirstWrong own d place

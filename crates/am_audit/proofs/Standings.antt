@@ -10,18 +10,16 @@ use Rattle.am_record.specs.Asks.{lock_of, with_asked}
 use Rattle.am_record.specs.declared.step.Op.{Op}
 use Rattle.am_record.specs.declared.step.Step.{Step}
 use Rattle.am_record.specs.declared.step.Reply.{Reply}
+use Rattle.am_record.proofs.Lists.{AllByRecursion-map, AllByRecursion-push}
 use Rattle.am_locks.specs.Table.{with_locks, entered, without as released}
 use Rattle.am_serial.specs.Trace.{Trace, Event, Answered, Effect, Begins, Answers, Commits, Aborts, Nothing, answered_to, effect, runs_made}
 use Rattle.am_serial.specs.Machine.{State, Transaction, start, after_run, is_open, locks_in, view, extended, without, next}
+use Rattle.am_serial.proofs.Runs.{after_run-push}
 use Rattle.am_audit.specs.declared.pass.Pass.{Pass}
 use Rattle.am_audit.specs.Standing.{Placed, placed_from, placed, answered_of, Listed, listed, with_own, Bodies, list_of, held_of, Rise, StandsAt, added, Moment, moment_of, behind, Stands}
 use Rattle.am_audit.proofs.Tables.{relocked_done, entered_is, released_is}
 
 -- ---- one more event
-
-pub after_run-push : (trace : Trace) (s : State) (e : Event) → after_run s (trace ++ e ∷ []) ≡ next (after_run s trace) (effect e.0 e.1)
-after_run-push [] s e = refl
-after_run-push (x ∷ trace) s e = after_run-push trace (next s (effect x.0 x.1)) e
 
 cons_after : (o : Option Placed) (xs ys : List Placed) → cons_option o (xs ++ ys) ≡ cons_option o xs ++ ys
 cons_after None xs ys = refl
@@ -55,21 +53,13 @@ unchanged bodies i t = append-nil (bodies t) i
 
 -- ---- the machine's transactions
 
-pub all_map : {X : Type 0} (P Q : X → Type 0) → ((x : X) → P x → Q x) → (xs : List X) → AllByRecursion P xs → AllByRecursion Q xs
-all_map P Q f [] a = tt
-all_map P Q f (x ∷ xs) a = (f x a.0, all_map P Q f xs a.1)
-
-pub all_push : {X : Type 0} (P : X → Type 0) (xs : List X) (y : X) → AllByRecursion P xs → P y → AllByRecursion P (xs ++ y ∷ [])
-all_push P [] y a h = (h, tt)
-all_push P (x ∷ xs) y a h = (a.0, all_push P xs y a.1 h)
-
 pub all_without : (P : Transaction → Type 0) (t : ℕ) (xs : List Transaction) → AllByRecursion P xs → AllByRecursion P (without t xs)
 all_without P t [] a = tt
 all_without P t (x ∷ xs) a = cond_both (not (x.0 == t)) (x ∷ without t xs) (without t xs) (AllByRecursion P) (λ _. (a.0, all_without P t xs a.1)) (λ _. all_without P t xs a.1)
 
 rise_push : (xs : List Transaction) (y : Transaction) → Rise xs → AllByRecursion (λ (x : Transaction). x.0 < y.0) xs → Rise (xs ++ y ∷ [])
 rise_push [] y r a = (tt, tt)
-rise_push (x ∷ xs) y r a = (all_push (λ (z : Transaction). x.0 < z.0) xs y r.0 a.0, rise_push xs y r.1 a.1)
+rise_push (x ∷ xs) y r a = (AllByRecursion-push (λ (z : Transaction). x.0 < z.0) xs y r.0 a.0, rise_push xs y r.1 a.1)
 
 rise_without : (t : ℕ) (xs : List Transaction) → Rise xs → Rise (without t xs)
 rise_without t [] r = tt
@@ -149,9 +139,9 @@ module _ (p p' : Pass) (bodies : Bodies) (s : State) (h : StandsAt p bodies s) w
         locks = l ∙ ap (λ table. entered table t) h.locks ∙ entered_is s.active t;
         committed = m ∙ h.committed;
         ordinary = record {
-          below = all_push (λ (x : Transaction). x.0 ≤ s.begun + 1) s.active (t, []) (all_map (λ (x : Transaction). x.0 ≤ s.begun) (λ (x : Transaction). x.0 ≤ s.begun + 1) (λ x low. omega arith) s.active h.ordinary.below) (omega arith);
-          rising = rise_push s.active (t, []) h.ordinary.rising (all_map (λ (x : Transaction). x.0 ≤ s.begun) (λ (x : Transaction). x.0 < t) (λ x low. omega arith) s.active h.ordinary.below);
-          made = all_push (λ (x : Transaction). x.1 ≡ answered_of (bodies x.0)) s.active (t, []) h.ordinary.made (ap answered_of (sym none));
+          below = AllByRecursion-push (λ (x : Transaction). x.0 ≤ s.begun + 1) s.active (t, []) (AllByRecursion-map (λ (x : Transaction). x.0 ≤ s.begun) (λ (x : Transaction). x.0 ≤ s.begun + 1) (λ x low. omega arith) s.active h.ordinary.below) (omega arith);
+          rising = rise_push s.active (t, []) h.ordinary.rising (AllByRecursion-map (λ (x : Transaction). x.0 ≤ s.begun) (λ (x : Transaction). x.0 < t) (λ x low. omega arith) s.active h.ordinary.below);
+          made = AllByRecursion-push (λ (x : Transaction). x.1 ≡ answered_of (bodies x.0)) s.active (t, []) h.ordinary.made (ap answered_of (sym none));
           new = λ u above. h.ordinary.new u (omega arith);
         };
       }

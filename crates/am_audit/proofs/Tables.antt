@@ -2,29 +2,27 @@
 use Rattle.std.proofs.Common.{◌≡◌, ℕ, ◌<◌, ◌≤◌, List, [], ◌∷◌, ◌++◌, length, map, take, Bool, true, false, cond, refl, sym, ap, ◌∙◌, subst, ⊎_elim, Option, Some, None, All, arith, length-append}
 use Rattle.std.specs.Prelude.{◌==◌, ◌&&◌, ◌||◌, ◌↔◌, not, filter, nat_le}
 use Rattle.std.specs.List.{AllByRecursion, list_any}
-use Rattle.std.proofs.lemmas.Bool.{cases_Bool, leb-true, cond-true, cond-false, cond_both, both_ways, or_cases, eqb-true, eqb-false, eq-eqb, ne_eqb, false≢true}
+use Rattle.std.proofs.lemmas.Bool.{cases_Bool, leb-true, cond-true, cond-false, cond_both, eqb-true, eq-eqb, ne_eqb}
 use Rattle.std.proofs.lemmas.List.{map-append}
-use Rattle.std.proofs.lemmas.List.Elements.{All-nil, All-cons, All-head, All-contains}
+use Rattle.std.proofs.lemmas.List.Elements.{All-nil, All-cons}
+use Rattle.std.proofs.lemmas.Cmp.{nat_eq_equiv}
 use Rattle.am_record.specs.Locks.{conflicts, is_covered, with_lock}
-use Rattle.am_record.specs.Asks.{lock_of, with_asked, locks_from, locks_of as locks_by}
+use Rattle.am_record.specs.Asks.{lock_of, with_asked, locks_of as locks_by}
 use Rattle.am_record.specs.declared.lock.Lock.{Lock}
 use Rattle.am_record.specs.declared.step.Op.{Op}
 use Rattle.am_record.specs.declared.step.Reply.{Reply}
+use Rattle.am_record.proofs.Bodies.{locks_from_push, asked_behind}
 use Rattle.am_locks.specs.Held.{Held, blocks}
 use Rattle.am_locks.specs.Table.{is_owner, locks_of, with_locks, relocked, without as released, blockers, entered}
 use Rattle.am_locks.specs.Answers.{IsLeastOf, MatchBusy}
 use Rattle.am_locks.specs.declared.asked.Asked.{Asked}
 use Rattle.am_locks.specs.declared.asked.Asked.TheVariants.{Granted, Busy, TooManyLocks, NoMemory}
+use Rattle.am_locks.proofs.FirstOwners.{first_of, one_first, FirstLow, least_first}
+use Rattle.am_locks.proofs.Laws.{locks_of-with_locks, is_owner-with_locks}
 use Rattle.am_serial.specs.Trace.{Answered, ops_of}
 use Rattle.am_record.specs.Refusals.{is_one_too_many}
 use Rattle.am_serial.specs.Machine.{Transaction, is_open, body_in, locks_in, blocker, extended, without}
 use Rattle.am_audit.specs.Standing.{held_of, Rise, IsAnswerTo}
-
-pub turned : (a b : ℕ) → (a == b) ≡ (b == a)
-turned a b = ⊎_elim
-    (λ same. same ∙ sym (eq-eqb b a (sym (eqb-true a b same))))
-    (λ other. other ∙ sym (ne_eqb b a (λ e. eqb-false a b other (sym e))))
-    (cases_Bool (a == b))
 
 abbrev table_of : List Transaction → List Held
 table_of txs = map held_of txs
@@ -33,29 +31,21 @@ table_of txs = map held_of txs
 
 pub owners_are : (txs : List Transaction) (t : ℕ) → is_owner (map held_of txs) t ≡ is_open txs t
 owners_are [] t = refl
-owners_are (x ∷ txs) t = λ i. turned x.0 t i || owners_are txs t i
+owners_are (x ∷ txs) t = λ i. nat_eq_equiv.symm x.0 t i || owners_are txs t i
 
 pub locks_are : (txs : List Transaction) (t : ℕ) → locks_of (map held_of txs) t ≡ locks_in txs t
 locks_are [] t = refl
 locks_are (x ∷ txs) t =
-    (λ i. cond (turned x.0 t i) (locks_by (ops_of x.1)) (locks_are txs t i))
+    (λ i. cond (nat_eq_equiv.symm x.0 t i) (locks_by (ops_of x.1)) (locks_are txs t i))
     ∙ elim (t == x.0) as (λ b. cond b (locks_by (ops_of x.1)) (locks_in txs t) ≡ locks_by (ops_of (cond b x.1 (body_in txs t)))) [ true ↦ refl | false ↦ refl ]
 
 -- ---- the first blocker is the least
-
-abbrev first_of : List ℕ → Option ℕ
-first_of [] = None
-first_of (n ∷ ns) = Some n
-
-one_first : (b : Bool) (h : Held) (rest : List Held) → first_of (map (λ (h : Held). h.owner) (cond b (h ∷ rest) rest)) ≡ cond b (Some h.owner) (first_of (map (λ (h : Held). h.owner) rest))
-one_first true h rest = refl
-one_first false h rest = refl
 
 blocker_first : (txs : List Transaction) (t : ℕ) (asked : Lock) → first_of (blockers (map held_of txs) t asked) ≡ blocker txs t (Some asked)
 blocker_first [] t asked = refl
 blocker_first (x ∷ txs) t asked =
     one_first (blocks t asked (held_of x)) (held_of x) (filter (blocks t asked) (map held_of txs))
-    ∙ (λ i. cond (not (turned x.0 t i) && list_any (conflicts asked) (locks_by (ops_of x.1))) (Some x.0) (blocker_first txs t asked i))
+    ∙ (λ i. cond (not (nat_eq_equiv.symm x.0 t i) && list_any (conflicts asked) (locks_by (ops_of x.1))) (Some x.0) (blocker_first txs t asked i))
 
 module _ (test : Held → Bool) where
   low : (m : ℕ) (txs : List Transaction) → AllByRecursion (λ (y : Transaction). m < y.0) txs → All (λ k. m ≤ k) (map (λ (h : Held). h.owner) (filter test (map held_of txs)))
@@ -68,10 +58,6 @@ module _ (test : Held → Bool) where
         | false ↦ rest
       ]
 
-  abbrev FirstLow : List ℕ → Type 0
-  FirstLow [] = Unit {0}
-  FirstLow (n ∷ ns) = All (λ k. n ≤ k) (n ∷ ns)
-
   first_low : (txs : List Transaction) → Rise txs → FirstLow (map (λ (h : Held). h.owner) (filter test (map held_of txs)))
   first_low [] r = tt
   first_low (x ∷ txs) r =
@@ -82,16 +68,8 @@ module _ (test : Held → Bool) where
         | false ↦ rest
       ]
 
-  least_first : (ns : List ℕ) (h : ℕ) → FirstLow ns → IsLeastOf ns h → first_of ns ≡ Some h
-  least_first [] h f l = absurd (All-contains (λ k. ⊥) [] h (All-nil (λ k. ⊥)) l.one_of_them)
-  least_first (n ∷ ns) h f l =
-      let up : n ≤ h = All-contains (λ k. n ≤ k) (n ∷ ns) h f l.one_of_them in
-      let down : h ≤ n = All-head (λ k. h ≤ k) n ns l.least in
-      let same : n ≡ h = omega arith in
-      ap (λ k. Some k) same
-
 pub blocked : (txs : List Transaction) (t : ℕ) (asked : Lock) (h : ℕ) → Rise txs → IsLeastOf (blockers (map held_of txs) t asked) h → blocker txs t (Some asked) ≡ Some h
-blocked txs t asked h rise least = sym (blocker_first txs t asked) ∙ least_first (blocks t asked) (blockers (map held_of txs) t asked) h (first_low (blocks t asked) txs rise) least
+blocked txs t asked h rise least = sym (blocker_first txs t asked) ∙ least_first (blockers (map held_of txs) t asked) h (first_low (blocks t asked) txs rise) least
 
 pub free : (txs : List Transaction) (t : ℕ) (asked : Lock) → blockers (map held_of txs) t asked ≡ [] → blocker txs t (Some asked) ≡ None
 free txs t asked none = sym (blocker_first txs t asked) ∙ ap first_of none
@@ -149,10 +127,6 @@ relocked_same txs t r =
     (λ x other. refl)
     ∙ ap (map held_of) (map_id txs)
 
-locks_from_push : (ops : List Op) (op : Op) (locks : List Lock) → locks_from locks (ops ++ op ∷ []) ≡ with_asked (locks_from locks ops) (lock_of op)
-locks_from_push [] op locks = refl
-locks_from_push (o ∷ ops) op locks = locks_from_push ops op (with_asked locks (lock_of o))
-
 pub relocked_done : (txs : List Transaction) (t : ℕ) (op : Op) (reply : Reply) → Rise txs → with_locks (map held_of txs) t (with_asked (locks_in txs t) (lock_of op)) ≡ map held_of (map (extended t (op, reply)) txs)
 relocked_done txs t op reply r =
     relocked_all (extended t (op, reply)) t (with_asked (locks_in txs t) (lock_of op)) txs txs (own_bodies txs t r)
@@ -162,7 +136,7 @@ relocked_done txs t op reply r =
     ∙ locks_from_push (ops_of x.1) op []
     ∙ ap (λ (d : List Answered). with_asked (locks_by (ops_of d)) (lock_of op)) b
     ))
-    (λ x other. same_held x.0 x.0 _ _ refl (ap (λ (d : List Answered). locks_by (ops_of d)) (cond-false (t == x.0) (x.1 ++ (op, reply) ∷ []) x.1 (turned t x.0 ∙ other))))
+    (λ x other. same_held x.0 x.0 _ _ refl (ap (λ (d : List Answered). locks_by (ops_of d)) (cond-false (t == x.0) (x.1 ++ (op, reply) ∷ []) x.1 (nat_eq_equiv.symm t x.0 ∙ other))))
 
 -- ---- a lock that is given back
 
@@ -177,39 +151,9 @@ relocked_twice (h ∷ table) t ls ms =
     at true e = ap (relocked t ms) (cond-true (h.owner == t) (record { owner = h.owner; locks = ls }) h e) ∙ cond-true (h.owner == t) (record { owner = h.owner; locks = ms }) (record { owner = h.owner; locks = ls }) e ∙ sym (cond-true (h.owner == t) (record { owner = h.owner; locks = ms }) h e)
     at false e = ap (relocked t ms) (cond-false (h.owner == t) (record { owner = h.owner; locks = ls }) h e)
 
-relocked_locks : (table : List Held) (t : ℕ) (ls : List Lock) → is_owner table t ≡ true → locks_of (with_locks table t ls) t ≡ ls
-relocked_locks [] t ls on = absurd (false≢true on)
-relocked_locks (h ∷ table) t ls on = at (h.owner == t) refl (λ k. relocked_locks table t ls k)
-  where
-    at : (b : Bool) → (h.owner == t) ≡ b → (is_owner table t ≡ true → locks_of (with_locks table t ls) t ≡ ls) → locks_of (relocked t ls h ∷ with_locks table t ls) t ≡ ls
-    at true e rest =
-        ap (λ (k : Held). locks_of (k ∷ with_locks table t ls) t) (cond-true (h.owner == t) (record { owner = h.owner; locks = ls }) h e)
-        ∙ cond-true (h.owner == t) ls (locks_of (with_locks table t ls) t) e
-    at false e rest =
-        ap (λ (k : Held). locks_of (k ∷ with_locks table t ls) t) (cond-false (h.owner == t) (record { owner = h.owner; locks = ls }) h e)
-        ∙ cond-false (h.owner == t) h.locks (locks_of (with_locks table t ls) t) e
-        ∙ rest (⊎_elim (λ here. absurd (both_ways (h.owner == t) e here)) (λ later. later) (or_cases (h.owner == t) (is_owner table t) on))
-
-pub relocked_owner : (table : List Held) (t u : ℕ) (ls : List Lock) → is_owner (with_locks table t ls) u ≡ is_owner table u
-relocked_owner [] t u ls = refl
-relocked_owner (h ∷ table) t u ls =
-    let first : ((relocked t ls h).owner == u) ≡ (h.owner == u) = elim (h.owner == t) as (λ b. ((cond b (record { owner = h.owner; locks = ls }) h).owner == u) ≡ (h.owner == u)) [ true ↦ refl | false ↦ refl ] in
-    λ i. first i || relocked_owner table t u ls i
-
 take_all : (ls : List Lock) → take (length ls) ls ≡ ls
 take_all [] = refl
 take_all (l ∷ ls) = ap (λ xs. l ∷ xs) (take_all ls)
-
-begins_with : (own : List Lock) (asked : Option Lock) → take (length own) (with_asked own asked) ≡ own
-begins_with own None = take_all own
-begins_with own (Some asked) =
-    cond_both (is_covered own asked) own (own ++ asked ∷ []) (λ ls. take (length own) ls ≡ own)
-    (λ _. take_all own)
-    (λ _. front own)
-  where
-    front : (ls : List Lock) → take (length ls) (ls ++ asked ∷ []) ≡ ls
-    front [] = refl
-    front (l ∷ ls) = ap (λ xs. l ∷ xs) (front ls)
 
 longer : (own : List Lock) (asked : Option Lock) → length own ≤ length (with_asked own asked)
 longer own None = omega arith
@@ -220,10 +164,10 @@ module _ (txs : List Transaction) (t : ℕ) (asked : Option Lock) (r : Rise txs)
   owner = owners_are txs t ∙ on
 
   pub still_owner : is_owner granted t ≡ true
-  still_owner = ap (λ (table : List Held). is_owner table t) is ∙ relocked_owner (map held_of txs) t t (with_asked (locks_in txs t) asked) ∙ owner
+  still_owner = ap (λ (table : List Held). is_owner table t) is ∙ is_owner-with_locks (map held_of txs) t t (with_asked (locks_in txs t) asked) ∙ owner
 
   new_locks : locks_of granted t ≡ with_asked (locks_in txs t) asked
-  new_locks = ap (λ (table : List Held). locks_of table t) is ∙ relocked_locks (map held_of txs) t (with_asked (locks_in txs t) asked) owner
+  new_locks = ap (λ (table : List Held). locks_of table t) is ∙ locks_of-with_locks (map held_of txs) t (with_asked (locks_in txs t) asked) owner
 
   pub held_before : (n : ℕ) → n ≡ length (locks_of (map held_of txs) t) → n ≤ length (locks_of granted t)
   held_before n e =
@@ -233,7 +177,7 @@ module _ (txs : List Transaction) (t : ℕ) (asked : Option Lock) (r : Rise txs)
   pub given_back : (n : ℕ) → n ≡ length (locks_of (map held_of txs) t) → with_locks granted t (take n (locks_of granted t)) ≡ map held_of txs
   given_back n e =
       (λ i. with_locks (is i) t (take ((e ∙ ap length (locks_are txs t)) i) (new_locks i)))
-      ∙ ap (with_locks (with_locks (map held_of txs) t (with_asked (locks_in txs t) asked)) t) (begins_with (locks_in txs t) asked)
+      ∙ ap (with_locks (with_locks (map held_of txs) t (with_asked (locks_in txs t) asked)) t) (asked_behind (locks_in txs t) asked)
       ∙ relocked_twice (map held_of txs) t (with_asked (locks_in txs t) asked) (locks_in txs t)
       ∙ relocked_same txs t r
 

@@ -82,7 +82,3 @@ is_whole text v rest line audit h none = record {
   events = h.events;
   spelled = h.spelled ∙ ap (λ l. trace_text v h.seen ++ l) none ∙ append-nil (trace_text v h.seen);
 }
-
-pub is_nothing : (rest : List ℕ) → length rest ≡ 0 → rest ≡ []
-is_nothing [] e = refl
-is_nothing (b ∷ rest) e = absurd (omega (arith, e))

@@ -1,15 +1,15 @@
 -- The table of transactions, seen as the list of the active ones.
-use Rattle.std.proofs.Common.{◌≡◌, ◌≢◌, ◌<◌, ◌+◌, ℕ, List, [], ◌∷◌, ◌++◌, length, map, filter, take, Option, Some, None, Bool, true, false, cond, not, ◌==◌, ◌||◌, refl, sym, ap, ◌∙◌, subst, ⊎_elim, All, arith}
+use Rattle.std.proofs.Common.{◌≡◌, ◌≢◌, ◌<◌, ◌+◌, ℕ, List, [], ◌∷◌, ◌++◌, length, map, filter, take, Option, Bool, true, false, cond, not, ◌==◌, ◌||◌, refl, sym, ap, ◌∙◌, subst, ⊎_elim, All, arith}
 use Rattle.std.specs.List.{AllByRecursion}
 use Rattle.std.proofs.lemmas.Bool.{cases_Bool, cond-true, cond-false, both_ways, eqb-true, eqb-false, eq-eqb, ne_eqb, false≢true, or_left, or_right}
-use Rattle.std.proofs.Math.Seq.{take-length, take-append_seam}
 use Rattle.std.proofs.lemmas.List.{map-append}
 use Rattle.std.proofs.lemmas.List.Elements.{All-head, All-tail}
-use Rattle.am_record.specs.Locks.{is_covered}
+use Rattle.std.proofs.lemmas.Cmp.{nat_eq_equiv}
 use Rattle.am_record.specs.Asks.{lock_of, with_asked}
 use Rattle.am_record.specs.declared.lock.Lock.{Lock}
 use Rattle.am_record.specs.declared.step.Op.{Op}
 use Rattle.am_record.specs.declared.step.Reply.{Reply}
+use Rattle.am_record.proofs.Bodies.{asked_behind}
 use Rattle.am_locks.specs.Held.{Held}
 use Rattle.am_locks.specs.Table.{is_owner, locks_of, entered, with_locks, without}
 use Rattle.am_locks.proofs.Laws.{locks_of-with_locks, locks_of-with_locks_other, locks_of-entered, locks_of-without}
@@ -26,35 +26,29 @@ use Rattle.am_sound.specs.Tables as tables
 use Rattle.am_core.specs.Keeping.{active_with, actives}
 use Rattle.am_core.specs.Asking.{HasLocks}
 
-pub turned : (a b : ℕ) → (a == b) ≡ (b == a)
-turned a b = ⊎_elim
-    (λ yes. yes ∙ sym (eq-eqb b a (sym (eqb-true a b yes))))
-    (λ other. other ∙ sym (ne_eqb b a (λ e. eqb-false a b other (sym e))))
-    (cases_Bool (a == b))
-
 -- ---- what is known of a transaction
 
 module _ (locks : ℕ → List Lock) where
   pub is_in-actives : (xs : List Transaction) (t : ℕ) → is_in (map (active_with locks) xs) t ≡ is_active xs t
   is_in-actives [] t = refl
-  is_in-actives (x ∷ xs) t = λ i. turned t x.number i || is_in-actives xs t i
+  is_in-actives (x ∷ xs) t = λ i. nat_eq_equiv.symm t x.number i || is_in-actives xs t i
 
   pub ops-actives : (xs : List Transaction) (t : ℕ) → (in_table (map (active_with locks) xs) t).ops ≡ ops_of xs t
   ops-actives [] t = refl
   ops-actives (x ∷ xs) t =
-      ap (λ b. (cond b (active_with locks x) (in_table (map (active_with locks) xs) t)).ops) (turned t x.number)
+      ap (λ b. (cond b (active_with locks x) (in_table (map (active_with locks) xs) t)).ops) (nat_eq_equiv.symm t x.number)
       ∙ elim (x.number == t) as (λ b. (cond b (active_with locks x) (in_table (map (active_with locks) xs) t)).ops ≡ cond b x.ops (ops_of xs t)) [ true ↦ refl | false ↦ ops-actives xs t ]
 
   pub notes-actives : (xs : List Transaction) (t : ℕ) → (in_table (map (active_with locks) xs) t).notes ≡ (log_of xs t).notes
   notes-actives [] t = refl
   notes-actives (x ∷ xs) t =
-      ap (λ b. (cond b (active_with locks x) (in_table (map (active_with locks) xs) t)).notes) (turned t x.number)
+      ap (λ b. (cond b (active_with locks x) (in_table (map (active_with locks) xs) t)).notes) (nat_eq_equiv.symm t x.number)
       ∙ elim (x.number == t) as (λ b. (cond b (active_with locks x) (in_table (map (active_with locks) xs) t)).notes ≡ (cond b x.log (log_of xs t)).notes) [ true ↦ refl | false ↦ notes-actives xs t ]
 
   pub marks-actives : (xs : List Transaction) (t : ℕ) → (in_table (map (active_with locks) xs) t).marks ≡ (log_of xs t).marks
   marks-actives [] t = refl
   marks-actives (x ∷ xs) t =
-      ap (λ b. (cond b (active_with locks x) (in_table (map (active_with locks) xs) t)).marks) (turned t x.number)
+      ap (λ b. (cond b (active_with locks x) (in_table (map (active_with locks) xs) t)).marks) (nat_eq_equiv.symm t x.number)
       ∙ elim (x.number == t) as (λ b. (cond b (active_with locks x) (in_table (map (active_with locks) xs) t)).marks ≡ (cond b x.log (log_of xs t)).marks) [ true ↦ refl | false ↦ marks-actives xs t ]
 
   its_locks : (x : Transaction) (rest : Active) (t : ℕ) (b c : Bool) → (x.number == t) ≡ b → (b || c) ≡ true → (c ≡ true → rest.locks ≡ locks t) → (cond b (active_with locks x) rest).locks ≡ locks t
@@ -64,7 +58,7 @@ module _ (locks : ℕ → List Lock) where
   pub locks-actives : (xs : List Transaction) (t : ℕ) → is_active xs t ≡ true → (in_table (map (active_with locks) xs) t).locks ≡ locks t
   locks-actives [] t a = absurd (false≢true a)
   locks-actives (x ∷ xs) t a =
-      ap (λ b. (cond b (active_with locks x) (in_table (map (active_with locks) xs) t)).locks) (turned t x.number)
+      ap (λ b. (cond b (active_with locks x) (in_table (map (active_with locks) xs) t)).locks) (nat_eq_equiv.symm t x.number)
       ∙ its_locks x (in_table (map (active_with locks) xs) t) t (x.number == t) (is_active xs t) refl a (locks-actives xs t)
 
   -- ---- by rising number
@@ -217,13 +211,13 @@ module _ (look look' : ℕ → List Lock) (tx : ℕ) (op : Op) (reply : Reply) (
       (λ i. active_with look' (cond ((cond (here i) (record x { log = log' }) x).number == tx) (let y : Transaction = cond (here i) (record x { log = log' }) x in record y { ops = y.ops + 1 }) (cond (here i) (record x { log = log' }) x)))
       ∙ (λ i. active_with look' (cond (here i) (let y : Transaction = record x { log = log' } in record y { ops = x.ops + 1 }) (let y : Transaction = record x { log = log' } in y)))
       ∙ (λ i. record { number = x.number; ops = x.ops + 1; locks = locks i; notes = ns i; marks = ms i })
-      ∙ sym (cond-true (tx == x.number) (record { number = x.number; ops = x.ops + 1; locks = with_asked (look x.number) (lock_of op); notes = new ++ notes_left op reply x.log.marks x.log.notes; marks = marks_left op reply (length x.log.notes) x.log.marks }) (active_with look x) (turned tx x.number ∙ here)))
+      ∙ sym (cond-true (tx == x.number) (record { number = x.number; ops = x.ops + 1; locks = with_asked (look x.number) (lock_of op); notes = new ++ notes_left op reply x.log.marks x.log.notes; marks = marks_left op reply (length x.log.notes) x.log.marks }) (active_with look x) (nat_eq_equiv.symm tx x.number ∙ here)))
       (λ other.
       let differs : x.number ≢ tx = eqb-false x.number tx other in
       (λ i. active_with look' (cond ((cond (other i) (record x { log = log' }) x).number == tx) (let y : Transaction = cond (other i) (record x { log = log' }) x in record y { ops = y.ops + 1 }) (cond (other i) (record x { log = log' }) x)))
       ∙ (λ i. active_with look' (cond (other i) (record x { ops = x.ops + 1 }) x))
       ∙ (λ i. record { number = x.number; ops = x.ops; locks = others x.number differs i; notes = x.log.notes; marks = x.log.marks })
-      ∙ sym (cond-false (tx == x.number) (record { number = x.number; ops = x.ops + 1; locks = with_asked (look x.number) (lock_of op); notes = new ++ notes_left op reply x.log.marks x.log.notes; marks = marks_left op reply (length x.log.notes) x.log.marks }) (active_with look x) (turned tx x.number ∙ other)))
+      ∙ sym (cond-false (tx == x.number) (record { number = x.number; ops = x.ops + 1; locks = with_asked (look x.number) (lock_of op); notes = new ++ notes_left op reply x.log.marks x.log.notes; marks = marks_left op reply (length x.log.notes) x.log.marks }) (active_with look x) (nat_eq_equiv.symm tx x.number ∙ other)))
       (cases_Bool (x.number == tx))
 
   did_each : (xs : List Transaction) → HaveLog tx log xs
@@ -262,10 +256,6 @@ module _ (look look' : ℕ → List Lock) (tx : ℕ) (log log' : Log) (same : (u
   undid_each [] h = refl
   undid_each (x ∷ xs) h = λ i. undid_one x h.0 i ∷ undid_each xs h.1 i
 
-taken_off : (own : List Lock) (asked : Option Lock) → take (length own) (with_asked own asked) ≡ own
-taken_off own None = take-length own
-taken_off own (Some asked) = elim (is_covered own asked) as (λ b. take (length own) (cond b own (own ++ asked ∷ [])) ≡ own) [ true ↦ take-length own | false ↦ take-append_seam own (asked ∷ []) ]
-
 -- the lock is cut again, and the log is as it was
 pub actives-undid : (t t1 t2 t3 : Txs) (tx held : ℕ) (asked : Option Lock) (log' : Log) → IsConsistent t → HasLocks t tx (with_asked (locks_of t.locks tx) asked) t1
     → t2 ≡ txs.with_log t1 tx log' → held ≡ length (locks_of t.locks tx) → t3 ≡ record t2 { locks = with_locks t2.locks tx (take held (locks_of t2.locks tx)) }
@@ -273,7 +263,7 @@ pub actives-undid : (t t1 t2 t3 : Txs) (tx held : ℕ) (asked : Option Lock) (lo
     → actives t3 ≡ actives t
 actives-undid t t1 t2 t3 tx held asked log' ok has written before cut notes marks =
     let kept = take held (locks_of t1.locks tx) in
-    let own : kept ≡ locks_of t.locks tx = (λ i. take (before i) (has.holds i)) ∙ taken_off (locks_of t.locks tx) asked in
+    let own : kept ≡ locks_of t.locks tx = (λ i. take (before i) (has.holds i)) ∙ asked_behind (locks_of t.locks tx) asked in
     let same : (u : ℕ) → locks_of (with_locks t1.locks tx kept) u ≡ locks_of t.locks u = λ u. ⊎_elim
     (λ yes. let is : u ≡ tx = eqb-true u tx yes in ap (locks_of (with_locks t1.locks tx kept)) is ∙ locks_of-with_locks t1.locks tx kept has.owner ∙ own ∙ ap (locks_of t.locks) (sym is))
     (λ other. let differs : u ≢ tx = eqb-false u tx other in locks_of-with_locks_other t1.locks tx u kept differs ∙ has.others u differs)

@@ -10,11 +10,11 @@ use Rattle.std.proofs.lemmas.List.{append-nil}
 use Rattle.am_record.specs.OrderedKey.{OrderedKey, key_cmp, IsLeast}
 use Rattle.am_record.specs.EntryOrder.{place_of, place_cmp, place_cmp-part, place_cmp-total, place_cmp-same}
 use Rattle.am_record.specs.declared.entry.Entry.{Entry}
+use Rattle.am_record.proofs.Lists.{AllByRecursion-map, AllByRecursion-append, AllByRecursion-back}
+use Rattle.am_record.proofs.PlaceOrder.{turned_less, turned_greater, lower_part}
 use Rattle.am_list.specs.Entries.{next_any, after, IsRising}
 use Rattle.am_list.specs.Places.{AllBelow, NoneBelow, AllAbove, only_of}
-use Rattle.am_list.proofs.Order.{turned_less, turned_greater}
-use Rattle.am_list.proofs.Lists.{AllByRecursion-map, AllByRecursion-append, AllByRecursion-back, rising_back, next_any-append, next_any_front, after-append, after_front}
-use Rattle.am_merge.proofs.Walks.{below_part}
+use Rattle.am_list.proofs.Lists.{rising_back, next_any-append, next_any_front, after-append, after_front, below_itself}
 use Rattle.am_parts.specs.Partitions.{IsSound}
 use Rattle.am_core.specs.Listing.{IsListed}
 
@@ -63,10 +63,6 @@ pub ends : (es done : List Entry) (next : Option Entry) → IsListed es done nex
 ends es done next l is = sym (append-nil done) ∙ ap (λ (rs : List Entry). done ++ rs) (sym (nothing l.rest (sym is ∙ l.at))) ∙ sym l.all
 
 -- ---- the entry behind one
-
-below_itself : (before : List Entry) (e : Entry) (behind : List Entry) → IsRising (before ++ e ∷ behind) → AllBelow (place_of e) before
-below_itself [] e behind r = tt
-below_itself (x ∷ xs) e behind r = ((AllByRecursion-back (λ (f : Entry). place_cmp (place_of x) (place_of f) ≡ Less) xs (e ∷ behind) r.0).0, below_itself xs e behind r.1)
 
 module _ (es : List Entry) (e : Entry) (sound : IsSound es) (before behind : List Entry) (is : es ≡ before ++ e ∷ behind) where
   rising : IsRising (before ++ e ∷ behind)
@@ -124,7 +120,7 @@ module _ (es : List Entry) (e : Entry) (sound : IsSound es) (before behind : Lis
 
   passed : (part : ℕ) (least : OrderedKey) → part ≡ e.part + 1 → AllBelow (part, least) (before ++ e ∷ [])
   passed part least is_next = AllByRecursion-map (λ (x : Entry). place_cmp (place_of x) (place_of e) ≢ Greater) (λ (x : Entry). place_cmp (place_of x) (part, least) ≡ Less)
-      (λ x n. let le : x.part ≤ e.part = place_cmp-part (place_of x) (place_of e) n in below_part (place_of x) (part, least) (omega arith)) (before ++ e ∷ []) front
+      (λ x n. let le : x.part ≤ e.part = place_cmp-part (place_of x) (place_of e) n in lower_part (place_of x) (part, least) (omega arith)) (before ++ e ∷ []) front
 
   pub there : (r : Option Entry) (part : ℕ) (least : OrderedKey) → IsLeast least → None ≡ after es e.part e.key → part ≡ e.part + 1 → r ≡ next_any es part least → r ≡ slice_get behind 0
   there r part least is_least none is_next found =

@@ -4,6 +4,7 @@ use Rattle.std.specs.Prelude.{MatchOption, MatchBool, is_none, nat_le, ◌&&◌}
 use Rattle.std.proofs.lemmas.Bool.{cases_Bool, or_cases, both_ways, false≢true, and_parts, leb-true}
 use Rattle.std.specs.List.{prefix_len}
 use Rattle.std.proofs.lemmas.List.{length-take, length-map}
+use Rattle.std.proofs.lemmas.Cmp.{nat_eq_equiv}
 use Rattle.am_record.specs.Interval.{Interval, within}
 use Rattle.am_record.specs.Plain.{PlainMap, scan_rows, rows_where}
 use Rattle.am_record.specs.declared.entry.Entry.{Entry}
@@ -30,7 +31,7 @@ use Rattle.am_tx.specs.Active.{is_active}
 use Rattle.am_tx.specs.Txs.{Txs}
 use Rattle.am_core.specs.Standing.{IsWithin}
 use Rattle.am_effect.specs.Store.{noted}
-use Rattle.am_core.proofs.Actives.{turned, length-actives}
+use Rattle.am_core.proofs.Actives.{length-actives}
 use Rattle.am_core.proofs.Merges.{none_merged}
 
 -- ---- want of memory
@@ -81,7 +82,7 @@ one_less t (x ∷ xs) h =
     ⊎_elim
     (λ here. let gone : length (cond (not (x.number == t)) (x ∷ without_tx t xs) (without_tx t xs)) ≡ length (without_tx t xs) = ap (λ b. length (cond (not b) (x ∷ without_tx t xs) (without_tx t xs))) here in omega (arith, gone, most_left))
     (λ other.
-    let later = ⊎_elim (λ yes. absurd (both_ways (t == x.number) (turned t x.number ∙ other) yes)) (λ rest. rest) (or_cases (t == x.number) (is_in xs t) h) in
+    let later = ⊎_elim (λ yes. absurd (both_ways (t == x.number) (nat_eq_equiv.symm t x.number ∙ other) yes)) (λ rest. rest) (or_cases (t == x.number) (is_in xs t) h) in
     let ih = one_less t xs later in
     let stays : length (cond (not (x.number == t)) (x ∷ without_tx t xs) (without_tx t xs)) ≡ suc (length (without_tx t xs)) = ap (λ b. length (cond (not b) (x ∷ without_tx t xs) (without_tx t xs))) other in
     omega (arith, stays, ih))

@@ -11,21 +11,22 @@ use Rattle.am_record.specs.Interval.{Interval, key_le, key_le-itself, within}
 use Rattle.am_record.specs.EntryOrder.{Place, place_of, place_cmp, place_cmp-total, place_cmp-equal}
 use Rattle.am_record.specs.declared.entry.Entry.{Entry}
 use Rattle.am_record.specs.declared.step.Reply.TheVariants.{Cleaned}
+use Rattle.am_record.proofs.Lists.{AllByRecursion-map, filter-yes, filter-no, none_first}
+use Rattle.am_record.proofs.Orderings.{lt_le}
 use Rattle.am_list.specs.Entries.{first_such, entry_at, find, remove_entry, IsRising}
-use Rattle.am_list.specs.Edits.{same_place}
 use Rattle.am_list.specs.Content.{content}
-use Rattle.am_list.proofs.Lists.{AllByRecursion-map}
-use Rattle.am_list.proofs.Edits.{first_such_passes, entry_at_slot, same_place-itself, remove-hit, remove-miss, rising_removed}
+use Rattle.am_list.proofs.Edits.{first_such_passes, entry_at_slot, rising_removed, filter-removed}
 use Rattle.am_list.proofs.Content.{all_found}
+use Rattle.am_list.proofs.WalkLaws.{first_stands}
 use Rattle.am_parts.specs.Partitions.{IsSound}
 use Rattle.am_effect.specs.Merging.{Holders, worked_off, all_worked_off, cleanable, CleanRight}
-use Rattle.am_effect.proofs.Lists.{rising-filter, All-filtered}
+use Rattle.am_effect.proofs.Lists.{rising-filter}
 use Rattle.am_effect.proofs.Maintenance.{clean_maintains}
 use Rattle.am_effect.proofs.Knowing.{known_laws}
 use Rattle.am_merge.specs.Walks.{later, is_from, ghost_from, GoesOnAt}
 use Rattle.am_merge.specs.Steps.{is_cleanable, HasPassedNone}
-use Rattle.am_merge.proofs.Firsts.{comes_to, All-zip, All-any, All-passed, none_under, first_comes, first_is, first_stands, first_head, no_head, a_head}
-use Rattle.am_merge.proofs.Walks.{lt_le, le_trans, lo_le}
+use Rattle.am_merge.proofs.Firsts.{comes_to, All-zip, All-any, All-passed, none_under, first_comes, first_is, first_head, no_head, a_head}
+use Rattle.am_merge.proofs.Walks.{le_trans, lo_le}
 use Rattle.am_merge.proofs.Passing.{take-next, drop-next}
 use Rattle.am_merge.proofs.Homing.{ghost_goes}
 
@@ -41,12 +42,6 @@ lt_not_le_back a b h = by (place_cmp a b) (place_cmp b a) (place_cmp-total.antis
 
 -- ---- how many pass a test
 
-filter_yes : (test : Entry → Bool) (e : Entry) (es : List Entry) → test e ≡ true → filter test (e ∷ es) ≡ e ∷ filter test es
-filter_yes test e es h = cond-true (test e) (e ∷ filter test es) (filter test es) h
-
-filter_no : (test : Entry → Bool) (e : Entry) (es : List Entry) → test e ≡ false → filter test (e ∷ es) ≡ filter test es
-filter_no test e es h = cond-false (test e) (e ∷ filter test es) (filter test es) h
-
 module _ (a b : Entry → Bool) where
   few : (es : List Entry) → AllByRecursion (λ f. a f ≡ true → b f ≡ true) es → length (filter a es) ≤ length (filter b es)
   few [] all = least
@@ -56,10 +51,10 @@ module _ (a b : Entry → Bool) where
   few (e ∷ es) all =
       let more = few es all.1 in
       ⊎_elim
-      (λ passes. omega (arith, ap length (filter_yes a e es passes), ap length (filter_yes b e es (all.0 passes)), more))
-      (λ fails. let one = ap length (filter_no a e es fails) in ⊎_elim
-      (λ passes. omega (arith, one, ap length (filter_yes b e es passes), more))
-      (λ too. omega (arith, one, ap length (filter_no b e es too), more))
+      (λ passes. omega (arith, ap length (filter-yes a e es passes), ap length (filter-yes b e es (all.0 passes)), more))
+      (λ fails. let one = ap length (filter-no a e es fails) in ⊎_elim
+      (λ passes. omega (arith, one, ap length (filter-yes b e es passes), more))
+      (λ too. omega (arith, one, ap length (filter-no b e es too), more))
       (cases_Bool (b e)))
       (cases_Bool (a e))
 
@@ -71,14 +66,14 @@ module _ (a b : Entry → Bool) where
       ⊎_elim
       (λ tied.
       let same : e ≡ x = same_Some e x (sym (cond-true tie (Some e) (entry_at es x.part x.key) tied) ∙ there) in
-      omega (arith, ap length (filter_no a e es (ap a same ∙ fails)), ap length (filter_yes b e es (ap b same ∙ passes)), few es all.1))
+      omega (arith, ap length (filter-no a e es (ap a same ∙ fails)), ap length (filter-yes b e es (ap b same ∙ passes)), few es all.1))
       (λ apart.
       let more = fewer es x all.1 (sym (cond-false tie (Some e) (entry_at es x.part x.key) apart) ∙ there) passes fails in
       ⊎_elim
-      (λ yes_. omega (arith, ap length (filter_yes a e es yes_), ap length (filter_yes b e es (all.0 yes_)), more))
-      (λ no_. let one = ap length (filter_no a e es no_) in ⊎_elim
-      (λ yes_. omega (arith, one, ap length (filter_yes b e es yes_), more))
-      (λ too. omega (arith, one, ap length (filter_no b e es too), more))
+      (λ yes_. omega (arith, ap length (filter-yes a e es yes_), ap length (filter-yes b e es (all.0 yes_)), more))
+      (λ no_. let one = ap length (filter-no a e es no_) in ⊎_elim
+      (λ yes_. omega (arith, one, ap length (filter-yes b e es yes_), more))
+      (λ too. omega (arith, one, ap length (filter-no b e es too), more))
       (cases_Bool (b e)))
       (cases_Bool (a e)))
       (cases_Bool tie)
@@ -167,30 +162,6 @@ module _ (es : List Entry) (held : Holders) (range : Interval) (rise : IsRising 
         there is_wanted.0 (lt_not_le_back (place_of e) next on.above)
 
 -- ---- a ghost is taken away
-
-heads : {x y : Entry} {xs ys : List Entry} → x ∷ xs ≡ y ∷ ys → x ≡ y
-heads e = cc
-
-tails : {x y : Entry} {xs ys : List Entry} → x ∷ xs ≡ y ∷ ys → xs ≡ ys
-tails e = cc
-
-none_first : {c : Entry} {cs : List Entry} → [] ≡ c ∷ cs → ⊥
-none_first e = cc
-
--- the first that passes is taken away
-filter-removed : (test : Entry → Bool) (es : List Entry) (c : Entry) (cs : List Entry) → IsRising es → filter test es ≡ c ∷ cs → filter test (remove_entry es c.part c.key) ≡ cs
-filter-removed test [] c cs r h = absurd (none_first h)
-filter-removed test (e ∷ es) c cs r h = ⊎_elim
-    (λ passes.
-    let all = sym (filter_yes test e es passes) ∙ h in
-    let same : e ≡ c = heads all in
-    let hit : same_place e.part e.key c.part c.key ≡ true = subst (λ (x : Entry). same_place e.part e.key x.part x.key ≡ true) same (same_place-itself e.part e.key) in
-    ap (filter test) (remove-hit c.part c.key e es hit) ∙ tails all)
-    (λ fails.
-    let rest = sym (filter_no test e es fails) ∙ h in
-    let below : AllByRecursion (λ f. place_cmp (place_of e) (place_of f) ≡ Less) (c ∷ cs) = subst (λ (l : List Entry). AllByRecursion (λ f. place_cmp (place_of e) (place_of f) ≡ Less) l) rest (All-filtered (λ f. place_cmp (place_of e) (place_of f) ≡ Less) test es r.0) in
-    ap (filter test) (remove-miss c.part c.key e es (ap is_eq below.0)) ∙ filter_no test e (remove_entry es c.part c.key) fails ∙ filter-removed test es c cs r.1 rest)
-    (cases_Bool (test e))
 
 -- ---- the loop
 

@@ -7,11 +7,11 @@ use Rattle.std.specs.Ordering.{is_eq, is_le}
 use Rattle.std.specs.List.{AllByRecursion}
 use Rattle.am_record.specs.EntryOrder.{Place, place_of, place_cmp}
 use Rattle.am_record.specs.declared.entry.Entry.{Entry}
+use Rattle.am_record.proofs.Lists.{AllByRecursion-map}
+use Rattle.am_record.proofs.PlaceOrder.{turned_less}
 use Rattle.am_list.specs.Entries.{first_such, entry_at, IsRising}
-use Rattle.am_list.proofs.Order.{turned_less}
-use Rattle.am_list.proofs.Lists.{AllByRecursion-map, first_such_none}
-use Rattle.am_list.proofs.Edits.{place_cmp-itself, first_such_all}
-use Rattle.am_list.proofs.Content.{all_found}
+use Rattle.am_list.proofs.Lists.{first_such_none}
+use Rattle.am_list.proofs.Edits.{place_cmp-itself, first_such_all, none_such}
 use Rattle.am_merge.specs.Walks.{is_from}
 
 -- whether a walk that stands at the first entry still comes to the second one; where it stands at none it has ended
@@ -37,20 +37,7 @@ All-passed P test (e ∷ es) a = ⊎_elim
     (λ no. (λ t. absurd (both_ways (test e) no t), All-passed P test es (subst (AllByRecursion P) (cond-false (test e) (e ∷ filter test es) (filter test es) no) a)))
     (cases_Bool (test e))
 
-pub same_test : (a b : Bool) → (a ≡ true → b ≡ true) → (b ≡ true → a ≡ true) → a ≡ b
-same_test true true f g = refl
-same_test true false f g = sym (f refl)
-same_test false true f g = g refl
-same_test false false f g = refl
-
 -- ---- one test and another
-
-pub none_such : (test : Entry → Bool) (es : List Entry) → first_such test es ≡ None → AllByRecursion (λ e. test e ≡ false) es
-none_such test [] h = tt
-none_such test (e ∷ es) h = ⊎_elim
-    (λ yes. absurd (none-some e (sym h ∙ cond-true (test e) (Some e) (first_such test es) yes)))
-    (λ no. (no, none_such test es (sym (cond-false (test e) (Some e) (first_such test es) no) ∙ h)))
-    (cases_Bool (test e))
 
 -- tests that agree on the list find the same
 pub first_same : (a b : Entry → Bool) (es : List Entry) → AllByRecursion (λ e. a e ≡ b e) es → first_such a es ≡ first_such b es
@@ -97,10 +84,6 @@ first_is test (e ∷ es) x r there t all =
     cond-false (test e) (Some e) (first_such test es) (false_from_ne_true (test e) (λ passes. not_above (place_of e) (place_of x) below (all.0 passes)))
     ∙ first_is test es x r.1 later t all.1)
     (cases_Bool tie)
-
--- what is found stands there
-pub first_stands : (test : Entry → Bool) (es : List Entry) (x : Entry) → IsRising es → first_such test es ≡ Some x → entry_at es x.part x.key ≡ Some x
-first_stands test es x r h = first_such_all (λ y. entry_at es y.part y.key ≡ Some y) test es x (all_found es r) h
 
 -- ---- the first of those that pass
 

@@ -1,23 +1,25 @@
 -- How far a merge step has come, from one candidate to the next.
-use Rattle.std.proofs.Common.{◌≡◌, ◌≢◌, ℕ, suc, ◌+◌, ◌<◌, ◌≤◌, List, [], ◌∷◌, take, drop, Bool, true, false, cond, Option, Some, None, refl, sym, ap, ◌∙◌, subst, inl, inr, arith, Result, Ok, Err, is_err, OnOk, OnErr}
+use Rattle.std.proofs.Common.{◌≡◌, ◌≢◌, ℕ, suc, ◌+◌, ◌<◌, ◌≤◌, List, [], ◌∷◌, take, drop, Bool, true, false, cond, Option, Some, None, refl, sym, ap, ◌∙◌, subst, inl, inr, arith, Result, Ok, Err, is_err, OnOk}
 use Rattle.std.specs.Prelude.{nat_le, ◌==◌, ◌&&◌, is_none}
 use Rattle.std.specs.declared.cmp.Ordering.TheVariants.{Less}
 use Rattle.std.specs.Ordering.{is_lt}
 use Rattle.std.specs.List.{AllByRecursion}
-use Rattle.std.proofs.lemmas.Bool.{cond-true, cond-false, and_parts, and_from, and_left, false_from_ne_true, leb-true, le-leb, eqb-true, eq-eqb, false≢true, true≢false}
+use Rattle.std.proofs.lemmas.Bool.{cond-true, cond-false, and_parts, and_from, and_left, false_from_ne_true, leb-true, le-leb, eqb-true, eq-eqb, true≢false}
 use Rattle.std.proofs.lemmas.Option.{none-some, same_Some}
 use Rattle.am_record.specs.OrderedKey.{OrderedKey}
 use Rattle.am_record.specs.Interval.{Interval, within}
 use Rattle.am_record.specs.EntryOrder.{Place, place_of, place_cmp}
 use Rattle.am_record.specs.declared.entry.Entry.{Entry}
+use Rattle.am_record.proofs.Lists.{AllByRecursion-map, AllByRecursion-take}
+use Rattle.am_record.proofs.Outcomes.{same_test}
+use Rattle.am_record.proofs.Orderings.{lt_le}
 use Rattle.am_list.specs.Entries.{Slot, slot_of, first_such, find, remove_entry, IsRising}
 use Rattle.am_list.specs.Edits.{same_place}
-use Rattle.am_list.proofs.Lists.{AllByRecursion-map}
-use Rattle.am_list.proofs.Edits.{first_such_passes}
+use Rattle.am_list.proofs.Edits.{first_such_passes, apart_places}
 use Rattle.am_locks.specs.Held.{Held}
 use Rattle.am_effect.specs.Merging.{Holders, candidates, worked_off, all_worked_off, most, NeedsPlace, FirstNeedsPlace}
 use Rattle.am_effect.specs.Places.{look, put}
-use Rattle.am_effect.proofs.Lists.{Stands, stands_all, All-filter, All-take, rising-filter, look-put, look-removed, not_tied}
+use Rattle.am_effect.proofs.Lists.{Stands, stands_all, All-filter, rising-filter, look-put, look-removed}
 use Rattle.am_effect.proofs.Merges.{rising-worked_off}
 use Rattle.am_effect.proofs.Maintenance.{above_none}
 use Rattle.am_effect.proofs.Next.{candidates-left}
@@ -26,8 +28,8 @@ use Rattle.am_parts.specs.Partitions.{IsSound}
 use Rattle.am_merge.specs.Holding.{holder_of, only_free}
 use Rattle.am_merge.specs.Walks.{in_parts_from, later_in_part, later}
 use Rattle.am_merge.specs.Steps.{IsAsFar}
-use Rattle.am_merge.proofs.Firsts.{All-passed, same_test, first_same, first_head, head_of, a_head}
-use Rattle.am_merge.proofs.Walks.{le_part, lt_le, next_here, next_there}
+use Rattle.am_merge.proofs.Firsts.{All-passed, first_same, first_head, head_of, a_head}
+use Rattle.am_merge.proofs.Walks.{le_part, next_here, next_there}
 use Rattle.am_merge.proofs.Passing.{take-next, drop-next, first_if, first_passes, if_none, if_some, one_more, no_more, within_limit}
 
 -- ---- the next candidate of the run
@@ -88,7 +90,7 @@ unless false s o h = h
 
 home_grows : (e : Entry) (es : List Entry) → IsRising es → e.part ≢ 0 → (k : OrderedKey) → find (worked_off e es) 0 k ≡ None → find es 0 k ≡ None
 home_grows e es rise n k none =
-    let without = look-removed (place_of e) es rise (0, k) ∙ cond-false _ None (look es (0, k)) (not_tied (0, k) (place_of e) (λ h. n (sym (ap (λ (a : Place). a.0) h)))) in
+    let without = look-removed (place_of e) es rise (0, k) ∙ cond-false _ None (look es (0, k)) (apart_places (0, k) (place_of e) (λ h. n (sym (ap (λ (a : Place). a.0) h)))) in
     by_mark e.is_ghost refl without
   where
     final : Entry
@@ -185,7 +187,7 @@ module _ {es : List Entry} (sound : IsSound es) (table : List Held) (limit : ℕ
       }
         where
           runs : AllByRecursion (λ f. f.part ≢ 0) (take n (candidates es range))
-          runs = All-take (λ f. f.part ≢ 0) n (candidates es range)
+          runs = AllByRecursion-take (λ f. f.part ≢ 0) n (candidates es range)
               (AllByRecursion-map (λ f. Stands es f × (is_candidate range f ≡ true)) (λ f. f.part ≢ 0) (λ f h. above_none f.part (and_parts (nat_le 1 f.part) (within range f.key) h.1).0)
               (candidates es range) (All-filter (Stands es) (is_candidate range) es (stands_all es sound.rising)))
 
@@ -211,10 +213,6 @@ module _ {es : List Entry} (sound : IsSound es) (table : List Held) (limit : ℕ
           }
 
 -- ---- what a result's test tells
-
-pub on_err : {T E : Type 0} {P : Type 0} (r : Result T E) → is_err r ≡ true → OnErr r P → P
-on_err (Ok v) h p = absurd (false≢true h)
-on_err (Err v) h p = p
 
 pub on_ok : {T E : Type 0} {P : Type 0} (r : Result T E) → is_err r ≡ false → OnOk r P → P
 on_ok (Ok v) h p = p

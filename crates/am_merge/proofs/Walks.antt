@@ -9,63 +9,33 @@ use Rattle.std.specs.Cmp.{upto}
 use Rattle.std.specs.List.{AllByRecursion}
 use Rattle.am_record.specs.OrderedKey.{OrderedKey, key_cmp, key_cmp-total}
 use Rattle.am_record.specs.Interval.{Interval, key_le, key_le-itself, within}
-use Rattle.am_record.specs.EntryOrder.{Place, place_of, place_cmp, place_cmp-total, place_cmp-part, place_cmp-same, place_cmp-equal}
+use Rattle.am_record.specs.EntryOrder.{Place, place_of, place_cmp, place_cmp-total, place_cmp-part, place_cmp-same}
 use Rattle.am_record.specs.declared.entry.Entry.{Entry}
+use Rattle.am_record.proofs.Lists.{AllByRecursion-map}
+use Rattle.am_record.proofs.PlaceOrder.{lower_part}
+use Rattle.am_record.proofs.Outcomes.{same_test}
+use Rattle.am_record.proofs.Orderings.{is_less, le_not_greater, ge_reversed, le_not_gt, not_gt_le, gt_reversed, lt_le}
+use Rattle.am_record.proofs.KeyOrder.{key_le_trans}
 use Rattle.am_list.specs.Entries.{first_such, next_any, next_ghost, after, IsRising}
-use Rattle.am_list.proofs.Order.{turned_greater}
-use Rattle.am_list.proofs.Lists.{AllByRecursion-map, first_such_none}
-use Rattle.am_list.proofs.Edits.{first_such_all, first_such_passes}
+use Rattle.am_list.proofs.Lists.{first_such_none}
+use Rattle.am_list.proofs.Edits.{first_such_all, first_such_passes, none_such}
+use Rattle.am_list.proofs.WalkLaws.{first_stands}
 use Rattle.am_parts.specs.Merged.{HasNoneBefore}
 use Rattle.am_parts.specs.Partitions.{IsSound}
 use Rattle.am_merge.specs.Walks.{in_parts_from, later_in_part, later, is_from, ghost_from, GoesOnAt}
-use Rattle.am_merge.proofs.Firsts.{comes_to, All-zip, All-any, same_test, first_same, none_such, none_under, first_comes, first_is, first_stands}
+use Rattle.am_merge.proofs.Firsts.{comes_to, All-zip, All-any, first_same, none_under, first_comes, first_is}
 
 -- ---- orderings
-
-lt_less : (o : Ordering) → is_lt o ≡ true → o ≡ Less
-lt_less Less h = refl
-lt_less Equal h = absurd (cc)
-lt_less Greater h = absurd (cc)
-
-le_not_greater : (o : Ordering) → is_le o ≡ true → o ≢ Greater
-le_not_greater Less h e = absurd (cc)
-le_not_greater Equal h e = absurd (cc)
-le_not_greater Greater h e = absurd (cc)
-
-pub lt_le : (o : Ordering) → is_lt o ≡ true → is_le o ≡ true
-lt_le Less h = refl
-lt_le Equal h = refl
-lt_le Greater h = h
 
 le_reversed : (o : Ordering) → is_le (ordering_reverse o) ≡ is_ge o
 le_reversed Less = refl
 le_reversed Equal = refl
 le_reversed Greater = refl
 
-ge_reversed : (o : Ordering) → is_ge (ordering_reverse o) ≡ is_le o
-ge_reversed Less = refl
-ge_reversed Equal = refl
-ge_reversed Greater = refl
-
 not_le_ge : (o : Ordering) → is_le o ≡ false → is_ge o ≡ true
 not_le_ge Less h = absurd (cc)
 not_le_ge Equal h = refl
 not_le_ge Greater h = refl
-
-le_not_gt : (o : Ordering) → is_le o ≡ true → is_gt o ≡ false
-le_not_gt Less e = refl
-le_not_gt Equal e = refl
-le_not_gt Greater e = absurd (cc)
-
-not_gt_le : (o : Ordering) → is_gt o ≡ false → is_le o ≡ true
-not_gt_le Less e = refl
-not_gt_le Equal e = refl
-not_gt_le Greater e = absurd (cc)
-
-gt_reversed : (o : Ordering) → is_gt (ordering_reverse o) ≡ is_lt o
-gt_reversed Less = refl
-gt_reversed Equal = refl
-gt_reversed Greater = refl
 
 not_ge_lt : (o : Ordering) → is_ge o ≡ false → is_lt o ≡ true
 not_ge_lt Less h = refl
@@ -96,25 +66,11 @@ le_part a b h = place_cmp-part a b (le_not_greater (place_cmp a b) h)
 less_greater : Less ≡ Greater → ⊥
 less_greater e = cc
 
-below_part_at : (a b : Place) (o : Ordering) → place_cmp a b ≡ o → a.0 < b.0 → o ≡ Less
-below_part_at a b Less e lt = refl
-below_part_at a b Equal e lt = let same : a.0 ≡ b.0 = (place_cmp-equal a b e).0 in absurd (omega arith)
-below_part_at a b Greater e lt =
-    let le : b.0 ≤ a.0 = place_cmp-part b a (λ g. less_greater (sym (turned_greater a b e) ∙ g)) in
-    absurd (omega arith)
-
--- what stands in a smaller partition is below
-pub below_part : (a b : Place) → a.0 < b.0 → place_cmp a b ≡ Less
-below_part a b lt = below_part_at a b (place_cmp a b) refl lt
-
 -- within a partition the keys decide
 pub same_part : (x e : Entry) → x.part ≡ e.part → place_cmp (place_of x) (place_of e) ≡ key_cmp x.key e.key
 same_part x e same = ap (λ p. place_cmp (p, x.key) (place_of e)) same ∙ place_cmp-same e.part x.key e.key
 
 -- ---- keys
-
-pub key_le_trans : (a b c : OrderedKey) → key_le a b ≡ true → key_le b c ≡ true → key_le a c ≡ true
-key_le_trans a b c h k = not_gt_le (key_cmp a c) (upto key_cmp-total a b c (le_not_gt (key_cmp a b) h) (le_not_gt (key_cmp b c) k))
 
 -- a key that is not below the range and not in it is above it
 pub above_range : (range : Interval) (k : OrderedKey) → within range k ≡ false → key_le range.lo k ≡ true → key_le k range.hi ≡ false
@@ -124,7 +80,7 @@ above_range range k out from = false_from_ne_true (key_le k range.hi) (λ to. bo
 pub lo_le : (lo : OrderedKey) (part : ℕ) (e : Entry) → part ≤ e.part → key_le lo e.key ≡ true → is_from (part, lo) e ≡ true
 lo_le lo part e le keys = ⊎_elim
     (λ same. ap is_le (ap (λ p. place_cmp (p, lo) (place_of e)) (eqb-true part e.part same) ∙ place_cmp-same e.part lo e.key) ∙ keys)
-    (λ other. let apart : part ≢ e.part = λ h. both_ways (part == e.part) other (eq-eqb part e.part h) in let up : part < e.part = omega arith in ap is_le (below_part (part, lo) (place_of e) up))
+    (λ other. let apart : part ≢ e.part = λ h. both_ways (part == e.part) other (eq-eqb part e.part h) in let up : part < e.part = omega arith in ap is_le (lower_part (part, lo) (place_of e) up))
     (cases_Bool (part == e.part))
 
 -- ---- a look for the first entry at or above the least key of the range in a partition
@@ -145,7 +101,7 @@ module _ (es : List Entry) (rise : IsRising es) (range : Interval) (part : ℕ) 
   in_ahead e t =
       let parts = and_parts (nat_le part e.part) (within range e.key) t in
       let keys = and_parts (key_le range.lo e.key) (key_le e.key range.hi) parts.1 in
-      true_from_ne_false (ahead e) (λ no. behind e (leb-true part e.part parts.0) keys.0 (lt_less (place_cmp (place_of e) (part, range.lo)) (not_ge_lt (place_cmp (place_of e) (part, range.lo)) no)))
+      true_from_ne_false (ahead e) (λ no. behind e (leb-true part e.part parts.0) keys.0 (is_less (place_cmp (place_of e) (part, range.lo)) (not_ge_lt (place_cmp (place_of e) (part, range.lo)) no)))
 
   pub ended : next_any es part range.lo ≡ None → first_such (in_parts_from part range) es ≡ None
   ended none = none_under (in_parts_from part range) ahead es (All-any (λ e. in_parts_from part range e ≡ true → ahead e ≡ true) in_ahead es) none
@@ -339,7 +295,7 @@ module _ (es : List Entry) (rise : IsRising es) (range : Interval) (x : Entry) (
       let part : y.part ≡ x.part = eqb-true y.part x.part (and_parts (y.part == x.part) (is_lt (key_cmp x.key y.key) && within range y.key) passes).0 in
       sym (first_is (later range x) es y rise (first_stands (later_in_part range x) es y rise at) (in_later y passes)
       (AllByRecursion-map (λ f. later_in_part range x f ≡ true → comes_to (Some y) f ≡ true) (λ f. later range x f ≡ true → comes_to (Some y) f ≡ true)
-      (λ f h t. ⊎_elim (λ here. h here) (λ w. let up : y.part < f.part = omega (arith, w.0) in ap is_le (below_part (place_of y) (place_of f) up)) (later_where f t))
+      (λ f h t. ⊎_elim (λ here. h here) (λ w. let up : y.part < f.part = omega (arith, w.0) in ap is_le (lower_part (place_of y) (place_of f) up)) (later_where f t))
       es (subst (λ o. AllByRecursion (λ f. later_in_part range x f ≡ true → comes_to o f ≡ true) es) at (first_comes (later_in_part range x) es rise))))
 
   -- in a later one
@@ -350,7 +306,7 @@ module _ (es : List Entry) (rise : IsRising es) (range : Interval) (x : Entry) (
       (λ f not_here. same_test (in_parts_from (x.part + 1) range f) (later range x f)
       (λ t. let p = and_parts (nat_le (x.part + 1) f.part) (within range f.key) t in
       let up : x.part + 1 ≤ f.part = leb-true (x.part + 1) f.part p.0 in
-      and_from (is_lt (place_cmp (place_of x) (place_of f))) (within range f.key) (ap is_lt (below_part (place_of x) (place_of f) (omega arith))) p.1)
+      and_from (is_lt (place_cmp (place_of x) (place_of f))) (within range f.key) (ap is_lt (lower_part (place_of x) (place_of f) (omega arith))) p.1)
       (λ t. ⊎_elim
       (λ here. absurd (both_ways (later_in_part range x f) not_here here))
       (λ w. and_from (nat_le (x.part + 1) f.part) (within range f.key) (le-leb (x.part + 1) f.part (omega (arith, w.0))) w.1)
@@ -366,7 +322,7 @@ module _ (es : List Entry) (rise : IsRising es) (range : Interval) (x : Entry) (
         above = ap is_lt (same_part x y (sym beside.0)) ∙ beside.1;
         in_range = key_le_trans range.lo x.key y.key (and_parts (key_le range.lo x.key) (key_le x.key range.hi) inside).0 (lt_le (key_cmp x.key y.key) beside.1);
         ahead = AllByRecursion-map (λ f. later_in_part range x f ≡ true → comes_to (Some y) f ≡ true) (λ f. later range x f ≡ true → is_from (place_of y) f ≡ true)
-            (λ f h t. ⊎_elim (λ here. h here) (λ w. let up : y.part < f.part = omega (arith, w.0, beside.0) in ap is_le (below_part (place_of y) (place_of f) up)) (later_where f t))
+            (λ f h t. ⊎_elim (λ here. h here) (λ w. let up : y.part < f.part = omega (arith, w.0, beside.0) in ap is_le (lower_part (place_of y) (place_of f) up)) (later_where f t))
             es (comes_to_y y found);
       }
 
@@ -376,7 +332,7 @@ module _ (es : List Entry) (rise : IsRising es) (range : Interval) (x : Entry) (
   -- where it has none, at the beginning of the range in the partition after it
   pub goes_on_there : None ≡ after es x.part x.key → (to : ℕ) → to ≡ x.part + 1 → GoesOnAt es range x (to, range.lo)
   goes_on_there none to next = record {
-    above = let up : x.part < to = omega arith in ap is_lt (below_part (place_of x) (to, range.lo) up);
+    above = let up : x.part < to = omega arith in ap is_lt (lower_part (place_of x) (to, range.lo) up);
     in_range = key_le-itself range.lo;
     ahead = AllByRecursion-map (λ f. later_in_part range x f ≡ false) (λ f. later range x f ≡ true → is_from (to, range.lo) f ≡ true)
         (λ f not_here t. ⊎_elim
@@ -461,7 +417,7 @@ module _ (es : List Entry) (rise : IsRising es) (range : Interval) (part : ℕ) 
     ghost_above out not_below =
         let above : key_le x.key range.hi ≡ false = above_range range x.key out not_below in
         let less : x.part < x.part + 1 = omega arith in
-        ghosts_go_on (x.part + 1) (ap is_le (below_part (place_of x) (x.part + 1, range.lo) less)) (λ f w c.
+        ghosts_go_on (x.part + 1) (ap is_le (lower_part (place_of x) (x.part + 1, range.lo) less)) (λ f w c.
         let le : x.part ≤ f.part = le_part (place_of x) (place_of f) c in
         let other : x.part ≢ f.part = λ same.
         let keys : key_le x.key f.key ≡ true = ap is_le (sym (same_part x f same)) ∙ c in

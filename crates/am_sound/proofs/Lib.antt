@@ -6,3 +6,4 @@ pub mod Sounds
 pub mod Counts
 pub mod Lifts
 pub mod Tables
+pub mod Actives

@@ -2,6 +2,7 @@
 use Rattle.std.proofs.Common.{◌≡◌, ◌⊎◌, inl, inr, ℕ, ◌+◌, ◌^◌, ◌≤◌, ◌==◌, nat_le, List, [], ◌∷◌, ◌++◌, Bool, true, false, cond, ◌||◌, Option, Some, None, refl, sym, ap, ◌∙◌, subst, ⊎_elim, arith}
 use Rattle.std.specs.Prelude.{MatchOption, MatchBool, option_map}
 use Rattle.std.proofs.lemmas.Bool.{true≢false, le-leb, lt-leb}
+use Rattle.std.proofs.lemmas.Cmp.{nat_eq_equiv}
 use Rattle.am_record.specs.Records.{Records}
 use Rattle.am_record.specs.Plain.{PlainMap, fresh, answer, left, left_on}
 use Rattle.am_record.specs.declared.step.Op.{Op}
@@ -31,7 +32,7 @@ use Rattle.am_talk.specs.declared.response.Response.{Response}
 use Rattle.am_talk.specs.declared.response.Response.TheVariants as response
 use Rattle.am_talk.specs.declared.response.Response.TheVariants.{Replied, Seen, Faulty}
 use Rattle.am_record.specs.Interval.{Interval}
-pub use Rattle.am_talk.proofs.Saying.{Where, actives, machine_at, state_at, standing_at, is_answer, Counts, answer_answers, answer_counts, due_is, due_found, one_view, next_did, next_committed, next_aborted, ops_did, itself}
+pub use Rattle.am_talk.proofs.Saying.{Where, actives, machine_at, state_at, standing_at, is_answer, Counts, answer_answers, answer_counts, due_is, due_found, one_view, next_did, next_committed, next_aborted, ops_did}
 
 -- what one exchange comes to: memory was refused, or the response is the one that is said, if it is one
 abbrev Outcome : say.State → Heard → Response → say.State → Type 0
@@ -185,7 +186,7 @@ module _ (begun commits runs : ℕ) (m : PlainMap) (body : List Answered) (stage
         by_due (Some w) due is = refused w told rest is due a.1
 
   not_open : {P : Type 0} → machine.is_open (actives begun (Some body)) begun ≡ false → P
-  not_open h = absurd (true≢false (sym (ap (λ b. b || false) (itself begun)) ∙ h))
+  not_open h = absurd (true≢false (sym (ap (λ b. b || false) (nat_eq_equiv.refl begun)) ∙ h))
 
   aborts_own : (told : Reply) (rest : Trace) → After busy (step.Abort begun) told rest → Told busy staged (step.Abort begun) request.Abort told rest
   aborts_own reply.Aborted rest a =

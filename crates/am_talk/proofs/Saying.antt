@@ -1,13 +1,14 @@
 -- What a sound trace answers a session alone is what is said by the plain map.
-use Rattle.std.proofs.Common.{◌≡◌, ℕ, ◌+◌, ◌==◌, nat_le, length, List, [], ◌∷◌, ◌++◌, Bool, true, false, cond, not, ◌&&◌, ◌||◌, Option, Some, None, refl, sym, ap, ◌∙◌, subst}
+use Rattle.std.proofs.Common.{◌≡◌, ℕ, ◌+◌, nat_le, length, List, [], ◌∷◌, ◌++◌, Bool, true, false, cond, not, ◌&&◌, ◌||◌, Option, Some, None, refl, sym, ap, ◌∙◌, subst}
 use Rattle.std.specs.Prelude.{option_map}
-use Rattle.std.proofs.lemmas.Bool.{false≢true, eq-eqb}
+use Rattle.std.proofs.lemmas.Bool.{false≢true}
 use Rattle.std.proofs.lemmas.Option.{none-some, same_Some}
 use Rattle.std.proofs.lemmas.List.{length-map, map-append}
 use Rattle.am_record.specs.Sessions.{active_after}
 use Rattle.am_record.specs.OrderedKey.{OrderedKey}
 use Rattle.am_record.specs.Records.{Records}
 use Rattle.std.specs.FinMap.{get, contains_key}
+use Rattle.std.proofs.lemmas.Cmp.{nat_eq_equiv}
 use Rattle.am_record.specs.Plain.{PlainMap, Draft, fresh, answer, found, exists_or_done, went_back, least_taken, left, left_on, is_orderly}
 use Rattle.am_record.specs.Asks.{lock_of, locks_of, clashes}
 use Rattle.am_record.specs.declared.step.Op.{Op}
@@ -48,9 +49,6 @@ state_at w = record { begun = w.begun; commits = w.commits; runs = w.runs; commi
 
 abbrev pub standing_at : Where → Standing
 standing_at w = (record { active = option_map (λ _. w.begun) w.own; staged = w.staged }, w.commits)
-
-pub itself : (n : ℕ) → (n == n) ≡ true
-itself n = eq-eqb n n refl
 
 -- ---- refusals
 
@@ -134,15 +132,15 @@ module _ (begun commits runs : ℕ) (m : PlainMap) (body : List Answered) (stage
   ops = ops_of body
 
   pub one_view : view (machine_at here) begun ≡ left_on ops (fresh m)
-  one_view = λ i. left_on (ops_of (cond (itself begun i) body [])) (fresh m)
+  one_view = λ i. left_on (ops_of (cond (nat_eq_equiv.refl begun i) body [])) (fresh m)
 
   early : (op : Op) → due_early (machine_at here) begun op ≡ refusal_before_lock true (length body) runs op
-  early op = ap (λ b. refusal_before_lock (b || false) (length (cond b body [])) runs op) (itself begun)
+  early op = ap (λ b. refusal_before_lock (b || false) (length (cond b body [])) runs op) (nat_eq_equiv.refl begun)
 
   late : (op : Op) → due_lock (machine_at here) begun op ≡ lock_refusal None (is_one_too_many (locks_of ops) (lock_of op))
   late op = ap
       (λ b. lock_refusal (cond (not b && clashes (lock_of op) (locks_of ops)) (Some begun) None) (is_one_too_many (locks_of (ops_of (cond b body []))) (lock_of op)))
-      (itself begun)
+      (nat_eq_equiv.refl begun)
 
   -- the refusal that the machine owes is the one that is due alone
   pub due_is : (op : Op) → due (machine_at here) begun op ≡ refusal_due (state_at here) ops op
@@ -159,13 +157,13 @@ module _ (begun commits runs : ℕ) (m : PlainMap) (body : List Answered) (stage
   -- ---- steps
 
   pub next_did : (op : Op) (r : Reply) → next (machine_at here) (Answers begun op r) ≡ machine_at (record here { runs = runs + runs_made op r; own = Some (body ++ (op, r) ∷ []) })
-  next_did op r = λ i. record (machine_at here) { runs = runs + runs_made op r; active = (begun, cond (itself begun i) (body ++ (op, r) ∷ []) body) ∷ [] }
+  next_did op r = λ i. record (machine_at here) { runs = runs + runs_made op r; active = (begun, cond (nat_eq_equiv.refl begun i) (body ++ (op, r) ∷ []) body) ∷ [] }
 
   pub next_committed : next (machine_at here) (Commits begun) ≡ machine_at (record here { commits = commits + 1; committed = left ops m; own = None })
-  next_committed = λ i. record (machine_at here) { commits = commits + 1; committed = (one_view i).map; active = cond (not (itself begun i)) ((begun, body) ∷ []) [] }
+  next_committed = λ i. record (machine_at here) { commits = commits + 1; committed = (one_view i).map; active = cond (not (nat_eq_equiv.refl begun i)) ((begun, body) ∷ []) [] }
 
   pub next_aborted : next (machine_at here) (Aborts begun) ≡ machine_at (record here { own = None })
-  next_aborted = λ i. record (machine_at here) { active = cond (not (itself begun i)) ((begun, body) ∷ []) [] }
+  next_aborted = λ i. record (machine_at here) { active = cond (not (nat_eq_equiv.refl begun i)) ((begun, body) ∷ []) [] }
 
   pub ops_did : (op : Op) (r : Reply) → ops_of (body ++ (op, r) ∷ []) ≡ ops ++ op ∷ []
   ops_did op r = map-append (λ (a : Answered). a.0) body ((op, r) ∷ [])

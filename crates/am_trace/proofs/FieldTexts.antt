@@ -13,6 +13,7 @@ use Rattle.std.proofs.lemmas.List.Sums.{split_at_first, passes_at_first}
 use Rattle.am_trace.proofs.CutLemmas.{has_no-append}
 use Rattle.std.proofs.lemmas.Nat.{be_bytes_8, from_be_bytes-to_be_bytes_8}
 use Rattle.am_record.specs.OrderedKey.{OrderedKey, key_of, bytes_of, number_key, key_of-bytes_of, bytes_of-key_of}
+use Rattle.am_record.proofs.Outcomes.{mapped, gate}
 use Rattle.am_wire.specs.Numbers.{is_numeral, numeral_value, number_for}
 use Rattle.am_wire.specs.Keys.{key_for}
 use Rattle.am_wire.specs.Values.{value_for}
@@ -24,7 +25,7 @@ use Rattle.am_trace.specs.Bounds.{AreBytes, IsNumber, IsKey, IsValue, IsRecord}
 use Rattle.am_trace.specs.Reading.{number_in, run_for, run_in, digit_in, byte_in, with_byte, bytes_for, value_for_digits, value_in, key_in, record_in}
 use Rattle.am_trace.specs.declared.version.Version.{Version}
 use Rattle.am_trace.specs.declared.version.Version.TheVariants.{One, Two}
-use Rattle.am_trace.proofs.IsText.{IsText, zipped, zip_of, mapped, chained, gate, same_some}
+use Rattle.am_trace.proofs.IsText.{IsText, zipped, zip_of, chained, same_some}
 
 -- ---- digits of base 16
 

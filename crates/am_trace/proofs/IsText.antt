@@ -1,5 +1,5 @@
 -- What is read of a text, and the one text that is read so.
-use Rattle.std.proofs.Common.{◌≡◌, ℕ, Bool, true, false, cond, List, [], ◌∷◌, Option, Some, None, refl, ap, ◌∙◌, option_map}
+use Rattle.std.proofs.Common.{◌≡◌, ℕ, List, [], ◌∷◌, Option, Some, None, refl, ap, ◌∙◌}
 use Rattle.std.specs.Prelude.{option_and_then}
 use Rattle.std.specs.Option.{option_zip}
 use Rattle.am_trace.specs.Reading.{field_in, fields_in}
@@ -20,17 +20,9 @@ zipped {A} {B} (Some a) (Some b) x e = let same : (a, b) ≡ x = cc in (ap (λ (
 pub zip_of : {A B : Type 0} (o : Option A) (p : Option B) (a : A) (b : B) → o ≡ Some a → p ≡ Some b → option_zip o p ≡ Some (a, b)
 zip_of o p a b e f = ap (λ x. option_zip x p) e ∙ ap (option_zip (Some a)) f
 
-pub mapped : {A B : Type 0} (f : A → B) (o : Option A) (b : B) → option_map f o ≡ Some b → (a : A) × (o ≡ Some a) × (f a ≡ b)
-mapped f None b e = cc
-mapped f (Some a) b e = (a, refl, cc)
-
 pub chained : {A B : Type 0} (f : A → Option B) (o : Option A) (b : B) → option_and_then f o ≡ Some b → (a : A) × (o ≡ Some a) × (f a ≡ Some b)
 chained f None b e = cc
 chained f (Some a) b e = (a, refl, e)
-
-pub gate : {A : Type 0} (test : Bool) (o : Option A) (a : A) → cond test o None ≡ Some a → (test ≡ true) × (o ≡ Some a)
-gate true o a e = (refl, e)
-gate false o a e = cc
 
 pub same_some : {A : Type 0} (a b : A) → Some a ≡ Some b → a ≡ b
 same_some a b e = cc

@@ -11,6 +11,7 @@ use Rattle.am_record.specs.declared.step.Reply.{Reply}
 use Rattle.am_record.specs.declared.step.Reply.TheVariants as reply
 use Rattle.am_record.specs.declared.step.Refusal.{Refusal}
 use Rattle.am_record.specs.declared.step.Refusal.TheVariants as refusal
+use Rattle.am_record.proofs.Outcomes.{mapped, gate}
 use Rattle.am_trace.specs.Words.{hex, key_word, record_word}
 use Rattle.am_trace.specs.Bounds.{IsNumber, IsKey, IsValue, AreRecords}
 use Rattle.am_trace.specs.Replies.{refusal_fields, reply_fields, IsRefusal, IsReply}
@@ -19,7 +20,7 @@ use Rattle.am_trace.specs.Reading.{number_in, run_in, key_in, value_in, records_
 use Rattle.am_trace.specs.declared.version.Version.{Version}
 use Rattle.am_trace.specs.declared.word.Word.{Word}
 use Rattle.am_trace.specs.declared.word.Word.TheVariants as word
-use Rattle.am_trace.proofs.IsText.{IsText, zipped, zip_of, mapped, chained, gate, same_some, one_field, two_fields}
+use Rattle.am_trace.proofs.IsText.{IsText, zipped, zip_of, chained, same_some, one_field, two_fields}
 use Rattle.am_trace.proofs.FieldTexts.{number_text, run_text, key_text, value_text}
 use Rattle.am_trace.proofs.WordTexts.{word_for-word_text, word_text-word_for}
 use Rattle.am_trace.proofs.StepTexts.{WordLaws, one_number, one_key, records, nothing_back, savepoint_back, savepoint_there}

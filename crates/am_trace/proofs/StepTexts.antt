@@ -12,6 +12,7 @@ use Rattle.am_record.specs.declared.step.Op.{Op}
 use Rattle.am_record.specs.declared.step.Op.TheVariants as op
 use Rattle.am_record.specs.declared.step.Step.{Step}
 use Rattle.am_record.specs.declared.step.Step.TheVariants.{Begin, Do, Commit, Abort, Merge, Clean}
+use Rattle.am_record.proofs.Outcomes.{mapped, gate}
 use Rattle.am_wire.specs.Arguments.{mode_word, interval_for}
 use Rattle.am_wire.specs.Reading.{mode_for}
 use Rattle.am_wire.specs.Verbs.{word_of, verb_for}
@@ -23,7 +24,7 @@ use Rattle.am_trace.specs.Steps.{verb_of, argument_fields, step_fields, IsOp, Is
 use Rattle.am_trace.specs.Reading.{number_in, key_in, value_in, record_in, range_in, nothing_in, one_number_in, one_key_in, key_and_value_in, range_and_number_in, lock_fields_in, lock_of_parts, records_in, with_record, savepoint_in, op_in, do_in, step_of, step_with, step_in}
 use Rattle.am_trace.specs.declared.version.Version.{Version}
 use Rattle.am_trace.specs.declared.version.Version.TheVariants.{One, Two}
-use Rattle.am_trace.proofs.IsText.{IsText, zipped, zip_of, mapped, chained, gate, same_some, one_field, two_fields}
+use Rattle.am_trace.proofs.IsText.{IsText, zipped, zip_of, chained, same_some, one_field, two_fields}
 use Rattle.am_trace.proofs.FieldTexts.{NumberLaws, number_text, key_text, value_text, record_text}
 
 -- what is known of the words that a session's lines have too

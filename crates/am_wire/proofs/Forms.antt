@@ -1,11 +1,12 @@
 -- The fields of a proper form spell that form and no other.
-use Rattle.std.proofs.Common.{◌≡◌, ℕ, ◌<◌, Bool, true, false, ◌&&◌, cond, List, [], ◌∷◌, length, map, Option, Some, None, refl, sym, ap, ◌∙◌, subst, arith, option_map}
+use Rattle.std.proofs.Common.{◌≡◌, ℕ, ◌<◌, Bool, true, ◌&&◌, cond, List, [], ◌∷◌, length, map, Some, None, refl, sym, ap, ◌∙◌, subst, arith, option_map}
 use Rattle.std.specs.Prelude.{codes, bytes_eq}
 use Rattle.std.specs.List.{list_all, AllByRecursion}
 use Rattle.std.proofs.lemmas.Bool.{and_parts, and_from, cond_both, cond-true}
 use Rattle.std.proofs.lemmas.Slice.Eq.{bytes_eq-Decides}
 use Rattle.am_record.specs.declared.lock.Mode.{Mode}
 use Rattle.am_record.specs.declared.lock.Mode.TheVariants.{Shared, Exclusive}
+use Rattle.am_record.proofs.Outcomes.{gate, mapped}
 use Rattle.am_wire.specs.Numbers.{is_numeral, numeral, numeral_value}
 use Rattle.am_wire.specs.Keys.{is_key_text}
 use Rattle.am_wire.specs.Verbs.{Shape, bare, one_key, one_record, one_number, range_and_number, mode_and_range, some_records}
@@ -57,14 +58,6 @@ found : {A : Type 0} (P : A → Type 0) (test : Bool) (here a : A) → (test ≡
 found P test here a h = cond_both test (Some here) None (λ o. o ≡ Some a → P a)
     (λ t e. let same : here ≡ a = cc in subst P same (h t))
     (λ _ e. cc)
-
-gate : {A : Type 0} (test : Bool) (o : Option A) (a : A) → cond test o None ≡ Some a → (test ≡ true) × (o ≡ Some a)
-gate true o a e = (refl, e)
-gate false o a e = cc
-
-mapped : {A B : Type 0} (f : A → B) (o : Option A) (b : B) → option_map f o ≡ Some b → (a : A) × (o ≡ Some a) × (f a ≡ b)
-mapped f None b e = cc
-mapped f (Some a) b e = (a, refl, cc)
 
 pub mode_word-mode_for : (field : List ℕ) (m : Mode) → mode_for field ≡ Some m → mode_word m ≡ field
 mode_word-mode_for field m =

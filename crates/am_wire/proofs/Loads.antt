@@ -1,5 +1,5 @@
 -- The fields of a load, read one by one.
-use Rattle.std.proofs.Common.{◌≡◌, ℕ, Bool, true, false, cond, List, [], ◌∷◌, ◌++◌, append_assoc, map, Option, Some, None, option_map, is_ok, is_err, Result, Ok, Err, ok_or, refl, sym, ap, ◌∙◌}
+use Rattle.std.proofs.Common.{◌≡◌, ℕ, Bool, true, false, cond, List, [], ◌∷◌, ◌++◌, append_assoc, map, Option, Some, None, option_map, Result, Ok, Err, ok_or, refl, sym, ap, ◌∙◌}
 use Rattle.std.specs.Prelude.{◌&&◌}
 use Rattle.std.specs.List.{list_all}
 use Rattle.std.specs.Option.{option_zip}
@@ -46,7 +46,3 @@ Parsed = Option (OrderedKey × List ℕ)
 pub read_so : (test : Bool) (due : Parsed) (r : OrderedKey × List ℕ) → Ok (Some r) ≡ cond {A = Result Parsed LineFault} test (Ok due) (Err Syntax) → (test ≡ true) × (due ≡ Some r)
 read_so true due r e = (refl, cc)
 read_so false due r e = cc
-
-pub pushed : {E : Type 0} (r : Result (Unit {0}) E) (more same new : Records) → is_err r ≡ false → new ≡ cond (is_ok r) more same → new ≡ more
-pushed (Ok x) more same new e f = f
-pushed (Err x) more same new e f = cc

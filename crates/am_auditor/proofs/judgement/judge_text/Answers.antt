@@ -1,6 +1,7 @@
 use Rattle.std.proofs.Common.{◌≡◌, ◌<◌, ◌^◌, length, arith, rules}
 use Rattle.std.proofs.lemmas.Bool.Decides.{nat_tests}
-use Rattle.am_auditor.proofs.Reading.{is_short, can_judge, one_more, is_whole, is_nothing}
+use Rattle.std.proofs.lemmas.List.{nil_from_length}
+use Rattle.am_auditor.proofs.Reading.{is_short, can_judge, one_more, is_whole}
 use Rattle.am_auditor.proofs.judgement.judge_text.Goals as goal
 
 pub judge-requires : goal.judge-requires
@@ -22,7 +23,7 @@ returns-in-Ok-verdict c =
     let none : length c.lines.rest.now ≡ 0 = grind (arith, nat_tests, c.is_empty.ensures, c.lines-test.false) in
     let legal = c.in-Ok-verdict.ensures.legal c.lines.invariant.seen c.lines.invariant.judged in (
       c.lines.invariant.seen,
-      is_whole c.args.text.now c.in-Some.version c.lines.rest.now c.lines.line c.lines.audit c.lines.invariant (is_nothing c.lines.rest.now none),
+      is_whole c.args.text.now c.in-Some.version c.lines.rest.now c.lines.line c.lines.audit c.lines.invariant (nil_from_length c.lines.rest.now none),
       legal.0,
       legal.1,
     )

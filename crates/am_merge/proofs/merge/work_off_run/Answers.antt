@@ -1,6 +1,7 @@
 use Rattle.std.proofs.Common.{◌≡◌, ◌+◌, take, sym, ap, ◌∙◌, refl, arith}
+use Rattle.am_record.proofs.Outcomes.{on_err}
 use Rattle.am_effect.specs.Merging.{candidates, all_worked_off}
-use Rattle.am_merge.proofs.Merging.{starts, stops, is_full, stands, in_run, inside, is_refused, goes_on, on_err, on_ok}
+use Rattle.am_merge.proofs.Merging.{starts, stops, is_full, stands, in_run, inside, is_refused, goes_on, on_ok}
 use Rattle.am_merge.proofs.merge.work_off_run.Goals as goal
 
 pub loop-moved-init : goal.loop-moved-init

@@ -1,5 +1,6 @@
-use Rattle.std.proofs.Common.{◌≡◌, ◌∷◌, [], List, ℕ, length, sym, ap, ◌∙◌, subst, arith, eqb, refl, true, false, ◌<◌}
+use Rattle.std.proofs.Common.{◌≡◌, ◌∷◌, List, ℕ, length, sym, ap, ◌∙◌, subst, arith, eqb, true, false, ◌<◌}
 use Rattle.std.proofs.lemmas.Bool.Decides.{nat_tests}
+use Rattle.std.proofs.lemmas.List.{nil_from_length}
 use Rattle.am_trace.proofs.Digits.{IsRead, read_more, read_all, read_full}
 use Rattle.am_trace.proofs.shape.bytes_of.Goals as goal
 
@@ -20,13 +21,9 @@ pairs-preserved c =
       short = omega (arith, below, c.push.ensures.len);
     }
 
-empty : (xs : List ℕ) → length xs ≡ 0 → xs ≡ []
-empty [] e = refl
-empty (x ∷ xs) e = absurd (omega (arith, e))
-
 pub returns : goal.returns
 returns c =
-    sym (read_all c.args.digits.now c.pairs.bytes.items (subst (IsRead c.args.digits.now c.pairs.bytes.items) (empty c.pairs.rest.now c.in_default.ensures.cases) c.pairs.invariant.read) c.pairs.invariant.short)
+    sym (read_all c.args.digits.now c.pairs.bytes.items (subst (IsRead c.args.digits.now c.pairs.bytes.items) (nil_from_length c.pairs.rest.now c.in_default.ensures.cases) c.pairs.invariant.read) c.pairs.invariant.short)
 
 pub returns-then-is_full : goal.returns-then-is_full
 returns-then-is_full c =

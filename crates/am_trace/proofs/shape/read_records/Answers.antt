@@ -1,11 +1,8 @@
-use Rattle.std.proofs.Common.{◌≡◌, ◌∷◌, ◌++◌, [], false, cond, Option, Some, None, Result, Ok, Err, is_ok, is_err, ok_or, sym, ◌∙◌, subst}
+use Rattle.std.proofs.Common.{◌≡◌, ◌∷◌, ◌++◌, [], false, Option, Some, None, Ok, is_err, ok_or, sym, ◌∙◌, subst}
 use Rattle.am_record.specs.Records.{Records}
+use Rattle.am_record.proofs.Outcomes.{pushed}
 use Rattle.am_trace.proofs.ReadRecords.{AreRead, record_more}
 use Rattle.am_trace.proofs.shape.read_records.Goals as goal
-
-pushed : {E : Type 0} (r : Result (Unit {0}) E) (more same new : Records) → is_err r ≡ false → new ≡ cond (is_ok r) more same → new ≡ more
-pushed (Ok x) more same new e f = f
-pushed (Err x) more same new e f = cc
 
 there : {A E : Type 0} (o : Option A) (e : E) (x : A) → ok_or o e ≡ Ok x → o ≡ Some x
 there None e x h = cc
