@@ -1,5 +1,8 @@
 pub mod Twice
+pub mod Spots
+pub mod Sorts
 pub mod Pieces
+pub mod Apart
 pub mod Taken
 pub mod Loaded
 pub mod LoadLaws

@@ -1,13 +1,20 @@
 -- Records that are cut piece by piece.
-use Rattle.std.proofs.Common.{◌≡◌, ℕ, List, [], ◌∷◌, ◌++◌, length, take, drop, refl, sym, ap, ◌∙◌, subst, arith, append_assoc, length-append}
+use Rattle.std.proofs.Common.{◌≡◌, ℕ, ◌<◌, ◌≤◌, zero, suc, List, [], ◌∷◌, ◌++◌, None, length, take, drop, refl, sym, ap, ◌∙◌, subst, arith, append_assoc, length-append}
 use Rattle.std.specs.Prelude.{min}
+use Rattle.std.specs.List.Sorted.{IsPermutation}
 use Rattle.std.proofs.Math.Seq.{take-append_seam}
 use Rattle.std.proofs.lemmas.List.{append-nil, take_all, drop_all}
+use Rattle.std.proofs.lemmas.List.Sorted.{IsPermutation-refl, IsPermutation-append, IsPermutation-map}
+use Rattle.am_record.specs.OrderedKey.{OrderedKey}
 use Rattle.am_record.specs.Plain.{Records}
-use Rattle.am_runs.specs.Cuts.{keys_of, NoneTwice, IsRunOf, AreRunsOf}
-use Rattle.am_runs.proofs.Twice.{none_twice-append}
+use Rattle.am_runs.specs.declared.fault.LoadFault.{LoadFault}
+use Rattle.am_runs.specs.declared.fault.LoadFault.TheVariants.{NotRising, BadSize, Twice, NoMemory}
+use Rattle.am_runs.specs.Cuts.{keys_of, times, records_of, NoneTwice, IsRunOf, AreRunsOf, IsPieceFault, IsTwiceFault}
+use Rattle.am_record.proofs.FirstRows.{Record}
+use Rattle.am_runs.proofs.Twice.{times-append, found_permuted}
+use Rattle.am_runs.proofs.Sorts.{rising_apart}
 
-keys_of-append : (rs qs : Records) → keys_of (rs ++ qs) ≡ keys_of rs ++ keys_of qs
+pub keys_of-append : (rs qs : Records) → keys_of (rs ++ qs) ≡ keys_of rs ++ keys_of qs
 keys_of-append [] qs = refl
 keys_of-append (r ∷ rs) qs = ap (λ ks. r.0 ∷ ks) (keys_of-append rs qs)
 
@@ -32,19 +39,27 @@ drop_piece n piece (r ∷ rest) h =
 -- ---- the records are cut but for the rest
 
 pub record IsCutting (n : ℕ) (all : Records) (runs : List Records) (rest : Records) : Type 0 where
-  pub apart : NoneTwice (keys_of rest)
+  pub front : Records
+  pub split : all ≡ front ++ rest
   pub done : (later : List Records) → AreRunsOf n rest later → AreRunsOf n all (runs ++ later)
 
-pub cutting_starts : (n : ℕ) (all : Records) → NoneTwice (keys_of all) → IsCutting n all [] all
-cutting_starts n all h = record { apart = h; done = λ later are. are }
+pub cutting_starts : (n : ℕ) (all : Records) → IsCutting n all [] all
+cutting_starts n all = record { front = []; split = refl; done = λ later are. are }
 
-pub apart_piece : {n : ℕ} {all : Records} {runs : List Records} {rest : Records} (piece rest' : Records) → rest ≡ piece ++ rest' → IsCutting n all runs rest → NoneTwice (keys_of piece) × NoneTwice (keys_of rest')
-apart_piece piece rest' split h = none_twice-append (keys_of piece) (keys_of rest') (subst NoneTwice (ap keys_of split ∙ keys_of-append piece rest') h.apart)
+-- a key that stands twice in a piece does so in the records
+pub twice_piece : {n : ℕ} {all : Records} {runs : List Records} {rest : Records} (piece rest' : Records) (key : OrderedKey) → rest ≡ piece ++ rest' → IsCutting n all runs rest
+    → 2 ≤ times key (keys_of piece) → 2 ≤ times key (keys_of all)
+twice_piece piece rest' key split h two =
+    let whole : _ ≡ h.front ++ (piece ++ rest') = h.split ∙ ap (λ (l : Records). h.front ++ l) split in
+    let parts = keys_of-append h.front (piece ++ rest') ∙ ap (λ ks. keys_of h.front ++ ks) (keys_of-append piece rest') in
+    let count = ap (times key) (ap keys_of whole ∙ parts) ∙ times-append key (keys_of h.front) (keys_of piece ++ keys_of rest') in
+    omega (arith, two, count, times-append key (keys_of piece) (keys_of rest'))
 
 pub cut_piece : {n : ℕ} {all : Records} {runs : List Records} {rest : Records} (piece rest' run : Records) → rest ≡ piece ++ rest' → length piece ≡ min n (length rest)
     → IsCutting n all runs rest → IsRunOf piece run → IsCutting n all (runs ++ run ∷ []) rest'
 cut_piece {n} {all} {runs} {rest} piece rest' run split long h is = record {
-  apart = (apart_piece piece rest' split h).1;
+  front = h.front ++ piece;
+  split = h.split ∙ ap (λ (l : Records). h.front ++ l) split ∙ sym (append_assoc h.front piece rest');
   done = λ later are.
       let long' : length piece ≡ min n (length (piece ++ rest')) = long ∙ ap (λ (l : Records). min n (length l)) split in
       let first : take n rest ≡ piece = ap (take n) split ∙ take_piece n piece rest' long' in
@@ -56,3 +71,35 @@ cut_piece {n} {all} {runs} {rest} piece rest' run split long h is = record {
 pub cut_whole : {n : ℕ} {all : Records} (runs : List Records) (rest : Records) → length rest ≡ 0 → IsCutting n all runs rest → AreRunsOf n all runs
 cut_whole {n} {all} runs [] none h = subst (λ (l : List Records). AreRunsOf n all l) (append-nil runs) (h.done [] refl)
 cut_whole runs (r ∷ rest) none h = absurd (omega (arith, none))
+
+-- ---- the records of the runs
+
+take_drop : (n : ℕ) (rs : Records) → take n rs ++ drop n rs ≡ rs
+take_drop zero rs = refl
+take_drop (suc n) [] = refl
+take_drop (suc n) (r ∷ rs) = ap (λ l. r ∷ l) (take_drop n rs)
+
+pub runs_permuted : (n : ℕ) (rs : Records) (runs : List Records) → AreRunsOf n rs runs → IsPermutation rs (records_of runs)
+runs_permuted n rs [] none = subst (λ (l : Records). IsPermutation l []) (sym none) (IsPermutation-refl [])
+runs_permuted n rs (run ∷ runs) are =
+    subst (λ (l : Records). IsPermutation l (run ++ records_of runs)) (take_drop n rs)
+    (IsPermutation-append (take n rs) run (drop n rs) (records_of runs) are.0.same (runs_permuted n (drop n rs) runs are.1))
+
+-- no key stands twice in the records of one run
+pub few_apart : (n : ℕ) (rs : Records) (runs : List Records) → length runs < 2 → AreRunsOf n rs runs → NoneTwice (keys_of rs)
+few_apart n rs [] few none = subst (λ (l : Records). NoneTwice (keys_of l)) (sym none) (record { once = λ key. omega arith })
+few_apart n rs (run ∷ []) few are =
+    rising_apart rs run (subst (λ (l : Records). IsPermutation rs l) (append-nil run) (runs_permuted n rs (run ∷ []) are)) are.0.rising
+few_apart n rs (run ∷ next ∷ runs) few are = absurd (omega (arith, few))
+
+-- no key stands twice where none does in the runs
+pub apart_of_runs : (n : ℕ) (rs : Records) (runs : List Records) → AreRunsOf n rs runs → NoneTwice (keys_of (records_of runs)) → NoneTwice (keys_of rs)
+apart_of_runs n rs runs are h = found_permuted None (keys_of rs) (keys_of (records_of runs)) (IsPermutation-map (λ (r : Record). r.0) rs (records_of runs) (runs_permuted n rs runs are)) h
+
+-- ---- the fault of a piece, where no key stands twice
+
+pub only_memory : (rs : Records) (fault : LoadFault) → IsPieceFault rs fault → NoneTwice (keys_of rs) → IsTwiceFault rs fault
+only_memory rs NotRising h none = h
+only_memory rs BadSize h none = h
+only_memory rs (Twice key) two none = absurd (omega (arith, two, none.once key))
+only_memory rs NoMemory h none = h

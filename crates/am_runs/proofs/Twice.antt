@@ -21,19 +21,19 @@ use Rattle.am_runs.specs.Cuts.{keys_of, times, NoneTwice, IsLeastTwice}
 
 -- ---- how often a key stands
 
-abbrev one_if : OrderedKey → OrderedKey → ℕ
+abbrev pub one_if : OrderedKey → OrderedKey → ℕ
 one_if key k = cond (eq_by_cmp key_cmp key k) 1 0
 
-one_at : (key k : OrderedKey) → eq_by_cmp key_cmp key k ≡ true → one_if key k ≡ 1
+pub one_at : (key k : OrderedKey) → eq_by_cmp key_cmp key k ≡ true → one_if key k ≡ 1
 one_at key k h = ap (λ b. cond b 1 0) h
 
-none_at : (key k : OrderedKey) → eq_by_cmp key_cmp key k ≡ false → one_if key k ≡ 0
+pub none_at : (key k : OrderedKey) → eq_by_cmp key_cmp key k ≡ false → one_if key k ≡ 0
 none_at key k h = ap (λ b. cond b 1 0) h
 
-times-cons : (key k : OrderedKey) (ks : List OrderedKey) → times key (k ∷ ks) ≡ one_if key k + times key ks
+pub times-cons : (key k : OrderedKey) (ks : List OrderedKey) → times key (k ∷ ks) ≡ one_if key k + times key ks
 times-cons key k ks = sum_by-cons (one_if key) k ks
 
-times-append : (key : OrderedKey) (ks ls : List OrderedKey) → times key (ks ++ ls) ≡ times key ks + times key ls
+pub times-append : (key : OrderedKey) (ks ls : List OrderedKey) → times key (ks ++ ls) ≡ times key ks + times key ls
 times-append key ks ls = sum_by-append (one_if key) ks ls
 
 times-permutation : (key : OrderedKey) (ks ls : List OrderedKey) → IsPermutation ks ls → times key ls ≡ times key ks
@@ -44,9 +44,6 @@ none_twice-append ks ls h = (
   record { once = λ key. omega (arith, h.once key, times-append key ks ls) },
   record { once = λ key. omega (arith, h.once key, times-append key ks ls) },
 )
-
-pub none_twice-permuted : (ks ls : List OrderedKey) → IsPermutation ks ls → NoneTwice ks → NoneTwice ls
-none_twice-permuted ks ls p h = record { once = λ key. omega (arith, h.once key, times-permutation key ks ls p) }
 
 -- what is found in one order is so in the other
 pub found_permuted : (found : Option OrderedKey) (ks ls : List OrderedKey) → IsPermutation ks ls → MatchOption found (NoneTwice ls) (IsLeastTwice ls) → MatchOption found (NoneTwice ks) (IsLeastTwice ks)

@@ -1,5 +1,5 @@
 -- How records are cut into runs, and why they can't be.
-use Rattle.std.specs.Prelude.{◌≡◌, ◌≤◌, ℕ, List, [], ◌∷◌, true, map, take, drop, count_by}
+use Rattle.std.specs.Prelude.{◌≡◌, ◌<◌, ◌≤◌, ℕ, List, [], ◌∷◌, ◌++◌, true, ⊤, length, map, take, drop, count_by}
 use Rattle.std.specs.Ordering.{eq_by_cmp}
 use Rattle.std.specs.List.Sorted.{IsPermutation}
 use Rattle.am_record.specs.OrderedKey.{OrderedKey, key_cmp}
@@ -30,10 +30,22 @@ pub record IsRunOf (piece run : Records) : Type 0 where
   pub rising : is_rising run ≡ true
   pub same : IsPermutation piece run
 
+-- when each fault may be answered in place of the run of the records
+abbrev pub IsSortFault : Records → LoadFault → Type 0
+IsSortFault records NotRising = records ≡ []
+IsSortFault records (Twice key) = IsLeastTwice (keys_of records) key
+IsSortFault records NoMemory = 0 < length records
+IsSortFault records BadSize = ⊥
+
 -- the first n records make the first run, the next n the second, and so on; the last run may have fewer
 abbrev pub AreRunsOf : ℕ → Records → List Records → Type 0
 AreRunsOf n records [] = records ≡ []
 AreRunsOf n records (run ∷ runs) = IsRunOf (take n records) run × AreRunsOf n (drop n records) runs
+
+-- the records of the runs, one run behind another
+abbrev pub records_of : List Records → Records
+records_of [] = []
+records_of (run ∷ runs) = run ++ records_of runs
 
 -- how many records a run may be cut to have
 pub record IsRunSize (n : ℕ) : Type 0 where
@@ -52,3 +64,17 @@ IsCutFault n records BadSize = ¬ (IsRunSize n)
 IsCutFault n records (Twice key) = IsRunSize n × IsLeastTwice (keys_of records) key
 IsCutFault n records NoMemory = IsRunSize n
 IsCutFault n records NotRising = ⊥
+
+-- when the sorting of the pieces may fail
+abbrev pub IsPieceFault : Records → LoadFault → Type 0
+IsPieceFault records (Twice key) = 2 ≤ times key (keys_of records)
+IsPieceFault records NoMemory = ⊤
+IsPieceFault records NotRising = ⊥
+IsPieceFault records BadSize = ⊥
+
+-- when the search for a key that stands twice may fail, or find one
+abbrev pub IsTwiceFault : Records → LoadFault → Type 0
+IsTwiceFault records (Twice key) = IsLeastTwice (keys_of records) key
+IsTwiceFault records NoMemory = ⊤
+IsTwiceFault records NotRising = ⊥
+IsTwiceFault records BadSize = ⊥

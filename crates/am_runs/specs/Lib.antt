@@ -2,3 +2,4 @@ pub mod Cuts
 pub mod Loads
 pub mod Looks
 pub mod Walk
+pub mod Sorting

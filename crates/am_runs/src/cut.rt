@@ -1,13 +1,13 @@
 //! Cutting records into runs.
 
-ghost use Rattle.std.specs.Prelude.{◌≡◌, ◌<◌, length, IfOk, IfErr, MatchOption};
-ghost use Rattle.std.specs.List.Sorted.{IsSorted};
-ghost use Rattle.am_record.specs.OrderedKey.{key_cmp};
-ghost use Rattle.am_runs.specs.Cuts.{keys_of, IsCut, IsCutFault, IsRunOf, NoneTwice, IsLeastTwice};
+ghost use Rattle.std.specs.Prelude.{◌≡◌, ◌++◌, ℕ, true, map, IfOk, IfErr};
+ghost use Rattle.am_record.specs.KeyFront.{key_front};
+ghost use Rattle.am_runs.specs.Cuts.{keys_of, records_of, AreRunsOf, IsCut, IsCutFault, IsPieceFault, IsTwiceFault, IsRunSize, NoneTwice};
 
 use crate::fault::LoadFault;
 use crate::run::Run;
-use am_record::{Key, NoMemory, Value};
+use crate::ties::least_twice;
+use am_record::{Key, Value};
 use std::alloc::{AllocError, Global};
 
 /// The most records that a run may be cut to have.
@@ -27,54 +27,80 @@ pub fn cut_runs(alloc: Global, records: &[(Key, Value)], n: usize) -> Result<Vec
     if !(1..=MAX_RUN_LEN).contains(&n) {
         return Err(LoadFault::BadSize);
     }
-    if let Some(key) = least_twice(alloc, records)? {
-        return Err(LoadFault::Twice(key));
+    let runs = match sorted_pieces(alloc, records, n) {
+        Ok(runs) => runs,
+        Err(fault) => return Err(over_all(alloc, records, fault)),
+    };
+    with_keys_apart(alloc, records, runs)
+}
+
+// The fault of the records by that of a piece: a lower key may stand twice elsewhere.
+fn over_all(alloc: Global, records: &[(Key, Value)], fault: LoadFault) -> LoadFault
+    requires { IsPieceFault records.now fault }
+    ensures { IsTwiceFault records.now result }
+{
+    if fault == LoadFault::NoMemory {
+        return fault;
     }
+    match least_twice(alloc, records) {
+        Ok(Some(key)) => LoadFault::Twice(key),
+        Ok(None) => fault,
+        Err(_) => LoadFault::NoMemory,
+    }
+}
+
+// The run of each piece, where no key stands twice in one of them.
+fn sorted_pieces(alloc: Global, records: &[(Key, Value)], n: usize) -> Result<Vec<Run>, LoadFault>
+    requires { IsRunSize n }
+    ensures runs { IfOk result (λ runs. AreRunsOf n records.now runs.items) }
+    ensures fault { IfErr result (IsPieceFault records.now) }
+{
     let mut runs = Vec::new(alloc);
     for piece in records.chunks(n) {
-        runs.push(sorted_run(alloc, piece)?)?;
+        runs.push(Run::sorted(alloc, piece)?)?;
     }
     Ok(runs)
 }
 
-// The least of the keys that stand twice in the records.
-fn least_twice(alloc: Global, records: &[(Key, Value)]) -> Result<Option<Key>, NoMemory>
-    ensures { IfOk result (λ found. MatchOption found (NoneTwice (keys_of records.now)) (IsLeastTwice (keys_of records.now))) }
+// The runs of the records, where no key stands in two of them.
+fn with_keys_apart(
+    alloc: Global,
+    records: &[(Key, Value)],
+    runs: Vec<Run>,
+) -> Result<Vec<Run>, LoadFault>
+    requires { (n : ℕ) × AreRunsOf n records.now runs.items }
+    ensures value { IfOk result (λ same. same ≡ runs) }
+    ensures apart { IfOk result (λ _. NoneTwice (keys_of records.now)) }
+    ensures fault { IfErr result (IsTwiceFault records.now) }
 {
-    let mut keys = keys_of(alloc, records)?;
-    keys.sort_unstable();
-    Ok(first_tie(&keys))
-}
-
-fn keys_of(alloc: Global, records: &[(Key, Value)]) -> Result<Vec<Key>, AllocError>
-    ensures { IfOk result (λ keys. keys.items ≡ keys_of records.now) }
-{
-    records.iter().map(|record| record.0).collect(alloc)
-}
-
-// The first key of a sorted list that the next one equals.
-fn first_tie(keys: &[Key]) -> Option<Key>
-    requires { IsSorted key_cmp keys.now }
-    ensures { MatchOption result (NoneTwice keys.now) (IsLeastTwice keys.now) }
-{
-    let mut left = keys;
-    while let [key, next, ..] = left {
-        if key == next {
-            return Some(*key);
-        }
-        left = &left[1..];
+    if runs.len() < 2 || have_fronts_apart(alloc, &runs)? {
+        return Ok(runs);
     }
-    None
+    // Keys with one beginning may be equal.
+    match least_twice(alloc, records)? {
+        Some(key) => Err(LoadFault::Twice(key)),
+        None => Ok(runs),
+    }
 }
 
-// The run of records whose keys differ.
-fn sorted_run(alloc: Global, piece: &[(Key, Value)]) -> Result<Run, LoadFault>
-    requires some { 0 < length piece.now }
-    requires apart { NoneTwice (keys_of piece.now) }
-    ensures run { IfOk result (λ run. IsRunOf piece.now run) }
-    ensures fault { IfErr result (λ fault. fault ≡ LoadFault.NoMemory) }
+// Whether no two keys of the runs have one number of their first eight bytes.
+fn have_fronts_apart(alloc: Global, runs: &[Run]) -> Result<bool, AllocError>
+    ensures { IfOk result (λ apart. apart ≡ true → NoneTwice (keys_of (records_of runs.now))) }
 {
-    let mut pairs = Vec::from_slice(alloc, piece)?;
-    pairs.sort_unstable_by_key(|pair| pair.0);
-    Run::new(pairs)
+    let mut fronts = Vec::new(alloc);
+    for run in runs {
+        push_fronts(&mut fronts, run)?;
+    }
+    // Each run's rise, so that the stable sort merges them.
+    fronts.sort()?;
+    Ok(fronts.is_sorted_by(|a, b| a < b))
+}
+
+fn push_fronts(fronts: &mut Vec<u64>, run: &Run) -> Result<(), AllocError>
+    ensures { IfOk result (λ _. fronts.new.items ≡ fronts.old.items ++ map key_front (keys_of run.now)) }
+{
+    for pair in run.pairs() {
+        fronts.push(pair.0.front())?;
+    }
+    Ok(())
 }

@@ -7,6 +7,8 @@ mod laws;
 mod loading;
 mod look;
 mod run;
+mod sorting;
+mod ties;
 mod walk;
 
 pub use cut::{MAX_RUN_LEN, cut_runs};

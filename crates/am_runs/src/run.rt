@@ -2,9 +2,13 @@
 
 ghost use Rattle.std.specs.Prelude.{◌≡◌, ◌↔◌, true, IsOk, IfOk, IfErr};
 ghost use Rattle.am_record.specs.Plain.{is_rising};
+ghost use Rattle.am_runs.specs.Cuts.{keys_of, IsRunOf, IsSortFault, NoneTwice};
 
 use crate::fault::LoadFault;
+use crate::sorting::by_front;
+use crate::ties::{first_tie, keys_of};
 use am_record::{Key, Value, is_rising};
+use std::alloc::Global;
 use std::marker::Model;
 
 /// One record or more, their keys rising strictly.
@@ -39,6 +43,32 @@ impl Run {
     {
         if !is_rising(&pairs) {
             return Err(LoadFault::NotRising);
+        }
+        Ok(Run { pairs })
+    }
+
+    /// The run of these records, which may stand in any order.
+    ///
+    /// # Errors
+    /// NotRising, exactly where there is no record. Twice, where a key stands twice: the least such
+    /// key. NoMemory, where memory was refused; it may come where Twice is due.
+    pub fn sorted(alloc: Global, records: &[(Key, Value)]) -> Result<Run, LoadFault>
+        ensures run { IfOk result (λ run. IsRunOf records.now run) }
+        ensures apart { IfOk result (λ _. NoneTwice (keys_of records.now)) }
+        ensures fault { IfErr result (IsSortFault records.now) }
+    {
+        if records.is_empty() {
+            return Err(LoadFault::NotRising);
+        }
+        let mut pairs = by_front(alloc, records)?;
+        if is_rising(&pairs) {
+            return Ok(Run { pairs });
+        }
+        // Keys with one beginning may stand in any order.
+        pairs.sort_unstable_by_key(|pair| pair.0);
+        let keys = keys_of(alloc, &pairs)?;
+        if let Some(key) = first_tie(&keys) {
+            return Err(LoadFault::Twice(key));
         }
         Ok(Run { pairs })
     }

@@ -4,7 +4,7 @@ use Rattle.std.specs.List.Sorted.{IsPermutation}
 use Rattle.am_record.specs.OrderedKey.{OrderedKey}
 use Rattle.am_runs.specs.Cuts.{keys_of}
 use Rattle.am_runs.proofs.Twice.{found_permuted}
-use Rattle.am_runs.proofs.cut.least_twice.Goals as goal
+use Rattle.am_runs.proofs.ties.least_twice.Goals as goal
 
 pub returns : goal.returns
 returns c =

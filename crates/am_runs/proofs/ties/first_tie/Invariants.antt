@@ -1,6 +1,6 @@
 use Rattle.std.proofs.Common.{length}
 use Rattle.am_runs.proofs.Twice.{IsLeftOf}
-use Rattle.am_runs.proofs.cut.first_tie.Given as goal
+use Rattle.am_runs.proofs.ties.first_tie.Given as goal
 
 abbrev pub invariant-loop-left : goal.invariant-loop-left
 invariant-loop-left l = IsLeftOf l.keys l.left

@@ -1,6 +1,6 @@
 use Rattle.std.proofs.Common.{sym, ◌∙◌}
 use Rattle.am_runs.proofs.Twice.{all_left, tie_of, walk_of, walked}
-use Rattle.am_runs.proofs.cut.first_tie.Goals as goal
+use Rattle.am_runs.proofs.ties.first_tie.Goals as goal
 
 pub loop-left-init : goal.loop-left-init
 loop-left-init c = all_left c.args.keys.now c.requires

@@ -1,7 +1,7 @@
 use Rattle.std.proofs.Common.{◌≡◌}
 use Rattle.std.specs.Slice.Iter.{chunks_rest, chunks_size}
 use Rattle.am_runs.proofs.Pieces.{IsCutting}
-use Rattle.am_runs.proofs.cut.cut_runs.Given as goal
+use Rattle.am_runs.proofs.cut.sorted_pieces.Given as goal
 
 abbrev pub invariant-loop-piece : goal.invariant-loop-piece
 invariant-loop-piece l =
