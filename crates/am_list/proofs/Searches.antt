@@ -17,7 +17,7 @@ use Rattle.am_list.specs.Places.{AllBelow, NoneBelow, AllAbove, NoneAbove, IsPla
 use Rattle.am_list.proofs.Order.{below_same, ranks_rise}
 use Rattle.am_list.proofs.Lists.{rising_back, rising_above, rising_insert, rising_remove, rising_set, AllByRecursion-map, AllByRecursion-append, AllByRecursion-back, entry_at-append, entry_at_here, entry_at_none, next_any-append, next_any_front, next_ghost-append, next_ghost_front, next_from_front, after_front, next_from-append, after-append, set_entry-append, remove_entry-append, insert_entry-append}
 
-all_at : {X : Type 0} (P : X → Type 0) (xs : List X) (k : ℕ) (d : X) → AllByRecursion P xs → k < length xs → P (get_or xs k d)
+pub all_at : {X : Type 0} (P : X → Type 0) (xs : List X) (k : ℕ) (d : X) → AllByRecursion P xs → k < length xs → P (get_or xs k d)
 all_at P [] k d a h = absurd (omega arith)
 all_at P (x ∷ xs) zero d a h = a.0
 all_at P (x ∷ xs) (suc k) d a h = all_at P xs k d a.1 (omega arith)
