@@ -17,6 +17,12 @@ const RUNS: usize = 16;
 /// Of how many keys one is read.
 const ONE_OF: usize = 10;
 
+/// How many rows a scan asks for.
+const ROWS: usize = 100;
+
+/// Of how many keys one is hot.
+const HOT: usize = 100;
+
 /// Prints the figures of runs with all the keys. So long took the map's fill with these.
 pub(crate) fn print_figures<R: AllocGlobal + Print + Clock>(
     rt: &R,
@@ -29,10 +35,21 @@ pub(crate) fn print_figures<R: AllocGlobal + Print + Clock>(
     let mut map = BTreeMap::new(alloc);
     map::fill(&mut map, &keys.drawn)?;
     let asked = &keys.asked[..keys.asked.len() / ONE_OF];
+    let starts = &keys.asked[..keys.asked.len() / ROWS];
+    let hot = &keys.rising[..keys.rising.len() / HOT];
     print_load(rt, &mut store, runs, asked, filled)?;
     print_reads(rt, "point reads before merging", &mut store, &map, asked)?;
+    print_scans(rt, "scans of 100 before merging", &mut store, &map, starts)?;
     print_merge(rt, &mut store, keys.drawn.len() as u64)?;
-    print_reads(rt, "point reads after merging", &mut store, &map, asked)
+    print_reads(rt, "point reads after merging", &mut store, &map, asked)?;
+    print_scans(rt, "scans of 100 after merging", &mut store, &map, starts)?;
+    print_scans(
+        rt,
+        "the same, a hundredth of the keys",
+        &mut store,
+        &map,
+        hot,
+    )
 }
 
 // Loads the runs, reads a key, and prints how long both took. A map that is to answer at once has to be filled first.
@@ -68,6 +85,23 @@ fn print_reads<R: Print + Clock>(
     let ours = watch.stop(rt, sum)?;
     let watch = Watch::start(rt)?;
     let sum = map::read(map, keys);
+    let maps = watch.stop(rt, sum)?;
+    let operations = keys.len() as u64;
+    Figure { name, operations }.print(rt, ours, maps)
+}
+
+fn print_scans<R: AllocGlobal + Print + Clock>(
+    rt: &R,
+    name: &'static str,
+    store: &mut Store<BTree>,
+    map: &BTreeMap<Key, Value>,
+    keys: &[Key],
+) -> Result<(), Fault> {
+    let watch = Watch::start(rt)?;
+    let sum = store::scan(store, keys, Key::of_u64(u64::MAX), ROWS as u64)?;
+    let ours = watch.stop(rt, sum)?;
+    let watch = Watch::start(rt)?;
+    let sum = map::scan_from(rt.alloc(), map, keys, ROWS)?;
     let maps = watch.stop(rt, sum)?;
     let operations = keys.len() as u64;
     Figure { name, operations }.print(rt, ours, maps)

@@ -89,27 +89,35 @@ pub(crate) fn miss(store: &mut Store<BTree>, keys: &[Key]) -> Result<u64, Fault>
     Ok(keys.len() as u64)
 }
 
-/// Scans so many rows at most from each key up to the last, in such transactions, and answers how many rows came.
+/// Scans so many rows at most from each key up to the last, in such transactions, and adds up what they have.
 pub(crate) fn scan(
     store: &mut Store<BTree>,
     keys: &[Key],
     last: Key,
     rows: u64,
 ) -> Result<u64, Fault> {
-    let mut count: u64 = 0;
+    let mut sum: u64 = 0;
     for part in keys.chunks(READS) {
         let tx = begin(store)?;
         lock(store, tx, all_keys())?;
         for key in part {
             let range = Range::new(*key, last).ok_or(Fault::Differs)?;
-            match store.step(Step::Do(tx, Op::Scan(range, rows))) {
-                Reply::Rows(came) => count = count.saturating_add(came.as_slice().len() as u64),
-                _ => return Err(Fault::Differs),
-            }
+            sum = sum.wrapping_add(scan_one(store, tx, range, rows)?);
         }
         commit(store, tx)?;
     }
-    Ok(count)
+    Ok(sum)
+}
+
+fn scan_one(store: &mut Store<BTree>, tx: u64, range: Range, rows: u64) -> Result<u64, Fault> {
+    let Reply::Rows(came) = store.step(Step::Do(tx, Op::Scan(range, rows))) else {
+        return Err(Fault::Differs);
+    };
+    let mut sum: u64 = 0;
+    for row in came.as_slice() {
+        sum = sum.wrapping_add(weight(&row.1));
+    }
+    Ok(sum)
 }
 
 fn lock(store: &mut Store<BTree>, tx: u64, range: Range) -> Result<(), Fault> {

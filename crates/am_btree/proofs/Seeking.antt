@@ -2,7 +2,7 @@
 use Rattle.std.proofs.Common.{◌≡◌, ◌≢◌, ℕ, ◌+◌, Bool, true, false, ◌&&◌, eqb, List, [], ◌∷◌, ◌++◌, take, drop, Option, Some, None, if◌then◌else◌, refl, sym, ap, ◌∙◌, ⊎_elim}
 use Rattle.std.proofs.lemmas.Bool.{cases_Bool, cond-true, cond-false, eqb-true, and_right}
 use Rattle.std.proofs.lemmas.List.{take-append-drop}
-use Rattle.std.specs.List.{AllByRecursion, slice_get}
+use Rattle.std.specs.List.{AllByRecursion, slice_get, take_while}
 use Rattle.std.specs.declared.cmp.Ordering.{Ordering}
 use Rattle.std.specs.declared.cmp.Ordering.TheVariants.{Less, Equal, Greater}
 use Rattle.std.specs.Ordering.{is_ge, is_gt}
@@ -13,10 +13,11 @@ use Rattle.am_record.proofs.Lists.{AllByRecursion-map}
 use Rattle.am_list.specs.Entries.{first_such, next_from, after, IsRising}
 use Rattle.am_list.specs.Places.{AllBelow, AllAbove, IsPlaceOf, IsGapFor, only_of}
 use Rattle.am_list.proofs.Lists.{first_such-append, not_less, not_greater, differ, later_parts, next_from_none, after_none, next_from_here, after_here}
+use Rattle.am_list.proofs.Batches.{all_from_at, all_after_at}
 use Rattle.am_list.proofs.Searches.{lower_from_place, lower_from_gap, upper_from_place, upper_from_gap, slice_get-drop}
 use Rattle.am_btree.specs.declared.read.Start.{Start}
 use Rattle.am_btree.specs.declared.read.Start.TheVariants.{At, Above}
-use Rattle.am_btree.specs.Seek.{is_reached, first_from, IsStart}
+use Rattle.am_btree.specs.Seek.{is_reached, first_from, all_such, IsStart}
 
 -- ---- where a walk begins in a list
 
@@ -34,7 +35,7 @@ start_gap Above es part key i f = upper_from_gap es part key i f
 
 -- ---- what is reached
 
-reached_less : (start : Start) (o : Ordering) → o ≡ Less → is_reached start o ≡ false
+pub reached_less : (start : Start) (o : Ordering) → o ≡ Less → is_reached start o ≡ false
 reached_less At o h = ap is_ge h
 reached_less Above o h = ap is_gt h
 
@@ -145,3 +146,9 @@ module _ (part : ℕ) (key : OrderedKey) where
       ap (only_of part) (cond-false (is_gt (at y)) (Some y) (first_from Above ys part key) not) ∙ after_is ys r.1
       ∙ sym (cond-false (eqb y.part part && is_gt (at y)) (Some y) (after ys part key) (and_right (eqb y.part part) (is_gt (at y)) not)))
       (cases_Bool (is_gt (at y)))
+
+-- ---- the entries of a partition
+
+pub such_at : (start : Start) (part : ℕ) (key : OrderedKey) (es : List Entry) (i : ℕ) → IsStart start es part key i → IsRising es → take_while (λ e. eqb e.part part) (drop i es) ≡ all_such start es part key
+such_at At part key es i b rising = all_from_at part key es i b rising
+such_at Above part key es i b rising = all_after_at part key es i b rising

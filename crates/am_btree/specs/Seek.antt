@@ -1,5 +1,5 @@
 -- The first entry from a place on.
-use Rattle.std.specs.Prelude.{ℕ, Bool, List, Option}
+use Rattle.std.specs.Prelude.{ℕ, ◌==◌, ◌&&◌, Bool, List, filter, Option}
 use Rattle.std.specs.declared.cmp.Ordering.{Ordering}
 use Rattle.std.specs.Ordering.{is_ge, is_gt}
 use Rattle.am_record.specs.OrderedKey.{OrderedKey}
@@ -18,6 +18,10 @@ is_reached Above o = is_gt o
 -- the first entry at or above the place, or the first one strictly above it
 abbrev pub first_from : Start → List Entry → ℕ → OrderedKey → Option Entry
 first_from start es part key = first_such (λ e. is_reached start (place_cmp (place_of e) (part, key))) es
+
+-- the entries of that partition from the place on, in order
+abbrev pub all_such : Start → List Entry → ℕ → OrderedKey → List Entry
+all_such start es part key = filter (λ e. e.part == part && is_reached start (place_cmp (place_of e) (part, key))) es
 
 -- the entries from the place on begin at the index i
 abbrev pub IsStart : Start → List Entry → ℕ → OrderedKey → ℕ → Type 0

@@ -8,7 +8,7 @@ use crate::insert::Obstacle;
 use crate::node::Subtree;
 use crate::read::Start;
 use am_list::{Batch, PartIndex};
-use am_record::{Entry, Key, NoMemory, Value};
+use am_record::{Entry, Key, NoMemory, Range, Value};
 use std::alloc::Global;
 use std::marker::Model;
 
@@ -92,8 +92,22 @@ impl PartIndex for BTree {
         of_part(self.root.seek(part, key, Start::Above), part)
     }
 
+    fn read_from(&self, part: u32, key: Key, batch: &mut Batch) {
+        self.root.read_on(part, key, Start::At, batch);
+    }
+
     fn read_on(&self, part: u32, key: Key, batch: &mut Batch) {
-        self.root.read_on(part, key, batch);
+        self.root.read_on(part, key, Start::Above, batch);
+    }
+
+    fn copy_rows(
+        &self,
+        part: u32,
+        range: Range,
+        max: u64,
+        rows: &mut Vec<(Key, Value)>,
+    ) -> Result<(), NoMemory> {
+        self.root.copy_rows(part, range, max, rows)
     }
 
     fn next_any(&self, part: u32, key: Key) -> Option<Entry> {

@@ -1,14 +1,15 @@
 //! Walks from a place on.
 
-ghost use Rattle.std.specs.Prelude.{◌≡◌, ◌++◌, take, slice_get};
-ghost use Rattle.am_list.specs.Entries.{first_such, all_after, next_ghost, IsRising};
-ghost use Rattle.am_btree.specs.Seek.{first_from, IsStart};
+ghost use Rattle.std.specs.Prelude.{◌≡◌, ◌≤◌, ◌++◌, length, take, slice_get, OnOk};
+ghost use Rattle.am_list.specs.Entries.{first_such, next_ghost, IsRising};
+ghost use Rattle.am_list.specs.Content.{rows_in};
+ghost use Rattle.am_btree.specs.Seek.{first_from, all_such, IsStart};
 
 use crate::node::{Node, Subtree};
 use crate::separator::child_for;
 use am_leaf::RawLeaf;
 use am_list::Batch;
-use am_record::{Entry, Key};
+use am_record::{Entry, Key, NoMemory, Range, Value};
 
 /// Where a walk begins.
 #[derive(Clone, Copy, Debug)]
@@ -89,22 +90,51 @@ impl Subtree {
         }
     }
 
-    /// Appends the next entries of the partition strictly above the key, as many as the batch has
-    /// room for.
-    pub(crate) fn read_on(&self, part: u32, key: Key, batch: &mut Batch)
-        ensures read { batch.new ≡ take 16 (batch.old ++ all_after self.now.entries part key) }
+    /// Appends the entries of the partition from the place on, as many as the batch has room for.
+    pub(crate) fn read_on(&self, part: u32, key: Key, start: Start, batch: &mut Batch)
+        ensures read { batch.new ≡ take 16 (batch.old ++ all_such start self.now.entries part key) }
         ensures rising { IsRising self.now.entries }
     {
         match &self.node {
-            Node::Leaf(leaf) => read_on_in_leaf(leaf, part, key, batch),
+            Node::Leaf(leaf) => read_on_in_leaf(leaf, part, key, start, batch),
             Node::Inner(separators, children) => {
                 prove!(batch.entries().len() <= 16);
                 for at in child_for(separators, part, key)..children.len() {
                     if batch.is_full() || separators[at].part > part {
                         return;
                     }
-                    children[at].read_on(part, key, batch);
+                    children[at].read_on(part, key, start, batch);
                 }
+            }
+        }
+    }
+
+    /// Appends the live records of the partition in the range, until there are `max` rows. It goes down once, and then
+    /// from leaf to leaf.
+    ///
+    /// # Errors
+    /// NoMemory, where memory was refused.
+    pub(crate) fn copy_rows(
+        &self,
+        part: u32,
+        range: Range,
+        max: u64,
+        rows: &mut Vec<(Key, Value)>,
+    ) -> Result<(), NoMemory>
+        requires { length rows.old.items ≤ max }
+        ensures copied { OnOk result (rows.new.items ≡ take max (rows.old.items ++ rows_in self.now.entries part range)) }
+        ensures rising { IsRising self.now.entries }
+    {
+        match &self.node {
+            Node::Leaf(leaf) => copy_rows_in_leaf(leaf, part, range, max, rows),
+            Node::Inner(separators, children) => {
+                for at in child_for(separators, part, range.lo())..children.len() {
+                    if rows.len() as u64 >= max || !separators[at].is_reached(part, range.hi()) {
+                        return Ok(());
+                    }
+                    children[at].copy_rows(part, range, max, rows)?;
+                }
+                Ok(())
             }
         }
     }
@@ -153,13 +183,13 @@ fn next_ghost_in_leaf(leaf: &RawLeaf, part: u32, key: Key) -> Option<Entry>
     leaf.ghost_from(start_in_leaf(leaf, part, key, Start::At))
 }
 
-// Appends the next entries of the partition of a leaf, as many as the batch has room for.
-fn read_on_in_leaf(leaf: &RawLeaf, part: u32, key: Key, batch: &mut Batch)
-    ensures read { batch.new ≡ take 16 (batch.old ++ all_after leaf.now part key) }
+// Appends the entries of the partition of a leaf, as many as the batch has room for.
+fn read_on_in_leaf(leaf: &RawLeaf, part: u32, key: Key, start: Start, batch: &mut Batch)
+    ensures read { batch.new ≡ take 16 (batch.old ++ all_such start leaf.now part key) }
     ensures rising { IsRising leaf.now }
 {
     prove!(batch.entries().len() <= 16);
-    for at in start_in_leaf(leaf, part, key, Start::Above)..leaf.len() {
+    for at in start_in_leaf(leaf, part, key, start)..leaf.len() {
         if batch.is_full() {
             return;
         }
@@ -169,4 +199,30 @@ fn read_on_in_leaf(leaf: &RawLeaf, part: u32, key: Key, batch: &mut Batch)
         }
         batch.push(entry);
     }
+}
+
+// Appends the live records of a leaf's partition in the range, until there are `max` rows.
+fn copy_rows_in_leaf(
+    leaf: &RawLeaf,
+    part: u32,
+    range: Range,
+    max: u64,
+    rows: &mut Vec<(Key, Value)>,
+) -> Result<(), NoMemory>
+    requires { length rows.old.items ≤ max }
+    ensures copied { OnOk result (rows.new.items ≡ take max (rows.old.items ++ rows_in leaf.now part range)) }
+    ensures rising { IsRising leaf.now }
+{
+    let from = start_in_leaf(leaf, part, range.lo(), Start::At);
+    let to = start_in_leaf(leaf, part, range.hi(), Start::Above);
+    for at in from..to {
+        if rows.len() as u64 >= max {
+            return Ok(());
+        }
+        let entry = leaf.get(at);
+        if !entry.is_ghost {
+            rows.push((entry.key, entry.value))?;
+        }
+    }
+    Ok(())
 }

@@ -31,8 +31,8 @@ impl Separator {
         }
     }
 
-    // Whether it stands at or below the place.
-    fn is_reached(&self, part: u32, key: Key) -> bool
+    /// Whether it stands at or below the place.
+    pub(crate) fn is_reached(&self, part: u32, key: Key) -> bool
         ensures { result ≡ is_le (place_cmp (separator_place self.now) (part, key)) }
     {
         self.cmp_place(part, key).is_le()

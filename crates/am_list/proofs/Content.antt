@@ -90,7 +90,7 @@ live_has (e ∷ es) part key value h =
 
 -- ---- the content
 
-get-content : (es : List Entry) (key : OrderedKey) → get (content es) key ≡ looked_up key_cmp key (live_records es)
+pub get-content : (es : List Entry) (key : OrderedKey) → get (content es) key ≡ looked_up key_cmp key (live_records es)
 get-content es key = get-from_entries key_cmp-total (live_records es) key
 
 -- what the content has is live somewhere

@@ -8,3 +8,5 @@ pub mod ContentLaws
 pub mod WalkLaws
 pub mod ReadLaws
 pub mod Runs
+pub mod Rows
+mod RowLaws

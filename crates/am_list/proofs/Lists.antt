@@ -31,7 +31,7 @@ and_alone : (a b : Bool) → b ≡ true → (a && b) ≡ a
 and_alone true b e = e
 and_alone false b e = refl
 
-first_false : (a b : Bool) → a ≡ false → (a && b) ≡ false
+pub first_false : (a b : Bool) → a ≡ false → (a && b) ≡ false
 first_false true b e = absurd (cc)
 first_false false b e = refl
 

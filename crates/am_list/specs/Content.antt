@@ -1,7 +1,8 @@
 -- The content of an index: the map of the live entries of its list, no key being live in two partitions.
-use Rattle.std.specs.Prelude.{◌≡◌, ◌≢◌, ℕ, List, true, false, not, map, filter, Option, Some, None, if◌then◌else◌}
+use Rattle.std.specs.Prelude.{◌≡◌, ◌≢◌, ◌==◌, ◌&&◌, ℕ, List, true, false, not, map, filter, Option, Some, None, if◌then◌else◌}
 use Rattle.std.specs.FinMap.{get, insert, remove, from_entries}
 use Rattle.am_record.specs.OrderedKey.{OrderedKey}
+use Rattle.am_record.specs.Interval.{Interval, within}
 use Rattle.am_record.specs.Plain.{PlainMap, Records}
 use Rattle.am_record.specs.declared.entry.Entry.{Entry}
 use Rattle.am_list.specs.Entries.{Slot, find, insert_entry, set_entry, remove_entry, IsRising}
@@ -9,6 +10,10 @@ use Rattle.am_list.specs.Entries.{Slot, find, insert_entry, set_entry, remove_en
 -- the records of the live entries
 abbrev pub live_records : List Entry → Records
 live_records es = map (λ (e : Entry). (e.key, e.value)) (filter (λ (e : Entry). not e.is_ghost) es)
+
+-- the live records of that partition in the range
+abbrev pub rows_in : List Entry → ℕ → Interval → Records
+rows_in es part range = live_records (filter (λ (e : Entry). e.part == part && within range e.key) es)
 
 -- the map of the live entries
 abbrev pub content : List Entry → PlainMap
@@ -21,6 +26,10 @@ pub record IsLiveAt (es : List Entry) (part : ℕ) (key : OrderedKey) (value : L
 -- no key is live in two partitions
 pub record OnePlace (es : List Entry) : Type 0 where
   pub one : (key : OrderedKey) (part part' : ℕ) (value value' : List ℕ) → IsLiveAt es part key value → IsLiveAt es part' key value' → part ≡ part'
+
+-- what is live in the range is live in that partition
+pub record LivesInOne (es : List Entry) (part : ℕ) (range : Interval) : Type 0 where
+  pub one : (p : ℕ) (key : OrderedKey) (value : List ℕ) → IsLiveAt es p key value → within range key ≡ true → p ≡ part
 
 -- the entries rise, no key is live in two partitions, and this map is the content
 pub record HasContent (es : List Entry) (m : PlainMap) : Type 0 where

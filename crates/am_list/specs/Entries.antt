@@ -41,6 +41,10 @@ next_from es part key = first_such (λ e. e.part == part && is_ge (place_cmp (pl
 abbrev pub after : List Entry → ℕ → OrderedKey → Option Entry
 after es part key = first_such (λ e. e.part == part && is_gt (place_cmp (place_of e) (part, key))) es
 
+-- the entries of that partition at or above the key, in order
+abbrev pub all_from : List Entry → ℕ → OrderedKey → List Entry
+all_from es part key = filter (λ e. e.part == part && is_ge (place_cmp (place_of e) (part, key))) es
+
 -- the entries of that partition strictly above the key, in order
 abbrev pub all_after : List Entry → ℕ → OrderedKey → List Entry
 all_after es part key = filter (λ e. e.part == part && is_gt (place_cmp (place_of e) (part, key))) es

@@ -6,7 +6,7 @@ use Rattle.am_record.specs.OrderedKey.{OrderedKey, key_cmp}
 use Rattle.am_record.specs.Interval.{key_le}
 use Rattle.am_record.specs.EntryOrder.{place_of, place_cmp}
 use Rattle.am_record.specs.declared.entry.Entry.{Entry}
-use Rattle.am_list.specs.Entries.{entry_at, find, next_from, after, all_after, next_any, IsRising}
+use Rattle.am_list.specs.Entries.{entry_at, find, next_from, all_from, after, all_after, next_any, IsRising}
 
 -- the entry stands in the partition, and no entry of the partition with a key below its own has a key that is reached
 pub record IsFirstOf (es : List Entry) (part : ℕ) (reached : OrderedKey → Type 0) (x : Entry) : Type 0 where
@@ -31,8 +31,11 @@ pub record WalkLaws (es : List Entry) : Type 0 where
   pub any_none : (part : ℕ) (key : OrderedKey) → next_any es part key ≡ None →
       (p : ℕ) (q : OrderedKey) → place_cmp (part, key) (p, q) ≢ Greater → find es p q ≡ None
 
--- what is read on from a key in a rising list
+-- what is read from a key on in a rising list
 pub record ReadLaws (es : List Entry) : Type 0 where
+  -- at or above the key it is what stands first, and what is above that
+  pub from_none : (part : ℕ) (key : OrderedKey) → next_from es part key ≡ None → all_from es part key ≡ []
+  pub from_some : (part : ℕ) (key : OrderedKey) (x : Entry) → next_from es part key ≡ Some x → all_from es part key ≡ x ∷ all_after es part x.key
   -- entry by entry it is what stands next
   pub none : (part : ℕ) (key : OrderedKey) → after es part key ≡ None → all_after es part key ≡ []
   pub some : (part : ℕ) (key : OrderedKey) (x : Entry) → after es part key ≡ Some x → all_after es part key ≡ x ∷ all_after es part x.key

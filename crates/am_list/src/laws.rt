@@ -1,14 +1,15 @@
 //! Laws of lists of entries, for the proofs of whoever keeps an index. Their functions do nothing.
 
-ghost use Rattle.std.specs.Prelude.{List, []};
+ghost use Rattle.std.specs.Prelude.{ℕ, ◌≡◌, List, []};
 ghost use Rattle.std.specs.FinMap.{get, empty};
 ghost use Rattle.am_record.specs.OrderedKey.{OrderedKey};
-ghost use Rattle.am_record.specs.Plain.{PlainMap};
+ghost use Rattle.am_record.specs.Interval.{Interval, within};
+ghost use Rattle.am_record.specs.Plain.{PlainMap, rows_where};
 ghost use Rattle.am_record.specs.declared.entry.Entry.{Entry};
 ghost use Rattle.am_list.specs.Entries.{IsRising};
 ghost use Rattle.am_list.specs.Edits.{EditLaws};
 ghost use Rattle.am_list.specs.Walks.{WalkLaws, ReadLaws};
-ghost use Rattle.am_list.specs.Content.{OnePlace, HasContent, HasOne, values_at, ContentLaws};
+ghost use Rattle.am_list.specs.Content.{content, rows_in, LivesInOne, OnePlace, HasContent, HasOne, values_at, ContentLaws};
 
 /// What insertion, setting and removal do to a rising list, place by place.
 pub fn edits_follow()
@@ -20,7 +21,7 @@ pub fn walks_follow()
     ensures { (es : List Entry) → IsRising es → WalkLaws es }
 {}
 
-/// What is read on from a key in a rising list, in terms of what stands next and at each place.
+/// What is read from a key on in a rising list, in terms of what stands next and at each place.
 pub fn reads_follow()
     ensures { (es : List Entry) → IsRising es → ReadLaws es }
 {}
@@ -30,4 +31,9 @@ pub fn content_follows()
     ensures edits { (es : List Entry) → IsRising es → OnePlace es → ContentLaws es }
     ensures places { (es : List Entry) (m : PlainMap) → IsRising es → ((key : OrderedKey) → HasOne (values_at es key) (get m key)) → HasContent es m }
     ensures nothing { HasContent [] empty }
+{}
+
+/// The rows of a partition are those of the content, where nothing of the range is live elsewhere.
+pub fn rows_follow()
+    ensures { (es : List Entry) (part : ℕ) (range : Interval) → IsRising es → OnePlace es → LivesInOne es part range → rows_in es part range ≡ rows_where (within range) (content es) }
 {}

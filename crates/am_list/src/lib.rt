@@ -8,7 +8,7 @@ mod part_index;
 mod tight;
 
 pub use batch::Batch;
-pub use laws::{content_follows, edits_follow, reads_follow, walks_follow};
+pub use laws::{content_follows, edits_follow, reads_follow, rows_follow, walks_follow};
 pub use list_index::ListIndex;
 pub use part_index::PartIndex;
 pub use tight::Tight;

@@ -6,7 +6,7 @@ ghost use Rattle.am_list.specs.Places.{IsPlaceOf, IsGapFor, IsLowerBound, IsUppe
 ghost use Rattle.am_list.specs.Runs.{run_entries};
 
 use crate::{Batch, PartIndex};
-use am_record::{Entry, Key, NoMemory, Value};
+use am_record::{Entry, Key, NoMemory, Range, Value};
 use std::alloc::Global;
 use std::marker::Model;
 
@@ -117,9 +117,35 @@ impl PartIndex for ListIndex {
         self.of_part(part, self.upper_bound(part, key))
     }
 
+    fn read_from(&self, part: u32, key: Key, batch: &mut Batch) {
+        let from = self.lower_bound(part, key);
+        batch.push_part(part, &self.items[from..]);
+    }
+
     fn read_on(&self, part: u32, key: Key, batch: &mut Batch) {
         let from = self.upper_bound(part, key);
         batch.push_part(part, &self.items[from..]);
+    }
+
+    fn copy_rows(
+        &self,
+        part: u32,
+        range: Range,
+        max: u64,
+        rows: &mut Vec<(Key, Value)>,
+    ) -> Result<(), NoMemory> {
+        let from = self.lower_bound(part, range.lo());
+        let to = self.upper_bound(part, range.hi());
+        for at in from..to {
+            if rows.len() as u64 >= max {
+                return Ok(());
+            }
+            let entry = &self.items[at];
+            if !entry.is_ghost {
+                rows.push((entry.key, entry.value))?;
+            }
+        }
+        Ok(())
     }
 
     fn next_any(&self, part: u32, key: Key) -> Option<Entry> {

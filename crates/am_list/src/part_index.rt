@@ -1,13 +1,14 @@
 //! What every index over partitions does.
 
-ghost use Rattle.std.specs.Prelude.{◌≡◌, ◌<◌, ◌++◌, List, take, Some, None, IsSome, OnOk, OnErr};
+ghost use Rattle.std.specs.Prelude.{◌≡◌, ◌<◌, ◌≤◌, ◌++◌, List, length, take, Some, None, IsSome, OnOk, OnErr};
 ghost use Rattle.std.specs.List.{AllByRecursion};
 ghost use Rattle.am_record.specs.declared.entry.Entry.{Entry};
-ghost use Rattle.am_list.specs.Entries.{find, next_any, next_ghost, next_from, after, all_after, entry_at, insert_entry, set_entry, remove_entry, IsRising};
+ghost use Rattle.am_list.specs.Entries.{find, next_any, next_ghost, next_from, after, all_from, all_after, entry_at, insert_entry, set_entry, remove_entry, IsRising};
 ghost use Rattle.am_list.specs.Runs.{run_entries};
+ghost use Rattle.am_list.specs.Content.{rows_in};
 
 use crate::Batch;
-use am_record::{Entry, Key, NoMemory, Value};
+use am_record::{Entry, Key, NoMemory, Range, Value};
 
 /// An index over partitions, seen as the list of its entries. They rise strictly by partition and
 /// then by key, so no two entries have the same partition and key. Ghosts are entries as all others.
@@ -30,10 +31,32 @@ pub trait PartIndex {
         ensures found { result ≡ after (entries self.now) part key }
         ensures rising { IsRising (entries self.now) };
 
+    /// Appends the first entries of the partition at or above the key, as many as the batch has
+    /// room for. Where it is not full afterwards, the partition has no further ones.
+    fn read_from(&self, part: u32, key: Key, batch: &mut Batch)
+        ensures read { batch.new ≡ take 16 (batch.old ++ all_from (entries self.now) part key) }
+        ensures rising { IsRising (entries self.now) };
+
     /// Appends the next entries of the partition strictly above the key, as many as the batch has
     /// room for. Where it is not full afterwards, the partition has no further ones.
     fn read_on(&self, part: u32, key: Key, batch: &mut Batch)
         ensures read { batch.new ≡ take 16 (batch.old ++ all_after (entries self.now) part key) }
+        ensures rising { IsRising (entries self.now) };
+
+    /// Appends the live records of the partition in the range, by rising key, until there are `max`
+    /// rows. The caller sees to it that there are no more than these.
+    ///
+    /// # Errors
+    /// NoMemory, where memory was refused. Some rows may have been appended.
+    fn copy_rows(
+        &self,
+        part: u32,
+        range: Range,
+        max: u64,
+        rows: &mut Vec<(Key, Value)>,
+    ) -> Result<(), NoMemory>
+        requires { length rows.old.items ≤ max }
+        ensures copied { OnOk result (rows.new.items ≡ take max (rows.old.items ++ rows_in (entries self.now) part range)) }
         ensures rising { IsRising (entries self.now) };
 
     /// The first entry of the whole index at or above the place of a partition and key. It may be

@@ -6,7 +6,7 @@ ghost use Rattle.am_list.specs.Entries.{find, entry_at, insert_entry, set_entry,
 ghost use Rattle.am_list.specs.Runs.{run_entries};
 
 use crate::{Batch, PartIndex};
-use am_record::{Entry, Key, NoMemory, Value};
+use am_record::{Entry, Key, NoMemory, Range, Value};
 use std::marker::Model;
 
 /// An index over another one, whose inserts are counted from 1: those of the refused numbers answer NoMemory and change
@@ -59,8 +59,22 @@ impl<I: PartIndex + Drop> PartIndex for Tight<I> {
         self.index.after(part, key)
     }
 
+    fn read_from(&self, part: u32, key: Key, batch: &mut Batch) {
+        self.index.read_from(part, key, batch);
+    }
+
     fn read_on(&self, part: u32, key: Key, batch: &mut Batch) {
         self.index.read_on(part, key, batch);
+    }
+
+    fn copy_rows(
+        &self,
+        part: u32,
+        range: Range,
+        max: u64,
+        rows: &mut Vec<(Key, Value)>,
+    ) -> Result<(), NoMemory> {
+        self.index.copy_rows(part, range, max, rows)
     }
 
     fn next_any(&self, part: u32, key: Key) -> Option<Entry> {

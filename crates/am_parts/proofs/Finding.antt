@@ -12,12 +12,14 @@ use Rattle.am_record.specs.declared.entry.Entry.{Entry}
 use Rattle.am_list.specs.Entries.{Slot, slot_of, find, entry_at}
 use Rattle.am_list.specs.Content.{content, live_value, IsLiveAt}
 use Rattle.am_list.proofs.Edits.{first_such_all, entry_at_place}
+use Rattle.std.proofs.lemmas.List.{length-drop, get_or-drop, get_or_default}
+use Rattle.am_record.proofs.Lists.{AllByRecursion-map}
 use Rattle.am_filter.specs.Held.{holds}
 use Rattle.am_parts.specs.declared.catalog.OpenRun.{OpenRun}
 use Rattle.am_parts.specs.declared.generations.Generation.{Generation}
 use Rattle.am_parts.specs.Generations.{is_held, AreHeld}
 use Rattle.am_parts.specs.Catalogs.{parts_of, is_one_of, PartsRise, IsOpenRun, AreListed, Lacks}
-use Rattle.am_parts.specs.Partitions.{IsSound, LivesIn, LivesInNoRun, IsLiveEntry, IsVacancy, vacancy_over}
+use Rattle.am_parts.specs.Partitions.{IsSound, AreEmpty, AreEmptyFrom, LivesIn, LivesInNoRun, IsLiveEntry, IsVacancy, vacancy_over}
 use Rattle.am_parts.proofs.Lives.{laws_of, lives_in}
 use Rattle.am_parts.proofs.Listed.{is_listed, some_left}
 
@@ -181,3 +183,28 @@ module _ (es : List Entry) (key : OrderedKey) (sound : IsSound es) where
       by_cases None is = (is, dead_everywhere o dead none h)
       by_cases (Some (value, true)) is = (is, dead_everywhere o dead none h)
       by_cases (Some (value, false)) is = absurd (true≢false (sym (ap (λ (s : Option Slot). is_some (live_value s)) is) ∙ dead))
+
+-- ---- partitions without entries
+
+module _ {es : List Entry} {n : ℕ} {runs : List OpenRun} (h : AreListed es n runs) (from at : ℕ) (final : from ≡ 0 → n ≡ 0) (below : AllByRecursion (λ (r : OpenRun). r.part < from) (take at runs)) where
+  none_between : (to : ℕ) → ((d : OpenRun) → 0 < length (drop at runs) → to ≤ (get_or (drop at runs) 0 d).part) → (part : ℕ) (key : OrderedKey) → from ≤ part → part < to → find es part key ≡ None
+  none_between to stop part key low high =
+      ⊎_elim
+      (λ (same : part ≡ 0). ap (λ p. find es p key) same ∙ nothing_in_final key h (final (omega (arith, same, low))))
+      (λ (other : part ≢ 0).
+      let deny = went key from to runs at 0 h.rising below tt stop in
+      denied es key part to h (omega (arith, other))
+      (AllByRecursion-map (λ (r : OpenRun). from ≤ r.part → r.part < to → holds r.filter key ≡ false) (λ (r : OpenRun). part ≤ r.part → r.part < to → holds r.filter key ≡ false) (λ r f up down. f (omega (arith, up, low)) down) runs deny)
+      part (omega arith) high)
+      (cases_eq part 0)
+
+  pub empty_up_to : (r : OpenRun) → at < length runs → r ≡ get_or runs at r → AreEmpty es from r.part
+  empty_up_to r inside here = record {
+    none = none_between r.part (λ d lt.
+        let end : at ≡ at + 0 = omega arith in
+        let same : r.part ≡ (get_or (drop at runs) 0 d).part = ap (λ (q : OpenRun). q.part) (here ∙ get_or_default runs at r d inside ∙ ap (λ k. get_or runs k d) end ∙ sym (get_or-drop at runs 0 d)) in
+        omega (arith, same));
+  }
+
+  pub empty_from : length runs ≤ at → AreEmptyFrom es from
+  empty_from past = record { none = λ part key low. none_between (part + 1) (λ d lt. absurd (omega (arith, lt, past, length-drop at runs))) part key low (omega arith) }

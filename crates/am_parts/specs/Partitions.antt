@@ -1,5 +1,5 @@
 -- What is seen of the partitions of an index, where a key lives in them, and what their changes do to the content.
-use Rattle.std.specs.Prelude.{◌≡◌, ◌<◌, ◌^◌, ℕ, List, Bool, true, false, Option, Some, None, IsSome, is_some, refl, if◌then◌else◌}
+use Rattle.std.specs.Prelude.{◌≡◌, ◌≤◌, ◌<◌, ◌^◌, ℕ, List, Bool, true, false, Option, Some, None, IsSome, is_some, refl, if◌then◌else◌}
 use Rattle.std.specs.List.{AllByRecursion}
 use Rattle.std.specs.Coded.{Coded, code_by, coded×, coded_ℕ}
 use Rattle.std.specs.FinMap.{get, insert, remove}
@@ -26,6 +26,14 @@ pub record IsSound (es : List Entry) : Type 0 where
   pub rising : IsRising es
   pub one_place : OnePlace es
   pub fits : AllByRecursion (λ e. e.part < 2 ^ 32) es
+
+-- the partitions from the one up to the other have no entry
+pub record AreEmpty (es : List Entry) (from to : ℕ) : Type 0 where
+  pub none : (part : ℕ) (key : OrderedKey) → from ≤ part → part < to → find es part key ≡ None
+
+-- the same of all partitions from one on
+pub record AreEmptyFrom (es : List Entry) (from : ℕ) : Type 0 where
+  pub none : (part : ℕ) (key : OrderedKey) → from ≤ part → find es part key ≡ None
 
 -- the key is live in the partition, with the value that the content has
 pub record LivesIn (es : List Entry) (part : ℕ) (key : OrderedKey) : Type 0 where

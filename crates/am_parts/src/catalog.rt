@@ -70,6 +70,7 @@ pub(crate) struct Catalog {
 
 impl Catalog {
     ghost use Rattle.am_parts.specs.Catalogs.{AreCounted, IsCatalog, Passes};
+    ghost use Rattle.am_parts.specs.Partitions.{AreEmpty, AreEmptyFrom};
 
     /// That of an empty index. It takes no memory.
     pub(crate) fn new(alloc: Global) -> Catalog
@@ -88,6 +89,20 @@ impl Catalog {
         ensures { result ≡ false → self.now.in_final ≡ 0 }
     {
         self.in_final > 0
+    }
+
+    /// The first partition from that one on that has entries.
+    pub(crate) fn next_part(&self, from: u32) -> Option<u32>
+        requires rising { PartsRise (parts_of self.now.runs.items) }
+        ensures further { IfSome result (λ part. from ≤ part) }
+        ensures passed { IfSome result (λ part. (es : List Entry) → IsCatalog es self.now → AreEmpty es from part) }
+        ensures none { IfNone result ((es : List Entry) → IsCatalog es self.now → AreEmptyFrom es from) }
+    {
+        if from == 0 && self.has_final() {
+            return Some(0);
+        }
+        let at = count_below(&self.runs, u64::from(from));
+        Some(self.runs.get(at)?.part)
     }
 
     /// The first run from a partition on that may have an entry of the key. The number is the key's.

@@ -1,12 +1,12 @@
 //! The partitions of an index, and the changes that keep each key live in at most one of them.
 
-ghost use Rattle.std.specs.Prelude.{◌≡◌, ◌≢◌, ◌+◌, ◌<◌, ◌≤◌, ◌++◌, [], take, true, false, Some, None, IsSome, is_some, IfSome, IfNone, OnOk, OnErr};
+ghost use Rattle.std.specs.Prelude.{◌≡◌, ◌≢◌, ◌+◌, ◌<◌, ◌≤◌, ◌++◌, [], length, take, true, false, Some, None, IsSome, is_some, IfSome, IfNone, OnOk, OnErr};
 ghost use Rattle.std.specs.List.{AllByRecursion};
 ghost use Rattle.std.specs.FinMap.{get};
 ghost use Rattle.am_record.specs.Plain.{insert_all, is_rising};
-ghost use Rattle.am_list.specs.Entries.{find, slot_of, next_any, next_ghost, next_from, after, all_after, entry_at, insert_entry, set_entry, remove_entry, IsRising};
+ghost use Rattle.am_list.specs.Entries.{find, slot_of, next_any, next_ghost, next_from, after, all_from, all_after, entry_at, insert_entry, set_entry, remove_entry, IsRising};
 ghost use Rattle.am_list.specs.Runs.{run_entries};
-ghost use Rattle.am_list.specs.Content.{content, live_value, HasContent};
+ghost use Rattle.am_list.specs.Content.{content, rows_in, live_value, HasContent};
 ghost use Rattle.am_parts.specs.Catalogs.{IsCatalog};
 ghost use Rattle.am_parts.specs.Merged.{HasNoneBefore};
 ghost use Rattle.am_parts.specs.Partitions.{settled, vacancy_over};
@@ -55,7 +55,7 @@ impl<I: PartIndex + Drop> Model for Parts<I> {
 }
 
 impl<I: PartIndex + Drop> Parts<I> {
-    ghost use Rattle.am_parts.specs.Partitions.{IsSound, LivesIn, LivesInNoRun, LivesNowhereElse, IsLiveEntry, IsVacancy, content_with, content_without, content_marked, brought_home};
+    ghost use Rattle.am_parts.specs.Partitions.{IsSound, AreEmpty, AreEmptyFrom, LivesIn, LivesInNoRun, LivesNowhereElse, IsLiveEntry, IsVacancy, content_with, content_without, content_marked, brought_home};
 
     /// The partitions of an empty index.
     pub fn new(alloc: Global, index: I) -> Parts<I>
@@ -108,6 +108,15 @@ impl<I: PartIndex + Drop> Parts<I> {
         self.index.after(part, key)
     }
 
+    /// Appends the first entries of the partition at or above the key, as many as the batch has
+    /// room for. Where it is not full afterwards, the partition has no further ones.
+    pub fn read_from(&self, part: u32, key: Key, batch: &mut Batch)
+        ensures read { batch.new ≡ take 16 (batch.old ++ all_from self.now.entries part key) }
+        ensures sound { IsSound self.now.entries }
+    {
+        self.index.read_from(part, key, batch);
+    }
+
     /// Appends the next entries of the partition strictly above the key, as many as the batch has
     /// room for. Where it is not full afterwards, the partition has no further ones.
     pub fn read_on(&self, part: u32, key: Key, batch: &mut Batch)
@@ -115,6 +124,35 @@ impl<I: PartIndex + Drop> Parts<I> {
         ensures sound { IsSound self.now.entries }
     {
         self.index.read_on(part, key, batch);
+    }
+
+    /// Appends the live records of the partition in the range, by rising key, until there are `max`
+    /// rows. The caller sees to it that there are no more than these.
+    ///
+    /// # Errors
+    /// NoMemory, where memory was refused. Some rows may have been appended.
+    pub fn copy_rows(
+        &self,
+        part: u32,
+        range: Range,
+        max: u64,
+        rows: &mut Vec<(Key, Value)>,
+    ) -> Result<(), NoMemory>
+        requires { length rows.old.items ≤ max }
+        ensures copied { OnOk result (rows.new.items ≡ take max (rows.old.items ++ rows_in self.now.entries part range)) }
+        ensures sound { IsSound self.now.entries }
+    {
+        self.index.copy_rows(part, range, max, rows)
+    }
+
+    /// The first partition from that one on that has entries. The index isn't searched.
+    pub fn next_part(&self, from: u32) -> Option<u32>
+        ensures further { IfSome result (λ part. from ≤ part) }
+        ensures passed { IfSome result (λ part. AreEmpty self.now.entries from part) }
+        ensures none { IfNone result (AreEmptyFrom self.now.entries from) }
+        ensures sound { IsSound self.now.entries }
+    {
+        self.catalog.next_part(from)
     }
 
     /// The first entry at or above the place of a partition and key. It may be one of a later

@@ -16,16 +16,15 @@ use Rattle.am_list.specs.Content.{IsLiveAt}
 use Rattle.am_list.proofs.Content.{none_live}
 use Rattle.am_scan.specs.Looks.{AreEmpty, AreEmptyFrom, IsFirstIn, IsFirstFrom, HasNoneLive}
 use Rattle.am_scan.specs.declared.head.Head.{Head}
-use Rattle.am_scan.specs.Heads.{HasReadOn, IsFirstHead, IsNextHead, HasNoNext}
-use Rattle.am_scan.proofs.Moving.{turned, le_less, ghost_not_live, live_there}
+use Rattle.am_scan.specs.Heads.{HasReadOn, IsFirstHead, IsNextHead, HasNoNext, Stand}
+use Rattle.am_scan.proofs.Moving.{turned, le_less, ghost_not_live, live_there, in_ends}
 
 -- ---- the head of one partition
 
-pub nothing_read : (es : List Entry) (h : Head) → h.ahead.value ≡ [] → h.passed ≡ 0 → HasReadOn es h
-nothing_read es h ahead passed = record {
+pub nothing_read : (es : List Entry) (h : Stand) → h.read ≡ [] → HasReadOn es h
+nothing_read es h none = record {
   further = all_after es h.entry.part h.entry.key;
-  in_range = omega (arith, passed);
-  follows = ap (λ l. l ++ all_after es h.entry.part h.entry.key) (sym (ap (λ n. drop n h.ahead.value) passed ∙ ahead));
+  follows = ap (λ l. l ++ all_after es h.entry.part h.entry.key) (sym none);
 }
 
 module _ {es : List Entry} (range : Interval) (e : Entry) (first : IsFirstIn es range.lo e) where
@@ -37,22 +36,22 @@ module _ {es : List Entry} (range : Interval) (e : Entry) (first : IsFirstIn es 
     none = λ key value inside. none_before key value inside (le_less key range.hi e.key (key_cmp key range.hi) refl (and_parts (key_le range.lo key) (key_le key range.hi) inside).1 above);
   }
 
-  pub begins_live : (h : Head) → h.entry ≡ e → HasReadOn es h → key_le e.key range.hi ≡ true → e.is_ghost ≡ false → IsFirstHead es range e.part h
-  begins_live h same reads low lives = subst (λ (x : Entry). IsFirstHead es range e.part (record { entry = x; ahead = h.ahead; passed = h.passed })) (sym same) (record {
+  pub begins_live : (h : Stand) → h.entry ≡ e → HasReadOn es h → key_le e.key range.hi ≡ true → e.is_ghost ≡ false → IsFirstHead es range e.part h
+  begins_live h same reads low lives = subst (λ (x : Entry). IsFirstHead es range e.part (record { entry = x; read = h.read })) (sym same) (record {
     head = record {
       live = live_there es e.part e.key first.stands lives;
       inside = in_ends range e.key first.reached low;
-      reads = subst (λ (x : Entry). HasReadOn es (record { entry = x; ahead = h.ahead; passed = h.passed })) same reads;
+      reads = subst (λ (x : Entry). HasReadOn es (record { entry = x; read = h.read })) same reads;
     };
     in_part = refl;
     none_before = none_before;
   })
 
-  module _ (old : Head) (same : old.entry ≡ e) (ghostly : e.is_ghost ≡ true) where
+  module _ (old : Stand) (same : old.entry ≡ e) (ghostly : e.is_ghost ≡ true) where
     not_here : (key : OrderedKey) (value : List ℕ) → key_cmp e.key key ≡ Equal → ¬ IsLiveAt es e.part key value
     not_here key value h live = ghost_not_live es e.part e.key first.stands ghostly value (subst (λ k. IsLiveAt es e.part k value) (sym (key_cmp-exact e.key key h)) live)
 
-    pub begins_next : {new : Head} → IsNextHead es range old new → IsFirstHead es range e.part new
+    pub begins_next : {new : Stand} → IsNextHead es range old new → IsFirstHead es range e.part new
     begins_next {new} moved = record {
       head = moved.head;
       in_part = moved.in_part ∙ ap (λ (x : Entry). x.part) same;

@@ -27,8 +27,7 @@ use Rattle.am_list.proofs.Content.{none_live}
 use Rattle.am_parts.specs.Merged.{HasNoneBefore}
 use Rattle.am_parts.specs.Partitions.{IsSound}
 use Rattle.am_scan.specs.Looks.{AreEmptyFrom, IsFirstFrom, HasNoneLive}
-use Rattle.am_scan.specs.declared.head.Head.{Head}
-use Rattle.am_scan.specs.Heads.{head_cmp, IsHead, IsFirstHead}
+use Rattle.am_scan.specs.Heads.{Stand, head_cmp, IsHead, IsFirstHead}
 use Rattle.am_scan.specs.Cursors.{is_ahead_in, same_part, AreHeads, AreAllHeads}
 use Rattle.am_scan.proofs.Moving.{turned}
 
@@ -40,7 +39,7 @@ same_number x y h = grind (arith, nat_tests)
 pub other_number : (x y : ℕ) → (x ≡ y → ⊥) → (x == y) ≡ false
 other_number x y h = ⊎_elim (λ yes. absurd (h (eqb-true x y yes))) (λ no. no) (cases_Bool (x == y))
 
-pub same_either_way : (g h : Head) → same_part g h ≡ same_part h g
+pub same_either_way : (g h : Stand) → same_part g h ≡ same_part h g
 same_either_way g h =
     ⊎_elim
     (λ yes. yes ∙ sym (same_number h.entry.part g.entry.part (sym (eqb-true g.entry.part h.entry.part yes))))
@@ -80,30 +79,30 @@ max_one a b = ⊎_elim (λ (less : a < b). inr (max-le (omega arith) (omega arit
 -- ---- gathering
 
 -- of the partitions below this one the heads have all that is live in the range before them
-pub record AreHeadsBelow (es : List Entry) (range : Interval) (to : ℕ) (heads : List Head) : Type 0 where
+pub record AreHeadsBelow (es : List Entry) (range : Interval) (to : ℕ) (heads : List Stand) : Type 0 where
   pub are_heads : AreHeads es range heads
   pub heap : IsHeap head_cmp heads
-  pub below : All (λ (h : Head). h.entry.part < to) heads
+  pub below : All (λ (h : Stand). h.entry.part < to) heads
   pub before : (part : ℕ) (key : OrderedKey) (value : List ℕ) → part < to → IsLiveAt es part key value → within range key ≡ true → is_ahead_in heads part key ≡ true
 
-pub none_yet : (es : List Entry) (range : Interval) (heads : List Head) → heads ≡ [] → IsHeap head_cmp heads → AreHeadsBelow es range 0 heads
+pub none_yet : (es : List Entry) (range : Interval) (heads : List Stand) → heads ≡ [] → IsHeap head_cmp heads → AreHeadsBelow es range 0 heads
 unfolding IsDistinct
 none_yet es range heads none heap = record {
   are_heads = record { each = subst (All (IsHead es range)) (sym none) (All-nil (IsHead es range)); apart = subst (IsDistinct same_part) (sym none) tt };
   heap = heap;
-  below = subst (All (λ (h : Head). h.entry.part < 0)) (sym none) (All-nil (λ (h : Head). h.entry.part < 0));
+  below = subst (All (λ (h : Stand). h.entry.part < 0)) (sym none) (All-nil (λ (h : Stand). h.entry.part < 0));
   before = λ part key value less live inside. absurd (omega arith);
 }
 
-lower_all : (to to' : ℕ) (heads : List Head) → to ≤ to' → AllByRecursion (λ (h : Head). h.entry.part < to) heads → AllByRecursion (λ (h : Head). h.entry.part < to') heads
+lower_all : (to to' : ℕ) (heads : List Stand) → to ≤ to' → AllByRecursion (λ (h : Stand). h.entry.part < to) heads → AllByRecursion (λ (h : Stand). h.entry.part < to') heads
 lower_all to to' [] le all = tt
 lower_all to to' (h ∷ heads) le all = let low : h.entry.part < to = all.0 in (omega (arith, low), lower_all to to' heads le all.1)
 
-apart_from : (to : ℕ) (h : Head) (heads : List Head) → to ≤ h.entry.part → AllByRecursion (λ (g : Head). g.entry.part < to) heads → AllByRecursion (λ (g : Head). same_part h g ≡ false) heads
+apart_from : (to : ℕ) (h : Stand) (heads : List Stand) → to ≤ h.entry.part → AllByRecursion (λ (g : Stand). g.entry.part < to) heads → AllByRecursion (λ (g : Stand). same_part h g ≡ false) heads
 apart_from to h [] le all = tt
 apart_from to h (g ∷ heads) le all = let low : g.entry.part < to = all.0 in (other_number h.entry.part g.entry.part (λ same. omega (arith, low, same)), apart_from to h heads le all.1)
 
-module _ {es : List Entry} {range : Interval} {to : ℕ} {heads : List Head} (gathered : AreHeadsBelow es range to heads) where
+module _ {es : List Entry} {range : Interval} {to : ℕ} {heads : List Stand} (gathered : AreHeadsBelow es range to heads) where
   module _ (e : Entry) (first : IsFirstFrom es to range.lo e) where
     -- nothing of the range is live in the partitions that were skipped
     skipped : (part : ℕ) (key : OrderedKey) (value : List ℕ) → to ≤ part → part < e.part → within range key ≡ true → ¬ IsLiveAt es part key value
@@ -113,7 +112,7 @@ module _ {es : List Entry} {range : Interval} {to : ℕ} {heads : List Head} (ga
     passes_part none = let low = first.not_before in record {
       are_heads = gathered.are_heads;
       heap = gathered.heap;
-      below = All-from_recursion (λ (h : Head). h.entry.part < e.part + 1) heads (lower_all to (e.part + 1) heads (omega (arith, low)) (recursion_from_All (λ (h : Head). h.entry.part < to) heads gathered.below));
+      below = All-from_recursion (λ (h : Stand). h.entry.part < e.part + 1) heads (lower_all to (e.part + 1) heads (omega (arith, low)) (recursion_from_All (λ (h : Stand). h.entry.part < to) heads gathered.below));
       before = λ part key value less live inside.
           ⊎_elim (λ old. gathered.before part key value old live inside)
           (λ new. ⊎_elim (λ before. absurd (skipped part key value new before inside live))
@@ -122,9 +121,9 @@ module _ {es : List Entry} {range : Interval} {to : ℕ} {heads : List Head} (ga
           (cases_lt part to);
     }
 
-    module _ (h : Head) (begins : IsFirstHead es range e.part h) {heads' : List Head} (moved : IsPermutation (h ∷ heads) heads') (keeps : KeepsHeap head_cmp heads heads') where
-      below_h : AllByRecursion (λ (g : Head). g.entry.part < to) heads
-      below_h = recursion_from_All (λ (g : Head). g.entry.part < to) heads gathered.below
+    module _ (h : Stand) (begins : IsFirstHead es range e.part h) {heads' : List Stand} (moved : IsPermutation (h ∷ heads) heads') (keeps : KeepsHeap head_cmp heads heads') where
+      below_h : AllByRecursion (λ (g : Stand). g.entry.part < to) heads
+      below_h = recursion_from_All (λ (g : Stand). g.entry.part < to) heads gathered.below
 
       above_to : to ≤ h.entry.part
       above_to = let low = first.not_before in let same = begins.in_part in omega (arith, low, same)
@@ -156,10 +155,10 @@ module _ {es : List Entry} {range : Interval} {to : ℕ} {heads : List Head} (ga
           apart = IsDistinct-IsPermutation same_part same_either_way (h ∷ heads) heads' moved (IsDistinct-cons same_part h heads (apart_from to h heads above_to below_h) gathered.are_heads.apart);
         };
         heap = keeps gathered.heap;
-        below = All-permutation (λ (g : Head). g.entry.part < e.part + 1) (h ∷ heads) heads' moved (All-from_recursion (λ (g : Head). g.entry.part < e.part + 1) (h ∷ heads)
+        below = All-permutation (λ (g : Stand). g.entry.part < e.part + 1) (h ∷ heads) heads' moved (All-from_recursion (λ (g : Stand). g.entry.part < e.part + 1) (h ∷ heads)
             (let same = begins.in_part in (omega (arith, same), lower_all to (e.part + 1) heads (omega (arith, low)) below_h)));
         before = λ part key value less live inside.
-            sym (list_any-IsPermutation (λ (g : Head). g.entry.part == part && key_le g.entry.key key) (h ∷ heads) heads' moved) ∙ ahead part key value less live inside;
+            sym (list_any-IsPermutation (λ (g : Stand). g.entry.part == part && key_le g.entry.key key) (h ∷ heads) heads' moved) ∙ ahead part key value less live inside;
       }
 
   -- runs that have nothing in the range are passed
@@ -167,7 +166,7 @@ module _ {es : List Entry} {range : Interval} {to : ℕ} {heads : List Head} (ga
   passes_runs run to' some up which none = record {
     are_heads = gathered.are_heads;
     heap = gathered.heap;
-    below = All-from_recursion (λ (h : Head). h.entry.part < to') heads (lower_all to to' heads up (recursion_from_All (λ (h : Head). h.entry.part < to) heads gathered.below));
+    below = All-from_recursion (λ (h : Stand). h.entry.part < to') heads (lower_all to to' heads up (recursion_from_All (λ (h : Stand). h.entry.part < to) heads gathered.below));
     before = λ part key value less live inside.
         ⊎_elim (λ old. gathered.before part key value old live inside)
         (λ new. ⊎_elim (λ (same : to' ≡ to). absurd (omega (arith, same, less, new)))

@@ -22,8 +22,7 @@ use Rattle.am_record.proofs.KeyOrder.{ties_alike}
 use Rattle.am_record.proofs.FirstRows.{le_of_less}
 use Rattle.am_list.specs.Content.{content, IsLiveAt, ContentLaws}
 use Rattle.am_parts.specs.Partitions.{IsSound}
-use Rattle.am_scan.specs.declared.head.Head.{Head}
-use Rattle.am_scan.specs.Heads.{head_cmp, IsHead, IsNextHead, HasNoNext}
+use Rattle.am_scan.specs.Heads.{Stand, head_cmp, IsHead, IsNextHead, HasNoNext}
 use Rattle.am_scan.specs.Cursors.{is_ahead, rows_ahead, is_ahead_in, same_part, AreHeads, AreAhead, AreAllHeads, IsLeastBeside}
 use Rattle.am_scan.proofs.Moving.{turned, less_le, not_below_itself}
 use Rattle.am_scan.proofs.Gathering.{same_number, same_either_way}
@@ -102,17 +101,17 @@ no_rows t none (row ∷ rows) = cond-false (t row.0) (row ∷ filter (λ (r : Ro
 -- ---- heads at or below a key
 
 -- one of the heads is
-pub some_head : (P : Head → Type 0) (test : Head → Bool) (heads : List Head) → AllByRecursion P heads → list_any test heads ≡ true → (h : Head) × P h × (test h ≡ true)
+pub some_head : (P : Stand → Type 0) (test : Stand → Bool) (heads : List Stand) → AllByRecursion P heads → list_any test heads ≡ true → (h : Stand) × P h × (test h ≡ true)
 some_head P test [] all any = absurd (true≢false (sym any))
 some_head P test (h ∷ heads) all any =
     ⊎_elim (λ yes. (h, all.0, yes)) (λ no. some_head P test heads all.1 (ap (λ b. b || list_any test heads) (sym no) ∙ any)) (cases_Bool (test h))
 
-pub no_head : (test : Head → Bool) (heads : List Head) → AllByRecursion (λ (h : Head). test h ≡ false) heads → list_any test heads ≡ false
+pub no_head : (test : Stand → Bool) (heads : List Stand) → AllByRecursion (λ (h : Stand). test h ≡ false) heads → list_any test heads ≡ false
 no_head test [] all = refl
 no_head test (h ∷ heads) all = ap (λ b. b || list_any test heads) all.0 ∙ no_head test heads all.1
 
 -- a head of the partition is one of the heads
-pub ahead_somewhere : (heads : List Head) (part : ℕ) (key : OrderedKey) → is_ahead_in heads part key ≡ true → is_ahead heads key ≡ true
+pub ahead_somewhere : (heads : List Stand) (part : ℕ) (key : OrderedKey) → is_ahead_in heads part key ≡ true → is_ahead heads key ≡ true
 ahead_somewhere [] part key h = h
 ahead_somewhere (g ∷ heads) part key h =
     ⊎_elim
@@ -122,9 +121,9 @@ ahead_somewhere (g ∷ heads) part key h =
 
 -- ---- a cursor begins
 
-module _ {es : List Entry} (range : Interval) (sound : IsSound es) (laws : ContentLaws es) {heads : List Head} (all : AreAllHeads es range heads) {heads' : List Head} (popped : IsPermutation heads heads') where
+module _ {es : List Entry} (range : Interval) (sound : IsSound es) (laws : ContentLaws es) {heads : List Stand} (all : AreAllHeads es range heads) {heads' : List Stand} (popped : IsPermutation heads heads') where
   all_before : (part : ℕ) (key : OrderedKey) (value : List ℕ) → IsLiveAt es part key value → within range key ≡ true → is_ahead_in heads' part key ≡ true
-  all_before part key value live inside = sym (list_any-IsPermutation (λ (g : Head). g.entry.part == part && key_le g.entry.key key) heads heads' popped) ∙ all.before part key value live inside
+  all_before part key value live inside = sym (list_any-IsPermutation (λ (g : Stand). g.entry.part == part && key_le g.entry.key key) heads heads' popped) ∙ all.before part key value live inside
 
   pub begins : AreAhead es range heads'
   begins = record {
@@ -151,16 +150,16 @@ module _ {es : List Entry} (range : Interval) (sound : IsSound es) (laws : Conte
 
 -- ---- a cursor that has come to its end
 
-pub at_end : (heads : List Head) (range : Interval) (m : PlainMap) → heads ≡ [] → rows_ahead heads range m ≡ []
+pub at_end : (heads : List Stand) (range : Interval) (m : PlainMap) → heads ≡ [] → rows_ahead heads range m ≡ []
 at_end heads range m none = ap (λ l. rows_ahead l range m) none ∙ no_rows (λ q. false) (λ q. refl) (entries m)
 
-pub none_left : (least : Option Head) (others : List Head) → IsLeastBeside least others → least ≡ None → cons_option least others ≡ []
+pub none_left : (least : Option Stand) (others : List Stand) → IsLeastBeside least others → least ≡ None → cons_option least others ≡ []
 none_left least others beside none =
     ap (λ o. cons_option o others) none ∙ subst (λ o. MatchOption o (others ≡ []) (λ h. IsUpperBound head_cmp h others)) none beside.first
 
 -- ---- a cursor goes on
 
-module _ {es : List Entry} {range : Interval} (h : Head) (rest : List Head) (cursor : AreAhead es range (h ∷ rest)) (least : IsUpperBound head_cmp h rest) where
+module _ {es : List Entry} {range : Interval} (h : Stand) (rest : List Stand) (cursor : AreAhead es range (h ∷ rest)) (least : IsUpperBound head_cmp h rest) where
   pub standing : IsHead es range h
   standing = All-head (IsHead es range) h rest cursor.are_heads.each
 
@@ -168,8 +167,8 @@ module _ {es : List Entry} {range : Interval} (h : Head) (rest : List Head) (cur
   rest_heads = All-tail (IsHead es range) h rest cursor.are_heads.each
 
   -- every other head is above it
-  rest_above : (gs : List Head) → AllByRecursion (IsHead es range) gs → AllByRecursion (λ (g : Head). same_part h g ≡ false) gs → AllByRecursion (λ (g : Head). is_lt (head_cmp h g) ≡ false) gs
-      → AllByRecursion (λ (g : Head). key_cmp h.entry.key g.entry.key ≡ Less) gs
+  rest_above : (gs : List Stand) → AllByRecursion (IsHead es range) gs → AllByRecursion (λ (g : Stand). same_part h g ≡ false) gs → AllByRecursion (λ (g : Stand). is_lt (head_cmp h g) ≡ false) gs
+      → AllByRecursion (λ (g : Stand). key_cmp h.entry.key g.entry.key ≡ Less) gs
   rest_above [] each apart bound = tt
   rest_above (g ∷ gs) each apart bound = (by_order (key_cmp h.entry.key g.entry.key) refl, rest_above gs each.1 apart.1 bound.1)
     where
@@ -182,15 +181,15 @@ module _ {es : List Entry} {range : Interval} (h : Head) (rest : List Head) (cur
           absurd (true≢false (sym (same_number h.entry.part g.entry.part same) ∙ apart.0))
       by_order Greater e = absurd (true≢false (sym (ap is_lt (turned h.entry.key g.entry.key e)) ∙ bound.0))
 
-  others_above : AllByRecursion (λ (g : Head). key_cmp h.entry.key g.entry.key ≡ Less) rest
+  others_above : AllByRecursion (λ (g : Stand). key_cmp h.entry.key g.entry.key ≡ Less) rest
   others_above = rest_above rest (recursion_from_All (IsHead es range) rest rest_heads) (IsDistinct-head same_part h rest cursor.are_heads.apart) least
 
   -- what is left: heads above it, which have all that is live above it before them
-  module _ (heads' : List Head) (are : AreHeads es range heads') (above : All (λ (g : Head). key_cmp h.entry.key g.entry.key ≡ Less) heads')
+  module _ (heads' : List Stand) (are : AreHeads es range heads') (above : All (λ (g : Stand). key_cmp h.entry.key g.entry.key ≡ Less) heads')
       (ahead : (part : ℕ) (key : OrderedKey) (value : List ℕ) → IsLiveAt es part key value → within range key ≡ true → key_cmp h.entry.key key ≡ Less → is_ahead_in heads' part key ≡ true) where
     above_head : (key : OrderedKey) → is_ahead heads' key ≡ true → key_cmp h.entry.key key ≡ Less
     above_head key any =
-        let g = some_head (λ (g : Head). key_cmp h.entry.key g.entry.key ≡ Less) (λ (g : Head). key_le g.entry.key key) heads' (recursion_from_All (λ (g : Head). key_cmp h.entry.key g.entry.key ≡ Less) heads' above) any in
+        let g = some_head (λ (g : Stand). key_cmp h.entry.key g.entry.key ≡ Less) (λ (g : Stand). key_le g.entry.key key) heads' (recursion_from_All (λ (g : Stand). key_cmp h.entry.key g.entry.key ≡ Less) heads' above) any in
         less_le h.entry.key g.0.entry.key key (key_cmp g.0.entry.key key) g.1 refl g.2
 
     goes_on : AreAhead es range heads'
@@ -200,12 +199,12 @@ module _ {es : List Entry} {range : Interval} (h : Head) (rest : List Head) (cur
     from_head key le = or_left (key_le h.entry.key key) (is_ahead rest key) le
 
     none_below : (key : OrderedKey) → key_cmp key h.entry.key ≡ Less → is_ahead (h ∷ rest) key ≡ false
-    none_below key below = no_head (λ (g : Head). key_le g.entry.key key) (h ∷ rest) (not_le h.entry.key below, not_rest rest others_above)
+    none_below key below = no_head (λ (g : Stand). key_le g.entry.key key) (h ∷ rest) (not_le h.entry.key below, not_rest rest others_above)
       where
         not_le : (k : OrderedKey) → key_cmp key k ≡ Less → key_le k key ≡ false
         not_le k less = ap is_le (key_cmp-total.antisymm k key ∙ ap ordering_reverse less)
 
-        not_rest : (gs : List Head) → AllByRecursion (λ (g : Head). key_cmp h.entry.key g.entry.key ≡ Less) gs → AllByRecursion (λ (g : Head). key_le g.entry.key key ≡ false) gs
+        not_rest : (gs : List Stand) → AllByRecursion (λ (g : Stand). key_cmp h.entry.key g.entry.key ≡ Less) gs → AllByRecursion (λ (g : Stand). key_le g.entry.key key ≡ false) gs
         not_rest [] all = tt
         not_rest (g ∷ gs) all = (not_le g.entry.key (key_cmp-total.trans key h.entry.key g.entry.key below all.0), not_rest gs all.1)
 
@@ -236,19 +235,19 @@ module _ {es : List Entry} {range : Interval} (h : Head) (rest : List Head) (cur
   among part key value live inside over = cursor.before part key value live inside (or_left (key_le h.entry.key key) (is_ahead rest key) (le_of_less h.entry.key key over))
 
   -- it was the last of its partition
-  module _ (ended : HasNoNext es range h) (heads' : List Head) (popped : IsPermutation rest heads') where
+  module _ (ended : HasNoNext es range h) (heads' : List Stand) (popped : IsPermutation rest heads') where
     without_are : AreHeads es range heads'
     without_are = record {
       each = All-permutation (IsHead es range) rest heads' popped rest_heads;
       apart = IsDistinct-IsPermutation same_part same_either_way rest heads' popped (IsDistinct-tail same_part h rest cursor.are_heads.apart);
     }
 
-    without_above : All (λ (g : Head). key_cmp h.entry.key g.entry.key ≡ Less) heads'
-    without_above = All-permutation (λ (g : Head). key_cmp h.entry.key g.entry.key ≡ Less) rest heads' popped (All-from_recursion (λ (g : Head). key_cmp h.entry.key g.entry.key ≡ Less) rest others_above)
+    without_above : All (λ (g : Stand). key_cmp h.entry.key g.entry.key ≡ Less) heads'
+    without_above = All-permutation (λ (g : Stand). key_cmp h.entry.key g.entry.key ≡ Less) rest heads' popped (All-from_recursion (λ (g : Stand). key_cmp h.entry.key g.entry.key ≡ Less) rest others_above)
 
     without_ahead : (part : ℕ) (key : OrderedKey) (value : List ℕ) → IsLiveAt es part key value → within range key ≡ true → key_cmp h.entry.key key ≡ Less → is_ahead_in heads' part key ≡ true
     without_ahead part key value live inside over =
-        sym (list_any-IsPermutation (λ (g : Head). g.entry.part == part && key_le g.entry.key key) rest heads' popped)
+        sym (list_any-IsPermutation (λ (g : Stand). g.entry.part == part && key_le g.entry.key key) rest heads' popped)
         ∙ ⊎_elim
         (λ here.
         let same : h.entry.part ≡ part = eqb-true h.entry.part part (and_parts (h.entry.part == part) (key_le h.entry.key key) here).0 in
@@ -263,8 +262,8 @@ module _ {es : List Entry} {range : Interval} (h : Head) (rest : List Head) (cur
     ends_first = gives_first heads' without_are without_above without_ahead
 
   -- it moved on
-  module _ (new : Head) (moved : IsNextHead es range h new) (heads' : List Head) (kept : IsPermutation (new ∷ rest) heads') where
-    new_apart : (gs : List Head) → AllByRecursion (λ (g : Head). same_part h g ≡ false) gs → AllByRecursion (λ (g : Head). same_part new g ≡ false) gs
+  module _ (new : Stand) (moved : IsNextHead es range h new) (heads' : List Stand) (kept : IsPermutation (new ∷ rest) heads') where
+    new_apart : (gs : List Stand) → AllByRecursion (λ (g : Stand). same_part h g ≡ false) gs → AllByRecursion (λ (g : Stand). same_part new g ≡ false) gs
     new_apart [] all = tt
     new_apart (g ∷ gs) all = (ap (λ p. p == g.entry.part) moved.in_part ∙ all.0, new_apart gs all.1)
 
@@ -275,8 +274,8 @@ module _ {es : List Entry} {range : Interval} (h : Head) (rest : List Head) (cur
           (IsDistinct-cons same_part new rest (new_apart rest (IsDistinct-head same_part h rest cursor.are_heads.apart)) (IsDistinct-tail same_part h rest cursor.are_heads.apart));
     }
 
-    with_above : All (λ (g : Head). key_cmp h.entry.key g.entry.key ≡ Less) heads'
-    with_above = All-permutation (λ (g : Head). key_cmp h.entry.key g.entry.key ≡ Less) (new ∷ rest) heads' kept (All-from_recursion (λ (g : Head). key_cmp h.entry.key g.entry.key ≡ Less) (new ∷ rest) (moved.above, others_above))
+    with_above : All (λ (g : Stand). key_cmp h.entry.key g.entry.key ≡ Less) heads'
+    with_above = All-permutation (λ (g : Stand). key_cmp h.entry.key g.entry.key ≡ Less) (new ∷ rest) heads' kept (All-from_recursion (λ (g : Stand). key_cmp h.entry.key g.entry.key ≡ Less) (new ∷ rest) (moved.above, others_above))
 
     reached : (part : ℕ) (key : OrderedKey) (value : List ℕ) → h.entry.part ≡ part → IsLiveAt es part key value → key_cmp h.entry.key key ≡ Less → key_le new.entry.key key ≡ true
     reached part key value same live over = by_order (key_cmp new.entry.key key) refl
@@ -288,7 +287,7 @@ module _ {es : List Entry} {range : Interval} (h : Head) (rest : List Head) (cur
 
     with_ahead : (part : ℕ) (key : OrderedKey) (value : List ℕ) → IsLiveAt es part key value → within range key ≡ true → key_cmp h.entry.key key ≡ Less → is_ahead_in heads' part key ≡ true
     with_ahead part key value live inside over =
-        sym (list_any-IsPermutation (λ (g : Head). g.entry.part == part && key_le g.entry.key key) (new ∷ rest) heads' kept)
+        sym (list_any-IsPermutation (λ (g : Stand). g.entry.part == part && key_le g.entry.key key) (new ∷ rest) heads' kept)
         ∙ ⊎_elim
         (λ here.
         let same : h.entry.part ≡ part = eqb-true h.entry.part part (and_parts (h.entry.part == part) (key_le h.entry.key key) here).0 in

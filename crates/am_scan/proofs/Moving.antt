@@ -17,7 +17,7 @@ use Rattle.am_list.specs.Walks.{WalkLaws, ReadLaws}
 use Rattle.am_list.specs.Content.{IsLiveAt}
 use Rattle.am_list.proofs.Content.{none_live}
 use Rattle.am_scan.specs.declared.head.Head.{Head}
-use Rattle.am_scan.specs.Heads.{HasReadOn, IsNextHead, HasNoNext}
+use Rattle.am_scan.specs.Heads.{HasReadOn, IsNextHead, HasNoNext, Stand}
 
 -- ---- keys
 
@@ -68,13 +68,13 @@ live_there es part key {e} stands lives = record { there = found es part key sta
 -- ---- the way
 
 -- nothing that was passed behind the old head is live
-pub record IsOnTheWay (es : List Entry) (old now : Head) : Type 0 where
+pub record IsOnTheWay (es : List Entry) (old now : Stand) : Type 0 where
   pub reads : HasReadOn es now
   pub in_part : now.entry.part ≡ old.entry.part
   pub not_below : key_le old.entry.key now.entry.key ≡ true
   pub none_passed : (key : OrderedKey) (value : List ℕ) → key_cmp old.entry.key key ≡ Less → key_le key now.entry.key ≡ true → ¬ IsLiveAt es old.entry.part key value
 
-pub sets_out : (es : List Entry) (h : Head) → HasReadOn es h → IsOnTheWay es h h
+pub sets_out : (es : List Entry) (h : Stand) → HasReadOn es h → IsOnTheWay es h h
 sets_out es h reads = record {
   reads = reads;
   in_part = refl;
@@ -82,7 +82,7 @@ sets_out es h reads = record {
   none_passed = λ key value above low live. not_below_itself h.entry.key (less_le h.entry.key key h.entry.key (key_cmp key h.entry.key) above refl low);
 }
 
-module _ {es : List Entry} (walks : WalkLaws es) (reads : ReadLaws es) {old now : Head} (way : IsOnTheWay es old now) where
+module _ {es : List Entry} (walks : WalkLaws es) (reads : ReadLaws es) {old now : Stand} (way : IsOnTheWay es old now) where
   -- no entry follows
   way_ends : (range : Interval) → after es now.entry.part now.entry.key ≡ None → HasNoNext es range old
   way_ends range last = record {
@@ -121,12 +121,12 @@ module _ {es : List Entry} (walks : WalkLaws es) (reads : ReadLaws es) {old now 
     }
 
     -- it is live
-    pub arrives : (range : Interval) {new : Head} → new.entry ≡ e → HasReadOn es new → key_le range.lo old.entry.key ≡ true → key_le e.key range.hi ≡ true → e.is_ghost ≡ false → IsNextHead es range old new
-    arrives range {new} same read from to lives = subst (λ (x : Entry). IsNextHead es range old (record { entry = x; ahead = new.ahead; passed = new.passed })) (sym same) (record {
+    pub arrives : (range : Interval) {new : Stand} → new.entry ≡ e → HasReadOn es new → key_le range.lo old.entry.key ≡ true → key_le e.key range.hi ≡ true → e.is_ghost ≡ false → IsNextHead es range old new
+    arrives range {new} same read from to lives = subst (λ (x : Entry). IsNextHead es range old (record { entry = x; read = new.read })) (sym same) (record {
       head = record {
         live = subst (λ p. IsLiveAt es p e.key e.value) (sym stands_in) (live_there es old.entry.part e.key stands lives);
         inside = in_ends range e.key (ap is_le (le_less range.lo old.entry.key e.key (key_cmp range.lo old.entry.key) refl from above_old)) to;
-        reads = subst (λ (x : Entry). HasReadOn es (record { entry = x; ahead = new.ahead; passed = new.passed })) same read;
+        reads = subst (λ (x : Entry). HasReadOn es (record { entry = x; read = new.read })) same read;
       };
       in_part = stands_in;
       above = above_old;
@@ -134,9 +134,9 @@ module _ {es : List Entry} (walks : WalkLaws es) (reads : ReadLaws es) {old now 
     })
 
     -- it is a ghost
-    pub way_on : {new : Head} → new.entry ≡ e → HasReadOn es new → e.is_ghost ≡ true → IsOnTheWay es old new
-    way_on {new} same read ghostly = subst (λ (x : Entry). IsOnTheWay es old (record { entry = x; ahead = new.ahead; passed = new.passed })) (sym same) (record {
-      reads = subst (λ (x : Entry). HasReadOn es (record { entry = x; ahead = new.ahead; passed = new.passed })) same read;
+    pub way_on : {new : Stand} → new.entry ≡ e → HasReadOn es new → e.is_ghost ≡ true → IsOnTheWay es old new
+    way_on {new} same read ghostly = subst (λ (x : Entry). IsOnTheWay es old (record { entry = x; read = new.read })) (sym same) (record {
+      reads = subst (λ (x : Entry). HasReadOn es (record { entry = x; read = new.read })) same read;
       in_part = stands_in;
       not_below = le_of_less old.entry.key e.key above_old;
       none_passed = λ key value above low live. by_order key value above (key_cmp key e.key) refl low live;
@@ -147,7 +147,7 @@ module _ {es : List Entry} (walks : WalkLaws es) (reads : ReadLaws es) {old now 
         by_order key value above Equal h low live = ghost_not_live es old.entry.part e.key stands ghostly value (subst (λ k. IsLiveAt es old.entry.part k value) (key_cmp-exact key e.key h) live)
         by_order key value above Greater h low live = absurd (true≢false (sym low))
 
-    pub way_shortens : (new : Head) → new.entry ≡ e → length (all_after es new.entry.part new.entry.key) < length (all_after es now.entry.part now.entry.key)
+    pub way_shortens : (new : Stand) → new.entry ≡ e → length (all_after es new.entry.part new.entry.key) < length (all_after es now.entry.part now.entry.key)
     way_shortens new same =
         let longer : length (all_after es now.entry.part now.entry.key) ≡ length (e ∷ all_after es now.entry.part e.key) = ap length (reads.some now.entry.part now.entry.key e next) in
         let here : length (all_after es new.entry.part new.entry.key) ≡ length (all_after es now.entry.part e.key) =

@@ -8,47 +8,46 @@ use Rattle.am_record.specs.Plain.{PlainMap, Records, rows_where}
 use Rattle.am_record.specs.declared.entry.Entry.{Entry}
 use Rattle.am_list.specs.Content.{IsLiveAt}
 use Rattle.am_parts.specs.Partitions.{IsSound}
-use Rattle.am_scan.specs.declared.head.Head.{Head}
-use Rattle.am_scan.specs.Heads.{head_cmp, IsHead}
+use Rattle.am_scan.specs.Heads.{Stand, head_cmp, IsHead}
 
 -- whether a head stands at the key or below it
-abbrev pub is_ahead : List Head → OrderedKey → Bool
-is_ahead heads key = list_any (λ (h : Head). key_le h.entry.key key) heads
+abbrev pub is_ahead : List Stand → OrderedKey → Bool
+is_ahead heads key = list_any (λ (h : Stand). key_le h.entry.key key) heads
 
 -- the records of the range from the least head on, by rising key
-abbrev pub rows_ahead : List Head → Interval → PlainMap → Records
+abbrev pub rows_ahead : List Stand → Interval → PlainMap → Records
 rows_ahead heads range m = rows_where (λ key. is_ahead heads key && within range key) m
 
 -- whether the head of the partition stands at the key or below it
-abbrev pub is_ahead_in : List Head → ℕ → OrderedKey → Bool
-is_ahead_in heads part key = list_any (λ (h : Head). h.entry.part == part && key_le h.entry.key key) heads
+abbrev pub is_ahead_in : List Stand → ℕ → OrderedKey → Bool
+is_ahead_in heads part key = list_any (λ (h : Stand). h.entry.part == part && key_le h.entry.key key) heads
 
-abbrev pub same_part : Head → Head → Bool
+abbrev pub same_part : Stand → Stand → Bool
 same_part g h = g.entry.part == h.entry.part
 
 -- heads at live entries of the range, one of a partition at most
-pub record AreHeads (es : List Entry) (range : Interval) (heads : List Head) : Type 0 where
+pub record AreHeads (es : List Entry) (range : Interval) (heads : List Stand) : Type 0 where
   pub each : All (IsHead es range) heads
   pub apart : IsDistinct same_part heads
 
 -- the heads have all that is live from the least head on before them
-pub record AreAhead (es : List Entry) (range : Interval) (heads : List Head) : Type 0 where
+pub record AreAhead (es : List Entry) (range : Interval) (heads : List Stand) : Type 0 where
   pub sound : IsSound es
   pub are_heads : AreHeads es range heads
   pub before : (part : ℕ) (key : OrderedKey) (value : List ℕ) → IsLiveAt es part key value → within range key ≡ true → is_ahead heads key ≡ true → is_ahead_in heads part key ≡ true
 
 -- the heads, in a heap, have all that is live in the range before them
-pub record AreAllHeads (es : List Entry) (range : Interval) (heads : List Head) : Type 0 where
+pub record AreAllHeads (es : List Entry) (range : Interval) (heads : List Stand) : Type 0 where
   pub are_heads : AreHeads es range heads
   pub heap : IsHeap head_cmp heads
   pub before : (part : ℕ) (key : OrderedKey) (value : List ℕ) → IsLiveAt es part key value → within range key ≡ true → is_ahead_in heads part key ≡ true
 
 -- the head is the least one, the others are in a heap, and where there is none there are no others
-pub record IsLeastBeside (least : Option Head) (others : List Head) : Type 0 where
+pub record IsLeastBeside (least : Option Stand) (others : List Stand) : Type 0 where
   pub heap : IsHeap head_cmp others
   pub first : MatchOption least (others ≡ []) (λ h. IsUpperBound head_cmp h others)
 
 -- a cursor's heads
-pub record IsCursor (es : List Entry) (range : Interval) (least : Option Head) (others : List Head) : Type 0 where
+pub record IsCursor (es : List Entry) (range : Interval) (least : Option Stand) (others : List Stand) : Type 0 where
   pub beside : IsLeastBeside least others
   pub ahead : AreAhead es range (cons_option least others)

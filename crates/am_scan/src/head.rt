@@ -1,6 +1,6 @@
 //! The head of a partition: the entry at which a cursor stands in it, and what was read behind it.
 
-ghost use Rattle.std.specs.Prelude.{◌≡◌, [], true, false, take, IfOk, IfSome, IfNone, Some};
+ghost use Rattle.std.specs.Prelude.{◌≡◌, [], ◌∷◌, true, false, take, IfOk, IfSome, IfNone, Some};
 ghost use Rattle.std.specs.declared.cmp.Ordering.TheVariants.{Less};
 ghost use Rattle.am_record.specs.OrderedKey.{key_cmp};
 ghost use Rattle.am_record.specs.Interval.{key_le};
@@ -11,16 +11,29 @@ use am_parts::Parts;
 use am_record::{Entry, Key, NoMemory, Range, Value};
 use std::alloc::Global;
 use std::cmp::Ordering;
+use std::marker::Model;
 
-/// Where a cursor stands in one partition. The head with the least key is the greatest, so that a
-/// heap gives it first.
+/// Where a cursor stands in one partition, seen as the entry there and those read behind it. The head with the least key
+/// is the greatest, so that a heap gives it first.
 #[derive(Drop)]
 pub(crate) struct Head {
-    entry: Entry,
-    // Entries that follow in the partition, of which the first ones were passed. They are boxed, so
-    // that a heap moves little.
+    // Entries that follow one another in the partition. They are boxed, so that a heap moves little.
     ahead: Box<Batch>,
+    // How many of them were passed: it stands at the one behind these.
     passed: usize,
+}
+
+impl Model for Head {
+    ghost use Rattle.std.specs.Prelude.{◌<◌, length};
+    ghost use Rattle.am_scan.specs.Heads.{Stand, stand_code, stand_at};
+
+    ghost Value = { Stand };
+
+    ghost coded = { stand_code };
+
+    ghost view = { λ h. stand_at h.ahead.value h.passed };
+
+    ghost invariant = { λ h. h.passed < length h.ahead.value };
 }
 
 impl Head {
@@ -30,15 +43,18 @@ impl Head {
     // At the entry, with nothing read behind it.
     fn at(alloc: Global, entry: Entry) -> Result<Head, NoMemory>
         ensures entry { IfOk result (λ head. head.entry ≡ entry) }
-        ensures ahead { IfOk result (λ head. head.ahead.value ≡ []) }
-        ensures passed { IfOk result (λ head. head.passed ≡ 0) }
+        ensures read { IfOk result (λ head. head.read ≡ []) }
     {
-        let ahead = Box::new(alloc, Batch::new())?;
-        Ok(Head {
-            entry,
-            ahead,
-            passed: 0,
-        })
+        let mut ahead = Box::new(alloc, Batch::new())?;
+        ahead.push(entry);
+        Ok(Head { ahead, passed: 0 })
+    }
+
+    // The entry at which it stands.
+    fn entry(&self) -> &Entry
+        ensures { result.now ≡ self.now.entry }
+    {
+        &self.ahead.entries()[self.passed]
     }
 
     /// The head of a partition at its first live entry in the range, if there is one. The caller
@@ -61,7 +77,7 @@ impl Head {
             return Ok(None);
         }
         let mut head = Head::at(alloc, entry)?;
-        if !head.entry.is_ghost {
+        if !head.entry().is_ghost {
             return Ok(Some(head));
         }
         if head.move_on(parts, range) {
@@ -75,7 +91,8 @@ impl Head {
     pub(crate) fn record(&self) -> (Key, Value)
         ensures { result ≡ (self.now.entry.key, self.now.entry.value) }
     {
-        (self.entry.key, self.entry.value)
+        let entry = self.entry();
+        (entry.key, entry.value)
     }
 
     /// Moves to the next live entry of the partition in the range, and says whether there is one.
@@ -89,7 +106,7 @@ impl Head {
         reads_follow();
         walks_follow();
         while self.follow(parts, range) {
-            if !self.entry.is_ghost {
+            if !self.entry().is_ghost {
                 return true;
             }
         }
@@ -109,35 +126,38 @@ impl Head {
         reads_follow();
         walks_follow();
         self.look_ahead(parts);
-        let Some(entry) = self.ahead.entries().get(self.passed) else {
+        let Some(next) = self.ahead.entries().get(self.passed + 1) else {
             return false;
         };
-        if range.hi() < entry.key {
+        if range.hi() < next.key {
             return false;
         }
-        self.entry = *entry;
         self.passed += 1;
         true
     }
 
-    // Reads on, where all that was read is passed.
+    // Reads on, where nothing was read behind the entry.
     fn look_ahead<I: PartIndex + Drop>(&mut self, parts: &Parts<I>)
         requires reads { HasReadOn parts.now.entries self.old }
         ensures ready { IsReady parts.now.entries self.new }
         ensures entry { self.new.entry ≡ self.old.entry }
     {
-        if self.passed == self.ahead.entries().len() {
+        let read = self.ahead.entries().len();
+        if self.passed + 1 == read {
+            let entry = *self.entry();
             self.passed = 0;
-            read_behind(parts, self.entry.part, self.entry.key, &mut self.ahead);
+            read_behind(parts, entry, &mut self.ahead);
         }
     }
 }
 
-// Fills the batch with the first entries of the partition strictly above the key.
-fn read_behind<I: PartIndex + Drop>(parts: &Parts<I>, part: u32, key: Key, batch: &mut Batch)
-    ensures { batch.new ≡ take 16 (all_after parts.now.entries part key) }
+// Fills the batch with the entry and those that follow it in its partition.
+fn read_behind<I: PartIndex + Drop>(parts: &Parts<I>, entry: Entry, batch: &mut Batch)
+    ensures { batch.new ≡ entry ∷ take 15 (all_after parts.now.entries entry.part entry.key) }
 {
+    let Entry { part, key, .. } = entry;
     batch.clear();
+    batch.push(entry);
     parts.read_on(part, key, batch);
 }
 
@@ -154,7 +174,7 @@ impl Ord for Head {
     ghost matches_eq = { λ a b. refl };
 
     fn cmp(&self, other: &Head) -> Ordering {
-        other.entry.key.cmp(&self.entry.key)
+        other.entry().key.cmp(&self.entry().key)
     }
 }
 

@@ -3,13 +3,14 @@ use Rattle.std.proofs.lemmas.Bool.{eq-eqb, ne_eqb, eqb-true, true≢false}
 use Rattle.std.proofs.lemmas.List.{drop_all, length-append}
 use Rattle.std.specs.List.{take_while}
 use Rattle.am_record.specs.declared.entry.Entry.{Entry}
-use Rattle.am_list.proofs.Batches.{take_whole, take_full, passes_on, ends_here, all_after_at}
+use Rattle.am_list.proofs.Batches.{take_whole, take_full, passes_on, ends_here}
+use Rattle.am_btree.proofs.Seeking.{such_at}
 use Rattle.am_btree.proofs.read.read_on_in_leaf.Goals as goal
 
 pub loop-at-init : goal.loop-at-init
 loop-at-init c = record {
   fits = c.entries.ensures.fits;
-  same = ap (λ es. take 16 (c.args.batch.now ++ es)) (all_after_at c.args.part c.args.key c.args.leaf.now c.start_in_leaf-at.result c.start_in_leaf-at.ensures.begins c.start_in_leaf-at.ensures.rising);
+  same = ap (λ es. take 16 (c.args.batch.now ++ es)) (such_at c.args.start c.args.part c.args.key c.args.leaf.now c.start_in_leaf-at.result c.start_in_leaf-at.ensures.begins c.start_in_leaf-at.ensures.rising);
 }
 
 pub returns-then-is_full-clause-read : goal.returns-then-is_full-clause-read

@@ -1,5 +1,5 @@
 use Rattle.std.proofs.Common.{◌≡◌, ◌++◌, ◌≤◌, take, drop, length}
-use Rattle.am_list.specs.Entries.{all_after}
+use Rattle.am_btree.specs.Seek.{all_such}
 use Rattle.am_btree.specs.Nodes.{all_entries}
 use Rattle.am_btree.proofs.node.Subtree.+read_on.Given as goal
 
@@ -9,5 +9,5 @@ decreases-read_on l = goal.size-read_on l
 abbrev pub invariant-loop-at : goal.invariant-loop-at
 invariant-loop-at l = record {
   fits : length l.batch ≤ 16;
-  same : take 16 (l.batch ++ all_after (all_entries (drop l.at l.children.items)) l.fn.part l.fn.key) ≡ take 16 (l.fn.batch ++ all_after (all_entries l.children.items) l.fn.part l.fn.key);
+  same : take 16 (l.batch ++ all_such l.fn.start (all_entries (drop l.at l.children.items)) l.fn.part l.fn.key) ≡ take 16 (l.fn.batch ++ all_such l.fn.start (all_entries l.children.items) l.fn.part l.fn.key);
 }

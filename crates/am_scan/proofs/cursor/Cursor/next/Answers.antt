@@ -3,8 +3,7 @@ use Rattle.std.specs.Option.{MatchOption}
 use Rattle.std.specs.List.{cons_option}
 use Rattle.std.specs.BinaryHeap.{heap_items, IsUpperBound}
 use Rattle.am_list.specs.Content.{content}
-use Rattle.am_scan.specs.declared.head.Head.{Head}
-use Rattle.am_scan.specs.Heads.{head_cmp}
+use Rattle.am_scan.specs.Heads.{Stand, head_cmp}
 use Rattle.am_scan.specs.Cursors.{AreAhead, rows_ahead}
 use Rattle.am_scan.proofs.Merging.{at_end, none_left, standing, moves_on, moves_first, ends_on, ends_first, is_first, is_rest}
 use Rattle.am_scan.proofs.cursor.Cursor.next.Goals as goal
@@ -29,8 +28,8 @@ move_on-requires-clause-reads g c =
     let range = c.self.inside.range in
     let others = heap_items c.self.inside.others in
     let h = c.in-Some.head in
-    let ahead = subst (λ (o : Option Head). AreAhead es range (cons_option o others)) c.in-Some.is c.self.invariant.ahead in
-    let least = subst (λ (o : Option Head). MatchOption o (others ≡ []) (λ g. IsUpperBound head_cmp g others)) c.in-Some.is c.self.invariant.beside.first in
+    let ahead = subst (λ (o : Option Stand). AreAhead es range (cons_option o others)) c.in-Some.is c.self.invariant.ahead in
+    let least = subst (λ (o : Option Stand). MatchOption o (others ≡ []) (λ g. IsUpperBound head_cmp g others)) c.in-Some.is c.self.invariant.beside.first in
     (standing h others ahead least).reads
 
 pub invariant_of-self-then-move_on : goal.invariant_of-self-then-move_on
@@ -39,8 +38,8 @@ invariant_of-self-then-move_on g c =
     let range = c.self.inside.range in
     let others = heap_items c.self.inside.others in
     let h = c.in-Some.head in
-    let ahead = subst (λ (o : Option Head). AreAhead es range (cons_option o others)) c.in-Some.is c.self.invariant.ahead in
-    let least = subst (λ (o : Option Head). MatchOption o (others ≡ []) (λ g. IsUpperBound head_cmp g others)) c.in-Some.is c.self.invariant.beside.first in
+    let ahead = subst (λ (o : Option Stand). AreAhead es range (cons_option o others)) c.in-Some.is c.self.invariant.ahead in
+    let least = subst (λ (o : Option Stand). MatchOption o (others ≡ []) (λ g. IsUpperBound head_cmp g others)) c.in-Some.is c.self.invariant.beside.first in
     record {
       beside = c.keep_least.ensures.least;
       ahead = moves_on h others ahead least c.move_on.new.self (c.move_on.ensures.moved c.if-move_on.true) (c.keep_least.new.head ∷ heap_items c.keep_least.new.others) c.keep_least.ensures.same;
@@ -52,8 +51,8 @@ invariant_of-self-else-move_on g c =
     let range = c.self.inside.range in
     let others = heap_items c.self.inside.others in
     let h = c.in-Some.head in
-    let ahead = subst (λ (o : Option Head). AreAhead es range (cons_option o others)) c.in-Some.is c.self.invariant.ahead in
-    let least = subst (λ (o : Option Head). MatchOption o (others ≡ []) (λ g. IsUpperBound head_cmp g others)) c.in-Some.is c.self.invariant.beside.first in
+    let ahead = subst (λ (o : Option Stand). AreAhead es range (cons_option o others)) c.in-Some.is c.self.invariant.ahead in
+    let least = subst (λ (o : Option Stand). MatchOption o (others ≡ []) (λ g. IsUpperBound head_cmp g others)) c.in-Some.is c.self.invariant.beside.first in
     record {
       beside = c.pop_least.ensures.least;
       ahead = ends_on h others ahead least (c.move_on.ensures.ended c.if-move_on.false) (cons_option c.pop_least.result (heap_items c.pop_least.new.others)) c.pop_least.ensures.same;
@@ -65,10 +64,10 @@ returns-then-move_on-clause-record g c =
     let range = c.self.inside.range in
     let others = heap_items c.self.inside.others in
     let h = c.in-Some.head in
-    let ahead = subst (λ (o : Option Head). AreAhead es range (cons_option o others)) c.in-Some.is c.self.invariant.ahead in
-    let least = subst (λ (o : Option Head). MatchOption o (others ≡ []) (λ g. IsUpperBound head_cmp g others)) c.in-Some.is c.self.invariant.beside.first in
+    let ahead = subst (λ (o : Option Stand). AreAhead es range (cons_option o others)) c.in-Some.is c.self.invariant.ahead in
+    let least = subst (λ (o : Option Stand). MatchOption o (others ≡ []) (λ g. IsUpperBound head_cmp g others)) c.in-Some.is c.self.invariant.beside.first in
     let laws = c.content_follows.ensures.edits es c.self.invariant.ahead.sound.rising c.self.invariant.ahead.sound.one_place in
-    let seen = sym c.self.view_is ∙ ap (λ (o : Option Head). rows_ahead (cons_option o others) range (content es)) c.in-Some.is in
+    let seen = sym c.self.view_is ∙ ap (λ (o : Option Stand). rows_ahead (cons_option o others) range (content es)) c.in-Some.is in
     ap Some c.record.ensures ∙ is_first (seen ∙ moves_first h others ahead least c.move_on.new.self (c.move_on.ensures.moved c.if-move_on.true) (c.keep_least.new.head ∷ heap_items c.keep_least.new.others) c.keep_least.ensures.same laws)
 
 pub returns-then-move_on-clause-rest : goal.returns-then-move_on-clause-rest
@@ -77,10 +76,10 @@ returns-then-move_on-clause-rest g c =
     let range = c.self.inside.range in
     let others = heap_items c.self.inside.others in
     let h = c.in-Some.head in
-    let ahead = subst (λ (o : Option Head). AreAhead es range (cons_option o others)) c.in-Some.is c.self.invariant.ahead in
-    let least = subst (λ (o : Option Head). MatchOption o (others ≡ []) (λ g. IsUpperBound head_cmp g others)) c.in-Some.is c.self.invariant.beside.first in
+    let ahead = subst (λ (o : Option Stand). AreAhead es range (cons_option o others)) c.in-Some.is c.self.invariant.ahead in
+    let least = subst (λ (o : Option Stand). MatchOption o (others ≡ []) (λ g. IsUpperBound head_cmp g others)) c.in-Some.is c.self.invariant.beside.first in
     let laws = c.content_follows.ensures.edits es c.self.invariant.ahead.sound.rising c.self.invariant.ahead.sound.one_place in
-    let seen = sym c.self.view_is ∙ ap (λ (o : Option Head). rows_ahead (cons_option o others) range (content es)) c.in-Some.is in
+    let seen = sym c.self.view_is ∙ ap (λ (o : Option Stand). rows_ahead (cons_option o others) range (content es)) c.in-Some.is in
     is_rest (seen ∙ moves_first h others ahead least c.move_on.new.self (c.move_on.ensures.moved c.if-move_on.true) (c.keep_least.new.head ∷ heap_items c.keep_least.new.others) c.keep_least.ensures.same laws)
 
 pub returns-else-move_on-clause-record : goal.returns-else-move_on-clause-record
@@ -89,10 +88,10 @@ returns-else-move_on-clause-record g c =
     let range = c.self.inside.range in
     let others = heap_items c.self.inside.others in
     let h = c.in-Some.head in
-    let ahead = subst (λ (o : Option Head). AreAhead es range (cons_option o others)) c.in-Some.is c.self.invariant.ahead in
-    let least = subst (λ (o : Option Head). MatchOption o (others ≡ []) (λ g. IsUpperBound head_cmp g others)) c.in-Some.is c.self.invariant.beside.first in
+    let ahead = subst (λ (o : Option Stand). AreAhead es range (cons_option o others)) c.in-Some.is c.self.invariant.ahead in
+    let least = subst (λ (o : Option Stand). MatchOption o (others ≡ []) (λ g. IsUpperBound head_cmp g others)) c.in-Some.is c.self.invariant.beside.first in
     let laws = c.content_follows.ensures.edits es c.self.invariant.ahead.sound.rising c.self.invariant.ahead.sound.one_place in
-    let seen = sym c.self.view_is ∙ ap (λ (o : Option Head). rows_ahead (cons_option o others) range (content es)) c.in-Some.is in
+    let seen = sym c.self.view_is ∙ ap (λ (o : Option Stand). rows_ahead (cons_option o others) range (content es)) c.in-Some.is in
     ap Some c.record.ensures ∙ is_first (seen ∙ ends_first h others ahead least (c.move_on.ensures.ended c.if-move_on.false) (cons_option c.pop_least.result (heap_items c.pop_least.new.others)) c.pop_least.ensures.same laws)
 
 pub returns-else-move_on-clause-rest : goal.returns-else-move_on-clause-rest
@@ -101,10 +100,10 @@ returns-else-move_on-clause-rest g c =
     let range = c.self.inside.range in
     let others = heap_items c.self.inside.others in
     let h = c.in-Some.head in
-    let ahead = subst (λ (o : Option Head). AreAhead es range (cons_option o others)) c.in-Some.is c.self.invariant.ahead in
-    let least = subst (λ (o : Option Head). MatchOption o (others ≡ []) (λ g. IsUpperBound head_cmp g others)) c.in-Some.is c.self.invariant.beside.first in
+    let ahead = subst (λ (o : Option Stand). AreAhead es range (cons_option o others)) c.in-Some.is c.self.invariant.ahead in
+    let least = subst (λ (o : Option Stand). MatchOption o (others ≡ []) (λ g. IsUpperBound head_cmp g others)) c.in-Some.is c.self.invariant.beside.first in
     let laws = c.content_follows.ensures.edits es c.self.invariant.ahead.sound.rising c.self.invariant.ahead.sound.one_place in
-    let seen = sym c.self.view_is ∙ ap (λ (o : Option Head). rows_ahead (cons_option o others) range (content es)) c.in-Some.is in
+    let seen = sym c.self.view_is ∙ ap (λ (o : Option Stand). rows_ahead (cons_option o others) range (content es)) c.in-Some.is in
     elim c.match-self-pop_least.branch [
       | in-Some-1 w ↦ w.self-is ∙ is_rest (seen ∙ ends_first h others ahead least (c.move_on.ensures.ended c.if-move_on.false) (cons_option c.pop_least.result (heap_items c.pop_least.new.others)) c.pop_least.ensures.same laws)
       | in-None-1 w ↦ w.self-is ∙ is_rest (seen ∙ ends_first h others ahead least (c.move_on.ensures.ended c.if-move_on.false) (cons_option c.pop_least.result (heap_items c.pop_least.new.others)) c.pop_least.ensures.same laws)
