@@ -15,7 +15,7 @@ use Rattle.am_record.proofs.Lists.{AllByRecursion-map, AllByRecursion-append, Al
 use Rattle.am_record.proofs.PlaceOrder.{turned_greater}
 use Rattle.am_list.specs.Entries.{all_after}
 use Rattle.am_list.specs.Places.{AllBelow, NoneBelow, AllAbove, NoneAbove}
-use Rattle.am_list.proofs.Batches.{take_both, all_after-append, all_after_below, all_after_others, all_reached-append, all_reached_none, all_reached_others}
+use Rattle.am_list.proofs.Batches.{take_both, all_reached-append, all_reached_none, all_reached_others}
 use Rattle.am_list.specs.Content.{rows_in}
 use Rattle.am_list.proofs.Rows.{rows_in-append, rows_below, rows_above}
 use Rattle.am_btree.specs.declared.separator.Separator.{Separator}
