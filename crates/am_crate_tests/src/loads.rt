@@ -95,6 +95,47 @@ fn cut_runs_in_pieces(rt: HostRuntime) {
     is_refused(&rt, alloc, &twice, 65_537, LoadFault::BadSize);
 }
 
+fn named(rt: &impl Abort, name: &str, value: u8) -> (Key, Value) {
+    let key = Key::new(name.as_bytes()).expect(rt, "a short name");
+    (key, byte(value))
+}
+
+fn sorts(rt: &impl Abort, alloc: Global, records: &[(Key, Value)], sorted: &[(Key, Value)]) {
+    let run = Run::sorted(alloc, records).expect(rt, "memory");
+    has_pairs(rt, &run, sorted);
+}
+
+fn is_no_run(rt: &impl Abort, alloc: Global, records: &[(Key, Value)], fault: LoadFault) {
+    assert!(rt; Run::sorted(alloc, records).err() == Some(fault));
+}
+
+#[test]
+fn records_in_any_order_make_a_run(rt: HostRuntime) {
+    let alloc = rt.alloc();
+    let shuffled = [pair(5, b'a'), pair(3, b'b'), pair(9, b'c'), pair(1, b'd')];
+    let rising = [pair(1, b'd'), pair(3, b'b'), pair(5, b'a'), pair(9, b'c')];
+    sorts(&rt, alloc, &shuffled, &rising);
+
+    let twice = [pair(5, b'a'), pair(3, b'b'), pair(5, b'c'), pair(3, b'd')];
+    is_no_run(&rt, alloc, &twice, LoadFault::Twice(Key::of_u64(3)));
+    is_no_run(&rt, alloc, &[], LoadFault::NotRising);
+}
+
+#[test]
+fn keys_with_one_beginning_are_sorted(rt: HostRuntime) {
+    let alloc = rt.alloc();
+    let seven = named(&rt, "accounts/7", b'a');
+    let all = named(&rt, "accounts", b'b');
+    let twelve = named(&rt, "accounts/12", b'c');
+    sorts(&rt, alloc, &[seven, all, twelve], &[all, twelve, seven]);
+    makes(&rt, alloc, &[seven, all, twelve], 1, 3);
+
+    let fault = LoadFault::Twice(twelve.0);
+    is_no_run(&rt, alloc, &[seven, twelve, seven, twelve], fault);
+    is_refused(&rt, alloc, &[seven, twelve, all, seven, twelve], 2, fault);
+    is_refused(&rt, alloc, &[seven, seven, twelve, twelve], 2, fault);
+}
+
 #[test]
 fn a_run_rises_and_has_a_record(rt: HostRuntime) {
     let alloc = rt.alloc();
