@@ -95,9 +95,14 @@ fn cut_runs_in_pieces(rt: HostRuntime) {
     is_refused(&rt, alloc, &twice, 65_537, LoadFault::BadSize);
 }
 
-fn named(rt: &impl Abort, name: &str, value: u8) -> (Key, Value) {
+// A record of that name.
+fn named(rt: &impl Abort, name: &str) -> (Key, Value) {
     let key = Key::new(name.as_bytes()).expect(rt, "a short name");
-    (key, byte(value))
+    (key, byte(b'n'))
+}
+
+fn twice_named(rt: &impl Abort, name: &str) -> LoadFault {
+    LoadFault::Twice(named(rt, name).0)
 }
 
 fn sorts(rt: &impl Abort, alloc: Global, records: &[(Key, Value)], sorted: &[(Key, Value)]) {
@@ -124,16 +129,35 @@ fn records_in_any_order_make_a_run(rt: HostRuntime) {
 #[test]
 fn keys_with_one_beginning_are_sorted(rt: HostRuntime) {
     let alloc = rt.alloc();
-    let seven = named(&rt, "accounts/7", b'a');
-    let all = named(&rt, "accounts", b'b');
-    let twelve = named(&rt, "accounts/12", b'c');
-    sorts(&rt, alloc, &[seven, all, twelve], &[all, twelve, seven]);
-    makes(&rt, alloc, &[seven, all, twelve], 1, 3);
+    let shuffled = [
+        named(&rt, "accounts/7"),
+        named(&rt, "accounts"),
+        named(&rt, "accounts/12"),
+    ];
+    let rising = [
+        named(&rt, "accounts"),
+        named(&rt, "accounts/12"),
+        named(&rt, "accounts/7"),
+    ];
+    sorts(&rt, alloc, &shuffled, &rising);
+    makes(&rt, alloc, &shuffled, 1, 3);
+}
 
-    let fault = LoadFault::Twice(twelve.0);
-    is_no_run(&rt, alloc, &[seven, twelve, seven, twelve], fault);
-    is_refused(&rt, alloc, &[seven, twelve, all, seven, twelve], 2, fault);
-    is_refused(&rt, alloc, &[seven, seven, twelve, twelve], 2, fault);
+#[test]
+fn the_least_key_that_stands_twice_is_told(rt: HostRuntime) {
+    let alloc = rt.alloc();
+    let twice = [
+        named(&rt, "accounts/7"),
+        named(&rt, "accounts/7"),
+        named(&rt, "accounts/12"),
+        named(&rt, "accounts"),
+        named(&rt, "accounts/12"),
+    ];
+    is_no_run(&rt, alloc, &twice, twice_named(&rt, "accounts/12"));
+    for len in [1, 2, 4] {
+        let fault = twice_named(&rt, "accounts/12");
+        is_refused(&rt, alloc, &twice, len, fault);
+    }
 }
 
 #[test]
