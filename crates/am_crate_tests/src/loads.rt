@@ -95,6 +95,71 @@ fn cut_runs_in_pieces(rt: HostRuntime) {
     is_refused(&rt, alloc, &twice, 65_537, LoadFault::BadSize);
 }
 
+// A record of that name.
+fn named(rt: &impl Abort, name: &str) -> (Key, Value) {
+    let key = Key::new(name.as_bytes()).expect(rt, "a short name");
+    (key, byte(b'n'))
+}
+
+fn twice_named(rt: &impl Abort, name: &str) -> LoadFault {
+    LoadFault::Twice(named(rt, name).0)
+}
+
+fn sorts(rt: &impl Abort, alloc: Global, records: &[(Key, Value)], sorted: &[(Key, Value)]) {
+    let run = Run::sorted(alloc, records).expect(rt, "memory");
+    has_pairs(rt, &run, sorted);
+}
+
+fn is_no_run(rt: &impl Abort, alloc: Global, records: &[(Key, Value)], fault: LoadFault) {
+    assert!(rt; Run::sorted(alloc, records).err() == Some(fault));
+}
+
+#[test]
+fn records_in_any_order_make_a_run(rt: HostRuntime) {
+    let alloc = rt.alloc();
+    let shuffled = [pair(5, b'a'), pair(3, b'b'), pair(9, b'c'), pair(1, b'd')];
+    let rising = [pair(1, b'd'), pair(3, b'b'), pair(5, b'a'), pair(9, b'c')];
+    sorts(&rt, alloc, &shuffled, &rising);
+
+    let twice = [pair(5, b'a'), pair(3, b'b'), pair(5, b'c'), pair(3, b'd')];
+    is_no_run(&rt, alloc, &twice, LoadFault::Twice(Key::of_u64(3)));
+    is_no_run(&rt, alloc, &[], LoadFault::NotRising);
+}
+
+#[test]
+fn keys_with_one_beginning_are_sorted(rt: HostRuntime) {
+    let alloc = rt.alloc();
+    let shuffled = [
+        named(&rt, "accounts/7"),
+        named(&rt, "accounts"),
+        named(&rt, "accounts/12"),
+    ];
+    let rising = [
+        named(&rt, "accounts"),
+        named(&rt, "accounts/12"),
+        named(&rt, "accounts/7"),
+    ];
+    sorts(&rt, alloc, &shuffled, &rising);
+    makes(&rt, alloc, &shuffled, 1, 3);
+}
+
+#[test]
+fn the_least_key_that_stands_twice_is_told(rt: HostRuntime) {
+    let alloc = rt.alloc();
+    let twice = [
+        named(&rt, "accounts/7"),
+        named(&rt, "accounts/7"),
+        named(&rt, "accounts/12"),
+        named(&rt, "accounts"),
+        named(&rt, "accounts/12"),
+    ];
+    is_no_run(&rt, alloc, &twice, twice_named(&rt, "accounts/12"));
+    for len in [1, 2, 4] {
+        let fault = twice_named(&rt, "accounts/12");
+        is_refused(&rt, alloc, &twice, len, fault);
+    }
+}
+
 #[test]
 fn a_run_rises_and_has_a_record(rt: HostRuntime) {
     let alloc = rt.alloc();

@@ -1,6 +1,6 @@
 //! The calls, in their order.
 
-use crate::cutting::{cuts, loads_of_a_list, loads_of_a_tree, run_alone};
+use crate::cutting::{cuts, loads_of_a_list, loads_of_a_tree, run_alone, sorts};
 use crate::fault::Fault;
 use crate::filling::{full_leaf, list_of_five, tree_of_two_thousand};
 use crate::locking::twelve_locks;
@@ -23,6 +23,7 @@ pub(crate) enum Call {
     ListOfFive,
     TreeOfTwoThousand,
     RunAlone,
+    Sorts,
     Cuts,
     LoadsOfATree,
     LoadsOfAList,
@@ -42,11 +43,12 @@ pub(crate) enum Call {
 }
 
 /// All calls.
-pub(crate) const CALLS: [Call; 20] = [
+pub(crate) const CALLS: [Call; 21] = [
     Call::FullLeaf,
     Call::ListOfFive,
     Call::TreeOfTwoThousand,
     Call::RunAlone,
+    Call::Sorts,
     Call::Cuts,
     Call::LoadsOfATree,
     Call::LoadsOfAList,
@@ -72,6 +74,7 @@ impl Call {
             Call::ListOfFive => "list_of_five",
             Call::TreeOfTwoThousand => "tree_of_two_thousand",
             Call::RunAlone => "run_alone",
+            Call::Sorts => "sorts",
             Call::Cuts => "cuts",
             Call::LoadsOfATree => "loads_of_a_tree",
             Call::LoadsOfAList => "loads_of_a_list",
@@ -98,6 +101,7 @@ impl Call {
             Call::ListOfFive => list_of_five(alloc),
             Call::TreeOfTwoThousand => tree_of_two_thousand(alloc),
             Call::RunAlone => run_alone(alloc),
+            Call::Sorts => sorts(alloc),
             Call::Cuts => cuts(alloc),
             Call::LoadsOfATree => loads_of_a_tree(alloc),
             Call::LoadsOfAList => loads_of_a_list(alloc),

@@ -73,6 +73,30 @@ pub(crate) fn run_alone(alloc: Global) -> Result<(), Fault> {
     }
 }
 
+// A pair whose key begins as that of each other number does.
+fn pair_behind(number: u64) -> (Key, Value) {
+    let mut bytes = [b'k'; 16];
+    bytes[8..].copy_from_slice(&number.to_be_bytes());
+    (Key::new(&bytes).unwrap(), value())
+}
+
+// The run of the records, which are sorted twice where memory is refused.
+fn sorted(alloc: Global, records: &[(Key, Value)]) -> Result<Run, Fault> {
+    if let Ok(run) = Run::sorted(alloc, records) {
+        return Ok(run);
+    }
+    Ok(Run::sorted(alloc, records)?)
+}
+
+/// Five records sorted into a run, once by the beginnings of their keys alone, and once by their keys.
+pub(crate) fn sorts(alloc: Global) -> Result<(), Fault> {
+    let run = sorted(alloc, &[pair(5), pair(3), pair(9), pair(1), pair(7)])?;
+    expect(are_of(run.pairs(), &[1, 3, 5, 7, 9]))?;
+    let run = sorted(alloc, &[pair_behind(5), pair_behind(3), pair_behind(9)])?;
+    let rising = [pair_behind(3), pair_behind(5), pair_behind(9)];
+    expect(run.pairs() == rising.as_slice())
+}
+
 // Loads a run over partitions that hold just these entries.
 fn load_over<I: PartIndex + Drop>(
     parts: &mut Parts<I>,

@@ -73,7 +73,7 @@ fn with_keys_apart(
     ensures apart { IfOk result (λ _. NoneTwice (keys_of records.now)) }
     ensures fault { IfErr result (IsTwiceFault records.now) }
 {
-    if runs.len() < 2 || have_fronts_apart(alloc, &runs)? {
+    if runs.len() < 2 || have_fronts_apart(alloc, &runs, records.len())? {
         return Ok(runs);
     }
     // Keys with one beginning may be equal.
@@ -83,11 +83,11 @@ fn with_keys_apart(
     }
 }
 
-// Whether no two keys of the runs have one number of their first eight bytes.
-fn have_fronts_apart(alloc: Global, runs: &[Run]) -> Result<bool, AllocError>
+// Whether no two keys of the runs, which have so many, have one number of their first eight bytes.
+fn have_fronts_apart(alloc: Global, runs: &[Run], len: usize) -> Result<bool, AllocError>
     ensures { IfOk result (λ apart. apart ≡ true → NoneTwice (keys_of (records_of runs.now))) }
 {
-    let mut fronts = Vec::new(alloc);
+    let mut fronts = Vec::with_capacity(alloc, len)?;
     for run in runs {
         push_fronts(&mut fronts, run)?;
     }
