@@ -20,6 +20,7 @@ use Rattle.am_serial.specs.Sound.{IsAnswerOf, IsBusy, FormedDo, FormedAt, EachEv
 use Rattle.am_record.specs.Asks.{lock_of, with_asked}
 use Rattle.am_effect.specs.Store.{notes_left, marks_left}
 use Rattle.am_sound.specs.StoreState.{Active, StoreState, MayAnswer, IsFit, state_after, with_op, without_tx, is_in, newcomer}
+use Rattle.am_sound.proofs.Actives.{kept_number}
 use Rattle.am_core.specs.Standing.{IsSoundAt, Extends, IsWithin}
 use Rattle.am_latch.specs.declared.change.Change.TheVariants.{Ends, Nothing}
 use Rattle.am_latch.specs.Changes.{change, end_of, room_of, rows_in, moves_in, has, without, moved, active_from, numbers, HasTrace, Answers, Bounded, Goes}
@@ -39,10 +40,6 @@ flip false t u e = ne_eqb u t (λ s. let is = eq-eqb t u (sym s) in absurd (cc))
 has_is_in : (t : ℕ) (xs : List Active) → has t (map (λ (x : Active). x.number) xs) ≡ is_in xs t
 has_is_in t [] = refl
 has_is_in t (x ∷ xs) = (λ i. flip (t == x.number) t x.number refl i || has_is_in t xs i)
-
-kept_number : (b : Bool) (x y : Active) → y.number ≡ x.number → (cond b y x).number ≡ x.number
-kept_number true x y e = e
-kept_number false x y e = refl
 
 did_number : (t : ℕ) (op : Op) (r : Reply) (new : List Note) (x : Active) → (with_op t op r new x).number ≡ x.number
 did_number t op r new x = kept_number (t == x.number) x record x { ops = x.ops + 1; locks = with_asked x.locks (lock_of op); notes = new ++ notes_left op r x.marks x.notes; marks = marks_left op r (length x.notes) x.marks } refl

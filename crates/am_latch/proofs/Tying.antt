@@ -1,6 +1,6 @@
 -- The seats' transactions after a call.
 use Rattle.std.proofs.Common.{◌≡◌, ◌≢◌, ℕ, ◌+◌, ◌==◌, if◌then◌else◌, List, [], ◌∷◌, ◌++◌, length, Bool, true, false, not, ◌||◌, Option, Some, None, refl, sym, ap, ◌∙◌, subst, eq-eqb, zero-add}
-use Rattle.std.proofs.lemmas.Bool.{eqb-true, eqb-false}
+use Rattle.std.proofs.lemmas.Bool.{eqb-true, eqb-false, or_left, or_right}
 use Rattle.std.proofs.lemmas.List.Folds.{list_any-append}
 use Rattle.am_record.specs.Sessions.{IsAllowed}
 use Rattle.am_record.specs.declared.step.Step.{Step}
@@ -21,13 +21,6 @@ use Rattle.am_latch.proofs.Storing.{active_from-snoc}
 or_cases : {P : Type 0} (a b : Bool) → (a || b) ≡ true → (a ≡ true → P) → (b ≡ true → P) → P
 or_cases true b e l r = l refl
 or_cases false b e l r = r e
-
-or_left : (a b : Bool) → a ≡ true → (a || b) ≡ true
-or_left a b e = rw e refl
-
-or_right : (a b : Bool) → b ≡ true → (a || b) ≡ true
-or_right true b e = refl
-or_right false b e = e
 
 -- membership after a push
 has_push : (u t : ℕ) (ts : List ℕ) → has u (ts ++ t ∷ []) ≡ (has u ts || has u (t ∷ []))

@@ -4,13 +4,13 @@ use Rattle.am_record.specs.declared.step.Step.{Step}
 use Rattle.am_record.specs.declared.step.Reply.{Reply}
 use Rattle.am_serial.specs.Trace.{Trace}
 use Rattle.am_wire.specs.Giving.{Gave}
+use Rattle.am_wire.proofs.Streams.{gave_then}
 use Rattle.am_talk.specs.Responses.{bye}
 use Rattle.am_session.specs.Talk.{Place, texts, Converses, AnswersAll}
 use Rattle.am_talk.specs.Dialogue.{Exchange}
 use Rattle.am_session.specs.Pauses.{AtQuit, AtEnd, AtReadFailure, AtWriteFailure, Left}
 use Rattle.am_session.specs.Served.{Served}
 use Rattle.am_session.specs.declared.end.End.TheVariants.{Quit, EndOfInput, ReadFailed, WriteFailed}
-use Rattle.am_session.proofs.Streams.{gave_then}
 
 module _ {S K B : Type 0} (comes : S → List ℕ → Type 0) (holds : K → Option (List ℕ)) (active : B → Option ℕ) (goes : B → Step → Reply → B → Type 0) (tells : B → ℕ → ℕ → B → Type 0) (auto : ℕ) (s s' : S) (k k' : K) (b : B) (last : Place B) (b' : B) (left : Left active goes tells (active last.0) last.0 b') where
   all_answered : (exchanges : List Exchange) (own : Trace) → Converses active goes tells auto (b, []) exchanges own last → AnswersAll active goes tells auto b exchanges (own ++ left.0) b'

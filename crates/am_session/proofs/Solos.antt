@@ -1,5 +1,5 @@
 -- A store with one session: its transaction stays open until it is ended.
-use Rattle.std.proofs.Common.{◌≡◌, ◌⊎◌, inl, inr, ℕ, ◌==◌, List, [], ◌∷◌, ◌++◌, Bool, true, false, cond, map, ◌||◌, Option, Some, None, refl, sym, ap, ◌∙◌, subst}
+use Rattle.std.proofs.Common.{◌≡◌, ◌⊎◌, inl, inr, ℕ, ◌==◌, List, [], ◌∷◌, ◌++◌, Bool, true, false, map, ◌||◌, Option, Some, None, refl, sym, ap, ◌∙◌, subst}
 use Rattle.std.specs.Prelude.{MatchOption, MatchBool, if◌then◌else◌}
 use Rattle.std.specs.FinMap.{get, contains_key}
 use Rattle.std.proofs.lemmas.Bool.{or_left, or_right, true≢false, eq-eqb}
@@ -25,6 +25,7 @@ use Rattle.am_effect.specs.Merging.{Holders, candidates, AnswersFirst, AnswersCa
 use Rattle.am_effect.specs.Store.{WithinLimit}
 use Rattle.am_serial.specs.Machine.{is_limit}
 use Rattle.am_sound.specs.StoreState.{Active, StoreState, is_in, in_table, newcomer, refusal_in, takes_memory, MayAnswer, with_op, state_after_op, state_after}
+use Rattle.am_sound.proofs.Actives.{kept_number}
 use Rattle.am_talk.specs.Session.{SessionState, behind}
 use Rattle.am_talk.specs.Dues.{EndsAbort}
 use Rattle.am_talk.specs.Dialogue.{commits_after}
@@ -98,17 +99,12 @@ clean_plain p range limit r h = limit_plain limit r _ (λ is. subst Plain (sym i
 
 -- ---- who is active after a step
 
--- an operation changes no number
-same_number : (b : Bool) (x y : Active) → y.number ≡ x.number → (cond b y x).number ≡ x.number
-same_number true x y h = h
-same_number false x y h = refl
-
 still_in : (f : Active → Active) → ((x : Active) → (f x).number ≡ x.number) → (xs : List Active) (u : ℕ) → is_in (map f xs) u ≡ is_in xs u
 still_in f same [] u = refl
 still_in f same (x ∷ xs) u = λ i. (u == same x i) || still_in f same xs u i
 
 did_in : (t : ℕ) (o : Op) (r : Reply) (new : List Note) (xs : List Active) (u : ℕ) → is_in (map (with_op t o r new) xs) u ≡ is_in xs u
-did_in t o r new xs u = still_in (with_op t o r new) (λ x. same_number (t == x.number) x _ refl) xs u
+did_in t o r new xs u = still_in (with_op t o r new) (λ x. kept_number (t == x.number) x _ refl) xs u
 
 do_in : (p : StoreState) (t : ℕ) (o : Op) (r : Reply) (u : ℕ) → is_in (state_after_op p t o r).active u ≡ is_in p.active u
 do_in p t o (reply.Refused w) u = refl

@@ -1,26 +1,14 @@
 -- What was taken from a source and given to a sink, one call after another.
 use Rattle.std.proofs.Common.{◌≡◌, ℕ, List, [], ◌++◌, append_assoc, append-nil, ap, sym, ◌∙◌, refl, take, length, Option, Some, None, subst, arith}
 use Rattle.std.proofs.lemmas.List.{take_all}
-use Rattle.std.specs.Prelude.{Result, Ok, Err, OnErr}
 use Rattle.std.specs.Io.KnownBytes.{Appends}
 use Rattle.am_wire.specs.Taking.{Took, TookAhead}
 use Rattle.am_wire.specs.Giving.{Gave}
-
-pub took_then : {S : Type 0} (comes : S → List ℕ → Type 0) (p q r : List ℕ) (a b c : S) (x y : List ℕ) → TookAhead comes p a x q b → TookAhead comes q b y r c → TookAhead comes p a (x ++ y) r c
-took_then comes p q r a b c x y f h = λ rest e. rw append_assoc (f (y ++ rest) (h rest e))
-
-appends_then : (a b c : Option (List ℕ)) (x y : List ℕ) → Appends a b x → Appends b c y → Appends a c (x ++ y)
-appends_then None b c x y f h = tt
-appends_then (Some a) None c x y f h = absurd f
-appends_then (Some a) (Some b) None x y f h = absurd h
-appends_then (Some a) (Some b) (Some c) x y f h = h ∙ ap (λ z. z ++ y) f ∙ append_assoc a x y
+use Rattle.am_wire.proofs.Streams.{gave_then}
 
 pub appends_none : (a : Option (List ℕ)) → Appends a a []
 appends_none None = tt
 appends_none (Some a) = sym (append-nil a)
-
-pub gave_then : {S : Type 0} (holds : S → Option (List ℕ)) (a b c : S) (x y : List ℕ) → Gave holds a x b → Gave holds b y c → Gave holds a (x ++ y) c
-gave_then holds a b c x y f h = appends_then (holds a) (holds b) (holds c) x y f h
 
 -- all that was taken, what waits included
 pub took_total : {S : Type 0} (comes : S → List ℕ → Type 0) (a b : S) (taken waiting read : List ℕ) → TookAhead comes [] a taken waiting b → taken ++ waiting ≡ read → Took comes a read b
@@ -36,8 +24,3 @@ gave_none holds a b c x f h = subst (λ (z : List ℕ). Gave holds a z c) (appen
 -- what was written and couldn't be sent on is a beginning all the same
 pub gave_whole : {S : Type 0} (holds : S → Option (List ℕ)) (a b c : S) (x : List ℕ) → Gave holds a x b → Gave holds b [] c → (n : ℕ) × Gave holds a (take n x) c
 gave_whole holds a b c x f h = (length x, rw (take_all (length x) x (omega arith)) (gave_none holds a b c x f h))
-
--- what always holds, holds at an error
-pub on_err : {T E P : Type 0} (r : Result T E) → P → OnErr r P
-on_err (Ok x) p = tt
-on_err (Err e) p = p

@@ -1,5 +1,5 @@
 -- A session so far, and at each of its pauses.
-use Rattle.std.proofs.Common.{◌≡◌, ◌⊎◌, ℕ, List, [], ◌∷◌, ◌++◌, append_assoc, append-nil, ap, sym, ◌∙◌, refl, take, true, false, Bool, not, Option, cond, inl, inr, subst}
+use Rattle.std.proofs.Common.{◌≡◌, ◌⊎◌, ℕ, List, [], ◌∷◌, ◌++◌, append_assoc, append-nil, ap, sym, ◌∙◌, refl, take, true, false, Bool, Option, cond, inl, inr, subst}
 use Rattle.std.proofs.lemmas.List.{map-append}
 use Rattle.am_record.specs.declared.step.Step.{Step}
 use Rattle.am_record.specs.declared.step.Reply.{Reply}
@@ -7,13 +7,14 @@ use Rattle.am_serial.specs.Trace.{Trace}
 use Rattle.am_wire.specs.Lines.{lines_of, TookLine, TookPart}
 use Rattle.am_wire.specs.Taking.{Took, TookAhead, IsAtEnd}
 use Rattle.am_wire.specs.Giving.{Gave}
+use Rattle.am_wire.proofs.Streams.{took_then, gave_then}
 use Rattle.am_talk.specs.Heard.{Line, heard, is_quit, before_quit, quits}
 use Rattle.am_talk.specs.Responses.{response_text}
 use Rattle.am_talk.specs.Dialogue.{Exchange}
 use Rattle.am_session.specs.Talk.{Place, asked, texts, AnswersLine, MergesAfter, Converses}
 use Rattle.am_session.specs.Served.{IsEnded, AsksFor}
 use Rattle.am_session.specs.Pauses.{AtQuit, AtEnd, AtReadFailure, AtWriteFailure}
-use Rattle.am_session.proofs.Streams.{took_then, took_total, gave_then, appends_none}
+use Rattle.am_session.proofs.Streams.{took_total, appends_none}
 
 -- whole lines were read and answered, none of them QUIT
 pub record Talks {S K B : Type 0} (comes : S → List ℕ → Type 0) (holds : K → Option (List ℕ)) (active : B → Option ℕ) (goes : B → Step → Reply → B → Type 0) (tells : B → ℕ → ℕ → B → Type 0) (auto : ℕ) (s0 : S) (k0 : K) (b0 : Place B) (waiting : List ℕ) (s : S) (k : K) (b : Place B) : Type 0 where
@@ -38,14 +39,6 @@ texts-one xs x = ap (λ t. texts xs ++ t) (sym (append-nil (response_text x.1)))
 
 asked-one : (xs : List Exchange) (done : List Line) (x : Exchange) → asked xs ≡ done → asked (xs ++ x ∷ []) ≡ done ++ x.0 ∷ []
 asked-one xs done x e = map-append (λ (y : Exchange). y.0) xs (x ∷ []) ∙ ap (λ ls. ls ++ x.0 ∷ []) e
-
-pub not_true : (b : Bool) → not b ≡ true → b ≡ false
-not_true false e = refl
-not_true true e = cc
-
-pub not_false : (b : Bool) → not b ≡ false → b ≡ true
-not_false true e = refl
-not_false false e = cc
 
 module _ {S K B : Type 0} (comes : S → List ℕ → Type 0) (holds : K → Option (List ℕ)) (active : B → Option ℕ) (goes : B → Step → Reply → B → Type 0) (tells : B → ℕ → ℕ → B → Type 0) (auto : ℕ) where
   abbrev So : S → K → Place B → List ℕ → S → K → Place B → Type 0

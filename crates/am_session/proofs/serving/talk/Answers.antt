@@ -1,8 +1,9 @@
 use Rattle.std.proofs.Common.{◌≡◌, sym, ◌∙◌, refl, true, false, Bool, List, ℕ, subst}
+use Rattle.std.proofs.lemmas.Bool.{not-true, not-false}
 use Rattle.am_wire.specs.Seen.{seen}
 use Rattle.am_wire.specs.Lines.{TookLine}
 use Rattle.am_talk.specs.Heard.{MayHear, is_quit, heard}
-use Rattle.am_session.proofs.Talking.{talk_start, talk_more, talk_end, talk_quit, talk_torn, talk_last, talk_failed, not_true, not_false}
+use Rattle.am_session.proofs.Talking.{talk_start, talk_more, talk_end, talk_quit, talk_torn, talk_last, talk_failed}
 use Rattle.am_session.proofs.Hearing.{heard_quit, line_answered}
 use Rattle.am_session.proofs.serving.talk.Goals as goal
 
@@ -45,7 +46,7 @@ pub returns-then-not-found-clause-talked : goal.returns-then-not-found-clause-ta
 returns-then-not-found-clause-talked g c =
     let m = rw c.in-Some-next.is at c.in-Ok.ensures.line in
     let line = seen c.in-Some-next.found.kind c.next_line.new.line in
-    let d : c.in-Some-next.found.is_ended ≡ false = not_true _ c.if-not-found.true in
+    let d : c.in-Some-next.found.is_ended ≡ false = not-true _ c.if-not-found.true in
     let l = subst (λ (b : Bool). TookLine g.S.AnsweredSource.comes c.lines.input c.lines.source line b c.next_line.new.input c.next_line.new.source) d m in
     let may : MayHear line c.hear-heard.result = subst (λ (x : List ℕ). MayHear (seen c.in-Some-next.found.kind x) c.hear-heard.result) c.as_slice.ensures c.hear-heard.ensures in
     let q : is_quit (heard line) ≡ false = sym (heard_quit line c.hear-heard.result may) ∙ sym c.if-is_quit.ensures in
@@ -57,7 +58,7 @@ pub lines-preserved : goal.lines-preserved
 lines-preserved g c =
     let m = rw c.in-Some-next.is at c.in-Ok.ensures.line in
     let line = seen c.in-Some-next.found.kind c.next_line.new.line in
-    let d : c.in-Some-next.found.is_ended ≡ true = not_false _ c.if-not-found.false in
+    let d : c.in-Some-next.found.is_ended ≡ true = not-false _ c.if-not-found.false in
     let l = subst (λ (b : Bool). TookLine g.S.AnsweredSource.comes c.lines.input c.lines.source line b c.next_line.new.input c.next_line.new.source) d m in
     let may : MayHear line c.hear-heard.result = subst (λ (x : List ℕ). MayHear (seen c.in-Some-next.found.kind x) c.hear-heard.result) c.as_slice.ensures c.hear-heard.ensures in
     let q : is_quit (heard line) ≡ false = sym (heard_quit line c.hear-heard.result may) ∙ sym c.if-is_quit.ensures in
