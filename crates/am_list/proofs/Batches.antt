@@ -100,7 +100,7 @@ module _ (part : ℕ) (key : OrderedKey) (reached : Ordering → Bool) where
       ∙ sym (all_reached-append (take i es) (drop i es))
       ∙ ap all_reached whole
 
-above_not_less : (o : Ordering) → o ≡ Greater → o ≢ Less
+pub above_not_less : (o : Ordering) → o ≡ Greater → o ≢ Less
 above_not_less o above less = absurd (cc)
 
 module _ (part : ℕ) (key : OrderedKey) where

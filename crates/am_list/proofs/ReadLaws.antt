@@ -83,9 +83,6 @@ module _ (passes : Place → Bool) (part : ℕ) (key : OrderedKey) where
 
 -- ---- reading on
 
-above_not_less : (o : Ordering) → o ≡ Greater → o ≢ Less
-above_not_less o above less = absurd (cc)
-
 none_at_front : (xs : List Entry) → slice_get xs 0 ≡ None → xs ≡ []
 none_at_front [] h = refl
 none_at_front (x ∷ xs) h = absurd (none-some x (sym h))

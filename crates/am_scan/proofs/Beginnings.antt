@@ -1,31 +1,22 @@
 -- Where the head of a partition begins, and the first entries from partition to partition.
-use Rattle.std.proofs.Common.{◌≡◌, ◌≢◌, ℕ, ◌<◌, ◌≤◌, ◌++◌, List, [], true, false, drop, Option, Some, None, refl, sym, ap, ◌∙◌, subst, arith, ⊎_elim}
-use Rattle.std.proofs.lemmas.Bool.{and_parts, true≢false, cases_lt}
+use Rattle.std.proofs.Common.{◌≡◌, ℕ, ◌<◌, List, [], ◌∷◌, true, false, take, drop, length, Option, Some, None, refl, sym, ap, ◌∙◌, subst, arith}
+use Rattle.std.proofs.lemmas.Bool.{and_parts}
+use Rattle.std.proofs.lemmas.List.{take-append-drop}
 use Rattle.std.specs.declared.cmp.Ordering.{Ordering}
 use Rattle.std.specs.declared.cmp.Ordering.TheVariants.{Less, Equal, Greater}
-use Rattle.std.specs.Ordering.{is_le}
 use Rattle.am_record.specs.OrderedKey.{OrderedKey, key_cmp, key_cmp-exact}
 use Rattle.am_record.specs.Interval.{Interval, key_le, within}
-use Rattle.am_record.specs.EntryOrder.{place_of, place_cmp, place_cmp-part, place_cmp-same}
 use Rattle.am_record.specs.declared.entry.Entry.{Entry}
-use Rattle.am_record.proofs.PlaceOrder.{lower_part, from_place}
-use Rattle.am_record.proofs.KeyOrder.{in_ends}
-use Rattle.am_list.specs.Entries.{next_any, all_after}
-use Rattle.am_list.specs.Walks.{WalkLaws}
+use Rattle.am_list.specs.Entries.{entry_at, find, next_from, all_from, all_after}
+use Rattle.am_list.specs.Walks.{WalkLaws, ReadLaws}
 use Rattle.am_list.specs.Content.{IsLiveAt}
+use Rattle.am_scan.specs.Looks.{IsPast, IsFirstIn, HasNoneLive}
+use Rattle.am_scan.specs.Heads.{Stand, stand_at, HasReadOn, IsAtFirst, IsFirstHead, IsNextHead, HasNoNext}
+use Rattle.am_record.proofs.KeyOrder.{in_ends}
 use Rattle.am_list.proofs.Content.{none_live}
-use Rattle.am_scan.specs.Looks.{AreEmpty, AreEmptyFrom, IsFirstIn, IsFirstFrom, HasNoneLive}
-use Rattle.am_scan.specs.declared.head.Head.{Head}
-use Rattle.am_scan.specs.Heads.{HasReadOn, IsFirstHead, IsNextHead, HasNoNext, Stand}
-use Rattle.am_scan.proofs.Moving.{turned, le_less, ghost_not_live, live_there, in_ends}
+use Rattle.am_scan.proofs.Moving.{turned, le_less, ghost_not_live, live_there}
 
 -- ---- the head of one partition
-
-pub nothing_read : (es : List Entry) (h : Stand) → h.read ≡ [] → HasReadOn es h
-nothing_read es h none = record {
-  further = all_after es h.entry.part h.entry.key;
-  follows = ap (λ l. l ++ all_after es h.entry.part h.entry.key) (sym none);
-}
 
 module _ {es : List Entry} (range : Interval) (e : Entry) (first : IsFirstIn es range.lo e) where
   none_before : (key : OrderedKey) (value : List ℕ) → within range key ≡ true → key_cmp key e.key ≡ Less → ¬ IsLiveAt es e.part key value
@@ -73,65 +64,62 @@ module _ {es : List Entry} (range : Interval) (e : Entry) (first : IsFirstIn es 
         by_order key value inside Equal h live = not_here key value h live
         by_order key value inside Greater h live = none_before key value inside (turned e.key key h) live
 
--- ---- places
+-- ---- the first entry of a partition
 
--- ---- the first entry from partition to partition
+none_read : (xs : List Entry) → [] ≡ take 16 xs → xs ≡ []
+none_read [] h = refl
+none_read (x ∷ xs) h = absurd (cc)
 
--- the partitions that the look has left behind
-pub record IsLooking (es : List Entry) (part from : ℕ) (lo : OrderedKey) : Type 0 where
-  pub not_before : part ≤ from
-  pub skipped : AreEmpty es part from lo
+pub no_length : {X : Type 0} (xs : List X) → length xs ≡ 0 → xs ≡ []
+no_length [] h = refl
+no_length (x ∷ xs) h = absurd (omega arith)
 
-pub looks_first : (es : List Entry) (part : ℕ) (lo : OrderedKey) → IsLooking es part part lo
-looks_first es part lo = record { not_before = omega arith; skipped = record { none = λ p key from below reached. absurd (omega arith) } }
+module _ {es : List Entry} (walks : WalkLaws es) (reads : ReadLaws es) (part : ℕ) (lo : OrderedKey) (ahead : List Entry) (read : ahead ≡ take 16 (all_from es part lo)) where
+  pub begins_past : length ahead ≡ 0 → IsPast es part lo
+  begins_past none = by_cases (next_from es part lo) refl
+    where
+      nothing : all_from es part lo ≡ []
+      nothing = none_read (all_from es part lo) (sym (no_length ahead none) ∙ read)
 
-module _ {es : List Entry} (walks : WalkLaws es) {part from : ℕ} {lo : OrderedKey} (looking : IsLooking es part from lo) where
-  pub looks_nowhere : {o : Option Entry} → o ≡ next_any es from lo → o ≡ None → AreEmptyFrom es part lo
-  looks_nowhere look is = record {
-    none = λ p key low reached.
-        ⊎_elim (λ below. looking.skipped.none p key low below reached) (λ above. walks.any_none from lo (sym look ∙ is) p key (from_place from p lo key above reached)) (cases_lt p from);
-  }
+      by_cases : (o : Option Entry) → next_from es part lo ≡ o → IsPast es part lo
+      by_cases None is = record { none = λ key reached. walks.from_none part lo is key reached }
+      by_cases (Some x) is = let both = sym nothing ∙ reads.from_some part lo x is in absurd (cc both)
 
-  module _ {o : Option Entry} (e : Entry) (look : o ≡ next_any es from lo) (is : o ≡ Some e) where
-    found : next_any es from lo ≡ Some e
-    found = sym look ∙ is
+  pub begins_at : (length ahead ≡ 0 → ⊥) → IsAtFirst es part lo (stand_at ahead 0)
+  begins_at some = by_cases (next_from es part lo) refl
+    where
+      by_cases : (o : Option Entry) → next_from es part lo ≡ o → IsAtFirst es part lo (stand_at ahead 0)
+      by_cases None is = let none : ahead ≡ [] = read ∙ ap (take 16) (reads.from_none part lo is) in absurd (some (ap length none))
+      by_cases (Some x) is =
+          let rest = all_after es part x.key in
+          let begun : ahead ≡ x ∷ take 15 rest = read ∙ ap (take 16) (reads.from_some part lo x is) in
+          let of = walks.from_some part lo x is in
+          let first : IsFirstIn es lo x = record {
+            stands = ap (λ p. entry_at es p x.key) of.in_part ∙ of.stands;
+            reached = of.is_reached;
+            none_before = λ key low below. ap (λ p. find es p key) of.in_part ∙ of.none_before key low below;
+          } in
+          let on : HasReadOn es (stand_at (x ∷ take 15 rest) 0) = record {
+            further = drop 15 rest;
+            follows = ap (λ p. all_after es p x.key) of.in_part ∙ sym (take-append-drop 15 rest);
+          } in
+          subst (λ (l : List Entry). IsAtFirst es part lo (stand_at l 0)) (sym begun) (record { first = first; in_part = of.in_part; reads = on })
 
-    pub not_back : from ≤ e.part
-    not_back = place_cmp-part (from, lo) (place_of e) (walks.any_reached from lo e found)
+-- ---- the first live one of the partition in the range
 
-    empty : AreEmpty es part e.part lo
-    empty = record {
-      none = λ p key low below reached.
-          ⊎_elim (λ before. looking.skipped.none p key low before reached)
-          (λ above. walks.any_none_before from lo e found p key (from_place from p lo key above reached) (lower_part (p, key) (place_of e) below)) (cases_lt p from);
-    }
+module _ {es : List Entry} (range : Interval) {part : ℕ} where
+  pub past_range : IsPast es part range.lo → HasNoneLive es range part
+  past_range past = record { none = λ key value inside. none_live es part key (past.none key (and_parts (key_le range.lo key) (key_le key range.hi) inside).0) value }
 
-    pub looks_found : key_le lo e.key ≡ true → IsFirstFrom es part lo e
-    looks_found reached = let le = not_back in let before = looking.not_before in record {
-      not_before = omega (arith, le, before);
-      first = record {
-        stands = walks.any_stands from lo e found;
-        reached = reached;
-        none_before = λ key low below. walks.any_none_before from lo e found e.part key (from_place from e.part lo key not_back low) (place_cmp-same e.part key e.key ∙ below);
-      };
-      skipped = empty;
-    }
+  module _ {h : Stand} (at : IsAtFirst es part range.lo h) where
+    pub first_above : key_cmp range.hi h.entry.key ≡ Less → HasNoneLive es range part
+    first_above above = subst (HasNoneLive es range) at.in_part (above_range range h.entry at.first above)
 
-    pub looks_later : key_le lo e.key ≡ false → from < e.part
-    looks_later below =
-        ⊎_elim (λ less. less)
-        (λ no. let le = not_back in
-        let same : e.part ≡ from = omega (arith, le, no) in
-        absurd (below_start same))
-        (cases_lt from e.part)
-      where
-        greater_of : (o : Ordering) → is_le o ≡ false → o ≡ Greater
-        greater_of Less h = absurd (true≢false h)
-        greater_of Equal h = absurd (true≢false h)
-        greater_of Greater h = refl
+    pub first_live : key_le h.entry.key range.hi ≡ true → h.entry.is_ghost ≡ false → IsFirstHead es range part h
+    first_live low lives = subst (λ p. IsFirstHead es range p h) at.in_part (begins_live range h.entry at.first h refl at.reads low lives)
 
-        below_start : e.part ≡ from → ⊥
-        below_start same = walks.any_reached from lo e found (ap (λ p. place_cmp (from, lo) (p, e.key)) same ∙ place_cmp-same from lo e.key ∙ greater_of (key_cmp lo e.key) below)
+    pub first_next : h.entry.is_ghost ≡ true → {new : Stand} → IsNextHead es range h new → IsFirstHead es range part new
+    first_next ghostly {new} moved = subst (λ p. IsFirstHead es range p new) at.in_part (begins_next range h.entry at.first h refl ghostly moved)
 
-    pub looks_on : IsLooking es part e.part lo
-    looks_on = let le = not_back in let before = looking.not_before in record { not_before = omega (arith, le, before); skipped = empty }
+    pub first_nowhere : h.entry.is_ghost ≡ true → HasNoNext es range h → HasNoneLive es range part
+    first_nowhere ghostly ended = subst (HasNoneLive es range) at.in_part (begins_nowhere range h.entry at.first h refl ghostly ended)

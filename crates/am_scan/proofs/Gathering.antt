@@ -25,8 +25,8 @@ use Rattle.am_list.proofs.Lists.{first_such_none}
 use Rattle.am_list.proofs.Edits.{one_place}
 use Rattle.am_list.proofs.Content.{none_live}
 use Rattle.am_parts.specs.Merged.{HasNoneBefore}
-use Rattle.am_parts.specs.Partitions.{IsSound}
-use Rattle.am_scan.specs.Looks.{AreEmptyFrom, IsFirstFrom, HasNoneLive}
+use Rattle.am_parts.specs.Partitions.{IsSound, AreEmpty, AreEmptyFrom}
+use Rattle.am_scan.specs.Looks.{HasNoneLive}
 use Rattle.am_scan.specs.Heads.{Stand, head_cmp, IsHead, IsFirstHead}
 use Rattle.am_scan.specs.Cursors.{is_ahead_in, same_part, AreHeads, AreAllHeads}
 use Rattle.am_scan.proofs.Moving.{turned}
@@ -103,32 +103,32 @@ apart_from to h [] le all = tt
 apart_from to h (g ∷ heads) le all = let low : g.entry.part < to = all.0 in (other_number h.entry.part g.entry.part (λ same. omega (arith, low, same)), apart_from to h heads le all.1)
 
 module _ {es : List Entry} {range : Interval} {to : ℕ} {heads : List Stand} (gathered : AreHeadsBelow es range to heads) where
-  module _ (e : Entry) (first : IsFirstFrom es to range.lo e) where
+  module _ (at : ℕ) (from : to ≤ at) (empty : AreEmpty es to at) where
     -- nothing of the range is live in the partitions that were skipped
-    skipped : (part : ℕ) (key : OrderedKey) (value : List ℕ) → to ≤ part → part < e.part → within range key ≡ true → ¬ IsLiveAt es part key value
-    skipped part key value from below inside = none_live es part key (first.skipped.none part key from below (and_parts (key_le range.lo key) (key_le key range.hi) inside).0) value
+    skipped : (part : ℕ) (key : OrderedKey) (value : List ℕ) → to ≤ part → part < at → within range key ≡ true → ¬ IsLiveAt es part key value
+    skipped part key value up below inside = none_live es part key (empty.none part key up below) value
 
-    pub passes_part : HasNoneLive es range e.part → AreHeadsBelow es range (e.part + 1) heads
-    passes_part none = let low = first.not_before in record {
+    pub passes_part : HasNoneLive es range at → AreHeadsBelow es range (at + 1) heads
+    passes_part none = record {
       are_heads = gathered.are_heads;
       heap = gathered.heap;
-      below = All-from_recursion (λ (h : Stand). h.entry.part < e.part + 1) heads (lower_all to (e.part + 1) heads (omega (arith, low)) (recursion_from_All (λ (h : Stand). h.entry.part < to) heads gathered.below));
+      below = All-from_recursion (λ (h : Stand). h.entry.part < at + 1) heads (lower_all to (at + 1) heads (omega (arith, from)) (recursion_from_All (λ (h : Stand). h.entry.part < to) heads gathered.below));
       before = λ part key value less live inside.
           ⊎_elim (λ old. gathered.before part key value old live inside)
           (λ new. ⊎_elim (λ before. absurd (skipped part key value new before inside live))
-          (λ not_before. let same : part ≡ e.part = omega (arith, less, not_before) in absurd (none.none key value inside (subst (λ p. IsLiveAt es p key value) same live)))
-          (cases_lt part e.part))
+          (λ not_before. let same : part ≡ at = omega (arith, less, not_before) in absurd (none.none key value inside (subst (λ p. IsLiveAt es p key value) same live)))
+          (cases_lt part at))
           (cases_lt part to);
     }
 
-    module _ (h : Stand) (begins : IsFirstHead es range e.part h) {heads' : List Stand} (moved : IsPermutation (h ∷ heads) heads') (keeps : KeepsHeap head_cmp heads heads') where
+    module _ (h : Stand) (begins : IsFirstHead es range at h) {heads' : List Stand} (moved : IsPermutation (h ∷ heads) heads') (keeps : KeepsHeap head_cmp heads heads') where
       below_h : AllByRecursion (λ (g : Stand). g.entry.part < to) heads
       below_h = recursion_from_All (λ (g : Stand). g.entry.part < to) heads gathered.below
 
       above_to : to ≤ h.entry.part
-      above_to = let low = first.not_before in let same = begins.in_part in omega (arith, low, same)
+      above_to = let same = begins.in_part in omega (arith, from, same)
 
-      reached : (key : OrderedKey) (value : List ℕ) → within range key ≡ true → IsLiveAt es e.part key value → key_le h.entry.key key ≡ true
+      reached : (key : OrderedKey) (value : List ℕ) → within range key ≡ true → IsLiveAt es at key value → key_le h.entry.key key ≡ true
       reached key value inside live = by_order (key_cmp h.entry.key key) refl
         where
           by_order : (o : Ordering) → key_cmp h.entry.key key ≡ o → key_le h.entry.key key ≡ true
@@ -137,26 +137,26 @@ module _ {es : List Entry} {range : Interval} {to : ℕ} {heads : List Stand} (g
           by_order Greater e = absurd (begins.none_before key value inside (turned h.entry.key key e) live)
 
       -- of the new list before it was put in order
-      ahead : (part : ℕ) (key : OrderedKey) (value : List ℕ) → part < e.part + 1 → IsLiveAt es part key value → within range key ≡ true → is_ahead_in (h ∷ heads) part key ≡ true
+      ahead : (part : ℕ) (key : OrderedKey) (value : List ℕ) → part < at + 1 → IsLiveAt es part key value → within range key ≡ true → is_ahead_in (h ∷ heads) part key ≡ true
       ahead part key value less live inside =
           ⊎_elim (λ old. or_right (h.entry.part == part && key_le h.entry.key key) (is_ahead_in heads part key) (gathered.before part key value old live inside))
           (λ new. ⊎_elim (λ before. absurd (skipped part key value new before inside live))
           (λ not_before.
-          let same : part ≡ e.part = omega (arith, less, not_before) in
+          let same : part ≡ at = omega (arith, less, not_before) in
           or_left (h.entry.part == part && key_le h.entry.key key) (is_ahead_in heads part key)
           (and_from (h.entry.part == part) (key_le h.entry.key key) (same_number h.entry.part part (begins.in_part ∙ sym same)) (reached key value inside (subst (λ p. IsLiveAt es p key value) same live))))
-          (cases_lt part e.part))
+          (cases_lt part at))
           (cases_lt part to)
 
-      pub takes_head : AreHeadsBelow es range (e.part + 1) heads'
-      takes_head = let low = first.not_before in record {
+      pub takes_head : AreHeadsBelow es range (at + 1) heads'
+      takes_head = record {
         are_heads = record {
           each = All-permutation (IsHead es range) (h ∷ heads) heads' moved (All-cons (IsHead es range) h heads begins.head gathered.are_heads.each);
           apart = IsDistinct-IsPermutation same_part same_either_way (h ∷ heads) heads' moved (IsDistinct-cons same_part h heads (apart_from to h heads above_to below_h) gathered.are_heads.apart);
         };
         heap = keeps gathered.heap;
-        below = All-permutation (λ (g : Stand). g.entry.part < e.part + 1) (h ∷ heads) heads' moved (All-from_recursion (λ (g : Stand). g.entry.part < e.part + 1) (h ∷ heads)
-            (let same = begins.in_part in (omega (arith, same), lower_all to (e.part + 1) heads (omega (arith, low)) below_h)));
+        below = All-permutation (λ (g : Stand). g.entry.part < at + 1) (h ∷ heads) heads' moved (All-from_recursion (λ (g : Stand). g.entry.part < at + 1) (h ∷ heads)
+            (let same = begins.in_part in (omega (arith, same), lower_all to (at + 1) heads (omega (arith, from)) below_h)));
         before = λ part key value less live inside.
             sym (list_any-IsPermutation (λ (g : Stand). g.entry.part == part && key_le g.entry.key key) (h ∷ heads) heads' moved) ∙ ahead part key value less live inside;
       }
@@ -175,13 +175,13 @@ module _ {es : List Entry} {range : Interval} {to : ℕ} {heads : List Stand} (g
   }
 
   -- there is no entry left
-  pub has_all : AreEmptyFrom es to range.lo → AreAllHeads es range heads
+  pub has_all : AreEmptyFrom es to → AreAllHeads es range heads
   has_all empty = record {
     are_heads = gathered.are_heads;
     heap = gathered.heap;
     before = λ part key value live inside.
         ⊎_elim (λ old. gathered.before part key value old live inside)
-        (λ new. absurd (none_live es part key (empty.none part key new (and_parts (key_le range.lo key) (key_le key range.hi) inside).0) value live)) (cases_lt part to);
+        (λ new. absurd (none_live es part key (empty.none part key new) value live)) (cases_lt part to);
   }
 
   -- or no number of a partition

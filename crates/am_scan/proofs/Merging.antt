@@ -16,11 +16,11 @@ use Rattle.std.specs.FinMap.Entries.{is_sorted-where_key, find-where_key, same_e
 use Rattle.am_record.specs.OrderedKey.{OrderedKey, key_cmp, key_cmp-total, key_cmp-exact, key_cmp-itself}
 use Rattle.am_record.specs.Interval.{Interval, key_le, within}
 use Rattle.am_record.specs.Plain.{PlainMap, Records, rows_where}
+use Rattle.am_record.proofs.KeyOrder.{key_le_trans, ties_alike}
 use Rattle.am_record.specs.declared.entry.Entry.{Entry}
 use Rattle.am_record.proofs.Outcomes.{is_true}
-use Rattle.am_record.proofs.KeyOrder.{ties_alike}
 use Rattle.am_record.proofs.FirstRows.{le_of_less}
-use Rattle.am_list.specs.Content.{content, IsLiveAt, ContentLaws}
+use Rattle.am_list.specs.Content.{content, rows_in, IsLiveAt, LivesInOne, ContentLaws}
 use Rattle.am_parts.specs.Partitions.{IsSound}
 use Rattle.am_scan.specs.Heads.{Stand, head_cmp, IsHead, IsNextHead, HasNoNext}
 use Rattle.am_scan.specs.Cursors.{is_ahead, rows_ahead, is_ahead_in, same_part, AreHeads, AreAhead, AreAllHeads, IsLeastBeside}
@@ -309,3 +309,43 @@ is_first is = sym (ap (λ l. slice_get l 0) is)
 
 pub is_rest : {A : Type 0} {rows rest : List A} {row : A} → rows ≡ row ∷ rest → rest ≡ drop 1 rows
 is_rest is = sym (ap (drop 1) is)
+
+-- ---- all that is still to come stands in one partition
+
+module _ {es : List Entry} {range : Interval} (h : Stand) (cursor : AreAhead es range (h ∷ [])) where
+  abbrev pub rest_of : Interval
+  rest_of = record { lo = h.entry.key; hi = range.hi }
+
+  only : IsHead es range h
+  only = All-head (IsHead es range) h [] cursor.are_heads.each
+
+  ends : (key_le range.lo h.entry.key ≡ true) × (key_le h.entry.key range.hi ≡ true)
+  ends = and_parts (key_le range.lo h.entry.key) (key_le h.entry.key range.hi) only.inside
+
+  pub ordered : key_le h.entry.key range.hi ≡ true
+  ordered = ends.1
+
+  widened : (q : OrderedKey) → key_le h.entry.key q ≡ true → key_le range.lo q ≡ true
+  widened q le = key_le_trans range.lo h.entry.key q ends.0 le
+
+  lives_in_one : LivesInOne es h.entry.part rest_of
+  lives_in_one = record {
+    one = λ p key value live inside.
+        let parts = and_parts (key_le h.entry.key key) (key_le key range.hi) inside in
+        let ahead = cursor.before p key value live (both (key_le range.lo key) (key_le key range.hi) (widened key parts.0) parts.1) (or_first (key_le h.entry.key key) false parts.0) in
+        sym (eqb-true h.entry.part p (and_parts (h.entry.part == p) (key_le h.entry.key key) (or_alone (h.entry.part == p && key_le h.entry.key key) ahead)).0);
+  }
+    where
+      or_alone : (b : Bool) → (b || false) ≡ true → b ≡ true
+      or_alone true e = refl
+      or_alone false e = absurd (true≢false (sym e))
+
+  pub alone_rows : ((part : ℕ) (range : Interval) → LivesInOne es part range → rows_in es part range ≡ rows_where (within range) (content es)) → rows_ahead (h ∷ []) range (content es) ≡ rows_in es h.entry.part rest_of
+  alone_rows law =
+      same_rows (λ key. is_ahead (h ∷ []) key && within range key) (within rest_of) (content es) (λ q v there. same_test (key_le h.entry.key q) q refl)
+      ∙ sym (law h.entry.part rest_of lives_in_one)
+    where
+      same_test : (b : Bool) (q : OrderedKey) → key_le h.entry.key q ≡ b → (is_ahead (h ∷ []) q && within range q) ≡ within rest_of q
+      same_test true q e =
+          ap (λ b. (b || false) && within range q) e ∙ ap (λ b. b && key_le q range.hi) (widened q e) ∙ sym (ap (λ b. b && key_le q range.hi) e)
+      same_test false q e = ap (λ b. (b || false) && within range q) e ∙ sym (ap (λ b. b && key_le q range.hi) e)

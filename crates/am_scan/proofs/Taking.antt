@@ -53,3 +53,7 @@ module _ {X : Type 0} where
     no_more max low first is =
         sym (ap (take max) (so_far.together ∙ ap (λ l. taken ++ l) (none_of left (sym first ∙ is)) ∙ append-nil taken)
         ∙ take_all max taken (let had = so_far.count in omega (arith, had, low)))
+
+    -- the rest at once
+    pub all_at_once : {taken' : List X} (max : ℕ) → taken' ≡ take max (taken ++ left) → taken' ≡ take max all
+    all_at_once max is = is ∙ ap (take max) (sym so_far.together)

@@ -9,6 +9,7 @@ use Rattle.am_record.specs.Interval.{Interval, within}
 use Rattle.am_record.specs.declared.entry.Entry.{Entry}
 use Rattle.am_list.specs.Entries.{all_after}
 use Rattle.am_list.specs.Content.{IsLiveAt}
+use Rattle.am_scan.specs.Looks.{IsFirstIn}
 use Rattle.am_list.specs.EntryCode.{entry_code, entries_code}
 
 -- where a head stands: at the entry, with the others read behind it
@@ -43,6 +44,12 @@ pub record HasReadOn (es : List Entry) (h : Stand) : Type 0 where
 pub record IsReady (es : List Entry) (h : Stand) : Type 0 where
   pub reads : HasReadOn es h
   pub at_end : h.read ≡ [] → all_after es h.entry.part h.entry.key ≡ []
+
+-- the head stands at the first entry of the partition with a key at or above the bound
+pub record IsAtFirst (es : List Entry) (part : ℕ) (lo : OrderedKey) (h : Stand) : Type 0 where
+  pub first : IsFirstIn es lo h.entry
+  pub in_part : h.entry.part ≡ part
+  pub reads : HasReadOn es h
 
 -- the head stands at a live entry in the range
 pub record IsHead (es : List Entry) (range : Interval) (h : Stand) : Type 0 where

@@ -1,13 +1,13 @@
 //! A cursor: the records of a range, over all partitions, one at a time.
 
-ghost use Rattle.std.specs.Prelude.{◌≡◌, IfOk, drop, slice_get};
+ghost use Rattle.std.specs.Prelude.{◌≡◌, ◌≤◌, ◌++◌, IfOk, true, false, length, take, drop, slice_get};
 ghost use Rattle.am_record.specs.Interval.{within};
 ghost use Rattle.am_record.specs.Plain.{rows_where};
 ghost use Rattle.am_list.specs.Content.{content};
 
 use crate::head::Head;
 use crate::heads::{heads_of, keep_least, pop_least};
-use am_list::{PartIndex, content_follows};
+use am_list::{PartIndex, content_follows, rows_follow};
 use am_parts::Parts;
 use am_record::{Key, NoMemory, Range, Value};
 use std::alloc::Global;
@@ -80,5 +80,28 @@ impl<'a, I: PartIndex + Drop> Cursor<'a, I> {
             self.least = pop_least(&mut self.others);
         }
         record
+    }
+
+    /// Appends the records still to come, until there are `max` rows, where all of them stand in one partition, and says
+    /// whether they do. Else nothing is appended.
+    ///
+    /// # Errors
+    /// NoMemory, where memory was refused. Some rows may have been appended.
+    pub(crate) fn copy_rest(&self, max: u64, rows: &mut Vec<(Key, Value)>) -> Result<bool, NoMemory>
+        requires { length rows.old.items ≤ max }
+        ensures copied { IfOk result (λ copied. copied ≡ true → rows.new.items ≡ take max (rows.old.items ++ self.now)) }
+        ensures same { IfOk result (λ copied. copied ≡ false → rows.new.items ≡ rows.old.items) }
+    {
+        content_follows();
+        rows_follow();
+        let Some(head) = &self.least else {
+            return Ok(false);
+        };
+        if !self.others.is_empty() {
+            return Ok(false);
+        }
+        let (part, rest) = head.rest(self.range);
+        self.parts.copy_rows(part, rest, max, rows)?;
+        Ok(true)
     }
 }

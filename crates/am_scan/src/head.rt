@@ -37,18 +37,8 @@ impl Model for Head {
 }
 
 impl Head {
-    ghost use Rattle.am_scan.specs.Heads.{HasReadOn, IsReady, IsNextHead, IsFirstHead, HasNoNext};
-    ghost use Rattle.am_scan.specs.Looks.{IsFirstIn, HasNoneLive};
-
-    // At the entry, with nothing read behind it.
-    fn at(alloc: Global, entry: Entry) -> Result<Head, NoMemory>
-        ensures entry { IfOk result (λ head. head.entry ≡ entry) }
-        ensures read { IfOk result (λ head. head.read ≡ []) }
-    {
-        let mut ahead = Box::new(alloc, Batch::new())?;
-        ahead.push(entry);
-        Ok(Head { ahead, passed: 0 })
-    }
+    ghost use Rattle.am_scan.specs.Heads.{HasReadOn, IsReady, IsAtFirst, IsNextHead, IsFirstHead, HasNoNext};
+    ghost use Rattle.am_scan.specs.Looks.{IsPast, HasNoneLive};
 
     // The entry at which it stands.
     fn entry(&self) -> &Entry
@@ -57,8 +47,7 @@ impl Head {
         &self.ahead.entries()[self.passed]
     }
 
-    /// The head of a partition at its first live entry in the range, if there is one. The caller
-    /// gives the partition's first entry at or above the range's least key.
+    /// The head of a partition at its first live entry in the range, if there is one.
     ///
     /// # Errors
     /// NoMemory, where memory was refused.
@@ -66,17 +55,18 @@ impl Head {
         alloc: Global,
         parts: &Parts<I>,
         range: Range,
-        entry: Entry,
+        part: u32,
     ) -> Result<Option<Head>, NoMemory>
-        requires first { IsFirstIn parts.now.entries range.lo entry }
         requires rising { IsRising parts.now.entries }
-        ensures some { IfOk result (λ first. IfSome first (λ head. IsFirstHead parts.now.entries range entry.part head)) }
-        ensures none { IfOk result (λ first. IfNone first (HasNoneLive parts.now.entries range entry.part)) }
+        ensures some { IfOk result (λ first. IfSome first (λ head. IsFirstHead parts.now.entries range part head)) }
+        ensures none { IfOk result (λ first. IfNone first (HasNoneLive parts.now.entries range part)) }
     {
-        if range.hi() < entry.key {
+        let Some(mut head) = Head::begin(alloc, parts, part, range.lo())? else {
+            return Ok(None);
+        };
+        if range.hi() < head.entry().key {
             return Ok(None);
         }
-        let mut head = Head::at(alloc, entry)?;
         if !head.entry().is_ghost {
             return Ok(Some(head));
         }
@@ -87,12 +77,46 @@ impl Head {
         }
     }
 
+    // The head of a partition at its first entry at or above the key, if there is one.
+    fn begin<I: PartIndex + Drop>(
+        alloc: Global,
+        parts: &Parts<I>,
+        part: u32,
+        lo: Key,
+    ) -> Result<Option<Head>, NoMemory>
+        requires rising { IsRising parts.now.entries }
+        ensures some { IfOk result (λ begun. IfSome begun (λ head. IsAtFirst parts.now.entries part lo head)) }
+        ensures none { IfOk result (λ begun. IfNone begun (IsPast parts.now.entries part lo)) }
+    {
+        reads_follow();
+        walks_follow();
+        let mut ahead = Box::new(alloc, Batch::new())?;
+        parts.read_from(part, lo, &mut ahead);
+        if ahead.entries().is_empty() {
+            return Ok(None);
+        }
+        Ok(Some(Head { ahead, passed: 0 }))
+    }
+
     /// The record at which the head stands.
     pub(crate) fn record(&self) -> (Key, Value)
         ensures { result ≡ (self.now.entry.key, self.now.entry.value) }
     {
         let entry = self.entry();
         (entry.key, entry.value)
+    }
+
+    /// Its partition, and the range from its entry up to another's end. The caller sees to it that its entry is not above
+    /// that end.
+    pub(crate) fn rest(&self, range: Range) -> (u32, Range)
+        requires { key_le self.now.entry.key range.hi ≡ true }
+        ensures { result ≡ (self.now.entry.part, record { lo = self.now.entry.key; hi = range.hi }) }
+    {
+        let entry = self.entry();
+        let Some(rest) = Range::new(entry.key, range.hi()) else {
+            unreachable!()
+        };
+        (entry.part, rest)
     }
 
     /// Moves to the next live entry of the partition in the range, and says whether there is one.

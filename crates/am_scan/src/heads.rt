@@ -1,18 +1,17 @@
 //! The heads with which a cursor begins, and the least one of several.
 
-ghost use Rattle.std.specs.Prelude.{◌≡◌, ◌∷◌, IfOk, IfSome, IfNone, Some};
+ghost use Rattle.std.specs.Prelude.{◌∷◌, IfOk, Some};
 ghost use Rattle.std.specs.List.{cons_option};
 ghost use Rattle.std.specs.List.Sorted.{IsPermutation};
 ghost use Rattle.std.specs.BinaryHeap.{heap_items, IsHeap};
 ghost use Rattle.am_parts.specs.Partitions.{IsSound};
-ghost use Rattle.am_scan.specs.Looks.{IsFirstFrom, AreEmptyFrom};
 ghost use Rattle.am_scan.specs.Heads.{head_cmp};
 ghost use Rattle.am_scan.specs.Cursors.{AreAllHeads, IsLeastBeside};
 
 use crate::head::Head;
-use am_list::{PartIndex, walks_follow};
+use am_list::PartIndex;
 use am_parts::Parts;
-use am_record::{Entry, Key, NoMemory, Range};
+use am_record::{NoMemory, Range};
 use std::alloc::Global;
 use std::collections::BinaryHeap;
 use std::mem;
@@ -31,37 +30,19 @@ pub(crate) fn heads_of<I: PartIndex + Drop>(
 {
     let first_run = parts.first_run(range);
     let mut heads = BinaryHeap::new(alloc);
-    let mut part = 0;
-    while let Some(entry) = first_from(parts, part, range.lo()) {
-        let here = entry.part;
-        let first = Head::first(alloc, parts, range, entry)?;
+    let mut from = 0;
+    while let Some(part) = parts.next_part(from) {
+        let first = Head::first(alloc, parts, range, part)?;
         if let Some(head) = first {
             heads.push(head)?;
         }
-        let Some(above) = here.checked_add(1) else {
+        let Some(above) = part.checked_add(1) else {
             break;
         };
         // The runs before that one have nothing in the range.
-        part = above.max(first_run);
+        from = above.max(first_run);
     }
     Ok(heads)
-}
-
-// The first entry with a key at or above the bound in the partition or a later one.
-fn first_from<I: PartIndex + Drop>(parts: &Parts<I>, part: u32, lo: Key) -> Option<Entry>
-    ensures some { IfSome result (λ entry. IsFirstFrom parts.now.entries part lo entry) }
-    ensures none { IfNone result (AreEmptyFrom parts.now.entries part lo) }
-    ensures sound { IsSound parts.now.entries }
-{
-    walks_follow();
-    let mut from = part;
-    while let Some(entry) = parts.next_any(from, lo) {
-        if lo <= entry.key {
-            return Some(entry);
-        }
-        from = entry.part;
-    }
-    None
 }
 
 /// Takes the least head out of the heap, if there is one.

@@ -27,6 +27,9 @@ pub fn scan<I: PartIndex + Drop>(
     let mut cursor = Cursor::open(alloc, parts, range)?;
     let mut rows = Vec::new(alloc);
     for _ in 0..max {
+        if cursor.copy_rest(max, &mut rows)? {
+            break;
+        }
         let Some(row) = cursor.next() else {
             break;
         };
