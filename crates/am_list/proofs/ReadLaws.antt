@@ -17,7 +17,7 @@ use Rattle.am_list.specs.Entries.{slot_of, first_such, entry_at, find, after, al
 use Rattle.am_list.specs.Edits.{same_place}
 use Rattle.am_list.specs.Walks.{ReadLaws}
 use Rattle.am_list.proofs.Lists.{rising_above}
-use Rattle.am_list.proofs.Batches.{all_after_front, all_reached_front}
+use Rattle.am_list.proofs.Batches.{above_not_less, all_after_front, all_reached_front}
 use Rattle.am_list.proofs.Edits.{first_such_all, first_such_passes, entry_at-hit, entry_at-miss, one_place, place_cmp-itself}
 use Rattle.am_list.proofs.WalkLaws.{in_part_after}
 
