@@ -332,7 +332,7 @@ module _ {es : List Entry} {range : Interval} (h : Stand) (cursor : AreAhead es 
   lives_in_one = record {
     one = λ p key value live inside.
         let parts = and_parts (key_le h.entry.key key) (key_le key range.hi) inside in
-        let ahead = cursor.before p key value live (and_from (key_le range.lo key) (key_le key range.hi) (widened key parts.0) parts.1) (or_first (key_le h.entry.key key) false parts.0) in
+        let ahead = cursor.before p key value live (and_from (key_le range.lo key) (key_le key range.hi) (widened key parts.0) parts.1) (or_left (key_le h.entry.key key) false parts.0) in
         sym (eqb-true h.entry.part p (and_parts (h.entry.part == p) (key_le h.entry.key key) (or_alone (h.entry.part == p && key_le h.entry.key key) ahead)).0);
   }
     where
