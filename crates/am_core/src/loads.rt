@@ -25,9 +25,7 @@ pub(crate) fn load_pairs<I: PartIndex + Drop>(
     ensures done { IfOk result (λ reply. IsDone (Load pairs) reply parts.old log.old parts.new log.new) }
     ensures err { OnErr result (IsUntouched parts.old log.old parts.new log.new) }
 {
-    let Ok(run) = Run::new(pairs.into_vec()) else {
-        unreachable!()
-    };
+    let run = Run::of_rising(pairs.into_vec());
     log.reserve_one()?;
     match load(parts, &run) {
         Reply::Done => {

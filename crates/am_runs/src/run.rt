@@ -47,6 +47,14 @@ impl Run {
         Ok(Run { pairs })
     }
 
+    /// The run of these pairs, which the caller knows to rise strictly, one or more. Takes no memory, and looks at none.
+    pub fn of_rising(pairs: Vec<(Key, Value)>) -> Run
+        requires { is_rising pairs.items ≡ true }
+        ensures { result ≡ pairs.items }
+    {
+        Run { pairs }
+    }
+
     /// The run of these records, which may stand in any order.
     ///
     /// # Errors
