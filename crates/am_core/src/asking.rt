@@ -16,7 +16,7 @@ use am_runs::{MAX_RUNS, is_rising};
 use am_tx::{MAX_OPS, TxTable};
 
 /// The most rows that a scan may ask for.
-pub const MAX_ROWS: u64 = 1000;
+const MAX_ROWS: u64 = 1000;
 
 /// The refusal that is due before a lock is asked for.
 #[inline(never)]

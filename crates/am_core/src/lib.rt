@@ -14,7 +14,5 @@ mod store;
 mod transactions;
 mod writes;
 
-pub use asking::MAX_ROWS;
-pub use maintenance::MAX_LIMIT;
 pub use running::run;
 pub use store::Store;

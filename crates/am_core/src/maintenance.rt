@@ -13,7 +13,7 @@ use am_merge::{clean_step, merge_step};
 use am_record::{Range, Refusal, Reply};
 
 /// The most entries that a merge or a clean may take at once.
-pub const MAX_LIMIT: u64 = 64;
+const MAX_LIMIT: u64 = 64;
 
 impl<I: PartIndex + Drop> Kept<I> {
     #[inline(never)]

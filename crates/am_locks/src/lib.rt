@@ -11,5 +11,5 @@ mod table;
 
 pub use asked::Asked;
 pub use invariant::owners_never_conflict;
-pub use owner::{INLINE_LOCKS, MAX_LOCKS};
+pub use owner::MAX_LOCKS;
 pub use table::{LockTable, MAX_OWNERS};

@@ -23,7 +23,7 @@ use std::marker::Model;
 pub const MAX_LOCKS: usize = 256;
 
 /// So many locks of a transaction take no memory.
-pub const INLINE_LOCKS: usize = 8;
+pub(crate) const INLINE_LOCKS: usize = 8;
 
 /// A transaction and its locks, the oldest first.
 ///

@@ -4,4 +4,4 @@
 mod transaction;
 mod tx_table;
 
-pub use tx_table::{MAX_ACTIVE, MAX_BEGUN, MAX_OPS, TxTable};
+pub use tx_table::{MAX_OPS, TxTable};

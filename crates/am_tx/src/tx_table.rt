@@ -15,10 +15,10 @@ use std::alloc::Global;
 use std::marker::Model;
 
 /// The most transactions that may be active at once.
-pub const MAX_ACTIVE: usize = 64;
+const MAX_ACTIVE: usize = 64;
 
 /// The most transactions that may ever begin.
-pub const MAX_BEGUN: u64 = 1 << 63;
+const MAX_BEGUN: u64 = 1 << 63;
 
 /// The most operations that a transaction may have.
 pub const MAX_OPS: u64 = 4096;
