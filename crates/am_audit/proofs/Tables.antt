@@ -151,10 +151,6 @@ relocked_twice (h ∷ table) t ls ms =
     at true e = ap (relocked t ms) (cond-true (h.owner == t) (record { owner = h.owner; locks = ls }) h e) ∙ cond-true (h.owner == t) (record { owner = h.owner; locks = ms }) (record { owner = h.owner; locks = ls }) e ∙ sym (cond-true (h.owner == t) (record { owner = h.owner; locks = ms }) h e)
     at false e = ap (relocked t ms) (cond-false (h.owner == t) (record { owner = h.owner; locks = ls }) h e)
 
-take_all : (ls : List Lock) → take (length ls) ls ≡ ls
-take_all [] = refl
-take_all (l ∷ ls) = ap (λ xs. l ∷ xs) (take_all ls)
-
 longer : (own : List Lock) (asked : Option Lock) → length own ≤ length (with_asked own asked)
 longer own None = omega arith
 longer own (Some asked) = cond_both (is_covered own asked) own (own ++ asked ∷ []) (λ ls. length own ≤ length ls) (λ _. omega arith) (λ _. simp length-append (omega arith))

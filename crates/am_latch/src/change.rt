@@ -43,7 +43,7 @@ pub(crate) fn starts_tx(step: &Step) -> bool
 }
 
 /// Whether the reply stands in the trace: all do but NoMemory and SeatFull.
-pub fn was_stored(reply: &Reply) -> bool
+pub(crate) fn was_stored(reply: &Reply) -> bool
     ensures { result ≡ is_stored reply.now }
 {
     !matches!(

@@ -21,7 +21,7 @@ mod receipt;
 mod room;
 mod seat;
 
-pub use change::{was_refused, was_stored};
+pub use change::was_refused;
 pub use closing::{Closed, Missing, close};
 pub use engine::Engine;
 pub use latch::{Blank, Latch, LatchFault};

@@ -15,4 +15,3 @@ mod turnstile;
 pub use attending::attend;
 pub use bound::{BindFault, Bound, bind};
 pub use hosting::Served;
-pub use turnstile::Turnstile;

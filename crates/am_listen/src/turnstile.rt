@@ -8,7 +8,7 @@ use std::sync::atomic::{AtomicU64, Ordering};
 
 /// Lets workers have one turn for each answered line, until all sessions have ended.
 #[derive(Drop)]
-pub struct Turnstile {
+pub(crate) struct Turnstile {
     // Both only rise, so that a worker which sleeps at one value of the first misses no later one.
     answered: AtomicU64,
     taken: AtomicU64,
@@ -19,7 +19,7 @@ pub struct Turnstile {
 
 impl Turnstile {
     /// A turnstile for so many sessions, of which no line was answered yet.
-    pub fn new(sessions: u64) -> Turnstile {
+    pub(crate) fn new(sessions: u64) -> Turnstile {
         Turnstile {
             answered: AtomicU64::new(0),
             taken: AtomicU64::new(0),
@@ -29,7 +29,7 @@ impl Turnstile {
     }
 
     /// So many lines were answered.
-    pub fn count_answers(&self, lines: u64) {
+    pub(crate) fn count_answers(&self, lines: u64) {
         self.answered.fetch_add(lines, Ordering::SeqCst);
         if self.sleeping.load(Ordering::SeqCst) == 0 {
             return;
@@ -42,7 +42,7 @@ impl Turnstile {
     }
 
     /// A session ended. After the last one no worker waits any more.
-    pub fn end_session(&self) {
+    pub(crate) fn end_session(&self) {
         if self.sessions.fetch_sub(1, Ordering::SeqCst) <= 1 {
             self.answered.fetch_add(1, Ordering::SeqCst);
             self.answered.wake_all();

@@ -25,6 +25,7 @@ pub on_err : {T E P : Type 0} (r : Result T E) → is_err r ≡ true → OnErr r
 on_err (Ok v) h p = absurd (false≢true h)
 on_err (Err e) h p = p
 
+-- what always holds, holds at an error
 pub OnErr-from : {T E P : Type 0} (r : Result T E) → P → OnErr r P
 OnErr-from (Ok v) p = tt
 OnErr-from (Err e) p = p

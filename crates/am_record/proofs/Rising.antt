@@ -1,5 +1,5 @@
 -- Records whose keys rise.
-use Rattle.std.proofs.Common.{◌≡◌, ℕ, ◌+◌, ◌<◌, zero, suc, Bool, true, false, [], ◌∷◌, ◌++◌, length, get_or, take, drop, refl, sym, ap, ◌∙◌, arith, add-one}
+use Rattle.std.proofs.Common.{◌≡◌, ℕ, ◌<◌, zero, suc, Bool, true, false, [], ◌∷◌, length, get_or, refl, sym, ap, ◌∙◌, arith, add-one}
 use Rattle.std.proofs.lemmas.Bool.{and_parts, and_from, true≢false}
 use Rattle.std.specs.declared.cmp.Ordering.TheVariants.{Less}
 use Rattle.std.specs.Ordering.{is_lt}
@@ -86,26 +86,3 @@ adjacent_answer rs false h = by_cases (is_sorted key_cmp rs) refl
         let d : Record = (key_least, []) in
         let less : key_cmp (get_or rs h.0 d).0 (get_or rs (suc h.0) d).0 ≡ Less = rises_sorted rs e h.0 d (omega (arith, h.1)) in
         absurd (true≢false (sym (ap is_lt less) ∙ sym (rw add-one at (h.2 d))))
-
--- ---- a list at an index
-
-pub split_at : (rs : Records) (i : ℕ) (r : Record) → i < length rs → r ≡ get_or rs i r → take i rs ++ r ∷ drop (suc i) rs ≡ rs
-split_at [] i r h e = absurd (omega arith)
-split_at (x ∷ xs) zero r h e = ap (λ y. y ∷ xs) e
-split_at (x ∷ xs) (suc i) r h e = ap (λ l. x ∷ l) (split_at xs i r (omega arith) e)
-
-take_suc : (rs : Records) (i : ℕ) (r : Record) → i < length rs → r ≡ get_or rs i r → take (suc i) rs ≡ take i rs ++ r ∷ []
-take_suc [] i r h e = absurd (omega arith)
-take_suc (x ∷ xs) zero r h e = ap (λ y. y ∷ []) (sym e)
-take_suc (x ∷ xs) (suc i) r h e = ap (λ l. x ∷ l) (take_suc xs i r (omega arith) e)
-
-pub take_next : (rs : Records) (i : ℕ) (r : Record) → i < length rs → r ≡ get_or rs i r → take (i + 1) rs ≡ take i rs ++ r ∷ []
-take_next rs i r h e = rw add-one (take_suc rs i r h e)
-
-pub drop_next : (rs : Records) (i : ℕ) (r : Record) → i < length rs → r ≡ get_or rs i r → drop i rs ≡ r ∷ drop (i + 1) rs
-drop_next rs i r h e = rw add-one (drop_here rs i h e)
-  where
-    drop_here : (rs : Records) (i : ℕ) → i < length rs → r ≡ get_or rs i r → drop i rs ≡ r ∷ drop (suc i) rs
-    drop_here [] i h e = absurd (omega arith)
-    drop_here (x ∷ xs) zero h e = ap (λ y. y ∷ xs) (sym e)
-    drop_here (x ∷ xs) (suc i) h e = drop_here xs i (omega arith) e

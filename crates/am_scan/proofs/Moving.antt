@@ -1,7 +1,7 @@
 -- A head on its way to the next live entry of the range.
 use Rattle.std.proofs.Common.{◌≡◌, ℕ, ◌<◌, List, ◌∷◌, Bool, true, false, length, Option, Some, None, IfSome, refl, sym, ap, ◌∙◌, subst, arith}
 use Rattle.std.proofs.lemmas.Bool.{and_parts, true≢false}
-use Rattle.std.proofs.lemmas.Option.{none-some, same_Some}
+use Rattle.std.proofs.lemmas.Option.{same_Some}
 use Rattle.std.specs.declared.cmp.Ordering.{Ordering}
 use Rattle.std.specs.declared.cmp.Ordering.TheVariants.{Less, Equal, Greater}
 use Rattle.std.specs.Ordering.{is_lt, is_le, ordering_reverse}
@@ -39,6 +39,7 @@ less_le a b c Greater less e h = absurd (true≢false (sym h))
 pub not_below_itself : (k : OrderedKey) → key_cmp k k ≡ Less → ⊥
 not_below_itself k h = true≢false (ap is_lt (sym h) ∙ ap is_lt (key_cmp-itself k))
 
+-- the upper end that was read, and what its test against the key gave
 module _ (key : OrderedKey) {h hi : OrderedKey} {b : Bool} (is : h ≡ hi) (tested : b ≡ is_lt (key_cmp h key)) where
   answer : is_lt (key_cmp hi key) ≡ b
   answer = ap (λ k. is_lt (key_cmp k key)) (sym is) ∙ sym tested
@@ -50,9 +51,6 @@ module _ (key : OrderedKey) {h hi : OrderedKey} {b : Bool} (is : h ≡ hi) (test
   within_end failed = ap is_le (key_cmp-total.antisymm key hi) ∙ not_lt_le_back (key_cmp hi key) (answer ∙ failed)
 
 -- ---- what is live
-
-no_slot : (s : Slot) → None ≡ Some s → ⊥
-no_slot s h = none-some s h
 
 found : (es : List Entry) (part : ℕ) (key : OrderedKey) {e : Entry} → entry_at es part key ≡ Some e → find es part key ≡ Some (slot_of e)
 found es part key stands = ap (option_map slot_of) stands

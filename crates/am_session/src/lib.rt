@@ -11,4 +11,4 @@ mod solo;
 pub use alone::{serve_alone, serve_in_memory};
 pub use backend::Backend;
 pub use end::End;
-pub use serving::{say_bye, serve};
+pub use serving::serve;

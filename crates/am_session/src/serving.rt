@@ -25,7 +25,7 @@ enum Pause {
 }
 
 /// Answers QUIT, and sends the answer on. Who reads it knows that nothing is active any more.
-pub fn say_bye<K: Sink, B: Backend>(sink: &mut K, _backend: &B) -> Result<(), Failed>
+fn say_bye<K: Sink, B: Backend>(sink: &mut K, _backend: &B) -> Result<(), Failed>
     requires countable { K.failures sink.old < 2 ^ 63 }
     requires idle { B.active _backend.now ≡ None }
     ensures given { OnOk result (Gave K.holds sink.old bye sink.new) }
