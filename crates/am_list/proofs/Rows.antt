@@ -15,6 +15,7 @@ use Rattle.am_record.specs.Interval.{Interval, key_le, within}
 use Rattle.am_record.specs.Plain.{Records}
 use Rattle.am_record.specs.EntryOrder.{Place, place_of, place_cmp, place_cmp-part, place_cmp-same, place_cmp-total}
 use Rattle.am_record.specs.declared.entry.Entry.{Entry}
+use Rattle.am_record.proofs.Orderings.{not_greater_le}
 use Rattle.am_list.specs.Places.{AllBelow, NoneBelow, AllAbove, NoneAbove, IsLowerBound, IsUpperBound}
 use Rattle.am_list.specs.Content.{live_records, rows_in}
 use Rattle.am_list.proofs.Lists.{first_false}
@@ -28,11 +29,6 @@ not_le_greater a b h = ap is_le h
 
 turned_less : (a b : OrderedKey) → key_cmp a b ≡ Less → key_cmp b a ≡ Greater
 turned_less a b h = key_cmp-total.antisymm b a ∙ ap ordering_reverse h
-
-le_of_not_greater : (o : Ordering) → o ≢ Greater → is_le o ≡ true
-le_of_not_greater Less n = refl
-le_of_not_greater Equal n = refl
-le_of_not_greater Greater n = absurd (n refl)
 
 le_of_not_less : (o : Ordering) → o ≢ Less → is_le (ordering_reverse o) ≡ true
 le_of_not_less Less n = absurd (n refl)
@@ -115,7 +111,7 @@ module _ (part : ℕ) (range : Interval) where
       let key_from : key_cmp e.key range.lo ≢ Less = λ less. from (ap (λ p. place_cmp (p, e.key) (part, range.lo)) same ∙ place_cmp-same part e.key range.lo ∙ less) in
       let key_to : key_cmp e.key range.hi ≢ Greater = λ greater. to (ap (λ p. place_cmp (p, e.key) (part, range.hi)) same ∙ place_cmp-same part e.key range.hi ∙ greater) in
       and_from (eqb e.part part) (within range e.key) (eq-eqb e.part part same)
-      (and_from (key_le range.lo e.key) (key_le e.key range.hi) (ap is_le (key_cmp-total.antisymm range.lo e.key) ∙ le_of_not_less (key_cmp e.key range.lo) key_from) (le_of_not_greater (key_cmp e.key range.hi) key_to))
+      (and_from (key_le range.lo e.key) (key_le e.key range.hi) (ap is_le (key_cmp-total.antisymm range.lo e.key) ∙ le_of_not_less (key_cmp e.key range.lo) key_from) (not_greater_le (key_cmp e.key range.hi) key_to))
 
   rows-cons : (e : Entry) (es : List Entry) → counts e ≡ true → rows (e ∷ es) ≡ row_of e ++ rows es
   rows-cons e es passed = ap live_records (cond-true (counts e) (e ∷ filter counts es) (filter counts es) passed) ∙ live-cons e (filter counts es)

@@ -10,7 +10,7 @@ use Rattle.am_record.specs.OrderedKey.{OrderedKey, key_cmp}
 use Rattle.am_record.specs.Interval.{key_le}
 use Rattle.am_record.specs.EntryOrder.{Place, place_of, place_cmp, place_cmp-total, place_cmp-same}
 use Rattle.am_record.specs.declared.entry.Entry.{Entry}
-use Rattle.am_record.proofs.Orderings.{ge_reversed, le_not_greater}
+use Rattle.am_record.proofs.Orderings.{ge_reversed, le_not_greater, not_greater_le}
 use Rattle.am_list.specs.Entries.{slot_of, first_such, entry_at, find, IsRising}
 use Rattle.am_list.specs.Edits.{same_place}
 use Rattle.am_list.specs.Walks.{IsFirstOf, WalkLaws}
@@ -69,11 +69,6 @@ none_there es part key none = ap (option_map slot_of) (by_cases (entry_at es par
     by_cases (Some e) h = absurd (none e h)
 
 -- ---- comparisons read from the other side
-
-is_less_or_equal : (o : Ordering) → o ≢ Greater → is_le o ≡ true
-is_less_or_equal Less n = refl
-is_less_or_equal Equal n = refl
-is_less_or_equal Greater n = absurd (n refl)
 
 gt_reversed : (o : Ordering) → is_gt (ordering_reverse o) ≡ true → o ≡ Less
 gt_reversed Less h = refl
@@ -144,7 +139,7 @@ module _ (es : List Entry) (rising : IsRising es) (part : ℕ) (key : OrderedKey
   any_test e = at_or_above part key (place_of e)
 
   passes_any : (p : ℕ) (q : OrderedKey) (e : Entry) → entry_at es p q ≡ Some e → place_cmp (part, key) (p, q) ≢ Greater → is_ge (place_cmp (place_of e) (part, key)) ≡ true
-  passes_any p q e h n = subst (λ (a : Place). is_ge (place_cmp a (part, key)) ≡ true) (sym (entry_at_place es p q e h)) (at_or_above part key (p, q) ∙ is_less_or_equal (place_cmp (part, key) (p, q)) n)
+  passes_any p q e h n = subst (λ (a : Place). is_ge (place_cmp a (part, key)) ≡ true) (sym (entry_at_place es p q e h)) (at_or_above part key (p, q) ∙ not_greater_le (place_cmp (part, key) (p, q)) n)
 
 -- what the walks over a rising list find
 pub walk_laws : (es : List Entry) → IsRising es → WalkLaws es

@@ -50,6 +50,11 @@ le_not_greater Less h e = absurd (cc)
 le_not_greater Equal h e = absurd (cc)
 le_not_greater Greater h e = false≢true h
 
+pub not_greater_le : (o : Ordering) → o ≢ Greater → is_le o ≡ true
+not_greater_le Less n = refl
+not_greater_le Equal n = refl
+not_greater_le Greater n = absurd (n refl)
+
 -- ---- the other way round
 
 pub ge_reversed : (o : Ordering) → is_ge (ordering_reverse o) ≡ is_le o

@@ -19,7 +19,7 @@ pub const MAX_OPS: u64 = 4096;
 pub const MAX_LOCKS: usize = 256;
 
 /// The most rows that a scan may ask for.
-pub const MAX_ROWS: u64 = 1000;
+pub(crate) const MAX_ROWS: u64 = 1000;
 
 /// The most runs that are ever made.
 pub const MAX_RUNS: u32 = 65_535;
