@@ -8,7 +8,8 @@ use Rattle.am_record.specs.declared.step.Step.{Step}
 use Rattle.am_record.specs.declared.step.Step.TheVariants.{Do}
 use Rattle.am_record.specs.declared.step.Reply.{Reply}
 use Rattle.am_record.specs.declared.step.Reply.TheVariants.{Refused}
-use Rattle.am_serial.specs.Trace.{Trace, Event, Effect, Answers, Commits, effect, effects, body, ops_of, committed, IsAnsweredAlone}
+use Rattle.am_serial.specs.Trace.{Trace, Event, Effect, Answers, Commits, effect, effects, body, ops_of, committed}
+use Rattle.am_serial.specs.Trace.{IsAnsweredAlone}
 use Rattle.am_serial.specs.Machine.{state_at, due_early}
 use Rattle.am_serial.specs.Sound.{FormedAt, BusyRightAt}
 use Rattle.am_serial.specs.Legal.{IsLegal}
@@ -28,7 +29,8 @@ is_early why = false
 
 -- such a refusal is answered to an operation exactly where it is due
 abbrev pub EarlyRightAt : List Effect → Step → Reply → Type 0
-EarlyRightAt es (Do t op) reply = (why : Refusal) → is_early why ≡ true → (reply ≡ Refused why) ↔ (due_early (state_at es) t op ≡ Some why)
+EarlyRightAt es (Do t op) reply = (why : Refusal) → is_early why ≡ true →
+    (reply ≡ Refused why) ↔ (due_early (state_at es) t op ≡ Some why)
 EarlyRightAt es _ reply = Unit {0}
 
 -- Busy is tested after the early refusals, and before all else of the form
@@ -40,7 +42,8 @@ pub record IsWronglyBusy (es : List Effect) (step : Step) (reply : Reply) : Type
   pub busy : ¬ (BusyRightAt es step reply)
   pub first : EarlyRightAt es step reply
 
--- the operation on that line is the first of the transaction's whose answer isn't the one that its body gets alone on the map
+-- the operation on that line is the first of the transaction's whose answer isn't the one that its body gets alone on
+-- the map
 pub record IsFirstWrongAnswer (trace : Trace) (t : ℕ) (m : PlainMap) (line : ℕ) : Type 0 where
   pub earlier : Trace
   pub op : Op

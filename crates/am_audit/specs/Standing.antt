@@ -1,5 +1,6 @@
 -- Where the pass over a trace stands after the events that it has seen.
-use Rattle.std.specs.Prelude.{◌≡◌, ◌≢◌, ◌↔◌, ℕ, ◌+◌, ◌<◌, ◌≤◌, ◌==◌, map, length, List, [], ◌∷◌, ◌++◌, Bool, true, false, cond, Option, Some, None}
+use Rattle.std.specs.Prelude.{◌≡◌, ◌≢◌, ◌↔◌, ℕ, ◌+◌, ◌<◌, ◌≤◌, ◌==◌, map, length, List, [], ◌∷◌, ◌++◌, Bool, true}
+use Rattle.std.specs.Prelude.{false, cond, Option, Some, None}
 use Rattle.std.specs.List.{cons_option, list_any, AllByRecursion}
 use Rattle.std.specs.Option.{option_map}
 use Rattle.am_record.specs.Plain.{Draft, fresh, answer, answers_on, left_on}
@@ -14,10 +15,13 @@ use Rattle.am_record.specs.declared.step.Reply.{Reply}
 use Rattle.am_record.specs.declared.step.Reply.TheVariants.{Refused}
 use Rattle.am_locks.specs.Held.{Held}
 use Rattle.am_locks.specs.declared.asked.Asked.{Asked}
-use Rattle.am_locks.specs.declared.asked.Asked.TheVariants.{Granted, Busy as IsBlocked, TooManyLocks, NoMemory as WantsMemory}
-use Rattle.am_serial.specs.Trace.{Trace, Answered, Effect, Commits, answered_to, effect, ops_of, replies_of, IsAnsweredAlone}
+use Rattle.am_locks.specs.declared.asked.Asked.TheVariants.{Granted, Busy as IsBlocked, TooManyLocks}
+use Rattle.am_locks.specs.declared.asked.Asked.TheVariants.{NoMemory as WantsMemory}
+use Rattle.am_serial.specs.Trace.{Trace, Answered, Effect, Commits, answered_to, effect, ops_of, replies_of}
+use Rattle.am_serial.specs.Trace.{IsAnsweredAlone}
 use Rattle.am_record.specs.Refusals.{is_one_too_many}
-use Rattle.am_serial.specs.Machine.{State, Transaction, start, after_run, next, due_early, blocker, locks_in, body_in, May}
+use Rattle.am_serial.specs.Machine.{State, Transaction, start, after_run, next, due_early, blocker, locks_in, body_in}
+use Rattle.am_serial.specs.Machine.{May}
 use Rattle.am_serial.specs.Sound.{FormedDo}
 use Rattle.am_audit.specs.Faults.{is_early}
 use Rattle.am_audit.specs.declared.active.Active.{Active}
@@ -38,7 +42,8 @@ Placed = ℕ × Answered
 -- the answered operations of a transaction, of events that stand from place n on
 abbrev pub placed_from : ℕ → ℕ → Trace → List Placed
 placed_from n t [] = []
-placed_from n t (e ∷ trace) = cons_option (option_map (λ (a : Answered). (n, a)) (answered_to t (effect e.0 e.1))) (placed_from (n + 1) t trace)
+placed_from n t (e ∷ trace) = cons_option (option_map (λ (a : Answered). (n, a)) (answered_to t (effect e.0 e.1)))
+    (placed_from (n + 1) t trace)
 
 abbrev pub placed : Trace → ℕ → List Placed
 placed trace t = placed_from 0 t trace
@@ -119,7 +124,11 @@ moment_of seen = record { bodies = placed seen; state = after_run start seen; co
 
 -- one more event
 abbrev pub behind : Moment → Effect → Moment
-behind here e = record { bodies = λ t. here.bodies t ++ added here.count t e; state = next here.state e; count = here.count + 1 }
+behind here e = record {
+  bodies = λ t. here.bodies t ++ added here.count t e;
+  state = next here.state e;
+  count = here.count + 1;
+}
 
 abbrev pub Stands : Pass → Moment → Type 0
 Stands p here = StandsAt p here.bodies here.state
@@ -131,11 +140,13 @@ FormedIn s (Do t op) reply = FormedDo (due_early s t op) (is_one_too_many (locks
 FormedIn s step reply = May s step reply
 
 abbrev pub EarlyIn : State → Step → Reply → Type 0
-EarlyIn s (Do t op) reply = (why : Refusal) → is_early why ≡ true → (reply ≡ Refused why) ↔ (due_early s t op ≡ Some why)
+EarlyIn s (Do t op) reply = (why : Refusal) → is_early why ≡ true →
+    (reply ≡ Refused why) ↔ (due_early s t op ≡ Some why)
 EarlyIn s _ reply = Unit {0}
 
 abbrev pub BusyIn : State → Step → Reply → Type 0
-BusyIn s (Do t op) reply = (h : ℕ) → (reply ≡ Refused (IsBusy h)) ↔ ((due_early s t op ≡ None) × (blocker s.active t (lock_of op) ≡ Some h))
+BusyIn s (Do t op) reply = (h : ℕ) → (reply ≡ Refused (IsBusy h)) ↔
+    ((due_early s t op ≡ None) × (blocker s.active t (lock_of op) ≡ Some h))
 BusyIn s _ reply = Unit {0}
 
 abbrev pub NextIn : State → Effect → Type 0

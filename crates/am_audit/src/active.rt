@@ -36,7 +36,8 @@ pub(crate) fn is_active(all: &[Active], tx: u64) -> bool
 
 /// The transaction's answered operations, where it is active.
 pub(crate) fn own(all: &[Active], tx: u64) -> Option<&[Kept]>
-    ensures found { IfSome result (λ own. (is_listed (map listed all.now) tx ≡ true) × (map placed_of own.now ≡ own_in (map listed all.now) tx)) }
+    ensures found { IfSome result (λ own. (is_listed (map listed all.now) tx ≡ true) ×
+        (map placed_of own.now ≡ own_in (map listed all.now) tx)) }
     ensures none { IfNone result (is_listed (map listed all.now) tx ≡ false) }
 {
     for active in all {
@@ -49,7 +50,8 @@ pub(crate) fn own(all: &[Active], tx: u64) -> Option<&[Kept]>
 
 /// How many operations of the transaction were answered, where it is active.
 pub(crate) fn operations(all: &[Active], tx: u64) -> Option<usize>
-    ensures found { IfSome result (λ n. (is_listed (map listed all.now) tx ≡ true) × (n ≡ length (own_in (map listed all.now) tx))) }
+    ensures found { IfSome result (λ n. (is_listed (map listed all.now) tx ≡ true) ×
+        (n ≡ length (own_in (map listed all.now) tx))) }
     ensures none { IfNone result (is_listed (map listed all.now) tx ≡ false) }
 {
     match own(all, tx) {

@@ -17,7 +17,8 @@ pub(crate) fn ask(locks: &mut LockTable, tx: u64, asked: Option<Lock>) -> Asked
     requires active { is_open txs tx ≡ true }
     requires few { length (locks_of locks.old tx) ≤ 256 }
     ensures answer { IsAnswerTo txs tx asked result }
-    ensures granted { result ≡ Asked.Granted → locks.new ≡ with_locks locks.old tx (with_asked (locks_in txs tx) asked) }
+    ensures granted { result ≡ Asked.Granted → locks.new ≡
+        with_locks locks.old tx (with_asked (locks_in txs tx) asked) }
     ensures refused { result ≢ Asked.Granted → locks.new ≡ locks.old }
 {
     match asked {

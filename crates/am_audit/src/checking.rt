@@ -55,7 +55,8 @@ impl Audit {
     /// Wrong, exactly where the trace isn't formed, right in its Busy answers and serial: the first fault
     /// and its line. NoMemory in place of any answer, where memory was refused.
     pub fn verdict(&self) -> Result<u64, Fault>
-        ensures legal { IfOk result (λ commits. (seen : Trace) → HasJudged self.now seen → IsLegal seen × (commits ≡ length (committers (effects seen)))) }
+        ensures legal { IfOk result (λ commits. (seen : Trace) → HasJudged self.now seen →
+            IsLegal seen × (commits ≡ length (committers (effects seen)))) }
         ensures wrong { IfErr result (λ fault. (seen : Trace) → HasJudged self.now seen → IsTrueFault seen fault) }
     {
         am_serial::formed_traces_follow();

@@ -9,8 +9,8 @@ ghost use Rattle.am_audit.specs.Standing.{early_of};
 
 use am_record::{Op, Refusal, Reply};
 
-/// The early refusal that is due to an operation of a transaction that is active with so many operations, if it is, where
-/// so many runs were made.
+/// The early refusal that is due to an operation of a transaction that is active with so many operations, if it is,
+/// where so many runs were made.
 pub(crate) fn refusal(done: Option<usize>, runs: u32, tx: u64, op: &Op) -> Option<Refusal>
     ghost s: { State }
     requires runs { runs ≡ s.runs }

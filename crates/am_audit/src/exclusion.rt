@@ -9,7 +9,8 @@ ghost use Rattle.am_audit.specs.declared.fault.Kind.{Kind};
 /// A trace has one first fault at most, and one that has it isn't legal.
 pub fn first_faults_exclude()
     ensures legal { (trace : Trace) (line : ℕ) (kind : Kind) → IsFirstFault trace line kind → ¬ (IsLegal trace) }
-    ensures one { (trace : Trace) (l m : ℕ) (j k : Kind) → IsFirstFault trace l j → IsFirstFault trace m k → (l ≡ m) × (j ≡ k) }
+    ensures one { (trace : Trace) (l m : ℕ) (j k : Kind) → IsFirstFault trace l j → IsFirstFault trace m k →
+        (l ≡ m) × (j ≡ k) }
 {
     am_serial::formed_traces_follow();
 }

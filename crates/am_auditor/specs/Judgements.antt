@@ -10,9 +10,11 @@ use Rattle.am_audit.specs.declared.fault.Kind.TheVariants.{Form, Busy, Answer}
 use Rattle.am_auditor.specs.declared.judgement.Judgement.{Judgement}
 use Rattle.am_auditor.specs.declared.judgement.Judgement.TheVariants.{Legal, Wrong, Bad, NoFile, NoMemory}
 
--- of a legal trace its number of commits, of another its first fault, of what is no trace its first bad line; want of memory says nothing
+-- of a legal trace its number of commits, of another its first fault, of what is no trace its first bad line; want of
+-- memory says nothing
 abbrev pub IsTrueOf : List ℕ → Judgement → Type 0
-IsTrueOf text (Legal commits) = (trace : Trace) × IsTextOf text trace × IsLegal trace × (commits ≡ length (committers (effects trace)))
+IsTrueOf text (Legal commits) = (trace : Trace) × IsTextOf text trace × IsLegal trace ×
+    (commits ≡ length (committers (effects trace)))
 IsTrueOf text (Wrong line kind) = (trace : Trace) × IsTextOf text trace × IsFirstFault trace line kind
 IsTrueOf text (Bad line) = IsBadLine text line
 IsTrueOf text NoFile = ⊥

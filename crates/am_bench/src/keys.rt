@@ -31,7 +31,8 @@ impl Keys {
     }
 }
 
-/// So many keys of the range that are not among the first `count` drawn, or fewer where a hundred times as many have too few.
+/// So many keys of the range that are not among the first `count` drawn, or fewer where a hundred times as many have
+/// too few.
 pub(crate) fn others(
     alloc: Global,
     count: u64,
@@ -52,7 +53,8 @@ pub(crate) fn others(
     Ok(others)
 }
 
-// A number that looks drawn. Each step can be undone, so different numbers stay different (Steele, Lea and Flood, 2014).
+// A number that looks drawn. Each step can be undone, so different numbers stay different (Steele, Lea and Flood,
+// 2014).
 fn mixed(number: u64) -> u64 {
     let mut mixed = number.wrapping_mul(0x9E37_79B9_7F4A_7C15);
     mixed = (mixed ^ (mixed >> 30)).wrapping_mul(0xBF58_476D_1CE4_E5B9);

@@ -1,5 +1,5 @@
-//! The program `am_bench`: times the indexes and the store beside std's map, in one run. With no word it does nothing. With
-//! the word `figures`, and the number of keys where it isn't to be 1,000,000, it prints a line for each figure.
+//! The program `am_bench`: times the indexes and the store beside std's map, in one run. With no word it does nothing.
+//! With the word `figures`, and the number of keys where it isn't to be 1,000,000, it prints a line for each figure.
 #![tactic(auto)]
 
 mod fault;

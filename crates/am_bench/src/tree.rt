@@ -17,8 +17,8 @@ fn entry(key: Key) -> Entry {
     }
 }
 
-// Inserts where nothing stands, and says whether it did. An insert may be asked for at an absent place alone, so the place
-// is looked for first.
+// Inserts where nothing stands, and says whether it did. An insert may be asked for at an absent place alone, so the
+// place is looked for first.
 fn insert(tree: &mut BTree, entry: Entry) -> Result<bool, NoMemory> {
     let is_new = tree.find(entry.part, entry.key).is_none();
     if is_new {

@@ -21,7 +21,8 @@ pub record Takes (old : StoreState) (step : Step) (reply : Reply) (new : StoreSt
   pub memory : reply ≡ Refused OutOfMemory → may_want_memory old step ≡ true
   pub within : IsWithin step reply
 
-pub record Took (old : StoreState) (step : Step) (answer : Result Reply Status) (held : Option StoreState) : Type 0 where
+pub record Took (old : StoreState) (step : Step) (answer : Result Reply Status)
+    (held : Option StoreState) : Type 0 where
   pub reply : Reply
   pub new : StoreState
   pub replied : answer ≡ Ok reply

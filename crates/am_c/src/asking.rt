@@ -1,7 +1,8 @@
 //! The steps that C asks for.
 
 ghost use Rattle.std.specs.Prelude.{◌≡◌, []};
-ghost use Rattle.am_c.specs.Asking.{get_asked, insert_asked, replace_asked, delete_asked, scan_asked, mode_given, lock_asked, IsLoadAsked, IsAdded, clean_asked};
+ghost use Rattle.am_c.specs.Asking.{get_asked, insert_asked, replace_asked, delete_asked, scan_asked, mode_given};
+ghost use Rattle.am_c.specs.Asking.{lock_asked, IsLoadAsked, IsAdded, clean_asked};
 
 use crate::status::Status;
 use crate::text::{Record, key_given, range_given, value_given};

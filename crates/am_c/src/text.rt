@@ -1,7 +1,8 @@
 //! Keys, values and records as C holds them: their bytes, zeros behind them, and how many there are.
 
 ghost use Rattle.std.specs.Prelude.{◌≡◌, ◌≤◌, length};
-ghost use Rattle.am_c.specs.Texts.{key_given, value_given, range_given, pair_given, padded, key_text, value_text, record_text};
+ghost use Rattle.am_c.specs.Texts.{key_given, value_given, range_given, pair_given, padded, key_text, value_text};
+ghost use Rattle.am_c.specs.Texts.{record_text};
 
 use crate::status::Status;
 use am_record::{Key, MAX_KEY_LEN, MAX_VALUE_LEN, Range, Value};

@@ -2,7 +2,9 @@
 
 ghost use Rattle.std.specs.Prelude.{◌≡◌, ◌≢◌, ◌⊎◌, ℕ, [], IfErr, IfOk, IsSomeAnd, MatchOption, false, map, option_map};
 ghost use Rattle.clap.specs.Words.{app_of, first_of, found_of, kind_of, rows_of, rule_of, subcommand_rows_of};
-ghost use Rattle.am_command.specs.Options.{IsCommand, IsNoMemory, Names, NamesListening, Refuses, Selects, Sets, alone_app, amserve_app, flag_rule, listen_app, number_rule, option_rule, status_of};
+ghost use Rattle.am_command.specs.Options.{IsCommand, IsNoMemory, Names, NamesListening, Refuses, Selects, Sets};
+ghost use Rattle.am_command.specs.Options.{alone_app, amserve_app, flag_rule, listen_app, number_rule, option_rule};
+ghost use Rattle.am_command.specs.Options.{status_of};
 
 use crate::choice::{Listening, Options, OptionsFault};
 use clap::error::ErrorKind;
@@ -53,8 +55,8 @@ const WORKERS: Setting = Setting {
 /// What the words ask for; the first word is the program's name.
 ///
 /// # Errors
-/// A text and a status: 0 where help or the version was asked for, 2 where the words name no options, 5 where memory was
-/// refused.
+/// A text and a status: 0 where help or the version was asked for, 2 where the words name no options, 5 where memory
+/// was refused.
 pub fn options<'a, S: AsStr>(alloc: Global, words: &'a [S]) -> Result<Options<'a>, OptionsFault>
     ensures accepted { IfOk result (Names (map S.text words.entry.now)) }
     ensures refused { IfErr result (Refuses (map S.text words.entry.now)) }

@@ -5,7 +5,8 @@ use Rattle.am_record.specs.Plain.{is_orderly}
 use Rattle.am_record.specs.Asks.{with_asked}
 use Rattle.am_record.specs.declared.lock.Lock.{Lock}
 use Rattle.am_record.specs.declared.step.Refusal.{Refusal}
-use Rattle.am_record.specs.declared.step.Refusal.TheVariants.{NoSuchTx, TooManyOps, NotRising, BadLimit, TooManyRuns, NoMemory}
+use Rattle.am_record.specs.declared.step.Refusal.TheVariants.{NoSuchTx, TooManyOps, NotRising, BadLimit, TooManyRuns}
+use Rattle.am_record.specs.declared.step.Refusal.TheVariants.{NoMemory}
 use Rattle.am_record.specs.declared.step.Op.{Op}
 use Rattle.am_record.specs.declared.step.Op.TheVariants.{Get, Scan}
 use Rattle.am_locks.specs.Table.{is_owner, locks_of}

@@ -17,9 +17,11 @@ use Rattle.am_tx.specs.Active.{log_of}
 use Rattle.am_tx.specs.Txs.{Txs, with_log}
 
 -- the operation had this reply, and did with it what it does
-pub record IsDone (op : Op) (reply : Reply) (parts : Partitions) (log : Log) (parts' : Partitions) (log' : Log) : Type 0 where
+pub record IsDone (op : Op) (reply : Reply) (parts : Partitions) (log : Log) (parts' : Partitions)
+    (log' : Log) : Type 0 where
   pub said : reply ≡ stored_answer op log.marks (content parts.entries)
-  pub entries : parts'.entries ≡ changed (taken_back (since_mark log.marks log.notes) parts.entries) parts.runs op reply parts.entries
+  pub entries : parts'.entries ≡ changed (taken_back (since_mark log.marks log.notes) parts.entries) parts.runs op
+      reply parts.entries
   pub runs : parts'.runs ≡ parts.runs + runs_made op reply
   pub notes : log'.notes ≡ noted parts.runs op reply parts.entries ++ notes_left op reply log.marks log.notes
   pub marks : log'.marks ≡ marks_left op reply (length log.notes) log.marks
@@ -48,7 +50,8 @@ pub record HasNewLog (txs : Txs) (tx : ℕ) (txs' : Txs) : Type 0 where
   pub written : txs' ≡ with_log txs tx log
 
 -- the same of the table of transactions and its transaction's log
-pub record Works (op : Op) (reply : Reply) (parts : Partitions) (txs : Txs) (tx : ℕ) (parts' : Partitions) (txs' : Txs) : Type 0 where
+pub record Works (op : Op) (reply : Reply) (parts : Partitions) (txs : Txs) (tx : ℕ) (parts' : Partitions)
+    (txs' : Txs) : Type 0 where
   pub log : Log
   pub written : txs' ≡ with_log txs tx log
   pub done : IsDone op reply parts (log_of txs.active tx) parts' log

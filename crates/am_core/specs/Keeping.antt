@@ -18,7 +18,13 @@ use Rattle.am_sound.specs.StateOf.{IsStateOf}
 
 -- an active transaction with the locks that it holds
 abbrev pub active_with : (ℕ → List Lock) → Transaction → Active
-active_with locks x = record { number = x.number; ops = x.ops; locks = locks x.number; notes = x.log.notes; marks = x.log.marks }
+active_with locks x = record {
+  number = x.number;
+  ops = x.ops;
+  locks = locks x.number;
+  notes = x.log.notes;
+  marks = x.log.marks;
+}
 
 -- the active transactions, each with its locks
 abbrev pub actives : Txs → List Active
@@ -26,7 +32,14 @@ actives txs = map (active_with (locks_of txs.locks)) txs.active
 
 -- what is kept, by its parts
 abbrev pub state_kept : Partitions → Txs → List Interval → ℕ → StoreState
-state_kept parts txs wishes commits = record { entries = parts.entries; wishes = wishes; begun = txs.begun; commits = commits; runs = parts.runs; active = actives txs }
+state_kept parts txs wishes commits = record {
+  entries = parts.entries;
+  wishes = wishes;
+  begun = txs.begun;
+  commits = commits;
+  runs = parts.runs;
+  active = actives txs;
+}
 
 -- it is stored as its fields
 abbrev pub ActiveFields : Type 0
@@ -34,19 +47,30 @@ ActiveFields = (ℕ × ℕ) × (List Lock × (List Note × List ℕ))
 
 abbrev pub active_code : Coded Active
 active_code =
-    code_by ActiveFields (coded× (coded× coded_ℕ coded_ℕ) (coded× (coded_list lock.the_row.coded) (coded× (coded_list note_code) (coded_list coded_ℕ))))
-    (λ x. ((x.number, x.ops), (x.locks, (x.notes, x.marks)))) (λ f. record { number = f.0.0; ops = f.0.1; locks = f.1.0; notes = f.1.1.0; marks = f.1.1.1 }) (λ _. refl)
+    code_by ActiveFields (coded× (coded× coded_ℕ coded_ℕ)
+    (coded× (coded_list lock.the_row.coded) (coded× (coded_list note_code) (coded_list coded_ℕ))))
+    (λ x. ((x.number, x.ops), (x.locks, (x.notes, x.marks))))
+    (λ f. record { number = f.0.0; ops = f.0.1; locks = f.1.0; notes = f.1.1.0; marks = f.1.1.1 }) (λ _. refl)
 
 abbrev pub StateFields : Type 0
 StateFields = (List Entry × List Interval) × ((ℕ × ℕ) × (ℕ × List Active))
 
 abbrev pub state_code : Coded StoreState
 state_code =
-    code_by StateFields (coded× (coded× entries_code (coded_list interval_code)) (coded× (coded× coded_ℕ coded_ℕ) (coded× coded_ℕ (coded_list active_code))))
+    code_by StateFields (coded× (coded× entries_code (coded_list interval_code))
+    (coded× (coded× coded_ℕ coded_ℕ) (coded× coded_ℕ (coded_list active_code))))
     (λ p. ((p.entries, p.wishes), ((p.begun, p.commits), (p.runs, p.active))))
-    (λ f. record { entries = f.0.0; wishes = f.0.1; begun = f.1.0.0; commits = f.1.0.1; runs = f.1.1.0; active = f.1.1.1 }) (λ _. refl)
+    (λ f. record {
+      entries = f.0.0;
+      wishes = f.0.1;
+      begun = f.1.0.0;
+      commits = f.1.0.1;
+      runs = f.1.1.0;
+      active = f.1.1.1;
+    }) (λ _. refl)
 
--- some steps and replies lead there, from an empty store; and there were no more commits than transactions begun that aren't active any more
+-- some steps and replies lead there, from an empty store; and there were no more commits than transactions begun that
+-- aren't active any more
 pub record IsReached (p : StoreState) : Type 0 where
   pub trace : Trace
   pub at : IsStateOf trace p

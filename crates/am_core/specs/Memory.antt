@@ -4,7 +4,8 @@ use Rattle.am_record.specs.Locks.{is_covered}
 use Rattle.am_record.specs.Asks.{lock_of}
 use Rattle.am_record.specs.declared.lock.Lock.{Lock}
 use Rattle.am_record.specs.declared.step.Op.{Op}
-use Rattle.am_record.specs.declared.step.Op.TheVariants.{Get, Scan, Insert, Replace, Delete, Load, Lock as TakeLock, Mark, Back}
+use Rattle.am_record.specs.declared.step.Op.TheVariants.{Get, Scan, Insert, Replace, Delete, Load, Lock as TakeLock}
+use Rattle.am_record.specs.declared.step.Op.TheVariants.{Mark, Back}
 use Rattle.am_record.specs.declared.step.Step.{Step}
 use Rattle.am_record.specs.declared.step.Step.TheVariants.{Do, Merge}
 use Rattle.am_list.specs.Entries.{find}
@@ -24,13 +25,15 @@ adds_fifth_note notes = nat_le 4 (length notes)
 abbrev pub adds_third_mark : List ℕ → Bool
 adds_third_mark marks = nat_le 2 (length marks)
 
--- whether the operation of that transaction may want memory. An Insert does where the key has no entry in the final partition yet
+-- whether the operation of that transaction may want memory. An Insert does where the key has no entry in the final
+-- partition yet
 abbrev pub may_want_room : StoreState → Active → Op → Bool
 may_want_room p x (Get k) = adds_ninth_lock x.locks (lock_of (Get k))
 may_want_room p x (TakeLock lock) = adds_ninth_lock x.locks (Some lock)
 may_want_room p x (Replace k v) = adds_ninth_lock x.locks (lock_of (Replace k v)) || adds_fifth_note x.notes
 may_want_room p x (Delete k) = adds_ninth_lock x.locks (lock_of (Delete k)) || adds_fifth_note x.notes
-may_want_room p x (Insert k v) = not (is_some (find p.entries 0 k)) || (adds_ninth_lock x.locks (lock_of (Insert k v)) || adds_fifth_note x.notes)
+may_want_room p x (Insert k v) = not (is_some (find p.entries 0 k)) ||
+    (adds_ninth_lock x.locks (lock_of (Insert k v)) || adds_fifth_note x.notes)
 may_want_room p x (Scan range max) = true
 may_want_room p x (Load pairs) = true
 may_want_room p x Mark = adds_third_mark x.marks

@@ -49,7 +49,8 @@ TakesEach old [] new = new ≡ old
 TakesEach old (e ∷ more) new = (next : StoreState) × IsOwed old e.0 e.1 next × TakesEach next more new
 
 -- the steps were taken one after another, each with its reply, which stands behind the replies before
-pub record HasRun (old : StoreState) (steps : List Step) (before : List Reply) (new : StoreState) (after : List Reply) : Type 0 where
+pub record HasRun (old : StoreState) (steps : List Step) (before : List Reply) (new : StoreState)
+    (after : List Reply) : Type 0 where
   pub replies : List Reply
   pub appended : after ≡ before ++ replies
   pub each : length replies ≡ length steps

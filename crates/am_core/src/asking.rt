@@ -20,7 +20,8 @@ pub(crate) fn refusal<I: PartIndex + Drop>(
     tx: u64,
     op: &Op,
 ) -> Option<Refusal>
-    ensures { result ≡ refusal_before_lock (is_active txs.now.active tx) (ops_of txs.now.active tx) parts.now.runs op.now }
+    ensures { result ≡ refusal_before_lock (is_active txs.now.active tx)
+        (ops_of txs.now.active tx) parts.now.runs op.now }
 {
     let is_active = txs.is_active(tx);
     let ops = if is_active { txs.ops(tx) } else { 0 };

@@ -30,7 +30,8 @@ pub(crate) fn all_entries<I: PartIndex + Drop>(
 
 // The entry behind this one, in its partition or the next one that has any.
 fn next_entry<I: PartIndex + Drop>(parts: &Parts<I>, entry: &Entry) -> Option<Entry>
-    ensures { (before behind : List TheEntry) → parts.now.entries ≡ before ++ entry.now ∷ behind → result ≡ slice_get behind 0 }
+    ensures { (before behind : List TheEntry) → parts.now.entries ≡ before ++ entry.now ∷ behind →
+        result ≡ slice_get behind 0 }
 {
     if let Some(next) = parts.after(entry.part, entry.key) {
         return Some(next);

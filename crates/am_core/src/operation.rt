@@ -83,7 +83,8 @@ fn work<I: PartIndex + Drop>(
     requires orderly { is_orderly op ≡ true }
     requires room { (is_load op && nat_le 65535 parts.old.runs) ≡ false }
     requires above { NothingAbove parts.old.runs parts.old.entries }
-    requires back { CanTakeBack (since_mark (log_of txs.old.active tx).marks (log_of txs.old.active tx).notes) (find parts.old.entries) }
+    requires back { CanTakeBack (since_mark (log_of txs.old.active tx).marks (log_of txs.old.active tx).notes)
+        (find parts.old.entries) }
     ensures done { IfOk result (λ reply. Works op reply parts.old txs.old tx parts.new txs.new) }
     ensures err { OnErr result (IsIdle parts.old txs.old tx parts.new txs.new) }
     ensures memory { OnErr result (MayWantRoom op parts.old.entries (log_of txs.old.active tx)) }

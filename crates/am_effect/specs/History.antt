@@ -41,9 +41,10 @@ abbrev pub or_made : Option Slot → Option Slot → Option Slot
 or_made (Some s) now = Some s
 or_made None now = ghosted now
 
--- what an abort of the transaction leaves at the place: as it is where the transaction didn't write the key, else what it would
--- have left before the last event, and where that is nothing a ghost. So a place that stood before the first write is as it was then,
--- and a place that was made since is a ghost with the value that it was made with. The newest moment comes first
+-- what an abort of the transaction leaves at the place: as it is where the transaction didn't write the key, else what
+-- it would have left before the last event, and where that is nothing a ghost. So a place that stood before the first
+-- write is as it was then, and a place that was made since is a ghost with the value that it was made with. The newest
+-- moment comes first
 abbrev pub left_at : ℕ → Place → List Moment → List Entry → Option Slot
 left_at t a [] now = look now a
 left_at t a (m ∷ past) now = cond (wrote t a.1 (m ∷ past)) (or_made (left_at t a past m.1) (look now a)) (look now a)
@@ -75,11 +76,12 @@ abbrev pub from_mark : Moment → (ℕ → List Moment) → ℕ → List Moment
 from_mark m earlier zero = []
 from_mark m earlier (suc n) = m ∷ earlier n
 
--- the moments since the transaction's newest mark that stands, n such marks passed over: going from the newest moment on, each mark
--- that it went back to is met after its Back, and counts no more. All moments where there is no such mark
+-- the moments since the transaction's newest mark that stands, n such marks passed over: going from the newest moment
+-- on, each mark that it went back to is met after its Back, and counts no more. All moments where there is no such mark
 abbrev pub moments_since : ℕ → List Moment → ℕ → List Moment
 moments_since t [] n = []
-moments_since t (m ∷ past) n = cond (backed_by t m.0) (m ∷ moments_since t past (suc n)) (cond (marked_by t m.0) (from_mark m (moments_since t past) n) (m ∷ moments_since t past n))
+moments_since t (m ∷ past) n = cond (backed_by t m.0) (m ∷ moments_since t past (suc n))
+    (cond (marked_by t m.0) (from_mark m (moments_since t past) n) (m ∷ moments_since t past n))
 
 -- the list after a Back of the transaction: what an abort leaves that looks back no further than to the mark
 abbrev pub gone_back : ℕ → List Moment → List Entry → List Entry

@@ -12,11 +12,15 @@ use Rattle.am_effect.specs.Store.{find_live}
 
 pub record KnownLaws (es : List Entry) : Type 0 where
   -- the live entry of a key, and where there is none
-  pub live : (part : ℕ) (key : OrderedKey) (value : List ℕ) → IsLiveAt es part key value → find_live es key ≡ Some (record { part = part; key = key; value = value; is_ghost = false })
+  pub live : (part : ℕ) (key : OrderedKey) (value : List ℕ) → IsLiveAt es part key value →
+      find_live es key ≡ Some (record { part = part; key = key; value = value; is_ghost = false })
   pub dead : (key : OrderedKey) → get (content es) key ≡ None → find_live es key ≡ None
   -- an entry is worked off: its place in partition 0 may be taken before it leaves its run
-  pub place_first : (e : Entry) → e.is_ghost ≡ false → e.part ≢ 0 → worked_off e es ≡ remove_entry (put (record e { part = 0 }) es) e.part e.key
+  pub place_first : (e : Entry) → e.is_ghost ≡ false → e.part ≢ 0 →
+      worked_off e es ≡ remove_entry (put (record e { part = 0 }) es) e.part e.key
   -- one after another
-  pub one_more : (some : List Entry) (e : Entry) → all_worked_off (some ++ e ∷ []) es ≡ worked_off e (all_worked_off some es)
+  pub one_more : (some : List Entry) (e : Entry) → all_worked_off (some ++ e ∷ []) es ≡
+      worked_off e (all_worked_off some es)
   -- after the first n candidates are worked off, the candidates are those that were left
-  pub left : (range : Interval) (n : ℕ) → candidates (all_worked_off (take n (candidates es range)) es) range ≡ drop n (candidates es range)
+  pub left : (range : Interval) (n : ℕ) → candidates (all_worked_off (take n (candidates es range)) es) range ≡
+      drop n (candidates es range)

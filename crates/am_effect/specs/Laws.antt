@@ -32,7 +32,8 @@ pub record Describes (t : ℕ) (past : List Moment) (es : List Entry) (notes : L
   -- each note is of a key that it wrote
   pub owns : AllByRecursion (IsOfKey (λ q. wrote t q past)) notes
   -- its runs have only keys that it wrote
-  pub own_runs : (q : OrderedKey) → wrote t q past ≡ false → (p : ℕ) → is_noted_run notes p ≡ true → look es (p, q) ≡ None
+  pub own_runs : (q : OrderedKey) → wrote t q past ≡ false → (p : ℕ) → is_noted_run notes p ≡ true →
+      look es (p, q) ≡ None
 
 -- the list after the notes are taken back one by one, the newest first
 abbrev pub taken_back : List Note → List Entry → List Entry
@@ -45,19 +46,30 @@ DifferAt a es es' = (b : Place) → b ≢ a → look es' b ≡ look es b
 
 -- what the transaction's own writes and the steps of others do to them
 pub record DescribeLaws (t : ℕ) (past : List Moment) (es : List Entry) (notes : List Note) : Type 0 where
-  pub changed : (d : Effect) (es' : List Entry) (p : ℕ) (k : OrderedKey) (s s' : Slot) → wrote_by t k d ≡ true → look es (p, k) ≡ Some s → look es' (p, k) ≡ Some s' → DifferAt (p, k) es es' → Describes t ((d, es) ∷ past) es' (Before p k s.0 s.1 ∷ notes)
-  pub made : (d : Effect) (es' : List Entry) (k : OrderedKey) (s : Slot) → wrote_by t k d ≡ true → look es (0, k) ≡ None → look es' (0, k) ≡ Some s → DifferAt (0, k) es es' → Describes t ((d, es) ∷ past) es' (New k ∷ notes)
-  pub loaded : (d : Effect) (es' : List Entry) (run : ℕ) → ((q : OrderedKey) → look es (run, q) ≡ None) → ((q : OrderedKey) → wrote_by t q d ≡ false → look es' (run, q) ≡ None) → ((p : ℕ) (q : OrderedKey) → p ≢ run → look es' (p, q) ≡ look es (p, q)) → Describes t ((d, es) ∷ past) es' (RunMade run ∷ notes)
+  pub changed : (d : Effect) (es' : List Entry) (p : ℕ) (k : OrderedKey) (s s' : Slot) → wrote_by t k d ≡ true →
+      look es (p, k) ≡ Some s → look es' (p, k) ≡ Some s' → DifferAt (p, k) es es' →
+      Describes t ((d, es) ∷ past) es' (Before p k s.0 s.1 ∷ notes)
+  pub made : (d : Effect) (es' : List Entry) (k : OrderedKey) (s : Slot) → wrote_by t k d ≡ true →
+      look es (0, k) ≡ None → look es' (0, k) ≡ Some s → DifferAt (0, k) es es' →
+      Describes t ((d, es) ∷ past) es' (New k ∷ notes)
+  pub loaded : (d : Effect) (es' : List Entry) (run : ℕ) → ((q : OrderedKey) → look es (run, q) ≡ None) →
+      ((q : OrderedKey) → wrote_by t q d ≡ false → look es' (run, q) ≡ None) →
+      ((p : ℕ) (q : OrderedKey) → p ≢ run → look es' (p, q) ≡ look es (p, q)) →
+      Describes t ((d, es) ∷ past) es' (RunMade run ∷ notes)
   -- a step of others, of maintenance, or one that writes nothing
-  pub others : (d : Effect) (es' : List Entry) → ((q : OrderedKey) → wrote_by t q d ≡ false) → ((q : OrderedKey) → wrote t q past ≡ true → (p : ℕ) → look es' (p, q) ≡ look es (p, q)) → ((q : OrderedKey) (p : ℕ) → is_noted_run notes p ≡ true → look es (p, q) ≡ None → look es' (p, q) ≡ None) → Describes t ((d, es) ∷ past) es' notes
+  pub others : (d : Effect) (es' : List Entry) → ((q : OrderedKey) → wrote_by t q d ≡ false) →
+      ((q : OrderedKey) → wrote t q past ≡ true → (p : ℕ) → look es' (p, q) ≡ look es (p, q)) →
+      ((q : OrderedKey) (p : ℕ) → is_noted_run notes p ≡ true → look es (p, q) ≡ None → look es' (p, q) ≡ None) →
+      Describes t ((d, es) ∷ past) es' notes
   -- looking back leaves the list that the notes leave, taken back one by one
   pub aborted : IsRising es → reslotted (λ part key s. left_at t (part, key) past es) es ≡ taken_back notes es
 
--- the notes since each mark say what looking back to it leaves, and all notes what looking back to the begin leaves; n newer marks are
--- passed over, and none of these is above `top`
+-- the notes since each mark say what looking back to it leaves, and all notes what looking back to the begin leaves; n
+-- newer marks are passed over, and none of these is above `top`
 abbrev pub DescribesEach : ℕ → List Moment → List Entry → List Note → ℕ → ℕ → List ℕ → Type 0
 DescribesEach t past es notes n top [] = Describes t past es notes
-DescribesEach t past es notes n top (mark ∷ marks) = (mark ≤ top) × (Describes t (moments_since t past n) es (since mark notes) × DescribesEach t past es notes (suc n) mark marks)
+DescribesEach t past es notes n top (mark ∷ marks) = (mark ≤ top) ×
+    (Describes t (moments_since t past n) es (since mark notes) × DescribesEach t past es notes (suc n) mark marks)
 
 -- going back to the newest mark
 pub record BackLaws (t : ℕ) (past : List Moment) (es : List Entry) (notes : List Note) (marks : List ℕ) : Type 0 where
@@ -67,8 +79,8 @@ pub record BackLaws (t : ℕ) (past : List Moment) (es : List Entry) (notes : Li
   pub goes_on : let notes' = until_mark marks notes in
       DescribesEach t ((Answers t Back Done, es) ∷ past) (gone_back t past es) notes' 0 (length notes') (older marks)
 
--- what maintenance does to the list: each key stays live where it was live, or in one place, the content is the same, and so are
--- all places of the keys that are exclusively locked; no run gets an entry
+-- what maintenance does to the list: each key stays live where it was live, or in one place, the content is the same,
+-- and so are all places of the keys that are exclusively locked; no run gets an entry
 pub record Maintains (held : Holders) (es es' : List Entry) : Type 0 where
   pub rising : IsRising es'
   pub one : OnePlace es → OnePlace es'

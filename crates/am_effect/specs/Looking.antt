@@ -1,4 +1,5 @@
--- What an abort leaves, in the words of the rule: each place that stood before the first write as it was then, and else a ghost.
+-- What an abort leaves, in the words of the rule: each place that stood before the first write as it was then, and else
+-- a ghost.
 use Rattle.std.specs.Prelude.{ℕ, List, [], ◌∷◌, ◌++◌, cond, Option, Some, None}
 use Rattle.am_record.specs.OrderedKey.{OrderedKey}
 use Rattle.am_record.specs.EntryOrder.{Place}
@@ -8,10 +9,12 @@ use Rattle.am_undo.specs.Notes.{ghosted}
 use Rattle.am_effect.specs.Places.{look}
 use Rattle.am_effect.specs.History.{Moment, wrote_by, wrote}
 
--- the list before the transaction's first write to the key, and all lists since, the oldest first; none where it didn't write it
+-- the list before the transaction's first write to the key, and all lists since, the oldest first; none where it didn't
+-- write it
 abbrev pub lists_since : ℕ → OrderedKey → List Moment → List Entry → List (List Entry)
 lists_since t q [] now = []
-lists_since t q (m ∷ past) now = cond (wrote t q past) (lists_since t q past m.1 ++ now ∷ []) (cond (wrote_by t q m.0) (m.1 ∷ now ∷ []) [])
+lists_since t q (m ∷ past) now = cond (wrote t q past) (lists_since t q past m.1 ++ now ∷ [])
+    (cond (wrote_by t q m.0) (m.1 ∷ now ∷ []) [])
 
 abbrev pub or_slot : Option Slot → Option Slot → Option Slot
 or_slot None other = other

@@ -1,5 +1,6 @@
 -- What a merge step and a clean step may answer, and the list of entries after.
-use Rattle.std.specs.Prelude.{◌≡◌, ◌⊎◌, ℕ, ◌≤◌, nat_le, ◌==◌, min, length, List, [], ◌∷◌, false, ◌&&◌, take, drop, filter, take_while, Option, Some, None, is_none, if◌then◌else◌}
+use Rattle.std.specs.Prelude.{◌≡◌, ◌⊎◌, ℕ, ◌≤◌, nat_le, ◌==◌, min, length, List, [], ◌∷◌, false, ◌&&◌, take, drop}
+use Rattle.std.specs.Prelude.{filter, take_while, Option, Some, None, is_none, if◌then◌else◌}
 use Rattle.am_record.specs.OrderedKey.{OrderedKey}
 use Rattle.am_record.specs.Interval.{Interval, within}
 use Rattle.am_record.specs.declared.entry.Entry.{Entry}
@@ -19,7 +20,8 @@ candidates es range = filter (λ (e : Entry). nat_le 1 e.part && within range e.
 
 -- an entry of a run is worked off: it leaves its run, and a live one stands in partition 0, in place of any ghost there
 abbrev pub worked_off : Entry → List Entry → List Entry
-worked_off e es = if e.is_ghost then remove_entry es e.part e.key else put (record e { part = 0 }) (remove_entry es e.part e.key)
+worked_off e es = if e.is_ghost then remove_entry es e.part e.key else put (record e { part = 0 })
+    (remove_entry es e.part e.key)
 
 abbrev pub all_worked_off : List Entry → List Entry → List Entry
 all_worked_off [] es = es

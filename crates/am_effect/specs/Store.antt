@@ -1,5 +1,7 @@
--- The store that a trace describes: its entries, its wishes and its notes after each step, and the answers that it may give.
-use Rattle.std.specs.Prelude.{◌≡◌, ℕ, ◌+◌, ◌-◌, ◌≤◌, ◌==◌, length, List, [], ◌∷◌, ◌++◌, Bool, true, false, cond, not, ◌&&◌, drop, Option, Some, None, MatchBool}
+-- The store that a trace describes: its entries, its wishes and its notes after each step, and the answers that it may
+-- give.
+use Rattle.std.specs.Prelude.{◌≡◌, ℕ, ◌+◌, ◌-◌, ◌≤◌, ◌==◌, length, List, [], ◌∷◌, ◌++◌, Bool, true, false, cond, not}
+use Rattle.std.specs.Prelude.{◌&&◌, drop, Option, Some, None, MatchBool}
 use Rattle.std.specs.List.{list_any, AllByRecursion}
 use Rattle.std.specs.Ordering.{eq_by_cmp}
 use Rattle.am_record.specs.OrderedKey.{OrderedKey, key_cmp}
@@ -92,7 +94,8 @@ abbrev pub entries_after : Store → Step → Reply → List Entry
 entries_after s (Do t op) reply = changed (gone_back t s.past s.entries) s.state.runs op reply s.entries
 entries_after s (Abort t) Aborted = aborted t s.past s.entries
 entries_after s (Merge limit) reply = all_worked_off (merged_by s.entries s.wishes reply) s.entries
-entries_after s (Clean range limit) reply = all_worked_off (cleaned_by s.entries (holder s.state.active) range reply) s.entries
+entries_after s (Clean range limit) reply = all_worked_off
+    (cleaned_by s.entries (holder s.state.active) range reply) s.entries
 entries_after s _ _ = s.entries
 
 -- ---- notes
@@ -127,7 +130,8 @@ marks_left _ _ count marks = marks
 
 abbrev pub notes_after : Store → Step → Reply → ℕ → List Note
 notes_after s Begin (Begun t) u = cond (t == u) [] (s.notes u)
-notes_after s (Do t op) reply u = cond (t == u) (noted s.state.runs op reply s.entries ++ notes_left op reply (s.marks u) (s.notes u)) (s.notes u)
+notes_after s (Do t op) reply u = cond (t == u) (noted s.state.runs op reply s.entries ++
+    notes_left op reply (s.marks u) (s.notes u)) (s.notes u)
 notes_after s _ _ u = s.notes u
 
 abbrev pub marks_after : Store → Step → Reply → ℕ → List ℕ
@@ -154,8 +158,10 @@ WithinLimit limit reply right = MatchBool (is_limit limit) right (reply ≡ Refu
 
 -- the store may give this reply to the step
 abbrev pub MayReply : Store → Step → Reply → Type 0
-MayReply s (Merge limit) reply = WithinLimit limit reply (MergeRight s.entries s.wishes (holder s.state.active) limit reply)
-MayReply s (Clean range limit) reply = WithinLimit limit reply (CleanRight s.entries (holder s.state.active) range limit reply)
+MayReply s (Merge limit) reply = WithinLimit limit reply
+    (MergeRight s.entries s.wishes (holder s.state.active) limit reply)
+MayReply s (Clean range limit) reply = WithinLimit limit reply
+    (CleanRight s.entries (holder s.state.active) range limit reply)
 MayReply s step reply = May s.state step reply
 
 abbrev pub Follows : Store → Trace → Type 0
@@ -184,7 +190,8 @@ loaded_into run runs _ _ = 0
 
 abbrev pub all_loaded_into : ℕ → Store → Trace → ℕ
 all_loaded_into run s [] = 0
-all_loaded_into run s (e ∷ trace) = loaded_into run s.state.runs e.0 e.1 + all_loaded_into run (after_step s e.0 e.1) trace
+all_loaded_into run s (e ∷ trace) = loaded_into run s.state.runs e.0 e.1 + all_loaded_into run
+    (after_step s e.0 e.1) trace
 
 -- the event is an answered read of the key
 abbrev pub asks_for : Option Interval → OrderedKey → Bool
@@ -201,7 +208,8 @@ was_read q trace = list_any (λ (e : Event). reads q e.0 e.1) trace
 
 -- whatever a merge takes out of a run, a read before it asked for
 abbrev pub AskedAt : Trace → Store → Step → Reply → Type 0
-AskedAt before s (Merge limit) reply = AllByRecursion (λ (e : Entry). was_read e.key before ≡ true) (merged_by s.entries s.wishes reply)
+AskedAt before s (Merge limit) reply = AllByRecursion (λ (e : Entry). was_read e.key before ≡ true)
+    (merged_by s.entries s.wishes reply)
 AskedAt before s _ _ = Unit {0}
 
 abbrev pub EachAsked : Trace → Store → Trace → Type 0

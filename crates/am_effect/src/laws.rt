@@ -23,7 +23,8 @@ ghost use Rattle.am_effect.specs.Laws.{Describes, DescribeLaws, DescribesEach, B
 /// Merge and clean steps keep the content, keep each key live in one place at most, and leave every
 /// place of an exclusively locked key as it is.
 pub fn maintenance_keeps()
-    ensures merge { (es : List Entry) (wishes : List Interval) (held : Holders) (limit : ℕ) (reply : Reply) → IsRising es →
+    ensures merge { (es : List Entry) (wishes : List Interval) (held : Holders) (limit : ℕ) (reply : Reply) →
+        IsRising es →
         MergeRight es wishes held limit reply → Maintains held es (all_worked_off (merged_by es wishes reply) es) }
     ensures clean { (es : List Entry) (held : Holders) (range : Interval) (reply : Reply) → IsRising es →
         Maintains held es (all_worked_off (cleaned_by es held range reply) es) }
@@ -31,9 +32,11 @@ pub fn maintenance_keeps()
 
 /// Where notes were taken back in a list, the list is the one with the notes taken back one by one.
 pub fn taking_back_is_known()
-    ensures known { (notes : List Note) (es es' : List Entry) → IsRising es → CanTakeBack notes (find es) → TakesBack notes es es' →
+    ensures known { (notes : List Note) (es es' : List Entry) → IsRising es → CanTakeBack notes (find es) →
+        TakesBack notes es es' →
         es' ≡ taken_back notes es }
-    ensures exists { (notes : List Note) (es : List Entry) → CanTakeBack notes (find es) → TakesBack notes es (taken_back notes es) }
+    ensures exists { (notes : List Note) (es : List Entry) → CanTakeBack notes (find es) →
+        TakesBack notes es (taken_back notes es) }
 {}
 
 /// An abort that looks back to the lists before leaves what the notes leave, taken back one by one.
@@ -49,7 +52,8 @@ pub fn aborts_take_back()
 pub fn backs_take_back()
     ensures laws { (t : ℕ) (past : List Moment) (es : List Entry) (notes : List Note) (marks : List ℕ) →
         DescribesEach t past es notes 0 (length notes) marks → has_mark marks ≡ true → BackLaws t past es notes marks }
-    ensures words { (t : ℕ) (a : Place) (past : List Moment) (es : List Entry) → wrote t a.1 (moments_since t past 0) ≡ true →
+    ensures words { (t : ℕ) (a : Place) (past : List Moment) (es : List Entry) →
+        wrote t a.1 (moments_since t past 0) ≡ true →
         left_at t a (moments_since t past 0) es ≡ looked_back a (lists_since t a.1 (moments_since t past 0) es) }
 {}
 

@@ -5,7 +5,8 @@ use Rattle.am_record.specs.KeyMix.{key_mix}
 
 -- the bits of a number
 unfoldable pub mask_of : ℕ → ℕ
-mask_of n = bit_or (bit_or (bit_or (bit_or (2 ^ (n % 64)) (2 ^ (n / 2 ^ 6 % 64))) (2 ^ (n / 2 ^ 12 % 64))) (2 ^ (n / 2 ^ 18 % 64))) (2 ^ (n / 2 ^ 24 % 64))
+mask_of n = bit_or (bit_or (bit_or (bit_or (2 ^ (n % 64)) (2 ^ (n / 2 ^ 6 % 64))) (2 ^ (n / 2 ^ 12 % 64)))
+    (2 ^ (n / 2 ^ 18 % 64))) (2 ^ (n / 2 ^ 24 % 64))
 
 -- and its word
 abbrev pub slot_of : List ℕ → ℕ → ℕ

@@ -13,9 +13,9 @@ use std::marker::Model;
 /// For how many keys a word is got.
 const KEYS_A_WORD: usize = 4;
 
-/// A set of keys, of which it is known whether a key *may* be in it: a key that was added is held, and of the others about
-/// one in a hundred is. It has a word for each four keys, and a key sets five bits of one word (Putze, Sanders and
-/// Singler, 2009).
+/// A set of keys, of which it is known whether a key *may* be in it: a key that was added is held, and of the others
+/// about one in a hundred is. It has a word for each four keys, and a key sets five bits of one word (Putze, Sanders
+/// and Singler, 2009).
 #[derive(Debug, Drop)]
 pub struct Filter {
     words: Vec<u64>,
@@ -35,7 +35,8 @@ impl Model for Filter {
 }
 
 impl Filter {
-    /// An empty filter with room for so many keys. It may be given more, and then holds more keys that it was not given.
+    /// An empty filter with room for so many keys. It may be given more, and then holds more keys that it was not
+    /// given.
     ///
     /// # Errors
     /// NoMemory, where memory was refused.

@@ -1,5 +1,5 @@
-//! The program `am_history_tests`: takes 2,000 steps of eight transactions, always the same, and takes each committed body
-//! again alone on a plain map. With a word it prints the trace of all steps.
+//! The program `am_history_tests`: takes 2,000 steps of eight transactions, always the same, and takes each committed
+//! body again alone on a plain map. With a word it prints the trace of all steps.
 #![tactic(auto)]
 
 mod history;

@@ -1,5 +1,6 @@
 -- What a step with its reply does to the transactions, and which are active after a trace.
-use Rattle.std.specs.Prelude.{◌≡◌, ℕ, ◌==◌, ◌≤◌, nat_le, List, [], ◌∷◌, ◌++◌, length, map, Bool, true, false, if◌then◌else◌, not, filter, Option, Some, None}
+use Rattle.std.specs.Prelude.{◌≡◌, ℕ, ◌==◌, ◌≤◌, nat_le, List, [], ◌∷◌, ◌++◌, length, map, Bool, true, false}
+use Rattle.std.specs.Prelude.{if◌then◌else◌, not, filter, Option, Some, None}
 use Rattle.std.specs.List.{list_any}
 use Rattle.am_record.specs.declared.step.Op.TheVariants.{Scan}
 use Rattle.am_record.specs.declared.step.Step.{Step}

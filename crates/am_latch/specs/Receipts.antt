@@ -1,6 +1,7 @@
 -- Seats and their receipts.
 use Rattle.std.specs.Coded.{Coded, code_by, coded×, coded_ℕ, coded_list}
-use Rattle.std.specs.Prelude.{refl, ◌≡◌, ℕ, zero, suc, ◌<◌, ◌+◌, ◌-◌, List, [], ◌∷◌, ◌++◌, length, slice_get, Option, Some, None, MatchBool, ◌==◌, if◌then◌else◌}
+use Rattle.std.specs.Prelude.{refl, ◌≡◌, ℕ, zero, suc, ◌<◌, ◌+◌, ◌-◌, List, [], ◌∷◌, ◌++◌, length, slice_get, Option}
+use Rattle.std.specs.Prelude.{Some, None, MatchBool, ◌==◌, if◌then◌else◌}
 use Rattle.am_record.specs.declared.step.Step.{Step}
 use Rattle.am_record.specs.contracts.step.Step as the_step
 use Rattle.am_record.specs.contracts.step.Reply as the_reply
@@ -22,11 +23,14 @@ ReceiptFields = (ℕ × ℕ) × ((Step × Reply) × ℕ)
 
 abbrev pub receipt_code : Coded Receipt
 receipt_code =
-    code_by ReceiptFields (coded× (coded× coded_ℕ coded_ℕ) (coded× (coded× the_step.the_row.coded the_reply.the_row.coded) coded_ℕ))
-    (λ r. ((r.seat, r.call), ((r.step, r.reply), r.place))) (λ f. record { seat = f.0.0; call = f.0.1; step = f.1.0.0; reply = f.1.0.1; place = f.1.1 }) (λ _. refl)
+    code_by ReceiptFields (coded× (coded× coded_ℕ coded_ℕ)
+    (coded× (coded× the_step.the_row.coded the_reply.the_row.coded) coded_ℕ))
+    (λ r. ((r.seat, r.call), ((r.step, r.reply), r.place)))
+    (λ f. record { seat = f.0.0; call = f.0.1; step = f.1.0.0; reply = f.1.0.1; place = f.1.1 }) (λ _. refl)
 
 abbrev pub seated_code : Coded Seated
-seated_code = code_by (ℕ × List Receipt) (coded× coded_ℕ (coded_list receipt_code)) (λ s. (s.number, s.receipts)) (λ f. record { number = f.0; receipts = f.1 }) (λ _. refl)
+seated_code = code_by (ℕ × List Receipt) (coded× coded_ℕ (coded_list receipt_code)) (λ s. (s.number, s.receipts))
+    (λ f. record { number = f.0; receipts = f.1 }) (λ _. refl)
 
 abbrev pub seated : ℕ → List Receipt → Seated
 seated k rs = record { number = k; receipts = rs }
@@ -63,14 +67,16 @@ numbered (suc n) = numbered n ++ new_seat n ∷ []
 abbrev pub receipts_from : ℕ → ℕ → ℕ → List (Step × Reply) → List Maker → List Receipt
 receipts_from k place call [] ms = []
 receipts_from k place call (p ∷ ps) [] = []
-receipts_from k place call (p ∷ ps) (m ∷ ms) = if m.seat == k then receipt k call p.0 p.1 place ∷ receipts_from k (suc place) (suc call) ps ms else receipts_from k (suc place) call ps ms
+receipts_from k place call (p ∷ ps) (m ∷ ms) = if m.seat == k then receipt k call p.0 p.1 place ∷
+    receipts_from k (suc place) (suc call) ps ms else receipts_from k (suc place) call ps ms
 
 abbrev pub receipts_of : ℕ → Engined → List Receipt
 receipts_of k e = receipts_from k 0 0 e.trace e.makers
 
 -- one receipt more, of the next call
 abbrev pub Receives : Seated → Step → Reply → Seated → Type 0
-Receives s st r s' = (place : ℕ) × (s' ≡ seated s.number (s.receipts ++ receipt s.number (length s.receipts) st r place ∷ []))
+Receives s st r s' = (place : ℕ) × (s' ≡ seated s.number
+    (s.receipts ++ receipt s.number (length s.receipts) st r place ∷ []))
 
 -- the call has its receipt, or the seat is unchanged
 abbrev pub Called : Seated → Step → Reply → Seated → Type 0
@@ -85,10 +91,15 @@ pub record Stands (trace : List (Step × Reply)) (number k : ℕ) (r : Receipt) 
 -- Each receipt stands in the trace at its place, and each place has one receipt.
 -- The calls of a seat's receipts are 0, 1, 2, .. and their places rise.
 pub record Kept (seats : List Seated) (trace : List (Step × Reply)) : Type 0 where
-  pub stand : (i k : ℕ) (s : Seated) (r : Receipt) → slice_get seats i ≡ Some s → slice_get s.receipts k ≡ Some r → Stands trace s.number k r
-  pub rise : (i k l : ℕ) (s : Seated) (r q : Receipt) → slice_get seats i ≡ Some s → slice_get s.receipts k ≡ Some r → slice_get s.receipts l ≡ Some q → k < l → r.place < q.place
-  pub found : (p : ℕ) → p < length trace → (i k : ℕ) × (s : Seated) × (r : Receipt) × (slice_get seats i ≡ Some s) × (slice_get s.receipts k ≡ Some r) × (r.place ≡ p)
-  pub once : (i k j l : ℕ) (s t : Seated) (r q : Receipt) → slice_get seats i ≡ Some s → slice_get s.receipts k ≡ Some r → slice_get seats j ≡ Some t → slice_get t.receipts l ≡ Some q → r.place ≡ q.place → (i ≡ j) × (k ≡ l)
+  pub stand : (i k : ℕ) (s : Seated) (r : Receipt) → slice_get seats i ≡ Some s → slice_get s.receipts k ≡ Some r →
+      Stands trace s.number k r
+  pub rise : (i k l : ℕ) (s : Seated) (r q : Receipt) → slice_get seats i ≡ Some s → slice_get s.receipts k ≡ Some r →
+      slice_get s.receipts l ≡ Some q → k < l → r.place < q.place
+  pub found : (p : ℕ) → p < length trace → (i k : ℕ) × (s : Seated) × (r : Receipt) × (slice_get seats i ≡ Some s) ×
+      (slice_get s.receipts k ≡ Some r) × (r.place ≡ p)
+  pub once : (i k j l : ℕ) (s t : Seated) (r q : Receipt) → slice_get seats i ≡ Some s →
+      slice_get s.receipts k ≡ Some r → slice_get seats j ≡ Some t → slice_get t.receipts l ≡ Some q →
+      r.place ≡ q.place → (i ≡ j) × (k ≡ l)
 
 abbrev pub NumberedBelow : List Seated → ℕ → Type 0
 NumberedBelow seats n = (i : ℕ) (s : Seated) → i < n → slice_get seats i ≡ Some s → s.number ≡ i

@@ -45,8 +45,10 @@ IsEngineOf n e = AllBelow n (engined e).makers × Tied (engined e)
 -- what is open in the seats is what is active, each in one seat
 pub record OpenIs (seats : List Seated) (ts : List ℕ) : Type 0 where
   pub active : (i t : ℕ) (s : Seated) → slice_get seats i ≡ Some s → open_of s.receipts ≡ Some t → has t ts ≡ true
-  pub apart : (i j t : ℕ) (s u : Seated) → slice_get seats i ≡ Some s → slice_get seats j ≡ Some u → open_of s.receipts ≡ Some t → open_of u.receipts ≡ Some t → i ≡ j
-  pub owned : (t : ℕ) → has t ts ≡ true → (i : ℕ) × (s : Seated) × (slice_get seats i ≡ Some s) × (open_of s.receipts ≡ Some t)
+  pub apart : (i j t : ℕ) (s u : Seated) → slice_get seats i ≡ Some s → slice_get seats j ≡ Some u →
+      open_of s.receipts ≡ Some t → open_of u.receipts ≡ Some t → i ≡ j
+  pub owned : (t : ℕ) → has t ts ≡ true → (i : ℕ) × (s : Seated) × (slice_get seats i ≡ Some s) ×
+      (open_of s.receipts ≡ Some t)
 
 -- how many receipts need room: that of the end of an open transaction too
 abbrev pub places_with : Option ℕ → ℕ

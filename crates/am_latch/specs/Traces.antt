@@ -17,11 +17,13 @@ pub record Engined : Type 0 where
 
 -- it is stored as its fields
 abbrev pub maker_code : Coded Maker
-maker_code = code_by (ℕ × ℕ) (coded× coded_ℕ coded_ℕ) (λ m. (m.seat, m.call)) (λ f. record { seat = f.0; call = f.1 }) (λ _. refl)
+maker_code = code_by (ℕ × ℕ) (coded× coded_ℕ coded_ℕ) (λ m. (m.seat, m.call)) (λ f. record { seat = f.0; call = f.1 })
+    (λ _. refl)
 
 abbrev pub engined_code : Coded Engined
 engined_code =
-    code_by (List (Step × Reply) × List Maker) (coded× (coded_list (coded× the_step.the_row.coded the_reply.the_row.coded)) (coded_list maker_code))
+    code_by (List (Step × Reply) × List Maker) (coded× (coded_list
+    (coded× the_step.the_row.coded the_reply.the_row.coded)) (coded_list maker_code))
     (λ e. (e.trace, e.makers)) (λ f. record { trace = f.0; makers = f.1 }) (λ _. refl)
 
 abbrev pub fresh : Engined

@@ -7,7 +7,8 @@ use std::alloc::Global;
 use std::collections::LinkedList;
 use std::marker::{Brand, PhantomData};
 
-/// What a token knows. The book's knows the trace and who made its pairs, a seat's its receipts. No value of it is made.
+/// What a token knows. The book's knows the trace and who made its pairs, a seat's its receipts. No value of it is
+/// made.
 pub struct View {
     pub keeps: bool,
     pub trace: LinkedList<(Step, Reply)>,

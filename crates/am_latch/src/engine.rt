@@ -1,6 +1,7 @@
 //! The store with its trace.
 
-ghost use Rattle.std.specs.Prelude.{◌≡◌, ◌≢◌, ◌≤◌, ◌+◌, ◌<◌, ◌^◌, ℕ, IfOk, IfSome, IsSome, None, length, true, false, if◌then◌else◌, vec_len, vec_capacity};
+ghost use Rattle.std.specs.Prelude.{◌≡◌, ◌≢◌, ◌≤◌, ◌+◌, ◌<◌, ◌^◌, ℕ, IfOk, IfSome, IsSome, None, length, true, false};
+ghost use Rattle.std.specs.Prelude.{if◌then◌else◌, vec_len, vec_capacity};
 ghost use Rattle.am_record.specs.declared.step.Reply.TheVariants.{Refused};
 ghost use Rattle.am_record.specs.declared.step.Refusal.TheVariants.{SeatFull};
 ghost use Rattle.am_serial.specs.Trace.{Trace};
@@ -41,7 +42,9 @@ impl Model for Engine {
 
     ghost view = { λ e. record { trace = e.trace.items; makers = e.makers.items } };
 
-    ghost invariant = { λ e. HasTrace e.trace.items e.store × (vec_len e.makers ≡ vec_len e.trace) × (length (active e.trace.items) ≤ e.ends) × (vec_len e.trace + e.ends ≤ vec_capacity e.trace) × (vec_len e.makers + e.ends ≤ vec_capacity e.makers) };
+    ghost invariant = { λ e. HasTrace e.trace.items e.store × (vec_len e.makers ≡ vec_len e.trace) ×
+        (length (active e.trace.items) ≤ e.ends) × (vec_len e.trace + e.ends ≤ vec_capacity e.trace) ×
+        (vec_len e.makers + e.ends ≤ vec_capacity e.makers) };
 }
 
 impl Engine {
@@ -187,8 +190,11 @@ fn get_room(
 ) -> bool
     ensures same { (trace.new.items ≡ trace.old.items) × (makers.new.items ≡ makers.old.items) }
     ensures long { (vec_len trace.new ≡ vec_len trace.old) × (vec_len makers.new ≡ vec_len makers.old) }
-    ensures kept { (vec_capacity trace.old ≤ vec_capacity trace.new) × (vec_capacity makers.old ≤ vec_capacity makers.new) }
-    ensures got { result ≡ true → (ends + more < 2 ^ 64) × (vec_len trace.new + (ends + more) ≤ vec_capacity trace.new) × (vec_len makers.new + (ends + more) ≤ vec_capacity makers.new) }
+    ensures kept { (vec_capacity trace.old ≤ vec_capacity trace.new) ×
+        (vec_capacity makers.old ≤ vec_capacity makers.new) }
+    ensures got { result ≡ true → (ends + more < 2 ^ 64) ×
+        (vec_len trace.new + (ends + more) ≤ vec_capacity trace.new) ×
+        (vec_len makers.new + (ends + more) ≤ vec_capacity makers.new) }
 {
     let Some(wanted) = ends.checked_add(more) else {
         return false;

@@ -29,11 +29,17 @@ pub fn enter(
     reply: &Reply,
     maker: &Maker,
 ) -> Token
-    requires board { (token.old.table_id ≡ board.now.shared.table_id) × (book.table_id ≡ board.now.shared.table_id) × (0 < board.now.shared.table_id.words) }
+    requires board { (token.old.table_id ≡ board.now.shared.table_id) × (book.table_id ≡ board.now.shared.table_id) ×
+        (0 < board.now.shared.table_id.words) }
     requires token { IsSitter token.old.me.0 × (maker.now.seat ≡ token.old.me.0.seat) }
     requires book { IsKeeper book.me.0 × (book.me.1 ≡ []) }
     ensures same { (token.new.table_id ≡ token.old.table_id) × (result.table_id ≡ token.old.table_id) }
-    ensures token { token.new.me ≡ (sitter token.old.me.0.seat (token.old.me.0.mine ++ receipt token.old.me.0.seat (length token.old.me.0.mine) step.now reply.now (length book.me.0.trace) ∷ []), token.old.me.1) }
+    ensures token { token.new.me ≡ (
+      sitter token.old.me.0.seat
+          (token.old.me.0.mine ++ receipt token.old.me.0.seat (length token.old.me.0.mine) step.now reply.now
+          (length book.me.0.trace) ∷ []),
+      token.old.me.1,
+    ) }
     ensures book { result.me ≡ (keeper (longer (log_of book.me.0) maker.now step.now reply.now), []) }
 {
     board.shared.join_seat::<Both>(token, book);
@@ -43,10 +49,12 @@ pub fn enter(
 
 /// The seat's token knows just the receipts that the book has of it.
 pub fn check(board: &Board, token: &mut Token, book: Token) -> Token
-    requires board { (token.old.table_id ≡ board.now.shared.table_id) × (book.table_id ≡ board.now.shared.table_id) × (0 < board.now.shared.table_id.words) }
+    requires board { (token.old.table_id ≡ board.now.shared.table_id) × (book.table_id ≡ board.now.shared.table_id) ×
+        (0 < board.now.shared.table_id.words) }
     requires token { IsSitter token.old.me.0 }
     requires book { IsKeeper book.me.0 × (book.me.1 ≡ []) }
-    ensures same { (token.new.table_id ≡ token.old.table_id) × (token.new.me ≡ token.old.me) × (result.table_id ≡ token.old.table_id) × (result.me ≡ book.me) }
+    ensures same { (token.new.table_id ≡ token.old.table_id) × (token.new.me ≡ token.old.me) ×
+        (result.table_id ≡ token.old.table_id) × (result.me ≡ book.me) }
     ensures known { token.old.me.0.mine ≡ receipts_of token.old.me.0.seat (log_of book.me.0) }
 {
     board.shared.join_seat::<Both>(token, book);

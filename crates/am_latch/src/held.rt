@@ -41,7 +41,8 @@ impl<L: Naming> Model for Held<L> {
 
     ghost view = { λ h. h.engine };
 
-    ghost invariant = { λ h. (h.book.table_id ≡ L.table) × (h.book.views ≡ keeper h.engine ∷ []) × AllBelow L.seats h.engine.makers × Tied h.engine };
+    ghost invariant = { λ h. (h.book.table_id ≡ L.table) × (h.book.views ≡ keeper h.engine ∷ []) ×
+        AllBelow L.seats h.engine.makers × Tied h.engine };
 }
 
 impl<L: Naming> Held<L> {
@@ -73,7 +74,8 @@ impl<L: Naming> Held<L> {
         step: Step,
         kept: &Step,
     ) -> Reply
-        requires board { (board.now.shared.table_id ≡ L.table) × (0 < board.now.shared.table_id.words) × (token.old.table_id ≡ L.table) }
+        requires board { (board.now.shared.table_id ≡ L.table) × (0 < board.now.shared.table_id.words) ×
+            (token.old.table_id ≡ L.table) }
         requires token { IsSitter token.old.me.0 × (maker.seat ≡ token.old.me.0.seat) × (maker.seat < L.seats) }
         requires may { IsAllowed (open_of token.old.me.0.mine) step }
         requires kept { kept.now ≡ step }
@@ -82,7 +84,11 @@ impl<L: Naming> Held<L> {
         ensures ended { Ended step result }
         ensures bounded { Bounded step result }
         ensures same { token.new.table_id ≡ token.old.table_id }
-        ensures token { MatchBool (is_stored result) (token.new.me ≡ (sitter maker.seat (token.old.me.0.mine ++ receipt maker.seat (length token.old.me.0.mine) step result (length self.old.trace) ∷ []), token.old.me.1)) (token.new.me ≡ token.old.me) }
+        ensures token { MatchBool (is_stored result) (token.new.me ≡ (
+          sitter maker.seat (token.old.me.0.mine ++ receipt maker.seat (length token.old.me.0.mine) step result
+              (length self.old.trace) ∷ []),
+          token.old.me.1,
+        )) (token.new.me ≡ token.old.me) }
     {
         let book = mem::replace(&mut self.book, Badge::blank()).into_seat();
         let book = check(board, token, book);

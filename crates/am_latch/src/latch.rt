@@ -48,7 +48,8 @@ impl Model for Blank {
 
     ghost view = { λ b. record { table = b.board.shared.table_id; seats = b.seats } };
 
-    ghost invariant = { λ b. (0 < b.seats) × (b.seats < 1025) × (0 < b.board.shared.table_id.words) × (b.book.table_id ≡ b.board.shared.table_id) × (b.book.me ≡ (dealer 0, [])) };
+    ghost invariant = { λ b. (0 < b.seats) × (b.seats < 1025) × (0 < b.board.shared.table_id.words) ×
+        (b.book.table_id ≡ b.board.shared.table_id) × (b.book.me ≡ (dealer 0, [])) };
 }
 
 impl Blank {
@@ -128,9 +129,9 @@ impl<L: Naming> Latch<L> {
         ))
     }
 
-    /// Takes the lock. A call holds it for some microseconds, and a thread that sleeps is woken much later than that: among
-    /// many threads each call would then wait for the next one to wake. So a thread lets others run first, and sleeps only
-    /// where that doesn't help.
+    /// Takes the lock. A call holds it for some microseconds, and a thread that sleeps is woken much later than that:
+    /// among many threads each call would then wait for the next one to wake. So a thread lets others run first, and
+    /// sleeps only where that doesn't help.
     pub(crate) fn hold<R: Wait>(&self, rt: &R) -> MutexGuard<'_, Held<L>> {
         for _ in 0..PATIENCE {
             if let Some(held) = self.held.try_lock() {

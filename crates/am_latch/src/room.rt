@@ -34,8 +34,8 @@ impl Room {
         Ok(Room { items })
     }
 
-    /// A copy of these pairs, which is kept as long as the trace is: so where it leaves room, and memory is found, it has
-    /// memory of its own, and the room is given back whole.
+    /// A copy of these pairs, which is kept as long as the trace is: so where it leaves room, and memory is found, it
+    /// has memory of its own, and the room is given back whole.
     fn fill(self, alloc: Global, pairs: &Pairs) -> Pairs
         requires { length pairs.now ≤ self }
         ensures { result ≡ pairs.now }

@@ -1,5 +1,6 @@
 //! A seat, which keeps a receipt for each of its calls.
-ghost use Rattle.std.specs.Prelude.{◌≡◌, ◌≢◌, ◌↔◌, ◌<◌, ◌≤◌, ◌+◌, [], length, IsSome, Some, None, true, vec_len, vec_capacity};
+ghost use Rattle.std.specs.Prelude.{◌≡◌, ◌≢◌, ◌↔◌, ◌<◌, ◌≤◌, ◌+◌, [], length, IsSome, Some, None, true, vec_len};
+ghost use Rattle.std.specs.Prelude.{vec_capacity};
 ghost use Rattle.am_record.specs.Sessions.{IsAllowed};
 ghost use Rattle.am_record.specs.declared.step.Reply.TheVariants.{Refused};
 ghost use Rattle.am_record.specs.declared.step.Refusal.TheVariants.{SeatFull};
@@ -51,7 +52,10 @@ impl<L: Naming> Model for Seat<L> {
 
     ghost view = { λ s. seated s.number s.receipts.items };
 
-    ghost invariant = { λ s. (s.token.table_id ≡ L.table) × (s.token.me ≡ (sitter s.number s.receipts.items, [])) × (s.number < L.seats) × (s.open_now ≡ open_of s.receipts.items) × HasRoom s.open_now (vec_len s.receipts) (vec_capacity s.receipts) × (s.moved ≡ moved_in s.receipts.items) × (s.moved ≤ 64 * vec_len s.receipts) };
+    ghost invariant = { λ s. (s.token.table_id ≡ L.table) × (s.token.me ≡ (sitter s.number s.receipts.items, [])) ×
+        (s.number < L.seats) × (s.open_now ≡ open_of s.receipts.items) ×
+        HasRoom s.open_now (vec_len s.receipts) (vec_capacity s.receipts) × (s.moved ≡ moved_in s.receipts.items) ×
+        (s.moved ≤ 64 * vec_len s.receipts) };
 }
 
 impl<L: Naming> Seat<L> {
@@ -138,7 +142,8 @@ impl<L: Naming> Seat<L> {
         ensures never_full { result ≢ Refused SeatFull }
         ensures ended { Ended step result }
         ensures bounded { Bounded step result }
-        ensures stepped { Stepped held.old record { seat = self.old.number; call = length self.old.receipts } step result held.new }
+        ensures stepped { Stepped held.old record { seat = self.old.number; call = length self.old.receipts } step
+            result held.new }
     {
         let places = places_for(self.open_now, &step);
         if !get_places(&mut self.receipts, places) {

@@ -13,7 +13,8 @@ use Rattle.core.specs.Allocator.{block_with_items}
 
 -- from p on a place for each of 32 values: the first hold xs, the others are room; and the right to give the block back
 abbrev pub block_owns : (R : RattleType) → Global → Ptr → List R.Denot → Fml
-block_owns R g p xs = fsep (flt (32 * type_size R) (2 ^ 63)) (in_block p (block_with_items (ghosts.dealloc_token g) R p (length xs) 32 xs))
+block_owns R g p xs = fsep (flt (32 * type_size R) (2 ^ 63))
+    (in_block p (block_with_items (ghosts.dealloc_token g) R p (length xs) 32 xs))
 
 -- the values, and the bound on the size of the block
 abbrev pub block_lends : (R : RattleType) → Ptr → List R.Denot → Lft → Fml

@@ -10,7 +10,8 @@ use Rattle.am_leaf.specs.Marks.{mark}
 abbrev pub entries_of : List Place → List (List ℕ) → ℕ → List Entry
 entries_of [] vs m = []
 entries_of (p ∷ ps) [] m = []
-entries_of (p ∷ ps) (v ∷ vs) m = record { part = p.0; key = p.1; value = v; is_ghost = mark m 0 } ∷ entries_of ps vs (m / 2)
+entries_of (p ∷ ps) (v ∷ vs) m = record { part = p.0; key = p.1; value = v; is_ghost = mark m 0 } ∷
+    entries_of ps vs (m / 2)
 
 abbrev pub entries : Inside → List Entry
 entries a = entries_of a.places a.values a.marks

@@ -1,7 +1,8 @@
 //! Raw memory for 32 values, behind a pointer. Each function here that uses the pointer is proved by hand
 //! (`proofs/block`), and no other code sees it.
 
-ghost use Rattle.std.specs.Prelude.{◌≡◌, ◌*◌, ◌^◌, ◌<◌, ◌≤◌, List, [], take, drop, length, IfOk, slice_index_or, slice_set};
+ghost use Rattle.std.specs.Prelude.{◌≡◌, ◌*◌, ◌^◌, ◌<◌, ◌≤◌, List, [], take, drop, length, IfOk, slice_index_or};
+ghost use Rattle.std.specs.Prelude.{slice_set};
 ghost use Rattle.std.specs.List.{insert, remove};
 ghost use Rattle.std.specs.Mem.{type_size};
 

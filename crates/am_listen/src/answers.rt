@@ -1,6 +1,7 @@
 //! A sink that tells how many answers were sent on.
 
-ghost use Rattle.std.specs.Prelude.{◌≡◌, ◌==◌, ◌||◌, ◌+◌, ◌^◌, ◌<◌, ◌≤◌, false, [], length, take, min, count_by, nat_lt, OnOk, OnErr, IfOk};
+ghost use Rattle.std.specs.Prelude.{◌≡◌, ◌==◌, ◌||◌, ◌+◌, ◌^◌, ◌<◌, ◌≤◌, false, [], length, take, min, count_by};
+ghost use Rattle.std.specs.Prelude.{nat_lt, OnOk, OnErr, IfOk};
 ghost use Rattle.am_wire.specs.Giving.{Gave};
 
 use crate::turnstile::Turnstile;

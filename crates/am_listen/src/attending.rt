@@ -31,7 +31,8 @@ pub fn attend<'a, W: Wait, K: Sink, S: AnsweredSource<K>, L: Naming>(
     requires sent { K.pending sink.old ≡ false }
     requires idle { open_in place.old ≡ None }
     requires numbered { IsNumbered place.old }
-    ensures served { Served S.comes K.holds open_in Goes Tells 0 source.old sink.old place.old source.new sink.new place.new result }
+    ensures served { Served S.comes K.holds open_in Goes Tells 0 source.old sink.old place.old source.new sink.new
+        place.new result }
     ensures idle { open_in place.new ≡ None }
     ensures sent { IsSentOn result (K.pending sink.new ≡ false) }
     ensures source_failures { S.failures source.new ≡ S.failures source.old + read_failures result }

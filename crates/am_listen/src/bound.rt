@@ -65,17 +65,18 @@ impl Bound {
         self.port
     }
 
-    /// No further connection is taken, and `serve` returns once the sessions begun have ended. May be called from another
-    /// thread while `serve` runs.
+    /// No further connection is taken, and `serve` returns once the sessions begun have ended. May be called from
+    /// another thread while `serve` runs.
     pub fn stop<R: Net<Listener = TcpListener, Stream = TcpStream>>(&self, rt: &R) {
         self.is_stopped.store(true, Ordering::SeqCst);
         // A thread that waits for a connection gets this one, and sees that it is to stop.
         drop(TcpStream::connect(rt, (Ipv4Addr::LOCALHOST, self.port)));
     }
 
-    /// Accepts so many connections, or those that come before [`Bound::stop`], each of which is served on a thread and a seat of its own, over one store that
-    /// begins with no records, and lets so many workers merge beside them: one turn for each answered line. It returns
-    /// once all sessions have ended. The trace is sound, and whoever judges it finds nothing wrong in it.
+    /// Accepts so many connections, or those that come before [`Bound::stop`], each of which is served on a thread and
+    /// a seat of its own, over one store that begins with no records, and lets so many workers merge beside them: one
+    /// turn for each answered line. It returns once all sessions have ended. The trace is sound, and whoever judges it
+    /// finds nothing wrong in it.
     ///
     /// # Errors
     /// NoMemory, where memory was refused before a connection was accepted.

@@ -17,12 +17,14 @@ pub record IsBelow (a b : Interval) : Type 0 where
 
 -- each range is below all later ones
 abbrev pub Rises : List Interval → Type 0
-Rises ranges = (i j : ℕ) (d : Interval) → i ≤ j → j < length ranges → IsBelow (slice_index_or ranges i d) (slice_index_or ranges j d)
+Rises ranges = (i j : ℕ) (d : Interval) → i ≤ j → j < length ranges →
+    IsBelow (slice_index_or ranges i d) (slice_index_or ranges j d)
 
 -- the ranges rise, and one of them spans two keys exactly where one of the counted locks does
 pub record IsFrontOf (counts : Lock → Bool) (locks : List Lock) (ranges : List Interval) : Type 0 where
   pub rises : Rises ranges
-  pub tells : (low high : OrderedKey) → list_any (spans low high) ranges ≡ list_any (λ l. counts l && spans low high l.range) locks
+  pub tells : (low high : OrderedKey) → list_any (spans low high) ranges ≡
+      list_any (λ l. counts l && spans low high l.range) locks
   pub few : length ranges ≤ length locks
 
 -- a front of all the locks, and one of the exclusive ones

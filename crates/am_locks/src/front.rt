@@ -1,6 +1,7 @@
 //! Ranges of locks, kept for searching.
 
-ghost use Rattle.std.specs.Prelude.{◌≡◌, ◌+◌, ◌<◌, ◌≤◌, ◌||◌, [], ◌∷◌, ◌++◌, true, false, length, take, drop, IfSome, MatchOption, OnOk, vec_capacity};
+ghost use Rattle.std.specs.Prelude.{◌≡◌, ◌+◌, ◌<◌, ◌≤◌, ◌||◌, [], ◌∷◌, ◌++◌, true, false, length, take, drop, IfSome};
+ghost use Rattle.std.specs.Prelude.{MatchOption, OnOk, vec_capacity};
 ghost use Rattle.std.specs.List.{list_any};
 ghost use Rattle.std.specs.List.Sorted.{IsPartitionPoint};
 ghost use Rattle.am_record.specs.OrderedKey.{OrderedKey};

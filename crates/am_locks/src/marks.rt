@@ -8,8 +8,8 @@ use am_record::Lock;
 
 /// Which keys none of some locks has, as far as one look tells.
 ///
-/// A lock of one key is marked at the place that the key's number gives. Of locks of more keys it is kept only that there
-/// is one.
+/// A lock of one key is marked at the place that the key's number gives. Of locks of more keys it is kept only that
+/// there is one.
 #[derive(Drop)]
 pub(crate) struct Marks {
     places: [bool; 256],

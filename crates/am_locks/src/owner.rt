@@ -1,6 +1,7 @@
 //! One owner of locks.
 
-ghost use Rattle.std.specs.Prelude.{◌≡◌, ◌≢◌, ◌<◌, ◌≤◌, ◌↔◌, ◌&&◌, ℕ, ◌++◌, ◌∷◌, [], false, length, take, drop, IfSome, IsOk, OnOk, vec_capacity};
+ghost use Rattle.std.specs.Prelude.{◌≡◌, ◌≢◌, ◌<◌, ◌≤◌, ◌↔◌, ◌&&◌, ℕ, ◌++◌, ◌∷◌, [], false, length, take, drop, IfSome};
+ghost use Rattle.std.specs.Prelude.{IsOk, OnOk, vec_capacity};
 ghost use Rattle.std.specs.List.{list_any};
 ghost use Rattle.am_record.specs.Interval.{within};
 ghost use Rattle.am_record.specs.KeyMix.{key_mix};

@@ -1,10 +1,12 @@
 //! The table of locks.
 
-ghost use Rattle.std.specs.Prelude.{◌≡◌, ◌≢◌, ◌<◌, ◌≤◌, ◌↔◌, ◌∷◌, [], false, true, length, take, slice_index_or, slice_set, List, MatchOption};
+ghost use Rattle.std.specs.Prelude.{◌≡◌, ◌≢◌, ◌<◌, ◌≤◌, ◌↔◌, ◌∷◌, [], false, true, length, take, slice_index_or};
+ghost use Rattle.std.specs.Prelude.{slice_set, List, MatchOption};
 ghost use Rattle.std.specs.Option.{option_to_list};
 ghost use Rattle.am_record.specs.Locks.{is_covered, with_lock};
 ghost use Rattle.am_locks.specs.Held.{Held, blocks};
-ghost use Rattle.am_locks.specs.Table.{is_owner, locks_of, entered, with_locks, without, blockers, exclusive_holders, AreAllApart};
+ghost use Rattle.am_locks.specs.Table.{is_owner, locks_of, entered, with_locks, without, blockers, exclusive_holders};
+ghost use Rattle.am_locks.specs.Table.{AreAllApart};
 ghost use Rattle.am_locks.specs.Answers.{IsLeastOf, MatchBusy};
 
 use crate::asked::Asked;
@@ -88,7 +90,8 @@ impl LockTable {
             → (is_covered (locks_of self.old tx) asked ≡ false)
             × (8 ≤ length (locks_of self.old tx)) }
 
-        ensures granted { result ≡ Asked.Granted → self.new ≡ with_locks self.old tx (with_lock (locks_of self.old tx) asked) }
+        ensures granted { result ≡ Asked.Granted → self.new ≡
+            with_locks self.old tx (with_lock (locks_of self.old tx) asked) }
         ensures refused { result ≢ Asked.Granted → self.new ≡ self.old }
     {
         if let Some(holder) = self.least_blocker(tx, &asked) {
@@ -139,7 +142,8 @@ impl LockTable {
     }
 
     fn least_blocker(&self, tx: u64, asked: &Lock) -> Option<u64>
-        ensures { MatchOption result (blockers self.now tx asked.now ≡ []) (IsLeastOf (blockers self.now tx asked.now)) }
+        ensures { MatchOption result (blockers self.now tx asked.now ≡ [])
+            (IsLeastOf (blockers self.now tx asked.now)) }
     {
         let number = number_of(asked);
         self.owners
@@ -152,7 +156,8 @@ impl LockTable {
     fn place_of(&self, tx: u64) -> usize
         requires { is_owner self.now tx ≡ true }
         ensures in_bounds { result < length self.now }
-        ensures held { (d : Held) → slice_index_or self.now result d ≡ record { owner = tx; locks = locks_of self.now tx } }
+        ensures held { (d : Held) → slice_index_or self.now result d ≡
+            record { owner = tx; locks = locks_of self.now tx } }
         ensures write { (locks : List Lock)
             → slice_set self.now result (record { owner = tx; locks = locks }) ≡ with_locks self.now tx locks }
     {

@@ -26,7 +26,8 @@ pub fn clean_step<I: PartIndex + Drop>(
     requires some { 1 ≤ limit }
     requires few { limit ≤ 64 }
     ensures reply { CleanRight parts.old.entries (holder_of locks.now) range limit result }
-    ensures entries { parts.new.entries ≡ all_worked_off (cleaned_by parts.old.entries (holder_of locks.now) range result) parts.old.entries }
+    ensures entries { parts.new.entries ≡ all_worked_off
+        (cleaned_by parts.old.entries (holder_of locks.now) range result) parts.old.entries }
     ensures runs { parts.new.runs ≡ parts.old.runs }
     ensures content { content parts.new.entries ≡ content parts.old.entries }
 {

@@ -11,7 +11,10 @@ ghost use Rattle.am_merge.specs.Holding.{holder_of};
 /// A key's holder by a table of locks is the one owner with an exclusive lock on it, and whoever
 /// names the same owners at every key speaks of the same holders.
 pub fn holders_are_known()
-    ensures one { (table : List Held) (key : OrderedKey) → AreAllApart table → exclusive_holders table key ≡ option_to_list (holder_of table key) }
-    ensures answered { (table : List Held) (key : OrderedKey) (holder : Option ℕ) → exclusive_holders table key ≡ option_to_list holder → holder_of table key ≡ holder }
-    ensures same { (table : List Held) (held : Holders) → ((key : OrderedKey) → holder_of table key ≡ held key) → holder_of table ≡ held }
+    ensures one { (table : List Held) (key : OrderedKey) → AreAllApart table →
+        exclusive_holders table key ≡ option_to_list (holder_of table key) }
+    ensures answered { (table : List Held) (key : OrderedKey) (holder : Option ℕ) →
+        exclusive_holders table key ≡ option_to_list holder → holder_of table key ≡ holder }
+    ensures same { (table : List Held) (held : Holders) → ((key : OrderedKey) → holder_of table key ≡ held key) →
+        holder_of table ≡ held }
 {}

@@ -37,7 +37,8 @@ pub fn merge_step<I: PartIndex + Drop>(
     requires some { 1 ≤ limit }
     requires few { limit ≤ 64 }
     ensures reply { MergeRight parts.old.entries wishes.old (holder_of locks.now) limit result }
-    ensures entries { parts.new.entries ≡ all_worked_off (merged_by parts.old.entries wishes.old result) parts.old.entries }
+    ensures entries { parts.new.entries ≡ all_worked_off
+        (merged_by parts.old.entries wishes.old result) parts.old.entries }
     ensures wishes { wishes.new ≡ wishes_left wishes.old result }
     ensures runs { parts.new.runs ≡ parts.old.runs }
     ensures content { content parts.new.entries ≡ content parts.old.entries }
@@ -73,8 +74,10 @@ fn work_off_run<I: PartIndex + Drop>(
     requires free { holder_of locks.now first.key ≡ None }
     requires sound { IsSound parts.old.entries }
     requires some { 1 ≤ limit }
-    ensures far { IsAsFar parts.old.entries (holder_of locks.now) limit first.part (candidates parts.old.entries range) result }
-    ensures entries { parts.new.entries ≡ all_worked_off (take result (candidates parts.old.entries range)) parts.old.entries }
+    ensures far { IsAsFar parts.old.entries (holder_of locks.now) limit first.part
+        (candidates parts.old.entries range) result }
+    ensures entries { parts.new.entries ≡ all_worked_off
+        (take result (candidates parts.old.entries range)) parts.old.entries }
     ensures runs { parts.new.runs ≡ parts.old.runs }
 {
     let mut next = Some(first);

@@ -29,7 +29,11 @@ impl Model for ChangeLog {
 
     ghost coded = { log_code };
 
-    ghost view = { λ a. record { notes = reverse a.notes.items; marks = reverse a.marks.items; has_room = nat_le (length a.notes.items + 1) (vec_capacity a.notes) } };
+    ghost view = { λ a. record {
+      notes = reverse a.notes.items;
+      marks = reverse a.marks.items;
+      has_room = nat_le (length a.notes.items + 1) (vec_capacity a.notes);
+    } };
 }
 
 impl ChangeLog {

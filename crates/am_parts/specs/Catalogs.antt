@@ -1,5 +1,6 @@
 -- What is known of the runs that have entries left.
-use Rattle.std.specs.Prelude.{◌≡◌, ◌+◌, ◌<◌, ◌≤◌, ◌==◌, ℕ, Bool, true, List, [], ◌∷◌, map, length, take, drop, slice_index_or, None, IsSome, if◌then◌else◌}
+use Rattle.std.specs.Prelude.{◌≡◌, ◌+◌, ◌<◌, ◌≤◌, ◌==◌, ℕ, Bool, true, List, [], ◌∷◌, map, length, take, drop}
+use Rattle.std.specs.Prelude.{slice_index_or, None, IsSome, if◌then◌else◌}
 use Rattle.std.specs.List.{AllByRecursion, list_any}
 use Rattle.am_record.specs.OrderedKey.{OrderedKey}
 use Rattle.am_record.specs.KeyMix.{key_mix}
@@ -55,7 +56,8 @@ Lacks es key from to = (part : ℕ) → from ≤ part → part < to → find es 
 
 -- whatever the entries, the keys of that number have none there
 abbrev pub Passes : Catalog → ℕ → ℕ → ℕ → Type 0
-Passes c number from to = (es : List Entry) (key : OrderedKey) → number ≡ key_mix key → IsCatalog es c → Lacks es key from to
+Passes c number from to = (es : List Entry) (key : OrderedKey) → number ≡ key_mix key → IsCatalog es c →
+    Lacks es key from to
 
 -- the run at the index is that of the partition
 pub record IsRunAt (runs : List OpenRun) (part : ℕ) (i : ℕ) : Type 0 where

@@ -1,5 +1,6 @@
 -- What is seen of the partitions of an index, where a key lives in them, and what their changes do to the content.
-use Rattle.std.specs.Prelude.{◌≡◌, ◌≤◌, ◌<◌, ◌^◌, ℕ, List, Bool, true, false, Option, Some, None, IsSome, is_some, refl, if◌then◌else◌}
+use Rattle.std.specs.Prelude.{◌≡◌, ◌≤◌, ◌<◌, ◌^◌, ℕ, List, Bool, true, false, Option, Some, None, IsSome, is_some, refl}
+use Rattle.std.specs.Prelude.{if◌then◌else◌}
 use Rattle.std.specs.List.{AllByRecursion}
 use Rattle.std.specs.Coded.{Coded, code_by, coded×, coded_ℕ}
 use Rattle.std.specs.FinMap.{get, insert, remove}
@@ -19,7 +20,8 @@ pub record Partitions : Type 0 where
 
 abbrev pub partitions_code : Coded Partitions
 partitions_code =
-    code_by (List Entry × ℕ) (coded× entries_code coded_ℕ) (λ p. (p.entries, p.runs)) (λ p. record { entries = p.0; runs = p.1 }) (λ _. refl)
+    code_by (List Entry × ℕ) (coded× entries_code coded_ℕ) (λ p. (p.entries, p.runs))
+    (λ p. record { entries = p.0; runs = p.1 }) (λ _. refl)
 
 -- the entries rise, no key is live in two partitions, and the numbers of partitions are u32s
 pub record IsSound (es : List Entry) : Type 0 where
@@ -66,7 +68,8 @@ content_without es part key = if is_some (live_value (find es part key)) then re
 
 -- the content with that value and mark at that partition and key
 abbrev pub content_marked : List Entry → ℕ → OrderedKey → List ℕ → Bool → PlainMap
-content_marked es part key value is_ghost = if is_ghost then content_without es part key else insert (content es) key value
+content_marked es part key value is_ghost = if is_ghost then content_without es part key else insert
+    (content es) key value
 
 -- what a new record of the key meets: the key is live; else a ghost of it may stand in the final partition, or nothing
 abbrev pub IsVacancy : List Entry → OrderedKey → Vacancy → Type 0
@@ -81,7 +84,8 @@ vacancy_over (Some s) = Ghost s.0
 
 -- the list in which the live entry of a run stands in the final partition too, in place of any ghost there
 abbrev pub settled : Entry → List Entry → List Entry
-settled e es = if is_some (find es 0 e.key) then set_entry es 0 e.key e.value false else insert_entry es (record e { part = 0; is_ghost = false })
+settled e es = if is_some (find es 0 e.key) then set_entry es 0 e.key e.value false else insert_entry es
+    (record e { part = 0; is_ghost = false })
 
 -- the list in which it has moved there
 abbrev pub brought_home : Entry → List Entry → List Entry

@@ -1,6 +1,7 @@
 //! What is known of the partitions without a look into the index.
 
-ghost use Rattle.std.specs.Prelude.{ℕ, ◌≡◌, ◌<◌, ◌≤◌, ◌++◌, [], List, length, take, drop, slice_index_or, false, IsSome, IfSome, IfNone, IfOk, IfErr, OnOk, OnErr, vec_len, vec_capacity};
+ghost use Rattle.std.specs.Prelude.{ℕ, ◌≡◌, ◌<◌, ◌≤◌, ◌++◌, [], List, length, take, drop, slice_index_or, false};
+ghost use Rattle.std.specs.Prelude.{IsSome, IfSome, IfNone, IfOk, IfErr, OnOk, OnErr, vec_len, vec_capacity};
 ghost use Rattle.std.specs.List.{AllByRecursion};
 ghost use Rattle.am_record.specs.KeyMix.{key_mix};
 ghost use Rattle.am_record.specs.OrderedKey.{OrderedKey};
@@ -57,8 +58,8 @@ impl OpenRun {
     }
 }
 
-/// How many entries stand in the final partition, and the runs that have entries left, with filters over all of them. A run that is
-/// not among them has none.
+/// How many entries stand in the final partition, and the runs that have entries left, with filters over all of them. A
+/// run that is not among them has none.
 #[derive(Drop)]
 pub(crate) struct Catalog {
     in_final: u64,
@@ -131,7 +132,8 @@ impl Catalog {
         requires before { AllByRecursion (λ g. g.end ≤ from) (take at self.now.generations.list.items) }
         ensures further { IfSome result (λ part. from ≤ part) }
         ensures passed { IfSome result (λ part. Passes self.now number from part) }
-        ensures none { IfNone result ((d : Generation) → Passes self.now number from (slice_index_or self.now.generations.list.items at d).end) }
+        ensures none { IfNone result ((d : Generation) →
+            Passes self.now number from (slice_index_or self.now.generations.list.items at d).end) }
     {
         let generation = &self.generations.list()[at];
         if generation.end <= from || !generation.may_have(number) {
@@ -166,7 +168,8 @@ impl Catalog {
     /// NoMemory, where memory was refused; it is the same entries' as before.
     pub(crate) fn add(&mut self, part: u32, key: Key) -> Result<(), NoMemory>
         requires { PartsRise (parts_of self.old.runs.items) }
-        ensures ok { OnOk result ((es : List Entry) (x : Entry) → x.part ≡ part → x.key ≡ key → IsCatalog es self.old → IsCatalog (insert_entry es x) self.new) }
+        ensures ok { OnOk result ((es : List Entry) (x : Entry) → x.part ≡ part → x.key ≡ key → IsCatalog es self.old →
+            IsCatalog (insert_entry es x) self.new) }
         ensures err { OnErr result ((es : List Entry) → IsCatalog es self.old → IsCatalog es self.new) }
     {
         if part == 0 {
@@ -181,7 +184,8 @@ impl Catalog {
     fn add_to_run(&mut self, part: u32, key: Key) -> Result<(), NoMemory>
         requires is_run { 0 < part }
         requires rising { PartsRise (parts_of self.old.runs.items) }
-        ensures ok { OnOk result ((es : List Entry) (x : Entry) → x.part ≡ part → x.key ≡ key → AreCounted es self.old → AreCounted (insert_entry es x) self.new) }
+        ensures ok { OnOk result ((es : List Entry) (x : Entry) → x.part ≡ part → x.key ≡ key →
+            AreCounted es self.old → AreCounted (insert_entry es x) self.new) }
         ensures err { OnErr result ((es : List Entry) → AreCounted es self.old → AreCounted es self.new) }
         ensures generations { self.new.generations ≡ self.old.generations }
     {
@@ -195,7 +199,8 @@ impl Catalog {
     fn open(&mut self, at: usize, part: u32, key: Key) -> Result<(), NoMemory>
         requires is_run { 0 < part }
         requires gap { IsGapAt self.old.runs.items part at }
-        ensures ok { OnOk result ((es : List Entry) (x : Entry) → x.part ≡ part → x.key ≡ key → AreCounted es self.old → AreCounted (insert_entry es x) self.new) }
+        ensures ok { OnOk result ((es : List Entry) (x : Entry) → x.part ≡ part → x.key ≡ key →
+            AreCounted es self.old → AreCounted (insert_entry es x) self.new) }
         ensures err { OnErr result ((es : List Entry) → AreCounted es self.old → AreCounted es self.new) }
         ensures generations { self.new.generations ≡ self.old.generations }
     {
@@ -213,7 +218,8 @@ impl Catalog {
     /// Counts an entry of the partition as gone. A run without entries leaves. Takes no memory.
     pub(crate) fn take(&mut self, part: u32)
         requires { HasCounted self.old part }
-        ensures { (es : List Entry) (key : OrderedKey) → IsCatalog es self.old → IsSome (find es part key) → IsCatalog (remove_entry es part key) self.new }
+        ensures { (es : List Entry) (key : OrderedKey) → IsCatalog es self.old → IsSome (find es part key) →
+            IsCatalog (remove_entry es part key) self.new }
     {
         if part == 0 {
             self.in_final -= 1;
@@ -228,7 +234,8 @@ impl Catalog {
     fn take_from_run(&mut self, part: u32) -> bool
         requires is_run { 0 < part }
         requires counted { HasCounted self.old part }
-        ensures listed { (es : List Entry) (key : OrderedKey) → AreCounted es self.old → IsSome (find es part key) → AreCounted (remove_entry es part key) self.new }
+        ensures listed { (es : List Entry) (key : OrderedKey) → AreCounted es self.old → IsSome (find es part key) →
+            AreCounted (remove_entry es part key) self.new }
         ensures generations { self.new.generations ≡ self.old.generations }
     {
         let Ok(at) = search(&self.runs, part) else {
@@ -269,7 +276,8 @@ impl Catalog {
         ensures run { IfOk result (IsRunOf part pairs.now) }
         ensures room { OnOk result (vec_len self.new.runs < vec_capacity self.new.runs) }
         ensures reached { OnOk result (IsReached self.new.generations.list.items part) }
-        ensures same { (es : List Entry) → AllByRecursion (λ e. e.part < part) es → IsCatalog es self.old → IsCatalog es self.new }
+        ensures same { (es : List Entry) → AllByRecursion (λ e. e.part < part) es → IsCatalog es self.old →
+            IsCatalog es self.new }
     {
         self.runs.reserve(1)?;
         let run = OpenRun::of(self.alloc, part, pairs)?;
@@ -291,7 +299,8 @@ impl Catalog {
     pub(crate) fn push(&mut self, run: OpenRun, pairs: &[(Key, Value)])
         requires room { vec_len self.old.runs < vec_capacity self.old.runs }
         requires reached { IsReached self.old.generations.list.items run.part }
-        ensures { (es : List Entry) (part : ℕ) → IsCatalog es self.old → IsNext es part pairs.now → IsRunOf part pairs.now run → IsCatalog (es ++ run_entries part pairs.now) self.new }
+        ensures { (es : List Entry) (part : ℕ) → IsCatalog es self.old → IsNext es part pairs.now →
+            IsRunOf part pairs.now run → IsCatalog (es ++ run_entries part pairs.now) self.new }
     {
         self.generations.push(run.part, pairs);
         let Ok(()) = self.runs.push(run) else {

@@ -111,7 +111,8 @@ impl Generations {
     /// # Errors
     /// NoMemory, where memory was refused.
     pub(crate) fn add(&mut self, part: u32, key: Key) -> Result<(), NoMemory>
-        ensures ok { OnOk result ((es : List Entry) (x : Entry) → x.part ≡ part → x.key ≡ key → AreHeld es self.old.list.items → AreHeld (insert_entry es x) self.new.list.items) }
+        ensures ok { OnOk result ((es : List Entry) (x : Entry) → x.part ≡ part → x.key ≡ key →
+            AreHeld es self.old.list.items → AreHeld (insert_entry es x) self.new.list.items) }
         ensures kept { (es : List Entry) → AreHeld es self.old.list.items → AreHeld es self.new.list.items }
     {
         let at = self.place(part);
@@ -125,14 +126,15 @@ impl Generations {
         Ok(())
     }
 
-    /// Sees to it that there is a generation for a run behind all others, which has so many keys. How many entries are left in the runs
-    /// is told so that a new one isn't made larger than they ask for.
+    /// Sees to it that there is a generation for a run behind all others, which has so many keys. How many entries are
+    /// left in the runs is told so that a new one isn't made larger than they ask for.
     ///
     /// # Errors
     /// NoMemory, where memory was refused.
     pub(crate) fn make_room(&mut self, part: u32, keys: usize, left: usize) -> Result<(), NoMemory>
         ensures reached { OnOk result (IsReached self.new.list.items part) }
-        ensures kept { (es : List Entry) → AllByRecursion (λ e. e.part < part) es → AreHeld es self.old.list.items → AreHeld es self.new.list.items }
+        ensures kept { (es : List Entry) → AllByRecursion (λ e. e.part < part) es → AreHeld es self.old.list.items →
+            AreHeld es self.new.list.items }
     {
         if self.has_room(keys) {
             return Ok(());
@@ -163,7 +165,8 @@ impl Generations {
 
     // Ends the newest one below a partition that is above all entries.
     fn close(&mut self, part: u32)
-        ensures { (es : List Entry) → AllByRecursion (λ e. e.part < part) es → AreHeld es self.old.list.items → AreHeld es self.new.list.items }
+        ensures { (es : List Entry) → AllByRecursion (λ e. e.part < part) es → AreHeld es self.old.list.items →
+            AreHeld es self.new.list.items }
     {
         let count = self.list.len();
         if count > 0 {
@@ -174,7 +177,8 @@ impl Generations {
     /// Puts the keys of a run behind all others into its generation. Takes no memory.
     pub(crate) fn push(&mut self, part: u32, pairs: &[(Key, Value)])
         requires { IsReached self.old.list.items part }
-        ensures { (es : List Entry) → AreHeld es self.old.list.items → AreHeld (es ++ run_entries part pairs.now) self.new.list.items }
+        ensures { (es : List Entry) → AreHeld es self.old.list.items →
+            AreHeld (es ++ run_entries part pairs.now) self.new.list.items }
     {
         let at = self.place(part);
         self.list[at].add_all(pairs);
@@ -204,7 +208,8 @@ impl Generations {
     /// Lets go a generation none of whose runs is left.
     pub(crate) fn remove(&mut self, at: usize)
         requires { at < length self.old.list.items }
-        ensures { (es : List Entry) → AllByRecursion (λ e. 0 < e.part → ¬ IsGenerationAt self.old.list.items e.part at) es → AreHeld es self.old.list.items → AreHeld es self.new.list.items }
+        ensures { (es : List Entry) → AllByRecursion (λ e. 0 < e.part → ¬ IsGenerationAt self.old.list.items e.part at)
+            es → AreHeld es self.old.list.items → AreHeld es self.new.list.items }
     {
         let _ = self.list.remove(at);
     }

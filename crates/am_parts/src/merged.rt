@@ -48,8 +48,8 @@ impl MergedRange {
 
 /// The ranges that were merged last, in the order of their coming.
 ///
-/// A run that was merged in a range never gets an entry there again, unless one is added to it by hand. So a look for the
-/// entries of such a range begins behind it.
+/// A run that was merged in a range never gets an entry there again, unless one is added to it by hand. So a look for
+/// the entries of such a range begins behind it.
 #[derive(Drop)]
 pub(crate) struct MergedRanges {
     list: Vec<MergedRange>,
@@ -68,7 +68,8 @@ impl MergedRanges {
     /// The first run that may have an entry in the range.
     pub(crate) fn first_run(&self, range: &Range) -> u32
         ensures is_run { 0 < result }
-        ensures none_before { (es : List Entry) (runs : ℕ) → AreMerged es runs self.now.list.items → HasNoneBefore es range.now result }
+        ensures none_before { (es : List Entry) (runs : ℕ) → AreMerged es runs self.now.list.items →
+            HasNoneBefore es range.now result }
     {
         let mut first = 1;
         for merged in &self.list {
@@ -91,8 +92,8 @@ impl MergedRanges {
         Ok(())
     }
 
-    /// Puts down a range as merged in all runs before that one, where there is room. Ranges that meet become one, and the
-    /// one that came first goes where there are too many. Takes no memory.
+    /// Puts down a range as merged in all runs before that one, where there is room. Ranges that meet become one, and
+    /// the one that came first goes where there are too many. Takes no memory.
     pub(crate) fn note(&mut self, range: Range, first_run: u32)
         ensures { SayNoMore (record { range = range; first_run = first_run } ∷ self.old.list.items) self.new.list.items }
     {
@@ -134,7 +135,8 @@ impl MergedRanges {
 
 // The keys of both ranges, where they meet.
 fn union(a: Range, b: Range) -> Option<Range>
-    ensures { IfSome result (λ both. (key : OrderedKey) → within both key ≡ true → (within a key || within b key) ≡ true) }
+    ensures { IfSome result (λ both. (key : OrderedKey) → within both key ≡ true →
+        (within a key || within b key) ≡ true) }
 {
     if !a.meets(&b) {
         return None;

@@ -1,10 +1,12 @@
 //! The partitions of an index, and the changes that keep each key live in at most one of them.
 
-ghost use Rattle.std.specs.Prelude.{◌≡◌, ◌≢◌, ◌+◌, ◌<◌, ◌≤◌, ◌++◌, [], length, take, true, false, Some, None, IsSome, is_some, IfSome, IfNone, OnOk, OnErr};
+ghost use Rattle.std.specs.Prelude.{◌≡◌, ◌≢◌, ◌+◌, ◌<◌, ◌≤◌, ◌++◌, [], length, take, true, false, Some, None, IsSome};
+ghost use Rattle.std.specs.Prelude.{is_some, IfSome, IfNone, OnOk, OnErr};
 ghost use Rattle.std.specs.List.{AllByRecursion};
 ghost use Rattle.std.specs.FinMap.{get};
 ghost use Rattle.am_record.specs.Plain.{insert_all, is_rising};
-ghost use Rattle.am_list.specs.Entries.{find, slot_of, next_any, next_ghost, next_from, after, all_from, all_after, entry_at, insert_entry, set_entry, remove_entry, IsRising};
+ghost use Rattle.am_list.specs.Entries.{find, slot_of, next_any, next_ghost, next_from, after, all_from, all_after};
+ghost use Rattle.am_list.specs.Entries.{entry_at, insert_entry, set_entry, remove_entry, IsRising};
 ghost use Rattle.am_list.specs.Runs.{run_entries};
 ghost use Rattle.am_list.specs.Content.{content, rows_in, live_value, HasContent};
 ghost use Rattle.am_parts.specs.Catalogs.{IsCatalog};
@@ -51,11 +53,14 @@ impl<I: PartIndex + Drop> Model for Parts<I> {
 
     ghost view = { λ p. record { entries = I.entries p.index; runs = p.runs } };
 
-    ghost invariant = { λ p. IsSound (I.entries p.index) × (p.runs ≤ 65535) × IsCatalog (I.entries p.index) p.catalog × AreMerged (I.entries p.index) p.runs p.merged.list.items };
+    ghost invariant = { λ p. IsSound (I.entries p.index) × (p.runs ≤ 65535) × IsCatalog (I.entries p.index) p.catalog ×
+        AreMerged (I.entries p.index) p.runs p.merged.list.items };
 }
 
 impl<I: PartIndex + Drop> Parts<I> {
-    ghost use Rattle.am_parts.specs.Partitions.{IsSound, AreEmpty, AreEmptyFrom, LivesIn, LivesInNoRun, LivesNowhereElse, IsLiveEntry, IsVacancy, content_with, content_without, content_marked, brought_home};
+    ghost use Rattle.am_parts.specs.Partitions.{IsSound, AreEmpty, AreEmptyFrom, LivesIn, LivesInNoRun};
+    ghost use Rattle.am_parts.specs.Partitions.{LivesNowhereElse, IsLiveEntry, IsVacancy, content_with};
+    ghost use Rattle.am_parts.specs.Partitions.{content_without, content_marked, brought_home};
 
     /// The partitions of an empty index.
     pub fn new(alloc: Global, index: I) -> Parts<I>
@@ -80,8 +85,8 @@ impl<I: PartIndex + Drop> Parts<I> {
         self.runs
     }
 
-    /// The value that stands under a partition and key, and whether it is a ghost. Where the final partition is empty, it
-    /// isn't searched.
+    /// The value that stands under a partition and key, and whether it is a ghost. Where the final partition is empty,
+    /// it isn't searched.
     pub fn find(&self, part: u32, key: Key) -> Option<(Value, bool)>
         ensures found { result ≡ find self.now.entries part key }
         ensures sound { IsSound self.now.entries }
@@ -139,7 +144,8 @@ impl<I: PartIndex + Drop> Parts<I> {
         rows: &mut Vec<(Key, Value)>,
     ) -> Result<(), NoMemory>
         requires { length rows.old.items ≤ max }
-        ensures copied { OnOk result (rows.new.items ≡ take max (rows.old.items ++ rows_in self.now.entries part range)) }
+        ensures copied { OnOk result (rows.new.items ≡ take max
+            (rows.old.items ++ rows_in self.now.entries part range)) }
         ensures sound { IsSound self.now.entries }
     {
         self.index.copy_rows(part, range, max, rows)
@@ -300,8 +306,8 @@ impl<I: PartIndex + Drop> Parts<I> {
         self.merged.first_run(&range)
     }
 
-    /// Puts a range down as merged. The caller sees to it that no run made so far has an entry with a key in it. What is
-    /// known of other ranges may be let go. Takes no memory.
+    /// Puts a range down as merged. The caller sees to it that no run made so far has an entry with a key in it. What
+    /// is known of other ranges may be let go. Takes no memory.
     pub fn note_merged(&mut self, range: Range)
         requires { HasNoneBefore self.old.entries range (self.old.runs + 1) }
         ensures entries { self.new.entries ≡ self.old.entries }
@@ -330,7 +336,8 @@ impl<I: PartIndex + Drop> Parts<I> {
         requires above { AllByRecursion (λ e. e.part ≤ self.old.runs) self.old.entries }
         requires rising { is_rising pairs.now ≡ true }
         requires dead { AllByRecursion (λ r. get (content self.old.entries) r.0 ≡ None) pairs.now }
-        ensures entries { OnOk result (self.new.entries ≡ self.old.entries ++ run_entries (self.old.runs + 1) pairs.now) }
+        ensures entries { OnOk result (self.new.entries ≡ self.old.entries ++
+            run_entries (self.old.runs + 1) pairs.now) }
         ensures content { OnOk result (HasContent self.new.entries (insert_all pairs.now (content self.old.entries))) }
         ensures runs { OnOk result (self.new.runs ≡ self.old.runs + 1) }
         ensures err { OnErr result (self.new ≡ self.old) }
@@ -413,7 +420,8 @@ fn vacancy_over(slot: &Option<(Value, bool)>) -> Vacancy
 
 // The entry of what stands live at a place.
 fn live_at(part: u32, key: Key, slot: Option<(Value, bool)>) -> Option<Entry>
-    ensures live { IfSome result (λ e. (slot ≡ Some (e.value, false)) × (e.part ≡ part) × (e.key ≡ key) × (e.is_ghost ≡ false)) }
+    ensures live { IfSome result (λ e. (slot ≡ Some (e.value, false)) × (e.part ≡ part) × (e.key ≡ key) ×
+        (e.is_ghost ≡ false)) }
     ensures none { IfNone result (is_some (live_value slot) ≡ false) }
 {
     let (value, is_ghost) = slot?;

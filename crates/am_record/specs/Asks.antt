@@ -8,7 +8,8 @@ use Rattle.am_record.specs.Locks.{is_exclusive, conflicts, with_lock}
 use Rattle.am_record.specs.declared.lock.Mode.TheVariants.{Shared, Exclusive}
 use Rattle.am_record.specs.declared.lock.Lock.{Lock}
 use Rattle.am_record.specs.declared.step.Op.{Op}
-use Rattle.am_record.specs.declared.step.Op.TheVariants.{Get, Scan, Insert, Replace, Delete, Load, Lock as TakeLock, Mark, Back}
+use Rattle.am_record.specs.declared.step.Op.TheVariants.{Get, Scan, Insert, Replace, Delete, Load, Lock as TakeLock}
+use Rattle.am_record.specs.declared.step.Op.TheVariants.{Mark, Back}
 
 abbrev pub last_key : OrderedKey → Records → OrderedKey
 last_key k [] = k

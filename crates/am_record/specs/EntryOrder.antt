@@ -35,7 +35,8 @@ pub place_cmp-part : (a b : Place) → place_cmp a b ≢ Greater → a.0 ≤ b.0
 unfolding place_cmp
 place_cmp-part a b h = first_le a.0 b.0 (nat_cmp a.0 b.0) (key_cmp a.1 b.1) (ranks a.0 b.0) h
 
-both_equal : (x y : ℕ) (r s : Ordering) → MatchOrdering r (x < y) (x ≡ y) (y < x) → ordering_then r s ≡ Equal → (x ≡ y) × (s ≡ Equal)
+both_equal : (x y : ℕ) (r s : Ordering) → MatchOrdering r (x < y) (x ≡ y) (y < x) → ordering_then r s ≡ Equal →
+    (x ≡ y) × (s ≡ Equal)
 both_equal x y Less s m e = cc
 both_equal x y Equal s m e = (m, e)
 both_equal x y Greater s m e = cc
@@ -43,7 +44,8 @@ both_equal x y Greater s m e = cc
 -- places that compare as equal have one partition and one key
 pub place_cmp-equal : (a b : Place) → place_cmp a b ≡ Equal → (a.0 ≡ b.0) × (a.1 ≡ b.1)
 unfolding place_cmp
-place_cmp-equal a b e = let both = both_equal a.0 b.0 (nat_cmp a.0 b.0) (key_cmp a.1 b.1) (ranks a.0 b.0) e in (both.0, key_cmp-exact a.1 b.1 both.1)
+place_cmp-equal a b e = let both = both_equal a.0 b.0 (nat_cmp a.0 b.0) (key_cmp a.1 b.1) (ranks a.0 b.0) e in
+    (both.0, key_cmp-exact a.1 b.1 both.1)
 
 -- places that compare as equal are one place
 pub place_cmp-exact : IsAntisymmetric place_cmp

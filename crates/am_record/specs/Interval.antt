@@ -35,7 +35,8 @@ abbrev pub point : OrderedKey → Interval
 point k = record { lo = k; hi = k }
 
 abbrev pub interval_code : Coded Interval
-interval_code = code_by (OrderedKey × OrderedKey) (coded× key_code key_code) (λ r. (r.lo, r.hi)) (λ p. record { lo = p.0; hi = p.1 }) (λ _. refl)
+interval_code = code_by (OrderedKey × OrderedKey) (coded× key_code key_code) (λ r. (r.lo, r.hi))
+    (λ p. record { lo = p.0; hi = p.1 }) (λ _. refl)
 
 pub key_le-itself : (k : OrderedKey) → key_le k k ≡ true
 key_le-itself k = ap is_le (key_cmp-itself k)

@@ -1,5 +1,5 @@
--- What a key is to every specification: a value of one totally ordered type. What the type is stands in this file alone,
--- and no other file can see it: a proof elsewhere has the laws below and nothing else.
+-- What a key is to every specification: a value of one totally ordered type. What the type is stands in this file
+-- alone, and no other file can see it: a proof elsewhere has the laws below and nothing else.
 --     OrderedKey, key_cmp      the type and its order;  key_cmp-total, key_cmp-exact      it is total, and only equal keys tie
 --     key_least                no key is below it
 --     key_of, bytes_of         to and from the bytes that a key is made of, for the key's own module and for the texts of keys
@@ -33,8 +33,8 @@ pub key_least : OrderedKey
 unfolding OrderedKey
 key_least = []
 
--- the key of a number: its eight bytes, the highest first. It is unfoldable, since a proof about keys of numbers that are
--- written out would else carry all their bytes
+-- the key of a number: its eight bytes, the highest first. It is unfoldable, since a proof about keys of numbers that
+-- are written out would else carry all their bytes
 unfoldable pub number_key : ℕ → OrderedKey
 number_key n = key_of (to_be_bytes w64 n)
 

@@ -9,5 +9,6 @@ pub record IsPadded (room : ℕ) (bytes : List ℕ) (len : ℕ) : Type 0 where
   pub padded : bytes ≡ take len bytes ++ replicate (room - len) 0
 
 -- such bytes are known by their first ones
-pub padded_back : (room : ℕ) (bytes : List ℕ) (len : ℕ) → IsPadded room bytes len → take len bytes ++ replicate (room - length (take len bytes)) 0 ≡ bytes
+pub padded_back : (room : ℕ) (bytes : List ℕ) (len : ℕ) → IsPadded room bytes len →
+    take len bytes ++ replicate (room - length (take len bytes)) 0 ≡ bytes
 padded_back room bytes len h = ap (λ n. take len bytes ++ replicate (room - n) 0) h.within ∙ sym h.padded

@@ -23,4 +23,5 @@ abbrev pub same_records : Records → Records → Bool
 same_records = pointwise same_record
 
 pub same_records-equiv : IsEquivalence same_records
-same_records-equiv = lists_equiv (and_equiv (on_equiv (λ (r : OrderedKey × List ℕ). r.0) (eq_by_cmp_equiv key_cmp-total)) (on_equiv (λ (r : OrderedKey × List ℕ). r.1) nat_list_eq_equiv))
+same_records-equiv = lists_equiv (and_equiv (on_equiv (λ (r : OrderedKey × List ℕ). r.0)
+    (eq_by_cmp_equiv key_cmp-total)) (on_equiv (λ (r : OrderedKey × List ℕ). r.1) nat_list_eq_equiv))

@@ -6,7 +6,8 @@ use Rattle.am_record.specs.declared.lock.Lock.{Lock}
 use Rattle.am_record.specs.declared.step.Op.{Op}
 use Rattle.am_record.specs.declared.step.Op.TheVariants.{Scan, Load}
 use Rattle.am_record.specs.declared.step.Refusal.{Refusal}
-use Rattle.am_record.specs.declared.step.Refusal.TheVariants.{NoSuchTx, Busy, TooManyLocks, TooManyOps, TooManyRuns, NotRising, BadLimit}
+use Rattle.am_record.specs.declared.step.Refusal.TheVariants.{NoSuchTx, Busy, TooManyLocks, TooManyOps, TooManyRuns}
+use Rattle.am_record.specs.declared.step.Refusal.TheVariants.{NotRising, BadLimit}
 
 -- whether a scan's number of rows is within its limits
 abbrev pub is_bounded : Op → Bool

@@ -40,8 +40,8 @@ impl Op {
         matches!(self, Op::Load(_))
     }
 
-    /// The refusal that is due before the lock is asked for: by whether the transaction is active, how many operations it
-    /// was answered, and how many runs were made.
+    /// The refusal that is due before the lock is asked for: by whether the transaction is active, how many operations
+    /// it was answered, and how many runs were made.
     pub fn refusal(&self, is_active: bool, ops: u64, runs: u32) -> Option<Refusal>
         ensures { result ≡ refusal_before_lock is_active ops runs self.now }
     {

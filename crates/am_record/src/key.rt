@@ -11,8 +11,8 @@ use std::cmp::Ordering;
 use std::hash::{Hash, Hasher};
 use std::marker::Model;
 
-/// The key of a record: at most 32 bytes, compared byte by byte, a beginning of a string before the string. The bytes past
-/// its length are zero.
+/// The key of a record: at most 32 bytes, compared byte by byte, a beginning of a string before the string. The bytes
+/// past its length are zero.
 #[derive(Clone, Copy, Debug)]
 pub struct Key {
     bytes: [u8; 32],
@@ -77,8 +77,8 @@ impl Key {
         &self.bytes[..self.len as usize]
     }
 
-    /// The first eight bytes as a number, the first of them the highest, with zeros behind a shorter key. Where it is below
-    /// another key's, so is the key (`fronts_follow_keys`); where they are equal, it says nothing.
+    /// The first eight bytes as a number, the first of them the highest, with zeros behind a shorter key. Where it is
+    /// below another key's, so is the key (`fronts_follow_keys`); where they are equal, it says nothing.
     pub fn front(&self) -> u64
         ensures { result ≡ key_front self.now }
     {
@@ -86,7 +86,8 @@ impl Key {
     }
 
     /// A number that looks drawn at random, the same for equal keys. The key's words are mixed in one after another by
-    /// SplitMix64's multiplier (Steele, Lea and Flood, 2014). It has no secret: keys can be chosen that meet in a number.
+    /// SplitMix64's multiplier (Steele, Lea and Flood, 2014). It has no secret: keys can be chosen that meet in a
+    /// number.
     pub fn mixed(&self) -> u64
         ensures { result ≡ key_mix self.now }
     {

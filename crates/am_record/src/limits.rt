@@ -1,4 +1,5 @@
-//! The limits of the store, each in one place. Definitions have them as numbers, so another limit in the code is refused.
+//! The limits of the store, each in one place. Definitions have them as numbers, so another limit in the code is
+//! refused.
 
 /// The most bytes that a key may have.
 pub const MAX_KEY_LEN: usize = 32;

@@ -26,7 +26,8 @@ pub record NothingAbove (part : ℕ) (es : List Entry) : Type 0 where
 
 -- the reply that is due, where memory is ample
 abbrev pub load_due : Partitions → Records → Reply
-load_due parts pairs = if parts.runs == 65535 then Refused TooManyRuns else exists_or_done (least_taken pairs (content parts.entries))
+load_due parts pairs = if parts.runs == 65535 then Refused TooManyRuns else exists_or_done
+    (least_taken pairs (content parts.entries))
 
 -- the reply is the one that is due, or memory was refused where Done is due
 abbrev pub IsAnswer : Reply → Reply → Type 0
@@ -41,8 +42,12 @@ pub record IsLoaded (before : Partitions) (pairs : Records) (after : Partitions)
 -- where the records of a run stand, and where nothing stands
 pub record LoadLaws (es : List Entry) : Type 0 where
   -- a run changes no other partition, and in its own no other key
-  pub other_parts : (run : ℕ) (pairs : Records) (part : ℕ) (key : OrderedKey) → (part == run) ≡ false → find (with_run run pairs es) part key ≡ find es part key
-  pub other_keys : (run : ℕ) (pairs : Records) (key : OrderedKey) → is_key_of pairs key ≡ false → find (with_run run pairs es) run key ≡ find es run key
+  pub other_parts : (run : ℕ) (pairs : Records) (part : ℕ) (key : OrderedKey) → (part == run) ≡ false →
+      find (with_run run pairs es) part key ≡ find es part key
+  pub other_keys : (run : ℕ) (pairs : Records) (key : OrderedKey) → is_key_of pairs key ≡ false →
+      find (with_run run pairs es) run key ≡ find es run key
   -- nothing stands above a partition exactly where nothing is found above it
-  pub none_above : (part : ℕ) → NothingAbove part es → (part' : ℕ) (key : OrderedKey) → part < part' → find es part' key ≡ None
-  pub nothing_above : (part : ℕ) → ((part' : ℕ) (key : OrderedKey) → part < part' → find es part' key ≡ None) → NothingAbove part es
+  pub none_above : (part : ℕ) → NothingAbove part es → (part' : ℕ) (key : OrderedKey) → part < part' →
+      find es part' key ≡ None
+  pub nothing_above : (part : ℕ) → ((part' : ℕ) (key : OrderedKey) → part < part' → find es part' key ≡ None) →
+      NothingAbove part es

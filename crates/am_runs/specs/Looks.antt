@@ -16,7 +16,8 @@ pub record NoneLiveIn (es : List Entry) (part : ℕ) (pairs : Records) : Type 0 
 pub record IsLeastLiveIn (es : List Entry) (part : ℕ) (pairs : Records) (key : OrderedKey) : Type 0 where
   pub is_key : is_key_of pairs key ≡ true
   pub lives : LivesIn es part key
-  pub least : (other : OrderedKey) (value : List ℕ) → is_key_of pairs other ≡ true → IsLiveAt es part other value → key_le key other ≡ true
+  pub least : (other : OrderedKey) (value : List ℕ) → is_key_of pairs other ≡ true → IsLiveAt es part other value →
+      key_le key other ≡ true
 
 -- no key of the records is live in a run
 pub record NoneInRuns (es : List Entry) (pairs : Records) : Type 0 where
@@ -27,4 +28,5 @@ pub record IsLeastInRuns (es : List Entry) (pairs : Records) (key : OrderedKey) 
   pub is_key : is_key_of pairs key ≡ true
   pub part : ℕ
   pub lives : LivesIn es part key
-  pub least : (other : OrderedKey) → is_key_of pairs other ≡ true → is_lt (key_cmp other key) ≡ true → LivesInNoRun es other
+  pub least : (other : OrderedKey) → is_key_of pairs other ≡ true → is_lt (key_cmp other key) ≡ true →
+      LivesInNoRun es other

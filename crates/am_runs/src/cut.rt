@@ -2,7 +2,8 @@
 
 ghost use Rattle.std.specs.Prelude.{◌≡◌, ◌++◌, ℕ, true, map, IfOk, IfErr};
 ghost use Rattle.am_record.specs.KeyFront.{key_front};
-ghost use Rattle.am_runs.specs.Cuts.{keys_of, records_of, AreRunsOf, IsCut, IsCutFault, IsPieceFault, IsTwiceFault, IsRunSize, NoneTwice};
+ghost use Rattle.am_runs.specs.Cuts.{keys_of, records_of, AreRunsOf, IsCut, IsCutFault, IsPieceFault, IsTwiceFault};
+ghost use Rattle.am_runs.specs.Cuts.{IsRunSize, NoneTwice};
 
 use crate::fault::LoadFault;
 use crate::run::Run;

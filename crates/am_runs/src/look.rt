@@ -64,7 +64,8 @@ fn least_in_final<I: PartIndex + Drop>(
     pairs: &[(Key, Value)],
 ) -> Option<Key>
     requires { is_sorted key_cmp pairs.now ≡ true }
-    ensures found { MatchOption result (NoneLiveIn parts.now.entries 0 pairs.now) (IsLeastLiveIn parts.now.entries 0 pairs.now) }
+    ensures found { MatchOption result (NoneLiveIn parts.now.entries 0 pairs.now)
+        (IsLeastLiveIn parts.now.entries 0 pairs.now) }
     ensures sound { IsSound parts.now.entries }
 {
     // Read here, the entries are known to be sound.
@@ -98,7 +99,8 @@ fn least_live_in<I: PartIndex + Drop>(
     requires sound { IsSound parts.now.entries }
     requires sorted { is_sorted key_cmp pairs.now ≡ true }
     requires first { IfSome (first_key pairs.now) (λ low. next_from parts.now.entries first.part low ≡ Some first) }
-    ensures { MatchOption result (NoneLiveIn parts.now.entries first.part pairs.now) (IsLeastLiveIn parts.now.entries first.part pairs.now) }
+    ensures { MatchOption result (NoneLiveIn parts.now.entries first.part pairs.now)
+        (IsLeastLiveIn parts.now.entries first.part pairs.now) }
 {
     walk.begin(&first);
     let mut left = pairs;

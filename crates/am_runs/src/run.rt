@@ -47,7 +47,8 @@ impl Run {
         Ok(Run { pairs })
     }
 
-    /// The run of these pairs, which the caller knows to rise strictly, one or more. Takes no memory, and looks at none.
+    /// The run of these pairs, which the caller knows to rise strictly, one or more. Takes no memory, and looks at
+    /// none.
     pub fn of_rising(pairs: Vec<(Key, Value)>) -> Run
         requires { is_rising pairs.items ≡ true }
         ensures { result ≡ pairs.items }

@@ -10,7 +10,8 @@ use std::alloc::{AllocError, Global};
 
 /// The least of the keys that stand twice in the records.
 pub(crate) fn least_twice(alloc: Global, records: &[(Key, Value)]) -> Result<Option<Key>, NoMemory>
-    ensures { IfOk result (λ found. MatchOption found (NoneTwice (keys_of records.now)) (IsLeastTwice (keys_of records.now))) }
+    ensures { IfOk result (λ found. MatchOption found (NoneTwice (keys_of records.now))
+        (IsLeastTwice (keys_of records.now))) }
 {
     let mut keys = keys_of(alloc, records)?;
     keys.sort_unstable();

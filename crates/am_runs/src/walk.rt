@@ -1,6 +1,7 @@
 //! A walk through one partition, from key to higher key.
 
-ghost use Rattle.std.specs.Prelude.{◌≡◌, ◌++◌, [], ◌∷◌, List, true, false, None, IfSome, is_some, slice_get, option_copied, take};
+ghost use Rattle.std.specs.Prelude.{◌≡◌, ◌++◌, [], ◌∷◌, List, true, false, None, IfSome, is_some, slice_get};
+ghost use Rattle.std.specs.Prelude.{option_copied, take};
 ghost use Rattle.am_record.specs.Interval.{key_le};
 ghost use Rattle.am_record.specs.declared.entry.Entry.{Entry as TheEntry};
 ghost use Rattle.am_list.specs.Entries.{next_from, all_after};
@@ -108,7 +109,8 @@ impl Walk {
     // may be more.
     fn read_on<I: PartIndex + Drop>(&mut self, parts: &Parts<I>) -> bool
         ensures read { self.new.read ≡ take 16 (all_after parts.now.entries self.old.part self.old.last) }
-        ensures goes_on { all_after parts.now.entries self.old.part self.old.last ≡ self.new.read ++ all_after parts.now.entries self.new.part self.new.last }
+        ensures goes_on { all_after parts.now.entries self.old.part self.old.last ≡ self.new.read ++
+            all_after parts.now.entries self.new.part self.new.last }
         ensures ends { result ≡ false → all_after parts.now.entries self.new.part self.new.last ≡ [] }
         ensures passed { self.new.passed ≡ 0 }
         ensures part { self.new.part ≡ self.old.part }

@@ -20,8 +20,10 @@ pub record FormedLaws (trace : Trace) : Type 0 where
   -- the machine's state is what the trace says
   pub state : state_at (effects trace) ≡ after_run start trace
   -- its bodies are those of the trace
-  pub bodies : (t : ℕ) → is_open (state_at (effects trace)).active t ≡ true → body_in (state_at (effects trace)).active t ≡ body (effects trace) t
+  pub bodies : (t : ℕ) → is_open (state_at (effects trace)).active t ≡ true →
+      body_in (state_at (effects trace)).active t ≡ body (effects trace) t
   -- it names the least blocker
-  pub least : (t : ℕ) (op : Op) (h : ℕ) → IsLeastBlocker (effects trace) t op h ↔ (blocker (state_at (effects trace)).active t (lock_of op) ≡ Some h)
+  pub least : (t : ℕ) (op : Op) (h : ℕ) → IsLeastBlocker (effects trace) t op h ↔
+      (blocker (state_at (effects trace)).active t (lock_of op) ≡ Some h)
   pub serial : (step : Step) (reply : Reply) → FormedAt (effects trace) step reply → IsSerial (effects trace) →
       IsSerial (effects trace ++ effect step reply ∷ []) ↔ IsNextInOrder (effects trace) (effect step reply)

@@ -20,7 +20,8 @@ pub record GrantedOnOverlay (s : State) (t : ℕ) (op : Op) : Type 0 where
 
 -- Back gives each key that the transaction owns the value of the map gone back to, and leaves the others
 abbrev pub BackRestores : State → ℕ → Type 0
-BackRestores s t = (q : OrderedKey) → get (overlay_in (next s (Answers t Back (answer Back (view s t))))) q ≡ cond (owns_in s t q) (get (after Back (view s t)).map q) (get (overlay_in s) q)
+BackRestores s t = (q : OrderedKey) → get (overlay_in (next s (Answers t Back (answer Back (view s t))))) q ≡
+    cond (owns_in s t q) (get (after Back (view s t)).map q) (get (overlay_in s) q)
 
 -- a commit leaves the overlay as it is
 abbrev pub CommitKeepsOverlay : State → ℕ → Type 0
@@ -28,7 +29,8 @@ CommitKeepsOverlay s t = overlay_in (next s (Commits t)) ≡ overlay_in s
 
 -- an abort gives each key that the transaction owns the committed value back, and leaves the others
 abbrev pub AbortRestores : State → ℕ → Type 0
-AbortRestores s t = (q : OrderedKey) → get (overlay_in (next s (Aborts t))) q ≡ cond (owns_in s t q) (get s.committed q) (get (overlay_in s) q)
+AbortRestores s t = (q : OrderedKey) → get (overlay_in (next s (Aborts t))) q ≡
+    cond (owns_in s t q) (get s.committed q) (get (overlay_in s) q)
 
 pub record OverlayLaws (s : State) : Type 0 where
   pub granted : (t : ℕ) (op : Op) → is_back op ≡ false → due s t op ≡ None → GrantedOnOverlay s t op
@@ -39,15 +41,19 @@ pub record OverlayLaws (s : State) : Type 0 where
 -- what a transaction sees by its locks, also in what it saved
 pub record ViewLaws (s : State) : Type 0 where
   -- what one holds, no other owns
-  pub apart : (t u : ℕ) (q : OrderedKey) → is_open s.active t ≡ true → is_open s.active u ≡ true → t ≢ u → holds_in s t q ≡ true → owns_in s u q ≡ false
+  pub apart : (t u : ℕ) (q : OrderedKey) → is_open s.active t ≡ true → is_open s.active u ≡ true → t ≢ u →
+      holds_in s t q ≡ true → owns_in s u q ≡ false
   -- a key that it doesn't own it sees as committed
-  pub framed : (t : ℕ) (q : OrderedKey) → is_open s.active t ≡ true → owns_in s t q ≡ false → Has q s.committed (view s t)
+  pub framed : (t : ℕ) (q : OrderedKey) → is_open s.active t ≡ true → owns_in s t q ≡ false →
+      Has q s.committed (view s t)
   -- what it holds it sees as it stands
   pub stands : (t : ℕ) → is_open s.active t ≡ true → Agree (holds_in s t) (overlay_in s) (view s t).map
   -- what nobody owns stands as committed
-  pub unowned : (q : OrderedKey) → ((t : ℕ) → is_open s.active t ≡ true → owns_in s t q ≡ false) → get (overlay_in s) q ≡ get s.committed q
+  pub unowned : (q : OrderedKey) → ((t : ℕ) → is_open s.active t ≡ true → owns_in s t q ≡ false) →
+      get (overlay_in s) q ≡ get s.committed q
   -- another's commit changes nothing that it holds
-  pub rebased : (t u : ℕ) → is_open s.active t ≡ true → is_open s.active u ≡ true → t ≢ u → Alike (holds_in s t) (view s t) (view (next s (Commits u)) t)
+  pub rebased : (t u : ℕ) → is_open s.active t ≡ true → is_open s.active u ≡ true → t ≢ u →
+      Alike (holds_in s t) (view s t) (view (next s (Commits u)) t)
 
 -- the state is what the trace says
 pub record IsStateOf (trace : Trace) (s : State) : Type 0 where

@@ -1,5 +1,6 @@
 -- The locked machine: the committed map, and of each active transaction its answered operations.
-use Rattle.std.specs.Prelude.{◌≡◌, ◌⊎◌, ℕ, ◌+◌, ◌^◌, ◌<◌, ◌≤◌, ◌==◌, nat_le, length, List, [], ◌∷◌, ◌++◌, Bool, true, false, cond, not, ◌&&◌, map, filter, Option, Some, None, MatchOption}
+use Rattle.std.specs.Prelude.{◌≡◌, ◌⊎◌, ℕ, ◌+◌, ◌^◌, ◌<◌, ◌≤◌, ◌==◌, nat_le, length, List, [], ◌∷◌, ◌++◌, Bool, true}
+use Rattle.std.specs.Prelude.{false, cond, not, ◌&&◌, map, filter, Option, Some, None, MatchOption}
 use Rattle.std.specs.List.{list_any}
 use Rattle.std.specs.FinMap.{empty}
 use Rattle.am_record.specs.OrderedKey.{OrderedKey}
@@ -10,11 +11,13 @@ use Rattle.am_record.specs.declared.step.Op.{Op}
 use Rattle.am_record.specs.declared.step.Step.{Step}
 use Rattle.am_record.specs.declared.step.Step.TheVariants.{Begin, Do, Commit, Abort, Merge, Clean}
 use Rattle.am_record.specs.declared.step.Reply.{Reply}
-use Rattle.am_record.specs.declared.step.Reply.TheVariants.{Begun, Committed, Aborted, Moved, MergeDone, Ended, Idle, Cleaned, Refused}
+use Rattle.am_record.specs.declared.step.Reply.TheVariants.{Begun, Committed, Aborted, Moved, MergeDone, Ended, Idle}
+use Rattle.am_record.specs.declared.step.Reply.TheVariants.{Cleaned, Refused}
 use Rattle.am_record.specs.Plain.{PlainMap, Draft, fresh, answer, left_on}
 use Rattle.am_record.specs.Asks.{lock_of, clashes, locks_of, holds, owns}
 use Rattle.am_record.specs.Refusals.{refusal_before_lock, is_one_too_many, lock_refusal, or_else}
-use Rattle.am_serial.specs.Trace.{Trace, Answered, ops_of, Effect, Begins, Answers, Commits, Aborts, Nothing, effect, runs_made, left_by, begun, committers, runs, committed, active, body}
+use Rattle.am_serial.specs.Trace.{Trace, Answered, ops_of, Effect, Begins, Answers, Commits, Aborts, Nothing, effect}
+use Rattle.am_serial.specs.Trace.{runs_made, left_by, begun, committers, runs, committed, active, body}
 
 -- a transaction's number and its answered operations
 abbrev pub Transaction : Type 0
@@ -66,7 +69,8 @@ due_early s t op = refusal_before_lock (is_open s.active t) (length (body_in s.a
 -- the least of the other transactions that hold a conflicting lock
 abbrev pub blocker : List Transaction → ℕ → Option Lock → Option ℕ
 blocker [] t asked = None
-blocker (x ∷ txs) t asked = cond (not (t == x.0) && clashes asked (locks_of (ops_of x.1))) (Some x.0) (blocker txs t asked)
+blocker (x ∷ txs) t asked = cond (not (t == x.0) && clashes asked (locks_of (ops_of x.1))) (Some x.0)
+    (blocker txs t asked)
 
 -- the refusal that is due where none is due early
 abbrev pub due_lock : State → ℕ → Op → Option Refusal
@@ -77,9 +81,11 @@ due s t op = or_else (due_early s t op) (due_lock s t op)
 
 -- ---- steps
 
--- the reply to an operation: the refusal that is due, and else the answer on the transaction's own view, or want of memory
+-- the reply to an operation: the refusal that is due, and else the answer on the transaction's own view, or want of
+-- memory
 abbrev pub MayDo : State → ℕ → Op → Reply → Type 0
-MayDo s t op reply = MatchOption (due s t op) ((reply ≡ answer op (view s t)) ⊎ (reply ≡ Refused NoMemory)) (λ why. reply ≡ Refused why)
+MayDo s t op reply = MatchOption (due s t op) ((reply ≡ answer op (view s t)) ⊎ (reply ≡ Refused NoMemory))
+    (λ why. reply ≡ Refused why)
 
 -- whether so many entries may be merged or cleaned at once
 abbrev pub is_limit : ℕ → Bool
@@ -115,7 +121,10 @@ without t txs = filter (λ (x : Transaction). not (x.0 == t)) txs
 -- the state after. A commit rebases what is active: the other views are their bodies alone on the new committed map
 abbrev pub next : State → Effect → State
 next s (Begins t) = record s { begun = s.begun + 1; active = s.active ++ (t, []) ∷ [] }
-next s (Answers t op reply) = record s { runs = s.runs + runs_made op reply; active = map (extended t (op, reply)) s.active }
+next s (Answers t op reply) = record s {
+  runs = s.runs + runs_made op reply;
+  active = map (extended t (op, reply)) s.active;
+}
 next s (Commits t) = record s { commits = s.commits + 1; committed = (view s t).map; active = without t s.active }
 next s (Aborts t) = record s { active = without t s.active }
 next s Nothing = s

@@ -1,5 +1,6 @@
 -- What is right of a trace: at each moment it is serial, steady, right in its Busy answers, and formed.
-use Rattle.std.specs.Prelude.{◌≡◌, ◌≢◌, ◌⊎◌, ◌↔◌, ℕ, ◌≤◌, List, [], ◌∷◌, ◌++◌, Bool, true, Option, None, MatchOption, MatchBool}
+use Rattle.std.specs.Prelude.{◌≡◌, ◌≢◌, ◌⊎◌, ◌↔◌, ℕ, ◌≤◌, List, [], ◌∷◌, ◌++◌, Bool, true, Option, None, MatchOption}
+use Rattle.std.specs.Prelude.{MatchBool}
 use Rattle.am_record.specs.declared.step.Refusal.{Refusal}
 use Rattle.am_record.specs.declared.step.Refusal.TheVariants.{Busy, TooManyLocks, NoMemory}
 use Rattle.am_record.specs.declared.step.Op.{Op}
@@ -26,7 +27,8 @@ pub record IsLeastBlocker (es : List Effect) (t : ℕ) (op : Op) (h : ℕ) : Typ
 
 -- Busy is answered exactly where no earlier refusal is due and another holds a conflicting lock, and it names the least
 abbrev pub BusyRightAt : List Effect → Step → Reply → Type 0
-BusyRightAt es (Do t op) reply = (h : ℕ) → (reply ≡ Refused (Busy h)) ↔ ((due_early (state_at es) t op ≡ None) × IsLeastBlocker es t op h)
+BusyRightAt es (Do t op) reply = (h : ℕ) → (reply ≡ Refused (Busy h)) ↔
+    ((due_early (state_at es) t op ≡ None) × IsLeastBlocker es t op h)
 BusyRightAt es _ reply = Unit {0}
 
 -- the reply is one of the operation's answers
@@ -59,7 +61,8 @@ FormedDo early full op reply =
     (λ why. reply ≡ Refused why)
 
 abbrev pub FormedAt : List Effect → Step → Reply → Type 0
-FormedAt es (Do t op) reply = FormedDo (due_early (state_at es) t op) (is_one_too_many (locks_in (state_at es).active t) (lock_of op)) op reply
+FormedAt es (Do t op) reply = FormedDo (due_early (state_at es) t op)
+    (is_one_too_many (locks_in (state_at es).active t) (lock_of op)) op reply
 FormedAt es step reply = May (state_at es) step reply
 
 -- a fact of each event and the moment before it

@@ -38,7 +38,8 @@ pub record StepLaws (s : State) : Type 0 where
   pub granted : (t : ℕ) (op : Op) → due s t op ≡ None → IsGranted s t op
   pub begins : (t : ℕ) → is_open s.active t ≡ false → HasBegun (next s (Begins t)) t
   pub begins_others : (t u : ℕ) → u ≢ t → IsUntouched s (next s (Begins t)) u
-  pub answers : (t : ℕ) (op : Op) (reply : Reply) → is_open s.active t ≡ true → HasDone s (next s (Answers t op reply)) t op
+  pub answers : (t : ℕ) (op : Op) (reply : Reply) → is_open s.active t ≡ true →
+      HasDone s (next s (Answers t op reply)) t op
   pub answers_others : (t : ℕ) (op : Op) (reply : Reply) (u : ℕ) → u ≢ t → IsUntouched s (next s (Answers t op reply)) u
   pub commits : (t : ℕ) → is_open (next s (Commits t)).active t ≡ false
   pub commits_others : (t u : ℕ) → u ≢ t → KeepsLocks s (next s (Commits t)) u

@@ -1,5 +1,6 @@
 -- Traces: what a list of steps with their replies says of its transactions, and when it is serial and steady.
-use Rattle.std.specs.Prelude.{◌≡◌, ℕ, ◌+◌, ◌==◌, List, [], ◌∷◌, ◌++◌, Bool, true, cond, not, map, filter, Option, Some, None}
+use Rattle.std.specs.Prelude.{◌≡◌, ℕ, ◌+◌, ◌==◌, List, [], ◌∷◌, ◌++◌, Bool, true, cond, not, map, filter, Option, Some}
+use Rattle.std.specs.Prelude.{None}
 use Rattle.std.specs.List.{list_any, filter_map}
 use Rattle.std.specs.FinMap.{empty}
 use Rattle.am_record.specs.declared.lock.Lock.{Lock}

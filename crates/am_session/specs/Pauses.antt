@@ -14,11 +14,14 @@ use Rattle.am_session.specs.Served.{IsEnded, AsksFor}
 use Rattle.am_session.specs.declared.serving.Pause.{Pause}
 use Rattle.am_session.specs.declared.serving.Pause.TheVariants.{Quit, EndOfInput, ReadFailed, WriteFailed}
 
-module _ {B : Type 0} (active : B → Option ℕ) (goes : B → Step → Reply → B → Type 0) (tells : B → ℕ → ℕ → B → Type 0) where
+module _ {B : Type 0} (active : B → Option ℕ) (goes : B → Step → Reply → B → Type 0)
+    (tells : B → ℕ → ℕ → B → Type 0) where
   abbrev pub Left : Option ℕ → B → B → Type 0
   Left tx b b' = (events : Trace) × Leaves active goes tells tx b events b'
 
-module _ {S K B : Type 0} (comes : S → List ℕ → Type 0) (holds : K → Option (List ℕ)) (active : B → Option ℕ) (goes : B → Step → Reply → B → Type 0) (tells : B → ℕ → ℕ → B → Type 0) (auto : ℕ) (s : S) (k : K) (b : Place B) (s' : S) (k' : K) (b' : Place B) where
+module _ {S K B : Type 0} (comes : S → List ℕ → Type 0) (holds : K → Option (List ℕ)) (active : B → Option ℕ)
+    (goes : B → Step → Reply → B → Type 0) (tells : B → ℕ → ℕ → B → Type 0) (auto : ℕ) (s : S) (k : K) (b : Place B)
+    (s' : S) (k' : K) (b' : Place B) where
   -- QUIT was read
   pub record AtQuit : Type 0 where
     pub read : List ℕ

@@ -21,9 +21,10 @@ IsEnded bytes = (more : List ℕ) → lines_of (bytes ++ more) ≡ lines_of byte
 abbrev pub AsksFor : List ℕ → List Exchange → Type 0
 AsksFor read exchanges = asked exchanges ≡ before_quit (lines_of read)
 
--- By these bytes were taken, by these given, and whether nothing more comes; by exchanges with their events, or with one exchange more, whose
--- answer was torn; and by where a session is left that did nothing.
-module _ (took gave : List ℕ → Type 0) (nothing_comes : Type 0) (answers : List Exchange → Trace → Type 0) (answers_more : List Exchange → Exchange → Trace → Type 0) (untouched : Type 0) where
+-- By these bytes were taken, by these given, and whether nothing more comes; by exchanges with their events, or with
+-- one exchange more, whose answer was torn; and by where a session is left that did nothing.
+module _ (took gave : List ℕ → Type 0) (nothing_comes : Type 0) (answers : List Exchange → Trace → Type 0)
+    (answers_more : List Exchange → Exchange → Trace → Type 0) (untouched : Type 0) where
   -- the bytes are whole lines, or all that comes
   abbrev pub AreWhole : List ℕ → List ℕ → Type 0
   AreWhole read waiting = IsEnded read ⊎ ((waiting ≡ []) × nothing_comes)
@@ -109,7 +110,8 @@ module _ (took gave : List ℕ → Type 0) (nothing_comes : Type 0) (answers : L
   EndsBy NoMemory = NothingDone
 
 -- the same over any source, sink and backend
-abbrev pub Served : {S K B : Type 0} → (S → List ℕ → Type 0) → (K → Option (List ℕ)) → (B → Option ℕ) → (B → Step → Reply → B → Type 0) → (B → ℕ → ℕ → B → Type 0) → ℕ → S → K → B → S → K → B → End → Type 0
+abbrev pub Served : {S K B : Type 0} → (S → List ℕ → Type 0) → (K → Option (List ℕ)) → (B → Option ℕ) →
+    (B → Step → Reply → B → Type 0) → (B → ℕ → ℕ → B → Type 0) → ℕ → S → K → B → S → K → B → End → Type 0
 Served comes holds active goes tells auto s k b s' k' b' end =
     EndsBy (λ bytes. Took comes s bytes s') (λ text. Gave holds k text k') (comes s' [])
     (λ exchanges events. AnswersAll active goes tells auto b exchanges events b')

@@ -22,7 +22,8 @@ pub record Solo : Type 0 where
   pub active : Option ℕ
 
 abbrev pub solo_code : Coded Solo
-solo_code = code_by (StoreState × Option ℕ) (coded× state_code (coded_option coded_ℕ)) (λ s. (s.kept, s.active)) (λ p. record { kept = p.0; active = p.1 }) (λ _. refl)
+solo_code = code_by (StoreState × Option ℕ) (coded× state_code (coded_option coded_ℕ)) (λ s. (s.kept, s.active))
+    (λ p. record { kept = p.0; active = p.1 }) (λ _. refl)
 
 abbrev pub active_in : Solo → Option ℕ
 active_in s = s.active

@@ -1,6 +1,7 @@
 //! A session over any backend, line by line.
 
-ghost use Rattle.std.specs.Prelude.{◌≡◌, ℕ, ◌+◌, ◌^◌, ◌<◌, ◌≤◌, [], take, false, Option, Some, None, OnOk, OnErr, IfOk, IfSome, IfNone};
+ghost use Rattle.std.specs.Prelude.{◌≡◌, ℕ, ◌+◌, ◌^◌, ◌<◌, ◌≤◌, [], take, false, Option, Some, None, OnOk, OnErr, IfOk};
+ghost use Rattle.std.specs.Prelude.{IfSome, IfNone};
 ghost use Rattle.am_wire.specs.Giving.{Gave};
 ghost use Rattle.am_wire.specs.Lines.{has_lf, TookLine, TookPart};
 ghost use Rattle.am_wire.specs.Seen.{seen};
@@ -49,7 +50,8 @@ fn respond<W: Wait, B: Backend>(
     heard: Heard,
 ) -> Response
     requires { B.active backend.old ≡ session.old.active }
-    ensures responds { Responds B.active B.goes B.tells (backend.old, session.old.staged) heard result (backend.new, session.new.staged) }
+    ensures responds { Responds B.active B.goes B.tells (backend.old, session.old.staged) heard result
+        (backend.new, session.new.staged) }
     ensures active { B.active backend.new ≡ session.new.active }
 {
     match session.due(heard) {
@@ -95,11 +97,13 @@ pub(crate) fn answer<W: Wait, K: Sink, B: Backend>(
     requires countable { K.failures sink.old < 2 ^ 63 }
     requires active { B.active backend.old ≡ session.old.active }
     ensures active { B.active backend.new ≡ session.new.active }
-    ensures answered { OnOk result (Answered K.holds B.active B.goes B.tells sink.old (backend.old, session.old.staged) heard sink.new (backend.new, session.new.staged)) }
+    ensures answered { OnOk result (Answered K.holds B.active B.goes B.tells sink.old
+        (backend.old, session.old.staged) heard sink.new (backend.new, session.new.staged)) }
     ensures sent { OnOk result (has_lf input.now ≡ false → K.pending sink.new ≡ false) }
     ensures ok { OnOk result (K.failures sink.new ≡ K.failures sink.old) }
     ensures failed { OnErr result (K.failures sink.new ≡ K.failures sink.old + 1) }
-    ensures torn { OnErr result (Torn K.holds B.active B.goes B.tells sink.old (backend.old, session.old.staged) heard sink.new (backend.new, session.new.staged)) }
+    ensures torn { OnErr result (Torn K.holds B.active B.goes B.tells sink.old
+        (backend.old, session.old.staged) heard sink.new (backend.new, session.new.staged)) }
 {
     let response = respond(rt, backend, session, heard);
     send(sink, input, &response)
@@ -108,7 +112,8 @@ pub(crate) fn answer<W: Wait, K: Sink, B: Backend>(
 /// Merges once, unless `auto` is 0.
 pub(crate) fn merge<W: Wait, B: Backend>(rt: &W, backend: &mut B, session: &mut Session, auto: u64)
     requires { B.active backend.old ≡ session.old.active }
-    ensures merged { Merged B.active B.goes B.tells auto (backend.old, session.old.staged) (backend.new, session.new.staged) }
+    ensures merged { Merged B.active B.goes B.tells auto (backend.old, session.old.staged)
+        (backend.new, session.new.staged) }
     ensures active { B.active backend.new ≡ session.new.active }
 {
     if auto != 0 {

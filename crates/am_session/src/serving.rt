@@ -56,7 +56,8 @@ fn talk<W: Wait, K: Sink, S: AnsweredSource<K>, B: Backend>(
     requires sent { K.pending sink.old ≡ false }
     requires active { B.active backend.old ≡ session.old.active }
     ensures active { B.active backend.new ≡ session.new.active }
-    ensures talked { Talked S.comes K.holds B.active B.goes B.tells auto source.old sink.old (backend.old, session.old.staged) source.new sink.new (backend.new, session.new.staged) result }
+    ensures talked { Talked S.comes K.holds B.active B.goes B.tells auto source.old sink.old
+        (backend.old, session.old.staged) source.new sink.new (backend.new, session.new.staged) result }
     ensures sent { IsSentBy result (K.pending sink.new ≡ false) }
     ensures source_failures { S.failures source.new ≡ S.failures source.old + reads_failed result }
     ensures sink_failures { K.failures sink.new ≡ K.failures sink.old + writes_failed result }
@@ -113,7 +114,8 @@ pub fn serve<W: Wait, K: Sink, S: AnsweredSource<K>, B: Backend>(
     requires sent { K.pending sink.old ≡ false }
     requires idle { B.active backend.old ≡ None }
     requires limit { auto ≤ 64 }
-    ensures served { Served S.comes K.holds B.active B.goes B.tells auto source.old sink.old backend.old source.new sink.new backend.new result }
+    ensures served { Served S.comes K.holds B.active B.goes B.tells auto source.old sink.old backend.old source.new
+        sink.new backend.new result }
     ensures idle { B.active backend.new ≡ None }
     ensures sent { IsSentOn result (K.pending sink.new ≡ false) }
     ensures source_failures { S.failures source.new ≡ S.failures source.old + read_failures result }

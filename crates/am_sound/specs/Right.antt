@@ -14,19 +14,22 @@ use Rattle.am_effect.specs.Laws.{DescribesEach}
 use Rattle.am_effect.specs.Store.{Store, opened, after_step, MayReply, after_all, IsAsked}
 use Rattle.am_sound.specs.Represents.{Represents}
 
--- the store is right: its entries rise, each key is live in one place at most, the content is the overlay, and the notes of each
--- active transaction say what looking back leaves, to the begin and to each of its marks
+-- the store is right: its entries rise, each key is live in one place at most, the content is the overlay, and the
+-- notes of each active transaction say what looking back leaves, to the begin and to each of its marks
 pub record IsRight (trace : Trace) (s : Store) : Type 0 where
   pub has : HasContent s.entries (overlay (effects trace))
-  pub described : (t : ℕ) → is_open s.state.active t ≡ true → DescribesEach t s.past s.entries (s.notes t) 0 (length (s.notes t)) (s.marks t)
+  pub described : (t : ℕ) → is_open s.state.active t ≡ true →
+      DescribesEach t s.past s.entries (s.notes t) 0 (length (s.notes t)) (s.marks t)
 
--- what a step may rest on: the entries are where the machine is, nothing stands above the last run, and the notes name runs alone
+-- what a step may rest on: the entries are where the machine is, nothing stands above the last run, and the notes name
+-- runs alone
 pub record IsReady (s : Store) : Type 0 where
   pub at : Represents s.state s.entries s.notes s.marks
   pub below : (p : ℕ) (q : OrderedKey) → s.state.runs < p → find s.entries p q ≡ None
   pub runs_noted : (t p : ℕ) → is_noted_run (s.notes t) p ≡ true → (p ≢ 0) × (p ≤ s.state.runs)
 
--- each merge and clean step of the trace is right: within its limit it meets what a merge or clean step may answer, else BadLimit
+-- each merge and clean step of the trace is right: within its limit it meets what a merge or clean step may answer,
+-- else BadLimit
 abbrev pub MaintainedAt : Store → Step → Reply → Type 0
 MaintainedAt s (Merge limit) reply = MayReply s (Merge limit) reply
 MaintainedAt s (Clean range limit) reply = MayReply s (Clean range limit) reply
@@ -36,15 +39,16 @@ abbrev pub IsMaintained : Store → Trace → Type 0
 IsMaintained s [] = Unit {0}
 IsMaintained s (e ∷ trace) = MaintainedAt s e.0 e.1 × IsMaintained (after_step s e.0 e.1) trace
 
--- behind each beginning of the trace each key is live in one place at most, and the content is the committed map with the
--- active transactions' writes
+-- behind each beginning of the trace each key is live in one place at most, and the content is the committed map with
+-- the active transactions' writes
 abbrev pub IsPlacedAtEachMoment : Trace → Type 0
 IsPlacedAtEachMoment trace =
-    (before rest : Trace) → before ++ rest ≡ trace → HasContent (after_all opened before).entries (overlay (effects before))
+    (before rest : Trace) → before ++ rest ≡ trace → HasContent (after_all opened before).entries
+    (overlay (effects before))
 
--- A trace is sound: serial, steady, right in its Busy answers and formed at each moment; at each moment each key is live
--- in one place at most and the content is the overlay; nothing is merged that no read asked for and nothing twice, and
--- each merge and clean step is right. The store at its end is right.
+-- A trace is sound: serial, steady, right in its Busy answers and formed at each moment; at each moment each key is
+-- live in one place at most and the content is the overlay; nothing is merged that no read asked for and nothing twice,
+-- and each merge and clean step is right. The store at its end is right.
 pub record IsSoundStore (trace : Trace) : Type 0 where
   pub sound : IsSound trace
   pub placed : IsPlacedAtEachMoment trace

@@ -10,11 +10,24 @@ use Rattle.am_effect.specs.Store.{Store, opened, Follows, after_all}
 use Rattle.am_sound.specs.StoreState.{Active, StoreState}
 
 abbrev pub active_of : (ℕ → List Note) → (ℕ → List ℕ) → Transaction → Active
-active_of notes marks x = record { number = x.0; ops = length x.1; locks = locks_of (ops_of x.1); notes = notes x.0; marks = marks x.0 }
+active_of notes marks x = record {
+  number = x.0;
+  ops = length x.1;
+  locks = locks_of (ops_of x.1);
+  notes = notes x.0;
+  marks = marks x.0;
+}
 
 -- what a store keeps, by the store that the trace describes
 abbrev pub state_of : Store → StoreState
-state_of s = record { entries = s.entries; wishes = s.wishes; begun = s.state.begun; commits = s.state.commits; runs = s.state.runs; active = map (active_of s.notes s.marks) s.state.active }
+state_of s = record {
+  entries = s.entries;
+  wishes = s.wishes;
+  begun = s.state.begun;
+  commits = s.state.commits;
+  runs = s.state.runs;
+  active = map (active_of s.notes s.marks) s.state.active;
+}
 
 -- the trace is one that the store may make, and the store is where it leaves it
 pub record IsStateOf (trace : Trace) (parts : StoreState) : Type 0 where

@@ -1,5 +1,6 @@
 -- What a store keeps, and what a step may do to it, without the trace.
-use Rattle.std.specs.Prelude.{◌≡◌, ◌⊎◌, ℕ, ◌+◌, ◌^◌, ◌<◌, ◌≤◌, ◌==◌, nat_le, length, List, [], ◌∷◌, ◌++◌, Bool, true, false, cond, not, ◌&&◌, map, filter, Option, Some, None, MatchOption}
+use Rattle.std.specs.Prelude.{◌≡◌, ◌⊎◌, ℕ, ◌+◌, ◌^◌, ◌<◌, ◌≤◌, ◌==◌, nat_le, length, List, [], ◌∷◌, ◌++◌, Bool, true}
+use Rattle.std.specs.Prelude.{false, cond, not, ◌&&◌, map, filter, Option, Some, None, MatchOption}
 use Rattle.std.specs.List.{list_any}
 use Rattle.am_record.specs.OrderedKey.{OrderedKey}
 use Rattle.am_record.specs.Interval.{Interval}
@@ -8,7 +9,8 @@ use Rattle.am_record.specs.Asks.{clashes, lock_of, with_asked, owns}
 use Rattle.am_record.specs.declared.lock.Lock.{Lock}
 use Rattle.am_record.specs.declared.entry.Entry.{Entry}
 use Rattle.am_record.specs.declared.step.Refusal.{Refusal}
-use Rattle.am_record.specs.declared.step.Refusal.TheVariants.{NoSuchTx, TooManyTx, TooManyOps, TooManyRuns, NotRising, BadLimit, NoMemory}
+use Rattle.am_record.specs.declared.step.Refusal.TheVariants.{NoSuchTx, TooManyTx, TooManyOps, TooManyRuns, NotRising}
+use Rattle.am_record.specs.declared.step.Refusal.TheVariants.{BadLimit, NoMemory}
 use Rattle.am_record.specs.declared.step.Op.{Op}
 use Rattle.am_record.specs.declared.step.Op.TheVariants.{Back}
 use Rattle.am_record.specs.declared.step.Step.{Step}
@@ -64,7 +66,8 @@ holder_in (x ∷ xs) q = cond (owns x.locks q) (Some x.number) (holder_in xs q)
 -- the least of the others that hold a conflicting lock: the active ones stand by rising number
 abbrev pub blocker_in : List Active → ℕ → Option Lock → Option ℕ
 blocker_in [] t asked = None
-blocker_in (x ∷ xs) t asked = cond (not (t == x.number) && clashes asked x.locks) (Some x.number) (blocker_in xs t asked)
+blocker_in (x ∷ xs) t asked = cond (not (t == x.number) && clashes asked x.locks) (Some x.number)
+    (blocker_in xs t asked)
 
 -- the refusal that is due
 abbrev pub refusal_in : StoreState → ℕ → Op → Option Refusal
@@ -82,24 +85,33 @@ takes_memory op = true
 abbrev pub MayAnswer : StoreState → Step → Reply → Type 0
 MayAnswer p Begin (Begun t) = (t ≡ p.begun + 1) × (length p.active < 64) × (p.begun < 2 ^ 63)
 MayAnswer p Begin (Refused TooManyTx) = (64 ≤ length p.active) ⊎ (2 ^ 63 ≤ p.begun)
-MayAnswer p (Do t op) reply = MatchOption (refusal_in p t op) ((reply ≡ stored_answer op (in_table p.active t).marks (content p.entries)) ⊎ ((reply ≡ Refused NoMemory) × (takes_memory op ≡ true))) (λ why. reply ≡ Refused why)
+MayAnswer p (Do t op) reply = MatchOption (refusal_in p t op)
+    ((reply ≡ stored_answer op (in_table p.active t).marks (content p.entries)) ⊎
+    ((reply ≡ Refused NoMemory) × (takes_memory op ≡ true))) (λ why. reply ≡ Refused why)
 MayAnswer p (Commit t) (Committed c) = (is_in p.active t ≡ true) × (c ≡ p.commits + 1)
 MayAnswer p (Commit t) (Refused NoSuchTx) = is_in p.active t ≡ false
 MayAnswer p (Abort t) Aborted = is_in p.active t ≡ true
 MayAnswer p (Abort t) (Refused NoSuchTx) = is_in p.active t ≡ false
-MayAnswer p (Merge limit) reply = WithinLimit limit reply (MergeRight p.entries p.wishes (holder_in p.active) limit reply)
-MayAnswer p (Clean range limit) reply = WithinLimit limit reply (CleanRight p.entries (holder_in p.active) range limit reply)
+MayAnswer p (Merge limit) reply = WithinLimit limit reply
+    (MergeRight p.entries p.wishes (holder_in p.active) limit reply)
+MayAnswer p (Clean range limit) reply = WithinLimit limit reply
+    (CleanRight p.entries (holder_in p.active) range limit reply)
 MayAnswer p _ _ = ⊥
 
 abbrev pub without_tx : ℕ → List Active → List Active
 without_tx t xs = filter (λ (x : Active). not (x.number == t)) xs
 
--- the transaction after an operation that was answered: one more, its lock and its note. Back drops the notes since the newest mark,
--- and the mark
+-- the transaction after an operation that was answered: one more, its lock and its note. Back drops the notes since the
+-- newest mark, and the mark
 abbrev pub with_op : ℕ → Op → Reply → List Note → Active → Active
 with_op t op reply new x =
     cond (t == x.number)
-    (record x { ops = x.ops + 1; locks = with_asked x.locks (lock_of op); notes = new ++ notes_left op reply x.marks x.notes; marks = marks_left op reply (length x.notes) x.marks })
+    (record x {
+      ops = x.ops + 1;
+      locks = with_asked x.locks (lock_of op);
+      notes = new ++ notes_left op reply x.marks x.notes;
+      marks = marks_left op reply (length x.notes) x.marks;
+    })
     x
 
 -- the entries when the notes since the transaction's newest mark are taken back
@@ -120,20 +132,30 @@ abbrev pub state_after : StoreState → Step → Reply → StoreState
 state_after p Begin (Begun t) = record p { begun = p.begun + 1; active = p.active ++ newcomer t ∷ [] }
 state_after p (Do t op) reply = state_after_op p t op reply
 state_after p (Commit t) (Committed c) = record p { commits = p.commits + 1; active = without_tx t p.active }
-state_after p (Abort t) Aborted = record p { entries = taken_back (in_table p.active t).notes p.entries; active = without_tx t p.active }
-state_after p (Merge limit) reply = record p { entries = all_worked_off (merged_by p.entries p.wishes reply) p.entries; wishes = wishes_after p.wishes (Merge limit) reply }
-state_after p (Clean range limit) reply = record p { entries = all_worked_off (cleaned_by p.entries (holder_in p.active) range reply) p.entries }
+state_after p (Abort t) Aborted = record p {
+  entries = taken_back (in_table p.active t).notes p.entries;
+  active = without_tx t p.active;
+}
+state_after p (Merge limit) reply = record p {
+  entries = all_worked_off (merged_by p.entries p.wishes reply) p.entries;
+  wishes = wishes_after p.wishes (Merge limit) reply;
+}
+state_after p (Clean range limit) reply = record p {
+  entries = all_worked_off
+      (cleaned_by p.entries (holder_in p.active) range reply) p.entries;
+}
 state_after p _ _ = p
 
 abbrev pub empty_state : StoreState
 empty_state = record { entries = []; wishes = []; begun = 0; commits = 0; runs = 0; active = [] }
 
--- what a step may rest on: the entries rise, no key is live in two partitions, nothing stands above the last run, and the notes of each
--- active transaction can be taken back, all of them and those since its newest mark
+-- what a step may rest on: the entries rise, no key is live in two partitions, nothing stands above the last run, and
+-- the notes of each active transaction can be taken back, all of them and those since its newest mark
 pub record IsFit (p : StoreState) : Type 0 where
   pub rising : IsRising p.entries
   pub one_place : OnePlace p.entries
   pub below : (part : ℕ) (key : OrderedKey) → p.runs < part → find p.entries part key ≡ None
   pub can_abort : (t : ℕ) → is_in p.active t ≡ true → CanTakeBack (in_table p.active t).notes (find p.entries)
-  pub can_back : (t : ℕ) → is_in p.active t ≡ true → CanTakeBack (since_mark (in_table p.active t).marks (in_table p.active t).notes) (find p.entries)
+  pub can_back : (t : ℕ) → is_in p.active t ≡ true → CanTakeBack
+      (since_mark (in_table p.active t).marks (in_table p.active t).notes) (find p.entries)
   pub begun : (t : ℕ) → is_in p.active t ≡ true → t ≤ p.begun

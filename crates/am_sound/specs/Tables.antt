@@ -20,6 +20,8 @@ AreByNumber (x ∷ xs) = AllByRecursion (λ (y : Active). x.number < y.number) x
 
 -- what the table of locks answers is what a step owes
 pub record TableLaws (xs : List Active) : Type 0 where
-  pub blocked : (t : ℕ) (asked : Lock) (h : ℕ) → AreByNumber xs → IsLeastOf (blockers (held_of xs) t asked) h → blocker_in xs t (Some asked) ≡ Some h
+  pub blocked : (t : ℕ) (asked : Lock) (h : ℕ) → AreByNumber xs → IsLeastOf (blockers (held_of xs) t asked) h →
+      blocker_in xs t (Some asked) ≡ Some h
   pub free : (t : ℕ) (asked : Lock) → blockers (held_of xs) t asked ≡ [] → blocker_in xs t (Some asked) ≡ None
-  pub held : (key : OrderedKey) (holder : Option ℕ) → exclusive_holders (held_of xs) key ≡ option_to_list holder → holder_in xs key ≡ holder
+  pub held : (key : OrderedKey) (holder : Option ℕ) → exclusive_holders (held_of xs) key ≡ option_to_list holder →
+      holder_in xs key ≡ holder

@@ -1,8 +1,9 @@
 //! Every trace of the store is sound: theorems, each the contract of a function that does nothing.
 //!
-//! From below upwards: a list of entries with notes and marks represents the locked machine's state ([`entries_represent`]);
-//! so every trace of the store is sound ([`store_is_sound`]); a step that is right of the store's state makes the trace one
-//! longer ([`steps_lift`]); and a table of locks answers what a step owes ([`tables_follow`]).
+//! From below upwards: a list of entries with notes and marks represents the locked machine's state
+//! ([`entries_represent`]); so every trace of the store is sound ([`store_is_sound`]); a step that is right of the
+//! store's state makes the trace one longer ([`steps_lift`]); and a table of locks answers what a step owes
+//! ([`tables_follow`]).
 #![tactic(auto)]
 
 ghost use Rattle.std.specs.Prelude.{◌↔◌, ◌++◌, ◌∷◌, ℕ, List, []};
@@ -24,7 +25,8 @@ ghost use Rattle.am_sound.specs.Tables.{TableLaws};
 /// A list of entries that represents the machine's state goes on with it.
 pub fn entries_represent()
     ensures opened { Represents start [] (λ _. []) (λ _. []) }
-    ensures goes_on { (s : State) (es : List Entry) (notes : ℕ → List Note) (marks : ℕ → List ℕ) → OverlayLaws s → ViewLaws s →
+    ensures goes_on { (s : State) (es : List Entry) (notes : ℕ → List Note) (marks : ℕ → List ℕ) → OverlayLaws s →
+        ViewLaws s →
         Represents s es notes marks → RepresentsNext s es notes marks }
 {}
 
@@ -38,7 +40,8 @@ pub fn store_is_sound()
 /// A step that is right of the store's state is right at its trace, and a trace that leads to a state is sound.
 pub fn steps_lift()
     ensures opened { IsStateOf [] empty_state }
-    ensures lift { (trace : Trace) (p : StoreState) (step : Step) (reply : Reply) → IsStateOf trace p → MayAnswer p step reply →
+    ensures lift { (trace : Trace) (p : StoreState) (step : Step) (reply : Reply) → IsStateOf trace p →
+        MayAnswer p step reply →
         IsStateOf (trace ++ (step, reply) ∷ []) (state_after p step reply) }
     ensures fit { (trace : Trace) (p : StoreState) → IsStateOf trace p → IsFit p }
     ensures sound { (trace : Trace) (p : StoreState) → IsStateOf trace p → IsSoundStore trace }

@@ -30,12 +30,14 @@ Standing = SessionState × ℕ
 -- What was due was answered by this response, with these events; SEEN tells 0, a session alone, and the commits.
 abbrev pub AnsweredBy : Standing → Due → Response → Trace → Standing → Type 0
 AnsweredBy at (Answer due) response events at' = (response ≡ due) × (events ≡ []) × (at' ≡ at)
-AnsweredBy at (Take step) response events at' = (told : Reply) × (response ≡ Replied told) × (events ≡ (step, told) ∷ []) × (at' ≡ (behind at.0 told, commits_after at.1 step told))
+AnsweredBy at (Take step) response events at' = (told : Reply) × (response ≡ Replied told) ×
+    (events ≡ (step, told) ∷ []) × (at' ≡ (behind at.0 told, commits_after at.1 step told))
 AnsweredBy at TellSeen response events at' = (response ≡ Seen 0 at.1) × (events ≡ []) × (at' ≡ at)
 
 -- a merge follows each answer, unless `auto` is 0
 abbrev pub Merges : ℕ → Trace → Trace → Type 0
-Merges auto events later = MatchBool (auto == 0) (events ≡ later) ((merged : Reply) × (events ≡ (step.Merge auto, merged) ∷ later))
+Merges auto events later = MatchBool (auto == 0) (events ≡ later)
+    ((merged : Reply) × (events ≡ (step.Merge auto, merged) ∷ later))
 
 -- at the end the active transaction is aborted
 abbrev pub Leaves : Option ℕ → Trace → Type 0
@@ -45,7 +47,8 @@ Leaves (Some tx) events = events ≡ (step.Abort tx, reply.Aborted) ∷ []
 -- the line was answered by this response, with these events
 abbrev pub AnswersLine : Standing → Exchange → Trace → Standing → Type 0
 AnswersLine at e events at' =
-    (heard : Heard) × (what : Due) × (here : SessionState) × MayHear e.0 heard × MayBeDue at.0 heard what here × AnsweredBy (here, at.1) what e.1 events at'
+    (heard : Heard) × (what : Due) × (here : SessionState) × MayHear e.0 heard × MayBeDue at.0 heard what here ×
+    AnsweredBy (here, at.1) what e.1 events at'
 
 -- how a dialogue ends: all is answered, or the answer to one more line was torn, and no merge follows it
 abbrev pub Ends : Type 1
@@ -55,10 +58,12 @@ abbrev pub Whole : Ends
 Whole at events = Leaves at.0.active events
 
 abbrev pub TornAt : Exchange → Ends
-TornAt last at events = (own rest : Trace) × (at' : Standing) × AnswersLine at last own at' × (events ≡ own ++ rest) × Leaves at'.0.active rest
+TornAt last at events = (own rest : Trace) × (at' : Standing) × AnswersLine at last own at' × (events ≡ own ++ rest) ×
+    Leaves at'.0.active rest
 
 -- the lines were answered in order, and these are all events, the last abort among them
 abbrev pub Dialogue : ℕ → Ends → Standing → List Exchange → Trace → Type 0
 Dialogue auto ends at [] events = ends at events
 Dialogue auto ends at (e ∷ exchanges) events =
-    (own rest later : Trace) × (at' : Standing) × AnswersLine at e own at' × (events ≡ own ++ rest) × Merges auto rest later × Dialogue auto ends at' exchanges later
+    (own rest later : Trace) × (at' : Standing) × AnswersLine at e own at' × (events ≡ own ++ rest) ×
+    Merges auto rest later × Dialogue auto ends at' exchanges later

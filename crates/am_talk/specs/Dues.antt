@@ -1,5 +1,6 @@
 -- What is due for a line, by where the session stands, and where it stands then.
-use Rattle.std.specs.Prelude.{◌≡◌, ◌⊎◌, ℕ, ◌+◌, nat_le, length, [], ◌∷◌, ◌++◌, Bool, true, false, cond, Option, Some, None, Result, Ok, Err}
+use Rattle.std.specs.Prelude.{◌≡◌, ◌⊎◌, ℕ, ◌+◌, nat_le, length, [], ◌∷◌, ◌++◌, Bool, true, false, cond, Option, Some}
+use Rattle.std.specs.Prelude.{None, Result, Ok, Err}
 use Rattle.am_record.specs.Sessions.{IsAllowed}
 use Rattle.am_record.specs.Records.{Records}
 use Rattle.am_record.specs.declared.step.Op.{Op}
@@ -10,7 +11,8 @@ use Rattle.am_record.specs.declared.step.Reply.{Reply}
 use Rattle.am_record.specs.declared.step.Reply.TheVariants.{Aborted}
 use Rattle.am_wire.specs.declared.request.LineFault.TheVariants as fault
 use Rattle.am_wire.specs.declared.request.Request.{Request}
-use Rattle.am_wire.specs.declared.request.Request.TheVariants.{Begin, Do, Stage, Commit, Abort, Merge, Clean, Seen, Quit}
+use Rattle.am_wire.specs.declared.request.Request.TheVariants.{Begin, Do, Stage, Commit, Abort, Merge, Clean, Seen}
+use Rattle.am_wire.specs.declared.request.Request.TheVariants.{Quit}
 use Rattle.am_talk.specs.Session.{SessionState}
 use Rattle.am_talk.specs.declared.lines.Heard.{Heard}
 use Rattle.am_talk.specs.declared.lines.Heard.TheVariants as said
@@ -91,7 +93,8 @@ no_room = Answer (response.Faulty fault.NoMemory)
 
 abbrev pub MayBeAsked : SessionState → Request → Due → SessionState → Type 0
 MayBeAsked s request what s' =
-    ((what ≡ step_due s.active s.staged request) × (s' ≡ record { active = s.active; staged = staged_asked s.active s.staged request }))
+    ((what ≡ step_due s.active s.staged request) × (s' ≡
+    record { active = s.active; staged = staged_asked s.active s.staged request }))
     ⊎ ((wants_room s.active s.staged request ≡ true) × (what ≡ no_room) × (s' ≡ s))
 
 -- what may be due: where room was refused, it is that answer, and the session stands where it stood
@@ -102,7 +105,8 @@ MayBeDue s heard what s' = (what ≡ due s heard) × (s' ≡ s)
 -- the answer to STAGE where a transaction is active
 abbrev pub MayStage : SessionState → Records → Response → SessionState → Type 0
 MayStage s records answer s' =
-    ((answer ≡ stage_due s.staged records) × (s' ≡ record { active = s.active; staged = cond (may_wait s.staged records) (s.staged ++ records) s.staged }))
+    ((answer ≡ stage_due s.staged records) × (s' ≡ record
+    { active = s.active; staged = cond (may_wait s.staged records) (s.staged ++ records) s.staged }))
     ⊎ ((may_wait s.staged records ≡ true) × (answer ≡ response.Faulty fault.NoMemory) × (s' ≡ s))
 
 -- the records of a LOAD

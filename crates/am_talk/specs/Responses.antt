@@ -4,7 +4,8 @@ use Rattle.am_wire.specs.Replies.{text_of}
 use Rattle.am_wire.specs.declared.request.LineFault.{LineFault}
 use Rattle.am_wire.specs.declared.request.LineFault.TheVariants.{Syntax, Range, NoMemory}
 use Rattle.am_talk.specs.declared.response.Response.{Response}
-use Rattle.am_talk.specs.declared.response.Response.TheVariants.{TooLong, Faulty, NoTransaction, Active, Staged, TooManyStaged, StillStaged, Replied, Seen}
+use Rattle.am_talk.specs.declared.response.Response.TheVariants.{TooLong, Faulty, NoTransaction, Active, Staged}
+use Rattle.am_talk.specs.declared.response.Response.TheVariants.{TooManyStaged, StillStaged, Replied, Seen}
 
 -- the text as a line
 abbrev pub line : List ℕ → List ℕ

@@ -1,5 +1,6 @@
 -- What a session on a store of its own says, by the plain map alone.
-use Rattle.std.specs.Prelude.{◌≡◌, ℕ, ◌+◌, ◌^◌, nat_le, length, List, [], ◌∷◌, ◌++◌, Bool, true, false, cond, not, ◌&&◌, filter, map, Option, Some, None, MatchBool, MatchOption}
+use Rattle.std.specs.Prelude.{◌≡◌, ℕ, ◌+◌, ◌^◌, nat_le, length, List, [], ◌∷◌, ◌++◌, Bool, true, false, cond, not, ◌&&◌}
+use Rattle.std.specs.Prelude.{filter, map, Option, Some, None, MatchBool, MatchOption}
 use Rattle.std.specs.FinMap.{empty}
 use Rattle.am_record.specs.Records.{Records}
 use Rattle.am_record.specs.Plain.{PlainMap, fresh, answer, left, left_on, is_orderly}
@@ -9,7 +10,8 @@ use Rattle.am_record.specs.declared.step.Op.TheVariants.{Load}
 use Rattle.am_record.specs.declared.step.Reply.{Reply}
 use Rattle.am_record.specs.declared.step.Reply.TheVariants.{Begun, Committed, Aborted, Refused}
 use Rattle.am_record.specs.declared.step.Refusal.{Refusal}
-use Rattle.am_record.specs.declared.step.Refusal.TheVariants.{TooManyTx, TooManyLocks, TooManyOps, TooManyRuns, NotRising, BadLimit, NoMemory}
+use Rattle.am_record.specs.declared.step.Refusal.TheVariants.{TooManyTx, TooManyLocks, TooManyOps, TooManyRuns}
+use Rattle.am_record.specs.declared.step.Refusal.TheVariants.{NotRising, BadLimit, NoMemory}
 use Rattle.am_serial.specs.Trace.{runs_made}
 use Rattle.am_record.specs.Refusals.{refusal_before_lock, is_one_too_many, lock_refusal, or_else}
 use Rattle.am_talk.specs.Heard.{Line, heard, is_upkeep, is_stage}
@@ -21,10 +23,11 @@ use Rattle.am_wire.specs.declared.request.LineFault.TheVariants as fault
 use Rattle.am_talk.specs.declared.lines.Heard.{Heard}
 use Rattle.am_talk.specs.declared.lines.Heard.TheVariants as said
 use Rattle.am_talk.specs.declared.response.Response.{Response}
-use Rattle.am_talk.specs.declared.response.Response.TheVariants.{TooLong, Faulty, NoTransaction, Active, StillStaged, Replied, Seen}
+use Rattle.am_talk.specs.declared.response.Response.TheVariants.{TooLong, Faulty, NoTransaction, Active, StillStaged}
+use Rattle.am_talk.specs.declared.response.Response.TheVariants.{Replied, Seen}
 
--- how many transactions were begun and committed and how many runs were made, the map that the committed ones left, the operations
--- of the active transaction, and the records that wait for its next load
+-- how many transactions were begun and committed and how many runs were made, the map that the committed ones left, the
+-- operations of the active transaction, and the records that wait for its next load
 pub record State : Type 0 where
   pub begun : ℕ
   pub commits : ℕ
@@ -39,9 +42,11 @@ opened = record { begun = 0; commits = 0; runs = 0; committed = empty; own = Non
 -- the refusal that is due to an operation, by those before it; a session alone meets no lock of another
 abbrev pub refusal_due : State → List Op → Op → Option Refusal
 refusal_due s ops op =
-    or_else (refusal_before_lock true (length ops) s.runs op) (lock_refusal None (is_one_too_many (locks_of ops) (lock_of op)))
+    or_else (refusal_before_lock true (length ops) s.runs op)
+    (lock_refusal None (is_one_too_many (locks_of ops) (lock_of op)))
 
--- the reply: the refusal that is due, and else the answer on the committed map with the transaction's own operations applied
+-- the reply: the refusal that is due, and else the answer on the committed map with the transaction's own operations
+-- applied
 abbrev pub refused_or : Option Refusal → Reply → Reply
 refused_or None reply = reply
 refused_or (Some why) reply = Refused why
@@ -76,7 +81,8 @@ state_did s ops op reply = record s { runs = s.runs + runs_made op reply; own = 
 
 -- with what waits a load goes on, whatever it is answered
 abbrev pub state_done : State → List Op → Op → State
-state_done s ops op = state_did (record s { staged = left_by s.staged op }) ops (with_staged s.staged op) (reply_due s ops (with_staged s.staged op))
+state_done s ops op = state_did (record s { staged = left_by s.staged op }) ops (with_staged s.staged op)
+    (reply_due s ops (with_staged s.staged op))
 
 abbrev pub state_staged : State → Records → State
 state_staged s records = cond (may_wait s.staged records) (record s { staged = s.staged ++ records }) s
@@ -121,7 +127,8 @@ wants_memory (Faulty fault.NoMemory) = true
 wants_memory (Replied (Refused NoMemory)) = true
 wants_memory _ = false
 
--- A line to which memory was refused did nothing; but where it is the load itself that was refused, what waited is let go.
+-- A line to which memory was refused did nothing; but where it is the load itself that was refused, what waited is let
+-- go.
 abbrev pub is_load_line : Heard → Bool
 is_load_line (said.Asked (request.Do (Load records))) = true
 is_load_line _ = false
@@ -155,7 +162,8 @@ without_upkeep exchanges = filter (λ (e : Exchange). not (is_upkeep (heard e.0)
 
 -- the lines to which memory was not refused were answered as they are said
 abbrev pub AreSay : List Exchange → Type 0
-AreSay exchanges = map (λ (e : Exchange). e.1) (without_upkeep (with_memory exchanges)) ≡ say (map (λ (e : Exchange). e.0) (with_memory exchanges))
+AreSay exchanges = map (λ (e : Exchange). e.1) (without_upkeep (with_memory exchanges)) ≡
+    say (map (λ (e : Exchange). e.0) (with_memory exchanges))
 
 -- the line stages nothing; the load of the line wasn't refused memory
 abbrev pub StagesNothing : Exchange → Type 0

@@ -12,7 +12,8 @@ pub record SessionState : Type 0 where
   pub staged : Records
 
 abbrev pub session_code : Coded SessionState
-session_code = code_by (Option ℕ × Records) (coded× (coded_option coded_ℕ) records_code) (λ s. (s.active, s.staged)) (λ p. record { active = p.0; staged = p.1 }) (λ _. refl)
+session_code = code_by (Option ℕ × Records) (coded× (coded_option coded_ℕ) records_code) (λ s. (s.active, s.staged))
+    (λ p. record { active = p.0; staged = p.1 }) (λ _. refl)
 
 abbrev pub at_start : SessionState
 at_start = record { active = None; staged = [] }

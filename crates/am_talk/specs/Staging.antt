@@ -29,8 +29,9 @@ abbrev pub state_behind : State → List Heard → State
 state_behind s [] = s
 state_behind s (heard ∷ lines) = state_behind (state_heard s heard) lines
 
--- Each line that stages is answered OK, the load of the last records as one of all of them would be, and the session goes
--- on as behind that one.
+-- Each line that stages is answered OK, the load of the last records as one of all of them would be, and the session
+-- goes on as behind that one.
 pub record IsOneLoad (s : State) (staged : List Records) (last : Records) : Type 0 where
-  pub answers : responses_to s (map stage staged ++ load last ∷ []) ≡ map (λ _. Some Staged) staged ++ response_due s (load (all_of staged ++ last)) ∷ []
+  pub answers : responses_to s (map stage staged ++ load last ∷ []) ≡ map (λ _. Some Staged) staged ++
+      response_due s (load (all_of staged ++ last)) ∷ []
   pub behind : state_behind s (map stage staged ++ load last ∷ []) ≡ state_heard s (load (all_of staged ++ last))

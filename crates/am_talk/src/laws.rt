@@ -26,8 +26,8 @@ pub fn sound_dialogues_say()
     sound_traces_are_runs();
 }
 
-/// In one piece: where nothing is staged, or no load that the store was asked for was refused memory, the lines that found
-/// memory are answered as those lines alone would be.
+/// In one piece: where nothing is staged, or no load that the store was asked for was refused memory, the lines that
+/// found memory are answered as those lines alone would be.
 pub fn found_memory_is_said()
     ensures unstaged { (exchanges : List Exchange) → Says exchanges → All StagesNothing exchanges → AreSay exchanges }
     ensures found { (exchanges : List Exchange) → Says exchanges → All LosesNothing exchanges → AreSay exchanges }
@@ -40,7 +40,8 @@ pub fn staging_is_loading()
 {}
 
 /// Where one session alone had its steps answered by the store, each answer is one line: an LF ends it, and no other
-/// stands in it. What the store holds came on lines, so no LF is among it. The answer to a last line may have been torn.
+/// stands in it. What the store holds came on lines, so no LF is among it. The answer to a last line may have been
+/// torn.
 pub fn answers_are_lines()
     ensures whole { (auto : ℕ) (exchanges : List Exchange) (trace : Trace) → Follows opened trace →
         Dialogue auto Whole (at_start, 0) exchanges trace →

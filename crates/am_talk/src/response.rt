@@ -7,8 +7,8 @@ ghost use Rattle.am_talk.specs.Responses.{response_text, fault_text, seen_text};
 use am_record::Reply;
 use am_wire::{Failed, LineFault, Sink, Text, give_all, put_reply};
 
-/// What a session writes for a line: a fault of the line, or of its place in the session, the reply to its step, or what
-/// SEEN tells.
+/// What a session writes for a line: a fault of the line, or of its place in the session, the reply to its step, or
+/// what SEEN tells.
 #[derive(Debug, PartialEq, Eq, Drop)]
 pub enum Response {
     TooLong,

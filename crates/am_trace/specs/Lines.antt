@@ -74,4 +74,5 @@ BeginsNoHeader text = (v : Version) (more : List ℕ) → text ≢ header v ++ m
 
 -- the first line that isn't one of a trace is this one, the first line being 1
 abbrev pub IsBadLine : List ℕ → ℕ → Type 0
-IsBadLine text n = ((n ≡ 1) × BeginsNoHeader text) ⊎ ((trace : List Event) × (n ≡ length trace + 2) × EndsInBadLine text trace)
+IsBadLine text n = ((n ≡ 1) × BeginsNoHeader text) ⊎ ((trace : List Event) × (n ≡ length trace + 2) ×
+    EndsInBadLine text trace)

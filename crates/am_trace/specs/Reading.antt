@@ -1,5 +1,6 @@
 -- What the fields of a line are read as.
-use Rattle.std.specs.Prelude.{◌≡◌, ℕ, ◌+◌, ◌*◌, ◌-◌, ◌^◌, ◌&&◌, ◌==◌, nat_le, nat_lt, if◌then◌else◌, List, [], ◌∷◌, codes, length, Option, Some, None, Result, Ok, Err, bytes_eq, option_map, option_and_then}
+use Rattle.std.specs.Prelude.{◌≡◌, ℕ, ◌+◌, ◌*◌, ◌-◌, ◌^◌, ◌&&◌, ◌==◌, nat_le, nat_lt, if◌then◌else◌, List, [], ◌∷◌}
+use Rattle.std.specs.Prelude.{codes, length, Option, Some, None, Result, Ok, Err, bytes_eq, option_map, option_and_then}
 use Rattle.std.specs.Option.{option_zip}
 use Rattle.std.specs.List.{before_first, after_first}
 use Rattle.am_record.specs.OrderedKey.{OrderedKey, number_key}
@@ -45,7 +46,8 @@ abbrev pub run_in : List ℕ → Option ℕ
 run_in field = option_and_then run_for (number_in field)
 
 abbrev pub digit_in : ℕ → Option ℕ
-digit_in c = if nat_le 48 c && nat_le c 57 then Some (c - 48) else if nat_le 97 c && nat_le c 102 then Some (c - 87) else None
+digit_in c = if nat_le 48 c && nat_le c 57 then Some (c - 48) else if nat_le 97 c &&
+    nat_le c 102 then Some (c - 87) else None
 
 abbrev pub byte_in : ℕ → ℕ → Option ℕ
 byte_in high low = option_map (λ (p : ℕ × ℕ). 16 * p.0 + p.1) (option_zip (digit_in high) (digit_in low))

@@ -1,7 +1,9 @@
 -- The words that replies begin with.
 use Rattle.std.specs.Prelude.{ℕ, List, [], ◌∷◌, codes, Option, bytes_eq, find}
 use Rattle.am_trace.specs.declared.word.Word.{Word}
-use Rattle.am_trace.specs.declared.word.Word.TheVariants.{Begun, Done, Found, Absent, Rows, Exists, Missing, Committed, Aborted, Moved, MergeDone, Ended, Idle, Cleaned, NoMark, Busy, Error}
+use Rattle.am_trace.specs.declared.word.Word.TheVariants.{Begun, Done, Found, Absent, Rows, Exists, Missing, Committed}
+use Rattle.am_trace.specs.declared.word.Word.TheVariants.{Aborted, Moved, MergeDone, Ended, Idle, Cleaned, NoMark, Busy}
+use Rattle.am_trace.specs.declared.word.Word.TheVariants.{Error}
 
 abbrev pub word_text : Word → List ℕ
 word_text Begun = codes "BEGUN"
@@ -23,7 +25,8 @@ word_text Busy = codes "BUSY"
 word_text Error = codes "ERR"
 
 abbrev pub all_words : List Word
-all_words = Begun ∷ Done ∷ Found ∷ Absent ∷ Rows ∷ Exists ∷ Missing ∷ Committed ∷ Aborted ∷ Moved ∷ MergeDone ∷ Ended ∷ Idle ∷ Cleaned ∷ NoMark ∷ Busy ∷ Error ∷ []
+all_words = Begun ∷ Done ∷ Found ∷ Absent ∷ Rows ∷ Exists ∷ Missing ∷ Committed ∷ Aborted ∷ Moved ∷ MergeDone ∷ Ended ∷
+    Idle ∷ Cleaned ∷ NoMark ∷ Busy ∷ Error ∷ []
 
 -- the word of a text
 unfoldable pub word_for : List ℕ → Option Word

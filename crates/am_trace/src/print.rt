@@ -98,7 +98,8 @@ impl Page {
         fields: &[Field],
         records: &[(Key, Value)],
     ) -> Result<(), NoMemory>
-        ensures text { OnOk result (self.new ≡ self.old ++ join_with_byte 32 (word.now ∷ (fields.now ++ map (record_word Version.Two) records.now))) }
+        ensures text { OnOk result (self.new ≡ self.old ++
+            join_with_byte 32 (word.now ∷ (fields.now ++ map (record_word Version.Two) records.now))) }
         ensures records { OnOk result (AreRecords Version.Two records.now) }
     {
         self.put_fields(word, fields)?;

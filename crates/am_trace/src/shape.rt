@@ -1,7 +1,11 @@
 //! What stands in a field, and in all fields after a word.
 
 ghost use Rattle.std.specs.Prelude.{◌≡◌, ◌∷◌, [], option_map, MatchOption};
-ghost use Rattle.am_trace.specs.Reading.{number_in, run_in, digit_in, byte_in, value_for_digits, key_in, value_in, record_in, range_in, nothing_in, one_number_in, one_key_in, key_and_value_in, one_value_in, range_and_number_in, lock_fields_in, records_in, key_and_number_in, number_and_run_in, counted_records_in, refusal_for, refusal_in, Gives};
+ghost use Rattle.am_trace.specs.Reading.{number_in, run_in, digit_in, byte_in, value_for_digits, key_in, value_in};
+ghost use Rattle.am_trace.specs.Reading.{record_in, range_in, nothing_in, one_number_in, one_key_in, key_and_value_in};
+ghost use Rattle.am_trace.specs.Reading.{one_value_in, range_and_number_in, lock_fields_in, records_in};
+ghost use Rattle.am_trace.specs.Reading.{key_and_number_in, number_and_run_in, counted_records_in, refusal_for};
+ghost use Rattle.am_trace.specs.Reading.{refusal_in, Gives};
 
 use crate::read::ReadFault;
 use crate::version::Version;

@@ -1,5 +1,6 @@
 -- The table of active transactions.
-use Rattle.std.specs.Prelude.{ℕ, ◌≡◌, ◌+◌, ◌^◌, ◌<◌, ◌≤◌, ◌==◌, nat_lt, List, [], ◌∷◌, ◌++◌, length, Bool, not, ◌&&◌, map, filter, refl}
+use Rattle.std.specs.Prelude.{ℕ, ◌≡◌, ◌+◌, ◌^◌, ◌<◌, ◌≤◌, ◌==◌, nat_lt, List, [], ◌∷◌, ◌++◌, length, Bool, not, ◌&&◌}
+use Rattle.std.specs.Prelude.{map, filter, refl}
 use Rattle.std.specs.List.{All}
 use Rattle.std.specs.Coded.{Coded, code_by, coded×, coded_ℕ, coded_list}
 use Rattle.am_locks.specs.Held.{Held, held_code}
@@ -18,7 +19,8 @@ pub record Txs : Type 0 where
 -- it is stored as its fields
 abbrev pub txs_code : Coded Txs
 txs_code =
-    code_by (ℕ × (List Transaction × List Held)) (coded× coded_ℕ (coded× (coded_list transaction.the_row.coded) (coded_list held_code)))
+    code_by (ℕ × (List Transaction × List Held)) (coded× coded_ℕ
+    (coded× (coded_list transaction.the_row.coded) (coded_list held_code)))
     (λ t. (t.begun, (t.active, t.locks))) (λ p. record { begun = p.0; active = p.1.0; locks = p.1.1 }) (λ _. refl)
 
 -- each number is below all later ones
@@ -41,7 +43,11 @@ can_begin t = nat_lt (length t.active) 64 && nat_lt t.begun (2 ^ 63)
 
 -- one more transaction is active: the last one, with the next number
 abbrev pub started : Txs → Txs
-started t = record { begun = t.begun + 1; active = t.active ++ fresh (t.begun + 1) ∷ []; locks = entered t.locks (t.begun + 1) }
+started t = record {
+  begun = t.begun + 1;
+  active = t.active ++ fresh (t.begun + 1) ∷ [];
+  locks = entered t.locks (t.begun + 1);
+}
 
 -- the transaction had one more operation
 abbrev pub counted : Txs → ℕ → Txs
@@ -53,4 +59,7 @@ with_log t tx log = record t { active = changed (λ x. record x { log = log }) t
 
 -- the transaction is not active any more, and owns no locks
 abbrev pub ended : Txs → ℕ → Txs
-ended t tx = record t { active = filter (λ (x : Transaction). not (x.number == tx)) t.active; locks = without t.locks tx }
+ended t tx = record t {
+  active = filter (λ (x : Transaction). not (x.number == tx)) t.active;
+  locks = without t.locks tx;
+}

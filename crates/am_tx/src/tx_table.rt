@@ -1,6 +1,7 @@
 //! The table of active transactions.
 
-ghost use Rattle.std.specs.Prelude.{◌≡◌, ◌≢◌, ◌+◌, ◌<◌, ◌≤◌, ◌↔◌, [], Some, None, true, false, length, take, slice_index_or, slice_set, if◌then◌else◌};
+ghost use Rattle.std.specs.Prelude.{◌≡◌, ◌≢◌, ◌+◌, ◌<◌, ◌≤◌, ◌↔◌, [], Some, None, true, false, length, take};
+ghost use Rattle.std.specs.Prelude.{slice_index_or, slice_set, if◌then◌else◌};
 ghost use Rattle.std.specs.Borrow.{sem};
 ghost use Rattle.am_record.specs.Locks.{is_covered, with_lock};
 ghost use Rattle.am_locks.specs.Table.{locks_of, with_locks, blockers};
@@ -125,7 +126,8 @@ impl TxTable {
         requires { is_active self.old.active tx ≡ true }
 
         // Busy comes first, and names the least of the other transactions with a conflicting lock.
-        ensures busy { MatchBusy result (IsLeastOf (blockers self.old.locks tx asked)) (blockers self.old.locks tx asked ≡ []) }
+        ensures busy { MatchBusy result (IsLeastOf (blockers self.old.locks tx asked))
+            (blockers self.old.locks tx asked ≡ []) }
 
         // Then the lock is granted, unless it would be added to 256, or memory is refused for it.
         ensures too_many_locks { (result ≡ Asked.TooManyLocks)
@@ -137,7 +139,10 @@ impl TxTable {
             × (8 ≤ length (locks_of self.old.locks tx)) }
 
         ensures granted { result ≡ Asked.Granted
-            → self.new ≡ record self.old { locks = with_locks self.old.locks tx (with_lock (locks_of self.old.locks tx) asked) } }
+            → self.new ≡ record self.old {
+              locks = with_locks self.old.locks tx
+                  (with_lock (locks_of self.old.locks tx) asked);
+            } }
         ensures refused { result ≢ Asked.Granted → self.new ≡ self.old }
     {
         self.locks.ask(tx, asked)
@@ -156,7 +161,10 @@ impl TxTable {
     pub fn cut(&mut self, tx: u64, n: usize)
         requires active { is_active self.old.active tx ≡ true }
         requires held { n ≤ length (locks_of self.old.locks tx) }
-        ensures { self.new ≡ record self.old { locks = with_locks self.old.locks tx (take n (locks_of self.old.locks tx)) } }
+        ensures { self.new ≡ record self.old {
+          locks = with_locks self.old.locks tx
+              (take n (locks_of self.old.locks tx));
+        } }
     {
         self.locks.cut(tx, n);
     }
@@ -184,7 +192,8 @@ impl TxTable {
         ensures found { (d : Transaction) → let x = slice_index_or self.now.active result d in
             (x.number ≡ tx) × (x.ops ≡ ops_of self.now.active tx) × (x.log ≡ log_of self.now.active tx) }
         ensures write { (f : Transaction → Transaction) (d : Transaction)
-            → slice_set self.now.active result (f (slice_index_or self.now.active result d)) ≡ changed f tx self.now.active }
+            → slice_set self.now.active result (f (slice_index_or self.now.active result d)) ≡
+            changed f tx self.now.active }
     {
         let place = self.active.iter().position(|active| active.number == tx);
         place.unwrap()

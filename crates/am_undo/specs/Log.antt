@@ -6,7 +6,8 @@ use Rattle.am_record.specs.OrderedKey.{OrderedKey, key_code}
 use Rattle.am_undo.specs.declared.note.Note.{Note}
 use Rattle.am_undo.specs.declared.note.Note.TheVariants.{New, Before, RunMade}
 
--- the notes and the marks, the newest first, and whether one more note is sure to fit; each mark is the number of notes at it
+-- the notes and the marks, the newest first, and whether one more note is sure to fit; each mark is the number of notes
+-- at it
 pub record Log : Type 0 where
   pub notes : List Note
   pub marks : List ℕ
@@ -32,7 +33,10 @@ note_of_fields_of_note (Before part key value is_ghost) = refl
 note_of_fields_of_note (RunMade run) = refl
 
 abbrev pub note_code : Coded Note
-note_code = code_by NoteFields (coded⊎ key_code (coded⊎ (coded× (coded× coded_ℕ key_code) (coded× (coded_list coded_ℕ) coded_bool)) coded_ℕ)) fields_of_note note_of_fields note_of_fields_of_note
+note_code = code_by NoteFields (coded⊎ key_code (coded⊎ (coded× (coded× coded_ℕ key_code)
+    (coded× (coded_list coded_ℕ) coded_bool)) coded_ℕ)) fields_of_note note_of_fields note_of_fields_of_note
 
 abbrev pub log_code : Coded Log
-log_code = code_by (List Note × (List ℕ × Bool)) (coded× (coded_list note_code) (coded× (coded_list coded_ℕ) coded_bool)) (λ l. (l.notes, (l.marks, l.has_room))) (λ p. record { notes = p.0; marks = p.1.0; has_room = p.1.1 }) (λ _. refl)
+log_code = code_by (List Note × (List ℕ × Bool)) (coded× (coded_list note_code)
+    (coded× (coded_list coded_ℕ) coded_bool)) (λ l. (l.notes, (l.marks, l.has_room)))
+    (λ p. record { notes = p.0; marks = p.1.0; has_room = p.1.1 }) (λ _. refl)

@@ -44,9 +44,14 @@ Stands (RunMade p) slots = Unit {0}
 
 -- no key is live in two partitions
 pub record OneLive (slots : Slots) : Type 0 where
-  pub one : (key : OrderedKey) (part part' : ℕ) (value value' : List ℕ) → slots part key ≡ Some (value, false) → slots part' key ≡ Some (value', false) → part ≡ part'
+  pub one : (key : OrderedKey) (part part' : ℕ) (value value' : List ℕ) → slots part key ≡ Some (value, false) →
+      slots part' key ≡ Some (value', false) → part ≡ part'
 
 -- each noted entry is still there when its turn comes, and in no step a key becomes live twice
 abbrev pub CanTakeBack : List Note → Slots → Type 0
 CanTakeBack [] slots = Unit {0}
-CanTakeBack (n ∷ notes) slots = record { stands : Stands n slots; one : OneLive (back_at n slots); older : CanTakeBack notes (back_at n slots) }
+CanTakeBack (n ∷ notes) slots = record {
+  stands : Stands n slots;
+  one : OneLive (back_at n slots);
+  older : CanTakeBack notes (back_at n slots);
+}

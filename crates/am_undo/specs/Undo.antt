@@ -25,15 +25,18 @@ abbrev pub is_noted_run : List Note → ℕ → Bool
 is_noted_run notes part = list_any (λ n. makes_run n part) notes
 
 -- the notes of a transaction are of keys that it owns, can be taken back, and give each of its keys the value before
-pub record Undoes (es : List Entry) (notes : List Note) (owned : OrderedKey → Bool) (before : OrderedKey → Option (List ℕ)) : Type 0 where
+pub record Undoes (es : List Entry) (notes : List Note) (owned : OrderedKey → Bool)
+    (before : OrderedKey → Option (List ℕ)) : Type 0 where
   pub can : CanTakeBack notes (find es)
   pub owns : AllByRecursion (IsOwned owned (find es)) notes
-  pub restores : (key : OrderedKey) → owned key ≡ true → HasOne (λ part. live_value (back notes part key (find es part key))) (before key)
+  pub restores : (key : OrderedKey) → owned key ≡ true →
+      HasOne (λ part. live_value (back notes part key (find es part key))) (before key)
 
 -- nothing that the notes speak of is changed: the owned keys stand as they stood, and nothing is added to a noted run
 pub record LeavesNoted (es es' : List Entry) (notes : List Note) (owned : OrderedKey → Bool) : Type 0 where
   pub same : (key : OrderedKey) → owned key ≡ true → (part : ℕ) → find es' part key ≡ find es part key
-  pub runs : (part : ℕ) (key : OrderedKey) → is_noted_run notes part ≡ true → find es part key ≡ None → find es' part key ≡ None
+  pub runs : (part : ℕ) (key : OrderedKey) → is_noted_run notes part ≡ true → find es part key ≡ None →
+      find es' part key ≡ None
 
 -- a run was loaded, of owned keys
 pub record LoadsRun (es es' : List Entry) (run : ℕ) (owned : OrderedKey → Bool) : Type 0 where
@@ -42,23 +45,32 @@ pub record LoadsRun (es es' : List Entry) (run : ℕ) (owned : OrderedKey → Bo
   pub own : (key : OrderedKey) → owned key ≡ false → find es' run key ≡ None
 
 -- what a transaction's own steps, the steps of others and an abort do
-pub record UndoLaws (es : List Entry) (notes : List Note) (owned : OrderedKey → Bool) (before : OrderedKey → Option (List ℕ)) : Type 0 where
+pub record UndoLaws (es : List Entry) (notes : List Note) (owned : OrderedKey → Bool)
+    (before : OrderedKey → Option (List ℕ)) : Type 0 where
   -- more keys are locked, which nobody owned
   pub locked : (owned' : OrderedKey → Bool) → ((key : OrderedKey) → owned key ≡ true → owned' key ≡ true) →
-      ((key : OrderedKey) → owned' key ≡ true → owned key ≡ false → before key ≡ get (content es) key) → Undoes es notes owned' before
+      ((key : OrderedKey) → owned' key ≡ true → owned key ≡ false → before key ≡ get (content es) key) →
+      Undoes es notes owned' before
   -- an entry is changed, an entry is made, a run is loaded
-  pub changed : (part : ℕ) (key : OrderedKey) (old : List ℕ) (was_ghost : Bool) (value : List ℕ) (is_ghost : Bool) → owned key ≡ true →
-      find es part key ≡ Some (old, was_ghost) → Undoes (set_entry es part key value is_ghost) (Before part key old was_ghost ∷ notes) owned before
-  pub made : (x : Entry) → x.part ≡ 0 → owned x.key ≡ true → find es 0 x.key ≡ None → Undoes (insert_entry es x) (New x.key ∷ notes) owned before
+  pub changed : (part : ℕ) (key : OrderedKey) (old : List ℕ) (was_ghost : Bool) (value : List ℕ) (is_ghost : Bool) →
+      owned key ≡ true →
+      find es part key ≡ Some (old, was_ghost) → Undoes (set_entry es part key value is_ghost)
+      (Before part key old was_ghost ∷ notes) owned before
+  pub made : (x : Entry) → x.part ≡ 0 → owned x.key ≡ true → find es 0 x.key ≡ None →
+      Undoes (insert_entry es x) (New x.key ∷ notes) owned before
   pub loaded : (es' : List Entry) (run : ℕ) → LoadsRun es es' run owned → Undoes es' (RunMade run ∷ notes) owned before
   -- others change entries of other keys
-  pub others : (es' : List Entry) (before' : OrderedKey → Option (List ℕ)) → OnePlace es' → LeavesNoted es es' notes owned →
+  pub others : (es' : List Entry) (before' : OrderedKey → Option (List ℕ)) → OnePlace es' →
+      LeavesNoted es es' notes owned →
       ((key : OrderedKey) → owned key ≡ true → before' key ≡ before key) → Undoes es' notes owned before'
   -- taken back: the owned keys have their values of before, and the others are untouched
   pub one_place : (es' : List Entry) → TakesBack notes es es' → OnePlace es'
-  pub restored : (es' : List Entry) → TakesBack notes es es' → (key : OrderedKey) → get (content es') key ≡ (if owned key then before key else get (content es) key)
-  pub untouched : (es' : List Entry) → TakesBack notes es es' → (key : OrderedKey) → owned key ≡ false → (part : ℕ) → find es' part key ≡ find es part key
-  pub none_made : (es' : List Entry) → TakesBack notes es es' → (part : ℕ) (key : OrderedKey) → find es part key ≡ None → find es' part key ≡ None
+  pub restored : (es' : List Entry) → TakesBack notes es es' → (key : OrderedKey) →
+      get (content es') key ≡ (if owned key then before key else get (content es) key)
+  pub untouched : (es' : List Entry) → TakesBack notes es es' → (key : OrderedKey) → owned key ≡ false → (part : ℕ) →
+      find es' part key ≡ find es part key
+  pub none_made : (es' : List Entry) → TakesBack notes es es' → (part : ℕ) (key : OrderedKey) →
+      find es part key ≡ None → find es' part key ≡ None
   -- nothing that the notes of another transaction speak of is changed, where the two own no key together
   pub leaves_others : (es' : List Entry) → TakesBack notes es es' → (notes' : List Note) (owned' : OrderedKey → Bool) →
       ((key : OrderedKey) → owned' key ≡ true → owned key ≡ false) → LeavesNoted es es' notes' owned'

@@ -14,12 +14,15 @@ use crate::note::Note;
 /// What taking back a transaction's notes restores, whatever it and the others do before.
 pub fn undo_follows()
     ensures nothing { (es : List Entry) (before : OrderedKey → Option (List ℕ)) → Undoes es [] (λ _. false) before }
-    ensures laws { (es : List Entry) (notes : List Note) (owned : OrderedKey → Bool) (before : OrderedKey → Option (List ℕ)) →
+    ensures laws { (es : List Entry) (notes : List Note) (owned : OrderedKey → Bool)
+        (before : OrderedKey → Option (List ℕ)) →
         IsRising es → OnePlace es → Undoes es notes owned before → UndoLaws es notes owned before }
 {}
 
 /// What Mark, Back and all other steps do to notes with marks.
 pub fn marks_follow()
-    ensures { (es : List Entry) (notes : List Note) (owned : OrderedKey → Bool) (before : PlainMap) (marks : List ℕ) (maps : List PlainMap) →
-        IsRising es → OnePlace es → UndoesEach es notes owned before (length notes) marks maps → MarkLaws es notes owned before marks maps }
+    ensures { (es : List Entry) (notes : List Note) (owned : OrderedKey → Bool) (before : PlainMap) (marks : List ℕ)
+        (maps : List PlainMap) →
+        IsRising es → OnePlace es → UndoesEach es notes owned before (length notes) marks maps →
+        MarkLaws es notes owned before marks maps }
 {}

@@ -1,6 +1,7 @@
 //! The notes of one transaction.
 
-ghost use Rattle.std.specs.Prelude.{◌≡◌, ◌+◌, ◌<◌, ℕ, [], ◌∷◌, Bool, true, List, Option, length, reverse, drop, take, IsOk, OnOk, OnErr, IsSome, if◌then◌else◌, ◌==◌};
+ghost use Rattle.std.specs.Prelude.{◌≡◌, ◌+◌, ◌<◌, ℕ, [], ◌∷◌, Bool, true, List, Option, length, reverse, drop, take};
+ghost use Rattle.std.specs.Prelude.{IsOk, OnOk, OnErr, IsSome, if◌then◌else◌, ◌==◌};
 ghost use Rattle.am_record.specs.OrderedKey.{OrderedKey};
 ghost use Rattle.am_list.specs.Entries.{find, IsRising};
 ghost use Rattle.am_list.specs.Edits.{same_place};
@@ -31,7 +32,11 @@ impl Model for UndoLog {
 
     ghost coded = { log_code };
 
-    ghost view = { λ a. record { notes = reverse a.notes.items; marks = reverse a.marks.items; has_room = nat_le (length a.notes.items + 1) a.notes.capacity } };
+    ghost view = { λ a. record {
+      notes = reverse a.notes.items;
+      marks = reverse a.marks.items;
+      has_room = nat_le (length a.notes.items + 1) a.notes.capacity;
+    } };
 
     ghost invariant = { λ a. (4 ≤ a.notes.capacity) × (2 ≤ a.marks.capacity) };
 }
@@ -150,7 +155,8 @@ fn take_back_above<I: PartIndex + Drop>(
 fn take_back_one<I: PartIndex + Drop>(parts: &mut Parts<I>, note: Note)
     requires stands { Stands note (find parts.old.entries) }
     requires one { OneLive (back_at note (find parts.old.entries)) }
-    ensures back { (part : ℕ) (key : OrderedKey) → find parts.new.entries part key ≡ back_one note part key (find parts.old.entries part key) }
+    ensures back { (part : ℕ) (key : OrderedKey) → find parts.new.entries part key ≡
+        back_one note part key (find parts.old.entries part key) }
     ensures rising { IsRising parts.new.entries }
     ensures runs { parts.new.runs ≡ parts.old.runs }
 {
@@ -169,7 +175,8 @@ fn take_back_one<I: PartIndex + Drop>(parts: &mut Parts<I>, note: Note)
 // Makes an entry a ghost with its value.
 fn bury<I: PartIndex + Drop>(parts: &mut Parts<I>, part: u32, key: Key)
     requires { IsSome (find parts.old.entries part key) }
-    ensures back { (p : ℕ) (k : OrderedKey) → find parts.new.entries p k ≡ (if same_place p k part key then ghosted (find parts.old.entries p k) else find parts.old.entries p k) }
+    ensures back { (p : ℕ) (k : OrderedKey) → find parts.new.entries p k ≡
+        (if same_place p k part key then ghosted (find parts.old.entries p k) else find parts.old.entries p k) }
     ensures rising { IsRising parts.new.entries }
     ensures runs { parts.new.runs ≡ parts.old.runs }
 {
@@ -181,7 +188,8 @@ fn bury<I: PartIndex + Drop>(parts: &mut Parts<I>, part: u32, key: Key)
 
 // Makes all entries of a partition ghosts with their values.
 fn bury_run<I: PartIndex + Drop>(parts: &mut Parts<I>, run: u32)
-    ensures back { (p : ℕ) (k : OrderedKey) → find parts.new.entries p k ≡ (if p == run then ghosted (find parts.old.entries p k) else find parts.old.entries p k) }
+    ensures back { (p : ℕ) (k : OrderedKey) → find parts.new.entries p k ≡
+        (if p == run then ghosted (find parts.old.entries p k) else find parts.old.entries p k) }
     ensures rising { IsRising parts.new.entries }
     ensures runs { parts.new.runs ≡ parts.old.runs }
 {

@@ -1,5 +1,7 @@
--- What stands after the verb of a line: as texts of any size, and the values that these texts name where they are in bounds.
-use Rattle.std.specs.Prelude.{ℕ, ◌<◌, List, [], ◌∷◌, ◌++◌, codes, map, length, Option, Some, None, option_map, option_and_then, if◌then◌else◌}
+-- What stands after the verb of a line: as texts of any size, and the values that these texts name where they are in
+-- bounds.
+use Rattle.std.specs.Prelude.{ℕ, ◌<◌, List, [], ◌∷◌, ◌++◌, codes, map, length, Option, Some, None, option_map}
+use Rattle.std.specs.Prelude.{option_and_then, if◌then◌else◌}
 use Rattle.std.specs.Option.{option_zip}
 use Rattle.std.specs.List.{AllByRecursion}
 use Rattle.am_record.specs.OrderedKey.{OrderedKey}
@@ -11,7 +13,8 @@ use Rattle.am_record.specs.declared.lock.Lock.{Lock}
 use Rattle.am_wire.specs.Numbers.{numeral, number_for}
 use Rattle.am_wire.specs.Keys.{IsKeyText, key_for}
 use Rattle.am_wire.specs.Values.{IsValueText, value_for}
-use Rattle.am_wire.specs.Verbs.{Shape, bare, one_key, one_record, one_number, range_and_number, mode_and_range, some_records}
+use Rattle.am_wire.specs.Verbs.{Shape, bare, one_key, one_record, one_number, range_and_number, mode_and_range}
+use Rattle.am_wire.specs.Verbs.{some_records}
 
 -- ---- as texts
 
@@ -75,7 +78,8 @@ record_for r = option_zip (key_for r.0) (value_for r.1)
 
 abbrev pub records_for : List RecordText → Option Records
 records_for [] = Some []
-records_for (r ∷ rs) = option_map (λ (p : (OrderedKey × List ℕ) × Records). p.0 ∷ p.1) (option_zip (record_for r) (records_for rs))
+records_for (r ∷ rs) = option_map (λ (p : (OrderedKey × List ℕ) × Records). p.0 ∷ p.1)
+    (option_zip (record_for r) (records_for rs))
 
 -- the range of two keys, where they stand in order
 abbrev pub interval_for : OrderedKey × OrderedKey → Option Interval

@@ -10,8 +10,8 @@ Gave holds old given new = Appends (holds old) (holds new) given
 abbrev pub GaveBeginning : {S : Type 0} → (S → Option (List ℕ)) → S → List ℕ → S → Type 0
 GaveBeginning holds old given new = (n : ℕ) × Gave holds old (take n given) new
 
--- What a sink over memory is: the bytes that it keeps, whether some of them are not sent on, how many calls there are up to the one that fails (0: none does),
--- and how often it has failed.
+-- What a sink over memory is: the bytes that it keeps, whether some of them are not sent on, how many calls there are
+-- up to the one that fails (0: none does), and how often it has failed.
 pub record Outgoing : Type 0 where
   pub bytes : List ℕ
   pub pending : Bool

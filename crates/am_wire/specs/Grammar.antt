@@ -1,5 +1,6 @@
 -- The lines of a session: what each form of line spells, and what it asks for.
-use Rattle.std.specs.Prelude.{◌≡◌, ◌≢◌, ℕ, List, ◌∷◌, Bool, true, false, Option, Some, None, Result, Ok, Err, option_map}
+use Rattle.std.specs.Prelude.{◌≡◌, ◌≢◌, ℕ, List, ◌∷◌, Bool, true, false, Option, Some, None, Result, Ok, Err}
+use Rattle.std.specs.Prelude.{option_map}
 use Rattle.std.specs.List.{join_with_byte}
 use Rattle.am_record.specs.declared.step.Op.TheVariants as op
 use Rattle.am_wire.specs.Verbs.{word_of, shape_of}
@@ -7,7 +8,8 @@ use Rattle.am_wire.specs.Arguments.{Arguments, Values, fields_of, AreProper, val
 use Rattle.am_wire.specs.declared.verb.Verb.{Verb}
 use Rattle.am_wire.specs.declared.verb.Verb.TheVariants as verb
 use Rattle.am_wire.specs.declared.request.Request.{Request}
-use Rattle.am_wire.specs.declared.request.Request.TheVariants.{Begin, Do, Stage, Commit, Abort, Merge, Clean, Seen, Quit}
+use Rattle.am_wire.specs.declared.request.Request.TheVariants.{Begin, Do, Stage, Commit, Abort, Merge, Clean, Seen}
+use Rattle.am_wire.specs.declared.request.Request.TheVariants.{Quit}
 use Rattle.am_wire.specs.declared.request.LineFault.{LineFault}
 use Rattle.am_wire.specs.declared.request.LineFault.TheVariants.{Syntax, Range, NoMemory}
 
@@ -58,8 +60,8 @@ brings_records (Do (op.Load records)) = true
 brings_records (Stage records) = true
 brings_records _ = false
 
--- What a line is read as: the request of the form that it spells, Range where that form has none, Syntax where it spells
--- none. Memory may be refused where it brings records.
+-- What a line is read as: the request of the form that it spells, Range where that form has none, Syntax where it
+-- spells none. Memory may be refused where it brings records.
 abbrev pub Reads : List ℕ → Result Request LineFault → Type 0
 Reads line (Ok request) = Spells line (Some request)
 Reads line (Err Syntax) = (form : Form) → IsProper form → line ≢ spelling form

@@ -1,6 +1,7 @@
--- Keys as lines name them and as replies print them. All texts of keys stand here; the forms of lines and replies say only
--- where a key is named.
-use Rattle.std.specs.Prelude.{◌≢◌, ℕ, ◌<◌, Bool, not, ◌&&◌, ◌==◌, nat_le, List, length, All, Option, Some, None, if◌then◌else◌}
+-- Keys as lines name them and as replies print them. All texts of keys stand here; the forms of lines and replies say
+-- only where a key is named.
+use Rattle.std.specs.Prelude.{◌≢◌, ℕ, ◌<◌, Bool, not, ◌&&◌, ◌==◌, nat_le, List, length, All, Option, Some, None}
+use Rattle.std.specs.Prelude.{if◌then◌else◌}
 use Rattle.std.specs.Char.{is_ascii_graphic}
 use Rattle.std.specs.List.{list_all}
 use Rattle.am_record.specs.OrderedKey.{OrderedKey, key_of, bytes_of}

@@ -1,5 +1,6 @@
 -- Bytes, cut into lines.
-use Rattle.std.specs.Prelude.{◌≡◌, ◌≢◌, ℕ, List, [], ◌∷◌, ◌++◌, length, map, Bool, true, false, ◌==◌, nat_lt, Option, Some, None, MatchBool, cond}
+use Rattle.std.specs.Prelude.{◌≡◌, ◌≢◌, ℕ, List, [], ◌∷◌, ◌++◌, length, map, Bool, true, false, ◌==◌, nat_lt, Option}
+use Rattle.std.specs.Prelude.{Some, None, MatchBool, cond}
 use Rattle.am_wire.specs.Taking.{TookAhead, IsAtEnd}
 
 -- a byte goes onto the front of the first line
@@ -44,7 +45,8 @@ CutsLine bytes line rest = (taken : List ℕ) × (bytes ≡ taken ++ rest)
 -- One line was taken, ended by its LF, or else by the end of the input.
 abbrev pub TookLine : {S : Type 0} → (S → List ℕ → Type 0) → List ℕ → S → Option (List ℕ) → Bool → List ℕ → S → Type 0
 TookLine comes before old line ended waiting new = (taken : List ℕ) × TookAhead comes before old taken waiting new
-    × MatchBool ended ((more : List ℕ) → lines_of (taken ++ more) ≡ line ∷ lines_of more) ((lines_of taken ≡ line ∷ []) × IsAtEnd comes waiting new)
+    × MatchBool ended ((more : List ℕ) → lines_of (taken ++ more) ≡ line ∷ lines_of more)
+    ((lines_of taken ≡ line ∷ []) × IsAtEnd comes waiting new)
 
 -- Bytes of a line were taken that isn't ended yet.
 abbrev pub TookPart : {S : Type 0} → (S → List ℕ → Type 0) → List ℕ → S → List ℕ → S → Type 0

@@ -1,12 +1,14 @@
 -- What a line is read as, by its fields.
-use Rattle.std.specs.Prelude.{◌≡◌, ◌⊎◌, ℕ, ◌&&◌, ◌==◌, if◌then◌else◌, List, [], ◌∷◌, codes, map, Bool, true, Option, Some, None, Result, Ok, Err, IsOk, bytes_eq, is_some, option_map, ok_or}
+use Rattle.std.specs.Prelude.{◌≡◌, ◌⊎◌, ℕ, ◌&&◌, ◌==◌, if◌then◌else◌, List, [], ◌∷◌, codes, map, Bool, true, Option}
+use Rattle.std.specs.Prelude.{Some, None, Result, Ok, Err, IsOk, bytes_eq, is_some, option_map, ok_or}
 use Rattle.std.specs.List.{slice_split, list_all, before_first, after_first}
 use Rattle.am_record.specs.declared.lock.Mode.{Mode}
 use Rattle.am_record.specs.declared.lock.Mode.TheVariants.{Shared, Exclusive}
 use Rattle.am_wire.specs.Numbers.{is_numeral, numeral_value}
 use Rattle.am_wire.specs.Keys.{is_key_text}
 use Rattle.am_wire.specs.Values.{is_value_text}
-use Rattle.am_wire.specs.Verbs.{verb_for, shape_of, Shape, bare, one_key, one_record, one_number, range_and_number, mode_and_range, some_records}
+use Rattle.am_wire.specs.Verbs.{verb_for, shape_of, Shape, bare, one_key, one_record, one_number, range_and_number}
+use Rattle.am_wire.specs.Verbs.{mode_and_range, some_records}
 use Rattle.am_wire.specs.Arguments.{RecordText, Arguments, Values, values_for, records_for}
 use Rattle.am_wire.specs.Grammar.{request_with, brings_records}
 use Rattle.am_wire.specs.declared.verb.Verb.{Verb}
@@ -29,7 +31,8 @@ HasField fields = (f : List ℕ) × (fs : List (List ℕ)) × (fields ≡ f ∷ 
 
 -- the mode of a field
 abbrev pub mode_for : List ℕ → Option Mode
-mode_for field = if bytes_eq field (codes "S") then Some Shared else if bytes_eq field (codes "X") then Some Exclusive else None
+mode_for field = if bytes_eq field (codes "S") then Some Shared else if bytes_eq field
+    (codes "X") then Some Exclusive else None
 
 -- a field as a record: its key ends at the first =
 abbrev pub is_equals : ℕ → Bool
@@ -54,8 +57,10 @@ arguments_in bare [] = Some tt
 arguments_in one_key (key ∷ []) = if is_key_text key then Some key else None
 arguments_in one_record (key ∷ value ∷ []) = if is_record_text (key, value) then Some (key, value) else None
 arguments_in one_number (n ∷ []) = if is_numeral n then Some (numeral_value n) else None
-arguments_in range_and_number (lo ∷ hi ∷ n ∷ []) = if is_key_text lo && is_key_text hi && is_numeral n then Some (lo, hi, numeral_value n) else None
-arguments_in mode_and_range (mode ∷ lo ∷ hi ∷ []) = if is_key_text lo && is_key_text hi then option_map (λ m. (m, lo, hi)) (mode_for mode) else None
+arguments_in range_and_number (lo ∷ hi ∷ n ∷ []) = if is_key_text lo && is_key_text hi &&
+    is_numeral n then Some (lo, hi, numeral_value n) else None
+arguments_in mode_and_range (mode ∷ lo ∷ hi ∷ []) = if is_key_text lo &&
+    is_key_text hi then option_map (λ m. (m, lo, hi)) (mode_for mode) else None
 arguments_in some_records (f ∷ fs) = records_in (f ∷ fs)
 arguments_in shape fs = None
 
@@ -74,7 +79,8 @@ MayBeRefused due result = (result ≡ due) ⊎ ((result ≡ Err NoMemory) × IsO
 
 -- the fault of a line that has one before these fields: one that is no record outranks it, and one out of bounds does
 abbrev pub fault_behind : LineFault → List (List ℕ) → LineFault
-fault_behind fault fs = if list_all is_record_field fs then (if is_some (records_for (map record_text fs)) then fault else Range) else Syntax
+fault_behind fault fs = if list_all is_record_field fs then
+    (if is_some (records_for (map record_text fs)) then fault else Range) else Syntax
 
 -- a function of the value, where there is one
 abbrev pub map_ok : {A B E : Type 0} → (A → B) → Result A E → Result B E
@@ -96,4 +102,5 @@ reading line = fields_reading (line_fields line)
 
 -- this is what is due, or memory was refused for the records that the line brings
 abbrev pub MayRead : Result Request LineFault → Result Request LineFault → Type 0
-MayRead due result = (result ≡ due) ⊎ ((result ≡ Err NoMemory) × ((request : Request) × (due ≡ Ok request) × (brings_records request ≡ true)))
+MayRead due result = (result ≡ due) ⊎ ((result ≡ Err NoMemory) ×
+    ((request : Request) × (due ≡ Ok request) × (brings_records request ≡ true)))

@@ -12,14 +12,15 @@ Ahead comes waiting source bytes = (rest : List ℕ) × comes source rest × (by
 
 -- the same of a source in front of which taken bytes are waiting
 abbrev pub TookAhead : {S : Type 0} → (S → List ℕ → Type 0) → List ℕ → S → List ℕ → List ℕ → S → Type 0
-TookAhead comes before old taken waiting new = (rest : List ℕ) → Ahead comes waiting new rest → Ahead comes before old (taken ++ rest)
+TookAhead comes before old taken waiting new = (rest : List ℕ) → Ahead comes waiting new rest →
+    Ahead comes before old (taken ++ rest)
 
 -- nothing is waiting, and nothing may come
 abbrev pub IsAtEnd : {S : Type 0} → (S → List ℕ → Type 0) → List ℕ → S → Type 0
 IsAtEnd comes waiting source = (waiting ≡ []) × comes source []
 
--- What a source over memory still does: the bytes that it has left, the sizes of the pieces to come, how many calls there
--- are up to the one that fails (0: none does), and how often it has failed.
+-- What a source over memory still does: the bytes that it has left, the sizes of the pieces to come, how many calls
+-- there are up to the one that fails (0: none does), and how often it has failed.
 pub record Incoming : Type 0 where
   pub rest : List ℕ
   pub sizes : List ℕ

@@ -1,7 +1,8 @@
 -- The verbs of lines: the word that begins a line, and what stands after it.
 use Rattle.std.specs.Prelude.{ℕ, List, [], ◌∷◌, codes, Option, bytes_eq, find}
 use Rattle.am_wire.specs.declared.verb.Verb.{Verb}
-use Rattle.am_wire.specs.declared.verb.Verb.TheVariants.{Begin, Get, Scan, Insert, Replace, Delete, Load, Stage, Lock, Mark, Back, Commit, Abort, Merge, Clean, Seen, Quit}
+use Rattle.am_wire.specs.declared.verb.Verb.TheVariants.{Begin, Get, Scan, Insert, Replace, Delete, Load, Stage, Lock}
+use Rattle.am_wire.specs.declared.verb.Verb.TheVariants.{Mark, Back, Commit, Abort, Merge, Clean, Seen, Quit}
 
 abbrev pub word_of : Verb → List ℕ
 word_of Begin = codes "BEGIN"
@@ -22,8 +23,8 @@ word_of Clean = codes "CLEAN"
 word_of Seen = codes "SEEN"
 word_of Quit = codes "QUIT"
 
--- what stands after the word: nothing, a key, a record's key and value, a number, the ends of a range and a number, a mode
--- and the ends of a range, or records written k=v, one at least
+-- what stands after the word: nothing, a key, a record's key and value, a number, the ends of a range and a number, a
+-- mode and the ends of a range, or records written k=v, one at least
 pub data Shape : Type 0 where
   bare : Shape
   one_key : Shape
@@ -53,7 +54,8 @@ shape_of Seen = bare
 shape_of Quit = bare
 
 abbrev pub verbs : List Verb
-verbs = Begin ∷ Get ∷ Scan ∷ Insert ∷ Replace ∷ Delete ∷ Load ∷ Stage ∷ Lock ∷ Mark ∷ Back ∷ Commit ∷ Abort ∷ Merge ∷ Clean ∷ Seen ∷ Quit ∷ []
+verbs = Begin ∷ Get ∷ Scan ∷ Insert ∷ Replace ∷ Delete ∷ Load ∷ Stage ∷ Lock ∷ Mark ∷ Back ∷ Commit ∷ Abort ∷ Merge ∷
+    Clean ∷ Seen ∷ Quit ∷ []
 
 -- the verb of a word
 unfoldable pub verb_for : List ℕ → Option Verb

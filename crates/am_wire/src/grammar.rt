@@ -16,7 +16,8 @@ use crate::request::{LineFault, Request};
 use crate::verb::Verb;
 
 /// Each line has one reading, the one by its fields, and no line is that of two forms. Memory may be refused of what
-/// brings records alone. The records that a line brings or writes are visible, and the text of a number is what is printed of it.
+/// brings records alone. The records that a line brings or writes are visible, and the text of a number is what is
+/// printed of it.
 pub fn one_reading()
     ensures one_form { (a b : Form) →
         IsProper a → IsProper b → spelling a ≡ spelling b → a ≡ b }
@@ -31,8 +32,8 @@ pub fn one_reading()
     ensures printed { (n : ℕ) → n < 2 ^ 64 → numeral n ≡ decimal n }
 {}
 
-/// Words that a space parts are the fields of their line, and the texts of numbers, verbs, modes and records are read as
-/// what they are texts of: for whoever writes lines of their own with these words.
+/// Words that a space parts are the fields of their line, and the texts of numbers, verbs, modes and records are read
+/// as what they are texts of: for whoever writes lines of their own with these words.
 pub fn words_are_fields()
     ensures fields { (word : List ℕ) (words : List (List ℕ)) → has_no_space word ≡ true →
         AllByRecursion (λ w. has_no_space w ≡ true) words →

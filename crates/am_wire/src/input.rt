@@ -1,6 +1,7 @@
 //! Lines of a source.
 
-ghost use Rattle.std.specs.Prelude.{◌≡◌, ℕ, ◌+◌, ◌-◌, ◌^◌, ◌<◌, ◌≤◌, List, [], ◌∷◌, ◌++◌, length, take, true, false, drop, is_some, OnOk, OnErr, IfOk, IfSome, IfNone, vec_len, option_to_list};
+ghost use Rattle.std.specs.Prelude.{◌≡◌, ℕ, ◌+◌, ◌-◌, ◌^◌, ◌<◌, ◌≤◌, List, [], ◌∷◌, ◌++◌, length, take, true, false};
+ghost use Rattle.std.specs.Prelude.{drop, is_some, OnOk, OnErr, IfOk, IfSome, IfNone, vec_len, option_to_list};
 ghost use Rattle.am_wire.specs.Taking.{TookAhead, IsAtEnd};
 ghost use Rattle.am_wire.specs.Lines.{HasNoLf, has_lf, CutsLine, TookLine, TookPart};
 ghost use Rattle.am_wire.specs.Seen.{seen};
@@ -151,7 +152,8 @@ impl Input {
     ) -> Result<Option<u8>, Failed>
         requires countable { S.failures source.old < 2 ^ 63 }
         requires sent { K.pending sink.now ≡ false }
-        ensures taken { IfOk result (λ byte. TookAhead S.comes self.old source.old (option_to_list byte) self.new source.new) }
+        ensures taken { IfOk result (λ byte. TookAhead S.comes self.old source.old
+            (option_to_list byte) self.new source.new) }
         ensures end { IfOk result (λ byte. IfNone byte (IsAtEnd S.comes self.new source.new)) }
         ensures ok { OnOk result (S.failures source.new ≡ S.failures source.old) }
         ensures failed { OnErr result (S.failures source.new ≡ S.failures source.old + 1) }
@@ -169,8 +171,8 @@ impl Input {
 }
 
 /// Reads the next line, however the source cuts its bytes. None means that there is no further line. Its bytes stand in
-/// `line`; of a line that is too long the rest up to the LF is passed over. After a failure what was read of a line that
-/// isn't ended is lost. The source is asked with nothing unsent in the sink.
+/// `line`; of a line that is too long the rest up to the LF is passed over. After a failure what was read of a line
+/// that isn't ended is lost. The source is asked with nothing unsent in the sink.
 pub fn read_line<R: Wait, K: Sink, S: AnsweredSource<K>>(
     rt: &R,
     input: &mut Input,

@@ -1,6 +1,7 @@
 //! One line of limited length.
 
-ghost use Rattle.std.specs.Prelude.{◌≡◌, ℕ, ◌+◌, ◌-◌, ◌<◌, ◌≤◌, ◌↔◌, List, [], ◌∷◌, ◌++◌, length, take, IfOk, IsTrue, vec_len};
+ghost use Rattle.std.specs.Prelude.{◌≡◌, ℕ, ◌+◌, ◌-◌, ◌<◌, ◌≤◌, ◌↔◌, List, [], ◌∷◌, ◌++◌, length, take, IfOk, IsTrue};
+ghost use Rattle.std.specs.Prelude.{vec_len};
 ghost use Rattle.am_wire.specs.Lines.{without_cr, line_of};
 ghost use Rattle.am_wire.specs.Seen.{seen};
 

@@ -1,7 +1,8 @@
 //! Sources and sinks over std's readers and writers.
 
 ghost use Rattle.std.specs.Prelude.{◌≡◌, ℕ, List, ◌+◌, ◌^◌, ◌<◌, ◌↔◌, take, false, MatchResult, IfOk, IfErr, IfSome};
-ghost use Rattle.am_wire.specs.OverStd.{reader_of, read_failures, writer_of, write_failures, is_unsent, IsAnswered, IsCounted};
+ghost use Rattle.am_wire.specs.OverStd.{reader_of, read_failures, writer_of, write_failures, is_unsent, IsAnswered};
+ghost use Rattle.am_wire.specs.OverStd.{IsCounted};
 ghost use Rattle.am_wire.specs.declared.over_std.Reading.{Reading};
 ghost use Rattle.am_wire.specs.declared.over_std.Writing.{Writing};
 

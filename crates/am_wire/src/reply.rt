@@ -3,7 +3,8 @@
 ghost use Rattle.std.specs.Prelude.{◌≡◌, ℕ, ◌+◌, ◌^◌, ◌<◌, ◌≤◌, ◌++◌, length, true, OnOk, OnErr, IfOk};
 ghost use Rattle.am_record.specs.declared.step.Reply.{Reply};
 ghost use Rattle.am_wire.specs.Giving.{Gave, GaveBeginning};
-ghost use Rattle.am_wire.specs.Replies.{refusal_words, row_words, rows_words, head_of, text_of, TellsVisible, IsOneLine};
+ghost use Rattle.am_wire.specs.Replies.{refusal_words, row_words, rows_words, head_of, text_of, TellsVisible};
+ghost use Rattle.am_wire.specs.Replies.{IsOneLine};
 
 use crate::sink::{Sink, StopSink, give_all};
 use crate::source::Failed;
@@ -83,8 +84,8 @@ fn put_rows<K: Sink>(rows: &[(Key, Value)], sink: &mut K) -> Result<(), Failed>
     Ok(())
 }
 
-/// Writes the text of a reply, in pieces of at most 128 bytes. It takes no memory of its own. At a failure a beginning of
-/// the text went out.
+/// Writes the text of a reply, in pieces of at most 128 bytes. It takes no memory of its own. At a failure a beginning
+/// of the text went out.
 #[inline(never)]
 pub fn put_reply<K: Sink>(reply: &Reply, sink: &mut K) -> Result<(), Failed>
     requires countable { K.failures sink.old < 2 ^ 63 }
@@ -116,8 +117,8 @@ pub fn reply_text(alloc: Global, reply: &Reply) -> Result<Vec<u8>, NoMemory>
     }
 }
 
-/// The text of a reply is one line: its only LF is the last byte. Keys and values are to have visible bytes alone, as all
-/// those that came on a line have.
+/// The text of a reply is one line: its only LF is the last byte. Keys and values are to have visible bytes alone, as
+/// all those that came on a line have.
 pub fn replies_are_lines()
     ensures { (reply : Reply) → TellsVisible reply → IsOneLine (text_of reply) }
 {}

@@ -1,6 +1,7 @@
 //! Where bytes go.
 
-ghost use Rattle.std.specs.Prelude.{◌≡◌, ℕ, ◌+◌, ◌-◌, ◌^◌, ◌<◌, ◌≤◌, ◌↔◌, List, [], ◌++◌, length, take, OnOk, OnErr, IfOk, IsErr, Option, Some, Bool, true, false, ◌||◌, nat_lt};
+ghost use Rattle.std.specs.Prelude.{◌≡◌, ℕ, ◌+◌, ◌-◌, ◌^◌, ◌<◌, ◌≤◌, ◌↔◌, List, [], ◌++◌, length, take, OnOk, OnErr};
+ghost use Rattle.std.specs.Prelude.{IfOk, IsErr, Option, Some, Bool, true, false, ◌||◌, nat_lt};
 ghost use Rattle.am_wire.specs.Giving.{Gave, GaveBeginning, Outgoing};
 
 use crate::source::{Failed, falls_due};
@@ -18,8 +19,8 @@ pub trait Sink {
     // Whether bytes were given to it that it has not sent on yet.
     ghost pending: { Self → Bool };
 
-    /// Writes some bytes at the front of a piece, at least one unless the piece is empty, and says how many. At a failure
-    /// nothing was written.
+    /// Writes some bytes at the front of a piece, at least one unless the piece is empty, and says how many. At a
+    /// failure nothing was written.
     fn give(&mut self, piece: &[u8]) -> Result<usize, Failed>
         requires countable { failures self.old < 2 ^ 63 }
         ensures fits { IfOk result (λ n. n ≤ length piece.now) }
@@ -72,7 +73,12 @@ impl Model for StopSink {
 
     ghost Value = { Outgoing };
 
-    ghost view = { λ s. record { bytes = s.kept.items; pending = s.is_pending; calls_to_failure = s.calls_to_failure; failures = s.failures } };
+    ghost view = { λ s. record {
+      bytes = s.kept.items;
+      pending = s.is_pending;
+      calls_to_failure = s.calls_to_failure;
+      failures = s.failures;
+    } };
 }
 
 impl StopSink {

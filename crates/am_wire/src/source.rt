@@ -1,6 +1,7 @@
 //! Where bytes come from.
 
-ghost use Rattle.std.specs.Prelude.{◌≡◌, ℕ, ◌+◌, ◌-◌, ◌^◌, ◌<◌, ◌≤◌, ◌↔◌, List, [], length, take, drop, min, OnOk, OnErr, IfOk, IsErr, IsTrue};
+ghost use Rattle.std.specs.Prelude.{◌≡◌, ℕ, ◌+◌, ◌-◌, ◌^◌, ◌<◌, ◌≤◌, ◌↔◌, List, [], length, take, drop, min, OnOk};
+ghost use Rattle.std.specs.Prelude.{OnErr, IfOk, IsErr, IsTrue};
 ghost use Rattle.am_wire.specs.Taking.{Took, Incoming, IsRest, next_size};
 
 use std::marker::Model;
@@ -29,8 +30,8 @@ pub trait Source {
         ensures kept { OnErr result (Took comes self.old [] self.new) };
 }
 
-/// Counts a call, and says whether it is the one that was waited for. `left` is how many calls there are up to that one,
-/// itself counted, and 0 where none is waited for.
+/// Counts a call, and says whether it is the one that was waited for. `left` is how many calls there are up to that
+/// one, itself counted, and 0 where none is waited for.
 pub(crate) fn falls_due(left: &mut u64) -> bool
     ensures due { IsTrue result ↔ (left.old ≡ 1) }
     ensures left { left.new ≡ left.old - 1 }
@@ -54,13 +55,18 @@ impl<'a> Model for PieceSource<'a> {
 
     ghost Value = { Incoming };
 
-    ghost view = { λ s. record { rest = s.bytes.now; sizes = s.sizes.now; calls_to_failure = s.calls_to_failure; failures = s.failures } };
+    ghost view = { λ s. record {
+      rest = s.bytes.now;
+      sizes = s.sizes.now;
+      calls_to_failure = s.calls_to_failure;
+      failures = s.failures;
+    } };
 }
 
 impl<'a> PieceSource<'a> {
-    /// The bytes, to be given in pieces of these sizes: of one byte where the list has ended or the size is 0, and never
-    /// more than fit or are left. Call number `fail_at` fails, the first being 1; 0 means that none does. The failing
-    /// call uses up no size.
+    /// The bytes, to be given in pieces of these sizes: of one byte where the list has ended or the size is 0, and
+    /// never more than fit or are left. Call number `fail_at` fails, the first being 1; 0 means that none does. The
+    /// failing call uses up no size.
     pub fn new(bytes: &'a [u8], sizes: &'a [usize], fail_at: u64) -> Self
         ensures { result ≡ record { rest = bytes.now; sizes = sizes.now; calls_to_failure = fail_at; failures = 0 } }
     {
@@ -104,7 +110,8 @@ impl<'a> Source for PieceSource<'a> {
         // When it fails, and how much it gives.
         ensures due { IsErr result ↔ (self.old.calls_to_failure ≡ 1) }
         ensures counted { self.new.calls_to_failure ≡ self.old.calls_to_failure - 1 }
-        ensures size { IfOk result (λ n. n ≡ min (min (next_size self.old.sizes) (length self.old.rest)) (length into.new)) }
+        ensures size { IfOk result (λ n. n ≡ min (min (next_size self.old.sizes) (length self.old.rest))
+            (length into.new)) }
         ensures size_used { OnOk result (self.new.sizes ≡ drop 1 self.old.sizes) }
         ensures sizes_kept { OnErr result (self.new.sizes ≡ self.old.sizes) }
     {

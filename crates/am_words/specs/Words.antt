@@ -58,16 +58,28 @@ pub record Kept (s : State ℕ View) : Type 0 where
   pub seen : (k : ℕ) (v : View) → get_elem? s.views k ≡ some v → v.saw ≤ watch
 
 abbrev pub Drew : Step ℕ → Me ℕ View → ℕ → Me ℕ View → Type 0
-Drew st m n m' = m'.0 ≡ record { seats = m.0.seats; drawn = m.0.drawn ++ n ∷ []; saw = m.0.saw; published = m.0.published }
+Drew st m n m' = m'.0 ≡ record {
+  seats = m.0.seats;
+  drawn = m.0.drawn ++ n ∷ [];
+  saw = m.0.saw;
+  published = m.0.published;
+}
 
 abbrev pub Published : Step ℕ → Me ℕ View → ℕ → Me ℕ View → Type 0
-Published st m n m' = m'.0 ≡ record { seats = m.0.seats; drawn = m.0.drawn; saw = m.0.saw; published = max m.0.published st.first }
+Published st m n m' = m'.0 ≡ record {
+  seats = m.0.seats;
+  drawn = m.0.drawn;
+  saw = m.0.saw;
+  published = max m.0.published st.first;
+}
 
 abbrev pub Saw : Step ℕ → Me ℕ View → ℕ → Me ℕ View → Type 0
-Saw st m n m' = (m'.0 ≡ record { seats = m.0.seats; drawn = m.0.drawn; saw = n; published = m.0.published }) × (m.0.saw ≤ n) × (m.0.published ≤ n)
+Saw st m n m' = (m'.0 ≡ record { seats = m.0.seats; drawn = m.0.drawn; saw = n; published = m.0.published }) ×
+    (m.0.saw ≤ n) × (m.0.published ≤ n)
 
 -- the rule held of these words and of all views, in which one has what this seat drew, saw and published
 abbrev pub WereKept : ℕ → ℕ → Hand → Type 0
 WereKept next watch hand =
     (s : State ℕ View) × Kept s × (s.words ≡ next ∷ watch ∷ [])
-    × ((k : ℕ) × (v : View) × (get_elem? s.views k ≡ some v) × (v.drawn ≡ hand.drawn) × (v.saw ≡ hand.saw) × (v.published ≡ hand.published))
+    × ((k : ℕ) × (v : View) × (get_elem? s.views k ≡ some v) × (v.drawn ≡ hand.drawn) × (v.saw ≡ hand.saw) ×
+    (v.published ≡ hand.published))

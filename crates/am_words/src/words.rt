@@ -1,6 +1,7 @@
 //! The two words, and their seats.
 
-ghost use Rattle.std.specs.Prelude.{◌≡◌, ℕ, ◌+◌, ◌*◌, ◌<◌, ◌≤◌, ◌∷◌, ◌++◌, [], All, IfErr, IfOk, MatchOption, OnOk, length, max, vec_len, ◌⊎◌, ◌↔◌};
+ghost use Rattle.std.specs.Prelude.{◌≡◌, ℕ, ◌+◌, ◌*◌, ◌<◌, ◌≤◌, ◌∷◌, ◌++◌, [], All, IfErr, IfOk, MatchOption, OnOk};
+ghost use Rattle.std.specs.Prelude.{length, max, vec_len, ◌⊎◌, ◌↔◌};
 ghost use Rattle.am_words.specs.Words.{Hand, newcomer, WereKept};
 ghost use Rattle.am_words.specs.Faults.{IsBadSeats};
 
@@ -60,7 +61,12 @@ impl Model for WordSeat {
 
     ghost Value = { Hand };
 
-    ghost view = { λ s. record { of = s.seat.table_id; drawn = s.seat.me.0.drawn; saw = s.seat.me.0.saw; published = s.seat.me.0.published } };
+    ghost view = { λ s. record {
+      of = s.seat.table_id;
+      drawn = s.seat.me.0.drawn;
+      saw = s.seat.me.0.saw;
+      published = s.seat.me.0.published;
+    } };
 
     ghost invariant = { λ s. (s.drawn ≡ length s.seat.me.0.drawn) × (s.drawn ≤ 1000000) × (1 ≤ s.seat.me.0.seats) };
 }
@@ -98,7 +104,8 @@ impl Words {
     /// seats have drawn are those below the next number, each once.
     pub fn draw(&self, me: &mut WordSeat) -> Option<u64>
         requires { me.old.of ≡ self.now }
-        ensures { MatchOption result ((length me.old.drawn ≡ 1000000) × (me.new ≡ me.old)) (λ n. (length me.old.drawn < 1000000) × (me.new ≡ record me.old { drawn = me.old.drawn ++ n ∷ [] })) }
+        ensures { MatchOption result ((length me.old.drawn ≡ 1000000) × (me.new ≡ me.old))
+            (λ n. (length me.old.drawn < 1000000) × (me.new ≡ record me.old { drawn = me.old.drawn ++ n ∷ [] })) }
     {
         if me.drawn >= MOST_DRAWS {
             return None;
