@@ -215,6 +215,8 @@ fn copy_rows_in_leaf(
 {
     let from = start_in_leaf(leaf, part, range.lo(), Start::At);
     let to = start_in_leaf(leaf, part, range.hi(), Start::Above);
+    let wanted = max.saturating_sub(rows.len() as u64) as usize;
+    rows.reserve(to.saturating_sub(from).min(wanted))?;
     for at in from..to {
         if rows.len() as u64 >= max {
             return Ok(());
