@@ -24,4 +24,5 @@ NowHolds depth all new (Some s) = HasSplit depth all new s
 
 -- an insert below a node: where it is split, as many spare nodes as were wanted come up with the sibling
 abbrev pub Grows : Shape → Shape → Entry → ℕ → Option Split → Type 0
-Grows old new e wanted r = NowHolds old.depth (insert_entry old.entries e) new r × IfSome r (λ s. vec_len s.spares ≡ wanted)
+Grows old new e wanted r = NowHolds old.depth (insert_entry old.entries e) new r ×
+    IfSome r (λ s. vec_len s.spares ≡ wanted)

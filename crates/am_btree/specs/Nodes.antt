@@ -35,7 +35,8 @@ abbrev pub AreParted : List Separator → List Shape → Type 0
 AreParted [] [] = Unit {0}
 AreParted [] (k ∷ ks) = length (k ∷ ks) ≡ 0
 AreParted (l ∷ ls) [] = length (l ∷ ls) ≡ 0
-AreParted (l ∷ ls) (k ∷ ks) = NoneBelow (separator_place l) k.entries × AllByRecursion (λ m. AllBelow (separator_place m) k.entries) ls × AreParted ls ks
+AreParted (l ∷ ls) (k ∷ ks) = NoneBelow (separator_place l) k.entries ×
+    AllByRecursion (λ m. AllBelow (separator_place m) k.entries) ls × AreParted ls ks
 
 -- children of a node of that depth: all of one depth, none empty, parted by their separators
 pub record AreFilledChildren (depth : ℕ) (separators : List Separator) (children : List Shape) : Type 0 where
@@ -60,4 +61,5 @@ pub record IsInner (separators : List Separator) (kids : List Shape) (room_separ
 
 abbrev pub IsTree : Node → Type 0
 IsTree (Leaf l) = (length l ≤ 32) × IsRising l
-IsTree (Inner separators children) = IsInner separators.items children.items (vec_capacity separators) (vec_capacity children)
+IsTree (Inner separators children) = IsInner separators.items children.items (vec_capacity separators)
+    (vec_capacity children)

@@ -1,5 +1,6 @@
 -- The places at which the children of an inner node begin.
-use Rattle.std.specs.Prelude.{◌≡◌, ◌≢◌, ℕ, suc, zero, ◌<◌, ◌≤◌, List, [], ◌∷◌, length, take, drop, slice_set, slice_index_or, ◌⊎◌}
+use Rattle.std.specs.Prelude.{◌≡◌, ◌≢◌, ℕ, suc, zero, ◌<◌, ◌≤◌, List, [], ◌∷◌, length, take, drop, slice_set}
+use Rattle.std.specs.Prelude.{slice_index_or, ◌⊎◌}
 use Rattle.std.specs.declared.cmp.Ordering.TheVariants.{Less, Greater}
 use Rattle.std.specs.List.{AllByRecursion}
 use Rattle.am_record.specs.OrderedKey.{OrderedKey}
@@ -13,7 +14,8 @@ separator_place l = (l.part, l.key)
 -- each is below all later ones
 abbrev pub SeparatorsRise : List Separator → Type 0
 SeparatorsRise [] = Unit {0}
-SeparatorsRise (l ∷ ls) = AllByRecursion (λ m. place_cmp (separator_place l) (separator_place m) ≡ Less) ls × SeparatorsRise ls
+SeparatorsRise (l ∷ ls) = AllByRecursion (λ m. place_cmp (separator_place l) (separator_place m) ≡ Less) ls ×
+    SeparatorsRise ls
 
 -- the first n begin at or below the place, the others above it
 pub record IsReach (separators : List Separator) (part : ℕ) (key : OrderedKey) (n : ℕ) : Type 0 where
@@ -24,7 +26,8 @@ pub record IsReach (separators : List Separator) (part : ℕ) (key : OrderedKey)
 -- the children after the index begin above the place, and the child at the index, unless it is the first, does not
 pub record IsChildFor (separators : List Separator) (part : ℕ) (key : OrderedKey) (i : ℕ) : Type 0 where
   pub in_range : i < length separators
-  pub reached : (i ≡ 0) ⊎ ((d : Separator) → place_cmp (separator_place (slice_index_or separators i d)) (part, key) ≢ Greater)
+  pub reached : (i ≡ 0) ⊎ ((d : Separator) → place_cmp (separator_place (slice_index_or separators i d))
+      (part, key) ≢ Greater)
   pub above : AllByRecursion (λ l. place_cmp (separator_place l) (part, key) ≡ Greater) (drop (suc i) separators)
 
 abbrev pub separator_for : Entry → Separator

@@ -10,4 +10,5 @@ pub record Shape : Type 0 where
   pub entries : List Entry
 
 abbrev pub shape_code : Coded Shape
-shape_code = code_by (ℕ × List Entry) (coded× coded_ℕ entries_code) (λ s. (s.depth, s.entries)) (λ p. record { depth = p.0; entries = p.1 }) (λ _. refl)
+shape_code = code_by (ℕ × List Entry) (coded× coded_ℕ entries_code) (λ s. (s.depth, s.entries))
+    (λ p. record { depth = p.0; entries = p.1 }) (λ _. refl)

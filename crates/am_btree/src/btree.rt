@@ -66,7 +66,8 @@ impl BTree {
     /// NoMemory, where memory was refused; nothing is changed.
     pub fn insert_new(&mut self, entry: Entry) -> Result<bool, NoMemory>
         ensures new { IfOk result (λ is_new. is_new ≡ is_none (find self.old.entries entry.part entry.key)) }
-        ensures entries { IfOk result (λ is_new. self.new.entries ≡ (if is_new then insert_entry self.old.entries entry else self.old.entries)) }
+        ensures entries { IfOk result (λ is_new. self.new.entries ≡
+            (if is_new then insert_entry self.old.entries entry else self.old.entries)) }
         ensures err { OnErr result (self.new ≡ self.old) }
     {
         match self.root.insert(self.alloc, entry) {

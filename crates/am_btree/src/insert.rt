@@ -1,6 +1,7 @@
 //! Adding an entry.
 
-ghost use Rattle.std.specs.Prelude.{◌≡◌, ◌+◌, ◌<◌, ◌≤◌, [], length, take, drop, None, IsSome, IsErrOf, OnOk, OnErr, IfOk, IfSome, vec_len, vec_capacity};
+ghost use Rattle.std.specs.Prelude.{◌≡◌, ◌+◌, ◌<◌, ◌≤◌, [], length, take, drop, None, IsSome, IsErrOf, OnOk, OnErr};
+ghost use Rattle.std.specs.Prelude.{IfOk, IfSome, vec_len, vec_capacity};
 ghost use Rattle.std.specs.List.{insert};
 ghost use Rattle.am_list.specs.Entries.{find, insert_entry, IsRising};
 ghost use Rattle.am_list.specs.Places.{IsGapFor};
@@ -142,8 +143,8 @@ fn wanted_below(len: usize, wanted: usize) -> Result<usize, NoMemory>
     wanted.checked_add(1).ok_or(NoMemory)
 }
 
-// Adds an entry to a leaf, unless its place is taken. The leaf is split where it is full. A call of its own: so the nodes
-// above don't clear room for what only a leaf needs.
+// Adds an entry to a leaf, unless its place is taken. The leaf is split where it is full. A call of its own: so the
+// nodes above don't clear room for what only a leaf needs.
 #[inline(never)]
 fn insert_in_leaf(
     alloc: Global,
@@ -208,14 +209,17 @@ fn add_child(
     split: Split,
     last: bool,
 ) -> Option<Split>
-    requires children { AreFilledChildren (depth_of children.old.items) (insert separators.old.items at split.separator) (insert children.old.items at split.right) }
+    requires children { AreFilledChildren (depth_of children.old.items)
+        (insert separators.old.items at split.separator) (insert children.old.items at split.right) }
     requires pairs { vec_len separators.old ≡ vec_len children.old }
     requires in_range { at ≤ vec_len children.old }
     requires most { vec_len children.old ≤ 32 }
     requires room { (32 ≤ vec_capacity separators.old) × (32 ≤ vec_capacity children.old) }
     requires spares { vec_len children.old ≡ 32 → 0 < vec_len split.spares }
-    ensures inner { IsInner separators.new.items children.new.items (vec_capacity separators.new) (vec_capacity children.new) }
-    ensures holds { NowHolds (depth_of children.old.items) (all_entries (insert children.old.items at split.right)) (inner_shape children.new.items) result }
+    ensures inner { IsInner separators.new.items children.new.items (vec_capacity separators.new)
+        (vec_capacity children.new) }
+    ensures holds { NowHolds (depth_of children.old.items) (all_entries (insert children.old.items at split.right))
+        (inner_shape children.new.items) result }
     ensures spares { IfSome result (λ s. (vec_len children.old ≡ 32) × (vec_len s.spares + 1 ≡ vec_len split.spares)) }
 {
     let Split {

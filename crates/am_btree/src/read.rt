@@ -122,7 +122,8 @@ impl Subtree {
         rows: &mut Vec<(Key, Value)>,
     ) -> Result<(), NoMemory>
         requires { length rows.old.items ≤ max }
-        ensures copied { OnOk result (rows.new.items ≡ take max (rows.old.items ++ rows_in self.now.entries part range)) }
+        ensures copied { OnOk result (rows.new.items ≡ take max
+            (rows.old.items ++ rows_in self.now.entries part range)) }
         ensures rising { IsRising self.now.entries }
     {
         match &self.node {
@@ -215,6 +216,8 @@ fn copy_rows_in_leaf(
 {
     let from = start_in_leaf(leaf, part, range.lo(), Start::At);
     let to = start_in_leaf(leaf, part, range.hi(), Start::Above);
+    let wanted = max.saturating_sub(rows.len() as u64) as usize;
+    rows.reserve(to.saturating_sub(from).min(wanted))?;
     for at in from..to {
         if rows.len() as u64 >= max {
             return Ok(());

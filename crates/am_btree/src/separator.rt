@@ -47,8 +47,8 @@ impl Separator {
 }
 
 /// How many children begin at or below the place. The last one is asked first, since a load goes there. Then the search
-/// takes long steps and short ones, each to a separator that doesn't depend on what the one before it was: so several of
-/// them come from memory at once, where a search by halves would wait for each.
+/// takes long steps and short ones, each to a separator that doesn't depend on what the one before it was: so several
+/// of them come from memory at once, where a search by halves would wait for each.
 pub(crate) fn reached(separators: &[Separator], part: u32, key: Key) -> usize
     requires { SeparatorsRise separators.now }
     ensures { IsReach separators.now part key result }

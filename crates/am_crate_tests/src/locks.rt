@@ -92,7 +92,8 @@ fn ask_for_ninth_again(rt: &impl Abort, table: &mut LockTable) {
     answers(rt, table, 1, exclusive(rt, 8, 8), Asked::Granted);
 }
 
-// The ninth lock is the first that takes memory. Where it is refused the eight stay, and it is granted when asked again.
+// The ninth lock is the first that takes memory. Where it is refused the eight stay, and it is granted when asked
+// again.
 #[test]
 fn ninth_lock_refused(rt: HostRuntime) {
     let mut table = table_of(&rt, rt.alloc(), 2);

@@ -13,8 +13,8 @@ fn write(rt: &impl Abort, seen: &mut Vec<u8>, bytes: &[u8]) {
     seen.extend_from_slice(bytes).expect(rt, "memory");
 }
 
-/// The lines of a source, written down: a text and `|` where an LF ended it, else `$`; `LONG` for one that is too long. A
-/// failure is written as `!`, and is the end.
+/// The lines of a source, written down: a text and `|` where an LF ended it, else `$`; `LONG` for one that is too long.
+/// A failure is written as `!`, and is the end.
 pub fn lines_of<W: Wait + Abort, K: Sink, S: AnsweredSource<K>>(
     rt: &W,
     alloc: Global,

@@ -1,5 +1,6 @@
 -- The content of an index: the map of the live entries of its list, no key being live in two partitions.
-use Rattle.std.specs.Prelude.{◌≡◌, ◌≢◌, ◌==◌, ◌&&◌, ℕ, List, true, false, not, map, filter, Option, Some, None, if◌then◌else◌}
+use Rattle.std.specs.Prelude.{◌≡◌, ◌≢◌, ◌==◌, ◌&&◌, ℕ, List, true, false, not, map, filter, Option, Some, None}
+use Rattle.std.specs.Prelude.{if◌then◌else◌}
 use Rattle.std.specs.FinMap.{get, insert, remove, from_entries}
 use Rattle.am_record.specs.OrderedKey.{OrderedKey}
 use Rattle.am_record.specs.Interval.{Interval, within}
@@ -25,7 +26,8 @@ pub record IsLiveAt (es : List Entry) (part : ℕ) (key : OrderedKey) (value : L
 
 -- no key is live in two partitions
 pub record OnePlace (es : List Entry) : Type 0 where
-  pub one : (key : OrderedKey) (part part' : ℕ) (value value' : List ℕ) → IsLiveAt es part key value → IsLiveAt es part' key value' → part ≡ part'
+  pub one : (key : OrderedKey) (part part' : ℕ) (value value' : List ℕ) → IsLiveAt es part key value →
+      IsLiveAt es part' key value' → part ≡ part'
 
 -- what is live in the range is live in that partition
 pub record LivesInOne (es : List Entry) (part : ℕ) (range : Interval) : Type 0 where
@@ -55,20 +57,25 @@ values_at es key part = live_value (find es part key)
 -- the content of a rising list in which no key is live in two partitions, and what edits of it do
 pub record ContentLaws (es : List Entry) : Type 0 where
   -- the content has a key exactly where some partition has it live
-  pub live : (part : ℕ) (key : OrderedKey) (value : List ℕ) → IsLiveAt es part key value → get (content es) key ≡ Some value
-  pub found : (key : OrderedKey) (value : List ℕ) → get (content es) key ≡ Some value → (part : ℕ) × IsLiveAt es part key value
-  pub dead : (key : OrderedKey) → ((part : ℕ) (value : List ℕ) → IsLiveAt es part key value → ⊥) → get (content es) key ≡ None
+  pub live : (part : ℕ) (key : OrderedKey) (value : List ℕ) → IsLiveAt es part key value →
+      get (content es) key ≡ Some value
+  pub found : (key : OrderedKey) (value : List ℕ) → get (content es) key ≡ Some value →
+      (part : ℕ) × IsLiveAt es part key value
+  pub dead : (key : OrderedKey) → ((part : ℕ) (value : List ℕ) → IsLiveAt es part key value → ⊥) →
+      get (content es) key ≡ None
   pub has_one : (key : OrderedKey) → HasOne (values_at es key) (get (content es) key)
   -- an entry is added where none stands
   pub added : (x : Entry) → find es x.part x.key ≡ None → x.is_ghost ≡ false → get (content es) x.key ≡ None →
       HasContent (insert_entry es x) (insert (content es) x.key x.value)
-  pub ghost_added : (x : Entry) → find es x.part x.key ≡ None → x.is_ghost ≡ true → HasContent (insert_entry es x) (content es)
+  pub ghost_added : (x : Entry) → find es x.part x.key ≡ None → x.is_ghost ≡ true →
+      HasContent (insert_entry es x) (content es)
   -- the value and mark of an entry are set
   pub replaced : (part : ℕ) (key : OrderedKey) (old value : List ℕ) → IsLiveAt es part key old →
       HasContent (set_entry es part key value false) (insert (content es) key value)
   pub marked : (part : ℕ) (key : OrderedKey) (old value : List ℕ) → IsLiveAt es part key old →
       HasContent (set_entry es part key value true) (remove (content es) key)
-  pub revived : (part : ℕ) (key : OrderedKey) (old value : List ℕ) → find es part key ≡ Some (old, true) → get (content es) key ≡ None →
+  pub revived : (part : ℕ) (key : OrderedKey) (old value : List ℕ) → find es part key ≡ Some (old, true) →
+      get (content es) key ≡ None →
       HasContent (set_entry es part key value false) (insert (content es) key value)
   pub ghost_set : (part : ℕ) (key : OrderedKey) (old value : List ℕ) → find es part key ≡ Some (old, true) →
       HasContent (set_entry es part key value true) (content es)
@@ -78,7 +85,9 @@ pub record ContentLaws (es : List Entry) : Type 0 where
   pub ghost_removed : (part : ℕ) (key : OrderedKey) (old : List ℕ) → find es part key ≡ Some (old, true) →
       HasContent (remove_entry es part key) (content es)
   -- a live entry goes to another partition: to a new place, or over a ghost
-  pub moved : (x : Entry) (part : ℕ) → IsLiveAt es part x.key x.value → part ≢ x.part → x.is_ghost ≡ false → find es x.part x.key ≡ None →
+  pub moved : (x : Entry) (part : ℕ) → IsLiveAt es part x.key x.value → part ≢ x.part → x.is_ghost ≡ false →
+      find es x.part x.key ≡ None →
       HasContent (remove_entry (insert_entry es x) part x.key) (content es)
-  pub moved_over_ghost : (part part' : ℕ) (key : OrderedKey) (value old : List ℕ) → IsLiveAt es part key value → find es part' key ≡ Some (old, true) →
+  pub moved_over_ghost : (part part' : ℕ) (key : OrderedKey) (value old : List ℕ) → IsLiveAt es part key value →
+      find es part' key ≡ Some (old, true) →
       HasContent (remove_entry (set_entry es part' key value false) part key) (content es)

@@ -65,7 +65,8 @@ insert_entry (e ∷ es) x = if is_lt (place_cmp (place_of e) (place_of x)) then 
 -- the list with that value and mark at that partition and key
 abbrev pub set_entry : List Entry → ℕ → OrderedKey → List ℕ → Bool → List Entry
 set_entry [] part key value is_ghost = []
-set_entry (e ∷ es) part key value is_ghost = if is_eq (place_cmp (place_of e) (part, key)) then record e { value = value; is_ghost = is_ghost } ∷ es else e ∷ set_entry es part key value is_ghost
+set_entry (e ∷ es) part key value is_ghost = if is_eq (place_cmp (place_of e) (part, key)) then record
+    e { value = value; is_ghost = is_ghost } ∷ es else e ∷ set_entry es part key value is_ghost
 
 -- the list without the entry of that partition and key
 abbrev pub remove_entry : List Entry → ℕ → OrderedKey → List Entry

@@ -6,7 +6,8 @@ use Rattle.am_record.specs.declared.entry.Entry.{Entry}
 
 abbrev pub entry_code : Coded Entry
 entry_code =
-    code_by ((ℕ × OrderedKey) × (List ℕ × Bool)) (coded× (coded× coded_ℕ key_code) (coded× (coded_list coded_ℕ) coded_bool))
+    code_by ((ℕ × OrderedKey) × (List ℕ × Bool)) (coded× (coded× coded_ℕ key_code)
+    (coded× (coded_list coded_ℕ) coded_bool))
     (λ e. ((e.part, e.key), (e.value, e.is_ghost)))
     (λ p. record { part = p.0.0; key = p.0.1; value = p.1.0; is_ghost = p.1.1 })
     (λ _. refl)

@@ -1,5 +1,6 @@
 -- Where a place stands in a list of entries.
-use Rattle.std.specs.Prelude.{◌==◌, Option, Some, None, if◌then◌else◌, ◌≡◌, ◌≢◌, ℕ, ◌<◌, ◌≤◌, suc, List, length, take, drop, slice_index_or}
+use Rattle.std.specs.Prelude.{◌==◌, Option, Some, None, if◌then◌else◌, ◌≡◌, ◌≢◌, ℕ, ◌<◌, ◌≤◌, suc, List, length, take}
+use Rattle.std.specs.Prelude.{drop, slice_index_or}
 use Rattle.std.specs.declared.cmp.Ordering.TheVariants.{Less, Equal, Greater}
 use Rattle.std.specs.List.{AllByRecursion}
 use Rattle.am_record.specs.OrderedKey.{OrderedKey}

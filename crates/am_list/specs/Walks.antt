@@ -18,16 +18,23 @@ pub record IsFirstOf (es : List Entry) (part : ℕ) (reached : OrderedKey → Ty
 -- the walks over a rising list
 pub record WalkLaws (es : List Entry) : Type 0 where
   -- at or above the key
-  pub from_some : (part : ℕ) (key : OrderedKey) (x : Entry) → next_from es part key ≡ Some x → IsFirstOf es part (λ q. key_le key q ≡ true) x
-  pub from_none : (part : ℕ) (key : OrderedKey) → next_from es part key ≡ None → (q : OrderedKey) → key_le key q ≡ true → find es part q ≡ None
+  pub from_some : (part : ℕ) (key : OrderedKey) (x : Entry) → next_from es part key ≡ Some x →
+      IsFirstOf es part (λ q. key_le key q ≡ true) x
+  pub from_none : (part : ℕ) (key : OrderedKey) → next_from es part key ≡ None → (q : OrderedKey) →
+      key_le key q ≡ true → find es part q ≡ None
   -- strictly above the key
-  pub after_some : (part : ℕ) (key : OrderedKey) (x : Entry) → after es part key ≡ Some x → IsFirstOf es part (λ q. key_cmp key q ≡ Less) x
-  pub after_none : (part : ℕ) (key : OrderedKey) → after es part key ≡ None → (q : OrderedKey) → key_cmp key q ≡ Less → find es part q ≡ None
+  pub after_some : (part : ℕ) (key : OrderedKey) (x : Entry) → after es part key ≡ Some x →
+      IsFirstOf es part (λ q. key_cmp key q ≡ Less) x
+  pub after_none : (part : ℕ) (key : OrderedKey) → after es part key ≡ None → (q : OrderedKey) → key_cmp key q ≡ Less →
+      find es part q ≡ None
   -- at or above the place, in any partition
-  pub any_stands : (part : ℕ) (key : OrderedKey) (x : Entry) → next_any es part key ≡ Some x → entry_at es x.part x.key ≡ Some x
-  pub any_reached : (part : ℕ) (key : OrderedKey) (x : Entry) → next_any es part key ≡ Some x → place_cmp (part, key) (place_of x) ≢ Greater
+  pub any_stands : (part : ℕ) (key : OrderedKey) (x : Entry) → next_any es part key ≡ Some x →
+      entry_at es x.part x.key ≡ Some x
+  pub any_reached : (part : ℕ) (key : OrderedKey) (x : Entry) → next_any es part key ≡ Some x →
+      place_cmp (part, key) (place_of x) ≢ Greater
   pub any_none_before : (part : ℕ) (key : OrderedKey) (x : Entry) → next_any es part key ≡ Some x →
-      (p : ℕ) (q : OrderedKey) → place_cmp (part, key) (p, q) ≢ Greater → place_cmp (p, q) (place_of x) ≡ Less → find es p q ≡ None
+      (p : ℕ) (q : OrderedKey) → place_cmp (part, key) (p, q) ≢ Greater → place_cmp (p, q) (place_of x) ≡ Less →
+      find es p q ≡ None
   pub any_none : (part : ℕ) (key : OrderedKey) → next_any es part key ≡ None →
       (p : ℕ) (q : OrderedKey) → place_cmp (part, key) (p, q) ≢ Greater → find es p q ≡ None
 
@@ -35,12 +42,15 @@ pub record WalkLaws (es : List Entry) : Type 0 where
 pub record ReadLaws (es : List Entry) : Type 0 where
   -- at or above the key it is what stands first, and what is above that
   pub from_none : (part : ℕ) (key : OrderedKey) → next_from es part key ≡ None → all_from es part key ≡ []
-  pub from_some : (part : ℕ) (key : OrderedKey) (x : Entry) → next_from es part key ≡ Some x → all_from es part key ≡ x ∷ all_after es part x.key
+  pub from_some : (part : ℕ) (key : OrderedKey) (x : Entry) → next_from es part key ≡ Some x →
+      all_from es part key ≡ x ∷ all_after es part x.key
   -- entry by entry it is what stands next
   pub none : (part : ℕ) (key : OrderedKey) → after es part key ≡ None → all_after es part key ≡ []
-  pub some : (part : ℕ) (key : OrderedKey) (x : Entry) → after es part key ≡ Some x → all_after es part key ≡ x ∷ all_after es part x.key
+  pub some : (part : ℕ) (key : OrderedKey) (x : Entry) → after es part key ≡ Some x →
+      all_after es part key ≡ x ∷ all_after es part x.key
   -- from any entry that was read it goes on with those behind it
-  pub goes_on : (part : ℕ) (key : OrderedKey) (xs : List Entry) (x : Entry) (ys : List Entry) → all_after es part key ≡ xs ++ x ∷ ys → all_after es part x.key ≡ ys
+  pub goes_on : (part : ℕ) (key : OrderedKey) (xs : List Entry) (x : Entry) (ys : List Entry) →
+      all_after es part key ≡ xs ++ x ∷ ys → all_after es part x.key ≡ ys
   -- the entries rise, and are those of the list at the places of the partition above the key
   pub rises : (part : ℕ) (key : OrderedKey) → IsRising (all_after es part key)
   pub stands : (part : ℕ) (key : OrderedKey) (p : ℕ) (q : OrderedKey) →

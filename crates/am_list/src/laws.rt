@@ -9,7 +9,8 @@ ghost use Rattle.am_record.specs.declared.entry.Entry.{Entry};
 ghost use Rattle.am_list.specs.Entries.{IsRising};
 ghost use Rattle.am_list.specs.Edits.{EditLaws};
 ghost use Rattle.am_list.specs.Walks.{WalkLaws, ReadLaws};
-ghost use Rattle.am_list.specs.Content.{content, rows_in, LivesInOne, OnePlace, HasContent, HasOne, values_at, ContentLaws};
+ghost use Rattle.am_list.specs.Content.{content, rows_in, LivesInOne, OnePlace, HasContent, HasOne, values_at};
+ghost use Rattle.am_list.specs.Content.{ContentLaws};
 
 /// What insertion, setting and removal do to a rising list, place by place.
 pub fn edits_follow()
@@ -29,11 +30,13 @@ pub fn reads_follow()
 /// What the content of a list is, and what edits of the list do to it.
 pub fn content_follows()
     ensures edits { (es : List Entry) → IsRising es → OnePlace es → ContentLaws es }
-    ensures places { (es : List Entry) (m : PlainMap) → IsRising es → ((key : OrderedKey) → HasOne (values_at es key) (get m key)) → HasContent es m }
+    ensures places { (es : List Entry) (m : PlainMap) → IsRising es →
+        ((key : OrderedKey) → HasOne (values_at es key) (get m key)) → HasContent es m }
     ensures nothing { HasContent [] empty }
 {}
 
 /// The rows of a partition are those of the content, where nothing of the range is live elsewhere.
 pub fn rows_follow()
-    ensures { (es : List Entry) (part : ℕ) (range : Interval) → IsRising es → OnePlace es → LivesInOne es part range → rows_in es part range ≡ rows_where (within range) (content es) }
+    ensures { (es : List Entry) (part : ℕ) (range : Interval) → IsRising es → OnePlace es → LivesInOne es part range →
+        rows_in es part range ≡ rows_where (within range) (content es) }
 {}

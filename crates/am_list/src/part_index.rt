@@ -3,7 +3,8 @@
 ghost use Rattle.std.specs.Prelude.{◌≡◌, ◌<◌, ◌≤◌, ◌++◌, List, length, take, Some, None, IsSome, OnOk, OnErr};
 ghost use Rattle.std.specs.List.{AllByRecursion};
 ghost use Rattle.am_record.specs.declared.entry.Entry.{Entry};
-ghost use Rattle.am_list.specs.Entries.{find, next_any, next_ghost, next_from, after, all_from, all_after, entry_at, insert_entry, set_entry, remove_entry, IsRising};
+ghost use Rattle.am_list.specs.Entries.{find, next_any, next_ghost, next_from, after, all_from, all_after, entry_at};
+ghost use Rattle.am_list.specs.Entries.{insert_entry, set_entry, remove_entry, IsRising};
 ghost use Rattle.am_list.specs.Runs.{run_entries};
 ghost use Rattle.am_list.specs.Content.{rows_in};
 
@@ -56,7 +57,8 @@ pub trait PartIndex {
         rows: &mut Vec<(Key, Value)>,
     ) -> Result<(), NoMemory>
         requires { length rows.old.items ≤ max }
-        ensures copied { OnOk result (rows.new.items ≡ take max (rows.old.items ++ rows_in (entries self.now) part range)) }
+        ensures copied { OnOk result (rows.new.items ≡ take max
+            (rows.old.items ++ rows_in (entries self.now) part range)) }
         ensures rising { IsRising (entries self.now) };
 
     /// The first entry of the whole index at or above the place of a partition and key. It may be

@@ -1,6 +1,6 @@
-//! The program `am_memory_tests`: makes worked calls of the libraries, one after another, and prints a line for each. A call that is
-//! refused memory has to leave everything as it was, and is made again: so with any one allocation refused the program
-//! prints the same.
+//! The program `am_memory_tests`: makes worked calls of the libraries, one after another, and prints a line for each. A
+//! call that is refused memory has to leave everything as it was, and is made again: so with any one allocation refused
+//! the program prints the same.
 #![tactic(auto)]
 
 mod acts;

@@ -20,7 +20,7 @@ use Rattle.am_record.specs.EntryOrder.{Place, place_of, place_cmp, place_cmp-equ
 use Rattle.am_record.specs.declared.entry.Entry.{Entry}
 use Rattle.am_record.proofs.Lists.{AllByRecursion-map}
 use Rattle.am_list.specs.Entries.{Slot, slot_of, first_such, find}
-use Rattle.am_list.specs.Content.{IsLiveAt}
+use Rattle.am_list.specs.Content.{IsLiveAt, LivesInOne}
 use Rattle.am_list.proofs.Lists.{first_such_none}
 use Rattle.am_list.proofs.Edits.{one_place}
 use Rattle.am_list.proofs.Content.{none_live}
@@ -193,3 +193,21 @@ module _ {es : List Entry} {range : Interval} {to : ℕ} {heads : List Stand} (g
         ⊎_elim (λ old. gathered.before part key value old live inside)
         (λ new. let fits = live_fits es part key (value, false) sound.fits live.there in absurd (past (omega (arith, new, fits)))) (cases_lt part to);
   }
+
+-- ---- one partition alone
+
+pub only_lives : {es : List Entry} {range : Interval} (part run to : ℕ) → AreEmpty es 0 part → HasNoneBefore es range run → (to ≡ part + 1) ⊎ (to ≤ run) → AreEmptyFrom es to → LivesInOne es part range
+only_lives {es} {range} part run to before none which behind = record {
+  one = λ p key value live inside.
+      ⊎_elim (λ (low : p < part). absurd (none_live es p key (before.none p key (omega arith) low) value live))
+      (λ (high : part ≤ p).
+      ⊎_elim (λ (same : p < part + 1). omega (arith, high, same))
+      (λ (above : part + 1 ≤ p).
+      ⊎_elim (λ (between : p < to).
+      ⊎_elim (λ (next : to ≡ part + 1). absurd (omega (arith, next, between, above)))
+      (λ (low : to ≤ run). absurd (none_live es p key (none_found es range run p key none (omega (arith, above)) (omega (arith, low, between)) inside) value live)) which)
+      (λ (past : to ≤ p). absurd (none_live es p key (behind.none p key past) value live))
+      (cases_lt p to))
+      (cases_lt p (part + 1)))
+      (cases_lt p part);
+}

@@ -23,9 +23,6 @@ ready es h read =
       at_end = λ end. none_taken all (sym end ∙ read);
     }
 
-pub still_ready : (es : List Entry) (h : Stand) → HasReadOn es h → (h.read ≡ [] → ⊥) → IsReady es h
-still_ready es h reads some = record { reads = reads; at_end = λ end. absurd (some end) }
-
 -- ---- the entry that follows
 
 no_cons : {X : Type 0} (x : X) (xs : List X) → [] ≡ x ∷ xs → ⊥

@@ -34,13 +34,15 @@ pub record AreHeads (es : List Entry) (range : Interval) (heads : List Stand) : 
 pub record AreAhead (es : List Entry) (range : Interval) (heads : List Stand) : Type 0 where
   pub sound : IsSound es
   pub are_heads : AreHeads es range heads
-  pub before : (part : ℕ) (key : OrderedKey) (value : List ℕ) → IsLiveAt es part key value → within range key ≡ true → is_ahead heads key ≡ true → is_ahead_in heads part key ≡ true
+  pub before : (part : ℕ) (key : OrderedKey) (value : List ℕ) → IsLiveAt es part key value → within range key ≡ true →
+      is_ahead heads key ≡ true → is_ahead_in heads part key ≡ true
 
 -- the heads, in a heap, have all that is live in the range before them
 pub record AreAllHeads (es : List Entry) (range : Interval) (heads : List Stand) : Type 0 where
   pub are_heads : AreHeads es range heads
   pub heap : IsHeap head_cmp heads
-  pub before : (part : ℕ) (key : OrderedKey) (value : List ℕ) → IsLiveAt es part key value → within range key ≡ true → is_ahead_in heads part key ≡ true
+  pub before : (part : ℕ) (key : OrderedKey) (value : List ℕ) → IsLiveAt es part key value → within range key ≡ true →
+      is_ahead_in heads part key ≡ true
 
 -- the head is the least one, the others are in a heap, and where there is none there are no others
 pub record IsLeastBeside (least : Option Stand) (others : List Stand) : Type 0 where

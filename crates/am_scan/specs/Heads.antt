@@ -18,7 +18,8 @@ pub record Stand : Type 0 where
   pub read : List Entry
 
 abbrev pub stand_code : Coded Stand
-stand_code = code_by (Entry × List Entry) (coded× entry_code entries_code) (λ h. (h.entry, h.read)) (λ p. record { entry = p.0; read = p.1 }) (λ _. refl)
+stand_code = code_by (Entry × List Entry) (coded× entry_code entries_code) (λ h. (h.entry, h.read))
+    (λ p. record { entry = p.0; read = p.1 }) (λ _. refl)
 
 -- an entry that no partition need have
 abbrev pub nowhere : Entry
@@ -61,15 +62,18 @@ pub record IsHead (es : List Entry) (range : Interval) (h : Stand) : Type 0 wher
 pub record IsFirstHead (es : List Entry) (range : Interval) (part : ℕ) (h : Stand) : Type 0 where
   pub head : IsHead es range h
   pub in_part : h.entry.part ≡ part
-  pub none_before : (key : OrderedKey) (value : List ℕ) → within range key ≡ true → key_cmp key h.entry.key ≡ Less → ¬ IsLiveAt es part key value
+  pub none_before : (key : OrderedKey) (value : List ℕ) → within range key ≡ true → key_cmp key h.entry.key ≡ Less →
+      ¬ IsLiveAt es part key value
 
 -- the new head stands at the first one behind the old
 pub record IsNextHead (es : List Entry) (range : Interval) (old new : Stand) : Type 0 where
   pub head : IsHead es range new
   pub in_part : new.entry.part ≡ old.entry.part
   pub above : key_cmp old.entry.key new.entry.key ≡ Less
-  pub none_between : (key : OrderedKey) (value : List ℕ) → key_cmp old.entry.key key ≡ Less → key_cmp key new.entry.key ≡ Less → ¬ IsLiveAt es old.entry.part key value
+  pub none_between : (key : OrderedKey) (value : List ℕ) → key_cmp old.entry.key key ≡ Less →
+      key_cmp key new.entry.key ≡ Less → ¬ IsLiveAt es old.entry.part key value
 
 -- there is none behind it
 pub record HasNoNext (es : List Entry) (range : Interval) (h : Stand) : Type 0 where
-  pub none : (key : OrderedKey) (value : List ℕ) → key_cmp h.entry.key key ≡ Less → within range key ≡ true → ¬ IsLiveAt es h.entry.part key value
+  pub none : (key : OrderedKey) (value : List ℕ) → key_cmp h.entry.key key ≡ Less → within range key ≡ true →
+      ¬ IsLiveAt es h.entry.part key value

@@ -82,8 +82,8 @@ impl<'a, I: PartIndex + Drop> Cursor<'a, I> {
         record
     }
 
-    /// Appends the records still to come, until there are `max` rows, where all of them stand in one partition, and says
-    /// whether they do. Else nothing is appended.
+    /// Appends the records still to come, until there are `max` rows, where all of them stand in one partition, and
+    /// says whether they do. Else nothing is appended.
     ///
     /// # Errors
     /// NoMemory, where memory was refused. Some rows may have been appended.

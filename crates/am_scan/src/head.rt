@@ -13,8 +13,8 @@ use std::alloc::Global;
 use std::cmp::Ordering;
 use std::marker::Model;
 
-/// Where a cursor stands in one partition, seen as the entry there and those read behind it. The head with the least key
-/// is the greatest, so that a heap gives it first.
+/// Where a cursor stands in one partition, seen as the entry there and those read behind it. The head with the least
+/// key is the greatest, so that a heap gives it first.
 #[derive(Drop)]
 pub(crate) struct Head {
     // Entries that follow one another in the partition. They are boxed, so that a heap moves little.
@@ -106,8 +106,8 @@ impl Head {
         (entry.key, entry.value)
     }
 
-    /// Its partition, and the range from its entry up to another's end. The caller sees to it that its entry is not above
-    /// that end.
+    /// Its partition, and the range from its entry up to another's end. The caller sees to it that its entry is not
+    /// above that end.
     pub(crate) fn rest(&self, range: Range) -> (u32, Range)
         requires { key_le self.now.entry.key range.hi ≡ true }
         ensures { result ≡ (self.now.entry.part, record { lo = self.now.entry.key; hi = range.hi }) }
@@ -142,9 +142,11 @@ impl Head {
     fn follow<I: PartIndex + Drop>(&mut self, parts: &Parts<I>, range: Range) -> bool
         requires reads { HasReadOn parts.now.entries self.old }
         requires rising { IsRising parts.now.entries }
-        ensures moved { result ≡ true → after parts.now.entries self.old.entry.part self.old.entry.key ≡ Some self.new.entry }
+        ensures moved { result ≡ true → after parts.now.entries self.old.entry.part self.old.entry.key ≡
+            Some self.new.entry }
         ensures inside { result ≡ true → key_le self.new.entry.key range.hi ≡ true }
-        ensures ended { result ≡ false → IfSome (after parts.now.entries self.old.entry.part self.old.entry.key) (λ entry. key_cmp range.hi entry.key ≡ Less) }
+        ensures ended { result ≡ false → IfSome (after parts.now.entries self.old.entry.part self.old.entry.key)
+            (λ entry. key_cmp range.hi entry.key ≡ Less) }
         ensures reads { HasReadOn parts.now.entries self.new }
     {
         reads_follow();

@@ -1,5 +1,6 @@
-use Rattle.std.proofs.Common.{◌≡◌, ◌<◌, Bool, true, false, not, length, refl, arith}
-use Rattle.am_list.proofs.Rows.{are_enough, none_copied, all_copied, ghost_passed, row_copied}
+use Rattle.std.proofs.Common.{◌≡◌, ◌<◌, Bool, true, false, not, length, refl, sym, subst, arith}
+use Rattle.am_record.specs.Plain.{Records}
+use Rattle.am_list.proofs.Rows.{AreCopied, are_enough, none_copied, all_copied, ghost_passed, row_copied}
 use Rattle.am_btree.proofs.read.copy_rows_in_leaf.Goals as goal
 use Rattle.am_btree.proofs.read.copy_rows_in_leaf.Goals.{then-not-entry+in_ok-push, else-not-entry}
 
@@ -12,7 +13,9 @@ a_ghost true h = refl
 a_ghost false h = absurd (cc)
 
 pub loop-at-init : goal.loop-at-init
-loop-at-init c = none_copied c.args.leaf.now c.args.part c.args.range c.args.max c.args.rows.now.items c.lo.ensures.value c.hi.ensures.value c.start_in_leaf-from.ensures.begins c.start_in_leaf-to.ensures.begins c.requires
+loop-at-init c =
+    subst (λ (l : Records). AreCopied c.args.leaf.now c.args.part c.args.range c.args.max c.args.rows.now.items l c.start_in_leaf-from.result) (sym c.reserve.ensures.items)
+    (none_copied c.args.leaf.now c.args.part c.args.range c.args.max c.args.rows.now.items c.lo.ensures.value c.hi.ensures.value c.start_in_leaf-from.ensures.begins c.start_in_leaf-to.ensures.begins c.requires)
 
 pub loop-at-preserved : goal.loop-at-preserved
 loop-at-preserved c =
