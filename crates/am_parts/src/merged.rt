@@ -95,7 +95,8 @@ impl MergedRanges {
     /// Puts down a range as merged in all runs before that one, where there is room. Ranges that meet become one, and
     /// the one that came first goes where there are too many. Takes no memory.
     pub(crate) fn note(&mut self, range: Range, first_run: u32)
-        ensures { SayNoMore (record { range = range; first_run = first_run } ∷ self.old.list.items) self.new.list.items }
+        ensures { SayNoMore (record { range = range; first_run = first_run } ∷ self.old.list.items)
+            self.new.list.items }
     {
         let mut merged = MergedRange { range, first_run };
         let mut at = 0;

@@ -1,8 +1,9 @@
 -- What a key is to every specification: a value of one totally ordered type. What the type is stands in this file
 -- alone, and no other file can see it: a proof elsewhere has the laws below and nothing else.
---     OrderedKey, key_cmp      the type and its order;  key_cmp-total, key_cmp-exact      it is total, and only equal keys tie
+--     OrderedKey, key_cmp      the type and its order
+--     key_cmp-total, -exact    it is total, and only equal keys tie
 --     key_least                no key is below it
---     key_of, bytes_of         to and from the bytes that a key is made of, for the key's own module and for the texts of keys
+--     key_of, bytes_of         to and from the bytes of a key, for the key's own module and for the texts of keys
 --     key_cmp-key_of           keys are ordered byte by byte, a beginning of a string before the string
 use Rattle.std.specs.Prelude.{◌≡◌, ℕ, List, [], ◌∷◌, Bool, true, false, refl}
 use Rattle.std.specs.declared.cmp.Ordering.{Ordering}

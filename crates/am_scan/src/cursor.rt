@@ -89,7 +89,8 @@ impl<'a, I: PartIndex + Drop> Cursor<'a, I> {
     /// NoMemory, where memory was refused. Some rows may have been appended.
     pub(crate) fn copy_rest(&self, max: u64, rows: &mut Vec<(Key, Value)>) -> Result<bool, NoMemory>
         requires { length rows.old.items ≤ max }
-        ensures copied { IfOk result (λ copied. copied ≡ true → rows.new.items ≡ take max (rows.old.items ++ self.now)) }
+        ensures copied { IfOk result (λ copied. copied ≡ true →
+            rows.new.items ≡ take max (rows.old.items ++ self.now)) }
         ensures same { IfOk result (λ copied. copied ≡ false → rows.new.items ≡ rows.old.items) }
     {
         content_follows();
