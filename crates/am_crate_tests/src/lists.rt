@@ -2,7 +2,7 @@
 
 use crate::entries::{byte, dead, live};
 use am_list::{Batch, ListIndex, PartIndex};
-use am_record::{Entry, Key, NoMemory};
+use am_record::{Entry, Key, NoMemory, Range, Value};
 use std::alloc::Global;
 use std::process::Abort;
 
@@ -134,6 +134,44 @@ fn reads_on_as_far_as_there_is_room(rt: HostRuntime) {
     batch.clear();
     let first = [1, 2, 3, 4, 5, 6, 7, 8, 9, 10, 11, 12, 13, 14, 15, 16];
     reads(&rt, &index, &mut batch, 1, Key::least(), &first);
+}
+
+#[test]
+fn reads_from_a_key_on(rt: HostRuntime) {
+    let index = of_three_partitions(&rt, rt.alloc());
+    let mut batch = Batch::new();
+    index.read_from(1, Key::of_u64(17), &mut batch);
+    assert!(rt; has_read(&batch, &[17, 18, 19]));
+    index.read_from(1, Key::least(), &mut batch);
+    let read = [17, 18, 19, 1, 2, 3, 4, 5, 6, 7, 8, 9, 10, 11, 12, 13];
+    assert!(rt; has_read(&batch, &read));
+}
+
+// The rows behind those that are there have these numbers.
+fn copies(
+    rt: &impl Abort,
+    index: &ListIndex,
+    rows: &mut Vec<(Key, Value)>,
+    max: u64,
+    numbers: &[u64],
+) {
+    let range = Range::new(Key::of_u64(2), Key::of_u64(9)).expect(rt, "in order");
+    assert!(rt; rows.len() as u64 <= max);
+    index.copy_rows(1, range, max, rows).expect(rt, "memory");
+    assert!(rt; rows.len() == numbers.len());
+    for (row, number) in rows.iter().zip(numbers) {
+        assert!(rt; *row == (Key::of_u64(*number), byte(b'n')));
+    }
+}
+
+#[test]
+fn copies_live_rows_of_one_partition(rt: HostRuntime) {
+    let index = of_three_partitions(&rt, rt.alloc());
+    let mut rows = Vec::new(rt.alloc());
+    copies(&rt, &index, &mut rows, 3, &[2, 4, 5]);
+    copies(&rt, &index, &mut rows, 5, &[2, 4, 5, 2, 4]);
+    let mut rows = Vec::new(rt.alloc());
+    copies(&rt, &index, &mut rows, 99, &[2, 4, 5, 7, 8]);
 }
 
 fn has(rt: &impl Abort, index: &ListIndex, entries: &[Entry]) {

@@ -173,3 +173,12 @@ fn a_cursor_reads_on_in_every_partition(rt: HostRuntime) {
     }
     reads(&rt, &mut cursor, None);
 }
+
+#[test]
+fn partitions_with_entries_are_told_in_turn(rt: HostRuntime) {
+    let entries = [live(0, 1, b'a'), dead(3, 1, b'b'), live(7, 2, b'c')];
+    let parts = over(&rt, rt.alloc(), &entries);
+    for (from, part) in [(0, Some(0)), (1, Some(3)), (4, Some(7)), (8, None)] {
+        assert!(rt; parts.next_part(from) == part);
+    }
+}

@@ -18,6 +18,15 @@ fn three_partitions(alloc: Global) -> Result<Parts<BTree>, Fault> {
     Ok(parts)
 }
 
+// The same numbers in one partition.
+fn one_partition(alloc: Global) -> Result<Parts<BTree>, Fault> {
+    let mut parts = Parts::new(alloc, BTree::new(alloc)?);
+    for number in 0..30 {
+        place(&mut parts, live(1, number))?;
+    }
+    Ok(parts)
+}
+
 // The rows of the scan, which is made twice where memory is refused.
 fn rows(alloc: Global, parts: &Parts<BTree>, range: Range) -> Result<Vec<(Key, Value)>, NoMemory> {
     match scan(alloc, parts, range, 100) {
@@ -26,11 +35,13 @@ fn rows(alloc: Global, parts: &Parts<BTree>, range: Range) -> Result<Vec<(Key, V
     }
 }
 
-/// A scan over three partitions.
+/// A scan over three partitions, and one over the same numbers in one.
 pub(crate) fn scans(alloc: Global) -> Result<(), Fault> {
-    let parts = three_partitions(alloc)?;
     let range = range(5, 24).ok_or(Fault::Differs)?;
     let due = pairs_of(alloc, 5, 25)?;
+    let parts = three_partitions(alloc)?;
+    expect(rows(alloc, &parts, range)? == due)?;
+    let parts = one_partition(alloc)?;
     expect(rows(alloc, &parts, range)? == due)
 }
 

@@ -21,3 +21,5 @@ mod runs;
 mod scene;
 #[cfg(test)]
 mod steps;
+#[cfg(test)]
+mod trees;
