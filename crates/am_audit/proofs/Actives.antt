@@ -6,10 +6,10 @@ use Rattle.std.proofs.lemmas.Bool.{cond-true, eq-eqb}
 use Rattle.std.proofs.lemmas.List.{map-append, drop_more, take_more_set, take-append-drop, drop-set-lt, drop_all, take_all, append-nil}
 use Rattle.std.specs.Vec.{with_items}
 use Rattle.am_audit.specs.declared.active.Active.{Active}
-use Rattle.am_audit.specs.Standing.{Placed, placed_of, Listed, listed, with_own}
+use Rattle.am_audit.specs.Progress.{PlacedAnswer, placed_answer, Listed, listed, with_own}
 
 -- the list is as it was, and the first of it are others
-pub record IsKeptTo (t : ℕ) (p : Placed) (old all : List Active) (i : ℕ) : Type 0 where
+pub record IsKeptTo (t : ℕ) (p : PlacedAnswer) (old all : List Active) (i : ℕ) : Type 0 where
   pub same : all ≡ old
   pub others : with_own t p (map listed old) ≡ map listed (take i old) ++ with_own t p (map listed (drop i old))
 
@@ -17,7 +17,7 @@ split_here : (all : List Active) (i : ℕ) (x : Active) → i < length all → x
 split_here all i x less is = drop_more all i x less ∙ ap (λ y. y ∷ drop (i + 1) all) (sym is)
 
 -- the transaction is found
-pub kept_here : (t : ℕ) (p : Placed) (old all all' : List Active) (i : ℕ) (x y : Active) → i < length old → IsKeptTo t p old all i → x ≡ get_or all i x → x.number ≡ t → all' ≡ set all i y → listed y ≡ (x.number, map placed_of x.own.items ++ p ∷ []) → map listed all' ≡ with_own t p (map listed old)
+pub kept_here : (t : ℕ) (p : PlacedAnswer) (old all all' : List Active) (i : ℕ) (x y : Active) → i < length old → IsKeptTo t p old all i → x ≡ get_or all i x → x.number ≡ t → all' ≡ set all i y → listed y ≡ (x.number, map placed_answer x.own.items ++ p ∷ []) → map listed all' ≡ with_own t p (map listed old)
 kept_here t p old all all' i x y less h is found changed new =
     let is' : x ≡ get_or old i x = is ∙ ap (λ l. get_or l i x) h.same in
     let changed' : all' ≡ set old i y = changed ∙ ap (λ l. set l i y) h.same in

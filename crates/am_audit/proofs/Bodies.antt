@@ -15,9 +15,9 @@ use Rattle.am_record.proofs.Lists.{heads, tails}
 use Rattle.am_serial.specs.Trace.{Trace, Event, Answered, Answers, answered_to, effect, effect_of_do, effects, body, ops_of, replies_of, IsAnsweredAlone}
 use Rattle.am_serial.specs.Machine.{State, Transaction, is_open, body_in}
 use Rattle.am_audit.specs.declared.active.Active.{Active}
-use Rattle.am_audit.specs.declared.pass.Pass.{Pass}
+use Rattle.am_audit.specs.declared.checker.Checker.{Checker}
 use Rattle.am_audit.specs.Faults.{IsFirstWrongAnswer}
-use Rattle.am_audit.specs.Standing.{Placed, placed_from, placed, answered_of, Listed, listed, is_listed, own_in, Bodies, list_of, Moment, Stands, IsFirstWrong}
+use Rattle.am_audit.specs.Progress.{PlacedAnswer, answers_from, answers_at, answered_of, Listed, listed, is_listed, own_in, Bodies, list_of, Progress, IsAt, IsFirstWrong}
 use Rattle.am_audit.proofs.Takings.{is_active}
 
 -- ---- what is listed of an active transaction
@@ -36,7 +36,7 @@ own_are bodies (x ∷ txs) t on =
     (λ e. ap bodies (sym (eqb-true t x.0 e)))
     (λ e. own_are bodies txs t (⊎_elim (λ here. absurd (both_ways (t == x.0) e here)) (λ later. later) (or_cases (t == x.0) (is_open txs t) on)))
 
-module _ (p : Pass) (here : Moment) (h : Stands p here) (all : List Active) (is : all ≡ p.active.items) (t : ℕ) where
+module _ (p : Checker) (here : Progress) (h : IsAt p here) (all : List Active) (is : all ≡ p.active.items) (t : ℕ) where
   abbrev s : State
   s = here.state
 
@@ -54,7 +54,7 @@ module _ (p : Pass) (here : Moment) (h : Stands p here) (all : List Active) (is 
   counted (Some n) f =
       let on : is_open s.active t ≡ true = sym listed_open ∙ f.0 in (
         on,
-        f.1 ∙ ap length (own_placed on) ∙ sym (ap length (body_placed on) ∙ length-map (here.bodies t) (λ (q : Placed). q.1)),
+        f.1 ∙ ap length (own_placed on) ∙ sym (ap length (body_placed on) ∙ length-map (here.bodies t) (λ (q : PlacedAnswer). q.1)),
       )
 
   pub not_counted : (o : Option ℕ) → IfNone o (is_listed (map listed all) t ≡ false) → IfNone o (is_open s.active t ≡ false)
@@ -94,33 +94,33 @@ answered_event t _ _ a e = no_answer a e
 
 -- ---- the places
 
-pub placed_body : (trace : Trace) (n t : ℕ) → answered_of (placed_from n t trace) ≡ body (effects trace) t
+pub placed_body : (trace : Trace) (n t : ℕ) → answered_of (answers_from n t trace) ≡ body (effects trace) t
 placed_body [] n t = refl
 placed_body (e ∷ trace) n t = one (answered_to t (effect e.0 e.1)) (placed_body trace (n + 1) t)
   where
-    one : (o : Option Answered) → answered_of (placed_from (n + 1) t trace) ≡ body (effects trace) t → answered_of (cons_option (option_map (λ (a : Answered). (n, a)) o) (placed_from (n + 1) t trace)) ≡ cons_option o (body (effects trace) t)
+    one : (o : Option Answered) → answered_of (answers_from (n + 1) t trace) ≡ body (effects trace) t → answered_of (cons_option (option_map (λ (a : Answered). (n, a)) o) (answers_from (n + 1) t trace)) ≡ cons_option o (body (effects trace) t)
     one None rest = rest
     one (Some a) rest = ap (λ l. a ∷ l) rest
 
 -- where an operation of the body stands
-pub record Splits (trace : Trace) (n t : ℕ) (es : List Placed) (place : ℕ) (a : Answered) : Type 0 where
+pub record Splits (trace : Trace) (n t : ℕ) (es : List PlacedAnswer) (position : ℕ) (a : Answered) : Type 0 where
   pub earlier : Trace
   pub later : Trace
   pub split : trace ≡ earlier ++ (Do t a.0, a.1) ∷ later
-  pub at : place ≡ n + length earlier
-  pub before : placed_from n t earlier ≡ es
+  pub at : position ≡ n + length earlier
+  pub before : answers_from n t earlier ≡ es
   pub effect : effect (Do t a.0) a.1 ≡ Answers t a.0 a.1
 
-pair_parts : (n m : ℕ) (a b : Answered) → ◌≡◌ {A = Placed} (n, a) (m, b) → (n ≡ m) × (a ≡ b)
-pair_parts n m a b e = (ap (λ (p : Placed). p.0) e, ap (λ (p : Placed). p.1) e)
+pair_parts : (n m : ℕ) (a b : Answered) → ◌≡◌ {A = PlacedAnswer} (n, a) (m, b) → (n ≡ m) × (a ≡ b)
+pair_parts n m a b e = (ap (λ (p : PlacedAnswer). p.0) e, ap (λ (p : PlacedAnswer). p.1) e)
 
-splits : (trace : Trace) (n t : ℕ) (es : List Placed) (place : ℕ) (a : Answered) (rest : List Placed) → placed_from n t trace ≡ es ++ (place, a) ∷ rest → Splits trace n t es place a
-splits [] n t [] place a rest e = absurd (cc)
-splits [] n t (x ∷ es) place a rest e = absurd (cc)
-splits (e ∷ trace) n t es place a rest is = one (answered_to t (effect e.0 e.1)) refl is (λ es' k. splits trace (n + 1) t es' place a rest k)
+splits : (trace : Trace) (n t : ℕ) (es : List PlacedAnswer) (position : ℕ) (a : Answered) (rest : List PlacedAnswer) → answers_from n t trace ≡ es ++ (position, a) ∷ rest → Splits trace n t es position a
+splits [] n t [] position a rest e = absurd (cc)
+splits [] n t (x ∷ es) position a rest e = absurd (cc)
+splits (e ∷ trace) n t es position a rest is = one (answered_to t (effect e.0 e.1)) refl is (λ es' k. splits trace (n + 1) t es' position a rest k)
   where
-    one : (o : Option Answered) → answered_to t (effect e.0 e.1) ≡ o → cons_option (option_map (λ (a : Answered). (n, a)) o) (placed_from (n + 1) t trace) ≡ es ++ (place, a) ∷ rest →
-        ((es' : List Placed) → placed_from (n + 1) t trace ≡ es' ++ (place, a) ∷ rest → Splits trace (n + 1) t es' place a) → Splits (e ∷ trace) n t es place a
+    one : (o : Option Answered) → answered_to t (effect e.0 e.1) ≡ o → cons_option (option_map (λ (a : Answered). (n, a)) o) (answers_from (n + 1) t trace) ≡ es ++ (position, a) ∷ rest →
+        ((es' : List PlacedAnswer) → answers_from (n + 1) t trace ≡ es' ++ (position, a) ∷ rest → Splits trace (n + 1) t es' position a) → Splits (e ∷ trace) n t es position a
     one None none k later =
         let f = later es k in
         record {
@@ -128,14 +128,14 @@ splits (e ∷ trace) n t es place a rest is = one (answered_to t (effect e.0 e.1
           later = f.later;
           split = ap (λ l. e ∷ l) f.split;
           at = let here = f.at in omega arith;
-          before = ap (λ o. cons_option (option_map (λ (a : Answered). (n, a)) o) (placed_from (n + 1) t f.earlier)) none ∙ f.before;
+          before = ap (λ o. cons_option (option_map (λ (a : Answered). (n, a)) o) (answers_from (n + 1) t f.earlier)) none ∙ f.before;
           effect = f.effect;
         }
     one (Some b) some k later = here es k later
       where
-        here : (fs : List Placed) → (n, b) ∷ placed_from (n + 1) t trace ≡ fs ++ (place, a) ∷ rest → ((es' : List Placed) → placed_from (n + 1) t trace ≡ es' ++ (place, a) ∷ rest → Splits trace (n + 1) t es' place a) → Splits (e ∷ trace) n t fs place a
+        here : (fs : List PlacedAnswer) → (n, b) ∷ answers_from (n + 1) t trace ≡ fs ++ (position, a) ∷ rest → ((es' : List PlacedAnswer) → answers_from (n + 1) t trace ≡ es' ++ (position, a) ∷ rest → Splits trace (n + 1) t es' position a) → Splits (e ∷ trace) n t fs position a
         here [] k later =
-            let pair = pair_parts n place b a (heads k) in
+            let pair = pair_parts n position b a (heads k) in
             let told = answered_event t e.0 e.1 b some in
             let told' = subst (λ (c : Answered). IsAnswered t (e.0, e.1) c) pair.1 told in
             record {
@@ -154,31 +154,31 @@ splits (e ∷ trace) n t es place a rest is = one (answered_to t (effect e.0 e.1
               later = f.later;
               split = ap (λ l. e ∷ l) f.split;
               at = let here = f.at in omega arith;
-              before = ap (λ o. cons_option (option_map (λ (a : Answered). (n, a)) o) (placed_from (n + 1) t f.earlier)) some ∙ (λ i. first i ∷ f.before i);
+              before = ap (λ o. cons_option (option_map (λ (a : Answered). (n, a)) o) (answers_from (n + 1) t f.earlier)) some ∙ (λ i. first i ∷ f.before i);
               effect = f.effect;
             }
 
 -- ---- where a body is first answered wrongly
 
-pub first_wrong : (seen : Trace) (t : ℕ) (m : PlainMap) (d : Draft) (place : ℕ) → d ≡ fresh m → IsFirstWrong (placed seen t) d place → IsFirstWrongAnswer seen t m (place + 2)
-first_wrong seen t m d place is w =
-    let f = splits seen 0 t w.earlier place (w.op, w.reply) w.later w.split in
+pub first_wrong : (seen : Trace) (t : ℕ) (m : PlainMap) (d : Draft) (position : ℕ) → d ≡ fresh m → IsFirstWrong (answers_at seen t) d position → IsFirstWrongAnswer seen t m (position + 2)
+first_wrong seen t m d position is w =
+    let f = splits seen 0 t w.earlier position (w.op, w.reply) w.later w.split in
     let before : body (effects f.earlier) t ≡ answered_of w.earlier = sym (placed_body f.earlier 0 t) ∙ ap answered_of f.before in
-    let w' : IsFirstWrong (placed seen t) (fresh m) place = subst (λ x. IsFirstWrong (placed seen t) x place) is w in
+    let w' : IsFirstWrong (answers_at seen t) (fresh m) position = subst (λ x. IsFirstWrong (answers_at seen t) x position) is w in
     record {
       earlier = f.earlier;
       op = w.op;
       reply = w.reply;
       later = f.later;
       split = f.split;
-      place = let here = f.at in omega arith;
+      position = let here = f.at in omega arith;
       answered = f.effect;
       first = subst (λ (b : List Answered). IsAnsweredAlone b m) (sym before) (first_part w);
       wrong = λ e. wrong_part w (e ∙ ap (λ (b : List Answered). answer w.op (left_on (ops_of b) (fresh m))) before);
     }
   where
-    first_part : (x : IsFirstWrong (placed seen t) d place) → IsAnsweredAlone (answered_of x.earlier) m
+    first_part : (x : IsFirstWrong (answers_at seen t) d position) → IsAnsweredAlone (answered_of x.earlier) m
     first_part x = let P : Draft → Type 0 = λ y. replies_of (answered_of x.earlier) ≡ answers_on (ops_of (answered_of x.earlier)) y in subst P is x.first
 
-    wrong_part : (x : IsFirstWrong (placed seen t) d place) → x.reply ≡ answer x.op (left_on (ops_of (answered_of x.earlier)) (fresh m)) → ⊥
+    wrong_part : (x : IsFirstWrong (answers_at seen t) d position) → x.reply ≡ answer x.op (left_on (ops_of (answered_of x.earlier)) (fresh m)) → ⊥
     wrong_part x e = x.wrong (e ∙ ap (λ y. answer x.op (left_on (ops_of (answered_of x.earlier)) y)) (sym is))

@@ -5,7 +5,7 @@ use Rattle.std.specs.List.{cons_option}
 use Rattle.std.proofs.lemmas.Bool.{cond-true, eq-eqb}
 use Rattle.std.proofs.lemmas.List.{map-append}
 use Rattle.std.proofs.lemmas.List.Elements.{filter_map-append}
-use Rattle.am_record.specs.Plain.{PlainMap, Draft, fresh, answer, after, answers_on, left_on}
+use Rattle.am_record.specs.Plain.{PlainMap, Draft, fresh, answer, draft_after, answers_on, left_on}
 use Rattle.am_record.specs.declared.step.Op.{Op}
 use Rattle.am_record.specs.declared.step.Step.{Step}
 use Rattle.am_record.specs.declared.step.Step.TheVariants.{Begin, Do, Commit, Abort, Merge, Clean}
@@ -15,8 +15,8 @@ use Rattle.am_record.proofs.Lists.{heads, tails}
 use Rattle.am_serial.specs.Trace.{Trace, Event, Answered, Effect, Answers, Commits, answered_to, effect, effects, body, ops_of, replies_of, committed, IsSerial, IsAnsweredAlone}
 use Rattle.am_serial.specs.Sound.{FormedAt, BusyRightAt}
 use Rattle.am_serial.specs.Formed.{IsFormed, IsNextInOrder, FormedLaws}
-use Rattle.am_audit.specs.declared.fault.Kind.{Kind}
-use Rattle.am_audit.specs.declared.fault.Kind.TheVariants.{Form, Busy, Answer}
+use Rattle.am_audit.specs.declared.fault.FaultKind.{FaultKind}
+use Rattle.am_audit.specs.declared.fault.FaultKind.TheVariants.{Form, Busy, Answer}
 use Rattle.am_serial.specs.Legal.{IsLegal}
 use Rattle.am_audit.specs.Faults.{IsFirstWrongAnswer, IsFault, IsFirstFault}
 use Rattle.am_audit.proofs.Moments.{event_at, moment_after, last_moment}
@@ -29,7 +29,7 @@ reply_parts a b xs ys e = (cc, cc)
 middle_answer : (done : List Answered) (op : Op) (reply : Reply) (rest : List Answered) (d : Draft) →
     replies_of (done ++ (op, reply) ∷ rest) ≡ answers_on (ops_of (done ++ (op, reply) ∷ rest)) d → reply ≡ answer op (left_on (ops_of done) d)
 middle_answer [] op reply rest d e = (reply_parts _ _ _ _ e).0
-middle_answer (a ∷ done) op reply rest d e = middle_answer done op reply rest (after a.0 d) (reply_parts _ _ _ _ e).1
+middle_answer (a ∷ done) op reply rest d e = middle_answer done op reply rest (draft_after a.0 d) (reply_parts _ _ _ _ e).1
 
 -- the body has the operation between those before it and those behind it
 body_split : (earlier later : Trace) (t : ℕ) (op : Op) (reply : Reply) → effect (Do t op) reply ≡ Answers t op reply →
@@ -49,7 +49,7 @@ not_alone trace t m line w alone =
 -- ---- the first fault
 
 module _ (laws : (trace : Trace) → IsFormed trace → FormedLaws trace) where
-  against : (earlier : Trace) (event : Event) (later : Trace) (line : ℕ) (kind : Kind) → IsLegal earlier → IsFault earlier event line kind → IsLegal (earlier ++ event ∷ later) → ⊥
+  against : (earlier : Trace) (event : Event) (later : Trace) (line : ℕ) (kind : FaultKind) → IsLegal earlier → IsFault earlier event line kind → IsLegal (earlier ++ event ∷ later) → ⊥
   against earlier event later line Form legal w whole = w.1.form (event_at FormedAt earlier event later whole.formed)
   against earlier event later line Busy legal w whole = w.1.busy (event_at BusyRightAt earlier event later whole.busy)
   against earlier event later line Answer legal w whole =
@@ -57,7 +57,7 @@ module _ (laws : (trace : Trace) → IsFormed trace → FormedLaws trace) where
       let next = ((laws earlier legal.formed).serial event.0 event.1 w.formed (last_moment IsSerial earlier legal.serial)).0 serial in
       not_alone earlier w.t (committed (effects earlier)) line w.answer (subst (IsNextInOrder (effects earlier)) w.commit next)
 
-  pub not_legal : (trace : Trace) (line : ℕ) (kind : Kind) → IsFirstFault trace line kind → IsLegal trace → ⊥
+  pub not_legal : (trace : Trace) (line : ℕ) (kind : FaultKind) → IsFirstFault trace line kind → IsLegal trace → ⊥
   not_legal trace line kind f legal = against f.earlier f.event f.later line kind f.legal f.fault (subst IsLegal f.split legal)
 
 -- ---- there is one at most
@@ -97,11 +97,11 @@ one_wrong_answer : (trace : Trace) (t : ℕ) (m : PlainMap) (l k : ℕ) → IsFi
 one_wrong_answer trace t m l k w v = at (parted w.earlier (Do t w.op, w.reply) w.later v.earlier (Do t v.op, v.reply) v.later (sym w.split ∙ v.split))
   where
     at : Parted w.earlier (Do t w.op, w.reply) v.earlier (Do t v.op, v.reply) → l ≡ k
-    at (Same same here) = w.place ∙ ap (λ (xs : Trace). length xs + 2) same ∙ sym v.place
-    at (Before rest is) = absurd (not_alone v.earlier t m l (record { earlier = w.earlier; op = w.op; reply = w.reply; later = rest; split = is; place = w.place; answered = w.answered; first = w.first; wrong = w.wrong }) v.first)
-    at (After rest is) = absurd (not_alone w.earlier t m k (record { earlier = v.earlier; op = v.op; reply = v.reply; later = rest; split = is; place = v.place; answered = v.answered; first = v.first; wrong = v.wrong }) w.first)
+    at (Same same here) = w.position ∙ ap (λ (xs : Trace). length xs + 2) same ∙ sym v.position
+    at (Before rest is) = absurd (not_alone v.earlier t m l (record { earlier = w.earlier; op = w.op; reply = w.reply; later = rest; split = is; position = w.position; answered = w.answered; first = w.first; wrong = w.wrong }) v.first)
+    at (After rest is) = absurd (not_alone w.earlier t m k (record { earlier = v.earlier; op = v.op; reply = v.reply; later = rest; split = is; position = v.position; answered = v.answered; first = v.first; wrong = v.wrong }) w.first)
 
-one_fault : (trace : Trace) (e : Event) (l k : ℕ) (a b : Kind) → IsFault trace e l a → IsFault trace e k b → (l ≡ k) × (a ≡ b)
+one_fault : (trace : Trace) (e : Event) (l k : ℕ) (a b : FaultKind) → IsFault trace e l a → IsFault trace e k b → (l ≡ k) × (a ≡ b)
 one_fault trace e l k Form Form w v = (w.0 ∙ sym v.0, refl)
 one_fault trace e l k Busy Busy w v = (w.0 ∙ sym v.0, refl)
 one_fault trace e l k Answer Answer w v =
@@ -114,7 +114,7 @@ one_fault trace e l k Answer Form w v = absurd (v.1.form w.formed)
 one_fault trace e l k Busy Answer w v = absurd (w.1.busy (busy_of_commit (effects trace) e.0 e.1 v.t v.commit))
 one_fault trace e l k Answer Busy w v = absurd (v.1.busy (busy_of_commit (effects trace) e.0 e.1 w.t w.commit))
 
-pub one_first_fault : ((trace : Trace) → IsFormed trace → FormedLaws trace) → (trace : Trace) (l k : ℕ) (a b : Kind) → IsFirstFault trace l a → IsFirstFault trace k b → (l ≡ k) × (a ≡ b)
+pub one_first_fault : ((trace : Trace) → IsFormed trace → FormedLaws trace) → (trace : Trace) (l k : ℕ) (a b : FaultKind) → IsFirstFault trace l a → IsFirstFault trace k b → (l ≡ k) × (a ≡ b)
 one_first_fault laws trace l k a b f g = at (parted f.earlier f.event f.later g.earlier g.event g.later (sym f.split ∙ g.split))
   where
     at : Parted f.earlier f.event g.earlier g.event → (l ≡ k) × (a ≡ b)

@@ -13,7 +13,7 @@ use Rattle.am_serial.specs.Machine.{State, due_early, blocker, locks_in}
 use Rattle.am_serial.specs.Sound.{FormedDo}
 use Rattle.am_serial.proofs.Sound.{not_answer, same_refusal}
 use Rattle.am_audit.specs.Faults.{is_early}
-use Rattle.am_audit.specs.Standing.{FormedIn, EarlyIn, IsRightOf, IsMisformedIn, IsWronglyBusyIn, early_of, busy_of}
+use Rattle.am_audit.specs.Progress.{FormedIn, EarlyIn, IsRightOf, IsMisformedIn, IsWronglyBusyIn, early_of, busy_of}
 
 early_of_due : (a b c d e : Bool) (why : Refusal) → cond a (Some NoSuchTx) (cond b (Some TooManyOps) (cond c (Some NotRising) (cond d (Some BadLimit) (cond e (Some TooManyRuns) None)))) ≡ Some why → is_early why ≡ true
 early_of_due true b c d e why h = let same : NoSuchTx ≡ why = cc in ap is_early (sym same)
@@ -29,9 +29,6 @@ due_is_early s t op why h = early_of_due _ _ _ _ _ why h
 
 same_number : (h k : ℕ) → Refused (Busy h) ≡ Refused (Busy k) → h ≡ k
 same_number h k e = let same : Busy h ≡ Busy k = cc in cc
-
-same_holder : (h k : ℕ) → Some h ≡ Some k → h ≡ k
-same_holder h k e = cc
 
 clash : (w v : Refusal) → is_early w ≡ true → is_early v ≡ false → Refused w ≡ Refused v → ⊥
 clash w v e f h = true≢false (sym e ∙ ap is_early (same_refusal w v h) ∙ f)

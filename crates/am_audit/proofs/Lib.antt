@@ -3,7 +3,7 @@ pub mod Actives
 pub mod Tables
 pub mod Replays
 pub mod Judging
-pub mod Standings
+pub mod Progresses
 pub mod Takings
 pub mod Bodies
 pub mod Performs

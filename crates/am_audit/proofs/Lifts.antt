@@ -9,11 +9,11 @@ use Rattle.am_serial.specs.Trace.{Trace, Answered, Effect, Begins, Answers, Comm
 use Rattle.am_serial.specs.Machine.{State, start, after_run, is_open, state_at}
 use Rattle.am_serial.specs.Sound.{FormedAt, BusyRightAt}
 use Rattle.am_serial.specs.Formed.{IsFormed, IsNextInOrder, FormedLaws}
-use Rattle.am_audit.specs.declared.flaw.Flaw.{Flaw}
-use Rattle.am_audit.specs.declared.flaw.Flaw.TheVariants.{Form, Busy, Answer, NoMemory}
+use Rattle.am_audit.specs.declared.event_fault.EventFault.{EventFault}
+use Rattle.am_audit.specs.declared.event_fault.EventFault.TheVariants.{Form, Busy, Answer, NoMemory}
 use Rattle.am_serial.specs.Legal.{IsLegal}
 use Rattle.am_audit.specs.Faults.{EarlyRightAt, IsMisformed, IsWronglyBusy, IsFirstWrongAnswer, CommitsWrongly, IsTrueFault}
-use Rattle.am_audit.specs.Standing.{FormedIn, EarlyIn, BusyIn, NextIn, IsRightIn, IsMisformedIn, IsWronglyBusyIn, CommitsWronglyIn, moment_of, IsFlaw, fault_of}
+use Rattle.am_audit.specs.Progress.{FormedIn, EarlyIn, BusyIn, NextIn, IsRightIn, IsMisformedIn, IsWronglyBusyIn, CommitsWronglyIn, progress_of, IsEventFault, fault_of}
 use Rattle.am_audit.proofs.Bodies.{first_wrong}
 use Rattle.am_audit.proofs.Moments.{one_more_event, one_more_moment, last_moment}
 
@@ -139,17 +139,17 @@ module _ (laws : (trace : Trace) → IsFormed trace → FormedLaws trace) (seen 
     first = early_here step reply w.first;
   }
 
-  commits_wrongly_here : (step : Step) (reply : Reply) (place : ℕ) → CommitsWronglyIn (moment_of seen) step reply place → CommitsWrongly seen step reply (place + 2)
-  commits_wrongly_here step reply place w = record {
+  commits_wrongly_here : (step : Step) (reply : Reply) (position : ℕ) → CommitsWronglyIn (progress_of seen) step reply position → CommitsWrongly seen step reply (position + 2)
+  commits_wrongly_here step reply position w = record {
     t = w.t;
     formed = formed_here step reply w.formed;
     commit = w.commit;
-    answer = subst (λ (m : PlainMap). IsFirstWrongAnswer seen w.t m (place + 2)) (ap (λ (x : State). x.committed) (sym state)) (first_wrong seen w.t s.committed (fresh s.committed) place refl w.answer);
+    answer = subst (λ (m : PlainMap). IsFirstWrongAnswer seen w.t m (position + 2)) (ap (λ (x : State). x.committed) (sym state)) (first_wrong seen w.t s.committed (fresh s.committed) position refl w.answer);
   }
 
   -- a flaw of the event that comes next is the first fault
-  pub is_first : (trace : Trace) (step : Step) (reply : Reply) (later : Trace) → trace ≡ seen ++ (step, reply) ∷ later → (place : ℕ) → place ≡ length seen → (flaw : Flaw) → IsFlaw (moment_of seen) step reply flaw → IsTrueFault trace (fault_of place flaw)
-  is_first trace step reply later is place at Form w = record { earlier = seen; event = (step, reply); later = later; split = is; legal = legal; fault = (ap (λ n. n + 2) at, misformed_here step reply w) }
-  is_first trace step reply later is place at Busy w = record { earlier = seen; event = (step, reply); later = later; split = is; legal = legal; fault = (ap (λ n. n + 2) at, wrongly_busy_here step reply w) }
-  is_first trace step reply later is place at (Answer n) w = record { earlier = seen; event = (step, reply); later = later; split = is; legal = legal; fault = commits_wrongly_here step reply n w }
-  is_first trace step reply later is place at NoMemory w = tt
+  pub is_first : (trace : Trace) (step : Step) (reply : Reply) (later : Trace) → trace ≡ seen ++ (step, reply) ∷ later → (position : ℕ) → position ≡ length seen → (event_fault : EventFault) → IsEventFault (progress_of seen) step reply event_fault → IsTrueFault trace (fault_of position event_fault)
+  is_first trace step reply later is position at Form w = record { earlier = seen; event = (step, reply); later = later; split = is; legal = legal; fault = (ap (λ n. n + 2) at, misformed_here step reply w) }
+  is_first trace step reply later is position at Busy w = record { earlier = seen; event = (step, reply); later = later; split = is; legal = legal; fault = (ap (λ n. n + 2) at, wrongly_busy_here step reply w) }
+  is_first trace step reply later is position at (Answer n) w = record { earlier = seen; event = (step, reply); later = later; split = is; legal = legal; fault = commits_wrongly_here step reply n w }
+  is_first trace step reply later is position at NoMemory w = tt

@@ -12,21 +12,21 @@ use Rattle.am_record.specs.declared.step.Reply.TheVariants.{Begun, Committed, Ab
 use Rattle.am_record.proofs.Lists.{AllByRecursion-map, AllByRecursion-push}
 use Rattle.am_serial.specs.Trace.{Effect, Begins, Answers, Commits, Aborts, Nothing, effect}
 use Rattle.am_serial.specs.Machine.{State, Transaction, is_open, next}
-use Rattle.am_audit.specs.declared.flaw.Flaw.{Flaw}
-use Rattle.am_audit.specs.declared.flaw.Flaw.TheVariants.{Form, Busy, Answer, NoMemory}
-use Rattle.am_audit.specs.declared.pass.Pass.{Pass}
-use Rattle.am_audit.specs.Standing.{Placed, answered_of, Listed, listed, own_in, Bodies, list_of, StandsAt, added, Moment, Stands, FormedIn, IsRightIn, IsMisformedIn, IsWronglyBusyIn, Takes, IsFlaw, IsFirstWrong}
-use Rattle.am_audit.proofs.Standings.{all_without, all_extended, open_below}
+use Rattle.am_audit.specs.declared.event_fault.EventFault.{EventFault}
+use Rattle.am_audit.specs.declared.event_fault.EventFault.TheVariants.{Form, Busy, Answer, NoMemory}
+use Rattle.am_audit.specs.declared.checker.Checker.{Checker}
+use Rattle.am_audit.specs.Progress.{PlacedAnswer, answered_of, Listed, listed, own_in, Bodies, list_of, IsAtState, added, Progress, IsAt, FormedIn, IsRightIn, IsMisformedIn, IsWronglyBusyIn, TakesEvent, IsEventFault, IsFirstWrong}
+use Rattle.am_audit.proofs.Progresses.{all_without, all_extended, open_below}
 use Rattle.am_audit.proofs.Bodies.{own_are}
 use Rattle.am_audit.proofs.Lifts.{commit_open}
 
-abbrev pub own_bodies : Pass → Bodies
+abbrev pub own_bodies : Checker → Bodies
 own_bodies p = own_in (map listed p.active.items)
 
-abbrev pub own_state : Pass → State
+abbrev pub own_state : Checker → State
 own_state p = record { begun = p.begun; commits = p.commits; runs = p.runs; committed = p.committed.map; active = map (λ (x : Listed). (x.0, answered_of x.1)) (map listed p.active.items) }
 
-abbrev pub own_moment : Pass → ℕ → Moment
+abbrev pub own_moment : Checker → ℕ → Progress
 own_moment p n = record { bodies = own_bodies p; state = own_state p; count = n }
 
 -- ---- its state
@@ -35,7 +35,7 @@ active_are : (bodies : Bodies) (txs : List Transaction) → AllByRecursion (λ (
 active_are bodies [] a = refl
 active_are bodies (x ∷ txs) a = let rest = active_are bodies txs a.1 in λ i. (x.0, sym a.0 i) ∷ rest i
 
-state_is : (p : Pass) (bodies : Bodies) (s : State) → StandsAt p bodies s → own_state p ≡ s
+state_is : (p : Checker) (bodies : Bodies) (s : State) → IsAtState p bodies s → own_state p ≡ s
 state_is p bodies s h =
     let active = ap (map (λ (x : Listed). (x.0, answered_of x.1))) h.active ∙ active_are bodies s.active h.ordinary.made in
     λ i. record { begun = h.begun i; commits = h.commits i; runs = h.runs i; committed = (ap (λ (d : Draft). d.map) h.committed) i; active = active i }
@@ -57,7 +57,7 @@ lists_agree b c [] a = refl
 lists_agree b c (x ∷ txs) a = let rest = lists_agree b c txs a.1 in λ i. (x.0, a.0 i) ∷ rest i
 
 -- other bodies that are the same for the active transactions
-rebodied : (p : Pass) (b c : Bodies) (s : State) → AgreeOn s.active b c → ((t : ℕ) → s.begun < t → c t ≡ []) → StandsAt p b s → StandsAt p c s
+rebodied : (p : Checker) (b c : Bodies) (s : State) → AgreeOn s.active b c → ((t : ℕ) → s.begun < t → c t ≡ []) → IsAtState p b s → IsAtState p c s
 rebodied p b c s same none h = record {
   begun = h.begun;
   commits = h.commits;
@@ -84,7 +84,7 @@ none_listed b (x ∷ txs) t off =
     (λ e. absurd (true≢false (sym (ap (λ o. o || is_open txs t) e) ∙ off)))
     (λ e. none_listed b txs t (sym (ap (λ o. o || is_open txs t) e) ∙ off))
 
-module _ (p : Pass) (b : Bodies) (s : State) (h : StandsAt p b s) where
+module _ (p : Checker) (b : Bodies) (s : State) (h : IsAtState p b s) where
   own_here : (t : ℕ) → is_open s.active t ≡ true → own_bodies p t ≡ b t
   own_here t on = ap (λ (xs : List Listed). own_in xs t) h.active ∙ own_are b s.active t on
 
@@ -97,14 +97,14 @@ module _ (p : Pass) (b : Bodies) (s : State) (h : StandsAt p b s) where
   all_here = AllByRecursion-map (λ (x : Transaction). is_open s.active x.0 ≡ true) (λ (x : Transaction). own_bodies p x.0 ≡ b x.0) (λ x on. own_here x.0 on) s.active (each_open s.active)
 
   -- the pass stands where it tells itself
-  pub stands_own : (n : ℕ) → Stands p (own_moment p n)
+  pub stands_own : (n : ℕ) → IsAt p (own_moment p n)
   stands_own n =
-      subst (λ x. StandsAt p (own_bodies p) x) (sym (state_is p b s h))
+      subst (λ x. IsAtState p (own_bodies p) x) (sym (state_is p b s h))
       (rebodied p b (own_bodies p) s (AllByRecursion-map (λ (x : Transaction). own_bodies p x.0 ≡ b x.0) (λ (x : Transaction). b x.0 ≡ own_bodies p x.0) (λ x e. sym e) s.active all_here) own_none h)
 
   -- ---- the event that comes next
 
-  abbrev here : ℕ → Moment
+  abbrev here : ℕ → Progress
   here n = record { bodies = b; state = s; count = n }
 
   -- what begins is new
@@ -132,10 +132,10 @@ module _ (p : Pass) (b : Bodies) (s : State) (h : StandsAt p b s) where
   no_less (Begins t) = omega arith
   no_less _ = omega arith
 
-  pub takes_there : (n : ℕ) (step : Step) (reply : Reply) (p' : Pass) → Takes (own_moment p n) step reply p' → Takes (here n) step reply p'
+  pub takes_there : (n : ℕ) (step : Step) (reply : Reply) (p' : Checker) → TakesEvent (own_moment p n) step reply p' → TakesEvent (here n) step reply p'
   takes_there n step reply p' k =
       let is = state_is p b s h in
-      let stands = subst (λ x. StandsAt p' (with_added (own_bodies p) n (effect step reply)) (next x (effect step reply))) is k.stands in
+      let stands = subst (λ x. IsAtState p' (with_added (own_bodies p) n (effect step reply)) (next x (effect step reply))) is k.stands in
       let right = subst (λ x. IsRightIn x step reply) is k.right in
       record {
         right = right;
@@ -149,17 +149,17 @@ module _ (p : Pass) (b : Bodies) (s : State) (h : StandsAt p b s) where
             stands;
       }
 
-  pub flaw_there : (n : ℕ) (step : Step) (reply : Reply) (flaw : Flaw) → IsFlaw (own_moment p n) step reply flaw → IsFlaw (here n) step reply flaw
+  pub flaw_there : (n : ℕ) (step : Step) (reply : Reply) (event_fault : EventFault) → IsEventFault (own_moment p n) step reply event_fault → IsEventFault (here n) step reply event_fault
   flaw_there n step reply Form w = subst (λ x. IsMisformedIn x step reply) (state_is p b s h) w
   flaw_there n step reply Busy w = subst (λ x. IsWronglyBusyIn x step reply) (state_is p b s h) w
-  flaw_there n step reply (Answer place) w =
+  flaw_there n step reply (Answer position) w =
       let is = state_is p b s h in
       let formed = subst (λ x. FormedIn x step reply) is w.formed in
       record {
         t = w.t;
         formed = formed;
         commit = w.commit;
-        answer = subst (λ (own : List Placed). IsFirstWrong own (fresh s.committed) place) (own_here w.t (commit_open s step reply w.t w.commit formed))
-            (subst (λ (x : State). IsFirstWrong (own_bodies p w.t) (fresh x.committed) place) is w.answer);
+        answer = subst (λ (own : List PlacedAnswer). IsFirstWrong own (fresh s.committed) position) (own_here w.t (commit_open s step reply w.t w.commit formed))
+            (subst (λ (x : State). IsFirstWrong (own_bodies p w.t) (fresh x.committed) position) is w.answer);
       }
   flaw_there n step reply NoMemory w = tt

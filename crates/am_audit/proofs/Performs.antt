@@ -10,17 +10,17 @@ use Rattle.am_record.specs.declared.step.Op.{Op}
 use Rattle.am_record.specs.declared.step.Step.TheVariants.{Do, Commit}
 use Rattle.am_record.specs.declared.step.Reply.{Reply}
 use Rattle.am_record.specs.declared.step.Reply.TheVariants.{Committed, Refused}
-use Rattle.am_locks.specs.Held.{Held}
-use Rattle.am_locks.specs.Table.{is_owner, locks_of, with_locks, without as released}
+use Rattle.am_locks.specs.OwnerLocks.{OwnerLocks}
+use Rattle.am_locks.specs.Table.{is_owner, locks_owned, with_locks, without_owner as released}
 use Rattle.am_serial.specs.Trace.{Answered, Answers, Commits, Nothing, effect, runs_made, ops_of, replies_of, IsAnsweredAlone}
 use Rattle.am_serial.specs.Machine.{State, is_open, body_in, locks_in, view, due_early, May}
-use Rattle.am_audit.specs.declared.flaw.Flaw.{Flaw}
-use Rattle.am_audit.specs.declared.flaw.Flaw.TheVariants.{Form, Busy, Answer, NoMemory}
+use Rattle.am_audit.specs.declared.event_fault.EventFault.{EventFault}
+use Rattle.am_audit.specs.declared.event_fault.EventFault.TheVariants.{Form, Busy, Answer, NoMemory}
 use Rattle.am_audit.specs.declared.active.Active.{Active}
-use Rattle.am_audit.specs.declared.pass.Pass.{Pass}
-use Rattle.am_audit.specs.Standing.{Placed, answered_of, Listed, listed, is_listed, own_in, with_own, held_of, Moment, Stands, NextIn, IsRightOf, Takes, IsFlaw, AreAnsweredOn, left_by_all, IsFirstWrong, IsReplayFlaw, refused_of}
+use Rattle.am_audit.specs.declared.checker.Checker.{Checker}
+use Rattle.am_audit.specs.Progress.{PlacedAnswer, answered_of, Listed, listed, is_listed, own_in, with_own, owner_of, Progress, IsAt, NextIn, IsRightOf, TakesEvent, IsEventFault, AreAnsweredOn, left_by_all, IsFirstWrong, IsReplayFault, refused_of}
 use Rattle.am_audit.proofs.Tables.{still_owner, held_before, given_back}
-use Rattle.am_audit.proofs.Standings.{stands_behind, no_answer, answers, commits}
+use Rattle.am_audit.proofs.Progresses.{stands_behind, no_answer, answers, commits}
 use Rattle.am_audit.proofs.Takings.{takes_still, is_owned}
 use Rattle.am_audit.proofs.Bodies.{body_placed, own_placed, listed_open}
 
@@ -42,7 +42,7 @@ answer_effect t op (Refused why) h = absurd (false≢true (sym h))
 answer_effect t op _ h = refl
 
 -- the same but for the locks, which are the same too
-restored : (p p' : Pass) (here : Moment) → Stands p here → p'.begun ≡ p.begun → p'.commits ≡ p.commits → p'.runs ≡ p.runs → map listed p'.active.items ≡ map listed p.active.items → p'.locks ≡ p.locks → p'.committed ≡ p.committed → Stands p' here
+restored : (p p' : Checker) (here : Progress) → IsAt p here → p'.begun ≡ p.begun → p'.commits ≡ p.commits → p'.runs ≡ p.runs → map listed p'.active.items ≡ map listed p.active.items → p'.locks ≡ p.locks → p'.committed ≡ p.committed → IsAt p' here
 restored p p' here h b c r a l m = record {
   begun = b ∙ h.begun;
   commits = c ∙ h.commits;
@@ -53,41 +53,41 @@ restored p p' here h b c r a l m = record {
   ordinary = h.ordinary;
 }
 
-pub takes_refused : (p p' : Pass) (here : Moment) (t : ℕ) (op : Op) (reply : Reply) → Stands p here → refused_of reply ≡ true → IsRightOf here.state (Do t op) reply →
-    p'.begun ≡ p.begun → p'.commits ≡ p.commits → p'.runs ≡ p.runs → map listed p'.active.items ≡ map listed p.active.items → p'.locks ≡ p.locks → p'.committed ≡ p.committed → Takes here (Do t op) reply p'
+pub takes_refused : (p p' : Checker) (here : Progress) (t : ℕ) (op : Op) (reply : Reply) → IsAt p here → refused_of reply ≡ true → IsRightOf here.state (Do t op) reply →
+    p'.begun ≡ p.begun → p'.commits ≡ p.commits → p'.runs ≡ p.runs → map listed p'.active.items ≡ map listed p.active.items → p'.locks ≡ p.locks → p'.committed ≡ p.committed → TakesEvent here (Do t op) reply p'
 takes_refused p p' here t op reply h refused right b c r a l m = takes_still p' here (Do t op) reply (refusal_nothing t op reply refused) right (restored p p' here h b c r a l m)
 
-module _ (p : Pass) (here : Moment) (h : Stands p here) (t : ℕ) (op : Op) (none : due_early here.state t op ≡ None) where
+module _ (p : Checker) (here : Progress) (h : IsAt p here) (t : ℕ) (op : Op) (none : due_early here.state t op ≡ None) where
   abbrev s : State
   s = here.state
 
   pub owner_here : is_owner p.locks t ≡ true
   owner_here = is_owned p here h t ∙ open_of_none s t op none
 
-  module _ (asked : Option Lock) (granted : List Held) (is : granted ≡ with_locks p.locks t (with_asked (locks_in s.active t) asked)) where
-    is' : granted ≡ with_locks (map held_of s.active) t (with_asked (locks_in s.active t) asked)
-    is' = is ∙ ap (λ (table : List Held). with_locks table t (with_asked (locks_in s.active t) asked)) h.locks
+  module _ (asked : Option Lock) (granted : List OwnerLocks) (is : granted ≡ with_locks p.locks t (with_asked (locks_in s.active t) asked)) where
+    is' : granted ≡ with_locks (map owner_of s.active) t (with_asked (locks_in s.active t) asked)
+    is' = is ∙ ap (λ (table : List OwnerLocks). with_locks table t (with_asked (locks_in s.active t) asked)) h.locks
 
     pub owner_still : is_owner granted t ≡ true
     owner_still = still_owner s.active t asked h.ordinary.rising (open_of_none s t op none) granted is'
 
-    module _ (n : ℕ) (count : n ≡ length (locks_of p.locks t)) where
-      count' : n ≡ length (locks_of (map held_of s.active) t)
-      count' = count ∙ ap (λ (table : List Held). length (locks_of table t)) h.locks
+    module _ (n : ℕ) (count : n ≡ length (locks_owned p.locks t)) where
+      count' : n ≡ length (locks_owned (map owner_of s.active) t)
+      count' = count ∙ ap (λ (table : List OwnerLocks). length (locks_owned table t)) h.locks
 
-      pub enough : n ≤ length (locks_of granted t)
+      pub enough : n ≤ length (locks_owned granted t)
       enough = held_before s.active t asked h.ordinary.rising (open_of_none s t op none) granted is' n count'
 
-      pub locks_back : with_locks granted t (take n (locks_of granted t)) ≡ p.locks
+      pub locks_back : with_locks granted t (take n (locks_owned granted t)) ≡ p.locks
       locks_back = given_back s.active t asked h.ordinary.rising (open_of_none s t op none) granted is' n count' ∙ sym h.locks
 
-  pub takes_answer : (p' : Pass) (reply : Reply) (n : ℕ) (asked : Option Lock) → n ≡ here.count → asked ≡ lock_of op → refused_of reply ≡ false → IsRightOf s (Do t op) reply → p'.begun ≡ p.begun → p'.commits ≡ p.commits → p'.runs ≡ p.runs + runs_made op reply → map listed p'.active.items ≡ with_own t (n, (op, reply)) (map listed p.active.items) → p'.locks ≡ with_locks p.locks t (with_asked (locks_in s.active t) asked) → p'.committed ≡ p.committed → Takes here (Do t op) reply p'
-  takes_answer p' reply n asked place lock answered right b c r a l m =
+  pub takes_answer : (p' : Checker) (reply : Reply) (n : ℕ) (asked : Option Lock) → n ≡ here.count → asked ≡ lock_of op → refused_of reply ≡ false → IsRightOf s (Do t op) reply → p'.begun ≡ p.begun → p'.commits ≡ p.commits → p'.runs ≡ p.runs + runs_made op reply → map listed p'.active.items ≡ with_own t (n, (op, reply)) (map listed p.active.items) → p'.locks ≡ with_locks p.locks t (with_asked (locks_in s.active t) asked) → p'.committed ≡ p.committed → TakesEvent here (Do t op) reply p'
+  takes_answer p' reply n asked position lock answered right b c r a l m =
       let is = answer_effect t op reply answered in
       record {
         right = record { said = right; next = subst (NextIn s) (sym is) tt };
         stands = stands_behind p' here (Do t op) reply (Answers t op reply) is
-            (answers p p' here.bodies s h here.count t op reply (open_of_none s t op none) b c r (a ∙ ap (λ k. with_own t (k, (op, reply)) (map listed p.active.items)) place) (l ∙ ap (λ o. with_locks p.locks t (with_asked (locks_in s.active t) o)) lock) m);
+            (answers p p' here.bodies s h here.count t op reply (open_of_none s t op none) b c r (a ∙ ap (λ k. with_own t (k, (op, reply)) (map listed p.active.items)) position) (l ∙ ap (λ o. with_locks p.locks t (with_asked (locks_in s.active t) o)) lock) m);
       }
 
 -- ---- commits
@@ -102,7 +102,7 @@ MayCommit s t n = (is_open s.active t ≡ true) × (n ≡ s.commits + 1)
 pub may_commit_with : (s : State) (t : ℕ) (reply : Reply) (n : ℕ) → reply ≡ Committed n → May s (Commit t) reply → MayCommit s t n
 may_commit_with s t reply n is f = let P : Reply → Type 0 = λ r. May s (Commit t) r in subst P is f
 
-module _ (p : Pass) (here : Moment) (h : Stands p here) (t : ℕ) (reply : Reply) (n : ℕ) (is : reply ≡ Committed n) (formed : May here.state (Commit t) reply) where
+module _ (p : Checker) (here : Progress) (h : IsAt p here) (t : ℕ) (reply : Reply) (n : ℕ) (is : reply ≡ Committed n) (formed : May here.state (Commit t) reply) where
   abbrev s1 : State
   s1 = here.state
 
@@ -118,30 +118,30 @@ module _ (p : Pass) (here : Moment) (h : Stands p here) (t : ℕ) (reply : Reply
   commits_effect : effect (Commit t) reply ≡ Commits t
   commits_effect = ap (effect (Commit t)) is
 
-  module _ (all : List Active) (same : all ≡ p.active.items) (own : List Placed) (found : own ≡ own_in (map listed all) t) where
+  module _ (all : List Active) (same : all ≡ p.active.items) (own : List PlacedAnswer) (found : own ≡ own_in (map listed all) t) where
     own_seen : own ≡ here.bodies t
     own_seen = found ∙ own_placed p here h all same t on
 
     -- the first wrong answer is a flaw of the commit
-    pub replay_flaw : (flaw : Flaw) → IsReplayFlaw own p.committed flaw → IsFlaw here (Commit t) reply flaw
-    replay_flaw (Answer place) w = record {
+    pub replay_flaw : (event_fault : EventFault) → IsReplayFault own p.committed event_fault → IsEventFault here (Commit t) reply event_fault
+    replay_flaw (Answer position) w = record {
       t = t;
       formed = formed;
       commit = commits_effect;
-      answer = subst (λ (own : List Placed). IsFirstWrong own (fresh s1.committed) place) own_seen (let P : Draft → Type 0 = λ d. IsFirstWrong own d place in subst P h.committed w);
+      answer = subst (λ (own : List PlacedAnswer). IsFirstWrong own (fresh s1.committed) position) own_seen (let P : Draft → Type 0 = λ d. IsFirstWrong own d position in subst P h.committed w);
     }
     replay_flaw NoMemory w = tt
     replay_flaw Form w = absurd w
     replay_flaw Busy w = absurd w
 
-    pub takes_commit : (p' : Pass) (left : Draft) → AreAnsweredOn own p.committed → left ≡ left_by_all own p.committed →
-        p'.begun ≡ p.begun → p'.commits ≡ n → p'.runs ≡ p.runs → map listed p'.active.items ≡ filter (λ (x : Listed). not (x.0 == t)) (map listed p.active.items) → p'.locks ≡ released p.locks t → p'.committed ≡ fresh left.map → Takes here (Commit t) reply p'
+    pub takes_commit : (p' : Checker) (left : Draft) → AreAnsweredOn own p.committed → left ≡ left_by_all own p.committed →
+        p'.begun ≡ p.begun → p'.commits ≡ n → p'.runs ≡ p.runs → map listed p'.active.items ≡ filter (λ (x : Listed). not (x.0 == t)) (map listed p.active.items) → p'.locks ≡ released p.locks t → p'.committed ≡ fresh left.map → TakesEvent here (Commit t) reply p'
     takes_commit p' left alone is_left b c r a l m =
         let body = body_placed p here h all same t on in
         let alone' : IsAnsweredAlone (body_in s1.active t) s1.committed =
         subst (λ (done : List Answered). IsAnsweredAlone done s1.committed) (sym body)
         (subst (λ d. replies_of (answered_of (here.bodies t)) ≡ answers_on (ops_of (answered_of (here.bodies t))) d) h.committed
-        (subst (λ (own : List Placed). AreAnsweredOn own p.committed) own_seen alone)) in
+        (subst (λ (own : List PlacedAnswer). AreAnsweredOn own p.committed) own_seen alone)) in
         let view_is : left ≡ view s1 t =
         is_left ∙ (λ i. left_by_all (own_seen i) (h.committed i)) ∙ ap (λ (done : List Answered). left_on (ops_of done) (fresh s1.committed)) (sym body) in
         record {

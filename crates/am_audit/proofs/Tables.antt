@@ -12,28 +12,28 @@ use Rattle.am_record.specs.declared.lock.Lock.{Lock}
 use Rattle.am_record.specs.declared.step.Op.{Op}
 use Rattle.am_record.specs.declared.step.Reply.{Reply}
 use Rattle.am_record.proofs.Bodies.{locks_from_push, asked_behind}
-use Rattle.am_locks.specs.Held.{Held, blocks}
-use Rattle.am_locks.specs.Table.{is_owner, locks_of, with_locks, relocked, without as released, blockers, entered}
+use Rattle.am_locks.specs.OwnerLocks.{OwnerLocks, blocks}
+use Rattle.am_locks.specs.Table.{is_owner, locks_owned, with_locks, relocked, without_owner as released, blockers, entered}
 use Rattle.am_locks.specs.Answers.{IsLeastOf, MatchBusy}
 use Rattle.am_locks.specs.declared.asked.Asked.{Asked}
 use Rattle.am_locks.specs.declared.asked.Asked.TheVariants.{Granted, Busy, TooManyLocks, NoMemory}
 use Rattle.am_locks.proofs.FirstOwners.{first_of, one_first, FirstLow, least_first}
-use Rattle.am_locks.proofs.Laws.{locks_of-with_locks, is_owner-with_locks}
+use Rattle.am_locks.proofs.Laws.{locks_owned-with_locks, is_owner-with_locks}
 use Rattle.am_serial.specs.Trace.{Answered, ops_of}
 use Rattle.am_record.specs.Refusals.{is_one_too_many}
-use Rattle.am_serial.specs.Machine.{Transaction, is_open, body_in, locks_in, blocker, extended, without}
-use Rattle.am_audit.specs.Standing.{held_of, Rise, IsAnswerTo}
+use Rattle.am_serial.specs.Machine.{Transaction, is_open, body_in, locks_in, blocker, extended, without_transaction}
+use Rattle.am_audit.specs.Progress.{owner_of, RiseByNumber, IsAnswerTo}
 
-abbrev table_of : List Transaction → List Held
-table_of txs = map held_of txs
+abbrev table_of : List Transaction → List OwnerLocks
+table_of txs = map owner_of txs
 
 -- ---- owners and their locks
 
-pub owners_are : (txs : List Transaction) (t : ℕ) → is_owner (map held_of txs) t ≡ is_open txs t
+pub owners_are : (txs : List Transaction) (t : ℕ) → is_owner (map owner_of txs) t ≡ is_open txs t
 owners_are [] t = refl
 owners_are (x ∷ txs) t = λ i. nat_eq_equiv.symm x.0 t i || owners_are txs t i
 
-pub locks_are : (txs : List Transaction) (t : ℕ) → locks_of (map held_of txs) t ≡ locks_in txs t
+pub locks_are : (txs : List Transaction) (t : ℕ) → locks_owned (map owner_of txs) t ≡ locks_in txs t
 locks_are [] t = refl
 locks_are (x ∷ txs) t =
     (λ i. cond (nat_eq_equiv.symm x.0 t i) (locks_by (ops_of x.1)) (locks_are txs t i))
@@ -41,37 +41,37 @@ locks_are (x ∷ txs) t =
 
 -- ---- the first blocker is the least
 
-blocker_first : (txs : List Transaction) (t : ℕ) (asked : Lock) → first_of (blockers (map held_of txs) t asked) ≡ blocker txs t (Some asked)
+blocker_first : (txs : List Transaction) (t : ℕ) (asked : Lock) → first_of (blockers (map owner_of txs) t asked) ≡ blocker txs t (Some asked)
 blocker_first [] t asked = refl
 blocker_first (x ∷ txs) t asked =
-    one_first (blocks t asked (held_of x)) (held_of x) (filter (blocks t asked) (map held_of txs))
+    one_first (blocks t asked (owner_of x)) (owner_of x) (filter (blocks t asked) (map owner_of txs))
     ∙ (λ i. cond (not (nat_eq_equiv.symm x.0 t i) && list_any (conflicts asked) (locks_by (ops_of x.1))) (Some x.0) (blocker_first txs t asked i))
 
-module _ (test : Held → Bool) where
-  low : (m : ℕ) (txs : List Transaction) → AllByRecursion (λ (y : Transaction). m < y.0) txs → All (λ k. m ≤ k) (map (λ (h : Held). h.owner) (filter test (map held_of txs)))
+module _ (test : OwnerLocks → Bool) where
+  low : (m : ℕ) (txs : List Transaction) → AllByRecursion (λ (y : Transaction). m < y.0) txs → All (λ k. m ≤ k) (map (λ (h : OwnerLocks). h.owner) (filter test (map owner_of txs)))
   low m [] a = All-nil (λ k. m ≤ k)
   low m (x ∷ txs) a =
       let rest = low m txs a.1 in
       let up : m < x.0 = a.0 in
-      elim (test (held_of x)) as (λ b. All (λ k. m ≤ k) (map (λ (h : Held). h.owner) (cond b (held_of x ∷ filter test (map held_of txs)) (filter test (map held_of txs))))) [
-        | true ↦ All-cons (λ k. m ≤ k) x.0 (map (λ (h : Held). h.owner) (filter test (map held_of txs))) (omega arith) rest
+      elim (test (owner_of x)) as (λ b. All (λ k. m ≤ k) (map (λ (h : OwnerLocks). h.owner) (cond b (owner_of x ∷ filter test (map owner_of txs)) (filter test (map owner_of txs))))) [
+        | true ↦ All-cons (λ k. m ≤ k) x.0 (map (λ (h : OwnerLocks). h.owner) (filter test (map owner_of txs))) (omega arith) rest
         | false ↦ rest
       ]
 
-  first_low : (txs : List Transaction) → Rise txs → FirstLow (map (λ (h : Held). h.owner) (filter test (map held_of txs)))
+  first_low : (txs : List Transaction) → RiseByNumber txs → FirstLow (map (λ (h : OwnerLocks). h.owner) (filter test (map owner_of txs)))
   first_low [] r = tt
   first_low (x ∷ txs) r =
       let rest = first_low txs r.1 in
       let above = low x.0 txs r.0 in
-      elim (test (held_of x)) as (λ b. FirstLow (map (λ (h : Held). h.owner) (cond b (held_of x ∷ filter test (map held_of txs)) (filter test (map held_of txs))))) [
-        | true ↦ All-cons (λ k. x.0 ≤ k) x.0 (map (λ (h : Held). h.owner) (filter test (map held_of txs))) (omega arith) above
+      elim (test (owner_of x)) as (λ b. FirstLow (map (λ (h : OwnerLocks). h.owner) (cond b (owner_of x ∷ filter test (map owner_of txs)) (filter test (map owner_of txs))))) [
+        | true ↦ All-cons (λ k. x.0 ≤ k) x.0 (map (λ (h : OwnerLocks). h.owner) (filter test (map owner_of txs))) (omega arith) above
         | false ↦ rest
       ]
 
-pub blocked : (txs : List Transaction) (t : ℕ) (asked : Lock) (h : ℕ) → Rise txs → IsLeastOf (blockers (map held_of txs) t asked) h → blocker txs t (Some asked) ≡ Some h
-blocked txs t asked h rise least = sym (blocker_first txs t asked) ∙ least_first (blockers (map held_of txs) t asked) h (first_low (blocks t asked) txs rise) least
+pub blocked : (txs : List Transaction) (t : ℕ) (asked : Lock) (h : ℕ) → RiseByNumber txs → IsLeastOf (blockers (map owner_of txs) t asked) h → blocker txs t (Some asked) ≡ Some h
+blocked txs t asked h rise least = sym (blocker_first txs t asked) ∙ least_first (blockers (map owner_of txs) t asked) h (first_low (blocks t asked) txs rise) least
 
-pub free : (txs : List Transaction) (t : ℕ) (asked : Lock) → blockers (map held_of txs) t asked ≡ [] → blocker txs t (Some asked) ≡ None
+pub free : (txs : List Transaction) (t : ℕ) (asked : Lock) → blockers (map owner_of txs) t asked ≡ [] → blocker txs t (Some asked) ≡ None
 free txs t asked none = sym (blocker_first txs t asked) ∙ ap first_of none
 
 pub free_of_nothing : (txs : List Transaction) (t : ℕ) → blocker txs t None ≡ None
@@ -92,27 +92,27 @@ later_own x t all (y ∷ txs) a o =
       later_own x t all txs a.1 o.1,
     )
 
-own_bodies : (txs : List Transaction) (t : ℕ) → Rise txs → Own t txs txs
+own_bodies : (txs : List Transaction) (t : ℕ) → RiseByNumber txs → Own t txs txs
 own_bodies [] t r = tt
 own_bodies (x ∷ txs) t r = (
   λ e. sym (cond-true (t == x.0) x.1 (body_in txs t) (eq-eqb t x.0 (sym e))),
   later_own x t txs txs r.0 (own_bodies txs t r.1),
 )
 
-same_held : (a b : ℕ) (ls ms : List Lock) → a ≡ b → ls ≡ ms → ◌≡◌ {A = Held} (record { owner = a; locks = ls }) (record { owner = b; locks = ms })
+same_held : (a b : ℕ) (ls ms : List Lock) → a ≡ b → ls ≡ ms → ◌≡◌ {A = OwnerLocks} (record { owner = a; locks = ls }) (record { owner = b; locks = ms })
 same_held a b ls ms p q i = record { owner = p i; locks = q i }
 
 -- the table with those locks is the one of transactions that differ there alone
 relocked_all : (F : Transaction → Transaction) (t : ℕ) (ls : List Lock) (all txs : List Transaction) → Own t all txs →
-    ((x : Transaction) → x.0 ≡ t → x.1 ≡ body_in all t → held_of (F x) ≡ record { owner = x.0; locks = ls }) →
-    ((x : Transaction) → (x.0 == t) ≡ false → held_of (F x) ≡ held_of x) → with_locks (map held_of txs) t ls ≡ map held_of (map F txs)
+    ((x : Transaction) → x.0 ≡ t → x.1 ≡ body_in all t → owner_of (F x) ≡ record { owner = x.0; locks = ls }) →
+    ((x : Transaction) → (x.0 == t) ≡ false → owner_of (F x) ≡ owner_of x) → with_locks (map owner_of txs) t ls ≡ map owner_of (map F txs)
 relocked_all F t ls all [] o here there = refl
 relocked_all F t ls all (x ∷ txs) o here there =
     let rest = relocked_all F t ls all txs o.1 here there in
-    let first : relocked t ls (held_of x) ≡ held_of (F x) =
+    let first : relocked t ls (owner_of x) ≡ owner_of (F x) =
     ⊎_elim
-    (λ same. cond-true (x.0 == t) (record { owner = x.0; locks = ls }) (held_of x) same ∙ sym (here x (eqb-true x.0 t same) (o.0 (eqb-true x.0 t same))))
-    (λ other. cond-false (x.0 == t) (record { owner = x.0; locks = ls }) (held_of x) other ∙ sym (there x other))
+    (λ same. cond-true (x.0 == t) (record { owner = x.0; locks = ls }) (owner_of x) same ∙ sym (here x (eqb-true x.0 t same) (o.0 (eqb-true x.0 t same))))
+    (λ other. cond-false (x.0 == t) (record { owner = x.0; locks = ls }) (owner_of x) other ∙ sym (there x other))
     (cases_Bool (x.0 == t)) in
     λ i. first i ∷ rest i
 
@@ -120,14 +120,14 @@ map_id : {A : Type 0} (xs : List A) → map (λ x. x) xs ≡ xs
 map_id [] = refl
 map_id (x ∷ xs) = ap (λ l. x ∷ l) (map_id xs)
 
-pub relocked_same : (txs : List Transaction) (t : ℕ) → Rise txs → with_locks (map held_of txs) t (locks_in txs t) ≡ map held_of txs
+pub relocked_same : (txs : List Transaction) (t : ℕ) → RiseByNumber txs → with_locks (map owner_of txs) t (locks_in txs t) ≡ map owner_of txs
 relocked_same txs t r =
     relocked_all (λ x. x) t (locks_in txs t) txs txs (own_bodies txs t r)
     (λ x e b. same_held x.0 x.0 _ _ refl (ap (λ (d : List Answered). locks_by (ops_of d)) b))
     (λ x other. refl)
-    ∙ ap (map held_of) (map_id txs)
+    ∙ ap (map owner_of) (map_id txs)
 
-pub relocked_done : (txs : List Transaction) (t : ℕ) (op : Op) (reply : Reply) → Rise txs → with_locks (map held_of txs) t (with_asked (locks_in txs t) (lock_of op)) ≡ map held_of (map (extended t (op, reply)) txs)
+pub relocked_done : (txs : List Transaction) (t : ℕ) (op : Op) (reply : Reply) → RiseByNumber txs → with_locks (map owner_of txs) t (with_asked (locks_in txs t) (lock_of op)) ≡ map owner_of (map (extended t (op, reply)) txs)
 relocked_done txs t op reply r =
     relocked_all (extended t (op, reply)) t (with_asked (locks_in txs t) (lock_of op)) txs txs (own_bodies txs t r)
     (λ x e b. same_held x.0 x.0 _ _ refl (
@@ -140,7 +140,7 @@ relocked_done txs t op reply r =
 
 -- ---- a lock that is given back
 
-relocked_twice : (table : List Held) (t : ℕ) (ls ms : List Lock) → with_locks (with_locks table t ls) t ms ≡ with_locks table t ms
+relocked_twice : (table : List OwnerLocks) (t : ℕ) (ls ms : List Lock) → with_locks (with_locks table t ls) t ms ≡ with_locks table t ms
 relocked_twice [] t ls ms = refl
 relocked_twice (h ∷ table) t ls ms =
     let rest = relocked_twice table t ls ms in
@@ -155,38 +155,38 @@ longer : (own : List Lock) (asked : Option Lock) → length own ≤ length (with
 longer own None = omega arith
 longer own (Some asked) = cond_both (is_covered own asked) own (own ++ asked ∷ []) (λ ls. length own ≤ length ls) (λ _. omega arith) (λ _. simp length-append (omega arith))
 
-module _ (txs : List Transaction) (t : ℕ) (asked : Option Lock) (r : Rise txs) (on : is_open txs t ≡ true) (granted : List Held) (is : granted ≡ with_locks (map held_of txs) t (with_asked (locks_in txs t) asked)) where
-  owner : is_owner (map held_of txs) t ≡ true
+module _ (txs : List Transaction) (t : ℕ) (asked : Option Lock) (r : RiseByNumber txs) (on : is_open txs t ≡ true) (granted : List OwnerLocks) (is : granted ≡ with_locks (map owner_of txs) t (with_asked (locks_in txs t) asked)) where
+  owner : is_owner (map owner_of txs) t ≡ true
   owner = owners_are txs t ∙ on
 
   pub still_owner : is_owner granted t ≡ true
-  still_owner = ap (λ (table : List Held). is_owner table t) is ∙ is_owner-with_locks (map held_of txs) t t (with_asked (locks_in txs t) asked) ∙ owner
+  still_owner = ap (λ (table : List OwnerLocks). is_owner table t) is ∙ is_owner-with_locks (map owner_of txs) t t (with_asked (locks_in txs t) asked) ∙ owner
 
-  new_locks : locks_of granted t ≡ with_asked (locks_in txs t) asked
-  new_locks = ap (λ (table : List Held). locks_of table t) is ∙ locks_of-with_locks (map held_of txs) t (with_asked (locks_in txs t) asked) owner
+  new_locks : locks_owned granted t ≡ with_asked (locks_in txs t) asked
+  new_locks = ap (λ (table : List OwnerLocks). locks_owned table t) is ∙ locks_owned-with_locks (map owner_of txs) t (with_asked (locks_in txs t) asked) owner
 
-  pub held_before : (n : ℕ) → n ≡ length (locks_of (map held_of txs) t) → n ≤ length (locks_of granted t)
+  pub held_before : (n : ℕ) → n ≡ length (locks_owned (map owner_of txs) t) → n ≤ length (locks_owned granted t)
   held_before n e =
-      subst (λ k. k ≤ length (locks_of granted t)) (sym (e ∙ ap length (locks_are txs t)))
+      subst (λ k. k ≤ length (locks_owned granted t)) (sym (e ∙ ap length (locks_are txs t)))
       (subst (λ (ls : List Lock). length (locks_in txs t) ≤ length ls) (sym new_locks) (longer (locks_in txs t) asked))
 
-  pub given_back : (n : ℕ) → n ≡ length (locks_of (map held_of txs) t) → with_locks granted t (take n (locks_of granted t)) ≡ map held_of txs
+  pub given_back : (n : ℕ) → n ≡ length (locks_owned (map owner_of txs) t) → with_locks granted t (take n (locks_owned granted t)) ≡ map owner_of txs
   given_back n e =
       (λ i. with_locks (is i) t (take ((e ∙ ap length (locks_are txs t)) i) (new_locks i)))
-      ∙ ap (with_locks (with_locks (map held_of txs) t (with_asked (locks_in txs t) asked)) t) (asked_behind (locks_in txs t) asked)
-      ∙ relocked_twice (map held_of txs) t (with_asked (locks_in txs t) asked) (locks_in txs t)
+      ∙ ap (with_locks (with_locks (map owner_of txs) t (with_asked (locks_in txs t) asked)) t) (asked_behind (locks_in txs t) asked)
+      ∙ relocked_twice (map owner_of txs) t (with_asked (locks_in txs t) asked) (locks_in txs t)
       ∙ relocked_same txs t r
 
 -- ---- a transaction begins, or ends
 
-pub entered_is : (txs : List Transaction) (t : ℕ) → entered (map held_of txs) t ≡ map held_of (txs ++ (t, []) ∷ [])
-entered_is txs t = sym (map-append held_of txs ((t, []) ∷ []))
+pub entered_is : (txs : List Transaction) (t : ℕ) → entered (map owner_of txs) t ≡ map owner_of (txs ++ (t, []) ∷ [])
+entered_is txs t = sym (map-append owner_of txs ((t, []) ∷ []))
 
-pub released_is : (txs : List Transaction) (t : ℕ) → released (map held_of txs) t ≡ map held_of (without t txs)
+pub released_is : (txs : List Transaction) (t : ℕ) → released (map owner_of txs) t ≡ map owner_of (without_transaction t txs)
 released_is [] t = refl
 released_is (x ∷ txs) t =
-    elim (not (x.0 == t)) as (λ b. cond b (held_of x ∷ released (map held_of txs) t) (released (map held_of txs) t) ≡ map held_of (cond b (x ∷ without t txs) (without t txs))) [
-      | true ↦ ap (λ hs. held_of x ∷ hs) (released_is txs t)
+    elim (not (x.0 == t)) as (λ b. cond b (owner_of x ∷ released (map owner_of txs) t) (released (map owner_of txs) t) ≡ map owner_of (cond b (x ∷ without_transaction t txs) (without_transaction t txs))) [
+      | true ↦ ap (λ hs. owner_of x ∷ hs) (released_is txs t)
       | false ↦ released_is txs t
     ]
 
@@ -204,14 +204,14 @@ not_full_is own asked few never = at (nat_le 256 (length own)) (is_covered own a
     at true true e f = (λ i. e i && not (f i))
     at true false e f = let full : 256 ≤ length own = leb-true 256 (length own) e in absurd (never (f, omega arith))
 
-module _ (txs : List Transaction) (t : ℕ) (lock : Lock) (r : Rise txs) (few : length (locks_of (map held_of txs) t) ≤ 256) where
+module _ (txs : List Transaction) (t : ℕ) (lock : Lock) (r : RiseByNumber txs) (few : length (locks_owned (map owner_of txs) t) ≤ 256) where
   abbrev TooMany : Asked → Type 0
-  TooMany result = (result ≡ TooManyLocks) ↔ ((blockers (map held_of txs) t lock ≡ []) × (is_covered (locks_of (map held_of txs) t) lock ≡ false) × (length (locks_of (map held_of txs) t) ≡ 256))
+  TooMany result = (result ≡ TooManyLocks) ↔ ((blockers (map owner_of txs) t lock ≡ []) × (is_covered (locks_owned (map owner_of txs) t) lock ≡ false) × (length (locks_owned (map owner_of txs) t) ≡ 256))
 
   few_own : length (locks_in txs t) ≤ 256
   few_own = subst (λ (ls : List Lock). length ls ≤ 256) (locks_are txs t) few
 
-  answered : (result : Asked) → MatchBusy result (IsLeastOf (blockers (map held_of txs) t lock)) (blockers (map held_of txs) t lock ≡ []) → TooMany result → IsAnswerTo txs t (Some lock) result
+  answered : (result : Asked) → MatchBusy result (IsLeastOf (blockers (map owner_of txs) t lock)) (blockers (map owner_of txs) t lock ≡ []) → TooMany result → IsAnswerTo txs t (Some lock) result
   answered Granted none many = (
     free txs t lock none,
     not_full_is (locks_in txs t) lock few_own (λ both.
@@ -225,22 +225,22 @@ module _ (txs : List Transaction) (t : ℕ) (lock : Lock) (r : Rise txs) (few : 
       )
   answered NoMemory none many = tt
 
-pub answer_to : (txs : List Transaction) (t : ℕ) (lock : Lock) (table : List Held) (asked : Option Lock) (result : Asked) → Rise txs → table ≡ map held_of txs → asked ≡ Some lock → length (locks_of table t) ≤ 256 →
+pub answer_to : (txs : List Transaction) (t : ℕ) (lock : Lock) (table : List OwnerLocks) (asked : Option Lock) (result : Asked) → RiseByNumber txs → table ≡ map owner_of txs → asked ≡ Some lock → length (locks_owned table t) ≤ 256 →
     MatchBusy result (IsLeastOf (blockers table t lock)) (blockers table t lock ≡ []) →
-    (result ≡ TooManyLocks) ↔ ((blockers table t lock ≡ []) × (is_covered (locks_of table t) lock ≡ false) × (length (locks_of table t) ≡ 256)) → IsAnswerTo txs t asked result
+    (result ≡ TooManyLocks) ↔ ((blockers table t lock ≡ []) × (is_covered (locks_owned table t) lock ≡ false) × (length (locks_owned table t) ≡ 256)) → IsAnswerTo txs t asked result
 answer_to txs t lock table asked result r is given few busy many =
     subst (λ o. IsAnswerTo txs t o result) (sym given)
-    (answered txs t lock r (subst (λ tb. length (locks_of tb t) ≤ 256) is few) result
+    (answered txs t lock r (subst (λ tb. length (locks_owned tb t) ≤ 256) is few) result
     (subst (λ tb. MatchBusy result (IsLeastOf (blockers tb t lock)) (blockers tb t lock ≡ [])) is busy)
-    (subst (λ tb. (result ≡ TooManyLocks) ↔ ((blockers tb t lock ≡ []) × (is_covered (locks_of tb t) lock ≡ false) × (length (locks_of tb t) ≡ 256))) is many))
+    (subst (λ tb. (result ≡ TooManyLocks) ↔ ((blockers tb t lock ≡ []) × (is_covered (locks_owned tb t) lock ≡ false) × (length (locks_owned tb t) ≡ 256))) is many))
 
-pub granted_is : (txs : List Transaction) (t : ℕ) (lock : Lock) (table new : List Held) (asked : Option Lock) → table ≡ map held_of txs → asked ≡ Some lock →
-    new ≡ with_locks table t (with_lock (locks_of table t) lock) → new ≡ with_locks table t (with_asked (locks_in txs t) asked)
+pub granted_is : (txs : List Transaction) (t : ℕ) (lock : Lock) (table new : List OwnerLocks) (asked : Option Lock) → table ≡ map owner_of txs → asked ≡ Some lock →
+    new ≡ with_locks table t (with_lock (locks_owned table t) lock) → new ≡ with_locks table t (with_asked (locks_in txs t) asked)
 granted_is txs t lock table new asked is given e =
-    e ∙ ap (λ (ls : List Lock). with_locks table t (with_lock ls lock)) (ap (λ tb. locks_of tb t) is ∙ locks_are txs t)
+    e ∙ ap (λ (ls : List Lock). with_locks table t (with_lock ls lock)) (ap (λ tb. locks_owned tb t) is ∙ locks_are txs t)
     ∙ ap (λ o. with_locks table t (with_asked (locks_in txs t) o)) (sym given)
 
-pub granted_nothing : (txs : List Transaction) (t : ℕ) (table : List Held) (asked : Option Lock) → Rise txs → table ≡ map held_of txs → asked ≡ None → table ≡ with_locks table t (with_asked (locks_in txs t) asked)
+pub granted_nothing : (txs : List Transaction) (t : ℕ) (table : List OwnerLocks) (asked : Option Lock) → RiseByNumber txs → table ≡ map owner_of txs → asked ≡ None → table ≡ with_locks table t (with_asked (locks_in txs t) asked)
 granted_nothing txs t table asked r is none =
     is ∙ sym (relocked_same txs t r) ∙ (λ i. with_locks (sym is i) t (with_asked (locks_in txs t) (sym none i)))
 

@@ -13,8 +13,8 @@ use Rattle.am_serial.specs.Trace.{IsAnsweredAlone}
 use Rattle.am_serial.specs.Machine.{state_at, due_early}
 use Rattle.am_serial.specs.Sound.{FormedAt, BusyRightAt}
 use Rattle.am_serial.specs.Legal.{IsLegal}
-use Rattle.am_audit.specs.declared.fault.Kind.{Kind}
-use Rattle.am_audit.specs.declared.fault.Kind.TheVariants.{Form, Busy, Answer}
+use Rattle.am_audit.specs.declared.fault.FaultKind.{FaultKind}
+use Rattle.am_audit.specs.declared.fault.FaultKind.TheVariants.{Form, Busy, Answer}
 use Rattle.am_audit.specs.declared.fault.Fault.{Fault}
 use Rattle.am_audit.specs.declared.fault.Fault.TheVariants.{Wrong, NoMemory}
 
@@ -50,7 +50,7 @@ pub record IsFirstWrongAnswer (trace : Trace) (t : ℕ) (m : PlainMap) (line : �
   pub reply : Reply
   pub later : Trace
   pub split : trace ≡ earlier ++ (Do t op, reply) ∷ later
-  pub place : line ≡ length earlier + 2
+  pub position : line ≡ length earlier + 2
   pub answered : effect (Do t op) reply ≡ Answers t op reply
   pub first : IsAnsweredAlone (body (effects earlier) t) m
   pub wrong : reply ≢ answer op (left_on (ops_of (body (effects earlier) t)) (fresh m))
@@ -63,13 +63,13 @@ pub record CommitsWrongly (trace : Trace) (step : Step) (reply : Reply) (line : 
   pub answer : IsFirstWrongAnswer trace t (committed (effects trace)) line
 
 -- the event that comes after the trace has a fault of that kind, which is told by that line
-abbrev pub IsFault : Trace → Event → ℕ → Kind → Type 0
+abbrev pub IsFault : Trace → Event → ℕ → FaultKind → Type 0
 IsFault trace e line Form = (line ≡ length trace + 2) × IsMisformed (effects trace) e.0 e.1
 IsFault trace e line Busy = (line ≡ length trace + 2) × IsWronglyBusy (effects trace) e.0 e.1
 IsFault trace e line Answer = CommitsWrongly trace e.0 e.1 line
 
 -- all is legal up to an event, and that one has the fault
-pub record IsFirstFault (trace : Trace) (line : ℕ) (kind : Kind) : Type 0 where
+pub record IsFirstFault (trace : Trace) (line : ℕ) (kind : FaultKind) : Type 0 where
   pub earlier : Trace
   pub event : Event
   pub later : Trace

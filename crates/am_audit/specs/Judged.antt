@@ -3,19 +3,19 @@ use Rattle.std.specs.Prelude.{◌≡◌, ◌+◌, ◌<◌, ◌^◌, length, Opti
 use Rattle.am_serial.specs.Trace.{Trace}
 use Rattle.am_serial.specs.Legal.{IsLegal}
 use Rattle.am_audit.specs.Faults.{IsTrueFault}
-use Rattle.am_audit.specs.Standing.{Stands, moment_of}
+use Rattle.am_audit.specs.Progress.{IsAt, progress_of}
 use Rattle.am_audit.specs.declared.fault.Fault.{Fault}
-use Rattle.am_audit.specs.declared.pass.Pass.{Pass}
+use Rattle.am_audit.specs.declared.checker.Checker.{Checker}
 use Rattle.am_audit.specs.declared.checking.Audit.{Audit}
 
 -- the events are legal and the pass stands behind them, or they have the fault
-abbrev pub IsSoFar : Option Fault → Pass → Trace → Type 0
-IsSoFar None pass seen = Stands pass (moment_of seen) × IsLegal seen
-IsSoFar (Some fault) pass seen = IsTrueFault seen fault
+abbrev pub IsSoFar : Option Fault → Checker → Trace → Type 0
+IsSoFar None checker seen = IsAt checker (progress_of seen) × IsLegal seen
+IsSoFar (Some fault) checker seen = IsTrueFault seen fault
 
 pub record HasJudged (a : Audit) (seen : Trace) : Type 0 where
   pub count : a.seen ≡ length seen
-  pub so_far : IsSoFar a.fault a.pass seen
+  pub so_far : IsSoFar a.fault a.checker seen
 
 -- it can go on
 pub record CanJudge (a : Audit) : Type 0 where

@@ -1,3 +1,3 @@
 pub mod Faults
 pub mod Judged
-pub mod Standing
+pub mod Progress

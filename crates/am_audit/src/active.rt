@@ -1,17 +1,17 @@
 //! The active transactions of a trace.
 
 ghost use Rattle.std.specs.Prelude.{◌≡◌, ◌==◌, not, map, filter, length, true, false, IfSome, IfNone, OnOk};
-ghost use Rattle.am_locks.specs.Table.{is_owner, without};
-ghost use Rattle.am_audit.specs.Standing.{listed, is_listed, own_in, placed_of, with_own};
+ghost use Rattle.am_locks.specs.Table.{is_owner, without_owner};
+ghost use Rattle.am_audit.specs.Progress.{listed, is_listed, own_in, placed_answer, with_own};
 
 use am_locks::LockTable;
 use am_record::{NoMemory, Op, Reply};
 
 /// An answered operation with its reply, until its transaction ends.
 #[derive(Drop)]
-pub(crate) struct Kept {
+pub(crate) struct OwnAnswer {
     /// Where it stands in the trace.
-    pub(crate) place: usize,
+    pub(crate) position: usize,
     pub(crate) op: Op,
     pub(crate) reply: Reply,
 }
@@ -21,7 +21,7 @@ pub(crate) struct Kept {
 pub(crate) struct Active {
     pub(crate) number: u64,
     /// Its answered operations.
-    pub(crate) own: Vec<Kept>,
+    pub(crate) own: Vec<OwnAnswer>,
 }
 
 /// Whether the transaction is active.
@@ -35,9 +35,9 @@ pub(crate) fn is_active(all: &[Active], tx: u64) -> bool
 }
 
 /// The transaction's answered operations, where it is active.
-pub(crate) fn own(all: &[Active], tx: u64) -> Option<&[Kept]>
+pub(crate) fn own(all: &[Active], tx: u64) -> Option<&[OwnAnswer]>
     ensures found { IfSome result (λ own. (is_listed (map listed all.now) tx ≡ true) ×
-        (map placed_of own.now ≡ own_in (map listed all.now) tx)) }
+        (map placed_answer own.now ≡ own_in (map listed all.now) tx)) }
     ensures none { IfNone result (is_listed (map listed all.now) tx ≡ false) }
 {
     for active in all {
@@ -61,8 +61,8 @@ pub(crate) fn operations(all: &[Active], tx: u64) -> Option<usize>
 }
 
 /// Keeps one more answered operation of the transaction, where it is active.
-pub(crate) fn keep(all: &mut [Active], tx: u64, kept: Kept) -> Result<(), NoMemory>
-    ensures { OnOk result (map listed all.new ≡ with_own tx (placed_of kept) (map listed all.old)) }
+pub(crate) fn keep(all: &mut [Active], tx: u64, kept: OwnAnswer) -> Result<(), NoMemory>
+    ensures { OnOk result (map listed all.new ≡ with_own tx (placed_answer kept) (map listed all.old)) }
 {
     for active in all.iter_mut() {
         if active.number == tx {
@@ -77,7 +77,7 @@ pub(crate) fn keep(all: &mut [Active], tx: u64, kept: Kept) -> Result<(), NoMemo
 pub(crate) fn end(all: &mut Vec<Active>, locks: &mut LockTable, tx: u64)
     requires { is_owner locks.old tx ≡ true }
     ensures active { map listed all.new.items ≡ filter (λ x. not (x.0 == tx)) (map listed all.old.items) }
-    ensures locks { locks.new ≡ without locks.old tx }
+    ensures locks { locks.new ≡ without_owner locks.old tx }
 {
     locks.release(tx);
     all.retain(|active| active.number != tx);

@@ -4,11 +4,11 @@ ghost use Rattle.std.specs.Prelude.{◌≡◌, ◌+◌, ◌<◌, ◌^◌, ◌++�
 ghost use Rattle.am_serial.specs.Trace.{Trace, effects, committers};
 ghost use Rattle.am_serial.specs.Legal.{IsLegal};
 ghost use Rattle.am_audit.specs.Faults.{IsTrueFault};
-ghost use Rattle.am_audit.specs.Standing.{fault_of, told_place};
+ghost use Rattle.am_audit.specs.Progress.{fault_of, position_told};
 
-use crate::fault::{Fault, Kind};
-use crate::flaw::Flaw;
-use crate::pass::Pass;
+use crate::checker::Checker;
+use crate::event_fault::EventFault;
+use crate::fault::{Fault, FaultKind};
 use am_record::{Reply, Step};
 use std::alloc::Global;
 
@@ -16,7 +16,7 @@ use std::alloc::Global;
 /// transactions.
 #[derive(Drop)]
 pub struct Audit {
-    pass: Pass,
+    checker: Checker,
     seen: usize,
     fault: Option<Fault>,
 }
@@ -29,7 +29,7 @@ impl Audit {
         ensures { HasJudged result [] }
     {
         Audit {
-            pass: Pass::new(alloc),
+            checker: Checker::new(alloc),
             seen: 0,
             fault: None,
         }
@@ -42,8 +42,8 @@ impl Audit {
     {
         am_serial::formed_traces_follow();
         if self.fault.is_none() {
-            if let Err(flaw) = self.pass.judge(alloc, self.seen, step, reply) {
-                self.fault = Some(told(self.seen, flaw));
+            if let Err(event_fault) = self.checker.judge(alloc, self.seen, step, reply) {
+                self.fault = Some(fault_of(self.seen, event_fault));
             }
         }
         self.seen += 1;
@@ -62,7 +62,7 @@ impl Audit {
         am_serial::formed_traces_follow();
         match self.fault {
             Some(fault) => Err(fault),
-            None => Ok(self.pass.commits),
+            None => Ok(self.checker.commits),
         }
     }
 }
@@ -88,14 +88,14 @@ pub fn check(alloc: Global, trace: &[(Step, Reply)]) -> Result<u64, Fault>
 }
 
 // The fault by the flaw of the event at that place. Lines count from 1, the header's included.
-fn told(place: usize, flaw: Flaw) -> Fault
-    requires { told_place place flaw + 2 < 2 ^ 64 }
-    ensures { result ≡ fault_of place flaw }
+fn fault_of(position: usize, event_fault: EventFault) -> Fault
+    requires { position_told position event_fault + 2 < 2 ^ 64 }
+    ensures { result ≡ fault_of position event_fault }
 {
-    match flaw {
-        Flaw::Form => Fault::Wrong(place as u64 + 2, Kind::Form),
-        Flaw::Busy => Fault::Wrong(place as u64 + 2, Kind::Busy),
-        Flaw::Answer(place) => Fault::Wrong(place as u64 + 2, Kind::Answer),
-        Flaw::NoMemory => Fault::NoMemory,
+    match event_fault {
+        EventFault::Form => Fault::Wrong(position as u64 + 2, FaultKind::Form),
+        EventFault::Busy => Fault::Wrong(position as u64 + 2, FaultKind::Busy),
+        EventFault::Answer(position) => Fault::Wrong(position as u64 + 2, FaultKind::Answer),
+        EventFault::NoMemory => Fault::NoMemory,
     }
 }

@@ -5,7 +5,7 @@ ghost use Rattle.am_record.specs.declared.step.Refusal.{Refusal as TheRefusal};
 ghost use Rattle.am_record.specs.declared.step.Reply.TheVariants.{Refused};
 ghost use Rattle.am_serial.specs.Machine.{State, is_open, body_in, due_early};
 ghost use Rattle.am_audit.specs.Faults.{is_early};
-ghost use Rattle.am_audit.specs.Standing.{early_of};
+ghost use Rattle.am_audit.specs.Progress.{early_of};
 
 use am_record::{Op, Refusal, Reply};
 

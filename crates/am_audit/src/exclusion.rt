@@ -4,12 +4,12 @@ ghost use Rattle.std.specs.Prelude.{◌≡◌, ℕ};
 ghost use Rattle.am_serial.specs.Trace.{Trace};
 ghost use Rattle.am_serial.specs.Legal.{IsLegal};
 ghost use Rattle.am_audit.specs.Faults.{IsFirstFault};
-ghost use Rattle.am_audit.specs.declared.fault.Kind.{Kind};
+ghost use Rattle.am_audit.specs.declared.fault.FaultKind.{FaultKind};
 
 /// A trace has one first fault at most, and one that has it isn't legal.
 pub fn first_faults_exclude()
-    ensures legal { (trace : Trace) (line : ℕ) (kind : Kind) → IsFirstFault trace line kind → ¬ (IsLegal trace) }
-    ensures one { (trace : Trace) (l m : ℕ) (j k : Kind) → IsFirstFault trace l j → IsFirstFault trace m k →
+    ensures legal { (trace : Trace) (line : ℕ) (kind : FaultKind) → IsFirstFault trace line kind → ¬ (IsLegal trace) }
+    ensures one { (trace : Trace) (l m : ℕ) (j k : FaultKind) → IsFirstFault trace l j → IsFirstFault trace m k →
         (l ≡ m) × (j ≡ k) }
 {
     am_serial::formed_traces_follow();

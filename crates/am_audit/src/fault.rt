@@ -2,7 +2,7 @@
 
 /// What is wrong of a line.
 #[derive(Clone, Copy, Debug, PartialEq, Eq, Hash)]
-pub enum Kind {
+pub enum FaultKind {
     /// The reply isn't one that the step can have there.
     Form,
     /// Busy is answered where it isn't due, or isn't answered where it is, or names the wrong holder.
@@ -15,7 +15,7 @@ pub enum Kind {
 #[derive(Clone, Copy, Debug, PartialEq, Eq, Hash)]
 pub enum Fault {
     /// The line, counted from 1 with the header as the first, has the first fault, which is of this kind.
-    Wrong(u64, Kind),
+    Wrong(u64, FaultKind),
     /// Memory was refused, which says nothing of the trace.
     NoMemory,
 }

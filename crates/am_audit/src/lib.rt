@@ -3,18 +3,18 @@
 
 mod active;
 mod asking;
+mod checker;
 mod checking;
 mod early;
+mod event_fault;
 mod exclusion;
 mod fault;
-mod flaw;
 mod forms;
 mod operations;
-mod pass;
 mod replay;
 mod replies;
 mod verdict;
 
 pub use checking::{Audit, check};
 pub use exclusion::first_faults_exclude;
-pub use fault::{Fault, Kind};
+pub use fault::{Fault, FaultKind};

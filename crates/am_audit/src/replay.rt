@@ -1,10 +1,10 @@
 //! A body that commits, applied again.
 
 ghost use Rattle.std.specs.Prelude.{◌≡◌, map, IfErr, OnOk};
-ghost use Rattle.am_audit.specs.Standing.{placed_of, AreAnsweredOn, left_by_all, IsReplayFlaw};
+ghost use Rattle.am_audit.specs.Progress.{placed_answer, AreAnsweredOn, left_by_all, IsReplayFault};
 
-use crate::active::Kept;
-use crate::flaw::Flaw;
+use crate::active::OwnAnswer;
+use crate::event_fault::EventFault;
 use crate::replies::is_same;
 use am_model::Plain;
 
@@ -12,15 +12,15 @@ use am_model::Plain;
 ///
 /// # Errors
 /// Answer with the place of that one. NoMemory, where memory was refused.
-pub(crate) fn replay(committed: &mut Plain, own: &[Kept]) -> Result<(), Flaw>
-    ensures answers { OnOk result (AreAnsweredOn (map placed_of own.now) committed.old) }
-    ensures left { OnOk result (committed.new ≡ left_by_all (map placed_of own.now) committed.old) }
-    ensures wrong { IfErr result (IsReplayFlaw (map placed_of own.now) committed.old) }
+pub(crate) fn replay(committed: &mut Plain, own: &[OwnAnswer]) -> Result<(), EventFault>
+    ensures answers { OnOk result (AreAnsweredOn (map placed_answer own.now) committed.old) }
+    ensures left { OnOk result (committed.new ≡ left_by_all (map placed_answer own.now) committed.old) }
+    ensures wrong { IfErr result (IsReplayFault (map placed_answer own.now) committed.old) }
 {
     for kept in own {
         let answer = committed.answer(&kept.op)?;
         if !is_same(&answer, &kept.reply) {
-            return Err(Flaw::Answer(kept.place));
+            return Err(EventFault::Answer(kept.position));
         }
     }
     Ok(())

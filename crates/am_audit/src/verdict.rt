@@ -5,9 +5,9 @@ ghost use Rattle.am_record.specs.Asks.{lock_of};
 ghost use Rattle.am_record.specs.declared.step.Step.TheVariants.{Do};
 ghost use Rattle.am_record.specs.declared.step.Reply.TheVariants.{Refused};
 ghost use Rattle.am_serial.specs.Machine.{State, due_early};
-ghost use Rattle.am_audit.specs.Standing.{busy_of, early_of, refused_of, IsAnswerTo, IsRightOf, IsFlawOf};
+ghost use Rattle.am_audit.specs.Progress.{busy_of, early_of, refused_of, IsAnswerTo, IsRightOf, IsReplyFault};
 
-use crate::flaw::Flaw;
+use crate::event_fault::EventFault;
 use crate::operations::is_answer;
 use crate::replies::is_same_refusal;
 use am_locks::Asked;
@@ -17,38 +17,38 @@ use am_record::{Op, Refusal, Reply};
 ///
 /// # Errors
 /// Busy, then Form. NoMemory, where the lock wanted memory.
-pub(crate) fn verdict(asked: Asked, tx: u64, op: &Op, reply: &Reply) -> Result<(), Flaw>
+pub(crate) fn verdict(asked: Asked, tx: u64, op: &Op, reply: &Reply) -> Result<(), EventFault>
     ghost s: { State }
     requires early { due_early s tx op.now ≡ None }
     requires not_early { early_of reply.now ≡ false }
     requires asked { IsAnswerTo s.active tx (lock_of op.now) asked }
     ensures right { OnOk result (IsRightOf s (Do tx op.now) reply.now) }
     ensures granted { OnOk result (refused_of reply.now ≡ false → asked ≡ Asked.Granted) }
-    ensures flaw { IfErr result (IsFlawOf s (Do tx op.now) reply.now) }
+    ensures event_fault { IfErr result (IsReplyFault s (Do tx op.now) reply.now) }
 {
     match asked {
-        Asked::NoMemory => Err(Flaw::NoMemory),
+        Asked::NoMemory => Err(EventFault::NoMemory),
         Asked::Busy(holder) => {
             if !is_refused(reply, Refusal::Busy(holder)) {
-                return Err(Flaw::Busy);
+                return Err(EventFault::Busy);
             }
             Ok(())
         }
         Asked::TooManyLocks => {
             if is_busy(reply) {
-                return Err(Flaw::Busy);
+                return Err(EventFault::Busy);
             }
             if !is_refused(reply, Refusal::TooManyLocks) {
-                return Err(Flaw::Form);
+                return Err(EventFault::Form);
             }
             Ok(())
         }
         Asked::Granted => {
             if is_busy(reply) {
-                return Err(Flaw::Busy);
+                return Err(EventFault::Busy);
             }
             if !is_refused(reply, Refusal::NoMemory) && !is_answer(op, reply) {
-                return Err(Flaw::Form);
+                return Err(EventFault::Form);
             }
             Ok(())
         }

@@ -5,10 +5,9 @@ use Rattle.am_record.specs.declared.step.Reply.{Reply}
 use Rattle.am_serial.specs.Trace.{Trace}
 use Rattle.am_audit.specs.declared.checking.Audit.{Audit}
 use Rattle.am_audit.specs.Judged.{HasJudged, CanJudge}
-use Rattle.am_trace.specs.Lines.{IsEvent, AreEvents, BeginsNoEvent, IsTextOf, IsBadLine, header, ended, event_lines, event_words, trace_text}
+use Rattle.am_trace.specs.Lines.{IsEvent, AreEvents, BeginsNoEvent, IsTextOf, IsBadLine, header, with_lf, event_lines, event_words, trace_text}
 use Rattle.am_trace.specs.declared.version.Version.{Version}
 use Rattle.am_trace.specs.declared.version.Version.TheVariants.{One, Two}
-use Rattle.am_trace.proofs.EventTexts.{bad_line}
 use Rattle.am_trace.proofs.Writing.{all_behind, read_line}
 
 -- the lines before the rest are those of events that were judged
@@ -19,20 +18,11 @@ pub record IsReadTo (text : List ℕ) (v : Version) (rest : List ℕ) (line : �
   pub count : line ≡ length seen + 2
   pub judged : HasJudged audit seen
 
-pub nothing_read : (text : List ℕ) (v : Version) (rest : List ℕ) (audit : Audit) → text ≡ header v ++ rest → HasJudged audit [] → IsReadTo text v rest 2 audit
-nothing_read text v rest audit is h = record {
-  seen = [];
-  events = tt;
-  spelled = is ∙ ap (λ l. l ++ rest) (sym (append-nil (header v)));
-  count = refl;
-  judged = h;
-}
-
 lines_long : (v : Version) (trace : Trace) → length trace ≤ length (event_lines v trace)
 lines_long v [] = omega arith
 lines_long v (e ∷ trace) =
     let rest = lines_long v trace in
-    let all = length-append (ended (event_words v e)) (event_lines v trace) in
+    let all = length-append (with_lf (event_words v e)) (event_lines v trace) in
     let one = length-append (event_words v e) (10 ∷ []) in
     omega arith
 
@@ -60,7 +50,7 @@ can_judge text v rest line audit long h = record {
       omega arith;
 }
 
-pub one_more : (text : List ℕ) (v : Version) (rest further : List ℕ) (line : ℕ) (step : Step) (reply : Reply) (audit now : Audit) → IsReadTo text v rest line audit → IsEvent v (step, reply) → rest ≡ ended (event_words v (step, reply)) ++ further →
+pub one_more : (text : List ℕ) (v : Version) (rest further : List ℕ) (line : ℕ) (step : Step) (reply : Reply) (audit now : Audit) → IsReadTo text v rest line audit → IsEvent v (step, reply) → rest ≡ with_lf (event_words v (step, reply)) ++ further →
     ((seen : Trace) → HasJudged audit seen → HasJudged now (seen ++ (step, reply) ∷ [])) → IsReadTo text v further (line + 1) now
 one_more text v rest further line step reply audit now h event is goes = record {
   seen = h.seen ++ (step, reply) ∷ [];
@@ -72,9 +62,6 @@ one_more text v rest further line step reply audit now h event is goes = record 
       omega arith;
   judged = goes h.seen h.judged;
 }
-
-pub is_bad : (text : List ℕ) (v : Version) (rest : List ℕ) (line : ℕ) (audit : Audit) → IsReadTo text v rest line audit → rest ≢ [] → BeginsNoEvent v rest → IsBadLine text line
-is_bad text v rest line audit h some none = bad_line v text rest h.seen line h.events h.spelled some none h.count
 
 pub is_whole : (text : List ℕ) (v : Version) (rest : List ℕ) (line : ℕ) (audit : Audit) (h : IsReadTo text v rest line audit) → rest ≡ [] → IsTextOf text h.seen
 is_whole text v rest line audit h none = record {

@@ -5,8 +5,8 @@ use Rattle.am_wire.specs.Giving.{Gave, GaveBeginning}
 use Rattle.am_trace.specs.Lines.{IsTextOf, IsBadLine}
 use Rattle.am_serial.specs.Legal.{IsLegal}
 use Rattle.am_audit.specs.Faults.{IsFirstFault}
-use Rattle.am_audit.specs.declared.fault.Kind.{Kind}
-use Rattle.am_audit.specs.declared.fault.Kind.TheVariants.{Form, Busy, Answer}
+use Rattle.am_audit.specs.declared.fault.FaultKind.{FaultKind}
+use Rattle.am_audit.specs.declared.fault.FaultKind.TheVariants.{Form, Busy, Answer}
 use Rattle.am_auditor.specs.declared.judgement.Judgement.{Judgement}
 use Rattle.am_auditor.specs.declared.judgement.Judgement.TheVariants.{Legal, Wrong, Bad, NoFile, NoMemory}
 
@@ -20,17 +20,17 @@ IsTrueOf text (Bad line) = IsBadLine text line
 IsTrueOf text NoFile = ⊥
 IsTrueOf text NoMemory = Unit {0}
 
-abbrev pub kind_word : Kind → List ℕ
+abbrev pub kind_word : FaultKind → List ℕ
 kind_word Form = codes " FORM\n"
 kind_word Busy = codes " BUSY\n"
 kind_word Answer = codes " ANSWER\n"
 
-abbrev pub line_of : Judgement → List ℕ
-line_of (Legal commits) = codes "LEGAL " ++ decimal commits ++ codes "\n"
-line_of (Wrong line kind) = codes "WRONG " ++ decimal line ++ kind_word kind
-line_of (Bad line) = codes "BAD " ++ decimal line ++ codes "\n"
-line_of NoFile = codes "NO FILE\n"
-line_of NoMemory = codes "NO MEMORY\n"
+abbrev pub judgement_line : Judgement → List ℕ
+judgement_line (Legal commits) = codes "LEGAL " ++ decimal commits ++ codes "\n"
+judgement_line (Wrong line kind) = codes "WRONG " ++ decimal line ++ kind_word kind
+judgement_line (Bad line) = codes "BAD " ++ decimal line ++ codes "\n"
+judgement_line NoFile = codes "NO FILE\n"
+judgement_line NoMemory = codes "NO MEMORY\n"
 
 abbrev pub status_of : Judgement → ℕ
 status_of (Legal commits) = 0
@@ -43,11 +43,11 @@ status_of NoMemory = 5
 pub record IsSaid {S : Type 0} (holds : S → Option (List ℕ)) (text : List ℕ) (old new : S) (status : ℕ) : Type 0 where
   pub judgement : Judgement
   pub true_of : IsTrueOf text judgement
-  pub said : Gave holds old (line_of judgement) new
+  pub said : Gave holds old (judgement_line judgement) new
   pub status_is : status ≡ status_of judgement
 
 -- a beginning of the line that says a true judgement of the text went out
 pub record IsBegun {S : Type 0} (holds : S → Option (List ℕ)) (text : List ℕ) (old new : S) : Type 0 where
   pub judgement : Judgement
   pub true_of : IsTrueOf text judgement
-  pub begun : GaveBeginning holds old (line_of judgement) new
+  pub begun : GaveBeginning holds old (judgement_line judgement) new

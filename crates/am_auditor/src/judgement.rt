@@ -2,9 +2,9 @@
 
 ghost use Rattle.std.specs.Prelude.{◌≡◌, ◌^◌, ◌<◌, ◌≤◌, ◌+◌, length, true, false, OnOk, OnErr, IfOk};
 ghost use Rattle.am_wire.specs.Giving.{Gave, GaveBeginning};
-ghost use Rattle.am_auditor.specs.Judgements.{IsTrueOf, IsSaid, IsBegun, line_of, status_of};
+ghost use Rattle.am_auditor.specs.Judgements.{IsTrueOf, IsSaid, IsBegun, judgement_line, status_of};
 
-use am_audit::{Audit, Fault, Kind};
+use am_audit::{Audit, Fault, FaultKind};
 use am_trace::{ReadFault, read_header, read_line};
 use am_wire::{Failed, Sink, Text, give_all};
 use std::alloc::Global;
@@ -15,7 +15,7 @@ pub enum Judgement {
     /// A legal trace of so many commits.
     Legal(u64),
     /// A trace, and this line of it is the first that has a fault, which is of this kind.
-    Wrong(u64, Kind),
+    Wrong(u64, FaultKind),
     /// No trace: this line is the first that is none of a trace.
     Bad(u64),
     /// The text can't be read.
@@ -55,16 +55,16 @@ fn judge_text(alloc: Global, text: &[u8]) -> Judgement
 
 // The line that says it.
 fn line(judgement: &Judgement) -> Text
-    ensures { result ≡ line_of judgement.now }
+    ensures { result ≡ judgement_line judgement.now }
 {
     match judgement {
         Judgement::Legal(commits) => Text::new(b"LEGAL ").then_number(*commits).then(b"\n"),
         Judgement::Wrong(line, kind) => {
             let begun = Text::new(b"WRONG ").then_number(*line);
             match kind {
-                Kind::Form => begun.then(b" FORM\n"),
-                Kind::Busy => begun.then(b" BUSY\n"),
-                Kind::Answer => begun.then(b" ANSWER\n"),
+                FaultKind::Form => begun.then(b" FORM\n"),
+                FaultKind::Busy => begun.then(b" BUSY\n"),
+                FaultKind::Answer => begun.then(b" ANSWER\n"),
             }
         }
         Judgement::Bad(line) => Text::new(b"BAD ").then_number(*line).then(b"\n"),
@@ -93,11 +93,11 @@ fn status(judgement: &Judgement) -> u8
 pub fn say<K: Sink>(judgement: &Judgement, sink: &mut K) -> Result<u8, Failed>
     requires countable { K.failures sink.old + 1 < 2 ^ 63 }
     ensures status { IfOk result (λ status. status ≡ status_of judgement.now) }
-    ensures said { OnOk result (Gave K.holds sink.old (line_of judgement.now) sink.new) }
+    ensures said { OnOk result (Gave K.holds sink.old (judgement_line judgement.now) sink.new) }
     ensures sent { OnOk result (K.pending sink.new ≡ false) }
     ensures ok { OnOk result (K.failures sink.new ≡ K.failures sink.old) }
     ensures failed { OnErr result (K.failures sink.new ≡ K.failures sink.old + 1) }
-    ensures torn { OnErr result (GaveBeginning K.holds sink.old (line_of judgement.now) sink.new) }
+    ensures torn { OnErr result (GaveBeginning K.holds sink.old (judgement_line judgement.now) sink.new) }
 {
     give_all(sink, line(judgement).as_slice())?;
     sink.flush()?;

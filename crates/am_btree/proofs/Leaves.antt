@@ -20,18 +20,6 @@ item [] i lt = absurd (omega arith)
 item (e ∷ es) zero lt = (e, refl)
 item (e ∷ es) (suc i) lt = item es i (omega arith)
 
-pub rising_at_removed : (es : List Entry) (i : ℕ) → IsRising es → IsRising (remove es i)
-rising_at_removed [] zero r = tt
-rising_at_removed [] (suc i) r = tt
-rising_at_removed (e ∷ es) zero r = r.1
-rising_at_removed (e ∷ es) (suc i) r = (all_removed (λ f. place_cmp (place_of e) (place_of f) ≡ Less) es i r.0, rising_at_removed es i r.1)
-
-pub rising_taken : (es : List Entry) (i : ℕ) → IsRising es → IsRising (take i es)
-rising_taken es i r = rising_front (take i es) (drop i es) (subst IsRising (sym (take-append-drop i es)) r)
-
-pub rising_dropped : (es : List Entry) (i : ℕ) → IsRising es → IsRising (drop i es)
-rising_dropped es i r = rising_back (take i es) (drop i es) (subst IsRising (sym (take-append-drop i es)) r)
-
 -- ---- an entry written over
 
 module _ (value : List ℕ) (is_ghost : Bool) where
@@ -49,11 +37,6 @@ module _ (value : List ℕ) (is_ghost : Bool) where
   rising_set_at [] i r = tt
   rising_set_at (e ∷ es) zero r = r
   rising_set_at (e ∷ es) (suc i) r = (places_set_at (λ q. place_cmp (place_of e) q ≡ Less) es i r.0, rising_set_at es i r.1)
-
-  pub set_at_long : (es : List Entry) (i : ℕ) → length (set_at es i value is_ghost) ≡ length es
-  set_at_long [] i = refl
-  set_at_long (e ∷ es) zero = refl
-  set_at_long (e ∷ es) (suc i) = ap (λ (n : ℕ). suc n) (set_at_long es i)
 
   pub set_at_found : (es : List Entry) (part : ℕ) (key : OrderedKey) (i : ℕ) → IsPlaceOf es part key i → set_at es i value is_ghost ≡ set_entry es part key value is_ghost
   set_at_found es part key i f =

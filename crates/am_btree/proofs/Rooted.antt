@@ -40,9 +40,6 @@ module _ (k : OrderedKey) (least : IsLeast k) (d : ℕ) (all : List Entry) (left
   joined : all_entries (left ∷ s.right ∷ []) ≡ all
   joined = ap (λ es. left.entries ++ es) (append-nil s.right.entries) ∙ h.entries
 
-  pub root_entries : all_entries (left ∷ s.right ∷ []) ≡ all
-  root_entries = joined
-
   pub root_children : AreFilledChildren (d + 1) (low ∷ s.separator ∷ []) (left ∷ s.right ∷ [])
   root_children = record {
     level = (ap (λ (n : ℕ). n + 1) h.depth, (ap (λ (n : ℕ). n + 1) h.right_depth, tt));

@@ -32,12 +32,12 @@ rows_over rows old = map record_text rows ++ drop (length rows) old
 abbrev pub all : List (OrderedKey × List ℕ) → List (OrderedKey × List ℕ)
 all rows = rows
 
-abbrev pub without : List ℕ → List (OrderedKey × List ℕ) → List (OrderedKey × List ℕ)
-without key [] = []
-without key (r ∷ rows) = cond (pointwise nat_eq (bytes_of r.0) key) rows (r ∷ rows)
+abbrev pub without_first : List ℕ → List (OrderedKey × List ℕ) → List (OrderedKey × List ℕ)
+without_first key [] = []
+without_first key (r ∷ rows) = cond (pointwise nat_eq (bytes_of r.0) key) rows (r ∷ rows)
 
-abbrev pub behind : List ℕ → ℕ → List (OrderedKey × List ℕ) → List (OrderedKey × List ℕ)
-behind key max rows = take max (without key rows)
+abbrev pub rows_behind : List ℕ → ℕ → List (OrderedKey × List ℕ) → List (OrderedKey × List ℕ)
+rows_behind key max rows = take max (without_first key rows)
 
 -- those of the rows that are chosen are written
 abbrev pub rows_told :

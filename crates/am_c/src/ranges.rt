@@ -3,7 +3,8 @@
 ghost use Rattle.std.specs.Prelude.{◌≡◌, ◌≤◌, ◌+◌, length};
 ghost use Rattle.am_c.specs.Asking.{scan_asked, lock_asked, IsLoadAsked};
 ghost use Rattle.am_c.specs.Taking.{Tells, status, number};
-ghost use Rattle.am_c.specs.Telling.{all, without, behind, rows_over, rows_told, count_told, key_told, TellsLoad};
+ghost use Rattle.am_c.specs.Telling.{all, without_first, rows_behind, rows_over, rows_told, count_told, key_told};
+ghost use Rattle.am_c.specs.Telling.{TellsLoad};
 
 use crate::asking::{load_asked, lock_asked, scan_asked};
 use crate::handle::Handle;
@@ -62,8 +63,8 @@ pub extern "C" fn tiuvrokk_scan_behind(
     told: &mut u64,
 ) -> u32
     ensures { Tells store.old.held (scan_asked tx key.now hi.now (length rows.old + 1)) store.new.held
-        (λ answer. (result ≡ status answer) × (told.new ≡ count_told (behind key.now (length rows.old)) answer)
-        × (rows.new ≡ rows_told (behind key.now (length rows.old)) answer rows.old)) }
+        (λ answer. (result ≡ status answer) × (told.new ≡ count_told (rows_behind key.now (length rows.old)) answer)
+        × (rows.new ≡ rows_told (rows_behind key.now (length rows.old)) answer rows.old)) }
 {
     let asked = scan_asked(tx, key, hi, rows.len() as u64 + 1);
     let answer = take_step(alloc, store, asked);
@@ -79,7 +80,7 @@ pub extern "C" fn tiuvrokk_scan_behind(
 
 // The first of the pairs, without a record of that key at their head.
 fn behind<'a>(key: &[u8], max: usize, pairs: &'a [(Key, Value)]) -> &'a [(Key, Value)]
-    ensures chosen { result.now ≡ behind key.now max pairs.now }
+    ensures chosen { result.now ≡ rows_behind key.now max pairs.now }
     ensures few { length result.now ≤ max }
 {
     let pairs = without(key, pairs);
@@ -91,7 +92,7 @@ fn behind<'a>(key: &[u8], max: usize, pairs: &'a [(Key, Value)]) -> &'a [(Key, V
 }
 
 fn without<'a>(key: &[u8], pairs: &'a [(Key, Value)]) -> &'a [(Key, Value)]
-    ensures { result.now ≡ without key.now pairs.now }
+    ensures { result.now ≡ without_first key.now pairs.now }
 {
     match pairs.split_first() {
         Some((first, rest)) if first.0.bytes() == key => rest,

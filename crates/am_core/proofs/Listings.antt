@@ -15,7 +15,7 @@ use Rattle.am_record.proofs.PlaceOrder.{turned_less, turned_greater, lower_part}
 use Rattle.am_list.specs.Entries.{next_any, after, IsRising}
 use Rattle.am_list.specs.Places.{AllBelow, NoneBelow, AllAbove, only_of}
 use Rattle.am_list.proofs.Lists.{rising_back, next_any-append, next_any_front, after-append, after_front, below_itself}
-use Rattle.am_parts.specs.Partitions.{IsSound}
+use Rattle.am_parts.specs.Partitions.{AreWellFormed}
 use Rattle.am_core.specs.Listing.{IsListed}
 
 -- ---- the first place of a partition
@@ -64,7 +64,7 @@ ends es done next l is = sym (append-nil done) ∙ ap (λ (rs : List Entry). don
 
 -- ---- the entry behind one
 
-module _ (es : List Entry) (e : Entry) (sound : IsSound es) (before behind : List Entry) (is : es ≡ before ++ e ∷ behind) where
+module _ (es : List Entry) (e : Entry) (sound : AreWellFormed es) (before behind : List Entry) (is : es ≡ before ++ e ∷ behind) where
   rising : IsRising (before ++ e ∷ behind)
   rising = subst IsRising is sound.rising
 

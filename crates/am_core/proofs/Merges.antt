@@ -16,18 +16,18 @@ use Rattle.am_tx.specs.Txs.{Txs, IsConsistent}
 use Rattle.am_serial.specs.Machine.{is_limit}
 use Rattle.am_effect.specs.Merging.{Holders, all_worked_off, MergeRight, merged_by, wishes_left, CleanRight, cleaned_by}
 use Rattle.am_sound.specs.StoreState.{Active, holder_in, MayAnswer, state_after}
-use Rattle.am_sound.specs.Tables.{held_of}
+use Rattle.am_sound.specs.Tables.{owners_of}
 use Rattle.am_core.specs.Keeping.{state_kept, actives}
-use Rattle.am_core.proofs.Actives.{held_of-actives}
+use Rattle.am_core.proofs.Actives.{owners_of-actives}
 
 -- ---- who holds what
 
-holder_at : (xs : List Active) (q : OrderedKey) → holder_of (held_of xs) q ≡ holder_in xs q
+holder_at : (xs : List Active) (q : OrderedKey) → holder_of (owners_of xs) q ≡ holder_in xs q
 holder_at [] q = refl
 holder_at (x ∷ xs) q = ap (cond (owns x.locks q) (Some x.number)) (holder_at xs q)
 
 pub holders_are : (t : Txs) → IsConsistent t → holder_of t.locks ≡ holder_in (actives t)
-holders_are t ok = ap holder_of (sym (held_of-actives t ok)) ∙ (λ i q. holder_at (actives t) q i)
+holders_are t ok = ap holder_of (sym (owners_of-actives t ok)) ∙ (λ i q. holder_at (actives t) q i)
 
 -- ---- a limit that is none
 

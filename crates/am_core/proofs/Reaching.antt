@@ -24,10 +24,10 @@ use Rattle.am_sound.specs.Represents.{stored_answer}
 use Rattle.am_sound.specs.StoreState.{StoreState, Active, MayAnswer, state_after, refusal_in, in_table, is_in, without_tx, newcomer, with_op, takes_memory, holder_in}
 use Rattle.am_sound.specs.StateOf.{IsStateOf}
 use Rattle.am_core.specs.Keeping.{IsReached, state_kept}
-use Rattle.am_locks.specs.Table.{locks_of}
+use Rattle.am_locks.specs.Table.{locks_owned}
 use Rattle.am_parts.specs.Partitions.{Partitions}
 use Rattle.am_tx.specs.declared.transaction.Transaction.{Transaction}
-use Rattle.am_tx.specs.Active.{is_active}
+use Rattle.am_tx.specs.Active.{is_active_in}
 use Rattle.am_tx.specs.Txs.{Txs}
 use Rattle.am_core.specs.Standing.{IsWithin}
 use Rattle.am_effect.specs.Store.{noted}
@@ -112,9 +112,9 @@ reaches p p' step reply lift r says e =
     subst (λ (q : StoreState). IsReached q) (sym e) (record { trace = r.trace ++ (step, reply) ∷ []; at = lift r.trace r.at says; counted = c.counted; few_begun = c.few_begun })
 
 pub few_commits : (parts : Partitions) (t : Txs) (wishes : List Interval) (commits : ℕ) → IsReached (state_kept parts t wishes commits) → commits + length t.active ≤ 2 ^ 63
-few_commits parts t wishes commits r = omega (arith, r.counted, r.few_begun, length-actives (locks_of t.locks) t.active)
+few_commits parts t wishes commits r = omega (arith, r.counted, r.few_begun, length-actives (locks_owned t.locks) t.active)
 
-pub some_active : (xs : List Transaction) (tx : ℕ) → is_active xs tx ≡ true → 1 ≤ length xs
+pub some_active : (xs : List Transaction) (tx : ℕ) → is_active_in xs tx ≡ true → 1 ≤ length xs
 some_active [] tx a = absurd (false≢true a)
 some_active (x ∷ xs) tx a = omega arith
 

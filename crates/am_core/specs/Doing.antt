@@ -13,7 +13,7 @@ use Rattle.am_serial.specs.Trace.{runs_made}
 use Rattle.am_effect.specs.Laws.{taken_back}
 use Rattle.am_effect.specs.Store.{changed, noted, notes_left, marks_left}
 use Rattle.am_sound.specs.Represents.{stored_answer}
-use Rattle.am_tx.specs.Active.{log_of}
+use Rattle.am_tx.specs.Active.{log_in}
 use Rattle.am_tx.specs.Txs.{Txs, with_log}
 
 -- the operation had this reply, and did with it what it does
@@ -27,7 +27,7 @@ pub record IsDone (op : Op) (reply : Reply) (parts : Partitions) (log : Log) (pa
   pub marks : log'.marks ≡ marks_left op reply (length log.notes) log.marks
 
 -- nothing was done, though the log may have got room for a note
-pub record IsUntouched (parts : Partitions) (log : Log) (parts' : Partitions) (log' : Log) : Type 0 where
+pub record LeavesAlone (parts : Partitions) (log : Log) (parts' : Partitions) (log' : Log) : Type 0 where
   pub entries : parts'.entries ≡ parts.entries
   pub runs : parts'.runs ≡ parts.runs
   pub notes : log'.notes ≡ log.notes
@@ -54,9 +54,9 @@ pub record Works (op : Op) (reply : Reply) (parts : Partitions) (txs : Txs) (tx 
     (txs' : Txs) : Type 0 where
   pub log : Log
   pub written : txs' ≡ with_log txs tx log
-  pub done : IsDone op reply parts (log_of txs.active tx) parts' log
+  pub done : IsDone op reply parts (log_in txs.active tx) parts' log
 
-pub record IsIdle (parts : Partitions) (txs : Txs) (tx : ℕ) (parts' : Partitions) (txs' : Txs) : Type 0 where
+pub record LeavesAllAlone (parts : Partitions) (txs : Txs) (tx : ℕ) (parts' : Partitions) (txs' : Txs) : Type 0 where
   pub log : Log
   pub written : txs' ≡ with_log txs tx log
-  pub untouched : IsUntouched parts (log_of txs.active tx) parts' log
+  pub untouched : LeavesAlone parts (log_in txs.active tx) parts' log

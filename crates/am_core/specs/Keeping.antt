@@ -6,7 +6,7 @@ use Rattle.am_record.specs.declared.lock.Lock.{Lock}
 use Rattle.am_record.specs.contracts.lock.Lock as lock
 use Rattle.am_record.specs.declared.entry.Entry.{Entry}
 use Rattle.am_list.specs.EntryCode.{entries_code}
-use Rattle.am_locks.specs.Table.{locks_of}
+use Rattle.am_locks.specs.Table.{locks_owned}
 use Rattle.am_parts.specs.Partitions.{Partitions}
 use Rattle.am_undo.specs.declared.note.Note.{Note}
 use Rattle.am_undo.specs.Log.{note_code}
@@ -28,7 +28,7 @@ active_with locks x = record {
 
 -- the active transactions, each with its locks
 abbrev pub actives : Txs → List Active
-actives txs = map (active_with (locks_of txs.locks)) txs.active
+actives txs = map (active_with (locks_owned txs.locks)) txs.active
 
 -- what is kept, by its parts
 abbrev pub state_kept : Partitions → Txs → List Interval → ℕ → StoreState

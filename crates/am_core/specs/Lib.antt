@@ -1,7 +1,7 @@
 pub mod Doing
 pub mod Memory
 pub mod Keeping
-pub mod Whole
-pub mod Asking
+pub mod InnerState
+pub mod Admission
 pub mod Standing
 pub mod Listing

@@ -1,9 +1,9 @@
 //! The store: every step of every transaction over a partitioned index.
 #![tactic(auto)]
 
-mod asking;
+mod admission;
 mod entries;
-mod kept;
+mod inner;
 mod loads;
 mod maintenance;
 mod operation;

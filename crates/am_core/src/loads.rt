@@ -3,7 +3,7 @@
 ghost use Rattle.std.specs.Prelude.{◌≡◌, ◌<◌, true, IfOk, OnErr};
 ghost use Rattle.am_record.specs.Plain.{is_rising};
 ghost use Rattle.am_runs.specs.Loads.{NothingAbove};
-ghost use Rattle.am_core.specs.Doing.{IsDone, IsUntouched};
+ghost use Rattle.am_core.specs.Doing.{IsDone, LeavesAlone};
 ghost use Rattle.am_record.specs.declared.step.Op.TheVariants.{Load};
 
 use am_list::PartIndex;
@@ -23,7 +23,7 @@ pub(crate) fn load_pairs<I: PartIndex + Drop>(
     requires room { parts.old.runs < 65535 }
     requires above { NothingAbove parts.old.runs parts.old.entries }
     ensures done { IfOk result (λ reply. IsDone (Load pairs) reply parts.old log.old parts.new log.new) }
-    ensures err { OnErr result (IsUntouched parts.old log.old parts.new log.new) }
+    ensures err { OnErr result (LeavesAlone parts.old log.old parts.new log.new) }
 {
     let run = Run::of_rising(pairs.into_vec());
     log.reserve_one()?;

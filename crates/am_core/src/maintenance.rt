@@ -5,18 +5,18 @@ ghost use Rattle.am_record.specs.declared.step.Step.TheVariants.{Merge, Clean};
 ghost use Rattle.am_list.specs.Content.{content};
 ghost use Rattle.am_serial.specs.Machine.{is_limit};
 ghost use Rattle.am_sound.specs.StoreState.{MayAnswer, state_after};
-ghost use Rattle.am_core.specs.Whole.{whole};
+ghost use Rattle.am_core.specs.InnerState.{state_of};
 
-use crate::kept::Kept;
+use crate::inner::Inner;
 use am_list::PartIndex;
 use am_merge::{clean_step, merge_step};
 use am_record::{MAX_LIMIT, Range, Refusal, Reply};
 
-impl<I: PartIndex + Drop> Kept<I> {
+impl<I: PartIndex + Drop> Inner<I> {
     #[inline(never)]
     pub(crate) fn merge(&mut self, limit: u64) -> Reply
-        ensures says { MayAnswer (whole self.old) (Merge limit) result }
-        ensures after { whole self.new ≡ state_after (whole self.old) (Merge limit) result }
+        ensures says { MayAnswer (state_of self.old) (Merge limit) result }
+        ensures after { state_of self.new ≡ state_after (state_of self.old) (Merge limit) result }
         ensures content { content self.new.parts.entries ≡ content self.old.parts.entries }
     {
         if !is_limit(limit) {
@@ -27,8 +27,8 @@ impl<I: PartIndex + Drop> Kept<I> {
 
     #[inline(never)]
     pub(crate) fn clean(&mut self, range: Range, limit: u64) -> Reply
-        ensures says { MayAnswer (whole self.old) (Clean range limit) result }
-        ensures after { whole self.new ≡ state_after (whole self.old) (Clean range limit) result }
+        ensures says { MayAnswer (state_of self.old) (Clean range limit) result }
+        ensures after { state_of self.new ≡ state_after (state_of self.old) (Clean range limit) result }
         ensures content { content self.new.parts.entries ≡ content self.old.parts.entries }
     {
         if !is_limit(limit) {

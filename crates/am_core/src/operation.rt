@@ -8,16 +8,16 @@ ghost use Rattle.am_list.specs.Entries.{find};
 ghost use Rattle.am_record.specs.Marks.{since_mark};
 ghost use Rattle.am_undo.specs.Notes.{CanTakeBack};
 ghost use Rattle.am_runs.specs.Loads.{NothingAbove};
-ghost use Rattle.am_tx.specs.Active.{is_active, log_of};
+ghost use Rattle.am_tx.specs.Active.{is_active_in, log_in};
 ghost use Rattle.am_record.specs.Refusals.{is_load};
 ghost use Rattle.am_sound.specs.StoreState.{MayAnswer, state_after, IsFit};
 ghost use Rattle.am_effect.specs.Store.{with_wish};
-ghost use Rattle.am_core.specs.Doing.{IsDone, IsUntouched, MayWantRoom, Works, IsIdle};
+ghost use Rattle.am_core.specs.Doing.{IsDone, LeavesAlone, MayWantRoom, Works, LeavesAllAlone};
 ghost use Rattle.am_core.specs.Memory.{may_want_memory};
-ghost use Rattle.am_core.specs.Whole.{whole};
+ghost use Rattle.am_core.specs.InnerState.{state_of};
 
-use crate::asking::{ask, refusal, wish_of};
-use crate::kept::Kept;
+use crate::admission::{ask, refusal, wish_of};
+use crate::inner::Inner;
 use crate::loads::load_pairs;
 use crate::reads::get;
 use crate::savepoints::go_back;
@@ -31,15 +31,15 @@ use am_tx::TxTable;
 use am_undo::UndoLog;
 use std::alloc::Global;
 
-impl<I: PartIndex + Drop> Kept<I> {
+impl<I: PartIndex + Drop> Inner<I> {
     /// Asks for the operation's lock first, then does it, then counts it. A lock that was granted is
     /// cut again where memory is refused later.
     #[inline(never)]
     pub(crate) fn operate(&mut self, tx: u64, op: Op) -> Reply
-        requires { IsFit (whole self.old) }
-        ensures says { MayAnswer (whole self.old) (Do tx op) result }
-        ensures after { whole self.new ≡ state_after (whole self.old) (Do tx op) result }
-        ensures memory { result ≡ Reply.Refused OutOfMemory → may_want_memory (whole self.old) (Do tx op) ≡ true }
+        requires { IsFit (state_of self.old) }
+        ensures says { MayAnswer (state_of self.old) (Do tx op) result }
+        ensures after { state_of self.new ≡ state_after (state_of self.old) (Do tx op) result }
+        ensures memory { result ≡ Reply.Refused OutOfMemory → may_want_memory (state_of self.old) (Do tx op) ≡ true }
     {
         am_runs::load_follows();
         // Read here, the numbers of the active transactions are known to rise.
@@ -79,15 +79,15 @@ fn work<I: PartIndex + Drop>(
     tx: u64,
     op: Op,
 ) -> Result<Reply, NoMemory>
-    requires active { is_active txs.old.active tx ≡ true }
+    requires active { is_active_in txs.old.active tx ≡ true }
     requires orderly { is_orderly op ≡ true }
     requires room { (is_load op && nat_le 65535 parts.old.runs) ≡ false }
     requires above { NothingAbove parts.old.runs parts.old.entries }
-    requires back { CanTakeBack (since_mark (log_of txs.old.active tx).marks (log_of txs.old.active tx).notes)
+    requires back { CanTakeBack (since_mark (log_in txs.old.active tx).marks (log_in txs.old.active tx).notes)
         (find parts.old.entries) }
     ensures done { IfOk result (λ reply. Works op reply parts.old txs.old tx parts.new txs.new) }
-    ensures err { OnErr result (IsIdle parts.old txs.old tx parts.new txs.new) }
-    ensures memory { OnErr result (MayWantRoom op parts.old.entries (log_of txs.old.active tx)) }
+    ensures err { OnErr result (LeavesAllAlone parts.old txs.old tx parts.new txs.new) }
+    ensures memory { OnErr result (MayWantRoom op parts.old.entries (log_in txs.old.active tx)) }
 {
     carry_out(alloc, parts, txs.undo(tx), op)
 }
@@ -104,7 +104,7 @@ fn carry_out<I: PartIndex + Drop>(
     requires above { NothingAbove parts.old.runs parts.old.entries }
     requires back { CanTakeBack (since_mark log.old.marks log.old.notes) (find parts.old.entries) }
     ensures done { IfOk result (λ reply. IsDone op reply parts.old log.old parts.new log.new) }
-    ensures err { OnErr result (IsUntouched parts.old log.old parts.new log.new) }
+    ensures err { OnErr result (LeavesAlone parts.old log.old parts.new log.new) }
     ensures memory { OnErr result (MayWantRoom op parts.old.entries log.old) }
 {
     match op {

@@ -4,7 +4,7 @@ ghost use Rattle.std.specs.Prelude.{◌≡◌, Some, None, IfSome, IfNone};
 ghost use Rattle.std.specs.FinMap.{get};
 ghost use Rattle.am_record.specs.Plain.{found};
 ghost use Rattle.am_list.specs.Content.{content};
-ghost use Rattle.am_parts.specs.Partitions.{IsSound, IsLiveEntry};
+ghost use Rattle.am_parts.specs.Partitions.{AreWellFormed, IsLiveEntry};
 ghost use Rattle.am_effect.specs.Store.{find_live};
 
 use am_list::PartIndex;
@@ -26,7 +26,7 @@ pub(crate) fn find_live<I: PartIndex + Drop>(parts: &Parts<I>, key: Key) -> Opti
     ensures found { result ≡ find_live parts.now.entries key }
     ensures live { IfSome result (λ e. IsLiveEntry parts.now.entries key e) }
     ensures dead { IfNone result (get (content parts.now.entries) key ≡ None) }
-    ensures sound { IsSound parts.now.entries }
+    ensures sound { AreWellFormed parts.now.entries }
 {
     am_effect::edits_are_known();
     parts.live_entry(key)

@@ -6,10 +6,10 @@ ghost use Rattle.am_record.specs.declared.step.Refusal.TheVariants.{NoMemory as 
 ghost use Rattle.am_sound.specs.StoreState.{empty_state, IsFit, MayAnswer, state_after};
 ghost use Rattle.am_core.specs.Memory.{may_want_memory};
 ghost use Rattle.am_core.specs.Standing.{IsSoundAt, Extends, IsWithin, KeepsContent};
-ghost use Rattle.am_core.specs.Whole.{whole};
+ghost use Rattle.am_core.specs.InnerState.{state_of};
 
 use crate::entries::all_entries;
-use crate::kept::Kept;
+use crate::inner::Inner;
 use am_list::PartIndex;
 use am_merge::Wishes;
 use am_parts::Parts;
@@ -22,21 +22,21 @@ use std::marker::Model;
 #[derive(Drop)]
 pub struct Store<I: PartIndex + Drop> {
     // On the heap, since it is large: so a store is moved by a pointer.
-    kept: Box<Kept<I>>,
+    inner: Box<Inner<I>>,
 }
 
 impl<I: PartIndex + Drop> Model for Store<I> {
     ghost use Rattle.am_sound.specs.StoreState.{StoreState};
     ghost use Rattle.am_core.specs.Keeping.{state_code, IsReached};
-    ghost use Rattle.am_core.specs.Whole.{whole};
+    ghost use Rattle.am_core.specs.InnerState.{state_of};
 
     ghost Value = { StoreState };
 
     ghost coded = { state_code };
 
-    ghost view = { λ s. whole s.kept.value };
+    ghost view = { λ s. state_of s.inner.value };
 
-    ghost invariant = { λ s. IsReached (whole s.kept.value) };
+    ghost invariant = { λ s. IsReached (state_of s.inner.value) };
 }
 
 impl<I: PartIndex + Drop> Store<I> {
@@ -51,7 +51,7 @@ impl<I: PartIndex + Drop> Store<I> {
     {
         am_sound::steps_lift();
         let wishes = Wishes::new(alloc)?;
-        let kept = Kept {
+        let inner = Inner {
             alloc,
             parts: Parts::new(alloc, index),
             txs: TxTable::new(alloc),
@@ -59,7 +59,7 @@ impl<I: PartIndex + Drop> Store<I> {
             commits: 0,
         };
         Ok(Store {
-            kept: Box::new(alloc, kept)?,
+            inner: Box::new(alloc, inner)?,
         })
     }
 
@@ -80,7 +80,7 @@ impl<I: PartIndex + Drop> Store<I> {
         ensures within { IsWithin step result }
     {
         am_sound::steps_lift();
-        step_there(&mut self.kept, step)
+        step_there(&mut self.inner, step)
     }
 
     /// The entries of all partitions, ghosts too, by partition and key.
@@ -90,26 +90,26 @@ impl<I: PartIndex + Drop> Store<I> {
     pub fn entries(&self, alloc: Global) -> Result<Vec<Entry>, NoMemory>
         ensures { IfOk result (λ entries. entries.items ≡ self.now.entries) }
     {
-        all_entries(alloc, &self.kept.parts)
+        all_entries(alloc, &self.inner.parts)
     }
 
     /// How many transactions committed.
     pub fn commits(&self) -> u64
         ensures { result ≡ self.now.commits }
     {
-        self.kept.commits
+        self.inner.commits
     }
 }
 
 // Takes the step where the store stands.
-fn step_there<I: PartIndex + Drop>(kept: &mut Box<Kept<I>>, step: Step) -> Reply
-    requires fit { IsFit (whole kept.old.value) }
-    requires few { kept.old.value.commits + length kept.old.value.txs.active ≤ 2 ^ 63 }
-    ensures says { MayAnswer (whole kept.old.value) step result }
-    ensures after { whole kept.new.value ≡ state_after (whole kept.old.value) step result }
-    ensures memory { result ≡ Reply.Refused OutOfMemory → may_want_memory (whole kept.old.value) step ≡ true }
-    ensures content { KeepsContent (whole kept.old.value) step (whole kept.new.value) }
+fn step_there<I: PartIndex + Drop>(inner: &mut Box<Inner<I>>, step: Step) -> Reply
+    requires fit { IsFit (state_of inner.old.value) }
+    requires few { inner.old.value.commits + length inner.old.value.txs.active ≤ 2 ^ 63 }
+    ensures says { MayAnswer (state_of inner.old.value) step result }
+    ensures after { state_of inner.new.value ≡ state_after (state_of inner.old.value) step result }
+    ensures memory { result ≡ Reply.Refused OutOfMemory → may_want_memory (state_of inner.old.value) step ≡ true }
+    ensures content { KeepsContent (state_of inner.old.value) step (state_of inner.new.value) }
 {
-    let kept = &mut **kept;
-    kept.step(step)
+    let inner = &mut **inner;
+    inner.step(step)
 }

@@ -5,20 +5,20 @@ ghost use Rattle.am_record.specs.declared.step.Step.TheVariants.{Begin, Commit, 
 ghost use Rattle.am_sound.specs.StoreState.{MayAnswer, state_after, IsFit};
 ghost use Rattle.am_list.specs.Entries.{find};
 ghost use Rattle.am_undo.specs.Notes.{TakesBack, CanTakeBack};
-ghost use Rattle.am_tx.specs.Active.{is_active, log_of};
+ghost use Rattle.am_tx.specs.Active.{is_active_in, log_in};
 ghost use Rattle.am_core.specs.Doing.{HasNewLog};
-ghost use Rattle.am_core.specs.Whole.{whole};
+ghost use Rattle.am_core.specs.InnerState.{state_of};
 
-use crate::kept::Kept;
+use crate::inner::Inner;
 use am_list::PartIndex;
 use am_parts::Parts;
 use am_record::{Refusal, Reply};
 use am_tx::TxTable;
 
-impl<I: PartIndex + Drop> Kept<I> {
+impl<I: PartIndex + Drop> Inner<I> {
     pub(crate) fn begin(&mut self) -> Reply
-        ensures says { MayAnswer (whole self.old) Begin result }
-        ensures after { whole self.new ≡ state_after (whole self.old) Begin result }
+        ensures says { MayAnswer (state_of self.old) Begin result }
+        ensures after { state_of self.new ≡ state_after (state_of self.old) Begin result }
     {
         // Read here, the table's numbers are known to rise.
         let _active = self.txs.active();
@@ -31,8 +31,8 @@ impl<I: PartIndex + Drop> Kept<I> {
     #[inline(never)]
     pub(crate) fn commit(&mut self, tx: u64) -> Reply
         requires { self.old.commits + length self.old.txs.active ≤ 2 ^ 63 }
-        ensures says { MayAnswer (whole self.old) (Commit tx) result }
-        ensures after { whole self.new ≡ state_after (whole self.old) (Commit tx) result }
+        ensures says { MayAnswer (state_of self.old) (Commit tx) result }
+        ensures after { state_of self.new ≡ state_after (state_of self.old) (Commit tx) result }
     {
         if !self.txs.is_active(tx) {
             return Reply::Refused(Refusal::NoSuchTx);
@@ -44,9 +44,9 @@ impl<I: PartIndex + Drop> Kept<I> {
 
     #[inline(never)]
     pub(crate) fn abort(&mut self, tx: u64) -> Reply
-        requires { IsFit (whole self.old) }
-        ensures says { MayAnswer (whole self.old) (Abort tx) result }
-        ensures after { whole self.new ≡ state_after (whole self.old) (Abort tx) result }
+        requires { IsFit (state_of self.old) }
+        ensures says { MayAnswer (state_of self.old) (Abort tx) result }
+        ensures after { state_of self.new ≡ state_after (state_of self.old) (Abort tx) result }
     {
         am_effect::taking_back_is_known();
         if !self.txs.is_active(tx) {
@@ -61,9 +61,9 @@ impl<I: PartIndex + Drop> Kept<I> {
 
 // Takes all that the transaction did back.
 fn take_back<I: PartIndex + Drop>(txs: &mut TxTable, tx: u64, parts: &mut Parts<I>)
-    requires active { is_active txs.old.active tx ≡ true }
-    requires can { CanTakeBack (log_of txs.old.active tx).notes (find parts.old.entries) }
-    ensures entries { TakesBack (log_of txs.old.active tx).notes parts.old.entries parts.new.entries }
+    requires active { is_active_in txs.old.active tx ≡ true }
+    requires can { CanTakeBack (log_in txs.old.active tx).notes (find parts.old.entries) }
+    ensures entries { TakesBack (log_in txs.old.active tx).notes parts.old.entries parts.new.entries }
     ensures runs { parts.new.runs ≡ parts.old.runs }
     ensures log { HasNewLog txs.old tx txs.new }
 {

@@ -1,7 +1,7 @@
 //! Insert, Replace and Delete. Each gets the room for its note first.
 
 ghost use Rattle.std.specs.Prelude.{◌≡◌, ◌≤◌, ◌∷◌, IfOk, OnErr};
-ghost use Rattle.am_core.specs.Doing.{IsDone, IsUntouched, MayWantRoom};
+ghost use Rattle.am_core.specs.Doing.{IsDone, LeavesAlone, MayWantRoom};
 ghost use Rattle.am_record.specs.declared.step.Op.TheVariants.{Insert, Replace, Delete};
 
 use crate::reads::find_live;
@@ -19,7 +19,7 @@ pub(crate) fn insert<I: PartIndex + Drop>(
     value: Value,
 ) -> Result<Reply, NoMemory>
     ensures done { IfOk result (λ reply. IsDone (Insert key value) reply parts.old log.old parts.new log.new) }
-    ensures err { OnErr result (IsUntouched parts.old log.old parts.new log.new) }
+    ensures err { OnErr result (LeavesAlone parts.old log.old parts.new log.new) }
     ensures memory { OnErr result (MayWantRoom (Insert key value) parts.old.entries log.old) }
 {
     am_list::content_follows();
@@ -30,7 +30,7 @@ pub(crate) fn insert<I: PartIndex + Drop>(
     log.reserve_one()?;
     let note = match vacancy {
         Vacancy::Ghost(old) => {
-            parts.mark(0, key, value, false);
+            parts.set(0, key, value, false);
             Note::Before {
                 part: 0,
                 key,
@@ -61,14 +61,14 @@ pub(crate) fn replace<I: PartIndex + Drop>(
     value: Value,
 ) -> Result<Reply, NoMemory>
     ensures done { IfOk result (λ reply. IsDone (Replace key value) reply parts.old log.old parts.new log.new) }
-    ensures err { OnErr result (IsUntouched parts.old log.old parts.new log.new) }
+    ensures err { OnErr result (LeavesAlone parts.old log.old parts.new log.new) }
     ensures memory { OnErr result (MayWantRoom (Replace key value) parts.old.entries log.old) }
 {
     let Some(live) = find_live(parts, key) else {
         return Ok(Reply::Missing);
     };
     log.reserve_one()?;
-    parts.mark(live.part, live.key, value, false);
+    parts.set(live.part, live.key, value, false);
     log.note(note_of(&live));
     Ok(Reply::Done)
 }
@@ -81,14 +81,14 @@ pub(crate) fn delete<I: PartIndex + Drop>(
     key: Key,
 ) -> Result<Reply, NoMemory>
     ensures done { IfOk result (λ reply. IsDone (Delete key) reply parts.old log.old parts.new log.new) }
-    ensures err { OnErr result (IsUntouched parts.old log.old parts.new log.new) }
+    ensures err { OnErr result (LeavesAlone parts.old log.old parts.new log.new) }
     ensures memory { OnErr result (MayWantRoom (Delete key) parts.old.entries log.old) }
 {
     let Some(live) = find_live(parts, key) else {
         return Ok(Reply::Missing);
     };
     log.reserve_one()?;
-    parts.mark(live.part, live.key, live.value, true);
+    parts.set(live.part, live.key, live.value, true);
     log.note(note_of(&live));
     Ok(Reply::Done)
 }

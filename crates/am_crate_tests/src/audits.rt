@@ -1,6 +1,6 @@
 //! Worked traces, as they are stored: a text holds nothing that a test would have to give back.
 
-use am_audit::{Fault, Kind, check};
+use am_audit::{Fault, FaultKind, check};
 use am_record::{Key, Op, Refusal, Reply, Step};
 use am_trace::read_trace;
 use std::alloc::Global;
@@ -11,7 +11,7 @@ fn expect(rt: &impl Abort, alloc: Global, text: &[u8], verdict: Result<u64, Faul
     assert!(rt; check(alloc, &trace) == verdict);
 }
 
-fn wrong(line: u64, kind: Kind) -> Result<u64, Fault> {
+fn wrong(line: u64, kind: FaultKind) -> Result<u64, Fault> {
     Err(Fault::Wrong(line, kind))
 }
 
@@ -41,7 +41,7 @@ COMMIT 1 | COMMITTED 1
 GET 2 5 | VAL h62
 COMMIT 2 | COMMITTED 2
 ";
-    expect(&rt, rt.alloc(), text, wrong(6, Kind::Answer));
+    expect(&rt, rt.alloc(), text, wrong(6, FaultKind::Answer));
 }
 
 // The first transaction has ended.
@@ -55,7 +55,7 @@ COMMIT 1 | COMMITTED 1
 GET 2 5 | BUSY 1
 COMMIT 2 | COMMITTED 2
 ";
-    expect(&rt, rt.alloc(), text, wrong(6, Kind::Busy));
+    expect(&rt, rt.alloc(), text, wrong(6, FaultKind::Busy));
 }
 
 // The two commits are swapped: the second transaction isn't active on line 6.
@@ -69,7 +69,7 @@ COMMIT 2 | COMMITTED 1
 GET 2 5 | VAL h61
 COMMIT 1 | COMMITTED 2
 ";
-    expect(&rt, rt.alloc(), text, wrong(6, Kind::Form));
+    expect(&rt, rt.alloc(), text, wrong(6, FaultKind::Form));
 }
 
 #[test]
@@ -80,7 +80,7 @@ BEGIN | BEGUN 2
 SCAN 1 10 20 5 | ROWS 0
 INS 2 15 h78 | OK
 ";
-    expect(&rt, rt.alloc(), text, wrong(5, Kind::Busy));
+    expect(&rt, rt.alloc(), text, wrong(5, FaultKind::Busy));
 }
 
 // What an aborted transaction read is not compared.
@@ -108,7 +108,7 @@ BACK 1 | OK
 GET 1 h0000000000000001 | VAL h61
 COMMIT 1 | COMMITTED 1
 ";
-    expect(&rt, rt.alloc(), text, wrong(6, Kind::Answer));
+    expect(&rt, rt.alloc(), text, wrong(6, FaultKind::Answer));
     let text = b"TRACE 2
 BEGIN | BEGUN 1
 MARK 1 | OK
@@ -145,7 +145,7 @@ BEGIN | BEGUN 2
 LOCK 1 X 1 9 | OK
 SCAN 2 1 9 0 | BUSY 1
 ";
-    expect(&rt, rt.alloc(), busy, wrong(5, Kind::Form));
+    expect(&rt, rt.alloc(), busy, wrong(5, FaultKind::Form));
     let limit = b"TRACE 1
 BEGIN | BEGUN 1
 BEGIN | BEGUN 2
@@ -185,11 +185,11 @@ fn expect_at_one_lock_more(
 fn audit_busy_before_too_many_locks(rt: HostRuntime) {
     let alloc = rt.alloc();
     let many = Reply::Refused(Refusal::TooManyLocks);
-    expect_at_one_lock_more(&rt, alloc, 1000, many, wrong(261, Kind::Busy));
+    expect_at_one_lock_more(&rt, alloc, 1000, many, wrong(261, FaultKind::Busy));
     let busy = Reply::Refused(Refusal::Busy(2));
     expect_at_one_lock_more(&rt, alloc, 1000, busy, Ok(0));
     let many = Reply::Refused(Refusal::TooManyLocks);
     expect_at_one_lock_more(&rt, alloc, 2000, many, Ok(0));
-    expect_at_one_lock_more(&rt, alloc, 2000, Reply::Absent, wrong(261, Kind::Form));
+    expect_at_one_lock_more(&rt, alloc, 2000, Reply::Absent, wrong(261, FaultKind::Form));
     expect_at_one_lock_more(&rt, alloc, 7, Reply::Absent, Ok(0));
 }

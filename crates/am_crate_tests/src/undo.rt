@@ -58,7 +58,7 @@ fn change<I: PartIndex + Drop>(
         }
     }
     log.reserve_one()?;
-    parts.mark(part, key, new, is_ghost);
+    parts.set(part, key, new, is_ghost);
     log.note(Note::Before {
         part,
         key,

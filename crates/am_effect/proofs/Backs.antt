@@ -224,29 +224,29 @@ composed f g some more (e ∷ es) =
     at_entry s' h z k = ap both h ∙ ap (λ o. with_slot (with_slot e (Some s')) o) k ∙ sym (ap (λ o. with_slot e o) k) ∙ ap (λ o. with_slot e (g e.part e.key o)) (sym h)
 
 -- notes taken back one by one are all taken back at each place
-pub one_by_one : (notes : List Note) (es : List Entry) → taken_back notes es ≡ reslotted (notes_of.back notes) es
+pub one_by_one : (notes : List Note) (es : List Entry) → taken_back notes es ≡ reslotted (notes_of.back_all notes) es
 one_by_one [] es = nothing_new es
   where
     nothing_new : (es : List Entry) → es ≡ reslotted (λ p q o. o) es
     nothing_new [] = refl
     nothing_new (e ∷ es) = ap (λ l. e ∷ l) (nothing_new es)
-one_by_one (n ∷ notes) es = one_by_one notes (reslotted (notes_of.back_one n) es) ∙ composed (notes_of.back_one n) (notes_of.back notes) (one_some n) (back_some notes) es
+one_by_one (n ∷ notes) es = one_by_one notes (reslotted (notes_of.back_one n) es) ∙ composed (notes_of.back_one n) (notes_of.back_all notes) (one_some n) (back_some notes) es
 
 pub rising-taken_back : (notes : List Note) (es : List Entry) → IsRising es → IsRising (taken_back notes es)
-rising-taken_back notes es r = subst IsRising (sym (one_by_one notes es)) (rising-reslotted (notes_of.back notes) es r)
+rising-taken_back notes es r = subst IsRising (sym (one_by_one notes es)) (rising-reslotted (notes_of.back_all notes) es r)
 
 -- what stands at a place of the list with the notes taken back, where they put nothing back in a place where nothing stands
 pub look-taken_back : (notes : List Note) (es : List Entry) (a : Place) → (look es a ≡ None → back notes a None ≡ None) → look (taken_back notes es) a ≡ back notes a (look es a)
 look-taken_back notes es a none = ap (λ l. look l a) (one_by_one notes es) ∙ by_slot (look es a) refl
   where
-    by_slot : (o : Option Slot) → look es a ≡ o → look (reslotted (notes_of.back notes) es) a ≡ back notes a (look es a)
-    by_slot None e = look-reslotted_none (notes_of.back notes) es a e ∙ sym (ap (back notes a) e ∙ none e)
-    by_slot (Some s) e = let z = back_some notes a s in look-reslotted (notes_of.back notes) es a s z.0 e z.1 ∙ sym (ap (back notes a) e ∙ z.1)
+    by_slot : (o : Option Slot) → look es a ≡ o → look (reslotted (notes_of.back_all notes) es) a ≡ back notes a (look es a)
+    by_slot None e = look-reslotted_none (notes_of.back_all notes) es a e ∙ sym (ap (back notes a) e ∙ none e)
+    by_slot (Some s) e = let z = back_some notes a s in look-reslotted (notes_of.back_all notes) es a s z.0 e z.1 ∙ sym (ap (back notes a) e ∙ z.1)
 
 module _ (t : ℕ) (past : List Moment) (es : List Entry) (notes : List Note) (u : Describes t past es notes) where
   aborted_law : IsRising es → reslotted (λ part key s. left_at t (part, key) past es) es ≡ taken_back notes es
   aborted_law r =
-      agree (λ part key s. left_at t (part, key) past es) (notes_of.back notes) es (at_each es (stands_all es r)) ∙ sym (one_by_one notes es)
+      agree (λ part key s. left_at t (part, key) past es) (notes_of.back_all notes) es (at_each es (stands_all es r)) ∙ sym (one_by_one notes es)
     where
       at_each : (m : List Entry) → AllByRecursion (Stands es) m → AllByRecursion (λ e. left_at t (place_of e) past es ≡ back notes (place_of e) (Some (slot_of e))) m
       at_each [] h = tt

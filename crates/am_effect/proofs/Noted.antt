@@ -22,7 +22,7 @@ abbrev pub back_one : Note → Place → Option Slot → Option Slot
 back_one n a s = notes_of.back_one n a.0 a.1 s
 
 abbrev pub back : List Note → Place → Option Slot → Option Slot
-back notes a s = notes_of.back notes a.0 a.1 s
+back notes a s = notes_of.back_all notes a.0 a.1 s
 
 pub some_none : (x : Slot) → Some x ≡ None → ⊥
 some_none x e = cc

@@ -10,7 +10,7 @@ use Rattle.am_list.specs.Entries.{Slot, find, IsRising}
 use Rattle.am_list.specs.Content.{content, OnePlace}
 use Rattle.am_undo.specs.declared.note.Note.{Note}
 use Rattle.am_undo.specs.declared.note.Note.TheVariants.{New, Before, RunMade}
-use Rattle.am_undo.specs.Notes.{back_one, back}
+use Rattle.am_undo.specs.Notes.{back_one, back_all}
 use Rattle.am_undo.specs.Undo.{is_noted_run}
 use Rattle.am_record.specs.Marks.{since, since_mark, until_mark, older}
 use Rattle.am_serial.specs.Trace.{Effect, Answers}
@@ -26,9 +26,9 @@ IsOfKey test (RunMade p) = Unit {0}
 
 -- taken back, the notes of the transaction leave at each place what looking back does
 pub record Describes (t : ℕ) (past : List Moment) (es : List Entry) (notes : List Note) : Type 0 where
-  pub same : (a : Place) → back notes a.0 a.1 (look es a) ≡ left_at t a past es
+  pub same : (a : Place) → back_all notes a.0 a.1 (look es a) ≡ left_at t a past es
   -- a noted place still stands
-  pub stands : (a : Place) → look es a ≡ None → back notes a.0 a.1 None ≡ None
+  pub stands : (a : Place) → look es a ≡ None → back_all notes a.0 a.1 None ≡ None
   -- each note is of a key that it wrote
   pub owns : AllByRecursion (IsOfKey (λ q. wrote t q past)) notes
   -- its runs have only keys that it wrote

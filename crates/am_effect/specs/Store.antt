@@ -6,7 +6,8 @@ use Rattle.std.specs.List.{list_any, AllByRecursion}
 use Rattle.std.specs.Ordering.{eq_by_cmp}
 use Rattle.am_record.specs.OrderedKey.{OrderedKey, key_cmp}
 use Rattle.am_record.specs.Interval.{Interval, within, point}
-use Rattle.am_record.specs.Asks.{locks_of, owns}
+use Rattle.am_record.specs.Asks.{locks_of}
+use Rattle.am_record.specs.Owners.{holder_among}
 use Rattle.am_record.specs.declared.entry.Entry.{Entry}
 use Rattle.am_record.specs.declared.step.Refusal.TheVariants.{BadLimit}
 use Rattle.am_record.specs.declared.step.Op.{Op}
@@ -19,7 +20,8 @@ use Rattle.am_list.specs.Entries.{Slot, first_such, find, set_entry}
 use Rattle.am_undo.specs.declared.note.Note.{Note}
 use Rattle.am_undo.specs.declared.note.Note.TheVariants.{New, Before, RunMade}
 use Rattle.am_record.specs.Marks.{until_mark, older}
-use Rattle.am_runs.specs.Loads.{live_entry, with_run}
+use Rattle.am_list.specs.Runs.{live_entry}
+use Rattle.am_runs.specs.Loads.{with_run}
 use Rattle.am_serial.specs.Trace.{Event, Trace, effect, ops_of}
 use Rattle.am_serial.specs.Machine.{State, Transaction, start, is_limit, May, next}
 use Rattle.am_effect.specs.Places.{put}
@@ -41,8 +43,7 @@ opened = record { state = start; entries = []; wishes = []; past = []; notes = �
 
 -- who has exclusively locked the key
 abbrev pub holder : List Transaction → Holders
-holder [] q = None
-holder (x ∷ txs) q = cond (owns (locks_of (ops_of x.1)) q) (Some x.0) (holder txs q)
+holder txs = holder_among (λ (x : Transaction). x.0) (λ (x : Transaction). locks_of (ops_of x.1)) txs
 
 -- ---- wishes
 

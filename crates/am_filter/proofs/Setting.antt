@@ -9,7 +9,7 @@ use Rattle.std.specs.List.{AllByRecursion}
 use Rattle.am_record.specs.OrderedKey.{OrderedKey}
 use Rattle.am_record.specs.KeyMix.{key_mix}
 use Rattle.am_record.specs.Plain.{Records}
-use Rattle.am_filter.specs.Held.{mask_of, slot_of, holds}
+use Rattle.am_filter.specs.Filters.{mask_of, word_index, holds}
 
 pub still_set : (a b m : ℕ) → bit_and a m ≡ m → bit_and (bit_or a b) m ≡ m
 still_set a b m h = same_from_bits (bit_and (bit_or a b) m) m (λ i.
@@ -26,14 +26,14 @@ module _ (ws : List ℕ) (i : ℕ) (lt : i < length ws) (m : ℕ) where
   abbrev pub after : List ℕ
   after = set ws i (bit_or (get_or ws i 0) m)
 
-  same_slot : (n : ℕ) → slot_of after n ≡ slot_of ws n
+  same_slot : (n : ℕ) → word_index after n ≡ word_index ws n
   same_slot n = ap (λ (k : ℕ). n / 2 ^ 32 * k / 2 ^ 32) (length-set ws i (bit_or (get_or ws i 0) m))
 
-  pub now_held : (k : OrderedKey) → i ≡ slot_of ws (key_mix k) → m ≡ mask_of (key_mix k) → holds after k ≡ true
+  pub now_held : (k : OrderedKey) → i ≡ word_index ws (key_mix k) → m ≡ mask_of (key_mix k) → holds after k ≡ true
   unfolding holds
   now_held k here mask =
-      let at : slot_of after (key_mix k) ≡ i = same_slot (key_mix k) ∙ sym here in
-      let word : get_or after (slot_of after (key_mix k)) 0 ≡ bit_or (get_or ws i 0) (mask_of (key_mix k)) =
+      let at : word_index after (key_mix k) ≡ i = same_slot (key_mix k) ∙ sym here in
+      let word : get_or after (word_index after (key_mix k)) 0 ≡ bit_or (get_or ws i 0) (mask_of (key_mix k)) =
       ap (λ (j : ℕ). get_or after j 0) at ∙ get_or-set_same ws i (bit_or (get_or ws i 0) m) 0 lt ∙ ap (λ (n : ℕ). bit_or (get_or ws i 0) n) mask in
       eq-eqb _ _ (ap (λ (w : ℕ). bit_and w (mask_of (key_mix k))) word ∙ and_or_self (mask_of (key_mix k)) (get_or ws i 0))
 
@@ -41,18 +41,18 @@ module _ (ws : List ℕ) (i : ℕ) (lt : i < length ws) (m : ℕ) where
   unfolding holds
   still_held k h =
       let n = key_mix k in
-      let was : bit_and (get_or ws (slot_of ws n) 0) (mask_of n) ≡ mask_of n = eqb-true _ _ h in
+      let was : bit_and (get_or ws (word_index ws n) 0) (mask_of n) ≡ mask_of n = eqb-true _ _ h in
       let slot = same_slot n in
       ⊎_elim
-      (λ (same : slot_of ws n ≡ i).
-      let word : get_or after (slot_of after n) 0 ≡ bit_or (get_or ws (slot_of ws n) 0) m =
+      (λ (same : word_index ws n ≡ i).
+      let word : get_or after (word_index after n) 0 ≡ bit_or (get_or ws (word_index ws n) 0) m =
       ap (λ (j : ℕ). get_or after j 0) (slot ∙ same) ∙ get_or-set_same ws i (bit_or (get_or ws i 0) m) 0 lt ∙ ap (λ (j : ℕ). bit_or (get_or ws j 0) m) (sym same) in
-      eq-eqb _ _ (ap (λ (w : ℕ). bit_and w (mask_of n)) word ∙ still_set (get_or ws (slot_of ws n) 0) m (mask_of n) was))
-      (λ (other : slot_of ws n ≢ i).
-      let word : get_or after (slot_of after n) 0 ≡ get_or ws (slot_of ws n) 0 =
-      ap (λ (j : ℕ). get_or after j 0) slot ∙ get_or-set_other ws i (slot_of ws n) (bit_or (get_or ws i 0) m) 0 other in
+      eq-eqb _ _ (ap (λ (w : ℕ). bit_and w (mask_of n)) word ∙ still_set (get_or ws (word_index ws n) 0) m (mask_of n) was))
+      (λ (other : word_index ws n ≢ i).
+      let word : get_or after (word_index after n) 0 ≡ get_or ws (word_index ws n) 0 =
+      ap (λ (j : ℕ). get_or after j 0) slot ∙ get_or-set_other ws i (word_index ws n) (bit_or (get_or ws i 0) m) 0 other in
       eq-eqb _ _ (ap (λ (w : ℕ). bit_and w (mask_of n)) word ∙ was))
-      (cases_eq (slot_of ws n) i)
+      (cases_eq (word_index ws n) i)
 
 -- all keys of the records are held
 abbrev pub AllHeld : List ℕ → Records → Type 0

@@ -4,7 +4,7 @@ ghost use Rattle.std.specs.Prelude.{◌≡◌, ◌<◌, ◌%◌, ◌^◌, true, 
 ghost use Rattle.std.specs.List.{AllByRecursion};
 ghost use Rattle.am_record.specs.OrderedKey.{OrderedKey};
 ghost use Rattle.am_record.specs.KeyMix.{key_mix};
-ghost use Rattle.am_filter.specs.Held.{mask_of, slot_of, holds};
+ghost use Rattle.am_filter.specs.Filters.{mask_of, word_index, holds};
 
 use am_record::{Key, NoMemory, Value};
 use std::alloc::Global;
@@ -80,7 +80,7 @@ impl Filter {
     // The word of a number.
     fn slot(&self, number: u64) -> usize
         ensures in_range { result < length self.now }
-        ensures value { result ≡ slot_of self.now number }
+        ensures value { result ≡ word_index self.now number }
     {
         let count = self.words.len() as u64;
         (((number >> 32) * count) >> 32) as usize

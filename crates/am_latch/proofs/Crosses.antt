@@ -12,27 +12,27 @@ use Rattle.am_record.proofs.step.Step.TheSendSync as step
 use Rattle.am_record.proofs.step.Reply.TheSendSync as reply
 use Rattle.am_btree.proofs.Crosses.{tree_send}
 use Rattle.am_core.proofs.store.Store.TheSendSync as store
-use Rattle.am_latch.specs.declared.naming.Naming as naming
-use Rattle.am_latch.specs.contracts.book.View as View
+use Rattle.am_latch.specs.declared.latch_name.LatchName as latch_name
+use Rattle.am_latch.specs.contracts.views.View as View
 use Rattle.am_latch.specs.contracts.engine.Engine as Engine
-use Rattle.am_latch.specs.contracts.held.Held as Held
-use Rattle.am_latch.specs.contracts.held.Held.TheInside as HeldInside
+use Rattle.am_latch.specs.contracts.state.LatchState as LatchState
+use Rattle.am_latch.specs.contracts.state.LatchState.TheInside as HeldInside
 use Rattle.am_latch.specs.contracts.latch.Latch as Latch
-use Rattle.am_latch.proofs.book.Numbered.TheSendSync as numbered
-use Rattle.am_latch.proofs.receipt.Maker.TheSendSync as maker
+use Rattle.am_latch.proofs.views.AgreeingViews.TheSendSync as numbered
+use Rattle.am_latch.proofs.receipt.CallId.TheSendSync as call_id
 
 engine_send : IsSend Engine.the_row
-engine_send = search (crosses, sendable, tree_send, store.the_send, step.the_field_send, reply.the_field_send, maker.the_field_send) depth 60
+engine_send = search (crosses, sendable, tree_send, store.the_send, step.the_field_send, reply.the_field_send, call_id.the_field_send) depth 60
 
-module _ (T : RattleType) (g : naming.Ghosts T.Denot) where
-  held_send : IsSend (Held.the_row T g)
+module _ (T : RattleType) (g : latch_name.Ghosts T.Denot) where
+  held_send : IsSend (LatchState.the_row T g)
   held_send = view_send (HeldInside.the_row T g) _ _ _ _ (recorded_send (HeldInside.the_field T g).row _ _ (HeldInside.the_type T g).to_one
       (struct_send (declared.shape (HeldInside.the_type T g)) (engine_send, (badge.the_send View.the_row, (phantom.the_field_send T, tt)))))
 
   pub latch_sync : IsSync (Latch.the_row T g)
   latch_sync = recorded_sync (Latch.the_field T g).row _ _ (Latch.the_type T g).to_one
       (struct_sync (declared.shape (Latch.the_type T g)) (
-        mutex.the_sync (Held.the_row T g) held_send,
+        mutex.the_sync (LatchState.the_row T g) held_send,
         (
           search (table.the_field_sync, table.the_sync, numbered.the_field_sync, numbered.the_sync, heap.the_sync, heap.the_send, crosses, sendable) depth 40,
           (plain_sync _ _ _ _ _, (phantom.the_field_sync T, tt)),

@@ -13,12 +13,12 @@ use Rattle.am_serial.specs.Trace.{Effect}
 use Rattle.am_record.specs.Refusals.{is_one_too_many}
 use Rattle.am_serial.specs.Machine.{state_at, due_early, locks_in}
 use Rattle.am_serial.specs.Sound.{IsAnswerOf, IsBusy, FormedDo, FormedAt}
-use Rattle.am_latch.specs.Changes.{Fits}
+use Rattle.am_latch.specs.Changes.{IsReplyTo}
 
-refused_fits : (st : Step) (r : Reply) (why : Refusal) → r ≡ Refused why → Fits st r
-refused_fits st r why e = subst (λ (q : Reply). Fits st q) (sym e) tt
+refused_fits : (st : Step) (r : Reply) (why : Refusal) → r ≡ Refused why → IsReplyTo st r
+refused_fits st r why e = subst (λ (q : Reply). IsReplyTo st q) (sym e) tt
 
-answered_fits : (st : Step) (op : Op) (r : Reply) → IsAnswerOf op r → Fits st r
+answered_fits : (st : Step) (op : Op) (r : Reply) → IsAnswerOf op r → IsReplyTo st r
 answered_fits st (Get k) (Begun t') a = absurd a
 answered_fits st (Scan range max) (Begun t') a = absurd a
 answered_fits st (Insert k v) (Begun t') a = absurd a
@@ -60,7 +60,7 @@ answered_fits st op (Cleaned n') a = tt
 answered_fits st op NoMark a = tt
 answered_fits st op (Refused why') a = tt
 
-do_fits : (st : Step) (early : Option Refusal) (full : Bool) (op : Op) (r : Reply) → FormedDo early full op r → Fits st r
+do_fits : (st : Step) (early : Option Refusal) (full : Bool) (op : Op) (r : Reply) → FormedDo early full op r → IsReplyTo st r
 do_fits st (Some why) full op r f = refused_fits st r why f
 do_fits st None true op r f = ⊎_elim (λ (x : IsBusy r). refused_fits st r (Busy x.0) x.1) (λ (e : r ≡ Refused TooManyLocks). refused_fits st r TooManyLocks e) f
 do_fits st None false op r f =
@@ -69,7 +69,7 @@ do_fits st None false op r f =
     (λ (y : (r ≡ Refused NoMemory) ⊎ IsAnswerOf op r). ⊎_elim (λ (e : r ≡ Refused NoMemory). refused_fits st r NoMemory e) (λ (a : IsAnswerOf op r). answered_fits st op r a) y)
     f
 
-pub fits_formed : (es : List Effect) (st : Step) (r : Reply) → FormedAt es st r → Fits st r
+pub fits_formed : (es : List Effect) (st : Step) (r : Reply) → FormedAt es st r → IsReplyTo st r
 fits_formed es (Do t op) r f = do_fits (Do t op) (due_early (state_at es) t op) (is_one_too_many (locks_in (state_at es).active t) (lock_of op)) op r f
 fits_formed es Begin (Begun t') f = refl
 fits_formed es Begin Done f = tt

@@ -3,29 +3,29 @@ use Rattle.std.proofs.Common.{◌≡◌, ◌≢◌, ℕ, suc, ◌+◌, ◌==◌,
 use Rattle.am_record.specs.declared.step.Step.{Step}
 use Rattle.am_record.specs.declared.step.Reply.{Reply}
 use Rattle.am_latch.specs.declared.receipt.Receipt.{Receipt}
-use Rattle.am_latch.specs.declared.receipt.Maker.{Maker}
+use Rattle.am_latch.specs.declared.receipt.CallId.{CallId}
 use Rattle.am_latch.specs.Receipts.{receipt, receipts_from}
 
-mine_head : (k call place : ℕ) (st : Step) (r : Reply) (b : Bool) (x : Receipt) (A A' B B' : List Receipt) → A' ≡ A ++ receipt k (suc call + length A) st r place ∷ [] → B' ≡ B ++ receipt k (call + length B) st r place ∷ []
-    → (if b then x ∷ A' else B') ≡ (if b then x ∷ A else B) ++ receipt k (call + length (if b then x ∷ A else B)) st r place ∷ []
-mine_head k call place st r true x A A' B B' a b = ap (λ l. x ∷ l) (a ∙ ap (λ (n : ℕ). A ++ receipt k n st r place ∷ []) (omega arith))
-mine_head k call place st r false x A A' B B' a b = b
+mine_head : (k call position : ℕ) (st : Step) (r : Reply) (b : Bool) (x : Receipt) (A A' B B' : List Receipt) → A' ≡ A ++ receipt k (suc call + length A) st r position ∷ [] → B' ≡ B ++ receipt k (call + length B) st r position ∷ []
+    → (if b then x ∷ A' else B') ≡ (if b then x ∷ A else B) ++ receipt k (call + length (if b then x ∷ A else B)) st r position ∷ []
+mine_head k call position st r true x A A' B B' a b = ap (λ l. x ∷ l) (a ∙ ap (λ (n : ℕ). A ++ receipt k n st r position ∷ []) (omega arith))
+mine_head k call position st r false x A A' B B' a b = b
 
-pub mine_more : (k from call place : ℕ) (ps : List (Step × Reply)) (ms : List Maker) (st : Step) (r : Reply) (m : Maker) → length ms ≡ length ps → m.seat ≡ k → place ≡ from + length ps
-    → receipts_from k from call (ps ++ (st, r) ∷ []) (ms ++ m ∷ []) ≡ receipts_from k from call ps ms ++ receipt k (call + length (receipts_from k from call ps ms)) st r place ∷ []
-mine_more k from call place [] [] st r m even here at =
-    subst (λ b. (if b then receipt k call st r from ∷ [] else []) ≡ receipt k (call + 0) st r place ∷ []) (sym (eq-eqb m.seat k here))
+pub mine_more : (k from call position : ℕ) (ps : List (Step × Reply)) (ms : List CallId) (st : Step) (r : Reply) (m : CallId) → length ms ≡ length ps → m.seat ≡ k → position ≡ from + length ps
+    → receipts_from k from call (ps ++ (st, r) ∷ []) (ms ++ m ∷ []) ≡ receipts_from k from call ps ms ++ receipt k (call + length (receipts_from k from call ps ms)) st r position ∷ []
+mine_more k from call position [] [] st r m even here at =
+    subst (λ b. (if b then receipt k call st r from ∷ [] else []) ≡ receipt k (call + 0) st r position ∷ []) (sym (eq-eqb m.seat k here))
     (λ i. receipt k (sym (add-zero call) i) st r ((sym (add-zero from) ∙ sym at) i) ∷ [])
-mine_more k from call place [] (n ∷ ns) st r m even here at = absurd (omega arith)
-mine_more k from call place (p ∷ ps) [] st r m even here at = absurd (omega arith)
-mine_more k from call place (p ∷ ps) (n ∷ ns) st r m even here at =
-    mine_head k call place st r (n.seat == k) (receipt k call p.0 p.1 from) _ _ _ _ (mine_more k (suc from) (suc call) place ps ns st r m (omega arith) here (omega arith)) (mine_more k (suc from) call place ps ns st r m (omega arith) here (omega arith))
+mine_more k from call position [] (n ∷ ns) st r m even here at = absurd (omega arith)
+mine_more k from call position (p ∷ ps) [] st r m even here at = absurd (omega arith)
+mine_more k from call position (p ∷ ps) (n ∷ ns) st r m even here at =
+    mine_head k call position st r (n.seat == k) (receipt k call p.0 p.1 from) _ _ _ _ (mine_more k (suc from) (suc call) position ps ns st r m (omega arith) here (omega arith)) (mine_more k (suc from) call position ps ns st r m (omega arith) here (omega arith))
 
 other_head : (b : Bool) (x : Receipt) (A A' B B' : List Receipt) → A' ≡ A → B' ≡ B → (if b then x ∷ A' else B') ≡ (if b then x ∷ A else B)
 other_head true x A A' B B' a b = ap (λ l. x ∷ l) a
 other_head false x A A' B B' a b = b
 
-pub others_same : (k from call : ℕ) (ps : List (Step × Reply)) (ms : List Maker) (st : Step) (r : Reply) (m : Maker) → length ms ≡ length ps → m.seat ≢ k
+pub others_same : (k from call : ℕ) (ps : List (Step × Reply)) (ms : List CallId) (st : Step) (r : Reply) (m : CallId) → length ms ≡ length ps → m.seat ≢ k
     → receipts_from k from call (ps ++ (st, r) ∷ []) (ms ++ m ∷ []) ≡ receipts_from k from call ps ms
 others_same k from call [] [] st r m even apart = subst (λ b. (if b then receipt k call st r from ∷ [] else []) ≡ []) (sym (ne_eqb m.seat k apart)) refl
 others_same k from call [] (n ∷ ns) st r m even apart = absurd (omega arith)

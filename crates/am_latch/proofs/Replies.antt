@@ -1,5 +1,6 @@
 -- Steps and replies, case by case.
 use Rattle.std.proofs.Common.{◌≡◌, ℕ, true, false, Some, None, refl}
+use Rattle.am_record.specs.declared.step.Op.{Op}
 use Rattle.am_record.specs.declared.step.Step.{Step}
 use Rattle.am_record.specs.declared.step.Step.TheVariants.{Begin, Do, Commit, Abort, Merge, Clean}
 use Rattle.am_record.specs.declared.step.Refusal.{Refusal}
@@ -50,27 +51,28 @@ why_refused (Cleaned n) h = absurd (cc)
 why_refused NoMark h = absurd (cc)
 why_refused (Refused why) h = (why, refl)
 
-pub unstored_refused : (r : Reply) → is_stored r ≡ false → is_refused r ≡ true
-unstored_refused (Begun t) h = absurd (cc)
-unstored_refused Done h = absurd (cc)
-unstored_refused (Found v) h = absurd (cc)
-unstored_refused Absent h = absurd (cc)
-unstored_refused (Rows rows) h = absurd (cc)
-unstored_refused (Exists k) h = absurd (cc)
-unstored_refused Missing h = absurd (cc)
-unstored_refused (Committed c) h = absurd (cc)
-unstored_refused Aborted h = absurd (cc)
-unstored_refused (Moved n run) h = absurd (cc)
-unstored_refused MergeDone h = absurd (cc)
-unstored_refused (Ended k by) h = absurd (cc)
-unstored_refused Idle h = absurd (cc)
-unstored_refused (Cleaned n) h = absurd (cc)
-unstored_refused NoMark h = absurd (cc)
-unstored_refused (Refused why) h = refl
+-- an operation neither begins nor ends a transaction
+pub did_nothing : (u : ℕ) (op : Op) (r : Reply) → change (Do u op) r ≡ Nothing
+did_nothing u op (Begun t) = refl
+did_nothing u op Done = refl
+did_nothing u op (Found v) = refl
+did_nothing u op Absent = refl
+did_nothing u op (Rows rows) = refl
+did_nothing u op (Exists k) = refl
+did_nothing u op Missing = refl
+did_nothing u op (Committed c) = refl
+did_nothing u op Aborted = refl
+did_nothing u op (Moved n run) = refl
+did_nothing u op MergeDone = refl
+did_nothing u op (Ended k by) = refl
+did_nothing u op Idle = refl
+did_nothing u op (Cleaned n) = refl
+did_nothing u op NoMark = refl
+did_nothing u op (Refused why) = refl
 
 pub begins_begin : (st : Step) (r : Reply) (t : ℕ) → change st r ≡ Begins t → (is_begin st ≡ true) × (end_of st ≡ None)
 begins_begin Begin r t e = (refl, refl)
-begins_begin (Do u op) r t e = absurd (cc)
+begins_begin (Do u op) r t e = let none = did_nothing u op r in absurd (cc)
 begins_begin (Commit u) (Begun t') t e = absurd (cc)
 begins_begin (Commit u) Done t e = absurd (cc)
 begins_begin (Commit u) (Found v') t e = absurd (cc)
@@ -123,7 +125,7 @@ ends_end Idle Begin t e = absurd (cc)
 ends_end (Cleaned n') Begin t e = absurd (cc)
 ends_end NoMark Begin t e = absurd (cc)
 ends_end (Refused why') Begin t e = absurd (cc)
-ends_end r (Do u op) t e = absurd (cc)
+ends_end r (Do u op) t e = let none = did_nothing u op r in absurd (cc)
 ends_end (Begun t') (Commit u) t e = absurd (cc)
 ends_end Done (Commit u) t e = absurd (cc)
 ends_end (Found v') (Commit u) t e = absurd (cc)

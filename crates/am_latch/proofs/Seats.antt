@@ -6,16 +6,17 @@ use Rattle.am_record.specs.declared.step.Step.TheVariants.{Begin, Do, Commit, Ab
 use Rattle.am_record.specs.declared.step.Reply.{Reply}
 use Rattle.am_latch.specs.declared.change.Change.{Change}
 use Rattle.am_latch.specs.declared.change.Change.TheVariants.{Ends}
-use Rattle.am_latch.specs.Changes.{change, end_of, opened, moves_in}
+use Rattle.am_latch.specs.Changes.{change, end_of, open_after, moves_in}
 use Rattle.am_latch.specs.declared.receipt.Receipt.{Receipt}
 use Rattle.am_latch.specs.Receipts.{moved_in}
-use Rattle.am_latch.specs.Ties.{Ended, HasRoom, places, places_with}
+use Rattle.am_latch.specs.Ties.{EndsTx, HasRoom, receipts_needed, receipts_with}
+use Rattle.am_latch.proofs.Replies.{did_nothing}
 
 any_room : (o : Option ℕ) (len cap : ℕ) → len + 2 ≤ cap → len < 1000000 → HasRoom o (len + 1) cap
 any_room None len cap more few = omega arith
 any_room (Some t) len cap more few = (omega arith, omega arith)
 
-with_room : (o : Option ℕ) (len cap : ℕ) → HasRoom o len cap → len + places_with o ≤ cap → len < 1000000 → HasRoom o (len + 1) cap
+with_room : (o : Option ℕ) (len cap : ℕ) → HasRoom o len cap → len + receipts_with o ≤ cap → len < 1000000 → HasRoom o (len + 1) cap
 with_room None len cap h more few = omega arith
 with_room (Some t) len cap h more few = (omega arith, omega arith)
 
@@ -23,18 +24,14 @@ pub wider : (o : Option ℕ) (len cap cap' : ℕ) → HasRoom o len cap → cap 
 wider None len cap cap' h le = h
 wider (Some t) len cap cap' h le = (omega (arith, h.0), h.1)
 
-pub few_receipts : (o : Option ℕ) (len cap : ℕ) → HasRoom o len cap → len ≤ 1000001
-few_receipts None len cap h = h
-few_receipts (Some t) len cap h = omega (arith, h.1)
-
-end_room : (o : Option ℕ) (e : Change) (t len cap : ℕ) → o ≡ Some t → e ≡ Ends t → HasRoom o len cap → HasRoom (opened o e) (len + 1) cap
+end_room : (o : Option ℕ) (e : Change) (t len cap : ℕ) → o ≡ Some t → e ≡ Ends t → HasRoom o len cap → HasRoom (open_after o e) (len + 1) cap
 end_room o e t len cap is ends h =
     let here : HasRoom (Some t) len cap = subst (λ (p : Option ℕ). HasRoom p len cap) is h in
-    subst (λ (p : Change). HasRoom (opened o p) (len + 1) cap) (sym ends) (omega (arith, here.1))
+    subst (λ (p : Change). HasRoom (open_after o p) (len + 1) cap) (sym ends) (omega (arith, here.1))
 
-pub room_after : (o : Option ℕ) (st : Step) (r : Reply) (len cap : ℕ) → IsAllowed o st → Ended st r → HasRoom o len cap → len + places o st ≤ cap → (end_of st ≡ None → len < 1000000) → HasRoom (opened o (change st r)) (len + 1) cap
-room_after o Begin r len cap may ended h more few = any_room (opened o (change Begin r)) len cap more (few refl)
-room_after o (Do t op) r len cap may ended h more few = with_room o len cap h more (few refl)
+pub room_after : (o : Option ℕ) (st : Step) (r : Reply) (len cap : ℕ) → IsAllowed o st → EndsTx st r → HasRoom o len cap → len + receipts_needed o st ≤ cap → (end_of st ≡ None → len < 1000000) → HasRoom (open_after o (change st r)) (len + 1) cap
+room_after o Begin r len cap may ended h more few = any_room (open_after o (change Begin r)) len cap more (few refl)
+room_after o (Do t op) r len cap may ended h more few = subst (λ (e : Change). HasRoom (open_after o e) (len + 1) cap) (sym (did_nothing t op r)) (with_room o len cap h more (few refl))
 room_after o (Commit t) r len cap may ended h more few = end_room o (change (Commit t) r) t len cap may (ended t refl) h
 room_after o (Abort t) r len cap may ended h more few = end_room o (change (Abort t) r) t len cap may (ended t refl) h
 room_after o (Merge n) r len cap may ended h more few = with_room o len cap h more (few refl)

@@ -23,13 +23,13 @@ use Rattle.am_sound.specs.StoreState.{Active, StoreState, MayAnswer, IsFit, stat
 use Rattle.am_sound.proofs.Actives.{kept_number}
 use Rattle.am_core.specs.Standing.{IsSoundAt, Extends, IsWithin}
 use Rattle.am_latch.specs.declared.change.Change.TheVariants.{Ends, Nothing}
-use Rattle.am_latch.specs.Changes.{change, end_of, room_of, rows_in, moves_in, has, without, moved, active_from, numbers, HasTrace, Answers, Bounded, Goes}
-use Rattle.am_latch.proofs.Replies.{why_refused}
+use Rattle.am_latch.specs.Changes.{change, end_of, room_of, count_rows, moves_in, has, without_number, active_with, active_from, numbers_active, HasTrace, MayFollow, IsBoundedReply, TakesStep}
+use Rattle.am_latch.proofs.Replies.{why_refused, did_nothing}
 use Rattle.am_latch.proofs.Fitting.{fits_formed}
 
-pub active_from-snoc : (ts : List ℕ) (h : Trace) (p : Step × Reply) → active_from ts (h ++ p ∷ []) ≡ moved (active_from ts h) (change p.0 p.1)
+pub active_from-snoc : (ts : List ℕ) (h : Trace) (p : Step × Reply) → active_from ts (h ++ p ∷ []) ≡ active_with (active_from ts h) (change p.0 p.1)
 active_from-snoc ts [] p = refl
-active_from-snoc ts (q ∷ qs) p = active_from-snoc (moved ts (change q.0 q.1)) qs p
+active_from-snoc ts (q ∷ qs) p = active_from-snoc (active_with ts (change q.0 q.1)) qs p
 
 -- ---- the numbers of the active transactions
 
@@ -52,11 +52,11 @@ kept_numbers : (b : Bool) (x : Active) (xs : List Active) (ns : List ℕ) → ma
 kept_numbers true x xs ns e = ap (λ l. x.number ∷ l) e
 kept_numbers false x xs ns e = e
 
-ended_numbers : (t : ℕ) (xs : List Active) → map (λ (x : Active). x.number) (without_tx t xs) ≡ without t (map (λ (x : Active). x.number) xs)
+ended_numbers : (t : ℕ) (xs : List Active) → map (λ (x : Active). x.number) (without_tx t xs) ≡ without_number t (map (λ (x : Active). x.number) xs)
 ended_numbers t [] = refl
 ended_numbers t (x ∷ xs) = kept_numbers (not (x.number == t)) x (without_tx t xs) _ (ended_numbers t xs)
 
-numbers_after : (p : StoreState) (st : Step) (r : Reply) → numbers (state_after p st r) ≡ moved (numbers p) (change st r)
+numbers_after : (p : StoreState) (st : Step) (r : Reply) → numbers_active (state_after p st r) ≡ active_with (numbers_active p) (change st r)
 numbers_after p Begin (Begun t) = map-append (λ (x : Active). x.number) p.active (newcomer t ∷ [])
 numbers_after p Begin Done = refl
 numbers_after p Begin (Found v) = refl
@@ -126,7 +126,7 @@ numbers_after p (Clean range limit) r = refl
 
 -- ---- what begins and what ends
 
-no_end : (ts : List ℕ) (st : Step) (r : Reply) → change st r ≡ Nothing → end_of st ≡ None → Answers ts st r
+no_end : (ts : List ℕ) (st : Step) (r : Reply) → change st r ≡ Nothing → end_of st ≡ None → MayFollow ts st r
 no_end ts st r nothing none = record {
   begins = λ t e. absurd (cc);
   ends = λ t e. absurd (cc);
@@ -134,29 +134,29 @@ no_end ts st r nothing none = record {
   unknown = λ t e h. absurd (cc);
 }
 
-is_new : (p : StoreState) (t : ℕ) (b : Bool) → has t (numbers p) ≡ b → IsFit p → t ≡ p.begun + 1 → has t (numbers p) ≡ false
+is_new : (p : StoreState) (t : ℕ) (b : Bool) → has t (numbers_active p) ≡ b → IsFit p → t ≡ p.begun + 1 → has t (numbers_active p) ≡ false
 is_new p t true is fit new = let old = fit.begun t (sym (has_is_in t p.active) ∙ is) in absurd (omega (arith, old, new))
 is_new p t false is fit new = is
 
-does_end : (p : StoreState) (st : Step) (r : Reply) (u : ℕ) → end_of st ≡ Some u → change st r ≡ Ends u → is_in p.active u ≡ true → Answers (numbers p) st r
+does_end : (p : StoreState) (st : Step) (r : Reply) (u : ℕ) → end_of st ≡ Some u → change st r ≡ Ends u → is_in p.active u ≡ true → MayFollow (numbers_active p) st r
 does_end p st r u end is on = record {
   begins = λ t e. absurd (cc);
-  ends = λ t e. let same : u ≡ t = cc in subst (λ (n : ℕ). has n (numbers p) ≡ true) same (has_is_in u p.active ∙ on);
+  ends = λ t e. let same : u ≡ t = cc in subst (λ (n : ℕ). has n (numbers_active p) ≡ true) same (has_is_in u p.active ∙ on);
   ended = λ t e h. let same : u ≡ t = cc in is ∙ ap (λ (n : ℕ). Ends n) same;
-  unknown = λ t e h. let same : u ≡ t = cc in let there = subst (λ (n : ℕ). has n (numbers p) ≡ true) same (has_is_in u p.active ∙ on) in absurd (cc);
+  unknown = λ t e h. let same : u ≡ t = cc in let there = subst (λ (n : ℕ). has n (numbers_active p) ≡ true) same (has_is_in u p.active ∙ on) in absurd (cc);
 }
 
-is_unknown : (p : StoreState) (st : Step) (why : Refusal) (u : ℕ) → end_of st ≡ Some u → change st (Refused why) ≡ Nothing → is_in p.active u ≡ false → Answers (numbers p) st (Refused why)
+is_unknown : (p : StoreState) (st : Step) (why : Refusal) (u : ℕ) → end_of st ≡ Some u → change st (Refused why) ≡ Nothing → is_in p.active u ≡ false → MayFollow (numbers_active p) st (Refused why)
 is_unknown p st why u end is off = record {
   begins = λ t e. absurd (cc);
   ends = λ t e. absurd (cc);
-  ended = λ t e h. let same : u ≡ t = cc in let none = subst (λ (n : ℕ). has n (numbers p) ≡ false) same (has_is_in u p.active ∙ off) in absurd (cc);
+  ended = λ t e h. let same : u ≡ t = cc in let none = subst (λ (n : ℕ). has n (numbers_active p) ≡ false) same (has_is_in u p.active ∙ off) in absurd (cc);
   unknown = λ t e h. refl;
 }
 
-answers_of : (p : StoreState) (st : Step) (r : Reply) → IsFit p → MayAnswer p st r → Answers (numbers p) st r
+answers_of : (p : StoreState) (st : Step) (r : Reply) → IsFit p → MayAnswer p st r → MayFollow (numbers_active p) st r
 answers_of p Begin (Begun u) fit may = record {
-  begins = λ t e. let same : u ≡ t = cc in subst (λ (n : ℕ). has n (numbers p) ≡ false) same (is_new p u (has u (numbers p)) refl fit may.0);
+  begins = λ t e. let same : u ≡ t = cc in subst (λ (n : ℕ). has n (numbers_active p) ≡ false) same (is_new p u (has u (numbers_active p)) refl fit may.0);
   ends = λ t e. absurd (cc);
   ended = λ t e h. absurd (cc);
   unknown = λ t e h. absurd (cc);
@@ -176,7 +176,7 @@ answers_of p Begin Idle fit may = no_end _ _ _ refl refl
 answers_of p Begin (Cleaned n) fit may = no_end _ _ _ refl refl
 answers_of p Begin NoMark fit may = no_end _ _ _ refl refl
 answers_of p Begin (Refused why) fit may = no_end _ _ _ refl refl
-answers_of p (Do u op) r fit may = no_end _ _ _ refl refl
+answers_of p (Do u op) r fit may = no_end _ _ _ (did_nothing u op r) refl
 answers_of p (Commit u) (Begun t) fit may = absurd may
 answers_of p (Commit u) Done fit may = absurd may
 answers_of p (Commit u) (Found v) fit may = absurd may
@@ -247,7 +247,7 @@ room_within : (b : Bool) (n max : ℕ) → b ≡ true → n ≤ max → n ≤ (i
 room_within true n max is le = le
 room_within false n max is le = absurd (cc)
 
-rows_answered : (t : ℕ) (op : Op) (r : Reply) → IsAnswerOf op r → is_bounded op ≡ true → IsWithin (Do t op) r → rows_in r ≤ room_of (Do t op)
+rows_answered : (t : ℕ) (op : Op) (r : Reply) → IsAnswerOf op r → is_bounded op ≡ true → IsWithin (Do t op) r → count_rows r ≤ room_of (Do t op)
 rows_answered t op (Begun t') a b w = omega arith
 rows_answered t op Done a b w = omega arith
 rows_answered t op (Found v') a b w = omega arith
@@ -273,10 +273,10 @@ rows_answered t op (Cleaned n') a b w = omega arith
 rows_answered t op NoMark a b w = omega arith
 rows_answered t op (Refused why') a b w = omega arith
 
-refused_rows : (t : ℕ) (op : Op) (r : Reply) (why : Refusal) → r ≡ Refused why → rows_in r ≤ room_of (Do t op)
-refused_rows t op r why e = subst (λ (q : Reply). rows_in q ≤ room_of (Do t op)) (sym e) (omega arith)
+refused_rows : (t : ℕ) (op : Op) (r : Reply) (why : Refusal) → r ≡ Refused why → count_rows r ≤ room_of (Do t op)
+refused_rows t op r why e = subst (λ (q : Reply). count_rows q ≤ room_of (Do t op)) (sym e) (omega arith)
 
-rows_formed : (early : Option Refusal) (full : Bool) (t : ℕ) (op : Op) (r : Reply) → FormedDo early full op r → (early ≡ None → is_bounded op ≡ true) → IsWithin (Do t op) r → rows_in r ≤ room_of (Do t op)
+rows_formed : (early : Option Refusal) (full : Bool) (t : ℕ) (op : Op) (r : Reply) → FormedDo early full op r → (early ≡ None → is_bounded op ≡ true) → IsWithin (Do t op) r → count_rows r ≤ room_of (Do t op)
 rows_formed (Some why) full t op r f b w = refused_rows t op r why f
 rows_formed None true t op r f b w = ⊎_elim (λ (x : IsBusy r). refused_rows t op r (Busy x.0) x.1) (λ (e : r ≡ Refused TooManyLocks). refused_rows t op r TooManyLocks e) f
 rows_formed None false t op r f b w =
@@ -285,7 +285,7 @@ rows_formed None false t op r f b w =
     (λ (y : (r ≡ Refused NoMemory) ⊎ IsAnswerOf op r). ⊎_elim (λ (e : r ≡ Refused NoMemory). refused_rows t op r NoMemory e) (λ (a : IsAnswerOf op r). rows_answered t op r a (b refl) w) y)
     f
 
-rows_within : (es : List Effect) (st : Step) (r : Reply) → FormedAt es st r → IsWithin st r → rows_in r ≤ room_of st
+rows_within : (es : List Effect) (st : Step) (r : Reply) → FormedAt es st r → IsWithin st r → count_rows r ≤ room_of st
 rows_within es (Do t op) r f w = rows_formed (due_early (state_at es) t op) (is_one_too_many (locks_in (state_at es).active t) (lock_of op)) t op r f (bounded_early es t op) w
 rows_within es Begin (Begun t') f w = omega arith
 rows_within es Begin Done f w = omega arith
@@ -495,16 +495,16 @@ last_event es (e ∷ h) st r each = last_event (es ++ serial.effect e.0 e.1 ∷ 
 
 -- ---- a step of the store
 
-pub is_bounded_by : (h : Trace) (st : Step) (r : Reply) (p : StoreState) → IsSoundAt (h ++ (st, r) ∷ []) p → IsWithin st r → Bounded st r
+pub is_bounded_by : (h : Trace) (st : Step) (r : Reply) (p : StoreState) → IsSoundAt (h ++ (st, r) ∷ []) p → IsWithin st r → IsBoundedReply st r
 is_bounded_by h st r p stands within =
     let last = last_event [] h st r stands.sound.sound.formed in
     record { fits = fits_formed last.0 st r last.1; rows = rows_within last.0 st r last.1 within; moves = moves_within last.0 st r last.1 within }
 
-pub goes : (h : Trace) (p p' : StoreState) (st : Step) (r : Reply) → HasTrace h p → IsFit p → MayAnswer p st r → p' ≡ state_after p st r → ((why : Refusal) → r ≡ Refused why → p' ≡ p) → Extends p ((st, r) ∷ []) p' → Goes h st r p'
+pub goes : (h : Trace) (p p' : StoreState) (st : Step) (r : Reply) → HasTrace h p → IsFit p → MayAnswer p st r → p' ≡ state_after p st r → ((why : Refusal) → r ≡ Refused why → p' ≡ p) → Extends p ((st, r) ∷ []) p' → TakesStep h st r p'
 goes h p p' st r has fit may step same on = record {
-  here = record { stands = on.on h has.stands.at; active = ap numbers step ∙ numbers_after p st r ∙ ap (λ ts. moved ts (change st r)) has.active ∙ sym (active_from-snoc [] h (st, r)) };
+  here = record { stands = on.on h has.stands.at; active = ap numbers_active step ∙ numbers_after p st r ∙ ap (λ ts. active_with ts (change st r)) has.active ∙ sym (active_from-snoc [] h (st, r)) };
   refused = λ no. let w = why_refused r no in subst (HasTrace h) (sym (same w.0 w.1)) has;
-  answers = subst (λ (ts : List ℕ). Answers ts st r) has.active (answers_of p st r fit may);
+  answers = subst (λ (ts : List ℕ). MayFollow ts st r) has.active (answers_of p st r fit may);
 }
 
 pub opens : (p : StoreState) → p.active ≡ [] → IsSoundAt [] p → HasTrace [] p

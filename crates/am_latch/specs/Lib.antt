@@ -1,4 +1,4 @@
-pub mod Book
+pub mod Views
 pub mod Changes
 pub mod Faults
 pub mod Receipts

@@ -5,22 +5,22 @@ use Rattle.am_record.specs.declared.step.Step.TheVariants.{Begin, Do, Commit, Ab
 use Rattle.am_record.specs.declared.step.Reply.{Reply}
 use Rattle.am_latch.specs.declared.change.Change.TheVariants.{Ends}
 use Rattle.am_latch.specs.declared.engine.Engine.{Engine}
-use Rattle.am_latch.specs.Changes.{change, end_of, opened, has, active}
+use Rattle.am_latch.specs.Changes.{change, end_of, open_after, has, active_in_trace}
 use Rattle.am_latch.specs.declared.receipt.Receipt.{Receipt}
-use Rattle.am_latch.specs.Traces.{Engined, AllBelow}
-use Rattle.am_latch.specs.Receipts.{Seated, receipts_of}
+use Rattle.am_latch.specs.Traces.{CallLog, AreMadeBelow}
+use Rattle.am_latch.specs.Receipts.{SeatState, receipts_of}
 
 abbrev pub open_from : Option ℕ → List Receipt → Option ℕ
 open_from o [] = o
-open_from o (r ∷ rs) = open_from (opened o (change r.step r.reply)) rs
+open_from o (r ∷ rs) = open_from (open_after o (change r.step r.reply)) rs
 
 -- the open transaction of a seat with these receipts
 abbrev pub open_of : List Receipt → Option ℕ
 open_of rs = open_from None rs
 
 -- a Commit was answered Committed, an Abort Aborted
-abbrev pub Ended : Step → Reply → Type 0
-Ended st r = (t : ℕ) → end_of st ≡ Some t → change st r ≡ Ends t
+abbrev pub EndsTx : Step → Reply → Type 0
+EndsTx st r = (t : ℕ) → end_of st ≡ Some t → change st r ≡ Ends t
 
 -- what is open in a seat is active, no two seats have one transaction, and each that is active is some seat's
 pub record AreTied (o : ℕ → Option ℕ) (ts : List ℕ) : Type 0 where
@@ -28,40 +28,40 @@ pub record AreTied (o : ℕ → Option ℕ) (ts : List ℕ) : Type 0 where
   pub apart : (k l t : ℕ) → o k ≡ Some t → o l ≡ Some t → k ≡ l
   pub owned : (t : ℕ) → has t ts ≡ true → (k : ℕ) × (o k ≡ Some t)
 
-abbrev pub open_in : Engined → ℕ → Option ℕ
+abbrev pub open_in : CallLog → ℕ → Option ℕ
 open_in e k = open_of (receipts_of k e)
 
-abbrev pub Tied : Engined → Type 0
-Tied e = AreTied (open_in e) (active e.trace)
+abbrev pub IsTied : CallLog → Type 0
+IsTied e = AreTied (open_in e) (active_in_trace e.trace)
 
 -- what an engine stores
-abbrev pub engined : Engine → Engined
-engined e = record { trace = e.trace; makers = e.makers }
+abbrev pub log_of_engine : Engine → CallLog
+log_of_engine e = record { trace = e.trace; calls = e.calls }
 
 -- each call was made by one of the n seats of a latch, and what is open in them is what is active
 abbrev pub IsEngineOf : ℕ → Engine → Type 0
-IsEngineOf n e = AllBelow n (engined e).makers × Tied (engined e)
+IsEngineOf n e = AreMadeBelow n (log_of_engine e).calls × IsTied (log_of_engine e)
 
 -- what is open in the seats is what is active, each in one seat
-pub record OpenIs (seats : List Seated) (ts : List ℕ) : Type 0 where
-  pub active : (i t : ℕ) (s : Seated) → slice_get seats i ≡ Some s → open_of s.receipts ≡ Some t → has t ts ≡ true
-  pub apart : (i j t : ℕ) (s u : Seated) → slice_get seats i ≡ Some s → slice_get seats j ≡ Some u →
+pub record SeatsAreTied (seats : List SeatState) (ts : List ℕ) : Type 0 where
+  pub active : (i t : ℕ) (s : SeatState) → slice_get seats i ≡ Some s → open_of s.receipts ≡ Some t → has t ts ≡ true
+  pub apart : (i j t : ℕ) (s u : SeatState) → slice_get seats i ≡ Some s → slice_get seats j ≡ Some u →
       open_of s.receipts ≡ Some t → open_of u.receipts ≡ Some t → i ≡ j
-  pub owned : (t : ℕ) → has t ts ≡ true → (i : ℕ) × (s : Seated) × (slice_get seats i ≡ Some s) ×
+  pub owned : (t : ℕ) → has t ts ≡ true → (i : ℕ) × (s : SeatState) × (slice_get seats i ≡ Some s) ×
       (open_of s.receipts ≡ Some t)
 
 -- how many receipts need room: that of the end of an open transaction too
-abbrev pub places_with : Option ℕ → ℕ
-places_with (Some t) = 2
-places_with None = 1
+abbrev pub receipts_with : Option ℕ → ℕ
+receipts_with (Some t) = 2
+receipts_with None = 1
 
-abbrev pub places : Option ℕ → Step → ℕ
-places o Begin = 2
-places o (Commit t) = 1
-places o (Abort t) = 1
-places o (Do t op) = places_with o
-places o (Merge limit) = places_with o
-places o (Clean range limit) = places_with o
+abbrev pub receipts_needed : Option ℕ → Step → ℕ
+receipts_needed o Begin = 2
+receipts_needed o (Commit t) = 1
+receipts_needed o (Abort t) = 1
+receipts_needed o (Do t op) = receipts_with o
+receipts_needed o (Merge limit) = receipts_with o
+receipts_needed o (Clean range limit) = receipts_with o
 
 -- so many receipts, with room for one more while a transaction is open
 abbrev pub HasRoom : Option ℕ → ℕ → ℕ → Type 0

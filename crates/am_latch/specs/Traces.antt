@@ -7,39 +7,39 @@ use Rattle.am_record.specs.contracts.step.Reply as the_reply
 use Rattle.am_record.specs.declared.step.Reply.{Reply}
 use Rattle.am_latch.specs.declared.change.Change.{Change}
 use Rattle.am_latch.specs.declared.change.Change.TheVariants.{Begins, Ends, Nothing}
-use Rattle.am_latch.specs.declared.receipt.Maker.{Maker}
+use Rattle.am_latch.specs.declared.receipt.CallId.{CallId}
 use Rattle.am_latch.specs.Changes.{is_stored}
 
 -- what contracts see of an engine
-pub record Engined : Type 0 where
+pub record CallLog : Type 0 where
   pub trace : List (Step × Reply)
-  pub makers : List Maker
+  pub calls : List CallId
 
 -- it is stored as its fields
-abbrev pub maker_code : Coded Maker
-maker_code = code_by (ℕ × ℕ) (coded× coded_ℕ coded_ℕ) (λ m. (m.seat, m.call)) (λ f. record { seat = f.0; call = f.1 })
+abbrev pub call_id_code : Coded CallId
+call_id_code = code_by (ℕ × ℕ) (coded× coded_ℕ coded_ℕ) (λ m. (m.seat, m.call)) (λ f. record { seat = f.0; call = f.1 })
     (λ _. refl)
 
-abbrev pub engined_code : Coded Engined
-engined_code =
-    code_by (List (Step × Reply) × List Maker) (coded× (coded_list
-    (coded× the_step.the_row.coded the_reply.the_row.coded)) (coded_list maker_code))
-    (λ e. (e.trace, e.makers)) (λ f. record { trace = f.0; makers = f.1 }) (λ _. refl)
+abbrev pub call_log_code : Coded CallLog
+call_log_code =
+    code_by (List (Step × Reply) × List CallId) (coded× (coded_list
+    (coded× the_step.the_row.coded the_reply.the_row.coded)) (coded_list call_id_code))
+    (λ e. (e.trace, e.calls)) (λ f. record { trace = f.0; calls = f.1 }) (λ _. refl)
 
-abbrev pub fresh : Engined
-fresh = record { trace = []; makers = [] }
+abbrev pub empty_log : CallLog
+empty_log = record { trace = []; calls = [] }
 
-abbrev pub longer : Engined → Maker → Step → Reply → Engined
-longer e m s r = record { trace = e.trace ++ (s, r) ∷ []; makers = e.makers ++ m ∷ [] }
+abbrev pub log_with : CallLog → CallId → Step → Reply → CallLog
+log_with e m s r = record { trace = e.trace ++ (s, r) ∷ []; calls = e.calls ++ m ∷ [] }
 
--- the pair is stored with its maker, or the answer is not one of the store's and nothing changed
-abbrev pub Stepped : Engined → Maker → Step → Reply → Engined → Type 0
-Stepped e m s r e' = MatchBool (is_stored r) (e' ≡ longer e m s r) (e' ≡ e)
+-- the pair is stored with its call, or the answer is not one of the store's and nothing changed
+abbrev pub StoresCall : CallLog → CallId → Step → Reply → CallLog → Type 0
+StoresCall e m s r e' = MatchBool (is_stored r) (e' ≡ log_with e m s r) (e' ≡ e)
 
 -- each pair was made by a seat below n
-abbrev pub AllBelow : ℕ → List Maker → Type 0
-AllBelow n [] = Unit {0}
-AllBelow n (m ∷ ms) = (m.seat < n) × AllBelow n ms
+abbrev pub AreMadeBelow : ℕ → List CallId → Type 0
+AreMadeBelow n [] = Unit {0}
+AreMadeBelow n (m ∷ ms) = (m.seat < n) × AreMadeBelow n ms
 
 -- how many ends room is kept for, after a pair
 abbrev pub ends_after : ℕ → Change → ℕ

@@ -1,17 +1,17 @@
 //! The end of a latch.
 ghost use Rattle.std.specs.Prelude.{◌≡◌, ◌<◌, ◌↔◌, [], IfOk, MatchResult, length, true};
 ghost use Rattle.am_core.specs.Standing.{IsSoundAt};
-ghost use Rattle.am_latch.specs.Receipts.{Kept, AreAll, NumberedBelow, AreKnown};
-ghost use Rattle.am_latch.specs.Ties.{OpenIs};
-ghost use Rattle.am_latch.specs.Changes.{active, numbers};
+ghost use Rattle.am_latch.specs.Receipts.{AreReceiptsOf, AreAll, NumberedBelow, HaveReceiptsIn};
+ghost use Rattle.am_latch.specs.Ties.{SeatsAreTied};
+ghost use Rattle.am_latch.specs.Changes.{active_in_trace, numbers_active};
 ghost use Rattle.am_serial.specs.Legal.{IsLegal};
-ghost use Rattle.am_latch.specs.Book.{IsKeeper, log_of};
+ghost use Rattle.am_latch.specs.Views.{IsTraceView, log_in_view};
 
-use crate::book::{Board, Token};
-use crate::held::Held;
 use crate::latch::Latch;
-use crate::naming::Naming;
+use crate::latch_name::LatchName;
 use crate::seat::Seat;
+use crate::state::LatchState;
+use crate::views::{Token, ViewTable};
 use am_btree::BTree;
 use am_core::Store;
 use am_record::{Reply, Step};
@@ -21,7 +21,7 @@ use std::sync::Mutex;
 /// What a latch leaves: the trace of its calls, the store where that trace leaves it, and the seats with
 /// their receipts.
 #[derive(Drop)]
-pub struct Closed<L: Naming> {
+pub struct Closed<L: LatchName> {
     pub trace: Vec<(Step, Reply)>,
     pub store: Store<BTree>,
     pub seats: Vec<Seat<L>>,
@@ -29,13 +29,13 @@ pub struct Closed<L: Naming> {
 
 /// What was handed to [`close`], where these aren't all seats of the latch.
 #[derive(Drop)]
-pub struct Missing<L: Naming> {
+pub struct Missing<L: LatchName> {
     pub latch: Latch<L>,
     pub seats: Vec<Seat<L>>,
 }
 
-// Each seat has the number of its place.
-fn in_order<L: Naming>(seats: &[Seat<L>]) -> bool
+// Each seat has the number of its place in the list.
+fn in_order<L: LatchName>(seats: &[Seat<L>]) -> bool
     ensures { (result ≡ true) ↔ NumberedBelow seats.now (length seats.now) }
 {
     for (number, seat) in seats.iter().enumerate() {
@@ -46,16 +46,16 @@ fn in_order<L: Naming>(seats: &[Seat<L>]) -> bool
     true
 }
 
-// Each seat has just the receipts that the book has of it.
-fn audit_all<L: Naming>(board: &Board, book: Token, seats: &mut [Seat<L>])
-    requires board { (board.now.shared.table_id ≡ L.table) × (0 < board.now.shared.table_id.words) }
-    requires book { (book.table_id ≡ L.table) × IsKeeper book.me.0 × (book.me.1 ≡ []) }
+// Each seat has just the receipts that stand in the trace.
+fn audit_all<L: LatchName>(table: &ViewTable, trace_token: Token, seats: &mut [Seat<L>])
+    requires table { (table.now.shared.table_id ≡ L.table) × (0 < table.now.shared.table_id.words) }
+    requires trace_token { (trace_token.table_id ≡ L.table) × IsTraceView trace_token.me.0 × (trace_token.me.1 ≡ []) }
     ensures same { seats.new ≡ seats.old }
-    ensures known { AreKnown (log_of book.me.0) seats.old (length seats.old) }
+    ensures known { HaveReceiptsIn (log_in_view trace_token.me.0) seats.old (length seats.old) }
 {
-    let mut book = book;
+    let mut trace_token = trace_token;
     for i in 0..seats.len() {
-        book = seats[i].audit(board, book);
+        trace_token = seats[i].audit(table, trace_token);
     }
 }
 
@@ -64,40 +64,40 @@ fn audit_all<L: Naming>(board: &Board, book: Token, seats: &mut [Seat<L>])
 ///
 /// # Errors
 /// Missing, with the latch and the seats as they were, where these aren't all seats of the latch.
-pub fn close<L: Naming>(latch: Latch<L>, seats: Vec<Seat<L>>) -> Result<Closed<L>, Missing<L>>
+pub fn close<L: LatchName>(latch: Latch<L>, seats: Vec<Seat<L>>) -> Result<Closed<L>, Missing<L>>
     ensures seats { MatchResult result (λ c. c.seats.items ≡ seats.items) (λ m. m.seats.items ≡ seats.items) }
     ensures all { MatchResult result (λ _. AreAll L.seats seats.items) (λ _. AreAll L.seats seats.items → ⊥) }
-    ensures kept { IfOk result (λ c. Kept c.seats.items c.trace.items) }
-    ensures open_txs { IfOk result (λ c. OpenIs c.seats.items (numbers c.store)) }
-    ensures active { IfOk result (λ c. numbers c.store ≡ active c.trace.items) }
+    ensures kept { IfOk result (λ c. AreReceiptsOf c.seats.items c.trace.items) }
+    ensures open_txs { IfOk result (λ c. SeatsAreTied c.seats.items (numbers_active c.store)) }
+    ensures active { IfOk result (λ c. numbers_active c.store ≡ active_in_trace c.trace.items) }
     ensures stands { IfOk result (λ c. IsSoundAt c.trace.items c.store) }
     ensures legal { IfOk result (λ c. IsLegal c.trace.items) }
 {
     am_serial::sound_traces_are_legal();
     let Latch {
-        held,
-        board,
+        state,
+        table,
         seats: count,
         of,
     } = latch;
     if seats.len() as u64 != count || !in_order(seats.as_slice()) {
         return Err(Missing {
             latch: Latch {
-                held,
-                board,
+                state,
+                table,
                 seats: count,
                 of,
             },
             seats,
         });
     }
-    let Held {
+    let LatchState {
         engine,
-        book,
+        trace_token,
         of: _,
-    } = held.into_inner();
+    } = state.into_inner();
     let mut seats = seats;
-    audit_all(&board, book.into_seat(), seats.as_mut_slice());
+    audit_all(&table, trace_token.into_seat(), seats.as_mut_slice());
     let (trace, store) = engine.into_parts();
     Ok(Closed {
         trace,

@@ -7,12 +7,13 @@ ghost use Rattle.am_record.specs.declared.step.Refusal.TheVariants.{SeatFull};
 ghost use Rattle.am_serial.specs.Trace.{Trace};
 ghost use Rattle.am_core.specs.Standing.{IsSoundAt};
 ghost use Rattle.am_sound.specs.Right.{IsSoundStore};
-ghost use Rattle.am_latch.specs.Changes.{active, numbers, end_of, is_begin, is_refused, is_stored, room_of};
-ghost use Rattle.am_latch.specs.Changes.{HasTrace, Goes, Answers, Bounded};
-ghost use Rattle.am_latch.specs.Traces.{Engined, fresh, Stepped, ends_after};
+ghost use Rattle.am_latch.specs.Changes.{active_in_trace, numbers_active, end_of, is_begin, is_refused, is_stored};
+ghost use Rattle.am_latch.specs.Changes.{room_of};
+ghost use Rattle.am_latch.specs.Changes.{HasTrace, TakesStep, MayFollow, IsBoundedReply};
+ghost use Rattle.am_latch.specs.Traces.{CallLog, empty_log, StoresCall, ends_after};
 
 use crate::change::{Change, change_by, starts_tx, tx_to_end, was_refused, was_stored};
-use crate::receipt::Maker;
+use crate::receipt::CallId;
 use crate::room::{Room, copy_reply, copy_step, rows_of};
 use am_btree::BTree;
 use am_core::Store;
@@ -25,7 +26,7 @@ use std::marker::Model;
 pub struct Engine {
     store: Store<BTree>,
     trace: Vec<(Step, Reply)>,
-    makers: Vec<Maker>,
+    calls: Vec<CallId>,
     /// For how many ends room is kept.
     ends: usize,
     alloc: Global,
@@ -33,18 +34,18 @@ pub struct Engine {
 
 impl Model for Engine {
     ghost use Rattle.std.specs.Prelude.{◌≡◌, ◌≤◌, ◌+◌, length, vec_len, vec_capacity};
-    ghost use Rattle.am_latch.specs.Changes.{active, HasTrace};
-    ghost use Rattle.am_latch.specs.Traces.{engined_code, Engined};
+    ghost use Rattle.am_latch.specs.Changes.{active_in_trace, HasTrace};
+    ghost use Rattle.am_latch.specs.Traces.{call_log_code, CallLog};
 
-    ghost Value = { Engined };
+    ghost Value = { CallLog };
 
-    ghost coded = { engined_code };
+    ghost coded = { call_log_code };
 
-    ghost view = { λ e. record { trace = e.trace.items; makers = e.makers.items } };
+    ghost view = { λ e. record { trace = e.trace.items; calls = e.calls.items } };
 
-    ghost invariant = { λ e. HasTrace e.trace.items e.store × (vec_len e.makers ≡ vec_len e.trace) ×
-        (length (active e.trace.items) ≤ e.ends) × (vec_len e.trace + e.ends ≤ vec_capacity e.trace) ×
-        (vec_len e.makers + e.ends ≤ vec_capacity e.makers) };
+    ghost invariant = { λ e. HasTrace e.trace.items e.store × (vec_len e.calls ≡ vec_len e.trace) ×
+        (length (active_in_trace e.trace.items) ≤ e.ends) × (vec_len e.trace + e.ends ≤ vec_capacity e.trace) ×
+        (vec_len e.calls + e.ends ≤ vec_capacity e.calls) };
 }
 
 impl Engine {
@@ -53,30 +54,30 @@ impl Engine {
     /// # Errors
     /// NoMemory, where memory was refused for the store.
     pub fn open(alloc: Global) -> Result<Engine, NoMemory>
-        ensures { IfOk result (λ e. e ≡ fresh) }
+        ensures { IfOk result (λ e. e ≡ empty_log) }
     {
         am_sound::steps_lift();
         let store = Store::open(alloc, BTree::new(alloc)?)?;
         Ok(Engine {
             store,
             trace: Vec::new(alloc),
-            makers: Vec::new(alloc),
+            calls: Vec::new(alloc),
             ends: 0,
             alloc,
         })
     }
 
-    /// Takes a step and stores it, with its reply and its maker; or answers NoMemory, and nothing
+    /// Takes a step and stores it, with its reply and its call; or answers NoMemory, and nothing
     /// changes. The end of an active transaction is never refused: its room is kept from its begin on.
     #[inline(never)]
-    pub fn step(&mut self, maker: Maker, step: Step) -> Reply
-        ensures stepped { Stepped self.old maker step result self.new }
+    pub fn step(&mut self, call_id: CallId, step: Step) -> Reply
+        ensures stepped { StoresCall self.old call_id step result self.new }
         ensures never_full { result ≢ Refused SeatFull }
-        ensures answers { Answers (active self.old.trace) step result }
-        ensures bounded { Bounded step result }
+        ensures answers { MayFollow (active_in_trace self.old.trace) step result }
+        ensures bounded { IsBoundedReply step result }
     {
         let more = pairs_for(&step);
-        let has_room = get_room(&mut self.trace, &mut self.makers, self.ends, more);
+        let has_room = get_room(&mut self.trace, &mut self.calls, self.ends, more);
         if !may_go_on(has_room, &step) {
             return Reply::Refused(Refusal::NoMemory);
         }
@@ -90,7 +91,7 @@ impl Engine {
         self.ends = count_ends(self.ends, change_by(&copy, &reply));
         self.trace
             .push_reserved((copy, copy_reply(self.alloc, &reply, rows)));
-        self.makers.push_reserved(maker);
+        self.calls.push_reserved(call_id);
         reply
     }
 
@@ -103,11 +104,11 @@ impl Engine {
     }
 
     /// Whose call each pair of the trace is.
-    pub fn makers(&self) -> &[Maker]
-        ensures makers { result.now ≡ self.now.makers }
+    pub fn calls(&self) -> &[CallId]
+        ensures calls { result.now ≡ self.now.calls }
         ensures each { length result.now ≡ length self.now.trace }
     {
-        self.makers.as_slice()
+        self.calls.as_slice()
     }
 
     /// The store, which is where the stored trace leaves it.
@@ -123,8 +124,8 @@ impl Engine {
     pub(crate) fn into_parts(self) -> (Vec<(Step, Reply)>, Store<BTree>)
         ensures trace { result.0.items ≡ self.trace }
         ensures stands { IsSoundAt self.trace result.1 }
-        ensures active { numbers result.1 ≡ active self.trace }
-        ensures even { length self.makers ≡ length self.trace }
+        ensures active { numbers_active result.1 ≡ active_in_trace self.trace }
+        ensures even { length self.calls ≡ length self.trace }
     {
         (self.trace, self.store)
     }
@@ -132,8 +133,8 @@ impl Engine {
 
 // Takes a step of the store, wherever it stands.
 fn take_step(store: &mut Store<BTree>, step: Step) -> Reply
-    ensures goes { (trace : Trace) → HasTrace trace store.old → Goes trace step result store.new }
-    ensures bounded { (trace : Trace) → HasTrace trace store.old → Bounded step result }
+    ensures goes { (trace : Trace) → HasTrace trace store.old → TakesStep trace step result store.new }
+    ensures bounded { (trace : Trace) → HasTrace trace store.old → IsBoundedReply step result }
 {
     am_sound::steps_lift();
     store.step(step)
@@ -184,22 +185,22 @@ pub(crate) fn copies_for(alloc: Global, step: &Step) -> Option<(Step, Room)>
 // Room for so many more than the ends that it is kept for.
 fn get_room(
     trace: &mut Vec<(Step, Reply)>,
-    makers: &mut Vec<Maker>,
+    calls: &mut Vec<CallId>,
     ends: usize,
     more: usize,
 ) -> bool
-    ensures same { (trace.new.items ≡ trace.old.items) × (makers.new.items ≡ makers.old.items) }
-    ensures long { (vec_len trace.new ≡ vec_len trace.old) × (vec_len makers.new ≡ vec_len makers.old) }
+    ensures same { (trace.new.items ≡ trace.old.items) × (calls.new.items ≡ calls.old.items) }
+    ensures long { (vec_len trace.new ≡ vec_len trace.old) × (vec_len calls.new ≡ vec_len calls.old) }
     ensures kept { (vec_capacity trace.old ≤ vec_capacity trace.new) ×
-        (vec_capacity makers.old ≤ vec_capacity makers.new) }
+        (vec_capacity calls.old ≤ vec_capacity calls.new) }
     ensures got { result ≡ true → (ends + more < 2 ^ 64) ×
         (vec_len trace.new + (ends + more) ≤ vec_capacity trace.new) ×
-        (vec_len makers.new + (ends + more) ≤ vec_capacity makers.new) }
+        (vec_len calls.new + (ends + more) ≤ vec_capacity calls.new) }
 {
     let Some(wanted) = ends.checked_add(more) else {
         return false;
     };
-    trace.reserve(wanted).is_ok() && makers.reserve(wanted).is_ok()
+    trace.reserve(wanted).is_ok() && calls.reserve(wanted).is_ok()
 }
 
 // For how many ends room is kept after that.

@@ -4,12 +4,12 @@ ghost use Rattle.am_latch.specs.Receipts.{numbered};
 ghost use Rattle.am_latch.specs.Faults.{IsBadSeats};
 ghost use Rattle.am_latch.specs.Ties.{IsEngineOf};
 
-use crate::book::{Board, Token};
 use crate::engine::Engine;
-use crate::entering::{deal, settle};
-use crate::held::Held;
-use crate::naming::Naming;
+use crate::latch_name::LatchName;
 use crate::seat::Seat;
+use crate::state::LatchState;
+use crate::view_steps::{end_minting, mint_seat};
+use crate::views::{Token, ViewTable};
 use std::alloc::Global;
 use std::marker::{Model, PhantomData};
 use std::sync::{Mutex, MutexGuard, Wait};
@@ -34,22 +34,22 @@ pub enum LatchFault {
 #[derive(Drop)]
 pub struct Blank {
     seats: u64,
-    board: Board,
-    book: Token,
+    table: ViewTable,
+    trace_token: Token,
     alloc: Global,
 }
 
 impl Model for Blank {
     ghost use Rattle.std.specs.Prelude.{◌≡◌, ◌<◌, []};
-    ghost use Rattle.am_latch.specs.Tables.{Named};
-    ghost use Rattle.am_latch.specs.Book.{dealer};
+    ghost use Rattle.am_latch.specs.Tables.{BlankParts};
+    ghost use Rattle.am_latch.specs.Views.{minting_view};
 
-    ghost Value = { Named };
+    ghost Value = { BlankParts };
 
-    ghost view = { λ b. record { table = b.board.shared.table_id; seats = b.seats } };
+    ghost view = { λ b. record { table = b.table.shared.table_id; seats = b.seats } };
 
-    ghost invariant = { λ b. (0 < b.seats) × (b.seats < 1025) × (0 < b.board.shared.table_id.words) ×
-        (b.book.table_id ≡ b.board.shared.table_id) × (b.book.me ≡ (dealer 0, [])) };
+    ghost invariant = { λ b. (0 < b.seats) × (b.seats < 1025) × (0 < b.table.shared.table_id.words) ×
+        (b.trace_token.table_id ≡ b.table.shared.table_id) × (b.trace_token.me ≡ (minting_view 0, [])) };
 }
 
 impl Blank {
@@ -64,13 +64,13 @@ impl Blank {
         if seats == 0 || seats > 1024 {
             return Err(LatchFault::BadSeats);
         }
-        let Ok((board, book)) = Board::of_words(alloc, &[0], &()) else {
+        let Ok((table, trace_token)) = ViewTable::of_words(alloc, &[0], &()) else {
             return Err(LatchFault::NoMemory);
         };
         Ok(Blank {
             seats,
-            board,
-            book,
+            table,
+            trace_token,
             alloc,
         })
     }
@@ -78,16 +78,16 @@ impl Blank {
 
 /// An engine that one thread at a time may step. Its seats are those of its type parameter.
 #[derive(Drop)]
-pub struct Latch<L: Naming> {
-    pub(crate) held: Mutex<Held<L>>,
-    pub(crate) board: Board,
+pub struct Latch<L: LatchName> {
+    pub(crate) state: Mutex<LatchState<L>>,
+    pub(crate) table: ViewTable,
     pub(crate) seats: u64,
     pub(crate) of: PhantomData<L>,
     ghost all: { seats ≡ L.seats },
-    ghost named: { (board.shared.table_id ≡ L.table) × (0 < board.shared.table_id.words) },
+    ghost named: { (table.shared.table_id ≡ L.table) × (0 < table.shared.table_id.words) },
 }
 
-impl<L: Naming> Latch<L> {
+impl<L: LatchName> Latch<L> {
     /// The latch over an empty store, and its seats by number, with no receipts.
     ///
     /// # Errors
@@ -99,8 +99,8 @@ impl<L: Naming> Latch<L> {
     {
         let Blank {
             seats: count,
-            board,
-            mut book,
+            table,
+            mut trace_token,
             alloc,
         } = blank;
         let Ok(engine) = Engine::open(alloc) else {
@@ -111,17 +111,17 @@ impl<L: Naming> Latch<L> {
             return Err(LatchFault::NoMemory);
         }
         for number in 0..count {
-            let token = deal(&board, &mut book, number);
+            let token = mint_seat(&table, &mut trace_token, number);
             if seats.push(Seat::new(alloc, number, token)).is_err() {
                 return Err(LatchFault::NoMemory);
             }
         }
-        settle(&board, &mut book, count);
-        let held = Held::new(engine, book);
+        end_minting(&table, &mut trace_token, count);
+        let state = LatchState::new(engine, trace_token);
         Ok((
             Latch {
-                held: Mutex::new(held),
-                board,
+                state: Mutex::new(state),
+                table,
                 seats: count,
                 of: PhantomData,
             },
@@ -132,14 +132,14 @@ impl<L: Naming> Latch<L> {
     /// Takes the lock. A call holds it for some microseconds, and a thread that sleeps is woken much later than that:
     /// among many threads each call would then wait for the next one to wake. So a thread lets others run first, and
     /// sleeps only where that doesn't help.
-    pub(crate) fn hold<R: Wait>(&self, rt: &R) -> MutexGuard<'_, Held<L>> {
+    pub(crate) fn lock<R: Wait>(&self, rt: &R) -> MutexGuard<'_, LatchState<L>> {
         for _ in 0..PATIENCE {
-            if let Some(held) = self.held.try_lock() {
-                return held;
+            if let Some(state) = self.state.try_lock() {
+                return state;
             }
             thread::yield_now();
         }
-        self.held.lock(rt)
+        self.state.lock(rt)
     }
 
     /// Lends the engine to the closure, which has the latch to itself meanwhile, and answers what it answers of that
@@ -148,7 +148,7 @@ impl<L: Naming> Latch<L> {
         requires { F.IsAlwaysCallable f }
         ensures { (engine : _) × IsEngineOf L.seats engine.now × F.post f engine result }
     {
-        let held = self.hold(rt);
-        f(&held.engine)
+        let state = self.lock(rt);
+        f(&state.engine)
     }
 }

@@ -1,6 +1,6 @@
 //! A store under one latch, whose calls stand in one trace, and seats that keep a receipt for each call.
 //!
-//! - [`Engine`]: a store with the trace of its calls, each with its [`Maker`].
+//! - [`Engine`]: a store with the trace of its calls, each with its [`CallId`].
 //! - [`Blank`], [`Latch`]: the engine under a lock, and its seats.
 //! - [`Seat`]: calls through the latch, with a [`Receipt`] for each; [`CommitReceipt`] says that a commit stands.
 //! - [`close`]: when the threads have ended, receipts and trace are the same.
@@ -9,22 +9,22 @@
 //! store's active transactions, and its end always finds its room.
 #![tactic(auto)]
 
-mod book;
 mod change;
 mod closing;
 mod engine;
-mod entering;
-mod held;
 mod latch;
-mod naming;
+mod latch_name;
 mod receipt;
 mod room;
 mod seat;
+mod state;
+mod view_steps;
+mod views;
 
 pub use change::was_refused;
 pub use closing::{Closed, Missing, close};
 pub use engine::Engine;
 pub use latch::{Blank, Latch, LatchFault};
-pub use naming::Naming;
-pub use receipt::{CommitReceipt, Maker, Receipt};
+pub use latch_name::LatchName;
+pub use receipt::{CallId, CommitReceipt, Receipt};
 pub use seat::Seat;

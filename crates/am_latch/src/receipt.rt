@@ -13,12 +13,12 @@ pub struct Receipt {
     pub call: u64,
     pub step: Step,
     pub reply: Reply,
-    pub place: u64,
+    pub position: u64,
 }
 
 /// Whose call a pair of the trace is.
 #[derive(Clone, Copy, Debug, PartialEq, Eq)]
-pub struct Maker {
+pub struct CallId {
     pub seat: u64,
     pub call: u64,
 }

@@ -1,7 +1,7 @@
 //! Copies of steps and replies, for which room is got before the step.
 
 ghost use Rattle.std.specs.Prelude.{◌≡◌, ◌≤◌, IfOk, IsOk, IsSome, [], length};
-ghost use Rattle.am_latch.specs.Changes.{end_of, room_of, rows_in};
+ghost use Rattle.am_latch.specs.Changes.{end_of, room_of, count_rows};
 
 use am_record::{Key, NoMemory, Op, Pairs, Reply, Step, Value};
 use std::alloc::Global;
@@ -80,7 +80,7 @@ pub(crate) fn copy_step(alloc: Global, step: &Step) -> Result<Step, NoMemory>
 
 /// The same reply, its rows in that room, or in less where memory is found for them: it is never refused.
 pub(crate) fn copy_reply(alloc: Global, reply: &Reply, room: Room) -> Reply
-    requires { rows_in reply.now ≤ room }
+    requires { count_rows reply.now ≤ room }
     ensures { result ≡ reply.now }
 {
     match reply {

@@ -4,22 +4,22 @@ ghost use Rattle.std.specs.Prelude.{vec_capacity};
 ghost use Rattle.am_record.specs.Sessions.{IsAllowed};
 ghost use Rattle.am_record.specs.declared.step.Reply.TheVariants.{Refused};
 ghost use Rattle.am_record.specs.declared.step.Refusal.TheVariants.{SeatFull};
-ghost use Rattle.am_latch.specs.Changes.{end_of, is_stored, opened};
-ghost use Rattle.am_latch.specs.Changes.{Bounded};
-ghost use Rattle.am_latch.specs.Receipts.{Seated, new_seat, Called, receipts_of, moved_in, last_commit_of};
-ghost use Rattle.am_latch.specs.Ties.{open_of, Ended, places};
-ghost use Rattle.am_latch.specs.Traces.{Stepped};
-ghost use Rattle.am_latch.specs.Book.{sitter, keeper, log_of, IsKeeper};
+ghost use Rattle.am_latch.specs.Changes.{end_of, is_stored, open_after};
+ghost use Rattle.am_latch.specs.Changes.{IsBoundedReply};
+ghost use Rattle.am_latch.specs.Receipts.{SeatState, new_seat, HasReceiptOf, receipts_of, moved_in, last_commit_of};
+ghost use Rattle.am_latch.specs.Ties.{open_of, EndsTx, receipts_needed};
+ghost use Rattle.am_latch.specs.Traces.{StoresCall};
+ghost use Rattle.am_latch.specs.Views.{seat_view, trace_view, log_in_view, IsTraceView};
 
-use crate::book::{Board, Token};
 use crate::change::{Change, change_by, commit_by, moved_by, tx_to_end, was_stored};
 use crate::engine::copies_for;
-use crate::entering::check;
-use crate::held::Held;
 use crate::latch::Latch;
-use crate::naming::Naming;
-use crate::receipt::{CommitReceipt, Maker, Receipt};
+use crate::latch_name::LatchName;
+use crate::receipt::{CallId, CommitReceipt, Receipt};
 use crate::room::copy_reply;
+use crate::state::LatchState;
+use crate::view_steps::compare_receipts;
+use crate::views::{Token, ViewTable};
 use am_record::{Refusal, Reply, Step};
 use std::alloc::Global;
 use std::marker::{Model, PhantomData};
@@ -29,7 +29,7 @@ const MOST_RECEIPTS: usize = 1_000_000;
 
 /// Makes calls through a latch, and has their receipts.
 #[derive(Drop)]
-pub struct Seat<L: Naming> {
+pub struct Seat<L: LatchName> {
     number: u64,
     receipts: Vec<Receipt>,
     open_now: Option<u64>,
@@ -40,27 +40,27 @@ pub struct Seat<L: Naming> {
     of: PhantomData<L>,
 }
 
-impl<L: Naming> Model for Seat<L> {
+impl<L: LatchName> Model for Seat<L> {
     ghost use Rattle.std.specs.Prelude.{◌≡◌, ◌<◌, ◌≤◌, ◌*◌, [], vec_len, vec_capacity};
-    ghost use Rattle.am_latch.specs.Receipts.{seated_code, Seated, seated, moved_in};
+    ghost use Rattle.am_latch.specs.Receipts.{seat_state_code, SeatState, seat_state, moved_in};
     ghost use Rattle.am_latch.specs.Ties.{open_of, HasRoom};
-    ghost use Rattle.am_latch.specs.Book.{sitter};
+    ghost use Rattle.am_latch.specs.Views.{seat_view};
 
-    ghost Value = { Seated };
+    ghost Value = { SeatState };
 
-    ghost coded = { seated_code };
+    ghost coded = { seat_state_code };
 
-    ghost view = { λ s. seated s.number s.receipts.items };
+    ghost view = { λ s. seat_state s.number s.receipts.items };
 
-    ghost invariant = { λ s. (s.token.table_id ≡ L.table) × (s.token.me ≡ (sitter s.number s.receipts.items, [])) ×
+    ghost invariant = { λ s. (s.token.table_id ≡ L.table) × (s.token.me ≡ (seat_view s.number s.receipts.items, [])) ×
         (s.number < L.seats) × (s.open_now ≡ open_of s.receipts.items) ×
         HasRoom s.open_now (vec_len s.receipts) (vec_capacity s.receipts) × (s.moved ≡ moved_in s.receipts.items) ×
         (s.moved ≤ 64 * vec_len s.receipts) };
 }
 
-impl<L: Naming> Seat<L> {
+impl<L: LatchName> Seat<L> {
     pub(crate) fn new(alloc: Global, number: u64, token: Token) -> Seat<L>
-        requires { (token.table_id ≡ L.table) × (token.me ≡ (sitter number [], [])) × (number < L.seats) }
+        requires { (token.table_id ≡ L.table) × (token.me ≡ (seat_view number [], [])) × (number < L.seats) }
         ensures { result ≡ new_seat number }
     {
         Seat {
@@ -121,83 +121,84 @@ impl<L: Naming> Seat<L> {
     #[inline(never)]
     pub fn call<R: Wait>(&mut self, rt: &R, latch: &Latch<L>, step: Step) -> Reply
         requires { IsAllowed (open_of self.old.receipts) step }
-        ensures called { Called self.old step result self.new }
+        ensures called { HasReceiptOf self.old step result self.new }
         ensures full { (result ≡ Refused SeatFull) ↔ ((1000000 ≤ length self.old.receipts) × (end_of step ≡ None)) }
-        ensures ended { Ended step result }
+        ensures ended { EndsTx step result }
         ensures neither { IsSome (end_of step) → is_stored result ≡ true }
-        ensures bounded { Bounded step result }
+        ensures bounded { IsBoundedReply step result }
     {
         if self.receipts.len() >= MOST_RECEIPTS && tx_to_end(&step).is_none() {
             return Reply::Refused(Refusal::SeatFull);
         }
-        self.call_under(&latch.board, &mut latch.hold(rt), step)
+        self.call_under(&latch.table, &mut latch.lock(rt), step)
     }
 
     // Takes a step under the latch.
-    fn call_under(&mut self, board: &Board, held: &mut Held<L>, step: Step) -> Reply
-        requires board { (board.now.shared.table_id ≡ L.table) × (0 < board.now.shared.table_id.words) }
+    fn call_under(&mut self, table: &ViewTable, state: &mut LatchState<L>, step: Step) -> Reply
+        requires table { (table.now.shared.table_id ≡ L.table) × (0 < table.now.shared.table_id.words) }
         requires may { IsAllowed (open_of self.old.receipts) step }
         requires room { end_of step ≡ None → length self.old.receipts < 1000000 }
-        ensures called { Called self.old step result self.new }
+        ensures called { HasReceiptOf self.old step result self.new }
         ensures never_full { result ≢ Refused SeatFull }
-        ensures ended { Ended step result }
-        ensures bounded { Bounded step result }
-        ensures stepped { Stepped held.old record { seat = self.old.number; call = length self.old.receipts } step
-            result held.new }
+        ensures ended { EndsTx step result }
+        ensures bounded { IsBoundedReply step result }
+        ensures stepped { StoresCall state.old record { seat = self.old.number; call = length self.old.receipts } step
+            result state.new }
     {
-        let places = places_for(self.open_now, &step);
-        if !get_places(&mut self.receipts, places) {
+        let receipts_needed = places_for(self.open_now, &step);
+        if !get_places(&mut self.receipts, receipts_needed) {
             return Reply::Refused(Refusal::NoMemory);
         }
         let Some((kept, rows)) = copies_for(self.alloc, &step) else {
             return Reply::Refused(Refusal::NoMemory);
         };
-        let maker = Maker {
+        let call_id = CallId {
             seat: self.number,
             call: self.receipts.len() as u64,
         };
-        let place = held.len() as u64;
-        let reply = held.call(board, &mut self.token, maker, step, &kept);
+        let position = state.len() as u64;
+        let reply = state.call(table, &mut self.token, call_id, step, &kept);
         if !was_stored(&reply) {
             return reply;
         }
         self.open_now = open_after(self.open_now, change_by(&kept, &reply));
         self.moved += moved_by(&reply);
         self.receipts.push_reserved(Receipt {
-            seat: maker.seat,
-            call: maker.call,
+            seat: call_id.seat,
+            call: call_id.call,
             step: kept,
             reply: copy_reply(self.alloc, &reply, rows),
-            place,
+            position,
         });
         reply
     }
 
-    /// The receipts are just those that the book has of this seat.
-    pub(crate) fn audit(&mut self, board: &Board, book: Token) -> Token
-        requires board { (board.now.shared.table_id ≡ L.table) × (0 < board.now.shared.table_id.words) }
-        requires book { (book.table_id ≡ L.table) × IsKeeper book.me.0 × (book.me.1 ≡ []) }
-        ensures same { (self.new ≡ self.old) × (result.table_id ≡ book.table_id) × (result.me ≡ book.me) }
-        ensures known { self.old.receipts ≡ receipts_of self.old.number (log_of book.me.0) }
+    /// The receipts are just those of this seat's calls in the trace.
+    pub(crate) fn audit(&mut self, table: &ViewTable, trace_token: Token) -> Token
+        requires table { (table.now.shared.table_id ≡ L.table) × (0 < table.now.shared.table_id.words) }
+        requires trace_token { (trace_token.table_id ≡ L.table) × IsTraceView trace_token.me.0 ×
+            (trace_token.me.1 ≡ []) }
+        ensures same { (self.new ≡ self.old) × (result.table_id ≡ trace_token.table_id) × (result.me ≡ trace_token.me) }
+        ensures known { self.old.receipts ≡ receipts_of self.old.number (log_in_view trace_token.me.0) }
     {
-        check(board, &mut self.token, book)
+        compare_receipts(table, &mut self.token, trace_token)
     }
 }
 
 // Room for so many receipts more.
-fn get_places(receipts: &mut Vec<Receipt>, places: usize) -> bool
+fn get_places(receipts: &mut Vec<Receipt>, receipts_needed: usize) -> bool
     ensures same { receipts.new.items ≡ receipts.old.items }
     ensures long { vec_len receipts.new ≡ vec_len receipts.old }
     ensures kept { vec_capacity receipts.old ≤ vec_capacity receipts.new }
-    ensures got { result ≡ true → vec_len receipts.new + places ≤ vec_capacity receipts.new }
-    ensures there { vec_len receipts.old + places ≤ vec_capacity receipts.old → result ≡ true }
+    ensures got { result ≡ true → vec_len receipts.new + receipts_needed ≤ vec_capacity receipts.new }
+    ensures there { vec_len receipts.old + receipts_needed ≤ vec_capacity receipts.old → result ≡ true }
 {
-    receipts.reserve(places).is_ok()
+    receipts.reserve(receipts_needed).is_ok()
 }
 
 // How many receipts need room: that of the end of an open transaction too.
 fn places_for(before: Option<u64>, step: &Step) -> usize
-    ensures { result ≡ places before step.now }
+    ensures { result ≡ receipts_needed before step.now }
 {
     match step {
         Step::Begin => 2,
@@ -210,7 +211,7 @@ fn places_for(before: Option<u64>, step: &Step) -> usize
 
 // The open transaction after that.
 fn open_after(before: Option<u64>, change: Change) -> Option<u64>
-    ensures { result ≡ opened before change }
+    ensures { result ≡ open_after before change }
 {
     match change {
         Change::Begins(t) => Some(t),

@@ -1,4 +1,4 @@
--- The first ghost of a leaf, by its word of marks.
+-- The first ghost of a leaf, by its word of bits.
 use Rattle.std.proofs.Common.{◌≡◌, ℕ, zero, suc, ◌<◌, ◌≤◌, Bool, true, false, List, [], ◌∷◌, length, get_or, drop, Some, None, sym, ap, ◌∙◌, arith}
 use Rattle.std.proofs.lemmas.Bool.{cond-true, cond-false}
 use Rattle.am_record.specs.declared.entry.Entry.{Entry}
@@ -7,8 +7,8 @@ use Rattle.am_list.proofs.Lists.{first_such_none}
 use Rattle.am_list.proofs.Searches.{all_drop}
 use Rattle.am_leaf.specs.declared.leaf.RawLeaf.TheInside.{Inside}
 use Rattle.am_leaf.specs.Leaf.{entries, IsLeaf}
-use Rattle.am_leaf.specs.Marks.{mark, IsNextMark}
-use Rattle.am_leaf.proofs.MarkLemmas.{mark_within}
+use Rattle.am_leaf.specs.Bits.{has_bit, IsNextBit}
+use Rattle.am_leaf.proofs.BitLemmas.{bit_within}
 use Rattle.am_leaf.proofs.Zips.{entries_of-at}
 use Rattle.am_leaf.proofs.Leaves.{alike, counted}
 
@@ -26,19 +26,19 @@ module _ (a : Inside) (held : IsLeaf a) (es : List Entry) (seen : entries a ≡ 
   many : length es ≡ a.len
   many = counted a held es seen
 
-  mark_of : (k : ℕ) (d : Entry) → k < length es → (get_or es k d).is_ghost ≡ mark a.marks k
-  mark_of k d lt =
+  bit_of : (k : ℕ) (d : Entry) → k < length es → (get_or es k d).is_ghost ≡ has_bit a.ghosts k
+  bit_of k d lt =
       ap (λ l. (get_or l k d).is_ghost) (sym seen)
-      ∙ ap (λ (e : Entry). e.is_ghost) (entries_of-at a.places a.values a.marks k (d.part, d.key) d.value d (alike a held) (omega (arith, held.places, many)))
+      ∙ ap (λ (e : Entry). e.is_ghost) (entries_of-at a.places a.values a.ghosts k (d.part, d.key) d.value d (alike a held) (omega (arith, held.places, many)))
 
-  pub no_ghost : (from : ℕ) → ((k : ℕ) → from ≤ k → mark a.marks k ≡ false) → first_such (λ e. e.is_ghost) (drop from es) ≡ None
-  no_ghost from none = first_such_none (λ e. e.is_ghost) (drop from es) (all_drop (λ e. e.is_ghost ≡ false) es from (λ k d le lt. mark_of k d lt ∙ none k le))
+  pub no_ghost : (from : ℕ) → ((k : ℕ) → from ≤ k → has_bit a.ghosts k ≡ false) → first_such (λ e. e.is_ghost) (drop from es) ≡ None
+  no_ghost from none = first_such_none (λ e. e.is_ghost) (drop from es) (all_drop (λ e. e.is_ghost ≡ false) es from (λ k d le lt. bit_of k d lt ∙ none k le))
 
-  pub ghost_within : (from i : ℕ) → IsNextMark a.marks from i → i < length es
-  ghost_within from i next = let within = mark_within a.marks a.len i held.marks next.marked in omega (arith, within, many)
+  pub ghost_within : (from i : ℕ) → IsNextBit a.ghosts from i → i < length es
+  ghost_within from i next = let within = bit_within a.ghosts a.len i held.ghosts next.is_set in omega (arith, within, many)
 
-  pub ghost_is : (from i : ℕ) (e : Entry) → IsNextMark a.marks from i → e ≡ get_or es i e → Some e ≡ first_such (λ e. e.is_ghost) (drop from es)
+  pub ghost_is : (from i : ℕ) (e : Entry) → IsNextBit a.ghosts from i → e ≡ get_or es i e → Some e ≡ first_such (λ e. e.is_ghost) (drop from es)
   ghost_is from i e next here =
       let within : i < length es = ghost_within from i next in
       ap (λ (x : Entry). Some x) here
-      ∙ sym (first_at (λ x. x.is_ghost) es from i e next.reached within (mark_of i e within ∙ next.marked) (λ k le lt. mark_of k e (omega (arith, lt, within)) ∙ next.none_before k le lt))
+      ∙ sym (first_at (λ x. x.is_ghost) es from i e next.reached within (bit_of i e within ∙ next.is_set) (λ k le lt. bit_of k e (omega (arith, lt, within)) ∙ next.none_before k le lt))

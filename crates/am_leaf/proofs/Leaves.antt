@@ -4,7 +4,7 @@ use Rattle.std.proofs.lemmas.List.{nil_from_length}
 use Rattle.am_record.specs.declared.entry.Entry.{Entry}
 use Rattle.am_leaf.specs.declared.leaf.RawLeaf.TheInside.{Inside}
 use Rattle.am_leaf.specs.Leaf.{entries, IsLeaf}
-use Rattle.am_leaf.proofs.MarkLemmas.{pow_mono}
+use Rattle.am_leaf.proofs.BitLemmas.{pow_mono}
 use Rattle.am_leaf.proofs.Zips.{length-entries_of}
 
 module _ (a : Inside) (held : IsLeaf a) where
@@ -12,11 +12,11 @@ module _ (a : Inside) (held : IsLeaf a) where
   alike = held.places ∙ sym held.values
 
   pub counted : (es : List Entry) → entries a ≡ es → length es ≡ a.len
-  counted es seen = sym (ap length seen) ∙ length-entries_of a.places a.values a.marks alike ∙ held.places
+  counted es seen = sym (ap length seen) ∙ length-entries_of a.places a.values a.ghosts alike ∙ held.places
 
   -- the highest bit is free
-  pub room_in_marks : a.len < 32 → a.marks < 2 ^ 31
-  room_in_marks room = let up = pow_mono a.len 31 (omega arith) in omega (arith, held.marks)
+  pub room_in_ghosts : a.len < 32 → a.ghosts < 2 ^ 31
+  room_in_ghosts room = let up = pow_mono a.len 31 (omega arith) in omega (arith, held.ghosts)
 
   -- a leaf with no entries has nil_from_length in its blocks
   pub no_places : entries a ≡ [] → a.places ≡ []

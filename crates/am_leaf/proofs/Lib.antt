@@ -3,7 +3,7 @@ pub mod Filling
 pub mod Ghosts
 pub mod Heap
 pub mod Leaves
-pub mod MarkLemmas
+pub mod BitLemmas
 pub mod Memory
 pub mod Moves
 pub mod Rising

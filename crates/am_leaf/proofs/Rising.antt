@@ -38,7 +38,7 @@ all_set e [] i v b a = tt
 all_set e (f ∷ es) zero v b a = a
 all_set e (f ∷ es) (suc i) v b a = (a.0, all_set e es i v b a.1)
 
--- value and mark say nothing of the order
+-- value and ghost bit say nothing of the order
 pub rising-set_at : (es : List Entry) (i : ℕ) (v : List ℕ) (b : Bool) → IsRising es → IsRising (set_at es i v b)
 rising-set_at [] i v b r = tt
 rising-set_at (e ∷ es) zero v b r = r

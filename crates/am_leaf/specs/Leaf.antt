@@ -4,22 +4,22 @@ use Rattle.am_record.specs.declared.entry.Entry.{Entry}
 use Rattle.am_record.specs.EntryOrder.{Place}
 use Rattle.am_list.specs.Entries.{IsRising}
 use Rattle.am_leaf.specs.declared.leaf.RawLeaf.TheInside.{Inside}
-use Rattle.am_leaf.specs.Marks.{mark}
+use Rattle.am_leaf.specs.Bits.{has_bit}
 
--- places, values and marks, one by one
+-- places, values and bits, one by one
 abbrev pub entries_of : List Place → List (List ℕ) → ℕ → List Entry
 entries_of [] vs m = []
 entries_of (p ∷ ps) [] m = []
-entries_of (p ∷ ps) (v ∷ vs) m = record { part = p.0; key = p.1; value = v; is_ghost = mark m 0 } ∷
+entries_of (p ∷ ps) (v ∷ vs) m = record { part = p.0; key = p.1; value = v; is_ghost = has_bit m 0 } ∷
     entries_of ps vs (m / 2)
 
 abbrev pub entries : Inside → List Entry
-entries a = entries_of a.places a.values a.marks
+entries a = entries_of a.places a.values a.ghosts
 
--- as many places as values stand in the two blocks, a mark stands only at these, and the entries rise
+-- as many places as values stand in the two blocks, a bit is set only at these, and the entries rise
 pub record IsLeaf (a : Inside) : Type 0 where
   pub places : length a.places ≡ a.len
   pub values : length a.values ≡ a.len
   pub most : a.len ≤ 32
-  pub marks : a.marks < 2 ^ a.len
+  pub ghosts : a.ghosts < 2 ^ a.len
   pub rising : IsRising (entries a)

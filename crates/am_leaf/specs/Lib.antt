@@ -1,4 +1,4 @@
 pub mod Blocks
 pub mod Changes
 pub mod Leaf
-pub mod Marks
+pub mod Bits

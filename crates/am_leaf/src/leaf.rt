@@ -9,8 +9,8 @@ ghost use Rattle.am_list.specs.Places.{IsPlaceOf, IsGapFor};
 ghost use Rattle.am_list.specs.Runs.{run_entries};
 ghost use Rattle.am_leaf.specs.Changes.{set_at};
 
+use crate::bits::{change_bit, has_bit, insert_bit, next_bit, remove_bit, split_bits};
 use crate::block::Block;
-use crate::marks::{change_mark, insert_mark, mark_at, next_mark, remove_mark, split_marks};
 use am_record::{Entry, Key, NoMemory, Value};
 use std::alloc::Global;
 use std::cmp::Ordering;
@@ -18,13 +18,13 @@ use std::marker::Model;
 
 /// A leaf of a B-tree: at most 32 entries that rise by partition and then by key. The places of
 /// the entries lie side by side, apart from their values, so that a search reads no value. The
-/// marks of the ghosts are the bits of one word.
+/// bits that say which are ghosts are those of one word.
 #[derive(Drop)]
 pub struct RawLeaf {
     places: Block<(u32, Key)>,
     values: Block<Value>,
     len: usize,
-    marks: u32,
+    ghosts: u32,
 }
 
 impl Model for RawLeaf {
@@ -54,7 +54,7 @@ impl RawLeaf {
             places: Block::new(alloc)?,
             values: Block::new(alloc)?,
             len: 0,
-            marks: 0,
+            ghosts: 0,
         })
     }
 
@@ -78,16 +78,16 @@ impl RawLeaf {
             part,
             key,
             value: *self.values.get(at),
-            is_ghost: mark_at(self.marks, at),
+            is_ghost: has_bit(self.ghosts, at),
         }
     }
 
-    /// The first ghost from the index on. The word of marks says where it is, so that no other entry is looked at.
+    /// The first ghost from the index on. The word of bits says where it is, so that no other entry is looked at.
     pub fn ghost_from(&self, at: usize) -> Option<Entry>
         requires { at ≤ length self.now }
         ensures { result ≡ first_such (λ e. e.is_ghost) (drop at self.now) }
     {
-        let next = next_mark(self.marks, at)?;
+        let next = next_bit(self.ghosts, at)?;
         Some(self.get(next))
     }
 
@@ -123,7 +123,7 @@ impl RawLeaf {
 
     /// Inserts an entry at the index; those from there on move up by one. The caller sees to it
     /// that there is room, and that the entry's place goes there.
-    #[tactic(auto, using(crate::proofs::Leaves::counted, crate::proofs::Leaves::room_in_marks))]
+    #[tactic(auto, using(crate::proofs::Leaves::counted, crate::proofs::Leaves::room_in_ghosts))]
     pub fn insert_at(&mut self, at: usize, entry: Entry)
         requires room { length self.old < 32 }
         requires place { IsGapFor self.old entry.part entry.key at }
@@ -131,7 +131,7 @@ impl RawLeaf {
     {
         self.places.insert(self.len, at, (entry.part, entry.key));
         self.values.insert(self.len, at, entry.value);
-        self.marks = insert_mark(self.marks, at, entry.is_ghost);
+        self.ghosts = insert_bit(self.ghosts, at, entry.is_ghost);
         self.len += 1;
     }
 
@@ -156,14 +156,14 @@ impl RawLeaf {
         }
     }
 
-    /// Writes over the value and the mark of the entry at the index.
+    /// Writes over the value of the entry at the index, and whether it is a ghost.
     #[tactic(auto, using(crate::proofs::Leaves::counted))]
     pub fn set_at(&mut self, at: usize, value: Value, is_ghost: bool)
         requires { at < length self.old }
         ensures { self.new ≡ set_at self.old at value is_ghost }
     {
         self.values.set(at, value);
-        self.marks = change_mark(self.marks, at, is_ghost);
+        self.ghosts = change_bit(self.ghosts, at, is_ghost);
     }
 
     /// Takes the entry at the index out; those above it move down by one.
@@ -173,10 +173,10 @@ impl RawLeaf {
         ensures entry { result ≡ slice_index_or self.old at result }
         ensures others { self.new ≡ remove self.old at }
     {
-        let is_ghost = mark_at(self.marks, at);
+        let is_ghost = has_bit(self.ghosts, at);
         let (part, key) = self.places.remove(self.len, at);
         let value = self.values.remove(self.len, at);
-        self.marks = remove_mark(self.marks, at);
+        self.ghosts = remove_bit(self.ghosts, at);
         self.len -= 1;
         Entry {
             part,
@@ -196,7 +196,7 @@ impl RawLeaf {
     {
         self.places.split_into(self.len, &mut other.places, at);
         self.values.split_into(self.len, &mut other.values, at);
-        (self.marks, other.marks) = split_marks(self.marks, at);
+        (self.ghosts, other.ghosts) = split_bits(self.ghosts, at);
         other.len = self.len - at;
         self.len = at;
     }

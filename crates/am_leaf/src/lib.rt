@@ -1,9 +1,9 @@
 //! Leaves of a B-tree over raw memory.
 #![tactic(auto)]
 
+mod bits;
 mod block;
 mod leaf;
-mod marks;
 #[cfg(test)]
 mod tests;
 

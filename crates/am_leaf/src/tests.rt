@@ -15,7 +15,7 @@ fn entry(number: u64) -> Entry {
     }
 }
 
-// The place of one number with the value and mark of another.
+// The place of one number with the value and ghost bit of another.
 fn entry_like(number: u64, like: u64) -> Entry {
     let like = entry(like);
     Entry {
@@ -76,7 +76,7 @@ fn ghost_from(leaf: &RawLeaf, at: usize) -> Option<Entry> {
     leaf.ghost_from(at)
 }
 
-// Gives the entry at the index the value and mark of another.
+// Gives the entry at the index the value and ghost bit of another.
 fn set(leaf: &mut RawLeaf, at: usize, like: Entry) {
     if at < leaf.len() {
         leaf.set_at(at, like.value, like.is_ghost);
@@ -102,7 +102,7 @@ fn an_empty_leaf_finds_nothing(rt: HostRuntime) -> Result<(), Fail> {
 }
 
 #[test]
-fn marks_move_with_their_slots(rt: HostRuntime) -> Result<(), Fail> {
+fn ghosts_move_with_their_slots(rt: HostRuntime) -> Result<(), Fail> {
     let mut leaf = full(rt.alloc())?;
     assert!(rt; holds(&leaf, 0, 32));
     assert!(rt; leaf.find(0, Key::of_u64(9)) == Ok(9));
@@ -121,7 +121,7 @@ fn marks_move_with_their_slots(rt: HostRuntime) -> Result<(), Fail> {
 }
 
 #[test]
-fn an_entry_gets_its_value_and_mark(rt: HostRuntime) -> Result<(), Fail> {
+fn an_entry_gets_its_value_and_bit(rt: HostRuntime) -> Result<(), Fail> {
     let mut leaf = full(rt.alloc())?;
     set(&mut leaf, 9, entry(4));
     assert!(rt; get(&leaf, 9) == Some(entry_like(9, 4)));

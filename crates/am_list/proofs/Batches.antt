@@ -119,9 +119,6 @@ module _ (part : ℕ) (key : OrderedKey) where
       (AllByRecursion-map (λ e. against e ≢ Greater) (λ e. is_gt (against e) ≡ false) (λ e h. not_greater (against e) h) (take i es) bound.others)
       (AllByRecursion-map (λ e. against e ≡ Greater) (λ e. is_gt (against e) ≡ true) (λ e h. ap is_gt h) (drop i es) bound.above) (none_below (drop i es) bound.above) rising
 
-  pub all_from_front : (ys : List Entry) → IsRising ys → NoneBelow (part, key) ys → take_while (λ e. eqb e.part part) ys ≡ all_from ys part key
-  all_from_front ys rising from = all_reached_front part key is_ge ys rising (AllByRecursion-map (λ e. against e ≢ Less) (λ e. is_ge (against e) ≡ true) (λ e h. not_less (against e) h) ys from) from
-
   pub all_from_at : (es : List Entry) (i : ℕ) → IsLowerBound es part key i → IsRising es → take_while (λ e. eqb e.part part) (drop i es) ≡ all_from es part key
   all_from_at es i bound rising =
       all_reached_at part key is_ge es i

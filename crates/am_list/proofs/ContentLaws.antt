@@ -29,21 +29,6 @@ get_inserted m k v = get-insert key_cmp-total m k v k ∙ cond-true (eq_by_cmp k
 pub get_removed : (m : PlainMap) (k : OrderedKey) → get (remove m k) k ≡ None
 get_removed m k = get-remove key_cmp-total m k k ∙ cond-true (eq_by_cmp key_cmp k k) None (get m k) (key_eq-itself k)
 
--- a key that is set to the value that it has
-pub insert_again : (m : PlainMap) (k : OrderedKey) (v : List ℕ) → get m k ≡ Some v → insert m k v ≡ m
-insert_again m k v h = same_map key_cmp-total key_cmp-exact (insert m k v) m (λ q.
-    ⊎_elim
-    (λ tie. subst (λ x. get (insert m k v) x ≡ get m x) (sym (key_eq-exact q k tie)) (get_inserted m k v ∙ sym h))
-    (λ apart. get_beside_inserted m k v q apart)
-    (cases_Bool (eq_by_cmp key_cmp q k)))
-
-pub remove_absent : (m : PlainMap) (k : OrderedKey) → get m k ≡ None → remove m k ≡ m
-remove_absent m k h = same_map key_cmp-total key_cmp-exact (remove m k) m (λ q.
-    ⊎_elim
-    (λ tie. subst (λ x. get (remove m k) x ≡ get m x) (sym (key_eq-exact q k tie)) (get_removed m k ∙ sym h))
-    (λ apart. get_beside_removed m k q apart)
-    (cases_Bool (eq_by_cmp key_cmp q k)))
-
 -- ---- lists with one place changed
 
 module _ {es es' : List Entry} {m : PlainMap} (part : ℕ) (key : OrderedKey) (slot : Option Slot) (rising : IsRising es') (h : HasContent es m) (change : IsChangedAt es es' part key slot) where

@@ -1,3 +1,3 @@
 pub mod Crosses
-pub mod Sessions
-pub mod Sitting
+pub mod ServedSessions
+pub mod Seatings

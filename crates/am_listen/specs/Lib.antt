@@ -1,1 +1,1 @@
-pub mod Hosting
+pub mod ServerRuns

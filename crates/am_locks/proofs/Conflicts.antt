@@ -7,7 +7,7 @@ use Rattle.am_record.specs.Locks.{conflicts, is_exclusive, are_compatible}
 use Rattle.am_record.specs.declared.lock.Mode.{Mode}
 use Rattle.am_record.specs.declared.lock.Mode.TheVariants.{Shared, Exclusive}
 use Rattle.am_record.specs.declared.lock.Lock.{Lock}
-use Rattle.am_locks.specs.Held.{NoConflicts}
+use Rattle.am_locks.specs.OwnerLocks.{NoConflicts}
 
 are_compatible-comm : (a b : Mode) → are_compatible a b ≡ are_compatible b a
 are_compatible-comm Shared Shared = refl

@@ -2,14 +2,14 @@
 use Rattle.std.proofs.Common.{◌≡◌, ℕ, ◌≤◌, List, [], ◌∷◌, map, Bool, true, false, cond, refl, ap, Option, Some, None, All, arith}
 use Rattle.std.specs.Option.{option_to_list}
 use Rattle.std.proofs.lemmas.List.Elements.{All-nil, All-head, All-contains}
-use Rattle.am_locks.specs.Held.{Held}
+use Rattle.am_locks.specs.OwnerLocks.{OwnerLocks}
 use Rattle.am_locks.specs.Answers.{IsLeastOf}
 
 abbrev pub first_of : List ℕ → Option ℕ
 first_of [] = None
 first_of (n ∷ ns) = Some n
 
-pub one_first : (b : Bool) (h : Held) (rest : List Held) → first_of (map (λ (h : Held). h.owner) (cond b (h ∷ rest) rest)) ≡ cond b (Some h.owner) (first_of (map (λ (h : Held). h.owner) rest))
+pub one_first : (b : Bool) (h : OwnerLocks) (rest : List OwnerLocks) → first_of (map (λ (h : OwnerLocks). h.owner) (cond b (h ∷ rest) rest)) ≡ cond b (Some h.owner) (first_of (map (λ (h : OwnerLocks). h.owner) rest))
 one_first true h rest = refl
 one_first false h rest = refl
 

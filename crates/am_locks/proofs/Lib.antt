@@ -1,7 +1,7 @@
 pub mod Spans
 pub mod Puts
 pub mod FirstLocks
-pub mod Marking
+pub mod Filtering
 pub mod Conflicts
 pub mod Apart
 pub mod Places

@@ -7,33 +7,33 @@ use Rattle.std.proofs.lemmas.List.Quantifiers.{position-Some}
 use Rattle.std.proofs.lemmas.List.Elements.{All-head, All-tail}
 use Rattle.std.proofs.lemmas.Bool.{ne_eqb, eqb-true}
 use Rattle.am_record.specs.declared.lock.Lock.{Lock}
-use Rattle.am_locks.specs.Held.{Held}
-use Rattle.am_locks.specs.Table.{locks_of, relocked, with_locks, AreAllApart}
+use Rattle.am_locks.specs.OwnerLocks.{OwnerLocks}
+use Rattle.am_locks.specs.Table.{locks_owned, relocked, with_locks, AreAllApart}
 
-pub entry_at : (table : List Held) (i : ℕ) (d : Held) (tx : ℕ) → AreAllApart table → i < length table → (get_or table i d).owner ≡ tx → get_or table i d ≡ record { owner = tx; locks = locks_of table tx }
+pub entry_at : (table : List OwnerLocks) (i : ℕ) (d : OwnerLocks) (tx : ℕ) → AreAllApart table → i < length table → (get_or table i d).owner ≡ tx → get_or table i d ≡ record { owner = tx; locks = locks_owned table tx }
 entry_at [] i d tx a b e = absurd (omega (arith, b))
 entry_at (x ∷ table) zero d tx a b e =
     let first : x ≡ record { owner = tx; locks = x.locks } = λ i. record { owner = e i; locks = x.locks } in
-    first ∙ ap (λ t. let h : Held = record { owner = tx; locks = cond t x.locks (locks_of table tx) } in h) (sym (eq-eqb x.owner tx e))
+    first ∙ ap (λ t. let h : OwnerLocks = record { owner = tx; locks = cond t x.locks (locks_owned table tx) } in h) (sym (eq-eqb x.owner tx e))
 entry_at (x ∷ table) (suc i) d tx a b e =
     let here : i < length table = omega (arith, b) in
     let other : (x.owner == tx) ≡ false = ne_eqb x.owner tx (λ p. (a.0 i d here).numbers (p ∙ sym e)) in
-    entry_at table i d tx a.1 here e ∙ ap (λ t. let h : Held = record { owner = tx; locks = cond t x.locks (locks_of table tx) } in h) (sym other)
+    entry_at table i d tx a.1 here e ∙ ap (λ t. let h : OwnerLocks = record { owner = tx; locks = cond t x.locks (locks_owned table tx) } in h) (sym other)
 
-kept : (x : Held) (tx : ℕ) (locks : List Lock) → x.owner ≢ tx → relocked tx locks x ≡ x
+kept : (x : OwnerLocks) (tx : ℕ) (locks : List Lock) → x.owner ≢ tx → relocked tx locks x ≡ x
 kept x tx locks n = ap (λ t. cond t (record { owner = x.owner; locks = locks }) x) (ne_eqb x.owner tx n)
 
-all_kept : (table : List Held) (tx : ℕ) (locks : List Lock) → All (λ h. h.owner ≢ tx) table → with_locks table tx locks ≡ table
+all_kept : (table : List OwnerLocks) (tx : ℕ) (locks : List Lock) → All (λ h. h.owner ≢ tx) table → with_locks table tx locks ≡ table
 all_kept [] tx locks a = refl
 all_kept (x ∷ table) tx locks a =
     let first = kept x tx locks (All-head (λ h. h.owner ≢ tx) x table a) in
     let rest = all_kept table tx locks (All-tail (λ h. h.owner ≢ tx) x table a) in
     λ i. first i ∷ rest i
 
-pub set-with_locks : (table : List Held) (i : ℕ) (d : Held) (tx : ℕ) (locks : List Lock) → AreAllApart table → i < length table → (get_or table i d).owner ≡ tx → set table i (record { owner = tx; locks = locks }) ≡ with_locks table tx locks
+pub set-with_locks : (table : List OwnerLocks) (i : ℕ) (d : OwnerLocks) (tx : ℕ) (locks : List Lock) → AreAllApart table → i < length table → (get_or table i d).owner ≡ tx → set table i (record { owner = tx; locks = locks }) ≡ with_locks table tx locks
 set-with_locks [] i d tx locks a b e = absurd (omega (arith, b))
 set-with_locks (x ∷ table) zero d tx locks a b e =
-    let first : record { owner = tx; locks = locks } ≡ relocked tx locks x = sym (ap (λ t. cond t (record { owner = x.owner; locks = locks }) x) (eq-eqb x.owner tx e) ∙ ap (λ n. let h : Held = record { owner = n; locks = locks } in h) e) in
+    let first : record { owner = tx; locks = locks } ≡ relocked tx locks x = sym (ap (λ t. cond t (record { owner = x.owner; locks = locks }) x) (eq-eqb x.owner tx e) ∙ ap (λ n. let h : OwnerLocks = record { owner = n; locks = locks } in h) e) in
     let rest = sym (all_kept table tx locks (λ k c l p. (a.0 k c l).numbers (e ∙ sym p))) in
     λ i. first i ∷ rest i
 set-with_locks (x ∷ table) (suc i) d tx locks a b e =
@@ -55,13 +55,13 @@ pub position-found : {X : Type 0} (p : X → Bool) (xs : List X) → list_any p 
 position-found p xs e = rw (lt-ltb _ _ (some_first p xs e)) refl
 
 -- the owner found is the transaction
-pub position-owner : (table : List Held) (i tx : ℕ) (d : Held) → position (λ (h : Held). h.owner == tx) table ≡ Some i → (i < length table) × ((get_or table i d).owner ≡ tx)
+pub position-owner : (table : List OwnerLocks) (i tx : ℕ) (d : OwnerLocks) → position (λ (h : OwnerLocks). h.owner == tx) table ≡ Some i → (i < length table) × ((get_or table i d).owner ≡ tx)
 position-owner table i tx d e =
-    let found = position-Some (λ (h : Held). h.owner == tx) table i d e in
+    let found = position-Some (λ (h : OwnerLocks). h.owner == tx) table i d e in
     (found.0, eqb-true _ tx found.1)
 
 -- what a write through the lent owners leaves
-pub written : (items now lent : List Held) (place tx : ℕ) (locks : List Lock) (new : Held) → items ≡ now → lent ≡ items → new ≡ record { owner = tx; locks = locks }
-    → set now place (record { owner = tx; locks = locks }) ≡ with_locks now tx locks → refill (length items) items (set lent place new) ≡ with_locks now tx locks
-written items now lent place tx locks new e f g h =
-    take_at (set lent place new) (drop (length (set lent place new)) items) (length items) (length-set lent place new ∙ ap length f) ∙ (λ i. set ((f ∙ e) i) place (g i)) ∙ h
+pub written : (items now lent : List OwnerLocks) (slot tx : ℕ) (locks : List Lock) (new : OwnerLocks) → items ≡ now → lent ≡ items → new ≡ record { owner = tx; locks = locks }
+    → set now slot (record { owner = tx; locks = locks }) ≡ with_locks now tx locks → refill (length items) items (set lent slot new) ≡ with_locks now tx locks
+written items now lent slot tx locks new e f g h =
+    take_at (set lent slot new) (drop (length (set lent slot new)) items) (length items) (length-set lent slot new ∙ ap length f) ∙ (λ i. set ((f ∙ e) i) slot (g i)) ∙ h

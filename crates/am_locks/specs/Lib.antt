@@ -1,5 +1,5 @@
-pub mod Held
+pub mod OwnerLocks
 pub mod Fronts
-pub mod Marks
+pub mod KeyFilter
 pub mod Table
 pub mod Answers

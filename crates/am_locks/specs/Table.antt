@@ -3,41 +3,41 @@ use Rattle.std.specs.Prelude.{ℕ, ◌==◌, List, [], ◌∷◌, ◌++◌, Bool
 use Rattle.std.specs.List.{list_any, All}
 use Rattle.am_record.specs.OrderedKey.{OrderedKey}
 use Rattle.am_record.specs.declared.lock.Lock.{Lock}
-use Rattle.am_locks.specs.Held.{Held, blocks, is_exclusive_at, AreApart}
+use Rattle.am_locks.specs.OwnerLocks.{OwnerLocks, blocks, is_exclusive_at, AreApart}
 
 -- whether the transaction is an owner
-abbrev pub is_owner : List Held → ℕ → Bool
-is_owner table tx = list_any (λ (h : Held). h.owner == tx) table
+abbrev pub is_owner : List OwnerLocks → ℕ → Bool
+is_owner table tx = list_any (λ (h : OwnerLocks). h.owner == tx) table
 
 -- the locks of the transaction, none where it is no owner
-abbrev pub locks_of : List Held → ℕ → List Lock
-locks_of [] tx = []
-locks_of (h ∷ table) tx = cond (h.owner == tx) h.locks (locks_of table tx)
+abbrev pub locks_owned : List OwnerLocks → ℕ → List Lock
+locks_owned [] tx = []
+locks_owned (h ∷ table) tx = cond (h.owner == tx) h.locks (locks_owned table tx)
 
 -- the table with one more owner, which holds nothing yet
-abbrev pub entered : List Held → ℕ → List Held
+abbrev pub entered : List OwnerLocks → ℕ → List OwnerLocks
 entered table tx = table ++ record { owner = tx; locks = [] } ∷ []
 
-abbrev pub relocked : ℕ → List Lock → Held → Held
+abbrev pub relocked : ℕ → List Lock → OwnerLocks → OwnerLocks
 relocked tx locks h = cond (h.owner == tx) (record { owner = h.owner; locks = locks }) h
 
 -- the table with these locks as those of the transaction
-abbrev pub with_locks : List Held → ℕ → List Lock → List Held
+abbrev pub with_locks : List OwnerLocks → ℕ → List Lock → List OwnerLocks
 with_locks table tx locks = map (relocked tx locks) table
 
 -- the table without the transaction
-abbrev pub without : List Held → ℕ → List Held
-without table tx = filter (λ (h : Held). not (h.owner == tx)) table
+abbrev pub without_owner : List OwnerLocks → ℕ → List OwnerLocks
+without_owner table tx = filter (λ (h : OwnerLocks). not (h.owner == tx)) table
 
 -- the numbers of the other owners that hold a lock which conflicts with the asked one
-abbrev pub blockers : List Held → ℕ → Lock → List ℕ
-blockers table tx asked = map (λ (h : Held). h.owner) (filter (blocks tx asked) table)
+abbrev pub blockers : List OwnerLocks → ℕ → Lock → List ℕ
+blockers table tx asked = map (λ (h : OwnerLocks). h.owner) (filter (blocks tx asked) table)
 
 -- the numbers of the owners that hold an exclusive lock on the key
-abbrev pub exclusive_holders : List Held → OrderedKey → List ℕ
-exclusive_holders table key = map (λ (h : Held). h.owner) (filter (is_exclusive_at key) table)
+abbrev pub exclusive_holders : List OwnerLocks → OrderedKey → List ℕ
+exclusive_holders table key = map (λ (h : OwnerLocks). h.owner) (filter (is_exclusive_at key) table)
 
 -- each owner is apart from all later ones
-abbrev pub AreAllApart : List Held → Type 0
+abbrev pub AreAllApart : List OwnerLocks → Type 0
 AreAllApart [] = Unit {0}
 AreAllApart (h ∷ table) = All (AreApart h) table × AreAllApart table

@@ -5,7 +5,7 @@ mod asked;
 mod front;
 mod fronts;
 mod invariant;
-mod marks;
+mod key_filter;
 mod owner;
 mod table;
 

@@ -6,14 +6,14 @@ ghost use Rattle.std.specs.List.{list_any};
 ghost use Rattle.am_record.specs.Interval.{within};
 ghost use Rattle.am_record.specs.KeyMix.{key_mix};
 ghost use Rattle.am_record.specs.Locks.{conflicts, is_covered, is_exclusive, with_lock};
-ghost use Rattle.am_locks.specs.Held.{has_conflict, blocks, is_exclusive_at};
+ghost use Rattle.am_locks.specs.OwnerLocks.{has_conflict, blocks, is_exclusive_at};
 ghost use Rattle.am_locks.specs.Fronts.{any_exclusive, AreFrontsOf};
-ghost use Rattle.am_locks.specs.Marks.{AreMarksOf, IsNumberOf};
+ghost use Rattle.am_locks.specs.KeyFilter.{IsFilterOf, IsNumberOf};
 ghost use Rattle.smallvec.specs.SmallVec.{HasRoomFor};
 
 use crate::asked::Asked;
 use crate::fronts::Fronts;
-use crate::marks::{Marks, marks_of};
+use crate::key_filter::{KeyFilter, key_filter_of};
 use am_record::{Key, Lock, MAX_LOCKS};
 use smallvec::SmallVec;
 use std::alloc::{AllocError, Global};
@@ -26,23 +26,23 @@ const INLINE_LOCKS: usize = 8;
 /// A transaction and its locks, the oldest first.
 ///
 /// The first ones are looked at one by one: that is quicker for few locks, and takes no memory. The later
-/// ones are searched. Where the marks deny the key of what is asked, neither is done.
+/// ones are searched. Where the filter denies the key of what is asked, neither is done.
 #[derive(Drop)]
 pub(crate) struct Owner {
     number: u64,
     has_exclusive: bool,
-    marks: Marks,
+    key_filter: KeyFilter,
     locks: SmallVec<Lock, INLINE_LOCKS>,
     later: Fronts,
 }
 
 impl Model for Owner {
     ghost use Rattle.std.specs.Prelude.{◌≡◌, ◌≤◌, length, drop, vec_capacity};
-    ghost use Rattle.am_locks.specs.Held.{Held, held_code};
+    ghost use Rattle.am_locks.specs.OwnerLocks.{OwnerLocks, held_code};
     ghost use Rattle.am_locks.specs.Fronts.{any_exclusive, AreFrontsOf};
-    ghost use Rattle.am_locks.specs.Marks.{AreMarksOf};
+    ghost use Rattle.am_locks.specs.KeyFilter.{IsFilterOf};
 
-    ghost Value = { Held };
+    ghost Value = { OwnerLocks };
 
     ghost coded = { held_code };
 
@@ -50,7 +50,7 @@ impl Model for Owner {
 
     ghost invariant = { λ o. (8 ≤ o.locks.capacity) × (length o.locks.items ≤ 256)
         × (o.has_exclusive ≡ any_exclusive o.locks.items)
-        × AreMarksOf o.locks.items o.marks
+        × IsFilterOf o.locks.items o.key_filter
         × AreFrontsOf (drop 8 o.locks.items) o.later.all.ranges.items o.later.exclusive.ranges.items
         × (length (drop 8 o.locks.items) ≤ vec_capacity o.later.all.ranges)
         × (length (drop 8 o.locks.items) ≤ vec_capacity o.later.exclusive.ranges) };
@@ -70,7 +70,7 @@ impl Owner {
         Owner {
             number,
             has_exclusive: false,
-            marks: Marks::new(),
+            key_filter: KeyFilter::new(),
             locks: SmallVec::new(alloc),
             later: Fronts::new(alloc),
         }
@@ -106,7 +106,7 @@ impl Owner {
             return false;
         }
         if let Some(number) = number {
-            if self.marks.denies(number) {
+            if self.key_filter.denies(number) {
                 return false;
             }
         }
@@ -118,7 +118,7 @@ impl Owner {
         requires { number ≡ key_mix key }
         ensures { result ≡ is_exclusive_at key self.now }
     {
-        if !self.has_exclusive || self.marks.denies(number) {
+        if !self.has_exclusive || self.key_filter.denies(number) {
             return false;
         }
         is_exclusive_among(first_of(&self.locks), key) || self.later.is_exclusive_at(key)
@@ -152,7 +152,7 @@ impl Owner {
         }
         add_later(&mut self.later, &self.locks, &asked);
         self.has_exclusive |= asked.mode.is_exclusive();
-        self.marks.add(&asked);
+        self.key_filter.add(&asked);
         self.locks.push_reserved(asked);
         Asked::Granted
     }
@@ -166,7 +166,7 @@ impl Owner {
         }
         self.locks.truncate(n);
         self.has_exclusive = has_exclusive(&self.locks);
-        self.marks = marks_of(&self.locks);
+        self.key_filter = key_filter_of(&self.locks);
         self.later.renew(later_of(&self.locks));
     }
 }

@@ -4,13 +4,14 @@ ghost use Rattle.std.specs.Prelude.{◌≡◌, ◌≢◌, ◌<◌, ◌≤◌, �
 ghost use Rattle.std.specs.Prelude.{slice_set, List, MatchOption};
 ghost use Rattle.std.specs.Option.{option_to_list};
 ghost use Rattle.am_record.specs.Locks.{is_covered, with_lock};
-ghost use Rattle.am_locks.specs.Held.{Held, blocks};
-ghost use Rattle.am_locks.specs.Table.{is_owner, locks_of, entered, with_locks, without, blockers, exclusive_holders};
+ghost use Rattle.am_locks.specs.OwnerLocks.{OwnerLocks, blocks};
+ghost use Rattle.am_locks.specs.Table.{is_owner, locks_owned, entered, with_locks, without_owner, blockers};
+ghost use Rattle.am_locks.specs.Table.{exclusive_holders};
 ghost use Rattle.am_locks.specs.Table.{AreAllApart};
 ghost use Rattle.am_locks.specs.Answers.{IsLeastOf, MatchBusy};
 
 use crate::asked::Asked;
-use crate::marks::number_of;
+use crate::key_filter::number_of;
 use crate::owner::Owner;
 use am_record::{Key, Lock, MAX_ACTIVE};
 use arrayvec::ArrayVec;
@@ -28,10 +29,10 @@ pub struct LockTable {
 impl Model for LockTable {
     ghost use Rattle.std.specs.Prelude.{List};
     ghost use Rattle.std.specs.Coded.{coded_list};
-    ghost use Rattle.am_locks.specs.Held.{Held, held_code};
+    ghost use Rattle.am_locks.specs.OwnerLocks.{OwnerLocks, held_code};
     ghost use Rattle.am_locks.specs.Table.{AreAllApart};
 
-    ghost Value = { List Held };
+    ghost Value = { List OwnerLocks };
 
     ghost coded = { coded_list held_code };
 
@@ -84,27 +85,27 @@ impl LockTable {
         // Then the lock is granted, unless it would be added to 256, or memory is refused for it.
         ensures too_many_locks { (result ≡ Asked.TooManyLocks)
             ↔ ((blockers self.old tx asked ≡ [])
-            × (is_covered (locks_of self.old tx) asked ≡ false)
-            × (length (locks_of self.old tx) ≡ 256)) }
+            × (is_covered (locks_owned self.old tx) asked ≡ false)
+            × (length (locks_owned self.old tx) ≡ 256)) }
         ensures no_memory { result ≡ Asked.NoMemory
-            → (is_covered (locks_of self.old tx) asked ≡ false)
-            × (8 ≤ length (locks_of self.old tx)) }
+            → (is_covered (locks_owned self.old tx) asked ≡ false)
+            × (8 ≤ length (locks_owned self.old tx)) }
 
         ensures granted { result ≡ Asked.Granted → self.new ≡
-            with_locks self.old tx (with_lock (locks_of self.old tx) asked) }
+            with_locks self.old tx (with_lock (locks_owned self.old tx) asked) }
         ensures refused { result ≢ Asked.Granted → self.new ≡ self.old }
     {
         if let Some(holder) = self.least_blocker(tx, &asked) {
             return Asked::Busy(holder);
         }
-        let place = self.place_of(tx);
-        self.owners[place].add(asked)
+        let slot = self.slot_of(tx);
+        self.owners[slot].add(asked)
     }
 
     /// Lets all locks of an owner go. The transaction is no owner any more.
     pub fn release(&mut self, tx: u64)
         requires { is_owner self.old tx ≡ true }
-        ensures { self.new ≡ without self.old tx }
+        ensures { self.new ≡ without_owner self.old tx }
     {
         self.owners.retain(|owner| owner.number() != tx);
     }
@@ -112,20 +113,20 @@ impl LockTable {
     /// How many locks an owner holds.
     pub fn held(&self, tx: u64) -> usize
         requires { is_owner self.now tx ≡ true }
-        ensures count { result ≡ length (locks_of self.now tx) }
+        ensures count { result ≡ length (locks_owned self.now tx) }
         ensures few { result ≤ 256 }
     {
-        self.owners[self.place_of(tx)].held()
+        self.owners[self.slot_of(tx)].held()
     }
 
     /// Keeps the first `n` locks of an owner, and lets the later ones go.
     pub fn cut(&mut self, tx: u64, n: usize)
         requires owner { is_owner self.old tx ≡ true }
-        requires held { n ≤ length (locks_of self.old tx) }
-        ensures { self.new ≡ with_locks self.old tx (take n (locks_of self.old tx)) }
+        requires held { n ≤ length (locks_owned self.old tx) }
+        ensures { self.new ≡ with_locks self.old tx (take n (locks_owned self.old tx)) }
     {
-        let place = self.place_of(tx);
-        self.owners[place].cut(n);
+        let slot = self.slot_of(tx);
+        self.owners[slot].cut(n);
     }
 
     /// The owner that holds an exclusive lock on the key. There is one at most.
@@ -153,15 +154,15 @@ impl LockTable {
             .min()
     }
 
-    fn place_of(&self, tx: u64) -> usize
+    fn slot_of(&self, tx: u64) -> usize
         requires { is_owner self.now tx ≡ true }
         ensures in_bounds { result < length self.now }
-        ensures held { (d : Held) → slice_index_or self.now result d ≡
-            record { owner = tx; locks = locks_of self.now tx } }
+        ensures held { (d : OwnerLocks) → slice_index_or self.now result d ≡
+            record { owner = tx; locks = locks_owned self.now tx } }
         ensures write { (locks : List Lock)
             → slice_set self.now result (record { owner = tx; locks = locks }) ≡ with_locks self.now tx locks }
     {
-        let place = self.owners.iter().position(|owner| owner.number() == tx);
-        place.unwrap()
+        let slot = self.owners.iter().position(|owner| owner.number() == tx);
+        slot.unwrap()
     }
 }

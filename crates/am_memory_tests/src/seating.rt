@@ -4,7 +4,7 @@ ghost use Rattle.std.specs.Prelude.{◌≡◌};
 
 use crate::fault::{Fault, expect, expect_unchanged};
 use crate::numbers::value;
-use am_latch::{Blank, Latch, LatchFault, Naming, Seat};
+use am_latch::{Blank, Latch, LatchFault, LatchName, Seat};
 use am_record::{Key, Op, Range, Refusal, Reply, Step};
 use std::alloc::Global;
 use std::marker::Brand;
@@ -22,7 +22,11 @@ impl From<LatchFault> for Fault {
 const REFUSED: Reply = Reply::Refused(Refusal::NoMemory);
 
 // Begins a transaction, and answers its number.
-fn begin<L: Naming, R: Wait>(rt: &R, latch: &Latch<L>, seat: &mut Seat<L>) -> Result<u64, Fault> {
+fn begin<L: LatchName, R: Wait>(
+    rt: &R,
+    latch: &Latch<L>,
+    seat: &mut Seat<L>,
+) -> Result<u64, Fault> {
     expect(seat.open_tx().is_none())?;
     let held = seat.receipts().len();
     let mut reply = seat.call(rt, latch, Step::Begin);
@@ -49,7 +53,7 @@ fn scan() -> Result<Op, Fault> {
 }
 
 // Does something in the transaction that is open.
-fn act<L: Naming, R: Wait>(
+fn act<L: LatchName, R: Wait>(
     rt: &R,
     latch: &Latch<L>,
     seat: &mut Seat<L>,
@@ -73,7 +77,7 @@ fn act<L: Naming, R: Wait>(
 }
 
 // Ends the transaction that is open. It never wants memory.
-fn commit<L: Naming, R: Wait>(
+fn commit<L: LatchName, R: Wait>(
     rt: &R,
     latch: &Latch<L>,
     seat: &mut Seat<L>,
@@ -88,7 +92,7 @@ fn commit<L: Naming, R: Wait>(
     Ok(reply)
 }
 
-fn transactions<L: Naming, R: Wait>(rt: &R, blank: Blank) -> Result<(), Fault>
+fn transactions<L: LatchName, R: Wait>(rt: &R, blank: Blank) -> Result<(), Fault>
     requires { (blank.seats ≡ L.seats) × (blank.table ≡ L.table) }
 {
     let (latch, mut seats) = Latch::<L>::open(blank)?;

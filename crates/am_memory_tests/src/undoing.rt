@@ -48,7 +48,7 @@ fn change(
         return Err(Fault::Differs);
     };
     reserve(log)?;
-    parts.mark(0, key, new, true);
+    parts.set(0, key, new, true);
     log.note(Note::Before {
         part: 0,
         key,

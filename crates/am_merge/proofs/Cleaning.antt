@@ -18,7 +18,7 @@ use Rattle.am_list.specs.Content.{content}
 use Rattle.am_list.proofs.Edits.{first_such_passes, entry_at_slot, rising_removed, filter-removed}
 use Rattle.am_list.proofs.Content.{all_found}
 use Rattle.am_list.proofs.WalkLaws.{first_stands}
-use Rattle.am_parts.specs.Partitions.{IsSound}
+use Rattle.am_parts.specs.Partitions.{AreWellFormed}
 use Rattle.am_effect.specs.Merging.{Holders, worked_off, all_worked_off, cleanable, CleanRight}
 use Rattle.am_effect.proofs.Lists.{rising-filter}
 use Rattle.am_effect.proofs.Maintenance.{clean_maintains}
@@ -189,7 +189,7 @@ one_left x rest (suc n) [] h = absurd (none_first h)
 one_left x rest zero (y ∷ xs) h = omega arith
 one_left x rest (suc n) (y ∷ xs) h = omega (arith, one_left x rest n xs h)
 
-module _ (es : List Entry) (held : Holders) (range : Interval) (sound : IsSound es) where
+module _ (es : List Entry) (held : Holders) (range : Interval) (sound : AreWellFormed es) where
   abbrev is_ours : Entry → Bool
   is_ours e = is_cleanable held range e
 

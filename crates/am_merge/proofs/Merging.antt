@@ -16,7 +16,7 @@ use Rattle.am_record.proofs.Orderings.{lt_le}
 use Rattle.am_list.specs.Entries.{Slot, slot_of, first_such, find, remove_entry, IsRising}
 use Rattle.am_list.specs.Edits.{same_place}
 use Rattle.am_list.proofs.Edits.{first_such_passes, apart_places}
-use Rattle.am_locks.specs.Held.{Held}
+use Rattle.am_locks.specs.OwnerLocks.{OwnerLocks}
 use Rattle.am_effect.specs.Merging.{Holders, candidates, worked_off, all_worked_off, most, NeedsPlace, FirstNeedsPlace}
 use Rattle.am_effect.specs.Places.{look, put}
 use Rattle.am_effect.proofs.Lists.{Stands, stands_all, All-filter, rising-filter, look-put, look-removed}
@@ -24,7 +24,7 @@ use Rattle.am_effect.proofs.Merges.{rising-worked_off}
 use Rattle.am_effect.proofs.Maintenance.{above_none}
 use Rattle.am_effect.proofs.Next.{candidates-left}
 use Rattle.am_effect.proofs.Knowing.{known_laws}
-use Rattle.am_parts.specs.Partitions.{IsSound}
+use Rattle.am_parts.specs.Partitions.{AreWellFormed}
 use Rattle.am_merge.specs.Holding.{holder_of, only_free}
 use Rattle.am_merge.specs.Walks.{in_parts_from, later_in_part, later}
 use Rattle.am_merge.specs.Steps.{IsAsFar}
@@ -58,7 +58,7 @@ module _ (cur : List Entry) (rise : IsRising cur) (range : Interval) (e : Entry)
   first_left : first_such (later range e) cur ≡ head_of rest
   first_left = sym same_first ∙ first_head (is_candidate range) cur ∙ ap head_of left
 
-  module _ (table : List Held) where
+  module _ (table : List OwnerLocks) where
     none_there : (ds : List Entry) → first_such (in_parts_from (e.part + 1) range) cur ≡ head_of ds → None ≡ first_if (may_move (holder_of table) e.part) ds
     none_there [] h = refl
     none_there (d ∷ ds) h =
@@ -118,7 +118,7 @@ pub record IsOnTheWay (es : List Entry) (held : Holders) (limit run : ℕ) (rang
   pub entries : cur ≡ all_worked_off (take n (candidates es range)) es
   pub is_next : next ≡ first_if (may_move held run) (drop n (candidates es range))
 
-module _ {es : List Entry} (sound : IsSound es) (table : List Held) (limit : ℕ) (range : Interval) where
+module _ {es : List Entry} (sound : AreWellFormed es) (table : List OwnerLocks) (limit : ℕ) (range : Interval) where
   abbrev held : Holders
   held = holder_of table
 

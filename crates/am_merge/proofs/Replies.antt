@@ -10,7 +10,7 @@ use Rattle.am_record.specs.declared.step.Reply.{Reply}
 use Rattle.am_record.specs.declared.step.Reply.TheVariants.{Moved, MergeDone, Ended, Refused}
 use Rattle.am_list.specs.Entries.{first_such}
 use Rattle.am_list.specs.Content.{content}
-use Rattle.am_parts.specs.Partitions.{IsSound}
+use Rattle.am_parts.specs.Partitions.{AreWellFormed}
 use Rattle.am_effect.specs.Merging.{Holders, candidates, all_worked_off, most, AnswersFirst, AnswersCandidates, MergeRight, merged_by}
 use Rattle.am_effect.proofs.Maintenance.{merge_maintains}
 use Rattle.am_merge.specs.Walks.{in_parts_from}
@@ -63,7 +63,7 @@ module _ (es : List Entry) (held : Holders) (limit : ℕ) (wishes : List Interva
           )
 
 -- the content is as before
-pub same_content : {es es' : List Entry} → IsSound es → (wishes : List Interval) (held : Holders) (limit : ℕ) (reply : Reply) → MergeRight es wishes held limit reply
+pub same_content : {es es' : List Entry} → AreWellFormed es → (wishes : List Interval) (held : Holders) (limit : ℕ) (reply : Reply) → MergeRight es wishes held limit reply
     → es' ≡ all_worked_off (merged_by es wishes reply) es → content es' ≡ content es
 same_content {es} sound wishes held limit reply right is = ap content is ∙ (merge_maintains es wishes held limit reply sound.rising right).same sound.one_place
 

@@ -21,7 +21,7 @@ use Rattle.am_list.proofs.Lists.{first_such_none}
 use Rattle.am_list.proofs.Edits.{first_such_all, first_such_passes, none_such}
 use Rattle.am_list.proofs.WalkLaws.{first_stands}
 use Rattle.am_parts.specs.Merged.{HasNoneBefore}
-use Rattle.am_parts.specs.Partitions.{IsSound}
+use Rattle.am_parts.specs.Partitions.{AreWellFormed}
 use Rattle.am_merge.specs.Walks.{in_parts_from, later_in_part, later, is_from, ghost_from, GoesOnAt}
 use Rattle.am_merge.proofs.Firsts.{comes_to, All-zip, All-any, first_same, none_under, first_comes, first_is}
 
@@ -157,7 +157,7 @@ module _ (es : List Entry) (rise : IsRising es) (range : Interval) (part : ℕ) 
     goes_up_by_one = omega (arith, on)
 
 -- the numbers of partitions end
-pub none_past : (es : List Entry) → IsSound es → (range : Interval) (to : ℕ) → 2 ^ 32 ≤ to → first_such (in_parts_from to range) es ≡ None
+pub none_past : (es : List Entry) → AreWellFormed es → (range : Interval) (to : ℕ) → 2 ^ 32 ≤ to → first_such (in_parts_from to range) es ≡ None
 none_past es sound range to over =
     first_such_none (in_parts_from to range) es
     (AllByRecursion-map (λ e. e.part < 2 ^ 32) (λ e. in_parts_from to range e ≡ false)
@@ -165,7 +165,7 @@ none_past es sound range to over =
     es sound.fits)
 
 -- a step of the loop, by what its calls answer
-module _ (es : List Entry) (sound : IsSound es) (range : Interval) (part : ℕ) {lo : OrderedKey} (is_lo : lo ≡ range.lo) where
+module _ (es : List Entry) (sound : AreWellFormed es) (range : Interval) (part : ℕ) {lo : OrderedKey} (is_lo : lo ≡ range.lo) where
   looks : {r : Option Entry} → r ≡ next_any es part lo → next_any es part range.lo ≡ r
   looks found = sym (found ∙ ap (next_any es part) is_lo)
 
@@ -434,7 +434,7 @@ module _ (es : List Entry) (rise : IsRising es) (range : Interval) (part : ℕ) 
         omega arith
 
 -- beyond all partitions
-pub no_ghost_past : (es : List Entry) → IsSound es → (range : Interval) (to : ℕ) → 2 ^ 32 ≤ to → first_such (ghost_from range (to, range.lo)) es ≡ None
+pub no_ghost_past : (es : List Entry) → AreWellFormed es → (range : Interval) (to : ℕ) → 2 ^ 32 ≤ to → first_such (ghost_from range (to, range.lo)) es ≡ None
 no_ghost_past es sound range to over =
     first_such_none (ghost_from range (to, range.lo)) es
     (AllByRecursion-map (λ e. e.part < 2 ^ 32) (λ e. ghost_from range (to, range.lo) e ≡ false)
@@ -445,7 +445,7 @@ no_ghost_past es sound range to over =
     es sound.fits)
 
 -- a step of the loop, by what its calls answer
-module _ (es : List Entry) (sound : IsSound es) (range : Interval) (part : ℕ) (key : OrderedKey) (low : key_le range.lo key ≡ true) (x : Entry) (found : Some x ≡ next_ghost es part key) where
+module _ (es : List Entry) (sound : AreWellFormed es) (range : Interval) (part : ℕ) (key : OrderedKey) (low : key_le range.lo key ≡ true) (x : Entry) (found : Some x ≡ next_ghost es part key) where
   ghost_fits : x.part < 2 ^ 32
   ghost_fits = first_such_all (λ y. y.part < 2 ^ 32) (ghost_ahead es sound.rising range part key low) es x sound.fits (sym found)
 

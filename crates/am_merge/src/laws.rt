@@ -3,7 +3,7 @@
 ghost use Rattle.std.specs.Prelude.{◌≡◌, ℕ, List, Option};
 ghost use Rattle.std.specs.Option.{option_to_list};
 ghost use Rattle.am_record.specs.OrderedKey.{OrderedKey};
-ghost use Rattle.am_locks.specs.Held.{Held};
+ghost use Rattle.am_locks.specs.OwnerLocks.{OwnerLocks};
 ghost use Rattle.am_locks.specs.Table.{exclusive_holders, AreAllApart};
 ghost use Rattle.am_effect.specs.Merging.{Holders};
 ghost use Rattle.am_merge.specs.Holding.{holder_of};
@@ -11,10 +11,10 @@ ghost use Rattle.am_merge.specs.Holding.{holder_of};
 /// A key's holder by a table of locks is the one owner with an exclusive lock on it, and whoever
 /// names the same owners at every key speaks of the same holders.
 pub fn holders_are_known()
-    ensures one { (table : List Held) (key : OrderedKey) → AreAllApart table →
+    ensures one { (table : List OwnerLocks) (key : OrderedKey) → AreAllApart table →
         exclusive_holders table key ≡ option_to_list (holder_of table key) }
-    ensures answered { (table : List Held) (key : OrderedKey) (holder : Option ℕ) →
+    ensures answered { (table : List OwnerLocks) (key : OrderedKey) (holder : Option ℕ) →
         exclusive_holders table key ≡ option_to_list holder → holder_of table key ≡ holder }
-    ensures same { (table : List Held) (held : Holders) → ((key : OrderedKey) → holder_of table key ≡ held key) →
+    ensures same { (table : List OwnerLocks) (held : Holders) → ((key : OrderedKey) → holder_of table key ≡ held key) →
         holder_of table ≡ held }
 {}

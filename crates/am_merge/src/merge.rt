@@ -4,7 +4,7 @@ ghost use Rattle.std.specs.Prelude.{◌≡◌, ◌≤◌, None, Some, take, true
 ghost use Rattle.am_record.specs.Interval.{within};
 ghost use Rattle.am_list.specs.Content.{content};
 ghost use Rattle.am_list.specs.Entries.{first_such};
-ghost use Rattle.am_parts.specs.Partitions.{IsSound};
+ghost use Rattle.am_parts.specs.Partitions.{AreWellFormed};
 ghost use Rattle.am_effect.specs.Merging.{MergeRight, merged_by, wishes_left, all_worked_off, candidates};
 ghost use Rattle.am_merge.specs.Holding.{holder_of, only_free};
 ghost use Rattle.am_merge.specs.Walks.{in_parts_from, later_in_part};
@@ -72,7 +72,7 @@ fn work_off_run<I: PartIndex + Drop>(
 ) -> u64
     requires first { first_such (in_parts_from 1 range) parts.old.entries ≡ Some first }
     requires free { holder_of locks.now first.key ≡ None }
-    requires sound { IsSound parts.old.entries }
+    requires sound { AreWellFormed parts.old.entries }
     requires some { 1 ≤ limit }
     ensures far { IsAsFar parts.old.entries (holder_of locks.now) limit first.part
         (candidates parts.old.entries range) result }

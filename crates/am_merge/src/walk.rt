@@ -3,7 +3,7 @@
 ghost use Rattle.std.specs.Prelude.{◌≡◌, true, Some, None, is_none, IfSome, IfNone, if◌then◌else◌};
 ghost use Rattle.am_record.specs.Interval.{key_le, within};
 ghost use Rattle.am_list.specs.Entries.{first_such};
-ghost use Rattle.am_parts.specs.Partitions.{IsSound};
+ghost use Rattle.am_parts.specs.Partitions.{AreWellFormed};
 ghost use Rattle.am_merge.specs.Walks.{in_parts_from, later_in_part, later, ghost_from, GoesOnAt};
 ghost use Rattle.am_merge.specs.Holding.{holder_of};
 
@@ -22,7 +22,7 @@ pub(crate) fn is_free(locks: &LockTable, key: Key) -> bool
 /// The first entry of the range in a run. Runs that are known to have none there aren't searched.
 pub(crate) fn first_in_runs<I: PartIndex + Drop>(parts: &Parts<I>, range: Range) -> Option<Entry>
     ensures first { result ≡ first_such (in_parts_from 1 range) parts.now.entries }
-    ensures sound { IsSound parts.now.entries }
+    ensures sound { AreWellFormed parts.now.entries }
 {
     first_within(parts, parts.first_run(range), range)
 }
@@ -30,7 +30,7 @@ pub(crate) fn first_in_runs<I: PartIndex + Drop>(parts: &Parts<I>, range: Range)
 // The first entry of the range in the partition `from` or a later one.
 fn first_within<I: PartIndex + Drop>(parts: &Parts<I>, from: u32, range: Range) -> Option<Entry>
     ensures first { result ≡ first_such (in_parts_from from range) parts.now.entries }
-    ensures sound { IsSound parts.now.entries }
+    ensures sound { AreWellFormed parts.now.entries }
 {
     let mut part = from;
     while let Some(entry) = parts.next_any(part, range.lo()) {
@@ -55,7 +55,7 @@ pub(crate) fn next_in_part<I: PartIndex + Drop>(
 ) -> Option<Entry>
     requires { within range entry.now.key ≡ true }
     ensures first { result ≡ first_such (later_in_part range entry.now) parts.now.entries }
-    ensures sound { IsSound parts.now.entries }
+    ensures sound { AreWellFormed parts.now.entries }
 {
     let next = parts.after(entry.part, entry.key)?;
     only_within(range, next)
@@ -76,7 +76,7 @@ pub(crate) fn first_ghost<I: PartIndex + Drop>(
 ) -> Option<Entry>
     requires { key_le range.lo from.1 ≡ true }
     ensures first { result ≡ first_such (ghost_from range from) parts.now.entries }
-    ensures sound { IsSound parts.now.entries }
+    ensures sound { AreWellFormed parts.now.entries }
 {
     let (mut part, mut key) = from;
     while let Some(entry) = parts.next_ghost(part, key) {

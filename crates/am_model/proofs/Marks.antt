@@ -6,7 +6,7 @@ use Rattle.std.specs.List.{AllByRecursion}
 use Rattle.std.specs.FinMap.{get, insert, empty}
 use Rattle.std.proofs.lemmas.Bool.{true≢false}
 use Rattle.am_record.specs.OrderedKey.{OrderedKey}
-use Rattle.am_record.specs.Plain.{Draft, PlainMap, back, fresh, went_back}
+use Rattle.am_record.specs.Plain.{Draft, PlainMap, draft_back, fresh, went_back}
 use Rattle.am_record.specs.declared.step.Reply.TheVariants.{Done, NoMark}
 use Rattle.am_record.proofs.Newest.{length-until, since-older}
 use Rattle.am_model.specs.declared.note.Note.{Note}
@@ -122,7 +122,7 @@ module _ (slots : Slots) (notes : List Note) (k : ℕ) (low : k ≤ length notes
       )
 
 back_at : (slots : Slots) (notes : List Note) (marks : List ℕ) → AreFalling (length notes) marks →
-    draft_at (all_taken_back (since_mark marks notes) slots) (until_mark marks notes) (older marks) ≡ back (map (saved_at notes slots) marks) (draft_at slots notes marks)
+    draft_at (all_taken_back (since_mark marks notes) slots) (until_mark marks notes) (older marks) ≡ draft_back (map (saved_at notes slots) marks) (draft_at slots notes marks)
 back_at slots notes [] falling = refl
 back_at slots notes (k ∷ marks) falling = λ i. record { map = saved_at notes slots k; saved = same_older slots notes k falling.0 marks k (omega arith) falling.1 i }
 
@@ -144,7 +144,7 @@ can_back slots log stand = newest log.marks stand.can
     newest (k ∷ marks) can = can.0
 
 module _ (slots slots' : Slots) (log log' : Log) (stand : Stand slots log) (is : slots' ≡ all_taken_back (since_mark log.marks log.notes) slots) (notes : log'.notes ≡ until_mark log.marks log.notes) (marks : log'.marks ≡ older log.marks) where
-  pub went_back_to : draft slots' log' ≡ back (draft slots log).saved (draft slots log)
+  pub went_back_to : draft slots' log' ≡ draft_back (draft slots log).saved (draft slots log)
   went_back_to =
       ap (λ s. draft_at s log'.notes log'.marks) is ∙ ap (λ (ns : List Note). draft_at (all_taken_back (since_mark log.marks log.notes) slots) ns log'.marks) notes
       ∙ ap (draft_at (all_taken_back (since_mark log.marks log.notes) slots) (until_mark log.marks log.notes)) marks ∙ back_at slots log.notes log.marks stand.falling
@@ -155,11 +155,6 @@ module _ (slots slots' : Slots) (log log' : Log) (stand : Stand slots log) (is :
     can = subst (λ s. CanEach log'.notes s log'.marks) (sym is) (subst (λ (ns : List Note). CanEach ns (all_taken_back (since_mark log.marks log.notes) slots) log'.marks) (sym notes)
         (subst (CanEach (until_mark log.marks log.notes) (all_taken_back (since_mark log.marks log.notes) slots)) (sym marks) (back_can slots log.notes log.marks stand.falling stand.can)));
   }
-
--- what Back answers
-pub answers_back : (f : ℕ → PlainMap) (marks : List ℕ) → went_back (map f marks) ≡ cond (has_mark marks) Done NoMark
-answers_back f [] = refl
-answers_back f (m ∷ marks) = refl
 
 -- a new map with a new log
 pub new_draft : (slots : Slots) (log : Log) → slots ≡ empty → log.marks ≡ [] → draft slots log ≡ fresh empty

@@ -2,7 +2,7 @@
 
 ghost use Rattle.std.specs.Prelude.{◌≡◌, Option, None, Some, false, IfOk, OnOk, OnErr};
 ghost use Rattle.std.specs.FinMap as map;
-ghost use Rattle.am_record.specs.Plain.{answer, after, answers, left, fresh, insert_all};
+ghost use Rattle.am_record.specs.Plain.{answer, draft_after, answers, left, fresh, insert_all};
 ghost use Rattle.am_record.specs.declared.step.Op.TheVariants.{Insert, Replace, Delete, Load, Mark, Back};
 ghost use Rattle.am_model.specs.Loads.{is_load};
 ghost use Rattle.am_model.specs.Slots.{put};
@@ -49,7 +49,7 @@ impl Plain {
     /// Applies an operation. Want of memory leaves the map as it was, but for a load, after which the map is no use.
     pub fn answer(&mut self, op: &Op) -> Result<Reply, NoMemory>
         ensures answer { IfOk result (λ reply. reply ≡ answer op.now self.old) }
-        ensures after { OnOk result (self.new ≡ after op.now self.old) }
+        ensures after { OnOk result (self.new ≡ draft_after op.now self.old) }
         ensures err { OnErr result (is_load op.now ≡ false → self.new ≡ self.old) }
     {
         match op {
@@ -70,7 +70,7 @@ impl Plain {
 
     fn insert(&mut self, key: Key, value: Value) -> Result<Reply, NoMemory>
         ensures answer { IfOk result (λ reply. reply ≡ answer (Insert key value) self.old) }
-        ensures after { OnOk result (self.new ≡ after (Insert key value) self.old) }
+        ensures after { OnOk result (self.new ≡ draft_after (Insert key value) self.old) }
         ensures err { OnErr result (self.new ≡ self.old) }
     {
         if self.records.get(key).is_some() {
@@ -82,7 +82,7 @@ impl Plain {
 
     fn replace(&mut self, key: Key, value: Value) -> Result<Reply, NoMemory>
         ensures answer { IfOk result (λ reply. reply ≡ answer (Replace key value) self.old) }
-        ensures after { OnOk result (self.new ≡ after (Replace key value) self.old) }
+        ensures after { OnOk result (self.new ≡ draft_after (Replace key value) self.old) }
         ensures err { OnErr result (self.new ≡ self.old) }
     {
         if self.records.get(key).is_none() {
@@ -94,7 +94,7 @@ impl Plain {
 
     fn delete(&mut self, key: Key) -> Result<Reply, NoMemory>
         ensures answer { IfOk result (λ reply. reply ≡ answer (Delete key) self.old) }
-        ensures after { OnOk result (self.new ≡ after (Delete key) self.old) }
+        ensures after { OnOk result (self.new ≡ draft_after (Delete key) self.old) }
         ensures err { OnErr result (self.new ≡ self.old) }
     {
         if self.records.get(key).is_none() {
@@ -106,7 +106,7 @@ impl Plain {
 
     fn load(&mut self, pairs: &Pairs) -> Result<Reply, NoMemory>
         ensures answer { IfOk result (λ reply. reply ≡ answer (Load pairs.now) self.old) }
-        ensures after { OnOk result (self.new ≡ after (Load pairs.now) self.old) }
+        ensures after { OnOk result (self.new ≡ draft_after (Load pairs.now) self.old) }
     {
         if let Some(key) = self.records.least_taken(pairs.as_slice()) {
             return Ok(Reply::Exists(key));
@@ -117,7 +117,7 @@ impl Plain {
 
     fn mark(&mut self) -> Result<Reply, NoMemory>
         ensures answer { IfOk result (λ reply. reply ≡ answer Mark self.old) }
-        ensures after { OnOk result (self.new ≡ after Mark self.old) }
+        ensures after { OnOk result (self.new ≡ draft_after Mark self.old) }
         ensures err { OnErr result (self.new ≡ self.old) }
     {
         self.log.mark()?;
@@ -126,7 +126,7 @@ impl Plain {
 
     fn back(&mut self) -> Reply
         ensures answer { result ≡ answer Back self.old }
-        ensures after { self.new ≡ after Back self.old }
+        ensures after { self.new ≡ draft_after Back self.old }
     {
         if self.log.back(&mut self.records) {
             Reply::Done

@@ -21,7 +21,7 @@ use Rattle.am_list.specs.Content.{content, HasContent, OnePlace}
 use Rattle.am_list.specs.Runs.{live_entry, run_entries}
 use Rattle.am_list.proofs.Edits.{find-miss, other_part, other_key, entry_at_beside_inserted}
 use Rattle.am_list.proofs.ContentLaws.{content_laws}
-use Rattle.am_parts.specs.Partitions.{IsSound}
+use Rattle.am_parts.specs.Partitions.{AreWellFormed}
 use Rattle.am_parts.specs.Catalogs.{IsNext}
 use Rattle.am_parts.proofs.Bridge.{with_run, with_run_appends, run_rises}
 
@@ -90,7 +90,7 @@ fits_in_run : (part : ℕ) → part < 2 ^ 32 → (rs : Records) → AllByRecursi
 fits_in_run part lt [] = tt
 fits_in_run part lt (r ∷ rs) = (lt, fits_in_run part lt rs)
 
-module _ {es : List Entry} (runs : ℕ) (rs : Records) (sound : IsSound es) (above : AllByRecursion (λ e. e.part ≤ runs) es) (rising : is_rising rs ≡ true) where
+module _ {es : List Entry} (runs : ℕ) (rs : Records) (sound : AreWellFormed es) (above : AllByRecursion (λ e. e.part ≤ runs) es) (rising : is_rising rs ≡ true) where
   pub next_rises : IsRising (run_entries (runs + 1) rs)
   next_rises = run_rises (runs + 1) rs (run_sorted rs rising)
 
@@ -100,7 +100,7 @@ module _ {es : List Entry} (runs : ℕ) (rs : Records) (sound : IsSound es) (abo
         subst (λ l. HasContent l (insert_all rs (content es))) (with_run_appends (runs + 1) rs es (run_sorted rs rising) (under_next es runs above))
         (run_content (runs + 1) rs es (record { rising = sound.rising; one_place = sound.one_place; sorted = run_sorted rs rising; absent = both_absent (runs + 1) es rs (under_next es runs above) dead }))
 
-    pub next_sound : runs + 1 < 2 ^ 32 → IsSound (es ++ run_entries (runs + 1) rs)
+    pub next_sound : runs + 1 < 2 ^ 32 → AreWellFormed (es ++ run_entries (runs + 1) rs)
     next_sound fits = record {
       rising = next_content.rising;
       one_place = next_content.one_place;

@@ -12,7 +12,7 @@ use Rattle.am_record.specs.EntryOrder.{place_cmp, place_of}
 use Rattle.am_record.specs.declared.entry.Entry.{Entry}
 use Rattle.am_list.specs.Entries.{Slot, slot_of, find, insert_entry, set_entry, remove_entry}
 use Rattle.am_list.specs.Content.{content, HasContent, live_value, ContentLaws}
-use Rattle.am_parts.specs.Partitions.{IsSound, LivesNowhereElse, content_with, content_without, content_marked, settled, brought_home}
+use Rattle.am_parts.specs.Partitions.{AreWellFormed, LivesNowhereElse, content_with, content_without, content_set, settled, brought_home}
 use Rattle.am_parts.proofs.Lives.{laws_of}
 use Rattle.am_parts.proofs.Homes.{content_at_home}
 
@@ -54,7 +54,7 @@ fits_settled e es fits = elim (is_some (find es 0 e.key)) as (λ b. PartsFit (co
 
 -- ---- the content
 
-module _ {es : List Entry} (sound : IsSound es) where
+module _ {es : List Entry} (sound : AreWellFormed es) where
   laws : ContentLaws es
   laws = laws_of sound
 
@@ -79,10 +79,10 @@ module _ {es : List Entry} (sound : IsSound es) where
     without_ghost old h = ap (λ (o : Option Slot). cond (is_some (live_value o)) (remove (content es) key) (content es)) h
 
     pub marked : (value : List ℕ) (is_ghost : Bool) → IsSome (find es part key) → (is_ghost ≡ false → LivesNowhereElse es part key)
-        → HasContent (set_entry es part key value is_ghost) (content_marked es part key value is_ghost)
+        → HasContent (set_entry es part key value is_ghost) (content_set es part key value is_ghost)
     marked value is_ghost there alone = by_cases (find es part key) is_ghost refl there alone
       where
-        by_cases : (o : Option Slot) (is_ghost : Bool) → find es part key ≡ o → IsSome o → (is_ghost ≡ false → LivesNowhereElse es part key) → HasContent (set_entry es part key value is_ghost) (content_marked es part key value is_ghost)
+        by_cases : (o : Option Slot) (is_ghost : Bool) → find es part key ≡ o → IsSome o → (is_ghost ≡ false → LivesNowhereElse es part key) → HasContent (set_entry es part key value is_ghost) (content_set es part key value is_ghost)
         by_cases None is_ghost h there alone = absurd (false≢true there)
         by_cases (Some (old, false)) false h there alone = laws.replaced part key old value (record { there = h })
         by_cases (Some (old, false)) true h there alone = subst (HasContent (set_entry es part key value true)) (sym (without_live old h)) (laws.marked part key old value (record { there = h }))
@@ -101,21 +101,21 @@ module _ {es : List Entry} (sound : IsSound es) where
 
 -- the list after the change, and a map that is its content
 pub record IsAfter (es' : List Entry) (m : PlainMap) : Type 0 where
-  pub sound : IsSound es'
+  pub sound : AreWellFormed es'
   pub has : HasContent es' m
 
 becomes : {after es' : List Entry} {m : PlainMap} → HasContent after m → PartsFit after → es' ≡ after → IsAfter es' m
 becomes {after} {es'} {m} h fits is = record {
-  sound = subst IsSound (sym is) (record { rising = h.rising; one_place = h.one_place; fits = fits });
+  sound = subst AreWellFormed (sym is) (record { rising = h.rising; one_place = h.one_place; fits = fits });
   has = subst (λ l. HasContent l m) (sym is) h;
 }
 
-module _ {es seen : List Entry} (e : es ≡ seen) (was : IsSound es) where
-  seen_sound : IsSound seen
-  seen_sound = subst IsSound e was
+module _ {es seen : List Entry} (e : es ≡ seen) (was : AreWellFormed es) where
+  seen_sound : AreWellFormed seen
+  seen_sound = subst AreWellFormed e was
 
   pub marks : {es' : List Entry} (part : ℕ) (key : OrderedKey) (value : List ℕ) (is_ghost : Bool) → IsSome (find seen part key) → (is_ghost ≡ false → LivesNowhereElse seen part key)
-      → es' ≡ set_entry es part key value is_ghost → IsAfter es' (content_marked seen part key value is_ghost)
+      → es' ≡ set_entry es part key value is_ghost → IsAfter es' (content_set seen part key value is_ghost)
   marks part key value is_ghost there alone is =
       becomes (marked seen_sound part key value is_ghost there alone) (fits_set part key seen value is_ghost seen_sound.fits) (is ∙ ap (λ l. set_entry l part key value is_ghost) e)
 
@@ -130,9 +130,9 @@ module _ {es seen : List Entry} (e : es ≡ seen) (was : IsSound es) where
     adds : {es' : List Entry} → es' ≡ insert_entry es x → IsAfter es' (content_with seen x)
     adds is = becomes (added seen_sound x absent dead) (fits_inserted seen x fits seen_sound.fits) (is ∙ ap (λ l. insert_entry l x) e)
 
-    pub adds_sound : {T E : Type 0} {es' : List Entry} (r : Result T E) → OnOk r (es' ≡ insert_entry es x) → OnErr r (es' ≡ es) → IsSound es'
+    pub adds_sound : {T E : Type 0} {es' : List Entry} (r : Result T E) → OnOk r (es' ≡ insert_entry es x) → OnErr r (es' ≡ es) → AreWellFormed es'
     adds_sound (Ok v) ok err = (adds ok).sound
-    adds_sound (Err v) ok err = subst IsSound (sym err) was
+    adds_sound (Err v) ok err = subst AreWellFormed (sym err) was
 
     pub adds_content : {T E : Type 0} (es' : List Entry) (r : Result T E) → OnOk r (es' ≡ insert_entry es x) → OnOk r (HasContent es' (content_with seen x))
     adds_content es' (Ok v) ok = (adds ok).has

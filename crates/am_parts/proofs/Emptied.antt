@@ -120,9 +120,6 @@ module _ (es : List Entry) (runs : ℕ) where
   pub merged_removed : (part : ℕ) (key : OrderedKey) (ms : List MergedRange) → AreMerged es runs ms → AreMerged (remove_entry es part key) runs ms
   merged_removed part key = kept (remove_entry es part key) runs (omega arith) (λ range run low. all_removed (λ e. 0 < e.part → e.part < run → within range e.key ≡ false) part key es)
 
-  pub merged_counted : (ms : List MergedRange) → AreMerged es runs ms → AreMerged es (runs + 1) ms
-  merged_counted = kept es (runs + 1) (omega arith) (λ range run low none. none)
-
   -- the entries of the next run are in none of those runs
   not_yet : (range : Interval) (run : ℕ) → run ≤ runs + 1 → (rs : Records) → HasNoneBefore (run_entries (runs + 1) rs) range run
   not_yet range run low [] = tt

@@ -14,12 +14,12 @@ use Rattle.am_list.specs.Content.{content, live_value, IsLiveAt}
 use Rattle.am_list.proofs.Edits.{first_such_all, entry_at_place}
 use Rattle.std.proofs.lemmas.List.{length-drop, get_or-drop, get_or_default}
 use Rattle.am_record.proofs.Lists.{AllByRecursion-map}
-use Rattle.am_filter.specs.Held.{holds}
+use Rattle.am_filter.specs.Filters.{holds}
 use Rattle.am_parts.specs.declared.catalog.OpenRun.{OpenRun}
 use Rattle.am_parts.specs.declared.generations.Generation.{Generation}
 use Rattle.am_parts.specs.Generations.{is_held, AreHeld}
 use Rattle.am_parts.specs.Catalogs.{parts_of, is_one_of, PartsRise, IsOpenRun, AreListed, Lacks}
-use Rattle.am_parts.specs.Partitions.{IsSound, AreEmpty, AreEmptyFrom, LivesIn, LivesInNoRun, IsLiveEntry, IsVacancy, vacancy_over}
+use Rattle.am_parts.specs.Partitions.{AreWellFormed, AreEmpty, AreEmptyFrom, LivesIn, LivesInNoRun, IsLiveEntry, IsVacancy, vacancy_over}
 use Rattle.am_parts.proofs.Lives.{laws_of, lives_in}
 use Rattle.am_parts.proofs.Listed.{is_listed, some_left}
 
@@ -82,23 +82,20 @@ module _ (es : List Entry) (key : OrderedKey) where
   denied {n} {runs} from to h some deny = λ part low high.
       none_stands part (λ e at. one_denied from to part e runs at low high h.each deny (is_listed h part key (omega (arith, some, low)) (ap (λ o. is_some (option_map slot_of o)) at)))
 
-  pub lacks_on : (from mid to : ℕ) → Lacks es key from mid → Lacks es key mid to → Lacks es key from to
-  lacks_on from mid to first then = λ part low high. ⊎_elim (λ (lt : part < mid). first part low lt) (λ (le : mid ≤ part). then part le high) (cases_lt part mid)
-
 module _ {es : List Entry} {key : OrderedKey} where
   pub found_dead : (part : ℕ) → is_some (live_value (find es part key)) ≡ false → (value : List ℕ) → IsLiveAt es part key value → ⊥
   found_dead part dead value live = not_live (find es part key) value dead live.there
 
-  pub lives_found : IsSound es → (part : ℕ) → is_some (live_value (find es part key)) ≡ true → LivesIn es part key
+  pub lives_found : AreWellFormed es → (part : ℕ) → is_some (live_value (find es part key)) ≡ true → LivesIn es part key
   lives_found sound part live = let slot = live_slot (find es part key) live in lives_in sound (record { there = slot.1 })
 
   -- what stands live at a place is the live entry
-  pub stands_live : IsSound es → (part : ℕ) (e : Entry) → find es part key ≡ Some (e.value, false) → e.part ≡ part → e.key ≡ key → e.is_ghost ≡ false → IsLiveEntry es key e
+  pub stands_live : AreWellFormed es → (part : ℕ) (e : Entry) → find es part key ≡ Some (e.value, false) → e.part ≡ part → e.key ≡ key → e.is_ghost ≡ false → IsLiveEntry es key e
   stands_live sound part e stands same key_is live =
       let there : find es e.part key ≡ Some (e.value, false) = ap (λ p. find es p key) same ∙ stands in
       record { key_is = key_is; no_ghost = live; there = record { there = there }; has = (laws_of sound).live e.part key e.value (record { there = there }) }
 
-  pub lives_nowhere : IsSound es → is_some (live_value (find es 0 key)) ≡ false → LivesInNoRun es key → get (content es) key ≡ None
+  pub lives_nowhere : AreWellFormed es → is_some (live_value (find es 0 key)) ≡ false → LivesInNoRun es key → get (content es) key ≡ None
   lives_nowhere sound dead none = (laws_of sound).dead key (λ part value live.
       ⊎_elim
       (λ (same : part ≡ 0). found_dead 0 dead value (subst (λ (p : ℕ). IsLiveAt es p key value) same live))
@@ -109,17 +106,6 @@ module _ (es : List Entry) (key : OrderedKey) where
   -- the key is live in none of the runs below a partition
   abbrev pub NotLiveBelow : ℕ → Type 0
   NotLiveBelow to = (part : ℕ) (value : List ℕ) → 0 < part → part < to → IsLiveAt es part key value → ⊥
-
-  pub lacks_live : (from to : ℕ) → NotLiveBelow from → Lacks es key from to → NotLiveBelow to
-  lacks_live from to below lacks = λ part value some lt live.
-      ⊎_elim (λ (less : part < from). below part value some less live) (λ (le : from ≤ part). none-some (value, false) (sym (lacks part le lt) ∙ live.there)) (cases_lt part from)
-
-  pub one_more_dead : (part : ℕ) → NotLiveBelow part → is_some (live_value (find es part key)) ≡ false → NotLiveBelow (part + 1)
-  one_more_dead part below dead = λ p value some lt live.
-      ⊎_elim
-      (λ (same : p ≡ part). found_dead {es = es} {key = key} part dead value (subst (λ (q : ℕ). IsLiveAt es q key value) same live))
-      (λ (other : p ≢ part). below p value some (omega (arith, other, lt)) live)
-      (cases_eq p part)
 
 -- ---- the runs that a look went through
 
@@ -141,12 +127,6 @@ module _ (key : OrderedKey) (from to : ℕ) where
   went [] (suc at) i up below none stop = tt
   went (r ∷ rs) (suc at) i up below none stop = (let lt : r.part < from = below.0 in (λ low high. absurd (omega (arith, lt, low))), went rs at i up.1 below.1 none stop)
 
-  pub one_more_denied : (rs : List OpenRun) (i : ℕ) (r : OpenRun) → i < length rs → r ≡ get_or rs i r → holds r.filter key ≡ false → AllByRecursion (λ (q : OpenRun). holds q.filter key ≡ false) (take i rs)
-      → AllByRecursion (λ (q : OpenRun). holds q.filter key ≡ false) (take (suc i) rs)
-  one_more_denied [] i r lt e out before = absurd (omega arith)
-  one_more_denied (q ∷ rs) zero r lt e out before = (subst (λ (x : OpenRun). holds x.filter key ≡ false) e out, tt)
-  one_more_denied (q ∷ rs) (suc i) r lt e out before = (before.0, one_more_denied rs i r (omega arith) e out before.1)
-
   -- where the rest was cut out as a slice
   pub went_on : (rs rest : List OpenRun) (at i : ℕ) → rest ≡ drop at rs → PartsRise (parts_of rs) → AllByRecursion (λ (r : OpenRun). r.part < from) (take at rs) → AllByRecursion (λ (r : OpenRun). holds r.filter key ≡ false) (take i rest)
       → ((d : OpenRun) → i < length rest → to ≤ (get_or rest i d).part) → Deny key from to rs
@@ -159,7 +139,7 @@ of_none None not h = h
 of_none (Some e) not h = absurd (not e refl)
 
 -- a key that is live has an entry that lives in the content
-module _ (es : List Entry) (key : OrderedKey) (sound : IsSound es) where
+module _ (es : List Entry) (key : OrderedKey) (sound : AreWellFormed es) where
   pub taken_in_final : is_some (live_value (find es 0 key)) ≡ true → IsSome (get (content es) key)
   taken_in_final live = ap is_some (lives_found {es = es} {key = key} sound 0 live).in_content
 

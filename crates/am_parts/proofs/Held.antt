@@ -8,9 +8,9 @@ use Rattle.am_record.specs.declared.entry.Entry.{Entry}
 use Rattle.am_record.proofs.Lists.{AllByRecursion-map, AllByRecursion-append}
 use Rattle.am_list.specs.Entries.{insert_entry}
 use Rattle.am_list.specs.Runs.{run_entries}
-use Rattle.am_filter.specs.Held.{holds}
+use Rattle.am_filter.specs.Filters.{holds}
 use Rattle.am_parts.specs.declared.generations.Generation.{Generation}
-use Rattle.am_parts.specs.Generations.{is_held, AreHeld, IsGenerationAt, IsReached, HasGrown}
+use Rattle.am_parts.specs.Generations.{is_held, AreHeld, IsGenerationAt, IsInGenerations, HasGrown}
 use Rattle.am_parts.proofs.Counts.{all_inserted}
 
 -- ---- one key of one partition
@@ -102,7 +102,7 @@ module _ (part : ℕ) (key : OrderedKey) where
 
 -- ---- whether a partition has a generation
 
-pub reached_at : (part : ℕ) (gens : List Generation) (i : ℕ) → IsGenerationAt gens part i → IsReached gens part → i < length gens
+pub reached_at : (part : ℕ) (gens : List Generation) (i : ℕ) → IsGenerationAt gens part i → IsInGenerations gens part → i < length gens
 reached_at part [] i at some = absurd (false≢true some)
 reached_at part (g ∷ gs) zero at some = omega arith
 reached_at part (g ∷ gs) (suc i) at some =
@@ -110,15 +110,6 @@ reached_at part (g ∷ gs) (suc i) at some =
     (λ here. let lt : part < g.end = ltb-true part g.end here in let le : g.end ≤ part = at.below.0 in absurd (omega (arith, lt, le)))
     (λ later. let lt : i < length gs = reached_at part gs i (record { in_range = omega (arith, at.in_range); below = at.below.1; here = λ d lt. at.here d (omega arith) }) later in omega (arith, lt))
     (or_cases (nat_lt part g.end) _ some)
-
-pub reached_by : (part : ℕ) (gens : List Generation) (i : ℕ) (d : Generation) → i < length gens → part < (get_or gens i d).end → IsReached gens part
-reached_by part [] i d lt above = absurd (omega arith)
-reached_by part (g ∷ gs) zero d lt above = or_left (nat_lt part g.end) _ (lt-ltb part g.end above)
-reached_by part (g ∷ gs) (suc i) d lt above = or_right (nat_lt part g.end) _ (reached_by part gs i d (omega arith) above)
-
-pub reached_last : (part : ℕ) (gens : List Generation) (s : Generation) → part < s.end → IsReached (gens ++ s ∷ []) part
-reached_last part [] s above = or_left (nat_lt part s.end) _ (lt-ltb part s.end above)
-reached_last part (g ∷ gs) s above = or_right (nat_lt part g.end) _ (reached_last part gs s above)
 
 -- one more in front of which the search went
 pub one_more_below : (part : ℕ) (gens : List Generation) (i : ℕ) (d : Generation) → i < length gens → (get_or gens i d).end ≤ part → AllByRecursion (λ (g : Generation). g.end ≤ part) (take i gens)

@@ -8,7 +8,7 @@ use Rattle.am_list.specs.Edits.{same_place}
 use Rattle.am_list.specs.Content.{content, HasContent, IsLiveAt}
 use Rattle.am_list.proofs.Edits.{other_part}
 use Rattle.am_list.proofs.EditLaws.{edit_laws}
-use Rattle.am_parts.specs.Partitions.{IsSound, settled, brought_home}
+use Rattle.am_parts.specs.Partitions.{AreWellFormed, settled, brought_home}
 use Rattle.am_parts.proofs.Lives.{laws_of}
 
 module _ (e : Entry) (es : List Entry) (in_run : e.part ≢ 0) where
@@ -31,7 +31,7 @@ module _ (e : Entry) (es : List Entry) (in_run : e.part ≢ 0) where
           ∙ ap is_some ((edit_laws es rises).find_set 0 e.key e.value false (ap is_some h) e.part e.key ∙ cond-false (same_place e.part e.key 0 e.key) (Some (e.value, false)) (find es e.part e.key) apart) ∙ there
 
   -- at home, the content is as it was
-  pub content_at_home : IsSound es → find es e.part e.key ≡ Some (slot_of e) → e.is_ghost ≡ false → HasContent (brought_home e es) (content es)
+  pub content_at_home : AreWellFormed es → find es e.part e.key ≡ Some (slot_of e) → e.is_ghost ≡ false → HasContent (brought_home e es) (content es)
   content_at_home sound stands live = by_cases (find es 0 e.key) refl
     where
       lives : IsLiveAt es e.part e.key e.value

@@ -9,9 +9,9 @@ use Rattle.am_record.specs.declared.entry.Entry.{Entry}
 use Rattle.am_record.proofs.Lists.{AllByRecursion-map, AllByRecursion-append, AllByRecursion-at}
 use Rattle.am_list.specs.Entries.{find, insert_entry, set_entry, remove_entry}
 use Rattle.am_list.specs.Runs.{run_entries}
-use Rattle.am_filter.specs.Held.{holds}
+use Rattle.am_filter.specs.Filters.{holds}
 use Rattle.am_parts.specs.declared.catalog.OpenRun.{OpenRun}
-use Rattle.am_parts.specs.Catalogs.{left_in, IsOpenRun, parts_of, PartsRise, is_one_of, AreListed, IsRunAt, IsGapAt, HasMore, IsRunOf, IsNext}
+use Rattle.am_parts.specs.Catalogs.{left_in, IsOpenRun, parts_of, PartsRise, is_one_of, AreListed, IsRunAt, IsGapAt, HasMore, IsOpenRunOf, IsNext}
 use Rattle.am_parts.proofs.Counts.{one_if, none_if, all_inserted, all_removed, all_set, count_inserted, count_removed, count_set, count_append, count_run, none_in_run, none_counted, none_left}
 
 -- ---- rising partitions
@@ -302,7 +302,7 @@ listed_set {es} {n} {runs} part key value is_ghost h = record {
 }
 
 -- a run more behind all others
-module _ {es : List Entry} {n : ℕ} {runs : List OpenRun} (h : AreListed es n runs) (part : ℕ) (rs : Records) (nxt : IsNext es part rs) (s : OpenRun) (it : IsRunOf part rs s) where
+module _ {es : List Entry} {n : ℕ} {runs : List OpenRun} (h : AreListed es n runs) (part : ℕ) (rs : Records) (nxt : IsNext es part rs) (s : OpenRun) (it : IsOpenRunOf part rs s) where
   none_above : (p : ℕ) (fs : List Entry) → part ≤ p → AllByRecursion (λ (e : Entry). e.part < part) fs → left_in p fs ≡ 0
   none_above p fs le above = none_counted p fs (AllByRecursion-map (λ e. e.part < part) (λ e. e.part ≢ p) (λ e lt same. absurd (omega (arith, lt, same, le))) fs above)
 

@@ -6,13 +6,13 @@ use Rattle.am_record.specs.OrderedKey.{OrderedKey}
 use Rattle.am_record.specs.declared.entry.Entry.{Entry}
 use Rattle.am_list.specs.Content.{content, IsLiveAt, ContentLaws}
 use Rattle.am_list.proofs.ContentLaws.{content_laws}
-use Rattle.am_parts.specs.Partitions.{IsSound, LivesIn, LivesNowhereElse}
+use Rattle.am_parts.specs.Partitions.{AreWellFormed, LivesIn, LivesNowhereElse}
 
 -- all that am_list says of their content
-pub laws_of : {es : List Entry} → IsSound es → ContentLaws es
+pub laws_of : {es : List Entry} → AreWellFormed es → ContentLaws es
 laws_of {es} sound = content_laws es sound.rising sound.one_place
 
-module _ {es : List Entry} (sound : IsSound es) {key : OrderedKey} where
+module _ {es : List Entry} (sound : AreWellFormed es) {key : OrderedKey} where
   pub lives_in : {part : ℕ} {value : List ℕ} → IsLiveAt es part key value → LivesIn es part key
   lives_in {part} {value} live = record { value = value; live = live; in_content = (laws_of sound).live part key value live }
 

@@ -7,7 +7,7 @@ use Rattle.am_record.specs.KeyMix.{key_mix}
 use Rattle.am_record.specs.Plain.{Records}
 use Rattle.am_record.specs.declared.entry.Entry.{Entry}
 use Rattle.am_list.specs.Entries.{find}
-use Rattle.am_filter.specs.Held.{holds}
+use Rattle.am_filter.specs.Filters.{holds}
 use Rattle.am_parts.specs.Generations.{AreHeld}
 use Rattle.am_parts.specs.declared.catalog.OpenRun.{OpenRun}
 use Rattle.am_parts.specs.declared.catalog.Catalog.{Catalog}
@@ -85,7 +85,7 @@ pub record HasMore (old : OpenRun) (key : OrderedKey) (new : OpenRun) : Type 0 w
   pub kept : (k : OrderedKey) → holds old.filter k ≡ true → holds new.filter k ≡ true
 
 -- the run of those records
-pub record IsRunOf (part : ℕ) (rs : Records) (run : OpenRun) : Type 0 where
+pub record IsOpenRunOf (part : ℕ) (rs : Records) (run : OpenRun) : Type 0 where
   pub at : run.part ≡ part
   pub left : run.left ≡ length rs
   pub held : AllByRecursion (λ r. holds run.filter r.0 ≡ true) rs

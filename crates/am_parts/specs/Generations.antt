@@ -4,7 +4,7 @@ use Rattle.std.specs.Prelude.{slice_index_or, if◌then◌else◌}
 use Rattle.std.specs.List.{AllByRecursion, list_any}
 use Rattle.am_record.specs.OrderedKey.{OrderedKey}
 use Rattle.am_record.specs.declared.entry.Entry.{Entry}
-use Rattle.am_filter.specs.Held.{holds}
+use Rattle.am_filter.specs.Filters.{holds}
 use Rattle.am_parts.specs.declared.generations.Generation.{Generation}
 
 -- whether the key is held by the generation of the partition, the first that ends above it
@@ -23,8 +23,8 @@ pub record IsGenerationAt (gens : List Generation) (part : ℕ) (i : ℕ) : Type
   pub here : (d : Generation) → i < length gens → part < (slice_index_or gens i d).end
 
 -- the partition has a generation
-abbrev pub IsReached : List Generation → ℕ → Type 0
-IsReached gens part = list_any (λ g. nat_lt part g.end) gens ≡ true
+abbrev pub IsInGenerations : List Generation → ℕ → Type 0
+IsInGenerations gens part = list_any (λ g. nat_lt part g.end) gens ≡ true
 
 -- the partitions of the generation at the index are from one bound up to another
 pub record IsStretch (gens : List Generation) (i : ℕ) (from to : ℕ) : Type 0 where

@@ -24,7 +24,7 @@ partitions_code =
     (λ p. record { entries = p.0; runs = p.1 }) (λ _. refl)
 
 -- the entries rise, no key is live in two partitions, and the numbers of partitions are u32s
-pub record IsSound (es : List Entry) : Type 0 where
+pub record AreWellFormed (es : List Entry) : Type 0 where
   pub rising : IsRising es
   pub one_place : OnePlace es
   pub fits : AllByRecursion (λ e. e.part < 2 ^ 32) es
@@ -67,8 +67,8 @@ abbrev pub content_without : List Entry → ℕ → OrderedKey → PlainMap
 content_without es part key = if is_some (live_value (find es part key)) then remove (content es) key else content es
 
 -- the content with that value and mark at that partition and key
-abbrev pub content_marked : List Entry → ℕ → OrderedKey → List ℕ → Bool → PlainMap
-content_marked es part key value is_ghost = if is_ghost then content_without es part key else insert
+abbrev pub content_set : List Entry → ℕ → OrderedKey → List ℕ → Bool → PlainMap
+content_set es part key value is_ghost = if is_ghost then content_without es part key else insert
     (content es) key value
 
 -- what a new record of the key meets: the key is live; else a ghost of it may stand in the final partition, or nothing

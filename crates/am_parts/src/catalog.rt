@@ -8,10 +8,11 @@ ghost use Rattle.am_record.specs.OrderedKey.{OrderedKey};
 ghost use Rattle.am_record.specs.declared.entry.Entry.{Entry};
 ghost use Rattle.am_list.specs.Entries.{find, insert_entry, remove_entry};
 ghost use Rattle.am_list.specs.Runs.{run_entries};
-ghost use Rattle.am_filter.specs.Held.{holds};
-ghost use Rattle.am_parts.specs.Generations.{IsReached};
+ghost use Rattle.am_filter.specs.Filters.{holds};
+ghost use Rattle.am_parts.specs.Generations.{IsInGenerations};
 ghost use Rattle.am_parts.specs.declared.generations.Generation.{Generation};
-ghost use Rattle.am_parts.specs.Catalogs.{parts_of, PartsRise, IsRunAt, IsGapAt, HasCounted, HasMore, IsRunOf, IsNext};
+ghost use Rattle.am_parts.specs.Catalogs.{parts_of, PartsRise, IsRunAt, IsGapAt, HasCounted, HasMore, IsOpenRunOf};
+ghost use Rattle.am_parts.specs.Catalogs.{IsNext};
 
 use crate::generations::{Generations, SOME_KEYS};
 use am_filter::Filter;
@@ -30,7 +31,7 @@ pub(crate) struct OpenRun {
 
 impl OpenRun {
     fn of(alloc: Global, part: u32, pairs: &[(Key, Value)]) -> Result<OpenRun, NoMemory>
-        ensures { IfOk result (IsRunOf part pairs.now) }
+        ensures { IfOk result (IsOpenRunOf part pairs.now) }
     {
         let filter = Filter::of(alloc, pairs)?;
         Ok(OpenRun {
@@ -273,9 +274,9 @@ impl Catalog {
         part: u32,
         pairs: &[(Key, Value)],
     ) -> Result<OpenRun, NoMemory>
-        ensures run { IfOk result (IsRunOf part pairs.now) }
+        ensures run { IfOk result (IsOpenRunOf part pairs.now) }
         ensures room { OnOk result (vec_len self.new.runs < vec_capacity self.new.runs) }
-        ensures reached { OnOk result (IsReached self.new.generations.list.items part) }
+        ensures reached { OnOk result (IsInGenerations self.new.generations.list.items part) }
         ensures same { (es : List Entry) → AllByRecursion (λ e. e.part < part) es → IsCatalog es self.old →
             IsCatalog es self.new }
     {
@@ -298,9 +299,9 @@ impl Catalog {
     /// Puts the run of these records behind all others, for which room was got. Takes no memory.
     pub(crate) fn push(&mut self, run: OpenRun, pairs: &[(Key, Value)])
         requires room { vec_len self.old.runs < vec_capacity self.old.runs }
-        requires reached { IsReached self.old.generations.list.items run.part }
+        requires reached { IsInGenerations self.old.generations.list.items run.part }
         ensures { (es : List Entry) (part : ℕ) → IsCatalog es self.old → IsNext es part pairs.now →
-            IsRunOf part pairs.now run → IsCatalog (es ++ run_entries part pairs.now) self.new }
+            IsOpenRunOf part pairs.now run → IsCatalog (es ++ run_entries part pairs.now) self.new }
     {
         self.generations.push(run.part, pairs);
         let Ok(()) = self.runs.push(run) else {

@@ -7,8 +7,8 @@ ghost use Rattle.am_record.specs.OrderedKey.{OrderedKey};
 ghost use Rattle.am_record.specs.declared.entry.Entry.{Entry};
 ghost use Rattle.am_list.specs.Entries.{insert_entry};
 ghost use Rattle.am_list.specs.Runs.{run_entries};
-ghost use Rattle.am_filter.specs.Held.{holds};
-ghost use Rattle.am_parts.specs.Generations.{AreHeld, HasGrown, IsGenerationAt, IsReached, IsStretch};
+ghost use Rattle.am_filter.specs.Filters.{holds};
+ghost use Rattle.am_parts.specs.Generations.{AreHeld, HasGrown, IsGenerationAt, IsInGenerations, IsStretch};
 
 use am_filter::Filter;
 use am_record::{Key, NoMemory, Value};
@@ -132,7 +132,7 @@ impl Generations {
     /// # Errors
     /// NoMemory, where memory was refused.
     pub(crate) fn make_room(&mut self, part: u32, keys: usize, left: usize) -> Result<(), NoMemory>
-        ensures reached { OnOk result (IsReached self.new.list.items part) }
+        ensures reached { OnOk result (IsInGenerations self.new.list.items part) }
         ensures kept { (es : List Entry) → AllByRecursion (λ e. e.part < part) es → AreHeld es self.old.list.items →
             AreHeld es self.new.list.items }
     {
@@ -149,7 +149,7 @@ impl Generations {
 
     // Whether the newest one has room for so many keys.
     fn has_room(&self, keys: usize) -> bool
-        ensures { result ≡ true → (part : ℕ) → part < 2 ^ 32 → IsReached self.now.list.items part }
+        ensures { result ≡ true → (part : ℕ) → part < 2 ^ 32 → IsInGenerations self.now.list.items part }
     {
         match self.list.last() {
             Some(newest) => newest.has_room(keys),
@@ -176,7 +176,7 @@ impl Generations {
 
     /// Puts the keys of a run behind all others into its generation. Takes no memory.
     pub(crate) fn push(&mut self, part: u32, pairs: &[(Key, Value)])
-        requires { IsReached self.old.list.items part }
+        requires { IsInGenerations self.old.list.items part }
         ensures { (es : List Entry) → AreHeld es self.old.list.items →
             AreHeld (es ++ run_entries part pairs.now) self.new.list.items }
     {

@@ -45,7 +45,7 @@ impl<I: PartIndex + Drop> Model for Parts<I> {
     ghost use Rattle.std.specs.Prelude.{◌≤◌};
     ghost use Rattle.am_parts.specs.Catalogs.{IsCatalog};
     ghost use Rattle.am_parts.specs.Merged.{AreMerged};
-    ghost use Rattle.am_parts.specs.Partitions.{Partitions, partitions_code, IsSound};
+    ghost use Rattle.am_parts.specs.Partitions.{Partitions, partitions_code, AreWellFormed};
 
     ghost Value = { Partitions };
 
@@ -53,14 +53,15 @@ impl<I: PartIndex + Drop> Model for Parts<I> {
 
     ghost view = { λ p. record { entries = I.entries p.index; runs = p.runs } };
 
-    ghost invariant = { λ p. IsSound (I.entries p.index) × (p.runs ≤ 65535) × IsCatalog (I.entries p.index) p.catalog ×
+    ghost invariant = { λ p. AreWellFormed (I.entries p.index) × (p.runs ≤ 65535) ×
+        IsCatalog (I.entries p.index) p.catalog ×
         AreMerged (I.entries p.index) p.runs p.merged.list.items };
 }
 
 impl<I: PartIndex + Drop> Parts<I> {
-    ghost use Rattle.am_parts.specs.Partitions.{IsSound, AreEmpty, AreEmptyFrom, LivesIn, LivesInNoRun};
+    ghost use Rattle.am_parts.specs.Partitions.{AreWellFormed, AreEmpty, AreEmptyFrom, LivesIn, LivesInNoRun};
     ghost use Rattle.am_parts.specs.Partitions.{LivesNowhereElse, IsLiveEntry, IsVacancy, content_with};
-    ghost use Rattle.am_parts.specs.Partitions.{content_without, content_marked, brought_home};
+    ghost use Rattle.am_parts.specs.Partitions.{content_without, content_set, brought_home};
 
     /// The partitions of an empty index.
     pub fn new(alloc: Global, index: I) -> Parts<I>
@@ -80,7 +81,7 @@ impl<I: PartIndex + Drop> Parts<I> {
     pub fn runs(&self) -> u32
         ensures runs { result ≡ self.now.runs }
         ensures limit { result ≤ 65535 }
-        ensures sound { IsSound self.now.entries }
+        ensures sound { AreWellFormed self.now.entries }
     {
         self.runs
     }
@@ -89,7 +90,7 @@ impl<I: PartIndex + Drop> Parts<I> {
     /// it isn't searched.
     pub fn find(&self, part: u32, key: Key) -> Option<(Value, bool)>
         ensures found { result ≡ find self.now.entries part key }
-        ensures sound { IsSound self.now.entries }
+        ensures sound { AreWellFormed self.now.entries }
     {
         if part == 0 && !self.catalog.has_final() {
             return None;
@@ -100,7 +101,7 @@ impl<I: PartIndex + Drop> Parts<I> {
     /// The first entry of the partition at or above the key.
     pub fn next_from(&self, part: u32, key: Key) -> Option<Entry>
         ensures found { result ≡ next_from self.now.entries part key }
-        ensures sound { IsSound self.now.entries }
+        ensures sound { AreWellFormed self.now.entries }
     {
         self.index.next_from(part, key)
     }
@@ -108,7 +109,7 @@ impl<I: PartIndex + Drop> Parts<I> {
     /// The first entry of the partition strictly above the key.
     pub fn after(&self, part: u32, key: Key) -> Option<Entry>
         ensures found { result ≡ after self.now.entries part key }
-        ensures sound { IsSound self.now.entries }
+        ensures sound { AreWellFormed self.now.entries }
     {
         self.index.after(part, key)
     }
@@ -117,7 +118,7 @@ impl<I: PartIndex + Drop> Parts<I> {
     /// room for. Where it is not full afterwards, the partition has no further ones.
     pub fn read_from(&self, part: u32, key: Key, batch: &mut Batch)
         ensures read { batch.new ≡ take 16 (batch.old ++ all_from self.now.entries part key) }
-        ensures sound { IsSound self.now.entries }
+        ensures sound { AreWellFormed self.now.entries }
     {
         self.index.read_from(part, key, batch);
     }
@@ -126,7 +127,7 @@ impl<I: PartIndex + Drop> Parts<I> {
     /// room for. Where it is not full afterwards, the partition has no further ones.
     pub fn read_on(&self, part: u32, key: Key, batch: &mut Batch)
         ensures read { batch.new ≡ take 16 (batch.old ++ all_after self.now.entries part key) }
-        ensures sound { IsSound self.now.entries }
+        ensures sound { AreWellFormed self.now.entries }
     {
         self.index.read_on(part, key, batch);
     }
@@ -146,7 +147,7 @@ impl<I: PartIndex + Drop> Parts<I> {
         requires { length rows.old.items ≤ max }
         ensures copied { OnOk result (rows.new.items ≡ take max
             (rows.old.items ++ rows_in self.now.entries part range)) }
-        ensures sound { IsSound self.now.entries }
+        ensures sound { AreWellFormed self.now.entries }
     {
         self.index.copy_rows(part, range, max, rows)
     }
@@ -156,7 +157,7 @@ impl<I: PartIndex + Drop> Parts<I> {
         ensures further { IfSome result (λ part. from ≤ part) }
         ensures passed { IfSome result (λ part. AreEmpty self.now.entries from part) }
         ensures none { IfNone result (AreEmptyFrom self.now.entries from) }
-        ensures sound { IsSound self.now.entries }
+        ensures sound { AreWellFormed self.now.entries }
     {
         self.catalog.next_part(from)
     }
@@ -165,7 +166,7 @@ impl<I: PartIndex + Drop> Parts<I> {
     /// partition.
     pub fn next_any(&self, part: u32, key: Key) -> Option<Entry>
         ensures found { result ≡ next_any self.now.entries part key }
-        ensures sound { IsSound self.now.entries }
+        ensures sound { AreWellFormed self.now.entries }
     {
         self.index.next_any(part, key)
     }
@@ -174,7 +175,7 @@ impl<I: PartIndex + Drop> Parts<I> {
     /// partition.
     pub fn next_ghost(&self, part: u32, key: Key) -> Option<Entry>
         ensures found { result ≡ next_ghost self.now.entries part key }
-        ensures sound { IsSound self.now.entries }
+        ensures sound { AreWellFormed self.now.entries }
     {
         self.index.next_ghost(part, key)
     }
@@ -183,7 +184,7 @@ impl<I: PartIndex + Drop> Parts<I> {
     pub fn place_of(&self, key: Key) -> Option<u32>
         ensures live { IfSome result (λ part. LivesIn self.now.entries part key) }
         ensures absent { IfNone result (get (content self.now.entries) key ≡ None) }
-        ensures sound { IsSound self.now.entries }
+        ensures sound { AreWellFormed self.now.entries }
     {
         Some(self.live_entry(key)?.part)
     }
@@ -192,7 +193,7 @@ impl<I: PartIndex + Drop> Parts<I> {
     pub fn live_entry(&self, key: Key) -> Option<Entry>
         ensures live { IfSome result (λ e. IsLiveEntry self.now.entries key e) }
         ensures absent { IfNone result (get (content self.now.entries) key ≡ None) }
-        ensures sound { IsSound self.now.entries }
+        ensures sound { AreWellFormed self.now.entries }
     {
         let slot = self.find(0, key);
         if let Some(entry) = live_at(0, key, slot) {
@@ -205,7 +206,7 @@ impl<I: PartIndex + Drop> Parts<I> {
     pub fn live_in_runs(&self, key: Key) -> Option<Entry>
         ensures live { IfSome result (λ e. IsLiveEntry self.now.entries key e) }
         ensures absent { IfNone result (LivesInNoRun self.now.entries key) }
-        ensures sound { IsSound self.now.entries }
+        ensures sound { AreWellFormed self.now.entries }
     {
         let number = key.mixed();
         let mut from = 1;
@@ -222,7 +223,7 @@ impl<I: PartIndex + Drop> Parts<I> {
     /// What a new record of the key meets.
     pub fn vacancy(&self, key: Key) -> Vacancy
         ensures met { IsVacancy self.now.entries key result }
-        ensures sound { IsSound self.now.entries }
+        ensures sound { AreWellFormed self.now.entries }
     {
         let slot = self.find(0, key);
         if is_live(&slot) || self.live_in_runs(key).is_some() {
@@ -251,13 +252,13 @@ impl<I: PartIndex + Drop> Parts<I> {
         insert_or_forget(&mut self.index, &mut self.catalog, entry)
     }
 
-    /// Writes over the value and the mark of an entry. The caller sees to it that it is there, and
+    /// Writes over the value of an entry, and whether it is a ghost. The caller sees to it that it is there, and
     /// where it is to be live, that its key is live in no other partition. Takes no memory.
-    pub fn mark(&mut self, part: u32, key: Key, value: Value, is_ghost: bool)
+    pub fn set(&mut self, part: u32, key: Key, value: Value, is_ghost: bool)
         requires present { IsSome (find self.old.entries part key) }
         requires alone { is_ghost ≡ false → LivesNowhereElse self.old.entries part key }
         ensures entries { self.new.entries ≡ set_entry self.old.entries part key value is_ghost }
-        ensures content { HasContent self.new.entries (content_marked self.old.entries part key value is_ghost) }
+        ensures content { HasContent self.new.entries (content_set self.old.entries part key value is_ghost) }
         ensures runs { self.new.runs ≡ self.old.runs }
     {
         self.index.set(part, key, value, is_ghost);
@@ -286,7 +287,7 @@ impl<I: PartIndex + Drop> Parts<I> {
         requires live { entry.now.is_ghost ≡ false }
         ensures entries { OnOk result (self.new.entries ≡ brought_home entry.now self.old.entries) }
         ensures content { OnOk result (HasContent self.new.entries (content self.old.entries)) }
-        ensures sound { IsSound self.old.entries }
+        ensures sound { AreWellFormed self.old.entries }
         ensures err { OnErr result (self.new.entries ≡ self.old.entries) }
         ensures place { OnErr result (find self.old.entries 0 entry.now.key ≡ None) }
         ensures runs { self.new.runs ≡ self.old.runs }
@@ -301,7 +302,7 @@ impl<I: PartIndex + Drop> Parts<I> {
     pub fn first_run(&self, range: Range) -> u32
         ensures is_run { 0 < result }
         ensures none_before { HasNoneBefore self.now.entries range result }
-        ensures sound { IsSound self.now.entries }
+        ensures sound { AreWellFormed self.now.entries }
     {
         self.merged.first_run(&range)
     }

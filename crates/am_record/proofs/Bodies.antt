@@ -3,17 +3,17 @@ use Rattle.std.proofs.Common.{◌≡◌, List, [], ◌∷◌, ◌++◌, length, 
 use Rattle.std.proofs.Math.Seq.{take-length, take-append_seam}
 use Rattle.am_record.specs.declared.lock.Lock.{Lock}
 use Rattle.am_record.specs.declared.step.Op.{Op}
-use Rattle.am_record.specs.Plain.{Draft, answer, after, answers_on, left_on}
+use Rattle.am_record.specs.Plain.{Draft, answer, draft_after, answers_on, left_on}
 use Rattle.am_record.specs.Locks.{is_covered}
 use Rattle.am_record.specs.Asks.{lock_of, with_asked, locks_from}
 
 pub answers_on_push : (ops : List Op) (op : Op) (d : Draft) → answers_on (ops ++ op ∷ []) d ≡ answers_on ops d ++ answer op (left_on ops d) ∷ []
 answers_on_push [] op d = refl
-answers_on_push (o ∷ ops) op d = ap (λ rs. answer o d ∷ rs) (answers_on_push ops op (after o d))
+answers_on_push (o ∷ ops) op d = ap (λ rs. answer o d ∷ rs) (answers_on_push ops op (draft_after o d))
 
-pub left_on_push : (ops : List Op) (op : Op) (d : Draft) → left_on (ops ++ op ∷ []) d ≡ after op (left_on ops d)
+pub left_on_push : (ops : List Op) (op : Op) (d : Draft) → left_on (ops ++ op ∷ []) d ≡ draft_after op (left_on ops d)
 left_on_push [] op d = refl
-left_on_push (o ∷ ops) op d = left_on_push ops op (after o d)
+left_on_push (o ∷ ops) op d = left_on_push ops op (draft_after o d)
 
 pub locks_from_push : (ops : List Op) (op : Op) (locks : List Lock) → locks_from locks (ops ++ op ∷ []) ≡ with_asked (locks_from locks ops) (lock_of op)
 locks_from_push [] op locks = refl

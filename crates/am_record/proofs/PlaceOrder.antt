@@ -54,13 +54,3 @@ lower_part a b lt = by_order (place_cmp a b) refl
     by_order Greater h =
         let back : b.0 ≤ a.0 = place_cmp-part b a (λ greater. less_or_greater (place_cmp b a) (turned_greater a b h) greater) in
         absurd (omega arith)
-
-pub from_place : (part p : ℕ) (low key : OrderedKey) → part ≤ p → key_le low key ≡ true → place_cmp (part, low) (p, key) ≢ Greater
-from_place part p low key le from greater =
-    ⊎_elim
-    (λ below. less_or_greater (place_cmp (part, low) (p, key)) (lower_part (part, low) (p, key) below) greater)
-    (λ above.
-    let same : p ≡ part = omega arith in
-    let ranks : key_cmp low key ≡ Greater = sym (place_cmp-same part low key) ∙ ap (λ q. place_cmp (part, low) (q, key)) (sym same) ∙ greater in
-    true≢false (sym from ∙ ap is_le ranks))
-    (cases_lt part p)

@@ -15,3 +15,4 @@ pub mod Copies
 pub mod Refusals
 pub mod Sessions
 pub mod Marks
+pub mod Owners

@@ -97,29 +97,29 @@ abbrev pub went_back : List PlainMap → Reply
 went_back [] = NoMark
 went_back (m ∷ ms) = Done
 
-abbrev pub back : List PlainMap → Draft → Draft
-back [] d = d
-back (m ∷ ms) d = record { map = m; saved = ms }
+abbrev pub draft_back : List PlainMap → Draft → Draft
+draft_back [] d = d
+draft_back (m ∷ ms) d = record { map = m; saved = ms }
 
 -- what an operation answers on a draft, and the draft that it leaves: Mark saves the map of the moment
 abbrev pub answer : Op → Draft → Reply
 answer Back d = went_back d.saved
 answer op d = map_answer op d.map
 
-abbrev pub after : Op → Draft → Draft
-after Mark d = record { map = d.map; saved = d.map ∷ d.saved }
-after Back d = back d.saved d
-after op d = record { map = map_after op d.map; saved = d.saved }
+abbrev pub draft_after : Op → Draft → Draft
+draft_after Mark d = record { map = d.map; saved = d.map ∷ d.saved }
+draft_after Back d = draft_back d.saved d
+draft_after op d = record { map = map_after op d.map; saved = d.saved }
 
 -- the answers to the operations, one after another with nothing between
 abbrev pub answers_on : List Op → Draft → List Reply
 answers_on [] d = []
-answers_on (op ∷ ops) d = answer op d ∷ answers_on ops (after op d)
+answers_on (op ∷ ops) d = answer op d ∷ answers_on ops (draft_after op d)
 
 -- what they leave
 abbrev pub left_on : List Op → Draft → Draft
 left_on [] d = d
-left_on (op ∷ ops) d = left_on ops (after op d)
+left_on (op ∷ ops) d = left_on ops (draft_after op d)
 
 -- a whole body alone on a map: its answers, and the map that it leaves
 abbrev pub answers : List Op → PlainMap → List Reply

@@ -11,9 +11,9 @@ use Rattle.std.specs.List.Sorted.{IsPermutation}
 use Rattle.am_record.specs.OrderedKey.{OrderedKey, key_cmp, key_eq-exact}
 use Rattle.am_record.specs.KeyFront.{key_front}
 use Rattle.am_record.specs.Plain.{Records}
-use Rattle.am_runs.specs.Cuts.{keys_of, times, records_of, NoneTwice}
+use Rattle.am_runs.specs.Cuts.{keys_of, times_among, records_of, NoneTwice}
 use Rattle.am_runs.proofs.Pieces.{keys_of-append}
-use Rattle.am_runs.proofs.Twice.{one_at, none_at, times-cons}
+use Rattle.am_runs.proofs.Twice.{one_at, none_at, times_among-cons}
 
 abbrev fronts_of : List OrderedKey → List ℕ
 fronts_of ks = map key_front ks
@@ -36,14 +36,14 @@ at_most_one_where : (n m : ℕ) → one_where n m ≤ 1
 at_most_one_where n m = elim (nat_eq n m) as (λ b. cond b 1 0 ≤ 1) [ true ↦ omega arith | false ↦ omega arith ]
 
 -- as often as a key stands, so often its number does
-times_number : (k : OrderedKey) (ks : List OrderedKey) → times k ks ≤ count (key_front k) (fronts_of ks)
+times_number : (k : OrderedKey) (ks : List OrderedKey) → times_among k ks ≤ count (key_front k) (fronts_of ks)
 times_number k [] = omega arith
 times_number k (l ∷ ks) =
     ⊎_elim
     (λ tie.
     let same : one_where (key_front k) (key_front l) ≡ 1 = ap (λ b. cond b 1 0) (subst (λ x. nat_eq (key_front k) (key_front x) ≡ true) (key_eq-exact k l tie) (eq-eqb (key_front k) (key_front k) refl)) in
-    omega (arith, times-cons k l ks, one_at k l tie, count-cons (key_front k) (key_front l) (fronts_of ks), same, times_number k ks))
-    (λ apart. omega (arith, times-cons k l ks, none_at k l apart, count-cons (key_front k) (key_front l) (fronts_of ks), times_number k ks))
+    omega (arith, times_among-cons k l ks, one_at k l tie, count-cons (key_front k) (key_front l) (fronts_of ks), same, times_number k ks))
+    (λ apart. omega (arith, times_among-cons k l ks, none_at k l apart, count-cons (key_front k) (key_front l) (fronts_of ks), times_number k ks))
     (cases_Bool (eq_by_cmp key_cmp k l))
 
 -- ---- numbers that rise

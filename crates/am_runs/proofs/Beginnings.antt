@@ -16,15 +16,6 @@ use Rattle.am_list.proofs.Edits.{entry_at_slot}
 -- ---- one partition
 
 module _ {es : List Entry} (walks : WalkLaws es) (part : ℕ) (low : OrderedKey) where
-  nothing_from : ((key : OrderedKey) → key_le low key ≡ true → find es part key ≡ None) → next_from es part low ≡ None
-  nothing_from none = by_cases (next_from es part low) refl
-    where
-      by_cases : (o : Option Entry) → next_from es part low ≡ o → next_from es part low ≡ None
-      by_cases None h = h
-      by_cases (Some x) h =
-          let first = walks.from_some part low x h in
-          absurd (none-some (slot_of x) (sym (none x.key first.is_reached) ∙ entry_at_slot es part x.key x first.stands))
-
   pub first_is : (e : Entry) → entry_at es part e.key ≡ Some e → key_le low e.key ≡ true → ((key : OrderedKey) → key_le low key ≡ true → key_cmp key e.key ≡ Less → find es part key ≡ None) → next_from es part low ≡ Some e
   first_is e stands reached none_before = by_cases (next_from es part low) refl
     where

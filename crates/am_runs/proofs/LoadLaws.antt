@@ -13,7 +13,8 @@ use Rattle.am_record.proofs.Lists.{AllByRecursion-map}
 use Rattle.am_list.specs.Entries.{slot_of, entry_at, find, insert_entry, IsRising}
 use Rattle.am_list.proofs.Edits.{other_part, other_key, entry_at_slot, entry_at_beside_inserted}
 use Rattle.am_list.proofs.Content.{all_found}
-use Rattle.am_runs.specs.Loads.{live_entry, with_run, NothingAbove, LoadLaws}
+use Rattle.am_list.specs.Runs.{live_entry}
+use Rattle.am_runs.specs.Loads.{with_run, NothingAbove, LoadLaws}
 use Rattle.am_runs.proofs.Loaded.{none_above}
 
 module _ (run : ℕ) where

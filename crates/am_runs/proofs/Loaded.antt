@@ -13,9 +13,9 @@ use Rattle.am_record.specs.Plain.{is_rising}
 use Rattle.am_record.proofs.Lists.{AllByRecursion-map}
 use Rattle.am_record.proofs.Rising.{run_sorted}
 use Rattle.am_record.proofs.Outcomes.{on_ok}
-use Rattle.am_list.specs.Runs.{run_entries}
+use Rattle.am_list.specs.Runs.{live_entry, run_entries}
 use Rattle.am_parts.proofs.Bridge.{with_run as part_run, with_run_appends}
-use Rattle.am_runs.specs.Loads.{live_entry, with_run, NothingAbove, IsLoaded}
+use Rattle.am_runs.specs.Loads.{with_run, NothingAbove, IsLoaded}
 
 -- ---- nothing above
 

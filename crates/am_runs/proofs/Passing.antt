@@ -18,7 +18,7 @@ use Rattle.am_list.specs.Content.{IsLiveAt}
 use Rattle.am_list.proofs.Edits.{entry_at_slot}
 use Rattle.am_list.proofs.WalkLaws.{walk_laws}
 use Rattle.am_list.proofs.Content.{none_live}
-use Rattle.am_parts.specs.Partitions.{IsSound}
+use Rattle.am_parts.specs.Partitions.{AreWellFormed}
 use Rattle.am_parts.proofs.Lives.{lives_in}
 use Rattle.am_runs.specs.Looks.{NoneLiveIn, IsLeastLiveIn}
 use Rattle.am_runs.proofs.Parting.{is_below, kept, is_key_kept, sorted_kept}
@@ -74,7 +74,7 @@ module _ {es : List Entry} {part : ℕ} {pairs left : Records} (h : IsLeft es pa
   pub none_left : length left ≡ 0 → NoneLiveIn es part pairs
   none_left empty = passes_all (record { none = λ q value key live. no_key left q empty key })
 
-module _ {es : List Entry} (sound : IsSound es) {part : ℕ} {pairs : Records} (r : Record) (rs : Records) (h : IsLeft es part pairs (r ∷ rs)) where
+module _ {es : List Entry} (sound : AreWellFormed es) {part : ℕ} {pairs : Records} (r : Record) (rs : Records) (h : IsLeft es part pairs (r ∷ rs)) where
   walks : WalkLaws es
   walks = walk_laws es sound.rising
 

@@ -9,9 +9,9 @@ use Rattle.am_record.specs.OrderedKey.{OrderedKey}
 use Rattle.am_record.specs.Plain.{Records}
 use Rattle.am_runs.specs.declared.fault.LoadFault.{LoadFault}
 use Rattle.am_runs.specs.declared.fault.LoadFault.TheVariants.{NotRising, BadSize, Twice, NoMemory}
-use Rattle.am_runs.specs.Cuts.{keys_of, times, records_of, NoneTwice, IsRunOf, AreRunsOf, IsPieceFault, IsTwiceFault}
+use Rattle.am_runs.specs.Cuts.{keys_of, times_among, records_of, NoneTwice, IsRunOf, AreRunsOf, IsPieceFault, IsTwiceFault}
 use Rattle.am_record.proofs.FirstRows.{Record}
-use Rattle.am_runs.proofs.Twice.{times-append, found_permuted}
+use Rattle.am_runs.proofs.Twice.{times_among-append, found_permuted}
 use Rattle.am_runs.proofs.Sorts.{rising_apart}
 
 pub keys_of-append : (rs qs : Records) → keys_of (rs ++ qs) ≡ keys_of rs ++ keys_of qs
@@ -42,18 +42,6 @@ pub record IsCutting (n : ℕ) (all : Records) (runs : List Records) (rest : Rec
   pub front : Records
   pub split : all ≡ front ++ rest
   pub done : (later : List Records) → AreRunsOf n rest later → AreRunsOf n all (runs ++ later)
-
-pub cutting_starts : (n : ℕ) (all : Records) → IsCutting n all [] all
-cutting_starts n all = record { front = []; split = refl; done = λ later are. are }
-
--- a key that stands twice in a piece does so in the records
-pub twice_piece : {n : ℕ} {all : Records} {runs : List Records} {rest : Records} (piece rest' : Records) (key : OrderedKey) → rest ≡ piece ++ rest' → IsCutting n all runs rest
-    → 2 ≤ times key (keys_of piece) → 2 ≤ times key (keys_of all)
-twice_piece piece rest' key split h two =
-    let whole : _ ≡ h.front ++ (piece ++ rest') = h.split ∙ ap (λ (l : Records). h.front ++ l) split in
-    let parts = keys_of-append h.front (piece ++ rest') ∙ ap (λ ks. keys_of h.front ++ ks) (keys_of-append piece rest') in
-    let count = ap (times key) (ap keys_of whole ∙ parts) ∙ times-append key (keys_of h.front) (keys_of piece ++ keys_of rest') in
-    omega (arith, two, count, times-append key (keys_of piece) (keys_of rest'))
 
 pub cut_piece : {n : ℕ} {all : Records} {runs : List Records} {rest : Records} (piece rest' run : Records) → rest ≡ piece ++ rest' → length piece ≡ min n (length rest)
     → IsCutting n all runs rest → IsRunOf piece run → IsCutting n all (runs ++ run ∷ []) rest'

@@ -16,7 +16,7 @@ use Rattle.am_record.proofs.Orderings.{is_less}
 use Rattle.am_list.specs.Entries.{next_from}
 use Rattle.am_list.specs.Content.{content, IsLiveAt}
 use Rattle.am_list.proofs.WalkLaws.{walk_laws}
-use Rattle.am_parts.specs.Partitions.{IsSound, LivesIn, LivesInNoRun}
+use Rattle.am_parts.specs.Partitions.{AreWellFormed, LivesIn, LivesInNoRun}
 use Rattle.am_parts.proofs.Lives.{laws_of}
 use Rattle.am_runs.specs.Looks.{NoneLiveIn, IsLeastLiveIn, NoneInRuns, IsLeastInRuns}
 use Rattle.am_runs.proofs.Parting.{not_less, less_not, is_below, kept, is_key_kept, sorted_kept}
@@ -25,15 +25,11 @@ use Rattle.am_runs.proofs.Taken.{least_found}
 
 -- ---- the final partition
 
-pub empty_final : {es : List Entry} → IsSound es → (pairs : Records) (r : Record) → slice_get pairs 0 ≡ Some r → is_sorted key_cmp pairs ≡ true → next_from es 0 r.0 ≡ None → NoneLiveIn es 0 pairs
+pub empty_final : {es : List Entry} → AreWellFormed es → (pairs : Records) (r : Record) → slice_get pairs 0 ≡ Some r → is_sorted key_cmp pairs ≡ true → next_from es 0 r.0 ≡ None → NoneLiveIn es 0 pairs
 empty_final sound [] r first sorted none = absurd (none-some r first)
 empty_final {es} sound (x ∷ rs) r first sorted none = nothing_reached (walk_laws es sound.rising) 0 x rs sorted (ap (λ (y : Record). next_from es 0 y.0) (same_Some _ _ first) ∙ none)
 
-pub no_pairs : (es : List Entry) (pairs : Records) → slice_get pairs 0 ≡ None → NoneLiveIn es 0 pairs
-no_pairs es [] none = record { none = λ q value key. absurd (no_key [] q refl key) }
-no_pairs es (x ∷ rs) none = absurd (none-some x (sym none))
-
-pub first_of_final : {es : List Entry} (sound : IsSound es) (low : OrderedKey) (e : Entry) → next_from es 0 low ≡ Some e → e.part ≡ 0
+pub first_of_final : {es : List Entry} (sound : AreWellFormed es) (low : OrderedKey) (e : Entry) → next_from es 0 low ≡ Some e → e.part ≡ 0
 first_of_final {es} sound low e next = ((walk_laws es sound.rising).from_some 0 low e next).in_part
 
 pub from_first : (es : List Entry) (pairs : Records) (r : Record) (e : Entry) → slice_get pairs 0 ≡ Some r → e.part ≡ 0 → next_from es 0 r.0 ≡ Some e → IfSome (first_key pairs) (λ low. next_from es e.part low ≡ Some e)
@@ -83,7 +79,7 @@ IsRunsAnswer es pairs (Some k) = IsLeastInRuns es pairs k
 
 -- ---- both
 
-module _ {es : List Entry} (sound : IsSound es) (pairs : Records) where
+module _ {es : List Entry} (sound : AreWellFormed es) (pairs : Records) where
   -- the key is below the one that was found, or none was
   abbrev IsBefore : Option OrderedKey → OrderedKey → Type 0
   IsBefore None q = Unit {0}

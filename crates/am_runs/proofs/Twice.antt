@@ -17,7 +17,7 @@ use Rattle.am_record.specs.Plain.{Records}
 use Rattle.am_record.proofs.Rising.{Below, sorted_from}
 use Rattle.am_record.proofs.FirstRows.{key_eq-itself}
 use Rattle.am_record.proofs.Orderings.{not_lt_le_back}
-use Rattle.am_runs.specs.Cuts.{keys_of, times, NoneTwice, IsLeastTwice}
+use Rattle.am_runs.specs.Cuts.{keys_of, times_among, NoneTwice, IsLeastTwice}
 
 -- ---- how often a key stands
 
@@ -30,27 +30,27 @@ one_at key k h = ap (λ b. cond b 1 0) h
 pub none_at : (key k : OrderedKey) → eq_by_cmp key_cmp key k ≡ false → one_if key k ≡ 0
 none_at key k h = ap (λ b. cond b 1 0) h
 
-pub times-cons : (key k : OrderedKey) (ks : List OrderedKey) → times key (k ∷ ks) ≡ one_if key k + times key ks
-times-cons key k ks = sum_by-cons (one_if key) k ks
+pub times_among-cons : (key k : OrderedKey) (ks : List OrderedKey) → times_among key (k ∷ ks) ≡ one_if key k + times_among key ks
+times_among-cons key k ks = sum_by-cons (one_if key) k ks
 
-pub times-append : (key : OrderedKey) (ks ls : List OrderedKey) → times key (ks ++ ls) ≡ times key ks + times key ls
-times-append key ks ls = sum_by-append (one_if key) ks ls
+pub times_among-append : (key : OrderedKey) (ks ls : List OrderedKey) → times_among key (ks ++ ls) ≡ times_among key ks + times_among key ls
+times_among-append key ks ls = sum_by-append (one_if key) ks ls
 
-times-permutation : (key : OrderedKey) (ks ls : List OrderedKey) → IsPermutation ks ls → times key ls ≡ times key ks
-times-permutation key ks ls p = sum_by-IsPermutation (one_if key) ks ls p
+times_among-permutation : (key : OrderedKey) (ks ls : List OrderedKey) → IsPermutation ks ls → times_among key ls ≡ times_among key ks
+times_among-permutation key ks ls p = sum_by-IsPermutation (one_if key) ks ls p
 
 pub none_twice-append : (ks ls : List OrderedKey) → NoneTwice (ks ++ ls) → NoneTwice ks × NoneTwice ls
 none_twice-append ks ls h = (
-  record { once = λ key. omega (arith, h.once key, times-append key ks ls) },
-  record { once = λ key. omega (arith, h.once key, times-append key ks ls) },
+  record { once = λ key. omega (arith, h.once key, times_among-append key ks ls) },
+  record { once = λ key. omega (arith, h.once key, times_among-append key ks ls) },
 )
 
 -- what is found in one order is so in the other
 pub found_permuted : (found : Option OrderedKey) (ks ls : List OrderedKey) → IsPermutation ks ls → MatchOption found (NoneTwice ls) (IsLeastTwice ls) → MatchOption found (NoneTwice ks) (IsLeastTwice ks)
-found_permuted None ks ls p h = record { once = λ key. omega (arith, h.once key, times-permutation key ks ls p) }
+found_permuted None ks ls p h = record { once = λ key. omega (arith, h.once key, times_among-permutation key ks ls p) }
 found_permuted (Some k) ks ls p h = record {
-  twice = omega (arith, h.twice, times-permutation k ks ls p);
-  least = λ other two. h.least other (omega (arith, two, times-permutation other ks ls p));
+  twice = omega (arith, h.twice, times_among-permutation k ks ls p);
+  least = λ other two. h.least other (omega (arith, two, times_among-permutation other ks ls p));
 }
 
 -- ---- sorted keys, one after another
@@ -94,34 +94,34 @@ is_above : (k l : OrderedKey) → is_lt (key_cmp l k) ≡ false → eq_by_cmp ke
 is_above k l h n = strictly (key_cmp k l) (ap is_lt (sym (key_cmp-total.antisymm l k)) ∙ h) n
 
 -- a key that stands among them is at or above the first
-stands_above : (k : OrderedKey) (ks : List OrderedKey) (key : OrderedKey) → FromBelow k ks → 1 ≤ times key ks → key_le k key ≡ true
+stands_above : (k : OrderedKey) (ks : List OrderedKey) (key : OrderedKey) → FromBelow k ks → 1 ≤ times_among key ks → key_le k key ≡ true
 stands_above k [] key from h = absurd (omega arith)
 stands_above k (l ∷ ks) key from h =
     ⊎_elim
     (λ tie. subst (λ x. key_le k x ≡ true) (sym (key_eq-exact key l tie)) (at_least k l from.0))
-    (λ apart. stands_above k ks key from.1 (omega (arith, h, times-cons key l ks, none_at key l apart)))
+    (λ apart. stands_above k ks key from.1 (omega (arith, h, times_among-cons key l ks, none_at key l apart)))
     (cases_Bool (eq_by_cmp key_cmp key l))
 
 -- ---- records that were sorted by key rise, where no key stands twice
 
-below_of : (k : OrderedKey) (rs : Records) → FromBelow k (keys_of rs) → times k (keys_of rs) ≡ 0 → Below k rs
+below_of : (k : OrderedKey) (rs : Records) → FromBelow k (keys_of rs) → times_among k (keys_of rs) ≡ 0 → Below k rs
 below_of k [] from none = tt
 below_of k (r ∷ rs) from none =
-    let apart : eq_by_cmp key_cmp k r.0 ≡ false = false_from_ne_true (eq_by_cmp key_cmp k r.0) (λ tie. absurd (omega (arith, none, times-cons k r.0 (keys_of rs), one_at k r.0 tie))) in
-    (is_above k r.0 from.0 apart, below_of k rs from.1 (omega (arith, none, times-cons k r.0 (keys_of rs))))
+    let apart : eq_by_cmp key_cmp k r.0 ≡ false = false_from_ne_true (eq_by_cmp key_cmp k r.0) (λ tie. absurd (omega (arith, none, times_among-cons k r.0 (keys_of rs), one_at k r.0 tie))) in
+    (is_above k r.0 from.0 apart, below_of k rs from.1 (omega (arith, none, times_among-cons k r.0 (keys_of rs))))
 
 pub rising_of : (rs : Records) → Ascends (keys_of rs) → NoneTwice (keys_of rs) → is_sorted key_cmp rs ≡ true
 rising_of [] h once = refl
 rising_of (r ∷ rs) h once =
-    let alone : times r.0 (keys_of rs) ≡ 0 = omega (arith, once.once r.0, times-cons r.0 r.0 (keys_of rs), one_at r.0 r.0 (key_eq-itself r.0)) in
+    let alone : times_among r.0 (keys_of rs) ≡ 0 = omega (arith, once.once r.0, times_among-cons r.0 r.0 (keys_of rs), one_at r.0 r.0 (key_eq-itself r.0)) in
     sorted_from r rs (below_of r.0 rs h.0 alone) (rising_of rs h.1 (none_twice-append (r.0 ∷ []) (keys_of rs) once).1)
 
 -- ---- the walk over sorted keys: a key stands twice among all where it does among those that are left
 
 pub record IsLeftOf (all left : List OrderedKey) : Type 0 where
   pub ascending : Ascends left
-  pub here : (key : OrderedKey) → 2 ≤ times key all → 2 ≤ times key left
-  pub there : (key : OrderedKey) → 2 ≤ times key left → 2 ≤ times key all
+  pub here : (key : OrderedKey) → 2 ≤ times_among key all → 2 ≤ times_among key left
+  pub there : (key : OrderedKey) → 2 ≤ times_among key left → 2 ≤ times_among key all
 
 pub all_left : (ks : List OrderedKey) → IsSorted key_cmp ks → IsLeftOf ks ks
 all_left ks h = record { ascending = ascends ks h; here = λ key two. two; there = λ key two. two }
@@ -132,12 +132,12 @@ tie_is_least all k l ks h tie =
     let first : one_if k k ≡ 1 = one_at k k (key_eq-itself k) in
     let second : one_if k l ≡ 1 = one_at k l (subst (λ x. eq_by_cmp key_cmp k x ≡ true) (sym same) (key_eq-itself k)) in
     record {
-      twice = h.there k (omega (arith, first, second, times-cons k k (l ∷ ks), times-cons k l ks));
+      twice = h.there k (omega (arith, first, second, times_among-cons k k (l ∷ ks), times_among-cons k l ks));
       least = λ other two.
-          let stands : 2 ≤ times other (k ∷ l ∷ ks) = h.here other two in
+          let stands : 2 ≤ times_among other (k ∷ l ∷ ks) = h.here other two in
           ⊎_elim
           (λ equal. subst (λ x. key_le k x ≡ true) (sym (key_eq-exact other k equal)) (key_le-itself k))
-          (λ apart. stands_above k (l ∷ ks) other h.ascending.0 (omega (arith, stands, times-cons other k (l ∷ ks), none_at other k apart)))
+          (λ apart. stands_above k (l ∷ ks) other h.ascending.0 (omega (arith, stands, times_among-cons other k (l ∷ ks), none_at other k apart)))
           (cases_Bool (eq_by_cmp key_cmp other k));
     }
 
@@ -147,11 +147,11 @@ both_ways_le Less h g = absurd (true≢false (sym g))
 both_ways_le Equal h g = refl
 both_ways_le Greater h g = absurd (true≢false (sym h))
 
-first_is_alone : (k l : OrderedKey) (ks : List OrderedKey) → Ascends (k ∷ l ∷ ks) → eq_by_cmp key_cmp k l ≡ false → times k (l ∷ ks) ≡ 0
-first_is_alone k l ks h apart = by_cases (times k ks) refl
+first_is_alone : (k l : OrderedKey) (ks : List OrderedKey) → Ascends (k ∷ l ∷ ks) → eq_by_cmp key_cmp k l ≡ false → times_among k (l ∷ ks) ≡ 0
+first_is_alone k l ks h apart = by_cases (times_among k ks) refl
   where
-    by_cases : (n : ℕ) → times k ks ≡ n → times k (l ∷ ks) ≡ 0
-    by_cases zero e = omega (arith, e, times-cons k l ks, none_at k l apart)
+    by_cases : (n : ℕ) → times_among k ks ≡ n → times_among k (l ∷ ks) ≡ 0
+    by_cases zero e = omega (arith, e, times_among-cons k l ks, none_at k l apart)
     by_cases (suc n) e =
         let above : key_le l k ≡ true = stands_above l ks k h.1.0 (omega (arith, e)) in
         let below : key_le k l ≡ true = at_least k l h.0.0 in
@@ -161,14 +161,14 @@ walk_on : (all : List OrderedKey) (k l : OrderedKey) (ks : List OrderedKey) → 
 walk_on all k l ks h apart = record {
   ascending = h.ascending.1;
   here = λ key two.
-      let stands : 2 ≤ times key (k ∷ l ∷ ks) = h.here key two in
+      let stands : 2 ≤ times_among key (k ∷ l ∷ ks) = h.here key two in
       ⊎_elim
       (λ tie.
-      let alone : times key (l ∷ ks) ≡ 0 = subst (λ x. times x (l ∷ ks) ≡ 0) (sym (key_eq-exact key k tie)) (first_is_alone k l ks h.ascending apart) in
-      absurd (omega (arith, stands, alone, times-cons key k (l ∷ ks), one_at key k tie)))
-      (λ other. omega (arith, stands, times-cons key k (l ∷ ks), none_at key k other))
+      let alone : times_among key (l ∷ ks) ≡ 0 = subst (λ x. times_among x (l ∷ ks) ≡ 0) (sym (key_eq-exact key k tie)) (first_is_alone k l ks h.ascending apart) in
+      absurd (omega (arith, stands, alone, times_among-cons key k (l ∷ ks), one_at key k tie)))
+      (λ other. omega (arith, stands, times_among-cons key k (l ∷ ks), none_at key k other))
       (cases_Bool (eq_by_cmp key_cmp key k));
-  there = λ key two. h.there key (omega (arith, two, times-cons key k (l ∷ ks)));
+  there = λ key two. h.there key (omega (arith, two, times_among-cons key k (l ∷ ks)));
 }
 
 -- ---- the same of a list with two keys or more, as a slice has it
@@ -197,5 +197,5 @@ at_most_one (suc (suc a)) b n h few short = let two : 2 ≤ b = h (omega arith) 
 pub walked : (all left : List OrderedKey) → IsLeftOf all left → length left < 2 → NoneTwice all
 walked all left h short = record {
   once = λ key.
-      at_most_one (times key all) (times key left) (length left) (h.here key) (count_by-le-length (λ k. eq_by_cmp key_cmp key k) left) short;
+      at_most_one (times_among key all) (times_among key left) (length left) (h.here key) (count_by-le-length (λ k. eq_by_cmp key_cmp key k) left) short;
 }

@@ -13,17 +13,17 @@ abbrev pub keys_of : Records → List OrderedKey
 keys_of records = map (λ (r : OrderedKey × List ℕ). r.0) records
 
 -- how often the key stands among the keys
-abbrev pub times : OrderedKey → List OrderedKey → ℕ
-times key keys = count_by (λ k. eq_by_cmp key_cmp key k) keys
+abbrev pub times_among : OrderedKey → List OrderedKey → ℕ
+times_among key keys = count_by (λ k. eq_by_cmp key_cmp key k) keys
 
 -- no key stands twice
 pub record NoneTwice (keys : List OrderedKey) : Type 0 where
-  pub once : (key : OrderedKey) → times key keys ≤ 1
+  pub once : (key : OrderedKey) → times_among key keys ≤ 1
 
 -- the key stands twice or more, and no key below it does
 pub record IsLeastTwice (keys : List OrderedKey) (key : OrderedKey) : Type 0 where
-  pub twice : 2 ≤ times key keys
-  pub least : (other : OrderedKey) → 2 ≤ times other keys → key_le key other ≡ true
+  pub twice : 2 ≤ times_among key keys
+  pub least : (other : OrderedKey) → 2 ≤ times_among other keys → key_le key other ≡ true
 
 -- the records of the piece, all of them, by rising key
 pub record IsRunOf (piece run : Records) : Type 0 where
@@ -67,7 +67,7 @@ IsCutFault n records NotRising = ⊥
 
 -- when the sorting of the pieces may fail
 abbrev pub IsPieceFault : Records → LoadFault → Type 0
-IsPieceFault records (Twice key) = 2 ≤ times key (keys_of records)
+IsPieceFault records (Twice key) = 2 ≤ times_among key (keys_of records)
 IsPieceFault records NoMemory = ⊤
 IsPieceFault records NotRising = ⊥
 IsPieceFault records BadSize = ⊥

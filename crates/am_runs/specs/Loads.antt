@@ -9,11 +9,8 @@ use Rattle.am_record.specs.declared.step.Reply.TheVariants.{Done, Refused}
 use Rattle.am_record.specs.declared.step.Refusal.TheVariants.{TooManyRuns, NoMemory}
 use Rattle.am_list.specs.Entries.{find, insert_entry}
 use Rattle.am_list.specs.Content.{content, HasContent}
+use Rattle.am_list.specs.Runs.{live_entry}
 use Rattle.am_parts.specs.Partitions.{Partitions}
-
--- the record as a live entry of the partition
-abbrev pub live_entry : ℕ → OrderedKey × List ℕ → Entry
-live_entry part r = record { part = part; key = r.0; value = r.1; is_ghost = false }
 
 -- the entries, and each of the records live in the partition
 abbrev pub with_run : ℕ → Records → List Entry → List Entry

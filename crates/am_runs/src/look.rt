@@ -8,7 +8,7 @@ ghost use Rattle.am_record.specs.OrderedKey.{key_cmp};
 ghost use Rattle.am_record.specs.Plain.{first_key, is_rising, least_taken};
 ghost use Rattle.am_list.specs.Entries.{next_from};
 ghost use Rattle.am_list.specs.Content.{content};
-ghost use Rattle.am_parts.specs.Partitions.{IsSound};
+ghost use Rattle.am_parts.specs.Partitions.{AreWellFormed};
 ghost use Rattle.am_runs.specs.Looks.{NoneLiveIn, IsLeastLiveIn, NoneInRuns, IsLeastInRuns};
 
 use crate::walk::Walk;
@@ -66,7 +66,7 @@ fn least_in_final<I: PartIndex + Drop>(
     requires { is_sorted key_cmp pairs.now ≡ true }
     ensures found { MatchOption result (NoneLiveIn parts.now.entries 0 pairs.now)
         (IsLeastLiveIn parts.now.entries 0 pairs.now) }
-    ensures sound { IsSound parts.now.entries }
+    ensures sound { AreWellFormed parts.now.entries }
 {
     // Read here, the entries are known to be sound.
     let _ = parts.runs();
@@ -96,7 +96,7 @@ fn least_live_in<I: PartIndex + Drop>(
     first: Entry,
     pairs: &[(Key, Value)],
 ) -> Option<Key>
-    requires sound { IsSound parts.now.entries }
+    requires sound { AreWellFormed parts.now.entries }
     requires sorted { is_sorted key_cmp pairs.now ≡ true }
     requires first { IfSome (first_key pairs.now) (λ low. next_from parts.now.entries first.part low ≡ Some first) }
     ensures { MatchOption result (NoneLiveIn parts.now.entries first.part pairs.now)

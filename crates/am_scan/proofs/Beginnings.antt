@@ -108,9 +108,6 @@ module _ {es : List Entry} (walks : WalkLaws es) (reads : ReadLaws es) (part : �
 -- ---- the first live one of the partition in the range
 
 module _ {es : List Entry} (range : Interval) {part : ℕ} where
-  pub past_range : IsPast es part range.lo → HasNoneLive es range part
-  past_range past = record { none = λ key value inside. none_live es part key (past.none key (and_parts (key_le range.lo key) (key_le key range.hi) inside).0) value }
-
   module _ {h : Stand} (at : IsAtFirst es part range.lo h) where
     pub first_above : key_cmp range.hi h.entry.key ≡ Less → HasNoneLive es range part
     first_above above = subst (HasNoneLive es range) at.in_part (above_range range h.entry at.first above)

@@ -25,7 +25,7 @@ use Rattle.am_list.proofs.Lists.{first_such_none}
 use Rattle.am_list.proofs.Edits.{one_place}
 use Rattle.am_list.proofs.Content.{none_live}
 use Rattle.am_parts.specs.Merged.{HasNoneBefore}
-use Rattle.am_parts.specs.Partitions.{IsSound, AreEmpty, AreEmptyFrom}
+use Rattle.am_parts.specs.Partitions.{AreWellFormed, AreEmpty, AreEmptyFrom}
 use Rattle.am_scan.specs.Looks.{HasNoneLive}
 use Rattle.am_scan.specs.Heads.{Stand, head_cmp, IsHead, IsFirstHead}
 use Rattle.am_scan.specs.Cursors.{is_ahead_in, same_part, AreHeads, AreAllHeads}
@@ -185,7 +185,7 @@ module _ {es : List Entry} {range : Interval} {to : ℕ} {heads : List Stand} (g
   }
 
   -- or no number of a partition
-  pub has_all_numbers : IsSound es → ¬ (to < 2 ^ 32) → AreAllHeads es range heads
+  pub has_all_numbers : AreWellFormed es → ¬ (to < 2 ^ 32) → AreAllHeads es range heads
   has_all_numbers sound past = record {
     are_heads = gathered.are_heads;
     heap = gathered.heap;

@@ -21,7 +21,7 @@ use Rattle.am_record.specs.declared.entry.Entry.{Entry}
 use Rattle.am_record.proofs.Outcomes.{is_true}
 use Rattle.am_record.proofs.FirstRows.{le_of_less}
 use Rattle.am_list.specs.Content.{content, rows_in, IsLiveAt, LivesInOne, ContentLaws}
-use Rattle.am_parts.specs.Partitions.{IsSound}
+use Rattle.am_parts.specs.Partitions.{AreWellFormed}
 use Rattle.am_scan.specs.Heads.{Stand, head_cmp, IsHead, IsNextHead, HasNoNext}
 use Rattle.am_scan.specs.Cursors.{is_ahead, rows_ahead, is_ahead_in, same_part, AreHeads, AreAhead, AreAllHeads, IsLeastBeside}
 use Rattle.am_scan.proofs.Moving.{turned, less_le, not_below_itself}
@@ -121,7 +121,7 @@ ahead_somewhere (g ∷ heads) part key h =
 
 -- ---- a cursor begins
 
-module _ {es : List Entry} (range : Interval) (sound : IsSound es) (laws : ContentLaws es) {heads : List Stand} (all : AreAllHeads es range heads) {heads' : List Stand} (popped : IsPermutation heads heads') where
+module _ {es : List Entry} (range : Interval) (sound : AreWellFormed es) (laws : ContentLaws es) {heads : List Stand} (all : AreAllHeads es range heads) {heads' : List Stand} (popped : IsPermutation heads heads') where
   all_before : (part : ℕ) (key : OrderedKey) (value : List ℕ) → IsLiveAt es part key value → within range key ≡ true → is_ahead_in heads' part key ≡ true
   all_before part key value live inside = sym (list_any-IsPermutation (λ (g : Stand). g.entry.part == part && key_le g.entry.key key) heads heads' popped) ∙ all.before part key value live inside
 

@@ -4,7 +4,7 @@ use Rattle.std.proofs.lemmas.List.{take-append-drop, drop_all, get_or_default}
 use Rattle.am_record.specs.declared.entry.Entry.{Entry}
 use Rattle.am_list.specs.Entries.{after, all_after}
 use Rattle.am_list.specs.Walks.{WalkLaws, ReadLaws}
-use Rattle.am_scan.specs.Heads.{Stand, nowhere, stand_at, HasReadOn, IsReady}
+use Rattle.am_scan.specs.Heads.{Stand, nowhere, stand_at, HasReadOn, HasReadSome}
 
 -- ---- reading on
 
@@ -12,7 +12,7 @@ none_taken : (xs : List Entry) → [] ≡ take 15 xs → xs ≡ []
 none_taken [] h = refl
 none_taken (x ∷ xs) h = absurd (cc)
 
-pub ready : (es : List Entry) (h : Stand) → h.read ≡ take 15 (all_after es h.entry.part h.entry.key) → IsReady es h
+pub ready : (es : List Entry) (h : Stand) → h.read ≡ take 15 (all_after es h.entry.part h.entry.key) → HasReadSome es h
 ready es h read =
     let all = all_after es h.entry.part h.entry.key in
     record {
@@ -28,7 +28,7 @@ ready es h read =
 no_cons : {X : Type 0} (x : X) (xs : List X) → [] ≡ x ∷ xs → ⊥
 no_cons x xs h = cc
 
-module _ {es : List Entry} (walks : WalkLaws es) (laws : ReadLaws es) (h : Stand) (is_ready : IsReady es h) where
+module _ {es : List Entry} (walks : WalkLaws es) (laws : ReadLaws es) (h : Stand) (is_ready : HasReadSome es h) where
   abbrev all : List Entry
   all = all_after es h.entry.part h.entry.key
 
@@ -70,7 +70,7 @@ module _ {es : List Entry} (walks : WalkLaws es) (laws : ReadLaws es) (h : Stand
 at_place : (xs : List Entry) (i : ℕ) (x : Entry) → i < length xs → x ≡ get_or xs i x → drop i xs ≡ x ∷ drop (i + 1) xs
 at_place xs i x inside stands = drop-cons xs i x inside ∙ ap (λ y. y ∷ drop (suc i) xs) (sym stands) ∙ ap (λ n. x ∷ drop n xs) (sym (add-one i))
 
-module _ {es : List Entry} (walks : WalkLaws es) (laws : ReadLaws es) (ahead : List Entry) (passed : ℕ) (is_ready : IsReady es (stand_at ahead passed)) where
+module _ {es : List Entry} (walks : WalkLaws es) (laws : ReadLaws es) (ahead : List Entry) (passed : ℕ) (is_ready : HasReadSome es (stand_at ahead passed)) where
   abbrev here : Entry
   here = (stand_at ahead passed).entry
 

@@ -7,7 +7,7 @@ use Rattle.am_record.specs.Interval.{Interval, key_le, within}
 use Rattle.am_record.specs.Plain.{PlainMap, Records, rows_where}
 use Rattle.am_record.specs.declared.entry.Entry.{Entry}
 use Rattle.am_list.specs.Content.{IsLiveAt}
-use Rattle.am_parts.specs.Partitions.{IsSound}
+use Rattle.am_parts.specs.Partitions.{AreWellFormed}
 use Rattle.am_scan.specs.Heads.{Stand, head_cmp, IsHead}
 
 -- whether a head stands at the key or below it
@@ -32,7 +32,7 @@ pub record AreHeads (es : List Entry) (range : Interval) (heads : List Stand) : 
 
 -- the heads have all that is live from the least head on before them
 pub record AreAhead (es : List Entry) (range : Interval) (heads : List Stand) : Type 0 where
-  pub sound : IsSound es
+  pub sound : AreWellFormed es
   pub are_heads : AreHeads es range heads
   pub before : (part : ℕ) (key : OrderedKey) (value : List ℕ) → IsLiveAt es part key value → within range key ≡ true →
       is_ahead heads key ≡ true → is_ahead_in heads part key ≡ true

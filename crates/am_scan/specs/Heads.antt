@@ -42,7 +42,7 @@ pub record HasReadOn (es : List Entry) (h : Stand) : Type 0 where
   pub follows : all_after es h.entry.part h.entry.key ≡ h.read ++ further
 
 -- and something was, unless nothing stands behind it
-pub record IsReady (es : List Entry) (h : Stand) : Type 0 where
+pub record HasReadSome (es : List Entry) (h : Stand) : Type 0 where
   pub reads : HasReadOn es h
   pub at_end : h.read ≡ [] → all_after es h.entry.part h.entry.key ≡ []
 

@@ -37,7 +37,7 @@ impl Model for Head {
 }
 
 impl Head {
-    ghost use Rattle.am_scan.specs.Heads.{HasReadOn, IsReady, IsAtFirst, IsNextHead, IsFirstHead, HasNoNext};
+    ghost use Rattle.am_scan.specs.Heads.{HasReadOn, HasReadSome, IsAtFirst, IsNextHead, IsFirstHead, HasNoNext};
     ghost use Rattle.am_scan.specs.Looks.{IsPast, HasNoneLive};
 
     // The entry at which it stands.
@@ -165,7 +165,7 @@ impl Head {
     // Reads on, where nothing was read behind the entry.
     fn look_ahead<I: PartIndex + Drop>(&mut self, parts: &Parts<I>)
         requires reads { HasReadOn parts.now.entries self.old }
-        ensures ready { IsReady parts.now.entries self.new }
+        ensures ready { HasReadSome parts.now.entries self.new }
         ensures entry { self.new.entry ≡ self.old.entry }
     {
         let read = self.ahead.entries().len();

@@ -4,7 +4,7 @@ ghost use Rattle.std.specs.Prelude.{◌∷◌, IfOk, Some};
 ghost use Rattle.std.specs.List.{cons_option};
 ghost use Rattle.std.specs.List.Sorted.{IsPermutation};
 ghost use Rattle.std.specs.BinaryHeap.{heap_items, IsHeap};
-ghost use Rattle.am_parts.specs.Partitions.{IsSound};
+ghost use Rattle.am_parts.specs.Partitions.{AreWellFormed};
 ghost use Rattle.am_scan.specs.Heads.{head_cmp};
 ghost use Rattle.am_scan.specs.Cursors.{AreAllHeads, IsLeastBeside};
 
@@ -26,7 +26,7 @@ pub(crate) fn heads_of<I: PartIndex + Drop>(
     range: Range,
 ) -> Result<BinaryHeap<Head>, NoMemory>
     ensures heads { IfOk result (λ heads. AreAllHeads parts.now.entries range (heap_items heads)) }
-    ensures sound { IsSound parts.now.entries }
+    ensures sound { AreWellFormed parts.now.entries }
 {
     let first_run = parts.first_run(range);
     let mut heads = BinaryHeap::new(alloc);

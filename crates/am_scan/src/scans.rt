@@ -3,7 +3,7 @@
 ghost use Rattle.std.specs.Prelude.{◌≡◌, IfOk, IfSome};
 ghost use Rattle.am_record.specs.Plain.{scan_rows};
 ghost use Rattle.am_list.specs.Content.{content, LivesInOne};
-ghost use Rattle.am_parts.specs.Partitions.{IsSound};
+ghost use Rattle.am_parts.specs.Partitions.{AreWellFormed};
 
 use crate::Cursor;
 use am_list::{PartIndex, rows_follow};
@@ -37,7 +37,7 @@ pub fn scan<I: PartIndex + Drop>(
 // The partition in which all of the range stands, as far as that is known without a look into the index.
 fn only_part<I: PartIndex + Drop>(parts: &Parts<I>, range: Range) -> Option<u32>
     ensures only { IfSome result (λ part. LivesInOne parts.now.entries part range) }
-    ensures sound { IsSound parts.now.entries }
+    ensures sound { AreWellFormed parts.now.entries }
 {
     let first_run = parts.first_run(range);
     let part = parts.next_part(0)?;

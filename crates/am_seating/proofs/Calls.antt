@@ -10,27 +10,19 @@ use Rattle.am_record.specs.declared.step.Reply.{Reply}
 use Rattle.am_record.specs.declared.step.Reply.TheVariants.{Begun, Done, Found, Absent, Rows, Exists, Missing, Committed, Aborted, Moved, MergeDone, Ended, Idle, Cleaned, NoMark, Refused}
 use Rattle.am_latch.specs.declared.receipt.Receipt.{Receipt}
 use Rattle.am_latch.specs.declared.change.Change.TheVariants.{Ends}
-use Rattle.am_latch.specs.Changes.{change, opened, is_stored, Fits, Bounded}
-use Rattle.am_latch.specs.Receipts.{Seated, receipt, Receives, Called, commit_in, last_commit_of}
+use Rattle.am_latch.specs.Changes.{change, open_after, is_stored, IsReplyTo, IsBoundedReply}
+use Rattle.am_latch.specs.Receipts.{SeatState, receipt, GetsReceipt, HasReceiptOf, commit_in, last_commit_of}
 use Rattle.am_latch.specs.Ties.{open_from, open_of}
-use Rattle.am_latch.specs.Ties.{Ended as IsEnded}
-use Rattle.am_talk.specs.Dues.{EndsAbort}
+use Rattle.am_latch.specs.Ties.{EndsTx as IsEnded}
+use Rattle.am_talk.specs.Actions.{EndsAbort}
 
-pub may_take : (o : Option ℕ) (st : Step) → IsAllowed o st → IsAllowed o st
-may_take o Begin h = h
-may_take o (Do t op) h = h
-may_take o (Commit t) h = h
-may_take o (Abort t) h = h
-may_take o (Merge limit) h = tt
-may_take o (Clean range limit) h = tt
-
-open_behind : (o : Option ℕ) (rs : List Receipt) (r : Receipt) → open_from o (rs ++ r ∷ []) ≡ opened (open_from o rs) (change r.step r.reply)
+open_behind : (o : Option ℕ) (rs : List Receipt) (r : Receipt) → open_from o (rs ++ r ∷ []) ≡ open_after (open_from o rs) (change r.step r.reply)
 open_behind o [] r = refl
-open_behind o (q ∷ rs) r = open_behind (opened o (change q.step q.reply)) rs r
+open_behind o (q ∷ rs) r = open_behind (open_after o (change q.step q.reply)) rs r
 
 -- what is open behind a reply is what the reply says
-opened_by : (o : Option ℕ) (st : Step) (r : Reply) → Fits st r → opened o (change st r) ≡ active_after o r
-opened_by o st (Begun t') f = ap (λ (s : Step). opened o (change s (Begun t'))) f
+opened_by : (o : Option ℕ) (st : Step) (r : Reply) → IsReplyTo st r → open_after o (change st r) ≡ active_after o r
+opened_by o st (Begun t') f = ap (λ (s : Step). open_after o (change s (Begun t'))) f
 opened_by o Begin Done f = refl
 opened_by o (Do t op) Done f = refl
 opened_by o (Commit t) Done f = refl
@@ -67,8 +59,8 @@ opened_by o (Commit t) Missing f = refl
 opened_by o (Abort t) Missing f = refl
 opened_by o (Merge limit) Missing f = refl
 opened_by o (Clean range limit) Missing f = refl
-opened_by o st (Committed c') f = ap (λ (s : Step). opened o (change s (Committed c'))) f.1
-opened_by o st Aborted f = ap (λ (s : Step). opened o (change s Aborted)) f.1
+opened_by o st (Committed c') f = ap (λ (s : Step). open_after o (change s (Committed c'))) f.1
+opened_by o st Aborted f = ap (λ (s : Step). open_after o (change s Aborted)) f.1
 opened_by o Begin (Moved n' run') f = refl
 opened_by o (Do t op) (Moved n' run') f = refl
 opened_by o (Commit t) (Moved n' run') f = refl
@@ -130,12 +122,12 @@ unstored o (Cleaned n') e = absurd (cc)
 unstored o NoMark e = absurd (cc)
 unstored o (Refused why') e = refl
 
-behind : (s s' : Seated) (st : Step) (r : Reply) (b : Bool) → is_stored r ≡ b → Fits st r → MatchBool b (Receives s st r s') (s' ≡ s) → open_of s'.receipts ≡ active_after (open_of s.receipts) r
+behind : (s s' : SeatState) (st : Step) (r : Reply) (b : Bool) → is_stored r ≡ b → IsReplyTo st r → MatchBool b (GetsReceipt s st r s') (s' ≡ s) → open_of s'.receipts ≡ active_after (open_of s.receipts) r
 behind s s' st r true e f h =
-    ap (λ (x : Seated). open_of x.receipts) h.1 ∙ open_behind None s.receipts (receipt s.number (length s.receipts) st r h.0) ∙ opened_by (open_of s.receipts) st r f
-behind s s' st r false e f h = ap (λ (x : Seated). open_of x.receipts) h ∙ sym (unstored (open_of s.receipts) r e)
+    ap (λ (x : SeatState). open_of x.receipts) h.1 ∙ open_behind None s.receipts (receipt s.number (length s.receipts) st r h.0) ∙ opened_by (open_of s.receipts) st r f
+behind s s' st r false e f h = ap (λ (x : SeatState). open_of x.receipts) h ∙ sym (unstored (open_of s.receipts) r e)
 
-pub active_behind : (s s' : Seated) (st : Step) (r : Reply) → Bounded st r → Called s st r s' → open_of s'.receipts ≡ active_after (open_of s.receipts) r
+pub active_behind : (s s' : SeatState) (st : Step) (r : Reply) → IsBoundedReply st r → HasReceiptOf s st r s' → open_of s'.receipts ≡ active_after (open_of s.receipts) r
 active_behind s s' st r b h = behind s s' st r (is_stored r) refl b.fits h
 
 abort_ends : (t : ℕ) (r : Reply) → change (Abort t) r ≡ Ends t → r ≡ Aborted
@@ -169,7 +161,3 @@ last_one : (rs : List Receipt) (r : Receipt) → slice_get (rs ++ r ∷ []) (len
 last_one rs r =
     ap (λ (n : ℕ). slice_get (rs ++ r ∷ []) n) (omega (arith, length-append rs (r ∷ []))) ∙ slice_get-get_or (rs ++ r ∷ []) (length rs) r (omega (arith, length-append rs (r ∷ [])))
     ∙ ap Some (get_or-append_seam rs r [] r)
-
-pub commit_told : (s s' : Seated) (st : Step) (c : ℕ) → Called s st (Committed c) s' → last_commit_of s'.receipts ≡ Some c
-commit_told s s' st c h =
-    ap (λ (x : Seated). last_commit_of x.receipts) h.1 ∙ ap commit_in (last_one s.receipts (receipt s.number (length s.receipts) st (Committed c) h.0))

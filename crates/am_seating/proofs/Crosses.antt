@@ -6,14 +6,14 @@ use denote.Struct.Declared as declared
 use Rattle.am_latch.proofs.Crosses.{latch_sync}
 use Rattle.am_latch.proofs.seat.Seat.TheSendSync as seat
 use Rattle.am_latch.specs.contracts.latch.Latch as Latch
-use Rattle.am_latch.specs.declared.naming.Naming as naming
+use Rattle.am_latch.specs.declared.latch_name.LatchName as latch_name
 use Rattle.am_words.proofs.words.Words.TheSendSync as words
-use Rattle.am_words.proofs.words.WordSeat.TheSendSync as hand
+use Rattle.am_words.proofs.words.WordSeat.TheSendSync as word_seat
 use Rattle.am_words.specs.contracts.words.Words as Words
-use Rattle.am_seating.specs.contracts.place.Place as Place
-use Rattle.am_seating.specs.contracts.place.Place.TheInside as Inside
+use Rattle.am_seating.specs.contracts.session_seat.SessionSeat as SessionSeat
+use Rattle.am_seating.specs.contracts.session_seat.SessionSeat.TheInside as Inside
 
-pub place_send : (a : NamedLft) (T : RattleType) (g : naming.Ghosts T.Denot) → IsSend (Place.the_row a T g)
+pub place_send : (a : NamedLft) (T : RattleType) (g : latch_name.Ghosts T.Denot) → IsSend (SessionSeat.the_row a T g)
 place_send a T g = view_send (Inside.the_row a T g) _ _ _ _ (recorded_send (Inside.the_field a T g).row _ _ (Inside.the_type a T g).to_one
     (struct_send (declared.shape (Inside.the_type a T g))
-    (shr_send _ _ (Latch.the_row T g) (latch_sync T g), (shr_send _ _ Words.the_row words.the_sync, (seat.the_send T g, (hand.the_send, (plain_send _ _ _ _ _, tt)))))))
+    (shr_send _ _ (Latch.the_row T g) (latch_sync T g), (shr_send _ _ Words.the_row words.the_sync, (seat.the_send T g, (word_seat.the_send, (plain_send _ _ _ _ _, tt)))))))

@@ -11,7 +11,7 @@ use Rattle.am_record.specs.declared.lock.Mode.{Mode}
 use Rattle.am_record.specs.declared.lock.Mode.TheVariants.{Shared, Exclusive}
 use Rattle.am_record.specs.declared.lock.Lock.{Lock}
 use Rattle.am_record.specs.declared.step.Op.{Op}
-use Rattle.am_record.specs.Plain.{PlainMap, Draft, fresh, answer, after, answers_on, left_on, answers, left, is_orderly}
+use Rattle.am_record.specs.Plain.{PlainMap, Draft, fresh, answer, draft_after, answers_on, left_on, answers, left, is_orderly}
 use Rattle.am_record.specs.Locks.{is_exclusive, are_compatible, covers, conflicts, is_covered, with_lock}
 use Rattle.am_record.specs.Asks.{lock_of, with_asked, clashes, locks_from, locks_of, has_key, owns_key, holds, owns}
 use Rattle.am_record.proofs.KeyOrder.{key_le_trans, encloses_key}
@@ -43,16 +43,16 @@ module _ (S X : OrderedKey → Bool) where
   answers_alike [] d e s a = refl
   answers_alike (op ∷ ops) d e s a =
       let first = same_answer op d e s.0.orderly s.0.reads a in
-      let rest = answers_alike ops (after op d) (after op e) s.1 (still_alike op d e s.0.orderly s.0.reads a) in
+      let rest = answers_alike ops (draft_after op d) (draft_after op e) s.1 (still_alike op d e s.0.orderly s.0.reads a) in
       λ i. first i ∷ rest i
 
   left_alike : (ops : List Op) (d e : Draft) → AllInScope S X ops → Alike S d e → Alike S (left_on ops d) (left_on ops e)
   left_alike [] d e s a = a
-  left_alike (op ∷ ops) d e s a = left_alike ops (after op d) (after op e) s.1 (still_alike op d e s.0.orderly s.0.reads a)
+  left_alike (op ∷ ops) d e s a = left_alike ops (draft_after op d) (draft_after op e) s.1 (still_alike op d e s.0.orderly s.0.reads a)
 
   left_has : (ops : List Op) (d : Draft) (q : OrderedKey) (m : PlainMap) → AllInScope S X ops → X q ≡ false → Has q m d → Has q m (left_on ops d)
   left_has [] d q m s h a = a
-  left_has (op ∷ ops) d q m s h a = left_has ops (after op d) q m s.1 h (still_has op d q m s.0.orderly (false_from_ne_true (writes op q) (λ e. both_ways (X q) h (s.0.writes.at q e))) a)
+  left_has (op ∷ ops) d q m s h a = left_has ops (draft_after op d) q m s.1 h (still_has op d q m s.0.orderly (false_from_ne_true (writes op q) (λ e. both_ways (X q) h (s.0.writes.at q e))) a)
 
   -- a body alone on maps that agree on what it may read
   pub answers_local : (ops : List Op) (m n : PlainMap) → AllInScope S X ops → Agree S m n → answers ops m ≡ answers ops n

@@ -12,7 +12,7 @@ use Rattle.am_record.specs.declared.step.Reply.{Reply}
 use Rattle.am_record.specs.declared.step.Reply.TheVariants.{Begun, Committed, Aborted, Refused}
 use Rattle.am_record.specs.Plain.{PlainMap, left}
 use Rattle.am_record.specs.Asks.{lock_of}
-use Rattle.am_serial.specs.Trace.{Event, Trace, Answered, Effect, Begins, Answers, Commits, Aborts, Nothing, effect, effect_of_do, effects, ops_of, left_by, IsSerial, IsAnsweredAlone, AreAnsweredInTurn}
+use Rattle.am_serial.specs.Trace.{Event, Trace, Answered, Effect, Begins, Answers, Commits, Aborts, Nothing, effect, effect_of_do, effects, ops_of, left_by_bodies, IsSerial, IsAnsweredAlone, AreAnsweredInTurn}
 use Rattle.am_record.specs.Refusals.{is_one_too_many}
 use Rattle.am_serial.specs.Machine.{State, start, due_early, locks_in, next, after_run, state_at}
 use Rattle.am_serial.specs.Sound.{FormedAt, FormedDo, EachEvent}
@@ -88,12 +88,12 @@ same_bodies v t0 a (t ∷ ts) h =
     let rest = same_bodies v t0 a ts parts.1 in
     λ i. first i ∷ rest i
 
-left_by_push : (bodies : List (List Answered)) (b : List Answered) (m : PlainMap) → left_by (bodies ++ b ∷ []) m ≡ left (ops_of b) (left_by bodies m)
+left_by_push : (bodies : List (List Answered)) (b : List Answered) (m : PlainMap) → left_by_bodies (bodies ++ b ∷ []) m ≡ left (ops_of b) (left_by_bodies bodies m)
 left_by_push [] b m = refl
 left_by_push (c ∷ bodies) b m = left_by_push bodies b (left (ops_of c) m)
 
 commit_leaves : (v : View) (t0 : ℕ) → committed_in (push v (Commits t0)) ≡ left (ops_of (v.body t0)) (committed_in v)
-commit_leaves v t0 = ap (λ bodies. left_by bodies empty) (map-append v.body v.committers (t0 ∷ [])) ∙ left_by_push (map v.body v.committers) (v.body t0) empty
+commit_leaves v t0 = ap (λ bodies. left_by_bodies bodies empty) (map-append v.body v.committers (t0 ∷ [])) ∙ left_by_push (map v.body v.committers) (v.body t0) empty
 
 state_pushed : (v : View) (e : Effect) → Numbered v → Fits v e → state_of (push v e) ≡ next (state_of v) e
 state_pushed v (Begins t) num new =
@@ -101,7 +101,7 @@ state_pushed v (Begins t) num new =
     let fresh = num.fresh t above in
     same_state _ _ _ _ _ _ _ _ _ _ (length-append v.begun (t ∷ [])) refl refl refl (begun_active v t fresh.1 fresh.2)
 state_pushed v (Answers t op reply) num on =
-    same_state _ _ _ _ _ _ _ _ _ _ refl refl refl (ap (λ bodies. left_by bodies empty) (same_bodies v t (op, reply) v.committers (not_committed v num t on))) (sym (extended-with_body t (op, reply) v.body (active_in v)))
+    same_state _ _ _ _ _ _ _ _ _ _ refl refl refl (ap (λ bodies. left_by_bodies bodies empty) (same_bodies v t (op, reply) v.committers (not_committed v num t on))) (sym (extended-with_body t (op, reply) v.body (active_in v)))
 state_pushed v (Commits t) num on =
     same_state _ _ _ _ _ _ _ _ _ _ refl (length-append v.committers (t ∷ [])) refl (commit_leaves v t ∙ sym (ap (λ d. d.map) (view-state_of v t on))) (ended_active v t)
 state_pushed v (Aborts t) num on =
@@ -155,11 +155,11 @@ none_numbered = record { fresh = λ t h. (refl, refl, refl); rising = tt; closed
 abbrev SerialIn : View → Type 0
 SerialIn v = AreAnsweredInTurn (map v.body v.committers) empty
 
-last_alone : (bodies : List (List Answered)) (b : List Answered) (m : PlainMap) → AreAnsweredInTurn (bodies ++ b ∷ []) m → IsAnsweredAlone b (left_by bodies m)
+last_alone : (bodies : List (List Answered)) (b : List Answered) (m : PlainMap) → AreAnsweredInTurn (bodies ++ b ∷ []) m → IsAnsweredAlone b (left_by_bodies bodies m)
 last_alone [] b m h = h.0
 last_alone (c ∷ bodies) b m h = last_alone bodies b (left (ops_of c) m) h.1
 
-one_more_alone : (bodies : List (List Answered)) (b : List Answered) (m : PlainMap) → AreAnsweredInTurn bodies m → IsAnsweredAlone b (left_by bodies m) → AreAnsweredInTurn (bodies ++ b ∷ []) m
+one_more_alone : (bodies : List (List Answered)) (b : List Answered) (m : PlainMap) → AreAnsweredInTurn bodies m → IsAnsweredAlone b (left_by_bodies bodies m) → AreAnsweredInTurn (bodies ++ b ∷ []) m
 one_more_alone [] b m h k = (k, tt)
 one_more_alone (c ∷ bodies) b m h k = (h.0, one_more_alone bodies b (left (ops_of c) m) h.1 k)
 

@@ -9,7 +9,7 @@ use Rattle.am_record.specs.Plain.{PlainMap, Draft, fresh, left_on}
 use Rattle.am_record.specs.Asks.{lock_of, clashes, locks_of}
 use Rattle.am_record.proofs.Bodies.{left_on_push}
 use Rattle.am_serial.specs.Trace.{Answered, ops_of}
-use Rattle.am_serial.specs.Machine.{State, Transaction, is_open, body_in, locks_in, due_early, due_lock, blocker, extended, without}
+use Rattle.am_serial.specs.Machine.{State, Transaction, is_open, body_in, locks_in, due_early, due_lock, blocker, extended, without_transaction}
 use Rattle.am_serial.specs.Steps.{StepLaws}
 use Rattle.am_serial.proofs.Bodies.{locks_of-push}
 use Rattle.am_serial.proofs.Runs.{none_of_first, none_of_both, not_busy}
@@ -39,29 +39,29 @@ body_extended_own t a (x ∷ txs) h = at (t == x.0) refl (λ k. body_extended_ow
     at false e rest = rest (⊎_elim (λ here. absurd (both_ways (t == x.0) e here)) (λ later. later) (or_cases (t == x.0) (is_open txs t) h))
 
 -- the number of what is left out isn't there
-open_without : (t : ℕ) (txs : List Transaction) (u : ℕ) → u ≢ t → is_open (without t txs) u ≡ is_open txs u
+open_without : (t : ℕ) (txs : List Transaction) (u : ℕ) → u ≢ t → is_open (without_transaction t txs) u ≡ is_open txs u
 open_without t [] u n = refl
 open_without t (x ∷ txs) u n =
-    cond_both (not (x.0 == t)) (x ∷ without t txs) (without t txs) (λ ys. is_open ys u ≡ ((u == x.0) || is_open txs u))
+    cond_both (not (x.0 == t)) (x ∷ without_transaction t txs) (without_transaction t txs) (λ ys. is_open ys u ≡ ((u == x.0) || is_open txs u))
     (λ _. ap (λ b. (u == x.0) || b) (open_without t txs u n))
     (λ e.
     let out : (u == x.0) ≡ false = ne_eqb u x.0 (λ k. n (k ∙ eqb-true x.0 t (not-false (x.0 == t) e))) in
     open_without t txs u n ∙ sym (ap (λ b. b || is_open txs u) out))
 
-body_without : (t : ℕ) (txs : List Transaction) (u : ℕ) → u ≢ t → body_in (without t txs) u ≡ body_in txs u
+body_without : (t : ℕ) (txs : List Transaction) (u : ℕ) → u ≢ t → body_in (without_transaction t txs) u ≡ body_in txs u
 body_without t [] u n = refl
 body_without t (x ∷ txs) u n =
-    cond_both (not (x.0 == t)) (x ∷ without t txs) (without t txs) (λ ys. body_in ys u ≡ cond (u == x.0) x.1 (body_in txs u))
+    cond_both (not (x.0 == t)) (x ∷ without_transaction t txs) (without_transaction t txs) (λ ys. body_in ys u ≡ cond (u == x.0) x.1 (body_in txs u))
     (λ _. ap (cond (u == x.0) x.1) (body_without t txs u n))
     (λ e. body_without t txs u n ∙ sym (cond-false (u == x.0) x.1 (body_in txs u) (ne_eqb u x.0 (λ k. n (k ∙ eqb-true x.0 t (not-false (x.0 == t) e))))))
 
-gone : (t : ℕ) (txs : List Transaction) → is_open (without t txs) t ≡ false
+gone : (t : ℕ) (txs : List Transaction) → is_open (without_transaction t txs) t ≡ false
 gone t [] = refl
 gone t (x ∷ txs) = at (x.0 == t) refl (gone t txs)
   where
-    at : (b : Bool) → (x.0 == t) ≡ b → is_open (without t txs) t ≡ false → is_open (cond (not b) (x ∷ without t txs) (without t txs)) t ≡ false
+    at : (b : Bool) → (x.0 == t) ≡ b → is_open (without_transaction t txs) t ≡ false → is_open (cond (not b) (x ∷ without_transaction t txs) (without_transaction t txs)) t ≡ false
     at true e rest = rest
-    at false e rest = ap (λ c. c || is_open (without t txs) t) (ne_eqb t x.0 (λ k. eqb-false x.0 t e (sym k))) ∙ rest
+    at false e rest = ap (λ c. c || is_open (without_transaction t txs) t) (ne_eqb t x.0 (λ k. eqb-false x.0 t e (sym k))) ∙ rest
 
 open_begun : (t : ℕ) (txs : List Transaction) (u : ℕ) → u ≢ t → is_open (txs ++ (t, []) ∷ []) u ≡ is_open txs u
 open_begun t [] u n = ap (λ b. b || false) (ne_eqb u t n)

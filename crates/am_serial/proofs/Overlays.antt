@@ -7,11 +7,11 @@ use Rattle.am_record.specs.OrderedKey.{OrderedKey, key_cmp-total, key_cmp-exact}
 use Rattle.am_record.specs.declared.lock.Lock.{Lock}
 use Rattle.am_record.specs.declared.step.Op.{Op}
 use Rattle.am_record.specs.declared.step.Op.TheVariants.{Get, Scan, Insert, Replace, Delete, Load, Lock as TakeLock, Mark, Back}
-use Rattle.am_record.specs.Plain.{PlainMap, Draft, fresh, answer, after, map_answer, map_after, left_on, left, is_orderly}
+use Rattle.am_record.specs.Plain.{PlainMap, Draft, fresh, answer, draft_after, map_answer, map_after, left_on, left, is_orderly}
 use Rattle.am_record.specs.Asks.{lock_of, with_asked, clashes, locks_of, has_key, holds, owns}
 use Rattle.am_record.proofs.Bodies.{left_on_push}
 use Rattle.am_serial.specs.Laws.{is_back}
-use Rattle.am_serial.specs.Trace.{Answered, left_by, ops_of}
+use Rattle.am_serial.specs.Trace.{Answered, left_by_bodies, ops_of}
 use Rattle.am_serial.specs.Agreement.{Agree}
 use Rattle.am_serial.proofs.Maps.{Within, agree_refl, answer_local, after_local, after_frame, reads, writes}
 use Rattle.am_serial.proofs.Bodies.{AllOrderly, Apart, owns_holds, writes_reads, scope_of, scope_within, left_local, left_frame, asked_only, not_owned}
@@ -42,14 +42,14 @@ not_first {f} {x} {ts} c t h e = both_ways (among ts x) c.once.0 (subst (λ y. a
 
 module _ (f : ℕ → List Answered) where
   -- a key that none of them owns
-  pub crowd_frame : (ts : List ℕ) (m : PlainMap) (q : OrderedKey) → Crowd f ts → ((u : ℕ) → among ts u ≡ true → owns (locks_by f u) q ≡ false) → get (left_by (map f ts) m) q ≡ get m q
+  pub crowd_frame : (ts : List ℕ) (m : PlainMap) (q : OrderedKey) → Crowd f ts → ((u : ℕ) → among ts u ≡ true → owns (locks_by f u) q ≡ false) → get (left_by_bodies (map f ts) m) q ≡ get m q
   crowd_frame [] m q c free = refl
   crowd_frame (x ∷ ts) m q c free =
       crowd_frame ts (left (ops_of (f x)) m) q (rest_of c) (λ u h. free u (or_right (u == x) (among ts u) h))
       ∙ left_frame (holds (locks_by f x)) (owns (locks_by f x)) (ops_of (f x)) m q (scope_of (ops_of (f x)) (c.orderly x)) (free x (first_in x ts))
 
   -- keys that none but t owns are as t alone leaves them
-  pub crowd_own : (S : OrderedKey → Bool) (t : ℕ) (ts : List ℕ) (m n : PlainMap) → Crowd f ts → among ts t ≡ true → Within (holds (locks_by f t)) S → ((u : ℕ) → among ts u ≡ true → u ≢ t → (q : OrderedKey) → S q ≡ true → owns (locks_by f u) q ≡ false) → Agree S m n → Agree S (left_by (map f ts) m) (left (ops_of (f t)) n)
+  pub crowd_own : (S : OrderedKey → Bool) (t : ℕ) (ts : List ℕ) (m n : PlainMap) → Crowd f ts → among ts t ≡ true → Within (holds (locks_by f t)) S → ((u : ℕ) → among ts u ≡ true → u ≢ t → (q : OrderedKey) → S q ≡ true → owns (locks_by f u) q ≡ false) → Agree S m n → Agree S (left_by_bodies (map f ts) m) (left (ops_of (f t)) n)
   crowd_own S t [] m n c on w free a = absurd (false≢true on)
   crowd_own S t (x ∷ ts) m n c on w free a =
       ⊎_elim
@@ -77,7 +77,7 @@ module _ (f : ℕ → List Answered) where
   others_free : (ts : List ℕ) (t : ℕ) → Crowd f ts → among ts t ≡ true → (u : ℕ) → among ts u ≡ true → u ≢ t → (q : OrderedKey) → holds (locks_by f t) q ≡ true → owns (locks_by f u) q ≡ false
   others_free ts t c on u hu n q h = false_from_ne_true (owns (locks_by f u) q) (λ o. (c.apart t u on hu (λ e. n (sym e))).at q h o)
 
-  pub crowd_held : (t : ℕ) (ts : List ℕ) (m n : PlainMap) → Crowd f ts → among ts t ≡ true → Agree (holds (locks_by f t)) m n → Agree (holds (locks_by f t)) (left_by (map f ts) m) (left (ops_of (f t)) n)
+  pub crowd_held : (t : ℕ) (ts : List ℕ) (m n : PlainMap) → Crowd f ts → among ts t ≡ true → Agree (holds (locks_by f t)) m n → Agree (holds (locks_by f t)) (left_by_bodies (map f ts) m) (left (ops_of (f t)) n)
   crowd_held t ts m n c on a = crowd_own (holds (locks_by f t)) t ts m n c on (record { at = λ q h. h }) (others_free ts t c on) a
 
   -- the owner of a key, or that there is none
@@ -102,7 +102,7 @@ module _ (f : ℕ → List Answered) where
       (cases_Bool (owns (locks_by f x) q))
 
 -- but for Back, an operation does to a draft's map what it does to a map, and is answered so
-after_map : (op : Op) (d : Draft) → is_back op ≡ false → (after op d).map ≡ map_after op d.map
+after_map : (op : Op) (d : Draft) → is_back op ≡ false → (draft_after op d).map ≡ map_after op d.map
 after_map (Get k) d h = refl
 after_map (Scan range max) d h = refl
 after_map (Insert k v) d h = refl
@@ -143,12 +143,12 @@ module _ (f : ℕ → List Answered) (ts : List ℕ) (m : PlainMap) (t : ℕ) (o
   asked_within : Within (reads op) scope
   asked_within = record { at = λ q h. or_right (holds (locks_by f t) q) (reads op q) h }
 
-  pub granted_agree : Agree scope (left_by (map f ts) m) (left (ops_of (f t)) m)
+  pub granted_agree : Agree scope (left_by_bodies (map f ts) m) (left (ops_of (f t)) m)
   granted_agree = crowd_own f scope t ts m m crowd on (record { at = λ q h. or_left (holds (locks_by f t) q) (reads op q) h }) scope_free (agree_refl m)
 
   -- the answer on the transaction's own view is the one on all that stands
-  pub granted_answer : map_answer op (left_by (map f ts) m) ≡ map_answer op (left (ops_of (f t)) m)
-  granted_answer = answer_local op (left_by (map f ts) m) (left (ops_of (f t)) m) orderly (record { at = λ q h. granted_agree.at q (asked_within.at q h) })
+  pub granted_answer : map_answer op (left_by_bodies (map f ts) m) ≡ map_answer op (left (ops_of (f t)) m)
+  granted_answer = answer_local op (left_by_bodies (map f ts) m) (left (ops_of (f t)) m) orderly (record { at = λ q h. granted_agree.at q (asked_within.at q h) })
 
   module _ (f' : ℕ → List Answered) (crowd' : Crowd f' ts) (here : ops_of (f' t) ≡ ops_of (f t) ++ op ∷ []) (locks_here : locks_by f' t ≡ with_asked (locks_by f t) (lock_of op)) (there : (u : ℕ) → u ≢ t → f' u ≡ f u) where
     scope_held : Within (holds (locks_by f' t)) scope
@@ -161,13 +161,13 @@ module _ (f : ℕ → List Answered) (ts : List ℕ) (m : PlainMap) (t : ℕ) (o
     same_locks : (u : ℕ) → u ≢ t → locks_by f' u ≡ locks_by f u
     same_locks u n = ap (λ (done : List Answered). locks_of (ops_of done)) (there u n)
 
-    in_scope : (q : OrderedKey) → scope q ≡ true → get (left_by (map f' ts) m) q ≡ get (map_after op (left_by (map f ts) m)) q
+    in_scope : (q : OrderedKey) → scope q ≡ true → get (left_by_bodies (map f' ts) m) q ≡ get (map_after op (left_by_bodies (map f ts) m)) q
     in_scope q h =
         (crowd_own f' scope t ts m m crowd' on scope_held (λ u hu n q h. subst (λ ls. owns ls q ≡ false) (sym (same_locks u n)) (scope_free u hu n q h)) (agree_refl m)).at q h
         ∙ ap (λ ops. get (left ops m) q) here
         ∙ ap (λ (d : Draft). get d.map q) (left_on_push (ops_of (f t)) op (fresh m))
         ∙ ap (λ n. get n q) (after_map op (left_on (ops_of (f t)) (fresh m)) plain)
-        ∙ sym ((after_local op (left_by (map f ts) m) (left (ops_of (f t)) m) orderly asked_within granted_agree).at q h)
+        ∙ sym ((after_local op (left_by_bodies (map f ts) m) (left (ops_of (f t)) m) orderly asked_within granted_agree).at q h)
 
     outside_write : (q : OrderedKey) → scope q ≡ false → writes op q ≡ false
     outside_write q h = false_from_ne_true (writes op q) (λ w. both_ways (reads op q) (or_parts (holds (locks_by f t) q) (reads op q) h).1 (writes_reads op q w))
@@ -182,7 +182,7 @@ module _ (f : ℕ → List Answered) (ts : List ℕ) (m : PlainMap) (t : ℕ) (o
         (λ n. subst (λ ls. owns ls q ≡ false) (sym (same_locks u (eqb-false u t n))) (free' u hu))
         (cases_Bool (u == t))
 
-    out_of_scope : (q : OrderedKey) → scope q ≡ false → get (left_by (map f' ts) m) q ≡ get (map_after op (left_by (map f ts) m)) q
+    out_of_scope : (q : OrderedKey) → scope q ≡ false → get (left_by_bodies (map f' ts) m) q ≡ get (map_after op (left_by_bodies (map f ts) m)) q
     out_of_scope q h =
         ⊎_elim
         (λ o.
@@ -194,10 +194,10 @@ module _ (f : ℕ → List Answered) (ts : List ℕ) (m : PlainMap) (t : ℕ) (o
         ∙ sym ((crowd_held f u ts m m crowd o.1 (agree_refl m)).at q held))
         (λ free'. crowd_frame f' ts m q crowd' (still_free q h free') ∙ sym (crowd_frame f ts m q crowd free'))
         (owner f ts q)
-        ∙ sym (after_frame op (left_by (map f ts) m) q orderly (outside_write q h))
+        ∙ sym (after_frame op (left_by_bodies (map f ts) m) q orderly (outside_write q h))
 
     -- the operation does to all that stands what it does to the transaction's own view
-    pub granted_overlay : left_by (map f' ts) m ≡ map_after op (left_by (map f ts) m)
+    pub granted_overlay : left_by_bodies (map f' ts) m ≡ map_after op (left_by_bodies (map f ts) m)
     granted_overlay = same_map key_cmp-total key_cmp-exact _ _ (λ q. ⊎_elim (λ h. in_scope q h) (λ h. out_of_scope q h) (cases_Bool (scope q)))
 
 -- ---- a transaction goes back
@@ -212,13 +212,13 @@ module _ (f f' : ℕ → List Answered) (ts : List ℕ) (m : PlainMap) (t : ℕ)
       (cases_Bool (u == t))
 
   -- a key that t owns
-  own_back : (q : OrderedKey) → owns (locks_by f t) q ≡ true → get (left_by (map f' ts) m) q ≡ get (after Back (left_on (ops_of (f t)) (fresh m))).map q
+  own_back : (q : OrderedKey) → owns (locks_by f t) q ≡ true → get (left_by_bodies (map f' ts) m) q ≡ get (draft_after Back (left_on (ops_of (f t)) (fresh m))).map q
   own_back q h =
       (crowd_held f' t ts m m crowd' on (agree_refl m)).at q (subst (λ ls. holds ls q ≡ true) (sym locks_here) (owns_holds (locks_by f t) q h))
       ∙ ap (λ ops. get (left ops m) q) here
       ∙ ap (λ (d : Draft). get d.map q) (left_on_push (ops_of (f t)) Back (fresh m))
 
-  other_back : (q : OrderedKey) → owns (locks_by f t) q ≡ false → get (left_by (map f' ts) m) q ≡ get (left_by (map f ts) m) q
+  other_back : (q : OrderedKey) → owns (locks_by f t) q ≡ false → get (left_by_bodies (map f' ts) m) q ≡ get (left_by_bodies (map f ts) m) q
   other_back q h =
       ⊎_elim
       (λ o.
@@ -234,10 +234,10 @@ module _ (f f' : ℕ → List Answered) (ts : List ℕ) (m : PlainMap) (t : ℕ)
       (owner f ts q)
 
   -- the keys that it owns are again as in the map gone back to, and all else stays
-  pub back_overlay : (q : OrderedKey) → get (left_by (map f' ts) m) q ≡ cond (owns (locks_by f t) q) (get (after Back (left_on (ops_of (f t)) (fresh m))).map q) (get (left_by (map f ts) m) q)
+  pub back_overlay : (q : OrderedKey) → get (left_by_bodies (map f' ts) m) q ≡ cond (owns (locks_by f t) q) (get (draft_after Back (left_on (ops_of (f t)) (fresh m))).map q) (get (left_by_bodies (map f ts) m) q)
   back_overlay q =
-      let gone_back = get (after Back (left_on (ops_of (f t)) (fresh m))).map q in
-      let stays = get (left_by (map f ts) m) q in
+      let gone_back = get (draft_after Back (left_on (ops_of (f t)) (fresh m))).map q in
+      let stays = get (left_by_bodies (map f ts) m) q in
       ⊎_elim
       (λ yes. own_back q yes ∙ sym (cond-true (owns (locks_by f t) q) gone_back stays yes))
       (λ no. other_back q no ∙ sym (cond-false (owns (locks_by f t) q) gone_back stays no))
@@ -282,7 +282,7 @@ module _ (f : ℕ → List Answered) (ts : List ℕ) (m : PlainMap) (t : ℕ) (c
   of_other u hu n = record { at = λ q h. t_frame q (others_free f ts u crowd hu t on (λ e. n (sym e)) q h) }
 
   -- what stands stays as it is when a transaction commits
-  pub commits_overlay : left_by (map f others) (left (ops_of (f t)) m) ≡ left_by (map f ts) m
+  pub commits_overlay : left_by_bodies (map f others) (left (ops_of (f t)) m) ≡ left_by_bodies (map f ts) m
   commits_overlay = same_map key_cmp-total key_cmp-exact _ _ (λ q.
       ⊎_elim
       (λ o.
@@ -304,12 +304,12 @@ module _ (f : ℕ → List Answered) (ts : List ℕ) (m : PlainMap) (t : ℕ) (c
       (owner f ts q))
 
   -- when a transaction is aborted, the keys that it owns are again as the map has them
-  pub aborts_overlay : (q : OrderedKey) → get (left_by (map f others) m) q ≡ cond (owns (locks_by f t) q) (get m q) (get (left_by (map f ts) m) q)
+  pub aborts_overlay : (q : OrderedKey) → get (left_by_bodies (map f others) m) q ≡ cond (owns (locks_by f t) q) (get m q) (get (left_by_bodies (map f ts) m) q)
   aborts_overlay q =
       ⊎_elim
       (λ yes.
       crowd_frame f others m q crowd_less (free_of_t q (owns_holds (locks_by f t) q yes))
-      ∙ sym (cond-true (owns (locks_by f t) q) (get m q) (get (left_by (map f ts) m) q) yes))
+      ∙ sym (cond-true (owns (locks_by f t) q) (get m q) (get (left_by_bodies (map f ts) m) q) yes))
       (λ no.
       ⊎_elim
       (λ o.
@@ -320,5 +320,5 @@ module _ (f : ℕ → List Answered) (ts : List ℕ) (m : PlainMap) (t : ℕ) (c
       ∙ sym ((crowd_held f u ts m m crowd o.1 (agree_refl m)).at q held))
       (λ free. crowd_frame f others m q crowd_less (less_free q free) ∙ sym (crowd_frame f ts m q crowd free))
       (owner f ts q)
-      ∙ sym (cond-false (owns (locks_by f t) q) (get m q) (get (left_by (map f ts) m) q) no))
+      ∙ sym (cond-false (owns (locks_by f t) q) (get m q) (get (left_by_bodies (map f ts) m) q) no))
       (cases_Bool (owns (locks_by f t) q))

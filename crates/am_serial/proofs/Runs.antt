@@ -17,9 +17,9 @@ use Rattle.am_record.specs.declared.step.Reply.TheVariants.{Done, Begun, Exists,
 use Rattle.am_record.specs.OrderedKey.{OrderedKey}
 use Rattle.am_record.specs.Plain.{PlainMap, Draft, fresh, answer, left_on, is_orderly, found, exists_or_done, least_taken, went_back}
 use Rattle.am_record.specs.Asks.{lock_of, clashes, locks_of}
-use Rattle.am_serial.specs.Trace.{Event, Trace, Answered, Effect, Begins, Answers, Commits, Aborts, Nothing, effect, effect_of_do, effects, ops_of, left_by}
+use Rattle.am_serial.specs.Trace.{Event, Trace, Answered, Effect, Begins, Answers, Commits, Aborts, Nothing, effect, effect_of_do, effects, ops_of, left_by_bodies}
 use Rattle.am_record.specs.Refusals.{or_else, lock_refusal}
-use Rattle.am_serial.specs.Machine.{State, Transaction, start, is_open, view, blocker, due_early, due_lock, due, May, extended, without, next, Runs, after_run}
+use Rattle.am_serial.specs.Machine.{State, Transaction, start, is_open, view, blocker, due_early, due_lock, due, May, extended, without_transaction, next, Runs, after_run}
 use Rattle.am_serial.proofs.Views.{View, view_of, view_of-push, push, among, active_in, committed_in, with_body, state_of, is_open-with_body, body_in-with_body}
 use Rattle.am_serial.proofs.Serial.{Inv, MayAnswer, MayBe, push_inv, none, none_inv, same_committed_bodies, commits_committed}
 
@@ -29,19 +29,16 @@ pub after_run-push : (trace : Trace) (s : State) (e : Event) → after_run s (tr
 after_run-push [] s e = refl
 after_run-push (x ∷ trace) s e = after_run-push trace (next s (effect x.0 x.1)) e
 
-with_body_alike : (f g : ℕ → List Answered) (ts : List ℕ) → ((t : ℕ) → f t ≡ g t) → map (with_body f) ts ≡ map (with_body g) ts
-with_body_alike f g ts h i = map (with_body (λ t. h t i)) ts
-
 pub extended-with_body : (t : ℕ) (done : Answered) (f : ℕ → List Answered) (ts : List ℕ) → map (extended t done) (map (with_body f) ts) ≡ map (with_body (λ u. cond (t == u) (f u ++ done ∷ []) (f u))) ts
 extended-with_body t done f [] = refl
 extended-with_body t done f (x ∷ ts) = ap (λ xs. (x, cond (t == x) (f x ++ done ∷ []) (f x)) ∷ xs) (extended-with_body t done f ts)
 
-pub without-with_body : (t : ℕ) (f : ℕ → List Answered) (ts : List ℕ) → without t (map (with_body f) ts) ≡ map (with_body f) (filter (λ x. not (x == t)) ts)
-without-with_body t f [] = refl
-without-with_body t f (x ∷ ts) =
-    elim (not (x == t)) as (λ b. cond b ((x, f x) ∷ without t (map (with_body f) ts)) (without t (map (with_body f) ts)) ≡ map (with_body f) (cond b (x ∷ filter (λ x. not (x == t)) ts) (filter (λ x. not (x == t)) ts))) [
-      | true ↦ ap (λ xs. (x, f x) ∷ xs) (without-with_body t f ts)
-      | false ↦ without-with_body t f ts
+pub without_transaction-with_body : (t : ℕ) (f : ℕ → List Answered) (ts : List ℕ) → without_transaction t (map (with_body f) ts) ≡ map (with_body f) (filter (λ x. not (x == t)) ts)
+without_transaction-with_body t f [] = refl
+without_transaction-with_body t f (x ∷ ts) =
+    elim (not (x == t)) as (λ b. cond b ((x, f x) ∷ without_transaction t (map (with_body f) ts)) (without_transaction t (map (with_body f) ts)) ≡ map (with_body f) (cond b (x ∷ filter (λ x. not (x == t)) ts) (filter (λ x. not (x == t)) ts))) [
+      | true ↦ ap (λ xs. (x, f x) ∷ xs) (without_transaction-with_body t f ts)
+      | false ↦ without_transaction-with_body t f ts
     ]
 
 pub not_among_push : (ended : List ℕ) (t x : ℕ) → not (among (ended ++ t ∷ []) x) ≡ (not (among ended x) && not (x == t))
@@ -65,10 +62,10 @@ pub same_state : (b b' c c' r r' : ℕ) (m m' : PlainMap) (a a' : List Transacti
     ◌≡◌ {A = State} (record { begun = b; commits = c; runs = r; committed = m; active = a }) (record { begun = b'; commits = c'; runs = r'; committed = m'; active = a' })
 same_state b b' c c' r r' m m' a a' pb pc pr pm pa i = record { begun = pb i; commits = pc i; runs = pr i; committed = pm i; active = pa i }
 
-pub ended_active : (v : View) (t : ℕ) → map (with_body v.body) (active_in (push v (Aborts t))) ≡ without t (map (with_body v.body) (active_in v))
+pub ended_active : (v : View) (t : ℕ) → map (with_body v.body) (active_in (push v (Aborts t))) ≡ without_transaction t (map (with_body v.body) (active_in v))
 ended_active v t =
     ap (map (with_body v.body)) (filter_twice (λ x. not (among v.ended x)) (λ x. not (x == t)) (λ x. not (among (v.ended ++ t ∷ []) x)) (not_among_push v.ended t) v.begun)
-    ∙ sym (without-with_body t v.body (active_in v))
+    ∙ sym (without_transaction-with_body t v.body (active_in v))
 
 pub begun_active : (v : View) (t : ℕ) → among v.ended t ≡ false → v.body t ≡ [] → map (with_body v.body) (active_in (push v (Begins t))) ≡ map (with_body v.body) (active_in v) ++ (t, []) ∷ []
 begun_active v t e none =
@@ -86,7 +83,7 @@ state_of-push v (Begins t) inv may =
     let fresh = inv.fresh t above in
     same_state _ _ _ _ _ _ _ _ _ _ (length-append v.begun (t ∷ [])) refl refl refl (begun_active v t fresh.1 fresh.2)
 state_of-push v (Answers t op reply) inv may =
-    same_state _ _ _ _ _ _ _ _ _ _ refl refl refl (ap (λ bodies. left_by bodies empty) (same_committed_bodies v inv t op reply may.active)) (sym (extended-with_body t (op, reply) v.body (active_in v)))
+    same_state _ _ _ _ _ _ _ _ _ _ refl refl refl (ap (λ bodies. left_by_bodies bodies empty) (same_committed_bodies v inv t op reply may.active)) (sym (extended-with_body t (op, reply) v.body (active_in v)))
 state_of-push v (Commits t) inv may =
     same_state _ _ _ _ _ _ _ _ _ _ refl (length-append v.committers (t ∷ [])) refl (commits_committed v inv t may ∙ sym (ap (λ d. d.map) (view-state_of v t may))) (ended_active v t)
 state_of-push v (Aborts t) inv may =

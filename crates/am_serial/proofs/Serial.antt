@@ -9,7 +9,7 @@ use Rattle.am_record.specs.declared.step.Op.{Op}
 use Rattle.am_record.specs.declared.step.Reply.{Reply}
 use Rattle.am_record.specs.Plain.{PlainMap, fresh, answer, answers, left_on, left, is_orderly}
 use Rattle.am_record.specs.Asks.{lock_of, with_asked, clashes, locks_of, has_key, owns_key, holds, owns}
-use Rattle.am_serial.specs.Trace.{Answered, Effect, Begins, Answers, Commits, Aborts, Nothing, left_by, ops_of, IsAnsweredAlone, AreAnsweredInTurn}
+use Rattle.am_serial.specs.Trace.{Answered, Effect, Begins, Answers, Commits, Aborts, Nothing, left_by_bodies, ops_of, IsAnsweredAlone, AreAnsweredInTurn}
 use Rattle.am_serial.proofs.Bodies.{AllOrderly, orderly_push, Apart, locks_of-push, asked_only, not_owned, not_held, answers_apart, answers_push}
 use Rattle.am_serial.proofs.Views.{View, push, among, active_in, active_parts, active_from, among_push, among_push_old, among_push_last, among_push_none, committed_in}
 
@@ -217,7 +217,7 @@ module _ (v : View) (inv : Inv v) (t0 : ℕ) (op : Op) (reply : Reply) (may : Ma
         (λ _ hu n. inv.apart t u ht hu n) hu n)
         ht n;
     serial = subst (λ bodies. AreAnsweredInTurn bodies empty) (sym (same_committed_bodies v inv t0 op reply may.active)) inv.serial;
-    steady = λ t ht. subst (λ bodies. IsAnsweredAlone (body' t) (left_by bodies empty)) (sym (same_committed_bodies v inv t0 op reply may.active))
+    steady = λ t ht. subst (λ bodies. IsAnsweredAlone (body' t) (left_by_bodies bodies empty)) (sym (same_committed_bodies v inv t0 op reply may.active))
         (at_body v inv t0 op reply may.active (λ t done. among (active_in v) t ≡ true → IsAnsweredAlone done (committed_in v)) t
         (λ _. new_alone)
         (λ _ ht. inv.steady t ht) ht);
@@ -250,11 +250,11 @@ module _ (v : View) (inv : Inv v) (t0 : ℕ) (on : among (active_in v) t0 ≡ tr
     steady = λ t ht. inv.steady t (ends_was t ht).0;
   }
 
-  pub left_by-push : (bodies : List (List Answered)) (b : List Answered) (m : PlainMap) → left_by (bodies ++ b ∷ []) m ≡ left (ops_of b) (left_by bodies m)
-  left_by-push [] b m = refl
-  left_by-push (c ∷ bodies) b m = left_by-push bodies b (left (ops_of c) m)
+  pub left_by_bodies-push : (bodies : List (List Answered)) (b : List Answered) (m : PlainMap) → left_by_bodies (bodies ++ b ∷ []) m ≡ left (ops_of b) (left_by_bodies bodies m)
+  left_by_bodies-push [] b m = refl
+  left_by_bodies-push (c ∷ bodies) b m = left_by_bodies-push bodies b (left (ops_of c) m)
 
-  in_turn_push : (bodies : List (List Answered)) (b : List Answered) (m : PlainMap) → AreAnsweredInTurn bodies m → IsAnsweredAlone b (left_by bodies m) → AreAnsweredInTurn (bodies ++ b ∷ []) m
+  in_turn_push : (bodies : List (List Answered)) (b : List Answered) (m : PlainMap) → AreAnsweredInTurn bodies m → IsAnsweredAlone b (left_by_bodies bodies m) → AreAnsweredInTurn (bodies ++ b ∷ []) m
   in_turn_push [] b m h k = (k, tt)
   in_turn_push (c ∷ bodies) b m h k = (h.0, in_turn_push bodies b (left (ops_of c) m) h.1 k)
 
@@ -262,7 +262,7 @@ module _ (v : View) (inv : Inv v) (t0 : ℕ) (on : among (active_in v) t0 ≡ tr
   bodies_push = map-append v.body v.committers (t0 ∷ [])
 
   pub commits_committed : committed_in (push v (Commits t0)) ≡ left (ops_of (v.body t0)) (committed_in v)
-  commits_committed = ap (λ bodies. left_by bodies empty) bodies_push ∙ left_by-push (map v.body v.committers) (v.body t0) empty
+  commits_committed = ap (λ bodies. left_by_bodies bodies empty) bodies_push ∙ left_by_bodies-push (map v.body v.committers) (v.body t0) empty
 
   commits_inv : Inv (push v (Commits t0))
   commits_inv = record {

@@ -16,7 +16,7 @@ use Rattle.am_record.specs.declared.step.Reply.{Reply}
 use Rattle.am_record.specs.declared.step.Reply.TheVariants.{Done, Exists, Missing, Refused}
 use Rattle.am_record.specs.Plain.{Records, PlainMap, Draft, fresh, answer, answers, left_on, found, exists_or_done, first_key, went_back, rows_where, is_key_of}
 use Rattle.am_record.specs.Asks.{clashes, lock_of, locks_of}
-use Rattle.am_serial.specs.Trace.{Trace, Answered, Effect, Answers, Nothing, effect, effect_of_do, is_active, body, held_by, ops_of, replies_of, IsSteady, IsAnsweredAlone, left_by, AtEachMoment}
+use Rattle.am_serial.specs.Trace.{Trace, Answered, Effect, Answers, Nothing, effect, effect_of_do, is_active, body, held_by, ops_of, replies_of, IsSteady, IsAnsweredAlone, left_by_bodies, AtEachMoment}
 use Rattle.am_record.specs.Refusals.{or_else, lock_refusal, is_one_too_many}
 use Rattle.am_serial.specs.Machine.{State, start, state_at, due_early, blocker, is_open, view, locks_in, May, next, Runs}
 use Rattle.am_serial.specs.Sound.{IsLeastBlocker, BusyRightAt, IsAnswerOf, FormedDo, FormedAt, IsSoundFrom, IsSound}
@@ -268,7 +268,7 @@ steady_answer v inv t op reply on steady =
     let m = committed_in v in
     let at_t = cond-true (t == t) (done ++ (op, reply) ∷ []) done (eq-eqb t t refl) in
     let alone : IsAnsweredAlone (done ++ (op, reply) ∷ []) m =
-    subst (λ bodies. IsAnsweredAlone (done ++ (op, reply) ∷ []) (left_by bodies empty)) (same_committed_bodies v inv t op reply on)
+    subst (λ bodies. IsAnsweredAlone (done ++ (op, reply) ∷ []) (left_by_bodies bodies empty)) (same_committed_bodies v inv t op reply on)
     (subst (λ (b : List Answered). IsAnsweredAlone b (committed_in (push v (Answers t op reply)))) at_t (steady t on)) in
     let both : replies_of done ++ reply ∷ [] ≡ answers (ops_of done) m ++ answer op (left_on (ops_of done) (fresh m)) ∷ [] =
     sym (map-append (λ (a : Answered). a.1) done ((op, reply) ∷ []))

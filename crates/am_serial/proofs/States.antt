@@ -7,19 +7,19 @@ use Rattle.std.proofs.lemmas.List.{map-append}
 use Rattle.am_record.specs.declared.step.Op.{Op}
 use Rattle.am_record.specs.declared.step.Op.TheVariants.{Back}
 use Rattle.am_record.specs.declared.step.Reply.{Reply}
-use Rattle.am_record.specs.Plain.{PlainMap, Draft, fresh, answer, after, map_answer, map_after, left_on, left}
+use Rattle.am_record.specs.Plain.{PlainMap, Draft, fresh, answer, draft_after, map_answer, map_after, left_on, left}
 use Rattle.am_record.specs.OrderedKey.{OrderedKey}
 use Rattle.am_record.specs.Asks.{lock_of, with_asked, locks_of, holds, owns}
 use Rattle.am_serial.specs.Agreement.{Agree, Alike, Has}
-use Rattle.am_serial.specs.Trace.{Trace, Answered, Effect, Answers, Commits, effects, left_by, ops_of}
-use Rattle.am_serial.specs.Machine.{Transaction, start, Runs, after_run, is_open, view, due, without, next, overlay_in, owns_in, State, body_in, holds_in}
-use Rattle.am_serial.specs.Laws.{is_back, GrantedOnOverlay, BackRestores, CommitKeepsOverlay, AbortRestores, OverlayLaws, ViewLaws, IsStateOf}
+use Rattle.am_serial.specs.Trace.{Trace, Answered, Effect, Answers, Commits, effects, left_by_bodies, ops_of}
+use Rattle.am_serial.specs.Machine.{Transaction, start, Runs, after_run, is_open, view, due, without_transaction, next, overlay_in, owns_in, State, body_in, holds_in}
+use Rattle.am_serial.specs.Laws.{is_back, GrantedOnOverlay, BackRestores, CommitKeepsOverlay, AbortRestores, OverlayLaws, ViewLaws, IsMachineOf}
 use Rattle.am_serial.proofs.Bodies.{locks_of-push, view_frame, view_local, left_frame, scope_of}
 use Rattle.am_serial.proofs.Maps.{agree_refl}
 use Rattle.am_serial.proofs.Views.{View, view_of, push, among, active_in, committed_in, with_body, state_of, is_open-with_body, body_in-with_body, active_parts, active_from, among_push_none}
 use Rattle.am_serial.proofs.Serial.{Inv, MayAnswer, push_inv, same_committed_bodies, commits_committed}
 use Rattle.am_serial.proofs.Overlays.{Crowd, locks_by, answer_map, granted_answer, granted_overlay, back_overlay, commits_overlay, aborts_overlay, AreDistinct-filter, crowd_held, crowd_frame}
-use Rattle.am_serial.proofs.Runs.{from_start, without-with_body, view-state_of, may_answer, state_of-push}
+use Rattle.am_serial.proofs.Runs.{from_start, without_transaction-with_body, view-state_of, may_answer, state_of-push}
 
 pub crowd_of : (v : View) → Inv v → Crowd v.body (active_in v)
 crowd_of v inv = record { once = AreDistinct-filter (λ t. not (among v.ended t)) v.begun inv.once; orderly = inv.orderly; apart = inv.apart }
@@ -32,8 +32,8 @@ numbers-with_body : (f : ℕ → List Answered) (ts : List ℕ) → map (λ (x :
 numbers-with_body f [] = refl
 numbers-with_body f (t ∷ ts) = ap (λ xs. t ∷ xs) (numbers-with_body f ts)
 
-pub overlay_by : (f : ℕ → List Answered) (ts : List ℕ) (m : PlainMap) → left_by (map (λ (x : Transaction). x.1) (map (with_body f) ts)) m ≡ left_by (map f ts) m
-overlay_by f ts m = ap (λ bodies. left_by bodies m) (bodies-with_body f ts)
+pub overlay_by : (f : ℕ → List Answered) (ts : List ℕ) (m : PlainMap) → left_by_bodies (map (λ (x : Transaction). x.1) (map (with_body f) ts)) m ≡ left_by_bodies (map f ts) m
+overlay_by f ts m = ap (λ bodies. left_by_bodies bodies m) (bodies-with_body f ts)
 
 -- what is so where an operation is granted
 module _ (v : View) (inv : Inv v) (t : ℕ) (op : Op) (none_due : due (state_of v) t op ≡ None) where
@@ -71,11 +71,11 @@ module _ (v : View) (inv : Inv v) (t : ℕ) (op : Op) (none_due : due (state_of 
   there u n = cond-false (t == u) (v.body u ++ (op, reply) ∷ []) (v.body u) (ne_eqb t u (λ k. n (sym k)))
 
   -- what stands after
-  overlay_after : overlay_in (next (state_of v) e) ≡ left_by (map f' (active_in v)) (committed_in v)
+  overlay_after : overlay_in (next (state_of v) e) ≡ left_by_bodies (map f' (active_in v)) (committed_in v)
   overlay_after =
       ap overlay_in (sym (state_of-push v e inv may))
       ∙ overlay_by f' (active_in v) (committed_in (push v e))
-      ∙ ap (λ bodies. left_by (map f' (active_in v)) (left_by bodies empty)) (same_committed_bodies v inv t op reply may.active)
+      ∙ ap (λ bodies. left_by_bodies (map f' (active_in v)) (left_by_bodies bodies empty)) (same_committed_bodies v inv t op reply may.active)
 
   granted_law : is_back op ≡ false → GrantedOnOverlay (state_of v) t op
   granted_law plain =
@@ -101,21 +101,21 @@ back_law v inv t none_due q =
     let on = (may v inv t Back none_due).active in
     ap (λ n. get n q) (overlay_after v inv t Back none_due)
     ∙ back_overlay v.body (f' v inv t Back none_due) ts m t (crowd_of v inv) (crowd' v inv t Back none_due) on (here v inv t Back none_due) (locks_here v inv t Back none_due) (there v inv t Back none_due) q
-    ∙ ap (λ (d : Draft). cond (owns (locks_by v.body t) q) (get (after Back d).map q) (get (left_by (map v.body ts) m) q)) (sym (is_seen v inv t Back none_due))
-    ∙ ap (λ (done : List Answered). cond (owns (locks_of (ops_of done)) q) (get (after Back (view (state_of v) t)).map q) (get (left_by (map v.body ts) m) q)) (sym (body_in-with_body v.body ts t on))
-    ∙ ap (λ n. cond (owns_in (state_of v) t q) (get (after Back (view (state_of v) t)).map q) (get n q)) (sym (overlay_by v.body ts m))
+    ∙ ap (λ (d : Draft). cond (owns (locks_by v.body t) q) (get (draft_after Back d).map q) (get (left_by_bodies (map v.body ts) m) q)) (sym (is_seen v inv t Back none_due))
+    ∙ ap (λ (done : List Answered). cond (owns (locks_of (ops_of done)) q) (get (draft_after Back (view (state_of v) t)).map q) (get (left_by_bodies (map v.body ts) m) q)) (sym (body_in-with_body v.body ts t on))
+    ∙ ap (λ n. cond (owns_in (state_of v) t q) (get (draft_after Back (view (state_of v) t)).map q) (get n q)) (sym (overlay_by v.body ts m))
 
 pub is_on : (v : View) (t : ℕ) → is_open (state_of v).active t ≡ true → among (active_in v) t ≡ true
 is_on v t h = sym (is_open-with_body v.body (active_in v) t) ∙ h
 
-without_by : (v : View) (t : ℕ) (m : PlainMap) → left_by (map (λ (x : Transaction). x.1) (without t (state_of v).active)) m ≡ left_by (map v.body (filter (λ x. not (x == t)) (active_in v))) m
-without_by v t m = ap (λ txs. left_by (map (λ (x : Transaction). x.1) txs) m) (without-with_body t v.body (active_in v)) ∙ overlay_by v.body (filter (λ x. not (x == t)) (active_in v)) m
+without_by : (v : View) (t : ℕ) (m : PlainMap) → left_by_bodies (map (λ (x : Transaction). x.1) (without_transaction t (state_of v).active)) m ≡ left_by_bodies (map v.body (filter (λ x. not (x == t)) (active_in v))) m
+without_by v t m = ap (λ txs. left_by_bodies (map (λ (x : Transaction). x.1) txs) m) (without_transaction-with_body t v.body (active_in v)) ∙ overlay_by v.body (filter (λ x. not (x == t)) (active_in v)) m
 
 commits_law : (v : View) → Inv v → (t : ℕ) → is_open (state_of v).active t ≡ true → CommitKeepsOverlay (state_of v) t
 commits_law v inv t h =
     let on = is_on v t h in
     without_by v t (view (state_of v) t).map
-    ∙ ap (λ (d : Draft). left_by (map v.body (filter (λ x. not (x == t)) (active_in v))) d.map) (view-state_of v t on)
+    ∙ ap (λ (d : Draft). left_by_bodies (map v.body (filter (λ x. not (x == t)) (active_in v))) d.map) (view-state_of v t on)
     ∙ commits_overlay v.body (active_in v) (committed_in v) t (crowd_of v inv) on
     ∙ sym (overlay_by v.body (active_in v) (committed_in v))
 
@@ -126,7 +126,7 @@ aborts_law v inv t h q =
     let m = committed_in v in
     ap (λ n. get n q) (without_by v t m)
     ∙ aborts_overlay v.body ts m t (crowd_of v inv) on q
-    ∙ ap (λ (done : List Answered). cond (owns (locks_of (ops_of done)) q) (get m q) (get (left_by (map v.body ts) m) q)) (sym (body_in-with_body v.body ts t on))
+    ∙ ap (λ (done : List Answered). cond (owns (locks_of (ops_of done)) q) (get m q) (get (left_by_bodies (map v.body ts) m) q)) (sym (body_in-with_body v.body ts t on))
     ∙ ap (λ n. cond (owns_in (state_of v) t q) (get m q) (get n q)) (sym (overlay_by v.body ts m))
 
 laws : (v : View) → Inv v → OverlayLaws (state_of v)
@@ -208,13 +208,13 @@ overlay_laws trace runs =
     let follows = from_start trace runs in
     subst OverlayLaws (sym follows.is) (laws (view_of (effects trace)) follows.kept)
 
-pub is_state_of : (trace : Trace) → Runs start trace → IsStateOf trace (after_run start trace)
+pub is_state_of : (trace : Trace) → Runs start trace → IsMachineOf trace (after_run start trace)
 is_state_of trace runs =
     let follows = from_start trace runs in
     let v = view_of (effects trace) in
-    let of_view : IsStateOf trace (state_of v) = record {
+    let of_view : IsMachineOf trace (state_of v) = record {
       committed_map = refl;
       active_numbers = numbers-with_body v.body (active_in v);
       overlay_map = overlay_by v.body (active_in v) (committed_in v);
     } in
-    subst (IsStateOf trace) (sym follows.is) of_view
+    subst (IsMachineOf trace) (sym follows.is) of_view

@@ -8,7 +8,7 @@ use Rattle.std.proofs.lemmas.List.{append-nil}
 use Rattle.std.proofs.lemmas.List.Folds.{list_any-append}
 use Rattle.std.proofs.lemmas.List.Elements.{filter_map-append}
 use Rattle.am_record.specs.Plain.{PlainMap}
-use Rattle.am_serial.specs.Trace.{Answered, Effect, Begins, Answers, Commits, Aborts, Nothing, begins, ends, commits, answered_to, begun, ended, committers, body, runs, makes, runs_made, left_by}
+use Rattle.am_serial.specs.Trace.{Answered, Effect, Begins, Answers, Commits, Aborts, Nothing, begins, ends, commits, answered_to, begun, ended, committers, body, runs, makes, runs_made, left_by_bodies}
 use Rattle.am_serial.specs.Machine.{State, Transaction, is_open, body_in}
 
 pub record View : Type 0 where
@@ -120,7 +120,7 @@ abbrev pub active_in : View → List ℕ
 active_in v = filter (λ t. not (among v.ended t)) v.begun
 
 abbrev pub committed_in : View → PlainMap
-committed_in v = left_by (map v.body v.committers) empty
+committed_in v = left_by_bodies (map v.body v.committers) empty
 
 pub active_parts : (v : View) (t : ℕ) → among (active_in v) t ≡ true → (among v.begun t ≡ true) × (among v.ended t ≡ false)
 active_parts v t h = let parts = among_filter (λ u. not (among v.ended u)) t v.begun h in (parts.0, not-true (among v.ended t) parts.1)

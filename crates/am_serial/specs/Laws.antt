@@ -4,7 +4,7 @@ use Rattle.std.specs.FinMap.{get}
 use Rattle.am_record.specs.OrderedKey.{OrderedKey}
 use Rattle.am_record.specs.declared.step.Op.{Op}
 use Rattle.am_record.specs.declared.step.Op.TheVariants.{Back}
-use Rattle.am_record.specs.Plain.{map_answer, map_after, answer, after}
+use Rattle.am_record.specs.Plain.{map_answer, map_after, answer, draft_after}
 use Rattle.am_serial.specs.Trace.{Trace, effects, Answers, Commits, Aborts, committed, active, overlay}
 use Rattle.am_serial.specs.Machine.{State, Transaction, is_open, view, due, next, overlay_in, holds_in, owns_in}
 use Rattle.am_serial.specs.Agreement.{Agree, Alike, Has}
@@ -21,7 +21,7 @@ pub record GrantedOnOverlay (s : State) (t : ℕ) (op : Op) : Type 0 where
 -- Back gives each key that the transaction owns the value of the map gone back to, and leaves the others
 abbrev pub BackRestores : State → ℕ → Type 0
 BackRestores s t = (q : OrderedKey) → get (overlay_in (next s (Answers t Back (answer Back (view s t))))) q ≡
-    cond (owns_in s t q) (get (after Back (view s t)).map q) (get (overlay_in s) q)
+    cond (owns_in s t q) (get (draft_after Back (view s t)).map q) (get (overlay_in s) q)
 
 -- a commit leaves the overlay as it is
 abbrev pub CommitKeepsOverlay : State → ℕ → Type 0
@@ -56,7 +56,7 @@ pub record ViewLaws (s : State) : Type 0 where
       Alike (holds_in s t) (view s t) (view (next s (Commits u)) t)
 
 -- the state is what the trace says
-pub record IsStateOf (trace : Trace) (s : State) : Type 0 where
+pub record IsMachineOf (trace : Trace) (s : State) : Type 0 where
   pub committed_map : s.committed ≡ committed (effects trace)
   pub active_numbers : map (λ (x : Transaction). x.0) s.active ≡ active (effects trace)
   pub overlay_map : overlay_in s ≡ overlay (effects trace)

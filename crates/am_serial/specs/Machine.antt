@@ -15,9 +15,10 @@ use Rattle.am_record.specs.declared.step.Reply.TheVariants.{Begun, Committed, Ab
 use Rattle.am_record.specs.declared.step.Reply.TheVariants.{Cleaned, Refused}
 use Rattle.am_record.specs.Plain.{PlainMap, Draft, fresh, answer, left_on}
 use Rattle.am_record.specs.Asks.{lock_of, clashes, locks_of, holds, owns}
+use Rattle.am_record.specs.Owners.{blocker_among}
 use Rattle.am_record.specs.Refusals.{refusal_before_lock, is_one_too_many, lock_refusal, or_else}
 use Rattle.am_serial.specs.Trace.{Trace, Answered, ops_of, Effect, Begins, Answers, Commits, Aborts, Nothing, effect}
-use Rattle.am_serial.specs.Trace.{runs_made, left_by, begun, committers, runs, committed, active, body}
+use Rattle.am_serial.specs.Trace.{runs_made, left_by_bodies, begun, committers, runs, committed, active, body}
 
 -- a transaction's number and its answered operations
 abbrev pub Transaction : Type 0
@@ -58,7 +59,7 @@ owns_in s t q = owns (locks_in s.active t) q
 
 -- the committed map with the bodies of all that is active applied
 abbrev pub overlay_in : State → PlainMap
-overlay_in s = left_by (map (λ (x : Transaction). x.1) s.active) s.committed
+overlay_in s = left_by_bodies (map (λ (x : Transaction). x.1) s.active) s.committed
 
 -- ---- refusals
 
@@ -68,9 +69,7 @@ due_early s t op = refusal_before_lock (is_open s.active t) (length (body_in s.a
 
 -- the least of the other transactions that hold a conflicting lock
 abbrev pub blocker : List Transaction → ℕ → Option Lock → Option ℕ
-blocker [] t asked = None
-blocker (x ∷ txs) t asked = cond (not (t == x.0) && clashes asked (locks_of (ops_of x.1))) (Some x.0)
-    (blocker txs t asked)
+blocker txs = blocker_among (λ (x : Transaction). x.0) (λ (x : Transaction). locks_of (ops_of x.1)) txs
 
 -- the refusal that is due where none is due early
 abbrev pub due_lock : State → ℕ → Op → Option Refusal
@@ -115,8 +114,8 @@ May s _ _ = ⊥
 abbrev pub extended : ℕ → Answered → Transaction → Transaction
 extended t done x = (x.0, cond (t == x.0) (x.1 ++ done ∷ []) x.1)
 
-abbrev pub without : ℕ → List Transaction → List Transaction
-without t txs = filter (λ (x : Transaction). not (x.0 == t)) txs
+abbrev pub without_transaction : ℕ → List Transaction → List Transaction
+without_transaction t txs = filter (λ (x : Transaction). not (x.0 == t)) txs
 
 -- the state after. A commit rebases what is active: the other views are their bodies alone on the new committed map
 abbrev pub next : State → Effect → State
@@ -125,8 +124,12 @@ next s (Answers t op reply) = record s {
   runs = s.runs + runs_made op reply;
   active = map (extended t (op, reply)) s.active;
 }
-next s (Commits t) = record s { commits = s.commits + 1; committed = (view s t).map; active = without t s.active }
-next s (Aborts t) = record s { active = without t s.active }
+next s (Commits t) = record s {
+  commits = s.commits + 1;
+  committed = (view s t).map;
+  active = without_transaction t s.active;
+}
+next s (Aborts t) = record s { active = without_transaction t s.active }
 next s Nothing = s
 
 -- the machine may give these replies to these steps

@@ -2,7 +2,7 @@
 use Rattle.std.specs.Prelude.{◌≡◌, ◌≢◌, ℕ, [], true, false, None}
 use Rattle.am_record.specs.declared.step.Op.{Op}
 use Rattle.am_record.specs.declared.step.Reply.{Reply}
-use Rattle.am_record.specs.Plain.{fresh, after}
+use Rattle.am_record.specs.Plain.{fresh, draft_after}
 use Rattle.am_record.specs.Asks.{lock_of, with_asked, clashes}
 use Rattle.am_serial.specs.Trace.{Begins, Answers, Commits, Aborts}
 use Rattle.am_serial.specs.Machine.{State, is_open, view, locks_in, due, next}
@@ -27,7 +27,7 @@ pub record HasBegun (s : State) (t : ℕ) : Type 0 where
 pub record HasDone (s s' : State) (t : ℕ) (op : Op) : Type 0 where
   pub is_active : is_open s'.active t ≡ true
   pub locks : locks_in s'.active t ≡ with_asked (locks_in s.active t) (lock_of op)
-  pub view : view s' t ≡ after op (view s t)
+  pub view : view s' t ≡ draft_after op (view s t)
 
 -- the transaction may have the lock that the operation asks for
 pub record IsGranted (s : State) (t : ℕ) (op : Op) : Type 0 where

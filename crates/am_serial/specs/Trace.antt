@@ -105,15 +105,15 @@ abbrev pub replies_of : List Answered → List Reply
 replies_of done = map (λ (a : Answered). a.1) done
 
 -- the map that whole bodies leave, one after another
-abbrev pub left_by : List (List Answered) → PlainMap → PlainMap
-left_by [] m = m
-left_by (b ∷ bs) m = left_by bs (left (ops_of b) m)
+abbrev pub left_by_bodies : List (List Answered) → PlainMap → PlainMap
+left_by_bodies [] m = m
+left_by_bodies (b ∷ bs) m = left_by_bodies bs (left (ops_of b) m)
 
 abbrev pub committed_bodies : List Effect → List (List Answered)
 committed_bodies es = map (body es) (committers es)
 
 abbrev pub committed : List Effect → PlainMap
-committed es = left_by (committed_bodies es) empty
+committed es = left_by_bodies (committed_bodies es) empty
 
 -- the replies recorded in the body are those that it gets alone from the map
 abbrev pub IsAnsweredAlone : List Answered → PlainMap → Type 0
@@ -138,7 +138,7 @@ held_by es t = locks_of (ops_of (body es t))
 
 -- the bodies of what is active, over the committed map
 abbrev pub overlay : List Effect → PlainMap
-overlay es = left_by (map (body es) (active es)) (committed es)
+overlay es = left_by_bodies (map (body es) (active es)) (committed es)
 
 -- a fact at each moment of a trace from these effects on
 abbrev pub AtEachMoment : (List Effect → Type 0) → List Effect → Trace → Type 0

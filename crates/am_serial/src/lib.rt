@@ -5,7 +5,7 @@ ghost use Rattle.std.specs.Prelude.{◌↔◌, []};
 ghost use Rattle.am_serial.specs.Trace.{Trace, IsSerial, IsSteady, AtEachMoment};
 ghost use Rattle.am_serial.specs.Machine.{State, Runs, start, after_run};
 ghost use Rattle.am_serial.specs.Steps.{StepLaws};
-ghost use Rattle.am_serial.specs.Laws.{IsStateOf, OverlayLaws, ViewLaws};
+ghost use Rattle.am_serial.specs.Laws.{IsMachineOf, OverlayLaws, ViewLaws};
 ghost use Rattle.am_serial.specs.Sound.{IsSound};
 ghost use Rattle.am_serial.specs.Formed.{IsFormed, FormedLaws};
 ghost use Rattle.am_serial.specs.Legal.{IsLegal};
@@ -38,7 +38,7 @@ pub fn formed_traces_follow()
 /// The machine's state is what its trace says, and its steps do to the overlay what they do to the
 /// transactions' own views.
 pub fn overlay_follows()
-    ensures state { (trace : Trace) → Runs start trace → IsStateOf trace (after_run start trace) }
+    ensures state { (trace : Trace) → Runs start trace → IsMachineOf trace (after_run start trace) }
     ensures overlay { (trace : Trace) → Runs start trace → OverlayLaws (after_run start trace) }
     ensures views { (trace : Trace) → Runs start trace → ViewLaws (after_run start trace) }
 {}

@@ -2,7 +2,7 @@
 
 use crate::trace_file::TraceFile;
 use am_command::Listening;
-use am_listen::{Bound, Served, bind};
+use am_listen::{PortListener, ServerRun, bind};
 use am_record::NoMemory;
 use std::io;
 use std::io::{BufRead, BufReader};
@@ -38,7 +38,7 @@ impl ListenFault {
 pub(crate) fn open<'a, R: AllocGlobal + Files + Net<Listener = TcpListener, Stream = TcpStream>>(
     rt: &R,
     listening: &Listening<'a>,
-) -> Result<(Option<TraceFile<'a>>, Bound), ListenFault> {
+) -> Result<(Option<TraceFile<'a>>, PortListener), ListenFault> {
     let file = match listening.trace {
         Some(path) => Some(TraceFile::prepare(rt, path)?),
         None => None,
@@ -61,7 +61,7 @@ fn forget<R: Files>(rt: &R, file: Option<&TraceFile<'_>>) {
 /// Has the server stop once a line STOP, or the end of standard input or a fault of it, has come.
 pub(crate) fn stop_at_word<
     R: AllocGlobal + Input + Net<Listener = TcpListener, Stream = TcpStream>,
->(rt: &R, bound: &Bound) {
+>(rt: &R, bound: &PortListener) {
     await_stop(rt);
     bound.stop(rt);
 }
@@ -82,7 +82,7 @@ fn await_stop<R: AllocGlobal + Input>(rt: &R) {
 pub(crate) fn close<R: AllocGlobal + Files + Print + Eprint>(
     rt: &R,
     file: Option<&TraceFile<'_>>,
-    served: Result<Served, NoMemory>,
+    served: Result<ServerRun, NoMemory>,
 ) -> io::Result<ExitCode> {
     let Ok(served) = served else {
         forget(rt, file);

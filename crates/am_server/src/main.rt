@@ -24,7 +24,7 @@ fn main(rt: HostRuntime) -> io::Result<ExitCode> {
         Err(fault) => return fault.tell(&rt),
     };
     let (file, bound) = match open(&rt, &listening) {
-        Ok(opened) => opened,
+        Ok(open_after) => open_after,
         Err(fault) => return tell(&rt, fault),
     };
     println!(&rt; "LISTEN {}", bound.port())?;

@@ -26,15 +26,15 @@ use Rattle.am_effect.specs.Store.{WithinLimit}
 use Rattle.am_serial.specs.Machine.{is_limit}
 use Rattle.am_sound.specs.StoreState.{Active, StoreState, is_in, in_table, newcomer, refusal_in, takes_memory, MayAnswer, with_op, state_after_op, state_after}
 use Rattle.am_sound.proofs.Actives.{kept_number}
-use Rattle.am_talk.specs.Session.{SessionState, behind}
-use Rattle.am_talk.specs.Dues.{EndsAbort}
+use Rattle.am_talk.specs.Session.{SessionState, session_after}
+use Rattle.am_talk.specs.Actions.{EndsAbort}
 use Rattle.am_talk.specs.Dialogue.{commits_after}
 use Rattle.am_session.specs.Solo.{IsOpen}
 
 -- ---- replies that begin and end nothing
 
 abbrev pub Plain : Reply → Type 0
-Plain r = (s : SessionState) → behind s r ≡ s
+Plain r = (s : SessionState) → session_after s r ≡ s
 
 -- the same transaction is active
 active_on : (r : Reply) → Plain r → (a : Option ℕ) → active_after a r ≡ a
@@ -126,9 +126,6 @@ begun_in xs t =
 upkept : (p q : StoreState) (a : Option ℕ) → q.active ≡ p.active → IsOpen p a → IsOpen q a
 upkept p q None e h = h
 upkept p q (Some t) e h = ap (λ xs. is_in xs t) e ∙ h
-
-merged_active : (p : StoreState) (limit : ℕ) (r : Reply) → (state_after p (step.Merge limit) r).active ≡ p.active
-merged_active p limit r = refl
 
 -- the session's transaction stays open
 pub stays_open : (p : StoreState) (a : Option ℕ) (s : Step) (r : Reply) → IsAllowed a s → IsOpen p a → MayAnswer p s r → IsOpen (state_after p s r) (active_after a r)

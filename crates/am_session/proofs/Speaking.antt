@@ -13,38 +13,38 @@ use Rattle.am_wire.specs.Replies.{IsOneLine}
 use Rattle.am_talk.specs.Responses.{response_text}
 use Rattle.am_sound.specs.StoreState.{StoreState, empty_state}
 use Rattle.am_sound.specs.StateOf.{IsStateOf}
-use Rattle.am_talk.specs.Session.{at_start, behind, staged_after}
+use Rattle.am_talk.specs.Session.{at_start, session_after, staged_after}
 use Rattle.am_talk.specs.Dialogue as dialogue
 use Rattle.am_talk.specs.Dialogue.{Exchange, Standing, Ends, Whole, TornAt, AnsweredBy, Merges, Dialogue, commits_after}
 use Rattle.am_talk.specs.Say.{Says}
-use Rattle.am_talk.specs.declared.due.Due.{Due}
-use Rattle.am_talk.specs.declared.due.Due.TheVariants.{Answer, Take, TellSeen}
+use Rattle.am_talk.specs.declared.action.Action.{Action}
+use Rattle.am_talk.specs.declared.action.Action.TheVariants.{Answer, Take, TellSeen}
 use Rattle.am_talk.specs.declared.response.Response.{Response}
 use Rattle.am_talk.specs.declared.response.Response.TheVariants.{Seen}
-use Rattle.am_session.specs.Talk.{Place, AnswersDue, AnswersLine, Converses, Leaves, AnswersAll, AnswersOneMore}
+use Rattle.am_session.specs.Talk.{SessionPoint, AnswersAction, AnswersLine, Converses, Leaves, AnswersAll, AnswersOneMore}
 use Rattle.am_session.specs.Served.{EndsBy}
-use Rattle.am_session.specs.Solo.{Solo, active_in, SoloGoes, SoloTells, IsSpoken}
+use Rattle.am_session.specs.Solo.{Solo, SoloSteps, solo_meaning, IsSpoken}
 use Rattle.am_session.specs.declared.end.End.{End}
 use Rattle.am_session.specs.declared.end.End.TheVariants.{Quit, EndOfInput, ReadFailed, WriteFailed, NoMemory}
 use Rattle.am_session.proofs.Solos.{merge_plain, commits_are}
 
-abbrev standing : Place Solo → Standing
+abbrev standing : SessionPoint Solo → Standing
 standing at = (record { active = at.0.active; staged = at.1 }, at.0.kept.commits)
 
-went : (old new : Place Solo) (s : Step) (r : Reply) → SoloGoes old.0 s r new.0 → new.1 ≡ staged_after old.1 r → standing new ≡ (behind (standing old).0 r, commits_after old.0.kept.commits s r)
+went : (old new : SessionPoint Solo) (s : Step) (r : Reply) → SoloSteps old.0 s r new.0 → new.1 ≡ staged_after old.1 r → standing new ≡ (session_after (standing old).0 r, commits_after old.0.kept.commits s r)
 went old new s r g waits = λ i. (record { active = g.active i; staged = waits i }, (ap (λ (p : StoreState). p.commits) g.kept ∙ commits_are old.0.kept s r g.says) i)
 
 -- ---- one line
 
-module _ (old new : Place Solo) (response : Response) (own : Trace) where
-  by_due : (what : Due) → AnswersDue active_in SoloGoes SoloTells old what response own new → AnsweredBy (standing old) what response own (standing new)
+module _ (old new : SessionPoint Solo) (response : Response) (own : Trace) where
+  by_due : (what : Action) → AnswersAction solo_meaning old what response own new → AnsweredBy (standing old) what response own (standing new)
   by_due (Answer d) a = (a.0, a.1, ap standing a.2)
   by_due (Take s) a = (a.0, a.2, a.3, went old new s a.0 a.1 a.4)
   by_due TellSeen a = (a.3 ∙ (λ i. Seen (a.2.0 i) (a.2.1 i)), a.4, (λ i. standing (a.2.2 i, a.5 i)))
 
   -- and where the store stands then
-  at_due : (what : Due) (trace : Trace) → AnswersDue active_in SoloGoes SoloTells old what response own new → IsStateOf trace old.0.kept → IsStateOf (trace ++ own) new.0.kept
-  at_due (Answer d) trace a here = nothing trace a.1 (ap (λ (p : Place Solo). p.0) a.2) here
+  at_due : (what : Action) (trace : Trace) → AnswersAction solo_meaning old what response own new → IsStateOf trace old.0.kept → IsStateOf (trace ++ own) new.0.kept
+  at_due (Answer d) trace a here = nothing trace a.1 (ap (λ (p : SessionPoint Solo). p.0) a.2) here
     where
       nothing : (trace : Trace) → own ≡ [] → new.0 ≡ old.0 → IsStateOf trace old.0.kept → IsStateOf (trace ++ own) new.0.kept
       nothing trace none same here = subst (λ (t : Trace). IsStateOf (trace ++ t) new.0.kept) (sym none) (subst (λ (t : Trace). IsStateOf t new.0.kept) (sym (append-nil trace)) (subst (λ (s : Solo). IsStateOf trace s.kept) (sym same) here))
@@ -54,17 +54,17 @@ module _ (old new : Place Solo) (response : Response) (own : Trace) where
       nothing : (trace : Trace) → own ≡ [] → new.0 ≡ old.0 → IsStateOf trace old.0.kept → IsStateOf (trace ++ own) new.0.kept
       nothing trace none same here = subst (λ (t : Trace). IsStateOf (trace ++ t) new.0.kept) (sym none) (subst (λ (t : Trace). IsStateOf t new.0.kept) (sym (append-nil trace)) (subst (λ (s : Solo). IsStateOf trace s.kept) (sym same) here))
 
-line_of : (old new : Place Solo) (e : Exchange) (own : Trace) → AnswersLine active_in SoloGoes SoloTells old e own new → dialogue.AnswersLine (standing old) e own (standing new)
+line_of : (old new : SessionPoint Solo) (e : Exchange) (own : Trace) → AnswersLine solo_meaning old e own new → dialogue.AnswersLine (standing old) e own (standing new)
 line_of old new e own a = (a.0, a.2.0, record { active = old.0.active; staged = a.2.1 }, a.1, a.2.2, by_due (old.0, a.2.1) new e.1 own a.2.0 a.2.3)
 
-at_line : (old new : Place Solo) (e : Exchange) (own trace : Trace) → AnswersLine active_in SoloGoes SoloTells old e own new → IsStateOf trace old.0.kept → IsStateOf (trace ++ own) new.0.kept
+at_line : (old new : SessionPoint Solo) (e : Exchange) (own trace : Trace) → AnswersLine solo_meaning old e own new → IsStateOf trace old.0.kept → IsStateOf (trace ++ own) new.0.kept
 at_line old new e own trace a here = at_due (old.0, a.2.1) new e.1 own a.2.0 trace a.2.3 here
 
 -- ---- the merge after it
 
-module _ (auto : ℕ) (old new : Place Solo) (merged : Trace) where
+module _ (auto : ℕ) (old new : SessionPoint Solo) (merged : Trace) where
   abbrev MergedBy : Bool → Type 0
-  MergedBy b = MatchBool b ((merged ≡ []) × (new ≡ old)) ((m : Reply) × SoloGoes old.0 (step.Merge auto) m new.0 × (merged ≡ (step.Merge auto, m) ∷ []) × (new.1 ≡ staged_after old.1 m))
+  MergedBy b = MatchBool b ((merged ≡ []) × (new ≡ old)) ((m : Reply) × SoloSteps old.0 (step.Merge auto) m new.0 × (merged ≡ (step.Merge auto, m) ∷ []) × (new.1 ≡ staged_after old.1 m))
 
   merge_events : (b : Bool) (later : Trace) → MergedBy b → MatchBool b ((merged ++ later) ≡ later) ((m : Reply) × ((merged ++ later) ≡ (step.Merge auto, m) ∷ later))
   merge_events true later m = ap (λ t. t ++ later) m.0
@@ -75,20 +75,20 @@ module _ (auto : ℕ) (old new : Place Solo) (merged : Trace) where
   merge_stands false m = went old new (step.Merge auto) m.0 m.1 m.3 ∙ (λ i. (merge_plain old.0.kept auto m.0 m.1.says (standing old).0 i, old.0.kept.commits))
 
   merge_at : (b : Bool) (trace : Trace) → MergedBy b → IsStateOf trace old.0.kept → IsStateOf (trace ++ merged) new.0.kept
-  merge_at true trace m here = subst (λ (t : Trace). IsStateOf (trace ++ t) new.0.kept) (sym m.0) (subst (λ (t : Trace). IsStateOf t new.0.kept) (sym (append-nil trace)) (subst (λ (p : Place Solo). IsStateOf trace p.0.kept) (sym m.1) here))
+  merge_at true trace m here = subst (λ (t : Trace). IsStateOf (trace ++ t) new.0.kept) (sym m.0) (subst (λ (t : Trace). IsStateOf t new.0.kept) (sym (append-nil trace)) (subst (λ (p : SessionPoint Solo). IsStateOf trace p.0.kept) (sym m.1) here))
   merge_at false trace m here = subst (λ (t : Trace). IsStateOf (trace ++ t) new.0.kept) (sym m.2) (m.1.on.on trace here).at
 
 -- ---- all lines
 
 -- the dialogue of some exchanges, behind which the events go on to its end, and where the store stands before these
-record Leading (auto : ℕ) (ends : Ends) (old new : Place Solo) (exchanges : List Exchange) (events tail trace : Trace) : Type 0 where
+record Leading (auto : ℕ) (ends : Ends) (old new : SessionPoint Solo) (exchanges : List Exchange) (events tail trace : Trace) : Type 0 where
   dialogue_is : Dialogue auto ends (standing old) exchanges (events ++ tail)
   stands : IsStateOf (trace ++ events) new.0.kept
 
-lead : (auto : ℕ) (ends : Ends) (exchanges : List Exchange) (old new : Place Solo) (events tail trace : Trace) → Converses active_in SoloGoes SoloTells auto old exchanges events new → IsStateOf trace old.0.kept → ends (standing new) tail → Leading auto ends old new exchanges events tail trace
+lead : (auto : ℕ) (ends : Ends) (exchanges : List Exchange) (old new : SessionPoint Solo) (events tail trace : Trace) → Converses solo_meaning auto old exchanges events new → IsStateOf trace old.0.kept → ends (standing new) tail → Leading auto ends old new exchanges events tail trace
 lead auto ends [] old new events tail trace c here end = record {
-  dialogue_is = subst (λ (t : Trace). ends (standing old) (t ++ tail)) (sym c.0) (subst (λ (p : Place Solo). ends (standing p) tail) c.1 end);
-  stands = subst (λ (t : Trace). IsStateOf (trace ++ t) new.0.kept) (sym c.0) (subst (λ (t : Trace). IsStateOf t new.0.kept) (sym (append-nil trace)) (subst (λ (p : Place Solo). IsStateOf trace p.0.kept) (sym c.1) here));
+  dialogue_is = subst (λ (t : Trace). ends (standing old) (t ++ tail)) (sym c.0) (subst (λ (p : SessionPoint Solo). ends (standing p) tail) c.1 end);
+  stands = subst (λ (t : Trace). IsStateOf (trace ++ t) new.0.kept) (sym c.0) (subst (λ (t : Trace). IsStateOf t new.0.kept) (sym (append-nil trace)) (subst (λ (p : SessionPoint Solo). IsStateOf trace p.0.kept) (sym c.1) here));
 }
 lead auto ends (e ∷ exchanges) old new events tail trace c here end =
     let answered_at = at_line old c.3 e c.0 trace c.5 here in
@@ -111,11 +111,11 @@ lead auto ends (e ∷ exchanges) old new events tail trace c here end =
 
 -- ---- the last abort
 
-leaves_of : (a : Option ℕ) (old new : Solo) (events : Trace) → Leaves active_in SoloGoes SoloTells a old events new → dialogue.Leaves a events
+leaves_of : (a : Option ℕ) (old new : Solo) (events : Trace) → Leaves solo_meaning a old events new → dialogue.Leaves a events
 leaves_of None old new events l = l.0
 leaves_of (Some tx) old new events l = l.1
 
-leaves_at : (a : Option ℕ) (old new : Solo) (events trace : Trace) → Leaves active_in SoloGoes SoloTells a old events new → IsStateOf trace old.kept → IsStateOf (trace ++ events) new.kept
+leaves_at : (a : Option ℕ) (old new : Solo) (events trace : Trace) → Leaves solo_meaning a old events new → IsStateOf trace old.kept → IsStateOf (trace ++ events) new.kept
 leaves_at None old new events trace l here = subst (λ (t : Trace). IsStateOf (trace ++ t) new.kept) (sym l.0) (subst (λ (t : Trace). IsStateOf t new.kept) (sym (append-nil trace)) (subst (λ (s : Solo). IsStateOf trace s.kept) (sym l.1) here))
 leaves_at (Some tx) old new events trace l here = subst (λ (t : Trace). IsStateOf (trace ++ t) new.kept) (sym l.1) (l.0.on.on trace here).at
 
@@ -134,7 +134,7 @@ module _ (auto : ℕ) (s0 : Solo) (fresh : s0 ≡ record { kept = empty_state; a
   begins_so : standing (s0, []) ≡ (at_start, 0)
   begins_so = ap (λ (s : Solo). standing (s, [])) fresh
 
-  pub spoken_whole : (b : Solo) (exchanges : List Exchange) (events : Trace) → AnswersAll active_in SoloGoes SoloTells auto s0 exchanges events b → IsSpoken auto Whole exchanges exchanges events
+  pub spoken_whole : (b : Solo) (exchanges : List Exchange) (events : Trace) → AnswersAll solo_meaning auto s0 exchanges events b → IsSpoken auto Whole exchanges exchanges events
   spoken_whole b exchanges events a =
       let led : Leading auto Whole (s0, []) a.last exchanges a.own a.aborting [] = lead auto Whole exchanges (s0, []) a.last a.own a.aborting [] a.converses begins_at (leaves_of a.last.0.active a.last.0 b a.aborting a.leaves) in
       let talk : Dialogue auto Whole (at_start, 0) exchanges events = subst (λ (t : Trace). Dialogue auto Whole (at_start, 0) exchanges t) (sym a.are) (subst (λ (at : Standing). Dialogue auto Whole at exchanges (a.own ++ a.aborting)) begins_so led.dialogue_is) in
@@ -142,7 +142,7 @@ module _ (auto : ℕ) (s0 : Solo) (fresh : s0 ≡ record { kept = empty_state; a
       let right : IsSoundStore events = subst IsSoundStore (sym a.are) (sound (a.own ++ a.aborting) b.kept at) in
       record { dialogue = talk; sound = right; legal = legal_of events right.sound; says = say_whole exchanges events right.sound talk; lines = lines_whole exchanges events (subst (Follows opened_store) (sym a.are) at.follows) talk }
 
-  pub spoken_torn : (b : Solo) (exchanges : List Exchange) (last : Exchange) (events : Trace) → AnswersOneMore active_in SoloGoes SoloTells auto s0 exchanges last events b → IsSpoken auto (TornAt last) exchanges (exchanges ++ last ∷ []) events
+  pub spoken_torn : (b : Solo) (exchanges : List Exchange) (last : Exchange) (events : Trace) → AnswersOneMore solo_meaning auto s0 exchanges last events b → IsSpoken auto (TornAt last) exchanges (exchanges ++ last ∷ []) events
   spoken_torn b exchanges last events a =
       let end : TornAt last (standing a.before) (a.its ++ a.aborting) = (a.its, a.aborting, standing a.last, line_of a.before a.last last a.its a.answers, refl, leaves_of a.last.0.active a.last.0 b a.aborting a.leaves) in
       let led : Leading auto (TornAt last) (s0, []) a.before exchanges a.own (a.its ++ a.aborting) [] = lead auto (TornAt last) exchanges (s0, []) a.before a.own (a.its ++ a.aborting) [] a.converses begins_at end in
@@ -160,5 +160,5 @@ module _ (took gave : List ℕ → Type 0) (nothing_comes : Type 0) (A A' : List
   ends_by EndOfInput t = record { read = t.read; exchanges = t.exchanges; events = t.events; takes = t.takes; done = t.done; no_quit = t.no_quit; lines = t.lines; gives = t.gives; does = whole t.exchanges t.events t.does }
   ends_by ReadFailed t = record { read = t.read; part = t.part; exchanges = t.exchanges; events = t.events; takes = t.takes; ended = t.ended; begins = t.begins; no_quit = t.no_quit; lines = t.lines; gives = t.gives; does = whole t.exchanges t.events t.does }
   ends_by WriteFailed (inl t) = inl (record { read = t.read; waiting = t.waiting; exchanges = t.exchanges; last = t.last; events = t.events; count = t.count; takes = t.takes; whole = t.whole; no_quit = t.no_quit; lines = t.lines; gives = t.gives; does = more t.exchanges t.last t.events t.does })
-  ends_by WriteFailed (inr t) = inr (record { read = t.read; waiting = t.waiting; exchanges = t.exchanges; events = t.events; count = t.count; takes = t.takes; whole = t.whole; quit = t.quit; lines = t.lines; gives = t.gives; does = whole t.exchanges t.events t.does })
+  ends_by WriteFailed (inr t) = inr (t.0, record { read = t.1.read; waiting = t.1.waiting; exchanges = t.1.exchanges; events = t.1.events; takes = t.1.takes; whole = t.1.whole; quit = t.1.quit; lines = t.1.lines; gives = t.1.gives; does = whole t.1.exchanges t.1.events t.1.does })
   ends_by NoMemory t = record { takes = t.takes; gives = t.gives; same = same t.same }

@@ -5,26 +5,26 @@ use Rattle.am_record.specs.declared.step.Reply.{Reply}
 use Rattle.am_serial.specs.Trace.{Trace}
 use Rattle.am_wire.specs.Giving.{Gave}
 use Rattle.am_talk.specs.Responses.{response_text}
-use Rattle.am_talk.specs.declared.lines.Heard.{Heard}
+use Rattle.am_talk.specs.declared.lines.ParsedLine.{ParsedLine}
 use Rattle.am_talk.specs.declared.response.Response.{Response}
-use Rattle.am_session.specs.Talk.{Place, AnswersHeard, MergesAfter}
+use Rattle.am_session.specs.Talk.{SessionPoint, AnswersParsed, MergesAfter}
+use Rattle.am_session.specs.Backends.{BackendMeaning}
 
-module _ {B : Type 0} (active : B → Option ℕ) (goes : B → Step → Reply → B → Type 0)
-    (tells : B → ℕ → ℕ → B → Type 0) where
-  abbrev pub Responds : Place B → Heard → Response → Place B → Type 0
-  Responds b heard response b' = (events : Trace) × AnswersHeard active goes tells b heard response events b'
+module _ {B : Type 0} (means : BackendMeaning B) where
+  abbrev pub Responds : SessionPoint B → ParsedLine → Response → SessionPoint B → Type 0
+  Responds b parsed response b' = (events : Trace) × AnswersParsed means b parsed response events b'
 
-  abbrev pub Merged : ℕ → Place B → Place B → Type 0
-  Merged auto b b' = (events : Trace) × MergesAfter active goes tells auto b events b'
+  abbrev pub Merged : ℕ → SessionPoint B → SessionPoint B → Type 0
+  Merged auto b b' = (events : Trace) × MergesAfter means auto b events b'
 
--- the line that was heard was answered, and the answer written
-abbrev pub Answered : {K B : Type 0} → (K → Option (List ℕ)) → (B → Option ℕ) → (B → Step → Reply → B → Type 0) →
-    (B → ℕ → ℕ → B → Type 0) → K → Place B → Heard → K → Place B → Type 0
-Answered holds active goes tells k b heard k' b' = (response : Response) × (events : Trace) ×
-    Gave holds k (response_text response) k' × AnswersHeard active goes tells b heard response events b'
+-- the line was answered, and the answer written
+abbrev pub Answered : {K B : Type 0} → (K → Option (List ℕ)) → BackendMeaning B → K → SessionPoint B → ParsedLine → K →
+    SessionPoint B → Type 0
+Answered holds means k b parsed k' b' = (response : Response) × (events : Trace) ×
+    Gave holds k (response_text response) k' × AnswersParsed means b parsed response events b'
 
--- the line that was heard was answered, and a beginning of the answer written
-abbrev pub Torn : {K B : Type 0} → (K → Option (List ℕ)) → (B → Option ℕ) → (B → Step → Reply → B → Type 0) →
-    (B → ℕ → ℕ → B → Type 0) → K → Place B → Heard → K → Place B → Type 0
-Torn holds active goes tells k b heard k' b' = (response : Response) × (events : Trace) × (n : ℕ) ×
-    Gave holds k (take n (response_text response)) k' × AnswersHeard active goes tells b heard response events b'
+-- the line was answered, and a beginning of the answer written
+abbrev pub Torn : {K B : Type 0} → (K → Option (List ℕ)) → BackendMeaning B → K → SessionPoint B → ParsedLine → K →
+    SessionPoint B → Type 0
+Torn holds means k b parsed k' b' = (response : Response) × (events : Trace) × (n : ℕ) ×
+    Gave holds k (take n (response_text response)) k' × AnswersParsed means b parsed response events b'

@@ -1,6 +1,7 @@
+pub mod Backends
 pub mod Talk
 pub mod Answering
 pub mod Served
-pub mod Pauses
+pub mod Stops
 pub mod Solo
 pub mod Spoke

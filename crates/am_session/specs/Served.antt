@@ -1,15 +1,16 @@
 -- What a session did, by its end: which bytes it read, which text it wrote, and where it left its backend.
 use Rattle.std.specs.Prelude.{◌≡◌, ℕ, List, [], ◌∷◌, ◌++◌, true, false, Option, take, ◌⊎◌}
-use Rattle.am_record.specs.declared.step.Step.{Step}
-use Rattle.am_record.specs.declared.step.Reply.{Reply}
 use Rattle.am_wire.specs.Lines.{lines_of, HasNoLf}
 use Rattle.am_wire.specs.Taking.{Took}
 use Rattle.am_wire.specs.Giving.{Gave}
 use Rattle.am_serial.specs.Trace.{Trace}
-use Rattle.am_talk.specs.Heard.{before_quit, quits}
+use Rattle.am_talk.specs.ParsedLine.{before_quit, quits}
 use Rattle.am_talk.specs.Responses.{bye, response_text}
 use Rattle.am_talk.specs.Dialogue.{Exchange}
 use Rattle.am_session.specs.Talk.{asked, texts, AnswersAll, AnswersOneMore}
+use Rattle.am_session.specs.Backends.{BackendMeaning}
+use Rattle.am_session.specs.declared.serving.Stop.{Stop}
+use Rattle.am_session.specs.declared.serving.Stop.TheVariants as stop
 use Rattle.am_session.specs.declared.end.End.{End}
 use Rattle.am_session.specs.declared.end.End.TheVariants.{Quit, EndOfInput, ReadFailed, WriteFailed, NoMemory}
 
@@ -29,8 +30,8 @@ module _ (took gave : List ℕ → Type 0) (nothing_comes : Type 0) (answers : L
   abbrev pub AreWhole : List ℕ → List ℕ → Type 0
   AreWhole read waiting = IsEnded read ⊎ ((waiting ≡ []) × nothing_comes)
 
-  -- QUIT was answered by BYE; the bytes behind it were not answered
-  pub record QuitThere : Type 0 where
+  -- QUIT was read, and this was written for it; the bytes behind it were not answered
+  pub record QuitThere (farewell : List ℕ) : Type 0 where
     pub read : List ℕ
     pub waiting : List ℕ
     pub exchanges : List Exchange
@@ -39,7 +40,7 @@ module _ (took gave : List ℕ → Type 0) (nothing_comes : Type 0) (answers : L
     pub whole : AreWhole read waiting
     pub quit : quits (lines_of read) ≡ true
     pub lines : AsksFor read exchanges
-    pub gives : gave (texts exchanges ++ bye)
+    pub gives : gave (texts exchanges ++ farewell)
     pub does : answers exchanges events
 
   -- every line was answered, and nothing more comes
@@ -83,39 +84,33 @@ module _ (took gave : List ℕ → Type 0) (nothing_comes : Type 0) (answers : L
     pub gives : gave (texts exchanges ++ take count (response_text last.1))
     pub does : answers_more exchanges last events
 
-  -- the answer to QUIT was torn
-  pub record ByeTorn : Type 0 where
-    pub read : List ℕ
-    pub waiting : List ℕ
-    pub exchanges : List Exchange
-    pub events : Trace
-    pub count : ℕ
-    pub takes : took (read ++ waiting)
-    pub whole : AreWhole read waiting
-    pub quit : quits (lines_of read) ≡ true
-    pub lines : AsksFor read exchanges
-    pub gives : gave (texts exchanges ++ take count bye)
-    pub does : answers exchanges events
-
   pub record NothingDone : Type 0 where
     pub takes : took []
     pub gives : gave []
     pub same : untouched
 
+  -- QUIT is answered by BYE, or that answer was torn
   abbrev pub EndsBy : End → Type 0
-  EndsBy Quit = QuitThere
+  EndsBy Quit = QuitThere bye
   EndsBy EndOfInput = EndedThere
   EndsBy ReadFailed = ReadFailedThere
-  EndsBy WriteFailed = AnswerTorn ⊎ ByeTorn
+  EndsBy WriteFailed = AnswerTorn ⊎ ((count : ℕ) × QuitThere (take count bye))
   EndsBy NoMemory = NothingDone
 
+  -- and before that: nothing is written for QUIT yet
+  abbrev pub StopsBy : Stop → Type 0
+  StopsBy stop.Quit = QuitThere []
+  StopsBy stop.EndOfInput = EndedThere
+  StopsBy stop.ReadFailed = ReadFailedThere
+  StopsBy stop.WriteFailed = AnswerTorn
+
 -- the same over any source, sink and backend
-abbrev pub Served : {S K B : Type 0} → (S → List ℕ → Type 0) → (K → Option (List ℕ)) → (B → Option ℕ) →
-    (B → Step → Reply → B → Type 0) → (B → ℕ → ℕ → B → Type 0) → ℕ → S → K → B → S → K → B → End → Type 0
-Served comes holds active goes tells auto s k b s' k' b' end =
+abbrev pub Served : {S K B : Type 0} → (S → List ℕ → Type 0) → (K → Option (List ℕ)) → BackendMeaning B → ℕ →
+    S → K → B → S → K → B → End → Type 0
+Served comes holds means auto s k b s' k' b' end =
     EndsBy (λ bytes. Took comes s bytes s') (λ text. Gave holds k text k') (comes s' [])
-    (λ exchanges events. AnswersAll active goes tells auto b exchanges events b')
-    (λ exchanges last events. AnswersOneMore active goes tells auto b exchanges last events b')
+    (λ exchanges events. AnswersAll means auto b exchanges events b')
+    (λ exchanges last events. AnswersOneMore means auto b exchanges last events b')
     (b' ≡ b) end
 
 -- how often the source and the sink failed

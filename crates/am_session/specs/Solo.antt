@@ -10,6 +10,7 @@ use Rattle.am_sound.specs.Right.{IsSoundStore}
 use Rattle.am_sound.specs.StoreState.{StoreState, is_in, MayAnswer, state_after}
 use Rattle.am_core.specs.Keeping.{state_code}
 use Rattle.am_core.specs.Standing.{Extends}
+use Rattle.am_session.specs.Backends.{BackendMeaning}
 use Rattle.am_talk.specs.Session.{at_start}
 use Rattle.am_talk.specs.Dialogue.{Exchange, Ends, Dialogue}
 use Rattle.am_talk.specs.Responses.{response_text}
@@ -25,24 +26,24 @@ abbrev pub solo_code : Coded Solo
 solo_code = code_by (StoreState × Option ℕ) (coded× state_code (coded_option coded_ℕ)) (λ s. (s.kept, s.active))
     (λ p. record { kept = p.0; active = p.1 }) (λ _. refl)
 
-abbrev pub active_in : Solo → Option ℕ
-active_in s = s.active
-
 -- the session's transaction is active in the store
 abbrev pub IsOpen : StoreState → Option ℕ → Type 0
 IsOpen p None = Unit {0}
 IsOpen p (Some t) = is_in p.active t ≡ true
 
 -- the store took the step: wherever it stood, it stands there with this event added
-pub record SoloGoes (old : Solo) (step : Step) (reply : Reply) (new : Solo) : Type 0 where
+pub record SoloSteps (old : Solo) (step : Step) (reply : Reply) (new : Solo) : Type 0 where
   pub says : MayAnswer old.kept step reply
   pub kept : new.kept ≡ state_after old.kept step reply
   pub on : Extends old.kept ((step, reply) ∷ []) new.kept
   pub active : new.active ≡ active_after old.active reply
 
 -- SEEN tells 0, a session alone, and the commits so far
-abbrev pub SoloTells : Solo → ℕ → ℕ → Solo → Type 0
-SoloTells old session commits new = (session ≡ 0) × (commits ≡ old.kept.commits) × (new ≡ old)
+abbrev pub SoloShows : Solo → ℕ → ℕ → Solo → Type 0
+SoloShows old session commits new = (session ≡ 0) × (commits ≡ old.kept.commits) × (new ≡ old)
+
+abbrev pub solo_meaning : BackendMeaning Solo
+solo_meaning = record { active = λ s. s.active; steps = SoloSteps; shows = SoloShows }
 
 -- The exchanges and events of a session alone, which ends in this way: the events are a sound trace, with every merge
 -- and clean right, and a legal one; each response is one line, and all of them are those that are said, but where

@@ -11,7 +11,7 @@ ghost use Rattle.am_session.specs.Answering.{Responds, Answered, Torn, Merged};
 
 use crate::backend::Backend;
 use am_record::Step;
-use am_talk::{Due, Heard, Response, Session, put_response};
+use am_talk::{Action, ParsedLine, Response, Session, put_response};
 use am_wire::{AnsweredSource, Failed, FoundLine, Input, LineBuffer, Sink, read_line};
 use std::sync::Wait;
 
@@ -47,21 +47,21 @@ fn respond<W: Wait, B: Backend>(
     rt: &W,
     backend: &mut B,
     session: &mut Session,
-    heard: Heard,
+    parsed: ParsedLine,
 ) -> Response
-    requires { B.active backend.old ≡ session.old.active }
-    ensures responds { Responds B.active B.goes B.tells (backend.old, session.old.staged) heard result
+    requires { B.means.active backend.old ≡ session.old.active }
+    ensures responds { Responds B.means (backend.old, session.old.staged) parsed result
         (backend.new, session.new.staged) }
-    ensures active { B.active backend.new ≡ session.new.active }
+    ensures active { B.means.active backend.new ≡ session.new.active }
 {
-    match session.due(heard) {
-        Due::Answer(response) => response,
-        Due::Take(step) => {
+    match session.action(parsed) {
+        Action::Answer(response) => response,
+        Action::Take(step) => {
             let reply = backend.call(rt, step);
             session.reply(&reply);
             Response::Replied(reply)
         }
-        Due::TellSeen => {
+        Action::TellSeen => {
             let (session, commits) = backend.seen();
             Response::Seen(session, commits)
         }
@@ -92,29 +92,29 @@ pub(crate) fn answer<W: Wait, K: Sink, B: Backend>(
     sink: &mut K,
     backend: &mut B,
     session: &mut Session,
-    heard: Heard,
+    parsed: ParsedLine,
 ) -> Result<(), Failed>
     requires countable { K.failures sink.old < 2 ^ 63 }
-    requires active { B.active backend.old ≡ session.old.active }
-    ensures active { B.active backend.new ≡ session.new.active }
-    ensures answered { OnOk result (Answered K.holds B.active B.goes B.tells sink.old
-        (backend.old, session.old.staged) heard sink.new (backend.new, session.new.staged)) }
+    requires active { B.means.active backend.old ≡ session.old.active }
+    ensures active { B.means.active backend.new ≡ session.new.active }
+    ensures answered { OnOk result (Answered K.holds B.means sink.old
+        (backend.old, session.old.staged) parsed sink.new (backend.new, session.new.staged)) }
     ensures sent { OnOk result (has_lf input.now ≡ false → K.pending sink.new ≡ false) }
     ensures ok { OnOk result (K.failures sink.new ≡ K.failures sink.old) }
     ensures failed { OnErr result (K.failures sink.new ≡ K.failures sink.old + 1) }
-    ensures torn { OnErr result (Torn K.holds B.active B.goes B.tells sink.old
-        (backend.old, session.old.staged) heard sink.new (backend.new, session.new.staged)) }
+    ensures torn { OnErr result (Torn K.holds B.means sink.old
+        (backend.old, session.old.staged) parsed sink.new (backend.new, session.new.staged)) }
 {
-    let response = respond(rt, backend, session, heard);
+    let response = respond(rt, backend, session, parsed);
     send(sink, input, &response)
 }
 
 /// Merges once, unless `auto` is 0.
 pub(crate) fn merge<W: Wait, B: Backend>(rt: &W, backend: &mut B, session: &mut Session, auto: u64)
-    requires { B.active backend.old ≡ session.old.active }
-    ensures merged { Merged B.active B.goes B.tells auto (backend.old, session.old.staged)
+    requires { B.means.active backend.old ≡ session.old.active }
+    ensures merged { Merged B.means auto (backend.old, session.old.staged)
         (backend.new, session.new.staged) }
-    ensures active { B.active backend.new ≡ session.new.active }
+    ensures active { B.means.active backend.new ≡ session.new.active }
 {
     if auto != 0 {
         let reply = backend.call(rt, Step::Merge(auto));

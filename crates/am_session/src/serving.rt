@@ -4,20 +4,20 @@ ghost use Rattle.std.specs.Prelude.{◌≡◌, ℕ, ◌+◌, ◌^◌, ◌<◌, �
 ghost use Rattle.am_wire.specs.Giving.{Gave};
 ghost use Rattle.am_talk.specs.Responses.{bye};
 ghost use Rattle.am_session.specs.Served.{Served, read_failures, write_failures, IsSentOn};
-ghost use Rattle.am_session.specs.Pauses.{Talked, Left, reads_failed, writes_failed, IsSentBy};
+ghost use Rattle.am_session.specs.Stops.{Talked, Left, reads_failed, writes_failed, IsSentBy};
 
 use crate::backend::Backend;
 use crate::conversation::{answer, merge, next_line};
 use crate::end::End;
 use am_record::Step;
-use am_talk::{Session, hear};
+use am_talk::{Session, parse};
 use am_wire::{AnsweredSource, Failed, Input, LineBuffer, Sink, give_all};
 use std::alloc::Global;
 use std::sync::Wait;
 
 /// Why no further line is answered.
 #[derive(Clone, Copy, Debug, PartialEq, Eq)]
-enum Pause {
+enum Stop {
     Quit,
     EndOfInput,
     ReadFailed,
@@ -27,7 +27,7 @@ enum Pause {
 /// Answers QUIT, and sends the answer on. Who reads it knows that nothing is active any more.
 fn say_bye<K: Sink, B: Backend>(sink: &mut K, _backend: &B) -> Result<(), Failed>
     requires countable { K.failures sink.old < 2 ^ 63 }
-    requires idle { B.active _backend.now ≡ None }
+    requires idle { B.means.active _backend.now ≡ None }
     ensures given { OnOk result (Gave K.holds sink.old bye sink.new) }
     ensures sent { OnOk result (K.pending sink.new ≡ false) }
     ensures ok { OnOk result (K.failures sink.new ≡ K.failures sink.old) }
@@ -49,14 +49,14 @@ fn talk<W: Wait, K: Sink, S: AnsweredSource<K>, B: Backend>(
     backend: &mut B,
     session: &mut Session,
     auto: u64,
-) -> Pause
+) -> Stop
     requires fresh { input.old ≡ [] }
     requires source_countable { S.failures source.old < 2 ^ 63 }
     requires sink_countable { K.failures sink.old < 2 ^ 63 }
     requires sent { K.pending sink.old ≡ false }
-    requires active { B.active backend.old ≡ session.old.active }
-    ensures active { B.active backend.new ≡ session.new.active }
-    ensures talked { Talked S.comes K.holds B.active B.goes B.tells auto source.old sink.old
+    requires active { B.means.active backend.old ≡ session.old.active }
+    ensures active { B.means.active backend.new ≡ session.new.active }
+    ensures talked { Talked S.comes K.holds B.means auto source.old sink.old
         (backend.old, session.old.staged) source.new sink.new (backend.new, session.new.staged) result }
     ensures sent { IsSentBy result (K.pending sink.new ≡ false) }
     ensures source_failures { S.failures source.new ≡ S.failures source.old + reads_failed result }
@@ -64,21 +64,21 @@ fn talk<W: Wait, K: Sink, S: AnsweredSource<K>, B: Backend>(
 {
     'lines: for _ in rt.forever() {
         let Ok(next) = next_line(rt, input, source, sink, line) else {
-            return Pause::ReadFailed;
+            return Stop::ReadFailed;
         };
         let Some(found) = next else {
-            return Pause::EndOfInput;
+            return Stop::EndOfInput;
         };
-        let heard = hear(alloc, found.kind, line.as_slice());
-        if heard.is_quit() {
-            return Pause::Quit;
+        let parsed = parse(alloc, found.kind, line.as_slice());
+        if parsed.is_quit() {
+            return Stop::Quit;
         }
-        let Ok(()) = answer(rt, input, sink, backend, session, heard) else {
-            return Pause::WriteFailed;
+        let Ok(()) = answer(rt, input, sink, backend, session, parsed) else {
+            return Stop::WriteFailed;
         };
         merge(rt, backend, session, auto);
         if !found.is_ended {
-            return Pause::EndOfInput;
+            return Stop::EndOfInput;
         }
     }
     unreachable!()
@@ -86,9 +86,9 @@ fn talk<W: Wait, K: Sink, S: AnsweredSource<K>, B: Backend>(
 
 // Aborts the transaction that is active, if one is.
 fn leave<W: Wait, B: Backend>(rt: &W, backend: &mut B, active: Option<u64>)
-    requires { B.active backend.old ≡ active }
-    ensures left { Left B.active B.goes B.tells active backend.old backend.new }
-    ensures none { B.active backend.new ≡ None }
+    requires { B.means.active backend.old ≡ active }
+    ensures left { Left B.means active backend.old backend.new }
+    ensures none { B.means.active backend.new ≡ None }
 {
     if let Some(tx) = active {
         let _ = backend.call(rt, Step::Abort(tx));
@@ -112,11 +112,11 @@ pub fn serve<W: Wait, K: Sink, S: AnsweredSource<K>, B: Backend>(
     requires source_countable { S.failures source.old < 2 ^ 63 }
     requires sink_countable { K.failures sink.old < 2 ^ 63 }
     requires sent { K.pending sink.old ≡ false }
-    requires idle { B.active backend.old ≡ None }
+    requires idle { B.means.active backend.old ≡ None }
     requires limit { auto ≤ 64 }
-    ensures served { Served S.comes K.holds B.active B.goes B.tells auto source.old sink.old backend.old source.new
+    ensures served { Served S.comes K.holds B.means auto source.old sink.old backend.old source.new
         sink.new backend.new result }
-    ensures idle { B.active backend.new ≡ None }
+    ensures idle { B.means.active backend.new ≡ None }
     ensures sent { IsSentOn result (K.pending sink.new ≡ false) }
     ensures source_failures { S.failures source.new ≡ S.failures source.old + read_failures result }
     ensures sink_failures { K.failures sink.new ≡ K.failures sink.old + write_failures result }
@@ -128,7 +128,7 @@ pub fn serve<W: Wait, K: Sink, S: AnsweredSource<K>, B: Backend>(
         return End::NoMemory;
     };
     let mut session = Session::new(alloc);
-    let pause = talk(
+    let stop = talk(
         rt,
         alloc,
         &mut input,
@@ -140,11 +140,11 @@ pub fn serve<W: Wait, K: Sink, S: AnsweredSource<K>, B: Backend>(
         auto,
     );
     leave(rt, backend, session.active());
-    match pause {
-        Pause::EndOfInput => End::EndOfInput,
-        Pause::ReadFailed => End::ReadFailed,
-        Pause::WriteFailed => End::WriteFailed,
-        Pause::Quit => match say_bye(sink, backend) {
+    match stop {
+        Stop::EndOfInput => End::EndOfInput,
+        Stop::ReadFailed => End::ReadFailed,
+        Stop::WriteFailed => End::WriteFailed,
+        Stop::Quit => match say_bye(sink, backend) {
             Ok(()) => End::Quit,
             Err(Failed) => End::WriteFailed,
         },

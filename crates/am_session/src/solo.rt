@@ -3,8 +3,8 @@
 ghost use Rattle.am_record.specs.Sessions.{IsAllowed, active_after};
 ghost use Rattle.std.specs.Prelude.{◌≡◌, None, IfOk};
 ghost use Rattle.am_sound.specs.StoreState.{empty_state};
-ghost use Rattle.am_talk.specs.Dues.{EndsAbort};
-ghost use Rattle.am_session.specs.Solo.{active_in, SoloGoes, SoloTells};
+ghost use Rattle.am_talk.specs.Actions.{EndsAbort};
+ghost use Rattle.am_session.specs.Solo.{solo_meaning};
 
 use crate::backend::Backend;
 use am_btree::BTree;
@@ -47,11 +47,7 @@ impl SoloStore {
 }
 
 impl Backend for SoloStore {
-    ghost active = { active_in };
-
-    ghost goes = { SoloGoes };
-
-    ghost tells = { SoloTells };
+    ghost means = { solo_meaning };
 
     fn call<W: Wait>(&mut self, _rt: &W, step: Step) -> Reply {
         let reply = self.store.step(step);

@@ -32,7 +32,7 @@ use Rattle.am_serial.proofs.OneStep.{step_laws}
 use Rattle.am_serial.proofs.States.{overlay_laws, view_laws}
 use Rattle.am_serial.specs.Laws.{OverlayLaws, ViewLaws}
 use Rattle.am_record.specs.Refusals.{lock_refusal, is_bounded, is_load, is_one_too_many, or_else}
-use Rattle.am_serial.specs.Machine.{State, Transaction, blocker, body_in, due, extended, is_open, locks_in, owns_in, view, without}
+use Rattle.am_serial.specs.Machine.{State, Transaction, blocker, body_in, due, extended, is_open, locks_in, owns_in, view, without_transaction}
 use Rattle.am_serial.specs.Trace.{Answered, Event, Trace, ops_of, runs_made}
 use Rattle.am_sound.proofs.Keeping.{not_begun}
 use Rattle.am_sound.proofs.Whole.{Right, changed_refused, either_way, marks_left_refused, noted_refused, notes_left_refused, right_at}
@@ -83,9 +83,9 @@ module _ (notes : ℕ → List Note) (marks : ℕ → List ℕ) where
   blocker-map [] t asked = refl
   blocker-map (x ∷ txs) t asked = ap (cond (not (t == x.0) && clashes asked (locks_of (ops_of x.1))) (Some x.0)) (blocker-map txs t asked)
 
-  ended-map : (t : ℕ) (txs : List Transaction) → map (active_of notes marks) (without t txs) ≡ without_tx t (map (active_of notes marks) txs)
+  ended-map : (t : ℕ) (txs : List Transaction) → map (active_of notes marks) (without_transaction t txs) ≡ without_tx t (map (active_of notes marks) txs)
   ended-map t [] = refl
-  ended-map t (x ∷ txs) = elim (x.0 == t) as (λ b. map (active_of notes marks) (cond (not b) (x ∷ without t txs) (without t txs)) ≡ cond (not b) (active_of notes marks x ∷ without_tx t (map (active_of notes marks) txs)) (without_tx t (map (active_of notes marks) txs))) [
+  ended-map t (x ∷ txs) = elim (x.0 == t) as (λ b. map (active_of notes marks) (cond (not b) (x ∷ without_transaction t txs) (without_transaction t txs)) ≡ cond (not b) (active_of notes marks x ∷ without_tx t (map (active_of notes marks) txs)) (without_tx t (map (active_of notes marks) txs))) [
     | true ↦ ended-map t txs
     | false ↦ ap (λ l. active_of notes marks x ∷ l) (ended-map t txs)
   ]

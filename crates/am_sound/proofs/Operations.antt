@@ -31,7 +31,8 @@ use Rattle.am_undo.specs.declared.note.Note.{Note}
 use Rattle.am_undo.specs.declared.note.Note.TheVariants.{New, Before, RunMade}
 use Rattle.am_undo.specs.Undo.{is_noted_run, Undoes}
 use Rattle.am_undo.proofs.Undoing.{undo_laws}
-use Rattle.am_runs.specs.Loads.{live_entry, with_run}
+use Rattle.am_list.specs.Runs.{live_entry}
+use Rattle.am_runs.specs.Loads.{with_run}
 use Rattle.am_runs.proofs.LoadLaws.{load_laws}
 use Rattle.am_serial.specs.Trace.{Answers, runs_made}
 use Rattle.am_serial.proofs.Maps.{entries-retain_keys}

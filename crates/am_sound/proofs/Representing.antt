@@ -6,7 +6,7 @@ use Rattle.std.specs.FinMap.{get, same_map}
 use Rattle.std.proofs.lemmas.Bool.{false≢true, true≢false, both_ways, cases_Bool, cond-true, cond-false, eqb-true, eqb-false, false_from_ne_true}
 use Rattle.std.proofs.lemmas.List.{map-append}
 use Rattle.am_record.specs.OrderedKey.{OrderedKey, key_cmp-total, key_cmp-exact}
-use Rattle.am_record.specs.Plain.{PlainMap, Draft, map_answer, map_after, answer, after, went_back, back, left, fresh}
+use Rattle.am_record.specs.Plain.{PlainMap, Draft, map_answer, map_after, answer, draft_after, went_back, draft_back, left, fresh}
 use Rattle.am_record.specs.Asks.{lock_of, with_asked, owns, owns_key}
 use Rattle.am_record.specs.declared.lock.Lock.{Lock}
 use Rattle.am_record.specs.declared.entry.Entry.{Entry}
@@ -24,7 +24,7 @@ use Rattle.am_undo.specs.Marks.{UndoesEach, AllPairs, SameOwned, MarkLaws}
 use Rattle.am_undo.specs.Marks as marks_of
 use Rattle.am_undo.proofs.Undoing.{undo_laws, nothing_undone}
 use Rattle.am_undo.proofs.Marking.{mark_laws}
-use Rattle.am_serial.specs.Trace.{Answered, Begins, Answers, Commits, Aborts, left_by, ops_of}
+use Rattle.am_serial.specs.Trace.{Answered, Begins, Answers, Commits, Aborts, left_by_bodies, ops_of}
 use Rattle.am_serial.specs.Machine.{State, Transaction, start, is_open, view, locks_in, due, next, overlay_in, owns_in, holds_in}
 use Rattle.am_serial.specs.Agreement.{AllAgree, AllHave}
 use Rattle.am_serial.specs.Steps.{StepLaws, IsGranted}
@@ -58,7 +58,7 @@ plain_told (Delete k) marks m h = refl
 plain_told (Load pairs) marks m h = refl
 plain_told (TakeLock lock) marks m h = refl
 
-plain_saved : (op : Op) (d : Draft) → is_plain op ≡ true → (after op d).saved ≡ d.saved
+plain_saved : (op : Op) (d : Draft) → is_plain op ≡ true → (draft_after op d).saved ≡ d.saved
 plain_saved Mark d h = absurd (false≢true h)
 plain_saved Back d h = absurd (false≢true h)
 plain_saved (Get k) d h = refl
@@ -86,8 +86,8 @@ same_pairs S owned w [] (n ∷ ns) a = absurd a
 same_pairs S owned w (m ∷ ms) [] a = absurd a
 
 -- the maps have the content at the keys that are owned now and weren't, where they have there what was committed
-have_content : (es : List Entry) (owned owned' : OrderedKey → Bool) (c : PlainMap) → marks_of.HasContent es owned owned' c → (ms : List PlainMap) →
-    ((q : OrderedKey) → owned' q ≡ true → owned q ≡ false → AllHave q c ms) → AllByRecursion (marks_of.HasContent es owned owned') ms
+have_content : (es : List Entry) (owned owned' : OrderedKey → Bool) (c : PlainMap) → marks_of.IsContentAt es owned owned' c → (ms : List PlainMap) →
+    ((q : OrderedKey) → owned' q ≡ true → owned q ≡ false → AllHave q c ms) → AllByRecursion (marks_of.IsContentAt es owned owned') ms
 have_content es owned owned' c h [] a = tt
 have_content es owned owned' c h (m ∷ ms) a = (λ q now not. (a q now not).0 ∙ h q now not, have_content es owned owned' c h ms (λ q now not. (a q now not).1))
 
@@ -113,7 +113,7 @@ none_saved es notes owned c n [] [] none u = refl
 none_saved es notes owned c n [] (s ∷ saved) none u = absurd u
 none_saved es notes owned c n (m ∷ marks) saved none u = absurd (true≢false none)
 
-left_by_none : (bodies : List (List Answered)) (m : PlainMap) → left_by (bodies ++ [] ∷ []) m ≡ left_by bodies m
+left_by_none : (bodies : List (List Answered)) (m : PlainMap) → left_by_bodies (bodies ++ [] ∷ []) m ≡ left_by_bodies bodies m
 left_by_none [] m = refl
 left_by_none (b ∷ bodies) m = left_by_none bodies (left (ops_of b) m)
 
@@ -176,11 +176,11 @@ module _ (s : State) (o : OverlayLaws s) (w : ViewLaws s) (st : StepLaws s) (es 
         (subst (λ (ls : List Lock). Each es' (notes u) ls s.committed (marks u) (view s u)) (sym x.keeps.locks) (others u was es' one' (leaves was)))
 
     -- its own notes, by what it sees then
-    itself : (es' : List Entry) (ns : List Note) (ms : List ℕ) (ss : List PlainMap) → ss ≡ (after op (view s t)).saved → UndoesEach es' ns (λ q. owns (with_asked (locks_in s.active t) (lock_of op)) q) s.committed (length ns) ms ss → Each es' ns (locks_in s'.active t) s.committed ms (view s' t)
+    itself : (es' : List Entry) (ns : List Note) (ms : List ℕ) (ss : List PlainMap) → ss ≡ (draft_after op (view s t)).saved → UndoesEach es' ns (λ q. owns (with_asked (locks_in s.active t) (lock_of op)) q) s.committed (length ns) ms ss → Each es' ns (locks_in s'.active t) s.committed ms (view s' t)
     itself es' ns ms ss e u =
         let x = st.answers t op reply granted.is_active in
         subst (λ (d : Draft). Each es' ns (locks_in s'.active t) s.committed ms d) (sym x.view)
-        (subst (λ (ls : List Lock). Each es' ns ls s.committed ms (after op (view s t))) (sym x.locks)
+        (subst (λ (ls : List Lock). Each es' ns ls s.committed ms (draft_after op (view s t))) (sym x.locks)
         (subst (UndoesEach es' ns (λ q. owns (with_asked (locks_in s.active t) (lock_of op)) q) s.committed (length ns) ms) e u))
 
     -- another's key isn't written
@@ -275,7 +275,7 @@ module _ (s : State) (o : OverlayLaws s) (w : ViewLaws s) (st : StepLaws s) (es 
     backed_law es' some b = record {
       has = restored_has t back_on (since_mark (marks t) (notes t)) n.map both.0 es' b then (λ q.
           sym (ap (λ r. get (overlay_in (next s (Answers t Back r))) q) (ap went_back n.is))
-          ∙ o.goes_back t none q ∙ ap (λ (l : List PlainMap). cond (owns_in s t q) (get (back l (view s t)).map q) (get (overlay_in s) q)) n.is);
+          ∙ o.goes_back t none q ∙ ap (λ (l : List PlainMap). cond (owns_in s t q) (get (draft_back l (view s t)).map q) (get (overlay_in s) q)) n.is);
       undoes = λ u on. by_back u on (t == u) refl;
     }
       where
@@ -290,7 +290,7 @@ module _ (s : State) (o : OverlayLaws s) (w : ViewLaws s) (st : StepLaws s) (es 
 
         by_back : (u : ℕ) → is_open then.active u ≡ true → (c : Bool) → (t == u) ≡ c → Each es' (cond c (until_mark (marks u) (notes u)) (notes u)) (locks_in then.active u) s.committed (cond c (older (marks u)) (marks u)) (view then u)
         by_back u hu true e = subst (λ x. Each es' (until_mark (marks x) (notes x)) (locks_in then.active x) s.committed (older (marks x)) (view then x)) (eqb-true t u e)
-            (itself t Back none Done es' (until_mark (marks t) (notes t)) (older (marks t)) n.rest (sym (ap (λ (l : List PlainMap). (back l (view s t)).saved) n.is)) both.1)
+            (itself t Back none Done es' (until_mark (marks t) (notes t)) (older (marks t)) n.rest (sym (ap (λ (l : List PlainMap). (draft_back l (view s t)).saved) n.is)) both.1)
         by_back u hu false e = let k : u ≢ t = λ k. eqb-false t u e (sym k) in
             other t Back none Done es' ((its t back_on (since_mark (marks t) (notes t)) n.map both.0 es' b).one_place es' b) u k hu
             (λ was. leaves t back_on (since_mark (marks t) (notes t)) n.map both.0 es' b u was k)
@@ -314,7 +314,7 @@ module _ (s : State) (o : OverlayLaws s) (w : ViewLaws s) (st : StepLaws s) (es 
         stands_same : (q : OrderedKey) → get (overlay_in then) q ≡ get (overlay_in s) q
         stands_same q =
             sym (ap (λ r. get (overlay_in (next s (Answers t Back r))) q) (ap went_back empty_saved))
-            ∙ o.goes_back t none q ∙ ap (λ (l : List PlainMap). cond (owns_in s t q) (get (back l (view s t)).map q) (get (overlay_in s) q)) empty_saved
+            ∙ o.goes_back t none q ∙ ap (λ (l : List PlainMap). cond (owns_in s t q) (get (draft_back l (view s t)).map q) (get (overlay_in s) q)) empty_saved
             ∙ ⊎_elim
             (λ yes. cond-true (owns_in s t q) (get (view s t).map q) (get (overlay_in s) q) yes ∙ sym ((w.stands t back_on).at q (owns_holds (locks_in s.active t) q yes)))
             (λ not. cond-false (owns_in s t q) (get (view s t).map q) (get (overlay_in s) q) not)
@@ -322,7 +322,7 @@ module _ (s : State) (o : OverlayLaws s) (w : ViewLaws s) (st : StepLaws s) (es 
 
         by_stay : (u : ℕ) → is_open then.active u ≡ true → (c : Bool) → (t == u) ≡ c → Each es (notes u) (locks_in then.active u) s.committed (marks u) (view then u)
         by_stay u hu true e = subst (λ x. Each es (notes x) (locks_in then.active x) s.committed (marks x) (view then x)) (eqb-true t u e)
-            (itself t Back none NoMark es (notes t) (marks t) (view s t).saved (sym (ap (λ (l : List PlainMap). (back l (view s t)).saved) empty_saved ∙ refl)) (at.undoes t back_on))
+            (itself t Back none NoMark es (notes t) (marks t) (view s t).saved (sym (ap (λ (l : List PlainMap). (draft_back l (view s t)).saved) empty_saved ∙ refl)) (at.undoes t back_on))
         by_stay u hu false e = other t Back none NoMark es one u (λ k. eqb-false t u e (sym k)) hu (λ was. leaves_itself u)
 
   -- ---- transactions begin and end
@@ -338,7 +338,7 @@ module _ (s : State) (o : OverlayLaws s) (w : ViewLaws s) (st : StepLaws s) (es 
 
       same_overlay : overlay_in then ≡ overlay_in s
       same_overlay =
-          ap (λ bodies. left_by bodies s.committed) (map-append (λ (x : Transaction). x.1) s.active ((t, []) ∷ []))
+          ap (λ bodies. left_by_bodies bodies s.committed) (map-append (λ (x : Transaction). x.1) s.active ((t, []) ∷ []))
           ∙ left_by_none (map (λ (x : Transaction). x.1) s.active) s.committed
 
       own : Each es [] (locks_in then.active t) s.committed [] (view then t)

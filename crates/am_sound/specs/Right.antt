@@ -23,7 +23,7 @@ pub record IsRight (trace : Trace) (s : Store) : Type 0 where
 
 -- what a step may rest on: the entries are where the machine is, nothing stands above the last run, and the notes name
 -- runs alone
-pub record IsReady (s : Store) : Type 0 where
+pub record IsReadyForStep (s : Store) : Type 0 where
   pub at : Represents s.state s.entries s.notes s.marks
   pub below : (p : ℕ) (q : OrderedKey) → s.state.runs < p → find s.entries p q ≡ None
   pub runs_noted : (t p : ℕ) → is_noted_run (s.notes t) p ≡ true → (p ≢ 0) × (p ≤ s.state.runs)
@@ -55,4 +55,4 @@ pub record IsSoundStore (trace : Trace) : Type 0 where
   pub asked : IsAsked trace
   pub maintained : IsMaintained opened trace
   pub right : IsRight trace (after_all opened trace)
-  pub ready : IsReady (after_all opened trace)
+  pub ready : IsReadyForStep (after_all opened trace)

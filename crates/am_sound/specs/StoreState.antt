@@ -5,7 +5,8 @@ use Rattle.std.specs.List.{list_any}
 use Rattle.am_record.specs.OrderedKey.{OrderedKey}
 use Rattle.am_record.specs.Interval.{Interval}
 use Rattle.am_record.specs.Plain.{is_orderly}
-use Rattle.am_record.specs.Asks.{clashes, lock_of, with_asked, owns}
+use Rattle.am_record.specs.Asks.{lock_of, with_asked}
+use Rattle.am_record.specs.Owners.{blocker_among, holder_among}
 use Rattle.am_record.specs.declared.lock.Lock.{Lock}
 use Rattle.am_record.specs.declared.entry.Entry.{Entry}
 use Rattle.am_record.specs.declared.step.Refusal.{Refusal}
@@ -60,14 +61,11 @@ in_table (x ∷ xs) t = cond (t == x.number) x (in_table xs t)
 
 -- who has exclusively locked the key
 abbrev pub holder_in : List Active → Holders
-holder_in [] q = None
-holder_in (x ∷ xs) q = cond (owns x.locks q) (Some x.number) (holder_in xs q)
+holder_in xs = holder_among (λ (x : Active). x.number) (λ (x : Active). x.locks) xs
 
 -- the least of the others that hold a conflicting lock: the active ones stand by rising number
 abbrev pub blocker_in : List Active → ℕ → Option Lock → Option ℕ
-blocker_in [] t asked = None
-blocker_in (x ∷ xs) t asked = cond (not (t == x.number) && clashes asked x.locks) (Some x.number)
-    (blocker_in xs t asked)
+blocker_in xs = blocker_among (λ (x : Active). x.number) (λ (x : Active). x.locks) xs
 
 -- the refusal that is due
 abbrev pub refusal_in : StoreState → ℕ → Op → Option Refusal

@@ -14,11 +14,11 @@ struct Noting {
 }
 
 impl Backend for Noting {
-    ghost active = { λ b. b.active };
-
-    ghost goes = { λ _ _ _ _. Unit {0} };
-
-    ghost tells = { λ _ _ _ _. Unit {0} };
+    ghost means = { record {
+      active = λ b. b.active;
+      steps = λ _ _ _ _. Unit {0};
+      shows = λ _ _ _ _. Unit {0};
+    } };
 
     fn call<W: Wait>(&mut self, _rt: &W, step: Step) -> Reply {
         match step {

@@ -3,7 +3,7 @@
 use am_btree::BTree;
 use am_core::Store;
 use am_record::{Entry, NoMemory};
-use am_talk::{Due, Response, Session, hear, put_response};
+use am_talk::{Action, Response, Session, parse, put_response};
 use am_wire::{LineKind, MAX_LINE_LEN, StopSink, reply_text};
 use std::alloc::Global;
 use std::process::Abort;
@@ -63,15 +63,15 @@ impl Scene {
 
     // What the speaker is answered to the line, as text.
     fn answer(&mut self, speaker: Speaker, line: &[u8]) -> Result<Vec<u8>, NoMemory> {
-        let heard = hear(self.alloc, kind_of(line), line);
-        match self.session(speaker).due(heard) {
-            Due::Answer(response) => text_of(self.alloc, &response),
-            Due::Take(step) => {
+        let parsed = parse(self.alloc, kind_of(line), line);
+        match self.session(speaker).action(parsed) {
+            Action::Answer(response) => text_of(self.alloc, &response),
+            Action::Take(step) => {
                 let reply = self.store.step(step);
                 self.session(speaker).reply(&reply);
                 reply_text(self.alloc, &reply)
             }
-            Due::TellSeen => text_of(self.alloc, &Response::Seen(0, self.store.commits())),
+            Action::TellSeen => text_of(self.alloc, &Response::Seen(0, self.store.commits())),
         }
     }
 

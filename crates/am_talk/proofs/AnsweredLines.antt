@@ -20,15 +20,15 @@ use Rattle.am_wire.specs.declared.request.LineFault.TheVariants as fault
 use Rattle.am_wire.proofs.Readings.{reads_what_may_be}
 use Rattle.am_wire.proofs.VisibleRequests.{asks_visible}
 use Rattle.am_wire.proofs.Texts.{HasNoLf-append, HasNoLf-decimal, HasNoLf-free, HasNoLf-words_of, is_free}
-use Rattle.am_talk.specs.Heard.{Line, MayHear, told}
+use Rattle.am_talk.specs.ParsedLine.{Line, MayParse, parsed_of}
 use Rattle.am_talk.specs.Session.{SessionState, staged_after}
-use Rattle.am_talk.specs.Dues.{may_wait, with_staged, left_by, commit_due, step_due, due, no_room, staged_asked, hearing, MayBeDue}
+use Rattle.am_talk.specs.Actions.{may_wait, with_staged, staged_left, commit_action, request_action, action_for, no_room, staged_asked, session_behind_line, IsActionFor}
 use Rattle.am_talk.specs.Responses.{response_text, line}
 use Rattle.am_talk.specs.Dialogue.{Exchange, Standing, AnsweredBy, AnswersLine, Merges, Ends, Whole, TornAt, Dialogue}
-use Rattle.am_talk.specs.declared.lines.Heard.{Heard}
-use Rattle.am_talk.specs.declared.lines.Heard.TheVariants as said
-use Rattle.am_talk.specs.declared.due.Due.{Due}
-use Rattle.am_talk.specs.declared.due.Due.TheVariants.{Answer, Take, TellSeen}
+use Rattle.am_talk.specs.declared.lines.ParsedLine.{ParsedLine}
+use Rattle.am_talk.specs.declared.lines.ParsedLine.TheVariants as said
+use Rattle.am_talk.specs.declared.action.Action.{Action}
+use Rattle.am_talk.specs.declared.action.Action.TheVariants.{Answer, Take, TellSeen}
 use Rattle.am_talk.specs.declared.response.Response.{Response}
 use Rattle.am_talk.specs.declared.response.Response.TheVariants.{TooLong, Faulty, NoTransaction, Active, Staged, TooManyStaged, StillStaged, Replied, Seen}
 use Rattle.am_talk.proofs.VisibleMaps.{all_append}
@@ -90,7 +90,7 @@ with_visible staged (op.Lock lock) v w = w
 with_visible staged op.Mark v w = w
 with_visible staged op.Back v w = w
 
-left_visible : (staged : Records) (o : Op) → AreVisible staged → AreVisible (left_by staged o)
+left_visible : (staged : Records) (o : Op) → AreVisible staged → AreVisible (staged_left staged o)
 left_visible staged (op.Get k) v = v
 left_visible staged (op.Scan range max) v = v
 left_visible staged (op.Insert k value) v = v
@@ -132,7 +132,7 @@ after_reply staged _ v = v
 
 -- ---- what is due
 
-abbrev IsVisibleDue : Due → Type 0
+abbrev IsVisibleDue : Action → Type 0
 IsVisibleDue (Answer response) = IsLine response
 IsVisibleDue (Take what) = IsVisibleStep what
 IsVisibleDue TellSeen = Unit {0}
@@ -146,11 +146,11 @@ still_line : IsLine StillStaged
 unfolding is_free
 still_line = fixed (codes "ERR STAGED") refl
 
-commit_visible : (tx : ℕ) (staged : Records) → IsVisibleDue (commit_due tx staged)
+commit_visible : (tx : ℕ) (staged : Records) → IsVisibleDue (commit_action tx staged)
 commit_visible tx [] = tt
 commit_visible tx (r ∷ rs) = still_line
 
-request_visible : (active : Option ℕ) (staged : Records) (asked : Request) → AreVisible staged → AsksVisible asked → IsVisibleDue (step_due active staged asked)
+request_visible : (active : Option ℕ) (staged : Records) (asked : Request) → AreVisible staged → AsksVisible asked → IsVisibleDue (request_action active staged asked)
 request_visible None staged request.Begin v h = tt
 request_visible (Some tx) staged request.Begin v h = active_line
 request_visible None staged (request.Do o) v h = none_line
@@ -171,26 +171,26 @@ request_visible None staged request.Quit v h = none_line
 request_visible (Some tx) staged request.Quit v h = none_line
 
 -- what is due is visible, and so is what waits on
-abbrev GoesVisibly : Due → SessionState → Type 0
+abbrev GoesVisibly : Action → SessionState → Type 0
 GoesVisibly what here = IsVisibleDue what × AreVisible here.staged
 
-as_due : (s : SessionState) (h : Heard) (what : Due) (here : SessionState) → GoesVisibly (due s h) (hearing s h) → (what ≡ due s h) × (here ≡ hearing s h) → GoesVisibly what here
+as_due : (s : SessionState) (h : ParsedLine) (what : Action) (here : SessionState) → GoesVisibly (action_for s h) (session_behind_line s h) → (what ≡ action_for s h) × (here ≡ session_behind_line s h) → GoesVisibly what here
 as_due s h what here v is = (subst IsVisibleDue (sym is.0) v.0, subst (λ (x : SessionState). AreVisible x.staged) (sym is.1) v.1)
 
-no_room_visible : (s : SessionState) (what : Due) (here : SessionState) → AreVisible s.staged → (what ≡ no_room) × (here ≡ s) → GoesVisibly what here
+no_room_visible : (s : SessionState) (what : Action) (here : SessionState) → AreVisible s.staged → (what ≡ no_room) × (here ≡ s) → GoesVisibly what here
 no_room_visible s what here v is = (subst IsVisibleDue (sym is.0) (fault_line fault.NoMemory), subst (λ (x : SessionState). AreVisible x.staged) (sym is.1) v)
 
-asked_due : (s : SessionState) (asked : Request) (what : Due) (here : SessionState) → AreVisible s.staged → AsksVisible asked → MayBeDue s (said.Asked asked) what here → GoesVisibly what here
+asked_due : (s : SessionState) (asked : Request) (what : Action) (here : SessionState) → AreVisible s.staged → AsksVisible asked → IsActionFor s (said.Asked asked) what here → GoesVisibly what here
 asked_due s asked what here v h (inl is) = as_due s (said.Asked asked) what here (request_visible s.active s.staged asked v h, asked_visible s.active s.staged asked v h) is
 asked_due s asked what here v h (inr refused) = no_room_visible s what here v (refused.1, refused.2)
 
-told_visible : (s : SessionState) (text : List ℕ) (r : Result Request LineFault) (what : Due) (here : SessionState) → AreVisible s.staged → Reads text r → MayBeDue s (told r) what here → GoesVisibly what here
+told_visible : (s : SessionState) (text : List ℕ) (r : Result Request LineFault) (what : Action) (here : SessionState) → AreVisible s.staged → Reads text r → IsActionFor s (parsed_of r) what here → GoesVisibly what here
 told_visible s text (Ok asked) what here v reads may = asked_due s asked what here v (asks_visible text asked reads) may
 told_visible s text (Err f) what here v reads may = as_due s (said.Faulty f) what here (fault_line f, v) may
 
-due_visible : (s : SessionState) (l : Line) (h : Heard) (what : Due) (here : SessionState) → AreVisible s.staged → MayHear l h → MayBeDue s h what here → GoesVisibly what here
-due_visible s None h what here v may d = as_due s said.TooLong what here (long_line, v) (subst (λ (x : Heard). MayBeDue s x what here) may d)
-due_visible s (Some text) h what here v may d = told_visible s text may.0 what here v (reads_what_may_be text may.0 may.1) (subst (λ (x : Heard). MayBeDue s x what here) may.2 d)
+due_visible : (s : SessionState) (l : Line) (h : ParsedLine) (what : Action) (here : SessionState) → AreVisible s.staged → MayParse l h → IsActionFor s h what here → GoesVisibly what here
+due_visible s None h what here v may d = as_due s said.TooLong what here (long_line, v) (subst (λ (x : ParsedLine). IsActionFor s x what here) may d)
+due_visible s (Some text) h what here v may d = told_visible s text may.0 what here v (reads_what_may_be text may.0 may.1) (subst (λ (x : ParsedLine). IsActionFor s x what here) may.2 d)
 
 -- ---- exchanges
 
@@ -202,7 +202,7 @@ record GoesOn (response : Response) (rest : Trace) (at' : Standing) : Type 0 whe
   follows : Follows to rest
   line : IsLine response
 
-answered : (s : Store) (at : Standing) (d : Due) (response : Response) (own rest : Trace) (at' : Standing) → IsVisibleDue d → AreVisible at.0.staged → IsVisibleStore s → AnsweredBy at d response own at' → Follows s (own ++ rest) → GoesOn response rest at'
+answered : (s : Store) (at : Standing) (d : Action) (response : Response) (own rest : Trace) (at' : Standing) → IsVisibleDue d → AreVisible at.0.staged → IsVisibleStore s → AnsweredBy at d response own at' → Follows s (own ++ rest) → GoesOn response rest at'
 answered s at (Answer known) response own rest at' v w h a f = record {
   to = s;
   visible = h;
@@ -229,8 +229,8 @@ answered s at TellSeen response own rest at' v w h a f = record {
 
 answered_line : (s : Store) (at : Standing) (e : Exchange) (own rest : Trace) (at' : Standing) → IsVisibleStore s → AreVisible at.0.staged → AnswersLine at e own at' → Follows s (own ++ rest) → GoesOn e.1 rest at'
 answered_line s at e own rest at' h w a f =
-    let due : GoesVisibly a.1 a.2 = due_visible at.0 e.0 a.0 a.1 a.2 w a.3 a.4 in
-    answered s (a.2, at.1) a.1 e.1 own rest at' due.0 due.1 h a.5 f
+    let action_for : GoesVisibly a.1 a.2 = due_visible at.0 e.0 a.0 a.1 a.2 w a.3 a.4 in
+    answered s (a.2, at.1) a.1 e.1 own rest at' action_for.0 action_for.1 h a.5 f
 
 -- a merge may follow
 record Merged (later : Trace) : Type 0 where

@@ -16,18 +16,18 @@ use Rattle.am_record.specs.declared.step.Refusal.TheVariants as why
 use Rattle.am_serial.specs.Trace.{Trace, Answered, ops_of, effect, effect_of_do, runs_made}
 use Rattle.am_serial.specs.Machine as machine
 use Rattle.am_serial.specs.Machine.{due as due_of, next, Runs, May, view}
-use Rattle.am_talk.specs.Heard.{Line, heard, told, MayHear}
-use Rattle.am_talk.specs.Session.{SessionState, behind}
-use Rattle.am_talk.specs.Dues.{may_wait, with_staged, left_by, stage_due, due, hearing, no_room, MayBeDue}
+use Rattle.am_talk.specs.ParsedLine.{Line, parsed, parsed_of, MayParse}
+use Rattle.am_talk.specs.Session.{SessionState, session_after}
+use Rattle.am_talk.specs.Actions.{may_wait, with_staged, staged_left, stage_response, action_for, session_behind_line, no_room, IsActionFor}
 use Rattle.am_talk.specs.Dialogue.{Exchange, Standing, AnsweredBy, AnswersLine, Merges, Ends, Whole, TornAt, Dialogue, commits_after}
 use Rattle.am_talk.specs.Say as say
-use Rattle.am_talk.specs.Say.{refusal_due, reply_due, refused_or, begin_due, state_did, wants_memory, response_due, state_heard, state_refused, is_load_line, IsSaid, SaysFrom}
+use Rattle.am_talk.specs.Say.{refusal_due, reply_due, refused_or, begin_due, state_did, wants_memory, response_due, state_after_line, state_refused, is_load_line, IsSaid, SaysFrom}
 use Rattle.am_wire.specs.declared.request.Request.{Request}
 use Rattle.am_wire.specs.declared.request.Request.TheVariants as request
 use Rattle.am_wire.specs.declared.request.LineFault.TheVariants as fault
-use Rattle.am_talk.specs.declared.lines.Heard.{Heard}
-use Rattle.am_talk.specs.declared.lines.Heard.TheVariants as said
-use Rattle.am_talk.specs.declared.due.Due.{Due}
+use Rattle.am_talk.specs.declared.lines.ParsedLine.{ParsedLine}
+use Rattle.am_talk.specs.declared.lines.ParsedLine.TheVariants as said
+use Rattle.am_talk.specs.declared.action.Action.{Action}
 use Rattle.am_talk.specs.declared.response.Response.{Response}
 use Rattle.am_talk.specs.declared.response.Response.TheVariants as response
 use Rattle.am_talk.specs.declared.response.Response.TheVariants.{Replied, Seen, Faulty}
@@ -35,34 +35,34 @@ use Rattle.am_record.specs.Interval.{Interval}
 pub use Rattle.am_talk.proofs.Saying.{Where, actives, machine_at, state_at, standing_at, is_answer, Counts, answer_answers, answer_counts, due_is, due_found, one_view, next_did, next_committed, next_aborted, ops_did}
 
 -- what one exchange comes to: memory was refused, or the response is the one that is said, if it is one
-abbrev Outcome : say.State → Heard → Response → say.State → Type 0
+abbrev Outcome : say.DialogueState → ParsedLine → Response → say.DialogueState → Type 0
 Outcome s h r s' =
     ((wants_memory r ≡ true) × (s' ≡ state_refused s h r))
-    ⊎ ((wants_memory r ≡ false) × IsSaid (response_due s h) r × (s' ≡ state_heard s h))
+    ⊎ ((wants_memory r ≡ false) × IsSaid (response_due s h) r × (s' ≡ state_after_line s h))
 
 -- where it leaves the machine, from which the rest of the trace goes on
-record Leads (w : Where) (h : Heard) (r : Response) (rest : Trace) (at' : Standing) : Type 0 where
+record Leads (w : Where) (h : ParsedLine) (r : Response) (rest : Trace) (at' : Standing) : Type 0 where
   to : Where
   runs : Runs (machine_at to) rest
   standing : at' ≡ standing_at to
   outcome : Outcome (state_at w) h r (state_at to)
 
 -- the response is said
-is_said : (due : Option Response) (said r : Response) → due ≡ Some said → r ≡ said → IsSaid due r
-is_said due said r e f = subst (λ (o : Option Response). IsSaid o r) (sym e) f
+is_said : (action_for : Option Response) (said r : Response) → action_for ≡ Some said → r ≡ said → IsSaid action_for r
+is_said action_for said r e f = subst (λ (o : Option Response). IsSaid o r) (sym e) f
 
 -- a response at once, to a session that waits on with other records
-at_once : (w : Where) (staged : Records) (h : Heard) (due : Response) → wants_memory due ≡ false → response_due (state_at w) h ≡ Some due → state_at (record w { staged = staged }) ≡ state_heard (state_at w) h →
-    (r : Response) (own rest : Trace) (at' : Standing) → (r ≡ due) × (own ≡ []) × (at' ≡ standing_at (record w { staged = staged })) → Runs (machine_at w) (own ++ rest) → Leads w h r rest at'
-at_once w staged h due memory says same r own rest at' answered run = record {
+at_once : (w : Where) (staged : Records) (h : ParsedLine) (action_for : Response) → wants_memory action_for ≡ false → response_due (state_at w) h ≡ Some action_for → state_at (record w { staged = staged }) ≡ state_after_line (state_at w) h →
+    (r : Response) (own rest : Trace) (at' : Standing) → (r ≡ action_for) × (own ≡ []) × (at' ≡ standing_at (record w { staged = staged })) → Runs (machine_at w) (own ++ rest) → Leads w h r rest at'
+at_once w staged h action_for memory says same r own rest at' answered run = record {
   to = record w { staged = staged };
   runs = subst (λ (x : Trace). Runs (machine_at w) (x ++ rest)) answered.1 run;
   standing = answered.2;
-  outcome = inr (ap wants_memory answered.0 ∙ memory, is_said (response_due (state_at w) h) due r says answered.0, same);
+  outcome = inr (ap wants_memory answered.0 ∙ memory, is_said (response_due (state_at w) h) action_for r says answered.0, same);
 }
 
 -- memory was refused to the line
-refused_line : (w : Where) (h : Heard) (r : Response) (own rest : Trace) (at' : Standing) → (r ≡ Faulty fault.NoMemory) × (own ≡ []) × (at' ≡ standing_at w) → Runs (machine_at w) (own ++ rest) → Leads w h r rest at'
+refused_line : (w : Where) (h : ParsedLine) (r : Response) (own rest : Trace) (at' : Standing) → (r ≡ Faulty fault.NoMemory) × (own ≡ []) × (at' ≡ standing_at w) → Runs (machine_at w) (own ++ rest) → Leads w h r rest at'
 refused_line w h r own rest at' answered run = record {
   to = w;
   runs = subst (λ (x : Trace). Runs (machine_at w) (x ++ rest)) answered.1 run;
@@ -72,25 +72,25 @@ refused_line w h r own rest at' answered run = record {
 
 -- a step that is told by a reply, and by what the machine may do
 abbrev After : Where → Step → Reply → Trace → Type 0
-After w s told rest = May (machine_at w) s told × Runs (next (machine_at w) (effect s told)) rest
+After w s parsed_of rest = May (machine_at w) s parsed_of × Runs (next (machine_at w) (effect s parsed_of)) rest
 
 -- the step was due where the session waits on with these records
 abbrev Told : Where → Records → Step → Request → Reply → Trace → Type 0
-Told w staged s asked told rest = Leads w (said.Asked asked) (Replied told) rest (behind (record { active = option_map (λ _. w.begun) w.own; staged = staged }) told, commits_after w.commits s told)
+Told w staged s asked parsed_of rest = Leads w (said.Asked asked) (Replied parsed_of) rest (session_after (record { active = option_map (λ _. w.begun) w.own; staged = staged }) parsed_of, commits_after w.commits s parsed_of)
 
 taken : (w : Where) (staged : Records) (s : Step) (asked : Request) → ((t : Reply) (rest : Trace) → After w s t rest → Told w staged s asked t rest) →
-    (r : Response) (own rest : Trace) (at' : Standing) → (t : Reply) × (r ≡ Replied t) × (own ≡ (s, t) ∷ []) × (at' ≡ (behind (record { active = option_map (λ _. w.begun) w.own; staged = staged }) t, commits_after w.commits s t)) →
+    (r : Response) (own rest : Trace) (at' : Standing) → (t : Reply) × (r ≡ Replied t) × (own ≡ (s, t) ∷ []) × (at' ≡ (session_after (record { active = option_map (λ _. w.begun) w.own; staged = staged }) t, commits_after w.commits s t)) →
     Runs (machine_at w) (own ++ rest) → Leads w (said.Asked asked) r rest at'
 taken w staged s asked tells r own rest at' a run =
     let led : Told w staged s asked a.0 rest = tells a.0 rest (subst (λ (x : Trace). Runs (machine_at w) (x ++ rest)) a.2 run) in
-    let stands : Standing = (behind (record { active = option_map (λ _. w.begun) w.own; staged = staged }) a.0, commits_after w.commits s a.0) in
+    let stands : Standing = (session_after (record { active = option_map (λ _. w.begun) w.own; staged = staged }) a.0, commits_after w.commits s a.0) in
     let with_reply : Leads w (said.Asked asked) r rest stands = subst (λ (x : Response). Leads w (said.Asked asked) x rest stands) (sym a.1) led in
     subst (λ (x : Standing). Leads w (said.Asked asked) r rest x) (sym a.3) with_reply
 
 -- the reply is what is said
-said_so : (w : Where) (staged : Records) (s : Step) (asked : Request) (told : Reply) (rest : Trace) (to : Where) → Runs (machine_at to) rest → (behind (record { active = option_map (λ _. w.begun) w.own; staged = staged }) told, commits_after w.commits s told) ≡ standing_at to →
-    wants_memory (Replied told) ≡ false → response_due (state_at w) (said.Asked asked) ≡ Some (Replied told) → state_at to ≡ state_heard (state_at w) (said.Asked asked) → Told w staged s asked told rest
-said_so w staged s asked told rest to run standing memory says same = record { to = to; runs = run; standing = standing; outcome = inr (memory, is_said (response_due (state_at w) (said.Asked asked)) (Replied told) (Replied told) says refl, same) }
+said_so : (w : Where) (staged : Records) (s : Step) (asked : Request) (parsed_of : Reply) (rest : Trace) (to : Where) → Runs (machine_at to) rest → (session_after (record { active = option_map (λ _. w.begun) w.own; staged = staged }) parsed_of, commits_after w.commits s parsed_of) ≡ standing_at to →
+    wants_memory (Replied parsed_of) ≡ false → response_due (state_at w) (said.Asked asked) ≡ Some (Replied parsed_of) → state_at to ≡ state_after_line (state_at w) (said.Asked asked) → Told w staged s asked parsed_of rest
+said_so w staged s asked parsed_of rest to run standing memory says same = record { to = to; runs = run; standing = standing; outcome = inr (memory, is_said (response_due (state_at w) (said.Asked asked)) (Replied parsed_of) (Replied parsed_of) says refl, same) }
 
 -- nothing was done
 refused_step : (w : Where) (s : Step) (asked : Request) (rest : Trace) → commits_after w.commits s (reply.Refused why.NoMemory) ≡ w.commits → is_load_line (said.Asked asked) ≡ false → Runs (machine_at w) rest → Told w w.staged s asked (reply.Refused why.NoMemory) rest
@@ -105,7 +105,7 @@ module _ (begun commits runs : ℕ) (m : PlainMap) (staged : Records) where
   abbrev started : Where
   started = record { begun = begun + 1; commits = commits; runs = runs; committed = m; own = Some []; staged = staged }
 
-  begins : (told : Reply) (rest : Trace) → After idle step.Begin told rest → Told idle staged step.Begin request.Begin told rest
+  begins : (parsed_of : Reply) (rest : Trace) → After idle step.Begin parsed_of rest → Told idle staged step.Begin request.Begin parsed_of rest
   begins (reply.Begun t) rest a =
       let few : nat_le (2 ^ 63) begun ≡ false = lt-leb (2 ^ 63) begun a.0.2 in
       subst (λ (x : ℕ). Told idle staged step.Begin request.Begin (reply.Begun x) rest) (sym a.0.0)
@@ -118,7 +118,7 @@ module _ (begun commits runs : ℕ) (m : PlainMap) (staged : Records) where
 -- ---- one transaction active
 
 -- the load whose memory was refused lets go what waited
-refused_keeps : (o : Op) (s : say.State) → record s { staged = left_by s.staged o } ≡ state_refused s (said.Asked (request.Do o)) (Replied (reply.Refused why.NoMemory))
+refused_keeps : (o : Op) (s : say.DialogueState) → record s { staged = staged_left s.staged o } ≡ state_refused s (said.Asked (request.Do o)) (Replied (reply.Refused why.NoMemory))
 refused_keeps (op.Get k) s = refl
 refused_keeps (op.Scan range max) s = refl
 refused_keeps (op.Insert k v) s = refl
@@ -145,7 +145,7 @@ module _ (begun commits runs : ℕ) (m : PlainMap) (body : List Answered) (stage
     whole = with_staged staged o
 
     abbrev left_over : Records
-    left_over = left_by staged o
+    left_over = staged_left staged o
 
     abbrev busy_on : Where
     busy_on = record busy { staged = left_over }
@@ -153,42 +153,42 @@ module _ (begun commits runs : ℕ) (m : PlainMap) (body : List Answered) (stage
     abbrev due_answer : Reply
     due_answer = answer whole (left_on own_ops (fresh m))
 
-    abbrev did_state : Reply → say.State
-    did_state told = state_did (state_at busy_on) own_ops whole told
+    abbrev did_state : Reply → say.DialogueState
+    did_state parsed_of = state_did (state_at busy_on) own_ops whole parsed_of
 
-    answered : (told : Reply) (rest : Trace) → told ≡ due_answer → refusal_due (state_at busy) own_ops whole ≡ None → Runs (next (machine_at busy) (effect_of_do begun whole told)) rest → Told busy left_over (step.Do begun whole) asks told rest
-    answered told rest is none run =
-        let counts : Counts told = answer_counts told (ap is_answer is ∙ answer_answers whole (left_on own_ops (fresh m))) in
-        let due_reply : reply_due (state_at busy) own_ops whole ≡ told = ap (λ o. refused_or o due_answer) none ∙ sym is in
-        said_so busy left_over (step.Do begun whole) asks told rest (record busy_on { runs = runs + runs_made whole told; own = Some (body ++ (whole, told) ∷ []) })
-        (subst (λ (x : machine.State). Runs x rest) (ap (next (machine_at busy)) (counts.effect begun whole) ∙ next_did begun commits runs m body staged whole told) run)
+    answered : (parsed_of : Reply) (rest : Trace) → parsed_of ≡ due_answer → refusal_due (state_at busy) own_ops whole ≡ None → Runs (next (machine_at busy) (effect_of_do begun whole parsed_of)) rest → Told busy left_over (step.Do begun whole) asks parsed_of rest
+    answered parsed_of rest is none run =
+        let counts : Counts parsed_of = answer_counts parsed_of (ap is_answer is ∙ answer_answers whole (left_on own_ops (fresh m))) in
+        let due_reply : reply_due (state_at busy) own_ops whole ≡ parsed_of = ap (λ o. refused_or o due_answer) none ∙ sym is in
+        said_so busy left_over (step.Do begun whole) asks parsed_of rest (record busy_on { runs = runs + runs_made whole parsed_of; own = Some (body ++ (whole, parsed_of) ∷ []) })
+        (subst (λ (x : machine.State). Runs x rest) (ap (next (machine_at busy)) (counts.effect begun whole) ∙ next_did begun commits runs m body staged whole parsed_of) run)
         (λ i. (record { active = counts.active (Some begun) i; staged = counts.staged left_over i }, commits))
         counts.found
         (ap (λ r. Some (Replied r)) due_reply)
-        ((λ i. record { begun = begun; commits = commits; runs = runs + runs_made whole told; committed = m; own = Some (ops_did begun commits runs m body staged whole told i); staged = left_over }) ∙ sym (counts.did (state_at busy_on) own_ops whole) ∙ ap did_state (sym due_reply))
+        ((λ i. record { begun = begun; commits = commits; runs = runs + runs_made whole parsed_of; committed = m; own = Some (ops_did begun commits runs m body staged whole parsed_of i); staged = left_over }) ∙ sym (counts.did (state_at busy_on) own_ops whole) ∙ ap did_state (sym due_reply))
 
-    refused : (why : Refusal) (told : Reply) (rest : Trace) → told ≡ reply.Refused why → refusal_due (state_at busy) own_ops whole ≡ Some why → Runs (next (machine_at busy) (effect_of_do begun whole told)) rest → Told busy left_over (step.Do begun whole) asks told rest
-    refused why told rest is due run =
-        let due_reply : reply_due (state_at busy) own_ops whole ≡ reply.Refused why = ap (λ o. refused_or o due_answer) due in
+    refused : (why : Refusal) (parsed_of : Reply) (rest : Trace) → parsed_of ≡ reply.Refused why → refusal_due (state_at busy) own_ops whole ≡ Some why → Runs (next (machine_at busy) (effect_of_do begun whole parsed_of)) rest → Told busy left_over (step.Do begun whole) asks parsed_of rest
+    refused why parsed_of rest is action_for run =
+        let due_reply : reply_due (state_at busy) own_ops whole ≡ reply.Refused why = ap (λ o. refused_or o due_answer) action_for in
         subst (λ (x : Reply). Told busy left_over (step.Do begun whole) asks x rest) (sym is)
         (said_so busy left_over (step.Do begun whole) asks (reply.Refused why) rest busy_on (subst (λ (x : Reply). Runs (next (machine_at busy) (effect_of_do begun whole x)) rest) is run) refl
-        (due_found begun commits runs m body staged whole why due) (ap (λ r. Some (Replied r)) due_reply) (sym (ap did_state due_reply)))
+        (due_found begun commits runs m body staged whole why action_for) (ap (λ r. Some (Replied r)) due_reply) (sym (ap did_state due_reply)))
 
     no_memory : (rest : Trace) → Runs (machine_at busy) rest → Told busy left_over (step.Do begun whole) asks (reply.Refused why.NoMemory) rest
     no_memory rest run = record { to = busy_on; runs = run; standing = refl; outcome = inl (refl, refused_keeps o (state_at busy)) }
 
-    did : (told : Reply) (rest : Trace) → After busy (step.Do begun whole) told rest → Told busy left_over (step.Do begun whole) asks told rest
-    did told rest a = by_due (refusal_due (state_at busy) own_ops whole) refl (subst (λ (o : Option Refusal). MatchOption o ((told ≡ answer whole (view (machine_at busy) begun)) ⊎ (told ≡ reply.Refused why.NoMemory)) (λ why. told ≡ reply.Refused why)) (due_is begun commits runs m body staged whole) a.0)
+    did : (parsed_of : Reply) (rest : Trace) → After busy (step.Do begun whole) parsed_of rest → Told busy left_over (step.Do begun whole) asks parsed_of rest
+    did parsed_of rest a = by_due (refusal_due (state_at busy) own_ops whole) refl (subst (λ (o : Option Refusal). MatchOption o ((parsed_of ≡ answer whole (view (machine_at busy) begun)) ⊎ (parsed_of ≡ reply.Refused why.NoMemory)) (λ why. parsed_of ≡ reply.Refused why)) (due_is begun commits runs m body staged whole) a.0)
       where
-        by_due : (o : Option Refusal) → refusal_due (state_at busy) own_ops whole ≡ o → MatchOption o ((told ≡ answer whole (view (machine_at busy) begun)) ⊎ (told ≡ reply.Refused why.NoMemory)) (λ why. told ≡ reply.Refused why) → Told busy left_over (step.Do begun whole) asks told rest
-        by_due None none (inl is) = answered told rest (is ∙ ap (answer whole) (one_view begun commits runs m body staged)) none a.1
+        by_due : (o : Option Refusal) → refusal_due (state_at busy) own_ops whole ≡ o → MatchOption o ((parsed_of ≡ answer whole (view (machine_at busy) begun)) ⊎ (parsed_of ≡ reply.Refused why.NoMemory)) (λ why. parsed_of ≡ reply.Refused why) → Told busy left_over (step.Do begun whole) asks parsed_of rest
+        by_due None none (inl is) = answered parsed_of rest (is ∙ ap (answer whole) (one_view begun commits runs m body staged)) none a.1
         by_due None none (inr wants) = subst (λ (x : Reply). Told busy left_over (step.Do begun whole) asks x rest) (sym wants) (no_memory rest (subst (λ (x : Reply). Runs (next (machine_at busy) (effect_of_do begun whole x)) rest) wants a.1))
-        by_due (Some w) due is = refused w told rest is due a.1
+        by_due (Some w) action_for is = refused w parsed_of rest is action_for a.1
 
   not_open : {P : Type 0} → machine.is_open (actives begun (Some body)) begun ≡ false → P
   not_open h = absurd (true≢false (sym (ap (λ b. b || false) (nat_eq_equiv.refl begun)) ∙ h))
 
-  aborts_own : (told : Reply) (rest : Trace) → After busy (step.Abort begun) told rest → Told busy staged (step.Abort begun) request.Abort told rest
+  aborts_own : (parsed_of : Reply) (rest : Trace) → After busy (step.Abort begun) parsed_of rest → Told busy staged (step.Abort begun) request.Abort parsed_of rest
   aborts_own reply.Aborted rest a =
       said_so busy staged (step.Abort begun) request.Abort reply.Aborted rest (record busy { own = None; staged = [] })
       (subst (λ (x : machine.State). Runs x rest) (next_aborted begun commits runs m body staged) a.1) refl refl refl refl
@@ -197,7 +197,7 @@ module _ (begun commits runs : ℕ) (m : PlainMap) (body : List Answered) (stage
 
   -- records to be staged
   module _ (records : Records) where
-    abbrev stages : Heard
+    abbrev stages : ParsedLine
     stages = said.Asked (request.Stage records)
 
     waits : (b : Bool) → wants_memory (cond b response.Staged response.TooManyStaged) ≡ false
@@ -213,7 +213,7 @@ module _ (begun commits runs : ℕ) (m : PlainMap) (body : List Answered) where
   abbrev ready : Where
   ready = busy begun commits runs m body []
 
-  commits_own : (told : Reply) (rest : Trace) → After ready (step.Commit begun) told rest → Told ready [] (step.Commit begun) request.Commit told rest
+  commits_own : (parsed_of : Reply) (rest : Trace) → After ready (step.Commit begun) parsed_of rest → Told ready [] (step.Commit begun) request.Commit parsed_of rest
   commits_own (reply.Committed k) rest a =
       subst (λ (x : ℕ). Told ready [] (step.Commit begun) request.Commit (reply.Committed x) rest) (sym a.0.1)
       (said_so ready [] (step.Commit begun) request.Commit (reply.Committed (commits + 1)) rest (record ready { commits = commits + 1; committed = left (ops_of body) m; own = None })
@@ -224,14 +224,14 @@ module _ (begun commits runs : ℕ) (m : PlainMap) (body : List Answered) where
 -- ---- MERGE and CLEAN
 
 -- the machine is where it was
-kept_up : (w : Where) (s : Step) (asked : Request) (told : Reply) (rest : Trace) → Runs (machine_at w) rest → (behind (standing_at w).0 told, commits_after w.commits s told) ≡ standing_at w →
-    wants_memory (Replied told) ≡ false → response_due (state_at w) (said.Asked asked) ≡ None → state_at w ≡ state_heard (state_at w) (said.Asked asked) → Told w w.staged s asked told rest
-kept_up w s asked told rest run standing memory says same = record { to = w; runs = run; standing = standing; outcome = inr (memory, subst (λ (o : Option Response). IsSaid o (Replied told)) (sym says) tt, same) }
+kept_up : (w : Where) (s : Step) (asked : Request) (parsed_of : Reply) (rest : Trace) → Runs (machine_at w) rest → (session_after (standing_at w).0 parsed_of, commits_after w.commits s parsed_of) ≡ standing_at w →
+    wants_memory (Replied parsed_of) ≡ false → response_due (state_at w) (said.Asked asked) ≡ None → state_at w ≡ state_after_line (state_at w) (said.Asked asked) → Told w w.staged s asked parsed_of rest
+kept_up w s asked parsed_of rest run standing memory says same = record { to = w; runs = run; standing = standing; outcome = inr (memory, subst (λ (o : Option Response). IsSaid o (Replied parsed_of)) (sym says) tt, same) }
 
 -- neither is said
 record IsUnsaid (w : Where) (asked : Request) : Type 0 where
   unsaid : response_due (state_at w) (said.Asked asked) ≡ None
-  same : state_at w ≡ state_heard (state_at w) (said.Asked asked)
+  same : state_at w ≡ state_after_line (state_at w) (said.Asked asked)
 
 merge_unsaid : (w : Where) (limit : ℕ) → IsUnsaid w (request.Merge limit)
 merge_unsaid w limit = by_own w.own refl
@@ -240,13 +240,13 @@ merge_unsaid w limit = by_own w.own refl
     by_own None e = record { unsaid = ap (λ o. say.answer_to (state_at w) (option_map ops_of o) (request.Merge limit)) e; same = sym (ap (λ o. say.state_asked (state_at w) (option_map ops_of o) (request.Merge limit)) e) }
     by_own (Some body) e = record { unsaid = ap (λ o. say.answer_to (state_at w) (option_map ops_of o) (request.Merge limit)) e; same = sym (ap (λ o. say.state_asked (state_at w) (option_map ops_of o) (request.Merge limit)) e) }
 
-merges : (w : Where) (limit : ℕ) (told : Reply) (rest : Trace) → After w (step.Merge limit) told rest → Told w w.staged (step.Merge limit) (request.Merge limit) told rest
-merges w limit told rest a = by_told told a
+merges : (w : Where) (limit : ℕ) (parsed_of : Reply) (rest : Trace) → After w (step.Merge limit) parsed_of rest → Told w w.staged (step.Merge limit) (request.Merge limit) parsed_of rest
+merges w limit parsed_of rest a = by_told parsed_of a
   where
     u : IsUnsaid w (request.Merge limit)
     u = merge_unsaid w limit
 
-    by_told : (told : Reply) → After w (step.Merge limit) told rest → Told w w.staged (step.Merge limit) (request.Merge limit) told rest
+    by_told : (parsed_of : Reply) → After w (step.Merge limit) parsed_of rest → Told w w.staged (step.Merge limit) (request.Merge limit) parsed_of rest
     by_told (reply.Moved n run) a = kept_up w (step.Merge limit) (request.Merge limit) (reply.Moved n run) rest a.1 refl refl u.unsaid u.same
     by_told reply.MergeDone a = kept_up w (step.Merge limit) (request.Merge limit) reply.MergeDone rest a.1 refl refl u.unsaid u.same
     by_told (reply.Ended k h) a = kept_up w (step.Merge limit) (request.Merge limit) (reply.Ended k h) rest a.1 refl refl u.unsaid u.same
@@ -262,13 +262,13 @@ clean_unsaid w range limit = by_own w.own refl
     by_own None e = record { unsaid = ap (λ o. say.answer_to (state_at w) (option_map ops_of o) (request.Clean range limit)) e; same = sym (ap (λ o. say.state_asked (state_at w) (option_map ops_of o) (request.Clean range limit)) e) }
     by_own (Some body) e = record { unsaid = ap (λ o. say.answer_to (state_at w) (option_map ops_of o) (request.Clean range limit)) e; same = sym (ap (λ o. say.state_asked (state_at w) (option_map ops_of o) (request.Clean range limit)) e) }
 
-cleans : (w : Where) (range : Interval) (limit : ℕ) (told : Reply) (rest : Trace) → After w (step.Clean range limit) told rest → Told w w.staged (step.Clean range limit) (request.Clean range limit) told rest
-cleans w range limit told rest a = by_told told a
+cleans : (w : Where) (range : Interval) (limit : ℕ) (parsed_of : Reply) (rest : Trace) → After w (step.Clean range limit) parsed_of rest → Told w w.staged (step.Clean range limit) (request.Clean range limit) parsed_of rest
+cleans w range limit parsed_of rest a = by_told parsed_of a
   where
     u : IsUnsaid w (request.Clean range limit)
     u = clean_unsaid w range limit
 
-    by_told : (told : Reply) → After w (step.Clean range limit) told rest → Told w w.staged (step.Clean range limit) (request.Clean range limit) told rest
+    by_told : (parsed_of : Reply) → After w (step.Clean range limit) parsed_of rest → Told w w.staged (step.Clean range limit) (request.Clean range limit) parsed_of rest
     by_told (reply.Cleaned n) a = kept_up w (step.Clean range limit) (request.Clean range limit) (reply.Cleaned n) rest a.1 refl refl u.unsaid u.same
     by_told (reply.Refused why.BadLimit) a = kept_up w (step.Clean range limit) (request.Clean range limit) (reply.Refused why.BadLimit) rest a.1 refl refl u.unsaid u.same
     by_told (reply.Refused why.NoMemory) a = refused_step w (step.Clean range limit) (request.Clean range limit) rest refl refl a.1
@@ -276,8 +276,8 @@ cleans w range limit told rest a = by_told told a
 
 -- ---- each line
 
-abbrev Line_leads : Where → Heard → Type 0
-Line_leads w h = (r : Response) (own rest : Trace) (at' : Standing) → AnsweredBy (hearing (standing_at w).0 h, w.commits) (due (standing_at w).0 h) r own at' → Runs (machine_at w) (own ++ rest) → Leads w h r rest at'
+abbrev Line_leads : Where → ParsedLine → Type 0
+Line_leads w h = (r : Response) (own rest : Trace) (at' : Standing) → AnsweredBy (session_behind_line (standing_at w).0 h, w.commits) (action_for (standing_at w).0 h) r own at' → Runs (machine_at w) (own ++ rest) → Leads w h r rest at'
 
 -- with no transaction active
 module _ (begun commits runs : ℕ) (m : PlainMap) (staged : Records) where
@@ -307,8 +307,8 @@ module _ (begun commits runs : ℕ) (m : PlainMap) (body : List Answered) where
 
     leads_busy : (asked : Request) → Line_leads held (said.Asked asked)
     leads_busy request.Begin = at_once held staged (said.Asked request.Begin) response.Active refl refl refl
-    leads_busy (request.Do o) = taken held (left_by staged o) (step.Do begun (with_staged staged o)) (request.Do o) (did begun commits runs m body staged o)
-    leads_busy (request.Stage records) = at_once held (cond (may_wait staged records) (staged ++ records) staged) (said.Asked (request.Stage records)) (stage_due staged records) (waits begun commits runs m body staged records (may_wait staged records)) refl (staged_so begun commits runs m body staged records (may_wait staged records))
+    leads_busy (request.Do o) = taken held (staged_left staged o) (step.Do begun (with_staged staged o)) (request.Do o) (did begun commits runs m body staged o)
+    leads_busy (request.Stage records) = at_once held (cond (may_wait staged records) (staged ++ records) staged) (said.Asked (request.Stage records)) (stage_response staged records) (waits begun commits runs m body staged records (may_wait staged records)) refl (staged_so begun commits runs m body staged records (may_wait staged records))
     leads_busy request.Commit = leads_commit staged
     leads_busy request.Abort = taken held staged (step.Abort begun) request.Abort (aborts_own begun commits runs m body staged)
     leads_busy (request.Merge limit) = taken held staged (step.Merge limit) (request.Merge limit) (merges held limit)
@@ -316,7 +316,7 @@ module _ (begun commits runs : ℕ) (m : PlainMap) (body : List Answered) where
     leads_busy request.Seen = at_once held staged (said.Asked request.Seen) (Seen 0 commits) refl refl refl
     leads_busy request.Quit = at_once held staged (said.Asked request.Quit) response.NoTransaction refl refl refl
 
-leads : (begun commits runs : ℕ) (m : PlainMap) (own : Option (List Answered)) (staged : Records) (h : Heard) → Line_leads (record { begun = begun; commits = commits; runs = runs; committed = m; own = own; staged = staged }) h
+leads : (begun commits runs : ℕ) (m : PlainMap) (own : Option (List Answered)) (staged : Records) (h : ParsedLine) → Line_leads (record { begun = begun; commits = commits; runs = runs; committed = m; own = own; staged = staged }) h
 leads b c n m own staged said.TooLong = at_once _ staged said.TooLong response.TooLong refl refl refl
 leads b c n m own staged (said.Faulty fault.Syntax) = at_once _ staged (said.Faulty fault.Syntax) (Faulty fault.Syntax) refl refl refl
 leads b c n m own staged (said.Faulty fault.Range) = at_once _ staged (said.Faulty fault.Range) (Faulty fault.Range) refl refl refl
@@ -335,46 +335,46 @@ merged_between auto w rest later = by_auto (auto == 0)
 -- ---- all lines
 
 module _ (e : Exchange) (exchanges : List Exchange) where
-  abbrev SaysNext : say.State → Bool → Type 0
-  SaysNext s b = MatchBool b (SaysFrom (state_refused s (heard e.0) e.1) exchanges) (IsSaid (response_due s (heard e.0)) e.1 × SaysFrom (state_heard s (heard e.0)) exchanges)
+  abbrev SaysNext : say.DialogueState → Bool → Type 0
+  SaysNext s b = MatchBool b (SaysFrom (state_refused s (parsed e.0) e.1) exchanges) (IsSaid (response_due s (parsed e.0)) e.1 × SaysFrom (state_after_line s (parsed e.0)) exchanges)
 
-  says_next : (s s' : say.State) → Outcome s (heard e.0) e.1 s' → SaysFrom s' exchanges → SaysFrom s (e ∷ exchanges)
-  says_next s s' (inl refused) later = subst (SaysNext s) (sym refused.0) (subst (λ (x : say.State). SaysFrom x exchanges) refused.1 later)
-  says_next s s' (inr said_it) later = subst (SaysNext s) (sym said_it.0) (said_it.1, subst (λ (x : say.State). SaysFrom x exchanges) said_it.2 later)
+  says_next : (s s' : say.DialogueState) → Outcome s (parsed e.0) e.1 s' → SaysFrom s' exchanges → SaysFrom s (e ∷ exchanges)
+  says_next s s' (inl refused) later = subst (SaysNext s) (sym refused.0) (subst (λ (x : say.DialogueState). SaysFrom x exchanges) refused.1 later)
+  says_next s s' (inr said_it) later = subst (SaysNext s) (sym said_it.0) (said_it.1, subst (λ (x : say.DialogueState). SaysFrom x exchanges) said_it.2 later)
 
 -- the line was heard as it is, or memory was refused for its records
-heard_so : (line : Line) (h : Heard) → MayHear line h → (h ≡ heard line) ⊎ (h ≡ said.Faulty fault.NoMemory)
+heard_so : (line : Line) (h : ParsedLine) → MayParse line h → (h ≡ parsed line) ⊎ (h ≡ said.Faulty fault.NoMemory)
 heard_so None h is = inl is
-heard_so (Some text) h may = ⊎_elim (λ same. inl (may.2 ∙ ap told same)) (λ refused. inr (may.2 ∙ ap told refused.0)) may.1
+heard_so (Some text) h may = ⊎_elim (λ same. inl (may.2 ∙ ap parsed_of same)) (λ refused. inr (may.2 ∙ ap parsed_of refused.0)) may.1
 
 -- and answered as is due, or room was refused for them
-due_so : (s : SessionState) (h : Heard) (what : Due) (here : SessionState) → MayBeDue s h what here → ((what ≡ due s h) × (here ≡ hearing s h)) ⊎ ((what ≡ no_room) × (here ≡ s))
+due_so : (s : SessionState) (h : ParsedLine) (what : Action) (here : SessionState) → IsActionFor s h what here → ((what ≡ action_for s h) × (here ≡ session_behind_line s h)) ⊎ ((what ≡ no_room) × (here ≡ s))
 due_so s (said.Asked asked) what here (inl is) = inl is
 due_so s (said.Asked asked) what here (inr refused) = inr (refused.1, refused.2)
 due_so s (said.Faulty f) what here is = inl is
 due_so s said.TooLong what here is = inl is
 
-leads_line : (w : Where) (line : Line) (h : Heard) (what : Due) (here : SessionState) → MayHear line h → MayBeDue (standing_at w).0 h what here →
-    (r : Response) (own rest : Trace) (at' : Standing) → AnsweredBy (here, w.commits) what r own at' → Runs (machine_at w) (own ++ rest) → Leads w (heard line) r rest at'
+leads_line : (w : Where) (line : Line) (h : ParsedLine) (what : Action) (here : SessionState) → MayParse line h → IsActionFor (standing_at w).0 h what here →
+    (r : Response) (own rest : Trace) (at' : Standing) → AnsweredBy (here, w.commits) what r own at' → Runs (machine_at w) (own ++ rest) → Leads w (parsed line) r rest at'
 leads_line w line h what here may maybe r own rest at' answered run = ⊎_elim
-    (λ (is : (what ≡ due (standing_at w).0 h) × (here ≡ hearing (standing_at w).0 h)). ⊎_elim
-    (λ (same : h ≡ heard line). leads w.begun w.commits w.runs w.committed w.own w.staged (heard line) r own rest at'
-    (subst (λ (x : Heard). AnsweredBy (hearing (standing_at w).0 x, w.commits) (due (standing_at w).0 x) r own at') same (as_due is)) run)
-    (λ (refused : h ≡ said.Faulty fault.NoMemory). refused_line w (heard line) r own rest at'
-    (subst (λ (x : Heard). AnsweredBy (hearing (standing_at w).0 x, w.commits) (due (standing_at w).0 x) r own at') refused (as_due is)) run)
+    (λ (is : (what ≡ action_for (standing_at w).0 h) × (here ≡ session_behind_line (standing_at w).0 h)). ⊎_elim
+    (λ (same : h ≡ parsed line). leads w.begun w.commits w.runs w.committed w.own w.staged (parsed line) r own rest at'
+    (subst (λ (x : ParsedLine). AnsweredBy (session_behind_line (standing_at w).0 x, w.commits) (action_for (standing_at w).0 x) r own at') same (as_due is)) run)
+    (λ (refused : h ≡ said.Faulty fault.NoMemory). refused_line w (parsed line) r own rest at'
+    (subst (λ (x : ParsedLine). AnsweredBy (session_behind_line (standing_at w).0 x, w.commits) (action_for (standing_at w).0 x) r own at') refused (as_due is)) run)
     (heard_so line h may))
-    (λ (refused : (what ≡ no_room) × (here ≡ (standing_at w).0)). refused_line w (heard line) r own rest at'
-    (subst (λ (s : SessionState). AnsweredBy (s, w.commits) no_room r own at') refused.1 (subst (λ (d : Due). AnsweredBy (here, w.commits) d r own at') refused.0 answered)) run)
+    (λ (refused : (what ≡ no_room) × (here ≡ (standing_at w).0)). refused_line w (parsed line) r own rest at'
+    (subst (λ (s : SessionState). AnsweredBy (s, w.commits) no_room r own at') refused.1 (subst (λ (d : Action). AnsweredBy (here, w.commits) d r own at') refused.0 answered)) run)
     (due_so (standing_at w).0 h what here maybe)
   where
-    as_due : (what ≡ due (standing_at w).0 h) × (here ≡ hearing (standing_at w).0 h) → AnsweredBy (hearing (standing_at w).0 h, w.commits) (due (standing_at w).0 h) r own at'
-    as_due is = subst (λ (s : SessionState). AnsweredBy (s, w.commits) (due (standing_at w).0 h) r own at') is.1 (subst (λ (d : Due). AnsweredBy (here, w.commits) d r own at') is.0 answered)
+    as_due : (what ≡ action_for (standing_at w).0 h) × (here ≡ session_behind_line (standing_at w).0 h) → AnsweredBy (session_behind_line (standing_at w).0 h, w.commits) (action_for (standing_at w).0 h) r own at'
+    as_due is = subst (λ (s : SessionState). AnsweredBy (s, w.commits) (action_for (standing_at w).0 h) r own at') is.1 (subst (λ (d : Action). AnsweredBy (here, w.commits) d r own at') is.0 answered)
 
 -- what a dialogue's end says of the last lines
 abbrev EndsSaying : Ends → List Exchange → Type 0
 EndsSaying ends tail = (w : Where) (at : Standing) (trace : Trace) → at ≡ standing_at w → Runs (machine_at w) trace → ends at trace → SaysFrom (state_at w) tail
 
-answers_so : (w : Where) (at : Standing) (e : Exchange) (own rest : Trace) (at' : Standing) → at ≡ standing_at w → AnswersLine at e own at' → Runs (machine_at w) (own ++ rest) → Leads w (heard e.0) e.1 rest at'
+answers_so : (w : Where) (at : Standing) (e : Exchange) (own rest : Trace) (at' : Standing) → at ≡ standing_at w → AnswersLine at e own at' → Runs (machine_at w) (own ++ rest) → Leads w (parsed e.0) e.1 rest at'
 answers_so w at e own rest at' here a run =
     let b : AnswersLine (standing_at w) e own at' = subst (λ (x : Standing). AnswersLine x e own at') here a in
     leads_line w e.0 b.0 b.1 b.2 b.3 b.4 e.1 own rest at' b.5 run
@@ -384,13 +384,13 @@ whole_says w at trace here run ended = tt
 
 pub torn_says : (last : Exchange) → EndsSaying (TornAt last) (last ∷ [])
 torn_says last w at trace here run d =
-    let led : Leads w (heard last.0) last.1 d.1 d.2 = answers_so w at last d.0 d.1 d.2 here d.3 (subst (Runs (machine_at w)) d.4 run) in
+    let led : Leads w (parsed last.0) last.1 d.1 d.2 = answers_so w at last d.0 d.1 d.2 here d.3 (subst (Runs (machine_at w)) d.4 run) in
     says_next last [] (state_at w) (state_at led.to) led.outcome tt
 
 pub dialogues_say : (auto : ℕ) (ends : Ends) (tail : List Exchange) → EndsSaying ends tail → (exchanges : List Exchange) (w : Where) (at : Standing) (trace : Trace) → at ≡ standing_at w → Runs (machine_at w) trace →
     Dialogue auto ends at exchanges trace → SaysFrom (state_at w) (exchanges ++ tail)
 dialogues_say auto ends tail ending [] w at trace here run d = ending w at trace here run d
 dialogues_say auto ends tail ending (e ∷ exchanges) w at trace here run d =
-    let led : Leads w (heard e.0) e.1 d.1 d.3 = answers_so w at e d.0 d.1 d.3 here d.4 (subst (Runs (machine_at w)) d.5 run) in
+    let led : Leads w (parsed e.0) e.1 d.1 d.3 = answers_so w at e d.0 d.1 d.3 here d.4 (subst (Runs (machine_at w)) d.5 run) in
     says_next e (exchanges ++ tail) (state_at w) (state_at led.to) led.outcome
     (dialogues_say auto ends tail ending exchanges led.to d.3 d.2 led.standing (merged_between auto led.to d.1 d.2 d.6 led.runs) d.7)

@@ -44,7 +44,7 @@ actives begun (Some body) = (begun, body) ∷ []
 abbrev pub machine_at : Where → machine.State
 machine_at w = record { begun = w.begun; commits = w.commits; runs = w.runs; committed = w.committed; active = actives w.begun w.own }
 
-abbrev pub state_at : Where → say.State
+abbrev pub state_at : Where → say.DialogueState
 state_at w = record { begun = w.begun; commits = w.commits; runs = w.runs; committed = w.committed; own = option_map ops_of w.own; staged = w.staged }
 
 abbrev pub standing_at : Where → Standing
@@ -110,7 +110,7 @@ answer_answers op.Back d = back_answers d.saved
 pub record Counts (r : Reply) : Type 0 where
   pub found : wants_memory (Replied r) ≡ false
   pub effect : (t : ℕ) (op : Op) → effect_of_do t op r ≡ Answers t op r
-  pub did : (s : say.State) (ops : List Op) (op : Op) → state_did s ops op r ≡ record s { runs = s.runs + runs_made op r; own = Some (ops ++ op ∷ []) }
+  pub did : (s : say.DialogueState) (ops : List Op) (op : Op) → state_did s ops op r ≡ record s { runs = s.runs + runs_made op r; own = Some (ops ++ op ∷ []) }
   pub active : (a : Option ℕ) → active_after a r ≡ a
   pub staged : (rs : Records) → staged_after rs r ≡ rs
 

@@ -5,18 +5,18 @@ use Rattle.std.proofs.lemmas.List.{length-append}
 use Rattle.am_record.specs.Records.{Records}
 use Rattle.am_record.specs.Plain.{PlainMap}
 use Rattle.am_record.specs.declared.step.Op.{Op}
-use Rattle.am_talk.specs.Dues.{may_wait}
-use Rattle.am_talk.specs.Say.{State, response_due, state_heard}
+use Rattle.am_talk.specs.Actions.{may_wait}
+use Rattle.am_talk.specs.Say.{DialogueState, response_due, state_after_line}
 use Rattle.am_talk.specs.Staging.{all_of, stage, load, responses_to, state_behind, IsOneLoad}
-use Rattle.am_talk.specs.declared.lines.Heard.{Heard}
+use Rattle.am_talk.specs.declared.lines.ParsedLine.{ParsedLine}
 use Rattle.am_talk.specs.declared.response.Response.TheVariants.{Staged, TooManyStaged}
 
 module _ (begun commits runs : ℕ) (committed : PlainMap) (ops : List Op) where
   -- where these wait
-  abbrev at : Records → State
+  abbrev at : Records → DialogueState
   at staged = record { begun = begun; commits = commits; runs = runs; committed = committed; own = Some ops; staged = staged }
 
-  abbrev lines : List Records → Records → List Heard
+  abbrev lines : List Records → Records → List ParsedLine
   lines pieces last = map stage pieces ++ load last ∷ []
 
   -- as many as there are may wait
@@ -42,19 +42,19 @@ module _ (begun commits runs : ℕ) (committed : PlainMap) (ops : List Op) where
       ∙ ap (λ rs. Some Staged ∷ (map (λ _. Some Staged) pieces ++ response_due (at []) (load rs) ∷ [])) (regrouped staged records pieces last)
 
   pub leaves : (pieces : List Records) (staged last : Records) → length (staged ++ all_of pieces) ≤ 65536 →
-      state_behind (at staged) (lines pieces last) ≡ state_heard (at []) (load (staged ++ (all_of pieces ++ last)))
+      state_behind (at staged) (lines pieces last) ≡ state_after_line (at []) (load (staged ++ (all_of pieces ++ last)))
   leaves [] staged last few = refl
   leaves (records ∷ pieces) staged last few =
       let here = fits staged records pieces few in
       let later = leaves pieces (staged ++ records) last (one_more staged records pieces few) in
       (λ i. state_behind (cond (here i) (at (staged ++ records)) (at staged)) (lines pieces last))
       ∙ later
-      ∙ ap (λ rs. state_heard (at []) (load rs)) (regrouped staged records pieces last)
+      ∙ ap (λ rs. state_after_line (at []) (load rs)) (regrouped staged records pieces last)
 
-pub one_load : (s : State) (ops : List Op) (pieces : List Records) (last : Records) → s.own ≡ Some ops → s.staged ≡ [] → length (all_of pieces) ≤ 65536 → IsOneLoad s pieces last
+pub one_load : (s : DialogueState) (ops : List Op) (pieces : List Records) (last : Records) → s.own ≡ Some ops → s.staged ≡ [] → length (all_of pieces) ≤ 65536 → IsOneLoad s pieces last
 one_load s ops pieces last active empty few =
     let is : s ≡ at s.begun s.commits s.runs s.committed ops [] = λ i. record s { own = active i; staged = empty i } in
-    subst (λ (t : State). IsOneLoad t pieces last) (sym is) (record {
+    subst (λ (t : DialogueState). IsOneLoad t pieces last) (sym is) (record {
       answers = answers s.begun s.commits s.runs s.committed ops pieces [] last few;
       behind = leaves s.begun s.commits s.runs s.committed ops pieces [] last few;
     })

@@ -8,7 +8,7 @@ use Rattle.std.specs.FinMap.{get, empty, contains_key, insert, remove, entries, 
 use Rattle.std.specs.FinMap.Entries.{find, put, by_order}
 use Rattle.am_record.specs.OrderedKey.{OrderedKey, key_cmp, key_cmp-total, key_cmp-exact}
 use Rattle.am_record.specs.Records.{Records}
-use Rattle.am_record.specs.Plain.{PlainMap, Draft, rows_where, is_key_of, first_key, least_taken, found, exists_or_done, insert_all, load_where, answer, after, went_back, back, left_on}
+use Rattle.am_record.specs.Plain.{PlainMap, Draft, rows_where, is_key_of, first_key, least_taken, found, exists_or_done, insert_all, load_where, answer, draft_after, went_back, draft_back, left_on}
 use Rattle.am_record.specs.Interval.{within}
 use Rattle.am_record.specs.declared.step.Op.{Op}
 use Rattle.am_record.specs.declared.step.Op.TheVariants as op
@@ -132,11 +132,11 @@ loaded : (o : Option OrderedKey) (rows : Records) (m : PlainMap) → AllByRecurs
 loaded None rows m w h = all_inserted rows m w h
 loaded (Some k) rows m w h = h
 
-gone_back : (saved : List PlainMap) (d : Draft) → AllByRecursion IsVisibleMap saved → IsVisibleDraft d → IsVisibleDraft (back saved d)
+gone_back : (saved : List PlainMap) (d : Draft) → AllByRecursion IsVisibleMap saved → IsVisibleDraft d → IsVisibleDraft (draft_back saved d)
 gone_back [] d s h = h
 gone_back (m ∷ ms) d s h = (s.0, s.1)
 
-after_visible : (o : Op) (d : Draft) → WritesVisible o → IsVisibleDraft d → IsVisibleDraft (after o d)
+after_visible : (o : Op) (d : Draft) → WritesVisible o → IsVisibleDraft d → IsVisibleDraft (draft_after o d)
 after_visible (op.Get k) d w h = h
 after_visible (op.Scan range max) d w h = h
 after_visible (op.Insert k v) d w h = (either_map (contains_key d.map k) d.map (insert d.map k v) h.0 (insert_visible d.map k v w h.0), h.1)
@@ -149,4 +149,4 @@ after_visible op.Back d w h = gone_back d.saved d h.1 h
 
 pub left_visible : (ops : List Op) (d : Draft) → AllByRecursion WritesVisible ops → IsVisibleDraft d → IsVisibleDraft (left_on ops d)
 left_visible [] d w h = h
-left_visible (o ∷ ops) d w h = left_visible ops (after o d) w.1 (after_visible o d w.0 h)
+left_visible (o ∷ ops) d w h = left_visible ops (draft_after o d) w.1 (after_visible o d w.0 h)

@@ -5,12 +5,12 @@ use Rattle.am_record.specs.declared.step.Step.TheVariants as step
 use Rattle.am_record.specs.declared.step.Reply.{Reply}
 use Rattle.am_record.specs.declared.step.Reply.TheVariants as reply
 use Rattle.am_serial.specs.Trace.{Trace}
-use Rattle.am_talk.specs.Heard.{Line, MayHear}
-use Rattle.am_talk.specs.Session.{SessionState, behind}
-use Rattle.am_talk.specs.Dues.{MayBeDue}
-use Rattle.am_talk.specs.declared.lines.Heard.{Heard}
-use Rattle.am_talk.specs.declared.due.Due.{Due}
-use Rattle.am_talk.specs.declared.due.Due.TheVariants.{Answer, Take, TellSeen}
+use Rattle.am_talk.specs.ParsedLine.{Line, MayParse}
+use Rattle.am_talk.specs.Session.{SessionState, session_after}
+use Rattle.am_talk.specs.Actions.{IsActionFor}
+use Rattle.am_talk.specs.declared.lines.ParsedLine.{ParsedLine}
+use Rattle.am_talk.specs.declared.action.Action.{Action}
+use Rattle.am_talk.specs.declared.action.Action.TheVariants.{Answer, Take, TellSeen}
 use Rattle.am_talk.specs.declared.response.Response.{Response}
 use Rattle.am_talk.specs.declared.response.Response.TheVariants.{Replied, Seen}
 
@@ -28,10 +28,10 @@ abbrev pub Standing : Type 0
 Standing = SessionState × ℕ
 
 -- What was due was answered by this response, with these events; SEEN tells 0, a session alone, and the commits.
-abbrev pub AnsweredBy : Standing → Due → Response → Trace → Standing → Type 0
+abbrev pub AnsweredBy : Standing → Action → Response → Trace → Standing → Type 0
 AnsweredBy at (Answer due) response events at' = (response ≡ due) × (events ≡ []) × (at' ≡ at)
 AnsweredBy at (Take step) response events at' = (told : Reply) × (response ≡ Replied told) ×
-    (events ≡ (step, told) ∷ []) × (at' ≡ (behind at.0 told, commits_after at.1 step told))
+    (events ≡ (step, told) ∷ []) × (at' ≡ (session_after at.0 told, commits_after at.1 step told))
 AnsweredBy at TellSeen response events at' = (response ≡ Seen 0 at.1) × (events ≡ []) × (at' ≡ at)
 
 -- a merge follows each answer, unless `auto` is 0
@@ -47,7 +47,8 @@ Leaves (Some tx) events = events ≡ (step.Abort tx, reply.Aborted) ∷ []
 -- the line was answered by this response, with these events
 abbrev pub AnswersLine : Standing → Exchange → Trace → Standing → Type 0
 AnswersLine at e events at' =
-    (heard : Heard) × (what : Due) × (here : SessionState) × MayHear e.0 heard × MayBeDue at.0 heard what here ×
+    (parsed : ParsedLine) × (what : Action) × (here : SessionState) × MayParse e.0 parsed ×
+    IsActionFor at.0 parsed what here ×
     AnsweredBy (here, at.1) what e.1 events at'
 
 -- how a dialogue ends: all is answered, or the answer to one more line was torn, and no merge follows it

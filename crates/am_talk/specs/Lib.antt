@@ -1,6 +1,6 @@
-pub mod Heard
+pub mod ParsedLine
 pub mod Session
-pub mod Dues
+pub mod Actions
 pub mod Responses
 pub mod Dialogue
 pub mod Say

@@ -24,5 +24,5 @@ staged_after staged (Committed number) = []
 staged_after staged Aborted = []
 staged_after staged _ = staged
 
-abbrev pub behind : SessionState → Reply → SessionState
-behind s reply = record { active = active_after s.active reply; staged = staged_after s.staged reply }
+abbrev pub session_after : SessionState → Reply → SessionState
+session_after s reply = record { active = active_after s.active reply; staged = staged_after s.staged reply }

@@ -3,9 +3,9 @@ use Rattle.std.specs.Prelude.{◌≡◌, List, [], ◌∷◌, ◌++◌, map, Opt
 use Rattle.am_record.specs.Records.{Records}
 use Rattle.am_record.specs.declared.step.Op.TheVariants.{Load}
 use Rattle.am_wire.specs.declared.request.Request.TheVariants.{Do, Stage}
-use Rattle.am_talk.specs.Say.{State, response_due, state_heard}
-use Rattle.am_talk.specs.declared.lines.Heard.{Heard}
-use Rattle.am_talk.specs.declared.lines.Heard.TheVariants.{Asked}
+use Rattle.am_talk.specs.Say.{DialogueState, response_due, state_after_line}
+use Rattle.am_talk.specs.declared.lines.ParsedLine.{ParsedLine}
+use Rattle.am_talk.specs.declared.lines.ParsedLine.TheVariants.{Asked}
 use Rattle.am_talk.specs.declared.response.Response.{Response}
 use Rattle.am_talk.specs.declared.response.Response.TheVariants.{Staged}
 
@@ -14,24 +14,24 @@ abbrev pub all_of : List Records → Records
 all_of [] = []
 all_of (records ∷ lines) = records ++ all_of lines
 
-abbrev pub stage : Records → Heard
+abbrev pub stage : Records → ParsedLine
 stage records = Asked (Stage records)
 
-abbrev pub load : Records → Heard
+abbrev pub load : Records → ParsedLine
 load records = Asked (Do (Load records))
 
--- what is said to lines that were heard so, one after another, and where that leads
-abbrev pub responses_to : State → List Heard → List (Option Response)
+-- what is said to lines that were parsed so, one after another, and where that leads
+abbrev pub responses_to : DialogueState → List ParsedLine → List (Option Response)
 responses_to s [] = []
-responses_to s (heard ∷ lines) = response_due s heard ∷ responses_to (state_heard s heard) lines
+responses_to s (parsed ∷ lines) = response_due s parsed ∷ responses_to (state_after_line s parsed) lines
 
-abbrev pub state_behind : State → List Heard → State
+abbrev pub state_behind : DialogueState → List ParsedLine → DialogueState
 state_behind s [] = s
-state_behind s (heard ∷ lines) = state_behind (state_heard s heard) lines
+state_behind s (parsed ∷ lines) = state_behind (state_after_line s parsed) lines
 
 -- Each line that stages is answered OK, the load of the last records as one of all of them would be, and the session
 -- goes on as behind that one.
-pub record IsOneLoad (s : State) (staged : List Records) (last : Records) : Type 0 where
+pub record IsOneLoad (s : DialogueState) (staged : List Records) (last : Records) : Type 0 where
   pub answers : responses_to s (map stage staged ++ load last ∷ []) ≡ map (λ _. Some Staged) staged ++
       response_due s (load (all_of staged ++ last)) ∷ []
-  pub behind : state_behind s (map stage staged ++ load last ∷ []) ≡ state_heard s (load (all_of staged ++ last))
+  pub behind : state_behind s (map stage staged ++ load last ∷ []) ≡ state_after_line s (load (all_of staged ++ last))

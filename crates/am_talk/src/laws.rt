@@ -8,7 +8,7 @@ ghost use Rattle.am_wire.specs.Replies.{IsOneLine};
 ghost use Rattle.am_talk.specs.Responses.{response_text};
 ghost use Rattle.am_talk.specs.Dialogue.{Exchange, Dialogue, Whole, TornAt};
 ghost use Rattle.am_talk.specs.Session.{at_start};
-ghost use Rattle.am_talk.specs.Say.{State, Says, AreSay, StagesNothing, LosesNothing};
+ghost use Rattle.am_talk.specs.Say.{DialogueState, Says, AreSay, StagesNothing, LosesNothing};
 ghost use Rattle.am_talk.specs.Staging.{all_of, IsOneLoad};
 ghost use Rattle.am_record.specs.Records.{Records};
 ghost use Rattle.am_record.specs.declared.step.Op.{Op};
@@ -35,7 +35,7 @@ pub fn found_memory_is_said()
 
 /// Lines that stage records and load them are answered as one LOAD of all of them would be.
 pub fn staging_is_loading()
-    ensures { (s : State) (ops : List Op) (staged : List Records) (last : Records) →
+    ensures { (s : DialogueState) (ops : List Op) (staged : List Records) (last : Records) →
         s.own ≡ Some ops → s.staged ≡ [] → length (all_of staged) ≤ 65536 → IsOneLoad s staged last }
 {}
 

@@ -2,37 +2,37 @@
 
 ghost use Rattle.std.specs.Prelude.{◌≡◌};
 ghost use Rattle.am_wire.specs.Seen.{seen};
-ghost use Rattle.am_talk.specs.Heard.{MayHear, is_quit};
+ghost use Rattle.am_talk.specs.ParsedLine.{MayParse, is_quit};
 
 use am_wire::{LineFault, LineKind, Request, parse_line};
 use std::alloc::Global;
 
 /// What a line says.
 #[derive(Debug, PartialEq, Eq, Drop)]
-pub enum Heard {
+pub enum ParsedLine {
     Asked(Request),
     Faulty(LineFault),
     TooLong,
 }
 
 /// Reads a line that was cut from the input. Only the records that it brings take memory.
-pub fn hear(alloc: Global, kind: LineKind, line: &[u8]) -> Heard
-    ensures { MayHear (seen kind line.now) result }
+pub fn parse(alloc: Global, kind: LineKind, line: &[u8]) -> ParsedLine
+    ensures { MayParse (seen kind line.now) result }
 {
     match kind {
-        LineKind::Long => Heard::TooLong,
+        LineKind::Long => ParsedLine::TooLong,
         LineKind::Text => match parse_line(alloc, line) {
-            Ok(request) => Heard::Asked(request),
-            Err(fault) => Heard::Faulty(fault),
+            Ok(request) => ParsedLine::Asked(request),
+            Err(fault) => ParsedLine::Faulty(fault),
         },
     }
 }
 
-impl Heard {
+impl ParsedLine {
     /// Whether the session ends here.
     pub fn is_quit(&self) -> bool
         ensures { result ≡ is_quit self.now }
     {
-        matches!(self, Heard::Asked(Request::Quit))
+        matches!(self, ParsedLine::Asked(Request::Quit))
     }
 }

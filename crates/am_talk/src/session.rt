@@ -2,11 +2,11 @@
 
 ghost use Rattle.am_record.specs.Sessions.{active_after};
 ghost use Rattle.std.specs.Prelude.{◌≡◌, ◌≤◌, ℕ, Some, [], length};
-ghost use Rattle.am_talk.specs.Session.{at_start, behind};
-ghost use Rattle.am_talk.specs.Dues.{MayBeDue, MayBeAsked, MayStage, MayLoad, IsAllowedDue};
+ghost use Rattle.am_talk.specs.Session.{at_start, session_after};
+ghost use Rattle.am_talk.specs.Actions.{IsActionFor, IsActionForRequest, MayStage, MayLoad, IsAllowedAction};
 
-use crate::due::Due;
-use crate::lines::Heard;
+use crate::action::Action;
+use crate::lines::ParsedLine;
 use crate::response::Response;
 use am_record::{Key, NoMemory, Op, Pairs, Reply, Step, Value};
 use am_wire::{LineFault, Request};
@@ -59,21 +59,21 @@ impl Session {
 
     /// What is due for a line. A load takes with it what was staged. Only room for records that the line brings beside
     /// those staged takes memory; where it is refused, the line is answered so and nothing is changed.
-    pub fn due(&mut self, heard: Heard) -> Due
-        ensures due { MayBeDue self.old heard result self.new }
-        ensures allowed { IsAllowedDue self.old.active result }
+    pub fn action(&mut self, parsed: ParsedLine) -> Action
+        ensures action { IsActionFor self.old parsed result self.new }
+        ensures allowed { IsAllowedAction self.old.active result }
         ensures active { self.new.active ≡ self.old.active }
     {
-        match heard {
-            Heard::TooLong => Due::Answer(Response::TooLong),
-            Heard::Faulty(fault) => Due::Answer(Response::Faulty(fault)),
-            Heard::Asked(request) => self.due_for(request),
+        match parsed {
+            ParsedLine::TooLong => Action::Answer(Response::TooLong),
+            ParsedLine::Faulty(fault) => Action::Answer(Response::Faulty(fault)),
+            ParsedLine::Asked(request) => self.action_for_request(request),
         }
     }
 
     /// Goes on behind the reply to a step that was due.
     pub fn reply(&mut self, reply: &Reply)
-        ensures { self.new ≡ behind self.old reply.now }
+        ensures { self.new ≡ session_after self.old reply.now }
     {
         if matches!(reply, Reply::Committed(_) | Reply::Aborted) {
             let _ = self.take_staged();
@@ -82,51 +82,51 @@ impl Session {
     }
 
     // What is asked of the store itself needs no transaction. QUIT takes no step here: the session ends at it.
-    fn due_for(&mut self, request: Request) -> Due
-        ensures due { MayBeAsked self.old request result self.new }
-        ensures allowed { IsAllowedDue self.old.active result }
+    fn action_for_request(&mut self, request: Request) -> Action
+        ensures action { IsActionForRequest self.old request result self.new }
+        ensures allowed { IsAllowedAction self.old.active result }
     {
         match request {
             Request::Begin => match self.active {
-                None => Due::Take(Step::Begin),
-                Some(_) => Due::Answer(Response::Active),
+                None => Action::Take(Step::Begin),
+                Some(_) => Action::Answer(Response::Active),
             },
             Request::Do(op) => match self.active {
-                None => Due::Answer(Response::NoTransaction),
+                None => Action::Answer(Response::NoTransaction),
                 Some(tx) => self.operation(tx, op),
             },
             Request::Stage(records) => match self.active {
-                None => Due::Answer(Response::NoTransaction),
-                Some(_) => Due::Answer(self.stage(records)),
+                None => Action::Answer(Response::NoTransaction),
+                Some(_) => Action::Answer(self.stage(records)),
             },
             Request::Commit => match self.active {
-                None => Due::Answer(Response::NoTransaction),
-                Some(_) if !self.staged.is_empty() => Due::Answer(Response::StillStaged),
-                Some(tx) => Due::Take(Step::Commit(tx)),
+                None => Action::Answer(Response::NoTransaction),
+                Some(_) if !self.staged.is_empty() => Action::Answer(Response::StillStaged),
+                Some(tx) => Action::Take(Step::Commit(tx)),
             },
             Request::Abort => match self.active {
-                None => Due::Answer(Response::NoTransaction),
-                Some(tx) => Due::Take(Step::Abort(tx)),
+                None => Action::Answer(Response::NoTransaction),
+                Some(tx) => Action::Take(Step::Abort(tx)),
             },
-            Request::Merge(limit) => Due::Take(Step::Merge(limit)),
-            Request::Clean(range, limit) => Due::Take(Step::Clean(range, limit)),
-            Request::Seen => Due::TellSeen,
-            Request::Quit => Due::Answer(Response::NoTransaction),
+            Request::Merge(limit) => Action::Take(Step::Merge(limit)),
+            Request::Clean(range, limit) => Action::Take(Step::Clean(range, limit)),
+            Request::Seen => Action::TellSeen,
+            Request::Quit => Action::Answer(Response::NoTransaction),
         }
     }
 
     // An operation of the active transaction.
-    fn operation(&mut self, tx: u64, op: Op) -> Due
+    fn operation(&mut self, tx: u64, op: Op) -> Action
         requires { self.old.active ≡ Some tx }
-        ensures due { MayBeAsked self.old (Request.Do op) result self.new }
-        ensures allowed { IsAllowedDue self.old.active result }
+        ensures action { IsActionForRequest self.old (Request.Do op) result self.new }
+        ensures allowed { IsAllowedAction self.old.active result }
     {
         match op {
             Op::Load(records) => match self.load(records) {
-                Ok(all) => Due::Take(Step::Do(tx, Op::Load(all))),
-                Err(NoMemory) => Due::Answer(Response::Faulty(LineFault::NoMemory)),
+                Ok(all) => Action::Take(Step::Do(tx, Op::Load(all))),
+                Err(NoMemory) => Action::Answer(Response::Faulty(LineFault::NoMemory)),
             },
-            _ => Due::Take(Step::Do(tx, op)),
+            _ => Action::Take(Step::Do(tx, op)),
         }
     }
 

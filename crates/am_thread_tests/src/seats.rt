@@ -3,7 +3,7 @@
 ghost use Rattle.std.specs.Prelude.{◌≡◌};
 
 use am_audit::check;
-use am_latch::{Blank, Latch, Naming, Seat, close, was_refused};
+use am_latch::{Blank, Latch, LatchName, Seat, close, was_refused};
 use am_record::{Key, Op, Refusal, Reply, Step, Value};
 use std::alloc::Global;
 use std::marker::Brand;
@@ -14,7 +14,7 @@ use std::thread;
 use std::thread::Threads;
 
 // A transaction that inserts the key. Whether no call was refused.
-fn inserts<L: Naming, R: Wait>(rt: &R, latch: &Latch<L>, seat: &mut Seat<L>, key: u64) -> bool {
+fn inserts<L: LatchName, R: Wait>(rt: &R, latch: &Latch<L>, seat: &mut Seat<L>, key: u64) -> bool {
     if seat.open_tx().is_some() || was_refused(&seat.call(rt, latch, Step::Begin)) {
         return false;
     }
@@ -32,7 +32,7 @@ fn inserts<L: Naming, R: Wait>(rt: &R, latch: &Latch<L>, seat: &mut Seat<L>, key
 }
 
 // The keys from there on, a hundred.
-fn insert_all<L: Naming, R: Wait>(
+fn insert_all<L: LatchName, R: Wait>(
     rt: &R,
     latch: &Latch<L>,
     mut seat: Seat<L>,
@@ -45,7 +45,7 @@ fn insert_all<L: Naming, R: Wait>(
     (seat, fine)
 }
 
-fn by_two_threads<L: Naming + Send + Sync, R: Threads + Wait + Abort + Sync>(
+fn by_two_threads<L: LatchName + Send + Sync, R: Threads + Wait + Abort + Sync>(
     rt: &R,
     alloc: Global,
     blank: Blank,
@@ -85,7 +85,7 @@ fn two_seats_on_two_threads(rt: HostRuntime) -> Result<(), Fail> {
     by_two_threads::<Brand, HostRuntime>(&rt, rt.alloc(), Blank::new(rt.alloc(), 2)?)
 }
 
-fn without_one<L: Naming, R: Abort>(rt: &R, blank: Blank) -> Result<(), Fail>
+fn without_one<L: LatchName, R: Abort>(rt: &R, blank: Blank) -> Result<(), Fail>
     requires { (blank.seats ≡ L.seats) × (blank.table ≡ L.table) }
 {
     let (latch, mut seats) = Latch::<L>::open(blank)?;
@@ -110,7 +110,7 @@ fn a_missing_seat_is_told(rt: HostRuntime) -> Result<(), Fail> {
 }
 
 // How each of the seats is answered that begins a transaction.
-fn begun_by_all<L: Naming, R: Wait + Abort>(
+fn begun_by_all<L: LatchName, R: Wait + Abort>(
     rt: &R,
     alloc: Global,
     blank: Blank,
@@ -140,7 +140,10 @@ fn sixty_five_seats_of_one_latch(rt: HostRuntime) -> Result<(), Fail> {
 
 // Where no room may be had for so many receipts, as in a seat that holds its most: the transaction that is open still
 // ends.
-fn filled<L: Naming, R: Wait + Abort>(rt: &R, blank: Blank) -> Result<(usize, Reply, Reply), Fail>
+fn filled<L: LatchName, R: Wait + Abort>(
+    rt: &R,
+    blank: Blank,
+) -> Result<(usize, Reply, Reply), Fail>
     requires { (blank.seats ≡ L.seats) × (blank.table ≡ L.table) }
 {
     let (latch, mut seats) = Latch::<L>::open(blank)?;

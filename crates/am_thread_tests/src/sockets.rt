@@ -1,6 +1,6 @@
 //! Clients of a server, over sockets.
 
-use am_listen::{Served, bind};
+use am_listen::{ServerRun, bind};
 use std::io::{Read, Write};
 use std::net::{Ipv4Addr, Net, Shutdown, TcpListener, TcpStream};
 use std::test::Fail;
@@ -35,7 +35,7 @@ fn two_clients_beside_a_worker(rt: HostRuntime) -> Result<(), Fail> {
     let bound = bind(&rt, 0).ok().ok_or("no port")?;
     let port = bound.port();
     let (served, said) = thread::join(&rt, || bound.serve(&rt, 2, 1), || ask_twice(&rt, port));
-    let Served {
+    let ServerRun {
         trace,
         commits,
         accepted_all,

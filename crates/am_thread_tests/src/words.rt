@@ -1,9 +1,9 @@
 //! The two shared words.
 
 ghost use Rattle.std.specs.Prelude.{◌≡◌};
-ghost use Rattle.am_words.specs.Words.{newcomer};
+ghost use Rattle.am_words.specs.Words.{new_history};
 
-use am_latch::{Blank, Latch, Naming, Seat, was_refused};
+use am_latch::{Blank, Latch, LatchName, Seat, was_refused};
 use am_record::Step;
 use am_words::{WordSeat, Words};
 use std::marker::Brand;
@@ -49,20 +49,20 @@ struct Signals {
 fn draw_and_see<R: Clock>(
     rt: &R,
     words: &Words,
-    hand: &mut WordSeat,
+    word_seat: &mut WordSeat,
     signals: &Signals,
 ) -> (Option<u64>, u64)
-    requires { hand.old.of ≡ words.now }
+    requires { word_seat.old.of ≡ words.now }
 {
     let _ = comes(rt, &signals.is_held);
-    let drawn = words.draw(hand);
-    let seen = words.seen(hand);
+    let drawn = words.draw(word_seat);
+    let seen = words.seen(word_seat);
     signals.may_go.store(true, Ordering::SeqCst);
     (drawn, seen)
 }
 
 // Holds the latch until it may let go. Whether it was told to.
-fn hold<L: Naming, R: Wait + Clock>(rt: &R, latch: &Latch<L>, signals: &Signals) -> bool {
+fn hold<L: LatchName, R: Wait + Clock>(rt: &R, latch: &Latch<L>, signals: &Signals) -> bool {
     latch.look(rt, |_| {
         signals.is_held.store(true, Ordering::SeqCst);
         comes(rt, &signals.may_go)
@@ -70,14 +70,14 @@ fn hold<L: Naming, R: Wait + Clock>(rt: &R, latch: &Latch<L>, signals: &Signals)
 }
 
 // Draws and looks while another thread holds the latch. What it drew, what it saw, and whether the latch was held.
-fn beside_the_latch<L: Naming + Send + Sync, R: Threads + Wait + Clock + Sync>(
+fn beside_the_latch<L: LatchName + Send + Sync, R: Threads + Wait + Clock + Sync>(
     rt: &R,
     blank: Blank,
     words: &Words,
-    hand: &mut WordSeat,
+    word_seat: &mut WordSeat,
 ) -> Result<(Option<u64>, u64, bool), Fail>
     requires named { (blank.seats ≡ L.seats) × (blank.table ≡ L.table) }
-    requires hand { hand.old.of ≡ words.now }
+    requires word_seat { word_seat.old.of ≡ words.now }
 {
     let (latch, _seats) = Latch::<L>::open(blank)?;
     let signals = Signals {
@@ -88,24 +88,24 @@ fn beside_the_latch<L: Naming + Send + Sync, R: Threads + Wait + Clock + Sync>(
         rt,
         || hold(rt, &latch, &signals),
         ||
-            requires { hand.now.of ≡ words.now }
-        { draw_and_see(rt, words, hand, &signals) },
+            requires { word_seat.now.of ≡ words.now }
+        { draw_and_see(rt, words, word_seat, &signals) },
     );
     Ok((drawn, seen, went))
 }
 
 #[test]
 fn words_while_the_latch_is_held(rt: HostRuntime) -> Result<(), Fail> {
-    let (words, mut hands) = Words::open(rt.alloc(), 1)?;
-    let mut hand = hands.pop().ok_or("no seat")?;
+    let (words, mut word_seats) = Words::open(rt.alloc(), 1)?;
+    let mut word_seat = word_seats.pop().ok_or("no seat")?;
     let blank = Blank::new(rt.alloc(), 1)?;
-    let found = beside_the_latch::<Brand, HostRuntime>(&rt, blank, &words, &mut hand)?;
+    let found = beside_the_latch::<Brand, HostRuntime>(&rt, blank, &words, &mut word_seat)?;
     assert_eq!(rt; found, (Some(0), 0, true));
     Ok(())
 }
 
 // One transaction that does nothing. Whether it committed.
-fn commits<L: Naming, R: Wait>(rt: &R, latch: &Latch<L>, seat: &mut Seat<L>) -> bool {
+fn commits<L: LatchName, R: Wait>(rt: &R, latch: &Latch<L>, seat: &mut Seat<L>) -> bool {
     if seat.open_tx().is_some() || was_refused(&seat.call(rt, latch, Step::Begin)) {
         return false;
     }
@@ -116,15 +116,15 @@ fn commits<L: Naming, R: Wait>(rt: &R, latch: &Latch<L>, seat: &mut Seat<L>) -> 
 }
 
 // Publishes the last of three commits. What another seat of the words saw before and afterwards, and then the own one.
-fn publishes_the_third<L: Naming, R: Wait + Abort>(
+fn publishes_the_third<L: LatchName, R: Wait + Abort>(
     rt: &R,
     blank: Blank,
     words: &Words,
-    hand: &mut WordSeat,
+    word_seat: &mut WordSeat,
     other: &mut WordSeat,
 ) -> Result<(u64, u64, u64), Fail>
     requires named { (blank.seats ≡ L.seats) × (blank.table ≡ L.table) }
-    requires hands { (hand.old.of ≡ words.now) × (other.old.of ≡ words.now) }
+    requires word_seats { (word_seat.old.of ≡ words.now) × (other.old.of ≡ words.now) }
 {
     let (latch, mut seats) = Latch::<L>::open(blank)?;
     let mut seat = seats.pop().ok_or("no seat")?;
@@ -133,18 +133,22 @@ fn publishes_the_third<L: Naming, R: Wait + Abort>(
     }
     let receipt = seat.last_commit().ok_or("no commit")?;
     let before = words.seen(other);
-    words.publish(hand, &receipt);
-    Ok((before, words.seen(other), words.seen(hand)))
+    words.publish(word_seat, &receipt);
+    Ok((before, words.seen(other), words.seen(word_seat)))
 }
 
 #[test]
 fn publish_then_seen(rt: HostRuntime) -> Result<(), Fail> {
-    let (words, mut hands) = Words::open(rt.alloc(), 2)?;
-    let mut other = hands.pop().ok_or("no seat")?;
-    let mut hand = hands.pop().ok_or("no seat")?;
+    let (words, mut word_seats) = Words::open(rt.alloc(), 2)?;
+    let mut other = word_seats.pop().ok_or("no seat")?;
+    let mut word_seat = word_seats.pop().ok_or("no seat")?;
     let blank = Blank::new(rt.alloc(), 1)?;
     let seen = publishes_the_third::<Brand, HostRuntime>(
-        &rt, blank, &words, &mut hand, &mut other,
+        &rt,
+        blank,
+        &words,
+        &mut word_seat,
+        &mut other,
     )?;
     assert_eq!(rt; seen, (0, 3, 3));
     Ok(())

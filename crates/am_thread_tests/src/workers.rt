@@ -2,9 +2,9 @@
 
 ghost use Rattle.std.specs.Prelude.{◌≡◌};
 
-use am_latch::{Blank, Latch, Naming, Seat, close};
+use am_latch::{Blank, Latch, LatchName, Seat, close};
 use am_record::{Key, Lock, Mode, Op, Pairs, Range, Refusal, Reply, Step, Value};
-use am_workers::{Gate, run_workers};
+use am_workers::{Pacer, run_workers};
 use std::alloc::Global;
 use std::marker::Brand;
 use std::process::Abort;
@@ -42,8 +42,8 @@ impl<'a, C: Clock> Meeting<'a, C> {
     }
 }
 
-impl<'a, C: Clock> Gate for Meeting<'a, C> {
-    fn pass<R: Wait>(&self, _rt: &R, worker: u32, turn: u64) -> bool {
+impl<'a, C: Clock> Pacer for Meeting<'a, C> {
+    fn await_turn<R: Wait>(&self, _rt: &R, worker: u32, turn: u64) -> bool {
         if turn == 0 {
             self.meets(worker)
         } else {
@@ -52,7 +52,7 @@ impl<'a, C: Clock> Gate for Meeting<'a, C> {
     }
 }
 
-fn by_two_workers<L: Naming + Send + Sync, R: Threads + Wait + Clock + Abort + Sync>(
+fn by_two_workers<L: LatchName + Send + Sync, R: Threads + Wait + Clock + Abort + Sync>(
     rt: &R,
     blank: Blank,
 ) -> Result<(), Fail>
@@ -78,20 +78,20 @@ fn workers_at_the_same_time(rt: HostRuntime) -> Result<(), Fail> {
 
 struct Always;
 
-impl Gate for Always {
-    fn pass<R: Wait>(&self, _rt: &R, _worker: u32, _turn: u64) -> bool {
+impl Pacer for Always {
+    fn await_turn<R: Wait>(&self, _rt: &R, _worker: u32, _turn: u64) -> bool {
         true
     }
 }
 
-fn begin<L: Naming, R: Wait>(rt: &R, latch: &Latch<L>, seat: &mut Seat<L>) {
+fn begin<L: LatchName, R: Wait>(rt: &R, latch: &Latch<L>, seat: &mut Seat<L>) {
     if seat.open_tx().is_none() {
         seat.call(rt, latch, Step::Begin);
     }
 }
 
 // What the operation is answered in the transaction that is open in the seat.
-fn answer_of<L: Naming, R: Wait + Abort>(
+fn answer_of<L: LatchName, R: Wait + Abort>(
     rt: &R,
     latch: &Latch<L>,
     seat: &mut Seat<L>,
@@ -103,7 +103,7 @@ fn answer_of<L: Naming, R: Wait + Abort>(
     seat.call(rt, latch, Step::Do(tx, op))
 }
 
-fn commit<L: Naming, R: Wait + Abort>(rt: &R, latch: &Latch<L>, seat: &mut Seat<L>) {
+fn commit<L: LatchName, R: Wait + Abort>(rt: &R, latch: &Latch<L>, seat: &mut Seat<L>) {
     let Some(tx) = seat.open_tx() else {
         panic!(rt; "no transaction is open")
     };
@@ -112,7 +112,7 @@ fn commit<L: Naming, R: Wait + Abort>(rt: &R, latch: &Latch<L>, seat: &mut Seat<
 }
 
 // Three runs of one record each.
-fn load_three<L: Naming, R: Wait + Abort>(
+fn load_three<L: LatchName, R: Wait + Abort>(
     rt: &R,
     alloc: Global,
     latch: &Latch<L>,
@@ -130,7 +130,7 @@ fn load_three<L: Naming, R: Wait + Abort>(
 }
 
 // A scan over all three, which asks for them.
-fn scan_three<L: Naming, R: Wait + Abort>(
+fn scan_three<L: LatchName, R: Wait + Abort>(
     rt: &R,
     latch: &Latch<L>,
     seat: &mut Seat<L>,
@@ -145,7 +145,7 @@ fn scan_three<L: Naming, R: Wait + Abort>(
     Ok(())
 }
 
-fn by_one_worker<L: Naming + Send + Sync, R: Threads + Wait + Abort + Sync>(
+fn by_one_worker<L: LatchName + Send + Sync, R: Threads + Wait + Abort + Sync>(
     rt: &R,
     alloc: Global,
     blank: Blank,
@@ -174,7 +174,7 @@ fn moves_come_back(rt: HostRuntime) -> Result<(), Fail> {
 }
 
 // Turns of a worker on a store with nothing to merge, by this limit. What it was answered.
-fn answers_of_one_worker<L: Naming + Send + Sync, R: Threads + Wait + Abort + Sync>(
+fn answers_of_one_worker<L: LatchName + Send + Sync, R: Threads + Wait + Abort + Sync>(
     rt: &R,
     alloc: Global,
     blank: Blank,
@@ -223,7 +223,7 @@ fn a_full_seat_ends_a_worker(rt: HostRuntime) -> Result<(), Fail> {
 }
 
 // How many turns so many seats have had in all, where each is to have two.
-fn turns_of<L: Naming + Send + Sync, R: Threads + Wait + Abort + Sync>(
+fn turns_of<L: LatchName + Send + Sync, R: Threads + Wait + Abort + Sync>(
     rt: &R,
     blank: Blank,
 ) -> Result<u64, Fail>
@@ -248,7 +248,7 @@ fn all_seats_have_their_turns(rt: HostRuntime) -> Result<(), Fail> {
 }
 
 // A locked record ends a merge, and the worker goes on behind that.
-fn behind_a_locked_record<L: Naming + Send + Sync, R: Threads + Wait + Abort + Sync>(
+fn behind_a_locked_record<L: LatchName + Send + Sync, R: Threads + Wait + Abort + Sync>(
     rt: &R,
     alloc: Global,
     blank: Blank,

@@ -24,13 +24,6 @@ nothing : {A : Type 0} (o : Option A) (f : ℕ × A → A) → option_map f (opt
 nothing None f = refl
 nothing (Some x) f = refl
 
-pub read_bad : (digits bytes : List ℕ) (high low : ℕ) (rest : List ℕ) → IsRead digits bytes (high ∷ low ∷ rest) → byte_in high low ≡ None → value_for_digits digits ≡ None
-read_bad digits bytes high low rest h e =
-    ap (option_and_then value_for) (h ∙ ap (λ o. option_map (λ (more : List ℕ). bytes ++ more) (option_map with_byte (option_zip o (bytes_for rest)))) e ∙ ap (option_map (λ (more : List ℕ). bytes ++ more)) (nothing (bytes_for rest) with_byte))
-
-pub read_odd : (digits bytes : List ℕ) (high : ℕ) → IsRead digits bytes (high ∷ []) → value_for_digits digits ≡ None
-read_odd digits bytes high h = ap (option_and_then value_for) h
-
 pub read_all : (digits bytes : List ℕ) → IsRead digits bytes [] → length bytes ≤ 64 → value_for_digits digits ≡ Some bytes
 read_all digits bytes h short =
     ap (option_and_then value_for) (h ∙ ap (λ b. Some b) (append-nil bytes)) ∙ cond-true (leb (length bytes) 64) (Some bytes) None (grind (arith, nat_tests))

@@ -27,7 +27,7 @@ use Rattle.am_trace.specs.Words.{hex, key_word, record_word}
 use Rattle.am_trace.specs.Bounds.{IsNumber, IsKey, IsValue, AreRecords}
 use Rattle.am_trace.specs.Steps.{verb_of, argument_fields, step_fields, IsOp, IsStep}
 use Rattle.am_trace.specs.Replies.{refusal_fields, reply_fields, IsRefusal, IsReply}
-use Rattle.am_trace.specs.Lines.{Event, IsEvent, AreEvents, step_words, reply_words, event_words, ended, event_lines, trace_text, BeginsNoEvent, IsBadLine}
+use Rattle.am_trace.specs.Lines.{Event, IsEvent, AreEvents, step_words, reply_words, event_words, with_lf, event_lines, trace_text, BeginsNoEvent, IsBadLine}
 use Rattle.am_trace.specs.Reading.{step_in, reply_in, parts_in, Gives}
 use Rattle.am_trace.specs.declared.read.ReadFault.{ReadFault}
 use Rattle.am_trace.specs.declared.read.ReadFault.TheVariants.{Bad, NoMemory}
@@ -266,7 +266,7 @@ module _ (laws : LineLaws) where
   -- ---- lines
 
   -- the line that a text begins with
-  pub first_line : (v : Version) (line further : List ℕ) (e : Event) (more : List ℕ) → has_no 10 line ≡ true → IsEvent v e → line ++ 10 ∷ further ≡ ended (event_words v e) ++ more → (line ≡ event_words v e) × (further ≡ more)
+  pub first_line : (v : Version) (line further : List ℕ) (e : Event) (more : List ℕ) → has_no 10 line ≡ true → IsEvent v e → line ++ 10 ∷ further ≡ with_lf (event_words v e) ++ more → (line ≡ event_words v e) × (further ≡ more)
   first_line v line further e more none h same =
       one_cut 10 line further (event_words v e) more none (no_lf laws v e h) (same ∙ append_assoc (event_words v e) (10 ∷ []) more)
 
@@ -279,11 +279,11 @@ module _ (laws : LineLaws) where
   -- two lists of events with one text, behind which no event begins, are one
   pub one_list : (v : Version) (a b : List Event) (r s : List ℕ) → AreEvents v a → AreEvents v b → BeginsNoEvent v r → BeginsNoEvent v s → event_lines v a ++ r ≡ event_lines v b ++ s → (a ≡ b) × (r ≡ s)
   one_list v [] [] r s h k p q e = (refl, e)
-  one_list v [] (f ∷ b) r s h k p q e = absurd (p f (event_lines v b ++ s) k.0 (e ∙ append_assoc (ended (event_words v f)) (event_lines v b) s))
-  one_list v (d ∷ a) [] r s h k p q e = absurd (q d (event_lines v a ++ r) h.0 (sym e ∙ append_assoc (ended (event_words v d)) (event_lines v a) r))
+  one_list v [] (f ∷ b) r s h k p q e = absurd (p f (event_lines v b ++ s) k.0 (e ∙ append_assoc (with_lf (event_words v f)) (event_lines v b) s))
+  one_list v (d ∷ a) [] r s h k p q e = absurd (q d (event_lines v a ++ r) h.0 (sym e ∙ append_assoc (with_lf (event_words v d)) (event_lines v a) r))
   one_list v (d ∷ a) (f ∷ b) r s h k p q e =
-      let left : event_lines v (d ∷ a) ++ r ≡ event_words v d ++ 10 ∷ (event_lines v a ++ r) = append_assoc (ended (event_words v d)) (event_lines v a) r ∙ append_assoc (event_words v d) (10 ∷ []) (event_lines v a ++ r) in
-      let right : event_lines v (f ∷ b) ++ s ≡ event_words v f ++ 10 ∷ (event_lines v b ++ s) = append_assoc (ended (event_words v f)) (event_lines v b) s ∙ append_assoc (event_words v f) (10 ∷ []) (event_lines v b ++ s) in
+      let left : event_lines v (d ∷ a) ++ r ≡ event_words v d ++ 10 ∷ (event_lines v a ++ r) = append_assoc (with_lf (event_words v d)) (event_lines v a) r ∙ append_assoc (event_words v d) (10 ∷ []) (event_lines v a ++ r) in
+      let right : event_lines v (f ∷ b) ++ s ≡ event_words v f ++ 10 ∷ (event_lines v b ++ s) = append_assoc (with_lf (event_words v f)) (event_lines v b) s ∙ append_assoc (event_words v f) (10 ∷ []) (event_lines v b ++ s) in
       let first = one_cut 10 (event_words v d) (event_lines v a ++ r) (event_words v f) (event_lines v b ++ s) (no_lf laws v d h.0) (no_lf laws v f k.0) (sym left ∙ e ∙ right) in
       let same = one_event v d f h.0 k.0 first.0 in
       let more = one_list v a b r s h.1 k.1 p q first.1 in
@@ -313,11 +313,3 @@ module _ (laws : LineLaws) where
   given_bad v line step reply (Err Bad) h g b e is same =
       let none : None ≡ Some e = sym g ∙ parts_read v line step reply e h is same in
       cc
-
--- a text whose next line is bad
-pub bad_line : (v : Version) (text rest : List ℕ) (trace : List Event) (n : ℕ) → AreEvents v trace → text ≡ trace_text v trace ++ rest → rest ≢ [] → BeginsNoEvent v rest → n ≡ length trace + 2 → IsBadLine text n
-bad_line v text rest trace n events spelled some bad e = inr (trace, e, record { version = v; events = events; rest = rest; spelled = spelled; some = some; bad = bad })
-
-pub some_line : (line further rest : List ℕ) → rest ≡ line ++ 10 ∷ further → rest ≢ []
-some_line [] further rest e f = cc
-some_line (b ∷ line) further rest e f = cc

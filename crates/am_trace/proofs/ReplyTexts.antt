@@ -16,7 +16,7 @@ use Rattle.am_trace.specs.Words.{hex, key_word, record_word}
 use Rattle.am_trace.specs.Bounds.{IsNumber, IsKey, IsValue, AreRecords}
 use Rattle.am_trace.specs.Replies.{refusal_fields, reply_fields, IsRefusal, IsReply}
 use Rattle.am_trace.specs.ReplyWords.{word_text, word_for}
-use Rattle.am_trace.specs.Reading.{number_in, run_in, key_in, value_in, records_in, nothing_in, one_number_in, one_key_in, one_value_in, key_and_number_in, number_and_run_in, counted, counted_records_in, refusal_for, refusal_in, savepoint_in, reply_of, reply_with, reply_in}
+use Rattle.am_trace.specs.Reading.{number_in, run_in, key_in, value_in, records_in, nothing_in, one_number_in, one_key_in, one_value_in, key_and_number_in, number_and_run_in, if_counted, counted_records_in, refusal_for, refusal_read, savepoint_in, reply_of, reply_with, reply_in}
 use Rattle.am_trace.specs.declared.version.Version.{Version}
 use Rattle.am_trace.specs.declared.word.Word.{Word}
 use Rattle.am_trace.specs.declared.word.Word.TheVariants as word
@@ -40,7 +40,7 @@ chosen f text r out rest here there =
 error_back : (f : List ℕ) (out : Refusal) → refusal_for f ≡ Some out → IsErrorOf (f ∷ []) out
 error_back f out = (chosen f (codes "NOTX") refusal.NoSuchTx out (cond (bytes_eq f (codes "TXS")) (Some refusal.TooManyTx) (cond (bytes_eq f (codes "LOCKS")) (Some refusal.TooManyLocks) (cond (bytes_eq f (codes "OPS")) (Some refusal.TooManyOps) (cond (bytes_eq f (codes "RUNS")) (Some refusal.TooManyRuns) (cond (bytes_eq f (codes "ORDER")) (Some refusal.NotRising) (cond (bytes_eq f (codes "LIMIT")) (Some refusal.BadLimit) (cond (bytes_eq f (codes "MEMORY")) (Some refusal.NoMemory) None))))))) (λ e. (tt, ap (λ (x : List ℕ). codes "ERR" ∷ x ∷ []) e)) (chosen f (codes "TXS") refusal.TooManyTx out (cond (bytes_eq f (codes "LOCKS")) (Some refusal.TooManyLocks) (cond (bytes_eq f (codes "OPS")) (Some refusal.TooManyOps) (cond (bytes_eq f (codes "RUNS")) (Some refusal.TooManyRuns) (cond (bytes_eq f (codes "ORDER")) (Some refusal.NotRising) (cond (bytes_eq f (codes "LIMIT")) (Some refusal.BadLimit) (cond (bytes_eq f (codes "MEMORY")) (Some refusal.NoMemory) None)))))) (λ e. (tt, ap (λ (x : List ℕ). codes "ERR" ∷ x ∷ []) e)) (chosen f (codes "LOCKS") refusal.TooManyLocks out (cond (bytes_eq f (codes "OPS")) (Some refusal.TooManyOps) (cond (bytes_eq f (codes "RUNS")) (Some refusal.TooManyRuns) (cond (bytes_eq f (codes "ORDER")) (Some refusal.NotRising) (cond (bytes_eq f (codes "LIMIT")) (Some refusal.BadLimit) (cond (bytes_eq f (codes "MEMORY")) (Some refusal.NoMemory) None))))) (λ e. (tt, ap (λ (x : List ℕ). codes "ERR" ∷ x ∷ []) e)) (chosen f (codes "OPS") refusal.TooManyOps out (cond (bytes_eq f (codes "RUNS")) (Some refusal.TooManyRuns) (cond (bytes_eq f (codes "ORDER")) (Some refusal.NotRising) (cond (bytes_eq f (codes "LIMIT")) (Some refusal.BadLimit) (cond (bytes_eq f (codes "MEMORY")) (Some refusal.NoMemory) None)))) (λ e. (tt, ap (λ (x : List ℕ). codes "ERR" ∷ x ∷ []) e)) (chosen f (codes "RUNS") refusal.TooManyRuns out (cond (bytes_eq f (codes "ORDER")) (Some refusal.NotRising) (cond (bytes_eq f (codes "LIMIT")) (Some refusal.BadLimit) (cond (bytes_eq f (codes "MEMORY")) (Some refusal.NoMemory) None))) (λ e. (tt, ap (λ (x : List ℕ). codes "ERR" ∷ x ∷ []) e)) (chosen f (codes "ORDER") refusal.NotRising out (cond (bytes_eq f (codes "LIMIT")) (Some refusal.BadLimit) (cond (bytes_eq f (codes "MEMORY")) (Some refusal.NoMemory) None)) (λ e. (tt, ap (λ (x : List ℕ). codes "ERR" ∷ x ∷ []) e)) (chosen f (codes "LIMIT") refusal.BadLimit out (cond (bytes_eq f (codes "MEMORY")) (Some refusal.NoMemory) None) (λ e. (tt, ap (λ (x : List ℕ). codes "ERR" ∷ x ∷ []) e)) (chosen f (codes "MEMORY") refusal.NoMemory out None (λ e. (tt, ap (λ (x : List ℕ). codes "ERR" ∷ x ∷ []) e)) (λ e. cc)))))))))
 
-refusal_back : (fs : List (List ℕ)) (out : Refusal) → refusal_in fs ≡ Some out → IsErrorOf fs out
+refusal_back : (fs : List (List ℕ)) (out : Refusal) → refusal_read fs ≡ Some out → IsErrorOf fs out
 refusal_back [] out e = cc
 refusal_back (f ∷ []) out e = error_back f out e
 refusal_back (f ∷ g ∷ fs) out e = cc
@@ -60,13 +60,13 @@ module _ (laws : WordLaws) where
 
   counted_there : (v : Version) (rs : Records) → AreCounted v rs → counted_records_in v (decimal (length rs) ∷ map (record_word v) rs) ≡ Some rs
   counted_there v rs h =
-      ap (option_and_then counted) (zip_of (number_in (decimal (length rs))) (records_in v (map (record_word v) rs)) (length rs) rs ((number_text laws.numbers).there (length rs) h.1) ((records laws v).there rs h.0))
+      ap (option_and_then if_counted) (zip_of (number_in (decimal (length rs))) (records_in v (map (record_word v) rs)) (length rs) rs ((number_text laws.numbers).there (length rs) h.1) ((records laws v).there rs h.0))
       ∙ cond-true (eqb (length rs) (length rs)) (Some rs) None (grind (arith, nat_tests))
 
   counted_back : (v : Version) (fs : List (List ℕ)) (rs : Records) → counted_records_in v fs ≡ Some rs → AreCounted v rs × (fs ≡ decimal (length rs) ∷ map (record_word v) rs)
   counted_back v [] rs e = cc
   counted_back v (f ∷ fs) rs e =
-      let m = chained counted (option_zip (number_in f) (records_in v fs)) rs e in
+      let m = chained if_counted (option_zip (number_in f) (records_in v fs)) rs e in
       let z = zipped (number_in f) (records_in v fs) m.0 m.1 in
       let g = gate (eqb (length m.0.1) m.0.0) (Some m.0.1) rs m.2 in
       let same : m.0.1 ≡ rs = same_some m.0.1 rs g.1 in
@@ -128,7 +128,7 @@ module _ (laws : WordLaws) where
   of_back v word.Ended fs r e = let m = mapped (λ (p : OrderedKey × ℕ). reply.Ended p.0 p.1) (key_and_number_in v fs) r e in let b = (key_and_number v).back fs m.0 m.1 in subst (IsReplyOf v word.Ended fs) m.2 (b.0, ap (λ (xs : List (List ℕ)). word_text word.Ended ∷ xs) b.1)
   of_back v word.NoMark fs r e = let m = mapped (λ _. reply.NoMark) (savepoint_in v fs) r e in let b = savepoint_back laws v fs m.0 m.1 in subst (IsReplyOf v word.NoMark fs) m.2 (b.0, ap (λ (xs : List (List ℕ)). word_text word.NoMark ∷ xs) b.1)
   of_back v word.Busy fs r e = let m = mapped (λ (x : ℕ). reply.Refused (refusal.Busy x)) (one_number_in fs) r e in let b = (one_number laws).back fs m.0 m.1 in subst (IsReplyOf v word.Busy fs) m.2 (b.0, ap (λ (xs : List (List ℕ)). word_text word.Busy ∷ xs) b.1)
-  of_back v word.Error fs r e = let m = mapped reply.Refused (refusal_in fs) r e in let b = refusal_back fs m.0 m.1 in subst (IsReplyOf v word.Error fs) m.2 b
+  of_back v word.Error fs r e = let m = mapped reply.Refused (refusal_read fs) r e in let b = refusal_back fs m.0 m.1 in subst (IsReplyOf v word.Error fs) m.2 b
 
   with_back : (v : Version) (f : List ℕ) (fs : List (List ℕ)) (r : Reply) (o : Option Word) → word_for f ≡ o → reply_with v o fs ≡ Some r → IsReply v r × (f ∷ fs ≡ reply_fields v r)
   with_back v f fs r None e g = cc

@@ -4,15 +4,15 @@ use Rattle.std.specs.List.{AllByRecursion}
 use Rattle.std.proofs.Math.Seq.{drop-cons}
 use Rattle.am_record.specs.declared.step.Reply.TheVariants.{Refused}
 use Rattle.am_record.specs.declared.step.Refusal.TheVariants.{SeatFull}
-use Rattle.am_trace.specs.Lines.{Event, IsEvent, AreEvents, CanBeStored, event_words, event_lines, ended, header, trace_text}
+use Rattle.am_trace.specs.Lines.{Event, IsEvent, AreEvents, CanBeStored, event_words, event_lines, with_lf, header, trace_text}
 use Rattle.am_trace.specs.declared.version.Version.{Version}
 
 pub written_line : (v : Version) (page new text : List ℕ) (trace : List Event) (i n : ℕ) (e : Event) → n ≡ suc i → i < length trace → e ≡ get_or trace i e →
-    page ++ event_lines v (drop i trace) ≡ text → new ≡ page ++ ended (event_words v e) → new ++ event_lines v (drop n trace) ≡ text
+    page ++ event_lines v (drop i trace) ≡ text → new ≡ page ++ with_lf (event_words v e) → new ++ event_lines v (drop n trace) ≡ text
 written_line v page new text trace i n e next inside is before after =
     ap (λ m. new ++ event_lines v (drop m trace)) next
     ∙ ap (λ x. x ++ event_lines v (drop (suc i) trace)) after
-    ∙ append_assoc page (ended (event_words v e)) (event_lines v (drop (suc i) trace))
+    ∙ append_assoc page (with_lf (event_words v e)) (event_lines v (drop (suc i) trace))
     ∙ ap (λ rest. page ++ event_lines v rest) (ap (λ x. x ∷ drop (suc i) trace) is ∙ sym (drop-cons trace i e inside))
     ∙ before
 
@@ -36,15 +36,15 @@ pub all_behind : (P : Event → Type 0) (trace : List Event) (e : Event) → All
 all_behind P [] e h p = (p, tt)
 all_behind P (f ∷ trace) e h p = (h.0, all_behind P trace e h.1 p)
 
-pub lines_behind : (v : Version) (trace : List Event) (e : Event) → event_lines v (trace ++ e ∷ []) ≡ event_lines v trace ++ ended (event_words v e)
-lines_behind v [] e = append-nil (ended (event_words v e))
-lines_behind v (f ∷ trace) e = ap (λ x. ended (event_words v f) ++ x) (lines_behind v trace e) ∙ sym (append_assoc (ended (event_words v f)) (event_lines v trace) (ended (event_words v e)))
+pub lines_behind : (v : Version) (trace : List Event) (e : Event) → event_lines v (trace ++ e ∷ []) ≡ event_lines v trace ++ with_lf (event_words v e)
+lines_behind v [] e = append-nil (with_lf (event_words v e))
+lines_behind v (f ∷ trace) e = ap (λ x. with_lf (event_words v f) ++ x) (lines_behind v trace e) ∙ sym (append_assoc (with_lf (event_words v f)) (event_lines v trace) (with_lf (event_words v e)))
 
 -- one line more was read
 pub read_line : (v : Version) (text rest line further : List ℕ) (trace : List Event) (e : Event) →
     text ≡ trace_text v trace ++ rest → rest ≡ line ++ 10 ∷ further → line ≡ event_words v e → text ≡ trace_text v (trace ++ e ∷ []) ++ further
 read_line v text rest line further trace e h cut is =
-    let ends : rest ≡ ended (event_words v e) ++ further = cut ∙ ap (λ x. x ++ 10 ∷ further) is ∙ sym (append_assoc (event_words v e) (10 ∷ []) further) in
+    let ends : rest ≡ with_lf (event_words v e) ++ further = cut ∙ ap (λ x. x ++ 10 ∷ further) is ∙ sym (append_assoc (event_words v e) (10 ∷ []) further) in
     h ∙ ap (λ x. trace_text v trace ++ x) ends
-    ∙ sym (append_assoc (trace_text v trace) (ended (event_words v e)) further)
-    ∙ ap (λ x. x ++ further) (append_assoc (header v) (event_lines v trace) (ended (event_words v e)) ∙ ap (λ x. header v ++ x) (sym (lines_behind v trace e)))
+    ∙ sym (append_assoc (trace_text v trace) (with_lf (event_words v e)) further)
+    ∙ ap (λ x. x ++ further) (append_assoc (header v) (event_lines v trace) (with_lf (event_words v e)) ∙ ap (λ x. header v ++ x) (sym (lines_behind v trace e)))

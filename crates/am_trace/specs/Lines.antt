@@ -36,15 +36,15 @@ abbrev pub event_words : Version → Event → List ℕ
 event_words v e = step_words v e.0 ++ codes " | " ++ reply_words v e.1
 
 -- each line is ended by an LF
-abbrev pub ended : List ℕ → List ℕ
-ended words = words ++ 10 ∷ []
+abbrev pub with_lf : List ℕ → List ℕ
+with_lf words = words ++ 10 ∷ []
 
 abbrev pub header : Version → List ℕ
-header One = ended (codes "TRACE 1")
-header Two = ended (codes "TRACE 2")
+header One = with_lf (codes "TRACE 1")
+header Two = with_lf (codes "TRACE 2")
 
 abbrev pub event_lines : Version → List Event → List ℕ
-event_lines v trace = flat_map (λ e. ended (event_words v e)) trace
+event_lines v trace = flat_map (λ e. with_lf (event_words v e)) trace
 
 abbrev pub trace_text : Version → List Event → List ℕ
 trace_text v trace = header v ++ event_lines v trace
@@ -57,7 +57,7 @@ pub record IsTextOf (text : List ℕ) (trace : List Event) : Type 0 where
 
 -- the text begins with no line of an event
 abbrev pub BeginsNoEvent : Version → List ℕ → Type 0
-BeginsNoEvent v text = (e : Event) (more : List ℕ) → IsEvent v e → text ≢ ended (event_words v e) ++ more
+BeginsNoEvent v text = (e : Event) (more : List ℕ) → IsEvent v e → text ≢ with_lf (event_words v e) ++ more
 
 -- the text begins with the lines of these events in this version, and what stands behind them begins with none
 pub record EndsInBadLine (text : List ℕ) (trace : List Event) : Type 0 where

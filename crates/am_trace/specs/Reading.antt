@@ -131,12 +131,12 @@ abbrev pub number_and_run_in : List (List ℕ) → Option (ℕ × ℕ)
 number_and_run_in fs = fields_in number_in run_in fs
 
 -- the records, where they are as many as the number says
-abbrev pub counted : ℕ × Records → Option Records
-counted p = if length p.1 == p.0 then Some p.1 else None
+abbrev pub if_counted : ℕ × Records → Option Records
+if_counted p = if length p.1 == p.0 then Some p.1 else None
 
 abbrev pub counted_records_in : Version → List (List ℕ) → Option Records
 counted_records_in v [] = None
-counted_records_in v (n ∷ fs) = option_and_then counted (option_zip (number_in n) (records_in v fs))
+counted_records_in v (n ∷ fs) = option_and_then if_counted (option_zip (number_in n) (records_in v fs))
 
 abbrev pub refusal_for : List ℕ → Option Refusal
 refusal_for f =
@@ -149,8 +149,8 @@ refusal_for f =
     if bytes_eq f (codes "LIMIT") then Some refusal.BadLimit else
     if bytes_eq f (codes "MEMORY") then Some refusal.NoMemory else None
 
-abbrev pub refusal_in : List (List ℕ) → Option Refusal
-refusal_in fs = field_in refusal_for fs
+abbrev pub refusal_read : List (List ℕ) → Option Refusal
+refusal_read fs = field_in refusal_for fs
 
 -- ---- steps
 
@@ -206,7 +206,7 @@ small_reply_in v word.Moved fs = option_map (λ (p : ℕ × ℕ). reply.Moved p.
 small_reply_in v word.Ended fs = option_map (λ (p : OrderedKey × ℕ). reply.Ended p.0 p.1) (key_and_number_in v fs)
 small_reply_in v word.Cleaned fs = option_map reply.Cleaned (one_number_in fs)
 small_reply_in v word.Busy fs = option_map (λ (h : ℕ). reply.Refused (refusal.Busy h)) (one_number_in fs)
-small_reply_in v word.Error fs = option_map reply.Refused (refusal_in fs)
+small_reply_in v word.Error fs = option_map reply.Refused (refusal_read fs)
 small_reply_in v word.NoMark fs = option_map (λ _. reply.NoMark) (savepoint_in v fs)
 small_reply_in v word.Done fs = option_map (λ _. reply.Done) (nothing_in fs)
 small_reply_in v word.Absent fs = option_map (λ _. reply.Absent) (nothing_in fs)

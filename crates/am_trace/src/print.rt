@@ -11,7 +11,7 @@ ghost use Rattle.am_trace.specs.Words.{record_word};
 ghost use Rattle.am_trace.specs.ReplyWords.{word_text};
 ghost use Rattle.am_trace.specs.Steps.{IsStep, op_fields, verb_of};
 ghost use Rattle.am_trace.specs.Replies.{IsRefusal, IsReply, refusal_fields};
-ghost use Rattle.am_trace.specs.Lines.{step_words, reply_words, event_words, ended, IsEvent};
+ghost use Rattle.am_trace.specs.Lines.{step_words, reply_words, event_words, with_lf, IsEvent};
 
 use crate::field::Field;
 use crate::version::Version;
@@ -221,7 +221,7 @@ impl Page {
 
     /// Writes a line: a step with its reply.
     pub(crate) fn put_event(&mut self, step: &Step, reply: &Reply) -> Result<(), NoMemory>
-        ensures text { OnOk result (self.new ≡ self.old ++ ended (event_words Version.Two (step.now, reply.now))) }
+        ensures text { OnOk result (self.new ≡ self.old ++ with_lf (event_words Version.Two (step.now, reply.now))) }
         ensures event { OnOk result (reply.now ≢ Reply.Refused FullSeat → IsEvent Version.Two (step.now, reply.now)) }
     {
         self.put_step(step)?;

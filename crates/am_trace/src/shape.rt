@@ -5,7 +5,7 @@ ghost use Rattle.am_trace.specs.Reading.{number_in, run_in, digit_in, byte_in, v
 ghost use Rattle.am_trace.specs.Reading.{record_in, range_in, nothing_in, one_number_in, one_key_in, key_and_value_in};
 ghost use Rattle.am_trace.specs.Reading.{one_value_in, range_and_number_in, lock_fields_in, records_in};
 ghost use Rattle.am_trace.specs.Reading.{key_and_number_in, number_and_run_in, counted_records_in, refusal_for};
-ghost use Rattle.am_trace.specs.Reading.{refusal_in, Gives};
+ghost use Rattle.am_trace.specs.Reading.{refusal_read, Gives};
 
 use crate::read::ReadFault;
 use crate::version::Version;
@@ -216,7 +216,7 @@ pub(crate) fn read_lock(version: Version, mut fields: Fields<'_>) -> Option<Lock
 
 /// Why a step was refused, but for a lock that conflicts.
 pub(crate) fn read_refusal(mut fields: Fields<'_>) -> Option<Refusal>
-    ensures { result ≡ refusal_in fields.entry }
+    ensures { result ≡ refusal_read fields.entry }
 {
     let field = next(&mut fields)?;
     read_nothing(fields)?;

@@ -1,7 +1,7 @@
 //! The whole text.
 
 ghost use Rattle.std.specs.Prelude.{◌≡◌, ◌++◌, List, ℕ, IfOk, IfSome, IfNone, Err};
-ghost use Rattle.am_trace.specs.Lines.{Event, IsEvent, AreEvents, event_words, ended, header, trace_text, IsTextOf};
+ghost use Rattle.am_trace.specs.Lines.{Event, IsEvent, AreEvents, event_words, with_lf, header, trace_text, IsTextOf};
 ghost use Rattle.am_trace.specs.Lines.{IsBadLine, BeginsNoEvent, BeginsNoHeader, CanBeStored};
 
 use crate::cut::cut;
@@ -77,7 +77,7 @@ pub fn read_line(
     version: Version,
     text: &[u8],
 ) -> Result<((Step, Reply), &[u8]), ReadFault>
-    ensures event { IfOk result (λ p. IsEvent version p.0 × (text.now ≡ ended (event_words version p.0) ++ p.1.now)) }
+    ensures event { IfOk result (λ p. IsEvent version p.0 × (text.now ≡ with_lf (event_words version p.0) ++ p.1.now)) }
     ensures bad { result ≡ Err ReadFault.Bad → BeginsNoEvent version text.now }
 {
     words_are_fields();

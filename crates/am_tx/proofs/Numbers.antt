@@ -4,10 +4,10 @@ use Rattle.std.specs.List.{list_any}
 use Rattle.std.proofs.lemmas.List.Elements.{All-nil, All-head, All-tail, All-push, All-filter}
 use Rattle.std.proofs.lemmas.Bool.{ne_eqb}
 use Rattle.am_record.specs.declared.lock.Lock.{Lock}
-use Rattle.am_locks.specs.Held.{Held}
+use Rattle.am_locks.specs.OwnerLocks.{OwnerLocks}
 use Rattle.am_locks.specs.Table.{with_locks, relocked}
 use Rattle.am_tx.specs.declared.transaction.Transaction.{Transaction}
-use Rattle.am_tx.specs.Active.{numbers, changed}
+use Rattle.am_tx.specs.Active.{tx_numbers, with_changed}
 use Rattle.am_tx.specs.Txs.{Rise}
 
 pub any-map : {X : Type 0} (number : X → ℕ) (tx : ℕ) (xs : List X) → list_any (λ x. number x == tx) xs ≡ list_any (λ n. n == tx) (map number xs)
@@ -41,15 +41,15 @@ none-next (n ∷ ns) m a =
     ap (λ b. b || list_any (λ k. k == m + 1) ns) other ∙ none-next ns m (All-tail (λ k. k ≤ m) n ns a)
 
 -- a change that keeps the number keeps all numbers
-pub numbers-changed : (f : Transaction → Transaction) (tx : ℕ) (xs : List Transaction) → ((x : Transaction) → (f x).number ≡ x.number) → numbers (changed f tx xs) ≡ numbers xs
-numbers-changed f tx [] same = refl
-numbers-changed f tx (x ∷ xs) same =
+pub tx_numbers-with_changed : (f : Transaction → Transaction) (tx : ℕ) (xs : List Transaction) → ((x : Transaction) → (f x).number ≡ x.number) → tx_numbers (with_changed f tx xs) ≡ tx_numbers xs
+tx_numbers-with_changed f tx [] same = refl
+tx_numbers-with_changed f tx (x ∷ xs) same =
     let first : (cond (x.number == tx) (f x) x).number ≡ x.number = elim (x.number == tx) as (λ b. (cond b (f x) x).number ≡ x.number) [ true ↦ same x | false ↦ refl ] in
-    let rest = numbers-changed f tx xs same in
+    let rest = tx_numbers-with_changed f tx xs same in
     λ i. first i ∷ rest i
 
 -- other locks for one owner leave all owners
-pub owners-with_locks : (table : List Held) (tx : ℕ) (locks : List Lock) → map (λ (h : Held). h.owner) (with_locks table tx locks) ≡ map (λ (h : Held). h.owner) table
+pub owners-with_locks : (table : List OwnerLocks) (tx : ℕ) (locks : List Lock) → map (λ (h : OwnerLocks). h.owner) (with_locks table tx locks) ≡ map (λ (h : OwnerLocks). h.owner) table
 owners-with_locks [] tx locks = refl
 owners-with_locks (h ∷ table) tx locks =
     let first : (relocked tx locks h).owner ≡ h.owner = elim (h.owner == tx) as (λ b. (cond b (record { owner = h.owner; locks = locks }) h).owner ≡ h.owner) [ true ↦ refl | false ↦ refl ] in

@@ -9,15 +9,15 @@ abbrev pub no_notes : Log
 no_notes = record { notes = []; marks = []; has_room = true }
 
 -- a transaction that has just begun
-abbrev pub fresh : ℕ → Transaction
-fresh tx = record { number = tx; ops = 0; log = no_notes }
+abbrev pub new_transaction : ℕ → Transaction
+new_transaction tx = record { number = tx; ops = 0; log = no_notes }
 
-abbrev pub numbers : List Transaction → List ℕ
-numbers active = map (λ (t : Transaction). t.number) active
+abbrev pub tx_numbers : List Transaction → List ℕ
+tx_numbers active = map (λ (t : Transaction). t.number) active
 
 -- whether the transaction is active
-abbrev pub is_active : List Transaction → ℕ → Bool
-is_active active tx = list_any (λ (t : Transaction). t.number == tx) active
+abbrev pub is_active_in : List Transaction → ℕ → Bool
+is_active_in active tx = list_any (λ (t : Transaction). t.number == tx) active
 
 -- what is known of the transaction, and `none` where it is not active
 abbrev pub of_active : {A : Type 0} → (Transaction → A) → A → List Transaction → ℕ → A
@@ -25,13 +25,13 @@ of_active what none [] tx = none
 of_active what none (t ∷ active) tx = cond (t.number == tx) (what t) (of_active what none active tx)
 
 -- how many operations the transaction has had, 0 where it is not active
-abbrev pub ops_of : List Transaction → ℕ → ℕ
-ops_of active tx = of_active (λ t. t.ops) 0 active tx
+abbrev pub ops_in : List Transaction → ℕ → ℕ
+ops_in active tx = of_active (λ t. t.ops) 0 active tx
 
 -- the log of the transaction, without notes where it is not active
-abbrev pub log_of : List Transaction → ℕ → Log
-log_of active tx = of_active (λ t. t.log) no_notes active tx
+abbrev pub log_in : List Transaction → ℕ → Log
+log_in active tx = of_active (λ t. t.log) no_notes active tx
 
 -- the transaction is changed, and no other
-abbrev pub changed : (Transaction → Transaction) → ℕ → List Transaction → List Transaction
-changed f tx active = map (λ (t : Transaction). cond (t.number == tx) (f t) t) active
+abbrev pub with_changed : (Transaction → Transaction) → ℕ → List Transaction → List Transaction
+with_changed f tx active = map (λ (t : Transaction). cond (t.number == tx) (f t) t) active

@@ -3,23 +3,23 @@ use Rattle.std.specs.Prelude.{ℕ, ◌≡◌, ◌+◌, ◌^◌, ◌<◌, ◌≤�
 use Rattle.std.specs.Prelude.{map, filter, refl}
 use Rattle.std.specs.List.{All}
 use Rattle.std.specs.Coded.{Coded, code_by, coded×, coded_ℕ, coded_list}
-use Rattle.am_locks.specs.Held.{Held, held_code}
-use Rattle.am_locks.specs.Table.{entered, without}
+use Rattle.am_locks.specs.OwnerLocks.{OwnerLocks, held_code}
+use Rattle.am_locks.specs.Table.{entered, without_owner}
 use Rattle.am_undo.specs.Log.{Log}
 use Rattle.am_tx.specs.declared.transaction.Transaction.{Transaction}
 use Rattle.am_tx.specs.contracts.transaction.Transaction as transaction
-use Rattle.am_tx.specs.Active.{fresh, numbers, changed}
+use Rattle.am_tx.specs.Active.{new_transaction, tx_numbers, with_changed}
 
 -- how many transactions were begun, those that are active, and the locks of each of these
 pub record Txs : Type 0 where
   pub begun : ℕ
   pub active : List Transaction
-  pub locks : List Held
+  pub locks : List OwnerLocks
 
 -- it is stored as its fields
 abbrev pub txs_code : Coded Txs
 txs_code =
-    code_by (ℕ × (List Transaction × List Held)) (coded× coded_ℕ
+    code_by (ℕ × (List Transaction × List OwnerLocks)) (coded× coded_ℕ
     (coded× (coded_list transaction.the_row.coded) (coded_list held_code)))
     (λ t. (t.begun, (t.active, t.locks))) (λ p. record { begun = p.0; active = p.1.0; locks = p.1.1 }) (λ _. refl)
 
@@ -30,9 +30,9 @@ Rise (n ∷ ns) = All (λ m. n < m) ns × Rise ns
 
 -- what is true of every table: the active transactions are the owners of locks, in the same order
 pub record IsConsistent (t : Txs) : Type 0 where
-  pub rise : Rise (numbers t.active)
-  pub begun_before : All (λ n. n ≤ t.begun) (numbers t.active)
-  pub owners : map (λ (h : Held). h.owner) t.locks ≡ numbers t.active
+  pub rise : Rise (tx_numbers t.active)
+  pub begun_before : All (λ n. n ≤ t.begun) (tx_numbers t.active)
+  pub owners : map (λ (h : OwnerLocks). h.owner) t.locks ≡ tx_numbers t.active
   pub few : length t.active ≤ 64
   pub begun : t.begun ≤ 2 ^ 63
   pub ops : All (λ (x : Transaction). x.ops ≤ 4096) t.active
@@ -42,24 +42,24 @@ abbrev pub can_begin : Txs → Bool
 can_begin t = nat_lt (length t.active) 64 && nat_lt t.begun (2 ^ 63)
 
 -- one more transaction is active: the last one, with the next number
-abbrev pub started : Txs → Txs
-started t = record {
+abbrev pub txs_after_begin : Txs → Txs
+txs_after_begin t = record {
   begun = t.begun + 1;
-  active = t.active ++ fresh (t.begun + 1) ∷ [];
+  active = t.active ++ new_transaction (t.begun + 1) ∷ [];
   locks = entered t.locks (t.begun + 1);
 }
 
 -- the transaction had one more operation
-abbrev pub counted : Txs → ℕ → Txs
-counted t tx = record t { active = changed (λ x. record x { ops = x.ops + 1 }) tx t.active }
+abbrev pub txs_after_op : Txs → ℕ → Txs
+txs_after_op t tx = record t { active = with_changed (λ x. record x { ops = x.ops + 1 }) tx t.active }
 
 -- the transaction has this log
 abbrev pub with_log : Txs → ℕ → Log → Txs
-with_log t tx log = record t { active = changed (λ x. record x { log = log }) tx t.active }
+with_log t tx log = record t { active = with_changed (λ x. record x { log = log }) tx t.active }
 
 -- the transaction is not active any more, and owns no locks
-abbrev pub ended : Txs → ℕ → Txs
-ended t tx = record t {
+abbrev pub txs_after_end : Txs → ℕ → Txs
+txs_after_end t tx = record t {
   active = filter (λ (x : Transaction). not (x.number == tx)) t.active;
-  locks = without t.locks tx;
+  locks = without_owner t.locks tx;
 }

@@ -23,10 +23,10 @@ impl MadeWith<Global> for Transaction {
 }
 
 impl Transaction {
-    ghost use Rattle.am_tx.specs.Active.{fresh};
+    ghost use Rattle.am_tx.specs.Active.{new_transaction};
 
     pub(crate) fn new(alloc: Global, number: u64) -> Transaction
-        ensures { result ≡ fresh number }
+        ensures { result ≡ new_transaction number }
     {
         Transaction {
             number,

@@ -4,7 +4,7 @@ ghost use Rattle.std.specs.Prelude.{◌≡◌, ◌≢◌, ◌+◌, ◌<◌, ◌�
 ghost use Rattle.std.specs.Prelude.{slice_index_or, slice_set, if◌then◌else◌};
 ghost use Rattle.std.specs.Borrow.{sem};
 ghost use Rattle.am_record.specs.Locks.{is_covered, with_lock};
-ghost use Rattle.am_locks.specs.Table.{locks_of, with_locks, blockers};
+ghost use Rattle.am_locks.specs.Table.{locks_owned, with_locks, blockers};
 ghost use Rattle.am_locks.specs.Answers.{IsLeastOf, MatchBusy};
 
 use crate::transaction::Transaction;
@@ -40,8 +40,8 @@ impl Model for TxTable {
 
 impl TxTable {
     ghost use Rattle.am_tx.specs.declared.transaction.Transaction.{Transaction};
-    ghost use Rattle.am_tx.specs.Active.{is_active, ops_of, log_of, changed};
-    ghost use Rattle.am_tx.specs.Txs.{IsConsistent, can_begin, started, counted, ended};
+    ghost use Rattle.am_tx.specs.Active.{is_active_in, ops_in, log_in, with_changed};
+    ghost use Rattle.am_tx.specs.Txs.{IsConsistent, can_begin, txs_after_begin, txs_after_op, txs_after_end};
     ghost use Rattle.am_tx.specs.Lending.{LendsLog};
 
     /// A table of no transactions. It takes no memory.
@@ -59,7 +59,7 @@ impl TxTable {
     /// None, where 64 transactions are active or 2^63 were begun. It takes no memory.
     pub fn begin(&mut self) -> Option<u64>
         ensures number { result ≡ (if can_begin self.old then Some (self.old.begun + 1) else None) }
-        ensures after { self.new ≡ (if can_begin self.old then started self.old else self.old) }
+        ensures after { self.new ≡ (if can_begin self.old then txs_after_begin self.old else self.old) }
     {
         if self.active.is_full() || self.begun == MAX_BEGUN {
             return None;
@@ -74,7 +74,7 @@ impl TxTable {
 
     /// Whether the transaction is active.
     pub fn is_active(&self, tx: u64) -> bool
-        ensures active { result ≡ is_active self.now.active tx }
+        ensures active { result ≡ is_active_in self.now.active tx }
         ensures consistent { IsConsistent self.now }
     {
         self.active.iter().any(|active| active.number == tx)
@@ -90,8 +90,8 @@ impl TxTable {
 
     /// How many operations of the transaction were counted.
     pub fn ops(&self, tx: u64) -> u64
-        requires { is_active self.now.active tx ≡ true }
-        ensures count { result ≡ ops_of self.now.active tx }
+        requires { is_active_in self.now.active tx ≡ true }
+        ensures count { result ≡ ops_in self.now.active tx }
         ensures few { result ≤ 4096 }
     {
         self.active[self.place_of(tx)].ops
@@ -99,9 +99,9 @@ impl TxTable {
 
     /// Counts one operation of the transaction.
     pub fn count_op(&mut self, tx: u64)
-        requires active { is_active self.old.active tx ≡ true }
-        requires few { ops_of self.old.active tx < 4096 }
-        ensures { self.new ≡ counted self.old tx }
+        requires active { is_active_in self.old.active tx ≡ true }
+        requires few { ops_in self.old.active tx < 4096 }
+        ensures { self.new ≡ txs_after_op self.old tx }
     {
         let place = self.place_of(tx);
         let transaction = &mut self.active[place];
@@ -110,9 +110,9 @@ impl TxTable {
 
     /// The undo log of the transaction.
     pub fn undo(&mut self, tx: u64) -> &mut UndoLog
-        requires { is_active self.old.active tx ≡ true }
+        requires { is_active_in self.old.active tx ≡ true }
         ensures* writes_back { sem 𝓛 (LendsLog self.entry tx result) }
-        ensures log { result.now ≡ log_of self.old.active tx }
+        ensures log { result.now ≡ log_in self.old.active tx }
     {
         let place = self.place_of(tx);
         let Some(transaction) = self.active.get_mut(place) else {
@@ -123,7 +123,7 @@ impl TxTable {
 
     /// Asks for a lock for the transaction, as `LockTable::ask` does.
     pub fn ask(&mut self, tx: u64, asked: Lock) -> Asked
-        requires { is_active self.old.active tx ≡ true }
+        requires { is_active_in self.old.active tx ≡ true }
 
         // Busy comes first, and names the least of the other transactions with a conflicting lock.
         ensures busy { MatchBusy result (IsLeastOf (blockers self.old.locks tx asked))
@@ -132,16 +132,16 @@ impl TxTable {
         // Then the lock is granted, unless it would be added to 256, or memory is refused for it.
         ensures too_many_locks { (result ≡ Asked.TooManyLocks)
             ↔ ((blockers self.old.locks tx asked ≡ [])
-            × (is_covered (locks_of self.old.locks tx) asked ≡ false)
-            × (length (locks_of self.old.locks tx) ≡ 256)) }
+            × (is_covered (locks_owned self.old.locks tx) asked ≡ false)
+            × (length (locks_owned self.old.locks tx) ≡ 256)) }
         ensures no_memory { result ≡ Asked.NoMemory
-            → (is_covered (locks_of self.old.locks tx) asked ≡ false)
-            × (8 ≤ length (locks_of self.old.locks tx)) }
+            → (is_covered (locks_owned self.old.locks tx) asked ≡ false)
+            × (8 ≤ length (locks_owned self.old.locks tx)) }
 
         ensures granted { result ≡ Asked.Granted
             → self.new ≡ record self.old {
               locks = with_locks self.old.locks tx
-                  (with_lock (locks_of self.old.locks tx) asked);
+                  (with_lock (locks_owned self.old.locks tx) asked);
             } }
         ensures refused { result ≢ Asked.Granted → self.new ≡ self.old }
     {
@@ -150,8 +150,8 @@ impl TxTable {
 
     /// How many locks the transaction holds.
     pub fn held(&self, tx: u64) -> usize
-        requires { is_active self.now.active tx ≡ true }
-        ensures count { result ≡ length (locks_of self.now.locks tx) }
+        requires { is_active_in self.now.active tx ≡ true }
+        ensures count { result ≡ length (locks_owned self.now.locks tx) }
         ensures few { result ≤ 256 }
     {
         self.locks.held(tx)
@@ -159,11 +159,11 @@ impl TxTable {
 
     /// Keeps the first `n` locks of the transaction, and lets the later ones go.
     pub fn cut(&mut self, tx: u64, n: usize)
-        requires active { is_active self.old.active tx ≡ true }
-        requires held { n ≤ length (locks_of self.old.locks tx) }
+        requires active { is_active_in self.old.active tx ≡ true }
+        requires held { n ≤ length (locks_owned self.old.locks tx) }
         ensures { self.new ≡ record self.old {
           locks = with_locks self.old.locks tx
-              (take n (locks_of self.old.locks tx));
+              (take n (locks_owned self.old.locks tx));
         } }
     {
         self.locks.cut(tx, n);
@@ -171,8 +171,8 @@ impl TxTable {
 
     /// Ends the transaction: it is not active any more, its locks and its notes are gone. It takes no memory.
     pub fn end(&mut self, tx: u64)
-        requires { is_active self.old.active tx ≡ true }
-        ensures { self.new ≡ ended self.old tx }
+        requires { is_active_in self.old.active tx ≡ true }
+        ensures { self.new ≡ txs_after_end self.old tx }
     {
         self.locks.release(tx);
         self.active.retain(|active| active.number != tx);
@@ -187,13 +187,13 @@ impl TxTable {
     }
 
     fn place_of(&self, tx: u64) -> usize
-        requires { is_active self.now.active tx ≡ true }
+        requires { is_active_in self.now.active tx ≡ true }
         ensures in_bounds { result < length self.now.active }
         ensures found { (d : Transaction) → let x = slice_index_or self.now.active result d in
-            (x.number ≡ tx) × (x.ops ≡ ops_of self.now.active tx) × (x.log ≡ log_of self.now.active tx) }
+            (x.number ≡ tx) × (x.ops ≡ ops_in self.now.active tx) × (x.log ≡ log_in self.now.active tx) }
         ensures write { (f : Transaction → Transaction) (d : Transaction)
             → slice_set self.now.active result (f (slice_index_or self.now.active result d)) ≡
-            changed f tx self.now.active }
+            with_changed f tx self.now.active }
     {
         let place = self.active.iter().position(|active| active.number == tx);
         place.unwrap()

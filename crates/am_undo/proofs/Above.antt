@@ -14,9 +14,6 @@ pub record Above (was : List Entry) (items : List Note) (mark : ℕ) (left : Lis
   pub undone : Undone was (reverse (drop mark items)) (drop mark left) es
   pub kept : take mark left ≡ take mark items
 
-pub above_begins : (es : List Entry) (items : List Note) (mark : ℕ) → CanTakeBack (reverse (drop mark items)) (find es) → Above es items mark items es
-above_begins es items mark can = record { undone = begins es (reverse (drop mark items)) (drop mark items) refl can; kept = refl }
-
 module _ {was : List Entry} {items : List Note} {mark : ℕ} {left : List Note} {es : List Entry} (a : Above was items mark left es) where
   pub above_ended : length left ≤ mark → TakesBack (reverse (drop mark items)) was es
   above_ended few = ended a.undone (λ more. let none : length (drop mark left) ≡ 0 = length-drop mark left ∙ omega arith in omega arith)

@@ -11,7 +11,7 @@ use Rattle.am_list.proofs.Edits.{one_place, same_place-itself}
 use Rattle.am_parts.specs.Partitions.{LivesNowhereElse}
 use Rattle.am_undo.specs.declared.note.Note.{Note}
 use Rattle.am_undo.specs.declared.note.Note.TheVariants.{Before}
-use Rattle.am_undo.specs.Notes.{back_one, back, back_at, Stands, OneLive, CanTakeBack, TakesBack}
+use Rattle.am_undo.specs.Notes.{back_one, back_all, back_at, Stands, OneLive, CanTakeBack, TakesBack}
 use Rattle.am_undo.proofs.Run.{find_after_set}
 
 module _ (es : List Entry) (part : ℕ) (key : OrderedKey) (value : List ℕ) (is_ghost : Bool) (note : Note) (is : note ≡ Before part key value is_ghost) where
@@ -40,13 +40,13 @@ module _ (es : List Entry) (part : ℕ) (key : OrderedKey) (value : List ℕ) (i
 -- some notes were taken back, and those that stand with the newest last are left
 pub record Undone (was : List Entry) (notes : List Note) (left : List Note) (es : List Entry) : Type 0 where
   pub rising : IsRising was → IsRising es
-  pub at : (part : ℕ) (key : OrderedKey) → back (reverse left) part key (find es part key) ≡ back notes part key (find was part key)
+  pub at : (part : ℕ) (key : OrderedKey) → back_all (reverse left) part key (find es part key) ≡ back_all notes part key (find was part key)
   pub can : CanTakeBack (reverse left) (find es)
 
 pub begins : (es : List Entry) (notes left : List Note) → reverse left ≡ notes → CanTakeBack notes (find es) → Undone es notes left es
 begins es notes left is can = record {
   rising = λ h. h;
-  at = λ part key. ap (λ (ns : List Note). back ns part key (find es part key)) is;
+  at = λ part key. ap (λ (ns : List Note). back_all ns part key (find es part key)) is;
   can = subst (λ (ns : List Note). CanTakeBack ns (find es)) (sym is) can;
 }
 
@@ -58,7 +58,7 @@ module _ {was : List Entry} {notes left : List Note} {es : List Entry} (u : Undo
   pub ended : (0 < length left → ⊥) → TakesBack notes was es
   ended none = record {
     rising = u.rising;
-    at = λ part key. sym (ap (λ (ns : List Note). back (reverse ns) part key (find es part key)) (empty left none)) ∙ u.at part key;
+    at = λ part key. sym (ap (λ (ns : List Note). back_all (reverse ns) part key (find es part key)) (empty left none)) ∙ u.at part key;
   }
 
   module _ (older : List Note) (n : Note) (is : left ≡ older ++ n ∷ []) where
@@ -79,6 +79,6 @@ module _ {was : List Entry} {notes left : List Note} {es : List Entry} (u : Undo
         let slots : back_at n (find es) ≡ find es' = λ i part key. sym (at part key) i in
         record {
           rising = λ _. rising;
-          at = λ part key. ap (back (reverse older) part key) (at part key) ∙ sym (ap (λ (ns : List Note). back ns part key (find es part key)) newest) ∙ u.at part key;
+          at = λ part key. ap (back_all (reverse older) part key) (at part key) ∙ sym (ap (λ (ns : List Note). back_all ns part key (find es part key)) newest) ∙ u.at part key;
           can = subst (CanTakeBack (reverse older)) slots next_can.older;
         }

@@ -14,20 +14,20 @@ use Rattle.am_list.specs.Entries.{Slot, find, IsRising}
 use Rattle.am_list.specs.Content.{content, OnePlace, live_value, HasOne}
 use Rattle.am_list.proofs.Content.{content_has_one, has_one_along}
 use Rattle.am_undo.specs.declared.note.Note.{Note}
-use Rattle.am_undo.specs.Notes.{Slots, back, TakesBack, back_at, CanTakeBack}
+use Rattle.am_undo.specs.Notes.{Slots, back_all, TakesBack, back_at, CanTakeBack}
 use Rattle.am_undo.specs.Undo.{IsOwned, is_noted_run, Undoes}
 use Rattle.am_record.specs.Marks.{since, until, since_mark, until_mark, older}
-use Rattle.am_undo.specs.Marks.{UndoesEach, AllPairs, HasContent, SameOwned, MarkLaws}
+use Rattle.am_undo.specs.Marks.{UndoesEach, AllPairs, IsContentAt, SameOwned, MarkLaws}
 use Rattle.am_undo.proofs.Undoing.{undo_laws}
 use Rattle.am_undo.proofs.Slots.{back_none, owned_along}
 
 -- ---- two lists of notes
 
-back-append : (xs ys : List Note) (part : ℕ) (key : OrderedKey) (s : Option Slot) → back (xs ++ ys) part key s ≡ back ys part key (back xs part key s)
-back-append [] ys part key s = refl
-back-append (n ∷ xs) ys part key s = back-append xs ys part key _
+back_all-append : (xs ys : List Note) (part : ℕ) (key : OrderedKey) (s : Option Slot) → back_all (xs ++ ys) part key s ≡ back_all ys part key (back_all xs part key s)
+back_all-append [] ys part key s = refl
+back_all-append (n ∷ xs) ys part key s = back_all-append xs ys part key _
 
-can-append : (xs ys : List Note) (slots : Slots) → CanTakeBack (xs ++ ys) slots → CanTakeBack ys (λ part key. back xs part key (slots part key))
+can-append : (xs ys : List Note) (slots : Slots) → CanTakeBack (xs ++ ys) slots → CanTakeBack ys (λ part key. back_all xs part key (slots part key))
 can-append [] ys slots can = can
 can-append (n ∷ xs) ys slots can = can-append xs ys (back_at n slots) can.older
 
@@ -46,11 +46,11 @@ nothing_since es rising one owned before is = record {
 -- the newer notes were taken back
 older_undo : (es es' : List Entry) (xs ys : List Note) (owned : OrderedKey → Bool) (before saved : OrderedKey → Option (List ℕ)) → Undoes es (xs ++ ys) owned before → Undoes es xs owned saved → TakesBack xs es es' → Undoes es' ys owned before
 older_undo es es' xs ys owned before saved u v b =
-    let slots : (λ (part : ℕ) (key : OrderedKey). back xs part key (find es part key)) ≡ find es' = λ i part key. sym (b.at part key) i in
+    let slots : (λ (part : ℕ) (key : OrderedKey). back_all xs part key (find es part key)) ≡ find es' = λ i part key. sym (b.at part key) i in
     record {
       can = subst (CanTakeBack ys) slots (can-append xs ys (find es) u.can);
-      owns = owned_along owned (find es) (find es') ys (λ p key run none. b.at p key ∙ ap (back xs p key) none ∙ back_none xs (find es) p key v.can none) (AllByRecursion-back (IsOwned owned (find es)) xs ys u.owns);
-      restores = λ key h. has_one_along (λ p. ap (λ s. live_value (back ys p key s)) (b.at p key) ∙ ap live_value (sym (back-append xs ys p key (find es p key)))) (u.restores key h);
+      owns = owned_along owned (find es) (find es') ys (λ p key run none. b.at p key ∙ ap (back_all xs p key) none ∙ back_none xs (find es) p key v.can none) (AllByRecursion-back (IsOwned owned (find es)) xs ys u.owns);
+      restores = λ key h. has_one_along (λ p. ap (λ s. live_value (back_all ys p key s)) (b.at p key) ∙ ap live_value (sym (back_all-append xs ys p key (find es p key)))) (u.restores key h);
     }
 
 -- ---- the notes since each mark
@@ -119,9 +119,9 @@ module _ (es : List Entry) (notes : List Note) (owned : OrderedKey → Bool) (be
     whole = whole_of es notes owned before (length notes) marks maps u;
     can_back = can_back_of marks maps u;
     own = λ es' new owned' step a.
-        each_kept es es' notes new owned owned' (λ m m'. (m ≡ m') × HasContent es owned owned' m)
+        each_kept es es' notes new owned owned' (λ m m'. (m ≡ m') × IsContentAt es owned owned' m)
         (λ part m m' less r v. subst (λ (x : PlainMap). Undoes es' (new ++ part) owned' (λ key. get x key)) r.0 (step part m r.1 v))
-        before before (length notes) (length (new ++ notes)) marks maps maps (omega arith) (longer new notes) (themselves (HasContent es owned owned') maps a.1) (refl, a.0) u;
+        before before (length notes) (length (new ++ notes)) marks maps maps (omega arith) (longer new notes) (themselves (IsContentAt es owned owned') maps a.1) (refl, a.0) u;
     others = λ es' before' maps' one' leaves a.
         each_kept es es' notes [] owned owned (SameOwned owned)
         (λ part m m' less r v. (undo_laws es part owned (λ key. get m key) rising one v).others es' (λ key. get m' key) one' (record { same = leaves.same; runs = λ p key h. leaves.runs p key (less p h) }) r)

@@ -8,14 +8,14 @@ use Rattle.am_record.specs.declared.entry.Entry.{Entry}
 use Rattle.am_list.specs.Entries.{find, insert_entry, set_entry}
 use Rattle.am_list.specs.Content.{live_value}
 use Rattle.am_list.proofs.EditLaws.{edit_laws}
-use Rattle.am_parts.specs.Partitions.{IsSound}
+use Rattle.am_parts.specs.Partitions.{AreWellFormed}
 use Rattle.am_undo.specs.declared.note.Note.{Note}
 use Rattle.am_undo.specs.declared.note.Note.TheVariants.{New, Before, RunMade}
 use Rattle.am_undo.specs.Notes.{ghosted, back_at, CanTakeBack}
 use Rattle.am_undo.proofs.Slots.{ghosted_dead, can_note}
 use Rattle.am_undo.proofs.Undoing.{one_live, changed_more, made_more}
 
-module _ {es : List Entry} (sound : IsSound es) {notes : List Note} (can : CanTakeBack notes (find es)) {es' : List Entry} {notes' : List Note} where
+module _ {es : List Entry} (sound : AreWellFormed es) {notes : List Note} (can : CanTakeBack notes (find es)) {es' : List Entry} {notes' : List Note} where
   pub note_change : (part : ℕ) (key : OrderedKey) (old : List ℕ) (was_ghost : Bool) (value : List ℕ) (is_ghost : Bool) → find es part key ≡ Some (old, was_ghost)
       → es' ≡ set_entry es part key value is_ghost → notes' ≡ Before part key old was_ghost ∷ notes → CanTakeBack notes' (find es')
   note_change part key old was_ghost value is_ghost there set is =
@@ -29,18 +29,3 @@ module _ {es : List Entry} (sound : IsSound es) {notes : List Note} (can : CanTa
       let here = ap (λ p. find (insert_entry es x) p x.key) (sym zero) ∙ ((edit_laws es sound.rising).insert_changes x).here in
       let after = can_note (New x.key) notes (find es) (find (insert_entry es x)) (ap is_some here) (made_more es sound.rising x zero absent) (one_live sound.one_place) can in
       subst (λ (ns : List Note). CanTakeBack ns (find es')) (sym is) (subst (λ (l : List Entry). CanTakeBack (New x.key ∷ notes) (find l)) (sym add) after)
-
--- a run may be taken back whatever stands in it
-pub note_run : {es : List Entry} → IsSound es → (run : ℕ) → CanTakeBack (RunMade run ∷ []) (find es)
-note_run {es} sound run = record {
-  stands = tt;
-  one = record { one = λ key p p' v v' h h'. sound.one_place.one key p p' v v' (record { there = was p key v h }) (record { there = was p' key v' h' }) };
-  older = tt;
-}
-  where
-    was : (p : ℕ) (key : OrderedKey) (v : List ℕ) → back_at (RunMade run) (find es) p key ≡ Some (v, false) → find es p key ≡ Some (v, false)
-    was p key v h =
-        ⊎_elim
-        (λ yes. absurd (none-some v (sym (ap live_value (cond-true (p == run) (ghosted (find es p key)) (find es p key) yes) ∙ ghosted_dead (find es p key)) ∙ ap live_value h)))
-        (λ no. sym (cond-false (p == run) (ghosted (find es p key)) (find es p key) no) ∙ h)
-        (cases_Bool (p == run))

@@ -13,7 +13,7 @@ use Rattle.am_list.specs.Content.{live_value}
 use Rattle.am_list.proofs.Edits.{one_place, other_key}
 use Rattle.am_undo.specs.declared.note.Note.{Note}
 use Rattle.am_undo.specs.declared.note.Note.TheVariants.{New, Before, RunMade}
-use Rattle.am_undo.specs.Notes.{Slots, ghosted, back_one, back, back_at, Stands, OneLive, CanTakeBack}
+use Rattle.am_undo.specs.Notes.{Slots, ghosted, back_one, back_all, back_at, Stands, OneLive, CanTakeBack}
 use Rattle.am_undo.specs.Undo.{IsOwned, is_noted_run}
 
 pub ghosted_dead : (o : Option Slot) → live_value (ghosted o) ≡ None
@@ -49,13 +49,13 @@ one_dead (Before p k value is_ghost) slots part key stands none s h = ap live_va
 one_dead (RunMade p) slots part key stands none s h = either_dead (part == p) s h
 
 -- and so it is with all of them
-pub back_none : (notes : List Note) (slots : Slots) (part : ℕ) (key : OrderedKey) → CanTakeBack notes slots → slots part key ≡ None → back notes part key None ≡ None
+pub back_none : (notes : List Note) (slots : Slots) (part : ℕ) (key : OrderedKey) → CanTakeBack notes slots → slots part key ≡ None → back_all notes part key None ≡ None
 back_none [] slots part key can none = refl
 back_none (n ∷ notes) slots part key can none =
-    ap (back notes part key) (one_none n slots part key can.stands none None refl)
+    ap (back_all notes part key) (one_none n slots part key can.stands none None refl)
     ∙ back_none notes (back_at n slots) part key can.older (one_none n slots part key can.stands none (slots part key) none)
 
-pub back_dead : (notes : List Note) (slots : Slots) (part : ℕ) (key : OrderedKey) → CanTakeBack notes slots → slots part key ≡ None → (s : Option Slot) → live_value s ≡ None → live_value (back notes part key s) ≡ None
+pub back_dead : (notes : List Note) (slots : Slots) (part : ℕ) (key : OrderedKey) → CanTakeBack notes slots → slots part key ≡ None → (s : Option Slot) → live_value s ≡ None → live_value (back_all notes part key s) ≡ None
 back_dead [] slots part key can none s h = h
 back_dead (n ∷ notes) slots part key can none s h =
     back_dead notes (back_at n slots) part key can.older (one_none n slots part key can.stands none (slots part key) none)
@@ -97,10 +97,10 @@ can_more (n ∷ notes) a b more can =
 pub can_note : (n : Note) (notes : List Note) (a b : Slots) → Stands n b → MoreGhosts a (back_at n b) → OneLive a → CanTakeBack notes a → CanTakeBack (n ∷ notes) b
 can_note n notes a b stands more one can = record { stands = stands; one = one_more a (back_at n b) more one; older = can_more notes a (back_at n b) more can }
 
-pub same_value : (notes : List Note) (a b : Slots) → CanTakeBack notes a → MoreGhosts a b → (part : ℕ) (key : OrderedKey) → live_value (back notes part key (b part key)) ≡ live_value (back notes part key (a part key))
+pub same_value : (notes : List Note) (a b : Slots) → CanTakeBack notes a → MoreGhosts a b → (part : ℕ) (key : OrderedKey) → live_value (back_all notes part key (b part key)) ≡ live_value (back_all notes part key (a part key))
 same_value notes a b can more part key =
     ⊎_elim
-    (λ same. ap (λ s. live_value (back notes part key s)) same)
+    (λ same. ap (λ s. live_value (back_all notes part key s)) same)
     (λ new.
     back_dead notes a part key can new.0 (b part key) new.1
     ∙ sym (back_dead notes a part key can new.0 (a part key) (ap live_value new.0)))
@@ -138,7 +138,7 @@ module _ (owned : OrderedKey → Bool) where
   owned_back n slots notes own = all_owned (IsOwned owned slots) (IsOwned owned (back_at n slots)) (owned_step n slots own.0) notes own.1
 
   -- another's key stands as it stood when all notes are taken back
-  pub all_left : (notes : List Note) (slots : Slots) → AllByRecursion (IsOwned owned slots) notes → (key : OrderedKey) → owned key ≡ false → (part : ℕ) → back notes part key (slots part key) ≡ slots part key
+  pub all_left : (notes : List Note) (slots : Slots) → AllByRecursion (IsOwned owned slots) notes → (key : OrderedKey) → owned key ≡ false → (part : ℕ) → back_all notes part key (slots part key) ≡ slots part key
   all_left [] slots own key h part = refl
   all_left (n ∷ notes) slots own key h part = all_left notes (back_at n slots) (owned_back n slots notes own) key h part ∙ one_left n slots own.0 key h part
 

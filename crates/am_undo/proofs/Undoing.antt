@@ -15,7 +15,7 @@ use Rattle.am_list.proofs.EditLaws.{edit_laws}
 use Rattle.am_list.proofs.Content.{content_has_one, has_one_along, same_has_one}
 use Rattle.am_undo.specs.declared.note.Note.{Note}
 use Rattle.am_undo.specs.declared.note.Note.TheVariants.{New, Before, RunMade}
-use Rattle.am_undo.specs.Notes.{ghosted, back, TakesBack, back_at, OneLive, CanTakeBack}
+use Rattle.am_undo.specs.Notes.{ghosted, back_all, TakesBack, back_at, OneLive, CanTakeBack}
 use Rattle.am_undo.specs.Undo.{IsOwned, Undoes, LeavesNoted, LoadsRun, UndoLaws}
 use Rattle.am_undo.proofs.Slots.{MoreGhosts, ghosted_dead, back_none, can_note, same_value, other_place, all_owned, all_left, owned_along, can_others}
 
@@ -62,7 +62,7 @@ module _ (es : List Entry) (notes : List Note) (owned : OrderedKey → Bool) (be
   edits = edit_laws es rising
 
   -- another's key stands as it stood
-  left : (key : OrderedKey) → owned key ≡ false → (part : ℕ) → back notes part key (find es part key) ≡ find es part key
+  left : (key : OrderedKey) → owned key ≡ false → (part : ℕ) → back_all notes part key (find es part key) ≡ find es part key
   left key h part = all_left owned notes (find es) u.owns key h part
 
   locked_law : (owned' : OrderedKey → Bool) → ((key : OrderedKey) → owned key ≡ true → owned' key ≡ true) →
@@ -72,7 +72,7 @@ module _ (es : List Entry) (notes : List Note) (owned : OrderedKey → Bool) (be
     owns = all_owned owned (IsOwned owned (find es)) (IsOwned owned' (find es)) still notes u.owns;
     restores = λ key h. ⊎_elim
         (λ old. u.restores key old)
-        (λ not. subst (HasOne (λ p. live_value (back notes p key (find es p key)))) (sym (new key h not))
+        (λ not. subst (HasOne (λ p. live_value (back_all notes p key (find es p key)))) (sym (new key h not))
         (has_one_along (λ p. ap live_value (left key not p)) (content_has_one es rising one key)))
         (cases_Bool (owned key));
   }
@@ -151,8 +151,8 @@ module _ (es : List Entry) (notes : List Note) (owned : OrderedKey → Bool) (be
       record {
         can = can_others owned notes (find es) (find es') leaves.same (one_live one') owns u.can;
         owns = owns;
-        restores = λ key h. subst (HasOne (λ p. live_value (back notes p key (find es' p key)))) (sym (is key h))
-            (has_one_along (λ p. ap (λ s. live_value (back notes p key s)) (leaves.same key h p)) (u.restores key h));
+        restores = λ key h. subst (HasOne (λ p. live_value (back_all notes p key (find es' p key)))) (sym (is key h))
+            (has_one_along (λ p. ap (λ s. live_value (back_all notes p key s)) (leaves.same key h p)) (u.restores key h));
       }
 
   module _ (es' : List Entry) (b : TakesBack notes es es') where
@@ -172,7 +172,7 @@ module _ (es : List Entry) (notes : List Note) (owned : OrderedKey → Bool) (be
     untouched_law key h part = b.at part key ∙ left key h part
 
     none_made_law : (part : ℕ) (key : OrderedKey) → find es part key ≡ None → find es' part key ≡ None
-    none_made_law part key none = b.at part key ∙ ap (back notes part key) none ∙ back_none notes (find es) part key u.can none
+    none_made_law part key none = b.at part key ∙ ap (back_all notes part key) none ∙ back_none notes (find es) part key u.can none
 
   pub undo_laws : UndoLaws es notes owned before
   undo_laws = record {

@@ -28,8 +28,8 @@ AllPairs R (m ∷ ms) (n ∷ ns) = R m n × AllPairs R ms ns
 AllPairs R _ _ = ⊥
 
 -- the map has the content at the keys that are owned now and weren't
-abbrev pub HasContent : List Entry → (OrderedKey → Bool) → (OrderedKey → Bool) → PlainMap → Type 0
-HasContent es owned owned' m = (key : OrderedKey) → owned' key ≡ true → owned key ≡ false →
+abbrev pub IsContentAt : List Entry → (OrderedKey → Bool) → (OrderedKey → Bool) → PlainMap → Type 0
+IsContentAt es owned owned' m = (key : OrderedKey) → owned' key ≡ true → owned key ≡ false →
     get m key ≡ get (content es) key
 
 -- the other map has the same at the owned keys
@@ -46,9 +46,9 @@ pub record MarkLaws (es : List Entry) (notes : List Note) (owned : OrderedKey �
   -- its own steps: what the new notes do for each list of notes they do for all of them. More keys may be owned then,
   -- at which each of the maps has the content
   pub own : (es' : List Entry) (new : List Note) (owned' : OrderedKey → Bool) →
-      ((part : List Note) (m : PlainMap) → HasContent es owned owned' m → Undoes es part owned (λ key. get m key) →
+      ((part : List Note) (m : PlainMap) → IsContentAt es owned owned' m → Undoes es part owned (λ key. get m key) →
       Undoes es' (new ++ part) owned' (λ key. get m key)) →
-      AllByRecursion (HasContent es owned owned') (before ∷ maps) →
+      AllByRecursion (IsContentAt es owned owned') (before ∷ maps) →
       UndoesEach es' (new ++ notes) owned' before (length (new ++ notes)) marks maps
   -- others change entries of other keys, and commit
   pub others : (es' : List Entry) (before' : PlainMap) (maps' : List PlainMap) → OnePlace es' →

@@ -23,14 +23,14 @@ back_one (Before p k value is_ghost) part key s = if same_place part key p k the
 back_one (RunMade p) part key s = if part == p then ghosted s else s
 
 -- and when all are, which stand with the newest first
-abbrev pub back : List Note → ℕ → OrderedKey → Option Slot → Option Slot
-back [] part key s = s
-back (n ∷ notes) part key s = back notes part key (back_one n part key s)
+abbrev pub back_all : List Note → ℕ → OrderedKey → Option Slot → Option Slot
+back_all [] part key s = s
+back_all (n ∷ notes) part key s = back_all notes part key (back_one n part key s)
 
 -- the entries before and after the notes are taken back
 pub record TakesBack (notes : List Note) (es es' : List Entry) : Type 0 where
   pub rising : IsRising es → IsRising es'
-  pub at : (part : ℕ) (key : OrderedKey) → find es' part key ≡ back notes part key (find es part key)
+  pub at : (part : ℕ) (key : OrderedKey) → find es' part key ≡ back_all notes part key (find es part key)
 
 -- the same at every place
 abbrev pub back_at : Note → Slots → Slots

@@ -8,7 +8,7 @@ use Rattle.am_list.specs.Entries.{find, insert_entry, set_entry}
 use Rattle.am_list.specs.Content.{content, OnePlace, live_value, HasOne}
 use Rattle.am_undo.specs.declared.note.Note.{Note}
 use Rattle.am_undo.specs.declared.note.Note.TheVariants.{New, Before, RunMade}
-use Rattle.am_undo.specs.Notes.{Slots, back, TakesBack, CanTakeBack}
+use Rattle.am_undo.specs.Notes.{Slots, back_all, TakesBack, CanTakeBack}
 
 -- the note is of owned keys
 abbrev pub IsOwned : (OrderedKey → Bool) → Slots → Note → Type 0
@@ -30,7 +30,7 @@ pub record Undoes (es : List Entry) (notes : List Note) (owned : OrderedKey → 
   pub can : CanTakeBack notes (find es)
   pub owns : AllByRecursion (IsOwned owned (find es)) notes
   pub restores : (key : OrderedKey) → owned key ≡ true →
-      HasOne (λ part. live_value (back notes part key (find es part key))) (before key)
+      HasOne (λ part. live_value (back_all notes part key (find es part key))) (before key)
 
 -- nothing that the notes speak of is changed: the owned keys stand as they stood, and nothing is added to a noted run
 pub record LeavesNoted (es es' : List Entry) (notes : List Note) (owned : OrderedKey → Bool) : Type 0 where

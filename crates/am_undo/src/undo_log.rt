@@ -167,7 +167,7 @@ fn take_back_one<I: PartIndex + Drop>(parts: &mut Parts<I>, note: Note)
             key,
             value,
             is_ghost,
-        } => parts.mark(part, key, value, is_ghost),
+        } => parts.set(part, key, value, is_ghost),
         Note::RunMade(run) => bury_run(parts, run),
     }
 }
@@ -183,7 +183,7 @@ fn bury<I: PartIndex + Drop>(parts: &mut Parts<I>, part: u32, key: Key)
     let Some(found) = parts.find(part, key) else {
         unreachable!()
     };
-    parts.mark(part, key, found.0, true);
+    parts.set(part, key, found.0, true);
 }
 
 // Makes all entries of a partition ghosts with their values.
@@ -195,7 +195,7 @@ fn bury_run<I: PartIndex + Drop>(parts: &mut Parts<I>, run: u32)
 {
     let mut next = parts.next_from(run, Key::least());
     while let Some(entry) = next {
-        parts.mark(run, entry.key, entry.value, true);
+        parts.set(run, entry.key, entry.value, true);
         next = parts.after(run, entry.key);
     }
 }

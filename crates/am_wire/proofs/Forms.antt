@@ -9,7 +9,7 @@ use Rattle.am_record.specs.declared.lock.Mode.TheVariants.{Shared, Exclusive}
 use Rattle.am_record.proofs.Outcomes.{gate, mapped}
 use Rattle.am_wire.specs.Numbers.{is_numeral, numeral, numeral_value}
 use Rattle.am_wire.specs.Keys.{is_key_text}
-use Rattle.am_wire.specs.Verbs.{Shape, bare, one_key, one_record, one_number, range_and_number, mode_and_range, some_records}
+use Rattle.am_wire.specs.Verbs.{VerbShape, bare, one_key, one_record, one_number, range_and_number, mode_and_range, some_records}
 use Rattle.am_wire.specs.Arguments.{Arguments, RecordText, fields_of, AreProper, mode_word}
 use Rattle.am_wire.specs.Reading.{arguments_in, mode_for, is_record_text, is_record_field, record_text}
 use Rattle.am_wire.specs.Spaces.{has_no_space}
@@ -31,7 +31,7 @@ records_back (r ∷ rs) some h =
     ∙ ap (λ all. Some all) (map_record_text-record_field (r ∷ rs) h)
 
 -- the fields of proper arguments are read as these
-pub arguments_in-fields_of : (shape : Shape) (a : Arguments shape) → AreProper shape a → arguments_in shape (fields_of shape a) ≡ Some a
+pub arguments_in-fields_of : (shape : VerbShape) (a : Arguments shape) → AreProper shape a → arguments_in shape (fields_of shape a) ≡ Some a
 arguments_in-fields_of bare a h = refl
 arguments_in-fields_of one_key a h = cond-true (is_key_text a) (Some a) None ((is_key_text-Decides a).1 h)
 arguments_in-fields_of one_record a h = cond-true (is_record_text a) (Some a) None (proper-is_record_text a h)
@@ -50,7 +50,7 @@ arguments_in-fields_of some_records a h = records_back a h.0 h.1
 -- ---- from fields to arguments and back
 
 -- the arguments are proper, and these are their fields
-abbrev pub AreOf : (shape : Shape) → List (List ℕ) → Arguments shape → Type 0
+abbrev pub AreOf : (shape : VerbShape) → List (List ℕ) → Arguments shape → Type 0
 AreOf shape fs a = AreProper shape a × (fields_of shape a ≡ fs)
 
 -- what is found under a test
@@ -85,7 +85,7 @@ mode_and_range_in mode lo hi a e =
     subst (AreOf mode_and_range (mode ∷ lo ∷ hi ∷ [])) named.2 (mode_and_range_of mode lo hi named.0 in_form.0 named.1)
 
 -- what fields are read as is proper, and these are its fields
-pub fields_of-arguments_in : (shape : Shape) (fs : List (List ℕ)) (a : Arguments shape) → arguments_in shape fs ≡ Some a → AreOf shape fs a
+pub fields_of-arguments_in : (shape : VerbShape) (fs : List (List ℕ)) (a : Arguments shape) → arguments_in shape fs ≡ Some a → AreOf shape fs a
 fields_of-arguments_in bare [] a e = (tt, refl)
 fields_of-arguments_in bare (f ∷ fs) a e = cc
 fields_of-arguments_in one_key [] a e = cc
@@ -119,7 +119,7 @@ mode_word-no_space : (m : Mode) → has_no_space (mode_word m) ≡ true
 mode_word-no_space Shared = refl
 mode_word-no_space Exclusive = refl
 
-pub fields_of-no_space : (shape : Shape) (a : Arguments shape) → AreProper shape a → AllByRecursion (λ f. has_no_space f ≡ true) (fields_of shape a)
+pub fields_of-no_space : (shape : VerbShape) (a : Arguments shape) → AreProper shape a → AllByRecursion (λ f. has_no_space f ≡ true) (fields_of shape a)
 fields_of-no_space bare a h = tt
 fields_of-no_space one_key a h = (IsKeyText-no_space a h, tt)
 fields_of-no_space one_record a h = (IsKeyText-no_space a.0 h.0, (IsValueText-no_space a.1 h.1, tt))

@@ -66,7 +66,3 @@ between bytes start end le =
 -- a line and its LF, cut from the front of some bytes
 pub cuts_line : (bytes line rest : List ℕ) → HasNoLf line → bytes ≡ line ++ 10 ∷ rest → CutsLine bytes (line_of line) rest
 cuts_line bytes line rest none is = (line ++ 10 ∷ [], is ∙ sym (append_assoc line (10 ∷ []) rest), λ more. ap lines_of (append_assoc line (10 ∷ []) more) ∙ lines_of-ended line more none)
-
--- a line that was cut from what waits was taken, and no source was asked
-pub cut_is_taken : {S : Type 0} (comes : S → List ℕ → Type 0) (bytes : List ℕ) (line : Option (List ℕ)) (rest : List ℕ) (source : S) → CutsLine bytes line rest → TookLine comes bytes source line true rest source
-cut_is_taken comes bytes line rest source h = (h.0, (λ more a. (a.0, a.1, ap (λ z. h.0 ++ z) a.2 ∙ sym (append_assoc h.0 rest a.0) ∙ ap (λ z. z ++ a.0) (sym h.1))), h.2)

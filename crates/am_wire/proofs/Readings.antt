@@ -2,7 +2,7 @@
 use Rattle.std.proofs.Common.{◌≡◌, ◌≢◌, ℕ, List, [], ◌∷◌, Option, Some, None, Result, Ok, Err, ok_or, option_map, inl, inr, refl, sym, ap, subst, ◌∙◌}
 use Rattle.std.proofs.lemmas.List.Splits.{join_with_byte-slice_split}
 use Rattle.std.specs.List.{join_with_byte}
-use Rattle.am_wire.specs.Verbs.{word_of, verb_for, shape_of}
+use Rattle.am_wire.specs.Verbs.{word_of, verb_for, verb_shape}
 use Rattle.am_wire.specs.Arguments.{Arguments, fields_of, values_for}
 use Rattle.am_wire.specs.Grammar.{Form, spelling, IsProper, request_with, request_of, Spells, Reads}
 use Rattle.am_wire.specs.Reading.{line_fields, arguments_in, judged, map_ok, verb_reading, fields_reading, reading, MayRead}
@@ -16,12 +16,12 @@ use Rattle.am_wire.proofs.Forms.{arguments_in-fields_of, fields_of-arguments_in,
 
 -- ---- the form of a line
 
-abbrev form_with : (v : Verb) → Arguments (shape_of v) → Form
+abbrev form_with : (v : Verb) → Arguments (verb_shape v) → Form
 form_with v a = record { verb = v; arguments = a }
 
 abbrev form_by_verb : Option Verb → List (List ℕ) → Option Form
 form_by_verb None fs = None
-form_by_verb (Some v) fs = option_map (form_with v) (arguments_in (shape_of v) fs)
+form_by_verb (Some v) fs = option_map (form_with v) (arguments_in (verb_shape v) fs)
 
 -- the form that the fields spell
 abbrev form_in : List (List ℕ) → Option Form
@@ -30,34 +30,34 @@ form_in (word ∷ fs) = form_by_verb (verb_for word) fs
 
 -- a form's fields
 abbrev form_fields : Form → List (List ℕ)
-form_fields form = word_of form.verb ∷ fields_of (shape_of form.verb) form.arguments
+form_fields form = word_of form.verb ∷ fields_of (verb_shape form.verb) form.arguments
 
 -- a proper form is found by its fields
 form_in-form_fields : (form : Form) → IsProper form → form_in (form_fields form) ≡ Some form
 form_in-form_fields form h =
-    ap (λ v. form_by_verb v (fields_of (shape_of form.verb) form.arguments)) (verb_for-word_of form.verb)
-    ∙ ap (option_map (form_with form.verb)) (arguments_in-fields_of (shape_of form.verb) form.arguments h)
+    ap (λ v. form_by_verb v (fields_of (verb_shape form.verb) form.arguments)) (verb_for-word_of form.verb)
+    ∙ ap (option_map (form_with form.verb)) (arguments_in-fields_of (verb_shape form.verb) form.arguments h)
 
 -- and by its line
 form_in-spelling : (form : Form) → IsProper form → form_in (line_fields (spelling form)) ≡ Some form
 form_in-spelling form h =
-    ap form_in (line_fields-join (word_of form.verb) (fields_of (shape_of form.verb) form.arguments) (word_of-no_space form.verb) (fields_of-no_space (shape_of form.verb) form.arguments h))
+    ap form_in (line_fields-join (word_of form.verb) (fields_of (verb_shape form.verb) form.arguments) (word_of-no_space form.verb) (fields_of-no_space (verb_shape form.verb) form.arguments h))
     ∙ form_in-form_fields form h
 
 -- the form is proper, and these are its fields
 abbrev IsOf : List (List ℕ) → Form → Type 0
 IsOf fs form = IsProper form × (form_fields form ≡ fs)
 
-with_arguments : (word : List ℕ) (fs : List (List ℕ)) (v : Verb) (form : Form) (o : Option (Arguments (shape_of v))) → word_of v ≡ word → arguments_in (shape_of v) fs ≡ o → option_map (form_with v) o ≡ Some form → IsOf (word ∷ fs) form
+with_arguments : (word : List ℕ) (fs : List (List ℕ)) (v : Verb) (form : Form) (o : Option (Arguments (verb_shape v))) → word_of v ≡ word → arguments_in (verb_shape v) fs ≡ o → option_map (form_with v) o ≡ Some form → IsOf (word ∷ fs) form
 with_arguments word fs v form None w e f = cc
 with_arguments word fs v form (Some a) w e f =
-    let read = fields_of-arguments_in (shape_of v) fs a e in
+    let read = fields_of-arguments_in (verb_shape v) fs a e in
     let same : form_with v a ≡ form = cc in
-    subst (IsOf (word ∷ fs)) same (read.0, ap (λ (x : List ℕ). x ∷ fields_of (shape_of v) a) w ∙ ap (λ (xs : List (List ℕ)). word ∷ xs) read.1)
+    subst (IsOf (word ∷ fs)) same (read.0, ap (λ (x : List ℕ). x ∷ fields_of (verb_shape v) a) w ∙ ap (λ (xs : List (List ℕ)). word ∷ xs) read.1)
 
 with_verb : (word : List ℕ) (fs : List (List ℕ)) (form : Form) (o : Option Verb) → verb_for word ≡ o → form_by_verb o fs ≡ Some form → IsOf (word ∷ fs) form
 with_verb word fs form None e f = cc
-with_verb word fs form (Some v) e f = with_arguments word fs v form (arguments_in (shape_of v) fs) (word_of-verb_for word v e) refl f
+with_verb word fs form (Some v) e f = with_arguments word fs v form (arguments_in (verb_shape v) fs) (word_of-verb_for word v e) refl f
 
 form_fields-form_in : (fs : List (List ℕ)) (form : Form) → form_in fs ≡ Some form → IsOf fs form
 form_fields-form_in [] form e = cc
@@ -75,13 +75,13 @@ asked : {A : Type 0} (f : A → Request) (o : Option A) → map_ok f (ok_or o Ra
 asked f None = refl
 asked f (Some a) = refl
 
-judged_form : (v : Verb) (o : Option (Arguments (shape_of v))) → map_ok (request_with v) (judged (values_for (shape_of v)) o) ≡ judged request_of (option_map (form_with v) o)
+judged_form : (v : Verb) (o : Option (Arguments (verb_shape v))) → map_ok (request_with v) (judged (values_for (verb_shape v)) o) ≡ judged request_of (option_map (form_with v) o)
 judged_form v None = refl
-judged_form v (Some a) = asked (request_with v) (values_for (shape_of v) a)
+judged_form v (Some a) = asked (request_with v) (values_for (verb_shape v) a)
 
 by_verb : (o : Option Verb) (fs : List (List ℕ)) → verb_reading o fs ≡ judged request_of (form_by_verb o fs)
 by_verb None fs = refl
-by_verb (Some v) fs = judged_form v (arguments_in (shape_of v) fs)
+by_verb (Some v) fs = judged_form v (arguments_in (verb_shape v) fs)
 
 -- the reading by verbs is that by forms
 by_form : (fs : List (List ℕ)) → fields_reading fs ≡ judged request_of (form_in fs)

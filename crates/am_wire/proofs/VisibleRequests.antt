@@ -7,7 +7,7 @@ use Rattle.am_record.specs.OrderedKey.{OrderedKey}
 use Rattle.am_record.specs.Records.{Records}
 use Rattle.am_wire.specs.Values.{IsVisible, value_for}
 use Rattle.am_wire.specs.Keys.{key_for}
-use Rattle.am_wire.specs.Verbs.{shape_of, bare, one_key, one_record, one_number, range_and_number, mode_and_range, some_records}
+use Rattle.am_wire.specs.Verbs.{verb_shape, bare, one_key, one_record, one_number, range_and_number, mode_and_range, some_records}
 use Rattle.am_wire.specs.Arguments.{RecordText, Arguments, IsRecordText, AreProper, record_for, records_for, values_for}
 use Rattle.am_wire.specs.Grammar.{request_with, Reads}
 use Rattle.am_wire.specs.Replies.{IsVisibleRow}
@@ -49,7 +49,7 @@ told f (Some x) request h e =
     let same : f x ≡ request = cc in
     subst AsksVisible same (h x refl)
 
-visible_with : (v : Verb) (a : Arguments (shape_of v)) (request : Request) → AreProper (shape_of v) a → option_map (request_with v) (values_for (shape_of v) a) ≡ Some request → AsksVisible request
+visible_with : (v : Verb) (a : Arguments (verb_shape v)) (request : Request) → AreProper (verb_shape v) a → option_map (request_with v) (values_for (verb_shape v) a) ≡ Some request → AsksVisible request
 visible_with verb.Begin a r h e = told (request_with verb.Begin) (values_for bare a) r (λ x f. tt) e
 visible_with verb.Get a r h e = told (request_with verb.Get) (values_for one_key a) r (λ x f. tt) e
 visible_with verb.Scan a r h e = told (request_with verb.Scan) (values_for range_and_number a) r (λ x f. tt) e

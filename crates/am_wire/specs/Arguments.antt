@@ -13,7 +13,7 @@ use Rattle.am_record.specs.declared.lock.Lock.{Lock}
 use Rattle.am_wire.specs.Numbers.{numeral, number_for}
 use Rattle.am_wire.specs.Keys.{IsKeyText, key_for}
 use Rattle.am_wire.specs.Values.{IsValueText, value_for}
-use Rattle.am_wire.specs.Verbs.{Shape, bare, one_key, one_record, one_number, range_and_number, mode_and_range}
+use Rattle.am_wire.specs.Verbs.{VerbShape, bare, one_key, one_record, one_number, range_and_number, mode_and_range}
 use Rattle.am_wire.specs.Verbs.{some_records}
 
 -- ---- as texts
@@ -22,7 +22,7 @@ use Rattle.am_wire.specs.Verbs.{some_records}
 abbrev pub RecordText : Type 0
 RecordText = List ℕ × List ℕ
 
-abbrev pub Arguments : Shape → Type 0
+abbrev pub Arguments : VerbShape → Type 0
 Arguments bare = Unit {0}
 Arguments one_key = List ℕ
 Arguments one_record = RecordText
@@ -40,7 +40,7 @@ abbrev pub record_field : RecordText → List ℕ
 record_field r = r.0 ++ 0x3D ∷ r.1
 
 -- the fields of a line after its verb
-abbrev pub fields_of : (shape : Shape) → Arguments shape → List (List ℕ)
+abbrev pub fields_of : (shape : VerbShape) → Arguments shape → List (List ℕ)
 fields_of bare a = []
 fields_of one_key key = key ∷ []
 fields_of one_record r = r.0 ∷ r.1 ∷ []
@@ -53,7 +53,7 @@ abbrev pub IsRecordText : RecordText → Type 0
 IsRecordText r = IsKeyText r.0 × IsValueText r.1
 
 -- whether the keys and values may stand in a line
-abbrev pub AreProper : (shape : Shape) → Arguments shape → Type 0
+abbrev pub AreProper : (shape : VerbShape) → Arguments shape → Type 0
 AreProper bare a = Unit {0}
 AreProper one_key key = IsKeyText key
 AreProper one_record r = IsRecordText r
@@ -64,7 +64,7 @@ AreProper some_records rs = (0 < length rs) × AllByRecursion IsRecordText rs
 
 -- ---- as values
 
-abbrev pub Values : Shape → Type 0
+abbrev pub Values : VerbShape → Type 0
 Values bare = Unit {0}
 Values one_key = OrderedKey
 Values one_record = OrderedKey × List ℕ
@@ -92,7 +92,7 @@ abbrev pub lock_in : Mode → Interval → Lock
 lock_in mode range = record { mode = mode; range = range }
 
 -- the values, where all are in bounds
-abbrev pub values_for : (shape : Shape) → Arguments shape → Option (Values shape)
+abbrev pub values_for : (shape : VerbShape) → Arguments shape → Option (Values shape)
 values_for bare a = Some tt
 values_for one_key key = key_for key
 values_for one_record r = record_for r

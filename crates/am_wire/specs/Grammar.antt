@@ -3,7 +3,7 @@ use Rattle.std.specs.Prelude.{◌≡◌, ◌≢◌, ℕ, List, ◌∷◌, Bool, 
 use Rattle.std.specs.Prelude.{option_map}
 use Rattle.std.specs.List.{join_with_byte}
 use Rattle.am_record.specs.declared.step.Op.TheVariants as op
-use Rattle.am_wire.specs.Verbs.{word_of, shape_of}
+use Rattle.am_wire.specs.Verbs.{word_of, verb_shape}
 use Rattle.am_wire.specs.Arguments.{Arguments, Values, fields_of, AreProper, values_for}
 use Rattle.am_wire.specs.declared.verb.Verb.{Verb}
 use Rattle.am_wire.specs.declared.verb.Verb.TheVariants as verb
@@ -16,18 +16,18 @@ use Rattle.am_wire.specs.declared.request.LineFault.TheVariants.{Syntax, Range, 
 -- what a line may say, with numbers, keys and values of any size
 pub record Form : Type 0 where
   pub verb : Verb
-  pub arguments : Arguments (shape_of verb)
+  pub arguments : Arguments (verb_shape verb)
 
 -- its line, the one text of the form: the verb's word and the fields after it, parted by one space
 abbrev pub spelling : Form → List ℕ
-spelling form = join_with_byte 32 (word_of form.verb ∷ fields_of (shape_of form.verb) form.arguments)
+spelling form = join_with_byte 32 (word_of form.verb ∷ fields_of (verb_shape form.verb) form.arguments)
 
 -- whether its keys and values may stand in a line
 abbrev pub IsProper : Form → Type 0
-IsProper form = AreProper (shape_of form.verb) form.arguments
+IsProper form = AreProper (verb_shape form.verb) form.arguments
 
 -- what a verb asks for with these values
-abbrev pub request_with : (v : Verb) → Values (shape_of v) → Request
+abbrev pub request_with : (v : Verb) → Values (verb_shape v) → Request
 request_with verb.Begin a = Begin
 request_with verb.Get key = Do (op.Get key)
 request_with verb.Scan a = Do (op.Scan a.0 a.1)
@@ -48,7 +48,7 @@ request_with verb.Quit a = Quit
 
 -- what the form asks for, where all in it is in bounds
 abbrev pub request_of : Form → Option Request
-request_of form = option_map (request_with form.verb) (values_for (shape_of form.verb) form.arguments)
+request_of form = option_map (request_with form.verb) (values_for (verb_shape form.verb) form.arguments)
 
 -- the line spells a form that is read so
 abbrev pub Spells : List ℕ → Option Request → Type 0

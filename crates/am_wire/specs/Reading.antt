@@ -7,7 +7,8 @@ use Rattle.am_record.specs.declared.lock.Mode.TheVariants.{Shared, Exclusive}
 use Rattle.am_wire.specs.Numbers.{is_numeral, numeral_value}
 use Rattle.am_wire.specs.Keys.{is_key_text}
 use Rattle.am_wire.specs.Values.{is_value_text}
-use Rattle.am_wire.specs.Verbs.{verb_for, shape_of, Shape, bare, one_key, one_record, one_number, range_and_number}
+use Rattle.am_wire.specs.Verbs.{verb_for, verb_shape, VerbShape, bare, one_key, one_record, one_number}
+use Rattle.am_wire.specs.Verbs.{range_and_number}
 use Rattle.am_wire.specs.Verbs.{mode_and_range, some_records}
 use Rattle.am_wire.specs.Arguments.{RecordText, Arguments, Values, values_for, records_for}
 use Rattle.am_wire.specs.Grammar.{request_with, brings_records}
@@ -52,7 +53,7 @@ abbrev pub records_in : List (List ℕ) → Option (List RecordText)
 records_in fs = if list_all is_record_field fs then Some (map record_text fs) else None
 
 -- what the fields after a verb say, where they have its shape
-abbrev pub arguments_in : (shape : Shape) → List (List ℕ) → Option (Arguments shape)
+abbrev pub arguments_in : (shape : VerbShape) → List (List ℕ) → Option (Arguments shape)
 arguments_in bare [] = Some tt
 arguments_in one_key (key ∷ []) = if is_key_text key then Some key else None
 arguments_in one_record (key ∷ value ∷ []) = if is_record_text (key, value) then Some (key, value) else None
@@ -70,7 +71,7 @@ judged values None = Err Syntax
 judged values (Some texts) = ok_or (values texts) Range
 
 -- the values of the fields after a verb
-abbrev pub values_in : (shape : Shape) → List (List ℕ) → Result (Values shape) LineFault
+abbrev pub values_in : (shape : VerbShape) → List (List ℕ) → Result (Values shape) LineFault
 values_in shape fs = judged (values_for shape) (arguments_in shape fs)
 
 -- this is what is due, or memory was refused where it is no fault
@@ -90,7 +91,7 @@ map_ok f (Err e) = Err e
 -- what the fields after a verb ask for
 abbrev pub verb_reading : Option Verb → List (List ℕ) → Result Request LineFault
 verb_reading None fs = Err Syntax
-verb_reading (Some verb) fs = map_ok (request_with verb) (values_in (shape_of verb) fs)
+verb_reading (Some verb) fs = map_ok (request_with verb) (values_in (verb_shape verb) fs)
 
 abbrev pub fields_reading : List (List ℕ) → Result Request LineFault
 fields_reading [] = Err Syntax

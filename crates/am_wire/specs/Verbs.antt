@@ -25,33 +25,33 @@ word_of Quit = codes "QUIT"
 
 -- what stands after the word: nothing, a key, a record's key and value, a number, the ends of a range and a number, a
 -- mode and the ends of a range, or records written k=v, one at least
-pub data Shape : Type 0 where
-  bare : Shape
-  one_key : Shape
-  one_record : Shape
-  one_number : Shape
-  range_and_number : Shape
-  mode_and_range : Shape
-  some_records : Shape
+pub data VerbShape : Type 0 where
+  bare : VerbShape
+  one_key : VerbShape
+  one_record : VerbShape
+  one_number : VerbShape
+  range_and_number : VerbShape
+  mode_and_range : VerbShape
+  some_records : VerbShape
 
-abbrev pub shape_of : Verb → Shape
-shape_of Begin = bare
-shape_of Get = one_key
-shape_of Scan = range_and_number
-shape_of Insert = one_record
-shape_of Replace = one_record
-shape_of Delete = one_key
-shape_of Load = some_records
-shape_of Stage = some_records
-shape_of Lock = mode_and_range
-shape_of Mark = bare
-shape_of Back = bare
-shape_of Commit = bare
-shape_of Abort = bare
-shape_of Merge = one_number
-shape_of Clean = range_and_number
-shape_of Seen = bare
-shape_of Quit = bare
+abbrev pub verb_shape : Verb → VerbShape
+verb_shape Begin = bare
+verb_shape Get = one_key
+verb_shape Scan = range_and_number
+verb_shape Insert = one_record
+verb_shape Replace = one_record
+verb_shape Delete = one_key
+verb_shape Load = some_records
+verb_shape Stage = some_records
+verb_shape Lock = mode_and_range
+verb_shape Mark = bare
+verb_shape Back = bare
+verb_shape Commit = bare
+verb_shape Abort = bare
+verb_shape Merge = one_number
+verb_shape Clean = range_and_number
+verb_shape Seen = bare
+verb_shape Quit = bare
 
 abbrev pub verbs : List Verb
 verbs = Begin ∷ Get ∷ Scan ∷ Insert ∷ Replace ∷ Delete ∷ Load ∷ Stage ∷ Lock ∷ Mark ∷ Back ∷ Commit ∷ Abort ∷ Merge ∷

@@ -7,7 +7,7 @@ use lib.ListN.{get_elem?}
 use Rattle.atomic_table.specs.Table.{Me, step, keeps, Allows, Splits, opening}
 use Rattle.atomic_table.proofs.Lists.{at_set, at_snoc}
 use Rattle.am_words.specs.declared.rule.View.{View}
-use Rattle.am_words.specs.Words.{all_seats, one, without_one, total, times, once_below, greatest, Kept, Drew, Published, Saw}
+use Rattle.am_words.specs.Words.{all_seats, one, without_one, total, count_of, once_below, greatest, IsRuleOfWords, DrawsNumber, RaisesWatch, SeesWatch}
 
 pub total_set : (f : View → ℕ) (vs : List View) (k : ℕ) (v w : View) → get_elem? vs k ≡ some v → total f (set vs k w) + f v ≡ total f vs + f w
 total_set f [] k v w e = absurd (some-ne-none v (sym e))
@@ -22,9 +22,9 @@ pub total_bound : (c : ℕ) (f g : View → ℕ) (vs : List View) → ((k : ℕ)
 total_bound c f g [] each = omega arith
 total_bound c f g (x ∷ xs) each = omega (arith, each 0 x refl, total_bound c f g xs (λ k v e. each (suc k) v e))
 
-pub times-snoc : (x : ℕ) (ys : List ℕ) (y : ℕ) → times x (ys ++ y ∷ []) ≡ times x ys + cond (y == x) 1 0
-times-snoc x [] y = omega arith
-times-snoc x (z ∷ zs) y = omega (arith, times-snoc x zs y)
+pub count_of-snoc : (x : ℕ) (ys : List ℕ) (y : ℕ) → count_of x (ys ++ y ∷ []) ≡ count_of x ys + cond (y == x) 1 0
+count_of-snoc x [] y = omega arith
+count_of-snoc x (z ∷ zs) y = omega (arith, count_of-snoc x zs y)
 
 pub once_step : (x n : ℕ) → once_below x (n + 1) ≡ once_below x n + cond (n == x) 1 0
 once_step x n = grind (arith, nat_tests)
@@ -55,7 +55,7 @@ each_one : (P : View → Type 0) (w : View) → P w → (k : ℕ) (v : View) →
 each_one P w mine zero v e = subst P (some-injective w v e) mine
 each_one P w mine (suc k) v e = absurd (some-ne-none v (sym e))
 
-pub starts : Kept (opening (0 ∷ 0 ∷ []) [] all_seats)
+pub starts : IsRuleOfWords (opening (0 ∷ 0 ∷ []) [] all_seats)
 starts = record {
   next = 0;
   watch = 0;
@@ -69,7 +69,7 @@ starts = record {
 }
 
 pub draws : (slots id : ℕ) (me : Me ℕ View) → length me.0.drawn < 1000000 → 1 ≤ me.0.seats
-    → Allows Kept slots id me 0 (λ n. (n + 1) % 2 ^ 64) (Drew (step slots 0 1 0 none) me)
+    → Allows IsRuleOfWords slots id me 0 (λ n. (n + 1) % 2 ^ 64) (DrawsNumber (step slots 0 1 0 none) me)
 draws slots id me few some_seat s h long at fits =
     let v = me.0 in
     let n : ℕ = slice_index s.words 0 in
@@ -89,15 +89,15 @@ draws slots id me few some_seat s h long at fits =
         seats = omega (arith, total_set (λ u. u.seats) s.views id v w at, h.seats);
         few = each_set (λ u. length u.drawn ≤ 1000000 * u.seats) s.views id w h.few (omega arith);
         count = omega (arith, total_set (λ u. length u.drawn) s.views id v w at, h.count, longer);
-        each_once = λ x. let here : times x w.drawn ≡ times x v.drawn + cond (h.next == x) 1 0 = times-snoc x v.drawn n ∙ ap (λ k. times x v.drawn + cond (k == x) 1 0) found in
-            omega (arith, total_set (λ u. times x u.drawn) s.views id v w at, h.each_once x, once_step x h.next, here);
+        each_once = λ x. let here : count_of x w.drawn ≡ count_of x v.drawn + cond (h.next == x) 1 0 = count_of-snoc x v.drawn n ∙ ap (λ k. count_of x v.drawn + cond (k == x) 1 0) found in
+            omega (arith, total_set (λ u. count_of x u.drawn) s.views id v w at, h.each_once x, once_step x h.next, here);
         top = let t = greatest_set s.views id 0 v w at (omega arith) in omega (arith, t, h.top);
         seen = each_set (λ u. u.saw ≤ h.watch) s.views id w h.seen (h.seen id v at);
       },
       refl,
     )
 
-pub publishes : (slots id k : ℕ) (me : Me ℕ View) → Allows Kept slots id me 1 (λ n. max n k) (Published (step slots 1 k 0 none) me)
+pub publishes : (slots id k : ℕ) (me : Me ℕ View) → Allows IsRuleOfWords slots id me 1 (λ n. max n k) (RaisesWatch (step slots 1 k 0 none) me)
 publishes slots id k me s h long at fits =
     let v = me.0 in
     let found : slice_index s.words 1 ≡ h.watch = ap (λ ws. slice_index ws 1) h.words in
@@ -112,14 +112,14 @@ publishes slots id k me s h long at fits =
         seats = omega (arith, total_set (λ u. u.seats) s.views id v w at, h.seats);
         few = each_set (λ u. length u.drawn ≤ 1000000 * u.seats) s.views id w h.few (h.few id v at);
         count = omega (arith, total_set (λ u. length u.drawn) s.views id v w at, h.count);
-        each_once = λ x. omega (arith, total_set (λ u. times x u.drawn) s.views id v w at, h.each_once x);
+        each_once = λ x. omega (arith, total_set (λ u. count_of x u.drawn) s.views id v w at, h.each_once x);
         top = ap (λ m. max m k) h.top ∙ sym (greatest_set s.views id k v w at refl);
         seen = each_set (λ u. u.saw ≤ max h.watch k) s.views id w (λ j u e. omega (arith, h.seen j u e)) (omega (arith, h.seen id v at));
       },
       refl,
     )
 
-pub sees : (slots id : ℕ) (me : Me ℕ View) → Allows Kept slots id me 1 (λ n. n) (Saw (step slots 1 0 0 none) me)
+pub sees : (slots id : ℕ) (me : Me ℕ View) → Allows IsRuleOfWords slots id me 1 (λ n. n) (SeesWatch (step slots 1 0 0 none) me)
 sees slots id me s h long at fits =
     let v = me.0 in
     let n : ℕ = slice_index s.words 1 in
@@ -135,14 +135,14 @@ sees slots id me s h long at fits =
         seats = omega (arith, total_set (λ u. u.seats) s.views id v w at, h.seats);
         few = each_set (λ u. length u.drawn ≤ 1000000 * u.seats) s.views id w h.few (h.few id v at);
         count = omega (arith, total_set (λ u. length u.drawn) s.views id v w at, h.count);
-        each_once = λ x. omega (arith, total_set (λ u. times x u.drawn) s.views id v w at, h.each_once x);
+        each_once = λ x. omega (arith, total_set (λ u. count_of x u.drawn) s.views id v w at, h.each_once x);
         top = let t = greatest_set s.views id 0 v w at (omega arith) in omega (arith, t, h.top);
         seen = each_set (λ u. u.saw ≤ h.watch) s.views id w h.seen (omega arith);
       },
       (refl, omega (arith, h.seen id v at), omega (arith, greatest_above s.views id v at, h.top)),
     )
 
-pub splits : (id : ℕ) (v : View) → 1 ≤ v.seats → v.drawn ≡ [] → Splits Kept id v (without_one v) one
+pub splits : (id : ℕ) (v : View) → 1 ≤ v.seats → v.drawn ≡ [] → Splits IsRuleOfWords id v (without_one v) one
 splits id v some_seat none_drawn s h at =
     let w = without_one v in
     let vs = set s.views id w in
@@ -154,7 +154,7 @@ splits id v some_seat none_drawn s h at =
       seats = omega (arith, total_set (λ u. u.seats) s.views id v w at, total-snoc (λ u. u.seats) vs one, h.seats);
       few = each_snoc (λ u. length u.drawn ≤ 1000000 * u.seats) vs one (each_set (λ u. length u.drawn ≤ 1000000 * u.seats) s.views id w h.few mine) (omega arith);
       count = omega (arith, total_set (λ u. length u.drawn) s.views id v w at, total-snoc (λ u. length u.drawn) vs one, h.count);
-      each_once = λ x. omega (arith, total_set (λ u. times x u.drawn) s.views id v w at, total-snoc (λ u. times x u.drawn) vs one, h.each_once x);
+      each_once = λ x. omega (arith, total_set (λ u. count_of x u.drawn) s.views id v w at, total-snoc (λ u. count_of x u.drawn) vs one, h.each_once x);
       top = let t = greatest_set s.views id 0 v w at (omega arith) in omega (arith, t, greatest-snoc vs one, h.top);
       seen = each_snoc (λ u. u.saw ≤ h.watch) vs one (each_set (λ u. u.saw ≤ h.watch) s.views id w h.seen (h.seen id v at)) (omega arith);
     }

@@ -7,14 +7,14 @@ use Rattle.atomic_table.specs.Seated.{TableId}
 use Rattle.am_words.specs.declared.rule.View.{View}
 
 -- what contracts see of a seat
-pub record Hand : Type 0 where
+pub record WordHistory : Type 0 where
   pub of : TableId
   pub drawn : List ℕ
   pub saw : ℕ
   pub published : ℕ
 
-abbrev pub newcomer : TableId → Hand
-newcomer id = record { of = id; drawn = []; saw = 0; published = 0 }
+abbrev pub new_history : TableId → WordHistory
+new_history id = record { of = id; drawn = []; saw = 0; published = 0 }
 
 abbrev pub all_seats : View
 all_seats = record { seats = 1024; drawn = []; saw = 0; published = 0 }
@@ -31,9 +31,9 @@ total f [] = 0
 total f (v ∷ vs) = f v + total f vs
 
 -- how often x stands in the list
-abbrev pub times : ℕ → List ℕ → ℕ
-times x [] = 0
-times x (y ∷ ys) = cond (y == x) 1 0 + times x ys
+abbrev pub count_of : ℕ → List ℕ → ℕ
+count_of x [] = 0
+count_of x (y ∷ ys) = cond (y == x) 1 0 + count_of x ys
 
 -- 1 where x is below n, and else 0
 abbrev pub once_below : ℕ → ℕ → ℕ
@@ -46,40 +46,40 @@ greatest (v ∷ vs) = max v.published (greatest vs)
 
 -- The next number is the count of all draws, and the numbers drawn are those below it, each once.
 -- The watch is the greatest published number, and no seat saw a greater one.
-pub record Kept (s : State ℕ View) : Type 0 where
+pub record IsRuleOfWords (s : State ℕ View) : Type 0 where
   pub next : ℕ
   pub watch : ℕ
   pub words : s.words ≡ next ∷ watch ∷ []
   pub seats : total (λ v. v.seats) s.views ≤ 1024
   pub few : (k : ℕ) (v : View) → get_elem? s.views k ≡ some v → length v.drawn ≤ 1000000 * v.seats
   pub count : total (λ v. length v.drawn) s.views ≡ next
-  pub each_once : (x : ℕ) → total (λ v. times x v.drawn) s.views ≡ once_below x next
+  pub each_once : (x : ℕ) → total (λ v. count_of x v.drawn) s.views ≡ once_below x next
   pub top : watch ≡ greatest s.views
   pub seen : (k : ℕ) (v : View) → get_elem? s.views k ≡ some v → v.saw ≤ watch
 
-abbrev pub Drew : Step ℕ → Me ℕ View → ℕ → Me ℕ View → Type 0
-Drew st m n m' = m'.0 ≡ record {
+abbrev pub DrawsNumber : Step ℕ → Me ℕ View → ℕ → Me ℕ View → Type 0
+DrawsNumber st m n m' = m'.0 ≡ record {
   seats = m.0.seats;
   drawn = m.0.drawn ++ n ∷ [];
   saw = m.0.saw;
   published = m.0.published;
 }
 
-abbrev pub Published : Step ℕ → Me ℕ View → ℕ → Me ℕ View → Type 0
-Published st m n m' = m'.0 ≡ record {
+abbrev pub RaisesWatch : Step ℕ → Me ℕ View → ℕ → Me ℕ View → Type 0
+RaisesWatch st m n m' = m'.0 ≡ record {
   seats = m.0.seats;
   drawn = m.0.drawn;
   saw = m.0.saw;
   published = max m.0.published st.first;
 }
 
-abbrev pub Saw : Step ℕ → Me ℕ View → ℕ → Me ℕ View → Type 0
-Saw st m n m' = (m'.0 ≡ record { seats = m.0.seats; drawn = m.0.drawn; saw = n; published = m.0.published }) ×
+abbrev pub SeesWatch : Step ℕ → Me ℕ View → ℕ → Me ℕ View → Type 0
+SeesWatch st m n m' = (m'.0 ≡ record { seats = m.0.seats; drawn = m.0.drawn; saw = n; published = m.0.published }) ×
     (m.0.saw ≤ n) × (m.0.published ≤ n)
 
 -- the rule held of these words and of all views, in which one has what this seat drew, saw and published
-abbrev pub WereKept : ℕ → ℕ → Hand → Type 0
-WereKept next watch hand =
-    (s : State ℕ View) × Kept s × (s.words ≡ next ∷ watch ∷ [])
-    × ((k : ℕ) × (v : View) × (get_elem? s.views k ≡ some v) × (v.drawn ≡ hand.drawn) × (v.saw ≡ hand.saw) ×
-    (v.published ≡ hand.published))
+abbrev pub HeldAtEnd : ℕ → ℕ → WordHistory → Type 0
+HeldAtEnd next watch word_seat =
+    (s : State ℕ View) × IsRuleOfWords s × (s.words ≡ next ∷ watch ∷ [])
+    × ((k : ℕ) × (v : View) × (get_elem? s.views k ≡ some v) × (v.drawn ≡ word_seat.drawn) × (v.saw ≡ word_seat.saw) ×
+    (v.published ≡ word_seat.published))

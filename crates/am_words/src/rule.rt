@@ -15,9 +15,9 @@ pub(crate) struct View {
 pub(crate) struct TwoWords;
 
 impl TableRule<u8, View, ()> for TwoWords {
-    ghost use Rattle.am_words.specs.Words.{Kept, all_seats};
+    ghost use Rattle.am_words.specs.Words.{IsRuleOfWords, all_seats};
 
-    ghost holds = { λ _. Kept };
+    ghost holds = { λ _. IsRuleOfWords };
 
     ghost first = { λ _. all_seats };
 }
@@ -25,25 +25,25 @@ impl TableRule<u8, View, ()> for TwoWords {
 pub(crate) struct Draws;
 
 impl Play<u8, View> for Draws {
-    ghost use Rattle.am_words.specs.Words.{Drew};
+    ghost use Rattle.am_words.specs.Words.{DrawsNumber};
 
-    ghost then = { Drew };
+    ghost then = { DrawsNumber };
 }
 
 pub(crate) struct Publishes;
 
 impl Play<u8, View> for Publishes {
-    ghost use Rattle.am_words.specs.Words.{Published};
+    ghost use Rattle.am_words.specs.Words.{RaisesWatch};
 
-    ghost then = { Published };
+    ghost then = { RaisesWatch };
 }
 
 pub(crate) struct Sees;
 
 impl Play<u8, View> for Sees {
-    ghost use Rattle.am_words.specs.Words.{Saw};
+    ghost use Rattle.am_words.specs.Words.{SeesWatch};
 
-    ghost then = { Saw };
+    ghost then = { SeesWatch };
 }
 
 /// Cuts one seat off.

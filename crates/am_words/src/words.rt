@@ -2,8 +2,8 @@
 
 ghost use Rattle.std.specs.Prelude.{◌≡◌, ℕ, ◌+◌, ◌*◌, ◌<◌, ◌≤◌, ◌∷◌, ◌++◌, [], All, IfErr, IfOk, MatchOption, OnOk};
 ghost use Rattle.std.specs.Prelude.{length, max, vec_len, ◌⊎◌, ◌↔◌};
-ghost use Rattle.am_words.specs.Words.{Hand, newcomer, WereKept};
-ghost use Rattle.am_words.specs.Faults.{IsBadSeats};
+ghost use Rattle.am_words.specs.Words.{WordHistory, new_history, HeldAtEnd};
+ghost use Rattle.am_words.specs.Faults.{IsBadCount};
 
 use crate::rule::{Draws, OneSeat, Publishes, Sees, TwoWords, View};
 use am_latch::CommitReceipt;
@@ -57,9 +57,9 @@ pub struct WordSeat {
 
 impl Model for WordSeat {
     ghost use Rattle.std.specs.Prelude.{◌≡◌, ◌≤◌, length};
-    ghost use Rattle.am_words.specs.Words.{Hand};
+    ghost use Rattle.am_words.specs.Words.{WordHistory};
 
-    ghost Value = { Hand };
+    ghost Value = { WordHistory };
 
     ghost view = { λ s. record {
       of = s.seat.table_id;
@@ -77,8 +77,8 @@ impl Words {
     /// # Errors
     /// BadSeats, unless 1 to 1,024 seats are asked for; NoMemory, where memory was refused.
     pub fn open(alloc: Global, count: usize) -> Result<(Words, Vec<WordSeat>), WordsFault>
-        ensures ok { IfOk result (λ r. (vec_len r.1 ≡ count) × All (λ s. s ≡ newcomer r.0) r.1.items) }
-        ensures bad { IfErr result (λ e. IsBadSeats e ↔ ((count ≡ 0) ⊎ (1024 < count))) }
+        ensures ok { IfOk result (λ r. (vec_len r.1 ≡ count) × All (λ s. s ≡ new_history r.0) r.1.items) }
+        ensures bad { IfErr result (λ e. IsBadCount e ↔ ((count ≡ 0) ⊎ (1024 < count))) }
         ensures counted { OnOk result ((1 ≤ count) × (count ≤ 1024)) }
     {
         if count == 0 || count > MOST_SEATS {
@@ -129,7 +129,7 @@ impl Words {
     /// among them: this is where a contract says it.
     pub fn end(self, me: WordSeat) -> (u64, u64)
         requires { me.of ≡ self }
-        ensures { WereKept result.0 result.1 me }
+        ensures { HeldAtEnd result.0 result.1 me }
     {
         let Words { table } = self;
         let WordSeat { seat, drawn: _ } = me;

@@ -1,13 +1,13 @@
 //! Threads that take merging turns on the seats of a latch.
 //!
 //! - [`run_workers`]: one thread for each seat, each with its turns.
-//! - [`Gate`]: says when a worker may take its next turn, and when it ends.
-//! - [`Worked`]: the seats as their workers left them, and how many entries were moved.
+//! - [`Pacer`]: says when a worker may take its next turn, and when it ends.
+//! - [`WorkerSeats`]: the seats as their workers left them, and how many entries were moved.
 #![tactic(auto)]
 
-mod gate;
+mod pacer;
 mod turns;
 mod workers;
 
-pub use gate::Gate;
-pub use workers::{Worked, run_workers};
+pub use pacer::Pacer;
+pub use workers::{WorkerSeats, run_workers};

@@ -1,26 +1,26 @@
 //! The turns of one worker.
 
-ghost use Rattle.am_workers.specs.Turns.{Turned};
+ghost use Rattle.am_workers.specs.Turns.{HasTakenTurns};
 
-use crate::gate::Gate;
-use am_latch::{Latch, Naming, Seat};
+use crate::pacer::Pacer;
+use am_latch::{Latch, LatchName, Seat};
 use am_record::{Refusal, Reply, Step};
 use std::sync::Wait;
 
 /// Takes a worker's turns.
-pub(crate) fn take_turns<L: Naming, R: Wait, G: Gate>(
+pub(crate) fn take_turns<L: LatchName, R: Wait, G: Pacer>(
     rt: &R,
     latch: &Latch<L>,
     seat: &mut Seat<L>,
     worker: u32,
     turns: u64,
     limit: u64,
-    gate: &G,
+    pacer: &G,
 )
-    ensures { Turned limit turns seat.old seat.new }
+    ensures { HasTakenTurns limit turns seat.old seat.new }
 {
     for turn in 0..turns {
-        if !gate.pass(rt, worker, turn) {
+        if !pacer.await_turn(rt, worker, turn) {
             return;
         }
         let reply = seat.call(rt, latch, Step::Merge(limit));

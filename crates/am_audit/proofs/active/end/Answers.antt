@@ -2,7 +2,7 @@ use Rattle.std.proofs.Common.{rules, map, ap, ◌∙◌}
 use Rattle.std.specs.Prelude.{not, ◌==◌}
 use Rattle.std.proofs.lemmas.Fn.{filter_same}
 use Rattle.am_audit.specs.declared.active.Active.{Active}
-use Rattle.am_audit.specs.Standing.{listed}
+use Rattle.am_audit.specs.Progress.{listed}
 use Rattle.am_audit.proofs.Actives.{list_kept}
 use Rattle.am_audit.proofs.active.end.Goals as goal
 

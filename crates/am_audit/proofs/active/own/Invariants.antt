@@ -1,6 +1,6 @@
 use Rattle.std.proofs.Common.{◌≡◌, map}
 use Rattle.std.specs.Prelude.{drop}
-use Rattle.am_audit.specs.Standing.{listed, is_listed, own_in}
+use Rattle.am_audit.specs.Progress.{listed, is_listed, own_in}
 use Rattle.am_audit.proofs.active.own.Given as goal
 
 abbrev pub invariant-loop-active : goal.invariant-loop-active

@@ -1,5 +1,5 @@
 use Rattle.std.proofs.Common.{bit_or, ◌∙◌}
-use Rattle.am_filter.specs.Held.{mask_of}
+use Rattle.am_filter.specs.Filters.{mask_of}
 use Rattle.am_filter.proofs.filter.mask.Goals as goal
 
 pub returns : goal.returns

@@ -16,6 +16,6 @@ returns c =
     record {
       before = before;
       undoes =
-          subst (λ (ns : List Note). Undoes c.mark.new.self.entries ns (λ _. true) before) (sym (c.note.ensures.notes ∙ ap noted c.reserve.ensures.notes))
-          (subst (λ (l : List Entry). Undoes l (noted c.args.log.now.notes) (λ _. true) before) (sym c.mark.ensures.entries) after);
+          subst (λ (ns : List Note). Undoes c.set.new.self.entries ns (λ _. true) before) (sym (c.note.ensures.notes ∙ ap noted c.reserve.ensures.notes))
+          (subst (λ (l : List Entry). Undoes l (noted c.args.log.now.notes) (λ _. true) before) (sym c.set.ensures.entries) after);
     }

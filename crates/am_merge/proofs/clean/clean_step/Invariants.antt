@@ -1,5 +1,5 @@
 use Rattle.std.proofs.Common.{◌≡◌}
-use Rattle.am_parts.specs.Partitions.{IsSound}
+use Rattle.am_parts.specs.Partitions.{AreWellFormed}
 use Rattle.am_merge.specs.Holding.{holder_of}
 use Rattle.am_merge.proofs.Cleaning.{IsCleaned}
 use Rattle.am_merge.proofs.clean.clean_step.Given as goal
@@ -7,6 +7,6 @@ use Rattle.am_merge.proofs.clean.clean_step.Given as goal
 abbrev pub invariant-loop-cleaned : goal.invariant-loop-cleaned
 invariant-loop-cleaned g l = record {
   way : IsCleaned l.initial.parts.entries (holder_of l.locks) l.range l.parts.entries l.from l.cleaned;
-  sound : IsSound l.initial.parts.entries;
+  sound : AreWellFormed l.initial.parts.entries;
   runs : l.parts.runs ≡ l.initial.parts.runs;
 }

@@ -3,7 +3,7 @@ use Rattle.am_wire.specs.Taking.{Took}
 use Rattle.am_wire.specs.Giving.{Gave}
 use Rattle.am_talk.specs.Dialogue.{Whole, TornAt}
 use Rattle.am_session.specs.Talk.{AnswersAll, AnswersOneMore}
-use Rattle.am_session.specs.Solo.{active_in, SoloGoes, SoloTells, IsSpoken}
+use Rattle.am_session.specs.Solo.{solo_meaning, IsSpoken}
 use Rattle.am_session.proofs.Speaking.{spoken_whole, spoken_torn, ends_by}
 use Rattle.am_session.proofs.alone.serve_alone.Goals as goal
 
@@ -21,8 +21,8 @@ returns-clause-spoke g c =
     let lines_torn = c.answers_are_lines.ensures.torn auto in
     let say_torn = c.sound_dialogues_say.ensures.torn auto in
     ends_by (λ bytes. Took g.S.AnsweredSource.comes c.args.source.now bytes c.serve.new.source) (λ text. Gave g.K.Sink.holds c.args.sink.now text c.serve.new.sink) (g.S.AnsweredSource.comes c.serve.new.source [])
-    (λ exchanges events. AnswersAll active_in SoloGoes SoloTells auto s0 exchanges events b) (λ exchanges events. IsSpoken auto Whole exchanges exchanges events)
-    (λ exchanges last events. AnswersOneMore active_in SoloGoes SoloTells auto s0 exchanges last events b) (λ exchanges last events. IsSpoken auto (TornAt last) exchanges (exchanges ++ last ∷ []) events)
+    (λ exchanges events. AnswersAll solo_meaning auto s0 exchanges events b) (λ exchanges events. IsSpoken auto Whole exchanges exchanges events)
+    (λ exchanges last events. AnswersOneMore solo_meaning auto s0 exchanges last events b) (λ exchanges last events. IsSpoken auto (TornAt last) exchanges (exchanges ++ last ∷ []) events)
     (b ≡ s0) (Unit {0})
     (spoken_whole auto s0 fresh opened sound legal_of say_whole lines_whole lines_torn say_torn b) (spoken_torn auto s0 fresh opened sound legal_of say_whole lines_whole lines_torn say_torn b) (λ same. tt)
     c.serve.result c.serve.ensures.served

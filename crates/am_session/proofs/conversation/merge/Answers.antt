@@ -6,5 +6,5 @@ use Rattle.am_session.proofs.conversation.merge.Goals as goal
 
 pub returns-then-auto-ne0-clause-merged : goal.returns-then-auto-ne0-clause-merged
 returns-then-auto-ne0-clause-merged g c =
-    merged_once g.B.Backend.active g.B.Backend.goes g.B.Backend.tells c.args.auto (c.args.backend.now, c.args.session.now.staged) (c.call-reply.new.self, c.reply.new.self.staged) c.call-reply.result
-    (ne_eqb _ _ c.if-auto-ne0.true) c.call-reply.ensures.goes (ap (λ (s : SessionState). s.staged) c.reply.ensures)
+    merged_once g.B.Backend.means c.args.auto (c.args.backend.now, c.args.session.now.staged) (c.call-reply.new.self, c.reply.new.self.staged) c.call-reply.result
+    (ne_eqb _ _ c.if-auto-ne0.true) c.call-reply.ensures.steps (ap (λ (s : SessionState). s.staged) c.reply.ensures)

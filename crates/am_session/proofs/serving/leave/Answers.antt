@@ -2,10 +2,10 @@ use Rattle.std.proofs.Common.{ℕ, Option, [], ◌∷◌, refl, sym, subst}
 use Rattle.am_record.specs.declared.step.Step.TheVariants.{Abort}
 use Rattle.am_record.specs.declared.step.Reply.{Reply}
 use Rattle.am_record.specs.declared.step.Reply.TheVariants.{Aborted}
-use Rattle.am_session.specs.Pauses.{Left}
+use Rattle.am_session.specs.Stops.{Left}
 use Rattle.am_session.proofs.serving.leave.Goals as goal
 
 pub returns-in-Some-clause-left : goal.returns-in-Some-clause-left
 returns-in-Some-clause-left g c =
-    let goes = subst (λ (r : Reply). g.B.Backend.goes c.args.backend.now (Abort c.in-Some.tx) r c.call.new.self) c.call.ensures.aborted c.call.ensures.goes in
-    subst (λ (a : Option ℕ). Left g.B.Backend.active g.B.Backend.goes g.B.Backend.tells a c.args.backend.now c.call.new.self) (sym c.in-Some.is) ((Abort c.in-Some.tx, Aborted) ∷ [], (goes, refl))
+    let goes = subst (λ (r : Reply). g.B.Backend.means.steps c.args.backend.now (Abort c.in-Some.tx) r c.call.new.self) c.call.ensures.aborted c.call.ensures.steps in
+    subst (λ (a : Option ℕ). Left g.B.Backend.means a c.args.backend.now c.call.new.self) (sym c.in-Some.is) ((Abort c.in-Some.tx, Aborted) ∷ [], (goes, refl))

@@ -10,5 +10,5 @@ use Rattle.am_thread_tests.proofs.seats.by_two_threads.Goals as goal
 pub join-first-requires-send-F : goal.join-first-requires-send-F
 join-first-requires-send-F g c κs within = param_send _ _ (arg_send _ no _ (captures_send _ _ _ _
     (shr_send _ _ (param 1 g.row.R) (search (c.type_bounds, sendable) depth 10))
-    (shr_send _ _ (Latch.the_row (param 0 g.row.L) g.L.Naming) (latch_sync (param 0 g.row.L) g.L.Naming))
-    (seat.the_send (param 0 g.row.L) g.L.Naming)))
+    (shr_send _ _ (Latch.the_row (param 0 g.row.L) g.L.LatchName) (latch_sync (param 0 g.row.L) g.L.LatchName))
+    (seat.the_send (param 0 g.row.L) g.L.LatchName)))

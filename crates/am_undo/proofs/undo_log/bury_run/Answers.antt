@@ -9,11 +9,11 @@ pub loop-next-smaller : goal.loop-next-smaller
 loop-next-smaller g c =
     rw c.in-Some.is
     (goes_down c.args.parts.now.entries c.loop-next.parts.entries c.args.run c.in-Some.entry (subst (λ n. Buries c.args.parts.now.entries c.loop-next.parts.entries c.args.run n) c.in-Some.is c.loop-next.invariant.buries)
-    c.mark.new.self.entries c.after-next.result c.after-next.ensures.found)
+    c.set.new.self.entries c.after-next.result c.after-next.ensures.found)
 
 pub loop-next-preserved : goal.loop-next-preserved
 loop-next-preserved g c = record {
   buries = goes_on c.args.parts.now.entries c.loop-next.parts.entries c.args.run c.in-Some.entry (subst (λ n. Buries c.args.parts.now.entries c.loop-next.parts.entries c.args.run n) c.in-Some.is c.loop-next.invariant.buries)
-      c.mark.new.self.entries c.after-next.result c.mark.ensures.entries c.after-next.ensures.sound.rising c.after-next.ensures.found;
-  runs = c.mark.ensures.runs ∙ c.loop-next.invariant.runs;
+      c.set.new.self.entries c.after-next.result c.set.ensures.entries c.after-next.ensures.sound.rising c.after-next.ensures.found;
+  runs = c.set.ensures.runs ∙ c.loop-next.invariant.runs;
 }

@@ -1,7 +1,7 @@
 use Rattle.std.proofs.Common.{◌≡◌, nat_eq, ◌<◌, List, ℕ, length, get_or, bit_and, sym, ap, ◌∙◌, subst}
 use Rattle.am_filter.proofs.Setting.{any_default}
 use Rattle.am_record.specs.KeyMix.{key_mix}
-use Rattle.am_filter.specs.Held.{mask_of, slot_of, holds}
+use Rattle.am_filter.specs.Filters.{mask_of, word_index, holds}
 use Rattle.am_filter.proofs.filter.Filter.holds_mixed.Goals as goal
 
 pub returns : goal.returns
@@ -10,6 +10,6 @@ returns c = λ k e.
     let ws = c.args.self.now in
     let mask : c.mask-mask.result ≡ mask_of (key_mix k) = c.mask-mask.ensures ∙ ap mask_of e in
     let lt : c.slot.result < length c.self.inside.words.items = subst (λ (l : List ℕ). c.slot.result < length l) (sym c.self.view_is) c.slot.ensures.in_range in
-    let word : c.index.result.now ≡ get_or ws (slot_of ws (key_mix k)) 0 =
-    c.index.ensures ∙ any_default c.self.inside.words.items c.slot.result c.index.result.now lt ∙ (λ j. get_or (c.self.view_is j) (c.slot.ensures.value j) 0) ∙ ap (λ (n : ℕ). get_or ws (slot_of ws n) 0) e in
+    let word : c.index.result.now ≡ get_or ws (word_index ws (key_mix k)) 0 =
+    c.index.ensures ∙ any_default c.self.inside.words.items c.slot.result c.index.result.now lt ∙ (λ j. get_or (c.self.view_is j) (c.slot.ensures.value j) 0) ∙ ap (λ (n : ℕ). get_or ws (word_index ws n) 0) e in
     λ j. nat_eq (bit_and (word j) (mask j)) (mask j)

@@ -1,7 +1,7 @@
 use Rattle.std.proofs.Common.{arith, ◌≡◌, ℕ, length, List, [], ◌∷◌, ◌++◌, vec_len, vec_capacity, ap, sym, subst, ◌∙◌}
 use Rattle.am_record.specs.declared.step.Step.{Step}
 use Rattle.am_serial.specs.Trace.{Trace}
-use Rattle.am_latch.specs.Changes.{active, change, moved, HasTrace}
+use Rattle.am_latch.specs.Changes.{active_in_trace, change, active_with, HasTrace}
 use Rattle.am_latch.specs.Traces.{ends_after}
 use Rattle.am_latch.proofs.Rooms.{room_step}
 use Rattle.am_latch.proofs.Storing.{active_from-snoc}
@@ -34,10 +34,10 @@ invariant_of-self-2 c =
     let copies = c.in-Some.ensures.copies in
     let pushed : c.push_reserved.new.self.items ≡ old ++ (st, r) ∷ [] = c.push_reserved.ensures.items ∙ (λ j. room.ensures.same.0 j ++ (copies.0 j, c.copy_reply.ensures j) ∷ []) in
     let ends : c.count_ends-self-inside.result ≡ ends_after c.self.inside.ends (change st r) = c.count_ends-self-inside.ensures ∙ ap (ends_after c.self.inside.ends) (c.change_by.ensures ∙ ap (λ (s : Step). change s r) copies.0) in
-    let now : active c.push_reserved.new.self.items ≡ moved (active old) (change st r) = ap active pushed ∙ active_from-snoc [] old (st, r) in
-    let a = (room_step (active old) st r c.self.inside.ends c.pairs_for-more.result (vec_len room.new.trace) (vec_capacity room.new.trace) room.result g.answers record { enough = i.2; fits = omega (arith, i.3, room.ensures.long.0, room.ensures.kept.0) } c.pairs_for-more.ensures
+    let now : active_in_trace c.push_reserved.new.self.items ≡ active_with (active_in_trace old) (change st r) = ap active_in_trace pushed ∙ active_from-snoc [] old (st, r) in
+    let a = (room_step (active_in_trace old) st r c.self.inside.ends c.pairs_for-more.result (vec_len room.new.trace) (vec_capacity room.new.trace) room.result g.answers record { enough = i.2; fits = omega (arith, i.3, room.ensures.long.0, room.ensures.kept.0) } c.pairs_for-more.ensures
     (λ e. (room.ensures.got e).1) (λ e. (c.may_go_on.ensures.yes c.if-not-may_go_on.false e, c.is_kept.ensures.real c.if-not-is_kept.false e))).1 in
-    let b = (room_step (active old) st r c.self.inside.ends c.pairs_for-more.result (vec_len room.new.makers) (vec_capacity room.new.makers) room.result g.answers record { enough = i.2; fits = omega (arith, i.4, room.ensures.long.1, room.ensures.kept.1) } c.pairs_for-more.ensures
+    let b = (room_step (active_in_trace old) st r c.self.inside.ends c.pairs_for-more.result (vec_len room.new.calls) (vec_capacity room.new.calls) room.result g.answers record { enough = i.2; fits = omega (arith, i.4, room.ensures.long.1, room.ensures.kept.1) } c.pairs_for-more.ensures
     (λ e. (room.ensures.got e).2) (λ e. (c.may_go_on.ensures.yes c.if-not-may_go_on.false e, c.is_kept.ensures.real c.if-not-is_kept.false e))).1 in
     let p = c.push_reserved.ensures in
     let q = c.push_reserved-2.ensures in (

@@ -3,8 +3,8 @@ use Rattle.am_leaf.proofs.Ghosts.{no_ghost, ghost_within, ghost_is}
 use Rattle.am_leaf.proofs.Leaves.{counted}
 use Rattle.am_leaf.proofs.leaf.RawLeaf.ghost_from.Goals as goal
 
-pub next_mark-requires : goal.next_mark-requires
-next_mark-requires c = omega (arith, c.requires, counted c.self.inside c.self.invariant _ c.self.view_is, c.self.invariant.most)
+pub next_bit-requires : goal.next_bit-requires
+next_bit-requires c = omega (arith, c.requires, counted c.self.inside c.self.invariant _ c.self.view_is, c.self.invariant.most)
 
 pub returns-in_err-next : goal.returns-in_err-next
 returns-in_err-next c = c.from_residual.ensures ∙ sym (no_ghost c.self.inside c.self.invariant c.args.self.now c.self.view_is c.args.at c.in_err-next.ensures.none)

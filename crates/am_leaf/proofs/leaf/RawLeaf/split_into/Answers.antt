@@ -3,7 +3,7 @@ use Rattle.std.proofs.lemmas.List.{length-take-le, length-drop}
 use Rattle.am_leaf.specs.Leaf.{entries_of}
 use Rattle.am_list.specs.Entries.{IsRising}
 use Rattle.am_list.proofs.Lists.{rising-take}
-use Rattle.am_leaf.proofs.MarkLemmas.{cut_below, rest_below}
+use Rattle.am_leaf.proofs.BitLemmas.{cut_below, rest_below}
 use Rattle.am_leaf.proofs.Rising.{rising-drop}
 use Rattle.am_leaf.proofs.Zips.{entries_of-take, entries_of-drop}
 use Rattle.am_leaf.proofs.Leaves.{alike, counted, no_places, no_values}
@@ -18,15 +18,15 @@ split_into-requires-2-clause-empty c = no_values c.other.inside c.other.invarian
 pub returns-clause-front : goal.returns-clause-front
 returns-clause-front c =
     let a = c.self.inside in let held = c.self.invariant in let at = c.args.at in
-    (λ j. entries_of (c.split_into.ensures.front j) (c.split_into-2.ensures.front j) (c.split_marks.ensures.below j))
-    ∙ entries_of-take at a.places a.values a.marks
+    (λ j. entries_of (c.split_into.ensures.front j) (c.split_into-2.ensures.front j) (c.split_bits.ensures.below j))
+    ∙ entries_of-take at a.places a.values a.ghosts
     ∙ ap (take at) c.self.view_is
 
 pub returns-clause-back : goal.returns-clause-back
 returns-clause-back c =
     let a = c.self.inside in let held = c.self.invariant in let at = c.args.at in
-    (λ j. entries_of (c.split_into.ensures.back j) (c.split_into-2.ensures.back j) (c.split_marks.ensures.above j))
-    ∙ entries_of-drop at a.places a.values a.marks (alike a held)
+    (λ j. entries_of (c.split_into.ensures.back j) (c.split_into-2.ensures.back j) (c.split_bits.ensures.above j))
+    ∙ entries_of-drop at a.places a.values a.ghosts (alike a held)
     ∙ ap (drop at) c.self.view_is
 
 pub invariant_of-self : goal.invariant_of-self
@@ -37,7 +37,7 @@ invariant_of-self c =
       places = ap length c.split_into.ensures.front ∙ length-take-le at a.places (omega (arith, held.places));
       values = ap length c.split_into-2.ensures.front ∙ length-take-le at a.values (omega (arith, held.values));
       most = omega (arith, held.most);
-      marks = subst (λ (m : ℕ). m < 2 ^ at) (sym c.split_marks.ensures.below) (cut_below a.marks at);
+      ghosts = subst (λ (m : ℕ). m < 2 ^ at) (sym c.split_bits.ensures.below) (cut_below a.ghosts at);
       rising = subst IsRising (sym (returns-clause-front c)) (rising-take at c.args.self.now (subst IsRising c.self.view_is held.rising));
     }
 
@@ -49,6 +49,6 @@ invariant_of-other c =
       places = ap length c.split_into.ensures.back ∙ omega (arith, length-drop at a.places, held.places);
       values = ap length c.split_into-2.ensures.back ∙ omega (arith, length-drop at a.values, held.values);
       most = omega (arith, held.most);
-      marks = subst (λ (m : ℕ). m < 2 ^ (a.len - at)) (sym c.split_marks.ensures.above) (rest_below a.marks at a.len le held.marks);
+      ghosts = subst (λ (m : ℕ). m < 2 ^ (a.len - at)) (sym c.split_bits.ensures.above) (rest_below a.ghosts at a.len le held.ghosts);
       rising = subst IsRising (sym (returns-clause-back c)) (rising-drop at c.args.self.now (subst IsRising c.self.view_is held.rising));
     }

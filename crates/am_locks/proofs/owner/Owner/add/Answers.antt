@@ -3,7 +3,7 @@ use Rattle.std.proofs.lemmas.Bool.{cases_lt}
 use Rattle.std.proofs.lemmas.List.{length-drop, length-append}
 use Rattle.std.proofs.lemmas.Grind.{common_steps}
 use Rattle.am_record.specs.declared.lock.Lock.{Lock}
-use Rattle.am_locks.specs.Marks.{AreMarksOf}
+use Rattle.am_locks.specs.KeyFilter.{IsFilterOf}
 use Rattle.am_locks.proofs.owner.Owner.add.Goals as goal
 
 -- the later ones of the locks with one more have room where there was room for it
@@ -23,7 +23,7 @@ invariant_of-self-2 c =
       search rules,
       grind (arith, common_steps),
       grind (arith, common_steps),
-      subst (λ ls. AreMarksOf ls c.add.new.self) (sym items) (c.add.ensures old c.self.invariant.3),
+      subst (λ ls. IsFilterOf ls c.add.new.self) (sym items) (c.add.ensures old c.self.invariant.3),
       search rules,
       later_fit old c.push_reserved.new.self.items c.args.asked _ _ items (λ many. (room many).0) c.add_later.ensures.capacity.0,
       later_fit old c.push_reserved.new.self.items c.args.asked _ _ items (λ many. (room many).1) c.add_later.ensures.capacity.1,

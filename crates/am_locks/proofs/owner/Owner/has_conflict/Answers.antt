@@ -1,10 +1,10 @@
 use Rattle.std.proofs.Common.{◌≡◌, take, drop, true, false, IfSome, sym, ap, ◌∙◌, subst}
 use Rattle.std.specs.List.{list_any}
 use Rattle.am_record.specs.Locks.{conflicts}
-use Rattle.am_locks.specs.Held.{has_conflict}
-use Rattle.am_locks.specs.Marks.{IsNumberOf}
+use Rattle.am_locks.specs.OwnerLocks.{has_conflict}
+use Rattle.am_locks.specs.KeyFilter.{IsNumberOf}
 use Rattle.am_locks.proofs.FirstLocks.{found_first, none_first, none_conflicts}
-use Rattle.am_locks.proofs.Marking.{denied_conflict}
+use Rattle.am_locks.proofs.Filtering.{denied_conflict}
 use Rattle.am_locks.proofs.owner.Owner.has_conflict.Goals as goal
 
 pub returns-then-not-is_exclusive : goal.returns-then-not-is_exclusive
@@ -14,7 +14,7 @@ returns-then-not-is_exclusive c =
 
 pub returns-then-denies : goal.returns-then-denies
 returns-then-denies c =
-    sym (denied_conflict c.self.inside.marks c.args.asked.now c.in-Some.number c.self.inside.locks.items c.self.invariant.3
+    sym (denied_conflict c.self.inside.key_filter c.args.asked.now c.in-Some.number c.self.inside.locks.items c.self.invariant.3
     (subst (λ o. IfSome o (IsNumberOf c.args.asked.now)) c.in-Some.is c.requires) (sym c.denies.ensures ∙ c.if-denies.true))
     ∙ ap (has_conflict c.args.asked.now) c.self.view_is
 

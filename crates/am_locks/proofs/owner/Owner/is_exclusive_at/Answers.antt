@@ -3,10 +3,10 @@ use Rattle.std.specs.List.{list_any}
 use Rattle.am_record.specs.Interval.{within}
 use Rattle.am_record.specs.Locks.{is_exclusive}
 use Rattle.am_record.specs.declared.lock.Lock.{Lock}
-use Rattle.am_locks.specs.Held.{is_exclusive_at}
-use Rattle.am_locks.specs.Marks.{denies}
+use Rattle.am_locks.specs.OwnerLocks.{is_exclusive_at}
+use Rattle.am_locks.specs.KeyFilter.{denies}
 use Rattle.am_locks.proofs.FirstLocks.{found_first, none_first, none_exclusive_at}
-use Rattle.am_locks.proofs.Marking.{denied_exclusive}
+use Rattle.am_locks.proofs.Filtering.{denied_exclusive}
 use Rattle.am_locks.proofs.owner.Owner.is_exclusive_at.Goals as goal
 use Rattle.am_locks.proofs.owner.Owner.is_exclusive_at.Goals.{then-not-self-via-then-not-self, then-not-self-via-else-not-self+then-denies}
 
@@ -16,7 +16,7 @@ returns-then-not-self c =
     elim c.then-not-self.branch [
       | then-not-self-via-then-not-self w ↦ sym (none_exclusive_at c.args.key locks (sym c.self.invariant.2 ∙ w.if-not-self.true)) ∙ ap (is_exclusive_at c.args.key) c.self.view_is
       | then-not-self-via-else-not-self+then-denies w ↦
-          sym (denied_exclusive c.self.inside.marks c.args.key locks c.self.invariant.3 (ap (denies c.self.inside.marks) (sym c.requires) ∙ sym w.denies.ensures ∙ w.if-denies.true))
+          sym (denied_exclusive c.self.inside.key_filter c.args.key locks c.self.invariant.3 (ap (denies c.self.inside.key_filter) (sym c.requires) ∙ sym w.denies.ensures ∙ w.if-denies.true))
           ∙ ap (is_exclusive_at c.args.key) c.self.view_is
     ]
 

@@ -4,7 +4,7 @@ use Rattle.std.proofs.lemmas.Iterator.{YieldsList-from_slice, YieldsList-from_ma
 use Rattle.std.proofs.lemmas.Iterator.Adapters.{option_map_id}
 use Rattle.std.proofs.lemmas.Iterator.Consumers.{YieldsList-from_filter, YieldsList-at, min_from_yields_List}
 use borrow.Author.Tests.{tests}
-use Rattle.am_locks.specs.Held.{Held, blocks}
+use Rattle.am_locks.specs.OwnerLocks.{OwnerLocks, blocks}
 use Rattle.am_locks.specs.Table.{blockers}
 use Rattle.am_locks.specs.Answers.{IsLeastOf}
 use Rattle.am_locks.proofs.Least.{reduce_min-least}
@@ -17,7 +17,7 @@ returns c =
     let e : c.min.result ≡ reduce min numbers =
     sym (option_map_id c.min.result)
     ∙ min_from_yields_List c.map.result c.min.result c.min.ensures.ran
-    (YieldsList-from_map _ (λ (h : Held). h.owner)
+    (YieldsList-from_map _ (λ (h : OwnerLocks). h.owner)
     (YieldsList-at c.map.ensures.source
     (YieldsList-from_filter _ (blocks c.args.tx c.args.asked.now) (YieldsList-at c.filter.ensures.source owners) c.filter.ensures.closure (λ x r q k. search (rules, tests))))
     c.map.ensures.closure (λ x r q k. search rules)) in

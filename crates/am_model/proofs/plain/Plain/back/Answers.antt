@@ -1,5 +1,5 @@
 use Rattle.std.proofs.Common.{ap, ◌∙◌}
-use Rattle.am_record.specs.Plain.{Draft, back}
+use Rattle.am_record.specs.Plain.{Draft, draft_back}
 use Rattle.am_model.proofs.Marks.{back_stand, went_back_to}
 use Rattle.am_model.proofs.plain.Plain.back.Goals as goal
 
@@ -10,4 +10,4 @@ invariant_of-self c =
 pub returns-clause-after : goal.returns-clause-after
 returns-clause-after c =
     went_back_to c.self.inside.records c.back.new.records c.self.inside.log c.back.new.self c.self.invariant c.back.ensures.records c.back.ensures.notes c.back.ensures.marks
-    ∙ ap (λ (d : Draft). back d.saved d) c.self.view_is
+    ∙ ap (λ (d : Draft). draft_back d.saved d) c.self.view_is

@@ -2,7 +2,7 @@ use Rattle.std.proofs.Common.{◌≡◌, false, take}
 use Rattle.std.specs.List.{AllByRecursion}
 use Rattle.am_record.specs.KeyMix.{key_mix}
 use Rattle.am_record.specs.OrderedKey.{OrderedKey}
-use Rattle.am_filter.specs.Held.{holds}
+use Rattle.am_filter.specs.Filters.{holds}
 use Rattle.am_parts.specs.declared.catalog.OpenRun.{OpenRun}
 use Rattle.am_parts.proofs.catalog.Catalog.next_before.Given as goal
 

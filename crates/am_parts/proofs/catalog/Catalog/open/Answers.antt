@@ -1,5 +1,5 @@
 use Rattle.std.proofs.Common.{◌<◌, ℕ, sym, ap, ◌∙◌, subst, refl}
-use Rattle.am_filter.specs.Held.{holds}
+use Rattle.am_filter.specs.Filters.{holds}
 use Rattle.am_parts.specs.Catalogs.{AreListed, IsGapAt}
 use Rattle.am_parts.proofs.Listed.{opened}
 use Rattle.am_parts.proofs.catalog.Catalog.open.Goals as goal

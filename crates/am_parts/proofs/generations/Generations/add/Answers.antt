@@ -1,7 +1,7 @@
 use Rattle.std.proofs.Common.{◌≡◌, ◌<◌, ◌++◌, ◌∷◌, [], ℕ, length, get_or, set, sym, ap, ◌∙◌, subst, arith}
 use Rattle.std.proofs.lemmas.List.{get_or_default}
 use Rattle.am_record.specs.OrderedKey.{OrderedKey}
-use Rattle.am_filter.specs.Held.{holds}
+use Rattle.am_filter.specs.Filters.{holds}
 use Rattle.am_parts.specs.declared.generations.Generation.{Generation}
 use Rattle.am_parts.specs.Generations.{AreHeld, HasGrown, IsGenerationAt}
 use Rattle.am_parts.proofs.Held.{all_held, entry_held, held_grown, held_now, held_behind, held_last}

@@ -7,7 +7,7 @@ use Rattle.am_list.specs.Content.{content, HasContent}
 use Rattle.am_list.specs.Runs.{run_entries}
 use Rattle.am_parts.specs.Catalogs.{IsCatalog}
 use Rattle.am_parts.specs.Merged.{AreMerged}
-use Rattle.am_parts.specs.Partitions.{Partitions, IsSound}
+use Rattle.am_parts.specs.Partitions.{Partitions, AreWellFormed}
 use Rattle.am_parts.proofs.Appending.{is_next, under_next, next_rises, next_content, next_sound}
 use Rattle.am_parts.proofs.Emptied.{merged_appended}
 use Rattle.am_parts.proofs.parts.Parts.append_run.Goals as goal
@@ -25,7 +25,7 @@ invariant_of-self-2 g c =
     let above = subst (λ (p : Partitions). AllByRecursion (λ (e : Entry). e.part ≤ p.runs) p.entries) (sym c.self.view_is) c.requires.above in
     let dead = subst (λ (p : Partitions). AllByRecursion (λ r. get (content p.entries) r.0 ≡ None) c.args.pairs.now) (sym c.self.view_is) c.requires.dead in
     let runs : c.self.inside.runs ≡ c.args.self.now.runs = ap (λ (p : Partitions). p.runs) c.self.view_is in (
-      subst IsSound (sym c.in_ok-append_run.ensures.ok) (next_sound c.self.inside.runs c.args.pairs.now c.self.invariant.0 above c.requires.rising dead (omega (arith, runs, c.requires.room))),
+      subst AreWellFormed (sym c.in_ok-append_run.ensures.ok) (next_sound c.self.inside.runs c.args.pairs.now c.self.invariant.0 above c.requires.rising dead (omega (arith, runs, c.requires.room))),
       omega (arith, runs, c.requires.room),
       subst (λ (es : List Entry). IsCatalog es c.push.new.self) (sym c.in_ok-append_run.ensures.ok)
           (c.push.ensures _ (c.self.inside.runs + 1) (c.make_room.ensures.same _ (under_next _ c.self.inside.runs above) c.self.invariant.2) (is_next _ c.self.inside.runs c.args.pairs.now above c.requires.rising) c.in_ok-run.ensures.run),
@@ -38,7 +38,7 @@ pub invariant_of-self-in_err-append_run : goal.invariant_of-self-in_err-append_r
 invariant_of-self-in_err-append_run g c =
     let above = subst (λ (p : Partitions). AllByRecursion (λ (e : Entry). e.part ≤ p.runs) p.entries) (sym c.self.view_is) c.requires.above in
     let same = sym c.in_err-append_run.ensures.err in (
-      subst IsSound same c.self.invariant.0,
+      subst AreWellFormed same c.self.invariant.0,
       c.self.invariant.1,
       subst (λ (es : List Entry). IsCatalog es c.make_room.new.self) same (c.make_room.ensures.same _ (under_next _ c.self.inside.runs above) c.self.invariant.2),
       subst (λ (es : List Entry). AreMerged es c.self.inside.runs c.reserve.new.self.list.items) same
@@ -47,7 +47,7 @@ invariant_of-self-in_err-append_run g c =
 
 pub returns-clause-content : goal.returns-clause-content
 returns-clause-content g c =
-    let sound = subst (λ (p : Partitions). IsSound p.entries) c.self.view_is c.self.invariant.0 in
+    let sound = subst (λ (p : Partitions). AreWellFormed p.entries) c.self.view_is c.self.invariant.0 in
     let runs : c.self.inside.runs ≡ c.args.self.now.runs = ap (λ (p : Partitions). p.runs) c.self.view_is in
     let is : g.I.PartIndex.entries c.append_run.new.self ≡ c.args.self.now.entries ++ run_entries (c.args.self.now.runs + 1) c.args.pairs.now =
     c.in_ok-append_run.ensures.ok ∙ ap (λ (p : Partitions). p.entries ++ run_entries (p.runs + 1) c.args.pairs.now) c.self.view_is in

@@ -5,7 +5,7 @@ use Rattle.am_record.specs.declared.entry.Entry.{Entry}
 use Rattle.am_scan.specs.Looks.{IsPast}
 use Rattle.am_scan.specs.Heads.{IsAtFirst}
 use Rattle.am_scan.proofs.Moving.{above_end, within_end}
-use Rattle.am_scan.proofs.Beginnings.{past_range, first_above, first_live, first_next, first_nowhere}
+use Rattle.am_scan.proofs.Beginnings.{first_above, first_live, first_next, first_nowhere}
 use Rattle.am_scan.proofs.head.Head.first.Goals as goal
 
 pub returns-then-lt-clause-none : goal.returns-then-lt-clause-none

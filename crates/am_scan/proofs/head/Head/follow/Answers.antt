@@ -4,7 +4,7 @@ use Rattle.am_record.specs.OrderedKey.{key_cmp}
 use Rattle.am_record.specs.Interval.{key_le}
 use Rattle.am_record.specs.declared.entry.Entry.{Entry}
 use Rattle.am_list.specs.Entries.{after}
-use Rattle.am_scan.specs.Heads.{Stand, IsReady}
+use Rattle.am_scan.specs.Heads.{Stand, HasReadSome}
 use Rattle.am_scan.proofs.Moving.{above_end, within_end}
 use Rattle.am_scan.proofs.Reading.{ends_here, next_is, follows_here, goes_on_here}
 use Rattle.am_scan.proofs.head.Head.follow.Goals as goal
@@ -15,7 +15,7 @@ returns-in_default-clause-ended g c =
     let walks = c.walks_follow.ensures es c.requires.rising in
     let laws = c.reads_follow.ensures es c.requires.rising in
     let ahead = c.self.inside.ahead.value in
-    let is_ready = subst (IsReady es) (sym c.self.view_is) c.look_ahead.ensures.ready in
+    let is_ready = subst (HasReadSome es) (sym c.self.view_is) c.look_ahead.ensures.ready in
     let seen = c.entries.ensures.all ∙ c.deref.ensures in
     let same = ap (λ (h : Stand). h.entry) c.self.view_is ∙ c.look_ahead.ensures.entry in
     let past = subst (λ l. length l ≤ c.self.inside.passed + 1) seen c.in_default.ensures.lookup.3 in
@@ -28,7 +28,7 @@ returns-then-lt-clause-ended g c =
     let walks = c.walks_follow.ensures es c.requires.rising in
     let laws = c.reads_follow.ensures es c.requires.rising in
     let ahead = c.self.inside.ahead.value in
-    let is_ready = subst (IsReady es) (sym c.self.view_is) c.look_ahead.ensures.ready in
+    let is_ready = subst (HasReadSome es) (sym c.self.view_is) c.look_ahead.ensures.ready in
     let seen = c.entries.ensures.all ∙ c.deref.ensures in
     let same = ap (λ (h : Stand). h.entry) c.self.view_is ∙ c.look_ahead.ensures.entry in
     let x = c.in-Some.next.now in
@@ -43,7 +43,7 @@ returns-clause-inside g c =
     let walks = c.walks_follow.ensures es c.requires.rising in
     let laws = c.reads_follow.ensures es c.requires.rising in
     let ahead = c.self.inside.ahead.value in
-    let is_ready = subst (IsReady es) (sym c.self.view_is) c.look_ahead.ensures.ready in
+    let is_ready = subst (HasReadSome es) (sym c.self.view_is) c.look_ahead.ensures.ready in
     let seen = c.entries.ensures.all ∙ c.deref.ensures in
     let x = c.in-Some.next.now in
     let inside = subst (λ l. c.self.inside.passed + 1 < length l) seen c.in-Some.ensures.lookup.3.0 in
@@ -56,7 +56,7 @@ returns-clause-moved g c =
     let walks = c.walks_follow.ensures es c.requires.rising in
     let laws = c.reads_follow.ensures es c.requires.rising in
     let ahead = c.self.inside.ahead.value in
-    let is_ready = subst (IsReady es) (sym c.self.view_is) c.look_ahead.ensures.ready in
+    let is_ready = subst (HasReadSome es) (sym c.self.view_is) c.look_ahead.ensures.ready in
     let seen = c.entries.ensures.all ∙ c.deref.ensures in
     let same = ap (λ (h : Stand). h.entry) c.self.view_is ∙ c.look_ahead.ensures.entry in
     let x = c.in-Some.next.now in
@@ -70,7 +70,7 @@ returns-clause-reads g c =
     let walks = c.walks_follow.ensures es c.requires.rising in
     let laws = c.reads_follow.ensures es c.requires.rising in
     let ahead = c.self.inside.ahead.value in
-    let is_ready = subst (IsReady es) (sym c.self.view_is) c.look_ahead.ensures.ready in
+    let is_ready = subst (HasReadSome es) (sym c.self.view_is) c.look_ahead.ensures.ready in
     let seen = c.entries.ensures.all ∙ c.deref.ensures in
     let x = c.in-Some.next.now in
     let inside = subst (λ l. c.self.inside.passed + 1 < length l) seen c.in-Some.ensures.lookup.3.0 in

@@ -1,6 +1,6 @@
 use Rattle.std.proofs.Common.{◌<◌, ◌+◌, ◌++◌, ◌∷◌, [], ◌^◌, length, subst, sym, ◌∙◌, arith, rules}
 use Rattle.am_tx.specs.Txs.{IsConsistent}
-use Rattle.am_tx.proofs.Consistent.{next-is-new, IsConsistent-started}
+use Rattle.am_tx.proofs.Consistent.{next-is-new, IsConsistent-txs_after_begin}
 use Rattle.am_tx.proofs.tx_table.TxTable.begin.Goals as goal
 
 pub enter-requires-clause-new : goal.enter-requires-clause-new
@@ -11,4 +11,4 @@ invariant_of-self c =
     let few : length c.self.inside.active.items < 64 = search rules in
     let more : c.self.inside.begun < 2 ^ 63 = omega (arith, c.self.invariant.begun) in
     let all = c.push.ensures.items ∙ (λ i. c.self.inside.active.items ++ c.new.ensures i ∷ []) in
-    subst IsConsistent (λ i. record { begun = c.self.inside.begun + 1; active = sym all i; locks = sym c.enter.ensures i }) (IsConsistent-started _ c.self.invariant few more)
+    subst IsConsistent (λ i. record { begun = c.self.inside.begun + 1; active = sym all i; locks = sym c.enter.ensures i }) (IsConsistent-txs_after_begin _ c.self.invariant few more)

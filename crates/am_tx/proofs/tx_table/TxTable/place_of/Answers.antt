@@ -4,9 +4,9 @@ use Rattle.std.proofs.lemmas.Iterator.Search.{position_from_yields_List}
 use borrow.Author.Tests.{tests}
 use Rattle.am_locks.proofs.Places.{position-found}
 use Rattle.am_tx.specs.declared.transaction.Transaction.{Transaction}
-use Rattle.am_tx.specs.Active.{no_notes, numbers}
+use Rattle.am_tx.specs.Active.{no_notes, tx_numbers}
 use Rattle.am_tx.specs.Txs.{Txs, Rise}
-use Rattle.am_tx.proofs.Places.{position-number, of_active-at, set-changed}
+use Rattle.am_tx.proofs.Places.{position-number, of_active-at, set-with_changed}
 use Rattle.am_tx.proofs.tx_table.TxTable.place_of.Goals as goal
 
 pub unwrap-requires : goal.unwrap-requires
@@ -19,7 +19,7 @@ pub returns-clause-found : goal.returns-clause-found
 returns-clause-found c =
     let active = YieldsList-from_slice c.args.self.now.active (c.iter.ensures.rest ∙ c.deref.ensures.0 ∙ (λ i. (c.self.view_is i).active)) in
     let e : c.position-place.result ≡ position (λ (x : Transaction). x.number == c.args.tx) c.args.self.now.active = position_from_yields_List (λ (x : Transaction). x.number == c.args.tx) _ _ c.position-place.result c.position-place.ensures.ran active (λ x b q k. search (rules, tests)) in
-    let rise : Rise (numbers c.args.self.now.active) = subst (λ (t : Txs). Rise (numbers t.active)) c.self.view_is c.self.invariant.rise in
+    let rise : Rise (tx_numbers c.args.self.now.active) = subst (λ (t : Txs). Rise (tx_numbers t.active)) c.self.view_is c.self.invariant.rise in
     λ d. let at = position-number c.args.self.now.active c.unwrap.result c.args.tx d (sym e ∙ c.unwrap.ensures) in
     (at.1, of_active-at (λ x. x.ops) 0 c.args.self.now.active c.unwrap.result d c.args.tx rise at.0 at.1, of_active-at (λ x. x.log) no_notes c.args.self.now.active c.unwrap.result d c.args.tx rise at.0 at.1)
 
@@ -27,6 +27,6 @@ pub returns-clause-write : goal.returns-clause-write
 returns-clause-write c =
     let active = YieldsList-from_slice c.args.self.now.active (c.iter.ensures.rest ∙ c.deref.ensures.0 ∙ (λ i. (c.self.view_is i).active)) in
     let e : c.position-place.result ≡ position (λ (x : Transaction). x.number == c.args.tx) c.args.self.now.active = position_from_yields_List (λ (x : Transaction). x.number == c.args.tx) _ _ c.position-place.result c.position-place.ensures.ran active (λ x b q k. search (rules, tests)) in
-    let rise : Rise (numbers c.args.self.now.active) = subst (λ (t : Txs). Rise (numbers t.active)) c.self.view_is c.self.invariant.rise in
+    let rise : Rise (tx_numbers c.args.self.now.active) = subst (λ (t : Txs). Rise (tx_numbers t.active)) c.self.view_is c.self.invariant.rise in
     λ f d. let at = position-number c.args.self.now.active c.unwrap.result c.args.tx d (sym e ∙ c.unwrap.ensures) in
-    set-changed f c.args.self.now.active c.unwrap.result d c.args.tx rise at.0 at.1
+    set-with_changed f c.args.self.now.active c.unwrap.result d c.args.tx rise at.0 at.1

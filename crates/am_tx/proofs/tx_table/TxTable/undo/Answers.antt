@@ -1,6 +1,6 @@
 use Rattle.std.proofs.Common.{refl, ◌∙◌}
 use Rattle.am_tx.specs.declared.transaction.Transaction.{Transaction}
-use Rattle.am_tx.specs.Active.{log_of}
+use Rattle.am_tx.specs.Active.{log_in}
 use Rattle.am_tx.specs.Txs.{Txs, with_log}
 use Rattle.am_tx.proofs.Consistent.{IsAt, few-ops, IsConsistent-set, set-is}
 use Rattle.am_tx.proofs.tx_table.TxTable.undo.Goals as goal
@@ -18,5 +18,5 @@ returns c =
     let here : Txs = record { begun = c.self.inside.begun; active = c.self.inside.active.items; locks = c.self.inside.locks } in
     let at : IsAt here here c.args.tx c.place_of-place.result x x = record { same = refl; in_bounds = c.place_of-place.ensures.in_bounds; value = c.in-Some.ensures.value; write = λ f. c.place_of-place.ensures.write f x } in (
       (refl, λ w. set-is here here c.args.tx c.place_of-place.result x x (λ y. record y { log = w }) at ∙ (λ i. with_log (c.self.view_is i) c.args.tx w)),
-      record { writes_back = tt; log = (λ i. (at.value i).log) ∙ (c.place_of-place.ensures.found x).2 ∙ (λ i. log_of (c.self.view_is i).active c.args.tx) },
+      record { writes_back = tt; log = (λ i. (at.value i).log) ∙ (c.place_of-place.ensures.found x).2 ∙ (λ i. log_in (c.self.view_is i).active c.args.tx) },
     )

@@ -1,5 +1,5 @@
 use Rattle.std.proofs.Common.{◌≡◌, ◌+◌, [], All, vec_len}
-use Rattle.am_words.specs.Words.{newcomer}
+use Rattle.am_words.specs.Words.{new_history}
 use Rattle.am_words.proofs.words.Words.open.Given as goal
 
 abbrev pub invariant-loop : goal.invariant-loop
@@ -8,5 +8,5 @@ invariant-loop l = record {
   fresh : l.rest.me.0.drawn ≡ [];
   left : l.rest.me.0.seats + l.counter ≡ 1024;
   made : vec_len l.seats ≡ l.counter;
-  each : All (λ s. s ≡ newcomer l.table.shared.table_id) l.seats.items;
+  each : All (λ s. s ≡ new_history l.table.shared.table_id) l.seats.items;
 }

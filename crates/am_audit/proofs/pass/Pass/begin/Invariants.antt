@@ -1,4 +1,0 @@
-use Rattle.am_audit.proofs.pass.Pass.begin.Given as goal
-
-abbrev pub ghost-may_begin : goal.ghost-may_begin
-ghost-may_begin g a = g.here.state

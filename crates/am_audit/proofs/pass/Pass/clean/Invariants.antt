@@ -1,4 +1,0 @@
-use Rattle.am_audit.proofs.pass.Pass.clean.Given as goal
-
-abbrev pub ghost-may_clean : goal.ghost-may_clean
-ghost-may_clean g a = g.here.state

@@ -1,4 +1,0 @@
-use Rattle.am_audit.proofs.pass.Pass.commit.Given as goal
-
-abbrev pub ghost-may_commit : goal.ghost-may_commit
-ghost-may_commit g a = g.here.state

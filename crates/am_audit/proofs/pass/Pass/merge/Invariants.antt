@@ -1,4 +1,0 @@
-use Rattle.am_audit.proofs.pass.Pass.merge.Given as goal
-
-abbrev pub ghost-may_merge : goal.ghost-may_merge
-ghost-may_merge g a = g.here.state

@@ -1,7 +1,0 @@
-use Rattle.am_audit.proofs.pass.Pass.operate.Given as goal
-
-abbrev pub ghost-refusal : goal.ghost-refusal
-ghost-refusal g a = g.here.state
-
-abbrev pub ghost-perform : goal.ghost-perform
-ghost-perform g a = g.here

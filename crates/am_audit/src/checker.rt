@@ -1,0 +1,213 @@
+//! The pass over a trace.
+
+ghost use Rattle.std.specs.Prelude.{◌≡◌, ◌≤◌, ◌++◌, ◌∷◌, [], length, None, true, false, IfErr, OnOk};
+ghost use Rattle.am_record.specs.declared.step.Step.TheVariants.{Begin, Do, Commit, Abort, Merge, Clean};
+ghost use Rattle.am_serial.specs.Machine.{due_early};
+
+use crate::active::{Active, OwnAnswer, end, is_active, keep, operations, own};
+use crate::asking::ask;
+use crate::early::{is_early, refusal};
+use crate::event_fault::EventFault;
+use crate::forms::{may_abort, may_begin, may_clean, may_commit, may_merge};
+use crate::operations::runs_made;
+use crate::replay::replay;
+use crate::verdict::{is_refusal, is_refused, verdict};
+use am_locks::{Asked, LockTable};
+use am_model::Plain;
+use am_record::{Op, Range, Reply, Step};
+use std::alloc::Global;
+
+/// What the lines seen so far make.
+#[derive(Drop)]
+pub(crate) struct Checker {
+    pub(crate) begun: u64,
+    pub(crate) commits: u64,
+    pub(crate) runs: u32,
+    pub(crate) active: Vec<Active>,
+    pub(crate) locks: LockTable,
+    /// The map that the committed transactions leave.
+    pub(crate) committed: Plain,
+}
+
+impl Checker {
+    ghost use Rattle.am_audit.specs.Progress.{early_of, Progress, progress_of, IsAt, TakesEvent, IsEventFault};
+
+    /// No line is seen. Takes no memory.
+    pub(crate) fn new(alloc: Global) -> Checker
+        ensures { IsAt result (progress_of []) }
+    {
+        Checker {
+            begun: 0,
+            commits: 0,
+            runs: 0,
+            active: Vec::new(alloc),
+            locks: LockTable::new(alloc),
+            committed: Plain::new(alloc),
+        }
+    }
+
+    /// Judges the event that comes next in the trace, and takes it in.
+    ///
+    /// # Errors
+    /// The flaw of the event, after which the pass is no use.
+    pub(crate) fn judge(
+        &mut self,
+        alloc: Global,
+        position: usize,
+        step: Step,
+        reply: Reply,
+    ) -> Result<(), EventFault>
+        ghost here: { Progress }
+        requires stands { IsAt self.old here }
+        requires position { position ≡ here.count }
+        ensures takes { OnOk result (TakesEvent here step reply self.new) }
+        ensures event_fault { IfErr result (IsEventFault here step reply) }
+    {
+        match step {
+            Step::Begin => self.begin(alloc, &reply),
+            Step::Do(tx, op) => self.operate(position, tx, op, reply),
+            Step::Commit(tx) => self.commit(tx, &reply),
+            Step::Abort(tx) => self.abort(tx, &reply),
+            Step::Merge(limit) => self.merge(limit, &reply),
+            Step::Clean(range, limit) => self.clean(range, limit, &reply),
+        }
+    }
+
+    fn begin(&mut self, alloc: Global, reply: &Reply) -> Result<(), EventFault>
+        ghost here: { Progress }
+        requires { IsAt self.old here }
+        ensures takes { OnOk result (TakesEvent here Begin reply.now self.new) }
+        ensures event_fault { IfErr result (IsEventFault here Begin reply.now) }
+    {
+        if !may_begin(self.begun, self.active.len(), reply) {
+            return Err(EventFault::Form);
+        }
+        if let Reply::Begun(tx) = reply {
+            self.active.push(Active {
+                number: *tx,
+                own: Vec::new(alloc),
+            })?;
+            self.locks.enter(*tx);
+            self.begun = *tx;
+        }
+        Ok(())
+    }
+
+    fn abort(&mut self, tx: u64, reply: &Reply) -> Result<(), EventFault>
+        ghost here: { Progress }
+        requires { IsAt self.old here }
+        ensures takes { OnOk result (TakesEvent here (Abort tx) reply.now self.new) }
+        ensures event_fault { IfErr result (IsEventFault here (Abort tx) reply.now) }
+    {
+        let was_active = is_active(&self.active, tx);
+        if !may_abort(was_active, tx, reply) {
+            return Err(EventFault::Form);
+        }
+        if was_active {
+            end(&mut self.active, &mut self.locks, tx);
+        }
+        Ok(())
+    }
+
+    fn commit(&mut self, tx: u64, reply: &Reply) -> Result<(), EventFault>
+        ghost here: { Progress }
+        requires { IsAt self.old here }
+        ensures takes { OnOk result (TakesEvent here (Commit tx) reply.now self.new) }
+        ensures event_fault { IfErr result (IsEventFault here (Commit tx) reply.now) }
+    {
+        if !may_commit(is_active(&self.active, tx), self.commits, tx, reply) {
+            return Err(EventFault::Form);
+        }
+        let Reply::Committed(commit) = reply else {
+            return Ok(());
+        };
+        let Some(own) = own(&self.active, tx) else {
+            unreachable!()
+        };
+        if let Err(event_fault) = replay(&mut self.committed, own) {
+            return Err(event_fault);
+        }
+        self.committed.forget_saved();
+        end(&mut self.active, &mut self.locks, tx);
+        self.commits = *commit;
+        Ok(())
+    }
+
+    fn operate(&mut self, position: usize, tx: u64, op: Op, reply: Reply) -> Result<(), EventFault>
+        ghost here: { Progress }
+        requires stands { IsAt self.old here }
+        requires position { position ≡ here.count }
+        ensures takes { OnOk result (TakesEvent here (Do tx op) reply self.new) }
+        ensures event_fault { IfErr result (IsEventFault here (Do tx op) reply) }
+    {
+        if let Some(why) = refusal(operations(&self.active, tx), self.runs, tx, &op) {
+            if !is_refused(&reply, why) {
+                return Err(EventFault::Form);
+            }
+            return Ok(());
+        }
+        if is_early(&reply) {
+            return Err(EventFault::Form);
+        }
+        self.perform(position, tx, op, reply)
+    }
+
+    // The operation is one to which no early refusal is due.
+    fn perform(&mut self, position: usize, tx: u64, op: Op, reply: Reply) -> Result<(), EventFault>
+        ghost here: { Progress }
+        requires stands { IsAt self.old here }
+        requires position { position ≡ here.count }
+        requires early { due_early here.state tx op ≡ None }
+        requires not_early { early_of reply ≡ false }
+        ensures takes { OnOk result (TakesEvent here (Do tx op) reply self.new) }
+        ensures event_fault { IfErr result (IsEventFault here (Do tx op) reply) }
+    {
+        let held = self.locks.held(tx);
+        let asked = ask(&mut self.locks, tx, op.asked_lock());
+        if let Err(event_fault) = verdict(asked, tx, &op, &reply) {
+            return Err(event_fault);
+        }
+        if is_refusal(&reply) {
+            if let Asked::Granted = asked {
+                self.locks.cut(tx, held);
+            }
+            return Ok(());
+        }
+        let made = runs_made(&op, &reply);
+        keep(
+            &mut self.active,
+            tx,
+            OwnAnswer {
+                position,
+                op,
+                reply,
+            },
+        )?;
+        self.runs += made;
+        Ok(())
+    }
+
+    fn merge(&mut self, limit: u64, reply: &Reply) -> Result<(), EventFault>
+        ghost here: { Progress }
+        requires { IsAt self.old here }
+        ensures takes { OnOk result (TakesEvent here (Merge limit) reply.now self.new) }
+        ensures event_fault { IfErr result (IsEventFault here (Merge limit) reply.now) }
+    {
+        if !may_merge(self.runs, limit, reply) {
+            return Err(EventFault::Form);
+        }
+        Ok(())
+    }
+
+    fn clean(&mut self, range: Range, limit: u64, reply: &Reply) -> Result<(), EventFault>
+        ghost here: { Progress }
+        requires { IsAt self.old here }
+        ensures takes { OnOk result (TakesEvent here (Clean range limit) reply.now self.new) }
+        ensures event_fault { IfErr result (IsEventFault here (Clean range limit) reply.now) }
+    {
+        if !may_clean(range, limit, reply) {
+            return Err(EventFault::Form);
+        }
+        Ok(())
+    }
+}

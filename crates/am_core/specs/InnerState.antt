@@ -1,0 +1,7 @@
+-- What the store's fields keep together.
+use Rattle.am_sound.specs.StoreState.{StoreState}
+use Rattle.am_core.specs.declared.inner.Inner.{Inner}
+use Rattle.am_core.specs.Keeping.{state_kept}
+
+abbrev pub state_of : {I : Type 0} → Inner I → StoreState
+state_of k = state_kept k.parts k.txs k.wishes k.commits

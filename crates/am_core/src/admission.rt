@@ -1,0 +1,67 @@
+//! What comes before an operation: the refusal that is due, and its lock.
+
+ghost use Rattle.std.specs.Prelude.{◌≡◌, true, length, IfOk, IfErr, OnOk, OnErr};
+ghost use Rattle.am_locks.specs.Table.{locks_owned};
+ghost use Rattle.am_tx.specs.Active.{is_active_in, ops_in};
+ghost use Rattle.am_record.specs.Refusals.{refusal_before_lock};
+ghost use Rattle.am_core.specs.Admission.{IsLockRefusal, IsLockGranted, wish_of};
+
+use am_list::PartIndex;
+use am_locks::Asked;
+use am_parts::Parts;
+use am_record::{Lock, Op, Range, Refusal};
+use am_tx::TxTable;
+
+/// The refusal that is due before a lock is asked for.
+#[inline(never)]
+pub(crate) fn refusal<I: PartIndex + Drop>(
+    parts: &Parts<I>,
+    txs: &TxTable,
+    tx: u64,
+    op: &Op,
+) -> Option<Refusal>
+    ensures { result ≡ refusal_before_lock (is_active_in txs.now.active tx)
+        (ops_in txs.now.active tx) parts.now.runs op.now }
+{
+    let is_active = txs.is_active(tx);
+    let ops = if is_active { txs.ops(tx) } else { 0 };
+    op.refusal(is_active, ops, parts.runs())
+}
+
+/// Asks for the lock, if there is one, and answers how many locks the transaction held before.
+///
+/// # Errors
+/// The refusal that is due, or NoMemory; nothing is changed.
+#[inline(never)]
+pub(crate) fn ask(txs: &mut TxTable, tx: u64, asked: Option<Lock>) -> Result<usize, Refusal>
+    requires { is_active_in txs.old.active tx ≡ true }
+    ensures granted { OnOk result (IsLockGranted txs.old tx asked txs.new) }
+    ensures held { IfOk result (λ held. held ≡ length (locks_owned txs.old.locks tx)) }
+    ensures refused { IfErr result (IsLockRefusal txs.old tx asked) }
+    ensures unchanged { OnErr result (txs.new ≡ txs.old) }
+{
+    am_sound::tables_follow();
+    // Read here, the owners of locks are known to be the active transactions.
+    let _active = txs.active();
+    let held = txs.held(tx);
+    let Some(lock) = asked else {
+        return Ok(held);
+    };
+    match txs.ask(tx, lock) {
+        Asked::Granted => Ok(held),
+        Asked::Busy(holder) => Err(Refusal::Busy(holder)),
+        Asked::TooManyLocks => Err(Refusal::TooManyLocks),
+        Asked::NoMemory => Err(Refusal::NoMemory),
+    }
+}
+
+/// The wish that the operation leaves, once it is answered.
+pub(crate) fn wish_of(op: &Op) -> Option<Range>
+    ensures { result ≡ wish_of op.now }
+{
+    match op {
+        Op::Get(key) => Some(Range::point(*key)),
+        Op::Scan(range, _) => Some(*range),
+        _ => None,
+    }
+}

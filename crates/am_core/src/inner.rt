@@ -1,0 +1,46 @@
+//! What a store keeps, and its steps.
+
+ghost use Rattle.std.specs.Prelude.{◌≡◌, ◌+◌, ◌≤◌, ◌^◌, length, true};
+ghost use Rattle.am_record.specs.declared.step.Refusal.TheVariants.{NoMemory};
+ghost use Rattle.am_sound.specs.StoreState.{MayAnswer, state_after, IsFit};
+ghost use Rattle.am_core.specs.Memory.{may_want_memory};
+ghost use Rattle.am_core.specs.Standing.{KeepsContent};
+ghost use Rattle.am_core.specs.InnerState.{state_of};
+
+use am_list::PartIndex;
+use am_merge::Wishes;
+use am_parts::Parts;
+use am_record::{Reply, Step};
+use am_tx::TxTable;
+use std::alloc::Global;
+
+/// The partitions, the active transactions, the wishes and the number of commits.
+#[derive(Drop)]
+pub(crate) struct Inner<I: PartIndex + Drop> {
+    pub(crate) alloc: Global,
+    pub(crate) parts: Parts<I>,
+    pub(crate) txs: TxTable,
+    pub(crate) wishes: Wishes,
+    pub(crate) commits: u64,
+}
+
+impl<I: PartIndex + Drop> Inner<I> {
+    #[inline(never)]
+    pub(crate) fn step(&mut self, step: Step) -> Reply
+        requires fit { IsFit (state_of self.old) }
+        requires few { self.old.commits + length self.old.txs.active ≤ 2 ^ 63 }
+        ensures says { MayAnswer (state_of self.old) step result }
+        ensures after { state_of self.new ≡ state_after (state_of self.old) step result }
+        ensures memory { result ≡ Reply.Refused NoMemory → may_want_memory (state_of self.old) step ≡ true }
+        ensures content { KeepsContent (state_of self.old) step (state_of self.new) }
+    {
+        match step {
+            Step::Begin => self.begin(),
+            Step::Do(tx, op) => self.operate(tx, op),
+            Step::Commit(tx) => self.commit(tx),
+            Step::Abort(tx) => self.abort(tx),
+            Step::Merge(limit) => self.merge(limit),
+            Step::Clean(range, limit) => self.clean(range, limit),
+        }
+    }
+}

@@ -1,0 +1,17 @@
+-- Which keys a filter holds.
+use Rattle.std.specs.Prelude.{ℕ, ◌*◌, ◌/◌, ◌%◌, ◌^◌, bit_and, bit_or, List, Bool, nat_eq, length, get_or}
+use Rattle.am_record.specs.OrderedKey.{OrderedKey}
+use Rattle.am_record.specs.KeyMix.{key_mix}
+
+-- the bits of a number
+unfoldable pub mask_of : ℕ → ℕ
+mask_of n = bit_or (bit_or (bit_or (bit_or (2 ^ (n % 64)) (2 ^ (n / 2 ^ 6 % 64))) (2 ^ (n / 2 ^ 12 % 64)))
+    (2 ^ (n / 2 ^ 18 % 64))) (2 ^ (n / 2 ^ 24 % 64))
+
+-- and its word
+abbrev pub word_index : List ℕ → ℕ → ℕ
+word_index ws n = n / 2 ^ 32 * length ws / 2 ^ 32
+
+-- whether the bits of the key are set in its word
+unfoldable pub holds : List ℕ → OrderedKey → Bool
+holds ws k = nat_eq (bit_and (get_or ws (word_index ws (key_mix k)) 0) (mask_of (key_mix k))) (mask_of (key_mix k))

@@ -1,6 +1,0 @@
-use Rattle.std.proofs.Common.{rules, ap}
-use Rattle.am_latch.proofs.Rules.{settles_as}
-use Rattle.am_latch.proofs.entering.settle.Goals as goal
-
-pub load-requires : goal.load-requires
-load-requires c = (search rules, search rules, settles_as _ _ c.args.number _ (ap (λ m. m.0) c.requires.book))

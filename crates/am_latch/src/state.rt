@@ -1,0 +1,111 @@
+//! What lies under the latch: the engine, with the token that knows its trace.
+ghost use Rattle.std.specs.Prelude.{◌≡◌, ◌≢◌, ◌<◌, [], ◌∷◌, ◌++◌, length, MatchBool};
+ghost use Rattle.am_record.specs.Sessions.{IsAllowed};
+ghost use Rattle.am_record.specs.declared.step.Reply.TheVariants.{Refused};
+ghost use Rattle.am_record.specs.declared.step.Refusal.TheVariants.{SeatFull};
+ghost use Rattle.am_latch.specs.Changes.{is_stored};
+ghost use Rattle.am_latch.specs.Changes.{IsBoundedReply};
+ghost use Rattle.am_latch.specs.Traces.{CallLog, empty_log, StoresCall, AreMadeBelow};
+ghost use Rattle.am_latch.specs.Receipts.{receipt};
+ghost use Rattle.am_latch.specs.Ties.{open_of, EndsTx, IsTied};
+ghost use Rattle.am_latch.specs.Views.{trace_view, seat_view, IsSeatView};
+
+use crate::change::was_stored;
+use crate::engine::Engine;
+use crate::latch_name::LatchName;
+use crate::receipt::CallId;
+use crate::view_steps::{append_call, compare_receipts};
+use crate::views::{Token, View, ViewTable};
+use am_record::{Reply, Step};
+use atomic_table::Badge;
+use std::marker::{Model, PhantomData};
+use std::mem;
+
+/// An engine, and the token that knows its trace.
+#[derive(Drop)]
+pub(crate) struct LatchState<L: LatchName> {
+    pub(crate) engine: Engine,
+    pub(crate) trace_token: Badge<View>,
+    pub(crate) of: PhantomData<L>,
+}
+
+impl<L: LatchName> Model for LatchState<L> {
+    ghost use Rattle.std.specs.Prelude.{◌≡◌, [], ◌∷◌};
+    ghost use Rattle.am_latch.specs.Traces.{call_log_code, CallLog, AreMadeBelow};
+    ghost use Rattle.am_latch.specs.Ties.{IsTied};
+    ghost use Rattle.am_latch.specs.Views.{trace_view};
+
+    ghost Value = { CallLog };
+
+    ghost coded = { call_log_code };
+
+    ghost view = { λ h. h.engine };
+
+    ghost invariant = { λ h. (h.trace_token.table_id ≡ L.table) × (h.trace_token.views ≡ trace_view h.engine ∷ []) ×
+        AreMadeBelow L.seats h.engine.calls × IsTied h.engine };
+}
+
+impl<L: LatchName> LatchState<L> {
+    pub(crate) fn new(engine: Engine, trace_token: Token) -> LatchState<L>
+        requires engine { engine ≡ empty_log }
+        requires trace_token { (trace_token.table_id ≡ L.table) × (trace_token.me ≡ (trace_view empty_log, [])) }
+        ensures { result ≡ empty_log }
+    {
+        LatchState {
+            engine,
+            trace_token: trace_token.into_badge(),
+            of: PhantomData,
+        }
+    }
+
+    /// How many pairs are stored.
+    pub(crate) fn len(&self) -> usize
+        ensures { result ≡ length self.now.trace }
+    {
+        self.engine.trace().len()
+    }
+
+    /// Takes a step for a seat, whose token then knows of it.
+    pub(crate) fn call(
+        &mut self,
+        table: &ViewTable,
+        token: &mut Token,
+        call_id: CallId,
+        step: Step,
+        kept: &Step,
+    ) -> Reply
+        requires table { (table.now.shared.table_id ≡ L.table) × (0 < table.now.shared.table_id.words) ×
+            (token.old.table_id ≡ L.table) }
+        requires token { IsSeatView token.old.me.0 × (call_id.seat ≡ token.old.me.0.seat) × (call_id.seat < L.seats) }
+        requires may { IsAllowed (open_of token.old.me.0.receipts) step }
+        requires kept { kept.now ≡ step }
+        ensures stepped { StoresCall self.old call_id step result self.new }
+        ensures never_full { result ≢ Refused SeatFull }
+        ensures ended { EndsTx step result }
+        ensures bounded { IsBoundedReply step result }
+        ensures same { token.new.table_id ≡ token.old.table_id }
+        ensures token { MatchBool (is_stored result) (token.new.me ≡ (
+          seat_view call_id.seat (token.old.me.0.receipts ++
+              receipt call_id.seat (length token.old.me.0.receipts) step result (length self.old.trace) ∷ []),
+          token.old.me.1,
+        )) (token.new.me ≡ token.old.me) }
+    {
+        let trace_token = mem::replace(&mut self.trace_token, Badge::blank()).into_seat();
+        let trace_token = compare_receipts(table, token, trace_token);
+        let _calls = self.engine.calls();
+        let reply = self.engine.step(call_id, step);
+        if !was_stored(&reply) {
+            self.trace_token = trace_token.into_badge();
+            return reply;
+        }
+        self.trace_token = append_call(
+            table,
+            token,
+            trace_token,
+            kept,
+            &reply,
+            &call_id,
+        ).into_badge();
+        reply
+    }
+}

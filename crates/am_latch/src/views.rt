@@ -1,0 +1,120 @@
+//! What ties receipts to the trace: a table of one word, which never changes, under a rule over the views of tokens.
+
+use crate::receipt::{CallId, Receipt};
+use am_record::{Reply, Step};
+use atomic_table::{Join, Play, Seat, Split, Table, TableRule};
+use std::alloc::Global;
+use std::collections::LinkedList;
+use std::marker::{Brand, PhantomData};
+
+/// What a token knows. One knows the trace and the call of each pair, a seat's knows its receipts. No value of it is
+/// made.
+pub struct View {
+    pub has_trace: bool,
+    pub trace: LinkedList<(Step, Reply)>,
+    pub calls: LinkedList<CallId>,
+    /// Whether seats are being minted, and how many were.
+    pub is_minting: bool,
+    pub minted: u64,
+    pub has_seat: bool,
+    pub seat: u64,
+    pub receipts: LinkedList<Receipt>,
+}
+
+pub struct AgreeingViews;
+
+impl TableRule<u8, View, ()> for AgreeingViews {
+    ghost use Rattle.am_latch.specs.Views.{AllAgree, minting_view};
+
+    ghost holds = { λ _. AllAgree };
+
+    ghost first = { λ _. minting_view 0 };
+}
+
+pub type ViewTable = Table<u8, View, (), AgreeingViews, Global>;
+
+pub type Token = Seat<u8, View>;
+
+/// The pair that is appended, and its call.
+pub trait Event {
+    ghost use Rattle.am_latch.specs.declared.receipt.CallId.{CallId};
+    ghost use Rattle.am_record.specs.declared.step.Step.{Step};
+    ghost use Rattle.am_record.specs.declared.step.Reply.{Reply};
+
+    ghost step: { Step };
+
+    ghost reply: { Reply };
+
+    ghost call_id: { CallId };
+}
+
+impl Event for Brand {
+    ghost use Rattle.am_record.specs.declared.step.Step.TheVariants.{Begin};
+    ghost use Rattle.am_record.specs.declared.step.Reply.TheVariants.{Done};
+
+    ghost step = { Begin };
+
+    ghost reply = { Done };
+
+    ghost call_id = { record { seat = 0; call = 0 } };
+}
+
+pub struct AppendCall<E> {
+    of: PhantomData<E>,
+}
+
+impl<E: Event> Play<u8, View> for AppendCall<E> {
+    ghost use Rattle.am_latch.specs.Views.{AppendsCall};
+
+    ghost then = { AppendsCall E.step E.reply E.call_id };
+}
+
+pub struct CompareReceipts;
+
+impl Play<u8, View> for CompareReceipts {
+    ghost use Rattle.am_latch.specs.Views.{ReceiptsAgree};
+
+    ghost then = { ReceiptsAgree };
+}
+
+/// The view of the trace is taken into a seat's.
+pub struct JoinViews;
+
+impl Join<View> for JoinViews {
+    ghost use Rattle.am_latch.specs.Views.{join_views, empty_view};
+
+    ghost both = { join_views };
+
+    ghost spent = { empty_view };
+}
+
+/// And cut off again.
+pub struct SplitViews;
+
+impl Split<View> for SplitViews {
+    ghost use Rattle.am_latch.specs.Views.{seat_part, trace_part};
+
+    ghost left = { seat_part };
+
+    ghost right = { trace_part };
+}
+
+/// A new seat.
+pub struct MintSeat;
+
+impl Split<View> for MintSeat {
+    ghost use Rattle.am_latch.specs.Views.{one_more_minted, minted_seat};
+
+    ghost left = { one_more_minted };
+
+    ghost right = { minted_seat };
+}
+
+/// All seats are minted.
+pub struct EndMinting;
+
+impl Play<u8, View> for EndMinting {
+    ghost use Rattle.am_latch.specs.Views.{EndsMinting};
+
+    ghost then = { EndsMinting };
+}

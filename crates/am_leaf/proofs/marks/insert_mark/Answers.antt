@@ -1,9 +1,0 @@
-use Rattle.std.proofs.Common.{arith}
-use Rattle.am_leaf.proofs.MarkLemmas.{computed_insert, inserted_below}
-use Rattle.am_leaf.proofs.marks.insert_mark.Goals as goal
-
-pub returns : goal.returns
-returns c = computed_insert c.args.marks c.args.at _ _ c.args.is_marked c.from-marks.ensures c.from.ensures c.requires.in_range
-
-pub overflow_cast-result : goal.overflow_cast-result
-overflow_cast-result c = rw (returns c) (record { fits = inserted_below c.args.marks c.args.at 31 c.args.is_marked (omega (arith, c.requires.in_range)) c.requires.room })

@@ -1,0 +1,83 @@
+//! A sink that tells how many answers were sent on.
+
+ghost use Rattle.std.specs.Prelude.{◌≡◌, ◌==◌, ◌||◌, ◌+◌, ◌^◌, ◌<◌, ◌≤◌, false, [], length, take, min, count_by};
+ghost use Rattle.std.specs.Prelude.{nat_lt, OnOk, OnErr, IfOk};
+ghost use Rattle.am_wire.specs.Giving.{Gave};
+
+use crate::pacer::MergePacer;
+use am_wire::{Failed, Sink};
+
+/// A sink of a session, each of whose answers lets a worker have a turn once it was sent on.
+#[derive(Drop)]
+pub(crate) struct CountingSink<'a, K: Sink + Drop> {
+    sink: K,
+    pacer: &'a MergePacer,
+    // How many answers were written and not sent on yet.
+    unsent: u64,
+}
+
+// How many answers end in the piece: each is a line.
+fn answers_in(piece: &[u8]) -> u64
+    ensures { result ≡ count_by (λ byte. byte == 10) piece.now }
+{
+    piece.iter().filter(|byte| **byte == b'\n').count() as u64
+}
+
+impl<'a, K: Sink + Drop> CountingSink<'a, K> {
+    pub(crate) fn new(sink: K, pacer: &'a MergePacer) -> CountingSink<'a, K>
+        ensures { result.sink ≡ sink }
+    {
+        CountingSink {
+            sink,
+            pacer,
+            unsent: 0,
+        }
+    }
+}
+
+impl<'a, K: Sink + Drop> Sink for CountingSink<'a, K> {
+    ghost holds = { λ s. K.holds s.sink };
+
+    ghost failures = { λ s. K.failures s.sink };
+
+    ghost pending = { λ s. K.pending s.sink };
+
+    fn give(&mut self, piece: &[u8]) -> Result<usize, Failed>
+        requires countable { K.failures self.old.sink < 2 ^ 63 }
+        ensures fits { IfOk result (λ n. n ≤ length piece.now) }
+        ensures given { IfOk result (λ n. Gave K.holds self.old.sink (take n piece.now) self.new.sink) }
+        ensures some { IfOk result (λ n. 0 < length piece.now → 0 < n) }
+        ensures pending { IfOk result (λ n. K.pending self.new.sink ≡ (K.pending self.old.sink || nat_lt 0 n)) }
+        ensures ok { OnOk result (K.failures self.new.sink ≡ K.failures self.old.sink) }
+        ensures failed { OnErr result (K.failures self.new.sink ≡ K.failures self.old.sink + 1) }
+        ensures kept { OnErr result (Gave K.holds self.old.sink [] self.new.sink) }
+        ensures same { OnErr result (K.pending self.new.sink ≡ K.pending self.old.sink) }
+
+        // Of a piece that is written in part, the answers of that part are counted.
+        ensures counted { IfOk result (λ n. self.new.unsent ≡
+            min 18446744073709551615 (self.old.unsent + count_by (λ byte. byte == 10) (take n piece.now))) }
+        ensures uncounted { OnErr result (self.new.unsent ≡ self.old.unsent) }
+    {
+        let len = self.sink.give(piece)?;
+        self.unsent = self.unsent.saturating_add(answers_in(&piece[..len]));
+        Ok(len)
+    }
+
+    fn flush(&mut self) -> Result<(), Failed>
+        requires countable { K.failures self.old.sink < 2 ^ 63 }
+        ensures kept { Gave K.holds self.old.sink [] self.new.sink }
+        ensures sent { OnOk result (K.pending self.new.sink ≡ false) }
+        ensures ok { OnOk result (K.failures self.new.sink ≡ K.failures self.old.sink) }
+        ensures failed { OnErr result (K.failures self.new.sink ≡ K.failures self.old.sink + 1) }
+        ensures same { OnErr result (K.pending self.new.sink ≡ K.pending self.old.sink) }
+
+        // Answers that were sent on are counted once.
+        ensures counted { OnOk result (self.new.unsent ≡ 0) }
+        ensures uncounted { OnErr result (self.new.unsent ≡ self.old.unsent) }
+    {
+        self.sink.flush()?;
+        self.pacer.count_answers(self.unsent);
+        self.unsent = 0;
+        Ok(())
+    }
+}

@@ -1,0 +1,102 @@
+//! A port of this machine.
+
+ghost use Rattle.std.specs.Prelude.{◌≡◌, ◌≤◌, ◌<◌, IfOk};
+ghost use Rattle.am_listen.specs.ServerRuns.{IsSoundRun};
+
+use crate::acceptor::Acceptor;
+use crate::server_run::{ServerRun, run};
+use am_latch::Blank;
+use am_record::NoMemory;
+use am_words::Words;
+use std::alloc::Global;
+use std::io;
+use std::marker::Brand;
+use std::net::{Ipv4Addr, Net, TcpListener, TcpStream};
+use std::sync::Wait;
+use std::sync::atomic::{AtomicBool, Ordering};
+use std::thread::Threads;
+use thiserror::Error;
+
+/// Why no port is listened at.
+#[derive(Clone, Copy, Debug, PartialEq, Eq, Error)]
+pub enum BindFault {
+    /// The system refused it.
+    #[error("cannot listen")]
+    CannotListen,
+}
+
+/// A listener at a port of this machine, which takes connections from this machine alone.
+#[derive(Drop)]
+pub struct PortListener {
+    listener: TcpListener,
+    port: u16,
+    alloc: Global,
+    is_stopped: AtomicBool,
+}
+
+/// Listens at 127.0.0.1, at that port, or at any free one where it is 0.
+///
+/// # Errors
+/// CannotListen, where the system refuses it, as it does where the port is in use.
+pub fn bind<R: AllocGlobal + Net<Listener = TcpListener, Stream = TcpStream>>(
+    rt: &R,
+    port: u16,
+) -> Result<PortListener, BindFault> {
+    listen(rt, port).map_err(|_| BindFault::CannotListen)
+}
+
+fn listen<R: AllocGlobal + Net<Listener = TcpListener, Stream = TcpStream>>(
+    rt: &R,
+    port: u16,
+) -> io::Result<PortListener> {
+    let listener = TcpListener::bind(rt, (Ipv4Addr::LOCALHOST, port))?;
+    let port = listener.local_addr()?.port();
+    Ok(PortListener {
+        listener,
+        port,
+        alloc: rt.alloc(),
+        is_stopped: AtomicBool::new(false),
+    })
+}
+
+impl PortListener {
+    /// The port.
+    pub fn port(&self) -> u16 {
+        self.port
+    }
+
+    /// No further connection is taken, and `serve` returns once the sessions begun have ended. May be called from
+    /// another thread while `serve` runs.
+    pub fn stop<R: Net<Listener = TcpListener, Stream = TcpStream>>(&self, rt: &R) {
+        self.is_stopped.store(true, Ordering::SeqCst);
+        // A thread that waits for a connection gets this one, and sees that it is to stop.
+        drop(TcpStream::connect(rt, (Ipv4Addr::LOCALHOST, self.port)));
+    }
+
+    /// Accepts so many connections, or those that come before [`PortListener::stop`], each of which is served on a
+    /// thread and a seat of its own, over one store that begins with no records, and lets so many workers merge beside
+    /// them: one turn for each answered line. It returns once all sessions have ended. The trace is sound, and whoever
+    /// judges it finds nothing wrong in it.
+    ///
+    /// # Errors
+    /// NoMemory, where memory was refused before a connection was accepted.
+    pub fn serve<R: Threads + Wait + Sync>(
+        &self,
+        rt: &R,
+        sessions: u64,
+        workers: u64,
+    ) -> Result<ServerRun, NoMemory>
+        requires sessions { (1 ≤ sessions) × (sessions ≤ 256) }
+        requires workers { workers ≤ 16 }
+        ensures { IfOk result IsSoundRun }
+    {
+        let Ok(blank) = Blank::new(self.alloc, sessions + workers) else {
+            return Err(NoMemory);
+        };
+        let Ok((words, word_seats)) = Words::open(self.alloc, sessions as usize) else {
+            return Err(NoMemory);
+        };
+        let acceptor = Acceptor::new(&self.listener, &self.is_stopped);
+        run::<Brand, R>(rt, self.alloc, acceptor, blank, &words, word_seats)
+    }
+}

@@ -1,0 +1,99 @@
+//! One session at its seat.
+
+ghost use Rattle.std.specs.Prelude.{◌≡◌, ◌+◌, ◌^◌, ◌<◌, false, None};
+ghost use Rattle.am_session.specs.Served.{Served, read_failures, write_failures, IsSentOn};
+ghost use Rattle.am_seating.specs.SessionSeats.{open_at, seat_meaning, IsNumbered, IsPublishedByReceipt};
+
+use crate::acceptor::Acceptor;
+use crate::counting_sink::CountingSink;
+use crate::pacer::MergePacer;
+use am_latch::LatchName;
+use am_seating::SessionSeat;
+use am_session::{End, serve};
+use am_wire::{AnsweredSource, Reading, Sink, Writing};
+use std::alloc::Global;
+use std::io::{BufWriter, Write};
+use std::net::TcpStream;
+use std::sync::{Mutex, Wait};
+
+/// Answers the lines of a source at a seat, each by one line, and at the end aborts what is open there. The sink has
+/// nothing that isn't sent on, and the number of the session is drawn. The number of the seat stays, and what is
+/// published there is the commit of one of its receipts.
+pub fn serve_session<'a, W: Wait, K: Sink, S: AnsweredSource<K>, L: LatchName>(
+    rt: &W,
+    alloc: Global,
+    source: &mut S,
+    sink: &mut K,
+    session_seat: &mut SessionSeat<'a, L>,
+) -> End
+    requires source_countable { S.failures source.old < 2 ^ 63 }
+    requires sink_countable { K.failures sink.old < 2 ^ 63 }
+    requires sent { K.pending sink.old ≡ false }
+    requires idle { open_at session_seat.old ≡ None }
+    requires numbered { IsNumbered session_seat.old }
+    ensures served { Served S.comes K.holds seat_meaning 0 source.old sink.old session_seat.old
+        source.new sink.new session_seat.new result }
+    ensures idle { open_at session_seat.new ≡ None }
+    ensures sent { IsSentOn result (K.pending sink.new ≡ false) }
+    ensures source_failures { S.failures source.new ≡ S.failures source.old + read_failures result }
+    ensures sink_failures { K.failures sink.new ≡ K.failures sink.old + write_failures result }
+    ensures seat { session_seat.new.seat.number ≡ session_seat.old.seat.number }
+    ensures published { IsPublishedByReceipt session_seat.old → IsPublishedByReceipt session_seat.new }
+{
+    am_seating::sessions_have_receipts();
+    serve(rt, alloc, source, sink, session_seat, 0)
+}
+
+// Serves one connection to its end.
+fn serve_connection<'a, W: Wait, L: LatchName>(
+    rt: &W,
+    alloc: Global,
+    stream: &TcpStream,
+    pacer: &MergePacer,
+    session_seat: &mut SessionSeat<'a, L>,
+)
+    requires idle { open_at session_seat.old ≡ None }
+    requires numbered { IsNumbered session_seat.old }
+    ensures seat { session_seat.new.seat.number ≡ session_seat.old.seat.number }
+{
+    // Each answer is written whole, and goes out at once where the system can be told so.
+    let _ = stream.set_nodelay(true);
+    let Ok(writer) = BufWriter::new(alloc, stream) else {
+        refuse(stream);
+        return;
+    };
+    let mut source = Reading::new(stream);
+    let mut sink = CountingSink::new(Writing::new(writer), pacer);
+    if let End::NoMemory = serve_session(rt, alloc, &mut source, &mut sink, session_seat) {
+        refuse(stream);
+    }
+}
+
+// Says that there was no memory for a session's buffers, before anything was read.
+fn refuse(stream: &TcpStream) {
+    let mut writer = stream;
+    let _ = writer.write_all(b"ERR MEMORY\n");
+}
+
+/// Takes the next connection, if one comes, and serves it to its end.
+pub(crate) fn serve_next<'a, W: Wait, L: LatchName>(
+    rt: &W,
+    alloc: Global,
+    acceptor: &Mutex<Acceptor<'_>>,
+    pacer: &MergePacer,
+    session_seat: &mut SessionSeat<'a, L>,
+)
+    requires idle { open_at session_seat.old ≡ None }
+    ensures seat { session_seat.new.seat.number ≡ session_seat.old.seat.number }
+{
+    let mut held = acceptor.lock(rt);
+    let came = held.next();
+    let drew = session_seat.draw();
+    drop(held);
+    if let Some(stream) = came
+        && drew
+    {
+        serve_connection(rt, alloc, &stream, pacer, session_seat);
+    }
+    pacer.end_session();
+}

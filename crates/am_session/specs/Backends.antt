@@ -1,0 +1,11 @@
+-- What contracts know of a session's backend, a store as one session sees it.
+use Rattle.std.specs.Prelude.{ℕ, Option}
+use Rattle.am_record.specs.declared.step.Step.{Step}
+use Rattle.am_record.specs.declared.step.Reply.{Reply}
+
+-- which transaction is active in a state; from which state a step, with which reply, leads to which; and which number
+-- of a session and of commits may be shown in a state, and the state then
+pub record BackendMeaning (B : Type 0) : Type 1 where
+  pub active : B → Option ℕ
+  pub steps : B → Step → Reply → B → Type 0
+  pub shows : B → ℕ → ℕ → B → Type 0

@@ -1,0 +1,15 @@
+//! What is due for a line.
+
+use crate::response::Response;
+use am_record::Step;
+
+/// What is due for a line.
+#[derive(Debug, PartialEq, Eq, Drop)]
+pub enum Action {
+    /// A response at once.
+    Answer(Response),
+    /// A step of the store, whose reply is the response.
+    Take(Step),
+    /// What SEEN tells.
+    TellSeen,
+}
