@@ -1,5 +1,6 @@
 -- Keys, values and records as C gives and gets them.
 use Rattle.std.specs.Prelude.{ℕ, nat_le, length, List, ◌++◌, ◌-◌, take, replicate, cond, Result, Ok, Err}
+use Rattle.am_record.specs.Limits.{max_key_bytes, max_value_bytes}
 use Rattle.am_record.specs.OrderedKey.{OrderedKey, key_of, bytes_of}
 use Rattle.am_record.specs.Interval.{Interval, key_le}
 use Rattle.am_c.specs.declared.status.Status.{Status}
@@ -15,10 +16,10 @@ of_both f (Ok x) (Err why) = Err why
 of_both f (Err why) y = Err why
 
 abbrev pub key_given : List ℕ → Result OrderedKey Status
-key_given bytes = cond (nat_le (length bytes) 32) (Ok (key_of bytes)) (Err BadKey)
+key_given bytes = cond (nat_le (length bytes) max_key_bytes) (Ok (key_of bytes)) (Err BadKey)
 
 abbrev pub value_given : List ℕ → Result (List ℕ) Status
-value_given bytes = cond (nat_le (length bytes) 64) (Ok bytes) (Err BadValue)
+value_given bytes = cond (nat_le (length bytes) max_value_bytes) (Ok bytes) (Err BadValue)
 
 abbrev pub in_order : OrderedKey → OrderedKey → Result Interval Status
 in_order lo hi = cond (key_le lo hi) (Ok (record { lo = lo; hi = hi })) (Err BadRange)
@@ -29,8 +30,8 @@ range_given lo hi = of_both in_order (key_given lo) (key_given hi)
 -- the first bytes of a text, as many as it says
 abbrev pub pair_given : Record → Result (OrderedKey × List ℕ) Status
 pair_given r =
-    cond (nat_le r.key.len 32)
-    (cond (nat_le r.value.len 64)
+    cond (nat_le r.key.len max_key_bytes)
+    (cond (nat_le r.value.len max_value_bytes)
     (Ok (key_of (take r.key.len r.key.bytes), take r.value.len r.value.bytes)) (Err BadValue))
     (Err BadKey)
 

@@ -1,5 +1,6 @@
 -- What one step, and many, do to a store.
 use Rattle.std.specs.Prelude.{◌≡◌, ◌≤◌, length, List, [], ◌∷◌, ◌++◌, true}
+use Rattle.am_record.specs.Limits.{max_limit}
 use Rattle.am_record.specs.declared.step.Refusal.TheVariants.{NoMemory}
 use Rattle.am_record.specs.declared.step.Op.TheVariants.{Scan}
 use Rattle.am_record.specs.declared.step.Step.{Step}
@@ -25,7 +26,7 @@ pub record Extends (old : StoreState) (more : Trace) (new : StoreState) : Type 0
 -- no more rows than asked for, and no more moves than may be made at once
 abbrev pub IsWithin : Step → Reply → Type 0
 IsWithin (Do t (Scan range max)) (Rows rows) = length rows ≤ max
-IsWithin (Merge limit) (Moved n run) = n ≤ 64
+IsWithin (Merge limit) (Moved n run) = n ≤ max_limit
 IsWithin _ _ = Unit {0}
 
 -- a Merge or a Clean leaves the content as it was

@@ -75,10 +75,10 @@ module _ (es : List Entry) (rise : IsRising es) (one : OnePlace es) where
   place_law e live n = cond-false e.is_ghost (remove_entry es e.part e.key) (put (record e { part = 0 }) (remove_entry es e.part e.key)) live ∙ ⊎_elim
       (λ yes.
       put_set final (remove_entry es e.part e.key) (ap is_some same ∙ yes)
-      ∙ sym (ap (λ l. remove_entry l e.part e.key) (put_set final es yes) ∙ (edit_laws es rise).remove_past_set 0 e.key e.value e.is_ghost e.part e.key yes apart))
+      ∙ sym (ap (λ l. remove_entry l e.part e.key) (put_set final es yes) ∙ (edit_laws es rise).commute.reset 0 e.key e.value e.is_ghost e.part e.key yes apart))
       (λ fresh.
       put_new final (remove_entry es e.part e.key) (ap is_some same ∙ fresh)
-      ∙ sym (ap (λ l. remove_entry l e.part e.key) (put_new final es fresh) ∙ (edit_laws es rise).remove_past_insert final e.part e.key (absent (find es 0 e.key) fresh) apart))
+      ∙ sym (ap (λ l. remove_entry l e.part e.key) (put_new final es fresh) ∙ (edit_laws es rise).commute.inserted final e.part e.key (absent (find es 0 e.key) fresh) apart))
       (cases_Bool (is_some (find es 0 e.key)))
     where
       final : Entry

@@ -119,10 +119,10 @@ pub content-put : (x : Entry) (es : List Entry) → IsRising es → OnePlace es 
 content-put x es rising one live none = by_slot (find es x.part x.key) refl
   where
     by_slot : (o : Option Slot) → find es x.part x.key ≡ o → HasContent (put x es) (insert (content es) x.key x.value)
-    by_slot None e = subst (λ l. HasContent l (insert (content es) x.key x.value)) (sym (put_new x es (ap is_some e))) ((content_laws es rising one).added x e live none)
+    by_slot None e = subst (λ l. HasContent l (insert (content es) x.key x.value)) (sym (put_new x es (ap is_some e))) ((content_laws es rising one).adds.added x e live none)
     by_slot (Some (v, true)) e =
         subst (λ l. HasContent l (insert (content es) x.key x.value)) (ap (set_entry es x.part x.key x.value) (sym live) ∙ sym (put_set x es (ap is_some e)))
-        ((content_laws es rising one).revived x.part x.key v x.value e none)
+        ((content_laws es rising one).sets.revived x.part x.key v x.value e none)
     by_slot (Some (v, false)) e = absurd (none-some v (sym none ∙ content_live es rising one x.part x.key v (record { there = e })))
 
 -- a record taken out and put back

@@ -75,10 +75,10 @@ pub keeps : (e : Entry) (es : List Entry) → IsRising es → Stands es e → On
 keeps e es r s one =
     let laws = content_laws es r one in
     ⊎_elim {C = HasContent (worked_off e es) (content es)}
-    (λ g. subst (λ l. HasContent l (content es)) (sym (ghost_case e es g)) (laws.ghost_removed e.part e.key e.value (s ∙ ap (λ b. slotted e.value b) g)))
+    (λ g. subst (λ l. HasContent l (content es)) (sym (ghost_case e es g)) (laws.removes.ghost_removed e.part e.key e.value (s ∙ ap (λ b. slotted e.value b) g)))
     (λ g.
     let live : IsLiveAt es e.part e.key e.value = record { there = s ∙ ap (λ b. slotted e.value b) g } in
-    let out = laws.removed e.part e.key e.value live in
+    let out = laws.removes.removed e.part e.key e.value live in
     let gone : get (content (without e es)) e.key ≡ None = ap (λ m. get m e.key) out.same ∙ get_removed (content es) e.key in
     let in_place = content-put (final e) (without e es) out.rising out.one_place g gone in
     let whole : insert (content (without e es)) e.key e.value ≡ content es = ap (λ m. insert m e.key e.value) out.same ∙ back_again (content es) e.key e.value (content_live es r one e.part e.key e.value live) in

@@ -2,6 +2,7 @@
 use Rattle.std.specs.Prelude.{◌≡◌, ℕ, ◌==◌, ◌≤◌, nat_le, List, [], ◌∷◌, ◌++◌, length, map, Bool, true, false}
 use Rattle.std.specs.Prelude.{if◌then◌else◌, not, filter, Option, Some, None}
 use Rattle.std.specs.List.{list_any}
+use Rattle.am_record.specs.Limits.{max_limit, max_rows}
 use Rattle.am_record.specs.declared.step.Op.TheVariants.{Scan}
 use Rattle.am_record.specs.declared.step.Step.{Step}
 use Rattle.am_record.specs.declared.step.Step.TheVariants.{Begin, Do, Commit, Abort}
@@ -47,7 +48,7 @@ is_stored _ = true
 
 -- how many rows the reply to a step may have
 abbrev pub room_of : Step → ℕ
-room_of (Do t (Scan range max)) = if nat_le max 1000 then max else 0
+room_of (Do t (Scan range max)) = if nat_le max max_rows then max else 0
 room_of _ = 0
 
 abbrev pub count_rows : Reply → ℕ
@@ -112,7 +113,7 @@ IsReplyTo st _ = Unit {0}
 pub record IsBoundedReply (st : Step) (r : Reply) : Type 0 where
   pub fits : IsReplyTo st r
   pub rows : count_rows r ≤ room_of st
-  pub moves : moves_in r ≤ 64
+  pub moves : moves_in r ≤ max_limit
 
 -- what a step owes: the trace goes on, and a refused step leaves the store where it was
 pub record TakesStep (trace : Trace) (st : Step) (r : Reply) (p : StoreState) : Type 0 where

@@ -115,33 +115,33 @@ module _ (es : List Entry) (rising : IsRising es) (one : OnePlace es) where
 
   added_law : (x : Entry) → find es x.part x.key ≡ None → x.is_ghost ≡ false → get (content es) x.key ≡ None → HasContent (insert_entry es x) (insert (content es) x.key x.value)
   added_law x absent live none =
-      made_live x.part x.key (Some (slot_of x)) (edits.insert_rises x absent) same_content (edits.insert_changes x) x.value
+      made_live x.part x.key (Some (slot_of x)) (edits.rise.inserted x absent) same_content (edits.change.inserted x) x.value
       (cond-false x.is_ghost None (Some x.value) live) (λ p v n. nowhere x.key none p v)
 
   ghost_added_law : (x : Entry) → find es x.part x.key ≡ None → x.is_ghost ≡ true → HasContent (insert_entry es x) (content es)
   ghost_added_law x absent ghost =
-      kept_dead x.part x.key (Some (slot_of x)) (edits.insert_rises x absent) same_content (edits.insert_changes x)
+      kept_dead x.part x.key (Some (slot_of x)) (edits.rise.inserted x absent) same_content (edits.change.inserted x)
       (cond-true x.is_ghost None (Some x.value) ghost) (ap live_value absent)
 
   module _ (part : ℕ) (key : OrderedKey) (old value : List ℕ) where
     live_set : (s : Slot) → find es part key ≡ Some s → ((p : ℕ) (v : List ℕ) → p ≢ part → IsLiveAt es p key v → ⊥) → HasContent (set_entry es part key value false) (insert (content es) key value)
     live_set s h none =
-        made_live part key (Some (value, false)) (edits.set_rises part key value false) same_content (edits.set_changes part key value false (present part key s h)) value refl none
+        made_live part key (Some (value, false)) (edits.rise.reset part key value false) same_content (edits.change.reset part key value false (present part key s h)) value refl none
 
-    marked_law : IsLiveAt es part key old → HasContent (set_entry es part key value true) (remove (content es) key)
-    marked_law was =
-        made_dead part key (Some (value, true)) (edits.set_rises part key value true) same_content (edits.set_changes part key value true (present part key (old, false) was.there)) old refl was
+    made_ghost_law : IsLiveAt es part key old → HasContent (set_entry es part key value true) (remove (content es) key)
+    made_ghost_law was =
+        made_dead part key (Some (value, true)) (edits.rise.reset part key value true) same_content (edits.change.reset part key value true (present part key (old, false) was.there)) old refl was
 
     ghost_set_law : find es part key ≡ Some (old, true) → HasContent (set_entry es part key value true) (content es)
     ghost_set_law h =
-        kept_dead part key (Some (value, true)) (edits.set_rises part key value true) same_content (edits.set_changes part key value true (present part key (old, true) h)) refl (ap live_value h)
+        kept_dead part key (Some (value, true)) (edits.rise.reset part key value true) same_content (edits.change.reset part key value true (present part key (old, true) h)) refl (ap live_value h)
 
   module _ (part : ℕ) (key : OrderedKey) (old : List ℕ) where
     removed_law : IsLiveAt es part key old → HasContent (remove_entry es part key) (remove (content es) key)
-    removed_law was = made_dead part key None (edits.remove_rises part key) same_content (edits.remove_changes part key) old refl was
+    removed_law was = made_dead part key None (edits.rise.removed part key) same_content (edits.change.removed part key) old refl was
 
     ghost_removed_law : find es part key ≡ Some (old, true) → HasContent (remove_entry es part key) (content es)
-    ghost_removed_law h = kept_dead part key None (edits.remove_rises part key) same_content (edits.remove_changes part key) refl (ap live_value h)
+    ghost_removed_law h = kept_dead part key None (edits.rise.removed part key) same_content (edits.change.removed part key) refl (ap live_value h)
 
   -- the key is taken out of its place, and the entry is put at another
   put_back : (key : OrderedKey) (value : List ℕ) → get (content es) key ≡ Some value → insert (remove (content es) key) key value ≡ content es
@@ -163,38 +163,39 @@ module _ (es : List Entry) (rising : IsRising es) (one : OnePlace es) where
   moved_law : (x : Entry) (part : ℕ) → IsLiveAt es part x.key x.value → part ≢ x.part → x.is_ghost ≡ false → find es x.part x.key ≡ None → HasContent (remove_entry (insert_entry es x) part x.key) (content es)
   moved_law x part was other live absent =
       let apart : same_place x.part x.key part x.key ≡ false = other_part x.part part x.key x.key (λ e. other (sym e)) in
-      let taken = edits.remove_changes part x.key in
-      let left = edit_laws (remove_entry es part x.key) (edits.remove_rises part x.key) in
-      subst (λ (l : List Entry). HasContent l (content es)) (sym (edits.remove_past_insert x part x.key absent apart))
+      let taken = edits.change.removed part x.key in
+      let left = edit_laws (remove_entry es part x.key) (edits.rise.removed part x.key) in
+      subst (λ (l : List Entry). HasContent l (content es)) (sym (edits.commute.inserted x part x.key absent apart))
       (settled part x.part x.key x.value was apart (insert_entry (remove_entry es part x.key) x) (Some (slot_of x))
-      (left.insert_rises x (taken.elsewhere x.part x.key apart ∙ absent)) (left.insert_changes x) (cond-false x.is_ghost None (Some x.value) live))
+      (left.rise.inserted x (taken.elsewhere x.part x.key apart ∙ absent)) (left.change.inserted x) (cond-false x.is_ghost None (Some x.value) live))
 
   moved_over_ghost_law : (part part' : ℕ) (key : OrderedKey) (value old : List ℕ) → IsLiveAt es part key value → find es part' key ≡ Some (old, true) → HasContent (remove_entry (set_entry es part' key value false) part key) (content es)
   moved_over_ghost_law part part' key value old was ghost =
       let other : part' ≢ part = λ e. true≢false (ap (λ (s : Slot). s.1) (same_Some _ _ (sym ghost ∙ ap (λ p. find es p key) e ∙ was.there))) in
       let apart : same_place part' key part key ≡ false = other_part part' part key key other in
-      let taken = edits.remove_changes part key in
-      let left = edit_laws (remove_entry es part key) (edits.remove_rises part key) in
-      subst (λ (l : List Entry). HasContent l (content es)) (sym (edits.remove_past_set part' key value false part key (present part' key (old, true) ghost) apart))
+      let taken = edits.change.removed part key in
+      let left = edit_laws (remove_entry es part key) (edits.rise.removed part key) in
+      subst (λ (l : List Entry). HasContent l (content es)) (sym (edits.commute.reset part' key value false part key (present part' key (old, true) ghost) apart))
       (settled part part' key value was apart (set_entry (remove_entry es part key) part' key value false) (Some (value, false))
-      (left.set_rises part' key value false) (left.set_changes part' key value false (ap is_some (taken.elsewhere part' key apart ∙ ghost))) refl)
+      (left.rise.reset part' key value false) (left.change.reset part' key value false (ap is_some (taken.elsewhere part' key apart ∙ ghost))) refl)
 
   pub content_laws : ContentLaws es
   content_laws = record {
-    live = content_live es rising one;
-    found = content_found es rising;
-    dead = content_dead es rising;
-    has_one = content_has_one es rising one;
-    added = added_law;
-    ghost_added = ghost_added_law;
-    replaced = λ part key old value was. live_set part key old value (old, false) was.there (alone part key old was);
-    marked = marked_law;
-    revived = λ part key old value ghost none. live_set part key old value (old, true) ghost (λ p v n. nowhere key none p v);
-    ghost_set = ghost_set_law;
-    removed = removed_law;
-    ghost_removed = ghost_removed_law;
-    moved = moved_law;
-    moved_over_ghost = moved_over_ghost_law;
+    reads = record {
+      live = content_live es rising one;
+      found = content_found es rising;
+      dead = content_dead es rising;
+      has_one = content_has_one es rising one;
+    };
+    adds = record { added = added_law; ghost_added = ghost_added_law };
+    sets = record {
+      replaced = λ part key old value was. live_set part key old value (old, false) was.there (alone part key old was);
+      made_ghost = made_ghost_law;
+      revived = λ part key old value ghost none. live_set part key old value (old, true) ghost (λ p v n. nowhere key none p v);
+      ghost_set = ghost_set_law;
+    };
+    removes = record { removed = removed_law; ghost_removed = ghost_removed_law };
+    moves = record { moved = moved_law; moved_over_ghost = moved_over_ghost_law };
   }
 
 -- nothing is live in the empty list

@@ -189,20 +189,26 @@ module _ (es : List Entry) (rising : IsRising es) where
 -- what the edits of a rising list do
 pub edit_laws : (es : List Entry) → IsRising es → EditLaws es
 edit_laws es rising = record {
-  insert_rises = λ x absent. rising_inserted es x rising (none_found (entry_at es x.part x.key) absent);
-  set_rises = λ part key value is_ghost. rising_reset part key value is_ghost es rising;
-  remove_rises = λ part key. rising_removed es part key rising;
-  insert_changes = inserted es;
-  set_changes = reset es;
-  remove_changes = λ part key. removed es part key rising;
-  find_inserted = λ x. changed_everywhere es (insert_entry es x) x.part x.key (Some (slot_of x)) (inserted es x);
-  find_set = λ part key value is_ghost there. changed_everywhere es (set_entry es part key value is_ghost) part key (Some (value, is_ghost)) (reset es part key value is_ghost there);
-  find_removed = λ part key. changed_everywhere es (remove_entry es part key) part key None (removed es part key rising);
-  remove_past_insert = λ x part key absent apart. remove_past_insert es rising x part key (none_found (entry_at es x.part x.key) absent) apart;
-  remove_past_set = remove_past_set es rising;
-  insert_taken_back = insert_back es;
-  remove_taken_back = λ part key x h. remove_back es part key x rising h;
-  set_taken_back = set_back es;
+  rise = record {
+    inserted = λ x absent. rising_inserted es x rising (none_found (entry_at es x.part x.key) absent);
+    reset = λ part key value is_ghost. rising_reset part key value is_ghost es rising;
+    removed = λ part key. rising_removed es part key rising;
+  };
+  change = record { inserted = inserted es; reset = reset es; removed = λ part key. removed es part key rising };
+  finds = record {
+    inserted = λ x. changed_everywhere es (insert_entry es x) x.part x.key (Some (slot_of x)) (inserted es x);
+    reset = λ part key value is_ghost there. changed_everywhere es (set_entry es part key value is_ghost) part key (Some (value, is_ghost)) (reset es part key value is_ghost there);
+    removed = λ part key. changed_everywhere es (remove_entry es part key) part key None (removed es part key rising);
+  };
+  back = record {
+    inserted = insert_back es;
+    removed = λ part key x h. remove_back es part key x rising h;
+    reset = set_back es;
+  };
+  commute = record {
+    inserted = λ x part key absent apart. remove_past_insert es rising x part key (none_found (entry_at es x.part x.key) absent) apart;
+    reset = remove_past_set es rising;
+  };
   only = λ fs rising' alike. same_entries es fs rising rising' alike;
 }
   where

@@ -54,9 +54,9 @@ pub record HasOne (at : ℕ → Option (List ℕ)) (value : Option (List ℕ)) :
 abbrev pub values_at : List Entry → OrderedKey → ℕ → Option (List ℕ)
 values_at es key part = live_value (find es part key)
 
--- the content of a rising list in which no key is live in two partitions, and what edits of it do
-pub record ContentLaws (es : List Entry) : Type 0 where
-  -- the content has a key exactly where some partition has it live
+-- of a list that rises and in which no key is live in two partitions: the content has a key exactly where some
+-- partition has it live
+pub record ContentReads (es : List Entry) : Type 0 where
   pub live : (part : ℕ) (key : OrderedKey) (value : List ℕ) → IsLiveAt es part key value →
       get (content es) key ≡ Some value
   pub found : (key : OrderedKey) (value : List ℕ) → get (content es) key ≡ Some value →
@@ -64,30 +64,46 @@ pub record ContentLaws (es : List Entry) : Type 0 where
   pub dead : (key : OrderedKey) → ((part : ℕ) (value : List ℕ) → IsLiveAt es part key value → ⊥) →
       get (content es) key ≡ None
   pub has_one : (key : OrderedKey) → HasOne (values_at es key) (get (content es) key)
-  -- an entry is added where none stands
+
+-- an entry is added where none stands
+pub record ContentAdds (es : List Entry) : Type 0 where
   pub added : (x : Entry) → find es x.part x.key ≡ None → x.is_ghost ≡ false → get (content es) x.key ≡ None →
       HasContent (insert_entry es x) (insert (content es) x.key x.value)
   pub ghost_added : (x : Entry) → find es x.part x.key ≡ None → x.is_ghost ≡ true →
       HasContent (insert_entry es x) (content es)
-  -- the value and mark of an entry are set
+
+-- the value of an entry is set, and whether it is a ghost
+pub record ContentSets (es : List Entry) : Type 0 where
   pub replaced : (part : ℕ) (key : OrderedKey) (old value : List ℕ) → IsLiveAt es part key old →
       HasContent (set_entry es part key value false) (insert (content es) key value)
-  pub marked : (part : ℕ) (key : OrderedKey) (old value : List ℕ) → IsLiveAt es part key old →
+  pub made_ghost : (part : ℕ) (key : OrderedKey) (old value : List ℕ) → IsLiveAt es part key old →
       HasContent (set_entry es part key value true) (remove (content es) key)
   pub revived : (part : ℕ) (key : OrderedKey) (old value : List ℕ) → find es part key ≡ Some (old, true) →
       get (content es) key ≡ None →
       HasContent (set_entry es part key value false) (insert (content es) key value)
   pub ghost_set : (part : ℕ) (key : OrderedKey) (old value : List ℕ) → find es part key ≡ Some (old, true) →
       HasContent (set_entry es part key value true) (content es)
-  -- an entry is removed
+
+-- an entry is removed
+pub record ContentRemoves (es : List Entry) : Type 0 where
   pub removed : (part : ℕ) (key : OrderedKey) (old : List ℕ) → IsLiveAt es part key old →
       HasContent (remove_entry es part key) (remove (content es) key)
   pub ghost_removed : (part : ℕ) (key : OrderedKey) (old : List ℕ) → find es part key ≡ Some (old, true) →
       HasContent (remove_entry es part key) (content es)
-  -- a live entry goes to another partition: to a new place, or over a ghost
+
+-- a live entry goes to another partition: to a new place, or over a ghost
+pub record ContentMoves (es : List Entry) : Type 0 where
   pub moved : (x : Entry) (part : ℕ) → IsLiveAt es part x.key x.value → part ≢ x.part → x.is_ghost ≡ false →
       find es x.part x.key ≡ None →
       HasContent (remove_entry (insert_entry es x) part x.key) (content es)
   pub moved_over_ghost : (part part' : ℕ) (key : OrderedKey) (value old : List ℕ) → IsLiveAt es part key value →
       find es part' key ≡ Some (old, true) →
       HasContent (remove_entry (set_entry es part' key value false) part key) (content es)
+
+-- what the content of a list says, and what each edit does to it
+pub record ContentLaws (es : List Entry) : Type 0 where
+  pub reads : ContentReads es
+  pub adds : ContentAdds es
+  pub sets : ContentSets es
+  pub removes : ContentRemoves es
+  pub moves : ContentMoves es

@@ -16,45 +16,61 @@ pub record IsChangedAt (before after : List Entry) (part : ℕ) (key : OrderedKe
   pub elsewhere : (part' : ℕ) (key' : OrderedKey) → same_place part' key' part key ≡ false →
       find after part' key' ≡ find before part' key'
 
--- the edits of a rising list. An entry is put where none stands; what is set or removed stands there
-pub record EditLaws (es : List Entry) : Type 0 where
-  -- the list goes on rising
-  pub insert_rises : (x : Entry) → find es x.part x.key ≡ None → IsRising (insert_entry es x)
-  pub set_rises : (part : ℕ) (key : OrderedKey) (value : List ℕ) (is_ghost : Bool) →
+-- in a rising list, an entry being put where none stands, and what is set or removed standing there: the list goes on
+-- rising
+pub record EditsRise (es : List Entry) : Type 0 where
+  pub inserted : (x : Entry) → find es x.part x.key ≡ None → IsRising (insert_entry es x)
+  pub reset : (part : ℕ) (key : OrderedKey) (value : List ℕ) (is_ghost : Bool) →
       IsRising (set_entry es part key value is_ghost)
-  pub remove_rises : (part : ℕ) (key : OrderedKey) → IsRising (remove_entry es part key)
-  -- one place is changed
-  pub insert_changes : (x : Entry) → IsChangedAt es (insert_entry es x) x.part x.key (Some (slot_of x))
-  pub set_changes : (part : ℕ) (key : OrderedKey) (value : List ℕ) (is_ghost : Bool) → IsSome (find es part key) →
+  pub removed : (part : ℕ) (key : OrderedKey) → IsRising (remove_entry es part key)
+
+-- one place is changed
+pub record EditsChange (es : List Entry) : Type 0 where
+  pub inserted : (x : Entry) → IsChangedAt es (insert_entry es x) x.part x.key (Some (slot_of x))
+  pub reset : (part : ℕ) (key : OrderedKey) (value : List ℕ) (is_ghost : Bool) → IsSome (find es part key) →
       IsChangedAt es (set_entry es part key value is_ghost) part key (Some (value, is_ghost))
-  pub remove_changes : (part : ℕ) (key : OrderedKey) → IsChangedAt es (remove_entry es part key) part key None
-  -- the same as equations, for any two places
-  pub find_inserted : (x : Entry) (part : ℕ) (key : OrderedKey) →
+  pub removed : (part : ℕ) (key : OrderedKey) → IsChangedAt es (remove_entry es part key) part key None
+
+-- the same as equations, for any two places
+pub record EditsFind (es : List Entry) : Type 0 where
+  pub inserted : (x : Entry) (part : ℕ) (key : OrderedKey) →
       find (insert_entry es x) part key ≡ (if same_place part key x.part x.key then Some
       (slot_of x) else find es part key)
-  pub find_set : (part : ℕ) (key : OrderedKey) (value : List ℕ) (is_ghost : Bool) → IsSome (find es part key) →
+  pub reset : (part : ℕ) (key : OrderedKey) (value : List ℕ) (is_ghost : Bool) → IsSome (find es part key) →
       (part' : ℕ) (key' : OrderedKey) →
       find (set_entry es part key value is_ghost) part' key' ≡
       (if same_place part' key' part key then Some (value, is_ghost) else find es part' key')
-  pub find_removed : (part : ℕ) (key : OrderedKey) (part' : ℕ) (key' : OrderedKey) →
+  pub removed : (part : ℕ) (key : OrderedKey) (part' : ℕ) (key' : OrderedKey) →
       find (remove_entry es part key) part' key' ≡ (if same_place part' key' part key then None else find es part' key')
-  -- an edit taken back
-  pub insert_taken_back : (x : Entry) → remove_entry (insert_entry es x) x.part x.key ≡ es
-  pub remove_taken_back : (part : ℕ) (key : OrderedKey) (x : Entry) → entry_at es part key ≡ Some x →
+
+-- an edit is taken back by another
+pub record EditsGoBack (es : List Entry) : Type 0 where
+  pub inserted : (x : Entry) → remove_entry (insert_entry es x) x.part x.key ≡ es
+  pub removed : (part : ℕ) (key : OrderedKey) (x : Entry) → entry_at es part key ≡ Some x →
       insert_entry (remove_entry es part key) x ≡ es
-  pub set_taken_back : (part : ℕ) (key : OrderedKey) (old : List ℕ) (was_ghost : Bool) (value : List ℕ)
+  pub reset : (part : ℕ) (key : OrderedKey) (old : List ℕ) (was_ghost : Bool) (value : List ℕ)
       (is_ghost : Bool) →
       find es part key ≡ Some (old, was_ghost) → set_entry
       (set_entry es part key value is_ghost) part key old was_ghost ≡ es
-  -- edits of two places, in either order
-  pub remove_past_insert : (x : Entry) (part : ℕ) (key : OrderedKey) → find es x.part x.key ≡ None →
+
+-- a removal at one place, and an insertion or a setting at another, may come in either order
+pub record EditsCommute (es : List Entry) : Type 0 where
+  pub inserted : (x : Entry) (part : ℕ) (key : OrderedKey) → find es x.part x.key ≡ None →
       same_place x.part x.key part key ≡ false →
       remove_entry (insert_entry es x) part key ≡ insert_entry (remove_entry es part key) x
-  pub remove_past_set : (part : ℕ) (key : OrderedKey) (value : List ℕ) (is_ghost : Bool) (part' : ℕ)
+  pub reset : (part : ℕ) (key : OrderedKey) (value : List ℕ) (is_ghost : Bool) (part' : ℕ)
       (key' : OrderedKey) →
       IsSome (find es part key) → same_place part key part' key' ≡ false →
       remove_entry (set_entry es part key value is_ghost) part' key' ≡
       set_entry (remove_entry es part' key') part key value is_ghost
+
+-- what the edits of a rising list do
+pub record EditLaws (es : List Entry) : Type 0 where
+  pub rise : EditsRise es
+  pub change : EditsChange es
+  pub finds : EditsFind es
+  pub back : EditsGoBack es
+  pub commute : EditsCommute es
   -- no other rising list answers alike at every place
   pub only : (fs : List Entry) → IsRising fs → ((part : ℕ) (key : OrderedKey) → find es part key ≡ find fs part key) →
       es ≡ fs

@@ -21,18 +21,18 @@ comes_home e es rises in_run live =
     let final : Entry = record e { part = 0 } in
     let less : List Entry = remove_entry es e.part e.key in
     let apart : same_place 0 e.key e.part e.key ≡ false = other_part 0 e.part e.key e.key (λ h. in_run (sym h)) in
-    let same : find less 0 e.key ≡ find es 0 e.key = (edit_laws es rises).find_removed e.part e.key 0 e.key ∙ cond-false (same_place 0 e.key e.part e.key) None (find es 0 e.key) apart in
+    let same : find less 0 e.key ≡ find es 0 e.key = (edit_laws es rises).finds.removed e.part e.key 0 e.key ∙ cond-false (same_place 0 e.key e.part e.key) None (find es 0 e.key) apart in
     let live_final : Entry = record e { part = 0; is_ghost = false } in
     let is_put : worked_off e es ≡ put final less = cond-false e.is_ghost less (put final less) live in
     ⊎_elim
     (λ (there : is_some (find es 0 e.key) ≡ true).
     ap (λ l. remove_entry l e.part e.key) (cond-true (is_some (find es 0 e.key)) (set_entry es 0 e.key e.value false) (insert_entry es live_final) there)
-    ∙ (edit_laws es rises).remove_past_set 0 e.key e.value false e.part e.key there apart
+    ∙ (edit_laws es rises).commute.reset 0 e.key e.value false e.part e.key there apart
     ∙ ap (λ g. set_entry less 0 e.key e.value g) (sym live)
     ∙ sym (is_put ∙ cond-true (is_some (find less 0 e.key)) (set_entry less 0 e.key e.value e.is_ghost) (insert_entry less final) (ap is_some same ∙ there)))
     (λ (none : is_some (find es 0 e.key) ≡ false).
     ap (λ l. remove_entry l e.part e.key) (cond-false (is_some (find es 0 e.key)) (set_entry es 0 e.key e.value false) (insert_entry es live_final) none)
-    ∙ (edit_laws es rises).remove_past_insert live_final e.part e.key (absent (find es 0 e.key) none) apart
+    ∙ (edit_laws es rises).commute.inserted live_final e.part e.key (absent (find es 0 e.key) none) apart
     ∙ ap (λ g. insert_entry less (record e { part = 0; is_ghost = g })) (sym live)
     ∙ sym (is_put ∙ cond-false (is_some (find less 0 e.key)) (set_entry less 0 e.key e.value e.is_ghost) (insert_entry less final) (ap is_some same ∙ none)))
     (cases_Bool (is_some (find es 0 e.key)))

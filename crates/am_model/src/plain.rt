@@ -4,7 +4,7 @@ ghost use Rattle.std.specs.Prelude.{◌≡◌, Option, None, Some, false, IfOk, 
 ghost use Rattle.std.specs.FinMap as map;
 ghost use Rattle.am_record.specs.Plain.{answer, draft_after, answers, left, fresh, insert_all};
 ghost use Rattle.am_record.specs.declared.step.Op.TheVariants.{Insert, Replace, Delete, Load, Mark, Back};
-ghost use Rattle.am_model.specs.Loads.{is_load};
+ghost use Rattle.am_record.specs.Refusals.{is_load};
 ghost use Rattle.am_model.specs.Slots.{put};
 
 use crate::log::ChangeLog;

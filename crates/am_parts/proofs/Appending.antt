@@ -69,7 +69,7 @@ run_content part [] es h = record { rising = h.rising; one_place = h.one_place; 
 run_content part (r ∷ rs) es h =
     let p = and_parts (below_all key_cmp r.0 rs) (is_sorted key_cmp rs) h.sorted in
     let es' = insert_entry es (live_entry part r) in
-    let has : HasContent es' (insert (content es) r.0 r.1) = (content_laws es h.rising h.one_place).added (live_entry part r) h.absent.0.0 refl h.absent.0.1 in
+    let has : HasContent es' (insert (content es) r.0 r.1) = (content_laws es h.rising h.one_place).adds.added (live_entry part r) h.absent.0.0 refl h.absent.0.1 in
     subst (λ (m : PlainMap). HasContent (with_run part rs es') (insert_all rs m)) has.same
     (run_content part rs es' (record { rising = has.rising; one_place = has.one_place; sorted = p.1; absent = still_absent part es es' r refl has rs p.0 h.absent.1 }))
 

@@ -61,14 +61,14 @@ module _ {es : List Entry} (sound : AreWellFormed es) where
   pub added : (x : Entry) → find es x.part x.key ≡ None → (x.is_ghost ≡ false → get (content es) x.key ≡ None) → HasContent (insert_entry es x) (content_with es x)
   added x absent dead =
       ⊎_elim
-      (λ ghost. subst (HasContent (insert_entry es x)) (sym (cond-true x.is_ghost (content es) _ ghost)) (laws.ghost_added x absent ghost))
-      (λ live. subst (HasContent (insert_entry es x)) (sym (cond-false x.is_ghost (content es) _ live)) (laws.added x absent live (dead live)))
+      (λ ghost. subst (HasContent (insert_entry es x)) (sym (cond-true x.is_ghost (content es) _ ghost)) (laws.adds.ghost_added x absent ghost))
+      (λ live. subst (HasContent (insert_entry es x)) (sym (cond-false x.is_ghost (content es) _ live)) (laws.adds.added x absent live (dead live)))
       (cases_Bool x.is_ghost)
 
   module _ (part : ℕ) (key : OrderedKey) where
     -- a ghost of the key stands in the partition, and no other partition has it live
     lacks : (old : List ℕ) → find es part key ≡ Some (old, true) → LivesNowhereElse es part key → get (content es) key ≡ None
-    lacks old ghost alone = laws.dead key (λ part' value live.
+    lacks old ghost alone = laws.reads.dead key (λ part' value live.
         let there : find es part key ≡ Some (value, false) = ap (λ p. find es p key) (sym (alone.only part' value live)) ∙ live.there in
         true≢false (ap (λ (s : Slot). s.1) (same_Some _ _ (sym ghost ∙ there))))
 
@@ -84,18 +84,18 @@ module _ {es : List Entry} (sound : AreWellFormed es) where
       where
         by_cases : (o : Option Slot) (is_ghost : Bool) → find es part key ≡ o → IsSome o → (is_ghost ≡ false → LivesNowhereElse es part key) → HasContent (set_entry es part key value is_ghost) (content_set es part key value is_ghost)
         by_cases None is_ghost h there alone = absurd (false≢true there)
-        by_cases (Some (old, false)) false h there alone = laws.replaced part key old value (record { there = h })
-        by_cases (Some (old, false)) true h there alone = subst (HasContent (set_entry es part key value true)) (sym (without_live old h)) (laws.marked part key old value (record { there = h }))
-        by_cases (Some (old, true)) false h there alone = laws.revived part key old value h (lacks old h (alone refl))
-        by_cases (Some (old, true)) true h there alone = subst (HasContent (set_entry es part key value true)) (sym (without_ghost old h)) (laws.ghost_set part key old value h)
+        by_cases (Some (old, false)) false h there alone = laws.sets.replaced part key old value (record { there = h })
+        by_cases (Some (old, false)) true h there alone = subst (HasContent (set_entry es part key value true)) (sym (without_live old h)) (laws.sets.made_ghost part key old value (record { there = h }))
+        by_cases (Some (old, true)) false h there alone = laws.sets.revived part key old value h (lacks old h (alone refl))
+        by_cases (Some (old, true)) true h there alone = subst (HasContent (set_entry es part key value true)) (sym (without_ghost old h)) (laws.sets.ghost_set part key old value h)
 
     pub taken : IsSome (find es part key) → HasContent (remove_entry es part key) (content_without es part key)
     taken there = by_cases (find es part key) refl there
       where
         by_cases : (o : Option Slot) → find es part key ≡ o → IsSome o → HasContent (remove_entry es part key) (content_without es part key)
         by_cases None h there = absurd (false≢true there)
-        by_cases (Some (old, false)) h there = subst (HasContent (remove_entry es part key)) (sym (without_live old h)) (laws.removed part key old (record { there = h }))
-        by_cases (Some (old, true)) h there = subst (HasContent (remove_entry es part key)) (sym (without_ghost old h)) (laws.ghost_removed part key old h)
+        by_cases (Some (old, false)) h there = subst (HasContent (remove_entry es part key)) (sym (without_live old h)) (laws.removes.removed part key old (record { there = h }))
+        by_cases (Some (old, true)) h there = subst (HasContent (remove_entry es part key)) (sym (without_ghost old h)) (laws.removes.ghost_removed part key old h)
 
 -- ---- what a change of the index is of the partitions: e says that they see the index's entries
 

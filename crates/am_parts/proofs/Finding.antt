@@ -93,10 +93,10 @@ module _ {es : List Entry} {key : OrderedKey} where
   pub stands_live : AreWellFormed es → (part : ℕ) (e : Entry) → find es part key ≡ Some (e.value, false) → e.part ≡ part → e.key ≡ key → e.is_ghost ≡ false → IsLiveEntry es key e
   stands_live sound part e stands same key_is live =
       let there : find es e.part key ≡ Some (e.value, false) = ap (λ p. find es p key) same ∙ stands in
-      record { key_is = key_is; no_ghost = live; there = record { there = there }; has = (laws_of sound).live e.part key e.value (record { there = there }) }
+      record { key_is = key_is; no_ghost = live; there = record { there = there }; has = (laws_of sound).reads.live e.part key e.value (record { there = there }) }
 
   pub lives_nowhere : AreWellFormed es → is_some (live_value (find es 0 key)) ≡ false → LivesInNoRun es key → get (content es) key ≡ None
-  lives_nowhere sound dead none = (laws_of sound).dead key (λ part value live.
+  lives_nowhere sound dead none = (laws_of sound).reads.dead key (λ part value live.
       ⊎_elim
       (λ (same : part ≡ 0). found_dead 0 dead value (subst (λ (p : ℕ). IsLiveAt es p key value) same live))
       (λ (other : part ≢ 0). none.none part value (omega (arith, other)) live)

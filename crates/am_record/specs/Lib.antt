@@ -1,3 +1,4 @@
+pub mod Limits
 pub mod PaddedBytes
 pub mod OrderedKey
 pub mod KeyWords

@@ -1,5 +1,6 @@
 -- The refusals of an operation: those that are due before its lock is asked for, and those of the lock.
 use Rattle.std.specs.Prelude.{ℕ, nat_le, length, List, Bool, true, false, cond, not, ◌&&◌, Option, Some, None}
+use Rattle.am_record.specs.Limits.{max_locks, max_ops, max_rows, max_runs}
 use Rattle.am_record.specs.Locks.{is_covered}
 use Rattle.am_record.specs.Plain.{is_orderly}
 use Rattle.am_record.specs.declared.lock.Lock.{Lock}
@@ -11,7 +12,7 @@ use Rattle.am_record.specs.declared.step.Refusal.TheVariants.{NotRising, BadLimi
 
 -- whether a scan's number of rows is within its limits
 abbrev pub is_bounded : Op → Bool
-is_bounded (Scan range max) = nat_le 1 max && nat_le max 1000
+is_bounded (Scan range max) = nat_le 1 max && nat_le max max_rows
 is_bounded _ = true
 
 abbrev pub is_load : Op → Bool
@@ -23,16 +24,16 @@ is_load _ = false
 abbrev pub refusal_before_lock : Bool → ℕ → ℕ → Op → Option Refusal
 refusal_before_lock is_active ops runs op =
     cond (not is_active) (Some NoSuchTx)
-    (cond (nat_le 4096 ops) (Some TooManyOps)
+    (cond (nat_le max_ops ops) (Some TooManyOps)
     (cond (not (is_orderly op)) (Some NotRising)
     (cond (not (is_bounded op)) (Some BadLimit)
-    (cond (is_load op && nat_le 65535 runs) (Some TooManyRuns)
+    (cond (is_load op && nat_le max_runs runs) (Some TooManyRuns)
     None))))
 
--- whether the lock would be added to 256 held ones
+-- whether the lock would be added to as many held ones as there may be
 abbrev pub is_one_too_many : List Lock → Option Lock → Bool
 is_one_too_many own None = false
-is_one_too_many own (Some asked) = nat_le 256 (length own) && not (is_covered own asked)
+is_one_too_many own (Some asked) = nat_le max_locks (length own) && not (is_covered own asked)
 
 -- the refusal of a lock, by who is in the way and by whether it is one too many
 abbrev pub lock_refusal : Option ℕ → Bool → Option Refusal

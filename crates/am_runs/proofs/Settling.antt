@@ -86,7 +86,7 @@ module _ {es : List Entry} (sound : AreWellFormed es) (pairs : Records) where
   IsBefore (Some k) q = is_below k q ≡ true
 
   dead : (q : OrderedKey) → ((value : List ℕ) → IsLiveAt es 0 q value → ⊥) → LivesInNoRun es q → get (content es) q ≡ None
-  dead q not_final runs = (laws_of sound).dead q (λ part value live.
+  dead q not_final runs = (laws_of sound).reads.dead q (λ part value live.
       ⊎_elim
       (λ (same : part ≡ 0). not_final value (subst (λ (p : ℕ). IsLiveAt es p q value) same live))
       (λ (other : part ≢ 0). runs.none part value (omega (arith, other)) live)

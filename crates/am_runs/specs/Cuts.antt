@@ -2,6 +2,7 @@
 use Rattle.std.specs.Prelude.{◌≡◌, ◌<◌, ◌≤◌, ℕ, List, [], ◌∷◌, ◌++◌, true, ⊤, length, map, take, drop, count_by}
 use Rattle.std.specs.Ordering.{eq_by_cmp}
 use Rattle.std.specs.List.Sorted.{IsPermutation}
+use Rattle.am_record.specs.Limits.{max_run_records}
 use Rattle.am_record.specs.OrderedKey.{OrderedKey, key_cmp}
 use Rattle.am_record.specs.Interval.{key_le}
 use Rattle.am_record.specs.Plain.{Records}
@@ -50,7 +51,7 @@ records_of (run ∷ runs) = run ++ records_of runs
 -- how many records a run may be cut to have
 pub record IsRunSize (n : ℕ) : Type 0 where
   pub low : 1 ≤ n
-  pub high : n ≤ 65536
+  pub high : n ≤ max_run_records
 
 -- the records are cut into these runs of n, and no key stands twice in them
 pub record IsCut (n : ℕ) (records : Records) (runs : List Records) : Type 0 where

@@ -1,6 +1,7 @@
 -- What a load of a run answers, and what it does to the partitions.
 use Rattle.std.specs.Prelude.{◌≡◌, ◌+◌, ◌<◌, ◌≤◌, ◌==◌, ◌⊎◌, ℕ, List, [], ◌∷◌, false, None, if◌then◌else◌}
 use Rattle.std.specs.List.{AllByRecursion}
+use Rattle.am_record.specs.Limits.{max_runs}
 use Rattle.am_record.specs.OrderedKey.{OrderedKey}
 use Rattle.am_record.specs.Plain.{Records, is_key_of, insert_all, least_taken, exists_or_done}
 use Rattle.am_record.specs.declared.entry.Entry.{Entry}
@@ -23,7 +24,7 @@ pub record NothingAbove (part : ℕ) (es : List Entry) : Type 0 where
 
 -- the reply that is due, where memory is ample
 abbrev pub load_due : Partitions → Records → Reply
-load_due parts pairs = if parts.runs == 65535 then Refused TooManyRuns else exists_or_done
+load_due parts pairs = if parts.runs == max_runs then Refused TooManyRuns else exists_or_done
     (least_taken pairs (content parts.entries))
 
 -- the reply is the one that is due, or memory was refused where Done is due

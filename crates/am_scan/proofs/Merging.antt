@@ -140,7 +140,7 @@ module _ {es : List Entry} (range : Interval) (sound : AreWellFormed es) (laws :
     where
       by_test : (q : OrderedKey) (v : List ℕ) → get (content es) q ≡ Some v → (b : Bool) → within range q ≡ b → (is_ahead heads' q && within range q) ≡ within range q
       by_test q v there true e =
-          let home = laws.found q v there in
+          let home = laws.reads.found q v there in
           and_from (is_ahead heads' q) (within range q) (ahead_somewhere heads' home.0 q (all_before home.0 q v home.1 e)) e ∙ sym e
       by_test q v there false e = ap (λ b. is_ahead heads' q && b) e ∙ never (is_ahead heads' q) ∙ sym e
         where
@@ -211,7 +211,7 @@ module _ {es : List Entry} {range : Interval} (h : Stand) (rest : List Stand) (c
     gives_first : ContentLaws es → rows_ahead (h ∷ rest) range (content es) ≡ (h.entry.key, h.entry.value) ∷ rows_ahead heads' range (content es)
     gives_first laws =
         first_row (λ key. is_ahead (h ∷ rest) key && within range key) (λ key. is_ahead heads' key && within range key) (content es) h.entry.key h.entry.value
-        (laws.live h.entry.part h.entry.key h.entry.value standing.live)
+        (laws.reads.live h.entry.part h.entry.key h.entry.value standing.live)
         (and_from (is_ahead (h ∷ rest) h.entry.key) (within range h.entry.key) (from_head h.entry.key (ap is_le (key_cmp-itself h.entry.key))) standing.inside)
         (λ q passed. above_head q (and_parts (is_ahead heads' q) (within range q) passed).0)
         (λ q below. ap (λ b. b && within range q) (none_below q below))
@@ -226,7 +226,7 @@ module _ {es : List Entry} {range : Interval} (h : Stand) (rest : List Stand) (c
         by_test : (q : OrderedKey) (v : List ℕ) → get (content es) q ≡ Some v → key_cmp h.entry.key q ≡ Less → (b : Bool) → within range q ≡ b
             → (is_ahead (h ∷ rest) q && within range q) ≡ (is_ahead heads' q && within range q)
         by_test q v there over true e =
-            let home = laws.found q v there in
+            let home = laws.reads.found q v there in
             ap (λ b. b && within range q) (from_head q (le_of_less h.entry.key q over) ∙ sym (ahead_somewhere heads' home.0 q (ahead home.0 q v home.1 e over)))
         by_test q v there over false e = ap (λ b. is_ahead (h ∷ rest) q && b) e ∙ never (is_ahead (h ∷ rest) q) (is_ahead heads' q) ∙ ap (λ b. is_ahead heads' q && b) (sym e)
 

@@ -3,6 +3,7 @@ use Rattle.std.specs.Prelude.{◌≡◌, ◌⊎◌, ℕ, ◌+◌, ◌^◌, ◌<�
 use Rattle.std.specs.Prelude.{false, cond, not, ◌&&◌, map, filter, Option, Some, None, MatchOption}
 use Rattle.std.specs.List.{list_any}
 use Rattle.std.specs.FinMap.{empty}
+use Rattle.am_record.specs.Limits.{max_active, max_begun, max_limit}
 use Rattle.am_record.specs.OrderedKey.{OrderedKey}
 use Rattle.am_record.specs.declared.lock.Lock.{Lock}
 use Rattle.am_record.specs.declared.step.Refusal.{Refusal}
@@ -88,12 +89,12 @@ MayDo s t op reply = MatchOption (due s t op) ((reply ≡ answer op (view s t)) 
 
 -- whether so many entries may be merged or cleaned at once
 abbrev pub is_limit : ℕ → Bool
-is_limit limit = nat_le 1 limit && nat_le limit 64
+is_limit limit = nat_le 1 limit && nat_le limit max_limit
 
 -- the machine may give this reply to the step. Which entries a merge or a clean takes isn't the machine's
 abbrev pub May : State → Step → Reply → Type 0
 May s Begin (Begun t) = (t ≡ s.begun + 1) × (length s.active < 64) × (s.begun < 2 ^ 63)
-May s Begin (Refused TooManyTx) = (64 ≤ length s.active) ⊎ (2 ^ 63 ≤ s.begun)
+May s Begin (Refused TooManyTx) = (max_active ≤ length s.active) ⊎ (max_begun ≤ s.begun)
 May s (Do t op) reply = MayDo s t op reply
 May s (Commit t) (Committed c) = (is_open s.active t ≡ true) × (c ≡ s.commits + 1)
 May s (Commit t) (Refused NoSuchTx) = is_open s.active t ≡ false

@@ -88,14 +88,14 @@ module _ (t runs : ℕ) (es : List Entry) (rise : IsRising es) (one : OnePlace e
       has = has;
       only = λ r q h. differ (r, q) (apart r p q h);
       keeps = λ r q n l e. differ (r, q) (stood r q e) ∙ e;
-      undo = λ notes owned before more u. (undo_laws es notes owned before rise one u).changed p k v g v' g' (more k may_k) was;
+      undo = λ notes owned before more u. (undo_laws es notes owned before rise one u).own.changed p k v g v' g' (more k may_k) was;
       describe = λ past notes u. (describe_laws t past es notes u).changed (Answers t op reply) (set_entry es p k v' g') p k (v, g) (v', g') wrote_k was change.here differ;
       below = λ r q h. let e = empty_above r q (omega (arith, makes_none)) in differ (r, q) (stood r q e) ∙ e;
       runs_noted = λ r h. absurd (false≢true h);
     }
       where
         change : IsChangedAt es (set_entry es p k v' g') p k (Some (v', g'))
-        change = (edit_laws es rise).set_changes p k v' g' (ap is_some was)
+        change = (edit_laws es rise).change.reset p k v' g' (ap is_some was)
 
         differ : DifferAt (p, k) es (set_entry es p k v' g')
         differ b n = change.elsewhere b.0 b.1 (apart_places b (p, k) n)
@@ -109,14 +109,14 @@ module _ (t runs : ℕ) (es : List Entry) (rise : IsRising es) (one : OnePlace e
       only = λ r q h. differ (r, q) (apart r 0 q h);
       keeps = λ r q n l e. differ (r, q) (λ h. n (ap (λ (a : Place). a.0) h)) ∙ e;
       undo = λ notes owned before more u. subst (λ (q : OrderedKey). Undoes (insert_entry es x) (New q ∷ notes) owned before) key
-          ((undo_laws es notes owned before rise one u).made x zero (ap owned key ∙ more k may_k) (ap (find es 0) key ∙ was));
+          ((undo_laws es notes owned before rise one u).own.made x zero (ap owned key ∙ more k may_k) (ap (find es 0) key ∙ was));
       describe = λ past notes u. (describe_laws t past es notes u).made (Answers t op reply) (insert_entry es x) k (slot_of x) wrote_k was here differ;
       below = λ r q h. differ (r, q) (λ e. let z : r ≡ 0 = ap (λ (a : Place). a.0) e in absurd (omega arith)) ∙ empty_above r q (omega (arith, makes_none));
       runs_noted = λ r h. absurd (false≢true h);
     }
       where
         change : IsChangedAt es (insert_entry es x) x.part x.key (Some (slot_of x))
-        change = (edit_laws es rise).insert_changes x
+        change = (edit_laws es rise).change.inserted x
 
         place : ◌≡◌ {A = Place} (place_of x) (0, k)
         place i = (zero i, key i)
@@ -207,7 +207,7 @@ run_content run [] es rising one s none = record { rising = rising; one_place = 
 run_content run (x ∷ ps) es rising one s none =
     let parts = and_parts (below_all key_cmp x.0 ps) (is_sorted key_cmp ps) s in
     let now = none x.0 (or_left _ _ (key_eq-itself x.0)) in
-    let law = (content_laws es rising one).added (live_entry run x) now.0 refl now.1 in
+    let law = (content_laws es rising one).adds.added (live_entry run x) now.0 refl now.1 in
     let rest = run_content run ps (insert_entry es (live_entry run x)) law.rising law.one_place parts.1 (λ q h.
     let later = none q (or_right _ _ h) in
     let n : q ≢ x.0 = key_apart x.0 ps q parts.0 h in (
@@ -243,7 +243,7 @@ module _ (gone : List Entry) (t runs : ℕ) (es : List Entry) (rise : IsRising e
         (λ no. other_parts p q no)
         (cases_Bool (p == (runs + 1)));
     keeps = λ p q n l e. other_parts p q (apart p (λ h. absurd (omega arith))) ∙ e;
-    undo = λ notes owned before more u. (undo_laws es notes owned before rise one u).loaded (with_run (runs + 1) pairs es) (runs + 1) (record {
+    undo = λ notes owned before more u. (undo_laws es notes owned before rise one u).own.loaded (with_run (runs + 1) pairs es) (runs + 1) (record {
       fresh = fresh;
       elsewhere = other_parts;
       own = λ q not. other_keys q (absent q (false_from_ne_true _ (λ yes. both_ways (owned q) not (more q yes)))) ∙ fresh q;
@@ -301,7 +301,7 @@ module _ (gone : List Entry) (t runs : ℕ) (es : List Entry) (rise : IsRising e
   replace_right k v true h =
       let some = some_of k h in
       at_live t runs es rise one empty_above (Replace k v) k (λ q e. e) (in_point k) refl (λ e. v) false (λ o. with_value o v es) (λ e. refl)
-      (λ e live key. subst (λ (c : PlainMap). HasContent (set_entry es e.part e.key v false) c) (ap (λ (q : OrderedKey). insert cm q v) key ∙ sym (cond-true (contains_key cm k) (insert cm k v) cm h)) ((content_laws es rise one).replaced e.part e.key e.value v live))
+      (λ e live key. subst (λ (c : PlainMap). HasContent (set_entry es e.part e.key v false) c) (ap (λ (q : OrderedKey). insert cm q v) key ∙ sym (cond-true (contains_key cm k) (insert cm k v) cm h)) ((content_laws es rise one).sets.replaced e.part e.key e.value v live))
       some.0 some.1
   replace_right k v false h = idle t runs es rise one empty_above (Replace k v) Missing (cond-false (contains_key cm k) (insert cm k v) cm h) (λ q. refl)
 
@@ -309,7 +309,7 @@ module _ (gone : List Entry) (t runs : ℕ) (es : List Entry) (rise : IsRising e
   delete_right k true h =
       let some = some_of k h in
       at_live t runs es rise one empty_above (Delete k) k (λ q e. e) (in_point k) refl (λ e. e.value) true (λ o. with_ghost o es) (λ e. refl)
-      (λ e live key. subst (λ (c : PlainMap). HasContent (set_entry es e.part e.key e.value true) c) (ap (λ (q : OrderedKey). remove cm q) key) ((content_laws es rise one).marked e.part e.key e.value e.value live))
+      (λ e live key. subst (λ (c : PlainMap). HasContent (set_entry es e.part e.key e.value true) c) (ap (λ (q : OrderedKey). remove cm q) key) ((content_laws es rise one).sets.made_ghost e.part e.key e.value e.value live))
       some.0 some.1
   delete_right k false h = idle t runs es rise one empty_above (Delete k) Missing
       (same_map key_cmp-total key_cmp-exact _ _ (λ q. get-remove key_cmp-total cm k q ∙ ⊎_elim

@@ -18,7 +18,7 @@ use Rattle.am_list.specs.Entries.{find, IsRising}
 use Rattle.am_list.specs.Content.{content, OnePlace, HasContent}
 use Rattle.am_undo.specs.declared.note.Note.{Note}
 use Rattle.am_undo.specs.Notes.{TakesBack}
-use Rattle.am_undo.specs.Undo.{Undoes, UndoLaws, LeavesNoted}
+use Rattle.am_undo.specs.Undo.{Undoes, NotesTakenBack, LeavesNoted}
 use Rattle.am_record.specs.Marks.{since_mark, until_mark, older, has_mark}
 use Rattle.am_undo.specs.Marks.{UndoesEach, AllPairs, SameOwned, MarkLaws}
 use Rattle.am_undo.specs.Marks as marks_of
@@ -207,7 +207,7 @@ module _ (s : State) (o : OverlayLaws s) (w : ViewLaws s) (st : StepLaws s) (es 
       own = (laws t granted.is_active).own es' new (λ q. owned' q)
           (λ part m has u. d.own part (λ q. owned' q) (λ q. get m q)
           (λ q mw. asked_has (owns_key q) (owns_key_up q) (locks_in s.active t) (lock_of op) (sym (same_ask (lock_of op) q) ∙ mw))
-          ((undo_laws es part (owns_in s t) (λ q. get m q) rising one u).locked (λ q. owned' q) (λ q h. asked_keeps (owns_key q) (locks_in s.active t) (lock_of op) h) has))
+          ((undo_laws es part (owns_in s t) (λ q. get m q) rising one u).own.locked (λ q. owned' q) (λ q h. asked_keeps (owns_key q) (locks_in s.active t) (lock_of op) h) has))
           (new_content, have_content es (owns_in s t) (λ q. owned' q) s.committed new_content (view s t).saved (λ q h no. (w.framed t q granted.is_active no).saved))
 
       by_case : (u : ℕ) → is_open s'.active u ≡ true → (b : Bool) → (t == u) ≡ b → Each es' (cond b (new ++ notes u) (notes u)) (locks_in s'.active u) s.committed (marks u) (view s' u)
@@ -251,17 +251,17 @@ module _ (s : State) (o : OverlayLaws s) (w : ViewLaws s) (st : StepLaws s) (es 
   -- ---- notes taken back, of one that owns no key together with the others
 
   module _ (t : ℕ) (on : is_open s.active t ≡ true) (part : List Note) (m : PlainMap) (v : Undoes es part (owns_in s t) (λ q. get m q)) (es' : List Entry) (b : TakesBack part es es') where
-    abbrev its : UndoLaws es part (owns_in s t) (λ q. get m q)
-    its = undo_laws es part (owns_in s t) (λ q. get m q) rising one v
+    abbrev its : NotesTakenBack es es' part (owns_in s t) (λ q. get m q)
+    its = (undo_laws es part (owns_in s t) (λ q. get m q) rising one v).taken_back es' b
 
     leaves : (u : ℕ) → is_open s.active u ≡ true → u ≢ t → LeavesNoted es es' (notes u) (owns_in s u)
-    leaves u hu n = its.leaves_others es' b (notes u) (owns_in s u) (λ q h. apart t u on hu n q h)
+    leaves u hu n = its.leaves_others (notes u) (owns_in s u) (λ q h. apart t u on hu n q h)
 
     restored_has : (z : State) → ((q : OrderedKey) → get (overlay_in z) q ≡ cond (owns_in s t q) (get m q) (get (overlay_in s) q)) → HasContent es' (overlay_in z)
     restored_has z law = record {
       rising = b.rising rising;
-      one_place = its.one_place es' b;
-      same = same_map key_cmp-total key_cmp-exact _ _ (λ q. its.restored es' b q ∙ ap (λ (n : PlainMap). cond (owns_in s t q) (get m q) (get n q)) at.has.same ∙ sym (law q));
+      one_place = its.one_place;
+      same = same_map key_cmp-total key_cmp-exact _ _ (λ q. its.restored q ∙ ap (λ (n : PlainMap). cond (owns_in s t q) (get m q) (get n q)) at.has.same ∙ sym (law q));
     }
 
   -- ---- Back
@@ -292,7 +292,7 @@ module _ (s : State) (o : OverlayLaws s) (w : ViewLaws s) (st : StepLaws s) (es 
         by_back u hu true e = subst (λ x. Each es' (until_mark (marks x) (notes x)) (locks_in then.active x) s.committed (older (marks x)) (view then x)) (eqb-true t u e)
             (itself t Back none Done es' (until_mark (marks t) (notes t)) (older (marks t)) n.rest (sym (ap (λ (l : List PlainMap). (draft_back l (view s t)).saved) n.is)) both.1)
         by_back u hu false e = let k : u ≢ t = λ k. eqb-false t u e (sym k) in
-            other t Back none Done es' ((its t back_on (since_mark (marks t) (notes t)) n.map both.0 es' b).one_place es' b) u k hu
+            other t Back none Done es' ((its t back_on (since_mark (marks t) (notes t)) n.map both.0 es' b).one_place) u k hu
             (λ was. leaves t back_on (since_mark (marks t) (notes t)) n.map both.0 es' b u was k)
 
     stayed_law : has_mark (marks t) ≡ false → Represents (next s (Answers t Back NoMark)) es notes marks
@@ -387,7 +387,7 @@ module _ (s : State) (o : OverlayLaws s) (w : ViewLaws s) (st : StepLaws s) (es 
           let was : is_open s.active u ≡ true = sym x.keeps.is_active ∙ hu in
           subst (λ (d : Draft). Each es' (notes u) (locks_in then.active u) s.committed (marks u) d) (sym x.view)
           (subst (λ (ls : List Lock). Each es' (notes u) ls s.committed (marks u) (view s u)) (sym x.keeps.locks)
-          (others u was es' ((its t on (notes t) s.committed (laws t on).whole es' b).one_place es' b) (leaves t on (notes t) s.committed (laws t on).whole es' b u was n)))
+          (others u was es' ((its t on (notes t) s.committed (laws t on).whole es' b).one_place) (leaves t on (notes t) s.committed (laws t on).whole es' b u was n)))
 
   maintained_law : (es' : List Entry) → HasContent es' (content es) → ((t : ℕ) (q : OrderedKey) → is_open s.active t ≡ true → owns_in s t q ≡ true → (p : ℕ) → find es' p q ≡ find es p q) →
       ((t : ℕ) → is_open s.active t ≡ true → KeepsRuns es es' (notes t)) → Represents s es' notes marks

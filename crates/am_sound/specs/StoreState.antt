@@ -2,6 +2,7 @@
 use Rattle.std.specs.Prelude.{◌≡◌, ◌⊎◌, ℕ, ◌+◌, ◌^◌, ◌<◌, ◌≤◌, ◌==◌, nat_le, length, List, [], ◌∷◌, ◌++◌, Bool, true}
 use Rattle.std.specs.Prelude.{false, cond, not, ◌&&◌, map, filter, Option, Some, None, MatchOption}
 use Rattle.std.specs.List.{list_any}
+use Rattle.am_record.specs.Limits.{max_active, max_begun}
 use Rattle.am_record.specs.OrderedKey.{OrderedKey}
 use Rattle.am_record.specs.Interval.{Interval}
 use Rattle.am_record.specs.Plain.{is_orderly}
@@ -82,7 +83,7 @@ takes_memory op = true
 -- the reply that a step may have
 abbrev pub MayAnswer : StoreState → Step → Reply → Type 0
 MayAnswer p Begin (Begun t) = (t ≡ p.begun + 1) × (length p.active < 64) × (p.begun < 2 ^ 63)
-MayAnswer p Begin (Refused TooManyTx) = (64 ≤ length p.active) ⊎ (2 ^ 63 ≤ p.begun)
+MayAnswer p Begin (Refused TooManyTx) = (max_active ≤ length p.active) ⊎ (max_begun ≤ p.begun)
 MayAnswer p (Do t op) reply = MatchOption (refusal_in p t op)
     ((reply ≡ stored_answer op (in_table p.active t).marks (content p.entries)) ⊎
     ((reply ≡ Refused NoMemory) × (takes_memory op ≡ true))) (λ why. reply ≡ Refused why)

@@ -1,6 +1,7 @@
 -- What is due for a line, by where the session stands, and where it stands then.
 use Rattle.std.specs.Prelude.{◌≡◌, ◌⊎◌, ℕ, ◌+◌, nat_le, length, [], ◌∷◌, ◌++◌, Bool, true, false, cond, Option, Some}
 use Rattle.std.specs.Prelude.{None, Result, Ok, Err}
+use Rattle.am_record.specs.Limits.{max_run_records}
 use Rattle.am_record.specs.Sessions.{IsAllowed}
 use Rattle.am_record.specs.Records.{Records}
 use Rattle.am_record.specs.declared.step.Op.{Op}
@@ -25,7 +26,7 @@ use Rattle.am_talk.specs.declared.action.Action.TheVariants.{Answer, Take, TellS
 
 -- whether these may wait beside those that wait
 abbrev pub may_wait : Records → Records → Bool
-may_wait staged records = nat_le (length staged + length records) 65536
+may_wait staged records = nat_le (length staged + length records) max_run_records
 
 abbrev pub some_wait : Records → Bool
 some_wait [] = false

@@ -2,6 +2,7 @@
 use Rattle.std.specs.Prelude.{◌≡◌, ℕ, ◌+◌, ◌^◌, nat_le, length, List, [], ◌∷◌, ◌++◌, Bool, true, false, cond, not, ◌&&◌}
 use Rattle.std.specs.Prelude.{filter, map, Option, Some, None, MatchBool, MatchOption}
 use Rattle.std.specs.FinMap.{empty}
+use Rattle.am_record.specs.Limits.{max_begun}
 use Rattle.am_record.specs.Records.{Records}
 use Rattle.am_record.specs.Plain.{PlainMap, fresh, answer, left, left_on, is_orderly}
 use Rattle.am_record.specs.Asks.{lock_of, locks_of}
@@ -55,7 +56,7 @@ abbrev pub reply_due : DialogueState → List Op → Op → Reply
 reply_due s ops op = refused_or (refusal_due s ops op) (answer op (left_on ops (fresh s.committed)))
 
 abbrev pub begin_due : DialogueState → Reply
-begin_due s = cond (nat_le (2 ^ 63) s.begun) (Refused TooManyTx) (Begun (s.begun + 1))
+begin_due s = cond (nat_le max_begun s.begun) (Refused TooManyTx) (Begun (s.begun + 1))
 
 abbrev pub commit_response : DialogueState → Records → Response
 commit_response s [] = Replied (Committed (s.commits + 1))
@@ -92,7 +93,7 @@ state_committed s ops [] = record s { commits = s.commits + 1; committed = left 
 state_committed s ops (r ∷ rs) = s
 
 abbrev pub state_asked : DialogueState → Option (List Op) → Request → DialogueState
-state_asked s None request.Begin = cond (nat_le (2 ^ 63) s.begun) s (record s { begun = s.begun + 1; own = Some [] })
+state_asked s None request.Begin = cond (nat_le max_begun s.begun) s (record s { begun = s.begun + 1; own = Some [] })
 state_asked s (Some ops) (request.Do op) = state_done s ops op
 state_asked s (Some ops) (request.Stage records) = state_staged s records
 state_asked s (Some ops) request.Commit = state_committed s ops s.staged

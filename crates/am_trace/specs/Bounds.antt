@@ -1,6 +1,7 @@
 -- What a stored trace may speak of: the bounds of its numbers, keys, values and ranges.
 use Rattle.std.specs.Prelude.{◌≡◌, ℕ, ◌^◌, ◌<◌, ◌≤◌, List, length, true}
 use Rattle.std.specs.List.{AllByRecursion}
+use Rattle.am_record.specs.Limits.{max_key_bytes, max_value_bytes}
 use Rattle.am_record.specs.OrderedKey.{OrderedKey, bytes_of}
 use Rattle.am_record.specs.Interval.{Interval, key_le}
 use Rattle.am_record.specs.Records.{Records}
@@ -16,10 +17,10 @@ IsNumber n = n < 2 ^ 64
 -- a key of at most 32 bytes; in version 1 one of eight
 abbrev pub IsKey : Version → OrderedKey → Type 0
 IsKey One key = AreBytes (bytes_of key) × (length (bytes_of key) ≡ 8)
-IsKey Two key = AreBytes (bytes_of key) × (length (bytes_of key) ≤ 32)
+IsKey Two key = AreBytes (bytes_of key) × (length (bytes_of key) ≤ max_key_bytes)
 
 abbrev pub IsValue : List ℕ → Type 0
-IsValue value = AreBytes value × (length value ≤ 64)
+IsValue value = AreBytes value × (length value ≤ max_value_bytes)
 
 abbrev pub IsRecord : Version → OrderedKey × List ℕ → Type 0
 IsRecord v r = IsKey v r.0 × IsValue r.1

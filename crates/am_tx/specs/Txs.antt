@@ -3,6 +3,7 @@ use Rattle.std.specs.Prelude.{ℕ, ◌≡◌, ◌+◌, ◌^◌, ◌<◌, ◌≤�
 use Rattle.std.specs.Prelude.{map, filter, refl}
 use Rattle.std.specs.List.{All}
 use Rattle.std.specs.Coded.{Coded, code_by, coded×, coded_ℕ, coded_list}
+use Rattle.am_record.specs.Limits.{max_active, max_begun, max_ops}
 use Rattle.am_locks.specs.OwnerLocks.{OwnerLocks, held_code}
 use Rattle.am_locks.specs.Table.{entered, without_owner}
 use Rattle.am_undo.specs.Log.{Log}
@@ -33,13 +34,13 @@ pub record IsConsistent (t : Txs) : Type 0 where
   pub rise : Rise (tx_numbers t.active)
   pub begun_before : All (λ n. n ≤ t.begun) (tx_numbers t.active)
   pub owners : map (λ (h : OwnerLocks). h.owner) t.locks ≡ tx_numbers t.active
-  pub few : length t.active ≤ 64
-  pub begun : t.begun ≤ 2 ^ 63
-  pub ops : All (λ (x : Transaction). x.ops ≤ 4096) t.active
+  pub few : length t.active ≤ max_active
+  pub begun : t.begun ≤ max_begun
+  pub ops : All (λ (x : Transaction). x.ops ≤ max_ops) t.active
 
 -- whether one more transaction may begin
 abbrev pub can_begin : Txs → Bool
-can_begin t = nat_lt (length t.active) 64 && nat_lt t.begun (2 ^ 63)
+can_begin t = nat_lt (length t.active) max_active && nat_lt t.begun max_begun
 
 -- one more transaction is active: the last one, with the next number
 abbrev pub txs_after_begin : Txs → Txs

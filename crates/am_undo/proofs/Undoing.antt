@@ -32,7 +32,7 @@ pub changed_more : (es : List Entry) → IsRising es → (part : ℕ) (key : Ord
     → MoreGhosts (find es) (back_at (Before part key old was_ghost) (find (set_entry es part key value is_ghost)))
 changed_more es rising part key old was_ghost value is_ghost there =
     let es' = set_entry es part key value is_ghost in
-    let change = (edit_laws es rising).set_changes part key value is_ghost (ap is_some there) in
+    let change = (edit_laws es rising).change.reset part key value is_ghost (ap is_some there) in
     record {
       at = λ p k. inl (⊎_elim
           (λ yes. cond-true (same_place p k part key) (Some (old, was_ghost)) (find es' p k) yes ∙ sym there ∙ ap (λ (q : Place). find es q.0 q.1) (sym (one_place (p, k) (part, key) yes)))
@@ -41,7 +41,7 @@ changed_more es rising part key old was_ghost value is_ghost there =
     }
 
 made_changes : (es : List Entry) → IsRising es → (x : Entry) (part : ℕ) → x.part ≡ part → part ≡ 0 → IsChangedAt es (insert_entry es x) 0 x.key (Some (slot_of x))
-made_changes es rising x part is zero = subst (λ p. IsChangedAt es (insert_entry es x) p x.key (Some (slot_of x))) (is ∙ zero) ((edit_laws es rising).insert_changes x)
+made_changes es rising x part is zero = subst (λ p. IsChangedAt es (insert_entry es x) p x.key (Some (slot_of x))) (is ∙ zero) ((edit_laws es rising).change.inserted x)
 
 pub made_more : (es : List Entry) → IsRising es → (x : Entry) → x.part ≡ 0 → find es 0 x.key ≡ None → MoreGhosts (find es) (back_at (New x.key) (find (insert_entry es x)))
 made_more es rising x zero absent =
@@ -107,7 +107,7 @@ module _ (es : List Entry) (notes : List Note) (owned : OrderedKey → Bool) (be
   changed_law : (part : ℕ) (key : OrderedKey) (old : List ℕ) (was_ghost : Bool) (value : List ℕ) (is_ghost : Bool) → owned key ≡ true →
       find es part key ≡ Some (old, was_ghost) → Undoes (set_entry es part key value is_ghost) (Before part key old was_ghost ∷ notes) owned before
   changed_law part key old was_ghost value is_ghost own there =
-      let change = edits.set_changes part key value is_ghost (ap is_some there) in
+      let change = edits.change.reset part key value is_ghost (ap is_some there) in
       let more = changed_more es rising part key old was_ghost value is_ghost there in
       noted (set_entry es part key value is_ghost) (Before part key old was_ghost)
       (can_note (Before part key old was_ghost) notes (find es) (find (set_entry es part key value is_ghost)) (ap is_some change.here) more (one_live one) u.can)
@@ -176,17 +176,16 @@ module _ (es : List Entry) (notes : List Note) (owned : OrderedKey → Bool) (be
 
   pub undo_laws : UndoLaws es notes owned before
   undo_laws = record {
-    locked = locked_law;
-    changed = changed_law;
-    made = made_law;
-    loaded = loaded_law;
+    own = record { locked = locked_law; changed = changed_law; made = made_law; loaded = loaded_law };
     others = others_law;
-    one_place = one_place_law;
-    restored = restored_law;
-    untouched = untouched_law;
-    none_made = none_made_law;
-    leaves_others = λ es' b notes' owned' apart. record {
-      same = λ key h part. untouched_law es' b key (apart key h) part;
-      runs = λ part key run none. none_made_law es' b part key none;
+    taken_back = λ es' b. record {
+      one_place = one_place_law es' b;
+      restored = restored_law es' b;
+      untouched = untouched_law es' b;
+      none_made = none_made_law es' b;
+      leaves_others = λ notes' owned' apart. record {
+        same = λ key h part. untouched_law es' b key (apart key h) part;
+        runs = λ part key run none. none_made_law es' b part key none;
+      };
     };
   }

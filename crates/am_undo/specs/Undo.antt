@@ -44,8 +44,8 @@ pub record LoadsRun (es es' : List Entry) (run : ℕ) (owned : OrderedKey → Bo
   pub elsewhere : (part : ℕ) (key : OrderedKey) → (part == run) ≡ false → find es' part key ≡ find es part key
   pub own : (key : OrderedKey) → owned key ≡ false → find es' run key ≡ None
 
--- what a transaction's own steps, the steps of others and an abort do
-pub record UndoLaws (es : List Entry) (notes : List Note) (owned : OrderedKey → Bool)
+-- what a transaction's own steps do to its notes
+pub record OwnSteps (es : List Entry) (notes : List Note) (owned : OrderedKey → Bool)
     (before : OrderedKey → Option (List ℕ)) : Type 0 where
   -- more keys are locked, which nobody owned
   pub locked : (owned' : OrderedKey → Bool) → ((key : OrderedKey) → owned key ≡ true → owned' key ≡ true) →
@@ -59,18 +59,26 @@ pub record UndoLaws (es : List Entry) (notes : List Note) (owned : OrderedKey �
   pub made : (x : Entry) → x.part ≡ 0 → owned x.key ≡ true → find es 0 x.key ≡ None →
       Undoes (insert_entry es x) (New x.key ∷ notes) owned before
   pub loaded : (es' : List Entry) (run : ℕ) → LoadsRun es es' run owned → Undoes es' (RunMade run ∷ notes) owned before
+
+-- its notes were taken back, and this list is left
+pub record NotesTakenBack (es es' : List Entry) (notes : List Note) (owned : OrderedKey → Bool)
+    (before : OrderedKey → Option (List ℕ)) : Type 0 where
+  pub one_place : OnePlace es'
+  -- the owned keys have their values of before, and the others are untouched
+  pub restored : (key : OrderedKey) →
+      get (content es') key ≡ (if owned key then before key else get (content es) key)
+  pub untouched : (key : OrderedKey) → owned key ≡ false → (part : ℕ) → find es' part key ≡ find es part key
+  pub none_made : (part : ℕ) (key : OrderedKey) → find es part key ≡ None → find es' part key ≡ None
+  -- nothing that the notes of another transaction speak of is changed, where the two own no key together
+  pub leaves_others : (notes' : List Note) (owned' : OrderedKey → Bool) →
+      ((key : OrderedKey) → owned' key ≡ true → owned key ≡ false) → LeavesNoted es es' notes' owned'
+
+-- what a transaction's own steps, the steps of others and an abort do
+pub record UndoLaws (es : List Entry) (notes : List Note) (owned : OrderedKey → Bool)
+    (before : OrderedKey → Option (List ℕ)) : Type 0 where
+  pub own : OwnSteps es notes owned before
   -- others change entries of other keys
   pub others : (es' : List Entry) (before' : OrderedKey → Option (List ℕ)) → OnePlace es' →
       LeavesNoted es es' notes owned →
       ((key : OrderedKey) → owned key ≡ true → before' key ≡ before key) → Undoes es' notes owned before'
-  -- taken back: the owned keys have their values of before, and the others are untouched
-  pub one_place : (es' : List Entry) → TakesBack notes es es' → OnePlace es'
-  pub restored : (es' : List Entry) → TakesBack notes es es' → (key : OrderedKey) →
-      get (content es') key ≡ (if owned key then before key else get (content es) key)
-  pub untouched : (es' : List Entry) → TakesBack notes es es' → (key : OrderedKey) → owned key ≡ false → (part : ℕ) →
-      find es' part key ≡ find es part key
-  pub none_made : (es' : List Entry) → TakesBack notes es es' → (part : ℕ) (key : OrderedKey) →
-      find es part key ≡ None → find es' part key ≡ None
-  -- nothing that the notes of another transaction speak of is changed, where the two own no key together
-  pub leaves_others : (es' : List Entry) → TakesBack notes es es' → (notes' : List Note) (owned' : OrderedKey → Bool) →
-      ((key : OrderedKey) → owned' key ≡ true → owned key ≡ false) → LeavesNoted es es' notes' owned'
+  pub taken_back : (es' : List Entry) → TakesBack notes es es' → NotesTakenBack es es' notes owned before

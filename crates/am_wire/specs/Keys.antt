@@ -4,6 +4,7 @@ use Rattle.std.specs.Prelude.{◌≢◌, ℕ, ◌<◌, Bool, not, ◌&&◌, ◌=
 use Rattle.std.specs.Prelude.{if◌then◌else◌}
 use Rattle.std.specs.Char.{is_ascii_graphic}
 use Rattle.std.specs.List.{list_all}
+use Rattle.am_record.specs.Limits.{max_key_bytes}
 use Rattle.am_record.specs.OrderedKey.{OrderedKey, key_of, bytes_of}
 use Rattle.am_wire.specs.Values.{IsVisible}
 
@@ -24,7 +25,7 @@ is_key_text text = not (length text == 0) && list_all is_key_byte text
 
 -- the key of the text, where it is in range: 32 bytes at most
 abbrev pub key_for : List ℕ → Option OrderedKey
-key_for text = if nat_le (length text) 32 then Some (key_of text) else None
+key_for text = if nat_le (length text) max_key_bytes then Some (key_of text) else None
 
 -- the text that a reply has for a key
 abbrev pub printed_key : OrderedKey → List ℕ

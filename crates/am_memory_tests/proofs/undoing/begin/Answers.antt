@@ -12,5 +12,5 @@ returns c =
     let laws = c.undo_follows.ensures.laws es [] (λ _. false) (λ key. get (content es) key) sound.rising sound.one_place (c.undo_follows.ensures.nothing es (λ key. get (content es) key)) in
     record {
       before = λ key. get (content es) key;
-      undoes = subst (λ (notes : List Note). Undoes es notes (λ _. true) (λ key. get (content es) key)) (sym c.new.ensures.notes) (laws.locked (λ _. true) (λ key own. refl) (λ key own not_own. refl));
+      undoes = subst (λ (notes : List Note). Undoes es notes (λ _. true) (λ key. get (content es) key)) (sym c.new.ensures.notes) (laws.own.locked (λ _. true) (λ key own. refl) (λ key own not_own. refl));
     }

@@ -11,7 +11,7 @@ returns c =
     let sound = c.find.ensures.sound in
     let before = c.requires.before in
     let laws = c.undo_follows.ensures.laws es c.args.log.now.notes (λ _. true) before sound.rising sound.one_place c.requires.undoes in
-    let after = laws.changed 0 c.args.key c.in-Some.old.0 c.in-Some.old.1 c.args.new true refl (sym c.find.ensures.found ∙ c.in-Some.is) in
+    let after = laws.own.changed 0 c.args.key c.in-Some.old.0 c.in-Some.old.1 c.args.new true refl (sym c.find.ensures.found ∙ c.in-Some.is) in
     let noted : List Note → List Note = λ ns. Before 0 c.args.key c.in-Some.old.0 c.in-Some.old.1 ∷ ns in
     record {
       before = before;
