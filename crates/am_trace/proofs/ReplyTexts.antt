@@ -1,10 +1,10 @@
 -- The fields of replies: each reply has its own, and each reply is read of them.
 use Rattle.std.proofs.Common.{◌≡◌, ℕ, ◌^◌, ◌<◌, eqb, cond, List, [], ◌∷◌, length, map, Option, Some, None, refl, sym, ap, ◌∙◌, subst, option_map, decimal, arith}
-use Rattle.std.specs.Prelude.{codes, bytes_eq, option_and_then}
+use Rattle.std.specs.Prelude.{option_and_then}
 use Rattle.std.specs.Option.{option_zip}
-use Rattle.std.proofs.lemmas.Bool.{cond_both, cond-true}
+use Rattle.std.specs.List.{AllByRecursion}
+use Rattle.std.proofs.lemmas.Bool.{cond-true}
 use Rattle.std.proofs.lemmas.Bool.Decides.{nat_tests}
-use Rattle.std.proofs.lemmas.Slice.Eq.{bytes_eq-Decides}
 use Rattle.am_record.specs.OrderedKey.{OrderedKey}
 use Rattle.am_record.specs.Records.{Records}
 use Rattle.am_record.specs.declared.step.Reply.{Reply}
@@ -15,14 +15,14 @@ use Rattle.am_record.proofs.Outcomes.{mapped, gate}
 use Rattle.am_trace.specs.Words.{hex, key_word, record_word}
 use Rattle.am_trace.specs.Bounds.{IsNumber, IsKey, IsValue, AreRecords}
 use Rattle.am_trace.specs.Replies.{refusal_fields, reply_fields, IsRefusal, IsReply}
-use Rattle.am_trace.specs.ReplyWords.{word_text, word_for}
-use Rattle.am_trace.specs.Reading.{number_in, run_in, key_in, value_in, records_in, nothing_in, one_number_in, one_key_in, one_value_in, key_and_number_in, number_and_run_in, if_counted, counted_records_in, refusal_for, refusal_read, savepoint_in, reply_of, reply_with, reply_in}
+use Rattle.am_wire.specs.ReplyWords.{word_text, refusal_code}
+use Rattle.am_wire.specs.declared.reply_word.ReplyWord.{ReplyWord}
+use Rattle.am_wire.specs.declared.reply_word.ReplyWord.TheVariants as word
+use Rattle.am_trace.specs.Reading.{number_in, run_in, key_in, value_in, records_in, nothing_in, one_number_in, one_key_in, one_value_in, key_and_number_in, number_and_run_in, if_counted, counted_records_in, refusal_for, coded_refusals, refusal_read, word_for, savepoint_in, reply_of, reply_with, reply_in}
 use Rattle.am_trace.specs.declared.version.Version.{Version}
-use Rattle.am_trace.specs.declared.word.Word.{Word}
-use Rattle.am_trace.specs.declared.word.Word.TheVariants as word
 use Rattle.am_trace.proofs.IsText.{IsText, zipped, zip_of, chained, same_some, one_field, two_fields}
 use Rattle.am_trace.proofs.FieldTexts.{number_text, run_text, key_text, value_text}
-use Rattle.am_trace.proofs.WordTexts.{word_for-word_text, word_text-word_for}
+use Rattle.am_trace.proofs.WordTexts.{word_for-word_text, word_text-word_for, refusal_for-code}
 use Rattle.am_trace.proofs.StepTexts.{WordLaws, one_number, one_key, records, nothing_back, savepoint_back, savepoint_there}
 
 -- ---- refusals
@@ -31,14 +31,14 @@ use Rattle.am_trace.proofs.StepTexts.{WordLaws, one_number, one_key, records, no
 abbrev IsErrorOf : List (List ℕ) → Refusal → Type 0
 IsErrorOf fs r = IsRefusal r × (word_text word.Error ∷ fs ≡ refusal_fields r)
 
-chosen : (f text : List ℕ) (r out : Refusal) (rest : Option Refusal) → (f ≡ text → IsErrorOf (f ∷ []) r) → (rest ≡ Some out → IsErrorOf (f ∷ []) out) → cond (bytes_eq f text) (Some r) rest ≡ Some out → IsErrorOf (f ∷ []) out
-chosen f text r out rest here there =
-    cond_both (bytes_eq f text) (Some r) rest (λ o. o ≡ Some out → IsErrorOf (f ∷ []) out)
-    (λ t e. subst (IsErrorOf (f ∷ [])) (same_some r out e) (here ((bytes_eq-Decides f text).0 t)))
-    (λ _ e. there e)
+-- each refusal that has a code is that of its fields
+each_of_code : AllByRecursion (λ r. IsErrorOf (refusal_code r ∷ []) r) coded_refusals
+each_of_code = ((tt, refl), ((tt, refl), ((tt, refl), ((tt, refl), ((tt, refl), ((tt, refl), ((tt, refl), ((tt, refl), tt))))))))
 
 error_back : (f : List ℕ) (out : Refusal) → refusal_for f ≡ Some out → IsErrorOf (f ∷ []) out
-error_back f out = (chosen f (codes "NOTX") refusal.NoSuchTx out (cond (bytes_eq f (codes "TXS")) (Some refusal.TooManyTx) (cond (bytes_eq f (codes "LOCKS")) (Some refusal.TooManyLocks) (cond (bytes_eq f (codes "OPS")) (Some refusal.TooManyOps) (cond (bytes_eq f (codes "RUNS")) (Some refusal.TooManyRuns) (cond (bytes_eq f (codes "ORDER")) (Some refusal.NotRising) (cond (bytes_eq f (codes "LIMIT")) (Some refusal.BadLimit) (cond (bytes_eq f (codes "MEMORY")) (Some refusal.NoMemory) None))))))) (λ e. (tt, ap (λ (x : List ℕ). codes "ERR" ∷ x ∷ []) e)) (chosen f (codes "TXS") refusal.TooManyTx out (cond (bytes_eq f (codes "LOCKS")) (Some refusal.TooManyLocks) (cond (bytes_eq f (codes "OPS")) (Some refusal.TooManyOps) (cond (bytes_eq f (codes "RUNS")) (Some refusal.TooManyRuns) (cond (bytes_eq f (codes "ORDER")) (Some refusal.NotRising) (cond (bytes_eq f (codes "LIMIT")) (Some refusal.BadLimit) (cond (bytes_eq f (codes "MEMORY")) (Some refusal.NoMemory) None)))))) (λ e. (tt, ap (λ (x : List ℕ). codes "ERR" ∷ x ∷ []) e)) (chosen f (codes "LOCKS") refusal.TooManyLocks out (cond (bytes_eq f (codes "OPS")) (Some refusal.TooManyOps) (cond (bytes_eq f (codes "RUNS")) (Some refusal.TooManyRuns) (cond (bytes_eq f (codes "ORDER")) (Some refusal.NotRising) (cond (bytes_eq f (codes "LIMIT")) (Some refusal.BadLimit) (cond (bytes_eq f (codes "MEMORY")) (Some refusal.NoMemory) None))))) (λ e. (tt, ap (λ (x : List ℕ). codes "ERR" ∷ x ∷ []) e)) (chosen f (codes "OPS") refusal.TooManyOps out (cond (bytes_eq f (codes "RUNS")) (Some refusal.TooManyRuns) (cond (bytes_eq f (codes "ORDER")) (Some refusal.NotRising) (cond (bytes_eq f (codes "LIMIT")) (Some refusal.BadLimit) (cond (bytes_eq f (codes "MEMORY")) (Some refusal.NoMemory) None)))) (λ e. (tt, ap (λ (x : List ℕ). codes "ERR" ∷ x ∷ []) e)) (chosen f (codes "RUNS") refusal.TooManyRuns out (cond (bytes_eq f (codes "ORDER")) (Some refusal.NotRising) (cond (bytes_eq f (codes "LIMIT")) (Some refusal.BadLimit) (cond (bytes_eq f (codes "MEMORY")) (Some refusal.NoMemory) None))) (λ e. (tt, ap (λ (x : List ℕ). codes "ERR" ∷ x ∷ []) e)) (chosen f (codes "ORDER") refusal.NotRising out (cond (bytes_eq f (codes "LIMIT")) (Some refusal.BadLimit) (cond (bytes_eq f (codes "MEMORY")) (Some refusal.NoMemory) None)) (λ e. (tt, ap (λ (x : List ℕ). codes "ERR" ∷ x ∷ []) e)) (chosen f (codes "LIMIT") refusal.BadLimit out (cond (bytes_eq f (codes "MEMORY")) (Some refusal.NoMemory) None) (λ e. (tt, ap (λ (x : List ℕ). codes "ERR" ∷ x ∷ []) e)) (chosen f (codes "MEMORY") refusal.NoMemory out None (λ e. (tt, ap (λ (x : List ℕ). codes "ERR" ∷ x ∷ []) e)) (λ e. cc)))))))))
+error_back f out e =
+    let found = refusal_for-code (λ r. IsErrorOf (refusal_code r ∷ []) r) each_of_code f out e in
+    subst (λ (x : List ℕ). IsErrorOf (x ∷ []) out) found.1 found.0
 
 refusal_back : (fs : List (List ℕ)) (out : Refusal) → refusal_read fs ≡ Some out → IsErrorOf fs out
 refusal_back [] out e = cc
@@ -78,10 +78,11 @@ module _ (laws : WordLaws) where
 
   -- ---- replies
 
-  by_word : (v : Version) (w : Word) (fs : List (List ℕ)) → reply_in v (word_text w ∷ fs) ≡ reply_of v w fs
+  by_word : (v : Version) (w : ReplyWord) (fs : List (List ℕ)) → reply_in v (word_text w ∷ fs) ≡ reply_of v w fs
   by_word v w fs = ap (λ o. reply_with v o fs) (word_for-word_text w)
 
   reply_there : (v : Version) (r : Reply) → IsReply v r → reply_in v (reply_fields v r) ≡ Some r
+  unfolding refusal_for
   reply_there v (reply.Begun n) h = by_word v word.Begun (decimal n ∷ []) ∙ ap (option_map reply.Begun) ((one_number laws).there n h)
   reply_there v (reply.Committed n) h = by_word v word.Committed (decimal n ∷ []) ∙ ap (option_map reply.Committed) ((one_number laws).there n h)
   reply_there v (reply.Cleaned n) h = by_word v word.Cleaned (decimal n ∷ []) ∙ ap (option_map reply.Cleaned) ((one_number laws).there n h)
@@ -98,20 +99,20 @@ module _ (laws : WordLaws) where
   reply_there v (reply.Ended k n) h = by_word v word.Ended (key_word v k ∷ decimal n ∷ []) ∙ ap (option_map (λ (p : OrderedKey × ℕ). reply.Ended p.0 p.1)) ((key_and_number v).there (k, n) h)
   reply_there v reply.NoMark h = by_word v word.NoMark [] ∙ ap (option_map (λ _. reply.NoMark)) (savepoint_there laws v h)
   reply_there v (reply.Refused (refusal.Busy n)) h = by_word v word.Busy (decimal n ∷ []) ∙ ap (option_map (λ (x : ℕ). reply.Refused (refusal.Busy x))) ((one_number laws).there n h)
-  reply_there v (reply.Refused refusal.NoSuchTx) h = by_word v word.Error (codes "NOTX" ∷ [])
-  reply_there v (reply.Refused refusal.TooManyTx) h = by_word v word.Error (codes "TXS" ∷ [])
-  reply_there v (reply.Refused refusal.TooManyLocks) h = by_word v word.Error (codes "LOCKS" ∷ [])
-  reply_there v (reply.Refused refusal.TooManyOps) h = by_word v word.Error (codes "OPS" ∷ [])
-  reply_there v (reply.Refused refusal.TooManyRuns) h = by_word v word.Error (codes "RUNS" ∷ [])
-  reply_there v (reply.Refused refusal.NotRising) h = by_word v word.Error (codes "ORDER" ∷ [])
-  reply_there v (reply.Refused refusal.BadLimit) h = by_word v word.Error (codes "LIMIT" ∷ [])
-  reply_there v (reply.Refused refusal.NoMemory) h = by_word v word.Error (codes "MEMORY" ∷ [])
+  reply_there v (reply.Refused refusal.NoSuchTx) h = by_word v word.Error (refusal_code refusal.NoSuchTx ∷ [])
+  reply_there v (reply.Refused refusal.TooManyTx) h = by_word v word.Error (refusal_code refusal.TooManyTx ∷ [])
+  reply_there v (reply.Refused refusal.TooManyLocks) h = by_word v word.Error (refusal_code refusal.TooManyLocks ∷ [])
+  reply_there v (reply.Refused refusal.TooManyOps) h = by_word v word.Error (refusal_code refusal.TooManyOps ∷ [])
+  reply_there v (reply.Refused refusal.TooManyRuns) h = by_word v word.Error (refusal_code refusal.TooManyRuns ∷ [])
+  reply_there v (reply.Refused refusal.NotRising) h = by_word v word.Error (refusal_code refusal.NotRising ∷ [])
+  reply_there v (reply.Refused refusal.BadLimit) h = by_word v word.Error (refusal_code refusal.BadLimit ∷ [])
+  reply_there v (reply.Refused refusal.NoMemory) h = by_word v word.Error (refusal_code refusal.NoMemory ∷ [])
   reply_there v (reply.Refused refusal.SeatFull) h = absurd h
 
-  abbrev IsReplyOf : Version → Word → List (List ℕ) → Reply → Type 0
+  abbrev IsReplyOf : Version → ReplyWord → List (List ℕ) → Reply → Type 0
   IsReplyOf v w fs r = IsReply v r × (word_text w ∷ fs ≡ reply_fields v r)
 
-  of_back : (v : Version) (w : Word) (fs : List (List ℕ)) (r : Reply) → reply_of v w fs ≡ Some r → IsReplyOf v w fs r
+  of_back : (v : Version) (w : ReplyWord) (fs : List (List ℕ)) (r : Reply) → reply_of v w fs ≡ Some r → IsReplyOf v w fs r
   of_back v word.Begun fs r e = let m = mapped reply.Begun (one_number_in fs) r e in let b = (one_number laws).back fs m.0 m.1 in subst (IsReplyOf v word.Begun fs) m.2 (b.0, ap (λ (xs : List (List ℕ)). word_text word.Begun ∷ xs) b.1)
   of_back v word.Committed fs r e = let m = mapped reply.Committed (one_number_in fs) r e in let b = (one_number laws).back fs m.0 m.1 in subst (IsReplyOf v word.Committed fs) m.2 (b.0, ap (λ (xs : List (List ℕ)). word_text word.Committed ∷ xs) b.1)
   of_back v word.Cleaned fs r e = let m = mapped reply.Cleaned (one_number_in fs) r e in let b = (one_number laws).back fs m.0 m.1 in subst (IsReplyOf v word.Cleaned fs) m.2 (b.0, ap (λ (xs : List (List ℕ)). word_text word.Cleaned ∷ xs) b.1)
@@ -130,7 +131,7 @@ module _ (laws : WordLaws) where
   of_back v word.Busy fs r e = let m = mapped (λ (x : ℕ). reply.Refused (refusal.Busy x)) (one_number_in fs) r e in let b = (one_number laws).back fs m.0 m.1 in subst (IsReplyOf v word.Busy fs) m.2 (b.0, ap (λ (xs : List (List ℕ)). word_text word.Busy ∷ xs) b.1)
   of_back v word.Error fs r e = let m = mapped reply.Refused (refusal_read fs) r e in let b = refusal_back fs m.0 m.1 in subst (IsReplyOf v word.Error fs) m.2 b
 
-  with_back : (v : Version) (f : List ℕ) (fs : List (List ℕ)) (r : Reply) (o : Option Word) → word_for f ≡ o → reply_with v o fs ≡ Some r → IsReply v r × (f ∷ fs ≡ reply_fields v r)
+  with_back : (v : Version) (f : List ℕ) (fs : List (List ℕ)) (r : Reply) (o : Option ReplyWord) → word_for f ≡ o → reply_with v o fs ≡ Some r → IsReply v r × (f ∷ fs ≡ reply_fields v r)
   with_back v f fs r None e g = cc
   with_back v f fs r (Some w) e g =
       let b = of_back v w fs r g in

@@ -3,6 +3,5 @@ pub mod Words
 pub mod Bounds
 pub mod Steps
 pub mod Replies
-pub mod ReplyWords
 pub mod Lines
 pub mod Reading

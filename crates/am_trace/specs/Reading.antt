@@ -1,6 +1,6 @@
 -- What the fields of a line are read as.
 use Rattle.std.specs.Prelude.{◌≡◌, ℕ, ◌+◌, ◌*◌, ◌-◌, ◌^◌, ◌&&◌, ◌==◌, nat_le, nat_lt, if◌then◌else◌, List, [], ◌∷◌}
-use Rattle.std.specs.Prelude.{codes, length, Option, Some, None, Result, Ok, Err, bytes_eq, option_map, option_and_then}
+use Rattle.std.specs.Prelude.{length, Option, Some, None, Result, Ok, Err, bytes_eq, find, option_map, option_and_then}
 use Rattle.std.specs.Option.{option_zip}
 use Rattle.std.specs.List.{before_first, after_first}
 use Rattle.am_record.specs.OrderedKey.{OrderedKey, number_key}
@@ -22,13 +22,13 @@ use Rattle.am_wire.specs.Values.{value_for}
 use Rattle.am_wire.specs.Arguments.{interval_for, lock_in}
 use Rattle.am_wire.specs.Reading.{is_equals, mode_for, line_fields}
 use Rattle.am_wire.specs.Verbs.{verb_for}
+use Rattle.am_wire.specs.ReplyWords.{word_text, refusal_code}
+use Rattle.am_wire.specs.declared.reply_word.ReplyWord.{ReplyWord}
+use Rattle.am_wire.specs.declared.reply_word.ReplyWord.TheVariants as word
 use Rattle.am_wire.specs.declared.verb.Verb.{Verb}
 use Rattle.am_wire.specs.declared.verb.Verb.TheVariants as verb
 use Rattle.am_trace.specs.declared.version.Version.{Version}
 use Rattle.am_trace.specs.declared.version.Version.TheVariants.{One, Two}
-use Rattle.am_trace.specs.declared.word.Word.{Word}
-use Rattle.am_trace.specs.declared.word.Word.TheVariants as word
-use Rattle.am_trace.specs.ReplyWords.{word_for}
 use Rattle.am_trace.specs.Lines.{Event}
 use Rattle.am_trace.specs.declared.read.ReadFault.{ReadFault}
 use Rattle.am_trace.specs.declared.read.ReadFault.TheVariants.{Bad, NoMemory}
@@ -138,16 +138,14 @@ abbrev pub counted_records_in : Version → List (List ℕ) → Option Records
 counted_records_in v [] = None
 counted_records_in v (n ∷ fs) = option_and_then if_counted (option_zip (number_in n) (records_in v fs))
 
-abbrev pub refusal_for : List ℕ → Option Refusal
-refusal_for f =
-    if bytes_eq f (codes "NOTX") then Some refusal.NoSuchTx else
-    if bytes_eq f (codes "TXS") then Some refusal.TooManyTx else
-    if bytes_eq f (codes "LOCKS") then Some refusal.TooManyLocks else
-    if bytes_eq f (codes "OPS") then Some refusal.TooManyOps else
-    if bytes_eq f (codes "RUNS") then Some refusal.TooManyRuns else
-    if bytes_eq f (codes "ORDER") then Some refusal.NotRising else
-    if bytes_eq f (codes "LIMIT") then Some refusal.BadLimit else
-    if bytes_eq f (codes "MEMORY") then Some refusal.NoMemory else None
+-- the refusals that can be stored, but for a lock that conflicts
+abbrev pub coded_refusals : List Refusal
+coded_refusals = refusal.NoSuchTx ∷ refusal.TooManyTx ∷ refusal.TooManyLocks ∷ refusal.TooManyOps ∷
+    refusal.TooManyRuns ∷ refusal.NotRising ∷ refusal.BadLimit ∷ refusal.NoMemory ∷ []
+
+-- the refusal of a code
+unfoldable pub refusal_for : List ℕ → Option Refusal
+refusal_for code = find (λ why. bytes_eq (refusal_code why) code) coded_refusals
 
 abbrev pub refusal_read : List (List ℕ) → Option Refusal
 refusal_read fs = field_in refusal_for fs
@@ -196,8 +194,17 @@ step_in v (f ∷ fs) = step_with v (verb_for f) fs
 
 -- ---- replies
 
+abbrev pub all_words : List ReplyWord
+all_words = word.Begun ∷ word.Done ∷ word.Found ∷ word.Absent ∷ word.Rows ∷ word.Exists ∷ word.Missing ∷
+    word.Committed ∷ word.Aborted ∷ word.Moved ∷ word.MergeDone ∷ word.Ended ∷ word.Idle ∷ word.Cleaned ∷
+    word.NoMark ∷ word.Busy ∷ word.Error ∷ []
+
+-- the word of a text
+unfoldable pub word_for : List ℕ → Option ReplyWord
+word_for text = find (λ w. bytes_eq (word_text w) text) all_words
+
 -- a reply, but for rows, which take memory
-abbrev pub small_reply_in : Version → Word → List (List ℕ) → Option Reply
+abbrev pub small_reply_in : Version → ReplyWord → List (List ℕ) → Option Reply
 small_reply_in v word.Begun fs = option_map reply.Begun (one_number_in fs)
 small_reply_in v word.Found fs = option_map reply.Found (one_value_in fs)
 small_reply_in v word.Exists fs = option_map reply.Exists (one_key_in v fs)
@@ -216,11 +223,11 @@ small_reply_in v word.MergeDone fs = option_map (λ _. reply.MergeDone) (nothing
 small_reply_in v word.Idle fs = option_map (λ _. reply.Idle) (nothing_in fs)
 small_reply_in v word.Rows fs = None
 
-abbrev pub reply_of : Version → Word → List (List ℕ) → Option Reply
+abbrev pub reply_of : Version → ReplyWord → List (List ℕ) → Option Reply
 reply_of v word.Rows fs = option_map reply.Rows (counted_records_in v fs)
 reply_of v w fs = small_reply_in v w fs
 
-abbrev pub reply_with : Version → Option Word → List (List ℕ) → Option Reply
+abbrev pub reply_with : Version → Option ReplyWord → List (List ℕ) → Option Reply
 reply_with v None fs = None
 reply_with v (Some w) fs = reply_of v w fs
 

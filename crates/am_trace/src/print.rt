@@ -8,16 +8,15 @@ ghost use Rattle.am_wire.specs.Arguments.{mode_word};
 ghost use Rattle.am_wire.specs.Verbs.{word_of};
 ghost use Rattle.am_trace.specs.Bounds.{AreRecords};
 ghost use Rattle.am_trace.specs.Words.{record_word};
-ghost use Rattle.am_trace.specs.ReplyWords.{word_text};
+ghost use Rattle.am_wire.specs.ReplyWords.{word_text};
 ghost use Rattle.am_trace.specs.Steps.{IsStep, op_fields, verb_of};
 ghost use Rattle.am_trace.specs.Replies.{IsRefusal, IsReply, refusal_fields};
 ghost use Rattle.am_trace.specs.Lines.{step_words, reply_words, event_words, with_lf, IsEvent};
 
 use crate::field::Field;
 use crate::version::Version;
-use crate::word::Word;
 use am_record::{Key, Mode, NoMemory, Op, Refusal, Reply, Step, Value};
-use am_wire::Verb;
+use am_wire::{ReplyWord, Verb, refusal_code};
 use std::alloc::Global;
 use std::marker::Model;
 
@@ -168,17 +167,20 @@ impl Page {
     {
         match refusal {
             Refusal::Busy(holder) => {
-                self.put_fields(Word::Busy.text(), &[Field::number(holder)])
+                self.put_fields(ReplyWord::Busy.text(), &[Field::number(holder)])
             }
-            Refusal::NoSuchTx => self.put(b"ERR NOTX"),
-            Refusal::TooManyTx => self.put(b"ERR TXS"),
-            Refusal::TooManyLocks => self.put(b"ERR LOCKS"),
-            Refusal::TooManyOps => self.put(b"ERR OPS"),
-            Refusal::TooManyRuns => self.put(b"ERR RUNS"),
-            Refusal::NotRising => self.put(b"ERR ORDER"),
-            Refusal::BadLimit => self.put(b"ERR LIMIT"),
-            Refusal::NoMemory => self.put(b"ERR MEMORY"),
-            Refusal::SeatFull => self.put(b"ERR FULL"),
+            Refusal::NoSuchTx
+            | Refusal::TooManyTx
+            | Refusal::TooManyLocks
+            | Refusal::TooManyOps
+            | Refusal::TooManyRuns
+            | Refusal::NotRising
+            | Refusal::BadLimit
+            | Refusal::NoMemory
+            | Refusal::SeatFull => {
+                let code = Field::new(refusal_code(refusal));
+                self.put_fields(ReplyWord::Error.text(), &[code])
+            }
         }
     }
 
@@ -188,33 +190,36 @@ impl Page {
         ensures reply { OnOk result (reply.now ≢ Reply.Refused FullSeat → IsReply Version.Two reply.now) }
     {
         match reply {
-            Reply::Begun(tx) => self.put_fields(Word::Begun.text(), &[Field::number(*tx)]),
-            Reply::Done => self.put(Word::Done.text()),
-            Reply::Found(value) => self.put_fields(Word::Found.text(), &[Field::value(*value)]),
-            Reply::Absent => self.put(Word::Absent.text()),
+            Reply::Begun(tx) => self.put_fields(ReplyWord::Begun.text(), &[Field::number(*tx)]),
+            Reply::Done => self.put(ReplyWord::Done.text()),
+            Reply::Found(value) => self.put_fields(
+                ReplyWord::Found.text(),
+                &[Field::value(*value)],
+            ),
+            Reply::Absent => self.put(ReplyWord::Absent.text()),
             Reply::Rows(rows) => {
                 let rows = rows.as_slice();
                 let count = Field::number(rows.len() as u64);
-                self.put_with_records(Word::Rows.text(), &[count], rows)
+                self.put_with_records(ReplyWord::Rows.text(), &[count], rows)
             }
-            Reply::Exists(key) => self.put_fields(Word::Exists.text(), &[Field::key(*key)]),
-            Reply::Missing => self.put(Word::Missing.text()),
+            Reply::Exists(key) => self.put_fields(ReplyWord::Exists.text(), &[Field::key(*key)]),
+            Reply::Missing => self.put(ReplyWord::Missing.text()),
             Reply::Committed(commit) => {
-                self.put_fields(Word::Committed.text(), &[Field::number(*commit)])
+                self.put_fields(ReplyWord::Committed.text(), &[Field::number(*commit)])
             }
-            Reply::Aborted => self.put(Word::Aborted.text()),
+            Reply::Aborted => self.put(ReplyWord::Aborted.text()),
             Reply::Moved(n, run) => self.put_fields(
-                Word::Moved.text(),
+                ReplyWord::Moved.text(),
                 &[Field::number(*n), Field::number(u64::from(*run))],
             ),
-            Reply::MergeDone => self.put(Word::MergeDone.text()),
+            Reply::MergeDone => self.put(ReplyWord::MergeDone.text()),
             Reply::Ended(key, holder) => self.put_fields(
-                Word::Ended.text(),
+                ReplyWord::Ended.text(),
                 &[Field::key(*key), Field::number(*holder)],
             ),
-            Reply::Idle => self.put(Word::Idle.text()),
-            Reply::Cleaned(n) => self.put_fields(Word::Cleaned.text(), &[Field::number(*n)]),
-            Reply::NoMark => self.put(Word::NoMark.text()),
+            Reply::Idle => self.put(ReplyWord::Idle.text()),
+            Reply::Cleaned(n) => self.put_fields(ReplyWord::Cleaned.text(), &[Field::number(*n)]),
+            Reply::NoMark => self.put(ReplyWord::NoMark.text()),
             Reply::Refused(refusal) => self.put_refusal(*refusal),
         }
     }

@@ -10,9 +10,9 @@ use crate::shape::{
     read_number_and_run, read_refusal, read_value,
 };
 use crate::version::Version;
-use crate::word::Word;
+use crate::word::word_for;
 use am_record::{Refusal, Reply};
-use am_wire::Fields;
+use am_wire::{Fields, ReplyWord};
 use std::alloc::Global;
 
 /// A reply, by all its fields.
@@ -24,55 +24,55 @@ pub(crate) fn read_reply(
     ensures { Gives (reply_in version fields.entry) result }
 {
     let text = next(&mut fields).ok_or(ReadFault::Bad)?;
-    let word = Word::of_text(text).ok_or(ReadFault::Bad)?;
+    let word = word_for(text).ok_or(ReadFault::Bad)?;
     read_reply_of(alloc, version, word, fields)
 }
 
 fn read_reply_of(
     alloc: Global,
     version: Version,
-    word: Word,
+    word: ReplyWord,
     fields: Fields<'_>,
 ) -> Result<Reply, ReadFault>
     ensures { Gives (reply_of version word fields.entry) result }
 {
     match word {
-        Word::Rows => Ok(Reply::Rows(read_counted_records(alloc, version, fields)?)),
+        ReplyWord::Rows => Ok(Reply::Rows(read_counted_records(alloc, version, fields)?)),
         _ => read_small_reply(version, word, fields).ok_or(ReadFault::Bad),
     }
 }
 
 // A reply that takes no memory.
-fn read_small_reply(version: Version, word: Word, fields: Fields<'_>) -> Option<Reply>
+fn read_small_reply(version: Version, word: ReplyWord, fields: Fields<'_>) -> Option<Reply>
     ensures { result ≡ small_reply_in version word fields.entry }
 {
     match word {
-        Word::Begun => Some(Reply::Begun(read_number(fields)?)),
-        Word::Found => Some(Reply::Found(read_value(fields)?)),
-        Word::Exists => Some(Reply::Exists(read_key(version, fields)?)),
-        Word::Committed => Some(Reply::Committed(read_number(fields)?)),
-        Word::Moved => {
+        ReplyWord::Begun => Some(Reply::Begun(read_number(fields)?)),
+        ReplyWord::Found => Some(Reply::Found(read_value(fields)?)),
+        ReplyWord::Exists => Some(Reply::Exists(read_key(version, fields)?)),
+        ReplyWord::Committed => Some(Reply::Committed(read_number(fields)?)),
+        ReplyWord::Moved => {
             let (n, run) = read_number_and_run(fields)?;
             Some(Reply::Moved(n, run))
         }
-        Word::Ended => {
+        ReplyWord::Ended => {
             let (key, holder) = read_key_and_number(version, fields)?;
             Some(Reply::Ended(key, holder))
         }
-        Word::Cleaned => Some(Reply::Cleaned(read_number(fields)?)),
-        Word::Busy => Some(Reply::Refused(Refusal::Busy(read_number(fields)?))),
-        Word::Error => Some(Reply::Refused(read_refusal(fields)?)),
-        Word::NoMark => {
+        ReplyWord::Cleaned => Some(Reply::Cleaned(read_number(fields)?)),
+        ReplyWord::Busy => Some(Reply::Refused(Refusal::Busy(read_number(fields)?))),
+        ReplyWord::Error => Some(Reply::Refused(read_refusal(fields)?)),
+        ReplyWord::NoMark => {
             read_savepoint(version, fields)?;
             Some(Reply::NoMark)
         }
-        Word::Done => bare(fields, Reply::Done),
-        Word::Absent => bare(fields, Reply::Absent),
-        Word::Missing => bare(fields, Reply::Missing),
-        Word::Aborted => bare(fields, Reply::Aborted),
-        Word::MergeDone => bare(fields, Reply::MergeDone),
-        Word::Idle => bare(fields, Reply::Idle),
-        Word::Rows => None,
+        ReplyWord::Done => bare(fields, Reply::Done),
+        ReplyWord::Absent => bare(fields, Reply::Absent),
+        ReplyWord::Missing => bare(fields, Reply::Missing),
+        ReplyWord::Aborted => bare(fields, Reply::Aborted),
+        ReplyWord::MergeDone => bare(fields, Reply::MergeDone),
+        ReplyWord::Idle => bare(fields, Reply::Idle),
+        ReplyWord::Rows => None,
     }
 }
 

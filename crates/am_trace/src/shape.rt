@@ -4,11 +4,12 @@ ghost use Rattle.std.specs.Prelude.{◌≡◌, ◌∷◌, [], option_map, MatchO
 ghost use Rattle.am_trace.specs.Reading.{number_in, run_in, digit_in, byte_in, value_for_digits, key_in, value_in};
 ghost use Rattle.am_trace.specs.Reading.{record_in, range_in, nothing_in, one_number_in, one_key_in, key_and_value_in};
 ghost use Rattle.am_trace.specs.Reading.{one_value_in, range_and_number_in, lock_fields_in, records_in};
-ghost use Rattle.am_trace.specs.Reading.{key_and_number_in, number_and_run_in, counted_records_in, refusal_for};
+ghost use Rattle.am_trace.specs.Reading.{key_and_number_in, number_and_run_in, counted_records_in};
 ghost use Rattle.am_trace.specs.Reading.{refusal_read, Gives};
 
 use crate::read::ReadFault;
 use crate::version::Version;
+use crate::word::refusal_for;
 use am_record::{Key, Lock, Pairs, Range, Refusal, Value};
 use am_wire::{Fields, parse_mode, parse_number, split_record};
 use arrayvec::ArrayVec;
@@ -220,31 +221,7 @@ pub(crate) fn read_refusal(mut fields: Fields<'_>) -> Option<Refusal>
 {
     let field = next(&mut fields)?;
     read_nothing(fields)?;
-    refusal(field)
-}
-
-fn refusal(field: &[u8]) -> Option<Refusal>
-    ensures { result ≡ refusal_for field.now }
-{
-    if field == b"NOTX".as_slice() {
-        Some(Refusal::NoSuchTx)
-    } else if field == b"TXS".as_slice() {
-        Some(Refusal::TooManyTx)
-    } else if field == b"LOCKS".as_slice() {
-        Some(Refusal::TooManyLocks)
-    } else if field == b"OPS".as_slice() {
-        Some(Refusal::TooManyOps)
-    } else if field == b"RUNS".as_slice() {
-        Some(Refusal::TooManyRuns)
-    } else if field == b"ORDER".as_slice() {
-        Some(Refusal::NotRising)
-    } else if field == b"LIMIT".as_slice() {
-        Some(Refusal::BadLimit)
-    } else if field == b"MEMORY".as_slice() {
-        Some(Refusal::NoMemory)
-    } else {
-        None
-    }
+    refusal_for(field)
 }
 
 /// Records, any number of them.

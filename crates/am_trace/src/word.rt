@@ -1,80 +1,56 @@
-//! The words that replies begin with.
+//! The words that replies begin with, and the codes of refusals, as they are read.
 
 ghost use Rattle.std.specs.Prelude.{◌≡◌};
-ghost use Rattle.am_trace.specs.ReplyWords.{word_text, word_for};
+ghost use Rattle.am_trace.specs.Reading.{refusal_for, word_for};
 
-/// What a reply is, by its first word.
-#[derive(Clone, Copy, Debug, PartialEq, Eq)]
-pub(crate) enum Word {
-    Begun,
-    Done,
-    Found,
-    Absent,
-    Rows,
-    Exists,
-    Missing,
-    Committed,
-    Aborted,
-    Moved,
-    MergeDone,
-    Ended,
-    Idle,
-    Cleaned,
-    NoMark,
-    Busy,
-    Error,
-}
+use am_record::Refusal;
+use am_wire::{ReplyWord, refusal_code};
 
-const WORDS: [Word; 17] = [
-    Word::Begun,
-    Word::Done,
-    Word::Found,
-    Word::Absent,
-    Word::Rows,
-    Word::Exists,
-    Word::Missing,
-    Word::Committed,
-    Word::Aborted,
-    Word::Moved,
-    Word::MergeDone,
-    Word::Ended,
-    Word::Idle,
-    Word::Cleaned,
-    Word::NoMark,
-    Word::Busy,
-    Word::Error,
+const WORDS: [ReplyWord; 17] = [
+    ReplyWord::Begun,
+    ReplyWord::Done,
+    ReplyWord::Found,
+    ReplyWord::Absent,
+    ReplyWord::Rows,
+    ReplyWord::Exists,
+    ReplyWord::Missing,
+    ReplyWord::Committed,
+    ReplyWord::Aborted,
+    ReplyWord::Moved,
+    ReplyWord::MergeDone,
+    ReplyWord::Ended,
+    ReplyWord::Idle,
+    ReplyWord::Cleaned,
+    ReplyWord::NoMark,
+    ReplyWord::Busy,
+    ReplyWord::Error,
 ];
 
-impl Word {
-    /// Its text.
-    pub(crate) fn text(self) -> &'static [u8]
-        ensures { result.now ≡ word_text self }
-    {
-        match self {
-            Word::Begun => b"BEGUN",
-            Word::Done => b"OK",
-            Word::Found => b"VAL",
-            Word::Absent => b"NONE",
-            Word::Rows => b"ROWS",
-            Word::Exists => b"EXISTS",
-            Word::Missing => b"MISSING",
-            Word::Committed => b"COMMITTED",
-            Word::Aborted => b"ABORTED",
-            Word::Moved => b"MOVED",
-            Word::MergeDone => b"DONE",
-            Word::Ended => b"ENDED",
-            Word::Idle => b"IDLE",
-            Word::Cleaned => b"CLEANED",
-            Word::NoMark => b"NOMARK",
-            Word::Busy => b"BUSY",
-            Word::Error => b"ERR",
-        }
-    }
+/// The refusals that have a code and can be stored.
+const REFUSALS: [Refusal; 8] = [
+    Refusal::NoSuchTx,
+    Refusal::TooManyTx,
+    Refusal::TooManyLocks,
+    Refusal::TooManyOps,
+    Refusal::TooManyRuns,
+    Refusal::NotRising,
+    Refusal::BadLimit,
+    Refusal::NoMemory,
+];
 
-    /// The word of a text.
-    pub(crate) fn of_text(text: &[u8]) -> Option<Word>
-        ensures { result ≡ word_for text.now }
-    {
-        WORDS.iter().copied().find(|word| word.text() == text)
-    }
+/// The word of a text.
+pub(crate) fn word_for(text: &[u8]) -> Option<ReplyWord>
+    ensures { result ≡ word_for text.now }
+{
+    WORDS.iter().copied().find(|word| word.text() == text)
+}
+
+/// The refusal of a code.
+pub(crate) fn refusal_for(code: &[u8]) -> Option<Refusal>
+    ensures { result ≡ refusal_for code.now }
+{
+    REFUSALS
+        .iter()
+        .copied()
+        .find(|refusal| refusal_code(*refusal) == code)
 }

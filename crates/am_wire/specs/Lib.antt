@@ -3,6 +3,7 @@ pub mod Giving
 pub mod OverStd
 pub mod Lines
 pub mod Seen
+pub mod ReplyWords
 pub mod Replies
 pub mod Numbers
 pub mod Keys

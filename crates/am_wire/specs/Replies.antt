@@ -8,24 +8,18 @@ use Rattle.am_record.specs.declared.step.Reply.TheVariants.{Begun, Done, Found, 
 use Rattle.am_record.specs.declared.step.Reply.TheVariants.{Committed, Aborted, Moved, MergeDone, Ended, Idle, Cleaned}
 use Rattle.am_record.specs.declared.step.Reply.TheVariants.{NoMark, Refused}
 use Rattle.am_record.specs.declared.step.Refusal.{Refusal}
-use Rattle.am_record.specs.declared.step.Refusal.TheVariants.{NoSuchTx, Busy, TooManyTx, TooManyLocks, TooManyOps}
-use Rattle.am_record.specs.declared.step.Refusal.TheVariants.{TooManyRuns, NotRising, BadLimit, NoMemory, SeatFull}
+use Rattle.am_record.specs.declared.step.Refusal.TheVariants.{Busy}
+use Rattle.am_wire.specs.declared.reply_word.ReplyWord.TheVariants as word
+use Rattle.am_wire.specs.ReplyWords.{word_text, spaced, refusal_code}
 use Rattle.am_wire.specs.Lines.{HasNoLf}
 use Rattle.am_wire.specs.Keys.{printed_key}
 use Rattle.am_wire.specs.Values.{IsVisible}
 use Rattle.am_wire.specs.Arguments.{record_field}
 
+-- BUSY and the holder, or ERR and the refusal's code
 abbrev pub refusal_words : Refusal → List ℕ
-refusal_words NoSuchTx = codes "ERR NOTX"
-refusal_words (Busy holder) = codes "BUSY " ++ decimal holder
-refusal_words TooManyTx = codes "ERR TXS"
-refusal_words TooManyLocks = codes "ERR LOCKS"
-refusal_words TooManyOps = codes "ERR OPS"
-refusal_words TooManyRuns = codes "ERR RUNS"
-refusal_words NotRising = codes "ERR ORDER"
-refusal_words BadLimit = codes "ERR LIMIT"
-refusal_words NoMemory = codes "ERR MEMORY"
-refusal_words SeatFull = codes "ERR FULL"
+refusal_words (Busy holder) = spaced word.Busy ++ decimal holder
+refusal_words refusal = spaced word.Error ++ refusal_code refusal
 
 -- each record with a space before it, as k=v
 abbrev pub row_words : OrderedKey × List ℕ → List ℕ
@@ -37,21 +31,21 @@ rows_words (row ∷ rows) = row_words row ++ rows_words rows
 
 -- a reply before the end of its line; of rows their number alone
 abbrev pub head_of : Reply → List ℕ
-head_of (Begun tx) = codes "BEGUN " ++ decimal tx
-head_of Done = codes "OK"
-head_of (Found value) = codes "VAL " ++ value
-head_of Absent = codes "NONE"
-head_of (Rows rows) = codes "ROWS " ++ decimal (length rows)
-head_of (Exists key) = codes "EXISTS " ++ printed_key key
-head_of Missing = codes "MISSING"
-head_of (Committed commit) = codes "COMMITTED " ++ decimal commit
-head_of Aborted = codes "ABORTED"
-head_of (Moved n run) = ((codes "MOVED " ++ decimal n) ++ codes " ") ++ decimal run
-head_of MergeDone = codes "DONE"
-head_of (Ended key holder) = ((codes "ENDED " ++ printed_key key) ++ codes " ") ++ decimal holder
-head_of Idle = codes "IDLE"
-head_of (Cleaned n) = codes "CLEANED " ++ decimal n
-head_of NoMark = codes "NOMARK"
+head_of (Begun tx) = spaced word.Begun ++ decimal tx
+head_of Done = word_text word.Done
+head_of (Found value) = spaced word.Found ++ value
+head_of Absent = word_text word.Absent
+head_of (Rows rows) = spaced word.Rows ++ decimal (length rows)
+head_of (Exists key) = spaced word.Exists ++ printed_key key
+head_of Missing = word_text word.Missing
+head_of (Committed commit) = spaced word.Committed ++ decimal commit
+head_of Aborted = word_text word.Aborted
+head_of (Moved n run) = ((spaced word.Moved ++ decimal n) ++ codes " ") ++ decimal run
+head_of MergeDone = word_text word.MergeDone
+head_of (Ended key holder) = ((spaced word.Ended ++ printed_key key) ++ codes " ") ++ decimal holder
+head_of Idle = word_text word.Idle
+head_of (Cleaned n) = spaced word.Cleaned ++ decimal n
+head_of NoMark = word_text word.NoMark
 head_of (Refused refusal) = refusal_words refusal
 
 -- a reply, before the end of its line

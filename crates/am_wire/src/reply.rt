@@ -5,28 +5,38 @@ ghost use Rattle.am_record.specs.declared.step.Reply.{Reply};
 ghost use Rattle.am_wire.specs.Giving.{Gave, GaveBeginning};
 ghost use Rattle.am_wire.specs.Replies.{refusal_words, row_words, rows_words, head_of, text_of, TellsVisible};
 ghost use Rattle.am_wire.specs.Replies.{IsOneLine};
+ghost use Rattle.am_wire.specs.ReplyWords.{spaced};
 
+use crate::reply_word::{ReplyWord, refusal_code};
 use crate::sink::{Sink, StopSink, give_all};
 use crate::source::Failed;
 use crate::text::Text;
 use am_record::{Key, NoMemory, Refusal, Reply, Value};
 use std::alloc::Global;
 
+// A word with a space behind it.
+fn spaced(word: ReplyWord) -> Text
+    ensures words { result ≡ spaced word }
+    ensures short { length result ≤ 10 }
+{
+    Text::new(word.text()).then(b" ")
+}
+
 fn refusal_words(refusal: Refusal) -> Text
     ensures words { result ≡ refusal_words refusal }
     ensures short { length result ≤ 127 }
 {
     match refusal {
-        Refusal::NoSuchTx => Text::new(b"ERR NOTX"),
-        Refusal::Busy(holder) => Text::new(b"BUSY ").then_number(holder),
-        Refusal::TooManyTx => Text::new(b"ERR TXS"),
-        Refusal::TooManyLocks => Text::new(b"ERR LOCKS"),
-        Refusal::TooManyOps => Text::new(b"ERR OPS"),
-        Refusal::TooManyRuns => Text::new(b"ERR RUNS"),
-        Refusal::NotRising => Text::new(b"ERR ORDER"),
-        Refusal::BadLimit => Text::new(b"ERR LIMIT"),
-        Refusal::NoMemory => Text::new(b"ERR MEMORY"),
-        Refusal::SeatFull => Text::new(b"ERR FULL"),
+        Refusal::Busy(holder) => spaced(ReplyWord::Busy).then_number(holder),
+        Refusal::NoSuchTx
+        | Refusal::TooManyTx
+        | Refusal::TooManyLocks
+        | Refusal::TooManyOps
+        | Refusal::TooManyRuns
+        | Refusal::NotRising
+        | Refusal::BadLimit
+        | Refusal::NoMemory
+        | Refusal::SeatFull => spaced(ReplyWord::Error).then(refusal_code(refusal)),
     }
 }
 
@@ -36,27 +46,27 @@ fn head_of(reply: &Reply) -> Text
     ensures short { length result ≤ 127 }
 {
     match reply {
-        Reply::Begun(tx) => Text::new(b"BEGUN ").then_number(*tx),
-        Reply::Done => Text::new(b"OK"),
-        Reply::Found(value) => Text::new(b"VAL ").then(value.bytes()),
-        Reply::Absent => Text::new(b"NONE"),
-        Reply::Rows(rows) => Text::new(b"ROWS ").then_number(rows.as_slice().len() as u64),
-        Reply::Exists(key) => Text::new(b"EXISTS ").then_key(*key),
-        Reply::Missing => Text::new(b"MISSING"),
-        Reply::Committed(commit) => Text::new(b"COMMITTED ").then_number(*commit),
-        Reply::Aborted => Text::new(b"ABORTED"),
-        Reply::Moved(n, run) => Text::new(b"MOVED ")
+        Reply::Begun(tx) => spaced(ReplyWord::Begun).then_number(*tx),
+        Reply::Done => Text::new(ReplyWord::Done.text()),
+        Reply::Found(value) => spaced(ReplyWord::Found).then(value.bytes()),
+        Reply::Absent => Text::new(ReplyWord::Absent.text()),
+        Reply::Rows(rows) => spaced(ReplyWord::Rows).then_number(rows.as_slice().len() as u64),
+        Reply::Exists(key) => spaced(ReplyWord::Exists).then_key(*key),
+        Reply::Missing => Text::new(ReplyWord::Missing.text()),
+        Reply::Committed(commit) => spaced(ReplyWord::Committed).then_number(*commit),
+        Reply::Aborted => Text::new(ReplyWord::Aborted.text()),
+        Reply::Moved(n, run) => spaced(ReplyWord::Moved)
             .then_number(*n)
             .then(b" ")
             .then_number(u64::from(*run)),
-        Reply::MergeDone => Text::new(b"DONE"),
-        Reply::Ended(key, holder) => Text::new(b"ENDED ")
+        Reply::MergeDone => Text::new(ReplyWord::MergeDone.text()),
+        Reply::Ended(key, holder) => spaced(ReplyWord::Ended)
             .then_key(*key)
             .then(b" ")
             .then_number(*holder),
-        Reply::Idle => Text::new(b"IDLE"),
-        Reply::Cleaned(n) => Text::new(b"CLEANED ").then_number(*n),
-        Reply::NoMark => Text::new(b"NOMARK"),
+        Reply::Idle => Text::new(ReplyWord::Idle.text()),
+        Reply::Cleaned(n) => spaced(ReplyWord::Cleaned).then_number(*n),
+        Reply::NoMark => Text::new(ReplyWord::NoMark.text()),
         Reply::Refused(refusal) => refusal_words(*refusal),
     }
 }
