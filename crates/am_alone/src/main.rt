@@ -15,13 +15,16 @@ use std::io::BufWriter;
 use std::process::ExitCode;
 use std::sync::Wait;
 
+/// The program's name, where it says what is wrong with its words.
+const PROGRAM: &str = "amserve";
+
 /// Answers standard input on standard output; after each answer at most `auto` entries are merged.
 fn alone<R: AllocGlobal + Input + Print + Eprint + Wait>(rt: &R, auto: u64) -> io::Result<ExitCode>
     requires { auto ≤ 64 }
 {
     // Pieces of one answer, as the rows of a scan, go out together.
     let Ok(writer) = BufWriter::new(rt.alloc(), io::writer(rt)) else {
-        return OptionsFault::no_memory().tell(rt);
+        return OptionsFault::NoMemory.tell(rt, PROGRAM);
     };
     let mut source = Reading::new(rt.reader());
     let mut sink = Writing::new(writer);
@@ -35,14 +38,14 @@ fn alone<R: AllocGlobal + Input + Print + Eprint + Wait>(rt: &R, auto: u64) -> i
 fn selected<R: AllocGlobal + Input + Print + Eprint + Env + Wait>(rt: &R) -> io::Result<ExitCode> {
     let words = match words(rt) {
         Ok(words) => words,
-        Err(fault) => return fault.tell(rt),
+        Err(fault) => return fault.tell(rt, PROGRAM),
     };
     match options(rt.alloc(), words.as_slice()) {
         Ok(Options::Alone { auto }) => alone(rt, auto),
-        Ok(Options::Listen(_)) => OptionsFault::other("amserve: this program serves alone").tell(
-            rt,
-        ),
-        Err(fault) => fault.tell(rt),
+        Ok(Options::Listen(_)) => {
+            OptionsFault::Unserved("this program serves alone").tell(rt, PROGRAM)
+        }
+        Err(fault) => fault.tell(rt, PROGRAM),
     }
 }
 

@@ -1,19 +1,18 @@
 //! The program `amaudit`: judges the text of a stored trace.
 #![tactic(auto)]
 
-mod choice;
-mod command;
 mod judgement;
 
+use am_command::{audited_file, words};
 use am_wire::Writing;
-use choice::OptionsFault;
-use command::options;
 use judgement::{Judgement, judge, say};
-use std::env::Env;
 use std::io::Read;
 use std::process::ExitCode;
 use std::rt::Files;
-use std::{env, fs, io};
+use std::{fs, io};
+
+/// The program's name, where it says what is wrong with its words.
+const PROGRAM: &str = "amaudit";
 
 /// What is read: a file, or standard input where none or `-` is named.
 fn bytes<R: AllocGlobal + Files + Input>(rt: &R, file: Option<&str>) -> io::Result<Vec<u8>> {
@@ -40,33 +39,13 @@ fn audit<R: AllocGlobal + Files + Input + Print>(rt: &R, file: Option<&str>) -> 
     ExitCode::from(said.unwrap_or(6))
 }
 
-/// The words of the command line, the program's name first.
-fn words<R: AllocGlobal + Env>(rt: &R) -> Result<Vec<String>, OptionsFault> {
-    match env::args(rt) {
-        Ok(args) => Ok(args.collect(rt.alloc())?),
-        Err(error) if error.kind() == io::ErrorKind::OutOfMemory => Err(OptionsFault::no_memory()),
-        Err(_) => Err(OptionsFault::not_text()),
-    }
-}
-
-/// Help and the version go to standard output, and a fault to standard error.
-fn refuse<R: Print + Eprint>(rt: &R, fault: &OptionsFault) -> anyhow::Result<ExitCode> {
-    let text = fault.text.as_str().trim_end();
-    if fault.status == 0 {
-        println!(rt; "{text}")?;
-    } else {
-        eprintln!(rt; "{text}")?;
-    }
-    Ok(ExitCode::from(fault.status))
-}
-
-fn main(rt: HostRuntime) -> anyhow::Result<ExitCode> {
+fn main(rt: HostRuntime) -> io::Result<ExitCode> {
     let words = match words(&rt) {
         Ok(words) => words,
-        Err(fault) => return refuse(&rt, &fault),
+        Err(fault) => return fault.tell(&rt, PROGRAM),
     };
-    match options(rt.alloc(), words.as_slice()) {
-        Ok(options) => Ok(audit(&rt, options.file)),
-        Err(fault) => refuse(&rt, &fault),
+    match audited_file(rt.alloc(), words.as_slice()) {
+        Ok(file) => Ok(audit(&rt, file)),
+        Err(fault) => fault.tell(&rt, PROGRAM),
     }
 }

@@ -1,7 +1,8 @@
--- From clap's clauses to the options that words name.
-use Rattle.std.proofs.Common.{◌≡◌, ◌∙◌, ◌⊎◌, ◌≢◌, List, [], refl, sym, subst, ap, ap₂, inl, inr, true, false, ◌||◌}
+-- From clap's clauses to what words name.
+use Rattle.std.proofs.Common.{◌≡◌, ◌∙◌, ◌⊎◌, ℕ, List, [], Option, codes, refl, sym, subst, ap, ap₂, inl, inr, true, false, ◌||◌}
+use Rattle.std.proofs.lemmas.Bool.{true≢false}
 use Rattle.std.specs.Prelude.{IsSomeAnd}
-use Rattle.clap.specs.Words.{AddsArg, App, HasMatchesOf, Rule, Text, fault_of, is_simple, is_simple_and_free, kind_of, rule_of, subcommand_of, subcommand_rows_of, with_rule}
+use Rattle.clap.specs.Words.{AddsArg, App, HasMatchesOf, Rule, Text, fault_of, first_of, found_of, is_simple, is_simple_and_free, kind_of, matches_of, rows_of, rule_of, subcommand_of, subcommand_rows_of, with_rule}
 use Rattle.clap.specs.Kinds.{IsAmong}
 use Rattle.clap.specs.declared.builder.arg.Arg.{Arg}
 use Rattle.clap.specs.declared.builder.command.Command.{Command}
@@ -9,10 +10,13 @@ use Rattle.clap.specs.declared.error.Error.{Error}
 use Rattle.clap.specs.declared.error.kind.ErrorKind.TheVariants.{OutOfMemory}
 use Rattle.clap.specs.declared.parser.matches.ArgMatches.{ArgMatches}
 use Rattle.clap.proofs.OnLiterals.{clap_on_literals}
-use Rattle.am_command.specs.Options.{IsCommand, IsNoMemory, Names, Refuses, Selects, amserve_app, number_rule, status_of}
+use Rattle.am_command.specs.Faults.{IsFaultOf, Refuses, is_request}
+use Rattle.am_command.specs.Options.{IsCommand, Names, Selects, amserve_app, number_rule}
+use Rattle.am_command.specs.Audited.{amaudit_app}
+use Rattle.am_command.specs.declared.amserve.Setting.{Setting}
 use Rattle.am_command.specs.declared.choice.Options.{Options}
-use Rattle.am_command.specs.declared.choice.OptionsFault.{OptionsFault}
-use Rattle.am_command.specs.declared.command.Setting.{Setting}
+use Rattle.am_command.specs.declared.fault.OptionsFault.{OptionsFault}
+use Rattle.am_command.specs.declared.fault.OptionsFault.TheVariants.{Asked, Wrong, Unserved, NotText, NoMemory}
 
 pub arg_added : (before after : Command) (argument : Arg) (app : App) (rule : Rule) → IsCommand app before
     → (rule_of argument ≡ rule) × (argument.global ≡ false) → AddsArg before argument after → IsCommand (with_rule app rule) after
@@ -26,45 +30,66 @@ number_added before after option argument app rule setting is_app is_option is_n
     arg_added before after argument app (number_rule rule setting) is_app
     (is_number.0 ∙ ap (λ r. number_rule r setting) is_option.0, is_number.1 ∙ is_option.1)
 
-is_plain : is_simple amserve_app ≡ true
+amserve_plain : is_simple amserve_app ≡ true
 unfolding clap_on_literals
-is_plain = refl
+amserve_plain = refl
 
-is_free : is_simple_and_free amserve_app ≡ true
+pub amserve_free : is_simple_and_free amserve_app ≡ true
 unfolding clap_on_literals
-is_free = refl
+amserve_free = refl
+
+amaudit_plain : is_simple amaudit_app ≡ true
+unfolding clap_on_literals
+amaudit_plain = refl
+
+pub amaudit_free : is_simple_and_free amaudit_app ≡ true
+unfolding clap_on_literals
+amaudit_free = refl
 
 -- what a parse entered is what the words name
 entered_as : (app : App) (m : ArgMatches) (words : List Text) → app ≡ amserve_app → HasMatchesOf app words m
     → subcommand_rows_of m ≡ subcommand_of amserve_app words
-entered_as app m words app_is rows = (rows (ap is_simple app_is ∙ is_plain)).1 ∙ ap (λ a. subcommand_of a words) app_is
+entered_as app m words app_is rows = (rows (ap is_simple app_is ∙ amserve_plain)).1 ∙ ap (λ a. subcommand_of a words) app_is
 
 pub accepted : (app : App) (m : ArgMatches) (words : List Text) (options : Options) → app ≡ amserve_app → HasMatchesOf app words m
     → (is_simple_and_free app ≡ true → fault_of app words ≡ []) → IsSomeAnd (subcommand_rows_of m) (λ entered. Selects entered options)
     → Names words options
 accepted app m words options app_is rows faults named = (
-  ap (λ a. fault_of a words) (sym app_is) ∙ faults (ap is_simple_and_free app_is ∙ is_free),
+  ap (λ a. fault_of a words) (sym app_is) ∙ faults (ap is_simple_and_free app_is ∙ amserve_free),
   subst (λ e. IsSomeAnd e (λ entered. Selects entered options)) (entered_as app m words app_is rows) named,
 )
 
-pub refused_as_nothing : (app : App) (m : ArgMatches) (words : List Text) (fault : OptionsFault) → app ≡ amserve_app → HasMatchesOf app words m
+pub refused_as_nothing : (app : App) (m : ArgMatches) (words : List Text) → app ≡ amserve_app → HasMatchesOf app words m
     → (is_simple_and_free app ≡ true → fault_of app words ≡ [])
-    → ((options : Options) → IsSomeAnd (subcommand_rows_of m) (λ entered. Selects entered options) → ⊥) → fault.status ≡ 2
-    → Refuses words fault
-refused_as_nothing app m words fault app_is rows faults none status = inr (inr (
-  status,
-  ap (λ a. fault_of a words) (sym app_is) ∙ faults (ap is_simple_and_free app_is ∙ is_free),
+    → ((options : Options) → IsSomeAnd (subcommand_rows_of m) (λ entered. Selects entered options) → ⊥)
+    → (fault_of amserve_app words ≡ []) × ((options : Options) → Names words options → ⊥)
+refused_as_nothing app m words app_is rows faults none = (
+  ap (λ a. fault_of a words) (sym app_is) ∙ faults (ap is_simple_and_free app_is ∙ amserve_free),
   λ options named. none options (subst (λ e. IsSomeAnd e (λ entered. Selects entered options)) (sym (entered_as app m words app_is rows)) named.1),
-))
+)
 
-pub refused_by_clap : (app : App) (e : Error) (words : List Text) (fault : OptionsFault) → app ≡ amserve_app
+pub names_file : (app : App) (m : ArgMatches) (words : List Text) (file : Option (List ℕ)) → app ≡ amaudit_app → HasMatchesOf app words m
+    → (is_simple_and_free app ≡ true → fault_of app words ≡ []) → file ≡ first_of (codes "file") (rows_of (found_of m))
+    → (fault_of amaudit_app words ≡ []) × (file ≡ first_of (codes "file") (matches_of amaudit_app words))
+names_file app m words file app_is rows faults named = (
+  ap (λ a. fault_of a words) (sym app_is) ∙ faults (ap is_simple_and_free app_is ∙ amaudit_free),
+  named ∙ ap (first_of (codes "file")) ((rows (ap is_simple app_is ∙ amaudit_plain)).0 ∙ ap (λ a. matches_of a words) app_is),
+)
+
+-- a fault of clap, at the words of an app without rules between arguments
+pub refused_by_clap : {Named : Type 0} (names : List Text → Named → Type 0) (its app : App) → is_simple_and_free its ≡ true → (e : Error) (words : List Text) (fault : OptionsFault) → app ≡ its
     → (is_simple_and_free app ≡ true → (kind_of e ≡ OutOfMemory) ⊎ IsAmong (kind_of e) (fault_of app words))
-    → (IsNoMemory fault ⊎ ((fault.status ≡ status_of (kind_of e)) × (kind_of e ≢ OutOfMemory)))
-    → Refuses words fault
-refused_by_clap app e words fault app_is kinds said = finish (kinds (ap is_simple_and_free app_is ∙ is_free)) said
+    → IsFaultOf (kind_of e) fault → Refuses its names words fault
+refused_by_clap names its app free e words fault app_is kinds said = by_fault fault (kinds (ap is_simple_and_free app_is ∙ free)) said
   where
-    finish : ((kind_of e ≡ OutOfMemory) ⊎ IsAmong (kind_of e) (fault_of app words))
-        → (IsNoMemory fault ⊎ ((fault.status ≡ status_of (kind_of e)) × (kind_of e ≢ OutOfMemory))) → Refuses words fault
-    finish k (inl none) = inl none
-    finish (inl memory) (inr other) = absurd (other.1 memory)
-    finish (inr among) (inr other) = inr (inl (kind_of e, (subst (λ a. IsAmong (kind_of e) (fault_of a words)) app_is among, other.0)))
+    among : IsAmong (kind_of e) (fault_of app words) → IsAmong (kind_of e) (fault_of its words)
+    among h = subst (λ a. IsAmong (kind_of e) (fault_of a words)) app_is h
+
+    by_fault : (f : OptionsFault) → ((kind_of e ≡ OutOfMemory) ⊎ IsAmong (kind_of e) (fault_of app words)) → IsFaultOf (kind_of e) f → Refuses its names words f
+    by_fault (Asked text) (inl memory) asked = absurd (true≢false (sym asked ∙ ap is_request memory))
+    by_fault (Asked text) (inr h) asked = (kind_of e, among h, asked)
+    by_fault (Wrong text) (inl memory) wrong = absurd (wrong.1 memory)
+    by_fault (Wrong text) (inr h) wrong = (kind_of e, among h, wrong.0)
+    by_fault (Unserved why) k h = absurd h
+    by_fault NotText k h = absurd h
+    by_fault NoMemory k h = tt

@@ -1,23 +1,18 @@
--- What a command line asks for, by clap's meaning of its words.
-use Rattle.std.specs.Prelude.{◌≡◌, ◌≢◌, ◌≤◌, ◌⊎◌, ◌↔◌, IsTrue, ℕ, List, [], Option, Some, None, codes, false, is_some}
+-- What a command line of `amserve` asks for, by clap's meaning of its words.
+use Rattle.std.specs.Prelude.{◌≡◌, ◌≢◌, ◌≤◌, ◌↔◌, IsTrue, ℕ, List, [], Option, Some, None, codes, false, is_some}
 use Rattle.std.specs.Prelude.{not, true}
 use Rattle.std.specs.Prelude.{IsSomeAnd, option_map}
-use Rattle.std.specs.Cow.{cow_str_bytes}
 use Rattle.std.specs.Str.Parse.{IsNumeral, digits_value, without_leading_plus}
 use Rattle.clap.specs.Words.{App, Row, Rule, Shape, Text, app_of, first_of, new_app, new_rule}
 use Rattle.clap.specs.Words.{fault_of, subcommand_of, with_rule, with_subcommand}
-use Rattle.clap.specs.Kinds.{IsAmong}
 use Rattle.clap.specs.declared.builder.command.Command.{Command}
 use Rattle.clap.specs.declared.builder.command.Command.TheViews.{out-Command}
 use Rattle.clap.specs.declared.builder.action.ArgAction.TheVariants.{SetTrue}
 use Rattle.clap.specs.declared.builder.value_parser.ValueParser.TheVariants.{Unsigned}
-use Rattle.clap.specs.declared.error.kind.ErrorKind.{ErrorKind}
-use Rattle.clap.specs.declared.error.kind.ErrorKind.TheVariants.{DisplayHelp, DisplayVersion}
 use Rattle.am_command.specs.declared.choice.Listening.{Listening}
 use Rattle.am_command.specs.declared.choice.Options.{Options}
 use Rattle.am_command.specs.declared.choice.Options.TheVariants.{Alone, Listen}
-use Rattle.am_command.specs.declared.choice.OptionsFault.{OptionsFault}
-use Rattle.am_command.specs.declared.command.Setting.{Setting}
+use Rattle.am_command.specs.declared.amserve.Setting.{Setting}
 
 -- the bounds of each number, and what it is where the words don't give it
 abbrev pub auto : Setting
@@ -104,18 +99,3 @@ Selects p (Listen listening) = (p.0 ≡ codes "listen") × NamesListening p.1 li
 abbrev pub Names : List Text → Options → Type 0
 Names words options = (fault_of amserve_app words ≡ [])
     × IsSomeAnd (subcommand_of amserve_app words) (λ entered. Selects entered options)
-
-abbrev pub IsNoMemory : OptionsFault → Type 0
-IsNoMemory fault = (fault.status ≡ 5) × (cow_str_bytes fault.text ≡ codes "amserve: no memory")
-
--- the status of a fault that clap finds: that of help or the version is 0
-abbrev pub status_of : ErrorKind → ℕ
-status_of DisplayHelp = 0
-status_of DisplayVersion = 0
-status_of _ = 2
-
--- memory was refused, or clap finds this fault in the words, or it finds none and they name no options
-abbrev pub Refuses : List Text → OptionsFault → Type 0
-Refuses words fault = IsNoMemory fault
-    ⊎ ((kind : ErrorKind) × (IsAmong kind (fault_of amserve_app words) × (fault.status ≡ status_of kind)))
-    ⊎ ((fault.status ≡ 2) × (fault_of amserve_app words ≡ []) × ((options : Options) → Names words options → ⊥))

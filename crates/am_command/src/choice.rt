@@ -1,12 +1,4 @@
-//! What a command line asks for.
-
-ghost use Rattle.std.specs.Prelude.{◌≡◌};
-ghost use Rattle.am_command.specs.Options.{IsNoMemory};
-
-use std::alloc::{AllocError, Global};
-use std::borrow::CowStr;
-use std::io;
-use std::process::ExitCode;
+//! What a command line of `amserve` asks for.
 
 /// The program that was asked for, with its numbers.
 #[derive(Debug, Clone, Copy, PartialEq, Eq)]
@@ -31,58 +23,4 @@ pub struct Listening<'a> {
     pub trace: Option<&'a str>,
     /// Whether the server goes on until a line `STOP`, or the end of its standard input, has come.
     pub awaits_stop: bool,
-}
-
-/// Why there are no options.
-#[derive(Drop)]
-pub struct OptionsFault {
-    /// The program's status: 0 where help or the version was asked for, 2 where the words are wrong, 5 where memory was
-    /// refused.
-    pub status: u8,
-    /// Help or the version, or what is said on standard error.
-    pub text: CowStr<'static, Global>,
-}
-
-impl OptionsFault {
-    /// The words are well formed, and this program doesn't serve what they name.
-    pub fn other(text: &'static str) -> OptionsFault
-        ensures { result.status ≡ 2 }
-    {
-        OptionsFault {
-            status: 2,
-            text: CowStr::Borrowed(text),
-        }
-    }
-
-    /// Help and the version go to standard output, a fault to standard error. Answers the program's status.
-    ///
-    /// # Errors
-    /// That of the stream, where it can't be written.
-    pub fn tell<R: Print + Eprint>(&self, rt: &R) -> io::Result<ExitCode> {
-        let text = self.text.as_str().trim_end();
-        if self.status == 0 {
-            println!(rt; "{text}")?;
-        } else {
-            eprintln!(rt; "{text}")?;
-        }
-        Ok(ExitCode::from(self.status))
-    }
-
-    /// Memory was refused.
-    pub fn no_memory() -> OptionsFault
-        ensures { IsNoMemory result }
-    {
-        OptionsFault {
-            status: 5,
-            text: CowStr::Borrowed("amserve: no memory"),
-        }
-    }
-}
-
-impl From<AllocError> for OptionsFault {
-    ghost from_gives = { λ _ fault. IsNoMemory fault };
-
-    fn from(_: AllocError) -> OptionsFault {
-        OptionsFault::no_memory()
-    }
 }

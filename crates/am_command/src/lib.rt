@@ -1,10 +1,15 @@
-//! The command line of `amserve`: its words ([`words`]), and what they ask for ([`options`]).
+//! The command lines of `amserve` and `amaudit`: their words ([`words`]), and what they ask for ([`options`],
+//! [`audited_file`]).
 #![tactic(auto)]
 
+mod amaudit;
+mod amserve;
 mod choice;
-mod command;
+mod fault;
 mod program_words;
 
-pub use choice::{Listening, Options, OptionsFault};
-pub use command::options;
+pub use amaudit::audited_file;
+pub use amserve::options;
+pub use choice::{Listening, Options};
+pub use fault::OptionsFault;
 pub use program_words::words;

@@ -1,17 +1,31 @@
-//! The words that the program was started with.
+//! The words that a program was started with, and what clap read of them.
 
-use crate::choice::OptionsFault;
+ghost use Rattle.std.specs.Prelude.{◌≡◌, option_map};
+ghost use Rattle.clap.specs.Words.{first_of, found_of, rows_of};
+
+use crate::fault::OptionsFault;
+use clap::ArgMatches;
 use std::env::Env;
 use std::{env, io};
+
+/// What `--version` prints behind a program's name.
+pub(crate) const VERSION: &str = "0.1.0";
 
 /// The words of the command line, the program's name first.
 ///
 /// # Errors
-/// Status 2 where a word is not UTF-8, 5 where memory was refused.
+/// A word is not UTF-8, or memory was refused.
 pub fn words<R: AllocGlobal + Env>(rt: &R) -> Result<Vec<String>, OptionsFault> {
     match env::args(rt) {
         Ok(args) => Ok(args.collect(rt.alloc())?),
-        Err(error) if error.kind() == io::ErrorKind::OutOfMemory => Err(OptionsFault::no_memory()),
-        Err(_) => Err(OptionsFault::other("amserve: a word is not UTF-8")),
+        Err(error) if error.kind() == io::ErrorKind::OutOfMemory => Err(OptionsFault::NoMemory),
+        Err(_) => Err(OptionsFault::NotText),
     }
+}
+
+/// The text that an option was given.
+pub(crate) fn text_in<'a>(given: &ArgMatches<'a>, name: &str) -> Option<&'a str>
+    ensures { option_map (λ text. text.now) result ≡ first_of name.now (rows_of (found_of given.now)) }
+{
+    given.get_str(name)
 }

@@ -1,6 +1,6 @@
-//! Command lines of `amserve`.
+//! Command lines of the programs.
 
-use am_command::{Listening, Options, options};
+use am_command::{Listening, Options, audited_file, options};
 
 /// Words after the program's name, and the options that they ask for, or the status with which they are refused.
 type Asked<'a> = (&'a [&'a str], Result<Options<'a>, u8>);
@@ -78,6 +78,26 @@ const ASKED: [Asked<'static>; 18] = [
 #[test]
 fn words_give_their_options(rt: HostRuntime) {
     for (words, asked) in ASKED {
-        assert!(rt; options(rt.alloc(), words).map_err(|fault| fault.status) == asked);
+        assert!(rt; options(rt.alloc(), words).map_err(|fault| fault.status()) == asked);
+    }
+}
+
+/// Words, and the file that they name, or the status with which they are refused.
+type Named<'a> = (&'a [&'a str], Result<Option<&'a str>, u8>);
+
+const NAMED: [Named<'static>; 7] = [
+    (&["amaudit"], Ok(None)),
+    (&["amaudit", "t"], Ok(Some("t"))),
+    (&["amaudit", "-"], Ok(Some("-"))),
+    (&["amaudit", "t", "u"], Err(2)),
+    (&["amaudit", "--trace"], Err(2)),
+    (&["amaudit", "--help"], Err(0)),
+    (&["amaudit", "--version"], Err(0)),
+];
+
+#[test]
+fn words_name_a_file(rt: HostRuntime) {
+    for (words, named) in NAMED {
+        assert!(rt; audited_file(rt.alloc(), words).map_err(|fault| fault.status()) == named);
     }
 }

@@ -11,20 +11,23 @@ use listening::{close, open, stop_at_word, tell};
 use std::process::ExitCode;
 use std::{io, thread};
 
+/// The program's name, where it says what is wrong with its words.
+const PROGRAM: &str = "amserve";
+
 fn main(rt: HostRuntime) -> io::Result<ExitCode> {
     let words = match words(&rt) {
         Ok(words) => words,
-        Err(fault) => return fault.tell(&rt),
+        Err(fault) => return fault.tell(&rt, PROGRAM),
     };
     let listening = match options(rt.alloc(), words.as_slice()) {
         Ok(Options::Listen(listening)) => listening,
-        Ok(Options::Alone { .. }) => return OptionsFault::other(
-            "amserve: this program listens",
-        ).tell(&rt),
-        Err(fault) => return fault.tell(&rt),
+        Ok(Options::Alone { .. }) => {
+            return OptionsFault::Unserved("this program listens").tell(&rt, PROGRAM);
+        }
+        Err(fault) => return fault.tell(&rt, PROGRAM),
     };
     let (file, bound) = match open(&rt, &listening) {
-        Ok(open_after) => open_after,
+        Ok(opened) => opened,
         Err(fault) => return tell(&rt, fault),
     };
     println!(&rt; "LISTEN {}", bound.port())?;

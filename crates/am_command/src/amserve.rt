@@ -1,16 +1,16 @@
-//! The command line.
+//! The command line of `amserve`.
 
-ghost use Rattle.std.specs.Prelude.{◌≡◌, ◌≢◌, ◌⊎◌, ℕ, [], IfErr, IfOk, IsSomeAnd, MatchOption, false, map, option_map};
-ghost use Rattle.clap.specs.Words.{app_of, first_of, found_of, kind_of, rows_of, rule_of, subcommand_rows_of};
-ghost use Rattle.am_command.specs.Options.{IsCommand, IsNoMemory, Names, NamesListening, Refuses, Selects, Sets};
+ghost use Rattle.std.specs.Prelude.{◌≡◌, ◌≢◌, ℕ, [], IfErr, IfOk, IsSomeAnd, MatchOption, false, map, option_map};
+ghost use Rattle.clap.specs.Words.{app_of, first_of, found_of, rows_of, rule_of, subcommand_rows_of};
+ghost use Rattle.am_command.specs.Faults.{Refuses};
+ghost use Rattle.am_command.specs.Options.{IsCommand, Names, NamesListening, Selects, Sets};
 ghost use Rattle.am_command.specs.Options.{alone_app, amserve_app, flag_rule, listen_app, number_rule, option_rule};
-ghost use Rattle.am_command.specs.Options.{status_of};
 
-use crate::choice::{Listening, Options, OptionsFault};
-use clap::error::ErrorKind;
-use clap::{Arg, ArgAction, ArgMatches, Command, Error, value_parser};
+use crate::choice::{Listening, Options};
+use crate::fault::{OptionsFault, fault_of};
+use crate::program_words::{VERSION, text_in};
+use clap::{Arg, ArgAction, ArgMatches, Command, value_parser};
 use std::alloc::{AllocError, Global};
-use std::borrow::CowStr;
 use std::convert::AsStr;
 
 /// A number that an option takes: from `least` to `most`. Without a default it must be given.
@@ -27,9 +27,6 @@ const AUTO: Setting = Setting {
     most: 64,
     default: Some(16),
 };
-
-/// What `--version` prints behind the program's name.
-const VERSION: &str = "0.1.0";
 
 /// The port to listen at; 0 for any that is free.
 const PORT: Setting = Setting {
@@ -55,16 +52,18 @@ const WORKERS: Setting = Setting {
 /// What the words ask for; the first word is the program's name.
 ///
 /// # Errors
-/// A text and a status: 0 where help or the version was asked for, 2 where the words name no options, 5 where memory
-/// was refused.
+/// Help or the version was asked for, clap finds another fault in the words, they name no options, or memory was
+/// refused.
 pub fn options<'a, S: AsStr>(alloc: Global, words: &'a [S]) -> Result<Options<'a>, OptionsFault>
     ensures accepted { IfOk result (Names (map S.text words.entry.now)) }
-    ensures refused { IfErr result (Refuses (map S.text words.entry.now)) }
+    ensures refused { IfErr result (Refuses amserve_app Names (map S.text words.entry.now)) }
 {
     match amserve(alloc)?.try_get_matches_from(words) {
         Ok(matches) => match selected(&matches) {
             Some(options) => Ok(options),
-            None => Err(no_options()),
+            None => Err(OptionsFault::Unserved(
+                "expected alone or listen, and a file that has a name",
+            )),
         },
         Err(error) => Err(fault_of(alloc, &error)),
     }
@@ -231,13 +230,6 @@ fn number_in(given: &ArgMatches<'_>, name: &str, setting: Setting) -> Option<u16
     number_of(text_in(given, name), setting)
 }
 
-/// The text that an option was given.
-fn text_in<'a>(given: &ArgMatches<'a>, name: &str) -> Option<&'a str>
-    ensures { option_map (λ text. text.now) result ≡ first_of name.now (rows_of (found_of given.now)) }
-{
-    given.get_str(name)
-}
-
 /// The number that an option's text gives, or the default, where it is within its bounds.
 fn number_of(given: Option<&str>, setting: Setting) -> Option<u16>
     ensures { MatchOption result
@@ -253,36 +245,4 @@ fn number_of(given: Option<&str>, setting: Setting) -> Option<u16>
     } else {
         None
     }
-}
-
-/// What clap says of the words.
-fn fault_of(alloc: Global, error: &Error) -> OptionsFault
-    ensures { IsNoMemory result
-        ⊎ ((result.status ≡ status_of (kind_of error.now)) × (kind_of error.now ≢ ErrorKind.OutOfMemory)) }
-{
-    match error.kind() {
-        ErrorKind::OutOfMemory => OptionsFault::no_memory(),
-        ErrorKind::DisplayHelp | ErrorKind::DisplayVersion => said(alloc, 0, error),
-        _ => said(alloc, 2, error),
-    }
-}
-
-/// The text of clap, with the status.
-fn said(alloc: Global, status: u8, error: &Error) -> OptionsFault
-    ensures { IsNoMemory result ⊎ (result.status ≡ status) }
-{
-    match error.to_string(alloc) {
-        Ok(text) => OptionsFault {
-            status,
-            text: CowStr::Owned(text),
-        },
-        Err(_) => OptionsFault::no_memory(),
-    }
-}
-
-/// The words are well formed and name no options.
-fn no_options() -> OptionsFault
-    ensures { result.status ≡ 2 }
-{
-    OptionsFault::other("amserve: expected alone or listen, and a file that has a name")
 }

@@ -3,7 +3,7 @@ use Rattle.std.proofs.lemmas.Result.{IfOk-weaker}
 use Rattle.clap.specs.Words.{new_app}
 use Rattle.am_command.specs.Options.{IsCommand, port, sessions, workers}
 use Rattle.am_command.proofs.OptionsLemmas.{arg_added, number_added}
-use Rattle.am_command.proofs.command.listen.Goals as goal
+use Rattle.am_command.proofs.amserve.listen.Goals as goal
 
 pub returns : goal.returns
 returns c =
