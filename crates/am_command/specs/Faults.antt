@@ -1,5 +1,7 @@
 -- Why the words of a command line ask for nothing that a program does.
-use Rattle.std.specs.Prelude.{◌≡◌, ◌≢◌, ℕ, List, [], Bool, true, false}
+use Rattle.std.specs.Prelude.{◌≡◌, ◌≢◌, ℕ, List, [], ◌++◌, Bool, codes, true, false}
+use Rattle.std.specs.Str.{trim_end}
+use Rattle.std.specs.String.{string_bytes}
 use Rattle.clap.specs.Words.{App, Text, fault_of}
 use Rattle.clap.specs.Kinds.{IsAmong}
 use Rattle.clap.specs.declared.error.kind.ErrorKind.{ErrorKind}
@@ -14,6 +16,14 @@ status_of (Wrong text) = 2
 status_of (Unserved why) = 2
 status_of NotText = 2
 status_of NoMemory = 5
+
+-- what the program of that name says of it
+abbrev pub message_of : Text → OptionsFault → Text
+message_of program (Asked text) = trim_end (string_bytes text)
+message_of program (Wrong text) = trim_end (string_bytes text)
+message_of program (Unserved why) = program ++ codes ": " ++ why.now
+message_of program NotText = program ++ codes ": a word is not UTF-8"
+message_of program NoMemory = program ++ codes ": no memory"
 
 -- whether help or the version was asked for
 abbrev pub is_request : ErrorKind → Bool

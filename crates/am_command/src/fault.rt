@@ -7,8 +7,8 @@ ghost use Rattle.am_command.specs.Faults.{IsFaultOf, status_of};
 use clap::Error;
 use clap::error::ErrorKind;
 use std::alloc::{AllocError, Global};
-use std::io;
 use std::process::ExitCode;
+use std::{fmt, io};
 
 /// Why there are no options.
 #[derive(Drop)]
@@ -37,19 +37,46 @@ impl OptionsFault {
         }
     }
 
-    /// Help and the version go to standard output, all else to standard error. Answers the program's status.
+    /// Prints what the program of that name says of it, and a line's end: help and the version on standard output, all
+    /// else on standard error. Answers the program's status.
     ///
     /// # Errors
     /// That of the stream, where it can't be written.
     pub fn tell<R: Print + Eprint>(&self, rt: &R, program: &str) -> io::Result<ExitCode> {
+        let message = Message {
+            program,
+            fault: self,
+        };
         match self {
-            OptionsFault::Asked(text) => println!(rt; "{}", text.trim_end())?,
-            OptionsFault::Wrong(text) => eprintln!(rt; "{}", text.trim_end())?,
-            OptionsFault::Unserved(why) => eprintln!(rt; "{program}: {why}")?,
-            OptionsFault::NotText => eprintln!(rt; "{program}: a word is not UTF-8")?,
-            OptionsFault::NoMemory => eprintln!(rt; "{program}: no memory")?,
+            OptionsFault::Asked(_) => println!(rt; "{message}")?,
+            _ => eprintln!(rt; "{message}")?,
         }
         Ok(ExitCode::from(self.status()))
+    }
+}
+
+/// What a program says of the words that it was started with: clap's text without the line's end, or the program's name
+/// and what is wrong.
+#[derive(Drop)]
+struct Message<'a> {
+    program: &'a str,
+    fault: &'a OptionsFault,
+}
+
+impl fmt::Display for Message<'_> {
+    ghost use Rattle.std.specs.Prelude.{Some};
+    ghost use Rattle.am_command.specs.Faults.{message_of};
+
+    ghost output = { λ message. Some (message_of message.program.now message.fault.now) };
+
+    fn fmt<W: fmt::Write>(&self, f: &mut fmt::Formatter<W>) -> fmt::Result {
+        let program = self.program;
+        match self.fault {
+            OptionsFault::Asked(text) | OptionsFault::Wrong(text) => f.write_str(text.trim_end()),
+            OptionsFault::Unserved(why) => write!(f, "{program}: {why}"),
+            OptionsFault::NotText => write!(f, "{program}: a word is not UTF-8"),
+            OptionsFault::NoMemory => write!(f, "{program}: no memory"),
+        }
     }
 }
 
