@@ -6,7 +6,7 @@ use Rattle.am_record.specs.declared.step.Reply.{Reply}
 use Rattle.am_record.specs.declared.step.Reply.TheVariants.{Refused}
 use Rattle.am_latch.specs.declared.change.Change.{Change}
 use Rattle.am_latch.specs.declared.change.Change.TheVariants.{Begins, Ends, Nothing}
-use Rattle.am_latch.specs.Changes.{change, end_of, is_begin, is_refused, active_with, active_in_trace, has, without_number, MayFollow}
+use Rattle.am_latch.specs.Changes.{change, end_of, is_begin, is_refused, numbers_with, active_in_trace, has, without_number, MayFollow}
 use Rattle.am_latch.specs.Traces.{ends_after}
 use Rattle.am_latch.proofs.Replies.{refused_nothing, begins_begin}
 
@@ -32,7 +32,7 @@ pub record Roomy (ts : List ℕ) (ends len cap : ℕ) : Type 0 where
   pub fits : len + ends ≤ cap
 
 after_effect : (ts : List ℕ) (ends len cap : ℕ) (begin : Bool) (e : Change) → Roomy ts ends len cap → ((t : ℕ) → e ≡ Begins t → begin ≡ true) → ((t : ℕ) → e ≡ Ends t → has t ts ≡ true)
-    → (((t : ℕ) → e ≡ Ends t → ⊥) → len + (ends + (if begin then 2 else 1)) ≤ cap) → (len < cap) × Roomy (active_with ts e) (ends_after ends e) (len + 1) cap
+    → (((t : ℕ) → e ≡ Ends t → ⊥) → len + (ends + (if begin then 2 else 1)) ≤ cap) → (len < cap) × Roomy (numbers_with ts e) (ends_after ends e) (len + 1) cap
 after_effect ts ends len cap begin (Begins t) r is active_in_trace room =
     let more : len + (ends + 2) ≤ cap = subst (λ b. len + (ends + (if b then 2 else 1)) ≤ cap) (is t refl) (room (λ u x. absurd (cc))) in
     (omega arith, record { enough = omega (arith, length-append ts (t ∷ []), r.enough); fits = omega arith })
@@ -63,7 +63,7 @@ more_room ts st r ends more len cap false a is got other apart =
 
 -- what the reservation gave is enough for the pair, and keeps the room
 pub room_step : (ts : List ℕ) (st : Step) (r : Reply) (ends more len cap : ℕ) (b : Bool) → MayFollow ts st r → Roomy ts ends len cap → more ≡ (if is_begin st then 2 else 1) → (b ≡ true → len + (ends + more) ≤ cap) → (b ≡ false → IsSome (end_of st) × (is_refused r ≡ false))
-    → (len < cap) × Roomy (active_with ts (change st r)) (ends_after ends (change st r)) (len + 1) cap
+    → (len < cap) × Roomy (numbers_with ts (change st r)) (ends_after ends (change st r)) (len + 1) cap
 room_step ts st r ends more len cap b a roomy is got other =
     after_effect ts ends len cap (is_begin st) (change st r) roomy (λ t e. (begins_begin st r t e).0) a.ends (more_room ts st r ends more len cap b a is got other)
 

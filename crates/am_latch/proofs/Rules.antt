@@ -11,7 +11,7 @@ use Rattle.am_latch.specs.declared.receipt.CallId.{CallId}
 use Rattle.am_latch.specs.declared.views.View.{View}
 use Rattle.am_latch.specs.Traces.{CallLog, log_with}
 use Rattle.am_latch.specs.Receipts.{receipt, receipts_of}
-use Rattle.am_latch.specs.Views.{trace_view, minting_view, seat_view, empty_view, joint_view, join_views, seat_part, trace_part, one_more_minted, minted_seat, IsViewOf, AllAgree, view_with_call, AppendsCall, ReceiptsAgree, log_in_view, IsTraceView, IsSeatView, IsJointView, EndsMinting}
+use Rattle.am_latch.specs.Views.{trace_view, minting_view, seat_view, empty_view, joint_view, join_views, seat_part, trace_part, one_more_minted, minted_seat, IsViewOf, ViewsAgree, view_with_call, AppendsCall, ReceiptsAgree, log_in_view, IsTraceView, IsSeatView, IsJointView, EndsMinting}
 use Rattle.am_latch.proofs.Places.{mine_more, others_same}
 
 off : false ≡ true → ⊥
@@ -41,7 +41,7 @@ each_of_end P views w others receipts j u e =
 agrees_nobody : (trace_token count by : ℕ) (e : CallLog) → IsViewOf trace_token e count by empty_view
 agrees_nobody trace_token count by e = record { here = λ k. absurd (off k); trace = λ k. absurd (off k); calls = λ k. absurd (off k); is_minting = λ k d. absurd (off k); numbered = λ k. absurd (off k); receipts = λ k. absurd (off k) }
 
-pub starts : AllAgree (opening (0 ∷ []) [] (minting_view 0))
+pub starts : ViewsAgree (opening (0 ∷ []) [] (minting_view 0))
 starts = record { holder = 0; log = record { trace = []; calls = [] }; even = refl; each = one }
   where
     one : (by : ℕ) (v : View) → get_elem? (minting_view 0 ∷ []) by ≡ some v → IsViewOf 0 record { trace = []; calls = [] } 1 by v
@@ -52,7 +52,7 @@ starts = record { holder = 0; log = record { trace = []; calls = [] }; even = re
 trace_elsewhere : (trace_token trace_token' count by : ℕ) (e : CallLog) (v : View) → by ≢ trace_token → IsViewOf trace_token e count by v → IsViewOf trace_token' e count by v
 trace_elsewhere trace_token trace_token' count by e v apart f = record { here = λ k. absurd (apart (f.here k)); trace = f.trace; calls = f.calls; is_minting = λ kp d. f.is_minting kp d; numbered = f.numbered; receipts = f.receipts }
 
-pub joins : (id k other : ℕ) (rs : List Receipt) (e : CallLog) → Joins AllAgree id (seat_view k rs) other (trace_view e) (join_views (seat_view k rs) (trace_view e)) empty_view
+pub joins : (id k other : ℕ) (rs : List Receipt) (e : CallLog) → Joins ViewsAgree id (seat_view k rs) other (trace_view e) (join_views (seat_view k rs) (trace_view e)) empty_view
 joins id k other rs e s h at apart there =
     let w = joint_view k rs e in
     let old : get_elem? s.views other ≡ some (trace_view e) = ⊎_elim (λ (t : (other ≡ id) × (w ≡ trace_view e)). absurd (apart t.0)) (λ (t : (other ≢ id) × (get_elem? s.views other ≡ some (trace_view e))). t.1) (at_set s.views id other w (trace_view e) there) in
@@ -72,7 +72,7 @@ joins id k other rs e s h at apart there =
     }
 
 pub appends : (slots id k : ℕ) (rs : List Receipt) (e : CallLog) (state : List (ℕ × ℕ)) (st : what.Step) (r : Reply) (m : CallId) → m.seat ≡ k
-    → Allows AllAgree slots id (joint_view k rs e, state) 0 (λ n. n) (AppendsCall st r m (step slots 0 0 0 none) (joint_view k rs e, state))
+    → Allows ViewsAgree slots id (joint_view k rs e, state) 0 (λ n. n) (AppendsCall st r m (step slots 0 0 0 none) (joint_view k rs e, state))
 appends slots id k rs e state st r m made s h long at fits =
     let v = joint_view k rs e in
     let w = view_with_call st r m v in
@@ -105,7 +105,7 @@ appends slots id k rs e state st r m made s h long at fits =
       refl,
     )
 
-pub checks : (slots id k : ℕ) (rs : List Receipt) (e : CallLog) (state : List (ℕ × ℕ)) → Allows AllAgree slots id (joint_view k rs e, state) 0 (λ n. n) (ReceiptsAgree (step slots 0 0 0 none) (joint_view k rs e, state))
+pub checks : (slots id k : ℕ) (rs : List Receipt) (e : CallLog) (state : List (ℕ × ℕ)) → Allows ViewsAgree slots id (joint_view k rs e, state) 0 (λ n. n) (ReceiptsAgree (step slots 0 0 0 none) (joint_view k rs e, state))
 checks slots id k rs e state s h long at fits =
     let v = joint_view k rs e in
     let receipts = h.each id v at in
@@ -117,7 +117,7 @@ checks slots id k rs e state s h long at fits =
       (refl, receipts.receipts refl ∙ (λ i. receipts_of k record { trace = sym (receipts.trace refl) i; calls = sym (receipts.calls refl) i })),
     )
 
-pub parts : (id k : ℕ) (rs : List Receipt) (e : CallLog) → Splits AllAgree id (joint_view k rs e) (seat_view k rs) (trace_view e)
+pub parts : (id k : ℕ) (rs : List Receipt) (e : CallLog) → Splits ViewsAgree id (joint_view k rs e) (seat_view k rs) (trace_view e)
 parts id k rs e s h at =
     let v = joint_view k rs e in
     let w = seat_view k rs in
@@ -138,7 +138,7 @@ parts id k rs e s h at =
           j u e');
     }
 
-pub is_minting : (id n : ℕ) → Splits AllAgree id (minting_view n) (minting_view (n + 1)) (seat_view n [])
+pub is_minting : (id n : ℕ) → Splits ViewsAgree id (minting_view n) (minting_view (n + 1)) (seat_view n [])
 is_minting id n s h at =
     let v = minting_view n in
     let w = minting_view (n + 1) in
@@ -162,20 +162,20 @@ is_minting id n s h at =
     }
 
 -- the steps, at views that are known
-pub joins_as : (id other : ℕ) (v w : View) → IsSeatView v → IsTraceView w → Joins AllAgree id v other w (join_views v w) empty_view
-joins_as id other v w has_seat keep = subst (λ (y : View × View). Joins AllAgree id y.0 other y.1 (join_views y.0 y.1) empty_view) (λ i. (sym has_seat i, sym keep i)) (joins id v.seat other v.receipts (log_in_view w))
+pub joins_as : (id other : ℕ) (v w : View) → IsSeatView v → IsTraceView w → Joins ViewsAgree id v other w (join_views v w) empty_view
+joins_as id other v w has_seat keep = subst (λ (y : View × View). Joins ViewsAgree id y.0 other y.1 (join_views y.0 y.1) empty_view) (λ i. (sym has_seat i, sym keep i)) (joins id v.seat other v.receipts (log_in_view w))
 
-pub appends_as : (slots id : ℕ) (me : Me ℕ View) (st : what.Step) (r : Reply) (m : CallId) → IsJointView me.0 → m.seat ≡ me.0.seat → Allows AllAgree slots id me 0 (λ n. n) (AppendsCall st r m (step slots 0 0 0 none) me)
-appends_as slots id me st r m is made = subst (λ (v : View). Allows AllAgree slots id (v, me.1) 0 (λ n. n) (AppendsCall st r m (step slots 0 0 0 none) (v, me.1))) (sym is) (appends slots id me.0.seat me.0.receipts (log_in_view me.0) me.1 st r m made)
+pub appends_as : (slots id : ℕ) (me : Me ℕ View) (st : what.Step) (r : Reply) (m : CallId) → IsJointView me.0 → m.seat ≡ me.0.seat → Allows ViewsAgree slots id me 0 (λ n. n) (AppendsCall st r m (step slots 0 0 0 none) me)
+appends_as slots id me st r m is made = subst (λ (v : View). Allows ViewsAgree slots id (v, me.1) 0 (λ n. n) (AppendsCall st r m (step slots 0 0 0 none) (v, me.1))) (sym is) (appends slots id me.0.seat me.0.receipts (log_in_view me.0) me.1 st r m made)
 
-pub checks_as : (slots id : ℕ) (me : Me ℕ View) → IsJointView me.0 → Allows AllAgree slots id me 0 (λ n. n) (ReceiptsAgree (step slots 0 0 0 none) me)
-checks_as slots id me is = subst (λ (v : View). Allows AllAgree slots id (v, me.1) 0 (λ n. n) (ReceiptsAgree (step slots 0 0 0 none) (v, me.1))) (sym is) (checks slots id me.0.seat me.0.receipts (log_in_view me.0) me.1)
+pub checks_as : (slots id : ℕ) (me : Me ℕ View) → IsJointView me.0 → Allows ViewsAgree slots id me 0 (λ n. n) (ReceiptsAgree (step slots 0 0 0 none) me)
+checks_as slots id me is = subst (λ (v : View). Allows ViewsAgree slots id (v, me.1) 0 (λ n. n) (ReceiptsAgree (step slots 0 0 0 none) (v, me.1))) (sym is) (checks slots id me.0.seat me.0.receipts (log_in_view me.0) me.1)
 
-pub parts_as : (id : ℕ) (v : View) → IsJointView v → Splits AllAgree id v (seat_part v) (trace_part v)
-parts_as id v is = subst (λ (w : View). Splits AllAgree id w (seat_part w) (trace_part w)) (sym is) (parts id v.seat v.receipts (log_in_view v))
+pub parts_as : (id : ℕ) (v : View) → IsJointView v → Splits ViewsAgree id v (seat_part v) (trace_part v)
+parts_as id v is = subst (λ (w : View). Splits ViewsAgree id w (seat_part w) (trace_part w)) (sym is) (parts id v.seat v.receipts (log_in_view v))
 
-pub deals_as : (id n : ℕ) (v : View) → v ≡ minting_view n → Splits AllAgree id v (one_more_minted v) (minted_seat v)
-deals_as id n v is = subst (λ (w : View). Splits AllAgree id w (one_more_minted w) (minted_seat w)) (sym is) (is_minting id n)
+pub deals_as : (id n : ℕ) (v : View) → v ≡ minting_view n → Splits ViewsAgree id v (one_more_minted v) (minted_seat v)
+deals_as id n v is = subst (λ (w : View). Splits ViewsAgree id w (one_more_minted w) (minted_seat w)) (sym is) (is_minting id n)
 
 -- what is joined, appended to and cut apart
 pub joined_is : (v w : View) → IsSeatView v → IsTraceView w → IsJointView (join_views v w)
@@ -196,7 +196,7 @@ same_seat v w has_seat keep = subst (λ (y : View × View). seat_part (join_view
 pub same_book : (v w : View) → IsSeatView v → IsTraceView w → trace_part (join_views v w) ≡ w
 same_book v w has_seat keep = subst (λ (y : View × View). trace_part (join_views y.0 y.1) ≡ y.1) (λ i. (sym has_seat i, sym keep i)) refl
 
-pub settles : (slots id n : ℕ) (state : List (ℕ × ℕ)) → Allows AllAgree slots id (minting_view n, state) 0 (λ k. k) (EndsMinting (step slots 0 0 0 none) (minting_view n, state))
+pub settles : (slots id n : ℕ) (state : List (ℕ × ℕ)) → Allows ViewsAgree slots id (minting_view n, state) 0 (λ k. k) (EndsMinting (step slots 0 0 0 none) (minting_view n, state))
 settles slots id n state s h long at fits =
     let w = trace_view (log_in_view (minting_view n)) in
     let receipts = h.each id (minting_view n) at in
@@ -217,5 +217,5 @@ settles slots id n state s h long at fits =
       refl,
     )
 
-pub settles_as : (slots id n : ℕ) (me : Me ℕ View) → me.0 ≡ minting_view n → Allows AllAgree slots id me 0 (λ k. k) (EndsMinting (step slots 0 0 0 none) me)
-settles_as slots id n me is = subst (λ (v : View). Allows AllAgree slots id (v, me.1) 0 (λ k. k) (EndsMinting (step slots 0 0 0 none) (v, me.1))) (sym is) (settles slots id n me.1)
+pub settles_as : (slots id n : ℕ) (me : Me ℕ View) → me.0 ≡ minting_view n → Allows ViewsAgree slots id me 0 (λ k. k) (EndsMinting (step slots 0 0 0 none) me)
+settles_as slots id n me is = subst (λ (v : View). Allows ViewsAgree slots id (v, me.1) 0 (λ k. k) (EndsMinting (step slots 0 0 0 none) (v, me.1))) (sym is) (settles slots id n me.1)

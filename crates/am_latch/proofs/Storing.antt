@@ -23,13 +23,13 @@ use Rattle.am_sound.specs.StoreState.{Active, StoreState, MayAnswer, IsFit, stat
 use Rattle.am_sound.proofs.Actives.{kept_number}
 use Rattle.am_core.specs.Standing.{IsSoundAt, Extends, IsWithin}
 use Rattle.am_latch.specs.declared.change.Change.TheVariants.{Ends, Nothing}
-use Rattle.am_latch.specs.Changes.{change, end_of, room_of, count_rows, moves_in, has, without_number, active_with, active_from, numbers_active, HasTrace, MayFollow, IsBoundedReply, TakesStep}
+use Rattle.am_latch.specs.Changes.{change, end_of, room_of, count_rows, moves_in, has, without_number, numbers_with, active_from, numbers_active, HasTrace, MayFollow, IsBoundedReply, TakesStep}
 use Rattle.am_latch.proofs.Replies.{why_refused, did_nothing}
 use Rattle.am_latch.proofs.Fitting.{fits_formed}
 
-pub active_from-snoc : (ts : List ℕ) (h : Trace) (p : Step × Reply) → active_from ts (h ++ p ∷ []) ≡ active_with (active_from ts h) (change p.0 p.1)
+pub active_from-snoc : (ts : List ℕ) (h : Trace) (p : Step × Reply) → active_from ts (h ++ p ∷ []) ≡ numbers_with (active_from ts h) (change p.0 p.1)
 active_from-snoc ts [] p = refl
-active_from-snoc ts (q ∷ qs) p = active_from-snoc (active_with ts (change q.0 q.1)) qs p
+active_from-snoc ts (q ∷ qs) p = active_from-snoc (numbers_with ts (change q.0 q.1)) qs p
 
 -- ---- the numbers of the active transactions
 
@@ -56,7 +56,7 @@ ended_numbers : (t : ℕ) (xs : List Active) → map (λ (x : Active). x.number)
 ended_numbers t [] = refl
 ended_numbers t (x ∷ xs) = kept_numbers (not (x.number == t)) x (without_tx t xs) _ (ended_numbers t xs)
 
-numbers_after : (p : StoreState) (st : Step) (r : Reply) → numbers_active (state_after p st r) ≡ active_with (numbers_active p) (change st r)
+numbers_after : (p : StoreState) (st : Step) (r : Reply) → numbers_active (state_after p st r) ≡ numbers_with (numbers_active p) (change st r)
 numbers_after p Begin (Begun t) = map-append (λ (x : Active). x.number) p.active (newcomer t ∷ [])
 numbers_after p Begin Done = refl
 numbers_after p Begin (Found v) = refl
@@ -502,7 +502,7 @@ is_bounded_by h st r p stands within =
 
 pub goes : (h : Trace) (p p' : StoreState) (st : Step) (r : Reply) → HasTrace h p → IsFit p → MayAnswer p st r → p' ≡ state_after p st r → ((why : Refusal) → r ≡ Refused why → p' ≡ p) → Extends p ((st, r) ∷ []) p' → TakesStep h st r p'
 goes h p p' st r has fit may step same on = record {
-  here = record { stands = on.on h has.stands.at; active = ap numbers_active step ∙ numbers_after p st r ∙ ap (λ ts. active_with ts (change st r)) has.active ∙ sym (active_from-snoc [] h (st, r)) };
+  here = record { stands = on.on h has.stands.at; active = ap numbers_active step ∙ numbers_after p st r ∙ ap (λ ts. numbers_with ts (change st r)) has.active ∙ sym (active_from-snoc [] h (st, r)) };
   refused = λ no. let w = why_refused r no in subst (HasTrace h) (sym (same w.0 w.1)) has;
   answers = subst (λ (ts : List ℕ). MayFollow ts st r) has.active (answers_of p st r fit may);
 }

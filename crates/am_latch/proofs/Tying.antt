@@ -8,7 +8,7 @@ use Rattle.am_record.specs.declared.step.Step.TheVariants.{Begin, Do, Commit, Ab
 use Rattle.am_record.specs.declared.step.Reply.{Reply}
 use Rattle.am_latch.specs.declared.change.Change.{Change}
 use Rattle.am_latch.specs.declared.change.Change.TheVariants.{Begins, Ends, Nothing}
-use Rattle.am_latch.specs.Changes.{change, end_of, active_with, active_in_trace, has, without_number, open_after, MayFollow}
+use Rattle.am_latch.specs.Changes.{change, end_of, numbers_with, active_in_trace, has, without_number, open_after, MayFollow}
 use Rattle.am_latch.specs.declared.receipt.Receipt.{Receipt}
 use Rattle.am_latch.specs.declared.receipt.CallId.{CallId}
 use Rattle.am_latch.specs.Traces.{CallLog, log_with}
@@ -95,7 +95,7 @@ tied_same o p ts h same = record {
   owned = λ u e. let w = h.owned u e in (w.0, same w.0 ∙ w.1);
 }
 
-tied_by : (o p : ℕ → Option ℕ) (ts : List ℕ) (s : ℕ) (e : Change) → AreTied o ts → p s ≡ open_after (o s) e → ((k : ℕ) → k ≢ s → p k ≡ o k) → ((t : ℕ) → e ≡ Begins t → (o s ≡ None) × (has t ts ≡ false)) → ((t : ℕ) → e ≡ Ends t → o s ≡ Some t) → AreTied p (active_with ts e)
+tied_by : (o p : ℕ → Option ℕ) (ts : List ℕ) (s : ℕ) (e : Change) → AreTied o ts → p s ≡ open_after (o s) e → ((k : ℕ) → k ≢ s → p k ≡ o k) → ((t : ℕ) → e ≡ Begins t → (o s ≡ None) × (has t ts ≡ false)) → ((t : ℕ) → e ≡ Ends t → o s ≡ Some t) → AreTied p (numbers_with ts e)
 tied_by o p ts s (Begins t) h receipts others begin end = let b = begin t refl in tied_begin o p ts s t h receipts others b.0 b.1
 tied_by o p ts s (Ends t) h receipts others begin end = tied_end o p ts s t h receipts others (end t refl)
 tied_by o p ts s Nothing h receipts others begin end = tied_same o p ts h (λ k. same_or k s (λ x. ap p x ∙ receipts ∙ ap o (sym x)) (others k))

@@ -67,14 +67,14 @@ abbrev pub without_number : ℕ → List ℕ → List ℕ
 without_number t ts = filter (λ (u : ℕ). not (u == t)) ts
 
 -- the active transactions after that
-abbrev pub active_with : List ℕ → Change → List ℕ
-active_with ts (Begins t) = ts ++ t ∷ []
-active_with ts (Ends t) = without_number t ts
-active_with ts Nothing = ts
+abbrev pub numbers_with : List ℕ → Change → List ℕ
+numbers_with ts (Begins t) = ts ++ t ∷ []
+numbers_with ts (Ends t) = without_number t ts
+numbers_with ts Nothing = ts
 
 abbrev pub active_from : List ℕ → Trace → List ℕ
 active_from ts [] = ts
-active_from ts (e ∷ trace) = active_from (active_with ts (change e.0 e.1)) trace
+active_from ts (e ∷ trace) = active_from (numbers_with ts (change e.0 e.1)) trace
 
 abbrev pub active_in_trace : Trace → List ℕ
 active_in_trace trace = active_from [] trace

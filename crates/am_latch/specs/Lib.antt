@@ -1,7 +1,9 @@
 pub mod Views
 pub mod Changes
+pub mod EngineFields
 pub mod Faults
 pub mod Receipts
 pub mod Tables
 pub mod Ties
+pub mod Fields
 pub mod Traces

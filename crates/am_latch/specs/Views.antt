@@ -125,7 +125,7 @@ pub record IsViewOf (holder : ℕ) (e : CallLog) (count by : ℕ) (v : View) : T
   pub numbered : v.has_seat ≡ true → by ≡ suc v.seat
   pub receipts : v.has_seat ≡ true → v.receipts ≡ receipts_of v.seat e
 
-pub record AllAgree (s : State ℕ View) : Type 0 where
+pub record ViewsAgree (s : State ℕ View) : Type 0 where
   pub holder : ℕ
   pub log : CallLog
   pub even : length log.calls ≡ length log.trace

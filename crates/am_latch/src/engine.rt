@@ -33,9 +33,8 @@ pub struct Engine {
 }
 
 impl Model for Engine {
-    ghost use Rattle.std.specs.Prelude.{◌≡◌, ◌≤◌, ◌+◌, length, vec_len, vec_capacity};
-    ghost use Rattle.am_latch.specs.Changes.{active_in_trace, HasTrace};
     ghost use Rattle.am_latch.specs.Traces.{call_log_code, CallLog};
+    ghost use Rattle.am_latch.specs.EngineFields.{IsEngine};
 
     ghost Value = { CallLog };
 
@@ -43,9 +42,7 @@ impl Model for Engine {
 
     ghost view = { λ e. record { trace = e.trace.items; calls = e.calls.items } };
 
-    ghost invariant = { λ e. HasTrace e.trace.items e.store × (vec_len e.calls ≡ vec_len e.trace) ×
-        (length (active_in_trace e.trace.items) ≤ e.ends) × (vec_len e.trace + e.ends ≤ vec_capacity e.trace) ×
-        (vec_len e.calls + e.ends ≤ vec_capacity e.calls) };
+    ghost invariant = { IsEngine };
 }
 
 impl Engine {

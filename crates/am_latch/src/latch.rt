@@ -40,16 +40,14 @@ pub struct Blank {
 }
 
 impl Model for Blank {
-    ghost use Rattle.std.specs.Prelude.{◌≡◌, ◌<◌, []};
+    ghost use Rattle.am_latch.specs.Fields.{IsBlank};
     ghost use Rattle.am_latch.specs.Tables.{BlankParts};
-    ghost use Rattle.am_latch.specs.Views.{minting_view};
 
     ghost Value = { BlankParts };
 
     ghost view = { λ b. record { table = b.table.shared.table_id; seats = b.seats } };
 
-    ghost invariant = { λ b. (0 < b.seats) × (b.seats < 1025) × (0 < b.table.shared.table_id.words) ×
-        (b.trace_token.table_id ≡ b.table.shared.table_id) × (b.trace_token.me ≡ (minting_view 0, [])) };
+    ghost invariant = { IsBlank };
 }
 
 impl Blank {

@@ -41,10 +41,8 @@ pub struct Seat<L: LatchName> {
 }
 
 impl<L: LatchName> Model for Seat<L> {
-    ghost use Rattle.std.specs.Prelude.{◌≡◌, ◌<◌, ◌≤◌, ◌*◌, [], vec_len, vec_capacity};
-    ghost use Rattle.am_latch.specs.Receipts.{seat_state_code, SeatState, seat_state, moved_in};
-    ghost use Rattle.am_latch.specs.Ties.{open_of, HasRoom};
-    ghost use Rattle.am_latch.specs.Views.{seat_view};
+    ghost use Rattle.am_latch.specs.Fields.{IsSeat};
+    ghost use Rattle.am_latch.specs.Receipts.{seat_state_code, SeatState, seat_state};
 
     ghost Value = { SeatState };
 
@@ -52,10 +50,7 @@ impl<L: LatchName> Model for Seat<L> {
 
     ghost view = { λ s. seat_state s.number s.receipts.items };
 
-    ghost invariant = { λ s. (s.token.table_id ≡ L.table) × (s.token.me ≡ (seat_view s.number s.receipts.items, [])) ×
-        (s.number < L.seats) × (s.open_now ≡ open_of s.receipts.items) ×
-        HasRoom s.open_now (vec_len s.receipts) (vec_capacity s.receipts) × (s.moved ≡ moved_in s.receipts.items) ×
-        (s.moved ≤ 64 * vec_len s.receipts) };
+    ghost invariant = { IsSeat L.table L.seats };
 }
 
 impl<L: LatchName> Seat<L> {

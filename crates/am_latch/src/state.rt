@@ -30,10 +30,8 @@ pub(crate) struct LatchState<L: LatchName> {
 }
 
 impl<L: LatchName> Model for LatchState<L> {
-    ghost use Rattle.std.specs.Prelude.{◌≡◌, [], ◌∷◌};
-    ghost use Rattle.am_latch.specs.Traces.{call_log_code, CallLog, AreMadeBelow};
-    ghost use Rattle.am_latch.specs.Ties.{IsTied};
-    ghost use Rattle.am_latch.specs.Views.{trace_view};
+    ghost use Rattle.am_latch.specs.Traces.{call_log_code, CallLog};
+    ghost use Rattle.am_latch.specs.Fields.{IsLatchState};
 
     ghost Value = { CallLog };
 
@@ -41,8 +39,7 @@ impl<L: LatchName> Model for LatchState<L> {
 
     ghost view = { λ h. h.engine };
 
-    ghost invariant = { λ h. (h.trace_token.table_id ≡ L.table) × (h.trace_token.views ≡ trace_view h.engine ∷ []) ×
-        AreMadeBelow L.seats h.engine.calls × IsTied h.engine };
+    ghost invariant = { IsLatchState L.table L.seats };
 }
 
 impl<L: LatchName> LatchState<L> {

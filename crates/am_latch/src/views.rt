@@ -24,9 +24,9 @@ pub struct View {
 pub struct AgreeingViews;
 
 impl TableRule<u8, View, ()> for AgreeingViews {
-    ghost use Rattle.am_latch.specs.Views.{AllAgree, minting_view};
+    ghost use Rattle.am_latch.specs.Views.{ViewsAgree, minting_view};
 
-    ghost holds = { λ _. AllAgree };
+    ghost holds = { λ _. ViewsAgree };
 
     ghost first = { λ _. minting_view 0 };
 }

@@ -1,7 +1,7 @@
 use Rattle.std.proofs.Common.{arith, ◌≡◌, ℕ, length, List, [], ◌∷◌, ◌++◌, vec_len, vec_capacity, ap, sym, subst, ◌∙◌}
 use Rattle.am_record.specs.declared.step.Step.{Step}
 use Rattle.am_serial.specs.Trace.{Trace}
-use Rattle.am_latch.specs.Changes.{active_in_trace, change, active_with, HasTrace}
+use Rattle.am_latch.specs.Changes.{active_in_trace, change, numbers_with, HasTrace}
 use Rattle.am_latch.specs.Traces.{ends_after}
 use Rattle.am_latch.proofs.Rooms.{room_step}
 use Rattle.am_latch.proofs.Storing.{active_from-snoc}
@@ -9,18 +9,18 @@ use Rattle.am_latch.proofs.engine.Engine.step.Goals as goal
 
 pub push_reserved-requires : goal.push_reserved-requires
 push_reserved-requires c =
-    let g = c.take_step-reply.ensures.goes c.self.inside.trace.items c.self.invariant.0 in
+    let g = c.take_step-reply.ensures.goes c.self.inside.trace.items c.self.invariant.trace in
     let room = c.get_room-has_room in
     let i = c.self.invariant in
-    (room_step _ c.args.step c.take_step-reply.result _ _ _ _ _ g.answers record { enough = i.2; fits = omega (arith, i.3, room.ensures.long.0, room.ensures.kept.0) } c.pairs_for-more.ensures
+    (room_step _ c.args.step c.take_step-reply.result _ _ _ _ _ g.answers record { enough = i.ends; fits = omega (arith, i.trace_room, room.ensures.long.0, room.ensures.kept.0) } c.pairs_for-more.ensures
     (λ e. (room.ensures.got e).1) (λ e. (c.may_go_on.ensures.yes c.if-not-may_go_on.false e, c.is_kept.ensures.real c.if-not-is_kept.false e))).0
 
 pub push_reserved-requires-2 : goal.push_reserved-requires-2
 push_reserved-requires-2 c =
-    let g = c.take_step-reply.ensures.goes c.self.inside.trace.items c.self.invariant.0 in
+    let g = c.take_step-reply.ensures.goes c.self.inside.trace.items c.self.invariant.trace in
     let room = c.get_room-has_room in
     let i = c.self.invariant in
-    (room_step _ c.args.step c.take_step-reply.result _ _ _ _ _ g.answers record { enough = i.2; fits = omega (arith, i.4, room.ensures.long.1, room.ensures.kept.1) } c.pairs_for-more.ensures
+    (room_step _ c.args.step c.take_step-reply.result _ _ _ _ _ g.answers record { enough = i.ends; fits = omega (arith, i.calls_room, room.ensures.long.1, room.ensures.kept.1) } c.pairs_for-more.ensures
     (λ e. (room.ensures.got e).2) (λ e. (c.may_go_on.ensures.yes c.if-not-may_go_on.false e, c.is_kept.ensures.real c.if-not-is_kept.false e))).0
 
 pub invariant_of-self-2 : goal.invariant_of-self-2
@@ -28,22 +28,22 @@ invariant_of-self-2 c =
     let old = c.self.inside.trace.items in
     let st = c.args.step in
     let r = c.take_step-reply.result in
-    let g = c.take_step-reply.ensures.goes old c.self.invariant.0 in
+    let g = c.take_step-reply.ensures.goes old c.self.invariant.trace in
     let room = c.get_room-has_room in
     let i = c.self.invariant in
     let copies = c.in-Some.ensures.copies in
     let pushed : c.push_reserved.new.self.items ≡ old ++ (st, r) ∷ [] = c.push_reserved.ensures.items ∙ (λ j. room.ensures.same.0 j ++ (copies.0 j, c.copy_reply.ensures j) ∷ []) in
     let ends : c.count_ends-self-inside.result ≡ ends_after c.self.inside.ends (change st r) = c.count_ends-self-inside.ensures ∙ ap (ends_after c.self.inside.ends) (c.change_by.ensures ∙ ap (λ (s : Step). change s r) copies.0) in
-    let now : active_in_trace c.push_reserved.new.self.items ≡ active_with (active_in_trace old) (change st r) = ap active_in_trace pushed ∙ active_from-snoc [] old (st, r) in
-    let a = (room_step (active_in_trace old) st r c.self.inside.ends c.pairs_for-more.result (vec_len room.new.trace) (vec_capacity room.new.trace) room.result g.answers record { enough = i.2; fits = omega (arith, i.3, room.ensures.long.0, room.ensures.kept.0) } c.pairs_for-more.ensures
+    let now : active_in_trace c.push_reserved.new.self.items ≡ numbers_with (active_in_trace old) (change st r) = ap active_in_trace pushed ∙ active_from-snoc [] old (st, r) in
+    let a = (room_step (active_in_trace old) st r c.self.inside.ends c.pairs_for-more.result (vec_len room.new.trace) (vec_capacity room.new.trace) room.result g.answers record { enough = i.ends; fits = omega (arith, i.trace_room, room.ensures.long.0, room.ensures.kept.0) } c.pairs_for-more.ensures
     (λ e. (room.ensures.got e).1) (λ e. (c.may_go_on.ensures.yes c.if-not-may_go_on.false e, c.is_kept.ensures.real c.if-not-is_kept.false e))).1 in
-    let b = (room_step (active_in_trace old) st r c.self.inside.ends c.pairs_for-more.result (vec_len room.new.calls) (vec_capacity room.new.calls) room.result g.answers record { enough = i.2; fits = omega (arith, i.4, room.ensures.long.1, room.ensures.kept.1) } c.pairs_for-more.ensures
+    let b = (room_step (active_in_trace old) st r c.self.inside.ends c.pairs_for-more.result (vec_len room.new.calls) (vec_capacity room.new.calls) room.result g.answers record { enough = i.ends; fits = omega (arith, i.calls_room, room.ensures.long.1, room.ensures.kept.1) } c.pairs_for-more.ensures
     (λ e. (room.ensures.got e).2) (λ e. (c.may_go_on.ensures.yes c.if-not-may_go_on.false e, c.is_kept.ensures.real c.if-not-is_kept.false e))).1 in
     let p = c.push_reserved.ensures in
-    let q = c.push_reserved-2.ensures in (
-      subst (λ (h : Trace). HasTrace h c.take_step-reply.new.store) (sym pushed) g.here,
-      omega (arith, p.len, q.len, room.ensures.long.0, room.ensures.long.1, i.1),
-      omega (arith, a.enough, ap (λ (l : List ℕ). length l) now, ends),
-      omega (arith, a.fits, ends, p.len, p.capacity),
-      omega (arith, b.fits, ends, q.len, q.capacity),
-    )
+    let q = c.push_reserved-2.ensures in record {
+      trace = subst (λ (h : Trace). HasTrace h c.take_step-reply.new.store) (sym pushed) g.here;
+      even = omega (arith, p.len, q.len, room.ensures.long.0, room.ensures.long.1, i.even);
+      ends = omega (arith, a.enough, ap (λ (l : List ℕ). length l) now, ends);
+      trace_room = omega (arith, a.fits, ends, p.len, p.capacity);
+      calls_room = omega (arith, b.fits, ends, q.len, q.capacity);
+    }
