@@ -1,15 +1,15 @@
 //! How the program ends.
 
 ghost use Rattle.std.specs.Prelude.{◌≡◌};
-ghost use Rattle.am_alone.specs.Endings.{status_of, words_of};
+ghost use Rattle.am_alone.specs.Endings.{ending_status, ending_words};
 
 use am_session::End;
 
 /// The program's status, and what it says on standard error, by how its session ended. The text is empty where there is
 /// nothing to say.
 pub fn ending(end: &End) -> (u8, &'static str)
-    ensures status { result.0 ≡ status_of end.now }
-    ensures text { result.1.now ≡ words_of end.now }
+    ensures status { result.0 ≡ ending_status end.now }
+    ensures text { result.1.now ≡ ending_words end.now }
 {
     match end {
         End::Quit | End::EndOfInput => (0, ""),

@@ -7,7 +7,8 @@ use Rattle.am_record.specs.Plain.{fresh}
 use Rattle.std.proofs.lemmas.List.{take_more}
 use Rattle.am_record.specs.declared.step.Step.{Step}
 use Rattle.am_record.specs.declared.step.Reply.{Reply}
-use Rattle.am_serial.specs.Trace.{Trace, Event, effects, committers}
+use Rattle.am_record.specs.Events.{Event}
+use Rattle.am_serial.specs.Trace.{Trace, effects, committers}
 use Rattle.am_serial.specs.Formed.{IsFormed, FormedLaws}
 use Rattle.am_serial.specs.Legal.{IsLegal}
 use Rattle.am_serial.specs.Machine.{State, start, after_run}

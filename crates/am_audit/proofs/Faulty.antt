@@ -12,7 +12,8 @@ use Rattle.am_record.specs.declared.step.Step.TheVariants.{Begin, Do, Commit, Ab
 use Rattle.am_record.specs.declared.step.Reply.{Reply}
 use Rattle.am_record.specs.declared.step.Reply.TheVariants.{Refused}
 use Rattle.am_record.proofs.Lists.{heads, tails}
-use Rattle.am_serial.specs.Trace.{Trace, Event, Answered, Effect, Answers, Commits, answered_to, effect, effects, body, ops_of, replies_of, committed, IsSerial, IsAnsweredAlone}
+use Rattle.am_record.specs.Events.{Event}
+use Rattle.am_serial.specs.Trace.{Trace, Answered, Effect, Answers, Commits, answered_to, effect, effects, body, ops_of, replies_of, committed, IsSerial, IsAnsweredAlone}
 use Rattle.am_serial.specs.Sound.{FormedAt, BusyRightAt}
 use Rattle.am_serial.specs.Formed.{IsFormed, IsNextInOrder, FormedLaws}
 use Rattle.am_audit.specs.declared.fault.FaultKind.{FaultKind}

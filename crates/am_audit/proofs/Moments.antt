@@ -3,7 +3,8 @@ use Rattle.std.proofs.Common.{List, [], ◌∷◌, ◌++◌, sym, subst, append_
 use Rattle.std.proofs.lemmas.List.{append-nil}
 use Rattle.am_record.specs.declared.step.Step.{Step}
 use Rattle.am_record.specs.declared.step.Reply.{Reply}
-use Rattle.am_serial.specs.Trace.{Trace, Event, Effect, effect, effects, AtEachMoment}
+use Rattle.am_record.specs.Events.{Event}
+use Rattle.am_serial.specs.Trace.{Trace, Effect, effect, effects, AtEachMoment}
 use Rattle.am_serial.specs.Sound.{EachEvent}
 
 module _ (P : List Effect → Step → Reply → Type 0) where

@@ -12,7 +12,8 @@ use Rattle.am_record.specs.declared.step.Step.{Step}
 use Rattle.am_record.specs.declared.step.Reply.{Reply}
 use Rattle.am_record.proofs.Lists.{AllByRecursion-map, AllByRecursion-push}
 use Rattle.am_locks.specs.Table.{with_locks, entered, without_owner as released}
-use Rattle.am_serial.specs.Trace.{Trace, Event, Answered, Effect, Begins, Answers, Commits, Aborts, Nothing, answered_to, effect, runs_made}
+use Rattle.am_record.specs.Events.{Event}
+use Rattle.am_serial.specs.Trace.{Trace, Answered, Effect, Begins, Answers, Commits, Aborts, Nothing, answered_to, effect, runs_made}
 use Rattle.am_serial.specs.Machine.{State, Transaction, start, after_run, is_open, locks_in, view, extended, without_transaction, next}
 use Rattle.am_serial.proofs.Runs.{after_run-push}
 use Rattle.am_audit.specs.declared.checker.Checker.{Checker}

@@ -8,7 +8,8 @@ use Rattle.am_record.specs.declared.step.Step.{Step}
 use Rattle.am_record.specs.declared.step.Step.TheVariants.{Do}
 use Rattle.am_record.specs.declared.step.Reply.{Reply}
 use Rattle.am_record.specs.declared.step.Reply.TheVariants.{Refused}
-use Rattle.am_serial.specs.Trace.{Trace, Event, Effect, Answers, Commits, effect, effects, body, ops_of, committed}
+use Rattle.am_record.specs.Events.{Event}
+use Rattle.am_serial.specs.Trace.{Trace, Effect, Answers, Commits, effect, effects, body, ops_of, committed}
 use Rattle.am_serial.specs.Trace.{IsAnsweredAlone}
 use Rattle.am_serial.specs.Machine.{state_at, due_early}
 use Rattle.am_serial.specs.Sound.{FormedAt, BusyRightAt}

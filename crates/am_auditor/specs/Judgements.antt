@@ -32,19 +32,20 @@ judgement_line (Bad line) = codes "BAD " ++ decimal line ++ codes "\n"
 judgement_line NoFile = codes "NO FILE\n"
 judgement_line NoMemory = codes "NO MEMORY\n"
 
-abbrev pub status_of : Judgement → ℕ
-status_of (Legal commits) = 0
-status_of (Wrong line kind) = 1
-status_of (Bad line) = 3
-status_of NoFile = 4
-status_of NoMemory = 5
+abbrev pub judgement_status : Judgement → ℕ
+judgement_status (Legal commits) = 0
+judgement_status (Wrong line kind) = 1
+judgement_status (Bad line) = 3
+judgement_status NoFile = 4
+judgement_status NoMemory = 5
 
 -- a true judgement of the text was said, and this is its status
-pub record IsSaid {S : Type 0} (holds : S → Option (List ℕ)) (text : List ℕ) (old new : S) (status : ℕ) : Type 0 where
+pub record SaysJudgement {S : Type 0} (holds : S → Option (List ℕ)) (text : List ℕ) (old new : S)
+    (status : ℕ) : Type 0 where
   pub judgement : Judgement
   pub true_of : IsTrueOf text judgement
   pub said : Gave holds old (judgement_line judgement) new
-  pub status_is : status ≡ status_of judgement
+  pub status_is : status ≡ judgement_status judgement
 
 -- a beginning of the line that says a true judgement of the text went out
 pub record IsBegun {S : Type 0} (holds : S → Option (List ℕ)) (text : List ℕ) (old new : S) : Type 0 where

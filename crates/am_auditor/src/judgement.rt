@@ -2,7 +2,7 @@
 
 ghost use Rattle.std.specs.Prelude.{◌≡◌, ◌^◌, ◌<◌, ◌≤◌, ◌+◌, length, true, false, OnOk, OnErr, IfOk};
 ghost use Rattle.am_wire.specs.Giving.{Gave, GaveBeginning};
-ghost use Rattle.am_auditor.specs.Judgements.{IsTrueOf, IsSaid, IsBegun, judgement_line, status_of};
+ghost use Rattle.am_auditor.specs.Judgements.{IsTrueOf, SaysJudgement, IsBegun, judgement_line, judgement_status};
 
 use am_audit::{Audit, Fault, FaultKind};
 use am_trace::{ReadFault, read_header, read_line};
@@ -75,7 +75,7 @@ fn line(judgement: &Judgement) -> Text
 
 // The program's status.
 fn status(judgement: &Judgement) -> u8
-    ensures { result ≡ status_of judgement.now }
+    ensures { result ≡ judgement_status judgement.now }
 {
     match judgement {
         Judgement::Legal(_) => 0,
@@ -92,7 +92,7 @@ fn status(judgement: &Judgement) -> u8
 /// Failed, where the sink failed once; a beginning of the line went out.
 pub fn say<K: Sink>(judgement: &Judgement, sink: &mut K) -> Result<u8, Failed>
     requires countable { K.failures sink.old + 1 < 2 ^ 63 }
-    ensures status { IfOk result (λ status. status ≡ status_of judgement.now) }
+    ensures status { IfOk result (λ status. status ≡ judgement_status judgement.now) }
     ensures said { OnOk result (Gave K.holds sink.old (judgement_line judgement.now) sink.new) }
     ensures sent { OnOk result (K.pending sink.new ≡ false) }
     ensures ok { OnOk result (K.failures sink.new ≡ K.failures sink.old) }
@@ -110,7 +110,7 @@ pub fn say<K: Sink>(judgement: &Judgement, sink: &mut K) -> Result<u8, Failed>
 /// Failed, where the sink failed once; a beginning of the line went out.
 pub fn judge<K: Sink>(alloc: Global, text: &[u8], sink: &mut K) -> Result<u8, Failed>
     requires countable { K.failures sink.old + 1 < 2 ^ 63 }
-    ensures judged { IfOk result (IsSaid K.holds text.now sink.old sink.new) }
+    ensures judged { IfOk result (SaysJudgement K.holds text.now sink.old sink.new) }
     ensures sent { OnOk result (K.pending sink.new ≡ false) }
     ensures ok { OnOk result (K.failures sink.new ≡ K.failures sink.old) }
     ensures failed { OnErr result (K.failures sink.new ≡ K.failures sink.old + 1) }

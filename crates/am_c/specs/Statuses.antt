@@ -47,23 +47,23 @@ refusal_status BadLimit = is.BadLimit
 refusal_status NoMemory = is.NoMemory
 refusal_status SeatFull = is.SeatFull
 
-abbrev pub status_of : Reply → Status
-status_of (Begun t) = is.Fine
-status_of Done = is.Fine
-status_of (Found v) = is.Fine
-status_of Absent = is.Absent
-status_of (Rows rows) = is.Fine
-status_of (Exists k) = is.Exists
-status_of Missing = is.Absent
-status_of (Committed n) = is.Fine
-status_of Aborted = is.Fine
-status_of (Moved n run) = is.Fine
-status_of MergeDone = is.Done
-status_of (Ended k t) = is.Ended
-status_of Idle = is.Idle
-status_of (Cleaned n) = is.Fine
-status_of NoMark = is.NoMark
-status_of (Refused why) = refusal_status why
+abbrev pub reply_status : Reply → Status
+reply_status (Begun t) = is.Fine
+reply_status Done = is.Fine
+reply_status (Found v) = is.Fine
+reply_status Absent = is.Absent
+reply_status (Rows rows) = is.Fine
+reply_status (Exists k) = is.Exists
+reply_status Missing = is.Absent
+reply_status (Committed n) = is.Fine
+reply_status Aborted = is.Fine
+reply_status (Moved n run) = is.Fine
+reply_status MergeDone = is.Done
+reply_status (Ended k t) = is.Ended
+reply_status Idle = is.Idle
+reply_status (Cleaned n) = is.Fine
+reply_status NoMark = is.NoMark
+reply_status (Refused why) = refusal_status why
 
 -- the transaction that is in the way
 abbrev pub refusal_number : Refusal → ℕ

@@ -10,7 +10,7 @@ use Rattle.am_core.specs.Memory.{may_want_memory}
 use Rattle.am_core.specs.Standing.{IsSoundAt, Extends, IsWithin}
 use Rattle.am_c.specs.declared.status.Status.{Status}
 use Rattle.am_c.specs.declared.status.Status.TheVariants.{Fine, NoStore, IsOpen, NoMemory}
-use Rattle.am_c.specs.Statuses.{code, status_of, number_of}
+use Rattle.am_c.specs.Statuses.{code, reply_status, number_of}
 
 -- the store took the step, and replied: each clause is one of the store's
 pub record Takes (old : StoreState) (step : Step) (reply : Reply) (new : StoreState) : Type 0 where
@@ -21,7 +21,7 @@ pub record Takes (old : StoreState) (step : Step) (reply : Reply) (new : StoreSt
   pub memory : reply ≡ Refused OutOfMemory → may_want_memory old step ≡ true
   pub within : IsWithin step reply
 
-pub record Took (old : StoreState) (step : Step) (answer : Result Reply Status)
+pub record RepliesToStep (old : StoreState) (step : Step) (answer : Result Reply Status)
     (held : Option StoreState) : Type 0 where
   pub reply : Reply
   pub new : StoreState
@@ -33,11 +33,11 @@ pub record Took (old : StoreState) (step : Step) (answer : Result Reply Status)
 abbrev pub Answers : Option StoreState → Result Step Status → Result Reply Status → Option StoreState → Type 0
 Answers None asked answer held = (answer ≡ Err NoStore) × (held ≡ None)
 Answers (Some p) (Err why) answer held = (answer ≡ Err why) × (held ≡ Some p)
-Answers (Some p) (Ok step) answer held = Took p step answer held
+Answers (Some p) (Ok step) answer held = RepliesToStep p step answer held
 
 -- what C is told of the answer
 abbrev pub status : Result Reply Status → ℕ
-status (Ok reply) = code (status_of reply)
+status (Ok reply) = code (reply_status reply)
 status (Err why) = code why
 
 abbrev pub number : Result Reply Status → ℕ

@@ -12,7 +12,7 @@ use Rattle.am_sound.specs.StoreState.{StoreState}
 use Rattle.am_record.specs.declared.step.Step.{Step}
 use Rattle.am_c.specs.Asking.{IsLoadAsked}
 use Rattle.am_c.specs.Taking.{Tells, number}
-use Rattle.am_c.specs.Texts.{key_text, value_text, record_text}
+use Rattle.am_c.specs.Texts.{key_text, value_text, record_as_text}
 
 -- the value that was found, or what was there
 abbrev pub value_told : Result Reply Status → ValueText → ValueText
@@ -26,7 +26,7 @@ key_told answer old = old
 
 -- the first rows are written over, and the others stay
 abbrev pub rows_over : List (OrderedKey × List ℕ) → List Record → List Record
-rows_over rows old = map record_text rows ++ drop (length rows) old
+rows_over rows old = map record_as_text rows ++ drop (length rows) old
 
 -- the rows, or the first ones of them without a record of that key at their head
 abbrev pub all : List (OrderedKey × List ℕ) → List (OrderedKey × List ℕ)

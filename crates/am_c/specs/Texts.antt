@@ -36,14 +36,14 @@ pair_given r =
     (Err BadKey)
 
 -- bytes with zeros behind them
-abbrev pub padded : ℕ → List ℕ → List ℕ
-padded room bytes = bytes ++ replicate (room - length bytes) 0
+abbrev pub zero_filled : ℕ → List ℕ → List ℕ
+zero_filled room bytes = bytes ++ replicate (room - length bytes) 0
 
 abbrev pub key_text : OrderedKey → KeyText
-key_text k = record { len = length (bytes_of k); bytes = padded 32 (bytes_of k) }
+key_text k = record { len = length (bytes_of k); bytes = zero_filled 32 (bytes_of k) }
 
 abbrev pub value_text : List ℕ → ValueText
-value_text v = record { len = length v; bytes = padded 64 v }
+value_text v = record { len = length v; bytes = zero_filled 64 v }
 
-abbrev pub record_text : OrderedKey × List ℕ → Record
-record_text r = record { key = key_text r.0; value = value_text r.1 }
+abbrev pub record_as_text : OrderedKey × List ℕ → Record
+record_as_text r = record { key = key_text r.0; value = value_text r.1 }

@@ -1,7 +1,7 @@
 //! What a call answers C.
 
 ghost use Rattle.std.specs.Prelude.{◌≡◌};
-ghost use Rattle.am_c.specs.Statuses.{code, status_of, refusal_status, number_of};
+ghost use Rattle.am_c.specs.Statuses.{code, reply_status, refusal_status, number_of};
 
 use am_record::{Refusal, Reply};
 
@@ -70,7 +70,7 @@ impl Status {
 
 /// The status that tells of this reply.
 pub(crate) fn status_of(reply: &Reply) -> Status
-    ensures { result ≡ status_of reply.now }
+    ensures { result ≡ reply_status reply.now }
 {
     match reply {
         Reply::Begun(_) => Status::Fine,

@@ -1,8 +1,8 @@
 //! Keys, values and records as C holds them: their bytes, zeros behind them, and how many there are.
 
 ghost use Rattle.std.specs.Prelude.{◌≡◌, ◌≤◌, length};
-ghost use Rattle.am_c.specs.Texts.{key_given, value_given, range_given, pair_given, padded, key_text, value_text};
-ghost use Rattle.am_c.specs.Texts.{record_text};
+ghost use Rattle.am_c.specs.Texts.{key_given, value_given, range_given, pair_given, zero_filled, key_text, value_text};
+ghost use Rattle.am_c.specs.Texts.{record_as_text};
 
 use crate::status::Status;
 use am_record::{Key, MAX_KEY_LEN, MAX_VALUE_LEN, Range, Value};
@@ -65,7 +65,7 @@ pub(crate) fn range_given(lo: &[u8], hi: &[u8]) -> Result<Range, Status>
 
 fn key_bytes(text: &[u8]) -> [u8; 32]
     requires { length text.now ≤ 32 }
-    ensures { result ≡ padded 32 text.now }
+    ensures { result ≡ zero_filled 32 text.now }
 {
     let mut bytes = [0; 32];
     bytes[..text.len()].copy_from_slice(text);
@@ -74,7 +74,7 @@ fn key_bytes(text: &[u8]) -> [u8; 32]
 
 fn value_bytes(text: &[u8]) -> [u8; 64]
     requires { length text.now ≤ 64 }
-    ensures { result ≡ padded 64 text.now }
+    ensures { result ≡ zero_filled 64 text.now }
 {
     let mut bytes = [0; 64];
     bytes[..text.len()].copy_from_slice(text);
@@ -110,7 +110,7 @@ impl ValueText {
 impl Record {
     /// The record as C holds it.
     pub(crate) fn of(pair: &(Key, Value)) -> Record
-        ensures { result ≡ record_text pair.now }
+        ensures { result ≡ record_as_text pair.now }
     {
         Record {
             key: KeyText::of(&pair.0),

@@ -5,7 +5,7 @@ ghost use Rattle.am_record.specs.declared.step.Refusal.TheVariants.{NoMemory};
 ghost use Rattle.am_sound.specs.StoreState.{MayAnswer, state_after, IsFit};
 ghost use Rattle.am_core.specs.Memory.{may_want_memory};
 ghost use Rattle.am_core.specs.Standing.{KeepsContent};
-ghost use Rattle.am_core.specs.InnerState.{state_of};
+ghost use Rattle.am_core.specs.InnerState.{inner_state};
 
 use am_list::PartIndex;
 use am_merge::Wishes;
@@ -27,12 +27,12 @@ pub(crate) struct Inner<I: PartIndex + Drop> {
 impl<I: PartIndex + Drop> Inner<I> {
     #[inline(never)]
     pub(crate) fn step(&mut self, step: Step) -> Reply
-        requires fit { IsFit (state_of self.old) }
+        requires fit { IsFit (inner_state self.old) }
         requires few { self.old.commits + length self.old.txs.active ≤ 2 ^ 63 }
-        ensures says { MayAnswer (state_of self.old) step result }
-        ensures after { state_of self.new ≡ state_after (state_of self.old) step result }
-        ensures memory { result ≡ Reply.Refused NoMemory → may_want_memory (state_of self.old) step ≡ true }
-        ensures content { KeepsContent (state_of self.old) step (state_of self.new) }
+        ensures says { MayAnswer (inner_state self.old) step result }
+        ensures after { inner_state self.new ≡ state_after (inner_state self.old) step result }
+        ensures memory { result ≡ Reply.Refused NoMemory → may_want_memory (inner_state self.old) step ≡ true }
+        ensures content { KeepsContent (inner_state self.old) step (inner_state self.new) }
     {
         match step {
             Step::Begin => self.begin(),

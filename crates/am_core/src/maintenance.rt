@@ -5,7 +5,7 @@ ghost use Rattle.am_record.specs.declared.step.Step.TheVariants.{Merge, Clean};
 ghost use Rattle.am_list.specs.Content.{content};
 ghost use Rattle.am_serial.specs.Machine.{is_limit};
 ghost use Rattle.am_sound.specs.StoreState.{MayAnswer, state_after};
-ghost use Rattle.am_core.specs.InnerState.{state_of};
+ghost use Rattle.am_core.specs.InnerState.{inner_state};
 
 use crate::inner::Inner;
 use am_list::PartIndex;
@@ -15,8 +15,8 @@ use am_record::{MAX_LIMIT, Range, Refusal, Reply};
 impl<I: PartIndex + Drop> Inner<I> {
     #[inline(never)]
     pub(crate) fn merge(&mut self, limit: u64) -> Reply
-        ensures says { MayAnswer (state_of self.old) (Merge limit) result }
-        ensures after { state_of self.new ≡ state_after (state_of self.old) (Merge limit) result }
+        ensures says { MayAnswer (inner_state self.old) (Merge limit) result }
+        ensures after { inner_state self.new ≡ state_after (inner_state self.old) (Merge limit) result }
         ensures content { content self.new.parts.entries ≡ content self.old.parts.entries }
     {
         if !is_limit(limit) {
@@ -27,8 +27,8 @@ impl<I: PartIndex + Drop> Inner<I> {
 
     #[inline(never)]
     pub(crate) fn clean(&mut self, range: Range, limit: u64) -> Reply
-        ensures says { MayAnswer (state_of self.old) (Clean range limit) result }
-        ensures after { state_of self.new ≡ state_after (state_of self.old) (Clean range limit) result }
+        ensures says { MayAnswer (inner_state self.old) (Clean range limit) result }
+        ensures after { inner_state self.new ≡ state_after (inner_state self.old) (Clean range limit) result }
         ensures content { content self.new.parts.entries ≡ content self.old.parts.entries }
     {
         if !is_limit(limit) {

@@ -14,7 +14,7 @@ ghost use Rattle.am_sound.specs.StoreState.{MayAnswer, state_after, IsFit};
 ghost use Rattle.am_effect.specs.Store.{with_wish};
 ghost use Rattle.am_core.specs.Doing.{IsDone, LeavesAlone, MayWantRoom, Works, LeavesAllAlone};
 ghost use Rattle.am_core.specs.Memory.{may_want_memory};
-ghost use Rattle.am_core.specs.InnerState.{state_of};
+ghost use Rattle.am_core.specs.InnerState.{inner_state};
 
 use crate::admission::{ask, refusal, wish_of};
 use crate::inner::Inner;
@@ -36,10 +36,10 @@ impl<I: PartIndex + Drop> Inner<I> {
     /// cut again where memory is refused later.
     #[inline(never)]
     pub(crate) fn operate(&mut self, tx: u64, op: Op) -> Reply
-        requires { IsFit (state_of self.old) }
-        ensures says { MayAnswer (state_of self.old) (Do tx op) result }
-        ensures after { state_of self.new ≡ state_after (state_of self.old) (Do tx op) result }
-        ensures memory { result ≡ Reply.Refused OutOfMemory → may_want_memory (state_of self.old) (Do tx op) ≡ true }
+        requires { IsFit (inner_state self.old) }
+        ensures says { MayAnswer (inner_state self.old) (Do tx op) result }
+        ensures after { inner_state self.new ≡ state_after (inner_state self.old) (Do tx op) result }
+        ensures memory { result ≡ Reply.Refused OutOfMemory → may_want_memory (inner_state self.old) (Do tx op) ≡ true }
     {
         am_runs::load_follows();
         // Read here, the numbers of the active transactions are known to rise.

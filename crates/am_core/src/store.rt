@@ -6,7 +6,7 @@ ghost use Rattle.am_record.specs.declared.step.Refusal.TheVariants.{NoMemory as 
 ghost use Rattle.am_sound.specs.StoreState.{empty_state, IsFit, MayAnswer, state_after};
 ghost use Rattle.am_core.specs.Memory.{may_want_memory};
 ghost use Rattle.am_core.specs.Standing.{IsSoundAt, Extends, IsWithin, KeepsContent};
-ghost use Rattle.am_core.specs.InnerState.{state_of};
+ghost use Rattle.am_core.specs.InnerState.{inner_state};
 
 use crate::entries::all_entries;
 use crate::inner::Inner;
@@ -28,15 +28,15 @@ pub struct Store<I: PartIndex + Drop> {
 impl<I: PartIndex + Drop> Model for Store<I> {
     ghost use Rattle.am_sound.specs.StoreState.{StoreState};
     ghost use Rattle.am_core.specs.Keeping.{state_code, IsReached};
-    ghost use Rattle.am_core.specs.InnerState.{state_of};
+    ghost use Rattle.am_core.specs.InnerState.{inner_state};
 
     ghost Value = { StoreState };
 
     ghost coded = { state_code };
 
-    ghost view = { λ s. state_of s.inner.value };
+    ghost view = { λ s. inner_state s.inner.value };
 
-    ghost invariant = { λ s. IsReached (state_of s.inner.value) };
+    ghost invariant = { λ s. IsReached (inner_state s.inner.value) };
 }
 
 impl<I: PartIndex + Drop> Store<I> {
@@ -103,12 +103,12 @@ impl<I: PartIndex + Drop> Store<I> {
 
 // Takes the step where the store stands.
 fn step_there<I: PartIndex + Drop>(inner: &mut Box<Inner<I>>, step: Step) -> Reply
-    requires fit { IsFit (state_of inner.old.value) }
+    requires fit { IsFit (inner_state inner.old.value) }
     requires few { inner.old.value.commits + length inner.old.value.txs.active ≤ 2 ^ 63 }
-    ensures says { MayAnswer (state_of inner.old.value) step result }
-    ensures after { state_of inner.new.value ≡ state_after (state_of inner.old.value) step result }
-    ensures memory { result ≡ Reply.Refused OutOfMemory → may_want_memory (state_of inner.old.value) step ≡ true }
-    ensures content { KeepsContent (state_of inner.old.value) step (state_of inner.new.value) }
+    ensures says { MayAnswer (inner_state inner.old.value) step result }
+    ensures after { inner_state inner.new.value ≡ state_after (inner_state inner.old.value) step result }
+    ensures memory { result ≡ Reply.Refused OutOfMemory → may_want_memory (inner_state inner.old.value) step ≡ true }
+    ensures content { KeepsContent (inner_state inner.old.value) step (inner_state inner.new.value) }
 {
     let inner = &mut **inner;
     inner.step(step)

@@ -7,7 +7,7 @@ ghost use Rattle.am_list.specs.Entries.{find};
 ghost use Rattle.am_undo.specs.Notes.{TakesBack, CanTakeBack};
 ghost use Rattle.am_tx.specs.Active.{is_active_in, log_in};
 ghost use Rattle.am_core.specs.Doing.{HasNewLog};
-ghost use Rattle.am_core.specs.InnerState.{state_of};
+ghost use Rattle.am_core.specs.InnerState.{inner_state};
 
 use crate::inner::Inner;
 use am_list::PartIndex;
@@ -17,8 +17,8 @@ use am_tx::TxTable;
 
 impl<I: PartIndex + Drop> Inner<I> {
     pub(crate) fn begin(&mut self) -> Reply
-        ensures says { MayAnswer (state_of self.old) Begin result }
-        ensures after { state_of self.new ≡ state_after (state_of self.old) Begin result }
+        ensures says { MayAnswer (inner_state self.old) Begin result }
+        ensures after { inner_state self.new ≡ state_after (inner_state self.old) Begin result }
     {
         // Read here, the table's numbers are known to rise.
         let _active = self.txs.active();
@@ -31,8 +31,8 @@ impl<I: PartIndex + Drop> Inner<I> {
     #[inline(never)]
     pub(crate) fn commit(&mut self, tx: u64) -> Reply
         requires { self.old.commits + length self.old.txs.active ≤ 2 ^ 63 }
-        ensures says { MayAnswer (state_of self.old) (Commit tx) result }
-        ensures after { state_of self.new ≡ state_after (state_of self.old) (Commit tx) result }
+        ensures says { MayAnswer (inner_state self.old) (Commit tx) result }
+        ensures after { inner_state self.new ≡ state_after (inner_state self.old) (Commit tx) result }
     {
         if !self.txs.is_active(tx) {
             return Reply::Refused(Refusal::NoSuchTx);
@@ -44,9 +44,9 @@ impl<I: PartIndex + Drop> Inner<I> {
 
     #[inline(never)]
     pub(crate) fn abort(&mut self, tx: u64) -> Reply
-        requires { IsFit (state_of self.old) }
-        ensures says { MayAnswer (state_of self.old) (Abort tx) result }
-        ensures after { state_of self.new ≡ state_after (state_of self.old) (Abort tx) result }
+        requires { IsFit (inner_state self.old) }
+        ensures says { MayAnswer (inner_state self.old) (Abort tx) result }
+        ensures after { inner_state self.new ≡ state_after (inner_state self.old) (Abort tx) result }
     {
         am_effect::taking_back_is_known();
         if !self.txs.is_active(tx) {

@@ -7,7 +7,8 @@ use Rattle.am_record.specs.declared.step.Op.{Op}
 use Rattle.am_record.specs.declared.step.Op.TheVariants.{Insert, Load}
 use Rattle.am_record.specs.declared.step.Step.{Step}
 use Rattle.am_record.specs.declared.step.Step.TheVariants.{Do}
-use Rattle.am_serial.specs.Trace.{Event, Trace}
+use Rattle.am_record.specs.Events.{Event}
+use Rattle.am_serial.specs.Trace.{Trace}
 
 -- the keys under which the operation may make entries
 abbrev pub WritesKeys : (OrderedKey → Type 0) → Op → Type 0

@@ -9,7 +9,7 @@ use Rattle.std.specs.List.{AllByRecursion}
 use Rattle.am_record.specs.OrderedKey.{OrderedKey}
 use Rattle.am_record.specs.KeyMix.{key_mix}
 use Rattle.am_record.specs.Plain.{Records}
-use Rattle.am_filter.specs.Filters.{mask_of, word_index, holds}
+use Rattle.am_filter.specs.Filters.{mask_of, word_index, has_bits}
 
 pub still_set : (a b m : ℕ) → bit_and a m ≡ m → bit_and (bit_or a b) m ≡ m
 still_set a b m h = same_from_bits (bit_and (bit_or a b) m) m (λ i.
@@ -29,16 +29,16 @@ module _ (ws : List ℕ) (i : ℕ) (lt : i < length ws) (m : ℕ) where
   same_slot : (n : ℕ) → word_index after n ≡ word_index ws n
   same_slot n = ap (λ (k : ℕ). n / 2 ^ 32 * k / 2 ^ 32) (length-set ws i (bit_or (get_or ws i 0) m))
 
-  pub now_held : (k : OrderedKey) → i ≡ word_index ws (key_mix k) → m ≡ mask_of (key_mix k) → holds after k ≡ true
-  unfolding holds
+  pub now_held : (k : OrderedKey) → i ≡ word_index ws (key_mix k) → m ≡ mask_of (key_mix k) → has_bits after k ≡ true
+  unfolding has_bits
   now_held k here mask =
       let at : word_index after (key_mix k) ≡ i = same_slot (key_mix k) ∙ sym here in
       let word : get_or after (word_index after (key_mix k)) 0 ≡ bit_or (get_or ws i 0) (mask_of (key_mix k)) =
       ap (λ (j : ℕ). get_or after j 0) at ∙ get_or-set_same ws i (bit_or (get_or ws i 0) m) 0 lt ∙ ap (λ (n : ℕ). bit_or (get_or ws i 0) n) mask in
       eq-eqb _ _ (ap (λ (w : ℕ). bit_and w (mask_of (key_mix k))) word ∙ and_or_self (mask_of (key_mix k)) (get_or ws i 0))
 
-  pub still_held : (k : OrderedKey) → holds ws k ≡ true → holds after k ≡ true
-  unfolding holds
+  pub still_held : (k : OrderedKey) → has_bits ws k ≡ true → has_bits after k ≡ true
+  unfolding has_bits
   still_held k h =
       let n = key_mix k in
       let was : bit_and (get_or ws (word_index ws n) 0) (mask_of n) ≡ mask_of n = eqb-true _ _ h in
@@ -56,16 +56,16 @@ module _ (ws : List ℕ) (i : ℕ) (lt : i < length ws) (m : ℕ) where
 
 -- all keys of the records are held
 abbrev pub AllHeld : List ℕ → Records → Type 0
-AllHeld ws rs = AllByRecursion (λ r. holds ws r.0 ≡ true) rs
+AllHeld ws rs = AllByRecursion (λ r. has_bits ws r.0 ≡ true) rs
 
 abbrev Record : Type 0
 Record = OrderedKey × List ℕ
 
-pub all_still_held : (ws ws' : List ℕ) (rs : Records) → ((k : OrderedKey) → holds ws k ≡ true → holds ws' k ≡ true) → AllHeld ws rs → AllHeld ws' rs
+pub all_still_held : (ws ws' : List ℕ) (rs : Records) → ((k : OrderedKey) → has_bits ws k ≡ true → has_bits ws' k ≡ true) → AllHeld ws rs → AllHeld ws' rs
 all_still_held ws ws' [] up h = tt
 all_still_held ws ws' (r ∷ rs) up h = (up r.0 h.0, all_still_held ws ws' rs up h.1)
 
-pub one_more_held : (ws : List ℕ) (rs : Records) (i : ℕ) (r : Record) → i < length rs → r ≡ get_or rs i r → holds ws r.0 ≡ true → AllHeld ws (take i rs) → AllHeld ws (take (suc i) rs)
+pub one_more_held : (ws : List ℕ) (rs : Records) (i : ℕ) (r : Record) → i < length rs → r ≡ get_or rs i r → has_bits ws r.0 ≡ true → AllHeld ws (take i rs) → AllHeld ws (take (suc i) rs)
 one_more_held ws [] i r lt e one h = absurd (omega arith)
-one_more_held ws (q ∷ rs) zero r lt e one h = (subst (λ (x : Record). holds ws x.0 ≡ true) e one, tt)
+one_more_held ws (q ∷ rs) zero r lt e one h = (subst (λ (x : Record). has_bits ws x.0 ≡ true) e one, tt)
 one_more_held ws (q ∷ rs) (suc i) r lt e one h = (h.0, one_more_held ws rs i r (omega arith) e one h.1)

@@ -13,5 +13,5 @@ abbrev pub word_index : List ℕ → ℕ → ℕ
 word_index ws n = n / 2 ^ 32 * length ws / 2 ^ 32
 
 -- whether the bits of the key are set in its word
-unfoldable pub holds : List ℕ → OrderedKey → Bool
-holds ws k = nat_eq (bit_and (get_or ws (word_index ws (key_mix k)) 0) (mask_of (key_mix k))) (mask_of (key_mix k))
+unfoldable pub has_bits : List ℕ → OrderedKey → Bool
+has_bits ws k = nat_eq (bit_and (get_or ws (word_index ws (key_mix k)) 0) (mask_of (key_mix k))) (mask_of (key_mix k))

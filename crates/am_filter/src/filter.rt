@@ -4,7 +4,7 @@ ghost use Rattle.std.specs.Prelude.{◌≡◌, ◌<◌, ◌%◌, ◌^◌, true, 
 ghost use Rattle.std.specs.List.{AllByRecursion};
 ghost use Rattle.am_record.specs.OrderedKey.{OrderedKey};
 ghost use Rattle.am_record.specs.KeyMix.{key_mix};
-ghost use Rattle.am_filter.specs.Filters.{mask_of, word_index, holds};
+ghost use Rattle.am_filter.specs.Filters.{mask_of, word_index, has_bits};
 
 use am_record::{Key, NoMemory, Value};
 use std::alloc::Global;
@@ -51,7 +51,7 @@ impl Filter {
     /// # Errors
     /// NoMemory, where memory was refused.
     pub fn of(alloc: Global, pairs: &[(Key, Value)]) -> Result<Filter, NoMemory>
-        ensures { IfOk result (λ f. AllByRecursion (λ r. holds f r.0 ≡ true) pairs.now) }
+        ensures { IfOk result (λ f. AllByRecursion (λ r. has_bits f r.0 ≡ true) pairs.now) }
     {
         let mut filter = Filter::new(alloc, pairs.len())?;
         for pair in pairs {
@@ -62,8 +62,8 @@ impl Filter {
 
     /// Adds a key. Takes no memory.
     pub fn add(&mut self, key: Key)
-        ensures added { holds self.new key ≡ true }
-        ensures kept { (k : OrderedKey) → holds self.old k ≡ true → holds self.new k ≡ true }
+        ensures added { has_bits self.new key ≡ true }
+        ensures kept { (k : OrderedKey) → has_bits self.old k ≡ true → has_bits self.new k ≡ true }
     {
         let number = key.mixed();
         let at = self.slot(number);
@@ -72,7 +72,7 @@ impl Filter {
 
     /// Whether the key may have been added.
     pub fn holds(&self, key: Key) -> bool
-        ensures { result ≡ holds self.now key }
+        ensures { result ≡ has_bits self.now key }
     {
         self.holds_mixed(key.mixed())
     }
@@ -88,7 +88,7 @@ impl Filter {
 
     /// The same by the number of the key.
     pub fn holds_mixed(&self, number: u64) -> bool
-        ensures { (k : OrderedKey) → number ≡ key_mix k → result ≡ holds self.now k }
+        ensures { (k : OrderedKey) → number ≡ key_mix k → result ≡ has_bits self.now k }
     {
         let mask = mask(number);
         self.words[self.slot(number)] & mask == mask

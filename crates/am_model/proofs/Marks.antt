@@ -10,10 +10,10 @@ use Rattle.am_record.specs.Plain.{Draft, PlainMap, draft_back, fresh, went_back}
 use Rattle.am_record.specs.declared.step.Reply.TheVariants.{Done, NoMark}
 use Rattle.am_record.proofs.Newest.{length-until, since-older}
 use Rattle.am_model.specs.declared.note.Note.{Note}
-use Rattle.am_model.specs.Slots.{Slot, Slots, live, put}
-use Rattle.am_model.specs.Notes.{taken_back, all_taken_back, HasPlace, CanTakeBack}
+use Rattle.am_model.specs.Slots.{Cell, Cells, live, with_cell}
+use Rattle.am_model.specs.Notes.{undone, all_undone, HasPlace, CanUndo}
 use Rattle.am_record.specs.Marks.{since, until, since_mark, until_mark, older, has_mark}
-use Rattle.am_model.specs.Marks.{Log, draft, AreFalling, Stand}
+use Rattle.am_model.specs.Marks.{DraftLog, draft, AreFalling, IsUndoable}
 use Rattle.am_model.proofs.Live.{live_empty, live_put, put_again, got_there}
 
 -- ---- lists of notes
@@ -21,34 +21,34 @@ use Rattle.am_model.proofs.Live.{live_empty, live_put, put_again, got_there}
 since_more : (n : Note) (notes : List Note) (mark : ℕ) → mark ≤ length notes → since mark (n ∷ notes) ≡ n ∷ since mark notes
 since_more n notes mark low = let e : length (n ∷ notes) - mark ≡ suc (length notes - mark) = omega arith in ap (λ k. take k (n ∷ notes)) e
 
-back_twice : (xs ys : List Note) (slots : Slots) → all_taken_back (xs ++ ys) slots ≡ all_taken_back ys (all_taken_back xs slots)
+back_twice : (xs ys : List Note) (slots : Cells) → all_undone (xs ++ ys) slots ≡ all_undone ys (all_undone xs slots)
 back_twice [] ys slots = refl
-back_twice (n ∷ xs) ys slots = back_twice xs ys (taken_back n slots)
+back_twice (n ∷ xs) ys slots = back_twice xs ys (undone n slots)
 
-can_later : (xs ys : List Note) (slots : Slots) → CanTakeBack (xs ++ ys) slots → CanTakeBack ys (all_taken_back xs slots)
+can_later : (xs ys : List Note) (slots : Cells) → CanUndo (xs ++ ys) slots → CanUndo ys (all_undone xs slots)
 can_later [] ys slots can = can
-can_later (n ∷ xs) ys slots can = can_later xs ys (taken_back n slots) can.1
+can_later (n ∷ xs) ys slots can = can_later xs ys (undone n slots) can.1
 
 -- ---- drafts
 
-abbrev saved_at : List Note → Slots → ℕ → PlainMap
-saved_at notes slots mark = live (all_taken_back (since mark notes) slots)
+abbrev saved_at : List Note → Cells → ℕ → PlainMap
+saved_at notes slots mark = live (all_undone (since mark notes) slots)
 
-abbrev draft_at : Slots → List Note → List ℕ → Draft
+abbrev draft_at : Cells → List Note → List ℕ → Draft
 draft_at slots notes marks = record { map = live slots; saved = map (saved_at notes slots) marks }
 
-abbrev CanEach : List Note → Slots → List ℕ → Type 0
-CanEach notes slots marks = AllByRecursion (λ mark. CanTakeBack (since mark notes) slots) marks
+abbrev CanEach : List Note → Cells → List ℕ → Type 0
+CanEach notes slots marks = AllByRecursion (λ mark. CanUndo (since mark notes) slots) marks
 
 -- a key is changed, and what was there is noted
-module _ (slots : Slots) (notes : List Note) (k : OrderedKey) (slot : Slot) where
+module _ (slots : Cells) (notes : List Note) (k : OrderedKey) (slot : Cell) where
   abbrev note : Note
   note = record { key = k; before = get slots k }
 
-  abbrev changed : Slots
+  abbrev changed : Cells
   changed = insert slots k slot
 
-  as_before : taken_back note changed ≡ slots
+  as_before : undone note changed ≡ slots
   as_before = put_again slots k (Some slot)
 
   same_saved : (marks : List ℕ) (top : ℕ) → top ≤ length notes → AreFalling top marks → map (saved_at (note ∷ notes) changed) marks ≡ map (saved_at notes slots) marks
@@ -56,7 +56,7 @@ module _ (slots : Slots) (notes : List Note) (k : OrderedKey) (slot : Slot) wher
   same_saved (m ∷ ms) top low falling =
       let le : m ≤ length notes = omega (arith, falling.0) in
       let here : saved_at (note ∷ notes) changed m ≡ saved_at notes slots m =
-      ap (λ (ns : List Note). live (all_taken_back ns changed)) (since_more note notes m le) ∙ ap (λ s. live (all_taken_back (since m notes) s)) as_before in
+      ap (λ (ns : List Note). live (all_undone ns changed)) (since_more note notes m le) ∙ ap (λ s. live (all_undone (since m notes) s)) as_before in
       ap (λ x. x ∷ map (saved_at (note ∷ notes) changed) ms) here ∙ ap (λ xs. saved_at notes slots m ∷ xs) (same_saved ms m le falling.1)
 
   has_place : HasPlace note changed
@@ -66,24 +66,24 @@ module _ (slots : Slots) (notes : List Note) (k : OrderedKey) (slot : Slot) wher
   can_each [] top low falling can = tt
   can_each (m ∷ ms) top low falling can =
       let le : m ≤ length notes = omega (arith, falling.0) in (
-        subst (λ (ns : List Note). CanTakeBack ns changed) (sym (since_more note notes m le)) (has_place, subst (CanTakeBack (since m notes)) (sym as_before) can.0),
+        subst (λ (ns : List Note). CanUndo ns changed) (sym (since_more note notes m le)) (has_place, subst (CanUndo (since m notes)) (sym as_before) can.0),
         can_each ms m le falling.1 can.1,
       )
 
-  noted_at : (marks : List ℕ) → AreFalling (length notes) marks → draft_at changed (note ∷ notes) marks ≡ record { map = put (live slots) k slot; saved = map (saved_at notes slots) marks }
+  noted_at : (marks : List ℕ) → AreFalling (length notes) marks → draft_at changed (note ∷ notes) marks ≡ record { map = with_cell (live slots) k slot; saved = map (saved_at notes slots) marks }
   noted_at marks falling = λ i. record { map = live_put slots k (Some slot) i; saved = same_saved marks (length notes) (omega arith) falling i }
 
 higher : (top top' : ℕ) (marks : List ℕ) → top ≤ top' → AreFalling top marks → AreFalling top' marks
 higher top top' [] le falling = tt
 higher top top' (m ∷ ms) le falling = (omega (arith, falling.0), falling.1)
 
-module _ (slots slots' : Slots) (log log' : Log) (k : OrderedKey) (slot : Slot) (stand : Stand slots log) (is : slots' ≡ insert slots k slot) (notes : log'.notes ≡ note slots log.notes k slot ∷ log.notes) (marks : log'.marks ≡ log.marks) where
-  pub noted : draft slots' log' ≡ record { map = put (live slots) k slot; saved = (draft slots log).saved }
+module _ (slots slots' : Cells) (log log' : DraftLog) (k : OrderedKey) (slot : Cell) (stand : IsUndoable slots log) (is : slots' ≡ insert slots k slot) (notes : log'.notes ≡ note slots log.notes k slot ∷ log.notes) (marks : log'.marks ≡ log.marks) where
+  pub noted : draft slots' log' ≡ record { map = with_cell (live slots) k slot; saved = (draft slots log).saved }
   noted =
       ap (λ s. draft_at s log'.notes log'.marks) is ∙ ap (λ (ns : List Note). draft_at (insert slots k slot) ns log'.marks) notes
       ∙ ap (draft_at (insert slots k slot) (note slots log.notes k slot ∷ log.notes)) marks ∙ noted_at slots log.notes k slot log.marks stand.falling
 
-  pub noted_stand : Stand slots' log'
+  pub noted_stand : IsUndoable slots' log'
   noted_stand = record {
     falling = subst (λ (ns : List Note). AreFalling (length ns) log'.marks) (sym notes) (subst (AreFalling (suc (length log.notes))) (sym marks) (higher (length log.notes) (suc (length log.notes)) log.marks (omega arith) stand.falling));
     can = subst (λ s. CanEach log'.notes s log'.marks) (sym is) (subst (λ (ns : List Note). CanEach ns (insert slots k slot) log'.marks) (sym notes)
@@ -95,34 +95,34 @@ none_saved : (f g : ℕ → PlainMap) (marks : List ℕ) → has_mark marks ≡ 
 none_saved f g [] h = refl
 none_saved f g (m ∷ ms) h = absurd (true≢false h)
 
-pub unnoted : (slots slots' : Slots) (log : Log) (k : OrderedKey) (o : Option Slot) → has_mark log.marks ≡ false → slots' ≡ put slots k o →
-    draft slots' log ≡ record { map = put (live slots) k (option_flatten o); saved = (draft slots log).saved }
+pub unnoted : (slots slots' : Cells) (log : DraftLog) (k : OrderedKey) (o : Option Cell) → has_mark log.marks ≡ false → slots' ≡ with_cell slots k o →
+    draft slots' log ≡ record { map = with_cell (live slots) k (option_flatten o); saved = (draft slots log).saved }
 unnoted slots slots' log k o none is = λ i. record { map = (ap live is ∙ live_put slots k o) i; saved = none_saved (saved_at log.notes slots') (saved_at log.notes slots) log.marks none i }
 
 -- ---- back
 
-module _ (slots : Slots) (notes : List Note) (k : ℕ) (low : k ≤ length notes) where
-  abbrev backed : Slots
-  backed = all_taken_back (since k notes) slots
+module _ (slots : Cells) (notes : List Note) (k : ℕ) (low : k ≤ length notes) where
+  abbrev backed : Cells
+  backed = all_undone (since k notes) slots
 
   same_older : (marks : List ℕ) (top : ℕ) → top ≤ k → AreFalling top marks → map (saved_at (until k notes) backed) marks ≡ map (saved_at notes slots) marks
   same_older [] top le falling = refl
   same_older (m ∷ ms) top le falling =
       let under : m ≤ k = omega (arith, falling.0) in
       let here : saved_at (until k notes) backed m ≡ saved_at notes slots m =
-      ap live (sym (back_twice (since k notes) (since m (until k notes)) slots) ∙ ap (λ (ns : List Note). all_taken_back ns slots) (sym (since-older notes k m low under))) in
+      ap live (sym (back_twice (since k notes) (since m (until k notes)) slots) ∙ ap (λ (ns : List Note). all_undone ns slots) (sym (since-older notes k m low under))) in
       ap (λ x. x ∷ map (saved_at (until k notes) backed) ms) here ∙ ap (λ xs. saved_at notes slots m ∷ xs) (same_older ms m under falling.1)
 
   can_older : (marks : List ℕ) (top : ℕ) → top ≤ k → AreFalling top marks → CanEach notes slots marks → CanEach (until k notes) backed marks
   can_older [] top le falling can = tt
   can_older (m ∷ ms) top le falling can =
       let under : m ≤ k = omega (arith, falling.0) in (
-        can_later (since k notes) (since m (until k notes)) slots (subst (λ (ns : List Note). CanTakeBack ns slots) (since-older notes k m low under) can.0),
+        can_later (since k notes) (since m (until k notes)) slots (subst (λ (ns : List Note). CanUndo ns slots) (since-older notes k m low under) can.0),
         can_older ms m under falling.1 can.1,
       )
 
-back_at : (slots : Slots) (notes : List Note) (marks : List ℕ) → AreFalling (length notes) marks →
-    draft_at (all_taken_back (since_mark marks notes) slots) (until_mark marks notes) (older marks) ≡ draft_back (map (saved_at notes slots) marks) (draft_at slots notes marks)
+back_at : (slots : Cells) (notes : List Note) (marks : List ℕ) → AreFalling (length notes) marks →
+    draft_at (all_undone (since_mark marks notes) slots) (until_mark marks notes) (older marks) ≡ draft_back (map (saved_at notes slots) marks) (draft_at slots notes marks)
 back_at slots notes [] falling = refl
 back_at slots notes (k ∷ marks) falling = λ i. record { map = saved_at notes slots k; saved = same_older slots notes k falling.0 marks k (omega arith) falling.1 i }
 
@@ -130,32 +130,32 @@ back_falling : (notes : List Note) (marks : List ℕ) → AreFalling (length not
 back_falling notes [] falling = tt
 back_falling notes (k ∷ marks) falling = subst (λ n. AreFalling n marks) (sym (length-until notes k falling.0)) falling.1
 
-back_can : (slots : Slots) (notes : List Note) (marks : List ℕ) → AreFalling (length notes) marks → CanEach notes slots marks →
-    CanEach (until_mark marks notes) (all_taken_back (since_mark marks notes) slots) (older marks)
+back_can : (slots : Cells) (notes : List Note) (marks : List ℕ) → AreFalling (length notes) marks → CanEach notes slots marks →
+    CanEach (until_mark marks notes) (all_undone (since_mark marks notes) slots) (older marks)
 back_can slots notes [] falling can = tt
 back_can slots notes (k ∷ marks) falling can = can_older slots notes k falling.0 marks k (omega arith) falling.1 can.1
 
 -- the caller's condition of back
-pub can_back : (slots : Slots) (log : Log) → Stand slots log → CanTakeBack (since_mark log.marks log.notes) slots
+pub can_back : (slots : Cells) (log : DraftLog) → IsUndoable slots log → CanUndo (since_mark log.marks log.notes) slots
 can_back slots log stand = newest log.marks stand.can
   where
-    newest : (marks : List ℕ) → CanEach log.notes slots marks → CanTakeBack (since_mark marks log.notes) slots
+    newest : (marks : List ℕ) → CanEach log.notes slots marks → CanUndo (since_mark marks log.notes) slots
     newest [] can = tt
     newest (k ∷ marks) can = can.0
 
-module _ (slots slots' : Slots) (log log' : Log) (stand : Stand slots log) (is : slots' ≡ all_taken_back (since_mark log.marks log.notes) slots) (notes : log'.notes ≡ until_mark log.marks log.notes) (marks : log'.marks ≡ older log.marks) where
+module _ (slots slots' : Cells) (log log' : DraftLog) (stand : IsUndoable slots log) (is : slots' ≡ all_undone (since_mark log.marks log.notes) slots) (notes : log'.notes ≡ until_mark log.marks log.notes) (marks : log'.marks ≡ older log.marks) where
   pub went_back_to : draft slots' log' ≡ draft_back (draft slots log).saved (draft slots log)
   went_back_to =
-      ap (λ s. draft_at s log'.notes log'.marks) is ∙ ap (λ (ns : List Note). draft_at (all_taken_back (since_mark log.marks log.notes) slots) ns log'.marks) notes
-      ∙ ap (draft_at (all_taken_back (since_mark log.marks log.notes) slots) (until_mark log.marks log.notes)) marks ∙ back_at slots log.notes log.marks stand.falling
+      ap (λ s. draft_at s log'.notes log'.marks) is ∙ ap (λ (ns : List Note). draft_at (all_undone (since_mark log.marks log.notes) slots) ns log'.marks) notes
+      ∙ ap (draft_at (all_undone (since_mark log.marks log.notes) slots) (until_mark log.marks log.notes)) marks ∙ back_at slots log.notes log.marks stand.falling
 
-  pub back_stand : Stand slots' log'
+  pub back_stand : IsUndoable slots' log'
   back_stand = record {
     falling = subst (λ (ns : List Note). AreFalling (length ns) log'.marks) (sym notes) (subst (AreFalling (length (until_mark log.marks log.notes))) (sym marks) (back_falling log.notes log.marks stand.falling));
-    can = subst (λ s. CanEach log'.notes s log'.marks) (sym is) (subst (λ (ns : List Note). CanEach ns (all_taken_back (since_mark log.marks log.notes) slots) log'.marks) (sym notes)
-        (subst (CanEach (until_mark log.marks log.notes) (all_taken_back (since_mark log.marks log.notes) slots)) (sym marks) (back_can slots log.notes log.marks stand.falling stand.can)));
+    can = subst (λ s. CanEach log'.notes s log'.marks) (sym is) (subst (λ (ns : List Note). CanEach ns (all_undone (since_mark log.marks log.notes) slots) log'.marks) (sym notes)
+        (subst (CanEach (until_mark log.marks log.notes) (all_undone (since_mark log.marks log.notes) slots)) (sym marks) (back_can slots log.notes log.marks stand.falling stand.can)));
   }
 
 -- a new map with a new log
-pub new_draft : (slots : Slots) (log : Log) → slots ≡ empty → log.marks ≡ [] → draft slots log ≡ fresh empty
+pub new_draft : (slots : Cells) (log : DraftLog) → slots ≡ empty → log.marks ≡ [] → draft slots log ≡ fresh empty
 new_draft slots log is none = ap (λ s. draft_at s log.notes log.marks) is ∙ ap (draft_at empty log.notes) none ∙ ap (λ m. fresh m) live_empty

@@ -14,7 +14,7 @@ use Rattle.std.specs.FinMap.{from_entries}
 use Rattle.am_record.specs.OrderedKey.{OrderedKey, key_cmp, key_cmp-total}
 use Rattle.am_record.specs.Interval.{Interval, key_le, within}
 use Rattle.am_record.specs.Plain.{Records, rows_where}
-use Rattle.am_model.specs.Slots.{Slot, live_records, live}
+use Rattle.am_model.specs.Slots.{Cell, records_of_cells, live}
 use Rattle.am_model.proofs.Sorted.{rising, entries_stay}
 use Rattle.am_model.proofs.Live.{live_where, entries_live}
 
@@ -27,11 +27,11 @@ same_test : (r : Interval) (q : OrderedKey) → (is_le (key_cmp r.lo q) && not (
 same_test r q = ap (λ b. key_le r.lo q && b) (ap (λ o. not (is_lt o)) (key_cmp-total.antisymm r.hi q) ∙ turned (key_cmp q r.hi))
 
 -- the records in a range of entries are the rows that pass its test
-pub between_rows : (es : List (OrderedKey × Slot)) (r : Interval) → IsStrictlySortedBy key_cmp (keys_of es) → live_records (entries_between key_cmp (Included r.lo) (Included r.hi) es) ≡ rows_where (within r) (live (from_entries es))
+pub between_rows : (es : List (OrderedKey × Cell)) (r : Interval) → IsStrictlySortedBy key_cmp (keys_of es) → records_of_cells (entries_between key_cmp (Included r.lo) (Included r.hi) es) ≡ rows_where (within r) (live (from_entries es))
 between_rows es r h =
-    ap live_records (filter_agree (λ (e : OrderedKey × Slot). is_le (key_cmp r.lo e.0) && not (is_lt (key_cmp r.hi e.0))) (λ (e : OrderedKey × Slot). within r e.0) (λ e. same_test r e.0) es)
+    ap records_of_cells (filter_agree (λ (e : OrderedKey × Cell). is_le (key_cmp r.lo e.0) && not (is_lt (key_cmp r.hi e.0))) (λ (e : OrderedKey × Cell). within r e.0) (λ e. same_test r e.0) es)
     ∙ live_where (within r) es
-    ∙ ap (λ xs. filter (λ (e : OrderedKey × List ℕ). within r e.0) xs) (ap live_records (sym (entries_stay es (rising es h))) ∙ sym (entries_live (from_entries es)))
+    ∙ ap (λ xs. filter (λ (e : OrderedKey × List ℕ). within r e.0) xs) (ap records_of_cells (sym (entries_stay es (rising es h))) ∙ sym (entries_live (from_entries es)))
 
 -- the first of all rows, where no more are left or so many are there
 pub first_rows : (all rows rest : Records) (max : ℕ) → rows ++ rest ≡ all → length rows ≤ max → (rest ≡ []) ⊎ (length rows ≡ max) → rows ≡ take max all

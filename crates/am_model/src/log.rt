@@ -2,7 +2,7 @@
 
 ghost use Rattle.std.specs.Prelude.{◌≡◌, [], ◌∷◌, true, length, reverse, take, drop, OnOk, OnErr};
 ghost use Rattle.am_model.specs.Slots.{live};
-ghost use Rattle.am_model.specs.Notes.{all_taken_back, CanTakeBack};
+ghost use Rattle.am_model.specs.Notes.{all_undone, CanUndo};
 ghost use Rattle.am_record.specs.Marks.{since_mark, until_mark, older, has_mark};
 
 use crate::note::{Note, Slot};
@@ -22,12 +22,12 @@ pub(crate) struct ChangeLog {
 impl Model for ChangeLog {
     ghost use Rattle.std.specs.Prelude.{◌+◌, nat_le, length, reverse};
     ghost use Rattle.std.specs.Vec.{vec_capacity};
-    ghost use Rattle.am_model.specs.Marks.{Log};
-    ghost use Rattle.am_model.specs.Code.{log_code};
+    ghost use Rattle.am_model.specs.Marks.{DraftLog};
+    ghost use Rattle.am_model.specs.Code.{draft_log_code};
 
-    ghost Value = { Log };
+    ghost Value = { DraftLog };
 
-    ghost coded = { log_code };
+    ghost coded = { draft_log_code };
 
     ghost view = { λ a. record {
       notes = reverse a.notes.items;
@@ -92,9 +92,9 @@ impl ChangeLog {
     /// Takes the notes since the newest mark back and drops the mark; where none stands it does nothing and answers
     /// false. Takes no memory.
     pub(crate) fn back(&mut self, records: &mut Records) -> bool
-        requires { CanTakeBack (since_mark self.old.marks self.old.notes) records.old }
+        requires { CanUndo (since_mark self.old.marks self.old.notes) records.old }
         ensures stood { result ≡ has_mark self.old.marks }
-        ensures records { records.new ≡ all_taken_back (since_mark self.old.marks self.old.notes) records.old }
+        ensures records { records.new ≡ all_undone (since_mark self.old.marks self.old.notes) records.old }
         ensures notes { self.new.notes ≡ until_mark self.old.marks self.old.notes }
         ensures marks { self.new.marks ≡ older self.old.marks }
     {
@@ -121,8 +121,8 @@ impl ChangeLog {
 
 // Takes the notes but for the oldest `mark` back, from the newest on.
 fn take_back_above(notes: &mut Vec<Note>, mark: usize, records: &mut Records)
-    requires { CanTakeBack (reverse (drop mark notes.old.items)) records.old }
-    ensures records { records.new ≡ all_taken_back (reverse (drop mark notes.old.items)) records.old }
+    requires { CanUndo (reverse (drop mark notes.old.items)) records.old }
+    ensures records { records.new ≡ all_undone (reverse (drop mark notes.old.items)) records.old }
     ensures notes { notes.new.items ≡ take mark notes.old.items }
 {
     while mark < notes.len() {

@@ -5,7 +5,7 @@ ghost use Rattle.std.specs.FinMap as map;
 ghost use Rattle.am_record.specs.Plain.{answer, draft_after, answers, left, fresh, insert_all};
 ghost use Rattle.am_record.specs.declared.step.Op.TheVariants.{Insert, Replace, Delete, Load, Mark, Back};
 ghost use Rattle.am_record.specs.Refusals.{is_load};
-ghost use Rattle.am_model.specs.Slots.{put};
+ghost use Rattle.am_model.specs.Slots.{with_cell};
 
 use crate::log::ChangeLog;
 use crate::records::Records;
@@ -24,7 +24,7 @@ pub struct Plain {
 impl Model for Plain {
     ghost use Rattle.am_record.specs.Plain.{Draft};
     ghost use Rattle.am_model.specs.Code.{draft_code};
-    ghost use Rattle.am_model.specs.Marks.{draft, Stand};
+    ghost use Rattle.am_model.specs.Marks.{draft, IsUndoable};
 
     ghost Value = { Draft };
 
@@ -32,7 +32,7 @@ impl Model for Plain {
 
     ghost view = { λ p. draft p.records p.log };
 
-    ghost invariant = { λ p. Stand p.records p.log };
+    ghost invariant = { λ p. IsUndoable p.records p.log };
 }
 
 impl Plain {
@@ -155,7 +155,10 @@ impl Plain {
 
     // Puts a value under the key, or none. Where no mark stands nobody goes back, so nothing is noted.
     fn set(&mut self, key: Key, value: Option<Value>) -> Result<(), NoMemory>
-        ensures ok { OnOk result (self.new ≡ record { map = put self.old.map key value; saved = self.old.saved }) }
+        ensures ok { OnOk result (self.new ≡ record {
+          map = with_cell self.old.map key value;
+          saved = self.old.saved;
+        }) }
         ensures err { OnErr result (self.new ≡ self.old) }
     {
         if self.log.has_mark() {
@@ -171,7 +174,10 @@ impl Plain {
     // The same, with a note of what was there. Its room comes first, so that a refusal leaves all as it was. A deleted
     // record's place stays, so that to go back takes no memory.
     fn set_noted(&mut self, key: Key, value: Option<Value>) -> Result<(), NoMemory>
-        ensures ok { OnOk result (self.new ≡ record { map = put self.old.map key value; saved = self.old.saved }) }
+        ensures ok { OnOk result (self.new ≡ record {
+          map = with_cell self.old.map key value;
+          saved = self.old.saved;
+        }) }
         ensures err { OnErr result (self.new ≡ self.old) }
     {
         self.log.reserve_one()?;

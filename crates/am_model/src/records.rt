@@ -5,7 +5,7 @@ ghost use Rattle.std.specs.FinMap as map;
 ghost use Rattle.am_record.specs.Plain.{scan_rows, least_taken};
 ghost use Rattle.am_model.specs.Least.{lesser_key};
 ghost use Rattle.am_model.specs.Slots.{live};
-ghost use Rattle.am_model.specs.Notes.{taken_back, HasPlace};
+ghost use Rattle.am_model.specs.Notes.{undone, HasPlace};
 
 use crate::note::{Note, Slot};
 use am_record::{Key, NoMemory, Range, Value};
@@ -21,12 +21,12 @@ pub(crate) struct Records {
 
 impl Model for Records {
     ghost use Rattle.std.specs.FinMap as map;
-    ghost use Rattle.am_model.specs.Slots.{Slots};
-    ghost use Rattle.am_model.specs.Code.{slots_code};
+    ghost use Rattle.am_model.specs.Slots.{Cells};
+    ghost use Rattle.am_model.specs.Code.{cells_code};
 
-    ghost Value = { Slots };
+    ghost Value = { Cells };
 
-    ghost coded = { slots_code };
+    ghost coded = { cells_code };
 
     ghost view = { λ r. map.from_entries r.by_key.entries };
 }
@@ -83,7 +83,7 @@ impl Records {
     /// Takes one change back. Takes no memory.
     pub(crate) fn take_back(&mut self, note: Note)
         requires { HasPlace note self.old }
-        ensures { self.new ≡ taken_back note self.old }
+        ensures { self.new ≡ undone note self.old }
     {
         let Note { key, before } = note;
         match before {

@@ -14,7 +14,7 @@ use Rattle.am_list.specs.Content.{content, live_value, IsLiveAt}
 use Rattle.am_list.proofs.Edits.{first_such_all, entry_at_place}
 use Rattle.std.proofs.lemmas.List.{length-drop, get_or-drop, get_or_default}
 use Rattle.am_record.proofs.Lists.{AllByRecursion-map}
-use Rattle.am_filter.specs.Filters.{holds}
+use Rattle.am_filter.specs.Filters.{has_bits}
 use Rattle.am_parts.specs.declared.catalog.OpenRun.{OpenRun}
 use Rattle.am_parts.specs.declared.generations.Generation.{Generation}
 use Rattle.am_parts.specs.Generations.{is_held, AreHeld}
@@ -47,7 +47,7 @@ nothing_in_final {es} k {n} {runs} h none = by_cases (find es 0 k) refl
 
 -- the filters of the runs from one partition up to another rule the key out
 abbrev pub Deny : OrderedKey → ℕ → ℕ → List OpenRun → Type 0
-Deny key from to rs = AllByRecursion (λ (r : OpenRun). from ≤ r.part → r.part < to → holds r.filter key ≡ false) rs
+Deny key from to rs = AllByRecursion (λ (r : OpenRun). from ≤ r.part → r.part < to → has_bits r.filter key ≡ false) rs
 
 module _ (es : List Entry) (key : OrderedKey) where
   -- where an entry of the key stands, what is said of it
@@ -73,7 +73,7 @@ module _ (es : List Entry) (key : OrderedKey) where
       ⊎_elim
       (λ here.
       let same : r.part ≡ part = eqb-true r.part part here in
-      let held = of_key (λ p k. p ≡ r.part → holds r.filter k ≡ true) part e at each.0.held (sym same) in
+      let held = of_key (λ p k. p ≡ r.part → has_bits r.filter k ≡ true) part e at each.0.held (sym same) in
       true≢false (sym held ∙ deny.0 (omega (arith, same, low)) (omega (arith, same, high))))
       (λ later. one_denied from to part e rs at low high each.1 deny.1 later)
       (or_cases (r.part == part) (is_one_of (parts_of rs) part) one)
@@ -114,24 +114,24 @@ module _ (key : OrderedKey) (from to : ℕ) where
   over_later p [] le up = tt
   over_later p (r ∷ rs) le up = ((λ low high. let lt : p < r.part = up.0 in absurd (omega (arith, lt, le, high))), over_later p rs le up.1)
 
-  from_here : (rs : List OpenRun) (i : ℕ) → PartsRise (parts_of rs) → AllByRecursion (λ (r : OpenRun). holds r.filter key ≡ false) (take i rs) → ((d : OpenRun) → i < length rs → to ≤ (get_or rs i d).part) → Deny key from to rs
+  from_here : (rs : List OpenRun) (i : ℕ) → PartsRise (parts_of rs) → AllByRecursion (λ (r : OpenRun). has_bits r.filter key ≡ false) (take i rs) → ((d : OpenRun) → i < length rs → to ≤ (get_or rs i d).part) → Deny key from to rs
   from_here [] i up none stop = tt
   from_here (r ∷ rs) zero up none stop =
       let le : to ≤ r.part = stop r (omega arith) in
       ((λ low high. absurd (omega (arith, le, high))), over_later r.part rs le up.0)
   from_here (r ∷ rs) (suc i) up none stop = ((λ low high. none.0), from_here rs i up.1 none.1 (λ d lt. stop d (omega arith)))
 
-  pub went : (rs : List OpenRun) (at i : ℕ) → PartsRise (parts_of rs) → AllByRecursion (λ (r : OpenRun). r.part < from) (take at rs) → AllByRecursion (λ (r : OpenRun). holds r.filter key ≡ false) (take i (drop at rs))
+  pub went : (rs : List OpenRun) (at i : ℕ) → PartsRise (parts_of rs) → AllByRecursion (λ (r : OpenRun). r.part < from) (take at rs) → AllByRecursion (λ (r : OpenRun). has_bits r.filter key ≡ false) (take i (drop at rs))
       → ((d : OpenRun) → i < length (drop at rs) → to ≤ (get_or (drop at rs) i d).part) → Deny key from to rs
   went rs zero i up below none stop = from_here rs i up none stop
   went [] (suc at) i up below none stop = tt
   went (r ∷ rs) (suc at) i up below none stop = (let lt : r.part < from = below.0 in (λ low high. absurd (omega (arith, lt, low))), went rs at i up.1 below.1 none stop)
 
   -- where the rest was cut out as a slice
-  pub went_on : (rs rest : List OpenRun) (at i : ℕ) → rest ≡ drop at rs → PartsRise (parts_of rs) → AllByRecursion (λ (r : OpenRun). r.part < from) (take at rs) → AllByRecursion (λ (r : OpenRun). holds r.filter key ≡ false) (take i rest)
+  pub went_on : (rs rest : List OpenRun) (at i : ℕ) → rest ≡ drop at rs → PartsRise (parts_of rs) → AllByRecursion (λ (r : OpenRun). r.part < from) (take at rs) → AllByRecursion (λ (r : OpenRun). has_bits r.filter key ≡ false) (take i rest)
       → ((d : OpenRun) → i < length rest → to ≤ (get_or rest i d).part) → Deny key from to rs
   went_on rs rest at i same up below none stop =
-      went rs at i up below (subst (λ (l : List OpenRun). AllByRecursion (λ (r : OpenRun). holds r.filter key ≡ false) (take i l)) same none)
+      went rs at i up below (subst (λ (l : List OpenRun). AllByRecursion (λ (r : OpenRun). has_bits r.filter key ≡ false) (take i l)) same none)
       (λ d lt. subst (λ (l : List OpenRun). to ≤ (get_or l i d).part) same (stop d (subst (λ (l : List OpenRun). i < length l) (sym same) lt)))
 
 pub of_none : {P : Type 0} (o : Option Entry) → ((e : Entry) → o ≡ Some e → ⊥) → IfNone o P → P
@@ -174,7 +174,7 @@ module _ {es : List Entry} {n : ℕ} {runs : List OpenRun} (h : AreListed es n r
       (λ (other : part ≢ 0).
       let deny = went key from to runs at 0 h.rising below tt stop in
       denied es key part to h (omega (arith, other))
-      (AllByRecursion-map (λ (r : OpenRun). from ≤ r.part → r.part < to → holds r.filter key ≡ false) (λ (r : OpenRun). part ≤ r.part → r.part < to → holds r.filter key ≡ false) (λ r f up down. f (omega (arith, up, low)) down) runs deny)
+      (AllByRecursion-map (λ (r : OpenRun). from ≤ r.part → r.part < to → has_bits r.filter key ≡ false) (λ (r : OpenRun). part ≤ r.part → r.part < to → has_bits r.filter key ≡ false) (λ r f up down. f (omega (arith, up, low)) down) runs deny)
       part (omega arith) high)
       (cases_eq part 0)
 

@@ -8,7 +8,7 @@ use Rattle.am_record.specs.declared.entry.Entry.{Entry}
 use Rattle.am_record.proofs.Lists.{AllByRecursion-map, AllByRecursion-append}
 use Rattle.am_list.specs.Entries.{insert_entry}
 use Rattle.am_list.specs.Runs.{run_entries}
-use Rattle.am_filter.specs.Filters.{holds}
+use Rattle.am_filter.specs.Filters.{has_bits}
 use Rattle.am_parts.specs.declared.generations.Generation.{Generation}
 use Rattle.am_parts.specs.Generations.{is_held, AreHeld, IsGenerationAt, IsInGenerations, HasGrown}
 use Rattle.am_parts.proofs.Counts.{all_inserted}
@@ -16,14 +16,14 @@ use Rattle.am_parts.proofs.Counts.{all_inserted}
 -- ---- one key of one partition
 
 module _ (part : ℕ) (key : OrderedKey) where
-  by_first : (g : Generation) (gs : List Generation) → part < g.end → is_held (g ∷ gs) part key ≡ holds g.filter key
-  by_first g gs lt = cond-true (nat_lt part g.end) (holds g.filter key) (is_held gs part key) (lt-ltb part g.end lt)
+  by_first : (g : Generation) (gs : List Generation) → part < g.end → is_held (g ∷ gs) part key ≡ has_bits g.filter key
+  by_first g gs lt = cond-true (nat_lt part g.end) (has_bits g.filter key) (is_held gs part key) (lt-ltb part g.end lt)
 
   by_later : (g : Generation) (gs : List Generation) → g.end ≤ part → is_held (g ∷ gs) part key ≡ is_held gs part key
-  by_later g gs le = cond-false (nat_lt part g.end) (holds g.filter key) (is_held gs part key) (le-ltb part g.end le)
+  by_later g gs le = cond-false (nat_lt part g.end) (has_bits g.filter key) (is_held gs part key) (le-ltb part g.end le)
 
   -- the partition's generation decides
-  pub held_at : (gens : List Generation) (i : ℕ) (d : Generation) → IsGenerationAt gens part i → i < length gens → is_held gens part key ≡ holds (get_or gens i d).filter key
+  pub held_at : (gens : List Generation) (i : ℕ) (d : Generation) → IsGenerationAt gens part i → i < length gens → is_held gens part key ≡ has_bits (get_or gens i d).filter key
   held_at [] i d at lt = absurd (omega arith)
   held_at (g ∷ gs) zero d at lt = by_first g gs (at.here d lt)
   held_at (g ∷ gs) (suc i) d at lt =
@@ -48,7 +48,7 @@ module _ (part : ℕ) (key : OrderedKey) where
       (cases_lt part g.end)
 
   -- and the key is one of those
-  pub held_now : (gens : List Generation) (i : ℕ) (s : Generation) → IsGenerationAt gens part i → i < length gens → s.end ≡ (get_or gens i s).end → holds s.filter key ≡ true → is_held (set gens i s) part key ≡ true
+  pub held_now : (gens : List Generation) (i : ℕ) (s : Generation) → IsGenerationAt gens part i → i < length gens → s.end ≡ (get_or gens i s).end → has_bits s.filter key ≡ true → is_held (set gens i s) part key ≡ true
   held_now [] i s at lt end has = absurd (omega arith)
   held_now (g ∷ gs) zero s at lt end has = by_first s gs (omega (arith, end, at.here s lt)) ∙ has
   held_now (g ∷ gs) (suc i) s at lt end has =
@@ -60,7 +60,7 @@ module _ (part : ℕ) (key : OrderedKey) where
   held_ended [] i s last same lt held = absurd (false≢true held)
   held_ended (g ∷ []) zero s last same lt held =
       ⊎_elim
-      (λ (its : part < g.end). by_first s [] lt ∙ ap (λ f. holds f key) same ∙ sym (by_first g [] its) ∙ held)
+      (λ (its : part < g.end). by_first s [] lt ∙ ap (λ f. has_bits f key) same ∙ sym (by_first g [] its) ∙ held)
       (λ (other : g.end ≤ part). absurd (false≢true (sym (by_later g [] other) ∙ held)))
       (cases_lt part g.end)
   held_ended (g ∷ h ∷ gs) zero s last same lt held = absurd (omega (arith, last))
@@ -79,7 +79,7 @@ module _ (part : ℕ) (key : OrderedKey) where
       (λ (other : g.end ≤ part). by_later g (gs ++ s ∷ []) other ∙ held_behind gs s (sym (by_later g gs other) ∙ held))
       (cases_lt part g.end)
 
-  pub held_last : (gens : List Generation) (s : Generation) → IsGenerationAt gens part (length gens) → part < s.end → holds s.filter key ≡ true → is_held (gens ++ s ∷ []) part key ≡ true
+  pub held_last : (gens : List Generation) (s : Generation) → IsGenerationAt gens part (length gens) → part < s.end → has_bits s.filter key ≡ true → is_held (gens ++ s ∷ []) part key ≡ true
   held_last [] s at lt has = by_first s [] lt ∙ has
   held_last (g ∷ gs) s at lt has =
       by_later g (gs ++ s ∷ []) at.below.0
@@ -137,10 +137,10 @@ run_held : (gens : List Generation) (part : ℕ) (rs : Records) → AllByRecursi
 run_held gens part [] a = tt
 run_held gens part (r ∷ rs) a = ((λ some. a.0), run_held gens part rs a.1)
 
-pub pushed : (gens : List Generation) (part : ℕ) (rs : Records) (i : ℕ) (s : Generation) → IsGenerationAt gens part i → i < length gens → HasGrown (get_or gens i s) s → AllByRecursion (λ (r : OrderedKey × List ℕ). holds s.filter r.0 ≡ true) rs
+pub pushed : (gens : List Generation) (part : ℕ) (rs : Records) (i : ℕ) (s : Generation) → IsGenerationAt gens part i → i < length gens → HasGrown (get_or gens i s) s → AllByRecursion (λ (r : OrderedKey × List ℕ). has_bits s.filter r.0 ≡ true) rs
     → (es : List Entry) → AreHeld es gens → AreHeld (es ++ run_entries part rs) (set gens i s)
 pushed gens part rs i s at lt more has es held =
     AllByRecursion-append (λ e. 0 < e.part → is_held (set gens i s) e.part e.key ≡ true) es (run_entries part rs)
     (all_held gens (set gens i s) (λ p k. held_grown p k gens i s lt more) es held)
     (run_held (set gens i s) part rs
-    (AllByRecursion-map (λ (r : OrderedKey × List ℕ). holds s.filter r.0 ≡ true) (λ (r : OrderedKey × List ℕ). is_held (set gens i s) part r.0 ≡ true) (λ r has. held_now part r.0 gens i s at lt more.end has) rs has))
+    (AllByRecursion-map (λ (r : OrderedKey × List ℕ). has_bits s.filter r.0 ≡ true) (λ (r : OrderedKey × List ℕ). is_held (set gens i s) part r.0 ≡ true) (λ r has. held_now part r.0 gens i s at lt more.end has) rs has))

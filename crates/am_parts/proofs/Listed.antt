@@ -9,7 +9,7 @@ use Rattle.am_record.specs.declared.entry.Entry.{Entry}
 use Rattle.am_record.proofs.Lists.{AllByRecursion-map, AllByRecursion-append, AllByRecursion-at}
 use Rattle.am_list.specs.Entries.{find, insert_entry, set_entry, remove_entry}
 use Rattle.am_list.specs.Runs.{run_entries}
-use Rattle.am_filter.specs.Filters.{holds}
+use Rattle.am_filter.specs.Filters.{has_bits}
 use Rattle.am_parts.specs.declared.catalog.OpenRun.{OpenRun}
 use Rattle.am_parts.specs.Catalogs.{left_in, IsOpenRun, parts_of, PartsRise, is_one_of, AreListed, IsRunAt, IsGapAt, HasMore, IsOpenRunOf, IsNext}
 use Rattle.am_parts.proofs.Counts.{one_if, none_if, all_inserted, all_removed, all_set, count_inserted, count_removed, count_set, count_append, count_run, none_in_run, none_counted, none_left}
@@ -135,7 +135,7 @@ module _ (es : List Entry) (x : Entry) where
     is_run = h.is_run;
     some = h.some;
     exact = omega (arith, h.exact, count_inserted r.part es x, none_if x.part r.part (λ same. other (sym same)));
-    held = all_inserted (λ e. e.part ≡ r.part → holds r.filter e.key ≡ true) es x (λ same. absurd (other (sym same))) h.held;
+    held = all_inserted (λ e. e.part ≡ r.part → has_bits r.filter e.key ≡ true) es x (λ same. absurd (other (sym same))) h.held;
   }
 
   grown : (r s : OpenRun) → r.part ≡ x.part → HasMore r x.key s → IsOpenRun es r → IsOpenRun (insert_entry es x) s
@@ -145,8 +145,8 @@ module _ (es : List Entry) (x : Entry) where
     exact =
         let e : r.left + 1 ≡ left_in r.part (insert_entry es x) = omega (arith, h.exact, count_inserted r.part es x, one_if x.part r.part (sym here)) in
         more.left ∙ e ∙ ap (λ (p : ℕ). left_in p (insert_entry es x)) (sym more.part);
-    held = all_inserted (λ e. e.part ≡ s.part → holds s.filter e.key ≡ true) es x (λ same. more.added)
-        (AllByRecursion-map (λ e. e.part ≡ r.part → holds r.filter e.key ≡ true) (λ e. e.part ≡ s.part → holds s.filter e.key ≡ true) (λ e was same. more.kept e.key (was (same ∙ more.part))) es h.held);
+    held = all_inserted (λ e. e.part ≡ s.part → has_bits s.filter e.key ≡ true) es x (λ same. more.added)
+        (AllByRecursion-map (λ e. e.part ≡ r.part → has_bits r.filter e.key ≡ true) (λ e. e.part ≡ s.part → has_bits s.filter e.key ≡ true) (λ e was same. more.kept e.key (was (same ∙ more.part))) es h.held);
   }
 
 module _ {es : List Entry} {n : ℕ} {runs : List OpenRun} (h : AreListed es n runs) (x : Entry) where
@@ -174,7 +174,7 @@ module _ {es : List Entry} {n : ℕ} {runs : List OpenRun} (h : AreListed es n r
           rising = subst PartsRise (sym same) h.rising;
         }
 
-    pub opened : (i : ℕ) (s : OpenRun) → IsGapAt runs x.part i → s.part ≡ x.part → s.left ≡ 1 → holds s.filter x.key ≡ true → AreListed (insert_entry es x) n (insert runs i s)
+    pub opened : (i : ℕ) (s : OpenRun) → IsGapAt runs x.part i → s.part ≡ x.part → s.left ≡ 1 → has_bits s.filter x.key ≡ true → AreListed (insert_entry es x) n (insert runs i s)
     opened i s gap here one held =
         let others = no_run_at_gap x.part runs i gap.below gap.above in
         let absent : AllByRecursion (λ (e : Entry). e.part ≢ x.part) es =
@@ -190,8 +190,8 @@ module _ {es : List Entry} {n : ℕ} {runs : List OpenRun} (h : AreListed es n r
                     let none : left_in x.part es ≡ 0 = none_counted x.part es absent in
                     let now : ◌≡◌ {A = ℕ} 1 (left_in x.part (insert_entry es x)) = omega (arith, none, count_inserted x.part es x, one_if x.part x.part refl) in
                     one ∙ now ∙ ap (λ (p : ℕ). left_in p (insert_entry es x)) (sym here);
-                held = all_inserted (λ e. e.part ≡ s.part → holds s.filter e.key ≡ true) es x (λ same. held)
-                    (AllByRecursion-map (λ e. e.part ≢ x.part) (λ e. e.part ≡ s.part → holds s.filter e.key ≡ true) (λ e other same. absurd (other (same ∙ here))) es absent);
+                held = all_inserted (λ e. e.part ≡ s.part → has_bits s.filter e.key ≡ true) es x (λ same. held)
+                    (AllByRecursion-map (λ e. e.part ≢ x.part) (λ e. e.part ≡ s.part → has_bits s.filter e.key ≡ true) (λ e other same. absurd (other (same ∙ here))) es absent);
               })
               (moved x.part (IsOpenRun es) (IsOpenRun (insert_entry es x)) (untouched es x) runs others h.each);
           every = all_inserted (λ e. 0 < e.part → is_one_of (parts_of (insert runs i s)) e.part ≡ true) es x (λ _. ap (is_one_of (parts_of (insert runs i s))) (sym here) ∙ put_one runs i s)
@@ -225,7 +225,7 @@ module _ {es : List Entry} {n : ℕ} {runs : List OpenRun} (h : AreListed es n r
       is_run = it.is_run;
       some = it.some;
       exact = omega (arith, it.exact, count_removed r.part part key es stands, none_if part r.part (λ same. other (sym same)));
-      held = all_removed (λ e. e.part ≡ r.part → holds r.filter e.key ≡ true) part key es it.held;
+      held = all_removed (λ e. e.part ≡ r.part → has_bits r.filter e.key ≡ true) part key es it.held;
     }
 
     every_left : AllByRecursion (λ (e : Entry). 0 < e.part → is_one_of (parts_of runs) e.part ≡ true) (remove_entry es part key)
@@ -259,9 +259,9 @@ module _ {es : List Entry} {n : ℕ} {runs : List OpenRun} (h : AreListed es n r
                   exact =
                       let now : s.left ≡ left_in part (remove_entry es part key) = omega (arith, less, exact, count_removed part part key es stands, one_if part part refl) in
                       now ∙ ap (λ (p : ℕ). left_in p (remove_entry es part key)) (sym its);
-                  held = all_removed (λ e. e.part ≡ s.part → holds s.filter e.key ≡ true) part key es
-                      (AllByRecursion-map (λ e. e.part ≡ (get_or runs i s).part → holds (get_or runs i s).filter e.key ≡ true) (λ e. e.part ≡ s.part → holds s.filter e.key ≡ true)
-                      (λ e old now. ap (λ f. holds f e.key) filter ∙ old (now ∙ here)) es was.held);
+                  held = all_removed (λ e. e.part ≡ s.part → has_bits s.filter e.key ≡ true) part key es
+                      (AllByRecursion-map (λ e. e.part ≡ (get_or runs i s).part → has_bits (get_or runs i s).filter e.key ≡ true) (λ e. e.part ≡ s.part → has_bits s.filter e.key ≡ true)
+                      (λ e old now. ap (λ f. has_bits f e.key) filter ∙ old (now ∙ here)) es was.held);
                 }) h.each;
             every = subst (λ ps. AllByRecursion (λ (e : Entry). 0 < e.part → is_one_of ps e.part ≡ true) (remove_entry es part key)) (sym same) every_left;
             rising = subst PartsRise (sym same) h.rising;
@@ -295,7 +295,7 @@ listed_set {es} {n} {runs} part key value is_ghost h = record {
         is_run = it.is_run;
         some = it.some;
         exact = it.exact ∙ sym (count_set r.part part key value is_ghost es);
-        held = all_set (λ p k. p ≡ r.part → holds r.filter k ≡ true) part key value is_ghost es it.held;
+        held = all_set (λ p k. p ≡ r.part → has_bits r.filter k ≡ true) part key value is_ghost es it.held;
       }) runs h.each;
   every = all_set (λ p k. 0 < p → is_one_of (parts_of runs) p ≡ true) part key value is_ghost es h.every;
   rising = h.rising;
@@ -318,10 +318,10 @@ module _ {es : List Entry} {n : ℕ} {runs : List OpenRun} (h : AreListed es n r
         is_run = was.is_run;
         some = was.some;
         exact = omega (arith, was.exact, count_append r.part es (run_entries part rs), none_in_run r.part part rs other);
-        held = AllByRecursion-append (λ e. e.part ≡ r.part → holds r.filter e.key ≡ true) es (run_entries part rs) was.held (apart rs);
+        held = AllByRecursion-append (λ e. e.part ≡ r.part → has_bits r.filter e.key ≡ true) es (run_entries part rs) was.held (apart rs);
       }
     where
-      apart : (qs : Records) → AllByRecursion (λ (e : Entry). e.part ≡ r.part → holds r.filter e.key ≡ true) (run_entries part qs)
+      apart : (qs : Records) → AllByRecursion (λ (e : Entry). e.part ≡ r.part → has_bits r.filter e.key ≡ true) (run_entries part qs)
       apart [] = tt
       apart (q ∷ qs) = let lt = below r was in ((λ same. absurd (omega (arith, same, lt))), apart qs)
 
@@ -332,12 +332,12 @@ module _ {es : List Entry} {n : ℕ} {runs : List OpenRun} (h : AreListed es n r
     exact =
         let now : s.left ≡ left_in part (es ++ run_entries part rs) = omega (arith, it.left, count_append part es (run_entries part rs), count_run part part rs refl, none_above part es (omega arith) nxt.above) in
         now ∙ ap (λ (p : ℕ). left_in p (es ++ run_entries part rs)) (sym it.at);
-    held = AllByRecursion-append (λ e. e.part ≡ s.part → holds s.filter e.key ≡ true) es (run_entries part rs)
-        (AllByRecursion-map (λ e. e.part < part) (λ e. e.part ≡ s.part → holds s.filter e.key ≡ true) (λ e lt same. absurd (omega (arith, lt, same, it.at))) es nxt.above)
+    held = AllByRecursion-append (λ e. e.part ≡ s.part → has_bits s.filter e.key ≡ true) es (run_entries part rs)
+        (AllByRecursion-map (λ e. e.part < part) (λ e. e.part ≡ s.part → has_bits s.filter e.key ≡ true) (λ e lt same. absurd (omega (arith, lt, same, it.at))) es nxt.above)
         (in_run rs it.held);
   }
     where
-      in_run : (qs : Records) → AllByRecursion (λ (r : OrderedKey × List ℕ). holds s.filter r.0 ≡ true) qs → AllByRecursion (λ (e : Entry). e.part ≡ s.part → holds s.filter e.key ≡ true) (run_entries part qs)
+      in_run : (qs : Records) → AllByRecursion (λ (r : OrderedKey × List ℕ). has_bits s.filter r.0 ≡ true) qs → AllByRecursion (λ (e : Entry). e.part ≡ s.part → has_bits s.filter e.key ≡ true) (run_entries part qs)
       in_run [] held = tt
       in_run (q ∷ qs) held = ((λ same. held.0), in_run qs held.1)
 

@@ -7,7 +7,7 @@ use Rattle.am_record.specs.KeyMix.{key_mix}
 use Rattle.am_record.specs.Plain.{Records}
 use Rattle.am_record.specs.declared.entry.Entry.{Entry}
 use Rattle.am_list.specs.Entries.{find}
-use Rattle.am_filter.specs.Filters.{holds}
+use Rattle.am_filter.specs.Filters.{has_bits}
 use Rattle.am_parts.specs.Generations.{AreHeld}
 use Rattle.am_parts.specs.declared.catalog.OpenRun.{OpenRun}
 use Rattle.am_parts.specs.declared.catalog.Catalog.{Catalog}
@@ -22,7 +22,7 @@ pub record IsOpenRun (es : List Entry) (run : OpenRun) : Type 0 where
   pub is_run : 0 < run.part
   pub some : 0 < run.left
   pub exact : run.left ≡ left_in run.part es
-  pub held : AllByRecursion (λ e. e.part ≡ run.part → holds run.filter e.key ≡ true) es
+  pub held : AllByRecursion (λ e. e.part ≡ run.part → has_bits run.filter e.key ≡ true) es
 
 abbrev pub parts_of : List OpenRun → List ℕ
 parts_of runs = map (λ (r : OpenRun). r.part) runs
@@ -81,14 +81,14 @@ pub record HasCounted (c : Catalog) (part : ℕ) : Type 0 where
 pub record HasMore (old : OpenRun) (key : OrderedKey) (new : OpenRun) : Type 0 where
   pub part : new.part ≡ old.part
   pub left : new.left ≡ old.left + 1
-  pub added : holds new.filter key ≡ true
-  pub kept : (k : OrderedKey) → holds old.filter k ≡ true → holds new.filter k ≡ true
+  pub added : has_bits new.filter key ≡ true
+  pub kept : (k : OrderedKey) → has_bits old.filter k ≡ true → has_bits new.filter k ≡ true
 
 -- the run of those records
 pub record IsOpenRunOf (part : ℕ) (rs : Records) (run : OpenRun) : Type 0 where
   pub at : run.part ≡ part
   pub left : run.left ≡ length rs
-  pub held : AllByRecursion (λ r. holds run.filter r.0 ≡ true) rs
+  pub held : AllByRecursion (λ r. has_bits run.filter r.0 ≡ true) rs
 
 -- the records may follow the entries as a run of that partition
 pub record IsNext (es : List Entry) (part : ℕ) (rs : Records) : Type 0 where

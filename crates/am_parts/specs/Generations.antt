@@ -4,13 +4,13 @@ use Rattle.std.specs.Prelude.{slice_index_or, if◌then◌else◌}
 use Rattle.std.specs.List.{AllByRecursion, list_any}
 use Rattle.am_record.specs.OrderedKey.{OrderedKey}
 use Rattle.am_record.specs.declared.entry.Entry.{Entry}
-use Rattle.am_filter.specs.Filters.{holds}
+use Rattle.am_filter.specs.Filters.{has_bits}
 use Rattle.am_parts.specs.declared.generations.Generation.{Generation}
 
 -- whether the key is held by the generation of the partition, the first that ends above it
 abbrev pub is_held : List Generation → ℕ → OrderedKey → Bool
 is_held [] part key = false
-is_held (g ∷ gs) part key = if nat_lt part g.end then holds g.filter key else is_held gs part key
+is_held (g ∷ gs) part key = if nat_lt part g.end then has_bits g.filter key else is_held gs part key
 
 -- each key that a run has an entry of is held by the filter of the run's generation
 abbrev pub AreHeld : List Entry → List Generation → Type 0
@@ -35,4 +35,4 @@ pub record IsStretch (gens : List Generation) (i : ℕ) (from to : ℕ) : Type 0
 -- the generation with more keys
 pub record HasGrown (old new : Generation) : Type 0 where
   pub end : new.end ≡ old.end
-  pub kept : (k : OrderedKey) → holds old.filter k ≡ true → holds new.filter k ≡ true
+  pub kept : (k : OrderedKey) → has_bits old.filter k ≡ true → has_bits new.filter k ≡ true

@@ -8,7 +8,7 @@ ghost use Rattle.am_record.specs.OrderedKey.{OrderedKey};
 ghost use Rattle.am_record.specs.declared.entry.Entry.{Entry};
 ghost use Rattle.am_list.specs.Entries.{find, insert_entry, remove_entry};
 ghost use Rattle.am_list.specs.Runs.{run_entries};
-ghost use Rattle.am_filter.specs.Filters.{holds};
+ghost use Rattle.am_filter.specs.Filters.{has_bits};
 ghost use Rattle.am_parts.specs.Generations.{IsInGenerations};
 ghost use Rattle.am_parts.specs.declared.generations.Generation.{Generation};
 ghost use Rattle.am_parts.specs.Catalogs.{parts_of, PartsRise, IsRunAt, IsGapAt, HasCounted, HasMore, IsOpenRunOf};
@@ -43,7 +43,7 @@ impl OpenRun {
 
     // Whether an entry of the key may stand in the run. The number is the key's, made once for all runs.
     fn may_have(&self, number: u64) -> bool
-        ensures { (key : OrderedKey) → number ≡ key_mix key → result ≡ holds self.now.filter key }
+        ensures { (key : OrderedKey) → number ≡ key_mix key → result ≡ has_bits self.now.filter key }
     {
         self.filter.holds_mixed(number)
     }

@@ -7,7 +7,7 @@ ghost use Rattle.am_record.specs.OrderedKey.{OrderedKey};
 ghost use Rattle.am_record.specs.declared.entry.Entry.{Entry};
 ghost use Rattle.am_list.specs.Entries.{insert_entry};
 ghost use Rattle.am_list.specs.Runs.{run_entries};
-ghost use Rattle.am_filter.specs.Filters.{holds};
+ghost use Rattle.am_filter.specs.Filters.{has_bits};
 ghost use Rattle.am_parts.specs.Generations.{AreHeld, HasGrown, IsGenerationAt, IsInGenerations, IsStretch};
 
 use am_filter::Filter;
@@ -52,7 +52,7 @@ impl Generation {
 
     /// Whether an entry of the key may stand in one of its runs. The number is the key's.
     pub(crate) fn may_have(&self, number: u64) -> bool
-        ensures { (key : OrderedKey) → number ≡ key_mix key → result ≡ holds self.now.filter key }
+        ensures { (key : OrderedKey) → number ≡ key_mix key → result ≡ has_bits self.now.filter key }
     {
         self.filter.holds_mixed(number)
     }
@@ -66,7 +66,7 @@ impl Generation {
 
     fn add(&mut self, key: Key)
         ensures grown { HasGrown self.old self.new }
-        ensures added { holds self.new.filter key ≡ true }
+        ensures added { has_bits self.new.filter key ≡ true }
     {
         self.filter.add(key);
         self.keys = self.keys.saturating_add(1);
@@ -74,7 +74,7 @@ impl Generation {
 
     fn add_all(&mut self, pairs: &[(Key, Value)])
         ensures grown { HasGrown self.old self.new }
-        ensures added { AllByRecursion (λ r. holds self.new.filter r.0 ≡ true) pairs.now }
+        ensures added { AllByRecursion (λ r. has_bits self.new.filter r.0 ≡ true) pairs.now }
     {
         for pair in pairs {
             self.add(pair.0);

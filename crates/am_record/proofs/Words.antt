@@ -6,7 +6,7 @@ use Rattle.std.specs.Ordering.{nat_cmp, ordering_then, MatchOrdering}
 use Rattle.std.specs.Cmp.{ranks, nat_cmp_is}
 use Rattle.std.specs.Cmp.Lexicographic.{slice_cmp}
 use Rattle.std.proofs.lemmas.List.{drop_all}
-use Rattle.am_record.specs.KeyWords.{word_at, words_of, AreBytes}
+use Rattle.am_record.specs.KeyWords.{word_at, key_words, AreBytes}
 
 -- two numbers, each with a byte more behind it
 grown : (a b u v : ℕ) → u < 256 → v < 256 → (s p q : Ordering) → MatchOrdering p (a < b) (a ≡ b) (b < a) → MatchOrdering q (u < v) (u ≡ v) (v < u)
@@ -58,7 +58,7 @@ module _ (xs ys : List ℕ) (bx : AreBytes xs) (by : AreBytes ys) where
       ∙ (λ t. ordering_then (nat_cmp (sym (word_at-spelt xs i) t) (sym (word_at-spelt ys i) t)) (from (i + 8)))
 
   -- 32 bytes compare as their words
-  pub by_words : length xs ≡ 32 → length ys ≡ 32 → slice_cmp nat_cmp (words_of xs) (words_of ys) ≡ slice_cmp nat_cmp xs ys
+  pub by_words : length xs ≡ 32 → length ys ≡ 32 → slice_cmp nat_cmp (key_words xs) (key_words ys) ≡ slice_cmp nat_cmp xs ys
   by_words p q =
       let then = λ (i : ℕ) (r : Ordering). ordering_then (nat_cmp (word_at xs i) (word_at ys i)) r in
       let end : from 32 ≡ Equal = λ t. slice_cmp nat_cmp (drop_all 32 xs (omega arith) t) (drop_all 32 ys (omega arith) t) in

@@ -8,8 +8,8 @@ word_at bs i = from_be_bytes w64 (get_or bs i 0 ∷ get_or bs (i + 1) 0 ∷ get_
     ∷ get_or bs (i + 4) 0 ∷ get_or bs (i + 5) 0 ∷ get_or bs (i + 6) 0 ∷ get_or bs (i + 7) 0 ∷ [])
 
 -- the words of 32 bytes
-abbrev pub words_of : List ℕ → List ℕ
-words_of bs = word_at bs 0 ∷ word_at bs 8 ∷ word_at bs 16 ∷ word_at bs 24 ∷ []
+abbrev pub key_words : List ℕ → List ℕ
+key_words bs = word_at bs 0 ∷ word_at bs 8 ∷ word_at bs 16 ∷ word_at bs 24 ∷ []
 
 abbrev pub AreBytes : List ℕ → Type 0
 AreBytes bs = (k : ℕ) → get_or bs k 0 < 256

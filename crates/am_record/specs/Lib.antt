@@ -14,6 +14,7 @@ pub mod Plain
 pub mod Asks
 pub mod Copies
 pub mod Refusals
+pub mod Events
 pub mod Sessions
 pub mod Marks
 pub mod Owners

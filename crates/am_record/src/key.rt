@@ -3,7 +3,7 @@
 ghost use Rattle.std.specs.Prelude.{◌≡◌, ◌↔◌, ◌+◌, ◌≤◌, IsSome, IfSome, length};
 ghost use Rattle.am_record.specs.KeyFront.{key_front};
 ghost use Rattle.am_record.specs.KeyMix.{mix_in, key_mix};
-ghost use Rattle.am_record.specs.KeyWords.{word_at, words_of, AreBytes};
+ghost use Rattle.am_record.specs.KeyWords.{word_at, key_words, AreBytes};
 ghost use Rattle.am_record.specs.OrderedKey.{key_of, bytes_of, number_key, key_least, IsLeast};
 
 use crate::limits::MAX_KEY_LEN;
@@ -129,7 +129,7 @@ fn word(bytes: &[u8; 32], at: usize) -> u64
 
 // Padded bytes compare as these numbers do, four steps in place of 32.
 fn words(bytes: &[u8; 32]) -> [u64; 4]
-    ensures value { result ≡ words_of bytes.now }
+    ensures value { result ≡ key_words bytes.now }
     ensures bytes { AreBytes bytes.now }
     ensures whole { length bytes.now ≡ 32 }
 {

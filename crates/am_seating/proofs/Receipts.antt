@@ -18,7 +18,7 @@ use Rattle.am_talk.specs.declared.action.Action.{Action}
 use Rattle.am_talk.specs.declared.action.Action.TheVariants.{Answer, Take, TellSeen}
 use Rattle.am_talk.specs.declared.response.Response.{Response}
 use Rattle.am_session.specs.Talk.{SessionPoint, AnswersAction, AnswersLine, Converses, Leaves, AnswersAll, AnswersOneMore}
-use Rattle.am_seating.specs.SessionSeats.{SessionSeatState, published, TakesStep, seat_meaning, HasReceipts, taken, stored_events}
+use Rattle.am_seating.specs.SessionSeats.{SessionSeatState, published, MakesCall, seat_meaning, HasReceipts, taken, stored_events}
 use Rattle.am_words.specs.Words.{WordHistory}
 
 -- ---- what is published
@@ -77,7 +77,7 @@ behind s s' st r false h = (ap (λ (x : SeatState). x.number) h, ap (λ (x : Sea
 stayed : (old new : SessionPoint SessionSeatState) (events : Trace) → events ≡ [] → new ≡ old → HasReceipts old.0 events new.0
 stayed old new events none same = subst (λ (es : Trace). HasReceipts old.0 es new.0) (sym none) (like old.0 new.0 (ap (λ (p : SessionPoint SessionSeatState). p.0.seat) same) (ap (λ (p : SessionPoint SessionSeatState). p.0.word_seat.published) same))
 
-went : (old new : SessionSeatState) (st : Step) (r : Reply) → TakesStep old st r new → HasReceipts old ((st, r) ∷ []) new
+went : (old new : SessionSeatState) (st : Step) (r : Reply) → MakesCall old st r new → HasReceipts old ((st, r) ∷ []) new
 went old new st r h =
     let b = behind old.seat new.seat st r (is_stored r) h.called in
     record {
@@ -95,7 +95,7 @@ line : (old new : SessionPoint SessionSeatState) (e : Exchange) (events : Trace)
 line old new e events h = answered (old.0, h.2.1) new h.2.0 e.1 events h.2.3
 
 merged : (auto : ℕ) (b : Bool) (old new : SessionPoint SessionSeatState) (events : Trace)
-    → MatchBool b ((events ≡ []) × (new ≡ old)) ((m : Reply) × TakesStep old.0 (Merge auto) m new.0 × (events ≡ (Merge auto, m) ∷ []) × (new.1 ≡ staged_after old.1 m)) → HasReceipts old.0 events new.0
+    → MatchBool b ((events ≡ []) × (new ≡ old)) ((m : Reply) × MakesCall old.0 (Merge auto) m new.0 × (events ≡ (Merge auto, m) ∷ []) × (new.1 ≡ staged_after old.1 m)) → HasReceipts old.0 events new.0
 merged auto true old new events h = stayed old new events h.0 h.1
 merged auto false old new events h = subst (λ (es : Trace). HasReceipts old.0 es new.0) (sym h.2) (went old.0 new.0 (Merge auto) h.0 h.1)
 

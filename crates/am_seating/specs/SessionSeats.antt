@@ -26,7 +26,7 @@ published word_seat (Committed c) = record word_seat { published = max word_seat
 published word_seat reply = word_seat
 
 -- the seat has a receipt of the call, and a commit is published
-pub record TakesStep (old : SessionSeatState) (step : Step) (reply : Reply) (new : SessionSeatState) : Type 0 where
+pub record MakesCall (old : SessionSeatState) (step : Step) (reply : Reply) (new : SessionSeatState) : Type 0 where
   pub called : HasReceiptOf old.seat step reply new.seat
   pub word_seat : new.word_seat ≡ published old.word_seat reply
   pub number : new.number ≡ old.number
@@ -38,7 +38,7 @@ pub record ShowsCounts (old : SessionSeatState) (number commits : ℕ) (new : Se
   pub later : (old.word_seat.saw ≤ commits) × (old.word_seat.published ≤ commits)
 
 abbrev pub seat_meaning : BackendMeaning SessionSeatState
-seat_meaning = record { active = open_at; steps = TakesStep; shows = ShowsCounts }
+seat_meaning = record { active = open_at; steps = MakesCall; shows = ShowsCounts }
 
 -- the number is drawn, unless 1,000,000 were
 abbrev pub HasDrawn : SessionSeatState → Bool → SessionSeatState → Type 0

@@ -12,7 +12,8 @@ use Rattle.am_record.specs.declared.step.Reply.{Reply}
 use Rattle.am_record.specs.declared.step.Reply.TheVariants.{Begun, Committed, Aborted, Refused}
 use Rattle.am_record.specs.Plain.{PlainMap, left}
 use Rattle.am_record.specs.Asks.{lock_of}
-use Rattle.am_serial.specs.Trace.{Event, Trace, Answered, Effect, Begins, Answers, Commits, Aborts, Nothing, effect, effect_of_do, effects, ops_of, left_by_bodies, IsSerial, IsAnsweredAlone, AreAnsweredInTurn}
+use Rattle.am_record.specs.Events.{Event}
+use Rattle.am_serial.specs.Trace.{Trace, Answered, Effect, Begins, Answers, Commits, Aborts, Nothing, effect, effect_of_do, effects, ops_of, left_by_bodies, IsSerial, IsAnsweredAlone, AreAnsweredInTurn}
 use Rattle.am_record.specs.Refusals.{is_one_too_many}
 use Rattle.am_serial.specs.Machine.{State, start, due_early, locks_in, next, after_run, state_at}
 use Rattle.am_serial.specs.Sound.{FormedAt, FormedDo, EachEvent}

@@ -17,7 +17,8 @@ use Rattle.am_record.specs.declared.step.Reply.TheVariants.{Done, Begun, Exists,
 use Rattle.am_record.specs.OrderedKey.{OrderedKey}
 use Rattle.am_record.specs.Plain.{PlainMap, Draft, fresh, answer, left_on, is_orderly, found, exists_or_done, least_taken, went_back}
 use Rattle.am_record.specs.Asks.{lock_of, clashes, locks_of}
-use Rattle.am_serial.specs.Trace.{Event, Trace, Answered, Effect, Begins, Answers, Commits, Aborts, Nothing, effect, effect_of_do, effects, ops_of, left_by_bodies}
+use Rattle.am_record.specs.Events.{Event}
+use Rattle.am_serial.specs.Trace.{Trace, Answered, Effect, Begins, Answers, Commits, Aborts, Nothing, effect, effect_of_do, effects, ops_of, left_by_bodies}
 use Rattle.am_record.specs.Refusals.{or_else, lock_refusal}
 use Rattle.am_serial.specs.Machine.{State, Transaction, start, is_open, view, blocker, due_early, due_lock, due, May, extended, without_transaction, next, Runs, after_run}
 use Rattle.am_serial.proofs.Views.{View, view_of, view_of-push, push, among, active_in, committed_in, with_body, state_of, is_open-with_body, body_in-with_body}

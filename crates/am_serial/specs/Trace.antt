@@ -11,11 +11,8 @@ use Rattle.am_record.specs.declared.step.Step.TheVariants.{Begin, Do, Commit, Ab
 use Rattle.am_record.specs.declared.step.Reply.{Reply}
 use Rattle.am_record.specs.declared.step.Reply.TheVariants.{Done, Begun, Committed, Aborted, Refused}
 use Rattle.am_record.specs.Plain.{PlainMap, answers, left}
+use Rattle.am_record.specs.Events.{Event}
 use Rattle.am_record.specs.Asks.{locks_of}
-
--- a step with its reply
-abbrev pub Event : Type 0
-Event = Step × Reply
 
 abbrev pub Trace : Type 0
 Trace = List Event

@@ -18,9 +18,9 @@ module _ {B : Type 0} (means : BackendMeaning B) where
   Merged auto b b' = (events : Trace) × MergesAfter means auto b events b'
 
 -- the line was answered, and the answer written
-abbrev pub Answered : {K B : Type 0} → (K → Option (List ℕ)) → BackendMeaning B → K → SessionPoint B → ParsedLine → K →
-    SessionPoint B → Type 0
-Answered holds means k b parsed k' b' = (response : Response) × (events : Trace) ×
+abbrev pub AnswersLine : {K B : Type 0} → (K → Option (List ℕ)) → BackendMeaning B → K → SessionPoint B →
+    ParsedLine → K → SessionPoint B → Type 0
+AnswersLine holds means k b parsed k' b' = (response : Response) × (events : Trace) ×
     Gave holds k (response_text response) k' × AnswersParsed means b parsed response events b'
 
 -- the line was answered, and a beginning of the answer written

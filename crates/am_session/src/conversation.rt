@@ -7,7 +7,7 @@ ghost use Rattle.am_wire.specs.Lines.{has_lf, TookLine, TookPart};
 ghost use Rattle.am_wire.specs.Seen.{seen};
 ghost use Rattle.am_wire.specs.Taking.{TookAhead, IsAtEnd};
 ghost use Rattle.am_talk.specs.Responses.{response_text};
-ghost use Rattle.am_session.specs.Answering.{Responds, Answered, Torn, Merged};
+ghost use Rattle.am_session.specs.Answering.{Responds, AnswersLine, Torn, Merged};
 
 use crate::backend::Backend;
 use am_record::Step;
@@ -97,7 +97,7 @@ pub(crate) fn answer<W: Wait, K: Sink, B: Backend>(
     requires countable { K.failures sink.old < 2 ^ 63 }
     requires active { B.means.active backend.old ≡ session.old.active }
     ensures active { B.means.active backend.new ≡ session.new.active }
-    ensures answered { OnOk result (Answered K.holds B.means sink.old
+    ensures answered { OnOk result (AnswersLine K.holds B.means sink.old
         (backend.old, session.old.staged) parsed sink.new (backend.new, session.new.staged)) }
     ensures sent { OnOk result (has_lf input.now ≡ false → K.pending sink.new ≡ false) }
     ensures ok { OnOk result (K.failures sink.new ≡ K.failures sink.old) }

@@ -33,7 +33,8 @@ use Rattle.am_serial.proofs.States.{overlay_laws, view_laws}
 use Rattle.am_serial.specs.Laws.{OverlayLaws, ViewLaws}
 use Rattle.am_record.specs.Refusals.{lock_refusal, is_bounded, is_load, is_one_too_many, or_else}
 use Rattle.am_serial.specs.Machine.{State, Transaction, blocker, body_in, due, extended, is_open, locks_in, owns_in, view, without_transaction}
-use Rattle.am_serial.specs.Trace.{Answered, Event, Trace, ops_of, runs_made}
+use Rattle.am_record.specs.Events.{Event}
+use Rattle.am_serial.specs.Trace.{Answered, Trace, ops_of, runs_made}
 use Rattle.am_sound.proofs.Keeping.{not_begun}
 use Rattle.am_sound.proofs.Whole.{Right, changed_refused, either_way, marks_left_refused, noted_refused, notes_left_refused, right_at}
 use Rattle.am_sound.specs.StateOf.{IsStateOf, active_of, state_of}

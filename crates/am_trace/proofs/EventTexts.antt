@@ -27,8 +27,9 @@ use Rattle.am_trace.specs.Words.{hex, key_word, record_word}
 use Rattle.am_trace.specs.Bounds.{IsNumber, IsKey, IsValue, AreRecords}
 use Rattle.am_trace.specs.Steps.{verb_of, argument_fields, step_fields, IsOp, IsStep}
 use Rattle.am_trace.specs.Replies.{refusal_fields, reply_fields, IsRefusal, IsReply}
-use Rattle.am_trace.specs.Lines.{Event, IsEvent, AreEvents, step_words, reply_words, event_words, with_lf, event_lines, trace_text, BeginsNoEvent, IsBadLine}
-use Rattle.am_trace.specs.Reading.{step_in, reply_in, parts_in, Gives}
+use Rattle.am_record.specs.Events.{Event}
+use Rattle.am_trace.specs.Lines.{IsEvent, AreEvents, step_words, reply_words, event_words, with_lf, event_lines, trace_text, BeginsNoEvent, IsBadLine}
+use Rattle.am_trace.specs.Reading.{step_in, reply_in, parts_in, IsReadAs}
 use Rattle.am_trace.specs.declared.read.ReadFault.{ReadFault}
 use Rattle.am_trace.specs.declared.read.ReadFault.TheVariants.{Bad, NoMemory}
 use Rattle.am_trace.specs.declared.version.Version.{Version}
@@ -303,11 +304,11 @@ module _ (laws : LineLaws) where
       let p = one_parting line step reply (step_words v e.0) (reply_words v e.1) h (subst (λ (x : List ℕ). IsParted x (step_words v e.0) (reply_words v e.1)) (sym same) (event_parted laws v e is)) in
       zip_of (step_in v (line_fields step)) (reply_in v (line_fields reply)) e.0 e.1 (ap (λ (x : List ℕ). step_in v (line_fields x)) p.0 ∙ step_read laws v e.0 is.0) (ap (λ (x : List ℕ). reply_in v (line_fields x)) p.1 ∙ reply_read laws v e.1 is.1)
 
-  pub given_event : (v : Version) (line step reply : List ℕ) (r : Result Event ReadFault) → IsParted line step reply → Gives (parts_in v step reply) r → IfOk r (λ (e : Event). IsEvent v e × (line ≡ event_words v e))
+  pub given_event : (v : Version) (line step reply : List ℕ) (r : Result Event ReadFault) → IsParted line step reply → IsReadAs (parts_in v step reply) r → IfOk r (λ (e : Event). IsEvent v e × (line ≡ event_words v e))
   given_event v line step reply (Ok e) h g = parts_spelled v line step reply e h g
   given_event v line step reply (Err e) h g = tt
 
-  pub given_bad : (v : Version) (line step reply : List ℕ) (r : Result Event ReadFault) → IsParted line step reply → Gives (parts_in v step reply) r → r ≡ Err Bad → (e : Event) → IsEvent v e → line ≢ event_words v e
+  pub given_bad : (v : Version) (line step reply : List ℕ) (r : Result Event ReadFault) → IsParted line step reply → IsReadAs (parts_in v step reply) r → r ≡ Err Bad → (e : Event) → IsEvent v e → line ≢ event_words v e
   given_bad v line step reply (Ok x) h g b e is same = cc
   given_bad v line step reply (Err NoMemory) h g b e is same = cc
   given_bad v line step reply (Err Bad) h g b e is same =

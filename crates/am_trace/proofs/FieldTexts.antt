@@ -21,7 +21,7 @@ use Rattle.am_wire.specs.Spaces.{IsNumeralOf}
 use Rattle.am_wire.specs.Reading.{is_equals}
 use Rattle.am_trace.specs.Cuts.{has_no}
 use Rattle.am_trace.specs.Words.{hex_digit, hex_digits, hex, key_word, record_word}
-use Rattle.am_trace.specs.Bounds.{AreBytes, IsNumber, IsKey, IsValue, IsRecord}
+use Rattle.am_trace.specs.Bounds.{IsByteList, IsNumber, IsKey, IsValue, IsRecord}
 use Rattle.am_trace.specs.Reading.{number_in, run_for, run_in, digit_in, byte_in, with_byte, bytes_for, value_for_digits, value_in, key_in, record_in}
 use Rattle.am_trace.specs.declared.version.Version.{Version}
 use Rattle.am_trace.specs.declared.version.Version.TheVariants.{One, Two}
@@ -57,22 +57,22 @@ byte_back x y b e =
     let small : b < 256 = omega (arith, lt1, lt2, whole) in
     (small, high.1 ∙ ap hex_digit first, low.1 ∙ ap hex_digit second)
 
-bytes_there : (bytes : List ℕ) → AreBytes bytes → bytes_for (hex_digits bytes) ≡ Some bytes
+bytes_there : (bytes : List ℕ) → IsByteList bytes → bytes_for (hex_digits bytes) ≡ Some bytes
 bytes_there [] h = refl
 bytes_there (b ∷ bytes) h =
     ap (option_map with_byte) (zip_of (byte_in (hex_digit (b / 16)) (hex_digit (b % 16))) (bytes_for (hex_digits bytes)) b bytes (byte_there b h.0) (bytes_there bytes h.1))
 
-bytes_back : (digits bytes : List ℕ) → bytes_for digits ≡ Some bytes → AreBytes bytes × (digits ≡ hex_digits bytes)
-bytes_back [] bytes e = let same : [] ≡ bytes = cc in (subst AreBytes same tt, ap hex_digits same)
+bytes_back : (digits bytes : List ℕ) → bytes_for digits ≡ Some bytes → IsByteList bytes × (digits ≡ hex_digits bytes)
+bytes_back [] bytes e = let same : [] ≡ bytes = cc in (subst IsByteList same tt, ap hex_digits same)
 bytes_back (x ∷ []) bytes e = cc
 bytes_back (x ∷ y ∷ digits) bytes e =
     let m = mapped with_byte (option_zip (byte_in x y) (bytes_for digits)) bytes e in
     let z = zipped (byte_in x y) (bytes_for digits) m.0 m.1 in
     let first = byte_back x y m.0.0 z.0 in
     let more = bytes_back digits m.0.1 z.1 in
-    let bytes_are : AreBytes (m.0.0 ∷ m.0.1) = (first.0, more.0) in
+    let bytes_are : IsByteList (m.0.0 ∷ m.0.1) = (first.0, more.0) in
     let text : x ∷ y ∷ digits ≡ hex_digits (m.0.0 ∷ m.0.1) = ap (λ c. c ∷ y ∷ digits) first.1 ∙ ap (λ c. hex_digit (m.0.0 / 16) ∷ c ∷ digits) first.2 ∙ ap (λ rest. hex_digit (m.0.0 / 16) ∷ hex_digit (m.0.0 % 16) ∷ rest) more.1 in
-    (subst AreBytes m.2 bytes_are, text ∙ ap hex_digits m.2)
+    (subst IsByteList m.2 bytes_are, text ∙ ap hex_digits m.2)
 
 -- ---- values
 
@@ -120,17 +120,17 @@ run_is n h = cond-true (ltb n (2 ^ 32)) (Some n) None (lt-ltb n (2 ^ 32) h)
 
 -- ---- keys of numbers
 
-by_index : (bytes : List ℕ) → AreBytes bytes → (i : ℕ) → get_or bytes i 0 < 256
+by_index : (bytes : List ℕ) → IsByteList bytes → (i : ℕ) → get_or bytes i 0 < 256
 by_index [] h i = omega arith
 by_index (b ∷ bytes) h zero = h.0
 by_index (b ∷ bytes) h (suc i) = by_index bytes h.1 i
 
-number_of_bytes : (bytes : List ℕ) → AreBytes bytes → length bytes ≡ 8 → from_be_bytes w64 bytes < 2 ^ 64
+number_of_bytes : (bytes : List ℕ) → IsByteList bytes → length bytes ≡ 8 → from_be_bytes w64 bytes < 2 ^ 64
 number_of_bytes bytes h e =
     let fits = by_index bytes h in
     omega (arith, fits 0, fits 1, fits 2, fits 3, fits 4, fits 5, fits 6, fits 7)
 
-key_of_number : (k : OrderedKey) → AreBytes (bytes_of k) → length (bytes_of k) ≡ 8 → number_key (from_be_bytes w64 (bytes_of k)) ≡ k
+key_of_number : (k : OrderedKey) → IsByteList (bytes_of k) → length (bytes_of k) ≡ 8 → number_key (from_be_bytes w64 (bytes_of k)) ≡ k
 unfolding number_key
 key_of_number k h e = ap key_of (be_bytes_8 (bytes_of k) (from_be_bytes w64 (bytes_of k)) e (by_index (bytes_of k) h) refl) ∙ key_of-bytes_of k
 
@@ -138,11 +138,11 @@ bytes_of_number : (n : ℕ) → bytes_of (number_key n) ≡ to_be_bytes w64 n
 unfolding number_key
 bytes_of_number n = bytes_of-key_of (to_be_bytes w64 n)
 
-are_bytes_of_number : (n : ℕ) → AreBytes (to_be_bytes w64 n) × (length (to_be_bytes w64 n) ≡ 8)
+are_bytes_of_number : (n : ℕ) → IsByteList (to_be_bytes w64 n) × (length (to_be_bytes w64 n) ≡ 8)
 are_bytes_of_number n = ((omega arith, (omega arith, (omega arith, (omega arith, (omega arith, (omega arith, (omega arith, (omega arith, tt)))))))), refl)
 
 number_key_is : (n : ℕ) → IsNumber n → IsKey One (number_key n)
-number_key_is n h = subst (λ (x : List ℕ). AreBytes x × (length x ≡ 8)) (sym (bytes_of_number n)) (are_bytes_of_number n)
+number_key_is n h = subst (λ (x : List ℕ). IsByteList x × (length x ≡ 8)) (sym (bytes_of_number n)) (are_bytes_of_number n)
 
 number_of_key : (n : ℕ) → IsNumber n → from_be_bytes w64 (bytes_of (number_key n)) ≡ n
 number_of_key n h = ap (from_be_bytes w64) (bytes_of_number n) ∙ from_be_bytes-to_be_bytes_8 n h
@@ -196,7 +196,7 @@ module _ (laws : NumberLaws) where
       let same : key_of m.0 ≡ k = same_some (key_of m.0) k g.1 in
       let short : length m.0 ≤ 32 = grind (arith, nat_tests, g.0) in
       let bytes : bytes_of k ≡ m.0 = ap bytes_of (sym same) ∙ bytes_of-key_of m.0 in
-      (subst (λ (x : List ℕ). AreBytes x × (length x ≤ 32)) (sym bytes) (w.0.0, short), w.1 ∙ ap hex (sym bytes))
+      (subst (λ (x : List ℕ). IsByteList x × (length x ≤ 32)) (sym bytes) (w.0.0, short), w.1 ∙ ap hex (sym bytes))
 
   pub key_text : (v : Version) → IsText (key_in v) (key_word v) (IsKey v)
   key_text v = record { there = key_there v; back = key_back v }
@@ -210,7 +210,7 @@ IsNoDigit c = ((eqb c 10 || eqb c 32) || (eqb c 61 || eqb c 124)) ≡ true
 not_digit : (c d : ℕ) → IsNoDigit c → d < 16 → not (eqb (hex_digit d) c) ≡ true
 not_digit c d n h = grind (arith, nat_tests, n, h)
 
-pub no_in_hex_digits : (c : ℕ) (bytes : List ℕ) → IsNoDigit c → AreBytes bytes → has_no c (hex_digits bytes) ≡ true
+pub no_in_hex_digits : (c : ℕ) (bytes : List ℕ) → IsNoDigit c → IsByteList bytes → has_no c (hex_digits bytes) ≡ true
 no_in_hex_digits c [] n h = refl
 no_in_hex_digits c (b ∷ bytes) n h =
     let small : b < 256 = h.0 in
@@ -221,7 +221,7 @@ no_in_hex_digits c (b ∷ bytes) n h =
 not_h : (c : ℕ) → IsNoDigit c → not (eqb 104 c) ≡ true
 not_h c n = grind (arith, nat_tests, n)
 
-pub no_in_hex : (c : ℕ) (bytes : List ℕ) → IsNoDigit c → AreBytes bytes → has_no c (hex bytes) ≡ true
+pub no_in_hex : (c : ℕ) (bytes : List ℕ) → IsNoDigit c → IsByteList bytes → has_no c (hex bytes) ≡ true
 no_in_hex c bytes n h = and_from (not (eqb 104 c)) (has_no c (hex_digits bytes)) (not_h c n) (no_in_hex_digits c bytes n h)
 
 not_decimal : (c b : ℕ) → IsNoDigit c → is_ascii_digit b ≡ true → not (eqb b c) ≡ true

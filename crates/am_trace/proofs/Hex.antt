@@ -2,4 +2,4 @@
 use Rattle.std.proofs.Common.{◌≡◌, ℕ, suc, ◌*◌, ◌/◌, ◌%◌, ◌<◌, List, [], ◌∷◌, ◌++◌, length, get_or, drop, refl, sym, ap, ◌∙◌, arith, append_assoc}
 use Rattle.std.proofs.Math.Seq.{drop-cons}
 use Rattle.am_trace.specs.Words.{hex_digit, hex_digits}
-use Rattle.am_trace.specs.Bounds.{AreBytes}
+use Rattle.am_trace.specs.Bounds.{IsByteList}

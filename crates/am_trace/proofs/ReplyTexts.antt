@@ -18,7 +18,7 @@ use Rattle.am_trace.specs.Replies.{refusal_fields, reply_fields, IsRefusal, IsRe
 use Rattle.am_wire.specs.ReplyWords.{word_text, refusal_code}
 use Rattle.am_wire.specs.declared.reply_word.ReplyWord.{ReplyWord}
 use Rattle.am_wire.specs.declared.reply_word.ReplyWord.TheVariants as word
-use Rattle.am_trace.specs.Reading.{number_in, run_in, key_in, value_in, records_in, nothing_in, one_number_in, one_key_in, one_value_in, key_and_number_in, number_and_run_in, if_counted, counted_records_in, refusal_for, coded_refusals, refusal_read, word_for, savepoint_in, reply_of, reply_with, reply_in}
+use Rattle.am_trace.specs.Reading.{number_in, run_in, key_in, value_in, records_of_fields, nothing_in, one_number_in, one_key_in, one_value_in, key_and_number_in, number_and_run_in, if_counted, counted_records_in, refusal_for, coded_refusals, refusal_read, word_for, savepoint_in, reply_of, reply_with, reply_in}
 use Rattle.am_trace.specs.declared.version.Version.{Version}
 use Rattle.am_trace.proofs.IsText.{IsText, zipped, zip_of, chained, same_some, one_field, two_fields}
 use Rattle.am_trace.proofs.FieldTexts.{number_text, run_text, key_text, value_text}
@@ -60,14 +60,14 @@ module _ (laws : WordLaws) where
 
   counted_there : (v : Version) (rs : Records) → AreCounted v rs → counted_records_in v (decimal (length rs) ∷ map (record_word v) rs) ≡ Some rs
   counted_there v rs h =
-      ap (option_and_then if_counted) (zip_of (number_in (decimal (length rs))) (records_in v (map (record_word v) rs)) (length rs) rs ((number_text laws.numbers).there (length rs) h.1) ((records laws v).there rs h.0))
+      ap (option_and_then if_counted) (zip_of (number_in (decimal (length rs))) (records_of_fields v (map (record_word v) rs)) (length rs) rs ((number_text laws.numbers).there (length rs) h.1) ((records laws v).there rs h.0))
       ∙ cond-true (eqb (length rs) (length rs)) (Some rs) None (grind (arith, nat_tests))
 
   counted_back : (v : Version) (fs : List (List ℕ)) (rs : Records) → counted_records_in v fs ≡ Some rs → AreCounted v rs × (fs ≡ decimal (length rs) ∷ map (record_word v) rs)
   counted_back v [] rs e = cc
   counted_back v (f ∷ fs) rs e =
-      let m = chained if_counted (option_zip (number_in f) (records_in v fs)) rs e in
-      let z = zipped (number_in f) (records_in v fs) m.0 m.1 in
+      let m = chained if_counted (option_zip (number_in f) (records_of_fields v fs)) rs e in
+      let z = zipped (number_in f) (records_of_fields v fs) m.0 m.1 in
       let g = gate (eqb (length m.0.1) m.0.0) (Some m.0.1) rs m.2 in
       let same : m.0.1 ≡ rs = same_some m.0.1 rs g.1 in
       let count : m.0.0 ≡ length m.0.1 = grind (arith, nat_tests, g.0) in

@@ -21,7 +21,7 @@ use Rattle.am_wire.specs.declared.verb.Verb.TheVariants as verb
 use Rattle.am_trace.specs.Words.{hex, key_word, record_word}
 use Rattle.am_trace.specs.Bounds.{IsNumber, IsKey, IsValue, IsRecord, AreRecords, IsRange}
 use Rattle.am_trace.specs.Steps.{verb_of, argument_fields, step_fields, IsOp, IsStep, HasSavepoints}
-use Rattle.am_trace.specs.Reading.{number_in, key_in, value_in, record_in, range_in, nothing_in, one_number_in, one_key_in, key_and_value_in, range_and_number_in, lock_fields_in, lock_of_parts, records_in, with_record, savepoint_in, op_in, do_in, step_of, step_with, step_in}
+use Rattle.am_trace.specs.Reading.{number_in, key_in, value_in, record_in, range_in, nothing_in, one_number_in, one_key_in, key_and_value_in, range_and_number_in, lock_fields_in, lock_of_parts, records_of_fields, with_record, savepoint_in, op_in, do_in, step_of, step_with, step_in}
 use Rattle.am_trace.specs.declared.version.Version.{Version}
 use Rattle.am_trace.specs.declared.version.Version.TheVariants.{One, Two}
 use Rattle.am_trace.proofs.IsText.{IsText, zipped, zip_of, chained, same_some, one_field, two_fields}
@@ -52,21 +52,21 @@ module _ (laws : WordLaws) where
   pub key_and_value : (v : Version) → IsText (key_and_value_in v) (λ (r : OrderedKey × List ℕ). key_word v r.0 ∷ hex r.1 ∷ []) (IsRecord v)
   key_and_value v = let t = two_fields (key_in v) (key_word v) (IsKey v) (key_text numbers v) value_in hex IsValue value_text in record { there = t.there; back = t.back }
 
-  records_there : (v : Version) (rs : Records) → AreRecords v rs → records_in v (map (record_word v) rs) ≡ Some rs
+  records_there : (v : Version) (rs : Records) → AreRecords v rs → records_of_fields v (map (record_word v) rs) ≡ Some rs
   records_there v [] h = refl
-  records_there v (r ∷ rs) h = ap (option_map with_record) (zip_of (record_in v (record_word v r)) (records_in v (map (record_word v) rs)) r rs ((record_text numbers v).there r h.0) (records_there v rs h.1))
+  records_there v (r ∷ rs) h = ap (option_map with_record) (zip_of (record_in v (record_word v r)) (records_of_fields v (map (record_word v) rs)) r rs ((record_text numbers v).there r h.0) (records_there v rs h.1))
 
-  records_back : (v : Version) (fs : List (List ℕ)) (rs : Records) → records_in v fs ≡ Some rs → AreRecords v rs × (fs ≡ map (record_word v) rs)
+  records_back : (v : Version) (fs : List (List ℕ)) (rs : Records) → records_of_fields v fs ≡ Some rs → AreRecords v rs × (fs ≡ map (record_word v) rs)
   records_back v [] rs e = let same : [] ≡ rs = cc in (subst (AreRecords v) same tt, ap (map (record_word v)) same)
   records_back v (f ∷ fs) rs e =
-      let m = mapped with_record (option_zip (record_in v f) (records_in v fs)) rs e in
-      let z = zipped (record_in v f) (records_in v fs) m.0 m.1 in
+      let m = mapped with_record (option_zip (record_in v f) (records_of_fields v fs)) rs e in
+      let z = zipped (record_in v f) (records_of_fields v fs) m.0 m.1 in
       let first = (record_text numbers v).back f m.0.0 z.0 in
       let more = records_back v fs m.0.1 z.1 in
       let all : AreRecords v (m.0.0 ∷ m.0.1) = (first.0, more.0) in
       (subst (AreRecords v) m.2 all, ap (λ (x : List ℕ). x ∷ fs) first.1 ∙ ap (λ (xs : List (List ℕ)). record_word v m.0.0 ∷ xs) more.1 ∙ ap (map (record_word v)) m.2)
 
-  pub records : (v : Version) → IsText (records_in v) (map (record_word v)) (AreRecords v)
+  pub records : (v : Version) → IsText (records_of_fields v) (map (record_word v)) (AreRecords v)
   records v = record { there = records_there v; back = records_back v }
 
   -- ---- ranges
@@ -156,7 +156,7 @@ module _ (laws : WordLaws) where
   op_back v verb.Scan fs o e = let m = mapped (λ (p : Interval × ℕ). op.Scan p.0 p.1) (range_and_number_in v fs) o e in let b = (range_and_number v).back fs m.0 m.1 in subst (IsOpOf v verb.Scan fs) m.2 (refl, b)
   op_back v verb.Insert fs o e = let m = mapped (λ (r : OrderedKey × List ℕ). op.Insert r.0 r.1) (key_and_value_in v fs) o e in let b = (key_and_value v).back fs m.0 m.1 in subst (IsOpOf v verb.Insert fs) m.2 (refl, b)
   op_back v verb.Replace fs o e = let m = mapped (λ (r : OrderedKey × List ℕ). op.Replace r.0 r.1) (key_and_value_in v fs) o e in let b = (key_and_value v).back fs m.0 m.1 in subst (IsOpOf v verb.Replace fs) m.2 (refl, b)
-  op_back v verb.Load fs o e = let m = mapped op.Load (records_in v fs) o e in let b = records_back v fs m.0 m.1 in subst (IsOpOf v verb.Load fs) m.2 (refl, b)
+  op_back v verb.Load fs o e = let m = mapped op.Load (records_of_fields v fs) o e in let b = records_back v fs m.0 m.1 in subst (IsOpOf v verb.Load fs) m.2 (refl, b)
   op_back v verb.Lock fs o e = let m = mapped op.Lock (lock_fields_in v fs) o e in let b = (lock_fields v).back fs m.0 m.1 in subst (IsOpOf v verb.Lock fs) m.2 (refl, b)
   op_back v verb.Mark fs o e = let m = mapped (λ _. op.Mark) (savepoint_in v fs) o e in let b = savepoint_back v fs m.0 m.1 in subst (IsOpOf v verb.Mark fs) m.2 (refl, b)
   op_back v verb.Back fs o e = let m = mapped (λ _. op.Back) (savepoint_in v fs) o e in let b = savepoint_back v fs m.0 m.1 in subst (IsOpOf v verb.Back fs) m.2 (refl, b)

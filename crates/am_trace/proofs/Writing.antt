@@ -4,7 +4,8 @@ use Rattle.std.specs.List.{AllByRecursion}
 use Rattle.std.proofs.Math.Seq.{drop-cons}
 use Rattle.am_record.specs.declared.step.Reply.TheVariants.{Refused}
 use Rattle.am_record.specs.declared.step.Refusal.TheVariants.{SeatFull}
-use Rattle.am_trace.specs.Lines.{Event, IsEvent, AreEvents, CanBeStored, event_words, event_lines, with_lf, header, trace_text}
+use Rattle.am_record.specs.Events.{Event}
+use Rattle.am_trace.specs.Lines.{IsEvent, AreEvents, CanBeStored, event_words, event_lines, with_lf, header, trace_text}
 use Rattle.am_trace.specs.declared.version.Version.{Version}
 
 pub written_line : (v : Version) (page new text : List ℕ) (trace : List Event) (i n : ℕ) (e : Event) → n ≡ suc i → i < length trace → e ≡ get_or trace i e →

@@ -8,19 +8,19 @@ use Rattle.am_record.specs.Records.{Records}
 use Rattle.am_trace.specs.declared.version.Version.{Version}
 use Rattle.am_trace.specs.declared.version.Version.TheVariants.{One, Two}
 
-abbrev pub AreBytes : List ℕ → Type 0
-AreBytes bytes = AllByRecursion (λ b. b < 256) bytes
+abbrev pub IsByteList : List ℕ → Type 0
+IsByteList bytes = AllByRecursion (λ b. b < 256) bytes
 
 abbrev pub IsNumber : ℕ → Type 0
 IsNumber n = n < 2 ^ 64
 
 -- a key of at most 32 bytes; in version 1 one of eight
 abbrev pub IsKey : Version → OrderedKey → Type 0
-IsKey One key = AreBytes (bytes_of key) × (length (bytes_of key) ≡ 8)
-IsKey Two key = AreBytes (bytes_of key) × (length (bytes_of key) ≤ max_key_bytes)
+IsKey One key = IsByteList (bytes_of key) × (length (bytes_of key) ≡ 8)
+IsKey Two key = IsByteList (bytes_of key) × (length (bytes_of key) ≤ max_key_bytes)
 
 abbrev pub IsValue : List ℕ → Type 0
-IsValue value = AreBytes value × (length value ≤ max_value_bytes)
+IsValue value = IsByteList value × (length value ≤ max_value_bytes)
 
 abbrev pub IsRecord : Version → OrderedKey × List ℕ → Type 0
 IsRecord v r = IsKey v r.0 × IsValue r.1

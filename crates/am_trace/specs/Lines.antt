@@ -5,14 +5,11 @@ use Rattle.am_record.specs.declared.step.Step.{Step}
 use Rattle.am_record.specs.declared.step.Reply.{Reply}
 use Rattle.am_record.specs.declared.step.Reply.TheVariants.{Refused}
 use Rattle.am_record.specs.declared.step.Refusal.TheVariants.{SeatFull}
+use Rattle.am_record.specs.Events.{Event}
 use Rattle.am_trace.specs.Steps.{step_fields, IsStep}
 use Rattle.am_trace.specs.Replies.{reply_fields, IsReply}
 use Rattle.am_trace.specs.declared.version.Version.{Version}
 use Rattle.am_trace.specs.declared.version.Version.TheVariants.{One, Two}
-
--- a step with its reply
-abbrev pub Event : Type 0
-Event = Step × Reply
 
 -- what the version can write of events
 abbrev pub IsEvent : Version → Event → Type 0

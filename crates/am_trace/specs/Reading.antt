@@ -29,7 +29,7 @@ use Rattle.am_wire.specs.declared.verb.Verb.{Verb}
 use Rattle.am_wire.specs.declared.verb.Verb.TheVariants as verb
 use Rattle.am_trace.specs.declared.version.Version.{Version}
 use Rattle.am_trace.specs.declared.version.Version.TheVariants.{One, Two}
-use Rattle.am_trace.specs.Lines.{Event}
+use Rattle.am_record.specs.Events.{Event}
 use Rattle.am_trace.specs.declared.read.ReadFault.{ReadFault}
 use Rattle.am_trace.specs.declared.read.ReadFault.TheVariants.{Bad, NoMemory}
 
@@ -100,9 +100,9 @@ one_number_in fs = field_in number_in fs
 abbrev pub with_record : (OrderedKey × List ℕ) × Records → Records
 with_record p = p.0 ∷ p.1
 
-abbrev pub records_in : Version → List (List ℕ) → Option Records
-records_in v [] = Some []
-records_in v (f ∷ fs) = option_map with_record (option_zip (record_in v f) (records_in v fs))
+abbrev pub records_of_fields : Version → List (List ℕ) → Option Records
+records_of_fields v [] = Some []
+records_of_fields v (f ∷ fs) = option_map with_record (option_zip (record_in v f) (records_of_fields v fs))
 
 abbrev pub one_key_in : Version → List (List ℕ) → Option OrderedKey
 one_key_in v fs = field_in (key_in v) fs
@@ -136,7 +136,7 @@ if_counted p = if length p.1 == p.0 then Some p.1 else None
 
 abbrev pub counted_records_in : Version → List (List ℕ) → Option Records
 counted_records_in v [] = None
-counted_records_in v (n ∷ fs) = option_and_then if_counted (option_zip (number_in n) (records_in v fs))
+counted_records_in v (n ∷ fs) = option_and_then if_counted (option_zip (number_in n) (records_of_fields v fs))
 
 -- the refusals that can be stored, but for a lock that conflicts
 abbrev pub coded_refusals : List Refusal
@@ -169,7 +169,7 @@ small_op_in v verb.Back fs = option_map (λ _. op.Back) (savepoint_in v fs)
 small_op_in v _ fs = None
 
 abbrev pub op_in : Version → Verb → List (List ℕ) → Option Op
-op_in v verb.Load fs = option_map op.Load (records_in v fs)
+op_in v verb.Load fs = option_map op.Load (records_of_fields v fs)
 op_in v verb fs = small_op_in v verb fs
 
 abbrev pub do_in : Version → Verb → List (List ℕ) → Option Step
@@ -242,7 +242,7 @@ abbrev pub parts_in : Version → List ℕ → List ℕ → Option Event
 parts_in v step reply = option_zip (step_in v (line_fields step)) (reply_in v (line_fields reply))
 
 -- this is what is due, or memory was refused
-abbrev pub Gives : {A : Type 0} → Option A → Result A ReadFault → Type 0
-Gives due (Ok x) = due ≡ Some x
-Gives due (Err Bad) = due ≡ None
-Gives due (Err NoMemory) = Unit {0}
+abbrev pub IsReadAs : {A : Type 0} → Option A → Result A ReadFault → Type 0
+IsReadAs due (Ok x) = due ≡ Some x
+IsReadAs due (Err Bad) = due ≡ None
+IsReadAs due (Err NoMemory) = Unit {0}

@@ -2,8 +2,9 @@
 
 ghost use Rattle.std.specs.Prelude.{◌≡◌, ◌≢◌, ◌++◌, List, ℕ, codes, IfOk, IfSome, IfNone, Err};
 ghost use Rattle.am_trace.specs.Cuts.{IsParted};
-ghost use Rattle.am_trace.specs.Reading.{parts_in, Gives};
-ghost use Rattle.am_trace.specs.Lines.{Event, IsEvent, event_words};
+ghost use Rattle.am_trace.specs.Reading.{parts_in, IsReadAs};
+ghost use Rattle.am_record.specs.Events.{Event};
+ghost use Rattle.am_trace.specs.Lines.{IsEvent, event_words};
 
 use crate::cut::cut;
 use crate::read::ReadFault;
@@ -36,7 +37,7 @@ fn read_parts(
     step: &[u8],
     reply: &[u8],
 ) -> Result<(Step, Reply), ReadFault>
-    ensures { Gives (parts_in version step.now reply.now) result }
+    ensures { IsReadAs (parts_in version step.now reply.now) result }
 {
     let step = read_step(alloc, version, Fields::new(step))?;
     let reply = read_reply(alloc, version, Fields::new(reply))?;

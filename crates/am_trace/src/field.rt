@@ -3,7 +3,7 @@
 ghost use Rattle.std.specs.Prelude.{◌≡◌, ◌+◌, ◌*◌, ◌≤◌, ◌<◌, [], ◌∷◌, ◌++◌, length, decimal};
 ghost use Rattle.am_record.specs.OrderedKey.{bytes_of};
 ghost use Rattle.am_trace.specs.Words.{hex_digit, hex, key_word, record_word};
-ghost use Rattle.am_trace.specs.Bounds.{AreBytes, IsNumber, IsKey, IsValue, IsRecord};
+ghost use Rattle.am_trace.specs.Bounds.{IsByteList, IsNumber, IsKey, IsValue, IsRecord};
 
 use crate::version::Version;
 use am_record::{Key, Value};
@@ -97,7 +97,7 @@ impl Field {
         requires { length self + (2 * length bytes.now + 1) ≤ 195 }
         ensures text { result ≡ self ++ hex bytes.now }
         ensures len { length result ≡ length self + (2 * length bytes.now + 1) }
-        ensures are_bytes { AreBytes bytes.now }
+        ensures are_bytes { IsByteList bytes.now }
     {
         let mut field = self.then(b"h");
         for byte in bytes {

@@ -1,7 +1,7 @@
 //! Replies as they are read.
 
 ghost use Rattle.std.specs.Prelude.{◌≡◌, option_map};
-ghost use Rattle.am_trace.specs.Reading.{nothing_in, small_reply_in, reply_of, reply_in, Gives};
+ghost use Rattle.am_trace.specs.Reading.{nothing_in, small_reply_in, reply_of, reply_in, IsReadAs};
 
 use crate::read::ReadFault;
 use crate::read_step::read_savepoint;
@@ -21,7 +21,7 @@ pub(crate) fn read_reply(
     version: Version,
     mut fields: Fields<'_>,
 ) -> Result<Reply, ReadFault>
-    ensures { Gives (reply_in version fields.entry) result }
+    ensures { IsReadAs (reply_in version fields.entry) result }
 {
     let text = next(&mut fields).ok_or(ReadFault::Bad)?;
     let word = word_for(text).ok_or(ReadFault::Bad)?;
@@ -34,7 +34,7 @@ fn read_reply_of(
     word: ReplyWord,
     fields: Fields<'_>,
 ) -> Result<Reply, ReadFault>
-    ensures { Gives (reply_of version word fields.entry) result }
+    ensures { IsReadAs (reply_of version word fields.entry) result }
 {
     match word {
         ReplyWord::Rows => Ok(Reply::Rows(read_counted_records(alloc, version, fields)?)),

@@ -1,7 +1,7 @@
 //! Steps as they are read.
 
 ghost use Rattle.std.specs.Prelude.{◌≡◌};
-ghost use Rattle.am_trace.specs.Reading.{savepoint_in, small_op_in, op_in, do_in, step_of, step_in, Gives};
+ghost use Rattle.am_trace.specs.Reading.{savepoint_in, small_op_in, op_in, do_in, step_of, step_in, IsReadAs};
 
 use crate::read::ReadFault;
 use crate::shape::{
@@ -19,7 +19,7 @@ pub(crate) fn read_step(
     version: Version,
     mut fields: Fields<'_>,
 ) -> Result<Step, ReadFault>
-    ensures { Gives (step_in version fields.entry) result }
+    ensures { IsReadAs (step_in version fields.entry) result }
 {
     let word = next(&mut fields).ok_or(ReadFault::Bad)?;
     let verb = Verb::of_word(word).ok_or(ReadFault::Bad)?;
@@ -33,7 +33,7 @@ fn read_step_of(
     verb: Verb,
     fields: Fields<'_>,
 ) -> Result<Step, ReadFault>
-    ensures { Gives (step_of version verb fields.entry) result }
+    ensures { IsReadAs (step_of version verb fields.entry) result }
 {
     match verb {
         Verb::Begin => {
@@ -58,7 +58,7 @@ fn read_do(
     verb: Verb,
     mut fields: Fields<'_>,
 ) -> Result<Step, ReadFault>
-    ensures { Gives (do_in version verb fields.entry) result }
+    ensures { IsReadAs (do_in version verb fields.entry) result }
 {
     let field = next(&mut fields).ok_or(ReadFault::Bad)?;
     let tx = number(field).ok_or(ReadFault::Bad)?;
@@ -67,7 +67,7 @@ fn read_do(
 }
 
 fn read_op(alloc: Global, version: Version, verb: Verb, fields: Fields<'_>) -> Result<Op, ReadFault>
-    ensures { Gives (op_in version verb fields.entry) result }
+    ensures { IsReadAs (op_in version verb fields.entry) result }
 {
     match verb {
         Verb::Load => Ok(Op::Load(read_records(alloc, version, fields)?)),

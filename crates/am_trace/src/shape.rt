@@ -3,9 +3,9 @@
 ghost use Rattle.std.specs.Prelude.{◌≡◌, ◌∷◌, [], option_map, MatchOption};
 ghost use Rattle.am_trace.specs.Reading.{number_in, run_in, digit_in, byte_in, value_for_digits, key_in, value_in};
 ghost use Rattle.am_trace.specs.Reading.{record_in, range_in, nothing_in, one_number_in, one_key_in, key_and_value_in};
-ghost use Rattle.am_trace.specs.Reading.{one_value_in, range_and_number_in, lock_fields_in, records_in};
+ghost use Rattle.am_trace.specs.Reading.{one_value_in, range_and_number_in, lock_fields_in, records_of_fields};
 ghost use Rattle.am_trace.specs.Reading.{key_and_number_in, number_and_run_in, counted_records_in};
-ghost use Rattle.am_trace.specs.Reading.{refusal_read, Gives};
+ghost use Rattle.am_trace.specs.Reading.{refusal_read, IsReadAs};
 
 use crate::read::ReadFault;
 use crate::version::Version;
@@ -230,7 +230,7 @@ pub(crate) fn read_records(
     version: Version,
     mut fields: Fields<'_>,
 ) -> Result<Pairs, ReadFault>
-    ensures { Gives (records_in version fields.entry) result }
+    ensures { IsReadAs (records_of_fields version fields.entry) result }
 {
     let mut items = Vec::new(alloc);
     'fields: while let Some(field) = next(&mut fields) {
@@ -248,7 +248,7 @@ pub(crate) fn read_counted_records(
     version: Version,
     mut fields: Fields<'_>,
 ) -> Result<Pairs, ReadFault>
-    ensures { Gives (counted_records_in version fields.entry) result }
+    ensures { IsReadAs (counted_records_in version fields.entry) result }
 {
     let field = next(&mut fields).ok_or(ReadFault::Bad)?;
     let count = number(field).ok_or(ReadFault::Bad)?;

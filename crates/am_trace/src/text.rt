@@ -1,7 +1,8 @@
 //! The whole text.
 
 ghost use Rattle.std.specs.Prelude.{◌≡◌, ◌++◌, List, ℕ, IfOk, IfSome, IfNone, Err};
-ghost use Rattle.am_trace.specs.Lines.{Event, IsEvent, AreEvents, event_words, with_lf, header, trace_text, IsTextOf};
+ghost use Rattle.am_record.specs.Events.{Event};
+ghost use Rattle.am_trace.specs.Lines.{IsEvent, AreEvents, event_words, with_lf, header, trace_text, IsTextOf};
 ghost use Rattle.am_trace.specs.Lines.{IsBadLine, BeginsNoEvent, BeginsNoHeader, CanBeStored};
 
 use crate::cut::cut;

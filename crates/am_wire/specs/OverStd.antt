@@ -6,14 +6,14 @@ use Rattle.am_wire.specs.declared.over_std.Writing.{Writing}
 abbrev pub reader_of : {R : Type 0} → Reading R → R
 reader_of s = s.reader
 
-abbrev pub read_failures : {R : Type 0} → Reading R → ℕ
-read_failures s = s.failures
+abbrev pub failed_reads : {R : Type 0} → Reading R → ℕ
+failed_reads s = s.failures
 
 abbrev pub writer_of : {W : Type 0} → Writing W → W
 writer_of s = s.writer
 
-abbrev pub write_failures : {W : Type 0} → Writing W → ℕ
-write_failures s = s.failures
+abbrev pub failed_writes : {W : Type 0} → Writing W → ℕ
+failed_writes s = s.failures
 
 abbrev pub is_unsent : {W : Type 0} → Writing W → Bool
 is_unsent s = s.is_pending

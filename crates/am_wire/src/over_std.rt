@@ -1,7 +1,7 @@
 //! Sources and sinks over std's readers and writers.
 
 ghost use Rattle.std.specs.Prelude.{◌≡◌, ℕ, List, ◌+◌, ◌^◌, ◌<◌, ◌↔◌, take, false, MatchResult, IfOk, IfErr, IfSome};
-ghost use Rattle.am_wire.specs.OverStd.{reader_of, read_failures, writer_of, write_failures, is_unsent, IsAnswered};
+ghost use Rattle.am_wire.specs.OverStd.{reader_of, failed_reads, writer_of, failed_writes, is_unsent, IsAnswered};
 ghost use Rattle.am_wire.specs.OverStd.{IsCounted};
 ghost use Rattle.am_wire.specs.declared.over_std.Reading.{Reading};
 ghost use Rattle.am_wire.specs.declared.over_std.Writing.{Writing};
@@ -54,7 +54,7 @@ impl<R> Reading<R> {
     /// The source over the reader, which has not failed yet.
     pub fn new(reader: R) -> Self
         ensures reader { reader_of result ≡ reader }
-        ensures failures { read_failures result ≡ 0 }
+        ensures failures { failed_reads result ≡ 0 }
     {
         Reading {
             reader,
@@ -66,7 +66,7 @@ impl<R> Reading<R> {
 impl<R: Read> Source for Reading<R> {
     ghost comes = { λ s bytes. IfSome (R.remaining (reader_of s)) (λ rest. bytes ≡ rest) };
 
-    ghost failures = { read_failures };
+    ghost failures = { failed_reads };
 
     fn take(&mut self, into: &mut [u8]) -> Result<usize, Failed> {
         judge(self.reader.read(into), &mut self.failures)
@@ -85,7 +85,7 @@ impl<W> Writing<W> {
     /// The sink over the writer, which has not failed yet, and was given nothing.
     pub fn new(writer: W) -> Self
         ensures writer { writer_of result ≡ writer }
-        ensures failures { write_failures result ≡ 0 }
+        ensures failures { failed_writes result ≡ 0 }
         ensures pending { is_unsent result ≡ false }
     {
         Writing {
@@ -99,7 +99,7 @@ impl<W> Writing<W> {
 impl<W: Write> Sink for Writing<W> {
     ghost holds = { λ s. W.contents (writer_of s) };
 
-    ghost failures = { write_failures };
+    ghost failures = { failed_writes };
 
     ghost pending = { is_unsent };
 

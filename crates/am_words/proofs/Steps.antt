@@ -7,7 +7,7 @@ use lib.ListN.{get_elem?}
 use Rattle.atomic_table.specs.Table.{Me, step, keeps, Allows, Splits, opening}
 use Rattle.atomic_table.proofs.Lists.{at_set, at_snoc}
 use Rattle.am_words.specs.declared.rule.View.{View}
-use Rattle.am_words.specs.Words.{all_seats, one, without_one, total, count_of, once_below, greatest, IsRuleOfWords, DrawsNumber, RaisesWatch, SeesWatch}
+use Rattle.am_words.specs.Words.{all_seats, one_seat, without_one_seat, total, count_of, once_below, greatest, IsRuleOfWords, DrawsNumber, RaisesWatch, SeesWatch}
 
 pub total_set : (f : View → ℕ) (vs : List View) (k : ℕ) (v w : View) → get_elem? vs k ≡ some v → total f (set vs k w) + f v ≡ total f vs + f w
 total_set f [] k v w e = absurd (some-ne-none v (sym e))
@@ -142,19 +142,19 @@ sees slots id me s h long at fits =
       (refl, omega (arith, h.seen id v at), omega (arith, greatest_above s.views id v at, h.top)),
     )
 
-pub splits : (id : ℕ) (v : View) → 1 ≤ v.seats → v.drawn ≡ [] → Splits IsRuleOfWords id v (without_one v) one
+pub splits : (id : ℕ) (v : View) → 1 ≤ v.seats → v.drawn ≡ [] → Splits IsRuleOfWords id v (without_one_seat v) one_seat
 splits id v some_seat none_drawn s h at =
-    let w = without_one v in
+    let w = without_one_seat v in
     let vs = set s.views id w in
     let mine : length w.drawn ≤ 1000000 * w.seats = omega (arith, ap length none_drawn) in
     record {
       next = h.next;
       watch = h.watch;
       words = h.words;
-      seats = omega (arith, total_set (λ u. u.seats) s.views id v w at, total-snoc (λ u. u.seats) vs one, h.seats);
-      few = each_snoc (λ u. length u.drawn ≤ 1000000 * u.seats) vs one (each_set (λ u. length u.drawn ≤ 1000000 * u.seats) s.views id w h.few mine) (omega arith);
-      count = omega (arith, total_set (λ u. length u.drawn) s.views id v w at, total-snoc (λ u. length u.drawn) vs one, h.count);
-      each_once = λ x. omega (arith, total_set (λ u. count_of x u.drawn) s.views id v w at, total-snoc (λ u. count_of x u.drawn) vs one, h.each_once x);
-      top = let t = greatest_set s.views id 0 v w at (omega arith) in omega (arith, t, greatest-snoc vs one, h.top);
-      seen = each_snoc (λ u. u.saw ≤ h.watch) vs one (each_set (λ u. u.saw ≤ h.watch) s.views id w h.seen (h.seen id v at)) (omega arith);
+      seats = omega (arith, total_set (λ u. u.seats) s.views id v w at, total-snoc (λ u. u.seats) vs one_seat, h.seats);
+      few = each_snoc (λ u. length u.drawn ≤ 1000000 * u.seats) vs one_seat (each_set (λ u. length u.drawn ≤ 1000000 * u.seats) s.views id w h.few mine) (omega arith);
+      count = omega (arith, total_set (λ u. length u.drawn) s.views id v w at, total-snoc (λ u. length u.drawn) vs one_seat, h.count);
+      each_once = λ x. omega (arith, total_set (λ u. count_of x u.drawn) s.views id v w at, total-snoc (λ u. count_of x u.drawn) vs one_seat, h.each_once x);
+      top = let t = greatest_set s.views id 0 v w at (omega arith) in omega (arith, t, greatest-snoc vs one_seat, h.top);
+      seen = each_snoc (λ u. u.saw ≤ h.watch) vs one_seat (each_set (λ u. u.saw ≤ h.watch) s.views id w h.seen (h.seen id v at)) (omega arith);
     }

@@ -19,11 +19,11 @@ new_history id = record { of = id; drawn = []; saw = 0; published = 0 }
 abbrev pub all_seats : View
 all_seats = record { seats = 1024; drawn = []; saw = 0; published = 0 }
 
-abbrev pub one : View
-one = record { seats = 1; drawn = []; saw = 0; published = 0 }
+abbrev pub one_seat : View
+one_seat = record { seats = 1; drawn = []; saw = 0; published = 0 }
 
-abbrev pub without_one : View → View
-without_one v = record { seats = v.seats - 1; drawn = v.drawn; saw = v.saw; published = v.published }
+abbrev pub without_one_seat : View → View
+without_one_seat v = record { seats = v.seats - 1; drawn = v.drawn; saw = v.saw; published = v.published }
 
 -- f of each view, added up
 abbrev pub total : (View → ℕ) → List View → ℕ

@@ -50,9 +50,9 @@ impl Play<u8, View> for Sees {
 pub(crate) struct OneSeat;
 
 impl Split<View> for OneSeat {
-    ghost use Rattle.am_words.specs.Words.{without_one, one};
+    ghost use Rattle.am_words.specs.Words.{without_one_seat, one_seat};
 
-    ghost left = { without_one };
+    ghost left = { without_one_seat };
 
-    ghost right = { λ _. one };
+    ghost right = { λ _. one_seat };
 }

@@ -1,5 +1,6 @@
 use Rattle.std.proofs.Common.{◌≡◌, ◌+◌, ◌++◌, [], List, ℕ, length, refl, sym, ap, ◌∙◌, subst, arith, inl, inr, append-nil, append_assoc}
-use Rattle.am_trace.specs.Lines.{Event, AreEvents, header, trace_text, event_lines, IsTextOf, EndsInBadLine, IsBadLine, BeginsNoEvent}
+use Rattle.am_record.specs.Events.{Event}
+use Rattle.am_trace.specs.Lines.{AreEvents, header, trace_text, event_lines, IsTextOf, EndsInBadLine, IsBadLine, BeginsNoEvent}
 use Rattle.am_trace.specs.declared.version.Version.{Version}
 use Rattle.am_trace.specs.declared.version.Version.TheVariants.{One, Two}
 use Rattle.am_trace.proofs.EventTexts.{LineLaws, one_list, no_line}

@@ -1,11 +1,11 @@
 use Rattle.std.proofs.Common.{◌≡◌, nat_eq, ◌<◌, List, ℕ, length, get_or, bit_and, sym, ap, ◌∙◌, subst}
 use Rattle.am_filter.proofs.Setting.{any_default}
 use Rattle.am_record.specs.KeyMix.{key_mix}
-use Rattle.am_filter.specs.Filters.{mask_of, word_index, holds}
+use Rattle.am_filter.specs.Filters.{mask_of, word_index, has_bits}
 use Rattle.am_filter.proofs.filter.Filter.holds_mixed.Goals as goal
 
 pub returns : goal.returns
-unfolding holds
+unfolding has_bits
 returns c = λ k e.
     let ws = c.args.self.now in
     let mask : c.mask-mask.result ≡ mask_of (key_mix k) = c.mask-mask.ensures ∙ ap mask_of e in

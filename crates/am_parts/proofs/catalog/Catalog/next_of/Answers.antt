@@ -1,7 +1,7 @@
 use Rattle.std.proofs.Common.{◌≡◌, ◌<◌, ◌≤◌, List, get_or, take, sym, ap, ◌∙◌, subst, arith}
 use Rattle.std.proofs.lemmas.List.{get_or_default}
 use Rattle.am_record.proofs.Lists.{AllByRecursion-map}
-use Rattle.am_filter.specs.Filters.{holds}
+use Rattle.am_filter.specs.Filters.{has_bits}
 use Rattle.am_parts.specs.declared.generations.Generation.{Generation}
 use Rattle.am_parts.specs.Generations.{IsGenerationAt}
 use Rattle.am_parts.proofs.Held.{held_at}
@@ -22,5 +22,5 @@ returns-then-generation-from-clause-none c = λ d es key number whole part low h
             here = λ e lt. subst (λ (x : Generation). part < x.end) (get_or_default gens i d e lt) high;
           } in
           unheld es key gens part whole.held (omega (arith, low, c.requires.some))
-          (held_at part key gens i d at c.requires.in_range ∙ ap (λ (x : Generation). holds x.filter key) (sym same) ∙ sym (w.may_have.ensures key number) ∙ w.if-not-may_have.true)
+          (held_at part key gens i d at c.requires.in_range ∙ ap (λ (x : Generation). has_bits x.filter key) (sym same) ∙ sym (w.may_have.ensures key number) ∙ w.if-not-may_have.true)
     ]

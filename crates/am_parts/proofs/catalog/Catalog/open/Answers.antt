@@ -1,5 +1,5 @@
 use Rattle.std.proofs.Common.{◌<◌, ℕ, sym, ap, ◌∙◌, subst, refl}
-use Rattle.am_filter.specs.Filters.{holds}
+use Rattle.am_filter.specs.Filters.{has_bits}
 use Rattle.am_parts.specs.Catalogs.{AreListed, IsGapAt}
 use Rattle.am_parts.proofs.Listed.{opened}
 use Rattle.am_parts.proofs.catalog.Catalog.open.Goals as goal
@@ -9,4 +9,4 @@ returns-clause-ok c = λ es x p k h.
     let gap = subst (λ (q : ℕ). IsGapAt c.args.self.now.runs.items q c.args.at) (sym p) c.requires.gap in
     subst (AreListed _ _) (sym c.in_ok-insert.ensures.items)
     (opened h x (subst (λ (q : ℕ). 0 < q) (sym p) c.requires.is_run) c.args.at (record { part = c.args.part; left = 1; filter = c.add.new.self }) gap (sym p) refl
-    (ap (holds c.add.new.self) k ∙ c.add.ensures.added))
+    (ap (has_bits c.add.new.self) k ∙ c.add.ensures.added))

@@ -1,7 +1,7 @@
 use Rattle.std.proofs.Common.{◌≡◌, ◌<◌, ◌++◌, ◌∷◌, [], ℕ, length, get_or, set, sym, ap, ◌∙◌, subst, arith}
 use Rattle.std.proofs.lemmas.List.{get_or_default}
 use Rattle.am_record.specs.OrderedKey.{OrderedKey}
-use Rattle.am_filter.specs.Filters.{holds}
+use Rattle.am_filter.specs.Filters.{has_bits}
 use Rattle.am_parts.specs.declared.generations.Generation.{Generation}
 use Rattle.am_parts.specs.Generations.{AreHeld, HasGrown, IsGenerationAt}
 use Rattle.am_parts.proofs.Held.{all_held, entry_held, held_grown, held_now, held_behind, held_last}
@@ -13,7 +13,7 @@ returns-then-at-len-clause-ok c = λ es x p k held.
     let lt : i < length gens = omega (arith, c.if-at-len.true, c.len.ensures) in
     let more : HasGrown (get_or gens i s) s = subst (λ (g : Generation). HasGrown g s) (c.index_mut.ensures.value ∙ get_or_default gens i old s lt) c.add.ensures.grown in
     let at : IsGenerationAt gens x.part i = subst (λ (q : ℕ). IsGenerationAt gens q i) (sym p) c.place-at.ensures in
-    entry_held gens (set gens i s) x (λ q r. held_grown q r gens i s lt more) (held_now x.part x.key gens i s at lt more.end (ap (λ (q : OrderedKey). holds s.filter q) k ∙ c.add.ensures.added)) es held
+    entry_held gens (set gens i s) x (λ q r. held_grown q r gens i s lt more) (held_now x.part x.key gens i s at lt more.end (ap (λ (q : OrderedKey). has_bits s.filter q) k ∙ c.add.ensures.added)) es held
 
 pub returns-then-at-len-clause-kept : goal.returns-then-at-len-clause-kept
 returns-then-at-len-clause-kept c =
@@ -29,7 +29,7 @@ returns-clause-ok c = λ es x p k held.
     let at : IsGenerationAt gens x.part (length gens) = subst (λ (q : ℕ). IsGenerationAt gens q (length gens)) (sym p) (subst (λ (n : ℕ). IsGenerationAt gens c.args.part n) none c.place-at.ensures) in
     let above : x.part < s.end = omega (arith, p, c.ranges.part.fits, c.add-2.ensures.grown.end, c.in_ok-generation.ensures) in
     subst (AreHeld _) (sym c.in_ok-push.ensures.items)
-    (entry_held gens (gens ++ s ∷ []) x (λ q r. held_behind q r gens s) (held_last x.part x.key gens s at above (ap (λ (q : OrderedKey). holds s.filter q) k ∙ c.add-2.ensures.added)) es held)
+    (entry_held gens (gens ++ s ∷ []) x (λ q r. held_behind q r gens s) (held_last x.part x.key gens s at above (ap (λ (q : OrderedKey). has_bits s.filter q) k ∙ c.add-2.ensures.added)) es held)
 
 pub returns-clause-kept : goal.returns-clause-kept
 returns-clause-kept c = λ es held.
