@@ -2,7 +2,7 @@
 use Rattle.std.proofs.Common.{◌≡◌, ◌∙◌, ◌⊎◌, ℕ, List, [], Option, codes, refl, sym, subst, ap, ap₂, inl, inr, true, false, ◌||◌}
 use Rattle.std.proofs.lemmas.Bool.{true≢false}
 use Rattle.std.specs.Prelude.{IsSomeAnd}
-use Rattle.clap.specs.Words.{AddsArg, App, HasMatchesOf, Rule, Text, fault_of, first_of, found_of, is_simple, is_simple_and_free, kind_of, matches_of, rows_of, rule_of, subcommand_of, subcommand_rows_of, with_rule}
+use Rattle.clap.specs.Words.{AddsArg, AddsSubcommand, App, HasMatchesOf, Rule, Text, fault_of, first_of, found_of, is_simple, is_simple_and_free, kind_of, matches_of, rows_of, rule_of, subcommand_of, subcommand_rows_of, with_rule, with_subcommand, app_of}
 use Rattle.clap.specs.Kinds.{IsAmong}
 use Rattle.clap.specs.declared.builder.arg.Arg.{Arg}
 use Rattle.clap.specs.declared.builder.command.Command.{Command}
@@ -11,9 +11,8 @@ use Rattle.clap.specs.declared.error.kind.ErrorKind.TheVariants.{OutOfMemory}
 use Rattle.clap.specs.declared.parser.matches.ArgMatches.{ArgMatches}
 use Rattle.clap.proofs.OnLiterals.{clap_on_literals}
 use Rattle.am_command.specs.Faults.{IsFaultOf, Refuses, is_request}
-use Rattle.am_command.specs.Options.{IsCommand, Names, Selects, amserve_app, number_rule}
+use Rattle.am_command.specs.Options.{IsCommand, Names, Selects, amserve_app}
 use Rattle.am_command.specs.Audited.{amaudit_app}
-use Rattle.am_command.specs.declared.amserve.Setting.{Setting}
 use Rattle.am_command.specs.declared.choice.Options.{Options}
 use Rattle.am_command.specs.declared.fault.OptionsFault.{OptionsFault}
 use Rattle.am_command.specs.declared.fault.OptionsFault.TheVariants.{Asked, Wrong, Unserved, NotText, NoMemory}
@@ -23,12 +22,9 @@ pub arg_added : (before after : Command) (argument : Arg) (app : App) (rule : Ru
 arg_added before after argument app rule is_app is_rule adds =
     (adds.shape is_rule.1 ∙ ap₂ with_rule is_app.0 is_rule.0, adds.globals ∙ ap₂ (λ a b. a || b) is_app.1 is_rule.1)
 
-pub number_added : (before after : Command) (option argument : Arg) (app : App) (rule : Rule) (setting : Setting) → IsCommand app before
-    → (rule_of option ≡ rule) × (option.global ≡ false) → (rule_of argument ≡ number_rule (rule_of option) setting) × (argument.global ≡ option.global)
-    → AddsArg before argument after → IsCommand (with_rule app (number_rule rule setting)) after
-number_added before after option argument app rule setting is_app is_option is_number =
-    arg_added before after argument app (number_rule rule setting) is_app
-    (is_number.0 ∙ ap (λ r. number_rule r setting) is_option.0, is_number.1 ∙ is_option.1)
+pub subcommand_added : (before entered after : Command) (app its : App) → app_of before ≡ app → IsCommand its entered → AddsSubcommand before entered after
+    → app_of after ≡ with_subcommand app its.top
+subcommand_added before entered after app its is_app is_its adds = adds.shape is_its.1 ∙ ap₂ with_subcommand is_app (ap (λ (a : App). a.top) is_its.0)
 
 amserve_plain : is_simple amserve_app ≡ true
 unfolding clap_on_literals

@@ -85,57 +85,55 @@ fn amserve<'a>(alloc: Global) -> Result<Command<'a>, AllocError>
 fn alone<'a>(alloc: Global) -> Result<Command<'a>, AllocError>
     ensures { IfOk result (λ command. IsCommand alone_app command) }
 {
-    let auto = option(
-        alloc,
-        "auto",
-        "N",
-        "How many entries are merged after each answer, 0 to 64 [default: 16]",
-    );
     Command::new(alloc, "alone")
         .about("Serves one session over standard input and output, on a store of its own")
-        .arg(number(auto, AUTO))
+        .arg(number(
+            alloc,
+            "auto",
+            "N",
+            "How many entries are merged after each answer, 0 to 64 [default: 16]",
+            AUTO,
+        ))
 }
 
 /// `listen --port P [--sessions N] [--workers W] [--trace FILE] [--stop]`.
 fn listen<'a>(alloc: Global) -> Result<Command<'a>, AllocError>
     ensures { IfOk result (λ command. IsCommand listen_app command) }
 {
-    let port = option(
-        alloc,
-        "port",
-        "P",
-        "The port to listen at, 0 to 65535; 0 for any that is free",
-    );
-    let sessions = option(
-        alloc,
-        "sessions",
-        "N",
-        "How many sessions are served, 1 to 256 [default: 1]",
-    );
-    let workers = option(
-        alloc,
-        "workers",
-        "W",
-        "How many workers merge, 0 to 16 [default: 1]",
-    );
-    let trace = option(
-        alloc,
-        "trace",
-        "FILE",
-        "The file that gets the trace; none by default",
-    );
-    let stop = flag(
-        alloc,
-        "stop",
-        "Serve until a line STOP, or the end, comes on standard input",
-    );
     Command::new(alloc, "listen")
         .about("Serves sessions over TCP, on one store")
-        .arg(number(port, PORT))?
-        .arg(number(sessions, SESSIONS))?
-        .arg(number(workers, WORKERS))?
-        .arg(trace)?
-        .arg(stop)
+        .arg(number(
+            alloc,
+            "port",
+            "P",
+            "The port to listen at, 0 to 65535; 0 for any that is free",
+            PORT,
+        ))?
+        .arg(number(
+            alloc,
+            "sessions",
+            "N",
+            "How many sessions are served, 1 to 256 [default: 1]",
+            SESSIONS,
+        ))?
+        .arg(number(
+            alloc,
+            "workers",
+            "W",
+            "How many workers merge, 0 to 16 [default: 1]",
+            WORKERS,
+        ))?
+        .arg(option(
+            alloc,
+            "trace",
+            "FILE",
+            "The file that gets the trace; none by default",
+        ))?
+        .arg(flag(
+            alloc,
+            "stop",
+            "Serve until a line STOP, or the end, comes on standard input",
+        ))
 }
 
 /// `--NAME VALUE`.
@@ -158,13 +156,18 @@ fn flag<'a>(alloc: Global, name: &'a str, help: &'a str) -> Arg<'a>
         .action(ArgAction::SetTrue)
 }
 
-/// The option takes a number, and is wanted where the number has no default.
-fn number<'a>(option: Arg<'a>, setting: Setting) -> Arg<'a>
-    ensures { (rule_of result ≡ number_rule (rule_of option.entry) setting)
-        × (result.global ≡ option.entry.global) }
+/// `--NAME VALUE`, where the value is a number. It is wanted where the number has no default.
+fn number<'a>(
+    alloc: Global,
+    name: &'a str,
+    value: &'a str,
+    help: &'a str,
+    setting: Setting,
+) -> Arg<'a>
+    ensures { (rule_of result ≡ number_rule (option_rule name.now) setting) × (result.global ≡ false) }
 {
     let bounds = i64::from(setting.least)..=i64::from(setting.most);
-    option
+    option(alloc, name, value, help)
         .value_parser(value_parser!(u64).range(bounds))
         .required(setting.default.is_none())
 }
