@@ -6,7 +6,7 @@ use crate::BTree;
 use crate::insert::Obstacle;
 use crate::node::{Node, Subtree};
 use crate::read::Start;
-use am_list::{Batch, ListIndex, PartIndex};
+use am_list::PartIndex;
 use am_record::{Entry, Key, NoMemory, Value};
 use std::alloc::Global;
 use std::test::Fail;
@@ -37,34 +37,6 @@ fn take<I: PartIndex>(index: &mut I, part: u32, key: Key) -> Option<Entry> {
     Some(index.remove(part, key))
 }
 
-// Whether both indexes give the same walks over the partition, of at most so many entries.
-fn same_walks<A: PartIndex, B: PartIndex>(a: &A, b: &B, part: u32, most: usize) -> bool {
-    let mut at = Key::least();
-    for _ in 0..most {
-        if a.next_from(part, at) != b.next_from(part, at) {
-            return false;
-        }
-        let next = a.after(part, at);
-        if next != b.after(part, at) {
-            return false;
-        }
-        match next {
-            Some(entry) => at = entry.key,
-            None => return true,
-        }
-    }
-    false
-}
-
-// Whether both indexes read the same batch.
-fn same_batch<A: PartIndex, B: PartIndex>(a: &A, b: &B, part: u32, key: Key) -> bool {
-    let mut batch = Batch::new();
-    a.read_on(part, key, &mut batch);
-    let mut other = Batch::new();
-    b.read_on(part, key, &mut other);
-    batch.entries() == other.entries()
-}
-
 // How many leaves there are.
 fn leaves(tree: &Subtree) -> usize {
     match &tree.node {
@@ -84,66 +56,6 @@ fn scattered(i: u64) -> u64
     requires { i < 10007 }
 {
     (7919 * i) % 10_007
-}
-
-// Gives both indexes the same inserts. Whether their walks are the same after each thousandth call,
-// and after the last.
-fn insert_all<A: PartIndex, B: PartIndex>(a: &mut A, b: &mut B) -> Result<bool, NoMemory> {
-    for i in 0..10_007_u64 {
-        let number = scattered(i);
-        add(a, numbered(0, number))?;
-        add(b, numbered(0, number))?;
-        if (i + 1) % 1000 == 0 && !same_walks(a, b, 0, 10_008) {
-            return Ok(false);
-        }
-    }
-    Ok(same_walks(a, b, 0, 10_008))
-}
-
-// The same with removals, which are to answer alike.
-fn remove_all<A: PartIndex, B: PartIndex>(a: &mut A, b: &mut B) -> bool {
-    for i in 0..10_007_u64 {
-        let key = Key::of_u64(scattered(i));
-        if take(a, 0, key) != take(b, 0, key) {
-            return false;
-        }
-        if (10_008 + i) % 1000 == 0 && !same_walks(a, b, 0, 10_008) {
-            return false;
-        }
-    }
-    same_walks(a, b, 0, 1)
-}
-
-#[test]
-fn inserts_and_removals_beside_a_list(rt: HostRuntime) -> Result<(), Fail> {
-    let mut tree = BTree::new(rt.alloc())?;
-    let mut list = ListIndex::new(rt.alloc());
-    assert!(rt; insert_all(&mut tree, &mut list)?);
-    assert!(rt; remove_all(&mut tree, &mut list));
-    assert!(rt; tree.next_any(0, Key::least()).is_none());
-    assert!(rt; list.next_any(0, Key::least()).is_none());
-    add(&mut tree, numbered(0, 5))?;
-    add(&mut list, numbered(0, 5))?;
-    assert!(rt; tree.next_any(0, Key::least()) == Some(numbered(0, 5)));
-    assert!(rt; same_walks(&tree, &list, 0, 2));
-    Ok(())
-}
-
-#[test]
-fn reads_on_past_the_end_of_a_leaf(rt: HostRuntime) -> Result<(), Fail> {
-    let mut tree = BTree::new(rt.alloc())?;
-    let mut list = ListIndex::new(rt.alloc());
-    for number in 0..200_u64 {
-        let part = if number < 90 { 1 } else { 2 };
-        add(&mut tree, numbered(part, number))?;
-        add(&mut list, numbered(part, number))?;
-    }
-    for number in 0..200_u64 {
-        assert!(rt; same_batch(&tree, &list, 1, Key::of_u64(number)));
-        assert!(rt; same_batch(&tree, &list, 2, Key::of_u64(number)));
-    }
-    assert!(rt; same_batch(&tree, &list, 3, Key::least()));
-    Ok(())
 }
 
 // A tree of the numbers below 2,000, of which these are ghosts. The upper half stands in partition 1.
@@ -237,25 +149,6 @@ fn a_loaded_run_fills_its_leaves(rt: HostRuntime) -> Result<(), Fail> {
         }
     }
     assert!(rt; leaves(&tree) == 100);
-    Ok(())
-}
-
-#[test]
-fn refused_insert_changes_nothing(rt: HostRuntime) -> Result<(), Fail> {
-    let Ok(mut tree) = BTree::new(rt.alloc()) else {
-        return Ok(());
-    };
-    let mut list = ListIndex::new(rt.alloc());
-    for number in 0..40_u64 {
-        if add(&mut tree, numbered(0, 40 - number)).is_err() {
-            assert!(rt; same_walks(&tree, &list, 0, 41));
-            add(&mut tree, numbered(0, 40 - number))?;
-        }
-        if add(&mut list, numbered(0, 40 - number)).is_err() {
-            add(&mut list, numbered(0, 40 - number))?;
-        }
-        assert!(rt; same_walks(&tree, &list, 0, 41));
-    }
     Ok(())
 }
 

@@ -2,7 +2,7 @@
 
 ghost use Rattle.std.specs.Prelude.{◌≡◌, ◌<◌, true, IfOk, OnErr};
 ghost use Rattle.am_record.specs.Plain.{is_rising};
-ghost use Rattle.am_runs.specs.Loads.{NothingAbove};
+ghost use Rattle.am_list.specs.Runs.{NothingAbove};
 ghost use Rattle.am_core.specs.Doing.{IsDone, LeavesAlone};
 ghost use Rattle.am_record.specs.declared.step.Op.TheVariants.{Load};
 

@@ -7,7 +7,7 @@ ghost use Rattle.am_record.specs.declared.step.Refusal.TheVariants.{NoMemory as 
 ghost use Rattle.am_list.specs.Entries.{find};
 ghost use Rattle.am_record.specs.Marks.{since_mark};
 ghost use Rattle.am_undo.specs.Notes.{CanTakeBack};
-ghost use Rattle.am_runs.specs.Loads.{NothingAbove};
+ghost use Rattle.am_list.specs.Runs.{NothingAbove};
 ghost use Rattle.am_tx.specs.Active.{is_active_in, log_in};
 ghost use Rattle.am_record.specs.Refusals.{is_load};
 ghost use Rattle.am_sound.specs.StoreState.{MayAnswer, state_after, IsFit};
@@ -41,7 +41,7 @@ impl<I: PartIndex + Drop> Inner<I> {
         ensures after { inner_state self.new ≡ state_after (inner_state self.old) (Do tx op) result }
         ensures memory { result ≡ Reply.Refused OutOfMemory → may_want_memory (inner_state self.old) (Do tx op) ≡ true }
     {
-        am_runs::load_follows();
+        am_list::runs_follow();
         // Read here, the numbers of the active transactions are known to rise.
         let _active = self.txs.active();
         if let Some(why) = refusal(&self.parts, &self.txs, tx, &op) {

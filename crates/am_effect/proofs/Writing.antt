@@ -15,8 +15,7 @@ use Rattle.am_record.specs.declared.step.Step.TheVariants as step
 use Rattle.am_record.specs.declared.step.Reply.{Reply}
 use Rattle.am_record.specs.declared.step.Reply.TheVariants as reply
 use Rattle.am_list.specs.Entries.{Slot, slot_of, find, insert_entry, set_entry, remove_entry}
-use Rattle.am_list.specs.Runs.{live_entry}
-use Rattle.am_runs.specs.Loads.{with_run}
+use Rattle.am_list.specs.Runs.{live_entry, with_run}
 use Rattle.am_serial.specs.Trace.{Trace}
 use Rattle.am_effect.specs.Places.{put, with_slot, reslotted}
 use Rattle.am_effect.specs.Merging.{candidates, worked_off, all_worked_off, merged_by, cleanable, cleaned_by}

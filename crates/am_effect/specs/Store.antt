@@ -20,8 +20,7 @@ use Rattle.am_list.specs.Entries.{Slot, first_such, find, set_entry}
 use Rattle.am_undo.specs.declared.note.Note.{Note}
 use Rattle.am_undo.specs.declared.note.Note.TheVariants.{New, Before, RunMade}
 use Rattle.am_record.specs.Marks.{until_mark, older}
-use Rattle.am_list.specs.Runs.{live_entry}
-use Rattle.am_runs.specs.Loads.{with_run}
+use Rattle.am_list.specs.Runs.{live_entry, with_run}
 use Rattle.am_record.specs.Events.{Event}
 use Rattle.am_serial.specs.Trace.{Trace, effect, ops_of}
 use Rattle.am_serial.specs.Machine.{State, Transaction, start, is_limit, May, next}

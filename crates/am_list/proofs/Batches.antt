@@ -14,7 +14,7 @@ use Rattle.am_record.specs.declared.entry.Entry.{Entry}
 use Rattle.am_record.specs.EntryOrder.{Place, place_of, place_cmp}
 use Rattle.am_record.proofs.Lists.{AllByRecursion-map}
 use Rattle.am_list.specs.Entries.{all_after, IsRising, all_from}
-use Rattle.am_list.specs.Places.{AllAbove, NoneAbove, IsUpperBound, NoneBelow, IsLowerBound}
+use Rattle.am_list.specs.Places.{AllAbove, IsUpperBound, NoneBelow, IsLowerBound}
 use Rattle.am_list.proofs.Lists.{not_greater, differ, other_part, later_parts, rising_back, not_less}
 
 -- a list that is not too long is taken whole

@@ -8,5 +8,6 @@ pub mod ContentLaws
 pub mod WalkLaws
 pub mod ReadLaws
 pub mod Runs
+pub mod RunLaws
 pub mod Rows
 mod RowLaws

@@ -5,15 +5,15 @@ use Rattle.std.proofs.lemmas.Option.{none-some, same_Some}
 use Rattle.std.specs.List.{AllByRecursion, filter, slice_get}
 use Rattle.std.specs.declared.cmp.Ordering.{Ordering}
 use Rattle.std.specs.declared.cmp.Ordering.TheVariants.{Less, Equal, Greater}
-use Rattle.std.specs.Ordering.{is_lt, is_gt, is_ge, ordering_reverse}
+use Rattle.std.specs.Ordering.{is_lt, is_gt, is_ge}
 use Rattle.std.specs.Option.{option_map}
 use Rattle.am_record.specs.OrderedKey.{OrderedKey, key_cmp}
 use Rattle.am_record.specs.EntryOrder.{Place, place_of, place_cmp}
 use Rattle.am_record.specs.declared.entry.Entry.{Entry}
-use Rattle.am_record.proofs.Lists.{AllByRecursion-map, heads, tails}
+use Rattle.am_record.proofs.Lists.{AllByRecursion-map, tails}
 use Rattle.am_record.proofs.PlaceOrder.{turned_less}
-use Rattle.am_record.proofs.Orderings.{is_greater, gt_reversed}
-use Rattle.am_list.specs.Entries.{slot_of, first_such, entry_at, find, after, all_after, IsRising, next_from, all_from}
+use Rattle.am_record.proofs.Orderings.{gt_reversed}
+use Rattle.am_list.specs.Entries.{slot_of, first_such, entry_at, find, after, all_after, IsRising}
 use Rattle.am_list.specs.Edits.{same_place}
 use Rattle.am_list.specs.Walks.{ReadLaws}
 use Rattle.am_list.proofs.Lists.{rising_above}

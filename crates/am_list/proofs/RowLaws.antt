@@ -1,5 +1,5 @@
 -- The rows of a partition are those of the content, where nothing of the range is live elsewhere.
-use Rattle.std.proofs.Common.{◌≡◌, ℕ, Bool, true, false, ◌&&◌, eqb, cond, T, filter, List, [], ◌∷◌, ◌++◌, Option, Some, None, if◌then◌else◌, refl, sym, ap, ◌∙◌, subst, ⊎_elim}
+use Rattle.std.proofs.Common.{◌≡◌, ℕ, Bool, true, false, ◌&&◌, eqb, cond, T, filter, List, [], ◌∷◌, ◌++◌, None, refl, sym, ap, ◌∙◌, subst, ⊎_elim}
 use Rattle.std.proofs.lemmas.Bool.{cases_Bool, cond-true, cond-false, and_parts, eqb-true, eq-eqb, both_ways, and_from}
 use Rattle.std.proofs.lemmas.Option.{none-some}
 use Rattle.std.specs.List.{AllByRecursion}
@@ -16,7 +16,7 @@ use Rattle.am_list.specs.Entries.{find, IsRising}
 use Rattle.am_list.specs.Content.{content, live_records, rows_in, live_value, values_at, IsLiveAt, LivesInOne, OnePlace, HasOne}
 use Rattle.am_list.proofs.ReadLaws.{kept_at, pass_rising}
 use Rattle.am_list.proofs.Content.{get-content, same_has_one, content_has_one, content_found, content_live, live_at}
-use Rattle.am_list.proofs.Rows.{row_of, live-cons}
+use Rattle.am_list.proofs.Rows.{live-cons}
 
 -- ---- the rows rise
 

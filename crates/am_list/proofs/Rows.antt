@@ -1,22 +1,21 @@
 -- The live records of a partition in a range.
-use Rattle.std.proofs.Common.{◌≡◌, ◌≢◌, ℕ, zero, suc, ◌+◌, ◌<◌, ◌≤◌, add-one, Bool, true, false, ◌&&◌, not, eqb, cond, T, List, [], ◌∷◌, ◌++◌, length, get_or, take, drop, map, filter, Option, Some, None, if◌then◌else◌, append_assoc, refl, sym, ap, ◌∙◌, subst, ⊎_elim, arith}
+use Rattle.std.proofs.Common.{◌≡◌, ◌≢◌, ℕ, zero, suc, ◌+◌, ◌<◌, ◌≤◌, add-one, Bool, true, false, ◌&&◌, not, eqb, cond, List, [], ◌∷◌, ◌++◌, length, get_or, take, drop, map, filter, if◌then◌else◌, append_assoc, refl, sym, ap, ◌∙◌, subst, ⊎_elim, arith}
 use Rattle.std.proofs.Math.Seq.{drop-cons}
-use Rattle.std.proofs.lemmas.Bool.{cases_Bool, cond-true, cond-false, and_parts, eqb-true, eq-eqb, true≢false, and_right, and_from}
+use Rattle.std.proofs.lemmas.Bool.{cases_Bool, cond-true, cond-false, eqb-true, eq-eqb, and_right, and_from}
 use Rattle.std.proofs.lemmas.List.{take-append-drop, map-append, length-append}
 use Rattle.std.proofs.lemmas.List.Elements.{filter-append}
-use Rattle.std.proofs.lemmas.Option.{none-some}
 use Rattle.std.specs.List.{AllByRecursion}
 use Rattle.std.specs.declared.cmp.Ordering.{Ordering}
 use Rattle.std.specs.declared.cmp.Ordering.TheVariants.{Less, Equal, Greater}
-use Rattle.std.specs.Ordering.{is_le, is_lt, ordering_reverse}
+use Rattle.std.specs.Ordering.{is_le, ordering_reverse}
 use Rattle.am_record.proofs.Lists.{AllByRecursion-map, AllByRecursion-at}
 use Rattle.am_record.specs.OrderedKey.{OrderedKey, key_cmp, key_cmp-total}
 use Rattle.am_record.specs.Interval.{Interval, key_le, within}
 use Rattle.am_record.specs.Plain.{Records}
-use Rattle.am_record.specs.EntryOrder.{Place, place_of, place_cmp, place_cmp-part, place_cmp-same, place_cmp-total}
+use Rattle.am_record.specs.EntryOrder.{place_of, place_cmp, place_cmp-part, place_cmp-same, place_cmp-total}
 use Rattle.am_record.specs.declared.entry.Entry.{Entry}
 use Rattle.am_record.proofs.Orderings.{not_greater_le}
-use Rattle.am_list.specs.Places.{AllBelow, NoneBelow, AllAbove, NoneAbove, IsLowerBound, IsUpperBound}
+use Rattle.am_list.specs.Places.{AllBelow, AllAbove, IsLowerBound, IsUpperBound}
 use Rattle.am_list.specs.Content.{live_records, rows_in}
 use Rattle.am_list.proofs.Lists.{first_false}
 use Rattle.am_list.proofs.Batches.{take_whole, take_full}

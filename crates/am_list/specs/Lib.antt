@@ -1,5 +1,4 @@
 pub mod EntryCode
-pub mod Refusing
 pub mod Entries
 pub mod Places
 pub mod Edits

@@ -9,6 +9,7 @@ ghost use Rattle.am_record.specs.declared.entry.Entry.{Entry};
 ghost use Rattle.am_list.specs.Entries.{IsRising};
 ghost use Rattle.am_list.specs.Edits.{EditLaws};
 ghost use Rattle.am_list.specs.Walks.{WalkLaws, ReadLaws};
+ghost use Rattle.am_list.specs.Runs.{RunLaws};
 ghost use Rattle.am_list.specs.Content.{content, rows_in, LivesInOne, OnePlace, HasContent, HasOne, values_at};
 ghost use Rattle.am_list.specs.Content.{ContentLaws};
 
@@ -39,4 +40,9 @@ pub fn content_follows()
 pub fn rows_follow()
     ensures { (es : List Entry) (part : ℕ) (range : Interval) → IsRising es → OnePlace es → LivesInOne es part range →
         rows_in es part range ≡ rows_where (within range) (content es) }
+{}
+
+/// Where the records of a run stand, and where nothing stands.
+pub fn runs_follow()
+    ensures { (es : List Entry) → IsRising es → RunLaws es }
 {}

@@ -1,13 +1,14 @@
 //! Runs that are cut and loaded.
 
 ghost use Rattle.std.specs.Prelude.{◌≡◌, []};
-ghost use Rattle.am_runs.specs.Loads.{NothingAbove};
+ghost use Rattle.am_list.specs.Runs.{NothingAbove};
 
 use crate::fault::{Fault, expect, expect_unchanged};
 use crate::holding::hold_just;
 use crate::numbers::{pairs_of, value};
 use am_btree::BTree;
-use am_list::{ListIndex, PartIndex};
+use am_list::PartIndex;
+use am_list_index::ListIndex;
 use am_parts::Parts;
 use am_record::{Entry, Key, NoMemory, Refusal, Reply, Value};
 use am_runs::{LoadFault, MAX_RUN_LEN, Run, cut_runs, load};

@@ -3,7 +3,8 @@
 use crate::fault::{Fault, expect, expect_unchanged};
 use crate::numbers::entries_below;
 use am_btree::BTree;
-use am_list::{ListIndex, PartIndex};
+use am_list::PartIndex;
+use am_list_index::ListIndex;
 use am_record::{Entry, Key, NoMemory};
 use std::alloc::Global;
 

@@ -6,7 +6,7 @@ ghost use Rattle.am_memory_tests.specs.Restoring.{CanRestore};
 use crate::fault::{Fault, expect};
 use crate::holding::{hold_just, place};
 use crate::numbers::{live, value_of};
-use am_list::ListIndex;
+use am_list_index::ListIndex;
 use am_parts::Parts;
 use am_record::{Key, Value};
 use am_undo::{Note, UndoLog, undo_follows};

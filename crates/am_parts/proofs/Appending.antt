@@ -18,12 +18,12 @@ use Rattle.am_record.proofs.Orderings.{is_less}
 use Rattle.am_record.proofs.FirstRows.{Record}
 use Rattle.am_list.specs.Entries.{slot_of, find, insert_entry, IsRising}
 use Rattle.am_list.specs.Content.{content, HasContent, OnePlace}
-use Rattle.am_list.specs.Runs.{live_entry, run_entries}
+use Rattle.am_list.specs.Runs.{live_entry, run_entries, with_run}
 use Rattle.am_list.proofs.Edits.{find-miss, other_part, other_key, entry_at_beside_inserted}
 use Rattle.am_list.proofs.ContentLaws.{content_laws}
 use Rattle.am_parts.specs.Partitions.{AreWellFormed}
 use Rattle.am_parts.specs.Catalogs.{IsNext}
-use Rattle.am_parts.proofs.Bridge.{with_run, with_run_appends, run_rises}
+use Rattle.am_parts.proofs.AppendedRuns.{with_run_appends, run_rises}
 
 pub under_next : (es : List Entry) (runs : ℕ) → AllByRecursion (λ e. e.part ≤ runs) es → AllByRecursion (λ e. e.part < runs + 1) es
 under_next es runs above = AllByRecursion-map (λ e. e.part ≤ runs) (λ e. e.part < runs + 1) (λ e low. omega (arith, low)) es above

@@ -1,4 +1,4 @@
-pub mod Bridge
+pub mod AppendedRuns
 pub mod Counts
 pub mod Held
 pub mod Listed

@@ -5,7 +5,6 @@ pub mod Pieces
 pub mod Apart
 pub mod Taken
 pub mod Loaded
-pub mod LoadLaws
 pub mod Parting
 pub mod Beginnings
 pub mod Passing

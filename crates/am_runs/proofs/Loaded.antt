@@ -13,20 +13,11 @@ use Rattle.am_record.specs.Plain.{is_rising}
 use Rattle.am_record.proofs.Lists.{AllByRecursion-map}
 use Rattle.am_record.proofs.Rising.{run_sorted}
 use Rattle.am_record.proofs.Outcomes.{on_ok}
-use Rattle.am_list.specs.Runs.{live_entry, run_entries}
-use Rattle.am_parts.proofs.Bridge.{with_run as part_run, with_run_appends}
-use Rattle.am_runs.specs.Loads.{with_run, NothingAbove, IsLoaded}
+use Rattle.am_list.specs.Runs.{live_entry, run_entries, with_run, NothingAbove}
+use Rattle.am_parts.proofs.AppendedRuns.{with_run_appends}
+use Rattle.am_runs.specs.Loads.{IsLoaded}
 
 -- ---- nothing above
-
-pub none_above : {part : ℕ} {es : List Entry} → NothingAbove part es → (part' : ℕ) (key : OrderedKey) → part < part' → find es part' key ≡ None
-none_above {part} {es} h part' key above = absent es h.all
-  where
-    absent : (es : List Entry) → AllByRecursion (λ e. e.part ≤ part) es → find es part' key ≡ None
-    absent [] h = refl
-    absent (e ∷ es) h =
-        let other : e.part ≢ part' = λ same. let low : e.part ≤ part = h.0 in absurd (omega (arith, low, above, same)) in
-        find-miss part' key e es (other_part e.part part' e.key key other) ∙ absent es h.1
 
 -- an entry of the partition or of an earlier one was added
 pub nothing_above-inserted : {part : ℕ} {es : List Entry} → NothingAbove part es → (x : Entry) → x.part ≤ part → NothingAbove part (insert_entry es x)
@@ -42,13 +33,9 @@ nothing_above-with_run part (r ∷ rs) es h = nothing_above-with_run part rs (in
 -- ---- what a load leaves
 
 -- a run that was appended went in record by record
-as_parts : (part : ℕ) (rs : Records) (es : List Entry) → with_run part rs es ≡ part_run part rs es
-as_parts part [] es = refl
-as_parts part (r ∷ rs) es = as_parts part rs (insert_entry es (live_entry part r))
-
 pub as_with_run : {part : ℕ} (rs : Records) {es after : List Entry} → NothingAbove part es → is_rising rs ≡ true → after ≡ es ++ run_entries (part + 1) rs → after ≡ with_run (part + 1) rs es
 as_with_run {part} rs {es} {after} above rising is =
-    is ∙ sym (with_run_appends (part + 1) rs es (run_sorted rs rising) (AllByRecursion-map (λ e. e.part ≤ part) (λ e. e.part < part + 1) (λ e low. omega (arith, low)) es above.all)) ∙ sym (as_parts (part + 1) rs es)
+    is ∙ sym (with_run_appends (part + 1) rs es (run_sorted rs rising) (AllByRecursion-map (λ e. e.part ≤ part) (λ e. e.part < part + 1) (λ e low. omega (arith, low)) es above.all))
 
 -- what was added and counted is a run more; nothing stands above it
 module _ {T E : Type 0} (before after : Partitions) (pairs seen : Records) (r : Result T E) (ok : is_err r ≡ false) (same : seen ≡ pairs)

@@ -3,7 +3,6 @@
 
 mod cut;
 mod fault;
-mod laws;
 mod loading;
 mod look;
 mod run;
@@ -13,6 +12,5 @@ mod walk;
 
 pub use cut::{MAX_RUN_LEN, cut_runs};
 pub use fault::LoadFault;
-pub use laws::load_follows;
 pub use loading::load;
 pub use run::Run;

@@ -1,7 +1,8 @@
 //! Loading a run into the partitions.
 
 ghost use Rattle.std.specs.Prelude.{◌≡◌, ◌≢◌};
-ghost use Rattle.am_runs.specs.Loads.{NothingAbove, load_due, IsAnswer, IsLoaded};
+ghost use Rattle.am_list.specs.Runs.{NothingAbove};
+ghost use Rattle.am_runs.specs.Loads.{load_due, IsAnswer, IsLoaded};
 
 use crate::look::first_live;
 use crate::run::Run;

@@ -30,8 +30,7 @@ use Rattle.am_record.specs.declared.step.Reply.TheVariants.{Aborted, Cleaned, Do
 use Rattle.am_record.specs.declared.step.Step.{Step}
 use Rattle.am_record.specs.declared.step.Step.TheVariants.{Abort, Clean, Do, Merge}
 use Rattle.am_record.proofs.Lists.{AllByRecursion-map, AllByRecursion-take, AllByRecursion-drop, AllByRecursion-push}
-use Rattle.am_list.specs.Runs.{live_entry}
-use Rattle.am_runs.specs.Loads.{with_run}
+use Rattle.am_list.specs.Runs.{live_entry, with_run}
 use Rattle.am_record.specs.Events.{Event}
 use Rattle.am_serial.specs.Trace.{Trace}
 use Rattle.am_sound.proofs.Whole.{at_start, Right, by_limit, one_more}

@@ -31,9 +31,8 @@ use Rattle.am_undo.specs.declared.note.Note.{Note}
 use Rattle.am_undo.specs.declared.note.Note.TheVariants.{New, Before, RunMade}
 use Rattle.am_undo.specs.Undo.{is_noted_run, Undoes}
 use Rattle.am_undo.proofs.Undoing.{undo_laws}
-use Rattle.am_list.specs.Runs.{live_entry}
-use Rattle.am_runs.specs.Loads.{with_run}
-use Rattle.am_runs.proofs.LoadLaws.{load_laws}
+use Rattle.am_list.specs.Runs.{live_entry, with_run}
+use Rattle.am_list.proofs.RunLaws.{run_laws}
 use Rattle.am_serial.specs.Trace.{Answers, runs_made}
 use Rattle.am_serial.proofs.Maps.{entries-retain_keys}
 use Rattle.am_serial.proofs.Keys.{in_point, in_span}
@@ -260,10 +259,10 @@ module _ (gone : List Entry) (t runs : ℕ) (es : List Entry) (rise : IsRising e
       fresh q = empty_above (runs + 1) q (omega arith)
 
       other_parts : (p : ℕ) (q : OrderedKey) → (p == (runs + 1)) ≡ false → find (with_run (runs + 1) pairs es) p q ≡ find es p q
-      other_parts p q h = (load_laws es rise).other_parts (runs + 1) pairs p q h
+      other_parts p q h = (run_laws es rise).other_parts (runs + 1) pairs p q h
 
       other_keys : (q : OrderedKey) → is_key_of pairs q ≡ false → find (with_run (runs + 1) pairs es) (runs + 1) q ≡ find es (runs + 1) q
-      other_keys q h = (load_laws es rise).other_keys (runs + 1) pairs q h
+      other_keys q h = (run_laws es rise).other_keys (runs + 1) pairs q h
 
       apart : (p : ℕ) → p ≢ (runs + 1) → (p == (runs + 1)) ≡ false
       apart p n = false_from_ne_true (p == (runs + 1)) (λ e. n (eqb-true p (runs + 1) e))

@@ -2,10 +2,4 @@
 #![tactic(auto)]
 
 #[cfg(test)]
-mod seats;
-#[cfg(test)]
-mod sockets;
-#[cfg(test)]
-mod words;
-#[cfg(test)]
-mod workers;
+mod tests;

@@ -1,5 +1,0 @@
-use Rattle.am_list.proofs.Rows.{AreCopied}
-use Rattle.am_list.proofs.list_index.ListIndexPartIndex.copy_rows.Given as goal
-
-abbrev pub invariant-loop-at : goal.invariant-loop-at
-invariant-loop-at l = AreCopied l.self l.fn.part l.fn.range l.fn.max l.fn.rows.items l.rows.items l.at

@@ -1,0 +1,137 @@
+//! An index to which some inserts are refused.
+
+ghost use Rattle.std.specs.Prelude.{◌≡◌, ◌<◌, ◌+◌, ◌-◌, ◌^◌, ◌++◌, min, Some, None, IsSome, IsErr, OnOk, OnErr};
+ghost use Rattle.std.specs.List.{AllByRecursion, Contains};
+ghost use Rattle.am_list.specs.Entries.{find, entry_at, insert_entry, set_entry, remove_entry, IsRising};
+ghost use Rattle.am_list.specs.Runs.{run_entries};
+
+use am_list::{Batch, PartIndex};
+use am_record::{Entry, Key, NoMemory, Range, Value};
+use std::marker::Model;
+
+/// An index over another one, whose inserts are counted from 1: those of the refused numbers answer NoMemory and change
+/// nothing. It stands for a machine that is short of memory.
+#[derive(Drop)]
+pub struct Tight<I: PartIndex + Drop> {
+    index: I,
+    refused: Vec<u64>,
+    // How many inserts were asked for. From 2^64 - 1 on they are not counted further.
+    inserts: u64,
+}
+
+impl<I: PartIndex + Drop> Model for Tight<I> {
+    ghost use Rattle.am_list_index.specs.Refusing.{Refusing, refusing_code};
+
+    ghost Value = { Refusing };
+
+    ghost coded = { refusing_code };
+
+    ghost view = { λ t. record { entries = I.entries t.index; refused = t.refused.items; inserts = t.inserts } };
+}
+
+impl<I: PartIndex + Drop> Tight<I> {
+    /// The index, with no insert counted yet. It takes no memory.
+    pub fn new(index: I, refused: Vec<u64>) -> Tight<I>
+        ensures entries { result.entries ≡ I.entries index }
+        ensures refused { result.refused ≡ refused.items }
+        ensures none { result.inserts ≡ 0 }
+    {
+        Tight {
+            index,
+            refused,
+            inserts: 0,
+        }
+    }
+}
+
+impl<I: PartIndex + Drop> PartIndex for Tight<I> {
+    ghost entries = { λ t. t.entries };
+
+    fn find(&self, part: u32, key: Key) -> Option<(Value, bool)> {
+        self.index.find(part, key)
+    }
+
+    fn next_from(&self, part: u32, key: Key) -> Option<Entry> {
+        self.index.next_from(part, key)
+    }
+
+    fn after(&self, part: u32, key: Key) -> Option<Entry> {
+        self.index.after(part, key)
+    }
+
+    fn read_from(&self, part: u32, key: Key, batch: &mut Batch) {
+        self.index.read_from(part, key, batch);
+    }
+
+    fn read_on(&self, part: u32, key: Key, batch: &mut Batch) {
+        self.index.read_on(part, key, batch);
+    }
+
+    fn copy_rows(
+        &self,
+        part: u32,
+        range: Range,
+        max: u64,
+        rows: &mut Vec<(Key, Value)>,
+    ) -> Result<(), NoMemory> {
+        self.index.copy_rows(part, range, max, rows)
+    }
+
+    fn next_any(&self, part: u32, key: Key) -> Option<Entry> {
+        self.index.next_any(part, key)
+    }
+
+    fn next_ghost(&self, part: u32, key: Key) -> Option<Entry> {
+        self.index.next_ghost(part, key)
+    }
+
+    fn insert(&mut self, entry: Entry) -> Result<(), NoMemory>
+        requires { find self.old.entries entry.part entry.key ≡ None }
+        ensures ok { OnOk result (self.new.entries ≡ insert_entry self.old.entries entry) }
+        ensures err { OnErr result (self.new.entries ≡ self.old.entries) }
+        ensures counted { self.new.inserts ≡ min (self.old.inserts + 1) (2 ^ 64 - 1) }
+        ensures same_refused { self.new.refused ≡ self.old.refused }
+        ensures refused { Contains self.old.refused self.new.inserts → IsErr result }
+    {
+        self.inserts = self.inserts.saturating_add(1);
+        if self.refused.contains(&self.inserts) {
+            return Err(NoMemory);
+        }
+        self.index.insert(entry)
+    }
+
+    fn append_run(&mut self, part: u32, pairs: &[(Key, Value)]) -> Result<(), NoMemory>
+        requires above { AllByRecursion (λ e. e.part < part) self.old.entries }
+        requires rising { IsRising (run_entries part pairs.now) }
+        ensures ok { OnOk result (self.new.entries ≡ self.old.entries ++ run_entries part pairs.now) }
+        ensures err { OnErr result (self.new.entries ≡ self.old.entries) }
+        ensures counted { self.new.inserts ≡ min (self.old.inserts + 1) (2 ^ 64 - 1) }
+        ensures same_refused { self.new.refused ≡ self.old.refused }
+        ensures refused { Contains self.old.refused self.new.inserts → IsErr result }
+    {
+        self.inserts = self.inserts.saturating_add(1);
+        if self.refused.contains(&self.inserts) {
+            return Err(NoMemory);
+        }
+        self.index.append_run(part, pairs)
+    }
+
+    fn set(&mut self, part: u32, key: Key, value: Value, is_ghost: bool)
+        requires { IsSome (find self.old.entries part key) }
+        ensures set { self.new.entries ≡ set_entry self.old.entries part key value is_ghost }
+        ensures counted { self.new.inserts ≡ self.old.inserts }
+        ensures same_refused { self.new.refused ≡ self.old.refused }
+    {
+        self.index.set(part, key, value, is_ghost);
+    }
+
+    fn remove(&mut self, part: u32, key: Key) -> Entry
+        requires { IsSome (find self.old.entries part key) }
+        ensures entry { entry_at self.old.entries part key ≡ Some result }
+        ensures others { self.new.entries ≡ remove_entry self.old.entries part key }
+        ensures counted { self.new.inserts ≡ self.old.inserts }
+        ensures same_refused { self.new.refused ≡ self.old.refused }
+    {
+        self.index.remove(part, key)
+    }
+}

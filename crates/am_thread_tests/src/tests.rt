@@ -1,0 +1,6 @@
+//! The examples, by what they are about.
+
+mod seats;
+mod sockets;
+mod words;
+mod workers;
