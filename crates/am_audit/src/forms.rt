@@ -2,9 +2,9 @@
 
 ghost use Rattle.std.specs.Prelude.{◌≡◌, ◌↔◌, true, length, IsTrue};
 ghost use Rattle.am_record.specs.declared.step.Step.TheVariants.{Begin, Commit, Abort, Merge, Clean};
-ghost use Rattle.am_serial.specs.Machine.{State, May, is_open, is_limit};
+ghost use Rattle.am_serial.specs.Machine.{State, May, is_open};
 
-use am_record::{MAX_ACTIVE, MAX_BEGUN, MAX_LIMIT, Range, Refusal, Reply};
+use am_record::{MAX_ACTIVE, MAX_BEGUN, Range, Refusal, Reply, is_limit};
 
 /// Whether the reply may be that of a Begin, where so many were begun and are active.
 pub(crate) fn may_begin(begun: u64, active: usize, reply: &Reply) -> bool
@@ -77,10 +77,4 @@ pub(crate) fn may_clean(range: Range, limit: u64, reply: &Reply) -> bool
         Reply::Refused(Refusal::NoMemory) => is_limit(limit),
         _ => false,
     }
-}
-
-fn is_limit(limit: u64) -> bool
-    ensures { result ≡ is_limit limit }
-{
-    1 <= limit && limit <= MAX_LIMIT
 }

@@ -21,22 +21,6 @@ fn numbered(part: u32, number: u64) -> Entry {
     }
 }
 
-// Adds the entry, unless its place is taken.
-fn add<I: PartIndex>(index: &mut I, entry: Entry) -> Result<(), NoMemory> {
-    if index.find(entry.part, entry.key).is_none() {
-        index.insert(entry)?;
-    }
-    Ok(())
-}
-
-// Takes the entry of the place out, where one stands there.
-fn take<I: PartIndex>(index: &mut I, part: u32, key: Key) -> Option<Entry> {
-    if index.find(part, key).is_none() {
-        return None;
-    }
-    Some(index.remove(part, key))
-}
-
 // How many leaves there are.
 fn leaves(tree: &Subtree) -> usize {
     match &tree.node {
@@ -64,7 +48,7 @@ fn with_ghosts(alloc: Global, ghosts: &[u64]) -> Result<BTree, NoMemory> {
     for number in 0..2000_u64 {
         let is_ghost = ghosts.contains(&number);
         let entry = numbered(part_of(number), number);
-        add(&mut tree, Entry { is_ghost, ..entry })?;
+        tree.insert_new(Entry { is_ghost, ..entry })?;
     }
     Ok(tree)
 }
@@ -115,14 +99,17 @@ fn all_leaves_stand_at_one_depth(rt: HostRuntime) -> Result<(), Fail> {
     let mut tree = BTree::new(rt.alloc())?;
     assert!(rt; tree.depth() == 0);
     for number in 0..3200_u64 {
-        add(&mut tree, numbered(0, 3200 - number))?;
+        tree.insert_new(numbered(0, 3200 - number))?;
     }
     assert!(rt; tree.depth() == 2);
     for number in 0..3200_u64 {
         assert!(rt; tree.depth_at(0, Key::of_u64(number)) == 2);
     }
     for number in 0..3200_u64 {
-        take(&mut tree, 0, Key::of_u64(3200 - number));
+        let key = Key::of_u64(3200 - number);
+        if tree.find(0, key).is_some() {
+            tree.remove(0, key);
+        }
     }
     assert!(rt; tree.depth() == 0);
     Ok(())
@@ -155,7 +142,7 @@ fn a_loaded_run_fills_its_leaves(rt: HostRuntime) -> Result<(), Fail> {
 // The tree with the entries of the numbers below 100.
 fn filled(mut tree: BTree) -> Result<BTree, NoMemory> {
     for number in 0..100_u64 {
-        add(&mut tree, numbered(0, number))?;
+        tree.insert_new(numbered(0, number))?;
     }
     Ok(tree)
 }

@@ -17,7 +17,7 @@ use Rattle.am_record.specs.declared.step.Step.TheVariants.{Begin, Do, Commit, Ab
 use Rattle.am_record.specs.declared.step.Reply.{Reply}
 use Rattle.am_record.specs.declared.step.Reply.TheVariants.{Begun, Committed, Aborted, Moved, Refused}
 use Rattle.am_list.specs.Content.{content}
-use Rattle.am_serial.specs.Machine.{is_limit}
+use Rattle.am_record.specs.Refusals.{is_limit}
 use Rattle.am_serial.specs.Trace.{Trace}
 use Rattle.am_effect.specs.Merging.{all_worked_off, candidates, MergeRight, AnswersFirst, AnswersCandidates, CleanRight}
 use Rattle.am_sound.specs.Represents.{stored_answer}

@@ -1,7 +1,8 @@
 -- What a store keeps, as one value.
-use Rattle.std.specs.Prelude.{ℕ, ◌+◌, ◌^◌, ◌≤◌, length, List, map, refl}
+use Rattle.std.specs.Prelude.{ℕ, ◌+◌, ◌≤◌, length, List, map, refl}
 use Rattle.std.specs.Coded.{Coded, code_by, coded×, coded_ℕ, coded_list}
 use Rattle.am_record.specs.Interval.{Interval, interval_code}
+use Rattle.am_record.specs.Limits.{max_begun}
 use Rattle.am_record.specs.declared.lock.Lock.{Lock}
 use Rattle.am_record.specs.contracts.lock.Lock as lock
 use Rattle.am_record.specs.declared.entry.Entry.{Entry}
@@ -75,4 +76,4 @@ pub record IsReached (p : StoreState) : Type 0 where
   pub trace : Trace
   pub at : IsStateOf trace p
   pub counted : p.commits + length p.active ≤ p.begun
-  pub few_begun : p.begun ≤ 2 ^ 63
+  pub few_begun : p.begun ≤ max_begun

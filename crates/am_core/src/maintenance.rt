@@ -3,14 +3,13 @@
 ghost use Rattle.std.specs.Prelude.{◌≡◌};
 ghost use Rattle.am_record.specs.declared.step.Step.TheVariants.{Merge, Clean};
 ghost use Rattle.am_list.specs.Content.{content};
-ghost use Rattle.am_serial.specs.Machine.{is_limit};
 ghost use Rattle.am_sound.specs.StoreState.{MayAnswer, state_after};
 ghost use Rattle.am_core.specs.InnerState.{inner_state};
 
 use crate::inner::Inner;
 use am_list::PartIndex;
 use am_merge::{clean_step, merge_step};
-use am_record::{MAX_LIMIT, Range, Refusal, Reply};
+use am_record::{Range, Refusal, Reply, is_limit};
 
 impl<I: PartIndex + Drop> Inner<I> {
     #[inline(never)]
@@ -36,10 +35,4 @@ impl<I: PartIndex + Drop> Inner<I> {
         }
         clean_step(&mut self.parts, self.txs.locks(), range, limit)
     }
-}
-
-fn is_limit(limit: u64) -> bool
-    ensures { result ≡ is_limit limit }
-{
-    1 <= limit && limit <= MAX_LIMIT
 }

@@ -23,7 +23,8 @@ use Rattle.am_record.specs.Marks.{until_mark, older}
 use Rattle.am_list.specs.Runs.{live_entry, with_run}
 use Rattle.am_record.specs.Events.{Event}
 use Rattle.am_serial.specs.Trace.{Trace, effect, ops_of}
-use Rattle.am_serial.specs.Machine.{State, Transaction, start, is_limit, May, next}
+use Rattle.am_record.specs.Refusals.{is_limit}
+use Rattle.am_serial.specs.Machine.{State, Transaction, start, May, next}
 use Rattle.am_effect.specs.Places.{put}
 use Rattle.am_effect.specs.Merging.{Holders, all_worked_off, MergeRight, merged_by, wishes_left, CleanRight, cleaned_by}
 use Rattle.am_effect.specs.History.{Moment, aborted, gone_back}

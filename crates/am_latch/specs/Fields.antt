@@ -1,6 +1,8 @@
 -- What always holds of the fields of the state under the latch, of a seat, and of a blank.
 use Rattle.std.specs.Prelude.{◌≡◌, ◌≤◌, ◌<◌, ◌*◌, ℕ, [], ◌∷◌, vec_len, vec_capacity}
 use Rattle.atomic_table.specs.Seated.{TableId}
+use Rattle.am_record.specs.Limits.{max_limit}
+use Rattle.am_latch.specs.Faults.{max_seats}
 use Rattle.am_latch.specs.declared.latch.Blank.TheInside.{Inside as BlankFields}
 use Rattle.am_latch.specs.declared.seat.Seat.TheInside.{Inside as SeatFields}
 use Rattle.am_latch.specs.declared.state.LatchState.TheInside.{Inside as LatchStateFields}
@@ -25,12 +27,12 @@ pub record IsSeat {L : Type 0} (table : TableId) (seats : ℕ) (s : SeatFields L
   pub open_tx : s.open_now ≡ open_of s.receipts.items
   pub room : HasRoom s.open_now (vec_len s.receipts) (vec_capacity s.receipts)
   pub moved : s.moved ≡ moved_in s.receipts.items
-  pub few : s.moved ≤ 64 * vec_len s.receipts
+  pub few : s.moved ≤ max_limit * vec_len s.receipts
 
 -- 1 to 1,024 seats, and none of them minted yet
 pub record IsBlank (b : BlankFields) : Type 0 where
   pub some : 0 < b.seats
-  pub few : b.seats ≤ 1024
+  pub few : b.seats ≤ max_seats
   pub words : 0 < b.table.shared.table_id.words
   pub table_of : b.trace_token.table_id ≡ b.table.shared.table_id
   pub knows : b.trace_token.me ≡ (minting_view 0, [])

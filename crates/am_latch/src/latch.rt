@@ -16,6 +16,9 @@ use std::sync::{Mutex, MutexGuard, Wait};
 use std::thread;
 use thiserror::Error;
 
+/// The most seats of a latch.
+pub const MAX_SEATS: usize = 1024;
+
 /// How often a thread lets others run before it sleeps at the latch.
 const PATIENCE: u32 = 1000;
 
@@ -59,7 +62,7 @@ impl Blank {
         ensures ok { IfOk result (λ b. (b.seats ≡ seats) × (0 < seats) × (seats ≤ 1024)) }
         ensures bad { IfErr result (λ e. IsBadSeats e ↔ ((seats ≡ 0) ⊎ (1024 < seats))) }
     {
-        if seats == 0 || seats > 1024 {
+        if seats == 0 || seats > MAX_SEATS as u64 {
             return Err(LatchFault::BadSeats);
         }
         let Ok((table, trace_token)) = ViewTable::of_words(alloc, &[0], &()) else {

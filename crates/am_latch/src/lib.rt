@@ -24,7 +24,7 @@ mod views;
 pub use change::was_refused;
 pub use closing::{Closed, Missing, close};
 pub use engine::Engine;
-pub use latch::{Blank, Latch, LatchFault};
+pub use latch::{Blank, Latch, LatchFault, MAX_SEATS};
 pub use latch_name::LatchName;
 pub use receipt::{CallId, CommitReceipt, Receipt};
 pub use seat::Seat;

@@ -10,8 +10,8 @@ use am_btree::BTree;
 use am_list::PartIndex;
 use am_list_index::ListIndex;
 use am_parts::Parts;
-use am_record::{Entry, Key, NoMemory, Refusal, Reply, Value};
-use am_runs::{LoadFault, MAX_RUN_LEN, Run, cut_runs, load};
+use am_record::{Entry, Key, MAX_RUN_RECORDS, NoMemory, Refusal, Reply, Value};
+use am_runs::{LoadFault, Run, cut_runs, load};
 use std::alloc::Global;
 
 fn pair(number: u64) -> (Key, Value) {
@@ -50,7 +50,7 @@ pub(crate) fn cuts(alloc: Global) -> Result<(), Fault> {
         (2, 3, [3, 5].as_slice(), [7].as_slice()),
         (1, 5, [5].as_slice(), [7].as_slice()),
         (
-            MAX_RUN_LEN,
+            MAX_RUN_RECORDS,
             1,
             [1, 3, 5, 7, 9].as_slice(),
             [1, 3, 5, 7, 9].as_slice(),

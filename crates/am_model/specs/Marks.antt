@@ -1,6 +1,6 @@
 -- Marks in the notes of a body, each the number of notes at it, and the maps that they stand for. Notes and marks stand
 -- with the newest first.
-use Rattle.std.specs.Prelude.{ℕ, ◌≤◌, ◌-◌, List, [], ◌∷◌, length, take, drop, map, Bool, true, false}
+use Rattle.std.specs.Prelude.{ℕ, ◌≤◌, List, [], ◌∷◌, length, map, Bool}
 use Rattle.std.specs.List.{AllByRecursion}
 use Rattle.am_record.specs.Marks.{since}
 use Rattle.am_record.specs.Plain.{Draft}

@@ -1,6 +1,6 @@
 -- The refusals of an operation: those that are due before its lock is asked for, and those of the lock.
 use Rattle.std.specs.Prelude.{ℕ, nat_le, length, List, Bool, true, false, cond, not, ◌&&◌, Option, Some, None}
-use Rattle.am_record.specs.Limits.{max_locks, max_ops, max_rows, max_runs}
+use Rattle.am_record.specs.Limits.{max_limit, max_locks, max_ops, max_rows, max_runs}
 use Rattle.am_record.specs.Locks.{is_covered}
 use Rattle.am_record.specs.Plain.{is_orderly}
 use Rattle.am_record.specs.declared.lock.Lock.{Lock}
@@ -9,6 +9,10 @@ use Rattle.am_record.specs.declared.step.Op.TheVariants.{Scan, Load}
 use Rattle.am_record.specs.declared.step.Refusal.{Refusal}
 use Rattle.am_record.specs.declared.step.Refusal.TheVariants.{NoSuchTx, Busy, TooManyLocks, TooManyOps, TooManyRuns}
 use Rattle.am_record.specs.declared.step.Refusal.TheVariants.{NotRising, BadLimit}
+
+-- whether so many entries may be merged or cleaned at once
+abbrev pub is_limit : ℕ → Bool
+is_limit limit = nat_le 1 limit && nat_le limit max_limit
 
 -- whether a scan's number of rows is within its limits
 abbrev pub is_bounded : Op → Bool

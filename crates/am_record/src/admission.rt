@@ -1,17 +1,25 @@
-//! What an operation is by itself: its form, the refusals that come before its lock, and the lock that it asks for.
+//! What an operation is by itself: its form, the refusals that come before its lock, and the lock that it asks for. And
+//! how many entries a merge or a clean step may be asked to work off.
 
 ghost use Rattle.std.specs.Prelude.{◌≡◌, true};
 ghost use Rattle.am_record.specs.Plain.{is_orderly, is_rising};
 ghost use Rattle.am_record.specs.Asks.{lock_of, span};
-ghost use Rattle.am_record.specs.Refusals.{is_bounded, is_load, refusal_before_lock};
+ghost use Rattle.am_record.specs.Refusals.{is_bounded, is_limit, is_load, refusal_before_lock};
 
 use crate::key::Key;
-use crate::limits::{MAX_OPS, MAX_ROWS, MAX_RUNS};
+use crate::limits::{MAX_LIMIT, MAX_OPS, MAX_ROWS, MAX_RUNS};
 use crate::lock::Lock;
 use crate::pairs::is_rising;
 use crate::range::Range;
 use crate::step::{Op, Refusal};
 use crate::value::Value;
+
+/// Whether so many entries may be merged or cleaned at once: 1 to 64.
+pub fn is_limit(limit: u64) -> bool
+    ensures { result ≡ is_limit limit }
+{
+    1 <= limit && limit <= MAX_LIMIT
+}
 
 impl Op {
     /// Whether the pairs of a load rise strictly, and there is one. Any other operation is in order.

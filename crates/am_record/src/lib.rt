@@ -13,13 +13,15 @@ mod range;
 mod step;
 mod value;
 
+pub use admission::is_limit;
 pub use entry::Entry;
 pub use key::Key;
 pub use laws::{
     fronts_follow_keys, keys_are_ordered, ranges_are_sets_of_keys, shared_is_compatible_with_shared,
 };
 pub use limits::{
-    MAX_ACTIVE, MAX_BEGUN, MAX_KEY_LEN, MAX_LIMIT, MAX_LOCKS, MAX_OPS, MAX_RUNS, MAX_VALUE_LEN,
+    MAX_ACTIVE, MAX_BEGUN, MAX_KEY_LEN, MAX_LOCKS, MAX_OPS, MAX_RUN_RECORDS, MAX_RUNS,
+    MAX_VALUE_LEN,
 };
 pub use lock::{Lock, Mode};
 pub use memory::NoMemory;

@@ -25,5 +25,8 @@ pub(crate) const MAX_ROWS: u64 = 1000;
 /// The most runs that are ever made.
 pub const MAX_RUNS: u32 = 65_535;
 
+/// The most records of a run that is cut from records in any order, and of those that wait for one load.
+pub const MAX_RUN_RECORDS: usize = 65_536;
+
 /// The most entries that a merge or a clean step may be asked to work off.
-pub const MAX_LIMIT: u64 = 64;
+pub(crate) const MAX_LIMIT: u64 = 64;

@@ -8,11 +8,8 @@ ghost use Rattle.am_runs.specs.Cuts.{IsRunSize, NoneTwice};
 use crate::fault::LoadFault;
 use crate::run::Run;
 use crate::ties::least_twice;
-use am_record::{Key, Value};
+use am_record::{Key, MAX_RUN_RECORDS, Value};
 use std::alloc::{AllocError, Global};
-
-/// The most records that a run may be cut to have.
-pub const MAX_RUN_LEN: usize = 65_536;
 
 /// Cuts records in any order into runs: the first `n` of them make the first run, the next `n` the
 /// second, and so on; the last run may have fewer. Each run is sorted. No records give no runs.
@@ -25,7 +22,7 @@ pub fn cut_runs(alloc: Global, records: &[(Key, Value)], n: usize) -> Result<Vec
     ensures cut { IfOk result (λ runs. IsCut n records.now runs.items) }
     ensures fault { IfErr result (IsCutFault n records.now) }
 {
-    if !(1..=MAX_RUN_LEN).contains(&n) {
+    if !(1..=MAX_RUN_RECORDS).contains(&n) {
         return Err(LoadFault::BadSize);
     }
     let runs = match sorted_pieces(alloc, records, n) {

@@ -10,7 +10,7 @@ mod sorting;
 mod ties;
 mod walk;
 
-pub use cut::{MAX_RUN_LEN, cut_runs};
+pub use cut::cut_runs;
 pub use fault::LoadFault;
 pub use loading::load;
 pub use run::Run;

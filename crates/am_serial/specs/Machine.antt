@@ -1,9 +1,9 @@
 -- The locked machine: the committed map, and of each active transaction its answered operations.
-use Rattle.std.specs.Prelude.{◌≡◌, ◌⊎◌, ℕ, ◌+◌, ◌^◌, ◌<◌, ◌≤◌, ◌==◌, nat_le, length, List, [], ◌∷◌, ◌++◌, Bool, true}
-use Rattle.std.specs.Prelude.{false, cond, not, ◌&&◌, map, filter, Option, Some, None, MatchOption}
+use Rattle.std.specs.Prelude.{◌≡◌, ◌⊎◌, ℕ, ◌+◌, ◌<◌, ◌≤◌, ◌==◌, length, List, [], ◌∷◌, ◌++◌, Bool, true}
+use Rattle.std.specs.Prelude.{false, cond, not, map, filter, Option, MatchOption}
 use Rattle.std.specs.List.{list_any}
 use Rattle.std.specs.FinMap.{empty}
-use Rattle.am_record.specs.Limits.{max_active, max_begun, max_limit}
+use Rattle.am_record.specs.Limits.{max_active, max_begun}
 use Rattle.am_record.specs.OrderedKey.{OrderedKey}
 use Rattle.am_record.specs.declared.lock.Lock.{Lock}
 use Rattle.am_record.specs.declared.step.Refusal.{Refusal}
@@ -15,9 +15,9 @@ use Rattle.am_record.specs.declared.step.Reply.{Reply}
 use Rattle.am_record.specs.declared.step.Reply.TheVariants.{Begun, Committed, Aborted, Moved, MergeDone, Ended, Idle}
 use Rattle.am_record.specs.declared.step.Reply.TheVariants.{Cleaned, Refused}
 use Rattle.am_record.specs.Plain.{PlainMap, Draft, fresh, answer, left_on}
-use Rattle.am_record.specs.Asks.{lock_of, clashes, locks_of, holds, owns}
+use Rattle.am_record.specs.Asks.{lock_of, locks_of, holds, owns}
 use Rattle.am_record.specs.Owners.{blocker_among}
-use Rattle.am_record.specs.Refusals.{refusal_before_lock, is_one_too_many, lock_refusal, or_else}
+use Rattle.am_record.specs.Refusals.{is_limit, refusal_before_lock, is_one_too_many, lock_refusal, or_else}
 use Rattle.am_serial.specs.Trace.{Trace, Answered, ops_of, Effect, Begins, Answers, Commits, Aborts, Nothing, effect}
 use Rattle.am_serial.specs.Trace.{runs_made, left_by_bodies, begun, committers, runs, committed, active, body}
 
@@ -87,13 +87,9 @@ abbrev pub MayDo : State → ℕ → Op → Reply → Type 0
 MayDo s t op reply = MatchOption (due s t op) ((reply ≡ answer op (view s t)) ⊎ (reply ≡ Refused NoMemory))
     (λ why. reply ≡ Refused why)
 
--- whether so many entries may be merged or cleaned at once
-abbrev pub is_limit : ℕ → Bool
-is_limit limit = nat_le 1 limit && nat_le limit max_limit
-
 -- the machine may give this reply to the step. Which entries a merge or a clean takes isn't the machine's
 abbrev pub May : State → Step → Reply → Type 0
-May s Begin (Begun t) = (t ≡ s.begun + 1) × (length s.active < 64) × (s.begun < 2 ^ 63)
+May s Begin (Begun t) = (t ≡ s.begun + 1) × (length s.active < max_active) × (s.begun < max_begun)
 May s Begin (Refused TooManyTx) = (max_active ≤ length s.active) ⊎ (max_begun ≤ s.begun)
 May s (Do t op) reply = MayDo s t op reply
 May s (Commit t) (Committed c) = (is_open s.active t ≡ true) × (c ≡ s.commits + 1)

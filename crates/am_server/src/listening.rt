@@ -1,5 +1,6 @@
 //! Serving at a port: what comes before the sessions, and behind them.
 
+use crate::fault::ListenFault;
 use crate::trace_file::TraceFile;
 use am_command::Listening;
 use am_listen::{PortListener, ServerRun, bind};
@@ -9,30 +10,6 @@ use std::io::{BufRead, BufReader};
 use std::net::{Net, TcpListener, TcpStream};
 use std::process::ExitCode;
 use std::rt::Files;
-use thiserror::Error;
-
-/// Why a server doesn't end well.
-#[derive(Clone, Copy, Debug, PartialEq, Eq, Error)]
-pub(crate) enum ListenFault {
-    #[error("amserve: cannot listen")]
-    CannotListen,
-    #[error("amserve: cannot accept")]
-    CannotAccept,
-    #[error("amserve: cannot write the trace")]
-    CannotWriteTrace,
-    #[error("amserve: no memory")]
-    NoMemory,
-}
-
-impl ListenFault {
-    fn status(self) -> u8 {
-        match self {
-            ListenFault::CannotListen | ListenFault::CannotAccept => 3,
-            ListenFault::CannotWriteTrace => 4,
-            ListenFault::NoMemory => 5,
-        }
-    }
-}
 
 /// The file for the trace, where one is named, and then the port.
 pub(crate) fn open<'a, R: AllocGlobal + Files + Net<Listener = TcpListener, Stream = TcpStream>>(
@@ -104,6 +81,6 @@ pub(crate) fn close<R: AllocGlobal + Files + Print + Eprint>(
 
 /// Says what is wrong, and answers the program's status.
 pub(crate) fn tell<R: Eprint>(rt: &R, fault: ListenFault) -> io::Result<ExitCode> {
-    eprintln!(rt; "{fault}")?;
+    eprintln!(rt; "{}", fault.words())?;
     Ok(ExitCode::from(fault.status()))
 }

@@ -3,6 +3,7 @@
 
 ghost use Rattle.std.specs.Prelude.{◌≤◌};
 
+mod fault;
 mod listening;
 mod trace_file;
 

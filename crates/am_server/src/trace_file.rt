@@ -1,6 +1,6 @@
 //! The file that gets the trace.
 
-use crate::listening::ListenFault;
+use crate::fault::ListenFault;
 use am_record::{Reply, Step};
 use am_trace::trace_text;
 use std::fs;

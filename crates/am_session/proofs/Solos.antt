@@ -23,7 +23,7 @@ use Rattle.am_record.specs.Marks.{has_mark}
 use Rattle.am_sound.specs.Represents.{stored_answer}
 use Rattle.am_effect.specs.Merging.{Holders, candidates, AnswersFirst, AnswersCandidates, MergeRight}
 use Rattle.am_effect.specs.Store.{WithinLimit}
-use Rattle.am_serial.specs.Machine.{is_limit}
+use Rattle.am_record.specs.Refusals.{is_limit}
 use Rattle.am_sound.specs.StoreState.{Active, StoreState, is_in, in_table, newcomer, refusal_in, takes_memory, MayAnswer, with_op, state_after_op, state_after}
 use Rattle.am_sound.proofs.Actives.{kept_number}
 use Rattle.am_talk.specs.Session.{SessionState, session_after}

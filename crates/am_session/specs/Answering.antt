@@ -1,7 +1,5 @@
 -- One line answered, or its answer torn, and the merge after it.
 use Rattle.std.specs.Prelude.{ℕ, List, Option, take}
-use Rattle.am_record.specs.declared.step.Step.{Step}
-use Rattle.am_record.specs.declared.step.Reply.{Reply}
 use Rattle.am_serial.specs.Trace.{Trace}
 use Rattle.am_wire.specs.Giving.{Gave}
 use Rattle.am_talk.specs.Responses.{response_text}

@@ -1,5 +1,5 @@
 -- What a session did up to its stop, when no further line is answered and what is active isn't aborted yet.
-use Rattle.std.specs.Prelude.{◌≡◌, ℕ, List, [], ◌∷◌, ◌++◌, Option}
+use Rattle.std.specs.Prelude.{◌≡◌, ℕ, List, [], ◌++◌, Option}
 use Rattle.am_serial.specs.Trace.{Trace}
 use Rattle.am_wire.specs.Taking.{Took}
 use Rattle.am_wire.specs.Giving.{Gave}
@@ -8,7 +8,7 @@ use Rattle.am_session.specs.Backends.{BackendMeaning}
 use Rattle.am_session.specs.Talk.{SessionPoint, AnswersLine, Converses, Leaves}
 use Rattle.am_session.specs.Served.{StopsBy}
 use Rattle.am_session.specs.declared.serving.Stop.{Stop}
-use Rattle.am_session.specs.declared.serving.Stop.TheVariants.{Quit, EndOfInput, ReadFailed, WriteFailed}
+use Rattle.am_session.specs.declared.serving.Stop.TheVariants.{Quit, ReadFailed, WriteFailed}
 
 module _ {B : Type 0} (means : BackendMeaning B) where
   abbrev pub Left : Option ℕ → B → B → Type 0

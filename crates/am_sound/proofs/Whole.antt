@@ -43,7 +43,8 @@ use Rattle.am_serial.proofs.OneStep.{step_laws}
 use Rattle.am_serial.proofs.Runs.{answer_is_answer, none_of_both, none_of_first, after_run-push}
 use Rattle.am_serial.proofs.States.{overlay_laws, view_laws}
 use Rattle.am_serial.specs.Laws.{OverlayLaws, ViewLaws}
-use Rattle.am_serial.specs.Machine.{May, MayDo, Runs, State, Transaction, after_run, body_in, due, due_early, due_lock, is_limit, is_open, next, owns_in, start, view}
+use Rattle.am_record.specs.Refusals.{is_limit}
+use Rattle.am_serial.specs.Machine.{May, MayDo, Runs, State, Transaction, after_run, body_in, due, due_early, due_lock, is_open, next, owns_in, start, view}
 use Rattle.am_serial.specs.Steps.{StepLaws}
 use Rattle.am_record.specs.Events.{Event}
 use Rattle.am_serial.specs.Trace.{Aborts, Answers, Commits, Effect, Nothing, Trace, effect, effect_of_do, ops_of}

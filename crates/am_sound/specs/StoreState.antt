@@ -1,18 +1,17 @@
 -- What a store keeps, and what a step may do to it, without the trace.
-use Rattle.std.specs.Prelude.{◌≡◌, ◌⊎◌, ℕ, ◌+◌, ◌^◌, ◌<◌, ◌≤◌, ◌==◌, nat_le, length, List, [], ◌∷◌, ◌++◌, Bool, true}
-use Rattle.std.specs.Prelude.{false, cond, not, ◌&&◌, map, filter, Option, Some, None, MatchOption}
+use Rattle.std.specs.Prelude.{◌≡◌, ◌⊎◌, ℕ, ◌+◌, ◌<◌, ◌≤◌, ◌==◌, length, List, [], ◌∷◌, ◌++◌, Bool, true}
+use Rattle.std.specs.Prelude.{false, cond, not, map, filter, Option, None, MatchOption}
 use Rattle.std.specs.List.{list_any}
 use Rattle.am_record.specs.Limits.{max_active, max_begun}
 use Rattle.am_record.specs.OrderedKey.{OrderedKey}
 use Rattle.am_record.specs.Interval.{Interval}
-use Rattle.am_record.specs.Plain.{is_orderly}
 use Rattle.am_record.specs.Asks.{lock_of, with_asked}
 use Rattle.am_record.specs.Owners.{blocker_among, holder_among}
 use Rattle.am_record.specs.declared.lock.Lock.{Lock}
 use Rattle.am_record.specs.declared.entry.Entry.{Entry}
 use Rattle.am_record.specs.declared.step.Refusal.{Refusal}
-use Rattle.am_record.specs.declared.step.Refusal.TheVariants.{NoSuchTx, TooManyTx, TooManyOps, TooManyRuns, NotRising}
-use Rattle.am_record.specs.declared.step.Refusal.TheVariants.{BadLimit, NoMemory}
+use Rattle.am_record.specs.declared.step.Refusal.TheVariants.{NoSuchTx, TooManyTx}
+use Rattle.am_record.specs.declared.step.Refusal.TheVariants.{NoMemory}
 use Rattle.am_record.specs.declared.step.Op.{Op}
 use Rattle.am_record.specs.declared.step.Op.TheVariants.{Back}
 use Rattle.am_record.specs.declared.step.Step.{Step}
@@ -82,7 +81,7 @@ takes_memory op = true
 
 -- the reply that a step may have
 abbrev pub MayAnswer : StoreState → Step → Reply → Type 0
-MayAnswer p Begin (Begun t) = (t ≡ p.begun + 1) × (length p.active < 64) × (p.begun < 2 ^ 63)
+MayAnswer p Begin (Begun t) = (t ≡ p.begun + 1) × (length p.active < max_active) × (p.begun < max_begun)
 MayAnswer p Begin (Refused TooManyTx) = (max_active ≤ length p.active) ⊎ (max_begun ≤ p.begun)
 MayAnswer p (Do t op) reply = MatchOption (refusal_in p t op)
     ((reply ≡ stored_answer op (in_table p.active t).marks (content p.entries)) ⊎

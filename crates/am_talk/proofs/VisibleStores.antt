@@ -16,7 +16,8 @@ use Rattle.am_record.specs.declared.step.Reply.TheVariants as reply
 use Rattle.am_record.specs.declared.step.Refusal.{Refusal}
 use Rattle.am_record.specs.declared.step.Refusal.TheVariants as why
 use Rattle.am_serial.specs.Trace.{Answered, ops_of, Effect, Begins, Answers, Commits, Aborts, Nothing, effect}
-use Rattle.am_serial.specs.Machine.{State, Transaction, body_in, view, due, is_limit, extended, next}
+use Rattle.am_record.specs.Refusals.{is_limit}
+use Rattle.am_serial.specs.Machine.{State, Transaction, body_in, view, due, extended, next}
 use Rattle.am_effect.specs.Merging.{Holders, candidates, AnswersFirst, AnswersCandidates, MergeRight}
 use Rattle.am_effect.specs.Store.{Store, opened, holder, MayReply, after_step}
 use Rattle.am_effect.specs.Written.{StepWritesKeys, HaveKeys}

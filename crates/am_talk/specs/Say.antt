@@ -1,18 +1,18 @@
 -- What a session on a store of its own says, by the plain map alone.
-use Rattle.std.specs.Prelude.{◌≡◌, ℕ, ◌+◌, ◌^◌, nat_le, length, List, [], ◌∷◌, ◌++◌, Bool, true, false, cond, not, ◌&&◌}
+use Rattle.std.specs.Prelude.{◌≡◌, ℕ, ◌+◌, nat_le, length, List, [], ◌∷◌, ◌++◌, Bool, true, false, cond, not, ◌&&◌}
 use Rattle.std.specs.Prelude.{filter, map, Option, Some, None, MatchBool, MatchOption}
 use Rattle.std.specs.FinMap.{empty}
 use Rattle.am_record.specs.Limits.{max_begun}
 use Rattle.am_record.specs.Records.{Records}
-use Rattle.am_record.specs.Plain.{PlainMap, fresh, answer, left, left_on, is_orderly}
+use Rattle.am_record.specs.Plain.{PlainMap, fresh, answer, left, left_on}
 use Rattle.am_record.specs.Asks.{lock_of, locks_of}
 use Rattle.am_record.specs.declared.step.Op.{Op}
 use Rattle.am_record.specs.declared.step.Op.TheVariants.{Load}
 use Rattle.am_record.specs.declared.step.Reply.{Reply}
 use Rattle.am_record.specs.declared.step.Reply.TheVariants.{Begun, Committed, Aborted, Refused}
 use Rattle.am_record.specs.declared.step.Refusal.{Refusal}
-use Rattle.am_record.specs.declared.step.Refusal.TheVariants.{TooManyTx, TooManyLocks, TooManyOps, TooManyRuns}
-use Rattle.am_record.specs.declared.step.Refusal.TheVariants.{NotRising, BadLimit, NoMemory}
+use Rattle.am_record.specs.declared.step.Refusal.TheVariants.{TooManyTx}
+use Rattle.am_record.specs.declared.step.Refusal.TheVariants.{NoMemory}
 use Rattle.am_serial.specs.Trace.{runs_made}
 use Rattle.am_record.specs.Refusals.{refusal_before_lock, is_one_too_many, lock_refusal, or_else}
 use Rattle.am_talk.specs.ParsedLine.{Line, parsed, is_upkeep, is_stage}

@@ -1,10 +1,10 @@
 -- Where a session stands between two lines.
-use Rattle.std.specs.Prelude.{ℕ, [], Option, Some, None, refl}
+use Rattle.std.specs.Prelude.{ℕ, [], Option, None, refl}
 use Rattle.std.specs.Coded.{Coded, code_by, coded×, coded_ℕ, coded_option}
 use Rattle.am_record.specs.Sessions.{active_after}
 use Rattle.am_record.specs.Records.{Records, records_code}
 use Rattle.am_record.specs.declared.step.Reply.{Reply}
-use Rattle.am_record.specs.declared.step.Reply.TheVariants.{Begun, Committed, Aborted}
+use Rattle.am_record.specs.declared.step.Reply.TheVariants.{Committed, Aborted}
 
 -- the transaction that is active in it, and the records that wait for its next load
 pub record SessionState : Type 0 where

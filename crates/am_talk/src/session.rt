@@ -8,13 +8,10 @@ ghost use Rattle.am_talk.specs.Actions.{IsActionFor, IsActionForRequest, MayStag
 use crate::action::Action;
 use crate::lines::ParsedLine;
 use crate::response::Response;
-use am_record::{Key, NoMemory, Op, Pairs, Reply, Step, Value};
+use am_record::{Key, MAX_RUN_RECORDS, NoMemory, Op, Pairs, Reply, Step, Value};
 use am_wire::{LineFault, Request};
 use std::alloc::Global;
 use std::marker::Model;
-
-/// How many records may wait for a load.
-const MAX_STAGED: usize = 65_536;
 
 /// Where a session stands between two lines: the transaction that is active in it, and the records that were staged for
 /// its next load.
@@ -151,7 +148,7 @@ impl Session {
         ensures { MayStage self.old records result self.new }
     {
         let mut more = records.into_vec();
-        if more.len() > MAX_STAGED - self.staged.len() {
+        if more.len() > MAX_RUN_RECORDS - self.staged.len() {
             return Response::TooManyStaged;
         }
         match self.staged.append(&mut more) {

@@ -85,14 +85,27 @@ abbrev pub nothing_in : List (List ℕ) → Option (Unit {0})
 nothing_in [] = Some tt
 nothing_in fs = None
 
--- one field alone, or two
+-- the field, where there is just one; the two, and the three
+abbrev pub one_of : List (List ℕ) → Option (List ℕ)
+one_of (f ∷ []) = Some f
+one_of fs = None
+
+abbrev pub two_of : List (List ℕ) → Option (List ℕ × List ℕ)
+two_of (f ∷ g ∷ []) = Some (f, g)
+two_of fs = None
+
+abbrev pub three_of : List (List ℕ) → Option (List ℕ × List ℕ × List ℕ)
+three_of (f ∷ g ∷ h ∷ []) = Some (f, g, h)
+three_of fs = None
+
 abbrev pub field_in : {A : Type 0} → (List ℕ → Option A) → List (List ℕ) → Option A
-field_in read (f ∷ []) = read f
-field_in read fs = None
+field_in read fs = option_and_then read (one_of fs)
+
+abbrev pub both_in : {A B : Type 0} → (List ℕ → Option A) → (List ℕ → Option B) → List ℕ × List ℕ → Option (A × B)
+both_in first second p = option_zip (first p.0) (second p.1)
 
 abbrev pub fields_in : {A B : Type 0} → (List ℕ → Option A) → (List ℕ → Option B) → List (List ℕ) → Option (A × B)
-fields_in first second (f ∷ g ∷ []) = option_zip (first f) (second g)
-fields_in first second fs = None
+fields_in first second fs = option_and_then (both_in first second) (two_of fs)
 
 abbrev pub one_number_in : List (List ℕ) → Option ℕ
 one_number_in fs = field_in number_in fs
@@ -110,16 +123,20 @@ one_key_in v fs = field_in (key_in v) fs
 abbrev pub key_and_value_in : Version → List (List ℕ) → Option (OrderedKey × List ℕ)
 key_and_value_in v fs = fields_in (key_in v) value_in fs
 
+abbrev pub range_and_number_for : Version → List ℕ × List ℕ × List ℕ → Option (Interval × ℕ)
+range_and_number_for v p = option_zip (range_in v p.0 p.1) (number_in p.2)
+
 abbrev pub range_and_number_in : Version → List (List ℕ) → Option (Interval × ℕ)
-range_and_number_in v (lo ∷ hi ∷ n ∷ []) = option_zip (range_in v lo hi) (number_in n)
-range_and_number_in v fs = None
+range_and_number_in v fs = option_and_then (range_and_number_for v) (three_of fs)
 
 abbrev pub lock_of_parts : Mode × Interval → Lock
 lock_of_parts p = lock_in p.0 p.1
 
+abbrev pub lock_for : Version → List ℕ × List ℕ × List ℕ → Option Lock
+lock_for v p = option_map lock_of_parts (option_zip (mode_for p.0) (range_in v p.1 p.2))
+
 abbrev pub lock_fields_in : Version → List (List ℕ) → Option Lock
-lock_fields_in v (mode ∷ lo ∷ hi ∷ []) = option_map lock_of_parts (option_zip (mode_for mode) (range_in v lo hi))
-lock_fields_in v fs = None
+lock_fields_in v fs = option_and_then (lock_for v) (three_of fs)
 
 abbrev pub one_value_in : List (List ℕ) → Option (List ℕ)
 one_value_in fs = field_in value_in fs

@@ -5,7 +5,7 @@ ghost use Rattle.am_trace.specs.Reading.{number_in, run_in, digit_in, byte_in, v
 ghost use Rattle.am_trace.specs.Reading.{record_in, range_in, nothing_in, one_number_in, one_key_in, key_and_value_in};
 ghost use Rattle.am_trace.specs.Reading.{one_value_in, range_and_number_in, lock_fields_in, records_of_fields};
 ghost use Rattle.am_trace.specs.Reading.{key_and_number_in, number_and_run_in, counted_records_in};
-ghost use Rattle.am_trace.specs.Reading.{refusal_read, IsReadAs};
+ghost use Rattle.am_trace.specs.Reading.{refusal_read, one_of, two_of, three_of, IsReadAs};
 
 use crate::read::ReadFault;
 use crate::version::Version;
@@ -123,105 +123,109 @@ fn range(version: Version, lo: &[u8], hi: &[u8]) -> Option<Range>
     Range::new(lo, hi)
 }
 
-/// A number.
-pub(crate) fn read_number(mut fields: Fields<'_>) -> Option<u64>
-    ensures { result ≡ one_number_in fields.entry }
+// The field, where there is just one.
+fn one<'a>(mut fields: Fields<'a>) -> Option<&'a [u8]>
+    ensures { option_map (λ f. f.now) result ≡ one_of fields.entry }
 {
     let field = next(&mut fields)?;
     read_nothing(fields)?;
-    number(field)
+    Some(field)
+}
+
+// The two fields, where there are just two.
+fn two<'a>(mut fields: Fields<'a>) -> Option<(&'a [u8], &'a [u8])>
+    ensures { option_map (λ p. (p.0.now, p.1.now)) result ≡ two_of fields.entry }
+{
+    let first = next(&mut fields)?;
+    let second = one(fields)?;
+    Some((first, second))
+}
+
+// The three fields, where there are just three.
+fn three<'a>(mut fields: Fields<'a>) -> Option<(&'a [u8], &'a [u8], &'a [u8])>
+    ensures { option_map (λ p. (p.0.now, p.1.now, p.2.now)) result ≡ three_of fields.entry }
+{
+    let first = next(&mut fields)?;
+    let (second, third) = two(fields)?;
+    Some((first, second, third))
+}
+
+/// A number.
+pub(crate) fn read_number(fields: Fields<'_>) -> Option<u64>
+    ensures { result ≡ one_number_in fields.entry }
+{
+    number(one(fields)?)
 }
 
 /// A key.
-pub(crate) fn read_key(version: Version, mut fields: Fields<'_>) -> Option<Key>
+pub(crate) fn read_key(version: Version, fields: Fields<'_>) -> Option<Key>
     ensures { result ≡ one_key_in version fields.entry }
 {
-    let field = next(&mut fields)?;
-    read_nothing(fields)?;
-    key(version, field)
+    key(version, one(fields)?)
 }
 
 /// A value.
-pub(crate) fn read_value(mut fields: Fields<'_>) -> Option<Value>
+pub(crate) fn read_value(fields: Fields<'_>) -> Option<Value>
     ensures { result ≡ one_value_in fields.entry }
 {
-    let field = next(&mut fields)?;
-    read_nothing(fields)?;
-    value(field)
+    value(one(fields)?)
 }
 
 /// A key and a value.
-pub(crate) fn read_key_and_value(version: Version, mut fields: Fields<'_>) -> Option<(Key, Value)>
+pub(crate) fn read_key_and_value(version: Version, fields: Fields<'_>) -> Option<(Key, Value)>
     ensures { result ≡ key_and_value_in version fields.entry }
 {
-    let key_field = next(&mut fields)?;
-    let value_field = next(&mut fields)?;
-    read_nothing(fields)?;
+    let (key_field, value_field) = two(fields)?;
     let key = key(version, key_field)?;
     let value = value(value_field)?;
     Some((key, value))
 }
 
 /// A key and a number.
-pub(crate) fn read_key_and_number(version: Version, mut fields: Fields<'_>) -> Option<(Key, u64)>
+pub(crate) fn read_key_and_number(version: Version, fields: Fields<'_>) -> Option<(Key, u64)>
     ensures { result ≡ key_and_number_in version fields.entry }
 {
-    let key_field = next(&mut fields)?;
-    let number_field = next(&mut fields)?;
-    read_nothing(fields)?;
+    let (key_field, number_field) = two(fields)?;
     let key = key(version, key_field)?;
     let number = number(number_field)?;
     Some((key, number))
 }
 
 /// A number, and the number of a run.
-pub(crate) fn read_number_and_run(mut fields: Fields<'_>) -> Option<(u64, u32)>
+pub(crate) fn read_number_and_run(fields: Fields<'_>) -> Option<(u64, u32)>
     ensures { result ≡ number_and_run_in fields.entry }
 {
-    let number_field = next(&mut fields)?;
-    let run_field = next(&mut fields)?;
-    read_nothing(fields)?;
+    let (number_field, run_field) = two(fields)?;
     let number = number(number_field)?;
     let run = run(run_field)?;
     Some((number, run))
 }
 
 /// The ends of a range, and a number.
-pub(crate) fn read_range_and_number(
-    version: Version,
-    mut fields: Fields<'_>,
-) -> Option<(Range, u64)>
+pub(crate) fn read_range_and_number(version: Version, fields: Fields<'_>) -> Option<(Range, u64)>
     ensures { result ≡ range_and_number_in version fields.entry }
 {
-    let lo = next(&mut fields)?;
-    let hi = next(&mut fields)?;
-    let number_field = next(&mut fields)?;
-    read_nothing(fields)?;
+    let (lo, hi, number_field) = three(fields)?;
     let range = range(version, lo, hi)?;
     let number = number(number_field)?;
     Some((range, number))
 }
 
 /// A mode, and the ends of a range.
-pub(crate) fn read_lock(version: Version, mut fields: Fields<'_>) -> Option<Lock>
+pub(crate) fn read_lock(version: Version, fields: Fields<'_>) -> Option<Lock>
     ensures { result ≡ lock_fields_in version fields.entry }
 {
-    let mode_field = next(&mut fields)?;
-    let lo = next(&mut fields)?;
-    let hi = next(&mut fields)?;
-    read_nothing(fields)?;
+    let (mode_field, lo, hi) = three(fields)?;
     let mode = parse_mode(mode_field)?;
     let range = range(version, lo, hi)?;
     Some(Lock { mode, range })
 }
 
 /// Why a step was refused, but for a lock that conflicts.
-pub(crate) fn read_refusal(mut fields: Fields<'_>) -> Option<Refusal>
+pub(crate) fn read_refusal(fields: Fields<'_>) -> Option<Refusal>
     ensures { result ≡ refusal_read fields.entry }
 {
-    let field = next(&mut fields)?;
-    read_nothing(fields)?;
-    refusal_for(field)
+    refusal_for(one(fields)?)
 }
 
 /// Records, any number of them.

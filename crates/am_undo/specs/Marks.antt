@@ -1,5 +1,5 @@
 -- Marks in the notes of a transaction, each the number of notes at it; notes and marks stand with the newest first.
-use Rattle.std.specs.Prelude.{◌≡◌, ℕ, ◌≤◌, ◌-◌, length, take, drop, List, [], ◌∷◌, ◌++◌, Bool, true, false}
+use Rattle.std.specs.Prelude.{◌≡◌, ℕ, ◌≤◌, length, List, [], ◌∷◌, ◌++◌, Bool, true, false}
 use Rattle.std.specs.List.{AllByRecursion}
 use Rattle.std.specs.FinMap.{get}
 use Rattle.am_record.specs.Marks.{since, since_mark, until_mark, older}

@@ -4,6 +4,7 @@ use mathlib.Core.Option.{some}
 use lib.ListN.{get_elem?}
 use Rattle.atomic_table.specs.Table.{State, Me, Step}
 use Rattle.atomic_table.specs.Seated.{TableId}
+use Rattle.am_latch.specs.Faults.{max_seats}
 use Rattle.am_words.specs.declared.rule.View.{View}
 
 -- what contracts see of a seat
@@ -17,7 +18,7 @@ abbrev pub new_history : TableId → WordHistory
 new_history id = record { of = id; drawn = []; saw = 0; published = 0 }
 
 abbrev pub all_seats : View
-all_seats = record { seats = 1024; drawn = []; saw = 0; published = 0 }
+all_seats = record { seats = max_seats; drawn = []; saw = 0; published = 0 }
 
 abbrev pub one_seat : View
 one_seat = record { seats = 1; drawn = []; saw = 0; published = 0 }
@@ -50,7 +51,7 @@ pub record IsRuleOfWords (s : State ℕ View) : Type 0 where
   pub next : ℕ
   pub watch : ℕ
   pub words : s.words ≡ next ∷ watch ∷ []
-  pub seats : total (λ v. v.seats) s.views ≤ 1024
+  pub seats : total (λ v. v.seats) s.views ≤ max_seats
   pub few : (k : ℕ) (v : View) → get_elem? s.views k ≡ some v → length v.drawn ≤ 1000000 * v.seats
   pub count : total (λ v. length v.drawn) s.views ≡ next
   pub each_once : (x : ℕ) → total (λ v. count_of x v.drawn) s.views ≡ once_below x next

@@ -6,13 +6,11 @@ ghost use Rattle.am_words.specs.Words.{WordHistory, new_history, HeldAtEnd};
 ghost use Rattle.am_words.specs.Faults.{IsBadCount};
 
 use crate::rule::{Draws, OneSeat, Publishes, Sees, TwoWords, View};
-use am_latch::CommitReceipt;
+use am_latch::{CommitReceipt, MAX_SEATS};
 use atomic_table::{Seat, Table};
 use std::alloc::Global;
 use std::marker::Model;
 use thiserror::Error;
-
-const MOST_SEATS: usize = 1024;
 
 const MOST_DRAWS: u64 = 1_000_000;
 
@@ -81,7 +79,7 @@ impl Words {
         ensures bad { IfErr result (λ e. IsBadCount e ↔ ((count ≡ 0) ⊎ (1024 < count))) }
         ensures counted { OnOk result ((1 ≤ count) × (count ≤ 1024)) }
     {
-        if count == 0 || count > MOST_SEATS {
+        if count == 0 || count > MAX_SEATS {
             return Err(WordsFault::BadSeats);
         }
         let Ok((table, mut rest)) = Table::of_words(alloc, &[0, 0], &()) else {

@@ -6,13 +6,10 @@ ghost use Rattle.am_workers.specs.Turns.{HasTakenTurns, all_moved};
 
 use crate::pacer::Pacer;
 use crate::turns::take_turns;
-use am_latch::{Latch, LatchName, Seat};
+use am_latch::{Latch, LatchName, MAX_SEATS, Seat};
 use std::sync::Wait;
 use std::thread;
 use std::thread::Threads;
-
-/// A latch has no more seats.
-const MOST_SEATS: usize = 1024;
 
 /// The seats that the workers had, in their order, and how many entries their turns moved.
 #[derive(Drop)]
@@ -55,7 +52,7 @@ fn work_all<L: LatchName + Send + Sync, R: Threads + Wait + Sync, G: Pacer + Syn
     ensures turned { AllZip (HasTakenTurns limit turns) seats.old seats.new }
     ensures moved { all_moved seats.new ≡ all_moved seats.old + result }
 {
-    let count = seats.len().min(MOST_SEATS);
+    let count = seats.len().min(MAX_SEATS);
     let (workers, _) = seats.split_at_mut(count);
     let before = moved_by(workers);
     work_in_threads(rt, latch, workers, turns, limit, pacer);

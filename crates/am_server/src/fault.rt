@@ -1,0 +1,42 @@
+//! Why a server doesn't end well.
+
+ghost use Rattle.std.specs.Prelude.{◌≡◌};
+ghost use Rattle.am_server.specs.Faults.{fault_status, fault_words};
+
+/// Why a server doesn't end well.
+#[derive(Clone, Copy, Debug, PartialEq, Eq)]
+pub enum ListenFault {
+    /// The port can't be listened at.
+    CannotListen,
+    /// A connection could not be accepted, and no session came after it.
+    CannotAccept,
+    /// The trace can't be written.
+    CannotWriteTrace,
+    /// Memory was refused.
+    NoMemory,
+}
+
+impl ListenFault {
+    /// The program's status.
+    pub fn status(self) -> u8
+        ensures { result ≡ fault_status self }
+    {
+        match self {
+            ListenFault::CannotListen | ListenFault::CannotAccept => 3,
+            ListenFault::CannotWriteTrace => 4,
+            ListenFault::NoMemory => 5,
+        }
+    }
+
+    /// What is said on standard error.
+    pub fn words(self) -> &'static str
+        ensures { result.now ≡ fault_words self }
+    {
+        match self {
+            ListenFault::CannotListen => "amserve: cannot listen",
+            ListenFault::CannotAccept => "amserve: cannot accept",
+            ListenFault::CannotWriteTrace => "amserve: cannot write the trace",
+            ListenFault::NoMemory => "amserve: no memory",
+        }
+    }
+}
