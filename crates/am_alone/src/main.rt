@@ -7,7 +7,7 @@ mod ending;
 
 use am_command::{Options, OptionsFault, options, words};
 use am_session::serve_alone;
-use am_wire::{Reading, Writing};
+use am_stream::{Reading, Writing};
 use ending::ending;
 use std::env::Env;
 use std::io;

@@ -2,8 +2,8 @@
 use Rattle.std.proofs.Common.{ℕ, List, [], append-nil, length, Option, subst, arith}
 use Rattle.std.proofs.lemmas.List.{take_all}
 use Rattle.std.specs.Prelude.{Result, Ok, Err, OnErr}
-use Rattle.am_wire.specs.Giving.{Gave, GaveBeginning}
-use Rattle.am_wire.proofs.Streams.{gave_then}
+use Rattle.am_stream.specs.Giving.{Gave, GaveBeginning}
+use Rattle.am_stream.proofs.Streams.{gave_then}
 
 -- a line that was given whole, with nothing behind it, is a beginning of it too
 pub begun_whole : {S : Type 0} (holds : S → Option (List ℕ)) (a b c : S) (x : List ℕ) → Gave holds a x b → Gave holds b [] c → GaveBeginning holds a x c

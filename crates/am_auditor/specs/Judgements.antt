@@ -1,7 +1,7 @@
 -- What is said of a text: of the trace that it is the text of, or that it is none.
 use Rattle.std.specs.Prelude.{◌≡◌, ℕ, List, ◌++◌, codes, decimal, length, Option}
 use Rattle.am_serial.specs.Trace.{Trace, effects, committers}
-use Rattle.am_wire.specs.Giving.{Gave, GaveBeginning}
+use Rattle.am_stream.specs.Giving.{Gave, GaveBeginning}
 use Rattle.am_trace.specs.Lines.{IsTextOf, IsBadLine}
 use Rattle.am_serial.specs.Legal.{IsLegal}
 use Rattle.am_audit.specs.Faults.{IsFirstFault}

@@ -1,12 +1,13 @@
 //! What is said of a text.
 
 ghost use Rattle.std.specs.Prelude.{◌≡◌, ◌^◌, ◌<◌, ◌≤◌, ◌+◌, length, true, false, OnOk, OnErr, IfOk};
-ghost use Rattle.am_wire.specs.Giving.{Gave, GaveBeginning};
+ghost use Rattle.am_stream.specs.Giving.{Gave, GaveBeginning};
 ghost use Rattle.am_auditor.specs.Judgements.{IsTrueOf, SaysJudgement, IsBegun, judgement_line, judgement_status};
 
 use am_audit::{Audit, Fault, FaultKind};
+use am_stream::{Failed, Sink, give_all};
+use am_text::Text;
 use am_trace::{ReadFault, read_header, read_line};
-use am_wire::{Failed, Sink, Text, give_all};
 use std::alloc::Global;
 
 /// What is to be said of a text, or of one that can't be had.

@@ -4,7 +4,7 @@
 mod judgement;
 
 use am_command::{audited_file, words};
-use am_wire::Writing;
+use am_stream::Writing;
 use judgement::{Judgement, judge, say};
 use std::io::Read;
 use std::process::ExitCode;

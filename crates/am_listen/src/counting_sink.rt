@@ -2,10 +2,10 @@
 
 ghost use Rattle.std.specs.Prelude.{◌≡◌, ◌==◌, ◌||◌, ◌+◌, ◌^◌, ◌<◌, ◌≤◌, false, [], length, take, min, count_by};
 ghost use Rattle.std.specs.Prelude.{nat_lt, OnOk, OnErr, IfOk};
-ghost use Rattle.am_wire.specs.Giving.{Gave};
+ghost use Rattle.am_stream.specs.Giving.{Gave};
 
 use crate::pacer::MergePacer;
-use am_wire::{Failed, Sink};
+use am_stream::{Failed, Sink};
 
 /// A sink of a session, each of whose answers lets a worker have a turn once it was sent on.
 #[derive(Drop)]

@@ -10,7 +10,7 @@ use crate::pacer::MergePacer;
 use am_latch::LatchName;
 use am_seating::SessionSeat;
 use am_session::{End, serve};
-use am_wire::{AnsweredSource, Reading, Sink, Writing};
+use am_stream::{AnsweredSource, Reading, Sink, Writing};
 use std::alloc::Global;
 use std::io::{BufWriter, Write};
 use std::net::TcpStream;

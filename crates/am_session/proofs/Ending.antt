@@ -3,8 +3,8 @@ use Rattle.std.proofs.Common.{inl, inr, ℕ, List, [], ◌++◌, refl, take, Opt
 use Rattle.am_record.specs.declared.step.Step.{Step}
 use Rattle.am_record.specs.declared.step.Reply.{Reply}
 use Rattle.am_serial.specs.Trace.{Trace}
-use Rattle.am_wire.specs.Giving.{Gave}
-use Rattle.am_wire.proofs.Streams.{gave_then}
+use Rattle.am_stream.specs.Giving.{Gave}
+use Rattle.am_stream.proofs.Streams.{gave_then}
 use Rattle.am_talk.specs.Responses.{bye}
 use Rattle.am_session.specs.Talk.{SessionPoint, texts, Converses, AnswersAll}
 use Rattle.am_talk.specs.Dialogue.{Exchange}

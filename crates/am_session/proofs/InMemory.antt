@@ -1,8 +1,8 @@
 -- A session over bytes in memory: what was taken is a beginning of them, and what was given stands behind what was there.
 use Rattle.std.proofs.Common.{◌≡◌, ◌⊎◌, inl, inr, ℕ, List, [], ◌++◌, Some, sym, refl}
 use Rattle.am_serial.specs.Trace.{Trace}
-use Rattle.am_wire.specs.Taking.{Took}
-use Rattle.am_wire.specs.Giving.{Gave}
+use Rattle.am_stream.specs.Taking.{Took}
+use Rattle.am_stream.specs.Giving.{Gave}
 use Rattle.am_talk.specs.Dialogue.{Exchange}
 use Rattle.am_session.specs.Served.{EndsBy, IsEnded}
 use Rattle.am_session.specs.declared.end.End.{End}

@@ -2,9 +2,9 @@
 use Rattle.std.proofs.Common.{◌≡◌, ℕ, List, [], ◌++◌, append_assoc, append-nil, ap, sym, ◌∙◌, refl, take, length, Option, Some, None, subst, arith}
 use Rattle.std.proofs.lemmas.List.{take_all}
 use Rattle.std.specs.Io.KnownBytes.{Appends}
-use Rattle.am_wire.specs.Taking.{Took, TookAhead}
-use Rattle.am_wire.specs.Giving.{Gave}
-use Rattle.am_wire.proofs.Streams.{gave_then}
+use Rattle.am_stream.specs.Taking.{Took, TookAhead}
+use Rattle.am_stream.specs.Giving.{Gave}
+use Rattle.am_stream.proofs.Streams.{gave_then}
 
 pub appends_none : (a : Option (List ℕ)) → Appends a a []
 appends_none None = tt

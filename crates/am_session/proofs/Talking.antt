@@ -4,10 +4,10 @@ use Rattle.std.proofs.lemmas.List.{map-append}
 use Rattle.am_record.specs.declared.step.Step.{Step}
 use Rattle.am_record.specs.declared.step.Reply.{Reply}
 use Rattle.am_serial.specs.Trace.{Trace}
-use Rattle.am_wire.specs.Lines.{lines_of, TookLine, TookPart}
-use Rattle.am_wire.specs.Taking.{Took, TookAhead, IsAtEnd}
-use Rattle.am_wire.specs.Giving.{Gave}
-use Rattle.am_wire.proofs.Streams.{took_then, gave_then}
+use Rattle.am_stream.specs.Lines.{lines_of, TookLine, TookPart}
+use Rattle.am_stream.specs.Taking.{Took, TookAhead, IsAtEnd}
+use Rattle.am_stream.specs.Giving.{Gave}
+use Rattle.am_stream.proofs.Streams.{took_then, gave_then}
 use Rattle.am_talk.specs.ParsedLine.{Line, parsed, is_quit, before_quit, quits}
 use Rattle.am_talk.specs.Responses.{response_text}
 use Rattle.am_talk.specs.Dialogue.{Exchange}

@@ -1,7 +1,7 @@
 -- One line answered, or its answer torn, and the merge after it.
 use Rattle.std.specs.Prelude.{ℕ, List, Option, take}
 use Rattle.am_serial.specs.Trace.{Trace}
-use Rattle.am_wire.specs.Giving.{Gave}
+use Rattle.am_stream.specs.Giving.{Gave}
 use Rattle.am_talk.specs.Responses.{response_text}
 use Rattle.am_talk.specs.declared.lines.ParsedLine.{ParsedLine}
 use Rattle.am_talk.specs.declared.response.Response.{Response}

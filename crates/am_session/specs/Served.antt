@@ -1,8 +1,8 @@
 -- What a session did, by its end: which bytes it read, which text it wrote, and where it left its backend.
 use Rattle.std.specs.Prelude.{◌≡◌, ℕ, List, [], ◌∷◌, ◌++◌, true, false, Option, take, ◌⊎◌}
-use Rattle.am_wire.specs.Lines.{lines_of, HasNoLf}
-use Rattle.am_wire.specs.Taking.{Took}
-use Rattle.am_wire.specs.Giving.{Gave}
+use Rattle.am_stream.specs.Lines.{lines_of, HasNoLf}
+use Rattle.am_stream.specs.Taking.{Took}
+use Rattle.am_stream.specs.Giving.{Gave}
 use Rattle.am_serial.specs.Trace.{Trace}
 use Rattle.am_talk.specs.ParsedLine.{before_quit, quits}
 use Rattle.am_talk.specs.Responses.{bye, response_text}

@@ -1,7 +1,7 @@
 -- What a session on a store of its own did, by its end.
 use Rattle.std.specs.Prelude.{◌≡◌, ℕ, List, [], ◌∷◌, ◌++◌, Option}
-use Rattle.am_wire.specs.Taking.{Took}
-use Rattle.am_wire.specs.Giving.{Gave}
+use Rattle.am_stream.specs.Taking.{Took}
+use Rattle.am_stream.specs.Giving.{Gave}
 use Rattle.am_talk.specs.Dialogue.{Whole, TornAt}
 use Rattle.am_session.specs.Served.{EndsBy}
 use Rattle.am_session.specs.Solo.{IsSpoken}

@@ -1,8 +1,8 @@
 -- What a session did up to its stop, when no further line is answered and what is active isn't aborted yet.
 use Rattle.std.specs.Prelude.{◌≡◌, ℕ, List, [], ◌++◌, Option}
 use Rattle.am_serial.specs.Trace.{Trace}
-use Rattle.am_wire.specs.Taking.{Took}
-use Rattle.am_wire.specs.Giving.{Gave}
+use Rattle.am_stream.specs.Taking.{Took}
+use Rattle.am_stream.specs.Giving.{Gave}
 use Rattle.am_talk.specs.Dialogue.{Exchange}
 use Rattle.am_session.specs.Backends.{BackendMeaning}
 use Rattle.am_session.specs.Talk.{SessionPoint, AnswersLine, Converses, Leaves}

@@ -7,7 +7,7 @@ ghost use Rattle.am_session.specs.Spoke.{Spoke, WroteFor};
 use crate::end::End;
 use crate::serving::serve;
 use crate::solo::SoloStore;
-use am_wire::{AnsweredSource, PieceSource, Sink, StopSink};
+use am_stream::{AnsweredSource, PieceSource, Sink, StopSink};
 use std::alloc::Global;
 use std::sync::Wait;
 

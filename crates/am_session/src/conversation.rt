@@ -2,17 +2,17 @@
 
 ghost use Rattle.std.specs.Prelude.{◌≡◌, ℕ, ◌+◌, ◌^◌, ◌<◌, ◌≤◌, [], take, false, Option, Some, None, OnOk, OnErr, IfOk};
 ghost use Rattle.std.specs.Prelude.{IfSome, IfNone};
-ghost use Rattle.am_wire.specs.Giving.{Gave};
-ghost use Rattle.am_wire.specs.Lines.{has_lf, TookLine, TookPart};
-ghost use Rattle.am_wire.specs.Seen.{seen};
-ghost use Rattle.am_wire.specs.Taking.{TookAhead, IsAtEnd};
+ghost use Rattle.am_stream.specs.Giving.{Gave};
+ghost use Rattle.am_stream.specs.Lines.{has_lf, TookLine, TookPart};
+ghost use Rattle.am_stream.specs.Seen.{seen};
+ghost use Rattle.am_stream.specs.Taking.{TookAhead, IsAtEnd};
 ghost use Rattle.am_talk.specs.Responses.{response_text};
 ghost use Rattle.am_session.specs.Answering.{Responds, AnswersLine, Torn, Merged};
 
 use crate::backend::Backend;
 use am_record::Step;
+use am_stream::{AnsweredSource, Failed, FoundLine, Input, LineBuffer, Sink, read_line};
 use am_talk::{Action, ParsedLine, Response, Session, put_response};
-use am_wire::{AnsweredSource, Failed, FoundLine, Input, LineBuffer, Sink, read_line};
 use std::sync::Wait;
 
 /// Takes the next line. The source is asked only where no whole line is at hand, and then nothing is unsent.

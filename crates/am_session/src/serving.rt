@@ -1,7 +1,7 @@
 //! A session over any backend, to its end.
 
 ghost use Rattle.std.specs.Prelude.{◌≡◌, ℕ, ◌+◌, ◌^◌, ◌<◌, ◌≤◌, [], take, false, Option, Some, None, OnOk, OnErr};
-ghost use Rattle.am_wire.specs.Giving.{Gave};
+ghost use Rattle.am_stream.specs.Giving.{Gave};
 ghost use Rattle.am_talk.specs.Responses.{bye};
 ghost use Rattle.am_session.specs.Served.{Served, read_failures, write_failures, IsSentOn};
 ghost use Rattle.am_session.specs.Stops.{Talked, Left, reads_failed, writes_failed, IsSentBy};
@@ -10,8 +10,8 @@ use crate::backend::Backend;
 use crate::conversation::{answer, merge, next_line};
 use crate::end::End;
 use am_record::Step;
+use am_stream::{AnsweredSource, Failed, Input, LineBuffer, Sink, give_all};
 use am_talk::{Session, parse};
-use am_wire::{AnsweredSource, Failed, Input, LineBuffer, Sink, give_all};
 use std::alloc::Global;
 use std::sync::Wait;
 

@@ -15,8 +15,8 @@ use Rattle.am_wire.specs.Visible.{WritesVisible, AsksVisible}
 use Rattle.am_wire.specs.Grammar.{Reads}
 use Rattle.am_wire.specs.declared.request.Request.{Request}
 use Rattle.am_wire.specs.declared.request.Request.TheVariants as request
-use Rattle.am_wire.specs.declared.request.LineFault.{LineFault}
-use Rattle.am_wire.specs.declared.request.LineFault.TheVariants as fault
+use Rattle.am_text.specs.declared.fault.LineFault.{LineFault}
+use Rattle.am_text.specs.declared.fault.LineFault.TheVariants as fault
 use Rattle.am_wire.proofs.Readings.{reads_what_may_be}
 use Rattle.am_wire.proofs.VisibleRequests.{asks_visible}
 use Rattle.am_wire.proofs.Texts.{HasNoLf-append, HasNoLf-decimal, HasNoLf-free, HasNoLf-words_of, is_free}

@@ -24,7 +24,7 @@ use Rattle.am_talk.specs.Say as say
 use Rattle.am_talk.specs.Say.{refusal_due, reply_due, refused_or, begin_due, state_did, wants_memory, response_due, state_after_line, state_refused, is_load_line, IsSaid, SaysFrom}
 use Rattle.am_wire.specs.declared.request.Request.{Request}
 use Rattle.am_wire.specs.declared.request.Request.TheVariants as request
-use Rattle.am_wire.specs.declared.request.LineFault.TheVariants as fault
+use Rattle.am_text.specs.declared.fault.LineFault.TheVariants as fault
 use Rattle.am_talk.specs.declared.lines.ParsedLine.{ParsedLine}
 use Rattle.am_talk.specs.declared.lines.ParsedLine.TheVariants as said
 use Rattle.am_talk.specs.declared.action.Action.{Action}

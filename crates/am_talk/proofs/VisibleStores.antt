@@ -22,8 +22,8 @@ use Rattle.am_effect.specs.Merging.{Holders, candidates, AnswersFirst, AnswersCa
 use Rattle.am_effect.specs.Store.{Store, opened, holder, MayReply, after_step}
 use Rattle.am_effect.specs.Written.{StepWritesKeys, HaveKeys}
 use Rattle.am_effect.proofs.Writing.{keys_written}
-use Rattle.am_wire.specs.Keys.{printed_key}
-use Rattle.am_wire.specs.Values.{IsVisible}
+use Rattle.am_text.specs.Keys.{printed_key}
+use Rattle.am_text.specs.Values.{IsVisible}
 use Rattle.am_wire.specs.Replies.{IsVisibleRow, TellsVisible}
 use Rattle.am_wire.specs.Visible.{WritesVisible}
 use Rattle.am_talk.proofs.VisibleMaps.{all_filter, all_append, IsVisibleMap, IsVisibleDraft, empty_visible, answer_visible, left_visible}

@@ -10,7 +10,7 @@ use Rattle.am_record.specs.declared.step.Step.{Step}
 use Rattle.am_record.specs.declared.step.Step.TheVariants as step
 use Rattle.am_record.specs.declared.step.Reply.{Reply}
 use Rattle.am_record.specs.declared.step.Reply.TheVariants.{Aborted}
-use Rattle.am_wire.specs.declared.request.LineFault.TheVariants as fault
+use Rattle.am_text.specs.declared.fault.LineFault.TheVariants as fault
 use Rattle.am_wire.specs.declared.request.Request.{Request}
 use Rattle.am_wire.specs.declared.request.Request.TheVariants.{Begin, Do, Stage, Commit, Abort, Merge, Clean, Seen}
 use Rattle.am_wire.specs.declared.request.Request.TheVariants.{Quit}

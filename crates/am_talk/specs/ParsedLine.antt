@@ -3,7 +3,7 @@ use Rattle.std.specs.Prelude.{◌≡◌, ℕ, List, [], ◌∷◌, Bool, true, f
 use Rattle.am_wire.specs.Reading.{reading, MayRead}
 use Rattle.am_wire.specs.declared.request.Request.{Request}
 use Rattle.am_wire.specs.declared.request.Request.TheVariants.{Stage, Merge, Clean, Quit}
-use Rattle.am_wire.specs.declared.request.LineFault.{LineFault}
+use Rattle.am_text.specs.declared.fault.LineFault.{LineFault}
 use Rattle.am_talk.specs.declared.lines.ParsedLine.{ParsedLine}
 use Rattle.am_talk.specs.declared.lines.ParsedLine.TheVariants.{Asked, Faulty, TooLong}
 

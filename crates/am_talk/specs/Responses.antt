@@ -1,8 +1,8 @@
 -- The texts that a session writes.
 use Rattle.std.specs.Prelude.{ℕ, List, [], ◌∷◌, ◌++◌, Bool, cond, codes, decimal}
 use Rattle.am_wire.specs.Replies.{text_of}
-use Rattle.am_wire.specs.declared.request.LineFault.{LineFault}
-use Rattle.am_wire.specs.declared.request.LineFault.TheVariants.{Syntax, Range, NoMemory}
+use Rattle.am_text.specs.declared.fault.LineFault.{LineFault}
+use Rattle.am_text.specs.declared.fault.LineFault.TheVariants.{Syntax, Range, NoMemory}
 use Rattle.am_talk.specs.declared.response.Response.{Response}
 use Rattle.am_talk.specs.declared.response.Response.TheVariants.{TooLong, Faulty, NoTransaction, Active, Staged}
 use Rattle.am_talk.specs.declared.response.Response.TheVariants.{TooManyStaged, StillStaged, Replied, Seen}

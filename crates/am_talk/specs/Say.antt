@@ -20,7 +20,7 @@ use Rattle.am_talk.specs.Actions.{with_staged, staged_left, stage_response, may_
 use Rattle.am_talk.specs.Dialogue.{Exchange}
 use Rattle.am_wire.specs.declared.request.Request.{Request}
 use Rattle.am_wire.specs.declared.request.Request.TheVariants as request
-use Rattle.am_wire.specs.declared.request.LineFault.TheVariants as fault
+use Rattle.am_text.specs.declared.fault.LineFault.TheVariants as fault
 use Rattle.am_talk.specs.declared.lines.ParsedLine.{ParsedLine}
 use Rattle.am_talk.specs.declared.lines.ParsedLine.TheVariants as said
 use Rattle.am_talk.specs.declared.response.Response.{Response}

@@ -1,10 +1,12 @@
 //! What a line says.
 
 ghost use Rattle.std.specs.Prelude.{◌≡◌};
-ghost use Rattle.am_wire.specs.Seen.{seen};
+ghost use Rattle.am_stream.specs.Seen.{seen};
 ghost use Rattle.am_talk.specs.ParsedLine.{MayParse, is_quit};
 
-use am_wire::{LineFault, LineKind, Request, parse_line};
+use am_stream::LineKind;
+use am_text::LineFault;
+use am_wire::{Request, parse_line};
 use std::alloc::Global;
 
 /// What a line says.

@@ -1,11 +1,13 @@
 //! What a session writes for a line.
 
 ghost use Rattle.std.specs.Prelude.{◌≡◌, ◌+◌, ◌^◌, ◌<◌, true, OnOk, OnErr};
-ghost use Rattle.am_wire.specs.Giving.{Gave, GaveBeginning};
+ghost use Rattle.am_stream.specs.Giving.{Gave, GaveBeginning};
 ghost use Rattle.am_talk.specs.Responses.{response_text, fault_text, seen_text};
 
 use am_record::Reply;
-use am_wire::{Failed, LineFault, Sink, Text, give_all, put_reply};
+use am_stream::{Failed, Sink, give_all};
+use am_text::{LineFault, Text};
+use am_wire::put_reply;
 
 /// What a session writes for a line: a fault of the line, or of its place in the session, the reply to its step, or
 /// what SEEN tells.

@@ -9,7 +9,8 @@ use crate::action::Action;
 use crate::lines::ParsedLine;
 use crate::response::Response;
 use am_record::{Key, MAX_RUN_RECORDS, NoMemory, Op, Pairs, Reply, Step, Value};
-use am_wire::{LineFault, Request};
+use am_text::LineFault;
+use am_wire::Request;
 use std::alloc::Global;
 use std::marker::Model;
 

@@ -5,7 +5,7 @@ use Rattle.std.specs.Option.{option_zip}
 use Rattle.std.proofs.lemmas.Bool.{cond-true, cond-false}
 use Rattle.std.proofs.lemmas.List.{length-append}
 use Rattle.std.proofs.lemmas.Bool.Decides.{nat_tests}
-use Rattle.am_wire.specs.Values.{value_for}
+use Rattle.am_text.specs.Values.{value_for}
 use Rattle.am_trace.specs.Reading.{byte_in, bytes_for, with_byte, value_for_digits}
 
 -- these bytes were read, and these digits are left

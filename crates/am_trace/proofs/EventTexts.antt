@@ -16,12 +16,11 @@ use Rattle.am_record.specs.declared.step.Reply.{Reply}
 use Rattle.am_record.specs.declared.step.Reply.TheVariants as reply
 use Rattle.am_record.specs.declared.step.Refusal.{Refusal}
 use Rattle.am_record.specs.declared.step.Refusal.TheVariants as refusal
-use Rattle.am_wire.specs.Arguments.{mode_word}
-use Rattle.am_wire.specs.Reading.{line_fields}
-use Rattle.am_wire.specs.Spaces.{has_no_space}
-use Rattle.am_wire.specs.Verbs.{word_of}
-use Rattle.am_wire.specs.declared.verb.Verb.{Verb}
-use Rattle.am_wire.specs.declared.verb.Verb.TheVariants as verb
+use Rattle.am_text.specs.Locks.{mode_word}
+use Rattle.am_text.specs.Fields.{line_fields, has_no_space}
+use Rattle.am_text.specs.Verbs.{word_of}
+use Rattle.am_text.specs.declared.verb.Verb.{Verb}
+use Rattle.am_text.specs.declared.verb.Verb.TheVariants as verb
 use Rattle.am_trace.specs.Cuts.{has_no, IsParted}
 use Rattle.am_trace.specs.Words.{hex, key_word, record_word}
 use Rattle.am_trace.specs.Bounds.{IsNumber, IsKey, IsValue, AreRecords}

@@ -15,9 +15,9 @@ use Rattle.am_record.proofs.Outcomes.{mapped, gate}
 use Rattle.am_trace.specs.Words.{hex, key_word, record_word}
 use Rattle.am_trace.specs.Bounds.{IsNumber, IsKey, IsValue, AreRecords}
 use Rattle.am_trace.specs.Replies.{refusal_fields, reply_fields, IsRefusal, IsReply}
-use Rattle.am_wire.specs.ReplyWords.{word_text, refusal_code}
-use Rattle.am_wire.specs.declared.reply_word.ReplyWord.{ReplyWord}
-use Rattle.am_wire.specs.declared.reply_word.ReplyWord.TheVariants as word
+use Rattle.am_text.specs.ReplyWords.{word_text, refusal_code}
+use Rattle.am_text.specs.declared.reply_word.ReplyWord.{ReplyWord}
+use Rattle.am_text.specs.declared.reply_word.ReplyWord.TheVariants as word
 use Rattle.am_trace.specs.Reading.{number_in, run_in, key_in, value_in, records_of_fields, nothing_in, one_number_in, one_key_in, one_value_in, key_and_number_in, number_and_run_in, if_counted, counted_records_in, refusal_for, coded_refusals, refusal_read, word_for, savepoint_in, reply_of, reply_with, reply_in}
 use Rattle.am_trace.specs.declared.version.Version.{Version}
 use Rattle.am_trace.proofs.IsText.{IsText, zipped, zip_of, chained, same_some, one_field, two_fields}

@@ -13,11 +13,10 @@ use Rattle.am_record.specs.declared.step.Op.TheVariants as op
 use Rattle.am_record.specs.declared.step.Step.{Step}
 use Rattle.am_record.specs.declared.step.Step.TheVariants.{Begin, Do, Commit, Abort, Merge, Clean}
 use Rattle.am_record.proofs.Outcomes.{mapped, gate}
-use Rattle.am_wire.specs.Arguments.{mode_word, interval_for}
-use Rattle.am_wire.specs.Reading.{mode_for}
-use Rattle.am_wire.specs.Verbs.{word_of, verb_for}
-use Rattle.am_wire.specs.declared.verb.Verb.{Verb}
-use Rattle.am_wire.specs.declared.verb.Verb.TheVariants as verb
+use Rattle.am_text.specs.Locks.{mode_word, interval_for, mode_for}
+use Rattle.am_text.specs.Verbs.{word_of, verb_for}
+use Rattle.am_text.specs.declared.verb.Verb.{Verb}
+use Rattle.am_text.specs.declared.verb.Verb.TheVariants as verb
 use Rattle.am_trace.specs.Words.{hex, key_word, record_word}
 use Rattle.am_trace.specs.Bounds.{IsNumber, IsKey, IsValue, IsRecord, AreRecords, IsRange}
 use Rattle.am_trace.specs.Steps.{verb_of, argument_fields, step_fields, IsOp, IsStep, HasSavepoints}

@@ -5,10 +5,10 @@ use Rattle.std.specs.List.{AllByRecursion}
 use Rattle.std.proofs.lemmas.Slice.Eq.{bytes_eq-Decides}
 use Rattle.am_record.specs.declared.step.Refusal.{Refusal}
 use Rattle.am_trace.proofs.IsText.{same_some}
-use Rattle.am_wire.specs.ReplyWords.{word_text, refusal_code}
-use Rattle.am_wire.specs.declared.reply_word.ReplyWord.{ReplyWord}
+use Rattle.am_text.specs.ReplyWords.{word_text, refusal_code}
+use Rattle.am_text.specs.declared.reply_word.ReplyWord.{ReplyWord}
 use Rattle.am_trace.specs.Reading.{word_for, all_words, refusal_for, coded_refusals}
-use Rattle.am_wire.specs.declared.reply_word.ReplyWord.TheVariants.{Begun, Done, Found, Absent, Rows, Exists, Missing, Committed, Aborted, Moved, MergeDone, Ended, Idle, Cleaned, NoMark, Busy, Error}
+use Rattle.am_text.specs.declared.reply_word.ReplyWord.TheVariants.{Begun, Done, Found, Absent, Rows, Exists, Missing, Committed, Aborted, Moved, MergeDone, Ended, Idle, Cleaned, NoMark, Busy, Error}
 
 pub word_for-word_text : (w : ReplyWord) → word_for (word_text w) ≡ Some w
 unfolding word_for

@@ -16,17 +16,18 @@ use Rattle.am_record.specs.declared.step.Reply.{Reply}
 use Rattle.am_record.specs.declared.step.Reply.TheVariants as reply
 use Rattle.am_record.specs.declared.step.Refusal.{Refusal}
 use Rattle.am_record.specs.declared.step.Refusal.TheVariants as refusal
-use Rattle.am_wire.specs.Numbers.{is_numeral, numeral_value, number_for}
-use Rattle.am_wire.specs.Keys.{key_for}
-use Rattle.am_wire.specs.Values.{value_for}
-use Rattle.am_wire.specs.Arguments.{interval_for, lock_in}
-use Rattle.am_wire.specs.Reading.{is_equals, mode_for, line_fields}
-use Rattle.am_wire.specs.Verbs.{verb_for}
-use Rattle.am_wire.specs.ReplyWords.{word_text, refusal_code}
-use Rattle.am_wire.specs.declared.reply_word.ReplyWord.{ReplyWord}
-use Rattle.am_wire.specs.declared.reply_word.ReplyWord.TheVariants as word
-use Rattle.am_wire.specs.declared.verb.Verb.{Verb}
-use Rattle.am_wire.specs.declared.verb.Verb.TheVariants as verb
+use Rattle.am_text.specs.Numbers.{is_numeral, numeral_value, number_for}
+use Rattle.am_text.specs.Keys.{key_for}
+use Rattle.am_text.specs.Values.{value_for}
+use Rattle.am_text.specs.Locks.{interval_for, lock_in, mode_for}
+use Rattle.am_text.specs.Records.{is_equals}
+use Rattle.am_text.specs.Fields.{line_fields}
+use Rattle.am_text.specs.Verbs.{verb_for}
+use Rattle.am_text.specs.ReplyWords.{word_text, refusal_code}
+use Rattle.am_text.specs.declared.reply_word.ReplyWord.{ReplyWord}
+use Rattle.am_text.specs.declared.reply_word.ReplyWord.TheVariants as word
+use Rattle.am_text.specs.declared.verb.Verb.{Verb}
+use Rattle.am_text.specs.declared.verb.Verb.TheVariants as verb
 use Rattle.am_trace.specs.declared.version.Version.{Version}
 use Rattle.am_trace.specs.declared.version.Version.TheVariants.{One, Two}
 use Rattle.am_record.specs.Events.{Event}

@@ -4,10 +4,10 @@ use Rattle.am_record.specs.declared.step.Op.{Op}
 use Rattle.am_record.specs.declared.step.Op.TheVariants.{Get, Scan, Insert, Replace, Delete, Load, Lock, Mark, Back}
 use Rattle.am_record.specs.declared.step.Step.{Step}
 use Rattle.am_record.specs.declared.step.Step.TheVariants.{Begin, Do, Commit, Abort, Merge, Clean}
-use Rattle.am_wire.specs.Verbs.{word_of}
-use Rattle.am_wire.specs.Arguments.{mode_word}
-use Rattle.am_wire.specs.declared.verb.Verb.{Verb}
-use Rattle.am_wire.specs.declared.verb.Verb.TheVariants as verb
+use Rattle.am_text.specs.Verbs.{word_of}
+use Rattle.am_text.specs.Locks.{mode_word}
+use Rattle.am_text.specs.declared.verb.Verb.{Verb}
+use Rattle.am_text.specs.declared.verb.Verb.TheVariants as verb
 use Rattle.am_trace.specs.Words.{key_word, record_word, hex}
 use Rattle.am_trace.specs.Bounds.{IsNumber, IsKey, IsRecord, AreRecords, IsRange}
 use Rattle.am_trace.specs.declared.version.Version.{Version}

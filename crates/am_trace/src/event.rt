@@ -12,7 +12,7 @@ use crate::read_reply::read_reply;
 use crate::read_step::read_step;
 use crate::version::Version;
 use am_record::{Reply, Step};
-use am_wire::{Fields, words_are_fields};
+use am_text::{Fields, words_are_fields};
 use std::alloc::Global;
 
 /// The step of a line and its reply. The line has no LF.

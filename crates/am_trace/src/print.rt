@@ -4,11 +4,11 @@ ghost use Rattle.std.specs.Prelude.{◌≡◌, ◌≢◌, ◌++◌, [], ◌∷�
 ghost use Rattle.std.specs.List.{join_with_byte, flat_map};
 ghost use Rattle.am_record.specs.declared.step.Refusal.{Refusal as TheRefusal};
 ghost use Rattle.am_record.specs.declared.step.Refusal.TheVariants.{SeatFull as FullSeat};
-ghost use Rattle.am_wire.specs.Arguments.{mode_word};
-ghost use Rattle.am_wire.specs.Verbs.{word_of};
+ghost use Rattle.am_text.specs.Locks.{mode_word};
+ghost use Rattle.am_text.specs.Verbs.{word_of};
 ghost use Rattle.am_trace.specs.Bounds.{AreRecords};
 ghost use Rattle.am_trace.specs.Words.{record_word};
-ghost use Rattle.am_wire.specs.ReplyWords.{word_text};
+ghost use Rattle.am_text.specs.ReplyWords.{word_text};
 ghost use Rattle.am_trace.specs.Steps.{IsStep, op_fields, verb_of};
 ghost use Rattle.am_trace.specs.Replies.{IsRefusal, IsReply, refusal_fields};
 ghost use Rattle.am_trace.specs.Lines.{step_words, reply_words, event_words, with_lf, IsEvent};
@@ -16,7 +16,7 @@ ghost use Rattle.am_trace.specs.Lines.{step_words, reply_words, event_words, wit
 use crate::field::Field;
 use crate::version::Version;
 use am_record::{Key, Mode, NoMemory, Op, Refusal, Reply, Step, Value};
-use am_wire::{ReplyWord, Verb, refusal_code};
+use am_text::{ReplyWord, Verb, refusal_code};
 use std::alloc::Global;
 use std::marker::Model;
 

@@ -12,7 +12,7 @@ use crate::shape::{
 use crate::version::Version;
 use crate::word::word_for;
 use am_record::{Refusal, Reply};
-use am_wire::{Fields, ReplyWord};
+use am_text::{Fields, ReplyWord};
 use std::alloc::Global;
 
 /// A reply, by all its fields.

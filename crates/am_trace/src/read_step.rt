@@ -10,7 +10,7 @@ use crate::shape::{
 };
 use crate::version::Version;
 use am_record::{Op, Step};
-use am_wire::{Fields, Verb};
+use am_text::{Fields, Verb};
 use std::alloc::Global;
 
 /// A step, by all its fields.

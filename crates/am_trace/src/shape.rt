@@ -11,7 +11,7 @@ use crate::read::ReadFault;
 use crate::version::Version;
 use crate::word::refusal_for;
 use am_record::{Key, Lock, Pairs, Range, Refusal, Value};
-use am_wire::{Fields, parse_mode, parse_number, split_record};
+use am_text::{Fields, parse_mode, parse_number, split_record};
 use arrayvec::ArrayVec;
 use std::alloc::Global;
 

@@ -11,7 +11,7 @@ use crate::print::Page;
 use crate::read::ReadFault;
 use crate::version::Version;
 use am_record::{NoMemory, Reply, Step};
-use am_wire::words_are_fields;
+use am_text::words_are_fields;
 use std::alloc::Global;
 use thiserror::Error;
 

@@ -4,7 +4,7 @@ ghost use Rattle.std.specs.Prelude.{◌≡◌};
 ghost use Rattle.am_trace.specs.Reading.{refusal_for, word_for};
 
 use am_record::Refusal;
-use am_wire::{ReplyWord, refusal_code};
+use am_text::{ReplyWord, refusal_code};
 
 const WORDS: [ReplyWord; 17] = [
     ReplyWord::Begun,

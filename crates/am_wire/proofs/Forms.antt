@@ -7,22 +7,21 @@ use Rattle.std.proofs.lemmas.Slice.Eq.{bytes_eq-Decides}
 use Rattle.am_record.specs.declared.lock.Mode.{Mode}
 use Rattle.am_record.specs.declared.lock.Mode.TheVariants.{Shared, Exclusive}
 use Rattle.am_record.proofs.Outcomes.{gate, mapped}
-use Rattle.am_wire.specs.Numbers.{is_numeral, numeral, numeral_value}
-use Rattle.am_wire.specs.Keys.{is_key_text}
-use Rattle.am_wire.specs.Verbs.{VerbShape, bare, one_key, one_record, one_number, range_and_number, mode_and_range, some_records}
-use Rattle.am_wire.specs.Arguments.{Arguments, RecordText, fields_of, AreProper, mode_word}
-use Rattle.am_wire.specs.Reading.{arguments_in, mode_for, is_record_text, is_record_field, record_text}
-use Rattle.am_wire.specs.Spaces.{has_no_space}
-use Rattle.am_wire.proofs.Keys.{is_key_text-Decides, IsKeyText-no_space}
-use Rattle.am_wire.proofs.Values.{IsValueText-no_space}
-use Rattle.am_wire.proofs.Numerals.{numeral-numeral_value, numeral_value-numeral, is_numeral-numeral, numeral-no_space}
-use Rattle.am_wire.proofs.Records.{is_record_text-proper, proper-is_record_text, are_proper, proper_fields, map_record_field-record_text, map_record_text-record_field, record_fields-no_space}
+use Rattle.am_text.specs.Numbers.{is_numeral, numeral, numeral_value}
+use Rattle.am_text.specs.Keys.{is_key_text}
+use Rattle.am_wire.specs.Shapes.{VerbShape, bare, one_key, one_record, one_number, range_and_number, mode_and_range, some_records}
+use Rattle.am_wire.specs.Arguments.{Arguments, fields_of, AreProper}
+use Rattle.am_text.specs.Records.{RecordText, is_record_text, is_record_field, record_text}
+use Rattle.am_text.specs.Locks.{mode_word, mode_for}
+use Rattle.am_wire.specs.Reading.{arguments_in}
+use Rattle.am_text.specs.Fields.{has_no_space}
+use Rattle.am_text.proofs.Keys.{is_key_text-Decides, IsKeyText-no_space}
+use Rattle.am_text.proofs.Values.{IsValueText-no_space}
+use Rattle.am_text.proofs.Modes.{mode_for-mode_word, mode_word-mode_for}
+use Rattle.am_text.proofs.Numerals.{numeral-numeral_value, numeral_value-numeral, is_numeral-numeral, numeral-no_space}
+use Rattle.am_text.proofs.Records.{is_record_text-proper, proper-is_record_text, are_proper, proper_fields, map_record_field-record_text, map_record_text-record_field, record_fields-no_space}
 
 -- ---- from arguments to fields and back
-
-pub mode_for-mode_word : (m : Mode) → mode_for (mode_word m) ≡ Some m
-mode_for-mode_word Shared = refl
-mode_for-mode_word Exclusive = refl
 
 records_back : (rs : List RecordText) → 0 < length rs → AllByRecursion (λ r. AreProper one_record r) rs → arguments_in some_records (fields_of some_records rs) ≡ Some rs
 records_back [] some h = absurd (omega arith)
@@ -58,14 +57,6 @@ found : {A : Type 0} (P : A → Type 0) (test : Bool) (here a : A) → (test ≡
 found P test here a h = cond_both test (Some here) None (λ o. o ≡ Some a → P a)
     (λ t e. let same : here ≡ a = cc in subst P same (h t))
     (λ _ e. cc)
-
-pub mode_word-mode_for : (field : List ℕ) (m : Mode) → mode_for field ≡ Some m → mode_word m ≡ field
-mode_word-mode_for field m =
-    cond_both (bytes_eq field (codes "S")) (Some Shared) (cond (bytes_eq field (codes "X")) (Some Exclusive) None) (λ o. o ≡ Some m → mode_word m ≡ field)
-    (λ t e. let same : Shared ≡ m = cc in ap mode_word (sym same) ∙ sym ((bytes_eq-Decides field (codes "S")).0 t))
-    (λ _. cond_both (bytes_eq field (codes "X")) (Some Exclusive) None (λ o. o ≡ Some m → mode_word m ≡ field)
-    (λ t e. let same : Exclusive ≡ m = cc in ap mode_word (sym same) ∙ sym ((bytes_eq-Decides field (codes "X")).0 t))
-    (λ _ e. cc))
 
 range_and_number_of : (lo hi n : List ℕ) → (is_key_text lo && is_key_text hi && is_numeral n) ≡ true → AreOf range_and_number (lo ∷ hi ∷ n ∷ []) (lo, hi, numeral_value n)
 range_and_number_of lo hi n h =

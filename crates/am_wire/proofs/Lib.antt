@@ -1,14 +1,4 @@
-pub mod Streams
-pub mod Cutting
-pub mod LineEnds
-pub mod ReadLines
 pub mod Texts
-pub mod Spaces
-pub mod Numerals
-pub mod Keys
-pub mod Values
-pub mod VerbWords
-pub mod Records
 pub mod Forms
 pub mod Readings
 pub mod RowTexts

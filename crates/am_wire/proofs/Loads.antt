@@ -5,10 +5,10 @@ use Rattle.std.specs.List.{list_all}
 use Rattle.std.specs.Option.{option_zip}
 use Rattle.am_record.specs.OrderedKey.{OrderedKey}
 use Rattle.am_record.specs.Records.{Records}
-use Rattle.am_wire.specs.Arguments.{record_for, records_for}
-use Rattle.am_wire.specs.Reading.{is_record_field, record_text}
-use Rattle.am_wire.specs.declared.request.LineFault.{LineFault}
-use Rattle.am_wire.specs.declared.request.LineFault.TheVariants.{Syntax, Range}
+use Rattle.am_text.specs.Records.{record_for, is_record_field, record_text}
+use Rattle.am_wire.specs.Arguments.{records_for}
+use Rattle.am_text.specs.declared.fault.LineFault.{LineFault}
+use Rattle.am_text.specs.declared.fault.LineFault.TheVariants.{Syntax, Range}
 
 pub zipped : (r : Option (OrderedKey × List ℕ)) (rs : Option Records) (all : Records) → option_map (λ (p : (OrderedKey × List ℕ) × Records). p.0 ∷ p.1) (option_zip r rs) ≡ Some all → (first : OrderedKey × List ℕ) × (rest : Records) × (r ≡ Some first) × (rs ≡ Some rest) × (all ≡ first ∷ rest)
 zipped None None all e = cc

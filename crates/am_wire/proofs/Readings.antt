@@ -2,16 +2,18 @@
 use Rattle.std.proofs.Common.{◌≡◌, ◌≢◌, ℕ, List, [], ◌∷◌, Option, Some, None, Result, Ok, Err, ok_or, option_map, inl, inr, refl, sym, ap, subst, ◌∙◌}
 use Rattle.std.proofs.lemmas.List.Splits.{join_with_byte-slice_split}
 use Rattle.std.specs.List.{join_with_byte}
-use Rattle.am_wire.specs.Verbs.{word_of, verb_for, verb_shape}
+use Rattle.am_text.specs.Verbs.{word_of, verb_for}
+use Rattle.am_wire.specs.Shapes.{verb_shape}
 use Rattle.am_wire.specs.Arguments.{Arguments, fields_of, values_for}
 use Rattle.am_wire.specs.Grammar.{Form, spelling, IsProper, request_with, request_of, Spells, Reads}
-use Rattle.am_wire.specs.Reading.{line_fields, arguments_in, judged, map_ok, verb_reading, fields_reading, reading, MayRead}
-use Rattle.am_wire.specs.declared.verb.Verb.{Verb}
+use Rattle.am_text.specs.Fields.{line_fields}
+use Rattle.am_wire.specs.Reading.{arguments_in, judged, map_ok, verb_reading, fields_reading, reading, MayRead}
+use Rattle.am_text.specs.declared.verb.Verb.{Verb}
 use Rattle.am_wire.specs.declared.request.Request.{Request}
-use Rattle.am_wire.specs.declared.request.LineFault.{LineFault}
-use Rattle.am_wire.specs.declared.request.LineFault.TheVariants.{Syntax, Range, NoMemory}
-use Rattle.am_wire.proofs.Spaces.{line_fields-join}
-use Rattle.am_wire.proofs.VerbWords.{verb_for-word_of, word_of-verb_for, word_of-no_space}
+use Rattle.am_text.specs.declared.fault.LineFault.{LineFault}
+use Rattle.am_text.specs.declared.fault.LineFault.TheVariants.{Syntax, Range, NoMemory}
+use Rattle.am_text.proofs.Spaces.{line_fields-join}
+use Rattle.am_text.proofs.VerbWords.{verb_for-word_of, word_of-verb_for, word_of-no_space}
 use Rattle.am_wire.proofs.Forms.{arguments_in-fields_of, fields_of-arguments_in, fields_of-no_space}
 
 -- ---- the form of a line

@@ -3,11 +3,11 @@ use Rattle.std.proofs.Common.{◌≡◌, ℕ, ◌+◌, ◌<◌, List, [], ◌∷
 use Rattle.std.proofs.lemmas.List.{take_more, take-append-drop}
 use Rattle.am_record.specs.OrderedKey.{OrderedKey}
 use Rattle.am_record.specs.Records.{Records}
-use Rattle.am_wire.specs.Giving.{Gave, GaveBeginning}
+use Rattle.am_stream.specs.Giving.{Gave, GaveBeginning}
 use Rattle.am_record.specs.declared.step.Reply.{Reply}
 use Rattle.am_record.specs.declared.step.Reply.TheVariants.{Rows}
 use Rattle.am_wire.specs.Replies.{row_words, rows_words, head_of, text_of}
-use Rattle.am_wire.proofs.Streams.{gave_then, beginning_then, beginning_of_first}
+use Rattle.am_stream.proofs.Streams.{gave_then, beginning_then, beginning_of_first}
 
 rows_words-append : (rows more : Records) → rows_words (rows ++ more) ≡ rows_words rows ++ rows_words more
 rows_words-append [] more = refl

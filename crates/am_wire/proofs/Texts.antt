@@ -8,13 +8,13 @@ use Rattle.am_record.specs.declared.step.Reply.{Reply}
 use Rattle.am_record.specs.declared.step.Reply.TheVariants.{Begun, Done, Found, Absent, Rows, Exists, Missing, Committed, Aborted, Moved, MergeDone, Ended, Idle, Cleaned, NoMark, Refused}
 use Rattle.am_record.specs.declared.step.Refusal.{Refusal}
 use Rattle.am_record.specs.declared.step.Refusal.TheVariants.{NoSuchTx, Busy, TooManyTx, TooManyLocks, TooManyOps, TooManyRuns, NotRising, BadLimit, NoMemory, SeatFull}
-use Rattle.am_wire.specs.Lines.{HasNoLf}
+use Rattle.am_stream.specs.Lines.{HasNoLf}
 use Rattle.std.specs.List.{AllByRecursion}
 use Rattle.am_record.specs.OrderedKey.{OrderedKey}
 use Rattle.am_record.specs.Records.{Records}
 use Rattle.am_wire.specs.Replies.{refusal_words, row_words, rows_words, words_of, IsVisibleRow, TellsVisible}
-use Rattle.am_wire.specs.Keys.{printed_key}
-use Rattle.am_wire.specs.Values.{IsVisible}
+use Rattle.am_text.specs.Keys.{printed_key}
+use Rattle.am_text.specs.Values.{IsVisible}
 
 pub HasNoLf-append : (xs ys : List ℕ) → HasNoLf xs → HasNoLf ys → HasNoLf (xs ++ ys)
 HasNoLf-append [] ys f h = h

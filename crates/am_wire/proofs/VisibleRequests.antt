@@ -5,17 +5,18 @@ use Rattle.std.specs.List.{AllByRecursion}
 use Rattle.std.specs.Option.{option_zip}
 use Rattle.am_record.specs.OrderedKey.{OrderedKey}
 use Rattle.am_record.specs.Records.{Records}
-use Rattle.am_wire.specs.Values.{IsVisible, value_for}
-use Rattle.am_wire.specs.Keys.{key_for}
-use Rattle.am_wire.specs.Verbs.{verb_shape, bare, one_key, one_record, one_number, range_and_number, mode_and_range, some_records}
-use Rattle.am_wire.specs.Arguments.{RecordText, Arguments, IsRecordText, AreProper, record_for, records_for, values_for}
+use Rattle.am_text.specs.Values.{IsVisible, value_for}
+use Rattle.am_text.specs.Keys.{key_for}
+use Rattle.am_wire.specs.Shapes.{verb_shape, bare, one_key, one_record, one_number, range_and_number, mode_and_range, some_records}
+use Rattle.am_wire.specs.Arguments.{Arguments, AreProper, records_for, values_for}
+use Rattle.am_text.specs.Records.{RecordText, IsRecordText, record_for}
 use Rattle.am_wire.specs.Grammar.{request_with, Reads}
 use Rattle.am_wire.specs.Replies.{IsVisibleRow}
 use Rattle.am_wire.specs.Visible.{AsksVisible}
-use Rattle.am_wire.specs.declared.verb.Verb.{Verb}
-use Rattle.am_wire.specs.declared.verb.Verb.TheVariants as verb
+use Rattle.am_text.specs.declared.verb.Verb.{Verb}
+use Rattle.am_text.specs.declared.verb.Verb.TheVariants as verb
 use Rattle.am_wire.specs.declared.request.Request.{Request}
-use Rattle.am_wire.proofs.Keys.{key_for-visible}
+use Rattle.am_text.proofs.Keys.{key_for-visible}
 use Rattle.am_wire.proofs.Loads.{zipped}
 
 zip_some : (a : Option OrderedKey) (b : Option (List ℕ)) (x : OrderedKey × List ℕ) → option_zip a b ≡ Some x → (a ≡ Some x.0) × (b ≡ Some x.1)

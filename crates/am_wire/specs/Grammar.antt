@@ -3,15 +3,16 @@ use Rattle.std.specs.Prelude.{◌≡◌, ◌≢◌, ℕ, List, ◌∷◌, Bool, 
 use Rattle.std.specs.Prelude.{option_map}
 use Rattle.std.specs.List.{join_with_byte}
 use Rattle.am_record.specs.declared.step.Op.TheVariants as op
-use Rattle.am_wire.specs.Verbs.{word_of, verb_shape}
+use Rattle.am_text.specs.Verbs.{word_of}
+use Rattle.am_wire.specs.Shapes.{verb_shape}
 use Rattle.am_wire.specs.Arguments.{Arguments, Values, fields_of, AreProper, values_for}
-use Rattle.am_wire.specs.declared.verb.Verb.{Verb}
-use Rattle.am_wire.specs.declared.verb.Verb.TheVariants as verb
+use Rattle.am_text.specs.declared.verb.Verb.{Verb}
+use Rattle.am_text.specs.declared.verb.Verb.TheVariants as verb
 use Rattle.am_wire.specs.declared.request.Request.{Request}
 use Rattle.am_wire.specs.declared.request.Request.TheVariants.{Begin, Do, Stage, Commit, Abort, Merge, Clean, Seen}
 use Rattle.am_wire.specs.declared.request.Request.TheVariants.{Quit}
-use Rattle.am_wire.specs.declared.request.LineFault.{LineFault}
-use Rattle.am_wire.specs.declared.request.LineFault.TheVariants.{Syntax, Range, NoMemory}
+use Rattle.am_text.specs.declared.fault.LineFault.{LineFault}
+use Rattle.am_text.specs.declared.fault.LineFault.TheVariants.{Syntax, Range, NoMemory}
 
 -- what a line may say, with numbers, keys and values of any size
 pub record Form : Type 0 where

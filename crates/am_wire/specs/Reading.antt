@@ -1,52 +1,21 @@
 -- What a line is read as, by its fields.
-use Rattle.std.specs.Prelude.{◌≡◌, ◌⊎◌, ℕ, ◌&&◌, ◌==◌, if◌then◌else◌, List, [], ◌∷◌, codes, map, Bool, true, Option}
-use Rattle.std.specs.Prelude.{Some, None, Result, Ok, Err, IsOk, bytes_eq, is_some, option_map, ok_or}
-use Rattle.std.specs.List.{slice_split, list_all, before_first, after_first}
-use Rattle.am_record.specs.declared.lock.Mode.{Mode}
-use Rattle.am_record.specs.declared.lock.Mode.TheVariants.{Shared, Exclusive}
-use Rattle.am_wire.specs.Numbers.{is_numeral, numeral_value}
-use Rattle.am_wire.specs.Keys.{is_key_text}
-use Rattle.am_wire.specs.Values.{is_value_text}
-use Rattle.am_wire.specs.Verbs.{verb_for, verb_shape, VerbShape, bare, one_key, one_record, one_number}
-use Rattle.am_wire.specs.Verbs.{range_and_number}
-use Rattle.am_wire.specs.Verbs.{mode_and_range, some_records}
-use Rattle.am_wire.specs.Arguments.{RecordText, Arguments, Values, values_for, records_for}
+use Rattle.std.specs.Prelude.{◌≡◌, ◌⊎◌, ℕ, ◌&&◌, if◌then◌else◌, List, [], ◌∷◌, map, true, Option}
+use Rattle.std.specs.Prelude.{Some, None, Result, Ok, Err, IsOk, is_some, option_map, ok_or}
+use Rattle.std.specs.List.{list_all}
+use Rattle.am_text.specs.Numbers.{is_numeral, numeral_value}
+use Rattle.am_text.specs.Keys.{is_key_text}
+use Rattle.am_text.specs.Fields.{line_fields}
+use Rattle.am_text.specs.Locks.{mode_for}
+use Rattle.am_text.specs.Verbs.{verb_for}
+use Rattle.am_wire.specs.Shapes.{verb_shape, VerbShape, bare, one_key, one_record, one_number, range_and_number}
+use Rattle.am_wire.specs.Shapes.{mode_and_range, some_records}
+use Rattle.am_wire.specs.Arguments.{Arguments, Values, values_for, records_for}
+use Rattle.am_text.specs.Records.{RecordText, record_text, is_record_text, is_record_field}
 use Rattle.am_wire.specs.Grammar.{request_with, brings_records}
-use Rattle.am_wire.specs.declared.verb.Verb.{Verb}
+use Rattle.am_text.specs.declared.verb.Verb.{Verb}
 use Rattle.am_wire.specs.declared.request.Request.{Request}
-use Rattle.am_wire.specs.declared.request.LineFault.{LineFault}
-use Rattle.am_wire.specs.declared.request.LineFault.TheVariants.{Syntax, Range, NoMemory}
-
--- the fields of a line: its parts between spaces
-abbrev pub line_fields : List ℕ → List (List ℕ)
-line_fields line = slice_split (λ b. b == 32) line
-
--- those of what stands after a space, where one does
-abbrev pub fields_left : Option (List ℕ) → List (List ℕ)
-fields_left None = []
-fields_left (Some rest) = line_fields rest
-
--- there is a field
-abbrev pub HasField : List (List ℕ) → Type 0
-HasField fields = (f : List ℕ) × (fs : List (List ℕ)) × (fields ≡ f ∷ fs)
-
--- the mode of a field
-abbrev pub mode_for : List ℕ → Option Mode
-mode_for field = if bytes_eq field (codes "S") then Some Shared else if bytes_eq field
-    (codes "X") then Some Exclusive else None
-
--- a field as a record: its key ends at the first =
-abbrev pub is_equals : ℕ → Bool
-is_equals byte = byte == 0x3D
-
-abbrev pub record_text : List ℕ → RecordText
-record_text field = (before_first is_equals field, after_first is_equals field)
-
-abbrev pub is_record_text : RecordText → Bool
-is_record_text r = is_key_text r.0 && is_value_text r.1
-
-abbrev pub is_record_field : List ℕ → Bool
-is_record_field field = is_record_text (record_text field)
+use Rattle.am_text.specs.declared.fault.LineFault.{LineFault}
+use Rattle.am_text.specs.declared.fault.LineFault.TheVariants.{Syntax, Range, NoMemory}
 
 -- the records of fields
 abbrev pub records_in : List (List ℕ) → Option (List RecordText)

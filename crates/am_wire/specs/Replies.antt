@@ -9,12 +9,12 @@ use Rattle.am_record.specs.declared.step.Reply.TheVariants.{Committed, Aborted, 
 use Rattle.am_record.specs.declared.step.Reply.TheVariants.{NoMark, Refused}
 use Rattle.am_record.specs.declared.step.Refusal.{Refusal}
 use Rattle.am_record.specs.declared.step.Refusal.TheVariants.{Busy}
-use Rattle.am_wire.specs.declared.reply_word.ReplyWord.TheVariants as word
-use Rattle.am_wire.specs.ReplyWords.{word_text, spaced, refusal_code}
-use Rattle.am_wire.specs.Lines.{HasNoLf}
-use Rattle.am_wire.specs.Keys.{printed_key}
-use Rattle.am_wire.specs.Values.{IsVisible}
-use Rattle.am_wire.specs.Arguments.{record_field}
+use Rattle.am_text.specs.declared.reply_word.ReplyWord.TheVariants as word
+use Rattle.am_text.specs.ReplyWords.{word_text, spaced, refusal_code}
+use Rattle.am_stream.specs.Lines.{HasNoLf}
+use Rattle.am_text.specs.Keys.{printed_key}
+use Rattle.am_text.specs.Values.{IsVisible}
+use Rattle.am_text.specs.Records.{record_field}
 
 -- BUSY and the holder, or ERR and the refusal's code
 abbrev pub refusal_words : Refusal → List ℕ

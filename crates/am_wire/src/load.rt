@@ -1,13 +1,11 @@
 //! The records of a load, and of those that wait for one.
 
 ghost use Rattle.std.specs.Prelude.{◌≡◌};
-ghost use Rattle.am_wire.specs.Verbs.{some_records};
+ghost use Rattle.am_wire.specs.Shapes.{some_records};
 ghost use Rattle.am_wire.specs.Reading.{values_in, MayBeRefused, fault_behind};
 
-use crate::fields::Fields;
-use crate::record::parse_record_field;
-use crate::request::LineFault;
 use am_record::Pairs;
+use am_text::{Fields, LineFault, parse_record_field};
 use std::alloc::Global;
 
 /// Records, one at least, in the fields after the verb. Where memory is refused for them, the further fields are judged

@@ -1,18 +1,17 @@
 //! From the bytes of a line to a request.
 
-ghost use Rattle.std.specs.Prelude.{◌≡◌, Some};
+ghost use Rattle.std.specs.Prelude.{Some};
 ghost use Rattle.am_wire.specs.Grammar.{Reads};
 ghost use Rattle.am_wire.specs.Reading.{reading, fields_reading, verb_reading, MayRead};
 
-use crate::fields::Fields;
 use crate::load::parse_records;
-use crate::request::{LineFault, Request};
+use crate::request::Request;
 use crate::shape::{
     parse_bare, parse_mode_and_range, parse_one_key, parse_one_number, parse_one_record,
     parse_range_and_number,
 };
-use crate::verb::Verb;
 use am_record::Op;
+use am_text::{Fields, LineFault, Verb};
 use std::alloc::Global;
 
 /// Reads the bytes of a line, which its LF or CR LF isn't part of. Only records that it brings take memory.

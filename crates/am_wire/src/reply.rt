@@ -1,17 +1,15 @@
 //! The texts of replies.
 
-ghost use Rattle.std.specs.Prelude.{◌≡◌, ℕ, ◌+◌, ◌^◌, ◌<◌, ◌≤◌, ◌++◌, length, true, OnOk, OnErr, IfOk};
+ghost use Rattle.std.specs.Prelude.{◌≡◌, ◌+◌, ◌^◌, ◌<◌, ◌≤◌, length, true, OnOk, OnErr, IfOk};
 ghost use Rattle.am_record.specs.declared.step.Reply.{Reply};
-ghost use Rattle.am_wire.specs.Giving.{Gave, GaveBeginning};
+ghost use Rattle.am_stream.specs.Giving.{Gave, GaveBeginning};
 ghost use Rattle.am_wire.specs.Replies.{refusal_words, row_words, rows_words, head_of, text_of, TellsVisible};
 ghost use Rattle.am_wire.specs.Replies.{IsOneLine};
-ghost use Rattle.am_wire.specs.ReplyWords.{spaced};
+ghost use Rattle.am_text.specs.ReplyWords.{spaced};
 
-use crate::reply_word::{ReplyWord, refusal_code};
-use crate::sink::{Sink, StopSink, give_all};
-use crate::source::Failed;
-use crate::text::Text;
 use am_record::{Key, NoMemory, Refusal, Reply, Value};
+use am_stream::{Failed, Sink, StopSink, give_all};
+use am_text::{ReplyWord, Text, refusal_code};
 use std::alloc::Global;
 
 // A word with a space behind it.

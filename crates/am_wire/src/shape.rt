@@ -1,16 +1,12 @@
 //! What stands after the verb of a line. These functions get the fields after the verb.
 
-ghost use Rattle.std.specs.Prelude.{◌≡◌, if◌then◌else◌};
-ghost use Rattle.am_wire.specs.Verbs.{bare, one_key, one_record, one_number, range_and_number, mode_and_range};
-ghost use Rattle.am_wire.specs.Reading.{mode_for, values_in, map_ok};
+ghost use Rattle.std.specs.Prelude.{◌≡◌};
+ghost use Rattle.am_wire.specs.Shapes.{bare, one_key, one_record, one_number, range_and_number, mode_and_range};
+ghost use Rattle.am_wire.specs.Reading.{values_in, map_ok};
 
-use crate::fields::Fields;
-use crate::key::parse_key;
-use crate::number::parse_number;
-use crate::range::parse_range;
-use crate::record::parse_record;
-use crate::request::{LineFault, Request};
+use crate::request::Request;
 use am_record::{Key, Lock, Mode, Range, Value};
+use am_text::{Fields, LineFault, parse_key, parse_mode, parse_number, parse_range, parse_record};
 
 /// Nothing: the verb alone asks for the request.
 pub fn parse_bare(fields: Fields<'_>, request: Request) -> Result<Request, LineFault>
@@ -73,17 +69,4 @@ pub fn parse_mode_and_range(mut fields: Fields<'_>) -> Result<Lock, LineFault>
     let mode = parse_mode(mode).ok_or(LineFault::Syntax)?;
     let range = parse_range(lo, hi)?.ok_or(LineFault::Range)?;
     Ok(Lock { mode, range })
-}
-
-/// The mode of a field.
-pub fn parse_mode(field: &[u8]) -> Option<Mode>
-    ensures { result ≡ mode_for field.now }
-{
-    if field == b"S".as_slice() {
-        Some(Mode::Shared)
-    } else if field == b"X".as_slice() {
-        Some(Mode::Exclusive)
-    } else {
-        None
-    }
 }

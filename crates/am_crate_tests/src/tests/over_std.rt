@@ -2,7 +2,8 @@
 
 use crate::tests::streams::{LINES, SEEN, lines_of};
 use am_record::Reply;
-use am_wire::{Failed, Reading, Sink, Source, StopSink, Writing, put_reply};
+use am_stream::{Failed, Reading, Sink, Source, StopSink, Writing};
+use am_wire::put_reply;
 use std::alloc::Global;
 use std::io::{ErrorKind, Read, Write};
 use std::process::Abort;

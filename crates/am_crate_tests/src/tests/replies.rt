@@ -2,7 +2,8 @@
 
 use crate::tests::keys::{key, value};
 use am_record::{NoMemory, Pairs, Refusal, Reply};
-use am_wire::{StopSink, put_reply, reply_text};
+use am_stream::StopSink;
+use am_wire::{put_reply, reply_text};
 use std::alloc::Global;
 use std::process::Abort;
 

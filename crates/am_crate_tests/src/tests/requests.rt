@@ -2,7 +2,8 @@
 
 use crate::tests::keys::{key, range, value};
 use am_record::{Lock, Mode, Op, Pairs};
-use am_wire::{LineFault, Request, parse_line};
+use am_text::LineFault;
+use am_wire::{Request, parse_line};
 use std::alloc::Global;
 use std::process::Abort;
 

@@ -2,7 +2,7 @@
 
 ghost use Rattle.std.specs.Prelude.{◌≡◌, ◌^◌, ◌<◌, false};
 
-use am_wire::{
+use am_stream::{
     AnsweredSource, Input, LineBuffer, LineKind, PieceSource, Sink, StopSink, read_line,
 };
 use std::alloc::Global;

@@ -2,7 +2,7 @@
 
 use am_record::NoMemory;
 use am_session::{End, serve_in_memory};
-use am_wire::{PieceSource, StopSink};
+use am_stream::{PieceSource, StopSink};
 use std::alloc::Global;
 use std::process::Abort;
 use std::sync::Wait;

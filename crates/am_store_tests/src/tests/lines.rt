@@ -6,7 +6,7 @@ use crate::tests::rows;
 use crate::tests::scene::Exchange;
 use am_record::NoMemory;
 use am_session::{End, serve_in_memory};
-use am_wire::{PieceSource, StopSink};
+use am_stream::{PieceSource, StopSink};
 use std::alloc::Global;
 use std::process::Abort;
 use std::sync::Wait;

@@ -1,7 +1,7 @@
 //! A sink that notes the calls to it.
 
 use am_session::serve_alone;
-use am_wire::{Failed, PieceSource, Sink, StopSink};
+use am_stream::{Failed, PieceSource, Sink, StopSink};
 use std::alloc::Global;
 use std::sync::Wait;
 use std::test::Fail;

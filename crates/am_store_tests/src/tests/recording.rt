@@ -2,7 +2,7 @@
 
 use am_record::{Reply, Step};
 use am_session::{Backend, End, serve};
-use am_wire::{PieceSource, StopSink};
+use am_stream::{PieceSource, StopSink};
 use std::sync::Wait;
 use std::test::Fail;
 

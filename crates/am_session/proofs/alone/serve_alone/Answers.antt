@@ -1,6 +1,6 @@
 use Rattle.std.proofs.Common.{◌≡◌, [], ◌∷◌, ◌++◌}
-use Rattle.am_wire.specs.Taking.{Took}
-use Rattle.am_wire.specs.Giving.{Gave}
+use Rattle.am_stream.specs.Taking.{Took}
+use Rattle.am_stream.specs.Giving.{Gave}
 use Rattle.am_talk.specs.Dialogue.{Whole, TornAt}
 use Rattle.am_session.specs.Talk.{AnswersAll, AnswersOneMore}
 use Rattle.am_session.specs.Solo.{solo_meaning, IsSpoken}

@@ -1,7 +1,7 @@
 use Rattle.std.proofs.Common.{◌≡◌, sym, ◌∙◌, refl, true, false, Bool, List, ℕ, subst}
 use Rattle.std.proofs.lemmas.Bool.{not-true, not-false}
-use Rattle.am_wire.specs.Seen.{seen}
-use Rattle.am_wire.specs.Lines.{TookLine}
+use Rattle.am_stream.specs.Seen.{seen}
+use Rattle.am_stream.specs.Lines.{TookLine}
 use Rattle.am_talk.specs.ParsedLine.{MayParse, is_quit, parsed}
 use Rattle.am_session.proofs.Talking.{talk_start, talk_more, talk_end, talk_quit, talk_torn, talk_last, talk_failed}
 use Rattle.am_session.proofs.Hearing.{heard_quit, line_answered}

@@ -1,5 +1,5 @@
 use Rattle.std.proofs.Common.{◌≡◌, false}
-use Rattle.am_wire.specs.Lines.{has_lf}
+use Rattle.am_stream.specs.Lines.{has_lf}
 use Rattle.am_session.proofs.Talking.{Talks}
 use Rattle.am_session.proofs.serving.talk.Given as goal
 

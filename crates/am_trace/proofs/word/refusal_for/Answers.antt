@@ -3,7 +3,7 @@ use Rattle.std.specs.Prelude.{bytes_eq}
 use Rattle.std.proofs.lemmas.Iterator.{YieldsList-from_slice}
 use Rattle.std.proofs.lemmas.Iterator.Consumers.{YieldsList-from_copied}
 use Rattle.std.proofs.lemmas.Iterator.Search.{find_from_yields_List}
-use Rattle.am_wire.specs.ReplyWords.{refusal_code}
+use Rattle.am_text.specs.ReplyWords.{refusal_code}
 use Rattle.am_trace.specs.Reading.{coded_refusals, refusal_for}
 use Rattle.am_trace.proofs.WordTexts.{option_map-itself}
 use Rattle.am_trace.proofs.word.refusal_for.Goals as goal

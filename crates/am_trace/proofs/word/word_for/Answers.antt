@@ -3,7 +3,7 @@ use Rattle.std.specs.Prelude.{bytes_eq}
 use Rattle.std.proofs.lemmas.Iterator.{YieldsList-from_slice}
 use Rattle.std.proofs.lemmas.Iterator.Consumers.{YieldsList-from_copied}
 use Rattle.std.proofs.lemmas.Iterator.Search.{find_from_yields_List}
-use Rattle.am_wire.specs.ReplyWords.{word_text}
+use Rattle.am_text.specs.ReplyWords.{word_text}
 use Rattle.am_trace.specs.Reading.{all_words, word_for}
 use Rattle.am_trace.proofs.WordTexts.{option_map-itself}
 use Rattle.am_trace.proofs.word.word_for.Goals as goal

@@ -2,9 +2,8 @@ use Rattle.std.proofs.Common.{ℕ, List, [], ◌∷◌, ◌++◌, Option, Result
 use Rattle.am_record.specs.OrderedKey.{OrderedKey}
 use Rattle.am_record.specs.Records.{Records}
 use Rattle.am_record.proofs.Outcomes.{pushed}
-use Rattle.am_wire.specs.Arguments.{record_for}
-use Rattle.am_wire.specs.Reading.{is_record_field, record_text}
-use Rattle.am_wire.specs.declared.request.LineFault.{LineFault}
+use Rattle.am_text.specs.Records.{record_for, is_record_field, record_text}
+use Rattle.am_text.specs.declared.fault.LineFault.{LineFault}
 use Rattle.am_wire.proofs.Loads.{due_with, due_next, read_so}
 use Rattle.am_wire.proofs.load.parse_records.Goals as goal
 

@@ -1,13 +1,13 @@
 use Rattle.std.proofs.Common.{◌≡◌, ℕ, List, true, Some, Result, Ok, Err, inl, inr, refl, sym, ap, subst, ◌∙◌, rules}
 use Rattle.std.specs.Prelude.{IsOk}
 use Rattle.am_record.specs.Records.{Records}
-use Rattle.am_wire.specs.Verbs.{some_records}
+use Rattle.am_wire.specs.Shapes.{some_records}
 use Rattle.am_wire.specs.Grammar.{request_with, brings_records}
 use Rattle.am_wire.specs.Reading.{values_in, map_ok, verb_reading, MayBeRefused, MayRead}
-use Rattle.am_wire.specs.declared.verb.Verb.{Verb}
-use Rattle.am_wire.specs.declared.verb.Verb.TheVariants as verb
+use Rattle.am_text.specs.declared.verb.Verb.{Verb}
+use Rattle.am_text.specs.declared.verb.Verb.TheVariants as verb
 use Rattle.am_wire.specs.declared.request.Request.{Request}
-use Rattle.am_wire.specs.declared.request.LineFault.{LineFault}
+use Rattle.am_text.specs.declared.fault.LineFault.{LineFault}
 use Rattle.am_wire.proofs.parse.parse_with.Goals as goal
 
 at : (v w : Verb) (fs : List (List ℕ)) (r : Result Request LineFault) → w ≡ v → MayRead (verb_reading (Some v) fs) r → MayRead (verb_reading (Some w) fs) r

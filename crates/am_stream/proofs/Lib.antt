@@ -1,0 +1,4 @@
+pub mod Streams
+pub mod Cutting
+pub mod LineEnds
+pub mod ReadLines

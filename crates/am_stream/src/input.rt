@@ -1,0 +1,221 @@
+//! Lines of a source.
+
+ghost use Rattle.std.specs.Prelude.{◌≡◌, ℕ, ◌+◌, ◌-◌, ◌^◌, ◌<◌, ◌≤◌, List, [], ◌∷◌, ◌++◌, length, take, true, false};
+ghost use Rattle.std.specs.Prelude.{drop, is_some, OnOk, OnErr, IfOk, IfSome, IfNone, vec_len, option_to_list};
+ghost use Rattle.am_stream.specs.Taking.{TookAhead, IsAtEnd};
+ghost use Rattle.am_stream.specs.Lines.{HasNoLf, has_lf, CutsLine, TookLine, TookPart};
+ghost use Rattle.am_stream.specs.Seen.{seen};
+
+use crate::answered::AnsweredSource;
+use crate::line::{FoundLine, LineBuffer};
+use crate::sink::Sink;
+use crate::source::Failed;
+use am_record::NoMemory;
+use std::alloc::Global;
+use std::marker::Model;
+use std::sync::Wait;
+
+/// How many bytes are taken from a source at once, at most.
+const PIECE_LEN: usize = 4096;
+
+/// Bytes that were taken from a source and wait to be used.
+#[derive(Drop)]
+pub struct Input {
+    buffer: Vec<u8>,
+    start: usize,
+    end: usize,
+}
+
+impl Model for Input {
+    ghost use Rattle.std.specs.Prelude.{◌≡◌, ◌≤◌, ℕ, List, take, drop, vec_len};
+
+    ghost Value = { List ℕ };
+
+    ghost view = { λ i. drop i.start (take i.end i.buffer.items) };
+
+    ghost invariant = { λ i. (i.start ≤ i.end) × (i.end ≤ 4096) × (vec_len i.buffer ≡ 4096) };
+}
+
+/// Takes bytes into a buffer with room, and says how many of them there are. None means the end of the source.
+fn fill<K: Sink, S: AnsweredSource<K>>(
+    source: &mut S,
+    sink: &K,
+    buffer: &mut Vec<u8>,
+) -> Result<usize, Failed>
+    requires countable { S.failures source.old < 2 ^ 63 }
+    requires sent { K.pending sink.now ≡ false }
+    requires room { vec_len buffer.old ≡ 4096 }
+    ensures len { vec_len buffer.new ≡ 4096 }
+    ensures fits { IfOk result (λ n. n ≤ 4096) }
+    ensures taken { IfOk result (λ n. TookAhead S.comes [] source.old [] (take n buffer.new.items) source.new) }
+    ensures end { IfOk result (λ n. n ≡ 0 → S.comes source.new []) }
+    ensures ok { OnOk result (S.failures source.new ≡ S.failures source.old) }
+    ensures failed { OnErr result (S.failures source.new ≡ S.failures source.old + 1) }
+    ensures kept { OnErr result (TookAhead S.comes [] source.old [] [] source.new) }
+{
+    source.take_answered(buffer.as_mut_slice(), sink)
+}
+
+// The first line of these bytes, without its LF, where a whole one is there.
+fn first_line(bytes: &[u8]) -> Option<&[u8]>
+    ensures line { IfSome result (λ l. bytes.now ≡ l.now ++ 10 ∷ drop (length l.now + 1) bytes.now) }
+    ensures one { IfSome result (λ l. HasNoLf l.now) }
+    ensures exact { is_some result ≡ has_lf bytes.now }
+{
+    let end = bytes.iter().position(|byte| *byte == b'\n')?;
+    Some(&bytes[..end])
+}
+
+impl Input {
+    /// An input in which no byte waits. It gets all the memory that it will ever use.
+    pub fn new(alloc: Global) -> Result<Self, NoMemory>
+        ensures { IfOk result (λ i. i ≡ []) }
+    {
+        Ok(Input {
+            buffer: vec![in alloc; 0; PIECE_LEN]?,
+            start: 0,
+            end: 0,
+        })
+    }
+
+    // The bytes that wait.
+    fn waiting(&self) -> &[u8]
+        ensures bytes { result.now ≡ self.now }
+        ensures most { length result.now ≤ 4096 }
+    {
+        &self.buffer[self.start..self.end]
+    }
+
+    /// Whether a whole line waits, its LF with it.
+    pub fn has_line(&self) -> bool
+        ensures { result ≡ has_lf self.now }
+    {
+        first_line(self.waiting()).is_some()
+    }
+
+    /// Takes the next line, where a whole one waits, and asks no source. Its bytes stand in `line`.
+    pub fn take_line(&mut self, line: &mut LineBuffer) -> Option<FoundLine>
+        ensures line { IfSome result (λ f. CutsLine self.old (seen f.kind line.new) self.new) }
+        ensures ended { IfSome result (λ f. f.is_ended ≡ true) }
+        ensures none { IfNone result (has_lf self.old ≡ false) }
+        ensures same { IfNone result (self.new ≡ self.old) }
+    {
+        let found = first_line(self.waiting())?;
+        line.set(found);
+        self.start += found.len() + 1;
+        Some(FoundLine {
+            kind: line.finish(),
+            is_ended: true,
+        })
+    }
+
+    /// Takes more bytes, where none wait. None come at the end of the source.
+    fn refill<K: Sink, S: AnsweredSource<K>>(
+        &mut self,
+        source: &mut S,
+        sink: &K,
+    ) -> Result<(), Failed>
+        requires countable { S.failures source.old < 2 ^ 63 }
+        requires sent { K.pending sink.now ≡ false }
+        requires empty { self.old ≡ [] }
+        ensures taken { OnOk result (TookAhead S.comes self.old source.old [] self.new source.new) }
+        ensures end { OnOk result (self.new ≡ [] → S.comes source.new []) }
+        ensures ok { OnOk result (S.failures source.new ≡ S.failures source.old) }
+        ensures failed { OnErr result (S.failures source.new ≡ S.failures source.old + 1) }
+        ensures kept { OnErr result (TookAhead S.comes self.old source.old [] self.new source.new) }
+        ensures empty { OnErr result (self.new ≡ []) }
+    {
+        self.start = 0;
+        self.end = 0;
+        self.end = fill(source, sink, &mut self.buffer)?;
+        Ok(())
+    }
+
+    /// Uses the first byte that waits.
+    fn pop(&mut self) -> Option<u8>
+        ensures used { self.old ≡ option_to_list result ++ self.new }
+        ensures none { IfNone result (self.new ≡ []) }
+    {
+        if self.start == self.end {
+            return None;
+        }
+        let byte = self.buffer[self.start];
+        self.start += 1;
+        Some(byte)
+    }
+
+    /// Uses the next byte. None means that the source is at its end.
+    fn next<K: Sink, S: AnsweredSource<K>>(
+        &mut self,
+        source: &mut S,
+        sink: &K,
+    ) -> Result<Option<u8>, Failed>
+        requires countable { S.failures source.old < 2 ^ 63 }
+        requires sent { K.pending sink.now ≡ false }
+        ensures taken { IfOk result (λ byte. TookAhead S.comes self.old source.old
+            (option_to_list byte) self.new source.new) }
+        ensures end { IfOk result (λ byte. IfNone byte (IsAtEnd S.comes self.new source.new)) }
+        ensures ok { OnOk result (S.failures source.new ≡ S.failures source.old) }
+        ensures failed { OnErr result (S.failures source.new ≡ S.failures source.old + 1) }
+        ensures kept { OnErr result (TookAhead S.comes self.old source.old [] self.new source.new) }
+        ensures empty { OnErr result (self.new ≡ []) }
+    {
+        match self.pop() {
+            Some(byte) => Ok(Some(byte)),
+            None => {
+                self.refill(source, sink)?;
+                Ok(self.pop())
+            }
+        }
+    }
+}
+
+/// Reads the next line, however the source cuts its bytes. None means that there is no further line. Its bytes stand in
+/// `line`; of a line that is too long the rest up to the LF is passed over. After a failure what was read of a line
+/// that isn't ended is lost. The source is asked with nothing unsent in the sink.
+pub fn read_line<R: Wait, K: Sink, S: AnsweredSource<K>>(
+    rt: &R,
+    input: &mut Input,
+    source: &mut S,
+    sink: &K,
+    line: &mut LineBuffer,
+) -> Result<Option<FoundLine>, Failed>
+    requires countable { S.failures source.old < 2 ^ 63 }
+    requires sent { K.pending sink.now ≡ false }
+    ensures line { IfOk result (λ found. IfSome found (λ f.
+        TookLine S.comes input.old source.old (seen f.kind line.new) f.is_ended input.new source.new)) }
+    ensures end { IfOk result (λ found. IfNone found
+        (TookAhead S.comes input.old source.old [] input.new source.new × IsAtEnd S.comes input.new source.new)) }
+    ensures ok { OnOk result (S.failures source.new ≡ S.failures source.old) }
+    ensures failed { OnErr result (S.failures source.new ≡ S.failures source.old + 1) }
+    ensures part { OnErr result (TookPart S.comes input.old source.old input.new source.new) }
+    ensures empty { OnErr result (input.new ≡ []) }
+{
+    line.clear();
+    'bytes: for _ in rt.forever() {
+        let next = input.next(source, sink)?;
+        match next {
+            None => {
+                if line.is_empty() {
+                    return Ok(None);
+                }
+                let kind = line.finish();
+                return Ok(Some(FoundLine {
+                    kind,
+                    is_ended: false,
+                }));
+            }
+            Some(byte) => {
+                if byte == b'\n' {
+                    let kind = line.finish();
+                    return Ok(Some(FoundLine {
+                        kind,
+                        is_ended: true,
+                    }));
+                }
+                line.add(byte);
+            }
+        }
+    }
+    unreachable!()
+}

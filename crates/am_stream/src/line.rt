@@ -1,0 +1,146 @@
+//! One line of limited length.
+
+ghost use Rattle.std.specs.Prelude.{◌≡◌, ℕ, ◌+◌, ◌-◌, ◌<◌, ◌≤◌, ◌↔◌, List, [], ◌∷◌, ◌++◌, length, take, IfOk, IsTrue};
+ghost use Rattle.std.specs.Prelude.{vec_len};
+ghost use Rattle.am_stream.specs.Lines.{without_cr, line_of};
+ghost use Rattle.am_stream.specs.Seen.{seen};
+
+use am_record::NoMemory;
+use std::alloc::Global;
+use std::marker::Model;
+
+/// The most bytes that a line may have before its LF, a CR at its end counted.
+pub const MAX_LINE_LEN: usize = 4096;
+
+/// The bytes of a line that are kept: one more than it may have, to know that it has too many.
+const KEPT_LEN: usize = MAX_LINE_LEN + 1;
+
+/// The bytes of a line, as far as it was read. Of a line that is too long the first 4,097 are kept.
+#[derive(Drop)]
+pub struct LineBuffer {
+    room: Vec<u8>,
+    len: usize,
+}
+
+impl Model for LineBuffer {
+    ghost use Rattle.std.specs.Prelude.{◌≡◌, ◌≤◌, ℕ, List, take, vec_len};
+
+    ghost Value = { List ℕ };
+
+    ghost view = { λ b. take b.len b.room.items };
+
+    ghost invariant = { λ b. (vec_len b.room ≡ 4097) × (b.len ≤ 4097) };
+}
+
+// Writes bytes over the front of the room.
+fn write_front(room: &mut [u8], bytes: &[u8])
+    requires { length bytes.now ≤ length room.old }
+    ensures len { length room.new ≡ length room.old }
+    ensures front { take (length bytes.now) room.new ≡ bytes.now }
+{
+    room[..bytes.len()].copy_from_slice(bytes);
+}
+
+impl LineBuffer {
+    /// A buffer with no byte in it. It gets all the memory that it will ever use.
+    pub fn new(alloc: Global) -> Result<Self, NoMemory>
+        ensures { IfOk result (λ b. b ≡ []) }
+    {
+        Ok(LineBuffer {
+            room: vec![in alloc; 0; KEPT_LEN]?,
+            len: 0,
+        })
+    }
+
+    /// The bytes.
+    pub fn as_slice(&self) -> &[u8]
+        ensures { result.now ≡ self.now }
+    {
+        &self.room[..self.len]
+    }
+
+    pub(crate) fn len(&self) -> usize
+        ensures len { result ≡ length self.now }
+        ensures most { result ≤ 4097 }
+    {
+        self.len
+    }
+
+    pub(crate) fn is_empty(&self) -> bool
+        ensures { IsTrue result ↔ (self.now ≡ []) }
+    {
+        self.len() == 0
+    }
+
+    pub(crate) fn clear(&mut self)
+        ensures { self.new ≡ [] }
+    {
+        self.len = 0;
+    }
+
+    /// Takes these bytes in place of its own.
+    pub(crate) fn set(&mut self, bytes: &[u8])
+        requires { length bytes.now ≤ 4097 }
+        ensures { self.new ≡ bytes.now }
+    {
+        write_front(self.room.as_mut_slice(), bytes);
+        self.len = bytes.len();
+    }
+
+    fn push(&mut self, byte: u8)
+        requires { length self.old < 4097 }
+        ensures { self.new ≡ self.old ++ byte ∷ [] }
+    {
+        self.room[self.len] = byte;
+        self.len += 1;
+    }
+
+    /// Adds a byte at the end, where there is room for it.
+    pub(crate) fn add(&mut self, byte: u8)
+        ensures { self.new ≡ take 4097 (self.old ++ byte ∷ []) }
+    {
+        if self.len() < KEPT_LEN {
+            self.push(byte);
+        }
+    }
+
+    /// Drops one CR at the end.
+    fn drop_cr(&mut self)
+        ensures { self.new ≡ without_cr self.old }
+    {
+        if self.len == 0 {
+            return;
+        }
+        if self.room[self.len - 1] == b'\r' {
+            self.len -= 1;
+        }
+    }
+
+    /// Judges a line by its bytes before the end, and drops one CR of a text.
+    pub(crate) fn finish(&mut self) -> LineKind
+        ensures { seen result self.new ≡ line_of self.old }
+    {
+        if self.len() > MAX_LINE_LEN {
+            return LineKind::Long;
+        }
+        self.drop_cr();
+        LineKind::Text
+    }
+}
+
+/// What a line is.
+#[derive(Clone, Copy, Debug, PartialEq, Eq)]
+pub enum LineKind {
+    /// Its bytes stand in the buffer, without one CR at the end.
+    Text,
+    /// It has more than 4,096 bytes.
+    Long,
+}
+
+/// A line that was read.
+#[derive(Clone, Copy, Debug, PartialEq, Eq)]
+pub struct FoundLine {
+    pub kind: LineKind,
+    /// Whether an LF ended it. If not, the end of the input did: it was the last line, and one must not read again.
+    pub is_ended: bool,
+}

@@ -1,0 +1,7 @@
+pub mod Spaces
+pub mod Numerals
+pub mod Keys
+pub mod Values
+pub mod Records
+pub mod Modes
+pub mod VerbWords

@@ -1,0 +1,28 @@
+//! The texts of numbers, keys, values, records and locks, the words of verbs and replies, and the fields of a line that
+//! has them: in a session and in a stored run alike.
+#![tactic(auto)]
+
+mod fault;
+mod fields;
+mod key;
+mod mode;
+mod number;
+mod range;
+mod record;
+mod reply_word;
+mod text;
+mod value;
+mod verb;
+mod words;
+
+pub use fault::LineFault;
+pub use fields::Fields;
+pub use key::parse_key;
+pub use mode::parse_mode;
+pub use number::parse_number;
+pub use range::parse_range;
+pub use record::{parse_record, parse_record_field, split_record};
+pub use reply_word::{ReplyWord, refusal_code};
+pub use text::Text;
+pub use verb::Verb;
+pub use words::words_are_fields;

@@ -1,0 +1,80 @@
+//! The verbs of lines.
+
+ghost use Rattle.std.specs.Prelude.{◌≡◌};
+ghost use Rattle.am_text.specs.Verbs.{word_of, verb_for};
+
+/// What a line asks for, by its first word.
+#[derive(Clone, Copy, Debug, PartialEq, Eq)]
+pub enum Verb {
+    Begin,
+    Get,
+    Scan,
+    Insert,
+    Replace,
+    Delete,
+    Load,
+    Stage,
+    Lock,
+    Mark,
+    Back,
+    Commit,
+    Abort,
+    Merge,
+    Clean,
+    Seen,
+    Quit,
+}
+
+const VERBS: [Verb; 17] = [
+    Verb::Begin,
+    Verb::Get,
+    Verb::Scan,
+    Verb::Insert,
+    Verb::Replace,
+    Verb::Delete,
+    Verb::Load,
+    Verb::Stage,
+    Verb::Lock,
+    Verb::Mark,
+    Verb::Back,
+    Verb::Commit,
+    Verb::Abort,
+    Verb::Merge,
+    Verb::Clean,
+    Verb::Seen,
+    Verb::Quit,
+];
+
+impl Verb {
+    /// The word that a line of this verb begins with.
+    pub fn word(self) -> &'static [u8]
+        ensures { result.now ≡ word_of self }
+    {
+        match self {
+            Verb::Begin => b"BEGIN",
+            Verb::Get => b"GET",
+            Verb::Scan => b"SCAN",
+            Verb::Insert => b"INS",
+            Verb::Replace => b"REP",
+            Verb::Delete => b"DEL",
+            Verb::Load => b"LOAD",
+            Verb::Stage => b"STAGE",
+            Verb::Lock => b"LOCK",
+            Verb::Mark => b"MARK",
+            Verb::Back => b"BACK",
+            Verb::Commit => b"COMMIT",
+            Verb::Abort => b"ABORT",
+            Verb::Merge => b"MERGE",
+            Verb::Clean => b"CLEAN",
+            Verb::Seen => b"SEEN",
+            Verb::Quit => b"QUIT",
+        }
+    }
+
+    /// The verb of the word.
+    pub fn of_word(word: &[u8]) -> Option<Verb>
+        ensures { result ≡ verb_for word.now }
+    {
+        VERBS.iter().copied().find(|verb| verb.word() == word)
+    }
+}

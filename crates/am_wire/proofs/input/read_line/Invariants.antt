@@ -1,9 +1,0 @@
-use Rattle.std.proofs.Common.{◌≡◌}
-use Rattle.am_wire.proofs.ReadLines.{IsReading}
-use Rattle.am_wire.proofs.input.read_line.Given as goal
-
-abbrev pub invariant-bytes : goal.invariant-bytes
-invariant-bytes g l = record {
-  line : IsReading g.S.AnsweredSource.comes l.fn.input l.fn.source l.line l.input l.source;
-  ok : g.S.AnsweredSource.failures l.source ≡ g.S.AnsweredSource.failures l.fn.source;
-}
