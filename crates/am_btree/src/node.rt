@@ -3,9 +3,9 @@
 ghost use Rattle.std.specs.Prelude.{◌≡◌, [], IfOk};
 ghost use Rattle.am_list.specs.Entries.{IsRising};
 
-use crate::separator::{Separator, child_for};
+use crate::separator::Separator;
 use am_leaf::RawLeaf;
-use am_record::{Key, NoMemory};
+use am_record::NoMemory;
 use std::alloc::Global;
 use std::marker::Model;
 

@@ -15,8 +15,6 @@ use crate::views::{Token, ViewTable};
 use am_btree::BTree;
 use am_core::Store;
 use am_record::{Reply, Step};
-use std::marker::PhantomData;
-use std::sync::Mutex;
 
 /// What a latch leaves: the trace of its calls, the store where that trace leaves it, and the seats with
 /// their receipts.

@@ -1,9 +1,9 @@
 -- The first LF of some bytes.
-use Rattle.std.proofs.Common.{None, Some, Option, inl, inr, ltb, eqb, ◌≡◌, ℕ, List, [], ◌∷◌, ◌++◌, ap, sym, ◌∙◌, refl, cond, not, true, false, length, take, drop, arith, suc, zero, ◌<◌, ◌≤◌, ◌-◌, ◌+◌, append_assoc}
+use Rattle.std.proofs.Common.{None, Some, inl, inr, ltb, eqb, ◌≡◌, ℕ, List, [], ◌∷◌, ◌++◌, ap, sym, ◌∙◌, refl, cond, not, true, false, length, take, drop, arith, suc, zero, ◌<◌, ◌≤◌, ◌-◌, ◌+◌, append_assoc}
 use Rattle.std.specs.List.{position_or_len}
 use Rattle.std.proofs.lemmas.Bool.{cases_Bool, cond_both, false≢true, ltb-true, ltb-false}
 use Rattle.std.proofs.lemmas.List.{drop-take}
-use Rattle.am_stream.specs.Lines.{HasNoLf, has_lf, line_of, lines_of, CutsLine, TookLine}
+use Rattle.am_stream.specs.Lines.{HasNoLf, has_lf, line_of, lines_of, CutsLine}
 use Rattle.am_stream.proofs.Cutting.{lines_of-ended}
 
 abbrev place_of_lf : List ℕ → ℕ

@@ -10,8 +10,8 @@ ghost use Rattle.am_text.specs.Fields.{line_fields, has_no_space};
 
 use crate::verb::Verb;
 
-/// Words that a space parts are the fields of their line, and the texts of numbers, verbs, modes and records are read
-/// as what they are texts of: for whoever writes lines of their own with these words.
+/// Words that a space parts are the fields of their line, and the texts of numbers, verbs and modes are read as what
+/// they are texts of: for whoever writes lines of their own with these words.
 pub fn words_are_fields()
     ensures fields { (word : List ℕ) (words : List (List ℕ)) → has_no_space word ≡ true →
         AllByRecursion (λ w. has_no_space w ≡ true) words →

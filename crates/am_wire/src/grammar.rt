@@ -7,7 +7,7 @@ ghost use Rattle.am_wire.specs.Reading.{reading, MayRead};
 ghost use Rattle.am_wire.specs.Visible.{AsksVisible};
 
 use crate::request::Request;
-use am_text::{LineFault, Verb};
+use am_text::LineFault;
 
 /// Each line has one reading, the one by its fields, and no line is that of two forms. Memory may be refused of what
 /// brings records alone. The records that a line brings or writes are visible, and the text of a number is what is

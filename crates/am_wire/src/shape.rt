@@ -5,7 +5,7 @@ ghost use Rattle.am_wire.specs.Shapes.{bare, one_key, one_record, one_number, ra
 ghost use Rattle.am_wire.specs.Reading.{values_in, map_ok};
 
 use crate::request::Request;
-use am_record::{Key, Lock, Mode, Range, Value};
+use am_record::{Key, Lock, Range, Value};
 use am_text::{Fields, LineFault, parse_key, parse_mode, parse_number, parse_range, parse_record};
 
 /// Nothing: the verb alone asks for the request.

@@ -2,7 +2,7 @@
 
 use crate::tests::keys::{key, range, value};
 use am_model::{Plain, alone};
-use am_record::{Key, NoMemory, Op, Pairs, Reply};
+use am_record::{NoMemory, Op, Pairs, Reply};
 use std::alloc::Global;
 use std::process::Abort;
 

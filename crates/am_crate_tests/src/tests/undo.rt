@@ -6,7 +6,6 @@ ghost use Rattle.am_undo.specs.Notes.{CanTakeBack};
 
 use crate::tests::entries::{byte, dead, live, over};
 use am_list::PartIndex;
-use am_list_index::ListIndex;
 use am_parts::Parts;
 use am_record::{Entry, Key, NoMemory};
 use am_undo::{Note, UndoLog};
