@@ -20,7 +20,5 @@ mod room;
 mod separator;
 mod set;
 mod spare;
-#[cfg(test)]
-mod tests;
 
 pub use btree::BTree;

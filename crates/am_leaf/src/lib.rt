@@ -4,7 +4,5 @@
 mod bits;
 mod block;
 mod leaf;
-#[cfg(test)]
-mod tests;
 
 pub use leaf::RawLeaf;

@@ -1,6 +1,0 @@
-//! The examples, by what they are about.
-
-mod seats;
-mod sockets;
-mod words;
-mod workers;

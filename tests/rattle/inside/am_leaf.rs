@@ -1,0 +1,144 @@
+use crate::RawLeaf;
+use am_record::{Entry, Key, NoMemory, Value};
+use std::alloc::Global;
+use std::test::Fail;
+
+// The entry of a number, of partition 0; odd ones are ghosts.
+fn entry(number: u64) -> Entry {
+    Entry {
+        part: 0,
+        key: Key::of_u64(number),
+        value: Value::new(&number.to_be_bytes()).unwrap(),
+        is_ghost: number % 2 == 1,
+    }
+}
+
+// The place of one number with the value and ghost bit of another.
+fn entry_like(number: u64, like: u64) -> Entry {
+    let like = entry(like);
+    Entry {
+        part: 0,
+        key: Key::of_u64(number),
+        value: like.value,
+        is_ghost: like.is_ghost,
+    }
+}
+
+// Adds the entry, unless its place is taken or the leaf is full.
+fn add(leaf: &mut RawLeaf, entry: Entry) {
+    if leaf.len() < 32 {
+        if let Err(at) = leaf.find(entry.part, entry.key) {
+            leaf.insert_at(at, entry);
+        }
+    }
+}
+
+// A leaf of the entries of 0 to 31, added from both ends.
+fn full(alloc: Global) -> Result<RawLeaf, NoMemory> {
+    let mut leaf = RawLeaf::new(alloc)?;
+    for number in 0..16_u64 {
+        add(&mut leaf, entry(31 - number));
+        add(&mut leaf, entry(number));
+    }
+    Ok(leaf)
+}
+
+// Whether these are the entries of count numbers from the first on.
+fn holds(leaf: &RawLeaf, first: u64, count: usize) -> bool {
+    for at in 0..leaf.len() {
+        if leaf.get(at) != entry(first.wrapping_add(at as u64)) {
+            return false;
+        }
+    }
+    leaf.len() == count
+}
+
+fn remove_first(leaf: &mut RawLeaf) -> Option<Entry> {
+    if leaf.len() == 0 {
+        return None;
+    }
+    Some(leaf.remove_at(0))
+}
+
+fn get(leaf: &RawLeaf, at: usize) -> Option<Entry> {
+    if at >= leaf.len() {
+        return None;
+    }
+    Some(leaf.get(at))
+}
+
+fn ghost_from(leaf: &RawLeaf, at: usize) -> Option<Entry> {
+    if at > leaf.len() {
+        return None;
+    }
+    leaf.ghost_from(at)
+}
+
+// Gives the entry at the index the value and ghost bit of another.
+fn set(leaf: &mut RawLeaf, at: usize, like: Entry) {
+    if at < leaf.len() {
+        leaf.set_at(at, like.value, like.is_ghost);
+    }
+}
+
+// Splits the leaf, where it is long enough.
+fn split(alloc: Global, leaf: &mut RawLeaf, at: usize) -> Result<RawLeaf, NoMemory> {
+    let mut other = RawLeaf::new(alloc)?;
+    if at <= leaf.len() {
+        leaf.split_into(&mut other, at);
+    }
+    Ok(other)
+}
+
+#[test]
+fn an_empty_leaf_finds_nothing(rt: HostRuntime) -> Result<(), Fail> {
+    let leaf = RawLeaf::new(rt.alloc())?;
+    assert_eq!(rt; leaf.len(), 0);
+    assert!(rt; leaf.find(0, Key::least()) == Err(0));
+    assert!(rt; leaf.find(7, Key::of_u64(7)) == Err(0));
+    Ok(())
+}
+
+#[test]
+fn ghosts_move_with_their_slots(rt: HostRuntime) -> Result<(), Fail> {
+    let mut leaf = full(rt.alloc())?;
+    assert!(rt; holds(&leaf, 0, 32));
+    assert!(rt; leaf.find(0, Key::of_u64(9)) == Ok(9));
+    assert!(rt; leaf.find(1, Key::least()) == Err(32));
+
+    assert!(rt; remove_first(&mut leaf) == Some(entry(0)));
+    assert!(rt; holds(&leaf, 1, 31));
+
+    let none = split(rt.alloc(), &mut leaf, 31)?;
+    assert!(rt; holds(&leaf, 1, 31) && none.len() == 0);
+    let mut back = split(rt.alloc(), &mut leaf, 16)?;
+    assert!(rt; holds(&leaf, 1, 16) && holds(&back, 17, 15));
+    let all = split(rt.alloc(), &mut back, 0)?;
+    assert!(rt; back.len() == 0 && holds(&all, 17, 15));
+    Ok(())
+}
+
+#[test]
+fn an_entry_gets_its_value_and_bit(rt: HostRuntime) -> Result<(), Fail> {
+    let mut leaf = full(rt.alloc())?;
+    set(&mut leaf, 9, entry(4));
+    assert!(rt; get(&leaf, 9) == Some(entry_like(9, 4)));
+    assert!(rt; get(&leaf, 8) == Some(entry(8)));
+    assert!(rt; get(&leaf, 11) == Some(entry(11)));
+    assert!(rt; leaf.len() == 32);
+    Ok(())
+}
+
+#[test]
+fn finds_the_next_ghost(rt: HostRuntime) -> Result<(), Fail> {
+    let mut leaf = full(rt.alloc())?;
+    for at in 0..leaf.len() {
+        assert!(rt; leaf.ghost_from(at) == Some(entry(at as u64 | 1)));
+    }
+    assert!(rt; leaf.ghost_from(leaf.len()).is_none());
+    set(&mut leaf, 31, entry(0));
+    assert!(rt; ghost_from(&leaf, 29) == Some(entry(29)));
+    assert!(rt; ghost_from(&leaf, 30).is_none());
+    assert!(rt; ghost_from(&leaf, 32).is_none());
+    Ok(())
+}

@@ -1,0 +1,45 @@
+//! Worked examples of the crates: of records, indexes, partitions, filters, loads, scans, locks, what is undone, transactions,
+//! merges, the plain map, lines, replies, streams, stored traces with their audits and command lines; of steps and lines that
+//! take several crates; of a long history; and of seats, words and workers on threads, and clients of a server.
+//!
+//! They are run by the kit's checked build, and not proved. Their files end in `.rs`, so that the gate doesn't read them.
+#![tactic(auto)]
+
+mod audits;
+mod calls;
+mod commands;
+mod entries;
+mod failing;
+mod filters;
+mod history;
+mod keys;
+mod lines;
+mod lists;
+mod loads;
+mod locks;
+mod merged;
+mod merges;
+mod numbers;
+mod ordering;
+mod over_std;
+mod partitions;
+mod plain;
+mod recording;
+mod records;
+mod refused;
+mod replies;
+mod requests;
+mod rows;
+mod runs;
+mod scans;
+mod scene;
+mod seats;
+mod sockets;
+mod steps;
+mod streams;
+mod traces;
+mod transactions;
+mod trees;
+mod undo;
+mod words;
+mod workers;

@@ -1,0 +1,83 @@
+//! Ranges that were merged.
+
+use crate::entries::{add, live};
+use crate::loads::{loads_all, no_entries};
+use am_list_index::ListIndex;
+use am_locks::LockTable;
+use am_merge::{Wishes, merge_step};
+use am_parts::Parts;
+use am_record::{Key, Range, Reply};
+use std::alloc::Global;
+use std::process::Abort;
+
+fn range(rt: &impl Abort, lo: u64, hi: u64) -> Range {
+    Range::new(Key::of_u64(lo), Key::of_u64(hi)).expect(rt, "the ends stand in order")
+}
+
+// Three runs, with the keys 0 to 99, 100 to 199 and 200 to 299.
+fn three_runs(rt: &impl Abort, alloc: Global) -> Parts<ListIndex> {
+    let mut parts = no_entries(alloc);
+    loads_all(rt, alloc, &mut parts, 0, 99, Reply::Done);
+    loads_all(rt, alloc, &mut parts, 100, 199, Reply::Done);
+    loads_all(rt, alloc, &mut parts, 200, 299, Reply::Done);
+    parts
+}
+
+// Merges the keys of the range, until no run has one.
+fn merge(rt: &impl Abort, alloc: Global, parts: &mut Parts<ListIndex>, lo: u64, hi: u64) {
+    let mut wishes = Wishes::new(alloc).expect(rt, "memory");
+    let locks = LockTable::new(alloc);
+    wishes.wish(range(rt, lo, hi));
+    for _ in 0..20 {
+        match merge_step(parts, &mut wishes, &locks, 64) {
+            Reply::MergeDone => return,
+            Reply::Moved(..) => {}
+            _ => panic!(rt; "no such reply is due"),
+        }
+    }
+    panic!(rt; "twenty steps were too few");
+}
+
+// Whether a look for entries of the range begins at that run.
+fn begins(rt: &impl Abort, parts: &Parts<ListIndex>, lo: u64, hi: u64, run: u32) {
+    let first = parts.first_run(range(rt, lo, hi));
+    assert!(rt; first == run, "{first} from {lo} to {hi}");
+}
+
+#[test]
+fn a_look_in_a_merged_range_begins_behind_its_runs(rt: HostRuntime) {
+    let alloc = rt.alloc();
+    let mut parts = three_runs(&rt, alloc);
+    begins(&rt, &parts, 50, 120, 1);
+    merge(&rt, alloc, &mut parts, 50, 120);
+    begins(&rt, &parts, 50, 120, 4);
+    begins(&rt, &parts, 60, 70, 4);
+    begins(&rt, &parts, 49, 120, 1);
+    begins(&rt, &parts, 50, 121, 1);
+    // Ranges that meet become one.
+    merge(&rt, alloc, &mut parts, 200, 220);
+    merge(&rt, alloc, &mut parts, 110, 150);
+    begins(&rt, &parts, 50, 150, 4);
+    begins(&rt, &parts, 50, 220, 1);
+    merge(&rt, alloc, &mut parts, 140, 210);
+    begins(&rt, &parts, 50, 220, 4);
+    // What is added to a run by hand is in any range.
+    add(&mut parts, live(2, 1_000, b'a')).expect(&rt, "memory");
+    begins(&rt, &parts, 60, 70, 1);
+}
+
+#[test]
+fn the_sixty_four_ranges_merged_last_are_known(rt: HostRuntime) {
+    let alloc = rt.alloc();
+    let mut parts = three_runs(&rt, alloc);
+    for number in 0..66 {
+        merge(&rt, alloc, &mut parts, number * 2, number * 2);
+    }
+    begins(&rt, &parts, 0, 0, 1);
+    begins(&rt, &parts, 2, 2, 1);
+    begins(&rt, &parts, 4, 4, 4);
+    begins(&rt, &parts, 130, 130, 4);
+    // One that has all of them stands in their place.
+    merge(&rt, alloc, &mut parts, 0, 200);
+    begins(&rt, &parts, 0, 199, 4);
+}

@@ -1,0 +1,185 @@
+//! Merge steps, clean steps and their wishes.
+
+use am_list::PartIndex;
+use am_list_index::ListIndex;
+use am_locks::{Asked, LockTable};
+use am_merge::{Wishes, clean_step, merge_step};
+use am_parts::Parts;
+use am_record::{Entry, Key, Lock, Mode, NoMemory, Range, Refusal, Reply, Value};
+use std::alloc::Global;
+use std::process::Abort;
+
+// An entry: its partition, key and value, and whether it is a ghost.
+type Standing = (u32, u64, u8, bool);
+
+fn value(byte: u8) -> Value {
+    Value::new(&[byte]).unwrap()
+}
+
+fn range(rt: &impl Abort, lo: u64, hi: u64) -> Range {
+    Range::new(Key::of_u64(lo), Key::of_u64(hi)).expect(rt, "the ends stand in order")
+}
+
+// Adds the entry, unless its place is taken or a live one's key is live elsewhere.
+fn add<I: PartIndex + Drop>(
+    parts: &mut Parts<I>,
+    part: u32,
+    number: u64,
+    byte: u8,
+    is_ghost: bool,
+) -> Result<(), NoMemory> {
+    let (key, value) = (Key::of_u64(number), value(byte));
+    if parts.find(part, key).is_some() {
+        return Ok(());
+    }
+    if !is_ghost && parts.place_of(key).is_some() {
+        return Ok(());
+    }
+    parts.add(Entry {
+        part,
+        key,
+        value,
+        is_ghost,
+    })
+}
+
+fn over(rt: &impl Abort, alloc: Global, entries: &[Standing]) -> Parts<ListIndex> {
+    let mut parts = Parts::new(alloc, ListIndex::new(alloc));
+    for &(part, number, byte, is_ghost) in entries {
+        add(&mut parts, part, number, byte, is_ghost).expect(rt, "memory");
+    }
+    parts
+}
+
+// The entries stand, among others.
+fn has(rt: &impl Abort, parts: &Parts<ListIndex>, entries: &[Standing]) {
+    for &(part, number, byte, is_ghost) in entries {
+        let found = parts.find(part, Key::of_u64(number));
+        assert!(rt;
+            found == Some((value(byte), is_ghost)),
+            "{number} in {part}"
+        );
+    }
+}
+
+// How many entries of the keys 0 to 299 stand in the partition.
+fn count_in(parts: &Parts<ListIndex>, part: u32) -> u64 {
+    let mut count: u64 = 0;
+    for number in 0..300 {
+        if parts.find(part, Key::of_u64(number)).is_some() {
+            count = count.saturating_add(1);
+        }
+    }
+    count
+}
+
+// A table in which transaction 2 has the key exclusively locked.
+fn locked(rt: &impl Abort, alloc: Global, number: u64) -> LockTable {
+    let mut locks = LockTable::new(alloc);
+    assert!(rt; locks.owners() == 0 && !locks.is_owner(2));
+    locks.enter(2);
+    assert!(rt; locks.is_owner(2));
+    let lock = Lock {
+        mode: Mode::Exclusive,
+        range: Range::point(Key::of_u64(number)),
+    };
+    assert!(rt; locks.ask(2, lock) == Asked::Granted);
+    locks
+}
+
+fn merges(
+    rt: &impl Abort,
+    parts: &mut Parts<ListIndex>,
+    wishes: &mut Wishes,
+    locks: &LockTable,
+    reply: Reply,
+) {
+    assert!(rt; merge_step(parts, wishes, locks, 16) == reply);
+}
+
+#[test]
+fn merge_goes_home_over_a_ghost(rt: HostRuntime) {
+    let entries = [(0, 5, b'a', true), (1, 5, b'b', false), (1, 7, b'c', false)];
+    let mut parts = over(&rt, rt.alloc(), &entries);
+    let mut wishes = Wishes::new(rt.alloc()).expect(&rt, "memory");
+    let locks = LockTable::new(rt.alloc());
+    wishes.wish(Range::point(Key::of_u64(5)));
+    wishes.wish(Range::point(Key::of_u64(5)));
+    merges(&rt, &mut parts, &mut wishes, &locks, Reply::Moved(1, 1));
+    merges(&rt, &mut parts, &mut wishes, &locks, Reply::MergeDone);
+    merges(&rt, &mut parts, &mut wishes, &locks, Reply::MergeDone);
+    merges(&rt, &mut parts, &mut wishes, &locks, Reply::Idle);
+    has(&rt, &parts, &[(0, 5, b'b', false), (1, 7, b'c', false)]);
+    assert!(rt; parts.find(1, Key::of_u64(5)).is_none());
+}
+
+// Merges until no candidate is left. Where memory is refused the step ends, and is taken again.
+fn merge_all(
+    rt: &impl Abort,
+    parts: &mut Parts<ListIndex>,
+    wishes: &mut Wishes,
+    locks: &LockTable,
+) -> u64 {
+    let mut moved: u64 = 0;
+    for _ in 0..10 {
+        match merge_step(parts, wishes, locks, 64) {
+            Reply::Moved(n, 1) => moved = moved.saturating_add(n),
+            Reply::Refused(Refusal::NoMemory) => {}
+            Reply::MergeDone => return moved,
+            _ => panic!(rt; "no such reply is due"),
+        }
+    }
+    moved
+}
+
+#[test]
+fn merges_add_up_where_memory_is_refused(rt: HostRuntime) {
+    let mut parts = over(&rt, rt.alloc(), &[]);
+    let mut wishes = Wishes::new(rt.alloc()).expect(&rt, "memory");
+    let locks = LockTable::new(rt.alloc());
+    for number in 0..8 {
+        add(&mut parts, 1, number, b'a', false).expect(&rt, "memory");
+    }
+    wishes.wish(range(&rt, 0, 9));
+    assert!(rt; merge_all(&rt, &mut parts, &mut wishes, &locks) == 8);
+    assert!(rt; count_in(&parts, 0) == 8 && count_in(&parts, 1) == 0);
+}
+
+// The keys 2 to 9 are cleaned.
+fn cleans(
+    rt: &impl Abort,
+    parts: &mut Parts<ListIndex>,
+    locks: &LockTable,
+    limit: u64,
+    cleaned: u64,
+)
+{
+    let reply = clean_step(parts, locks, range(rt, 2, 9), limit);
+    assert!(rt; reply == Reply::Cleaned(cleaned));
+}
+
+#[test]
+fn clean_passes_over_locked_and_live_entries(rt: HostRuntime) {
+    let entries = [
+        (0, 3, b'a', true),
+        (0, 4, b'b', false),
+        (0, 12, b'c', true),
+        (1, 2, b'd', true),
+        (1, 5, b'e', true),
+        (u32::MAX, 5, b'f', true),
+        (u32::MAX, 9, b'g', true),
+    ];
+    let mut parts = over(&rt, rt.alloc(), &entries);
+    let locks = locked(&rt, rt.alloc(), 5);
+    cleans(&rt, &mut parts, &locks, 2, 2);
+    has(&rt, &parts, &[(u32::MAX, 9, b'g', true)]);
+    cleans(&rt, &mut parts, &locks, 2, 1);
+    cleans(&rt, &mut parts, &locks, 64, 0);
+    let kept = [
+        (0, 4, b'b', false),
+        (0, 12, b'c', true),
+        (1, 5, b'e', true),
+        (u32::MAX, 5, b'f', true),
+    ];
+    has(&rt, &parts, &kept);
+}

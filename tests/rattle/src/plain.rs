@@ -1,0 +1,101 @@
+//! Worked answers of the plain map.
+
+use crate::keys::{key, range, value};
+use am_model::{Plain, alone};
+use am_record::{NoMemory, Op, Pairs, Reply};
+use std::alloc::Global;
+use std::process::Abort;
+
+// The record of the key 9 with this value, as it is loaded and scanned.
+fn nine(rt: &impl Abort, alloc: Global, text: &[u8]) -> Pairs {
+    let pairs = Vec::from_array(alloc, [(key(rt, b"9"), value(rt, text))]);
+    Pairs::new(pairs.expect(rt, "memory"))
+}
+
+// The operations are answered so by a plain map with nothing in it, from the one with this place on.
+fn answers(rt: &impl Abort, alloc: Global, ops: &[Op], from: usize, expected: &[Reply]) {
+    let mut plain = Plain::new(alloc);
+    let replies = alone(alloc, &mut plain, ops).expect(rt, "memory");
+    assert!(rt; replies.len() == ops.len() && from <= replies.len());
+    assert!(rt; &replies[from..] == expected);
+}
+
+#[test]
+fn an_insert_is_found_and_stays(rt: HostRuntime) {
+    let (five, six) = (key(&rt, b"5"), key(&rt, b"6"));
+    let (a, b) = (value(&rt, b"a"), value(&rt, b"b"));
+    let ops = [
+        Op::Get(five),
+        Op::Insert(five, a),
+        Op::Insert(five, b),
+        Op::Replace(five, b),
+        Op::Get(five),
+        Op::Get(six),
+    ];
+    let expected = [
+        Reply::Absent,
+        Reply::Done,
+        Reply::Exists(five),
+        Reply::Done,
+        Reply::Found(b),
+        Reply::Absent,
+    ];
+    answers(&rt, rt.alloc(), &ops, 0, &expected);
+}
+
+#[test]
+fn savepoints_are_nested(rt: HostRuntime) {
+    let (a, b) = (key(&rt, b"a"), key(&rt, b"b"));
+    let (one, two, three) = (value(&rt, b"1"), value(&rt, b"2"), value(&rt, b"3"));
+    let ops = [
+        Op::Insert(a, one),
+        Op::Mark,
+        Op::Replace(a, two),
+        Op::Insert(b, three),
+        Op::Mark,
+        Op::Delete(a),
+        Op::Back,
+        Op::Get(a),
+        Op::Back,
+        Op::Get(a),
+        Op::Get(b),
+        Op::Back,
+    ];
+    let expected = [
+        Reply::Done,
+        Reply::Found(two),
+        Reply::Done,
+        Reply::Found(one),
+        Reply::Absent,
+        Reply::NoMark,
+    ];
+    answers(&rt, rt.alloc(), &ops, 6, &expected);
+}
+
+fn is_answered(rt: &impl Abort, plain: &mut Plain, op: Op, reply: Reply) {
+    assert!(rt; plain.answer(&op) == Ok(reply));
+}
+
+#[test]
+fn a_load_is_scanned_from_end_to_end(rt: HostRuntime) {
+    let alloc = rt.alloc();
+    let mut plain = Plain::new(alloc);
+    let load = Op::Load(nine(&rt, alloc, b"z"));
+    is_answered(&rt, &mut plain, load, Reply::Done);
+    let again = Op::Load(nine(&rt, alloc, b"y"));
+    is_answered(&rt, &mut plain, again, Reply::Exists(key(&rt, b"9")));
+    let scan = Op::Scan(range(&rt, b"0", b"9"), 1);
+    let row = Reply::Rows(nine(&rt, alloc, b"z"));
+    is_answered(&rt, &mut plain, scan, row);
+}
+
+#[test]
+fn a_refused_insert_may_be_asked_again(rt: HostRuntime) {
+    let (five, a) = (key(&rt, b"5"), value(&rt, b"a"));
+    let mut plain = Plain::new(rt.alloc());
+    if plain.answer(&Op::Insert(five, a)) == Err(NoMemory) {
+        is_answered(&rt, &mut plain, Op::Get(five), Reply::Absent);
+        is_answered(&rt, &mut plain, Op::Insert(five, a), Reply::Done);
+    }
+    is_answered(&rt, &mut plain, Op::Get(five), Reply::Found(a));
+}

@@ -1,0 +1,185 @@
+//! Scans and cursors.
+
+use crate::entries::{add, byte, dead, live, over};
+use am_list::PartIndex;
+use am_list_index::ListIndex;
+use am_parts::Parts;
+use am_record::{Entry, Key, NoMemory, Range, Value};
+use am_scan::{Cursor, scan};
+use std::alloc::Global;
+use std::process::Abort;
+
+fn row(number: u64, value: u8) -> (Key, Value) {
+    (Key::of_u64(number), byte(value))
+}
+
+// The key of a text, or the least one where it is too long.
+fn named(text: &[u8]) -> Key {
+    Key::new(text).unwrap_or(Key::least())
+}
+
+fn range(rt: &impl Abort, lo: u64, hi: u64) -> Range {
+    Range::new(Key::of_u64(lo), Key::of_u64(hi)).expect(rt, "in order")
+}
+
+// A scan has these rows. Where memory was refused it is asked again, since nothing was changed.
+fn scans<I: PartIndex + Drop>(
+    rt: &impl Abort,
+    alloc: Global,
+    parts: &Parts<I>,
+    range: Range,
+    max: u64,
+    rows: &[(Key, Value)],
+) {
+    let found = match scan(alloc, parts, range, max) {
+        Ok(found) => found,
+        Err(NoMemory) => scan(alloc, parts, range, max).expect(rt, "memory"),
+    };
+    assert!(rt; found.as_slice() == rows);
+}
+
+// A cursor before the first record of the range. Where memory was refused it is opened again.
+fn opened<'a, I: PartIndex + Drop>(
+    rt: &impl Abort,
+    alloc: Global,
+    parts: &'a Parts<I>,
+    range: Range,
+) -> Cursor<'a, I> {
+    match Cursor::open(alloc, parts, range) {
+        Ok(cursor) => cursor,
+        Err(NoMemory) => Cursor::open(alloc, parts, range).expect(rt, "memory"),
+    }
+}
+
+// The cursor's next record.
+fn reads<I: PartIndex + Drop>(
+    rt: &impl Abort,
+    cursor: &mut Cursor<'_, I>,
+    row: Option<(Key, Value)>,
+) {
+    assert!(rt; cursor.next() == row);
+}
+
+// Each of the first numbers is live in one of three partitions, and a ghost in the next one.
+fn striped(rt: &impl Abort, alloc: Global, count: u32) -> Parts<ListIndex> {
+    let mut parts = Parts::new(alloc, ListIndex::new(alloc));
+    for number in 0..count {
+        let key = u64::from(number);
+        add(&mut parts, live(number % 3, key, b'a')).expect(rt, "memory");
+        add(&mut parts, dead((number % 3) + 1, key, b'b')).expect(rt, "memory");
+    }
+    parts
+}
+
+#[test]
+fn scan_reads_every_partition(rt: HostRuntime) {
+    let entries = [
+        live(0, 1, b'c'),
+        dead(1, 1, b'a'),
+        dead(1, 2, b'b'),
+        live(2, 2, b'd'),
+    ];
+    let parts = over(&rt, rt.alloc(), &entries);
+    let all = range(&rt, 0, 9);
+    let rows = [row(1, b'c'), row(2, b'd')];
+    scans(&rt, rt.alloc(), &parts, all, 9, &rows);
+    scans(&rt, rt.alloc(), &parts, all, 1, &[row(1, b'c')]);
+}
+
+#[test]
+fn scan_cuts_after_sorting(rt: HostRuntime) {
+    let entries = [live(1, 5, b'e'), live(0, 9, b'z'), live(2, 3, b'd')];
+    let parts = over(&rt, rt.alloc(), &entries);
+    let rows = [row(3, b'd'), row(5, b'e')];
+    scans(&rt, rt.alloc(), &parts, range(&rt, 0, 9), 2, &rows);
+}
+
+#[test]
+fn scan_keeps_to_its_range(rt: HostRuntime) {
+    let entries = [
+        live(0, 2, b'a'),
+        live(0, 3, b'b'),
+        live(0, 7, b'c'),
+        live(1, 1, b'd'),
+        live(1, 5, b'e'),
+        live(3, 8, b'f'),
+    ];
+    let parts = over(&rt, rt.alloc(), &entries);
+    let inner = [row(3, b'b'), row(5, b'e'), row(7, b'c')];
+    scans(&rt, rt.alloc(), &parts, range(&rt, 3, 7), 9, &inner);
+    scans(&rt, rt.alloc(), &parts, range(&rt, 6, 6), 9, &[]);
+    scans(&rt, rt.alloc(), &parts, range(&rt, 9, 20), 9, &[]);
+}
+
+// The entry of a text in a run.
+fn of_text(text: &[u8], value: u8) -> Entry {
+    Entry {
+        part: 1,
+        key: named(text),
+        value: byte(value),
+        is_ghost: false,
+    }
+}
+
+#[test]
+fn scan_goes_by_the_order_of_strings(rt: HostRuntime) {
+    let entries = [
+        of_text(b"a", b'1'),
+        of_text(b"ab", b'2'),
+        of_text(b"b", b'3'),
+    ];
+    let parts = over(&rt, rt.alloc(), &entries);
+    let (a, ab) = (named(b"a"), named(b"ab"));
+    let from_a = Range::new(a, named(b"az")).expect(&rt, "in order");
+    let rows = [(a, byte(b'1')), (ab, byte(b'2'))];
+    scans(&rt, rt.alloc(), &parts, from_a, 9, &rows);
+    let from_capital = Range::new(named(b"B"), a).expect(&rt, "in order");
+    scans(&rt, rt.alloc(), &parts, from_capital, 9, &[(a, byte(b'1'))]);
+}
+
+#[test]
+fn a_cursor_over_all_partitions(rt: HostRuntime) {
+    let entries = [
+        live(0, 1, b'c'),
+        dead(1, 1, b'a'),
+        dead(1, 2, b'b'),
+        live(2, 2, b'd'),
+    ];
+    let parts = over(&rt, rt.alloc(), &entries);
+    let mut cursor = opened(&rt, rt.alloc(), &parts, range(&rt, 0, 9));
+    for row in [Some(row(1, b'c')), Some(row(2, b'd')), None, None] {
+        reads(&rt, &mut cursor, row);
+    }
+}
+
+#[test]
+fn a_dropped_cursor_changes_nothing(rt: HostRuntime) {
+    let entries = [live(0, 1, b'c'), dead(1, 1, b'a'), live(2, 2, b'd')];
+    let parts = over(&rt, rt.alloc(), &entries);
+    let mut cursor = opened(&rt, rt.alloc(), &parts, range(&rt, 0, 9));
+    reads(&rt, &mut cursor, Some(row(1, b'c')));
+    drop(cursor);
+    for entry in entries {
+        let stands = Some((entry.value, entry.is_ghost));
+        assert!(rt; parts.find(entry.part, entry.key) == stands);
+    }
+}
+
+#[test]
+fn a_cursor_reads_on_in_every_partition(rt: HostRuntime) {
+    let parts = striped(&rt, rt.alloc(), 60);
+    let mut cursor = opened(&rt, rt.alloc(), &parts, range(&rt, 1, 57));
+    for number in 1..58 {
+        reads(&rt, &mut cursor, Some(row(number, b'a')));
+    }
+    reads(&rt, &mut cursor, None);
+}
+
+#[test]
+fn partitions_with_entries_are_told_in_turn(rt: HostRuntime) {
+    let entries = [live(0, 1, b'a'), dead(3, 1, b'b'), live(7, 2, b'c')];
+    let parts = over(&rt, rt.alloc(), &entries);
+    for (from, part) in [(0, Some(0)), (1, Some(3)), (4, Some(7)), (8, None)] {
+        assert!(rt; parts.next_part(from) == part);
+    }
+}

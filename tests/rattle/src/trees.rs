@@ -1,0 +1,208 @@
+//! The tree beside the list, as indexes.
+
+use am_btree::BTree;
+use am_list::{Batch, PartIndex};
+use am_list_index::ListIndex;
+use am_record::{Entry, Key, NoMemory, Range, Value};
+use std::alloc::Global;
+use std::process::Abort;
+use std::test::Fail;
+
+// The entry of a number, each third one a ghost.
+fn numbered(part: u32, number: u64) -> Entry {
+    Entry {
+        part,
+        key: Key::of_u64(number),
+        value: Value::new(&number.to_be_bytes()).unwrap(),
+        is_ghost: number % 3 == 0,
+    }
+}
+
+// Adds the entry, unless its place is taken.
+fn add<I: PartIndex>(index: &mut I, entry: Entry) -> Result<(), NoMemory> {
+    if index.find(entry.part, entry.key).is_none() {
+        index.insert(entry)?;
+    }
+    Ok(())
+}
+
+// Takes the entry of the place out, where one stands there.
+fn take<I: PartIndex>(index: &mut I, part: u32, key: Key) -> Option<Entry> {
+    if index.find(part, key).is_none() {
+        return None;
+    }
+    Some(index.remove(part, key))
+}
+
+// Two hundred entries of one partition, between entries of two others.
+fn fill<I: PartIndex>(rt: &impl Abort, index: &mut I) {
+    for number in 0..200_u64 {
+        add(index, numbered(1, number)).expect(rt, "memory");
+    }
+    add(index, numbered(0, 100)).expect(rt, "memory");
+    add(index, numbered(2, 100)).expect(rt, "memory");
+}
+
+fn batch_from<I: PartIndex>(index: &I, number: u64) -> Batch {
+    let mut batch = Batch::new();
+    index.read_from(1, Key::of_u64(number), &mut batch);
+    batch
+}
+
+// So many rows of the partition at most, from one number to another.
+fn rows_of<I: PartIndex>(
+    rt: &impl Abort,
+    alloc: Global,
+    index: &I,
+    lo: u64,
+    hi: u64,
+    max: u64,
+) -> Vec<(Key, Value)> {
+    let range = Range::new(Key::of_u64(lo), Key::of_u64(hi)).expect(rt, "in order");
+    let mut rows = Vec::new(alloc);
+    index
+        .copy_rows(1, range, max, &mut rows)
+        .expect(rt, "memory");
+    rows
+}
+
+// Whether both indexes give the same walks over the partition, of at most so many entries.
+fn same_walks<A: PartIndex, B: PartIndex>(a: &A, b: &B, part: u32, most: usize) -> bool {
+    let mut at = Key::least();
+    for _ in 0..most {
+        if a.next_from(part, at) != b.next_from(part, at) {
+            return false;
+        }
+        let next = a.after(part, at);
+        if next != b.after(part, at) {
+            return false;
+        }
+        match next {
+            Some(entry) => at = entry.key,
+            None => return true,
+        }
+    }
+    false
+}
+
+// Whether both indexes read the same batch.
+fn same_batch<A: PartIndex, B: PartIndex>(a: &A, b: &B, part: u32, key: Key) -> bool {
+    let mut batch = Batch::new();
+    a.read_on(part, key, &mut batch);
+    let mut other = Batch::new();
+    b.read_on(part, key, &mut other);
+    batch.entries() == other.entries()
+}
+
+// The numbers up to 10,006, each once and out of order.
+fn scattered(i: u64) -> u64
+{
+    (7919 * i) % 10_007
+}
+
+// Gives both indexes the same inserts. Whether their walks are the same after each thousandth call,
+// and after the last.
+fn insert_all<A: PartIndex, B: PartIndex>(a: &mut A, b: &mut B) -> Result<bool, NoMemory> {
+    for i in 0..10_007_u64 {
+        let number = scattered(i);
+        add(a, numbered(0, number))?;
+        add(b, numbered(0, number))?;
+        if (i + 1) % 1000 == 0 && !same_walks(a, b, 0, 10_008) {
+            return Ok(false);
+        }
+    }
+    Ok(same_walks(a, b, 0, 10_008))
+}
+
+// The same with removals, which are to answer alike.
+fn remove_all<A: PartIndex, B: PartIndex>(a: &mut A, b: &mut B) -> bool {
+    for i in 0..10_007_u64 {
+        let key = Key::of_u64(scattered(i));
+        if take(a, 0, key) != take(b, 0, key) {
+            return false;
+        }
+        if (10_008 + i) % 1000 == 0 && !same_walks(a, b, 0, 10_008) {
+            return false;
+        }
+    }
+    same_walks(a, b, 0, 1)
+}
+
+#[test]
+fn a_tree_reads_from_a_key_as_a_list(rt: HostRuntime) {
+    let mut tree = BTree::new(rt.alloc()).expect(&rt, "memory");
+    let mut list = ListIndex::new(rt.alloc());
+    fill(&rt, &mut tree);
+    fill(&rt, &mut list);
+    for number in [0, 15, 31, 32, 100, 190, 199, 300] {
+        let read = batch_from(&tree, number);
+        assert!(rt; read.entries() == batch_from(&list, number).entries());
+    }
+}
+
+#[test]
+fn a_tree_copies_rows_as_a_list(rt: HostRuntime) {
+    let mut tree = BTree::new(rt.alloc()).expect(&rt, "memory");
+    let mut list = ListIndex::new(rt.alloc());
+    fill(&rt, &mut tree);
+    fill(&rt, &mut list);
+    for (lo, hi, max, count) in [
+        (40, 160, 999, 81),
+        (40, 160, 20, 20),
+        (0, 999, 999, 133),
+        (201, 999, 9, 0),
+    ] {
+        let rows = rows_of(&rt, rt.alloc(), &tree, lo, hi, max);
+        assert!(rt; rows.len() == count);
+        assert!(rt; rows == rows_of(&rt, rt.alloc(), &list, lo, hi, max));
+    }
+}
+
+#[test]
+fn inserts_and_removals_beside_a_list(rt: HostRuntime) {
+    let mut tree = BTree::new(rt.alloc()).expect(&rt, "memory");
+    let mut list = ListIndex::new(rt.alloc());
+    assert!(rt; insert_all(&mut tree, &mut list).expect(&rt, "memory"));
+    assert!(rt; remove_all(&mut tree, &mut list));
+    assert!(rt; tree.next_any(0, Key::least()).is_none());
+    assert!(rt; list.next_any(0, Key::least()).is_none());
+    add(&mut tree, numbered(0, 5)).expect(&rt, "memory");
+    add(&mut list, numbered(0, 5)).expect(&rt, "memory");
+    assert!(rt; tree.next_any(0, Key::least()) == Some(numbered(0, 5)));
+    assert!(rt; same_walks(&tree, &list, 0, 2));
+}
+
+#[test]
+fn reads_on_past_the_end_of_a_leaf(rt: HostRuntime) {
+    let mut tree = BTree::new(rt.alloc()).expect(&rt, "memory");
+    let mut list = ListIndex::new(rt.alloc());
+    for number in 0..200_u64 {
+        let part = if number < 90 { 1 } else { 2 };
+        add(&mut tree, numbered(part, number)).expect(&rt, "memory");
+        add(&mut list, numbered(part, number)).expect(&rt, "memory");
+    }
+    for number in 0..200_u64 {
+        assert!(rt; same_batch(&tree, &list, 1, Key::of_u64(number)));
+        assert!(rt; same_batch(&tree, &list, 2, Key::of_u64(number)));
+    }
+    assert!(rt; same_batch(&tree, &list, 3, Key::least()));
+}
+
+#[test]
+fn refused_insert_changes_nothing(rt: HostRuntime) -> Result<(), Fail> {
+    let Ok(mut tree) = BTree::new(rt.alloc()) else {
+        return Ok(());
+    };
+    let mut list = ListIndex::new(rt.alloc());
+    for number in 0..40_u64 {
+        if add(&mut tree, numbered(0, 40 - number)).is_err() {
+            assert!(rt; same_walks(&tree, &list, 0, 41));
+            add(&mut tree, numbered(0, 40 - number))?;
+        }
+        if add(&mut list, numbered(0, 40 - number)).is_err() {
+            add(&mut list, numbered(0, 40 - number))?;
+        }
+        assert!(rt; same_walks(&tree, &list, 0, 41));
+    }
+    Ok(())
+}

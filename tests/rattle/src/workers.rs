@@ -1,0 +1,277 @@
+//! Workers that merge on the seats of a latch.
+
+use am_latch::{Blank, Latch, LatchName, Seat, close};
+use am_record::{Key, Lock, Mode, Op, Pairs, Range, Refusal, Reply, Step, Value};
+use am_workers::{Pacer, run_workers};
+use std::alloc::Global;
+use std::marker::Brand;
+use std::process::Abort;
+use std::sync::Wait;
+use std::sync::atomic::{AtomicU64, Ordering};
+use std::test::Fail;
+use std::thread;
+use std::thread::Threads;
+use std::time::{Clock, Duration};
+
+const BOTH: u64 = 3;
+
+const MOST_LOOKS: u64 = 10_000;
+
+// Holds each of two workers before its first turn until both are there, and ends one that waits too long.
+// The second has no other turn.
+#[derive(Drop)]
+struct Meeting<'a, C: Clock> {
+    // A bit for each worker.
+    there: AtomicU64,
+    clock: &'a C,
+}
+
+impl<'a, C: Clock> Meeting<'a, C> {
+    fn meets(&self, worker: u32) -> bool {
+        let bit = if worker == 0 { 1 } else { 2 };
+        self.there.fetch_or(bit, Ordering::SeqCst);
+        for _ in 0..MOST_LOOKS {
+            if self.there.load(Ordering::SeqCst) == BOTH {
+                return true;
+            }
+            thread::sleep(self.clock, Duration::from_millis(1));
+        }
+        false
+    }
+}
+
+impl<'a, C: Clock> Pacer for Meeting<'a, C> {
+    fn await_turn<R: Wait>(&self, _rt: &R, worker: u32, turn: u64) -> bool {
+        if turn == 0 {
+            self.meets(worker)
+        } else {
+            worker == 0
+        }
+    }
+}
+
+fn by_two_workers<L: LatchName + Send + Sync, R: Threads + Wait + Clock + Abort + Sync>(
+    rt: &R,
+    blank: Blank,
+) -> Result<(), Fail>
+{
+    let (latch, seats) = Latch::<L>::open(blank)?;
+    let meeting = Meeting {
+        there: AtomicU64::new(0),
+        clock: rt,
+    };
+    let worked = run_workers(rt, &latch, seats, 2, 16, &meeting);
+    assert_eq!(rt; worked.seats.len(), 2);
+    assert_eq!(rt; worked.seats[0].receipts().len(), 2);
+    assert_eq!(rt; worked.seats[1].receipts().len(), 1);
+    Ok(())
+}
+
+// Workers that have their turns one after another never meet.
+#[test]
+fn workers_at_the_same_time(rt: HostRuntime) -> Result<(), Fail> {
+    by_two_workers::<Brand, HostRuntime>(&rt, Blank::new(rt.alloc(), 2)?)
+}
+
+struct Always;
+
+impl Pacer for Always {
+    fn await_turn<R: Wait>(&self, _rt: &R, _worker: u32, _turn: u64) -> bool {
+        true
+    }
+}
+
+fn begin<L: LatchName, R: Wait>(rt: &R, latch: &Latch<L>, seat: &mut Seat<L>) {
+    if seat.open_tx().is_none() {
+        seat.call(rt, latch, Step::Begin);
+    }
+}
+
+// What the operation is answered in the transaction that is open in the seat.
+fn answer_of<L: LatchName, R: Wait + Abort>(
+    rt: &R,
+    latch: &Latch<L>,
+    seat: &mut Seat<L>,
+    op: Op,
+) -> Reply {
+    let Some(tx) = seat.open_tx() else {
+        panic!(rt; "no transaction is open")
+    };
+    seat.call(rt, latch, Step::Do(tx, op))
+}
+
+fn commit<L: LatchName, R: Wait + Abort>(rt: &R, latch: &Latch<L>, seat: &mut Seat<L>) {
+    let Some(tx) = seat.open_tx() else {
+        panic!(rt; "no transaction is open")
+    };
+    seat.call(rt, latch, Step::Commit(tx));
+    assert!(rt; seat.last_commit().is_some());
+}
+
+// Three runs of one record each.
+fn load_three<L: LatchName, R: Wait + Abort>(
+    rt: &R,
+    alloc: Global,
+    latch: &Latch<L>,
+    seat: &mut Seat<L>,
+) -> Result<(), Fail> {
+    begin(rt, latch, seat);
+    for number in 1..=3 {
+        let record = (Key::of_u64(number), Value::new(b"a").ok_or("no value")?);
+        let load = Op::Load(Pairs::new(vec![in alloc; record]?));
+        let reply = answer_of(rt, latch, seat, load);
+        assert!(rt; reply == Reply::Done, "{reply:?}");
+    }
+    commit(rt, latch, seat);
+    Ok(())
+}
+
+// A scan over all three, which asks for them.
+fn scan_three<L: LatchName, R: Wait + Abort>(
+    rt: &R,
+    latch: &Latch<L>,
+    seat: &mut Seat<L>,
+) -> Result<(), Fail> {
+    begin(rt, latch, seat);
+    let range = Range::new(Key::of_u64(1), Key::of_u64(3)).ok_or("no range")?;
+    let Reply::Rows(rows) = answer_of(rt, latch, seat, Op::Scan(range, 10)) else {
+        panic!(rt; "the scan has no rows")
+    };
+    assert_eq!(rt; rows.as_slice().len(), 3);
+    commit(rt, latch, seat);
+    Ok(())
+}
+
+fn by_one_worker<L: LatchName + Send + Sync, R: Threads + Wait + Abort + Sync>(
+    rt: &R,
+    alloc: Global,
+    blank: Blank,
+) -> Result<(), Fail>
+{
+    let (latch, mut seats) = Latch::<L>::open(blank)?;
+    let worker = seats.pop().ok_or("no seat")?;
+    let mut reader = seats.pop().ok_or("no seat")?;
+    load_three(rt, alloc, &latch, &mut reader)?;
+    scan_three(rt, &latch, &mut reader)?;
+    let mut worked = run_workers(rt, &latch, vec![in alloc; worker]?, 5, 16, &Always);
+    assert_eq!(rt; worked.moved, 3);
+    let worker = worked.seats.pop().ok_or("no seat")?;
+    assert_eq!(rt; worker.receipts().len(), 5);
+    let Ok(closed) = close(latch, vec![in alloc; reader, worker]?) else {
+        panic!(rt; "all seats are there")
+    };
+    assert_eq!(rt; closed.store.commits(), 2);
+    Ok(())
+}
+
+#[test]
+fn moves_come_back(rt: HostRuntime) -> Result<(), Fail> {
+    by_one_worker::<Brand, HostRuntime>(&rt, rt.alloc(), Blank::new(rt.alloc(), 2)?)
+}
+
+// Turns of a worker on a store with nothing to merge, by this limit. What it was answered.
+fn answers_of_one_worker<L: LatchName + Send + Sync, R: Threads + Wait + Abort + Sync>(
+    rt: &R,
+    alloc: Global,
+    blank: Blank,
+    turns: u64,
+    limit: u64,
+) -> Result<Vec<Reply>, Fail>
+{
+    let (latch, seats) = Latch::<L>::open(blank)?;
+    let mut worked = run_workers(rt, &latch, seats, turns, limit, &Always);
+    assert_eq!(rt; worked.moved, 0);
+    let worker = worked.seats.pop().ok_or("no seat")?;
+    let mut answers = Vec::new(alloc);
+    for receipt in worker.receipts() {
+        answers.push(receipt.reply.copy(alloc)?)?;
+    }
+    Ok(answers)
+}
+
+// A limit out of bounds is refused at each turn, and the turns go on.
+#[test]
+fn a_limit_of_65(rt: HostRuntime) -> Result<(), Fail> {
+    let blank = Blank::new(rt.alloc(), 1)?;
+    let answers = answers_of_one_worker::<Brand, HostRuntime>(&rt, rt.alloc(), blank, 3, 65)?;
+    assert_eq!(rt; answers.len(), 3);
+    for answer in &answers {
+        assert!(rt; *answer == Reply::Refused(Refusal::BadLimit), "{answer:?}");
+    }
+    Ok(())
+}
+
+// A worker that finds nothing to merge goes on, and ends where its seat is full.
+#[test]
+fn a_full_seat_ends_a_worker(rt: HostRuntime) -> Result<(), Fail> {
+    let blank = Blank::new(rt.alloc(), 1)?;
+    let answers = answers_of_one_worker::<Brand, HostRuntime>(
+        &rt,
+        rt.alloc(),
+        blank,
+        1_000_002,
+        16,
+    )?;
+    assert_eq!(rt; answers.len(), 1_000_000);
+    assert!(rt; answers.last() == Some(&Reply::Idle));
+    Ok(())
+}
+
+// How many turns so many seats have had in all, where each is to have two.
+fn turns_of<L: LatchName + Send + Sync, R: Threads + Wait + Abort + Sync>(
+    rt: &R,
+    blank: Blank,
+) -> Result<u64, Fail>
+{
+    let (latch, seats) = Latch::<L>::open(blank)?;
+    let worked = run_workers(rt, &latch, seats, 2, 16, &Always);
+    let mut turns = 0_u64;
+    for seat in &worked.seats {
+        turns = turns.saturating_add(seat.receipts().len() as u64);
+    }
+    Ok(turns)
+}
+
+#[test]
+fn all_seats_have_their_turns(rt: HostRuntime) -> Result<(), Fail> {
+    for seats in [17, 1_024] {
+        let blank = Blank::new(rt.alloc(), seats)?;
+        assert_eq!(rt; turns_of::<Brand, HostRuntime>(&rt, blank)?, 2 * seats);
+    }
+    Ok(())
+}
+
+// A locked record ends a merge, and the worker goes on behind that.
+fn behind_a_locked_record<L: LatchName + Send + Sync, R: Threads + Wait + Abort + Sync>(
+    rt: &R,
+    alloc: Global,
+    blank: Blank,
+) -> Result<u64, Fail>
+{
+    let (latch, mut seats) = Latch::<L>::open(blank)?;
+    let worker = seats.pop().ok_or("no seat")?;
+    let mut reader = seats.pop().ok_or("no seat")?;
+    load_three(rt, alloc, &latch, &mut reader)?;
+    scan_three(rt, &latch, &mut reader)?;
+    begin(rt, &latch, &mut reader);
+    let range = Range::new(Key::of_u64(2), Key::of_u64(2)).ok_or("no range")?;
+    let mode = Mode::Exclusive;
+    answer_of(rt, &latch, &mut reader, Op::Lock(Lock { mode, range }));
+    let mut worked = run_workers(rt, &latch, vec![in alloc; worker]?, 5, 16, &Always);
+    let worker = worked.seats.pop().ok_or("no seat")?;
+    assert_eq!(rt; worker.receipts().len(), 5);
+    let met = worker
+        .receipts()
+        .iter()
+        .any(|receipt| matches!(receipt.reply, Reply::Ended(_, _)));
+    assert!(rt; met);
+    Ok(worked.moved)
+}
+
+#[test]
+fn workers_go_on_behind_a_lock(rt: HostRuntime) -> Result<(), Fail> {
+    let blank = Blank::new(rt.alloc(), 2)?;
+    let moved = behind_a_locked_record::<Brand, HostRuntime>(&rt, rt.alloc(), blank)?;
+    assert_eq!(rt; moved, 1);
+    Ok(())
+}
