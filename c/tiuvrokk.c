@@ -1,5 +1,5 @@
-/* The calls of tiuvrokk.h over the exports of crates/am_c, which take no null pointer: here each pointer is tested, and
- * nothing else is done. */
+/* The calls of tiuvrokk.h over the exports of crates/am_c, which take no null pointer: here each pointer is tested, and each
+ * limit, so that all faults of a call's arguments are told before the store is asked. Nothing else is done. */
 #include "tiuvrokk.h"
 
 /* What the exports take: a handle that isn't null, texts as pointer and length, and where to write what they tell. */
@@ -39,7 +39,7 @@ static tvk_record no_records[1];
     uint64_t unwanted;                       \
     if (!told) told = &unwanted;             \
     *told = 0;                               \
-    if (!store) return TVK_NO_STORE
+    if (!store || !store->at) return TVK_NO_STORE
 
 #define NEEDS(pointer)                       \
     if (!(pointer)) return TVK_NULL
@@ -152,11 +152,8 @@ tvk_status tvk_scan(tvk_store *store, uint64_t tx, const void *lo, size_t lo_len
     BEGIN;
     KEY(lo);
     KEY(hi);
-    if (limit > TVK_MAX_ROWS) return TVK_BAD_LIMIT;
-    if (!rows) {
-        if (limit) return TVK_NULL;
-        rows = no_records;
-    }
+    NEEDS(rows);
+    if (limit < 1 || limit > TVK_MAX_ROWS) return TVK_BAD_LIMIT;
     return tiuvrokk_scan(store, tx, lo, lo_length, hi, hi_length, rows, limit, told);
 }
 
@@ -165,8 +162,8 @@ tvk_status tvk_scan_behind(tvk_store *store, uint64_t tx, const void *key, size_
     BEGIN;
     KEY(key);
     KEY(hi);
-    if (limit < 1 || limit > TVK_MAX_ROWS - 1) return TVK_BAD_LIMIT;
     NEEDS(rows);
+    if (limit < 1 || limit > TVK_MAX_ROWS - 1) return TVK_BAD_LIMIT;
     return tiuvrokk_scan_behind(store, tx, key, key_length, hi, hi_length, rows, limit, told);
 }
 
@@ -180,6 +177,7 @@ tvk_status tvk_lock(tvk_store *store, uint64_t tx, tvk_mode mode, const void *lo
 
 tvk_status tvk_merge(tvk_store *store, uint64_t limit, uint64_t *told) {
     BEGIN;
+    if (limit < 1 || limit > TVK_MAX_LIMIT) return TVK_BAD_LIMIT;
     return tiuvrokk_merge(store, limit, told);
 }
 
@@ -188,6 +186,7 @@ tvk_status tvk_clean(tvk_store *store, const void *lo, size_t lo_length, const v
     BEGIN;
     KEY(lo);
     KEY(hi);
+    if (limit < 1 || limit > TVK_MAX_LIMIT) return TVK_BAD_LIMIT;
     return tiuvrokk_clean(store, lo, lo_length, hi, hi_length, limit, told);
 }
 

@@ -45,6 +45,12 @@
  * said, which for rows, values and numbers told are the caller's to write; nothing that a call writes overlaps what else it
  * is passed.
  *
+ * ONE ORDER. Where several things are wrong, the first of these is told: TVK_NO_STORE; TVK_NULL, TVK_BAD_KEY and
+ * TVK_BAD_VALUE, in the order of the arguments; TVK_BAD_LIMIT; TVK_BAD_MODE; TVK_BAD_RANGE; of the records of a load
+ * TVK_BAD_KEY, TVK_BAD_VALUE, and TVK_NO_MEMORY for their copy; and then, by the store, TVK_NO_TX, TVK_TOO_MANY_TX,
+ * TVK_TOO_MANY_OPS, TVK_NOT_RISING, TVK_TOO_MANY_RUNS, TVK_BUSY, TVK_TOO_MANY_LOCKS, TVK_NO_MEMORY, and the answer itself. A
+ * lock stays where the answer is TVK_ABSENT or TVK_EXISTS.
+ *
  * NUMBERS TOLD. The last argument of most calls points to a number, or is NULL where it isn't wanted. It is set by every call
  * that was passed a handle: to what the call says, and where the status is TVK_BUSY or TVK_ENDED to the number of the
  * transaction that is in the way; to 0 where there is nothing to tell. */

@@ -347,12 +347,23 @@ static void test_bad_use(void) {
     EXPECT(TVK_BAD_RANGE, tvk_scan(&store, tx, "b", 1, "a", 1, rows, 1, &told));
     EXPECT(TVK_BAD_RANGE, tvk_lock(&store, tx, TVK_SHARED, "b", 1, "a", 1, &told));
     EXPECT(TVK_BAD_MODE, tvk_lock(&store, tx, (tvk_mode)2, "a", 1, "b", 1, &told));
-    EXPECT(TVK_NO_TX, tvk_scan(&store, tx, "a", 1, "b", 1, rows, 0, &told));
+    EXPECT(TVK_BAD_LIMIT, tvk_scan(&store, tx, "a", 1, "b", 1, rows, 0, &told));
     EXPECT(TVK_BAD_LIMIT, tvk_scan(&store, tx, "a", 1, "b", 1, rows, TVK_MAX_ROWS + 1, &told));
     EXPECT(TVK_BAD_LIMIT, tvk_scan_behind(&store, tx, "a", 1, "b", 1, rows, TVK_MAX_ROWS, &told));
     EXPECT(TVK_BAD_LIMIT, tvk_merge(&store, 0, &told));
     EXPECT(TVK_BAD_LIMIT, tvk_merge(&store, TVK_MAX_LIMIT + 1, &told));
     EXPECT(TVK_BAD_LIMIT, tvk_clean(&store, "a", 1, "b", 1, 0, &told));
+    /* One order, whatever else is wrong. */
+    EXPECT(TVK_NO_STORE, tvk_get(&closed, 0, NULL, 1, NULL, NULL));
+    EXPECT(TVK_NO_STORE, tvk_scan(&closed, 0, "b", 1, "a", 1, NULL, 0, NULL));
+    EXPECT(TVK_BAD_KEY, tvk_insert(&store, tx, keys, TVK_MAX_KEY + 1, NULL, 1, NULL));
+    EXPECT(TVK_NULL, tvk_scan(&store, tx, "b", 1, "a", 1, NULL, 0, &told));
+    EXPECT(TVK_BAD_LIMIT, tvk_scan(&store, tx, "b", 1, "a", 1, rows, 0, &told));
+    EXPECT(TVK_BAD_LIMIT, tvk_clean(&store, "b", 1, "a", 1, TVK_MAX_LIMIT + 1, &told));
+    EXPECT(TVK_BAD_MODE, tvk_lock(&store, tx, (tvk_mode)2, "b", 1, "a", 1, &told));
+    EXPECT(TVK_BAD_RANGE, tvk_scan(&store, tx, "b", 1, "a", 1, rows, TVK_MAX_ROWS, &told));
+    EXPECT(TVK_NO_TX, tvk_load(&store, tx, NULL, 0, NULL, NULL));
+    EXPECT(TVK_NO_TX, tvk_scan(&store, tx, "a", 1, "b", 1, rows, TVK_MAX_ROWS, &told));
     EXPECT(TVK_NO_TX, tvk_commit(&store, tx, &told));
     EXPECT(TVK_NO_TX, tvk_get(&store, 0, "a", 1, &value, NULL));
     memset(rows, 0, 2 * sizeof *rows);
@@ -427,6 +438,30 @@ static void test_end(void) {
     if (got || told != due) fail("another number of entries in the end");
 }
 
+/* A load of more records than a session could stage, in one call. */
+static void test_large_load(void) {
+    enum { MANY = 300000 };
+    tvk_store large = TVK_CLOSED;
+    tvk_value value;
+    uint64_t tx, told;
+    char text[16];
+    tvk_record *records = calloc(MANY, sizeof *records);
+    if (!records || tvk_open(&large) || tvk_begin(&large, &tx)) fail("no room for a large load");
+    for (int i = 0; i < MANY; i++) {
+        records[i].key.length = records[i].value.length = 8;
+        snprintf(text, sizeof text, "%08d", i);
+        memcpy(records[i].key.bytes, text, 8);
+        memcpy(records[i].value.bytes, text, 8);
+    }
+    if (tvk_load(&large, tx, records, MANY, NULL, &told)) fail("a load of 300,000 records");
+    for (int i = 0; i < MANY; i += 997)
+        if (tvk_get(&large, tx, records[i].key.bytes, 8, &value, NULL) || memcmp(value.bytes, records[i].value.bytes, 8))
+            fail("a record of a large load");
+    if (tvk_commit(&large, tx, NULL) || tvk_entries(&large, &told) || told != MANY) fail("the records of a large load");
+    if (tvk_close(&large)) fail("a large store is not closed");
+    free(records);
+}
+
 int main(int words, char **word) {
     long number = words > 1 ? atol(word[1]) : 1000;
     tvk_status got;
@@ -445,6 +480,7 @@ int main(int words, char **word) {
     if (tvk_close(&store) || store.at) fail("the store is not closed");
     if (tvk_close(&store) != TVK_NO_STORE) fail("a closed store is closed again");
     if (may_refuse) return 0;
+    test_large_load();
     printf("library: %ld calls, %llu commits, %llu loads;", number, (unsigned long long)commits, (unsigned long long)loads);
     for (int status = 0; status <= TVK_NULL; status++)
         if (answers[status]) printf(" %s %ld", tvk_name((tvk_status)status), answers[status]);

@@ -1,25 +1,20 @@
 -- What a call does to the store behind a handle, by the contract of the store's own `step`.
-use Rattle.std.specs.Prelude.{◌≡◌, ◌⊎◌, ℕ, [], ◌∷◌, true, Option, None, Some, Result, Ok, Err}
+use Rattle.std.specs.Prelude.{◌≡◌, ◌⊎◌, ℕ, [], ◌∷◌, Option, None, Some, Result, Ok, Err}
 use Rattle.am_record.specs.declared.step.Refusal.{Refusal}
-use Rattle.am_record.specs.declared.step.Refusal.TheVariants.{NoMemory as OutOfMemory}
 use Rattle.am_record.specs.declared.step.Step.{Step}
 use Rattle.am_record.specs.declared.step.Reply.{Reply}
 use Rattle.am_record.specs.declared.step.Reply.TheVariants.{Refused}
-use Rattle.am_sound.specs.StoreState.{StoreState, MayAnswer, state_after, empty_state}
-use Rattle.am_core.specs.Memory.{may_want_memory}
-use Rattle.am_core.specs.Standing.{IsSoundAt, Extends, IsWithin}
+use Rattle.am_sound.specs.StoreState.{StoreState, empty_state}
+use Rattle.am_core.specs.Standing.{IsSoundAt, Extends, IsOwed}
 use Rattle.am_c.specs.declared.status.Status.{Status}
 use Rattle.am_c.specs.declared.status.Status.TheVariants.{Fine, NoStore, IsOpen, NoMemory}
 use Rattle.am_c.specs.Statuses.{code, reply_status, number_of}
 
--- the store took the step, and replied: each clause is one of the store's
+-- the store took the step, and replied: by what the store owes for each step, so that nothing of that is lost here
 pub record Takes (old : StoreState) (step : Step) (reply : Reply) (new : StoreState) : Type 0 where
-  pub says : MayAnswer old step reply
-  pub after_it : new ≡ state_after old step reply
+  pub owed : IsOwed old step reply new
   pub goes : Extends old ((step, reply) ∷ []) new
   pub refused : (why : Refusal) → reply ≡ Refused why → new ≡ old
-  pub memory : reply ≡ Refused OutOfMemory → may_want_memory old step ≡ true
-  pub within : IsWithin step reply
 
 pub record RepliesToStep (old : StoreState) (step : Step) (answer : Result Reply Status)
     (held : Option StoreState) : Type 0 where

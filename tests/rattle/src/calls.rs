@@ -158,35 +158,3 @@ fn of_65_wishes_the_first_is_lost(rt: HostRuntime) -> Result<(), NoMemory> {
     assert_eq!(rt; store.entries(rt.alloc())?.as_slice(), [only].as_slice());
     Ok(())
 }
-
-// A run is made, taken back and cleaned away.
-fn run_in_vain<R: Abort>(
-    rt: &R,
-    alloc: Global,
-    store: &mut Store<BTree>,
-    tx: u64,
-) -> Result<(), NoMemory> {
-    let clean = Step::Clean(Range::point(Key::of_u64(7)), 1);
-    answers(rt, store, Step::Begin, Reply::Begun(tx));
-    answers(rt, store, load_one(alloc, tx, 7)?, Reply::Done);
-    answers(rt, store, Step::Abort(tx), Reply::Aborted);
-    answers(rt, store, clean, Reply::Cleaned(1));
-    Ok(())
-}
-
-#[test]
-fn sixty_five_thousand_runs(rt: HostRuntime) -> Result<(), NoMemory> {
-    let alloc = rt.alloc();
-    let mut store = open(alloc)?;
-    for tx in 1..=65535 {
-        run_in_vain(&rt, alloc, &mut store, tx)?;
-    }
-    assert!(rt; store.entries(alloc)?.is_empty());
-    answers(&rt, &mut store, Step::Begin, Reply::Begun(65536));
-    let refused = Reply::Refused(Refusal::TooManyRuns);
-    answers(&rt, &mut store, load_one(alloc, 65536, 7)?, refused);
-    let none = Op::Load(Pairs::new(Vec::new(alloc)));
-    let refused = Reply::Refused(Refusal::NotRising);
-    answers(&rt, &mut store, Step::Do(65536, none), refused);
-    Ok(())
-}

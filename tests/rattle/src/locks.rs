@@ -257,7 +257,7 @@ fn do_both(
     assert!(rt; table.exclusive_at(key) == plain.exclusive_at(key));
 }
 
-// Two thousand calls get what they get of a plain list of locks.
+// Fourteen hundred calls get what they get of a plain list of locks.
 #[test]
 fn table_beside_a_plain_list(rt: HostRuntime) {
     let mut table = table_of(&rt, rt.alloc(), 3);
@@ -266,7 +266,7 @@ fn table_beside_a_plain_list(rt: HostRuntime) {
     };
     let mut dice = Dice { state: 1 };
     let mut most = 0;
-    for _ in 0..2000 {
+    for _ in 0..1400 {
         do_both(&rt, rt.alloc(), &mut dice, &mut table, &mut plain);
         most = held(&rt, &table, 1).max(most);
     }

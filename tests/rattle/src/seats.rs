@@ -132,36 +132,3 @@ fn sixty_five_seats_of_one_latch(rt: HostRuntime) -> Result<(), Fail> {
     assert!(rt; replies[64] == Reply::Refused(Refusal::TooManyTx));
     Ok(())
 }
-
-// Where no room may be had for so many receipts, as in a seat that holds its most: the transaction that is open still
-// ends.
-fn filled<L: LatchName, R: Wait + Abort>(
-    rt: &R,
-    blank: Blank,
-) -> Result<(usize, Reply, Reply), Fail>
-{
-    let (latch, mut seats) = Latch::<L>::open(blank)?;
-    let mut seat = seats.pop().ok_or("no seat")?;
-    if seat.open_tx().is_none() {
-        seat.call(rt, &latch, Step::Begin);
-    }
-    let tx = seat.open_tx().ok_or("no transaction")?;
-    for _ in 0..999_999 {
-        seat.call(rt, &latch, Step::Merge(16));
-    }
-    let full = seat.call(rt, &latch, Step::Merge(16));
-    if seat.open_tx() != Some(tx) {
-        return Err("the transaction is gone")?;
-    }
-    let ended = seat.call(rt, &latch, Step::Commit(tx));
-    Ok((seat.receipts().len(), full, ended))
-}
-
-#[test]
-fn a_full_seat_still_commits(rt: HostRuntime) -> Result<(), Fail> {
-    let (receipts, full, ended) = filled::<Brand, HostRuntime>(&rt, Blank::new(rt.alloc(), 1)?)?;
-    assert!(rt; full == Reply::Refused(Refusal::SeatFull));
-    assert!(rt; ended == Reply::Committed(1));
-    assert_eq!(rt; receipts, 1_000_001);
-    Ok(())
-}

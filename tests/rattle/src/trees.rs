@@ -94,34 +94,34 @@ fn same_batch<A: PartIndex, B: PartIndex>(a: &A, b: &B, part: u32, key: Key) -> 
     batch.entries() == other.entries()
 }
 
-// The numbers up to 10,006, each once and out of order.
+// The numbers up to 1,008, each once and out of order.
 fn scattered(i: u64) -> u64
 {
-    (7919 * i) % 10_007
+    (7919 * i) % 1_009
 }
 
-// Gives both indexes the same inserts. Whether their walks are the same after each thousandth call,
+// Gives both indexes the same inserts. Whether their walks are the same after each hundredth call,
 // and after the last.
 fn insert_all<A: PartIndex, B: PartIndex>(a: &mut A, b: &mut B) -> Result<bool, NoMemory> {
-    for i in 0..10_007_u64 {
+    for i in 0..1_009_u64 {
         let number = scattered(i);
         add(a, numbered(0, number))?;
         add(b, numbered(0, number))?;
-        if (i + 1) % 1000 == 0 && !same_walks(a, b, 0, 10_008) {
+        if (i + 1) % 100 == 0 && !same_walks(a, b, 0, 1_010) {
             return Ok(false);
         }
     }
-    Ok(same_walks(a, b, 0, 10_008))
+    Ok(same_walks(a, b, 0, 1_010))
 }
 
 // The same with removals, which are to answer alike.
 fn remove_all<A: PartIndex, B: PartIndex>(a: &mut A, b: &mut B) -> bool {
-    for i in 0..10_007_u64 {
+    for i in 0..1_009_u64 {
         let key = Key::of_u64(scattered(i));
         if take(a, 0, key) != take(b, 0, key) {
             return false;
         }
-        if (10_008 + i) % 1000 == 0 && !same_walks(a, b, 0, 10_008) {
+        if (1_010 + i) % 100 == 0 && !same_walks(a, b, 0, 1_010) {
             return false;
         }
     }

@@ -202,6 +202,7 @@ fn a_limit_of_65(rt: HostRuntime) -> Result<(), Fail> {
 }
 
 // A worker that finds nothing to merge goes on, and ends where its seat is full.
+// (long)
 #[test]
 fn a_full_seat_ends_a_worker(rt: HostRuntime) -> Result<(), Fail> {
     let blank = Blank::new(rt.alloc(), 1)?;

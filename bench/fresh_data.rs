@@ -1,5 +1,5 @@
 //! Queries over fresh data, one way after another on the same records: Tiuvrokk, which is merged by the queries, an index
-//! that is complete before the first of them, and no index. Built and run by tests/fresh_data.
+//! that is complete before the first of them, and no index. Built and run by bench/fresh_data.
 //!
 //! It writes a file for each way, of lines "query, seconds of it, seconds from the data's coming to its answer", and to
 //! standard output what they come to.
