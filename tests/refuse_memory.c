@@ -12,7 +12,9 @@ extern void *__libc_calloc(size_t, size_t);
 extern void *__libc_realloc(void *, size_t);
 extern void __libc_free(void *);
 
-static unsigned long made, one, from;
+static unsigned long one, from;
+/* (a program may have threads) */
+static _Atomic unsigned long made;
 static _Atomic long held;
 
 __attribute__((constructor)) static void begin(void) {
@@ -41,8 +43,8 @@ void _exit(int status) {
 }
 
 static int refused(void) {
-    made++;
-    if (made == one || (from && made >= from)) {
+    unsigned long number = ++made;
+    if (number == one || (from && number >= from)) {
         errno = ENOMEM;
         return 1;
     }

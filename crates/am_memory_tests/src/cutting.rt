@@ -1,12 +1,10 @@
 //! Runs that are cut and loaded.
 
-ghost use Rattle.std.specs.Prelude.{◌≡◌, []};
 ghost use Rattle.am_list.specs.Runs.{NothingAbove};
 
 use crate::fault::{Fault, expect, expect_unchanged};
 use crate::holding::hold_just;
 use crate::numbers::{pairs_of, value};
-use am_btree::BTree;
 use am_list::PartIndex;
 use am_list_index::ListIndex;
 use am_parts::Parts;
@@ -149,20 +147,10 @@ fn load_from<I: PartIndex + Drop>(
     expect(hold_just(parts, entries))
 }
 
-// Loads two runs.
-fn loads<I: PartIndex + Drop>(alloc: Global, index: I) -> Result<(), Fault>
-    requires { I.entries index ≡ [] }
-{
-    let mut parts = Parts::new(alloc, index);
+/// Two runs of a list.
+pub(crate) fn loads_of_a_list(alloc: Global) -> Result<(), Fault> {
+    let mut parts = Parts::new(alloc, ListIndex::new(alloc));
     let mut entries = Vec::new(alloc);
     load_from(alloc, &mut parts, &mut entries, 1, 0)?;
     load_from(alloc, &mut parts, &mut entries, 2, 100)
-}
-
-pub(crate) fn loads_of_a_tree(alloc: Global) -> Result<(), Fault> {
-    loads(alloc, BTree::new(alloc)?)
-}
-
-pub(crate) fn loads_of_a_list(alloc: Global) -> Result<(), Fault> {
-    loads(alloc, ListIndex::new(alloc))
 }

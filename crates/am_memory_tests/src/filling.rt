@@ -2,7 +2,6 @@
 
 use crate::fault::{Fault, expect, expect_unchanged};
 use crate::numbers::entries_below;
-use am_btree::BTree;
 use am_list::PartIndex;
 use am_list_index::ListIndex;
 use am_record::{Entry, Key, NoMemory};
@@ -53,27 +52,8 @@ fn fill<I: PartIndex>(index: &mut I, entries: &[Entry]) -> Result<(), Fault> {
     expect(has_just(index, entries))
 }
 
-/// A full leaf, and one entry more.
-pub(crate) fn full_leaf(alloc: Global) -> Result<(), Fault> {
-    let entries = entries_below(alloc, 0, 33)?;
-    let Some((last, leaf)) = entries.split_last() else {
-        return Err(Fault::Differs);
-    };
-    let mut tree = BTree::new(alloc)?;
-    fill(&mut tree, leaf)?;
-    expect(leaf.len() == 32)?;
-    add(&mut tree, last, leaf)?;
-    expect(has_just(&tree, &entries))
-}
-
 /// Five entries of a list.
 pub(crate) fn list_of_five(alloc: Global) -> Result<(), Fault> {
     let entries = entries_below(alloc, 1, 5)?;
     fill(&mut ListIndex::new(alloc), &entries)
-}
-
-/// 2,000 entries of a tree.
-pub(crate) fn tree_of_two_thousand(alloc: Global) -> Result<(), Fault> {
-    let entries = entries_below(alloc, 1, 2000)?;
-    fill(&mut BTree::new(alloc)?, &entries)
 }

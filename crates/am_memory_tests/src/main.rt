@@ -1,35 +1,26 @@
-//! The program `am_memory_tests`: makes worked calls of the libraries, one after another, and prints a line for each. A
-//! call that is refused memory has to leave everything as it was, and is made again: so with any one allocation refused
-//! the program prints the same.
+//! The program `am_memory_tests`: makes worked calls of the libraries that neither a session nor C reaches, one after
+//! another, and prints a line for each. A call that is refused memory has to leave everything as it was, and is made
+//! again: so with any one allocation refused the program prints the same.
 #![tactic(auto)]
 
-mod acts;
 mod call;
 mod cutting;
 mod fault;
 mod filling;
 mod holding;
-mod locking;
 mod mapping;
-mod merging;
 mod numbers;
-mod reading;
-mod seating;
-mod sessions;
-mod stage;
-mod tracing;
-mod undoing;
+mod texts;
 
 use call::{CALLS, Call};
 use fault::Fault;
 use std::alloc::Global;
 use std::process::ExitCode;
-use std::sync::Wait;
 
 // Makes the call. Where memory is refused while it is prepared, it is prepared anew, once.
-fn attempt<R: Wait>(rt: &R, alloc: Global, call: Call) -> Result<(), Fault> {
-    match call.make(rt, alloc) {
-        Err(Fault::NoMemory) => call.make(rt, alloc),
+fn attempt(alloc: Global, call: Call) -> Result<(), Fault> {
+    match call.make(alloc) {
+        Err(Fault::NoMemory) => call.make(alloc),
         outcome => outcome,
     }
 }
@@ -46,7 +37,7 @@ fn word(outcome: Result<(), Fault>) -> &'static str {
 
 fn main(rt: HostRuntime) -> ExitCode {
     for call in CALLS {
-        let outcome = attempt(&rt, rt.alloc(), call);
+        let outcome = attempt(rt.alloc(), call);
         if println!(rt; "{} {}", call.name(), word(outcome)).is_err() {
             return ExitCode::from(1);
         }

@@ -1,17 +1,13 @@
 //! Records of numbers.
 
-use am_record::{Entry, Key, NoMemory, Pairs, Range, Value};
+use am_record::{Entry, Key, NoMemory, Range, Value};
 use std::alloc::Global;
 
-pub(crate) fn value_of(byte: u8) -> Value {
-    Value::new(&[byte]).unwrap()
-}
-
 pub(crate) fn value() -> Value {
-    value_of(b'a')
+    Value::new(b"a").unwrap()
 }
 
-pub(crate) fn live(part: u32, number: u64) -> Entry {
+fn live(part: u32, number: u64) -> Entry {
     Entry {
         part,
         key: Key::of_u64(number),
@@ -36,17 +32,6 @@ pub(crate) fn pairs_of(alloc: Global, from: u64, end: u64) -> Result<Vec<(Key, V
         pairs.push((Key::of_u64(number), value()))?;
     }
     Ok(pairs)
-}
-
-/// The pairs of the numbers below 300 that leave this rest when parted by three.
-pub(crate) fn every_third(alloc: Global, rest: u64) -> Result<Pairs, NoMemory> {
-    let mut pairs = Vec::new(alloc);
-    for number in 0..300 {
-        if number % 3 == rest {
-            pairs.push((Key::of_u64(number), value()))?;
-        }
-    }
-    Ok(Pairs::new(pairs))
 }
 
 /// The range of the numbers, where they stand in order.

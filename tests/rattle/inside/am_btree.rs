@@ -32,8 +32,7 @@ fn leaves(tree: &Subtree) -> usize {
 }
 
 // The numbers up to 10,006, each once and out of order.
-fn scattered(i: u64) -> u64
-{
+fn scattered(i: u64) -> u64 {
     (7919 * i) % 10_007
 }
 
@@ -158,8 +157,7 @@ fn a_tree_crosses_threads(rt: HostRuntime) -> Result<(), Fail> {
 }
 
 // Puts a record behind the others, if its key is above theirs.
-fn push(pairs: &mut Vec<(Key, Value)>, number: u64) -> Result<(), NoMemory>
-{
+fn push(pairs: &mut Vec<(Key, Value)>, number: u64) -> Result<(), NoMemory> {
     let Entry { key, value, .. } = numbered(1, number);
     if pairs.is_empty() || pairs[pairs.len() - 1].0 < key {
         pairs.push((key, value))?;
@@ -168,8 +166,7 @@ fn push(pairs: &mut Vec<(Key, Value)>, number: u64) -> Result<(), NoMemory>
 }
 
 // The records of the even numbers below twice the count.
-fn records(alloc: Global, count: u64) -> Result<Vec<(Key, Value)>, NoMemory>
-{
+fn records(alloc: Global, count: u64) -> Result<Vec<(Key, Value)>, NoMemory> {
     let mut pairs = Vec::new(alloc);
     for number in 0..count {
         push(&mut pairs, number.saturating_mul(2))?;
@@ -183,8 +180,7 @@ fn append(
     alloc: Global,
     part: u32,
     pairs: &[(Key, Value)],
-) -> Result<(), NoMemory>
-{
+) -> Result<(), NoMemory> {
     if tree.seek(part, Key::least(), Start::At).is_some() {
         return Ok(());
     }

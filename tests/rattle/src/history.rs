@@ -1,18 +1,20 @@
 //! A history of eight transactions. Each committed body is taken again alone on a plain map, and answers as it did.
 
 use crate::numbers::Numbers;
+use am_audit::check;
 use am_btree::BTree;
 use am_core::Store;
 use am_model::{Plain, alone};
 use am_record::{Key, NoMemory, Op, Range, Reply, Step};
 use std::alloc::Global;
+use std::test::Fail;
 
 /// How many transactions may be active at once.
 const BODIES: u64 = 8;
 
-/// Why a history ends early.
+// Why a history ends early.
 #[derive(Clone, Copy, Debug, PartialEq, Eq)]
-pub(crate) enum Fault {
+enum Fault {
     /// Memory was refused.
     NoMemory,
     /// The store doesn't answer as the committed bodies alone do.
@@ -25,7 +27,7 @@ impl From<NoMemory> for Fault {
     }
 }
 
-/// One transaction, and what it was answered.
+// One transaction, and what it was answered.
 #[derive(Drop)]
 struct Body {
     active: Option<u64>,
@@ -50,9 +52,9 @@ impl Body {
     }
 }
 
-/// The store, the plain map beside it, and all steps with their replies.
+// The store, the plain map beside it, and all steps with their replies.
 #[derive(Drop)]
-pub(crate) struct History {
+struct History {
     alloc: Global,
     store: Store<BTree>,
     plain: Plain,
@@ -61,7 +63,7 @@ pub(crate) struct History {
 }
 
 impl History {
-    pub(crate) fn open(alloc: Global) -> Result<History, Fault> {
+    fn open(alloc: Global) -> Result<History, Fault> {
         Ok(History {
             alloc,
             store: Store::open(alloc, BTree::new(alloc)?)?,
@@ -69,14 +71,6 @@ impl History {
             numbers: Numbers::new(),
             trace: Vec::new(alloc),
         })
-    }
-
-    pub(crate) fn trace(&self) -> &[(Step, Reply)] {
-        &self.trace
-    }
-
-    pub(crate) fn commits(&self) -> u64 {
-        self.store.commits()
     }
 
     // Takes a step, and stores it with its reply, a copy of which is answered.
@@ -158,8 +152,8 @@ impl History {
         }
     }
 
-    /// Takes so many steps, and aborts what is active then.
-    pub(crate) fn run(&mut self, steps: u64) -> Result<(), Fault> {
+    // Takes so many steps, and aborts what is active then.
+    fn run(&mut self, steps: u64) -> Result<(), Fault> {
         let mut bodies = eight_bodies(self.alloc)?;
         for _ in 0..steps {
             let who = self.numbers.below(BODIES) as usize;
@@ -175,8 +169,8 @@ impl History {
         Ok(())
     }
 
-    /// Whether the store holds the records of the plain map.
-    pub(crate) fn compare(&mut self) -> Result<(), Fault> {
+    // Whether the store holds the records of the plain map.
+    fn compare(&mut self) -> Result<(), Fault> {
         let all = Range::new(Key::least(), Key::of_u64(u64::MAX)).ok_or(Fault::Differs)?;
         let mut body = Body::new(self.alloc);
         self.begin(&mut body)?;
@@ -197,4 +191,17 @@ fn eight_bodies(alloc: Global) -> Result<Vec<Body>, Fault> {
         }
     }
     Ok(bodies)
+}
+
+// 2,000 steps, always the same. Each committed body is answered as alone, the store holds what these leave, and the trace
+// is legal.
+#[test]
+fn committed_bodies_are_answered_as_alone(rt: HostRuntime) -> Result<(), Fail> {
+    let mut history = History::open(rt.alloc()).expect(&rt, "memory");
+    assert!(rt; history.run(2000).is_ok());
+    assert!(rt; history.compare().is_ok());
+    let commits = history.store.commits();
+    assert!(rt; commits >= 100);
+    assert!(rt; check(rt.alloc(), &history.trace) == Ok(commits));
+    Ok(())
 }

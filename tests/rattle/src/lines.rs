@@ -31,8 +31,7 @@ fn talk<R: Wait>(
     sizes: &[usize],
     failing: Failing,
     auto: u64,
-) -> Result<(Vec<u8>, End), NoMemory>
-{
+) -> Result<(Vec<u8>, End), NoMemory> {
     let (read, write) = match failing {
         Failing::Nothing => (0, 0),
         Failing::Read(call) => (call, 0),
@@ -65,8 +64,7 @@ fn says<R: Wait + Abort>(
     input: &[u8],
     expected: &[u8],
     expected_end: End,
-) -> Result<(), NoMemory>
-{
+) -> Result<(), NoMemory> {
     for sizes in [[input.len()].as_slice(), [].as_slice()] {
         let (text, end) = talk(rt, alloc, input, sizes, Failing::Nothing, auto)?;
         assert_eq!(rt; text.as_slice(), expected);
@@ -102,8 +100,7 @@ impl Script {
     }
 
     // Whether a session says this up to the end of its input.
-    fn is_said<R: Wait + Abort>(&self, rt: &R, alloc: Global, auto: u64) -> Result<(), NoMemory>
-    {
+    fn is_said<R: Wait + Abort>(&self, rt: &R, alloc: Global, auto: u64) -> Result<(), NoMemory> {
         let (input, output) = (self.input.as_slice(), self.output.as_slice());
         says(rt, alloc, auto, input, output, End::EndOfInput)
     }

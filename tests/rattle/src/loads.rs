@@ -12,15 +12,13 @@ fn pair(number: u64, value: u8) -> (Key, Value) {
     (Key::of_u64(number), byte(value))
 }
 
-pub(crate) fn no_entries(alloc: Global) -> Parts<ListIndex>
-{
+pub(crate) fn no_entries(alloc: Global) -> Parts<ListIndex> {
     Parts::new(alloc, ListIndex::new(alloc))
 }
 
 // Adds the entry, unless it is one of a run that wasn't made, its place is taken or a live one's key is live elsewhere.
 #[tactic(auto, using(am_runs::proofs::Loaded::above_lemmas))]
-fn add(parts: &mut Parts<ListIndex>, entry: Entry) -> Result<(), NoMemory>
-{
+fn add(parts: &mut Parts<ListIndex>, entry: Entry) -> Result<(), NoMemory> {
     if entry.part > parts.runs() || parts.find(entry.part, entry.key).is_some() {
         return Ok(());
     }
@@ -167,8 +165,7 @@ fn stands(rt: &impl Abort, parts: &Parts<ListIndex>, part: u32, number: u64, val
 }
 
 // The run of the pairs is loaded, and answered so.
-fn loads(rt: &impl Abort, parts: &mut Parts<ListIndex>, run: &Run, reply: Reply)
-{
+fn loads(rt: &impl Abort, parts: &mut Parts<ListIndex>, run: &Run, reply: Reply) {
     assert!(rt; load(parts, run) == reply);
 }
 
@@ -197,8 +194,7 @@ pub(crate) fn loads_all(
     first: u64,
     last: u64,
     reply: Reply,
-)
-{
+) {
     let mut pairs = Vec::new(alloc);
     for number in first..=last {
         pairs.push(pair(number, b'p')).expect(rt, "memory");
@@ -208,8 +204,7 @@ pub(crate) fn loads_all(
 }
 
 // Seven runs, of which the second and the seventh have entries, as partition 0 has.
-fn of_seven_runs(rt: &impl Abort, alloc: Global) -> Parts<ListIndex>
-{
+fn of_seven_runs(rt: &impl Abort, alloc: Global) -> Parts<ListIndex> {
     let mut parts = no_entries(alloc);
     make_runs(&mut parts, 7);
     for entry in [
@@ -285,8 +280,7 @@ fn runs_are_limited(rt: HostRuntime) {
 
 // Counts runs with no entries until there are so many, or no more may be made.
 #[tactic(auto, using(am_runs::proofs::Loaded::above_lemmas))]
-fn make_runs(parts: &mut Parts<ListIndex>, count: u32)
-{
+fn make_runs(parts: &mut Parts<ListIndex>, count: u32) {
     while parts.runs() < count.min(MAX_RUNS) {
         parts.count_run();
     }

@@ -152,8 +152,7 @@ fn cleans(
     locks: &LockTable,
     limit: u64,
     cleaned: u64,
-)
-{
+) {
     let reply = clean_step(parts, locks, range(rt, 2, 9), limit);
     assert!(rt; reply == Reply::Cleaned(cleaned));
 }

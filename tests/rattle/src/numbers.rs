@@ -17,8 +17,7 @@ impl Numbers {
         Numbers { last: 1 }
     }
 
-    pub(crate) fn below(&mut self, bound: u64) -> u64
-    {
+    pub(crate) fn below(&mut self, bound: u64) -> u64 {
         self.last = self
             .last
             .wrapping_mul(6_364_136_223_846_793_005)

@@ -47,8 +47,7 @@ fn by_two_threads<L: LatchName + Send + Sync, R: Threads + Wait + Abort + Sync>(
     rt: &R,
     alloc: Global,
     blank: Blank,
-) -> Result<(), Fail>
-{
+) -> Result<(), Fail> {
     let (latch, mut seats) = Latch::<L>::open(blank)?;
     let second = seats.pop().ok_or("no seat")?;
     let first = seats.pop().ok_or("no seat")?;
@@ -82,8 +81,7 @@ fn two_seats_on_two_threads(rt: HostRuntime) -> Result<(), Fail> {
     by_two_threads::<Brand, HostRuntime>(&rt, rt.alloc(), Blank::new(rt.alloc(), 2)?)
 }
 
-fn without_one<L: LatchName, R: Abort>(rt: &R, blank: Blank) -> Result<(), Fail>
-{
+fn without_one<L: LatchName, R: Abort>(rt: &R, blank: Blank) -> Result<(), Fail> {
     let (latch, mut seats) = Latch::<L>::open(blank)?;
     let second = seats.pop().ok_or("no seat")?;
     let Err(missing) = close(latch, seats) else {
@@ -110,8 +108,7 @@ fn begun_by_all<L: LatchName, R: Wait + Abort>(
     rt: &R,
     alloc: Global,
     blank: Blank,
-) -> Result<Vec<Reply>, Fail>
-{
+) -> Result<Vec<Reply>, Fail> {
     let (latch, seats) = Latch::<L>::open(blank)?;
     let mut replies = Vec::new(alloc);
     for mut seat in seats {

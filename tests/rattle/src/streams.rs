@@ -18,8 +18,7 @@ pub fn lines_of<W: Wait + Abort, K: Sink, S: AnsweredSource<K>>(
     alloc: Global,
     source: &mut S,
     sink: &K,
-) -> Vec<u8>
-{
+) -> Vec<u8> {
     let mut input = Input::new(alloc).expect(rt, "memory");
     let mut line = LineBuffer::new(alloc).expect(rt, "memory");
     let mut seen = Vec::new(alloc);

@@ -95,8 +95,7 @@ fn same_batch<A: PartIndex, B: PartIndex>(a: &A, b: &B, part: u32, key: Key) -> 
 }
 
 // The numbers up to 1,008, each once and out of order.
-fn scattered(i: u64) -> u64
-{
+fn scattered(i: u64) -> u64 {
     (7919 * i) % 1_009
 }
 

@@ -13,8 +13,7 @@ fn insert<I: PartIndex + Drop>(
     log: &mut UndoLog,
     key: Key,
     new: u8,
-) -> Result<(), NoMemory>
-{
+) -> Result<(), NoMemory> {
     let value = byte(new);
     if parts.find(0, key).is_some() || parts.place_of(key).is_some() {
         return Ok(());
@@ -38,8 +37,7 @@ fn change<I: PartIndex + Drop>(
     key: Key,
     new: u8,
     is_ghost: bool,
-) -> Result<(), NoMemory>
-{
+) -> Result<(), NoMemory> {
     let new = byte(new);
     let Some(old) = parts.find(part, key) else {
         return Ok(());
@@ -97,8 +95,7 @@ fn run_made<I: PartIndex + Drop>(
     alloc: Global,
     parts: &Parts<I>,
     run: u32,
-) -> Result<UndoLog, NoMemory>
-{
+) -> Result<UndoLog, NoMemory> {
     let mut log = UndoLog::new(alloc);
     if parts.runs() < run {
         return Ok(log);

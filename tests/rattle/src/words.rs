@@ -48,8 +48,7 @@ fn draw_and_see<R: Clock>(
     words: &Words,
     word_seat: &mut WordSeat,
     signals: &Signals,
-) -> (Option<u64>, u64)
-{
+) -> (Option<u64>, u64) {
     let _ = comes(rt, &signals.is_held);
     let drawn = words.draw(word_seat);
     let seen = words.seen(word_seat);
@@ -71,8 +70,7 @@ fn beside_the_latch<L: LatchName + Send + Sync, R: Threads + Wait + Clock + Sync
     blank: Blank,
     words: &Words,
     word_seat: &mut WordSeat,
-) -> Result<(Option<u64>, u64, bool), Fail>
-{
+) -> Result<(Option<u64>, u64, bool), Fail> {
     let (latch, _seats) = Latch::<L>::open(blank)?;
     let signals = Signals {
         is_held: AtomicBool::new(false),
@@ -81,8 +79,7 @@ fn beside_the_latch<L: LatchName + Send + Sync, R: Threads + Wait + Clock + Sync
     let (went, (drawn, seen)) = thread::join(
         rt,
         || hold(rt, &latch, &signals),
-        ||
-        { draw_and_see(rt, words, word_seat, &signals) },
+        || { draw_and_see(rt, words, word_seat, &signals) },
     );
     Ok((drawn, seen, went))
 }
@@ -115,8 +112,7 @@ fn publishes_the_third<L: LatchName, R: Wait + Abort>(
     words: &Words,
     word_seat: &mut WordSeat,
     other: &mut WordSeat,
-) -> Result<(u64, u64, u64), Fail>
-{
+) -> Result<(u64, u64, u64), Fail> {
     let (latch, mut seats) = Latch::<L>::open(blank)?;
     let mut seat = seats.pop().ok_or("no seat")?;
     for _ in 0..3 {

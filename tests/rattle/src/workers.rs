@@ -53,8 +53,7 @@ impl<'a, C: Clock> Pacer for Meeting<'a, C> {
 fn by_two_workers<L: LatchName + Send + Sync, R: Threads + Wait + Clock + Abort + Sync>(
     rt: &R,
     blank: Blank,
-) -> Result<(), Fail>
-{
+) -> Result<(), Fail> {
     let (latch, seats) = Latch::<L>::open(blank)?;
     let meeting = Meeting {
         there: AtomicU64::new(0),
@@ -146,8 +145,7 @@ fn by_one_worker<L: LatchName + Send + Sync, R: Threads + Wait + Abort + Sync>(
     rt: &R,
     alloc: Global,
     blank: Blank,
-) -> Result<(), Fail>
-{
+) -> Result<(), Fail> {
     let (latch, mut seats) = Latch::<L>::open(blank)?;
     let worker = seats.pop().ok_or("no seat")?;
     let mut reader = seats.pop().ok_or("no seat")?;
@@ -176,8 +174,7 @@ fn answers_of_one_worker<L: LatchName + Send + Sync, R: Threads + Wait + Abort +
     blank: Blank,
     turns: u64,
     limit: u64,
-) -> Result<Vec<Reply>, Fail>
-{
+) -> Result<Vec<Reply>, Fail> {
     let (latch, seats) = Latch::<L>::open(blank)?;
     let mut worked = run_workers(rt, &latch, seats, turns, limit, &Always);
     assert_eq!(rt; worked.moved, 0);
@@ -222,8 +219,7 @@ fn a_full_seat_ends_a_worker(rt: HostRuntime) -> Result<(), Fail> {
 fn turns_of<L: LatchName + Send + Sync, R: Threads + Wait + Abort + Sync>(
     rt: &R,
     blank: Blank,
-) -> Result<u64, Fail>
-{
+) -> Result<u64, Fail> {
     let (latch, seats) = Latch::<L>::open(blank)?;
     let worked = run_workers(rt, &latch, seats, 2, 16, &Always);
     let mut turns = 0_u64;
@@ -247,8 +243,7 @@ fn behind_a_locked_record<L: LatchName + Send + Sync, R: Threads + Wait + Abort 
     rt: &R,
     alloc: Global,
     blank: Blank,
-) -> Result<u64, Fail>
-{
+) -> Result<u64, Fail> {
     let (latch, mut seats) = Latch::<L>::open(blank)?;
     let worker = seats.pop().ok_or("no seat")?;
     let mut reader = seats.pop().ok_or("no seat")?;

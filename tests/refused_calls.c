@@ -1,0 +1,301 @@
+/* Worked calls of the library for C, one after another, with a line for each. A call that is refused memory must have left
+ * everything as it was, and is made again: so with any one allocation refused the same lines are printed. */
+#include <stdio.h>
+#include <string.h>
+#include <tiuvrokk.h>
+
+enum { MOST = 2000 };
+
+static tvk_store store = TVK_CLOSED;
+static uint64_t tx;
+static tvk_record rows[TVK_MAX_ROWS];
+/* What has to stand, by number: the first byte of its value, or 0 where it is absent. */
+static char stands[MOST];
+static int differs;
+/* A look at the records leaves wishes to merge them; where that would tell on the test only their number is looked at. */
+static int is_counted;
+
+static size_t key_of(int number, char *text) { return (size_t)sprintf(text, "%04d", number); }
+
+static void want(int holds) { differs |= !holds; }
+
+/* Whether the store has just what has to stand, seen by a transaction that is open. A refused look is taken again. */
+static int is_as_it_was(void) {
+    char lo[8], hi[8];
+    if (is_counted) {
+        uint64_t entries, live = 0;
+        tvk_status got;
+        if ((got = tvk_entries(&store, &entries)) == TVK_NO_MEMORY) got = tvk_entries(&store, &entries);
+        for (int number = 0; number < MOST; number++) live += stands[number] != 0;
+        return got == TVK_OK && entries == live;
+    }
+    for (int from = 0; from < MOST; from += 500) {
+        uint64_t told;
+        size_t at = 0;
+        tvk_status got;
+        key_of(from, lo);
+        key_of(from + 499, hi);
+        if ((got = tvk_scan(&store, tx, lo, 4, hi, 4, rows, 1000, &told)) == TVK_NO_MEMORY)
+            got = tvk_scan(&store, tx, lo, 4, hi, 4, rows, 1000, &told);
+        if (got) return 0;
+        for (int number = from; number < from + 500; number++) {
+            char text[8];
+            if (!stands[number]) continue;
+            key_of(number, text);
+            if (at >= told || memcmp(rows[at].key.bytes, text, 4) || rows[at].value.bytes[0] != (uint8_t)stands[number]) return 0;
+            at++;
+        }
+        if (at != told) return 0;
+    }
+    return 1;
+}
+
+/* A call that may want memory, made again where it is refused. */
+#define AGAIN(call) ((got = (call)) == TVK_NO_MEMORY ? (want(is_as_it_was()), got = (call)) : got)
+
+static void begin(void) { want(tvk_begin(&store, &tx) == TVK_OK); }
+static void commit(void) { want(tvk_commit(&store, tx, NULL) == TVK_OK); }
+
+static void open_anew(void) {
+    tvk_status got;
+    memset(stands, 0, sizeof stands);
+    if ((got = tvk_open(&store)) == TVK_NO_MEMORY) got = tvk_open(&store);
+    want(got == TVK_OK);
+    begin();
+}
+
+static void close_and_tell(const char *name) {
+    want(tvk_close(&store) == TVK_OK);
+    printf("%s %s\n", name, differs ? "differs" : "ok");
+    differs = 0;
+}
+
+static void insert(int number, char byte) {
+    char key[8];
+    tvk_status got;
+    size_t length = key_of(number, key);
+    want(AGAIN(tvk_insert(&store, tx, key, length, &byte, 1, NULL)) == TVK_OK);
+    stands[number] = byte;
+}
+
+static void replace(int number, char byte) {
+    char key[8];
+    tvk_status got;
+    size_t length = key_of(number, key);
+    want(AGAIN(tvk_replace(&store, tx, key, length, &byte, 1, NULL)) == TVK_OK);
+    stands[number] = byte;
+}
+
+static void delete(int number) {
+    char key[8];
+    tvk_status got;
+    size_t length = key_of(number, key);
+    want(AGAIN(tvk_delete(&store, tx, key, length, NULL)) == TVK_OK);
+    stands[number] = 0;
+}
+
+static void mark(void) {
+    tvk_status got;
+    want(AGAIN(tvk_mark(&store, tx)) == TVK_OK);
+}
+
+/* Loads the numbers from one to another, the second not included, in steps. */
+static void load(int from, int to, int step, char byte) {
+    static tvk_record records[MOST];
+    tvk_status got;
+    size_t count = 0;
+    for (int number = from; number < to; number += step, count++) {
+        char key[8];
+        memset(&records[count], 0, sizeof *records);
+        records[count].key.length = key_of(number, key);
+        memcpy(records[count].key.bytes, key, 4);
+        records[count].value.length = 1;
+        records[count].value.bytes[0] = (uint8_t)byte;
+    }
+    want(AGAIN(tvk_load(&store, tx, records, count, NULL, NULL)) == TVK_OK);
+    for (int number = from; number < to; number += step) stands[number] = byte;
+}
+
+static void lock_all(void) {
+    tvk_status got;
+    want(AGAIN(tvk_lock(&store, tx, TVK_EXCLUSIVE, "0", 1, "9", 1, NULL)) == TVK_OK);
+}
+
+/* Merges until the oldest range is done, and tells how many records moved. Where a step is cut short it goes on. */
+static uint64_t merge(uint64_t limit, tvk_status end) {
+    uint64_t all = 0, told;
+    for (int steps = 0; steps < 1000; steps++) {
+        tvk_status got = tvk_merge(&store, limit, &told);
+        if (got == TVK_OK) all += told;
+        want(is_as_it_was());
+        if (got != TVK_OK && got != TVK_NO_MEMORY) {
+            want(got == end);
+            return all;
+        }
+    }
+    differs = 1;
+    return all;
+}
+
+/* A leaf is full with 32 entries, and one entry more splits it; 2,000 split nodes above it too. */
+static void tree_of(int many, const char *name) {
+    open_anew();
+    lock_all();
+    for (int i = 0; i < many; i++) insert(i * 7 % many, 'a');
+    want(is_as_it_was());
+    close_and_tell(name);
+}
+
+static void two_loads(void) {
+    open_anew();
+    load(0, 80, 1, 'a');
+    load(100, 180, 1, 'b');
+    want(is_as_it_was());
+    close_and_tell("loads_of_a_tree");
+}
+
+/* Scans of keys that stand in three runs in turn, and in one. */
+static void scans(void) {
+    open_anew();
+    for (int rest = 0; rest < 3; rest++) load(rest, 30, 3, 'a');
+    load(500, 530, 1, 'a');
+    want(is_as_it_was());
+    close_and_tell("scans");
+}
+
+static void twelve_locks(void) {
+    open_anew();
+    for (int number = 0; number < 12; number++) {
+        char key[8];
+        tvk_status got;
+        key_of(2 * number, key);
+        want(AGAIN(tvk_lock(&store, tx, TVK_SHARED, key, 4, key, 4, NULL)) == TVK_OK);
+    }
+    uint64_t other, holder;
+    want(tvk_begin(&store, &other) == TVK_OK);
+    for (int number = 0; number < 12; number++) {
+        char key[8];
+        key_of(2 * number, key);
+        want(tvk_insert(&store, other, key, 4, "x", 1, &holder) == TVK_BUSY && holder == tx);
+    }
+    want(tvk_abort(&store, other) == TVK_OK);
+    close_and_tell("twelve_locks");
+}
+
+/* Six changes of one record, each behind a savepoint, are taken back one by one, and by an abort. */
+static void six_notes(void) {
+    for (int is_abort = 0; is_abort < 2; is_abort++) {
+        open_anew();
+        insert(5, 'a');
+        commit();
+        begin();
+        for (int change = 0; change < 6; change++) {
+            mark();
+            if (change % 2) delete(5);
+            else if (change) insert(5, (char)('b' + change));
+            else replace(5, 'b');
+        }
+        if (is_abort) {
+            want(tvk_abort(&store, tx) == TVK_OK);
+            begin();
+            stands[5] = 'a';
+        } else {
+            for (int change = 5; change >= 0; change--) {
+                want(tvk_back(&store, tx) == TVK_OK);
+                stands[5] = change == 0 ? 'a' : change == 1 ? 'b' : (char)(change % 2 ? 'b' + change - 1 : 0);
+                want(is_as_it_was());
+            }
+            want(tvk_back(&store, tx) == TVK_NO_MARK);
+        }
+        want(is_as_it_was());
+        close_and_tell(is_abort ? "six_notes_aborted" : "six_notes_back");
+    }
+}
+
+/* The first read's range is merged alone: what is_as_it_was reads is asked for later. */
+static void wish_for(int lo, int hi) {
+    char from[8], to[8];
+    tvk_status got;
+    uint64_t told;
+    key_of(lo, from);
+    key_of(hi, to);
+    want(AGAIN(tvk_scan(&store, tx, from, 4, to, 4, rows, 1000, &told)) == TVK_OK);
+}
+
+static void merges(void) {
+    open_anew();
+    is_counted = 1;
+    load(0, 40, 1, 'a');
+    wish_for(0, 39);
+    is_counted = 0;
+    want(merge(16, TVK_DONE) == 40);
+    close_and_tell("merge_of_forty");
+
+    open_anew();
+    is_counted = 1;
+    for (int rest = 0; rest < 3; rest++) load(rest, 300, 3, 'a');
+    wish_for(20, 39);
+    is_counted = 0;
+    want(merge(64, TVK_DONE) == 20);
+    close_and_tell("merge_cuts_by_limit_and_run");
+}
+
+/* A merge ends at a key that is locked exclusively; the delete that locked it is taken back. */
+static void merge_ends(void) {
+    uint64_t told;
+    open_anew();
+    is_counted = 1;
+    load(2, 7, 2, 'a');
+    commit();
+    begin();
+    wish_for(1, 9);
+    is_counted = 0;
+    delete(4);
+    want(merge(16, TVK_ENDED) == 1);
+    want(tvk_abort(&store, tx) == TVK_OK);
+    stands[4] = 'a';
+    begin();
+    want(is_as_it_was());
+    want(tvk_entries(&store, &told) != TVK_OK || told == 3);
+    close_and_tell("merge_ends_at_a_locked_key");
+}
+
+/* A record of a run that is deleted and made anew in the final partition stands again in its run. */
+static void abort_restores(void) {
+    uint64_t told;
+    open_anew();
+    load(1, 2, 1, 'p');
+    load(5, 6, 1, 'q');
+    commit();
+    begin();
+    mark();
+    delete(5);
+    want(tvk_back(&store, tx) == TVK_OK);
+    stands[5] = 'q';
+    want(is_as_it_was());
+    delete(5);
+    insert(5, 'r');
+    want(is_as_it_was());
+    want(tvk_abort(&store, tx) == TVK_OK);
+    stands[5] = 'q';
+    begin();
+    want(is_as_it_was());
+    want(tvk_abort(&store, tx) == TVK_OK);
+    want(tvk_clean(&store, "0", 1, "9", 1, 64, &told) == TVK_OK && told == 1);
+    close_and_tell("abort_restores_across_partitions");
+}
+
+int main(void) {
+    static char buffer[4096];
+    setvbuf(stdout, buffer, _IOFBF, sizeof buffer);
+    tree_of(33, "full_leaf_and_one_more");
+    tree_of(MOST, "tree_of_two_thousand");
+    two_loads();
+    scans();
+    twelve_locks();
+    six_notes();
+    merges();
+    merge_ends();
+    abort_restores();
+    return 0;
+}

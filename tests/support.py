@@ -1,0 +1,97 @@
+"""What tests of the programs have in common: the programs, sessions with a server, and lines that look drawn."""
+
+import os
+import random
+import socket
+import subprocess
+import sys
+from typing import Any, List, NoReturn, Optional, Sequence
+
+TOP = os.path.dirname(os.path.dirname(os.path.abspath(__file__)))
+AMSERVE = os.path.join(TOP, "amserve")
+AMAUDIT = os.path.join(TOP, "amaudit")
+AMLOAD = os.path.join(TOP, "amload")
+# How many seconds a program may take.
+LIMIT = 120
+
+
+def fail(text: str) -> NoReturn:
+    """Ends the test, which is told by the name of its file."""
+    print(f"{os.path.basename(sys.argv[0])}: {text}")
+    sys.exit(1)
+
+
+def wanted(what: str, found: Any, right: Any) -> None:
+    """Fails unless what was found is right."""
+    if found != right:
+        fail(f"{what}: {str(found)[:300]!r} and not {str(right)[:300]!r}")
+
+
+def built(crate: str) -> str:
+    """Where a program lies, which is built first where it has to be."""
+    return subprocess.run([f"{TOP}/tools/built", crate], capture_output=True, text=True, check=True).stdout.strip()
+
+
+def audit(trace: str) -> str:
+    """What the auditor says of a stored run."""
+    return subprocess.run([AMAUDIT, trace], capture_output=True, text=True, timeout=LIMIT, check=False).stdout.strip()
+
+
+class Server:
+    """`amserve listen` at a free port."""
+
+    def __init__(self, *words: str, trace: Optional[str] = None, program: Sequence[str] = (AMSERVE,), **how: Any) -> None:
+        given = [*program, "listen", "--port", "0", *words] + (["--trace", trace] if trace else [])
+        how = {"stdin": subprocess.PIPE, "stdout": subprocess.PIPE, "stderr": subprocess.PIPE, "text": True, **how}
+        self.process = subprocess.Popen(given, **how)
+        line = self.process.stdout.readline().split() if self.process.stdout else []
+        if len(line) != 2 or line[0] != "LISTEN":
+            fail(f"first line: {line}, {self.process.stderr.read() if self.process.stderr else ''}")
+        self.port = int(line[1])
+
+    def closed(self) -> List[int]:
+        """Waits for the end: the stored entries and the commits that it tells."""
+        out, said = self.process.communicate(timeout=LIMIT)
+        words = out.split()
+        if self.process.returncode or len(words) != 3 or words[0] != "CLOSED" or said:
+            fail(f"status {self.process.returncode}, {out!r}, {said!r}")
+        return [int(it) for it in words[1:]]
+
+
+class Client:
+    """A session, line by line."""
+
+    def __init__(self, port: int) -> None:
+        self.socket = socket.create_connection(("127.0.0.1", port), timeout=LIMIT)
+        self.socket.setsockopt(socket.IPPROTO_TCP, socket.TCP_NODELAY, 1)
+        self.answers = self.socket.makefile("r")
+
+    def ask(self, line: str) -> str:
+        """The answer to a line."""
+        self.socket.sendall(f"{line}\n".encode())
+        return self.answers.readline().rstrip("\n")
+
+
+KINDS = ["GET", "SCAN", "INS", "REP", "DEL", "LOAD", "COMMIT", "ABORT", "MARK", "BACK", "CLEAN", "MERGE", "SEEN", "odd"]
+
+
+def random_line(dice: random.Random, begun: bool) -> str:
+    """A line that looks drawn: BEGIN mostly, where no transaction is active."""
+    key = "".join(dice.choices("abc", k=dice.randint(1, 3)))
+    if not begun:
+        return dice.choice(["BEGIN"] * 12 + ["MERGE 7", "CLEAN a c 9", "SEEN"])
+    kind = dice.choices(KINDS, [20, 6, 16, 10, 10, 4, 14, 3, 3, 3, 1, 2, 2, 1])[0]
+    if kind in ("GET", "DEL"):
+        return f"{kind} {key}"
+    if kind in ("INS", "REP"):
+        return f"{kind} {key} {dice.randint(0, 999)}"
+    if kind == "SCAN":
+        return f"SCAN a {key} {dice.randint(1, 20)}" if key >= "a" else "SCAN a c 5"
+    if kind == "LOAD":
+        keys = sorted({"".join(dice.choices("abcdef", k=dice.randint(1, 4))) for _ in range(dice.randint(1, 5))})
+        return "LOAD " + " ".join(f"{k}={dice.randint(0, 9)}" for k in keys)
+    if kind == "MERGE":
+        return f"MERGE {dice.randint(1, 64)}"
+    if kind == "CLEAN":
+        return "CLEAN a cc 5"
+    return "GET" if kind == "odd" else kind
