@@ -113,6 +113,7 @@ fn ghosts_move_with_their_slots(rt: HostRuntime) -> Result<(), Fail> {
     assert!(rt; holds(&leaf, 1, 31) && none.len() == 0);
     let mut back = split(rt.alloc(), &mut leaf, 16)?;
     assert!(rt; holds(&leaf, 1, 16) && holds(&back, 17, 15));
+    assert!(rt; ghost_from(&leaf, 16).is_none());
     let all = split(rt.alloc(), &mut back, 0)?;
     assert!(rt; back.len() == 0 && holds(&all, 17, 15));
     Ok(())
