@@ -1,5 +1,5 @@
 -- A list with a new value, cut in two.
-use Rattle.std.proofs.Common.{◌≡◌, ℕ, zero, suc, ◌+◌, ◌-◌, ◌<◌, ◌≤◌, List, [], ◌∷◌, length, Bool, true, false, if◌then◌else◌, ltb, take, drop, refl, ap, ◌∙◌, arith}
+use Rattle.std.proofs.Common.{◌≡◌, ℕ, zero, suc, ◌+◌, ◌-◌, ◌<◌, ◌≤◌, List, [], ◌∷◌, length, Bool, true, false, if◌then◌else◌, ltb, take, drop, refl, sym, ap, ◌∙◌, subst, arith}
 use Rattle.std.proofs.lemmas.Bool.{lt-ltb, le-ltb, ltb-true}
 use Rattle.std.specs.List.{insert}
 use Rattle.am_btree.specs.Splits.{lower_size}
@@ -55,3 +55,15 @@ size_by false keep at e k f = k
 
 pub size_range : (keep at : ℕ) → (0 < keep) × (keep ≤ 32) → (at < keep → keep < 32) → (0 < lower_size keep at) × (lower_size keep at ≤ 32)
 size_range keep at k f = size_by (ltb at keep) keep at refl k f
+
+half_by : (less : Bool) (keep : ℕ) → 16 ≤ keep → 16 ≤ (if less then keep + 1 else keep)
+half_by true keep h = omega (arith, h)
+half_by false keep h = h
+
+kept_half : (all : Bool) → 16 ≤ (if all then 32 else 16)
+kept_half true = omega arith
+kept_half false = omega arith
+
+-- half of a full node stays below at least, wherever a new one comes
+pub half_stays : (all : Bool) (keep at : ℕ) → keep ≡ (if all then 32 else 16) → 16 ≤ lower_size keep at
+half_stays all keep at is = half_by (ltb at keep) keep (subst (λ k. 16 ≤ k) (sym is) (kept_half all))

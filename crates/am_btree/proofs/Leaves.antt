@@ -1,7 +1,7 @@
 -- The lists that leaves hold.
 use Rattle.std.proofs.Common.{◌≡◌, ℕ, zero, suc, ◌+◌, ◌-◌, ◌<◌, ◌≤◌, Bool, List, [], ◌∷◌, length, get_or, set, take, drop, refl, sym, ap, ◌∙◌, subst, arith}
-use Rattle.std.proofs.lemmas.List.{take-append-drop, take-take, drop-drop, drop-take, length-take-le, length-drop}
-use Rattle.std.specs.List.{remove, AllByRecursion}
+use Rattle.std.proofs.lemmas.List.{take-take, drop-drop, drop-take, length-take-le, length-drop}
+use Rattle.std.specs.List.{AllByRecursion}
 use Rattle.std.specs.declared.cmp.Ordering.TheVariants.{Less, Greater}
 use Rattle.am_record.specs.OrderedKey.{OrderedKey}
 use Rattle.am_record.specs.declared.entry.Entry.{Entry}
@@ -9,10 +9,8 @@ use Rattle.am_record.specs.EntryOrder.{Place, place_of, place_cmp}
 use Rattle.am_record.proofs.Lists.{AllByRecursion-take, AllByRecursion-drop}
 use Rattle.am_list.specs.Entries.{set_entry, IsRising}
 use Rattle.am_list.specs.Places.{AllBelow, AllAbove, IsPlaceOf, IsGapFor}
-use Rattle.am_list.proofs.Lists.{rising_front, rising_back}
 use Rattle.am_list.proofs.Searches.{set_found}
 use Rattle.am_leaf.specs.Changes.{set_at}
-use Rattle.am_btree.proofs.Editing.{all_removed}
 
 -- the entry at an index
 pub item : (es : List Entry) (i : ℕ) → i < length es → (e : Entry) × (e ≡ get_or es i e)

@@ -62,6 +62,11 @@ pub some_entries : (ks : List Shape) → 0 < length ks → AllByRecursion (λ k.
 some_entries [] lt a = absurd (omega arith)
 some_entries (k ∷ ks) lt a = omega (arith, a.0, length-append k.entries (all_entries ks))
 
+-- children that aren't empty have as many entries at least
+pub many_entries : (ks : List Shape) → AllByRecursion (λ k. 0 < length k.entries) ks → length ks ≤ length (all_entries ks)
+many_entries [] a = omega arith
+many_entries (k ∷ ks) a = omega (arith, a.0, many_entries ks a.1, length-append k.entries (all_entries ks))
+
 -- between two separators stands an entry
 pub separators_apart : (l m : Place) (es : List Entry) → 0 < length es → NoneBelow l es → AllBelow m es → place_cmp l m ≡ Less
 separators_apart l m [] lt n b = absurd (omega arith)

@@ -13,8 +13,7 @@ use Rattle.am_record.specs.declared.entry.Entry.{Entry}
 use Rattle.am_record.specs.EntryOrder.{Place, place_of, place_cmp, place_cmp-part}
 use Rattle.am_record.proofs.Lists.{AllByRecursion-map, AllByRecursion-append, AllByRecursion-at, AllByRecursion-drop}
 use Rattle.am_record.proofs.PlaceOrder.{turned_greater}
-use Rattle.am_list.specs.Entries.{all_after}
-use Rattle.am_list.specs.Places.{AllBelow, NoneBelow, AllAbove, NoneAbove}
+use Rattle.am_list.specs.Places.{AllBelow, NoneBelow, AllAbove}
 use Rattle.am_list.proofs.Batches.{take_both, all_reached-append, all_reached_none, all_reached_others}
 use Rattle.am_list.specs.Content.{rows_in}
 use Rattle.am_list.proofs.Rows.{rows_in-append, rows_below, rows_above}

@@ -1,5 +1,5 @@
 -- What an insert below a node leaves.
-use Rattle.std.specs.Prelude.{◌≡◌, ℕ, ◌<◌, List, ◌++◌, length, Option, Some, None, IfSome, vec_len}
+use Rattle.std.specs.Prelude.{◌≡◌, ℕ, ◌<◌, ◌≤◌, List, ◌++◌, length, Option, Some, None, IfSome, vec_len}
 use Rattle.am_record.specs.declared.entry.Entry.{Entry}
 use Rattle.am_list.specs.Entries.{insert_entry}
 use Rattle.am_list.specs.Places.{AllBelow, NoneBelow}
@@ -7,7 +7,8 @@ use Rattle.am_btree.specs.declared.insert.Split.{Split}
 use Rattle.am_btree.specs.Separators.{separator_place}
 use Rattle.am_btree.specs.Shape.{Shape}
 
--- the node and its new right sibling have the entries between them, parted by the sibling's separator; neither is empty
+-- the node and its new right sibling have the entries between them, parted by the sibling's separator; the sibling isn't empty,
+-- and the node keeps half of a full one at least
 pub record HasSplit (level : ℕ) (all : List Entry) (new : Shape) (s : Split) : Type 0 where
   pub depth : new.depth ≡ level
   pub right_depth : s.right.depth ≡ level
@@ -15,6 +16,7 @@ pub record HasSplit (level : ℕ) (all : List Entry) (new : Shape) (s : Split) :
   pub below : AllBelow (separator_place s.separator) new.entries
   pub others : NoneBelow (separator_place s.separator) s.right.entries
   pub left_some : 0 < length new.entries
+  pub left_half : 16 ≤ length new.entries
   pub right_some : 0 < length s.right.entries
 
 -- the node of that depth has the entries now, alone or with a new right sibling

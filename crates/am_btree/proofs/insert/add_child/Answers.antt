@@ -1,4 +1,4 @@
-use Rattle.std.proofs.Common.{◌≡◌, ◌<◌, length, ◌++◌, get_or, take, drop, sym, ap, ◌∙◌, subst, length-drop, length-take, arith}
+use Rattle.std.proofs.Common.{◌≡◌, ◌<◌, ◌≤◌, length, ◌++◌, get_or, take, drop, sym, ap, ◌∙◌, subst, length-drop, length-take, arith}
 use Rattle.std.proofs.lemmas.List.Edits.{length-insert}
 use Rattle.std.specs.List.{insert}
 use Rattle.am_btree.specs.declared.separator.Separator.{Separator}
@@ -6,8 +6,8 @@ use Rattle.am_btree.specs.Separators.{separator_place}
 use Rattle.am_list.specs.Places.{AllBelow, NoneBelow}
 use Rattle.am_btree.specs.Splits.{lower_size}
 use Rattle.am_btree.specs.Nodes.{all_entries, depth_of}
-use Rattle.am_btree.proofs.Halving.{size_range}
-use Rattle.am_btree.proofs.Parting.{inner_from, depth_level, all_entries_cut, children_taken, children_dropped, parted_cut, parted_lengths, some_entries, get_dropped}
+use Rattle.am_btree.proofs.Halving.{half_stays, size_range}
+use Rattle.am_btree.proofs.Parting.{inner_from, depth_level, all_entries_cut, children_taken, children_dropped, parted_cut, parted_lengths, some_entries, many_entries, get_dropped}
 use Rattle.am_btree.proofs.insert.add_child.Goals as goal
 
 pub returns-then-len-lt-ROOM-clause-inner : goal.returns-then-len-lt-ROOM-clause-inner
@@ -66,5 +66,7 @@ returns-clause-holds c =
       below = subst (λ js. AllBelow (separator_place first) (all_entries js)) (sym front) (subst (λ (l : Separator). AllBelow (separator_place l) (all_entries (take m ks))) (sym low) apart.0);
       others = subst (λ js. NoneBelow (separator_place first) (all_entries js)) (sym back) (subst (λ (l : Separator). NoneBelow (separator_place l) (all_entries (drop m ks))) (sym low) apart.1);
       left_some = subst (λ js. 0 < length (all_entries js)) (sym front) (some_entries (take m ks) (omega arith) lower.filled);
+      left_half = subst (λ js. 16 ≤ length (all_entries js)) (sym front)
+          (omega (arith, many_entries (take m ks) lower.filled, half_stays _ c.keep_of-keep.result i c.keep_of-keep.ensures.size, cut, full));
       right_some = subst (λ js. 0 < length (all_entries js)) (sym back) (some_entries (drop m ks) (omega arith) upper.filled);
     }

@@ -7,7 +7,7 @@ use Rattle.std.specs.List.{insert}
 use Rattle.std.proofs.lemmas.List.Edits.{length-insert}
 use Rattle.am_btree.specs.Separators.{separator_place}
 use Rattle.am_btree.specs.Splits.{lower_size}
-use Rattle.am_btree.proofs.Halving.{size_range}
+use Rattle.am_btree.proofs.Halving.{half_stays, size_range}
 use Rattle.am_btree.proofs.LeafSplit.{joined, rising_both, rising_upper, upper_long, parted_at}
 use Rattle.am_btree.proofs.insert.insert_in_leaf.Goals as goal
 
@@ -53,6 +53,7 @@ returns-clause-ok c =
         below = parted.0;
         others = parted.1;
         left_some = omega (arith, ap length out.front);
+        left_half = omega (arith, half_stays _ c.keep_of.result i c.keep_of.ensures.size, ap length out.front, c.len-len.ensures.all, c.if-len-lt-ROOM.false);
         right_some = some;
       },
       c.in_ok-spares.ensures,

@@ -1,6 +1,5 @@
-use mathlib.Core.Bool.{not}
 use Rattle.std.specs.List.{remove}
-use Rattle.std.proofs.Common.{◌≡◌, ◌<◌, true, false, [], length, set, MatchBool, sym, ap, ◌∙◌, subst, rules, arith}
+use Rattle.std.proofs.Common.{◌≡◌, ◌<◌, [], length, set, MatchBool, sym, ap, ◌∙◌, subst, rules, arith}
 use Rattle.am_list.specs.Entries.{find, entry_at, remove_entry}
 use Rattle.am_btree.specs.Separators.{SeparatorsRise, IsChildFor}
 use Rattle.am_btree.specs.Shape.{Shape}

@@ -1,5 +1,4 @@
 use Rattle.std.proofs.Common.{◌≡◌, ◌<◌, ◌+◌, ◌-◌, ℕ, suc, false, List, ◌++◌, length, get_or, take, sym, ap, ◌∙◌, subst, add-one, arith}
-use Rattle.std.specs.Prelude.{is_err}
 use Rattle.std.proofs.lemmas.List.{get_or_default}
 use Rattle.am_record.specs.declared.entry.Entry.{Entry}
 use Rattle.am_record.proofs.Outcomes.{on_ok}
