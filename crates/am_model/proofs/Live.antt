@@ -1,7 +1,7 @@
 -- The records among slots.
-use Rattle.std.proofs.Common.{◌≡◌, ℕ, Bool, true, false, cond, List, [], ◌∷◌, Option, Some, None, filter, refl, sym, ap, ◌∙◌, subst}
+use Rattle.std.proofs.Common.{◌≡◌, ◌≢◌, IsSome, ℕ, Bool, true, false, cond, List, [], ◌∷◌, Option, Some, None, filter, refl, sym, ap, ◌∙◌, subst}
 use Rattle.std.specs.Option.{option_flatten}
-use Rattle.std.proofs.lemmas.Bool.{and_from, and_parts}
+use Rattle.std.proofs.lemmas.Bool.{and_from, and_parts, false≢true}
 use Rattle.std.specs.Ordering.{is_lt, is_eq, eq_by_cmp}
 use Rattle.std.specs.FinMap.{find, get, insert, remove, entries, entries_sorted, get-entries, get-empty, get-from_entries, get-insert, get-remove, same_map, is_sorted}
 use Rattle.std.specs.FinMap as map
@@ -10,7 +10,7 @@ use Rattle.am_record.specs.OrderedKey.{OrderedKey, key_cmp, key_cmp-total, key_c
 use Rattle.am_record.specs.Plain.{Records, PlainMap}
 use Rattle.am_record.proofs.Outcomes.{is_true}
 use Rattle.am_record.proofs.Orderings.{lt_not_eq}
-use Rattle.am_model.specs.Slots.{Cell, Cells, live, records_of_cells, record_before, with_cell}
+use Rattle.am_model.specs.Slots.{Cell, Cells, live, records_of_cells, record_before, with_cell, IsNoPlace}
 use Rattle.am_model.proofs.Sorted.{entries_stay}
 
 abbrev Entries : Type 0
@@ -130,6 +130,21 @@ put_again m k o = same_map key_cmp-total key_cmp-exact _ _ (λ q.
 -- a place without a value goes
 pub cleaned : (slots : Cells) (k : OrderedKey) → get (live slots) k ≡ None → live (remove slots k) ≡ live slots
 cleaned slots k none = live_put slots k None ∙ put_there (live slots) k None none
+
+not_place : (b : Bool) (o : Option Cell) → o ≢ Some None → cond b None o ≢ Some None
+not_place true o h is = absurd (cc is)
+not_place false o h is = h is
+
+-- where something was taken away, nothing stands, and no place comes elsewhere
+pub no_place_removed : (slots : Cells) (k : OrderedKey) → IsNoPlace (remove slots k) k
+no_place_removed slots k is =
+    absurd (cc (sym (get-remove key_cmp-total slots k k ∙ ap (λ o. cond (is_eq o) None (get slots k)) (key_cmp-itself k)) ∙ is))
+
+pub no_place_beside : (slots : Cells) (k q : OrderedKey) → IsNoPlace slots q → IsNoPlace (remove slots k) q
+no_place_beside slots k q h is = not_place (eq_by_cmp key_cmp q k) (get slots q) h (sym (get-remove key_cmp-total slots k q) ∙ is)
+
+pub no_place_live : (slots : Cells) (k : OrderedKey) → IsSome (get (live slots) k) → IsNoPlace slots k
+no_place_live slots k some is = absurd (false≢true (subst IsSome (get_live slots k ∙ ap option_flatten is) some))
 
 pub removed_none : (m : PlainMap) (k : OrderedKey) → get m k ≡ None → m ≡ remove m k
 removed_none m k none = sym (put_there m k None none)

@@ -1,13 +1,12 @@
 -- What the notes since each mark lead back to.
-use Rattle.std.proofs.Common.{◌≡◌, ℕ, suc, ◌+◌, ◌-◌, ◌≤◌, false, cond, List, [], ◌∷◌, ◌++◌, length, take, map, Option, Some, arith, refl, sym, ap, ◌∙◌, subst}
+use Rattle.std.proofs.Common.{◌≡◌, ℕ, suc, ◌-◌, ◌≤◌, false, List, [], ◌∷◌, ◌++◌, length, take, map, Option, Some, arith, refl, sym, ap, ◌∙◌, subst}
 use Rattle.std.specs.Prelude.{is_some}
 use Rattle.std.specs.Option.{option_flatten}
 use Rattle.std.specs.List.{AllByRecursion}
 use Rattle.std.specs.FinMap.{get, insert, empty}
 use Rattle.std.proofs.lemmas.Bool.{true≢false}
 use Rattle.am_record.specs.OrderedKey.{OrderedKey}
-use Rattle.am_record.specs.Plain.{Draft, PlainMap, draft_back, fresh, went_back}
-use Rattle.am_record.specs.declared.step.Reply.TheVariants.{Done, NoMark}
+use Rattle.am_record.specs.Plain.{Draft, PlainMap, draft_back, fresh}
 use Rattle.am_record.proofs.Newest.{length-until, since-older}
 use Rattle.am_model.specs.declared.note.Note.{Note}
 use Rattle.am_model.specs.Slots.{Cell, Cells, live, with_cell}

@@ -1,6 +1,6 @@
 -- What stands under keys: a value, or the place of a record that is deleted.
-use Rattle.std.specs.Prelude.{ℕ, List, [], ◌∷◌, Option, None, Some}
-use Rattle.std.specs.FinMap.{FinMap, insert, remove, entries, from_entries}
+use Rattle.std.specs.Prelude.{◌≢◌, ℕ, List, [], ◌∷◌, Option, None, Some}
+use Rattle.std.specs.FinMap.{FinMap, get, insert, remove, entries, from_entries}
 use Rattle.am_record.specs.OrderedKey.{OrderedKey, key_cmp}
 use Rattle.am_record.specs.Plain.{PlainMap, Records}
 
@@ -28,3 +28,7 @@ live slots = from_entries (records_of_cells (entries slots))
 abbrev pub with_cell : {X : Type 0} → FinMap key_cmp X → OrderedKey → Option X → FinMap key_cmp X
 with_cell m key None = remove m key
 with_cell m key (Some x) = insert m key x
+
+-- under the key stands a record or nothing, and not the place of a deleted record
+abbrev pub IsNoPlace : Cells → OrderedKey → Type 0
+IsNoPlace cells key = get cells key ≢ Some None

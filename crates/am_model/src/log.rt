@@ -1,7 +1,8 @@
 //! The notes and marks of one body.
 
 ghost use Rattle.std.specs.Prelude.{◌≡◌, [], ◌∷◌, true, length, reverse, take, drop, OnOk, OnErr};
-ghost use Rattle.am_model.specs.Slots.{live};
+ghost use Rattle.std.specs.List.{AllByRecursion};
+ghost use Rattle.am_model.specs.Slots.{live, IsNoPlace};
 ghost use Rattle.am_model.specs.Notes.{all_undone, CanUndo};
 ghost use Rattle.am_record.specs.Marks.{since_mark, until_mark, older, has_mark};
 
@@ -109,6 +110,7 @@ impl ChangeLog {
     /// no memory.
     pub(crate) fn forget(&mut self, records: &mut Records)
         ensures records { live records.new ≡ live records.old }
+        ensures places { AllByRecursion (λ n. IsNoPlace records.new n.key) self.old.notes }
         ensures notes { self.new.notes ≡ [] }
         ensures marks { self.new.marks ≡ [] }
     {

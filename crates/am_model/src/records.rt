@@ -4,7 +4,8 @@ ghost use Rattle.std.specs.Prelude.{◌≡◌, Option, None, Some, IfOk, OnOk, O
 ghost use Rattle.std.specs.FinMap as map;
 ghost use Rattle.am_record.specs.Plain.{scan_rows, least_taken};
 ghost use Rattle.am_model.specs.Least.{lesser_key};
-ghost use Rattle.am_model.specs.Slots.{live};
+ghost use Rattle.am_model.specs.Slots.{live, IsNoPlace};
+ghost use Rattle.am_record.specs.OrderedKey.{OrderedKey};
 ghost use Rattle.am_model.specs.Notes.{undone, HasPlace};
 
 use crate::note::{Note, Slot};
@@ -73,7 +74,9 @@ impl Records {
 
     /// Takes the place of a deleted record away.
     pub(crate) fn clean(&mut self, key: Key)
-        ensures { live self.new ≡ live self.old }
+        ensures live { live self.new ≡ live self.old }
+        ensures gone { IsNoPlace self.new key }
+        ensures others { (k : OrderedKey) → IsNoPlace self.old k → IsNoPlace self.new k }
     {
         if self.get(key).is_none() {
             self.remove(key);
