@@ -147,7 +147,7 @@ module _ (laws : (trace : Trace) → IsFormed trace → FormedLaws trace) (seen 
     answer = subst (λ (m : PlainMap). IsFirstWrongAnswer seen w.t m (position + 2)) (ap (λ (x : State). x.committed) (sym state)) (first_wrong seen w.t s.committed (fresh s.committed) position refl w.answer);
   }
 
-  -- a flaw of the event that comes next is the first fault
+  -- a fault of the event that comes next is the first fault
   pub is_first : (trace : Trace) (step : Step) (reply : Reply) (later : Trace) → trace ≡ seen ++ (step, reply) ∷ later → (position : ℕ) → position ≡ length seen → (event_fault : EventFault) → IsEventFault (progress_of seen) step reply event_fault → IsTrueFault trace (fault_of position event_fault)
   is_first trace step reply later is position at Form w = record { earlier = seen; event = (step, reply); later = later; split = is; legal = legal; fault = (ap (λ n. n + 2) at, misformed_here step reply w) }
   is_first trace step reply later is position at Busy w = record { earlier = seen; event = (step, reply); later = later; split = is; legal = legal; fault = (ap (λ n. n + 2) at, wrongly_busy_here step reply w) }

@@ -1,4 +1,4 @@
--- The moment that a pass tells by itself: what it keeps of the active transactions are their bodies.
+-- The moment that an audit tells by itself: what it keeps of the active transactions are their bodies.
 use Rattle.std.proofs.Common.{◌≡◌, ℕ, ◌+◌, ◌<◌, ◌≤◌, List, [], ◌∷◌, ◌++◌, map, true, false, refl, sym, ap, ◌∙◌, subst, arith}
 use Rattle.std.specs.Prelude.{◌==◌, ◌||◌}
 use Rattle.std.specs.List.{AllByRecursion}
@@ -96,7 +96,7 @@ module _ (p : Checker) (b : Bodies) (s : State) (h : IsAtState p b s) where
   all_here : AgreeOn s.active (own_bodies p) b
   all_here = AllByRecursion-map (λ (x : Transaction). is_open s.active x.0 ≡ true) (λ (x : Transaction). own_bodies p x.0 ≡ b x.0) (λ x on. own_here x.0 on) s.active (each_open s.active)
 
-  -- the pass stands where it tells itself
+  -- the audit stands where it tells itself
   pub stands_own : (n : ℕ) → IsAt p (own_moment p n)
   stands_own n =
       subst (λ x. IsAtState p (own_bodies p) x) (sym (state_is p b s h))

@@ -1,4 +1,4 @@
--- Operations and commits that the pass takes.
+-- Operations and commits that the audit takes.
 use Rattle.std.proofs.Common.{◌≡◌, ℕ, ◌+◌, ◌≤◌, List, length, map, take, Bool, true, false, cond, refl, sym, ap, ◌∙◌, subst, Option, Some, None}
 use Rattle.std.specs.Prelude.{◌==◌, not, filter}
 use Rattle.std.proofs.lemmas.Bool.{both_ways, false≢true, not-false}
@@ -122,7 +122,7 @@ module _ (p : Checker) (here : Progress) (h : IsAt p here) (t : ℕ) (reply : Re
     own_seen : own ≡ here.bodies t
     own_seen = found ∙ own_placed p here h all same t on
 
-    -- the first wrong answer is a flaw of the commit
+    -- the first wrong answer is a fault of the commit
     pub replay_flaw : (event_fault : EventFault) → IsReplayFault own p.committed event_fault → IsEventFault here (Commit t) reply event_fault
     replay_flaw (Answer position) w = record {
       t = t;

@@ -1,4 +1,4 @@
--- How one event moves what the pass stands for.
+-- How one event moves what the audit stands for.
 use Rattle.std.proofs.Common.{◌≡◌, ℕ, ◌+◌, ◌<◌, ◌≤◌, List, [], ◌∷◌, ◌++◌, length, map, true, false, cond, refl, sym, ap, ◌∙◌, subst, ⊎_elim, Option, Some, None, arith}
 use Rattle.std.specs.Prelude.{◌==◌, not, filter}
 use Rattle.std.specs.List.{cons_option, AllByRecursion}
@@ -37,7 +37,7 @@ answers_from-push (x ∷ trace) n t e =
 pub answers_at-push : (trace : Trace) (e : Event) (t : ℕ) → answers_at (trace ++ e ∷ []) t ≡ answers_at trace t ++ added (length trace) t (effect e.0 e.1)
 answers_at-push trace e t = answers_from-push trace 0 t e ∙ ap (λ k. answers_at trace t ++ added k t (effect e.0 e.1)) (let same : 0 + length trace ≡ length trace = omega arith in same)
 
--- the pass stands behind the event where it stands at what its effect makes
+-- the audit stands behind the event where it stands at what its effect makes
 pub stands_behind : (p : Checker) (here : Progress) (step : Step) (reply : Reply) (e : Effect) → effect step reply ≡ e → IsAt p (progress_after here e) → IsAt p (progress_after here (effect step reply))
 stands_behind p here step reply e is h = subst (λ x. IsAt p (progress_after here x)) (sym is) h
 

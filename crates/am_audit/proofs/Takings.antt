@@ -1,4 +1,4 @@
--- Events that the pass takes.
+-- Events that the audit takes.
 use Rattle.std.proofs.Common.{◌≡◌, ℕ, ◌+◌, ◌<◌, List, [], ◌∷◌, ◌++◌, length, map, true, false, refl, sym, ap, ◌∙◌, subst, arith}
 use Rattle.std.specs.Prelude.{not, filter, ◌==◌, ◌||◌, ◌^◌}
 use Rattle.std.proofs.lemmas.List.{length-map}

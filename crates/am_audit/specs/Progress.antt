@@ -1,4 +1,4 @@
--- Where the pass over a trace stands after the events that it has seen.
+-- Where the audit of a trace stands after the events that it has seen.
 use Rattle.std.specs.Prelude.{◌≡◌, ◌≢◌, ◌↔◌, ℕ, ◌+◌, ◌<◌, ◌≤◌, ◌==◌, map, length, List, [], ◌∷◌, ◌++◌, Bool, true}
 use Rattle.std.specs.Prelude.{false, cond, Option, Some, None}
 use Rattle.std.specs.List.{cons_option, list_any, AllByRecursion}
@@ -162,12 +162,12 @@ pub record IsRightIn (s : State) (step : Step) (reply : Reply) : Type 0 where
   pub said : IsRightOf s step reply
   pub next : NextIn s (effect step reply)
 
--- the event is right, and the pass stands behind it
+-- the event is right, and the audit stands behind it
 pub record TakesEvent (here : Progress) (step : Step) (reply : Reply) (p : Checker) : Type 0 where
   pub right : IsRightIn here.state step reply
   pub stands : IsAt p (progress_after here (effect step reply))
 
--- ---- a flaw of the event that comes next
+-- ---- a fault of the event that comes next
 
 pub record IsMisformedIn (s : State) (step : Step) (reply : Reply) : Type 0 where
   pub form : ¬ (FormedIn s step reply)
@@ -177,7 +177,7 @@ pub record IsWronglyBusyIn (s : State) (step : Step) (reply : Reply) : Type 0 wh
   pub busy : ¬ (BusyIn s step reply)
   pub first : EarlyIn s step reply
 
--- the flaw is one of the reply itself
+-- the fault is one of the reply itself
 abbrev pub IsReplyFault : State → Step → Reply → EventFault → Type 0
 IsReplyFault s step reply Form = IsMisformedIn s step reply
 IsReplyFault s step reply Busy = IsWronglyBusyIn s step reply
@@ -242,7 +242,7 @@ abbrev pub refused_of : Reply → Bool
 refused_of (Refused why) = true
 refused_of reply = false
 
--- how the flaw of the event at that place is told
+-- how the fault of the event at that place is told
 abbrev pub fault_of : ℕ → EventFault → Fault
 fault_of position Form = Wrong (position + 2) OfForm
 fault_of position Busy = Wrong (position + 2) OfBusy

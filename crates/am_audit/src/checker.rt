@@ -1,4 +1,4 @@
-//! The pass over a trace.
+//! The audit of a trace, event by event.
 
 ghost use Rattle.std.specs.Prelude.{◌≡◌, ◌≤◌, ◌++◌, ◌∷◌, [], length, None, true, false, IfErr, OnOk};
 ghost use Rattle.am_record.specs.declared.step.Step.TheVariants.{Begin, Do, Commit, Abort, Merge, Clean};
@@ -49,7 +49,7 @@ impl Checker {
     /// Judges the event that comes next in the trace, and takes it in.
     ///
     /// # Errors
-    /// The flaw of the event, after which the pass is no use.
+    /// What is wrong with the event, after which the audit is no use.
     pub(crate) fn judge(
         &mut self,
         alloc: Global,

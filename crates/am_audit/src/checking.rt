@@ -87,7 +87,7 @@ pub fn check(alloc: Global, trace: &[(Step, Reply)]) -> Result<u64, Fault>
     audit.verdict()
 }
 
-// The fault by the flaw of the event at that place. Lines count from 1, the header's included.
+// The fault by what is wrong with the event at that place. Lines count from 1, the header's included.
 fn fault_of(position: usize, event_fault: EventFault) -> Fault
     requires { position_told position event_fault + 2 < 2 ^ 64 }
     ensures { result ≡ fault_of position event_fault }

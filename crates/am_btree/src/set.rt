@@ -9,7 +9,7 @@ use am_leaf::RawLeaf;
 use am_record::{Key, Value};
 
 impl Subtree {
-    /// Writes over the value and the mark of the entry of a present place.
+    /// Writes over the value and the ghost bit of the entry of a present place.
     pub(crate) fn set(&mut self, part: u32, key: Key, value: Value, is_ghost: bool)
         requires { IsSome (find self.old.entries part key) }
         ensures entries { self.new.entries ≡ set_entry self.old.entries part key value is_ghost }

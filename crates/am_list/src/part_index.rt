@@ -92,7 +92,7 @@ pub trait PartIndex {
         ensures ok { OnOk result (entries self.new ≡ entries self.old ++ run_entries part pairs.now) }
         ensures err { OnErr result (entries self.new ≡ entries self.old) };
 
-    /// Writes over the value and the mark of an entry. The caller sees to it that it is there.
+    /// Writes over the value and the ghost bit of an entry. The caller sees to it that it is there.
     fn set(&mut self, part: u32, key: Key, value: Value, is_ghost: bool)
         requires { IsSome (find (entries self.old) part key) }
         ensures { entries self.new ≡ set_entry (entries self.old) part key value is_ghost };

@@ -69,7 +69,7 @@ abbrev pub load_where : Option OrderedKey → Records → PlainMap → PlainMap
 load_where None pairs m = insert_all pairs m
 load_where (Some key) pairs m = m
 
--- the map that it leaves. What Mark and Back do is in after, below
+-- the map that it leaves. What Mark and Back do is in draft_after, below
 abbrev pub map_after : Op → PlainMap → PlainMap
 map_after (Get k) m = m
 map_after (Scan range max) m = m

@@ -1,4 +1,4 @@
--- From a pause, with what was active aborted, to the end.
+-- From where a line is awaited, with what was active aborted, to the end.
 use Rattle.std.proofs.Common.{inl, inr, ℕ, List, [], ◌++◌, refl, take, Option, ap, ◌∙◌, subst, append_assoc, append-nil}
 use Rattle.am_record.specs.declared.step.Step.{Step}
 use Rattle.am_record.specs.declared.step.Reply.{Reply}

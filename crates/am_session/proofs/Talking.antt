@@ -1,4 +1,4 @@
--- A session so far, and at each of its pauses.
+-- A session so far, and at each line that it waits for.
 use Rattle.std.proofs.Common.{◌≡◌, ◌⊎◌, ℕ, List, [], ◌∷◌, ◌++◌, append_assoc, append-nil, ap, sym, ◌∙◌, refl, take, true, false, Bool, Option, cond, inl, inr, subst}
 use Rattle.std.proofs.lemmas.List.{map-append}
 use Rattle.am_record.specs.declared.step.Step.{Step}

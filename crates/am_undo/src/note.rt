@@ -11,7 +11,7 @@ pub enum Note {
     /// An entry was made in partition 0, where none of the key stood. Taken back, it is a ghost
     /// with the value that it then has.
     New(Key),
-    /// The value and the mark that an entry had. Taken back, it has them again.
+    /// The value and the ghost bit that an entry had. Taken back, it has them again.
     Before {
         part: u32,
         key: Key,
