@@ -7,8 +7,8 @@ use Rattle.am_btree.specs.declared.insert.Split.{Split}
 use Rattle.am_btree.specs.Separators.{separator_place}
 use Rattle.am_btree.specs.Shape.{Shape}
 
--- the node and its new right sibling have the entries between them, parted by the sibling's separator; the sibling isn't
--- empty, and the node keeps half of a full one at least
+-- the node and its new right sibling have the entries between them, parted by the sibling's separator; the sibling
+-- isn't empty, and the node keeps half of a full one at least
 pub record HasSplit (level : ℕ) (all : List Entry) (new : Shape) (s : Split) : Type 0 where
   pub depth : new.depth ≡ level
   pub right_depth : s.right.depth ≡ level
