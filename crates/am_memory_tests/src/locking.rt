@@ -27,7 +27,7 @@ fn ask(locks: &mut LockTable, number: u64) -> Result<(), Fault> {
 
 /// Twelve locks. The first eight take no memory.
 pub(crate) fn twelve_locks(alloc: Global) -> Result<(), Fault> {
-    let mut locks = LockTable::new(alloc);
+    let mut locks = LockTable::new(alloc)?;
     expect(locks.owners() < 64 && !locks.is_owner(1))?;
     locks.enter(1);
     for number in 0..12_u64 {

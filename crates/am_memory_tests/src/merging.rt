@@ -47,7 +47,7 @@ pub(crate) fn merge_of_forty(alloc: Global) -> Result<(), Fault> {
     let mut parts = one_run(alloc)?;
     let mut wishes = wishes(alloc)?;
     wishes.wish(range(0, RECORDS).ok_or(Fault::Differs)?);
-    let locks = LockTable::new(alloc);
+    let locks = LockTable::new(alloc)?;
     let mut merged: u64 = 0;
     for _ in 0..RECORDS {
         match merge_step(&mut parts, &mut wishes, &locks, 16) {
