@@ -7,6 +7,7 @@ mod ending;
 
 use am_command::{Options, OptionsFault, options, words};
 use am_session::serve_alone;
+use am_stack::hold_stack;
 use am_stream::{Reading, Writing};
 use ending::ending;
 use std::env::Env;
@@ -50,5 +51,8 @@ fn selected<R: AllocGlobal + Input + Print + Eprint + Env + Wait>(rt: &R) -> io:
 }
 
 fn main(rt: HostRuntime) -> io::Result<ExitCode> {
+    if hold_stack(rt.alloc()).is_err() {
+        return OptionsFault::NoMemory.tell(&rt, PROGRAM);
+    }
     selected(&rt)
 }

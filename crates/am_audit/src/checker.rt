@@ -1,6 +1,6 @@
 //! The audit of a trace, event by event.
 
-ghost use Rattle.std.specs.Prelude.{◌≡◌, ◌≤◌, ◌++◌, ◌∷◌, [], length, None, true, false, IfErr, OnOk};
+ghost use Rattle.std.specs.Prelude.{◌≡◌, ◌≤◌, ◌++◌, ◌∷◌, [], length, None, true, false, IfErr, IfOk, OnOk};
 ghost use Rattle.am_record.specs.declared.step.Step.TheVariants.{Begin, Do, Commit, Abort, Merge, Clean};
 ghost use Rattle.am_serial.specs.Machine.{due_early};
 
@@ -14,7 +14,7 @@ use crate::replay::replay;
 use crate::verdict::{is_refusal, is_refused, verdict};
 use am_locks::{Asked, LockTable};
 use am_model::Plain;
-use am_record::{Op, Range, Reply, Step};
+use am_record::{NoMemory, Op, Range, Reply, Step};
 use std::alloc::Global;
 
 /// What the lines seen so far make.
@@ -32,18 +32,21 @@ pub(crate) struct Checker {
 impl Checker {
     ghost use Rattle.am_audit.specs.Progress.{early_of, Progress, progress_of, IsAt, TakesEvent, IsEventFault};
 
-    /// No line is seen. Takes no memory.
-    pub(crate) fn new(alloc: Global) -> Checker
-        ensures { IsAt result (progress_of []) }
+    /// No line is seen.
+    ///
+    /// # Errors
+    /// NoMemory, where memory was refused for the locks.
+    pub(crate) fn new(alloc: Global) -> Result<Checker, NoMemory>
+        ensures { IfOk result (λ checker. IsAt checker (progress_of [])) }
     {
-        Checker {
+        Ok(Checker {
             begun: 0,
             commits: 0,
             runs: 0,
             active: Vec::new(alloc),
-            locks: LockTable::new(alloc),
+            locks: LockTable::new(alloc)?,
             committed: Plain::new(alloc),
-        }
+        })
     }
 
     /// Judges the event that comes next in the trace, and takes it in.

@@ -9,7 +9,7 @@ ghost use Rattle.am_audit.specs.Progress.{fault_of, position_told};
 use crate::checker::Checker;
 use crate::event_fault::EventFault;
 use crate::fault::{Fault, FaultKind};
-use am_record::{Reply, Step};
+use am_record::{NoMemory, Reply, Step};
 use std::alloc::Global;
 
 /// A trace that is judged as it comes, an event at a time. Of its events those alone are kept that belong to active
@@ -24,15 +24,18 @@ pub struct Audit {
 impl Audit {
     ghost use Rattle.am_audit.specs.Judged.{HasJudged, CanJudge};
 
-    /// Nothing is judged. Takes no memory.
-    pub fn new(alloc: Global) -> Audit
-        ensures { HasJudged result [] }
+    /// Nothing is judged.
+    ///
+    /// # Errors
+    /// NoMemory, where memory was refused for what is kept of the events.
+    pub fn new(alloc: Global) -> Result<Audit, NoMemory>
+        ensures { IfOk result (λ audit. HasJudged audit []) }
     {
-        Audit {
-            checker: Checker::new(alloc),
+        Ok(Audit {
+            checker: Checker::new(alloc)?,
             seen: 0,
             fault: None,
-        }
+        })
     }
 
     /// Judges the event that comes next.
@@ -77,7 +80,9 @@ pub fn check(alloc: Global, trace: &[(Step, Reply)]) -> Result<u64, Fault>
     ensures legal { IfOk result (λ commits. IsLegal trace.now × (commits ≡ length (committers (effects trace.now)))) }
     ensures wrong { IfErr result (IsTrueFault trace.now) }
 {
-    let mut audit = Audit::new(alloc);
+    let Ok(mut audit) = Audit::new(alloc) else {
+        return Err(Fault::NoMemory);
+    };
     for (step, reply) in trace {
         let (Ok(step), Ok(reply)) = (step.copy(alloc), reply.copy(alloc)) else {
             return Err(Fault::NoMemory);

@@ -32,7 +32,9 @@ fn judge_text(alloc: Global, text: &[u8]) -> Judgement
     let Some((version, mut rest)) = read_header(text) else {
         return Judgement::Bad(1);
     };
-    let mut audit = Audit::new(alloc);
+    let Ok(mut audit) = Audit::new(alloc) else {
+        return Judgement::NoMemory;
+    };
     let _bytes = text.len();
     let mut line = 2;
     'lines: while !rest.is_empty() {

@@ -4,6 +4,7 @@
 mod judgement;
 
 use am_command::{audited_file, words};
+use am_stack::hold_stack;
 use am_stream::Writing;
 use judgement::{Judgement, judge, say};
 use std::io::Read;
@@ -40,6 +41,9 @@ fn audit<R: AllocGlobal + Files + Input + Print>(rt: &R, file: Option<&str>) -> 
 }
 
 fn main(rt: HostRuntime) -> io::Result<ExitCode> {
+    if hold_stack(rt.alloc()).is_err() {
+        return OptionsFault::NoMemory.tell(&rt, PROGRAM);
+    }
     let words = match words(&rt) {
         Ok(words) => words,
         Err(fault) => return fault.tell(&rt, PROGRAM),

@@ -54,7 +54,7 @@ impl<I: PartIndex + Drop> Store<I> {
         let inner = Inner {
             alloc,
             parts: Parts::new(alloc, index),
-            txs: TxTable::new(alloc),
+            txs: TxTable::new(alloc)?,
             wishes,
             commits: 0,
         };

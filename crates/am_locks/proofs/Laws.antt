@@ -3,13 +3,10 @@ use Rattle.std.proofs.Common.{◌≡◌, ◌≢◌, ℕ, zero, suc, List, [], �
 use Rattle.std.specs.List.{list_any}
 use Rattle.std.proofs.lemmas.Bool.{ne_eqb, eq-eqb, eqb-true, eqb-false}
 use Rattle.std.proofs.lemmas.List.Elements.{All-head, All-tail}
-use Rattle.std.proofs.Math.Bool.{or_assoc, or-false}
-use Rattle.am_record.specs.OrderedKey.{OrderedKey}
-use Rattle.am_record.specs.Interval.{within}
-use Rattle.am_record.specs.Locks.{conflicts, is_exclusive}
+use Rattle.am_record.specs.Locks.{conflicts}
 use Rattle.am_record.specs.declared.lock.Lock.{Lock}
-use Rattle.am_locks.specs.OwnerLocks.{OwnerLocks, has_conflict, blocks, is_exclusive_at, AreApart}
-use Rattle.am_locks.specs.Table.{is_owner, locks_owned, entered, with_locks, without_owner, blockers, exclusive_holders, AreAllApart}
+use Rattle.am_locks.specs.OwnerLocks.{OwnerLocks, has_conflict, blocks, AreApart}
+use Rattle.am_locks.specs.Table.{is_owner, locks_owned, entered, with_locks, without_owner, blockers}
 
 -- ---- other locks for one owner
 

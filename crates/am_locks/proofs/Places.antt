@@ -1,8 +1,7 @@
 -- The place of an owner in the table, and what is written there.
-use Rattle.std.proofs.Common.{◌≡◌, ℕ, ◌+◌, ◌<◌, zero, suc, List, [], ◌∷◌, length, get_or, set, Bool, true, false, cond, not, ◌||◌, ◌==◌, ◌≢◌, drop, All, IsSome, position, Some, refl, sym, ap, ◌∙◌, arith, eq-eqb}
-use Rattle.std.specs.List.{list_any, position_or_len, refill}
+use Rattle.std.proofs.Common.{◌≡◌, ℕ, ◌+◌, ◌<◌, zero, suc, List, [], ◌∷◌, length, get_or, set, Bool, true, false, cond, not, ◌||◌, ◌==◌, ◌≢◌, All, IsSome, position, Some, refl, sym, ap, ◌∙◌, arith, eq-eqb}
+use Rattle.std.specs.List.{list_any, position_or_len}
 use Rattle.std.proofs.lemmas.Bool.{lt-ltb}
-use Rattle.std.proofs.lemmas.List.{length-set, take_at}
 use Rattle.std.proofs.lemmas.List.Quantifiers.{position-Some}
 use Rattle.std.proofs.lemmas.List.Elements.{All-head, All-tail}
 use Rattle.std.proofs.lemmas.Bool.{ne_eqb, eqb-true}
@@ -59,9 +58,3 @@ pub position-owner : (table : List OwnerLocks) (i tx : ℕ) (d : OwnerLocks) →
 position-owner table i tx d e =
     let found = position-Some (λ (h : OwnerLocks). h.owner == tx) table i d e in
     (found.0, eqb-true _ tx found.1)
-
--- what a write through the lent owners leaves
-pub written : (items now lent : List OwnerLocks) (slot tx : ℕ) (locks : List Lock) (new : OwnerLocks) → items ≡ now → lent ≡ items → new ≡ record { owner = tx; locks = locks }
-    → set now slot (record { owner = tx; locks = locks }) ≡ with_locks now tx locks → refill (length items) items (set lent slot new) ≡ with_locks now tx locks
-written items now lent slot tx locks new e f g h =
-    take_at (set lent slot new) (drop (length (set lent slot new)) items) (length items) (length-set lent slot new ∙ ap length f) ∙ (λ i. set ((f ∙ e) i) slot (g i)) ∙ h

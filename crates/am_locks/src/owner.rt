@@ -17,7 +17,6 @@ use crate::key_filter::{KeyFilter, key_filter_of};
 use am_record::{Key, Lock, MAX_LOCKS};
 use smallvec::SmallVec;
 use std::alloc::{AllocError, Global};
-use std::default::MadeWith;
 use std::marker::Model;
 
 /// So many locks of a transaction take no memory.
@@ -54,13 +53,6 @@ impl Model for Owner {
         × AreFrontsOf (drop 8 o.locks.items) o.later.all.ranges.items o.later.exclusive.ranges.items
         × (length (drop 8 o.locks.items) ≤ vec_capacity o.later.all.ranges)
         × (length (drop 8 o.locks.items) ≤ vec_capacity o.later.exclusive.ranges) };
-}
-
-/// What fills an unused place of the table.
-impl MadeWith<Global> for Owner {
-    fn made_with(alloc: Global) -> Owner {
-        Owner::new(alloc, 0)
-    }
 }
 
 impl Owner {

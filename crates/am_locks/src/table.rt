@@ -1,7 +1,7 @@
 //! The table of locks.
 
 ghost use Rattle.std.specs.Prelude.{◌≡◌, ◌≢◌, ◌<◌, ◌≤◌, ◌↔◌, ◌∷◌, [], false, true, length, take, slice_index_or};
-ghost use Rattle.std.specs.Prelude.{slice_set, List, MatchOption};
+ghost use Rattle.std.specs.Prelude.{slice_set, List, MatchOption, IfOk};
 ghost use Rattle.std.specs.Option.{option_to_list};
 ghost use Rattle.am_record.specs.Locks.{is_covered, with_lock};
 ghost use Rattle.am_locks.specs.OwnerLocks.{OwnerLocks, blocks};
@@ -13,8 +13,7 @@ ghost use Rattle.am_locks.specs.Answers.{IsLeastOf, MatchBusy};
 use crate::asked::Asked;
 use crate::key_filter::number_of;
 use crate::owner::Owner;
-use am_record::{Key, Lock, MAX_ACTIVE};
-use arrayvec::ArrayVec;
+use am_record::{Key, Lock, MAX_ACTIVE, NoMemory};
 use std::alloc::Global;
 use std::marker::Model;
 
@@ -23,11 +22,12 @@ use std::marker::Model;
 /// No lock of one owner conflicts with a lock of another.
 #[derive(Drop)]
 pub struct LockTable {
-    owners: ArrayVec<Owner, MAX_ACTIVE, Global>,
+    // It has room for as many as there may be.
+    owners: Vec<Owner>,
 }
 
 impl Model for LockTable {
-    ghost use Rattle.std.specs.Prelude.{List};
+    ghost use Rattle.std.specs.Prelude.{◌≤◌, List, length, vec_capacity};
     ghost use Rattle.std.specs.Coded.{coded_list};
     ghost use Rattle.am_locks.specs.OwnerLocks.{OwnerLocks, held_code};
     ghost use Rattle.am_locks.specs.Table.{AreAllApart};
@@ -38,17 +38,21 @@ impl Model for LockTable {
 
     ghost view = { λ t. t.owners.items };
 
-    ghost invariant = { λ t. AreAllApart t.owners.items };
+    ghost invariant = { λ t. AreAllApart t.owners.items × (length t.owners.items ≤ 64)
+        × (64 ≤ vec_capacity t.owners) };
 }
 
 impl LockTable {
-    /// A table with no owners. It takes no memory: an owner's locks do, from the ninth on.
-    pub fn new(alloc: Global) -> LockTable
-        ensures { result ≡ [] }
+    /// A table with no owners, and with room for all that there may be. An owner's locks take memory from the ninth on.
+    ///
+    /// # Errors
+    /// NoMemory, where memory was refused for the room.
+    pub fn new(alloc: Global) -> Result<LockTable, NoMemory>
+        ensures { IfOk result (λ table. table ≡ []) }
     {
-        LockTable {
-            owners: ArrayVec::new_in(alloc),
-        }
+        Ok(LockTable {
+            owners: Vec::with_capacity(alloc, MAX_ACTIVE)?,
+        })
     }
 
     /// How many owners there are.
@@ -72,7 +76,10 @@ impl LockTable {
         requires new { is_owner self.old tx ≡ false }
         ensures { self.new ≡ entered self.old tx }
     {
-        self.owners.push(Owner::new(*self.owners.allocator(), tx));
+        let owner = Owner::new(*self.owners.allocator(), tx);
+        let Ok(()) = self.owners.push(owner) else {
+            unreachable!()
+        };
     }
 
     /// Asks for a lock for an owner, at once and without waiting. A transaction's own locks are never in its way.

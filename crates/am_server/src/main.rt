@@ -8,6 +8,7 @@ mod listening;
 mod trace_file;
 
 use am_command::{Options, OptionsFault, options, words};
+use am_stack::hold_stack;
 use listening::{close, open, stop_at_word, tell};
 use std::process::ExitCode;
 use std::{io, thread};
@@ -16,6 +17,9 @@ use std::{io, thread};
 const PROGRAM: &str = "amserve";
 
 fn main(rt: HostRuntime) -> io::Result<ExitCode> {
+    if hold_stack(rt.alloc()).is_err() {
+        return OptionsFault::NoMemory.tell(&rt, PROGRAM);
+    }
     let words = match words(&rt) {
         Ok(words) => words,
         Err(fault) => return fault.tell(&rt, PROGRAM),

@@ -1,14 +1,11 @@
 -- What the calls leave of each transaction, for proofs above.
-use Rattle.std.proofs.Common.{◌<◌, All, arith, ◌≡◌, ◌≢◌, ℕ, List, [], ◌∷◌, ◌++◌, filter, Bool, true, false, cond, not, ◌||◌, ◌==◌, refl, sym, ap, ◌∙◌}
+use Rattle.std.proofs.Common.{◌≡◌, ◌≢◌, ℕ, List, [], ◌∷◌, filter, Bool, true, false, cond, not, ◌||◌, ◌==◌, refl, sym, ap, ◌∙◌}
 use Rattle.std.specs.List.{list_any}
 use Rattle.std.proofs.lemmas.Bool.{ne_eqb, eqb-true}
-use Rattle.std.proofs.Math.Bool.{or_assoc, or-false}
 use Rattle.am_tx.specs.declared.transaction.Transaction.{Transaction}
 use Rattle.am_undo.specs.Log.{Log}
-use Rattle.am_tx.specs.Active.{new_transaction, tx_numbers, is_active_in, of_active, log_in, with_changed}
-use Rattle.am_tx.specs.Txs.{Txs, Rise, IsConsistent, with_log}
+use Rattle.am_tx.specs.Active.{is_active_in, of_active, with_changed}
 use Rattle.am_tx.proofs.Numbers.{any-map, tx_numbers-with_changed}
-use Rattle.am_tx.proofs.Places.{all_kept}
 
 -- ---- a transaction is changed
 

@@ -1,7 +1,5 @@
 -- The place of a transaction in the table, and what is written there.
-use Rattle.std.proofs.Common.{◌≡◌, ℕ, ◌<◌, zero, suc, List, [], ◌∷◌, length, get_or, set, drop, false, cond, ◌==◌, All, position, Some, refl, sym, ap, ◌∙◌, arith, eq-eqb}
-use Rattle.std.specs.List.{refill}
-use Rattle.std.proofs.lemmas.List.{length-set, take_at}
+use Rattle.std.proofs.Common.{◌≡◌, ℕ, ◌<◌, zero, suc, List, [], ◌∷◌, length, get_or, set, false, cond, ◌==◌, All, position, Some, refl, sym, ap, ◌∙◌, arith, eq-eqb}
 use Rattle.std.proofs.lemmas.List.Quantifiers.{position-Some}
 use Rattle.std.proofs.lemmas.List.Elements.{All-head, All-tail}
 use Rattle.std.proofs.lemmas.Bool.{ne_eqb, eqb-true}
@@ -54,8 +52,3 @@ pub position-number : (xs : List Transaction) (i tx : ℕ) (d : Transaction) →
 position-number xs i tx d e =
     let found = position-Some (λ (x : Transaction). x.number == tx) xs i d e in
     (found.0, eqb-true _ tx found.1)
-
--- what a write through the lent transactions leaves
-pub written : (items lent : List Transaction) (place : ℕ) (new : Transaction) → lent ≡ items → refill (length items) items (set lent place new) ≡ set items place new
-written items lent place new e =
-    take_at (set lent place new) (drop (length (set lent place new)) items) (length items) (length-set lent place new ∙ ap length e) ∙ (λ i. set (e i) place new)

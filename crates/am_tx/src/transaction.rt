@@ -4,7 +4,6 @@ ghost use Rattle.std.specs.Prelude.{◌≡◌};
 
 use am_undo::UndoLog;
 use std::alloc::Global;
-use std::default::MadeWith;
 
 /// What the table keeps of a transaction, beside its locks.
 #[derive(Drop)]
@@ -13,13 +12,6 @@ pub(crate) struct Transaction {
     /// How many operations were answered and not refused.
     pub(crate) ops: u64,
     pub(crate) log: UndoLog,
-}
-
-/// What fills an unused place of the table.
-impl MadeWith<Global> for Transaction {
-    fn made_with(alloc: Global) -> Transaction {
-        Transaction::new(alloc, 0)
-    }
 }
 
 impl Transaction {

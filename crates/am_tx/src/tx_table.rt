@@ -1,7 +1,7 @@
 //! The table of active transactions.
 
 ghost use Rattle.std.specs.Prelude.{◌≡◌, ◌≢◌, ◌+◌, ◌<◌, ◌≤◌, ◌↔◌, [], Some, None, true, false, length, take};
-ghost use Rattle.std.specs.Prelude.{slice_index_or, slice_set, if◌then◌else◌};
+ghost use Rattle.std.specs.Prelude.{slice_index_or, slice_set, if◌then◌else◌, IfOk};
 ghost use Rattle.std.specs.Borrow.{sem};
 ghost use Rattle.am_record.specs.Locks.{is_covered, with_lock};
 ghost use Rattle.am_locks.specs.Table.{locks_owned, with_locks, blockers};
@@ -9,9 +9,8 @@ ghost use Rattle.am_locks.specs.Answers.{IsLeastOf, MatchBusy};
 
 use crate::transaction::Transaction;
 use am_locks::{Asked, LockTable};
-use am_record::{Lock, MAX_ACTIVE, MAX_BEGUN};
+use am_record::{Lock, MAX_ACTIVE, MAX_BEGUN, NoMemory};
 use am_undo::UndoLog;
-use arrayvec::ArrayVec;
 use std::alloc::Global;
 use std::marker::Model;
 
@@ -22,11 +21,13 @@ use std::marker::Model;
 #[derive(Drop)]
 pub struct TxTable {
     begun: u64,
-    active: ArrayVec<Transaction, MAX_ACTIVE, Global>,
+    // It has room for as many as there may be.
+    active: Vec<Transaction>,
     locks: LockTable,
 }
 
 impl Model for TxTable {
+    ghost use Rattle.std.specs.Prelude.{◌≤◌, vec_capacity};
     ghost use Rattle.am_tx.specs.Txs.{Txs, txs_code, IsConsistent};
 
     ghost Value = { Txs };
@@ -35,7 +36,8 @@ impl Model for TxTable {
 
     ghost view = { λ t. record { begun = t.begun; active = t.active.items; locks = t.locks } };
 
-    ghost invariant = { λ t. IsConsistent (record { begun = t.begun; active = t.active.items; locks = t.locks }) };
+    ghost invariant = { λ t. IsConsistent (record { begun = t.begun; active = t.active.items; locks = t.locks })
+        × (64 ≤ vec_capacity t.active) };
 }
 
 impl TxTable {
@@ -44,15 +46,18 @@ impl TxTable {
     ghost use Rattle.am_tx.specs.Txs.{IsConsistent, can_begin, txs_after_begin, txs_after_op, txs_after_end};
     ghost use Rattle.am_tx.specs.Lending.{LendsLog};
 
-    /// A table of no transactions. It takes no memory.
-    pub fn new(alloc: Global) -> TxTable
-        ensures { result ≡ record { begun = 0; active = []; locks = [] } }
+    /// A table of no transactions, and with room for all that there may be.
+    ///
+    /// # Errors
+    /// NoMemory, where memory was refused for the room.
+    pub fn new(alloc: Global) -> Result<TxTable, NoMemory>
+        ensures { IfOk result (λ table. table ≡ record { begun = 0; active = []; locks = [] }) }
     {
-        TxTable {
+        Ok(TxTable {
             begun: 0,
-            active: ArrayVec::new_in(alloc),
-            locks: LockTable::new(alloc),
-        }
+            active: Vec::with_capacity(alloc, MAX_ACTIVE)?,
+            locks: LockTable::new(alloc)?,
+        })
     }
 
     /// Begins a transaction, with no operations, no notes and no locks, and answers its number.
@@ -61,12 +66,14 @@ impl TxTable {
         ensures number { result ≡ (if can_begin self.old then Some (self.old.begun + 1) else None) }
         ensures after { self.new ≡ (if can_begin self.old then txs_after_begin self.old else self.old) }
     {
-        if self.active.is_full() || self.begun == MAX_BEGUN {
+        if self.active.len() == MAX_ACTIVE || self.begun == MAX_BEGUN {
             return None;
         }
         let number = self.begun + 1;
-        let alloc = *self.active.allocator();
-        self.active.push(Transaction::new(alloc, number));
+        let transaction = Transaction::new(*self.active.allocator(), number);
+        let Ok(()) = self.active.push(transaction) else {
+            unreachable!()
+        };
         self.locks.enter(number);
         self.begun = number;
         Some(number)

@@ -25,7 +25,7 @@ fn exclusive(rt: &impl Abort, lo: u64, hi: u64) -> Lock {
 
 // The transactions 1 to `owners`, which hold nothing.
 fn table_of(rt: &impl Abort, alloc: Global, owners: u64) -> LockTable {
-    let mut table = LockTable::new(alloc);
+    let mut table = LockTable::new(alloc).expect(rt, "memory");
     for tx in 1..=owners {
         assert!(rt; table.owners() < MAX_ACTIVE && !table.is_owner(tx));
         table.enter(tx);

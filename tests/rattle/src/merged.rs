@@ -26,7 +26,7 @@ fn three_runs(rt: &impl Abort, alloc: Global) -> Parts<ListIndex> {
 // Merges the keys of the range, until no run has one.
 fn merge(rt: &impl Abort, alloc: Global, parts: &mut Parts<ListIndex>, lo: u64, hi: u64) {
     let mut wishes = Wishes::new(alloc).expect(rt, "memory");
-    let locks = LockTable::new(alloc);
+    let locks = LockTable::new(alloc).expect(rt, "memory");
     wishes.wish(range(rt, lo, hi));
     for _ in 0..20 {
         match merge_step(parts, &mut wishes, &locks, 64) {

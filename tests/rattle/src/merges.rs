@@ -75,7 +75,7 @@ fn count_in(parts: &Parts<ListIndex>, part: u32) -> u64 {
 
 // A table in which transaction 2 has the key exclusively locked.
 fn locked(rt: &impl Abort, alloc: Global, number: u64) -> LockTable {
-    let mut locks = LockTable::new(alloc);
+    let mut locks = LockTable::new(alloc).expect(rt, "memory");
     assert!(rt; locks.owners() == 0 && !locks.is_owner(2));
     locks.enter(2);
     assert!(rt; locks.is_owner(2));
@@ -102,7 +102,7 @@ fn merge_goes_home_over_a_ghost(rt: HostRuntime) {
     let entries = [(0, 5, b'a', true), (1, 5, b'b', false), (1, 7, b'c', false)];
     let mut parts = over(&rt, rt.alloc(), &entries);
     let mut wishes = Wishes::new(rt.alloc()).expect(&rt, "memory");
-    let locks = LockTable::new(rt.alloc());
+    let locks = LockTable::new(rt.alloc()).expect(&rt, "memory");
     wishes.wish(Range::point(Key::of_u64(5)));
     wishes.wish(Range::point(Key::of_u64(5)));
     merges(&rt, &mut parts, &mut wishes, &locks, Reply::Moved(1, 1));
@@ -136,7 +136,7 @@ fn merge_all(
 fn merges_add_up_where_memory_is_refused(rt: HostRuntime) {
     let mut parts = over(&rt, rt.alloc(), &[]);
     let mut wishes = Wishes::new(rt.alloc()).expect(&rt, "memory");
-    let locks = LockTable::new(rt.alloc());
+    let locks = LockTable::new(rt.alloc()).expect(&rt, "memory");
     for number in 0..8 {
         add(&mut parts, 1, number, b'a', false).expect(&rt, "memory");
     }

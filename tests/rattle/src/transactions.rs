@@ -48,7 +48,7 @@ fn is_locked(rt: &impl Abort, table: &TxTable, number: u64, holder: Option<u64>)
 
 #[test]
 fn numbers_are_given_once(rt: HostRuntime) {
-    let mut table = TxTable::new(rt.alloc());
+    let mut table = TxTable::new(rt.alloc()).expect(&rt, "memory");
     begins(&rt, &mut table, 1);
     begins(&rt, &mut table, 2);
     end(&rt, &mut table, 2);
@@ -61,7 +61,7 @@ fn numbers_are_given_once(rt: HostRuntime) {
 
 #[test]
 fn ops_are_counted(rt: HostRuntime) {
-    let mut table = TxTable::new(rt.alloc());
+    let mut table = TxTable::new(rt.alloc()).expect(&rt, "memory");
     begins(&rt, &mut table, 1);
     begins(&rt, &mut table, 2);
     for i in 0..4096 {
@@ -87,7 +87,7 @@ fn cut_to_none(rt: &impl Abort, table: &mut TxTable, tx: u64) {
 
 #[test]
 fn counts_and_locks_end_with_their_transaction(rt: HostRuntime) {
-    let mut table = TxTable::new(rt.alloc());
+    let mut table = TxTable::new(rt.alloc()).expect(&rt, "memory");
     begins(&rt, &mut table, 1);
     begins(&rt, &mut table, 2);
     count_op(&rt, &mut table, 1);

@@ -1,4 +1,4 @@
-use Rattle.std.proofs.Common.{◌≡◌, true, false, not, sym, ap, ◌∙◌}
+use Rattle.std.proofs.Common.{◌≡◌, false, not, sym, ap, ◌∙◌}
 use Rattle.std.specs.Ordering.{is_eq, eq_by_cmp}
 use Rattle.std.proofs.lemmas.Bool.{not-false}
 use Rattle.am_record.specs.OrderedKey.{OrderedKey, key_cmp, key_cmp-itself, key_eq-exact}

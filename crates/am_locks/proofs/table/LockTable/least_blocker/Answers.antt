@@ -13,7 +13,7 @@ use Rattle.am_locks.proofs.table.LockTable.least_blocker.Goals as goal
 pub returns : goal.returns
 returns c =
     let numbers = blockers c.args.self.now c.args.tx c.args.asked.now in
-    let owners = YieldsList-from_slice c.args.self.now (c.iter.ensures.rest ∙ c.deref.ensures.0 ∙ c.self.view_is) in
+    let owners = YieldsList-from_slice c.args.self.now (c.iter.ensures.rest ∙ c.deref.ensures.value ∙ c.self.view_is) in
     let e : c.min.result ≡ reduce min numbers =
     sym (option_map_id c.min.result)
     ∙ min_from_yields_List c.map.result c.min.result c.min.ensures.ran

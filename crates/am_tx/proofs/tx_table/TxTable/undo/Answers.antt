@@ -10,7 +10,7 @@ invariant_of-self-lent c = λ w.
     let x : Transaction = c.in-Some.transaction.now in
     let here : Txs = record { begun = c.self.inside.begun; active = c.self.inside.active.items; locks = c.self.inside.locks } in
     let at : IsAt here here c.args.tx c.place_of-place.result x x = record { same = refl; in_bounds = c.place_of-place.ensures.in_bounds; value = c.in-Some.ensures.value; write = λ f. c.place_of-place.ensures.write f x } in
-    IsConsistent-set here here c.args.tx c.place_of-place.result x x (λ y. record y { log = w }) c.self.invariant at (λ y. refl) (few-ops here here c.args.tx c.place_of-place.result x x c.self.invariant at)
+    (IsConsistent-set here here c.args.tx c.place_of-place.result x x (λ y. record y { log = w }) c.self.invariant.0 at (λ y. refl) (few-ops here here c.args.tx c.place_of-place.result x x c.self.invariant.0 at), c.self.invariant.1)
 
 pub returns : goal.returns
 returns c =
