@@ -1,5 +1,5 @@
 -- Which keys a filter holds.
-use Rattle.std.specs.Prelude.{ℕ, ◌*◌, ◌/◌, ◌%◌, ◌^◌, bit_and, bit_or, List, Bool, nat_eq, length, get_or}
+use Rattle.std.specs.Prelude.{ℕ, ◌+◌, ◌*◌, ◌/◌, ◌%◌, ◌^◌, min, bit_and, bit_or, List, Bool, nat_eq, length, get_or}
 use Rattle.am_record.specs.OrderedKey.{OrderedKey}
 use Rattle.am_record.specs.KeyMix.{key_mix}
 
@@ -15,3 +15,7 @@ word_index ws n = n / 2 ^ 32 * length ws / 2 ^ 32
 -- whether the bits of the key are set in its word
 unfoldable pub has_bits : List ℕ → OrderedKey → Bool
 has_bits ws k = nat_eq (bit_and (get_or ws (word_index ws (key_mix k)) 0) (mask_of (key_mix k))) (mask_of (key_mix k))
+
+-- how many words are got for so many keys
+abbrev pub words_for : ℕ → ℕ
+words_for keys = min (keys / 4) (2 ^ 30) + 1

@@ -4,7 +4,7 @@ ghost use Rattle.std.specs.Prelude.{◌≡◌, ◌<◌, ◌%◌, ◌^◌, true, 
 ghost use Rattle.std.specs.List.{AllByRecursion};
 ghost use Rattle.am_record.specs.OrderedKey.{OrderedKey};
 ghost use Rattle.am_record.specs.KeyMix.{key_mix};
-ghost use Rattle.am_filter.specs.Filters.{mask_of, word_index, has_bits};
+ghost use Rattle.am_filter.specs.Filters.{mask_of, word_index, has_bits, words_for};
 
 use am_record::{Key, NoMemory, Value};
 use std::alloc::Global;
@@ -40,7 +40,9 @@ impl Filter {
     ///
     /// # Errors
     /// NoMemory, where memory was refused.
-    pub fn new(alloc: Global, keys: usize) -> Result<Filter, NoMemory> {
+    pub fn new(alloc: Global, keys: usize) -> Result<Filter, NoMemory>
+        ensures { IfOk result (λ f. length f ≡ words_for keys) }
+    {
         let mut words = Vec::new(alloc);
         words.resize((keys / KEYS_A_WORD).min(1 << 30) + 1, 0)?;
         Ok(Filter { words })

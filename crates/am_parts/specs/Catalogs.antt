@@ -1,6 +1,6 @@
 -- What is known of the runs that have entries left.
 use Rattle.std.specs.Prelude.{◌≡◌, ◌+◌, ◌<◌, ◌≤◌, ◌==◌, ℕ, Bool, true, List, [], ◌∷◌, map, length, take, drop}
-use Rattle.std.specs.Prelude.{slice_index_or, None, IsSome, if◌then◌else◌}
+use Rattle.std.specs.Prelude.{◌-◌, ◌^◌, min, slice_index_or, None, IsSome, if◌then◌else◌}
 use Rattle.std.specs.List.{AllByRecursion, list_any}
 use Rattle.am_record.specs.OrderedKey.{OrderedKey}
 use Rattle.am_record.specs.KeyMix.{key_mix}
@@ -26,6 +26,14 @@ pub record IsOpenRun (es : List Entry) (run : OpenRun) : Type 0 where
 
 abbrev pub parts_of : List OpenRun → List ℕ
 parts_of runs = map (λ (r : OpenRun). r.part) runs
+
+abbrev pub sum_left : List OpenRun → ℕ
+sum_left [] = 0
+sum_left (run ∷ runs) = run.left + sum_left runs
+
+-- how many entries are left in all runs, as far as a number goes
+abbrev pub all_left : List OpenRun → ℕ
+all_left runs = min (sum_left runs) (2 ^ 64 - 1)
 
 -- each is below all later ones
 abbrev pub PartsRise : List ℕ → Type 0

@@ -1,10 +1,11 @@
 -- What is known of the filters over neighbouring runs.
-use Rattle.std.specs.Prelude.{◌≡◌, ◌<◌, ◌≤◌, ◌-◌, ℕ, Bool, true, false, nat_lt, List, [], ◌∷◌, length, take}
-use Rattle.std.specs.Prelude.{slice_index_or, if◌then◌else◌}
+use Rattle.std.specs.Prelude.{◌≡◌, ◌<◌, ◌≤◌, ◌-◌, ◌*◌, ◌^◌, ◌==◌, ◌&&◌, ℕ, Bool, true, false, nat_lt, nat_le, min, max}
+use Rattle.std.specs.Prelude.{List, [], ◌∷◌, length, take, slice_get, slice_index_or, if◌then◌else◌}
+use Rattle.std.specs.Prelude.{Option, Some, None, IsSomeAnd}
 use Rattle.std.specs.List.{AllByRecursion, list_any}
 use Rattle.am_record.specs.OrderedKey.{OrderedKey}
 use Rattle.am_record.specs.declared.entry.Entry.{Entry}
-use Rattle.am_filter.specs.Filters.{has_bits}
+use Rattle.am_filter.specs.Filters.{has_bits, words_for}
 use Rattle.am_parts.specs.declared.generations.Generation.{Generation}
 
 -- whether the key is held by the generation of the partition, the first that ends above it
@@ -36,3 +37,35 @@ pub record IsStretch (gens : List Generation) (i : ℕ) (from to : ℕ) : Type 0
 pub record HasGrown (old new : Generation) : Type 0 where
   pub end : new.end ≡ old.end
   pub kept : (k : OrderedKey) → has_bits old.filter k ≡ true → has_bits new.filter k ≡ true
+
+-- ---- for how many keys they are made
+
+abbrev pub newest : List Generation → Option Generation
+newest gens = slice_get gens (length gens - 1)
+
+-- for how many keys the last one was made
+abbrev pub room_of : Option Generation → ℕ
+room_of None = 0
+room_of (Some g) = g.room
+
+-- whether it is the newest one, and as many keys more are no more than it was made for
+abbrev pub takes : ℕ → Option Generation → Bool
+takes keys None = false
+takes keys (Some g) = g.end == 2 ^ 32 && nat_le keys (g.room - g.keys)
+
+-- for how many keys the next one is made: for those of the run, and for twice as many as the last one was, or as are left
+abbrev pub room_for : ℕ → ℕ → ℕ → ℕ
+room_for last left keys = max keys (max 64 (min (2 ^ 64 - 1) (2 * min last left)))
+
+-- the newest one, without keys, and with as many words as so many keys want
+pub record IsMadeFor (keys : ℕ) (g : Generation) : Type 0 where
+  pub end : g.end ≡ 2 ^ 32
+  pub size : g.room ≡ keys
+  pub empty : g.keys ≡ 0
+  pub words : length g.filter ≡ words_for keys
+
+-- room for so many keys of a new run: none is opened where the newest one takes them
+pub record HaveRoomFor (old : List Generation) (left keys : ℕ) (new : List Generation) : Type 0 where
+  pub same : takes keys (newest old) ≡ true → new ≡ old
+  pub opened : takes keys (newest old) ≡ false → IsSomeAnd (newest new)
+      (IsMadeFor (room_for (room_of (newest old)) left keys))

@@ -9,10 +9,10 @@ ghost use Rattle.am_record.specs.declared.entry.Entry.{Entry};
 ghost use Rattle.am_list.specs.Entries.{find, insert_entry, remove_entry};
 ghost use Rattle.am_list.specs.Runs.{run_entries};
 ghost use Rattle.am_filter.specs.Filters.{has_bits};
-ghost use Rattle.am_parts.specs.Generations.{IsInGenerations};
+ghost use Rattle.am_parts.specs.Generations.{IsInGenerations, HaveRoomFor};
 ghost use Rattle.am_parts.specs.declared.generations.Generation.{Generation};
 ghost use Rattle.am_parts.specs.Catalogs.{parts_of, PartsRise, IsRunAt, IsGapAt, HasCounted, HasMore, IsOpenRunOf};
-ghost use Rattle.am_parts.specs.Catalogs.{IsNext};
+ghost use Rattle.am_parts.specs.Catalogs.{IsNext, all_left};
 
 use crate::generations::{Generations, SOME_KEYS};
 use am_filter::Filter;
@@ -277,18 +277,25 @@ impl Catalog {
         ensures run { IfOk result (IsOpenRunOf part pairs.now) }
         ensures room { OnOk result (vec_len self.new.runs < vec_capacity self.new.runs) }
         ensures reached { OnOk result (IsInGenerations self.new.generations.list.items part) }
+        ensures made { OnOk result (HaveRoomFor self.old.generations.list.items (all_left self.old.runs.items)
+            (length pairs.now) self.new.generations.list.items) }
         ensures same { (es : List Entry) → AllByRecursion (λ e. e.part < part) es → IsCatalog es self.old →
             IsCatalog es self.new }
     {
         self.runs.reserve(1)?;
         let run = OpenRun::of(self.alloc, part, pairs)?;
-        let left = self.left();
-        self.generations.make_room(part, pairs.len(), left)?;
+        // Only a new generation asks how much is left in all runs: not each load goes over them.
+        if !self.generations.has_room(pairs.len()) {
+            let left = self.left();
+            self.generations.open(part, pairs.len(), left)?;
+        }
         Ok(run)
     }
 
     // How many entries are left in all runs.
-    fn left(&self) -> usize {
+    fn left(&self) -> usize
+        ensures { result ≡ all_left self.now.runs.items }
+    {
         let mut left: u64 = 0;
         for run in &self.runs {
             left = left.saturating_add(run.left);

@@ -1,6 +1,7 @@
 //! Filters over the keys of many runs.
 
-ghost use Rattle.std.specs.Prelude.{◌≡◌, ◌<◌, ◌≤◌, ◌++◌, ◌^◌, ℕ, List, [], length, true, IfOk, OnOk, OnErr};
+ghost use Rattle.std.specs.Prelude.{◌≡◌, ◌<◌, ◌≤◌, ◌++◌, ◌^◌, ℕ, List, [], length, max, true, Some};
+ghost use Rattle.std.specs.Prelude.{IfOk, OnOk, OnErr, IsSomeAnd};
 ghost use Rattle.std.specs.List.{AllByRecursion};
 ghost use Rattle.am_record.specs.KeyMix.{key_mix};
 ghost use Rattle.am_record.specs.OrderedKey.{OrderedKey};
@@ -9,6 +10,7 @@ ghost use Rattle.am_list.specs.Entries.{insert_entry};
 ghost use Rattle.am_list.specs.Runs.{run_entries};
 ghost use Rattle.am_filter.specs.Filters.{has_bits};
 ghost use Rattle.am_parts.specs.Generations.{AreHeld, HasGrown, IsGenerationAt, IsInGenerations, IsStretch};
+ghost use Rattle.am_parts.specs.Generations.{newest, takes, room_of, room_for, IsMadeFor};
 
 use am_filter::Filter;
 use am_record::{Key, NoMemory, Value};
@@ -39,7 +41,7 @@ pub(crate) struct Generation {
 impl Generation {
     // The newest one, without keys.
     fn new(alloc: Global, room: usize) -> Result<Generation, NoMemory>
-        ensures { IfOk result (λ g. g.end ≡ 2 ^ 32) }
+        ensures { IfOk result (IsMadeFor room) }
     {
         let filter = Filter::new(alloc, room)?;
         Ok(Generation {
@@ -59,7 +61,7 @@ impl Generation {
 
     // Whether it is the newest and has room for so many keys.
     fn has_room(&self, keys: usize) -> bool
-        ensures { result ≡ true → self.now.end ≡ 2 ^ 32 }
+        ensures { result ≡ takes keys (Some self.now) }
     {
         self.end == BEHIND_ALL && keys <= self.room.saturating_sub(self.keys)
     }
@@ -126,19 +128,29 @@ impl Generations {
         Ok(())
     }
 
-    /// Sees to it that there is a generation for a run behind all others, which has so many keys. How many entries are
-    /// left in the runs is told so that a new one isn't made larger than they ask for.
+    /// Whether the newest one has room for so many keys more.
+    pub(crate) fn has_room(&self, keys: usize) -> bool
+        ensures value { result ≡ takes keys (newest self.now.list.items) }
+        ensures reached { result ≡ true → (part : ℕ) → part < 2 ^ 32 → IsInGenerations self.now.list.items part }
+    {
+        match self.list.last() {
+            Some(newest) => newest.has_room(keys),
+            None => false,
+        }
+    }
+
+    /// Opens one for a run behind all others, which has so many keys. How many entries are left in the runs is told so
+    /// that it isn't made larger than they ask for.
     ///
     /// # Errors
     /// NoMemory, where memory was refused.
-    pub(crate) fn make_room(&mut self, part: u32, keys: usize, left: usize) -> Result<(), NoMemory>
+    pub(crate) fn open(&mut self, part: u32, keys: usize, left: usize) -> Result<(), NoMemory>
         ensures reached { OnOk result (IsInGenerations self.new.list.items part) }
+        ensures opened { OnOk result (IsSomeAnd (newest self.new.list.items)
+            (IsMadeFor (room_for (room_of (newest self.old.list.items)) left keys))) }
         ensures kept { (es : List Entry) → AllByRecursion (λ e. e.part < part) es → AreHeld es self.old.list.items →
             AreHeld es self.new.list.items }
     {
-        if self.has_room(keys) {
-            return Ok(());
-        }
         let room = self.next_room(left).max(keys);
         let generation = Generation::new(self.alloc, room)?;
         self.list.reserve(1)?;
@@ -147,18 +159,10 @@ impl Generations {
         Ok(())
     }
 
-    // Whether the newest one has room for so many keys.
-    fn has_room(&self, keys: usize) -> bool
-        ensures { result ≡ true → (part : ℕ) → part < 2 ^ 32 → IsInGenerations self.now.list.items part }
-    {
-        match self.list.last() {
-            Some(newest) => newest.has_room(keys),
-            None => false,
-        }
-    }
-
     // For how many keys the next one is made: twice as many as the last, or as are left in the runs.
-    fn next_room(&self, left: usize) -> usize {
+    fn next_room(&self, left: usize) -> usize
+        ensures { (keys : ℕ) → max keys result ≡ room_for (room_of (newest self.now.list.items)) left keys }
+    {
         let last = self.list.last().map_or(0, |last| last.room);
         last.min(left).saturating_mul(2).max(SOME_KEYS)
     }

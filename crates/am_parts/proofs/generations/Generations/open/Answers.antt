@@ -1,7 +1,7 @@
 use Rattle.std.proofs.Common.{◌++◌, ◌∷◌, [], sym, subst}
 use Rattle.am_parts.specs.Generations.{AreHeld}
 use Rattle.am_parts.proofs.Held.{all_held, held_behind}
-use Rattle.am_parts.proofs.generations.Generations.make_room.Goals as goal
+use Rattle.am_parts.proofs.generations.Generations.open.Goals as goal
 
 pub returns-clause-kept : goal.returns-clause-kept
 returns-clause-kept c = λ es below held.
