@@ -5,8 +5,10 @@ use Rattle.std.proofs.lemmas.Bool.{cases_lt, cases_eq, or_cases, eqb-true, false
 use Rattle.std.proofs.lemmas.List.{get_or_default}
 use Rattle.std.specs.List.{AllByRecursion}
 use Rattle.std.specs.List.Sorted.{IsPartitionedBy}
+use Rattle.am_record.specs.KeyNumber.{key_number}
 use Rattle.am_record.specs.OrderedKey.{OrderedKey}
 use Rattle.am_record.specs.declared.entry.Entry.{Entry}
+use Rattle.am_record.specs.declared.hash_key.HashKey.{HashKey}
 use Rattle.am_record.proofs.Lists.{AllByRecursion-map}
 use Rattle.am_list.specs.Entries.{find, insert_entry, set_entry, remove_entry}
 use Rattle.am_parts.specs.declared.catalog.OpenRun.{OpenRun}
@@ -60,21 +62,21 @@ module _ {runs : List OpenRun} {part i : ℕ} (at : IsRunAt runs part i) (old ne
   pub stands_as : old ≡ get_or runs i new
   stands_as = stands ∙ get_or_default runs i old new at.in_range
 
-  pub more_at : {T E : Type 0} (n : ℕ) (r : Result T E) (key : OrderedKey) → part ≢ 0 → OnOk r (HasMore old key new)
-      → OnOk r ((es : List Entry) (x : Entry) → x.part ≡ part → x.key ≡ key → AreListed es n runs → AreListed (insert_entry es x) n (set runs i new))
-  more_at n (Ok v) key some more = λ es x p k h.
-      let has : HasMore (get_or runs i new) x.key new = subst (λ (o : OpenRun). HasMore o x.key new) stands_as (subst (λ (q : OrderedKey). HasMore old q new) (sym k) more) in
+  pub more_at : {T E : Type 0} (n : ℕ) (r : Result T E) (number : ℕ) → part ≢ 0 → OnOk r (HasMore old number new)
+      → OnOk r ((hash : HashKey) (es : List Entry) (x : Entry) → x.part ≡ part → number ≡ key_number hash x.key → AreListed hash es n runs → AreListed hash (insert_entry es x) n (set runs i new))
+  more_at n (Ok v) number some more = λ hash es x p k h.
+      let has : HasMore (get_or runs i new) (key_number hash x.key) new = subst (λ (o : OpenRun). HasMore o (key_number hash x.key) new) stands_as (subst (λ (q : ℕ). HasMore old q new) k more) in
       run_more h x (omega (arith, p, some)) i new (subst (λ (q : ℕ). IsRunAt runs q i) (sym p) at) has
-  more_at n (Err e) key some more = tt
+  more_at n (Err e) number some more = tt
 
-  pub as_before : {T E : Type 0} (n : ℕ) (r : Result T E) → OnErr r (new ≡ old) → OnErr r ((es : List Entry) → AreListed es n runs → AreListed es n (set runs i new))
+  pub as_before : {T E : Type 0} (n : ℕ) (r : Result T E) → OnErr r (new ≡ old) → OnErr r ((hash : HashKey) (es : List Entry) → AreListed hash es n runs → AreListed hash es n (set runs i new))
   as_before n (Ok v) same = tt
-  as_before n (Err e) same = λ es h.
-      subst (AreListed es n) (sym (ap (λ (x : OpenRun). set runs i x) same ∙ set_same runs i old stands)) h
+  as_before n (Err e) same = λ hash es h.
+      subst (AreListed hash es n) (sym (ap (λ (x : OpenRun). set runs i x) same ∙ set_same runs i old stands)) h
 
   pub less_at : (n : ℕ) → part ≢ 0 → new.part ≡ old.part → new.left + 1 ≡ old.left → new.filter ≡ old.filter → 0 < new.left
-      → (es : List Entry) (key : OrderedKey) → AreListed es n runs → IsSome (find es part key) → AreListed (remove_entry es part key) n (set runs i new)
-  less_at n some p less f left = λ es key h there.
+      → (hash : HashKey) (es : List Entry) (key : OrderedKey) → AreListed hash es n runs → IsSome (find es part key) → AreListed hash (remove_entry es part key) n (set runs i new)
+  less_at n some p less f left = λ hash es key h there.
       let is = stands_as in
       run_less h part key there (omega (arith, some)) i at new (p ∙ ap (λ (o : OpenRun). o.part) is) (less ∙ ap (λ (o : OpenRun). o.left) is) (f ∙ ap (λ (o : OpenRun). o.filter) is) left
 
@@ -84,18 +86,22 @@ pub ok_map : {T E : Type 0} {A B : Type 0} (r : Result T E) → (A → B) → On
 ok_map (Ok v) f a = f a
 ok_map (Err e) f a = tt
 
-pub catalog_set : {es : List Entry} {c : Catalog} (part : ℕ) (key : OrderedKey) (value : List ℕ) (is_ghost : Bool) → IsCatalog es c → IsCatalog (set_entry es part key value is_ghost) c
-catalog_set {es} {c} part key value is_ghost h = record {
+pub err_map : {T E : Type 0} {A B : Type 0} (r : Result T E) → (A → B) → OnErr r A → OnErr r B
+err_map (Ok v) f a = tt
+err_map (Err e) f a = f a
+
+pub catalog_set : {hash : HashKey} {es : List Entry} {c : Catalog} (part : ℕ) (key : OrderedKey) (value : List ℕ) (is_ghost : Bool) → IsCatalog hash es c → IsCatalog hash (set_entry es part key value is_ghost) c
+catalog_set {hash} {es} {c} part key value is_ghost h = record {
   counted = listed_set part key value is_ghost h.counted;
-  held = all_set (λ p k. 0 < p → is_held c.generations.list.items p k ≡ true) part key value is_ghost es h.held;
+  held = all_set (λ p k. 0 < p → is_held c.generations.list.items p (key_number hash k) ≡ true) part key value is_ghost es h.held;
 }
 
 -- after an entry was counted as gone
-pub catalog_less : {es : List Entry} {c c' : Catalog} (part : ℕ) (key : OrderedKey) → IsCatalog es c → AreCounted (remove_entry es part key) c' → c'.generations ≡ c.generations → IsCatalog (remove_entry es part key) c'
-catalog_less {es} {c} {c'} part key h counted same = record {
+pub catalog_less : {hash : HashKey} {es : List Entry} {c c' : Catalog} (part : ℕ) (key : OrderedKey) → IsCatalog hash es c → AreCounted hash (remove_entry es part key) c' → c'.generations ≡ c.generations → IsCatalog hash (remove_entry es part key) c'
+catalog_less {hash} {es} {c} {c'} part key h counted same = record {
   counted = counted;
-  held = subst (λ (g : Generations). AreHeld (remove_entry es part key) g.list.items) (sym same)
-      (all_removed (λ e. 0 < e.part → is_held c.generations.list.items e.part e.key ≡ true) part key es h.held);
+  held = subst (λ (g : Generations). AreHeld hash (remove_entry es part key) g.list.items) (sym same)
+      (all_removed (λ e. 0 < e.part → is_held c.generations.list.items e.part (key_number hash e.key) ≡ true) part key es h.held);
 }
 
 -- ---- a generation whose runs are all gone
@@ -133,9 +139,9 @@ any_of [] i lt = absurd (omega arith)
 any_of (g ∷ gs) i lt = g
 
 -- the index is the generation of no entry's partition
-pub of_no_entry : {es : List Entry} {n : ℕ} {runs : List OpenRun} (gens : List Generation) (i from to : ℕ) → AreListed es n runs → i < length gens → IsStretch gens i from to → Beside from to runs
+pub of_no_entry : {hash : HashKey} {es : List Entry} {n : ℕ} {runs : List OpenRun} (gens : List Generation) (i from to : ℕ) → AreListed hash es n runs → i < length gens → IsStretch gens i from to → Beside from to runs
     → AllByRecursion (λ (e : Entry). 0 < e.part → ¬ IsGenerationAt gens e.part i) es
-of_no_entry {es} {n} {runs} gens i from to h lt stretch out =
+of_no_entry {hash} {es} {n} {runs} gens i from to h lt stretch out =
     let d : Generation = any_of gens i lt in
     AllByRecursion-map (λ e. 0 < e.part → is_one_of (parts_of runs) e.part ≡ true) (λ e. 0 < e.part → ¬ IsGenerationAt gens e.part i)
     (λ e one some at.

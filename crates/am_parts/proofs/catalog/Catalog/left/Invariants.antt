@@ -1,4 +1,4 @@
-use Rattle.std.proofs.Common.{◌≡◌, ◌^◌, ◌-◌, min, take}
+use Rattle.std.proofs.Common.{◌≡◌, take}
 use Rattle.am_parts.specs.Catalogs.{all_left}
 use Rattle.am_parts.proofs.catalog.Catalog.left.Given as goal
 

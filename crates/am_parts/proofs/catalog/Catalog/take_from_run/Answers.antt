@@ -21,6 +21,6 @@ returns-then-index-gt1-clause-listed c =
     less_at at old (record { part = old.part; left = old.left - 1; filter = old.filter }) c.index_mut.ensures.value c.args.self.now.in_final (λ none. absurd (omega (arith, none, c.requires.is_run))) refl (omega (arith, many)) refl (omega (arith, many))
 
 pub returns-clause-listed : goal.returns-clause-listed
-returns-clause-listed c = λ es key h stands.
+returns-clause-listed c = λ hash es key h stands.
     let at = subst (λ l. IsRunAt l c.args.part c.in-Ok.at) c.deref.ensures.value c.in-Ok.ensures.found in
-    subst (AreListed _ _) (sym c.remove.ensures.items) (run_gone h c.args.part key stands c.requires.is_run c.in-Ok.at at c.index.result.now (omega (arith, ap (λ (r : OpenRun). r.left) c.index.ensures, c.if-index-gt1.false)))
+    subst (AreListed hash _ _) (sym c.remove.ensures.items) (run_gone h c.args.part key stands c.requires.is_run c.in-Ok.at at c.index.result.now (omega (arith, ap (λ (r : OpenRun). r.left) c.index.ensures, c.if-index-gt1.false)))
