@@ -4,7 +4,7 @@ use crate::numbers::Numbers;
 use am_btree::BTree;
 use am_core::Store;
 use am_model::{Plain, alone};
-use am_record::{Key, NoMemory, Op, Range, Reply, Step};
+use am_record::{HashKey, Key, NoMemory, Op, Range, Reply, Step};
 use std::alloc::Global;
 
 /// How many transactions may be active at once.
@@ -64,7 +64,7 @@ impl History {
     pub(crate) fn open(alloc: Global) -> Result<History, Fault> {
         Ok(History {
             alloc,
-            store: Store::open(alloc, BTree::new(alloc)?)?,
+            store: Store::open(alloc, BTree::new(alloc)?, HashKey::known())?,
             plain: Plain::new(alloc),
             numbers: Numbers::new(),
             trace: Vec::new(alloc),

@@ -10,7 +10,7 @@ use am_btree::BTree;
 use am_list::PartIndex;
 use am_list_index::ListIndex;
 use am_parts::Parts;
-use am_record::{Entry, Key, MAX_RUN_RECORDS, NoMemory, Refusal, Reply, Value};
+use am_record::{Entry, HashKey, Key, MAX_RUN_RECORDS, NoMemory, Refusal, Reply, Value};
 use am_runs::{LoadFault, Run, cut_runs, load};
 use std::alloc::Global;
 
@@ -153,7 +153,7 @@ fn load_from<I: PartIndex + Drop>(
 fn loads<I: PartIndex + Drop>(alloc: Global, index: I) -> Result<(), Fault>
     requires { I.entries index ≡ [] }
 {
-    let mut parts = Parts::new(alloc, index);
+    let mut parts = Parts::new(alloc, index, HashKey::known());
     let mut entries = Vec::new(alloc);
     load_from(alloc, &mut parts, &mut entries, 1, 0)?;
     load_from(alloc, &mut parts, &mut entries, 2, 100)

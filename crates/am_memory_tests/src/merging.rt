@@ -7,7 +7,7 @@ use am_btree::BTree;
 use am_locks::LockTable;
 use am_merge::{Wishes, merge_step};
 use am_parts::Parts;
-use am_record::{NoMemory, Refusal, Reply};
+use am_record::{HashKey, NoMemory, Refusal, Reply};
 use std::alloc::Global;
 
 /// How many records the run has.
@@ -15,7 +15,7 @@ const RECORDS: u64 = 40;
 
 // A run, and nothing beside it.
 fn one_run(alloc: Global) -> Result<Parts<BTree>, Fault> {
-    let mut parts = Parts::new(alloc, BTree::new(alloc)?);
+    let mut parts = Parts::new(alloc, BTree::new(alloc)?, HashKey::known());
     for number in 0..RECORDS {
         place(&mut parts, live(1, number))?;
     }

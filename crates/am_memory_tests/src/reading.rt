@@ -5,13 +5,13 @@ use crate::holding::place;
 use crate::numbers::{live, pairs_of, range};
 use am_btree::BTree;
 use am_parts::Parts;
-use am_record::{Key, NoMemory, Range, Value};
+use am_record::{HashKey, Key, NoMemory, Range, Value};
 use am_scan::{Cursor, scan};
 use std::alloc::Global;
 
 // The numbers below 30 in three partitions in turn.
 fn three_partitions(alloc: Global) -> Result<Parts<BTree>, Fault> {
-    let mut parts = Parts::new(alloc, BTree::new(alloc)?);
+    let mut parts = Parts::new(alloc, BTree::new(alloc)?, HashKey::known());
     for number in 0..30 {
         place(&mut parts, live((number % 3) as u32, number))?;
     }
@@ -20,7 +20,7 @@ fn three_partitions(alloc: Global) -> Result<Parts<BTree>, Fault> {
 
 // The same numbers in one partition.
 fn one_partition(alloc: Global) -> Result<Parts<BTree>, Fault> {
-    let mut parts = Parts::new(alloc, BTree::new(alloc)?);
+    let mut parts = Parts::new(alloc, BTree::new(alloc)?, HashKey::known());
     for number in 0..30 {
         place(&mut parts, live(1, number))?;
     }

@@ -5,7 +5,7 @@ ghost use Rattle.std.specs.Prelude.{◌≡◌};
 use crate::fault::{Fault, expect, expect_unchanged};
 use crate::numbers::value;
 use am_latch::{Blank, Latch, LatchFault, LatchName, Seat};
-use am_record::{Key, Op, Range, Refusal, Reply, Step};
+use am_record::{HashKey, Key, Op, Range, Refusal, Reply, Step};
 use std::alloc::Global;
 use std::marker::Brand;
 use std::sync::Wait;
@@ -95,7 +95,7 @@ fn commit<L: LatchName, R: Wait>(
 fn transactions<L: LatchName, R: Wait>(rt: &R, blank: Blank) -> Result<(), Fault>
     requires { (blank.seats ≡ L.seats) × (blank.table ≡ L.table) }
 {
-    let (latch, mut seats) = Latch::<L>::open(blank)?;
+    let (latch, mut seats) = Latch::<L>::open(blank, HashKey::known())?;
     let mut seat = seats.pop().ok_or(Fault::Differs)?;
     for number in 1..=3_u64 {
         let tx = begin(rt, &latch, &mut seat)?;

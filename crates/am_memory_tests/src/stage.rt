@@ -5,7 +5,7 @@ use crate::fault::{Fault, expect, expect_unchanged};
 use crate::numbers::value_of;
 use am_btree::BTree;
 use am_core::Store;
-use am_record::{Entry, Key, NoMemory, Op, Refusal, Reply, Step};
+use am_record::{Entry, HashKey, Key, NoMemory, Op, Refusal, Reply, Step};
 use std::alloc::Global;
 
 /// A store whose steps are taken again where they are refused memory.
@@ -45,7 +45,7 @@ impl Stage {
     pub(crate) fn open(alloc: Global) -> Result<Stage, NoMemory> {
         Ok(Stage {
             alloc,
-            store: Store::open(alloc, BTree::new(alloc)?)?,
+            store: Store::open(alloc, BTree::new(alloc)?, HashKey::known())?,
         })
     }
 

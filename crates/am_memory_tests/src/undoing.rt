@@ -8,7 +8,7 @@ use crate::holding::{hold_just, place};
 use crate::numbers::{live, value_of};
 use am_list_index::ListIndex;
 use am_parts::Parts;
-use am_record::{Key, Value};
+use am_record::{HashKey, Key, Value};
 use am_undo::{Note, UndoLog, undo_follows};
 use std::alloc::Global;
 
@@ -91,7 +91,7 @@ fn change_often(
 /// Six changes of one entry, each with a note and a mark, are taken back. The first four notes and the first two marks
 /// take no memory.
 pub(crate) fn six_notes(alloc: Global) -> Result<(), Fault> {
-    let mut parts = Parts::new(alloc, ListIndex::new(alloc));
+    let mut parts = Parts::new(alloc, ListIndex::new(alloc), HashKey::known());
     place(&mut parts, live(0, 5))?;
     let mut log = begin(alloc, &parts);
     change_often(&mut parts, &mut log, Key::of_u64(5), b"bcdefg")?;

@@ -22,6 +22,16 @@ impl HashKey {
         }
     }
 
+    /// One that everybody knows, digits of pi: for tests, and where no stranger chooses keys.
+    pub fn known() -> HashKey
+        ensures { result ≡ record { first = 0x243F_6A88_85A3_08D3; second = 0x1319_8A2E_0370_7345 } }
+    {
+        HashKey {
+            first: 0x243F_6A88_85A3_08D3,
+            second: 0x1319_8A2E_0370_7345,
+        }
+    }
+
     // A number with a word folded into it.
     #[tactic(auto, unfolding(crate::specs::KeyNumber::fold_in))]
     pub(crate) fn fold_in(self, number: u64, word: u64) -> u64

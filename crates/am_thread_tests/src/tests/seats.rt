@@ -4,7 +4,7 @@ ghost use Rattle.std.specs.Prelude.{◌≡◌};
 
 use am_audit::check;
 use am_latch::{Blank, Latch, LatchName, Seat, close, was_refused};
-use am_record::{Key, Op, Refusal, Reply, Step, Value};
+use am_record::{HashKey, Key, Op, Refusal, Reply, Step, Value};
 use std::alloc::Global;
 use std::marker::Brand;
 use std::process::Abort;
@@ -52,7 +52,7 @@ fn by_two_threads<L: LatchName + Send + Sync, R: Threads + Wait + Abort + Sync>(
 ) -> Result<(), Fail>
     requires { (blank.seats ≡ L.seats) × (blank.table ≡ L.table) }
 {
-    let (latch, mut seats) = Latch::<L>::open(blank)?;
+    let (latch, mut seats) = Latch::<L>::open(blank, HashKey::known())?;
     let second = seats.pop().ok_or("no seat")?;
     let first = seats.pop().ok_or("no seat")?;
     let shared = &latch;
@@ -88,7 +88,7 @@ fn two_seats_on_two_threads(rt: HostRuntime) -> Result<(), Fail> {
 fn without_one<L: LatchName, R: Abort>(rt: &R, blank: Blank) -> Result<(), Fail>
     requires { (blank.seats ≡ L.seats) × (blank.table ≡ L.table) }
 {
-    let (latch, mut seats) = Latch::<L>::open(blank)?;
+    let (latch, mut seats) = Latch::<L>::open(blank, HashKey::known())?;
     let second = seats.pop().ok_or("no seat")?;
     let Err(missing) = close(latch, seats) else {
         panic!(rt; "a seat is missing")
@@ -117,7 +117,7 @@ fn begun_by_all<L: LatchName, R: Wait + Abort>(
 ) -> Result<Vec<Reply>, Fail>
     requires { (blank.seats ≡ L.seats) × (blank.table ≡ L.table) }
 {
-    let (latch, seats) = Latch::<L>::open(blank)?;
+    let (latch, seats) = Latch::<L>::open(blank, HashKey::known())?;
     let mut replies = Vec::new(alloc);
     for mut seat in seats {
         if seat.open_tx().is_none() {
@@ -146,7 +146,7 @@ fn filled<L: LatchName, R: Wait + Abort>(
 ) -> Result<(usize, Reply, Reply), Fail>
     requires { (blank.seats ≡ L.seats) × (blank.table ≡ L.table) }
 {
-    let (latch, mut seats) = Latch::<L>::open(blank)?;
+    let (latch, mut seats) = Latch::<L>::open(blank, HashKey::known())?;
     let mut seat = seats.pop().ok_or("no seat")?;
     if seat.open_tx().is_none() {
         seat.call(rt, &latch, Step::Begin);

@@ -4,7 +4,7 @@ ghost use Rattle.std.specs.Prelude.{◌≡◌};
 ghost use Rattle.am_words.specs.Words.{new_history};
 
 use am_latch::{Blank, Latch, LatchName, Seat, was_refused};
-use am_record::Step;
+use am_record::{HashKey, Step};
 use am_words::{WordSeat, Words};
 use std::marker::Brand;
 use std::process::Abort;
@@ -79,7 +79,7 @@ fn beside_the_latch<L: LatchName + Send + Sync, R: Threads + Wait + Clock + Sync
     requires named { (blank.seats ≡ L.seats) × (blank.table ≡ L.table) }
     requires word_seat { word_seat.old.of ≡ words.now }
 {
-    let (latch, _seats) = Latch::<L>::open(blank)?;
+    let (latch, _seats) = Latch::<L>::open(blank, HashKey::known())?;
     let signals = Signals {
         is_held: AtomicBool::new(false),
         may_go: AtomicBool::new(false),
@@ -126,7 +126,7 @@ fn publishes_the_third<L: LatchName, R: Wait + Abort>(
     requires named { (blank.seats ≡ L.seats) × (blank.table ≡ L.table) }
     requires word_seats { (word_seat.old.of ≡ words.now) × (other.old.of ≡ words.now) }
 {
-    let (latch, mut seats) = Latch::<L>::open(blank)?;
+    let (latch, mut seats) = Latch::<L>::open(blank, HashKey::known())?;
     let mut seat = seats.pop().ok_or("no seat")?;
     for _ in 0..3 {
         assert!(rt; commits(rt, &latch, &mut seat));

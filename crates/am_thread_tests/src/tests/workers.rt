@@ -3,7 +3,7 @@
 ghost use Rattle.std.specs.Prelude.{◌≡◌};
 
 use am_latch::{Blank, Latch, LatchName, Seat, close};
-use am_record::{Key, Lock, Mode, Op, Pairs, Range, Refusal, Reply, Step, Value};
+use am_record::{HashKey, Key, Lock, Mode, Op, Pairs, Range, Refusal, Reply, Step, Value};
 use am_workers::{Pacer, run_workers};
 use std::alloc::Global;
 use std::marker::Brand;
@@ -58,7 +58,7 @@ fn by_two_workers<L: LatchName + Send + Sync, R: Threads + Wait + Clock + Abort 
 ) -> Result<(), Fail>
     requires { (blank.seats ≡ L.seats) × (blank.table ≡ L.table) }
 {
-    let (latch, seats) = Latch::<L>::open(blank)?;
+    let (latch, seats) = Latch::<L>::open(blank, HashKey::known())?;
     let meeting = Meeting {
         there: AtomicU64::new(0),
         clock: rt,
@@ -152,7 +152,7 @@ fn by_one_worker<L: LatchName + Send + Sync, R: Threads + Wait + Abort + Sync>(
 ) -> Result<(), Fail>
     requires { (blank.seats ≡ L.seats) × (blank.table ≡ L.table) }
 {
-    let (latch, mut seats) = Latch::<L>::open(blank)?;
+    let (latch, mut seats) = Latch::<L>::open(blank, HashKey::known())?;
     let worker = seats.pop().ok_or("no seat")?;
     let mut reader = seats.pop().ok_or("no seat")?;
     load_three(rt, alloc, &latch, &mut reader)?;
@@ -183,7 +183,7 @@ fn answers_of_one_worker<L: LatchName + Send + Sync, R: Threads + Wait + Abort +
 ) -> Result<Vec<Reply>, Fail>
     requires { (blank.seats ≡ L.seats) × (blank.table ≡ L.table) }
 {
-    let (latch, seats) = Latch::<L>::open(blank)?;
+    let (latch, seats) = Latch::<L>::open(blank, HashKey::known())?;
     let mut worked = run_workers(rt, &latch, seats, turns, limit, &Always);
     assert_eq!(rt; worked.moved, 0);
     let worker = worked.seats.pop().ok_or("no seat")?;
@@ -229,7 +229,7 @@ fn turns_of<L: LatchName + Send + Sync, R: Threads + Wait + Abort + Sync>(
 ) -> Result<u64, Fail>
     requires { (blank.seats ≡ L.seats) × (blank.table ≡ L.table) }
 {
-    let (latch, seats) = Latch::<L>::open(blank)?;
+    let (latch, seats) = Latch::<L>::open(blank, HashKey::known())?;
     let worked = run_workers(rt, &latch, seats, 2, 16, &Always);
     let mut turns = 0_u64;
     for seat in &worked.seats {
@@ -255,7 +255,7 @@ fn behind_a_locked_record<L: LatchName + Send + Sync, R: Threads + Wait + Abort 
 ) -> Result<u64, Fail>
     requires { (blank.seats ≡ L.seats) × (blank.table ≡ L.table) }
 {
-    let (latch, mut seats) = Latch::<L>::open(blank)?;
+    let (latch, mut seats) = Latch::<L>::open(blank, HashKey::known())?;
     let worker = seats.pop().ok_or("no seat")?;
     let mut reader = seats.pop().ok_or("no seat")?;
     load_three(rt, alloc, &latch, &mut reader)?;
