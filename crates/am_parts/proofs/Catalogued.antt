@@ -119,7 +119,7 @@ beside from to (r ∷ rs) zero below above = (let le : to ≤ r.part = above.0 i
     nothing (r ∷ rs) = tt
 beside from to (r ∷ rs) (suc i) below above = (let lt : r.part < from = below.0 in (λ low high. absurd (omega (arith, lt, low))), beside from to rs i below.1 above)
 
-none_within : (from to part : ℕ) (rs : List OpenRun) → Beside from to rs → from ≤ part → part < to → is_one_of (parts_of rs) part ≡ true → ⊥
+pub none_within : (from to part : ℕ) (rs : List OpenRun) → Beside from to rs → from ≤ part → part < to → is_one_of (parts_of rs) part ≡ true → ⊥
 none_within from to part [] out low high one = false≢true one
 none_within from to part (r ∷ rs) out low high one =
     ⊎_elim
@@ -150,3 +150,54 @@ of_no_entry {hash} {es} {n} {runs} gens i from to h lt stretch out =
     ⊎_elim (λ (first : i ≡ 0). omega (arith, stretch.first first))
     (λ (later : i ≢ 0). omega (arith, stretch.after d (omega (arith, later)), end_before gens e.part i (i - 1) d (omega (arith, later)) at.in_range at.below)) (cases_eq i 0) in
     none_within from to e.part runs out low high (one some)) es h.every
+
+-- ---- which generation is let go
+
+-- the partition has one alone
+pub one_generation : (gens : List Generation) (part i j : ℕ) → IsGenerationAt gens part i → IsGenerationAt gens part j → i < length gens → i ≡ j
+one_generation gens part i j at other lt =
+    let d : Generation = any_of gens i lt in
+    ⊎_elim
+    (λ (less : i < j). absurd (omega (arith, at.here d lt, end_before gens part (i + 1) i d refl (omega (arith, less, other.in_range)) (fewer_below gens part j (i + 1) (omega (arith, less)) other.below))))
+    (λ (le : j ≤ i).
+    ⊎_elim
+    (λ (less : j < i). absurd (omega (arith, other.here d (omega (arith, less, lt)), end_before gens part (j + 1) j d refl (omega (arith, less, lt)) (fewer_below gens part i (j + 1) (omega (arith, less)) at.below))))
+    (λ (ge : i ≤ j). omega (arith, le, ge))
+    (cases_lt j i))
+    (cases_lt i j)
+  where
+    fewer_below : (gs : List Generation) (part n m : ℕ) → m ≤ n → AllByRecursion (λ (g : Generation). g.end ≤ part) (take n gs) → AllByRecursion (λ (g : Generation). g.end ≤ part) (take m gs)
+    fewer_below [] part n zero le a = tt
+    fewer_below [] part n (suc m) le a = tt
+    fewer_below (g ∷ gs) part n zero le a = tt
+    fewer_below (g ∷ gs) part zero (suc m) le a = absurd (omega (arith, le))
+    fewer_below (g ∷ gs) part (suc n) (suc m) le a = (a.0, fewer_below gs part n m (omega (arith, le)) a.1)
+
+-- it goes from its begin up to its end, and the partition is there
+pub within_stretch : (gens : List Generation) (part i from to : ℕ) → IsGenerationAt gens part i → i < length gens → IsStretch gens i from to → (from ≤ part) × (part < to)
+within_stretch gens part i from to at lt stretch =
+    let d : Generation = any_of gens i lt in (
+      ⊎_elim (λ (first : i ≡ 0). omega (arith, stretch.first first))
+          (λ (later : i ≢ 0). omega (arith, stretch.after d (omega (arith, later)), end_before gens part i (i - 1) d (omega (arith, later)) at.in_range at.below)) (cases_eq i 0),
+      omega (arith, at.here d lt, stretch.end d),
+    )
+
+-- where no run is within, as many are below its end as below its begin
+pub as_many_below : (from to : ℕ) (rs : List OpenRun) (i j : ℕ) → from ≤ to → i ≤ length rs → j ≤ length rs → Beside from to rs → AllByRecursion (λ (r : OpenRun). r.part < from) (take i rs) → AllByRecursion (λ (r : OpenRun). from ≤ r.part) (drop i rs)
+    → AllByRecursion (λ (r : OpenRun). r.part < to) (take j rs) → AllByRecursion (λ (r : OpenRun). to ≤ r.part) (drop j rs) → i ≡ j
+as_many_below from to rs zero zero le in_i in_j out below others under over = refl
+as_many_below from to [] zero (suc j) le in_i in_j out below others under over = absurd (omega (arith, in_j))
+as_many_below from to [] (suc i) j le in_i in_j out below others under over = absurd (omega (arith, in_i))
+as_many_below from to (r ∷ rs) zero (suc j) le in_i in_j out below others under over = absurd (out.0 others.0 under.0)
+as_many_below from to (r ∷ rs) (suc i) zero le in_i in_j out below others under over =
+    let lt : r.part < from = below.0 in let ge : to ≤ r.part = over.0 in absurd (omega (arith, lt, ge, le))
+as_many_below from to (r ∷ rs) (suc i) (suc j) le in_i in_j out below others under over =
+    let same : i ≡ j = as_many_below from to rs i j le (omega (arith, in_i)) (omega (arith, in_j)) out.1 below.1 others under.1 over in omega (arith, same)
+
+pub same_stretch : (gens : List Generation) (i from to from' to' : ℕ) → i < length gens → IsStretch gens i from to → IsStretch gens i from' to' → (from ≡ from') × (to ≡ to')
+same_stretch gens i from to from' to' lt one other =
+    let d : Generation = any_of gens i lt in (
+      ⊎_elim (λ (first : i ≡ 0). one.first first ∙ sym (other.first first))
+          (λ (later : i ≢ 0). sym (one.after d (omega (arith, later))) ∙ other.after d (omega (arith, later))) (cases_eq i 0),
+      sym (one.end d) ∙ other.end d,
+    )

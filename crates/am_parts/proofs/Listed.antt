@@ -24,7 +24,7 @@ below_at p [] i d up lt = absurd (omega arith)
 below_at p (r ∷ rs) zero d up lt = up.0
 below_at p (r ∷ rs) (suc i) d up lt = below_at p rs i d up.1 (omega arith)
 
-one_at : (rs : List OpenRun) (i : ℕ) (d : OpenRun) → i < length rs → is_one_of (parts_of rs) (get_or rs i d).part ≡ true
+pub one_at : (rs : List OpenRun) (i : ℕ) (d : OpenRun) → i < length rs → is_one_of (parts_of rs) (get_or rs i d).part ≡ true
 one_at [] i d lt = absurd (omega arith)
 one_at (r ∷ rs) zero d lt = or_left (r.part == r.part) (is_one_of (parts_of rs) r.part) (eq-eqb r.part r.part refl)
 one_at (r ∷ rs) (suc i) d lt = or_right (r.part == (get_or rs i d).part) (is_one_of (parts_of rs) (get_or rs i d).part) (one_at rs i d (omega arith))
@@ -33,7 +33,7 @@ pub not_one : (p : ℕ) (rs : List OpenRun) → AllByRecursion (λ (r : OpenRun)
 not_one p [] others one = false≢true one
 not_one p (r ∷ rs) others one = ⊎_elim (λ here. others.0 (eqb-true r.part p here)) (λ later. not_one p rs others.1 later) (or_cases (r.part == p) (is_one_of (parts_of rs) p) one)
 
-parts_set : (rs : List OpenRun) (i : ℕ) (s : OpenRun) → i < length rs → s.part ≡ (get_or rs i s).part → parts_of (set rs i s) ≡ parts_of rs
+pub parts_set : (rs : List OpenRun) (i : ℕ) (s : OpenRun) → i < length rs → s.part ≡ (get_or rs i s).part → parts_of (set rs i s) ≡ parts_of rs
 parts_set [] i s lt same = absurd (omega arith)
 parts_set (r ∷ rs) zero s lt same = ap (λ (p : ℕ). p ∷ parts_of rs) same
 parts_set (r ∷ rs) (suc i) s lt same = ap (λ l. r.part ∷ l) (parts_set rs i s (omega arith) same)

@@ -1,7 +1,7 @@
 -- What is known of the runs that have entries left.
 use Rattle.std.specs.Prelude.{◌≡◌, ◌+◌, ◌<◌, ◌≤◌, ◌==◌, ℕ, Bool, true, List, [], ◌∷◌, map, length, take, drop}
 use Rattle.std.specs.Prelude.{◌-◌, ◌^◌, min, slice_index_or, None, IsSome, if◌then◌else◌}
-use Rattle.std.specs.List.{AllByRecursion, list_any}
+use Rattle.std.specs.List.{AllByRecursion, list_any, remove}
 use Rattle.am_record.specs.OrderedKey.{OrderedKey}
 use Rattle.am_record.specs.KeyNumber.{key_number}
 use Rattle.am_record.specs.Plain.{Records}
@@ -9,9 +9,10 @@ use Rattle.am_record.specs.declared.hash_key.HashKey.{HashKey}
 use Rattle.am_record.specs.declared.entry.Entry.{Entry}
 use Rattle.am_list.specs.Entries.{find}
 use Rattle.am_filter.specs.Filters.{has_bits}
-use Rattle.am_parts.specs.Generations.{AreHeld}
+use Rattle.am_parts.specs.Generations.{AreHeld, IsGenerationAt, IsStretch}
 use Rattle.am_parts.specs.declared.catalog.OpenRun.{OpenRun}
 use Rattle.am_parts.specs.declared.catalog.Catalog.{Catalog}
+use Rattle.am_parts.specs.declared.generations.Generation.{Generation}
 
 -- how many entries stand in the partition
 abbrev pub left_in : ℕ → List Entry → ℕ
@@ -86,6 +87,11 @@ pub record HasCounted (c : Catalog) (part : ℕ) : Type 0 where
   pub key : OrderedKey
   pub catalog : IsCatalog hash entries c
   pub stands : IsSome (find entries part key)
+
+-- where no run is left within the generation of the partition, it is gone
+abbrev pub LetsGo : List Generation → ℕ → List OpenRun → List Generation → Type 0
+LetsGo old part runs new = (i from to : ℕ) → IsGenerationAt old part i → i < length old → IsStretch old i from to →
+    AllByRecursion (λ r. from ≤ r.part → r.part < to → ⊥) runs → new ≡ remove old i
 
 -- the run with one entry more, of a key with that number
 pub record HasMore (old : OpenRun) (number : ℕ) (new : OpenRun) : Type 0 where

@@ -58,12 +58,12 @@ takes keys (Some g) = g.end == 2 ^ 32 && nat_le keys (g.room - g.keys)
 abbrev pub room_for : ℕ → ℕ → ℕ → ℕ
 room_for last left keys = max keys (max 64 (min (2 ^ 64 - 1) (2 * min last left)))
 
--- the newest one, without keys, and with as many words as so many keys want
+-- the newest one, without keys, and with as many words as twice so many keys want
 pub record IsMadeFor (keys : ℕ) (g : Generation) : Type 0 where
   pub end : g.end ≡ 2 ^ 32
   pub size : g.room ≡ keys
   pub empty : g.keys ≡ 0
-  pub words : length g.filter ≡ words_for keys
+  pub words : length g.filter ≡ words_for (2 * keys)
 
 -- room for so many keys of a new run: none is opened where the newest one takes them
 pub record HaveRoomFor (old : List Generation) (left keys : ℕ) (new : List Generation) : Type 0 where

@@ -1,6 +1,6 @@
 //! What is known of the partitions without a look into the index.
 
-ghost use Rattle.std.specs.Prelude.{ℕ, ◌≡◌, ◌<◌, ◌≤◌, ◌++◌, [], List, length, take, drop, slice_index_or, false};
+ghost use Rattle.std.specs.Prelude.{ℕ, ◌≡◌, ◌<◌, ◌≤◌, ◌++◌, [], List, length, take, drop, slice_index_or, true, false};
 ghost use Rattle.std.specs.Prelude.{IsSome, IfSome, IfNone, IfOk, IfErr, OnOk, OnErr, vec_len, vec_capacity};
 ghost use Rattle.std.specs.List.{AllByRecursion};
 ghost use Rattle.am_record.specs.KeyNumber.{key_number, numbers_of};
@@ -14,7 +14,7 @@ ghost use Rattle.am_filter.specs.Filters.{has_bits};
 ghost use Rattle.am_parts.specs.Generations.{IsInGenerations, HaveRoomFor};
 ghost use Rattle.am_parts.specs.declared.generations.Generation.{Generation};
 ghost use Rattle.am_parts.specs.Catalogs.{parts_of, PartsRise, IsRunAt, IsGapAt, HasCounted, HasMore, IsOpenRunOf};
-ghost use Rattle.am_parts.specs.Catalogs.{IsNext, all_left};
+ghost use Rattle.am_parts.specs.Catalogs.{IsNext, LetsGo, all_left, is_one_of};
 
 use crate::generations::{Generations, SOME_KEYS};
 use am_filter::Filter;
@@ -228,8 +228,10 @@ impl Catalog {
     /// Counts an entry of the partition as gone. A run without entries leaves. Takes no memory.
     pub(crate) fn take(&mut self, part: u32)
         requires { HasCounted self.old part }
-        ensures { (hash : HashKey) (es : List Entry) (key : OrderedKey) → IsCatalog hash es self.old →
+        ensures listed { (hash : HashKey) (es : List Entry) (key : OrderedKey) → IsCatalog hash es self.old →
             IsSome (find es part key) → IsCatalog hash (remove_entry es part key) self.new }
+        ensures gone { 0 < part → LetsGo self.old.generations.list.items part self.new.runs.items
+            self.new.generations.list.items }
     {
         if part == 0 {
             self.in_final -= 1;
@@ -246,6 +248,7 @@ impl Catalog {
         requires counted { HasCounted self.old part }
         ensures listed { (hash : HashKey) (es : List Entry) (key : OrderedKey) → AreCounted hash es self.old →
             IsSome (find es part key) → AreCounted hash (remove_entry es part key) self.new }
+        ensures stays { result ≡ false → is_one_of (parts_of self.new.runs.items) part ≡ true }
         ensures generations { self.new.generations ≡ self.old.generations }
     {
         let Ok(at) = search(&self.runs, part) else {
@@ -262,7 +265,9 @@ impl Catalog {
     // Lets go the generation of a partition, where none of its runs is left.
     fn let_go(&mut self, part: u32)
         requires { PartsRise (parts_of self.old.runs.items) }
-        ensures { (hash : HashKey) (es : List Entry) → IsCatalog hash es self.old → IsCatalog hash es self.new }
+        ensures same { (hash : HashKey) (es : List Entry) → IsCatalog hash es self.old → IsCatalog hash es self.new }
+        ensures gone { LetsGo self.old.generations.list.items part self.new.runs.items
+            self.new.generations.list.items }
     {
         let at = self.generations.place(part);
         if at == self.generations.list().len() {

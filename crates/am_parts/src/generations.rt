@@ -2,7 +2,7 @@
 
 ghost use Rattle.std.specs.Prelude.{◌≡◌, ◌<◌, ◌≤◌, ◌++◌, ◌^◌, ℕ, List, [], length, max, true, Some};
 ghost use Rattle.std.specs.Prelude.{IfOk, OnOk, OnErr, IsSomeAnd};
-ghost use Rattle.std.specs.List.{AllByRecursion};
+ghost use Rattle.std.specs.List.{AllByRecursion, remove};
 ghost use Rattle.am_record.specs.KeyNumber.{key_number, numbers_of};
 ghost use Rattle.am_record.specs.Plain.{Records};
 ghost use Rattle.am_record.specs.declared.hash_key.HashKey.{HashKey};
@@ -44,7 +44,8 @@ impl Generation {
     fn new(alloc: Global, room: usize) -> Result<Generation, NoMemory>
         ensures { IfOk result (IsMadeFor room) }
     {
-        let filter = Filter::new(alloc, room)?;
+        // Twice the words of a run's filter: where it holds a key wrongly, the filters of all its runs are asked.
+        let filter = Filter::new(alloc, room.saturating_mul(2))?;
         Ok(Generation {
             end: BEHIND_ALL,
             filter,
@@ -215,7 +216,8 @@ impl Generations {
     /// Lets go a generation none of whose runs is left.
     pub(crate) fn remove(&mut self, at: usize)
         requires { at < length self.old.list.items }
-        ensures { (hash : HashKey) (es : List Entry) →
+        ensures gone { self.new.list.items ≡ remove self.old.list.items at }
+        ensures kept { (hash : HashKey) (es : List Entry) →
             AllByRecursion (λ e. 0 < e.part → ¬ IsGenerationAt self.old.list.items e.part at) es →
             AreHeld hash es self.old.list.items → AreHeld hash es self.new.list.items }
     {
