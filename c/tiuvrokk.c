@@ -1,9 +1,17 @@
 /* The calls of tiuvrokk.h over the exports of crates/am_c, which take no null pointer: here each pointer is tested, and each
- * limit, so that all faults of a call's arguments are told before the store is asked. Nothing else is done. */
+ * limit, so that all faults of a call's arguments are told before the store is asked; and a store gets its hash key. Nothing
+ * else is done. */
+#define _DEFAULT_SOURCE /* getentropy */
 #include "tiuvrokk.h"
 
+#include <time.h>
+#include <unistd.h>
+#ifdef __APPLE__
+#include <sys/random.h>
+#endif
+
 /* What the exports take: a handle that isn't null, texts as pointer and length, and where to write what they tell. */
-uint32_t tiuvrokk_open(tvk_store *store);
+uint32_t tiuvrokk_open(tvk_store *store, uint64_t first, uint64_t second);
 uint32_t tiuvrokk_close(tvk_store *store);
 uint32_t tiuvrokk_begin(tvk_store *store, uint64_t *told);
 uint32_t tiuvrokk_commit(tvk_store *store, uint64_t tx, uint64_t *told);
@@ -65,9 +73,20 @@ const char *tvk_name(tvk_status status) {
     return (size_t)status < sizeof names / sizeof *names ? names[status] : "?";
 }
 
+/* The words of a hash key: the system's random bytes. Where it gives none, the clock and an address, which differ from run to
+ * run, and which a stranger may guess: then keys can be chosen that take longer to look for. No memory is taken. */
+static void draw_words(uint64_t words[2]) {
+    if (getentropy(words, 2 * sizeof *words)) {
+        words[0] = (uint64_t)time(NULL) * 0x9E3779B97F4A7C15;
+        words[1] = ((uint64_t)clock() ^ (uint64_t)(uintptr_t)words) * 0xBF58476D1CE4E5B9;
+    }
+}
+
 tvk_status tvk_open(tvk_store *store) {
+    uint64_t words[2];
     if (!store) return TVK_NO_STORE;
-    return tiuvrokk_open(store);
+    draw_words(words);
+    return tiuvrokk_open(store, words[0], words[1]);
 }
 
 tvk_status tvk_close(tvk_store *store) {

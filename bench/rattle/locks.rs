@@ -6,6 +6,7 @@ use crate::store;
 use crate::watch::Watch;
 use am_btree::BTree;
 use am_core::Store;
+use am_record::HashKey;
 use std::time::Clock;
 
 /// How many transactions there can be beside one, and how many locks each can hold.
@@ -19,7 +20,7 @@ const TIMED: u64 = 100_000;
 /// Prints what a transaction of one read takes, alone and beside as many locks as there can be.
 pub(crate) fn print_figures<R: AllocGlobal + Print + Clock>(rt: &R) -> Result<(), Fault> {
     let alloc = rt.alloc();
-    let mut store = Store::open(alloc, BTree::new(alloc)?)?;
+    let mut store = Store::open(alloc, BTree::new(alloc)?, HashKey::known())?;
     print(rt, "a read, alone", &mut store)?;
     store::hold(&mut store, OWNERS, LOCKS)?;
     print(rt, "a read beside 63 times 256 locks", &mut store)

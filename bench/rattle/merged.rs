@@ -7,7 +7,7 @@ use crate::store;
 use crate::watch::Watch;
 use am_btree::BTree;
 use am_core::Store;
-use am_record::{Key, Range};
+use am_record::{HashKey, Key, Range};
 use std::alloc::Global;
 use std::time::Clock;
 
@@ -25,7 +25,7 @@ const ROWS: u64 = 100;
 
 // A store with runs of all the keys, merged in a range.
 fn merged_in(alloc: Global, keys: &Keys, range: Option<Range>) -> Result<Store<BTree>, Fault> {
-    let mut store = Store::open(alloc, BTree::new(alloc)?)?;
+    let mut store = Store::open(alloc, BTree::new(alloc)?, HashKey::known())?;
     store::load(&mut store, store::runs_of(alloc, &keys.rising, RUNS)?)?;
     match range {
         Some(range) => store::ask_for(&mut store, range)?,

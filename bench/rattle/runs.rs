@@ -7,7 +7,7 @@ use crate::watch::{Timed, Watch};
 use crate::{map, store};
 use am_btree::BTree;
 use am_core::Store;
-use am_record::{Key, Pairs, Value};
+use am_record::{HashKey, Key, Pairs, Value};
 use std::collections::BTreeMap;
 use std::time::Clock;
 
@@ -31,7 +31,7 @@ pub(crate) fn print_figures<R: AllocGlobal + Print + Clock>(
 ) -> Result<(), Fault> {
     let alloc = rt.alloc();
     let runs = store::runs_of(alloc, &keys.rising, RUNS)?;
-    let mut store = Store::open(alloc, BTree::new(alloc)?)?;
+    let mut store = Store::open(alloc, BTree::new(alloc)?, HashKey::known())?;
     let mut map = BTreeMap::new(alloc);
     map::fill(&mut map, &keys.drawn)?;
     let asked = &keys.asked[..keys.asked.len() / ONE_OF];

@@ -7,7 +7,7 @@ use crate::watch::{Timed, Watch};
 use crate::{map, tree};
 use am_btree::BTree;
 use am_parts::Parts;
-use am_record::{Key, Value};
+use am_record::{HashKey, Key, Value};
 use std::collections::BTreeMap;
 use std::time::Clock;
 
@@ -94,7 +94,7 @@ fn print_scans<R: AllocGlobal + Print + Clock>(
     keys: &Keys,
 ) -> Result<(), Fault> {
     let alloc = rt.alloc();
-    let mut parts = Parts::new(alloc, BTree::new(alloc)?);
+    let mut parts = Parts::new(alloc, BTree::new(alloc)?, HashKey::known());
     tree::fill_parts(&mut parts, &keys.drawn)?;
     let starts = &keys.asked[..keys.asked.len() / ROWS];
     let watch = Watch::start(rt)?;

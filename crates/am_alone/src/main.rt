@@ -6,7 +6,7 @@ ghost use Rattle.std.specs.Prelude.{◌≤◌};
 mod ending;
 
 use am_command::{Options, OptionsFault, options, words};
-use am_session::serve_alone;
+use am_session::{draw_hash_key, serve_alone};
 use am_stack::hold_stack;
 use am_stream::{Reading, Writing};
 use ending::ending;
@@ -14,13 +14,18 @@ use std::env::Env;
 use std::io;
 use std::io::BufWriter;
 use std::process::ExitCode;
+use std::random::RandomSource;
+use std::rt::Clock;
 use std::sync::Wait;
 
 /// The program's name, where it says what is wrong with its words.
 const PROGRAM: &str = "amserve";
 
 /// Answers standard input on standard output; after each answer at most `auto` entries are merged.
-fn alone<R: AllocGlobal + Input + Print + Eprint + Wait>(rt: &R, auto: u64) -> io::Result<ExitCode>
+fn alone<R: AllocGlobal + Input + Print + Eprint + Clock + RandomSource + Wait>(
+    rt: &R,
+    auto: u64,
+) -> io::Result<ExitCode>
     requires { auto ≤ 64 }
 {
     // Pieces of one answer, as the rows of a scan, go out together.
@@ -29,14 +34,18 @@ fn alone<R: AllocGlobal + Input + Print + Eprint + Wait>(rt: &R, auto: u64) -> i
     };
     let mut source = Reading::new(rt.reader());
     let mut sink = Writing::new(writer);
-    let (status, text) = ending(&serve_alone(rt, rt.alloc(), &mut source, &mut sink, auto));
+    let hash = draw_hash_key(rt);
+    let end = serve_alone(rt, rt.alloc(), &mut source, &mut sink, auto, hash);
+    let (status, text) = ending(&end);
     if !text.is_empty() {
         eprintln!(rt; "{text}")?;
     }
     Ok(ExitCode::from(status))
 }
 
-fn selected<R: AllocGlobal + Input + Print + Eprint + Env + Wait>(rt: &R) -> io::Result<ExitCode> {
+fn selected<R: AllocGlobal + Input + Print + Eprint + Env + Clock + RandomSource + Wait>(
+    rt: &R,
+) -> io::Result<ExitCode> {
     let words = match words(rt) {
         Ok(words) => words,
         Err(fault) => return fault.tell(rt, PROGRAM),

@@ -11,19 +11,19 @@ use crate::status::Status;
 use crate::taking::tell;
 use am_btree::BTree;
 use am_core::Store;
-use am_record::{NoMemory, Step};
+use am_record::{HashKey, NoMemory, Step};
 use std::alloc::Global;
 
-/// Opens an empty store behind a handle that has none.
+/// Opens an empty store behind a handle that has none. The two words are its hash key's.
 #[unsafe(no_mangle)]
-pub extern "C" fn tiuvrokk_open(alloc: Global, store: &mut Handle) -> u32
+pub extern "C" fn tiuvrokk_open(alloc: Global, store: &mut Handle, first: u64, second: u64) -> u32
     ensures { Opens store.old.held result store.new.held }
 {
     if let Some(open) = store.take(alloc) {
         store.put(open);
         return Status::IsOpen.code();
     }
-    match new_store(alloc) {
+    match new_store(alloc, HashKey::new(first, second)) {
         Ok(new) => {
             store.put(new);
             Status::Fine.code()
@@ -32,10 +32,10 @@ pub extern "C" fn tiuvrokk_open(alloc: Global, store: &mut Handle) -> u32
     }
 }
 
-fn new_store(alloc: Global) -> Result<Box<Store<BTree>>, NoMemory>
+fn new_store(alloc: Global, hash: HashKey) -> Result<Box<Store<BTree>>, NoMemory>
     ensures { IfOk result (λ b. IsNew b.value) }
 {
-    let store = Store::open(alloc, BTree::new(alloc)?)?;
+    let store = Store::open(alloc, BTree::new(alloc)?, hash)?;
     Ok(Box::new(alloc, store)?)
 }
 

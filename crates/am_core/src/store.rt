@@ -13,7 +13,7 @@ use crate::inner::Inner;
 use am_list::PartIndex;
 use am_merge::Wishes;
 use am_parts::Parts;
-use am_record::{Entry, NoMemory, Reply, Step};
+use am_record::{Entry, HashKey, NoMemory, Reply, Step};
 use am_tx::TxTable;
 use std::alloc::Global;
 use std::marker::Model;
@@ -40,11 +40,11 @@ impl<I: PartIndex + Drop> Model for Store<I> {
 }
 
 impl<I: PartIndex + Drop> Store<I> {
-    /// A store over an empty index.
+    /// A store over an empty index. By the hash key its filters know the keys: no answer depends on it.
     ///
     /// # Errors
     /// NoMemory, where memory was refused for the ring of wishes or the tables.
-    pub fn open(alloc: Global, index: I) -> Result<Store<I>, NoMemory>
+    pub fn open(alloc: Global, index: I, hash: HashKey) -> Result<Store<I>, NoMemory>
         requires { I.entries index ≡ [] }
         ensures empty { IfOk result (λ store. store ≡ empty_state) }
         ensures stands { IfOk result (λ store. IsSoundAt [] store) }
@@ -53,7 +53,7 @@ impl<I: PartIndex + Drop> Store<I> {
         let wishes = Wishes::new(alloc)?;
         let inner = Inner {
             alloc,
-            parts: Parts::new(alloc, index),
+            parts: Parts::new(alloc, index, hash),
             txs: TxTable::new(alloc)?,
             wishes,
             commits: 0,

@@ -3,7 +3,7 @@
 
 use am_btree::BTree;
 use am_core::Store;
-use am_record::{Key, Op, Pairs, Range, Reply, Step, Value};
+use am_record::{HashKey, Key, Op, Pairs, Range, Reply, Step, Value};
 use anyhow::{Context, Result, bail};
 use std::alloc::Global;
 
@@ -41,7 +41,7 @@ fn transact(store: &mut Store<BTree>, ops: Vec<Op>) -> Result<Reply> {
 
 fn main(rt: HostRuntime) -> Result<()> {
     let alloc = rt.alloc();
-    let mut store = Store::open(alloc, BTree::new(alloc)?)?;
+    let mut store = Store::open(alloc, BTree::new(alloc)?, HashKey::known())?;
     let fruit = Range::new(key("a")?, key("z")?).context(
         "a range goes from a key to a higher one",
     )?;

@@ -1,12 +1,10 @@
-//! A filter of keys.
+//! A filter of keys, by their numbers.
 
-ghost use Rattle.std.specs.Prelude.{◌≡◌, ◌<◌, ◌%◌, ◌^◌, true, length, IfOk};
+ghost use Rattle.std.specs.Prelude.{ℕ, ◌≡◌, ◌<◌, ◌%◌, ◌^◌, true, length, IfOk};
 ghost use Rattle.std.specs.List.{AllByRecursion};
-ghost use Rattle.am_record.specs.OrderedKey.{OrderedKey};
-ghost use Rattle.am_record.specs.KeyMix.{key_mix};
-ghost use Rattle.am_filter.specs.Filters.{mask_of, word_index, has_bits};
+ghost use Rattle.am_filter.specs.Filters.{mask_of, word_index, has_bits, words_for};
 
-use am_record::{Key, NoMemory, Value};
+use am_record::NoMemory;
 use std::alloc::Global;
 use std::marker::Model;
 
@@ -14,8 +12,8 @@ use std::marker::Model;
 const KEYS_A_WORD: usize = 4;
 
 /// A set of keys, of which it is known whether a key *may* be in it: a key that was added is held, and of the others
-/// about one in a hundred is. It has a word for each four keys, and a key sets five bits of one word (Putze, Sanders
-/// and Singler, 2009).
+/// about one in a hundred is. It knows them by their numbers, which look drawn. It has a word for each four keys, and a
+/// key sets five bits of one word (Putze, Sanders and Singler, 2009).
 #[derive(Debug, Drop)]
 pub struct Filter {
     words: Vec<u64>,
@@ -40,41 +38,43 @@ impl Filter {
     ///
     /// # Errors
     /// NoMemory, where memory was refused.
-    pub fn new(alloc: Global, keys: usize) -> Result<Filter, NoMemory> {
+    pub fn new(alloc: Global, keys: usize) -> Result<Filter, NoMemory>
+        ensures { IfOk result (λ f. length f ≡ words_for keys) }
+    {
         let mut words = Vec::new(alloc);
         words.resize((keys / KEYS_A_WORD).min(1 << 30) + 1, 0)?;
         Ok(Filter { words })
     }
 
-    /// The filter of the keys of records.
+    /// The filter of the keys of these numbers.
     ///
     /// # Errors
     /// NoMemory, where memory was refused.
-    pub fn of(alloc: Global, pairs: &[(Key, Value)]) -> Result<Filter, NoMemory>
-        ensures { IfOk result (λ f. AllByRecursion (λ r. has_bits f r.0 ≡ true) pairs.now) }
+    pub fn of(alloc: Global, numbers: &[u64]) -> Result<Filter, NoMemory>
+        ensures { IfOk result (λ f. AllByRecursion (λ n. has_bits f n ≡ true) numbers.now) }
     {
-        let mut filter = Filter::new(alloc, pairs.len())?;
-        for pair in pairs {
-            filter.add(pair.0);
+        let mut filter = Filter::new(alloc, numbers.len())?;
+        for number in numbers {
+            filter.add(*number);
         }
         Ok(filter)
     }
 
-    /// Adds a key. Takes no memory.
-    pub fn add(&mut self, key: Key)
-        ensures added { has_bits self.new key ≡ true }
-        ensures kept { (k : OrderedKey) → has_bits self.old k ≡ true → has_bits self.new k ≡ true }
+    /// Adds a key's number. Takes no memory.
+    pub fn add(&mut self, number: u64)
+        ensures added { has_bits self.new number ≡ true }
+        ensures kept { (n : ℕ) → has_bits self.old n ≡ true → has_bits self.new n ≡ true }
     {
-        let number = key.mixed();
         let at = self.slot(number);
         self.words[at] |= mask(number);
     }
 
-    /// Whether the key may have been added.
-    pub fn holds(&self, key: Key) -> bool
-        ensures { result ≡ has_bits self.now key }
+    /// Whether the key of the number may have been added.
+    pub fn holds(&self, number: u64) -> bool
+        ensures { result ≡ has_bits self.now number }
     {
-        self.holds_mixed(key.mixed())
+        let mask = mask(number);
+        self.words[self.slot(number)] & mask == mask
     }
 
     // The word of a number.
@@ -84,14 +84,6 @@ impl Filter {
     {
         let count = self.words.len() as u64;
         (((number >> 32) * count) >> 32) as usize
-    }
-
-    /// The same by the number of the key.
-    pub fn holds_mixed(&self, number: u64) -> bool
-        ensures { (k : OrderedKey) → number ≡ key_mix k → result ≡ has_bits self.now k }
-    {
-        let mask = mask(number);
-        self.words[self.slot(number)] & mask == mask
     }
 }
 

@@ -17,7 +17,7 @@ use crate::receipt::CallId;
 use crate::room::{Room, copy_reply, copy_step, rows_of};
 use am_btree::BTree;
 use am_core::Store;
-use am_record::{NoMemory, Refusal, Reply, Step};
+use am_record::{HashKey, NoMemory, Refusal, Reply, Step};
 use std::alloc::Global;
 use std::marker::Model;
 
@@ -50,11 +50,11 @@ impl Engine {
     ///
     /// # Errors
     /// NoMemory, where memory was refused for the store.
-    pub fn open(alloc: Global) -> Result<Engine, NoMemory>
+    pub fn open(alloc: Global, hash: HashKey) -> Result<Engine, NoMemory>
         ensures { IfOk result (λ e. e ≡ empty_log) }
     {
         am_sound::steps_lift();
-        let store = Store::open(alloc, BTree::new(alloc)?)?;
+        let store = Store::open(alloc, BTree::new(alloc)?, hash)?;
         Ok(Engine {
             store,
             trace: Vec::new(alloc),

@@ -10,6 +10,7 @@ use crate::seat::Seat;
 use crate::state::LatchState;
 use crate::view_steps::{end_minting, mint_seat};
 use crate::views::{Token, ViewTable};
+use am_record::HashKey;
 use std::alloc::Global;
 use std::marker::{Model, PhantomData};
 use std::sync::{Mutex, MutexGuard, Wait};
@@ -93,7 +94,7 @@ impl<L: LatchName> Latch<L> {
     ///
     /// # Errors
     /// NoMemory, where memory was refused. The blank is spent.
-    pub fn open(blank: Blank) -> Result<(Latch<L>, Vec<Seat<L>>), LatchFault>
+    pub fn open(blank: Blank, hash: HashKey) -> Result<(Latch<L>, Vec<Seat<L>>), LatchFault>
         requires { (blank.seats ≡ L.seats) × (blank.table ≡ L.table) }
         ensures seats { IfOk result (λ r. r.1.items ≡ numbered L.seats) }
         ensures fault { IfErr result (λ e. ¬ (IsBadSeats e)) }
@@ -104,7 +105,7 @@ impl<L: LatchName> Latch<L> {
             mut trace_token,
             alloc,
         } = blank;
-        let Ok(engine) = Engine::open(alloc) else {
+        let Ok(engine) = Engine::open(alloc, hash) else {
             return Err(LatchFault::NoMemory);
         };
         let mut seats = Vec::new(alloc);

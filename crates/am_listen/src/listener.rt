@@ -6,7 +6,7 @@ ghost use Rattle.am_listen.specs.ServerRuns.{IsSoundRun};
 use crate::acceptor::Acceptor;
 use crate::server_run::{ServerRun, run};
 use am_latch::Blank;
-use am_record::NoMemory;
+use am_record::{HashKey, NoMemory};
 use am_words::Words;
 use std::alloc::Global;
 use std::io;
@@ -85,6 +85,7 @@ impl PortListener {
         rt: &R,
         sessions: u64,
         workers: u64,
+        hash: HashKey,
     ) -> Result<ServerRun, NoMemory>
         requires sessions { (1 ≤ sessions) × (sessions ≤ 256) }
         requires workers { workers ≤ 16 }
@@ -97,6 +98,6 @@ impl PortListener {
             return Err(NoMemory);
         };
         let acceptor = Acceptor::new(&self.listener, &self.is_stopped);
-        run::<Brand, R>(rt, self.alloc, acceptor, blank, &words, word_seats)
+        run::<Brand, R>(rt, self.alloc, hash, acceptor, blank, &words, word_seats)
     }
 }

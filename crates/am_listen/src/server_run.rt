@@ -10,7 +10,7 @@ use crate::acceptor::Acceptor;
 use crate::pacer::MergePacer;
 use crate::sessions::serve_next;
 use am_latch::{Blank, Latch, LatchName, Seat, close};
-use am_record::{NoMemory, Reply, Step};
+use am_record::{HashKey, NoMemory, Reply, Step};
 use am_seating::SessionSeat;
 use am_words::{WordSeat, Words};
 use am_workers::{WorkerSeats, run_workers};
@@ -117,6 +117,7 @@ fn take_seats<'a, L: LatchName>(all: &mut Vec<Seat<L>>, session_seats: Vec<Sessi
 pub(crate) fn run<L: LatchName + Send + Sync, R: Threads + Wait + Sync>(
     rt: &R,
     alloc: Global,
+    hash: HashKey,
     acceptor: Acceptor<'_>,
     blank: Blank,
     words: &Words,
@@ -126,7 +127,7 @@ pub(crate) fn run<L: LatchName + Send + Sync, R: Threads + Wait + Sync>(
     requires word_seats { All (λ h. h.of ≡ words.now) word_seats.items }
     ensures { IfOk result IsSoundRun }
 {
-    let Ok((latch, seats)) = Latch::<L>::open(blank) else {
+    let Ok((latch, seats)) = Latch::<L>::open(blank, hash) else {
         return Err(NoMemory);
     };
     let mut all = Vec::new(alloc);

@@ -8,7 +8,7 @@ use crate::numbers::{pairs_of, value};
 use am_list::PartIndex;
 use am_list_index::ListIndex;
 use am_parts::Parts;
-use am_record::{Entry, Key, MAX_RUN_RECORDS, NoMemory, Refusal, Reply, Value};
+use am_record::{Entry, HashKey, Key, MAX_RUN_RECORDS, NoMemory, Refusal, Reply, Value};
 use am_runs::{LoadFault, Run, cut_runs, load};
 use std::alloc::Global;
 
@@ -149,7 +149,7 @@ fn load_from<I: PartIndex + Drop>(
 
 /// Two runs of a list.
 pub(crate) fn loads_of_a_list(alloc: Global) -> Result<(), Fault> {
-    let mut parts = Parts::new(alloc, ListIndex::new(alloc));
+    let mut parts = Parts::new(alloc, ListIndex::new(alloc), HashKey::known());
     let mut entries = Vec::new(alloc);
     load_from(alloc, &mut parts, &mut entries, 1, 0)?;
     load_from(alloc, &mut parts, &mut entries, 2, 100)

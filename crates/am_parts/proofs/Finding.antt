@@ -2,13 +2,15 @@
 use Rattle.std.proofs.Common.{◌≡◌, ◌≢◌, ℕ, zero, suc, ◌+◌, ◌<◌, ◌≤◌, true, false, List, [], ◌∷◌, length, get_or, take, drop, Option, Some, None, refl, sym, ap, ◌∙◌, subst, ⊎_elim, arith}
 use Rattle.std.specs.Prelude.{IsSome, IfSome, IfNone, is_some, ◌==◌}
 use Rattle.std.specs.Option.{option_map}
-use Rattle.std.proofs.lemmas.Bool.{or_cases, cases_eq, cases_lt, eqb-true, true≢false, false≢true}
+use Rattle.std.proofs.lemmas.Bool.{or_cases, cases_eq, eqb-true, true≢false, false≢true}
 use Rattle.std.proofs.lemmas.Option.{none-some}
 use Rattle.std.specs.List.{AllByRecursion}
 use Rattle.std.specs.FinMap.{get}
+use Rattle.am_record.specs.KeyNumber.{key_number}
 use Rattle.am_record.specs.OrderedKey.{OrderedKey}
 use Rattle.am_record.specs.EntryOrder.{Place}
 use Rattle.am_record.specs.declared.entry.Entry.{Entry}
+use Rattle.am_record.specs.declared.hash_key.HashKey.{HashKey}
 use Rattle.am_list.specs.Entries.{Slot, slot_of, find, entry_at}
 use Rattle.am_list.specs.Content.{content, live_value, IsLiveAt}
 use Rattle.am_list.proofs.Edits.{first_such_all, entry_at_place}
@@ -36,8 +38,8 @@ standing : (o : Option Entry) (s : Slot) → option_map slot_of o ≡ Some s →
 standing None s h = absurd (none-some s h)
 standing (Some e) s h = (e, refl)
 
-pub nothing_in_final : {es : List Entry} (k : OrderedKey) {n : ℕ} {runs : List OpenRun} → AreListed es n runs → n ≡ 0 → find es 0 k ≡ None
-nothing_in_final {es} k {n} {runs} h none = by_cases (find es 0 k) refl
+pub nothing_in_final : {hash : HashKey} {es : List Entry} (k : OrderedKey) {n : ℕ} {runs : List OpenRun} → AreListed hash es n runs → n ≡ 0 → find es 0 k ≡ None
+nothing_in_final {hash} {es} k {n} {runs} h none = by_cases (find es 0 k) refl
   where
     by_cases : (o : Option Slot) → find es 0 k ≡ o → o ≡ None
     by_cases None e = refl
@@ -45,9 +47,9 @@ nothing_in_final {es} k {n} {runs} h none = by_cases (find es 0 k) refl
 
 -- ---- partitions in which the key has no entry
 
--- the filters of the runs from one partition up to another rule the key out
-abbrev pub Deny : OrderedKey → ℕ → ℕ → List OpenRun → Type 0
-Deny key from to rs = AllByRecursion (λ (r : OpenRun). from ≤ r.part → r.part < to → has_bits r.filter key ≡ false) rs
+-- the filters of the runs from one partition up to another rule the number out
+abbrev pub Deny : ℕ → ℕ → ℕ → List OpenRun → Type 0
+Deny number from to rs = AllByRecursion (λ (r : OpenRun). from ≤ r.part → r.part < to → has_bits r.filter number ≡ false) rs
 
 module _ (es : List Entry) (key : OrderedKey) where
   -- where an entry of the key stands, what is said of it
@@ -63,24 +65,24 @@ module _ (es : List Entry) (key : OrderedKey) where
       by_cases None h = refl
       by_cases (Some s) h = let e = standing (entry_at es part key) s h in absurd (not e.0 e.1)
 
-  pub unheld : (gens : List Generation) (part : ℕ) → AreHeld es gens → 0 < part → is_held gens part key ≡ false → find es part key ≡ None
-  unheld gens part held some denied =
-      none_stands part (λ e at. true≢false (sym (of_key (λ p k. 0 < p → is_held gens p k ≡ true) part e at held some) ∙ denied))
+  pub unheld : (hash : HashKey) (gens : List Generation) (part : ℕ) → AreHeld hash es gens → 0 < part → is_held gens part (key_number hash key) ≡ false → find es part key ≡ None
+  unheld hash gens part held some denied =
+      none_stands part (λ e at. true≢false (sym (of_key (λ p k. 0 < p → is_held gens p (key_number hash k) ≡ true) part e at held some) ∙ denied))
 
-  one_denied : (from to part : ℕ) (e : Entry) (rs : List OpenRun) → entry_at es part key ≡ Some e → from ≤ part → part < to → AllByRecursion (IsOpenRun es) rs → Deny key from to rs → is_one_of (parts_of rs) part ≡ true → ⊥
-  one_denied from to part e [] at low high each deny one = false≢true one
-  one_denied from to part e (r ∷ rs) at low high each deny one =
+  one_denied : (hash : HashKey) (from to part : ℕ) (e : Entry) (rs : List OpenRun) → entry_at es part key ≡ Some e → from ≤ part → part < to → AllByRecursion (IsOpenRun hash es) rs → Deny (key_number hash key) from to rs → is_one_of (parts_of rs) part ≡ true → ⊥
+  one_denied hash from to part e [] at low high each deny one = false≢true one
+  one_denied hash from to part e (r ∷ rs) at low high each deny one =
       ⊎_elim
       (λ here.
       let same : r.part ≡ part = eqb-true r.part part here in
-      let held = of_key (λ p k. p ≡ r.part → has_bits r.filter k ≡ true) part e at each.0.held (sym same) in
+      let held = of_key (λ p k. p ≡ r.part → has_bits r.filter (key_number hash k) ≡ true) part e at each.0.held (sym same) in
       true≢false (sym held ∙ deny.0 (omega (arith, same, low)) (omega (arith, same, high))))
-      (λ later. one_denied from to part e rs at low high each.1 deny.1 later)
+      (λ later. one_denied hash from to part e rs at low high each.1 deny.1 later)
       (or_cases (r.part == part) (is_one_of (parts_of rs) part) one)
 
-  pub denied : {n : ℕ} {runs : List OpenRun} (from to : ℕ) → AreListed es n runs → 0 < from → Deny key from to runs → Lacks es key from to
-  denied {n} {runs} from to h some deny = λ part low high.
-      none_stands part (λ e at. one_denied from to part e runs at low high h.each deny (is_listed h part key (omega (arith, some, low)) (ap (λ o. is_some (option_map slot_of o)) at)))
+  pub denied : {hash : HashKey} {n : ℕ} {runs : List OpenRun} (from to : ℕ) → AreListed hash es n runs → 0 < from → Deny (key_number hash key) from to runs → Lacks es key from to
+  denied {hash} {n} {runs} from to h some deny = λ part low high.
+      none_stands part (λ e at. one_denied hash from to part e runs at low high h.each deny (is_listed h part key (omega (arith, some, low)) (ap (λ o. is_some (option_map slot_of o)) at)))
 
 module _ {es : List Entry} {key : OrderedKey} where
   pub found_dead : (part : ℕ) → is_some (live_value (find es part key)) ≡ false → (value : List ℕ) → IsLiveAt es part key value → ⊥
@@ -109,29 +111,29 @@ module _ (es : List Entry) (key : OrderedKey) where
 
 -- ---- the runs that a look went through
 
-module _ (key : OrderedKey) (from to : ℕ) where
-  over_later : (p : ℕ) (rs : List OpenRun) → to ≤ p → AllByRecursion (λ q. p < q) (parts_of rs) → Deny key from to rs
+module _ (number from to : ℕ) where
+  over_later : (p : ℕ) (rs : List OpenRun) → to ≤ p → AllByRecursion (λ q. p < q) (parts_of rs) → Deny number from to rs
   over_later p [] le up = tt
   over_later p (r ∷ rs) le up = ((λ low high. let lt : p < r.part = up.0 in absurd (omega (arith, lt, le, high))), over_later p rs le up.1)
 
-  from_here : (rs : List OpenRun) (i : ℕ) → PartsRise (parts_of rs) → AllByRecursion (λ (r : OpenRun). has_bits r.filter key ≡ false) (take i rs) → ((d : OpenRun) → i < length rs → to ≤ (get_or rs i d).part) → Deny key from to rs
+  from_here : (rs : List OpenRun) (i : ℕ) → PartsRise (parts_of rs) → AllByRecursion (λ (r : OpenRun). has_bits r.filter number ≡ false) (take i rs) → ((d : OpenRun) → i < length rs → to ≤ (get_or rs i d).part) → Deny number from to rs
   from_here [] i up none stop = tt
   from_here (r ∷ rs) zero up none stop =
       let le : to ≤ r.part = stop r (omega arith) in
       ((λ low high. absurd (omega (arith, le, high))), over_later r.part rs le up.0)
   from_here (r ∷ rs) (suc i) up none stop = ((λ low high. none.0), from_here rs i up.1 none.1 (λ d lt. stop d (omega arith)))
 
-  pub went : (rs : List OpenRun) (at i : ℕ) → PartsRise (parts_of rs) → AllByRecursion (λ (r : OpenRun). r.part < from) (take at rs) → AllByRecursion (λ (r : OpenRun). has_bits r.filter key ≡ false) (take i (drop at rs))
-      → ((d : OpenRun) → i < length (drop at rs) → to ≤ (get_or (drop at rs) i d).part) → Deny key from to rs
+  pub went : (rs : List OpenRun) (at i : ℕ) → PartsRise (parts_of rs) → AllByRecursion (λ (r : OpenRun). r.part < from) (take at rs) → AllByRecursion (λ (r : OpenRun). has_bits r.filter number ≡ false) (take i (drop at rs))
+      → ((d : OpenRun) → i < length (drop at rs) → to ≤ (get_or (drop at rs) i d).part) → Deny number from to rs
   went rs zero i up below none stop = from_here rs i up none stop
   went [] (suc at) i up below none stop = tt
   went (r ∷ rs) (suc at) i up below none stop = (let lt : r.part < from = below.0 in (λ low high. absurd (omega (arith, lt, low))), went rs at i up.1 below.1 none stop)
 
   -- where the rest was cut out as a slice
-  pub went_on : (rs rest : List OpenRun) (at i : ℕ) → rest ≡ drop at rs → PartsRise (parts_of rs) → AllByRecursion (λ (r : OpenRun). r.part < from) (take at rs) → AllByRecursion (λ (r : OpenRun). has_bits r.filter key ≡ false) (take i rest)
-      → ((d : OpenRun) → i < length rest → to ≤ (get_or rest i d).part) → Deny key from to rs
+  pub went_on : (rs rest : List OpenRun) (at i : ℕ) → rest ≡ drop at rs → PartsRise (parts_of rs) → AllByRecursion (λ (r : OpenRun). r.part < from) (take at rs) → AllByRecursion (λ (r : OpenRun). has_bits r.filter number ≡ false) (take i rest)
+      → ((d : OpenRun) → i < length rest → to ≤ (get_or rest i d).part) → Deny number from to rs
   went_on rs rest at i same up below none stop =
-      went rs at i up below (subst (λ (l : List OpenRun). AllByRecursion (λ (r : OpenRun). has_bits r.filter key ≡ false) (take i l)) same none)
+      went rs at i up below (subst (λ (l : List OpenRun). AllByRecursion (λ (r : OpenRun). has_bits r.filter number ≡ false) (take i l)) same none)
       (λ d lt. subst (λ (l : List OpenRun). to ≤ (get_or l i d).part) same (stop d (subst (λ (l : List OpenRun). i < length l) (sym same) lt)))
 
 pub of_none : {P : Type 0} (o : Option Entry) → ((e : Entry) → o ≡ Some e → ⊥) → IfNone o P → P
@@ -166,15 +168,15 @@ module _ (es : List Entry) (key : OrderedKey) (sound : AreWellFormed es) where
 
 -- ---- partitions without entries
 
-module _ {es : List Entry} {n : ℕ} {runs : List OpenRun} (h : AreListed es n runs) (from at : ℕ) (final : from ≡ 0 → n ≡ 0) (below : AllByRecursion (λ (r : OpenRun). r.part < from) (take at runs)) where
+module _ {hash : HashKey} {es : List Entry} {n : ℕ} {runs : List OpenRun} (h : AreListed hash es n runs) (from at : ℕ) (final : from ≡ 0 → n ≡ 0) (below : AllByRecursion (λ (r : OpenRun). r.part < from) (take at runs)) where
   none_between : (to : ℕ) → ((d : OpenRun) → 0 < length (drop at runs) → to ≤ (get_or (drop at runs) 0 d).part) → (part : ℕ) (key : OrderedKey) → from ≤ part → part < to → find es part key ≡ None
   none_between to stop part key low high =
       ⊎_elim
       (λ (same : part ≡ 0). ap (λ p. find es p key) same ∙ nothing_in_final key h (final (omega (arith, same, low))))
       (λ (other : part ≢ 0).
-      let deny = went key from to runs at 0 h.rising below tt stop in
+      let deny = went (key_number hash key) from to runs at 0 h.rising below tt stop in
       denied es key part to h (omega (arith, other))
-      (AllByRecursion-map (λ (r : OpenRun). from ≤ r.part → r.part < to → has_bits r.filter key ≡ false) (λ (r : OpenRun). part ≤ r.part → r.part < to → has_bits r.filter key ≡ false) (λ r f up down. f (omega (arith, up, low)) down) runs deny)
+      (AllByRecursion-map (λ (r : OpenRun). from ≤ r.part → r.part < to → has_bits r.filter (key_number hash key) ≡ false) (λ (r : OpenRun). part ≤ r.part → r.part < to → has_bits r.filter (key_number hash key) ≡ false) (λ r f up down. f (omega (arith, up, low)) down) runs deny)
       part (omega arith) high)
       (cases_eq part 0)
 

@@ -1,22 +1,24 @@
 //! What is known of the partitions without a look into the index.
 
-ghost use Rattle.std.specs.Prelude.{ℕ, ◌≡◌, ◌<◌, ◌≤◌, ◌++◌, [], List, length, take, drop, slice_index_or, false};
+ghost use Rattle.std.specs.Prelude.{ℕ, ◌≡◌, ◌<◌, ◌≤◌, ◌++◌, [], List, length, take, drop, slice_index_or, true, false};
 ghost use Rattle.std.specs.Prelude.{IsSome, IfSome, IfNone, IfOk, IfErr, OnOk, OnErr, vec_len, vec_capacity};
 ghost use Rattle.std.specs.List.{AllByRecursion};
-ghost use Rattle.am_record.specs.KeyMix.{key_mix};
+ghost use Rattle.am_record.specs.KeyNumber.{key_number, numbers_of};
 ghost use Rattle.am_record.specs.OrderedKey.{OrderedKey};
+ghost use Rattle.am_record.specs.Plain.{Records};
+ghost use Rattle.am_record.specs.declared.hash_key.HashKey.{HashKey};
 ghost use Rattle.am_record.specs.declared.entry.Entry.{Entry};
 ghost use Rattle.am_list.specs.Entries.{find, insert_entry, remove_entry};
 ghost use Rattle.am_list.specs.Runs.{run_entries};
 ghost use Rattle.am_filter.specs.Filters.{has_bits};
-ghost use Rattle.am_parts.specs.Generations.{IsInGenerations};
+ghost use Rattle.am_parts.specs.Generations.{IsInGenerations, HaveRoomFor};
 ghost use Rattle.am_parts.specs.declared.generations.Generation.{Generation};
 ghost use Rattle.am_parts.specs.Catalogs.{parts_of, PartsRise, IsRunAt, IsGapAt, HasCounted, HasMore, IsOpenRunOf};
-ghost use Rattle.am_parts.specs.Catalogs.{IsNext};
+ghost use Rattle.am_parts.specs.Catalogs.{IsNext, LetsGo, all_left, is_one_of};
 
 use crate::generations::{Generations, SOME_KEYS};
 use am_filter::Filter;
-use am_record::{Key, NoMemory, Value};
+use am_record::NoMemory;
 use std::alloc::Global;
 
 /// A run that has entries left.
@@ -30,37 +32,37 @@ pub(crate) struct OpenRun {
 }
 
 impl OpenRun {
-    fn of(alloc: Global, part: u32, pairs: &[(Key, Value)]) -> Result<OpenRun, NoMemory>
-        ensures { IfOk result (IsOpenRunOf part pairs.now) }
+    fn of(alloc: Global, part: u32, numbers: &[u64]) -> Result<OpenRun, NoMemory>
+        ensures { IfOk result (IsOpenRunOf part numbers.now) }
     {
-        let filter = Filter::of(alloc, pairs)?;
+        let filter = Filter::of(alloc, numbers)?;
         Ok(OpenRun {
             part,
-            left: pairs.len() as u64,
+            left: numbers.len() as u64,
             filter,
         })
     }
 
-    // Whether an entry of the key may stand in the run. The number is the key's, made once for all runs.
+    // Whether an entry of a key with the number may stand in the run.
     fn may_have(&self, number: u64) -> bool
-        ensures { (key : OrderedKey) → number ≡ key_mix key → result ≡ has_bits self.now.filter key }
+        ensures { result ≡ has_bits self.now.filter number }
     {
-        self.filter.holds_mixed(number)
+        self.filter.holds(number)
     }
 
-    fn add(&mut self, key: Key) -> Result<(), NoMemory>
-        ensures ok { OnOk result (HasMore self.old key self.new) }
+    fn add(&mut self, number: u64) -> Result<(), NoMemory>
+        ensures ok { OnOk result (HasMore self.old number self.new) }
         ensures err { OnErr result (self.new ≡ self.old) }
     {
         // No memory holds 2^64 entries.
         self.left = self.left.checked_add(1).ok_or(NoMemory)?;
-        self.filter.add(key);
+        self.filter.add(number);
         Ok(())
     }
 }
 
 /// How many entries stand in the final partition, and the runs that have entries left, with filters over all of them. A
-/// run that is not among them has none.
+/// run that is not among them has none. Of keys it knows the numbers alone, and not what they were made by.
 #[derive(Drop)]
 pub(crate) struct Catalog {
     in_final: u64,
@@ -76,7 +78,7 @@ impl Catalog {
 
     /// That of an empty index. It takes no memory.
     pub(crate) fn new(alloc: Global) -> Catalog
-        ensures { IsCatalog [] result }
+        ensures { (hash : HashKey) → IsCatalog hash [] result }
     {
         Catalog {
             in_final: 0,
@@ -97,8 +99,10 @@ impl Catalog {
     pub(crate) fn next_part(&self, from: u32) -> Option<u32>
         requires rising { PartsRise (parts_of self.now.runs.items) }
         ensures further { IfSome result (λ part. from ≤ part) }
-        ensures passed { IfSome result (λ part. (es : List Entry) → IsCatalog es self.now → AreEmpty es from part) }
-        ensures none { IfNone result ((es : List Entry) → IsCatalog es self.now → AreEmptyFrom es from) }
+        ensures passed { IfSome result (λ part. (hash : HashKey) (es : List Entry) → IsCatalog hash es self.now →
+            AreEmpty es from part) }
+        ensures none { IfNone result ((hash : HashKey) (es : List Entry) → IsCatalog hash es self.now →
+            AreEmptyFrom es from) }
     {
         if from == 0 && self.has_final() {
             return Some(0);
@@ -163,50 +167,55 @@ impl Catalog {
         None
     }
 
-    /// Counts an entry of that partition and key.
+    /// Counts an entry of that partition, with a key of that number.
     ///
     /// # Errors
     /// NoMemory, where memory was refused; it is the same entries' as before.
-    pub(crate) fn add(&mut self, part: u32, key: Key) -> Result<(), NoMemory>
+    pub(crate) fn add(&mut self, part: u32, number: u64) -> Result<(), NoMemory>
         requires { PartsRise (parts_of self.old.runs.items) }
-        ensures ok { OnOk result ((es : List Entry) (x : Entry) → x.part ≡ part → x.key ≡ key → IsCatalog es self.old →
-            IsCatalog (insert_entry es x) self.new) }
-        ensures err { OnErr result ((es : List Entry) → IsCatalog es self.old → IsCatalog es self.new) }
+        ensures ok { OnOk result ((hash : HashKey) (es : List Entry) (x : Entry) → x.part ≡ part →
+            number ≡ key_number hash x.key → IsCatalog hash es self.old → IsCatalog hash (insert_entry es x) self.new) }
+        ensures err { OnErr result ((hash : HashKey) (es : List Entry) → IsCatalog hash es self.old →
+            IsCatalog hash es self.new) }
     {
         if part == 0 {
             self.in_final = self.in_final.checked_add(1).ok_or(NoMemory)?;
             return Ok(());
         }
-        self.generations.add(part, key)?;
-        self.add_to_run(part, key)
+        self.generations.add(part, number)?;
+        self.add_to_run(part, number)
     }
 
     // Counts an entry of a run.
-    fn add_to_run(&mut self, part: u32, key: Key) -> Result<(), NoMemory>
+    fn add_to_run(&mut self, part: u32, number: u64) -> Result<(), NoMemory>
         requires is_run { 0 < part }
         requires rising { PartsRise (parts_of self.old.runs.items) }
-        ensures ok { OnOk result ((es : List Entry) (x : Entry) → x.part ≡ part → x.key ≡ key →
-            AreCounted es self.old → AreCounted (insert_entry es x) self.new) }
-        ensures err { OnErr result ((es : List Entry) → AreCounted es self.old → AreCounted es self.new) }
+        ensures ok { OnOk result ((hash : HashKey) (es : List Entry) (x : Entry) → x.part ≡ part →
+            number ≡ key_number hash x.key → AreCounted hash es self.old →
+            AreCounted hash (insert_entry es x) self.new) }
+        ensures err { OnErr result ((hash : HashKey) (es : List Entry) → AreCounted hash es self.old →
+            AreCounted hash es self.new) }
         ensures generations { self.new.generations ≡ self.old.generations }
     {
         match search(&self.runs, part) {
-            Ok(at) => self.runs[at].add(key),
-            Err(at) => self.open(at, part, key),
+            Ok(at) => self.runs[at].add(number),
+            Err(at) => self.open(at, part, number),
         }
     }
 
     // Opens a run of one entry at the index.
-    fn open(&mut self, at: usize, part: u32, key: Key) -> Result<(), NoMemory>
+    fn open(&mut self, at: usize, part: u32, number: u64) -> Result<(), NoMemory>
         requires is_run { 0 < part }
         requires gap { IsGapAt self.old.runs.items part at }
-        ensures ok { OnOk result ((es : List Entry) (x : Entry) → x.part ≡ part → x.key ≡ key →
-            AreCounted es self.old → AreCounted (insert_entry es x) self.new) }
-        ensures err { OnErr result ((es : List Entry) → AreCounted es self.old → AreCounted es self.new) }
+        ensures ok { OnOk result ((hash : HashKey) (es : List Entry) (x : Entry) → x.part ≡ part →
+            number ≡ key_number hash x.key → AreCounted hash es self.old →
+            AreCounted hash (insert_entry es x) self.new) }
+        ensures err { OnErr result ((hash : HashKey) (es : List Entry) → AreCounted hash es self.old →
+            AreCounted hash es self.new) }
         ensures generations { self.new.generations ≡ self.old.generations }
     {
         let mut filter = Filter::new(self.alloc, SOME_KEYS)?;
-        filter.add(key);
+        filter.add(number);
         let run = OpenRun {
             part,
             left: 1,
@@ -219,8 +228,10 @@ impl Catalog {
     /// Counts an entry of the partition as gone. A run without entries leaves. Takes no memory.
     pub(crate) fn take(&mut self, part: u32)
         requires { HasCounted self.old part }
-        ensures { (es : List Entry) (key : OrderedKey) → IsCatalog es self.old → IsSome (find es part key) →
-            IsCatalog (remove_entry es part key) self.new }
+        ensures listed { (hash : HashKey) (es : List Entry) (key : OrderedKey) → IsCatalog hash es self.old →
+            IsSome (find es part key) → IsCatalog hash (remove_entry es part key) self.new }
+        ensures gone { 0 < part → LetsGo self.old.generations.list.items part self.new.runs.items
+            self.new.generations.list.items }
     {
         if part == 0 {
             self.in_final -= 1;
@@ -235,8 +246,9 @@ impl Catalog {
     fn take_from_run(&mut self, part: u32) -> bool
         requires is_run { 0 < part }
         requires counted { HasCounted self.old part }
-        ensures listed { (es : List Entry) (key : OrderedKey) → AreCounted es self.old → IsSome (find es part key) →
-            AreCounted (remove_entry es part key) self.new }
+        ensures listed { (hash : HashKey) (es : List Entry) (key : OrderedKey) → AreCounted hash es self.old →
+            IsSome (find es part key) → AreCounted hash (remove_entry es part key) self.new }
+        ensures stays { result ≡ false → is_one_of (parts_of self.new.runs.items) part ≡ true }
         ensures generations { self.new.generations ≡ self.old.generations }
     {
         let Ok(at) = search(&self.runs, part) else {
@@ -253,7 +265,9 @@ impl Catalog {
     // Lets go the generation of a partition, where none of its runs is left.
     fn let_go(&mut self, part: u32)
         requires { PartsRise (parts_of self.old.runs.items) }
-        ensures { (es : List Entry) → IsCatalog es self.old → IsCatalog es self.new }
+        ensures same { (hash : HashKey) (es : List Entry) → IsCatalog hash es self.old → IsCatalog hash es self.new }
+        ensures gone { LetsGo self.old.generations.list.items part self.new.runs.items
+            self.new.generations.list.items }
     {
         let at = self.generations.place(part);
         if at == self.generations.list().len() {
@@ -265,30 +279,33 @@ impl Catalog {
         }
     }
 
-    /// The run of these records, with room got for it and for its keys. No entry stands in its partition or above it.
+    /// The run of records with keys of these numbers, with room got for it and for its keys. No entry stands in its partition or above it.
     ///
     /// # Errors
     /// NoMemory, where memory was refused.
-    pub(crate) fn make_room(
-        &mut self,
-        part: u32,
-        pairs: &[(Key, Value)],
-    ) -> Result<OpenRun, NoMemory>
-        ensures run { IfOk result (IsOpenRunOf part pairs.now) }
+    pub(crate) fn make_room(&mut self, part: u32, numbers: &[u64]) -> Result<OpenRun, NoMemory>
+        ensures run { IfOk result (IsOpenRunOf part numbers.now) }
         ensures room { OnOk result (vec_len self.new.runs < vec_capacity self.new.runs) }
         ensures reached { OnOk result (IsInGenerations self.new.generations.list.items part) }
-        ensures same { (es : List Entry) → AllByRecursion (λ e. e.part < part) es → IsCatalog es self.old →
-            IsCatalog es self.new }
+        ensures made { OnOk result (HaveRoomFor self.old.generations.list.items (all_left self.old.runs.items)
+            (length numbers.now) self.new.generations.list.items) }
+        ensures same { (hash : HashKey) (es : List Entry) → AllByRecursion (λ e. e.part < part) es →
+            IsCatalog hash es self.old → IsCatalog hash es self.new }
     {
         self.runs.reserve(1)?;
-        let run = OpenRun::of(self.alloc, part, pairs)?;
-        let left = self.left();
-        self.generations.make_room(part, pairs.len(), left)?;
+        let run = OpenRun::of(self.alloc, part, numbers)?;
+        // Only a new generation asks how much is left in all runs: not each load goes over them.
+        if !self.generations.has_room(numbers.len()) {
+            let left = self.left();
+            self.generations.open(part, numbers.len(), left)?;
+        }
         Ok(run)
     }
 
     // How many entries are left in all runs.
-    fn left(&self) -> usize {
+    fn left(&self) -> usize
+        ensures { result ≡ all_left self.now.runs.items }
+    {
         let mut left: u64 = 0;
         for run in &self.runs {
             left = left.saturating_add(run.left);
@@ -296,14 +313,15 @@ impl Catalog {
         left as usize
     }
 
-    /// Puts the run of these records behind all others, for which room was got. Takes no memory.
-    pub(crate) fn push(&mut self, run: OpenRun, pairs: &[(Key, Value)])
+    /// Puts the run behind all others, for which room was got, with the numbers of its keys. Takes no memory.
+    pub(crate) fn push(&mut self, run: OpenRun, numbers: &[u64])
         requires room { vec_len self.old.runs < vec_capacity self.old.runs }
         requires reached { IsInGenerations self.old.generations.list.items run.part }
-        ensures { (es : List Entry) (part : ℕ) → IsCatalog es self.old → IsNext es part pairs.now →
-            IsOpenRunOf part pairs.now run → IsCatalog (es ++ run_entries part pairs.now) self.new }
+        ensures { (hash : HashKey) (es : List Entry) (part : ℕ) (rs : Records) → numbers.now ≡ numbers_of hash rs →
+            IsCatalog hash es self.old → IsNext es part rs → IsOpenRunOf part numbers.now run →
+            IsCatalog hash (es ++ run_entries part rs) self.new }
     {
-        self.generations.push(run.part, pairs);
+        self.generations.push(run.part, numbers);
         let Ok(()) = self.runs.push(run) else {
             unreachable!()
         };

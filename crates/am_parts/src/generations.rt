@@ -1,17 +1,20 @@
 //! Filters over the keys of many runs.
 
-ghost use Rattle.std.specs.Prelude.{◌≡◌, ◌<◌, ◌≤◌, ◌++◌, ◌^◌, ℕ, List, [], length, true, IfOk, OnOk, OnErr};
-ghost use Rattle.std.specs.List.{AllByRecursion};
-ghost use Rattle.am_record.specs.KeyMix.{key_mix};
-ghost use Rattle.am_record.specs.OrderedKey.{OrderedKey};
+ghost use Rattle.std.specs.Prelude.{◌≡◌, ◌<◌, ◌≤◌, ◌++◌, ◌^◌, ℕ, List, [], length, max, true, Some};
+ghost use Rattle.std.specs.Prelude.{IfOk, OnOk, OnErr, IsSomeAnd};
+ghost use Rattle.std.specs.List.{AllByRecursion, remove};
+ghost use Rattle.am_record.specs.KeyNumber.{key_number, numbers_of};
+ghost use Rattle.am_record.specs.Plain.{Records};
+ghost use Rattle.am_record.specs.declared.hash_key.HashKey.{HashKey};
 ghost use Rattle.am_record.specs.declared.entry.Entry.{Entry};
 ghost use Rattle.am_list.specs.Entries.{insert_entry};
 ghost use Rattle.am_list.specs.Runs.{run_entries};
 ghost use Rattle.am_filter.specs.Filters.{has_bits};
 ghost use Rattle.am_parts.specs.Generations.{AreHeld, HasGrown, IsGenerationAt, IsInGenerations, IsStretch};
+ghost use Rattle.am_parts.specs.Generations.{newest, takes, room_of, room_for, IsMadeFor};
 
 use am_filter::Filter;
-use am_record::{Key, NoMemory, Value};
+use am_record::NoMemory;
 use std::alloc::Global;
 
 // For how many keys a filter is made where it isn't known how many will come.
@@ -39,9 +42,10 @@ pub(crate) struct Generation {
 impl Generation {
     // The newest one, without keys.
     fn new(alloc: Global, room: usize) -> Result<Generation, NoMemory>
-        ensures { IfOk result (λ g. g.end ≡ 2 ^ 32) }
+        ensures { IfOk result (IsMadeFor room) }
     {
-        let filter = Filter::new(alloc, room)?;
+        // Twice the words of a run's filter: where it holds a key wrongly, the filters of all its runs are asked.
+        let filter = Filter::new(alloc, room.saturating_mul(2))?;
         Ok(Generation {
             end: BEHIND_ALL,
             filter,
@@ -52,32 +56,32 @@ impl Generation {
 
     /// Whether an entry of the key may stand in one of its runs. The number is the key's.
     pub(crate) fn may_have(&self, number: u64) -> bool
-        ensures { (key : OrderedKey) → number ≡ key_mix key → result ≡ has_bits self.now.filter key }
+        ensures { result ≡ has_bits self.now.filter number }
     {
-        self.filter.holds_mixed(number)
+        self.filter.holds(number)
     }
 
     // Whether it is the newest and has room for so many keys.
     fn has_room(&self, keys: usize) -> bool
-        ensures { result ≡ true → self.now.end ≡ 2 ^ 32 }
+        ensures { result ≡ takes keys (Some self.now) }
     {
         self.end == BEHIND_ALL && keys <= self.room.saturating_sub(self.keys)
     }
 
-    fn add(&mut self, key: Key)
+    fn add(&mut self, number: u64)
         ensures grown { HasGrown self.old self.new }
-        ensures added { has_bits self.new.filter key ≡ true }
+        ensures added { has_bits self.new.filter number ≡ true }
     {
-        self.filter.add(key);
+        self.filter.add(number);
         self.keys = self.keys.saturating_add(1);
     }
 
-    fn add_all(&mut self, pairs: &[(Key, Value)])
+    fn add_all(&mut self, numbers: &[u64])
         ensures grown { HasGrown self.old self.new }
-        ensures added { AllByRecursion (λ r. has_bits self.new.filter r.0 ≡ true) pairs.now }
+        ensures added { AllByRecursion (λ n. has_bits self.new.filter n ≡ true) numbers.now }
     {
-        for pair in pairs {
-            self.add(pair.0);
+        for number in numbers {
+            self.add(*number);
         }
     }
 }
@@ -106,39 +110,51 @@ impl Generations {
         &self.list
     }
 
-    /// Puts a key into the generation of its partition, or into a new one where there is none.
+    /// Puts a key's number into the generation of its partition, or into a new one where there is none.
     ///
     /// # Errors
     /// NoMemory, where memory was refused.
-    pub(crate) fn add(&mut self, part: u32, key: Key) -> Result<(), NoMemory>
-        ensures ok { OnOk result ((es : List Entry) (x : Entry) → x.part ≡ part → x.key ≡ key →
-            AreHeld es self.old.list.items → AreHeld (insert_entry es x) self.new.list.items) }
-        ensures kept { (es : List Entry) → AreHeld es self.old.list.items → AreHeld es self.new.list.items }
+    pub(crate) fn add(&mut self, part: u32, number: u64) -> Result<(), NoMemory>
+        ensures ok { OnOk result ((hash : HashKey) (es : List Entry) (x : Entry) → x.part ≡ part →
+            number ≡ key_number hash x.key → AreHeld hash es self.old.list.items →
+            AreHeld hash (insert_entry es x) self.new.list.items) }
+        ensures kept { (hash : HashKey) (es : List Entry) → AreHeld hash es self.old.list.items →
+            AreHeld hash es self.new.list.items }
     {
         let at = self.place(part);
         if at < self.list.len() {
-            self.list[at].add(key);
+            self.list[at].add(number);
             return Ok(());
         }
         let mut generation = Generation::new(self.alloc, SOME_KEYS)?;
-        generation.add(key);
+        generation.add(number);
         self.list.push(generation)?;
         Ok(())
     }
 
-    /// Sees to it that there is a generation for a run behind all others, which has so many keys. How many entries are
-    /// left in the runs is told so that a new one isn't made larger than they ask for.
+    /// Whether the newest one has room for so many keys more.
+    pub(crate) fn has_room(&self, keys: usize) -> bool
+        ensures value { result ≡ takes keys (newest self.now.list.items) }
+        ensures reached { result ≡ true → (part : ℕ) → part < 2 ^ 32 → IsInGenerations self.now.list.items part }
+    {
+        match self.list.last() {
+            Some(newest) => newest.has_room(keys),
+            None => false,
+        }
+    }
+
+    /// Opens one for a run behind all others, which has so many keys. How many entries are left in the runs is told so
+    /// that it isn't made larger than they ask for.
     ///
     /// # Errors
     /// NoMemory, where memory was refused.
-    pub(crate) fn make_room(&mut self, part: u32, keys: usize, left: usize) -> Result<(), NoMemory>
+    pub(crate) fn open(&mut self, part: u32, keys: usize, left: usize) -> Result<(), NoMemory>
         ensures reached { OnOk result (IsInGenerations self.new.list.items part) }
-        ensures kept { (es : List Entry) → AllByRecursion (λ e. e.part < part) es → AreHeld es self.old.list.items →
-            AreHeld es self.new.list.items }
+        ensures opened { OnOk result (IsSomeAnd (newest self.new.list.items)
+            (IsMadeFor (room_for (room_of (newest self.old.list.items)) left keys))) }
+        ensures kept { (hash : HashKey) (es : List Entry) → AllByRecursion (λ e. e.part < part) es →
+            AreHeld hash es self.old.list.items → AreHeld hash es self.new.list.items }
     {
-        if self.has_room(keys) {
-            return Ok(());
-        }
         let room = self.next_room(left).max(keys);
         let generation = Generation::new(self.alloc, room)?;
         self.list.reserve(1)?;
@@ -147,26 +163,18 @@ impl Generations {
         Ok(())
     }
 
-    // Whether the newest one has room for so many keys.
-    fn has_room(&self, keys: usize) -> bool
-        ensures { result ≡ true → (part : ℕ) → part < 2 ^ 32 → IsInGenerations self.now.list.items part }
-    {
-        match self.list.last() {
-            Some(newest) => newest.has_room(keys),
-            None => false,
-        }
-    }
-
     // For how many keys the next one is made: twice as many as the last, or as are left in the runs.
-    fn next_room(&self, left: usize) -> usize {
+    fn next_room(&self, left: usize) -> usize
+        ensures { (keys : ℕ) → max keys result ≡ room_for (room_of (newest self.now.list.items)) left keys }
+    {
         let last = self.list.last().map_or(0, |last| last.room);
         last.min(left).saturating_mul(2).max(SOME_KEYS)
     }
 
     // Ends the newest one below a partition that is above all entries.
     fn close(&mut self, part: u32)
-        ensures { (es : List Entry) → AllByRecursion (λ e. e.part < part) es → AreHeld es self.old.list.items →
-            AreHeld es self.new.list.items }
+        ensures { (hash : HashKey) (es : List Entry) → AllByRecursion (λ e. e.part < part) es →
+            AreHeld hash es self.old.list.items → AreHeld hash es self.new.list.items }
     {
         let count = self.list.len();
         if count > 0 {
@@ -174,14 +182,14 @@ impl Generations {
         }
     }
 
-    /// Puts the keys of a run behind all others into its generation. Takes no memory.
-    pub(crate) fn push(&mut self, part: u32, pairs: &[(Key, Value)])
+    /// Puts the keys of a run behind all others, by their numbers, into its generation. Takes no memory.
+    pub(crate) fn push(&mut self, part: u32, numbers: &[u64])
         requires { IsInGenerations self.old.list.items part }
-        ensures { (es : List Entry) → AreHeld es self.old.list.items →
-            AreHeld (es ++ run_entries part pairs.now) self.new.list.items }
+        ensures { (hash : HashKey) (es : List Entry) (rs : Records) → numbers.now ≡ numbers_of hash rs →
+            AreHeld hash es self.old.list.items → AreHeld hash (es ++ run_entries part rs) self.new.list.items }
     {
         let at = self.place(part);
-        self.list[at].add_all(pairs);
+        self.list[at].add_all(numbers);
     }
 
     /// Which generation is the partition's, or their number where none is.
@@ -208,8 +216,10 @@ impl Generations {
     /// Lets go a generation none of whose runs is left.
     pub(crate) fn remove(&mut self, at: usize)
         requires { at < length self.old.list.items }
-        ensures { (es : List Entry) → AllByRecursion (λ e. 0 < e.part → ¬ IsGenerationAt self.old.list.items e.part at)
-            es → AreHeld es self.old.list.items → AreHeld es self.new.list.items }
+        ensures gone { self.new.list.items ≡ remove self.old.list.items at }
+        ensures kept { (hash : HashKey) (es : List Entry) →
+            AllByRecursion (λ e. 0 < e.part → ¬ IsGenerationAt self.old.list.items e.part at) es →
+            AreHeld hash es self.old.list.items → AreHeld hash es self.new.list.items }
     {
         let _ = self.list.remove(at);
     }

@@ -4,6 +4,7 @@
 mod catalog;
 mod generations;
 mod merged;
+mod numbers;
 mod parts;
 
 pub use parts::{Parts, Vacancy};

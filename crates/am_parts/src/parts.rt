@@ -15,8 +15,9 @@ ghost use Rattle.am_parts.specs.Partitions.{settled, vacancy_over};
 
 use crate::catalog::Catalog;
 use crate::merged::MergedRanges;
+use crate::numbers::numbers_of;
 use am_list::{Batch, PartIndex};
-use am_record::{Entry, Key, NoMemory, Range, Value};
+use am_record::{Entry, HashKey, Key, NoMemory, Range, Value};
 use std::alloc::Global;
 use std::marker::Model;
 
@@ -39,6 +40,9 @@ pub struct Parts<I: PartIndex + Drop> {
     catalog: Catalog,
     merged: MergedRanges,
     runs: u32,
+    // What keys have their numbers by, which filters know them by. No answer depends on it.
+    hash: HashKey,
+    alloc: Global,
 }
 
 impl<I: PartIndex + Drop> Model for Parts<I> {
@@ -54,7 +58,7 @@ impl<I: PartIndex + Drop> Model for Parts<I> {
     ghost view = { λ p. record { entries = I.entries p.index; runs = p.runs } };
 
     ghost invariant = { λ p. AreWellFormed (I.entries p.index) × (p.runs ≤ 65535) ×
-        IsCatalog (I.entries p.index) p.catalog ×
+        IsCatalog p.hash (I.entries p.index) p.catalog ×
         AreMerged (I.entries p.index) p.runs p.merged.list.items };
 }
 
@@ -63,8 +67,9 @@ impl<I: PartIndex + Drop> Parts<I> {
     ghost use Rattle.am_parts.specs.Partitions.{LivesNowhereElse, IsLiveEntry, IsVacancy, content_with};
     ghost use Rattle.am_parts.specs.Partitions.{content_without, content_set, brought_home};
 
-    /// The partitions of an empty index.
-    pub fn new(alloc: Global, index: I) -> Parts<I>
+    /// The partitions of an empty index. By the hash key the filters know the keys: whoever doesn't know it can't choose
+    /// keys that they don't tell apart.
+    pub fn new(alloc: Global, index: I, hash: HashKey) -> Parts<I>
         requires { I.entries index ≡ [] }
         ensures entries { result.entries ≡ [] }
         ensures runs { result.runs ≡ 0 }
@@ -74,6 +79,8 @@ impl<I: PartIndex + Drop> Parts<I> {
             catalog: Catalog::new(alloc),
             merged: MergedRanges::new(alloc),
             runs: 0,
+            hash,
+            alloc,
         }
     }
 
@@ -208,7 +215,7 @@ impl<I: PartIndex + Drop> Parts<I> {
         ensures absent { IfNone result (LivesInNoRun self.now.entries key) }
         ensures sound { AreWellFormed self.now.entries }
     {
-        let number = key.mixed();
+        let number = key.number(self.hash);
         let mut from = 1;
         while let Some(part) = self.catalog.next_place(from, number) {
             let slot = self.index.find(part, key);
@@ -247,9 +254,9 @@ impl<I: PartIndex + Drop> Parts<I> {
     {
         // Read here, the number is known to fit its type.
         prove!(entry.part <= u32::MAX);
-        self.catalog.add(entry.part, entry.key)?;
+        self.catalog.add(entry.part, entry.key.number(self.hash))?;
         self.merged.add(entry.part);
-        insert_or_forget(&mut self.index, &mut self.catalog, entry)
+        insert_or_forget(self.hash, &mut self.index, &mut self.catalog, entry)
     }
 
     /// Writes over the value of an entry, and whether it is a ghost. The caller sees to it that it is there, and
@@ -292,7 +299,7 @@ impl<I: PartIndex + Drop> Parts<I> {
         ensures place { OnErr result (find self.old.entries 0 entry.now.key ≡ None) }
         ensures runs { self.new.runs ≡ self.old.runs }
     {
-        settle(&mut self.index, &mut self.catalog, entry)?;
+        settle(self.hash, &mut self.index, &mut self.catalog, entry)?;
         self.catalog.take(entry.part);
         self.index.remove(entry.part, entry.key);
         Ok(())
@@ -345,9 +352,10 @@ impl<I: PartIndex + Drop> Parts<I> {
     {
         let part = self.runs + 1;
         self.merged.reserve()?;
-        let run = self.catalog.make_room(part, pairs)?;
+        let numbers = numbers_of(self.alloc, self.hash, pairs)?;
+        let run = self.catalog.make_room(part, &numbers)?;
         self.index.append_run(part, pairs)?;
-        self.catalog.push(run, pairs);
+        self.catalog.push(run, &numbers);
         self.runs = part;
         Ok(())
     }
@@ -355,15 +363,16 @@ impl<I: PartIndex + Drop> Parts<I> {
 
 // Adds an entry that is counted, or counts it as gone where memory is refused.
 fn insert_or_forget<I: PartIndex + Drop>(
+    hash: HashKey,
     index: &mut I,
     catalog: &mut Catalog,
     entry: Entry,
 ) -> Result<(), NoMemory>
     requires absent { find (I.entries index.old) entry.part entry.key ≡ None }
-    requires counted { IsCatalog (insert_entry (I.entries index.old) entry) catalog.old }
+    requires counted { IsCatalog hash (insert_entry (I.entries index.old) entry) catalog.old }
     ensures ok { OnOk result (I.entries index.new ≡ insert_entry (I.entries index.old) entry) }
     ensures err { OnErr result (I.entries index.new ≡ I.entries index.old) }
-    ensures catalog { IsCatalog (I.entries index.new) catalog.new }
+    ensures catalog { IsCatalog hash (I.entries index.new) catalog.new }
 {
     let part = entry.part;
     let added = index.insert(entry);
@@ -375,28 +384,29 @@ fn insert_or_forget<I: PartIndex + Drop>(
 
 // Lets a live entry of a run stand in the final partition too, over a ghost there.
 fn settle<I: PartIndex + Drop>(
+    hash: HashKey,
     index: &mut I,
     catalog: &mut Catalog,
     entry: &Entry,
 ) -> Result<(), NoMemory>
-    requires counted { IsCatalog (I.entries index.old) catalog.old }
+    requires counted { IsCatalog hash (I.entries index.old) catalog.old }
     ensures ok { OnOk result (I.entries index.new ≡ settled entry.now (I.entries index.old)) }
     ensures err { OnErr result (I.entries index.new ≡ I.entries index.old) }
     ensures place { OnErr result (find (I.entries index.old) 0 entry.now.key ≡ None) }
     ensures rising { IsRising (I.entries index.old) }
-    ensures catalog { IsCatalog (I.entries index.new) catalog.new }
+    ensures catalog { IsCatalog hash (I.entries index.new) catalog.new }
 {
     if index.find(0, entry.key).is_some() {
         index.set(0, entry.key, entry.value, false);
         return Ok(());
     }
-    catalog.add(0, entry.key)?;
+    catalog.add(0, entry.key.number(hash))?;
     let settled = Entry {
         part: 0,
         is_ghost: false,
         ..*entry
     };
-    insert_or_forget(index, catalog, settled)
+    insert_or_forget(hash, index, catalog, settled)
 }
 
 // Whether what stands at a place is live.

@@ -2,7 +2,7 @@
 use Rattle.std.proofs.Common.{◌≡◌, ℕ, ◌-◌, ◌+◌, ◌≤◌, List, [], ◌∷◌, ◌++◌, length, reverse, take, drop, arith, sym, ap, ◌∙◌, subst, length-append, length-drop}
 use Rattle.std.proofs.lemmas.List.{take-append-drop, reverse-append, length-reverse}
 use Rattle.std.proofs.Math.Seq.{take-append-add, take-append_seam, drop-append_seam}
-use Rattle.am_record.specs.Marks.{since, until, since_mark, until_mark, older}
+use Rattle.am_record.specs.Marks.{since, until, since_mark, until_mark}
 
 pub since-new : {X : Type 0} (new items : List X) (mark : ℕ) → mark ≤ length items → since mark (new ++ items) ≡ new ++ since mark items
 since-new new items mark h =

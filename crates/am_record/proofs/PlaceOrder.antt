@@ -1,13 +1,10 @@
 -- What the order of places says of three places.
-use Rattle.std.proofs.Common.{◌≡◌, ◌≢◌, ℕ, ◌<◌, ◌≤◌, true, refl, sym, ap, ◌∙◌, ⊎_elim, arith}
-use Rattle.std.proofs.lemmas.Bool.{true≢false, cases_lt}
+use Rattle.std.proofs.Common.{◌≡◌, ◌≢◌, ◌<◌, ◌≤◌, refl, sym, ap, ◌∙◌, arith}
 use Rattle.std.specs.declared.cmp.Ordering.{Ordering}
 use Rattle.std.specs.declared.cmp.Ordering.TheVariants.{Less, Equal, Greater}
-use Rattle.std.specs.Ordering.{is_le, ordering_reverse, ordering_index}
+use Rattle.std.specs.Ordering.{ordering_reverse, ordering_index}
 use Rattle.std.specs.Cmp.{alike_right}
-use Rattle.am_record.specs.OrderedKey.{OrderedKey, key_cmp}
-use Rattle.am_record.specs.Interval.{key_le}
-use Rattle.am_record.specs.EntryOrder.{Place, place_cmp, place_cmp-total, place_cmp-part, place_cmp-equal, place_cmp-same}
+use Rattle.am_record.specs.EntryOrder.{Place, place_cmp, place_cmp-total, place_cmp-part, place_cmp-equal}
 use Rattle.am_record.proofs.Orderings.{less_or_greater}
 
 -- the other way round

@@ -11,6 +11,7 @@ pub mod ValueFields
 pub mod EntryOrder
 pub mod Locks
 pub mod Plain
+pub mod KeyNumber
 pub mod Asks
 pub mod Copies
 pub mod Refusals

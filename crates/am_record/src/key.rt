@@ -3,9 +3,11 @@
 ghost use Rattle.std.specs.Prelude.{◌≡◌, ◌↔◌, ◌+◌, ◌≤◌, IsSome, IfSome, length};
 ghost use Rattle.am_record.specs.KeyFront.{key_front};
 ghost use Rattle.am_record.specs.KeyMix.{mix_in, key_mix};
+ghost use Rattle.am_record.specs.KeyNumber.{key_number};
 ghost use Rattle.am_record.specs.KeyWords.{word_at, key_words, AreBytes};
 ghost use Rattle.am_record.specs.OrderedKey.{key_of, bytes_of, number_key, key_least, IsLeast};
 
+use crate::hash_key::HashKey;
 use crate::limits::MAX_KEY_LEN;
 use std::cmp::Ordering;
 use std::hash::{Hash, Hasher};
@@ -94,6 +96,16 @@ impl Key {
         let words = words(&self.bytes);
         let front = mix(mix(u64::from(self.len), words[0]), words[1]);
         mix(mix(front, words[2]), words[3])
+    }
+
+    /// A number that looks drawn at random to whoever doesn't know the hash key, the same for equal keys. The key's words
+    /// are folded into one another by multiplication to 128 bits (as in Wang Yi's wyhash, 2019), and its length.
+    pub fn number(&self, hash: HashKey) -> u64
+        ensures { result ≡ key_number hash self.now }
+    {
+        let words = words(&self.bytes);
+        let front = hash.fold_in(hash.fold_in(words[0], words[1]), words[2]);
+        hash.fold_in(hash.fold_in(front, words[3]), u64::from(self.len))
     }
 
     /// The least key, the empty string, where walks over a partition begin.

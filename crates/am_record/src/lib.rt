@@ -3,6 +3,7 @@
 
 mod admission;
 mod entry;
+mod hash_key;
 mod key;
 mod laws;
 mod limits;
@@ -15,6 +16,7 @@ mod value;
 
 pub use admission::is_limit;
 pub use entry::Entry;
+pub use hash_key::HashKey;
 pub use key::Key;
 pub use laws::{
     fronts_follow_keys, keys_are_ordered, ranges_are_sets_of_keys, shared_is_compatible_with_shared,

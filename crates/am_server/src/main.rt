@@ -8,6 +8,7 @@ mod listening;
 mod trace_file;
 
 use am_command::{Options, OptionsFault, options, words};
+use am_session::draw_hash_key;
 use am_stack::hold_stack;
 use listening::{close, open, stop_at_word, tell};
 use std::process::ExitCode;
@@ -37,17 +38,18 @@ fn main(rt: HostRuntime) -> io::Result<ExitCode> {
     };
     println!(&rt; "LISTEN {}", bound.port())?;
     let (sessions, workers) = (listening.sessions, listening.workers);
+    let hash = draw_hash_key(&rt);
     let served = if listening.awaits_stop {
         let ((), served) = thread::join(
             &rt,
             || stop_at_word(&rt, &bound),
             ||
                 requires { (1 ≤ sessions) × (sessions ≤ 256) × (workers ≤ 16) }
-            { bound.serve(&rt, sessions, workers) },
+            { bound.serve(&rt, sessions, workers, hash) },
         );
         served
     } else {
-        bound.serve(&rt, sessions, workers)
+        bound.serve(&rt, sessions, workers, hash)
     };
     close(&rt, file.as_ref(), served)
 }

@@ -7,6 +7,7 @@ ghost use Rattle.am_session.specs.Spoke.{Spoke, WroteFor};
 use crate::end::End;
 use crate::serving::serve;
 use crate::solo::SoloStore;
+use am_record::HashKey;
 use am_stream::{AnsweredSource, PieceSource, Sink, StopSink};
 use std::alloc::Global;
 use std::sync::Wait;
@@ -24,6 +25,7 @@ pub fn serve_alone<W: Wait, K: Sink, S: AnsweredSource<K>>(
     source: &mut S,
     sink: &mut K,
     auto: u64,
+    hash: HashKey,
 ) -> End
     requires source_countable { S.failures source.old < 2 ^ 63 }
     requires sink_countable { K.failures sink.old < 2 ^ 63 }
@@ -38,7 +40,7 @@ pub fn serve_alone<W: Wait, K: Sink, S: AnsweredSource<K>>(
     am_serial::sound_traces_are_legal();
     am_talk::sound_dialogues_say();
     am_talk::answers_are_lines();
-    let Ok(mut store) = SoloStore::new(alloc) else {
+    let Ok(mut store) = SoloStore::new(alloc, hash) else {
         return End::NoMemory;
     };
     serve(rt, alloc, source, sink, &mut store, auto)
@@ -51,6 +53,7 @@ pub fn serve_in_memory<W: Wait>(
     source: &mut PieceSource<'_>,
     sink: &mut StopSink,
     auto: u64,
+    hash: HashKey,
 ) -> End
     requires source_countable { source.old.failures < 2 ^ 63 }
     requires sink_countable { sink.old.failures < 2 ^ 63 }
@@ -61,5 +64,5 @@ pub fn serve_in_memory<W: Wait>(
     ensures source_failures { source.new.failures ≡ source.old.failures + read_failures result }
     ensures sink_failures { sink.new.failures ≡ sink.old.failures + write_failures result }
 {
-    serve_alone(rt, alloc, source, sink, auto)
+    serve_alone(rt, alloc, source, sink, auto, hash)
 }

@@ -4,11 +4,13 @@
 mod alone;
 mod backend;
 mod conversation;
+mod drawing;
 mod end;
 mod serving;
 mod solo;
 
 pub use alone::{serve_alone, serve_in_memory};
 pub use backend::Backend;
+pub use drawing::draw_hash_key;
 pub use end::End;
 pub use serving::serve;

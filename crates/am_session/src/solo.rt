@@ -9,7 +9,7 @@ ghost use Rattle.am_session.specs.Solo.{solo_meaning};
 use crate::backend::Backend;
 use am_btree::BTree;
 use am_core::Store;
-use am_record::{NoMemory, Reply, Step};
+use am_record::{HashKey, NoMemory, Reply, Step};
 use am_talk::active_behind;
 use std::alloc::Global;
 use std::marker::Model;
@@ -35,10 +35,10 @@ impl Model for SoloStore {
 }
 
 impl SoloStore {
-    pub(crate) fn new(alloc: Global) -> Result<SoloStore, NoMemory>
+    pub(crate) fn new(alloc: Global, hash: HashKey) -> Result<SoloStore, NoMemory>
         ensures { IfOk result (λ solo. solo ≡ record { kept = empty_state; active = None }) }
     {
-        let store = Store::open(alloc, BTree::new(alloc)?)?;
+        let store = Store::open(alloc, BTree::new(alloc)?, hash)?;
         Ok(SoloStore {
             store,
             active: None,

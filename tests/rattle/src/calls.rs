@@ -2,12 +2,12 @@
 
 use am_btree::BTree;
 use am_core::Store;
-use am_record::{Entry, Key, NoMemory, Op, Pairs, Range, Refusal, Reply, Step, Value};
+use am_record::{Entry, HashKey, Key, NoMemory, Op, Pairs, Range, Refusal, Reply, Step, Value};
 use std::alloc::Global;
 use std::process::Abort;
 
 fn open(alloc: Global) -> Result<Store<BTree>, NoMemory> {
-    Store::open(alloc, BTree::new(alloc)?)
+    Store::open(alloc, BTree::new(alloc)?, HashKey::known())
 }
 
 // The step is answered so.

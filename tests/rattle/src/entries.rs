@@ -3,7 +3,7 @@
 use am_list::PartIndex;
 use am_list_index::ListIndex;
 use am_parts::Parts;
-use am_record::{Entry, Key, NoMemory, Value};
+use am_record::{Entry, HashKey, Key, NoMemory, Value};
 use std::alloc::Global;
 use std::process::Abort;
 
@@ -42,7 +42,7 @@ pub(crate) fn add<I: PartIndex + Drop>(parts: &mut Parts<I>, entry: Entry) -> Re
 
 /// Partitions with the entries.
 pub(crate) fn over(rt: &impl Abort, alloc: Global, entries: &[Entry]) -> Parts<ListIndex> {
-    let mut parts = Parts::new(alloc, ListIndex::new(alloc));
+    let mut parts = Parts::new(alloc, ListIndex::new(alloc), HashKey::known());
     for entry in entries {
         add(&mut parts, *entry).expect(rt, "memory");
     }

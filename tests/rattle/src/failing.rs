@@ -1,6 +1,6 @@
 //! The first session, its bytes cut and its streams failing.
 
-use am_record::NoMemory;
+use am_record::{HashKey, NoMemory};
 use am_session::{End, serve_in_memory};
 use am_stream::{PieceSource, StopSink};
 use std::alloc::Global;
@@ -22,7 +22,7 @@ fn session<R: Wait>(
 ) -> Result<(Vec<u8>, End), NoMemory> {
     let mut source = PieceSource::new(lines, &[], read_fails);
     let mut sink = StopSink::new(alloc, write_fails);
-    let end = serve_in_memory(rt, alloc, &mut source, &mut sink, 0);
+    let end = serve_in_memory(rt, alloc, &mut source, &mut sink, 0, HashKey::known());
     if end == End::NoMemory {
         return Err(NoMemory);
     }

@@ -5,7 +5,7 @@ use am_audit::check;
 use am_btree::BTree;
 use am_core::Store;
 use am_model::{Plain, alone};
-use am_record::{Key, NoMemory, Op, Range, Reply, Step};
+use am_record::{HashKey, Key, NoMemory, Op, Range, Reply, Step};
 use std::alloc::Global;
 use std::test::Fail;
 
@@ -66,7 +66,7 @@ impl History {
     fn open(alloc: Global) -> Result<History, Fault> {
         Ok(History {
             alloc,
-            store: Store::open(alloc, BTree::new(alloc)?)?,
+            store: Store::open(alloc, BTree::new(alloc)?, HashKey::known())?,
             plain: Plain::new(alloc),
             numbers: Numbers::new(),
             trace: Vec::new(alloc),

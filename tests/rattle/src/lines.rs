@@ -2,7 +2,7 @@
 
 use crate::rows;
 use crate::scene::Exchange;
-use am_record::NoMemory;
+use am_record::{HashKey, NoMemory};
 use am_session::{End, serve_in_memory};
 use am_stream::{PieceSource, StopSink};
 use std::alloc::Global;
@@ -39,7 +39,7 @@ fn talk<R: Wait>(
     };
     let mut source = PieceSource::new(input, sizes, read);
     let mut sink = StopSink::new(alloc, write);
-    let end = serve_in_memory(rt, alloc, &mut source, &mut sink, auto);
+    let end = serve_in_memory(rt, alloc, &mut source, &mut sink, auto, HashKey::known());
     let text = sink.into_bytes();
     if wants_memory(failing, end) || tells_no_memory(text.as_slice()) {
         return Err(NoMemory);

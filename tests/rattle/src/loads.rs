@@ -3,7 +3,7 @@
 use crate::entries::{byte, dead, live};
 use am_list_index::ListIndex;
 use am_parts::Parts;
-use am_record::{Entry, Key, MAX_RUNS, NoMemory, Refusal, Reply, Value};
+use am_record::{Entry, HashKey, Key, MAX_RUNS, NoMemory, Refusal, Reply, Value};
 use am_runs::{LoadFault, Run, cut_runs, load};
 use std::alloc::Global;
 use std::process::Abort;
@@ -13,7 +13,7 @@ fn pair(number: u64, value: u8) -> (Key, Value) {
 }
 
 pub(crate) fn no_entries(alloc: Global) -> Parts<ListIndex> {
-    Parts::new(alloc, ListIndex::new(alloc))
+    Parts::new(alloc, ListIndex::new(alloc), HashKey::known())
 }
 
 // Adds the entry, unless it is one of a run that wasn't made, its place is taken or a live one's key is live elsewhere.

@@ -5,7 +5,7 @@ use am_list_index::ListIndex;
 use am_locks::{Asked, LockTable};
 use am_merge::{Wishes, clean_step, merge_step};
 use am_parts::Parts;
-use am_record::{Entry, Key, Lock, Mode, NoMemory, Range, Refusal, Reply, Value};
+use am_record::{Entry, HashKey, Key, Lock, Mode, NoMemory, Range, Refusal, Reply, Value};
 use std::alloc::Global;
 use std::process::Abort;
 
@@ -44,7 +44,7 @@ fn add<I: PartIndex + Drop>(
 }
 
 fn over(rt: &impl Abort, alloc: Global, entries: &[Standing]) -> Parts<ListIndex> {
-    let mut parts = Parts::new(alloc, ListIndex::new(alloc));
+    let mut parts = Parts::new(alloc, ListIndex::new(alloc), HashKey::known());
     for &(part, number, byte, is_ghost) in entries {
         add(&mut parts, part, number, byte, is_ghost).expect(rt, "memory");
     }

@@ -1,5 +1,6 @@
 //! A sink that notes the calls to it.
 
+use am_record::HashKey;
 use am_session::serve_alone;
 use am_stream::{Failed, PieceSource, Sink, StopSink};
 use std::alloc::Global;
@@ -40,7 +41,7 @@ fn calls<R: Wait>(rt: &R, alloc: Global, input: &[u8], sizes: &[usize]) -> (Vec<
         sink: StopSink::new(alloc, 0),
         calls: Vec::new(alloc),
     };
-    let _end = serve_alone(rt, alloc, &mut source, &mut sink, 16);
+    let _end = serve_alone(rt, alloc, &mut source, &mut sink, 16, HashKey::known());
     (sink.calls, sink.sink.into_bytes())
 }
 

@@ -4,7 +4,7 @@ use crate::entries::{add, byte, dead, live, over};
 use am_list::PartIndex;
 use am_list_index::ListIndex;
 use am_parts::Parts;
-use am_record::{Entry, Key};
+use am_record::{Entry, HashKey, Key};
 use std::process::Abort;
 
 #[test]
@@ -87,7 +87,7 @@ fn add_below(rt: &impl Abort, parts: &mut Parts<ListIndex>, number: u64) {
 
 #[test]
 fn refused_add_changes_nothing(rt: HostRuntime) {
-    let mut parts = Parts::new(rt.alloc(), ListIndex::new(rt.alloc()));
+    let mut parts = Parts::new(rt.alloc(), ListIndex::new(rt.alloc()), HashKey::known());
     for number in 0..9_u64 {
         add_below(&rt, &mut parts, 20 - number);
     }

@@ -3,7 +3,7 @@
 use am_btree::BTree;
 use am_core::Store;
 use am_list_index::Tight;
-use am_record::{Key, NoMemory, Op, Pairs, Range, Refusal, Reply, Step, Value};
+use am_record::{HashKey, Key, NoMemory, Op, Pairs, Range, Refusal, Reply, Step, Value};
 use std::alloc::Global;
 use std::test::Fail;
 
@@ -19,7 +19,11 @@ fn three_pairs(alloc: Global) -> Result<Pairs, NoMemory> {
 // load is the first that is counted.
 fn asked(alloc: Global) -> Result<Store<Tight<BTree>>, NoMemory> {
     let refused = vec![in alloc; 4, 5]?;
-    let mut store = Store::open(alloc, Tight::new(BTree::new(alloc)?, refused))?;
+    let mut store = Store::open(
+        alloc,
+        Tight::new(BTree::new(alloc)?, refused),
+        HashKey::known(),
+    )?;
     let Some(range) = Range::new(Key::of_u64(1), Key::of_u64(3)) else {
         return Err(NoMemory);
     };

@@ -2,13 +2,15 @@
 
 use am_btree::BTree;
 use am_core::{Store, run};
-use am_record::{Entry, Key, Lock, Mode, NoMemory, Op, Pairs, Range, Refusal, Reply, Step, Value};
+use am_record::{
+    Entry, HashKey, Key, Lock, Mode, NoMemory, Op, Pairs, Range, Refusal, Reply, Step, Value,
+};
 use std::alloc::Global;
 use std::process::Abort;
 use std::test::Fail;
 
 fn open(alloc: Global) -> Result<Store<BTree>, NoMemory> {
-    Store::open(alloc, BTree::new(alloc)?)
+    Store::open(alloc, BTree::new(alloc)?, HashKey::known())
 }
 
 fn value(byte: u8) -> Value {

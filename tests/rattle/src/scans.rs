@@ -4,7 +4,7 @@ use crate::entries::{add, byte, dead, live, over};
 use am_list::PartIndex;
 use am_list_index::ListIndex;
 use am_parts::Parts;
-use am_record::{Entry, Key, NoMemory, Range, Value};
+use am_record::{Entry, HashKey, Key, NoMemory, Range, Value};
 use am_scan::{Cursor, scan};
 use std::alloc::Global;
 use std::process::Abort;
@@ -62,7 +62,7 @@ fn reads<I: PartIndex + Drop>(
 
 // Each of the first numbers is live in one of three partitions, and a ghost in the next one.
 fn striped(rt: &impl Abort, alloc: Global, count: u32) -> Parts<ListIndex> {
-    let mut parts = Parts::new(alloc, ListIndex::new(alloc));
+    let mut parts = Parts::new(alloc, ListIndex::new(alloc), HashKey::known());
     for number in 0..count {
         let key = u64::from(number);
         add(&mut parts, live(number % 3, key, b'a')).expect(rt, "memory");

@@ -2,7 +2,7 @@
 
 use am_btree::BTree;
 use am_core::Store;
-use am_record::{Entry, NoMemory};
+use am_record::{Entry, HashKey, NoMemory};
 use am_stream::{LineKind, MAX_LINE_LEN, StopSink};
 use am_talk::{Action, Response, Session, parse, put_response};
 use am_wire::reply_text;
@@ -47,7 +47,7 @@ impl Scene {
     pub(crate) fn open(alloc: Global) -> Result<Scene, NoMemory> {
         Ok(Scene {
             alloc,
-            store: Store::open(alloc, BTree::new(alloc)?)?,
+            store: Store::open(alloc, BTree::new(alloc)?, HashKey::known())?,
             first: Session::new(alloc),
             second: Session::new(alloc),
             third: Session::new(alloc),

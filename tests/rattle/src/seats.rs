@@ -2,7 +2,7 @@
 
 use am_audit::check;
 use am_latch::{Blank, Latch, LatchName, Seat, close, was_refused};
-use am_record::{Key, Op, Refusal, Reply, Step, Value};
+use am_record::{HashKey, Key, Op, Refusal, Reply, Step, Value};
 use std::alloc::Global;
 use std::marker::Brand;
 use std::process::Abort;
@@ -48,7 +48,7 @@ fn by_two_threads<L: LatchName + Send + Sync, R: Threads + Wait + Abort + Sync>(
     alloc: Global,
     blank: Blank,
 ) -> Result<(), Fail> {
-    let (latch, mut seats) = Latch::<L>::open(blank)?;
+    let (latch, mut seats) = Latch::<L>::open(blank, HashKey::known())?;
     let second = seats.pop().ok_or("no seat")?;
     let first = seats.pop().ok_or("no seat")?;
     let shared = &latch;
@@ -82,7 +82,7 @@ fn two_seats_on_two_threads(rt: HostRuntime) -> Result<(), Fail> {
 }
 
 fn without_one<L: LatchName, R: Abort>(rt: &R, blank: Blank) -> Result<(), Fail> {
-    let (latch, mut seats) = Latch::<L>::open(blank)?;
+    let (latch, mut seats) = Latch::<L>::open(blank, HashKey::known())?;
     let second = seats.pop().ok_or("no seat")?;
     let Err(missing) = close(latch, seats) else {
         panic!(rt; "a seat is missing")
@@ -109,7 +109,7 @@ fn begun_by_all<L: LatchName, R: Wait + Abort>(
     alloc: Global,
     blank: Blank,
 ) -> Result<Vec<Reply>, Fail> {
-    let (latch, seats) = Latch::<L>::open(blank)?;
+    let (latch, seats) = Latch::<L>::open(blank, HashKey::known())?;
     let mut replies = Vec::new(alloc);
     for mut seat in seats {
         if seat.open_tx().is_none() {

@@ -1,6 +1,7 @@
 //! Clients of a server, over sockets.
 
 use am_listen::{ServerRun, bind};
+use am_record::HashKey;
 use std::io::{Read, Write};
 use std::net::{Ipv4Addr, Net, Shutdown, TcpListener, TcpStream};
 use std::test::Fail;
@@ -34,7 +35,11 @@ fn ask_twice<R: AllocGlobal + Net<Listener = TcpListener, Stream = TcpStream>>(
 fn two_clients_beside_a_worker(rt: HostRuntime) -> Result<(), Fail> {
     let bound = bind(&rt, 0).ok().ok_or("no port")?;
     let port = bound.port();
-    let (served, said) = thread::join(&rt, || bound.serve(&rt, 2, 1), || ask_twice(&rt, port));
+    let (served, said) = thread::join(
+        &rt,
+        || bound.serve(&rt, 2, 1, HashKey::known()),
+        || ask_twice(&rt, port),
+    );
     let ServerRun {
         trace,
         commits,

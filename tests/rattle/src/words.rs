@@ -1,7 +1,7 @@
 //! The two shared words.
 
 use am_latch::{Blank, Latch, LatchName, Seat, was_refused};
-use am_record::Step;
+use am_record::{HashKey, Step};
 use am_words::{WordSeat, Words};
 use std::marker::Brand;
 use std::process::Abort;
@@ -71,7 +71,7 @@ fn beside_the_latch<L: LatchName + Send + Sync, R: Threads + Wait + Clock + Sync
     words: &Words,
     word_seat: &mut WordSeat,
 ) -> Result<(Option<u64>, u64, bool), Fail> {
-    let (latch, _seats) = Latch::<L>::open(blank)?;
+    let (latch, _seats) = Latch::<L>::open(blank, HashKey::known())?;
     let signals = Signals {
         is_held: AtomicBool::new(false),
         may_go: AtomicBool::new(false),
@@ -113,7 +113,7 @@ fn publishes_the_third<L: LatchName, R: Wait + Abort>(
     word_seat: &mut WordSeat,
     other: &mut WordSeat,
 ) -> Result<(u64, u64, u64), Fail> {
-    let (latch, mut seats) = Latch::<L>::open(blank)?;
+    let (latch, mut seats) = Latch::<L>::open(blank, HashKey::known())?;
     let mut seat = seats.pop().ok_or("no seat")?;
     for _ in 0..3 {
         assert!(rt; commits(rt, &latch, &mut seat));

@@ -1,7 +1,7 @@
 //! Workers that merge on the seats of a latch.
 
 use am_latch::{Blank, Latch, LatchName, Seat, close};
-use am_record::{Key, Lock, Mode, Op, Pairs, Range, Refusal, Reply, Step, Value};
+use am_record::{HashKey, Key, Lock, Mode, Op, Pairs, Range, Refusal, Reply, Step, Value};
 use am_workers::{Pacer, run_workers};
 use std::alloc::Global;
 use std::marker::Brand;
@@ -54,7 +54,7 @@ fn by_two_workers<L: LatchName + Send + Sync, R: Threads + Wait + Clock + Abort 
     rt: &R,
     blank: Blank,
 ) -> Result<(), Fail> {
-    let (latch, seats) = Latch::<L>::open(blank)?;
+    let (latch, seats) = Latch::<L>::open(blank, HashKey::known())?;
     let meeting = Meeting {
         there: AtomicU64::new(0),
         clock: rt,
@@ -146,7 +146,7 @@ fn by_one_worker<L: LatchName + Send + Sync, R: Threads + Wait + Abort + Sync>(
     alloc: Global,
     blank: Blank,
 ) -> Result<(), Fail> {
-    let (latch, mut seats) = Latch::<L>::open(blank)?;
+    let (latch, mut seats) = Latch::<L>::open(blank, HashKey::known())?;
     let worker = seats.pop().ok_or("no seat")?;
     let mut reader = seats.pop().ok_or("no seat")?;
     load_three(rt, alloc, &latch, &mut reader)?;
@@ -175,7 +175,7 @@ fn answers_of_one_worker<L: LatchName + Send + Sync, R: Threads + Wait + Abort +
     turns: u64,
     limit: u64,
 ) -> Result<Vec<Reply>, Fail> {
-    let (latch, seats) = Latch::<L>::open(blank)?;
+    let (latch, seats) = Latch::<L>::open(blank, HashKey::known())?;
     let mut worked = run_workers(rt, &latch, seats, turns, limit, &Always);
     assert_eq!(rt; worked.moved, 0);
     let worker = worked.seats.pop().ok_or("no seat")?;
@@ -220,7 +220,7 @@ fn turns_of<L: LatchName + Send + Sync, R: Threads + Wait + Abort + Sync>(
     rt: &R,
     blank: Blank,
 ) -> Result<u64, Fail> {
-    let (latch, seats) = Latch::<L>::open(blank)?;
+    let (latch, seats) = Latch::<L>::open(blank, HashKey::known())?;
     let worked = run_workers(rt, &latch, seats, 2, 16, &Always);
     let mut turns = 0_u64;
     for seat in &worked.seats {
@@ -244,7 +244,7 @@ fn behind_a_locked_record<L: LatchName + Send + Sync, R: Threads + Wait + Abort 
     alloc: Global,
     blank: Blank,
 ) -> Result<u64, Fail> {
-    let (latch, mut seats) = Latch::<L>::open(blank)?;
+    let (latch, mut seats) = Latch::<L>::open(blank, HashKey::known())?;
     let worker = seats.pop().ok_or("no seat")?;
     let mut reader = seats.pop().ok_or("no seat")?;
     load_three(rt, alloc, &latch, &mut reader)?;

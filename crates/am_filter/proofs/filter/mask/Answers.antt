@@ -1,4 +1,4 @@
-use Rattle.std.proofs.Common.{bit_or, ◌∙◌}
+use Rattle.std.proofs.Common.{bit_or}
 use Rattle.am_filter.specs.Filters.{mask_of}
 use Rattle.am_filter.proofs.filter.mask.Goals as goal
 

@@ -1,7 +1,8 @@
-use Rattle.std.proofs.Common.{◌≡◌, ◌<◌, ◌≤◌, ℕ, List, IfNone, take, length, get_or, sym, subst}
+use Rattle.std.proofs.Common.{◌≡◌, ◌<◌, ◌≤◌, List, IfNone, take, length, get_or, sym, subst}
 use Rattle.std.specs.List.{AllByRecursion}
 use Rattle.am_parts.specs.declared.catalog.OpenRun.{OpenRun}
 use Rattle.am_record.specs.declared.entry.Entry.{Entry}
+use Rattle.am_record.specs.declared.hash_key.HashKey.{HashKey}
 use Rattle.am_parts.specs.Catalogs.{IsCatalog}
 use Rattle.am_parts.specs.Partitions.{AreEmptyFrom}
 use Rattle.am_parts.proofs.Finding.{empty_up_to, empty_from}
@@ -17,10 +18,10 @@ returns-in_err-get-clause-none c =
     ] in
     let below = subst (λ (l : List OpenRun). AllByRecursion (λ (r : OpenRun). r.part < c.args.from) (take at l)) c.deref.ensures.value (subst (λ n. AllByRecursion (λ (r : OpenRun). r.part < n) (take at c.deref.result.now)) c.from.ensures c.count_below-at.ensures.below) in
     let past = subst (λ (l : List OpenRun). length l ≤ at) c.deref-2.ensures.value c.in_err-get.ensures.lookup.3 in
-    subst (λ o. IfNone o ((es : List Entry) → IsCatalog es c.args.self.now → AreEmptyFrom es c.args.from)) (sym c.from_residual.ensures) (λ es whole. empty_from whole.counted c.args.from at final below past)
+    subst (λ o. IfNone o ((hash : HashKey) (es : List Entry) → IsCatalog hash es c.args.self.now → AreEmptyFrom es c.args.from)) (sym c.from_residual.ensures) (λ hash es whole. empty_from whole.counted c.args.from at final below past)
 
 pub returns-clause-passed : goal.returns-clause-passed
-returns-clause-passed c = λ es whole.
+returns-clause-passed c = λ hash es whole.
     let runs = c.args.self.now.runs.items in let at = c.count_below-at.result in
     let final : c.args.from ≡ 0 → c.args.self.now.in_final ≡ 0 = λ zero. elim c.else-from-eq0.branch [
       | else-from-eq0-via-then-from-eq0+else-has_final w ↦ w.has_final.ensures w.if-has_final.false

@@ -15,4 +15,4 @@ returns c =
     let gens = c.args.self.now.list.items in let i = c.place-at.result in let s = c.add_all.new.self in let old = c.index_mut.result.now in
     let lt : i < length gens = reached_at c.args.part gens i c.place-at.ensures c.requires in
     let more : HasGrown (get_or gens i s) s = subst (λ (g : Generation). HasGrown g s) (c.index_mut.ensures.value ∙ get_or_default gens i old s lt) c.add_all.ensures.grown in
-    pushed gens c.args.part c.args.pairs.now i s c.place-at.ensures lt more c.add_all.ensures.added
+    pushed gens c.args.part c.args.numbers.now i s c.place-at.ensures lt more c.add_all.ensures.added

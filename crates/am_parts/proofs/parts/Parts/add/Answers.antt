@@ -5,7 +5,7 @@ use Rattle.am_parts.proofs.Emptied.{merged_where_added}
 use Rattle.am_parts.proofs.parts.Parts.add.Goals as goal
 
 pub insert_or_forget-requires-clause-counted : goal.insert_or_forget-requires-clause-counted
-insert_or_forget-requires-clause-counted g c = c.in_ok-add.ensures.ok _ c.args.entry refl refl c.self.invariant.2
+insert_or_forget-requires-clause-counted g c = c.in_ok-add.ensures.ok c.self.inside.hash _ c.args.entry refl c.number.ensures c.self.invariant.2
 
 pub invariant_of-self-2 : goal.invariant_of-self-2
 invariant_of-self-2 g c = (

@@ -15,6 +15,7 @@ take-requires g c =
     let e = c.args.entry.now in
     let es = g.I.PartIndex.entries c.self.inside.index in
     let there : IsSome (find es e.part e.key) = ap is_some (ap (λ (p : Partitions). find p.entries e.part e.key) c.self.view_is ∙ c.requires.stands) in record {
+      hash = c.self.inside.hash;
       entries = g.I.PartIndex.entries c.settle.new.index;
       key = e.key;
       catalog = c.settle.ensures.catalog;
@@ -36,7 +37,7 @@ invariant_of-self-2 g c =
     let stays : IsSome (find (g.I.PartIndex.entries c.settle.new.index) e.part e.key) = ap (λ l. is_some (find l e.part e.key)) c.in_ok-settle.ensures.ok ∙ still_stands e es c.requires.in_run c.settle.ensures.rising there in (
       (homes (ap (λ (p : Partitions). p.entries) c.self.view_is) c.self.invariant.0 e c.requires.stands c.requires.in_run c.requires.live (c.remove.ensures.others ∙ ap (λ l. remove_entry l e.part e.key) c.in_ok-settle.ensures.ok)).sound,
       c.self.invariant.1,
-      subst (λ (l : List Entry). IsCatalog l c.take.new.self) (sym c.remove.ensures.others) (c.take.ensures _ e.key c.settle.ensures.catalog stays),
+      subst (λ (l : List Entry). IsCatalog c.self.inside.hash l c.take.new.self) (sym c.remove.ensures.others) (c.take.ensures.listed c.self.inside.hash _ e.key c.settle.ensures.catalog stays),
       subst (λ (l : List Entry). AreMerged l c.self.inside.runs c.self.inside.merged.list.items) (sym (c.remove.ensures.others ∙ ap (λ l. remove_entry l e.part e.key) c.in_ok-settle.ensures.ok))
           (merged_home es c.self.inside.runs e c.self.inside.merged.list.items c.self.invariant.3),
     )

@@ -10,6 +10,7 @@ use Rattle.am_parts.proofs.parts.Parts.take.Goals as goal
 
 pub take-requires : goal.take-requires
 take-requires g c = record {
+  hash = c.self.inside.hash;
   entries = g.I.PartIndex.entries c.self.inside.index;
   key = c.args.key;
   catalog = c.self.invariant.2;
@@ -20,8 +21,8 @@ pub invariant_of-self : goal.invariant_of-self
 invariant_of-self g c = (
   (takes (ap (λ (p : Partitions). p.entries) c.self.view_is) c.self.invariant.0 c.args.part c.args.key c.requires c.remove.ensures.others).sound,
   c.self.invariant.1,
-  subst (λ es. IsCatalog es c.take.new.self) (sym c.remove.ensures.others)
-      (c.take.ensures _ c.args.key c.self.invariant.2 (subst (λ (p : Partitions). IsSome (find p.entries c.args.part c.args.key)) (sym c.self.view_is) c.requires)),
+  subst (λ es. IsCatalog c.self.inside.hash es c.take.new.self) (sym c.remove.ensures.others)
+      (c.take.ensures.listed c.self.inside.hash _ c.args.key c.self.invariant.2 (subst (λ (p : Partitions). IsSome (find p.entries c.args.part c.args.key)) (sym c.self.view_is) c.requires)),
   subst (λ es. AreMerged es c.self.inside.runs c.self.inside.merged.list.items) (sym c.remove.ensures.others)
       (merged_removed (g.I.PartIndex.entries c.self.inside.index) c.self.inside.runs c.args.part c.args.key c.self.inside.merged.list.items c.self.invariant.3),
 )

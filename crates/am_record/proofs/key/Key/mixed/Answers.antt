@@ -1,8 +1,7 @@
-use Rattle.std.proofs.Common.{◌≡◌, length, ap, sym, ◌∙◌, get_or}
-use Rattle.am_record.specs.KeyFields.{padded, fields_of-view}
+use Rattle.std.proofs.Common.{sym, ◌∙◌, get_or}
+use Rattle.am_record.specs.KeyFields.{fields_of-view}
 use Rattle.am_record.specs.KeyMix.{mix_in, bytes_mix, key_mix}
 use Rattle.am_record.specs.KeyWords.{key_words}
-use Rattle.am_record.specs.OrderedKey.{key_of, bytes_of}
 use Rattle.am_record.proofs.key.Key.mixed.Goals as goal
 
 pub returns : goal.returns
