@@ -61,6 +61,8 @@
 #include <stddef.h>
 #include <stdint.h>
 
+#define TVK_VERSION "1.1.0"
+
 #ifdef __cplusplus
 extern "C" {
 #endif

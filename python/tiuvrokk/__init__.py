@@ -29,6 +29,8 @@ from collections.abc import Callable, Iterable, Iterator
 from types import TracebackType
 from typing import Optional, Union
 
+__version__ = "1.1.0"
+
 __all__ = [
     "MAX_KEY", "MAX_VALUE", "MAX_LIMIT", "Store", "Transaction", "Error", "Absent", "Exists", "Busy", "NoTransaction", "NoMark", "TooMany",
     "NotRising", "Bad", "Closed", "OutOfMemory",

@@ -9,7 +9,7 @@ use std::env::Env;
 use std::{env, io};
 
 /// What `--version` prints behind a program's name.
-pub(crate) const VERSION: &str = "0.1.0";
+pub(crate) const VERSION: &str = "1.1.0";
 
 /// The words of the command line, the program's name first.
 ///
