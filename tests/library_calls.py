@@ -1,8 +1,10 @@
 #!/usr/bin/env python3
 """Random transactions through the Python package, compared with plain dictionaries: tests/library_calls.py CALLS SEED"""
 
+import itertools
 import random
 import sys
+import time
 
 import tiuvrokk
 
@@ -70,7 +72,8 @@ def mix(number: int, word: int) -> int:
 
 
 def keys_of_number(rng: random.Random, number: int, count: int) -> list[bytes]:
-    """Keys of 32 bytes whose number, by which filters know them, is this one: the last word undoes what the others made."""
+    """Keys of 32 bytes whose number is this one, where it is made without a secret, as locks have it: the last word undoes
+    what the others made."""
     keys = []
     for _ in range(count):
         words = [rng.randrange(WORD) for _ in range(3)]
@@ -84,27 +87,52 @@ def keys_of_number(rng: random.Random, number: int, count: int) -> list[bytes]:
     return keys
 
 
+def load_one_by_one(store: tiuvrokk.Store, keys: list[bytes]) -> float:
+    """Loads a run of one record for each key, and tells the seconds."""
+    began = time.perf_counter()
+    for at in range(0, len(keys), 4000):
+        with store.transaction() as tx:
+            tx.lock(b"", LAST, exclusive=True)
+            assert tx.load(((key, b"1") for key in keys[at : at + 4000]), run=1) == len(keys[at : at + 4000])
+    return time.perf_counter() - began
+
+
+def seconds_of_loads(keys: list[bytes]) -> float:
+    """The seconds of such loads into a new store, the less of two tries."""
+    seconds = []
+    for _ in range(2):
+        with tiuvrokk.Store() as store:
+            seconds.append(load_one_by_one(store, keys))
+    return min(seconds)
+
+
 def chosen_keys(rng: random.Random) -> None:
-    """Keys that were chosen so that no filter tells them apart are found, and the absent ones are not, beside 300 runs."""
-    keys = keys_of_number(rng, rng.randrange(WORD), 4000)
-    held, absent = keys[:3000], keys[3000:]
+    """Keys that a stranger chose without the secret of the filters take no longer, and are found, as are the absent ones not."""
+    keys = keys_of_number(rng, rng.randrange(WORD), 21_000)
+    chosen, absent = keys[:20_000], keys[20_000:]
+    assert seconds_of_loads(chosen) < 3 * seconds_of_loads([rng.randbytes(32) for _ in chosen])
     with tiuvrokk.Store() as store:
+        load_one_by_one(store, chosen)
         with store.transaction() as tx:
             tx.lock(b"", LAST, exclusive=True)
-            tx.load(((key, b"1") for key in held), run=10)
-        with store.transaction() as tx:
-            tx.lock(b"", LAST, exclusive=True)
-            assert all(tx[key] == b"1" for key in held)
+            assert all(tx[key] == b"1" for key in chosen[:2000])
             assert not any(key in tx for key in absent)
-            assert expect(tiuvrokk.Exists, tx.insert, held[0], b"2").key == held[0]
-            assert expect(tiuvrokk.Exists, tx.load, [(key, b"2") for key in keys]).key == min(held)
+            assert expect(tiuvrokk.Exists, tx.insert, chosen[0], b"2").key == chosen[0]
+            assert expect(tiuvrokk.Exists, tx.load, [(key, b"2") for key in keys]).key == min(keys[:4096])
             assert tx.load((key, b"2") for key in absent) == len(absent)
-            assert [key for key, _ in tx.scan()] == sorted(keys)
+            assert [key for key, _ in itertools.islice(tx.scan(), 300)] == sorted(keys)[:300]
+
+
+def many_loads(rng: random.Random) -> None:
+    """Twice as many loads take no more than three times as long."""
+    keys = [rng.randbytes(16) for _ in range(32_768)]
+    assert seconds_of_loads(keys) < 3 * seconds_of_loads(keys[:16_384])
 
 
 def main(calls: int, seed: int) -> None:
     rng = random.Random(seed)
     chosen_keys(rng)
+    many_loads(rng)
     keys = sorted({rng.randbytes(rng.randrange(33)) for _ in range(120)})
     committed, done, commits = {}, 0, 0
     with tiuvrokk.Store() as store:
