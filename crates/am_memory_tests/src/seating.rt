@@ -115,7 +115,7 @@ fn transactions<L: LatchName, R: Wait>(rt: &R, blank: Blank) -> Result<(), Fault
         expect(rows.as_slice().len() as u64 == number)?;
         expect(commit(rt, &latch, &mut seat, tx)? == Reply::Committed(number))?;
     }
-    expect(latch.look(rt, |engine| engine.trace().len()) == 12)
+    expect(latch.look(rt, &mut seat, |engine| engine.trace().len()) == 12)
 }
 
 /// Three transactions through a seat. What is refused memory is no call of the seat.

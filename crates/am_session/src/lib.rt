@@ -5,10 +5,12 @@ mod alone;
 mod backend;
 mod conversation;
 mod end;
+mod parting;
 mod serving;
 mod solo;
 
 pub use alone::{serve_alone, serve_in_memory};
 pub use backend::Backend;
 pub use end::End;
+pub use parting::PartingSink;
 pub use serving::serve;

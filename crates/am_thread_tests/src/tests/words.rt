@@ -62,8 +62,13 @@ fn draw_and_see<R: Clock>(
 }
 
 // Holds the latch until it may let go. Whether it was told to.
-fn hold<L: LatchName, R: Wait + Clock>(rt: &R, latch: &Latch<L>, signals: &Signals) -> bool {
-    latch.look(rt, |_| {
+fn hold<L: LatchName, R: Wait + Clock>(
+    rt: &R,
+    latch: &Latch<L>,
+    mut seat: Seat<L>,
+    signals: &Signals,
+) -> bool {
+    latch.look(rt, &mut seat, |_| {
         signals.is_held.store(true, Ordering::SeqCst);
         comes(rt, &signals.may_go)
     })
@@ -79,14 +84,17 @@ fn beside_the_latch<L: LatchName + Send + Sync, R: Threads + Wait + Clock + Sync
     requires named { (blank.seats ≡ L.seats) × (blank.table ≡ L.table) }
     requires word_seat { word_seat.old.of ≡ words.now }
 {
-    let (latch, _seats) = Latch::<L>::open(blank)?;
+    let (latch, mut seats) = Latch::<L>::open(blank)?;
+    let seat = seats.pop().ok_or("no seat")?;
+    let shared = &latch;
     let signals = Signals {
         is_held: AtomicBool::new(false),
         may_go: AtomicBool::new(false),
     };
+    let told = &signals;
     let (went, (drawn, seen)) = thread::join(
         rt,
-        || hold(rt, &latch, &signals),
+        move || hold(rt, shared, seat, told),
         ||
             requires { word_seat.now.of ≡ words.now }
         { draw_and_see(rt, words, word_seat, &signals) },
