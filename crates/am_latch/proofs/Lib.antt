@@ -11,3 +11,4 @@ pub mod Rules
 pub mod Seats
 pub mod Storing
 pub mod Tying
+pub mod Wanting

@@ -489,7 +489,7 @@ moves_within es (Clean range limit) (Cleaned n') f w = omega arith
 moves_within es (Clean range limit) NoMark f w = omega arith
 moves_within es (Clean range limit) (Refused why') f w = omega arith
 
-last_event : (es : List Effect) (h : Trace) (st : Step) (r : Reply) → EachEvent FormedAt es (h ++ (st, r) ∷ []) → (fs : List Effect) × FormedAt fs st r
+pub last_event : (es : List Effect) (h : Trace) (st : Step) (r : Reply) → EachEvent FormedAt es (h ++ (st, r) ∷ []) → (fs : List Effect) × FormedAt fs st r
 last_event es [] st r each = (es, each.0)
 last_event es (e ∷ h) st r each = last_event (es ++ serial.effect e.0 e.1 ∷ []) h st r each.1
 

@@ -1,7 +1,11 @@
 -- What always holds of the fields of an engine.
-use Rattle.std.specs.Prelude.{◌≡◌, ◌≤◌, ◌+◌, length, vec_len, vec_capacity}
+use Rattle.std.specs.Prelude.{◌≡◌, ℕ, ◌≤◌, ◌+◌, ◌-◌, min, length, vec_len, vec_capacity}
 use Rattle.am_latch.specs.declared.engine.Engine.TheInside.{Inside}
 use Rattle.am_latch.specs.Changes.{active_in_trace, HasTrace}
+
+-- for how many pairs more both lists have room, beside the ends
+abbrev pub room_left : Inside → ℕ
+room_left e = min (vec_capacity e.trace) (vec_capacity e.calls) - (vec_len e.trace + e.ends)
 
 -- the trace leads to the store, each of its pairs has its call, and in both is room for the end of each active
 -- transaction

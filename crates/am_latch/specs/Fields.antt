@@ -8,16 +8,16 @@ use Rattle.am_latch.specs.declared.seat.Seat.TheInside.{Inside as SeatFields}
 use Rattle.am_latch.specs.declared.state.LatchState.TheInside.{Inside as LatchStateFields}
 use Rattle.am_latch.specs.Receipts.{moved_in}
 use Rattle.am_latch.specs.Ties.{open_of, HasRoom, IsTied}
-use Rattle.am_latch.specs.Traces.{AreMadeBelow}
+use Rattle.am_latch.specs.Traces.{AreMadeBelow, log_of}
 use Rattle.am_latch.specs.Views.{minting_view, seat_view, trace_view}
 
 -- the token under the latch knows the trace, each call of which one of the seats made, and what is open in these is
 -- active
 pub record IsLatchState {L : Type 0} (table : TableId) (seats : ℕ) (s : LatchStateFields L) : Type 0 where
   pub table_of : s.trace_token.table_id ≡ table
-  pub knows : s.trace_token.views ≡ trace_view s.engine ∷ []
+  pub knows : s.trace_token.views ≡ trace_view (log_of s.engine) ∷ []
   pub made : AreMadeBelow seats s.engine.calls
-  pub tied : IsTied s.engine
+  pub tied : IsTied (log_of s.engine)
 
 -- the token knows the receipts, which have room for that of the end of an open transaction
 pub record IsSeat {L : Type 0} (table : TableId) (seats : ℕ) (s : SeatFields L) : Type 0 where

@@ -7,3 +7,4 @@ pub mod Tables
 pub mod Ties
 pub mod Fields
 pub mod Traces
+pub mod Wants

@@ -4,10 +4,9 @@ use Rattle.am_record.specs.declared.step.Step.{Step}
 use Rattle.am_record.specs.declared.step.Step.TheVariants.{Begin, Do, Commit, Abort, Merge, Clean}
 use Rattle.am_record.specs.declared.step.Reply.{Reply}
 use Rattle.am_latch.specs.declared.change.Change.TheVariants.{Ends}
-use Rattle.am_latch.specs.declared.engine.Engine.{Engine}
 use Rattle.am_latch.specs.Changes.{change, end_of, open_after, has, active_in_trace}
 use Rattle.am_latch.specs.declared.receipt.Receipt.{Receipt}
-use Rattle.am_latch.specs.Traces.{CallLog, AreMadeBelow}
+use Rattle.am_latch.specs.Traces.{CallLog, EngineState, log_of, AreMadeBelow}
 use Rattle.am_latch.specs.Receipts.{SeatState, receipts_of}
 
 abbrev pub open_from : Option ℕ → List Receipt → Option ℕ
@@ -34,13 +33,13 @@ open_in e k = open_of (receipts_of k e)
 abbrev pub IsTied : CallLog → Type 0
 IsTied e = AreTied (open_in e) (active_in_trace e.trace)
 
--- what an engine stores
-abbrev pub log_of_engine : Engine → CallLog
-log_of_engine e = record { trace = e.trace; calls = e.calls }
-
 -- each call was made by one of the n seats of a latch, and what is open in them is what is active
-abbrev pub IsEngineOf : ℕ → Engine → Type 0
-IsEngineOf n e = AreMadeBelow n (log_of_engine e).calls × IsTied (log_of_engine e)
+abbrev pub IsEngineOf : ℕ → EngineState → Type 0
+IsEngineOf n e = AreMadeBelow n e.calls × IsTied (log_of e)
+
+-- the seat has the receipts of its calls that the engine stores
+abbrev pub HasReceiptsIn : EngineState → SeatState → Type 0
+HasReceiptsIn e s = s.receipts ≡ receipts_of s.number (log_of e)
 
 -- what is open in the seats is what is active, each in one seat
 pub record SeatsAreTied (seats : List SeatState) (ts : List ℕ) : Type 0 where

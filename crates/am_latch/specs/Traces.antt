@@ -10,10 +10,20 @@ use Rattle.am_latch.specs.declared.change.Change.TheVariants.{Begins, Ends, Noth
 use Rattle.am_latch.specs.declared.receipt.CallId.{CallId}
 use Rattle.am_latch.specs.Changes.{is_stored}
 
--- what contracts see of an engine
+-- the calls that are stored
 pub record CallLog : Type 0 where
   pub trace : List (Step × Reply)
   pub calls : List CallId
+
+-- what contracts see of an engine: these, and for how many pairs more there is room, beside the ends that room is kept
+-- for
+pub record EngineState : Type 0 where
+  pub trace : List (Step × Reply)
+  pub calls : List CallId
+  pub room : ℕ
+
+abbrev pub log_of : EngineState → CallLog
+log_of e = record { trace = e.trace; calls = e.calls }
 
 -- it is stored as its fields
 abbrev pub call_id_code : Coded CallId
@@ -25,6 +35,11 @@ call_log_code =
     code_by (List (Step × Reply) × List CallId) (coded× (coded_list
     (coded× the_step.the_row.coded the_reply.the_row.coded)) (coded_list call_id_code))
     (λ e. (e.trace, e.calls)) (λ f. record { trace = f.0; calls = f.1 }) (λ _. refl)
+
+abbrev pub engine_code : Coded EngineState
+engine_code =
+    code_by (CallLog × ℕ) (coded× call_log_code coded_ℕ) (λ e. (log_of e, e.room))
+    (λ f. record { trace = f.0.trace; calls = f.0.calls; room = f.1 }) (λ _. refl)
 
 abbrev pub empty_log : CallLog
 empty_log = record { trace = []; calls = [] }

@@ -1,16 +1,18 @@
 //! The store with its trace.
 
 ghost use Rattle.std.specs.Prelude.{◌≡◌, ◌≢◌, ◌≤◌, ◌+◌, ◌<◌, ◌^◌, ℕ, IfOk, IfSome, IsSome, None, length, true, false};
-ghost use Rattle.std.specs.Prelude.{if◌then◌else◌, vec_len, vec_capacity};
+ghost use Rattle.std.specs.Prelude.{vec_len, vec_capacity};
 ghost use Rattle.am_record.specs.declared.step.Reply.TheVariants.{Refused};
-ghost use Rattle.am_record.specs.declared.step.Refusal.TheVariants.{SeatFull};
+ghost use Rattle.am_record.specs.declared.step.Refusal.TheVariants.{NoMemory as OutOfMemory, SeatFull};
 ghost use Rattle.am_serial.specs.Trace.{Trace};
+ghost use Rattle.am_core.specs.Memory.{may_want_memory};
 ghost use Rattle.am_core.specs.Standing.{IsSoundAt};
 ghost use Rattle.am_sound.specs.Right.{IsSoundStore};
-ghost use Rattle.am_latch.specs.Changes.{active_in_trace, numbers_active, end_of, is_begin, is_refused, is_stored};
+ghost use Rattle.am_latch.specs.Changes.{active_in_trace, numbers_active, end_of, is_refused, is_stored};
 ghost use Rattle.am_latch.specs.Changes.{room_of};
 ghost use Rattle.am_latch.specs.Changes.{HasTrace, TakesStep, MayFollow, IsBoundedReply};
-ghost use Rattle.am_latch.specs.Traces.{CallLog, empty_log, StoresCall, ends_after};
+ghost use Rattle.am_latch.specs.Traces.{EngineState, log_of, empty_log, StoresCall, ends_after};
+ghost use Rattle.am_latch.specs.Wants.{MayWantMemory, pairs_needed, takes_lists};
 
 use crate::change::{Change, change_by, starts_tx, tx_to_end, was_refused, was_stored};
 use crate::receipt::CallId;
@@ -33,14 +35,14 @@ pub struct Engine {
 }
 
 impl Model for Engine {
-    ghost use Rattle.am_latch.specs.Traces.{call_log_code, CallLog};
-    ghost use Rattle.am_latch.specs.EngineFields.{IsEngine};
+    ghost use Rattle.am_latch.specs.Traces.{engine_code, EngineState};
+    ghost use Rattle.am_latch.specs.EngineFields.{IsEngine, room_left};
 
-    ghost Value = { CallLog };
+    ghost Value = { EngineState };
 
-    ghost coded = { call_log_code };
+    ghost coded = { engine_code };
 
-    ghost view = { λ e. record { trace = e.trace.items; calls = e.calls.items } };
+    ghost view = { λ e. record { trace = e.trace.items; calls = e.calls.items; room = room_left e } };
 
     ghost invariant = { IsEngine };
 }
@@ -51,7 +53,7 @@ impl Engine {
     /// # Errors
     /// NoMemory, where memory was refused for the store.
     pub fn open(alloc: Global, hash: HashKey) -> Result<Engine, NoMemory>
-        ensures { IfOk result (λ e. e ≡ empty_log) }
+        ensures { IfOk result (λ e. log_of e ≡ empty_log) }
     {
         am_sound::steps_lift();
         let store = Store::open(alloc, BTree::new(alloc)?, hash)?;
@@ -65,10 +67,14 @@ impl Engine {
     }
 
     /// Takes a step and stores it, with its reply and its call; or answers NoMemory, and nothing
-    /// changes. The end of an active transaction is never refused: its room is kept from its begin on.
+    /// changes. That it does only where there is no room for the pair, or where the store may want
+    /// memory for the step. The end of an active transaction is never refused: its room is kept from
+    /// its begin on.
     #[inline(never)]
     pub fn step(&mut self, call_id: CallId, step: Step) -> Reply
-        ensures stepped { StoresCall self.old call_id step result self.new }
+        ensures stepped { StoresCall (log_of self.old) call_id step result (log_of self.new) }
+        ensures memory { result ≡ Refused OutOfMemory → MayWantMemory self.old step }
+        ensures room { self.old.room ≤ self.new.room + pairs_needed step }
         ensures never_full { result ≢ Refused SeatFull }
         ensures answers { MayFollow (active_in_trace self.old.trace) step result }
         ensures bounded { IsBoundedReply step result }
@@ -132,6 +138,8 @@ impl Engine {
 fn take_step(store: &mut Store<BTree>, step: Step) -> Reply
     ensures goes { (trace : Trace) → HasTrace trace store.old → TakesStep trace step result store.new }
     ensures bounded { (trace : Trace) → HasTrace trace store.old → IsBoundedReply step result }
+    ensures own { (trace : Trace) → HasTrace trace store.old → result ≢ Refused SeatFull }
+    ensures memory { result ≡ Refused OutOfMemory → may_want_memory store.old step ≡ true }
 {
     am_sound::steps_lift();
     store.step(step)
@@ -139,7 +147,7 @@ fn take_step(store: &mut Store<BTree>, step: Step) -> Reply
 
 // How many pairs need room: a Begin's end needs it too.
 fn pairs_for(step: &Step) -> usize
-    ensures { result ≡ (if is_begin step.now then 2 else 1) }
+    ensures { result ≡ pairs_needed step.now }
 {
     if starts_tx(step) { 2 } else { 1 }
 }
@@ -148,6 +156,7 @@ fn pairs_for(step: &Step) -> usize
 fn may_go_on(has_room: bool, step: &Step) -> bool
     ensures yes { result ≡ true → has_room ≡ false → IsSome (end_of step.now) }
     ensures no { result ≡ false → end_of step.now ≡ None }
+    ensures short { result ≡ false → has_room ≡ false }
 {
     has_room || tx_to_end(step).is_some()
 }
@@ -157,6 +166,7 @@ fn is_kept(has_room: bool, reply: &Reply) -> bool
     ensures stored { result ≡ true → is_stored reply.now ≡ true }
     ensures real { result ≡ true → has_room ≡ false → is_refused reply.now ≡ false }
     ensures no { result ≡ false → is_refused reply.now ≡ true }
+    ensures lost { result ≡ false → has_room ≡ true → is_stored reply.now ≡ false }
 {
     if was_refused(reply) {
         has_room && was_stored(reply)
@@ -169,6 +179,7 @@ fn is_kept(has_room: bool, reply: &Reply) -> bool
 pub(crate) fn copies_for(alloc: Global, step: &Step) -> Option<(Step, Room)>
     ensures copies { IfSome result (λ r. (r.0 ≡ step.now) × (r.1 ≡ room_of step.now)) }
     ensures ends { IsSome (end_of step.now) → IsSome result }
+    ensures memory { takes_lists step.now ≡ false → IsSome result }
 {
     let Ok(rows) = Room::new(alloc, rows_of(step)) else {
         return None;
@@ -193,6 +204,8 @@ fn get_room(
     ensures got { result ≡ true → (ends + more < 2 ^ 64) ×
         (vec_len trace.new + (ends + more) ≤ vec_capacity trace.new) ×
         (vec_len calls.new + (ends + more) ≤ vec_capacity calls.new) }
+    ensures there { vec_len trace.old + (ends + more) ≤ vec_capacity trace.old →
+        vec_len calls.old + (ends + more) ≤ vec_capacity calls.old → result ≡ true }
 {
     let Some(wanted) = ends.checked_add(more) else {
         return false;

@@ -2,7 +2,7 @@
 ghost use Rattle.std.specs.Prelude.{◌≡◌, ◌↔◌, ◌⊎◌, ◌<◌, ◌≤◌, IfOk, IfErr};
 ghost use Rattle.am_latch.specs.Receipts.{numbered};
 ghost use Rattle.am_latch.specs.Faults.{IsBadSeats};
-ghost use Rattle.am_latch.specs.Ties.{IsEngineOf};
+ghost use Rattle.am_latch.specs.Ties.{IsEngineOf, HasReceiptsIn};
 
 use crate::engine::Engine;
 use crate::latch_name::LatchName;
@@ -145,12 +145,31 @@ impl<L: LatchName> Latch<L> {
     }
 
     /// Lends the engine to the closure, which has the latch to itself meanwhile, and answers what it answers of that
-    /// engine: each of its calls was made by a seat of this latch, and what is active in it is open in these seats.
-    pub fn look<T, R: Wait, F: FnOnce(&Engine) -> T>(&self, rt: &R, f: F) -> T
+    /// engine: each of its calls was made by a seat of this latch, what is active in it is open in these seats, and the
+    /// seat that looks has just the receipts of its calls there.
+    pub fn look<T, R: Wait, F: FnOnce(&Engine) -> T>(&self, rt: &R, seat: &mut Seat<L>, f: F) -> T
         requires { F.IsAlwaysCallable f }
-        ensures { (engine : _) × IsEngineOf L.seats engine.now × F.post f engine result }
+        ensures lent { (engine : _) × IsEngineOf L.seats engine.now × HasReceiptsIn engine.now seat.old ×
+            F.post f engine result }
+        ensures same { seat.new ≡ seat.old }
     {
-        let state = self.lock(rt);
-        f(&state.engine)
+        lend(&self.table, &mut self.lock(rt), seat, f)
     }
+}
+
+// Lends the engine, once the seat's receipts were compared.
+fn lend<L: LatchName, T, F: FnOnce(&Engine) -> T>(
+    table: &ViewTable,
+    state: &mut LatchState<L>,
+    seat: &mut Seat<L>,
+    f: F,
+) -> T
+    requires table { (table.now.shared.table_id ≡ L.table) × (0 < table.now.shared.table_id.words) }
+    requires callable { F.IsAlwaysCallable f }
+    ensures lent { (engine : _) × IsEngineOf L.seats engine.now × HasReceiptsIn engine.now seat.old ×
+        F.post f engine result }
+    ensures same { seat.new ≡ seat.old }
+{
+    state.audit(table, seat);
+    f(&state.engine)
 }

@@ -1,7 +1,8 @@
 //! Copies of steps and replies, for which room is got before the step.
 
-ghost use Rattle.std.specs.Prelude.{◌≡◌, ◌≤◌, IfOk, IsOk, IsSome, [], length};
+ghost use Rattle.std.specs.Prelude.{◌≡◌, ◌≤◌, IfOk, IsOk, IsSome, [], length, false};
 ghost use Rattle.am_latch.specs.Changes.{end_of, room_of, count_rows};
+ghost use Rattle.am_latch.specs.Wants.{takes_lists};
 
 use am_record::{Key, NoMemory, Op, Pairs, Reply, Step, Value};
 use std::alloc::Global;
@@ -70,6 +71,7 @@ pub(crate) fn rows_of(step: &Step) -> usize
 pub(crate) fn copy_step(alloc: Global, step: &Step) -> Result<Step, NoMemory>
     ensures copy { IfOk result (λ s. s ≡ step.now) }
     ensures ends { IsSome (end_of step.now) → IsOk result }
+    ensures memory { takes_lists step.now ≡ false → IsOk result }
 {
     match step {
         Step::Commit(tx) => Ok(Step::Commit(*tx)),

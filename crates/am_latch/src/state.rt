@@ -5,8 +5,8 @@ ghost use Rattle.am_record.specs.declared.step.Reply.TheVariants.{Refused};
 ghost use Rattle.am_record.specs.declared.step.Refusal.TheVariants.{SeatFull};
 ghost use Rattle.am_latch.specs.Changes.{is_stored};
 ghost use Rattle.am_latch.specs.Changes.{IsBoundedReply};
-ghost use Rattle.am_latch.specs.Traces.{CallLog, empty_log, StoresCall, AreMadeBelow};
-ghost use Rattle.am_latch.specs.Receipts.{receipt};
+ghost use Rattle.am_latch.specs.Traces.{CallLog, log_of, empty_log, StoresCall, AreMadeBelow};
+ghost use Rattle.am_latch.specs.Receipts.{receipt, receipts_of};
 ghost use Rattle.am_latch.specs.Ties.{open_of, EndsTx, IsTied};
 ghost use Rattle.am_latch.specs.Views.{trace_view, seat_view, IsSeatView};
 
@@ -14,6 +14,7 @@ use crate::change::was_stored;
 use crate::engine::Engine;
 use crate::latch_name::LatchName;
 use crate::receipt::CallId;
+use crate::seat::Seat;
 use crate::view_steps::{append_call, compare_receipts};
 use crate::views::{Token, View, ViewTable};
 use am_record::{Reply, Step};
@@ -30,21 +31,21 @@ pub(crate) struct LatchState<L: LatchName> {
 }
 
 impl<L: LatchName> Model for LatchState<L> {
-    ghost use Rattle.am_latch.specs.Traces.{call_log_code, CallLog};
+    ghost use Rattle.am_latch.specs.Traces.{call_log_code, CallLog, log_of};
     ghost use Rattle.am_latch.specs.Fields.{IsLatchState};
 
     ghost Value = { CallLog };
 
     ghost coded = { call_log_code };
 
-    ghost view = { λ h. h.engine };
+    ghost view = { λ h. log_of h.engine };
 
     ghost invariant = { IsLatchState L.table L.seats };
 }
 
 impl<L: LatchName> LatchState<L> {
     pub(crate) fn new(engine: Engine, trace_token: Token) -> LatchState<L>
-        requires engine { engine ≡ empty_log }
+        requires engine { log_of engine ≡ empty_log }
         requires trace_token { (trace_token.table_id ≡ L.table) × (trace_token.me ≡ (trace_view empty_log, [])) }
         ensures { result ≡ empty_log }
     {
@@ -60,6 +61,16 @@ impl<L: LatchName> LatchState<L> {
         ensures { result ≡ length self.now.trace }
     {
         self.engine.trace().len()
+    }
+
+    /// The seat has just the receipts of its calls in the trace.
+    pub(crate) fn audit(&mut self, table: &ViewTable, seat: &mut Seat<L>)
+        requires { (table.now.shared.table_id ≡ L.table) × (0 < table.now.shared.table_id.words) }
+        ensures same { (self.new ≡ self.old) × (seat.new ≡ seat.old) }
+        ensures known { seat.old.receipts ≡ receipts_of seat.old.number self.old }
+    {
+        let trace_token = mem::replace(&mut self.trace_token, Badge::blank()).into_seat();
+        self.trace_token = seat.audit(table, trace_token).into_badge();
     }
 
     /// Takes a step for a seat, whose token then knows of it.

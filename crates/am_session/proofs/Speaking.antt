@@ -27,6 +27,7 @@ use Rattle.am_session.specs.Solo.{Solo, SoloSteps, solo_meaning, IsSpoken}
 use Rattle.am_session.specs.declared.end.End.{End}
 use Rattle.am_session.specs.declared.end.End.TheVariants.{Quit, EndOfInput, ReadFailed, WriteFailed, NoMemory}
 use Rattle.am_session.proofs.Solos.{merge_plain, commits_are}
+use Rattle.am_session.proofs.Needing.{needs_whole, needs_torn}
 
 abbrev standing : SessionPoint Solo → Standing
 standing at = (record { active = at.0.active; staged = at.1 }, at.0.kept.commits)
@@ -140,7 +141,7 @@ module _ (auto : ℕ) (s0 : Solo) (fresh : s0 ≡ record { kept = empty_state; a
       let talk : Dialogue auto Whole (at_start, 0) exchanges events = subst (λ (t : Trace). Dialogue auto Whole (at_start, 0) exchanges t) (sym a.are) (subst (λ (at : Standing). Dialogue auto Whole at exchanges (a.own ++ a.aborting)) begins_so led.dialogue_is) in
       let at : IsStateOf (a.own ++ a.aborting) b.kept = leaves_at a.last.0.active a.last.0 b a.aborting a.own a.leaves led.stands in
       let right : IsSoundStore events = subst IsSoundStore (sym a.are) (sound (a.own ++ a.aborting) b.kept at) in
-      record { dialogue = talk; sound = right; legal = legal_of events right.sound; says = say_whole exchanges events right.sound talk; lines = lines_whole exchanges events (subst (Follows opened_store) (sym a.are) at.follows) talk }
+      record { dialogue = talk; sound = right; legal = legal_of events right.sound; says = say_whole exchanges events right.sound talk; memory = needs_whole auto s0 b fresh exchanges events a; lines = lines_whole exchanges events (subst (Follows opened_store) (sym a.are) at.follows) talk }
 
   pub spoken_torn : (b : Solo) (exchanges : List Exchange) (last : Exchange) (events : Trace) → AnswersOneMore solo_meaning auto s0 exchanges last events b → IsSpoken auto (TornAt last) exchanges (exchanges ++ last ∷ []) events
   spoken_torn b exchanges last events a =
@@ -149,16 +150,16 @@ module _ (auto : ℕ) (s0 : Solo) (fresh : s0 ≡ record { kept = empty_state; a
       let talk : Dialogue auto (TornAt last) (at_start, 0) exchanges events = subst (λ (t : Trace). Dialogue auto (TornAt last) (at_start, 0) exchanges t) (sym a.are) (subst (λ (at : Standing). Dialogue auto (TornAt last) at exchanges (a.own ++ (a.its ++ a.aborting))) begins_so led.dialogue_is) in
       let at : IsStateOf ((a.own ++ a.its) ++ a.aborting) b.kept = leaves_at a.last.0.active a.last.0 b a.aborting (a.own ++ a.its) a.leaves (at_line a.before a.last last a.its a.own a.answers led.stands) in
       let right : IsSoundStore events = subst IsSoundStore (append_assoc a.own a.its a.aborting ∙ sym a.are) (sound ((a.own ++ a.its) ++ a.aborting) b.kept at) in
-      record { dialogue = talk; sound = right; legal = legal_of events right.sound; says = say_torn exchanges last events right.sound talk; lines = lines_torn exchanges last events (subst (Follows opened_store) (append_assoc a.own a.its a.aborting ∙ sym a.are) at.follows) talk }
+      record { dialogue = talk; sound = right; legal = legal_of events right.sound; says = say_torn exchanges last events right.sound talk; memory = needs_torn auto s0 b fresh exchanges events last a; lines = lines_torn exchanges last events (subst (Follows opened_store) (append_assoc a.own a.its a.aborting ∙ sym a.are) at.follows) talk }
 
 -- ---- by the session's end
 
-module _ (took gave : List ℕ → Type 0) (nothing_comes : Type 0) (A A' : List Exchange → Trace → Type 0) (M M' : List Exchange → Exchange → Trace → Type 0) (U U' : Type 0)
+module _ (took gave parted : List ℕ → Type 0) (nothing_comes : Type 0) (A A' : List Exchange → Trace → Type 0) (M M' : List Exchange → Exchange → Trace → Type 0) (U U' : Type 0)
     (whole : (exchanges : List Exchange) (events : Trace) → A exchanges events → A' exchanges events) (more : (exchanges : List Exchange) (last : Exchange) (events : Trace) → M exchanges last events → M' exchanges last events) (same : U → U') where
-  pub ends_by : (end : End) → EndsBy took gave nothing_comes A M U end → EndsBy took gave nothing_comes A' M' U' end
-  ends_by Quit t = record { read = t.read; waiting = t.waiting; exchanges = t.exchanges; events = t.events; takes = t.takes; whole = t.whole; quit = t.quit; lines = t.lines; gives = t.gives; does = whole t.exchanges t.events t.does }
+  pub ends_by : (end : End) → EndsBy took gave parted nothing_comes A M U end → EndsBy took gave (λ text. Unit {0}) nothing_comes A' M' U' end
+  ends_by Quit t = record { read = t.read; waiting = t.waiting; exchanges = t.exchanges; events = t.events; takes = t.takes; whole = t.whole; quit = t.quit; lines = t.lines; gives = t.gives; parts = tt; does = whole t.exchanges t.events t.does }
   ends_by EndOfInput t = record { read = t.read; exchanges = t.exchanges; events = t.events; takes = t.takes; done = t.done; no_quit = t.no_quit; lines = t.lines; gives = t.gives; does = whole t.exchanges t.events t.does }
   ends_by ReadFailed t = record { read = t.read; part = t.part; exchanges = t.exchanges; events = t.events; takes = t.takes; ended = t.ended; begins = t.begins; no_quit = t.no_quit; lines = t.lines; gives = t.gives; does = whole t.exchanges t.events t.does }
   ends_by WriteFailed (inl t) = inl (record { read = t.read; waiting = t.waiting; exchanges = t.exchanges; last = t.last; events = t.events; count = t.count; takes = t.takes; whole = t.whole; no_quit = t.no_quit; lines = t.lines; gives = t.gives; does = more t.exchanges t.last t.events t.does })
-  ends_by WriteFailed (inr t) = inr (t.0, record { read = t.1.read; waiting = t.1.waiting; exchanges = t.1.exchanges; events = t.1.events; takes = t.1.takes; whole = t.1.whole; quit = t.1.quit; lines = t.1.lines; gives = t.1.gives; does = whole t.1.exchanges t.1.events t.1.does })
+  ends_by WriteFailed (inr t) = inr (t.0, record { read = t.1.read; waiting = t.1.waiting; exchanges = t.1.exchanges; events = t.1.events; takes = t.1.takes; whole = t.1.whole; quit = t.1.quit; lines = t.1.lines; gives = t.1.gives; parts = tt; does = whole t.1.exchanges t.1.events t.1.does })
   ends_by NoMemory t = record { takes = t.takes; gives = t.gives; same = same t.same }

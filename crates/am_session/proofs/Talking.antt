@@ -166,6 +166,7 @@ module _ {S K B : Type 0} (comes : S → List ℕ → Type 0) (holds : K → Opt
       quit = ap quits lines_more ∙ t.quitting (line ∷ []) ∙ ap (λ x. cond x true false) q;
       lines = t.asks ∙ sym (ap before_quit lines_more ∙ t.before (line ∷ []) ∙ ap (λ x. t.done ++ cond x [] (line ∷ [])) q ∙ append-nil t.done);
       gives = subst (λ (x : List ℕ). Gave holds k0 x k) (sym (append-nil (texts t.exchanges))) t.gave;
+      parts = tt;
       does = said_all s0 s k0 k b0 b w t;
     }
 

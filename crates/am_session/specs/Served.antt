@@ -22,9 +22,9 @@ IsEnded bytes = (more : List ℕ) → lines_of (bytes ++ more) ≡ lines_of byte
 abbrev pub AsksFor : List ℕ → List Exchange → Type 0
 AsksFor read exchanges = asked exchanges ≡ before_quit (lines_of read)
 
--- By these bytes were taken, by these given, and whether nothing more comes; by exchanges with their events, or with
+-- By these bytes were taken, by these given, behind which BYE was said, and whether nothing more comes; by exchanges with their events, or with
 -- one exchange more, whose answer was torn; and by where a session is left that did nothing.
-module _ (took gave : List ℕ → Type 0) (nothing_comes : Type 0) (answers : List Exchange → Trace → Type 0)
+module _ (took gave parted : List ℕ → Type 0) (nothing_comes : Type 0) (answers : List Exchange → Trace → Type 0)
     (answers_more : List Exchange → Exchange → Trace → Type 0) (untouched : Type 0) where
   -- the bytes are whole lines, or all that comes
   abbrev pub AreWhole : List ℕ → List ℕ → Type 0
@@ -41,6 +41,7 @@ module _ (took gave : List ℕ → Type 0) (nothing_comes : Type 0) (answers : L
     pub quit : quits (lines_of read) ≡ true
     pub lines : AsksFor read exchanges
     pub gives : gave (texts exchanges ++ farewell)
+    pub parts : parted (texts exchanges)
     pub does : answers exchanges events
 
   -- every line was answered, and nothing more comes
@@ -104,11 +105,16 @@ module _ (took gave : List ℕ → Type 0) (nothing_comes : Type 0) (answers : L
   StopsBy stop.ReadFailed = ReadFailedThere
   StopsBy stop.WriteFailed = AnswerTorn
 
+-- the text was given, and then BYE said, or a beginning of it, with the backend as it is at the end
+abbrev pub PartsBehind : {K B : Type 0} → (K → Option (List ℕ)) → (B → K → K → Type 0) → K → K → B → List ℕ → Type 0
+PartsBehind {K} holds parts k k' b' text = (answered : K) × Gave holds k text answered × parts b' answered k'
+
 -- the same over any source, sink and backend
-abbrev pub Served : {S K B : Type 0} → (S → List ℕ → Type 0) → (K → Option (List ℕ)) → BackendMeaning B → ℕ →
-    S → K → B → S → K → B → End → Type 0
-Served comes holds means auto s k b s' k' b' end =
-    EndsBy (λ bytes. Took comes s bytes s') (λ text. Gave holds k text k') (comes s' [])
+abbrev pub Served : {S K B : Type 0} → (S → List ℕ → Type 0) → (K → Option (List ℕ)) → (B → K → K → Type 0) →
+    BackendMeaning B → ℕ → S → K → B → S → K → B → End → Type 0
+Served comes holds parts means auto s k b s' k' b' end =
+    EndsBy (λ bytes. Took comes s bytes s') (λ text. Gave holds k text k') (PartsBehind holds parts k k' b')
+    (comes s' [])
     (λ exchanges events. AnswersAll means auto b exchanges events b')
     (λ exchanges last events. AnswersOneMore means auto b exchanges last events b')
     (b' ≡ b) end

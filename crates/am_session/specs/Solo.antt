@@ -4,11 +4,14 @@ use Rattle.std.specs.Coded.{Coded, code_by, coded×, coded_ℕ, coded_option}
 use Rattle.am_record.specs.Sessions.{active_after}
 use Rattle.am_record.specs.declared.step.Step.{Step}
 use Rattle.am_record.specs.declared.step.Reply.{Reply}
+use Rattle.am_record.specs.declared.step.Reply.TheVariants.{Refused}
+use Rattle.am_record.specs.declared.step.Refusal.TheVariants.{NoMemory}
 use Rattle.am_serial.specs.Trace.{Trace}
 use Rattle.am_serial.specs.Legal.{IsLegal}
 use Rattle.am_sound.specs.Right.{IsSoundStore}
-use Rattle.am_sound.specs.StoreState.{StoreState, is_in, MayAnswer, state_after}
+use Rattle.am_sound.specs.StoreState.{StoreState, empty_state, is_in, MayAnswer, state_after}
 use Rattle.am_core.specs.Keeping.{state_code}
+use Rattle.am_core.specs.Memory.{may_want_memory}
 use Rattle.am_core.specs.Standing.{Extends}
 use Rattle.am_session.specs.Backends.{BackendMeaning}
 use Rattle.am_talk.specs.Session.{at_start}
@@ -31,9 +34,19 @@ abbrev pub IsOpen : StoreState → Option ℕ → Type 0
 IsOpen p None = Unit {0}
 IsOpen p (Some t) = is_in p.active t ≡ true
 
+-- memory was refused only where the step may want it of a store that keeps this
+abbrev pub RefusesForNeed : StoreState → Step → Reply → Type 0
+RefusesForNeed p step reply = reply ≡ Refused NoMemory → may_want_memory p step ≡ true
+
+-- and so at each step of the trace, from a store that keeps this on
+abbrev pub EachRefusesForNeed : StoreState → Trace → Type 0
+EachRefusesForNeed p [] = Unit {0}
+EachRefusesForNeed p (e ∷ trace) = RefusesForNeed p e.0 e.1 × EachRefusesForNeed (state_after p e.0 e.1) trace
+
 -- the store took the step: wherever it stood, it stands there with this event added
 pub record SoloSteps (old : Solo) (step : Step) (reply : Reply) (new : Solo) : Type 0 where
   pub says : MayAnswer old.kept step reply
+  pub memory : RefusesForNeed old.kept step reply
   pub kept : new.kept ≡ state_after old.kept step reply
   pub on : Extends old.kept ((step, reply) ∷ []) new.kept
   pub active : new.active ≡ active_after old.active reply
@@ -47,10 +60,11 @@ solo_meaning = record { active = λ s. s.active; steps = SoloSteps; shows = Solo
 
 -- The exchanges and events of a session alone, which ends in this way: the events are a sound trace, with every merge
 -- and clean right, and a legal one; each response is one line, and all of them are those that are said, but where
--- memory was refused.
+-- memory was refused. The store refused memory only to steps that may want it.
 pub record IsSpoken (auto : ℕ) (ends : Ends) (exchanges all : List Exchange) (trace : Trace) : Type 0 where
   pub dialogue : Dialogue auto ends (at_start, 0) exchanges trace
   pub sound : IsSoundStore trace
   pub legal : IsLegal trace
   pub says : Says all
+  pub memory : EachRefusesForNeed empty_state trace
   pub lines : All (λ (e : Exchange). IsOneLine (response_text e.1)) all

@@ -10,7 +10,7 @@ use Rattle.am_session.specs.declared.end.End.{End}
 -- over any source and sink
 abbrev pub Spoke : {S K : Type 0} → (S → List ℕ → Type 0) → (K → Option (List ℕ)) → ℕ → S → K → S → K → End → Type 0
 Spoke comes holds auto s k s' k' end =
-    EndsBy (λ bytes. Took comes s bytes s') (λ text. Gave holds k text k') (comes s' [])
+    EndsBy (λ bytes. Took comes s bytes s') (λ text. Gave holds k text k') (λ text. Unit {0}) (comes s' [])
     (λ exchanges events. IsSpoken auto Whole exchanges exchanges events)
     (λ exchanges last events. IsSpoken auto (TornAt last) exchanges (exchanges ++ last ∷ []) events)
     (Unit {0}) end
@@ -18,7 +18,7 @@ Spoke comes holds auto s k s' k' end =
 -- over bytes in memory, of which some are left, and what was written stands behind what stood there before
 abbrev pub WroteFor : ℕ → List ℕ → List ℕ → List ℕ → List ℕ → End → Type 0
 WroteFor auto bytes left before after end =
-    EndsBy (λ taken. bytes ≡ taken ++ left) (λ text. after ≡ before ++ text) (left ≡ [])
+    EndsBy (λ taken. bytes ≡ taken ++ left) (λ text. after ≡ before ++ text) (λ text. Unit {0}) (left ≡ [])
     (λ exchanges events. IsSpoken auto Whole exchanges exchanges events)
     (λ exchanges last events. IsSpoken auto (TornAt last) exchanges (exchanges ++ last ∷ []) events)
     (Unit {0}) end

@@ -28,7 +28,7 @@ module _ {B : Type 0} (means : BackendMeaning B) where
 abbrev pub Talked : {S K B : Type 0} → (S → List ℕ → Type 0) → (K → Option (List ℕ)) → BackendMeaning B → ℕ → S → K →
     SessionPoint B → S → K → SessionPoint B → Stop → Type 0
 Talked comes holds means auto s k b s' k' b' stop =
-    StopsBy (λ bytes. Took comes s bytes s') (λ text. Gave holds k text k') (comes s' [])
+    StopsBy (λ bytes. Took comes s bytes s') (λ text. Gave holds k text k') (λ text. Unit {0}) (comes s' [])
     (λ exchanges events. Converses means auto b exchanges events b')
     (λ exchanges last events. ConversesOneMore means auto b exchanges last events b')
     (Unit {0}) stop

@@ -6,6 +6,7 @@ mod backend;
 mod conversation;
 mod drawing;
 mod end;
+mod parting;
 mod serving;
 mod solo;
 
@@ -13,4 +14,5 @@ pub use alone::{serve_alone, serve_in_memory};
 pub use backend::Backend;
 pub use drawing::draw_hash_key;
 pub use end::End;
+pub use parting::PartingSink;
 pub use serving::serve;

@@ -1,16 +1,15 @@
 //! A session over any backend, to its end.
 
-ghost use Rattle.std.specs.Prelude.{◌≡◌, ℕ, ◌+◌, ◌^◌, ◌<◌, ◌≤◌, [], take, false, Option, Some, None, OnOk, OnErr};
-ghost use Rattle.am_stream.specs.Giving.{Gave};
-ghost use Rattle.am_talk.specs.Responses.{bye};
+ghost use Rattle.std.specs.Prelude.{◌≡◌, ◌+◌, ◌^◌, ◌<◌, ◌≤◌, [], false, Option, Some, None};
 ghost use Rattle.am_session.specs.Served.{Served, read_failures, write_failures, IsSentOn};
 ghost use Rattle.am_session.specs.Stops.{Talked, Left, reads_failed, writes_failed, IsSentBy};
 
 use crate::backend::Backend;
 use crate::conversation::{answer, merge, next_line};
 use crate::end::End;
+use crate::parting::PartingSink;
 use am_record::Step;
-use am_stream::{AnsweredSource, Failed, Input, LineBuffer, Sink, give_all};
+use am_stream::{AnsweredSource, Failed, Input, LineBuffer, Sink};
 use am_talk::{Session, parse};
 use std::alloc::Global;
 use std::sync::Wait;
@@ -22,20 +21,6 @@ enum Stop {
     EndOfInput,
     ReadFailed,
     WriteFailed,
-}
-
-/// Answers QUIT, and sends the answer on. Who reads it knows that nothing is active any more.
-fn say_bye<K: Sink, B: Backend>(sink: &mut K, _backend: &B) -> Result<(), Failed>
-    requires countable { K.failures sink.old < 2 ^ 63 }
-    requires idle { B.means.active _backend.now ≡ None }
-    ensures given { OnOk result (Gave K.holds sink.old bye sink.new) }
-    ensures sent { OnOk result (K.pending sink.new ≡ false) }
-    ensures ok { OnOk result (K.failures sink.new ≡ K.failures sink.old) }
-    ensures failed { OnErr result (K.failures sink.new ≡ K.failures sink.old + 1) }
-    ensures torn { OnErr result ((n : ℕ) × Gave K.holds sink.old (take n bye) sink.new) }
-{
-    give_all(sink, b"BYE\n")?;
-    sink.flush()
 }
 
 // Answers the lines of a source up to the first QUIT.
@@ -100,8 +85,8 @@ fn leave<W: Wait, B: Backend>(rt: &W, backend: &mut B, active: Option<u64>)
 ///
 /// The backend takes the steps of the lines, the merges and the last Abort; each line that is written is the text of a
 /// line's fault, or of the reply to its step, however the source cuts its bytes. Nothing is unsent whenever the source
-/// is asked ([`AnsweredSource`]). BYE is said once nothing is active ([`say_bye`]).
-pub fn serve<W: Wait, K: Sink, S: AnsweredSource<K>, B: Backend>(
+/// is asked ([`AnsweredSource`]). BYE is said behind all answers, while nothing is active ([`PartingSink`]).
+pub fn serve<W: Wait, K: PartingSink<B>, S: AnsweredSource<K>, B: Backend>(
     rt: &W,
     alloc: Global,
     source: &mut S,
@@ -114,7 +99,7 @@ pub fn serve<W: Wait, K: Sink, S: AnsweredSource<K>, B: Backend>(
     requires sent { K.pending sink.old ≡ false }
     requires idle { B.means.active backend.old ≡ None }
     requires limit { auto ≤ 64 }
-    ensures served { Served S.comes K.holds B.means auto source.old sink.old backend.old source.new
+    ensures served { Served S.comes K.holds K.parts B.means auto source.old sink.old backend.old source.new
         sink.new backend.new result }
     ensures idle { B.means.active backend.new ≡ None }
     ensures sent { IsSentOn result (K.pending sink.new ≡ false) }
@@ -144,7 +129,7 @@ pub fn serve<W: Wait, K: Sink, S: AnsweredSource<K>, B: Backend>(
         Stop::EndOfInput => End::EndOfInput,
         Stop::ReadFailed => End::ReadFailed,
         Stop::WriteFailed => End::WriteFailed,
-        Stop::Quit => match say_bye(sink, backend) {
+        Stop::Quit => match sink.say_bye(backend) {
             Ok(()) => End::Quit,
             Err(Failed) => End::WriteFailed,
         },

@@ -50,17 +50,23 @@ fn by_two_threads<L: LatchName + Send + Sync, R: Threads + Wait + Abort + Sync>(
 ) -> Result<(), Fail> {
     let (latch, mut seats) = Latch::<L>::open(blank, HashKey::known())?;
     let second = seats.pop().ok_or("no seat")?;
-    let first = seats.pop().ok_or("no seat")?;
+    let mut first = seats.pop().ok_or("no seat")?;
     let shared = &latch;
-    assert_eq!(rt; shared.look(rt, |engine| engine.trace().len()), 0);
-    let ((first, one), (second, other)) = thread::join(
+    assert_eq!(rt;
+        shared.look(rt, &mut first, |engine| engine.trace().len()),
+        0
+    );
+    let ((mut first, one), (second, other)) = thread::join(
         rt,
         move || insert_all(rt, shared, first, 0),
         move || insert_all(rt, shared, second, 100),
     );
     assert!(rt; one);
     assert!(rt; other);
-    assert_eq!(rt; shared.look(rt, |engine| engine.store().commits()), 200);
+    assert_eq!(rt;
+        shared.look(rt, &mut first, |engine| engine.store().commits()),
+        200
+    );
     seats.push(first)?;
     seats.push(second)?;
     let Ok(closed) = close(latch, seats) else {

@@ -57,8 +57,13 @@ fn draw_and_see<R: Clock>(
 }
 
 // Holds the latch until it may let go. Whether it was told to.
-fn hold<L: LatchName, R: Wait + Clock>(rt: &R, latch: &Latch<L>, signals: &Signals) -> bool {
-    latch.look(rt, |_| {
+fn hold<L: LatchName, R: Wait + Clock>(
+    rt: &R,
+    latch: &Latch<L>,
+    mut seat: Seat<L>,
+    signals: &Signals,
+) -> bool {
+    latch.look(rt, &mut seat, |_| {
         signals.is_held.store(true, Ordering::SeqCst);
         comes(rt, &signals.may_go)
     })
@@ -71,14 +76,17 @@ fn beside_the_latch<L: LatchName + Send + Sync, R: Threads + Wait + Clock + Sync
     words: &Words,
     word_seat: &mut WordSeat,
 ) -> Result<(Option<u64>, u64, bool), Fail> {
-    let (latch, _seats) = Latch::<L>::open(blank, HashKey::known())?;
+    let (latch, mut seats) = Latch::<L>::open(blank, HashKey::known())?;
+    let seat = seats.pop().ok_or("no seat")?;
+    let shared = &latch;
     let signals = Signals {
         is_held: AtomicBool::new(false),
         may_go: AtomicBool::new(false),
     };
+    let told = &signals;
     let (went, (drawn, seen)) = thread::join(
         rt,
-        || hold(rt, &latch, &signals),
+        move || hold(rt, shared, seat, told),
         || { draw_and_see(rt, words, word_seat, &signals) },
     );
     Ok((drawn, seen, went))

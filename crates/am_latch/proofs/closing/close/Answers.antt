@@ -1,7 +1,7 @@
 use Rattle.std.proofs.Common.{rules, ap, sym, ◌≡◌, ◌∙◌, subst, length, ℕ, List, take, drop, ◌++◌}
 use Rattle.am_serial.specs.Trace.{Trace}
 use Rattle.am_serial.specs.Legal.{IsLegal}
-use Rattle.am_latch.specs.Traces.{CallLog}
+use Rattle.am_latch.specs.Traces.{CallLog, log_of}
 use Rattle.am_latch.specs.Receipts.{SeatState, AreAll, HaveReceiptsIn, AreReceiptsOf, NumberedBelow}
 use Rattle.am_latch.specs.Views.{log_in_view}
 use Rattle.am_latch.proofs.Keeping.{kept, whole_again}
@@ -13,7 +13,7 @@ use Rattle.am_latch.proofs.closing.close.Goals as goal
 
 pub returns-clause-kept : goal.returns-clause-kept
 returns-clause-kept g c =
-    let e = c.engine.inside.engine in
+    let e = log_of c.engine.inside.engine in
     let trace_token = only _ _ (sym c.into_seat.ensures.2 ∙ c.engine.invariant.knows) in
     let old : c.as_mut_slice.result.now ≡ c.args.seats.items = c.as_mut_slice.ensures.value in
     let known : HaveReceiptsIn e c.args.seats.items (length c.args.seats.items) = subst (λ (l : List SeatState). HaveReceiptsIn e l (length l)) old (subst (λ (d : CallLog). HaveReceiptsIn d c.as_mut_slice.result.now (length c.as_mut_slice.result.now)) (ap log_in_view trace_token) c.audit_all.ensures.known) in
@@ -24,7 +24,7 @@ returns-clause-kept g c =
 
 pub returns-clause-open_txs : goal.returns-clause-open_txs
 returns-clause-open_txs g c =
-    let e = c.engine.inside.engine in
+    let e = log_of c.engine.inside.engine in
     let trace_token = only _ _ (sym c.into_seat.ensures.2 ∙ c.engine.invariant.knows) in
     let old : c.as_mut_slice.result.now ≡ c.args.seats.items = c.as_mut_slice.ensures.value in
     let known : HaveReceiptsIn e c.args.seats.items (length c.args.seats.items) = subst (λ (l : List SeatState). HaveReceiptsIn e l (length l)) old (subst (λ (d : CallLog). HaveReceiptsIn d c.as_mut_slice.result.now (length c.as_mut_slice.result.now)) (ap log_in_view trace_token) c.audit_all.ensures.known) in

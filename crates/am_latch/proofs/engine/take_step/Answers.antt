@@ -1,4 +1,5 @@
 use Rattle.am_latch.proofs.Storing.{goes, is_bounded_by}
+use Rattle.am_latch.proofs.Wanting.{never_full_by}
 use Rattle.am_latch.proofs.engine.take_step.Goals as goal
 
 pub returns-clause-goes : goal.returns-clause-goes
@@ -6,3 +7,6 @@ returns-clause-goes c = λ h has. goes h _ _ c.args.step _ has (c.steps_lift.ens
 
 pub returns-clause-bounded : goal.returns-clause-bounded
 returns-clause-bounded c = λ h has. is_bounded_by h c.args.step _ _ (c.step.ensures.goes.on h has.stands.at) c.step.ensures.within
+
+pub returns-clause-own : goal.returns-clause-own
+returns-clause-own c = λ h has. never_full_by h c.args.step _ _ (c.step.ensures.goes.on h has.stands.at)

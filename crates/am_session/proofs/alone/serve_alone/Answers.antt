@@ -2,6 +2,7 @@ use Rattle.std.proofs.Common.{◌≡◌, [], ◌∷◌, ◌++◌}
 use Rattle.am_stream.specs.Taking.{Took}
 use Rattle.am_stream.specs.Giving.{Gave}
 use Rattle.am_talk.specs.Dialogue.{Whole, TornAt}
+use Rattle.am_session.specs.Served.{PartsBehind}
 use Rattle.am_session.specs.Talk.{AnswersAll, AnswersOneMore}
 use Rattle.am_session.specs.Solo.{solo_meaning, IsSpoken}
 use Rattle.am_session.proofs.Speaking.{spoken_whole, spoken_torn, ends_by}
@@ -20,7 +21,7 @@ returns-clause-spoke g c =
     let lines_whole = c.answers_are_lines.ensures.whole auto in
     let lines_torn = c.answers_are_lines.ensures.torn auto in
     let say_torn = c.sound_dialogues_say.ensures.torn auto in
-    ends_by (λ bytes. Took g.S.AnsweredSource.comes c.args.source.now bytes c.serve.new.source) (λ text. Gave g.K.Sink.holds c.args.sink.now text c.serve.new.sink) (g.S.AnsweredSource.comes c.serve.new.source [])
+    ends_by (λ bytes. Took g.S.AnsweredSource.comes c.args.source.now bytes c.serve.new.source) (λ text. Gave g.K.Sink.holds c.args.sink.now text c.serve.new.sink) (PartsBehind g.K.Sink.holds (λ x y z. Unit {0}) c.args.sink.now c.serve.new.sink b) (g.S.AnsweredSource.comes c.serve.new.source [])
     (λ exchanges events. AnswersAll solo_meaning auto s0 exchanges events b) (λ exchanges events. IsSpoken auto Whole exchanges exchanges events)
     (λ exchanges last events. AnswersOneMore solo_meaning auto s0 exchanges last events b) (λ exchanges last events. IsSpoken auto (TornAt last) exchanges (exchanges ++ last ∷ []) events)
     (b ≡ s0) (Unit {0})

@@ -1,10 +1,15 @@
-use Rattle.std.proofs.Common.{arith, ◌≡◌, ℕ, length, List, [], ◌∷◌, ◌++◌, vec_len, vec_capacity, ap, sym, subst, ◌∙◌}
+use Rattle.std.proofs.Common.{arith, rules, refl, inl, false, ◌≡◌, ℕ, length, List, [], ◌∷◌, ◌++◌, vec_len, vec_capacity, ap, sym, subst, ◌∙◌}
 use Rattle.am_record.specs.declared.step.Step.{Step}
+use Rattle.am_record.specs.declared.step.Reply.TheVariants.{Refused}
+use Rattle.am_record.specs.declared.step.Refusal.TheVariants.{NoMemory}
 use Rattle.am_serial.specs.Trace.{Trace}
-use Rattle.am_latch.specs.Changes.{active_in_trace, change, numbers_with, HasTrace}
-use Rattle.am_latch.specs.Traces.{ends_after}
+use Rattle.am_latch.specs.Changes.{active_in_trace, change, numbers_with, HasTrace, MayFollow}
+use Rattle.am_latch.specs.EngineFields.{room_left}
+use Rattle.am_latch.specs.Traces.{EngineState, ends_after}
+use Rattle.am_latch.specs.Wants.{MayWantMemory, pairs_needed}
 use Rattle.am_latch.proofs.Rooms.{room_step}
 use Rattle.am_latch.proofs.Storing.{active_from-snoc}
+use Rattle.am_latch.proofs.Wanting.{short, short_of, store_wants, by_reason, refused_so}
 use Rattle.am_latch.proofs.engine.Engine.step.Goals as goal
 
 pub push_reserved-requires : goal.push_reserved-requires
@@ -47,3 +52,30 @@ invariant_of-self-2 c =
       trace_room = omega (arith, a.fits, ends, p.len, p.capacity);
       calls_room = omega (arith, b.fits, ends, q.len, q.capacity);
     }
+
+pub returns-then-not-may_go_on-clause-memory : goal.returns-then-not-may_go_on-clause-memory
+returns-then-not-may_go_on-clause-memory c = λ is.
+    let i = c.self.invariant in
+    let inside = c.self.inside in
+    let none : c.get_room-has_room.result ≡ false = c.may_go_on.ensures.short (search rules) in
+    subst (λ (e : EngineState). MayWantMemory e c.args.step) c.self.view_is
+    (inl (short (room_left inside) (pairs_needed c.args.step) c.pairs_for-more.result (vec_len inside.trace) (vec_len inside.calls) inside.ends (vec_capacity inside.trace) (vec_capacity inside.calls) c.get_room-has_room.result none c.pairs_for-more.ensures refl i.even (short_of c.args.step) c.get_room-has_room.ensures.there))
+
+pub returns-then-not-is_kept-clause-memory : goal.returns-then-not-is_kept-clause-memory
+returns-then-not-is_kept-clause-memory c = λ is.
+    let i = c.self.invariant in
+    let inside = c.self.inside in
+    let st = c.args.step in
+    let e : EngineState = record { trace = inside.trace.items; calls = inside.calls.items; room = room_left inside } in
+    let lost : c.is_kept.result ≡ false = search rules in
+    let own = c.take_step-reply.ensures.own inside.trace.items i.trace in
+    subst (λ (e : EngineState). MayWantMemory e st) c.self.view_is
+    (by_reason e st c.get_room-has_room.result
+    (λ none. short (room_left inside) (pairs_needed st) c.pairs_for-more.result (vec_len inside.trace) (vec_len inside.calls) inside.ends (vec_capacity inside.trace) (vec_capacity inside.calls) c.get_room-has_room.result none c.pairs_for-more.ensures refl i.even (short_of st) c.get_room-has_room.ensures.there)
+    (λ had. store_wants e inside.store st c.take_step-reply.result i.trace (c.is_kept.ensures.lost lost had) c.take_step-reply.ensures.memory own))
+
+pub returns-then-not-is_kept-clause-answers : goal.returns-then-not-is_kept-clause-answers
+returns-then-not-is_kept-clause-answers c =
+    let g = c.take_step-reply.ensures.goes c.self.inside.trace.items c.self.invariant.trace in
+    let lost : c.is_kept.result ≡ false = search rules in
+    subst (λ (e : EngineState). MayFollow (active_in_trace e.trace) c.args.step (Refused NoMemory)) c.self.view_is (refused_so _ c.args.step c.take_step-reply.result g.answers (c.is_kept.ensures.no lost))

@@ -1,7 +1,7 @@
 use Rattle.am_record.specs.Sessions.{IsAllowed}
 use Rattle.std.proofs.Common.{rules, ap, sym, subst, ◌≡◌, ◌∙◌, [], ◌∷◌, List, length}
 use Rattle.am_latch.specs.declared.receipt.Receipt.{Receipt}
-use Rattle.am_latch.specs.Traces.{CallLog, log_with, AreMadeBelow}
+use Rattle.am_latch.specs.Traces.{CallLog, log_of, log_with, AreMadeBelow}
 use Rattle.am_latch.specs.Receipts.{receipts_of}
 use Rattle.am_latch.specs.Ties.{open_of, open_in, IsTied}
 use Rattle.am_latch.specs.Views.{trace_view, log_in_view}
@@ -13,7 +13,7 @@ use Rattle.am_latch.proofs.state.LatchState.call.Goals as goal
 pub returns-then-not-was_stored-clause-ended : goal.returns-then-not-was_stored-clause-ended
 returns-then-not-was_stored-clause-ended g c =
     let i = c.self.invariant in
-    let e = c.self.inside.engine in
+    let e = log_of c.self.inside.engine in
     let trace_token = only _ _ (sym c.into_seat-trace_token.ensures.2 ∙ ap (λ b. b.views) c.replace.ensures.value ∙ i.knows) in
     let known : c.args.token.now.me.0.receipts ≡ receipts_of c.args.call_id.seat e = c.compare_receipts-trace_token.ensures.known ∙ (λ j. receipts_of (sym c.requires.token.1 j) (log_in_view (trace_token j))) in
     let may : IsAllowed (open_in e c.args.call_id.seat) c.args.step = subst (λ (rs : List Receipt). IsAllowed (open_of rs) c.args.step) known c.requires.may in
@@ -22,7 +22,7 @@ returns-then-not-was_stored-clause-ended g c =
 pub returns-clause-ended : goal.returns-clause-ended
 returns-clause-ended g c =
     let i = c.self.invariant in
-    let e = c.self.inside.engine in
+    let e = log_of c.self.inside.engine in
     let trace_token = only _ _ (sym c.into_seat-trace_token.ensures.2 ∙ ap (λ b. b.views) c.replace.ensures.value ∙ i.knows) in
     let known : c.args.token.now.me.0.receipts ≡ receipts_of c.args.call_id.seat e = c.compare_receipts-trace_token.ensures.known ∙ (λ j. receipts_of (sym c.requires.token.1 j) (log_in_view (trace_token j))) in
     let may : IsAllowed (open_in e c.args.call_id.seat) c.args.step = subst (λ (rs : List Receipt). IsAllowed (open_of rs) c.args.step) known c.requires.may in
@@ -31,7 +31,7 @@ returns-clause-ended g c =
 pub invariant_of-self-2 : goal.invariant_of-self-2
 invariant_of-self-2 g c =
     let i = c.self.invariant in
-    let e = c.self.inside.engine in
+    let e = log_of c.self.inside.engine in
     let stored = sym c.was_stored.ensures ∙ c.if-not-was_stored.false in
     let after = grown _ _ _ _ _ stored c.step-reply.ensures.stepped in
     let trace_token = only _ _ (sym c.into_seat-trace_token.ensures.2 ∙ ap (λ b. b.views) c.replace.ensures.value ∙ i.knows) in
