@@ -3,7 +3,7 @@
 
 mod judgement;
 
-use am_command::{audited_file, words};
+use am_command::{OptionsFault, audited_file, words};
 use am_stack::hold_stack;
 use am_stream::Writing;
 use judgement::{Judgement, judge, say};
