@@ -8,7 +8,7 @@ use std::alloc::{AllocError, Global};
 /// How many bytes are touched by one step down.
 const PAGE_LEN: usize = 4096;
 
-/// So many pages are several times as many as a program was seen to need.
+/// So many pages are more than twice as many as a program was seen to need.
 const PAGES: u8 = 48;
 
 /// Has the stack reach as deep as the program may need it.
