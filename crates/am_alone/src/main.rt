@@ -21,7 +21,9 @@ use std::sync::Wait;
 /// The program's name, where it says what is wrong with its words.
 const PROGRAM: &str = "amserve";
 
-/// Answers standard input on standard output; after each answer at most `auto` entries are merged.
+/// Answers standard input on standard output; after each answer at most `auto` entries are merged. It has a frame of
+/// its own, beside that of the words, so that neither is large.
+#[inline(never)]
 fn alone<R: AllocGlobal + Input + Print + Eprint + Clock + RandomSource + Wait>(
     rt: &R,
     auto: u64,

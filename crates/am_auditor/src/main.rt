@@ -3,7 +3,7 @@
 
 mod judgement;
 
-use am_command::{audited_file, words};
+use am_command::{OptionsFault, audited_file, words};
 use am_stack::hold_stack;
 use am_stream::Writing;
 use judgement::{Judgement, judge, say};
@@ -27,7 +27,9 @@ fn bytes<R: AllocGlobal + Files + Input>(rt: &R, file: Option<&str>) -> io::Resu
     }
 }
 
-/// Reads the text and writes what is to be said of it.
+/// Reads the text and writes what is to be said of it. It has a frame of its own, beside that of the words, so that
+/// neither is large.
+#[inline(never)]
 fn audit<R: AllocGlobal + Files + Input + Print>(rt: &R, file: Option<&str>) -> ExitCode {
     let mut sink = Writing::new(io::writer(rt));
     let said = match bytes(rt, file) {
