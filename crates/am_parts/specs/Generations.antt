@@ -54,7 +54,7 @@ abbrev pub takes : ℕ → Option Generation → Bool
 takes keys None = false
 takes keys (Some g) = g.end == 2 ^ 32 && nat_le keys (g.room - g.keys)
 
--- for how many keys the next one is made: for those of the run, and for twice as many as the last one was, or as are left
+-- for how many keys the next one is made: those of the run, and twice as many as the last one was for, or as are left
 abbrev pub room_for : ℕ → ℕ → ℕ → ℕ
 room_for last left keys = max keys (max 64 (min (2 ^ 64 - 1) (2 * min last left)))
 

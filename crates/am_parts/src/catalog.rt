@@ -279,7 +279,8 @@ impl Catalog {
         }
     }
 
-    /// The run of records with keys of these numbers, with room got for it and for its keys. No entry stands in its partition or above it.
+    /// The run of records with keys of these numbers, with room got for it and for its keys. No entry stands in its
+    /// partition or above it.
     ///
     /// # Errors
     /// NoMemory, where memory was refused.

@@ -67,8 +67,8 @@ impl<I: PartIndex + Drop> Parts<I> {
     ghost use Rattle.am_parts.specs.Partitions.{LivesNowhereElse, IsLiveEntry, IsVacancy, content_with};
     ghost use Rattle.am_parts.specs.Partitions.{content_without, content_set, brought_home};
 
-    /// The partitions of an empty index. By the hash key the filters know the keys: whoever doesn't know it can't choose
-    /// keys that they don't tell apart.
+    /// The partitions of an empty index. By the hash key the filters know the keys: whoever doesn't know it can't
+    /// choose keys that they don't tell apart.
     pub fn new(alloc: Global, index: I, hash: HashKey) -> Parts<I>
         requires { I.entries index ≡ [] }
         ensures entries { result.entries ≡ [] }

@@ -98,8 +98,8 @@ impl Key {
         mix(mix(front, words[2]), words[3])
     }
 
-    /// A number that looks drawn at random to whoever doesn't know the hash key, the same for equal keys. The key's words
-    /// are folded into one another by multiplication to 128 bits (as in Wang Yi's wyhash, 2019), and its length.
+    /// A number that looks drawn at random to whoever doesn't know the hash key, the same for equal keys. The key's
+    /// words are folded into one another by multiplication to 128 bits (as in Wang Yi's wyhash, 2019), and its length.
     pub fn number(&self, hash: HashKey) -> u64
         ensures { result ≡ key_number hash self.now }
     {
