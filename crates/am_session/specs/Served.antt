@@ -22,8 +22,8 @@ IsEnded bytes = (more : List ℕ) → lines_of (bytes ++ more) ≡ lines_of byte
 abbrev pub AsksFor : List ℕ → List Exchange → Type 0
 AsksFor read exchanges = asked exchanges ≡ before_quit (lines_of read)
 
--- By these bytes were taken, by these given, behind which BYE was said, and whether nothing more comes; by exchanges with their events, or with
--- one exchange more, whose answer was torn; and by where a session is left that did nothing.
+-- By these bytes were taken, by these given, behind which BYE was said, and whether nothing more comes; by exchanges
+-- with their events, or with one exchange more, whose answer was torn; and by where a session is left that did nothing.
 module _ (took gave parted : List ℕ → Type 0) (nothing_comes : Type 0) (answers : List Exchange → Trace → Type 0)
     (answers_more : List Exchange → Exchange → Trace → Type 0) (untouched : Type 0) where
   -- the bytes are whole lines, or all that comes

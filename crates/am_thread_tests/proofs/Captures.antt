@@ -1,4 +1,4 @@
--- What a closure captured may go to another thread, where each of three or four captures may.
+-- What a closure captured may go to another thread, where each of three captures may.
 use Rattle.std.proofs.Common.{ℕ, List, [], ◌∷◌}
 use denote.Param.Send.{IsSend, struct_send, recorded_send}
 use denote.RattleType.{RattleType}
@@ -9,8 +9,3 @@ pub captures_send : (name : List ℕ) (A B C : RattleType) → IsSend A → IsSe
 captures_send name A B C a b c =
     let captures : List RattleType = A ∷ B ∷ C ∷ [] in
     recorded_send (field_at name captures).row _ _ (type_at name captures).to_one (struct_send (shape (type_at name captures)) (a, (b, (c, tt))))
-
-pub four_captures_send : (name : List ℕ) (A B C D : RattleType) → IsSend A → IsSend B → IsSend C → IsSend D → IsSend (TupleAt name (A ∷ B ∷ C ∷ D ∷ []))
-four_captures_send name A B C D a b c d =
-    let captures : List RattleType = A ∷ B ∷ C ∷ D ∷ [] in
-    recorded_send (field_at name captures).row _ _ (type_at name captures).to_one (struct_send (shape (type_at name captures)) (a, (b, (c, (d, tt)))))
