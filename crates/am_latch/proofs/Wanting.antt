@@ -23,23 +23,6 @@ use Rattle.am_latch.specs.Wants.{takes_lists, pairs_needed, MayWantMemory}
 use Rattle.am_latch.proofs.Replies.{refused_nothing}
 use Rattle.am_latch.proofs.Storing.{last_event}
 
--- a step whose copy takes memory, or the rows of whose reply do, is one for which the store may want it too
-pub lists_want : (p : StoreState) (st : Step) → takes_lists st ≡ true → may_want_memory p st ≡ true
-lists_want p (Do t (Scan range max)) e = refl
-lists_want p (Do t (Load pairs)) e = refl
-lists_want p (Do t (Get k)) e = absurd (cc)
-lists_want p (Do t (Insert k v)) e = absurd (cc)
-lists_want p (Do t (Replace k v)) e = absurd (cc)
-lists_want p (Do t (Delete k)) e = absurd (cc)
-lists_want p (Do t (TakeLock l)) e = absurd (cc)
-lists_want p (Do t Mark) e = absurd (cc)
-lists_want p (Do t Back) e = absurd (cc)
-lists_want p Begin e = absurd (cc)
-lists_want p (Commit t) e = absurd (cc)
-lists_want p (Abort t) e = absurd (cc)
-lists_want p (Merge limit) e = absurd (cc)
-lists_want p (Clean range limit) e = absurd (cc)
-
 why_unstored : (why : Refusal) → is_stored (Refused why) ≡ false → (Refused why ≡ Refused NoMemory) ⊎ (Refused why ≡ Refused SeatFull)
 why_unstored NoMemory e = inl refl
 why_unstored SeatFull e = inr refl
@@ -52,7 +35,7 @@ why_unstored TooManyRuns e = absurd (cc)
 why_unstored NotRising e = absurd (cc)
 why_unstored BadLimit e = absurd (cc)
 
-pub unstored : (r : Reply) → is_stored r ≡ false → (r ≡ Refused NoMemory) ⊎ (r ≡ Refused SeatFull)
+unstored : (r : Reply) → is_stored r ≡ false → (r ≡ Refused NoMemory) ⊎ (r ≡ Refused SeatFull)
 unstored (Refused why) e = why_unstored why e
 unstored (Begun t) e = absurd (cc)
 unstored Done e = absurd (cc)

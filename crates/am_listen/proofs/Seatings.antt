@@ -3,17 +3,19 @@ use Rattle.std.proofs.Common.{◌≡◌, ℕ, zero, suc, ◌+◌, ◌<◌, List,
 use Rattle.std.specs.Prelude.{slice_get}
 use Rattle.std.specs.List.{AllZip}
 use Rattle.std.proofs.lemmas.List.{map-append, length-map}
-use Rattle.std.proofs.lemmas.List.Elements.{All-nil, All-push}
+use Rattle.std.proofs.lemmas.List.Elements.{All-nil, All-push, All-cons}
 use Rattle.std.proofs.lemmas.Bool.{ltb-true, ltb-false}
 use Rattle.std.proofs.Math.ListN.{get_or-append}
 use Rattle.std.proofs.Math.Seq.{get_or-append_seam}
+use Rattle.am_record.specs.declared.step.Step.TheVariants.{Merge}
+use Rattle.am_latch.specs.declared.receipt.Receipt.{Receipt}
 use Rattle.am_latch.specs.Receipts.{SeatState, new_seat, numbered, AreAll}
 use Rattle.am_latch.specs.Ties.{open_of}
-use Rattle.am_seating.specs.SessionSeats.{SessionSeatState}
+use Rattle.am_seating.specs.SessionSeats.{SessionSeatState, HasDrawn, open_at}
 use Rattle.am_workers.specs.Turns.{HasTakenTurns}
-use Rattle.am_listen.specs.ServerRuns.{seat_numbers, session_seat_numbers, HasSameSeat}
+use Rattle.am_listen.specs.ServerRuns.{seat_numbers, session_seat_numbers, latch_seats, HasSameSeat, WasServed, HasServed, HasNewSeat, IsNewSeat, IsOfSession, IsOfWorker}
 
-pub all_zip : (xs ys : List SessionSeatState) → length ys ≡ length xs → ((i : ℕ) (d : SessionSeatState) → i < length xs → HasSameSeat (get_or xs i d) (get_or ys i d)) → AllZip HasSameSeat xs ys
+pub all_zip : (xs ys : List SessionSeatState) → length ys ≡ length xs → ((i : ℕ) (d : SessionSeatState) → i < length xs → HasServed (get_or xs i d) (get_or ys i d)) → AllZip HasServed xs ys
 all_zip [] [] e h = tt
 all_zip [] (y ∷ ys) e h = absurd (omega (arith, e))
 all_zip (x ∷ xs) [] e h = absurd (omega (arith, e))
@@ -21,11 +23,11 @@ all_zip (x ∷ xs) (y ∷ ys) e h = (h 0 x (omega arith), all_zip xs ys (omega (
 
 -- ---- numbers stay
 
-pub same_seats : (xs ys : List SessionSeatState) → AllZip HasSameSeat xs ys → session_seat_numbers ys ≡ session_seat_numbers xs
+pub same_seats : (xs ys : List SessionSeatState) → AllZip HasServed xs ys → session_seat_numbers ys ≡ session_seat_numbers xs
 same_seats [] [] h = refl
 same_seats [] (y ∷ ys) h = absurd h
 same_seats (x ∷ xs) [] h = absurd h
-same_seats (x ∷ xs) (y ∷ ys) h = λ i. h.0 i ∷ same_seats xs ys h.1 i
+same_seats (x ∷ xs) (y ∷ ys) h = λ i. h.0.same i ∷ same_seats xs ys h.1 i
 
 pub same_turned : (limit n : ℕ) (xs ys : List SeatState) → AllZip (HasTakenTurns limit n) xs ys → seat_numbers ys ≡ seat_numbers xs
 same_turned limit n [] [] h = refl
@@ -40,7 +42,7 @@ pub count_places : (xs : List SessionSeatState) → length (session_seat_numbers
 count_places xs = length-map xs (λ (p : SessionSeatState). p.seat.number)
 
 -- what went to the sessions and the workers came back
-pub all_back : (limit n : ℕ) (session_seats placed : List SessionSeatState) (worker_seats worked seats : List SeatState) → AllZip HasSameSeat session_seats placed → AllZip (HasTakenTurns limit n) worker_seats worked
+pub all_back : (limit n : ℕ) (session_seats placed : List SessionSeatState) (worker_seats worked seats : List SeatState) → AllZip HasServed session_seats placed → AllZip (HasTakenTurns limit n) worker_seats worked
     → session_seat_numbers session_seats ++ seat_numbers worker_seats ≡ seat_numbers seats → session_seat_numbers placed ++ seat_numbers worked ≡ seat_numbers seats
 all_back limit n session_seats placed worker_seats worked seats sat worked_on e = (λ i. same_seats session_seats placed sat i ++ same_turned limit n worker_seats worked worked_on i) ∙ e
 
@@ -50,9 +52,9 @@ count_back placed worked seats e =
 
 -- ---- new seats
 
-pub all_idle : (n : ℕ) → All (λ (s : SeatState). open_of s.receipts ≡ None) (numbered n)
-all_idle zero = All-nil (λ (s : SeatState). open_of s.receipts ≡ None)
-all_idle (suc n) = All-push (λ (s : SeatState). open_of s.receipts ≡ None) (numbered n) (new_seat n) (all_idle n) refl
+pub all_new : (n : ℕ) → All IsNewSeat (numbered n)
+all_new zero = All-nil IsNewSeat
+all_new (suc n) = All-push IsNewSeat (numbered n) (new_seat n) (all_new n) refl
 
 length-numbered : (n : ℕ) → length (numbered n) ≡ n
 length-numbered zero = refl
@@ -101,7 +103,46 @@ worker_more session_seats s worker_seats rest rest' all next e =
     ∙ ap (λ (r : List SeatState). (session_seat_numbers session_seats ++ seat_numbers worker_seats) ++ seat_numbers r) (sym next)
     ∙ e
 
+-- ---- a session's number is drawn, and the session served
+
+pub drew_seat : (old new : SessionSeatState) (drew : Bool) → HasDrawn old drew new → new.seat ≡ old.seat
+drew_seat old new true h = ap (λ (p : SessionSeatState). p.seat) h
+drew_seat old new false h = ap (λ (p : SessionSeatState). p.seat) h.1
+
+pub idle_there : (old new : SessionSeatState) → new.seat ≡ old.seat → HasNewSeat old → open_at new ≡ None
+idle_there old new same empty = ap (λ (s : SeatState). open_of s.receipts) same ∙ ap open_of empty
+
+pub served_there : (old drawn new : SessionSeatState) → drawn.seat ≡ old.seat → HasSameSeat drawn new → WasServed drawn new → HasServed old new
+served_there old drawn new same kept served = record { same = kept ∙ ap (λ (s : SeatState). s.number) same; drawn = drawn; seat = same; served = served }
+
+-- ---- what each seat is left with
+
+pub all_of_sessions : (xs ys : List SessionSeatState) → AllZip HasServed xs ys → All HasNewSeat xs → All IsOfSession ys
+all_of_sessions [] [] h new = All-nil IsOfSession
+all_of_sessions [] (y ∷ ys) h new = absurd h
+all_of_sessions (x ∷ xs) [] h new = absurd h
+all_of_sessions (x ∷ xs) (y ∷ ys) h new =
+    All-cons IsOfSession y ys (h.0.drawn, ap (λ (s : SeatState). s.receipts) h.0.seat ∙ all_first HasNewSeat x xs (x ∷ xs) refl new, h.0.served)
+    (all_of_sessions xs ys h.1 (all_rest HasNewSeat x xs (x ∷ xs) refl new))
+
+pub all_of_workers : (n : ℕ) (xs ys : List SeatState) → AllZip (HasTakenTurns 16 n) xs ys → All IsNewSeat xs → All IsOfWorker ys
+all_of_workers n [] [] h new = All-nil IsOfWorker
+all_of_workers n [] (y ∷ ys) h new = absurd h
+all_of_workers n (x ∷ xs) [] h new = absurd h
+all_of_workers n (x ∷ xs) (y ∷ ys) h new =
+    All-cons IsOfWorker y ys
+    (subst (λ (rs : List Receipt). All (λ (r : Receipt). r.step ≡ Merge 16) rs) (sym (h.0.longer ∙ ap (λ (l : List Receipt). l ++ h.0.more) (all_first IsNewSeat x xs (x ∷ xs) refl new))) h.0.merges)
+    (all_of_workers n xs ys h.1 (all_rest IsNewSeat x xs (x ∷ xs) refl new))
+
 -- ---- all seats of a latch
+
+latch_numbers : (placed : List SessionSeatState) → seat_numbers (latch_seats placed) ≡ session_seat_numbers placed
+latch_numbers [] = refl
+latch_numbers (p ∷ ps) = ap (λ (l : List ℕ). p.seat.number ∷ l) (latch_numbers ps)
+
+-- the seats that were closed are those of the sessions, and behind them those of the workers
+pub joined_seats : (all taken before worked : List SeatState) (placed : List SessionSeatState) → all ≡ taken ++ worked → taken ≡ before ++ latch_seats placed → before ≡ [] → all ≡ latch_seats placed ++ worked
+joined_seats all taken before worked placed joined sat none = joined ∙ ap (λ (l : List SeatState). l ++ worked) (sat ∙ ap (λ (b : List SeatState). b ++ latch_seats placed) none)
 
 last_number : (n i d : ℕ) (l : List ℕ) (b : Bool) → length l ≡ n → i < suc n → ((k : ℕ) → k < n → get_or l k d ≡ k) → nat_lt i n ≡ b → get_or (l ++ n ∷ []) i d ≡ i
 last_number n i d l true long lt before below = get_or-append l (n ∷ []) d i (omega (arith, long, ltb-true i n below)) ∙ before i (ltb-true i n below)
@@ -130,9 +171,9 @@ are_all n seats e = (
   λ i s lt at. sym (seat_number seats i 0 s at) ∙ ap (λ (l : List ℕ). get_or l i 0) e ∙ number_of n i 0 lt,
 )
 
-pub all_there : (n : ℕ) (all taken before worked seats : List SeatState) (placed : List SessionSeatState) → all ≡ taken ++ worked → seat_numbers taken ≡ seat_numbers before ++ session_seat_numbers placed
+pub all_there : (n : ℕ) (all taken before worked seats : List SeatState) (placed : List SessionSeatState) → all ≡ taken ++ worked → taken ≡ before ++ latch_seats placed
     → before ≡ [] → session_seat_numbers placed ++ seat_numbers worked ≡ seat_numbers seats → seats ≡ numbered n → AreAll n all
 all_there n all taken before worked seats placed joined sat none back new =
     are_all n all
-    (ap seat_numbers joined ∙ map-append (λ (s : SeatState). s.number) taken worked ∙ ap (λ (l : List ℕ). l ++ seat_numbers worked) (sat ∙ ap (λ (b : List SeatState). seat_numbers b ++ session_seat_numbers placed) none)
+    (ap seat_numbers joined ∙ map-append (λ (s : SeatState). s.number) taken worked ∙ ap (λ (l : List ℕ). l ++ seat_numbers worked) (ap seat_numbers (sat ∙ ap (λ (b : List SeatState). b ++ latch_seats placed) none) ∙ latch_numbers placed)
     ∙ back ∙ ap seat_numbers new)

@@ -4,14 +4,14 @@ ghost use Rattle.std.specs.Prelude.{◌≡◌, ◌==◌, ◌||◌, ◌+◌, ◌^
 ghost use Rattle.std.specs.Prelude.{nat_lt, OnOk, OnErr, IfOk};
 ghost use Rattle.am_stream.specs.Giving.{Gave};
 
-use crate::pacer::MergePacer;
+use crate::pacer::{MergePacer, TurnGiver};
 use am_stream::{Failed, Sink};
 
 /// A sink of a session, each of whose answers lets a worker have a turn once it was sent on.
 #[derive(Drop)]
 pub(crate) struct CountingSink<'a, K: Sink + Drop> {
     sink: K,
-    pacer: &'a MergePacer,
+    turns: TurnGiver<'a>,
     // How many answers were written and not sent on yet.
     unsent: u64,
 }
@@ -25,11 +25,12 @@ fn answers_in(piece: &[u8]) -> u64
 
 impl<'a, K: Sink + Drop> CountingSink<'a, K> {
     pub(crate) fn new(sink: K, pacer: &'a MergePacer) -> CountingSink<'a, K>
-        ensures { result.sink ≡ sink }
+        ensures sink { result.sink ≡ sink }
+        ensures none { (result.turns.given ≡ 0) × (result.unsent ≡ 0) }
     {
         CountingSink {
             sink,
-            pacer,
+            turns: TurnGiver::new(pacer),
             unsent: 0,
         }
     }
@@ -57,6 +58,7 @@ impl<'a, K: Sink + Drop> Sink for CountingSink<'a, K> {
         ensures counted { IfOk result (λ n. self.new.unsent ≡
             min 18446744073709551615 (self.old.unsent + count_by (λ byte. byte == 10) (take n piece.now))) }
         ensures uncounted { OnErr result (self.new.unsent ≡ self.old.unsent) }
+        ensures turns { self.new.turns.given ≡ self.old.turns.given }
     {
         let len = self.sink.give(piece)?;
         self.unsent = self.unsent.saturating_add(answers_in(&piece[..len]));
@@ -71,12 +73,15 @@ impl<'a, K: Sink + Drop> Sink for CountingSink<'a, K> {
         ensures failed { OnErr result (K.failures self.new.sink ≡ K.failures self.old.sink + 1) }
         ensures same { OnErr result (K.pending self.new.sink ≡ K.pending self.old.sink) }
 
-        // Answers that were sent on are counted once.
+        // Each answer that was sent on gives one turn, and is counted once.
+        ensures turns { OnOk result (self.new.turns.given ≡
+            min 18446744073709551615 (self.old.turns.given + self.old.unsent)) }
         ensures counted { OnOk result (self.new.unsent ≡ 0) }
+        ensures none { OnErr result (self.new.turns.given ≡ self.old.turns.given) }
         ensures uncounted { OnErr result (self.new.unsent ≡ self.old.unsent) }
     {
         self.sink.flush()?;
-        self.pacer.count_answers(self.unsent);
+        self.turns.give(self.unsent);
         self.unsent = 0;
         Ok(())
     }

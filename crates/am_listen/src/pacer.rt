@@ -1,6 +1,6 @@
 //! When a worker may take a turn.
 
-ghost use Rattle.std.specs.Prelude.{◌≡◌};
+ghost use Rattle.std.specs.Prelude.{◌≡◌, ◌+◌, min};
 
 use am_workers::Pacer;
 use std::sync::Wait;
@@ -63,6 +63,30 @@ impl MergePacer {
         self.taken
             .compare_exchange(taken, next, Ordering::SeqCst, Ordering::SeqCst)
             .is_ok()
+    }
+}
+
+/// Gives turns for the answers of one session.
+#[derive(Drop)]
+pub(crate) struct TurnGiver<'a> {
+    pacer: &'a MergePacer,
+    // How many it gave.
+    given: u64,
+}
+
+impl<'a> TurnGiver<'a> {
+    pub(crate) fn new(pacer: &'a MergePacer) -> TurnGiver<'a>
+        ensures { result.given ≡ 0 }
+    {
+        TurnGiver { pacer, given: 0 }
+    }
+
+    /// Lets workers have so many turns more.
+    pub(crate) fn give(&mut self, turns: u64)
+        ensures { self.new.given ≡ min 18446744073709551615 (self.old.given + turns) }
+    {
+        self.pacer.count_answers(turns);
+        self.given = self.given.saturating_add(turns);
     }
 }
 

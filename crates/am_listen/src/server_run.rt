@@ -1,10 +1,10 @@
 //! All sessions, and the workers beside them.
 
-ghost use Rattle.std.specs.Prelude.{◌≡◌, ◌≤◌, ◌+◌, ◌++◌, IfOk, All, None, length, vec_len, vec_capacity};
+ghost use Rattle.std.specs.Prelude.{◌≡◌, ◌≤◌, ◌+◌, ◌++◌, IfOk, All, length, vec_len, vec_capacity};
 ghost use Rattle.std.specs.List.{AllZip};
-ghost use Rattle.am_latch.specs.Ties.{open_of};
 ghost use Rattle.am_workers.specs.Turns.{HasTakenTurns};
-ghost use Rattle.am_listen.specs.ServerRuns.{IsSoundRun, HasSameSeat, IsIdleSeat, seat_numbers, session_seat_numbers};
+ghost use Rattle.am_listen.specs.ServerRuns.{IsSoundRun, HasServed, HasNewSeat, IsNewSeat, seat_numbers};
+ghost use Rattle.am_listen.specs.ServerRuns.{session_seat_numbers, latch_seats};
 
 use crate::acceptor::Acceptor;
 use crate::pacer::MergePacer;
@@ -45,8 +45,9 @@ fn assign_seats<'a, L: LatchName>(
     word_seats: Vec<WordSeat>,
 ) -> Result<(Vec<SessionSeat<'a, L>>, Vec<Seat<L>>), NoMemory>
     requires word_seats { All (λ h. h.of ≡ words.now) word_seats.items }
-    requires idle { All (λ s. open_of s.receipts ≡ None) seats.items }
-    ensures idle { IfOk result (λ r. All IsIdleSeat r.0.items) }
+    requires fresh { All IsNewSeat seats.items }
+    ensures sessions { IfOk result (λ r. All HasNewSeat r.0.items) }
+    ensures workers { IfOk result (λ r. All IsNewSeat r.1.items) }
     ensures seats { IfOk result (λ r. session_seat_numbers r.0.items ++ seat_numbers r.1.items ≡
         seat_numbers seats.items) }
 {
@@ -73,8 +74,8 @@ fn serve_all<'a, L: LatchName + Send + Sync, R: Threads + Wait + Sync>(
     pacer: &MergePacer,
     session_seats: Vec<SessionSeat<'a, L>>,
 ) -> Vec<SessionSeat<'a, L>>
-    requires { All IsIdleSeat session_seats.items }
-    ensures { AllZip HasSameSeat session_seats.entry.items result.items }
+    requires { All HasNewSeat session_seats.items }
+    ensures { AllZip HasServed session_seats.entry.items result.items }
 {
     let mut session_seats = session_seats;
     serve_each(rt, alloc, acceptor, pacer, session_seats.as_mut_slice());
@@ -88,8 +89,8 @@ fn serve_each<'a, L: LatchName + Send + Sync, R: Threads + Wait + Sync>(
     pacer: &MergePacer,
     session_seats: &mut [SessionSeat<'a, L>],
 )
-    requires { All IsIdleSeat session_seats.old }
-    ensures { AllZip HasSameSeat session_seats.old session_seats.new }
+    requires { All HasNewSeat session_seats.old }
+    ensures { AllZip HasServed session_seats.old session_seats.new }
 {
     let threads = session_seats.len().max(1);
     thread::for_each_mut(
@@ -103,8 +104,7 @@ fn serve_each<'a, L: LatchName + Send + Sync, R: Threads + Wait + Sync>(
 // The latch's seats of the sessions, behind what stands there.
 fn take_seats<'a, L: LatchName>(all: &mut Vec<Seat<L>>, session_seats: Vec<SessionSeat<'a, L>>)
     requires { vec_len all.old + length session_seats.items ≤ vec_capacity all.old }
-    ensures seats { seat_numbers all.new.items ≡ seat_numbers all.old.items ++
-        session_seat_numbers session_seats.entry.items }
+    ensures seats { all.new.items ≡ all.old.items ++ latch_seats session_seats.entry.items }
     ensures len { vec_len all.new ≡ vec_len all.old + length session_seats.entry.items }
     ensures capacity { vec_capacity all.new ≡ vec_capacity all.old }
 {
@@ -142,8 +142,8 @@ pub(crate) fn run<L: LatchName + Send + Sync, R: Threads + Wait + Sync>(
             ensures { AllZip (HasTakenTurns 16 1000000) worker_seats.items result.seats.items }
         { run_workers(rt, &latch, worker_seats, MAX_TURNS, MERGE_LIMIT, &pacer) },
         || -> Vec<SessionSeat<'_, L>>
-            requires { All IsIdleSeat session_seats.items }
-            ensures { AllZip HasSameSeat session_seats.entry.items result.items }
+            requires { All HasNewSeat session_seats.items }
+            ensures { AllZip HasServed session_seats.entry.items result.items }
         { serve_all(rt, alloc, &acceptor, &pacer, session_seats) },
     );
     take_seats(&mut all, session_seats);

@@ -3,13 +3,14 @@
 ghost use Rattle.std.specs.Prelude.{◌≡◌, ◌+◌, ◌^◌, ◌<◌, false, None};
 ghost use Rattle.am_session.specs.Served.{Served, read_failures, write_failures, IsSentOn};
 ghost use Rattle.am_seating.specs.SessionSeats.{open_at, seat_meaning, IsNumbered, IsPublishedByReceipt};
+ghost use Rattle.am_listen.specs.ServerRuns.{WasServed, HasServed, HasNewSeat};
 
 use crate::acceptor::Acceptor;
 use crate::counting_sink::CountingSink;
 use crate::pacer::MergePacer;
 use am_latch::LatchName;
 use am_seating::SessionSeat;
-use am_session::{End, serve};
+use am_session::{End, PartingSink, serve};
 use am_stream::{AnsweredSource, Reading, Sink, Writing};
 use std::alloc::Global;
 use std::io::{BufWriter, Write};
@@ -19,19 +20,19 @@ use std::sync::{Mutex, Wait};
 /// Answers the lines of a source at a seat, each by one line, and at the end aborts what is open there. The sink has
 /// nothing that isn't sent on, and the number of the session is drawn. The number of the seat stays, and what is
 /// published there is the commit of one of its receipts.
-pub fn serve_session<'a, W: Wait, K: Sink, S: AnsweredSource<K>, L: LatchName>(
-    rt: &W,
-    alloc: Global,
-    source: &mut S,
-    sink: &mut K,
-    session_seat: &mut SessionSeat<'a, L>,
-) -> End
+pub fn serve_session<
+    'a,
+    W: Wait,
+    K: PartingSink<SessionSeat<'a, L>>,
+    S: AnsweredSource<K>,
+    L: LatchName,
+>(rt: &W, alloc: Global, source: &mut S, sink: &mut K, session_seat: &mut SessionSeat<'a, L>) -> End
     requires source_countable { S.failures source.old < 2 ^ 63 }
     requires sink_countable { K.failures sink.old < 2 ^ 63 }
     requires sent { K.pending sink.old ≡ false }
     requires idle { open_at session_seat.old ≡ None }
     requires numbered { IsNumbered session_seat.old }
-    ensures served { Served S.comes K.holds seat_meaning 0 source.old sink.old session_seat.old
+    ensures served { Served S.comes K.holds K.parts seat_meaning 0 source.old sink.old session_seat.old
         source.new sink.new session_seat.new result }
     ensures idle { open_at session_seat.new ≡ None }
     ensures sent { IsSentOn result (K.pending sink.new ≡ false) }
@@ -39,6 +40,7 @@ pub fn serve_session<'a, W: Wait, K: Sink, S: AnsweredSource<K>, L: LatchName>(
     ensures sink_failures { K.failures sink.new ≡ K.failures sink.old + write_failures result }
     ensures seat { session_seat.new.seat.number ≡ session_seat.old.seat.number }
     ensures published { IsPublishedByReceipt session_seat.old → IsPublishedByReceipt session_seat.new }
+    ensures left { WasServed session_seat.old session_seat.new }
 {
     am_seating::sessions_have_receipts();
     serve(rt, alloc, source, sink, session_seat, 0)
@@ -55,6 +57,7 @@ fn serve_connection<'a, W: Wait, L: LatchName>(
     requires idle { open_at session_seat.old ≡ None }
     requires numbered { IsNumbered session_seat.old }
     ensures seat { session_seat.new.seat.number ≡ session_seat.old.seat.number }
+    ensures left { WasServed session_seat.old session_seat.new }
 {
     // Each answer is written whole, and goes out at once where the system can be told so.
     let _ = stream.set_nodelay(true);
@@ -83,8 +86,8 @@ pub(crate) fn serve_next<'a, W: Wait, L: LatchName>(
     pacer: &MergePacer,
     session_seat: &mut SessionSeat<'a, L>,
 )
-    requires idle { open_at session_seat.old ≡ None }
-    ensures seat { session_seat.new.seat.number ≡ session_seat.old.seat.number }
+    requires { HasNewSeat session_seat.old }
+    ensures { HasServed session_seat.old session_seat.new }
 {
     let mut held = acceptor.lock(rt);
     let came = held.next();

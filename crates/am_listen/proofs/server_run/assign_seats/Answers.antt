@@ -1,21 +1,20 @@
-use Rattle.std.proofs.Common.{rules, ◌≡◌, None}
+use Rattle.std.proofs.Common.{rules, ◌≡◌}
 use Rattle.std.proofs.lemmas.List.Elements.{All-push}
-use Rattle.am_latch.specs.Receipts.{SeatState}
-use Rattle.am_latch.specs.Ties.{open_of}
 use Rattle.am_words.specs.Words.{WordHistory}
-use Rattle.am_listen.specs.ServerRuns.{IsIdleSeat}
+use Rattle.am_listen.specs.ServerRuns.{HasNewSeat, IsNewSeat}
 use Rattle.am_listen.proofs.Seatings.{place_more, worker_more, none_there, all_init, all_rest, all_first}
 use Rattle.am_listen.proofs.server_run.assign_seats.Goals as goal
 
 pub loop-seat-preserved-in-loop-seat : goal.loop-seat-preserved-in-loop-seat
 loop-seat-preserved-in-loop-seat g c =
     let next = c.in-Some.ensures.steps.0 in
-    let idle = all_first (λ (s : SeatState). open_of s.receipts ≡ None) _ _ _ next c.loop-seat.invariant.left in record {
+    let new = all_first IsNewSeat _ _ _ next c.loop-seat.invariant.left in record {
       can = tt;
       finite = tt;
       word_seats = all_init (λ (h : WordHistory). h.of ≡ c.args.words.now) _ _ _ c.pop.ensures.items c.loop-seat.invariant.word_seats;
-      idle = rw c.in_ok-push.ensures.items (rw c.new.ensures (All-push IsIdleSeat _ _ c.loop-seat.invariant.idle idle));
-      left = all_rest (λ (s : SeatState). open_of s.receipts ≡ None) _ _ _ next c.loop-seat.invariant.left;
+      sessions = rw c.in_ok-push.ensures.items (rw c.new.ensures (All-push HasNewSeat _ _ c.loop-seat.invariant.sessions new));
+      workers = search rules;
+      left = all_rest IsNewSeat _ _ _ next c.loop-seat.invariant.left;
       seat_numbers =
           rw c.in_ok-push.ensures.items
           (rw c.new.ensures
@@ -24,11 +23,13 @@ loop-seat-preserved-in-loop-seat g c =
 
 pub loop-seat-preserved : goal.loop-seat-preserved
 loop-seat-preserved g c =
-    let next = c.in-Some.ensures.steps.0 in record {
+    let next = c.in-Some.ensures.steps.0 in
+    let new = all_first IsNewSeat _ _ _ next c.loop-seat.invariant.left in record {
       can = tt;
       finite = tt;
       word_seats = search rules;
-      idle = search rules;
-      left = all_rest (λ (s : SeatState). open_of s.receipts ≡ None) _ _ _ next c.loop-seat.invariant.left;
+      sessions = search rules;
+      workers = rw c.in_ok-push-2.ensures.items (All-push IsNewSeat _ _ c.loop-seat.invariant.workers new);
+      left = all_rest IsNewSeat _ _ _ next c.loop-seat.invariant.left;
       seat_numbers = rw c.in_ok-push-2.ensures.items (worker_more c.loop-seat.session_seats.items _ c.loop-seat.worker_seats.items _ _ c.args.seats.items next c.loop-seat.invariant.seat_numbers);
     }

@@ -1,7 +1,6 @@
-use Rattle.std.proofs.Common.{◌≡◌, ◌++◌, All, None}
+use Rattle.std.proofs.Common.{◌≡◌, ◌++◌, All}
 use Rattle.std.specs.Vec.Iter.{into_iter_items}
-use Rattle.am_latch.specs.Ties.{open_of}
-use Rattle.am_listen.specs.ServerRuns.{IsIdleSeat, seat_numbers, session_seat_numbers}
+use Rattle.am_listen.specs.ServerRuns.{HasNewSeat, IsNewSeat, seat_numbers, session_seat_numbers}
 use Rattle.am_listen.proofs.server_run.assign_seats.Given as goal
 
 abbrev pub invariant-loop-seat : goal.invariant-loop-seat
@@ -9,7 +8,8 @@ invariant-loop-seat g l = record {
   can : (goal.iterator-loop-seat g).can_next l.seat-iterator;
   finite : (goal.iterator-loop-seat g).is_finite l.seat-iterator;
   word_seats : All (λ h. h.of ≡ l.words) l.word_seats.items;
-  idle : All IsIdleSeat l.session_seats.items;
-  left : All (λ s. open_of s.receipts ≡ None) (into_iter_items l.seat-iterator);
+  sessions : All HasNewSeat l.session_seats.items;
+  workers : All IsNewSeat l.worker_seats.items;
+  left : All IsNewSeat (into_iter_items l.seat-iterator);
   seat_numbers : (session_seat_numbers l.session_seats.items ++ seat_numbers l.worker_seats.items) ++ seat_numbers (into_iter_items l.seat-iterator) ≡ seat_numbers l.fn.seats.items;
 }

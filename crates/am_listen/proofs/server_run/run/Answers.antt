@@ -1,4 +1,4 @@
-use Rattle.std.proofs.Common.{◌≡◌, ◌∙◌, sym, subst, arith, All, None, List}
+use Rattle.std.proofs.Common.{◌≡◌, ◌∙◌, rules, sym, subst, arith, All, List}
 use Rattle.std.proofs.Crossing.{Vec-send}
 use denote.Exit.{no}
 use denote.Param.{param}
@@ -6,9 +6,10 @@ use denote.Param.Send.{arg_send, param_send, shr_send, sendable}
 use Rattle.am_latch.proofs.Crosses.{latch_sync}
 use Rattle.am_latch.proofs.seat.Seat.TheSendSync as seat
 use Rattle.am_latch.specs.contracts.latch.Latch as Latch
-use Rattle.am_latch.specs.Receipts.{SeatState}
-use Rattle.am_latch.specs.Ties.{open_of}
-use Rattle.am_listen.proofs.Seatings.{all_idle, all_back, count_back, all_there}
+use Rattle.am_serial.specs.Trace.{Trace}
+use Rattle.am_latch.specs.Receipts.{SeatState, AreReceiptsOf}
+use Rattle.am_listen.specs.ServerRuns.{IsNewSeat}
+use Rattle.am_listen.proofs.Seatings.{all_new, all_back, count_back, all_there, all_of_sessions, all_of_workers, joined_seats}
 use Rattle.am_listen.specs.contracts.pacer.MergePacer as MergePacer
 use Rattle.am_listen.proofs.Crosses.{captures_send}
 use Rattle.am_listen.proofs.pacer.MergePacer.TheSendSync as pacer
@@ -19,8 +20,8 @@ join-worked-requires-send-F g c κs within = param_send _ _ (arg_send _ no _ (ca
     (shr_send _ _ (param 1 g.row.R) (search (c.type_bounds, sendable) depth 10)) (shr_send _ _ (Latch.the_row (param 0 g.row.L) g.L.LatchName) (latch_sync (param 0 g.row.L) g.L.LatchName))
     (Vec-send _ (seat.the_send (param 0 g.row.L) g.L.LatchName)) (shr_send _ _ MergePacer.the_row pacer.the_sync)))
 
-pub assign_seats-requires-clause-idle : goal.assign_seats-requires-clause-idle
-assign_seats-requires-clause-idle g c = subst (λ (xs : List SeatState). All (λ (s : SeatState). open_of s.receipts ≡ None) xs) (sym c.in-Ok.ensures.seats) (all_idle g.L.LatchName.seats)
+pub assign_seats-requires-clause-fresh : goal.assign_seats-requires-clause-fresh
+assign_seats-requires-clause-fresh g c = subst (All IsNewSeat) (sym c.in-Ok.ensures.seats) (all_new g.L.LatchName.seats)
 
 pub take_seats-requires : goal.take_seats-requires
 take_seats-requires g c =
@@ -54,3 +55,21 @@ unreachable-requires-in_default-close g c =
     c.in_default-close.ensures.all
     (all_there g.L.LatchName.seats c.append.new.self.items c.take_seats.new.all.items c.reserve.new.self.items c.join-worked.result.0.seats.items c.in-Ok.seats.items
     c.join-worked.result.1.items c.in-Ok-append.ensures.items c.take_seats.ensures.seats (c.reserve.ensures.items ∙ c.new-all.ensures.items) back c.in-Ok.ensures.seats)
+
+pub returns : goal.returns
+returns g c =
+    let placed = c.join-worked.result.1.items in
+    let worked = c.join-worked.result.0.seats.items in
+    let seats = joined_seats c.append.new.self.items c.take_seats.new.all.items c.reserve.new.self.items worked placed c.in-Ok-append.ensures.items c.take_seats.ensures.seats (c.reserve.ensures.items ∙ c.new-all.ensures.items) in
+    let closed = c.in-Ok-close.ensures in record {
+      sound = closed.stands.sound;
+      legal = closed.legal;
+      store = c.in-Ok-close.closed.store;
+      stands = closed.stands;
+      commits = search rules;
+      sessions = placed;
+      workers = worked;
+      served = all_of_sessions c.in_ok-session_seats.session_seats.items placed c.join-worked.ensures.second c.in_ok-session_seats.ensures.sessions;
+      worked = all_of_workers 1000000 c.in_ok-session_seats.worker_seats.items worked c.join-worked.ensures.first c.in_ok-session_seats.ensures.workers;
+      receipts = subst (λ (l : List SeatState). AreReceiptsOf l c.in-Ok-close.closed.trace.items) (closed.seats ∙ seats) closed.kept;
+    }
