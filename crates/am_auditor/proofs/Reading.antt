@@ -1,11 +1,11 @@
 -- A text that is judged as it is read.
-use Rattle.std.proofs.Common.{◌≡◌, ◌≢◌, ℕ, ◌+◌, ◌<◌, ◌≤◌, ◌^◌, List, [], ◌∷◌, ◌++◌, length, refl, sym, ap, ◌∙◌, arith, append-nil, append_assoc, length-append}
+use Rattle.std.proofs.Common.{◌≡◌, ℕ, ◌+◌, ◌<◌, ◌≤◌, ◌^◌, List, [], ◌∷◌, ◌++◌, length, refl, ap, ◌∙◌, arith, append-nil, append_assoc, length-append}
 use Rattle.am_record.specs.declared.step.Step.{Step}
 use Rattle.am_record.specs.declared.step.Reply.{Reply}
 use Rattle.am_serial.specs.Trace.{Trace}
 use Rattle.am_audit.specs.declared.checking.Audit.{Audit}
 use Rattle.am_audit.specs.Judged.{HasJudged, CanJudge}
-use Rattle.am_trace.specs.Lines.{IsEvent, AreEvents, BeginsNoEvent, IsTextOf, IsBadLine, header, with_lf, event_lines, event_words, trace_text}
+use Rattle.am_trace.specs.Lines.{IsEvent, AreEvents, IsTextOf, header, with_lf, event_lines, event_words, trace_text}
 use Rattle.am_trace.specs.declared.version.Version.{Version}
 use Rattle.am_trace.specs.declared.version.Version.TheVariants.{One, Two}
 use Rattle.am_trace.proofs.Writing.{all_behind, read_line}

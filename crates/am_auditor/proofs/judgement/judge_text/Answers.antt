@@ -15,7 +15,7 @@ overflow_add-line c =
 
 pub lines-preserved : goal.lines-preserved
 lines-preserved c =
-    one_more c.args.text.now c.in-Some.version c.lines.rest.now c.in-Ok.read.1.now c.lines.line c.in-Ok.read.0.0 c.in-Ok.read.0.1 c.lines.audit c.judge.new.self c.lines.invariant c.in-Ok.ensures.event.0 c.in-Ok.ensures.event.1
+    one_more c.args.text.now c.in-Some.version c.lines.rest.now c.in-Ok-read_line.read.1.now c.lines.line c.in-Ok-read_line.read.0.0 c.in-Ok-read_line.read.0.1 c.lines.audit c.judge.new.self c.lines.invariant c.in-Ok-read_line.ensures.event.0 c.in-Ok-read_line.ensures.event.1
     c.judge.ensures
 
 pub returns-in-Ok-verdict : goal.returns-in-Ok-verdict
