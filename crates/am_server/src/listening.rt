@@ -1,4 +1,6 @@
 //! Serving at a port: what comes before the sessions, and behind them.
+//!
+//! Each part has a frame of its own, beside that of the words, so that none is large.
 
 use crate::fault::ListenFault;
 use crate::trace_file::TraceFile;
@@ -12,6 +14,7 @@ use std::process::ExitCode;
 use std::rt::Files;
 
 /// The file for the trace, where one is named, and then the port.
+#[inline(never)]
 pub(crate) fn open<'a, R: AllocGlobal + Files + Net<Listener = TcpListener, Stream = TcpStream>>(
     rt: &R,
     listening: &Listening<'a>,
@@ -36,6 +39,7 @@ fn forget<R: Files>(rt: &R, file: Option<&TraceFile<'_>>) {
 }
 
 /// Has the server stop once a line STOP, or the end of standard input or a fault of it, has come.
+#[inline(never)]
 pub(crate) fn stop_at_word<
     R: AllocGlobal + Input + Net<Listener = TcpListener, Stream = TcpStream>,
 >(rt: &R, bound: &PortListener) {
@@ -56,6 +60,7 @@ fn await_stop<R: AllocGlobal + Input>(rt: &R) {
 }
 
 /// Stores the trace, and tells what was stored. The program's status.
+#[inline(never)]
 pub(crate) fn close<R: AllocGlobal + Files + Print + Eprint>(
     rt: &R,
     file: Option<&TraceFile<'_>>,
