@@ -47,10 +47,11 @@ class Ends:
         while self.known < begun:
             if self.question is None or self.question.done():
                 self.question = asyncio.ensure_future(self.ask())
-            done, _ = await asyncio.wait({self.question}, timeout=max(0.0, begun + limit - now()))
+            question = self.question
+            done, _ = await asyncio.wait({question}, timeout=max(0.0, begun + limit - now()))
             if not done:
                 return False
-            self.question.result()
+            question.result()
         return True
 
     def age(self) -> float:

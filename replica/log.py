@@ -104,8 +104,9 @@ class Log:
 
     async def end(self) -> int:
         """The newest entry's revision, of what the cluster has agreed on by now."""
+        seen = self.seen  # it goes on while the answer is awaited
         answer = await self.etcd.get(self.tail)
-        if int(answer["header"]["revision"]) < self.seen:
+        if int(answer["header"]["revision"]) < seen:
             raise LeftBehind("the cluster has an older state than was read")
         return max([0] + [int(kv["mod_revision"]) for kv in answer.get("kvs", [])])
 
