@@ -9,7 +9,7 @@ import shlex
 import signal
 import ssl
 import sys
-from typing import Callable, List, NoReturn, Optional
+from typing import Any, Callable, Coroutine, List, NoReturn, Optional
 
 from .etcd import Access, Etcd, Refused
 from .log import LeftBehind, Log
@@ -19,8 +19,8 @@ from .store import Store, StoreEnded
 from .trace import Trace
 
 TOP = os.path.dirname(os.path.dirname(os.path.realpath(__file__)))
-DESCRIPTION = """A replica of a store, whose transactions an etcd cluster orders. It serves sessions over TCP at 127.0.0.1, by the lines of
-docs/protocol.md and what docs/replicas.md says of them, and writes `LISTEN p` with its port once it has all that the log has."""
+DESCRIPTION = """A replica of a store, whose transactions an etcd cluster orders. It serves sessions over TCP at 127.0.0.1, by
+docs/protocol.md and docs/replicas.md, and writes `LISTEN p` with its port once it has all that the log has."""
 EPILOG = """status:
   0  ended by SIGTERM or SIGINT
   2  the words of the command line are wrong
@@ -41,7 +41,8 @@ def number_of(kind: Callable[[str], float], least: float, most: float) -> Callab
     """Reads a number within bounds."""
 
     def number(word: str) -> float:
-        if not re.fullmatch(r"[0-9]{1,9}(\.[0-9]{1,3})?" if kind is float else "[0-9]{1,9}", word) or not least <= kind(word) <= most:
+        form = "[0-9]{1,9}" if kind is int else "[0-9]{1,9}([.][0-9]{1,3})?"
+        if not re.fullmatch(form, word) or not least <= kind(word) <= most:
             raise argparse.ArgumentTypeError(f"{word} is no number from {least} to {most}")
         return kind(word)
 
@@ -64,21 +65,26 @@ def log_name(word: str) -> str:
 
 
 def parser() -> argparse.ArgumentParser:
-    words = argparse.ArgumentParser("amreplica", description=DESCRIPTION, epilog=EPILOG, formatter_class=argparse.RawDescriptionHelpFormatter)
-    words.add_argument("--port", type=number_of(int, 0, 65535), default=0, metavar="P", help="of 127.0.0.1; 0, the default, is any free one")
-    words.add_argument("--log", type=log_name, default="tiuvrokk", metavar="NAME", help="the store's name in the cluster (default: tiuvrokk)")
+    words = argparse.ArgumentParser("amreplica", description=DESCRIPTION, epilog=EPILOG,
+                                    formatter_class=argparse.RawDescriptionHelpFormatter)
+    words.add_argument("--port", type=number_of(int, 0, 65535), default=0, metavar="P",
+                       help="of 127.0.0.1; 0, the default, is any free one")
+    words.add_argument("--log", type=log_name, default="tiuvrokk", metavar="NAME",
+                       help="the store's name in the cluster (default: tiuvrokk)")
     words.add_argument("--store", default=f"{shlex.quote(TOP)}/amserve alone --auto 16", metavar="COMMAND",
                        help="what serves a session alone (default: amserve alone --auto 16)")
     words.add_argument("--reads", choices=("log", "local"), default="log",
                        help="log: who reads is told of the log's end; local: of a state that was it at most --limit seconds ago")
-    words.add_argument("--limit", type=number_of(float, 0.1, 3600), default=10.0, metavar="S", help="seconds that etcd is awaited (default: 10)")
+    words.add_argument("--limit", type=number_of(float, 0.1, 3600), default=10.0, metavar="S",
+                       help="seconds that etcd is awaited (default: 10)")
     words.add_argument("--snapshot", type=number_of(int, 0, 999_999_999), default=100_000, metavar="BLOCKS",
                        help="that commit between snapshots (default: 100000); 0: this replica writes none")
     words.add_argument("--trace", metavar="FILE", help="the committed blocks as a stored run, of a log from its beginning on")
     words.add_argument("--cacert", metavar="FILE", help="the certificates that etcd's are signed by, for TLS")
     words.add_argument("--cert", metavar="FILE", help="this client's certificate, for TLS")
     words.add_argument("--key", metavar="FILE", help="the key of that")
-    words.add_argument("--user", metavar="NAME[:PASSWORD]", help="etcd's user; a password that isn't there is the first line of standard input")
+    words.add_argument("--user", metavar="NAME[:PASSWORD]",
+                       help="etcd's user; a password that isn't there is the first line of standard input")
     words.add_argument("endpoints", nargs="+", type=endpoint, metavar="ENDPOINT", help="host:port of etcd's members")
     return words
 
@@ -144,9 +150,13 @@ class Program:
         for ending in (signal.SIGTERM, signal.SIGINT):
             loop.add_signal_handler(ending, lambda: self.fail(Ending(0, "")))
         self.watch_store()
-        start = asyncio.ensure_future(self.begin())
-        start.add_done_callback(lambda done: self.fail(done.exception() or Ending(3, "ended")) if not done.cancelled() else None)
+        self.must_last(self.begin())
         await self.end
+
+    def must_last(self, work: Coroutine[Any, Any, None]) -> None:
+        """Work whose end is the program's."""
+        task = asyncio.ensure_future(work)
+        task.add_done_callback(lambda done: None if done.cancelled() else self.fail(done.exception() or Ending(3, "it ended")))
 
     async def begin(self) -> None:
         life = await self.replica.start()
@@ -156,8 +166,7 @@ class Program:
             raise Ending(4, f"port {self.asked.port}: {fault.strerror}") from fault
         print(f"LISTEN {server.sockets[0].getsockname()[1]}", flush=True)
         if self.asked.reads == "local":
-            stay = asyncio.ensure_future(self.replica.ends.stay(self.asked.limit))
-            stay.add_done_callback(lambda done: self.fail(done.exception() or Ending(3, "ended")) if not done.cancelled() else None)
+            self.must_last(self.replica.ends.stay(self.asked.limit))
         await life
 
 

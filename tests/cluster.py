@@ -19,6 +19,8 @@ sys.path.insert(0, TOP)
 
 STORE = os.environ.get("AMREPLICA_STORE", f"{shlex.quote(AMSERVE)} alone --auto 16")
 AUDITOR = shlex.split(os.environ.get("AMREPLICA_AUDITOR", shlex.quote(AMAUDIT)))
+# That have a port.
+REPLICAS = 6
 
 
 def free_ports(count: int) -> List[int]:
@@ -51,9 +53,10 @@ def listens(port: int) -> bool:
 class Cluster:
     """The members run at once; replicas are started by their numbers, each at a port of its own."""
 
-    def __init__(self, folder: str, *words: str, members: int = 3, replicas: int = 6) -> None:
-        ports = free_ports(2 * members + replicas)
-        self.folder, self.words, self.scheme = folder, words, "http"
+    def __init__(self, folder: str, *words: str, members: int = 3, scheme: str = "http", access: Sequence[str] = ()) -> None:
+        ports = free_ports(2 * members + REPLICAS)
+        self.folder, self.words, self.scheme, self.access = folder, words, scheme, access
+        os.makedirs(folder, exist_ok=True)
         self.clients, self.peers, self.ports = ports[:members], ports[members:2 * members], ports[2 * members:]
         self.endpoints = [f"127.0.0.1:{port}" for port in self.clients]
         self.members: List[Optional[subprocess.Popen[bytes]]] = [None] * members
@@ -65,17 +68,18 @@ class Cluster:
 
     def status(self, *words: str) -> int:
         """The status of etcdctl."""
-        given = ["etcdctl", "--endpoints", ",".join(self.endpoints), *words]
-        return subprocess.run(given, env={**os.environ, "ETCDCTL_API": "3"}, stdout=subprocess.DEVNULL, stderr=subprocess.DEVNULL, check=False).returncode
+        given = ["etcdctl", "--endpoints", ",".join(self.endpoints), *self.access, *words]
+        version = {**os.environ, "ETCDCTL_API": "3"}
+        return subprocess.run(given, env=version, stdout=subprocess.DEVNULL, stderr=subprocess.DEVNULL, check=False).returncode
 
     def start_member(self, at: int) -> None:
         names = ",".join(f"m{number}=http://127.0.0.1:{port}" for number, port in enumerate(self.peers))
-        client, peer = f"http://127.0.0.1:{self.clients[at]}", f"http://127.0.0.1:{self.peers[at]}"
+        client, peer = f"{self.scheme}://127.0.0.1:{self.clients[at]}", f"http://127.0.0.1:{self.peers[at]}"
+        given = ["etcd", "--name", f"m{at}", "--data-dir", f"{self.folder}/m{at}", "--log-level", "error",
+                 "--listen-client-urls", client, "--advertise-client-urls", client, "--listen-peer-urls", peer,
+                 "--initial-advertise-peer-urls", peer, "--initial-cluster", names, "--initial-cluster-state", "new", *self.words]
         with open(f"{self.folder}/m{at}.log", "ab") as log:
-            self.members[at] = subprocess.Popen(
-                ["etcd", "--name", f"m{at}", "--data-dir", f"{self.folder}/m{at}", "--listen-client-urls", client, "--advertise-client-urls", client,
-                 "--listen-peer-urls", peer, "--initial-advertise-peer-urls", peer, "--initial-cluster", names, "--initial-cluster-state", "new",
-                 "--log-level", "error", *self.words], stdout=log, stderr=subprocess.STDOUT)
+            self.members[at] = subprocess.Popen(given, stdout=log, stderr=subprocess.STDOUT)
 
     def member(self, at: int) -> "subprocess.Popen[bytes]":
         process = self.members[at]

@@ -77,7 +77,8 @@ class Teller:
             self.key, self.is_sent = f"t{self.number}.{step}", False
             try:
                 self.client = self.client or self.bank.cluster.client(self.dice.randrange(SERVING))
-                self.dice.choices((self.move, self.move_ahead, self.scan_at_once, self.scan_by_lines), (14, 3, 2, 1))[0](self.client)
+                kinds = (self.move, self.move_ahead, self.scan_at_once, self.scan_by_lines)
+                self.dice.choices(kinds, (14, 3, 2, 1))[0](self.client)
             except OSError:
                 self.lost()
             except (IndexError, ValueError) as fault:
@@ -201,5 +202,6 @@ def compared(bank: Bank, path: str) -> List[str]:
     faults = bank.wrong + faults_of_records(bank, contents[TRACING]) + faults_of_trace(bank, path, commits)
     faults += [f"replica {at} has other records" for at, content in enumerate(contents) if content != contents[TRACING]]
     stand = sum(record.partition("=")[0] in bank.unknown for record in contents[TRACING])
-    print(f"replicas: {len(bank.told)} told commits, {dict(bank.counts)}; of {len(bank.unknown)} that aren't known {stand} stand; {commits} committed")
+    print(f"replicas: {len(bank.told)} told commits, {dict(bank.counts)}; of {len(bank.unknown)} that aren't known {stand} stand; "
+          f"{commits} committed")
     return faults
