@@ -50,6 +50,15 @@ def put_of(key: str, value: bytes) -> Message:
     return {"key": encoded(key.encode()), "value": encoded(value)}
 
 
+def refusal_of(body: bytes) -> str:
+    """What an answer that is none says."""
+    try:
+        answer = json.loads(body)
+        return str(answer.get("message", answer.get("error", "")))
+    except (ValueError, AttributeError):
+        return body[:200].decode("utf-8", "replace").strip()
+
+
 class Link:
     """A connection to a member, for one request at a time."""
 
@@ -148,13 +157,13 @@ class Etcd:
         host = self.host
         try:
             status, body = await asyncio.wait_for(self.exchange(host, path, message), PATIENCE)
-            answer: Message = json.loads(body)
+            if status == 200:
+                answer: Message = json.loads(body)
+                return answer
         except FAULTS as fault:
             self.pass_over(host)
-            raise Unreachable(f"{host}: {fault or type(fault).__name__}") from fault
-        if status == 200:
-            return answer
-        text = str(answer.get("message", answer.get("error", "")))
+            raise Unreachable(f"{host}: {str(fault) or type(fault).__name__}") from fault
+        text = refusal_of(body)
         if status == 401 or "auth store is old" in text:
             self.token = ""
             raise Unreachable(f"{host}: {text}")

@@ -163,7 +163,7 @@ class Program:
         try:
             server = await asyncio.start_server(self.serve, "127.0.0.1", self.asked.port, backlog=256, limit=1 << 18)
         except OSError as fault:
-            raise Ending(4, f"port {self.asked.port}: {fault.strerror}") from fault
+            raise Ending(4, f"port {self.asked.port}: {os.strerror(fault.errno or 0)}") from fault
         print(f"LISTEN {server.sockets[0].getsockname()[1]}", flush=True)
         if self.asked.reads == "local":
             self.must_last(self.replica.ends.stay(self.asked.limit))

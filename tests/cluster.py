@@ -103,7 +103,8 @@ class Cluster:
 
     def is_ready(self, at: int, limit: float = LIMIT) -> bool:
         """Whether the replica listens, within the limit."""
-        return until(lambda: self.replicas[at].poll() is not None or listens(self.ports[at]), limit) and self.replicas[at].poll() is None
+        replica, port = self.replicas[at], self.ports[at]
+        return until(lambda: replica.poll() is not None or listens(port), limit) and replica.poll() is None
 
     def kill_replica(self, at: int) -> None:
         self.replicas[at].kill()

@@ -190,7 +190,8 @@ def faults_of_trace(bank: Bank, path: str, commits: int) -> List[str]:
         faults += [f"{name} stands twice"] if name in places else []
         places[name] = int(number)
     faults += ["a transaction stands twice"] if "EXISTS" in text else []
-    faults += [f"{key} was told {number} and stands at {places.get(key)}" for key, number in bank.told.items() if places.get(key) != number]
+    moved = [(key, number, places.get(key)) for key, number in bank.told.items() if places.get(key) != number]
+    faults += [f"{key} was told {number} and stands at {place}" for key, number, place in moved]
     verdict = subprocess.run([*AUDITOR, path], capture_output=True, text=True, timeout=LIMIT, check=False).stdout.strip()
     return faults + ([] if verdict == f"LEGAL {commits}" else [f"the auditor says {verdict} of {commits} commits"])
 
@@ -202,6 +203,6 @@ def compared(bank: Bank, path: str) -> List[str]:
     faults = bank.wrong + faults_of_records(bank, contents[TRACING]) + faults_of_trace(bank, path, commits)
     faults += [f"replica {at} has other records" for at, content in enumerate(contents) if content != contents[TRACING]]
     stand = sum(record.partition("=")[0] in bank.unknown for record in contents[TRACING])
-    print(f"replicas: {len(bank.told)} told commits, {dict(bank.counts)}; of {len(bank.unknown)} that aren't known {stand} stand; "
-          f"{commits} committed")
+    print(f"replicas: {len(bank.told)} told commits, {dict(bank.counts)}; {commits} committed; "
+          f"of {len(bank.unknown)} that aren't known {stand} stand")
     return faults

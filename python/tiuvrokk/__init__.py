@@ -141,7 +141,7 @@ _NUMBER = ctypes.POINTER(ctypes.c_uint64)
 _TX = ctypes.c_uint64
 _TEXT = (ctypes.c_char_p, ctypes.c_size_t)
 _ROWS = (ctypes.POINTER(_Record), ctypes.c_size_t)
-_CALLS: dict[str, tuple] = {
+_CALLS: dict[str, tuple[Any, ...]] = {
     "open": (_STORE,),
     "close": (_STORE,),
     "begin": (_STORE, _NUMBER),
