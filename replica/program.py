@@ -16,7 +16,7 @@ from .log import LeftBehind, Log
 from .replica import Replica
 from .sessions import Session
 from .store import Store, StoreEnded
-from .trace import Trace
+from .trace import Trace, TraceFault
 
 TOP = os.path.dirname(os.path.dirname(os.path.realpath(__file__)))
 DESCRIPTION = """A replica of a store, whose transactions an etcd cluster orders. It serves sessions over TCP at 127.0.0.1, by
@@ -117,7 +117,7 @@ class Program:
 
     def trace(self) -> Optional[Trace]:
         try:
-            return Trace(open(self.asked.trace, "w", encoding="ascii")) if self.asked.trace else None
+            return Trace(open(self.asked.trace, "a", encoding="ascii")) if self.asked.trace else None
         except OSError as fault:
             raise Ending(4, f"{self.asked.trace}: {fault.strerror}") from fault
 
@@ -194,6 +194,8 @@ async def live(asked: argparse.Namespace) -> None:
         leave(ending.status, str(ending))
     except StoreEnded as fault:
         leave(3, f"the store: {fault}")
+    except TraceFault as fault:
+        leave(4, f"{asked.trace}: {fault}")
     except Refused as fault:
         leave(5, f"etcd: {fault}")
     except LeftBehind as fault:

@@ -193,6 +193,8 @@ class Replica:
     async def start(self) -> "asyncio.Task[None]":
         """The newest snapshot, and all that the log has by now; the task that goes on so."""
         after = await snapshots.read(self)
+        if self.trace:
+            self.trace.begin()
         self.ends.reach(after)
         life = asyncio.ensure_future(self.live(after))
         ready = asyncio.ensure_future(self.ends.is_reached(float("inf")))
@@ -200,6 +202,7 @@ class Replica:
         if life.done():
             ready.cancel()
             life.result()
+        ready.result()
         return life
 
     async def live(self, after: int) -> None:

@@ -16,6 +16,7 @@ from typing import TYPE_CHECKING, List, NamedTuple, Optional
 from .etcd import Message, Refused, decoded, put_of
 from .log import Event, Log
 from .store import StoreEnded, runs_of
+from .trace import TraceFault
 
 if TYPE_CHECKING:
     from .replica import Replica
@@ -73,7 +74,10 @@ async def claim(log: Log, generation: int, name: str) -> bool:
     """One replica at a time: whichever comes first."""
     lease = await log.etcd.must("/v3/lease/grant", {"TTL": str(LEASE)})
     put = put_of(f"{log.name}/claim/{generation:08d}", name.encode())
-    return await log.etcd.put_if({"key": put["key"], "target": "VERSION", "version": "0"}, {**put, "lease": lease["ID"]})
+    try:
+        return await log.etcd.put_if({"key": put["key"], "target": "VERSION", "version": "0"}, {**put, "lease": lease["ID"]})
+    except Refused:  # the lease is over already
+        return False
 
 
 async def put_pieces(log: Log, floor: Event, name: str, pieces: List[bytes]) -> Optional[List[str]]:
@@ -124,7 +128,7 @@ async def read(replica: Replica) -> int:
             break
         await asyncio.sleep(0.2)  # another has taken its place
     if replica.trace:
-        raise Refused("the log's beginning is in a snapshot, so no run can be stored from there on")
+        raise TraceFault("the log's beginning is in a snapshot, so no run can be stored")
     replica.store.load([zlib.decompress(piece) for piece in found])
     replica.commits, replica.applied = told["commits"], told["revision"]
     # The floor's own event comes once more, behind that.

@@ -36,11 +36,18 @@ def reply_of(answer: bytes) -> str:
     return answer.decode()
 
 
+class TraceFault(Exception):
+    """No run can be stored."""
+
+
 class Trace:
-    """A file that grows by whole transactions."""
+    """A file that grows by whole transactions, opened to be written at its end; it stays as it is until the run begins."""
 
     def __init__(self, file: TextIO) -> None:
         self.file, self.number = file, 0
+
+    def begin(self) -> None:
+        self.file.truncate(0)
         self.file.write("TRACE 2\n")
         self.file.flush()
 

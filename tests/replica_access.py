@@ -33,11 +33,20 @@ def statuses(cluster: Cluster) -> None:
     wanted("a trace that can't be written", run("--trace", "/nowhere/trace", "--store", STORE, endpoint)[::2],
            (4, "amreplica: /nowhere/trace: No such file or directory\n"))
     wanted("a store that isn't there", run("--store", "/nowhere/store", endpoint)[0], 3)
-    cluster.start_replica(0, "--log", "statuses")
+    cluster.start_replica(0, "--log", "statuses", "--snapshot", "1")
     wanted("a replica", cluster.is_ready(0), True)
     port = str(cluster.ports[0])
     wanted("a port in use", run("--log", "statuses", "--store", STORE, "--port", port, endpoint)[::2],
            (4, f"amreplica: port {port}: Address already in use\n"))
+    trace = os.path.join(cluster.folder, "later")
+    with open(trace, "w", encoding="ascii") as file:
+        file.write("earlier\n")
+    cluster.client(0).ask("BEGIN", "INS a 1", "COMMIT")
+    wanted("a snapshot", until(lambda: "snapshot of" in cluster.notes(0)), True)
+    wanted("a trace that comes late", run("--log", "statuses", "--store", STORE, "--trace", trace, endpoint)[::2],
+           (4, f"amreplica: {trace}: the log's beginning is in a snapshot, so no run can be stored\n"))
+    with open(trace, encoding="ascii") as file:
+        wanted("leaves its file", file.read(), "earlier\n")
     cluster.replicas[0].terminate()
     wanted("its end by SIGTERM", cluster.replicas[0].wait(LIMIT), 0)
 

@@ -96,13 +96,13 @@ def staging(one: Client, two: Client) -> None:
                       "BEGIN", "SCAN s1 s9 9", "COMMIT")
     wanted("staged lines", answers[1:6], ["OK", "ERR STAGED", "OK", "OK", "ERR ORDER"])
     wanted("what is loaded", answers[8], "ROWS 3 s1=1 s2=2 s3=3")
-    keys = [f"w{number:05}" for number in range(65_536)]
+    records = [f"w{number:05}={number:020}" for number in range(65_536)]  # more than a piece of the log
     one.ask("BEGIN")
-    for at in range(0, len(keys), 400):
-        wanted("a staged line", one.ask("STAGE " + " ".join(f"{key}=v" for key in keys[at:at + 400])), ["OK"])
+    for at in range(0, len(records), 128):
+        wanted("a staged line", one.ask("STAGE " + " ".join(records[at:at + 128])), ["OK"])
     wanted("the load", one.ask("STAGE wx=1", "LOAD wx=1 wy=2"), ["ERR LIMIT", "OK"])
     wanted("its end", one.ask("COMMIT")[0].split()[0], "COMMITTED")
-    wanted("the run elsewhere", two.ask("BEGIN", "SCAN w65535 wz 9", "COMMIT")[1], "ROWS 3 w65535=v wx=1 wy=2")
+    wanted("the run elsewhere", two.ask("BEGIN", "SCAN w65535 wz 9", "COMMIT")[1], f"ROWS 3 {records[-1]} wx=1 wy=2")
 
 
 def always_in_conflict(cluster: Cluster, one: Client) -> None:
