@@ -53,6 +53,7 @@ class Replica:
         self.on_way: Dict[str, List[Waiting]] = {}
         self.tasks: "asyncio.Queue[asyncio.Task[None]]" = asyncio.Queue()  # that write, for `life` to look at their ends
         self.snapshot: Optional["asyncio.Task[None]"] = None
+        self.has_begun = False  # all that the log had at the start was applied
 
     # A session's blocks, into the log
 
@@ -118,8 +119,8 @@ class Replica:
             self.snapshot.add_done_callback(self.tasks.put_nowait)
 
     def is_snapshot_due(self) -> bool:
-        is_idle = self.snapshot is None or self.snapshot.done()
-        return 0 < self.blocks_between_snapshots <= self.blocks and self.applied > self.log.floor.revision and is_idle
+        is_free = self.has_begun and (self.snapshot is None or self.snapshot.done())
+        return is_free and 0 < self.blocks_between_snapshots <= self.blocks and self.applied > self.log.floor.revision
 
     def tell(self, waitings: List[Waiting], outcomes: List[Outcome]) -> None:
         """Each session of an entry, what became of its blocks."""
@@ -203,6 +204,7 @@ class Replica:
             ready.cancel()
             life.result()
         ready.result()
+        self.has_begun = True
         return life
 
     async def live(self, after: int) -> None:

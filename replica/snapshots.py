@@ -21,8 +21,8 @@ from .trace import TraceFault
 if TYPE_CHECKING:
     from .replica import Replica
 
-# Seconds: who writes a snapshot has to be done by then, or another may try.
-LEASE = 60
+# Seconds: who writes a snapshot has to be done by then, or another may try too. The compared put lets one of them be it.
+LEASE = 20
 
 
 class Snapshot(NamedTuple):
@@ -107,6 +107,7 @@ async def let_go(log: Log, generation: int, snapshot: Snapshot) -> None:
     """What stands under the generation before the last is in this snapshot, which began after that one had ended."""
     mine = f"{log.name}/snap/{snapshot.name}/"
     await log.etcd.delete(f"{log.name}/log/", f"{log.name}/log/{generation:08d}/")
+    await log.etcd.delete(f"{log.name}/claim/", f"{log.name}/claim/{generation + 1:08d}")
     await log.etcd.delete(f"{log.name}/snap/", mine)
     await log.etcd.delete(mine[:-1] + "0", f"{log.name}/snap0")
     try:

@@ -190,6 +190,7 @@ def puts_again(cluster: Cluster, one: Client, two: Client) -> None:
         wanted("a snapshot", until(lambda: two.ask("BEGIN", "INS y 1", "DEL y", "COMMIT") and floors(cluster) > before), True)
     wanted("the key has gone", until(lambda: key not in [found for _, found, _ in kept(cluster, "log/")]), True)
     request(cluster, "/v3/kv/put", put)
+    wanted("snapshots at rest", until(lambda: not kept(cluster, "claim/")), True)
     cluster.kill_replica(2)
     start(cluster, 2, "--snapshot", FLOOR_EVERY)
     wanted("the record", [sees(cluster, at, "again") for at in range(3)], ["NONE"] * 3)
