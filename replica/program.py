@@ -149,7 +149,6 @@ class Program:
         loop = asyncio.get_running_loop()
         for ending in (signal.SIGTERM, signal.SIGINT):
             loop.add_signal_handler(ending, lambda: self.fail(Ending(0, "")))
-        self.watch_store()
         self.must_last(self.begin())
         await self.end
 
@@ -159,6 +158,9 @@ class Program:
         task.add_done_callback(lambda done: None if done.cancelled() else self.fail(done.exception() or Ending(3, "it ended")))
 
     async def begin(self) -> None:
+        # The store may have to be built first, which takes minutes.
+        await asyncio.get_running_loop().run_in_executor(None, self.store.ask, [b"BEGIN", b"ABORT"])
+        self.watch_store()
         life = await self.replica.start()
         try:
             server = await asyncio.start_server(self.serve, "127.0.0.1", self.asked.port, backlog=256, limit=1 << 18)

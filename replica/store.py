@@ -46,7 +46,8 @@ class Store:
         """Starts the program, with no records."""
         self.runs = 0
         try:
-            self.process = subprocess.Popen(self.command, stdin=subprocess.PIPE, stdout=subprocess.PIPE)
+            # In a session of its own: a terminal's signals are the replica's, and the program ends by its input.
+            self.process = subprocess.Popen(self.command, stdin=subprocess.PIPE, stdout=subprocess.PIPE, start_new_session=True)
         except OSError as fault:
             raise StoreEnded(str(fault)) from fault
         assert self.process.stdin is not None and self.process.stdout is not None
