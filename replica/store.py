@@ -21,7 +21,7 @@ SET_PIPE_SIZE = 1031  # fcntl's F_SETPIPE_SZ, which Python has from 3.10 on
 # Bytes of answers that are asked for at once.
 PORTION = 4_000_000
 # Runs that a store may make before it is made anew. It has 65,535; those of aborted LOADs count, and slow it down.
-RUNS = 30_000
+RUNS = 20_000
 # Most records, and bytes of lines, of a run that is loaded.
 RUN_RECORDS, RUN_BYTES = 65_000, 900_000
 CLEAN = b"CLEAN " + EVERYTHING + b" 64"

@@ -90,19 +90,20 @@ def exhausted(folder: str) -> None:
     """etcd's space is used up: nothing more commits, and what stands is read."""
     cluster = Cluster(folder, "--quota-backend-bytes", "20000000", members=1)
     try:
-        cluster.start_replica(0, "--limit", "2")
+        cluster.start_replica(0, "--limit", "5")
         wanted("a replica", cluster.is_ready(0), True)
         client = cluster.client(0)
         ends = ["COMMITTED"]
         while ends[-1].startswith("COMMITTED") and len(ends) < 100:
             ends.append(client.ask("BEGIN", *filler(len(ends)), "COMMIT")[-1])
         wanted("the last of many", ends[-1] in ("ERR UNKNOWN", "ERR UNREACHABLE"), True)
-        read = client.ask("BEGIN", "GET f1.0000", "COMMIT")
-        wanted("what stands", read[1], "VAL " + "v" * 64)
+        stands = "VAL " + "v" * 64
+        wanted("what stands", until(lambda: client.ask("BEGIN", "GET f1.0000", "COMMIT")[1] == stands), True)
         cluster.kill_replica(0)
-        cluster.start_replica(0, "--limit", "2")
+        cluster.start_replica(0, "--limit", "5")
         wanted("a replica that begins then", cluster.is_ready(0), True)
-        wanted("has what stands", cluster.client(0).ask("BEGIN", "GET f1.0000", "COMMIT")[1], "VAL " + "v" * 64)
+        client = cluster.client(0)
+        wanted("has what stands", until(lambda: client.ask("BEGIN", "GET f1.0000", "COMMIT")[1] == stands), True)
     finally:
         cluster.close()
 
@@ -118,7 +119,7 @@ def transactions(cluster: Cluster) -> None:
     from tiuvrokk.replica import Conflict, Refused, Session, Transaction
 
     for at in (0, 1):
-        cluster.start_replica(at, "--log", "python")
+        cluster.start_replica(at, "--log", "python", "--limit", "60")
     wanted("replicas", [cluster.is_ready(at) for at in (0, 1)], [True, True])
 
     def begin(tx: Transaction) -> None:
