@@ -2,6 +2,7 @@
 
     etcd          requests to the cluster, by whichever member answers
     log           entries in one order, each counted once
+    lines         what is known of lines before they are answered
     store         the program behind the replica
     transaction   a transaction in trials, and as a block of the log
     ends          that the replica stands at the log's end
