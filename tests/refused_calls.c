@@ -230,6 +230,8 @@ static void merges(void) {
     open_anew();
     is_counted = 1;
     load(0, 40, 1, 'a');
+    commit();
+    begin();
     wish_for(0, 39);
     is_counted = 0;
     want(merge(16, TVK_DONE) == 40);
@@ -238,6 +240,8 @@ static void merges(void) {
     open_anew();
     is_counted = 1;
     for (int rest = 0; rest < 3; rest++) load(rest, 300, 3, 'a');
+    commit();
+    begin();
     wish_for(20, 39);
     is_counted = 0;
     want(merge(64, TVK_DONE) == 20);
