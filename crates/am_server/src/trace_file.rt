@@ -3,8 +3,8 @@
 use crate::fault::ListenFault;
 use am_record::{Reply, Step};
 use am_trace::trace_text;
-use std::fs;
 use std::rt::Files;
+use std::{fs, io};
 
 /// A file that gets the trace at the end.
 #[derive(Drop)]
@@ -33,6 +33,7 @@ impl<'a> TraceFile<'a> {
     }
 
     /// Writes the text of the trace. Where it can't be written, the file is as it was.
+    #[inline(never)]
     pub(crate) fn store<R: AllocGlobal + Files>(
         &self,
         rt: &R,
@@ -42,18 +43,28 @@ impl<'a> TraceFile<'a> {
             self.forget(rt);
             return Err(ListenFault::CannotWriteTrace);
         };
-        let stored = match &self.part {
-            None => fs::write(rt, self.path, &text),
-            Some(name) => fs::write(rt, name.as_str(), &text).and_then(|()| fs::rename(
-                rt,
-                name.as_str(),
-                self.path,
-            )),
-        };
+        let stored = fs::write(rt, self.first_place(), &text).and_then(|()| self.rename(rt));
         stored.map_err(|_| {
             self.forget(rt);
             ListenFault::CannotWriteTrace
         })
+    }
+
+    // Where the text is written first.
+    fn first_place(&self) -> &str {
+        match &self.part {
+            Some(name) => name.as_str(),
+            None => self.path,
+        }
+    }
+
+    // Gives what is written its name, in a frame of its own: the two names take 8 KB.
+    #[inline(never)]
+    fn rename<R: Files>(&self, rt: &R) -> io::Result<()> {
+        match &self.part {
+            Some(name) => fs::rename(rt, name.as_str(), self.path),
+            None => Ok(()),
+        }
     }
 
     /// Removes what stands beside the file.
