@@ -57,16 +57,20 @@ IsOfSession q = (p : SessionSeatState) × HasNewSeat p × WasServed p q
 abbrev pub IsOfWorker : SeatState → Type 0
 IsOfWorker s = All (λ (r : Receipt). r.step ≡ Merge 16) s.receipts
 
--- The trace is sound, with every merge and clean right, and legal; and it leads to a store with so many commits. It is
--- that of the sessions and the workers: each receipt of their seats stands in it, and each of its pairs has one.
-pub record IsSoundRun (s : ServerRun) : Type 0 where
+-- The trace is sound, with every merge and clean right, and legal; it leads to a store with so many commits; and it is
+-- that of the seats: each of their receipts stands in it, and each of its pairs has one.
+pub record IsRunOf (seats : List SeatState) (s : ServerRun) : Type 0 where
   pub sound : IsSoundStore s.trace.items
   pub legal : IsLegal s.trace.items
   pub store : StoreState
   pub stands : IsSoundAt s.trace.items store
   pub commits : s.commits ≡ store.commits
+  pub receipts : AreReceiptsOf seats s.trace.items
+
+-- and the seats are those of sessions and of workers
+pub record IsSoundRun (s : ServerRun) : Type 0 where
   pub sessions : List SessionSeatState
   pub workers : List SeatState
   pub served : All IsOfSession sessions
   pub worked : All IsOfWorker workers
-  pub receipts : AreReceiptsOf (latch_seats sessions ++ workers) s.trace.items
+  pub run : IsRunOf (latch_seats sessions ++ workers) s

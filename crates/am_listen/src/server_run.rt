@@ -3,7 +3,8 @@
 ghost use Rattle.std.specs.Prelude.{◌≡◌, ◌≤◌, ◌+◌, ◌++◌, IfOk, All, length, vec_len, vec_capacity};
 ghost use Rattle.std.specs.List.{AllZip};
 ghost use Rattle.am_workers.specs.Turns.{HasTakenTurns};
-ghost use Rattle.am_listen.specs.ServerRuns.{IsSoundRun, HasServed, HasNewSeat, IsNewSeat, seat_numbers};
+ghost use Rattle.am_latch.specs.Receipts.{AreAll};
+ghost use Rattle.am_listen.specs.ServerRuns.{IsSoundRun, IsRunOf, HasServed, HasNewSeat, IsNewSeat, seat_numbers};
 ghost use Rattle.am_listen.specs.ServerRuns.{session_seat_numbers, latch_seats};
 
 use crate::acceptor::Acceptor;
@@ -113,6 +114,21 @@ fn take_seats<'a, L: LatchName>(all: &mut Vec<Seat<L>>, session_seats: Vec<Sessi
     }
 }
 
+// Closes the latch, of which these are all seats, and tells the run that they made.
+fn close_all<L: LatchName>(latch: Latch<L>, seats: Vec<Seat<L>>, accepted_all: bool) -> ServerRun
+    requires { AreAll L.seats seats.items }
+    ensures { IsRunOf seats.items result }
+{
+    let Ok(closed) = close(latch, seats) else {
+        unreachable!()
+    };
+    ServerRun {
+        commits: closed.store.commits(),
+        trace: closed.trace,
+        accepted_all,
+    }
+}
+
 /// Opens the latch, serves a session for each seat of the words, and closes the latch.
 pub(crate) fn run<L: LatchName + Send + Sync, R: Threads + Wait + Sync>(
     rt: &R,
@@ -151,12 +167,5 @@ pub(crate) fn run<L: LatchName + Send + Sync, R: Threads + Wait + Sync>(
     let Ok(()) = all.append(&mut worked) else {
         unreachable!()
     };
-    let Ok(closed) = close(latch, all) else {
-        unreachable!()
-    };
-    Ok(ServerRun {
-        commits: closed.store.commits(),
-        trace: closed.trace,
-        accepted_all: !acceptor.into_inner().has_failed(),
-    })
+    Ok(close_all(latch, all, !acceptor.into_inner().has_failed()))
 }

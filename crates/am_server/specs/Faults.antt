@@ -2,7 +2,7 @@
 use Rattle.std.specs.Prelude.{ℕ, List, codes}
 use Rattle.am_server.specs.declared.fault.ListenFault.{ListenFault}
 use Rattle.am_server.specs.declared.fault.ListenFault.TheVariants.{CannotListen, CannotAccept, CannotWriteTrace}
-use Rattle.am_server.specs.declared.fault.ListenFault.TheVariants.{NoMemory}
+use Rattle.am_server.specs.declared.fault.ListenFault.TheVariants.{NoMemory, CannotHear}
 
 -- the program's status
 abbrev pub fault_status : ListenFault → ℕ
@@ -10,6 +10,7 @@ fault_status CannotListen = 3
 fault_status CannotAccept = 3
 fault_status CannotWriteTrace = 4
 fault_status NoMemory = 5
+fault_status CannotHear = 5
 
 -- what is said on standard error
 abbrev pub fault_words : ListenFault → List ℕ
@@ -17,3 +18,4 @@ fault_words CannotListen = codes "amserve: cannot listen"
 fault_words CannotAccept = codes "amserve: cannot accept"
 fault_words CannotWriteTrace = codes "amserve: cannot write the trace"
 fault_words NoMemory = codes "amserve: no memory"
+fault_words CannotHear = codes "amserve: no thread to hear STOP"

@@ -14,6 +14,8 @@ pub enum ListenFault {
     CannotWriteTrace,
     /// Memory was refused.
     NoMemory,
+    /// A stop is awaited, and no thread can be started that would hear it.
+    CannotHear,
 }
 
 impl ListenFault {
@@ -24,7 +26,7 @@ impl ListenFault {
         match self {
             ListenFault::CannotListen | ListenFault::CannotAccept => 3,
             ListenFault::CannotWriteTrace => 4,
-            ListenFault::NoMemory => 5,
+            ListenFault::NoMemory | ListenFault::CannotHear => 5,
         }
     }
 
@@ -37,6 +39,7 @@ impl ListenFault {
             ListenFault::CannotAccept => "amserve: cannot accept",
             ListenFault::CannotWriteTrace => "amserve: cannot write the trace",
             ListenFault::NoMemory => "amserve: no memory",
+            ListenFault::CannotHear => "amserve: no thread to hear STOP",
         }
     }
 }

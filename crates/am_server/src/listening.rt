@@ -2,16 +2,21 @@
 //!
 //! Each part has a frame of its own, beside that of the words, so that none is large.
 
+ghost use Rattle.std.specs.Prelude.{◌≤◌};
+
 use crate::fault::ListenFault;
 use crate::trace_file::TraceFile;
 use am_command::Listening;
 use am_listen::{PortListener, ServerRun, bind};
-use am_record::NoMemory;
+use am_session::draw_hash_key;
 use std::io;
 use std::io::{BufRead, BufReader};
 use std::net::{Net, TcpListener, TcpStream};
 use std::process::ExitCode;
-use std::rt::Files;
+use std::random::RandomSource;
+use std::rt::{Clock, Files};
+use std::sync::Wait;
+use std::thread::Threads;
 
 /// The file for the trace, where one is named, and then the port.
 #[inline(never)]
@@ -36,6 +41,22 @@ fn forget<R: Files>(rt: &R, file: Option<&TraceFile<'_>>) {
     if let Some(file) = file {
         file.forget(rt);
     }
+}
+
+/// Serves so many sessions, with so many workers beside them, on a store whose hash key no stranger knows.
+#[inline(never)]
+pub(crate) fn serve<R: Threads + Wait + RandomSource + Clock + Sync>(
+    rt: &R,
+    bound: &PortListener,
+    sessions: u64,
+    workers: u64,
+) -> Result<ServerRun, ListenFault>
+    requires sessions { (1 ≤ sessions) × (sessions ≤ 256) }
+    requires workers { workers ≤ 16 }
+{
+    bound
+        .serve(rt, sessions, workers, draw_hash_key(rt))
+        .map_err(|_| ListenFault::NoMemory)
 }
 
 /// Has the server stop once a line STOP, or the end of standard input or a fault of it, has come.
@@ -64,11 +85,14 @@ fn await_stop<R: AllocGlobal + Input>(rt: &R) {
 pub(crate) fn close<R: AllocGlobal + Files + Print + Eprint>(
     rt: &R,
     file: Option<&TraceFile<'_>>,
-    served: Result<ServerRun, NoMemory>,
+    served: Result<ServerRun, ListenFault>,
 ) -> io::Result<ExitCode> {
-    let Ok(served) = served else {
-        forget(rt, file);
-        return tell(rt, ListenFault::NoMemory);
+    let served = match served {
+        Ok(served) => served,
+        Err(fault) => {
+            forget(rt, file);
+            return tell(rt, fault);
+        }
     };
     let stored = match file {
         Some(file) => file.store(rt, &served.trace),

@@ -8,9 +8,9 @@ mod listening;
 mod trace_file;
 
 use am_command::{Options, OptionsFault, options, words};
-use am_session::draw_hash_key;
 use am_stack::hold_stack;
-use listening::{close, open, stop_at_word, tell};
+use fault::ListenFault;
+use listening::{close, open, serve, stop_at_word, tell};
 use std::process::ExitCode;
 use std::{io, thread};
 
@@ -38,18 +38,22 @@ fn main(rt: HostRuntime) -> io::Result<ExitCode> {
     };
     println!(&rt; "LISTEN {}", bound.port())?;
     let (sessions, workers) = (listening.sessions, listening.workers);
-    let hash = draw_hash_key(&rt);
+    let (runtime, port) = (&rt, &bound);
     let served = if listening.awaits_stop {
-        let ((), served) = thread::join(
-            &rt,
-            || stop_at_word(&rt, &bound),
-            ||
+        thread::scope(
+            thread::scope_env(),
+            runtime,
+            |scope|
                 requires { (1 ≤ sessions) × (sessions ≤ 256) × (workers ≤ 16) }
-            { bound.serve(&rt, sessions, workers, hash) },
-        );
-        served
+            {
+                match scope.spawn(move || stop_at_word(runtime, port)) {
+                    Ok(_) => serve(runtime, port, sessions, workers),
+                    Err(_) => Err(ListenFault::CannotHear),
+                }
+            },
+        )
     } else {
-        bound.serve(&rt, sessions, workers, hash)
+        serve(runtime, port, sessions, workers)
     };
     close(&rt, file.as_ref(), served)
 }

@@ -6,9 +6,8 @@ use denote.Param.Send.{arg_send, param_send, shr_send, sendable}
 use Rattle.am_latch.proofs.Crosses.{latch_sync}
 use Rattle.am_latch.proofs.seat.Seat.TheSendSync as seat
 use Rattle.am_latch.specs.contracts.latch.Latch as Latch
-use Rattle.am_serial.specs.Trace.{Trace}
-use Rattle.am_latch.specs.Receipts.{SeatState, AreReceiptsOf}
-use Rattle.am_listen.specs.ServerRuns.{IsNewSeat}
+use Rattle.am_latch.specs.Receipts.{SeatState}
+use Rattle.am_listen.specs.ServerRuns.{IsNewSeat, IsRunOf}
 use Rattle.am_listen.proofs.Seatings.{all_new, all_back, count_back, all_there, all_of_sessions, all_of_workers, joined_seats}
 use Rattle.am_listen.specs.contracts.pacer.MergePacer as MergePacer
 use Rattle.am_listen.proofs.Crosses.{captures_send}
@@ -48,28 +47,21 @@ unreachable-requires g c =
       c.join-worked.result.0.seats.ok,
     )
 
-pub unreachable-requires-in_default-close : goal.unreachable-requires-in_default-close
-unreachable-requires-in_default-close g c =
+pub close_all-requires : goal.close_all-requires
+close_all-requires g c =
     let back = all_back 16 1000000 c.in_ok-session_seats.session_seats.items c.join-worked.result.1.items c.in_ok-session_seats.worker_seats.items c.join-worked.result.0.seats.items c.in-Ok.seats.items
     c.join-worked.ensures.second c.join-worked.ensures.first c.in_ok-session_seats.ensures.seats in
-    c.in_default-close.ensures.all
-    (all_there g.L.LatchName.seats c.append.new.self.items c.take_seats.new.all.items c.reserve.new.self.items c.join-worked.result.0.seats.items c.in-Ok.seats.items
-    c.join-worked.result.1.items c.in-Ok-append.ensures.items c.take_seats.ensures.seats (c.reserve.ensures.items ∙ c.new-all.ensures.items) back c.in-Ok.ensures.seats)
+    all_there g.L.LatchName.seats c.append.new.self.items c.take_seats.new.all.items c.reserve.new.self.items c.join-worked.result.0.seats.items c.in-Ok.seats.items
+    c.join-worked.result.1.items c.in-Ok-append.ensures.items c.take_seats.ensures.seats (c.reserve.ensures.items ∙ c.new-all.ensures.items) back c.in-Ok.ensures.seats
 
 pub returns : goal.returns
 returns g c =
     let placed = c.join-worked.result.1.items in
     let worked = c.join-worked.result.0.seats.items in
-    let seats = joined_seats c.append.new.self.items c.take_seats.new.all.items c.reserve.new.self.items worked placed c.in-Ok-append.ensures.items c.take_seats.ensures.seats (c.reserve.ensures.items ∙ c.new-all.ensures.items) in
-    let closed = c.in-Ok-close.ensures in record {
-      sound = closed.stands.sound;
-      legal = closed.legal;
-      store = c.in-Ok-close.closed.store;
-      stands = closed.stands;
-      commits = search rules;
+    let seats = joined_seats c.append.new.self.items c.take_seats.new.all.items c.reserve.new.self.items worked placed c.in-Ok-append.ensures.items c.take_seats.ensures.seats (c.reserve.ensures.items ∙ c.new-all.ensures.items) in record {
       sessions = placed;
       workers = worked;
       served = all_of_sessions c.in_ok-session_seats.session_seats.items placed c.join-worked.ensures.second c.in_ok-session_seats.ensures.sessions;
       worked = all_of_workers 1000000 c.in_ok-session_seats.worker_seats.items worked c.join-worked.ensures.first c.in_ok-session_seats.ensures.workers;
-      receipts = subst (λ (l : List SeatState). AreReceiptsOf l c.in-Ok-close.closed.trace.items) (closed.seats ∙ seats) closed.kept;
+      run = subst (λ (l : List SeatState). IsRunOf l c.close_all.result) seats c.close_all.ensures;
     }
