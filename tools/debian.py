@@ -36,7 +36,6 @@ class Package(NamedTuple):
     about: str
     entries: List[Entry]
     control: List[Entry] = []
-    overrides: Dict[str, str] = {}
     is_for_all: bool = False
 
 
@@ -52,9 +51,9 @@ def packed(data: bytes) -> bytes:
 
 
 def glibc_of(programs: Iterable[bytes]) -> str:
-    """The version of the C library that programs need."""
+    """The version of the C library that programs need; no older one is known to be enough than what wheels begin at."""
     found = {(int(high), int(low)) for data in programs for high, low in re.findall(rb"GLIBC_(\d+)\.(\d+)", data)}
-    return ".".join(map(str, max(found)))
+    return ".".join(map(str, max({(2, 17), *found})))
 
 
 def packages(programs: Dict[str, bytes], library: List[Entry]) -> List[Package]:
@@ -98,7 +97,7 @@ def python_package(library: str) -> Package:
     # What Python compiles where it may write is no file of the package, so it would stay.
     removal = Entry("prerm", f"#!/bin/sh\nset -e\nrm -rf /usr/{PYTHON}/tiuvrokk/__pycache__\n".encode(), 0o755)
     needs = ["python3 (>= 3.9)", f"{library} (>= {layout.version()})"]
-    return Package("python3-tiuvrokk", "python", needs, "This package has the Python package.", entries, [removal], {}, True)
+    return Package("python3-tiuvrokk", "python", needs, "This package has the Python package.", entries, [removal], is_for_all=True)
 
 
 def documents(package: Package, epoch: int) -> List[Entry]:
@@ -110,11 +109,7 @@ def documents(package: Package, epoch: int) -> List[Entry]:
     told = f"tiuvrokk ({layout.version()}) unstable; urgency=medium\n\n  * CHANGELOG.md of the sources has what changed.\n\n"
     changes = f"{told} -- {MAINTAINER}  {formatdate(epoch)}\n"
     place = f"share/doc/{package.name}"
-    entries = [Entry(f"{place}/copyright", written.encode()), Entry(f"{place}/changelog.gz", packed(changes.encode()))]
-    if package.overrides:
-        lines = "".join(f"# {why}\n{package.name}: {finding}\n" for finding, why in package.overrides.items())
-        entries.append(Entry(f"share/lintian/overrides/{package.name}", lines.encode()))
-    return entries
+    return [Entry(f"{place}/copyright", written.encode()), Entry(f"{place}/changelog.gz", packed(changes.encode()))]
 
 
 def control_of(package: Package, entries: List[Entry]) -> bytes:

@@ -44,7 +44,7 @@ def version() -> str:
 
 
 def built_programs(folder: Optional[str]) -> Dict[str, bytes]:
-    """The proved programs, without the names of their functions: those of a folder, or those that are built where they aren't."""
+    """The proved programs: those of a folder, or those of the sources, which are built where they aren't."""
     names = list(PROVED)
     if folder is None:
         told = subprocess.run([f"{TOP}/tools/built", *names], stdout=subprocess.PIPE, text=True, check=True).stdout
@@ -55,10 +55,10 @@ def built_programs(folder: Optional[str]) -> Dict[str, bytes]:
 
 
 def stripped(path: str) -> bytes:
-    """A program without the names of its functions."""
+    """A program or a shared library without the names that only a debugger reads."""
     with tempfile.TemporaryDirectory() as folder:
         made = os.path.join(folder, "program")
-        subprocess.run(["strip", "-o", made, os.path.abspath(path)], check=True)
+        subprocess.run(["strip", "--strip-unneeded", "-o", made, os.path.abspath(path)], check=True)
         return bytes_of(made)
 
 
@@ -79,7 +79,7 @@ def found_entries(folder: str) -> List[Entry]:
         if os.path.islink(path):
             found.append(Entry(name, link=os.readlink(path)))
         elif os.path.isfile(path):
-            found.append(Entry(name, bytes_of(path)))
+            found.append(Entry(name, stripped(path) if re.search(r"\.so\.[0-9]+$", path) else bytes_of(path)))
     if not found:
         raise FileNotFoundError(f"{folder} has no files")
     return found
