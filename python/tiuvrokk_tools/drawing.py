@@ -203,7 +203,7 @@ def words() -> argparse.Namespace:
     parser = Parser(NAME, __doc__, EPILOG)
     parser.add_argument("--text", action="store_true", help="write a table in place of a picture")
     parser.add_argument("trace", nargs="?", default="-", metavar="TRACE", help="the stored run (default: standard input)")
-    return parser.read()
+    return parser.parse_args()
 
 
 def main() -> int:

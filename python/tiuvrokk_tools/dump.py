@@ -75,7 +75,7 @@ def dump(session: Session, write: Callable[[bytes], object], progress: Progress)
 def words() -> argparse.Namespace:
     parser = Parser(NAME, __doc__, EPILOG)
     add_server(parser, is_needed=True)
-    return parser.read()
+    return parser.parse_args()
 
 
 def main() -> int:

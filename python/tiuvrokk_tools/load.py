@@ -88,7 +88,7 @@ def words() -> argparse.Namespace:
     parser.add_argument("--skip-empty", action="store_true", help="pass over empty lines")
     add_server(parser, is_needed=False)
     parser.add_argument("file", nargs="?", default="-", metavar="FILE", help="the records (default: standard input)")
-    return parser.read()
+    return parser.parse_args()
 
 
 def main() -> int:

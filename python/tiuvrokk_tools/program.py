@@ -102,27 +102,26 @@ def write_all(data: bytes) -> None:
         raise Stop(6, f"standard output: {error.strerror}") from None
 
 
+class ShowVersion(argparse.Action):
+    """Shows the version, whatever else is asked for."""
+
+    def __call__(self, parser: argparse.ArgumentParser, *_: object) -> NoReturn:
+        write_all(f"{parser.prog} {version()}\n".encode())
+        raise SystemExit(0)
+
+
 class Parser(argparse.ArgumentParser):
     """The words of a command line, told as they are laid out in the program."""
 
     def __init__(self, name: str, description: str, epilog: str) -> None:
         super().__init__(prog=name, description=description, epilog=epilog, formatter_class=argparse.RawDescriptionHelpFormatter)
-        self.add_argument("-V", "--version", action="store_true", help="show the version and exit")
-        self.name = name
-
-    def read(self) -> argparse.Namespace:
-        """The words, unless they are wrong, or ask for help or the version."""
-        asked = self.parse_args()
-        if asked.version:
-            write_all(f"{self.name} {version()}\n".encode())
-            raise SystemExit(0)
-        return asked
+        self.add_argument("-V", "--version", action=ShowVersion, nargs=0, help="show the version and exit")
 
     def print_help(self, file: object = None) -> None:
         write_all(self.format_help().encode())
 
     def error(self, message: str) -> NoReturn:
-        say(f"{self.format_usage()}{self.name}: {message}")
+        say(f"{self.format_usage()}{self.prog}: {message}")
         raise SystemExit(2)
 
 

@@ -290,7 +290,7 @@ def words() -> argparse.Namespace:
     parser.add_argument("--raw", action="store_true", help="show answers as the store's lines")
     parser.add_argument("--strict", action="store_true", help="end with status 1 where an answer was BUSY or ERR, or a command failed")
     parser.add_argument("--history", metavar="FILE", default="~/.tiuvrokk_history", help="what was typed (default: ~/.tiuvrokk_history)")
-    return parser.read()
+    return parser.parse_args()
 
 
 def main() -> int:
