@@ -25,8 +25,8 @@ def wheel(library: List[Entry], epoch: int, folder: str) -> str:
     made = os.path.join(folder, f"tiuvrokk-{version}-{tag}.whl")
     with zipfile.ZipFile(made, "w") as file:
         for entry in entries:
-            moment = time.gmtime(epoch)
-            told = zipfile.ZipInfo(entry.path, (moment.tm_year, moment.tm_mon, moment.tm_mday, moment.tm_hour, moment.tm_min, moment.tm_sec))
+            year, month, day, hour, minute, second, *_ = time.gmtime(epoch)
+            told = zipfile.ZipInfo(entry.path, (year, month, day, hour, minute, second))
             told.external_attr = (0o100000 | entry.mode) << 16
             told.compress_type = zipfile.ZIP_DEFLATED
             file.writestr(told, entry.data)
@@ -35,8 +35,8 @@ def wheel(library: List[Entry], epoch: int, folder: str) -> str:
 
 def wheel_documents(place: str, tag: str, entries: List[Entry]) -> List[Entry]:
     """What a wheel says of itself, and the sums of all its files."""
-    about = f"Metadata-Version: 2.1\nName: tiuvrokk\nVersion: {layout.version()}\nSummary: A transactional keyed store inside a program\n"
-    about += "License: MIT\nRequires-Python: >=3.9\n"
+    about = f"Metadata-Version: 2.1\nName: tiuvrokk\nVersion: {layout.version()}\nLicense: MIT\nRequires-Python: >=3.9\n"
+    about += "Summary: A transactional keyed store inside a program\n"
     said = f"Wheel-Version: 1.0\nGenerator: tiuvrokk\nRoot-Is-Purelib: false\nTag: {tag}\n"
     documents = [
         Entry(f"{place}/METADATA", about.encode()),

@@ -97,7 +97,8 @@ def python_package(library: str) -> Package:
     # What Python compiles where it may write is no file of the package, so it would stay.
     removal = Entry("prerm", f"#!/bin/sh\nset -e\nrm -rf /usr/{PYTHON}/tiuvrokk/__pycache__\n".encode(), 0o755)
     needs = ["python3 (>= 3.9)", f"{library} (>= {layout.version()})"]
-    return Package("python3-tiuvrokk", "python", needs, "This package has the Python package.", entries, [removal], is_for_all=True)
+    about = "This package has the Python package."
+    return Package("python3-tiuvrokk", "python", needs, about, entries, [removal], is_for_all=True)
 
 
 def documents(package: Package, epoch: int) -> List[Entry]:

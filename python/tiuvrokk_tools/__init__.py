@@ -1,4 +1,4 @@
-"""The programs amload, amdump, amcli and amdraw, each a module here, and what they have in common. Python 3.9, and nothing else."""
+"""The programs amload, amdump, amcli and amdraw, each a module here, and what they have in common. Python 3.9 is needed."""
 
 import os
 

@@ -72,7 +72,8 @@ class Picture:
         low, high = min(full, default=0), max(full, default=-1)
         height = self.band * 0.8
         x, wide = LEFT + COLUMN * low, COLUMN * (high + 1 - low)
-        self.marks.append(f'<rect x="{x}" y="{middle - height / 2:.1f}" width="{wide}" height="{height:.1f}" fill="{COLOURS["ghost"]}"/>')
+        size = f'x="{x}" y="{middle - height / 2:.1f}" width="{wide}" height="{height:.1f}"'
+        self.marks.append(f'<rect {size} fill="{COLOURS["ghost"]}"/>')
         shares = [left[column] / full[column] if full[column] else 0.0 for column in range(low, high + 1)]
         self.marks.append(f'<path d="{outline(x, middle, height, shares)}" fill="{COLOURS["run"]}"/>')
         if self.band >= WORD_HEIGHT or not number % round(WORD_HEIGHT / self.band + 0.5):
@@ -120,7 +121,8 @@ class Picture:
 
     def head(self) -> None:
         merging = self.merging
-        self.text(LEFT, 22, f"{count(len(self.keys), 'record')} in {count(len(merging.runs), 'run')}, keys from left to right", 'class="title"')
+        whole = f"{count(len(self.keys), 'record')} in {count(len(merging.runs), 'run')}"
+        self.text(LEFT, 22, f"{whole}, keys from left to right", 'class="title"')
         self.text(LEFT, 42, "loaded runs at the end: a band is thinned where its records left it")
         moved = sum(it.number for it in merging.moves)
         told = (
@@ -140,8 +142,8 @@ class Picture:
         wide, high = LEFT + WIDTH + RIGHT, self.foot_top + FOOT_HEIGHT + GAP
         size = f'width="{wide}" height="{high:.0f}" viewBox="0 0 {wide} {high:.0f}"'
         style = "text{font:12px sans-serif} .title{font-weight:bold;font-size:14px}"
-        head = f'<svg xmlns="http://www.w3.org/2000/svg" {size}><style>{style}</style><rect width="100%" height="100%" fill="#fff"/>'
-        return "\n".join([head, *self.marks, "</svg>", ""])
+        head = f'<svg xmlns="http://www.w3.org/2000/svg" {size}><style>{style}</style>'
+        return "\n".join([head, '<rect width="100%" height="100%" fill="#fff"/>', *self.marks, "</svg>", ""])
 
 
 def outline(x: float, base: float, height: float, shares: List[float], is_standing: bool = False) -> str:

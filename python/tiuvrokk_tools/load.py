@@ -24,7 +24,8 @@ EPILOG = """status:
   2  the words of the command line are wrong, or there are more runs than one transaction can load
   3  a line is no record, or a key stands twice: nothing was sent
   4  FILE can't be read
-  5  the server can't be reached, went away or didn't answer in time: where COMMIT was sent, it isn't known whether it was committed
+  5  the server can't be reached, went away or didn't answer in time: where COMMIT was sent, it isn't known whether it was
+     committed
   6  standard output can't be written
   7  there was no memory: nothing was loaded
 An interrupt ends it by SIGINT: nothing was loaded, unless it says otherwise."""

@@ -138,10 +138,9 @@ def numbers(least: int, greatest: int) -> Callable[[str], int]:
 
 def add_server(parser: Parser, is_needed: bool) -> None:
     """The words that name a server."""
-    parser.add_argument("--port", type=numbers(1, 65535), required=is_needed, metavar="P", help="the port of a server at 127.0.0.1")
-    parser.add_argument(
-        "--wait", type=numbers(1, 999_999), default=120, metavar="S", help="seconds that an answer is waited for at most (default: 120)"
-    )
+    port, wait = "the port of a server at 127.0.0.1", "seconds that an answer is waited for at most (default: 120)"
+    parser.add_argument("--port", type=numbers(1, 65535), required=is_needed, metavar="P", help=port)
+    parser.add_argument("--wait", type=numbers(1, 999_999), default=120, metavar="S", help=wait)
 
 
 def read_file(file: str) -> bytes:

@@ -15,6 +15,11 @@ def shown(answer: bytes) -> str:
     return visible(answer.rstrip(b"\r\n"))
 
 
+def fault_of(place: str, error: OSError) -> Stop:
+    """Why there is no answer."""
+    return Stop(5, f"{place}: {'no answer in time' if isinstance(error, socket.timeout) else error.strerror or error}")
+
+
 class Refused(Exception):
     """A line was answered otherwise than it has to be for what is going on."""
 
@@ -39,14 +44,14 @@ class Session:
             for at in range(0, len(lines), PIECE):
                 self.send_piece(lines[at : at + PIECE])
         except OSError as error:
-            raise self.fault(error) from None
+            raise fault_of(self.place, error) from None
 
     def hear(self) -> bytes:
         """The next answer, with its LF."""
         try:
             answer = self.answers.readline()
         except OSError as error:
-            raise self.fault(error) from None
+            raise fault_of(self.place, error) from None
         if not answer.endswith(b"\n"):
             raise Stop(5, f"{self.place}: it went away")
         self.unheard -= 1
@@ -61,12 +66,6 @@ class Session:
         """Passes over the answers to lines that were sent ahead."""
         while self.unheard:
             self.hear()
-
-    def fault(self, error: OSError) -> Stop:
-        """Why there is no answer."""
-        if isinstance(error, socket.timeout):
-            return Stop(5, f"{self.place}: no answer in time")
-        return Stop(5, f"{self.place}: {error.strerror or error}")
 
     def leave(self) -> None:
         """Ends the session, unless the other side has. Its transaction is over once that is answered, behind the lines that
@@ -87,7 +86,7 @@ def with_server(port: int, wait: int) -> Session:
         connection = socket.create_connection(("127.0.0.1", port), timeout=wait)
         connection.setsockopt(socket.IPPROTO_TCP, socket.TCP_NODELAY, 1)
     except OSError as error:
-        raise Stop(5, f"{place}: {'no answer in time' if isinstance(error, socket.timeout) else error.strerror or error}") from None
+        raise fault_of(place, error) from None
     return Session(place, connection.sendall, connection.makefile("rb"))
 
 

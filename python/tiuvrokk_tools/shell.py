@@ -286,10 +286,12 @@ def from_lines(shell: Shell) -> None:
 def words() -> argparse.Namespace:
     parser = Parser(NAME, __doc__, EPILOG)
     add_server(parser, is_needed=False)
-    parser.add_argument("--store", metavar="FILE", default=os.path.join(TOP, "amserve"), help="the program of a store of its own (default: amserve)")
+    store, history = "the program of a store of its own (default: amserve)", "what was typed (default: ~/.tiuvrokk_history)"
+    strict = "end with status 1 where an answer was BUSY or ERR, or a command failed"
+    parser.add_argument("--store", metavar="FILE", default=os.path.join(TOP, "amserve"), help=store)
     parser.add_argument("--raw", action="store_true", help="show answers as the store's lines")
-    parser.add_argument("--strict", action="store_true", help="end with status 1 where an answer was BUSY or ERR, or a command failed")
-    parser.add_argument("--history", metavar="FILE", default="~/.tiuvrokk_history", help="what was typed (default: ~/.tiuvrokk_history)")
+    parser.add_argument("--strict", action="store_true", help=strict)
+    parser.add_argument("--history", metavar="FILE", default="~/.tiuvrokk_history", help=history)
     return parser.parse_args()
 
 

@@ -41,7 +41,8 @@ def help_of_all() -> str:
     """All lines, with what they ask for."""
     width = max(len(line) for line, _, _ in TABLE)
     lines = [f"{line:{width}}  {asks}" for line, asks, _ in TABLE]
-    return "\n".join([*lines, "HELP VERB tells what it is answered; .load, .dump, .read, .raw, .time and .quit are this program's own."])
+    more = "HELP VERB tells what it is answered; .load, .dump, .read, .raw, .time and .quit are this program's own."
+    return "\n".join([*lines, more])
 
 
 def help_of(verb: str) -> str:
