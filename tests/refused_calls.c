@@ -15,7 +15,11 @@ static int differs;
 /* A look at the records leaves wishes to merge them; where that would tell on the test only their number is looked at. */
 static int is_counted;
 
-static size_t key_of(int number, char *text) { return (size_t)sprintf(text, "%04d", number); }
+/* The four digits of a number. */
+static size_t key_of(int number, char *text) {
+    for (int at = 3; at >= 0; at--, number /= 10) text[at] = (char)('0' + number % 10);
+    return 4;
+}
 
 static void want(int holds) { differs |= !holds; }
 
@@ -226,6 +230,8 @@ static void merges(void) {
     open_anew();
     is_counted = 1;
     load(0, 40, 1, 'a');
+    commit();
+    begin();
     wish_for(0, 39);
     is_counted = 0;
     want(merge(16, TVK_DONE) == 40);
@@ -234,6 +240,8 @@ static void merges(void) {
     open_anew();
     is_counted = 1;
     for (int rest = 0; rest < 3; rest++) load(rest, 300, 3, 'a');
+    commit();
+    begin();
     wish_for(20, 39);
     is_counted = 0;
     want(merge(64, TVK_DONE) == 20);

@@ -24,10 +24,11 @@ from __future__ import annotations
 
 import ctypes
 import ctypes.util
+import functools
 import os
 from collections.abc import Callable, Iterable, Iterator
 from types import TracebackType
-from typing import Optional, Union
+from typing import Any, Optional, Union
 
 __version__ = "1.1.0"
 
@@ -140,7 +141,7 @@ _NUMBER = ctypes.POINTER(ctypes.c_uint64)
 _TX = ctypes.c_uint64
 _TEXT = (ctypes.c_char_p, ctypes.c_size_t)
 _ROWS = (ctypes.POINTER(_Record), ctypes.c_size_t)
-_CALLS: dict[str, tuple[object, ...]] = {
+_CALLS: dict[str, tuple[Any, ...]] = {
     "open": (_STORE,),
     "close": (_STORE,),
     "begin": (_STORE, _NUMBER),
@@ -171,6 +172,7 @@ def _library_path() -> str:
     return beside if os.path.exists(beside) else ctypes.util.find_library("tiuvrokk") or shared
 
 
+@functools.lru_cache(None)
 def _library() -> ctypes.CDLL:
     library = ctypes.CDLL(_library_path())
     for name, words in _CALLS.items():
@@ -182,7 +184,16 @@ def _library() -> ctypes.CDLL:
     return library
 
 
-_lib = _library()
+class _Calls:
+    """The library's calls. It is loaded at the first of them: who speaks to a replica alone needs none."""
+
+    def __getattr__(self, name: str) -> Callable[..., Any]:
+        call: Callable[..., Any] = getattr(_library(), name)
+        setattr(self, name, call)
+        return call
+
+
+_lib = _Calls()
 
 
 def _text(text: Text) -> bytes:
@@ -197,9 +208,10 @@ class Store:
     """An empty store, which is open until `close`, or until the end of a `with` block."""
 
     def __init__(self) -> None:
+        opened = _lib.tvk_open
         self._handle = _Handle()
         self._told = ctypes.c_uint64()
-        status = _lib.tvk_open(self._handle)
+        status = opened(self._handle)
         if status:
             raise _error(status, 0)
 

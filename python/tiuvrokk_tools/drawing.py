@@ -195,8 +195,8 @@ def table(merging: Merging) -> str:
 
 
 def share_merged(run: Run, step: int) -> float:
-    """How much of a run has left it after a step, of a hundred; less than 0 where it wasn't loaded by then."""
-    if step < run.step or not run.keys:
+    """How much of a run has left it after a step, of a hundred; less than 0 where it isn't loaded, or was taken back."""
+    if step < run.step or not run.keys or run.is_taken_back and step >= run.changes[-1][0]:
         return -1.0
     return 100 * (1 - run.left_at(step) / len(run.keys))
 

@@ -1,0 +1,65 @@
+"""That a replica stands at the log's end: one question to the cluster at a time, for all who wait."""
+from __future__ import annotations
+
+import asyncio
+import time
+from typing import Optional
+
+from .log import Log
+
+
+def now() -> float:
+    """Seconds, those counted in which the machine slept."""
+    return time.clock_gettime(time.CLOCK_BOOTTIME)
+
+
+class Ends:
+    """When the replica's state was the log's end."""
+
+    def __init__(self, log: Log) -> None:
+        self.log = log
+        self.known = 0.0  # all that the log had then was applied since
+        self.applied = 0  # the revision up to which all was
+        self.progress = asyncio.Event()
+        self.question: Optional["asyncio.Task[None]"] = None
+
+    def reach(self, revision: int) -> None:
+        """All up to that revision is applied."""
+        self.applied = revision
+        self.progress.set()
+
+    async def wait_for(self, revision: int) -> None:
+        """Until all up to that revision is applied."""
+        while self.applied < revision:
+            self.progress.clear()
+            await self.progress.wait()
+
+    async def ask(self) -> None:
+        """Asks for the log's end, and waits until that is applied."""
+        asked = now()
+        await self.wait_for(await self.log.end())
+        self.known = max(self.known, asked)
+
+    async def is_reached(self, limit: float) -> bool:
+        """Whether the replica comes to the end that the log has now within so many seconds. A question that was asked before
+        says nothing of now, so there may be two to wait for."""
+        begun = now()
+        while self.known < begun:
+            if self.question is None or self.question.done():
+                self.question = asyncio.ensure_future(self.ask())
+            question = self.question
+            done, _ = await asyncio.wait({question}, timeout=max(0.0, begun + limit - now()))
+            if not done:
+                return False
+            question.result()
+        return True
+
+    def age(self) -> float:
+        """How many seconds ago the replica's state was the log's end, at most."""
+        return now() - self.known
+
+    async def stay(self, limit: float) -> None:
+        """Asks again and again, so that the age stays known."""
+        while True:
+            await self.is_reached(limit)
+            await asyncio.sleep(min(1.0, limit / 4))

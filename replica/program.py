@@ -1,0 +1,214 @@
+"""The program amreplica: its words, its life and its statuses."""
+from __future__ import annotations
+
+import argparse
+import asyncio
+import os
+import re
+import shlex
+import signal
+import ssl
+import sys
+from typing import Any, Callable, Coroutine, List, NoReturn, Optional
+
+from .etcd import Access, Etcd, Refused
+from .log import LeftBehind, Log
+from .replica import Replica
+from .sessions import Session
+from .store import Store, StoreEnded
+from .trace import Trace, TraceFault
+
+TOP = os.path.dirname(os.path.dirname(os.path.realpath(__file__)))
+DESCRIPTION = """A replica of a store, whose transactions an etcd cluster orders. It serves sessions over TCP at 127.0.0.1, by
+docs/protocol.md and docs/replicas.md, and writes `LISTEN p` with its port once it has all that the log has."""
+EPILOG = """status:
+  0  ended by SIGTERM or SIGINT
+  2  the words of the command line are wrong
+  3  the store ended, wants memory, or answered what isn't an answer: it may differ from those of the other replicas
+  4  the port can't be listened at, or a file can't be read or written
+  5  etcd refuses what the log needs"""
+
+
+class Ending(Exception):
+    """Why the program ends, and its status."""
+
+    def __init__(self, status: int, text: str) -> None:
+        super().__init__(text)
+        self.status = status
+
+
+def number_of(kind: Callable[[str], float], least: float, most: float) -> Callable[[str], float]:
+    """Reads a number within bounds."""
+
+    def number(word: str) -> float:
+        form = "[0-9]{1,9}" if kind is int else "[0-9]{1,9}([.][0-9]{1,3})?"
+        if not re.fullmatch(form, word) or not least <= kind(word) <= most:
+            raise argparse.ArgumentTypeError(f"{word} is no number from {least} to {most}")
+        return kind(word)
+
+    return number
+
+
+def endpoint(word: str) -> str:
+    """A member's host and port."""
+    place = re.sub("^https?://", "", word).rstrip("/")
+    if not re.fullmatch(r"(?:[\w.-]+|\[[0-9A-Fa-f:]+\]):[0-9]{1,5}", place):
+        raise argparse.ArgumentTypeError(f"{word} is no HOST:PORT")
+    return place
+
+
+def log_name(word: str) -> str:
+    """A name that keys of the cluster can begin with."""
+    if not re.fullmatch(r"[\w.-]{1,100}", word):
+        raise argparse.ArgumentTypeError(f"{word} is no name of letters, digits, dots, dashes and underscores")
+    return word
+
+
+def parser() -> argparse.ArgumentParser:
+    words = argparse.ArgumentParser("amreplica", description=DESCRIPTION, epilog=EPILOG,
+                                    formatter_class=argparse.RawDescriptionHelpFormatter)
+    words.add_argument("--port", type=number_of(int, 0, 65535), default=0, metavar="P",
+                       help="of 127.0.0.1; 0, the default, is any free one")
+    words.add_argument("--log", type=log_name, default="tiuvrokk", metavar="NAME",
+                       help="the store's name in the cluster (default: tiuvrokk)")
+    words.add_argument("--store", default=f"{shlex.quote(TOP)}/amserve alone --auto 16", metavar="COMMAND",
+                       help="what serves a session alone (default: amserve alone --auto 16)")
+    words.add_argument("--reads", choices=("log", "local"), default="log",
+                       help="log: who reads is told of the log's end; local: of a state that was it at most --limit seconds ago")
+    words.add_argument("--limit", type=number_of(float, 0.1, 3600), default=10.0, metavar="S",
+                       help="seconds that etcd is awaited (default: 10)")
+    words.add_argument("--snapshot", type=number_of(int, 0, 999_999_999), default=100_000, metavar="BLOCKS",
+                       help="that commit between snapshots (default: 100000); 0: this replica writes none")
+    words.add_argument("--trace", metavar="FILE", help="the committed blocks as a stored run, of a log from its beginning on")
+    words.add_argument("--cacert", metavar="FILE", help="the certificates that etcd's are signed by, for TLS")
+    words.add_argument("--cert", metavar="FILE", help="this client's certificate, for TLS")
+    words.add_argument("--key", metavar="FILE", help="the key of that")
+    words.add_argument("--user", metavar="NAME[:PASSWORD]",
+                       help="etcd's user; a password that isn't there is the first line of standard input")
+    words.add_argument("endpoints", nargs="+", type=endpoint, metavar="ENDPOINT", help="host:port of etcd's members")
+    return words
+
+
+def access_of(asked: argparse.Namespace) -> Access:
+    """How etcd is spoken to."""
+    context: Optional[ssl.SSLContext] = None
+    try:
+        if asked.cacert or asked.cert:
+            context = ssl.create_default_context(cafile=asked.cacert)
+        if context and asked.cert:
+            context.load_cert_chain(asked.cert, asked.key)
+    except OSError as fault:
+        raise Ending(4, f"certificates: {fault}") from fault
+    user, colon, password = (asked.user or "").partition(":")
+    if user and not colon:
+        password = sys.stdin.readline().rstrip("\n")
+    return Access(context, user, password)
+
+
+class Program:
+    """One life of a replica."""
+
+    def __init__(self, asked: argparse.Namespace) -> None:
+        self.asked, self.sessions = asked, 0
+        self.access = access_of(asked)
+        self.end: "asyncio.Future[None]" = asyncio.get_running_loop().create_future()
+        self.store = Store(shlex.split(asked.store))
+        self.replica = Replica(Log(Etcd(asked.endpoints, self.access), asked.log), self.store, asked.snapshot, self.trace())
+
+    def trace(self) -> Optional[Trace]:
+        try:
+            return Trace(open(self.asked.trace, "a", encoding="ascii")) if self.asked.trace else None
+        except OSError as fault:
+            raise Ending(4, f"{self.asked.trace}: {fault.strerror}") from fault
+
+    def fail(self, fault: BaseException) -> None:
+        """The first reason to end counts."""
+        if not self.end.done():
+            self.end.set_exception(fault)
+
+    def watch_store(self) -> None:
+        """A store that isn't asked anything has nothing to say, so what comes is its end."""
+        loop, out = asyncio.get_running_loop(), self.store.out
+        loop.add_reader(out, lambda: self.fail(StoreEnded("it ended")))
+        self.store.on_begin = self.watch_store
+        self.store.on_end = lambda: loop.remove_reader(out)
+
+    async def serve(self, reader: asyncio.StreamReader, writer: asyncio.StreamWriter) -> None:
+        self.sessions += 1
+        try:
+            await Session(self.replica, self.sessions, self.asked.reads == "local", self.asked.limit, writer).serve(reader)
+        except OSError:
+            pass  # the client's end
+        except Exception as fault:
+            self.fail(fault)
+        finally:
+            writer.close()
+
+    async def run(self) -> None:
+        """Until the store, the log or a signal ends it."""
+        loop = asyncio.get_running_loop()
+        for ending in (signal.SIGTERM, signal.SIGINT):
+            loop.add_signal_handler(ending, lambda: self.fail(Ending(0, "")))
+        self.must_last(self.begin())
+        await self.end
+
+    def must_last(self, work: Coroutine[Any, Any, None]) -> None:
+        """Work whose end is the program's."""
+        task = asyncio.ensure_future(work)
+        task.add_done_callback(lambda done: None if done.cancelled() else self.fail(done.exception() or Ending(3, "it ended")))
+
+    async def begin(self) -> None:
+        # The store may have to be built first, which takes minutes.
+        await asyncio.get_running_loop().run_in_executor(None, self.store.ask, [b"BEGIN", b"ABORT"])
+        self.watch_store()
+        life = await self.replica.start()
+        try:
+            server = await asyncio.start_server(self.serve, "127.0.0.1", self.asked.port, backlog=256, limit=1 << 18)
+        except OSError as fault:
+            raise Ending(4, f"port {self.asked.port}: {os.strerror(fault.errno or 0)}") from fault
+        print(f"LISTEN {server.sockets[0].getsockname()[1]}", flush=True)
+        if self.asked.reads == "local":
+            self.must_last(self.replica.ends.stay(self.asked.limit))
+        await life
+
+
+def leave(status: int, text: str) -> NoReturn:
+    """Ends at once: clients are cut off, and the store reads its end."""
+    if text:
+        print(f"amreplica: {text}", file=sys.stderr, flush=True)
+    os._exit(status)
+
+
+def give_again(password: str) -> None:
+    """What was read of standard input can be read there once more."""
+    reader, writer = os.pipe()
+    os.write(writer, f"{password}\n".encode())
+    os.close(writer)
+    os.dup2(reader, sys.stdin.fileno())
+
+
+async def live(asked: argparse.Namespace) -> None:
+    program: List[Program] = []
+    try:
+        program.append(Program(asked))
+        await program[0].run()
+    except Ending as ending:
+        leave(ending.status, str(ending))
+    except StoreEnded as fault:
+        leave(3, f"the store: {fault}")
+    except TraceFault as fault:
+        leave(4, f"{asked.trace}: {fault}")
+    except Refused as fault:
+        leave(5, f"etcd: {fault}")
+    except LeftBehind as fault:
+        # Only a newer snapshot has what the log did meanwhile.
+        print(f"amreplica: left behind: {fault}: beginning anew", file=sys.stderr, flush=True)
+        program[0].store.close()
+        give_again(program[0].access.password)
+        os.execv(sys.executable, [sys.executable] + sys.argv)
+    except OSError as fault:
+        leave(4, str(fault))
+
+
+def main() -> None:
+    asyncio.run(live(parser().parse_args()))

@@ -1,0 +1,228 @@
+"""A replica: a store that takes the log's blocks in their order, and the way of its sessions' blocks into the log."""
+from __future__ import annotations
+
+import asyncio
+import hashlib
+import json
+import uuid
+from typing import Dict, List, NamedTuple, Optional
+
+from . import snapshots
+from .ends import Ends
+from .log import Event, Log
+from .store import PORTION, Store, StoreEnded
+from .trace import Trace
+from .transaction import CONFLICT, MOST_ANSWERS, UNKNOWN, UNREACHABLE, Block, blocks_of
+
+# Entries on their way at once: more of them make smaller ones, and were slower.
+ENTRIES = 1
+# Bytes of an entry that waits for company.
+ENTRY = 1_000_000
+# LOADs that blocks are applied with at once: as many runs of the store are left at least.
+LOADS = 1_000
+
+
+class Outcome(NamedTuple):
+    """What a block came to."""
+
+    answers: List[bytes]  # of the lines that weren't answered before
+    end: bytes  # of COMMIT
+
+
+class Waiting(NamedTuple):
+    """Blocks of a session, which go into one entry, in their order."""
+
+    text: bytes
+    blocks: int
+    outcomes: "asyncio.Future[List[Outcome]]"
+
+
+class Replica:
+    """The store, the log, and what is on its way from sessions to the log and back."""
+
+    def __init__(self, log: Log, store: Store, blocks_between_snapshots: int, trace: Optional[Trace] = None) -> None:
+        self.log, self.store, self.trace = log, store, trace
+        self.ends = Ends(log)
+        self.blocks_between_snapshots = blocks_between_snapshots
+        self.commits = 0
+        self.applied = 0  # the revision of the newest entry that was
+        self.blocks = 0  # that committed since the newest snapshot
+        self.name = uuid.uuid4().hex
+        self.entries = 0
+        self.queue: List[Waiting] = []
+        self.on_way: Dict[str, List[Waiting]] = {}
+        self.tasks: "asyncio.Queue[asyncio.Task[None]]" = asyncio.Queue()  # that write, for `life` to look at their ends
+        self.snapshot: Optional["asyncio.Task[None]"] = None
+        self.has_begun = False  # all that the log had at the start was applied
+
+    # A session's blocks, into the log
+
+    async def commit(self, blocks: List[Block], limit: float) -> List[Outcome]:
+        """What the blocks came to; beyond the limit that isn't known, or they were never handed over."""
+        loop = asyncio.get_running_loop()
+        waiting = Waiting(b"".join(block.text() for block in blocks), len(blocks), loop.create_future())
+        self.queue.append(waiting)
+        self.hand_over()
+        timer = loop.call_later(limit, self.expire, waiting)
+        try:
+            return await waiting.outcomes
+        finally:
+            timer.cancel()
+
+    def expire(self, waiting: Waiting) -> None:
+        if waiting.outcomes.done():
+            return
+        end = UNKNOWN
+        if waiting in self.queue:
+            self.queue.remove(waiting)
+            end = UNREACHABLE
+        waiting.outcomes.set_result([Outcome([], end)] * waiting.blocks)
+
+    def hand_over(self) -> None:
+        """What waits goes on its way, as far as there is room."""
+        while self.queue and len(self.on_way) < ENTRIES:
+            size = count = 0
+            while count < len(self.queue) and (count == 0 or size + len(self.queue[count].text) <= ENTRY):
+                size += len(self.queue[count].text)
+                count += 1
+            some, self.queue = self.queue[:count], self.queue[count:]
+            self.entries += 1
+            name = f"{self.name}-{self.entries}"
+            self.on_way[name] = some
+            self.write(name)
+
+    def write(self, name: str) -> None:
+        entry = b"".join(waiting.text for waiting in self.on_way[name])
+        task = asyncio.ensure_future(self.log.write(name, entry, lambda: name not in self.on_way))
+        task.add_done_callback(self.tasks.put_nowait)
+
+    # The log's entries, into the store
+
+    def take(self, event: Event) -> None:
+        """An event of the log, in its turn."""
+        entry = self.log.take(event)
+        if event.key == self.log.floor.key:
+            self.blocks = max(0, self.commits - int(json.loads(event.value)["commits"]))
+            for name in self.on_way:  # they weren't read while their generation was
+                self.write(name)
+        if entry is None or event.revision <= self.applied:
+            return
+        name, text = entry
+        outcomes = self.apply(list(blocks_of(text)))
+        self.applied = event.revision
+        if self.trace:
+            self.trace.flush()
+        self.tell(self.on_way.pop(name, []), outcomes)
+        self.hand_over()
+        if self.is_snapshot_due():
+            self.snapshot = asyncio.ensure_future(snapshots.write(self))
+            self.snapshot.add_done_callback(self.tasks.put_nowait)
+
+    def is_snapshot_due(self) -> bool:
+        is_free = self.has_begun and (self.snapshot is None or self.snapshot.done())
+        return is_free and 0 < self.blocks_between_snapshots <= self.blocks and self.applied > self.log.floor.revision
+
+    def tell(self, waitings: List[Waiting], outcomes: List[Outcome]) -> None:
+        """Each session of an entry, what became of its blocks."""
+        at = 0
+        for waiting in waitings:
+            if not waiting.outcomes.done():
+                waiting.outcomes.set_result(outcomes[at:at + waiting.blocks])
+            at += waiting.blocks
+
+    def apply(self, blocks: List[Block]) -> List[Outcome]:
+        """Blocks in their order. Those that were told nothing can't be contradicted: as many as there is room for go at once."""
+        outcomes: List[Outcome] = []
+        while blocks:
+            count = loads = size = 0
+            while count < len(blocks) and not blocks[count].told and loads < LOADS and size < PORTION:
+                loads += blocks[count].loads()
+                size += blocks[count].longest_answers()
+                count += 1
+            if count > 1:
+                outcomes += self.apply_untold(blocks[:count])
+            else:
+                count = 1
+                outcomes.append(self.apply_one(blocks[0]))
+            blocks = blocks[count:]
+        return outcomes
+
+    def apply_untold(self, blocks: List[Block]) -> List[Outcome]:
+        lines: List[bytes] = []
+        for block in blocks:
+            lines += [b"BEGIN", *block.lines, b"COMMIT"]
+        answers = self.store.free(lines)
+        outcomes: List[Outcome] = []
+        at = 0
+        for block in blocks:
+            end = at + 1 + len(block.lines)
+            outcomes.append(self.committed(block, answers[at + 1:end], answers[end]))
+            at = end + 1
+        return outcomes
+
+    def apply_one(self, block: Block) -> Outcome:
+        """Its lines are taken again: where the answered ones are answered as told it commits, else it aborts."""
+        told, size, answers = hashlib.sha256(), 0, []
+        for number, answer in enumerate(self.store.answers([b"BEGIN", *block.lines]), -1):
+            if 0 <= number < block.told:
+                told.update(answer + b"\n")
+                size += len(answer) + 1
+                if size > MOST_ANSWERS:
+                    break
+            if number >= block.told or self.trace and number >= 0:
+                answers.append(answer)
+        if told.hexdigest().encode() == block.digest:
+            untold = self.committed(block, answers, self.store.ask([b"COMMIT"])[0])
+            return Outcome(untold.answers[block.told:] if self.trace else untold.answers, untold.end)
+        self.store.ask([b"ABORT"])
+        self.store.has_ghosts = True
+        return Outcome([CONFLICT] * (len(block.lines) - block.told), CONFLICT)
+
+    def committed(self, block: Block, answers: List[bytes], end: bytes) -> Outcome:
+        if not end.startswith(b"COMMITTED "):
+            raise StoreEnded(f"COMMIT was answered {end.decode()}")
+        self.commits += 1
+        self.blocks += 1
+        if any(line == b"BACK" or line.startswith(b"DEL ") for line in block.lines):
+            self.store.has_ghosts = True
+        if self.trace:
+            self.trace.write(block.lines, answers)
+        return Outcome(answers, b"COMMITTED %d" % self.commits)
+
+    # Life
+
+    async def start(self) -> "asyncio.Task[None]":
+        """The newest snapshot, and all that the log has by now; the task that goes on so."""
+        after = await snapshots.read(self)
+        if self.trace:
+            self.trace.begin()
+        self.ends.reach(after)
+        life = asyncio.ensure_future(self.live(after))
+        ready = asyncio.ensure_future(self.ends.is_reached(float("inf")))
+        await asyncio.wait({life, ready}, return_when=asyncio.FIRST_COMPLETED)
+        if life.done():
+            ready.cancel()
+            life.result()
+        ready.result()
+        self.has_begun = True
+        return life
+
+    async def live(self, after: int) -> None:
+        """Follows the log, until that or something that writes to it fails."""
+        follow = asyncio.ensure_future(self.follow(after))
+        while True:
+            task = asyncio.ensure_future(self.tasks.get())
+            await asyncio.wait({follow, task}, return_when=asyncio.FIRST_COMPLETED)
+            if follow.done():
+                follow.result()
+            if task.done():
+                task.result().result()
+
+    async def follow(self, after: int) -> None:
+        async for some in self.log.news(after):
+            for event in some.events:
+                self.take(event)
+                await asyncio.sleep(0)
+            self.ends.reach(some.revision)
+
+

@@ -1,0 +1,189 @@
+"""Sessions: the lines of clients, and the answers to them in their order."""
+from __future__ import annotations
+
+import asyncio
+import re
+from typing import List, Optional, Union
+
+from .lines import LONGEST
+from .replica import Replica
+from .store import StoreEnded
+from .transaction import LIMIT, UNREACHABLE, Block, Transaction
+
+# Bytes that are read at once.
+CHUNK = 1 << 18
+# Bytes of whole transactions that were sent ahead, for one entry.
+AHEAD = 500_000
+# Whole transactions that read a few records, which may go to the store as they stand.
+READS_AHEAD = re.compile(rb"(?:BEGIN\n(?:(?:GET [!-<>-~]{1,32}|SCAN [!-<>-~]{1,32} [!-<>-~]{1,32} [1-9])\n)*COMMIT\n)+")
+BEGUN = re.compile(rb"^BEGUN [0-9]+$", re.MULTILINE)
+# Lines that end a transaction, or that don't belong to it.
+APART = (b"QUIT", b"ABORT", b"SEEN")
+MAINTENANCE = (b"MERGE ", b"CLEAN ")
+
+
+class Session:
+    """A client's lines. Where it reads local states these are at most `limit` seconds old."""
+
+    def __init__(self, replica: Replica, number: int, is_local: bool, limit: float, writer: asyncio.StreamWriter) -> None:
+        self.replica, self.number, self.is_local, self.limit, self.writer = replica, number, is_local, limit, writer
+        self.begun = 0
+        self.transaction: Optional[Transaction] = None
+        self.out: List[Union[bytes, Block]] = []  # answers, and blocks in the place of theirs
+        self.ahead = 0  # bytes of those blocks
+        self.is_current: Optional[bool] = None  # whether the log's end was reached since the last lines came, once that was asked
+
+    async def serve(self, reader: asyncio.StreamReader) -> None:
+        """All lines up to QUIT or the end of the input."""
+        rest, data = b"", b"."
+        while data:
+            data = await reader.read(CHUNK)
+            self.is_current = None
+            rest = await self.take_reads(rest + data)
+            *lines, rest = rest.split(b"\n")
+            rest = rest[:LONGEST + 1]
+            if rest and not data:
+                lines.append(rest)
+            for line in lines:
+                if not await self.take(line):
+                    return
+            await self.answer_all()
+            self.send()
+            await self.writer.drain()
+
+    def send(self) -> None:
+        """Sends the answers that stand; no block waits before them."""
+        self.writer.write(b"".join(answer + b"\n" for answer in self.out if isinstance(answer, bytes)))
+        self.out = []
+
+    # Lines
+
+    async def take(self, line: bytes) -> bool:
+        """One line; whether the session goes on."""
+        if len(line) > LONGEST:
+            await self.answer_all()
+            self.out.append(b"ERR LONG")
+            return True
+        if line.endswith(b"\r"):
+            line = line[:-1]
+        transaction = self.transaction
+        if line == b"BEGIN" and transaction is None:
+            self.begun += 1
+            self.transaction = Transaction()
+            self.out.append(b"BEGUN %d" % self.begun)
+        elif transaction is None or b"\r" in line or line in APART or line.startswith(MAINTENANCE):
+            await self.answer_all()
+            return self.take_apart(line)
+        elif line == b"COMMIT":
+            await self.commit(transaction)
+        else:
+            await self.take_inside(transaction, line)
+        return True
+
+    async def take_inside(self, transaction: Transaction, line: bytes) -> None:
+        """A line of the transaction, which is answered later, unless there is no room for it in a block."""
+        if not transaction.fault and not transaction.has_room(line):
+            await self.answer_all()  # answers that stand take less room than those that are awaited
+            if not transaction.has_room(line):
+                self.out.append(LIMIT)
+                return
+        transaction.add(line)
+
+    def take_apart(self, line: bytes) -> bool:
+        """A line that is answered here and now; whether the session goes on."""
+        if line == b"QUIT":
+            self.out.append(b"BYE")
+            self.send()
+            return False
+        if line == b"ABORT" and self.transaction is not None:
+            self.transaction = None
+            self.out.append(b"ABORTED")
+        elif b"\r" in line:
+            self.out.append(b"ERR SYNTAX")
+        elif line == b"SEEN":
+            self.out.append(b"SEEN %d %d" % (self.number, self.replica.commits))
+        else:
+            self.out += self.replica.store.free([line])
+        return True
+
+    async def commit(self, transaction: Transaction) -> None:
+        if transaction.only_reads() or transaction.has_stages or transaction.fault:
+            await self.answer_all()
+        if transaction.commits < 0 and transaction.only_reads():
+            await self.look(transaction)
+        if transaction.fault:
+            self.out.append(transaction.fault)
+        elif transaction.waits_to_load:
+            self.out.append(b"ERR STAGED")
+            return
+        elif transaction.only_reads():
+            self.out.append(b"COMMITTED %d" % transaction.commits)
+        else:
+            block = transaction.block()
+            self.out.append(block)
+            self.ahead += len(block.text())
+            if self.ahead > AHEAD:
+                await self.settle()
+        self.transaction = None
+
+    # Answers
+
+    async def answer_all(self) -> None:
+        """Answers all lines that have no answer yet."""
+        await self.settle()
+        transaction = self.transaction
+        if transaction is not None and transaction.pending:
+            await self.look(transaction)
+            self.out += transaction.trial(self.replica.store, self.replica.commits)
+
+    async def settle(self) -> None:
+        """The outcomes of the blocks that wait, before anything else is done."""
+        blocks = [one for one in self.out if isinstance(one, Block)]
+        if not blocks:
+            return
+        first = self.out.index(blocks[0])
+        rest, self.out, self.ahead = self.out[first:], self.out[:first], 0
+        self.send()
+        await self.writer.drain()
+        outcomes = iter(await self.replica.commit(blocks, self.limit))
+        for one in rest:
+            if isinstance(one, Block):
+                outcome = next(outcomes)
+                self.out += outcome.answers or [outcome.end] * (len(one.lines) - one.told)
+                self.out.append(outcome.end)
+            else:
+                self.out.append(one)
+
+    async def look(self, transaction: Transaction) -> None:
+        """Before a trial: its state is new enough, or the transaction can't go on."""
+        if not transaction.fault and (self.is_local or transaction.commits < 0) and not await self.is_new():
+            transaction.fault = UNREACHABLE
+        if transaction.commits < 0:
+            transaction.commits = self.replica.commits
+
+    async def is_new(self) -> bool:
+        """Whether what stands in the store now is new enough to be told of."""
+        if self.is_local:
+            return self.replica.ends.age() <= self.limit
+        if self.is_current is None:
+            self.is_current = await self.replica.ends.is_reached(self.limit)
+        return self.is_current
+
+    async def take_reads(self, text: bytes) -> bytes:
+        """Whole transactions that read a few records, sent ahead, are answered by one state; the rest of the text."""
+        found = READS_AHEAD.match(text) if self.transaction is None else None
+        if not found or not await self.is_new():
+            return text
+        store = self.replica.store
+        store.free([])
+        lines = found.group()
+        answers = store.raw(lines.replace(b"\nCOMMIT\n", b"\nABORT\n"), lines.count(b"\n"))
+        if b"\nERR FULL\n" in answers or b"\nERR MEMORY\n" in answers:
+            raise StoreEnded("memory was refused")
+
+        def number(_: object) -> bytes:
+            self.begun += 1
+            return b"BEGUN %d" % self.begun
+
+        self.writer.write(BEGUN.sub(number, answers).replace(b"\nABORTED\n", b"\nCOMMITTED %d\n" % self.replica.commits))
+        return text[found.end():]

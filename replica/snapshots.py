@@ -1,0 +1,149 @@
+"""Snapshots: all committed records, beside the log, as lines that load them; the log up to there is let go.
+
+A snapshot is the floor's text that names it, written once all its pieces are and were read again. What isn't named there
+is nobody's, and goes with the next one."""
+from __future__ import annotations
+
+import asyncio
+import hashlib
+import json
+import sys
+import time
+import uuid
+import zlib
+from typing import TYPE_CHECKING, List, NamedTuple, Optional
+
+from .etcd import Message, Refused, decoded, put_of
+from .log import Event, Log
+from .store import StoreEnded, runs_of
+from .trace import TraceFault
+
+if TYPE_CHECKING:
+    from .replica import Replica
+
+# Seconds: who writes a snapshot has to be done by then, or another may try too. The compared put lets one of them be it.
+LEASE = 20
+
+
+class Snapshot(NamedTuple):
+    """A state of the store, at its place in the log."""
+
+    name: str
+    revision: int  # of the newest entry that is in it
+    after: int  # behind which the log has to be read
+    commits: int
+    records: List[bytes]
+
+
+def note(text: str) -> None:
+    print(f"amreplica: {text}", file=sys.stderr, flush=True)
+
+
+def pieces_of(records: List[bytes]) -> List[bytes]:
+    return [zlib.compress(piece, 1) for piece in runs_of(records)]
+
+
+async def write(replica: Replica) -> None:
+    """Writes a snapshot, unless another replica does."""
+    log = replica.log
+    floor, generation = log.floor, log.generation
+    if not await claim(log, generation, replica.name) or log.floor is not floor:
+        await asyncio.sleep(1)
+        return
+    begun = time.monotonic()
+    # Nothing else is done meanwhile: the records are one state.
+    snapshot = Snapshot(uuid.uuid4().hex, replica.applied, log.first(replica.applied), replica.commits, replica.store.records())
+    stood = time.monotonic() - begun
+    pieces = await asyncio.get_running_loop().run_in_executor(None, pieces_of, snapshot.records)
+    sums = await put_pieces(log, floor, snapshot.name, pieces)
+    if sums is not None:
+        await move_floor(log, floor, generation, snapshot, sums)
+    while log.floor is floor:
+        log.moved.clear()
+        await log.moved.wait()
+    mine = f"{log.name}/snap/{snapshot.name}/"
+    if json.loads(log.floor.value)["id"] != snapshot.name:
+        await log.etcd.delete(mine, mine[:-1] + "0")
+        return
+    await let_go(log, generation, snapshot)
+    note(f"snapshot of {len(snapshot.records)} records at commit {snapshot.commits}, {len(pieces)} pieces, "
+         f"stood still for {stood:.3f} s, {time.monotonic() - begun:.3f} s in all")
+
+
+async def claim(log: Log, generation: int, name: str) -> bool:
+    """One replica at a time: whichever comes first."""
+    lease = await log.etcd.must("/v3/lease/grant", {"TTL": str(LEASE)})
+    put = put_of(f"{log.name}/claim/{generation:08d}", name.encode())
+    try:
+        return await log.etcd.put_if({"key": put["key"], "target": "VERSION", "version": "0"}, {**put, "lease": lease["ID"]})
+    except Refused:  # the lease is over already
+        return False
+
+
+async def put_pieces(log: Log, floor: Event, name: str, pieces: List[bytes]) -> Optional[List[str]]:
+    """Puts the pieces and reads them again: their digests, or None where another snapshot came first."""
+    for number, piece in enumerate(pieces):
+        key = f"{log.name}/snap/{name}/{number:08d}"
+        await log.etcd.must("/v3/kv/put", put_of(key, piece))
+        if log.floor is not floor:
+            return None
+        found = (await log.etcd.get(key)).get("kvs", [])
+        if log.floor is not floor:
+            return None
+        if not found or decoded(found[0].get("value", "")) != piece:
+            raise StoreEnded("a piece of a snapshot isn't as it was written")
+    return [hashlib.sha256(piece).hexdigest() for piece in pieces]
+
+
+async def move_floor(log: Log, floor: Event, generation: int, snapshot: Snapshot, sums: List[str]) -> None:
+    """Names the snapshot, which begins the next generation, unless another one has."""
+    value = {"generation": generation + 1, "since": floor.revision, "id": snapshot.name, "revision": snapshot.revision,
+             "after": snapshot.after, "commits": snapshot.commits, "records": len(snapshot.records), "pieces": sums}
+    put = put_of(floor.key, json.dumps(value).encode())
+    await log.etcd.put_if({"key": put["key"], "target": "MOD", "mod_revision": str(floor.revision)}, put)
+
+
+async def let_go(log: Log, generation: int, snapshot: Snapshot) -> None:
+    """What stands under the generation before the last is in this snapshot, which began after that one had ended."""
+    mine = f"{log.name}/snap/{snapshot.name}/"
+    await log.etcd.delete(f"{log.name}/log/", f"{log.name}/log/{generation:08d}/")
+    await log.etcd.delete(f"{log.name}/claim/", f"{log.name}/claim/{generation + 1:08d}")
+    await log.etcd.delete(f"{log.name}/snap/", mine)
+    await log.etcd.delete(mine[:-1] + "0", f"{log.name}/snap0")
+    try:
+        await log.etcd.must("/v3/kv/compaction", {"revision": str(snapshot.after)})
+    except Refused as fault:  # another has compacted further
+        note(f"compaction: {fault}")
+
+
+async def read(replica: Replica) -> int:
+    """The newest snapshot into the store; the revision behind which the log has to be read."""
+    log = replica.log
+    while True:
+        kvs = (await log.etcd.get(log.floor.key)).get("kvs")
+        if not kvs:
+            return 0
+        told: Message = json.loads(decoded(kvs[0]["value"]))
+        found = await pieces_named(log, told)
+        if found is not None:
+            break
+        await asyncio.sleep(0.2)  # another has taken its place
+    if replica.trace:
+        raise TraceFault("the log's beginning is in a snapshot, so no run can be stored")
+    replica.store.load([zlib.decompress(piece) for piece in found])
+    replica.commits, replica.applied = told["commits"], told["revision"]
+    # The floor's own event comes once more, behind that.
+    log.floor, log.generation = Event(int(told["since"]), log.floor.key, b""), int(told["generation"]) - 1
+    return min(int(told["after"]), int(kvs[0]["mod_revision"]) - 1)
+
+
+async def pieces_named(log: Log, told: Message) -> Optional[List[bytes]]:
+    """The pieces that the floor names, where all are there."""
+    found: List[bytes] = []
+    for number, digest in enumerate(told["pieces"]):
+        kvs = (await log.etcd.get(f"{log.name}/snap/{told['id']}/{number:08d}")).get("kvs")
+        piece = decoded(kvs[0]["value"]) if kvs else b""
+        if hashlib.sha256(piece).hexdigest() != digest:
+            return None
+        found.append(piece)
+    return found

@@ -1,0 +1,126 @@
+"""A transaction as its session has it, in trials, and as a block of the log.
+
+All that a transaction was told is what one state of the store, which was the log's end once, answers."""
+from __future__ import annotations
+
+import hashlib
+from typing import Iterator, List, NamedTuple
+
+from .lines import READS, longest_answer
+from .store import RUNS, Store
+
+CONFLICT = b"ERR CONFLICT"
+LIMIT = b"ERR LIMIT"
+UNREACHABLE = b"ERR UNREACHABLE"
+UNKNOWN = b"ERR UNKNOWN"
+# Bytes of a block's lines, each counted with 100 more, and of its answers.
+MOST_LINES = 64_000_000
+MOST_ANSWERS = 64_000_000
+
+
+class Block(NamedTuple):
+    """Lines; how many of them were answered; the digest of those answers."""
+
+    lines: List[bytes]
+    told: int
+    digest: bytes
+
+    def text(self) -> bytes:
+        return b"%d %d %s\n" % (len(self.lines), self.told, self.digest) + b"".join(line + b"\n" for line in self.lines)
+
+    def loads(self) -> int:
+        return sum(line.startswith(b"LOAD ") for line in self.lines)
+
+    def longest_answers(self) -> int:
+        return sum(map(longest_answer, self.lines))
+
+
+def blocks_of(entry: bytes) -> Iterator[Block]:
+    """The blocks of an entry."""
+    rows = entry.split(b"\n")
+    at = 0
+    while at < len(rows) - 1:
+        count, told, digest = rows[at].split(b" ")
+        yield Block(rows[at + 1:at + 1 + int(count)], int(told), digest)
+        at += 1 + int(count)
+
+
+def line_size(line: bytes) -> int:
+    return len(line) + 100
+
+
+class Transaction:
+    """Its lines up to now: those that were answered, and those that wait for that."""
+
+    def __init__(self) -> None:
+        self.lines: List[bytes] = []  # answered
+        self.digest = hashlib.sha256()  # of those answers
+        self.pending: List[bytes] = []
+        self.fault = b""  # what all further lines are answered
+        self.has_stages = False
+        self.waits_to_load = False  # records were staged
+        self.wrote = False
+        self.commits = -1  # those of the state that it was told of; -1 before the first trial
+        self.line_bytes = self.answer_bytes = 0  # the answers of what is pending are counted as the longest
+
+    def block(self) -> Block:
+        return Block(self.lines + self.pending, len(self.lines), self.digest.hexdigest().encode())
+
+    def only_reads(self) -> bool:
+        """Whether it wrote nothing, and has no line pending that may."""
+        return not self.wrote and all(line.partition(b" ")[0] in READS for line in self.pending)
+
+    def has_room(self, line: bytes) -> bool:
+        """Whether no block can be too large with that line."""
+        return self.line_bytes + line_size(line) <= MOST_LINES and self.answer_bytes + longest_answer(line) <= MOST_ANSWERS
+
+    def add(self, line: bytes) -> None:
+        """A line that is pending from now on."""
+        self.pending.append(line)
+        self.has_stages = self.has_stages or line.startswith(b"STAGE ")
+        self.line_bytes += line_size(line)
+        self.answer_bytes += longest_answer(line)
+
+    def trial(self, store: Store, commits: int) -> List[bytes]:
+        """The answers to the lines that are pending, where the store stands now."""
+        pending, self.pending = self.pending, []
+        for line in pending:
+            self.line_bytes -= line_size(line)
+            self.answer_bytes -= longest_answer(line)
+        if not self.fault:
+            answers = store.ask(pending) if store.holder is self and store.runs <= RUNS else self.renewed(store, pending)
+        if self.fault:
+            return [self.fault] * len(pending)
+        self.commits = commits
+        for line, answer in zip(pending, answers):
+            self.take(line, answer)
+        store.has_ghosts = store.has_ghosts or self.wrote
+        return answers
+
+    def renewed(self, store: Store, pending: List[bytes]) -> List[bytes]:
+        """A trial from the beginning on: all earlier answers have to come again."""
+        told, answers = hashlib.sha256(), []
+        for number, answer in enumerate(store.answers([b"BEGIN", *self.lines, *pending]), -1):
+            if number >= len(self.lines):
+                answers.append(answer)
+            elif number >= 0:
+                told.update(answer + b"\n")
+        store.holder = self
+        if told.digest() != self.digest.digest():
+            store.has_ghosts = True
+            self.fault = CONFLICT
+        return answers
+
+    def take(self, line: bytes, answer: bytes) -> None:
+        """A line was answered. One with a fault did nothing and is forgotten; a LOAD lets go what was staged."""
+        word = line.partition(b" ")[0]
+        if answer.startswith(b"ERR ") and (word != b"LOAD" or answer in (b"ERR SYNTAX", b"ERR RANGE")):
+            return
+        if word in (b"LOAD", b"STAGE"):
+            self.waits_to_load = word == b"STAGE"
+        if answer == b"OK" and word not in READS and word != b"STAGE":
+            self.wrote = True
+        self.lines.append(line)
+        self.digest.update(answer + b"\n")
+        self.line_bytes += line_size(line)
+        self.answer_bytes += len(answer) + 1

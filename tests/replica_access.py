@@ -1,0 +1,191 @@
+"""What lies round a replica: TLS and a password, etcd's space, statuses and texts, and the transactions of the Python package."""
+from __future__ import annotations
+
+import os
+import subprocess
+import sys
+import threading
+from typing import Any, Callable, List, Tuple
+
+from cluster import STORE, Cluster, until
+from support import LIMIT, TOP, fail, wanted
+
+sys.path.insert(0, os.path.join(TOP, "python"))
+
+AMREPLICA = os.path.join(TOP, "amreplica")
+
+
+def run(*words: str, **how: Any) -> Tuple[int, str, str]:
+    """Its status, standard output and standard error, of a program that ends by itself."""
+    done = subprocess.run([AMREPLICA, *words], capture_output=True, text=True, timeout=LIMIT, check=False, **how)
+    return done.returncode, done.stdout, done.stderr
+
+
+def statuses(cluster: Cluster) -> None:
+    """Words, ports and files that are wrong, and a launcher that is a link."""
+    link = os.path.join(cluster.folder, "link")
+    os.symlink(AMREPLICA, link)
+    helped = subprocess.run([link, "--help"], capture_output=True, text=True, timeout=LIMIT, check=False)
+    wanted("help by a link", (helped.returncode, "status:" in helped.stdout), (0, True))
+    for given in ["", "--port 65536 a:1", "--reads all a:1", "nowhere", "--log a/b a:1", "--limit 0 a:1", "--snapshot -1 a:1"]:
+        wanted(f"the words {given}", run(*given.split())[:2], (2, ""))
+    endpoint = cluster.endpoints[0]
+    wanted("a trace that can't be written", run("--trace", "/nowhere/trace", "--store", STORE, endpoint)[::2],
+           (4, "amreplica: /nowhere/trace: No such file or directory\n"))
+    wanted("a store that isn't there", run("--store", "/nowhere/store", endpoint)[0], 3)
+    cluster.start_replica(0, "--log", "statuses", "--snapshot", "1")
+    wanted("a replica", cluster.is_ready(0), True)
+    port = str(cluster.ports[0])
+    wanted("a port in use", run("--log", "statuses", "--store", STORE, "--port", port, endpoint)[::2],
+           (4, f"amreplica: port {port}: Address already in use\n"))
+    trace = os.path.join(cluster.folder, "later")
+    with open(trace, "w", encoding="ascii") as file:
+        file.write("earlier\n")
+    cluster.client(0).ask("BEGIN", "INS a 1", "COMMIT")
+    wanted("a snapshot", until(lambda: "snapshot of" in cluster.notes(0)), True)
+    wanted("a trace that comes late", run("--log", "statuses", "--store", STORE, "--trace", trace, endpoint)[::2],
+           (4, f"amreplica: {trace}: the log's beginning is in a snapshot, so no run can be stored\n"))
+    with open(trace, encoding="ascii") as file:
+        wanted("leaves its file", file.read(), "earlier\n")
+    cluster.replicas[0].terminate()
+    wanted("its end by SIGTERM", cluster.replicas[0].wait(LIMIT), 0)
+
+
+def certificates(folder: str) -> List[str]:
+    """A certificate for 127.0.0.1 that signs itself, and its key. It has no common name: beside passwords etcd's gateway
+    refuses clients that have one."""
+    files = [os.path.join(folder, "certificate"), os.path.join(folder, "key")]
+    words = ["openssl", "req", "-x509", "-newkey", "rsa:2048", "-nodes", "-days", "2", "-subj", "/O=Tiuvrokk",
+             "-addext", "subjectAltName=IP:127.0.0.1", "-addext", "extendedKeyUsage=serverAuth,clientAuth",
+             "-out", files[0], "-keyout", files[1]]
+    subprocess.run(words, check=True, stderr=subprocess.DEVNULL, timeout=LIMIT)
+    return files
+
+
+def guarded(folder: str) -> None:
+    """etcd by TLS, which asks for certificates, and with a password."""
+    os.makedirs(folder)
+    certificate, key = certificates(folder)
+    words = ["--cert-file", certificate, "--key-file", key, "--trusted-ca-file", certificate, "--client-cert-auth"]
+    access = ["--cacert", certificate, "--cert", certificate, "--key", key]
+    cluster = Cluster(folder, *words, members=1, scheme="https", access=access)
+    try:
+        for given in (["user", "add", "root:secret"], ["user", "grant-role", "root", "root"], ["auth", "enable"]):
+            wanted(f"etcdctl {given}", cluster.status(*given), 0)
+        cluster.start_replica(0, *access, "--user", "root:secret")
+        wanted("a replica", cluster.is_ready(0), True)
+        client = cluster.client(0)
+        wanted("a transaction", client.ask("BEGIN", "INS a 1", "COMMIT")[1:], ["OK", "COMMITTED 1"])
+        cluster.kill_member(0)  # which forgets the token
+        cluster.start_member(0)
+        wanted("behind a restart", until(lambda: client.ask("BEGIN", "GET a", "COMMIT")[1:] == ["VAL 1", "COMMITTED 1"]), True)
+        wanted("a commit", client.ask("BEGIN", "INS b 1", "COMMIT")[1:], ["OK", "COMMITTED 2"])
+        wrong = run(*access, "--user", "root", "--store", STORE, cluster.endpoints[0], input="wrong\n")
+        wanted("a wrong password", (wrong[0], wrong[2].startswith("amreplica: etcd: ")), (5, True))
+    finally:
+        cluster.close()
+
+
+def exhausted(folder: str) -> None:
+    """etcd's space is used up: nothing more commits, and what stands is read."""
+    cluster = Cluster(folder, "--quota-backend-bytes", "20000000", members=1)
+    try:
+        cluster.start_replica(0, "--limit", "5")
+        wanted("a replica", cluster.is_ready(0), True)
+        client = cluster.client(0)
+        ends = ["COMMITTED"]
+        while ends[-1].startswith("COMMITTED") and len(ends) < 100:
+            ends.append(client.ask("BEGIN", *filler(len(ends)), "COMMIT")[-1])
+        wanted("the last of many", ends[-1] in ("ERR UNKNOWN", "ERR UNREACHABLE"), True)
+        stands = "VAL " + "v" * 64
+        wanted("what stands", until(lambda: client.ask("BEGIN", "GET f1.0000", "COMMIT")[1] == stands), True)
+        cluster.kill_replica(0)
+        cluster.start_replica(0, "--limit", "5")
+        wanted("a replica that begins then", cluster.is_ready(0), True)
+        client = cluster.client(0)
+        wanted("has what stands", until(lambda: client.ask("BEGIN", "GET f1.0000", "COMMIT")[1] == stands), True)
+    finally:
+        cluster.close()
+
+
+def filler(number: int) -> List[str]:
+    """Lines of half a million bytes."""
+    records = [f"f{number}.{at:04}={'v' * 64}" for at in range(6500)]
+    return [f"LOCK X ! {'~' * 32}"] + [f"LOAD {' '.join(records[at:at + 50])}" for at in range(0, 6500, 50)]
+
+
+def transactions(cluster: Cluster) -> None:
+    """The Python package: what conflicts runs again, up to a bound, and what only sets never conflicts."""
+    from tiuvrokk.replica import Conflict, Refused, Session, Transaction
+
+    for at in (0, 1):
+        cluster.start_replica(at, "--log", "python", "--limit", "60")
+    wanted("replicas", [cluster.is_ready(at) for at in (0, 1)], [True, True])
+
+    def begin(tx: Transaction) -> None:
+        for name in "abc":
+            tx[name] = 100
+
+    def add(tx: Transaction) -> None:
+        tx["a"] = int(tx["a"]) + 1
+
+    def work(at: int) -> None:
+        with Session(cluster.ports[at]) as session:
+            for _ in range(20):
+                session.transaction(add, tries=10_000)
+
+    with Session(cluster.ports[0]) as session:
+        session.transaction(begin)
+        threads = [threading.Thread(target=work, args=(at,)) for at in (0, 0, 1, 1)]
+        for thread in threads:
+            thread.start()
+        for thread in threads:
+            thread.join()
+        wanted("what all made of it", session.transaction(lambda tx: tx["a"]), b"180")
+        refusals(session, cluster, Conflict, Refused)
+
+
+def refusals(session: Any, cluster: Cluster, conflict: Any, refused: Any) -> None:
+    """Ends of transactions that don't commit, and many records."""
+    tried: List[int] = []
+
+    def meddled(tx: Any) -> None:
+        tried.append(len(tried))
+        value = int(tx["b"])
+        cluster.client(1).ask("BEGIN", f"REP b {len(tried)}", "COMMIT")
+        tx["b"] = value + 1000
+
+    raises("a conflict at each try", conflict, lambda: session.transaction(meddled, tries=3))
+    wanted("tries", len(tried), 3)
+    raises("a key that isn't there", KeyError, lambda: session.transaction(lambda tx: tx.__delitem__("none")))
+    raises("a key that is none", ValueError, lambda: session.transaction(lambda tx: tx.get("a b")))
+
+    def many(tx: Any) -> None:
+        for number in range(2000):
+            tx[f"m{number:04}"] = number
+
+    def too_many(tx: Any) -> None:
+        for number in range(3000):
+            tx[f"n{number:04}"] = number
+
+    session.transaction(many)
+    raises("more operations than a transaction has", refused, lambda: session.transaction(too_many))
+    found = session.transaction(lambda tx: list(tx.scan("m", "n~")))
+    wanted("records", found, [(b"m%04d" % number, b"%d" % number) for number in range(2000)])
+
+    def change(tx: Any) -> Tuple[bool, bool, Any]:
+        del tx["m0000"]
+        tx.discard("m0001")
+        tx.discard("m0001")
+        return tx.insert("m0002", 1), "m0001" in tx, tx.get("b")
+
+    wanted("changes", session.transaction(change), (False, False, b"3"))
+    wanted("what is left", len(session.transaction(lambda tx: list(tx.scan("m", "m~")))), 1998)
+
+
+def raises(what: str, kind: Any, call: Callable[[], Any]) -> None:
+    try:
+        call()
+    except kind:
+        return
+    fail(f"{what} isn't told")

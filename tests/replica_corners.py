@@ -1,0 +1,309 @@
+"""What such designs break in, one by one, at three replicas of one log."""
+from __future__ import annotations
+
+import asyncio
+import json
+import os
+import signal
+import threading
+import time
+from typing import Any, Callable, Dict, List, Tuple
+
+from cluster import STORE, Client, Cluster, until
+from support import fail, wanted
+
+from replica.etcd import Etcd, Refused, decoded, encoded
+
+NAME = "corners"
+LIMIT = 60
+SHORT_LIMIT = 3
+EVERYTHING = "! " + "~" * 32
+FLOOR_EVERY = "3"
+
+
+def request(cluster: Cluster, path: str, message: Dict[str, Any]) -> Dict[str, Any]:
+    """A request to etcd, as replicas make it."""
+    return asyncio.run(Etcd(cluster.endpoints).must(path, message))
+
+
+def kept(cluster: Cluster, folder: str) -> List[Tuple[int, str, bytes]]:
+    """The keys of the log below a folder, by rising revision."""
+    area = {"key": encoded(f"{NAME}/{folder}".encode()), "range_end": encoded(f"{NAME}/{folder}~".encode())}
+    found = request(cluster, "/v3/kv/range", area).get("kvs", [])
+    return sorted((int(kv["create_revision"]), decoded(kv["key"]).decode(), decoded(kv.get("value", ""))) for kv in found)
+
+
+def floors(cluster: Cluster) -> int:
+    """How many snapshots were written."""
+    found = kept(cluster, "floor")
+    return int(json.loads(found[0][2])["generation"]) if found else 0
+
+
+def start(cluster: Cluster, at: int, *words: str, store: str = STORE, limit: int = LIMIT) -> None:
+    cluster.start_replica(at, "--log", NAME, "--limit", str(limit), *words, store=store)
+    if not cluster.is_ready(at):
+        fail(f"replica {at} isn't ready: {cluster.notes(at)[-500:]}")
+
+
+def sees(cluster: Cluster, at: int, key: str) -> str:
+    """What a transaction of that replica alone reads."""
+    client = cluster.client(at)
+    answer = client.ask("BEGIN", f"GET {key}", "COMMIT")[1]
+    client.close()
+    return answer
+
+
+def phantoms(one: Client, two: Client) -> None:
+    """A scan conflicts with a record that came between; a read at once doesn't, and takes no number."""
+    one.ask("BEGIN", "INS a 1", "INS c 3", "COMMIT")
+    wanted("two records", one.ask("BEGIN", "SCAN a c 9")[1], "ROWS 2 a=1 c=3")
+    wanted("a line", one.ask("INS x 1"), ["OK"])
+    number = int(two.ask("BEGIN", "INS b 2", "COMMIT")[2].split()[1])
+    wanted("a phantom", one.ask("COMMIT"), ["ERR CONFLICT"])
+    wanted("behind it", one.ask("GET a"), ["ERR NOTX"])
+    wanted("three records", one.ask("BEGIN", "SCAN a c 9", "COMMIT")[1:], ["ROWS 3 a=1 b=2 c=3", f"COMMITTED {number}"])
+    wanted("what wrote nothing", two.ask("BEGIN", "INS a 1")[1:] + two.ask("COMMIT"), ["EXISTS a", f"COMMITTED {number}"])
+
+
+def one_state(one: Client, two: Client) -> None:
+    """Nothing that a transaction is told mixes two states: behind a change its lines are refused up to its end."""
+    one.ask("BEGIN", "GET a")
+    two.ask("BEGIN", "REP a 5", "COMMIT")
+    wanted("a refused line", until(lambda: one.ask("GET b") == ["ERR CONFLICT"]), True)
+    wanted("all behind it", one.ask("INS d 4", "COMMIT"), ["ERR CONFLICT"] * 2)
+    wanted("nothing of it stands", one.ask("BEGIN", "GET d", "ABORT")[1:], ["NONE", "ABORTED"])
+
+
+def pipelines(one: Client) -> None:
+    """Lines of all kinds, sent together."""
+    lines = ["COMMIT", "BEGIN", "INS p1 1", "COMMIT", "BEGIN", "GET p1", "COMMIT", "BEGIN", "INS p2 1", "ABORT",
+             "BEGIN", "GET p2", "BEGIN", "foo", "REP p1 2", "COMMIT", "MERGE 65", "CLEAN z a 1",
+             "BEGIN", "GET p1", "GET " + "k" * 33, "x" * 5000, "COMMIT"]
+    right = ["ERR NOTX", "BEGUN", "OK", "COMMITTED", "BEGUN", "VAL 1", "COMMITTED", "BEGUN", "OK", "ABORTED",
+             "BEGUN", "NONE", "ERR ACTIVE", "ERR SYNTAX", "OK", "COMMITTED", "ERR LIMIT", "ERR RANGE",
+             "BEGUN", "VAL 2", "ERR RANGE", "ERR LONG", "COMMITTED"]
+    answers = [answer.split()[0] if answer[0] in "BC" else answer for answer in one.ask(*lines)]
+    wanted("lines of all kinds", answers, right)
+    one.socket.sendall(b"BEGIN\r\nGET p1\r\r\nGET p1\r\nCOMMIT\r\r\nCOMMIT\r\n")
+    answers = [one.answer().split(" ")[0] for _ in range(5)]
+    wanted("CR CR LF", answers, ["BEGUN", "ERR", "VAL", "ERR", "COMMITTED"])
+    number = one.ask("BEGIN", "COMMIT")[1].split()[1]
+    wanted("SEEN", one.ask("SEEN")[0].split()[::2], ["SEEN", number])
+
+
+def staging(one: Client, two: Client) -> None:
+    """Records that are staged: faults, and a run of more than 65,536, at another replica."""
+    answers = one.ask("BEGIN", "STAGE s1=1 s2=2", "COMMIT", "LOAD s3=3", "STAGE s4=4", "LOAD s1=1", "COMMIT",
+                      "BEGIN", "SCAN s1 s9 9", "COMMIT")
+    wanted("staged lines", answers[1:6], ["OK", "ERR STAGED", "OK", "OK", "ERR ORDER"])
+    wanted("what is loaded", answers[8], "ROWS 3 s1=1 s2=2 s3=3")
+    records = [f"w{number:05}={number:020}" for number in range(65_536)]  # more than a piece of the log
+    one.ask("BEGIN")
+    for at in range(0, len(records), 128):
+        wanted("a staged line", one.ask("STAGE " + " ".join(records[at:at + 128])), ["OK"])
+    wanted("the load", one.ask("STAGE wx=1", "LOAD wx=1 wy=2"), ["ERR LIMIT", "OK"])
+    wanted("its end", one.ask("COMMIT")[0].split()[0], "COMMITTED")
+    wanted("the run elsewhere", two.ask("BEGIN", "SCAN w65535 wz 9", "COMMIT")[1], f"ROWS 3 {records[-1]} wx=1 wy=2")
+
+
+def always_in_conflict(cluster: Cluster, one: Client) -> None:
+    """Two clients at two replicas that write one record: both get on."""
+    one.ask("BEGIN", "INS fight 0", "COMMIT")
+    done = [0, 0]
+
+    def fight(me: int) -> None:
+        client = cluster.client(me)
+        end = time.monotonic() + 60
+        while time.monotonic() < end and (done[me] < 20 or min(done) == 0):
+            value = client.ask("BEGIN", "GET fight")[1]
+            if value.startswith("VAL") and client.ask(f"REP fight {int(value[4:]) + 1}") == ["OK"]:
+                done[me] += client.ask("COMMIT")[0].startswith("COMMITTED")
+            else:
+                client.ask("ABORT")
+
+    fights = [threading.Thread(target=fight, args=(me,)) for me in (0, 1)]
+    for thread in fights:
+        thread.start()
+    for thread in fights:
+        thread.join()
+    wanted("what both made of it", one.ask("BEGIN", "GET fight", "COMMIT")[1], f"VAL {sum(done)}")
+    wanted("each got on", min(done) > 0, True)
+
+
+def long_transaction(cluster: Cluster, one: Client) -> None:
+    """4,090 lines one by one, beside another client's transactions."""
+    stop = threading.Event()
+
+    def other() -> None:
+        client, step = cluster.client(0), 0
+        while not stop.is_set():
+            step += 1
+            client.ask("BEGIN", f"INS o{step} 1", "COMMIT")
+            time.sleep(0.05)
+
+    thread = threading.Thread(target=other)
+    thread.start()
+    try:
+        one.ask("BEGIN", f"LOCK X {EVERYTHING}")
+        answers = {answer for number in range(4090) for answer in one.ask(f"INS l{number} 1")}
+        wanted("answers", answers, {"OK"})
+        wanted("its end", one.ask("COMMIT")[0].split()[0], "COMMITTED")
+    finally:
+        stop.set()
+        thread.join()
+
+
+def many_runs(one: Client) -> None:
+    """70,000 LOADs that are aborted: more runs than a store makes in its life."""
+    lines = ["BEGIN", f"LOCK X {EVERYTHING}", *(f"LOAD u{number:03}=1" for number in range(1000)), "ABORT"]
+    for _ in range(70):
+        wanted("aborted loads", set(one.ask(*lines)[1:]), {"OK", "ABORTED"})
+    wanted("what was there", one.ask("BEGIN", "GET c", "GET u001", "COMMIT")[1:3], ["VAL 3", "NONE"])
+
+
+def large_answers(one: Client) -> None:
+    """A transaction's answers have a bound; what is beyond it isn't done, and the transaction goes on."""
+    records = [f"v{number:031}={'v' * 64}" for number in range(1000)]
+    lines = ["STAGE " + " ".join(records[at:at + 40]) for at in range(0, 960, 40)] + ["LOAD " + " ".join(records[960:])]
+    wanted("records of the greatest size", set(one.ask("BEGIN", *lines)[1:]), {"OK"})
+    one.ask("COMMIT")
+    one.ask("BEGIN")
+    answers = [one.ask("SCAN v v~ 1000")[0] for _ in range(660)]
+    sizes = [len(answer) + 1 for answer in answers if answer.startswith("ROWS 1000")]
+    wanted("the longest answers", set(sizes), {98_010})
+    wanted("others", [answer for answer in answers if not answer.startswith("ROWS")], ["ERR LIMIT"] * (660 - len(sizes)))
+    wanted("how many 64,000,000 bytes have room for", len(sizes), 652)
+    wanted("its end", one.ask("GET a", "COMMIT")[0], "VAL 5")
+
+
+def puts_again(cluster: Cluster, one: Client, two: Client) -> None:
+    """A put that comes once more, at once, late, and behind the end of its generation, does nothing."""
+    number = int(one.ask("BEGIN", "INS again 1", "COMMIT")[2].split()[1])
+    _, key, value = kept(cluster, "log/")[-1]
+    put = {"key": encoded(key.encode()), "value": encoded(value)}
+    request(cluster, "/v3/kv/put", put)
+    wanted("the next number", one.ask("BEGIN", "DEL again", "COMMIT")[2], f"COMMITTED {number + 1}")
+    request(cluster, "/v3/kv/put", put)
+    cluster.kill_replica(2)
+    start(cluster, 2, "--snapshot", FLOOR_EVERY)
+    for _ in range(3):
+        before = floors(cluster)
+        wanted("a snapshot", until(lambda: two.ask("BEGIN", "INS y 1", "DEL y", "COMMIT") and floors(cluster) > before), True)
+    wanted("the key has gone", until(lambda: key not in [found for _, found, _ in kept(cluster, "log/")]), True)
+    request(cluster, "/v3/kv/put", put)
+    wanted("snapshots at rest", until(lambda: not kept(cluster, "claim/")), True)
+    cluster.kill_replica(2)
+    start(cluster, 2, "--snapshot", FLOOR_EVERY)
+    wanted("the record", [sees(cluster, at, "again") for at in range(3)], ["NONE"] * 3)
+
+
+def slept(cluster: Cluster, generations: int) -> None:
+    """A replica that sleeps while snapshots are written and the history goes; beyond the first it begins anew by itself."""
+    process = cluster.replicas[1]
+    process.send_signal(signal.SIGSTOP)
+    for at in range(3):  # what was on its way to it is lost too
+        cluster.kill_member(at)
+        cluster.start_member(at)
+    wanted("etcd", until(lambda: cluster.status("endpoint", "status") == 0), True)
+    one = cluster.client(0)
+    before = floors(cluster)
+    while floors(cluster) < before + generations:
+        one.ask("BEGIN", "INS y 1", "DEL y", "COMMIT")
+        time.sleep(1)  # so that one generation is one
+    wanted("a commit", one.ask("BEGIN", f"INS slept{generations} 1", "COMMIT")[2].split()[0], "COMMITTED")
+    revision = request(cluster, "/v3/kv/range", {"key": encoded(b"none")})["header"]["revision"]
+    try:
+        request(cluster, "/v3/kv/compaction", {"revision": revision})
+    except Refused:
+        pass  # it was compacted further
+    process.send_signal(signal.SIGCONT)
+    if generations > 1:
+        wanted("it begins anew", until(lambda: "beginning anew" in cluster.notes(1)), True)
+        wanted("and is ready", until(lambda: process.poll() is None and is_answered(cluster, 1)), True)
+    wanted("what it reads", sees(cluster, 1, f"slept{generations}"), "VAL 1")
+
+
+def is_answered(cluster: Cluster, at: int) -> bool:
+    try:
+        return sees(cluster, at, "c") == "VAL 3"
+    except OSError:
+        return False
+
+
+def no_majority(cluster: Cluster) -> None:
+    """What was on its way isn't known, what waited wasn't done, what reads is refused; then all goes on."""
+    for at in range(3):
+        cluster.kill_replica(at)
+        start(cluster, at, "--reads", "local" if at == 2 else "log", limit=SHORT_LIMIT)
+    local = cluster.client(2)
+    wanted("a local read", until(lambda: local.ask("BEGIN", "GET a", "COMMIT")[1] == "VAL 5"), True)
+    for at in (0, 1):
+        cluster.stop_member(at)
+    clients = [cluster.client(0) for _ in range(3)]
+    for number, client in enumerate(clients):
+        client.send("BEGIN", f"INS cut{number} 1", "COMMIT")
+        time.sleep(0.3)
+    wanted("a read", cluster.client(1).ask("BEGIN", "GET a", "COMMIT")[1:], ["ERR UNREACHABLE"] * 2)
+    ends = [[client.answer() for _ in range(3)][2] for client in clients]
+    wanted("what COMMIT is told", ends, ["ERR UNKNOWN", "ERR UNREACHABLE", "ERR UNREACHABLE"])
+    old = ["ERR UNREACHABLE"] * 2
+    wanted("a local read of what is too old", until(lambda: local.ask("BEGIN", "GET a", "COMMIT")[1:] == old), True)
+    for at in (0, 1):
+        cluster.continue_member(at)
+    wanted("and back", until(lambda: cluster.client(0).ask("BEGIN", "REP a 6", "COMMIT")[2].startswith("COMMITTED")), True)
+    for number in (1, 2):
+        wanted("what wasn't done", until(lambda: sees(cluster, 1, f"cut{number}") == "NONE"), True)
+    wanted("a local read again", until(lambda: local.ask("BEGIN", "GET a", "COMMIT")[1] == "VAL 6"), True)
+    for at in range(3):
+        cluster.kill_replica(at)
+        start(cluster, at)
+
+
+def equal(cluster: Cluster) -> None:
+    contents = [cluster.client(at).records() for at in range(3)]
+    wanted("equal records", [content == contents[0] for content in contents], [True] * 3)
+
+
+def ended_store(cluster: Cluster) -> None:
+    """A store that is killed ends its replica, and one that is refused memory does; the others go on."""
+    replica = cluster.replicas[0].pid
+    with open(f"/proc/{replica}/task/{replica}/children", encoding="ascii") as children:
+        os.kill(int(children.read().split()[0]), signal.SIGKILL)
+    wanted("a store that is killed", cluster.replicas[0].wait(60), 3)
+    start(cluster, 3, store=f"sh -c 'ulimit -v 60000; exec {STORE}'")
+    one = cluster.client(1)
+    keys = [f"m{number:06}" for number in range(500_000)]
+    rows = [" ".join(f"{key}=value" for key in keys[at:at + 250]) for at in range(0, len(keys), 250)]
+    for at in range(0, len(rows), 200):
+        lines = [f"STAGE {row}" for row in rows[at:at + 199]] + [f"LOAD {rows[at + 199]}"]
+        wanted("a load", set(one.ask("BEGIN", *lines)[1:]), {"OK"})
+        wanted("its end", one.ask("COMMIT")[0].split()[0], "COMMITTED")
+    wanted("a store that is refused memory", cluster.replicas[3].wait(60), 3)
+    wanted("the others", [sees(cluster, at, keys[-1]) for at in (1, 2)], ["VAL value"] * 2)
+
+
+def all_corners(cluster: Cluster) -> None:
+    """Each of them, on one log."""
+    for at in range(3):
+        start(cluster, at, "--snapshot", "0")
+    one, two = cluster.client(0), cluster.client(1)
+    corners: List[Tuple[str, Callable[[], None]]] = [
+        ("phantoms", lambda: phantoms(one, two)),
+        ("one state", lambda: one_state(one, two)),
+        ("pipelines", lambda: pipelines(one)),
+        ("staging", lambda: staging(one, two)),
+        ("always in conflict", lambda: always_in_conflict(cluster, one)),
+        ("a long transaction", lambda: long_transaction(cluster, one)),
+        ("many runs", lambda: many_runs(one)),
+        ("large answers", lambda: large_answers(one)),
+        ("puts again", lambda: puts_again(cluster, one, two)),
+        ("slept", lambda: slept(cluster, 1)),
+        ("slept longer", lambda: slept(cluster, 3)),
+        ("no majority", lambda: no_majority(cluster)),
+        ("equal", lambda: equal(cluster)),
+        ("a store that ends", lambda: ended_store(cluster)),
+    ]
+    for name, corner in corners:
+        begun = time.monotonic()
+        corner()
+        print(f"replicas: {name}: {time.monotonic() - begun:.1f} s", flush=True)
