@@ -17,7 +17,7 @@ which names the transaction that is in the way. A store is used by one thread at
 it.
 
 This package calls the shared library of `tiuvrokk.h`: the one that the environment's TIUVROKK_LIBRARY names, else the one
-that the system finds.
+beside this file, as a wheel has it, else the one that the system finds.
 """
 
 from __future__ import annotations
@@ -164,10 +164,17 @@ _CALLS: dict[str, tuple[Any, ...]] = {
 }
 
 
+def _library_path() -> str:
+    shared = f"libtiuvrokk.so.{__version__.partition('.')[0]}"
+    beside = os.path.join(os.path.dirname(os.path.abspath(__file__)), shared)
+    if named := os.environ.get("TIUVROKK_LIBRARY"):
+        return named
+    return beside if os.path.exists(beside) else ctypes.util.find_library("tiuvrokk") or shared
+
+
 @functools.lru_cache(None)
 def _library() -> ctypes.CDLL:
-    path = os.environ.get("TIUVROKK_LIBRARY") or ctypes.util.find_library("tiuvrokk") or "libtiuvrokk.so"
-    library = ctypes.CDLL(path)
+    library = ctypes.CDLL(_library_path())
     for name, words in _CALLS.items():
         call = getattr(library, f"tvk_{name}")
         call.argtypes = words

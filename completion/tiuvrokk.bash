@@ -1,0 +1,37 @@
+# Completion by bash of amserve, amaudit, amload, amdump, amcli and amdraw: options, subcommands, and files where one is asked for.
+# shellcheck shell=bash
+
+_tiuvrokk_words() {
+    case $1 in
+    amserve)
+        case ${COMP_WORDS[1]-} in
+        alone) echo '--auto --help' ;;
+        listen) echo '--port --sessions --workers --trace --stop --help' ;;
+        *) echo 'alone listen help --help --version' ;;
+        esac
+        ;;
+    amaudit) echo '--help --version' ;;
+    amload) echo '--run --skip-empty --port --wait --help --version' ;;
+    amdump) echo '--port --wait --help --version' ;;
+    amcli) echo '--port --wait --store --raw --strict --history --help --version' ;;
+    amdraw) echo '--text --help --version' ;;
+    esac
+}
+
+_tiuvrokk() {
+    local program=${1##*/} word=$2 before=$3
+    COMPREPLY=()
+    case $before in
+    --port | --sessions | --workers | --auto | --run | --wait) return ;;
+    --trace | --store | --history) mapfile -t COMPREPLY < <(compgen -f -- "$word") ;;
+    *)
+        if [[ $word == -* || ($program == amserve && $COMP_CWORD == 1) ]]; then
+            mapfile -t COMPREPLY < <(compgen -W "$(_tiuvrokk_words "$program")" -- "$word")
+        elif [[ $program == amaudit || $program == amload || $program == amdraw ]]; then
+            mapfile -t COMPREPLY < <(compgen -f -- "$word")
+        fi
+        ;;
+    esac
+}
+
+complete -F _tiuvrokk amserve amaudit amload amdump amcli amdraw

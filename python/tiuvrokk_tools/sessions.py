@@ -1,0 +1,115 @@
+"""A session of the protocol, with a server or with a program of one's own."""
+
+import contextlib
+import socket
+import subprocess
+from typing import BinaryIO, Callable, Optional, Sequence
+
+from .program import Stop, visible
+
+PIECE = 1 << 16
+
+
+def shown(answer: bytes) -> str:
+    """An answer as it can be told, whatever its bytes are."""
+    return visible(answer.rstrip(b"\r\n"))
+
+
+def fault_of(place: str, error: OSError) -> Stop:
+    """Why there is no answer."""
+    return Stop(5, f"{place}: {'no answer in time' if isinstance(error, socket.timeout) else error.strerror or error}")
+
+
+class Refused(Exception):
+    """A line was answered otherwise than it has to be for what is going on."""
+
+    def __init__(self, answer: bytes) -> None:
+        super().__init__(f"answered {shown(answer)}")
+
+
+class Session:
+    """Lines that are sent, and their answers."""
+
+    def __init__(self, place: str, send: Callable[[bytes], object], answers: BinaryIO) -> None:
+        self.place = place
+        self.send_piece = send
+        self.answers = answers
+        self.process: Optional[subprocess.Popen[bytes]] = None
+        self.unheard = 0
+
+    def send(self, lines: bytes) -> None:
+        """Sends lines. A piece at a time, since the limit of a wait is one for each."""
+        self.unheard += lines.count(b"\n")
+        try:
+            for at in range(0, len(lines), PIECE):
+                self.send_piece(lines[at : at + PIECE])
+        except OSError as error:
+            raise fault_of(self.place, error) from None
+
+    def hear(self) -> bytes:
+        """The next answer, with its LF."""
+        try:
+            answer = self.answers.readline()
+        except OSError as error:
+            raise fault_of(self.place, error) from None
+        if not answer.endswith(b"\n"):
+            raise Stop(5, f"{self.place}: it went away")
+        self.unheard -= 1
+        return answer
+
+    def ask(self, line: bytes) -> bytes:
+        """The answer to a line, without its LF."""
+        self.send(line + b"\n")
+        return self.hear()[:-1]
+
+    def hear_all(self) -> None:
+        """Passes over the answers to lines that were sent ahead."""
+        while self.unheard:
+            self.hear()
+
+    def leave(self) -> None:
+        """Ends the session, unless the other side has. Its transaction is over once that is answered, behind the lines that
+        were sent ahead."""
+        with contextlib.suppress(Stop):
+            self.send(b"QUIT\n")
+            self.hear_all()
+        if self.process and self.process.stdin:
+            with contextlib.suppress(OSError):
+                self.process.stdin.close()
+            self.process.wait()
+
+
+def with_server(port: int, wait: int) -> Session:
+    """A session with the server at a port."""
+    place = f"port {port}"
+    try:
+        connection = socket.create_connection(("127.0.0.1", port), timeout=wait)
+        connection.setsockopt(socket.IPPROTO_TCP, socket.TCP_NODELAY, 1)
+    except OSError as error:
+        raise fault_of(place, error) from None
+    return Session(place, connection.sendall, connection.makefile("rb"))
+
+
+def with_program(command: Sequence[str]) -> Session:
+    """A session with a program of one's own. What interrupts this program at a terminal doesn't interrupt that one."""
+    place = command[0]
+    try:
+        # (a checkout builds it first, which an interrupt ends)
+        subprocess.run([*command, "--version"], stdout=subprocess.DEVNULL, check=True)
+        words = [*command, "alone"]
+        process = subprocess.Popen(words, stdin=subprocess.PIPE, stdout=subprocess.PIPE, bufsize=0, start_new_session=True)
+    except OSError as error:
+        raise Stop(5, f"{place}: {error.strerror}") from None
+    except subprocess.CalledProcessError as error:
+        raise Stop(5, f"{place}: it ended with status {error.returncode}") from None
+    assert process.stdin is not None and process.stdout is not None
+    write, answers = process.stdin, open(process.stdout.fileno(), "rb", closefd=False)
+
+    def send(piece: bytes) -> None:
+        rest = memoryview(piece)
+        while rest:
+            rest = rest[write.write(rest) :]
+
+    session = Session(place, send, answers)
+    session.process = process
+    return session
