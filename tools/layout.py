@@ -66,8 +66,9 @@ def built_library(folder: Optional[str]) -> List[Entry]:
     """The library for C as ./install-library installs it, or as it lies in a folder."""
     if folder is not None:
         return found_entries(os.path.join(folder, "library"))
+    here = {name: value for name, value in os.environ.items() if name != "DESTDIR"}
     with tempfile.TemporaryDirectory() as made:
-        subprocess.run([f"{TOP}/install-library", made], stdout=sys.stderr, check=True)
+        subprocess.run([f"{TOP}/install-library", made], stdout=sys.stderr, env=here, check=True)
         return found_entries(made)
 
 
