@@ -1,5 +1,6 @@
 -- The operations of a transaction, with their places.
-use Rattle.std.proofs.Common.{◌≡◌, ℕ, ◌+◌, List, [], ◌∷◌, ◌++◌, length, map, Bool, true, false, cond, refl, sym, ap, ◌∙◌, subst, ⊎_elim, Option, Some, None, arith}
+use Rattle.std.proofs.Common.{◌≡◌, ℕ, ◌+◌, List, [], ◌∷◌, ◌++◌, length, map, Bool, true, false, cond, refl, sym, ap}
+use Rattle.std.proofs.Common.{◌∙◌, subst, ⊎_elim, Option, Some, None, arith}
 use Rattle.std.specs.Prelude.{◌==◌, IfSome, IfNone}
 use Rattle.std.specs.List.{cons_option, AllByRecursion}
 use Rattle.std.specs.Option.{option_map}
@@ -13,29 +14,36 @@ use Rattle.am_record.specs.declared.step.Reply.{Reply}
 use Rattle.am_record.specs.declared.step.Reply.TheVariants.{Begun, Committed, Aborted, Refused}
 use Rattle.am_record.proofs.Lists.{heads, tails}
 use Rattle.am_record.specs.Events.{Event}
-use Rattle.am_serial.specs.Trace.{Trace, Answered, Answers, answered_to, effect, effect_of_do, effects, body, ops_of, replies_of, IsAnsweredAlone}
+use Rattle.am_serial.specs.Trace.{Trace, Answered, Answers, answered_to, effect, effect_of_do, effects, body, ops_of}
+use Rattle.am_serial.specs.Trace.{replies_of, IsAnsweredAlone}
 use Rattle.am_serial.specs.Machine.{State, Transaction, is_open, body_in}
 use Rattle.am_audit.specs.declared.active.Active.{Active}
 use Rattle.am_audit.specs.declared.checker.Checker.{Checker}
 use Rattle.am_audit.specs.Faults.{IsFirstWrongAnswer}
-use Rattle.am_audit.specs.Progress.{PlacedAnswer, answers_from, answers_at, answered_of, Listed, listed, is_listed, own_in, Bodies, list_of, Progress, IsAt, IsFirstWrong}
+use Rattle.am_audit.specs.Progress.{PlacedAnswer, answers_from, answers_at, answered_of, Listed, listed, is_listed}
+use Rattle.am_audit.specs.Progress.{own_in, Bodies, list_of, Progress, IsAt, IsFirstWrong}
 use Rattle.am_audit.proofs.Takings.{is_active}
 
 -- ---- what is listed of an active transaction
 
-pub body_is : (bodies : Bodies) (txs : List Transaction) → AllByRecursion (λ (x : Transaction). x.1 ≡ answered_of (bodies x.0)) txs → (t : ℕ) → is_open txs t ≡ true → body_in txs t ≡ answered_of (bodies t)
+pub body_is : (bodies : Bodies) (txs : List Transaction) →
+    AllByRecursion (λ (x : Transaction). x.1 ≡ answered_of (bodies x.0)) txs → (t : ℕ) → is_open txs t ≡ true →
+    body_in txs t ≡ answered_of (bodies t)
 body_is bodies [] a t on = absurd (false≢true on)
 body_is bodies (x ∷ txs) a t on =
     cond_both (t == x.0) x.1 (body_in txs t) (λ b. b ≡ answered_of (bodies t))
     (λ e. a.0 ∙ ap (λ u. answered_of (bodies u)) (sym (eqb-true t x.0 e)))
-    (λ e. body_is bodies txs a.1 t (⊎_elim (λ here. absurd (both_ways (t == x.0) e here)) (λ later. later) (or_cases (t == x.0) (is_open txs t) on)))
+    (λ e. body_is bodies txs a.1 t (⊎_elim (λ here. absurd (both_ways (t == x.0) e here)) (λ later. later)
+    (or_cases (t == x.0) (is_open txs t) on)))
 
-pub own_are : (bodies : Bodies) (txs : List Transaction) (t : ℕ) → is_open txs t ≡ true → own_in (map (list_of bodies) txs) t ≡ bodies t
+pub own_are : (bodies : Bodies) (txs : List Transaction) (t : ℕ) → is_open txs t ≡ true →
+    own_in (map (list_of bodies) txs) t ≡ bodies t
 own_are bodies [] t on = absurd (false≢true on)
 own_are bodies (x ∷ txs) t on =
     cond_both (t == x.0) (bodies x.0) (own_in (map (list_of bodies) txs) t) (λ ps. ps ≡ bodies t)
     (λ e. ap bodies (sym (eqb-true t x.0 e)))
-    (λ e. own_are bodies txs t (⊎_elim (λ here. absurd (both_ways (t == x.0) e here)) (λ later. later) (or_cases (t == x.0) (is_open txs t) on)))
+    (λ e. own_are bodies txs t (⊎_elim (λ here. absurd (both_ways (t == x.0) e here)) (λ later. later)
+    (or_cases (t == x.0) (is_open txs t) on)))
 
 module _ (p : Checker) (here : Progress) (h : IsAt p here) (all : List Active) (is : all ≡ p.active.items) (t : ℕ) where
   abbrev s : State
@@ -45,26 +53,32 @@ module _ (p : Checker) (here : Progress) (h : IsAt p here) (all : List Active) (
   listed_open = ap (λ (xs : List Active). is_listed (map listed xs) t) is ∙ is_active p here h t
 
   pub own_placed : is_open s.active t ≡ true → own_in (map listed all) t ≡ here.bodies t
-  own_placed on = ap (λ (xs : List Active). own_in (map listed xs) t) is ∙ ap (λ (xs : List Listed). own_in xs t) h.active ∙ own_are here.bodies s.active t on
+  own_placed on = ap (λ (xs : List Active). own_in (map listed xs) t) is ∙ ap (λ (xs : List Listed). own_in xs t)
+      h.active ∙ own_are here.bodies s.active t on
 
   pub body_placed : is_open s.active t ≡ true → body_in s.active t ≡ answered_of (here.bodies t)
   body_placed on = body_is here.bodies s.active h.ordinary.made t on
 
-  pub counted : (o : Option ℕ) → IfSome o (λ n. (is_listed (map listed all) t ≡ true) × (n ≡ length (own_in (map listed all) t))) → IfSome o (λ n. (is_open s.active t ≡ true) × (n ≡ length (body_in s.active t)))
+  pub counted : (o : Option ℕ) → IfSome o (λ n. (is_listed (map listed all) t ≡ true) ×
+      (n ≡ length (own_in (map listed all) t))) → IfSome o (λ n. (is_open s.active t ≡ true) ×
+      (n ≡ length (body_in s.active t)))
   counted None f = tt
   counted (Some n) f =
       let on : is_open s.active t ≡ true = sym listed_open ∙ f.0 in (
         on,
-        f.1 ∙ ap length (own_placed on) ∙ sym (ap length (body_placed on) ∙ length-map (here.bodies t) (λ (q : PlacedAnswer). q.1)),
+        f.1 ∙ ap length (own_placed on) ∙ sym (ap length (body_placed on) ∙
+            length-map (here.bodies t) (λ (q : PlacedAnswer). q.1)),
       )
 
-  pub not_counted : (o : Option ℕ) → IfNone o (is_listed (map listed all) t ≡ false) → IfNone o (is_open s.active t ≡ false)
+  pub not_counted : (o : Option ℕ) → IfNone o (is_listed (map listed all) t ≡ false) →
+      IfNone o (is_open s.active t ≡ false)
   not_counted None f = sym listed_open ∙ f
   not_counted (Some n) f = tt
 
 -- ---- one event that answers
 
-same_answers : (t u : ℕ) (op : Op) (reply : Reply) (a : Answered) → cond (u == t) (Some (op, reply)) None ≡ Some a → (u ≡ t) × ((op, reply) ≡ a)
+same_answers : (t u : ℕ) (op : Op) (reply : Reply) (a : Answered) → cond (u == t) (Some (op, reply)) None ≡ Some a →
+    (u ≡ t) × ((op, reply) ≡ a)
 same_answers t u op reply a e = at (u == t) refl e
   where
     at : (b : Bool) → (u == t) ≡ b → cond b (Some (op, reply)) None ≡ Some a → (u ≡ t) × ((op, reply) ≡ a)
@@ -76,7 +90,8 @@ pub record IsAnswered (t : ℕ) (e : Event) (a : Answered) : Type 0 where
   pub event : e ≡ (Do t a.0, a.1)
   pub effect : effect (Do t a.0) a.1 ≡ Answers t a.0 a.1
 
-answered_do : (t u : ℕ) (op : Op) (reply : Reply) (a : Answered) → effect_of_do u op reply ≡ Answers u op reply → cond (u == t) (Some (op, reply)) None ≡ Some a → IsAnswered t (Do u op, reply) a
+answered_do : (t u : ℕ) (op : Op) (reply : Reply) (a : Answered) → effect_of_do u op reply ≡ Answers u op reply →
+    cond (u == t) (Some (op, reply)) None ≡ Some a → IsAnswered t (Do u op, reply) a
 answered_do t u op reply a is e =
     let same = same_answers t u op reply a e in
     subst (λ (b : Answered). IsAnswered t (Do u op, reply) b) same.1
@@ -85,7 +100,8 @@ answered_do t u op reply a is e =
 no_answer : {A : Type 0} (a : Answered) → ◌≡◌ {A = Option Answered} None (Some a) → A
 no_answer a e = absurd (cc)
 
-pub answered_event : (t : ℕ) (step : Step) (reply : Reply) (a : Answered) → answered_to t (effect step reply) ≡ Some a → IsAnswered t (step, reply) a
+pub answered_event : (t : ℕ) (step : Step) (reply : Reply) (a : Answered) → answered_to t (effect step reply) ≡ Some a →
+    IsAnswered t (step, reply) a
 answered_event t (Do u op) (Refused why) a e = no_answer a e
 answered_event t (Do u op) reply a e = answered_do t u op reply a refl e
 answered_event t Begin (Begun u) a e = no_answer a e
@@ -99,7 +115,10 @@ pub placed_body : (trace : Trace) (n t : ℕ) → answered_of (answers_from n t 
 placed_body [] n t = refl
 placed_body (e ∷ trace) n t = one (answered_to t (effect e.0 e.1)) (placed_body trace (n + 1) t)
   where
-    one : (o : Option Answered) → answered_of (answers_from (n + 1) t trace) ≡ body (effects trace) t → answered_of (cons_option (option_map (λ (a : Answered). (n, a)) o) (answers_from (n + 1) t trace)) ≡ cons_option o (body (effects trace) t)
+    one : (o : Option Answered) → answered_of (answers_from (n + 1) t trace) ≡ body (effects trace) t →
+        answered_of (cons_option (option_map (λ (a : Answered). (n, a)) o) (answers_from (n + 1) t trace)) ≡ cons_option
+        o
+        (body (effects trace) t)
     one None rest = rest
     one (Some a) rest = ap (λ l. a ∷ l) rest
 
@@ -115,13 +134,18 @@ pub record Splits (trace : Trace) (n t : ℕ) (es : List PlacedAnswer) (position
 pair_parts : (n m : ℕ) (a b : Answered) → ◌≡◌ {A = PlacedAnswer} (n, a) (m, b) → (n ≡ m) × (a ≡ b)
 pair_parts n m a b e = (ap (λ (p : PlacedAnswer). p.0) e, ap (λ (p : PlacedAnswer). p.1) e)
 
-splits : (trace : Trace) (n t : ℕ) (es : List PlacedAnswer) (position : ℕ) (a : Answered) (rest : List PlacedAnswer) → answers_from n t trace ≡ es ++ (position, a) ∷ rest → Splits trace n t es position a
+splits : (trace : Trace) (n t : ℕ) (es : List PlacedAnswer) (position : ℕ) (a : Answered) (rest : List PlacedAnswer) →
+    answers_from n t trace ≡ es ++ (position, a) ∷ rest → Splits trace n t es position a
 splits [] n t [] position a rest e = absurd (cc)
 splits [] n t (x ∷ es) position a rest e = absurd (cc)
-splits (e ∷ trace) n t es position a rest is = one (answered_to t (effect e.0 e.1)) refl is (λ es' k. splits trace (n + 1) t es' position a rest k)
+splits (e ∷ trace) n t es position a rest is = one (answered_to t (effect e.0 e.1)) refl is
+    (λ es' k. splits trace (n + 1) t es' position a rest k)
   where
-    one : (o : Option Answered) → answered_to t (effect e.0 e.1) ≡ o → cons_option (option_map (λ (a : Answered). (n, a)) o) (answers_from (n + 1) t trace) ≡ es ++ (position, a) ∷ rest →
-        ((es' : List PlacedAnswer) → answers_from (n + 1) t trace ≡ es' ++ (position, a) ∷ rest → Splits trace (n + 1) t es' position a) → Splits (e ∷ trace) n t es position a
+    one : (o : Option Answered) → answered_to t (effect e.0 e.1) ≡ o →
+        cons_option (option_map (λ (a : Answered). (n, a)) o) (answers_from (n + 1) t trace) ≡ es ++
+        (position, a) ∷ rest →
+        ((es' : List PlacedAnswer) → answers_from (n + 1) t trace ≡ es' ++ (position, a) ∷ rest →
+        Splits trace (n + 1) t es' position a) → Splits (e ∷ trace) n t es position a
     one None none k later =
         let f = later es k in
         record {
@@ -129,12 +153,15 @@ splits (e ∷ trace) n t es position a rest is = one (answered_to t (effect e.0 
           later = f.later;
           split = ap (λ l. e ∷ l) f.split;
           at = let here = f.at in omega arith;
-          before = ap (λ o. cons_option (option_map (λ (a : Answered). (n, a)) o) (answers_from (n + 1) t f.earlier)) none ∙ f.before;
+          before = ap (λ o. cons_option (option_map (λ (a : Answered). (n, a)) o) (answers_from (n + 1) t f.earlier))
+              none ∙ f.before;
           effect = f.effect;
         }
     one (Some b) some k later = here es k later
       where
-        here : (fs : List PlacedAnswer) → (n, b) ∷ answers_from (n + 1) t trace ≡ fs ++ (position, a) ∷ rest → ((es' : List PlacedAnswer) → answers_from (n + 1) t trace ≡ es' ++ (position, a) ∷ rest → Splits trace (n + 1) t es' position a) → Splits (e ∷ trace) n t fs position a
+        here : (fs : List PlacedAnswer) → (n, b) ∷ answers_from (n + 1) t trace ≡ fs ++ (position, a) ∷ rest →
+            ((es' : List PlacedAnswer) → answers_from (n + 1) t trace ≡ es' ++ (position, a) ∷ rest →
+            Splits trace (n + 1) t es' position a) → Splits (e ∷ trace) n t fs position a
         here [] k later =
             let pair = pair_parts n position b a (heads k) in
             let told = answered_event t e.0 e.1 b some in
@@ -155,17 +182,21 @@ splits (e ∷ trace) n t es position a rest is = one (answered_to t (effect e.0 
               later = f.later;
               split = ap (λ l. e ∷ l) f.split;
               at = let here = f.at in omega arith;
-              before = ap (λ o. cons_option (option_map (λ (a : Answered). (n, a)) o) (answers_from (n + 1) t f.earlier)) some ∙ (λ i. first i ∷ f.before i);
+              before = ap (λ o. cons_option (option_map (λ (a : Answered). (n, a)) o)
+                  (answers_from (n + 1) t f.earlier)) some ∙ (λ i. first i ∷ f.before i);
               effect = f.effect;
             }
 
 -- ---- where a body is first answered wrongly
 
-pub first_wrong : (seen : Trace) (t : ℕ) (m : PlainMap) (d : Draft) (position : ℕ) → d ≡ fresh m → IsFirstWrong (answers_at seen t) d position → IsFirstWrongAnswer seen t m (position + 2)
+pub first_wrong : (seen : Trace) (t : ℕ) (m : PlainMap) (d : Draft) (position : ℕ) → d ≡ fresh m →
+    IsFirstWrong (answers_at seen t) d position → IsFirstWrongAnswer seen t m (position + 2)
 first_wrong seen t m d position is w =
     let f = splits seen 0 t w.earlier position (w.op, w.reply) w.later w.split in
-    let before : body (effects f.earlier) t ≡ answered_of w.earlier = sym (placed_body f.earlier 0 t) ∙ ap answered_of f.before in
-    let w' : IsFirstWrong (answers_at seen t) (fresh m) position = subst (λ x. IsFirstWrong (answers_at seen t) x position) is w in
+    let before : body (effects f.earlier) t ≡ answered_of w.earlier = sym (placed_body f.earlier 0 t) ∙
+    ap answered_of f.before in
+    let w' : IsFirstWrong (answers_at seen t) (fresh m) position =
+    subst (λ x. IsFirstWrong (answers_at seen t) x position) is w in
     record {
       earlier = f.earlier;
       op = w.op;
@@ -179,7 +210,9 @@ first_wrong seen t m d position is w =
     }
   where
     first_part : (x : IsFirstWrong (answers_at seen t) d position) → IsAnsweredAlone (answered_of x.earlier) m
-    first_part x = let P : Draft → Type 0 = λ y. replies_of (answered_of x.earlier) ≡ answers_on (ops_of (answered_of x.earlier)) y in subst P is x.first
+    first_part x = let P : Draft → Type 0 = λ y. replies_of (answered_of x.earlier) ≡ answers_on
+        (ops_of (answered_of x.earlier)) y in subst P is x.first
 
-    wrong_part : (x : IsFirstWrong (answers_at seen t) d position) → x.reply ≡ answer x.op (left_on (ops_of (answered_of x.earlier)) (fresh m)) → ⊥
+    wrong_part : (x : IsFirstWrong (answers_at seen t) d position) →
+        x.reply ≡ answer x.op (left_on (ops_of (answered_of x.earlier)) (fresh m)) → ⊥
     wrong_part x e = x.wrong (e ∙ ap (λ y. answer x.op (left_on (ops_of (answered_of x.earlier)) y)) (sym is))

@@ -1,5 +1,6 @@
 -- Events that are judged as they come.
-use Rattle.std.proofs.Common.{◌≡◌, ℕ, ◌+◌, ◌<◌, [], ◌∷◌, ◌++◌, length, get_or, take, sym, ap, ◌∙◌, subst, arith, refl, append_assoc, length-append, Bool, true, false, Option, Some, None, ◌≤◌}
+use Rattle.std.proofs.Common.{◌≡◌, ℕ, ◌+◌, ◌<◌, [], ◌∷◌, ◌++◌, length, get_or, take, sym, ap, ◌∙◌, subst, arith, refl}
+use Rattle.std.proofs.Common.{append_assoc, length-append, Bool, true, false, Option, Some, None, ◌≤◌}
 use Rattle.std.specs.Prelude.{not}
 use Rattle.std.specs.Option.{is_some}
 use Rattle.std.proofs.lemmas.Bool.{true≢false}
@@ -38,41 +39,56 @@ still_faulty seen more (Wrong line kind) f = record {
 }
 still_faulty seen more NoMemory f = tt
 
-module _ (laws : (trace : Trace) → IsFormed trace → FormedLaws trace) (seen : Trace) (p : Checker) (fault : Option Fault) where
+module _ (laws : (trace : Trace) → IsFormed trace → FormedLaws trace) (seen : Trace) (p : Checker)
+    (fault : Option Fault) where
   right_so_far : fault ≡ None → IsSoFar fault p seen → IsSoFar None p seen
   right_so_far none h = subst (λ f. IsSoFar f p seen) none h
 
-  flaw_here : (n : ℕ) (step : Step) (reply : Reply) (event_fault : EventFault) → fault ≡ None → IsSoFar fault p seen → IsEventFault (own_moment p n) step reply event_fault → IsEventFault (progress_of seen) step reply event_fault
-  flaw_here n step reply Form none h w = flaw_there p (answers_at seen) (after_run start seen) (right_so_far none h).0 n step reply Form w
-  flaw_here n step reply Busy none h w = flaw_there p (answers_at seen) (after_run start seen) (right_so_far none h).0 n step reply Busy w
+  flaw_here : (n : ℕ) (step : Step) (reply : Reply) (event_fault : EventFault) → fault ≡ None → IsSoFar fault p seen →
+      IsEventFault (own_moment p n) step reply event_fault → IsEventFault (progress_of seen) step reply event_fault
+  flaw_here n step reply Form none h w = flaw_there p (answers_at seen) (after_run start seen) (right_so_far none h).0 n
+      step reply Form w
+  flaw_here n step reply Busy none h w = flaw_there p (answers_at seen) (after_run start seen) (right_so_far none h).0 n
+      step reply Busy w
   flaw_here n step reply (Answer position) none h w =
-      let there = flaw_there p (answers_at seen) (after_run start seen) (right_so_far none h).0 n step reply (Answer position) w in
+      let there = flaw_there p (answers_at seen) (after_run start seen) (right_so_far none h).0 n step reply
+      (Answer position) w in
       record { t = there.t; formed = there.formed; commit = there.commit; answer = there.answer }
   flaw_here n step reply Starved none h w = tt
 
   pub stands_here : (n : ℕ) → fault ≡ None → IsSoFar fault p seen → IsAt p (own_moment p n)
   stands_here n none h = stands_own p (answers_at seen) (after_run start seen) (right_so_far none h).0 n
 
-  pub goes_wrong : (n : ℕ) (step : Step) (reply : Reply) (q : Checker) (event_fault : EventFault) → fault ≡ None → IsSoFar fault p seen → n ≡ length seen → IsEventFault (own_moment p n) step reply event_fault → IsSoFar (Some (fault_of n event_fault)) q (seen ++ (step, reply) ∷ [])
-  goes_wrong n step reply q event_fault none h at w = is_first laws seen (right_so_far none h).1 (seen ++ (step, reply) ∷ []) step reply [] refl n at event_fault (flaw_here n step reply event_fault none h w)
+  pub goes_wrong : (n : ℕ) (step : Step) (reply : Reply) (q : Checker) (event_fault : EventFault) → fault ≡ None →
+      IsSoFar fault p seen → n ≡ length seen → IsEventFault (own_moment p n) step reply event_fault →
+      IsSoFar (Some (fault_of n event_fault)) q (seen ++ (step, reply) ∷ [])
+  goes_wrong n step reply q event_fault none h at w = is_first laws seen (right_so_far none h).1
+      (seen ++ (step, reply) ∷ []) step reply [] refl n at event_fault (flaw_here n step reply event_fault none h w)
 
   -- the line that is told is one that was read
-  pub is_told : (n : ℕ) (step : Step) (reply : Reply) (event_fault : EventFault) → fault ≡ None → IsSoFar fault p seen → n ≡ length seen → IsEventFault (own_moment p n) step reply event_fault → position_told n event_fault ≤ length seen
+  pub is_told : (n : ℕ) (step : Step) (reply : Reply) (event_fault : EventFault) → fault ≡ None → IsSoFar fault p seen →
+      n ≡ length seen → IsEventFault (own_moment p n) step reply event_fault → position_told n event_fault ≤ length seen
   is_told n step reply Form none h at w = omega arith
   is_told n step reply Busy none h at w = omega arith
   is_told n step reply (Answer position) none h at w =
       let there = flaw_here n step reply (Answer position) none h w in
-      let found = first_wrong seen there.t (after_run start seen).committed (fresh (after_run start seen).committed) position refl there.answer in
+      let found = first_wrong seen there.t (after_run start seen).committed (fresh (after_run start seen).committed)
+      position refl there.answer in
       let long = ap length found.split ∙ length-append found.earlier _ in
       let line = found.position in
       omega arith
   is_told n step reply Starved none h at w = omega arith
 
-  pub goes_right : (n : ℕ) (step : Step) (reply : Reply) (q : Checker) → fault ≡ None → IsSoFar fault p seen → n ≡ length seen → TakesEvent (own_moment p n) step reply q → IsSoFar fault q (seen ++ (step, reply) ∷ [])
+  pub goes_right : (n : ℕ) (step : Step) (reply : Reply) (q : Checker) → fault ≡ None → IsSoFar fault p seen →
+      n ≡ length seen → TakesEvent (own_moment p n) step reply q → IsSoFar fault q (seen ++ (step, reply) ∷ [])
   goes_right n step reply q none h at k =
       let right = right_so_far none h in
-      let k' : TakesEvent (progress_of seen) step reply q = takes_there p (answers_at seen) (after_run start seen) right.0 (length seen) step reply q (subst (λ m. TakesEvent (own_moment p m) step reply q) at k) in
-      subst (λ f. IsSoFar f q (seen ++ (step, reply) ∷ [])) (sym none) (stands_on q seen step reply k'.stands, goes_on laws seen right.1 step reply k'.right)
+      let k' : TakesEvent (progress_of seen) step reply q = takes_there p (answers_at seen) (after_run start seen)
+      right.0 (length seen) step reply q (subst (λ m. TakesEvent (own_moment p m) step reply q) at k) in
+      subst (λ f. IsSoFar f q (seen ++ (step, reply) ∷ [])) (sym none) (
+        stands_on q seen step reply k'.stands,
+        goes_on laws seen right.1 step reply k'.right,
+      )
 
   pub is_legal : fault ≡ None → IsSoFar fault p seen → IsLegal seen × (p.commits ≡ length (committers (effects seen)))
   is_legal none h =
@@ -87,16 +103,20 @@ pub some_there : {A : Type 0} (o : Option A) (b : Bool) → is_some o ≡ not b 
 some_there o b e f none = true≢false (sym (ap not f) ∙ sym e ∙ ap is_some none)
 
 -- one more event is counted
-pub one_more : (a b : Audit) (seen : Trace) (step : Step) (reply : Reply) → HasJudged a seen → b.seen ≡ a.seen → IsSoFar b.fault b.checker (seen ++ (step, reply) ∷ []) → HasJudged (record { checker = b.checker; seen = b.seen + 1; fault = b.fault }) (seen ++ (step, reply) ∷ [])
+pub one_more : (a b : Audit) (seen : Trace) (step : Step) (reply : Reply) → HasJudged a seen → b.seen ≡ a.seen →
+    IsSoFar b.fault b.checker (seen ++ (step, reply) ∷ []) →
+    HasJudged (record { checker = b.checker; seen = b.seen + 1; fault = b.fault }) (seen ++ (step, reply) ∷ [])
 one_more a b seen step reply h same so_far = record {
   count = ap (λ n. n + 1) (same ∙ h.count) ∙ sym (length-append seen ((step, reply) ∷ []));
   so_far = so_far;
 }
 
 -- events behind a fault change nothing
-pub stays_wrong : (seen more : Trace) (p q : Checker) (fault : Option Fault) → (fault ≡ None → ⊥) → IsSoFar fault p seen → IsSoFar fault q (seen ++ more)
+pub stays_wrong : (seen more : Trace) (p q : Checker) (fault : Option Fault) → (fault ≡ None → ⊥) →
+    IsSoFar fault p seen → IsSoFar fault q (seen ++ more)
 stays_wrong seen more p q None some h = absurd (some refl)
 stays_wrong seen more p q (Some fault) some h = still_faulty seen more fault h
 
-pub taken : (trace : Trace) (i : ℕ) (e : Event) → i < length trace → e ≡ get_or trace i e → take i trace ++ e ∷ [] ≡ take (i + 1) trace
+pub taken : (trace : Trace) (i : ℕ) (e : Event) → i < length trace → e ≡ get_or trace i e → take i trace ++
+    e ∷ [] ≡ take (i + 1) trace
 taken trace i e less is = ap (λ x. take i trace ++ x ∷ []) is ∙ sym (take_more trace i e less)

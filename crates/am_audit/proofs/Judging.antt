@@ -3,7 +3,8 @@ use Rattle.std.proofs.Common.{◌≡◌, ℕ, Bool, true, false, cond, refl, sym
 use Rattle.std.proofs.lemmas.Bool.{false≢true, true≢false}
 use Rattle.am_record.specs.Asks.{lock_of}
 use Rattle.am_record.specs.declared.step.Refusal.{Refusal}
-use Rattle.am_record.specs.declared.step.Refusal.TheVariants.{NoSuchTx, Busy, TooManyLocks, TooManyOps, TooManyRuns, NotRising, BadLimit, NoMemory}
+use Rattle.am_record.specs.declared.step.Refusal.TheVariants.{NoSuchTx, Busy, TooManyLocks, TooManyOps, TooManyRuns}
+use Rattle.am_record.specs.declared.step.Refusal.TheVariants.{NotRising, BadLimit, NoMemory}
 use Rattle.am_record.specs.declared.step.Op.{Op}
 use Rattle.am_record.specs.declared.step.Step.TheVariants.{Do}
 use Rattle.am_record.specs.declared.step.Reply.{Reply}
@@ -15,7 +16,10 @@ use Rattle.am_serial.proofs.Sound.{not_answer, same_refusal}
 use Rattle.am_audit.specs.Faults.{is_early}
 use Rattle.am_audit.specs.Progress.{FormedIn, EarlyIn, IsRightOf, IsMisformedIn, IsWronglyBusyIn, early_of, busy_of}
 
-early_of_due : (a b c d e : Bool) (why : Refusal) → cond a (Some NoSuchTx) (cond b (Some TooManyOps) (cond c (Some NotRising) (cond d (Some BadLimit) (cond e (Some TooManyRuns) None)))) ≡ Some why → is_early why ≡ true
+early_of_due : (a b c d e : Bool) (why : Refusal) →
+    cond a (Some NoSuchTx) (cond b (Some TooManyOps)
+    (cond c (Some NotRising) (cond d (Some BadLimit) (cond e (Some TooManyRuns) None)))) ≡ Some why →
+    is_early why ≡ true
 early_of_due true b c d e why h = let same : NoSuchTx ≡ why = cc in ap is_early (sym same)
 early_of_due false true c d e why h = let same : TooManyOps ≡ why = cc in ap is_early (sym same)
 early_of_due false false true d e why h = let same : NotRising ≡ why = cc in ap is_early (sym same)
@@ -36,7 +40,8 @@ clash w v e f h = true≢false (sym e ∙ ap is_early (same_refusal w v h) ∙ f
 -- where none is due early, none is formed
 none_early : (b : Bool) (op : Op) (w : Refusal) → is_early w ≡ true → FormedDo None b op (Refused w) → ⊥
 none_early true op w e f = ⊎_elim (λ busy. clash w (Busy busy.0) e refl busy.1) (λ r. clash w TooManyLocks e refl r) f
-none_early false op w e f = ⊎_elim (λ busy. clash w (Busy busy.0) e refl busy.1) (λ r. ⊎_elim (λ m. clash w NoMemory e refl m) (not_answer op w) r) f
+none_early false op w e f = ⊎_elim (λ busy. clash w (Busy busy.0) e refl busy.1)
+    (λ r. ⊎_elim (λ m. clash w NoMemory e refl m) (not_answer op w) r) f
 
 early_refusal : (r : Reply) → early_of r ≡ true → (w : Refusal) × (r ≡ Refused w) × (is_early w ≡ true)
 early_refusal (Refused w) h = (w, refl, h)
@@ -68,7 +73,8 @@ module _ (s : State) (t : ℕ) (op : Op) (reply : Reply) where
     );
   }
 
-  pub early_wrong : (why : Refusal) → due_early s t op ≡ Some why → (reply ≡ Refused why → ⊥) → IsMisformedIn s (Do t op) reply
+  pub early_wrong : (why : Refusal) → due_early s t op ≡ Some why → (reply ≡ Refused why → ⊥) →
+      IsMisformedIn s (Do t op) reply
   early_wrong why due not_it = record {
     form = λ f. let P : Option Refusal → Type 0 = λ o. FormedDo o full op reply in not_it (subst P due f);
     first = λ early. absurd (not_it ((early why (due_is_early s t op why due)).1 due));
@@ -103,7 +109,8 @@ module _ (s : State) (t : ℕ) (op : Op) (reply : Reply) where
 
       -- ---- another holds a conflicting lock
 
-      pub blocked_wrong : (h : ℕ) → blocked ≡ Some h → (reply ≡ Refused (Busy h) → ⊥) → IsWronglyBusyIn s (Do t op) reply
+      pub blocked_wrong : (h : ℕ) → blocked ≡ Some h → (reply ≡ Refused (Busy h) → ⊥) →
+          IsWronglyBusyIn s (Do t op) reply
       blocked_wrong h b not_it = record { busy = λ right. not_it ((right h).1 (none, b)); first = early_in }
 
       -- ---- nobody does
@@ -112,4 +119,7 @@ module _ (s : State) (t : ℕ) (op : Op) (reply : Reply) where
         pub busy_unasked : busy_of reply ≡ true → IsWronglyBusyIn s (Do t op) reply
         busy_unasked e =
             let r = busy_refusal reply e in
-            record { busy = λ right. let no : None ≡ Some r.0 = sym free ∙ ((right r.0).0 r.1).1 in cc; first = early_in }
+            record {
+              busy = λ right. let no : None ≡ Some r.0 = sym free ∙ ((right r.0).0 r.1).1 in cc;
+              first = early_in;
+            }

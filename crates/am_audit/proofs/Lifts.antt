@@ -5,21 +5,25 @@ use Rattle.am_record.specs.declared.step.Step.{Step}
 use Rattle.am_record.specs.declared.step.Step.TheVariants.{Begin, Do, Commit, Abort, Merge, Clean}
 use Rattle.am_record.specs.declared.step.Reply.{Reply}
 use Rattle.am_record.specs.declared.step.Reply.TheVariants.{Begun, Committed, Aborted, Refused}
-use Rattle.am_serial.specs.Trace.{Trace, Answered, Effect, Begins, Answers, Commits, Aborts, Nothing, effect, effects, committed, IsSerial, IsAnsweredAlone}
+use Rattle.am_serial.specs.Trace.{Trace, Answered, Effect, Begins, Answers, Commits, Aborts, Nothing, effect, effects}
+use Rattle.am_serial.specs.Trace.{committed, IsSerial, IsAnsweredAlone}
 use Rattle.am_serial.specs.Machine.{State, start, after_run, is_open, state_at}
 use Rattle.am_serial.specs.Sound.{FormedAt, BusyRightAt}
 use Rattle.am_serial.specs.Formed.{IsFormed, IsNextInOrder, FormedLaws}
 use Rattle.am_audit.specs.declared.event_fault.EventFault.{EventFault}
 use Rattle.am_audit.specs.declared.event_fault.EventFault.TheVariants.{Form, Busy, Answer, NoMemory}
 use Rattle.am_serial.specs.Legal.{IsLegal}
-use Rattle.am_audit.specs.Faults.{EarlyRightAt, IsMisformed, IsWronglyBusy, IsFirstWrongAnswer, CommitsWrongly, IsTrueFault}
-use Rattle.am_audit.specs.Progress.{FormedIn, EarlyIn, BusyIn, NextIn, IsRightIn, IsMisformedIn, IsWronglyBusyIn, CommitsWronglyIn, progress_of, IsEventFault, fault_of}
+use Rattle.am_audit.specs.Faults.{EarlyRightAt, IsMisformed, IsWronglyBusy, IsFirstWrongAnswer, CommitsWrongly}
+use Rattle.am_audit.specs.Faults.{IsTrueFault}
+use Rattle.am_audit.specs.Progress.{FormedIn, EarlyIn, BusyIn, NextIn, IsRightIn, IsMisformedIn, IsWronglyBusyIn}
+use Rattle.am_audit.specs.Progress.{CommitsWronglyIn, progress_of, IsEventFault, fault_of}
 use Rattle.am_audit.proofs.Bodies.{first_wrong}
 use Rattle.am_audit.proofs.Moments.{one_more_event, one_more_moment, last_moment}
 
 -- ---- the same words
 
-to_formed : (es : List Effect) (step : Step) (reply : Reply) → FormedIn (state_at es) step reply → FormedAt es step reply
+to_formed : (es : List Effect) (step : Step) (reply : Reply) → FormedIn (state_at es) step reply →
+    FormedAt es step reply
 to_formed es (Do t op) reply h = h
 to_formed es Begin reply h = h
 to_formed es (Commit t) reply h = h
@@ -27,7 +31,8 @@ to_formed es (Abort t) reply h = h
 to_formed es (Merge limit) reply h = h
 to_formed es (Clean range limit) reply h = h
 
-from_formed : (es : List Effect) (step : Step) (reply : Reply) → FormedAt es step reply → FormedIn (state_at es) step reply
+from_formed : (es : List Effect) (step : Step) (reply : Reply) → FormedAt es step reply →
+    FormedIn (state_at es) step reply
 from_formed es (Do t op) reply h = h
 from_formed es Begin reply h = h
 from_formed es (Commit t) reply h = h
@@ -35,11 +40,13 @@ from_formed es (Abort t) reply h = h
 from_formed es (Merge limit) reply h = h
 from_formed es (Clean range limit) reply h = h
 
-to_early : (es : List Effect) (step : Step) (reply : Reply) → EarlyIn (state_at es) step reply → EarlyRightAt es step reply
+to_early : (es : List Effect) (step : Step) (reply : Reply) → EarlyIn (state_at es) step reply →
+    EarlyRightAt es step reply
 to_early es (Do t op) reply h = h
 to_early es _ reply h = tt
 
-from_early : (es : List Effect) (step : Step) (reply : Reply) → EarlyRightAt es step reply → EarlyIn (state_at es) step reply
+from_early : (es : List Effect) (step : Step) (reply : Reply) → EarlyRightAt es step reply →
+    EarlyIn (state_at es) step reply
 from_early es (Do t op) reply h = h
 from_early es _ reply h = tt
 
@@ -70,7 +77,8 @@ module _ (trace : Trace) (laws : FormedLaws trace) where
   from_busy (Clean range limit) reply b = tt
 
 -- a formed commit is one of an active transaction
-pub commit_open : (s : State) (step : Step) (reply : Reply) (t : ℕ) → effect step reply ≡ Commits t → FormedIn s step reply → is_open s.active t ≡ true
+pub commit_open : (s : State) (step : Step) (reply : Reply) (t : ℕ) → effect step reply ≡ Commits t →
+    FormedIn s step reply → is_open s.active t ≡ true
 commit_open s (Commit u) (Committed c) t e f = let same : u ≡ t = cc in ap (is_open s.active) (sym same) ∙ f.0
 commit_open s (Do u op) (Refused why) t e f = absurd (cc)
 commit_open s (Do u op) reply t e f = absurd (cc)
@@ -106,8 +114,10 @@ module _ (laws : (trace : Trace) → IsFormed trace → FormedLaws trace) (seen 
   early_there : (step : Step) (reply : Reply) → EarlyRightAt (effects seen) step reply → EarlyIn s step reply
   early_there step reply e = subst (λ x. EarlyIn x step reply) state (from_early (effects seen) step reply e)
 
-  next_here : (e : Effect) → ((t : ℕ) → e ≡ Commits t → is_open (state_at (effects seen)).active t ≡ true) → NextIn (state_at (effects seen)) e → IsNextInOrder (effects seen) e
-  next_here (Commits t) on n = subst (λ (done : List Answered). IsAnsweredAlone done (committed (effects seen))) (here.bodies t (on t refl)) n
+  next_here : (e : Effect) → ((t : ℕ) → e ≡ Commits t → is_open (state_at (effects seen)).active t ≡ true) →
+      NextIn (state_at (effects seen)) e → IsNextInOrder (effects seen) e
+  next_here (Commits t) on n = subst (λ (done : List Answered). IsAnsweredAlone done (committed (effects seen)))
+      (here.bodies t (on t refl)) n
   next_here (Begins t) on n = tt
   next_here (Answers t op reply) on n = tt
   next_here (Aborts t) on n = tt
@@ -124,7 +134,10 @@ module _ (laws : (trace : Trace) → IsFormed trace → FormedLaws trace) (seen 
         formed = one_more_event FormedAt seen step reply legal.formed formed;
         busy = one_more_event BusyRightAt seen step reply legal.busy (busy_here step reply right.said.busy);
         serial = one_more_moment IsSerial seen step reply legal.serial
-            ((here.serial step reply formed serial_now).1 (next_here (effect step reply) (λ t e. commit_open (state_at (effects seen)) step reply t e (from_formed (effects seen) step reply formed)) (subst (λ x. NextIn x (effect step reply)) (sym state) right.next)));
+            ((here.serial step reply formed serial_now).1
+            (next_here (effect step reply) (λ t e. commit_open (state_at (effects seen)) step reply t e
+            (from_formed (effects seen) step reply formed))
+            (subst (λ x. NextIn x (effect step reply)) (sym state) right.next)));
       }
 
   misformed_here : (step : Step) (reply : Reply) → IsMisformedIn s step reply → IsMisformed (effects seen) step reply
@@ -133,23 +146,51 @@ module _ (laws : (trace : Trace) → IsFormed trace → FormedLaws trace) (seen 
     first = λ e. busy_here step reply (w.first (early_there step reply e));
   }
 
-  wrongly_busy_here : (step : Step) (reply : Reply) → IsWronglyBusyIn s step reply → IsWronglyBusy (effects seen) step reply
+  wrongly_busy_here : (step : Step) (reply : Reply) → IsWronglyBusyIn s step reply →
+      IsWronglyBusy (effects seen) step reply
   wrongly_busy_here step reply w = record {
     busy = λ b. w.busy (busy_there step reply b);
     first = early_here step reply w.first;
   }
 
-  commits_wrongly_here : (step : Step) (reply : Reply) (position : ℕ) → CommitsWronglyIn (progress_of seen) step reply position → CommitsWrongly seen step reply (position + 2)
+  commits_wrongly_here : (step : Step) (reply : Reply) (position : ℕ) → CommitsWronglyIn (progress_of seen) step reply
+      position → CommitsWrongly seen step reply (position + 2)
   commits_wrongly_here step reply position w = record {
     t = w.t;
     formed = formed_here step reply w.formed;
     commit = w.commit;
-    answer = subst (λ (m : PlainMap). IsFirstWrongAnswer seen w.t m (position + 2)) (ap (λ (x : State). x.committed) (sym state)) (first_wrong seen w.t s.committed (fresh s.committed) position refl w.answer);
+    answer = subst (λ (m : PlainMap). IsFirstWrongAnswer seen w.t m (position + 2))
+        (ap (λ (x : State). x.committed) (sym state))
+        (first_wrong seen w.t s.committed (fresh s.committed) position refl
+        w.answer);
   }
 
   -- a fault of the event that comes next is the first fault
-  pub is_first : (trace : Trace) (step : Step) (reply : Reply) (later : Trace) → trace ≡ seen ++ (step, reply) ∷ later → (position : ℕ) → position ≡ length seen → (event_fault : EventFault) → IsEventFault (progress_of seen) step reply event_fault → IsTrueFault trace (fault_of position event_fault)
-  is_first trace step reply later is position at Form w = record { earlier = seen; event = (step, reply); later = later; split = is; legal = legal; fault = (ap (λ n. n + 2) at, misformed_here step reply w) }
-  is_first trace step reply later is position at Busy w = record { earlier = seen; event = (step, reply); later = later; split = is; legal = legal; fault = (ap (λ n. n + 2) at, wrongly_busy_here step reply w) }
-  is_first trace step reply later is position at (Answer n) w = record { earlier = seen; event = (step, reply); later = later; split = is; legal = legal; fault = commits_wrongly_here step reply n w }
+  pub is_first : (trace : Trace) (step : Step) (reply : Reply) (later : Trace) → trace ≡ seen ++ (step, reply) ∷ later →
+      (position : ℕ) → position ≡ length seen → (event_fault : EventFault) → IsEventFault (progress_of seen) step reply
+      event_fault → IsTrueFault trace (fault_of position event_fault)
+  is_first trace step reply later is position at Form w = record {
+    earlier = seen;
+    event = (step, reply);
+    later = later;
+    split = is;
+    legal = legal;
+    fault = (ap (λ n. n + 2) at, misformed_here step reply w);
+  }
+  is_first trace step reply later is position at Busy w = record {
+    earlier = seen;
+    event = (step, reply);
+    later = later;
+    split = is;
+    legal = legal;
+    fault = (ap (λ n. n + 2) at, wrongly_busy_here step reply w);
+  }
+  is_first trace step reply later is position at (Answer n) w = record {
+    earlier = seen;
+    event = (step, reply);
+    later = later;
+    split = is;
+    legal = legal;
+    fault = commits_wrongly_here step reply n w;
+  }
   is_first trace step reply later is position at NoMemory w = tt

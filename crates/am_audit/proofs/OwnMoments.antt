@@ -1,5 +1,6 @@
 -- The moment that an audit tells by itself: what it keeps of the active transactions are their bodies.
-use Rattle.std.proofs.Common.{◌≡◌, ℕ, ◌+◌, ◌<◌, ◌≤◌, List, [], ◌∷◌, ◌++◌, map, true, false, refl, sym, ap, ◌∙◌, subst, arith}
+use Rattle.std.proofs.Common.{◌≡◌, ℕ, ◌+◌, ◌<◌, ◌≤◌, List, [], ◌∷◌, ◌++◌, map, true, false, refl, sym, ap, ◌∙◌, subst}
+use Rattle.std.proofs.Common.{arith}
 use Rattle.std.specs.Prelude.{◌==◌, ◌||◌}
 use Rattle.std.specs.List.{AllByRecursion}
 use Rattle.std.proofs.lemmas.Bool.{cond_both, eq-eqb, true≢false, false_from_ne_true}
@@ -15,7 +16,9 @@ use Rattle.am_serial.specs.Machine.{State, Transaction, is_open, next}
 use Rattle.am_audit.specs.declared.event_fault.EventFault.{EventFault}
 use Rattle.am_audit.specs.declared.event_fault.EventFault.TheVariants.{Form, Busy, Answer, NoMemory}
 use Rattle.am_audit.specs.declared.checker.Checker.{Checker}
-use Rattle.am_audit.specs.Progress.{PlacedAnswer, answered_of, Listed, listed, own_in, Bodies, list_of, IsAtState, added, Progress, IsAt, FormedIn, IsRightIn, IsMisformedIn, IsWronglyBusyIn, TakesEvent, IsEventFault, IsFirstWrong}
+use Rattle.am_audit.specs.Progress.{PlacedAnswer, answered_of, Listed, listed, own_in, Bodies, list_of, IsAtState}
+use Rattle.am_audit.specs.Progress.{added, Progress, IsAt, FormedIn, IsRightIn, IsMisformedIn, IsWronglyBusyIn}
+use Rattle.am_audit.specs.Progress.{TakesEvent, IsEventFault, IsFirstWrong}
 use Rattle.am_audit.proofs.Progresses.{all_without, all_extended, open_below}
 use Rattle.am_audit.proofs.Bodies.{own_are}
 use Rattle.am_audit.proofs.Lifts.{commit_open}
@@ -24,21 +27,36 @@ abbrev pub own_bodies : Checker → Bodies
 own_bodies p = own_in (map listed p.active.items)
 
 abbrev pub own_state : Checker → State
-own_state p = record { begun = p.begun; commits = p.commits; runs = p.runs; committed = p.committed.map; active = map (λ (x : Listed). (x.0, answered_of x.1)) (map listed p.active.items) }
+own_state p = record {
+  begun = p.begun;
+  commits = p.commits;
+  runs = p.runs;
+  committed = p.committed.map;
+  active = map (λ (x : Listed). (x.0, answered_of x.1)) (map listed p.active.items);
+}
 
 abbrev pub own_moment : Checker → ℕ → Progress
 own_moment p n = record { bodies = own_bodies p; state = own_state p; count = n }
 
 -- ---- its state
 
-active_are : (bodies : Bodies) (txs : List Transaction) → AllByRecursion (λ (x : Transaction). x.1 ≡ answered_of (bodies x.0)) txs → map (λ (x : Listed). (x.0, answered_of x.1)) (map (list_of bodies) txs) ≡ txs
+active_are : (bodies : Bodies) (txs : List Transaction) →
+    AllByRecursion (λ (x : Transaction). x.1 ≡ answered_of (bodies x.0)) txs →
+    map (λ (x : Listed). (x.0, answered_of x.1)) (map (list_of bodies) txs) ≡ txs
 active_are bodies [] a = refl
 active_are bodies (x ∷ txs) a = let rest = active_are bodies txs a.1 in λ i. (x.0, sym a.0 i) ∷ rest i
 
 state_is : (p : Checker) (bodies : Bodies) (s : State) → IsAtState p bodies s → own_state p ≡ s
 state_is p bodies s h =
-    let active = ap (map (λ (x : Listed). (x.0, answered_of x.1))) h.active ∙ active_are bodies s.active h.ordinary.made in
-    λ i. record { begun = h.begun i; commits = h.commits i; runs = h.runs i; committed = (ap (λ (d : Draft). d.map) h.committed) i; active = active i }
+    let active = ap (map (λ (x : Listed). (x.0, answered_of x.1))) h.active ∙
+    active_are bodies s.active h.ordinary.made in
+    λ i. record {
+      begun = h.begun i;
+      commits = h.commits i;
+      runs = h.runs i;
+      committed = (ap (λ (d : Draft). d.map) h.committed) i;
+      active = active i;
+    }
 
 -- ---- its bodies
 
@@ -49,7 +67,9 @@ each_open : (txs : List Transaction) → AllByRecursion (λ (x : Transaction). i
 each_open [] = tt
 each_open (x ∷ txs) = (
   ap (λ b. b || is_open txs x.0) (eq-eqb x.0 x.0 refl),
-  AllByRecursion-map (λ (y : Transaction). is_open txs y.0 ≡ true) (λ (y : Transaction). (y.0 == x.0) || is_open txs y.0 ≡ true) (λ y on. ap (λ b. (y.0 == x.0) || b) on ∙ or-true (y.0 == x.0)) txs (each_open txs),
+  AllByRecursion-map (λ (y : Transaction). is_open txs y.0 ≡ true)
+      (λ (y : Transaction). (y.0 == x.0) || is_open txs y.0 ≡ true) (λ y on. ap (λ b. (y.0 == x.0) || b) on ∙
+      or-true (y.0 == x.0)) txs (each_open txs),
 )
 
 lists_agree : (b c : Bodies) (txs : List Transaction) → AgreeOn txs b c → map (list_of b) txs ≡ map (list_of c) txs
@@ -57,7 +77,8 @@ lists_agree b c [] a = refl
 lists_agree b c (x ∷ txs) a = let rest = lists_agree b c txs a.1 in λ i. (x.0, a.0 i) ∷ rest i
 
 -- other bodies that are the same for the active transactions
-rebodied : (p : Checker) (b c : Bodies) (s : State) → AgreeOn s.active b c → ((t : ℕ) → s.begun < t → c t ≡ []) → IsAtState p b s → IsAtState p c s
+rebodied : (p : Checker) (b c : Bodies) (s : State) → AgreeOn s.active b c → ((t : ℕ) → s.begun < t → c t ≡ []) →
+    IsAtState p b s → IsAtState p c s
 rebodied p b c s same none h = record {
   begun = h.begun;
   commits = h.commits;
@@ -73,11 +94,13 @@ rebodied p b c s same none h = record {
   };
 }
   where
-    made : (txs : List Transaction) → AllByRecursion (λ (x : Transaction). x.1 ≡ answered_of (b x.0)) txs → AgreeOn txs b c → AllByRecursion (λ (x : Transaction). x.1 ≡ answered_of (c x.0)) txs
+    made : (txs : List Transaction) → AllByRecursion (λ (x : Transaction). x.1 ≡ answered_of (b x.0)) txs →
+        AgreeOn txs b c → AllByRecursion (λ (x : Transaction). x.1 ≡ answered_of (c x.0)) txs
     made [] m a = tt
     made (x ∷ txs) m a = (m.0 ∙ ap answered_of a.0, made txs m.1 a.1)
 
-none_listed : (b : Bodies) (txs : List Transaction) (t : ℕ) → is_open txs t ≡ false → own_in (map (list_of b) txs) t ≡ []
+none_listed : (b : Bodies) (txs : List Transaction) (t : ℕ) → is_open txs t ≡ false →
+    own_in (map (list_of b) txs) t ≡ []
 none_listed b [] t off = refl
 none_listed b (x ∷ txs) t off =
     cond_both (t == x.0) (b x.0) (own_in (map (list_of b) txs) t) (λ ps. ps ≡ [])
@@ -91,16 +114,19 @@ module _ (p : Checker) (b : Bodies) (s : State) (h : IsAtState p b s) where
   own_none : (t : ℕ) → s.begun < t → own_bodies p t ≡ []
   own_none t above =
       ap (λ (xs : List Listed). own_in xs t) h.active
-      ∙ none_listed b s.active t (false_from_ne_true (is_open s.active t) (λ on. let low = open_below s.begun t s.active h.ordinary.below on in let no : ⊥ = omega arith in no))
+      ∙ none_listed b s.active t (false_from_ne_true (is_open s.active t)
+      (λ on. let low = open_below s.begun t s.active h.ordinary.below on in let no : ⊥ = omega arith in no))
 
   all_here : AgreeOn s.active (own_bodies p) b
-  all_here = AllByRecursion-map (λ (x : Transaction). is_open s.active x.0 ≡ true) (λ (x : Transaction). own_bodies p x.0 ≡ b x.0) (λ x on. own_here x.0 on) s.active (each_open s.active)
+  all_here = AllByRecursion-map (λ (x : Transaction). is_open s.active x.0 ≡ true)
+      (λ (x : Transaction). own_bodies p x.0 ≡ b x.0) (λ x on. own_here x.0 on) s.active (each_open s.active)
 
   -- the audit stands where it tells itself
   pub stands_own : (n : ℕ) → IsAt p (own_moment p n)
   stands_own n =
       subst (λ x. IsAtState p (own_bodies p) x) (sym (state_is p b s h))
-      (rebodied p b (own_bodies p) s (AllByRecursion-map (λ (x : Transaction). own_bodies p x.0 ≡ b x.0) (λ (x : Transaction). b x.0 ≡ own_bodies p x.0) (λ x e. sym e) s.active all_here) own_none h)
+      (rebodied p b (own_bodies p) s (AllByRecursion-map (λ (x : Transaction). own_bodies p x.0 ≡ b x.0)
+      (λ (x : Transaction). b x.0 ≡ own_bodies p x.0) (λ x e. sym e) s.active all_here) own_none h)
 
   -- ---- the event that comes next
 
@@ -108,7 +134,8 @@ module _ (p : Checker) (b : Bodies) (s : State) (h : IsAtState p b s) where
   here n = record { bodies = b; state = s; count = n }
 
   -- what begins is new
-  begins_new : (step : Step) (reply : Reply) (t : ℕ) → effect step reply ≡ Begins t → FormedIn s step reply → t ≡ s.begun + 1
+  begins_new : (step : Step) (reply : Reply) (t : ℕ) → effect step reply ≡ Begins t → FormedIn s step reply →
+      t ≡ s.begun + 1
   begins_new Begin (Begun u) t e f = let same : u ≡ t = cc in sym same ∙ f.0
   begins_new (Do u op) (Refused why) t e f = absurd (cc)
   begins_new (Do u op) reply t e f = absurd (cc)
@@ -119,8 +146,10 @@ module _ (p : Checker) (b : Bodies) (s : State) (h : IsAtState p b s) where
   agree_next : (e : Effect) → ((t : ℕ) → e ≡ Begins t → t ≡ s.begun + 1) → AgreeOn (next s e).active (own_bodies p) b
   agree_next (Begins t) new =
       let above : s.begun < t = let is = new t refl in omega arith in
-      AllByRecursion-push (λ (x : Transaction). own_bodies p x.0 ≡ b x.0) s.active (t, []) all_here (own_none t above ∙ sym (h.ordinary.new t above))
-  agree_next (Answers t op reply) new = all_extended (λ (x : Transaction). own_bodies p x.0 ≡ b x.0) (λ (x : Transaction). own_bodies p x.0 ≡ b x.0) t (op, reply) (λ x k. k) s.active all_here
+      AllByRecursion-push (λ (x : Transaction). own_bodies p x.0 ≡ b x.0) s.active (t, []) all_here
+      (own_none t above ∙ sym (h.ordinary.new t above))
+  agree_next (Answers t op reply) new = all_extended (λ (x : Transaction). own_bodies p x.0 ≡ b x.0)
+      (λ (x : Transaction). own_bodies p x.0 ≡ b x.0) t (op, reply) (λ x k. k) s.active all_here
   agree_next (Commits t) new = all_without (λ (x : Transaction). own_bodies p x.0 ≡ b x.0) t s.active all_here
   agree_next (Aborts t) new = all_without (λ (x : Transaction). own_bodies p x.0 ≡ b x.0) t s.active all_here
   agree_next Nothing new = all_here
@@ -132,24 +161,32 @@ module _ (p : Checker) (b : Bodies) (s : State) (h : IsAtState p b s) where
   no_less (Begins t) = omega arith
   no_less _ = omega arith
 
-  pub takes_there : (n : ℕ) (step : Step) (reply : Reply) (p' : Checker) → TakesEvent (own_moment p n) step reply p' → TakesEvent (here n) step reply p'
+  pub takes_there : (n : ℕ) (step : Step) (reply : Reply) (p' : Checker) → TakesEvent (own_moment p n) step reply p' →
+      TakesEvent (here n) step reply p'
   takes_there n step reply p' k =
       let is = state_is p b s h in
-      let stands = subst (λ x. IsAtState p' (with_added (own_bodies p) n (effect step reply)) (next x (effect step reply))) is k.stands in
+      let stands = subst (λ x. IsAtState p' (with_added (own_bodies p) n (effect step reply))
+      (next x (effect step reply))) is k.stands in
       let right = subst (λ x. IsRightIn x step reply) is k.right in
       record {
         right = right;
-        stands = rebodied p' (with_added (own_bodies p) n (effect step reply)) (with_added b n (effect step reply)) (next s (effect step reply))
-            (AllByRecursion-map (λ (x : Transaction). own_bodies p x.0 ≡ b x.0) (λ (x : Transaction). with_added (own_bodies p) n (effect step reply) x.0 ≡ with_added b n (effect step reply) x.0) (λ x e. ap (λ l. l ++ added n x.0 (effect step reply)) e) (next s (effect step reply)).active
+        stands = rebodied p' (with_added (own_bodies p) n (effect step reply)) (with_added b n (effect step reply))
+            (next s (effect step reply))
+            (AllByRecursion-map (λ (x : Transaction). own_bodies p x.0 ≡ b x.0)
+            (λ (x : Transaction). with_added (own_bodies p) n (effect step reply) x.0 ≡ with_added b n
+            (effect step reply) x.0) (λ x e. ap (λ l. l ++ added n x.0 (effect step reply)) e)
+            (next s (effect step reply)).active
             (agree_next (effect step reply) (λ t e. begins_new step reply t e right.said.formed)))
             (λ t above.
             let low = no_less (effect step reply) in
             let above' : s.begun < t = omega arith in
-            ap (λ l. l ++ added n t (effect step reply)) (h.ordinary.new t above' ∙ sym (own_none t above')) ∙ stands.ordinary.new t above)
+            ap (λ l. l ++ added n t (effect step reply)) (h.ordinary.new t above' ∙ sym (own_none t above')) ∙
+            stands.ordinary.new t above)
             stands;
       }
 
-  pub flaw_there : (n : ℕ) (step : Step) (reply : Reply) (event_fault : EventFault) → IsEventFault (own_moment p n) step reply event_fault → IsEventFault (here n) step reply event_fault
+  pub flaw_there : (n : ℕ) (step : Step) (reply : Reply) (event_fault : EventFault) →
+      IsEventFault (own_moment p n) step reply event_fault → IsEventFault (here n) step reply event_fault
   flaw_there n step reply Form w = subst (λ x. IsMisformedIn x step reply) (state_is p b s h) w
   flaw_there n step reply Busy w = subst (λ x. IsWronglyBusyIn x step reply) (state_is p b s h) w
   flaw_there n step reply (Answer position) w =
@@ -159,7 +196,8 @@ module _ (p : Checker) (b : Bodies) (s : State) (h : IsAtState p b s) where
         t = w.t;
         formed = formed;
         commit = w.commit;
-        answer = subst (λ (own : List PlacedAnswer). IsFirstWrong own (fresh s.committed) position) (own_here w.t (commit_open s step reply w.t w.commit formed))
+        answer = subst (λ (own : List PlacedAnswer). IsFirstWrong own (fresh s.committed) position)
+            (own_here w.t (commit_open s step reply w.t w.commit formed))
             (subst (λ (x : State). IsFirstWrong (own_bodies p w.t) (fresh x.committed) position) is w.answer);
       }
   flaw_there n step reply NoMemory w = tt

@@ -1,5 +1,6 @@
 -- Operations and commits that the audit takes.
-use Rattle.std.proofs.Common.{◌≡◌, ℕ, ◌+◌, ◌≤◌, List, length, map, take, Bool, true, false, cond, refl, sym, ap, ◌∙◌, subst, Option, Some, None}
+use Rattle.std.proofs.Common.{◌≡◌, ℕ, ◌+◌, ◌≤◌, List, length, map, take, Bool, true, false, cond, refl, sym, ap, ◌∙◌}
+use Rattle.std.proofs.Common.{subst, Option, Some, None}
 use Rattle.std.specs.Prelude.{◌==◌, not, filter}
 use Rattle.std.proofs.lemmas.Bool.{both_ways, false≢true, not-false}
 use Rattle.am_record.specs.Plain.{Draft, fresh, answers_on, left_on}
@@ -12,13 +13,16 @@ use Rattle.am_record.specs.declared.step.Reply.{Reply}
 use Rattle.am_record.specs.declared.step.Reply.TheVariants.{Committed, Refused}
 use Rattle.am_locks.specs.OwnerLocks.{OwnerLocks}
 use Rattle.am_locks.specs.Table.{is_owner, locks_owned, with_locks, without_owner as released}
-use Rattle.am_serial.specs.Trace.{Answered, Answers, Commits, Nothing, effect, runs_made, ops_of, replies_of, IsAnsweredAlone}
+use Rattle.am_serial.specs.Trace.{Answered, Answers, Commits, Nothing, effect, runs_made, ops_of, replies_of}
+use Rattle.am_serial.specs.Trace.{IsAnsweredAlone}
 use Rattle.am_serial.specs.Machine.{State, is_open, body_in, locks_in, view, due_early, May}
 use Rattle.am_audit.specs.declared.event_fault.EventFault.{EventFault}
 use Rattle.am_audit.specs.declared.event_fault.EventFault.TheVariants.{Form, Busy, Answer, NoMemory}
 use Rattle.am_audit.specs.declared.active.Active.{Active}
 use Rattle.am_audit.specs.declared.checker.Checker.{Checker}
-use Rattle.am_audit.specs.Progress.{PlacedAnswer, answered_of, Listed, listed, is_listed, own_in, with_own, owner_of, Progress, IsAt, NextIn, IsRightOf, TakesEvent, IsEventFault, AreAnsweredOn, left_by_all, IsFirstWrong, IsReplayFault, refused_of}
+use Rattle.am_audit.specs.Progress.{PlacedAnswer, answered_of, Listed, listed, is_listed, own_in, with_own, owner_of}
+use Rattle.am_audit.specs.Progress.{Progress, IsAt, NextIn, IsRightOf, TakesEvent, IsEventFault, AreAnsweredOn}
+use Rattle.am_audit.specs.Progress.{left_by_all, IsFirstWrong, IsReplayFault, refused_of}
 use Rattle.am_audit.proofs.Tables.{still_owner, held_before, given_back}
 use Rattle.am_audit.proofs.Progresses.{stands_behind, no_answer, answers, commits}
 use Rattle.am_audit.proofs.Takings.{takes_still, is_owned}
@@ -37,12 +41,15 @@ pub refusal_nothing : (t : ℕ) (op : Op) (reply : Reply) → refused_of reply �
 refusal_nothing t op (Refused why) h = refl
 refusal_nothing t op _ h = absurd (false≢true h)
 
-answer_effect : (t : ℕ) (op : Op) (reply : Reply) → refused_of reply ≡ false → effect (Do t op) reply ≡ Answers t op reply
+answer_effect : (t : ℕ) (op : Op) (reply : Reply) → refused_of reply ≡ false → effect (Do t op) reply ≡ Answers t op
+    reply
 answer_effect t op (Refused why) h = absurd (false≢true (sym h))
 answer_effect t op _ h = refl
 
 -- the same but for the locks, which are the same too
-restored : (p p' : Checker) (here : Progress) → IsAt p here → p'.begun ≡ p.begun → p'.commits ≡ p.commits → p'.runs ≡ p.runs → map listed p'.active.items ≡ map listed p.active.items → p'.locks ≡ p.locks → p'.committed ≡ p.committed → IsAt p' here
+restored : (p p' : Checker) (here : Progress) → IsAt p here → p'.begun ≡ p.begun → p'.commits ≡ p.commits →
+    p'.runs ≡ p.runs → map listed p'.active.items ≡ map listed p.active.items → p'.locks ≡ p.locks →
+    p'.committed ≡ p.committed → IsAt p' here
 restored p p' here h b c r a l m = record {
   begun = b ∙ h.begun;
   commits = c ∙ h.commits;
@@ -53,42 +60,55 @@ restored p p' here h b c r a l m = record {
   ordinary = h.ordinary;
 }
 
-pub takes_refused : (p p' : Checker) (here : Progress) (t : ℕ) (op : Op) (reply : Reply) → IsAt p here → refused_of reply ≡ true → IsRightOf here.state (Do t op) reply →
-    p'.begun ≡ p.begun → p'.commits ≡ p.commits → p'.runs ≡ p.runs → map listed p'.active.items ≡ map listed p.active.items → p'.locks ≡ p.locks → p'.committed ≡ p.committed → TakesEvent here (Do t op) reply p'
-takes_refused p p' here t op reply h refused right b c r a l m = takes_still p' here (Do t op) reply (refusal_nothing t op reply refused) right (restored p p' here h b c r a l m)
+pub takes_refused : (p p' : Checker) (here : Progress) (t : ℕ) (op : Op) (reply : Reply) → IsAt p here →
+    refused_of reply ≡ true → IsRightOf here.state (Do t op) reply →
+    p'.begun ≡ p.begun → p'.commits ≡ p.commits → p'.runs ≡ p.runs → map listed p'.active.items ≡ map listed
+    p.active.items → p'.locks ≡ p.locks → p'.committed ≡ p.committed → TakesEvent here (Do t op) reply p'
+takes_refused p p' here t op reply h refused right b c r a l m = takes_still p' here (Do t op) reply
+    (refusal_nothing t op reply refused) right (restored p p' here h b c r a l m)
 
-module _ (p : Checker) (here : Progress) (h : IsAt p here) (t : ℕ) (op : Op) (none : due_early here.state t op ≡ None) where
-  abbrev s : State
-  s = here.state
+module _ (p : Checker) (here : Progress) (h : IsAt p here) (t : ℕ) (op : Op) (none : due_early here.state t op ≡ None)
+  where
+    abbrev s : State
+    s = here.state
 
-  pub owner_here : is_owner p.locks t ≡ true
-  owner_here = is_owned p here h t ∙ open_of_none s t op none
+    pub owner_here : is_owner p.locks t ≡ true
+    owner_here = is_owned p here h t ∙ open_of_none s t op none
 
-  module _ (asked : Option Lock) (granted : List OwnerLocks) (is : granted ≡ with_locks p.locks t (with_asked (locks_in s.active t) asked)) where
-    is' : granted ≡ with_locks (map owner_of s.active) t (with_asked (locks_in s.active t) asked)
-    is' = is ∙ ap (λ (table : List OwnerLocks). with_locks table t (with_asked (locks_in s.active t) asked)) h.locks
+    module _ (asked : Option Lock) (granted : List OwnerLocks)
+        (is : granted ≡ with_locks p.locks t (with_asked (locks_in s.active t) asked)) where
+      is' : granted ≡ with_locks (map owner_of s.active) t (with_asked (locks_in s.active t) asked)
+      is' = is ∙ ap (λ (table : List OwnerLocks). with_locks table t (with_asked (locks_in s.active t) asked)) h.locks
 
-    pub owner_still : is_owner granted t ≡ true
-    owner_still = still_owner s.active t asked h.ordinary.rising (open_of_none s t op none) granted is'
+      pub owner_still : is_owner granted t ≡ true
+      owner_still = still_owner s.active t asked h.ordinary.rising (open_of_none s t op none) granted is'
 
-    module _ (n : ℕ) (count : n ≡ length (locks_owned p.locks t)) where
-      count' : n ≡ length (locks_owned (map owner_of s.active) t)
-      count' = count ∙ ap (λ (table : List OwnerLocks). length (locks_owned table t)) h.locks
+      module _ (n : ℕ) (count : n ≡ length (locks_owned p.locks t)) where
+        count' : n ≡ length (locks_owned (map owner_of s.active) t)
+        count' = count ∙ ap (λ (table : List OwnerLocks). length (locks_owned table t)) h.locks
 
-      pub enough : n ≤ length (locks_owned granted t)
-      enough = held_before s.active t asked h.ordinary.rising (open_of_none s t op none) granted is' n count'
+        pub enough : n ≤ length (locks_owned granted t)
+        enough = held_before s.active t asked h.ordinary.rising (open_of_none s t op none) granted is' n count'
 
-      pub locks_back : with_locks granted t (take n (locks_owned granted t)) ≡ p.locks
-      locks_back = given_back s.active t asked h.ordinary.rising (open_of_none s t op none) granted is' n count' ∙ sym h.locks
+        pub locks_back : with_locks granted t (take n (locks_owned granted t)) ≡ p.locks
+        locks_back = given_back s.active t asked h.ordinary.rising (open_of_none s t op none) granted is' n count' ∙
+            sym h.locks
 
-  pub takes_answer : (p' : Checker) (reply : Reply) (n : ℕ) (asked : Option Lock) → n ≡ here.count → asked ≡ lock_of op → refused_of reply ≡ false → IsRightOf s (Do t op) reply → p'.begun ≡ p.begun → p'.commits ≡ p.commits → p'.runs ≡ p.runs + runs_made op reply → map listed p'.active.items ≡ with_own t (n, (op, reply)) (map listed p.active.items) → p'.locks ≡ with_locks p.locks t (with_asked (locks_in s.active t) asked) → p'.committed ≡ p.committed → TakesEvent here (Do t op) reply p'
-  takes_answer p' reply n asked position lock answered right b c r a l m =
-      let is = answer_effect t op reply answered in
-      record {
-        right = record { said = right; next = subst (NextIn s) (sym is) tt };
-        stands = stands_behind p' here (Do t op) reply (Answers t op reply) is
-            (answers p p' here.bodies s h here.count t op reply (open_of_none s t op none) b c r (a ∙ ap (λ k. with_own t (k, (op, reply)) (map listed p.active.items)) position) (l ∙ ap (λ o. with_locks p.locks t (with_asked (locks_in s.active t) o)) lock) m);
-      }
+    pub takes_answer : (p' : Checker) (reply : Reply) (n : ℕ) (asked : Option Lock) → n ≡ here.count →
+        asked ≡ lock_of op → refused_of reply ≡ false → IsRightOf s (Do t op) reply → p'.begun ≡ p.begun →
+        p'.commits ≡ p.commits → p'.runs ≡ p.runs + runs_made op reply → map listed p'.active.items ≡ with_own t
+        (n, (op, reply)) (map listed p.active.items) →
+        p'.locks ≡ with_locks p.locks t (with_asked (locks_in s.active t) asked) → p'.committed ≡ p.committed →
+        TakesEvent here (Do t op) reply p'
+    takes_answer p' reply n asked position lock answered right b c r a l m =
+        let is = answer_effect t op reply answered in
+        record {
+          right = record { said = right; next = subst (NextIn s) (sym is) tt };
+          stands = stands_behind p' here (Do t op) reply (Answers t op reply) is
+              (answers p p' here.bodies s h here.count t op reply (open_of_none s t op none) b c r
+              (a ∙ ap (λ k. with_own t (k, (op, reply)) (map listed p.active.items)) position)
+              (l ∙ ap (λ o. with_locks p.locks t (with_asked (locks_in s.active t) o)) lock) m);
+        }
 
 -- ---- commits
 
@@ -99,10 +119,12 @@ commit_nothing t _ h = refl
 abbrev MayCommit : State → ℕ → ℕ → Type 0
 MayCommit s t n = (is_open s.active t ≡ true) × (n ≡ s.commits + 1)
 
-pub may_commit_with : (s : State) (t : ℕ) (reply : Reply) (n : ℕ) → reply ≡ Committed n → May s (Commit t) reply → MayCommit s t n
+pub may_commit_with : (s : State) (t : ℕ) (reply : Reply) (n : ℕ) → reply ≡ Committed n → May s (Commit t) reply →
+    MayCommit s t n
 may_commit_with s t reply n is f = let P : Reply → Type 0 = λ r. May s (Commit t) r in subst P is f
 
-module _ (p : Checker) (here : Progress) (h : IsAt p here) (t : ℕ) (reply : Reply) (n : ℕ) (is : reply ≡ Committed n) (formed : May here.state (Commit t) reply) where
+module _ (p : Checker) (here : Progress) (h : IsAt p here) (t : ℕ) (reply : Reply) (n : ℕ) (is : reply ≡ Committed n)
+    (formed : May here.state (Commit t) reply) where
   abbrev s1 : State
   s1 = here.state
 
@@ -118,34 +140,47 @@ module _ (p : Checker) (here : Progress) (h : IsAt p here) (t : ℕ) (reply : Re
   commits_effect : effect (Commit t) reply ≡ Commits t
   commits_effect = ap (effect (Commit t)) is
 
-  module _ (all : List Active) (same : all ≡ p.active.items) (own : List PlacedAnswer) (found : own ≡ own_in (map listed all) t) where
+  module _ (all : List Active) (same : all ≡ p.active.items) (own : List PlacedAnswer)
+      (found : own ≡ own_in (map listed all) t) where
     own_seen : own ≡ here.bodies t
     own_seen = found ∙ own_placed p here h all same t on
 
     -- the first wrong answer is a fault of the commit
-    pub replay_flaw : (event_fault : EventFault) → IsReplayFault own p.committed event_fault → IsEventFault here (Commit t) reply event_fault
+    pub replay_flaw : (event_fault : EventFault) → IsReplayFault own p.committed event_fault →
+        IsEventFault here (Commit t) reply event_fault
     replay_flaw (Answer position) w = record {
       t = t;
       formed = formed;
       commit = commits_effect;
-      answer = subst (λ (own : List PlacedAnswer). IsFirstWrong own (fresh s1.committed) position) own_seen (let P : Draft → Type 0 = λ d. IsFirstWrong own d position in subst P h.committed w);
+      answer = subst (λ (own : List PlacedAnswer). IsFirstWrong own (fresh s1.committed) position) own_seen
+          (let P : Draft → Type 0 = λ d. IsFirstWrong own d position in subst P h.committed w);
     }
     replay_flaw NoMemory w = tt
     replay_flaw Form w = absurd w
     replay_flaw Busy w = absurd w
 
-    pub takes_commit : (p' : Checker) (left : Draft) → AreAnsweredOn own p.committed → left ≡ left_by_all own p.committed →
-        p'.begun ≡ p.begun → p'.commits ≡ n → p'.runs ≡ p.runs → map listed p'.active.items ≡ filter (λ (x : Listed). not (x.0 == t)) (map listed p.active.items) → p'.locks ≡ released p.locks t → p'.committed ≡ fresh left.map → TakesEvent here (Commit t) reply p'
+    pub takes_commit : (p' : Checker) (left : Draft) → AreAnsweredOn own p.committed →
+        left ≡ left_by_all own p.committed →
+        p'.begun ≡ p.begun → p'.commits ≡ n → p'.runs ≡ p.runs → map listed p'.active.items ≡ filter
+        (λ (x : Listed). not (x.0 == t)) (map listed p.active.items) → p'.locks ≡ released p.locks t →
+        p'.committed ≡ fresh left.map → TakesEvent here (Commit t) reply p'
     takes_commit p' left alone is_left b c r a l m =
         let body = body_placed p here h all same t on in
         let alone' : IsAnsweredAlone (body_in s1.active t) s1.committed =
         subst (λ (done : List Answered). IsAnsweredAlone done s1.committed) (sym body)
-        (subst (λ d. replies_of (answered_of (here.bodies t)) ≡ answers_on (ops_of (answered_of (here.bodies t))) d) h.committed
+        (subst (λ d. replies_of (answered_of (here.bodies t)) ≡ answers_on (ops_of (answered_of (here.bodies t))) d)
+        h.committed
         (subst (λ (own : List PlacedAnswer). AreAnsweredOn own p.committed) own_seen alone)) in
         let view_is : left ≡ view s1 t =
-        is_left ∙ (λ i. left_by_all (own_seen i) (h.committed i)) ∙ ap (λ (done : List Answered). left_on (ops_of done) (fresh s1.committed)) (sym body) in
+        is_left ∙ (λ i. left_by_all (own_seen i) (h.committed i)) ∙
+        ap (λ (done : List Answered). left_on (ops_of done) (fresh s1.committed)) (sym body) in
         record {
-          right = record { said = record { formed = formed; busy = tt }; next = subst (NextIn s1) (sym commits_effect) alone' };
+          right = record {
+            said = record { formed = formed; busy = tt };
+            next = subst (NextIn s1) (sym commits_effect) alone';
+          };
           stands = stands_behind p' here (Commit t) reply (Commits t) commits_effect
-              (no_answer p' here _ (Commits t) (λ u. refl) (commits p p' here.bodies s1 h t b (c ∙ (may_commit_with s1 t reply n is formed).1) r a l (m ∙ ap (λ (d : Draft). fresh d.map) view_is)));
+              (no_answer p' here _ (Commits t) (λ u. refl) (commits p p' here.bodies s1 h t b
+              (c ∙ (may_commit_with s1 t reply n is formed).1) r a l
+              (m ∙ ap (λ (d : Draft). fresh d.map) view_is)));
         }

@@ -1,5 +1,6 @@
 -- How one event moves what the audit stands for.
-use Rattle.std.proofs.Common.{◌≡◌, ℕ, ◌+◌, ◌<◌, ◌≤◌, List, [], ◌∷◌, ◌++◌, length, map, true, false, cond, refl, sym, ap, ◌∙◌, subst, ⊎_elim, Option, Some, None, arith}
+use Rattle.std.proofs.Common.{◌≡◌, ℕ, ◌+◌, ◌<◌, ◌≤◌, List, [], ◌∷◌, ◌++◌, length, map, true, false, cond, refl, sym, ap}
+use Rattle.std.proofs.Common.{◌∙◌, subst, ⊎_elim, Option, Some, None, arith}
 use Rattle.std.specs.Prelude.{◌==◌, not, filter}
 use Rattle.std.specs.List.{cons_option, AllByRecursion}
 use Rattle.std.specs.Option.{option_map}
@@ -13,11 +14,15 @@ use Rattle.am_record.specs.declared.step.Reply.{Reply}
 use Rattle.am_record.proofs.Lists.{AllByRecursion-map, AllByRecursion-push}
 use Rattle.am_locks.specs.Table.{with_locks, entered, without_owner as released}
 use Rattle.am_record.specs.Events.{Event}
-use Rattle.am_serial.specs.Trace.{Trace, Answered, Effect, Begins, Answers, Commits, Aborts, Nothing, answered_to, effect, runs_made}
-use Rattle.am_serial.specs.Machine.{State, Transaction, start, after_run, is_open, locks_in, view, extended, without_transaction, next}
+use Rattle.am_serial.specs.Trace.{Trace, Answered, Effect, Begins, Answers, Commits, Aborts, Nothing, answered_to}
+use Rattle.am_serial.specs.Trace.{effect, runs_made}
+use Rattle.am_serial.specs.Machine.{State, Transaction, start, after_run, is_open, locks_in, view, extended}
+use Rattle.am_serial.specs.Machine.{without_transaction, next}
 use Rattle.am_serial.proofs.Runs.{after_run-push}
 use Rattle.am_audit.specs.declared.checker.Checker.{Checker}
-use Rattle.am_audit.specs.Progress.{PlacedAnswer, answers_from, answers_at, answered_of, Listed, listed, with_own, Bodies, list_of, owner_of, RiseByNumber, IsAtState, added, Progress, progress_of, progress_after, IsAt}
+use Rattle.am_audit.specs.Progress.{PlacedAnswer, answers_from, answers_at, answered_of, Listed, listed, with_own}
+use Rattle.am_audit.specs.Progress.{Bodies, list_of, owner_of, RiseByNumber, IsAtState, added, Progress, progress_of}
+use Rattle.am_audit.specs.Progress.{progress_after, IsAt}
 use Rattle.am_audit.proofs.Tables.{relocked_done, entered_is, released_is}
 
 -- ---- one more event
@@ -26,27 +31,37 @@ cons_after : (o : Option PlacedAnswer) (xs ys : List PlacedAnswer) → cons_opti
 cons_after None xs ys = refl
 cons_after (Some x) xs ys = refl
 
-answers_from-push : (trace : Trace) (n t : ℕ) (e : Event) → answers_from n t (trace ++ e ∷ []) ≡ answers_from n t trace ++ added (n + length trace) t (effect e.0 e.1)
+answers_from-push : (trace : Trace) (n t : ℕ) (e : Event) → answers_from n t (trace ++ e ∷ []) ≡ answers_from n t
+    trace ++ added (n + length trace) t (effect e.0 e.1)
 answers_from-push [] n t e = ap (λ k. added k t (effect e.0 e.1)) (let same : n ≡ n + 0 = omega arith in same)
 answers_from-push (x ∷ trace) n t e =
-    let rest : answers_from (n + 1) t (trace ++ e ∷ []) ≡ answers_from (n + 1) t trace ++ added (n + length (x ∷ trace)) t (effect e.0 e.1) =
-    answers_from-push trace (n + 1) t e ∙ ap (λ k. answers_from (n + 1) t trace ++ added k t (effect e.0 e.1)) (let same : n + 1 + length trace ≡ n + length (x ∷ trace) = omega arith in same) in
+    let rest : answers_from (n + 1) t (trace ++ e ∷ []) ≡ answers_from (n + 1) t trace ++
+    added (n + length (x ∷ trace)) t (effect e.0 e.1) =
+    answers_from-push trace (n + 1) t e ∙ ap (λ k. answers_from (n + 1) t trace ++ added k t (effect e.0 e.1))
+    (let same : n + 1 + length trace ≡ n + length (x ∷ trace) = omega arith in same) in
     ap (cons_option (option_map (λ (a : Answered). (n, a)) (answered_to t (effect x.0 x.1)))) rest
-    ∙ cons_after (option_map (λ (a : Answered). (n, a)) (answered_to t (effect x.0 x.1))) (answers_from (n + 1) t trace) (added (n + length (x ∷ trace)) t (effect e.0 e.1))
+    ∙ cons_after (option_map (λ (a : Answered). (n, a)) (answered_to t (effect x.0 x.1))) (answers_from (n + 1) t trace)
+    (added (n + length (x ∷ trace)) t (effect e.0 e.1))
 
-pub answers_at-push : (trace : Trace) (e : Event) (t : ℕ) → answers_at (trace ++ e ∷ []) t ≡ answers_at trace t ++ added (length trace) t (effect e.0 e.1)
-answers_at-push trace e t = answers_from-push trace 0 t e ∙ ap (λ k. answers_at trace t ++ added k t (effect e.0 e.1)) (let same : 0 + length trace ≡ length trace = omega arith in same)
+pub answers_at-push : (trace : Trace) (e : Event) (t : ℕ) → answers_at (trace ++ e ∷ []) t ≡ answers_at trace t ++
+    added (length trace) t (effect e.0 e.1)
+answers_at-push trace e t = answers_from-push trace 0 t e ∙ ap (λ k. answers_at trace t ++ added k t (effect e.0 e.1))
+    (let same : 0 + length trace ≡ length trace = omega arith in same)
 
 -- the audit stands behind the event where it stands at what its effect makes
-pub stands_behind : (p : Checker) (here : Progress) (step : Step) (reply : Reply) (e : Effect) → effect step reply ≡ e → IsAt p (progress_after here e) → IsAt p (progress_after here (effect step reply))
+pub stands_behind : (p : Checker) (here : Progress) (step : Step) (reply : Reply) (e : Effect) → effect step reply ≡ e →
+    IsAt p (progress_after here e) → IsAt p (progress_after here (effect step reply))
 stands_behind p here step reply e is h = subst (λ x. IsAt p (progress_after here x)) (sym is) h
 
 -- and at the trace that the event makes longer
-pub stands_on : (p : Checker) (seen : Trace) (step : Step) (reply : Reply) → IsAt p (progress_after (progress_of seen) (effect step reply)) → IsAt p (progress_of (seen ++ (step, reply) ∷ []))
+pub stands_on : (p : Checker) (seen : Trace) (step : Step) (reply : Reply) →
+    IsAt p (progress_after (progress_of seen) (effect step reply)) → IsAt p (progress_of (seen ++ (step, reply) ∷ []))
 stands_on p seen step reply at =
-    let bodies : (λ (t : ℕ). answers_at seen t ++ added (length seen) t (effect step reply)) ≡ answers_at (seen ++ (step, reply) ∷ []) = λ i t. sym (answers_at-push seen (step, reply) t) i in
+    let bodies : (λ (t : ℕ). answers_at seen t ++ added (length seen) t (effect step reply)) ≡ answers_at
+    (seen ++ (step, reply) ∷ []) = λ i t. sym (answers_at-push seen (step, reply) t) i in
     subst (λ (b : Bodies). IsAtState p b (after_run start (seen ++ (step, reply) ∷ []))) bodies
-    (subst (λ s. IsAtState p (λ t. answers_at seen t ++ added (length seen) t (effect step reply)) s) (sym (after_run-push seen start (step, reply))) at)
+    (subst (λ s. IsAtState p (λ t. answers_at seen t ++ added (length seen) t (effect step reply)) s)
+    (sym (after_run-push seen start (step, reply))) at)
 
 -- an effect that is no answer adds nothing
 unchanged : (bodies : Bodies) → (λ (t : ℕ). bodies t ++ []) ≡ bodies
@@ -54,28 +69,40 @@ unchanged bodies i t = append-nil (bodies t) i
 
 -- ---- the machine's transactions
 
-pub all_without : (P : Transaction → Type 0) (t : ℕ) (xs : List Transaction) → AllByRecursion P xs → AllByRecursion P (without_transaction t xs)
+pub all_without : (P : Transaction → Type 0) (t : ℕ) (xs : List Transaction) → AllByRecursion P xs →
+    AllByRecursion P (without_transaction t xs)
 all_without P t [] a = tt
-all_without P t (x ∷ xs) a = cond_both (not (x.0 == t)) (x ∷ without_transaction t xs) (without_transaction t xs) (AllByRecursion P) (λ _. (a.0, all_without P t xs a.1)) (λ _. all_without P t xs a.1)
+all_without P t (x ∷ xs) a = cond_both (not (x.0 == t)) (x ∷ without_transaction t xs) (without_transaction t xs)
+    (AllByRecursion P) (λ _. (a.0, all_without P t xs a.1)) (λ _. all_without P t xs a.1)
 
-rise_push : (xs : List Transaction) (y : Transaction) → RiseByNumber xs → AllByRecursion (λ (x : Transaction). x.0 < y.0) xs → RiseByNumber (xs ++ y ∷ [])
+rise_push : (xs : List Transaction) (y : Transaction) → RiseByNumber xs →
+    AllByRecursion (λ (x : Transaction). x.0 < y.0) xs → RiseByNumber (xs ++ y ∷ [])
 rise_push [] y r a = (tt, tt)
 rise_push (x ∷ xs) y r a = (AllByRecursion-push (λ (z : Transaction). x.0 < z.0) xs y r.0 a.0, rise_push xs y r.1 a.1)
 
 rise_without : (t : ℕ) (xs : List Transaction) → RiseByNumber xs → RiseByNumber (without_transaction t xs)
 rise_without t [] r = tt
-rise_without t (x ∷ xs) r = cond_both (not (x.0 == t)) (x ∷ without_transaction t xs) (without_transaction t xs) RiseByNumber (λ _. (all_without (λ (z : Transaction). x.0 < z.0) t xs r.0, rise_without t xs r.1)) (λ _. rise_without t xs r.1)
+rise_without t (x ∷ xs) r = cond_both (not (x.0 == t)) (x ∷ without_transaction t xs) (without_transaction t xs)
+    RiseByNumber (λ _. (all_without (λ (z : Transaction). x.0 < z.0) t xs r.0, rise_without t xs r.1))
+    (λ _. rise_without t xs r.1)
 
-pub all_extended : (P Q : Transaction → Type 0) (t : ℕ) (a : Answered) → ((x : Transaction) → P x → Q (extended t a x)) → (xs : List Transaction) → AllByRecursion P xs → AllByRecursion Q (map (extended t a) xs)
+pub all_extended : (P Q : Transaction → Type 0) (t : ℕ) (a : Answered) →
+    ((x : Transaction) → P x → Q (extended t a x)) → (xs : List Transaction) → AllByRecursion P xs →
+    AllByRecursion Q (map (extended t a) xs)
 all_extended P Q t a f [] h = tt
 all_extended P Q t a f (x ∷ xs) h = (f x h.0, all_extended P Q t a f xs h.1)
 
 rise_extended : (t : ℕ) (a : Answered) (xs : List Transaction) → RiseByNumber xs → RiseByNumber (map (extended t a) xs)
 rise_extended t a [] r = tt
-rise_extended t a (x ∷ xs) r = (all_extended (λ (z : Transaction). x.0 < z.0) (λ (z : Transaction). x.0 < z.0) t a (λ z h. h) xs r.0, rise_extended t a xs r.1)
+rise_extended t a (x ∷ xs) r = (
+  all_extended (λ (z : Transaction). x.0 < z.0) (λ (z : Transaction). x.0 < z.0) t a
+      (λ z h. h) xs r.0,
+  rise_extended t a xs r.1,
+)
 
 -- an active number is not above the numbers begun
-pub open_below : (n t : ℕ) (xs : List Transaction) → AllByRecursion (λ (x : Transaction). x.0 ≤ n) xs → is_open xs t ≡ true → t ≤ n
+pub open_below : (n t : ℕ) (xs : List Transaction) → AllByRecursion (λ (x : Transaction). x.0 ≤ n) xs →
+    is_open xs t ≡ true → t ≤ n
 open_below n t [] a on = absurd (false≢true on)
 open_below n t (x ∷ xs) a on =
     let low : x.0 ≤ n = a.0 in
@@ -86,31 +113,43 @@ open_below n t (x ∷ xs) a on =
 
 -- ---- the lists
 
-list_without : (bodies : Bodies) (t : ℕ) (xs : List Transaction) → filter (λ (x : Listed). not (x.0 == t)) (map (list_of bodies) xs) ≡ map (list_of bodies) (without_transaction t xs)
+list_without : (bodies : Bodies) (t : ℕ) (xs : List Transaction) → filter (λ (x : Listed). not (x.0 == t))
+    (map (list_of bodies) xs) ≡ map (list_of bodies) (without_transaction t xs)
 list_without bodies t [] = refl
 list_without bodies t (x ∷ xs) =
-    elim (not (x.0 == t)) as (λ b. cond b (list_of bodies x ∷ filter (λ (x : Listed). not (x.0 == t)) (map (list_of bodies) xs)) (filter (λ (x : Listed). not (x.0 == t)) (map (list_of bodies) xs)) ≡ map (list_of bodies) (cond b (x ∷ without_transaction t xs) (without_transaction t xs))) [
+    elim (not (x.0 == t)) as (λ b. cond b (list_of bodies x ∷ filter (λ (x : Listed). not (x.0 == t))
+    (map (list_of bodies) xs)) (filter (λ (x : Listed). not (x.0 == t)) (map (list_of bodies) xs)) ≡ map
+    (list_of bodies) (cond b (x ∷ without_transaction t xs) (without_transaction t xs))) [
       | true ↦ ap (λ ys. list_of bodies x ∷ ys) (list_without bodies t xs)
       | false ↦ list_without bodies t xs
     ]
 
-added_answer : (n t : ℕ) (op : Op) (reply : Reply) (u : ℕ) (ps : List PlacedAnswer) → ps ++ added n u (Answers t op reply) ≡ cond (t == u) (ps ++ (n, (op, reply)) ∷ []) ps
-added_answer n t op reply u ps = elim (t == u) as (λ b. ps ++ cons_option (option_map (λ (a : Answered). (n, a)) (cond b (Some (op, reply)) None)) [] ≡ cond b (ps ++ (n, (op, reply)) ∷ []) ps) [ true ↦ refl | false ↦ append-nil ps ]
+added_answer : (n t : ℕ) (op : Op) (reply : Reply) (u : ℕ) (ps : List PlacedAnswer) → ps ++
+    added n u (Answers t op reply) ≡ cond (t == u) (ps ++ (n, (op, reply)) ∷ []) ps
+added_answer n t op reply u ps = elim (t == u) as
+    (λ b. ps ++ cons_option (option_map (λ (a : Answered). (n, a)) (cond b (Some (op, reply)) None)) [] ≡ cond b
+    (ps ++ (n, (op, reply)) ∷ []) ps) [ true ↦ refl | false ↦ append-nil ps ]
 
 -- transactions of higher numbers
-list_beside : (bodies : Bodies) (n t : ℕ) (op : Op) (reply : Reply) (xs : List Transaction) → AllByRecursion (λ (y : Transaction). t < y.0) xs → map (list_of (λ u. bodies u ++ added n u (Answers t op reply))) (map (extended t (op, reply)) xs) ≡ map (list_of bodies) xs
+list_beside : (bodies : Bodies) (n t : ℕ) (op : Op) (reply : Reply) (xs : List Transaction) →
+    AllByRecursion (λ (y : Transaction). t < y.0) xs → map (list_of (λ u. bodies u ++ added n u (Answers t op reply)))
+    (map (extended t (op, reply)) xs) ≡ map (list_of bodies) xs
 list_beside bodies n t op reply [] a = refl
 list_beside bodies n t op reply (x ∷ xs) a =
     let above : t < x.0 = a.0 in
-    let here = added_answer n t op reply x.0 (bodies x.0) ∙ cond-false (t == x.0) _ _ (ne_eqb t x.0 (λ e. let no : ⊥ = omega arith in no)) in
+    let here = added_answer n t op reply x.0 (bodies x.0) ∙
+    cond-false (t == x.0) _ _ (ne_eqb t x.0 (λ e. let no : ⊥ = omega arith in no)) in
     let rest = list_beside bodies n t op reply xs a.1 in
     λ i. (x.0, here i) ∷ rest i
 
-list_extended : (bodies : Bodies) (n t : ℕ) (op : Op) (reply : Reply) (xs : List Transaction) → RiseByNumber xs → with_own t (n, (op, reply)) (map (list_of bodies) xs) ≡ map (list_of (λ u. bodies u ++ added n u (Answers t op reply))) (map (extended t (op, reply)) xs)
+list_extended : (bodies : Bodies) (n t : ℕ) (op : Op) (reply : Reply) (xs : List Transaction) → RiseByNumber xs →
+    with_own t (n, (op, reply)) (map (list_of bodies) xs) ≡ map
+    (list_of (λ u. bodies u ++ added n u (Answers t op reply))) (map (extended t (op, reply)) xs)
 list_extended bodies n t op reply [] r = refl
 list_extended bodies n t op reply (x ∷ xs) r =
     let own = added_answer n t op reply x.0 (bodies x.0) in
-    cond_both (t == x.0) ((x.0, bodies x.0 ++ (n, (op, reply)) ∷ []) ∷ map (list_of bodies) xs) (list_of bodies x ∷ with_own t (n, (op, reply)) (map (list_of bodies) xs))
+    cond_both (t == x.0) ((x.0, bodies x.0 ++ (n, (op, reply)) ∷ []) ∷ map (list_of bodies) xs)
+    (list_of bodies x ∷ with_own t (n, (op, reply)) (map (list_of bodies) xs))
     (λ l. l ≡ map (list_of (λ u. bodies u ++ added n u (Answers t op reply))) (map (extended t (op, reply)) (x ∷ xs)))
     (λ e.
     let later = subst (λ u. AllByRecursion (λ (y : Transaction). u < y.0) xs) (sym (eqb-true t x.0 e)) r.0 in
@@ -124,79 +163,118 @@ list_extended bodies n t op reply (x ∷ xs) r =
 
 -- ---- by effect
 
-pub stands_still : (p : Checker) (here : Progress) (step : Step) (reply : Reply) → effect step reply ≡ Nothing → IsAt p here → IsAt p (progress_after here (effect step reply))
+pub stands_still : (p : Checker) (here : Progress) (step : Step) (reply : Reply) → effect step reply ≡ Nothing →
+    IsAt p here → IsAt p (progress_after here (effect step reply))
 stands_still p here step reply is h =
-    stands_behind p here step reply Nothing is (subst (λ (b : Bodies). IsAtState p b here.state) (sym (unchanged here.bodies)) h)
+    stands_behind p here step reply Nothing is (subst (λ (b : Bodies). IsAtState p b here.state)
+    (sym (unchanged here.bodies)) h)
 
 module _ (p p' : Checker) (bodies : Bodies) (s : State) (h : IsAtState p bodies s) where
-  pub begins : (t : ℕ) → t ≡ s.begun + 1 → p'.begun ≡ t → p'.commits ≡ p.commits → p'.runs ≡ p.runs → map listed p'.active.items ≡ map listed p.active.items ++ (t, []) ∷ [] → p'.locks ≡ entered p.locks t → p'.committed ≡ p.committed → IsAtState p' bodies (next s (Begins t))
+  pub begins : (t : ℕ) → t ≡ s.begun + 1 → p'.begun ≡ t → p'.commits ≡ p.commits → p'.runs ≡ p.runs →
+      map listed p'.active.items ≡ map listed p.active.items ++ (t, []) ∷ [] → p'.locks ≡ entered p.locks t →
+      p'.committed ≡ p.committed → IsAtState p' bodies (next s (Begins t))
   begins t new b c r a l m =
       let none : bodies t ≡ [] = h.ordinary.new t (omega arith) in
       record {
         begun = b ∙ new;
         commits = c ∙ h.commits;
         runs = r ∙ h.runs;
-        active = a ∙ ap (λ xs. xs ++ (t, []) ∷ []) h.active ∙ ap (λ (ps : List PlacedAnswer). map (list_of bodies) s.active ++ (t, ps) ∷ []) (sym none) ∙ sym (map-append (list_of bodies) s.active ((t, []) ∷ []));
+        active = a ∙ ap (λ xs. xs ++ (t, []) ∷ []) h.active ∙
+            ap (λ (ps : List PlacedAnswer). map (list_of bodies) s.active ++ (t, ps) ∷ []) (sym none) ∙
+            sym (map-append (list_of bodies) s.active ((t, []) ∷ []));
         locks = l ∙ ap (λ table. entered table t) h.locks ∙ entered_is s.active t;
         committed = m ∙ h.committed;
         ordinary = record {
-          below = AllByRecursion-push (λ (x : Transaction). x.0 ≤ s.begun + 1) s.active (t, []) (AllByRecursion-map (λ (x : Transaction). x.0 ≤ s.begun) (λ (x : Transaction). x.0 ≤ s.begun + 1) (λ x low. omega arith) s.active h.ordinary.below) (omega arith);
-          rising = rise_push s.active (t, []) h.ordinary.rising (AllByRecursion-map (λ (x : Transaction). x.0 ≤ s.begun) (λ (x : Transaction). x.0 < t) (λ x low. omega arith) s.active h.ordinary.below);
-          made = AllByRecursion-push (λ (x : Transaction). x.1 ≡ answered_of (bodies x.0)) s.active (t, []) h.ordinary.made (ap answered_of (sym none));
+          below = AllByRecursion-push (λ (x : Transaction). x.0 ≤ s.begun + 1) s.active (t, [])
+              (AllByRecursion-map (λ (x : Transaction). x.0 ≤ s.begun) (λ (x : Transaction). x.0 ≤ s.begun + 1)
+              (λ x low. omega arith) s.active h.ordinary.below) (omega arith);
+          rising = rise_push s.active (t, []) h.ordinary.rising
+              (AllByRecursion-map (λ (x : Transaction). x.0 ≤ s.begun) (λ (x : Transaction). x.0 < t)
+              (λ x low. omega arith) s.active h.ordinary.below);
+          made = AllByRecursion-push (λ (x : Transaction). x.1 ≡ answered_of (bodies x.0)) s.active (t, [])
+              h.ordinary.made (ap answered_of (sym none));
           new = λ u above. h.ordinary.new u (omega arith);
         };
       }
 
-  ended : (t : ℕ) → p'.begun ≡ p.begun → p'.runs ≡ p.runs → map listed p'.active.items ≡ filter (λ (x : Listed). not (x.0 == t)) (map listed p.active.items) → p'.locks ≡ released p.locks t → (s' : State) → s'.begun ≡ s.begun → s'.runs ≡ s.runs → s'.active ≡ without_transaction t s.active → p'.commits ≡ s'.commits → p'.committed ≡ fresh s'.committed → IsAtState p' bodies s'
+  ended : (t : ℕ) → p'.begun ≡ p.begun → p'.runs ≡ p.runs → map listed p'.active.items ≡ filter
+      (λ (x : Listed). not (x.0 == t)) (map listed p.active.items) → p'.locks ≡ released p.locks t → (s' : State) →
+      s'.begun ≡ s.begun → s'.runs ≡ s.runs → s'.active ≡ without_transaction t s.active → p'.commits ≡ s'.commits →
+      p'.committed ≡ fresh s'.committed → IsAtState p' bodies s'
   ended t b r a l s' b' r' a' c m = record {
     begun = b ∙ h.begun ∙ sym b';
     commits = c;
     runs = r ∙ h.runs ∙ sym r';
-    active = a ∙ ap (filter (λ (x : Listed). not (x.0 == t))) h.active ∙ list_without bodies t s.active ∙ ap (map (list_of bodies)) (sym a');
+    active = a ∙ ap (filter (λ (x : Listed). not (x.0 == t))) h.active ∙ list_without bodies t s.active ∙
+        ap (map (list_of bodies)) (sym a');
     locks = l ∙ ap (λ table. released table t) h.locks ∙ released_is s.active t ∙ ap (map owner_of) (sym a');
     committed = m;
     ordinary = record {
-      below = subst (λ (xs : List Transaction). AllByRecursion (λ (x : Transaction). x.0 ≤ s'.begun) xs) (sym a') (subst (λ (n : ℕ). AllByRecursion (λ (x : Transaction). x.0 ≤ n) (without_transaction t s.active)) (sym b') (all_without (λ (x : Transaction). x.0 ≤ s.begun) t s.active h.ordinary.below));
+      below = subst (λ (xs : List Transaction). AllByRecursion (λ (x : Transaction). x.0 ≤ s'.begun) xs) (sym a')
+          (subst (λ (n : ℕ). AllByRecursion (λ (x : Transaction). x.0 ≤ n) (without_transaction t s.active)) (sym b')
+          (all_without (λ (x : Transaction). x.0 ≤ s.begun) t s.active h.ordinary.below));
       rising = subst RiseByNumber (sym a') (rise_without t s.active h.ordinary.rising);
-      made = subst (λ (xs : List Transaction). AllByRecursion (λ (x : Transaction). x.1 ≡ answered_of (bodies x.0)) xs) (sym a') (all_without (λ (x : Transaction). x.1 ≡ answered_of (bodies x.0)) t s.active h.ordinary.made);
+      made = subst (λ (xs : List Transaction). AllByRecursion (λ (x : Transaction). x.1 ≡ answered_of (bodies x.0)) xs)
+          (sym a') (all_without (λ (x : Transaction). x.1 ≡ answered_of (bodies x.0)) t s.active h.ordinary.made);
       new = λ u above. h.ordinary.new u (subst (λ n. n < u) b' above);
     };
   }
 
-  pub aborts : (t : ℕ) → p'.begun ≡ p.begun → p'.commits ≡ p.commits → p'.runs ≡ p.runs → map listed p'.active.items ≡ filter (λ (x : Listed). not (x.0 == t)) (map listed p.active.items) → p'.locks ≡ released p.locks t → p'.committed ≡ p.committed → IsAtState p' bodies (next s (Aborts t))
+  pub aborts : (t : ℕ) → p'.begun ≡ p.begun → p'.commits ≡ p.commits → p'.runs ≡ p.runs →
+      map listed p'.active.items ≡ filter (λ (x : Listed). not (x.0 == t)) (map listed p.active.items) →
+      p'.locks ≡ released p.locks t → p'.committed ≡ p.committed → IsAtState p' bodies (next s (Aborts t))
   aborts t b c r a l m = ended t b r a l (next s (Aborts t)) refl refl refl (c ∙ h.commits) (m ∙ h.committed)
 
-  pub commits : (t : ℕ) → p'.begun ≡ p.begun → p'.commits ≡ s.commits + 1 → p'.runs ≡ p.runs → map listed p'.active.items ≡ filter (λ (x : Listed). not (x.0 == t)) (map listed p.active.items) → p'.locks ≡ released p.locks t → p'.committed ≡ fresh (view s t).map → IsAtState p' bodies (next s (Commits t))
+  pub commits : (t : ℕ) → p'.begun ≡ p.begun → p'.commits ≡ s.commits + 1 → p'.runs ≡ p.runs →
+      map listed p'.active.items ≡ filter (λ (x : Listed). not (x.0 == t)) (map listed p.active.items) →
+      p'.locks ≡ released p.locks t → p'.committed ≡ fresh (view s t).map → IsAtState p' bodies (next s (Commits t))
   commits t b c r a l m = ended t b r a l (next s (Commits t)) refl refl refl c m
 
-  pub answers : (n t : ℕ) (op : Op) (reply : Reply) → is_open s.active t ≡ true → p'.begun ≡ p.begun → p'.commits ≡ p.commits → p'.runs ≡ p.runs + runs_made op reply → map listed p'.active.items ≡ with_own t (n, (op, reply)) (map listed p.active.items) → p'.locks ≡ with_locks p.locks t (with_asked (locks_in s.active t) (lock_of op)) → p'.committed ≡ p.committed → IsAtState p' (λ u. bodies u ++ added n u (Answers t op reply)) (next s (Answers t op reply))
+  pub answers : (n t : ℕ) (op : Op) (reply : Reply) → is_open s.active t ≡ true → p'.begun ≡ p.begun →
+      p'.commits ≡ p.commits → p'.runs ≡ p.runs + runs_made op reply → map listed p'.active.items ≡ with_own t
+      (n, (op, reply)) (map listed p.active.items) →
+      p'.locks ≡ with_locks p.locks t (with_asked (locks_in s.active t) (lock_of op)) → p'.committed ≡ p.committed →
+      IsAtState p' (λ u. bodies u ++ added n u (Answers t op reply)) (next s (Answers t op reply))
   answers n t op reply on b c r a l m =
       let low : t ≤ s.begun = open_below s.begun t s.active h.ordinary.below on in
       record {
         begun = b ∙ h.begun;
         commits = c ∙ h.commits;
         runs = r ∙ ap (λ k. k + runs_made op reply) h.runs;
-        active = a ∙ ap (with_own t (n, (op, reply))) h.active ∙ list_extended bodies n t op reply s.active h.ordinary.rising;
-        locks = l ∙ ap (λ table. with_locks table t (with_asked (locks_in s.active t) (lock_of op))) h.locks ∙ relocked_done s.active t op reply h.ordinary.rising;
+        active = a ∙ ap (with_own t (n, (op, reply))) h.active ∙ list_extended bodies n t op reply s.active
+            h.ordinary.rising;
+        locks = l ∙ ap (λ table. with_locks table t (with_asked (locks_in s.active t) (lock_of op))) h.locks ∙
+            relocked_done s.active t op reply h.ordinary.rising;
         committed = m ∙ h.committed;
         ordinary = record {
-          below = all_extended (λ (x : Transaction). x.0 ≤ s.begun) (λ (x : Transaction). x.0 ≤ s.begun) t (op, reply) (λ x k. k) s.active h.ordinary.below;
+          below = all_extended (λ (x : Transaction). x.0 ≤ s.begun) (λ (x : Transaction). x.0 ≤ s.begun) t (op, reply)
+              (λ x k. k) s.active h.ordinary.below;
           rising = rise_extended t (op, reply) s.active h.ordinary.rising;
-          made = all_extended (λ (x : Transaction). x.1 ≡ answered_of (bodies x.0)) (λ (x : Transaction). x.1 ≡ answered_of (bodies x.0 ++ added n x.0 (Answers t op reply))) t (op, reply) (λ x k. made_one x k) s.active h.ordinary.made;
-          new = λ u above. added_answer n t op reply u (bodies u) ∙ cond-false (t == u) (bodies u ++ (n, (op, reply)) ∷ []) (bodies u) (ne_eqb t u (λ e. let no : ⊥ = omega arith in no)) ∙ h.ordinary.new u above;
+          made = all_extended (λ (x : Transaction). x.1 ≡ answered_of (bodies x.0))
+              (λ (x : Transaction). x.1 ≡ answered_of (bodies x.0 ++ added n x.0 (Answers t op reply))) t (op, reply)
+              (λ x k. made_one x k) s.active h.ordinary.made;
+          new = λ u above. added_answer n t op reply u (bodies u) ∙
+              cond-false (t == u) (bodies u ++ (n, (op, reply)) ∷ []) (bodies u)
+              (ne_eqb t u (λ e. let no : ⊥ = omega arith in no)) ∙ h.ordinary.new u above;
         };
       }
     where
-      made_one : (x : Transaction) → x.1 ≡ answered_of (bodies x.0) → cond (t == x.0) (x.1 ++ (op, reply) ∷ []) x.1 ≡ answered_of (bodies x.0 ++ added n x.0 (Answers t op reply))
+      made_one : (x : Transaction) → x.1 ≡ answered_of (bodies x.0) → cond (t == x.0) (x.1 ++ (op, reply) ∷ []) x.1 ≡
+          answered_of (bodies x.0 ++ added n x.0 (Answers t op reply))
       made_one x k =
-          elim (t == x.0) as (λ b. cond b (x.1 ++ (op, reply) ∷ []) x.1 ≡ answered_of (cond b (bodies x.0 ++ (n, (op, reply)) ∷ []) (bodies x.0))) [
-            | true ↦ ap (λ xs. xs ++ (op, reply) ∷ []) k ∙ sym (map-append (λ (p : PlacedAnswer). p.1) (bodies x.0) ((n, (op, reply)) ∷ []))
+          elim (t == x.0) as (λ b. cond b (x.1 ++ (op, reply) ∷ []) x.1 ≡ answered_of
+          (cond b (bodies x.0 ++ (n, (op, reply)) ∷ []) (bodies x.0))) [
+            | true ↦ ap (λ xs. xs ++ (op, reply) ∷ []) k ∙
+                sym (map-append (λ (p : PlacedAnswer). p.1) (bodies x.0) ((n, (op, reply)) ∷ []))
             | false ↦ k
           ]
           ∙ ap answered_of (sym (added_answer n t op reply x.0 (bodies x.0)))
 
 -- an effect that is no answer adds nothing to the bodies
-pub no_answer : (p : Checker) (here : Progress) (s : State) (e : Effect) → ((t : ℕ) → answered_to t e ≡ None) → IsAtState p here.bodies s → IsAtState p (λ t. here.bodies t ++ added here.count t e) s
+pub no_answer : (p : Checker) (here : Progress) (s : State) (e : Effect) → ((t : ℕ) → answered_to t e ≡ None) →
+    IsAtState p here.bodies s → IsAtState p (λ t. here.bodies t ++ added here.count t e) s
 no_answer p here s e none h =
-    let bodies : here.bodies ≡ (λ (t : ℕ). here.bodies t ++ added here.count t e) = λ i t. (sym (append-nil (here.bodies t)) ∙ ap (λ o. here.bodies t ++ cons_option (option_map (λ (a : Answered). (here.count, a)) o) []) (sym (none t))) i in
+    let bodies : here.bodies ≡ (λ (t : ℕ). here.bodies t ++ added here.count t e) =
+    λ i t. (sym (append-nil (here.bodies t)) ∙ ap (λ o. here.bodies t ++
+    cons_option (option_map (λ (a : Answered). (here.count, a)) o) []) (sym (none t))) i in
     subst (λ (b : Bodies). IsAtState p b s) bodies h

@@ -1,5 +1,6 @@
 -- A text that is judged as it is read.
-use Rattle.std.proofs.Common.{◌≡◌, ℕ, ◌+◌, ◌<◌, ◌≤◌, ◌^◌, List, [], ◌∷◌, ◌++◌, length, refl, ap, ◌∙◌, arith, append-nil, append_assoc, length-append}
+use Rattle.std.proofs.Common.{◌≡◌, ℕ, ◌+◌, ◌<◌, ◌≤◌, ◌^◌, List, [], ◌∷◌, ◌++◌, length, refl, ap, ◌∙◌, arith, append-nil}
+use Rattle.std.proofs.Common.{append_assoc, length-append}
 use Rattle.am_record.specs.declared.step.Step.{Step}
 use Rattle.am_record.specs.declared.step.Reply.{Reply}
 use Rattle.am_serial.specs.Trace.{Trace}
@@ -31,7 +32,8 @@ header_long One = omega arith
 header_long Two = omega arith
 
 -- a text has more bytes than lines
-pub is_short : (text : List ℕ) (v : Version) (rest : List ℕ) (line : ℕ) (audit : Audit) → IsReadTo text v rest line audit → line + 6 ≤ length text
+pub is_short : (text : List ℕ) (v : Version) (rest : List ℕ) (line : ℕ) (audit : Audit) →
+    IsReadTo text v rest line audit → line + 6 ≤ length text
 is_short text v rest line audit h =
     let first = header_long v in
     let lines = lines_long v h.seen in
@@ -40,7 +42,8 @@ is_short text v rest line audit h =
     let count = h.count in
     omega arith
 
-pub can_judge : (text : List ℕ) (v : Version) (rest : List ℕ) (line : ℕ) (audit : Audit) → length text < 2 ^ 63 → IsReadTo text v rest line audit → CanJudge audit
+pub can_judge : (text : List ℕ) (v : Version) (rest : List ℕ) (line : ℕ) (audit : Audit) → length text < 2 ^ 63 →
+    IsReadTo text v rest line audit → CanJudge audit
 can_judge text v rest line audit long h = record {
   seen = h.seen;
   judged = h.judged;
@@ -50,12 +53,16 @@ can_judge text v rest line audit long h = record {
       omega arith;
 }
 
-pub one_more : (text : List ℕ) (v : Version) (rest further : List ℕ) (line : ℕ) (step : Step) (reply : Reply) (audit now : Audit) → IsReadTo text v rest line audit → IsEvent v (step, reply) → rest ≡ with_lf (event_words v (step, reply)) ++ further →
-    ((seen : Trace) → HasJudged audit seen → HasJudged now (seen ++ (step, reply) ∷ [])) → IsReadTo text v further (line + 1) now
+pub one_more : (text : List ℕ) (v : Version) (rest further : List ℕ) (line : ℕ) (step : Step) (reply : Reply)
+    (audit now : Audit) → IsReadTo text v rest line audit → IsEvent v (step, reply) →
+    rest ≡ with_lf (event_words v (step, reply)) ++ further →
+    ((seen : Trace) → HasJudged audit seen → HasJudged now (seen ++ (step, reply) ∷ [])) →
+    IsReadTo text v further (line + 1) now
 one_more text v rest further line step reply audit now h event is goes = record {
   seen = h.seen ++ (step, reply) ∷ [];
   events = all_behind (IsEvent v) h.seen (step, reply) h.events event;
-  spelled = read_line v text rest (event_words v (step, reply)) further h.seen (step, reply) h.spelled (is ∙ append_assoc (event_words v (step, reply)) (10 ∷ []) further) refl;
+  spelled = read_line v text rest (event_words v (step, reply)) further h.seen (step, reply) h.spelled
+      (is ∙ append_assoc (event_words v (step, reply)) (10 ∷ []) further) refl;
   count =
       let count = h.count in
       let long = length-append h.seen ((step, reply) ∷ []) in
@@ -63,7 +70,8 @@ one_more text v rest further line step reply audit now h event is goes = record 
   judged = goes h.seen h.judged;
 }
 
-pub is_whole : (text : List ℕ) (v : Version) (rest : List ℕ) (line : ℕ) (audit : Audit) (h : IsReadTo text v rest line audit) → rest ≡ [] → IsTextOf text h.seen
+pub is_whole : (text : List ℕ) (v : Version) (rest : List ℕ) (line : ℕ) (audit : Audit)
+    (h : IsReadTo text v rest line audit) → rest ≡ [] → IsTextOf text h.seen
 is_whole text v rest line audit h none = record {
   version = v;
   events = h.events;

@@ -6,9 +6,11 @@ use Rattle.am_stream.specs.Giving.{Gave, GaveBeginning}
 use Rattle.am_stream.proofs.Streams.{gave_then}
 
 -- a line that was given whole, with nothing behind it, is a beginning of it too
-pub begun_whole : {S : Type 0} (holds : S → Option (List ℕ)) (a b c : S) (x : List ℕ) → Gave holds a x b → Gave holds b [] c → GaveBeginning holds a x c
+pub begun_whole : {S : Type 0} (holds : S → Option (List ℕ)) (a b c : S) (x : List ℕ) → Gave holds a x b →
+    Gave holds b [] c → GaveBeginning holds a x c
 begun_whole holds a b c x f h =
-    let both : Gave holds a x c = subst (λ (z : List ℕ). Gave holds a z c) (append-nil x) (gave_then holds a b c x [] f h) in
+    let both : Gave holds a x c = subst (λ (z : List ℕ). Gave holds a z c) (append-nil x)
+    (gave_then holds a b c x [] f h) in
     (length x, rw (take_all (length x) x (omega arith)) both)
 
 -- what always holds, holds at an error

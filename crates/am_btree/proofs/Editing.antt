@@ -1,5 +1,7 @@
 -- An edit at a place below one of a node's children.
-use Rattle.std.proofs.Common.{◌≡◌, ◌≢◌, ℕ, zero, suc, ◌+◌, ◌<◌, ◌≤◌, Bool, true, false, List, [], ◌∷◌, ◌++◌, length, get_or, set, take, drop, if◌then◌else◌, refl, sym, ap, ◌∙◌, subst, inl, inr, ◌⊎◌, length-append, length-set, arith}
+use Rattle.std.proofs.Common.{◌≡◌, ◌≢◌, ℕ, zero, suc, ◌+◌, ◌<◌, ◌≤◌, Bool, true, false, List, [], ◌∷◌, ◌++◌, length}
+use Rattle.std.proofs.Common.{get_or, set, take, drop, if◌then◌else◌, refl, sym, ap, ◌∙◌, subst, inl, inr, ◌⊎◌}
+use Rattle.std.proofs.Common.{length-append, length-set, arith}
 use Rattle.std.specs.declared.cmp.Ordering.TheVariants.{Less, Greater}
 use Rattle.std.specs.Ordering.{is_eq}
 use Rattle.std.specs.List.{remove, AllByRecursion}
@@ -7,7 +9,8 @@ use Rattle.std.proofs.lemmas.List.Edits.{length-remove}
 use Rattle.am_record.specs.OrderedKey.{OrderedKey}
 use Rattle.am_record.specs.declared.entry.Entry.{Entry}
 use Rattle.am_record.specs.EntryOrder.{Place, place_of, place_cmp}
-use Rattle.am_record.proofs.Lists.{AllByRecursion-map, AllByRecursion-append, AllByRecursion-take, AllByRecursion-drop, AllByRecursion-at}
+use Rattle.am_record.proofs.Lists.{AllByRecursion-map, AllByRecursion-append, AllByRecursion-take, AllByRecursion-drop}
+use Rattle.am_record.proofs.Lists.{AllByRecursion-at}
 use Rattle.am_list.specs.Entries.{remove_entry, set_entry, IsRising}
 use Rattle.am_list.specs.Places.{AllBelow, NoneBelow, AllAbove}
 use Rattle.am_btree.specs.declared.separator.Separator.{Separator}
@@ -17,10 +20,13 @@ use Rattle.am_btree.specs.Nodes.{all_entries, depth_of, AreParted, AreChildren, 
 use Rattle.am_btree.proofs.Children.{all_below_through, children_above}
 use Rattle.am_btree.proofs.Parting.{parted_lengths, depth_level, inner_with, some_entries}
 
-pub all_removed : {X : Type 0} (P : X → Type 0) (xs : List X) (i : ℕ) → AllByRecursion P xs → AllByRecursion P (remove xs i)
-all_removed P xs i a = AllByRecursion-append P (take i xs) (drop (suc i) xs) (AllByRecursion-take P i xs a) (AllByRecursion-drop P (suc i) xs a)
+pub all_removed : {X : Type 0} (P : X → Type 0) (xs : List X) (i : ℕ) → AllByRecursion P xs →
+    AllByRecursion P (remove xs i)
+all_removed P xs i a = AllByRecursion-append P (take i xs) (drop (suc i) xs) (AllByRecursion-take P i xs a)
+    (AllByRecursion-drop P (suc i) xs a)
 
-pub all_set : {X : Type 0} (P : X → Type 0) (xs : List X) (i : ℕ) (y : X) → AllByRecursion P xs → P y → AllByRecursion P (set xs i y)
+pub all_set : {X : Type 0} (P : X → Type 0) (xs : List X) (i : ℕ) (y : X) → AllByRecursion P xs → P y →
+    AllByRecursion P (set xs i y)
 all_set P [] i y a h = tt
 all_set P (x ∷ xs) zero y a h = (h, a.1)
 all_set P (x ∷ xs) (suc i) y a h = (a.0, all_set P xs i y a.1 h)
@@ -30,27 +36,39 @@ remove_set [] i y = refl
 remove_set (x ∷ xs) zero y = refl
 remove_set (x ∷ xs) (suc i) y = ap (λ l. x ∷ l) (remove_set xs i y)
 
-parted_removed : (i : ℕ) (ls : List Separator) (ks : List Shape) → AreParted ls ks → AreParted (remove ls i) (remove ks i)
+parted_removed : (i : ℕ) (ls : List Separator) (ks : List Shape) → AreParted ls ks →
+    AreParted (remove ls i) (remove ks i)
 parted_removed zero [] [] a = tt
 parted_removed (suc i) [] [] a = tt
 parted_removed i [] (k ∷ ks) a = absurd (omega (arith, a))
 parted_removed i (l ∷ ls) [] a = absurd (omega (arith, a))
 parted_removed zero (l ∷ ls) (k ∷ ks) a = a.2
-parted_removed (suc i) (l ∷ ls) (k ∷ ks) a = (a.0, all_removed (λ n. AllBelow (separator_place n) k.entries) ls i a.1, parted_removed i ls ks a.2)
+parted_removed (suc i) (l ∷ ls) (k ∷ ks) a = (
+  a.0,
+  all_removed (λ n. AllBelow (separator_place n) k.entries) ls i a.1,
+  parted_removed i ls ks a.2,
+)
 
 -- a child with no entries gives none
-hollow_out : (i : ℕ) (ks : List Shape) (k : Shape) → k.entries ≡ [] → all_entries (remove (set ks i k) i) ≡ all_entries (set ks i k)
+hollow_out : (i : ℕ) (ks : List Shape) (k : Shape) → k.entries ≡ [] → all_entries (remove (set ks i k) i) ≡ all_entries
+    (set ks i k)
 hollow_out zero [] k h = refl
 hollow_out (suc i) [] k h = refl
 hollow_out zero (c ∷ ks) k h = ap (λ es. es ++ all_entries ks) (sym h)
 hollow_out (suc i) (c ∷ ks) k h = ap (λ es. c.entries ++ es) (hollow_out i ks k h)
 
-some_set : (ks : List Shape) (i : ℕ) (k : Shape) → i < length ks → 0 < length k.entries → 0 < length (all_entries (set ks i k))
+some_set : (ks : List Shape) (i : ℕ) (k : Shape) → i < length ks → 0 < length k.entries →
+    0 < length (all_entries (set ks i k))
 some_set [] i k lt h = absurd (omega arith)
 some_set (c ∷ ks) zero k lt h = omega (arith, length-append k.entries (all_entries ks))
-some_set (c ∷ ks) (suc i) k lt h = omega (arith, some_set ks i k (omega arith) h, length-append c.entries (all_entries (set ks i k)))
+some_set (c ∷ ks) (suc i) k lt h = omega (
+  arith,
+  some_set ks i k (omega arith) h,
+  length-append c.entries (all_entries (set ks i k)),
+)
 
-none_set : (ks : List Shape) (i : ℕ) (k : Shape) → length ks ≡ 1 → i < length ks → k.entries ≡ [] → all_entries (set ks i k) ≡ []
+none_set : (ks : List Shape) (i : ℕ) (k : Shape) → length ks ≡ 1 → i < length ks → k.entries ≡ [] →
+    all_entries (set ks i k) ≡ []
 none_set [] i k one lt h = refl
 none_set (c ∷ []) zero k one lt h = ap (λ es. es ++ []) h
 none_set (c ∷ []) (suc i) k one lt h = absurd (omega arith)
@@ -60,7 +78,8 @@ none_set (c ∷ j ∷ ks) i k one lt h = absurd (omega (arith, one))
 pub record IsEditAt (part : ℕ) (key : OrderedKey) (edit : List Entry → List Entry) : Type 1 where
   pub back : (xs ys : List Entry) → AllBelow (part, key) xs → edit (xs ++ ys) ≡ xs ++ edit ys
   pub front : (xs ys : List Entry) → AllAbove (part, key) ys → edit (xs ++ ys) ≡ edit xs ++ ys
-  pub places : (P : Place → Type 0) (es : List Entry) → AllByRecursion (λ e. P (place_of e)) es → AllByRecursion (λ e. P (place_of e)) (edit es)
+  pub places : (P : Place → Type 0) (es : List Entry) → AllByRecursion (λ e. P (place_of e)) es →
+      AllByRecursion (λ e. P (place_of e)) (edit es)
   pub rising : (es : List Entry) → IsRising es → IsRising (edit es)
 
 module _ (part : ℕ) (key : OrderedKey) where
@@ -69,7 +88,8 @@ module _ (part : ℕ) (key : OrderedKey) where
 
   -- ---- taking out
 
-  remove_entry-back : (xs ys : List Entry) → AllBelow p xs → remove_entry (xs ++ ys) part key ≡ xs ++ remove_entry ys part key
+  remove_entry-back : (xs ys : List Entry) → AllBelow p xs → remove_entry (xs ++ ys) part key ≡ xs ++
+      remove_entry ys part key
   remove_entry-back [] ys b = refl
   remove_entry-back (e ∷ xs) ys b = rw b.0 (ap (λ l. e ∷ l) (remove_entry-back xs ys b.1))
 
@@ -77,20 +97,31 @@ module _ (part : ℕ) (key : OrderedKey) where
   remove_none [] a = refl
   remove_none (y ∷ ys) a = rw a.0 (ap (λ l. y ∷ l) (remove_none ys a.1))
 
-  remove_entry-front : (xs ys : List Entry) → AllAbove p ys → remove_entry (xs ++ ys) part key ≡ remove_entry xs part key ++ ys
+  remove_entry-front : (xs ys : List Entry) → AllAbove p ys → remove_entry (xs ++ ys) part key ≡ remove_entry xs part
+      key ++ ys
   remove_entry-front [] ys a = remove_none ys a
   remove_entry-front (e ∷ xs) ys a =
-      elim (is_eq (place_cmp (place_of e) p)) as (λ b. (if b then xs ++ ys else e ∷ remove_entry (xs ++ ys) part key) ≡ ((if b then xs else e ∷ remove_entry xs part key) ++ ys)) [ true ↦ refl | false ↦ ap (λ l. e ∷ l) (remove_entry-front xs ys a) ]
+      elim (is_eq (place_cmp (place_of e) p)) as (λ b. (if b then xs ++ ys else e ∷ remove_entry (xs ++ ys) part key) ≡
+      ((if b then xs else e ∷ remove_entry xs part key) ++ ys))
+      [ true ↦ refl | false ↦ ap (λ l. e ∷ l) (remove_entry-front xs ys a) ]
 
-  all_remove : (P : Entry → Type 0) (es : List Entry) → AllByRecursion P es → AllByRecursion P (remove_entry es part key)
+  all_remove : (P : Entry → Type 0) (es : List Entry) → AllByRecursion P es →
+      AllByRecursion P (remove_entry es part key)
   all_remove P [] a = tt
   all_remove P (e ∷ es) a =
-      elim (is_eq (place_cmp (place_of e) p)) as (λ b. AllByRecursion P (if b then es else e ∷ remove_entry es part key)) [ true ↦ a.1 | false ↦ (a.0, all_remove P es a.1) ]
+      elim (is_eq (place_cmp (place_of e) p)) as (λ b. AllByRecursion P
+      (if b then es else e ∷ remove_entry es part key)) [ true ↦ a.1 | false ↦ (a.0, all_remove P es a.1) ]
 
   rising_removed : (es : List Entry) → IsRising es → IsRising (remove_entry es part key)
   rising_removed [] r = tt
   rising_removed (e ∷ es) r =
-      elim (is_eq (place_cmp (place_of e) p)) as (λ b. IsRising (if b then es else e ∷ remove_entry es part key)) [ true ↦ r.1 | false ↦ (all_remove (λ f. place_cmp (place_of e) (place_of f) ≡ Less) es r.0, rising_removed es r.1) ]
+      elim (is_eq (place_cmp (place_of e) p)) as (λ b. IsRising (if b then es else e ∷ remove_entry es part key)) [
+        | true ↦ r.1
+        | false ↦ (
+          all_remove (λ f. place_cmp (place_of e) (place_of f) ≡ Less) es r.0,
+          rising_removed es r.1,
+        )
+      ]
 
   pub removing : IsEditAt part key (λ es. remove_entry es part key)
   removing = record {
@@ -117,61 +148,87 @@ module _ (part : ℕ) (key : OrderedKey) where
     set_entry-front : (xs ys : List Entry) → AllAbove p ys → written (xs ++ ys) ≡ written xs ++ ys
     set_entry-front [] ys a = set_none ys a
     set_entry-front (e ∷ xs) ys a =
-        elim (is_eq (place_cmp (place_of e) p)) as (λ b. (if b then record e { value = value; is_ghost = is_ghost } ∷ (xs ++ ys) else e ∷ written (xs ++ ys)) ≡ ((if b then record e { value = value; is_ghost = is_ghost } ∷ xs else e ∷ written xs) ++ ys)) [ true ↦ refl | false ↦ ap (λ l. e ∷ l) (set_entry-front xs ys a) ]
+        elim (is_eq (place_cmp (place_of e) p)) as (λ b.
+        (if b then record e { value = value; is_ghost = is_ghost } ∷ (xs ++ ys) else e ∷ written (xs ++ ys)) ≡
+        ((if b then record e { value = value; is_ghost = is_ghost } ∷ xs else e ∷ written xs) ++ ys))
+        [ true ↦ refl | false ↦ ap (λ l. e ∷ l) (set_entry-front xs ys a) ]
 
-    places_written : (P : Place → Type 0) (es : List Entry) → AllByRecursion (λ e. P (place_of e)) es → AllByRecursion (λ e. P (place_of e)) (written es)
+    places_written : (P : Place → Type 0) (es : List Entry) → AllByRecursion (λ e. P (place_of e)) es →
+        AllByRecursion (λ e. P (place_of e)) (written es)
     places_written P [] a = tt
     places_written P (e ∷ es) a =
-        elim (is_eq (place_cmp (place_of e) p)) as (λ b. AllByRecursion (λ e. P (place_of e)) (if b then record e { value = value; is_ghost = is_ghost } ∷ es else e ∷ written es)) [ true ↦ a | false ↦ (a.0, places_written P es a.1) ]
+        elim (is_eq (place_cmp (place_of e) p)) as (λ b. AllByRecursion (λ e. P (place_of e))
+        (if b then record e { value = value; is_ghost = is_ghost } ∷ es else e ∷ written es))
+        [ true ↦ a | false ↦ (a.0, places_written P es a.1) ]
 
     rising_written : (es : List Entry) → IsRising es → IsRising (written es)
     rising_written [] r = tt
     rising_written (e ∷ es) r =
-        elim (is_eq (place_cmp (place_of e) p)) as (λ b. IsRising (if b then record e { value = value; is_ghost = is_ghost } ∷ es else e ∷ written es)) [ true ↦ r | false ↦ (places_written (λ q. place_cmp (place_of e) q ≡ Less) es r.0, rising_written es r.1) ]
+        elim (is_eq (place_cmp (place_of e) p)) as (λ b. IsRising
+        (if b then record e { value = value; is_ghost = is_ghost } ∷ es else e ∷ written es))
+        [ true ↦ r | false ↦ (places_written (λ q. place_cmp (place_of e) q ≡ Less) es r.0, rising_written es r.1) ]
 
     pub writing : IsEditAt part key written
-    writing = record { back = set_entry-back; front = set_entry-front; places = places_written; rising = rising_written }
+    writing = record {
+      back = set_entry-back;
+      front = set_entry-front;
+      places = places_written;
+      rising = rising_written;
+    }
 
     pub written_long : (es : List Entry) → length (written es) ≡ length es
     written_long [] = refl
     written_long (e ∷ es) =
-        elim (is_eq (place_cmp (place_of e) p)) as (λ b. length (if b then record e { value = value; is_ghost = is_ghost } ∷ es else e ∷ written es) ≡ suc (length es)) [ true ↦ refl | false ↦ ap (λ (n : ℕ). suc n) (written_long es) ]
+        elim (is_eq (place_cmp (place_of e) p)) as (λ b. length
+        (if b then record e { value = value; is_ghost = is_ghost } ∷ es else e ∷ written es) ≡ suc (length es))
+        [ true ↦ refl | false ↦ ap (λ (n : ℕ). suc n) (written_long es) ]
 
   -- ---- any edit below a child
 
   module _ (edit : List Entry → List Entry) (is : IsEditAt part key edit) where
-    parted_set : (i : ℕ) (ls : List Separator) (ks : List Shape) (k k' : Shape) → AreParted ls ks → i < length ls → k ≡ get_or ks i k → k'.entries ≡ edit k.entries → AreParted ls (set ks i k')
+    parted_set : (i : ℕ) (ls : List Separator) (ks : List Shape) (k k' : Shape) → AreParted ls ks → i < length ls →
+        k ≡ get_or ks i k → k'.entries ≡ edit k.entries → AreParted ls (set ks i k')
     parted_set i [] ks k k' a lt here h = absurd (omega arith)
     parted_set i (l ∷ ls) [] k k' a lt here h = absurd (omega (arith, a))
     parted_set zero (l ∷ ls) (c ∷ ks) k k' a lt here h =
         let same : k'.entries ≡ edit c.entries = h ∙ ap (λ (s : Shape). edit s.entries) here in (
-          subst (NoneBelow (separator_place l)) (sym same) (is.places (λ q. place_cmp q (separator_place l) ≢ Less) c.entries a.0),
-          AllByRecursion-map (λ m. AllBelow (separator_place m) c.entries) (λ m. AllBelow (separator_place m) k'.entries) (λ m b. subst (AllBelow (separator_place m)) (sym same) (is.places (λ q. place_cmp q (separator_place m) ≡ Less) c.entries b)) ls a.1,
+          subst (NoneBelow (separator_place l)) (sym same)
+              (is.places (λ q. place_cmp q (separator_place l) ≢ Less) c.entries a.0),
+          AllByRecursion-map (λ m. AllBelow (separator_place m) c.entries)
+              (λ m. AllBelow (separator_place m) k'.entries)
+              (λ m b. subst (AllBelow (separator_place m)) (sym same)
+              (is.places (λ q. place_cmp q (separator_place m) ≡ Less) c.entries b)) ls a.1,
           a.2,
         )
     parted_set (suc i) (l ∷ ls) (c ∷ ks) k k' a lt here h = (a.0, a.1, parted_set i ls ks k k' a.2 (omega arith) here h)
 
-    entries_edited : (ls : List Separator) (ks : List Shape) (i : ℕ) (k k' : Shape) → AreParted ls ks → i < length ls → k ≡ get_or ks i k
+    entries_edited : (ls : List Separator) (ks : List Shape) (i : ℕ) (k k' : Shape) → AreParted ls ks → i < length ls →
+        k ≡ get_or ks i k
         → (i ≡ 0) ⊎ ((d : Separator) → place_cmp (separator_place (get_or ls i d)) p ≢ Greater)
         → AllByRecursion (λ l. place_cmp (separator_place l) p ≡ Greater) (drop (suc i) ls)
         → k'.entries ≡ edit k.entries → all_entries (set ks i k') ≡ edit (all_entries ks)
     entries_edited [] ks i k k' a lt here reached above h = absurd (omega arith)
     entries_edited (l ∷ ls) [] i k k' a lt here reached above h = absurd (omega (arith, a))
     entries_edited (l ∷ ls) (c ∷ ks) zero k k' a lt here reached above h =
-        ap (λ es. es ++ all_entries ks) h ∙ ap (λ (s : Shape). edit s.entries ++ all_entries ks) here ∙ sym (is.front c.entries (all_entries ks) (children_above p ls ks a.2 above))
+        ap (λ es. es ++ all_entries ks) h ∙ ap (λ (s : Shape). edit s.entries ++ all_entries ks) here ∙
+        sym (is.front c.entries (all_entries ks) (children_above p ls ks a.2 above))
     entries_edited (l ∷ ls) (c ∷ ks) (suc j) k k' a lt here (inl none) above h = absurd (omega arith)
     entries_edited (l ∷ ls) (c ∷ ks) (suc j) k k' a lt here (inr reached) above h =
         let later = AllByRecursion-at (λ n. AllBelow (separator_place n) c.entries) ls j l a.1 (omega arith) in
         ap (λ es. c.entries ++ es) (entries_edited ls ks j k k' a.2 (omega arith) here (inr reached) above h)
-        ∙ sym (is.back c.entries (all_entries ks) (all_below_through (separator_place (get_or ls j l)) p c.entries later (reached l)))
+        ∙ sym (is.back c.entries (all_entries ks) (all_below_through (separator_place (get_or ls j l)) p c.entries later
+        (reached l)))
 
-    module _ (d : ℕ) (ls : List Separator) (ks : List Shape) (i : ℕ) (k k' : Shape) (c : AreChildren d ls ks) (child : IsChildFor ls part key i) (here : k ≡ get_or ks i k) (deep : k'.depth ≡ k.depth) (h : k'.entries ≡ edit k.entries) where
+    module _ (d : ℕ) (ls : List Separator) (ks : List Shape) (i : ℕ) (k k' : Shape) (c : AreChildren d ls ks)
+        (child : IsChildFor ls part key i) (here : k ≡ get_or ks i k) (deep : k'.depth ≡ k.depth)
+        (h : k'.entries ≡ edit k.entries) where
       inside : i < length ks
       inside = omega (arith, child.in_range, parted_lengths ls ks c.parted)
 
       level_kept : AllByRecursion (λ (j : Shape). j.depth + 1 ≡ d) (set ks i k')
       level_kept =
-          let old = subst (λ (s : Shape). s.depth + 1 ≡ d) (sym here) (AllByRecursion-at (λ (j : Shape). j.depth + 1 ≡ d) ks i k c.level inside) in
+          let old = subst (λ (s : Shape). s.depth + 1 ≡ d) (sym here)
+          (AllByRecursion-at (λ (j : Shape). j.depth + 1 ≡ d) ks i k c.level inside) in
           all_set (λ (j : Shape). j.depth + 1 ≡ d) ks i k' c.level (omega (arith, old, deep))
 
       pub kept_depth : depth_of (set ks i k') ≡ d
@@ -183,15 +240,18 @@ module _ (part : ℕ) (key : OrderedKey) where
       pub kept_children : (1 < length ks → 0 < length k'.entries) → AreChildren d ls (set ks i k')
       kept_children f = record {
         level = level_kept;
-        filled = (λ lt. all_set (λ (j : Shape). 0 < length j.entries) ks i k' (c.filled (omega (arith, lt, length-set ks i k'))) (f (omega (arith, lt, length-set ks i k'))));
+        filled = (λ lt. all_set (λ (j : Shape). 0 < length j.entries) ks i k'
+            (c.filled (omega (arith, lt, length-set ks i k'))) (f (omega (arith, lt, length-set ks i k'))));
         parted = parted_set i ls ks k k' c.parted child.in_range here h;
         rising = subst IsRising (sym kept_entries) (is.rising (all_entries ks) c.rising);
       }
 
-      pub kept_inner : (rl rk : ℕ) → (1 < length ks → 0 < length k'.entries) → length ks ≤ 32 → (32 ≤ rl) × (32 ≤ rk) → IsInner ls (set ks i k') rl rk
+      pub kept_inner : (rl rk : ℕ) → (1 < length ks → 0 < length k'.entries) → length ks ≤ 32 → (32 ≤ rl) × (32 ≤ rk) →
+          IsInner ls (set ks i k') rl rk
       kept_inner rl rk f most room =
           let same = length-set ks i k' in
-          inner_with d ls (set ks i k') ls (set ks i k') rl rk refl refl (kept_children f) (omega (arith, inside)) (omega (arith, most)) room
+          inner_with d ls (set ks i k') ls (set ks i k') rl rk refl refl (kept_children f) (omega (arith, inside))
+          (omega (arith, most)) room
 
       pub kept_some : 0 < length k'.entries → 0 < length (all_entries (set ks i k'))
       kept_some some = some_set ks i k' inside some
@@ -204,7 +264,8 @@ module _ (part : ℕ) (key : OrderedKey) where
         left_entries = hollow_out i ks k' empty ∙ kept_entries
 
         pub left_filled : AllByRecursion (λ (j : Shape). 0 < length j.entries) (remove (set ks i k') i)
-        left_filled = subst (AllByRecursion (λ (j : Shape). 0 < length j.entries)) (sym (remove_set ks i k')) (all_removed (λ (j : Shape). 0 < length j.entries) ks i (c.filled more))
+        left_filled = subst (AllByRecursion (λ (j : Shape). 0 < length j.entries)) (sym (remove_set ks i k'))
+            (all_removed (λ (j : Shape). 0 < length j.entries) ks i (c.filled more))
 
         pub left_children : AreChildren d (remove ls i) (remove (set ks i k') i)
         left_children = record {

@@ -1,5 +1,6 @@
 -- Records of a run, put behind a leaf's entries one after another.
-use Rattle.std.proofs.Common.{◌≡◌, ℕ, zero, suc, ◌+◌, ◌-◌, ◌<◌, ◌≤◌, List, [], ◌∷◌, ◌++◌, length, get_or, take, drop, refl, sym, ap, ◌∙◌, subst, append_assoc, arith, length-append}
+use Rattle.std.proofs.Common.{◌≡◌, ℕ, zero, suc, ◌+◌, ◌-◌, ◌<◌, ◌≤◌, List, [], ◌∷◌, ◌++◌, length, get_or, take, drop}
+use Rattle.std.proofs.Common.{refl, sym, ap, ◌∙◌, subst, append_assoc, arith, length-append}
 use Rattle.std.proofs.lemmas.List.Edits.{insert_end}
 use Rattle.std.proofs.lemmas.List.{take_all, drop_all, length-drop}
 use Rattle.std.specs.declared.cmp.Ordering.TheVariants.{Less}
@@ -22,7 +23,8 @@ module _ (part : ℕ) where
   run_cut [] (suc i) = refl
   run_cut (r ∷ rs) (suc i) = ap (λ l. live_entry part r ∷ l) (run_cut rs i)
 
-  run_further : (rs : Records) (i n m : ℕ) → m ≡ i + n → run_entries part (take i rs) ++ run_entries part (take n (drop i rs)) ≡ run_entries part (take m rs)
+  run_further : (rs : Records) (i n m : ℕ) → m ≡ i + n → run_entries part (take i rs) ++
+      run_entries part (take n (drop i rs)) ≡ run_entries part (take m rs)
   run_further rs zero n m e = ap (λ (j : ℕ). run_entries part (take j rs)) {x = n} {y = m} (omega arith)
   run_further rs (suc i) n zero e = absurd (omega arith)
   run_further [] (suc i) zero (suc m) e = refl
@@ -34,7 +36,8 @@ module _ (part : ℕ) where
     so_far = es ++ run_entries part (take i rs)
 
     whole : so_far ++ run_entries part (drop i rs) ≡ es ++ run_entries part rs
-    whole = append_assoc es (run_entries part (take i rs)) (run_entries part (drop i rs)) ∙ ap (λ l. es ++ l) (run_cut rs i)
+    whole = append_assoc es (run_entries part (take i rs)) (run_entries part (drop i rs)) ∙
+        ap (λ l. es ++ l) (run_cut rs i)
 
     rest_rises : IsRising (so_far ++ run_entries part (drop i rs))
     rest_rises = subst IsRising (sym whole) rising
@@ -43,7 +46,8 @@ module _ (part : ℕ) where
     front_rises = rising_front so_far (run_entries part (drop i rs)) rest_rises
 
     pub filled_long : i ≤ length rs → length so_far ≡ length es + i
-    filled_long le = length-append es (run_entries part (take i rs)) ∙ ap (λ (n : ℕ). length es + n) (length-front part rs i le)
+    filled_long le = length-append es (run_entries part (take i rs)) ∙
+        ap (λ (n : ℕ). length es + n) (length-front part rs i le)
 
     -- the records that are left
     abbrev left : Records
@@ -54,31 +58,41 @@ module _ (part : ℕ) where
 
     -- they go behind what stands
     pub left_rise : {now : List Entry} → now ≡ so_far → IsRising (now ++ run_entries part left)
-    left_rise is = subst (λ l. IsRising (l ++ run_entries part left)) (sym is) (subst (λ qs. IsRising (so_far ++ run_entries part qs)) (sym left_is) rest_rises)
+    left_rise is = subst (λ l. IsRising (l ++ run_entries part left)) (sym is)
+        (subst (λ qs. IsRising (so_far ++ run_entries part qs)) (sym left_is) rest_rises)
 
-    pub further : (n : ℕ) {now after : List Entry} → now ≡ so_far → after ≡ now ++ run_entries part (take n left) → after ≡ es ++ run_entries part (take (i + n) rs)
+    pub further : (n : ℕ) {now after : List Entry} → now ≡ so_far → after ≡ now ++ run_entries part (take n left) →
+        after ≡ es ++ run_entries part (take (i + n) rs)
     further n was is =
-        is ∙ ap (λ l. l ++ run_entries part (take n left)) was ∙ ap (λ qs. so_far ++ run_entries part (take n qs)) left_is
-        ∙ append_assoc es (run_entries part (take i rs)) (run_entries part (take n (drop i rs))) ∙ ap (λ l. es ++ l) (run_further rs i n (i + n) refl)
+        is ∙ ap (λ l. l ++ run_entries part (take n left)) was ∙ ap (λ qs. so_far ++ run_entries part (take n qs))
+        left_is
+        ∙ append_assoc es (run_entries part (take i rs)) (run_entries part (take n (drop i rs))) ∙
+        ap (λ l. es ++ l) (run_further rs i n (i + n) refl)
 
     pub within : (n : ℕ) → i ≤ length rs → n ≤ length left → i + n ≤ length rs
     within n le h = omega (arith, ap length left_is, length-drop i rs)
 
-  below_next : (es : List Entry) (rs : Records) (i : ℕ) (r : Record) → i < length rs → r ≡ get_or rs i r → IsRising (es ++ run_entries part rs) → AllBelow (part, r.0) (es ++ run_entries part (take i rs))
+  below_next : (es : List Entry) (rs : Records) (i : ℕ) (r : Record) → i < length rs → r ≡ get_or rs i r →
+      IsRising (es ++ run_entries part rs) → AllBelow (part, r.0) (es ++ run_entries part (take i rs))
   below_next [] rs i r lt here rising = run_below part rs i r lt here rising
   below_next (e ∷ es) rs i r lt here rising = (
-    under_at part e rs i r lt here (AllByRecursion-back (λ f. place_cmp (place_of e) (place_of f) ≡ Less) es (run_entries part rs) rising.0),
+    under_at part e rs i r lt here (AllByRecursion-back (λ f. place_cmp (place_of e) (place_of f) ≡ Less) es
+        (run_entries part rs) rising.0),
     below_next es rs i r lt here rising.1,
   )
 
-  module _ (es : List Entry) (rs : Records) (rising : IsRising (es ++ run_entries part rs)) (i : ℕ) (r : Record) (lt : i < length rs) (here : r ≡ get_or rs i r) where
+  module _ (es : List Entry) (rs : Records) (rising : IsRising (es ++ run_entries part rs)) (i : ℕ) (r : Record)
+      (lt : i < length rs) (here : r ≡ get_or rs i r) where
     -- the place of the next record is behind those that stand
     pub next_gap : (now : List Entry) → now ≡ es ++ run_entries part (take i rs) → IsGapFor now part r.0 (length now)
     next_gap now is = record {
       in_range = omega arith;
-      below = subst (AllBelow (part, r.0)) (sym (take_all (length now) now (omega arith) ∙ is)) (below_next es rs i r lt here rising);
+      below = subst (AllBelow (part, r.0)) (sym (take_all (length now) now (omega arith) ∙ is))
+          (below_next es rs i r lt here rising);
       above = subst (AllAbove (part, r.0)) (sym (drop_all (length now) now (omega arith))) tt;
     }
 
-    pub next_filled : (now : List Entry) → now ≡ es ++ run_entries part (take i rs) → insert now (length now) (live_entry part r) ≡ es ++ run_entries part (take (suc i) rs)
-    next_filled now is = insert_end now (live_entry part r) ∙ ap (λ (l : List Entry). l ++ live_entry part r ∷ []) is ∙ one_more_pushed part es rs i r lt here
+    pub next_filled : (now : List Entry) → now ≡ es ++ run_entries part (take i rs) →
+        insert now (length now) (live_entry part r) ≡ es ++ run_entries part (take (suc i) rs)
+    next_filled now is = insert_end now (live_entry part r) ∙ ap (λ (l : List Entry). l ++ live_entry part r ∷ []) is ∙
+        one_more_pushed part es rs i r lt here

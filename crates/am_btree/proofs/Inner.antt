@@ -20,4 +20,5 @@ module _ (separators : List Separator) (ks : List Shape) (rl rk : ℕ) (inner : 
 
   module _ (i : ℕ) (k : Shape) (within : i < length ks) (here : k ≡ get_or ks i k) where
     pub one_below : k.depth + 1 ≡ depth_of ks
-    one_below = subst (λ (s : Shape). s.depth + 1 ≡ depth_of ks) (sym here) (AllByRecursion-at (λ (j : Shape). j.depth + 1 ≡ depth_of ks) ks i k inner.children.level within)
+    one_below = subst (λ (s : Shape). s.depth + 1 ≡ depth_of ks) (sym here)
+        (AllByRecursion-at (λ (j : Shape). j.depth + 1 ≡ depth_of ks) ks i k inner.children.level within)

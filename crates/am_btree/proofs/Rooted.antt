@@ -26,14 +26,16 @@ none_under : (k : OrderedKey) → IsLeast k → (a : Place) → place_cmp a (0, 
 none_under k h a less =
     let low : a.0 ≤ 0 = place_cmp-part a (0, k) (λ g. absurd (cc)) in
     let first : a.0 ≡ 0 = omega (arith, low) in
-    let keys : key_cmp a.1 k ≡ Less = sym (place_cmp-same 0 a.1 k) ∙ ap (λ (n : ℕ). place_cmp (n, a.1) (0, k)) (sym first) ∙ less in
+    let keys : key_cmp a.1 k ≡ Less = sym (place_cmp-same 0 a.1 k) ∙ ap (λ (n : ℕ). place_cmp (n, a.1) (0, k))
+    (sym first) ∙ less in
     true≢false (sym (ap is_lt keys) ∙ h a.1)
 
 least_below : (k : OrderedKey) → IsLeast k → (es : List Entry) → NoneBelow (0, k) es
 least_below k h [] = tt
 least_below k h (e ∷ es) = (none_under k h (place_of e), least_below k h es)
 
-module _ (k : OrderedKey) (least : IsLeast k) (d : ℕ) (all : List Entry) (left : Shape) (s : Split) (h : HasSplit d all left s) (rising : IsRising all) where
+module _ (k : OrderedKey) (least : IsLeast k) (d : ℕ) (all : List Entry) (left : Shape) (s : Split)
+    (h : HasSplit d all left s) (rising : IsRising all) where
   abbrev low : Separator
   low = record { part = 0; key = k }
 

@@ -1,8 +1,11 @@
 -- From clap's clauses to what words name.
-use Rattle.std.proofs.Common.{◌≡◌, ◌∙◌, ◌⊎◌, ℕ, List, [], Option, codes, refl, sym, subst, ap, ap₂, inl, inr, true, false, ◌||◌}
+use Rattle.std.proofs.Common.{◌≡◌, ◌∙◌, ◌⊎◌, ℕ, List, [], Option, codes, refl, sym, subst, ap, ap₂, inl, inr, true}
+use Rattle.std.proofs.Common.{false, ◌||◌}
 use Rattle.std.proofs.lemmas.Bool.{true≢false}
 use Rattle.std.specs.Prelude.{IsSomeAnd}
-use Rattle.clap.specs.Words.{AddsArg, AddsSubcommand, App, HasMatchesOf, Rule, Text, fault_of, first_of, found_of, is_simple, is_simple_and_free, kind_of, matches_of, rows_of, rule_of, subcommand_of, subcommand_rows_of, with_rule, with_subcommand, app_of}
+use Rattle.clap.specs.Words.{AddsArg, AddsSubcommand, App, HasMatchesOf, Rule, Text, fault_of, first_of, found_of}
+use Rattle.clap.specs.Words.{is_simple, is_simple_and_free, kind_of, matches_of, rows_of, rule_of, subcommand_of}
+use Rattle.clap.specs.Words.{subcommand_rows_of, with_rule, with_subcommand, app_of}
 use Rattle.clap.specs.Kinds.{IsAmong}
 use Rattle.clap.specs.declared.builder.arg.Arg.{Arg}
 use Rattle.clap.specs.declared.builder.command.Command.{Command}
@@ -18,13 +21,16 @@ use Rattle.am_command.specs.declared.fault.OptionsFault.{OptionsFault}
 use Rattle.am_command.specs.declared.fault.OptionsFault.TheVariants.{Asked, Wrong, Unserved, NotText, NoMemory}
 
 pub arg_added : (before after : Command) (argument : Arg) (app : App) (rule : Rule) → IsCommand app before
-    → (rule_of argument ≡ rule) × (argument.global ≡ false) → AddsArg before argument after → IsCommand (with_rule app rule) after
+    → (rule_of argument ≡ rule) × (argument.global ≡ false) → AddsArg before argument after →
+    IsCommand (with_rule app rule) after
 arg_added before after argument app rule is_app is_rule adds =
     (adds.shape is_rule.1 ∙ ap₂ with_rule is_app.0 is_rule.0, adds.globals ∙ ap₂ (λ a b. a || b) is_app.1 is_rule.1)
 
-pub subcommand_added : (before entered after : Command) (app its : App) → app_of before ≡ app → IsCommand its entered → AddsSubcommand before entered after
+pub subcommand_added : (before entered after : Command) (app its : App) → app_of before ≡ app → IsCommand its entered →
+    AddsSubcommand before entered after
     → app_of after ≡ with_subcommand app its.top
-subcommand_added before entered after app its is_app is_its adds = adds.shape is_its.1 ∙ ap₂ with_subcommand is_app (ap (λ (a : App). a.top) is_its.0)
+subcommand_added before entered after app its is_app is_its adds = adds.shape is_its.1 ∙
+    ap₂ with_subcommand is_app (ap (λ (a : App). a.top) is_its.0)
 
 amserve_plain : is_simple amserve_app ≡ true
 unfolding clap_on_literals
@@ -45,10 +51,13 @@ amaudit_free = refl
 -- what a parse entered is what the words name
 entered_as : (app : App) (m : ArgMatches) (words : List Text) → app ≡ amserve_app → HasMatchesOf app words m
     → subcommand_rows_of m ≡ subcommand_of amserve_app words
-entered_as app m words app_is rows = (rows (ap is_simple app_is ∙ amserve_plain)).1 ∙ ap (λ a. subcommand_of a words) app_is
+entered_as app m words app_is rows = (rows (ap is_simple app_is ∙ amserve_plain)).1 ∙
+    ap (λ a. subcommand_of a words) app_is
 
-pub accepted : (app : App) (m : ArgMatches) (words : List Text) (options : Options) → app ≡ amserve_app → HasMatchesOf app words m
-    → (is_simple_and_free app ≡ true → fault_of app words ≡ []) → IsSomeAnd (subcommand_rows_of m) (λ entered. Selects entered options)
+pub accepted : (app : App) (m : ArgMatches) (words : List Text) (options : Options) → app ≡ amserve_app →
+    HasMatchesOf app words m
+    → (is_simple_and_free app ≡ true → fault_of app words ≡ []) →
+    IsSomeAnd (subcommand_rows_of m) (λ entered. Selects entered options)
     → Names words options
 accepted app m words options app_is rows faults named = (
   ap (λ a. fault_of a words) (sym app_is) ∙ faults (ap is_simple_and_free app_is ∙ amserve_free),
@@ -61,27 +70,33 @@ pub refused_as_nothing : (app : App) (m : ArgMatches) (words : List Text) → ap
     → (fault_of amserve_app words ≡ []) × ((options : Options) → Names words options → ⊥)
 refused_as_nothing app m words app_is rows faults none = (
   ap (λ a. fault_of a words) (sym app_is) ∙ faults (ap is_simple_and_free app_is ∙ amserve_free),
-  λ options named. none options (subst (λ e. IsSomeAnd e (λ entered. Selects entered options)) (sym (entered_as app m words app_is rows)) named.1),
+  λ options named. none options (subst (λ e. IsSomeAnd e (λ entered. Selects entered options))
+      (sym (entered_as app m words app_is rows)) named.1),
 )
 
-pub names_file : (app : App) (m : ArgMatches) (words : List Text) (file : Option (List ℕ)) → app ≡ amaudit_app → HasMatchesOf app words m
+pub names_file : (app : App) (m : ArgMatches) (words : List Text) (file : Option (List ℕ)) → app ≡ amaudit_app →
+    HasMatchesOf app words m
     → (is_simple_and_free app ≡ true → fault_of app words ≡ []) → file ≡ first_of (codes "file") (rows_of (found_of m))
     → (fault_of amaudit_app words ≡ []) × (file ≡ first_of (codes "file") (matches_of amaudit_app words))
 names_file app m words file app_is rows faults named = (
   ap (λ a. fault_of a words) (sym app_is) ∙ faults (ap is_simple_and_free app_is ∙ amaudit_free),
-  named ∙ ap (first_of (codes "file")) ((rows (ap is_simple app_is ∙ amaudit_plain)).0 ∙ ap (λ a. matches_of a words) app_is),
+  named ∙ ap (first_of (codes "file")) ((rows (ap is_simple app_is ∙ amaudit_plain)).0 ∙
+      ap (λ a. matches_of a words) app_is),
 )
 
 -- a fault of clap, at the words of an app without rules between arguments
-pub refused_by_clap : {Named : Type 0} (names : List Text → Named → Type 0) (its app : App) → is_simple_and_free its ≡ true → (e : Error) (words : List Text) (fault : OptionsFault) → app ≡ its
+pub refused_by_clap : {Named : Type 0} (names : List Text → Named → Type 0) (its app : App) →
+    is_simple_and_free its ≡ true → (e : Error) (words : List Text) (fault : OptionsFault) → app ≡ its
     → (is_simple_and_free app ≡ true → (kind_of e ≡ OutOfMemory) ⊎ IsAmong (kind_of e) (fault_of app words))
     → IsFaultOf (kind_of e) fault → Refuses its names words fault
-refused_by_clap names its app free e words fault app_is kinds said = by_fault fault (kinds (ap is_simple_and_free app_is ∙ free)) said
+refused_by_clap names its app free e words fault app_is kinds said =
+    by_fault fault (kinds (ap is_simple_and_free app_is ∙ free)) said
   where
     among : IsAmong (kind_of e) (fault_of app words) → IsAmong (kind_of e) (fault_of its words)
     among h = subst (λ a. IsAmong (kind_of e) (fault_of a words)) app_is h
 
-    by_fault : (f : OptionsFault) → ((kind_of e ≡ OutOfMemory) ⊎ IsAmong (kind_of e) (fault_of app words)) → IsFaultOf (kind_of e) f → Refuses its names words f
+    by_fault : (f : OptionsFault) → ((kind_of e ≡ OutOfMemory) ⊎ IsAmong (kind_of e) (fault_of app words)) →
+        IsFaultOf (kind_of e) f → Refuses its names words f
     by_fault (Asked text) (inl memory) asked = absurd (true≢false (sym asked ∙ ap is_request memory))
     by_fault (Asked text) (inr h) asked = (kind_of e, among h, asked)
     by_fault (Wrong text) (inl memory) wrong = absurd (wrong.1 memory)

@@ -1,5 +1,6 @@
 -- What a transaction's begin and its end do to what is kept.
-use Rattle.std.proofs.Common.{◌≡◌, ◌+◌, ◌++◌, ◌∷◌, [], ℕ, List, Some, None, Bool, true, false, refl, sym, ap, ◌∙◌, subst, cond}
+use Rattle.std.proofs.Common.{◌≡◌, ◌+◌, ◌++◌, ◌∷◌, [], ℕ, List, Some, None, Bool, true, false, refl, sym, ap, ◌∙◌}
+use Rattle.std.proofs.Common.{subst, cond}
 use Rattle.std.proofs.lemmas.Bool.{cond-true}
 use Rattle.am_record.specs.Interval.{Interval}
 use Rattle.am_list.specs.Entries.{find}
@@ -18,7 +19,8 @@ use Rattle.am_record.specs.declared.step.Step.TheVariants.{Begin, Commit, Abort}
 use Rattle.am_record.specs.declared.step.Reply.TheVariants.{Begun, Committed, Aborted}
 use Rattle.am_core.specs.Doing.{HasNewLog}
 use Rattle.am_core.specs.Keeping.{state_kept, actives}
-use Rattle.am_core.proofs.Actives.{is_in-actives, notes-actives, marks-actives, actives-txs_after_begin, actives-txs_after_end, txs_after_end-with_log}
+use Rattle.am_core.proofs.Actives.{is_in-actives, notes-actives, marks-actives, actives-txs_after_begin}
+use Rattle.am_core.proofs.Actives.{actives-txs_after_end, txs_after_end-with_log}
 
 pub is_in-inner : (t : Txs) (tx : ℕ) (b : Bool) → is_active_in t.active tx ≡ b → is_in (actives t) tx ≡ b
 is_in-inner t tx b a = is_in-actives (locks_owned t.locks) t.active tx ∙ a
@@ -37,38 +39,79 @@ begun parts t wishes commits t' tx ok number e =
     let now : t' ≡ txs_after_begin t = e ∙ cond-true (can_begin t) (txs_after_begin t) t is.0 in
     let all = actives-txs_after_begin t (next-is-new t ok) ∙ ap (λ n. actives t ++ newcomer n ∷ []) (sym is.1) in
     (λ i. state_kept parts (now i) wishes commits)
-    ∙ (λ i. record { entries = parts.entries; wishes = wishes; begun = t.begun + 1; commits = commits; runs = parts.runs; active = all i })
+    ∙ (λ i. record {
+      entries = parts.entries;
+      wishes = wishes;
+      begun = t.begun + 1;
+      commits = commits;
+      runs = parts.runs;
+      active = all i;
+    })
 
 -- ---- commit
 
-pub committed : (parts : Partitions) (t : Txs) (wishes : List Interval) (commits : ℕ) (t' : Txs) (tx c : ℕ) → t' ≡ txs_after_end t tx
-    → state_kept parts t' wishes (commits + 1) ≡ state_after (state_kept parts t wishes commits) (Commit tx) (Committed c)
+pub committed : (parts : Partitions) (t : Txs) (wishes : List Interval) (commits : ℕ) (t' : Txs) (tx c : ℕ) →
+    t' ≡ txs_after_end t tx
+    → state_kept parts t' wishes (commits + 1) ≡ state_after (state_kept parts t wishes commits) (Commit tx)
+    (Committed c)
 committed parts t wishes commits t' tx c e =
     (λ i. state_kept parts (e i) wishes (commits + 1))
-    ∙ (λ i. record { entries = parts.entries; wishes = wishes; begun = t.begun; commits = commits + 1; runs = parts.runs; active = actives-txs_after_end t tx i })
+    ∙ (λ i. record {
+      entries = parts.entries;
+      wishes = wishes;
+      begun = t.begun;
+      commits = commits + 1;
+      runs = parts.runs;
+      active = actives-txs_after_end t tx i;
+    })
 
 -- ---- abort
 
-pub can_abort : (parts : Partitions) (t : Txs) (wishes : List Interval) (commits tx : ℕ) → IsFit (state_kept parts t wishes commits) → is_active_in t.active tx ≡ true
+pub can_abort : (parts : Partitions) (t : Txs) (wishes : List Interval) (commits tx : ℕ) →
+    IsFit (state_kept parts t wishes commits) → is_active_in t.active tx ≡ true
     → CanTakeBack (log_in t.active tx).notes (find parts.entries)
 can_abort parts t wishes commits tx fit a =
-    subst (λ (ns : List Note). CanTakeBack ns (find parts.entries)) (notes-actives (locks_owned t.locks) t.active tx) (fit.can_abort tx (is_in-inner t tx true a))
+    subst (λ (ns : List Note). CanTakeBack ns (find parts.entries)) (notes-actives (locks_owned t.locks) t.active tx)
+    (fit.can_abort tx (is_in-inner t tx true a))
 
-pub can_back : (parts : Partitions) (t : Txs) (wishes : List Interval) (commits tx : ℕ) → IsFit (state_kept parts t wishes commits) → is_active_in t.active tx ≡ true
+pub can_back : (parts : Partitions) (t : Txs) (wishes : List Interval) (commits tx : ℕ) →
+    IsFit (state_kept parts t wishes commits) → is_active_in t.active tx ≡ true
     → CanTakeBack (since_mark (log_in t.active tx).marks (log_in t.active tx).notes) (find parts.entries)
 can_back parts t wishes commits tx fit a =
-    subst (λ (ms : List ℕ). CanTakeBack (since_mark ms (log_in t.active tx).notes) (find parts.entries)) (marks-actives (locks_owned t.locks) t.active tx)
-    (subst (λ (ns : List Note). CanTakeBack (since_mark (in_table (actives t) tx).marks ns) (find parts.entries)) (notes-actives (locks_owned t.locks) t.active tx)
+    subst (λ (ms : List ℕ). CanTakeBack (since_mark ms (log_in t.active tx).notes) (find parts.entries))
+    (marks-actives (locks_owned t.locks) t.active tx)
+    (subst (λ (ns : List Note). CanTakeBack (since_mark (in_table (actives t) tx).marks ns) (find parts.entries))
+    (notes-actives (locks_owned t.locks) t.active tx)
     (fit.can_back tx (is_in-inner t tx true a)))
 
-pub still_active : (t t' : Txs) (tx : ℕ) → HasNewLog t tx t' → is_active_in t.active tx ≡ true → is_active_in t'.active tx ≡ true
-still_active t t' tx new a = (λ i. is_active_in (new.written i).active tx) ∙ is_active_in-with_changed (λ x. record x { log = new.log }) tx tx t.active (λ x. refl) ∙ a
+pub still_active : (t t' : Txs) (tx : ℕ) → HasNewLog t tx t' → is_active_in t.active tx ≡ true →
+    is_active_in t'.active tx ≡ true
+still_active t t' tx new a = (λ i. is_active_in (new.written i).active tx) ∙
+    is_active_in-with_changed (λ x. record x { log = new.log }) tx tx t.active (λ x. refl) ∙ a
 
-pub aborted : (parts : Partitions) (t : Txs) (wishes : List Interval) (commits : ℕ) (parts' : Partitions) (t' t'' : Txs) (tx : ℕ)
-    → HasNewLog t tx t' → t'' ≡ txs_after_end t' tx → parts'.entries ≡ taken_back (log_in t.active tx).notes parts.entries → parts'.runs ≡ parts.runs
+pub aborted : (parts : Partitions) (t : Txs) (wishes : List Interval) (commits : ℕ) (parts' : Partitions) (t' t'' : Txs)
+    (tx : ℕ)
+    → HasNewLog t tx t' → t'' ≡ txs_after_end t' tx → parts'.entries ≡ taken_back (log_in t.active tx).notes
+    parts.entries → parts'.runs ≡ parts.runs
     → state_kept parts' t'' wishes commits ≡ state_after (state_kept parts t wishes commits) (Abort tx) Aborted
 aborted parts t wishes commits parts' t' t'' tx new e entries runs =
-    let gone : t'' ≡ txs_after_end t tx = e ∙ (λ i. txs_after_end (new.written i) tx) ∙ txs_after_end-with_log t tx new.log in
-    let back = entries ∙ ap (λ (ns : List Note). taken_back ns parts.entries) (sym (notes-actives (locks_owned t.locks) t.active tx)) in
-    (λ i. record { entries = back i; wishes = wishes; begun = (gone i).begun; commits = commits; runs = runs i; active = actives (gone i) })
-    ∙ (λ i. record { entries = taken_back (in_table (actives t) tx).notes parts.entries; wishes = wishes; begun = t.begun; commits = commits; runs = parts.runs; active = actives-txs_after_end t tx i })
+    let gone : t'' ≡ txs_after_end t tx = e ∙ (λ i. txs_after_end (new.written i) tx) ∙
+    txs_after_end-with_log t tx new.log in
+    let back = entries ∙ ap (λ (ns : List Note). taken_back ns parts.entries)
+    (sym (notes-actives (locks_owned t.locks) t.active tx)) in
+    (λ i. record {
+      entries = back i;
+      wishes = wishes;
+      begun = (gone i).begun;
+      commits = commits;
+      runs = runs i;
+      active = actives (gone i);
+    })
+    ∙ (λ i. record {
+      entries = taken_back (in_table (actives t) tx).notes parts.entries;
+      wishes = wishes;
+      begun = t.begun;
+      commits = commits;
+      runs = parts.runs;
+      active = actives-txs_after_end t tx i;
+    })

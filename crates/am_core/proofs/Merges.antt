@@ -36,33 +36,72 @@ none_merged es [] why = refl
 none_merged es (w ∷ ws) why = refl
 
 module _ (parts : Partitions) (t : Txs) (wishes : List Interval) (commits limit : ℕ) where
-  pub says_bad_merge : is_limit limit ≡ false → MayAnswer (state_kept parts t wishes commits) (Merge limit) (Refused BadLimit)
-  says_bad_merge e = subst (λ b. MatchBool b (MergeRight parts.entries wishes (holder_in (actives t)) limit (Refused BadLimit)) (◌≡◌ {A = Reply} (Refused BadLimit) (Refused BadLimit))) (sym e) refl
+  pub says_bad_merge : is_limit limit ≡ false → MayAnswer (state_kept parts t wishes commits) (Merge limit)
+      (Refused BadLimit)
+  says_bad_merge e = subst (λ b. MatchBool b (MergeRight parts.entries wishes (holder_in (actives t)) limit
+      (Refused BadLimit)) (◌≡◌ {A = Reply} (Refused BadLimit) (Refused BadLimit))) (sym e) refl
 
-  pub after_bad_merge : state_kept parts t wishes commits ≡ state_after (state_kept parts t wishes commits) (Merge limit) (Refused BadLimit)
-  after_bad_merge = λ i. record { entries = all_worked_off (sym (none_merged parts.entries wishes BadLimit) i) parts.entries; wishes = wishes; begun = t.begun; commits = commits; runs = parts.runs; active = actives t }
+  pub after_bad_merge : state_kept parts t wishes commits ≡ state_after (state_kept parts t wishes commits)
+      (Merge limit) (Refused BadLimit)
+  after_bad_merge = λ i. record {
+    entries = all_worked_off (sym (none_merged parts.entries wishes BadLimit) i)
+        parts.entries;
+    wishes = wishes;
+    begun = t.begun;
+    commits = commits;
+    runs = parts.runs;
+    active = actives t;
+  }
 
-  pub says_bad_clean : (range : Interval) → is_limit limit ≡ false → MayAnswer (state_kept parts t wishes commits) (Clean range limit) (Refused BadLimit)
-  says_bad_clean range e = subst (λ b. MatchBool b (CleanRight parts.entries (holder_in (actives t)) range limit (Refused BadLimit)) (◌≡◌ {A = Reply} (Refused BadLimit) (Refused BadLimit))) (sym e) refl
+  pub says_bad_clean : (range : Interval) → is_limit limit ≡ false → MayAnswer (state_kept parts t wishes commits)
+      (Clean range limit) (Refused BadLimit)
+  says_bad_clean range e = subst (λ b. MatchBool b
+      (CleanRight parts.entries (holder_in (actives t)) range limit (Refused BadLimit))
+      (◌≡◌ {A = Reply} (Refused BadLimit) (Refused BadLimit))) (sym e) refl
 
   -- ---- a limit that is one
 
-  pub says_merge : (reply : Reply) → IsConsistent t → is_limit limit ≡ true → MergeRight parts.entries wishes (holder_of t.locks) limit reply → MayAnswer (state_kept parts t wishes commits) (Merge limit) reply
+  pub says_merge : (reply : Reply) → IsConsistent t → is_limit limit ≡ true →
+      MergeRight parts.entries wishes (holder_of t.locks) limit reply → MayAnswer (state_kept parts t wishes commits)
+      (Merge limit) reply
   says_merge reply ok e right =
-      subst (λ b. MatchBool b (MergeRight parts.entries wishes (holder_in (actives t)) limit reply) (reply ≡ Refused BadLimit)) (sym e)
+      subst (λ b. MatchBool b (MergeRight parts.entries wishes (holder_in (actives t)) limit reply)
+      (reply ≡ Refused BadLimit)) (sym e)
       (subst (λ (held : Holders). MergeRight parts.entries wishes held limit reply) (holders_are t ok) right)
 
-  pub after_merge : (parts' : Partitions) (wishes' : List Interval) (reply : Reply) → parts'.entries ≡ all_worked_off (merged_by parts.entries wishes reply) parts.entries → wishes' ≡ wishes_left wishes reply → parts'.runs ≡ parts.runs
+  pub after_merge : (parts' : Partitions) (wishes' : List Interval) (reply : Reply) →
+      parts'.entries ≡ all_worked_off (merged_by parts.entries wishes reply) parts.entries →
+      wishes' ≡ wishes_left wishes reply → parts'.runs ≡ parts.runs
       → state_kept parts' t wishes' commits ≡ state_after (state_kept parts t wishes commits) (Merge limit) reply
-  after_merge parts' wishes' reply entries ws runs = λ i. record { entries = entries i; wishes = ws i; begun = t.begun; commits = commits; runs = runs i; active = actives t }
+  after_merge parts' wishes' reply entries ws runs = λ i. record {
+    entries = entries i;
+    wishes = ws i;
+    begun = t.begun;
+    commits = commits;
+    runs = runs i;
+    active = actives t;
+  }
 
-  pub says_clean : (range : Interval) (reply : Reply) → IsConsistent t → is_limit limit ≡ true → CleanRight parts.entries (holder_of t.locks) range limit reply → MayAnswer (state_kept parts t wishes commits) (Clean range limit) reply
+  pub says_clean : (range : Interval) (reply : Reply) → IsConsistent t → is_limit limit ≡ true →
+      CleanRight parts.entries (holder_of t.locks) range limit reply → MayAnswer (state_kept parts t wishes commits)
+      (Clean range limit) reply
   says_clean range reply ok e right =
-      subst (λ b. MatchBool b (CleanRight parts.entries (holder_in (actives t)) range limit reply) (reply ≡ Refused BadLimit)) (sym e)
+      subst (λ b. MatchBool b (CleanRight parts.entries (holder_in (actives t)) range limit reply)
+      (reply ≡ Refused BadLimit)) (sym e)
       (subst (λ (held : Holders). CleanRight parts.entries held range limit reply) (holders_are t ok) right)
 
-  pub after_clean : (range : Interval) (parts' : Partitions) (reply : Reply) → IsConsistent t → parts'.entries ≡ all_worked_off (cleaned_by parts.entries (holder_of t.locks) range reply) parts.entries → parts'.runs ≡ parts.runs
+  pub after_clean : (range : Interval) (parts' : Partitions) (reply : Reply) → IsConsistent t →
+      parts'.entries ≡ all_worked_off (cleaned_by parts.entries (holder_of t.locks) range reply) parts.entries →
+      parts'.runs ≡ parts.runs
       → state_kept parts' t wishes commits ≡ state_after (state_kept parts t wishes commits) (Clean range limit) reply
   after_clean range parts' reply ok entries runs =
-      let es = entries ∙ (λ i. all_worked_off (cleaned_by parts.entries (holders_are t ok i) range reply) parts.entries) in
-      λ i. record { entries = es i; wishes = wishes; begun = t.begun; commits = commits; runs = runs i; active = actives t }
+      let es = entries ∙ (λ i. all_worked_off (cleaned_by parts.entries (holders_are t ok i) range reply)
+      parts.entries) in
+      λ i. record {
+        entries = es i;
+        wishes = wishes;
+        begun = t.begun;
+        commits = commits;
+        runs = runs i;
+        active = actives t;
+      }

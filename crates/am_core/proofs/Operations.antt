@@ -1,5 +1,6 @@
 -- What an operation that is refused, that wants memory, and that is done leave of what is kept.
-use Rattle.std.proofs.Common.{◌≡◌, ◌≤◌, ◌<◌, ◌+◌, ◌++◌, ◌⊎◌, inl, inr, ℕ, List, length, map, take, Bool, true, false, cond, not, ◌||◌, Option, Some, None, refl, sym, ap, ◌∙◌, subst, ⊎_elim, arith}
+use Rattle.std.proofs.Common.{◌≡◌, ◌≤◌, ◌<◌, ◌+◌, ◌++◌, ◌⊎◌, inl, inr, ℕ, List, length, map, take, Bool, true, false}
+use Rattle.std.proofs.Common.{cond, not, ◌||◌, Option, Some, None, refl, sym, ap, ◌∙◌, subst, ⊎_elim, arith}
 use Rattle.std.specs.Prelude.{nat_le, is_some, MatchOption}
 use Rattle.std.specs.FinMap.{get, contains_key}
 use Rattle.std.proofs.lemmas.Bool.{le-leb, leb-false, or_right, or_left}
@@ -29,12 +30,14 @@ use Rattle.am_serial.specs.Trace.{runs_made}
 use Rattle.am_effect.specs.Laws.{taken_back}
 use Rattle.am_effect.specs.Store.{changed, noted, notes_left, marks_left, wished, with_wish}
 use Rattle.am_sound.specs.Represents.{stored_answer}
-use Rattle.am_sound.specs.StoreState.{StoreState, is_in, in_table, MayAnswer, refusal_in, takes_memory, state_after_op, with_op, taken_back_to_mark, blocker_in}
+use Rattle.am_sound.specs.StoreState.{StoreState, is_in, in_table, MayAnswer, refusal_in, takes_memory, state_after_op}
+use Rattle.am_sound.specs.StoreState.{with_op, taken_back_to_mark, blocker_in}
 use Rattle.am_core.specs.Keeping.{state_kept, actives}
 use Rattle.am_core.specs.Memory.{adds_ninth_lock, adds_fifth_note, adds_third_mark, may_want_room}
 use Rattle.am_core.specs.Admission.{lock_refusal_for, IsLockRefusal, HasLocks, IsLockGranted, wish_of}
 use Rattle.am_core.specs.Doing.{MayWantRoom, Works, LeavesAllAlone}
-use Rattle.am_core.proofs.Actives.{is_in-actives, ops-actives, notes-actives, marks-actives, locks-actives, actives-did, actives-undid}
+use Rattle.am_core.proofs.Actives.{is_in-actives, ops-actives, notes-actives, marks-actives, locks-actives, actives-did}
+use Rattle.am_core.proofs.Actives.{actives-undid}
 
 -- ---- refusals that are due
 
@@ -43,7 +46,8 @@ pub record IsClear (active : Bool) (ops runs : ℕ) (op : Op) : Type 0 where
   pub is_active : active ≡ true
   pub few : nat_le 4096 ops ≡ false
 
-pub cleared : (active : Bool) (ops runs : ℕ) (op : Op) → None ≡ refusal_before_lock active ops runs op → IsClear active ops runs op
+pub cleared : (active : Bool) (ops runs : ℕ) (op : Op) → None ≡ refusal_before_lock active ops runs op →
+    IsClear active ops runs op
 cleared true ops runs op e = record { is_active = refl; few = by_test (nat_le 4096 ops) _ e }
   where
     by_test : (b : Bool) (later : Option Refusal) → None ≡ cond b (Some TooManyOps) later → b ≡ false
@@ -55,22 +59,33 @@ module _ (parts : Partitions) (t : Txs) (wishes : List Interval) (commits tx : �
   p : StoreState
   p = state_kept parts t wishes commits
 
-  first_is : refusal_before_lock (is_active_in t.active tx) (ops_in t.active tx) parts.runs op ≡ refusal_before_lock (is_in (actives t) tx) (in_table (actives t) tx).ops parts.runs op
-  first_is = λ i. refusal_before_lock (sym (is_in-actives (locks_owned t.locks) t.active tx) i) (sym (ops-actives (locks_owned t.locks) t.active tx) i) parts.runs op
+  first_is : refusal_before_lock (is_active_in t.active tx) (ops_in t.active tx) parts.runs op ≡ refusal_before_lock
+      (is_in (actives t) tx) (in_table (actives t) tx).ops parts.runs op
+  first_is = λ i. refusal_before_lock (sym (is_in-actives (locks_owned t.locks) t.active tx) i)
+      (sym (ops-actives (locks_owned t.locks) t.active tx) i) parts.runs op
 
-  due_at : (first : Option Refusal) → first ≡ refusal_before_lock (is_active_in t.active tx) (ops_in t.active tx) parts.runs op
-      → refusal_in (state_kept parts t wishes commits) tx op ≡ or_else first (lock_refusal (blocker_in (actives t) tx (lock_of op)) (is_one_too_many (in_table (actives t) tx).locks (lock_of op)))
-  due_at first e = ap (λ (o : Option Refusal). or_else o (lock_refusal (blocker_in (actives t) tx (lock_of op)) (is_one_too_many (in_table (actives t) tx).locks (lock_of op)))) (sym (e ∙ first_is))
+  due_at : (first : Option Refusal) → first ≡ refusal_before_lock (is_active_in t.active tx) (ops_in t.active tx)
+      parts.runs op
+      → refusal_in (state_kept parts t wishes commits) tx op ≡ or_else first
+      (lock_refusal (blocker_in (actives t) tx (lock_of op))
+      (is_one_too_many (in_table (actives t) tx).locks (lock_of op)))
+  due_at first e = ap (λ (o : Option Refusal). or_else o
+      (lock_refusal (blocker_in (actives t) tx (lock_of op))
+      (is_one_too_many (in_table (actives t) tx).locks (lock_of op)))) (sym (e ∙ first_is))
 
-  due_then : None ≡ refusal_before_lock (is_active_in t.active tx) (ops_in t.active tx) parts.runs op → refusal_in (state_kept parts t wishes commits) tx op ≡ lock_refusal_for t tx (lock_of op)
+  due_then : None ≡ refusal_before_lock (is_active_in t.active tx) (ops_in t.active tx) parts.runs op →
+      refusal_in (state_kept parts t wishes commits) tx op ≡ lock_refusal_for t tx (lock_of op)
   due_then e =
       let a = (cleared (is_active_in t.active tx) (ops_in t.active tx) parts.runs op e).is_active in
-      due_at None e ∙ (λ i. lock_refusal (blocker_in (actives t) tx (lock_of op)) (is_one_too_many (locks-actives (locks_owned t.locks) t.active tx a i) (lock_of op)))
+      due_at None e ∙ (λ i. lock_refusal (blocker_in (actives t) tx (lock_of op))
+      (is_one_too_many (locks-actives (locks_owned t.locks) t.active tx a i) (lock_of op)))
 
   abbrev Says : Reply → Option Refusal → Type 0
-  Says reply due = MatchOption due ((reply ≡ stored_answer op (in_table (actives t) tx).marks (content parts.entries)) ⊎ ((reply ≡ Refused NoMemory) × (takes_memory op ≡ true))) (λ why. reply ≡ Refused why)
+  Says reply due = MatchOption due ((reply ≡ stored_answer op (in_table (actives t) tx).marks (content parts.entries)) ⊎
+      ((reply ≡ Refused NoMemory) × (takes_memory op ≡ true))) (λ why. reply ≡ Refused why)
 
-  pub says_first : (why : Refusal) → Some why ≡ refusal_before_lock (is_active_in t.active tx) (ops_in t.active tx) parts.runs op → MayAnswer (state_kept parts t wishes commits) (Do tx op) (Refused why)
+  pub says_first : (why : Refusal) → Some why ≡ refusal_before_lock (is_active_in t.active tx) (ops_in t.active tx)
+      parts.runs op → MayAnswer (state_kept parts t wishes commits) (Do tx op) (Refused why)
   says_first why e = subst (Says (Refused why)) (sym (due_at (Some why) e)) refl
 
   -- ---- a refused lock
@@ -79,10 +94,13 @@ module _ (parts : Partitions) (t : Txs) (wishes : List Interval) (commits tx : �
   needs Back own e = cc
   needs op own e = refl
 
-  pub says_lock : (why : Refusal) → None ≡ refusal_before_lock (is_active_in t.active tx) (ops_in t.active tx) parts.runs op → IsLockRefusal t tx (lock_of op) why → MayAnswer (state_kept parts t wishes commits) (Do tx op) (Refused why)
+  pub says_lock : (why : Refusal) → None ≡ refusal_before_lock (is_active_in t.active tx) (ops_in t.active tx)
+      parts.runs op → IsLockRefusal t tx (lock_of op) why → MayAnswer (state_kept parts t wishes commits) (Do tx op)
+      (Refused why)
   says_lock why e r = ⊎_elim
       (λ due. subst (Says (Refused why)) (sym (due_then e ∙ due)) refl)
-      (λ wants. subst (Says (Refused why)) (sym (due_then e ∙ wants.1)) (inr (ap Refused wants.0, needs op (locks_owned t.locks tx) wants.2)))
+      (λ wants. subst (Says (Refused why)) (sym (due_then e ∙ wants.1))
+      (inr (ap Refused wants.0, needs op (locks_owned t.locks tx) wants.2)))
       r
 
   never : (o : Option ℕ) (b : Bool) → lock_refusal o b ≡ Some NoMemory → ⊥
@@ -90,26 +108,35 @@ module _ (parts : Partitions) (t : Txs) (wishes : List Interval) (commits tx : �
   never None true e = cc
   never None false e = cc
 
-  by_lock : (op : Op) → adds_ninth_lock (in_table (actives t) tx).locks (lock_of op) ≡ true → may_want_room (state_kept parts t wishes commits) (in_table (actives t) tx) op ≡ true
+  by_lock : (op : Op) → adds_ninth_lock (in_table (actives t) tx).locks (lock_of op) ≡ true →
+      may_want_room (state_kept parts t wishes commits) (in_table (actives t) tx) op ≡ true
   by_lock (Get k) e = e
   by_lock (Scan range max) e = refl
-  by_lock (Insert k v) e = or_right (not (is_some (find parts.entries 0 k))) (adds_ninth_lock (in_table (actives t) tx).locks (lock_of (Insert k v)) || adds_fifth_note (in_table (actives t) tx).notes)
-      (or_left (adds_ninth_lock (in_table (actives t) tx).locks (lock_of (Insert k v))) (adds_fifth_note (in_table (actives t) tx).notes) e)
-  by_lock (Replace k v) e = or_left (adds_ninth_lock (in_table (actives t) tx).locks (lock_of (Replace k v))) (adds_fifth_note (in_table (actives t) tx).notes) e
-  by_lock (Delete k) e = or_left (adds_ninth_lock (in_table (actives t) tx).locks (lock_of (Delete k))) (adds_fifth_note (in_table (actives t) tx).notes) e
+  by_lock (Insert k v) e = or_right (not (is_some (find parts.entries 0 k)))
+      (adds_ninth_lock (in_table (actives t) tx).locks (lock_of (Insert k v)) || adds_fifth_note
+      (in_table (actives t) tx).notes)
+      (or_left (adds_ninth_lock (in_table (actives t) tx).locks (lock_of (Insert k v)))
+      (adds_fifth_note (in_table (actives t) tx).notes) e)
+  by_lock (Replace k v) e = or_left (adds_ninth_lock (in_table (actives t) tx).locks (lock_of (Replace k v)))
+      (adds_fifth_note (in_table (actives t) tx).notes) e
+  by_lock (Delete k) e = or_left (adds_ninth_lock (in_table (actives t) tx).locks (lock_of (Delete k)))
+      (adds_fifth_note (in_table (actives t) tx).notes) e
   by_lock (Load pairs) e = refl
   by_lock (Lock lock) e = e
   by_lock Mark e = cc
   by_lock Back e = cc
 
-  pub wants_lock : (why : Refusal) → None ≡ refusal_before_lock (is_active_in t.active tx) (ops_in t.active tx) parts.runs op → IsLockRefusal t tx (lock_of op) why → Refused why ≡ Refused NoMemory
+  pub wants_lock : (why : Refusal) → None ≡ refusal_before_lock (is_active_in t.active tx) (ops_in t.active tx)
+      parts.runs op → IsLockRefusal t tx (lock_of op) why → Refused why ≡ Refused NoMemory
       → may_want_room (state_kept parts t wishes commits) (in_table (actives t) tx) op ≡ true
   wants_lock why e r is =
       let same : why ≡ NoMemory = cc in
       let a = (cleared (is_active_in t.active tx) (ops_in t.active tx) parts.runs op e).is_active in
       ⊎_elim
-      (λ due. absurd (never (blocker_in (actives t) tx (lock_of op)) (is_one_too_many (locks_owned t.locks tx) (lock_of op)) (due ∙ ap Some same)))
-      (λ wants. by_lock op (ap (λ own. adds_ninth_lock own (lock_of op)) (locks-actives (locks_owned t.locks) t.active tx a) ∙ wants.2))
+      (λ due. absurd (never (blocker_in (actives t) tx (lock_of op))
+      (is_one_too_many (locks_owned t.locks tx) (lock_of op)) (due ∙ ap Some same)))
+      (λ wants. by_lock op (ap (λ own. adds_ninth_lock own (lock_of op))
+      (locks-actives (locks_owned t.locks) t.active tx a) ∙ wants.2))
       r
 
   -- ---- no memory beside the lock's
@@ -118,40 +145,62 @@ module _ (parts : Partitions) (t : Txs) (wishes : List Interval) (commits tx : �
   room_needs Back log w = absurd w
   room_needs op log w = refl
 
-  pub says_room : (parts' : Partitions) (log : Log) → None ≡ refusal_before_lock (is_active_in t.active tx) (ops_in t.active tx) parts.runs op → lock_refusal_for t tx (lock_of op) ≡ None
+  pub says_room : (parts' : Partitions) (log : Log) → None ≡ refusal_before_lock (is_active_in t.active tx)
+      (ops_in t.active tx) parts.runs op → lock_refusal_for t tx (lock_of op) ≡ None
       → MayWantRoom op parts.entries log → MayAnswer (state_kept parts t wishes commits) (Do tx op) (Refused NoMemory)
-  says_room parts' log e due w = subst (Says (Refused NoMemory)) (sym (due_then e ∙ due)) (inr (refl, room_needs op log w))
+  says_room parts' log e due w = subst (Says (Refused NoMemory)) (sym (due_then e ∙ due))
+      (inr (refl, room_needs op log w))
 
-  five : (log : Log) → log.notes ≡ (in_table (actives t) tx).notes → 4 ≤ length log.notes → adds_fifth_note (in_table (actives t) tx).notes ≡ true
+  five : (log : Log) → log.notes ≡ (in_table (actives t) tx).notes → 4 ≤ length log.notes →
+      adds_fifth_note (in_table (actives t) tx).notes ≡ true
   five log e h = ap adds_fifth_note (sym e) ∙ le-leb 4 (length log.notes) h
 
-  by_room : (op : Op) (log : Log) → log.notes ≡ (in_table (actives t) tx).notes → log.marks ≡ (in_table (actives t) tx).marks → MayWantRoom op parts.entries log → may_want_room (state_kept parts t wishes commits) (in_table (actives t) tx) op ≡ true
+  by_room : (op : Op) (log : Log) → log.notes ≡ (in_table (actives t) tx).notes →
+      log.marks ≡ (in_table (actives t) tx).marks → MayWantRoom op parts.entries log →
+      may_want_room (state_kept parts t wishes commits) (in_table (actives t) tx) op ≡ true
   by_room (Get k) log e m w = absurd w
   by_room (Scan range max) log e m w = refl
   by_room (Insert k v) log e m w = by_slot (is_some (find parts.entries 0 k)) refl
     where
-      by_slot : (b : Bool) → is_some (find parts.entries 0 k) ≡ b → (not b || (adds_ninth_lock (in_table (actives t) tx).locks (lock_of (Insert k v)) || adds_fifth_note (in_table (actives t) tx).notes)) ≡ true
-      by_slot true s = or_right (adds_ninth_lock (in_table (actives t) tx).locks (lock_of (Insert k v))) (adds_fifth_note (in_table (actives t) tx).notes) (five log e (w s))
+      by_slot : (b : Bool) → is_some (find parts.entries 0 k) ≡ b →
+          (not b || (adds_ninth_lock (in_table (actives t) tx).locks (lock_of (Insert k v)) || adds_fifth_note
+          (in_table (actives t) tx).notes)) ≡ true
+      by_slot true s = or_right (adds_ninth_lock (in_table (actives t) tx).locks (lock_of (Insert k v)))
+          (adds_fifth_note (in_table (actives t) tx).notes) (five log e (w s))
       by_slot false s = refl
-  by_room (Replace k v) log e m w = or_right (adds_ninth_lock (in_table (actives t) tx).locks (lock_of (Replace k v))) (adds_fifth_note (in_table (actives t) tx).notes) (five log e w)
-  by_room (Delete k) log e m w = or_right (adds_ninth_lock (in_table (actives t) tx).locks (lock_of (Delete k))) (adds_fifth_note (in_table (actives t) tx).notes) (five log e w)
+  by_room (Replace k v) log e m w = or_right (adds_ninth_lock (in_table (actives t) tx).locks (lock_of (Replace k v)))
+      (adds_fifth_note (in_table (actives t) tx).notes) (five log e w)
+  by_room (Delete k) log e m w = or_right (adds_ninth_lock (in_table (actives t) tx).locks (lock_of (Delete k)))
+      (adds_fifth_note (in_table (actives t) tx).notes) (five log e w)
   by_room (Load pairs) log e m w = refl
   by_room (Lock lock) log e m w = absurd w
   by_room Mark log e m w = ap adds_third_mark (sym m) ∙ le-leb 2 (length log.marks) w
   by_room Back log e m w = absurd w
 
-  pub wants_room : (log : Log) → log ≡ log_in t.active tx → MayWantRoom op parts.entries log → may_want_room (state_kept parts t wishes commits) (in_table (actives t) tx) op ≡ true
+  pub wants_room : (log : Log) → log ≡ log_in t.active tx → MayWantRoom op parts.entries log →
+      may_want_room (state_kept parts t wishes commits) (in_table (actives t) tx) op ≡ true
   wants_room log e w =
-      by_room op log (ap (λ (l : Log). l.notes) e ∙ sym (notes-actives (locks_owned t.locks) t.active tx)) (ap (λ (l : Log). l.marks) e ∙ sym (marks-actives (locks_owned t.locks) t.active tx)) w
+      by_room op log (ap (λ (l : Log). l.notes) e ∙ sym (notes-actives (locks_owned t.locks) t.active tx))
+      (ap (λ (l : Log). l.marks) e ∙ sym (marks-actives (locks_owned t.locks) t.active tx)) w
 
-  pub idle : (t1 t2 t3 : Txs) (parts' : Partitions) (held : ℕ) → IsConsistent t → HasLocks t tx (with_asked (locks_owned t.locks tx) (lock_of op)) t1 → LeavesAllAlone parts t1 tx parts' t2
-      → held ≡ length (locks_owned t.locks tx) → t3 ≡ record t2 { locks = with_locks t2.locks tx (take held (locks_owned t2.locks tx)) } → state_kept parts' t3 wishes commits ≡ state_kept parts t wishes commits
+  pub idle : (t1 t2 t3 : Txs) (parts' : Partitions) (held : ℕ) → IsConsistent t →
+      HasLocks t tx (with_asked (locks_owned t.locks tx) (lock_of op)) t1 → LeavesAllAlone parts t1 tx parts' t2
+      → held ≡ length (locks_owned t.locks tx) → t3 ≡ record t2
+      { locks = with_locks t2.locks tx (take held (locks_owned t2.locks tx)) } → state_kept parts' t3 wishes commits ≡
+      state_kept parts t wishes commits
   idle t1 t2 t3 parts' held ok has stays before cut =
       let notes = stays.untouched.notes ∙ (λ i. (log_in (has.active i) tx).notes) in
       let marks = stays.untouched.marks ∙ (λ i. (log_in (has.active i) tx).marks) in
       let same = actives-undid t t1 t2 t3 tx held (lock_of op) stays.log ok has stays.written before cut notes marks in
       let begun : t3.begun ≡ t.begun = (λ i. (cut i).begun) ∙ (λ i. (stays.written i).begun) ∙ has.begun in
-      λ i. record { entries = stays.untouched.entries i; wishes = wishes; begun = begun i; commits = commits; runs = stays.untouched.runs i; active = same i }
+      λ i. record {
+        entries = stays.untouched.entries i;
+        wishes = wishes;
+        begun = begun i;
+        commits = commits;
+        runs = stays.untouched.runs i;
+        active = same i;
+      }
 
   -- ---- an operation that is done
 
@@ -208,37 +257,59 @@ module _ (parts : Partitions) (t : Txs) (wishes : List Interval) (commits tx : �
   wished_is Mark marks m = refl
   wished_is Back marks m = refl
 
-  pub says_done : (t1 t2 : Txs) (parts' : Partitions) (reply : Reply) → None ≡ refusal_before_lock (is_active_in t.active tx) (ops_in t.active tx) parts.runs op → IsLockGranted t tx (lock_of op) t1
+  pub says_done : (t1 t2 : Txs) (parts' : Partitions) (reply : Reply) →
+      None ≡ refusal_before_lock (is_active_in t.active tx) (ops_in t.active tx) parts.runs op →
+      IsLockGranted t tx (lock_of op) t1
       → Works op reply parts t1 tx parts' t2 → MayAnswer (state_kept parts t wishes commits) (Do tx op) reply
   says_done t1 t2 parts' reply e grant w =
-      let marks = (λ i. (log_in (grant.locks.active i) tx).marks) ∙ sym (marks-actives (locks_owned t.locks) t.active tx) in
-      subst (Says reply) (sym (due_then e ∙ grant.due)) (inl (w.done.said ∙ (λ i. stored_answer op (marks i) (content parts.entries))))
+      let marks = (λ i. (log_in (grant.locks.active i) tx).marks) ∙
+      sym (marks-actives (locks_owned t.locks) t.active tx) in
+      subst (Says reply) (sym (due_then e ∙ grant.due))
+      (inl (w.done.said ∙ (λ i. stored_answer op (marks i) (content parts.entries))))
 
-  pub after_done : (t1 t2 t3 : Txs) (parts' : Partitions) (wishes' : List Interval) (reply : Reply) → IsConsistent t → HasLocks t tx (with_asked (locks_owned t.locks tx) (lock_of op)) t1
+  pub after_done : (t1 t2 t3 : Txs) (parts' : Partitions) (wishes' : List Interval) (reply : Reply) → IsConsistent t →
+      HasLocks t tx (with_asked (locks_owned t.locks tx) (lock_of op)) t1
       → Works op reply parts t1 tx parts' t2 → t3 ≡ txs_after_op t2 tx → wishes' ≡ with_wish wishes (wish_of op)
       → state_kept parts' t3 wishes' commits ≡ state_after_op (state_kept parts t wishes commits) tx op reply
   after_done t1 t2 t3 parts' wishes' reply ok has w count wish =
       let log : log_in t1.active tx ≡ log_in t.active tx = λ i. log_in (has.active i) tx in
-      let notes = w.done.notes ∙ (λ i. noted parts.runs op reply parts.entries ++ notes_left op reply (log i).marks (log i).notes) in
+      let notes = w.done.notes ∙ (λ i. noted parts.runs op reply parts.entries ++
+      notes_left op reply (log i).marks (log i).notes) in
       let marks = w.done.marks ∙ (λ i. marks_left op reply (length (log i).notes) (log i).marks) in
-      let all = actives-did t t1 t2 t3 tx op reply (noted parts.runs op reply parts.entries) w.log ok has w.written count notes marks in
+      let all = actives-did t t1 t2 t3 tx op reply (noted parts.runs op reply parts.entries) w.log ok has w.written
+      count notes marks in
       let begun : t3.begun ≡ t.begun = (λ i. (count i).begun) ∙ (λ i. (w.written i).begun) ∙ has.begun in
       let es = w.done.entries
-      ∙ (λ i. changed (taken_back (since_mark (log i).marks (log i).notes) parts.entries) parts.runs op reply parts.entries)
-      ∙ (λ i. changed (taken_back (since_mark (sym (marks-actives (locks_owned t.locks) t.active tx) i) (sym (notes-actives (locks_owned t.locks) t.active tx) i)) parts.entries) parts.runs op reply parts.entries) in
-      let ws = wish ∙ ap (with_wish wishes) (sym (ap (wished op) w.done.said ∙ wished_is op (log_in t1.active tx).marks (content parts.entries))) in
+      ∙ (λ i. changed (taken_back (since_mark (log i).marks (log i).notes) parts.entries) parts.runs op reply
+      parts.entries)
+      ∙ (λ i. changed (taken_back (since_mark (sym (marks-actives (locks_owned t.locks) t.active tx) i)
+      (sym (notes-actives (locks_owned t.locks) t.active tx) i)) parts.entries) parts.runs op reply
+      parts.entries) in
+      let ws = wish ∙ ap (with_wish wishes) (sym (ap (wished op) w.done.said ∙ wished_is op (log_in t1.active tx).marks
+      (content parts.entries))) in
       let is = subst IsAnswer (sym w.done.said) (answered op (log_in t1.active tx).marks (content parts.entries)) in
-      (λ i. record { entries = es i; wishes = ws i; begun = begun i; commits = commits; runs = w.done.runs i; active = all i }) ∙ sym (done_by reply is)
+      (λ i. record {
+        entries = es i;
+        wishes = ws i;
+        begun = begun i;
+        commits = commits;
+        runs = w.done.runs i;
+        active = all i;
+      }) ∙ sym (done_by reply is)
 
 -- ---- it stays active, with few operations
 
-pub active_then : (t t1 t2 : Txs) (tx : ℕ) (log : Log) → t1.active ≡ t.active → t2 ≡ with_log t1 tx log → is_active_in t.active tx ≡ true → is_active_in t2.active tx ≡ true
+pub active_then : (t t1 t2 : Txs) (tx : ℕ) (log : Log) → t1.active ≡ t.active → t2 ≡ with_log t1 tx log →
+    is_active_in t.active tx ≡ true → is_active_in t2.active tx ≡ true
 active_then t t1 t2 tx log same written a =
-    (λ i. is_active_in (written i).active tx) ∙ is_active_in-with_changed (λ x. record x { log = log }) tx tx t1.active (λ x. refl) ∙ (λ i. is_active_in (same i) tx) ∙ a
+    (λ i. is_active_in (written i).active tx) ∙ is_active_in-with_changed (λ x. record x { log = log }) tx tx t1.active
+    (λ x. refl) ∙ (λ i. is_active_in (same i) tx) ∙ a
 
-pub few_then : (t t1 t2 : Txs) (tx : ℕ) (log : Log) → t1.active ≡ t.active → t2 ≡ with_log t1 tx log → nat_le 4096 (ops_in t.active tx) ≡ false → ops_in t2.active tx < 4096
+pub few_then : (t t1 t2 : Txs) (tx : ℕ) (log : Log) → t1.active ≡ t.active → t2 ≡ with_log t1 tx log →
+    nat_le 4096 (ops_in t.active tx) ≡ false → ops_in t2.active tx < 4096
 few_then t t1 t2 tx log same written few =
     let less = leb-false 4096 (ops_in t.active tx) few in
     let is : ops_in t2.active tx ≡ ops_in t.active tx =
-    (λ i. ops_in (written i).active tx) ∙ of_active-kept (λ x. x.ops) 0 (λ x. record x { log = log }) tx tx t1.active (λ x. refl) (λ x. refl) ∙ (λ i. ops_in (same i) tx) in
+    (λ i. ops_in (written i).active tx) ∙ of_active-kept (λ x. x.ops) 0 (λ x. record x { log = log }) tx tx t1.active
+    (λ x. refl) (λ x. refl) ∙ (λ i. ops_in (same i) tx) in
     omega (arith, less, is)

@@ -1,5 +1,6 @@
 -- Bits that are set stay set.
-use Rattle.std.proofs.Common.{◌≡◌, ◌≢◌, ℕ, zero, suc, ◌*◌, ◌/◌, ◌^◌, ◌<◌, true, List, [], ◌∷◌, length, get_or, set, take, bit_and, bit_or, refl, sym, ap, ◌∙◌, subst, ⊎_elim, arith}
+use Rattle.std.proofs.Common.{◌≡◌, ◌≢◌, ℕ, zero, suc, ◌*◌, ◌/◌, ◌^◌, ◌<◌, true, List, [], ◌∷◌, length, get_or, set}
+use Rattle.std.proofs.Common.{take, bit_and, bit_or, refl, sym, ap, ◌∙◌, subst, ⊎_elim, arith}
 use Rattle.std.proofs.lemmas.Bool.{eq-eqb, eqb-true, cases_eq}
 use Rattle.std.proofs.lemmas.List.{length-set, get_or-set_same, get_or-set_other}
 use Rattle.std.proofs.lemmas.Nat.{and_or_self}
@@ -31,7 +32,8 @@ module _ (ws : List ℕ) (i : ℕ) (lt : i < length ws) (m : ℕ) where
   now_held n here mask =
       let at : word_index after n ≡ i = same_slot n ∙ sym here in
       let word : get_or after (word_index after n) 0 ≡ bit_or (get_or ws i 0) (mask_of n) =
-      ap (λ (j : ℕ). get_or after j 0) at ∙ get_or-set_same ws i (bit_or (get_or ws i 0) m) 0 lt ∙ ap (λ (k : ℕ). bit_or (get_or ws i 0) k) mask in
+      ap (λ (j : ℕ). get_or after j 0) at ∙ get_or-set_same ws i (bit_or (get_or ws i 0) m) 0 lt ∙
+      ap (λ (k : ℕ). bit_or (get_or ws i 0) k) mask in
       eq-eqb _ _ (ap (λ (w : ℕ). bit_and w (mask_of n)) word ∙ and_or_self (mask_of n) (get_or ws i 0))
 
   pub still_held : (n : ℕ) → has_bits ws n ≡ true → has_bits after n ≡ true
@@ -42,11 +44,14 @@ module _ (ws : List ℕ) (i : ℕ) (lt : i < length ws) (m : ℕ) where
       ⊎_elim
       (λ (same : word_index ws n ≡ i).
       let word : get_or after (word_index after n) 0 ≡ bit_or (get_or ws (word_index ws n) 0) m =
-      ap (λ (j : ℕ). get_or after j 0) (slot ∙ same) ∙ get_or-set_same ws i (bit_or (get_or ws i 0) m) 0 lt ∙ ap (λ (j : ℕ). bit_or (get_or ws j 0) m) (sym same) in
-      eq-eqb _ _ (ap (λ (w : ℕ). bit_and w (mask_of n)) word ∙ still_set (get_or ws (word_index ws n) 0) m (mask_of n) was))
+      ap (λ (j : ℕ). get_or after j 0) (slot ∙ same) ∙ get_or-set_same ws i (bit_or (get_or ws i 0) m) 0 lt ∙
+      ap (λ (j : ℕ). bit_or (get_or ws j 0) m) (sym same) in
+      eq-eqb _ _ (ap (λ (w : ℕ). bit_and w (mask_of n)) word ∙ still_set (get_or ws (word_index ws n) 0) m (mask_of n)
+      was))
       (λ (other : word_index ws n ≢ i).
       let word : get_or after (word_index after n) 0 ≡ get_or ws (word_index ws n) 0 =
-      ap (λ (j : ℕ). get_or after j 0) slot ∙ get_or-set_other ws i (word_index ws n) (bit_or (get_or ws i 0) m) 0 other in
+      ap (λ (j : ℕ). get_or after j 0) slot ∙ get_or-set_other ws i (word_index ws n) (bit_or (get_or ws i 0) m) 0
+      other in
       eq-eqb _ _ (ap (λ (w : ℕ). bit_and w (mask_of n)) word ∙ was))
       (cases_eq (word_index ws n) i)
 
@@ -54,11 +59,13 @@ module _ (ws : List ℕ) (i : ℕ) (lt : i < length ws) (m : ℕ) where
 abbrev pub AllHeld : List ℕ → List ℕ → Type 0
 AllHeld ws ns = AllByRecursion (λ n. has_bits ws n ≡ true) ns
 
-pub all_still_held : (ws ws' ns : List ℕ) → ((n : ℕ) → has_bits ws n ≡ true → has_bits ws' n ≡ true) → AllHeld ws ns → AllHeld ws' ns
+pub all_still_held : (ws ws' ns : List ℕ) → ((n : ℕ) → has_bits ws n ≡ true → has_bits ws' n ≡ true) → AllHeld ws ns →
+    AllHeld ws' ns
 all_still_held ws ws' [] up h = tt
 all_still_held ws ws' (n ∷ ns) up h = (up n h.0, all_still_held ws ws' ns up h.1)
 
-pub one_more_held : (ws ns : List ℕ) (i n : ℕ) → i < length ns → n ≡ get_or ns i 0 → has_bits ws n ≡ true → AllHeld ws (take i ns) → AllHeld ws (take (suc i) ns)
+pub one_more_held : (ws ns : List ℕ) (i n : ℕ) → i < length ns → n ≡ get_or ns i 0 → has_bits ws n ≡ true →
+    AllHeld ws (take i ns) → AllHeld ws (take (suc i) ns)
 one_more_held ws [] i n lt e one h = absurd (omega arith)
 one_more_held ws (m ∷ ns) zero n lt e one h = (subst (λ (x : ℕ). has_bits ws x ≡ true) e one, tt)
 one_more_held ws (m ∷ ns) (suc i) n lt e one h = (h.0, one_more_held ws ns i n (omega arith) e one h.1)

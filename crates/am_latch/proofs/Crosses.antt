@@ -4,7 +4,8 @@ use Rattle.std.proofs.alloc.Global.TheSendSync as heap
 use Rattle.std.proofs.marker.PhantomData.TheSendSync as phantom
 use Rattle.std.proofs.sync.Mutex.TheSendSync as mutex
 use denote.RattleType.{RattleType}
-use denote.Param.Send.{IsSend, IsSync, sendable, struct_send, struct_sync, recorded_send, recorded_sync, plain_sync, view_send}
+use denote.Param.Send.{IsSend, IsSync, sendable, struct_send, struct_sync, recorded_send, recorded_sync, plain_sync}
+use denote.Param.Send.{view_send}
 use denote.Struct.Declared as declared
 use Rattle.atomic_table.proofs.badge.Badge.TheSendSync as badge
 use Rattle.atomic_table.proofs.owned.Table.TheSendSync as table
@@ -22,19 +23,38 @@ use Rattle.am_latch.proofs.views.AgreeingViews.TheSendSync as numbered
 use Rattle.am_latch.proofs.receipt.CallId.TheSendSync as call_id
 
 engine_send : IsSend Engine.the_row
-engine_send = search (crosses, sendable, tree_send, store.the_send, step.the_field_send, reply.the_field_send, call_id.the_field_send) depth 60
+engine_send = search (
+  crosses,
+  sendable,
+  tree_send,
+  store.the_send,
+  step.the_field_send,
+  reply.the_field_send,
+  call_id.the_field_send,
+) depth 60
 
 module _ (T : RattleType) (g : latch_name.Ghosts T.Denot) where
   held_send : IsSend (LatchState.the_row T g)
-  held_send = view_send (HeldInside.the_row T g) _ _ _ _ (recorded_send (HeldInside.the_field T g).row _ _ (HeldInside.the_type T g).to_one
-      (struct_send (declared.shape (HeldInside.the_type T g)) (engine_send, (badge.the_send View.the_row, (phantom.the_field_send T, tt)))))
+  held_send = view_send (HeldInside.the_row T g) _ _ _ _
+      (recorded_send (HeldInside.the_field T g).row _ _ (HeldInside.the_type T g).to_one
+      (struct_send (declared.shape (HeldInside.the_type T g))
+      (engine_send, (badge.the_send View.the_row, (phantom.the_field_send T, tt)))))
 
   pub latch_sync : IsSync (Latch.the_row T g)
   latch_sync = recorded_sync (Latch.the_field T g).row _ _ (Latch.the_type T g).to_one
       (struct_sync (declared.shape (Latch.the_type T g)) (
         mutex.the_sync (LatchState.the_row T g) held_send,
         (
-          search (table.the_field_sync, table.the_sync, numbered.the_field_sync, numbered.the_sync, heap.the_sync, heap.the_send, crosses, sendable) depth 40,
+          search (
+            table.the_field_sync,
+            table.the_sync,
+            numbered.the_field_sync,
+            numbered.the_sync,
+            heap.the_sync,
+            heap.the_send,
+            crosses,
+            sendable,
+          ) depth 40,
           (plain_sync _ _ _ _ _, (phantom.the_field_sync T, tt)),
         ),
       ))

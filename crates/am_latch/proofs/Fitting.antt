@@ -1,13 +1,16 @@
 -- Which replies fit which steps.
 use Rattle.std.proofs.Common.{◌≡◌, ◌⊎◌, ℕ, List, true, false, Bool, Option, Some, None, refl, sym, subst, ⊎_elim}
 use Rattle.am_record.specs.declared.step.Op.{Op}
-use Rattle.am_record.specs.declared.step.Op.TheVariants.{Get, Scan, Insert, Replace, Delete, Load, Lock as TakeLock, Mark, Back}
+use Rattle.am_record.specs.declared.step.Op.TheVariants.{Get, Scan, Insert, Replace, Delete, Load, Lock as TakeLock}
+use Rattle.am_record.specs.declared.step.Op.TheVariants.{Mark, Back}
 use Rattle.am_record.specs.declared.step.Step.{Step}
 use Rattle.am_record.specs.declared.step.Step.TheVariants.{Begin, Do, Commit, Abort, Merge, Clean}
 use Rattle.am_record.specs.declared.step.Refusal.{Refusal}
 use Rattle.am_record.specs.declared.step.Refusal.TheVariants.{Busy, TooManyLocks, NoMemory}
 use Rattle.am_record.specs.declared.step.Reply.{Reply}
-use Rattle.am_record.specs.declared.step.Reply.TheVariants.{Begun, Done, Found, Absent, Rows, Exists, Missing, Committed, Aborted, Moved, MergeDone, Ended, Idle, Cleaned, NoMark, Refused}
+use Rattle.am_record.specs.declared.step.Reply.TheVariants.{Begun, Done, Found, Absent, Rows, Exists, Missing}
+use Rattle.am_record.specs.declared.step.Reply.TheVariants.{Committed, Aborted, Moved, MergeDone, Ended, Idle, Cleaned}
+use Rattle.am_record.specs.declared.step.Reply.TheVariants.{NoMark, Refused}
 use Rattle.am_record.specs.Asks.{lock_of}
 use Rattle.am_serial.specs.Trace.{Effect}
 use Rattle.am_record.specs.Refusals.{is_one_too_many}
@@ -60,17 +63,22 @@ answered_fits st op (Cleaned n') a = tt
 answered_fits st op NoMark a = tt
 answered_fits st op (Refused why') a = tt
 
-do_fits : (st : Step) (early : Option Refusal) (full : Bool) (op : Op) (r : Reply) → FormedDo early full op r → IsReplyTo st r
+do_fits : (st : Step) (early : Option Refusal) (full : Bool) (op : Op) (r : Reply) → FormedDo early full op r →
+    IsReplyTo st r
 do_fits st (Some why) full op r f = refused_fits st r why f
-do_fits st None true op r f = ⊎_elim (λ (x : IsBusy r). refused_fits st r (Busy x.0) x.1) (λ (e : r ≡ Refused TooManyLocks). refused_fits st r TooManyLocks e) f
+do_fits st None true op r f = ⊎_elim (λ (x : IsBusy r). refused_fits st r (Busy x.0) x.1)
+    (λ (e : r ≡ Refused TooManyLocks). refused_fits st r TooManyLocks e) f
 do_fits st None false op r f =
     ⊎_elim
     (λ (x : IsBusy r). refused_fits st r (Busy x.0) x.1)
-    (λ (y : (r ≡ Refused NoMemory) ⊎ IsAnswerOf op r). ⊎_elim (λ (e : r ≡ Refused NoMemory). refused_fits st r NoMemory e) (λ (a : IsAnswerOf op r). answered_fits st op r a) y)
+    (λ (y : (r ≡ Refused NoMemory) ⊎ IsAnswerOf op r). ⊎_elim
+    (λ (e : r ≡ Refused NoMemory). refused_fits st r NoMemory e) (λ (a : IsAnswerOf op r). answered_fits st op r a)
+    y)
     f
 
 pub fits_formed : (es : List Effect) (st : Step) (r : Reply) → FormedAt es st r → IsReplyTo st r
-fits_formed es (Do t op) r f = do_fits (Do t op) (due_early (state_at es) t op) (is_one_too_many (locks_in (state_at es).active t) (lock_of op)) op r f
+fits_formed es (Do t op) r f = do_fits (Do t op) (due_early (state_at es) t op)
+    (is_one_too_many (locks_in (state_at es).active t) (lock_of op)) op r f
 fits_formed es Begin (Begun t') f = refl
 fits_formed es Begin Done f = tt
 fits_formed es Begin (Found v') f = tt

@@ -7,10 +7,12 @@ use Rattle.am_latch.specs.declared.views.View.{View}
 use Rattle.am_latch.specs.Changes.{is_stored}
 use Rattle.am_latch.specs.Traces.{CallLog, log_with, StoresCall, AreMadeBelow}
 
-pub grown : (e e' : CallLog) (m : CallId) (st : Step) (r : Reply) → is_stored r ≡ true → StoresCall e m st r e' → e' ≡ log_with e m st r
+pub grown : (e e' : CallLog) (m : CallId) (st : Step) (r : Reply) → is_stored r ≡ true → StoresCall e m st r e' →
+    e' ≡ log_with e m st r
 grown e e' m st r stored step = subst (λ b. MatchBool b (e' ≡ log_with e m st r) (e' ≡ e)) stored step
 
-pub below-snoc : (n : ℕ) (ms : List CallId) (m : CallId) → AreMadeBelow n ms → m.seat < n → AreMadeBelow n (ms ++ m ∷ [])
+pub below-snoc : (n : ℕ) (ms : List CallId) (m : CallId) → AreMadeBelow n ms → m.seat < n →
+    AreMadeBelow n (ms ++ m ∷ [])
 below-snoc n [] m h lt = (lt, tt)
 below-snoc n (x ∷ xs) m h lt = (h.0, below-snoc n xs m h.1 lt)
 

@@ -5,7 +5,9 @@ use Rattle.am_record.specs.declared.step.Step.{Step}
 use Rattle.am_record.specs.declared.step.Step.TheVariants.{Begin, Do, Commit, Abort, Merge, Clean}
 use Rattle.am_record.specs.declared.step.Refusal.{Refusal}
 use Rattle.am_record.specs.declared.step.Reply.{Reply}
-use Rattle.am_record.specs.declared.step.Reply.TheVariants.{Begun, Done, Found, Absent, Rows, Exists, Missing, Committed, Aborted, Moved, MergeDone, Ended, Idle, Cleaned, NoMark, Refused}
+use Rattle.am_record.specs.declared.step.Reply.TheVariants.{Begun, Done, Found, Absent, Rows, Exists, Missing}
+use Rattle.am_record.specs.declared.step.Reply.TheVariants.{Committed, Aborted, Moved, MergeDone, Ended, Idle, Cleaned}
+use Rattle.am_record.specs.declared.step.Reply.TheVariants.{NoMark, Refused}
 use Rattle.am_latch.specs.declared.change.Change.TheVariants.{Begins, Ends, Nothing}
 use Rattle.am_latch.specs.Changes.{change, end_of, is_begin, is_refused, is_stored, room_of}
 

@@ -13,7 +13,8 @@ use denote.Memory.{lone}
 use denote.RawPtr.{Ptr, block_ptr, null_ptr, block_of, count_of, lies_at, room_for, in_block, ◌+ₚ◌}
 use denote.Struct.Struct.{exits_of}
 use denote.Struct.Owning.{shape, fields, to}
-use denote.Param.Send.{IsSend, IsSync, Quiet, Common, part_keyless, AllSend, AllSync, owning_send, struct_send, struct_sync, array_send, array_sync, view_send, view_sync, sendable}
+use denote.Param.Send.{IsSend, IsSync, Quiet, Common, part_keyless, AllSend, AllSync, owning_send, struct_send}
+use denote.Param.Send.{struct_sync, array_send, array_sync, view_send, view_sync, sendable}
 use Rattle.std.proofs.Crossing.{frees}
 use Rattle.std.proofs.alloc.Global.TheSendSync as handle
 use Rattle.std.specs.declared.alloc.Global.{Global}
@@ -43,20 +44,34 @@ module _ (R : RattleType) where
     tt,
     inside-Keyless p _ (
       lies-Keyless (Array R (length xs)) (array_send R (length xs) s) p xs,
-      (room-Keyless (raw (ty_array (lone R.mir) (32 - length xs))) (p +ₚ length xs * type_size R), frees.frees g (raw (ty_array (lone R.mir) 32)) p),
+      (
+        room-Keyless (raw (ty_array (lone R.mir) (32 - length xs))) (p +ₚ length xs * type_size R),
+        frees.frees g (raw (ty_array (lone R.mir) 32)) p,
+      ),
     ),
   )
 
   lends-Common : IsSync R → (p : Ptr) (xs : List R.Denot) → Common (block_lends R p xs)
-  lends-Common y p xs κ = (tt, (inside-Keyless p ftrue tt, (array_sync R (length xs) y).shared xs (block_of p) (count_of p) κ))
+  lends-Common y p xs κ = (
+    tt,
+    (
+      inside-Keyless p ftrue tt,
+      (array_sync R (length xs) y).shared xs (block_of p)
+          (count_of p) κ,
+    ),
+  )
 
   pub Block-send : IsSend R → IsSend (Block.the_row R)
   Block-send s =
       let O = Inside.the_type R in let all : AllSend (fields O) = (search sendable, (handle.the_field_send, tt)) in
-      view_send _ _ _ _ _ (owning_send O all (λ d. owns-Keyless s d.alloc d.at d.values) (λ k. quiet (to O) (exits_of k (fields O)) ((struct_send (shape O) all).leaving k)))
+      view_send _ _ _ _ _ (owning_send O all (λ d. owns-Keyless s d.alloc d.at d.values)
+      (λ k. quiet (to O) (exits_of k (fields O)) ((struct_send (shape O) all).leaving k)))
 
   pub Block-sync : IsSync R → IsSync (Block.the_row R)
   Block-sync y =
       let O = Inside.the_type R in let all : AllSync (fields O) = (search sendable, (handle.the_field_sync, tt)) in
-      let inside : IsSync (Inside.the_row R) = record { shared = λ d b o κ. ((struct_sync (shape O) all).shared (to O d) b o κ, lends-Common y d.at d.values κ) } in
+      let inside : IsSync (Inside.the_row R) = record {
+        shared = λ d b o κ.
+            ((struct_sync (shape O) all).shared (to O d) b o κ, lends-Common y d.at d.values κ);
+      } in
       view_sync _ _ _ _ _ inside

@@ -1,5 +1,6 @@
 -- What a batch takes of the entries of a partition from a key on.
-use Rattle.std.proofs.Common.{◌≡◌, ◌≢◌, ℕ, zero, suc, ◌+◌, ◌<◌, ◌≤◌, add-one, Bool, true, false, ◌&&◌, eqb, List, [], ◌∷◌, ◌++◌, length, get_or, take, drop, refl, sym, ap, ◌∙◌, subst, ⊎_elim, arith}
+use Rattle.std.proofs.Common.{◌≡◌, ◌≢◌, ℕ, zero, suc, ◌+◌, ◌<◌, ◌≤◌, add-one, Bool, true, false, ◌&&◌, eqb, List, []}
+use Rattle.std.proofs.Common.{◌∷◌, ◌++◌, length, get_or, take, drop, refl, sym, ap, ◌∙◌, subst, ⊎_elim, arith}
 use Rattle.std.proofs.Math.Seq.{drop-cons}
 use Rattle.std.proofs.lemmas.List.Sums.{take_while-cons}
 use Rattle.std.proofs.lemmas.Bool.{cond-true, cond-false, cases_Bool, and_from, and_right}
@@ -37,19 +38,22 @@ take_both zero xs ys = refl
 take_both (suc n) [] ys = refl
 take_both (suc n) (x ∷ xs) ys = ap (λ l. x ∷ l) (take_both n xs ys)
 
-module _ {X : Type 0} (test : X → Bool) (xs : List X) (i : ℕ) (x : X) (within : i < length xs) (here : x ≡ get_or xs i x) where
+module _ {X : Type 0} (test : X → Bool) (xs : List X) (i : ℕ) (x : X) (within : i < length xs)
+    (here : x ≡ get_or xs i x) where
   rest_is : drop i xs ≡ x ∷ drop (suc i) xs
   rest_is = drop-cons xs i x within ∙ ap (λ y. y ∷ drop (suc i) xs) (sym here)
 
   -- the front that passes the test goes on
   pub passes_on : test x ≡ true → take_while test (drop i xs) ≡ x ∷ take_while test (drop (i + 1) xs)
   passes_on h =
-      ap (take_while test) rest_is ∙ take_while-cons test x (drop (suc i) xs) ∙ cond-true (test x) (x ∷ take_while test (drop (suc i) xs)) [] h
+      ap (take_while test) rest_is ∙ take_while-cons test x (drop (suc i) xs) ∙
+      cond-true (test x) (x ∷ take_while test (drop (suc i) xs)) [] h
       ∙ ap (λ k. x ∷ take_while test (drop k xs)) (sym (add-one i))
 
   -- and ends
   pub ends_here : test x ≡ false → take_while test (drop i xs) ≡ []
-  ends_here h = ap (take_while test) rest_is ∙ take_while-cons test x (drop (suc i) xs) ∙ cond-false (test x) (x ∷ take_while test (drop (suc i) xs)) [] h
+  ends_here h = ap (take_while test) rest_is ∙ take_while-cons test x (drop (suc i) xs) ∙
+      cond-false (test x) (x ∷ take_while test (drop (suc i) xs)) [] h
 
 filter_none : (test : Entry → Bool) (xs : List Entry) → AllByRecursion (λ e. test e ≡ false) xs → filter test xs ≡ []
 filter_none test [] none = refl
@@ -74,24 +78,33 @@ module _ (part : ℕ) (key : OrderedKey) (reached : Ordering → Bool) where
   all_reached-append xs ys = filter-append (λ e. in_part e && reached (c e)) xs ys
 
   pub all_reached_none : (xs : List Entry) → AllByRecursion (λ e. reached (c e) ≡ false) xs → all_reached xs ≡ []
-  all_reached_none xs b = filter_none (λ e. in_part e && reached (c e)) xs (AllByRecursion-map (λ e. reached (c e) ≡ false) (λ e. (in_part e && reached (c e)) ≡ false) (λ e h. and_right (in_part e) (reached (c e)) h) xs b)
+  all_reached_none xs b = filter_none (λ e. in_part e && reached (c e)) xs
+      (AllByRecursion-map (λ e. reached (c e) ≡ false) (λ e. (in_part e && reached (c e)) ≡ false)
+      (λ e h. and_right (in_part e) (reached (c e)) h) xs b)
 
   pub all_reached_others : (xs : List Entry) → AllByRecursion (λ e. e.part ≢ part) xs → all_reached xs ≡ []
-  all_reached_others xs others = filter_none (λ e. in_part e && reached (c e)) xs (AllByRecursion-map (λ e. e.part ≢ part) (λ e. (in_part e && reached (c e)) ≡ false) (λ e h. other_part part key (λ f. reached (c f)) e h) xs others)
+  all_reached_others xs others = filter_none (λ e. in_part e && reached (c e)) xs
+      (AllByRecursion-map (λ e. e.part ≢ part) (λ e. (in_part e && reached (c e)) ≡ false)
+      (λ e h. other_part part key (λ f. reached (c f)) e h) xs others)
 
   -- of entries that are all reached, and not below the key, they are those with which the list begins
-  pub all_reached_front : (ys : List Entry) → IsRising ys → AllByRecursion (λ e. reached (c e) ≡ true) ys → NoneBelow p ys → take_while in_part ys ≡ all_reached ys
+  pub all_reached_front : (ys : List Entry) → IsRising ys → AllByRecursion (λ e. reached (c e) ≡ true) ys →
+      NoneBelow p ys → take_while in_part ys ≡ all_reached ys
   all_reached_front [] rising all from = refl
   all_reached_front (y ∷ ys) rising all from =
       ⊎_elim
       (λ same.
-      take_while-cons in_part y ys ∙ cond-true (in_part y) (y ∷ take_while in_part ys) [] same ∙ ap (λ l. y ∷ l) (all_reached_front ys rising.1 all.1 from.1)
-      ∙ sym (cond-true (in_part y && reached (c y)) (y ∷ all_reached ys) (all_reached ys) (and_from (in_part y) (reached (c y)) same all.0)))
+      take_while-cons in_part y ys ∙ cond-true (in_part y) (y ∷ take_while in_part ys) [] same ∙
+      ap (λ l. y ∷ l) (all_reached_front ys rising.1 all.1 from.1)
+      ∙ sym (cond-true (in_part y && reached (c y)) (y ∷ all_reached ys) (all_reached ys)
+      (and_from (in_part y) (reached (c y)) same all.0)))
       (λ other.
-      take_while-cons in_part y ys ∙ cond-false (in_part y) (y ∷ take_while in_part ys) [] other ∙ sym (all_reached_others (y ∷ ys) (later_parts part key y ys from.0 (differ y.part part other) rising)))
+      take_while-cons in_part y ys ∙ cond-false (in_part y) (y ∷ take_while in_part ys) [] other ∙
+      sym (all_reached_others (y ∷ ys) (later_parts part key y ys from.0 (differ y.part part other) rising)))
       (cases_Bool (in_part y))
 
-  all_reached_at : (es : List Entry) (i : ℕ) → AllByRecursion (λ e. reached (c e) ≡ false) (take i es) → AllByRecursion (λ e. reached (c e) ≡ true) (drop i es) → NoneBelow p (drop i es) → IsRising es
+  all_reached_at : (es : List Entry) (i : ℕ) → AllByRecursion (λ e. reached (c e) ≡ false) (take i es) →
+      AllByRecursion (λ e. reached (c e) ≡ true) (drop i es) → NoneBelow p (drop i es) → IsRising es
       → take_while in_part (drop i es) ≡ all_reached es
   all_reached_at es i none all from rising =
       let whole : take i es ++ drop i es ≡ es = take-append-drop i es in
@@ -108,19 +121,29 @@ module _ (part : ℕ) (key : OrderedKey) where
   against e = place_cmp (place_of e) (part, key)
 
   none_below : (ys : List Entry) → AllAbove (part, key) ys → NoneBelow (part, key) ys
-  none_below ys above = AllByRecursion-map (λ e. against e ≡ Greater) (λ e. against e ≢ Less) (λ e h. above_not_less (against e) h) ys above
+  none_below ys above = AllByRecursion-map (λ e. against e ≡ Greater) (λ e. against e ≢ Less)
+      (λ e h. above_not_less (against e) h) ys above
 
-  pub all_after_front : (ys : List Entry) → IsRising ys → AllAbove (part, key) ys → take_while (λ e. eqb e.part part) ys ≡ all_after ys part key
-  all_after_front ys rising above = all_reached_front part key is_gt ys rising (AllByRecursion-map (λ e. against e ≡ Greater) (λ e. is_gt (against e) ≡ true) (λ e h. ap is_gt h) ys above) (none_below ys above)
+  pub all_after_front : (ys : List Entry) → IsRising ys → AllAbove (part, key) ys →
+      take_while (λ e. eqb e.part part) ys ≡ all_after ys part key
+  all_after_front ys rising above = all_reached_front part key is_gt ys rising
+      (AllByRecursion-map (λ e. against e ≡ Greater) (λ e. is_gt (against e) ≡ true) (λ e h. ap is_gt h) ys above)
+      (none_below ys above)
 
-  pub all_after_at : (es : List Entry) (i : ℕ) → IsUpperBound es part key i → IsRising es → take_while (λ e. eqb e.part part) (drop i es) ≡ all_after es part key
+  pub all_after_at : (es : List Entry) (i : ℕ) → IsUpperBound es part key i → IsRising es →
+      take_while (λ e. eqb e.part part) (drop i es) ≡ all_after es part key
   all_after_at es i bound rising =
       all_reached_at part key is_gt es i
-      (AllByRecursion-map (λ e. against e ≢ Greater) (λ e. is_gt (against e) ≡ false) (λ e h. not_greater (against e) h) (take i es) bound.others)
-      (AllByRecursion-map (λ e. against e ≡ Greater) (λ e. is_gt (against e) ≡ true) (λ e h. ap is_gt h) (drop i es) bound.above) (none_below (drop i es) bound.above) rising
+      (AllByRecursion-map (λ e. against e ≢ Greater) (λ e. is_gt (against e) ≡ false) (λ e h. not_greater (against e) h)
+      (take i es) bound.others)
+      (AllByRecursion-map (λ e. against e ≡ Greater) (λ e. is_gt (against e) ≡ true) (λ e h. ap is_gt h) (drop i es)
+      bound.above) (none_below (drop i es) bound.above) rising
 
-  pub all_from_at : (es : List Entry) (i : ℕ) → IsLowerBound es part key i → IsRising es → take_while (λ e. eqb e.part part) (drop i es) ≡ all_from es part key
+  pub all_from_at : (es : List Entry) (i : ℕ) → IsLowerBound es part key i → IsRising es →
+      take_while (λ e. eqb e.part part) (drop i es) ≡ all_from es part key
   all_from_at es i bound rising =
       all_reached_at part key is_ge es i
-      (AllByRecursion-map (λ e. against e ≡ Less) (λ e. is_ge (against e) ≡ false) (λ e h. ap is_ge h) (take i es) bound.below)
-      (AllByRecursion-map (λ e. against e ≢ Less) (λ e. is_ge (against e) ≡ true) (λ e h. not_less (against e) h) (drop i es) bound.others) bound.others rising
+      (AllByRecursion-map (λ e. against e ≡ Less) (λ e. is_ge (against e) ≡ false) (λ e h. ap is_ge h) (take i es)
+      bound.below)
+      (AllByRecursion-map (λ e. against e ≢ Less) (λ e. is_ge (against e) ≡ true) (λ e h. not_less (against e) h)
+      (drop i es) bound.others) bound.others rising

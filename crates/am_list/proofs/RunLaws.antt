@@ -17,33 +17,44 @@ use Rattle.am_list.proofs.Content.{all_found}
 use Rattle.am_list.specs.Runs.{live_entry, with_run, NothingAbove, RunLaws}
 
 module _ (run : ℕ) where
-  other_parts : (pairs : Records) (es : List Entry) (part : ℕ) (key : OrderedKey) → (part == run) ≡ false → find (with_run run pairs es) part key ≡ find es part key
+  other_parts : (pairs : Records) (es : List Entry) (part : ℕ) (key : OrderedKey) → (part == run) ≡ false →
+      find (with_run run pairs es) part key ≡ find es part key
   other_parts [] es part key other = refl
   other_parts (r ∷ rs) es part key other =
       other_parts rs (insert_entry es (live_entry run r)) part key other
-      ∙ ap (option_map slot_of) (entry_at_beside_inserted es (live_entry run r) part key (other_part run part r.0 key (λ same. true≢false (sym (ap (λ n. n == run) (sym same) ∙ nat_eq_equiv.refl run) ∙ other))))
+      ∙ ap (option_map slot_of) (entry_at_beside_inserted es (live_entry run r) part key
+      (other_part run part r.0 key (λ same. true≢false
+      (sym (ap (λ n. n == run) (sym same) ∙ nat_eq_equiv.refl run) ∙ other))))
 
   apart : (key key' : OrderedKey) → eq_by_cmp key_cmp key key' ≡ false → key' ≢ key
   apart key key' h same = true≢false (sym (ap is_eq (ap (key_cmp key) same ∙ key_cmp-itself key)) ∙ h)
 
-  other_keys : (pairs : Records) (es : List Entry) (key : OrderedKey) → is_key_of pairs key ≡ false → find (with_run run pairs es) run key ≡ find es run key
+  other_keys : (pairs : Records) (es : List Entry) (key : OrderedKey) → is_key_of pairs key ≡ false →
+      find (with_run run pairs es) run key ≡ find es run key
   other_keys [] es key none = refl
   other_keys (r ∷ rs) es key none =
       let both = or_parts (eq_by_cmp key_cmp key r.0) (is_key_of rs key) none in
       other_keys rs (insert_entry es (live_entry run r)) key both.1
-      ∙ ap (option_map slot_of) (entry_at_beside_inserted es (live_entry run r) run key (other_key run run r.0 key (apart key r.0 both.0)))
+      ∙ ap (option_map slot_of) (entry_at_beside_inserted es (live_entry run r) run key
+      (other_key run run r.0 key (apart key r.0 both.0)))
 
-pub none_above : {part : ℕ} {es : List Entry} → NothingAbove part es → (part' : ℕ) (key : OrderedKey) → part < part' → find es part' key ≡ None
+pub none_above : {part : ℕ} {es : List Entry} → NothingAbove part es → (part' : ℕ) (key : OrderedKey) → part < part' →
+    find es part' key ≡ None
 none_above {part} {es} h part' key above = absent es h.all
   where
     absent : (es : List Entry) → AllByRecursion (λ e. e.part ≤ part) es → find es part' key ≡ None
     absent [] h = refl
     absent (e ∷ es) h =
-        let other : e.part ≢ part' = λ same. let low : e.part ≤ part = h.0 in absurd (omega (arith, low, above, same)) in
+        let other : e.part ≢ part' = λ same. let low : e.part ≤ part = h.0 in
+        absurd (omega (arith, low, above, same)) in
         find-miss part' key e es (other_part e.part part' e.key key other) ∙ absent es h.1
 
-nothing_above : (es : List Entry) → IsRising es → (part : ℕ) → ((part' : ℕ) (key : OrderedKey) → part < part' → find es part' key ≡ None) → NothingAbove part es
-nothing_above es rising part none = record { all = AllByRecursion-map (λ e. entry_at es e.part e.key ≡ Some e) (λ e. e.part ≤ part) low es (all_found es rising) }
+nothing_above : (es : List Entry) → IsRising es → (part : ℕ) →
+    ((part' : ℕ) (key : OrderedKey) → part < part' → find es part' key ≡ None) → NothingAbove part es
+nothing_above es rising part none = record {
+  all = AllByRecursion-map (λ e. entry_at es e.part e.key ≡ Some e)
+      (λ e. e.part ≤ part) low es (all_found es rising);
+}
   where
     low : (e : Entry) → entry_at es e.part e.key ≡ Some e → e.part ≤ part
     low e found = omega (arith, high)

@@ -1,5 +1,7 @@
 -- Seats and places, in order.
-use Rattle.std.proofs.Common.{◌≡◌, ℕ, zero, suc, ◌+◌, ◌<◌, List, [], ◌∷◌, ◌++◌, length, get_or, ap, sym, ◌∙◌, refl, arith, append_assoc, length-append, append-nil, subst, Option, Some, None, All, Bool, true, false, nat_lt}
+use Rattle.std.proofs.Common.{◌≡◌, ℕ, zero, suc, ◌+◌, ◌<◌, List, [], ◌∷◌, ◌++◌, length, get_or, ap, sym, ◌∙◌, refl}
+use Rattle.std.proofs.Common.{arith, append_assoc, length-append, append-nil, subst, Option, Some, None, All, Bool}
+use Rattle.std.proofs.Common.{true, false, nat_lt}
 use Rattle.std.specs.Prelude.{slice_get}
 use Rattle.std.specs.List.{AllZip}
 use Rattle.std.proofs.lemmas.List.{map-append, length-map}
@@ -13,23 +15,31 @@ use Rattle.am_latch.specs.Receipts.{SeatState, new_seat, numbered, AreAll}
 use Rattle.am_latch.specs.Ties.{open_of}
 use Rattle.am_seating.specs.SessionSeats.{SessionSeatState, HasDrawn, open_at}
 use Rattle.am_workers.specs.Turns.{HasTakenTurns}
-use Rattle.am_listen.specs.ServerRuns.{seat_numbers, session_seat_numbers, latch_seats, HasSameSeat, WasServed, HasServed, HasNewSeat, IsNewSeat, IsOfSession, IsOfWorker}
+use Rattle.am_listen.specs.ServerRuns.{seat_numbers, session_seat_numbers, latch_seats, HasSameSeat, WasServed}
+use Rattle.am_listen.specs.ServerRuns.{HasServed, HasNewSeat, IsNewSeat, IsOfSession, IsOfWorker}
 
-pub all_zip : (xs ys : List SessionSeatState) → length ys ≡ length xs → ((i : ℕ) (d : SessionSeatState) → i < length xs → HasServed (get_or xs i d) (get_or ys i d)) → AllZip HasServed xs ys
+pub all_zip : (xs ys : List SessionSeatState) → length ys ≡ length xs →
+    ((i : ℕ) (d : SessionSeatState) → i < length xs → HasServed (get_or xs i d) (get_or ys i d)) →
+    AllZip HasServed xs ys
 all_zip [] [] e h = tt
 all_zip [] (y ∷ ys) e h = absurd (omega (arith, e))
 all_zip (x ∷ xs) [] e h = absurd (omega (arith, e))
-all_zip (x ∷ xs) (y ∷ ys) e h = (h 0 x (omega arith), all_zip xs ys (omega (arith, e)) (λ i d lt. h (suc i) d (omega arith)))
+all_zip (x ∷ xs) (y ∷ ys) e h = (
+  h 0 x (omega arith),
+  all_zip xs ys (omega (arith, e)) (λ i d lt. h (suc i) d (omega arith)),
+)
 
 -- ---- numbers stay
 
-pub same_seats : (xs ys : List SessionSeatState) → AllZip HasServed xs ys → session_seat_numbers ys ≡ session_seat_numbers xs
+pub same_seats : (xs ys : List SessionSeatState) → AllZip HasServed xs ys →
+    session_seat_numbers ys ≡ session_seat_numbers xs
 same_seats [] [] h = refl
 same_seats [] (y ∷ ys) h = absurd h
 same_seats (x ∷ xs) [] h = absurd h
 same_seats (x ∷ xs) (y ∷ ys) h = λ i. h.0.same i ∷ same_seats xs ys h.1 i
 
-pub same_turned : (limit n : ℕ) (xs ys : List SeatState) → AllZip (HasTakenTurns limit n) xs ys → seat_numbers ys ≡ seat_numbers xs
+pub same_turned : (limit n : ℕ) (xs ys : List SeatState) → AllZip (HasTakenTurns limit n) xs ys →
+    seat_numbers ys ≡ seat_numbers xs
 same_turned limit n [] [] h = refl
 same_turned limit n [] (y ∷ ys) h = absurd h
 same_turned limit n (x ∷ xs) [] h = absurd h
@@ -42,13 +52,25 @@ pub count_places : (xs : List SessionSeatState) → length (session_seat_numbers
 count_places xs = length-map xs (λ (p : SessionSeatState). p.seat.number)
 
 -- what went to the sessions and the workers came back
-pub all_back : (limit n : ℕ) (session_seats placed : List SessionSeatState) (worker_seats worked seats : List SeatState) → AllZip HasServed session_seats placed → AllZip (HasTakenTurns limit n) worker_seats worked
-    → session_seat_numbers session_seats ++ seat_numbers worker_seats ≡ seat_numbers seats → session_seat_numbers placed ++ seat_numbers worked ≡ seat_numbers seats
-all_back limit n session_seats placed worker_seats worked seats sat worked_on e = (λ i. same_seats session_seats placed sat i ++ same_turned limit n worker_seats worked worked_on i) ∙ e
+pub all_back : (limit n : ℕ) (session_seats placed : List SessionSeatState)
+    (worker_seats worked seats : List SeatState) → AllZip HasServed session_seats placed →
+    AllZip (HasTakenTurns limit n) worker_seats worked
+    → session_seat_numbers session_seats ++ seat_numbers worker_seats ≡ seat_numbers seats →
+    session_seat_numbers placed ++ seat_numbers worked ≡ seat_numbers seats
+all_back limit n session_seats placed worker_seats worked seats sat worked_on e =
+    (λ i. same_seats session_seats placed sat i ++ same_turned limit n worker_seats worked worked_on i) ∙ e
 
-pub count_back : (placed : List SessionSeatState) (worked seats : List SeatState) → session_seat_numbers placed ++ seat_numbers worked ≡ seat_numbers seats → length placed + length worked ≡ length seats
+pub count_back : (placed : List SessionSeatState) (worked seats : List SeatState) → session_seat_numbers placed ++
+    seat_numbers worked ≡ seat_numbers seats → length placed + length worked ≡ length seats
 count_back placed worked seats e =
-    omega (arith, count_places placed, count_seats worked, count_seats seats, length-append (session_seat_numbers placed) (seat_numbers worked), ap length e)
+    omega (
+      arith,
+      count_places placed,
+      count_seats worked,
+      count_seats seats,
+      length-append (session_seat_numbers placed) (seat_numbers worked),
+      ap length e,
+    )
 
 -- ---- new seats
 
@@ -60,17 +82,20 @@ length-numbered : (n : ℕ) → length (numbered n) ≡ n
 length-numbered zero = refl
 length-numbered (suc n) = omega (arith, length-numbered n, length-append (numbered n) (new_seat n ∷ []))
 
-seat_numbers-snoc : (xs : List SeatState) (x : SeatState) → seat_numbers (xs ++ x ∷ []) ≡ seat_numbers xs ++ x.number ∷ []
+seat_numbers-snoc : (xs : List SeatState) (x : SeatState) → seat_numbers (xs ++ x ∷ []) ≡ seat_numbers xs ++
+    x.number ∷ []
 seat_numbers-snoc xs x = map-append (λ (s : SeatState). s.number) xs (x ∷ [])
 
 -- ---- what holds of all holds of fewer
 
 pub all_init : {X : Type 0} (P : X → Type 0) (xs ys zs : List X) → zs ≡ xs ++ ys → All P zs → All P xs
 all_init P xs ys zs e h = λ k d lt.
-    subst P (ap (λ l. get_or l k d) e ∙ get_or-append xs ys d k lt) (h k d (omega (arith, lt, length-append xs ys, ap length e)))
+    subst P (ap (λ l. get_or l k d) e ∙ get_or-append xs ys d k lt)
+    (h k d (omega (arith, lt, length-append xs ys, ap length e)))
 
 pub all_rest : {X : Type 0} (P : X → Type 0) (x : X) (xs zs : List X) → zs ≡ x ∷ xs → All P zs → All P xs
-all_rest P x xs zs e h = λ k d lt. subst P (ap (λ l. get_or l (suc k) d) e) (h (suc k) d (omega (arith, lt, ap length e)))
+all_rest P x xs zs e h = λ k d lt. subst P (ap (λ l. get_or l (suc k) d) e)
+    (h (suc k) d (omega (arith, lt, ap length e)))
 
 pub all_first : {X : Type 0} (P : X → Type 0) (x : X) (xs zs : List X) → zs ≡ x ∷ xs → All P zs → P x
 all_first P x xs zs e h = subst P (ap (λ l. get_or l 0 x) e) (h 0 x (omega (arith, ap length e)))
@@ -81,26 +106,42 @@ pub none_there : (xs : List SeatState) → length xs ≡ 0 → xs ≡ []
 none_there [] e = refl
 none_there (x ∷ xs) e = absurd (omega (arith, e))
 
-pub place_more : (session_seats : List SessionSeatState) (p : SessionSeatState) (worker_seats rest rest' all : List SeatState) → worker_seats ≡ [] → rest ≡ p.seat ∷ rest'
-    → (session_seat_numbers session_seats ++ seat_numbers worker_seats) ++ seat_numbers rest ≡ seat_numbers all → (session_seat_numbers (session_seats ++ p ∷ []) ++ seat_numbers worker_seats) ++ seat_numbers rest' ≡ seat_numbers all
+pub place_more : (session_seats : List SessionSeatState) (p : SessionSeatState)
+    (worker_seats rest rest' all : List SeatState) → worker_seats ≡ [] → rest ≡ p.seat ∷ rest'
+    → (session_seat_numbers session_seats ++ seat_numbers worker_seats) ++ seat_numbers rest ≡ seat_numbers all →
+    (session_seat_numbers (session_seats ++ p ∷ []) ++ seat_numbers worker_seats) ++
+    seat_numbers rest' ≡ seat_numbers all
 place_more session_seats p worker_seats rest rest' all none next e =
-    ap (λ (w : List SeatState). (session_seat_numbers (session_seats ++ p ∷ []) ++ seat_numbers w) ++ seat_numbers rest') none
+    ap (λ (w : List SeatState). (session_seat_numbers (session_seats ++ p ∷ []) ++ seat_numbers w) ++
+    seat_numbers rest') none
     ∙ ap (λ (l : List ℕ). l ++ seat_numbers rest') (append-nil (session_seat_numbers (session_seats ++ p ∷ [])))
-    ∙ ap (λ (l : List ℕ). l ++ seat_numbers rest') (map-append (λ (q : SessionSeatState). q.seat.number) session_seats (p ∷ []))
+    ∙ ap (λ (l : List ℕ). l ++ seat_numbers rest') (map-append (λ (q : SessionSeatState). q.seat.number) session_seats
+    (p ∷ []))
     ∙ append_assoc (session_seat_numbers session_seats) (p.seat.number ∷ []) (seat_numbers rest')
-    ∙ ap (λ (l : List ℕ). l ++ p.seat.number ∷ seat_numbers rest') (sym (append-nil (session_seat_numbers session_seats)))
-    ∙ ap (λ (w : List SeatState). (session_seat_numbers session_seats ++ seat_numbers w) ++ p.seat.number ∷ seat_numbers rest') (sym none)
-    ∙ ap (λ (r : List SeatState). (session_seat_numbers session_seats ++ seat_numbers worker_seats) ++ seat_numbers r) (sym next)
+    ∙ ap (λ (l : List ℕ). l ++ p.seat.number ∷ seat_numbers rest')
+    (sym (append-nil (session_seat_numbers session_seats)))
+    ∙ ap (λ (w : List SeatState). (session_seat_numbers session_seats ++ seat_numbers w) ++
+    p.seat.number ∷ seat_numbers rest') (sym none)
+    ∙ ap (λ (r : List SeatState). (session_seat_numbers session_seats ++ seat_numbers worker_seats) ++ seat_numbers r)
+    (sym next)
     ∙ e
 
-pub worker_more : (session_seats : List SessionSeatState) (s : SeatState) (worker_seats rest rest' all : List SeatState) → rest ≡ s ∷ rest'
-    → (session_seat_numbers session_seats ++ seat_numbers worker_seats) ++ seat_numbers rest ≡ seat_numbers all → (session_seat_numbers session_seats ++ seat_numbers (worker_seats ++ s ∷ [])) ++ seat_numbers rest' ≡ seat_numbers all
+pub worker_more : (session_seats : List SessionSeatState) (s : SeatState)
+    (worker_seats rest rest' all : List SeatState) → rest ≡ s ∷ rest'
+    → (session_seat_numbers session_seats ++ seat_numbers worker_seats) ++ seat_numbers rest ≡ seat_numbers all →
+    (session_seat_numbers session_seats ++ seat_numbers (worker_seats ++ s ∷ [])) ++
+    seat_numbers rest' ≡ seat_numbers all
 worker_more session_seats s worker_seats rest rest' all next e =
-    ap (λ (l : List ℕ). (session_seat_numbers session_seats ++ l) ++ seat_numbers rest') (seat_numbers-snoc worker_seats s)
-    ∙ append_assoc (session_seat_numbers session_seats) (seat_numbers worker_seats ++ s.number ∷ []) (seat_numbers rest')
-    ∙ ap (λ (l : List ℕ). session_seat_numbers session_seats ++ l) (append_assoc (seat_numbers worker_seats) (s.number ∷ []) (seat_numbers rest'))
-    ∙ sym (append_assoc (session_seat_numbers session_seats) (seat_numbers worker_seats) (s.number ∷ seat_numbers rest'))
-    ∙ ap (λ (r : List SeatState). (session_seat_numbers session_seats ++ seat_numbers worker_seats) ++ seat_numbers r) (sym next)
+    ap (λ (l : List ℕ). (session_seat_numbers session_seats ++ l) ++ seat_numbers rest')
+    (seat_numbers-snoc worker_seats s)
+    ∙ append_assoc (session_seat_numbers session_seats) (seat_numbers worker_seats ++ s.number ∷ [])
+    (seat_numbers rest')
+    ∙ ap (λ (l : List ℕ). session_seat_numbers session_seats ++ l)
+    (append_assoc (seat_numbers worker_seats) (s.number ∷ []) (seat_numbers rest'))
+    ∙ sym (append_assoc (session_seat_numbers session_seats) (seat_numbers worker_seats)
+    (s.number ∷ seat_numbers rest'))
+    ∙ ap (λ (r : List SeatState). (session_seat_numbers session_seats ++ seat_numbers worker_seats) ++ seat_numbers r)
+    (sym next)
     ∙ e
 
 -- ---- a session's number is drawn, and the session served
@@ -112,8 +153,14 @@ drew_seat old new false h = ap (λ (p : SessionSeatState). p.seat) h.1
 pub idle_there : (old new : SessionSeatState) → new.seat ≡ old.seat → HasNewSeat old → open_at new ≡ None
 idle_there old new same empty = ap (λ (s : SeatState). open_of s.receipts) same ∙ ap open_of empty
 
-pub served_there : (old drawn new : SessionSeatState) → drawn.seat ≡ old.seat → HasSameSeat drawn new → WasServed drawn new → HasServed old new
-served_there old drawn new same kept served = record { same = kept ∙ ap (λ (s : SeatState). s.number) same; drawn = drawn; seat = same; served = served }
+pub served_there : (old drawn new : SessionSeatState) → drawn.seat ≡ old.seat → HasSameSeat drawn new →
+    WasServed drawn new → HasServed old new
+served_there old drawn new same kept served = record {
+  same = kept ∙ ap (λ (s : SeatState). s.number) same;
+  drawn = drawn;
+  seat = same;
+  served = served;
+}
 
 -- ---- what each seat is left with
 
@@ -122,16 +169,24 @@ all_of_sessions [] [] h new = All-nil IsOfSession
 all_of_sessions [] (y ∷ ys) h new = absurd h
 all_of_sessions (x ∷ xs) [] h new = absurd h
 all_of_sessions (x ∷ xs) (y ∷ ys) h new =
-    All-cons IsOfSession y ys (h.0.drawn, ap (λ (s : SeatState). s.receipts) h.0.seat ∙ all_first HasNewSeat x xs (x ∷ xs) refl new, h.0.served)
+    All-cons IsOfSession y ys (
+      h.0.drawn,
+      ap (λ (s : SeatState). s.receipts) h.0.seat ∙
+          all_first HasNewSeat x xs (x ∷ xs) refl new,
+      h.0.served,
+    )
     (all_of_sessions xs ys h.1 (all_rest HasNewSeat x xs (x ∷ xs) refl new))
 
-pub all_of_workers : (n : ℕ) (xs ys : List SeatState) → AllZip (HasTakenTurns 16 n) xs ys → All IsNewSeat xs → All IsOfWorker ys
+pub all_of_workers : (n : ℕ) (xs ys : List SeatState) → AllZip (HasTakenTurns 16 n) xs ys → All IsNewSeat xs →
+    All IsOfWorker ys
 all_of_workers n [] [] h new = All-nil IsOfWorker
 all_of_workers n [] (y ∷ ys) h new = absurd h
 all_of_workers n (x ∷ xs) [] h new = absurd h
 all_of_workers n (x ∷ xs) (y ∷ ys) h new =
     All-cons IsOfWorker y ys
-    (subst (λ (rs : List Receipt). All (λ (r : Receipt). r.step ≡ Merge 16) rs) (sym (h.0.longer ∙ ap (λ (l : List Receipt). l ++ h.0.more) (all_first IsNewSeat x xs (x ∷ xs) refl new))) h.0.merges)
+    (subst (λ (rs : List Receipt). All (λ (r : Receipt). r.step ≡ Merge 16) rs)
+    (sym (h.0.longer ∙ ap (λ (l : List Receipt). l ++ h.0.more) (all_first IsNewSeat x xs (x ∷ xs) refl new)))
+    h.0.merges)
     (all_of_workers n xs ys h.1 (all_rest IsNewSeat x xs (x ∷ xs) refl new))
 
 -- ---- all seats of a latch
@@ -141,11 +196,15 @@ latch_numbers [] = refl
 latch_numbers (p ∷ ps) = ap (λ (l : List ℕ). p.seat.number ∷ l) (latch_numbers ps)
 
 -- the seats that were closed are those of the sessions, and behind them those of the workers
-pub joined_seats : (all taken before worked : List SeatState) (placed : List SessionSeatState) → all ≡ taken ++ worked → taken ≡ before ++ latch_seats placed → before ≡ [] → all ≡ latch_seats placed ++ worked
-joined_seats all taken before worked placed joined sat none = joined ∙ ap (λ (l : List SeatState). l ++ worked) (sat ∙ ap (λ (b : List SeatState). b ++ latch_seats placed) none)
+pub joined_seats : (all taken before worked : List SeatState) (placed : List SessionSeatState) → all ≡ taken ++ worked →
+    taken ≡ before ++ latch_seats placed → before ≡ [] → all ≡ latch_seats placed ++ worked
+joined_seats all taken before worked placed joined sat none = joined ∙
+    ap (λ (l : List SeatState). l ++ worked) (sat ∙ ap (λ (b : List SeatState). b ++ latch_seats placed) none)
 
-last_number : (n i d : ℕ) (l : List ℕ) (b : Bool) → length l ≡ n → i < suc n → ((k : ℕ) → k < n → get_or l k d ≡ k) → nat_lt i n ≡ b → get_or (l ++ n ∷ []) i d ≡ i
-last_number n i d l true long lt before below = get_or-append l (n ∷ []) d i (omega (arith, long, ltb-true i n below)) ∙ before i (ltb-true i n below)
+last_number : (n i d : ℕ) (l : List ℕ) (b : Bool) → length l ≡ n → i < suc n → ((k : ℕ) → k < n → get_or l k d ≡ k) →
+    nat_lt i n ≡ b → get_or (l ++ n ∷ []) i d ≡ i
+last_number n i d l true long lt before below = get_or-append l (n ∷ []) d i (omega (arith, long, ltb-true i n below)) ∙
+    before i (ltb-true i n below)
 last_number n i d l false long lt before above =
     let same : i ≡ length l = omega (arith, long, lt, ltb-false i n above) in
     ap (λ (k : ℕ). get_or (l ++ n ∷ []) k d) same ∙ get_or-append_seam l n [] d ∙ sym long ∙ sym same
@@ -154,13 +213,15 @@ number_of : (n i d : ℕ) → i < n → get_or (seat_numbers (numbered n)) i d �
 number_of zero i d lt = absurd (omega (arith, lt))
 number_of (suc n) i d lt =
     ap (λ (l : List ℕ). get_or l i d) (seat_numbers-snoc (numbered n) (new_seat n))
-    ∙ last_number n i d (seat_numbers (numbered n)) (nat_lt i n) (count_seats (numbered n) ∙ length-numbered n) lt (λ k below. number_of n k d below) refl
+    ∙ last_number n i d (seat_numbers (numbered n)) (nat_lt i n) (count_seats (numbered n) ∙ length-numbered n) lt
+    (λ k below. number_of n k d below) refl
 
 abbrev number_or : ℕ → Option SeatState → ℕ
 number_or d None = d
 number_or d (Some s) = s.number
 
-seat_number : (seats : List SeatState) (i d : ℕ) (s : SeatState) → slice_get seats i ≡ Some s → get_or (seat_numbers seats) i d ≡ s.number
+seat_number : (seats : List SeatState) (i d : ℕ) (s : SeatState) → slice_get seats i ≡ Some s →
+    get_or (seat_numbers seats) i d ≡ s.number
 seat_number [] i d s e = absurd (cc)
 seat_number (x ∷ xs) zero d s e = ap (λ (o : Option SeatState). number_or d o) e
 seat_number (x ∷ xs) (suc i) d s e = seat_number xs i d s e
@@ -171,9 +232,13 @@ are_all n seats e = (
   λ i s lt at. sym (seat_number seats i 0 s at) ∙ ap (λ (l : List ℕ). get_or l i 0) e ∙ number_of n i 0 lt,
 )
 
-pub all_there : (n : ℕ) (all taken before worked seats : List SeatState) (placed : List SessionSeatState) → all ≡ taken ++ worked → taken ≡ before ++ latch_seats placed
-    → before ≡ [] → session_seat_numbers placed ++ seat_numbers worked ≡ seat_numbers seats → seats ≡ numbered n → AreAll n all
+pub all_there : (n : ℕ) (all taken before worked seats : List SeatState) (placed : List SessionSeatState) →
+    all ≡ taken ++ worked → taken ≡ before ++ latch_seats placed
+    → before ≡ [] → session_seat_numbers placed ++ seat_numbers worked ≡ seat_numbers seats → seats ≡ numbered n →
+    AreAll n all
 all_there n all taken before worked seats placed joined sat none back new =
     are_all n all
-    (ap seat_numbers joined ∙ map-append (λ (s : SeatState). s.number) taken worked ∙ ap (λ (l : List ℕ). l ++ seat_numbers worked) (ap seat_numbers (sat ∙ ap (λ (b : List SeatState). b ++ latch_seats placed) none) ∙ latch_numbers placed)
+    (ap seat_numbers joined ∙ map-append (λ (s : SeatState). s.number) taken worked ∙
+    ap (λ (l : List ℕ). l ++ seat_numbers worked)
+    (ap seat_numbers (sat ∙ ap (λ (b : List SeatState). b ++ latch_seats placed) none) ∙ latch_numbers placed)
     ∙ back ∙ ap seat_numbers new)

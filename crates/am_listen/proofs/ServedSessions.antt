@@ -9,10 +9,14 @@ use Rattle.am_session.specs.declared.end.End.TheVariants.{Quit, EndOfInput, Read
 use Rattle.am_seating.specs.SessionSeats.{SessionSeatState, seat_meaning, HasReceipts, IsPublishedByReceipt}
 use Rattle.am_listen.specs.ServerRuns.{HasSameSeat, WasServed}
 
-module _ {S K : Type 0} (comes : S → List ℕ → Type 0) (holds : K → Option (List ℕ)) (parts : SessionSeatState → K → K → Type 0) (s : S) (k : K) (b : SessionSeatState) (s' : S) (k' : K) (b' : SessionSeatState)
-    (all : (auto : ℕ) (old new : SessionSeatState) (exchanges : List Exchange) (events : Trace) → AnswersAll seat_meaning auto old exchanges events new → HasReceipts old events new)
-    (one_more : (auto : ℕ) (old new : SessionSeatState) (exchanges : List Exchange) (more : Exchange) (events : Trace) → AnswersOneMore seat_meaning auto old exchanges more events new → HasReceipts old events new) where
-  pub has_published : (end : End) → Served comes holds parts seat_meaning 0 s k b s' k' b' end → IsPublishedByReceipt b → IsPublishedByReceipt b'
+module _ {S K : Type 0} (comes : S → List ℕ → Type 0) (holds : K → Option (List ℕ)) (parts : SessionSeatState → K → K →
+    Type 0) (s : S) (k : K) (b : SessionSeatState) (s' : S) (k' : K) (b' : SessionSeatState)
+    (all : (auto : ℕ) (old new : SessionSeatState) (exchanges : List Exchange) (events : Trace) →
+    AnswersAll seat_meaning auto old exchanges events new → HasReceipts old events new)
+    (one_more : (auto : ℕ) (old new : SessionSeatState) (exchanges : List Exchange) (more : Exchange) (events : Trace) →
+    AnswersOneMore seat_meaning auto old exchanges more events new → HasReceipts old events new) where
+  pub has_published : (end : End) → Served comes holds parts seat_meaning 0 s k b s' k' b' end →
+      IsPublishedByReceipt b → IsPublishedByReceipt b'
   has_published Quit h = (all 0 b b' h.exchanges h.events h.does).published
   has_published EndOfInput h = (all 0 b b' h.exchanges h.events h.does).published
   has_published ReadFailed h = (all 0 b b' h.exchanges h.events h.does).published

@@ -22,7 +22,8 @@ swapped false true c d e = refl
 swapped false false c d e = refl
 
 pub conflicts-comm : (a b : Lock) → conflicts a b ≡ conflicts b a
-conflicts-comm a b = swapped (key_le a.range.lo b.range.hi) (key_le b.range.lo a.range.hi) _ _ (are_compatible-comm a.mode b.mode)
+conflicts-comm a b = swapped (key_le a.range.lo b.range.hi) (key_le b.range.lo a.range.hi) _ _
+    (are_compatible-comm a.mode b.mode)
 
 pub NoConflicts-comm : (ls ms : List Lock) → NoConflicts ls ms → NoConflicts ms ls
 NoConflicts-comm ls ms h = λ k d b j e c. conflicts-comm _ _ ∙ h j e c k d b
@@ -31,12 +32,14 @@ both : (x y : Bool) → (x && y) ≡ true → (x ≡ true) × (y ≡ true)
 both true y e = (refl, e)
 both false y e = cc
 
-clash : (m n : Mode) (x y : Bool) → is_exclusive m ≡ true → is_exclusive n ≡ true → x ≡ true → y ≡ true → ((x && y) && not (are_compatible m n)) ≡ true
+clash : (m n : Mode) (x y : Bool) → is_exclusive m ≡ true → is_exclusive n ≡ true → x ≡ true → y ≡ true →
+    ((x && y) && not (are_compatible m n)) ≡ true
 clash Exclusive Exclusive true true p q r s = refl
 clash m n x y p q r s = cc
 
 -- two exclusive locks on one key conflict
-pub exclusive-conflicts : (a b : Lock) (k : OrderedKey) → (is_exclusive a.mode && within a.range k) ≡ true → (is_exclusive b.mode && within b.range k) ≡ true → conflicts a b ≡ true
+pub exclusive-conflicts : (a b : Lock) (k : OrderedKey) → (is_exclusive a.mode && within a.range k) ≡ true →
+    (is_exclusive b.mode && within b.range k) ≡ true → conflicts a b ≡ true
 exclusive-conflicts a b k p q =
     let here = both _ _ p in
     let there = both _ _ q in

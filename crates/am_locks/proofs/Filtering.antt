@@ -1,5 +1,6 @@
 -- What the filter of locks tells.
-use Rattle.std.proofs.Common.{◌≡◌, ◌≢◌, ℕ, ◌%◌, ◌<◌, List, [], ◌∷◌, ◌++◌, length, get_or, set, Bool, true, false, not, ◌&&◌, ◌||◌, refl, sym, ap, ◌∙◌, subst}
+use Rattle.std.proofs.Common.{◌≡◌, ◌≢◌, ℕ, ◌%◌, ◌<◌, List, [], ◌∷◌, ◌++◌, length, get_or, set, Bool, true, false, not}
+use Rattle.std.proofs.Common.{◌&&◌, ◌||◌, refl, sym, ap, ◌∙◌, subst}
 use Rattle.std.specs.List.{list_any}
 use Rattle.std.proofs.lemmas.Bool.{and_parts, true≢false, false_from_ne_true, and_right}
 use Rattle.std.proofs.lemmas.List.{get_or-set_same, get_or-set_other}
@@ -23,20 +24,24 @@ the_one_key r key one h =
 -- ---- what is denied
 
 -- the lock is none of what stays denied once its slot is set
-module _ (key_filter : KeyFilter) (lock : Lock) (number i : ℕ) (is : IsNumberOf lock number) (slot : i ≡ number % 256) (inside : i < length key_filter.slots) where
+module _ (key_filter : KeyFilter) (lock : Lock) (number i : ℕ) (is : IsNumberOf lock number) (slot : i ≡ number % 256)
+    (inside : i < length key_filter.slots) where
   abbrev pub with_slot : KeyFilter
   with_slot = record key_filter { slots = set key_filter.slots i true }
 
   elsewhere : (key : OrderedKey) → denies with_slot (key_mix key) ≡ true → key_mix key % 256 ≢ i
   elsewhere key h e =
-      true≢false (sym (and_parts _ _ h).1 ∙ ap not (ap (λ (j : ℕ). get_or (set key_filter.slots i true) j true) e ∙ get_or-set_same key_filter.slots i true true inside))
+      true≢false (sym (and_parts _ _ h).1 ∙ ap not (ap (λ (j : ℕ). get_or (set key_filter.slots i true) j true) e ∙
+      get_or-set_same key_filter.slots i true true inside))
 
   before : (key : OrderedKey) → denies with_slot (key_mix key) ≡ true → denies key_filter (key_mix key) ≡ true
-  before key h = ap (λ b. not key_filter.has_wide && not b) (sym (get_or-set_other key_filter.slots i (key_mix key % 256) true true (elsewhere key h))) ∙ h
+  before key h = ap (λ b. not key_filter.has_wide && not b)
+      (sym (get_or-set_other key_filter.slots i (key_mix key % 256) true true (elsewhere key h))) ∙ h
 
   outside : (key : OrderedKey) → denies with_slot (key_mix key) ≡ true → within lock.range key ≡ false
   outside key h = false_from_ne_true (within lock.range key) (λ w.
-      elsewhere key h (ap (λ k. key_mix k % 256) (the_one_key lock.range key is.one_key w) ∙ ap (λ (n : ℕ). n % 256) (sym is.mixed) ∙ sym slot))
+      elsewhere key h (ap (λ k. key_mix k % 256) (the_one_key lock.range key is.one_key w) ∙
+      ap (λ (n : ℕ). n % 256) (sym is.mixed) ∙ sym slot))
 
   pub key_filter-point : (locks : List Lock) → IsFilterOf locks key_filter → IsFilterOf (locks ++ lock ∷ []) with_slot
   key_filter-point locks promise = λ key h.
@@ -45,13 +50,16 @@ module _ (key_filter : KeyFilter) (lock : Lock) (number i : ℕ) (is : IsNumberO
 
 -- ---- what a denied key spares
 
-fails_too : (test other : Lock → Bool) (l : Lock) (b later others : Bool) → test l ≡ b → (b || later) ≡ false → (test l ≡ false → other l ≡ false) → (later ≡ false → others ≡ false) → (other l || others) ≡ false
+fails_too : (test other : Lock → Bool) (l : Lock) (b later others : Bool) → test l ≡ b → (b || later) ≡ false →
+    (test l ≡ false → other l ≡ false) → (later ≡ false → others ≡ false) → (other l || others) ≡ false
 fails_too test other l true later others k h fails rest = cc
 fails_too test other l false later others k h fails rest = (λ i. fails k i || others) ∙ rest h
 
-none_of : (test other : Lock → Bool) → ((l : Lock) → test l ≡ false → other l ≡ false) → (locks : List Lock) → list_any test locks ≡ false → list_any other locks ≡ false
+none_of : (test other : Lock → Bool) → ((l : Lock) → test l ≡ false → other l ≡ false) → (locks : List Lock) →
+    list_any test locks ≡ false → list_any other locks ≡ false
 none_of test other fails [] e = refl
-none_of test other fails (l ∷ locks) e = fails_too test other l (test l) (list_any test locks) (list_any other locks) refl e (fails l) (none_of test other fails locks)
+none_of test other fails (l ∷ locks) e = fails_too test other l (test l) (list_any test locks) (list_any other locks)
+    refl e (fails l) (none_of test other fails locks)
 
 apart : (x y c : Bool) → (x && y) ≡ false → ((y && x) && c) ≡ false
 apart true true c e = cc
@@ -60,14 +68,20 @@ apart false true c e = refl
 apart false false c e = refl
 
 -- a lock of one key that is denied conflicts with none
-pub denied_conflict : (key_filter : KeyFilter) (asked : Lock) (number : ℕ) (locks : List Lock) → IsFilterOf locks key_filter → IsNumberOf asked number → denies key_filter number ≡ true → list_any (conflicts asked) locks ≡ false
+pub denied_conflict : (key_filter : KeyFilter) (asked : Lock) (number : ℕ) (locks : List Lock) →
+    IsFilterOf locks key_filter → IsNumberOf asked number → denies key_filter number ≡ true →
+    list_any (conflicts asked) locks ≡ false
 denied_conflict key_filter asked number locks promise is h =
     none_of (λ l. within l.range asked.range.lo) (conflicts asked)
-    (λ l e. (λ i. (key_le asked.range.lo l.range.hi && key_le l.range.lo (sym is.one_key i)) && not (are_compatible asked.mode l.mode))
-    ∙ apart (key_le l.range.lo asked.range.lo) (key_le asked.range.lo l.range.hi) (not (are_compatible asked.mode l.mode)) e)
+    (λ l e. (λ i. (key_le asked.range.lo l.range.hi && key_le l.range.lo (sym is.one_key i)) && not
+    (are_compatible asked.mode l.mode))
+    ∙ apart (key_le l.range.lo asked.range.lo) (key_le asked.range.lo l.range.hi)
+    (not (are_compatible asked.mode l.mode)) e)
     locks (promise asked.range.lo (subst (λ n. denies key_filter n ≡ true) is.mixed h))
 
 -- and no lock on it is exclusive
-pub denied_exclusive : (key_filter : KeyFilter) (key : OrderedKey) (locks : List Lock) → IsFilterOf locks key_filter → denies key_filter (key_mix key) ≡ true → list_any (λ l. is_exclusive l.mode && within l.range key) locks ≡ false
+pub denied_exclusive : (key_filter : KeyFilter) (key : OrderedKey) (locks : List Lock) → IsFilterOf locks key_filter →
+    denies key_filter (key_mix key) ≡ true → list_any (λ l. is_exclusive l.mode && within l.range key) locks ≡ false
 denied_exclusive key_filter key locks promise h =
-    none_of (λ l. within l.range key) (λ l. is_exclusive l.mode && within l.range key) (λ l e. and_right (is_exclusive l.mode) (within l.range key) e) locks (promise key h)
+    none_of (λ l. within l.range key) (λ l. is_exclusive l.mode && within l.range key)
+    (λ l e. and_right (is_exclusive l.mode) (within l.range key) e) locks (promise key h)

@@ -23,24 +23,31 @@ module _ (test : Lock → Bool) (n : ℕ) (locks : List Lock) where
 
 -- ---- where no lock is exclusive
 
-fails_here : (test : Lock → Bool) (l : Lock) (b later others : Bool) → is_exclusive l.mode ≡ b → (b || later) ≡ false → (is_exclusive l.mode ≡ false → test l ≡ false) → (later ≡ false → others ≡ false) → (test l || others) ≡ false
+fails_here : (test : Lock → Bool) (l : Lock) (b later others : Bool) → is_exclusive l.mode ≡ b → (b || later) ≡ false →
+    (is_exclusive l.mode ≡ false → test l ≡ false) → (later ≡ false → others ≡ false) → (test l || others) ≡ false
 fails_here test l true later others k h fails rest = cc
 fails_here test l false later others k h fails rest = (λ i. fails k i || others) ∙ rest h
 
-none_of : (test : Lock → Bool) → ((l : Lock) → is_exclusive l.mode ≡ false → test l ≡ false) → (locks : List Lock) → any_exclusive locks ≡ false → list_any test locks ≡ false
+none_of : (test : Lock → Bool) → ((l : Lock) → is_exclusive l.mode ≡ false → test l ≡ false) → (locks : List Lock) →
+    any_exclusive locks ≡ false → list_any test locks ≡ false
 none_of test fails [] e = refl
-none_of test fails (l ∷ locks) e = fails_here test l (is_exclusive l.mode) (any_exclusive locks) (list_any test locks) refl e (fails l) (none_of test fails locks)
+none_of test fails (l ∷ locks) e = fails_here test l (is_exclusive l.mode) (any_exclusive locks) (list_any test locks)
+    refl e (fails l) (none_of test fails locks)
 
-no_clash : (m n : Mode) (x : Bool) → is_exclusive m ≡ false → is_exclusive n ≡ false → (x && not (are_compatible m n)) ≡ false
+no_clash : (m n : Mode) (x : Bool) → is_exclusive m ≡ false → is_exclusive n ≡ false →
+    (x && not (are_compatible m n)) ≡ false
 no_clash Shared Shared true e f = refl
 no_clash Shared Shared false e f = refl
 no_clash Shared Exclusive x e f = cc
 no_clash Exclusive n x e f = cc
 
 -- a shared lock conflicts with none of them
-pub none_conflicts : (asked : Lock) (locks : List Lock) → any_exclusive locks ≡ false → is_exclusive asked.mode ≡ false → list_any (conflicts asked) locks ≡ false
+pub none_conflicts : (asked : Lock) (locks : List Lock) → any_exclusive locks ≡ false →
+    is_exclusive asked.mode ≡ false → list_any (conflicts asked) locks ≡ false
 none_conflicts asked locks e f = none_of (conflicts asked) (λ l k. no_clash asked.mode l.mode _ f k) locks e
 
 -- and no key is exclusively locked
-pub none_exclusive_at : (key : OrderedKey) (locks : List Lock) → any_exclusive locks ≡ false → list_any (λ l. is_exclusive l.mode && within l.range key) locks ≡ false
-none_exclusive_at key locks e = none_of (λ l. is_exclusive l.mode && within l.range key) (λ l k. ap (λ b. b && within l.range key) k) locks e
+pub none_exclusive_at : (key : OrderedKey) (locks : List Lock) → any_exclusive locks ≡ false →
+    list_any (λ l. is_exclusive l.mode && within l.range key) locks ≡ false
+none_exclusive_at key locks e = none_of (λ l. is_exclusive l.mode && within l.range key)
+    (λ l k. ap (λ b. b && within l.range key) k) locks e

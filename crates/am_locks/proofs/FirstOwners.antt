@@ -1,5 +1,6 @@
 -- The first of the owners that pass a test, and the least of them.
-use Rattle.std.proofs.Common.{◌≡◌, ℕ, ◌≤◌, List, [], ◌∷◌, map, Bool, true, false, cond, refl, ap, Option, Some, None, All, arith}
+use Rattle.std.proofs.Common.{◌≡◌, ℕ, ◌≤◌, List, [], ◌∷◌, map, Bool, true, false, cond, refl, ap, Option, Some, None}
+use Rattle.std.proofs.Common.{All, arith}
 use Rattle.std.specs.Option.{option_to_list}
 use Rattle.std.proofs.lemmas.List.Elements.{All-nil, All-head, All-contains}
 use Rattle.am_locks.specs.OwnerLocks.{OwnerLocks}
@@ -9,7 +10,9 @@ abbrev pub first_of : List ℕ → Option ℕ
 first_of [] = None
 first_of (n ∷ ns) = Some n
 
-pub one_first : (b : Bool) (h : OwnerLocks) (rest : List OwnerLocks) → first_of (map (λ (h : OwnerLocks). h.owner) (cond b (h ∷ rest) rest)) ≡ cond b (Some h.owner) (first_of (map (λ (h : OwnerLocks). h.owner) rest))
+pub one_first : (b : Bool) (h : OwnerLocks) (rest : List OwnerLocks) →
+    first_of (map (λ (h : OwnerLocks). h.owner) (cond b (h ∷ rest) rest)) ≡ cond b (Some h.owner)
+    (first_of (map (λ (h : OwnerLocks). h.owner) rest))
 one_first true h rest = refl
 one_first false h rest = refl
 

@@ -1,5 +1,6 @@
 -- How far a clean step has come, from one ghost to the next.
-use Rattle.std.proofs.Common.{◌≡◌, ℕ, zero, suc, ◌<◌, ◌≤◌, min, List, [], ◌∷◌, length, filter, take, drop, Bool, true, false, Some, None, refl, sym, ap, ◌∙◌, subst, ⊎_elim, arith}
+use Rattle.std.proofs.Common.{◌≡◌, ℕ, zero, suc, ◌<◌, ◌≤◌, min, List, [], ◌∷◌, length, filter, take, drop, Bool, true}
+use Rattle.std.proofs.Common.{false, Some, None, refl, sym, ap, ◌∙◌, subst, ⊎_elim, arith}
 use Rattle.std.specs.Prelude.{◌&&◌, is_some, is_none, IsSome}
 use Rattle.std.specs.declared.cmp.Ordering.{Ordering}
 use Rattle.std.specs.declared.cmp.Ordering.TheVariants.{Less, Equal, Greater}
@@ -25,7 +26,8 @@ use Rattle.am_effect.proofs.Maintenance.{clean_maintains}
 use Rattle.am_effect.proofs.Knowing.{known_laws}
 use Rattle.am_merge.specs.Walks.{later, is_from, ghost_from, GoesOnAt}
 use Rattle.am_merge.specs.Steps.{is_cleanable, HasPassedNone}
-use Rattle.am_merge.proofs.Firsts.{comes_to, All-zip, All-any, All-passed, none_under, first_comes, first_is, first_head, no_head, a_head}
+use Rattle.am_merge.proofs.Firsts.{comes_to, All-zip, All-any, All-passed, none_under, first_comes, first_is}
+use Rattle.am_merge.proofs.Firsts.{first_head, no_head, a_head}
 use Rattle.am_merge.proofs.Walks.{le_trans, lo_le}
 use Rattle.am_merge.proofs.Passing.{take-next, drop-next}
 use Rattle.am_merge.proofs.Homing.{ghost_goes}
@@ -43,7 +45,8 @@ lt_not_le_back a b h = by (place_cmp a b) (place_cmp b a) (place_cmp-total.antis
 -- ---- how many pass a test
 
 module _ (a b : Entry → Bool) where
-  few : (es : List Entry) → AllByRecursion (λ f. a f ≡ true → b f ≡ true) es → length (filter a es) ≤ length (filter b es)
+  few : (es : List Entry) → AllByRecursion (λ f. a f ≡ true → b f ≡ true) es →
+      length (filter a es) ≤ length (filter b es)
   few [] all = least
     where
       least : 0 ≤ 0
@@ -51,7 +54,12 @@ module _ (a b : Entry → Bool) where
   few (e ∷ es) all =
       let more = few es all.1 in
       ⊎_elim
-      (λ passes. omega (arith, ap length (filter-yes a e es passes), ap length (filter-yes b e es (all.0 passes)), more))
+      (λ passes. omega (
+        arith,
+        ap length (filter-yes a e es passes),
+        ap length (filter-yes b e es (all.0 passes)),
+        more,
+      ))
       (λ fails. let one = ap length (filter-no a e es fails) in ⊎_elim
       (λ passes. omega (arith, one, ap length (filter-yes b e es passes), more))
       (λ too. omega (arith, one, ap length (filter-no b e es too), more))
@@ -59,16 +67,23 @@ module _ (a b : Entry → Bool) where
       (cases_Bool (a e))
 
   -- one that passes the second test alone makes a difference
-  fewer : (es : List Entry) (x : Entry) → AllByRecursion (λ f. a f ≡ true → b f ≡ true) es → entry_at es x.part x.key ≡ Some x → b x ≡ true → a x ≡ false → length (filter a es) < length (filter b es)
+  fewer : (es : List Entry) (x : Entry) → AllByRecursion (λ f. a f ≡ true → b f ≡ true) es →
+      entry_at es x.part x.key ≡ Some x → b x ≡ true → a x ≡ false → length (filter a es) < length (filter b es)
   fewer [] x all there passes fails = absurd (none-some x there)
   fewer (e ∷ es) x all there passes fails =
       let tie : Bool = is_eq (place_cmp (place_of e) (x.part, x.key)) in
       ⊎_elim
       (λ tied.
       let same : e ≡ x = same_Some e x (sym (cond-true tie (Some e) (entry_at es x.part x.key) tied) ∙ there) in
-      omega (arith, ap length (filter-no a e es (ap a same ∙ fails)), ap length (filter-yes b e es (ap b same ∙ passes)), few es all.1))
+      omega (
+        arith,
+        ap length (filter-no a e es (ap a same ∙ fails)),
+        ap length (filter-yes b e es (ap b same ∙ passes)),
+        few es all.1,
+      ))
       (λ apart.
-      let more = fewer es x all.1 (sym (cond-false tie (Some e) (entry_at es x.part x.key) apart) ∙ there) passes fails in
+      let more = fewer es x all.1 (sym (cond-false tie (Some e) (entry_at es x.part x.key) apart) ∙ there) passes
+      fails in
       ⊎_elim
       (λ yes_. omega (arith, ap length (filter-yes a e es yes_), ap length (filter-yes b e es (all.0 yes_)), more))
       (λ no_. let one = ap length (filter-no a e es no_) in ⊎_elim
@@ -84,7 +99,8 @@ module _ (a b : Entry → Bool) where
 abbrev pub ahead_of : List Entry → Place → ℕ
 ahead_of es from = length (filter (is_from from) es)
 
-module _ (es : List Entry) (held : Holders) (range : Interval) (rise : IsRising es) (from : Place) (h : HasPassedNone es held range from) where
+module _ (es : List Entry) (held : Holders) (range : Interval) (rise : IsRising es) (from : Place)
+    (h : HasPassedNone es held range from) where
   abbrev passes : Entry → Bool
   passes e = is_cleanable held range e
 
@@ -92,12 +108,15 @@ module _ (es : List Entry) (held : Holders) (range : Interval) (rise : IsRising 
   wanted e = ghost_from range from e
 
   in_range : (f : Entry) → passes f ≡ true → within range f.key ≡ true
-  in_range f t = (and_parts (within range f.key) (is_none (held f.key)) (and_parts f.is_ghost (within range f.key && is_none (held f.key)) t).1).0
+  in_range f t = (and_parts (within range f.key) (is_none (held f.key))
+      (and_parts f.is_ghost (within range f.key && is_none (held f.key)) t).1).0
 
   all_wanted : AllByRecursion (λ f. passes f ≡ true → wanted f ≡ true) es
   all_wanted =
       AllByRecursion-map (λ f. passes f ≡ true → is_from from f ≡ true) (λ f. passes f ≡ true → wanted f ≡ true)
-      (λ f ahead t. and_from f.is_ghost (is_from from f && within range f.key) (and_parts f.is_ghost (within range f.key && is_none (held f.key)) t).0 (and_from (is_from from f) (within range f.key) (ahead t) (in_range f t)))
+      (λ f ahead t. and_from f.is_ghost (is_from from f && within range f.key)
+      (and_parts f.is_ghost (within range f.key && is_none (held f.key)) t).0
+      (and_from (is_from from f) (within range f.key) (ahead t) (in_range f t)))
       es h.ahead
 
   pub walk_ends : None ≡ first_such wanted es → None ≡ first_such passes es
@@ -105,10 +124,12 @@ module _ (es : List Entry) (held : Holders) (range : Interval) (rise : IsRising 
 
   module _ (e : Entry) (found : Some e ≡ first_such wanted es) where
     is_wanted : (is_from from e ≡ true) × (within range e.key ≡ true)
-    is_wanted = and_parts (is_from from e) (within range e.key) (and_parts e.is_ghost (is_from from e && within range e.key) (first_such_passes wanted es e (sym found))).1
+    is_wanted = and_parts (is_from from e) (within range e.key)
+        (and_parts e.is_ghost (is_from from e && within range e.key) (first_such_passes wanted es e (sym found))).1
 
     is_dead : e.is_ghost ≡ true
-    is_dead = (and_parts e.is_ghost (is_from from e && within range e.key) (first_such_passes wanted es e (sym found))).0
+    is_dead = (and_parts e.is_ghost (is_from from e && within range e.key)
+        (first_such_passes wanted es e (sym found))).0
 
     pub inside : within range e.key ≡ true
     inside = is_wanted.1
@@ -118,8 +139,10 @@ module _ (es : List Entry) (held : Holders) (range : Interval) (rise : IsRising 
 
     comes : AllByRecursion (λ f. passes f ≡ true → comes_to (Some e) f ≡ true) es
     comes =
-        AllByRecursion-map (λ f. (passes f ≡ true → wanted f ≡ true) × (wanted f ≡ true → comes_to (Some e) f ≡ true)) (λ f. passes f ≡ true → comes_to (Some e) f ≡ true) (λ f w t. w.1 (w.0 t)) es
-        (All-zip _ _ es all_wanted (subst (λ o. AllByRecursion (λ f. wanted f ≡ true → comes_to o f ≡ true) es) (sym found) (first_comes wanted es rise)))
+        AllByRecursion-map (λ f. (passes f ≡ true → wanted f ≡ true) × (wanted f ≡ true → comes_to (Some e) f ≡ true))
+        (λ f. passes f ≡ true → comes_to (Some e) f ≡ true) (λ f w t. w.1 (w.0 t)) es
+        (All-zip _ _ es all_wanted (subst (λ o. AllByRecursion (λ f. wanted f ≡ true → comes_to o f ≡ true) es)
+        (sym found) (first_comes wanted es rise)))
 
     module _ (free : Bool) (is : free ≡ is_none (held e.key)) where
       test_is : passes e ≡ free
@@ -129,26 +152,31 @@ module _ (es : List Entry) (held : Holders) (range : Interval) (rise : IsRising 
       walk_finds t = sym (first_is passes es e rise there (test_is ∙ t) comes)
 
       -- what is to be cleaned is not e, so it comes later
-      is_later : free ≡ false → (f : Entry) → entry_at es f.part f.key ≡ Some f → comes_to (Some e) f ≡ true → passes f ≡ true → later range e f ≡ true
-      is_later locked f stands le t = and_from (is_lt (place_cmp (place_of e) (place_of f))) (within range f.key) (by_order (place_cmp (place_of e) (place_of f)) refl le) (in_range f t)
+      is_later : free ≡ false → (f : Entry) → entry_at es f.part f.key ≡ Some f → comes_to (Some e) f ≡ true →
+          passes f ≡ true → later range e f ≡ true
+      is_later locked f stands le t = and_from (is_lt (place_cmp (place_of e) (place_of f))) (within range f.key)
+          (by_order (place_cmp (place_of e) (place_of f)) refl le) (in_range f t)
         where
           by_order : (o : Ordering) → place_cmp (place_of e) (place_of f) ≡ o → is_le o ≡ true → is_lt o ≡ true
           by_order Less o le = refl
           by_order Equal o le =
               let places = place_cmp-equal (place_of e) (place_of f) o in
-              let same : f ≡ e = same_Some f e (sym stands ∙ ap (λ p. entry_at es p f.key) (sym places.0) ∙ ap (entry_at es e.part) (sym places.1) ∙ there) in
+              let same : f ≡ e = same_Some f e (sym stands ∙ ap (λ p. entry_at es p f.key) (sym places.0) ∙
+              ap (entry_at es e.part) (sym places.1) ∙ there) in
               absurd (both_ways (passes f) (ap passes same ∙ test_is ∙ locked) t)
           by_order Greater o le = absurd (false≢true le)
 
       all_later : free ≡ false → AllByRecursion (λ f. passes f ≡ true → later range e f ≡ true) es
       all_later locked =
-          AllByRecursion-map (λ f. (entry_at es f.part f.key ≡ Some f) × (passes f ≡ true → comes_to (Some e) f ≡ true)) (λ f. passes f ≡ true → later range e f ≡ true)
+          AllByRecursion-map (λ f. (entry_at es f.part f.key ≡ Some f) × (passes f ≡ true → comes_to (Some e) f ≡ true))
+          (λ f. passes f ≡ true → later range e f ≡ true)
           (λ f w t. is_later locked f w.0 (w.1 t) t) es (All-zip _ _ es (all_found es rise) comes)
 
       pub walk_goes_on : free ≡ false → (next : Place) → GoesOnAt es range e next → HasPassedNone es held range next
       walk_goes_on locked next on = record {
         in_range = on.in_range;
-        ahead = AllByRecursion-map (λ f. (passes f ≡ true → later range e f ≡ true) × (later range e f ≡ true → is_from next f ≡ true)) (λ f. passes f ≡ true → is_from next f ≡ true)
+        ahead = AllByRecursion-map (λ f. (passes f ≡ true → later range e f ≡ true) ×
+            (later range e f ≡ true → is_from next f ≡ true)) (λ f. passes f ≡ true → is_from next f ≡ true)
             (λ f w t. w.1 (w.0 t)) es (All-zip _ _ es (all_later locked) on.ahead);
       }
 
@@ -158,7 +186,9 @@ module _ (es : List Entry) (held : Holders) (range : Interval) (rise : IsRising 
     pub walk_goes_down : (next : Place) → GoesOnAt es range e next → ahead_of es next < ahead_of es from
     walk_goes_down next on =
         fewer (is_from next) (is_from from) es e
-        (All-any (λ f. is_from next f ≡ true → is_from from f ≡ true) (λ f t. le_trans from next (place_of f) (le_trans from (place_of e) next is_wanted.0 (lt_le (place_cmp (place_of e) next) on.above)) t) es)
+        (All-any (λ f. is_from next f ≡ true → is_from from f ≡ true)
+        (λ f t. le_trans from next (place_of f) (le_trans from (place_of e) next is_wanted.0
+        (lt_le (place_cmp (place_of e) next) on.above)) t) es)
         there is_wanted.0 (lt_not_le_back (place_of e) next on.above)
 
 -- ---- a ghost is taken away
@@ -166,7 +196,8 @@ module _ (es : List Entry) (held : Holders) (range : Interval) (rise : IsRising 
 -- ---- the loop
 
 -- n ghosts are taken away, and the walk has passed over none that is still to be
-pub record IsCleaned (es : List Entry) (held : Holders) (range : Interval) (cur : List Entry) (from : Place) (n : ℕ) : Type 0 where
+pub record IsCleaned (es : List Entry) (held : Holders) (range : Interval) (cur : List Entry) (from : Place)
+    (n : ℕ) : Type 0 where
   pub some : n ≤ length (cleanable es held range)
   pub entries : cur ≡ all_worked_off (take n (cleanable es held range)) es
   pub left : cleanable cur held range ≡ drop n (cleanable es held range)
@@ -194,7 +225,8 @@ module _ (es : List Entry) (held : Holders) (range : Interval) (sound : AreWellF
   is_ours e = is_cleanable held range e
 
   passes_in : (f : Entry) → is_ours f ≡ true → within range f.key ≡ true
-  passes_in f t = (and_parts (within range f.key) (is_none (held f.key)) (and_parts f.is_ghost (within range f.key && is_none (held f.key)) t).1).0
+  passes_in f t = (and_parts (within range f.key) (is_none (held f.key))
+      (and_parts f.is_ghost (within range f.key && is_none (held f.key)) t).1).0
 
   pub clean_starts : IsCleaned es held range es (0, range.lo) 0
   clean_starts = record {
@@ -205,14 +237,16 @@ module _ (es : List Entry) (held : Holders) (range : Interval) (sound : AreWellF
     passed = record {
       in_range = key_le-itself range.lo;
       ahead = All-any (λ f. is_ours f ≡ true → is_from (0, range.lo) f ≡ true)
-          (λ f t. lo_le range.lo 0 f (omega arith) (and_parts (key_le range.lo f.key) (key_le f.key range.hi) (passes_in f t)).0) es;
+          (λ f t. lo_le range.lo 0 f (omega arith) (and_parts (key_le range.lo f.key) (key_le f.key range.hi)
+          (passes_in f t)).0) es;
     };
   }
 
   module _ (cur : List Entry) (from : Place) (n limit : ℕ) (so : IsCleaned es held range cur from n) where
     pub all_clean : None ≡ first_such is_ours cur → n < limit → CleanRight es held range limit (Cleaned n)
     all_clean none below =
-        let empty : drop n (cleanable es held range) ≡ [] = sym so.left ∙ no_head (cleanable cur held range) (sym (first_head is_ours cur) ∙ sym none) in
+        let empty : drop n (cleanable es held range) ≡ [] = sym so.left ∙
+        no_head (cleanable cur held range) (sym (first_head is_ours cur) ∙ sym none) in
         let least : length (cleanable es held range) ≤ n = none_left n (cleanable es held range) empty in
         let all : n ≡ min limit (length (cleanable es held range)) = omega (arith, so.some) in
         ap Cleaned all
@@ -235,24 +269,33 @@ module _ (es : List Entry) (held : Holders) (range : Interval) (sound : AreWellF
       pub is_there : IsSome (find cur e.part e.key)
       is_there = ap is_some (entry_at_slot cur e.part e.key e (first_stands is_ours cur e so.rises (sym found)))
 
-      pub clean_goes_on : (m : ℕ) (cur' : List Entry) → m ≡ suc n → cur' ≡ remove_entry cur e.part e.key → IsCleaned es held range cur' (place_of e) m
+      pub clean_goes_on : (m : ℕ) (cur' : List Entry) → m ≡ suc n → cur' ≡ remove_entry cur e.part e.key →
+          IsCleaned es held range cur' (place_of e) m
       clean_goes_on m cur' more taken =
-          let gone : cur' ≡ worked_off e cur = taken ∙ ghost_goes e cur (and_parts e.is_ghost (within range e.key && is_none (held e.key)) passing).0 in
+          let gone : cur' ≡ worked_off e cur = taken ∙ ghost_goes e cur
+          (and_parts e.is_ghost (within range e.key && is_none (held e.key)) passing).0 in
           let all : cur' ≡ all_worked_off (take (suc n) (cleanable es held range)) es =
-          gone ∙ ap (worked_off e) so.entries ∙ sym ((known_laws es sound.rising sound.one_place).one_more (take n (cleanable es held range)) e)
+          gone ∙ ap (worked_off e) so.entries ∙ sym ((known_laws es sound.rising sound.one_place).one_more
+          (take n (cleanable es held range)) e)
           ∙ ap (λ l. all_worked_off l es) (sym (take-next e cur_left.0 n (cleanable es held range) at_n)) in
-          let rest : cleanable cur' held range ≡ cur_left.0 = ap (filter is_ours) taken ∙ filter-removed is_ours cur e cur_left.0 so.rises cur_left.1 in
+          let rest : cleanable cur' held range ≡ cur_left.0 = ap (filter is_ours) taken ∙
+          filter-removed is_ours cur e cur_left.0 so.rises cur_left.1 in
           let rises' : IsRising cur' = subst IsRising (sym taken) (rising_removed cur e.part e.key so.rises) in
           let above : IsRising (e ∷ cur_left.0) = subst IsRising cur_left.1 (rising-filter is_ours cur so.rises) in
-          let later_ones = All-passed (λ f. place_cmp (place_of e) (place_of f) ≡ Less) is_ours cur' (subst (AllByRecursion (λ f. place_cmp (place_of e) (place_of f) ≡ Less)) (sym rest) above.0) in
+          let later_ones = All-passed (λ f. place_cmp (place_of e) (place_of f) ≡ Less) is_ours cur'
+          (subst (AllByRecursion (λ f. place_cmp (place_of e) (place_of f) ≡ Less)) (sym rest) above.0) in
           record {
-            some = subst (λ i. i ≤ length (cleanable es held range)) (sym more) (one_left e cur_left.0 n (cleanable es held range) at_n);
+            some = subst (λ i. i ≤ length (cleanable es held range)) (sym more)
+                (one_left e cur_left.0 n (cleanable es held range) at_n);
             entries = all ∙ ap (λ i. all_worked_off (take i (cleanable es held range)) es) (sym more);
-            left = rest ∙ sym (drop-next e cur_left.0 n (cleanable es held range) at_n) ∙ ap (λ i. drop i (cleanable es held range)) (sym more);
+            left = rest ∙ sym (drop-next e cur_left.0 n (cleanable es held range) at_n) ∙
+                ap (λ i. drop i (cleanable es held range)) (sym more);
             rises = rises';
             passed = record {
               in_range = (and_parts (key_le range.lo e.key) (key_le e.key range.hi) (passes_in e passing)).0;
-              ahead = AllByRecursion-map (λ f. is_ours f ≡ true → place_cmp (place_of e) (place_of f) ≡ Less) (λ f. is_ours f ≡ true → is_from (place_of e) f ≡ true) (λ f less t. ap is_le (less t)) cur' later_ones;
+              ahead = AllByRecursion-map (λ f. is_ours f ≡ true → place_cmp (place_of e) (place_of f) ≡ Less)
+                  (λ f. is_ours f ≡ true → is_from (place_of e) f ≡ true) (λ f less t. ap is_le (less t)) cur'
+                  later_ones;
             };
           }
 

@@ -1,5 +1,6 @@
 -- An entry of a run is worked off.
-use Rattle.std.proofs.Common.{◌≡◌, ◌≢◌, List, true, false, Option, Some, None, refl, sym, ap, ◌∙◌, ⊎_elim, Result, Ok, Err}
+use Rattle.std.proofs.Common.{◌≡◌, ◌≢◌, List, true, false, Option, Some, None, refl, sym, ap, ◌∙◌, ⊎_elim, Result, Ok}
+use Rattle.std.proofs.Common.{Err}
 use Rattle.std.specs.Prelude.{is_some, OnOk}
 use Rattle.std.proofs.lemmas.Bool.{cases_Bool, cond-true, cond-false, true≢false}
 use Rattle.am_record.specs.declared.entry.Entry.{Entry}
@@ -16,31 +17,39 @@ absent None h = refl
 absent (Some s) h = absurd (true≢false h)
 
 -- a live one comes home
-comes_home : (e : Entry) (es : List Entry) → IsRising es → e.part ≢ 0 → e.is_ghost ≡ false → brought_home e es ≡ worked_off e es
+comes_home : (e : Entry) (es : List Entry) → IsRising es → e.part ≢ 0 → e.is_ghost ≡ false →
+    brought_home e es ≡ worked_off e es
 comes_home e es rises in_run live =
     let final : Entry = record e { part = 0 } in
     let less : List Entry = remove_entry es e.part e.key in
     let apart : same_place 0 e.key e.part e.key ≡ false = other_part 0 e.part e.key e.key (λ h. in_run (sym h)) in
-    let same : find less 0 e.key ≡ find es 0 e.key = (edit_laws es rises).finds.removed e.part e.key 0 e.key ∙ cond-false (same_place 0 e.key e.part e.key) None (find es 0 e.key) apart in
+    let same : find less 0 e.key ≡ find es 0 e.key = (edit_laws es rises).finds.removed e.part e.key 0 e.key ∙
+    cond-false (same_place 0 e.key e.part e.key) None (find es 0 e.key) apart in
     let live_final : Entry = record e { part = 0; is_ghost = false } in
     let is_put : worked_off e es ≡ put final less = cond-false e.is_ghost less (put final less) live in
     ⊎_elim
     (λ (there : is_some (find es 0 e.key) ≡ true).
-    ap (λ l. remove_entry l e.part e.key) (cond-true (is_some (find es 0 e.key)) (set_entry es 0 e.key e.value false) (insert_entry es live_final) there)
+    ap (λ l. remove_entry l e.part e.key) (cond-true (is_some (find es 0 e.key)) (set_entry es 0 e.key e.value false)
+    (insert_entry es live_final) there)
     ∙ (edit_laws es rises).commute.reset 0 e.key e.value false e.part e.key there apart
     ∙ ap (λ g. set_entry less 0 e.key e.value g) (sym live)
-    ∙ sym (is_put ∙ cond-true (is_some (find less 0 e.key)) (set_entry less 0 e.key e.value e.is_ghost) (insert_entry less final) (ap is_some same ∙ there)))
+    ∙ sym (is_put ∙ cond-true (is_some (find less 0 e.key)) (set_entry less 0 e.key e.value e.is_ghost)
+    (insert_entry less final) (ap is_some same ∙ there)))
     (λ (none : is_some (find es 0 e.key) ≡ false).
-    ap (λ l. remove_entry l e.part e.key) (cond-false (is_some (find es 0 e.key)) (set_entry es 0 e.key e.value false) (insert_entry es live_final) none)
+    ap (λ l. remove_entry l e.part e.key) (cond-false (is_some (find es 0 e.key)) (set_entry es 0 e.key e.value false)
+    (insert_entry es live_final) none)
     ∙ (edit_laws es rises).commute.inserted live_final e.part e.key (absent (find es 0 e.key) none) apart
     ∙ ap (λ g. insert_entry less (record e { part = 0; is_ghost = g })) (sym live)
-    ∙ sym (is_put ∙ cond-false (is_some (find less 0 e.key)) (set_entry less 0 e.key e.value e.is_ghost) (insert_entry less final) (ap is_some same ∙ none)))
+    ∙ sym (is_put ∙ cond-false (is_some (find less 0 e.key)) (set_entry less 0 e.key e.value e.is_ghost)
+    (insert_entry less final) (ap is_some same ∙ none)))
     (cases_Bool (is_some (find es 0 e.key)))
 
-pub home_if_ok : {T E : Type 0} (r : Result T E) (e : Entry) (es es' : List Entry) → IsRising es → e.part ≢ 0 → e.is_ghost ≡ false → OnOk r (es' ≡ brought_home e es) → OnOk r (es' ≡ worked_off e es)
+pub home_if_ok : {T E : Type 0} (r : Result T E) (e : Entry) (es es' : List Entry) → IsRising es → e.part ≢ 0 →
+    e.is_ghost ≡ false → OnOk r (es' ≡ brought_home e es) → OnOk r (es' ≡ worked_off e es)
 home_if_ok (Ok v) e es es' rises in_run live is = is ∙ comes_home e es rises in_run live
 home_if_ok (Err v) e es es' rises in_run live is = tt
 
 -- a ghost just goes
 pub ghost_goes : (e : Entry) (es : List Entry) → e.is_ghost ≡ true → remove_entry es e.part e.key ≡ worked_off e es
-ghost_goes e es ghost_ = sym (cond-true e.is_ghost (remove_entry es e.part e.key) (put (record e { part = 0 }) (remove_entry es e.part e.key)) ghost_)
+ghost_goes e es ghost_ = sym (cond-true e.is_ghost (remove_entry es e.part e.key)
+    (put (record e { part = 0 }) (remove_entry es e.part e.key)) ghost_)

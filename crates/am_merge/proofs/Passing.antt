@@ -1,5 +1,6 @@
 -- How many of the first elements of a list pass a test.
-use Rattle.std.proofs.Common.{◌≡◌, ℕ, zero, suc, ◌<◌, ◌≤◌, List, [], ◌∷◌, ◌++◌, length, take, drop, Bool, true, false, cond, Option, Some, None, refl, sym, ap, ◌∙◌, ⊎_elim, arith}
+use Rattle.std.proofs.Common.{◌≡◌, ℕ, zero, suc, ◌<◌, ◌≤◌, List, [], ◌∷◌, ◌++◌, length, take, drop, Bool, true, false}
+use Rattle.std.proofs.Common.{cond, Option, Some, None, refl, sym, ap, ◌∙◌, ⊎_elim, arith}
 use Rattle.std.specs.Prelude.{take_while}
 use Rattle.std.proofs.lemmas.Bool.{cases_Bool, cond-true, cond-false, false≢true}
 use Rattle.std.proofs.lemmas.Option.{none-some, same_Some}
@@ -33,12 +34,14 @@ module _ {X : Type 0} (test : X → Bool) where
 
   pub if_none : (xs : List X) → None ≡ first_if xs → first_passes xs ≡ false
   if_none [] h = refl
-  if_none (x ∷ xs) h = ⊎_elim (λ passes. absurd (none-some x (h ∙ cond-true (test x) (Some x) None passes))) (λ fails. fails) (cases_Bool (test x))
+  if_none (x ∷ xs) h = ⊎_elim (λ passes. absurd (none-some x (h ∙ cond-true (test x) (Some x) None passes)))
+      (λ fails. fails) (cases_Bool (test x))
 
   pub if_some : (xs : List X) (x : X) → Some x ≡ first_if xs → (rest : List X) × (xs ≡ x ∷ rest) × (test x ≡ true)
   if_some [] x h = absurd (none-some x (sym h))
   if_some (y ∷ xs) x h = ⊎_elim
-      (λ passes. let same : x ≡ y = same_Some x y (h ∙ cond-true (test y) (Some y) None passes) in (xs, ap (λ z. z ∷ xs) (sym same), ap test same ∙ passes))
+      (λ passes. let same : x ≡ y = same_Some x y (h ∙ cond-true (test y) (Some y) None passes) in
+      (xs, ap (λ z. z ∷ xs) (sym same), ap test same ∙ passes))
       (λ fails. absurd (none-some x (sym (h ∙ cond-false (test y) (Some y) None fails))))
       (cases_Bool (test y))
 
@@ -51,28 +54,34 @@ module _ {X : Type 0} (test : X → Bool) where
   counted true x xs = refl
   counted false x xs = refl
 
-  passing-cons : (limit : ℕ) (x : X) (xs : List X) → passing (suc limit) (x ∷ xs) ≡ cond (test x) (suc (passing limit xs)) 0
-  passing-cons limit x xs = ap length (take_while-cons test x (take limit xs)) ∙ counted (test x) x (take_while test (take limit xs))
+  passing-cons : (limit : ℕ) (x : X) (xs : List X) → passing (suc limit) (x ∷ xs) ≡ cond (test x)
+      (suc (passing limit xs)) 0
+  passing-cons limit x xs = ap length (take_while-cons test x (take limit xs)) ∙
+      counted (test x) x (take_while test (take limit xs))
 
-  passing-pass : (limit : ℕ) (x : X) (xs : List X) → test x ≡ true → passing (suc limit) (x ∷ xs) ≡ suc (passing limit xs)
+  passing-pass : (limit : ℕ) (x : X) (xs : List X) → test x ≡ true →
+      passing (suc limit) (x ∷ xs) ≡ suc (passing limit xs)
   passing-pass limit x xs h = passing-cons limit x xs ∙ cond-true (test x) (suc (passing limit xs)) 0 h
 
   passing-fail : (limit : ℕ) (x : X) (xs : List X) → test x ≡ false → passing (suc limit) (x ∷ xs) ≡ 0
   passing-fail limit x xs h = passing-cons limit x xs ∙ cond-false (test x) (suc (passing limit xs)) 0 h
 
   -- below the limit the next one passes too
-  pub one_more : (n limit : ℕ) (xs : List X) → n < limit → n ≤ passing limit xs → first_passes (drop n xs) ≡ true → suc n ≤ passing limit xs
+  pub one_more : (n limit : ℕ) (xs : List X) → n < limit → n ≤ passing limit xs → first_passes (drop n xs) ≡ true →
+      suc n ≤ passing limit xs
   one_more n zero xs lt h p = absurd (omega arith)
   one_more zero (suc limit) [] lt h p = absurd (false≢true p)
   one_more (suc n) (suc limit) [] lt h p = absurd (false≢true p)
   one_more zero (suc limit) (x ∷ xs) lt h p = omega (arith, passing-pass limit x xs p)
   one_more (suc n) (suc limit) (x ∷ xs) lt h p = ⊎_elim
-      (λ passes. let is = passing-pass limit x xs passes in let on = one_more n limit xs (omega arith) (omega (arith, is, h)) p in omega (arith, is, on))
+      (λ passes. let is = passing-pass limit x xs passes in
+      let on = one_more n limit xs (omega arith) (omega (arith, is, h)) p in omega (arith, is, on))
       (λ fails. absurd (omega (arith, passing-fail limit x xs fails, h)))
       (cases_Bool (test x))
 
   -- there is no more, where the next one fails
-  pub no_more : (n limit : ℕ) (xs : List X) → n ≤ passing limit xs → first_passes (drop n xs) ≡ false → n ≡ passing limit xs
+  pub no_more : (n limit : ℕ) (xs : List X) → n ≤ passing limit xs → first_passes (drop n xs) ≡ false →
+      n ≡ passing limit xs
   no_more zero zero [] h p = refl
   no_more zero (suc limit) [] h p = refl
   no_more (suc n) zero [] h p = absurd (none h)
@@ -90,7 +99,8 @@ module _ {X : Type 0} (test : X → Bool) where
       none e = omega arith
   no_more zero (suc limit) (x ∷ xs) h p = sym (passing-fail limit x xs p)
   no_more (suc n) (suc limit) (x ∷ xs) h p = ⊎_elim
-      (λ passes. let is = passing-pass limit x xs passes in ap suc (no_more n limit xs (omega (arith, is, h)) p) ∙ sym is)
+      (λ passes. let is = passing-pass limit x xs passes in ap suc (no_more n limit xs (omega (arith, is, h)) p) ∙
+      sym is)
       (λ fails. absurd (omega (arith, passing-fail limit x xs fails, h)))
       (cases_Bool (test x))
 

@@ -24,14 +24,19 @@ module _ (e : Entry) (es : List Entry) (in_run : e.part ≢ 0) where
     where
       by_cases : (o : Option Slot) → find es 0 e.key ≡ o → IsSome (find (settled e es) e.part e.key)
       by_cases None h =
-          ap (λ (o : Option Slot). is_some (find (cond (is_some o) (set_entry es 0 e.key e.value false) (insert_entry es final)) e.part e.key)) h
-          ∙ ap is_some ((edit_laws es rises).finds.inserted final e.part e.key ∙ cond-false (same_place e.part e.key 0 e.key) (Some (e.value, false)) (find es e.part e.key) apart) ∙ there
+          ap (λ (o : Option Slot). is_some (find (cond (is_some o) (set_entry es 0 e.key e.value false)
+          (insert_entry es final)) e.part e.key)) h
+          ∙ ap is_some ((edit_laws es rises).finds.inserted final e.part e.key ∙
+          cond-false (same_place e.part e.key 0 e.key) (Some (e.value, false)) (find es e.part e.key) apart) ∙ there
       by_cases (Some s) h =
-          ap (λ (o : Option Slot). is_some (find (cond (is_some o) (set_entry es 0 e.key e.value false) (insert_entry es final)) e.part e.key)) h
-          ∙ ap is_some ((edit_laws es rises).finds.reset 0 e.key e.value false (ap is_some h) e.part e.key ∙ cond-false (same_place e.part e.key 0 e.key) (Some (e.value, false)) (find es e.part e.key) apart) ∙ there
+          ap (λ (o : Option Slot). is_some (find (cond (is_some o) (set_entry es 0 e.key e.value false)
+          (insert_entry es final)) e.part e.key)) h
+          ∙ ap is_some ((edit_laws es rises).finds.reset 0 e.key e.value false (ap is_some h) e.part e.key ∙
+          cond-false (same_place e.part e.key 0 e.key) (Some (e.value, false)) (find es e.part e.key) apart) ∙ there
 
   -- at home, the content is as it was
-  pub content_at_home : AreWellFormed es → find es e.part e.key ≡ Some (slot_of e) → e.is_ghost ≡ false → HasContent (brought_home e es) (content es)
+  pub content_at_home : AreWellFormed es → find es e.part e.key ≡ Some (slot_of e) → e.is_ghost ≡ false →
+      HasContent (brought_home e es) (content es)
   content_at_home sound stands live = by_cases (find es 0 e.key) refl
     where
       lives : IsLiveAt es e.part e.key e.value
@@ -40,10 +45,13 @@ module _ (e : Entry) (es : List Entry) (in_run : e.part ≢ 0) where
       by_cases : (o : Option Slot) → find es 0 e.key ≡ o → HasContent (brought_home e es) (content es)
       by_cases None h =
           subst (λ (l : List Entry). HasContent l (content es))
-          (ap (λ (o : Option Slot). remove_entry (cond (is_some o) (set_entry es 0 e.key e.value false) (insert_entry es final)) e.part e.key) (sym h))
+          (ap (λ (o : Option Slot). remove_entry (cond (is_some o) (set_entry es 0 e.key e.value false)
+          (insert_entry es final)) e.part e.key) (sym h))
           ((laws_of sound).moves.moved final e.part lives in_run refl h)
       by_cases (Some (old, true)) h =
           subst (λ (l : List Entry). HasContent l (content es))
-          (ap (λ (o : Option Slot). remove_entry (cond (is_some o) (set_entry es 0 e.key e.value false) (insert_entry es final)) e.part e.key) (sym h))
+          (ap (λ (o : Option Slot). remove_entry (cond (is_some o) (set_entry es 0 e.key e.value false)
+          (insert_entry es final)) e.part e.key) (sym h))
           ((laws_of sound).moves.moved_over_ghost e.part 0 e.key e.value old lives h)
-      by_cases (Some (old, false)) h = absurd (in_run (sound.one_place.one e.key e.part 0 e.value old lives (record { there = h })))
+      by_cases (Some (old, false)) h = absurd (in_run (sound.one_place.one e.key e.part 0 e.value old lives
+          (record { there = h })))

@@ -1,5 +1,6 @@
 -- The first record whose key passes a test, among records whose keys rise.
-use Rattle.std.proofs.Common.{◌≡◌, ℕ, Bool, true, false, List, [], ◌∷◌, filter, Some, None, refl, sym, ap, ◌∙◌, subst, ⊎_elim}
+use Rattle.std.proofs.Common.{◌≡◌, ℕ, Bool, true, false, List, [], ◌∷◌, filter, Some, None, refl, sym, ap, ◌∙◌, subst}
+use Rattle.std.proofs.Common.{⊎_elim}
 use Rattle.std.specs.Prelude.{is_some}
 use Rattle.std.proofs.lemmas.Bool.{cases_Bool, cond-true, cond-false, and_parts, true≢false, false≢true}
 use Rattle.std.proofs.lemmas.Option.{none-some, same_Some}
@@ -17,10 +18,12 @@ use Rattle.am_record.proofs.Orderings.{is_less}
 abbrev pub Record : Type 0
 Record = OrderedKey × List ℕ
 
-below_parts : (k : OrderedKey) (r : Record) (rs : Records) → below_all key_cmp k (r ∷ rs) ≡ true → (is_lt (key_cmp k r.0) ≡ true) × (below_all key_cmp k rs ≡ true)
+below_parts : (k : OrderedKey) (r : Record) (rs : Records) → below_all key_cmp k (r ∷ rs) ≡ true →
+    (is_lt (key_cmp k r.0) ≡ true) × (below_all key_cmp k rs ≡ true)
 below_parts k r rs h = and_parts (is_lt (key_cmp k r.0)) (below_all key_cmp k rs) h
 
-sorted_parts : (r : Record) (rs : Records) → is_sorted key_cmp (r ∷ rs) ≡ true → (below_all key_cmp r.0 rs ≡ true) × (is_sorted key_cmp rs ≡ true)
+sorted_parts : (r : Record) (rs : Records) → is_sorted key_cmp (r ∷ rs) ≡ true → (below_all key_cmp r.0 rs ≡ true) ×
+    (is_sorted key_cmp rs ≡ true)
 sorted_parts r rs h = and_parts (below_all key_cmp r.0 rs) (is_sorted key_cmp rs) h
 
 abbrev pub key_eq : OrderedKey → OrderedKey → Bool
@@ -71,7 +74,8 @@ module _ (test : OrderedKey → Bool) where
       (λ no. first_passes es k (sym (first_later e es no) ∙ h))
       (cases_Bool (test e.0))
 
-  pub first_found : (es : Records) (k : OrderedKey) → first_key (rows es) ≡ Some k → is_some (looked_up key_cmp k es) ≡ true
+  pub first_found : (es : Records) (k : OrderedKey) → first_key (rows es) ≡ Some k →
+      is_some (looked_up key_cmp k es) ≡ true
   first_found [] k h = absurd (none-some k h)
   first_found (e ∷ es) k h =
       ⊎_elim
@@ -79,12 +83,14 @@ module _ (test : OrderedKey → Bool) where
       (λ apart.
       ap is_some (found_later e es k apart)
       ∙ ⊎_elim
-      (λ yes. let same : e.0 ≡ k = same_Some _ _ (sym (first_here e es yes) ∙ h) in absurd (true≢false (sym (key_eq-itself k) ∙ ap (key_eq k) (sym same) ∙ apart)))
+      (λ yes. let same : e.0 ≡ k = same_Some _ _ (sym (first_here e es yes) ∙ h) in
+      absurd (true≢false (sym (key_eq-itself k) ∙ ap (key_eq k) (sym same) ∙ apart)))
       (λ no. first_found es k (sym (first_later e es no) ∙ h))
       (cases_Bool (test e.0)))
       (cases_Bool (key_eq k e.0))
 
-  pub none_found : (es : Records) → first_key (rows es) ≡ None → (k : OrderedKey) → test k ≡ true → looked_up key_cmp k es ≡ None
+  pub none_found : (es : Records) → first_key (rows es) ≡ None → (k : OrderedKey) → test k ≡ true →
+      looked_up key_cmp k es ≡ None
   none_found [] none k h = refl
   none_found (e ∷ es) none k h =
       ⊎_elim
@@ -97,7 +103,8 @@ module _ (test : OrderedKey → Bool) where
       (cases_Bool (test e.0))
 
   -- a key that is found among records above another is above it
-  found_above : (low : OrderedKey) (es : Records) (k : OrderedKey) → below_all key_cmp low es ≡ true → is_some (looked_up key_cmp k es) ≡ true → key_cmp low k ≡ Less
+  found_above : (low : OrderedKey) (es : Records) (k : OrderedKey) → below_all key_cmp low es ≡ true →
+      is_some (looked_up key_cmp k es) ≡ true → key_cmp low k ≡ Less
   found_above low [] k below h = absurd (false≢true h)
   found_above low (e ∷ es) k below h =
       ⊎_elim
@@ -105,7 +112,8 @@ module _ (test : OrderedKey → Bool) where
       (λ apart. found_above low es k (below_parts low e es below).1 (sym (ap is_some (found_later e es k apart)) ∙ h))
       (cases_Bool (key_eq k e.0))
 
-  pub first_least : (es : Records) → is_sorted key_cmp es ≡ true → (q : OrderedKey) → first_key (rows es) ≡ Some q → (k : OrderedKey) → test k ≡ true → is_some (looked_up key_cmp k es) ≡ true → key_le q k ≡ true
+  pub first_least : (es : Records) → is_sorted key_cmp es ≡ true → (q : OrderedKey) → first_key (rows es) ≡ Some q →
+      (k : OrderedKey) → test k ≡ true → is_some (looked_up key_cmp k es) ≡ true → key_le q k ≡ true
   first_least [] sorted q h k passes found = absurd (none-some q h)
   first_least (e ∷ es) sorted q h k passes found =
       ⊎_elim
@@ -114,11 +122,13 @@ module _ (test : OrderedKey → Bool) where
       subst (λ x. key_le x k ≡ true) same
       (⊎_elim
       (λ tie. le_of_equal e.0 k tie)
-      (λ apart. le_of_less e.0 k (found_above e.0 es k (sorted_parts e es sorted).0 (sym (ap is_some (found_later e es k apart)) ∙ found)))
+      (λ apart. le_of_less e.0 k (found_above e.0 es k (sorted_parts e es sorted).0
+      (sym (ap is_some (found_later e es k apart)) ∙ found)))
       (cases_Bool (key_eq k e.0))))
       (λ no.
       ⊎_elim
       (λ tie. absurd (true≢false (sym passes ∙ ap test (key_eq-exact k e.0 tie) ∙ no)))
-      (λ apart. first_least es (sorted_parts e es sorted).1 q (sym (first_later e es no) ∙ h) k passes (sym (ap is_some (found_later e es k apart)) ∙ found))
+      (λ apart. first_least es (sorted_parts e es sorted).1 q (sym (first_later e es no) ∙ h) k passes
+      (sym (ap is_some (found_later e es k apart)) ∙ found))
       (cases_Bool (key_eq k e.0)))
       (cases_Bool (test e.0))

@@ -1,5 +1,6 @@
 -- The beginnings of keys as numbers.
-use Rattle.std.proofs.Common.{◌≡◌, ℕ, zero, suc, ◌+◌, ◌-◌, ◌*◌, ◌^◌, ◌<◌, ◌≤◌, false, List, [], ◌∷◌, ◌++◌, get_or, drop, refl, sym, ap, ◌∙◌, arith, ⊎_elim}
+use Rattle.std.proofs.Common.{◌≡◌, ℕ, zero, suc, ◌+◌, ◌-◌, ◌*◌, ◌^◌, ◌<◌, ◌≤◌, false, List, [], ◌∷◌, ◌++◌, get_or, drop}
+use Rattle.std.proofs.Common.{refl, sym, ap, ◌∙◌, arith, ⊎_elim}
 use Rattle.std.specs.Prelude.{nat_lt, replicate}
 use Rattle.std.proofs.lemmas.Bool.{cases_Bool, cond-true, cond-false, ltb-true, ltb-false, lt-ltb}
 use Rattle.std.proofs.Math.Nat.{add-mul, mul_assoc, mul-le-mul_right, pow-succ', suc-mul}
@@ -45,7 +46,8 @@ front_below zero bs = omega (arith, front-zero bs)
 front_below (suc n) [] = omega (arith, front-none (suc n), power_some (suc n))
 front_below (suc n) (b ∷ bs) =
     ⊎_elim
-    (λ byte. let small : b < 256 = ltb-true b 256 byte in omega (arith, front-byte n b bs small, front_below n bs, next_power b 256 (256 ^ n) small))
+    (λ byte. let small : b < 256 = ltb-true b 256 byte in
+    omega (arith, front-byte n b bs small, front_below n bs, next_power b 256 (256 ^ n) small))
     (λ other. omega (arith, front-other n b bs other, power_some (suc n)))
     (cases_Bool (nat_lt b 256))
 
@@ -55,13 +57,22 @@ less : (x y : ℕ) → x < y → nat_cmp x y ≡ Less
 less x y h = sym (nat_cmp_is x y Less h)
 
 -- two bytes, and what stands behind them
-both : (n x y : ℕ) (xs ys : List ℕ) → x < 256 → y < 256 → front_of (suc n) (x ∷ xs) < front_of (suc n) (y ∷ ys) → (front_of n xs < front_of n ys → slice_cmp nat_cmp xs ys ≡ Less)
+both : (n x y : ℕ) (xs ys : List ℕ) → x < 256 → y < 256 → front_of (suc n) (x ∷ xs) < front_of (suc n) (y ∷ ys) →
+    (front_of n xs < front_of n ys → slice_cmp nat_cmp xs ys ≡ Less)
     → (r : Ordering) → MatchOrdering r (x < y) (x ≡ y) (y < x) → ordering_then r (slice_cmp nat_cmp xs ys) ≡ Less
 both n x y xs ys small smaller h behind Less m = refl
 both n x y xs ys small smaller h behind Equal m =
     let same : x * 256 ^ n ≡ y * 256 ^ n = ap (λ b. b * 256 ^ n) m in
     behind (omega (arith, h, front-byte n x xs small, front-byte n y ys smaller, same))
-both n x y xs ys small smaller h behind Greater m = absurd (omega (arith, h, front-byte n x xs small, front-byte n y ys smaller, next_power y x (256 ^ n) m, front_below n ys))
+both n x y xs ys small smaller h behind Greater m =
+    absurd (omega (
+      arith,
+      h,
+      front-byte n x xs small,
+      front-byte n y ys smaller,
+      next_power y x (256 ^ n) m,
+      front_below n ys,
+    ))
 
 front_less : (n : ℕ) (xs ys : List ℕ) → front_of n xs < front_of n ys → slice_cmp nat_cmp xs ys ≡ Less
 front_less zero xs ys h = absurd (omega (arith, h, front-zero xs, front-zero ys))
@@ -72,7 +83,9 @@ front_less (suc n) (x ∷ xs) (y ∷ ys) h =
     ⊎_elim
     (λ byte.
     let small = ltb-true x 256 byte in
-    ⊎_elim (λ other-byte. both n x y xs ys small (ltb-true y 256 other-byte) h (front_less n xs ys) (nat_cmp x y) (ranks x y)) (λ other. ap (λ r. ordering_then r (slice_cmp nat_cmp xs ys)) (less x y (omega (arith, small, ltb-false y 256 other)))) (cases_Bool (nat_lt y 256)))
+    ⊎_elim (λ other-byte. both n x y xs ys small (ltb-true y 256 other-byte) h (front_less n xs ys) (nat_cmp x y)
+    (ranks x y)) (λ other. ap (λ r. ordering_then r (slice_cmp nat_cmp xs ys))
+    (less x y (omega (arith, small, ltb-false y 256 other)))) (cases_Bool (nat_lt y 256)))
     (λ other. absurd (omega (arith, h, front-other n x xs other, front_below (suc n) (y ∷ ys))))
     (cases_Bool (nat_lt x 256))
 
@@ -95,24 +108,34 @@ front-padded zero bs m = front-zero (bs ++ replicate m 0) ∙ sym (front-zero bs
 front-padded (suc n) [] m = front-zeros (suc n) m ∙ sym (front-none (suc n))
 front-padded (suc n) (b ∷ bs) m =
     ⊎_elim
-    (λ byte. let small = ltb-true b 256 byte in front-byte n b (bs ++ replicate m 0) small ∙ ap (λ k. b * 256 ^ n + k) (front-padded n bs m) ∙ sym (front-byte n b bs small))
+    (λ byte. let small = ltb-true b 256 byte in front-byte n b (bs ++ replicate m 0) small ∙
+    ap (λ k. b * 256 ^ n + k) (front-padded n bs m) ∙ sym (front-byte n b bs small))
     (λ other. front-other n b (bs ++ replicate m 0) other ∙ sym (front-other n b bs other))
     (cases_Bool (nat_lt b 256))
 
 -- ---- the word of bytes is their number
 
-front-next : (n j : ℕ) (bs : List ℕ) → AreBytes bs → front_of (suc n) (drop j bs) ≡ get_or bs j 0 * 256 ^ n + front_of n (drop (suc j) bs)
+front-next : (n j : ℕ) (bs : List ℕ) → AreBytes bs → front_of (suc n) (drop j bs) ≡ get_or bs j 0 * 256 ^ n + front_of n
+    (drop (suc j) bs)
 front-next n j [] h =
-    let here : front_of (suc n) (drop j []) ≡ 0 = ap (front_of (suc n)) (drop_all j [] (omega arith)) ∙ front-none (suc n) in
-    let behind : front_of n (drop (suc j) []) ≡ 0 = ap (front_of n) (drop_all (suc j) [] (omega arith)) ∙ front-none n in
+    let here : front_of (suc n) (drop j []) ≡ 0 = ap (front_of (suc n)) (drop_all j [] (omega arith)) ∙
+    front-none (suc n) in
+    let behind : front_of n (drop (suc j) []) ≡ 0 = ap (front_of n) (drop_all (suc j) [] (omega arith)) ∙
+    front-none n in
     omega (arith, here, behind)
 front-next n zero (b ∷ bs) h = front-byte n b bs (h 0)
 front-next n (suc j) (b ∷ bs) h = front-next n j bs (λ k. h (suc k))
 
 split_power : (a u n f : ℕ) → (a * 256 + u) * 256 ^ n + f ≡ a * 256 ^ suc n + (u * 256 ^ n + f)
-split_power a u n f = omega (arith, add-mul (a * 256) u (256 ^ n), mul_assoc a 256 (256 ^ n), ap (λ p. a * p) (pow-succ' 256 n))
+split_power a u n f = omega (
+  arith,
+  add-mul (a * 256) u (256 ^ n),
+  mul_assoc a 256 (256 ^ n),
+  ap (λ p. a * p) (pow-succ' 256 n),
+)
 
-spelt-front : (bs : List ℕ) → AreBytes bs → (i n a k : ℕ) → spelt bs i a k n ≡ a * 256 ^ n + front_of n (drop (i + k) bs)
+spelt-front : (bs : List ℕ) → AreBytes bs → (i n a k : ℕ) → spelt bs i a k n ≡ a * 256 ^ n + front_of n
+    (drop (i + k) bs)
 spelt-front bs h i zero a k = omega (arith, front-zero (drop (i + k) bs))
 spelt-front bs h i (suc n) a k =
     let u = get_or bs (i + k) 0 in

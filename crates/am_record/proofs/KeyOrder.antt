@@ -34,12 +34,15 @@ ties_alike test q x e = ap test (sym (key_cmp-exact q x e))
 
 -- ---- ranges
 
-pub in_ends : (range : Interval) (key : OrderedKey) → key_le range.lo key ≡ true → key_le key range.hi ≡ true → within range key ≡ true
+pub in_ends : (range : Interval) (key : OrderedKey) → key_le range.lo key ≡ true → key_le key range.hi ≡ true →
+    within range key ≡ true
 in_ends range key from to = and_from (key_le range.lo key) (key_le key range.hi) from to
 
 -- a key in the inner range is one in the outer
-pub encloses_key : (outer inner : Interval) (key : OrderedKey) → encloses outer inner ≡ true → within inner key ≡ true → within outer key ≡ true
+pub encloses_key : (outer inner : Interval) (key : OrderedKey) → encloses outer inner ≡ true → within inner key ≡ true →
+    within outer key ≡ true
 encloses_key outer inner key holds there =
     let ends = and_parts (key_le outer.lo inner.lo) (key_le inner.hi outer.hi) holds in
     let ordered = and_parts (key_le inner.lo key) (key_le key inner.hi) there in
-    in_ends outer key (key_le_trans outer.lo inner.lo key ends.0 ordered.0) (key_le_trans key inner.hi outer.hi ordered.1 ends.1)
+    in_ends outer key (key_le_trans outer.lo inner.lo key ends.0 ordered.0)
+    (key_le_trans key inner.hi outer.hi ordered.1 ends.1)

@@ -31,7 +31,8 @@ OnErr-from (Ok v) p = tt
 OnErr-from (Err e) p = p
 
 -- a push that was not refused
-pub pushed : {E : Type 0} (r : Result (Unit {0}) E) (more same new : Records) → is_err r ≡ false → new ≡ cond (is_ok r) more same → new ≡ more
+pub pushed : {E : Type 0} (r : Result (Unit {0}) E) (more same new : Records) → is_err r ≡ false →
+    new ≡ cond (is_ok r) more same → new ≡ more
 pushed (Ok x) more same new e f = f
 pushed (Err x) more same new e f = cc
 
@@ -41,7 +42,8 @@ pub gate : {A : Type 0} (test : Bool) (o : Option A) (a : A) → cond test o Non
 gate true o a e = (refl, e)
 gate false o a e = cc
 
-pub mapped : {A B : Type 0} (f : A → B) (o : Option A) (b : B) → option_map f o ≡ Some b → (a : A) × (o ≡ Some a) × (f a ≡ b)
+pub mapped : {A B : Type 0} (f : A → B) (o : Option A) (b : B) → option_map f o ≡ Some b → (a : A) × (o ≡ Some a) ×
+    (f a ≡ b)
 mapped f None b e = cc
 mapped f (Some a) b e = (a, refl, cc)
 

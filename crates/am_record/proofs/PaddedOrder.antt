@@ -1,5 +1,6 @@
 -- Bytes compared with zeros behind them: the padded bytes decide, or else the lengths do.
-use Rattle.std.proofs.Common.{◌≡◌, ℕ, zero, suc, ◌+◌, ◌<◌, true, List, [], ◌∷◌, ◌++◌, length, refl, sym, ap, ◌∙◌, arith, length-append}
+use Rattle.std.proofs.Common.{◌≡◌, ℕ, zero, suc, ◌+◌, ◌<◌, true, List, [], ◌∷◌, ◌++◌, length, refl, sym, ap, ◌∙◌, arith}
+use Rattle.std.proofs.Common.{length-append}
 use Rattle.std.specs.Prelude.{replicate}
 use Rattle.std.proofs.lemmas.List.{length-replicate}
 use Rattle.std.specs.declared.cmp.Ordering.{Ordering}
@@ -8,12 +9,14 @@ use Rattle.std.specs.Ordering.{nat_cmp, ordering_then, is_le, is_ge, MatchOrderi
 use Rattle.std.specs.Cmp.{ranks, nat_cmp_is, tied_itself}
 use Rattle.std.specs.Cmp.Lexicographic.{slice_cmp, nat_list_cmp_total}
 
-less_or_equal : (b : ℕ) (r s : Ordering) → MatchOrdering r (0 < b) (0 ≡ b) (b < 0) → is_le s ≡ true → is_le (ordering_then r s) ≡ true
+less_or_equal : (b : ℕ) (r s : Ordering) → MatchOrdering r (0 < b) (0 ≡ b) (b < 0) → is_le s ≡ true →
+    is_le (ordering_then r s) ≡ true
 less_or_equal b Less s m h = refl
 less_or_equal b Equal s m h = h
 less_or_equal b Greater s m h = absurd (omega (arith, m))
 
-greater_or_equal : (b : ℕ) (r s : Ordering) → MatchOrdering r (b < 0) (b ≡ 0) (0 < b) → is_ge s ≡ true → is_ge (ordering_then r s) ≡ true
+greater_or_equal : (b : ℕ) (r s : Ordering) → MatchOrdering r (b < 0) (b ≡ 0) (0 < b) → is_ge s ≡ true →
+    is_ge (ordering_then r s) ≡ true
 greater_or_equal b Less s m h = absurd (omega (arith, m))
 greater_or_equal b Equal s m h = h
 greater_or_equal b Greater s m h = refl
@@ -58,17 +61,21 @@ zeroed_length : (bytes : List ℕ) (m : ℕ) → length (zeroed bytes m) ≡ len
 zeroed_length bytes m = length-append bytes (replicate m 0) ∙ ap (λ n. length bytes + n) (length-replicate m 0)
 
 pub zeros_apart : (xs ys : List ℕ) (m n : ℕ) → length xs + m ≡ length ys + n
-    → ordering_then (slice_cmp nat_cmp (xs ++ replicate m 0) (ys ++ replicate n 0)) (nat_cmp (length xs) (length ys)) ≡ slice_cmp nat_cmp xs ys
+    → ordering_then (slice_cmp nat_cmp (xs ++ replicate m 0) (ys ++ replicate n 0)) (nat_cmp (length xs) (length ys)) ≡
+    slice_cmp nat_cmp xs ys
 zeros_apart [] [] m n e =
     let same : m ≡ n = omega arith in
     ap (λ k. ordering_then (slice_cmp nat_cmp (replicate m 0) (replicate k 0)) Equal) (sym same)
     ∙ ap (λ r. ordering_then r Equal) (tied_itself nat_list_cmp_total (replicate m 0))
 zeros_apart [] (y ∷ ys) m n e =
-    then_less _ (nat_cmp 0 (length (y ∷ ys))) (zeros_below m (zeroed (y ∷ ys) n) (omega (arith, e, zeroed_length (y ∷ ys) n))) (sym (nat_cmp_is 0 (length (y ∷ ys)) Less (omega arith)))
+    then_less _ (nat_cmp 0 (length (y ∷ ys))) (zeros_below m (zeroed (y ∷ ys) n)
+    (omega (arith, e, zeroed_length (y ∷ ys) n))) (sym (nat_cmp_is 0 (length (y ∷ ys)) Less (omega arith)))
 zeros_apart (x ∷ xs) [] m n e =
-    then_greater _ (nat_cmp (length (x ∷ xs)) 0) (above_zeros n (zeroed (x ∷ xs) m) (omega (arith, e, zeroed_length (x ∷ xs) m))) (sym (nat_cmp_is (length (x ∷ xs)) 0 Greater (omega arith)))
+    then_greater _ (nat_cmp (length (x ∷ xs)) 0) (above_zeros n (zeroed (x ∷ xs) m)
+    (omega (arith, e, zeroed_length (x ∷ xs) m))) (sym (nat_cmp_is (length (x ∷ xs)) 0 Greater (omega arith)))
 zeros_apart (x ∷ xs) (y ∷ ys) m n e =
     let rest = slice_cmp nat_cmp (zeroed xs m) (zeroed ys n) in
-    ap (ordering_then (ordering_then (nat_cmp x y) rest)) (one_more (length xs) (length ys) (nat_cmp (length xs) (length ys)) (ranks (length xs) (length ys)))
+    ap (ordering_then (ordering_then (nat_cmp x y) rest))
+    (one_more (length xs) (length ys) (nat_cmp (length xs) (length ys)) (ranks (length xs) (length ys)))
     ∙ regroup (nat_cmp x y) rest (nat_cmp (length xs) (length ys))
     ∙ ap (ordering_then (nat_cmp x y)) (zeros_apart xs ys m n (omega arith))

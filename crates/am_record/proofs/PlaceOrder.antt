@@ -18,7 +18,8 @@ turned_greater a b h = place_cmp-total.antisymm b a ∙ ap ordering_reverse h
 pub below_same : (a b p : Place) → place_cmp a b ≡ Less → place_cmp b p ≡ Equal → place_cmp a p ≡ Less
 below_same a b p h e = sym (alike_right place_cmp-total b p a e) ∙ h
 
-above_at : (a b p : Place) (o : Ordering) → place_cmp a p ≡ o → o ≢ Less → place_cmp a b ≡ Less → place_cmp b p ≡ Greater
+above_at : (a b p : Place) (o : Ordering) → place_cmp a p ≡ o → o ≢ Less → place_cmp a b ≡ Less →
+    place_cmp b p ≡ Greater
 above_at a b p Less e n h = absurd (n refl)
 above_at a b p Equal e n h = turned_less p b (sym (place_cmp-total.congr a p b e) ∙ h)
 above_at a b p Greater e n h = turned_less p b (place_cmp-total.trans p a b (turned_greater a p e) h)
@@ -27,7 +28,8 @@ above_at a b p Greater e n h = turned_less p b (place_cmp-total.trans p a b (tur
 pub above_from : (a b p : Place) → place_cmp a p ≢ Less → place_cmp a b ≡ Less → place_cmp b p ≡ Greater
 above_from a b p n h = above_at a b p (place_cmp a p) refl n h
 
-ranks_at : (a b p : Place) (o : Ordering) → place_cmp b p ≡ o → place_cmp a b ≡ Less → ordering_index (place_cmp a p) ≤ ordering_index o
+ranks_at : (a b p : Place) (o : Ordering) → place_cmp b p ≡ o → place_cmp a b ≡ Less →
+    ordering_index (place_cmp a p) ≤ ordering_index o
 ranks_at a b p Less e h = omega (arith, ap ordering_index (place_cmp-total.trans a b p h e))
 ranks_at a b p Equal e h = omega (arith, ap ordering_index (below_same a b p h e))
 ranks_at a b p Greater e h = at_most_two (place_cmp a p)
@@ -38,7 +40,8 @@ ranks_at a b p Greater e h = at_most_two (place_cmp a p)
     at_most_two Greater = omega arith
 
 -- along a rising list the comparisons with p rise
-pub ranks_rise : (a b p : Place) → place_cmp a b ≡ Less → ordering_index (place_cmp a p) ≤ ordering_index (place_cmp b p)
+pub ranks_rise : (a b p : Place) → place_cmp a b ≡ Less → ordering_index (place_cmp a p) ≤ ordering_index
+    (place_cmp b p)
 ranks_rise a b p h = ranks_at a b p (place_cmp b p) refl h
 
 -- what stands in a smaller partition is below
@@ -49,5 +52,6 @@ lower_part a b lt = by_order (place_cmp a b) refl
     by_order Less h = h
     by_order Equal h = let same = (place_cmp-equal a b h).0 in absurd (omega (arith, same))
     by_order Greater h =
-        let back : b.0 ≤ a.0 = place_cmp-part b a (λ greater. less_or_greater (place_cmp b a) (turned_greater a b h) greater) in
+        let back : b.0 ≤ a.0 = place_cmp-part b a (λ greater. less_or_greater (place_cmp b a) (turned_greater a b h)
+        greater) in
         absurd (omega arith)

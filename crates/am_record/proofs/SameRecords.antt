@@ -7,13 +7,16 @@ use Rattle.std.proofs.lemmas.Cmp.{nat_list_eq_equiv}
 use Rattle.std.proofs.Math.Seq.{take-append_seam}
 use Rattle.am_record.proofs.Outcomes.{same_test}
 
-pub pointwise_alike : {A : Type 0} (E F : A → A → Bool) → ((x y : A) → E x y ≡ F x y) → (xs ys : List A) → pointwise E xs ys ≡ pointwise F xs ys
+pub pointwise_alike : {A : Type 0} (E F : A → A → Bool) → ((x y : A) → E x y ≡ F x y) → (xs ys : List A) →
+    pointwise E xs ys ≡ pointwise F xs ys
 pointwise_alike E F h [] [] = refl
 pointwise_alike E F h [] (y ∷ ys) = refl
 pointwise_alike E F h (x ∷ xs) [] = refl
-pointwise_alike E F h (x ∷ xs) (y ∷ ys) = ap (λ b. b && pointwise E xs ys) (h x y) ∙ ap (λ b. F x y && b) (pointwise_alike E F h xs ys)
+pointwise_alike E F h (x ∷ xs) (y ∷ ys) = ap (λ b. b && pointwise E xs ys) (h x y) ∙
+    ap (λ b. F x y && b) (pointwise_alike E F h xs ys)
 
-pub same_bytes : (xs ys : List ℕ) → (pointwise nat_eq (xs ++ replicate (64 - length xs) 0) (ys ++ replicate (64 - length ys) 0) && nat_eq (length xs) (length ys)) ≡ pointwise nat_eq xs ys
+pub same_bytes : (xs ys : List ℕ) → (pointwise nat_eq (xs ++ replicate (64 - length xs) 0)
+    (ys ++ replicate (64 - length ys) 0) && nat_eq (length xs) (length ys)) ≡ pointwise nat_eq xs ys
 same_bytes xs ys =
     let zeros : List ℕ → List ℕ = λ zs. replicate (64 - length zs) 0 in
     same_test _ _
@@ -27,5 +30,7 @@ same_bytes xs ys =
     ∙ take-append_seam ys (zeros ys) in
     subst (λ zs. pointwise nat_eq xs zs ≡ true) same (nat_list_eq_equiv.refl xs))
     (λ h.
-    subst (λ zs. (pointwise nat_eq (xs ++ zeros xs) (zs ++ zeros zs) && nat_eq (length xs) (length zs)) ≡ true) (same_text xs ys (sym h))
-    (and_from (pointwise nat_eq (xs ++ zeros xs) (xs ++ zeros xs)) (nat_eq (length xs) (length xs)) (nat_list_eq_equiv.refl (xs ++ zeros xs)) (eq-eqb (length xs) (length xs) refl)))
+    subst (λ zs. (pointwise nat_eq (xs ++ zeros xs) (zs ++ zeros zs) && nat_eq (length xs) (length zs)) ≡ true)
+    (same_text xs ys (sym h))
+    (and_from (pointwise nat_eq (xs ++ zeros xs) (xs ++ zeros xs)) (nat_eq (length xs) (length xs))
+    (nat_list_eq_equiv.refl (xs ++ zeros xs)) (eq-eqb (length xs) (length xs) refl)))

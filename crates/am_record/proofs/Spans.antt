@@ -34,7 +34,8 @@ in_order r [] b = key_le-itself r.0
 in_order r (s ∷ rs) b = ap is_le (last_below r.0 s.0 rs b.0 b.1)
 
 -- the first record and the last one
-pub ordered : (rs : Records) (a b : Record) → is_rising rs ≡ true → Some a ≡ slice_get rs 0 → Some b ≡ slice_get rs (length rs - 1) → key_le a.0 b.0 ≡ true
+pub ordered : (rs : Records) (a b : Record) → is_rising rs ≡ true → Some a ≡ slice_get rs 0 →
+    Some b ≡ slice_get rs (length rs - 1) → key_le a.0 b.0 ≡ true
 ordered [] a b h p q = absurd (false≢true h)
 ordered (r ∷ rs) a b h p q =
     let first : a ≡ r = cc in
@@ -42,7 +43,8 @@ ordered (r ∷ rs) a b h p q =
     let last' : b ≡ last_record r rs = cc in
     (λ i. key_le (first i).0 (last' i).0) ∙ ap (key_le r.0) (last-key r rs) ∙ in_order r rs (sorted_parts r rs h).0
 
-pub spanned : (rs : Records) (a b : Record) → is_rising rs ≡ true → Some a ≡ slice_get rs 0 → Some b ≡ slice_get rs (length rs - 1) → ◌≡◌ {A = Interval} (record { lo = a.0; hi = b.0 }) (span rs)
+pub spanned : (rs : Records) (a b : Record) → is_rising rs ≡ true → Some a ≡ slice_get rs 0 →
+    Some b ≡ slice_get rs (length rs - 1) → ◌≡◌ {A = Interval} (record { lo = a.0; hi = b.0 }) (span rs)
 spanned [] a b h p q = absurd (false≢true h)
 spanned (r ∷ rs) a b h p q =
     let first : a ≡ r = cc in

@@ -1,5 +1,6 @@
 -- Keys that are told apart by the numbers of their beginnings.
-use Rattle.std.proofs.Common.{◌≡◌, ℕ, ◌+◌, ◌<◌, ◌≤◌, suc, Bool, true, false, cond, List, [], ◌∷◌, ◌++◌, length, get_or, map, take, refl, sym, ap, ◌∙◌, subst, arith, add-one, append_assoc, ⊎_elim}
+use Rattle.std.proofs.Common.{◌≡◌, ℕ, ◌+◌, ◌<◌, ◌≤◌, suc, Bool, true, false, cond, List, [], ◌∷◌, ◌++◌, length, get_or}
+use Rattle.std.proofs.Common.{map, take, refl, sym, ap, ◌∙◌, subst, arith, add-one, append_assoc, ⊎_elim}
 use Rattle.std.specs.Prelude.{nat_eq, nat_lt, count_by}
 use Rattle.std.proofs.lemmas.Bool.{cases_Bool, eqb-true, eq-eqb, ltb-true, false_from_ne_true}
 use Rattle.std.proofs.lemmas.List.{map-append, append-nil, take_more, take_all}
@@ -41,9 +42,25 @@ times_number k [] = omega arith
 times_number k (l ∷ ks) =
     ⊎_elim
     (λ tie.
-    let same : one_where (key_front k) (key_front l) ≡ 1 = ap (λ b. cond b 1 0) (subst (λ x. nat_eq (key_front k) (key_front x) ≡ true) (key_eq-exact k l tie) (eq-eqb (key_front k) (key_front k) refl)) in
-    omega (arith, times_among-cons k l ks, one_at k l tie, count-cons (key_front k) (key_front l) (fronts_of ks), same, times_number k ks))
-    (λ apart. omega (arith, times_among-cons k l ks, none_at k l apart, count-cons (key_front k) (key_front l) (fronts_of ks), times_number k ks))
+    let same : one_where (key_front k) (key_front l) ≡ 1 =
+    ap (λ b. cond b 1 0) (subst (λ x. nat_eq (key_front k) (key_front x) ≡ true) (key_eq-exact k l tie)
+    (eq-eqb (key_front k) (key_front k) refl)) in
+    omega (
+      arith,
+      times_among-cons k l ks,
+      one_at k l tie,
+      count-cons (key_front k) (key_front l) (fronts_of ks),
+      same,
+      times_number k ks,
+    ))
+    (λ apart. omega (
+      arith,
+      times_among-cons k l ks,
+      none_at k l apart,
+      count-cons (key_front k) (key_front l)
+          (fronts_of ks),
+      times_number k ks,
+    ))
     (cases_Bool (eq_by_cmp key_cmp k l))
 
 -- ---- numbers that rise
@@ -58,20 +75,38 @@ none_later : (n m : ℕ) (ms : List ℕ) → n ≤ m → Rise (m ∷ ms) → cou
 none_later n m [] le h = refl
 none_later n m (p ∷ ms) le h =
     let above : m < p = h 0 m (omega arith) in
-    let apart : nat_eq n p ≡ false = false_from_ne_true (nat_eq n p) (λ tie. absurd (omega (arith, le, above, eqb-true n p tie))) in
-    omega (arith, count-cons n p ms, none_where n p apart, none_later n p ms (omega (arith, le, above)) (rise_on m (p ∷ ms) h))
+    let apart : nat_eq n p ≡ false = false_from_ne_true (nat_eq n p)
+    (λ tie. absurd (omega (arith, le, above, eqb-true n p tie))) in
+    omega (
+      arith,
+      count-cons n p ms,
+      none_where n p apart,
+      none_later n p ms (omega (arith, le, above))
+          (rise_on m (p ∷ ms) h),
+    )
 
 stands_once : (n : ℕ) (ms : List ℕ) → Rise ms → count n ms ≤ 1
 stands_once n [] h = omega arith
 stands_once n (m ∷ ms) h =
     ⊎_elim
-    (λ same. omega (arith, count-cons n m ms, at_most_one_where n m, none_later n m ms (omega (arith, eqb-true n m same)) h))
+    (λ same. omega (
+      arith,
+      count-cons n m ms,
+      at_most_one_where n m,
+      none_later n m ms (omega (arith, eqb-true n m same)) h,
+    ))
     (λ apart. omega (arith, count-cons n m ms, none_where n m apart, stands_once n ms (rise_on m ms h)))
     (cases_Bool (nat_eq n m))
 
-pub apart_by_number : (ks : List OrderedKey) (sorted : List ℕ) → IsPermutation (fronts_of ks) sorted → Rise sorted → NoneTwice ks
+pub apart_by_number : (ks : List OrderedKey) (sorted : List ℕ) → IsPermutation (fronts_of ks) sorted → Rise sorted →
+    NoneTwice ks
 apart_by_number ks sorted p h = record {
-  once = λ k. omega (arith, times_number k ks, sum_by-IsPermutation (one_where (key_front k)) (fronts_of ks) sorted p, stands_once (key_front k) sorted h);
+  once = λ k. omega (
+    arith,
+    times_number k ks,
+    sum_by-IsPermutation (one_where (key_front k)) (fronts_of ks) sorted p,
+    stands_once (key_front k) sorted h,
+  );
 }
 
 pub rise_of : (ms : List ℕ) (b : Bool) → IsAllAdjacentAnswer (λ x y r. r ≡ nat_lt x y) ms b → b ≡ true → Rise ms
@@ -82,14 +117,20 @@ rise_of ms false h e = cc
 
 records_more : (runs : List Records) (run : Records) → records_of (runs ++ run ∷ []) ≡ records_of runs ++ run
 records_more [] run = append-nil run
-records_more (r ∷ runs) run = ap (λ (l : Records). r ++ l) (records_more runs run) ∙ sym (append_assoc r (records_of runs) run)
+records_more (r ∷ runs) run = ap (λ (l : Records). r ++ l) (records_more runs run) ∙
+    sym (append_assoc r (records_of runs) run)
 
 pub numbers_more : (runs : List Records) (i : ℕ) (run : Records) → i < length runs → run ≡ get_or runs i run
-    → fronts_of (keys_of (records_of (take i runs))) ++ fronts_of (keys_of run) ≡ fronts_of (keys_of (records_of (take (i + 1) runs)))
+    → fronts_of (keys_of (records_of (take i runs))) ++ fronts_of (keys_of run) ≡ fronts_of
+    (keys_of (records_of (take (i + 1) runs)))
 numbers_more runs i run less at =
     let before = records_of (take i runs) in
-    let next : records_of (take (i + 1) runs) ≡ before ++ run = ap records_of (take_more runs i run less ∙ ap (λ r. take i runs ++ r ∷ []) (sym at)) ∙ records_more (take i runs) run in
-    sym (ap (λ (l : Records). fronts_of (keys_of l)) next ∙ ap fronts_of (keys_of-append before run) ∙ map-append key_front (keys_of before) (keys_of run))
+    let next : records_of (take (i + 1) runs) ≡ before ++ run =
+    ap records_of (take_more runs i run less ∙ ap (λ r. take i runs ++ r ∷ []) (sym at)) ∙
+    records_more (take i runs) run in
+    sym (ap (λ (l : Records). fronts_of (keys_of l)) next ∙ ap fronts_of (keys_of-append before run) ∙
+    map-append key_front (keys_of before) (keys_of run))
 
-pub numbers_whole : (runs : List Records) (i : ℕ) → length runs ≤ i → fronts_of (keys_of (records_of (take i runs))) ≡ fronts_of (keys_of (records_of runs))
+pub numbers_whole : (runs : List Records) (i : ℕ) → length runs ≤ i → fronts_of (keys_of (records_of (take i runs))) ≡
+    fronts_of (keys_of (records_of runs))
 numbers_whole runs i all = ap (λ (l : List Records). fronts_of (keys_of (records_of l))) (take_all i runs all)

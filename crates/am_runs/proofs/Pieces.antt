@@ -1,5 +1,6 @@
 -- Records that are cut piece by piece.
-use Rattle.std.proofs.Common.{◌≡◌, ℕ, ◌<◌, ◌≤◌, zero, suc, List, [], ◌∷◌, ◌++◌, None, length, take, drop, refl, sym, ap, ◌∙◌, subst, arith, append_assoc, length-append}
+use Rattle.std.proofs.Common.{◌≡◌, ℕ, ◌<◌, ◌≤◌, zero, suc, List, [], ◌∷◌, ◌++◌, None, length, take, drop, refl, sym, ap}
+use Rattle.std.proofs.Common.{◌∙◌, subst, arith, append_assoc, length-append}
 use Rattle.std.specs.Prelude.{min}
 use Rattle.std.specs.List.Sorted.{IsPermutation}
 use Rattle.std.proofs.Math.Seq.{take-append_seam}
@@ -9,7 +10,8 @@ use Rattle.am_record.specs.OrderedKey.{OrderedKey}
 use Rattle.am_record.specs.Plain.{Records}
 use Rattle.am_runs.specs.declared.fault.LoadFault.{LoadFault}
 use Rattle.am_runs.specs.declared.fault.LoadFault.TheVariants.{NotRising, BadSize, Twice, NoMemory}
-use Rattle.am_runs.specs.Cuts.{keys_of, times_among, records_of, NoneTwice, IsRunOf, AreRunsOf, IsPieceFault, IsTwiceFault}
+use Rattle.am_runs.specs.Cuts.{keys_of, times_among, records_of, NoneTwice, IsRunOf, AreRunsOf, IsPieceFault}
+use Rattle.am_runs.specs.Cuts.{IsTwiceFault}
 use Rattle.am_record.proofs.FirstRows.{Record}
 use Rattle.am_runs.proofs.Twice.{times_among-append, found_permuted}
 use Rattle.am_runs.proofs.Sorts.{rising_apart}
@@ -24,13 +26,15 @@ drop_front : (rs qs : Records) → drop (length rs) (rs ++ qs) ≡ qs
 drop_front [] qs = refl
 drop_front (r ∷ rs) qs = drop_front rs qs
 
-take_piece : (n : ℕ) (piece rest : Records) → length piece ≡ min n (length (piece ++ rest)) → take n (piece ++ rest) ≡ piece
+take_piece : (n : ℕ) (piece rest : Records) → length piece ≡ min n (length (piece ++ rest)) →
+    take n (piece ++ rest) ≡ piece
 take_piece n piece [] h = ap (take n) (append-nil piece) ∙ take_all n piece (omega (arith, h, length-append piece []))
 take_piece n piece (r ∷ rest) h =
     let all : n ≡ length piece = omega (arith, h, length-append piece (r ∷ rest)) in
     ap (λ m. take m (piece ++ r ∷ rest)) all ∙ take-append_seam piece (r ∷ rest)
 
-drop_piece : (n : ℕ) (piece rest : Records) → length piece ≡ min n (length (piece ++ rest)) → drop n (piece ++ rest) ≡ rest
+drop_piece : (n : ℕ) (piece rest : Records) → length piece ≡ min n (length (piece ++ rest)) →
+    drop n (piece ++ rest) ≡ rest
 drop_piece n piece [] h = drop_all n (piece ++ []) (omega (arith, h, length-append piece []))
 drop_piece n piece (r ∷ rest) h =
     let all : n ≡ length piece = omega (arith, h, length-append piece (r ∷ rest)) in
@@ -43,20 +47,27 @@ pub record IsCutting (n : ℕ) (all : Records) (runs : List Records) (rest : Rec
   pub split : all ≡ front ++ rest
   pub done : (later : List Records) → AreRunsOf n rest later → AreRunsOf n all (runs ++ later)
 
-pub cut_piece : {n : ℕ} {all : Records} {runs : List Records} {rest : Records} (piece rest' run : Records) → rest ≡ piece ++ rest' → length piece ≡ min n (length rest)
+pub cut_piece : {n : ℕ} {all : Records} {runs : List Records} {rest : Records} (piece rest' run : Records) →
+    rest ≡ piece ++ rest' → length piece ≡ min n (length rest)
     → IsCutting n all runs rest → IsRunOf piece run → IsCutting n all (runs ++ run ∷ []) rest'
 cut_piece {n} {all} {runs} {rest} piece rest' run split long h is = record {
   front = h.front ++ piece;
   split = h.split ∙ ap (λ (l : Records). h.front ++ l) split ∙ sym (append_assoc h.front piece rest');
   done = λ later are.
-      let long' : length piece ≡ min n (length (piece ++ rest')) = long ∙ ap (λ (l : Records). min n (length l)) split in
+      let long' : length piece ≡ min n (length (piece ++ rest')) = long ∙ ap (λ (l : Records). min n (length l))
+      split in
       let first : take n rest ≡ piece = ap (take n) split ∙ take_piece n piece rest' long' in
       let others : drop n rest ≡ rest' = ap (drop n) split ∙ drop_piece n piece rest' long' in
-      let whole : AreRunsOf n rest (run ∷ later) = (subst (λ (p : Records). IsRunOf p run) (sym first) is, subst (λ (l : Records). AreRunsOf n l later) (sym others) are) in
-      subst (λ (l : List Records). AreRunsOf n all l) (sym (append_assoc runs (run ∷ []) later)) (h.done (run ∷ later) whole);
+      let whole : AreRunsOf n rest (run ∷ later) = (
+        subst (λ (p : Records). IsRunOf p run) (sym first) is,
+        subst (λ (l : Records). AreRunsOf n l later) (sym others) are,
+      ) in
+      subst (λ (l : List Records). AreRunsOf n all l) (sym (append_assoc runs (run ∷ []) later))
+      (h.done (run ∷ later) whole);
 }
 
-pub cut_whole : {n : ℕ} {all : Records} (runs : List Records) (rest : Records) → length rest ≡ 0 → IsCutting n all runs rest → AreRunsOf n all runs
+pub cut_whole : {n : ℕ} {all : Records} (runs : List Records) (rest : Records) → length rest ≡ 0 →
+    IsCutting n all runs rest → AreRunsOf n all runs
 cut_whole {n} {all} runs [] none h = subst (λ (l : List Records). AreRunsOf n all l) (append-nil runs) (h.done [] refl)
 cut_whole runs (r ∷ rest) none h = absurd (omega (arith, none))
 
@@ -67,26 +78,34 @@ take_drop zero rs = refl
 take_drop (suc n) [] = refl
 take_drop (suc n) (r ∷ rs) = ap (λ l. r ∷ l) (take_drop n rs)
 
-pub runs_permuted : (n : ℕ) (rs : Records) (runs : List Records) → AreRunsOf n rs runs → IsPermutation rs (records_of runs)
+pub runs_permuted : (n : ℕ) (rs : Records) (runs : List Records) → AreRunsOf n rs runs →
+    IsPermutation rs (records_of runs)
 runs_permuted n rs [] none = subst (λ (l : Records). IsPermutation l []) (sym none) (IsPermutation-refl [])
 runs_permuted n rs (run ∷ runs) are =
     subst (λ (l : Records). IsPermutation l (run ++ records_of runs)) (take_drop n rs)
-    (IsPermutation-append (take n rs) run (drop n rs) (records_of runs) are.0.same (runs_permuted n (drop n rs) runs are.1))
+    (IsPermutation-append (take n rs) run (drop n rs) (records_of runs) are.0.same
+    (runs_permuted n (drop n rs) runs are.1))
 
 -- no key stands twice in the records of one run
-pub few_apart : (n : ℕ) (rs : Records) (runs : List Records) → length runs < 2 → AreRunsOf n rs runs → NoneTwice (keys_of rs)
-few_apart n rs [] few none = subst (λ (l : Records). NoneTwice (keys_of l)) (sym none) (record { once = λ key. omega arith })
+pub few_apart : (n : ℕ) (rs : Records) (runs : List Records) → length runs < 2 → AreRunsOf n rs runs →
+    NoneTwice (keys_of rs)
+few_apart n rs [] few none = subst (λ (l : Records). NoneTwice (keys_of l)) (sym none)
+    (record { once = λ key. omega arith })
 few_apart n rs (run ∷ []) few are =
-    rising_apart rs run (subst (λ (l : Records). IsPermutation rs l) (append-nil run) (runs_permuted n rs (run ∷ []) are)) are.0.rising
+    rising_apart rs run (subst (λ (l : Records). IsPermutation rs l) (append-nil run)
+    (runs_permuted n rs (run ∷ []) are)) are.0.rising
 few_apart n rs (run ∷ next ∷ runs) few are = absurd (omega (arith, few))
 
 -- no key stands twice where none does in the runs
-pub apart_of_runs : (n : ℕ) (rs : Records) (runs : List Records) → AreRunsOf n rs runs → NoneTwice (keys_of (records_of runs)) → NoneTwice (keys_of rs)
-apart_of_runs n rs runs are h = found_permuted None (keys_of rs) (keys_of (records_of runs)) (IsPermutation-map (λ (r : Record). r.0) rs (records_of runs) (runs_permuted n rs runs are)) h
+pub apart_of_runs : (n : ℕ) (rs : Records) (runs : List Records) → AreRunsOf n rs runs →
+    NoneTwice (keys_of (records_of runs)) → NoneTwice (keys_of rs)
+apart_of_runs n rs runs are h = found_permuted None (keys_of rs) (keys_of (records_of runs))
+    (IsPermutation-map (λ (r : Record). r.0) rs (records_of runs) (runs_permuted n rs runs are)) h
 
 -- ---- the fault of a piece, where no key stands twice
 
-pub only_memory : (rs : Records) (fault : LoadFault) → IsPieceFault rs fault → NoneTwice (keys_of rs) → IsTwiceFault rs fault
+pub only_memory : (rs : Records) (fault : LoadFault) → IsPieceFault rs fault → NoneTwice (keys_of rs) →
+    IsTwiceFault rs fault
 only_memory rs NotRising h none = h
 only_memory rs BadSize h none = h
 only_memory rs (Twice key) two none = absurd (omega (arith, two, none.once key))

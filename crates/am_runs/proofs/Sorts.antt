@@ -1,5 +1,6 @@
 -- Records that were sorted by key.
-use Rattle.std.proofs.Common.{◌≡◌, ℕ, ◌+◌, ◌<◌, ◌≤◌, zero, suc, true, List, [], ◌∷◌, length, get_or, Option, None, refl, sym, ap, ◌∙◌, subst, arith, ⊎_elim}
+use Rattle.std.proofs.Common.{◌≡◌, ℕ, ◌+◌, ◌<◌, ◌≤◌, zero, suc, true, List, [], ◌∷◌, length, get_or, Option, None, refl}
+use Rattle.std.proofs.Common.{sym, ap, ◌∙◌, subst, arith, ⊎_elim}
 use Rattle.std.specs.Prelude.{MatchOption}
 use Rattle.std.proofs.lemmas.Bool.{cases_Bool}
 use Rattle.std.specs.Ordering.{is_lt, is_eq, eq_by_cmp}
@@ -17,7 +18,12 @@ use Rattle.am_runs.proofs.Twice.{one_at, none_at, times_among-cons, ascends_by, 
 
 below_none : (k : OrderedKey) (rs : Records) → Below k rs → times_among k (keys_of rs) ≡ 0
 below_none k [] below = refl
-below_none k (r ∷ rs) below = omega (arith, times_among-cons k r.0 (keys_of rs), none_at k r.0 (ap is_eq below.0), below_none k rs below.1)
+below_none k (r ∷ rs) below = omega (
+  arith,
+  times_among-cons k r.0 (keys_of rs),
+  none_at k r.0 (ap is_eq below.0),
+  below_none k rs below.1,
+)
 
 rises_once : (rs : Records) → is_sorted key_cmp rs ≡ true → (key : OrderedKey) → times_among key (keys_of rs) ≤ 1
 rises_once [] sorted key = omega arith
@@ -25,14 +31,17 @@ rises_once (r ∷ rs) sorted key =
     let parts = sorted_parts r rs sorted in
     ⊎_elim
     (λ tie.
-    let none : times_among key (keys_of rs) ≡ 0 = subst (λ k. times_among k (keys_of rs) ≡ 0) (sym (key_eq-exact key r.0 tie)) (below_none r.0 rs parts.0) in
+    let none : times_among key (keys_of rs) ≡ 0 = subst (λ k. times_among k (keys_of rs) ≡ 0)
+    (sym (key_eq-exact key r.0 tie)) (below_none r.0 rs parts.0) in
     omega (arith, times_among-cons key r.0 (keys_of rs), one_at key r.0 tie, none))
     (λ apart. omega (arith, times_among-cons key r.0 (keys_of rs), none_at key r.0 apart, rises_once rs parts.1 key))
     (cases_Bool (eq_by_cmp key_cmp key r.0))
 
 -- nor of records that they are
-pub rising_apart : (records run : Records) → IsPermutation records run → is_rising run ≡ true → NoneTwice (keys_of records)
-rising_apart records run p rising = found_permuted None (keys_of records) (keys_of run) (IsPermutation-map (λ (r : Record). r.0) records run p) (record { once = rises_once run (run_sorted run rising) })
+pub rising_apart : (records run : Records) → IsPermutation records run → is_rising run ≡ true →
+    NoneTwice (keys_of records)
+rising_apart records run p rising = found_permuted None (keys_of records) (keys_of run)
+    (IsPermutation-map (λ (r : Record). r.0) records run p) (record { once = rises_once run (run_sorted run rising) })
 
 -- ---- sorted records, and their keys
 
@@ -45,14 +54,19 @@ keys_long : (rs : Records) → length (keys_of rs) ≡ length rs
 keys_long [] = refl
 keys_long (r ∷ rs) = ap suc (keys_long rs)
 
-module _ (records pairs run : Records) (keys : List OrderedKey) (first : IsPermutation records pairs) (second : IsPermutation pairs run) (sorted : IsSortedByKey (λ (r : Record). r.0) key_cmp run) (are : keys ≡ keys_of run) where
+module _ (records pairs run : Records) (keys : List OrderedKey) (first : IsPermutation records pairs)
+    (second : IsPermutation pairs run) (sorted : IsSortedByKey (λ (r : Record). r.0) key_cmp run)
+    (are : keys ≡ keys_of run) where
   pub keys_sorted : IsSorted key_cmp keys
-  keys_sorted = subst (IsSorted key_cmp) (sym are) (λ k d low less. (λ i. is_lt (key_cmp (key_at run (k + 1) d i) (key_at run k d i))) ∙ sorted k (d, []) low (omega (arith, less, keys_long run)))
+  keys_sorted = subst (IsSorted key_cmp) (sym are)
+      (λ k d low less. (λ i. is_lt (key_cmp (key_at run (k + 1) d i) (key_at run k d i))) ∙
+      sorted k (d, []) low (omega (arith, less, keys_long run)))
 
   moved : IsPermutation records run
   moved = IsPermutation-trans records pairs run first second
 
-  pub found_of : (found : Option OrderedKey) → MatchOption found (NoneTwice keys) (IsLeastTwice keys) → MatchOption found (NoneTwice (keys_of records)) (IsLeastTwice (keys_of records))
+  pub found_of : (found : Option OrderedKey) → MatchOption found (NoneTwice keys) (IsLeastTwice keys) →
+      MatchOption found (NoneTwice (keys_of records)) (IsLeastTwice (keys_of records))
   found_of found h =
       found_permuted found (keys_of records) (keys_of run) (IsPermutation-map (λ (r : Record). r.0) records run moved)
       (subst (λ ks. MatchOption found (NoneTwice ks) (IsLeastTwice ks)) are h)

@@ -15,5 +15,7 @@ all_permuted P ss ts p h = recursion_from_All P ts (All-permutation P ss ts p (A
 pub within_permuted : (rs : Records) (ss ts : List Spot) → IsPermutation ss ts → AreWithin rs ss → AreWithin rs ts
 within_permuted rs ss ts p h = record { each = all_permuted (λ t. t.place < length rs) ss ts p h.each }
 
-pub named_permuted : (rs : Records) (ss ts : List Spot) → IsPermutation ss ts → named rs ss ≡ rs → IsPermutation rs (named rs ts)
-named_permuted rs ss ts p all = subst (λ (l : Records). IsPermutation l (named rs ts)) all (IsPermutation-map (λ (s : Spot). get_or rs s.place (key_least, [])) ss ts p)
+pub named_permuted : (rs : Records) (ss ts : List Spot) → IsPermutation ss ts → named rs ss ≡ rs →
+    IsPermutation rs (named rs ts)
+named_permuted rs ss ts p all = subst (λ (l : Records). IsPermutation l (named rs ts)) all
+    (IsPermutation-map (λ (s : Spot). get_or rs s.place (key_least, [])) ss ts p)

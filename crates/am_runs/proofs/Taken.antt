@@ -7,7 +7,8 @@ use Rattle.std.specs.FinMap.{get, entries, entries_sorted, get-entries}
 use Rattle.am_record.specs.OrderedKey.{OrderedKey}
 use Rattle.am_record.specs.Interval.{key_le}
 use Rattle.am_record.specs.Plain.{PlainMap, Records, is_key_of, least_taken}
-use Rattle.am_record.proofs.FirstRows.{Record, key_eq, key_eq-itself, le_both, first_passes, first_found, none_found, first_least}
+use Rattle.am_record.proofs.FirstRows.{Record, key_eq, key_eq-itself, le_both, first_passes, first_found, none_found}
+use Rattle.am_record.proofs.FirstRows.{first_least}
 use Rattle.am_record.proofs.Outcomes.{is_true}
 
 -- the map has no key of the records
@@ -17,7 +18,8 @@ NoneTaken m rs = AllByRecursion (λ (r : Record). get m r.0 ≡ None) rs
 -- of the records' keys that the map has the least one, where it has one
 abbrev pub IsLeast : PlainMap → Records → Option OrderedKey → Type 0
 IsLeast m rs None = (q : OrderedKey) → is_key_of rs q ≡ true → get m q ≡ None
-IsLeast m rs (Some k) = (is_key_of rs k ≡ true) × (is_some (get m k) ≡ true) × ((q : OrderedKey) → is_key_of rs q ≡ true → is_some (get m q) ≡ true → key_le k q ≡ true)
+IsLeast m rs (Some k) = (is_key_of rs k ≡ true) × (is_some (get m k) ≡ true) ×
+    ((q : OrderedKey) → is_key_of rs q ≡ true → is_some (get m q) ≡ true → key_le k q ≡ true)
 
 module _ (m : PlainMap) where
   only_one : (rs : Records) (a b : Option OrderedKey) → IsLeast m rs a → IsLeast m rs b → a ≡ b
@@ -34,17 +36,20 @@ module _ (m : PlainMap) where
       by_cases (Some k) h = (
         first_passes (is_key_of rs) (entries m) k h,
         ap is_some (get-entries m k) ∙ first_found (is_key_of rs) (entries m) k h,
-        λ q key taken. first_least (is_key_of rs) (entries m) (is_true _ (entries_sorted m)) k h q key (sym (ap is_some (get-entries m q)) ∙ taken),
+        λ q key taken. first_least (is_key_of rs) (entries m) (is_true _ (entries_sorted m)) k h q key
+            (sym (ap is_some (get-entries m q)) ∙ taken),
       )
 
   -- there is but one, so what is found is it
   pub least_found : (rs : Records) (o : Option OrderedKey) → IsLeast m rs o → o ≡ least_taken rs m
   least_found rs o h = only_one rs o (least_taken rs m) h (is_least rs)
 
-  none_of : (all rs : Records) → least_taken all m ≡ None → ((k : OrderedKey) → is_key_of rs k ≡ true → is_key_of all k ≡ true) → NoneTaken m rs
+  none_of : (all rs : Records) → least_taken all m ≡ None →
+      ((k : OrderedKey) → is_key_of rs k ≡ true → is_key_of all k ≡ true) → NoneTaken m rs
   none_of all [] h within = tt
   none_of all (r ∷ rs) h within = (
-    get-entries m r.0 ∙ none_found (is_key_of all) (entries m) h r.0 (within r.0 (or_left (key_eq r.0 r.0) (is_key_of rs r.0) (key_eq-itself r.0))),
+    get-entries m r.0 ∙ none_found (is_key_of all) (entries m) h r.0
+        (within r.0 (or_left (key_eq r.0 r.0) (is_key_of rs r.0) (key_eq-itself r.0))),
     none_of all rs h (λ k key. within k (or_right (key_eq k r.0) (is_key_of rs k) key)),
   )
 

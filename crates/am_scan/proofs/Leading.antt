@@ -14,12 +14,16 @@ use Rattle.am_record.specs.OrderedKey.{key_cmp}
 use Rattle.am_scan.proofs.Moving.{less_le}
 
 -- above a head that is not below any of these
-pub not_below_others : (a b : Stand) (heads : List Stand) → is_le (head_cmp b a) ≡ true → IsUpperBound head_cmp b heads → IsUpperBound head_cmp a heads
+pub not_below_others : (a b : Stand) (heads : List Stand) → is_le (head_cmp b a) ≡ true →
+    IsUpperBound head_cmp b heads → IsUpperBound head_cmp a heads
 not_below_others a b [] over bound = tt
 not_below_others a b (y ∷ ys) over bound = (by_order (head_cmp a y) refl, not_below_others a b ys over bound.1)
   where
     by_order : (o : Ordering) → head_cmp a y ≡ o → is_lt (head_cmp a y) ≡ false
-    by_order Less e = absurd (true≢false (sym (ap is_lt (less_le y.entry.key a.entry.key b.entry.key (key_cmp a.entry.key b.entry.key) e refl over)) ∙ bound.0))
+    by_order Less e =
+        absurd (true≢false (sym (ap is_lt (less_le y.entry.key a.entry.key b.entry.key (key_cmp a.entry.key b.entry.key)
+        e
+        refl over)) ∙ bound.0))
     by_order Equal e = ap is_lt e
     by_order Greater e = ap is_lt e
 
@@ -29,7 +33,8 @@ above_not_below Equal h = refl
 above_not_below Greater h = refl
 
 -- the top of a heap that was looked at is the one that is taken
-pub same_top : {A : Type 0} (xs : List A) (seen top : A) → 0 < length xs → seen ≡ get_or xs 0 seen → top ≡ get_or xs 0 top → top ≡ seen
+pub same_top : {A : Type 0} (xs : List A) (seen top : A) → 0 < length xs → seen ≡ get_or xs 0 seen →
+    top ≡ get_or xs 0 top → top ≡ seen
 same_top xs seen top some is_seen is_top = is_top ∙ get_or_default xs 0 top seen some ∙ sym is_seen
 
 -- two at the front in each other's place
@@ -37,12 +42,16 @@ pub turned_round : (a b : Stand) (heads : List Stand) → IsPermutation (a ∷ b
 turned_round a b heads = IsPermutation-swap (a ∷ b ∷ heads) (b ∷ a ∷ heads) 0 1 (omega arith) (omega arith) refl
 
 -- the least one leaves a heap, and another one comes
-pub changed_places : (a b : Stand) (old rest new : List Stand) → IsPermutation old (b ∷ rest) → IsPermutation (a ∷ rest) new → IsPermutation (a ∷ old) (b ∷ new)
+pub changed_places : (a b : Stand) (old rest new : List Stand) → IsPermutation old (b ∷ rest) →
+    IsPermutation (a ∷ rest) new → IsPermutation (a ∷ old) (b ∷ new)
 changed_places a b old rest new popped pushed =
     IsPermutation-trans (a ∷ old) (a ∷ b ∷ rest) (b ∷ new) (IsPermutation-cons a old (b ∷ rest) popped)
-    (IsPermutation-trans (a ∷ b ∷ rest) (b ∷ a ∷ rest) (b ∷ new) (turned_round a b rest) (IsPermutation-cons b (a ∷ rest) new pushed))
+    (IsPermutation-trans (a ∷ b ∷ rest) (b ∷ a ∷ rest) (b ∷ new) (turned_round a b rest)
+    (IsPermutation-cons b (a ∷ rest) new pushed))
 
-pub bound_of_both : (a b : Stand) (rest new : List Stand) → is_le (head_cmp b a) ≡ false → IsUpperBound head_cmp b rest → IsPermutation (a ∷ rest) new → IsUpperBound head_cmp b new
+pub bound_of_both : (a b : Stand) (rest new : List Stand) → is_le (head_cmp b a) ≡ false →
+    IsUpperBound head_cmp b rest → IsPermutation (a ∷ rest) new → IsUpperBound head_cmp b new
 bound_of_both a b rest new over bound pushed =
     let P : Stand → Type 0 = λ y. is_lt (head_cmp b y) ≡ false in
-    recursion_from_All P new (All-permutation P (a ∷ rest) new pushed (All-from_recursion P (a ∷ rest) (above_not_below (head_cmp b a) over, bound)))
+    recursion_from_All P new (All-permutation P (a ∷ rest) new pushed
+    (All-from_recursion P (a ∷ rest) (above_not_below (head_cmp b a) over, bound)))

@@ -1,5 +1,6 @@
 -- What was read behind a head, and the entry that follows it.
-use Rattle.std.proofs.Common.{◌≡◌, ℕ, suc, ◌+◌, ◌<◌, ◌≤◌, ◌++◌, List, [], ◌∷◌, length, take, drop, get_or, Option, Some, None, refl, sym, ap, ◌∙◌, arith, add-one, drop-cons}
+use Rattle.std.proofs.Common.{◌≡◌, ℕ, suc, ◌+◌, ◌<◌, ◌≤◌, ◌++◌, List, [], ◌∷◌, length, take, drop, get_or, Option, Some}
+use Rattle.std.proofs.Common.{None, refl, sym, ap, ◌∙◌, arith, add-one, drop-cons}
 use Rattle.std.proofs.lemmas.List.{take-append-drop, drop_all, get_or_default}
 use Rattle.am_record.specs.declared.entry.Entry.{Entry}
 use Rattle.am_list.specs.Entries.{after, all_after}
@@ -32,13 +33,17 @@ module _ {es : List Entry} (walks : WalkLaws es) (laws : ReadLaws es) (h : Stand
   abbrev all : List Entry
   all = all_after es h.entry.part h.entry.key
 
-  none_follows : (o : Option Entry) → after es h.entry.part h.entry.key ≡ o → all ≡ [] → after es h.entry.part h.entry.key ≡ None
+  none_follows : (o : Option Entry) → after es h.entry.part h.entry.key ≡ o → all ≡ [] →
+      after es h.entry.part h.entry.key ≡ None
   none_follows None is end = is
-  none_follows (Some x) is end = absurd (no_cons x (all_after es h.entry.part x.key) (sym end ∙ laws.some h.entry.part h.entry.key x is))
+  none_follows (Some x) is end = absurd (no_cons x (all_after es h.entry.part x.key)
+      (sym end ∙ laws.some h.entry.part h.entry.key x is))
 
-  first_follows : (o : Option Entry) (x : Entry) (xs : List Entry) → after es h.entry.part h.entry.key ≡ o → all ≡ x ∷ xs → Some x ≡ o
+  first_follows : (o : Option Entry) (x : Entry) (xs : List Entry) → after es h.entry.part h.entry.key ≡ o →
+      all ≡ x ∷ xs → Some x ≡ o
   first_follows None x xs is front = absurd (no_cons x xs (sym (laws.none h.entry.part h.entry.key is) ∙ front))
-  first_follows (Some y) x xs is front = let same : x ∷ xs ≡ y ∷ all_after es h.entry.part y.key = sym front ∙ laws.some h.entry.part h.entry.key y is in ap Some (heads_same same)
+  first_follows (Some y) x xs is front = let same : x ∷ xs ≡ y ∷ all_after es h.entry.part y.key = sym front ∙
+      laws.some h.entry.part h.entry.key y is in ap Some (heads_same same)
     where
       heads_same : {a b : Entry} {xs ys : List Entry} → a ∷ xs ≡ b ∷ ys → a ≡ b
       heads_same e = cc
@@ -68,9 +73,11 @@ module _ {es : List Entry} (walks : WalkLaws es) (laws : ReadLaws es) (h : Stand
 -- ---- the same where it stands among what was read
 
 at_place : (xs : List Entry) (i : ℕ) (x : Entry) → i < length xs → x ≡ get_or xs i x → drop i xs ≡ x ∷ drop (i + 1) xs
-at_place xs i x inside stands = drop-cons xs i x inside ∙ ap (λ y. y ∷ drop (suc i) xs) (sym stands) ∙ ap (λ n. x ∷ drop n xs) (sym (add-one i))
+at_place xs i x inside stands = drop-cons xs i x inside ∙ ap (λ y. y ∷ drop (suc i) xs) (sym stands) ∙
+    ap (λ n. x ∷ drop n xs) (sym (add-one i))
 
-module _ {es : List Entry} (walks : WalkLaws es) (laws : ReadLaws es) (ahead : List Entry) (passed : ℕ) (is_ready : HasReadSome es (stand_at ahead passed)) where
+module _ {es : List Entry} (walks : WalkLaws es) (laws : ReadLaws es) (ahead : List Entry) (passed : ℕ)
+    (is_ready : HasReadSome es (stand_at ahead passed)) where
   abbrev here : Entry
   here = (stand_at ahead passed).entry
 
@@ -88,4 +95,5 @@ module _ {es : List Entry} (walks : WalkLaws es) (laws : ReadLaws es) (ahead : L
     follows_here = follows walks laws (stand_at ahead passed) is_ready x (drop (passed + 1 + 1) ahead) read
 
     pub goes_on_here : HasReadOn es (stand_at ahead (passed + 1))
-    goes_on_here = goes_on walks laws (stand_at ahead passed) is_ready x (drop (passed + 1 + 1) ahead) read (stand_at ahead (passed + 1)) (sym next_is) refl
+    goes_on_here = goes_on walks laws (stand_at ahead passed) is_ready x (drop (passed + 1 + 1) ahead) read
+        (stand_at ahead (passed + 1)) (sym next_is) refl

@@ -1,5 +1,6 @@
 -- Rows taken from the front of a list, one at a time.
-use Rattle.std.proofs.Common.{◌≡◌, ℕ, zero, suc, ◌+◌, ◌≤◌, ◌++◌, List, [], ◌∷◌, length, take, drop, Option, Some, None, refl, sym, ap, ◌∙◌, arith, length-append}
+use Rattle.std.proofs.Common.{◌≡◌, ℕ, zero, suc, ◌+◌, ◌≤◌, ◌++◌, List, [], ◌∷◌, length, take, drop, Option, Some, None}
+use Rattle.std.proofs.Common.{refl, sym, ap, ◌∙◌, arith, length-append}
 use Rattle.std.proofs.lemmas.List.{append-nil}
 use Rattle.std.proofs.lemmas.Option.{none-some, same_Some}
 use Rattle.std.specs.List.{slice_get}
@@ -36,18 +37,21 @@ module _ {X : Type 0} where
   none_taken all taken none = record { together = ap (λ l. l ++ all) (sym none); count = ap length none }
 
   module _ {all taken left : List X} {n : ℕ} (so_far : AreTaken all taken left n) where
-    pub one_more : {o : Option X} {x : X} {taken' left' : List X} (n' : ℕ) → o ≡ slice_get left 0 → o ≡ Some x → left' ≡ drop 1 left → taken' ≡ taken ++ x ∷ [] → n' ≡ n + 1 → AreTaken all taken' left' n'
+    pub one_more : {o : Option X} {x : X} {taken' left' : List X} (n' : ℕ) → o ≡ slice_get left 0 → o ≡ Some x →
+        left' ≡ drop 1 left → taken' ≡ taken ++ x ∷ [] → n' ≡ n + 1 → AreTaken all taken' left' n'
     one_more {x = x} {taken' = taken'} {left' = left'} n' first is rest pushed next = record {
       together =
           so_far.together
           ∙ ap (λ l. taken ++ l) (first_of left x (sym first ∙ is) ∙ ap (λ l. x ∷ l) (sym rest))
           ∙ sym (append_one taken x left')
           ∙ ap (λ l. l ++ left') (sym pushed);
-      count = let long = ap length pushed ∙ length-append taken (x ∷ []) in let had = so_far.count in omega (arith, long, had, next);
+      count = let long = ap length pushed ∙ length-append taken (x ∷ []) in let had = so_far.count in
+          omega (arith, long, had, next);
     }
 
     pub enough : (max : ℕ) → max ≡ n → taken ≡ take max all
-    enough max is = sym (ap (take max) so_far.together ∙ ap (λ k. take k (taken ++ left)) (is ∙ sym so_far.count) ∙ take_front taken left)
+    enough max is = sym (ap (take max) so_far.together ∙ ap (λ k. take k (taken ++ left)) (is ∙ sym so_far.count) ∙
+        take_front taken left)
 
     pub no_more : {o : Option X} (max : ℕ) → n ≤ max → o ≡ slice_get left 0 → o ≡ None → taken ≡ take max all
     no_more max low first is =

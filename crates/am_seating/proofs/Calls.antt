@@ -1,5 +1,6 @@
 -- What is open in a seat behind a call.
-use Rattle.std.proofs.Common.{◌≡◌, ℕ, List, [], ◌∷◌, ◌++◌, Bool, true, false, Option, Some, None, length, refl, sym, ap, ◌∙◌, ◌-◌, arith, length-append}
+use Rattle.std.proofs.Common.{◌≡◌, ℕ, List, [], ◌∷◌, ◌++◌, Bool, true, false, Option, Some, None, length, refl, sym, ap}
+use Rattle.std.proofs.Common.{◌∙◌, ◌-◌, arith, length-append}
 use Rattle.std.specs.Prelude.{MatchBool, slice_get}
 use Rattle.std.proofs.lemmas.Option.{slice_get-get_or}
 use Rattle.std.proofs.Math.Seq.{get_or-append_seam}
@@ -7,7 +8,9 @@ use Rattle.am_record.specs.Sessions.{IsAllowed, active_after}
 use Rattle.am_record.specs.declared.step.Step.{Step}
 use Rattle.am_record.specs.declared.step.Step.TheVariants.{Begin, Do, Commit, Abort, Merge, Clean}
 use Rattle.am_record.specs.declared.step.Reply.{Reply}
-use Rattle.am_record.specs.declared.step.Reply.TheVariants.{Begun, Done, Found, Absent, Rows, Exists, Missing, Committed, Aborted, Moved, MergeDone, Ended, Idle, Cleaned, NoMark, Refused}
+use Rattle.am_record.specs.declared.step.Reply.TheVariants.{Begun, Done, Found, Absent, Rows, Exists, Missing}
+use Rattle.am_record.specs.declared.step.Reply.TheVariants.{Committed, Aborted, Moved, MergeDone, Ended, Idle, Cleaned}
+use Rattle.am_record.specs.declared.step.Reply.TheVariants.{NoMark, Refused}
 use Rattle.am_latch.specs.declared.receipt.Receipt.{Receipt}
 use Rattle.am_latch.specs.declared.change.Change.TheVariants.{Ends}
 use Rattle.am_latch.specs.Changes.{change, open_after, is_stored, IsReplyTo, IsBoundedReply}
@@ -16,7 +19,8 @@ use Rattle.am_latch.specs.Ties.{open_from, open_of}
 use Rattle.am_latch.specs.Ties.{EndsTx as IsEnded}
 use Rattle.am_talk.specs.Actions.{EndsAbort}
 
-open_behind : (o : Option ℕ) (rs : List Receipt) (r : Receipt) → open_from o (rs ++ r ∷ []) ≡ open_after (open_from o rs) (change r.step r.reply)
+open_behind : (o : Option ℕ) (rs : List Receipt) (r : Receipt) → open_from o (rs ++ r ∷ []) ≡ open_after
+    (open_from o rs) (change r.step r.reply)
 open_behind o [] r = refl
 open_behind o (q ∷ rs) r = open_behind (open_after o (change q.step q.reply)) rs r
 
@@ -122,12 +126,16 @@ unstored o (Cleaned n') e = absurd (cc)
 unstored o NoMark e = absurd (cc)
 unstored o (Refused why') e = refl
 
-behind : (s s' : SeatState) (st : Step) (r : Reply) (b : Bool) → is_stored r ≡ b → IsReplyTo st r → MatchBool b (GetsReceipt s st r s') (s' ≡ s) → open_of s'.receipts ≡ active_after (open_of s.receipts) r
+behind : (s s' : SeatState) (st : Step) (r : Reply) (b : Bool) → is_stored r ≡ b → IsReplyTo st r →
+    MatchBool b (GetsReceipt s st r s') (s' ≡ s) → open_of s'.receipts ≡ active_after (open_of s.receipts) r
 behind s s' st r true e f h =
-    ap (λ (x : SeatState). open_of x.receipts) h.1 ∙ open_behind None s.receipts (receipt s.number (length s.receipts) st r h.0) ∙ opened_by (open_of s.receipts) st r f
+    ap (λ (x : SeatState). open_of x.receipts) h.1 ∙
+    open_behind None s.receipts (receipt s.number (length s.receipts) st r h.0) ∙ opened_by (open_of s.receipts) st r
+    f
 behind s s' st r false e f h = ap (λ (x : SeatState). open_of x.receipts) h ∙ sym (unstored (open_of s.receipts) r e)
 
-pub active_behind : (s s' : SeatState) (st : Step) (r : Reply) → IsBoundedReply st r → HasReceiptOf s st r s' → open_of s'.receipts ≡ active_after (open_of s.receipts) r
+pub active_behind : (s s' : SeatState) (st : Step) (r : Reply) → IsBoundedReply st r → HasReceiptOf s st r s' →
+    open_of s'.receipts ≡ active_after (open_of s.receipts) r
 active_behind s s' st r b h = behind s s' st r (is_stored r) refl b.fits h
 
 abort_ends : (t : ℕ) (r : Reply) → change (Abort t) r ≡ Ends t → r ≡ Aborted
@@ -159,5 +167,6 @@ aborts (Clean range limit) r h = tt
 -- the last receipt behind a commit is of it
 last_one : (rs : List Receipt) (r : Receipt) → slice_get (rs ++ r ∷ []) (length (rs ++ r ∷ []) - 1) ≡ Some r
 last_one rs r =
-    ap (λ (n : ℕ). slice_get (rs ++ r ∷ []) n) (omega (arith, length-append rs (r ∷ []))) ∙ slice_get-get_or (rs ++ r ∷ []) (length rs) r (omega (arith, length-append rs (r ∷ [])))
+    ap (λ (n : ℕ). slice_get (rs ++ r ∷ []) n) (omega (arith, length-append rs (r ∷ []))) ∙
+    slice_get-get_or (rs ++ r ∷ []) (length rs) r (omega (arith, length-append rs (r ∷ [])))
     ∙ ap Some (get_or-append_seam rs r [] r)

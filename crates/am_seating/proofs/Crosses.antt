@@ -14,6 +14,15 @@ use Rattle.am_seating.specs.contracts.session_seat.SessionSeat as SessionSeat
 use Rattle.am_seating.specs.contracts.session_seat.SessionSeat.TheInside as Inside
 
 pub place_send : (a : NamedLft) (T : RattleType) (g : latch_name.Ghosts T.Denot) → IsSend (SessionSeat.the_row a T g)
-place_send a T g = view_send (Inside.the_row a T g) _ _ _ _ (recorded_send (Inside.the_field a T g).row _ _ (Inside.the_type a T g).to_one
-    (struct_send (declared.shape (Inside.the_type a T g))
-    (shr_send _ _ (Latch.the_row T g) (latch_sync T g), (shr_send _ _ Words.the_row words.the_sync, (seat.the_send T g, (word_seat.the_send, (plain_send _ _ _ _ _, tt)))))))
+place_send a T g = view_send (Inside.the_row a T g) _ _ _ _
+    (recorded_send (Inside.the_field a T g).row _ _ (Inside.the_type a T g).to_one
+    (struct_send (declared.shape (Inside.the_type a T g)) (
+      shr_send _ _ (Latch.the_row T g) (latch_sync T g),
+      (
+        shr_send _ _ Words.the_row words.the_sync,
+        (
+          seat.the_send T g,
+          (word_seat.the_send, (plain_send _ _ _ _ _, tt)),
+        ),
+      ),
+    )))

@@ -1,5 +1,6 @@
 -- A session's receipts, event by event.
-use Rattle.std.proofs.Common.{◌≡◌, ℕ, List, [], ◌∷◌, ◌++◌, Bool, true, false, Option, Some, None, length, refl, sym, ap, subst, ◌∙◌, append_assoc, inl, inr, ⊎_elim, arith}
+use Rattle.std.proofs.Common.{◌≡◌, ℕ, List, [], ◌∷◌, ◌++◌, Bool, true, false, Option, Some, None, length, refl, sym, ap}
+use Rattle.std.proofs.Common.{subst, ◌∙◌, append_assoc, inl, inr, ⊎_elim, arith}
 use Rattle.std.specs.Prelude.{MatchBool, ◌==◌, cond, ◌⊎◌, max, nat_le}
 use Rattle.std.proofs.lemmas.Bool.{leb-true, leb-false}
 use Rattle.std.proofs.lemmas.List.{append-nil, map-append}
@@ -17,18 +18,27 @@ use Rattle.am_talk.specs.Dialogue.{Exchange}
 use Rattle.am_talk.specs.declared.action.Action.{Action}
 use Rattle.am_talk.specs.declared.action.Action.TheVariants.{Answer, Take, TellSeen}
 use Rattle.am_talk.specs.declared.response.Response.{Response}
-use Rattle.am_session.specs.Talk.{SessionPoint, AnswersAction, AnswersLine, Converses, Leaves, AnswersAll, AnswersOneMore}
-use Rattle.am_seating.specs.SessionSeats.{SessionSeatState, published, MakesCall, seat_meaning, HasReceipts, taken, stored_events}
+use Rattle.am_session.specs.Talk.{SessionPoint, AnswersAction, AnswersLine, Converses, Leaves, AnswersAll}
+use Rattle.am_session.specs.Talk.{AnswersOneMore}
+use Rattle.am_seating.specs.SessionSeats.{SessionSeatState, published, MakesCall, seat_meaning, HasReceipts, taken}
+use Rattle.am_seating.specs.SessionSeats.{stored_events}
 use Rattle.am_words.specs.Words.{WordHistory}
 
 -- ---- what is published
 
 abbrev IsPair : Trace → ℕ → Type 0
-IsPair pairs number = (number ≡ 0) ⊎ ((before after : Trace) × (step : Step) × (pairs ≡ before ++ (step, Committed number) ∷ after))
+IsPair pairs number = (number ≡ 0) ⊎ ((before after : Trace) × (step : Step) ×
+    (pairs ≡ before ++ (step, Committed number) ∷ after))
 
 more_pairs : (pairs more : Trace) (number : ℕ) → IsPair pairs number → IsPair (pairs ++ more) number
 more_pairs pairs more number (inl z) = inl z
-more_pairs pairs more number (inr h) = inr (h.0, h.1 ++ more, h.2, ap (λ (t : Trace). t ++ more) h.3 ∙ append_assoc h.0 ((h.2, Committed number) ∷ h.1) more)
+more_pairs pairs more number (inr h) = inr (
+  h.0,
+  h.1 ++ more,
+  h.2,
+  ap (λ (t : Trace). t ++ more) h.3 ∙
+      append_assoc h.0 ((h.2, Committed number) ∷ h.1) more,
+)
 
 last_pair : (pairs : Trace) (step : Step) (number : ℕ) → IsPair (pairs ++ (step, Committed number) ∷ []) number
 last_pair pairs step number = inr (pairs, [], step, refl)
@@ -40,10 +50,12 @@ greater a b = by_order (nat_le b a) refl
     by_order true e = inl (omega (arith, leb-true b a e))
     by_order false e = inr (omega (arith, leb-false b a e))
 
-publishes : (word_seat : WordHistory) (pairs : Trace) (step : Step) (r : Reply) → IsPair pairs word_seat.published → IsPair (pairs ++ cond (is_stored r) ((step, r) ∷ []) []) (published word_seat r).published
+publishes : (word_seat : WordHistory) (pairs : Trace) (step : Step) (r : Reply) → IsPair pairs word_seat.published →
+    IsPair (pairs ++ cond (is_stored r) ((step, r) ∷ []) []) (published word_seat r).published
 publishes word_seat pairs step (Committed c) is =
     ⊎_elim
-    (λ older. subst (IsPair (pairs ++ (step, Committed c) ∷ [])) (sym older) (more_pairs pairs ((step, Committed c) ∷ []) word_seat.published is))
+    (λ older. subst (IsPair (pairs ++ (step, Committed c) ∷ [])) (sym older)
+    (more_pairs pairs ((step, Committed c) ∷ []) word_seat.published is))
     (λ newer. subst (IsPair (pairs ++ (step, Committed c) ∷ [])) (sym newer) (last_pair pairs step c))
     (greater word_seat.published c)
 publishes word_seat pairs step r is = more_pairs pairs (cond (is_stored r) ((step, r) ∷ []) []) word_seat.published is
@@ -51,73 +63,106 @@ publishes word_seat pairs step r is = more_pairs pairs (cond (is_stored r) ((ste
 -- ---- receipts
 
 -- so does a state that is the same but for the words
-like : (old new : SessionSeatState) → new.seat ≡ old.seat → new.word_seat.published ≡ old.word_seat.published → HasReceipts old [] new
+like : (old new : SessionSeatState) → new.seat ≡ old.seat → new.word_seat.published ≡ old.word_seat.published →
+    HasReceipts old [] new
 like old new e p = record {
   published = λ is. subst (λ (z : SeatState × ℕ). IsPair (taken z.0.receipts) z.1) (λ i. (sym e i, sym p i)) is;
   seat = ap (λ (s : SeatState). s.number) e;
   receipts = ap (λ (s : SeatState). taken s.receipts) e ∙ sym (append-nil (taken old.seat.receipts));
 }
 
-joined : (a b c : SessionSeatState) (es fs : Trace) → HasReceipts a es b → HasReceipts b fs c → HasReceipts a (es ++ fs) c
+joined : (a b c : SessionSeatState) (es fs : Trace) → HasReceipts a es b → HasReceipts b fs c →
+    HasReceipts a (es ++ fs) c
 joined a b c es fs h k = record {
   published = λ is. k.published (h.published is);
   seat = k.seat ∙ h.seat;
   receipts =
-      k.receipts ∙ ap (λ (t : Trace). t ++ stored_events fs) h.receipts ∙ append_assoc (taken a.seat.receipts) (stored_events es) (stored_events fs)
-      ∙ ap (λ (t : Trace). taken a.seat.receipts ++ t) (sym (filter-append (λ (e : Step × Reply). is_stored e.1) es fs));
+      k.receipts ∙ ap (λ (t : Trace). t ++ stored_events fs) h.receipts ∙ append_assoc (taken a.seat.receipts)
+      (stored_events es) (stored_events fs)
+      ∙ ap (λ (t : Trace). taken a.seat.receipts ++ t)
+      (sym (filter-append (λ (e : Step × Reply). is_stored e.1) es fs));
 }
 
 -- the receipts behind a call, whether it is stored or not
 behind : (s s' : SeatState) (st : Step) (r : Reply) (b : Bool) → MatchBool b (GetsReceipt s st r s') (s' ≡ s)
     → (s'.number ≡ s.number) × (taken s'.receipts ≡ taken s.receipts ++ cond b ((st, r) ∷ []) [])
-behind s s' st r true h =
-    (ap (λ (x : SeatState). x.number) h.1, ap (λ (x : SeatState). taken x.receipts) h.1 ∙ map-append (λ (x : Receipt). (x.step, x.reply)) s.receipts (receipt s.number (length s.receipts) st r h.0 ∷ []))
-behind s s' st r false h = (ap (λ (x : SeatState). x.number) h, ap (λ (x : SeatState). taken x.receipts) h ∙ sym (append-nil (taken s.receipts)))
+behind s s' st r true h = (
+  ap (λ (x : SeatState). x.number) h.1,
+  ap (λ (x : SeatState). taken x.receipts) h.1 ∙
+      map-append (λ (x : Receipt). (x.step, x.reply)) s.receipts (receipt s.number (length s.receipts) st r h.0 ∷ []),
+)
+behind s s' st r false h = (
+  ap (λ (x : SeatState). x.number) h,
+  ap (λ (x : SeatState). taken x.receipts) h ∙
+      sym (append-nil (taken s.receipts)),
+)
 
-stayed : (old new : SessionPoint SessionSeatState) (events : Trace) → events ≡ [] → new ≡ old → HasReceipts old.0 events new.0
-stayed old new events none same = subst (λ (es : Trace). HasReceipts old.0 es new.0) (sym none) (like old.0 new.0 (ap (λ (p : SessionPoint SessionSeatState). p.0.seat) same) (ap (λ (p : SessionPoint SessionSeatState). p.0.word_seat.published) same))
+stayed : (old new : SessionPoint SessionSeatState) (events : Trace) → events ≡ [] → new ≡ old →
+    HasReceipts old.0 events new.0
+stayed old new events none same = subst (λ (es : Trace). HasReceipts old.0 es new.0) (sym none)
+    (like old.0 new.0 (ap (λ (p : SessionPoint SessionSeatState). p.0.seat) same)
+    (ap (λ (p : SessionPoint SessionSeatState). p.0.word_seat.published) same))
 
-went : (old new : SessionSeatState) (st : Step) (r : Reply) → MakesCall old st r new → HasReceipts old ((st, r) ∷ []) new
+went : (old new : SessionSeatState) (st : Step) (r : Reply) → MakesCall old st r new →
+    HasReceipts old ((st, r) ∷ []) new
 went old new st r h =
     let b = behind old.seat new.seat st r (is_stored r) h.called in
     record {
       seat = b.0;
       receipts = b.1;
-      published = λ is. subst (λ (z : Trace × ℕ). IsPair z.0 z.1) (λ i. (sym b.1 i, (sym h.word_seat i).published)) (publishes old.word_seat (taken old.seat.receipts) st r is);
+      published = λ is. subst (λ (z : Trace × ℕ). IsPair z.0 z.1) (λ i. (sym b.1 i, (sym h.word_seat i).published))
+          (publishes old.word_seat (taken old.seat.receipts) st r is);
     }
 
-answered : (old new : SessionPoint SessionSeatState) (due : Action) (response : Response) (events : Trace) → AnswersAction seat_meaning old due response events new → HasReceipts old.0 events new.0
+answered : (old new : SessionPoint SessionSeatState) (due : Action) (response : Response) (events : Trace) →
+    AnswersAction seat_meaning old due response events new → HasReceipts old.0 events new.0
 answered old new (Answer due) response events h = stayed old new events h.1 h.2
-answered old new (Take step) response events h = subst (λ (es : Trace). HasReceipts old.0 es new.0) (sym h.3) (went old.0 new.0 step h.0 h.1)
-answered old new TellSeen response events h = subst (λ (es : Trace). HasReceipts old.0 es new.0) (sym h.4) (like old.0 new.0 (ap (λ (p : SessionSeatState). p.seat) h.2.saw) (ap (λ (p : SessionSeatState). p.word_seat.published) h.2.saw))
+answered old new (Take step) response events h = subst (λ (es : Trace). HasReceipts old.0 es new.0) (sym h.3)
+    (went old.0 new.0 step h.0 h.1)
+answered old new TellSeen response events h = subst (λ (es : Trace). HasReceipts old.0 es new.0) (sym h.4)
+    (like old.0 new.0 (ap (λ (p : SessionSeatState). p.seat) h.2.saw)
+    (ap (λ (p : SessionSeatState). p.word_seat.published) h.2.saw))
 
-line : (old new : SessionPoint SessionSeatState) (e : Exchange) (events : Trace) → AnswersLine seat_meaning old e events new → HasReceipts old.0 events new.0
+line : (old new : SessionPoint SessionSeatState) (e : Exchange) (events : Trace) → AnswersLine seat_meaning old e events
+    new → HasReceipts old.0 events new.0
 line old new e events h = answered (old.0, h.2.1) new h.2.0 e.1 events h.2.3
 
 merged : (auto : ℕ) (b : Bool) (old new : SessionPoint SessionSeatState) (events : Trace)
-    → MatchBool b ((events ≡ []) × (new ≡ old)) ((m : Reply) × MakesCall old.0 (Merge auto) m new.0 × (events ≡ (Merge auto, m) ∷ []) × (new.1 ≡ staged_after old.1 m)) → HasReceipts old.0 events new.0
+    → MatchBool b ((events ≡ []) × (new ≡ old)) ((m : Reply) × MakesCall old.0 (Merge auto) m new.0 ×
+    (events ≡ (Merge auto, m) ∷ []) × (new.1 ≡ staged_after old.1 m)) → HasReceipts old.0 events new.0
 merged auto true old new events h = stayed old new events h.0 h.1
-merged auto false old new events h = subst (λ (es : Trace). HasReceipts old.0 es new.0) (sym h.2) (went old.0 new.0 (Merge auto) h.0 h.1)
+merged auto false old new events h = subst (λ (es : Trace). HasReceipts old.0 es new.0) (sym h.2)
+    (went old.0 new.0 (Merge auto) h.0 h.1)
 
-converse : (auto : ℕ) (exchanges : List Exchange) (old new : SessionPoint SessionSeatState) (events : Trace) → Converses seat_meaning auto old exchanges events new → HasReceipts old.0 events new.0
+converse : (auto : ℕ) (exchanges : List Exchange) (old new : SessionPoint SessionSeatState) (events : Trace) →
+    Converses seat_meaning auto old exchanges events new → HasReceipts old.0 events new.0
 converse auto [] old new events h = stayed old new events h.0 h.1
 converse auto (e ∷ exchanges) old new events (own, merges, later, mid, merging, answers, merge, rest, are) =
     subst (λ (es : Trace). HasReceipts old.0 es new.0) (sym are)
     (joined old.0 mid.0 new.0 own (merges ++ later) (line old mid e own answers)
-    (joined mid.0 merging.0 new.0 merges later (merged auto (auto == 0) mid merging merges merge) (converse auto exchanges merging new later rest)))
+    (joined mid.0 merging.0 new.0 merges later (merged auto (auto == 0) mid merging merges merge)
+    (converse auto exchanges merging new later rest)))
 
-left : (tx : Option ℕ) (old new : SessionSeatState) (events : Trace) → Leaves seat_meaning tx old events new → HasReceipts old events new
-left None old new events h = subst (λ (es : Trace). HasReceipts old es new) (sym h.0) (like old new (ap (λ (p : SessionSeatState). p.seat) h.1) (ap (λ (p : SessionSeatState). p.word_seat.published) h.1))
-left (Some tx) old new events h = subst (λ (es : Trace). HasReceipts old es new) (sym h.1) (went old new (Abort tx) Aborted h.0)
+left : (tx : Option ℕ) (old new : SessionSeatState) (events : Trace) → Leaves seat_meaning tx old events new →
+    HasReceipts old events new
+left None old new events h = subst (λ (es : Trace). HasReceipts old es new) (sym h.0)
+    (like old new (ap (λ (p : SessionSeatState). p.seat) h.1)
+    (ap (λ (p : SessionSeatState). p.word_seat.published) h.1))
+left (Some tx) old new events h = subst (λ (es : Trace). HasReceipts old es new) (sym h.1)
+    (went old new (Abort tx) Aborted h.0)
 
-pub all : (auto : ℕ) (old new : SessionSeatState) (exchanges : List Exchange) (events : Trace) → AnswersAll seat_meaning auto old exchanges events new → HasReceipts old events new
+pub all : (auto : ℕ) (old new : SessionSeatState) (exchanges : List Exchange) (events : Trace) →
+    AnswersAll seat_meaning auto old exchanges events new → HasReceipts old events new
 all auto old new exchanges events h =
     subst (λ (es : Trace). HasReceipts old es new) (sym h.are)
-    (joined old h.last.0 new h.own h.aborting (converse auto exchanges (old, []) h.last h.own h.converses) (left _ h.last.0 new h.aborting h.leaves))
+    (joined old h.last.0 new h.own h.aborting (converse auto exchanges (old, []) h.last h.own h.converses)
+    (left _ h.last.0 new h.aborting h.leaves))
 
 pub one_more : (auto : ℕ) (old new : SessionSeatState) (exchanges : List Exchange) (more : Exchange) (events : Trace)
     → AnswersOneMore seat_meaning auto old exchanges more events new → HasReceipts old events new
 one_more auto old new exchanges more events h =
     subst (λ (es : Trace). HasReceipts old es new) (sym h.are)
-    (joined old h.before.0 new h.own (h.its ++ h.aborting) (converse auto exchanges (old, []) h.before h.own h.converses)
-    (joined h.before.0 h.last.0 new h.its h.aborting (line h.before h.last more h.its h.answers) (left _ h.last.0 new h.aborting h.leaves)))
+    (joined old h.before.0 new h.own (h.its ++ h.aborting) (converse auto exchanges (old, []) h.before h.own
+    h.converses)
+    (joined h.before.0 h.last.0 new h.its h.aborting (line h.before h.last more h.its h.answers)
+    (left _ h.last.0 new h.aborting h.leaves)))

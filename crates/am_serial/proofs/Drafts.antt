@@ -2,7 +2,8 @@
 use Rattle.std.proofs.Common.{◌≡◌, List, [], ◌∷◌, Bool, true, false, refl, ◌∙◌}
 use Rattle.am_record.specs.OrderedKey.{OrderedKey}
 use Rattle.am_record.specs.declared.step.Op.{Op}
-use Rattle.am_record.specs.declared.step.Op.TheVariants.{Get, Scan, Insert, Replace, Delete, Load, Lock as TakeLock, Mark, Back}
+use Rattle.am_record.specs.declared.step.Op.TheVariants.{Get, Scan, Insert, Replace, Delete, Load, Lock as TakeLock}
+use Rattle.am_record.specs.declared.step.Op.TheVariants.{Mark, Back}
 use Rattle.am_record.specs.Plain.{PlainMap, Draft, fresh, went_back, draft_back, answer, draft_after, is_orderly}
 use Rattle.am_serial.specs.Agreement.{Agree, AllAgree, Alike, AllHave, Has}
 use Rattle.am_serial.proofs.Maps.{reads, writes, Within, agree_within, answer_local, after_local, after_frame}
@@ -16,14 +17,16 @@ went_back_alike S (m ∷ ms) (n ∷ ns) a = refl
 went_back_alike S [] (n ∷ ns) a = absurd a
 went_back_alike S (m ∷ ms) [] a = absurd a
 
-back_alike : (S : OrderedKey → Bool) (ms ns : List PlainMap) (d e : Draft) → AllAgree S ms ns → Alike S d e → Alike S (draft_back ms d) (draft_back ns e)
+back_alike : (S : OrderedKey → Bool) (ms ns : List PlainMap) (d e : Draft) → AllAgree S ms ns → Alike S d e →
+    Alike S (draft_back ms d) (draft_back ns e)
 back_alike S [] [] d e a h = h
 back_alike S (m ∷ ms) (n ∷ ns) d e a h = record { map = a.0; saved = a.1 }
 back_alike S [] (n ∷ ns) d e a h = absurd a
 back_alike S (m ∷ ms) [] d e a h = absurd a
 
 -- drafts that agree on what an operation may read get the same answer
-pub same_answer : {S : OrderedKey → Bool} (op : Op) (d e : Draft) → is_orderly op ≡ true → Within (reads op) S → Alike S d e → answer op d ≡ answer op e
+pub same_answer : {S : OrderedKey → Bool} (op : Op) (d e : Draft) → is_orderly op ≡ true → Within (reads op) S →
+    Alike S d e → answer op d ≡ answer op e
 same_answer (Get k) d e o w a = answer_local (Get k) d.map e.map o (agree_within w a.map)
 same_answer (Scan range max) d e o w a = answer_local (Scan range max) d.map e.map o (agree_within w a.map)
 same_answer (Insert k v) d e o w a = answer_local (Insert k v) d.map e.map o (agree_within w a.map)
@@ -35,9 +38,13 @@ same_answer Mark d e o w a = refl
 same_answer {S} Back d e o w a = went_back_alike S d.saved e.saved a.saved
 
 -- and go on agreeing
-pub still_alike : {S : OrderedKey → Bool} (op : Op) (d e : Draft) → is_orderly op ≡ true → Within (reads op) S → Alike S d e → Alike S (draft_after op d) (draft_after op e)
+pub still_alike : {S : OrderedKey → Bool} (op : Op) (d e : Draft) → is_orderly op ≡ true → Within (reads op) S →
+    Alike S d e → Alike S (draft_after op d) (draft_after op e)
 still_alike (Get k) d e o w a = record { map = after_local (Get k) d.map e.map o w a.map; saved = a.saved }
-still_alike (Scan range max) d e o w a = record { map = after_local (Scan range max) d.map e.map o w a.map; saved = a.saved }
+still_alike (Scan range max) d e o w a = record {
+  map = after_local (Scan range max) d.map e.map o w a.map;
+  saved = a.saved;
+}
 still_alike (Insert k v) d e o w a = record { map = after_local (Insert k v) d.map e.map o w a.map; saved = a.saved }
 still_alike (Replace k v) d e o w a = record { map = after_local (Replace k v) d.map e.map o w a.map; saved = a.saved }
 still_alike (Delete k) d e o w a = record { map = after_local (Delete k) d.map e.map o w a.map; saved = a.saved }
@@ -49,12 +56,14 @@ still_alike {S} Back d e o w a = back_alike S d.saved e.saved d e a.saved a
 pub fresh_has : (q : OrderedKey) (m : PlainMap) → Has q m (fresh m)
 fresh_has q m = record { map = refl; saved = tt }
 
-back_has : (q : OrderedKey) (m : PlainMap) (ms : List PlainMap) (d : Draft) → AllHave q m ms → Has q m d → Has q m (draft_back ms d)
+back_has : (q : OrderedKey) (m : PlainMap) (ms : List PlainMap) (d : Draft) → AllHave q m ms → Has q m d →
+    Has q m (draft_back ms d)
 back_has q m [] d a h = h
 back_has q m (n ∷ ns) d a h = record { map = a.0; saved = a.1 }
 
 -- an operation leaves each key as it is that it hasn't exclusively locked
-pub still_has : (op : Op) (d : Draft) (q : OrderedKey) (m : PlainMap) → is_orderly op ≡ true → writes op q ≡ false → Has q m d → Has q m (draft_after op d)
+pub still_has : (op : Op) (d : Draft) (q : OrderedKey) (m : PlainMap) → is_orderly op ≡ true → writes op q ≡ false →
+    Has q m d → Has q m (draft_after op d)
 still_has (Get k) d q m o w h = h
 still_has (Scan range max) d q m o w h = h
 still_has (Insert k v) d q m o w h = record { map = after_frame (Insert k v) d.map q o w ∙ h.map; saved = h.saved }

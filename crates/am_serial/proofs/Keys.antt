@@ -17,12 +17,14 @@ use Rattle.am_record.proofs.FirstRows.{key_eq-itself}
 pub not_in_point : (q k : OrderedKey) → within (point k) q ≡ false → eq_by_cmp key_cmp q k ≡ false
 not_in_point q k h = false_from_ne_true (eq_by_cmp key_cmp q k) (λ e.
     both_ways (within (point k) q) h
-    (and_from (key_le k q) (key_le q k) (subst (λ x. key_le k x ≡ true) (sym (key_eq-exact q k e)) (key_le-itself k)) (subst (λ x. key_le x k ≡ true) (sym (key_eq-exact q k e)) (key_le-itself k))))
+    (and_from (key_le k q) (key_le q k) (subst (λ x. key_le k x ≡ true) (sym (key_eq-exact q k e)) (key_le-itself k))
+    (subst (λ x. key_le x k ≡ true) (sym (key_eq-exact q k e)) (key_le-itself k))))
 
 pub in_point : (k : OrderedKey) → within (point k) k ≡ true
 in_point k = and_from (key_le k k) (key_le k k) (key_le-itself k) (key_le-itself k)
 
-from_below : (x q : OrderedKey) (ps : Records) → below_all key_cmp x ps ≡ true → is_key_of ps q ≡ true → key_le x q ≡ true
+from_below : (x q : OrderedKey) (ps : Records) → below_all key_cmp x ps ≡ true → is_key_of ps q ≡ true →
+    key_le x q ≡ true
 from_below x q [] b h = absurd (false≢true h)
 from_below x q (e ∷ es) b h =
     let parts = and_parts (is_lt (key_cmp x e.0)) (below_all key_cmp x es) b in
@@ -31,7 +33,8 @@ from_below x q (e ∷ es) b h =
     (λ later. from_below x q es parts.1 later)
     (or_cases (eq_by_cmp key_cmp q e.0) (is_key_of es q) h)
 
-up_to_last : (q : OrderedKey) (p : OrderedKey × List ℕ) (ps : Records) → is_sorted key_cmp (p ∷ ps) ≡ true → is_key_of (p ∷ ps) q ≡ true → key_le q (last_key p.0 ps) ≡ true
+up_to_last : (q : OrderedKey) (p : OrderedKey × List ℕ) (ps : Records) → is_sorted key_cmp (p ∷ ps) ≡ true →
+    is_key_of (p ∷ ps) q ≡ true → key_le q (last_key p.0 ps) ≡ true
 up_to_last q p [] s h =
     ⊎_elim
     (λ here. subst (λ y. key_le y p.0 ≡ true) (sym (key_eq-exact q p.0 here)) (key_le-itself p.0))
@@ -47,7 +50,8 @@ up_to_last q p (e ∷ es) s h =
     (λ later. up_to_last q e es parts.1 later)
     (or_cases (eq_by_cmp key_cmp q p.0) (is_key_of (e ∷ es) q) h)
 
-from_first : (q : OrderedKey) (p : OrderedKey × List ℕ) (ps : Records) → is_sorted key_cmp (p ∷ ps) ≡ true → is_key_of (p ∷ ps) q ≡ true → key_le p.0 q ≡ true
+from_first : (q : OrderedKey) (p : OrderedKey × List ℕ) (ps : Records) → is_sorted key_cmp (p ∷ ps) ≡ true →
+    is_key_of (p ∷ ps) q ≡ true → key_le p.0 q ≡ true
 from_first q p ps s h =
     let parts = and_parts (below_all key_cmp p.0 ps) (is_sorted key_cmp ps) s in
     ⊎_elim
@@ -56,6 +60,8 @@ from_first q p ps s h =
     (or_cases (eq_by_cmp key_cmp q p.0) (is_key_of ps q) h)
 
 -- the keys of rising pairs lie from the first to the last
-pub in_span : (pairs : Records) (q : OrderedKey) → is_rising pairs ≡ true → is_key_of pairs q ≡ true → within (span pairs) q ≡ true
+pub in_span : (pairs : Records) (q : OrderedKey) → is_rising pairs ≡ true → is_key_of pairs q ≡ true →
+    within (span pairs) q ≡ true
 in_span [] q s h = absurd (false≢true h)
-in_span (p ∷ ps) q s h = and_from (key_le p.0 q) (key_le q (last_key p.0 ps)) (from_first q p ps s h) (up_to_last q p ps s h)
+in_span (p ∷ ps) q s h = and_from (key_le p.0 q) (key_le q (last_key p.0 ps)) (from_first q p ps s h)
+    (up_to_last q p ps s h)

@@ -1,5 +1,6 @@
 -- The machine's state is that of its trace, and what it may do keeps the invariant.
-use Rattle.std.proofs.Common.{◌≡◌, ◌≢◌, ℕ, ◌<◌, List, [], ◌∷◌, ◌++◌, length, map, Bool, true, false, cond, refl, sym, ap, ◌∙◌, subst, ⊎_elim, ◌⊎◌, Option, Some, None, arith, append_assoc, length-append}
+use Rattle.std.proofs.Common.{◌≡◌, ◌≢◌, ℕ, ◌<◌, List, [], ◌∷◌, ◌++◌, length, map, Bool, true, false, cond, refl, sym}
+use Rattle.std.proofs.Common.{ap, ◌∙◌, subst, ⊎_elim, ◌⊎◌, Option, Some, None, arith, append_assoc, length-append}
 use Rattle.std.specs.Prelude.{◌&&◌, ◌||◌, ◌==◌, not, filter, MatchOption}
 use Rattle.std.specs.FinMap.{contains_key, get, empty}
 use Rattle.std.proofs.lemmas.Bool.{false≢true, or_cases, not-false, and_cases, eqb-true}
@@ -9,40 +10,53 @@ use Rattle.am_record.specs.declared.step.Refusal.{Refusal}
 use Rattle.am_record.specs.declared.step.Refusal.TheVariants.{NoSuchTx, TooManyTx, TooManyOps, NotRising, NoMemory}
 use Rattle.am_record.specs.declared.lock.Lock.{Lock}
 use Rattle.am_record.specs.declared.step.Op.{Op}
-use Rattle.am_record.specs.declared.step.Op.TheVariants.{Get, Scan, Insert, Replace, Delete, Load, Lock as TakeLock, Mark, Back}
+use Rattle.am_record.specs.declared.step.Op.TheVariants.{Get, Scan, Insert, Replace, Delete, Load, Lock as TakeLock}
+use Rattle.am_record.specs.declared.step.Op.TheVariants.{Mark, Back}
 use Rattle.am_record.specs.declared.step.Step.{Step}
 use Rattle.am_record.specs.declared.step.Step.TheVariants.{Begin, Do, Commit, Abort}
 use Rattle.am_record.specs.declared.step.Reply.{Reply}
 use Rattle.am_record.specs.declared.step.Reply.TheVariants.{Done, Begun, Exists, Missing, Committed, Aborted, Refused}
 use Rattle.am_record.specs.OrderedKey.{OrderedKey}
-use Rattle.am_record.specs.Plain.{PlainMap, Draft, fresh, answer, left_on, is_orderly, found, exists_or_done, least_taken, went_back}
+use Rattle.am_record.specs.Plain.{PlainMap, Draft, fresh, answer, left_on, is_orderly, found, exists_or_done}
+use Rattle.am_record.specs.Plain.{least_taken, went_back}
 use Rattle.am_record.specs.Asks.{lock_of, clashes, locks_of}
 use Rattle.am_record.specs.Events.{Event}
-use Rattle.am_serial.specs.Trace.{Trace, Answered, Effect, Begins, Answers, Commits, Aborts, Nothing, effect, effect_of_do, effects, ops_of, left_by_bodies}
+use Rattle.am_serial.specs.Trace.{Trace, Answered, Effect, Begins, Answers, Commits, Aborts, Nothing, effect}
+use Rattle.am_serial.specs.Trace.{effect_of_do, effects, ops_of, left_by_bodies}
 use Rattle.am_record.specs.Refusals.{or_else, lock_refusal}
-use Rattle.am_serial.specs.Machine.{State, Transaction, start, is_open, view, blocker, due_early, due_lock, due, May, extended, without_transaction, next, Runs, after_run}
-use Rattle.am_serial.proofs.Views.{View, view_of, view_of-push, push, among, active_in, committed_in, with_body, state_of, is_open-with_body, body_in-with_body}
-use Rattle.am_serial.proofs.Serial.{Inv, MayAnswer, MayBe, push_inv, none, none_inv, same_committed_bodies, commits_committed}
+use Rattle.am_serial.specs.Machine.{State, Transaction, start, is_open, view, blocker, due_early, due_lock, due, May}
+use Rattle.am_serial.specs.Machine.{extended, without_transaction, next, Runs, after_run}
+use Rattle.am_serial.proofs.Views.{View, view_of, view_of-push, push, among, active_in, committed_in, with_body}
+use Rattle.am_serial.proofs.Views.{state_of, is_open-with_body, body_in-with_body}
+use Rattle.am_serial.proofs.Serial.{Inv, MayAnswer, MayBe, push_inv, none, none_inv, same_committed_bodies}
+use Rattle.am_serial.proofs.Serial.{commits_committed}
 
 -- ---- the state after an event
 
-pub after_run-push : (trace : Trace) (s : State) (e : Event) → after_run s (trace ++ e ∷ []) ≡ next (after_run s trace) (effect e.0 e.1)
+pub after_run-push : (trace : Trace) (s : State) (e : Event) → after_run s (trace ++ e ∷ []) ≡ next (after_run s trace)
+    (effect e.0 e.1)
 after_run-push [] s e = refl
 after_run-push (x ∷ trace) s e = after_run-push trace (next s (effect x.0 x.1)) e
 
-pub extended-with_body : (t : ℕ) (done : Answered) (f : ℕ → List Answered) (ts : List ℕ) → map (extended t done) (map (with_body f) ts) ≡ map (with_body (λ u. cond (t == u) (f u ++ done ∷ []) (f u))) ts
+pub extended-with_body : (t : ℕ) (done : Answered) (f : ℕ → List Answered) (ts : List ℕ) →
+    map (extended t done) (map (with_body f) ts) ≡ map (with_body (λ u. cond (t == u) (f u ++ done ∷ []) (f u))) ts
 extended-with_body t done f [] = refl
-extended-with_body t done f (x ∷ ts) = ap (λ xs. (x, cond (t == x) (f x ++ done ∷ []) (f x)) ∷ xs) (extended-with_body t done f ts)
+extended-with_body t done f (x ∷ ts) = ap (λ xs. (x, cond (t == x) (f x ++ done ∷ []) (f x)) ∷ xs)
+    (extended-with_body t done f ts)
 
-pub without_transaction-with_body : (t : ℕ) (f : ℕ → List Answered) (ts : List ℕ) → without_transaction t (map (with_body f) ts) ≡ map (with_body f) (filter (λ x. not (x == t)) ts)
+pub without_transaction-with_body : (t : ℕ) (f : ℕ → List Answered) (ts : List ℕ) →
+    without_transaction t (map (with_body f) ts) ≡ map (with_body f) (filter (λ x. not (x == t)) ts)
 without_transaction-with_body t f [] = refl
 without_transaction-with_body t f (x ∷ ts) =
-    elim (not (x == t)) as (λ b. cond b ((x, f x) ∷ without_transaction t (map (with_body f) ts)) (without_transaction t (map (with_body f) ts)) ≡ map (with_body f) (cond b (x ∷ filter (λ x. not (x == t)) ts) (filter (λ x. not (x == t)) ts))) [
+    elim (not (x == t)) as (λ b. cond b ((x, f x) ∷ without_transaction t (map (with_body f) ts))
+    (without_transaction t (map (with_body f) ts)) ≡ map (with_body f)
+    (cond b (x ∷ filter (λ x. not (x == t)) ts) (filter (λ x. not (x == t)) ts))) [
       | true ↦ ap (λ xs. (x, f x) ∷ xs) (without_transaction-with_body t f ts)
       | false ↦ without_transaction-with_body t f ts
     ]
 
-pub not_among_push : (ended : List ℕ) (t x : ℕ) → not (among (ended ++ t ∷ []) x) ≡ (not (among ended x) && not (x == t))
+pub not_among_push : (ended : List ℕ) (t x : ℕ) →
+    not (among (ended ++ t ∷ []) x) ≡ (not (among ended x) && not (x == t))
 not_among_push [] t x = elim (x == t) as (λ b. not (b || false) ≡ not b) [ true ↦ refl | false ↦ refl ]
 not_among_push (e ∷ ended) t x =
     elim (x == e) as (λ b. not (b || among (ended ++ t ∷ []) x) ≡ (not (b || among ended x) && not (x == t))) [
@@ -50,32 +64,53 @@ not_among_push (e ∷ ended) t x =
       | false ↦ not_among_push ended t x
     ]
 
-pub filter_twice : (p q r : ℕ → Bool) → ((x : ℕ) → r x ≡ (p x && q x)) → (xs : List ℕ) → filter r xs ≡ filter q (filter p xs)
+pub filter_twice : (p q r : ℕ → Bool) → ((x : ℕ) → r x ≡ (p x && q x)) → (xs : List ℕ) →
+    filter r xs ≡ filter q (filter p xs)
 filter_twice p q r h [] = refl
 filter_twice p q r h (x ∷ xs) =
     ap (λ b. cond b (x ∷ filter r xs) (filter r xs)) (h x)
-    ∙ elim (p x) as (λ b. cond (b && q x) (x ∷ filter r xs) (filter r xs) ≡ filter q (cond b (x ∷ filter p xs) (filter p xs))) [
+    ∙ elim (p x) as (λ b. cond (b && q x) (x ∷ filter r xs) (filter r xs) ≡ filter q
+    (cond b (x ∷ filter p xs) (filter p xs))) [
       | true ↦ ap (λ ys. cond (q x) (x ∷ ys) ys) (filter_twice p q r h xs)
       | false ↦ filter_twice p q r h xs
     ]
 
-pub same_state : (b b' c c' r r' : ℕ) (m m' : PlainMap) (a a' : List Transaction) → b ≡ b' → c ≡ c' → r ≡ r' → m ≡ m' → a ≡ a' →
-    ◌≡◌ {A = State} (record { begun = b; commits = c; runs = r; committed = m; active = a }) (record { begun = b'; commits = c'; runs = r'; committed = m'; active = a' })
-same_state b b' c c' r r' m m' a a' pb pc pr pm pa i = record { begun = pb i; commits = pc i; runs = pr i; committed = pm i; active = pa i }
+pub same_state : (b b' c c' r r' : ℕ) (m m' : PlainMap) (a a' : List Transaction) → b ≡ b' → c ≡ c' → r ≡ r' → m ≡ m' →
+    a ≡ a' →
+    ◌≡◌ {A = State} (record { begun = b; commits = c; runs = r; committed = m; active = a }) (record {
+      begun = b';
+      commits = c';
+      runs = r';
+      committed = m';
+      active = a';
+    })
+same_state b b' c c' r r' m m' a a' pb pc pr pm pa i = record {
+  begun = pb i;
+  commits = pc i;
+  runs = pr i;
+  committed = pm i;
+  active = pa i;
+}
 
-pub ended_active : (v : View) (t : ℕ) → map (with_body v.body) (active_in (push v (Aborts t))) ≡ without_transaction t (map (with_body v.body) (active_in v))
+pub ended_active : (v : View) (t : ℕ) → map (with_body v.body) (active_in (push v (Aborts t))) ≡ without_transaction t
+    (map (with_body v.body) (active_in v))
 ended_active v t =
-    ap (map (with_body v.body)) (filter_twice (λ x. not (among v.ended x)) (λ x. not (x == t)) (λ x. not (among (v.ended ++ t ∷ []) x)) (not_among_push v.ended t) v.begun)
+    ap (map (with_body v.body)) (filter_twice (λ x. not (among v.ended x)) (λ x. not (x == t))
+    (λ x. not (among (v.ended ++ t ∷ []) x)) (not_among_push v.ended t) v.begun)
     ∙ sym (without_transaction-with_body t v.body (active_in v))
 
-pub begun_active : (v : View) (t : ℕ) → among v.ended t ≡ false → v.body t ≡ [] → map (with_body v.body) (active_in (push v (Begins t))) ≡ map (with_body v.body) (active_in v) ++ (t, []) ∷ []
+pub begun_active : (v : View) (t : ℕ) → among v.ended t ≡ false → v.body t ≡ [] →
+    map (with_body v.body) (active_in (push v (Begins t))) ≡ map (with_body v.body) (active_in v) ++ (t, []) ∷ []
 begun_active v t e none =
-    ap (map (with_body v.body)) (filter-append (λ x. not (among v.ended x)) v.begun (t ∷ []) ∙ ap (λ b. active_in v ++ cond (not b) (t ∷ []) []) e)
+    ap (map (with_body v.body)) (filter-append (λ x. not (among v.ended x)) v.begun (t ∷ []) ∙
+    ap (λ b. active_in v ++ cond (not b) (t ∷ []) []) e)
     ∙ map-append (with_body v.body) (active_in v) (t ∷ [])
     ∙ ap (λ (done : List Answered). map (with_body v.body) (active_in v) ++ (t, done) ∷ []) none
 
-pub view-state_of : (v : View) (t : ℕ) → among (active_in v) t ≡ true → view (state_of v) t ≡ left_on (ops_of (v.body t)) (fresh (committed_in v))
-view-state_of v t on = ap (λ (done : List Answered). left_on (ops_of done) (fresh (committed_in v))) (body_in-with_body v.body (active_in v) t on)
+pub view-state_of : (v : View) (t : ℕ) → among (active_in v) t ≡ true →
+    view (state_of v) t ≡ left_on (ops_of (v.body t)) (fresh (committed_in v))
+view-state_of v t on = ap (λ (done : List Answered). left_on (ops_of done) (fresh (committed_in v)))
+    (body_in-with_body v.body (active_in v) t on)
 
 -- the machine's state after an event is that of the trace with the event
 pub state_of-push : (v : View) (e : Effect) → Inv v → MayBe v e → state_of (push v e) ≡ next (state_of v) e
@@ -84,9 +119,12 @@ state_of-push v (Begins t) inv may =
     let fresh = inv.fresh t above in
     same_state _ _ _ _ _ _ _ _ _ _ (length-append v.begun (t ∷ [])) refl refl refl (begun_active v t fresh.1 fresh.2)
 state_of-push v (Answers t op reply) inv may =
-    same_state _ _ _ _ _ _ _ _ _ _ refl refl refl (ap (λ bodies. left_by_bodies bodies empty) (same_committed_bodies v inv t op reply may.active)) (sym (extended-with_body t (op, reply) v.body (active_in v)))
+    same_state _ _ _ _ _ _ _ _ _ _ refl refl refl
+    (ap (λ bodies. left_by_bodies bodies empty) (same_committed_bodies v inv t op reply may.active))
+    (sym (extended-with_body t (op, reply) v.body (active_in v)))
 state_of-push v (Commits t) inv may =
-    same_state _ _ _ _ _ _ _ _ _ _ refl (length-append v.committers (t ∷ [])) refl (commits_committed v inv t may ∙ sym (ap (λ d. d.map) (view-state_of v t may))) (ended_active v t)
+    same_state _ _ _ _ _ _ _ _ _ _ refl (length-append v.committers (t ∷ [])) refl (commits_committed v inv t may ∙
+    sym (ap (λ d. d.map) (view-state_of v t may))) (ended_active v t)
 state_of-push v (Aborts t) inv may =
     same_state _ _ _ _ _ _ _ _ _ _ refl refl refl refl (ended_active v t)
 state_of-push v Nothing inv may = refl
@@ -105,10 +143,13 @@ pub not_busy : (o : Option ℕ) (full : Bool) → lock_refusal o full ≡ None �
 not_busy None full h = refl
 not_busy (Some h') full h = absurd (cc)
 
-pub no_blocker : (f : ℕ → List Answered) (t : ℕ) (asked : Option Lock) (ts : List ℕ) → blocker (map (with_body f) ts) t asked ≡ None → (u : ℕ) → among ts u ≡ true → u ≢ t → clashes asked (locks_of (ops_of (f u))) ≡ false
+pub no_blocker : (f : ℕ → List Answered) (t : ℕ) (asked : Option Lock) (ts : List ℕ) →
+    blocker (map (with_body f) ts) t asked ≡ None → (u : ℕ) → among ts u ≡ true → u ≢ t →
+    clashes asked (locks_of (ops_of (f u))) ≡ false
 no_blocker f t asked [] h u on n = absurd (false≢true on)
 no_blocker f t asked (x ∷ ts) h u on n =
-    let parts = none_of_first (not (t == x) && clashes asked (locks_of (ops_of (f x)))) x (blocker (map (with_body f) ts) t asked) h in
+    let parts = none_of_first (not (t == x) && clashes asked (locks_of (ops_of (f x)))) x
+    (blocker (map (with_body f) ts) t asked) h in
     ⊎_elim
     (λ here. ⊎_elim
     (λ same. absurd (n (eqb-true u x here ∙ sym (eqb-true t x (not-false (t == x) same)))))
@@ -125,12 +166,19 @@ answer_is_answer t (Get k) d = at_found (get d.map k)
     at_found None = refl
     at_found (Some v) = refl
 answer_is_answer t (Scan range max) d = refl
-answer_is_answer t (Insert k v) d = elim (contains_key d.map k) as (λ b. effect_of_do t (Insert k v) (cond b (Exists k) Done) ≡ Answers t (Insert k v) (cond b (Exists k) Done)) [ true ↦ refl | false ↦ refl ]
-answer_is_answer t (Replace k v) d = elim (contains_key d.map k) as (λ b. effect_of_do t (Replace k v) (cond b Done Missing) ≡ Answers t (Replace k v) (cond b Done Missing)) [ true ↦ refl | false ↦ refl ]
-answer_is_answer t (Delete k) d = elim (contains_key d.map k) as (λ b. effect_of_do t (Delete k) (cond b Done Missing) ≡ Answers t (Delete k) (cond b Done Missing)) [ true ↦ refl | false ↦ refl ]
+answer_is_answer t (Insert k v) d = elim (contains_key d.map k) as
+    (λ b. effect_of_do t (Insert k v) (cond b (Exists k) Done) ≡ Answers t (Insert k v) (cond b (Exists k) Done))
+    [ true ↦ refl | false ↦ refl ]
+answer_is_answer t (Replace k v) d = elim (contains_key d.map k) as
+    (λ b. effect_of_do t (Replace k v) (cond b Done Missing) ≡ Answers t (Replace k v) (cond b Done Missing))
+    [ true ↦ refl | false ↦ refl ]
+answer_is_answer t (Delete k) d = elim (contains_key d.map k) as
+    (λ b. effect_of_do t (Delete k) (cond b Done Missing) ≡ Answers t (Delete k) (cond b Done Missing))
+    [ true ↦ refl | false ↦ refl ]
 answer_is_answer t (Load pairs) d = at_taken (least_taken pairs d.map)
   where
-    at_taken : (taken : Option OrderedKey) → effect_of_do t (Load pairs) (exists_or_done taken) ≡ Answers t (Load pairs) (exists_or_done taken)
+    at_taken : (taken : Option OrderedKey) → effect_of_do t (Load pairs) (exists_or_done taken) ≡ Answers t (Load pairs)
+        (exists_or_done taken)
     at_taken None = refl
     at_taken (Some k) = refl
 answer_is_answer t (TakeLock lock) d = refl
@@ -142,7 +190,8 @@ answer_is_answer t Back d = at_saved d.saved
     at_saved (m ∷ ms) = refl
 
 -- the operation is granted
-pub may_answer : (v : View) (t : ℕ) (op : Op) → due (state_of v) t op ≡ None → MayAnswer v t op (answer op (view (state_of v) t))
+pub may_answer : (v : View) (t : ℕ) (op : Op) → due (state_of v) t op ≡ None →
+    MayAnswer v t op (answer op (view (state_of v) t))
 may_answer v t op none_due =
     let s = state_of v in
     let both = none_of_both (due_early s t op) (due_lock s t op) none_due in
@@ -157,11 +206,15 @@ may_answer v t op none_due =
       answered = ap (answer op) (view-state_of v t on);
     }
 
-do_may_be : (v : View) (t : ℕ) (op : Op) (reply : Reply) (d : Option Refusal) → due (state_of v) t op ≡ d → MatchOption d ((reply ≡ answer op (view (state_of v) t)) ⊎ (reply ≡ Refused NoMemory)) (λ why. reply ≡ Refused why) → MayBe v (effect_of_do t op reply)
+do_may_be : (v : View) (t : ℕ) (op : Op) (reply : Reply) (d : Option Refusal) → due (state_of v) t op ≡ d →
+    MatchOption d ((reply ≡ answer op (view (state_of v) t)) ⊎ (reply ≡ Refused NoMemory))
+    (λ why. reply ≡ Refused why) →
+    MayBe v (effect_of_do t op reply)
 do_may_be v t op reply (Some why) is h = subst (λ r. MayBe v (effect_of_do t op r)) (sym h) tt
 do_may_be v t op reply None is h =
     ⊎_elim
-    (λ e. subst (λ r. MayBe v (effect_of_do t op r)) (sym e) (subst (MayBe v) (sym (answer_is_answer t op (view (state_of v) t))) (may_answer v t op is)))
+    (λ e. subst (λ r. MayBe v (effect_of_do t op r)) (sym e)
+    (subst (MayBe v) (sym (answer_is_answer t op (view (state_of v) t))) (may_answer v t op is)))
     (λ e. subst (λ r. MayBe v (effect_of_do t op r)) (sym e) tt)
     h
 
@@ -179,21 +232,25 @@ pub record Follows (es : List Effect) (s : State) : Type 0 where
   pub kept : Inv (view_of es)
   pub is : s ≡ state_of (view_of es)
 
-pub step_follows : (es : List Effect) (s : State) (e : Event) → Follows es s → May s e.0 e.1 → Follows (es ++ effect e.0 e.1 ∷ []) (next s (effect e.0 e.1))
+pub step_follows : (es : List Effect) (s : State) (e : Event) → Follows es s → May s e.0 e.1 →
+    Follows (es ++ effect e.0 e.1 ∷ []) (next s (effect e.0 e.1))
 step_follows es s e f m =
     let v = view_of es in
     let change = effect e.0 e.1 in
     let may = may_be v e.0 e.1 (subst (λ x. May x e.0 e.1) f.is m) in
     record {
       kept = subst Inv (sym (view_of-push es change)) (push_inv v change f.kept may);
-      is = ap (λ x. next x change) f.is ∙ sym (state_of-push v change f.kept may) ∙ ap state_of (sym (view_of-push es change));
+      is = ap (λ x. next x change) f.is ∙ sym (state_of-push v change f.kept may) ∙
+          ap state_of (sym (view_of-push es change));
     }
 
-pub run_follows : (trace : Trace) (es : List Effect) (s : State) → Follows es s → Runs s trace → Follows (es ++ effects trace) (after_run s trace)
+pub run_follows : (trace : Trace) (es : List Effect) (s : State) → Follows es s → Runs s trace →
+    Follows (es ++ effects trace) (after_run s trace)
 run_follows [] es s f r = subst (λ l. Follows l s) (sym (append-nil es)) f
 run_follows (e ∷ trace) es s f r =
     let change = effect e.0 e.1 in
-    subst (λ l. Follows l (after_run (next s change) trace)) (append_assoc es (change ∷ []) (effects trace)) (run_follows trace (es ++ change ∷ []) (next s change) (step_follows es s e f r.0) r.1)
+    subst (λ l. Follows l (after_run (next s change) trace)) (append_assoc es (change ∷ []) (effects trace))
+    (run_follows trace (es ++ change ∷ []) (next s change) (step_follows es s e f r.0) r.1)
 
 pub from_start : (trace : Trace) → Runs start trace → Follows (effects trace) (after_run start trace)
 from_start trace r = run_follows trace [] start (record { kept = none_inv; is = refl }) r

@@ -1,27 +1,35 @@
 -- The machine's runs are the sound traces.
-use Rattle.std.proofs.Common.{◌≡◌, ◌≢◌, ℕ, ◌<◌, ◌≤◌, List, [], ◌∷◌, ◌++◌, map, Bool, true, false, cond, refl, sym, ap, ◌∙◌, subst, ⊎_elim, inl, inr, ◌⊎◌, Option, Some, None, arith}
+use Rattle.std.proofs.Common.{◌≡◌, ◌≢◌, ℕ, ◌<◌, ◌≤◌, List, [], ◌∷◌, ◌++◌, map, Bool, true, false, cond, refl, sym, ap}
+use Rattle.std.proofs.Common.{◌∙◌, subst, ⊎_elim, inl, inr, ◌⊎◌, Option, Some, None, arith}
 use Rattle.std.specs.Prelude.{◌&&◌, ◌==◌, ◌↔◌, not, filter, MatchOption}
 use Rattle.std.specs.FinMap.{get, contains_key, entries, empty}
-use Rattle.std.proofs.lemmas.Bool.{both_ways, and_from, and_parts, or_cases, or_left, or_right, not-false, not_from_false, cond-true, eqb-true, eq-eqb, ne_eqb}
+use Rattle.std.proofs.lemmas.Bool.{both_ways, and_from, and_parts, or_cases, or_left, or_right, not-false}
+use Rattle.std.proofs.lemmas.Bool.{not_from_false, cond-true, eqb-true, eq-eqb, ne_eqb}
 use Rattle.std.proofs.lemmas.List.{map-append}
 use Rattle.am_record.specs.OrderedKey.{OrderedKey}
 use Rattle.am_record.specs.declared.step.Refusal.{Refusal}
-use Rattle.am_record.specs.declared.step.Refusal.TheVariants.{NoSuchTx, Busy, TooManyLocks, TooManyOps, TooManyRuns, NotRising, BadLimit, NoMemory}
+use Rattle.am_record.specs.declared.step.Refusal.TheVariants.{NoSuchTx, Busy, TooManyLocks, TooManyOps, TooManyRuns}
+use Rattle.am_record.specs.declared.step.Refusal.TheVariants.{NotRising, BadLimit, NoMemory}
 use Rattle.am_record.specs.declared.lock.Lock.{Lock}
 use Rattle.am_record.specs.declared.step.Op.{Op}
-use Rattle.am_record.specs.declared.step.Op.TheVariants.{Get, Scan, Insert, Replace, Delete, Load, Lock as TakeLock, Mark, Back}
+use Rattle.am_record.specs.declared.step.Op.TheVariants.{Get, Scan, Insert, Replace, Delete, Load, Lock as TakeLock}
+use Rattle.am_record.specs.declared.step.Op.TheVariants.{Mark, Back}
 use Rattle.am_record.specs.declared.step.Step.{Step}
 use Rattle.am_record.specs.declared.step.Step.TheVariants.{Begin, Do, Commit, Abort, Merge, Clean}
 use Rattle.am_record.specs.declared.step.Reply.{Reply}
 use Rattle.am_record.specs.declared.step.Reply.TheVariants.{Done, Exists, Missing, Refused}
-use Rattle.am_record.specs.Plain.{Records, PlainMap, Draft, fresh, answer, answers, left_on, found, exists_or_done, first_key, went_back, rows_where, is_key_of}
+use Rattle.am_record.specs.Plain.{Records, PlainMap, Draft, fresh, answer, answers, left_on, found, exists_or_done}
+use Rattle.am_record.specs.Plain.{first_key, went_back, rows_where, is_key_of}
 use Rattle.am_record.specs.Asks.{clashes, lock_of, locks_of}
-use Rattle.am_serial.specs.Trace.{Trace, Answered, Effect, Answers, Nothing, effect, effect_of_do, is_active, body, held_by, ops_of, replies_of, IsSteady, IsAnsweredAlone, left_by_bodies, AtEachMoment}
+use Rattle.am_serial.specs.Trace.{Trace, Answered, Effect, Answers, Nothing, effect, effect_of_do, is_active, body}
+use Rattle.am_serial.specs.Trace.{held_by, ops_of, replies_of, IsSteady, IsAnsweredAlone, left_by_bodies, AtEachMoment}
 use Rattle.am_record.specs.Refusals.{or_else, lock_refusal, is_one_too_many}
-use Rattle.am_serial.specs.Machine.{State, start, state_at, due_early, blocker, is_open, view, locks_in, May, next, Runs}
+use Rattle.am_serial.specs.Machine.{State, start, state_at, due_early, blocker, is_open, view, locks_in, May, next}
+use Rattle.am_serial.specs.Machine.{Runs}
 use Rattle.am_serial.specs.Sound.{IsLeastBlocker, BusyRightAt, IsAnswerOf, FormedDo, FormedAt, IsSoundFrom, IsSound}
 use Rattle.am_serial.proofs.Bodies.{answers_push}
-use Rattle.am_serial.proofs.Views.{View, view_of, view_of-push, push, among, active_in, committed_in, with_body, state_of, is_open-with_body}
+use Rattle.am_serial.proofs.Views.{View, view_of, view_of-push, push, among, active_in, committed_in, with_body}
+use Rattle.am_serial.proofs.Views.{state_of, is_open-with_body}
 use Rattle.am_serial.proofs.Serial.{Inv, IsRisingFrom, IsRisingFrom-filter, above_all, same_committed_bodies, none_inv}
 use Rattle.am_serial.proofs.Runs.{Follows, step_follows, answer_is_answer, no_blocker, none_of_first, view-state_of}
 
@@ -41,11 +49,15 @@ taken_form : (pairs rows : Records) → IsKeyOfAll pairs rows → IsAnswerOf (Lo
 taken_form pairs [] h = tt
 taken_form pairs (row ∷ rows) h = h.0
 
-filtered_keys : (pairs rows : Records) → IsKeyOfAll pairs (filter (λ (e : OrderedKey × List ℕ). is_key_of pairs e.0) rows)
+filtered_keys : (pairs rows : Records) → IsKeyOfAll pairs
+    (filter (λ (e : OrderedKey × List ℕ). is_key_of pairs e.0) rows)
 filtered_keys pairs [] = tt
 filtered_keys pairs (row ∷ rows) = at (is_key_of pairs row.0) refl (filtered_keys pairs rows)
   where
-    at : (b : Bool) → is_key_of pairs row.0 ≡ b → IsKeyOfAll pairs (filter (λ (e : OrderedKey × List ℕ). is_key_of pairs e.0) rows) → IsKeyOfAll pairs (cond b (row ∷ filter (λ (e : OrderedKey × List ℕ). is_key_of pairs e.0) rows) (filter (λ (e : OrderedKey × List ℕ). is_key_of pairs e.0) rows))
+    at : (b : Bool) → is_key_of pairs row.0 ≡ b →
+        IsKeyOfAll pairs (filter (λ (e : OrderedKey × List ℕ). is_key_of pairs e.0) rows) →
+        IsKeyOfAll pairs (cond b (row ∷ filter (λ (e : OrderedKey × List ℕ). is_key_of pairs e.0) rows)
+        (filter (λ (e : OrderedKey × List ℕ). is_key_of pairs e.0) rows))
     at true e rest = (e, rest)
     at false e rest = rest
 
@@ -56,9 +68,12 @@ answer_form (Get k) d = at (get d.map k)
     at None = tt
     at (Some v) = tt
 answer_form (Scan range max) d = tt
-answer_form (Insert k v) d = elim (contains_key d.map k) as (λ b. IsAnswerOf (Insert k v) (cond b (Exists k) Done)) [ true ↦ refl | false ↦ tt ]
-answer_form (Replace k v) d = elim (contains_key d.map k) as (λ b. IsAnswerOf (Replace k v) (cond b Done Missing)) [ true ↦ tt | false ↦ tt ]
-answer_form (Delete k) d = elim (contains_key d.map k) as (λ b. IsAnswerOf (Delete k) (cond b Done Missing)) [ true ↦ tt | false ↦ tt ]
+answer_form (Insert k v) d = elim (contains_key d.map k) as (λ b. IsAnswerOf (Insert k v) (cond b (Exists k) Done))
+    [ true ↦ refl | false ↦ tt ]
+answer_form (Replace k v) d = elim (contains_key d.map k) as (λ b. IsAnswerOf (Replace k v) (cond b Done Missing))
+    [ true ↦ tt | false ↦ tt ]
+answer_form (Delete k) d = elim (contains_key d.map k) as (λ b. IsAnswerOf (Delete k) (cond b Done Missing))
+    [ true ↦ tt | false ↦ tt ]
 answer_form (Load pairs) d = taken_form pairs (rows_where (is_key_of pairs) d.map) (filtered_keys pairs (entries d.map))
 answer_form (TakeLock lock) d = tt
 answer_form Mark d = tt
@@ -72,20 +87,25 @@ answer_form Back d = at d.saved
 
 -- the reply by the refusal that is due early, the blocker, and whether the lock is one too many
 abbrev Replies : Option Refusal → Option ℕ → Bool → Op → Draft → Reply → Type 0
-Replies early blocked full op m reply = MatchOption (or_else early (lock_refusal blocked full)) ((reply ≡ answer op m) ⊎ (reply ≡ Refused NoMemory)) (λ why. reply ≡ Refused why)
+Replies early blocked full op m reply = MatchOption (or_else early (lock_refusal blocked full))
+    ((reply ≡ answer op m) ⊎ (reply ≡ Refused NoMemory)) (λ why. reply ≡ Refused why)
 
 pub same_refusal : (v w : Refusal) → Refused v ≡ Refused w → v ≡ w
 same_refusal v w h = cc
 
 busy_from : (early : Option Refusal) (blocked : Option ℕ) (full : Bool) (op : Op) (m : Draft) (reply : Reply) (h : ℕ) →
-    (early ≡ Some (Busy h) → ⊥) → Replies early blocked full op m reply → reply ≡ Refused (Busy h) → (early ≡ None) × (blocked ≡ Some h)
-busy_from (Some why) blocked full op m reply h never d e = absurd (never (ap Some (same_refusal why (Busy h) (sym d ∙ e))))
+    (early ≡ Some (Busy h) → ⊥) → Replies early blocked full op m reply → reply ≡ Refused (Busy h) → (early ≡ None) ×
+    (blocked ≡ Some h)
+busy_from (Some why) blocked full op m reply h never d e =
+    absurd (never (ap Some (same_refusal why (Busy h) (sym d ∙ e))))
 busy_from None (Some h') full op m reply h never d e =
     let same : Busy h' ≡ Busy h = same_refusal (Busy h') (Busy h) (sym d ∙ e) in
     (refl, cc)
-busy_from None None true op m reply h never d e = absurd (let same : TooManyLocks ≡ Busy h = same_refusal TooManyLocks (Busy h) (sym d ∙ e) in cc)
+busy_from None None true op m reply h never d e =
+    absurd (let same : TooManyLocks ≡ Busy h = same_refusal TooManyLocks (Busy h) (sym d ∙ e) in cc)
 busy_from None None false op m reply h never d e =
-    absurd (⊎_elim (λ a. answer_not_refused op m (Busy h) (sym a ∙ e)) (λ a. let same : NoMemory ≡ Busy h = same_refusal NoMemory (Busy h) (sym a ∙ e) in cc) d)
+    absurd (⊎_elim (λ a. answer_not_refused op m (Busy h) (sym a ∙ e))
+    (λ a. let same : NoMemory ≡ Busy h = same_refusal NoMemory (Busy h) (sym a ∙ e) in cc) d)
 
 busy_to : (early : Option Refusal) (blocked : Option ℕ) (full : Bool) (op : Op) (m : Draft) (reply : Reply) (h : ℕ) →
     Replies early blocked full op m reply → early ≡ None → blocked ≡ Some h → reply ≡ Refused (Busy h)
@@ -93,25 +113,31 @@ busy_to (Some why) blocked full op m reply h d e b = absurd (cc)
 busy_to None (Some h') full op m reply h d e b = let same : h' ≡ h = cc in d ∙ ap (λ x. Refused (Busy x)) same
 busy_to None None full op m reply h d e b = absurd (cc)
 
-formed_from : (early : Option Refusal) (blocked : Option ℕ) (full : Bool) (op : Op) (m : Draft) (reply : Reply) → Replies early blocked full op m reply → FormedDo early full op reply
+formed_from : (early : Option Refusal) (blocked : Option ℕ) (full : Bool) (op : Op) (m : Draft) (reply : Reply) →
+    Replies early blocked full op m reply → FormedDo early full op reply
 formed_from (Some why) blocked full op m reply d = d
 formed_from None (Some h) full op m reply d = inl (h, d)
 formed_from None None true op m reply d = inr d
-formed_from None None false op m reply d = inr (⊎_elim (λ a. inr (subst (IsAnswerOf op) (sym a) (answer_form op m))) (λ a. inl a) d)
+formed_from None None false op m reply d = inr (⊎_elim (λ a. inr (subst (IsAnswerOf op) (sym a) (answer_form op m)))
+    (λ a. inl a) d)
 
 replies_from : (early : Option Refusal) (blocked : Option ℕ) (full : Bool) (op : Op) (m : Draft) (reply : Reply) →
-    FormedDo early full op reply → ((h : ℕ) → reply ≡ Refused (Busy h) → (early ≡ None) × (blocked ≡ Some h)) → ((h : ℕ) → early ≡ None → blocked ≡ Some h → reply ≡ Refused (Busy h)) →
+    FormedDo early full op reply → ((h : ℕ) → reply ≡ Refused (Busy h) → (early ≡ None) × (blocked ≡ Some h)) →
+    ((h : ℕ) → early ≡ None → blocked ≡ Some h → reply ≡ Refused (Busy h)) →
     (early ≡ None → IsAnswerOf op reply → reply ≡ answer op m) → Replies early blocked full op m reply
 replies_from (Some why) blocked full op m reply f from to is = f
 replies_from None (Some h) full op m reply f from to is = to h refl refl
 replies_from None None true op m reply f from to is = ⊎_elim (λ b. absurd (let no = (from b.0 b.1).1 in cc)) (λ d. d) f
-replies_from None None false op m reply f from to is = ⊎_elim (λ b. absurd (let no = (from b.0 b.1).1 in cc)) (λ d. ⊎_elim (λ n. inr n) (λ a. inl (is refl a)) d) f
+replies_from None None false op m reply f from to is = ⊎_elim (λ b. absurd (let no = (from b.0 b.1).1 in cc))
+    (λ d. ⊎_elim (λ n. inr n) (λ a. inl (is refl a)) d) f
 
 -- no refusal that is due early is Busy
 early_not_busy : (s : State) (t : ℕ) (op : Op) (h : ℕ) → due_early s t op ≡ Some (Busy h) → ⊥
 early_not_busy s t op h = go _ _ _ _ _
   where
-    go : (a b c d e : Bool) → cond a (Some NoSuchTx) (cond b (Some TooManyOps) (cond c (Some NotRising) (cond d (Some BadLimit) (cond e (Some TooManyRuns) None)))) ≡ Some (Busy h) → ⊥
+    go : (a b c d e : Bool) → cond a (Some NoSuchTx)
+        (cond b (Some TooManyOps) (cond c (Some NotRising) (cond d (Some BadLimit) (cond e (Some TooManyRuns) None)))) ≡
+        Some (Busy h) → ⊥
     go true b c d e k = cc
     go false true c d e k = cc
     go false false true d e k = cc
@@ -130,11 +156,15 @@ record IsLeast (f : ℕ → List Answered) (ts : List ℕ) (t : ℕ) (asked : Op
   conflict : clash f asked h ≡ true
   least : (u : ℕ) → among ts u ≡ true → u ≢ t → clash f asked u ≡ true → h ≤ u
 
-the_blocker : (f : ℕ → List Answered) (t : ℕ) (asked : Option Lock) (n : ℕ) (ts : List ℕ) → IsRisingFrom n ts → (h : ℕ) → blocker (map (with_body f) ts) t asked ≡ Some h → IsLeast f ts t asked h
+the_blocker : (f : ℕ → List Answered) (t : ℕ) (asked : Option Lock) (n : ℕ) (ts : List ℕ) → IsRisingFrom n ts →
+    (h : ℕ) → blocker (map (with_body f) ts) t asked ≡ Some h → IsLeast f ts t asked h
 the_blocker f t asked n [] r h e = absurd (cc)
-the_blocker f t asked n (x ∷ ts) r h e = at (not (t == x) && clash f asked x) refl e (λ k. the_blocker f t asked x ts r.1 h k)
+the_blocker f t asked n (x ∷ ts) r h e = at (not (t == x) && clash f asked x) refl e
+    (λ k. the_blocker f t asked x ts r.1 h k)
   where
-    at : (b : Bool) → (not (t == x) && clash f asked x) ≡ b → cond b (Some x) (blocker (map (with_body f) ts) t asked) ≡ Some h → (blocker (map (with_body f) ts) t asked ≡ Some h → IsLeast f ts t asked h) → IsLeast f (x ∷ ts) t asked h
+    at : (b : Bool) → (not (t == x) && clash f asked x) ≡ b → cond b (Some x) (blocker (map (with_body f) ts) t asked) ≡
+        Some h → (blocker (map (with_body f) ts) t asked ≡ Some h → IsLeast f ts t asked h) →
+        IsLeast f (x ∷ ts) t asked h
     at true b k later_on =
         let e : x ≡ h = cc in
         let parts = and_parts (not (t == x)) (clash f asked x) b in
@@ -157,7 +187,9 @@ the_blocker f t asked n (x ∷ ts) r h e = at (not (t == x) && clash f asked x) 
           least = λ u hu n c. ⊎_elim
               (λ here.
               let same : u ≡ x = eqb-true u x here in
-              absurd (both_ways (not (t == x) && clash f asked x) b (and_from (not (t == x)) (clash f asked x) (not_from_false (t == x) (ne_eqb t x (λ k. n (same ∙ sym k)))) (subst (λ y. clash f asked y ≡ true) same c))))
+              absurd (both_ways (not (t == x) && clash f asked x) b
+              (and_from (not (t == x)) (clash f asked x) (not_from_false (t == x)
+              (ne_eqb t x (λ k. n (same ∙ sym k)))) (subst (λ y. clash f asked y ≡ true) same c))))
               (λ later. rest.least u later n c)
               (or_cases (u == x) (among ts u) hu);
         }
@@ -180,8 +212,11 @@ module _ (es : List Effect) (begun_rise : IsRisingFrom 0 (view_of es).begun) (t 
   pub least_is_blocker : (h : ℕ) → IsLeastBlocker es t op h → blocker (state_at es).active t (lock_of op) ≡ Some h
   least_is_blocker h l = at (blocker (state_at es).active t (lock_of op)) refl
     where
-      at : (o : Option ℕ) → blocker (state_at es).active t (lock_of op) ≡ o → blocker (state_at es).active t (lock_of op) ≡ Some h
-      at None e = absurd (both_ways (clashes (lock_of op) (held_by es h)) (no_blocker (body es) t (lock_of op) (active_in (view_of es)) e h l.blocks.active l.blocks.other) l.blocks.conflict)
+      at : (o : Option ℕ) → blocker (state_at es).active t (lock_of op) ≡ o →
+          blocker (state_at es).active t (lock_of op) ≡ Some h
+      at None e = absurd (both_ways (clashes (lock_of op) (held_by es h))
+          (no_blocker (body es) t (lock_of op) (active_in (view_of es)) e h l.blocks.active l.blocks.other)
+          l.blocks.conflict)
       at (Some h') e =
           let l' = blocker_is_least h' e in
           let le : h ≤ h' = l.least h' l'.blocks in
@@ -193,22 +228,26 @@ module _ (es : List Effect) (begun_rise : IsRisingFrom 0 (view_of es).begun) (t 
   s0 = state_at es
 
   abbrev Here : Reply → Type 0
-  Here reply = Replies (due_early s0 t op) (blocker s0.active t (lock_of op)) (is_one_too_many (locks_in s0.active t) (lock_of op)) op (view s0 t) reply
+  Here reply = Replies (due_early s0 t op) (blocker s0.active t (lock_of op))
+      (is_one_too_many (locks_in s0.active t) (lock_of op)) op (view s0 t) reply
 
   pub busy_right : (reply : Reply) → Here reply → BusyRightAt es (Do t op) reply
   busy_right reply d h = (
-    (λ e. let b = busy_from _ _ _ op (view s0 t) reply h (early_not_busy s0 t op h) d e in (b.0, blocker_is_least h b.1)),
+    (λ e. let b = busy_from _ _ _ op (view s0 t) reply h (early_not_busy s0 t op h) d e in
+        (b.0, blocker_is_least h b.1)),
     (λ b. busy_to _ _ _ op (view s0 t) reply h d b.0 (least_is_blocker h b.1)),
   )
 
-  pub from_sound : (reply : Reply) → FormedAt es (Do t op) reply → BusyRightAt es (Do t op) reply → (due_early s0 t op ≡ None → IsAnswerOf op reply → reply ≡ answer op (view s0 t)) → Here reply
+  pub from_sound : (reply : Reply) → FormedAt es (Do t op) reply → BusyRightAt es (Do t op) reply →
+      (due_early s0 t op ≡ None → IsAnswerOf op reply → reply ≡ answer op (view s0 t)) → Here reply
   from_sound reply f b is = replies_from _ _ _ op (view s0 t) reply f
       (λ h e. let both = (b h).0 e in (both.0, least_is_blocker h both.1))
       (λ h e k. (b h).1 (e, blocker_is_least h k)) is
 
 -- ---- from the machine to the trace
 
-busy_at : (es : List Effect) → Inv (view_of es) → (step : Step) (reply : Reply) → May (state_at es) step reply → BusyRightAt es step reply
+busy_at : (es : List Effect) → Inv (view_of es) → (step : Step) (reply : Reply) → May (state_at es) step reply →
+    BusyRightAt es step reply
 busy_at es inv (Do t op) reply m = busy_right es inv.rising t op reply m
 busy_at es inv _ reply m = tt
 
@@ -262,30 +301,39 @@ abbrev SteadyAt : View → Type 0
 SteadyAt w = (t : ℕ) → among (active_in w) t ≡ true → IsAnsweredAlone (w.body t) (committed_in w)
 
 -- the last answer of a steady body is that of the transaction's own view
-steady_answer : (v : View) → Inv v → (t : ℕ) (op : Op) (reply : Reply) → among (active_in v) t ≡ true → SteadyAt (push v (Answers t op reply)) → reply ≡ answer op (view (state_of v) t)
+steady_answer : (v : View) → Inv v → (t : ℕ) (op : Op) (reply : Reply) → among (active_in v) t ≡ true →
+    SteadyAt (push v (Answers t op reply)) → reply ≡ answer op (view (state_of v) t)
 steady_answer v inv t op reply on steady =
     let done = v.body t in
     let m = committed_in v in
     let at_t = cond-true (t == t) (done ++ (op, reply) ∷ []) done (eq-eqb t t refl) in
     let alone : IsAnsweredAlone (done ++ (op, reply) ∷ []) m =
-    subst (λ bodies. IsAnsweredAlone (done ++ (op, reply) ∷ []) (left_by_bodies bodies empty)) (same_committed_bodies v inv t op reply on)
-    (subst (λ (b : List Answered). IsAnsweredAlone b (committed_in (push v (Answers t op reply)))) at_t (steady t on)) in
-    let both : replies_of done ++ reply ∷ [] ≡ answers (ops_of done) m ++ answer op (left_on (ops_of done) (fresh m)) ∷ [] =
+    subst (λ bodies. IsAnsweredAlone (done ++ (op, reply) ∷ []) (left_by_bodies bodies empty))
+    (same_committed_bodies v inv t op reply on)
+    (subst (λ (b : List Answered). IsAnsweredAlone b (committed_in (push v (Answers t op reply)))) at_t
+    (steady t on)) in
+    let both : replies_of done ++ reply ∷ [] ≡ answers (ops_of done) m ++ answer op (left_on (ops_of done) (fresh m)) ∷
+    [] =
     sym (map-append (λ (a : Answered). a.1) done ((op, reply) ∷ []))
     ∙ alone
     ∙ ap (λ ops. answers ops m) (map-append (λ (a : Answered). a.0) done ((op, reply) ∷ []))
     ∙ answers_push (ops_of done) op m in
-    sym (last_push Done reply (replies_of done)) ∙ ap (last Done) both ∙ last_push Done (answer op (left_on (ops_of done) (fresh m))) (answers (ops_of done) m)
+    sym (last_push Done reply (replies_of done)) ∙ ap (last Done) both ∙
+    last_push Done (answer op (left_on (ops_of done) (fresh m))) (answers (ops_of done) m)
     ∙ ap (answer op) (sym (view-state_of v t on))
 
 pub active_early : (es : List Effect) (t : ℕ) (op : Op) → due_early (state_at es) t op ≡ None → is_active es t ≡ true
-active_early es t op e = sym (is_open-with_body (body es) (active_in (view_of es)) t) ∙ not-false (is_open (state_at es).active t) (none_of_first (not (is_open (state_at es).active t)) NoSuchTx _ e).0
+active_early es t op e = sym (is_open-with_body (body es) (active_in (view_of es)) t) ∙
+    not-false (is_open (state_at es).active t) (none_of_first (not (is_open (state_at es).active t)) NoSuchTx _ e).0
 
-may_at : (es : List Effect) → Inv (view_of es) → (step : Step) (reply : Reply) → FormedAt es step reply → BusyRightAt es step reply → IsSteady (es ++ effect step reply ∷ []) → May (state_at es) step reply
+may_at : (es : List Effect) → Inv (view_of es) → (step : Step) (reply : Reply) → FormedAt es step reply →
+    BusyRightAt es step reply → IsSteady (es ++ effect step reply ∷ []) → May (state_at es) step reply
 may_at es inv (Do t op) reply f b steady =
     from_sound es inv.rising t op reply f b (λ early a.
-    let at_answers : SteadyAt (view_of (es ++ Answers t op reply ∷ [])) = subst (λ e. SteadyAt (view_of (es ++ e ∷ []))) (answer_effect t op reply a) steady in
-    steady_answer (view_of es) inv t op reply (active_early es t op early) (subst SteadyAt (view_of-push es (Answers t op reply)) at_answers))
+    let at_answers : SteadyAt (view_of (es ++ Answers t op reply ∷ [])) = subst (λ e. SteadyAt (view_of (es ++ e ∷ [])))
+    (answer_effect t op reply a) steady in
+    steady_answer (view_of es) inv t op reply (active_early es t op early)
+    (subst SteadyAt (view_of-push es (Answers t op reply)) at_answers))
 may_at es inv Begin reply f b steady = f
 may_at es inv (Commit t) reply f b steady = f
 may_at es inv (Abort t) reply f b steady = f
@@ -299,8 +347,13 @@ first_moment P (e ∷ trace) es h = h.0
 pub runs_from : (trace : Trace) (es : List Effect) (s : State) → Follows es s → IsSoundFrom es trace → Runs s trace
 runs_from [] es s f h = tt
 runs_from (e ∷ trace) es s f h =
-    let may = subst (λ x. May x e.0 e.1) (sym f.is) (may_at es f.kept e.0 e.1 h.formed.0 h.busy.0 (first_moment IsSteady trace (es ++ effect e.0 e.1 ∷ []) h.steady.1)) in
-    (may, runs_from trace (es ++ effect e.0 e.1 ∷ []) (next s (effect e.0 e.1)) (step_follows es s e f may) (record { serial = h.serial.1; steady = h.steady.1; busy = h.busy.1; formed = h.formed.1 }))
+    let may = subst (λ x. May x e.0 e.1) (sym f.is)
+    (may_at es f.kept e.0 e.1 h.formed.0 h.busy.0
+    (first_moment IsSteady trace (es ++ effect e.0 e.1 ∷ []) h.steady.1)) in (
+      may,
+      runs_from trace (es ++ effect e.0 e.1 ∷ []) (next s (effect e.0 e.1)) (step_follows es s e f may)
+          (record { serial = h.serial.1; steady = h.steady.1; busy = h.busy.1; formed = h.formed.1 }),
+    )
 
 pub at_start : Follows [] start
 at_start = record { kept = none_inv; is = refl }

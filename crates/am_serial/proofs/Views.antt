@@ -1,14 +1,17 @@
 -- What of a trace the machine's state depends on, and how one more event changes it.
-use Rattle.std.proofs.Common.{◌≡◌, ◌≢◌, ℕ, ◌+◌, List, [], ◌∷◌, ◌++◌, length, map, Bool, true, false, cond, refl, sym, ap, ◌∙◌, subst, ⊎_elim, inl, inr, ◌⊎◌, Some, None, arith}
+use Rattle.std.proofs.Common.{◌≡◌, ◌≢◌, ℕ, ◌+◌, List, [], ◌∷◌, ◌++◌, length, map, Bool, true, false, cond, refl, sym}
+use Rattle.std.proofs.Common.{ap, ◌∙◌, subst, ⊎_elim, inl, inr, ◌⊎◌, Some, None, arith}
 use Rattle.std.specs.Prelude.{◌||◌, ◌==◌, not, filter}
 use Rattle.std.specs.List.{list_any, cons_option}
 use Rattle.std.specs.FinMap.{empty}
-use Rattle.std.proofs.lemmas.Bool.{false≢true, both_ways, or_cases, or_left, or_right, cond_both, false_from_ne_true, not-true, not_from_false, eqb-true, eq-eqb}
+use Rattle.std.proofs.lemmas.Bool.{false≢true, both_ways, or_cases, or_left, or_right, cond_both, false_from_ne_true}
+use Rattle.std.proofs.lemmas.Bool.{not-true, not_from_false, eqb-true, eq-eqb}
 use Rattle.std.proofs.lemmas.List.{append-nil}
 use Rattle.std.proofs.lemmas.List.Folds.{list_any-append}
 use Rattle.std.proofs.lemmas.List.Elements.{filter_map-append}
 use Rattle.am_record.specs.Plain.{PlainMap}
-use Rattle.am_serial.specs.Trace.{Answered, Effect, Begins, Answers, Commits, Aborts, Nothing, begins, ends, commits, answered_to, begun, ended, committers, body, runs, makes, runs_made, left_by_bodies}
+use Rattle.am_serial.specs.Trace.{Answered, Effect, Begins, Answers, Commits, Aborts, Nothing, begins, ends, commits}
+use Rattle.am_serial.specs.Trace.{answered_to, begun, ended, committers, body, runs, makes, runs_made, left_by_bodies}
 use Rattle.am_serial.specs.Machine.{State, Transaction, is_open, body_in}
 
 pub record View : Type 0 where
@@ -23,7 +26,10 @@ view_of es = record { begun = begun es; ended = ended es; committers = committer
 
 abbrev pub push : View → Effect → View
 push v (Begins t) = record v { begun = v.begun ++ t ∷ [] }
-push v (Answers t op reply) = record v { runs = v.runs + runs_made op reply; body = λ u. cond (t == u) (v.body u ++ (op, reply) ∷ []) (v.body u) }
+push v (Answers t op reply) = record v {
+  runs = v.runs + runs_made op reply;
+  body = λ u. cond (t == u) (v.body u ++ (op, reply) ∷ []) (v.body u);
+}
 push v (Commits t) = record v { ended = v.ended ++ t ∷ []; committers = v.committers ++ t ∷ [] }
 push v (Aborts t) = record v { ended = v.ended ++ t ∷ [] }
 push v Nothing = v
@@ -38,9 +44,22 @@ with_all v e = record {
   body = λ u. v.body u ++ cons_option (answered_to u e) [];
 }
 
-same_view : (b b' d d' c c' : List ℕ) (r r' : ℕ) (f f' : ℕ → List Answered) → b ≡ b' → d ≡ d' → c ≡ c' → r ≡ r' → ((u : ℕ) → f u ≡ f' u) →
-    ◌≡◌ {A = View} (record { begun = b; ended = d; committers = c; runs = r; body = f }) (record { begun = b'; ended = d'; committers = c'; runs = r'; body = f' })
-same_view b b' d d' c c' r r' f f' pb pd pc pr pf i = record { begun = pb i; ended = pd i; committers = pc i; runs = pr i; body = λ u. pf u i }
+same_view : (b b' d d' c c' : List ℕ) (r r' : ℕ) (f f' : ℕ → List Answered) → b ≡ b' → d ≡ d' → c ≡ c' → r ≡ r' →
+    ((u : ℕ) → f u ≡ f' u) →
+    ◌≡◌ {A = View} (record { begun = b; ended = d; committers = c; runs = r; body = f }) (record {
+      begun = b';
+      ended = d';
+      committers = c';
+      runs = r';
+      body = f';
+    })
+same_view b b' d d' c c' r r' f f' pb pd pc pr pf i = record {
+  begun = pb i;
+  ended = pd i;
+  committers = pc i;
+  runs = pr i;
+  body = λ u. pf u i;
+}
 
 runs-push : (es : List Effect) (e : Effect) → runs (es ++ e ∷ []) ≡ runs es + makes e
 runs-push [] e = refl
@@ -54,16 +73,22 @@ view_of-with_all es e = same_view _ _ _ _ _ _ _ _ _ _
     (runs-push es e)
     (λ u. filter_map-append (answered_to u) es (e ∷ []))
 
-one_body : (b : Bool) (xs : List Answered) (x : Answered) → xs ++ cons_option (cond b (Some x) None) [] ≡ cond b (xs ++ x ∷ []) xs
+one_body : (b : Bool) (xs : List Answered) (x : Answered) → xs ++ cons_option (cond b (Some x) None) [] ≡ cond b
+    (xs ++ x ∷ []) xs
 one_body true xs x = refl
 one_body false xs x = append-nil xs
 
 with_all-push : (v : View) (e : Effect) → with_all v e ≡ push v e
-with_all-push v (Begins t) = same_view _ _ _ _ _ _ _ _ _ _ refl (append-nil v.ended) (append-nil v.committers) (omega arith) (λ u. append-nil (v.body u))
-with_all-push v (Answers t op reply) = same_view _ _ _ _ _ _ _ _ _ _ (append-nil v.begun) (append-nil v.ended) (append-nil v.committers) refl (λ u. one_body (t == u) (v.body u) (op, reply))
-with_all-push v (Commits t) = same_view _ _ _ _ _ _ _ _ _ _ (append-nil v.begun) refl refl (omega arith) (λ u. append-nil (v.body u))
-with_all-push v (Aborts t) = same_view _ _ _ _ _ _ _ _ _ _ (append-nil v.begun) refl (append-nil v.committers) (omega arith) (λ u. append-nil (v.body u))
-with_all-push v Nothing = same_view _ _ _ _ _ _ _ _ _ _ (append-nil v.begun) (append-nil v.ended) (append-nil v.committers) (omega arith) (λ u. append-nil (v.body u))
+with_all-push v (Begins t) = same_view _ _ _ _ _ _ _ _ _ _ refl (append-nil v.ended) (append-nil v.committers)
+    (omega arith) (λ u. append-nil (v.body u))
+with_all-push v (Answers t op reply) = same_view _ _ _ _ _ _ _ _ _ _ (append-nil v.begun) (append-nil v.ended)
+    (append-nil v.committers) refl (λ u. one_body (t == u) (v.body u) (op, reply))
+with_all-push v (Commits t) = same_view _ _ _ _ _ _ _ _ _ _ (append-nil v.begun) refl refl (omega arith)
+    (λ u. append-nil (v.body u))
+with_all-push v (Aborts t) = same_view _ _ _ _ _ _ _ _ _ _ (append-nil v.begun) refl (append-nil v.committers)
+    (omega arith) (λ u. append-nil (v.body u))
+with_all-push v Nothing = same_view _ _ _ _ _ _ _ _ _ _ (append-nil v.begun) (append-nil v.ended)
+    (append-nil v.committers) (omega arith) (λ u. append-nil (v.body u))
 
 -- one more event
 pub view_of-push : (es : List Effect) (e : Effect) → view_of (es ++ e ∷ []) ≡ push (view_of es) e
@@ -74,7 +99,8 @@ view_of-push es e = view_of-with_all es e ∙ with_all-push (view_of es) e
 abbrev pub among : List ℕ → ℕ → Bool
 among ts t = list_any (λ u. t == u) ts
 
-pub among_filter : (p : ℕ → Bool) (t : ℕ) (ts : List ℕ) → among (filter p ts) t ≡ true → (among ts t ≡ true) × (p t ≡ true)
+pub among_filter : (p : ℕ → Bool) (t : ℕ) (ts : List ℕ) → among (filter p ts) t ≡ true → (among ts t ≡ true) ×
+    (p t ≡ true)
 among_filter p t [] h = absurd (false≢true h)
 among_filter p t (x ∷ ts) h =
     let P : List ℕ → Type 0 = λ ys. among ys t ≡ true → (among (x ∷ ts) t ≡ true) × (p t ≡ true) in
@@ -86,7 +112,8 @@ among_filter p t (x ∷ ts) h =
     (λ px h. let rest = among_filter p t ts h in (or_right (t == x) (among ts t) rest.0, rest.1))
     h
 
-pub among_filter_from : (p : ℕ → Bool) (t : ℕ) (ts : List ℕ) → among ts t ≡ true → p t ≡ true → among (filter p ts) t ≡ true
+pub among_filter_from : (p : ℕ → Bool) (t : ℕ) (ts : List ℕ) → among ts t ≡ true → p t ≡ true →
+    among (filter p ts) t ≡ true
 among_filter_from p t [] h k = absurd (false≢true h)
 among_filter_from p t (x ∷ ts) h k =
     cond_both (p x) (x ∷ filter p ts) (filter p ts) (λ ys. among ys t ≡ true)
@@ -102,17 +129,20 @@ among_filter_from p t (x ∷ ts) h k =
 -- one more number at the end
 pub among_push : (ts : List ℕ) (x t : ℕ) → among (ts ++ x ∷ []) t ≡ true → (among ts t ≡ true) ⊎ (t ≡ x)
 among_push ts x t h =
-    ⊎_elim (λ old. inl old) (λ new. ⊎_elim (λ e. inr (eqb-true t x e)) (λ k. absurd (false≢true k)) (or_cases (t == x) false new))
+    ⊎_elim (λ old. inl old) (λ new. ⊎_elim (λ e. inr (eqb-true t x e)) (λ k. absurd (false≢true k))
+    (or_cases (t == x) false new))
     (or_cases (among ts t) (among (x ∷ []) t) (sym (list_any-append (λ u. t == u) ts (x ∷ [])) ∙ h))
 
 pub among_push_old : (ts : List ℕ) (x t : ℕ) → among ts t ≡ true → among (ts ++ x ∷ []) t ≡ true
 among_push_old ts x t h = list_any-append (λ u. t == u) ts (x ∷ []) ∙ or_left (among ts t) (among (x ∷ []) t) h
 
 pub among_push_last : (ts : List ℕ) (x : ℕ) → among (ts ++ x ∷ []) x ≡ true
-among_push_last ts x = list_any-append (λ u. x == u) ts (x ∷ []) ∙ or_right (among ts x) (among (x ∷ []) x) (or_left (x == x) false (eq-eqb x x refl))
+among_push_last ts x = list_any-append (λ u. x == u) ts (x ∷ []) ∙ or_right (among ts x) (among (x ∷ []) x)
+    (or_left (x == x) false (eq-eqb x x refl))
 
 pub among_push_none : (ts : List ℕ) (x t : ℕ) → among ts t ≡ false → t ≢ x → among (ts ++ x ∷ []) t ≡ false
-among_push_none ts x t h n = false_from_ne_true (among (ts ++ x ∷ []) t) (λ e. ⊎_elim (λ old. both_ways (among ts t) h old) n (among_push ts x t e))
+among_push_none ts x t h n = false_from_ne_true (among (ts ++ x ∷ []) t)
+    (λ e. ⊎_elim (λ old. both_ways (among ts t) h old) n (among_push ts x t e))
 
 -- ---- what is active
 
@@ -122,8 +152,10 @@ active_in v = filter (λ t. not (among v.ended t)) v.begun
 abbrev pub committed_in : View → PlainMap
 committed_in v = left_by_bodies (map v.body v.committers) empty
 
-pub active_parts : (v : View) (t : ℕ) → among (active_in v) t ≡ true → (among v.begun t ≡ true) × (among v.ended t ≡ false)
-active_parts v t h = let parts = among_filter (λ u. not (among v.ended u)) t v.begun h in (parts.0, not-true (among v.ended t) parts.1)
+pub active_parts : (v : View) (t : ℕ) → among (active_in v) t ≡ true → (among v.begun t ≡ true) ×
+    (among v.ended t ≡ false)
+active_parts v t h = let parts = among_filter (λ u. not (among v.ended u)) t v.begun h in
+    (parts.0, not-true (among v.ended t) parts.1)
 
 pub active_from : (v : View) (t : ℕ) → among v.begun t ≡ true → among v.ended t ≡ false → among (active_in v) t ≡ true
 active_from v t b e = among_filter_from (λ u. not (among v.ended u)) t v.begun b (not_from_false (among v.ended t) e)
@@ -134,15 +166,23 @@ abbrev pub with_body : (ℕ → List Answered) → ℕ → Transaction
 with_body f t = (t, f t)
 
 abbrev pub state_of : View → State
-state_of v = record { begun = length v.begun; commits = length v.committers; runs = v.runs; committed = committed_in v; active = map (with_body v.body) (active_in v) }
+state_of v = record {
+  begun = length v.begun;
+  commits = length v.committers;
+  runs = v.runs;
+  committed = committed_in v;
+  active = map (with_body v.body) (active_in v);
+}
 
 pub is_open-with_body : (f : ℕ → List Answered) (ts : List ℕ) (t : ℕ) → is_open (map (with_body f) ts) t ≡ among ts t
 is_open-with_body f [] t = refl
 is_open-with_body f (x ∷ ts) t = ap (λ b. (t == x) || b) (is_open-with_body f ts t)
 
-pub body_in-with_body : (f : ℕ → List Answered) (ts : List ℕ) (t : ℕ) → among ts t ≡ true → body_in (map (with_body f) ts) t ≡ f t
+pub body_in-with_body : (f : ℕ → List Answered) (ts : List ℕ) (t : ℕ) → among ts t ≡ true →
+    body_in (map (with_body f) ts) t ≡ f t
 body_in-with_body f [] t h = absurd (false≢true h)
 body_in-with_body f (x ∷ ts) t h =
     cond_both (t == x) (f x) (body_in (map (with_body f) ts) t) (λ b. b ≡ f t)
     (λ e. ap f (sym (eqb-true t x e)))
-    (λ e. body_in-with_body f ts t (⊎_elim (λ here. absurd (both_ways (t == x) e here)) (λ later. later) (or_cases (t == x) (among ts t) h)))
+    (λ e. body_in-with_body f ts t (⊎_elim (λ here. absurd (both_ways (t == x) e here)) (λ later. later)
+    (or_cases (t == x) (among ts t) h)))

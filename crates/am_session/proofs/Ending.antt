@@ -14,17 +14,52 @@ use Rattle.am_session.specs.Served.{Served}
 use Rattle.am_session.specs.declared.end.End.TheVariants.{Quit, EndOfInput, ReadFailed, WriteFailed}
 use Rattle.am_session.specs.Backends.{BackendMeaning}
 
-module _ {S K B : Type 0} (comes : S → List ℕ → Type 0) (holds : K → Option (List ℕ)) (parts : B → K → K → Type 0) (means : BackendMeaning B) (auto : ℕ) (s s' : S) (k k' : K) (b : B) (last : SessionPoint B) (b' : B) (left : Left means (means.active last.0) last.0 b') where
-  all_answered : (exchanges : List Exchange) (own : Trace) → Converses means auto (b, []) exchanges own last → AnswersAll means auto b exchanges (own ++ left.0) b'
-  all_answered exchanges own c = record { last = last; own = own; aborting = left.0; converses = c; leaves = left.1; are = refl }
+module _ {S K B : Type 0} (comes : S → List ℕ → Type 0) (holds : K → Option (List ℕ)) (parts : B → K → K → Type 0)
+    (means : BackendMeaning B) (auto : ℕ) (s s' : S) (k k' : K) (b : B) (last : SessionPoint B) (b' : B)
+    (left : Left means (means.active last.0) last.0 b') where
+  all_answered : (exchanges : List Exchange) (own : Trace) → Converses means auto (b, []) exchanges own last →
+      AnswersAll means auto b exchanges (own ++ left.0) b'
+  all_answered exchanges own c = record {
+    last = last;
+    own = own;
+    aborting = left.0;
+    converses = c;
+    leaves = left.1;
+    are = refl;
+  }
 
-  pub ended_whole : Talked comes holds means auto s k (b, []) s' k' last stop.EndOfInput → Served comes holds parts means auto s k b s' k' b' EndOfInput
-  ended_whole t = record { exchanges = t.exchanges; events = t.events ++ left.0; read = t.read; takes = t.takes; done = t.done; no_quit = t.no_quit; lines = t.lines; gives = t.gives; does = all_answered t.exchanges t.events t.does }
+  pub ended_whole : Talked comes holds means auto s k (b, []) s' k' last stop.EndOfInput →
+      Served comes holds parts means auto s k b s' k' b' EndOfInput
+  ended_whole t = record {
+    exchanges = t.exchanges;
+    events = t.events ++ left.0;
+    read = t.read;
+    takes = t.takes;
+    done = t.done;
+    no_quit = t.no_quit;
+    lines = t.lines;
+    gives = t.gives;
+    does = all_answered t.exchanges t.events t.does;
+  }
 
-  pub ended_failed : Talked comes holds means auto s k (b, []) s' k' last stop.ReadFailed → Served comes holds parts means auto s k b s' k' b' ReadFailed
-  ended_failed t = record { exchanges = t.exchanges; events = t.events ++ left.0; read = t.read; part = t.part; takes = t.takes; ended = t.ended; begins = t.begins; no_quit = t.no_quit; lines = t.lines; gives = t.gives; does = all_answered t.exchanges t.events t.does }
+  pub ended_failed : Talked comes holds means auto s k (b, []) s' k' last stop.ReadFailed →
+      Served comes holds parts means auto s k b s' k' b' ReadFailed
+  ended_failed t = record {
+    exchanges = t.exchanges;
+    events = t.events ++ left.0;
+    read = t.read;
+    part = t.part;
+    takes = t.takes;
+    ended = t.ended;
+    begins = t.begins;
+    no_quit = t.no_quit;
+    lines = t.lines;
+    gives = t.gives;
+    does = all_answered t.exchanges t.events t.does;
+  }
 
-  pub ended_torn : Talked comes holds means auto s k (b, []) s' k' last stop.WriteFailed → Served comes holds parts means auto s k b s' k' b' WriteFailed
+  pub ended_torn : Talked comes holds means auto s k (b, []) s' k' last stop.WriteFailed →
+      Served comes holds parts means auto s k b s' k' b' WriteFailed
   ended_torn t = inl (record {
     exchanges = t.exchanges;
     last = t.last;
@@ -37,15 +72,56 @@ module _ {S K B : Type 0} (comes : S → List ℕ → Type 0) (holds : K → Opt
     no_quit = t.no_quit;
     lines = t.lines;
     gives = t.gives;
-    does = record { before = t.does.before; last = last; own = t.does.own; its = t.does.its; aborting = left.0; converses = t.does.converses; answers = t.does.answers; leaves = left.1; are = ap (λ es. es ++ left.0) t.does.are ∙ append_assoc t.does.own t.does.its left.0 };
+    does = record {
+      before = t.does.before;
+      last = last;
+      own = t.does.own;
+      its = t.does.its;
+      aborting = left.0;
+      converses = t.does.converses;
+      answers = t.does.answers;
+      leaves = left.1;
+      are = ap (λ es. es ++ left.0) t.does.are ∙ append_assoc t.does.own t.does.its left.0;
+    };
   })
 
   -- nothing was written for QUIT yet
-  whole_texts : (exchanges : List Exchange) → Gave holds k (texts exchanges ++ []) k' → Gave holds k (texts exchanges) k'
+  whole_texts : (exchanges : List Exchange) → Gave holds k (texts exchanges ++ []) k' →
+      Gave holds k (texts exchanges) k'
   whole_texts exchanges g = subst (λ text. Gave holds k text k') (append-nil (texts exchanges)) g
 
-  pub ended_quit : (k'' : K) → Talked comes holds means auto s k (b, []) s' k' last stop.Quit → Gave holds k' bye k'' → parts b' k' k'' → Served comes holds parts means auto s k b s' k'' b' Quit
-  ended_quit k'' t a parted = record { exchanges = t.exchanges; events = t.events ++ left.0; read = t.read; waiting = t.waiting; takes = t.takes; whole = t.whole; quit = t.quit; lines = t.lines; gives = gave_then holds k k' k'' (texts t.exchanges) bye (whole_texts t.exchanges t.gives) a; parts = (k', whole_texts t.exchanges t.gives, parted); does = all_answered t.exchanges t.events t.does }
+  pub ended_quit : (k'' : K) → Talked comes holds means auto s k (b, []) s' k' last stop.Quit → Gave holds k' bye k'' →
+      parts b' k' k'' → Served comes holds parts means auto s k b s' k'' b' Quit
+  ended_quit k'' t a parted = record {
+    exchanges = t.exchanges;
+    events = t.events ++ left.0;
+    read = t.read;
+    waiting = t.waiting;
+    takes = t.takes;
+    whole = t.whole;
+    quit = t.quit;
+    lines = t.lines;
+    gives = gave_then holds k k' k'' (texts t.exchanges) bye (whole_texts t.exchanges t.gives) a;
+    parts = (k', whole_texts t.exchanges t.gives, parted);
+    does = all_answered t.exchanges t.events t.does;
+  }
 
-  pub ended_bye_torn : (k'' : K) → Talked comes holds means auto s k (b, []) s' k' last stop.Quit → ((n : ℕ) × Gave holds k' (take n bye) k'') → parts b' k' k'' → Served comes holds parts means auto s k b s' k'' b' WriteFailed
-  ended_bye_torn k'' t a parted = inr (a.0, record { exchanges = t.exchanges; events = t.events ++ left.0; read = t.read; waiting = t.waiting; takes = t.takes; whole = t.whole; quit = t.quit; lines = t.lines; gives = gave_then holds k k' k'' (texts t.exchanges) (take a.0 bye) (whole_texts t.exchanges t.gives) a.1; parts = (k', whole_texts t.exchanges t.gives, parted); does = all_answered t.exchanges t.events t.does })
+  pub ended_bye_torn : (k'' : K) → Talked comes holds means auto s k (b, []) s' k' last stop.Quit →
+      ((n : ℕ) × Gave holds k' (take n bye) k'') → parts b' k' k'' → Served comes holds parts means auto s k b s' k'' b'
+      WriteFailed
+  ended_bye_torn k'' t a parted = inr (
+    a.0,
+    record {
+      exchanges = t.exchanges;
+      events = t.events ++ left.0;
+      read = t.read;
+      waiting = t.waiting;
+      takes = t.takes;
+      whole = t.whole;
+      quit = t.quit;
+      lines = t.lines;
+      gives = gave_then holds k k' k'' (texts t.exchanges) (take a.0 bye) (whole_texts t.exchanges t.gives) a.1;
+      parts = (k', whole_texts t.exchanges t.gives, parted);
+      does = all_answered t.exchanges t.events t.does;
+    },
+  )

@@ -1,5 +1,6 @@
 -- What was heard of a line, and how it was answered.
-use Rattle.std.proofs.Common.{◌≡◌, ℕ, ◌==◌, Bool, [], ◌∷◌, Option, Some, None, true, false, refl, sym, ap, ◌∙◌, subst, ⊎_elim}
+use Rattle.std.proofs.Common.{◌≡◌, ℕ, ◌==◌, Bool, [], ◌∷◌, Option, Some, None, true, false, refl, sym, ap, ◌∙◌, subst}
+use Rattle.std.proofs.Common.{⊎_elim}
 use Rattle.std.specs.Prelude.{MatchBool}
 use Rattle.am_record.specs.declared.step.Step.{Step}
 use Rattle.am_record.specs.declared.step.Step.TheVariants.{Merge}
@@ -38,25 +39,35 @@ heard_quit None h is = ap is_quit is
 heard_quit (Some text) h may =
     ⊎_elim
     (λ (same : may.0 ≡ reading text). ap is_quit (may.2 ∙ ap parsed_of same))
-    (λ refused. ap is_quit (may.2 ∙ ap parsed_of refused.0) ∙ sym (ap (λ r. is_quit (parsed_of r)) refused.1.1 ∙ no_quit refused.1.0 refused.1.2))
+    (λ refused. ap is_quit (may.2 ∙ ap parsed_of refused.0) ∙
+    sym (ap (λ r. is_quit (parsed_of r)) refused.1.1 ∙ no_quit refused.1.0 refused.1.2))
     may.1
 
 -- what is due where a transaction is known to be active is due where the backend has it
-pub due_at : (a : Option ℕ) (s s' : SessionState) (h : ParsedLine) (what : Action) → a ≡ s.active → s'.active ≡ s.active → IsActionFor s h what s' → IsActionFor (record { active = a; staged = s.staged }) h what (record { active = a; staged = s'.staged })
+pub due_at : (a : Option ℕ) (s s' : SessionState) (h : ParsedLine) (what : Action) → a ≡ s.active →
+    s'.active ≡ s.active → IsActionFor s h what s' → IsActionFor (record { active = a; staged = s.staged }) h what
+    (record { active = a; staged = s'.staged })
 due_at a s s' h what e f m =
-    subst (λ (x : Option ℕ). IsActionFor (record { active = x; staged = s.staged }) h what (record { active = a; staged = s'.staged })) (sym e)
+    subst (λ (x : Option ℕ). IsActionFor (record { active = x; staged = s.staged }) h what
+    (record { active = a; staged = s'.staged })) (sym e)
     (subst (λ (x : Option ℕ). IsActionFor s h what (record { active = x; staged = s'.staged })) (f ∙ sym e) m)
 
 -- the line was heard so
-pub line_answered : {B : Type 0} (means : BackendMeaning B) (old new : SessionPoint B) (line : Line) (h : ParsedLine) (response : Response) (events : Trace) → MayParse line h → AnswersParsed means old h response events new → AnswersLine means old (line, response) events new
+pub line_answered : {B : Type 0} (means : BackendMeaning B) (old new : SessionPoint B) (line : Line) (h : ParsedLine)
+    (response : Response) (events : Trace) → MayParse line h → AnswersParsed means old h response events new →
+    AnswersLine means old (line, response) events new
 line_answered means old new line h response events may a = (h, may, a)
 
 -- the merge behind it
-pub merged_once : {B : Type 0} (means : BackendMeaning B) (auto : ℕ) (old new : SessionPoint B) (reply : Reply) → (auto == 0) ≡ false → means.steps old.0 (Merge auto) reply new.0 → new.1 ≡ staged_after old.1 reply → Merged means auto old new
+pub merged_once : {B : Type 0} (means : BackendMeaning B) (auto : ℕ) (old new : SessionPoint B) (reply : Reply) →
+    (auto == 0) ≡ false → means.steps old.0 (Merge auto) reply new.0 → new.1 ≡ staged_after old.1 reply →
+    Merged means auto old new
 merged_once means auto old new reply some went waits = (events, subst merges (sym some) (reply, went, refl, waits))
   where
     events : Trace
     events = (Merge auto, reply) ∷ []
 
     merges : Bool → Type 0
-    merges b = MatchBool b ((events ≡ []) × (new ≡ old)) ((merged : Reply) × means.steps old.0 (Merge auto) merged new.0 × (events ≡ (Merge auto, merged) ∷ []) × (new.1 ≡ staged_after old.1 merged))
+    merges b = MatchBool b ((events ≡ []) × (new ≡ old))
+        ((merged : Reply) × means.steps old.0 (Merge auto) merged new.0 × (events ≡ (Merge auto, merged) ∷ []) ×
+        (new.1 ≡ staged_after old.1 merged))

@@ -1,5 +1,6 @@
 -- A store with one session: its transaction stays open until it is ended.
-use Rattle.std.proofs.Common.{◌≡◌, ◌⊎◌, inl, inr, ℕ, ◌==◌, List, [], ◌∷◌, ◌++◌, Bool, true, false, map, ◌||◌, Option, Some, None, refl, sym, ap, ◌∙◌, subst}
+use Rattle.std.proofs.Common.{◌≡◌, ◌⊎◌, inl, inr, ℕ, ◌==◌, List, [], ◌∷◌, ◌++◌, Bool, true, false, map, ◌||◌, Option}
+use Rattle.std.proofs.Common.{Some, None, refl, sym, ap, ◌∙◌, subst}
 use Rattle.std.specs.Prelude.{MatchOption, MatchBool, if◌then◌else◌}
 use Rattle.std.specs.FinMap.{get, contains_key}
 use Rattle.std.proofs.lemmas.Bool.{or_left, or_right, true≢false, eq-eqb}
@@ -24,7 +25,8 @@ use Rattle.am_sound.specs.Represents.{stored_answer}
 use Rattle.am_effect.specs.Merging.{Holders, candidates, AnswersFirst, AnswersCandidates, MergeRight}
 use Rattle.am_effect.specs.Store.{WithinLimit}
 use Rattle.am_record.specs.Refusals.{is_limit}
-use Rattle.am_sound.specs.StoreState.{Active, StoreState, is_in, in_table, newcomer, refusal_in, takes_memory, MayAnswer, with_op, state_after_op, state_after}
+use Rattle.am_sound.specs.StoreState.{Active, StoreState, is_in, in_table, newcomer, refusal_in, takes_memory}
+use Rattle.am_sound.specs.StoreState.{MayAnswer, with_op, state_after_op, state_after}
 use Rattle.am_sound.proofs.Actives.{kept_number}
 use Rattle.am_talk.specs.Session.{SessionState, session_after}
 use Rattle.am_talk.specs.Actions.{EndsAbort}
@@ -66,21 +68,26 @@ told_plain op.Back marks m = either_plain (has_mark marks) reply.Done reply.NoMa
 do_plain : (p : StoreState) (t : ℕ) (o : Op) (r : Reply) → MayAnswer p (step.Do t o) r → Plain r
 do_plain p t o r = by_due (refusal_in p t o)
   where
-    by_due : (due : Option Refusal) → MatchOption due ((r ≡ stored_answer o (in_table p.active t).marks (content p.entries)) ⊎ ((r ≡ reply.Refused why.NoMemory) × (takes_memory o ≡ true))) (λ why. r ≡ reply.Refused why) → Plain r
+    by_due : (due : Option Refusal) → MatchOption due
+        ((r ≡ stored_answer o (in_table p.active t).marks (content p.entries)) ⊎
+        ((r ≡ reply.Refused why.NoMemory) × (takes_memory o ≡ true))) (λ why. r ≡ reply.Refused why) → Plain r
     by_due None (inl is) = subst Plain (sym is) (told_plain o (in_table p.active t).marks (content p.entries))
     by_due None (inr is) = subst Plain (sym is.0) (λ s. refl)
     by_due (Some w) is = subst Plain (sym is) (λ s. refl)
 
-first_plain : (es : List Entry) (held : Holders) (limit : ℕ) (c : Entry) (cs : List Entry) (o : Option ℕ) (r : Reply) → AnswersFirst es held limit c cs o r → Plain r
+first_plain : (es : List Entry) (held : Holders) (limit : ℕ) (c : Entry) (cs : List Entry) (o : Option ℕ) (r : Reply) →
+    AnswersFirst es held limit c cs o r → Plain r
 first_plain es held limit c cs (Some h) r is = subst Plain (sym is) (λ s. refl)
 first_plain es held limit c cs None (reply.Moved n run) is = λ s. refl
 first_plain es held limit c cs None r is = subst Plain (sym is.0) (λ s. refl)
 
-candidates_plain : (es : List Entry) (held : Holders) (limit : ℕ) (cs : List Entry) (r : Reply) → AnswersCandidates es held limit cs r → Plain r
+candidates_plain : (es : List Entry) (held : Holders) (limit : ℕ) (cs : List Entry) (r : Reply) →
+    AnswersCandidates es held limit cs r → Plain r
 candidates_plain es held limit [] r is = subst Plain (sym is) (λ s. refl)
 candidates_plain es held limit (c ∷ cs) r is = first_plain es held limit c (c ∷ cs) (held c.key) r is
 
-merge_right_plain : (es : List Entry) (wishes : List Interval) (held : Holders) (limit : ℕ) (r : Reply) → MergeRight es wishes held limit r → Plain r
+merge_right_plain : (es : List Entry) (wishes : List Interval) (held : Holders) (limit : ℕ) (r : Reply) →
+    MergeRight es wishes held limit r → Plain r
 merge_right_plain es [] held limit r is = subst Plain (sym is) (λ s. refl)
 merge_right_plain es (wish ∷ wishes) held limit r is = candidates_plain es held limit (candidates es wish) r is
 
@@ -94,19 +101,23 @@ limit_plain limit r right plain = by_limit (is_limit limit)
 pub merge_plain : (p : StoreState) (limit : ℕ) (r : Reply) → MayAnswer p (step.Merge limit) r → Plain r
 merge_plain p limit r h = limit_plain limit r _ (merge_right_plain p.entries p.wishes _ limit r) h
 
-clean_plain : (p : StoreState) (range : Interval) (limit : ℕ) (r : Reply) → MayAnswer p (step.Clean range limit) r → Plain r
+clean_plain : (p : StoreState) (range : Interval) (limit : ℕ) (r : Reply) → MayAnswer p (step.Clean range limit) r →
+    Plain r
 clean_plain p range limit r h = limit_plain limit r _ (λ is. subst Plain (sym is) (λ s. refl)) h
 
 -- ---- who is active after a step
 
-still_in : (f : Active → Active) → ((x : Active) → (f x).number ≡ x.number) → (xs : List Active) (u : ℕ) → is_in (map f xs) u ≡ is_in xs u
+still_in : (f : Active → Active) → ((x : Active) → (f x).number ≡ x.number) → (xs : List Active) (u : ℕ) →
+    is_in (map f xs) u ≡ is_in xs u
 still_in f same [] u = refl
 still_in f same (x ∷ xs) u = λ i. (u == same x i) || still_in f same xs u i
 
-did_in : (t : ℕ) (o : Op) (r : Reply) (new : List Note) (xs : List Active) (u : ℕ) → is_in (map (with_op t o r new) xs) u ≡ is_in xs u
+did_in : (t : ℕ) (o : Op) (r : Reply) (new : List Note) (xs : List Active) (u : ℕ) →
+    is_in (map (with_op t o r new) xs) u ≡ is_in xs u
 did_in t o r new xs u = still_in (with_op t o r new) (λ x. kept_number (t == x.number) x _ refl) xs u
 
-do_in : (p : StoreState) (t : ℕ) (o : Op) (r : Reply) (u : ℕ) → is_in (state_after_op p t o r).active u ≡ is_in p.active u
+do_in : (p : StoreState) (t : ℕ) (o : Op) (r : Reply) (u : ℕ) → is_in (state_after_op p t o r).active u ≡ is_in p.active
+    u
 do_in p t o (reply.Refused w) u = refl
 do_in p t o r u = did_in t o r _ p.active u
 
@@ -128,31 +139,39 @@ upkept p q None e h = h
 upkept p q (Some t) e h = ap (λ xs. is_in xs t) e ∙ h
 
 -- the session's transaction stays open
-pub stays_open : (p : StoreState) (a : Option ℕ) (s : Step) (r : Reply) → IsAllowed a s → IsOpen p a → MayAnswer p s r → IsOpen (state_after p s r) (active_after a r)
+pub stays_open : (p : StoreState) (a : Option ℕ) (s : Step) (r : Reply) → IsAllowed a s → IsOpen p a → MayAnswer p s r →
+    IsOpen (state_after p s r) (active_after a r)
 stays_open p a step.Begin (reply.Begun t) allowed h says = begun_in p.active t
 stays_open p a step.Begin (reply.Refused why.TooManyTx) allowed h says = h
-stays_open p a (step.Do t o) r allowed h says = subst (IsOpen (state_after_op p t o r)) (sym (active_on r (do_plain p t o r says) a)) (open_do p t o r a h)
+stays_open p a (step.Do t o) r allowed h says = subst (IsOpen (state_after_op p t o r))
+    (sym (active_on r (do_plain p t o r says) a)) (open_do p t o r a h)
 stays_open p a (step.Commit t) (reply.Committed c) allowed h says = tt
 stays_open p a (step.Commit t) (reply.Refused why.NoSuchTx) allowed h says = h
 stays_open p a (step.Abort t) reply.Aborted allowed h says = tt
 stays_open p a (step.Abort t) (reply.Refused why.NoSuchTx) allowed h says = h
-stays_open p a (step.Merge limit) r allowed h says = subst (IsOpen (state_after p (step.Merge limit) r)) (sym (active_on r (merge_plain p limit r says) a)) (upkept p (state_after p (step.Merge limit) r) a refl h)
-stays_open p a (step.Clean range limit) r allowed h says = subst (IsOpen (state_after p (step.Clean range limit) r)) (sym (active_on r (clean_plain p range limit r says) a)) (upkept p (state_after p (step.Clean range limit) r) a refl h)
+stays_open p a (step.Merge limit) r allowed h says = subst (IsOpen (state_after p (step.Merge limit) r))
+    (sym (active_on r (merge_plain p limit r says) a)) (upkept p (state_after p (step.Merge limit) r) a refl h)
+stays_open p a (step.Clean range limit) r allowed h says = subst (IsOpen (state_after p (step.Clean range limit) r))
+    (sym (active_on r (clean_plain p range limit r says) a))
+    (upkept p (state_after p (step.Clean range limit) r) a refl h)
 stays_open p a _ _ allowed h says = absurd says
 
 -- an abort of it isn't refused
-pub abort_ends : (p : StoreState) (a : Option ℕ) (s : Step) (r : Reply) → IsAllowed a s → IsOpen p a → MayAnswer p s r → EndsAbort s r
+pub abort_ends : (p : StoreState) (a : Option ℕ) (s : Step) (r : Reply) → IsAllowed a s → IsOpen p a → MayAnswer p s r →
+    EndsAbort s r
 abort_ends p a step.Begin r allowed h says = tt
 abort_ends p a (step.Do t o) r allowed h says = tt
 abort_ends p a (step.Commit t) r allowed h says = tt
 abort_ends p a (step.Abort t) reply.Aborted allowed h says = refl
-abort_ends p a (step.Abort t) (reply.Refused why.NoSuchTx) allowed h says = absurd (true≢false (sym (subst (IsOpen p) allowed h) ∙ says))
+abort_ends p a (step.Abort t) (reply.Refused why.NoSuchTx) allowed h says =
+    absurd (true≢false (sym (subst (IsOpen p) allowed h) ∙ says))
 abort_ends p a (step.Abort t) _ allowed h says = absurd says
 abort_ends p a (step.Merge limit) r allowed h says = tt
 abort_ends p a (step.Clean range limit) r allowed h says = tt
 
 -- the commits are counted
-pub commits_are : (p : StoreState) (s : Step) (r : Reply) → MayAnswer p s r → (state_after p s r).commits ≡ commits_after p.commits s r
+pub commits_are : (p : StoreState) (s : Step) (r : Reply) → MayAnswer p s r →
+    (state_after p s r).commits ≡ commits_after p.commits s r
 commits_are p step.Begin (reply.Begun t) says = refl
 commits_are p step.Begin (reply.Refused why.TooManyTx) says = refl
 commits_are p (step.Do t o) r says = do_commits p t o r

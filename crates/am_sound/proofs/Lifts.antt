@@ -1,14 +1,17 @@
 -- A step that is right of what the store keeps is right at its trace.
-use Rattle.std.proofs.Common.{◌≡◌, ◌≤◌, ◌<◌, ◌+◌, ℕ, suc, List, [], ◌∷◌, ◌++◌, length, map, Bool, true, false, cond, ◌&&◌, ◌||◌, refl, sym, ap, ◌∙◌, subst, ⊎_elim, inl, inr, ◌⊎◌, Option, Some, None, arith}
+use Rattle.std.proofs.Common.{◌≡◌, ◌≤◌, ◌<◌, ◌+◌, ℕ, suc, List, [], ◌∷◌, ◌++◌, length, map, Bool, true, false, cond}
+use Rattle.std.proofs.Common.{◌&&◌, ◌||◌, refl, sym, ap, ◌∙◌, subst, ⊎_elim, inl, inr, ◌⊎◌, Option, Some, None, arith}
 use Rattle.std.specs.Prelude.{◌==◌, not, nat_le, MatchOption}
-use Rattle.std.proofs.lemmas.Bool.{cases_Bool, cond-true, cond-false, both_ways, or_cases, or_left, or_right, eqb-true, eq-eqb, ne_eqb, false≢true}
+use Rattle.std.proofs.lemmas.Bool.{cases_Bool, cond-true, cond-false, both_ways, or_cases, or_left, or_right, eqb-true}
+use Rattle.std.proofs.lemmas.Bool.{eq-eqb, ne_eqb, false≢true}
 use Rattle.std.proofs.lemmas.List.{map-append}
 use Rattle.am_effect.proofs.Backs.{describe_laws}
 use Rattle.am_effect.proofs.Marks.{back_laws, whole_describes}
 use Rattle.am_effect.specs.History.{aborted, goes_back, gone_back}
 use Rattle.am_effect.specs.Laws.{taken_back}
 use Rattle.am_effect.specs.Merging.{CleanRight, Holders, MergeRight, all_worked_off, cleaned_by}
-use Rattle.am_effect.specs.Store.{Follows, MayReply, Store, WithinLimit, after_all, after_step, changed, holder, marks_after, marks_left, noted, notes_after, notes_left, opened, wished, with_wish}
+use Rattle.am_effect.specs.Store.{Follows, MayReply, Store, WithinLimit, after_all, after_step, changed, holder}
+use Rattle.am_effect.specs.Store.{marks_after, marks_left, noted, notes_after, notes_left, opened, wished, with_wish}
 use Rattle.am_sound.proofs.Representing.{goes_on}
 use Rattle.am_sound.specs.Represents.{RepresentsNext, stored_answer}
 use Rattle.am_list.specs.Content.{content}
@@ -22,7 +25,8 @@ use Rattle.am_record.specs.declared.entry.Entry.{Entry}
 use Rattle.am_record.specs.declared.step.Op.{Op}
 use Rattle.am_record.specs.declared.step.Op.TheVariants.{Back, Delete, Get, Insert, Load, Lock, Mark, Replace, Scan}
 use Rattle.am_record.specs.declared.step.Refusal.{Refusal}
-use Rattle.am_record.specs.declared.step.Refusal.TheVariants.{BadLimit, NoMemory, NoSuchTx, NotRising, TooManyOps, TooManyRuns, TooManyTx}
+use Rattle.am_record.specs.declared.step.Refusal.TheVariants.{BadLimit, NoMemory, NoSuchTx, NotRising, TooManyOps}
+use Rattle.am_record.specs.declared.step.Refusal.TheVariants.{TooManyRuns, TooManyTx}
 use Rattle.am_record.specs.declared.step.Reply.{Reply}
 use Rattle.am_record.specs.declared.step.Reply.TheVariants.{Aborted, Begun, Committed, Done, NoMark, Refused}
 use Rattle.am_record.specs.declared.step.Step.{Step}
@@ -32,13 +36,16 @@ use Rattle.am_serial.proofs.OneStep.{step_laws}
 use Rattle.am_serial.proofs.States.{overlay_laws, view_laws}
 use Rattle.am_serial.specs.Laws.{OverlayLaws, ViewLaws}
 use Rattle.am_record.specs.Refusals.{lock_refusal, is_bounded, is_load, is_one_too_many, or_else}
-use Rattle.am_serial.specs.Machine.{State, Transaction, blocker, body_in, due, extended, is_open, locks_in, owns_in, view, without_transaction}
+use Rattle.am_serial.specs.Machine.{State, Transaction, blocker, body_in, due, extended, is_open, locks_in, owns_in}
+use Rattle.am_serial.specs.Machine.{view, without_transaction}
 use Rattle.am_record.specs.Events.{Event}
 use Rattle.am_serial.specs.Trace.{Answered, Trace, ops_of, runs_made}
 use Rattle.am_sound.proofs.Keeping.{not_begun}
-use Rattle.am_sound.proofs.Whole.{Right, changed_refused, either_way, marks_left_refused, noted_refused, notes_left_refused, right_at}
+use Rattle.am_sound.proofs.Whole.{Right, changed_refused, either_way, marks_left_refused, noted_refused}
+use Rattle.am_sound.proofs.Whole.{notes_left_refused, right_at}
 use Rattle.am_sound.specs.StateOf.{IsStateOf, active_of, state_of}
-use Rattle.am_sound.specs.StoreState.{Active, IsFit, MayAnswer, StoreState, state_after, taken_back_to_mark, blocker_in, with_op, refusal_in, without_tx, holder_in, in_table, is_in, takes_memory}
+use Rattle.am_sound.specs.StoreState.{Active, IsFit, MayAnswer, StoreState, state_after, taken_back_to_mark, blocker_in}
+use Rattle.am_sound.specs.StoreState.{with_op, refusal_in, without_tx, holder_in, in_table, is_in, takes_memory}
 use Rattle.am_undo.proofs.Marking.{mark_laws}
 use Rattle.am_record.specs.Marks.{since_mark, has_mark}
 use Rattle.am_undo.specs.Marks.{MarkLaws}
@@ -52,55 +59,83 @@ module _ (notes : ℕ → List Note) (marks : ℕ → List ℕ) where
   is_in-map [] t = refl
   is_in-map (x ∷ txs) t = ap (λ b. (t == x.0) || b) (is_in-map txs t)
 
-  ops-map : (txs : List Transaction) (t : ℕ) → (in_table (map (active_of notes marks) txs) t).ops ≡ length (body_in txs t)
+  ops-map : (txs : List Transaction) (t : ℕ) → (in_table (map (active_of notes marks) txs) t).ops ≡ length
+      (body_in txs t)
   ops-map [] t = refl
-  ops-map (x ∷ txs) t = elim (t == x.0) as (λ b. (cond b (active_of notes marks x) (in_table (map (active_of notes marks) txs) t)).ops ≡ length (cond b x.1 (body_in txs t))) [ true ↦ refl | false ↦ ops-map txs t ]
+  ops-map (x ∷ txs) t = elim (t == x.0) as (λ b.
+      (cond b (active_of notes marks x) (in_table (map (active_of notes marks) txs) t)).ops ≡ length
+      (cond b x.1 (body_in txs t))) [ true ↦ refl | false ↦ ops-map txs t ]
 
   locks-map : (txs : List Transaction) (t : ℕ) → (in_table (map (active_of notes marks) txs) t).locks ≡ locks_in txs t
   locks-map [] t = refl
-  locks-map (x ∷ txs) t = elim (t == x.0) as (λ b. (cond b (active_of notes marks x) (in_table (map (active_of notes marks) txs) t)).locks ≡ locks_of (ops_of (cond b x.1 (body_in txs t)))) [ true ↦ refl | false ↦ locks-map txs t ]
+  locks-map (x ∷ txs) t = elim (t == x.0) as (λ b.
+      (cond b (active_of notes marks x) (in_table (map (active_of notes marks) txs) t)).locks ≡ locks_of
+      (ops_of (cond b x.1 (body_in txs t)))) [ true ↦ refl | false ↦ locks-map txs t ]
 
-  notes-map : (txs : List Transaction) (t : ℕ) → is_open txs t ≡ true → (in_table (map (active_of notes marks) txs) t).notes ≡ notes t
+  notes-map : (txs : List Transaction) (t : ℕ) → is_open txs t ≡ true →
+      (in_table (map (active_of notes marks) txs) t).notes ≡ notes t
   notes-map [] t h = absurd (false≢true h)
   notes-map (x ∷ txs) t h = ⊎_elim
-      (λ here. ap (λ (y : Active). y.notes) (cond-true (t == x.0) (active_of notes marks x) (in_table (map (active_of notes marks) txs) t) here) ∙ ap notes (sym (eqb-true t x.0 here)))
-      (λ no. ap (λ (y : Active). y.notes) (cond-false (t == x.0) (active_of notes marks x) (in_table (map (active_of notes marks) txs) t) no)
-      ∙ notes-map txs t (⊎_elim (λ yes. absurd (both_ways _ no yes)) (λ later. later) (or_cases (t == x.0) (is_open txs t) h)))
+      (λ here. ap (λ (y : Active). y.notes) (cond-true (t == x.0) (active_of notes marks x)
+      (in_table (map (active_of notes marks) txs) t) here) ∙ ap notes (sym (eqb-true t x.0 here)))
+      (λ no. ap (λ (y : Active). y.notes) (cond-false (t == x.0) (active_of notes marks x)
+      (in_table (map (active_of notes marks) txs) t) no)
+      ∙ notes-map txs t (⊎_elim (λ yes. absurd (both_ways _ no yes)) (λ later. later)
+      (or_cases (t == x.0) (is_open txs t) h)))
       (cases_Bool (t == x.0))
 
-  marks-map : (txs : List Transaction) (t : ℕ) → is_open txs t ≡ true → (in_table (map (active_of notes marks) txs) t).marks ≡ marks t
+  marks-map : (txs : List Transaction) (t : ℕ) → is_open txs t ≡ true →
+      (in_table (map (active_of notes marks) txs) t).marks ≡ marks t
   marks-map [] t h = absurd (false≢true h)
   marks-map (x ∷ txs) t h = ⊎_elim
-      (λ here. ap (λ (y : Active). y.marks) (cond-true (t == x.0) (active_of notes marks x) (in_table (map (active_of notes marks) txs) t) here) ∙ ap marks (sym (eqb-true t x.0 here)))
-      (λ no. ap (λ (y : Active). y.marks) (cond-false (t == x.0) (active_of notes marks x) (in_table (map (active_of notes marks) txs) t) no)
-      ∙ marks-map txs t (⊎_elim (λ yes. absurd (both_ways _ no yes)) (λ later. later) (or_cases (t == x.0) (is_open txs t) h)))
+      (λ here. ap (λ (y : Active). y.marks) (cond-true (t == x.0) (active_of notes marks x)
+      (in_table (map (active_of notes marks) txs) t) here) ∙ ap marks (sym (eqb-true t x.0 here)))
+      (λ no. ap (λ (y : Active). y.marks) (cond-false (t == x.0) (active_of notes marks x)
+      (in_table (map (active_of notes marks) txs) t) no)
+      ∙ marks-map txs t (⊎_elim (λ yes. absurd (both_ways _ no yes)) (λ later. later)
+      (or_cases (t == x.0) (is_open txs t) h)))
       (cases_Bool (t == x.0))
 
   holder-map : (txs : List Transaction) (q : OrderedKey) → holder_in (map (active_of notes marks) txs) q ≡ holder txs q
   holder-map [] q = refl
   holder-map (x ∷ txs) q = ap (cond (owns (locks_of (ops_of x.1)) q) (Some x.0)) (holder-map txs q)
 
-  blocker-map : (txs : List Transaction) (t : ℕ) (asked : Option TheLock) → blocker_in (map (active_of notes marks) txs) t asked ≡ blocker txs t asked
+  blocker-map : (txs : List Transaction) (t : ℕ) (asked : Option TheLock) → blocker_in (map (active_of notes marks) txs)
+      t asked ≡ blocker txs t asked
   blocker-map [] t asked = refl
-  blocker-map (x ∷ txs) t asked = ap (cond (not (t == x.0) && clashes asked (locks_of (ops_of x.1))) (Some x.0)) (blocker-map txs t asked)
+  blocker-map (x ∷ txs) t asked = ap (cond (not (t == x.0) && clashes asked (locks_of (ops_of x.1))) (Some x.0))
+      (blocker-map txs t asked)
 
-  ended-map : (t : ℕ) (txs : List Transaction) → map (active_of notes marks) (without_transaction t txs) ≡ without_tx t (map (active_of notes marks) txs)
+  ended-map : (t : ℕ) (txs : List Transaction) → map (active_of notes marks) (without_transaction t txs) ≡ without_tx t
+      (map (active_of notes marks) txs)
   ended-map t [] = refl
-  ended-map t (x ∷ txs) = elim (x.0 == t) as (λ b. map (active_of notes marks) (cond (not b) (x ∷ without_transaction t txs) (without_transaction t txs)) ≡ cond (not b) (active_of notes marks x ∷ without_tx t (map (active_of notes marks) txs)) (without_tx t (map (active_of notes marks) txs))) [
-    | true ↦ ended-map t txs
-    | false ↦ ap (λ l. active_of notes marks x ∷ l) (ended-map t txs)
-  ]
+  ended-map t (x ∷ txs) = elim (x.0 == t) as (λ b. map (active_of notes marks)
+      (cond (not b) (x ∷ without_transaction t txs) (without_transaction t txs)) ≡ cond (not b)
+      (active_of notes marks x ∷ without_tx t (map (active_of notes marks) txs))
+      (without_tx t (map (active_of notes marks) txs))) [
+        | true ↦ ended-map t txs
+        | false ↦ ap (λ l. active_of notes marks x ∷ l) (ended-map t txs)
+      ]
 
-length_table : (notes : ℕ → List Note) (marks : ℕ → List ℕ) (txs : List Transaction) → length (map (active_of notes marks) txs) ≡ length txs
+length_table : (notes : ℕ → List Note) (marks : ℕ → List ℕ) (txs : List Transaction) →
+    length (map (active_of notes marks) txs) ≡ length txs
 length_table notes marks [] = refl
 length_table notes marks (x ∷ txs) = ap suc (length_table notes marks txs)
 
-other_notes : (n n' : ℕ → List Note) (m m' : ℕ → List ℕ) (txs : List Transaction) → ((u : ℕ) → is_open txs u ≡ true → (n' u ≡ n u) × (m' u ≡ m u)) → map (active_of n' m') txs ≡ map (active_of n m) txs
+other_notes : (n n' : ℕ → List Note) (m m' : ℕ → List ℕ) (txs : List Transaction) →
+    ((u : ℕ) → is_open txs u ≡ true → (n' u ≡ n u) × (m' u ≡ m u)) → map (active_of n' m') txs ≡ map (active_of n m) txs
 other_notes n n' m m' [] h = refl
 other_notes n n' m m' (x ∷ txs) h =
-    let here : (n' x.0 ≡ n x.0) × (m' x.0 ≡ m x.0) = h x.0 (or_left (x.0 == x.0) (is_open txs x.0) (eq-eqb x.0 x.0 refl)) in
+    let here : (n' x.0 ≡ n x.0) × (m' x.0 ≡ m x.0) =
+    h x.0 (or_left (x.0 == x.0) (is_open txs x.0) (eq-eqb x.0 x.0 refl)) in
     let rest = other_notes n n' m m' txs (λ u o. h u (or_right (u == x.0) (is_open txs u) o)) in
-    λ i. record { number = x.0; ops = length x.1; locks = locks_of (ops_of x.1); notes = here.0 i; marks = here.1 i } ∷ rest i
+    λ i. record {
+      number = x.0;
+      ops = length x.1;
+      locks = locks_of (ops_of x.1);
+      notes = here.0 i;
+      marks = here.1 i;
+    } ∷ rest i
 
 -- one more operation
 length-push : (xs : List Answered) (x : Answered) → length (xs ++ x ∷ []) ≡ length xs + 1
@@ -114,27 +149,52 @@ notes_then t op reply new notes marks u = cond (t == u) (new ++ notes_left op re
 abbrev marks_then : ℕ → Op → Reply → (ℕ → List Note) → (ℕ → List ℕ) → ℕ → List ℕ
 marks_then t op reply notes marks u = cond (t == u) (marks_left op reply (length (notes u)) (marks u)) (marks u)
 
-did_one : (t : ℕ) (op : Op) (reply : Reply) (new : List Note) (notes : ℕ → List Note) (marks : ℕ → List ℕ) (x : Transaction) → active_of (notes_then t op reply new notes marks) (marks_then t op reply notes marks) (extended t (op, reply) x) ≡ with_op t op reply new (active_of notes marks x)
+did_one : (t : ℕ) (op : Op) (reply : Reply) (new : List Note) (notes : ℕ → List Note) (marks : ℕ → List ℕ)
+    (x : Transaction) → active_of (notes_then t op reply new notes marks) (marks_then t op reply notes marks)
+    (extended t (op, reply) x) ≡ with_op t op reply new (active_of notes marks x)
 did_one t op reply new notes marks x = by_test (t == x.0)
   where
     grown : (x : Transaction) → ops_of (x.1 ++ (op, reply) ∷ []) ≡ ops_of x.1 ++ op ∷ []
     grown x = map-append (λ (a : Answered). a.0) x.1 ((op, reply) ∷ [])
 
     by_test : (b : Bool) → ◌≡◌ {A = Active}
-        (record { number = x.0; ops = length (cond b (x.1 ++ (op, reply) ∷ []) x.1); locks = locks_of (ops_of (cond b (x.1 ++ (op, reply) ∷ []) x.1)); notes = cond b (new ++ notes_left op reply (marks x.0) (notes x.0)) (notes x.0); marks = cond b (marks_left op reply (length (notes x.0)) (marks x.0)) (marks x.0) })
-        (cond b (record { number = x.0; ops = length x.1 + 1; locks = with_asked (locks_of (ops_of x.1)) (lock_of op); notes = new ++ notes_left op reply (marks x.0) (notes x.0); marks = marks_left op reply (length (notes x.0)) (marks x.0) }) (active_of notes marks x))
+        (record {
+          number = x.0;
+          ops = length (cond b (x.1 ++ (op, reply) ∷ []) x.1);
+          locks = locks_of (ops_of (cond b (x.1 ++ (op, reply) ∷ []) x.1));
+          notes = cond b (new ++ notes_left op reply (marks x.0) (notes x.0)) (notes x.0);
+          marks = cond b (marks_left op reply (length (notes x.0)) (marks x.0)) (marks x.0);
+        })
+        (cond b (record {
+          number = x.0;
+          ops = length x.1 + 1;
+          locks = with_asked (locks_of (ops_of x.1)) (lock_of op);
+          notes = new ++ notes_left op reply (marks x.0) (notes x.0);
+          marks = marks_left op reply (length (notes x.0)) (marks x.0);
+        }) (active_of notes marks x))
     by_test true =
         let long = length-push x.1 (op, reply) in
         let locks = ap locks_of (grown x) ∙ locks_of-push (ops_of x.1) op in
-        λ i. record { number = x.0; ops = long i; locks = locks i; notes = new ++ notes_left op reply (marks x.0) (notes x.0); marks = marks_left op reply (length (notes x.0)) (marks x.0) }
+        λ i. record {
+          number = x.0;
+          ops = long i;
+          locks = locks i;
+          notes = new ++ notes_left op reply (marks x.0) (notes x.0);
+          marks = marks_left op reply (length (notes x.0)) (marks x.0);
+        }
     by_test false = refl
 
-did_all : (t : ℕ) (op : Op) (reply : Reply) (new : List Note) (notes : ℕ → List Note) (marks : ℕ → List ℕ) (txs : List Transaction) → map (active_of (notes_then t op reply new notes marks) (marks_then t op reply notes marks)) (map (extended t (op, reply)) txs) ≡ map (with_op t op reply new) (map (active_of notes marks) txs)
+did_all : (t : ℕ) (op : Op) (reply : Reply) (new : List Note) (notes : ℕ → List Note) (marks : ℕ → List ℕ)
+    (txs : List Transaction) → map (active_of (notes_then t op reply new notes marks)
+    (marks_then t op reply notes marks))
+    (map (extended t (op, reply)) txs) ≡ map (with_op t op reply new) (map (active_of notes marks) txs)
 did_all t op reply new notes marks [] = refl
-did_all t op reply new notes marks (x ∷ txs) = λ i. did_one t op reply new notes marks x i ∷ did_all t op reply new notes marks txs i
+did_all t op reply new notes marks (x ∷ txs) = λ i. did_one t op reply new notes marks x i ∷ did_all t op reply new
+    notes marks txs i
 
 -- what Back leaves counts at Back alone
-changed_alike : (gone gone' : List Entry) (runs : ℕ) (op : Op) (reply : Reply) (es : List Entry) → (goes_back op reply ≡ true → gone ≡ gone') → changed gone runs op reply es ≡ changed gone' runs op reply es
+changed_alike : (gone gone' : List Entry) (runs : ℕ) (op : Op) (reply : Reply) (es : List Entry) →
+    (goes_back op reply ≡ true → gone ≡ gone') → changed gone runs op reply es ≡ changed gone' runs op reply es
 changed_alike gone gone' runs Back Done es h = h refl
 changed_alike gone gone' runs (Insert k v) Done es h = refl
 changed_alike gone gone' runs (Replace k v) Done es h = refl
@@ -183,7 +243,8 @@ module _ (trace : Trace) (s : Store) (r : Right trace s) where
   holders_are : holder_in (map (active_of s.notes s.marks) s.state.active) ≡ holder s.state.active
   holders_are i q = holder-map s.notes s.marks s.state.active q i
 
-  marks_are : (t : ℕ) → is_open s.state.active t ≡ true → (in_table (map (active_of s.notes s.marks) s.state.active) t).marks ≡ s.marks t
+  marks_are : (t : ℕ) → is_open s.state.active t ≡ true →
+      (in_table (map (active_of s.notes s.marks) s.state.active) t).marks ≡ s.marks t
   marks_are t o = marks-map s.notes s.marks s.state.active t o
 
   -- who asks is active where no refusal is due
@@ -191,18 +252,26 @@ module _ (trace : Trace) (s : Store) (r : Right trace s) where
   is_active t op e = ((step_laws s.state).granted t op e).is_active
 
   abbrev Given : ℕ → Op → Reply → Option Refusal → Type 0
-  Given t op reply o = MatchOption o ((reply ≡ stored_answer op (in_table (map (active_of s.notes s.marks) s.state.active) t).marks (content s.entries)) ⊎ ((reply ≡ Refused NoMemory) × (takes_memory op ≡ true))) (λ why. reply ≡ Refused why)
+  Given t op reply o = MatchOption o ((reply ≡ stored_answer op
+      (in_table (map (active_of s.notes s.marks) s.state.active) t).marks (content s.entries)) ⊎
+      ((reply ≡ Refused NoMemory) × (takes_memory op ≡ true))) (λ why. reply ≡ Refused why)
 
   may_do : (t : ℕ) (op : Op) (reply : Reply) → MayAnswer (state_of s) (Do t op) reply → MayReply s (Do t op) reply
   may_do t op reply h = by_due (due s.state t op) refl (subst (Given t op reply) (due_is t op) h)
     where
-      by_due : (o : Option Refusal) → due s.state t op ≡ o → Given t op reply o → MatchOption (due s.state t op) ((reply ≡ answer op (view s.state t)) ⊎ (reply ≡ Refused NoMemory)) (λ why. reply ≡ Refused why)
-      by_due None e m = subst (λ o. MatchOption o ((reply ≡ answer op (view s.state t)) ⊎ (reply ≡ Refused NoMemory)) (λ why. reply ≡ Refused why)) (sym e)
-          (⊎_elim (λ a. inl (a ∙ ap (λ (ms : List ℕ). stored_answer op ms (content s.entries)) (marks_are t (is_active t op e)) ∙ sym (go.answered t op e))) (λ w. inr w.0) m)
-      by_due (Some why) e m = subst (λ o. MatchOption o ((reply ≡ answer op (view s.state t)) ⊎ (reply ≡ Refused NoMemory)) (λ why. reply ≡ Refused why)) (sym e) m
+      by_due : (o : Option Refusal) → due s.state t op ≡ o → Given t op reply o →
+          MatchOption (due s.state t op) ((reply ≡ answer op (view s.state t)) ⊎ (reply ≡ Refused NoMemory))
+          (λ why. reply ≡ Refused why)
+      by_due None e m = subst (λ o. MatchOption o ((reply ≡ answer op (view s.state t)) ⊎ (reply ≡ Refused NoMemory))
+          (λ why. reply ≡ Refused why)) (sym e)
+          (⊎_elim (λ a. inl (a ∙ ap (λ (ms : List ℕ). stored_answer op ms (content s.entries))
+          (marks_are t (is_active t op e)) ∙ sym (go.answered t op e))) (λ w. inr w.0) m)
+      by_due (Some why) e m = subst (λ o. MatchOption o ((reply ≡ answer op (view s.state t)) ⊎
+          (reply ≡ Refused NoMemory)) (λ why. reply ≡ Refused why)) (sym e) m
 
   -- Back is answered Done where a mark stands
-  mark_stands : (t : ℕ) → MayReply s (Do t Back) Done → (is_open s.state.active t ≡ true) × (has_mark (s.marks t) ≡ true)
+  mark_stands : (t : ℕ) → MayReply s (Do t Back) Done → (is_open s.state.active t ≡ true) ×
+      (has_mark (s.marks t) ≡ true)
   mark_stands t h = by_due (due s.state t Back) refl h
     where
       not_refused : (why : Refusal) → ◌≡◌ {A = Reply} Done (Refused why) → ⊥
@@ -212,8 +281,15 @@ module _ (trace : Trace) (s : Store) (r : Right trace s) where
       stands true e = refl
       stands false e = cc
 
-      by_due : (o : Option Refusal) → due s.state t Back ≡ o → MatchOption o ((Done ≡ answer Back (view s.state t)) ⊎ (Done ≡ Refused NoMemory)) (λ why. Done ≡ Refused why) → (is_open s.state.active t ≡ true) × (has_mark (s.marks t) ≡ true)
-      by_due None e m = (is_active t Back e, ⊎_elim (λ a. stands (has_mark (s.marks t)) (a ∙ go.answered t Back e)) (λ w. absurd (not_refused NoMemory w)) m)
+      by_due : (o : Option Refusal) → due s.state t Back ≡ o →
+          MatchOption o ((Done ≡ answer Back (view s.state t)) ⊎ (Done ≡ Refused NoMemory))
+          (λ why. Done ≡ Refused why) →
+          (is_open s.state.active t ≡ true) × (has_mark (s.marks t) ≡ true)
+      by_due None e m = (
+        is_active t Back e,
+        ⊎_elim (λ a. stands (has_mark (s.marks t)) (a ∙ go.answered t Back e))
+            (λ w. absurd (not_refused NoMemory w)) m,
+      )
       by_due (Some why) e m = absurd (not_refused why m)
 
   same_open : (t : ℕ) → is_in (map (active_of s.notes s.marks) s.state.active) t ≡ is_open s.state.active t
@@ -233,67 +309,141 @@ module _ (trace : Trace) (s : Store) (r : Right trace s) where
   may_reply (Abort t) Aborted h = sym (same_open t) ∙ h
   may_reply (Abort t) (Refused NoSuchTx) h = sym (same_open t) ∙ h
   may_reply (Abort t) reply h = absurd h
-  may_reply (Merge limit) reply h = subst (λ hs. WithinLimit limit reply (MergeRight s.entries s.wishes hs limit reply)) holders_are h
-  may_reply (Clean range limit) reply h = subst (λ hs. WithinLimit limit reply (CleanRight s.entries hs range limit reply)) holders_are h
+  may_reply (Merge limit) reply h = subst (λ hs. WithinLimit limit reply (MergeRight s.entries s.wishes hs limit reply))
+      holders_are h
+  may_reply (Clean range limit) reply h = subst
+      (λ hs. WithinLimit limit reply (CleanRight s.entries hs range limit reply)) holders_are h
 
   -- what the step leaves
   unborn : (t : ℕ) → t ≡ s.state.begun + 1 → is_open s.state.active t ≡ false
   unborn t e = not_begun s.state w (step_laws s.state) s.entries s.past s.notes s.marks r.keeps t e
 
-  begun_parts : (t : ℕ) → t ≡ s.state.begun + 1 → state_of (after_step s Begin (Begun t)) ≡ state_after (state_of s) Begin (Begun t)
+  begun_parts : (t : ℕ) → t ≡ s.state.begun + 1 → state_of (after_step s Begin (Begun t)) ≡ state_after (state_of s)
+      Begin (Begun t)
   begun_parts t e =
       let notes' = λ (u : ℕ). cond (t == u) [] (s.notes u) in
       let marks' = λ (u : ℕ). cond (t == u) [] (s.marks u) in
-      let apart : (u : ℕ) → is_open s.state.active u ≡ true → (t == u) ≡ false = λ u o. ne_eqb t u (λ same. both_ways _ (unborn t e) (ap (is_open s.state.active) same ∙ o)) in
+      let apart : (u : ℕ) → is_open s.state.active u ≡ true → (t == u) ≡ false =
+      λ u o. ne_eqb t u (λ same. both_ways _ (unborn t e) (ap (is_open s.state.active) same ∙ o)) in
       let own_notes = cond-true (t == t) [] (s.notes t) (eq-eqb t t refl) in
       let own_marks = cond-true (t == t) [] (s.marks t) (eq-eqb t t refl) in
-      let table : map (active_of notes' marks') (s.state.active ++ (t, []) ∷ []) ≡ map (active_of s.notes s.marks) s.state.active ++ record { number = t; ops = 0; locks = []; notes = []; marks = [] } ∷ [] =
+      let table : map (active_of notes' marks') (s.state.active ++ (t, []) ∷ []) ≡ map (active_of s.notes s.marks)
+      s.state.active ++ record { number = t; ops = 0; locks = []; notes = []; marks = [] } ∷ [] =
       map-append (active_of notes' marks') s.state.active ((t, []) ∷ [])
-      ∙ ap (λ l. l ++ active_of notes' marks' (t, []) ∷ []) (other_notes s.notes notes' s.marks marks' s.state.active (λ u o. (cond-false (t == u) [] (s.notes u) (apart u o), cond-false (t == u) [] (s.marks u) (apart u o))))
-      ∙ (λ i. map (active_of s.notes s.marks) s.state.active ++ record { number = t; ops = 0; locks = []; notes = own_notes i; marks = own_marks i } ∷ []) in
-      λ i. record { entries = s.entries; wishes = s.wishes; begun = s.state.begun + 1; commits = s.state.commits; runs = s.state.runs; active = table i }
+      ∙ ap (λ l. l ++ active_of notes' marks' (t, []) ∷ [])
+      (other_notes s.notes notes' s.marks marks' s.state.active
+      (λ u o. (cond-false (t == u) [] (s.notes u) (apart u o), cond-false (t == u) [] (s.marks u) (apart u o))))
+      ∙ (λ i. map (active_of s.notes s.marks) s.state.active ++ record {
+        number = t;
+        ops = 0;
+        locks = [];
+        notes = own_notes i;
+        marks = own_marks i;
+      } ∷ []) in
+      λ i. record {
+        entries = s.entries;
+        wishes = s.wishes;
+        begun = s.state.begun + 1;
+        commits = s.state.commits;
+        runs = s.state.runs;
+        active = table i;
+      }
 
   -- going back is taking back what was noted since the mark
   backed_is : (t : ℕ) → MayReply s (Do t Back) Done → gone_back t s.past s.entries ≡ taken_back_to_mark (state_of s) t
   backed_is t h =
       let stands = mark_stands t h in
-      (back_laws t s.past s.entries (s.notes t) (s.marks t) (r.keeps.describes t stands.0) stands.1).backed r.at.has.rising
-      ∙ (λ i. taken_back (since_mark (sym (marks-map s.notes s.marks s.state.active t stands.0) i) (sym (notes-map s.notes s.marks s.state.active t stands.0) i)) s.entries)
+      (back_laws t s.past s.entries (s.notes t) (s.marks t) (r.keeps.describes t stands.0) stands.1).backed
+      r.at.has.rising
+      ∙ (λ i. taken_back (since_mark (sym (marks-map s.notes s.marks s.state.active t stands.0) i)
+      (sym (notes-map s.notes s.marks s.state.active t stands.0) i)) s.entries)
 
-  back_counts : (t : ℕ) (op : Op) (reply : Reply) → MayReply s (Do t op) reply → goes_back op reply ≡ true → gone_back t s.past s.entries ≡ taken_back_to_mark (state_of s) t
+  back_counts : (t : ℕ) (op : Op) (reply : Reply) → MayReply s (Do t op) reply → goes_back op reply ≡ true →
+      gone_back t s.past s.entries ≡ taken_back_to_mark (state_of s) t
   back_counts t Back Done h e = backed_is t h
   back_counts t op reply h e = absurd (false≢true e)
 
-  do_parts : (t : ℕ) (op : Op) (reply : Reply) → MayReply s (Do t op) reply → state_of (after_step s (Do t op) reply) ≡ state_after (state_of s) (Do t op) reply
+  do_parts : (t : ℕ) (op : Op) (reply : Reply) → MayReply s (Do t op) reply → state_of (after_step s (Do t op) reply) ≡
+      state_after (state_of s) (Do t op) reply
   do_parts t op (Refused why) h =
       let es = changed_refused (gone_back t s.past s.entries) s.state.runs op why s.entries in
-      let ws : with_wish s.wishes (wished op (Refused why)) ≡ s.wishes = ap (with_wish s.wishes) (wished_refused op why) in
-      let table = other_notes s.notes (notes_after s (Do t op) (Refused why)) s.marks (marks_after s (Do t op) (Refused why)) s.state.active (λ u o. (
-        ap (λ (ns : List Note). cond (t == u) (ns ++ notes_left op (Refused why) (s.marks u) (s.notes u)) (s.notes u)) (noted_refused s.state.runs op why s.entries)
-            ∙ ap (λ (ns : List Note). cond (t == u) ns (s.notes u)) (notes_left_refused op why (s.marks u) (s.notes u)) ∙ either_way (t == u) (s.notes u),
-        ap (λ ms. cond (t == u) ms (s.marks u)) (marks_left_refused op why (length (s.notes u)) (s.marks u)) ∙ either_way (t == u) (s.marks u),
+      let ws : with_wish s.wishes (wished op (Refused why)) ≡ s.wishes =
+      ap (with_wish s.wishes) (wished_refused op why) in
+      let table = other_notes s.notes (notes_after s (Do t op) (Refused why)) s.marks
+      (marks_after s (Do t op) (Refused why)) s.state.active (λ u o. (
+        ap (λ (ns : List Note). cond (t == u) (ns ++ notes_left op (Refused why) (s.marks u) (s.notes u)) (s.notes u))
+            (noted_refused s.state.runs op why s.entries)
+            ∙ ap (λ (ns : List Note). cond (t == u) ns (s.notes u))
+            (notes_left_refused op why (s.marks u) (s.notes u)) ∙ either_way (t == u) (s.notes u),
+        ap (λ ms. cond (t == u) ms (s.marks u)) (marks_left_refused op why (length (s.notes u)) (s.marks u)) ∙
+            either_way (t == u) (s.marks u),
       )) in
-      λ i. record { entries = es i; wishes = ws i; begun = s.state.begun; commits = s.state.commits; runs = s.state.runs; active = table i }
+      λ i. record {
+        entries = es i;
+        wishes = ws i;
+        begun = s.state.begun;
+        commits = s.state.commits;
+        runs = s.state.runs;
+        active = table i;
+      }
   do_parts t op reply h =
-      let es = changed_alike (gone_back t s.past s.entries) (taken_back_to_mark (state_of s) t) s.state.runs op reply s.entries (back_counts t op reply h) in
+      let es = changed_alike (gone_back t s.past s.entries) (taken_back_to_mark (state_of s) t) s.state.runs op reply
+      s.entries (back_counts t op reply h) in
       let table = did_all t op reply (noted s.state.runs op reply s.entries) s.notes s.marks s.state.active in
-      λ i. record { entries = es i; wishes = with_wish s.wishes (wished op reply); begun = s.state.begun; commits = s.state.commits; runs = s.state.runs + runs_made op reply; active = table i }
+      λ i. record {
+        entries = es i;
+        wishes = with_wish s.wishes (wished op reply);
+        begun = s.state.begun;
+        commits = s.state.commits;
+        runs = s.state.runs + runs_made op reply;
+        active = table i;
+      }
 
-  ended_parts : (t c : ℕ) → state_of (after_step s (Commit t) (Committed c)) ≡ state_after (state_of s) (Commit t) (Committed c)
+  ended_parts : (t c : ℕ) → state_of (after_step s (Commit t) (Committed c)) ≡ state_after (state_of s) (Commit t)
+      (Committed c)
   ended_parts t c = let table = ended-map s.notes s.marks t s.state.active in
-      λ i. record { entries = s.entries; wishes = s.wishes; begun = s.state.begun; commits = s.state.commits + 1; runs = s.state.runs; active = table i }
+      λ i. record {
+        entries = s.entries;
+        wishes = s.wishes;
+        begun = s.state.begun;
+        commits = s.state.commits + 1;
+        runs = s.state.runs;
+        active = table i;
+      }
 
-  aborted_parts : (t : ℕ) → is_open s.state.active t ≡ true → state_of (after_step s (Abort t) Aborted) ≡ state_after (state_of s) (Abort t) Aborted
+  aborted_parts : (t : ℕ) → is_open s.state.active t ≡ true → state_of (after_step s (Abort t) Aborted) ≡ state_after
+      (state_of s) (Abort t) Aborted
   aborted_parts t on =
       let table = ended-map s.notes s.marks t s.state.active in
-      let es : aborted t s.past s.entries ≡ taken_back (in_table (map (active_of s.notes s.marks) s.state.active) t).notes s.entries =
-      (describe_laws t s.past s.entries (s.notes t) (whole_describes t s.past s.entries (s.notes t) 0 (length (s.notes t)) (s.marks t) (r.keeps.describes t on))).aborted r.at.has.rising ∙ ap (λ ns. taken_back ns s.entries) (sym (notes-map s.notes s.marks s.state.active t on)) in
-      λ i. record { entries = es i; wishes = s.wishes; begun = s.state.begun; commits = s.state.commits; runs = s.state.runs; active = table i }
+      let es : aborted t s.past s.entries ≡ taken_back
+      (in_table (map (active_of s.notes s.marks) s.state.active) t).notes s.entries =
+      (describe_laws t s.past s.entries (s.notes t)
+      (whole_describes t s.past s.entries (s.notes t) 0 (length (s.notes t)) (s.marks t)
+      (r.keeps.describes t on))).aborted r.at.has.rising ∙ ap (λ ns. taken_back ns s.entries)
+      (sym (notes-map s.notes s.marks s.state.active t on)) in
+      λ i. record {
+        entries = es i;
+        wishes = s.wishes;
+        begun = s.state.begun;
+        commits = s.state.commits;
+        runs = s.state.runs;
+        active = table i;
+      }
 
-  clean_parts : (range : Interval) (limit : ℕ) (reply : Reply) → state_of (after_step s (Clean range limit) reply) ≡ state_after (state_of s) (Clean range limit) reply
-  clean_parts range limit reply = sym (ap (λ (hs : Holders). record { entries = all_worked_off (cleaned_by s.entries hs range reply) s.entries; wishes = s.wishes; begun = s.state.begun; commits = s.state.commits; runs = s.state.runs; active = map (active_of s.notes s.marks) s.state.active }) holders_are)
+  clean_parts : (range : Interval) (limit : ℕ) (reply : Reply) → state_of (after_step s (Clean range limit) reply) ≡
+      state_after (state_of s) (Clean range limit) reply
+  clean_parts range limit reply = sym (ap (λ (hs : Holders).
+      record {
+        entries = all_worked_off (cleaned_by s.entries hs range reply) s.entries;
+        wishes = s.wishes;
+        begun = s.state.begun;
+        commits = s.state.commits;
+        runs = s.state.runs;
+        active = map (active_of s.notes s.marks) s.state.active;
+      }) holders_are)
 
-  pub parts_after : (step : Step) (reply : Reply) → MayReply s step reply → state_of (after_step s step reply) ≡ state_after (state_of s) step reply
+  pub parts_after : (step : Step) (reply : Reply) → MayReply s step reply → state_of (after_step s step reply) ≡
+      state_after (state_of s) step reply
   parts_after Begin (Begun t) h = begun_parts t h.0
   parts_after Begin (Refused why) h = refl
   parts_after Begin reply h = absurd h
@@ -309,22 +459,27 @@ module _ (trace : Trace) (s : Store) (r : Right trace s) where
 
 -- ---- whole traces
 
-follows_push : (trace : Trace) (s : Store) (e : Event) → Follows s trace → MayReply (after_all s trace) e.0 e.1 → Follows s (trace ++ e ∷ [])
+follows_push : (trace : Trace) (s : Store) (e : Event) → Follows s trace → MayReply (after_all s trace) e.0 e.1 →
+    Follows s (trace ++ e ∷ [])
 follows_push [] s e f m = (m, tt)
 follows_push (x ∷ trace) s e f m = (f.0, follows_push trace (after_step s x.0 x.1) e f.1 m)
 
-after_all-push : (trace : Trace) (s : Store) (e : Event) → after_all s (trace ++ e ∷ []) ≡ after_step (after_all s trace) e.0 e.1
+after_all-push : (trace : Trace) (s : Store) (e : Event) → after_all s (trace ++ e ∷ []) ≡ after_step
+    (after_all s trace) e.0 e.1
 after_all-push [] s e = refl
 after_all-push (x ∷ trace) s e = after_all-push trace (after_step s x.0 x.1) e
 
-pub lift : (trace : Trace) (p : StoreState) (step : Step) (reply : Reply) → IsStateOf trace p → MayAnswer p step reply → IsStateOf (trace ++ (step, reply) ∷ []) (state_after p step reply)
+pub lift : (trace : Trace) (p : StoreState) (step : Step) (reply : Reply) → IsStateOf trace p → MayAnswer p step reply →
+    IsStateOf (trace ++ (step, reply) ∷ []) (state_after p step reply)
 lift trace p step reply at may =
     let s = after_all opened trace in
     let r = right_at trace at.follows in
-    let m : MayReply s step reply = may_reply trace s r step reply (subst (λ (x : StoreState). MayAnswer x step reply) at.here may) in
+    let m : MayReply s step reply = may_reply trace s r step reply
+    (subst (λ (x : StoreState). MayAnswer x step reply) at.here may) in
     record {
       follows = follows_push trace opened (step, reply) at.follows m;
-      here = ap (λ (x : StoreState). state_after x step reply) at.here ∙ sym (parts_after trace s r step reply m) ∙ ap state_of (sym (after_all-push trace opened (step, reply)));
+      here = ap (λ (x : StoreState). state_after x step reply) at.here ∙ sym (parts_after trace s r step reply m) ∙
+          ap state_of (sym (after_all-push trace opened (step, reply)));
     }
 
 -- ---- what a step may rest on
@@ -335,15 +490,21 @@ fit_of trace s r = record {
   one_place = r.at.has.one_place;
   below = r.keeps.below;
   can_abort = λ t on. let open_ = sym (is_in-map s.notes s.marks s.state.active t) ∙ on in
-      subst (λ (ns : List Note). CanTakeBack ns (find s.entries)) (sym (notes-map s.notes s.marks s.state.active t open_)) (laws t open_).whole.can;
+      subst (λ (ns : List Note). CanTakeBack ns (find s.entries))
+      (sym (notes-map s.notes s.marks s.state.active t open_)) (laws t open_).whole.can;
   can_back = λ t on. let open_ = sym (is_in-map s.notes s.marks s.state.active t) ∙ on in
-      subst (λ (ns : List Note). CanTakeBack (since_mark (in_table (map (active_of s.notes s.marks) s.state.active) t).marks ns) (find s.entries)) (sym (notes-map s.notes s.marks s.state.active t open_))
-      (subst (λ (ms : List ℕ). CanTakeBack (since_mark ms (s.notes t)) (find s.entries)) (sym (marks-map s.notes s.marks s.state.active t open_)) (laws t open_).can_back);
+      subst (λ (ns : List Note). CanTakeBack (since_mark (in_table (map (active_of s.notes s.marks) s.state.active)
+      t).marks ns) (find s.entries)) (sym (notes-map s.notes s.marks s.state.active t open_))
+      (subst (λ (ms : List ℕ). CanTakeBack (since_mark ms (s.notes t)) (find s.entries))
+      (sym (marks-map s.notes s.marks s.state.active t open_)) (laws t open_).can_back);
   begun = λ t on. r.keeps.fresh t (sym (is_in-map s.notes s.marks s.state.active t) ∙ on);
 }
   where
-    laws : (t : ℕ) → is_open s.state.active t ≡ true → MarkLaws s.entries (s.notes t) (owns_in s.state t) s.state.committed (s.marks t) (view s.state t).saved
-    laws t on = mark_laws s.entries (s.notes t) (owns_in s.state t) s.state.committed r.at.has.rising r.at.has.one_place (s.marks t) (view s.state t).saved (r.at.undoes t on)
+    laws : (t : ℕ) → is_open s.state.active t ≡ true → MarkLaws s.entries (s.notes t) (owns_in s.state t)
+        s.state.committed (s.marks t) (view s.state t).saved
+    laws t on = mark_laws s.entries (s.notes t) (owns_in s.state t) s.state.committed r.at.has.rising r.at.has.one_place
+        (s.marks t) (view s.state t).saved (r.at.undoes t on)
 
 pub fit : (trace : Trace) (p : StoreState) → IsStateOf trace p → IsFit p
-fit trace p at = subst (λ (x : StoreState). IsFit x) (sym at.here) (fit_of trace (after_all opened trace) (right_at trace at.follows))
+fit trace p at = subst (λ (x : StoreState). IsFit x) (sym at.here)
+    (fit_of trace (after_all opened trace) (right_at trace at.follows))

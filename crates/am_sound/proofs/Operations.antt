@@ -1,21 +1,26 @@
 -- What a granted operation does to the entries, to its transaction's notes and to looking back.
-use Rattle.std.proofs.Common.{◌≡◌, ◌≢◌, ◌≤◌, ◌<◌, ◌+◌, ℕ, List, [], ◌∷◌, ◌++◌, Bool, true, false, cond, ◌&&◌, refl, sym, ap, ◌∙◌, subst, ⊎_elim, Option, Some, None, arith}
+use Rattle.std.proofs.Common.{◌≡◌, ◌≢◌, ◌≤◌, ◌<◌, ◌+◌, ℕ, List, [], ◌∷◌, ◌++◌, Bool, true, false, cond, ◌&&◌, refl, sym}
+use Rattle.std.proofs.Common.{ap, ◌∙◌, subst, ⊎_elim, Option, Some, None, arith}
 use Rattle.std.specs.Prelude.{◌==◌, not, is_some}
 use Rattle.std.specs.List.{AllByRecursion}
 use Rattle.std.specs.Option.{option_map}
 use Rattle.std.specs.Ordering.{eq_by_cmp, is_lt}
-use Rattle.std.specs.FinMap.{get, insert, remove, contains_key, same_map, get-insert, get-remove, retain_keys, get-retain_keys, get-entries, is_sorted}
+use Rattle.std.specs.FinMap.{get, insert, remove, contains_key, same_map, get-insert, get-remove, retain_keys}
+use Rattle.std.specs.FinMap.{get-retain_keys, get-entries, is_sorted}
 use Rattle.std.specs.FinMap.Entries.{below_all}
 use Rattle.std.specs.FinMap.Entries as fin
-use Rattle.std.proofs.lemmas.Bool.{cases_Bool, cond-true, cond-false, and_parts, and_from, both_ways, or_left, or_right, or_cases, eqb-true, eq-eqb, true≢false, false≢true, false_from_ne_true, not-true}
+use Rattle.std.proofs.lemmas.Bool.{cases_Bool, cond-true, cond-false, and_parts, and_from, both_ways, or_left, or_right}
+use Rattle.std.proofs.lemmas.Bool.{or_cases, eqb-true, eq-eqb, true≢false, false≢true, false_from_ne_true, not-true}
 use Rattle.std.proofs.lemmas.Option.{none-some}
 use Rattle.std.proofs.lemmas.Cmp.{tied_itself}
 use Rattle.am_record.specs.OrderedKey.{OrderedKey, key_cmp, key_cmp-total, key_cmp-exact, key_eq-exact}
 use Rattle.am_record.specs.EntryOrder.{Place, place_of}
-use Rattle.am_record.specs.Plain.{Records, PlainMap, is_key_of, rows_where, found, exists_or_done, first_key, least_taken, map_answer, insert_all, load_where, map_after, is_rising, is_orderly}
+use Rattle.am_record.specs.Plain.{Records, PlainMap, is_key_of, rows_where, found, exists_or_done, first_key}
+use Rattle.am_record.specs.Plain.{least_taken, map_answer, insert_all, load_where, map_after, is_rising, is_orderly}
 use Rattle.am_record.specs.declared.entry.Entry.{Entry}
 use Rattle.am_record.specs.declared.step.Op.{Op}
-use Rattle.am_record.specs.declared.step.Op.TheVariants.{Get, Scan, Insert, Replace, Delete, Load, Lock as TakeLock, Mark, Back}
+use Rattle.am_record.specs.declared.step.Op.TheVariants.{Get, Scan, Insert, Replace, Delete, Load, Lock as TakeLock}
+use Rattle.am_record.specs.declared.step.Op.TheVariants.{Mark, Back}
 use Rattle.am_record.specs.declared.step.Reply.{Reply}
 use Rattle.am_record.specs.declared.step.Reply.TheVariants.{Done, Exists, Missing}
 use Rattle.am_record.proofs.FirstRows.{key_eq-itself}
@@ -23,7 +28,8 @@ use Rattle.am_record.proofs.Rising.{run_sorted}
 use Rattle.am_list.specs.Entries.{Slot, slot_of, first_such, entry_at, find, insert_entry, set_entry, IsRising}
 use Rattle.am_list.specs.Edits.{IsChangedAt}
 use Rattle.am_list.specs.Content.{content, IsLiveAt, OnePlace, HasContent}
-use Rattle.am_list.proofs.Edits.{first_such_all, first_such_passes, entry_at_place, entry_at_beside_inserted, other_key, apart_places}
+use Rattle.am_list.proofs.Edits.{first_such_all, first_such_passes, entry_at_place, entry_at_beside_inserted, other_key}
+use Rattle.am_list.proofs.Edits.{apart_places}
 use Rattle.am_list.proofs.EditLaws.{edit_laws}
 use Rattle.am_list.proofs.Content.{content_found}
 use Rattle.am_list.proofs.ContentLaws.{content_laws}
@@ -39,7 +45,8 @@ use Rattle.am_serial.proofs.Keys.{in_point, in_span}
 use Rattle.am_effect.specs.Places.{look, put}
 use Rattle.am_effect.specs.History.{Moment, writes, wrote_by, is_plain}
 use Rattle.am_effect.specs.Laws.{Describes, DifferAt}
-use Rattle.am_effect.specs.Store.{is_live, find_live, with_value, with_ghost, changed, note_of_slot, note_of_entry, noted}
+use Rattle.am_effect.specs.Store.{is_live, find_live, with_value, with_ghost, changed, note_of_slot, note_of_entry}
+use Rattle.am_effect.specs.Store.{noted}
 use Rattle.am_effect.proofs.Lists.{Stands, stands_all, put_set, put_new, content-put}
 use Rattle.am_effect.proofs.Backs.{describe_laws}
 use Rattle.am_sound.specs.Represents.{may_write}
@@ -49,23 +56,29 @@ pub record OpRight (t runs : ℕ) (op : Op) (reply : Reply) (es es' : List Entry
   pub has : HasContent es' (map_after op (content es))
   pub only : (p : ℕ) (q : OrderedKey) → may_write op q ≡ false → find es' p q ≡ find es p q
   pub keeps : (p : ℕ) (q : OrderedKey) → p ≢ 0 → p ≤ runs → find es p q ≡ None → find es' p q ≡ None
-  pub undo : (notes : List Note) (owned : OrderedKey → Bool) (before : OrderedKey → Option (List ℕ)) → ((q : OrderedKey) → may_write op q ≡ true → owned q ≡ true) → Undoes es notes owned before → Undoes es' (new ++ notes) owned before
-  pub describe : (past : List Moment) (notes : List Note) → Describes t past es notes → Describes t ((Answers t op reply, es) ∷ past) es' (new ++ notes)
+  pub undo : (notes : List Note) (owned : OrderedKey → Bool) (before : OrderedKey → Option (List ℕ)) →
+      ((q : OrderedKey) → may_write op q ≡ true → owned q ≡ true) → Undoes es notes owned before →
+      Undoes es' (new ++ notes) owned before
+  pub describe : (past : List Moment) (notes : List Note) → Describes t past es notes →
+      Describes t ((Answers t op reply, es) ∷ past) es' (new ++ notes)
   pub below : (p : ℕ) (q : OrderedKey) → runs + runs_made op reply < p → find es' p q ≡ None
   pub runs_noted : (p : ℕ) → is_noted_run new p ≡ true → (p ≢ 0) × (p ≤ runs + runs_made op reply)
 
-module _ (t runs : ℕ) (es : List Entry) (rise : IsRising es) (one : OnePlace es) (empty_above : (p : ℕ) (q : OrderedKey) → runs < p → find es p q ≡ None) where
+module _ (t runs : ℕ) (es : List Entry) (rise : IsRising es) (one : OnePlace es)
+    (empty_above : (p : ℕ) (q : OrderedKey) → runs < p → find es p q ≡ None) where
   abbrev m : PlainMap
   m = content es
 
   -- nothing is changed
-  idle : (op : Op) (reply : Reply) → map_after op m ≡ m → ((q : OrderedKey) → writes op reply q ≡ false) → OpRight t runs op reply es es []
+  idle : (op : Op) (reply : Reply) → map_after op m ≡ m → ((q : OrderedKey) → writes op reply q ≡ false) →
+      OpRight t runs op reply es es []
   idle op reply same none = record {
     has = record { rising = rise; one_place = one; same = sym same };
     only = λ p q h. refl;
     keeps = λ p q n l e. e;
     undo = λ notes owned before more u. u;
-    describe = λ past notes u. (describe_laws t past es notes u).others (Answers t op reply) es (λ q. either_no (t == t) (none q)) (λ q h p. refl) (λ q p r e. e);
+    describe = λ past notes u. (describe_laws t past es notes u).others (Answers t op reply) es
+        (λ q. either_no (t == t) (none q)) (λ q h p. refl) (λ q p r e. e);
     below = λ p q h. empty_above p q (omega arith);
     runs_noted = λ p h. absurd (false≢true h);
   }
@@ -75,20 +88,26 @@ module _ (t runs : ℕ) (es : List Entry) (rise : IsRising es) (one : OnePlace e
       either_no false e = refl
 
   -- one entry is put
-  module _ (op : Op) (reply : Reply) (k : OrderedKey) (writes_k : writes op reply k ≡ true) (may_k : may_write op k ≡ true) (makes_none : runs_made op reply ≡ 0) where
+  module _ (op : Op) (reply : Reply) (k : OrderedKey) (writes_k : writes op reply k ≡ true)
+      (may_k : may_write op k ≡ true) (makes_none : runs_made op reply ≡ 0) where
     wrote_k : wrote_by t k (Answers t op reply) ≡ true
     wrote_k = and_from (t == t) (writes op reply k) (eq-eqb t t refl) writes_k
 
     apart : (p p' : ℕ) (q : OrderedKey) → may_write op q ≡ false → ◌≢◌ {A = Place} (p, q) (p', k)
-    apart p p' q h e = both_ways (may_write op q) h (subst (λ x. may_write op x ≡ true) (sym (ap (λ (a : Place). a.1) e)) may_k)
+    apart p p' q h e = both_ways (may_write op q) h
+        (subst (λ x. may_write op x ≡ true) (sym (ap (λ (a : Place). a.1) e)) may_k)
 
-    over : (p : ℕ) (v : List ℕ) (g : Bool) (v' : List ℕ) (g' : Bool) → find es p k ≡ Some (v, g) → HasContent (set_entry es p k v' g') (map_after op m) → OpRight t runs op reply es (set_entry es p k v' g') (Before p k v g ∷ [])
+    over : (p : ℕ) (v : List ℕ) (g : Bool) (v' : List ℕ) (g' : Bool) → find es p k ≡ Some (v, g) →
+        HasContent (set_entry es p k v' g') (map_after op m) → OpRight t runs op reply es (set_entry es p k v' g')
+        (Before p k v g ∷ [])
     over p v g v' g' was has = record {
       has = has;
       only = λ r q h. differ (r, q) (apart r p q h);
       keeps = λ r q n l e. differ (r, q) (stood r q e) ∙ e;
-      undo = λ notes owned before more u. (undo_laws es notes owned before rise one u).own.changed p k v g v' g' (more k may_k) was;
-      describe = λ past notes u. (describe_laws t past es notes u).changed (Answers t op reply) (set_entry es p k v' g') p k (v, g) (v', g') wrote_k was change.here differ;
+      undo = λ notes owned before more u. (undo_laws es notes owned before rise one u).own.changed p k v g v' g'
+          (more k may_k) was;
+      describe = λ past notes u. (describe_laws t past es notes u).changed (Answers t op reply) (set_entry es p k v' g')
+          p k (v, g) (v', g') wrote_k was change.here differ;
       below = λ r q h. let e = empty_above r q (omega (arith, makes_none)) in differ (r, q) (stood r q e) ∙ e;
       runs_noted = λ r h. absurd (false≢true h);
     }
@@ -102,15 +121,20 @@ module _ (t runs : ℕ) (es : List Entry) (rise : IsRising es) (one : OnePlace e
         stood : (r : ℕ) (q : OrderedKey) → find es r q ≡ None → ◌≢◌ {A = Place} (r, q) (p, k)
         stood r q e h = none-some (v, g) (sym e ∙ ap (look es) h ∙ was)
 
-    anew : (x : Entry) → x.part ≡ 0 → x.key ≡ k → find es 0 k ≡ None → HasContent (insert_entry es x) (map_after op m) → OpRight t runs op reply es (insert_entry es x) (New k ∷ [])
+    anew : (x : Entry) → x.part ≡ 0 → x.key ≡ k → find es 0 k ≡ None → HasContent (insert_entry es x) (map_after op m) →
+        OpRight t runs op reply es (insert_entry es x) (New k ∷ [])
     anew x zero key was has = record {
       has = has;
       only = λ r q h. differ (r, q) (apart r 0 q h);
       keeps = λ r q n l e. differ (r, q) (λ h. n (ap (λ (a : Place). a.0) h)) ∙ e;
-      undo = λ notes owned before more u. subst (λ (q : OrderedKey). Undoes (insert_entry es x) (New q ∷ notes) owned before) key
-          ((undo_laws es notes owned before rise one u).own.made x zero (ap owned key ∙ more k may_k) (ap (find es 0) key ∙ was));
-      describe = λ past notes u. (describe_laws t past es notes u).made (Answers t op reply) (insert_entry es x) k (slot_of x) wrote_k was here differ;
-      below = λ r q h. differ (r, q) (λ e. let z : r ≡ 0 = ap (λ (a : Place). a.0) e in absurd (omega arith)) ∙ empty_above r q (omega (arith, makes_none));
+      undo = λ notes owned before more u. subst (λ (q : OrderedKey). Undoes (insert_entry es x) (New q ∷ notes) owned
+          before) key
+          ((undo_laws es notes owned before rise one u).own.made x zero (ap owned key ∙ more k may_k)
+          (ap (find es 0) key ∙ was));
+      describe = λ past notes u. (describe_laws t past es notes u).made (Answers t op reply) (insert_entry es x) k
+          (slot_of x) wrote_k was here differ;
+      below = λ r q h. differ (r, q) (λ e. let z : r ≡ 0 = ap (λ (a : Place). a.0) e in absurd (omega arith)) ∙
+          empty_above r q (omega (arith, makes_none));
       runs_noted = λ r h. absurd (false≢true h);
     }
       where
@@ -128,32 +152,40 @@ module _ (t runs : ℕ) (es : List Entry) (rise : IsRising es) (one : OnePlace e
 
   -- ---- inserts
 
-  inserted : (k : OrderedKey) (v : List ℕ) → get m k ≡ None → OpRight t runs (Insert k v) Done es (put (live_entry 0 (k, v)) es) (note_of_slot 0 k (find es 0 k) ∷ [])
+  inserted : (k : OrderedKey) (v : List ℕ) → get m k ≡ None → OpRight t runs (Insert k v) Done es
+      (put (live_entry 0 (k, v)) es) (note_of_slot 0 k (find es 0 k) ∷ [])
   inserted k v none = by_slot (find es 0 k) refl
     where
       has : HasContent (put (live_entry 0 (k, v)) es) (map_after (Insert k v) m)
-      has = subst (λ (n : PlainMap). HasContent (put (live_entry 0 (k, v)) es) n) (sym (cond-false (contains_key m k) m (insert m k v) (ap is_some none))) (content-put (live_entry 0 (k, v)) es rise one refl none)
+      has = subst (λ (n : PlainMap). HasContent (put (live_entry 0 (k, v)) es) n)
+          (sym (cond-false (contains_key m k) m (insert m k v) (ap is_some none)))
+          (content-put (live_entry 0 (k, v)) es rise one refl none)
 
-      by_slot : (o : Option Slot) → find es 0 k ≡ o → OpRight t runs (Insert k v) Done es (put (live_entry 0 (k, v)) es) (note_of_slot 0 k o ∷ [])
+      by_slot : (o : Option Slot) → find es 0 k ≡ o → OpRight t runs (Insert k v) Done es (put (live_entry 0 (k, v)) es)
+          (note_of_slot 0 k o ∷ [])
       by_slot None e =
           let is = put_new (live_entry 0 (k, v)) es (ap is_some e) in
           subst (λ l. OpRight t runs (Insert k v) Done es l (New k ∷ [])) (sym is)
-          (anew (Insert k v) Done k (key_eq-itself k) (in_point k) refl (live_entry 0 (k, v)) refl refl e (subst (λ l. HasContent l (map_after (Insert k v) m)) is has))
+          (anew (Insert k v) Done k (key_eq-itself k) (in_point k) refl (live_entry 0 (k, v)) refl refl e
+          (subst (λ l. HasContent l (map_after (Insert k v) m)) is has))
       by_slot (Some s) e =
           let is = put_set (live_entry 0 (k, v)) es (ap is_some e) in
           subst (λ l. OpRight t runs (Insert k v) Done es l (Before 0 k s.0 s.1 ∷ [])) (sym is)
-          (over (Insert k v) Done k (key_eq-itself k) (in_point k) refl 0 s.0 s.1 v false e (subst (λ l. HasContent l (map_after (Insert k v) m)) is has))
+          (over (Insert k v) Done k (key_eq-itself k) (in_point k) refl 0 s.0 s.1 v false e
+          (subst (λ l. HasContent l (map_after (Insert k v) m)) is has))
 
   -- ---- the live entry of a key
 
-  none_such : (test : Entry → Bool) (xs : List Entry) → first_such test xs ≡ None → AllByRecursion (λ e. test e ≡ false) xs
+  none_such : (test : Entry → Bool) (xs : List Entry) → first_such test xs ≡ None → AllByRecursion (λ e. test e ≡ false)
+      xs
   none_such test [] h = tt
   none_such test (x ∷ xs) h = ⊎_elim
       (λ yes. absurd (none-some x (sym h ∙ cond-true (test x) (Some x) (first_such test xs) yes)))
       (λ fails. (fails, none_such test xs (sym (cond-false (test x) (Some x) (first_such test xs) fails) ∙ h)))
       (cases_Bool (test x))
 
-  some_entry : (o : Option Entry) (v : List ℕ) (g : Bool) → option_map slot_of o ≡ Some (v, g) → (x : Entry) × ((o ≡ Some x) × (slot_of x ≡ (v, g)))
+  some_entry : (o : Option Entry) (v : List ℕ) (g : Bool) → option_map slot_of o ≡ Some (v, g) → (x : Entry) ×
+      ((o ≡ Some x) × (slot_of x ≡ (v, g)))
   some_entry None v g h = absurd (none-some (v, g) h)
   some_entry (Some x) v g h = (x, (refl, cc))
 
@@ -161,23 +193,33 @@ module _ (t runs : ℕ) (es : List Entry) (rise : IsRising es) (one : OnePlace e
   live_missed k w h has =
       let there = content_found es rise k w has in
       let x = some_entry (entry_at es there.0 k) w false there.1.there in
-      let fails : is_live k x.0 ≡ false = first_such_all (λ e. is_live k e ≡ false) _ es x.0 (none_such (is_live k) es h) x.1.0 in
+      let fails : is_live k x.0 ≡ false = first_such_all (λ e. is_live k e ≡ false) _ es x.0
+      (none_such (is_live k) es h) x.1.0 in
       let place = entry_at_place es there.0 k x.0 x.1.0 in
       let ghost_not : x.0.is_ghost ≡ false = ap (λ (s : Slot). s.1) x.1.1 in
       let key : x.0.key ≡ k = ap (λ (a : Place). a.1) place in
-      both_ways (is_live k x.0) fails (and_from (not x.0.is_ghost) (eq_by_cmp key_cmp x.0.key k) (ap not ghost_not) (ap (λ (q : OrderedKey). eq_by_cmp key_cmp q k) key ∙ key_eq-itself k))
+      both_ways (is_live k x.0) fails (and_from (not x.0.is_ghost) (eq_by_cmp key_cmp x.0.key k) (ap not ghost_not)
+      (ap (λ (q : OrderedKey). eq_by_cmp key_cmp q k) key ∙ key_eq-itself k))
 
   live_found : (k : OrderedKey) (e : Entry) → find_live es k ≡ Some e → Stands es e × (is_live k e ≡ true)
-  live_found k e h = (first_such_all (Stands es) (is_live k) es e (stands_all es rise) h, first_such_passes (is_live k) es e h)
+  live_found k e h = (
+    first_such_all (Stands es) (is_live k) es e (stands_all es rise) h,
+    first_such_passes (is_live k) es e h,
+  )
 
   abbrev slotted : List ℕ → Bool → Option Slot
   slotted v g = Some (v, g)
 
   -- a change of the live entry
-  module _ (op : Op) (k : OrderedKey) (writes_k : (q : OrderedKey) → eq_by_cmp key_cmp q k ≡ true → writes op Done q ≡ true) (may_k : may_write op k ≡ true) (makes_none : runs_made op Done ≡ 0) (value : Entry → List ℕ) (is_ghost : Bool) where
-    at_live : (edit : Option Entry → List Entry) → ((e : Entry) → edit (Some e) ≡ set_entry es e.part e.key (value e) is_ghost) →
-        ((e : Entry) → IsLiveAt es e.part e.key e.value → e.key ≡ k → HasContent (set_entry es e.part e.key (value e) is_ghost) (map_after op m)) →
-        (w : List ℕ) → get m k ≡ Some w → OpRight t runs op Done es (edit (find_live es k)) (note_of_entry (find_live es k))
+  module _ (op : Op) (k : OrderedKey) (writes_k : (q : OrderedKey) → eq_by_cmp key_cmp q k ≡ true →
+      writes op Done q ≡ true) (may_k : may_write op k ≡ true) (makes_none : runs_made op Done ≡ 0)
+      (value : Entry → List ℕ) (is_ghost : Bool) where
+    at_live : (edit : Option Entry → List Entry) →
+        ((e : Entry) → edit (Some e) ≡ set_entry es e.part e.key (value e) is_ghost) →
+        ((e : Entry) → IsLiveAt es e.part e.key e.value → e.key ≡ k →
+        HasContent (set_entry es e.part e.key (value e) is_ghost) (map_after op m)) →
+        (w : List ℕ) → get m k ≡ Some w → OpRight t runs op Done es (edit (find_live es k))
+        (note_of_entry (find_live es k))
     at_live edit is law w has = by_entry (find_live es k) refl
       where
         by_entry : (o : Option Entry) → find_live es k ≡ o → OpRight t runs op Done es (edit o) (note_of_entry o)
@@ -186,22 +228,28 @@ module _ (t runs : ℕ) (es : List Entry) (rise : IsRising es) (one : OnePlace e
             let f = live_found k x e in
             let parts = and_parts (not x.is_ghost) (eq_by_cmp key_cmp x.key k) f.1 in
             let key : x.key ≡ k = key_eq-exact x.key k parts.1 in
-            let live : IsLiveAt es x.part x.key x.value = record { there = f.0 ∙ ap (slotted x.value) (not-true x.is_ghost parts.0) } in
+            let live : IsLiveAt es x.part x.key x.value =
+            record { there = f.0 ∙ ap (slotted x.value) (not-true x.is_ghost parts.0) } in
             subst (λ l. OpRight t runs op Done es l (Before x.part x.key x.value x.is_ghost ∷ [])) (sym (is x))
-            (over op Done x.key (writes_k x.key parts.1) (ap (may_write op) key ∙ may_k) makes_none x.part x.value x.is_ghost (value x) is_ghost f.0 (law x live key))
+            (over op Done x.key (writes_k x.key parts.1) (ap (may_write op) key ∙ may_k) makes_none x.part x.value
+            x.is_ghost (value x) is_ghost f.0 (law x live key))
 
 -- ---- runs
 
-key_apart : (k : OrderedKey) (ps : Records) (q : OrderedKey) → below_all key_cmp k ps ≡ true → is_key_of ps q ≡ true → q ≢ k
+key_apart : (k : OrderedKey) (ps : Records) (q : OrderedKey) → below_all key_cmp k ps ≡ true → is_key_of ps q ≡ true →
+    q ≢ k
 key_apart k [] q b h = absurd (false≢true h)
 key_apart k (x ∷ ps) q b h =
     let parts = and_parts (is_lt (key_cmp k x.0)) (below_all key_cmp k ps) b in
     ⊎_elim
-    (λ here same. true≢false (sym parts.0 ∙ ap (λ y. is_lt (key_cmp k y)) (sym (key_eq-exact q x.0 here) ∙ same) ∙ ap is_lt (tied_itself key_cmp-total k)))
+    (λ here same. true≢false (sym parts.0 ∙ ap (λ y. is_lt (key_cmp k y)) (sym (key_eq-exact q x.0 here) ∙ same) ∙
+    ap is_lt (tied_itself key_cmp-total k)))
     (λ later. key_apart k ps q parts.1 later)
     (or_cases (eq_by_cmp key_cmp q x.0) (is_key_of ps q) h)
 
-run_content : (run : ℕ) (pairs : Records) (es : List Entry) → IsRising es → OnePlace es → is_sorted key_cmp pairs ≡ true → ((q : OrderedKey) → is_key_of pairs q ≡ true → (find es run q ≡ None) × (get (content es) q ≡ None)) → HasContent (with_run run pairs es) (insert_all pairs (content es))
+run_content : (run : ℕ) (pairs : Records) (es : List Entry) → IsRising es → OnePlace es →
+    is_sorted key_cmp pairs ≡ true → ((q : OrderedKey) → is_key_of pairs q ≡ true → (find es run q ≡ None) ×
+    (get (content es) q ≡ None)) → HasContent (with_run run pairs es) (insert_all pairs (content es))
 run_content run [] es rising one s none = record { rising = rising; one_place = one; same = refl }
 run_content run (x ∷ ps) es rising one s none =
     let parts = and_parts (below_all key_cmp x.0 ps) (is_sorted key_cmp ps) s in
@@ -210,7 +258,8 @@ run_content run (x ∷ ps) es rising one s none =
     let rest = run_content run ps (insert_entry es (live_entry run x)) law.rising law.one_place parts.1 (λ q h.
     let later = none q (or_right _ _ h) in
     let n : q ≢ x.0 = key_apart x.0 ps q parts.0 h in (
-      ap (option_map slot_of) (entry_at_beside_inserted es (live_entry run x) run q (other_key run run x.0 q (λ e. n (sym e)))) ∙ later.0,
+      ap (option_map slot_of) (entry_at_beside_inserted es (live_entry run x) run q
+          (other_key run run x.0 q (λ e. n (sym e)))) ∙ later.0,
       ap (λ (c : PlainMap). get c q) law.same
           ∙ get-insert key_cmp-total (content es) x.0 x.1 q
           ∙ cond-false _ (Some x.1) (get (content es) q) (false_from_ne_true _ (λ e. n (key_eq-exact q x.0 e)))
@@ -219,7 +268,8 @@ run_content run (x ∷ ps) es rising one s none =
     record { rising = rest.rising; one_place = rest.one_place; same = rest.same ∙ ap (insert_all ps) law.same }
 
 -- a map that has no rows under the keys has none of them
-no_rows : (test : OrderedKey → Bool) (n : PlainMap) → rows_where test n ≡ [] → (q : OrderedKey) → test q ≡ true → get n q ≡ None
+no_rows : (test : OrderedKey → Bool) (n : PlainMap) → rows_where test n ≡ [] → (q : OrderedKey) → test q ≡ true →
+    get n q ≡ None
 no_rows test n none q h =
     sym (cond-true (test q) (get n q) None h)
     ∙ sym (get-retain_keys n test q (λ x e. ap test (sym (key_cmp-exact q x e))))
@@ -229,39 +279,50 @@ no_first : (rows : Records) → first_key rows ≡ None → rows ≡ []
 no_first [] h = refl
 no_first (row ∷ rows) h = absurd (none-some row.0 (sym h))
 
-module _ (gone : List Entry) (t runs : ℕ) (es : List Entry) (rise : IsRising es) (one : OnePlace es) (empty_above : (p : ℕ) (q : OrderedKey) → runs < p → find es p q ≡ None) where
+module _ (gone : List Entry) (t runs : ℕ) (es : List Entry) (rise : IsRising es) (one : OnePlace es)
+    (empty_above : (p : ℕ) (q : OrderedKey) → runs < p → find es p q ≡ None) where
   abbrev cm : PlainMap
   cm = content es
 
-  loaded : (pairs : Records) → is_rising pairs ≡ true → least_taken pairs cm ≡ None → OpRight t runs (Load pairs) Done es (with_run (runs + 1) pairs es) (RunMade (runs + 1) ∷ [])
+  loaded : (pairs : Records) → is_rising pairs ≡ true → least_taken pairs cm ≡ None →
+      OpRight t runs (Load pairs) Done es (with_run (runs + 1) pairs es) (RunMade (runs + 1) ∷ [])
   loaded pairs up none = record {
-    has = subst (λ (c : PlainMap). HasContent (with_run (runs + 1) pairs es) c) (sym (ap (λ o. load_where o pairs cm) none))
-        (run_content (runs + 1) pairs es rise one (run_sorted pairs up) (λ q h. (fresh q, no_rows (is_key_of pairs) cm (no_first (rows_where (is_key_of pairs) cm) none) q h)));
+    has = subst (λ (c : PlainMap). HasContent (with_run (runs + 1) pairs es) c)
+        (sym (ap (λ o. load_where o pairs cm) none))
+        (run_content (runs + 1) pairs es rise one (run_sorted pairs up)
+        (λ q h. (fresh q, no_rows (is_key_of pairs) cm (no_first (rows_where (is_key_of pairs) cm) none) q h)));
     only = λ p q h. ⊎_elim
-        (λ yes. let here = eqb-true p (runs + 1) yes in ap (λ r. find (with_run (runs + 1) pairs es) r q) here ∙ other_keys q (absent q h) ∙ ap (λ r. find es r q) (sym here))
+        (λ yes. let here = eqb-true p (runs + 1) yes in ap (λ r. find (with_run (runs + 1) pairs es) r q) here ∙
+        other_keys q (absent q h) ∙ ap (λ r. find es r q) (sym here))
         (λ no. other_parts p q no)
         (cases_Bool (p == (runs + 1)));
     keeps = λ p q n l e. other_parts p q (apart p (λ h. absurd (omega arith))) ∙ e;
-    undo = λ notes owned before more u. (undo_laws es notes owned before rise one u).own.loaded (with_run (runs + 1) pairs es) (runs + 1) (record {
-      fresh = fresh;
-      elsewhere = other_parts;
-      own = λ q not. other_keys q (absent q (false_from_ne_true _ (λ yes. both_ways (owned q) not (more q yes)))) ∙ fresh q;
-    });
-    describe = λ past notes u. (describe_laws t past es notes u).loaded (Answers t (Load pairs) Done) (with_run (runs + 1) pairs es) (runs + 1)
+    undo = λ notes owned before more u. (undo_laws es notes owned before rise one u).own.loaded
+        (with_run (runs + 1) pairs es) (runs + 1) (record {
+          fresh = fresh;
+          elsewhere = other_parts;
+          own = λ q not. other_keys q (absent q (false_from_ne_true _ (λ yes. both_ways (owned q) not (more q yes)))) ∙
+              fresh q;
+        });
+    describe = λ past notes u. (describe_laws t past es notes u).loaded (Answers t (Load pairs) Done)
+        (with_run (runs + 1) pairs es) (runs + 1)
         fresh
         (λ q not. other_keys q (second (t == t) (is_key_of pairs q) (eq-eqb t t refl) not) ∙ fresh q)
         (λ p q n. other_parts p q (apart p n));
     below = λ p q h. other_parts p q (apart p (λ e. absurd (omega arith))) ∙ empty_above p q (omega arith);
-    runs_noted = λ p h. ⊎_elim (λ yes. let e = eqb-true p (runs + 1) yes in ((λ z. absurd (omega arith)), omega arith)) (λ no. absurd (false≢true no)) (or_cases (p == (runs + 1)) false h);
+    runs_noted = λ p h. ⊎_elim (λ yes. let e = eqb-true p (runs + 1) yes in ((λ z. absurd (omega arith)), omega arith))
+        (λ no. absurd (false≢true no)) (or_cases (p == (runs + 1)) false h);
   }
     where
       fresh : (q : OrderedKey) → find es (runs + 1) q ≡ None
       fresh q = empty_above (runs + 1) q (omega arith)
 
-      other_parts : (p : ℕ) (q : OrderedKey) → (p == (runs + 1)) ≡ false → find (with_run (runs + 1) pairs es) p q ≡ find es p q
+      other_parts : (p : ℕ) (q : OrderedKey) → (p == (runs + 1)) ≡ false → find (with_run (runs + 1) pairs es) p q ≡
+          find es p q
       other_parts p q h = (run_laws es rise).other_parts (runs + 1) pairs p q h
 
-      other_keys : (q : OrderedKey) → is_key_of pairs q ≡ false → find (with_run (runs + 1) pairs es) (runs + 1) q ≡ find es (runs + 1) q
+      other_keys : (q : OrderedKey) → is_key_of pairs q ≡ false → find (with_run (runs + 1) pairs es) (runs + 1) q ≡
+          find es (runs + 1) q
       other_keys q h = (run_laws es rise).other_keys (runs + 1) pairs q h
 
       apart : (p : ℕ) → p ≢ (runs + 1) → (p == (runs + 1)) ≡ false
@@ -292,23 +353,33 @@ module _ (gone : List Entry) (t runs : ℕ) (es : List Entry) (rise : IsRising e
   abbrev Right : Op → Reply → Type 0
   Right op reply = OpRight t runs op reply es (changed gone runs op reply es) (noted runs op reply es)
 
-  insert_right : (k : OrderedKey) (v : List ℕ) (b : Bool) → contains_key cm k ≡ b → Right (Insert k v) (cond b (Exists k) Done)
-  insert_right k v true h = idle t runs es rise one empty_above (Insert k v) (Exists k) (cond-true (contains_key cm k) cm (insert cm k v) h) (λ q. refl)
+  insert_right : (k : OrderedKey) (v : List ℕ) (b : Bool) → contains_key cm k ≡ b →
+      Right (Insert k v) (cond b (Exists k) Done)
+  insert_right k v true h = idle t runs es rise one empty_above (Insert k v) (Exists k)
+      (cond-true (contains_key cm k) cm (insert cm k v) h) (λ q. refl)
   insert_right k v false h = inserted t runs es rise one empty_above k v (none_of k h)
 
-  replace_right : (k : OrderedKey) (v : List ℕ) (b : Bool) → contains_key cm k ≡ b → Right (Replace k v) (cond b Done Missing)
+  replace_right : (k : OrderedKey) (v : List ℕ) (b : Bool) → contains_key cm k ≡ b →
+      Right (Replace k v) (cond b Done Missing)
   replace_right k v true h =
       let some = some_of k h in
-      at_live t runs es rise one empty_above (Replace k v) k (λ q e. e) (in_point k) refl (λ e. v) false (λ o. with_value o v es) (λ e. refl)
-      (λ e live key. subst (λ (c : PlainMap). HasContent (set_entry es e.part e.key v false) c) (ap (λ (q : OrderedKey). insert cm q v) key ∙ sym (cond-true (contains_key cm k) (insert cm k v) cm h)) ((content_laws es rise one).sets.replaced e.part e.key e.value v live))
+      at_live t runs es rise one empty_above (Replace k v) k (λ q e. e) (in_point k) refl (λ e. v) false
+      (λ o. with_value o v es) (λ e. refl)
+      (λ e live key. subst (λ (c : PlainMap). HasContent (set_entry es e.part e.key v false) c)
+      (ap (λ (q : OrderedKey). insert cm q v) key ∙ sym (cond-true (contains_key cm k) (insert cm k v) cm h))
+      ((content_laws es rise one).sets.replaced e.part e.key e.value v live))
       some.0 some.1
-  replace_right k v false h = idle t runs es rise one empty_above (Replace k v) Missing (cond-false (contains_key cm k) (insert cm k v) cm h) (λ q. refl)
+  replace_right k v false h = idle t runs es rise one empty_above (Replace k v) Missing
+      (cond-false (contains_key cm k) (insert cm k v) cm h) (λ q. refl)
 
   delete_right : (k : OrderedKey) (b : Bool) → contains_key cm k ≡ b → Right (Delete k) (cond b Done Missing)
   delete_right k true h =
       let some = some_of k h in
-      at_live t runs es rise one empty_above (Delete k) k (λ q e. e) (in_point k) refl (λ e. e.value) true (λ o. with_ghost o es) (λ e. refl)
-      (λ e live key. subst (λ (c : PlainMap). HasContent (set_entry es e.part e.key e.value true) c) (ap (λ (q : OrderedKey). remove cm q) key) ((content_laws es rise one).sets.made_ghost e.part e.key e.value e.value live))
+      at_live t runs es rise one empty_above (Delete k) k (λ q e. e) (in_point k) refl (λ e. e.value) true
+      (λ o. with_ghost o es) (λ e. refl)
+      (λ e live key. subst (λ (c : PlainMap). HasContent (set_entry es e.part e.key e.value true) c)
+      (ap (λ (q : OrderedKey). remove cm q) key) ((content_laws es rise one).sets.made_ghost e.part e.key e.value
+      e.value live))
       some.0 some.1
   delete_right k false h = idle t runs es rise one empty_above (Delete k) Missing
       (same_map key_cmp-total key_cmp-exact _ _ (λ q. get-remove key_cmp-total cm k q ∙ ⊎_elim
@@ -316,9 +387,11 @@ module _ (gone : List Entry) (t runs : ℕ) (es : List Entry) (rise : IsRising e
       (λ no. cond-false _ None (get cm q) no)
       (cases_Bool (eq_by_cmp key_cmp q k)))) (λ q. refl)
 
-  load_right : (pairs : Records) → is_rising pairs ≡ true → (o : Option OrderedKey) → least_taken pairs cm ≡ o → Right (Load pairs) (exists_or_done o)
+  load_right : (pairs : Records) → is_rising pairs ≡ true → (o : Option OrderedKey) → least_taken pairs cm ≡ o →
+      Right (Load pairs) (exists_or_done o)
   load_right pairs up None h = loaded pairs up h
-  load_right pairs up (Some k) h = idle t runs es rise one empty_above (Load pairs) (Exists k) (ap (λ x. load_where x pairs cm) h) (λ q. refl)
+  load_right pairs up (Some k) h = idle t runs es rise one empty_above (Load pairs) (Exists k)
+      (ap (λ x. load_where x pairs cm) h) (λ q. refl)
 
   found_idle : (k : OrderedKey) (o : Option (List ℕ)) → Right (Get k) (found o)
   found_idle k None = idle t runs es rise one empty_above (Get k) (found None) refl (λ q. refl)
@@ -328,7 +401,8 @@ module _ (gone : List Entry) (t runs : ℕ) (es : List Entry) (rise : IsRising e
   op_right Mark o plain = absurd (false≢true plain)
   op_right Back o plain = absurd (false≢true plain)
   op_right (Get k) o plain = found_idle k (get cm k)
-  op_right (Scan range max) o plain = idle t runs es rise one empty_above (Scan range max) (map_answer (Scan range max) cm) refl (λ q. refl)
+  op_right (Scan range max) o plain = idle t runs es rise one empty_above (Scan range max)
+      (map_answer (Scan range max) cm) refl (λ q. refl)
   op_right (Insert k v) o plain = insert_right k v (contains_key cm k) refl
   op_right (Replace k v) o plain = replace_right k v (contains_key cm k) refl
   op_right (Delete k) o plain = delete_right k (contains_key cm k) refl

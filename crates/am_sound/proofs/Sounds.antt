@@ -32,17 +32,23 @@ all_maintained : (s : Store) (trace : Trace) → Follows s trace → IsMaintaine
 all_maintained s [] f = tt
 all_maintained s (e ∷ trace) f = (maintained_from s e.0 e.1 f.0, all_maintained (after_step s e.0 e.1) trace f.1)
 
-placed_at : (trace : Trace) → Follows opened trace → HasContent (after_all opened trace).entries (overlay (effects trace))
+placed_at : (trace : Trace) → Follows opened trace → HasContent (after_all opened trace).entries
+    (overlay (effects trace))
 placed_at trace f =
     let r = right_at trace f in
-    record { rising = r.at.has.rising; one_place = r.at.has.one_place; same = r.at.has.same ∙ ap overlay_in r.is ∙ (is_state_of trace r.runs).overlay_map }
+    record {
+      rising = r.at.has.rising;
+      one_place = r.at.has.one_place;
+      same = r.at.has.same ∙ ap overlay_in r.is ∙ (is_state_of trace r.runs).overlay_map;
+    }
 
 pub sound_store : (trace : Trace) → Follows opened trace → IsSoundStore trace
 sound_store trace f =
     let r = right_at trace f in
     record {
       sound = (sound_is_run trace).1 r.runs;
-      placed = λ before rest is. placed_at before (front opened before rest (subst (λ (t : Trace). Follows opened t) (sym is) f));
+      placed = λ before rest is. placed_at before (front opened before rest
+          (subst (λ (t : Trace). Follows opened t) (sym is) f));
       asked = asked trace f;
       maintained = all_maintained opened trace f;
       right = record {
@@ -52,7 +58,8 @@ sound_store trace f =
       ready = record { at = r.at; below = r.keeps.below; runs_noted = r.keeps.runs_noted };
     }
 
-reply_from : (s : Store) (step : Step) (reply : Reply) → May s.state step reply → MaintainedAt s step reply → MayReply s step reply
+reply_from : (s : Store) (step : Step) (reply : Reply) → May s.state step reply → MaintainedAt s step reply →
+    MayReply s step reply
 reply_from s Begin reply m h = m
 reply_from s (Do t op) reply m h = m
 reply_from s (Commit t) reply m h = m

@@ -1,5 +1,7 @@
 -- Every trace that the store of traces may make is sound.
-use Rattle.std.proofs.Common.{◌≡◌, ◌≢◌, ◌≤◌, ◌<◌, ◌-◌, ℕ, length, List, [], ◌∷◌, ◌++◌, Bool, true, false, cond, ◌&&◌, refl, sym, ap, ◌∙◌, subst, ⊎_elim, ◌⊎◌, inl, inr, Option, Some, None, append_assoc, arith, zero, suc, take}
+use Rattle.std.proofs.Common.{◌≡◌, ◌≢◌, ◌≤◌, ◌<◌, ◌-◌, ℕ, length, List, [], ◌∷◌, ◌++◌, Bool, true, false, cond, ◌&&◌}
+use Rattle.std.proofs.Common.{refl, sym, ap, ◌∙◌, subst, ⊎_elim, ◌⊎◌, inl, inr, Option, Some, None, append_assoc, arith}
+use Rattle.std.proofs.Common.{zero, suc, take}
 use Rattle.std.specs.Prelude.{◌==◌, not, min, is_none, MatchOption, MatchBool}
 use Rattle.std.proofs.Math.Nat.{min-le_left}
 use Rattle.std.proofs.lemmas.Bool.{cases_Bool, cond-true, cond-false, both_ways, or_cases, ne_eqb, eq-eqb, false≢true}
@@ -15,9 +17,11 @@ use Rattle.am_effect.proofs.Merges.{InRuns}
 use Rattle.am_effect.proofs.Noted.{run_dropped}
 use Rattle.am_effect.specs.History.{Moment, aborted, gone_back, is_plain, left_at, moments_since, wrote}
 use Rattle.am_effect.specs.Laws.{Maintains}
-use Rattle.am_effect.specs.Merging.{AnswersCandidates, AnswersFirst, Holders, MergeRight, all_worked_off, candidates, cleanable, merged_by}
+use Rattle.am_effect.specs.Merging.{AnswersCandidates, AnswersFirst, Holders, MergeRight, all_worked_off, candidates}
+use Rattle.am_effect.specs.Merging.{cleanable, merged_by}
 use Rattle.am_effect.specs.Places.{look}
-use Rattle.am_effect.specs.Store.{Follows, MayReply, Store, WithinLimit, after_all, after_step, changed, entries_after, holder, marks_after, marks_left, noted, notes_after, notes_left}
+use Rattle.am_effect.specs.Store.{Follows, MayReply, Store, WithinLimit, after_all, after_step, changed, entries_after}
+use Rattle.am_effect.specs.Store.{holder, marks_after, marks_left, noted, notes_after, notes_left}
 use Rattle.am_sound.proofs.Representing.{goes_on, plain_told}
 use Rattle.am_sound.proofs.Representing as follows
 use Rattle.am_effect.specs.Store.{opened}
@@ -36,7 +40,8 @@ use Rattle.am_record.specs.declared.step.Op.TheVariants.{Back, Delete, Get, Inse
 use Rattle.am_record.specs.declared.step.Refusal.{Refusal}
 use Rattle.am_record.specs.declared.step.Refusal.TheVariants.{BadLimit, NoMemory, NoSuchTx, NotRising, TooManyOps}
 use Rattle.am_record.specs.declared.step.Reply.{Reply}
-use Rattle.am_record.specs.declared.step.Reply.TheVariants.{Aborted, Begun, Cleaned, Committed, Done, Moved, NoMark, Refused}
+use Rattle.am_record.specs.declared.step.Reply.TheVariants.{Aborted, Begun, Cleaned, Committed, Done, Moved, NoMark}
+use Rattle.am_record.specs.declared.step.Reply.TheVariants.{Refused}
 use Rattle.am_record.specs.declared.step.Step.{Step}
 use Rattle.am_record.specs.declared.step.Step.TheVariants.{Abort, Begin, Clean, Commit, Do, Merge}
 use Rattle.am_serial.proofs.OneStep.{step_laws}
@@ -44,7 +49,8 @@ use Rattle.am_serial.proofs.Runs.{answer_is_answer, none_of_both, none_of_first,
 use Rattle.am_serial.proofs.States.{overlay_laws, view_laws}
 use Rattle.am_serial.specs.Laws.{OverlayLaws, ViewLaws}
 use Rattle.am_record.specs.Refusals.{is_limit}
-use Rattle.am_serial.specs.Machine.{May, MayDo, Runs, State, Transaction, after_run, body_in, due, due_early, due_lock, is_open, next, owns_in, start, view}
+use Rattle.am_serial.specs.Machine.{May, MayDo, Runs, State, Transaction, after_run, body_in, due, due_early, due_lock}
+use Rattle.am_serial.specs.Machine.{is_open, next, owns_in, start, view}
 use Rattle.am_serial.specs.Steps.{StepLaws}
 use Rattle.am_record.specs.Events.{Event}
 use Rattle.am_serial.specs.Trace.{Aborts, Answers, Commits, Effect, Nothing, Trace, effect, effect_of_do, ops_of}
@@ -57,7 +63,8 @@ use Rattle.am_sound.proofs.Keeping.{Keeps, quiet, not_begun, begins, answers, lo
 -- ---- what a merge may answer is formed
 
 -- a limit within its bounds, or BadLimit
-pub by_limit : (limit : ℕ) (reply : Reply) (right : Type 0) → WithinLimit limit reply right → ((is_limit limit ≡ true) × right) ⊎ ((is_limit limit ≡ false) × (reply ≡ Refused BadLimit))
+pub by_limit : (limit : ℕ) (reply : Reply) (right : Type 0) → WithinLimit limit reply right →
+    ((is_limit limit ≡ true) × right) ⊎ ((is_limit limit ≡ false) × (reply ≡ Refused BadLimit))
 by_limit limit reply right h = ⊎_elim
     (λ yes. inl (yes, subst (λ b. MatchBool b right (reply ≡ Refused BadLimit)) yes h))
     (λ not. inr (not, subst (λ b. MatchBool b right (reply ≡ Refused BadLimit)) not h))
@@ -73,41 +80,49 @@ few zero xs = omega arith
 few (suc n) [] = omega arith
 few (suc n) (x ∷ xs) = let ih = few n xs in omega arith
 
-module _ (st : State) (limit : ℕ) (within : is_limit limit ≡ true) (es : List Entry) (held : Holders) (below : (p : ℕ) (q : OrderedKey) → st.runs < p → find es p q ≡ None) where
+module _ (st : State) (limit : ℕ) (within : is_limit limit ≡ true) (es : List Entry) (held : Holders)
+    (below : (p : ℕ) (q : OrderedKey) → st.runs < p → find es p q ≡ None) where
   in_runs : (c : Entry) → (c.part ≢ 0) × Stands es c → (1 ≤ c.part) × (c.part ≤ st.runs)
   in_runs c h = (omega (arith, h.0), omega (arith, high))
     where
       high : st.runs < c.part → ⊥
       high up = none-some (slot_of c) (sym (below c.part c.key up) ∙ h.1)
 
-  may_first : (c : Entry) (cs : List Entry) (o : Option ℕ) (reply : Reply) → (c.part ≢ 0) × Stands es c → AnswersFirst es held limit c cs o reply → May st (Merge limit) reply
+  may_first : (c : Entry) (cs : List Entry) (o : Option ℕ) (reply : Reply) → (c.part ≢ 0) × Stands es c →
+      AnswersFirst es held limit c cs o reply → May st (Merge limit) reply
   may_first c cs (Some h) reply stands e = subst (May st (Merge limit)) (sym e) within
   may_first c cs None (Moved n run) stands e =
       let most_few = few limit cs in
-      let most_fewer = fewer (prefix_len (λ (x : Entry). (x.part == run) && is_none (held x.key)) (take limit cs)) (take limit cs) in
+      let most_fewer = fewer (prefix_len (λ (x : Entry). (x.part == run) && is_none (held x.key)) (take limit cs))
+      (take limit cs) in
       let at_most = e.1.at_most in
       let parts = in_runs c stands in
       (within, e.1.some, omega arith, subst (λ r. 1 ≤ r) (sym e.0) parts.0, subst (λ r. r ≤ st.runs) (sym e.0) parts.1)
   may_first c cs None reply stands e = subst (May st (Merge limit)) (sym e.0) within
 
-  may_candidates : (cs : List Entry) (reply : Reply) → InRuns es cs → AnswersCandidates es held limit cs reply → May st (Merge limit) reply
+  may_candidates : (cs : List Entry) (reply : Reply) → InRuns es cs → AnswersCandidates es held limit cs reply →
+      May st (Merge limit) reply
   may_candidates [] reply stands e = subst (May st (Merge limit)) (sym e) within
   may_candidates (c ∷ cs) reply stands e = may_first c (c ∷ cs) (held c.key) reply stands.0 e
 
-  may_merge : (wishes : List Interval) (reply : Reply) → IsRising es → MergeRight es wishes held limit reply → May st (Merge limit) reply
+  may_merge : (wishes : List Interval) (reply : Reply) → IsRising es → MergeRight es wishes held limit reply →
+      May st (Merge limit) reply
   may_merge [] reply rise e = subst (May st (Merge limit)) (sym e) within
   may_merge (w ∷ ws) reply rise e = may_candidates (candidates es w) reply (candidates_stand es w rise) e
 
 lesser : (a b : ℕ) → min a b ≤ a
 lesser a b = min-le_left a b
 
-pub may_of : (s : Store) → IsRising s.entries → ((p : ℕ) (q : OrderedKey) → s.state.runs < p → find s.entries p q ≡ None) → (step : Step) (reply : Reply) → MayReply s step reply → May s.state step reply
+pub may_of : (s : Store) → IsRising s.entries →
+    ((p : ℕ) (q : OrderedKey) → s.state.runs < p → find s.entries p q ≡ None) → (step : Step) (reply : Reply) →
+    MayReply s step reply → May s.state step reply
 may_of s rise below (Merge limit) reply h = ⊎_elim
     (λ right. may_merge s.state limit right.0 s.entries (holder s.state.active) below s.wishes reply rise right.1)
     (λ bad. subst (May s.state (Merge limit)) (sym bad.1) bad.0)
     (by_limit limit reply _ h)
 may_of s rise below (Clean range limit) reply h = ⊎_elim
-    (λ right. subst (May s.state (Clean range limit)) (sym right.1) (right.0, lesser limit (length (cleanable s.entries (holder s.state.active) range))))
+    (λ right. subst (May s.state (Clean range limit)) (sym right.1)
+    (right.0, lesser limit (length (cleanable s.entries (holder s.state.active) range))))
     (λ bad. subst (May s.state (Clean range limit)) (sym bad.1) bad.0)
     (by_limit limit reply _ h)
 may_of s rise below Begin reply h = h
@@ -115,20 +130,24 @@ may_of s rise below (Do t op) reply h = h
 may_of s rise below (Commit t) reply h = h
 may_of s rise below (Abort t) reply h = h
 
-pub merged_bad : (s : Store) (limit : ℕ) (reply : Reply) → reply ≡ Refused BadLimit → entries_after s (Merge limit) reply ≡ s.entries
+pub merged_bad : (s : Store) (limit : ℕ) (reply : Reply) → reply ≡ Refused BadLimit →
+    entries_after s (Merge limit) reply ≡ s.entries
 merged_bad s limit reply e = ap (λ r. all_worked_off (merged_by s.entries s.wishes r) s.entries) e ∙ none_of s.wishes
   where
-    none_of : (wishes : List Interval) → all_worked_off (merged_by s.entries wishes (Refused BadLimit)) s.entries ≡ s.entries
+    none_of : (wishes : List Interval) → all_worked_off (merged_by s.entries wishes (Refused BadLimit)) s.entries ≡
+        s.entries
     none_of [] = refl
     none_of (w ∷ ws) = refl
 
 -- a place of a key that wasn't written
-pub untouched : (t : ℕ) (past : List Moment) (es : List Entry) (a : Place) → wrote t a.1 past ≡ false → look (aborted t past es) a ≡ look es a
+pub untouched : (t : ℕ) (past : List Moment) (es : List Entry) (a : Place) → wrote t a.1 past ≡ false →
+    look (aborted t past es) a ≡ look es a
 untouched t past es a none = by_slot (look es a) refl
   where
     by_slot : (o : Option Slot) → look es a ≡ o → look (aborted t past es) a ≡ look es a
     by_slot None e = look-reslotted_none (λ part key s. left_at t (part, key) past es) es a e ∙ sym e
-    by_slot (Some s) e = look-reslotted (λ part key x. left_at t (part, key) past es) es a s s e (unwritten t a past es none ∙ e) ∙ sym e
+    by_slot (Some s) e = look-reslotted (λ part key x. left_at t (part, key) past es) es a s s e
+        (unwritten t a past es none ∙ e) ∙ sym e
 
 pub rising-aborted : (t : ℕ) (past : List Moment) (es : List Entry) → IsRising es → IsRising (aborted t past es)
 rising-aborted t past es r = rising-reslotted (λ part key s. left_at t (part, key) past es) es r
@@ -142,14 +161,17 @@ orderly_of s t op none_due =
 
 -- ---- who holds a key
 
-holder_of : (txs : List Transaction) (t : ℕ) (q : OrderedKey) → is_open txs t ≡ true → owns (locks_of (ops_of (body_in txs t))) q ≡ true → (h : ℕ) × (holder txs q ≡ Some h)
+holder_of : (txs : List Transaction) (t : ℕ) (q : OrderedKey) → is_open txs t ≡ true →
+    owns (locks_of (ops_of (body_in txs t))) q ≡ true → (h : ℕ) × (holder txs q ≡ Some h)
 holder_of [] t q o w = absurd (false≢true o)
 holder_of (x ∷ txs) t q o w = ⊎_elim
     (λ own. (x.0, cond-true _ (Some x.0) (holder txs q) own))
     (λ no. ⊎_elim
-    (λ here. absurd (both_ways (owns (locks_of (ops_of x.1)) q) no (subst (λ b. owns (locks_of (ops_of b)) q ≡ true) (cond-true (t == x.0) x.1 (body_in txs t) here) w)))
+    (λ here. absurd (both_ways (owns (locks_of (ops_of x.1)) q) no
+    (subst (λ b. owns (locks_of (ops_of b)) q ≡ true) (cond-true (t == x.0) x.1 (body_in txs t) here) w)))
     (λ there.
-    let rest = holder_of txs t q (⊎_elim (λ yes. absurd (both_ways _ there yes)) (λ later. later) (or_cases (t == x.0) (is_open txs t) o))
+    let rest = holder_of txs t q (⊎_elim (λ yes. absurd (both_ways _ there yes)) (λ later. later)
+    (or_cases (t == x.0) (is_open txs t) o))
     (subst (λ b. owns (locks_of (ops_of b)) q ≡ true) (cond-false (t == x.0) x.1 (body_in txs t) there) w) in
     (rest.0, cond-false _ (Some x.0) (holder txs q) no ∙ rest.1))
     (cases_Bool (t == x.0)))
@@ -160,7 +182,8 @@ either_way true x = refl
 either_way false x = refl
 
 -- a refused operation changes and notes nothing
-pub changed_refused : (gone : List Entry) (runs : ℕ) (op : Op) (why : Refusal) (es : List Entry) → changed gone runs op (Refused why) es ≡ es
+pub changed_refused : (gone : List Entry) (runs : ℕ) (op : Op) (why : Refusal) (es : List Entry) →
+    changed gone runs op (Refused why) es ≡ es
 changed_refused gone runs (Get k) why es = refl
 changed_refused gone runs (Scan range max) why es = refl
 changed_refused gone runs (Insert k v) why es = refl
@@ -182,7 +205,8 @@ noted_refused runs (Lock lock) why es = refl
 noted_refused runs Mark why es = refl
 noted_refused runs Back why es = refl
 
-pub notes_left_refused : (op : Op) (why : Refusal) (marks : List ℕ) (notes : List Note) → notes_left op (Refused why) marks notes ≡ notes
+pub notes_left_refused : (op : Op) (why : Refusal) (marks : List ℕ) (notes : List Note) →
+    notes_left op (Refused why) marks notes ≡ notes
 notes_left_refused (Get k) why marks notes = refl
 notes_left_refused (Scan range max) why marks notes = refl
 notes_left_refused (Insert k v) why marks notes = refl
@@ -193,7 +217,8 @@ notes_left_refused (Lock lock) why marks notes = refl
 notes_left_refused Mark why marks notes = refl
 notes_left_refused Back why marks notes = refl
 
-pub marks_left_refused : (op : Op) (why : Refusal) (n : ℕ) (marks : List ℕ) → marks_left op (Refused why) n marks ≡ marks
+pub marks_left_refused : (op : Op) (why : Refusal) (n : ℕ) (marks : List ℕ) → marks_left op (Refused why) n marks ≡
+    marks
 marks_left_refused (Get k) why n marks = refl
 marks_left_refused (Scan range max) why n marks = refl
 marks_left_refused (Insert k v) why n marks = refl
@@ -205,7 +230,8 @@ marks_left_refused Mark why n marks = refl
 marks_left_refused Back why n marks = refl
 
 -- Mark and Back aside, notes and marks stay
-notes_left_plain : (op : Op) (reply : Reply) (marks : List ℕ) (notes : List Note) → is_plain op ≡ true → notes_left op reply marks notes ≡ notes
+notes_left_plain : (op : Op) (reply : Reply) (marks : List ℕ) (notes : List Note) → is_plain op ≡ true →
+    notes_left op reply marks notes ≡ notes
 notes_left_plain (Get k) reply marks notes plain = refl
 notes_left_plain (Scan range max) reply marks notes plain = refl
 notes_left_plain (Insert k v) reply marks notes plain = refl
@@ -216,7 +242,8 @@ notes_left_plain (Lock lock) reply marks notes plain = refl
 notes_left_plain Mark reply marks notes plain = absurd (false≢true plain)
 notes_left_plain Back reply marks notes plain = absurd (false≢true plain)
 
-marks_left_plain : (op : Op) (reply : Reply) (n : ℕ) (marks : List ℕ) → is_plain op ≡ true → marks_left op reply n marks ≡ marks
+marks_left_plain : (op : Op) (reply : Reply) (n : ℕ) (marks : List ℕ) → is_plain op ≡ true →
+    marks_left op reply n marks ≡ marks
 marks_left_plain (Get k) reply n marks plain = refl
 marks_left_plain (Scan range max) reply n marks plain = refl
 marks_left_plain (Insert k v) reply n marks plain = refl
@@ -237,12 +264,15 @@ pub record Right (trace : Trace) (s : Store) : Type 0 where
 
 -- the store goes on
 abbrev NextAt : Store → Effect → List Entry → (ℕ → List Note) → (ℕ → List ℕ) → Type 0
-NextAt s d es' notes' marks' = Represents (next s.state d) es' notes' marks' × Keeps (next s.state d) es' ((d, s.entries) ∷ s.past) notes' marks'
+NextAt s d es' notes' marks' = Represents (next s.state d) es' notes' marks' ×
+    Keeps (next s.state d) es' ((d, s.entries) ∷ s.past) notes' marks'
 
 abbrev Next : Store → Step → Reply → Type 0
-Next s step reply = NextAt s (effect step reply) (entries_after s step reply) (notes_after s step reply) (marks_after s step reply)
+Next s step reply = NextAt s (effect step reply) (entries_after s step reply) (notes_after s step reply)
+    (marks_after s step reply)
 
-module _ (s : Store) (o : OverlayLaws s.state) (w : ViewLaws s.state) (at : Represents s.state s.entries s.notes s.marks) (k : Keeps s.state s.entries s.past s.notes s.marks) where
+module _ (s : Store) (o : OverlayLaws s.state) (w : ViewLaws s.state)
+    (at : Represents s.state s.entries s.notes s.marks) (k : Keeps s.state s.entries s.past s.notes s.marks) where
   st : StepLaws s.state
   st = step_laws s.state
 
@@ -257,14 +287,17 @@ module _ (s : Store) (o : OverlayLaws s.state) (w : ViewLaws s.state) (at : Repr
 
   -- an event that does nothing to the entries and the transactions
   nothing : Keeps s.state s.entries ((Nothing, s.entries) ∷ s.past) s.notes s.marks
-  nothing = quiet s.state w st s.entries s.past s.notes s.marks k s.state Nothing s.entries (λ t q. refl) (λ t. refl) (λ t. refl) (λ t on. on) (λ t on. refl) refl refl (λ t on q h p. refl) (λ p q n e. e)
+  nothing = quiet s.state w st s.entries s.past s.notes s.marks k s.state Nothing s.entries (λ t q. refl) (λ t. refl)
+      (λ t. refl) (λ t on. on) (λ t on. refl) refl refl (λ t on q h p. refl) (λ p q n e. e)
 
-  maintained : (es' : List Entry) → Maintains (holder s.state.active) s.entries es' → Represents s.state es' s.notes s.marks × Keeps s.state es' ((Nothing, s.entries) ∷ s.past) s.notes s.marks
+  maintained : (es' : List Entry) → Maintains (holder s.state.active) s.entries es' →
+      Represents s.state es' s.notes s.marks × Keeps s.state es' ((Nothing, s.entries) ∷ s.past) s.notes s.marks
   maintained es' m = (
     go.maintained es' (record { rising = m.rising; one_place = m.one one; same = m.same one })
         (λ t q on h p. let held = holder_of s.state.active t q on h in m.locked q held.0 held.1 p)
         (λ t on p q r e. m.runs p q (k.runs_noted t p r).0 e),
-    quiet s.state w st s.entries s.past s.notes s.marks k s.state Nothing es' (λ t q. refl) (λ t. refl) (λ t. refl) (λ t on. on) (λ t on. refl) refl refl
+    quiet s.state w st s.entries s.past s.notes s.marks k s.state Nothing es' (λ t q. refl) (λ t. refl) (λ t. refl)
+        (λ t on. on) (λ t on. refl) refl refl
         (λ t on q h p. let held = holder_of s.state.active t q on h in m.locked q held.0 held.1 p)
         m.runs,
   )
@@ -272,29 +305,38 @@ module _ (s : Store) (o : OverlayLaws s.state) (w : ViewLaws s.state) (at : Repr
   abbrev gone : ℕ → List Entry
   gone t = gone_back t s.past s.entries
 
-  granted_plain : (t : ℕ) (op : Op) → due s.state t op ≡ None → is_plain op ≡ true → Next s (Do t op) (answer op (view s.state t))
+  granted_plain : (t : ℕ) (op : Op) → due s.state t op ≡ None → is_plain op ≡ true →
+      Next s (Do t op) (answer op (view s.state t))
   granted_plain t op none plain =
       let reply = answer op (view s.state t) in
       let orderly = orderly_of s.state t op none in
-      let told_is : map_answer op (content s.entries) ≡ reply = sym (go.answered t op none ∙ plain_told op (s.marks t) (content s.entries) plain) in
-      let r : OpRight t s.state.runs op reply s.entries (changed (gone t) s.state.runs op reply s.entries) (noted s.state.runs op reply s.entries) =
-      subst (λ x. OpRight t s.state.runs op x s.entries (changed (gone t) s.state.runs op x s.entries) (noted s.state.runs op x s.entries)) told_is
+      let told_is : map_answer op (content s.entries) ≡ reply =
+      sym (go.answered t op none ∙ plain_told op (s.marks t) (content s.entries) plain) in
+      let r : OpRight t s.state.runs op reply s.entries (changed (gone t) s.state.runs op reply s.entries)
+      (noted s.state.runs op reply s.entries) =
+      subst (λ x. OpRight t s.state.runs op x s.entries (changed (gone t) s.state.runs op x s.entries)
+      (noted s.state.runs op x s.entries)) told_is
       (op_right (gone t) t s.state.runs s.entries rising one k.below op orderly plain) in
       let effect_is : effect_of_do t op reply ≡ Answers t op reply = answer_is_answer t op (view s.state t) in
       let new = noted s.state.runs op reply s.entries in
       let es' = changed (gone t) s.state.runs op reply s.entries in
-      let same_notes : notes_after s (Do t op) reply ≡ (λ u. cond (t == u) (new ++ s.notes u) (s.notes u)) = λ i u. cond (t == u) (new ++ notes_left_plain op reply (s.marks u) (s.notes u) plain i) (s.notes u) in
-      let same_marks : marks_after s (Do t op) reply ≡ s.marks = λ i u. (ap (λ (ms : List ℕ). cond (t == u) ms (s.marks u)) (marks_left_plain op reply (length (s.notes u)) (s.marks u) plain) ∙ either_way (t == u) (s.marks u)) i in
+      let same_notes : notes_after s (Do t op) reply ≡ (λ u. cond (t == u) (new ++ s.notes u) (s.notes u)) =
+      λ i u. cond (t == u) (new ++ notes_left_plain op reply (s.marks u) (s.notes u) plain i) (s.notes u) in
+      let same_marks : marks_after s (Do t op) reply ≡ s.marks =
+      λ i u. (ap (λ (ms : List ℕ). cond (t == u) ms (s.marks u))
+      (marks_left_plain op reply (length (s.notes u)) (s.marks u) plain) ∙ either_way (t == u) (s.marks u)) i in
       subst (λ d. NextAt s d es' (notes_after s (Do t op) reply) (marks_after s (Do t op) reply)) (sym effect_is)
       (subst (λ ns. NextAt s (Answers t op reply) es' ns (marks_after s (Do t op) reply)) (sym same_notes)
-      (subst (λ ms. NextAt s (Answers t op reply) es' (λ u. cond (t == u) (new ++ s.notes u) (s.notes u)) ms) (sym same_marks) (
+      (subst (λ ms. NextAt s (Answers t op reply) es' (λ u. cond (t == u) (new ++ s.notes u) (s.notes u)) ms)
+      (sym same_marks) (
         go.done t op es' new none plain (record {
           has = r.has;
           only = r.only;
           keeps = λ u n p q made e. let b = k.runs_noted u p made in r.keeps p q b.0 b.1 e;
           own = r.undo;
         }),
-        answers s.state w st s.entries s.past s.notes s.marks k t op reply (st.granted t op none) orderly es' new plain r,
+        answers s.state w st s.entries s.past s.notes s.marks k t op reply (st.granted t op none) orderly es' new plain
+            r,
       )))
 
   here : (t : ℕ) (A : Type 0) (x y : A) → cond (t == t) x y ≡ x
@@ -311,18 +353,25 @@ module _ (s : Store) (o : OverlayLaws s.state) (w : ViewLaws s.state) (at : Repr
       let same_notes : notes_after s (Do t Mark) Done ≡ s.notes = λ i u. either_way (t == u) (s.notes u) i in
       subst (λ ns. NextAt s (Answers t Mark Done) s.entries ns marks') (sym same_notes) (
         go.marked t none,
-        lockless s.state w st s.entries s.past s.notes s.marks k t Mark Done grant refl s.entries (λ u hu n q h p. refl) (λ p q e. e)
-            (s.notes t) (length (s.notes t) ∷ s.marks t) (each_marked t s.past s.entries (s.notes t) (s.marks t) (k.describes t grant.is_active)) (λ p h. h)
-            s.notes marks' refl (here t (List ℕ) (length (s.notes t) ∷ s.marks t) (s.marks t)) (λ u n. refl) (λ u n. elsewhere t u (List ℕ) (length (s.notes u) ∷ s.marks u) (s.marks u) n),
+        lockless s.state w st s.entries s.past s.notes s.marks k t Mark Done grant refl s.entries (λ u hu n q h p. refl)
+            (λ p q e. e)
+            (s.notes t) (length (s.notes t) ∷ s.marks t) (each_marked t s.past s.entries (s.notes t) (s.marks t)
+            (k.describes t grant.is_active)) (λ p h. h)
+            s.notes marks' refl (here t (List ℕ) (length (s.notes t) ∷ s.marks t) (s.marks t)) (λ u n. refl)
+            (λ u n. elsewhere t u (List ℕ) (length (s.notes u) ∷ s.marks u) (s.marks u) n),
       )
 
-  fewer_runs : (marks : List ℕ) (notes : List Note) (p : ℕ) → is_noted_run (until_mark marks notes) p ≡ true → is_noted_run notes p ≡ true
+  fewer_runs : (marks : List ℕ) (notes : List Note) (p : ℕ) → is_noted_run (until_mark marks notes) p ≡ true →
+      is_noted_run notes p ≡ true
   fewer_runs [] notes p h = h
   fewer_runs (mark ∷ marks) notes p h = run_dropped (length notes - mark) notes p h
 
   -- what another owns, it didn't write
-  unwritten_by : (t u : ℕ) → is_open s.state.active t ≡ true → is_open s.state.active u ≡ true → u ≢ t → (q : OrderedKey) → owns_in s.state u q ≡ true → wrote t q s.past ≡ false
-  unwritten_by t u ht hu n q h = false_from_ne_true (wrote t q s.past) (λ wr. both_ways (owns_in s.state t q) (not_both s.state w st s.entries s.past s.notes s.marks k u t hu ht n q h) (k.owned t q ht wr))
+  unwritten_by : (t u : ℕ) → is_open s.state.active t ≡ true → is_open s.state.active u ≡ true → u ≢ t →
+      (q : OrderedKey) → owns_in s.state u q ≡ true → wrote t q s.past ≡ false
+  unwritten_by t u ht hu n q h = false_from_ne_true (wrote t q s.past)
+      (λ wr. both_ways (owns_in s.state t q) (not_both s.state w st s.entries s.past s.notes s.marks k u t hu ht n q h)
+      (k.owned t q ht wr))
 
   -- it goes back to the newest mark
   gone_to_mark : (t : ℕ) → due s.state t Back ≡ None → has_mark (s.marks t) ≡ true → Next s (Do t Back) Done
@@ -334,12 +383,20 @@ module _ (s : Store) (o : OverlayLaws s.state) (w : ViewLaws s.state) (at : Repr
           at = λ p q. backed_at t s.past s.entries (s.notes t) (length (s.notes t)) (s.marks t) some each (p, q);
         }),
         lockless s.state w st s.entries s.past s.notes s.marks k t Back Done grant refl (gone t)
-            (λ u hu n q h p. untouched t (moments_since t s.past 0) s.entries (p, q) (false_from_ne_true _ (λ wr. both_ways _ (unwritten_by t u grant.is_active hu n q h) (wrote_since t q s.past 0 wr))))
-            (λ p q e. look-reslotted_none (λ part key x. left_at t (part, key) (moments_since t s.past 0) s.entries) s.entries (p, q) e)
-            (until_mark (s.marks t) (s.notes t)) (older (s.marks t)) (back_laws t s.past s.entries (s.notes t) (s.marks t) each some).goes_on (fewer_runs (s.marks t) (s.notes t))
-            (λ u. cond (t == u) (until_mark (s.marks u) (s.notes u)) (s.notes u)) (λ u. cond (t == u) (older (s.marks u)) (s.marks u))
-            (here t (List Note) (until_mark (s.marks t) (s.notes t)) (s.notes t)) (here t (List ℕ) (older (s.marks t)) (s.marks t))
-            (λ u n. elsewhere t u (List Note) (until_mark (s.marks u) (s.notes u)) (s.notes u) n) (λ u n. elsewhere t u (List ℕ) (older (s.marks u)) (s.marks u) n),
+            (λ u hu n q h p. untouched t (moments_since t s.past 0) s.entries (p, q)
+            (false_from_ne_true _ (λ wr. both_ways _ (unwritten_by t u grant.is_active hu n q h)
+            (wrote_since t q s.past 0 wr))))
+            (λ p q e. look-reslotted_none (λ part key x. left_at t (part, key) (moments_since t s.past 0) s.entries)
+            s.entries (p, q) e)
+            (until_mark (s.marks t) (s.notes t)) (older (s.marks t))
+            (back_laws t s.past s.entries (s.notes t) (s.marks t) each some).goes_on
+            (fewer_runs (s.marks t) (s.notes t))
+            (λ u. cond (t == u) (until_mark (s.marks u) (s.notes u)) (s.notes u))
+            (λ u. cond (t == u) (older (s.marks u)) (s.marks u))
+            (here t (List Note) (until_mark (s.marks t) (s.notes t)) (s.notes t))
+            (here t (List ℕ) (older (s.marks t)) (s.marks t))
+            (λ u n. elsewhere t u (List Note) (until_mark (s.marks u) (s.notes u)) (s.notes u) n)
+            (λ u n. elsewhere t u (List ℕ) (older (s.marks u)) (s.marks u) n),
       )
 
   -- no mark stands
@@ -351,10 +408,13 @@ module _ (s : Store) (o : OverlayLaws s.state) (w : ViewLaws s.state) (at : Repr
       subst (λ ns. NextAt s (Answers t Back NoMark) s.entries ns (marks_after s (Do t Back) NoMark)) (sym same_notes)
       (subst (λ ms. NextAt s (Answers t Back NoMark) s.entries s.notes ms) (sym same_marks) (
         go.stayed t none any,
-        lockless s.state w st s.entries s.past s.notes s.marks k t Back NoMark grant refl s.entries (λ u hu n q h p. refl) (λ p q e. e)
+        lockless s.state w st s.entries s.past s.notes s.marks k t Back NoMark grant refl s.entries
+            (λ u hu n q h p. refl) (λ p q e. e)
             (s.notes t) (s.marks t)
-            (each_next t s.past (Answers t Back NoMark) s.entries s.entries (s.notes t) [] (s.marks t) (ap (λ b. b && false) (eq-eqb t t refl)) (ap (λ b. b && false) (eq-eqb t t refl))
-            (λ past' part m r u. (describe_laws t past' s.entries part u).others (Answers t Back NoMark) s.entries (λ q. ap (λ b. b && false) (eq-eqb t t refl)) (λ q h p. refl) (λ q p made e. e))
+            (each_next t s.past (Answers t Back NoMark) s.entries s.entries (s.notes t) [] (s.marks t)
+            (ap (λ b. b && false) (eq-eqb t t refl)) (ap (λ b. b && false) (eq-eqb t t refl))
+            (λ past' part m r u. (describe_laws t past' s.entries part u).others (Answers t Back NoMark) s.entries
+            (λ q. ap (λ b. b && false) (eq-eqb t t refl)) (λ q h p. refl) (λ q p made e. e))
             (k.describes t grant.is_active))
             (λ p h. h)
             s.notes s.marks refl refl (λ u n. refl) (λ u n. refl),
@@ -385,25 +445,34 @@ module _ (s : Store) (o : OverlayLaws s.state) (w : ViewLaws s.state) (at : Repr
   refused : (t : ℕ) (op : Op) (why : Refusal) → Next s (Do t op) (Refused why)
   refused t op why =
       let same_marks : marks_after s (Do t op) (Refused why) ≡ s.marks = λ i u. same_marks_at u i in
-      subst (λ es. NextAt s Nothing es (notes_after s (Do t op) (Refused why)) (marks_after s (Do t op) (Refused why))) (sym (changed_refused (gone t) s.state.runs op why s.entries))
+      subst (λ es. NextAt s Nothing es (notes_after s (Do t op) (Refused why)) (marks_after s (Do t op) (Refused why)))
+      (sym (changed_refused (gone t) s.state.runs op why s.entries))
       (subst (λ ns. NextAt s Nothing s.entries ns (marks_after s (Do t op) (Refused why))) (sym same_notes)
       (subst (λ ms. NextAt s Nothing s.entries s.notes ms) (sym same_marks) (at, nothing)))
     where
-      same_at : (u : ℕ) → cond (t == u) (noted s.state.runs op (Refused why) s.entries ++ notes_left op (Refused why) (s.marks u) (s.notes u)) (s.notes u) ≡ s.notes u
+      same_at : (u : ℕ) → cond (t == u) (noted s.state.runs op (Refused why) s.entries ++
+          notes_left op (Refused why) (s.marks u) (s.notes u)) (s.notes u) ≡ s.notes u
       same_at u =
-          ap (λ (ns : List Note). cond (t == u) (ns ++ notes_left op (Refused why) (s.marks u) (s.notes u)) (s.notes u)) (noted_refused s.state.runs op why s.entries)
-          ∙ ap (λ (ns : List Note). cond (t == u) ns (s.notes u)) (notes_left_refused op why (s.marks u) (s.notes u)) ∙ either_way (t == u) (s.notes u)
+          ap (λ (ns : List Note). cond (t == u) (ns ++ notes_left op (Refused why) (s.marks u) (s.notes u)) (s.notes u))
+          (noted_refused s.state.runs op why s.entries)
+          ∙ ap (λ (ns : List Note). cond (t == u) ns (s.notes u)) (notes_left_refused op why (s.marks u) (s.notes u)) ∙
+          either_way (t == u) (s.notes u)
 
       same_notes : notes_after s (Do t op) (Refused why) ≡ s.notes
       same_notes i u = same_at u i
 
-      same_marks_at : (u : ℕ) → cond (t == u) (marks_left op (Refused why) (length (s.notes u)) (s.marks u)) (s.marks u) ≡ s.marks u
-      same_marks_at u = ap (λ (ms : List ℕ). cond (t == u) ms (s.marks u)) (marks_left_refused op why (length (s.notes u)) (s.marks u)) ∙ either_way (t == u) (s.marks u)
+      same_marks_at : (u : ℕ) → cond (t == u) (marks_left op (Refused why) (length (s.notes u)) (s.marks u))
+          (s.marks u) ≡ s.marks u
+      same_marks_at u = ap (λ (ms : List ℕ). cond (t == u) ms (s.marks u))
+          (marks_left_refused op why (length (s.notes u)) (s.marks u)) ∙ either_way (t == u) (s.marks u)
 
   do_step : (t : ℕ) (op : Op) (reply : Reply) → MayDo s.state t op reply → Next s (Do t op) reply
   do_step t op reply may = by_due (due s.state t op) refl may
     where
-      by_due : (o : Option Refusal) → due s.state t op ≡ o → MatchOption o ((reply ≡ answer op (view s.state t)) ⊎ (reply ≡ Refused NoMemory)) (λ why. reply ≡ Refused why) → Next s (Do t op) reply
+      by_due : (o : Option Refusal) → due s.state t op ≡ o →
+          MatchOption o ((reply ≡ answer op (view s.state t)) ⊎ (reply ≡ Refused NoMemory))
+          (λ why. reply ≡ Refused why) →
+          Next s (Do t op) reply
       by_due None e m = ⊎_elim
           (λ answered. subst (Next s (Do t op)) (sym answered) (granted t op e))
           (λ want. subst (Next s (Do t op)) (sym want) (refused t op NoMemory))
@@ -414,33 +483,42 @@ module _ (s : Store) (o : OverlayLaws s.state) (w : ViewLaws s.state) (at : Repr
   commits : (t : ℕ) → is_open s.state.active t ≡ true → NextAt s (Commits t) s.entries s.notes s.marks
   commits t on = (
     go.committed t on,
-    quiet s.state w st s.entries s.past s.notes s.marks k (next s.state (Commits t)) (Commits t) s.entries (λ u q. refl) (λ u. refl) (λ u. refl)
-        (λ u h. sym (st.commits_others t u (other u h)).is_active ∙ h) (λ u h. (st.commits_others t u (other u h)).locks) refl refl (λ u h q own p. refl) (λ p q n e. e),
+    quiet s.state w st s.entries s.past s.notes s.marks k (next s.state (Commits t)) (Commits t) s.entries (λ u q. refl)
+        (λ u. refl) (λ u. refl)
+        (λ u h. sym (st.commits_others t u (other u h)).is_active ∙ h)
+        (λ u h. (st.commits_others t u (other u h)).locks) refl refl (λ u h q own p. refl) (λ p q n e. e),
   )
     where
       other : (u : ℕ) → is_open (next s.state (Commits t)).active u ≡ true → u ≢ t
-      other u h e = both_ways (is_open (next s.state (Commits t)).active t) (st.commits t) (ap (is_open (next s.state (Commits t)).active) (sym e) ∙ h)
+      other u h e = both_ways (is_open (next s.state (Commits t)).active t) (st.commits t)
+          (ap (is_open (next s.state (Commits t)).active) (sym e) ∙ h)
 
   aborts : (t : ℕ) → is_open s.state.active t ≡ true → NextAt s (Aborts t) (aborted t s.past s.entries) s.notes s.marks
   aborts t on = (
     go.aborted t (aborted t s.past s.entries) on (record {
       rising = rising-aborted t s.past s.entries;
-      at = λ p q. taken_at t s.past s.entries (s.notes t) (whole_describes t s.past s.entries (s.notes t) 0 (length (s.notes t)) (s.marks t) (k.describes t on)) (p, q);
+      at = λ p q. taken_at t s.past s.entries (s.notes t)
+          (whole_describes t s.past s.entries (s.notes t) 0 (length (s.notes t)) (s.marks t) (k.describes t on)) (p, q);
     }),
-    quiet s.state w st s.entries s.past s.notes s.marks k (next s.state (Aborts t)) (Aborts t) (aborted t s.past s.entries) (λ u q. refl) (λ u. refl) (λ u. refl)
+    quiet s.state w st s.entries s.past s.notes s.marks k (next s.state (Aborts t)) (Aborts t)
+        (aborted t s.past s.entries) (λ u q. refl) (λ u. refl) (λ u. refl)
         was (λ u h. (st.aborts_others t u (other u h)).keeps.locks) refl refl
         (λ u h q own p. untouched t s.past s.entries (p, q) (unwritten_by t u on (was u h) (other u h) q own))
         (λ p q n e. look-reslotted_none (λ part key x. left_at t (part, key) s.past s.entries) s.entries (p, q) e),
   )
     where
       other : (u : ℕ) → is_open (next s.state (Aborts t)).active u ≡ true → u ≢ t
-      other u h e = both_ways (is_open (next s.state (Aborts t)).active t) (st.aborts t) (ap (is_open (next s.state (Aborts t)).active) (sym e) ∙ h)
+      other u h e = both_ways (is_open (next s.state (Aborts t)).active t) (st.aborts t)
+          (ap (is_open (next s.state (Aborts t)).active) (sym e) ∙ h)
 
       was : (u : ℕ) → is_open (next s.state (Aborts t)).active u ≡ true → is_open s.state.active u ≡ true
       was u h = sym (st.aborts_others t u (other u h)).keeps.is_active ∙ h
 
   step_on : (step : Step) (reply : Reply) → MayReply s step reply → Next s step reply
-  step_on Begin (Begun t) may = (go.begun t (not_begun s.state w st s.entries s.past s.notes s.marks k t may.0), begins s.state w st s.entries s.past s.notes s.marks k t may.0)
+  step_on Begin (Begun t) may = (
+    go.begun t (not_begun s.state w st s.entries s.past s.notes s.marks k t may.0),
+    begins s.state w st s.entries s.past s.notes s.marks k t may.0,
+  )
   step_on Begin reply may = (at, nothing)
   step_on (Do t op) reply may = do_step t op reply may
   step_on (Commit t) (Committed c) may = commits t may.0
@@ -448,33 +526,41 @@ module _ (s : Store) (o : OverlayLaws s.state) (w : ViewLaws s.state) (at : Repr
   step_on (Abort t) Aborted may = aborts t may
   step_on (Abort t) reply may = (at, nothing)
   step_on (Merge limit) reply may = ⊎_elim
-      (λ right. maintained (entries_after s (Merge limit) reply) (merge_maintains s.entries s.wishes (holder s.state.active) limit reply rising right.1))
+      (λ right. maintained (entries_after s (Merge limit) reply)
+      (merge_maintains s.entries s.wishes (holder s.state.active) limit reply rising right.1))
       (λ bad. subst (λ es. NextAt s Nothing es s.notes s.marks) (sym (merged_bad s limit reply bad.1)) (at, nothing))
       (by_limit limit reply _ may)
-  step_on (Clean range limit) (Cleaned n) may = maintained (entries_after s (Clean range limit) (Cleaned n)) (clean_maintains s.entries (holder s.state.active) range n rising)
+  step_on (Clean range limit) (Cleaned n) may = maintained (entries_after s (Clean range limit) (Cleaned n))
+      (clean_maintains s.entries (holder s.state.active) range n rising)
   step_on (Clean range limit) reply may = (at, nothing)
 
 -- ---- whole traces
 
-runs_push : (trace : Trace) (s : State) (e : Event) → Runs s trace → May (after_run s trace) e.0 e.1 → Runs s (trace ++ e ∷ [])
+runs_push : (trace : Trace) (s : State) (e : Event) → Runs s trace → May (after_run s trace) e.0 e.1 →
+    Runs s (trace ++ e ∷ [])
 runs_push [] s e r m = (m, tt)
 runs_push (x ∷ trace) s e r m = (r.0, runs_push trace (next s (effect x.0 x.1)) e r.1 m)
 
-pub one_more : (trace : Trace) (s : Store) (e : Event) → Right trace s → MayReply s e.0 e.1 → Right (trace ++ e ∷ []) (after_step s e.0 e.1)
+pub one_more : (trace : Trace) (s : Store) (e : Event) → Right trace s → MayReply s e.0 e.1 →
+    Right (trace ++ e ∷ []) (after_step s e.0 e.1)
 one_more trace s e r may =
     let o = subst (λ (st : State). OverlayLaws st) (sym r.is) (overlay_laws trace r.runs) in
     let w = subst (λ (st : State). ViewLaws st) (sym r.is) (view_laws trace r.runs) in
     let out = step_on s o w r.at r.keeps e.0 e.1 may in
     record {
-      runs = runs_push trace start e r.runs (subst (λ (st : State). May st e.0 e.1) r.is (may_of s r.at.has.rising r.keeps.below e.0 e.1 may));
+      runs = runs_push trace start e r.runs (subst (λ (st : State). May st e.0 e.1) r.is
+          (may_of s r.at.has.rising r.keeps.below e.0 e.1 may));
       is = ap (λ (st : State). next st (effect e.0 e.1)) r.is ∙ sym (after_run-push trace start e);
       at = out.0;
       keeps = out.1;
     }
 
-all_more : (before : Trace) (s : Store) (trace : Trace) → Right before s → Follows s trace → Right (before ++ trace) (after_all s trace)
+all_more : (before : Trace) (s : Store) (trace : Trace) → Right before s → Follows s trace →
+    Right (before ++ trace) (after_all s trace)
 all_more before s [] r f = subst (λ (x : Trace). Right x s) (sym (append-nil before)) r
-all_more before s (e ∷ trace) r f = subst (λ (x : Trace). Right x (after_all (after_step s e.0 e.1) trace)) (append_assoc before (e ∷ []) trace) (all_more (before ++ e ∷ []) (after_step s e.0 e.1) trace (one_more before s e r f.0) f.1)
+all_more before s (e ∷ trace) r f = subst (λ (x : Trace). Right x (after_all (after_step s e.0 e.1) trace))
+    (append_assoc before (e ∷ []) trace) (all_more (before ++ e ∷ []) (after_step s e.0 e.1) trace
+    (one_more before s e r f.0) f.1)
 
 pub at_start : Right [] opened
 at_start = record {

@@ -1,5 +1,6 @@
 -- The first LF of some bytes.
-use Rattle.std.proofs.Common.{None, Some, inl, inr, ltb, eqb, ◌≡◌, ℕ, List, [], ◌∷◌, ◌++◌, ap, sym, ◌∙◌, refl, cond, not, true, false, length, take, drop, arith, suc, zero, ◌<◌, ◌≤◌, ◌-◌, ◌+◌, append_assoc}
+use Rattle.std.proofs.Common.{None, Some, inl, inr, ltb, eqb, ◌≡◌, ℕ, List, [], ◌∷◌, ◌++◌, ap, sym, ◌∙◌, refl, cond}
+use Rattle.std.proofs.Common.{not, true, false, length, take, drop, arith, suc, zero, ◌<◌, ◌≤◌, ◌-◌, ◌+◌, append_assoc}
 use Rattle.std.specs.List.{position_or_len}
 use Rattle.std.proofs.lemmas.Bool.{cases_Bool, cond_both, false≢true, ltb-true, ltb-false}
 use Rattle.std.proofs.lemmas.List.{drop-take}
@@ -17,7 +18,8 @@ none_before (c ∷ bytes) (suc k) le = elim (cases_Bool (eqb c 10)) [
       let here : place_of_lf (c ∷ bytes) ≡ 0 = ap (λ b. cond (not b) (1 + place_of_lf bytes) 0) t in
       absurd (omega (arith, le, here))
   | inr f ↦
-      let later : place_of_lf (c ∷ bytes) ≡ 1 + place_of_lf bytes = ap (λ b. cond (not b) (1 + place_of_lf bytes) 0) f in
+      let later : place_of_lf (c ∷ bytes) ≡ 1 + place_of_lf bytes = ap (λ b. cond (not b) (1 + place_of_lf bytes) 0)
+      f in
       ((λ e. false≢true (sym f ∙ ap (λ z. eqb z 10) e)), none_before bytes k (omega (arith, le, later)))
 ]
 
@@ -26,7 +28,8 @@ lf_there [] lt = absurd (omega (arith, lt))
 lf_there (c ∷ bytes) lt = elim (cases_Bool (eqb c 10)) [
   | inl t ↦ ap (λ b. cond b true (has_lf bytes)) t
   | inr f ↦
-      let later : place_of_lf (c ∷ bytes) ≡ 1 + place_of_lf bytes = ap (λ b. cond (not b) (1 + place_of_lf bytes) 0) f in
+      let later : place_of_lf (c ∷ bytes) ≡ 1 + place_of_lf bytes = ap (λ b. cond (not b) (1 + place_of_lf bytes) 0)
+      f in
       ap (λ b. cond b true (has_lf bytes)) f ∙ lf_there bytes (omega (arith, lt, later))
 ]
 
@@ -37,20 +40,24 @@ lf_not_there (c ∷ bytes) le = elim (cases_Bool (eqb c 10)) [
       let here : place_of_lf (c ∷ bytes) ≡ 0 = ap (λ b. cond (not b) (1 + place_of_lf bytes) 0) t in
       absurd (omega (arith, le, here))
   | inr f ↦
-      let later : place_of_lf (c ∷ bytes) ≡ 1 + place_of_lf bytes = ap (λ b. cond (not b) (1 + place_of_lf bytes) 0) f in
+      let later : place_of_lf (c ∷ bytes) ≡ 1 + place_of_lf bytes = ap (λ b. cond (not b) (1 + place_of_lf bytes) 0)
+      f in
       ap (λ b. cond b true (has_lf bytes)) f ∙ lf_not_there bytes (omega (arith, le, later))
 ]
 
-pub before_lf : (bytes : List ℕ) (k : ℕ) → cond (ltb (place_of_lf bytes) (length bytes)) (Some (place_of_lf bytes)) None ≡ Some k → HasNoLf (take k bytes) × (has_lf bytes ≡ true)
+pub before_lf : (bytes : List ℕ) (k : ℕ) → cond (ltb (place_of_lf bytes) (length bytes)) (Some (place_of_lf bytes))
+    None ≡ Some k → HasNoLf (take k bytes) × (has_lf bytes ≡ true)
 before_lf bytes k =
     let place = place_of_lf bytes in
-    cond_both (ltb place (length bytes)) (Some place) None (λ o. o ≡ Some k → HasNoLf (take k bytes) × (has_lf bytes ≡ true))
+    cond_both (ltb place (length bytes)) (Some place) None (λ o. o ≡ Some k → HasNoLf (take k bytes) ×
+    (has_lf bytes ≡ true))
     (λ inside found.
     let same : place ≡ k = cc in
     (none_before bytes k (omega (arith, same)), lf_there bytes (ltb-true place (length bytes) inside)))
     (λ _ found. cc)
 
-pub without_lf : (bytes : List ℕ) → cond (ltb (place_of_lf bytes) (length bytes)) (Some (place_of_lf bytes)) None ≡ None → has_lf bytes ≡ false
+pub without_lf : (bytes : List ℕ) → cond (ltb (place_of_lf bytes) (length bytes)) (Some (place_of_lf bytes)) None ≡
+    None → has_lf bytes ≡ false
 without_lf bytes =
     let place = place_of_lf bytes in
     cond_both (ltb place (length bytes)) (Some place) None (λ o. o ≡ None → has_lf bytes ≡ false)
@@ -58,11 +65,17 @@ without_lf bytes =
     (λ past found. lf_not_there bytes (ltb-false place (length bytes) past))
 
 -- what stands between two places of some bytes
-pub between : (bytes : List ℕ) (start end : ℕ) → start ≤ end → take (end - start) (drop start bytes) ≡ drop start (take end bytes)
+pub between : (bytes : List ℕ) (start end : ℕ) → start ≤ end → take (end - start) (drop start bytes) ≡ drop start
+    (take end bytes)
 between bytes start end le =
     let e : start + (end - start) ≡ end = omega (arith, le) in
     sym (drop-take start (end - start) bytes) ∙ ap (λ n. drop start (take n bytes)) e
 
 -- a line and its LF, cut from the front of some bytes
-pub cuts_line : (bytes line rest : List ℕ) → HasNoLf line → bytes ≡ line ++ 10 ∷ rest → CutsLine bytes (line_of line) rest
-cuts_line bytes line rest none is = (line ++ 10 ∷ [], is ∙ sym (append_assoc line (10 ∷ []) rest), λ more. ap lines_of (append_assoc line (10 ∷ []) more) ∙ lines_of-ended line more none)
+pub cuts_line : (bytes line rest : List ℕ) → HasNoLf line → bytes ≡ line ++ 10 ∷ rest →
+    CutsLine bytes (line_of line) rest
+cuts_line bytes line rest none is = (
+  line ++ 10 ∷ [],
+  is ∙ sym (append_assoc line (10 ∷ []) rest),
+  λ more. ap lines_of (append_assoc line (10 ∷ []) more) ∙ lines_of-ended line more none,
+)

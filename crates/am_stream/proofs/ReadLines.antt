@@ -1,5 +1,6 @@
 -- A line that is being read.
-use Rattle.std.proofs.Common.{◌≡◌, ◌≢◌, ℕ, List, [], ◌∷◌, ◌++◌, append_assoc, append-nil, ap, sym, ◌∙◌, refl, length, take, arith, true, false, Option, subst}
+use Rattle.std.proofs.Common.{◌≡◌, ◌≢◌, ℕ, List, [], ◌∷◌, ◌++◌, append_assoc, append-nil, ap, sym, ◌∙◌, refl, length}
+use Rattle.std.proofs.Common.{take, arith, true, false, Option, subst}
 use Rattle.std.proofs.lemmas.List.{length-take}
 use Rattle.am_stream.specs.Lines.{line_of, lines_of, HasNoLf, TookLine, TookPart}
 use Rattle.am_stream.specs.Taking.{TookAhead, IsAtEnd}
@@ -8,17 +9,32 @@ use Rattle.am_stream.proofs.Cutting.{line_of-front, take-push-front, lines_of-en
 
 -- bytes of one line were taken, and its front is kept
 abbrev pub IsReading : {S : Type 0} → (S → List ℕ → Type 0) → List ℕ → S → List ℕ → List ℕ → S → Type 0
-IsReading comes before old line waiting new = (taken : List ℕ) × HasNoLf taken × (line ≡ take 4097 taken) × TookAhead comes before old taken waiting new
+IsReading comes before old line waiting new = (taken : List ℕ) × HasNoLf taken × (line ≡ take 4097 taken) ×
+    TookAhead comes before old taken waiting new
 
-pub reading_more : {S : Type 0} (comes : S → List ℕ → Type 0) (p q r : List ℕ) (a b d : S) (line new : List ℕ) (c : ℕ) → IsReading comes p a line q b → TookAhead comes q b (c ∷ []) r d → (c ≡ 10 → ⊥) → new ≡ take 4097 (line ++ c ∷ []) → IsReading comes p a new r d
-reading_more comes p q r a b d line new c h f n e = (h.0 ++ c ∷ [], no_lf-push h.0 c h.1 n, e ∙ ap (λ z. take 4097 (z ++ c ∷ [])) h.2 ∙ take-push-front 4097 h.0 c, took_then comes p q r a b d h.0 (c ∷ []) h.3 f)
+pub reading_more : {S : Type 0} (comes : S → List ℕ → Type 0) (p q r : List ℕ) (a b d : S) (line new : List ℕ) (c : ℕ) →
+    IsReading comes p a line q b → TookAhead comes q b (c ∷ []) r d → (c ≡ 10 → ⊥) → new ≡ take 4097 (line ++ c ∷ []) →
+    IsReading comes p a new r d
+reading_more comes p q r a b d line new c h f n e = (
+  h.0 ++ c ∷ [],
+  no_lf-push h.0 c h.1 n,
+  e ∙ ap (λ z. take 4097 (z ++ c ∷ [])) h.2 ∙ take-push-front 4097 h.0 c,
+  took_then comes p q r a b d h.0 (c ∷ []) h.3 f,
+)
 
-pub reading_ended : {S : Type 0} (comes : S → List ℕ → Type 0) (p q r : List ℕ) (a b d : S) (line : List ℕ) (l : Option (List ℕ)) (c : ℕ) → IsReading comes p a line q b → TookAhead comes q b (c ∷ []) r d → c ≡ 10 → l ≡ line_of line → TookLine comes p a l true r d
+pub reading_ended : {S : Type 0} (comes : S → List ℕ → Type 0) (p q r : List ℕ) (a b d : S) (line : List ℕ)
+    (l : Option (List ℕ)) (c : ℕ) → IsReading comes p a line q b → TookAhead comes q b (c ∷ []) r d → c ≡ 10 →
+    l ≡ line_of line → TookLine comes p a l true r d
 reading_ended comes p q r a b d line l c h f t e =
-    let same : line_of h.0 ≡ l = sym (line_of-front h.0) ∙ ap line_of (sym h.2) ∙ sym e in
-    (h.0 ++ c ∷ [], took_then comes p q r a b d h.0 (c ∷ []) h.3 f, (λ more. ap lines_of (append_assoc h.0 (c ∷ []) more) ∙ ap (λ z. lines_of (h.0 ++ (z ∷ more))) t ∙ lines_of-ended h.0 more h.1 ∙ ap (λ z. z ∷ lines_of more) same))
+    let same : line_of h.0 ≡ l = sym (line_of-front h.0) ∙ ap line_of (sym h.2) ∙ sym e in (
+      h.0 ++ c ∷ [],
+      took_then comes p q r a b d h.0 (c ∷ []) h.3 f,
+      (λ more. ap lines_of (append_assoc h.0 (c ∷ []) more) ∙ ap (λ z. lines_of (h.0 ++ (z ∷ more))) t ∙
+          lines_of-ended h.0 more h.1 ∙ ap (λ z. z ∷ lines_of more) same),
+    )
 
-pub reading_none : {S : Type 0} (comes : S → List ℕ → Type 0) (p q r : List ℕ) (a b d : S) (line : List ℕ) → IsReading comes p a line q b → TookAhead comes q b [] r d → line ≡ [] → TookAhead comes p a [] r d
+pub reading_none : {S : Type 0} (comes : S → List ℕ → Type 0) (p q r : List ℕ) (a b d : S) (line : List ℕ) →
+    IsReading comes p a line q b → TookAhead comes q b [] r d → line ≡ [] → TookAhead comes p a [] r d
 reading_none comes p q r a b d line h f e =
     let n : length h.0 ≡ 0 = omega (arith, length-take 4097 h.0, ap length h.2, ap length e) in
     let t : TookAhead comes p a (h.0 ++ []) r d = took_then comes p q r a b d h.0 [] h.3 f in
@@ -29,11 +45,22 @@ reading_none comes p q r a b d line h f e =
     empty [] e = refl
     empty (x ∷ xs) e = absurd (omega (arith, e))
 
-pub reading_part : {S : Type 0} (comes : S → List ℕ → Type 0) (p q r : List ℕ) (a b d : S) (line : List ℕ) → IsReading comes p a line q b → TookAhead comes q b [] r d → TookPart comes p a r d
-reading_part comes p q r a b d line h f = (h.0, h.1, subst (λ (x : List ℕ). TookAhead comes p a x r d) (append-nil h.0) (took_then comes p q r a b d h.0 [] h.3 f))
+pub reading_part : {S : Type 0} (comes : S → List ℕ → Type 0) (p q r : List ℕ) (a b d : S) (line : List ℕ) →
+    IsReading comes p a line q b → TookAhead comes q b [] r d → TookPart comes p a r d
+reading_part comes p q r a b d line h f = (
+  h.0,
+  h.1,
+  subst (λ (x : List ℕ). TookAhead comes p a x r d) (append-nil h.0)
+      (took_then comes p q r a b d h.0 [] h.3 f),
+)
 
-pub reading_open : {S : Type 0} (comes : S → List ℕ → Type 0) (p q r : List ℕ) (a b d : S) (line : List ℕ) (l : Option (List ℕ)) → IsReading comes p a line q b → TookAhead comes q b [] r d → IsAtEnd comes r d → line ≢ [] → l ≡ line_of line → TookLine comes p a l false r d
+pub reading_open : {S : Type 0} (comes : S → List ℕ → Type 0) (p q r : List ℕ) (a b d : S) (line : List ℕ)
+    (l : Option (List ℕ)) → IsReading comes p a line q b → TookAhead comes q b [] r d → IsAtEnd comes r d → line ≢ [] →
+    l ≡ line_of line → TookLine comes p a l false r d
 reading_open comes p q r a b d line l h f end n e =
     let same : line_of h.0 ≡ l = sym (line_of-front h.0) ∙ ap line_of (sym h.2) ∙ sym e in
-    let some : h.0 ≢ [] = λ z. n (h.2 ∙ ap (take 4097) z) in
-    (h.0, subst (λ (x : List ℕ). TookAhead comes p a x r d) (append-nil h.0) (took_then comes p q r a b d h.0 [] h.3 f), (lines_of-open h.0 h.1 some ∙ ap (λ z. z ∷ []) same, end))
+    let some : h.0 ≢ [] = λ z. n (h.2 ∙ ap (take 4097) z) in (
+      h.0,
+      subst (λ (x : List ℕ). TookAhead comes p a x r d) (append-nil h.0) (took_then comes p q r a b d h.0 [] h.3 f),
+      (lines_of-open h.0 h.1 some ∙ ap (λ z. z ∷ []) same, end),
+    )

@@ -1,5 +1,6 @@
 -- Each answer of a dialogue is one line: what the store tells was read from lines.
-use Rattle.std.proofs.Common.{◌≡◌, inl, inr, cond, ℕ, ◌==◌, List, [], ◌∷◌, ◌++◌, Bool, true, false, Option, Some, None, Result, Ok, Err, refl, sym, subst}
+use Rattle.std.proofs.Common.{◌≡◌, inl, inr, cond, ℕ, ◌==◌, List, [], ◌∷◌, ◌++◌, Bool, true, false, Option, Some, None}
+use Rattle.std.proofs.Common.{Result, Ok, Err, refl, sym, subst}
 use Rattle.std.specs.Prelude.{MatchBool, codes, decimal}
 use Rattle.std.specs.List.{AllByRecursion}
 use Rattle.am_record.specs.Records.{Records}
@@ -22,7 +23,8 @@ use Rattle.am_wire.proofs.VisibleRequests.{asks_visible}
 use Rattle.am_wire.proofs.Texts.{HasNoLf-append, HasNoLf-decimal, HasNoLf-free, HasNoLf-words_of, is_free}
 use Rattle.am_talk.specs.ParsedLine.{Line, MayParse, parsed_of}
 use Rattle.am_talk.specs.Session.{SessionState, staged_after}
-use Rattle.am_talk.specs.Actions.{may_wait, with_staged, staged_left, commit_action, request_action, action_for, no_room, staged_asked, session_behind_line, IsActionFor}
+use Rattle.am_talk.specs.Actions.{may_wait, with_staged, staged_left, commit_action, request_action, action_for}
+use Rattle.am_talk.specs.Actions.{no_room, staged_asked, session_behind_line, IsActionFor}
 use Rattle.am_talk.specs.Responses.{response_text, line}
 use Rattle.am_talk.specs.Dialogue.{Exchange, Standing, AnsweredBy, AnswersLine, Merges, Ends, Whole, TornAt, Dialogue}
 use Rattle.am_talk.specs.declared.lines.ParsedLine.{ParsedLine}
@@ -30,7 +32,8 @@ use Rattle.am_talk.specs.declared.lines.ParsedLine.TheVariants as said
 use Rattle.am_talk.specs.declared.action.Action.{Action}
 use Rattle.am_talk.specs.declared.action.Action.TheVariants.{Answer, Take, TellSeen}
 use Rattle.am_talk.specs.declared.response.Response.{Response}
-use Rattle.am_talk.specs.declared.response.Response.TheVariants.{TooLong, Faulty, NoTransaction, Active, Staged, TooManyStaged, StillStaged, Replied, Seen}
+use Rattle.am_talk.specs.declared.response.Response.TheVariants.{TooLong, Faulty, NoTransaction, Active, Staged}
+use Rattle.am_talk.specs.declared.response.Response.TheVariants.{TooManyStaged, StillStaged, Replied, Seen}
 use Rattle.am_talk.proofs.VisibleMaps.{all_append}
 use Rattle.am_talk.proofs.VisibleStores.{IsVisibleStore, IsVisibleStep, after_visible, tells_visible}
 
@@ -66,7 +69,9 @@ unfolding is_free
 seen_line session commits = (
   ((codes "SEEN " ++ decimal session) ++ codes " ") ++ decimal commits,
   HasNoLf-append ((codes "SEEN " ++ decimal session) ++ codes " ") (decimal commits)
-      (HasNoLf-append (codes "SEEN " ++ decimal session) (codes " ") (HasNoLf-append (codes "SEEN ") (decimal session) (HasNoLf-free (codes "SEEN ") refl) (HasNoLf-decimal session)) (HasNoLf-free (codes " ") refl))
+      (HasNoLf-append (codes "SEEN " ++ decimal session) (codes " ")
+      (HasNoLf-append (codes "SEEN ") (decimal session) (HasNoLf-free (codes "SEEN ") refl)
+      (HasNoLf-decimal session)) (HasNoLf-free (codes " ") refl))
       (HasNoLf-decimal commits),
   refl,
 )
@@ -105,9 +110,11 @@ either_visible : (b : Bool) (xs ys : Records) → AreVisible xs → AreVisible y
 either_visible true xs ys v w = v
 either_visible false xs ys v w = w
 
-asked_visible : (active : Option ℕ) (staged : Records) (asked : Request) → AreVisible staged → AsksVisible asked → AreVisible (staged_asked active staged asked)
+asked_visible : (active : Option ℕ) (staged : Records) (asked : Request) → AreVisible staged → AsksVisible asked →
+    AreVisible (staged_asked active staged asked)
 asked_visible (Some tx) staged (request.Do o) v h = left_visible staged o v
-asked_visible (Some tx) staged (request.Stage records) v h = either_visible (may_wait staged records) (staged ++ records) staged (all_append IsVisibleRow staged records v h) v
+asked_visible (Some tx) staged (request.Stage records) v h = either_visible (may_wait staged records)
+    (staged ++ records) staged (all_append IsVisibleRow staged records v h) v
 asked_visible None staged (request.Do o) v h = v
 asked_visible None staged (request.Stage records) v h = v
 asked_visible None staged request.Begin v h = v
@@ -150,7 +157,8 @@ commit_visible : (tx : ℕ) (staged : Records) → IsVisibleDue (commit_action t
 commit_visible tx [] = tt
 commit_visible tx (r ∷ rs) = still_line
 
-request_visible : (active : Option ℕ) (staged : Records) (asked : Request) → AreVisible staged → AsksVisible asked → IsVisibleDue (request_action active staged asked)
+request_visible : (active : Option ℕ) (staged : Records) (asked : Request) → AreVisible staged → AsksVisible asked →
+    IsVisibleDue (request_action active staged asked)
 request_visible None staged request.Begin v h = tt
 request_visible (Some tx) staged request.Begin v h = active_line
 request_visible None staged (request.Do o) v h = none_line
@@ -174,23 +182,40 @@ request_visible (Some tx) staged request.Quit v h = none_line
 abbrev GoesVisibly : Action → SessionState → Type 0
 GoesVisibly what here = IsVisibleDue what × AreVisible here.staged
 
-as_due : (s : SessionState) (h : ParsedLine) (what : Action) (here : SessionState) → GoesVisibly (action_for s h) (session_behind_line s h) → (what ≡ action_for s h) × (here ≡ session_behind_line s h) → GoesVisibly what here
-as_due s h what here v is = (subst IsVisibleDue (sym is.0) v.0, subst (λ (x : SessionState). AreVisible x.staged) (sym is.1) v.1)
+as_due : (s : SessionState) (h : ParsedLine) (what : Action) (here : SessionState) →
+    GoesVisibly (action_for s h) (session_behind_line s h) → (what ≡ action_for s h) ×
+    (here ≡ session_behind_line s h) →
+    GoesVisibly what here
+as_due s h what here v is = (
+  subst IsVisibleDue (sym is.0) v.0,
+  subst (λ (x : SessionState). AreVisible x.staged)
+      (sym is.1) v.1,
+)
 
-no_room_visible : (s : SessionState) (what : Action) (here : SessionState) → AreVisible s.staged → (what ≡ no_room) × (here ≡ s) → GoesVisibly what here
-no_room_visible s what here v is = (subst IsVisibleDue (sym is.0) (fault_line fault.NoMemory), subst (λ (x : SessionState). AreVisible x.staged) (sym is.1) v)
+no_room_visible : (s : SessionState) (what : Action) (here : SessionState) → AreVisible s.staged → (what ≡ no_room) ×
+    (here ≡ s) → GoesVisibly what here
+no_room_visible s what here v is = (
+  subst IsVisibleDue (sym is.0) (fault_line fault.NoMemory),
+  subst (λ (x : SessionState). AreVisible x.staged) (sym is.1) v,
+)
 
-asked_due : (s : SessionState) (asked : Request) (what : Action) (here : SessionState) → AreVisible s.staged → AsksVisible asked → IsActionFor s (said.Asked asked) what here → GoesVisibly what here
-asked_due s asked what here v h (inl is) = as_due s (said.Asked asked) what here (request_visible s.active s.staged asked v h, asked_visible s.active s.staged asked v h) is
+asked_due : (s : SessionState) (asked : Request) (what : Action) (here : SessionState) → AreVisible s.staged →
+    AsksVisible asked → IsActionFor s (said.Asked asked) what here → GoesVisibly what here
+asked_due s asked what here v h (inl is) = as_due s (said.Asked asked) what here
+    (request_visible s.active s.staged asked v h, asked_visible s.active s.staged asked v h) is
 asked_due s asked what here v h (inr refused) = no_room_visible s what here v (refused.1, refused.2)
 
-told_visible : (s : SessionState) (text : List ℕ) (r : Result Request LineFault) (what : Action) (here : SessionState) → AreVisible s.staged → Reads text r → IsActionFor s (parsed_of r) what here → GoesVisibly what here
+told_visible : (s : SessionState) (text : List ℕ) (r : Result Request LineFault) (what : Action) (here : SessionState) →
+    AreVisible s.staged → Reads text r → IsActionFor s (parsed_of r) what here → GoesVisibly what here
 told_visible s text (Ok asked) what here v reads may = asked_due s asked what here v (asks_visible text asked reads) may
 told_visible s text (Err f) what here v reads may = as_due s (said.Faulty f) what here (fault_line f, v) may
 
-due_visible : (s : SessionState) (l : Line) (h : ParsedLine) (what : Action) (here : SessionState) → AreVisible s.staged → MayParse l h → IsActionFor s h what here → GoesVisibly what here
-due_visible s None h what here v may d = as_due s said.TooLong what here (long_line, v) (subst (λ (x : ParsedLine). IsActionFor s x what here) may d)
-due_visible s (Some text) h what here v may d = told_visible s text may.0 what here v (reads_what_may_be text may.0 may.1) (subst (λ (x : ParsedLine). IsActionFor s x what here) may.2 d)
+due_visible : (s : SessionState) (l : Line) (h : ParsedLine) (what : Action) (here : SessionState) →
+    AreVisible s.staged → MayParse l h → IsActionFor s h what here → GoesVisibly what here
+due_visible s None h what here v may d = as_due s said.TooLong what here (long_line, v)
+    (subst (λ (x : ParsedLine). IsActionFor s x what here) may d)
+due_visible s (Some text) h what here v may d = told_visible s text may.0 what here v
+    (reads_what_may_be text may.0 may.1) (subst (λ (x : ParsedLine). IsActionFor s x what here) may.2 d)
 
 -- ---- exchanges
 
@@ -202,7 +227,9 @@ record GoesOn (response : Response) (rest : Trace) (at' : Standing) : Type 0 whe
   follows : Follows to rest
   line : IsLine response
 
-answered : (s : Store) (at : Standing) (d : Action) (response : Response) (own rest : Trace) (at' : Standing) → IsVisibleDue d → AreVisible at.0.staged → IsVisibleStore s → AnsweredBy at d response own at' → Follows s (own ++ rest) → GoesOn response rest at'
+answered : (s : Store) (at : Standing) (d : Action) (response : Response) (own rest : Trace) (at' : Standing) →
+    IsVisibleDue d → AreVisible at.0.staged → IsVisibleStore s → AnsweredBy at d response own at' →
+    Follows s (own ++ rest) → GoesOn response rest at'
 answered s at (Answer known) response own rest at' v w h a f = record {
   to = s;
   visible = h;
@@ -227,7 +254,8 @@ answered s at TellSeen response own rest at' v w h a f = record {
   line = subst IsLine (sym a.0) (seen_line 0 at.1);
 }
 
-answered_line : (s : Store) (at : Standing) (e : Exchange) (own rest : Trace) (at' : Standing) → IsVisibleStore s → AreVisible at.0.staged → AnswersLine at e own at' → Follows s (own ++ rest) → GoesOn e.1 rest at'
+answered_line : (s : Store) (at : Standing) (e : Exchange) (own rest : Trace) (at' : Standing) → IsVisibleStore s →
+    AreVisible at.0.staged → AnswersLine at e own at' → Follows s (own ++ rest) → GoesOn e.1 rest at'
 answered_line s at e own rest at' h w a f =
     let action_for : GoesVisibly a.1 a.2 = due_visible at.0 e.0 a.0 a.1 a.2 w a.3 a.4 in
     answered s (a.2, at.1) a.1 e.1 own rest at' action_for.0 action_for.1 h a.5 f
@@ -238,12 +266,18 @@ record Merged (later : Trace) : Type 0 where
   visible : IsVisibleStore to
   follows : Follows to later
 
-merged_between : (auto : ℕ) (s : Store) (rest later : Trace) → IsVisibleStore s → Merges auto rest later → Follows s rest → Merged later
+merged_between : (auto : ℕ) (s : Store) (rest later : Trace) → IsVisibleStore s → Merges auto rest later →
+    Follows s rest → Merged later
 merged_between auto s rest later h = by_auto (auto == 0)
   where
-    by_auto : (b : Bool) → MatchBool b (rest ≡ later) ((merged : Reply) × (rest ≡ (step.Merge auto, merged) ∷ later)) → Follows s rest → Merged later
+    by_auto : (b : Bool) → MatchBool b (rest ≡ later) ((merged : Reply) × (rest ≡ (step.Merge auto, merged) ∷ later)) →
+        Follows s rest → Merged later
     by_auto true same f = record { to = s; visible = h; follows = subst (Follows s) same f }
-    by_auto false event f = record { to = after_step s (step.Merge auto) event.0; visible = after_visible s (step.Merge auto) event.0 tt h; follows = (subst (Follows s) event.1 f).1 }
+    by_auto false event f = record {
+      to = after_step s (step.Merge auto) event.0;
+      visible = after_visible s (step.Merge auto) event.0 tt h;
+      follows = (subst (Follows s) event.1 f).1;
+    }
 
 -- ---- all of them
 
@@ -252,7 +286,8 @@ AreLines exchanges = AllByRecursion (λ (e : Exchange). IsOneLine (response_text
 
 -- what a dialogue's end says of the last responses
 abbrev EndsInLines : Ends → List Exchange → Type 0
-EndsInLines ends tail = (s : Store) (at : Standing) (trace : Trace) → IsVisibleStore s → AreVisible at.0.staged → Follows s trace → ends at trace → AreLines tail
+EndsInLines ends tail = (s : Store) (at : Standing) (trace : Trace) → IsVisibleStore s → AreVisible at.0.staged →
+    Follows s trace → ends at trace → AreLines tail
 
 pub whole_lines : EndsInLines Whole []
 whole_lines s at trace h w f ended = tt
@@ -262,7 +297,10 @@ torn_lines last s at trace h w f d =
     let on : GoesOn last.1 d.1 d.2 = answered_line s at last d.0 d.1 d.2 h w d.3 (subst (Follows s) d.4 f) in
     (on.line, tt)
 
-pub dialogue_lines : (auto : ℕ) (ends : Ends) (tail : List Exchange) → EndsInLines ends tail → (exchanges : List Exchange) (s : Store) (at : Standing) (trace : Trace) → IsVisibleStore s → AreVisible at.0.staged → Follows s trace →
+pub dialogue_lines : (auto : ℕ) (ends : Ends) (tail : List Exchange) → EndsInLines ends tail →
+    (exchanges : List Exchange) (s : Store) (at : Standing) (trace : Trace) → IsVisibleStore s →
+    AreVisible at.0.staged →
+    Follows s trace →
     Dialogue auto ends at exchanges trace → AreLines (exchanges ++ tail)
 dialogue_lines auto ends tail ending [] s at trace h w f d = ending s at trace h w f d
 dialogue_lines auto ends tail ending (e ∷ exchanges) s at trace h w f d =

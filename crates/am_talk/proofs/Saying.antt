@@ -1,5 +1,6 @@
 -- What a sound trace answers a session alone is what is said by the plain map.
-use Rattle.std.proofs.Common.{◌≡◌, ℕ, ◌+◌, nat_le, length, List, [], ◌∷◌, ◌++◌, Bool, true, false, cond, not, ◌&&◌, ◌||◌, Option, Some, None, refl, sym, ap, ◌∙◌, subst}
+use Rattle.std.proofs.Common.{◌≡◌, ℕ, ◌+◌, nat_le, length, List, [], ◌∷◌, ◌++◌, Bool, true, false, cond, not, ◌&&◌}
+use Rattle.std.proofs.Common.{◌||◌, Option, Some, None, refl, sym, ap, ◌∙◌, subst}
 use Rattle.std.specs.Prelude.{option_map}
 use Rattle.std.proofs.lemmas.Bool.{false≢true}
 use Rattle.std.proofs.lemmas.Option.{none-some, same_Some}
@@ -9,7 +10,8 @@ use Rattle.am_record.specs.OrderedKey.{OrderedKey}
 use Rattle.am_record.specs.Records.{Records}
 use Rattle.std.specs.FinMap.{get, contains_key}
 use Rattle.std.proofs.lemmas.Cmp.{nat_eq_equiv}
-use Rattle.am_record.specs.Plain.{PlainMap, Draft, fresh, answer, found, exists_or_done, went_back, least_taken, left, left_on, is_orderly}
+use Rattle.am_record.specs.Plain.{PlainMap, Draft, fresh, answer, found, exists_or_done, went_back, least_taken, left}
+use Rattle.am_record.specs.Plain.{left_on, is_orderly}
 use Rattle.am_record.specs.Asks.{lock_of, locks_of, clashes}
 use Rattle.am_record.specs.declared.step.Op.{Op}
 use Rattle.am_record.specs.declared.step.Op.TheVariants as op
@@ -42,10 +44,23 @@ actives begun None = []
 actives begun (Some body) = (begun, body) ∷ []
 
 abbrev pub machine_at : Where → machine.State
-machine_at w = record { begun = w.begun; commits = w.commits; runs = w.runs; committed = w.committed; active = actives w.begun w.own }
+machine_at w = record {
+  begun = w.begun;
+  commits = w.commits;
+  runs = w.runs;
+  committed = w.committed;
+  active = actives w.begun w.own;
+}
 
 abbrev pub state_at : Where → say.DialogueState
-state_at w = record { begun = w.begun; commits = w.commits; runs = w.runs; committed = w.committed; own = option_map ops_of w.own; staged = w.staged }
+state_at w = record {
+  begun = w.begun;
+  commits = w.commits;
+  runs = w.runs;
+  committed = w.committed;
+  own = option_map ops_of w.own;
+  staged = w.staged;
+}
 
 abbrev pub standing_at : Where → Standing
 standing_at w = (record { active = option_map (λ _. w.begun) w.own; staged = w.staged }, w.commits)
@@ -56,7 +71,8 @@ abbrev no_want : Refusal → Type 0
 no_want w = wants_memory (Replied (reply.Refused w)) ≡ false
 
 early_found : (a b c d : Bool) (late : Option Refusal) (w : Refusal) → ((v : Refusal) → late ≡ Some v → no_want v)
-    → or_else (cond a (Some why.TooManyOps) (cond b (Some why.NotRising) (cond c (Some why.BadLimit) (cond d (Some why.TooManyRuns) None)))) late ≡ Some w → no_want w
+    → or_else (cond a (Some why.TooManyOps) (cond b (Some why.NotRising)
+    (cond c (Some why.BadLimit) (cond d (Some why.TooManyRuns) None)))) late ≡ Some w → no_want w
 early_found true b c d late w l h = subst no_want (same_Some _ _ h) refl
 early_found false true c d late w l h = subst no_want (same_Some _ _ h) refl
 early_found false false true d late w l h = subst no_want (same_Some _ _ h) refl
@@ -110,18 +126,61 @@ answer_answers op.Back d = back_answers d.saved
 pub record Counts (r : Reply) : Type 0 where
   pub found : wants_memory (Replied r) ≡ false
   pub effect : (t : ℕ) (op : Op) → effect_of_do t op r ≡ Answers t op r
-  pub did : (s : say.DialogueState) (ops : List Op) (op : Op) → state_did s ops op r ≡ record s { runs = s.runs + runs_made op r; own = Some (ops ++ op ∷ []) }
+  pub did : (s : say.DialogueState) (ops : List Op) (op : Op) →
+      state_did s ops op r ≡ record s { runs = s.runs + runs_made op r; own = Some (ops ++ op ∷ []) }
   pub active : (a : Option ℕ) → active_after a r ≡ a
   pub staged : (rs : Records) → staged_after rs r ≡ rs
 
 pub answer_counts : (r : Reply) → is_answer r ≡ true → Counts r
-answer_counts reply.Done h = record { found = refl; effect = λ t op. refl; did = λ s ops op. refl; active = λ a. refl; staged = λ rs. refl }
-answer_counts (reply.Found v) h = record { found = refl; effect = λ t op. refl; did = λ s ops op. refl; active = λ a. refl; staged = λ rs. refl }
-answer_counts reply.Absent h = record { found = refl; effect = λ t op. refl; did = λ s ops op. refl; active = λ a. refl; staged = λ rs. refl }
-answer_counts (reply.Rows rows) h = record { found = refl; effect = λ t op. refl; did = λ s ops op. refl; active = λ a. refl; staged = λ rs. refl }
-answer_counts (reply.Exists k) h = record { found = refl; effect = λ t op. refl; did = λ s ops op. refl; active = λ a. refl; staged = λ rs. refl }
-answer_counts reply.Missing h = record { found = refl; effect = λ t op. refl; did = λ s ops op. refl; active = λ a. refl; staged = λ rs. refl }
-answer_counts reply.NoMark h = record { found = refl; effect = λ t op. refl; did = λ s ops op. refl; active = λ a. refl; staged = λ rs. refl }
+answer_counts reply.Done h = record {
+  found = refl;
+  effect = λ t op. refl;
+  did = λ s ops op. refl;
+  active = λ a. refl;
+  staged = λ rs. refl;
+}
+answer_counts (reply.Found v) h = record {
+  found = refl;
+  effect = λ t op. refl;
+  did = λ s ops op. refl;
+  active = λ a. refl;
+  staged = λ rs. refl;
+}
+answer_counts reply.Absent h = record {
+  found = refl;
+  effect = λ t op. refl;
+  did = λ s ops op. refl;
+  active = λ a. refl;
+  staged = λ rs. refl;
+}
+answer_counts (reply.Rows rows) h = record {
+  found = refl;
+  effect = λ t op. refl;
+  did = λ s ops op. refl;
+  active = λ a. refl;
+  staged = λ rs. refl;
+}
+answer_counts (reply.Exists k) h = record {
+  found = refl;
+  effect = λ t op. refl;
+  did = λ s ops op. refl;
+  active = λ a. refl;
+  staged = λ rs. refl;
+}
+answer_counts reply.Missing h = record {
+  found = refl;
+  effect = λ t op. refl;
+  did = λ s ops op. refl;
+  active = λ a. refl;
+  staged = λ rs. refl;
+}
+answer_counts reply.NoMark h = record {
+  found = refl;
+  effect = λ t op. refl;
+  did = λ s ops op. refl;
+  active = λ a. refl;
+  staged = λ rs. refl;
+}
 answer_counts _ h = absurd (false≢true h)
 
 module _ (begun commits runs : ℕ) (m : PlainMap) (body : List Answered) (staged : Records) where
@@ -137,33 +196,51 @@ module _ (begun commits runs : ℕ) (m : PlainMap) (body : List Answered) (stage
   early : (op : Op) → due_early (machine_at here) begun op ≡ refusal_before_lock true (length body) runs op
   early op = ap (λ b. refusal_before_lock (b || false) (length (cond b body [])) runs op) (nat_eq_equiv.refl begun)
 
-  late : (op : Op) → due_lock (machine_at here) begun op ≡ lock_refusal None (is_one_too_many (locks_of ops) (lock_of op))
+  late : (op : Op) → due_lock (machine_at here) begun op ≡ lock_refusal None
+      (is_one_too_many (locks_of ops) (lock_of op))
   late op = ap
-      (λ b. lock_refusal (cond (not b && clashes (lock_of op) (locks_of ops)) (Some begun) None) (is_one_too_many (locks_of (ops_of (cond b body []))) (lock_of op)))
+      (λ b. lock_refusal (cond (not b && clashes (lock_of op) (locks_of ops)) (Some begun) None)
+      (is_one_too_many (locks_of (ops_of (cond b body []))) (lock_of op)))
       (nat_eq_equiv.refl begun)
 
   -- the refusal that the machine owes is the one that is due alone
   pub due_is : (op : Op) → due (machine_at here) begun op ≡ refusal_due (state_at here) ops op
   due_is op =
       (λ i. or_else (early op i) (late op i))
-      ∙ ap (λ n. or_else (refusal_before_lock true n runs op) (lock_refusal None (is_one_too_many (locks_of ops) (lock_of op)))) (sym (length-map body (λ (a : Answered). a.0)))
+      ∙ ap (λ n. or_else (refusal_before_lock true n runs op)
+      (lock_refusal None (is_one_too_many (locks_of ops) (lock_of op))))
+      (sym (length-map body (λ (a : Answered). a.0)))
 
   -- it is never want of memory
-  pub due_found : (op : Op) (w : Refusal) → refusal_due (state_at here) ops op ≡ Some w → wants_memory (Replied (reply.Refused w)) ≡ false
+  pub due_found : (op : Op) (w : Refusal) → refusal_due (state_at here) ops op ≡ Some w →
+      wants_memory (Replied (reply.Refused w)) ≡ false
   due_found op w h =
-      early_found (nat_le 4096 (length ops)) (not (is_orderly op)) (not (is_bounded op)) (is_load op && nat_le 65535 runs)
-      (lock_refusal None (is_one_too_many (locks_of ops) (lock_of op))) w (late_found (is_one_too_many (locks_of ops) (lock_of op))) h
+      early_found (nat_le 4096 (length ops)) (not (is_orderly op)) (not (is_bounded op))
+      (is_load op && nat_le 65535 runs)
+      (lock_refusal None (is_one_too_many (locks_of ops) (lock_of op))) w
+      (late_found (is_one_too_many (locks_of ops) (lock_of op))) h
 
   -- ---- steps
 
-  pub next_did : (op : Op) (r : Reply) → next (machine_at here) (Answers begun op r) ≡ machine_at (record here { runs = runs + runs_made op r; own = Some (body ++ (op, r) ∷ []) })
-  next_did op r = λ i. record (machine_at here) { runs = runs + runs_made op r; active = (begun, cond (nat_eq_equiv.refl begun i) (body ++ (op, r) ∷ []) body) ∷ [] }
+  pub next_did : (op : Op) (r : Reply) → next (machine_at here) (Answers begun op r) ≡ machine_at
+      (record here { runs = runs + runs_made op r; own = Some (body ++ (op, r) ∷ []) })
+  next_did op r = λ i. record (machine_at here) {
+    runs = runs + runs_made op r;
+    active = (begun, cond (nat_eq_equiv.refl begun i) (body ++ (op, r) ∷ []) body) ∷ [];
+  }
 
-  pub next_committed : next (machine_at here) (Commits begun) ≡ machine_at (record here { commits = commits + 1; committed = left ops m; own = None })
-  next_committed = λ i. record (machine_at here) { commits = commits + 1; committed = (one_view i).map; active = cond (not (nat_eq_equiv.refl begun i)) ((begun, body) ∷ []) [] }
+  pub next_committed : next (machine_at here) (Commits begun) ≡ machine_at
+      (record here { commits = commits + 1; committed = left ops m; own = None })
+  next_committed = λ i. record (machine_at here) {
+    commits = commits + 1;
+    committed = (one_view i).map;
+    active = cond (not (nat_eq_equiv.refl begun i)) ((begun, body) ∷ []) [];
+  }
 
   pub next_aborted : next (machine_at here) (Aborts begun) ≡ machine_at (record here { own = None })
-  next_aborted = λ i. record (machine_at here) { active = cond (not (nat_eq_equiv.refl begun i)) ((begun, body) ∷ []) [] }
+  next_aborted = λ i. record (machine_at here) {
+    active = cond (not (nat_eq_equiv.refl begun i)) ((begun, body) ∷ []) [];
+  }
 
   pub ops_did : (op : Op) (r : Reply) → ops_of (body ++ (op, r) ∷ []) ≡ ops ++ op ∷ []
   ops_did op r = map-append (λ (a : Answered). a.0) body ((op, r) ∷ [])

@@ -13,7 +13,8 @@ mode_for-mode_word Exclusive = refl
 
 pub mode_word-mode_for : (field : List ℕ) (m : Mode) → mode_for field ≡ Some m → mode_word m ≡ field
 mode_word-mode_for field m =
-    cond_both (bytes_eq field (codes "S")) (Some Shared) (cond (bytes_eq field (codes "X")) (Some Exclusive) None) (λ o. o ≡ Some m → mode_word m ≡ field)
+    cond_both (bytes_eq field (codes "S")) (Some Shared) (cond (bytes_eq field (codes "X")) (Some Exclusive) None)
+    (λ o. o ≡ Some m → mode_word m ≡ field)
     (λ t e. let same : Shared ≡ m = cc in ap mode_word (sym same) ∙ sym ((bytes_eq-Decides field (codes "S")).0 t))
     (λ _. cond_both (bytes_eq field (codes "X")) (Some Exclusive) None (λ o. o ≡ Some m → mode_word m ≡ field)
     (λ t e. let same : Exclusive ≡ m = cc in ap mode_word (sym same) ∙ sym ((bytes_eq-Decides field (codes "X")).0 t))

@@ -1,5 +1,6 @@
 -- The fields of a line are the words that a space joins.
-use Rattle.std.proofs.Common.{◌≡◌, ℕ, ◌+◌, ◌-◌, ◌≤◌, Bool, true, false, not, eqb, ltb, cond, List, [], ◌∷◌, length, take, drop, Option, Some, None, All, refl, ap, ◌∙◌, arith}
+use Rattle.std.proofs.Common.{◌≡◌, ℕ, ◌+◌, ◌-◌, ◌≤◌, Bool, true, false, not, eqb, ltb, cond, List, [], ◌∷◌, length}
+use Rattle.std.proofs.Common.{take, drop, Option, Some, None, All, refl, ap, ◌∙◌, arith}
 use Rattle.std.specs.List.{join_with_byte, list_all, position_or_len, onto_first, AllByRecursion}
 use Rattle.std.proofs.lemmas.Bool.{ltb-true, ltb-false, not-true, cond_both, and_parts, and_from}
 use Rattle.std.proofs.lemmas.Grind.{common_steps}
@@ -8,10 +9,13 @@ use Rattle.std.proofs.lemmas.List.Sums.{fails_before_first, AllPass-from_list_al
 use Rattle.am_text.specs.Fields.{line_fields, has_no_space}
 
 -- a split at the place of the first space
-pub line_fields-at : (line : List ℕ) (k : ℕ) → cond (ltb (position_or_len (λ b. eqb b 32) line) (length line)) (Some (position_or_len (λ b. eqb b 32) line)) None ≡ Some k → line_fields line ≡ take k line ∷ line_fields (take (length line - (k + 1)) (drop (k + 1) line))
+pub line_fields-at : (line : List ℕ) (k : ℕ) → cond (ltb (position_or_len (λ b. eqb b 32) line) (length line))
+    (Some (position_or_len (λ b. eqb b 32) line)) None ≡ Some k → line_fields line ≡ take k line ∷ line_fields
+    (take (length line - (k + 1)) (drop (k + 1) line))
 line_fields-at line k =
     let place = position_or_len (λ b. eqb b 32) line in
-    let P : Option ℕ → Type 0 = λ o. o ≡ Some k → line_fields line ≡ take k line ∷ line_fields (take (length line - (k + 1)) (drop (k + 1) line)) in
+    let P : Option ℕ → Type 0 = λ o. o ≡ Some k → line_fields line ≡ take k line ∷ line_fields
+    (take (length line - (k + 1)) (drop (k + 1) line)) in
     cond_both (ltb place (length line)) (Some place) None P
     (λ inside found.
     let same : place ≡ k = cc in
@@ -22,7 +26,8 @@ line_fields-at line k =
     (λ _ found. cc)
 
 -- no space: the line is one field
-pub line_fields-one : (line : List ℕ) → cond (ltb (position_or_len (λ b. eqb b 32) line) (length line)) (Some (position_or_len (λ b. eqb b 32) line)) None ≡ None → line_fields line ≡ line ∷ []
+pub line_fields-one : (line : List ℕ) → cond (ltb (position_or_len (λ b. eqb b 32) line) (length line))
+    (Some (position_or_len (λ b. eqb b 32) line)) None ≡ None → line_fields line ≡ line ∷ []
 line_fields-one line =
     let place = position_or_len (λ b. eqb b 32) line in
     let P : Option ℕ → Type 0 = λ o. o ≡ None → line_fields line ≡ line ∷ [] in
@@ -41,20 +46,23 @@ pub line_fields-some : (line : List ℕ) → (f : List ℕ) × (fs : List (List 
 line_fields-some [] = ([], [], refl)
 line_fields-some (b ∷ bs) =
     let P : List (List ℕ) → Type 0 = λ parts. (f : List ℕ) × (fs : List (List ℕ)) × (parts ≡ f ∷ fs) in
-    cond_both (eqb b 32) ([] ∷ line_fields bs) (onto_first b (line_fields bs)) P (λ _. ([], line_fields bs, refl)) (λ _. onto_first-cons b (line_fields bs))
+    cond_both (eqb b 32) ([] ∷ line_fields bs) (onto_first b (line_fields bs)) P (λ _. ([], line_fields bs, refl))
+    (λ _. onto_first-cons b (line_fields bs))
 
 no_space : (word : List ℕ) → has_no_space word ≡ true → All (λ b. eqb b 32 ≡ false) word
 no_space word h = λ k d inside. not-true _ (AllPass-from_list_all (λ b. not (eqb b 32)) word h k d inside)
 
 -- words that a space joins are the fields
-pub line_fields-join : (word : List ℕ) (words : List (List ℕ)) → has_no_space word ≡ true → AllByRecursion (λ w. has_no_space w ≡ true) words → line_fields (join_with_byte 32 (word ∷ words)) ≡ word ∷ words
+pub line_fields-join : (word : List ℕ) (words : List (List ℕ)) → has_no_space word ≡ true →
+    AllByRecursion (λ w. has_no_space w ≡ true) words → line_fields (join_with_byte 32 (word ∷ words)) ≡ word ∷ words
 line_fields-join word [] h hs = slice_split_none (λ b. eqb b 32) word (no_space word h)
 line_fields-join word (next ∷ words) h hs =
     slice_split_at (λ b. eqb b 32) word 32 (join_with_byte 32 (next ∷ words)) (no_space word h) refl
     ∙ ap (λ parts. word ∷ parts) (line_fields-join next words hs.0 hs.1)
 
 -- a test that others imply
-pub list_all-weaker : (p q : ℕ → Bool) → ((b : ℕ) → p b ≡ true → q b ≡ true) → (bs : List ℕ) → list_all p bs ≡ true → list_all q bs ≡ true
+pub list_all-weaker : (p q : ℕ → Bool) → ((b : ℕ) → p b ≡ true → q b ≡ true) → (bs : List ℕ) → list_all p bs ≡ true →
+    list_all q bs ≡ true
 list_all-weaker p q f [] h = refl
 list_all-weaker p q f (b ∷ bs) h =
     let parts = and_parts (p b) (list_all p bs) h in

@@ -18,10 +18,12 @@ some_bytes text = (λ h. grind (arith, nat_tests), λ h. grind (arith, nat_tests
 pub is_value_text-Decides : (text : List ℕ) → Decides (is_value_text text) (IsValueText text)
 is_value_text-Decides text =
     Decides-and (not (eqb (length text) 0)) (list_all is_ascii_graphic text) (some_bytes text)
-    (Decides-by_and is_ascii_graphic (λ b. (0x21 ≤ b) × (b ≤ 0x7E)) (list_all is_ascii_graphic) graphic refl (λ _ _. refl) text)
+    (Decides-by_and is_ascii_graphic (λ b. (0x21 ≤ b) × (b ≤ 0x7E)) (list_all is_ascii_graphic) graphic refl
+    (λ _ _. refl) text)
 
 graphic-no_space : (b : ℕ) → is_ascii_graphic b ≡ true → not (eqb b 32) ≡ true
 graphic-no_space b h = grind (arith, nat_tests)
 
 pub IsValueText-no_space : (value : List ℕ) → IsValueText value → has_no_space value ≡ true
-IsValueText-no_space value h = list_all-weaker is_ascii_graphic (λ b. not (eqb b 32)) graphic-no_space value (and_parts (not (eqb (length value) 0)) (list_all is_ascii_graphic value) ((is_value_text-Decides value).1 h)).1
+IsValueText-no_space value h = list_all-weaker is_ascii_graphic (λ b. not (eqb b 32)) graphic-no_space value
+    (and_parts (not (eqb (length value) 0)) (list_all is_ascii_graphic value) ((is_value_text-Decides value).1 h)).1

@@ -4,7 +4,8 @@ use Rattle.std.specs.Prelude.{bytes_eq, find}
 use Rattle.std.proofs.lemmas.Slice.Eq.{bytes_eq-Decides}
 use Rattle.am_text.specs.Verbs.{word_of, verb_for, verbs}
 use Rattle.am_text.specs.declared.verb.Verb.{Verb}
-use Rattle.am_text.specs.declared.verb.Verb.TheVariants.{Begin, Get, Scan, Insert, Replace, Delete, Load, Stage, Lock, Mark, Back, Commit, Abort, Merge, Clean, Seen, Quit}
+use Rattle.am_text.specs.declared.verb.Verb.TheVariants.{Begin, Get, Scan, Insert, Replace, Delete, Load, Stage, Lock}
+use Rattle.am_text.specs.declared.verb.Verb.TheVariants.{Mark, Back, Commit, Abort, Merge, Clean, Seen, Quit}
 use Rattle.am_text.specs.Fields.{has_no_space}
 
 pub verb_for-word_of : (verb : Verb) → verb_for (word_of verb) ≡ Some verb
@@ -51,11 +52,13 @@ found_passes : (test : Verb → Bool) (all : List Verb) (verb : Verb) → find t
 found_passes test [] verb e = cc
 found_passes test (v ∷ vs) verb e = first (test v) v (find test vs) verb refl (λ h. found_passes test vs verb h) e
   where
-    first : (b : Bool) (v : Verb) (rest : Option Verb) (verb : Verb) → test v ≡ b → (rest ≡ Some verb → test verb ≡ true) → cond b (Some v) rest ≡ Some verb → test verb ≡ true
+    first : (b : Bool) (v : Verb) (rest : Option Verb) (verb : Verb) → test v ≡ b →
+        (rest ≡ Some verb → test verb ≡ true) → cond b (Some v) rest ≡ Some verb → test verb ≡ true
     first true v rest verb t others e = cc
     first false v rest verb t others e = others e
 
 -- the verb that is found for a word has it
 pub word_of-verb_for : (word : List ℕ) (verb : Verb) → verb_for word ≡ Some verb → word_of verb ≡ word
 unfolding verb_for
-word_of-verb_for word verb e = (bytes_eq-Decides (word_of verb) word).0 (found_passes (λ v. bytes_eq (word_of v) word) verbs verb e)
+word_of-verb_for word verb e = (bytes_eq-Decides (word_of verb) word).0
+    (found_passes (λ v. bytes_eq (word_of v) word) verbs verb e)

@@ -1,5 +1,6 @@
 -- A text is cut at its first byte of a kind in one way.
-use Rattle.std.proofs.Common.{◌≡◌, ℕ, ◌<◌, ◌≤◌, ltb, eqb, not, true, cond, List, [], ◌∷◌, ◌++◌, length, get_or, take, Some, None, refl, sym, ap, ◌∙◌, arith, append_assoc}
+use Rattle.std.proofs.Common.{◌≡◌, ℕ, ◌<◌, ◌≤◌, ltb, eqb, not, true, cond, List, [], ◌∷◌, ◌++◌, length, get_or, take}
+use Rattle.std.proofs.Common.{Some, None, refl, sym, ap, ◌∙◌, arith, append_assoc}
 use Rattle.std.specs.Prelude.{codes}
 use Rattle.std.specs.List.{position_or_len}
 use Rattle.std.proofs.lemmas.Bool.{cond_both, ltb-true, ltb-false, and_parts, and_from}
@@ -9,14 +10,16 @@ use Rattle.std.proofs.lemmas.List.Sums.{fails_before_first, list_all-from_AllPas
 use Rattle.am_trace.specs.Cuts.{has_no, IsParted}
 
 -- no byte of the kind stands before the first
-none_before : (c : ℕ) (text : List ℕ) (k : ℕ) → k ≤ position_or_len (λ b. eqb b c) text → k ≤ length text → has_no c (take k text) ≡ true
+none_before : (c : ℕ) (text : List ℕ) (k : ℕ) → k ≤ position_or_len (λ b. eqb b c) text → k ≤ length text →
+    has_no c (take k text) ≡ true
 none_before c text k e inside =
     list_all-from_AllPass (λ b. not (eqb b c)) (take k text) (λ j d h.
     let below : j < k = grind (arith, common_steps) in
     let same : get_or (take k text) j d ≡ get_or text j d = grind (arith, common_steps) in
     ap (λ b. not (eqb b c)) same ∙ ap not (fails_before_first (λ b. eqb b c) text j d (omega arith)))
 
-pub before_cut : (c : ℕ) (text : List ℕ) (k : ℕ) → cond (ltb (position_or_len (λ b. eqb b c) text) (length text)) (Some (position_or_len (λ b. eqb b c) text)) None ≡ Some k → has_no c (take k text) ≡ true
+pub before_cut : (c : ℕ) (text : List ℕ) (k : ℕ) → cond (ltb (position_or_len (λ b. eqb b c) text) (length text))
+    (Some (position_or_len (λ b. eqb b c) text)) None ≡ Some k → has_no c (take k text) ≡ true
 before_cut c text k =
     let place = position_or_len (λ b. eqb b c) text in
     cond_both (ltb place (length text)) (Some place) None (λ o. o ≡ Some k → has_no c (take k text) ≡ true)
@@ -26,28 +29,32 @@ before_cut c text k =
     none_before c text k (omega (arith, same)) (omega (arith, below, same)))
     (λ _ found. cc)
 
-pub not_cut : (c : ℕ) (text : List ℕ) → cond (ltb (position_or_len (λ b. eqb b c) text) (length text)) (Some (position_or_len (λ b. eqb b c) text)) None ≡ None → has_no c text ≡ true
+pub not_cut : (c : ℕ) (text : List ℕ) → cond (ltb (position_or_len (λ b. eqb b c) text) (length text))
+    (Some (position_or_len (λ b. eqb b c) text)) None ≡ None → has_no c text ≡ true
 not_cut c text =
     let place = position_or_len (λ b. eqb b c) text in
     cond_both (ltb place (length text)) (Some place) None (λ o. o ≡ None → has_no c text ≡ true)
     (λ inside found. cc)
     (λ past found.
     let end : length text ≤ place = ltb-false place (length text) past in
-    list_all-from_AllPass (λ b. not (eqb b c)) text (λ j d h. ap not (fails_before_first (λ b. eqb b c) text j d (omega arith))))
+    list_all-from_AllPass (λ b. not (eqb b c)) text
+    (λ j d h. ap not (fails_before_first (λ b. eqb b c) text j d (omega arith))))
 
 -- the byte of the kind isn't among those before the cut
 heads : (c b : ℕ) (rest : List ℕ) → has_no c (b ∷ rest) ≡ true → b ≡ c → ⊥
 heads c b rest h e = let p = (and_parts (not (eqb b c)) (has_no c rest) h).0 in grind (arith, nat_tests, p, e)
 
 -- there is one way to cut
-pub one_cut : (c : ℕ) (a b x y : List ℕ) → has_no c a ≡ true → has_no c x ≡ true → a ++ c ∷ b ≡ x ++ c ∷ y → (a ≡ x) × (b ≡ y)
+pub one_cut : (c : ℕ) (a b x y : List ℕ) → has_no c a ≡ true → has_no c x ≡ true → a ++ c ∷ b ≡ x ++ c ∷ y → (a ≡ x) ×
+    (b ≡ y)
 one_cut c [] b [] y h k e = (refl, cc)
 one_cut c [] b (d ∷ x) y h k e = absurd (heads c d x k cc)
 one_cut c (d ∷ a) b [] y h k e = absurd (heads c d a h cc)
 one_cut c (d ∷ a) b (f ∷ x) y h k e =
     let rest : a ++ c ∷ b ≡ x ++ c ∷ y = cc in
     let first : d ≡ f = cc in
-    let more = one_cut c a b x y (and_parts (not (eqb d c)) (has_no c a) h).1 (and_parts (not (eqb f c)) (has_no c x) k).1 rest in
+    let more = one_cut c a b x y (and_parts (not (eqb d c)) (has_no c a) h).1
+    (and_parts (not (eqb f c)) (has_no c x) k).1 rest in
     (ap (λ z. z ∷ a) first ∙ ap (λ z. f ∷ z) more.0, more.1)
 
 pub not_there : (c : ℕ) (a b text : List ℕ) → has_no c text ≡ true → text ≡ a ++ c ∷ b → ⊥
@@ -63,10 +70,12 @@ has_no-append c (d ∷ a) b h k =
     and_from (not (eqb d c)) (has_no c (a ++ b)) p.0 (has_no-append c a b p.1 k)
 
 -- the two parts of a line, by its cut at the bar
-pub parts_by_cut : (line before after step reply : List ℕ) → line ≡ before ++ 124 ∷ after → has_no 124 before ≡ true → IsParted line step reply → (before ≡ step ++ 32 ∷ []) × (after ≡ 32 ∷ reply)
+pub parts_by_cut : (line before after step reply : List ℕ) → line ≡ before ++ 124 ∷ after → has_no 124 before ≡ true →
+    IsParted line step reply → (before ≡ step ++ 32 ∷ []) × (after ≡ 32 ∷ reply)
 parts_by_cut line before after step reply e none h =
     let with_space : has_no 124 (step ++ 32 ∷ []) ≡ true = has_no-append 124 step (32 ∷ []) h.first refl in
-    let regrouped : step ++ codes " | " ++ reply ≡ (step ++ 32 ∷ []) ++ 124 ∷ 32 ∷ reply = append_assoc step (codes " | ") reply ∙ sym (append_assoc step (32 ∷ []) (124 ∷ 32 ∷ reply)) in
+    let regrouped : step ++ codes " | " ++ reply ≡ (step ++ 32 ∷ []) ++ 124 ∷ 32 ∷ reply =
+    append_assoc step (codes " | ") reply ∙ sym (append_assoc step (32 ∷ []) (124 ∷ 32 ∷ reply)) in
     one_cut 124 before after (step ++ 32 ∷ []) (32 ∷ reply) none with_space (sym e ∙ h.parted ∙ regrouped)
 
 -- what is the last byte of a text

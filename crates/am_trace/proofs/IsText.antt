@@ -11,16 +11,20 @@ pub record IsText {T A : Type 0} (read : T → Option A) (write : A → T) (fits
 
 -- ---- options taken apart
 
-pub zipped : {A B : Type 0} (o : Option A) (p : Option B) (x : A × B) → option_zip o p ≡ Some x → (o ≡ Some x.0) × (p ≡ Some x.1)
+pub zipped : {A B : Type 0} (o : Option A) (p : Option B) (x : A × B) → option_zip o p ≡ Some x → (o ≡ Some x.0) ×
+    (p ≡ Some x.1)
 zipped None None x e = cc
 zipped None (Some b) x e = cc
 zipped (Some a) None x e = cc
-zipped {A} {B} (Some a) (Some b) x e = let same : (a, b) ≡ x = cc in (ap (λ (y : A × B). Some y.0) same, ap (λ (y : A × B). Some y.1) same)
+zipped {A} {B} (Some a) (Some b) x e = let same : (a, b) ≡ x = cc in
+    (ap (λ (y : A × B). Some y.0) same, ap (λ (y : A × B). Some y.1) same)
 
-pub zip_of : {A B : Type 0} (o : Option A) (p : Option B) (a : A) (b : B) → o ≡ Some a → p ≡ Some b → option_zip o p ≡ Some (a, b)
+pub zip_of : {A B : Type 0} (o : Option A) (p : Option B) (a : A) (b : B) → o ≡ Some a → p ≡ Some b →
+    option_zip o p ≡ Some (a, b)
 zip_of o p a b e f = ap (λ x. option_zip x p) e ∙ ap (option_zip (Some a)) f
 
-pub chained : {A B : Type 0} (f : A → Option B) (o : Option A) (b : B) → option_and_then f o ≡ Some b → (a : A) × (o ≡ Some a) × (f a ≡ Some b)
+pub chained : {A B : Type 0} (f : A → Option B) (o : Option A) (b : B) → option_and_then f o ≡ Some b → (a : A) ×
+    (o ≡ Some a) × (f a ≡ Some b)
 chained f None b e = cc
 chained f (Some a) b e = (a, refl, e)
 
@@ -38,7 +42,8 @@ module _ {A : Type 0} (r : List ℕ → Option A) (w : A → List ℕ) (P : A �
   pub one_field : IsText (field_in r) (λ a. w a ∷ []) P
   one_field = record { there = h.there; back = one_back }
 
-module _ {A B : Type 0} (r : List ℕ → Option A) (w : A → List ℕ) (P : A → Type 0) (h : IsText r w P) (s : List ℕ → Option B) (u : B → List ℕ) (Q : B → Type 0) (k : IsText s u Q) where
+module _ {A B : Type 0} (r : List ℕ → Option A) (w : A → List ℕ) (P : A → Type 0) (h : IsText r w P)
+    (s : List ℕ → Option B) (u : B → List ℕ) (Q : B → Type 0) (k : IsText s u Q) where
   two_there : (x : A × B) → P x.0 × Q x.1 → fields_in r s (w x.0 ∷ u x.1 ∷ []) ≡ Some x
   two_there x p = zip_of (r (w x.0)) (s (u x.1)) x.0 x.1 (h.there x.0 p.0) (k.there x.1 p.1)
 

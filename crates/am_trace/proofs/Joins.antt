@@ -14,10 +14,14 @@ join_is word [] = sym (append-nil word)
 join_is word (f ∷ fs) = ap (λ rest. word ++ 32 ∷ rest) (join_is f fs)
 
 -- records behind some fields
-pub joined_records : (words : List (List ℕ)) (v : Version) (rs : List (OrderedKey × List ℕ)) (word : List ℕ) → join_with_byte 32 (word ∷ words) ++ flat_map (λ (r : OrderedKey × List ℕ). 32 ∷ record_word v r) rs ≡ join_with_byte 32 (word ∷ (words ++ map (record_word v) rs))
+pub joined_records : (words : List (List ℕ)) (v : Version) (rs : List (OrderedKey × List ℕ)) (word : List ℕ) →
+    join_with_byte 32 (word ∷ words) ++ flat_map (λ (r : OrderedKey × List ℕ). 32 ∷ record_word v r) rs ≡ join_with_byte
+    32 (word ∷ (words ++ map (record_word v) rs))
 joined_records [] v [] word = append-nil word
 joined_records [] v (r ∷ rs) word = ap (λ rest. word ++ 32 ∷ rest) (joined_records [] v rs (record_word v r))
-joined_records (w ∷ words) v rs word = append_assoc word (32 ∷ join_with_byte 32 (w ∷ words)) (flat_map (λ (r : OrderedKey × List ℕ). 32 ∷ record_word v r) rs) ∙ ap (λ rest. word ++ 32 ∷ rest) (joined_records words v rs w)
+joined_records (w ∷ words) v rs word = append_assoc word (32 ∷ join_with_byte 32 (w ∷ words))
+    (flat_map (λ (r : OrderedKey × List ℕ). 32 ∷ record_word v r) rs) ∙
+    ap (λ rest. word ++ 32 ∷ rest) (joined_records words v rs w)
 
 pub on_ok : {A E : Type 0} (r : Result A E) (P Q : Type 0) → (P → Q) → OnOk r P → OnOk r Q
 on_ok (Ok x) P Q f h = f h

@@ -1,5 +1,6 @@
 -- The notes above a mark taken back one by one.
-use Rattle.std.proofs.Common.{◌≡◌, ℕ, ◌-◌, ◌<◌, ◌≤◌, List, [], ◌∷◌, ◌++◌, length, reverse, take, drop, arith, refl, sym, ap, ◌∙◌, length-drop, length-append}
+use Rattle.std.proofs.Common.{◌≡◌, ℕ, ◌-◌, ◌<◌, ◌≤◌, List, [], ◌∷◌, ◌++◌, length, reverse, take, drop, arith, refl, sym}
+use Rattle.std.proofs.Common.{ap, ◌∙◌, length-drop, length-append}
 use Rattle.std.proofs.lemmas.List.{drop-append-le, take-append-le, take-append-drop, append-nil}
 use Rattle.std.proofs.Math.ListN.{drop_of_length-le}
 use Rattle.am_record.specs.OrderedKey.{OrderedKey}
@@ -14,15 +15,18 @@ pub record Above (was : List Entry) (items : List Note) (mark : ℕ) (left : Lis
   pub undone : Undone was (reverse (drop mark items)) (drop mark left) es
   pub kept : take mark left ≡ take mark items
 
-module _ {was : List Entry} {items : List Note} {mark : ℕ} {left : List Note} {es : List Entry} (a : Above was items mark left es) where
+module _ {was : List Entry} {items : List Note} {mark : ℕ} {left : List Note} {es : List Entry}
+    (a : Above was items mark left es) where
   pub above_ended : length left ≤ mark → TakesBack (reverse (drop mark items)) was es
-  above_ended few = ended a.undone (λ more. let none : length (drop mark left) ≡ 0 = length-drop mark left ∙ omega arith in omega arith)
+  above_ended few = ended a.undone (λ more. let none : length (drop mark left) ≡ 0 = length-drop mark left ∙ omega arith
+      in omega arith)
 
   pub above_kept : length left ≤ mark → left ≡ take mark items
   above_kept few = sym (take_whole mark left few) ∙ a.kept
     where
       take_whole : (n : ℕ) (xs : List Note) → length xs ≤ n → take n xs ≡ xs
-      take_whole n xs h = sym (append-nil (take n xs)) ∙ ap (λ ys. take n xs ++ ys) (sym (drop_of_length-le xs h)) ∙ take-append-drop n xs
+      take_whole n xs h = sym (append-nil (take n xs)) ∙ ap (λ ys. take n xs ++ ys) (sym (drop_of_length-le xs h)) ∙
+          take-append-drop n xs
 
   module _ (some : mark < length left) (older : List Note) (n : Note) (is : left ≡ older ++ n ∷ []) where
     low : mark ≤ length older
@@ -37,7 +41,8 @@ module _ {was : List Entry} {items : List Note} {mark : ℕ} {left : List Note} 
     pub above_one : OneLive (back_at n (find es))
     above_one = next_one a.undone (drop mark older) n newest
 
-    pub above_goes_on : (es' : List Entry) → ((part : ℕ) (key : OrderedKey) → find es' part key ≡ back_one n part key (find es part key)) → IsRising es' → Above was items mark older es'
+    pub above_goes_on : (es' : List Entry) → ((part : ℕ) (key : OrderedKey) → find es' part key ≡ back_one n part key
+        (find es part key)) → IsRising es' → Above was items mark older es'
     above_goes_on es' at rising = record {
       undone = goes_on a.undone (drop mark older) n newest es' at rising;
       kept = sym (ap (take mark) is ∙ take-append-le mark older (n ∷ []) low) ∙ a.kept;

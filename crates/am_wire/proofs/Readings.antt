@@ -1,5 +1,6 @@
 -- What a line is read as by its fields is what the grammar says, and nothing else is.
-use Rattle.std.proofs.Common.{◌≡◌, ◌≢◌, ℕ, List, [], ◌∷◌, Option, Some, None, Result, Ok, Err, ok_or, option_map, inl, inr, refl, sym, ap, subst, ◌∙◌}
+use Rattle.std.proofs.Common.{◌≡◌, ◌≢◌, ℕ, List, [], ◌∷◌, Option, Some, None, Result, Ok, Err, ok_or, option_map, inl}
+use Rattle.std.proofs.Common.{inr, refl, sym, ap, subst, ◌∙◌}
 use Rattle.std.proofs.lemmas.List.Splits.{join_with_byte-slice_split}
 use Rattle.std.specs.List.{join_with_byte}
 use Rattle.am_text.specs.Verbs.{word_of, verb_for}
@@ -43,23 +44,32 @@ form_in-form_fields form h =
 -- and by its line
 form_in-spelling : (form : Form) → IsProper form → form_in (line_fields (spelling form)) ≡ Some form
 form_in-spelling form h =
-    ap form_in (line_fields-join (word_of form.verb) (fields_of (verb_shape form.verb) form.arguments) (word_of-no_space form.verb) (fields_of-no_space (verb_shape form.verb) form.arguments h))
+    ap form_in (line_fields-join (word_of form.verb) (fields_of (verb_shape form.verb) form.arguments)
+    (word_of-no_space form.verb) (fields_of-no_space (verb_shape form.verb) form.arguments h))
     ∙ form_in-form_fields form h
 
 -- the form is proper, and these are its fields
 abbrev IsOf : List (List ℕ) → Form → Type 0
 IsOf fs form = IsProper form × (form_fields form ≡ fs)
 
-with_arguments : (word : List ℕ) (fs : List (List ℕ)) (v : Verb) (form : Form) (o : Option (Arguments (verb_shape v))) → word_of v ≡ word → arguments_in (verb_shape v) fs ≡ o → option_map (form_with v) o ≡ Some form → IsOf (word ∷ fs) form
+with_arguments : (word : List ℕ) (fs : List (List ℕ)) (v : Verb) (form : Form) (o : Option (Arguments (verb_shape v))) →
+    word_of v ≡ word → arguments_in (verb_shape v) fs ≡ o → option_map (form_with v) o ≡ Some form →
+    IsOf (word ∷ fs) form
 with_arguments word fs v form None w e f = cc
 with_arguments word fs v form (Some a) w e f =
     let read = fields_of-arguments_in (verb_shape v) fs a e in
     let same : form_with v a ≡ form = cc in
-    subst (IsOf (word ∷ fs)) same (read.0, ap (λ (x : List ℕ). x ∷ fields_of (verb_shape v) a) w ∙ ap (λ (xs : List (List ℕ)). word ∷ xs) read.1)
+    subst (IsOf (word ∷ fs)) same (
+      read.0,
+      ap (λ (x : List ℕ). x ∷ fields_of (verb_shape v) a) w ∙
+          ap (λ (xs : List (List ℕ)). word ∷ xs) read.1,
+    )
 
-with_verb : (word : List ℕ) (fs : List (List ℕ)) (form : Form) (o : Option Verb) → verb_for word ≡ o → form_by_verb o fs ≡ Some form → IsOf (word ∷ fs) form
+with_verb : (word : List ℕ) (fs : List (List ℕ)) (form : Form) (o : Option Verb) → verb_for word ≡ o →
+    form_by_verb o fs ≡ Some form → IsOf (word ∷ fs) form
 with_verb word fs form None e f = cc
-with_verb word fs form (Some v) e f = with_arguments word fs v form (arguments_in (verb_shape v) fs) (word_of-verb_for word v e) refl f
+with_verb word fs form (Some v) e f = with_arguments word fs v form (arguments_in (verb_shape v) fs)
+    (word_of-verb_for word v e) refl f
 
 form_fields-form_in : (fs : List (List ℕ)) (form : Form) → form_in fs ≡ Some form → IsOf fs form
 form_fields-form_in [] form e = cc
@@ -68,7 +78,8 @@ form_fields-form_in (word ∷ fs) form e = with_verb word fs form (verb_for word
 -- two proper forms with one line are one
 pub one_form : (a b : Form) → IsProper a → IsProper b → spelling a ≡ spelling b → a ≡ b
 one_form a b ha hb e =
-    let same : Some a ≡ Some b = sym (form_in-spelling a ha) ∙ ap (λ line. form_in (line_fields line)) e ∙ form_in-spelling b hb in
+    let same : Some a ≡ Some b = sym (form_in-spelling a ha) ∙ ap (λ line. form_in (line_fields line)) e ∙
+    form_in-spelling b hb in
     cc
 
 -- ---- what a line is read as
@@ -77,7 +88,8 @@ asked : {A : Type 0} (f : A → Request) (o : Option A) → map_ok f (ok_or o Ra
 asked f None = refl
 asked f (Some a) = refl
 
-judged_form : (v : Verb) (o : Option (Arguments (verb_shape v))) → map_ok (request_with v) (judged (values_for (verb_shape v)) o) ≡ judged request_of (option_map (form_with v) o)
+judged_form : (v : Verb) (o : Option (Arguments (verb_shape v))) →
+    map_ok (request_with v) (judged (values_for (verb_shape v)) o) ≡ judged request_of (option_map (form_with v) o)
 judged_form v None = refl
 judged_form v (Some a) = asked (request_with v) (values_for (verb_shape v) a)
 
@@ -90,7 +102,8 @@ by_form : (fs : List (List ℕ)) → fields_reading fs ≡ judged request_of (fo
 by_form [] = refl
 by_form (word ∷ fs) = by_verb (verb_for word) fs
 
-reads_request : (line : List ℕ) (form : Form) (o : Option Request) → IsProper form → line ≡ spelling form → request_of form ≡ o → Reads line (ok_or o Range)
+reads_request : (line : List ℕ) (form : Form) (o : Option Request) → IsProper form → line ≡ spelling form →
+    request_of form ≡ o → Reads line (ok_or o Range)
 reads_request line form None h e q = (form, h, e, q)
 reads_request line form (Some request) h e q = (form, h, e, q)
 
@@ -108,7 +121,8 @@ reads_form line (Some form) e =
 
 -- the reading by fields is in the grammar
 pub reads_reading : (line : List ℕ) → Reads line (reading line)
-reads_reading line = subst (Reads line) (sym (by_form (line_fields line))) (reads_form line (form_in (line_fields line)) refl)
+reads_reading line = subst (Reads line) (sym (by_form (line_fields line)))
+    (reads_form line (form_in (line_fields line)) refl)
 
 -- what may be read is in the grammar
 pub reads_what_may_be : (line : List ℕ) (r : Result Request LineFault) → MayRead (reading line) r → Reads line r
@@ -118,23 +132,27 @@ reads_what_may_be line r (inr refused) =
 
 reading-spelled : (line : List ℕ) (read : Option Request) → Spells line read → reading line ≡ ok_or read Range
 reading-spelled line read h =
-    by_form (line_fields line) ∙ ap (λ l. judged request_of (form_in (line_fields l))) h.2 ∙ ap (judged request_of) (form_in-spelling h.0 h.1) ∙ ap (λ o. ok_or o Range) h.3
+    by_form (line_fields line) ∙ ap (λ l. judged request_of (form_in (line_fields l))) h.2 ∙
+    ap (judged request_of) (form_in-spelling h.0 h.1) ∙ ap (λ o. ok_or o Range) h.3
 
-no_form : (line : List ℕ) (o : Option Form) → form_in (line_fields line) ≡ o → ((form : Form) → IsProper form → line ≢ spelling form) → judged request_of o ≡ Err Syntax
+no_form : (line : List ℕ) (o : Option Form) → form_in (line_fields line) ≡ o →
+    ((form : Form) → IsProper form → line ≢ spelling form) → judged request_of o ≡ Err Syntax
 no_form line None e none = refl
 no_form line (Some form) e none =
     let of_line = form_fields-form_in (line_fields line) form e in
     absurd (none form of_line.0 (spelled line form of_line.1))
 
 -- and nothing else is, but that memory may be refused
-pub reading-by_grammar : (line : List ℕ) (r : Result Request LineFault) → Reads line r → r ≢ Err NoMemory → reading line ≡ r
+pub reading-by_grammar : (line : List ℕ) (r : Result Request LineFault) → Reads line r → r ≢ Err NoMemory →
+    reading line ≡ r
 reading-by_grammar line (Ok request) h n = reading-spelled line (Some request) h
 reading-by_grammar line (Err Syntax) h n = by_form (line_fields line) ∙ no_form line (form_in (line_fields line)) refl h
 reading-by_grammar line (Err Range) h n = reading-spelled line None h
 reading-by_grammar line (Err NoMemory) h n = absurd (n refl)
 
 -- a line has one reading
-pub one_result : (line : List ℕ) (r s : Result Request LineFault) → Reads line r → Reads line s → r ≢ Err NoMemory → s ≢ Err NoMemory → r ≡ s
+pub one_result : (line : List ℕ) (r s : Result Request LineFault) → Reads line r → Reads line s → r ≢ Err NoMemory →
+    s ≢ Err NoMemory → r ≡ s
 one_result line r s h k m n = sym (reading-by_grammar line r h m) ∙ reading-by_grammar line s k n
 
 -- memory is refused of what brings records alone

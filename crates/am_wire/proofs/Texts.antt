@@ -1,13 +1,17 @@
 -- Texts without an LF.
-use Rattle.std.proofs.Common.{◌≡◌, ◌≢◌, ℕ, ◌/◌, ◌%◌, List, [], ◌∷◌, ◌++◌, refl, arith, false, Bool, true, cond, eqb, suc, zero, codes, subst, if◌then◌else◌, ◌==◌}
+use Rattle.std.proofs.Common.{◌≡◌, ◌≢◌, ℕ, ◌/◌, ◌%◌, List, [], ◌∷◌, ◌++◌, refl, arith, false, Bool, true, cond, eqb}
+use Rattle.std.proofs.Common.{suc, zero, codes, subst, if◌then◌else◌, ◌==◌}
 use Rattle.std.specs.Prelude.{All, length}
 use Rattle.std.specs.Fmt.{digits, digits_onto, digit_glyph, decimal}
 use Rattle.std.proofs.lemmas.Bool.Decides.{nat_tests}
 use Rattle.std.proofs.lemmas.List.Elements.{All-head, All-tail}
 use Rattle.am_record.specs.declared.step.Reply.{Reply}
-use Rattle.am_record.specs.declared.step.Reply.TheVariants.{Begun, Done, Found, Absent, Rows, Exists, Missing, Committed, Aborted, Moved, MergeDone, Ended, Idle, Cleaned, NoMark, Refused}
+use Rattle.am_record.specs.declared.step.Reply.TheVariants.{Begun, Done, Found, Absent, Rows, Exists, Missing}
+use Rattle.am_record.specs.declared.step.Reply.TheVariants.{Committed, Aborted, Moved, MergeDone, Ended, Idle, Cleaned}
+use Rattle.am_record.specs.declared.step.Reply.TheVariants.{NoMark, Refused}
 use Rattle.am_record.specs.declared.step.Refusal.{Refusal}
-use Rattle.am_record.specs.declared.step.Refusal.TheVariants.{NoSuchTx, Busy, TooManyTx, TooManyLocks, TooManyOps, TooManyRuns, NotRising, BadLimit, NoMemory, SeatFull}
+use Rattle.am_record.specs.declared.step.Refusal.TheVariants.{NoSuchTx, Busy, TooManyTx, TooManyLocks, TooManyOps}
+use Rattle.am_record.specs.declared.step.Refusal.TheVariants.{TooManyRuns, NotRising, BadLimit, NoMemory, SeatFull}
 use Rattle.am_stream.specs.Lines.{HasNoLf}
 use Rattle.std.specs.List.{AllByRecursion}
 use Rattle.am_record.specs.OrderedKey.{OrderedKey}
@@ -37,7 +41,9 @@ onto : (k n : ℕ) (acc : List ℕ) → HasNoLf acc → HasNoLf (digits_onto k 1
 onto zero n acc h = h
 onto (suc k) n acc h =
     let last : HasNoLf (digit_glyph false (n % 10) ∷ acc) = (glyph (n % 10), h) in
-    choice (n / 10 == 0) (digit_glyph false (n % 10) ∷ acc) (digits_onto k 10 false (n / 10) (digit_glyph false (n % 10) ∷ acc)) last (onto k (n / 10) (digit_glyph false (n % 10) ∷ acc) last)
+    choice (n / 10 == 0) (digit_glyph false (n % 10) ∷ acc)
+    (digits_onto k 10 false (n / 10) (digit_glyph false (n % 10) ∷ acc)) last
+    (onto k (n / 10) (digit_glyph false (n % 10) ∷ acc) last)
 
 pub HasNoLf-decimal : (n : ℕ) → HasNoLf (decimal n)
 unfolding digits
@@ -56,7 +62,8 @@ pub HasNoLf-free : (xs : List ℕ) → is_free xs ≡ true → HasNoLf xs
 unfolding is_free
 HasNoLf-free [] e = tt
 HasNoLf-free (c ∷ xs) e =
-    let first : c ≢ 10 = λ z. let f : false ≡ true = subst (λ (x : ℕ). cond (eqb x 10) false (is_free xs) ≡ true) z e in cc in
+    let first : c ≢ 10 = λ z. let f : false ≡ true = subst (λ (x : ℕ). cond (eqb x 10) false (is_free xs) ≡ true) z e in
+    cc in
     (first, HasNoLf-free xs (rest_free (eqb c 10) (is_free xs) e))
 
 behind : (xs : List ℕ) (n : ℕ) → is_free xs ≡ true → HasNoLf (xs ++ decimal n)
@@ -76,31 +83,42 @@ HasNoLf-refusal_words NoMemory = HasNoLf-free (codes "ERR MEMORY") refl
 HasNoLf-refusal_words SeatFull = HasNoLf-free (codes "ERR FULL") refl
 
 HasNoLf-row_words : (row : OrderedKey × List ℕ) → IsVisibleRow row → HasNoLf (row_words row)
-HasNoLf-row_words row h = (λ e. omega (arith, e), HasNoLf-append (printed_key row.0) (0x3D ∷ row.1) (HasNoLf-visible (printed_key row.0) h.0) (λ e. omega (arith, e), HasNoLf-visible row.1 h.1))
+HasNoLf-row_words row h = (
+  λ e. omega (arith, e),
+  HasNoLf-append (printed_key row.0) (0x3D ∷ row.1)
+      (HasNoLf-visible (printed_key row.0) h.0) (λ e. omega (arith, e), HasNoLf-visible row.1 h.1),
+)
 
 HasNoLf-rows_words : (rows : Records) → AllByRecursion IsVisibleRow rows → HasNoLf (rows_words rows)
 HasNoLf-rows_words [] h = tt
-HasNoLf-rows_words (row ∷ rows) h = HasNoLf-append (row_words row) (rows_words rows) (HasNoLf-row_words row h.0) (HasNoLf-rows_words rows h.1)
+HasNoLf-rows_words (row ∷ rows) h = HasNoLf-append (row_words row) (rows_words rows) (HasNoLf-row_words row h.0)
+    (HasNoLf-rows_words rows h.1)
 
 -- a number behind a space
 then_number : (xs : List ℕ) (n : ℕ) → HasNoLf xs → HasNoLf ((xs ++ codes " ") ++ decimal n)
 unfolding is_free
-then_number xs n h = HasNoLf-append (xs ++ codes " ") (decimal n) (HasNoLf-append xs (codes " ") h (HasNoLf-free (codes " ") refl)) (HasNoLf-decimal n)
+then_number xs n h = HasNoLf-append (xs ++ codes " ") (decimal n)
+    (HasNoLf-append xs (codes " ") h (HasNoLf-free (codes " ") refl)) (HasNoLf-decimal n)
 
 pub HasNoLf-words_of : (r : Reply) → TellsVisible r → HasNoLf (words_of r)
 unfolding is_free
 HasNoLf-words_of (Begun tx) h = behind (codes "BEGUN ") tx refl
 HasNoLf-words_of Done h = HasNoLf-free (codes "OK") refl
-HasNoLf-words_of (Found value) h = HasNoLf-append (codes "VAL ") value (HasNoLf-free (codes "VAL ") refl) (HasNoLf-visible value h)
+HasNoLf-words_of (Found value) h = HasNoLf-append (codes "VAL ") value (HasNoLf-free (codes "VAL ") refl)
+    (HasNoLf-visible value h)
 HasNoLf-words_of Absent h = HasNoLf-free (codes "NONE") refl
-HasNoLf-words_of (Rows rows) h = HasNoLf-append (codes "ROWS " ++ decimal (length rows)) (rows_words rows) (behind (codes "ROWS ") (length rows) refl) (HasNoLf-rows_words rows h)
-HasNoLf-words_of (Exists key) h = HasNoLf-append (codes "EXISTS ") (printed_key key) (HasNoLf-free (codes "EXISTS ") refl) (HasNoLf-visible (printed_key key) h)
+HasNoLf-words_of (Rows rows) h = HasNoLf-append (codes "ROWS " ++ decimal (length rows)) (rows_words rows)
+    (behind (codes "ROWS ") (length rows) refl) (HasNoLf-rows_words rows h)
+HasNoLf-words_of (Exists key) h = HasNoLf-append (codes "EXISTS ") (printed_key key)
+    (HasNoLf-free (codes "EXISTS ") refl) (HasNoLf-visible (printed_key key) h)
 HasNoLf-words_of Missing h = HasNoLf-free (codes "MISSING") refl
 HasNoLf-words_of (Committed commit) h = behind (codes "COMMITTED ") commit refl
 HasNoLf-words_of Aborted h = HasNoLf-free (codes "ABORTED") refl
 HasNoLf-words_of (Moved n run) h = then_number (codes "MOVED " ++ decimal n) run (behind (codes "MOVED ") n refl)
 HasNoLf-words_of MergeDone h = HasNoLf-free (codes "DONE") refl
-HasNoLf-words_of (Ended key holder) h = then_number (codes "ENDED " ++ printed_key key) holder (HasNoLf-append (codes "ENDED ") (printed_key key) (HasNoLf-free (codes "ENDED ") refl) (HasNoLf-visible (printed_key key) h))
+HasNoLf-words_of (Ended key holder) h = then_number (codes "ENDED " ++ printed_key key) holder
+    (HasNoLf-append (codes "ENDED ") (printed_key key) (HasNoLf-free (codes "ENDED ") refl)
+    (HasNoLf-visible (printed_key key) h))
 HasNoLf-words_of Idle h = HasNoLf-free (codes "IDLE") refl
 HasNoLf-words_of (Cleaned n) h = behind (codes "CLEANED ") n refl
 HasNoLf-words_of NoMark h = HasNoLf-free (codes "NOMARK") refl

@@ -1,5 +1,6 @@
 -- What turns leave of a seat and of all seats, and what they gain.
-use Rattle.std.proofs.Common.{◌≡◌, ℕ, suc, ◌+◌, ◌<◌, ◌≤◌, List, [], ◌∷◌, ◌++◌, length, get_or, refl, sym, ap, ◌∙◌, arith, append_assoc, append-nil, length-append, None, Bool, true, false, MatchBool}
+use Rattle.std.proofs.Common.{◌≡◌, ℕ, suc, ◌+◌, ◌<◌, ◌≤◌, List, [], ◌∷◌, ◌++◌, length, get_or, refl, sym, ap, ◌∙◌}
+use Rattle.std.proofs.Common.{arith, append_assoc, append-nil, length-append, None, Bool, true, false, MatchBool}
 use Rattle.std.specs.List.{AllZip}
 use Rattle.std.proofs.lemmas.List.Elements.{All-nil, All-push}
 use Rattle.std.proofs.lemmas.List.Sums.{sum_by-cons, sum_by-append}
@@ -13,9 +14,17 @@ use Rattle.am_latch.proofs.Tying.{open_from-snoc}
 use Rattle.am_workers.specs.Turns.{HasTakenTurns, all_moved}
 
 pub unturned : (limit n : ℕ) (s : SeatState) → HasTakenTurns limit n s s
-unturned limit n s = record { number = refl; more = []; longer = sym (append-nil s.receipts); few = omega arith; merges = All-nil (λ (r : Receipt). r.step ≡ Merge limit); open_tx = refl }
+unturned limit n s = record {
+  number = refl;
+  more = [];
+  longer = sym (append-nil s.receipts);
+  few = omega arith;
+  merges = All-nil (λ (r : Receipt). r.step ≡ Merge limit);
+  open_tx = refl;
+}
 
-received : (limit n : ℕ) (s t u : SeatState) (r : Reply) → HasTakenTurns limit n s t → GetsReceipt t (Merge limit) r u → HasTakenTurns limit (n + 1) s u
+received : (limit n : ℕ) (s t u : SeatState) (r : Reply) → HasTakenTurns limit n s t → GetsReceipt t (Merge limit) r u →
+    HasTakenTurns limit (n + 1) s u
 received limit n s t u r h c =
     let x : Receipt = receipt t.number (length t.receipts) (Merge limit) r c.0 in
     let receipts : u.receipts ≡ t.receipts ++ x ∷ [] = ap (λ (v : SeatState). v.receipts) c.1 in record {
@@ -37,26 +46,35 @@ same limit n s t u h e = record {
   open_tx = ap (λ (v : SeatState). open_of v.receipts) e ∙ h.open_tx;
 }
 
-either_way : (limit n : ℕ) (s t u : SeatState) (r : Reply) (b : Bool) → HasTakenTurns limit n s t → MatchBool b (GetsReceipt t (Merge limit) r u) (u ≡ t) → HasTakenTurns limit (n + 1) s u
+either_way : (limit n : ℕ) (s t u : SeatState) (r : Reply) (b : Bool) → HasTakenTurns limit n s t →
+    MatchBool b (GetsReceipt t (Merge limit) r u) (u ≡ t) → HasTakenTurns limit (n + 1) s u
 either_way limit n s t u r true h c = received limit n s t u r h c
 either_way limit n s t u r false h c = same limit n s t u h c
 
 -- one turn more
-pub turned_more : (limit n : ℕ) (s t u : SeatState) (r : Reply) → HasTakenTurns limit n s t → HasReceiptOf t (Merge limit) r u → HasTakenTurns limit (n + 1) s u
+pub turned_more : (limit n : ℕ) (s t u : SeatState) (r : Reply) → HasTakenTurns limit n s t →
+    HasReceiptOf t (Merge limit) r u → HasTakenTurns limit (n + 1) s u
 turned_more limit n s t u r h c = either_way limit n s t u r (is_stored r) h c
 
-pub all_turned : (limit n : ℕ) (xs ys : List SeatState) → length ys ≡ length xs → ((i : ℕ) (d : SeatState) → i < length xs → HasTakenTurns limit n (get_or xs i d) (get_or ys i d)) → AllZip (HasTakenTurns limit n) xs ys
+pub all_turned : (limit n : ℕ) (xs ys : List SeatState) → length ys ≡ length xs →
+    ((i : ℕ) (d : SeatState) → i < length xs → HasTakenTurns limit n (get_or xs i d) (get_or ys i d)) →
+    AllZip (HasTakenTurns limit n) xs ys
 all_turned limit n [] [] e h = tt
 all_turned limit n [] (y ∷ ys) e h = absurd (omega (arith, e))
 all_turned limit n (x ∷ xs) [] e h = absurd (omega (arith, e))
-all_turned limit n (x ∷ xs) (y ∷ ys) e h = (h 0 x (omega arith), all_turned limit n xs ys (omega (arith, e)) (λ i d lt. h (suc i) d (omega arith)))
+all_turned limit n (x ∷ xs) (y ∷ ys) e h = (
+  h 0 x (omega arith),
+  all_turned limit n xs ys (omega (arith, e))
+      (λ i d lt. h (suc i) d (omega arith)),
+)
 
 all_unturned : (limit n : ℕ) (zs : List SeatState) → AllZip (HasTakenTurns limit n) zs zs
 all_unturned limit n [] = tt
 all_unturned limit n (z ∷ zs) = (unturned limit n z, all_unturned limit n zs)
 
 -- the first seats had turns, and the others none
-pub first_turned : (limit n : ℕ) (xs ys zs : List SeatState) → AllZip (HasTakenTurns limit n) xs ys → AllZip (HasTakenTurns limit n) (xs ++ zs) (ys ++ zs)
+pub first_turned : (limit n : ℕ) (xs ys zs : List SeatState) → AllZip (HasTakenTurns limit n) xs ys →
+    AllZip (HasTakenTurns limit n) (xs ++ zs) (ys ++ zs)
 first_turned limit n [] [] zs h = all_unturned limit n zs
 first_turned limit n [] (y ∷ ys) zs h = absurd h
 first_turned limit n (x ∷ xs) [] zs h = absurd h
@@ -70,12 +88,20 @@ gains : (limit n : ℕ) (s t : SeatState) → HasTakenTurns limit n s t → move
 gains limit n s t h = omega (arith, ap moved_in h.longer, moved_in-append s.receipts h.more)
 
 -- turns take back no move
-pub all_gain : (limit n : ℕ) (xs ys : List SeatState) → AllZip (HasTakenTurns limit n) xs ys → all_moved xs ≤ all_moved ys
+pub all_gain : (limit n : ℕ) (xs ys : List SeatState) → AllZip (HasTakenTurns limit n) xs ys →
+    all_moved xs ≤ all_moved ys
 all_gain limit n [] [] h = omega arith
 all_gain limit n [] (y ∷ ys) h = absurd h
 all_gain limit n (x ∷ xs) [] h = absurd h
 all_gain limit n (x ∷ xs) (y ∷ ys) h =
-    omega (arith, gains limit n x y h.0, all_gain limit n xs ys h.1, sum_by-cons (λ (s : SeatState). moved_in s.receipts) x xs, sum_by-cons (λ (s : SeatState). moved_in s.receipts) y ys)
+    omega (
+      arith,
+      gains limit n x y h.0,
+      all_gain limit n xs ys h.1,
+      sum_by-cons (λ (s : SeatState). moved_in s.receipts) x xs,
+      sum_by-cons (λ (s : SeatState). moved_in s.receipts)
+          y ys,
+    )
 
 pub all_moved-append : (xs ys : List SeatState) → all_moved (xs ++ ys) ≡ all_moved xs + all_moved ys
 all_moved-append xs ys = sum_by-append (λ (s : SeatState). moved_in s.receipts) xs ys

@@ -14,11 +14,14 @@ use Rattle.am_serial.specs.Machine.{State, start, next, due, view, MayDo, Runs}
 use Rattle.am_serial.specs.Rows.{key_a, key_b, one, two, three, nested_marks, back_keeps_locks, back_forgotten}
 use Rattle.am_serial.proofs.worked_savepoints.Goals as goal
 
-granted : (s : State) (t : ℕ) (op : Op) (reply : Reply) → due s t op ≡ None → reply ≡ answer op (view s t) → MayDo s t op reply
-granted s t op reply d e = subst (λ o. MatchOption o ((reply ≡ answer op (view s t)) ⊎ (reply ≡ Refused NoMemory)) (λ why. reply ≡ Refused why)) (sym d) (inl e)
+granted : (s : State) (t : ℕ) (op : Op) (reply : Reply) → due s t op ≡ None → reply ≡ answer op (view s t) →
+    MayDo s t op reply
+granted s t op reply d e = subst (λ o. MatchOption o ((reply ≡ answer op (view s t)) ⊎ (reply ≡ Refused NoMemory))
+    (λ why. reply ≡ Refused why)) (sym d) (inl e)
 
 refused : (s : State) (t : ℕ) (op : Op) (why : Refusal) → due s t op ≡ Some why → MayDo s t op (Refused why)
-refused s t op why d = subst (λ o. MatchOption o ((Refused why ≡ answer op (view s t)) ⊎ (Refused why ≡ Refused NoMemory)) (λ w. Refused why ≡ Refused w)) (sym d) refl
+refused s t op why d = subst (λ o. MatchOption o ((Refused why ≡ answer op (view s t)) ⊎
+    (Refused why ≡ Refused NoMemory)) (λ w. Refused why ≡ Refused w)) (sym d) refl
 
 nothing : (q : OrderedKey) → get (empty {X = List ℕ} {R = key_cmp}) q ≡ None
 nothing = get-empty key_cmp
@@ -71,23 +74,32 @@ row_nested = (
     (
       granted n2 1 Mark Done refl refl,
       (
-        granted n3 1 (Replace key_a two) Done refl (simp (nothing, get-insert {X = List ℕ} key_cmp-total, key_cmp-key_of)),
+        granted n3 1 (Replace key_a two) Done refl (simp (
+          nothing,
+          get-insert {X = List ℕ} key_cmp-total,
+          key_cmp-key_of,
+        )),
         (
-          granted n4 1 (Insert key_b three) Done (simp key_cmp-key_of) (simp (nothing, get-insert {X = List ℕ} key_cmp-total, key_cmp-key_of)),
+          granted n4 1 (Insert key_b three) Done (simp key_cmp-key_of)
+              (simp (nothing, get-insert {X = List ℕ} key_cmp-total, key_cmp-key_of)),
           (
             granted n5 1 Mark Done refl refl,
             (
-              granted n6 1 (Delete key_a) Done (simp key_cmp-key_of) (simp (nothing, get-insert {X = List ℕ} key_cmp-total, key_cmp-key_of)),
+              granted n6 1 (Delete key_a) Done (simp key_cmp-key_of)
+                  (simp (nothing, get-insert {X = List ℕ} key_cmp-total, key_cmp-key_of)),
               (
                 granted n7 1 Back Done refl refl,
                 (
-                  granted n8 1 (Get key_a) (Found two) (simp key_cmp-key_of) (simp (nothing, get-insert {X = List ℕ} key_cmp-total, key_cmp-key_of)),
+                  granted n8 1 (Get key_a) (Found two) (simp key_cmp-key_of)
+                      (simp (nothing, get-insert {X = List ℕ} key_cmp-total, key_cmp-key_of)),
                   (
                     granted n9 1 Back Done refl refl,
                     (
-                      granted n10 1 (Get key_a) (Found one) (simp key_cmp-key_of) (simp (nothing, get-insert {X = List ℕ} key_cmp-total, key_cmp-key_of)),
+                      granted n10 1 (Get key_a) (Found one) (simp key_cmp-key_of)
+                          (simp (nothing, get-insert {X = List ℕ} key_cmp-total, key_cmp-key_of)),
                       (
-                        granted n11 1 (Get key_b) Absent (simp key_cmp-key_of) (simp (nothing, get-insert {X = List ℕ} key_cmp-total, key_cmp-key_of)),
+                        granted n11 1 (Get key_b) Absent (simp key_cmp-key_of)
+                            (simp (nothing, get-insert {X = List ℕ} key_cmp-total, key_cmp-key_of)),
                         (
                           granted n12 1 Back NoMark refl refl,
                           ((refl, refl), tt),
@@ -135,12 +147,15 @@ row_locks =
     )
 
 -- what a granted operation may be answered
-may_only : (s : State) (t : ℕ) (op : Op) (reply : Reply) → due s t op ≡ None → MayDo s t op reply → (reply ≡ answer op (view s t)) ⊎ (reply ≡ Refused NoMemory)
-may_only s t op reply d m = subst (λ o. MatchOption o ((reply ≡ answer op (view s t)) ⊎ (reply ≡ Refused NoMemory)) (λ why. reply ≡ Refused why)) d m
+may_only : (s : State) (t : ℕ) (op : Op) (reply : Reply) → due s t op ≡ None → MayDo s t op reply →
+    (reply ≡ answer op (view s t)) ⊎ (reply ≡ Refused NoMemory)
+may_only s t op reply d m = subst (λ o. MatchOption o ((reply ≡ answer op (view s t)) ⊎ (reply ≡ Refused NoMemory))
+    (λ why. reply ≡ Refused why)) d m
 
 row_forgotten : Runs start back_forgotten → ⊥
 row_forgotten r =
-    let s4 = next (next (next (next start (Begins 1)) (Answers 1 Mark Done)) (Answers 1 (Insert key_a one) Done)) (Answers 1 Back Done) in
+    let s4 = next (next (next (next start (Begins 1)) (Answers 1 Mark Done)) (Answers 1 (Insert key_a one) Done))
+    (Answers 1 Back Done) in
     let absent : answer (Get key_a) (view s4 1) ≡ Absent = simp nothing in
     ⊎_elim
     (λ e. let no : Found one ≡ Absent = e ∙ absent in cc)

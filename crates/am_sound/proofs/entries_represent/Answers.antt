@@ -5,4 +5,7 @@ use Rattle.am_sound.proofs.Representing.{opened, goes_on}
 use Rattle.am_sound.proofs.entries_represent.Goals as goal
 
 pub returns : goal.returns
-returns c = record { opened = opened (λ t. []) empty_content; goes_on = λ s es notes marks o w at. goes_on s o w (step_laws s) es notes marks at }
+returns c = record {
+  opened = opened (λ t. []) empty_content;
+  goes_on = λ s es notes marks o w at. goes_on s o w (step_laws s) es notes marks at;
+}

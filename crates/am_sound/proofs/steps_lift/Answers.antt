@@ -4,4 +4,9 @@ use Rattle.am_sound.proofs.Lifts.{lift, fit}
 use Rattle.am_sound.proofs.steps_lift.Goals as goal
 
 pub returns : goal.returns
-returns c = record { opened = record { follows = tt; here = refl }; lift = lift; fit = fit; sound = λ trace p at. sound_store trace at.follows }
+returns c = record {
+  opened = record { follows = tt; here = refl };
+  lift = lift;
+  fit = fit;
+  sound = λ trace p at. sound_store trace at.follows;
+}

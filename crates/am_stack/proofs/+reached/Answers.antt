@@ -4,5 +4,11 @@ use Rattle.am_stack.proofs.+reached.Goals as goal
 
 pub returns : goal.returns
 returns t c =
-    let here : c.from-last.result < 4096 = omega (arith, c.from-last.ensures, c.reached.ensures, c.in-Some.ensures, c.ranges.pages.fits) in
+    let here : c.from-last.result < 4096 = omega (
+      arith,
+      c.from-last.ensures,
+      c.reached.ensures,
+      c.in-Some.ensures,
+      c.ranges.pages.fits,
+    ) in
     get_or-replicate 4096 c.from-last.result c.args.pages 0 here

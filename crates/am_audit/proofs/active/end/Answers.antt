@@ -8,5 +8,6 @@ use Rattle.am_audit.proofs.active.end.Goals as goal
 
 pub returns-clause-active : goal.returns-clause-active
 returns-clause-active c =
-    ap (map listed) (filter_same _ (λ (x : Active). not (x.number == c.args.tx)) _ (λ x b f' called. search rules) _ _ c.retain.ensures.filtered)
+    ap (map listed) (filter_same _ (λ (x : Active). not (x.number == c.args.tx)) _ (λ x b f' called. search rules) _ _
+    c.retain.ensures.filtered)
     ∙ list_kept c.args.tx c.args.all.now.items

@@ -7,7 +7,10 @@ use Rattle.am_audit.proofs.active.keep.Goals as goal
 
 pub returns-then-active-tx : goal.returns-then-active-tx
 returns-then-active-tx c =
-    kept_here c.args.tx (placed_answer c.args.kept) c.args.all.now c.loop-active.all _ c.loop-active.active-index c.active-item.result _ c.loop-active-test.true c.loop-active.invariant c.active-item.is (ap (λ (x : Active). x.number) c.active-item.is ∙ c.if-active-tx.true) refl
+    kept_here c.args.tx (placed_answer c.args.kept) c.args.all.now c.loop-active.all _ c.loop-active.active-index
+    c.active-item.result _ c.loop-active-test.true c.loop-active.invariant c.active-item.is
+    (ap (λ (x : Active). x.number) c.active-item.is ∙ c.if-active-tx.true) refl
     (let number = ap (λ (x : Active). x.number) (sym c.active-item.is) in
-    let own = ap (map placed_answer) (c.in_ok-push.ensures.items ∙ ap (λ (x : Active). x.own.items ++ c.args.kept ∷ []) (sym c.active-item.is)) ∙ map-append placed_answer c.active-item.result.own.items (c.args.kept ∷ []) in
+    let own = ap (map placed_answer) (c.in_ok-push.ensures.items ∙ ap (λ (x : Active). x.own.items ++ c.args.kept ∷ [])
+    (sym c.active-item.is)) ∙ map-append placed_answer c.active-item.result.own.items (c.args.kept ∷ []) in
     λ i. (number i, own i))

@@ -6,9 +6,11 @@ use Rattle.am_audit.proofs.replay.replay.Goals as goal
 pub returns-then-not-is_same-clause-wrong : goal.returns-then-not-is_same-clause-wrong
 returns-then-not-is_same-clause-wrong c =
     let next = next_is c.args.own.now c.loop-kept.kept-index _ c.loop-kept-test.true c.kept-item.is in
-    wrong_here _ _ _ _ _ _ _ _ c.loop-kept.invariant next c.in_ok-answer.ensures.answer (λ e. false≢true (c.if-not-is_same.ensures.1 e))
+    wrong_here _ _ _ _ _ _ _ _ c.loop-kept.invariant next c.in_ok-answer.ensures.answer
+    (λ e. false≢true (c.if-not-is_same.ensures.1 e))
 
 pub loop-kept-preserved : goal.loop-kept-preserved
 loop-kept-preserved c =
     let next = next_is c.args.own.now c.loop-kept.kept-index _ c.loop-kept-test.true c.kept-item.is in
-    one_more _ _ _ _ _ _ _ _ _ c.loop-kept.invariant next c.in_ok-answer.ensures.answer (c.if-not-is_same.ensures.0 refl) c.in_ok-answer.ensures.after
+    one_more _ _ _ _ _ _ _ _ _ c.loop-kept.invariant next c.in_ok-answer.ensures.answer
+    (c.if-not-is_same.ensures.0 refl) c.in_ok-answer.ensures.after

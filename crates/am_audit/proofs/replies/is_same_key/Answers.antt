@@ -7,5 +7,6 @@ use Rattle.am_audit.proofs.replies.is_same_key.Goals as goal
 pub returns : goal.returns
 returns c = let h = c.eq.ensures in (
   λ e. key_eq-exact c.args.a c.args.b (sym c.eq.ensures ∙ e),
-  λ e. c.eq.ensures ∙ subst (λ b. eq_by_cmp key_cmp c.args.a b ≡ true) e ((eq_by_cmp_equiv key_cmp-total).refl c.args.a),
+  λ e. c.eq.ensures ∙ subst (λ b. eq_by_cmp key_cmp c.args.a b ≡ true) e
+      ((eq_by_cmp_equiv key_cmp-total).refl c.args.a),
 )

@@ -8,14 +8,18 @@ use Rattle.am_audit.proofs.verdict.verdict.Goals as goal
 pub returns-then-not-is_refused-clause-event_fault : goal.returns-then-not-is_refused-clause-event_fault
 returns-then-not-is_refused-clause-event_fault g c =
     let blocked = subst (λ a. IsAnswerTo g.s.active c.args.tx (lock_of c.args.op.now) a) c.in-Busy.is c.requires.1.1 in
-    blocked_wrong g.s c.args.tx c.args.op.now c.args.reply.now c.requires.0 c.requires.1.0 c.in-Busy.holder blocked (λ e. false≢true (c.if-not-is_refused.ensures.1 e))
+    blocked_wrong g.s c.args.tx c.args.op.now c.args.reply.now c.requires.0 c.requires.1.0 c.in-Busy.holder blocked
+    (λ e. false≢true (c.if-not-is_refused.ensures.1 e))
 
 pub returns-then-is_busy-clause-event_fault : goal.returns-then-is_busy-clause-event_fault
 returns-then-is_busy-clause-event_fault g c =
-    let free = subst (λ a. IsAnswerTo g.s.active c.args.tx (lock_of c.args.op.now) a) c.in-TooManyLocks.is c.requires.1.1 in
-    busy_unasked g.s c.args.tx c.args.op.now c.args.reply.now c.requires.0 c.requires.1.0 free.0 (sym c.is_busy.ensures ∙ c.if-is_busy.true)
+    let free = subst (λ a. IsAnswerTo g.s.active c.args.tx (lock_of c.args.op.now) a) c.in-TooManyLocks.is
+    c.requires.1.1 in
+    busy_unasked g.s c.args.tx c.args.op.now c.args.reply.now c.requires.0 c.requires.1.0 free.0
+    (sym c.is_busy.ensures ∙ c.if-is_busy.true)
 
 pub returns-then-is_busy-2-clause-event_fault : goal.returns-then-is_busy-2-clause-event_fault
 returns-then-is_busy-2-clause-event_fault g c =
     let free = subst (λ a. IsAnswerTo g.s.active c.args.tx (lock_of c.args.op.now) a) c.in-Granted.is c.requires.1.1 in
-    busy_unasked g.s c.args.tx c.args.op.now c.args.reply.now c.requires.0 c.requires.1.0 free.0 (sym c.is_busy-in-Granted.ensures ∙ c.if-is_busy-2.true)
+    busy_unasked g.s c.args.tx c.args.op.now c.args.reply.now c.requires.0 c.requires.1.0 free.0
+    (sym c.is_busy-in-Granted.ensures ∙ c.if-is_busy-2.true)

@@ -1,4 +1,5 @@
-use Rattle.std.proofs.Common.{◌≡◌, ◌≢◌, Option, None, Some, IsSome, ℕ, ◌<◌, List, [], ◌∷◌, zero, suc, length, get_or, refl, sym, ap, ◌∙◌, subst, length-take, arith}
+use Rattle.std.proofs.Common.{◌≡◌, ◌≢◌, Option, None, Some, IsSome, ℕ, ◌<◌, List, [], ◌∷◌, zero, suc, length, get_or}
+use Rattle.std.proofs.Common.{refl, sym, ap, ◌∙◌, subst, length-take, arith}
 use Rattle.am_record.specs.EntryOrder.{place_of}
 use Rattle.am_list.specs.Entries.{find, IsRising}
 use Rattle.am_list.proofs.Searches.{insert_gap, rising_insert_gap, find_present, find_absent}
@@ -12,30 +13,46 @@ use Rattle.am_btree.proofs.LeafSplit.{joined, rising_both, rising_upper, upper_l
 use Rattle.am_btree.proofs.insert.insert_in_leaf.Goals as goal
 
 pub returns-then-len-lt-ROOM-clause-ok : goal.returns-then-len-lt-ROOM-clause-ok
-returns-then-len-lt-ROOM-clause-ok c = ((refl, c.insert_at.ensures ∙ insert_gap c.args.leaf.now c.args.entry c.in-Err.at c.in-Err.ensures.absent), tt)
+returns-then-len-lt-ROOM-clause-ok c = (
+  (
+    refl,
+    c.insert_at.ensures ∙ insert_gap c.args.leaf.now c.args.entry c.in-Err.at
+        c.in-Err.ensures.absent,
+  ),
+  tt,
+)
 
 pub returns-then-len-lt-ROOM-clause-rising : goal.returns-then-len-lt-ROOM-clause-rising
-returns-then-len-lt-ROOM-clause-rising c = subst IsRising (sym c.insert_at.ensures) (rising_insert_gap c.args.leaf.now c.args.entry c.in-Err.at c.in-Err.ensures.absent c.in-Err.ensures.rising)
+returns-then-len-lt-ROOM-clause-rising c = subst IsRising (sym c.insert_at.ensures)
+    (rising_insert_gap c.args.leaf.now c.args.entry c.in-Err.at c.in-Err.ensures.absent c.in-Err.ensures.rising)
 
 pub invariant_of-right : goal.invariant_of-right
 invariant_of-right c =
-    let xs = c.args.leaf.now in let x = c.args.entry in let i = c.in-Err.at in let gap = c.in-Err.ensures.absent in let m = lower_size c.keep_of.result i in
+    let xs = c.args.leaf.now in let x = c.args.entry in let i = c.in-Err.at in let gap = c.in-Err.ensures.absent in
+    let m = lower_size c.keep_of.result i in
     let out = c.split_insert.ensures in
     let range = size_range c.keep_of.result i c.keep_of.ensures.keeps c.keep_of.ensures.room in
-    let long = upper_long xs x i gap c.in-Err.ensures.rising m c.split_insert.new.leaf c.split_insert.new.upper out.front out.back in
-    (omega (arith, c.len-len.ensures.most, c.len-len.ensures.all), rising_upper xs x i gap c.in-Err.ensures.rising m c.split_insert.new.leaf c.split_insert.new.upper out.front out.back)
+    let long = upper_long xs x i gap c.in-Err.ensures.rising m c.split_insert.new.leaf c.split_insert.new.upper
+    out.front out.back in (
+      omega (arith, c.len-len.ensures.most, c.len-len.ensures.all),
+      rising_upper xs x i gap c.in-Err.ensures.rising m
+          c.split_insert.new.leaf c.split_insert.new.upper out.front out.back,
+    )
 
 pub get-requires : goal.get-requires
 get-requires c =
-    let xs = c.args.leaf.now in let x = c.args.entry in let i = c.in-Err.at in let gap = c.in-Err.ensures.absent in let m = lower_size c.keep_of.result i in
+    let xs = c.args.leaf.now in let x = c.args.entry in let i = c.in-Err.at in let gap = c.in-Err.ensures.absent in
+    let m = lower_size c.keep_of.result i in
     let out = c.split_insert.ensures in
     let range = size_range c.keep_of.result i c.keep_of.ensures.keeps c.keep_of.ensures.room in
-    let long = upper_long xs x i gap c.in-Err.ensures.rising m c.split_insert.new.leaf c.split_insert.new.upper out.front out.back in
+    let long = upper_long xs x i gap c.in-Err.ensures.rising m c.split_insert.new.leaf c.split_insert.new.upper
+    out.front out.back in
     omega (arith, c.len-len.ensures.all, c.if-len-lt-ROOM.false)
 
 pub returns-clause-ok : goal.returns-clause-ok
 returns-clause-ok c =
-    let xs = c.args.leaf.now in let x = c.args.entry in let i = c.in-Err.at in let gap = c.in-Err.ensures.absent in let m = lower_size c.keep_of.result i in
+    let xs = c.args.leaf.now in let x = c.args.entry in let i = c.in-Err.at in let gap = c.in-Err.ensures.absent in
+    let m = lower_size c.keep_of.result i in
     let out = c.split_insert.ensures in let lower = c.split_insert.new.leaf in let upper = c.split_insert.new.upper in
     let range = size_range c.keep_of.result i c.keep_of.ensures.keeps c.keep_of.ensures.room in
     let long = upper_long xs x i gap c.in-Err.ensures.rising m lower upper out.front out.back in
@@ -45,7 +62,9 @@ returns-clause-ok c =
     let first = c.get.result in
     let separator = c.of-separator.result in
     let risen = rising_both xs x i gap c.in-Err.ensures.rising m lower upper out.front out.back in
-    let parted = parted_at lower upper (separator_place separator) risen some (λ d. ap separator_place c.of-separator.ensures ∙ ap place_of (c.get.ensures ∙ same_default upper 0 first d some)) in (
+    let parted = parted_at lower upper (separator_place separator) risen some
+    (λ d. ap separator_place c.of-separator.ensures ∙
+    ap place_of (c.get.ensures ∙ same_default upper 0 first d some)) in (
       record {
         depth = refl;
         right_depth = refl;
@@ -53,7 +72,13 @@ returns-clause-ok c =
         below = parted.0;
         others = parted.1;
         left_some = omega (arith, ap length out.front);
-        left_half = omega (arith, half_stays _ c.keep_of.result i c.keep_of.ensures.size, ap length out.front, c.len-len.ensures.all, c.if-len-lt-ROOM.false);
+        left_half = omega (
+          arith,
+          half_stays _ c.keep_of.result i c.keep_of.ensures.size,
+          ap length out.front,
+          c.len-len.ensures.all,
+          c.if-len-lt-ROOM.false,
+        );
         right_some = some;
       },
       c.in_ok-spares.ensures,
@@ -66,19 +91,25 @@ returns-clause-ok c =
 
 pub returns-clause-rising : goal.returns-clause-rising
 returns-clause-rising c =
-    let xs = c.args.leaf.now in let x = c.args.entry in let i = c.in-Err.at in let gap = c.in-Err.ensures.absent in let m = lower_size c.keep_of.result i in
+    let xs = c.args.leaf.now in let x = c.args.entry in let i = c.in-Err.at in let gap = c.in-Err.ensures.absent in
+    let m = lower_size c.keep_of.result i in
     let out = c.split_insert.ensures in
-    rising_front c.split_insert.new.leaf c.split_insert.new.upper (rising_both xs x i gap c.in-Err.ensures.rising m c.split_insert.new.leaf c.split_insert.new.upper out.front out.back)
+    rising_front c.split_insert.new.leaf c.split_insert.new.upper
+    (rising_both xs x i gap c.in-Err.ensures.rising m c.split_insert.new.leaf c.split_insert.new.upper out.front
+    out.back)
 
 is_some : {X : Type 0} (o : Option X) → o ≢ None → IsSome o
 is_some None n = absurd (n refl)
 is_some (Some x) n = refl
 
 pub returns-in_default-clause-taken : goal.returns-in_default-clause-taken
-returns-in_default-clause-taken c = λ _. is_some (find c.args.leaf.now c.args.entry.part c.args.entry.key) (find_present c.args.leaf.now c.args.entry.part c.args.entry.key c.in_default.field-0 c.in_default.ensures.found)
+returns-in_default-clause-taken c = λ _. is_some (find c.args.leaf.now c.args.entry.part c.args.entry.key)
+    (find_present c.args.leaf.now c.args.entry.part c.args.entry.key c.in_default.field-0 c.in_default.ensures.found)
 
 pub returns-then-len-lt-ROOM-clause-absent : goal.returns-then-len-lt-ROOM-clause-absent
-returns-then-len-lt-ROOM-clause-absent c = find_absent c.args.leaf.now c.args.entry.part c.args.entry.key c.in-Err.at c.in-Err.ensures.absent
+returns-then-len-lt-ROOM-clause-absent c = find_absent c.args.leaf.now c.args.entry.part c.args.entry.key c.in-Err.at
+    c.in-Err.ensures.absent
 
 pub returns-clause-absent : goal.returns-clause-absent
-returns-clause-absent c = find_absent c.args.leaf.now c.args.entry.part c.args.entry.key c.in-Err.at c.in-Err.ensures.absent
+returns-clause-absent c = find_absent c.args.leaf.now c.args.entry.part c.args.entry.key c.in-Err.at
+    c.in-Err.ensures.absent

@@ -9,7 +9,9 @@ unreachable-requires c =
     false≢true (subst IsSome none c.requires)
 
 pub returns-clause-entry : goal.returns-clause-entry
-returns-clause-entry c = entry_at_found c.args.leaf.now c.args.part c.args.key c.in-Ok.at c.in-Ok.ensures.found c.remove_at-entry.result c.remove_at-entry.ensures.entry
+returns-clause-entry c = entry_at_found c.args.leaf.now c.args.part c.args.key c.in-Ok.at c.in-Ok.ensures.found
+    c.remove_at-entry.result c.remove_at-entry.ensures.entry
 
 pub returns-clause-others : goal.returns-clause-others
-returns-clause-others c = c.remove_at-entry.ensures.others ∙ remove_found c.args.leaf.now c.args.part c.args.key c.in-Ok.at c.in-Ok.ensures.found
+returns-clause-others c = c.remove_at-entry.ensures.others ∙ remove_found c.args.leaf.now c.args.part c.args.key
+    c.in-Ok.at c.in-Ok.ensures.found

@@ -11,7 +11,9 @@ unreachable-requires c =
     false≢true (subst IsSome none c.requires)
 
 pub returns-clause-entries : goal.returns-clause-entries
-returns-clause-entries c = c.set_at.ensures ∙ set_at_found c.args.value c.args.is_ghost c.args.leaf.now c.args.part c.args.key c.in-Ok.at c.in-Ok.ensures.found
+returns-clause-entries c = c.set_at.ensures ∙ set_at_found c.args.value c.args.is_ghost c.args.leaf.now c.args.part
+    c.args.key c.in-Ok.at c.in-Ok.ensures.found
 
 pub returns-clause-rising : goal.returns-clause-rising
-returns-clause-rising c = subst IsRising (sym c.set_at.ensures) (rising_set_at c.args.value c.args.is_ghost c.args.leaf.now c.in-Ok.at c.in-Ok.ensures.rising)
+returns-clause-rising c = subst IsRising (sym c.set_at.ensures)
+    (rising_set_at c.args.value c.args.is_ghost c.args.leaf.now c.in-Ok.at c.in-Ok.ensures.rising)

@@ -4,8 +4,10 @@ use Rattle.am_command.proofs.amaudit.audited_file.Goals as goal
 
 pub returns-in-Ok-clause-accepted : goal.returns-in-Ok-clause-accepted
 returns-in-Ok-clause-accepted g c =
-    names_file _ c.in-Ok.matches _ _ c.in_ok-amaudit.ensures c.in-Ok.ensures.matches c.in-Ok.ensures.kinds c.text_in.ensures
+    names_file _ c.in-Ok.matches _ _ c.in_ok-amaudit.ensures c.in-Ok.ensures.matches c.in-Ok.ensures.kinds
+    c.text_in.ensures
 
 pub returns-in-Err-clause-refused : goal.returns-in-Err-clause-refused
 returns-in-Err-clause-refused g c =
-    refused_by_clap NamesFile amaudit_app _ amaudit_free c.in-Err.error _ c.fault_of.result c.in_ok-amaudit.ensures c.in-Err.ensures.kinds c.fault_of.ensures
+    refused_by_clap NamesFile amaudit_app _ amaudit_free c.in-Err.error _ c.fault_of.result c.in_ok-amaudit.ensures
+    c.in-Err.ensures.kinds c.fault_of.ensures

@@ -8,6 +8,7 @@ pub returns : goal.returns
 returns c =
     let named = c.value_name.ensures ∙ ap (λ (a : Arg). record a { val_names = One c.args.value }) c.long.ensures in
     let built = c.help.ensures ∙ ap (λ (a : Arg). record a { help = Some c.args.help }) named in (
-      ap rule_of built ∙ ap (λ (r : Rule). record r { long = Some c.args.name.now; value_names = 1 }) c.new.ensures.rule,
+      ap rule_of built ∙ ap (λ (r : Rule). record r { long = Some c.args.name.now; value_names = 1 })
+          c.new.ensures.rule,
       ap (λ (a : Arg). a.global) built ∙ c.new.ensures.optional.1,
     )

@@ -16,30 +16,60 @@ returns-clause-kept g c =
     let e = log_of c.engine.inside.engine in
     let trace_token = only _ _ (sym c.into_seat.ensures.2 ∙ c.engine.invariant.knows) in
     let old : c.as_mut_slice.result.now ≡ c.args.seats.items = c.as_mut_slice.ensures.value in
-    let known : HaveReceiptsIn e c.args.seats.items (length c.args.seats.items) = subst (λ (l : List SeatState). HaveReceiptsIn e l (length l)) old (subst (λ (d : CallLog). HaveReceiptsIn d c.as_mut_slice.result.now (length c.as_mut_slice.result.now)) (ap log_in_view trace_token) c.audit_all.ensures.known) in
-    let whole : take c.args.seats.len (c.audit_all.new.seats ++ drop (length c.audit_all.new.seats) c.args.seats.items) ≡ c.args.seats.items = whole_again _ _ _ (c.audit_all.ensures.same ∙ old) (ap length c.audit_all.ensures.same ∙ c.as_mut_slice.ensures.len) in
+    let known : HaveReceiptsIn e c.args.seats.items (length c.args.seats.items) =
+    subst (λ (l : List SeatState). HaveReceiptsIn e l (length l)) old
+    (subst (λ (d : CallLog). HaveReceiptsIn d c.as_mut_slice.result.now (length c.as_mut_slice.result.now))
+    (ap log_in_view trace_token) c.audit_all.ensures.known) in
+    let whole : take c.args.seats.len (c.audit_all.new.seats ++ drop (length c.audit_all.new.seats)
+    c.args.seats.items) ≡ c.args.seats.items = whole_again _ _ _ (c.audit_all.ensures.same ∙ old)
+    (ap length c.audit_all.ensures.same ∙ c.as_mut_slice.ensures.len) in
     let count : length c.args.seats.items ≡ g.L.LatchName.seats = search rules in
-    let all : AreAll g.L.LatchName.seats c.args.seats.items = (count, subst (NumberedBelow c.args.seats.items) count (subst (λ (l : List SeatState). NumberedBelow l (length l)) c.as_slice.ensures.value (c.in_order.ensures.0 c.if-not-in_order.false))) in
-    subst (λ (y : List SeatState × Trace). AreReceiptsOf y.0 y.1) (λ j. (sym whole j, sym c.into_parts-trace.ensures.trace j)) (kept e g.L.LatchName.seats c.args.seats.items c.into_parts-trace.ensures.even c.engine.invariant.made all known)
+    let all : AreAll g.L.LatchName.seats c.args.seats.items = (
+      count,
+      subst (NumberedBelow c.args.seats.items) count
+          (subst (λ (l : List SeatState). NumberedBelow l (length l)) c.as_slice.ensures.value
+          (c.in_order.ensures.0 c.if-not-in_order.false)),
+    ) in
+    subst (λ (y : List SeatState × Trace). AreReceiptsOf y.0 y.1)
+    (λ j. (sym whole j, sym c.into_parts-trace.ensures.trace j))
+    (kept e g.L.LatchName.seats c.args.seats.items c.into_parts-trace.ensures.even c.engine.invariant.made all known)
 
 pub returns-clause-open_txs : goal.returns-clause-open_txs
 returns-clause-open_txs g c =
     let e = log_of c.engine.inside.engine in
     let trace_token = only _ _ (sym c.into_seat.ensures.2 ∙ c.engine.invariant.knows) in
     let old : c.as_mut_slice.result.now ≡ c.args.seats.items = c.as_mut_slice.ensures.value in
-    let known : HaveReceiptsIn e c.args.seats.items (length c.args.seats.items) = subst (λ (l : List SeatState). HaveReceiptsIn e l (length l)) old (subst (λ (d : CallLog). HaveReceiptsIn d c.as_mut_slice.result.now (length c.as_mut_slice.result.now)) (ap log_in_view trace_token) c.audit_all.ensures.known) in
-    let whole : take c.args.seats.len (c.audit_all.new.seats ++ drop (length c.audit_all.new.seats) c.args.seats.items) ≡ c.args.seats.items = whole_again _ _ _ (c.audit_all.ensures.same ∙ old) (ap length c.audit_all.ensures.same ∙ c.as_mut_slice.ensures.len) in
+    let known : HaveReceiptsIn e c.args.seats.items (length c.args.seats.items) =
+    subst (λ (l : List SeatState). HaveReceiptsIn e l (length l)) old
+    (subst (λ (d : CallLog). HaveReceiptsIn d c.as_mut_slice.result.now (length c.as_mut_slice.result.now))
+    (ap log_in_view trace_token) c.audit_all.ensures.known) in
+    let whole : take c.args.seats.len (c.audit_all.new.seats ++ drop (length c.audit_all.new.seats)
+    c.args.seats.items) ≡ c.args.seats.items = whole_again _ _ _ (c.audit_all.ensures.same ∙ old)
+    (ap length c.audit_all.ensures.same ∙ c.as_mut_slice.ensures.len) in
     let count : length c.args.seats.items ≡ g.L.LatchName.seats = search rules in
-    let all : AreAll g.L.LatchName.seats c.args.seats.items = (count, subst (NumberedBelow c.args.seats.items) count (subst (λ (l : List SeatState). NumberedBelow l (length l)) c.as_slice.ensures.value (c.in_order.ensures.0 c.if-not-in_order.false))) in
-    subst (λ (y : List SeatState × List ℕ). SeatsAreTied y.0 y.1) (λ j. (sym whole j, sym c.into_parts-trace.ensures.active j)) (open_is e g.L.LatchName.seats c.args.seats.items c.engine.invariant.made all known c.engine.invariant.tied)
+    let all : AreAll g.L.LatchName.seats c.args.seats.items = (
+      count,
+      subst (NumberedBelow c.args.seats.items) count
+          (subst (λ (l : List SeatState). NumberedBelow l (length l)) c.as_slice.ensures.value
+          (c.in_order.ensures.0 c.if-not-in_order.false)),
+    ) in
+    subst (λ (y : List SeatState × List ℕ). SeatsAreTied y.0 y.1)
+    (λ j. (sym whole j, sym c.into_parts-trace.ensures.active j))
+    (open_is e g.L.LatchName.seats c.args.seats.items c.engine.invariant.made all known c.engine.invariant.tied)
 
 pub returns-clause-active : goal.returns-clause-active
-returns-clause-active g c = c.into_parts-trace.ensures.active ∙ ap active_in_trace (sym c.into_parts-trace.ensures.trace)
+returns-clause-active g c = c.into_parts-trace.ensures.active ∙
+    ap active_in_trace (sym c.into_parts-trace.ensures.trace)
 
 pub returns-clause-legal : goal.returns-clause-legal
-returns-clause-legal g c = subst IsLegal (sym c.into_parts-trace.ensures.trace) (c.sound_traces_are_legal.ensures _ c.into_parts-trace.ensures.stands.sound.sound)
+returns-clause-legal g c = subst IsLegal (sym c.into_parts-trace.ensures.trace)
+    (c.sound_traces_are_legal.ensures _ c.into_parts-trace.ensures.stands.sound.sound)
 
 pub returns-clause-all : goal.returns-clause-all
 returns-clause-all g c =
-    let count : length c.args.seats.items ≡ g.L.LatchName.seats = search rules in
-    (count, subst (NumberedBelow c.args.seats.items) count (subst (λ (l : List SeatState). NumberedBelow l (length l)) c.as_slice.ensures.value (c.in_order.ensures.0 c.if-not-in_order.false)))
+    let count : length c.args.seats.items ≡ g.L.LatchName.seats = search rules in (
+      count,
+      subst (NumberedBelow c.args.seats.items) count
+          (subst (λ (l : List SeatState). NumberedBelow l (length l)) c.as_slice.ensures.value
+          (c.in_order.ensures.0 c.if-not-in_order.false)),
+    )

@@ -5,9 +5,17 @@ use Rattle.am_latch.proofs.Rules.{appends_as}
 use Rattle.am_latch.proofs.view_steps.append.Goals as goal
 
 pub load-requires : goal.load-requires
-load-requires g c = (search rules, search rules, appends_as _ _ _ _ _ _ (search rules) (ap (λ (m : CallId). m.seat) (sym c.requires.entry.2) ∙ c.requires.token.1))
+load-requires g c = (
+  search rules,
+  search rules,
+  appends_as _ _ _ _ _ _ (search rules)
+      (ap (λ (m : CallId). m.seat) (sym c.requires.entry.2) ∙ c.requires.token.1),
+)
 
 pub returns-clause-token : goal.returns-clause-token
 returns-clause-token g c =
     let e = c.requires.entry in
-    c.load.ensures.2 ∙ (λ i. (view_with_call (sym e.0 i) (sym e.1 i) (sym e.2 i) c.args.token.now.me.0, c.args.token.now.me.1))
+    c.load.ensures.2 ∙ (λ i. (
+      view_with_call (sym e.0 i) (sym e.1 i) (sym e.2 i) c.args.token.now.me.0,
+      c.args.token.now.me.1,
+    ))

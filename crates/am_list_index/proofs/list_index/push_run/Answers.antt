@@ -9,4 +9,5 @@ loop-pair-preserved c =
     c.push.ensures.items
     ∙ pushed c.push.result _ _ (sym c.is_err.ensures.value ∙ c.if-is_err.false)
     ∙ ap (λ (l : List Entry). l ++ live_entry c.args.part c.pair-item.result ∷ []) c.loop-pair.invariant
-    ∙ rw add-one (one_more_pushed c.args.part c.args.items.now.items c.args.pairs.now c.loop-pair.pair-index c.pair-item.result c.loop-pair-test.true c.pair-item.is)
+    ∙ rw add-one (one_more_pushed c.args.part c.args.items.now.items c.args.pairs.now c.loop-pair.pair-index
+    c.pair-item.result c.loop-pair-test.true c.pair-item.is)

@@ -11,14 +11,17 @@ loop-seat-preserved-in-loop-seat g c =
     let new = all_first IsNewSeat _ _ _ next c.loop-seat.invariant.left in record {
       can = tt;
       finite = tt;
-      word_seats = all_init (λ (h : WordHistory). h.of ≡ c.args.words.now) _ _ _ c.pop.ensures.items c.loop-seat.invariant.word_seats;
-      sessions = rw c.in_ok-push.ensures.items (rw c.new.ensures (All-push HasNewSeat _ _ c.loop-seat.invariant.sessions new));
+      word_seats = all_init (λ (h : WordHistory). h.of ≡ c.args.words.now) _ _ _ c.pop.ensures.items
+          c.loop-seat.invariant.word_seats;
+      sessions = rw c.in_ok-push.ensures.items (rw c.new.ensures
+          (All-push HasNewSeat _ _ c.loop-seat.invariant.sessions new));
       workers = search rules;
       left = all_rest IsNewSeat _ _ _ next c.loop-seat.invariant.left;
       seat_numbers =
           rw c.in_ok-push.ensures.items
           (rw c.new.ensures
-          (place_more c.loop-seat.session_seats.items _ c.loop-seat.worker_seats.items _ _ c.args.seats.items (none_there _ (search rules)) next c.loop-seat.invariant.seat_numbers));
+          (place_more c.loop-seat.session_seats.items _ c.loop-seat.worker_seats.items _ _ c.args.seats.items
+          (none_there _ (search rules)) next c.loop-seat.invariant.seat_numbers));
     }
 
 pub loop-seat-preserved : goal.loop-seat-preserved
@@ -31,5 +34,7 @@ loop-seat-preserved g c =
       sessions = search rules;
       workers = rw c.in_ok-push-2.ensures.items (All-push IsNewSeat _ _ c.loop-seat.invariant.workers new);
       left = all_rest IsNewSeat _ _ _ next c.loop-seat.invariant.left;
-      seat_numbers = rw c.in_ok-push-2.ensures.items (worker_more c.loop-seat.session_seats.items _ c.loop-seat.worker_seats.items _ _ c.args.seats.items next c.loop-seat.invariant.seat_numbers);
+      seat_numbers = rw c.in_ok-push-2.ensures.items
+          (worker_more c.loop-seat.session_seats.items _ c.loop-seat.worker_seats.items _ _ c.args.seats.items next
+          c.loop-seat.invariant.seat_numbers);
     }

@@ -11,5 +11,6 @@ invariant-loop-seat g l = record {
   sessions : All HasNewSeat l.session_seats.items;
   workers : All IsNewSeat l.worker_seats.items;
   left : All IsNewSeat (into_iter_items l.seat-iterator);
-  seat_numbers : (session_seat_numbers l.session_seats.items ++ seat_numbers l.worker_seats.items) ++ seat_numbers (into_iter_items l.seat-iterator) ≡ seat_numbers l.fn.seats.items;
+  seat_numbers : (session_seat_numbers l.session_seats.items ++ seat_numbers l.worker_seats.items) ++
+      seat_numbers (into_iter_items l.seat-iterator) ≡ seat_numbers l.fn.seats.items;
 }

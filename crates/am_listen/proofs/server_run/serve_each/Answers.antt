@@ -8,7 +8,8 @@ use Rattle.am_listen.proofs.Seatings.{all_zip}
 use Rattle.am_listen.proofs.server_run.serve_each.Goals as goal
 
 pub for_each_mut-requires-send-T : goal.for_each_mut-requires-send-T
-for_each_mut-requires-send-T g c κs within = param_send _ _ (arg_send _ no _ (place_send record { mir = named 4; lft = κs.1.1.1.1.0 } (param 0 g.row.L) g.L.LatchName))
+for_each_mut-requires-send-T g c κs within = param_send _ _
+    (arg_send _ no _ (place_send record { mir = named 4; lft = κs.1.1.1.1.0 } (param 0 g.row.L) g.L.LatchName))
 
 pub returns : goal.returns
 returns g c = all_zip _ _ c.for_each_mut.auto.s (λ i d lt. search rules)

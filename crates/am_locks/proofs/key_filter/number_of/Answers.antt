@@ -10,11 +10,13 @@ eq_itself a b e = ap (λ k. not (eq_by_cmp key_cmp a k)) (sym e) ∙ ap (λ o. n
 
 pub returns-then-ne-clause-more : goal.returns-then-ne-clause-more
 returns-then-ne-clause-more c = λ e.
-    let differ = sym c.if-ne.true ∙ c.ne.ensures ∙ eq_itself _ _ (c.lo-key.ensures.value ∙ e ∙ sym c.hi.ensures.value) in
+    let differ = sym c.if-ne.true ∙ c.ne.ensures ∙
+    eq_itself _ _ (c.lo-key.ensures.value ∙ e ∙ sym c.hi.ensures.value) in
     cc
 
 pub returns-clause-one : goal.returns-clause-one
 returns-clause-one c = record {
-  one_key = sym c.lo-key.ensures.value ∙ key_eq-exact _ _ (not-false _ (sym c.ne.ensures ∙ c.if-ne.false)) ∙ c.hi.ensures.value;
+  one_key = sym c.lo-key.ensures.value ∙ key_eq-exact _ _ (not-false _ (sym c.ne.ensures ∙ c.if-ne.false)) ∙
+      c.hi.ensures.value;
   mixed = c.mixed.ensures ∙ ap key_mix c.lo-key.ensures.value;
 }

@@ -5,18 +5,23 @@ use Rattle.am_merge.proofs.clean.clean_step.Goals as goal
 
 pub loop-cleaned-init : goal.loop-cleaned-init
 loop-cleaned-init g c = record {
-  way = rw c.lo.ensures.value (clean_starts c.args.parts.now.entries (holder_of c.args.locks.now) c.args.range c.runs.ensures.sound);
+  way = rw c.lo.ensures.value (clean_starts c.args.parts.now.entries (holder_of c.args.locks.now) c.args.range
+      c.runs.ensures.sound);
   sound = c.runs.ensures.sound;
   runs = refl;
 }
 
 pub returns-in_default-clause-reply : goal.returns-in_default-clause-reply
 returns-in_default-clause-reply g c =
-    all_clean c.args.parts.now.entries (holder_of c.args.locks.now) c.args.range c.loop-cleaned.invariant.sound c.loop-cleaned.parts.entries c.loop-cleaned.from c.loop-cleaned.cleaned c.args.limit c.loop-cleaned.invariant.way c.in_default.ensures c.loop-cleaned-test.true
+    all_clean c.args.parts.now.entries (holder_of c.args.locks.now) c.args.range c.loop-cleaned.invariant.sound
+    c.loop-cleaned.parts.entries c.loop-cleaned.from c.loop-cleaned.cleaned c.args.limit c.loop-cleaned.invariant.way
+    c.in_default.ensures c.loop-cleaned-test.true
 
 pub loop-cleaned-preserved : goal.loop-cleaned-preserved
 loop-cleaned-preserved g c = record {
-  way = clean_goes_on c.args.parts.now.entries (holder_of c.args.locks.now) c.args.range c.loop-cleaned.invariant.sound c.loop-cleaned.parts.entries c.loop-cleaned.from c.loop-cleaned.cleaned c.args.limit c.loop-cleaned.invariant.way c.in-Some.entry c.in-Some.ensures
+  way = clean_goes_on c.args.parts.now.entries (holder_of c.args.locks.now) c.args.range c.loop-cleaned.invariant.sound
+      c.loop-cleaned.parts.entries c.loop-cleaned.from c.loop-cleaned.cleaned c.args.limit c.loop-cleaned.invariant.way
+      c.in-Some.entry c.in-Some.ensures
       (c.loop-cleaned.cleaned + 1) c.take.new.self.entries (omega arith) c.take.ensures.entries;
   sound = c.loop-cleaned.invariant.sound;
   runs = c.take.ensures.runs ∙ c.loop-cleaned.invariant.runs;
@@ -24,16 +29,22 @@ loop-cleaned-preserved g c = record {
 
 pub returns-clause-reply : goal.returns-clause-reply
 returns-clause-reply g c =
-    clean_full c.args.parts.now.entries (holder_of c.args.locks.now) c.args.range c.loop-cleaned.invariant.sound c.loop-cleaned.parts.entries c.loop-cleaned.from c.loop-cleaned.cleaned c.args.limit c.loop-cleaned.invariant.way (omega arith)
+    clean_full c.args.parts.now.entries (holder_of c.args.locks.now) c.args.range c.loop-cleaned.invariant.sound
+    c.loop-cleaned.parts.entries c.loop-cleaned.from c.loop-cleaned.cleaned c.args.limit c.loop-cleaned.invariant.way
+    (omega arith)
 
 pub returns-in_default-clause-content : goal.returns-in_default-clause-content
 returns-in_default-clause-content g c =
-    clean_content c.args.parts.now.entries (holder_of c.args.locks.now) c.args.range c.loop-cleaned.invariant.sound c.loop-cleaned.parts.entries c.loop-cleaned.from c.loop-cleaned.cleaned c.args.limit c.loop-cleaned.invariant.way
+    clean_content c.args.parts.now.entries (holder_of c.args.locks.now) c.args.range c.loop-cleaned.invariant.sound
+    c.loop-cleaned.parts.entries c.loop-cleaned.from c.loop-cleaned.cleaned c.args.limit c.loop-cleaned.invariant.way
 
 pub returns-clause-content : goal.returns-clause-content
 returns-clause-content g c =
-    clean_content c.args.parts.now.entries (holder_of c.args.locks.now) c.args.range c.loop-cleaned.invariant.sound c.loop-cleaned.parts.entries c.loop-cleaned.from c.loop-cleaned.cleaned c.args.limit c.loop-cleaned.invariant.way
+    clean_content c.args.parts.now.entries (holder_of c.args.locks.now) c.args.range c.loop-cleaned.invariant.sound
+    c.loop-cleaned.parts.entries c.loop-cleaned.from c.loop-cleaned.cleaned c.args.limit c.loop-cleaned.invariant.way
 
 pub take-requires : goal.take-requires
 take-requires g c =
-    is_there c.args.parts.now.entries (holder_of c.args.locks.now) c.args.range c.loop-cleaned.invariant.sound c.loop-cleaned.parts.entries c.loop-cleaned.from c.loop-cleaned.cleaned c.args.limit c.loop-cleaned.invariant.way c.in-Some.entry c.in-Some.ensures
+    is_there c.args.parts.now.entries (holder_of c.args.locks.now) c.args.range c.loop-cleaned.invariant.sound
+    c.loop-cleaned.parts.entries c.loop-cleaned.from c.loop-cleaned.cleaned c.args.limit c.loop-cleaned.invariant.way
+    c.in-Some.entry c.in-Some.ensures

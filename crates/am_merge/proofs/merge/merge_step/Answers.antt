@@ -11,38 +11,53 @@ use Rattle.am_merge.proofs.merge.merge_step.Goals as goal
 pub returns-in_default-first_in_runs-clause-reply :
     goal.returns-in_default-first_in_runs-clause-reply
 returns-in_default-first_in_runs-clause-reply g c =
-    right_done c.args.parts.now.entries (holder_of c.args.locks.now) c.args.limit c.args.wishes.now c.in-Some.wish c.in-Some.ensures c.in_default-first_in_runs.ensures.first
+    right_done c.args.parts.now.entries (holder_of c.args.locks.now) c.args.limit c.args.wishes.now c.in-Some.wish
+    c.in-Some.ensures c.in_default-first_in_runs.ensures.first
 
 pub note_merged-requires : goal.note_merged-requires
-note_merged-requires g c = none_in_runs c.args.parts.now.entries c.in-Some.wish (c.args.parts.now.runs + 1) (sym c.in_default-first_in_runs.ensures.first)
+note_merged-requires g c = none_in_runs c.args.parts.now.entries c.in-Some.wish (c.args.parts.now.runs + 1)
+    (sym c.in_default-first_in_runs.ensures.first)
 
 pub returns-in-Some-exclusive_at-clause-reply : goal.returns-in-Some-exclusive_at-clause-reply
 returns-in-Some-exclusive_at-clause-reply g c =
-    right_ended c.args.parts.now.entries (holder_of c.args.locks.now) c.args.limit c.args.wishes.now c.in-Some.wish c.in-Some.ensures c.in-Some-first_in_runs.first c.in-Some-first_in_runs.ensures.first c.in-Some-exclusive_at.holder
-    (holder_is c.args.locks.now c.in-Some-first_in_runs.first.key (Some c.in-Some-exclusive_at.holder) c.in-Some-exclusive_at.ensures.holder)
+    right_ended c.args.parts.now.entries (holder_of c.args.locks.now) c.args.limit c.args.wishes.now c.in-Some.wish
+    c.in-Some.ensures c.in-Some-first_in_runs.first c.in-Some-first_in_runs.ensures.first
+    c.in-Some-exclusive_at.holder
+    (holder_is c.args.locks.now c.in-Some-first_in_runs.first.key (Some c.in-Some-exclusive_at.holder)
+    c.in-Some-exclusive_at.ensures.holder)
 
 pub work_off_run-requires-clause-free : goal.work_off_run-requires-clause-free
-work_off_run-requires-clause-free g c = holder_is c.args.locks.now c.in-Some-first_in_runs.first.key None c.in_default-exclusive_at.ensures.holder
+work_off_run-requires-clause-free g c = holder_is c.args.locks.now c.in-Some-first_in_runs.first.key None
+    c.in_default-exclusive_at.ensures.holder
 
 pub returns-in-0-clause-reply : goal.returns-in-0-clause-reply
 returns-in-0-clause-reply g c =
-    right_refused c.args.parts.now.entries (holder_of c.args.locks.now) c.args.limit c.args.wishes.now c.in-Some.wish c.in-Some.ensures c.in-Some-first_in_runs.first c.in-Some-first_in_runs.ensures.first
-    (holder_is c.args.locks.now c.in-Some-first_in_runs.first.key None c.in_default-exclusive_at.ensures.holder) c.requires.some
-    (subst (IsAsFar c.args.parts.now.entries (holder_of c.args.locks.now) c.args.limit c.in-Some-first_in_runs.first.part (candidates c.args.parts.now.entries c.in-Some.wish)) c.in-0.is c.work_off_run.ensures.far)
+    right_refused c.args.parts.now.entries (holder_of c.args.locks.now) c.args.limit c.args.wishes.now c.in-Some.wish
+    c.in-Some.ensures c.in-Some-first_in_runs.first c.in-Some-first_in_runs.ensures.first
+    (holder_is c.args.locks.now c.in-Some-first_in_runs.first.key None c.in_default-exclusive_at.ensures.holder)
+    c.requires.some
+    (subst (IsAsFar c.args.parts.now.entries (holder_of c.args.locks.now) c.args.limit
+    c.in-Some-first_in_runs.first.part (candidates c.args.parts.now.entries c.in-Some.wish)) c.in-0.is
+    c.work_off_run.ensures.far)
 
 pub returns-in_default-work_off_run-clause-reply :
     goal.returns-in_default-work_off_run-clause-reply
 returns-in_default-work_off_run-clause-reply g c =
-    right_moved c.args.parts.now.entries (holder_of c.args.locks.now) c.args.limit c.args.wishes.now c.in-Some.wish c.in-Some.ensures c.in-Some-first_in_runs.first c.in-Some-first_in_runs.ensures.first
+    right_moved c.args.parts.now.entries (holder_of c.args.locks.now) c.args.limit c.args.wishes.now c.in-Some.wish
+    c.in-Some.ensures c.in-Some-first_in_runs.first c.in-Some-first_in_runs.ensures.first
     (holder_is c.args.locks.now c.in-Some-first_in_runs.first.key None c.in_default-exclusive_at.ensures.holder)
     c.work_off_run.result (λ none. absurd (omega (arith, none))) c.work_off_run.ensures.far
 
 pub returns-in_default-work_off_run-clause-content :
     goal.returns-in_default-work_off_run-clause-content
 returns-in_default-work_off_run-clause-content g c =
-    same_content c.first_in_runs.ensures.sound c.args.wishes.now (holder_of c.args.locks.now) c.args.limit (Moved c.work_off_run.result c.in-Some-first_in_runs.first.part)
-    (right_moved c.args.parts.now.entries (holder_of c.args.locks.now) c.args.limit c.args.wishes.now c.in-Some.wish c.in-Some.ensures c.in-Some-first_in_runs.first c.in-Some-first_in_runs.ensures.first
+    same_content c.first_in_runs.ensures.sound c.args.wishes.now (holder_of c.args.locks.now) c.args.limit
+    (Moved c.work_off_run.result c.in-Some-first_in_runs.first.part)
+    (right_moved c.args.parts.now.entries (holder_of c.args.locks.now) c.args.limit c.args.wishes.now c.in-Some.wish
+    c.in-Some.ensures c.in-Some-first_in_runs.first c.in-Some-first_in_runs.ensures.first
     (holder_is c.args.locks.now c.in-Some-first_in_runs.first.key None c.in_default-exclusive_at.ensures.holder)
     c.work_off_run.result (λ none. absurd (omega (arith, none))) c.work_off_run.ensures.far)
     (c.work_off_run.ensures.entries
-    ∙ ap (λ cs. all_worked_off cs c.args.parts.now.entries) (sym (merged c.args.parts.now.entries c.args.wishes.now c.in-Some.wish c.in-Some.ensures c.work_off_run.result c.in-Some-first_in_runs.first.part)))
+    ∙ ap (λ cs. all_worked_off cs c.args.parts.now.entries)
+    (sym (merged c.args.parts.now.entries c.args.wishes.now c.in-Some.wish c.in-Some.ensures c.work_off_run.result
+    c.in-Some-first_in_runs.first.part)))

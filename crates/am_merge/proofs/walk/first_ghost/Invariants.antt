@@ -7,7 +7,8 @@ use Rattle.am_merge.proofs.walk.first_ghost.Given as goal
 abbrev pub invariant-loop-entry : goal.invariant-loop-entry
 invariant-loop-entry g l = record {
   in_range : key_le l.range.lo l.key ≡ true;
-  same : first_such (ghost_from l.range (l.part, l.key)) l.parts.entries ≡ first_such (ghost_from l.range l.fn.from) l.parts.entries;
+  same : first_such (ghost_from l.range (l.part, l.key)) l.parts.entries ≡ first_such (ghost_from l.range l.fn.from)
+      l.parts.entries;
 }
 
 abbrev pub decreases-loop-entry : goal.decreases-loop-entry

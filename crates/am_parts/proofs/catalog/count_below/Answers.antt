@@ -8,11 +8,15 @@ use Rattle.am_parts.proofs.Catalogued.{is_under, partitioned}
 use Rattle.am_parts.proofs.catalog.count_below.Goals as goal
 use Rattle.am_parts.proofs.catalog.count_below.Goals.{After-partition_point}
 
-point : (c : After-partition_point) → IsPartitionPoint (λ (r : OpenRun). is_under c.args.part r ≡ true) (λ (r : OpenRun). is_under c.args.part r ≡ false) c.args.runs.now c.partition_point.result
-point c = IsPartitionPoint-from_clause (is_under c.args.part) _ _ c.partition_point.ensures.partitioned (partitioned c.args.part c.args.runs.now c.requires) (λ a r q k. search rules)
+point : (c : After-partition_point) → IsPartitionPoint (λ (r : OpenRun). is_under c.args.part r ≡ true)
+    (λ (r : OpenRun). is_under c.args.part r ≡ false) c.args.runs.now c.partition_point.result
+point c = IsPartitionPoint-from_clause (is_under c.args.part) _ _ c.partition_point.ensures.partitioned
+    (partitioned c.args.part c.args.runs.now c.requires) (λ a r q k. search rules)
 
 pub returns-clause-below : goal.returns-clause-below
-returns-clause-below c = all_take _ c.args.runs.now c.partition_point.result c.partition_point.ensures.bound (λ k d lt. ltb-true _ _ ((point c).0 k d (omega arith) lt))
+returns-clause-below c = all_take _ c.args.runs.now c.partition_point.result c.partition_point.ensures.bound
+    (λ k d lt. ltb-true _ _ ((point c).0 k d (omega arith) lt))
 
 pub returns-clause-others : goal.returns-clause-others
-returns-clause-others c = all_drop _ c.args.runs.now c.partition_point.result (λ k d le lt. ltb-false _ _ ((point c).1 k d le lt))
+returns-clause-others c = all_drop _ c.args.runs.now c.partition_point.result
+    (λ k d le lt. ltb-false _ _ ((point c).1 k d le lt))

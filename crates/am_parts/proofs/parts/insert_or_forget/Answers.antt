@@ -14,12 +14,15 @@ take-requires g c = record {
   entries = insert_entry (g.I.PartIndex.entries c.args.index.now) c.args.entry;
   key = c.args.entry.key;
   catalog = c.requires.counted;
-  stands = ap is_some (ap (option_map slot_of) (entry_at_inserted (g.I.PartIndex.entries c.args.index.now) c.args.entry));
+  stands = ap is_some (ap (option_map slot_of) (entry_at_inserted (g.I.PartIndex.entries c.args.index.now)
+      c.args.entry));
 }
 
 pub returns-then-is_err-clause-catalog : goal.returns-then-is_err-clause-catalog
 returns-then-is_err-clause-catalog g c =
     let es = g.I.PartIndex.entries c.args.index.now in let x = c.args.entry in
-    let back : g.I.PartIndex.entries c.insert-added.new.self ≡ es = on_err c.insert-added.result (sym c.is_err.ensures.value ∙ c.if-is_err.true) c.insert-added.ensures.err in
+    let back : g.I.PartIndex.entries c.insert-added.new.self ≡ es =
+    on_err c.insert-added.result (sym c.is_err.ensures.value ∙ c.if-is_err.true) c.insert-added.ensures.err in
     subst (λ (l : List Entry). IsCatalog c.args.hash l c.take.new.self) (insert_back es x ∙ sym back)
-    (c.take.ensures.listed c.args.hash (insert_entry es x) x.key c.requires.counted (ap is_some (ap (option_map slot_of) (entry_at_inserted es x))))
+    (c.take.ensures.listed c.args.hash (insert_entry es x) x.key c.requires.counted
+    (ap is_some (ap (option_map slot_of) (entry_at_inserted es x))))

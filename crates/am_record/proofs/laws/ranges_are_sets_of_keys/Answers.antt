@@ -9,7 +9,8 @@ inside : (r : Interval) (key : OrderedKey) → within r key ≡ true → (key_le
 inside r key h = and_parts (key_le r.lo key) (key_le key r.hi) h
 
 -- the greater of the low ends is in both
-common : (a b : Interval) → IsOrdered a → IsOrdered b → meets a b ≡ true → (key : OrderedKey) × (within a key ≡ true) × (within b key ≡ true)
+common : (a b : Interval) → IsOrdered a → IsOrdered b → meets a b ≡ true → (key : OrderedKey) × (within a key ≡ true) ×
+    (within b key ≡ true)
 common a b p q h =
     let m = and_parts (key_le a.lo b.hi) (key_le b.lo a.hi) h in
     ⊎_elim
@@ -21,15 +22,18 @@ meet_there : (a b : Interval) → (key : OrderedKey) × (within a key ≡ true) 
 meet_there a b k =
     let s = inside a k.0 k.1 in
     let t = inside b k.0 k.2 in
-    and_from (key_le a.lo b.hi) (key_le b.lo a.hi) (key_le_trans a.lo k.0 b.hi s.0 t.1) (key_le_trans b.lo k.0 a.hi t.0 s.1)
+    and_from (key_le a.lo b.hi) (key_le b.lo a.hi) (key_le_trans a.lo k.0 b.hi s.0 t.1)
+    (key_le_trans b.lo k.0 a.hi t.0 s.1)
 
-all_inside : (outer inner : Interval) → encloses outer inner ≡ true → (key : OrderedKey) → within inner key ≡ true → within outer key ≡ true
+all_inside : (outer inner : Interval) → encloses outer inner ≡ true → (key : OrderedKey) → within inner key ≡ true →
+    within outer key ≡ true
 all_inside outer inner h key k =
     let e = and_parts (key_le outer.lo inner.lo) (key_le inner.hi outer.hi) h in
     let s = inside inner key k in
     in_ends outer key (key_le_trans outer.lo inner.lo key e.0 s.0) (key_le_trans key inner.hi outer.hi s.1 e.1)
 
-enclosed : (outer inner : Interval) → IsOrdered inner → ((key : OrderedKey) → within inner key ≡ true → within outer key ≡ true) → encloses outer inner ≡ true
+enclosed : (outer inner : Interval) → IsOrdered inner →
+    ((key : OrderedKey) → within inner key ≡ true → within outer key ≡ true) → encloses outer inner ≡ true
 enclosed outer inner p h =
     let low = inside outer inner.lo (h inner.lo (in_ends inner inner.lo (key_le-itself inner.lo) p)) in
     let high = inside outer inner.hi (h inner.hi (in_ends inner inner.hi p (key_le-itself inner.hi))) in

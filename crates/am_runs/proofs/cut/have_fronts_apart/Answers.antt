@@ -18,6 +18,8 @@ returns c = λ rising.
     let all : c.loop-run.fronts.items ≡ map key_front (keys_of (records_of c.args.runs.now)) =
     c.loop-run.invariant ∙ numbers_whole c.args.runs.now c.loop-run.run-index (omega (arith, c.loop-run-test.false)) in
     let moved : IsPermutation (map key_front (keys_of (records_of c.args.runs.now))) c.deref.result.now =
-    subst (λ (l : List ℕ). IsPermutation l c.deref.result.now) all (subst (IsPermutation c.loop-run.fronts.items) (sym c.deref.ensures.value) c.in_ok-sort.ensures.permutation) in
+    subst (λ (l : List ℕ). IsPermutation l c.deref.result.now) all
+    (subst (IsPermutation c.loop-run.fronts.items) (sym c.deref.ensures.value) c.in_ok-sort.ensures.permutation) in
     apart_by_number (keys_of (records_of c.args.runs.now)) c.deref.result.now moved
-    (rise_of c.deref.result.now c.is_sorted_by.result (c.is_sorted_by.ensures.cases (λ x y. nat_lt x y) (answers_always _ _ _ (λ f a r g h. search rules))) rising)
+    (rise_of c.deref.result.now c.is_sorted_by.result
+    (c.is_sorted_by.ensures.cases (λ x y. nat_lt x y) (answers_always _ _ _ (λ f a r g h. search rules))) rising)

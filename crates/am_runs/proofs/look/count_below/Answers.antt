@@ -8,17 +8,22 @@ use Rattle.am_runs.proofs.Parting.{parted, point_of_front, partitioned_front, so
 use Rattle.am_runs.proofs.look.count_below.Goals as goal
 use Rattle.am_runs.proofs.look.count_below.Goals.{After-partition_point}
 
-point : (c : After-partition_point) → IsPartitionPoint (λ (r : Record). is_lt (key_cmp r.0 c.args.key) ≡ true) (λ (r : Record). is_lt (key_cmp r.0 c.args.key) ≡ false) c.args.pairs.now c.partition_point.result
+point : (c : After-partition_point) → IsPartitionPoint (λ (r : Record). is_lt (key_cmp r.0 c.args.key) ≡ true)
+    (λ (r : Record). is_lt (key_cmp r.0 c.args.key) ≡ false) c.args.pairs.now c.partition_point.result
 point c =
     let test = λ (r : Record). is_lt (key_cmp r.0 c.args.key) in
     let pairs = c.args.pairs.now in
     let fits = c.front_len.ensures.in_range in
-    let in_order = partitioned_front test pairs c.front_len.result fits (sorted_partitioned c.args.key pairs c.requires) in
+    let in_order = partitioned_front test pairs c.front_len.result fits
+    (sorted_partitioned c.args.key pairs c.requires) in
     point_of_front test pairs c.front_len.result c.partition_point.result fits c.partition_point.ensures.bound
-    (IsPartitionPoint-from_clause test _ _ c.partition_point.ensures.partitioned in_order (λ a r q k. search rules)) c.front_len.ensures.all
+    (IsPartitionPoint-from_clause test _ _ c.partition_point.ensures.partitioned in_order (λ a r q k. search rules))
+    c.front_len.ensures.all
 
 pub returns-clause-below : goal.returns-clause-below
-returns-clause-below c = (parted (λ (r : Record). is_lt (key_cmp r.0 c.args.key)) c.args.pairs.now c.partition_point.result (point c)).0
+returns-clause-below c = (parted (λ (r : Record). is_lt (key_cmp r.0 c.args.key)) c.args.pairs.now
+    c.partition_point.result (point c)).0
 
 pub returns-clause-others : goal.returns-clause-others
-returns-clause-others c = (parted (λ (r : Record). is_lt (key_cmp r.0 c.args.key)) c.args.pairs.now c.partition_point.result (point c)).1
+returns-clause-others c = (parted (λ (r : Record). is_lt (key_cmp r.0 c.args.key)) c.args.pairs.now
+    c.partition_point.result (point c)).1

@@ -4,4 +4,5 @@ use Rattle.am_runs.proofs.look.front_len.Goals as goal
 
 pub returns-then-le-clause-all : goal.returns-then-le-clause-all
 returns-then-le-clause-all c k d from below =
-    none_below_from c.args.key c.args.pairs.now c.requires c.loop-len.len c.index-pairs-len.result (omega arith) (sym c.le.ensures ∙ c.if-le.true) k d (omega arith) below
+    none_below_from c.args.key c.args.pairs.now c.requires c.loop-len.len c.index-pairs-len.result (omega arith)
+    (sym c.le.ensures ∙ c.if-le.true) k d (omega arith) below

@@ -21,9 +21,15 @@ returns-clause-spoke g c =
     let lines_whole = c.answers_are_lines.ensures.whole auto in
     let lines_torn = c.answers_are_lines.ensures.torn auto in
     let say_torn = c.sound_dialogues_say.ensures.torn auto in
-    ends_by (λ bytes. Took g.S.AnsweredSource.comes c.args.source.now bytes c.serve.new.source) (λ text. Gave g.K.Sink.holds c.args.sink.now text c.serve.new.sink) (PartsBehind g.K.Sink.holds (λ x y z. Unit {0}) c.args.sink.now c.serve.new.sink b) (g.S.AnsweredSource.comes c.serve.new.source [])
-    (λ exchanges events. AnswersAll solo_meaning auto s0 exchanges events b) (λ exchanges events. IsSpoken auto Whole exchanges exchanges events)
-    (λ exchanges last events. AnswersOneMore solo_meaning auto s0 exchanges last events b) (λ exchanges last events. IsSpoken auto (TornAt last) exchanges (exchanges ++ last ∷ []) events)
+    ends_by (λ bytes. Took g.S.AnsweredSource.comes c.args.source.now bytes c.serve.new.source)
+    (λ text. Gave g.K.Sink.holds c.args.sink.now text c.serve.new.sink)
+    (PartsBehind g.K.Sink.holds (λ x y z. Unit {0}) c.args.sink.now c.serve.new.sink b)
+    (g.S.AnsweredSource.comes c.serve.new.source [])
+    (λ exchanges events. AnswersAll solo_meaning auto s0 exchanges events b)
+    (λ exchanges events. IsSpoken auto Whole exchanges exchanges events)
+    (λ exchanges last events. AnswersOneMore solo_meaning auto s0 exchanges last events b)
+    (λ exchanges last events. IsSpoken auto (TornAt last) exchanges (exchanges ++ last ∷ []) events)
     (b ≡ s0) (Unit {0})
-    (spoken_whole auto s0 fresh opened sound legal_of say_whole lines_whole lines_torn say_torn b) (spoken_torn auto s0 fresh opened sound legal_of say_whole lines_whole lines_torn say_torn b) (λ same. tt)
+    (spoken_whole auto s0 fresh opened sound legal_of say_whole lines_whole lines_torn say_torn b)
+    (spoken_torn auto s0 fresh opened sound legal_of say_whole lines_whole lines_torn say_torn b) (λ same. tt)
     c.serve.result c.serve.ensures.served

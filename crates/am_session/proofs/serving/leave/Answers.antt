@@ -7,5 +7,7 @@ use Rattle.am_session.proofs.serving.leave.Goals as goal
 
 pub returns-in-Some-clause-left : goal.returns-in-Some-clause-left
 returns-in-Some-clause-left g c =
-    let goes = subst (λ (r : Reply). g.B.Backend.means.steps c.args.backend.now (Abort c.in-Some.tx) r c.call.new.self) c.call.ensures.aborted c.call.ensures.steps in
-    subst (λ (a : Option ℕ). Left g.B.Backend.means a c.args.backend.now c.call.new.self) (sym c.in-Some.is) ((Abort c.in-Some.tx, Aborted) ∷ [], (goes, refl))
+    let goes = subst (λ (r : Reply). g.B.Backend.means.steps c.args.backend.now (Abort c.in-Some.tx) r c.call.new.self)
+    c.call.ensures.aborted c.call.ensures.steps in
+    subst (λ (a : Option ℕ). Left g.B.Backend.means a c.args.backend.now c.call.new.self) (sym c.in-Some.is)
+    ((Abort c.in-Some.tx, Aborted) ∷ [], (goes, refl))

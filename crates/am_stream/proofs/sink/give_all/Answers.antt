@@ -16,7 +16,10 @@ more_pending false q r a b e f = f ∙ ap (λ x. x || ltb 0 b) e ∙ either a b
 pub loop-done-preserved : goal.loop-done-preserved
 loop-done-preserved g c = record {
   within = omega (arith, length-drop {A = ℕ}, c.in_ok-done.ensures.fits);
-  given = rw (take-add) (gave_then g.K.Sink.holds c.args.sink.now c.loop-done.sink c.give.new.self _ _ c.loop-done.invariant.given (simp take_rest at c.in_ok-done.ensures.given));
-  pending = more_pending (g.K.Sink.pending c.args.sink.now) (g.K.Sink.pending c.loop-done.sink) (g.K.Sink.pending c.give.new.self) c.loop-done.done c.in_ok-done.field-0 c.loop-done.invariant.pending c.in_ok-done.ensures.pending;
+  given = rw (take-add) (gave_then g.K.Sink.holds c.args.sink.now c.loop-done.sink c.give.new.self _ _
+      c.loop-done.invariant.given (simp take_rest at c.in_ok-done.ensures.given));
+  pending = more_pending (g.K.Sink.pending c.args.sink.now) (g.K.Sink.pending c.loop-done.sink)
+      (g.K.Sink.pending c.give.new.self) c.loop-done.done c.in_ok-done.field-0 c.loop-done.invariant.pending
+      c.in_ok-done.ensures.pending;
   ok = c.in_ok-done.ensures.ok ∙ c.loop-done.invariant.ok;
 }

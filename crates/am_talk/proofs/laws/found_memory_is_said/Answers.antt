@@ -6,8 +6,10 @@ use Rattle.am_talk.proofs.laws.found_memory_is_said.Goals as goal
 
 pub returns-clause-unstaged : goal.returns-clause-unstaged
 returns-clause-unstaged c = λ exchanges says all.
-    in_one_piece exchanges dialogue_start says (unstaged_keeps exchanges dialogue_start refl (recursion_from_All StagesNothing exchanges all))
+    in_one_piece exchanges dialogue_start says (unstaged_keeps exchanges dialogue_start refl
+    (recursion_from_All StagesNothing exchanges all))
 
 pub returns-clause-found : goal.returns-clause-found
 returns-clause-found c = λ exchanges says all.
-    in_one_piece exchanges dialogue_start says (loses_keeps exchanges dialogue_start (recursion_from_All LosesNothing exchanges all))
+    in_one_piece exchanges dialogue_start says (loses_keeps exchanges dialogue_start
+    (recursion_from_All LosesNothing exchanges all))

@@ -13,9 +13,11 @@ opened = record { begun = 0; commits = 0; runs = 0; committed = empty; own = Non
 pub returns-clause-whole : goal.returns-clause-whole
 unfolding opened
 returns-clause-whole c = λ auto exchanges trace sound dialogue.
-    subst Says (append-nil exchanges) (dialogues_say auto Whole [] whole_says exchanges opened (at_start, 0) trace refl ((c.sound_traces_are_runs.ensures trace).0 sound) dialogue)
+    subst Says (append-nil exchanges) (dialogues_say auto Whole [] whole_says exchanges opened (at_start, 0) trace refl
+    ((c.sound_traces_are_runs.ensures trace).0 sound) dialogue)
 
 pub returns-clause-torn : goal.returns-clause-torn
 unfolding opened
 returns-clause-torn c = λ auto exchanges last trace sound dialogue.
-    dialogues_say auto (TornAt last) (last ∷ []) (torn_says last) exchanges opened (at_start, 0) trace refl ((c.sound_traces_are_runs.ensures trace).0 sound) dialogue
+    dialogues_say auto (TornAt last) (last ∷ []) (torn_says last) exchanges opened (at_start, 0) trace refl
+    ((c.sound_traces_are_runs.ensures trace).0 sound) dialogue

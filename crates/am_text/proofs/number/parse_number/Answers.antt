@@ -12,7 +12,8 @@ pub unreachable-requires : goal.unreachable-requires
 unreachable-requires c =
     let text = c.args.field.now in
     let numeral : is_numeral text ≡ true = sym c.is_numeral.ensures ∙ c.if-not-is_numeral.false in
-    c.in-Err.ensures.cases.0 (IsUtf8-from_ascii text (IsAscii-from_digits text (are_digits.to text (is_numeral-digits text numeral))))
+    c.in-Err.ensures.cases.0 (IsUtf8-from_ascii text
+    (IsAscii-from_digits text (are_digits.to text (is_numeral-digits text numeral))))
 
 pub returns : goal.returns
 returns c =

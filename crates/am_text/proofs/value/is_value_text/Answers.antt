@@ -8,5 +8,6 @@ use Rattle.am_text.proofs.value.is_value_text.Goals as goal
 pub returns-then-not-is_empty : goal.returns-then-not-is_empty
 returns-then-not-is_empty c =
     let text = c.args.text.now in
-    let all = all_from_yields_List is_ascii_graphic _ _ c.all.result c.all.ensures.ran (YieldsList-from_slice text cc) (λ x b q k. search (rules, tests)) in
+    let all = all_from_yields_List is_ascii_graphic _ _ c.all.result c.all.ensures.ran (YieldsList-from_slice text cc)
+    (λ x b q k. search (rules, tests)) in
     all ∙ ap (λ b. not b && list_all is_ascii_graphic text) (sym c.if-not-is_empty.true ∙ c.is_empty.ensures)

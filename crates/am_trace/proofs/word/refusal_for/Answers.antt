@@ -12,4 +12,6 @@ pub returns : goal.returns
 unfolding refusal_for
 returns c =
     let code = c.args.code.now in
-    sym (option_map-itself c.find.result) ∙ find_from_yields_List (λ r. bytes_eq (refusal_code r) code) _ _ c.find.result c.find.ensures.ran (YieldsList-from_copied (YieldsList-from_slice coded_refusals cc)) (λ x b q k. search (rules, tests))
+    sym (option_map-itself c.find.result) ∙ find_from_yields_List (λ r. bytes_eq (refusal_code r) code) _ _
+    c.find.result c.find.ensures.ran (YieldsList-from_copied (YieldsList-from_slice coded_refusals cc))
+    (λ x b q k. search (rules, tests))

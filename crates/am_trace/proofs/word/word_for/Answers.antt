@@ -12,4 +12,6 @@ pub returns : goal.returns
 unfolding word_for
 returns c =
     let text = c.args.text.now in
-    sym (option_map-itself c.find.result) ∙ find_from_yields_List (λ w. bytes_eq (word_text w) text) _ _ c.find.result c.find.ensures.ran (YieldsList-from_copied (YieldsList-from_slice all_words cc)) (λ x b q k. search (rules, tests))
+    sym (option_map-itself c.find.result) ∙ find_from_yields_List (λ w. bytes_eq (word_text w) text) _ _ c.find.result
+    c.find.ensures.ran (YieldsList-from_copied (YieldsList-from_slice all_words cc))
+    (λ x b q k. search (rules, tests))

@@ -3,17 +3,26 @@ use Rattle.am_undo.proofs.Run.{Buries, starts, goes_on, goes_down}
 use Rattle.am_undo.proofs.undo_log.bury_run.Goals as goal
 
 pub loop-next-init : goal.loop-next-init
-loop-next-init g c = record { buries = starts c.args.parts.now.entries c.args.run c.least.result c.next_from-next.result c.next_from-next.ensures.sound.rising c.least.ensures.least c.next_from-next.ensures.found; runs = refl }
+loop-next-init g c = record {
+  buries = starts c.args.parts.now.entries c.args.run c.least.result c.next_from-next.result
+      c.next_from-next.ensures.sound.rising c.least.ensures.least c.next_from-next.ensures.found;
+  runs = refl;
+}
 
 pub loop-next-smaller : goal.loop-next-smaller
 loop-next-smaller g c =
     rw c.in-Some.is
-    (goes_down c.args.parts.now.entries c.loop-next.parts.entries c.args.run c.in-Some.entry (subst (λ n. Buries c.args.parts.now.entries c.loop-next.parts.entries c.args.run n) c.in-Some.is c.loop-next.invariant.buries)
+    (goes_down c.args.parts.now.entries c.loop-next.parts.entries c.args.run c.in-Some.entry
+    (subst (λ n. Buries c.args.parts.now.entries c.loop-next.parts.entries c.args.run n) c.in-Some.is
+    c.loop-next.invariant.buries)
     c.set.new.self.entries c.after-next.result c.after-next.ensures.found)
 
 pub loop-next-preserved : goal.loop-next-preserved
 loop-next-preserved g c = record {
-  buries = goes_on c.args.parts.now.entries c.loop-next.parts.entries c.args.run c.in-Some.entry (subst (λ n. Buries c.args.parts.now.entries c.loop-next.parts.entries c.args.run n) c.in-Some.is c.loop-next.invariant.buries)
-      c.set.new.self.entries c.after-next.result c.set.ensures.entries c.after-next.ensures.sound.rising c.after-next.ensures.found;
+  buries = goes_on c.args.parts.now.entries c.loop-next.parts.entries c.args.run c.in-Some.entry
+      (subst (λ n. Buries c.args.parts.now.entries c.loop-next.parts.entries c.args.run n) c.in-Some.is
+      c.loop-next.invariant.buries)
+      c.set.new.self.entries c.after-next.result c.set.ensures.entries c.after-next.ensures.sound.rising
+      c.after-next.ensures.found;
   runs = c.set.ensures.runs ∙ c.loop-next.invariant.runs;
 }

@@ -10,19 +10,23 @@ use Rattle.am_wire.specs.declared.request.Request.{Request}
 use Rattle.am_text.specs.declared.fault.LineFault.{LineFault}
 use Rattle.am_wire.proofs.parse.parse_with.Goals as goal
 
-at : (v w : Verb) (fs : List (List ℕ)) (r : Result Request LineFault) → w ≡ v → MayRead (verb_reading (Some v) fs) r → MayRead (verb_reading (Some w) fs) r
+at : (v w : Verb) (fs : List (List ℕ)) (r : Result Request LineFault) → w ≡ v → MayRead (verb_reading (Some v) fs) r →
+    MayRead (verb_reading (Some w) fs) r
 at v w fs r e h = subst (λ (x : Verb). MayRead (verb_reading (Some x) fs) r) (sym e) h
 
-due : (v w : Verb) (fs : List (List ℕ)) (r : Result Request LineFault) → w ≡ v → r ≡ verb_reading (Some v) fs → MayRead (verb_reading (Some w) fs) r
+due : (v w : Verb) (fs : List (List ℕ)) (r : Result Request LineFault) → w ≡ v → r ≡ verb_reading (Some v) fs →
+    MayRead (verb_reading (Some w) fs) r
 due v w fs r e f = at v w fs r e (inl f)
 
 -- a request made of the records that the line brings
 module _ (request : Records → Request) (brings : (records : Records) → brings_records (request records) ≡ true) where
-  refused : (values : Result Records LineFault) → IsOk values → (asked : Request) × (map_ok request values ≡ Ok asked) × (brings_records asked ≡ true)
+  refused : (values : Result Records LineFault) → IsOk values → (asked : Request) × (map_ok request values ≡ Ok asked) ×
+      (brings_records asked ≡ true)
   refused (Ok records) h = (request records, refl, brings records)
   refused (Err e) h = cc
 
-  brought : (values read : Result Records LineFault) (r : Result Request LineFault) → MayBeRefused values read → r ≡ map_ok request read → MayRead (map_ok request values) r
+  brought : (values read : Result Records LineFault) (r : Result Request LineFault) → MayBeRefused values read →
+      r ≡ map_ok request read → MayRead (map_ok request values) r
   brought values read r (inl same) e = inl (e ∙ ap (map_ok request) same)
   brought values read r (inr none) e = inr (e ∙ ap (map_ok request) none.0, refused values none.1)
 
@@ -60,16 +64,24 @@ pub returns-in_ok-parse_one_key-in-Delete : goal.returns-in_ok-parse_one_key-in-
 returns-in_ok-parse_one_key-in-Delete c = due verb.Delete c.args.verb c.args.fields _ c.in-Delete.is (search rules)
 
 pub returns-in_err-parse_records-in-Load : goal.returns-in_err-parse_records-in-Load
-returns-in_err-parse_records-in-Load c = at verb.Load c.args.verb c.args.fields _ c.in-Load.is (brought (request_with verb.Load) (λ records. refl) (values_in some_records c.args.fields) c.parse_records.result _ c.parse_records.ensures (search rules))
+returns-in_err-parse_records-in-Load c = at verb.Load c.args.verb c.args.fields _ c.in-Load.is
+    (brought (request_with verb.Load) (λ records. refl) (values_in some_records c.args.fields) c.parse_records.result _
+    c.parse_records.ensures (search rules))
 
 pub returns-in_ok-parse_records-in-Load : goal.returns-in_ok-parse_records-in-Load
-returns-in_ok-parse_records-in-Load c = at verb.Load c.args.verb c.args.fields _ c.in-Load.is (brought (request_with verb.Load) (λ records. refl) (values_in some_records c.args.fields) c.parse_records.result _ c.parse_records.ensures (search rules))
+returns-in_ok-parse_records-in-Load c = at verb.Load c.args.verb c.args.fields _ c.in-Load.is
+    (brought (request_with verb.Load) (λ records. refl) (values_in some_records c.args.fields) c.parse_records.result _
+    c.parse_records.ensures (search rules))
 
 pub returns-in_err-parse_records-in-Stage : goal.returns-in_err-parse_records-in-Stage
-returns-in_err-parse_records-in-Stage c = at verb.Stage c.args.verb c.args.fields _ c.in-Stage.is (brought (request_with verb.Stage) (λ records. refl) (values_in some_records c.args.fields) c.parse_records-in-Stage.result _ c.parse_records-in-Stage.ensures (search rules))
+returns-in_err-parse_records-in-Stage c = at verb.Stage c.args.verb c.args.fields _ c.in-Stage.is
+    (brought (request_with verb.Stage) (λ records. refl) (values_in some_records c.args.fields)
+    c.parse_records-in-Stage.result _ c.parse_records-in-Stage.ensures (search rules))
 
 pub returns-in_ok-parse_records-in-Stage : goal.returns-in_ok-parse_records-in-Stage
-returns-in_ok-parse_records-in-Stage c = at verb.Stage c.args.verb c.args.fields _ c.in-Stage.is (brought (request_with verb.Stage) (λ records. refl) (values_in some_records c.args.fields) c.parse_records-in-Stage.result _ c.parse_records-in-Stage.ensures (search rules))
+returns-in_ok-parse_records-in-Stage c = at verb.Stage c.args.verb c.args.fields _ c.in-Stage.is
+    (brought (request_with verb.Stage) (λ records. refl) (values_in some_records c.args.fields)
+    c.parse_records-in-Stage.result _ c.parse_records-in-Stage.ensures (search rules))
 
 pub returns-in_err-parse_mode_and_range-in-Lock : goal.returns-in_err-parse_mode_and_range-in-Lock
 returns-in_err-parse_mode_and_range-in-Lock c = due verb.Lock c.args.verb c.args.fields _ c.in-Lock.is (search rules)

@@ -17,4 +17,11 @@ returns-clause-moved g c =
     let idle = c.split_at_mut-workers.result.1.now in
     let worked = c.work_in_threads.new.workers in
     let gain = all_gain _ _ _ _ c.work_in_threads.ensures in
-    rw c.split_at_mut-workers.ensures.value (omega (arith, gain, c.moved_by-before.ensures, c.moved_by.ensures, all_moved-append workers idle, all_moved-append worked idle))
+    rw c.split_at_mut-workers.ensures.value (omega (
+      arith,
+      gain,
+      c.moved_by-before.ensures,
+      c.moved_by.ensures,
+      all_moved-append workers idle,
+      all_moved-append worked idle,
+    ))

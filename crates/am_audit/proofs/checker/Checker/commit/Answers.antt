@@ -12,23 +12,29 @@ may_commit-requires g c = (
 
 pub returns-in_default : goal.returns-in_default
 returns-in_default g c = record {
-  takes = takes_still _ g.here _ c.args.reply.now (commit_nothing c.args.tx c.args.reply.now c.in_default.not-Committed) (record { formed = c.if-not-may_commit.ensures.0 refl; busy = tt }) c.requires;
+  takes = takes_still _ g.here _ c.args.reply.now (commit_nothing c.args.tx c.args.reply.now c.in_default.not-Committed)
+      (record { formed = c.if-not-may_commit.ensures.0 refl; busy = tt }) c.requires;
   event_fault = tt;
 }
 
 pub unreachable-requires : goal.unreachable-requires
 unreachable-requires g c =
-    listed_here c.args.self.now g.here c.requires c.args.tx c.args.reply.now c.in-Committed.commit c.in-Committed.is (c.if-not-may_commit.ensures.0 refl) _ c.deref-2.ensures.value c.in_default-own.ensures.none
+    listed_here c.args.self.now g.here c.requires c.args.tx c.args.reply.now c.in-Committed.commit c.in-Committed.is
+    (c.if-not-may_commit.ensures.0 refl) _ c.deref-2.ensures.value c.in_default-own.ensures.none
 
 pub returns-in-Err-clause-event_fault : goal.returns-in-Err-clause-event_fault
 returns-in-Err-clause-event_fault g c =
-    replay_flaw c.args.self.now g.here c.requires c.args.tx c.args.reply.now c.in-Committed.commit c.in-Committed.is (c.if-not-may_commit.ensures.0 refl) _ c.deref-2.ensures.value _ c.in-Some.ensures.found.1
+    replay_flaw c.args.self.now g.here c.requires c.args.tx c.args.reply.now c.in-Committed.commit c.in-Committed.is
+    (c.if-not-may_commit.ensures.0 refl) _ c.deref-2.ensures.value _ c.in-Some.ensures.found.1
     c.in-Err.event_fault c.in-Err.ensures.wrong
 
 pub end-requires : goal.end-requires
-end-requires g c = owner_ends c.args.self.now g.here c.requires c.args.tx c.args.reply.now c.in-Committed.commit c.in-Committed.is (c.if-not-may_commit.ensures.0 refl)
+end-requires g c = owner_ends c.args.self.now g.here c.requires c.args.tx c.args.reply.now c.in-Committed.commit
+    c.in-Committed.is (c.if-not-may_commit.ensures.0 refl)
 
 pub returns-clause-takes : goal.returns-clause-takes
 returns-clause-takes g c =
-    takes_commit c.args.self.now g.here c.requires c.args.tx c.args.reply.now c.in-Committed.commit c.in-Committed.is (c.if-not-may_commit.ensures.0 refl) _ c.deref-2.ensures.value _ c.in-Some.ensures.found.1
-    _ c.replay.new.committed c.in_default-replay.ensures.answers c.in_default-replay.ensures.left refl refl refl c.end.ensures.active c.end.ensures.locks c.forget_saved.ensures
+    takes_commit c.args.self.now g.here c.requires c.args.tx c.args.reply.now c.in-Committed.commit c.in-Committed.is
+    (c.if-not-may_commit.ensures.0 refl) _ c.deref-2.ensures.value _ c.in-Some.ensures.found.1
+    _ c.replay.new.committed c.in_default-replay.ensures.answers c.in_default-replay.ensures.left refl refl refl
+    c.end.ensures.active c.end.ensures.locks c.forget_saved.ensures

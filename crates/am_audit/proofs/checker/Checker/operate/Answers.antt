@@ -9,14 +9,17 @@ pub refusal-requires : goal.refusal-requires
 refusal-requires g c = (
   c.requires.0.runs,
   (
-    counted c.args.self.now g.here c.requires.0 _ c.deref.ensures.value c.args.tx c.operations.result c.operations.ensures.found,
-    not_counted c.args.self.now g.here c.requires.0 _ c.deref.ensures.value c.args.tx c.operations.result c.operations.ensures.none,
+    counted c.args.self.now g.here c.requires.0 _ c.deref.ensures.value c.args.tx c.operations.result
+        c.operations.ensures.found,
+    not_counted c.args.self.now g.here c.requires.0 _ c.deref.ensures.value c.args.tx c.operations.result
+        c.operations.ensures.none,
   ),
 )
 
 pub returns-then-not-is_refused-clause-event_fault : goal.returns-then-not-is_refused-clause-event_fault
 returns-then-not-is_refused-clause-event_fault g c =
-    early_wrong g.here.state c.args.tx c.args.op c.args.reply c.in-Some.why (sym c.in-Some.ensures) (λ e. false≢true (c.if-not-is_refused.ensures.1 e))
+    early_wrong g.here.state c.args.tx c.args.op c.args.reply c.in-Some.why (sym c.in-Some.ensures)
+    (λ e. false≢true (c.if-not-is_refused.ensures.1 e))
 
 pub returns-in-Some-clause-takes : goal.returns-in-Some-clause-takes
 returns-in-Some-clause-takes g c =
@@ -26,4 +29,5 @@ returns-in-Some-clause-takes g c =
 
 pub returns-then-is_early-clause-event_fault : goal.returns-then-is_early-clause-event_fault
 returns-then-is_early-clause-event_fault g c =
-    early_unasked g.here.state c.args.tx c.args.op c.args.reply (sym c.in_default.ensures) (sym c.is_early.ensures ∙ c.if-is_early.true)
+    early_unasked g.here.state c.args.tx c.args.op c.args.reply (sym c.in_default.ensures)
+    (sym c.is_early.ensures ∙ c.if-is_early.true)

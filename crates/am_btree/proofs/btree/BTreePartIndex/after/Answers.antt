@@ -7,5 +7,6 @@ use Rattle.am_btree.proofs.btree.BTreePartIndex.after.Goals as goal
 
 pub returns-clause-found : goal.returns-clause-found
 returns-clause-found c =
-    c.of_part.ensures ∙ ap (only_of c.args.part) c.seek.ensures.found ∙ after_is c.args.part c.args.key c.self.inside.root.entries c.seek.ensures.rising
+    c.of_part.ensures ∙ ap (only_of c.args.part) c.seek.ensures.found ∙
+    after_is c.args.part c.args.key c.self.inside.root.entries c.seek.ensures.rising
     ∙ ap (λ (s : Shape). after s.entries c.args.part c.args.key) c.self.view_is

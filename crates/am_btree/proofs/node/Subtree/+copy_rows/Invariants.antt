@@ -9,5 +9,6 @@ decreases-copy_rows l = goal.size-copy_rows l
 abbrev pub invariant-loop-at : goal.invariant-loop-at
 invariant-loop-at l = record {
   fits : length l.rows.items ≤ l.fn.max;
-  same : take l.fn.max (l.rows.items ++ rows_in (all_entries (drop l.at l.children.items)) l.fn.part l.fn.range) ≡ take l.fn.max (l.fn.rows.items ++ rows_in (all_entries l.children.items) l.fn.part l.fn.range);
+  same : take l.fn.max (l.rows.items ++ rows_in (all_entries (drop l.at l.children.items)) l.fn.part l.fn.range) ≡ take
+      l.fn.max (l.fn.rows.items ++ rows_in (all_entries l.children.items) l.fn.part l.fn.range);
 }

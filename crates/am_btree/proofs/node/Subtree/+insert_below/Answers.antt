@@ -1,18 +1,22 @@
-use Rattle.std.proofs.Common.{◌≡◌, ℕ, ◌+◌, ◌<◌, length, get_or, set, IfOk, OnOk, IfSome, IsSome, Option, None, Some, Err, vec_len, vec_capacity, sym, ap, ◌∙◌, subst, rules, arith}
+use Rattle.std.proofs.Common.{◌≡◌, ℕ, ◌+◌, ◌<◌, length, get_or, set, IfOk, OnOk, IfSome, IsSome, Option, None, Some}
+use Rattle.std.proofs.Common.{Err, vec_len, vec_capacity, sym, ap, ◌∙◌, subst, rules, arith}
 use Rattle.std.specs.List.{insert}
 use Rattle.std.specs.Result.{IsErrAnd}
 use Rattle.am_btree.specs.declared.insert.Obstacle.TheVariants.{Taken}
 use Rattle.am_list.specs.Entries.{find, insert_entry}
 use Rattle.am_btree.specs.Shape.{Shape}
 use Rattle.am_btree.specs.Separators.{SeparatorsRise, IsReach}
-use Rattle.am_btree.specs.Nodes.{all_entries, depth_of, leaf_shape, inner_shape, shape_of, IsTree, IsInner, AreFilledChildren}
+use Rattle.am_btree.specs.Nodes.{all_entries, depth_of, leaf_shape, inner_shape, shape_of, IsTree, IsInner}
+use Rattle.am_btree.specs.Nodes.{AreFilledChildren}
 use Rattle.am_btree.specs.Grown.{Grows, NowHolds}
 use Rattle.am_btree.proofs.Parting.{parted_lengths, children_rise}
 use Rattle.am_btree.proofs.Children.{find_in_child}
-use Rattle.am_btree.proofs.Growing.{before, before_is, child_from_reach, one_inner, one_entries, two_children, two_entries, set_deep, within, length_lowered}
+use Rattle.am_btree.proofs.Growing.{before, before_is, child_from_reach, one_inner, one_entries, two_children}
+use Rattle.am_btree.proofs.Growing.{two_entries, set_deep, within, length_lowered}
 use Rattle.am_btree.proofs.Inner.{one_below}
 use Rattle.am_btree.proofs.node.Subtree.+insert_below.Goals as goal
-use Rattle.am_btree.proofs.node.Subtree.+insert_below.Goals.{in-Leaf, in-Inner+in_ok-more-in-Inner+in_ok-grown-in-Inner+in-Some}
+use Rattle.am_btree.proofs.node.Subtree.+insert_below.Goals.{in-Leaf}
+use Rattle.am_btree.proofs.node.Subtree.+insert_below.Goals.{in-Inner+in_ok-more-in-Inner+in_ok-grown-in-Inner+in-Some}
 
 if_some_map : {X : Type 0} (P Q : X → Type 0) → ((x : X) → P x → Q x) → (r : Option X) → IfSome r P → IfSome r Q
 if_some_map P Q f None h = h
@@ -21,139 +25,200 @@ if_some_map P Q f (Some x) h = f x h
 pub reached-reach-requires : goal.reached-reach-requires
 reached-reach-requires t c =
     let inner = subst IsTree c.in-Inner.is c.self.invariant in
-    subst SeparatorsRise (sym c.deref.ensures.value) (children_rise c.in-Inner.separators.items c.in-Inner.children.items inner.children.parted inner.children.filled)
+    subst SeparatorsRise (sym c.deref.ensures.value)
+    (children_rise c.in-Inner.separators.items c.in-Inner.children.items inner.children.parted inner.children.filled)
 
 pub index_mut-child-requires : goal.index_mut-child-requires
 index_mut-child-requires t c =
     let inner = subst IsTree c.in-Inner.is c.self.invariant in
     let same = parted_lengths c.in-Inner.separators.items c.in-Inner.children.items inner.children.parted in
     let some = inner.some in
-    omega (arith, c.saturating_sub-at.ensures, c.reached-reach.ensures.in_range, c.deref.ensures.len, c.in-Inner.separators.ok.0, c.in-Inner.children.ok.0)
+    omega (
+      arith,
+      c.saturating_sub-at.ensures,
+      c.reached-reach.ensures.in_range,
+      c.deref.ensures.len,
+      c.in-Inner.separators.ok.0,
+      c.in-Inner.children.ok.0,
+    )
 
 pub insert_below-requires : goal.insert_below-requires
 insert_below-requires t c =
-    let ls = c.in-Inner.separators.items in let ks = c.in-Inner.children.items in let k = c.index_mut-child.result.now in
+    let ls = c.in-Inner.separators.items in let ks = c.in-Inner.children.items in
+    let k = c.index_mut-child.result.now in
     let inner = subst IsTree c.in-Inner.is c.self.invariant in
     let seen : c.args.self.now ≡ inner_shape ks = sym c.self.view_is ∙ ap shape_of c.in-Inner.is in
-    let lower = one_below ls ks _ _ inner c.saturating_sub-at.result k (omega (arith, c.saturating_sub-at.ensures, c.reached-reach.ensures.in_range, c.deref.ensures.len, c.in-Inner.separators.ok.0, parted_lengths ls ks inner.children.parted, inner.some)) c.index_mut-child.ensures.value in
+    let lower = one_below ls ks _ _ inner c.saturating_sub-at.result k
+    (omega (
+      arith,
+      c.saturating_sub-at.ensures,
+      c.reached-reach.ensures.in_range,
+      c.deref.ensures.len,
+      c.in-Inner.separators.ok.0,
+      parted_lengths ls ks inner.children.parted,
+      inner.some,
+    ))
+    c.index_mut-child.ensures.value in
     let falls : k.depth < c.args.self.now.depth = omega (arith, lower, ap (λ (s : Shape). s.depth) seen) in
     (search rules, tt)
 
 pub returns-in_err-grown-in-Inner-clause-taken : goal.returns-in_err-grown-in-Inner-clause-taken
 returns-in_err-grown-in-Inner-clause-taken t c =
-    let x = c.args.entry in let ls = c.in-Inner.separators.items in let ks = c.in-Inner.children.items in let n = c.reached-reach.result in
+    let x = c.args.entry in let ls = c.in-Inner.separators.items in let ks = c.in-Inner.children.items in
+    let n = c.reached-reach.result in
     let inner = subst IsTree c.in-Inner.is c.self.invariant in
     let seen : c.args.self.now ≡ inner_shape ks = sym c.self.view_is ∙ ap shape_of c.in-Inner.is in
     let r = subst (λ ms. IsReach ms x.part x.key n) c.deref.ensures.value c.reached-reach.ensures in
     let at_is : c.saturating_sub-at.result ≡ before n = c.saturating_sub-at.ensures ∙ sym (before_is n) in
     let k = c.index_mut-child.result.now in
     let here : k ≡ get_or ks (before n) k = c.index_mut-child.ensures.value ∙ ap (λ (j : ℕ). get_or ks j k) at_is in
-    let child = child_from_reach ls x.part x.key n (omega (arith, inner.some, parted_lengths ls ks inner.children.parted)) r in
+    let child = child_from_reach ls x.part x.key n
+    (omega (arith, inner.some, parted_lengths ls ks inner.children.parted)) r in
     let same : find k.entries x.part x.key ≡ find c.args.self.now.entries x.part x.key =
-    sym (find_in_child x.part x.key ls ks (before n) k inner.children.parted child here) ∙ sym (ap (λ (s : Shape). find s.entries x.part x.key) seen) in
+    sym (find_in_child x.part x.key ls ks (before n) k inner.children.parted child here) ∙
+    sym (ap (λ (s : Shape). find s.entries x.part x.key) seen) in
     let why = c.in_err-grown-in-Inner.field-0.0 in
-    λ taken. let it_is : Taken ≡ why = subst (λ g. IsErrAnd g (λ o. o ≡ why)) taken c.from_residual-in_err-grown-in-Inner.ensures.1 in subst IsSome same (c.in_err-grown-in-Inner.ensures.taken (ap Err (sym it_is)))
+    λ taken. let it_is : Taken ≡ why = subst (λ g. IsErrAnd g (λ o. o ≡ why)) taken
+    c.from_residual-in_err-grown-in-Inner.ensures.1 in
+    subst IsSome same (c.in_err-grown-in-Inner.ensures.taken (ap Err (sym it_is)))
 
 pub returns-in_default-clause-absent : goal.returns-in_default-clause-absent
 returns-in_default-clause-absent t c =
-    let x = c.args.entry in let ls = c.in-Inner.separators.items in let ks = c.in-Inner.children.items in let n = c.reached-reach.result in
+    let x = c.args.entry in let ls = c.in-Inner.separators.items in let ks = c.in-Inner.children.items in
+    let n = c.reached-reach.result in
     let inner = subst IsTree c.in-Inner.is c.self.invariant in
     let seen : c.args.self.now ≡ inner_shape ks = sym c.self.view_is ∙ ap shape_of c.in-Inner.is in
     let r = subst (λ ms. IsReach ms x.part x.key n) c.deref.ensures.value c.reached-reach.ensures in
     let at_is : c.saturating_sub-at.result ≡ before n = c.saturating_sub-at.ensures ∙ sym (before_is n) in
     let k = c.index_mut-child.result.now in
     let here : k ≡ get_or ks (before n) k = c.index_mut-child.ensures.value ∙ ap (λ (j : ℕ). get_or ks j k) at_is in
-    let child = child_from_reach ls x.part x.key n (omega (arith, inner.some, parted_lengths ls ks inner.children.parted)) r in
-    ap (λ (s : Shape). find s.entries x.part x.key) seen ∙ find_in_child x.part x.key ls ks (before n) k inner.children.parted child here ∙ c.in_ok-grown-in-Inner.ensures.absent
+    let child = child_from_reach ls x.part x.key n
+    (omega (arith, inner.some, parted_lengths ls ks inner.children.parted)) r in
+    ap (λ (s : Shape). find s.entries x.part x.key) seen ∙ find_in_child x.part x.key ls ks (before n) k
+    inner.children.parted child here ∙ c.in_ok-grown-in-Inner.ensures.absent
 
 pub returns-clause-absent : goal.returns-clause-absent
 returns-clause-absent t c = elim c.match-self.branch [
   | in-Leaf w ↦
       let seen : c.args.self.now ≡ leaf_shape w.in-Leaf.leaf = sym c.self.view_is ∙ ap shape_of w.in-Leaf.is in
-      rw w.result-is (subst (λ (s : Shape). OnOk w.insert_in_leaf.result (find s.entries c.args.entry.part c.args.entry.key ≡ None)) (sym seen) w.insert_in_leaf.ensures.absent)
+      rw w.result-is (subst (λ (s : Shape). OnOk w.insert_in_leaf.result
+      (find s.entries c.args.entry.part c.args.entry.key ≡ None)) (sym seen) w.insert_in_leaf.ensures.absent)
   | in-Inner+in_ok-more-in-Inner+in_ok-grown-in-Inner+in-Some w ↦
-      let x = c.args.entry in let ls = w.in-Inner.separators.items in let ks = w.in-Inner.children.items in let n = w.reached-reach.result in
+      let x = c.args.entry in let ls = w.in-Inner.separators.items in let ks = w.in-Inner.children.items in
+      let n = w.reached-reach.result in
       let inner = subst IsTree w.in-Inner.is c.self.invariant in
       let seen : c.args.self.now ≡ inner_shape ks = sym c.self.view_is ∙ ap shape_of w.in-Inner.is in
       let r = subst (λ ms. IsReach ms x.part x.key n) w.deref.ensures.value w.reached-reach.ensures in
       let at_is : w.saturating_sub-at.result ≡ before n = w.saturating_sub-at.ensures ∙ sym (before_is n) in
       let k = w.index_mut-child.result.now in
       let here : k ≡ get_or ks (before n) k = w.index_mut-child.ensures.value ∙ ap (λ (j : ℕ). get_or ks j k) at_is in
-      let child = child_from_reach ls x.part x.key n (omega (arith, inner.some, parted_lengths ls ks inner.children.parted)) r in
-      rw w.result-is (ap (λ (s : Shape). find s.entries x.part x.key) seen ∙ find_in_child x.part x.key ls ks (before n) k inner.children.parted child here ∙ w.in_ok-grown-in-Inner.ensures.absent)
+      let child = child_from_reach ls x.part x.key n
+      (omega (arith, inner.some, parted_lengths ls ks inner.children.parted)) r in
+      rw w.result-is (ap (λ (s : Shape). find s.entries x.part x.key) seen ∙ find_in_child x.part x.key ls ks (before n)
+      k inner.children.parted child here ∙ w.in_ok-grown-in-Inner.ensures.absent)
 ]
 
 pub invariant_of-self-in_default : goal.invariant_of-self-in_default
 invariant_of-self-in_default t c =
-    let x = c.args.entry in let ls = c.in-Inner.separators.items in let ks = c.in-Inner.children.items in let n = c.reached-reach.result in let d = depth_of ks in
+    let x = c.args.entry in let ls = c.in-Inner.separators.items in let ks = c.in-Inner.children.items in
+    let n = c.reached-reach.result in let d = depth_of ks in
     let inner = subst IsTree c.in-Inner.is c.self.invariant in
     let seen : c.args.self.now ≡ inner_shape ks = sym c.self.view_is ∙ ap shape_of c.in-Inner.is in
     let r = subst (λ ms. IsReach ms x.part x.key n) c.deref.ensures.value c.reached-reach.ensures in
     let at_is : c.saturating_sub-at.result ≡ before n = c.saturating_sub-at.ensures ∙ sym (before_is n) in
     let k = c.index_mut-child.result.now in
     let here : k ≡ get_or ks (before n) k = c.index_mut-child.ensures.value ∙ ap (λ (j : ℕ). get_or ks j k) at_is in
-    let child = child_from_reach ls x.part x.key n (omega (arith, inner.some, parted_lengths ls ks inner.children.parted)) r in
-    let absent : find (all_entries ks) x.part x.key ≡ None = find_in_child x.part x.key ls ks (before n) k inner.children.parted child here ∙ c.in_ok-grown-in-Inner.ensures.absent in
+    let child = child_from_reach ls x.part x.key n
+    (omega (arith, inner.some, parted_lengths ls ks inner.children.parted)) r in
+    let absent : find (all_entries ks) x.part x.key ≡ None = find_in_child x.part x.key ls ks (before n) k
+    inner.children.parted child here ∙ c.in_ok-grown-in-Inner.ensures.absent in
     let k' = c.insert_below.new.self in
-    let h = subst (λ g. NowHolds k.depth (insert_entry k.entries x) k' g) c.in_default.is c.in_ok-grown-in-Inner.ensures.ok.0 in
+    let h = subst (λ g. NowHolds k.depth (insert_entry k.entries x) k' g) c.in_default.is
+    c.in_ok-grown-in-Inner.ensures.ok.0 in
     let cap = c.lower.ensures.capacity in
-    subst (λ (j : ℕ). IsInner c.lower.new.separators.items (set ks j k') (vec_capacity c.lower.new.separators) c.in-Inner.children.cap) (sym at_is)
-    (one_inner x d ls ks n k inner.children inner.some r absent here k' h.0 h.1 c.lower.new.separators.items c.lower.ensures.items (vec_capacity c.lower.new.separators) c.in-Inner.children.cap (omega (arith, cap, inner.room.0), inner.room.1) inner.most)
+    subst (λ (j : ℕ). IsInner c.lower.new.separators.items (set ks j k') (vec_capacity c.lower.new.separators)
+    c.in-Inner.children.cap) (sym at_is)
+    (one_inner x d ls ks n k inner.children inner.some r absent here k' h.0 h.1 c.lower.new.separators.items
+    c.lower.ensures.items (vec_capacity c.lower.new.separators) c.in-Inner.children.cap
+    (omega (arith, cap, inner.room.0), inner.room.1) inner.most)
 
 pub returns-in_default-clause-ok : goal.returns-in_default-clause-ok
 returns-in_default-clause-ok t c =
-    let x = c.args.entry in let ls = c.in-Inner.separators.items in let ks = c.in-Inner.children.items in let n = c.reached-reach.result in let d = depth_of ks in
+    let x = c.args.entry in let ls = c.in-Inner.separators.items in let ks = c.in-Inner.children.items in
+    let n = c.reached-reach.result in let d = depth_of ks in
     let inner = subst IsTree c.in-Inner.is c.self.invariant in
     let seen : c.args.self.now ≡ inner_shape ks = sym c.self.view_is ∙ ap shape_of c.in-Inner.is in
     let r = subst (λ ms. IsReach ms x.part x.key n) c.deref.ensures.value c.reached-reach.ensures in
     let at_is : c.saturating_sub-at.result ≡ before n = c.saturating_sub-at.ensures ∙ sym (before_is n) in
     let k = c.index_mut-child.result.now in
     let here : k ≡ get_or ks (before n) k = c.index_mut-child.ensures.value ∙ ap (λ (j : ℕ). get_or ks j k) at_is in
-    let child = child_from_reach ls x.part x.key n (omega (arith, inner.some, parted_lengths ls ks inner.children.parted)) r in
-    let absent : find (all_entries ks) x.part x.key ≡ None = find_in_child x.part x.key ls ks (before n) k inner.children.parted child here ∙ c.in_ok-grown-in-Inner.ensures.absent in
+    let child = child_from_reach ls x.part x.key n
+    (omega (arith, inner.some, parted_lengths ls ks inner.children.parted)) r in
+    let absent : find (all_entries ks) x.part x.key ≡ None = find_in_child x.part x.key ls ks (before n) k
+    inner.children.parted child here ∙ c.in_ok-grown-in-Inner.ensures.absent in
     let k' = c.insert_below.new.self in
-    let h = subst (λ g. NowHolds k.depth (insert_entry k.entries x) k' g) c.in_default.is c.in_ok-grown-in-Inner.ensures.ok.0 in
-    let holds : all_entries (set ks (before n) k') ≡ insert_entry (all_entries ks) x = one_entries x d ls ks n k inner.children inner.some r absent here k' h.0 h.1 in
-    let level : depth_of (set ks (before n) k') ≡ d = set_deep x d ls ks n k inner.children inner.some r absent here k' h.0 in (
+    let h = subst (λ g. NowHolds k.depth (insert_entry k.entries x) k' g) c.in_default.is
+    c.in_ok-grown-in-Inner.ensures.ok.0 in
+    let holds : all_entries (set ks (before n) k') ≡ insert_entry (all_entries ks) x =
+    one_entries x d ls ks n k inner.children inner.some r absent here k' h.0 h.1 in
+    let level : depth_of (set ks (before n) k') ≡ d = set_deep x d ls ks n k inner.children inner.some r absent here k'
+    h.0 in (
       (
         ap (λ (j : ℕ). depth_of (set ks j k')) at_is ∙ level ∙ sym (ap (λ (s : Shape). s.depth) seen),
-        ap (λ (j : ℕ). all_entries (set ks j k')) at_is ∙ holds ∙ sym (ap (λ (s : Shape). insert_entry s.entries x) seen),
+        ap (λ (j : ℕ). all_entries (set ks j k')) at_is ∙ holds ∙
+            sym (ap (λ (s : Shape). insert_entry s.entries x) seen),
       ),
       tt,
     )
 
 pub add_child-requires-clause-children : goal.add_child-requires-clause-children
 add_child-requires-clause-children t c =
-    let x = c.args.entry in let ls = c.in-Inner.separators.items in let ks = c.in-Inner.children.items in let n = c.reached-reach.result in let d = depth_of ks in
+    let x = c.args.entry in let ls = c.in-Inner.separators.items in let ks = c.in-Inner.children.items in
+    let n = c.reached-reach.result in let d = depth_of ks in
     let inner = subst IsTree c.in-Inner.is c.self.invariant in
     let seen : c.args.self.now ≡ inner_shape ks = sym c.self.view_is ∙ ap shape_of c.in-Inner.is in
     let r = subst (λ ms. IsReach ms x.part x.key n) c.deref.ensures.value c.reached-reach.ensures in
     let at_is : c.saturating_sub-at.result ≡ before n = c.saturating_sub-at.ensures ∙ sym (before_is n) in
     let k = c.index_mut-child.result.now in
     let here : k ≡ get_or ks (before n) k = c.index_mut-child.ensures.value ∙ ap (λ (j : ℕ). get_or ks j k) at_is in
-    let child = child_from_reach ls x.part x.key n (omega (arith, inner.some, parted_lengths ls ks inner.children.parted)) r in
-    let absent : find (all_entries ks) x.part x.key ≡ None = find_in_child x.part x.key ls ks (before n) k inner.children.parted child here ∙ c.in_ok-grown-in-Inner.ensures.absent in
+    let child = child_from_reach ls x.part x.key n
+    (omega (arith, inner.some, parted_lengths ls ks inner.children.parted)) r in
+    let absent : find (all_entries ks) x.part x.key ≡ None = find_in_child x.part x.key ls ks (before n) k
+    inner.children.parted child here ∙ c.in_ok-grown-in-Inner.ensures.absent in
     let k' = c.insert_below.new.self in let s = c.in-Some.split in
-    let h = subst (λ g. NowHolds k.depth (insert_entry k.entries x) k' g) c.in-Some.is c.in_ok-grown-in-Inner.ensures.ok.0 in
-    subst (λ (j : ℕ). AreFilledChildren (depth_of (set ks j k')) (insert c.lower.new.separators.items (j + 1) s.separator) (insert (set ks j k') (j + 1) s.right)) (sym at_is)
-    (two_children x d ls ks n k inner.children inner.some r absent here k' s h c.lower.new.separators.items c.lower.ensures.items)
+    let h = subst (λ g. NowHolds k.depth (insert_entry k.entries x) k' g) c.in-Some.is
+    c.in_ok-grown-in-Inner.ensures.ok.0 in
+    subst (λ (j : ℕ). AreFilledChildren (depth_of (set ks j k'))
+    (insert c.lower.new.separators.items (j + 1) s.separator) (insert (set ks j k') (j + 1) s.right)) (sym at_is)
+    (two_children x d ls ks n k inner.children inner.some r absent here k' s h c.lower.new.separators.items
+    c.lower.ensures.items)
 
 pub add_child-requires-clause-pairs : goal.add_child-requires-clause-pairs
 add_child-requires-clause-pairs t c =
     let inner = subst IsTree c.in-Inner.is c.self.invariant in
-    omega (arith, parted_lengths c.in-Inner.separators.items c.in-Inner.children.items inner.children.parted, ap length c.lower.ensures.items, length_lowered c.in-Inner.separators.items c.reached-reach.result c.args.entry, c.lower.new.separators.ok.0, c.in-Inner.children.ok.0)
+    omega (
+      arith,
+      parted_lengths c.in-Inner.separators.items c.in-Inner.children.items inner.children.parted,
+      ap length c.lower.ensures.items,
+      length_lowered c.in-Inner.separators.items c.reached-reach.result c.args.entry,
+      c.lower.new.separators.ok.0,
+      c.in-Inner.children.ok.0,
+    )
 
 pub add_child-requires-clause-in_range : goal.add_child-requires-clause-in_range
 add_child-requires-clause-in_range t c =
-    let x = c.args.entry in let ls = c.in-Inner.separators.items in let ks = c.in-Inner.children.items in let n = c.reached-reach.result in let d = depth_of ks in
+    let x = c.args.entry in let ls = c.in-Inner.separators.items in let ks = c.in-Inner.children.items in
+    let n = c.reached-reach.result in let d = depth_of ks in
     let inner = subst IsTree c.in-Inner.is c.self.invariant in
     let seen : c.args.self.now ≡ inner_shape ks = sym c.self.view_is ∙ ap shape_of c.in-Inner.is in
     let r = subst (λ ms. IsReach ms x.part x.key n) c.deref.ensures.value c.reached-reach.ensures in
     let at_is : c.saturating_sub-at.result ≡ before n = c.saturating_sub-at.ensures ∙ sym (before_is n) in
     let k = c.index_mut-child.result.now in
     let here : k ≡ get_or ks (before n) k = c.index_mut-child.ensures.value ∙ ap (λ (j : ℕ). get_or ks j k) at_is in
-    let child = child_from_reach ls x.part x.key n (omega (arith, inner.some, parted_lengths ls ks inner.children.parted)) r in
-    let absent : find (all_entries ks) x.part x.key ≡ None = find_in_child x.part x.key ls ks (before n) k inner.children.parted child here ∙ c.in_ok-grown-in-Inner.ensures.absent in
+    let child = child_from_reach ls x.part x.key n
+    (omega (arith, inner.some, parted_lengths ls ks inner.children.parted)) r in
+    let absent : find (all_entries ks) x.part x.key ≡ None = find_in_child x.part x.key ls ks (before n) k
+    inner.children.parted child here ∙ c.in_ok-grown-in-Inner.ensures.absent in
     let fits = within x d ls ks n k inner.children inner.some r absent here in
     omega (arith, at_is, c.in-Inner.children.ok.0)
 
@@ -161,25 +226,40 @@ pub returns-clause-ok : goal.returns-clause-ok
 returns-clause-ok t c = elim c.match-self.branch [
   | in-Leaf w ↦
       let seen : c.args.self.now ≡ leaf_shape w.in-Leaf.leaf = sym c.self.view_is ∙ ap shape_of w.in-Leaf.is in
-      rw (w.result-is, w.self-inside-is) (subst (λ (s : Shape). IfOk w.insert_in_leaf.result (Grows s (leaf_shape w.insert_in_leaf.new.leaf) c.args.entry c.args.wanted)) (sym seen) w.insert_in_leaf.ensures.ok)
+      rw (w.result-is, w.self-inside-is) (subst (λ (s : Shape). IfOk w.insert_in_leaf.result
+      (Grows s (leaf_shape w.insert_in_leaf.new.leaf) c.args.entry c.args.wanted)) (sym seen)
+      w.insert_in_leaf.ensures.ok)
   | in-Inner+in_ok-more-in-Inner+in_ok-grown-in-Inner+in-Some w ↦
-      let x = c.args.entry in let ls = w.in-Inner.separators.items in let ks = w.in-Inner.children.items in let n = w.reached-reach.result in let d = depth_of ks in
+      let x = c.args.entry in let ls = w.in-Inner.separators.items in let ks = w.in-Inner.children.items in
+      let n = w.reached-reach.result in let d = depth_of ks in
       let inner = subst IsTree w.in-Inner.is c.self.invariant in
       let seen : c.args.self.now ≡ inner_shape ks = sym c.self.view_is ∙ ap shape_of w.in-Inner.is in
       let r = subst (λ ms. IsReach ms x.part x.key n) w.deref.ensures.value w.reached-reach.ensures in
       let at_is : w.saturating_sub-at.result ≡ before n = w.saturating_sub-at.ensures ∙ sym (before_is n) in
       let k = w.index_mut-child.result.now in
       let here : k ≡ get_or ks (before n) k = w.index_mut-child.ensures.value ∙ ap (λ (j : ℕ). get_or ks j k) at_is in
-      let child = child_from_reach ls x.part x.key n (omega (arith, inner.some, parted_lengths ls ks inner.children.parted)) r in
-      let absent : find (all_entries ks) x.part x.key ≡ None = find_in_child x.part x.key ls ks (before n) k inner.children.parted child here ∙ w.in_ok-grown-in-Inner.ensures.absent in
+      let child = child_from_reach ls x.part x.key n
+      (omega (arith, inner.some, parted_lengths ls ks inner.children.parted)) r in
+      let absent : find (all_entries ks) x.part x.key ≡ None = find_in_child x.part x.key ls ks (before n) k
+      inner.children.parted child here ∙ w.in_ok-grown-in-Inner.ensures.absent in
       let k' = w.insert_below.new.self in let s = w.in-Some.split in let more = w.in_ok-more-in-Inner.more in
       let up = subst (λ g. Grows k k' x more g) w.in-Some.is w.in_ok-grown-in-Inner.ensures.ok in
-      let holds : all_entries (insert (set ks (before n) k') (before n + 1) s.right) ≡ insert_entry (all_entries ks) x = two_entries x d ls ks n k inner.children inner.some r absent here k' s up.0 in
-      let level : depth_of (set ks (before n) k') ≡ d = set_deep x d ls ks n k inner.children inner.some r absent here k' up.0.depth in
+      let holds : all_entries (insert (set ks (before n) k') (before n + 1) s.right) ≡ insert_entry (all_entries ks) x =
+      two_entries x d ls ks n k inner.children inner.some r absent here k' s up.0 in
+      let level : depth_of (set ks (before n) k') ≡ d = set_deep x d ls ks n k inner.children inner.some r absent here
+      k' up.0.depth in
       let to_depth = ap (λ (j : ℕ). depth_of (set ks j k')) at_is ∙ level ∙ sym (ap (λ (s : Shape). s.depth) seen) in
-      let to_entries = ap (λ (j : ℕ). all_entries (insert (set ks j k') (j + 1) s.right)) at_is ∙ holds ∙ sym (ap (λ (s : Shape). insert_entry s.entries x) seen) in
+      let to_entries = ap (λ (j : ℕ). all_entries (insert (set ks j k') (j + 1) s.right)) at_is ∙ holds ∙
+      sym (ap (λ (s : Shape). insert_entry s.entries x) seen) in
       let new = inner_shape w.add_child.new.children.items in let out = w.add_child.result in
       let now = subst (λ (j : ℕ). NowHolds j (insert_entry c.args.self.now.entries x) new out) to_depth
-      (subst (λ es. NowHolds (depth_of (set ks w.saturating_sub-at.result k')) es new out) to_entries w.add_child.ensures.holds) in
-      rw (w.result-is, w.self-inside-is) ((now, if_some_map (λ s'. (w.in-Inner.children.len ≡ 32) × (vec_len s'.spares + 1 ≡ vec_len s.spares)) (λ s'. vec_len s'.spares ≡ c.args.wanted) (λ s' p. omega (arith, p.1, up.1, w.in_ok-more-in-Inner.ensures (w.len.ensures ∙ p.0))) out w.add_child.ensures.spares))
+      (subst (λ es. NowHolds (depth_of (set ks w.saturating_sub-at.result k')) es new out) to_entries
+      w.add_child.ensures.holds) in
+      rw (w.result-is, w.self-inside-is) ((
+        now,
+        if_some_map (λ s'. (w.in-Inner.children.len ≡ 32) ×
+            (vec_len s'.spares + 1 ≡ vec_len s.spares)) (λ s'. vec_len s'.spares ≡ c.args.wanted)
+            (λ s' p. omega (arith, p.1, up.1, w.in_ok-more-in-Inner.ensures (w.len.ensures ∙ p.0))) out
+            w.add_child.ensures.spares,
+      ))
 ]

@@ -8,4 +8,5 @@ abbrev pub decreases-next_ghost : goal.decreases-next_ghost
 decreases-next_ghost l = goal.size-next_ghost l
 
 abbrev pub invariant-loop-child : goal.invariant-loop-child
-invariant-loop-child l = first_ghost (all_entries (drop l.child-index l.child-items)) ≡ next_ghost l.fn.self.entries l.fn.part l.fn.key
+invariant-loop-child l = first_ghost (all_entries (drop l.child-index l.child-items)) ≡ next_ghost l.fn.self.entries
+    l.fn.part l.fn.key

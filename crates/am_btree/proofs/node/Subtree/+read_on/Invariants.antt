@@ -9,5 +9,6 @@ decreases-read_on l = goal.size-read_on l
 abbrev pub invariant-loop-at : goal.invariant-loop-at
 invariant-loop-at l = record {
   fits : length l.batch ≤ 16;
-  same : take 16 (l.batch ++ all_such l.fn.start (all_entries (drop l.at l.children.items)) l.fn.part l.fn.key) ≡ take 16 (l.fn.batch ++ all_such l.fn.start (all_entries l.children.items) l.fn.part l.fn.key);
+  same : take 16 (l.batch ++ all_such l.fn.start (all_entries (drop l.at l.children.items)) l.fn.part l.fn.key) ≡ take
+      16 (l.fn.batch ++ all_such l.fn.start (all_entries l.children.items) l.fn.part l.fn.key);
 }

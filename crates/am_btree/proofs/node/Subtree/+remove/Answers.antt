@@ -9,34 +9,56 @@ use Rattle.std.specs.Prelude.{IsSome}
 use Rattle.std.proofs.lemmas.Bool.{not-true, not-false}
 use Rattle.am_btree.proofs.Children.{find_in_child, entry_in_child}
 use Rattle.am_btree.proofs.Parting.{inner_with}
-use Rattle.am_btree.proofs.Editing.{removing, kept_inner, kept_entries, kept_depth, kept_some, kept_none, left_entries, left_children, left_long, left_depth, left_some}
+use Rattle.am_btree.proofs.Editing.{removing, kept_inner, kept_entries, kept_depth, kept_some, kept_none, left_entries}
+use Rattle.am_btree.proofs.Editing.{left_children, left_long, left_depth, left_some}
 use Rattle.am_btree.proofs.node.Subtree.+remove.Goals as goal
-use Rattle.am_btree.proofs.node.Subtree.+remove.Goals.{in-Leaf, in-Inner+else-not-removed+else-len-eq1, then-not-removed-via-then-not-removed, then-not-removed-via-else-not-removed+then-len-eq1}
+use Rattle.am_btree.proofs.node.Subtree.+remove.Goals.{in-Leaf, in-Inner+else-not-removed+else-len-eq1}
+use Rattle.am_btree.proofs.node.Subtree.+remove.Goals.{then-not-removed-via-then-not-removed}
+use Rattle.am_btree.proofs.node.Subtree.+remove.Goals.{then-not-removed-via-else-not-removed+then-len-eq1}
 
 pub child_for-at-requires-clause-rising : goal.child_for-at-requires-clause-rising
 child_for-at-requires-clause-rising t c =
     let inner = subst IsTree c.in-Inner.is c.self.invariant in
-    subst SeparatorsRise (sym c.deref.ensures.value) (they_rise c.in-Inner.separators.items c.in-Inner.children.items _ _ inner)
+    subst SeparatorsRise (sym c.deref.ensures.value) (they_rise c.in-Inner.separators.items c.in-Inner.children.items _
+    _ inner)
 
 pub child_for-at-requires-clause-some : goal.child_for-at-requires-clause-some
 child_for-at-requires-clause-some t c =
     let inner = subst IsTree c.in-Inner.is c.self.invariant in
-    omega (arith, some_separators c.in-Inner.separators.items c.in-Inner.children.items _ _ inner, c.in-Inner.separators.ok.0, c.deref.ensures.len)
+    omega (
+      arith,
+      some_separators c.in-Inner.separators.items c.in-Inner.children.items _ _ inner,
+      c.in-Inner.separators.ok.0,
+      c.deref.ensures.len,
+    )
 
 pub index_mut-requires : goal.index_mut-requires
 index_mut-requires t c =
     let inner = subst IsTree c.in-Inner.is c.self.invariant in
-    omega (arith, as_many c.in-Inner.separators.items c.in-Inner.children.items _ _ inner, c.child_for-at.ensures.in_range, c.deref.ensures.len, c.in-Inner.separators.ok.0, c.in-Inner.children.ok.0)
+    omega (
+      arith,
+      as_many c.in-Inner.separators.items c.in-Inner.children.items _ _ inner,
+      c.child_for-at.ensures.in_range,
+      c.deref.ensures.len,
+      c.in-Inner.separators.ok.0,
+      c.in-Inner.children.ok.0,
+    )
 
 pub remove-removed-requires : goal.remove-removed-requires
 remove-removed-requires t c =
-    let ls = c.in-Inner.separators.items in let ks = c.in-Inner.children.items in let at = c.child_for-at.result in let k = c.index_mut.result.now in
+    let ls = c.in-Inner.separators.items in let ks = c.in-Inner.children.items in let at = c.child_for-at.result in
+    let k = c.index_mut.result.now in
     let inner = subst IsTree c.in-Inner.is c.self.invariant in
     let seen : c.args.self.now ≡ inner_shape ks = sym c.self.view_is ∙ ap shape_of c.in-Inner.is in
     let child = subst (λ ms. IsChildFor ms c.args.part c.args.key at) c.deref.ensures.value c.child_for-at.ensures in
-    let deep = one_below ls ks _ _ inner at k (omega (arith, child.in_range, as_many ls ks _ _ inner)) c.index_mut.ensures.value in
-    let falls : k.depth < c.args.self.now.depth = omega (arith, deep, ap (λ (s : Shape). s.depth) seen) in
-    (search rules, subst IsSome (ap (λ (s : Shape). find s.entries c.args.part c.args.key) seen ∙ find_in_child c.args.part c.args.key ls ks at k inner.children.parted child c.index_mut.ensures.value) c.requires)
+    let deep = one_below ls ks _ _ inner at k (omega (arith, child.in_range, as_many ls ks _ _ inner))
+    c.index_mut.ensures.value in
+    let falls : k.depth < c.args.self.now.depth = omega (arith, deep, ap (λ (s : Shape). s.depth) seen) in (
+      search rules,
+      subst IsSome (ap (λ (s : Shape). find s.entries c.args.part c.args.key) seen ∙
+          find_in_child c.args.part c.args.key ls ks at k inner.children.parted child c.index_mut.ensures.value)
+          c.requires,
+    )
 
 pub remove_from_leaf-requires : goal.remove_from_leaf-requires
 remove_from_leaf-requires t c =
@@ -47,7 +69,8 @@ remove_from_leaf-requires t c =
 
 pub invariant_of-self : goal.invariant_of-self
 invariant_of-self t c =
-    let ls = c.in-Inner.separators.items in let ks = c.in-Inner.children.items in let at = c.child_for-at.result in let part = c.args.part in let key = c.args.key in
+    let ls = c.in-Inner.separators.items in let ks = c.in-Inner.children.items in let at = c.child_for-at.result in
+    let part = c.args.part in let key = c.args.key in
     let inner = subst IsTree c.in-Inner.is c.self.invariant in
     let seen : c.args.self.now ≡ inner_shape ks = sym c.self.view_is ∙ ap shape_of c.in-Inner.is in
     let child = subst (λ ms. IsChildFor ms part key at) c.deref.ensures.value c.child_for-at.ensures in
@@ -55,31 +78,41 @@ invariant_of-self t c =
     let is = removing part key in let e = c.remove-removed.ensures in
     elim c.then-not-removed.branch [
       | then-not-removed-via-then-not-removed w ↦
-          let some = subst (λ b. MatchBool b (k'.entries ≡ []) (0 < length k'.entries)) (not-true _ w.if-not-removed.true) e.empty in
-          rw w.self-inside-is (kept_inner part key (λ es. remove_entry es part key) is (depth_of ks) ls ks at k k' inner.children child here e.depth e.others _ _ (λ _. some) inner.most inner.room)
+          let some = subst (λ b. MatchBool b (k'.entries ≡ []) (0 < length k'.entries))
+          (not-true _ w.if-not-removed.true) e.empty in
+          rw w.self-inside-is (kept_inner part key (λ es. remove_entry es part key) is (depth_of ks) ls ks at k k'
+          inner.children child here e.depth e.others _ _ (λ _. some) inner.most inner.room)
       | then-not-removed-via-else-not-removed+then-len-eq1 w ↦
-          rw w.self-inside-is (kept_inner part key (λ es. remove_entry es part key) is (depth_of ks) ls ks at k k' inner.children child here e.depth e.others _ _ (λ more. absurd (omega (arith, more, w.len.ensures, w.if-len-eq1.true, c.in-Inner.children.ok.0))) inner.most inner.room)
+          rw w.self-inside-is (kept_inner part key (λ es. remove_entry es part key) is (depth_of ks) ls ks at k k'
+          inner.children child here e.depth e.others _ _
+          (λ more. absurd (omega (arith, more, w.len.ensures, w.if-len-eq1.true, c.in-Inner.children.ok.0)))
+          inner.most inner.room)
     ]
 
 pub returns-then-not-removed-clause-entry : goal.returns-then-not-removed-clause-entry
 returns-then-not-removed-clause-entry t c =
-    let ls = c.in-Inner.separators.items in let ks = c.in-Inner.children.items in let at = c.child_for-at.result in let part = c.args.part in let key = c.args.key in
+    let ls = c.in-Inner.separators.items in let ks = c.in-Inner.children.items in let at = c.child_for-at.result in
+    let part = c.args.part in let key = c.args.key in
     let inner = subst IsTree c.in-Inner.is c.self.invariant in
     let seen : c.args.self.now ≡ inner_shape ks = sym c.self.view_is ∙ ap shape_of c.in-Inner.is in
     let child = subst (λ ms. IsChildFor ms part key at) c.deref.ensures.value c.child_for-at.ensures in
     let k = c.index_mut.result.now in let k' = c.remove-removed.new.self in let here = c.index_mut.ensures.value in
     let is = removing part key in let e = c.remove-removed.ensures in
-    ap (λ (s : Shape). entry_at s.entries part key) seen ∙ entry_in_child part key ls ks at k inner.children.parted child.in_range here child.reached child.above ∙ e.entry
+    ap (λ (s : Shape). entry_at s.entries part key) seen ∙ entry_in_child part key ls ks at k inner.children.parted
+    child.in_range here child.reached child.above ∙ e.entry
 
 pub returns-then-not-removed-clause-others : goal.returns-then-not-removed-clause-others
 returns-then-not-removed-clause-others t c =
-    let ls = c.in-Inner.separators.items in let ks = c.in-Inner.children.items in let at = c.child_for-at.result in let part = c.args.part in let key = c.args.key in
+    let ls = c.in-Inner.separators.items in let ks = c.in-Inner.children.items in let at = c.child_for-at.result in
+    let part = c.args.part in let key = c.args.key in
     let inner = subst IsTree c.in-Inner.is c.self.invariant in
     let seen : c.args.self.now ≡ inner_shape ks = sym c.self.view_is ∙ ap shape_of c.in-Inner.is in
     let child = subst (λ ms. IsChildFor ms part key at) c.deref.ensures.value c.child_for-at.ensures in
     let k = c.index_mut.result.now in let k' = c.remove-removed.new.self in let here = c.index_mut.ensures.value in
     let is = removing part key in let e = c.remove-removed.ensures in
-    let kept : all_entries (set ks at k') ≡ remove_entry c.args.self.now.entries part key = kept_entries part key (λ es. remove_entry es part key) is (depth_of ks) ls ks at k k' inner.children child here e.depth e.others ∙ sym (ap (λ (s : Shape). remove_entry s.entries part key) seen) in
+    let kept : all_entries (set ks at k') ≡ remove_entry c.args.self.now.entries part key =
+    kept_entries part key (λ es. remove_entry es part key) is (depth_of ks) ls ks at k k' inner.children child
+    here e.depth e.others ∙ sym (ap (λ (s : Shape). remove_entry s.entries part key) seen) in
     elim c.then-not-removed.branch [
       | then-not-removed-via-then-not-removed w ↦ rw w.self-inside-is kept
       | then-not-removed-via-else-not-removed+then-len-eq1 w ↦ rw w.self-inside-is kept
@@ -87,13 +120,16 @@ returns-then-not-removed-clause-others t c =
 
 pub returns-then-not-removed-clause-depth : goal.returns-then-not-removed-clause-depth
 returns-then-not-removed-clause-depth t c =
-    let ls = c.in-Inner.separators.items in let ks = c.in-Inner.children.items in let at = c.child_for-at.result in let part = c.args.part in let key = c.args.key in
+    let ls = c.in-Inner.separators.items in let ks = c.in-Inner.children.items in let at = c.child_for-at.result in
+    let part = c.args.part in let key = c.args.key in
     let inner = subst IsTree c.in-Inner.is c.self.invariant in
     let seen : c.args.self.now ≡ inner_shape ks = sym c.self.view_is ∙ ap shape_of c.in-Inner.is in
     let child = subst (λ ms. IsChildFor ms part key at) c.deref.ensures.value c.child_for-at.ensures in
     let k = c.index_mut.result.now in let k' = c.remove-removed.new.self in let here = c.index_mut.ensures.value in
     let is = removing part key in let e = c.remove-removed.ensures in
-    let kept : depth_of (set ks at k') ≡ c.args.self.now.depth = kept_depth part key (λ es. remove_entry es part key) is (depth_of ks) ls ks at k k' inner.children child here e.depth e.others ∙ sym (ap (λ (s : Shape). s.depth) seen) in
+    let kept : depth_of (set ks at k') ≡ c.args.self.now.depth = kept_depth part key (λ es. remove_entry es part key) is
+    (depth_of ks) ls ks at k k' inner.children child here e.depth e.others ∙
+    sym (ap (λ (s : Shape). s.depth) seen) in
     elim c.then-not-removed.branch [
       | then-not-removed-via-then-not-removed w ↦ rw w.self-inside-is kept
       | then-not-removed-via-else-not-removed+then-len-eq1 w ↦ rw w.self-inside-is kept
@@ -101,7 +137,8 @@ returns-then-not-removed-clause-depth t c =
 
 pub returns-then-not-removed-clause-empty : goal.returns-then-not-removed-clause-empty
 returns-then-not-removed-clause-empty t c =
-    let ls = c.in-Inner.separators.items in let ks = c.in-Inner.children.items in let at = c.child_for-at.result in let part = c.args.part in let key = c.args.key in
+    let ls = c.in-Inner.separators.items in let ks = c.in-Inner.children.items in let at = c.child_for-at.result in
+    let part = c.args.part in let key = c.args.key in
     let inner = subst IsTree c.in-Inner.is c.self.invariant in
     let seen : c.args.self.now ≡ inner_shape ks = sym c.self.view_is ∙ ap shape_of c.in-Inner.is in
     let child = subst (λ ms. IsChildFor ms part key at) c.deref.ensures.value c.child_for-at.ensures in
@@ -111,12 +148,18 @@ returns-then-not-removed-clause-empty t c =
       | then-not-removed-via-then-not-removed w ↦
           let test = not-true _ w.if-not-removed.true in
           let some = subst (λ b. MatchBool b (k'.entries ≡ []) (0 < length k'.entries)) test e.empty in
-          rw w.self-inside-is (subst (λ b. MatchBool b (all_entries (set ks at k') ≡ []) (0 < length (all_entries (set ks at k')))) (sym test) (kept_some part key (λ es. remove_entry es part key) is (depth_of ks) ls ks at k k' inner.children child here e.depth e.others some))
+          rw w.self-inside-is (subst (λ b. MatchBool b (all_entries (set ks at k') ≡ [])
+          (0 < length (all_entries (set ks at k')))) (sym test)
+          (kept_some part key (λ es. remove_entry es part key) is (depth_of ks) ls ks at k k' inner.children child
+          here e.depth e.others some))
       | then-not-removed-via-else-not-removed+then-len-eq1 w ↦
           let test = not-false _ w.if-not-removed.false in
           let empty = subst (λ b. MatchBool b (k'.entries ≡ []) (0 < length k'.entries)) test e.empty in
           let one : length ks ≡ 1 = omega (arith, w.len.ensures, w.if-len-eq1.true, c.in-Inner.children.ok.0) in
-          rw w.self-inside-is (subst (λ b. MatchBool b (all_entries (set ks at k') ≡ []) (0 < length (all_entries (set ks at k')))) (sym test) (kept_none part key (λ es. remove_entry es part key) is (depth_of ks) ls ks at k k' inner.children child here e.depth e.others one empty))
+          rw w.self-inside-is (subst (λ b. MatchBool b (all_entries (set ks at k') ≡ [])
+          (0 < length (all_entries (set ks at k')))) (sym test)
+          (kept_none part key (λ es. remove_entry es part key) is (depth_of ks) ls ks at k k' inner.children child
+          here e.depth e.others one empty))
     ]
 
 -- ---- where an empty child is freed
@@ -124,55 +167,92 @@ returns-then-not-removed-clause-empty t c =
 pub take_out-requires-in-Inner : goal.take_out-requires-in-Inner
 take_out-requires-in-Inner t c =
     let inner = subst IsTree c.in-Inner.is c.self.invariant in
-    omega (arith, as_many c.in-Inner.separators.items c.in-Inner.children.items _ _ inner, c.child_for-at.ensures.in_range, c.deref.ensures.len, c.in-Inner.separators.ok.0, c.in-Inner.children.ok.0)
+    omega (
+      arith,
+      as_many c.in-Inner.separators.items c.in-Inner.children.items _ _ inner,
+      c.child_for-at.ensures.in_range,
+      c.deref.ensures.len,
+      c.in-Inner.separators.ok.0,
+      c.in-Inner.children.ok.0,
+    )
 
 pub invariant_of-self-2 : goal.invariant_of-self-2
 invariant_of-self-2 t c = elim c.match-self.branch [
   | in-Leaf w ↦ rw w.self-inside-is (w.remove_from_leaf.ensures.most, w.remove_from_leaf.ensures.rising)
   | in-Inner+else-not-removed+else-len-eq1 w ↦
-      let ls = w.in-Inner.separators.items in let ks = w.in-Inner.children.items in let at = w.child_for-at.result in let part = c.args.part in let key = c.args.key in
+      let ls = w.in-Inner.separators.items in let ks = w.in-Inner.children.items in let at = w.child_for-at.result in
+      let part = c.args.part in let key = c.args.key in
       let inner = subst IsTree w.in-Inner.is c.self.invariant in
       let seen : c.args.self.now ≡ inner_shape ks = sym c.self.view_is ∙ ap shape_of w.in-Inner.is in
       let child = subst (λ ms. IsChildFor ms part key at) w.deref.ensures.value w.child_for-at.ensures in
       let k = w.index_mut.result.now in let k' = w.remove-removed.new.self in let here = w.index_mut.ensures.value in
       let is = removing part key in let e = w.remove-removed.ensures in
-      let empty : k'.entries ≡ [] = subst (λ b. MatchBool b (k'.entries ≡ []) (0 < length k'.entries)) (not-false _ w.if-not-removed.false) e.empty in
-      let many : 1 < length ks = omega (arith, inner.some, w.len.ensures, w.if-len-eq1.false, w.in-Inner.children.ok.0) in
-      let long = left_long part key (λ es. remove_entry es part key) is (depth_of ks) ls ks at k k' inner.children child here e.depth e.others many empty in
-      rw w.self-inside-is (inner_with (depth_of ks) (remove ls at) (remove (set ks at k') at) w.take_out.new.v.items w.take_out-in-Inner.new.v.items _ _ w.take_out.ensures.items w.take_out-in-Inner.ensures.items (left_children part key (λ es. remove_entry es part key) is (depth_of ks) ls ks at k k' inner.children child here e.depth e.others many empty)
-      (omega (arith, long, many)) (omega (arith, long, inner.most)) (omega (arith, inner.room, w.take_out.ensures.capacity), omega (arith, inner.room, w.take_out-in-Inner.ensures.capacity)))
+      let empty : k'.entries ≡ [] = subst (λ b. MatchBool b (k'.entries ≡ []) (0 < length k'.entries))
+      (not-false _ w.if-not-removed.false) e.empty in
+      let many : 1 < length ks = omega (
+        arith,
+        inner.some,
+        w.len.ensures,
+        w.if-len-eq1.false,
+        w.in-Inner.children.ok.0,
+      ) in
+      let long = left_long part key (λ es. remove_entry es part key) is (depth_of ks) ls ks at k k' inner.children child
+      here e.depth e.others many empty in
+      rw w.self-inside-is (inner_with (depth_of ks) (remove ls at) (remove (set ks at k') at) w.take_out.new.v.items
+      w.take_out-in-Inner.new.v.items _ _ w.take_out.ensures.items w.take_out-in-Inner.ensures.items
+      (left_children part key (λ es. remove_entry es part key) is (depth_of ks) ls ks at k k' inner.children child
+      here e.depth e.others many empty)
+      (omega (arith, long, many)) (omega (arith, long, inner.most)) (
+        omega (arith, inner.room, w.take_out.ensures.capacity),
+        omega (arith, inner.room, w.take_out-in-Inner.ensures.capacity),
+      ))
 ]
 
 pub returns-clause-entry : goal.returns-clause-entry
 returns-clause-entry t c = elim c.match-self.branch [
   | in-Leaf w ↦
       let seen : c.args.self.now ≡ leaf_shape w.in-Leaf.leaf = sym c.self.view_is ∙ ap shape_of w.in-Leaf.is in
-      rw w.result-is (ap (λ (s : Shape). entry_at s.entries c.args.part c.args.key) seen ∙ w.remove_from_leaf.ensures.entry)
+      rw w.result-is (ap (λ (s : Shape). entry_at s.entries c.args.part c.args.key) seen ∙
+      w.remove_from_leaf.ensures.entry)
   | in-Inner+else-not-removed+else-len-eq1 w ↦
-      let ls = w.in-Inner.separators.items in let ks = w.in-Inner.children.items in let at = w.child_for-at.result in let part = c.args.part in let key = c.args.key in
+      let ls = w.in-Inner.separators.items in let ks = w.in-Inner.children.items in let at = w.child_for-at.result in
+      let part = c.args.part in let key = c.args.key in
       let inner = subst IsTree w.in-Inner.is c.self.invariant in
       let seen : c.args.self.now ≡ inner_shape ks = sym c.self.view_is ∙ ap shape_of w.in-Inner.is in
       let child = subst (λ ms. IsChildFor ms part key at) w.deref.ensures.value w.child_for-at.ensures in
       let k = w.index_mut.result.now in let k' = w.remove-removed.new.self in let here = w.index_mut.ensures.value in
       let is = removing part key in let e = w.remove-removed.ensures in
-      rw w.result-is (ap (λ (s : Shape). entry_at s.entries part key) seen ∙ entry_in_child part key ls ks at k inner.children.parted child.in_range here child.reached child.above ∙ e.entry)
+      rw w.result-is (ap (λ (s : Shape). entry_at s.entries part key) seen ∙
+      entry_in_child part key ls ks at k inner.children.parted child.in_range here child.reached child.above ∙
+      e.entry)
 ]
 
 pub returns-clause-others : goal.returns-clause-others
 returns-clause-others t c = elim c.match-self.branch [
   | in-Leaf w ↦
       let seen : c.args.self.now ≡ leaf_shape w.in-Leaf.leaf = sym c.self.view_is ∙ ap shape_of w.in-Leaf.is in
-      rw w.self-inside-is (w.remove_from_leaf.ensures.others ∙ sym (ap (λ (s : Shape). remove_entry s.entries c.args.part c.args.key) seen))
+      rw w.self-inside-is (w.remove_from_leaf.ensures.others ∙
+      sym (ap (λ (s : Shape). remove_entry s.entries c.args.part c.args.key) seen))
   | in-Inner+else-not-removed+else-len-eq1 w ↦
-      let ls = w.in-Inner.separators.items in let ks = w.in-Inner.children.items in let at = w.child_for-at.result in let part = c.args.part in let key = c.args.key in
+      let ls = w.in-Inner.separators.items in let ks = w.in-Inner.children.items in let at = w.child_for-at.result in
+      let part = c.args.part in let key = c.args.key in
       let inner = subst IsTree w.in-Inner.is c.self.invariant in
       let seen : c.args.self.now ≡ inner_shape ks = sym c.self.view_is ∙ ap shape_of w.in-Inner.is in
       let child = subst (λ ms. IsChildFor ms part key at) w.deref.ensures.value w.child_for-at.ensures in
       let k = w.index_mut.result.now in let k' = w.remove-removed.new.self in let here = w.index_mut.ensures.value in
       let is = removing part key in let e = w.remove-removed.ensures in
-      let empty : k'.entries ≡ [] = subst (λ b. MatchBool b (k'.entries ≡ []) (0 < length k'.entries)) (not-false _ w.if-not-removed.false) e.empty in
-      let many : 1 < length ks = omega (arith, inner.some, w.len.ensures, w.if-len-eq1.false, w.in-Inner.children.ok.0) in
-      rw w.self-inside-is (ap all_entries w.take_out-in-Inner.ensures.items ∙ left_entries part key (λ es. remove_entry es part key) is (depth_of ks) ls ks at k k' inner.children child here e.depth e.others many empty ∙ sym (ap (λ (s : Shape). remove_entry s.entries part key) seen))
+      let empty : k'.entries ≡ [] = subst (λ b. MatchBool b (k'.entries ≡ []) (0 < length k'.entries))
+      (not-false _ w.if-not-removed.false) e.empty in
+      let many : 1 < length ks = omega (
+        arith,
+        inner.some,
+        w.len.ensures,
+        w.if-len-eq1.false,
+        w.in-Inner.children.ok.0,
+      ) in
+      rw w.self-inside-is (ap all_entries w.take_out-in-Inner.ensures.items ∙
+      left_entries part key (λ es. remove_entry es part key) is (depth_of ks) ls ks at k k' inner.children child
+      here e.depth e.others many empty ∙ sym (ap (λ (s : Shape). remove_entry s.entries part key) seen))
 ]
 
 pub returns-clause-depth : goal.returns-clause-depth
@@ -181,28 +261,48 @@ returns-clause-depth t c = elim c.match-self.branch [
       let seen : c.args.self.now ≡ leaf_shape w.in-Leaf.leaf = sym c.self.view_is ∙ ap shape_of w.in-Leaf.is in
       rw w.self-inside-is (sym (ap (λ (s : Shape). s.depth) seen))
   | in-Inner+else-not-removed+else-len-eq1 w ↦
-      let ls = w.in-Inner.separators.items in let ks = w.in-Inner.children.items in let at = w.child_for-at.result in let part = c.args.part in let key = c.args.key in
+      let ls = w.in-Inner.separators.items in let ks = w.in-Inner.children.items in let at = w.child_for-at.result in
+      let part = c.args.part in let key = c.args.key in
       let inner = subst IsTree w.in-Inner.is c.self.invariant in
       let seen : c.args.self.now ≡ inner_shape ks = sym c.self.view_is ∙ ap shape_of w.in-Inner.is in
       let child = subst (λ ms. IsChildFor ms part key at) w.deref.ensures.value w.child_for-at.ensures in
       let k = w.index_mut.result.now in let k' = w.remove-removed.new.self in let here = w.index_mut.ensures.value in
       let is = removing part key in let e = w.remove-removed.ensures in
-      let empty : k'.entries ≡ [] = subst (λ b. MatchBool b (k'.entries ≡ []) (0 < length k'.entries)) (not-false _ w.if-not-removed.false) e.empty in
-      let many : 1 < length ks = omega (arith, inner.some, w.len.ensures, w.if-len-eq1.false, w.in-Inner.children.ok.0) in
-      rw w.self-inside-is (ap depth_of w.take_out-in-Inner.ensures.items ∙ left_depth part key (λ es. remove_entry es part key) is (depth_of ks) ls ks at k k' inner.children child here e.depth e.others many empty ∙ sym (ap (λ (s : Shape). s.depth) seen))
+      let empty : k'.entries ≡ [] = subst (λ b. MatchBool b (k'.entries ≡ []) (0 < length k'.entries))
+      (not-false _ w.if-not-removed.false) e.empty in
+      let many : 1 < length ks = omega (
+        arith,
+        inner.some,
+        w.len.ensures,
+        w.if-len-eq1.false,
+        w.in-Inner.children.ok.0,
+      ) in
+      rw w.self-inside-is (ap depth_of w.take_out-in-Inner.ensures.items ∙
+      left_depth part key (λ es. remove_entry es part key) is (depth_of ks) ls ks at k k' inner.children child here
+      e.depth e.others many empty ∙ sym (ap (λ (s : Shape). s.depth) seen))
 ]
 
 pub returns-clause-empty : goal.returns-clause-empty
 returns-clause-empty t c = elim c.match-self.branch [
   | in-Leaf w ↦ rw (w.result-is, w.self-inside-is) w.remove_from_leaf.ensures.empty
   | in-Inner+else-not-removed+else-len-eq1 w ↦
-      let ls = w.in-Inner.separators.items in let ks = w.in-Inner.children.items in let at = w.child_for-at.result in let part = c.args.part in let key = c.args.key in
+      let ls = w.in-Inner.separators.items in let ks = w.in-Inner.children.items in let at = w.child_for-at.result in
+      let part = c.args.part in let key = c.args.key in
       let inner = subst IsTree w.in-Inner.is c.self.invariant in
       let seen : c.args.self.now ≡ inner_shape ks = sym c.self.view_is ∙ ap shape_of w.in-Inner.is in
       let child = subst (λ ms. IsChildFor ms part key at) w.deref.ensures.value w.child_for-at.ensures in
       let k = w.index_mut.result.now in let k' = w.remove-removed.new.self in let here = w.index_mut.ensures.value in
       let is = removing part key in let e = w.remove-removed.ensures in
-      let empty : k'.entries ≡ [] = subst (λ b. MatchBool b (k'.entries ≡ []) (0 < length k'.entries)) (not-false _ w.if-not-removed.false) e.empty in
-      let many : 1 < length ks = omega (arith, inner.some, w.len.ensures, w.if-len-eq1.false, w.in-Inner.children.ok.0) in
-      rw (w.result-is, w.self-inside-is) (subst (λ js. 0 < length (all_entries js)) (sym w.take_out-in-Inner.ensures.items) (left_some part key (λ es. remove_entry es part key) is (depth_of ks) ls ks at k k' inner.children child here e.depth e.others many empty))
+      let empty : k'.entries ≡ [] = subst (λ b. MatchBool b (k'.entries ≡ []) (0 < length k'.entries))
+      (not-false _ w.if-not-removed.false) e.empty in
+      let many : 1 < length ks = omega (
+        arith,
+        inner.some,
+        w.len.ensures,
+        w.if-len-eq1.false,
+        w.in-Inner.children.ok.0,
+      ) in
+      rw (w.result-is, w.self-inside-is) (subst (λ js. 0 < length (all_entries js))
+      (sym w.take_out-in-Inner.ensures.items) (left_some part key (λ es. remove_entry es part key) is (depth_of ks)
+      ls ks at k k' inner.children child here e.depth e.others many empty))
 ]

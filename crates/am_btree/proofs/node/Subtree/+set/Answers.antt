@@ -14,27 +14,46 @@ use Rattle.am_btree.proofs.node.Subtree.+set.Goals.{in-Leaf, in-Inner}
 pub child_for-at-requires-clause-rising : goal.child_for-at-requires-clause-rising
 child_for-at-requires-clause-rising t c =
     let inner = subst IsTree c.in-Inner.is c.self.invariant in
-    subst SeparatorsRise (sym c.deref.ensures.value) (they_rise c.in-Inner.separators.items c.in-Inner.children.items _ _ inner)
+    subst SeparatorsRise (sym c.deref.ensures.value) (they_rise c.in-Inner.separators.items c.in-Inner.children.items _
+    _ inner)
 
 pub child_for-at-requires-clause-some : goal.child_for-at-requires-clause-some
 child_for-at-requires-clause-some t c =
     let inner = subst IsTree c.in-Inner.is c.self.invariant in
-    omega (arith, some_separators c.in-Inner.separators.items c.in-Inner.children.items _ _ inner, c.in-Inner.separators.ok.0, c.deref.ensures.len)
+    omega (
+      arith,
+      some_separators c.in-Inner.separators.items c.in-Inner.children.items _ _ inner,
+      c.in-Inner.separators.ok.0,
+      c.deref.ensures.len,
+    )
 
 pub index_mut-requires : goal.index_mut-requires
 index_mut-requires t c =
     let inner = subst IsTree c.in-Inner.is c.self.invariant in
-    omega (arith, as_many c.in-Inner.separators.items c.in-Inner.children.items _ _ inner, c.child_for-at.ensures.in_range, c.deref.ensures.len, c.in-Inner.separators.ok.0, c.in-Inner.children.ok.0)
+    omega (
+      arith,
+      as_many c.in-Inner.separators.items c.in-Inner.children.items _ _ inner,
+      c.child_for-at.ensures.in_range,
+      c.deref.ensures.len,
+      c.in-Inner.separators.ok.0,
+      c.in-Inner.children.ok.0,
+    )
 
 pub set-requires : goal.set-requires
 set-requires t c =
-    let ls = c.in-Inner.separators.items in let ks = c.in-Inner.children.items in let at = c.child_for-at.result in let k = c.index_mut.result.now in
+    let ls = c.in-Inner.separators.items in let ks = c.in-Inner.children.items in let at = c.child_for-at.result in
+    let k = c.index_mut.result.now in
     let inner = subst IsTree c.in-Inner.is c.self.invariant in
     let seen : c.args.self.now ≡ inner_shape ks = sym c.self.view_is ∙ ap shape_of c.in-Inner.is in
     let child = subst (λ ms. IsChildFor ms c.args.part c.args.key at) c.deref.ensures.value c.child_for-at.ensures in
-    let deep = one_below ls ks _ _ inner at k (omega (arith, child.in_range, as_many ls ks _ _ inner)) c.index_mut.ensures.value in
-    let falls : k.depth < c.args.self.now.depth = omega (arith, deep, ap (λ (s : Shape). s.depth) seen) in
-    (search rules, subst IsSome (ap (λ (s : Shape). find s.entries c.args.part c.args.key) seen ∙ find_in_child c.args.part c.args.key ls ks at k inner.children.parted child c.index_mut.ensures.value) c.requires)
+    let deep = one_below ls ks _ _ inner at k (omega (arith, child.in_range, as_many ls ks _ _ inner))
+    c.index_mut.ensures.value in
+    let falls : k.depth < c.args.self.now.depth = omega (arith, deep, ap (λ (s : Shape). s.depth) seen) in (
+      search rules,
+      subst IsSome (ap (λ (s : Shape). find s.entries c.args.part c.args.key) seen ∙
+          find_in_child c.args.part c.args.key ls ks at k inner.children.parted child c.index_mut.ensures.value)
+          c.requires,
+    )
 
 pub set_in_leaf-requires : goal.set_in_leaf-requires
 set_in_leaf-requires t c =
@@ -45,33 +64,54 @@ pub invariant_of-self : goal.invariant_of-self
 invariant_of-self t c = elim c.match-self.branch [
   | in-Leaf w ↦
       let old = subst IsTree w.in-Leaf.is c.self.invariant in
-      rw w.self-inside-is (omega (arith, old.0, ap length w.set_in_leaf.ensures.entries, written_long c.args.part c.args.key c.args.value c.args.is_ghost w.in-Leaf.leaf), w.set_in_leaf.ensures.rising)
+      rw w.self-inside-is (
+        omega (
+          arith,
+          old.0,
+          ap length w.set_in_leaf.ensures.entries,
+          written_long c.args.part c.args.key c.args.value c.args.is_ghost w.in-Leaf.leaf,
+        ),
+        w.set_in_leaf.ensures.rising,
+      )
   | in-Inner w ↦
-      let ls = w.in-Inner.separators.items in let ks = w.in-Inner.children.items in let at = w.child_for-at.result in let part = c.args.part in let key = c.args.key in
+      let ls = w.in-Inner.separators.items in let ks = w.in-Inner.children.items in let at = w.child_for-at.result in
+      let part = c.args.part in let key = c.args.key in
       let inner = subst IsTree w.in-Inner.is c.self.invariant in
       let seen : c.args.self.now ≡ inner_shape ks = sym c.self.view_is ∙ ap shape_of w.in-Inner.is in
       let child = subst (λ ms. IsChildFor ms part key at) w.deref.ensures.value w.child_for-at.ensures in
       let k = w.index_mut.result.now in let k' = w.set.new.self in let here = w.index_mut.ensures.value in
       let is = writing part key c.args.value c.args.is_ghost in let e = w.set.ensures in
       let filled : 1 < length ks → 0 < length k'.entries = λ more.
-      let old = AllByRecursion-at (λ (j : Shape). 0 < length j.entries) ks at k (inner.children.filled more) (omega (arith, child.in_range, as_many ls ks _ _ inner)) in
-      omega (arith, old, ap (λ (s : Shape). length s.entries) here, ap length e.entries, written_long part key c.args.value c.args.is_ghost k.entries) in
-      rw w.self-inside-is (kept_inner part key (λ es. set_entry es part key c.args.value c.args.is_ghost) is (depth_of ks) ls ks at k k' inner.children child here e.depth e.entries _ _ filled inner.most inner.room)
+      let old = AllByRecursion-at (λ (j : Shape). 0 < length j.entries) ks at k (inner.children.filled more)
+      (omega (arith, child.in_range, as_many ls ks _ _ inner)) in
+      omega (
+        arith,
+        old,
+        ap (λ (s : Shape). length s.entries) here,
+        ap length e.entries,
+        written_long part key c.args.value c.args.is_ghost k.entries,
+      ) in
+      rw w.self-inside-is (kept_inner part key (λ es. set_entry es part key c.args.value c.args.is_ghost) is
+      (depth_of ks) ls ks at k k' inner.children child here e.depth e.entries _ _ filled inner.most inner.room)
 ]
 
 pub returns-clause-entries : goal.returns-clause-entries
 returns-clause-entries t c = elim c.match-self.branch [
   | in-Leaf w ↦
       let seen : c.args.self.now ≡ leaf_shape w.in-Leaf.leaf = sym c.self.view_is ∙ ap shape_of w.in-Leaf.is in
-      rw w.self-inside-is (w.set_in_leaf.ensures.entries ∙ sym (ap (λ (s : Shape). set_entry s.entries c.args.part c.args.key c.args.value c.args.is_ghost) seen))
+      rw w.self-inside-is (w.set_in_leaf.ensures.entries ∙
+      sym (ap (λ (s : Shape). set_entry s.entries c.args.part c.args.key c.args.value c.args.is_ghost) seen))
   | in-Inner w ↦
-      let ls = w.in-Inner.separators.items in let ks = w.in-Inner.children.items in let at = w.child_for-at.result in let part = c.args.part in let key = c.args.key in
+      let ls = w.in-Inner.separators.items in let ks = w.in-Inner.children.items in let at = w.child_for-at.result in
+      let part = c.args.part in let key = c.args.key in
       let inner = subst IsTree w.in-Inner.is c.self.invariant in
       let seen : c.args.self.now ≡ inner_shape ks = sym c.self.view_is ∙ ap shape_of w.in-Inner.is in
       let child = subst (λ ms. IsChildFor ms part key at) w.deref.ensures.value w.child_for-at.ensures in
       let k = w.index_mut.result.now in let k' = w.set.new.self in let here = w.index_mut.ensures.value in
       let is = writing part key c.args.value c.args.is_ghost in let e = w.set.ensures in
-      rw w.self-inside-is (kept_entries part key (λ es. set_entry es part key c.args.value c.args.is_ghost) is (depth_of ks) ls ks at k k' inner.children child here e.depth e.entries ∙ sym (ap (λ (s : Shape). set_entry s.entries part key c.args.value c.args.is_ghost) seen))
+      rw w.self-inside-is (kept_entries part key (λ es. set_entry es part key c.args.value c.args.is_ghost) is
+      (depth_of ks) ls ks at k k' inner.children child here e.depth e.entries ∙
+      sym (ap (λ (s : Shape). set_entry s.entries part key c.args.value c.args.is_ghost) seen))
 ]
 
 pub returns-clause-depth : goal.returns-clause-depth
@@ -80,11 +120,14 @@ returns-clause-depth t c = elim c.match-self.branch [
       let seen : c.args.self.now ≡ leaf_shape w.in-Leaf.leaf = sym c.self.view_is ∙ ap shape_of w.in-Leaf.is in
       rw w.self-inside-is (sym (ap (λ (s : Shape). s.depth) seen))
   | in-Inner w ↦
-      let ls = w.in-Inner.separators.items in let ks = w.in-Inner.children.items in let at = w.child_for-at.result in let part = c.args.part in let key = c.args.key in
+      let ls = w.in-Inner.separators.items in let ks = w.in-Inner.children.items in let at = w.child_for-at.result in
+      let part = c.args.part in let key = c.args.key in
       let inner = subst IsTree w.in-Inner.is c.self.invariant in
       let seen : c.args.self.now ≡ inner_shape ks = sym c.self.view_is ∙ ap shape_of w.in-Inner.is in
       let child = subst (λ ms. IsChildFor ms part key at) w.deref.ensures.value w.child_for-at.ensures in
       let k = w.index_mut.result.now in let k' = w.set.new.self in let here = w.index_mut.ensures.value in
       let is = writing part key c.args.value c.args.is_ghost in let e = w.set.ensures in
-      rw w.self-inside-is (kept_depth part key (λ es. set_entry es part key c.args.value c.args.is_ghost) is (depth_of ks) ls ks at k k' inner.children child here e.depth e.entries ∙ sym (ap (λ (s : Shape). s.depth) seen))
+      rw w.self-inside-is (kept_depth part key (λ es. set_entry es part key c.args.value c.args.is_ghost) is
+      (depth_of ks) ls ks at k k' inner.children child here e.depth e.entries ∙
+      sym (ap (λ (s : Shape). s.depth) seen))
 ]

@@ -1,4 +1,5 @@
-use Rattle.std.proofs.Common.{◌≡◌, ◌<◌, ◌+◌, ◌-◌, ℕ, suc, false, List, ◌++◌, length, get_or, take, sym, ap, ◌∙◌, subst, add-one, arith}
+use Rattle.std.proofs.Common.{◌≡◌, ◌<◌, ◌+◌, ◌-◌, ℕ, suc, false, List, ◌++◌, length, get_or, take, sym, ap, ◌∙◌, subst}
+use Rattle.std.proofs.Common.{add-one, arith}
 use Rattle.std.proofs.lemmas.List.{get_or_default}
 use Rattle.am_record.specs.declared.entry.Entry.{Entry}
 use Rattle.am_record.proofs.Outcomes.{on_ok}
@@ -15,19 +16,25 @@ use Rattle.am_btree.proofs.node.Subtree.append.Goals as goal
 
 pub fill_last-added-requires-clause-some : goal.fill_last-added-requires-clause-some
 fill_last-added-requires-clause-some c =
-    subst (λ (l : List Entry). 0 < length l) (sym (on_ok c.insert.result (sym c.is_err.ensures.value ∙ c.if-is_err.false) c.insert.ensures.ok)) (insert_some c.put.self.entries _)
+    subst (λ (l : List Entry). 0 < length l) (sym
+    (on_ok c.insert.result (sym c.is_err.ensures.value ∙ c.if-is_err.false) c.insert.ensures.ok))
+    (insert_some c.put.self.entries _)
 
 pub fill_last-added-requires-clause-rising : goal.fill_last-added-requires-clause-rising
 fill_last-added-requires-clause-rising c =
     let part = c.args.part in let rs = c.args.pairs.now in let i = c.put.added in let es = c.args.self.now.entries in
     let d = c.index-pairs-added.result in let r : Record = get_or rs i d in
-    let same : get_or rs i c.index-pairs-added-in-put.result ≡ r = get_or_default rs i c.index-pairs-added-in-put.result d c.put-test.true in
+    let same : get_or rs i c.index-pairs-added-in-put.result ≡ r = get_or_default rs i c.index-pairs-added-in-put.result
+    d c.put-test.true in
     let is : c.insert.new.self.entries ≡ insert_entry c.put.self.entries (live_entry part r) =
     on_ok c.insert.result (sym c.is_err.ensures.value ∙ c.if-is_err.false) c.insert.ensures.ok
-    ∙ ap (λ (x : Record). insert_entry c.put.self.entries (record { part = part; key = r.0; value = x.1; is_ghost = false })) same in
+    ∙ ap (λ (x : Record). insert_entry c.put.self.entries
+    (record { part = part; key = r.0; value = x.1; is_ghost = false })) same in
     let now : c.insert.new.self.entries ≡ es ++ run_entries part (take (i + 1) rs) =
-    rw add-one (put part es rs c.requires.above c.requires.rising i r c.put-test.true (get_or_default rs i d r c.put-test.true) c.put.invariant.so_far is) in
-    let tree = subst (λ (s : Shape). IsRising s.entries) c.self.view_is (tree_rises c.self.inside.node c.self.invariant) in
+    rw add-one (put part es rs c.requires.above c.requires.rising i r c.put-test.true
+    (get_or_default rs i d r c.put-test.true) c.put.invariant.so_far is) in
+    let tree = subst (λ (s : Shape). IsRising s.entries) c.self.view_is
+    (tree_rises c.self.inside.node c.self.invariant) in
     let all = rising_with_run part es rs tree c.requires.above c.requires.rising in
     left_rise part es rs all (i + 1) now
 
@@ -35,16 +42,21 @@ pub put-preserved : goal.put-preserved
 put-preserved c =
     let part = c.args.part in let rs = c.args.pairs.now in let i = c.put.added in let es = c.args.self.now.entries in
     let d = c.index-pairs-added.result in let r : Record = get_or rs i d in
-    let same : get_or rs i c.index-pairs-added-in-put.result ≡ r = get_or_default rs i c.index-pairs-added-in-put.result d c.put-test.true in
+    let same : get_or rs i c.index-pairs-added-in-put.result ≡ r = get_or_default rs i c.index-pairs-added-in-put.result
+    d c.put-test.true in
     let is : c.insert.new.self.entries ≡ insert_entry c.put.self.entries (live_entry part r) =
     on_ok c.insert.result (sym c.is_err.ensures.value ∙ c.if-is_err.false) c.insert.ensures.ok
-    ∙ ap (λ (x : Record). insert_entry c.put.self.entries (record { part = part; key = r.0; value = x.1; is_ghost = false })) same in
+    ∙ ap (λ (x : Record). insert_entry c.put.self.entries
+    (record { part = part; key = r.0; value = x.1; is_ghost = false })) same in
     let now : c.insert.new.self.entries ≡ es ++ run_entries part (take (i + 1) rs) =
-    rw add-one (put part es rs c.requires.above c.requires.rising i r c.put-test.true (get_or_default rs i d r c.put-test.true) c.put.invariant.so_far is) in
-    let tree = subst (λ (s : Shape). IsRising s.entries) c.self.view_is (tree_rises c.self.inside.node c.self.invariant) in
+    rw add-one (put part es rs c.requires.above c.requires.rising i r c.put-test.true
+    (get_or_default rs i d r c.put-test.true) c.put.invariant.so_far is) in
+    let tree = subst (λ (s : Shape). IsRising s.entries) c.self.view_is
+    (tree_rises c.self.inside.node c.self.invariant) in
     let all = rising_with_run part es rs tree c.requires.above c.requires.rising in
     record {
-      most = within part es rs all (i + 1) c.fill_last-added.result (omega (arith, c.put-test.true)) c.fill_last-added.ensures.most;
+      most = within part es rs all (i + 1) c.fill_last-added.result (omega (arith, c.put-test.true))
+          c.fill_last-added.ensures.most;
       so_far = further part es rs all (i + 1) c.fill_last-added.result now c.fill_last-added.ensures.entries;
     }
 
@@ -66,5 +78,6 @@ take-preserved c =
     record {
       most = omega (arith, c.take.invariant.most);
       so_far = out c.args.part es rs c.requires.above c.requires.rising i r lt (get_or_default rs i d r lt)
-          (subst (λ (n : ℕ). c.take.self.entries ≡ es ++ run_entries c.args.part (take n rs)) at c.take.invariant.so_far) c.remove.ensures.others;
+          (subst (λ (n : ℕ). c.take.self.entries ≡ es ++ run_entries c.args.part (take n rs)) at
+          c.take.invariant.so_far) c.remove.ensures.others;
     }

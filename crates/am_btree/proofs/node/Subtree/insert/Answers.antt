@@ -12,15 +12,24 @@ use Rattle.am_btree.proofs.node.Subtree.insert.Goals as goal
 
 pub invariant_of-self : goal.invariant_of-self
 invariant_of-self c =
-    let x = c.args.entry in let old = c.args.self.now in let k = c.least.result in let s = c.in-Some.split in let left = c.insert_below.new.self in
-    let rising : IsRising old.entries = subst (λ (o : Shape). IsRising o.entries) c.self.view_is (tree_rises c.self.inside.node c.self.invariant) in
+    let x = c.args.entry in let old = c.args.self.now in let k = c.least.result in let s = c.in-Some.split in
+    let left = c.insert_below.new.self in
+    let rising : IsRising old.entries = subst (λ (o : Shape). IsRising o.entries) c.self.view_is
+    (tree_rises c.self.inside.node c.self.invariant) in
     let h = (subst (λ g. Grows old left x 1 g) c.in-Some.is c.in_ok-split.ensures.ok).0 in
-    let all = root_children k c.least.ensures.least old.depth (insert_entry old.entries x) left s h (rising_inserted old.entries x rising c.in_ok-split.ensures.absent) in
+    let all = root_children k c.least.ensures.least old.depth (insert_entry old.entries x) left s h
+    (rising_inserted old.entries x rising c.in_ok-split.ensures.absent) in
     let low : Separator = record { part = 0; key = k } in
-    let separators = c.put-2.ensures.items ∙ ap (λ ls. insert ls 1 s.separator) (c.put.ensures.items ∙ ap (λ ls. insert ls 0 low) c.in-Some-pop.spare.empty.0) in
+    let separators = c.put-2.ensures.items ∙ ap (λ ls. insert ls 1 s.separator)
+    (c.put.ensures.items ∙ ap (λ ls. insert ls 0 low) c.in-Some-pop.spare.empty.0) in
     let there = shape_of c.replace-node.result in
     let same : there ≡ left = ap shape_of c.replace-node.ensures.value ∙ c.self-2.view_is in
-    let children = c.put-4.ensures.items ∙ ap (λ ks. insert ks 1 s.right) (c.put-3.ensures.items ∙ ap (λ ks. insert ks 0 there) c.in-Some-pop.spare.empty.1) ∙ ap (λ (l : Shape). l ∷ s.right ∷ []) same in
+    let children = c.put-4.ensures.items ∙ ap (λ ks. insert ks 1 s.right)
+    (c.put-3.ensures.items ∙ ap (λ ks. insert ks 0 there) c.in-Some-pop.spare.empty.1) ∙
+    ap (λ (l : Shape). l ∷ s.right ∷ []) same in
     let room = c.in-Some-pop.spare.room in
-    inner_from (old.depth + 1) (low ∷ s.separator ∷ []) (left ∷ s.right ∷ []) c.put-2.new.v.items c.put-4.new.v.items _ _ separators children all (omega arith) (omega arith)
-    (omega (arith, c.put.ensures.capacity, c.put-2.ensures.capacity, room.0), omega (arith, c.put-3.ensures.capacity, c.put-4.ensures.capacity, room.1))
+    inner_from (old.depth + 1) (low ∷ s.separator ∷ []) (left ∷ s.right ∷ []) c.put-2.new.v.items c.put-4.new.v.items _
+    _ separators children all (omega arith) (omega arith) (
+      omega (arith, c.put.ensures.capacity, c.put-2.ensures.capacity, room.0),
+      omega (arith, c.put-3.ensures.capacity, c.put-4.ensures.capacity, room.1),
+    )

@@ -3,22 +3,29 @@ use Rattle.am_core.proofs.Endings.{is_in-inner, can_abort, still_active, aborted
 use Rattle.am_core.proofs.inner.Inner.abort.Goals as goal
 
 pub returns-then-not-is_active-clause-says : goal.returns-then-not-is_active-clause-says
-returns-then-not-is_active-clause-says g c = is_in-inner c.args.self.now.txs c.args.tx false (sym c.is_active.ensures.active ∙ c.if-not-is_active.true)
+returns-then-not-is_active-clause-says g c = is_in-inner c.args.self.now.txs c.args.tx false
+    (sym c.is_active.ensures.active ∙ c.if-not-is_active.true)
 
 pub take_back-requires-clause-can : goal.take_back-requires-clause-can
 take_back-requires-clause-can g c =
     let old = c.args.self.now in
-    can_abort old.parts old.txs old.wishes old.commits c.args.tx c.requires (sym c.is_active.ensures.active ∙ c.if-not-is_active.false)
+    can_abort old.parts old.txs old.wishes old.commits c.args.tx c.requires (sym c.is_active.ensures.active ∙
+    c.if-not-is_active.false)
 
 pub end-requires : goal.end-requires
-end-requires g c = still_active c.args.self.now.txs c.take_back.new.txs c.args.tx c.take_back.ensures.log (sym c.is_active.ensures.active ∙ c.if-not-is_active.false)
+end-requires g c = still_active c.args.self.now.txs c.take_back.new.txs c.args.tx c.take_back.ensures.log
+    (sym c.is_active.ensures.active ∙ c.if-not-is_active.false)
 
 pub returns-clause-says : goal.returns-clause-says
-returns-clause-says g c = is_in-inner c.args.self.now.txs c.args.tx true (sym c.is_active.ensures.active ∙ c.if-not-is_active.false)
+returns-clause-says g c = is_in-inner c.args.self.now.txs c.args.tx true (sym c.is_active.ensures.active ∙
+    c.if-not-is_active.false)
 
 pub returns-clause-after : goal.returns-clause-after
 returns-clause-after g c =
     let old = c.args.self.now in
-    let can = can_abort old.parts old.txs old.wishes old.commits c.args.tx c.requires (sym c.is_active.ensures.active ∙ c.if-not-is_active.false) in
-    aborted old.parts old.txs old.wishes old.commits c.take_back.new.parts c.take_back.new.txs c.end.new.self c.args.tx c.take_back.ensures.log c.end.ensures
-    (c.taking_back_is_known.ensures.known _ old.parts.entries c.take_back.new.parts.entries c.requires.rising can c.take_back.ensures.entries) c.take_back.ensures.runs
+    let can = can_abort old.parts old.txs old.wishes old.commits c.args.tx c.requires (sym c.is_active.ensures.active ∙
+    c.if-not-is_active.false) in
+    aborted old.parts old.txs old.wishes old.commits c.take_back.new.parts c.take_back.new.txs c.end.new.self c.args.tx
+    c.take_back.ensures.log c.end.ensures
+    (c.taking_back_is_known.ensures.known _ old.parts.entries c.take_back.new.parts.entries c.requires.rising can
+    c.take_back.ensures.entries) c.take_back.ensures.runs

@@ -4,13 +4,19 @@ use Rattle.am_core.proofs.Endings.{is_in-inner, committed}
 use Rattle.am_core.proofs.inner.Inner.commit.Goals as goal
 
 pub returns-then-not-is_active-clause-says : goal.returns-then-not-is_active-clause-says
-returns-then-not-is_active-clause-says g c = is_in-inner c.args.self.now.txs c.args.tx false (sym c.is_active.ensures.active ∙ c.if-not-is_active.true)
+returns-then-not-is_active-clause-says g c = is_in-inner c.args.self.now.txs c.args.tx false
+    (sym c.is_active.ensures.active ∙ c.if-not-is_active.true)
 
 pub returns-clause-says : goal.returns-clause-says
-returns-clause-says g c = (is_in-inner c.args.self.now.txs c.args.tx true (sym c.is_active.ensures.active ∙ c.if-not-is_active.false), refl)
+returns-clause-says g c = (
+  is_in-inner c.args.self.now.txs c.args.tx true (sym c.is_active.ensures.active ∙
+      c.if-not-is_active.false),
+  refl,
+)
 
 pub returns-clause-after : goal.returns-clause-after
-returns-clause-after g c = let old = c.args.self.now in committed old.parts old.txs old.wishes old.commits c.end.new.self c.args.tx (old.commits + 1) c.end.ensures
+returns-clause-after g c = let old = c.args.self.now in committed old.parts old.txs old.wishes old.commits
+    c.end.new.self c.args.tx (old.commits + 1) c.end.ensures
 
 pub overflow_add-self : goal.overflow_add-self
 overflow_add-self g c =

@@ -3,13 +3,18 @@ use Rattle.am_core.proofs.Reaching.{unwanted_begin, unwanted_commit, unwanted_ab
 use Rattle.am_core.proofs.inner.Inner.step.Goals as goal
 
 pub returns-in-Begin-clause-memory : goal.returns-in-Begin-clause-memory
-returns-in-Begin-clause-memory g c = λ e. absurd (unwanted_begin (inner_state c.args.self.now) c.begin.result c.begin.ensures.says e)
+returns-in-Begin-clause-memory g c = λ e. absurd
+    (unwanted_begin (inner_state c.args.self.now) c.begin.result c.begin.ensures.says e)
 
 pub returns-in-Commit-clause-memory : goal.returns-in-Commit-clause-memory
-returns-in-Commit-clause-memory g c = λ e. absurd (unwanted_commit (inner_state c.args.self.now) c.in-Commit.tx c.commit.result c.commit.ensures.says e)
+returns-in-Commit-clause-memory g c = λ e. absurd
+    (unwanted_commit (inner_state c.args.self.now) c.in-Commit.tx c.commit.result c.commit.ensures.says e)
 
 pub returns-in-Abort-clause-memory : goal.returns-in-Abort-clause-memory
-returns-in-Abort-clause-memory g c = λ e. absurd (unwanted_abort (inner_state c.args.self.now) c.in-Abort.tx c.abort.result c.abort.ensures.says e)
+returns-in-Abort-clause-memory g c = λ e. absurd
+    (unwanted_abort (inner_state c.args.self.now) c.in-Abort.tx c.abort.result c.abort.ensures.says e)
 
 pub returns-in-Clean-clause-memory : goal.returns-in-Clean-clause-memory
-returns-in-Clean-clause-memory g c = λ e. absurd (unwanted_clean (inner_state c.args.self.now) c.in-Clean.range c.in-Clean.limit c.clean.result c.clean.ensures.says e)
+returns-in-Clean-clause-memory g c = λ e. absurd
+    (unwanted_clean (inner_state c.args.self.now) c.in-Clean.range c.in-Clean.limit c.clean.result c.clean.ensures.says
+    e)

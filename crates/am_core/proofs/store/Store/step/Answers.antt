@@ -6,22 +6,32 @@ use Rattle.am_core.proofs.Standings.{goes, within, stays}
 use Rattle.am_core.proofs.store.Store.step.Goals as goal
 
 pub step_there-requires-clause-fit : goal.step_there-requires-clause-fit
-step_there-requires-clause-fit g c = c.steps_lift.ensures.fit c.self.invariant.trace (inner_state c.self.inside.inner.value) c.self.invariant.at
+step_there-requires-clause-fit g c = c.steps_lift.ensures.fit c.self.invariant.trace
+    (inner_state c.self.inside.inner.value) c.self.invariant.at
 
 pub step_there-requires-clause-few : goal.step_there-requires-clause-few
-step_there-requires-clause-few g c = let old = c.self.inside.inner.value in few_commits old.parts old.txs old.wishes old.commits c.self.invariant
+step_there-requires-clause-few g c = let old = c.self.inside.inner.value in few_commits old.parts old.txs old.wishes
+    old.commits c.self.invariant
 
 pub invariant_of-self : goal.invariant_of-self
 invariant_of-self g c =
-    reaches (inner_state c.self.inside.inner.value) (inner_state c.step_there.new.inner.value) c.args.step c.step_there.result (λ trace. c.steps_lift.ensures.lift trace (inner_state c.self.inside.inner.value) c.args.step c.step_there.result) c.self.invariant c.step_there.ensures.says c.step_there.ensures.after
+    reaches (inner_state c.self.inside.inner.value) (inner_state c.step_there.new.inner.value) c.args.step
+    c.step_there.result (λ trace. c.steps_lift.ensures.lift trace (inner_state c.self.inside.inner.value) c.args.step
+    c.step_there.result) c.self.invariant c.step_there.ensures.says c.step_there.ensures.after
 
 pub returns-clause-goes : goal.returns-clause-goes
 returns-clause-goes g c =
-    goes c.args.self.now (inner_state c.step_there.new.inner.value) c.args.step c.step_there.result c.steps_lift.ensures.lift c.steps_lift.ensures.sound
-    (subst (λ (p : StoreState). MayAnswer p c.args.step c.step_there.result) c.self.view_is c.step_there.ensures.says) (c.step_there.ensures.after ∙ ap (λ (p : StoreState). state_after p c.args.step c.step_there.result) c.self.view_is)
+    goes c.args.self.now (inner_state c.step_there.new.inner.value) c.args.step c.step_there.result
+    c.steps_lift.ensures.lift c.steps_lift.ensures.sound
+    (subst (λ (p : StoreState). MayAnswer p c.args.step c.step_there.result) c.self.view_is c.step_there.ensures.says)
+    (c.step_there.ensures.after ∙ ap (λ (p : StoreState). state_after p c.args.step c.step_there.result)
+    c.self.view_is)
 
 pub returns-clause-refused : goal.returns-clause-refused
-returns-clause-refused g c = stays c.args.self.now (inner_state c.step_there.new.inner.value) c.args.step c.step_there.result (c.step_there.ensures.after ∙ ap (λ (p : StoreState). state_after p c.args.step c.step_there.result) c.self.view_is)
+returns-clause-refused g c = stays c.args.self.now (inner_state c.step_there.new.inner.value) c.args.step
+    c.step_there.result (c.step_there.ensures.after ∙
+    ap (λ (p : StoreState). state_after p c.args.step c.step_there.result) c.self.view_is)
 
 pub returns-clause-within : goal.returns-clause-within
-returns-clause-within g c = within c.args.self.now c.args.step c.step_there.result (subst (λ (p : StoreState). MayAnswer p c.args.step c.step_there.result) c.self.view_is c.step_there.ensures.says)
+returns-clause-within g c = within c.args.self.now c.args.step c.step_there.result
+    (subst (λ (p : StoreState). MayAnswer p c.args.step c.step_there.result) c.self.view_is c.step_there.ensures.says)

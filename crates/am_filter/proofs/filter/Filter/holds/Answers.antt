@@ -7,7 +7,9 @@ pub returns : goal.returns
 unfolding has_bits
 returns c =
     let ws = c.args.self.now in
-    let lt : c.slot.result < length c.self.inside.words.items = subst (λ (l : List ℕ). c.slot.result < length l) (sym c.self.view_is) c.slot.ensures.in_range in
+    let lt : c.slot.result < length c.self.inside.words.items = subst (λ (l : List ℕ). c.slot.result < length l)
+    (sym c.self.view_is) c.slot.ensures.in_range in
     let word : c.index.result.now ≡ get_or ws (word_index ws c.args.number) 0 =
-    c.index.ensures ∙ any_default c.self.inside.words.items c.slot.result c.index.result.now lt ∙ (λ j. get_or (c.self.view_is j) (c.slot.ensures.value j) 0) in
+    c.index.ensures ∙ any_default c.self.inside.words.items c.slot.result c.index.result.now lt ∙
+    (λ j. get_or (c.self.view_is j) (c.slot.ensures.value j) 0) in
     λ j. nat_eq (bit_and (word j) (c.mask-mask.ensures j)) (c.mask-mask.ensures j)

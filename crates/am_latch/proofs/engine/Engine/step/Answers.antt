@@ -1,4 +1,5 @@
-use Rattle.std.proofs.Common.{arith, rules, refl, inl, false, ◌≡◌, ℕ, length, List, [], ◌∷◌, ◌++◌, vec_len, vec_capacity, ap, sym, subst, ◌∙◌}
+use Rattle.std.proofs.Common.{arith, rules, refl, inl, false, ◌≡◌, ℕ, length, List, [], ◌∷◌, ◌++◌, vec_len}
+use Rattle.std.proofs.Common.{vec_capacity, ap, sym, subst, ◌∙◌}
 use Rattle.am_record.specs.declared.step.Step.{Step}
 use Rattle.am_record.specs.declared.step.Reply.TheVariants.{Refused}
 use Rattle.am_record.specs.declared.step.Refusal.TheVariants.{NoMemory}
@@ -17,16 +18,28 @@ push_reserved-requires c =
     let g = c.take_step-reply.ensures.goes c.self.inside.trace.items c.self.invariant.trace in
     let room = c.get_room-has_room in
     let i = c.self.invariant in
-    (room_step _ c.args.step c.take_step-reply.result _ _ _ _ _ g.answers record { enough = i.ends; fits = omega (arith, i.trace_room, room.ensures.long.0, room.ensures.kept.0) } c.pairs_for-more.ensures
-    (λ e. (room.ensures.got e).1) (λ e. (c.may_go_on.ensures.yes c.if-not-may_go_on.false e, c.is_kept.ensures.real c.if-not-is_kept.false e))).0
+    (room_step _ c.args.step c.take_step-reply.result _ _ _ _ _ g.answers record {
+      enough = i.ends;
+      fits = omega (arith, i.trace_room, room.ensures.long.0, room.ensures.kept.0);
+    } c.pairs_for-more.ensures
+    (λ e. (room.ensures.got e).1) (λ e. (
+      c.may_go_on.ensures.yes c.if-not-may_go_on.false e,
+      c.is_kept.ensures.real c.if-not-is_kept.false e,
+    ))).0
 
 pub push_reserved-requires-2 : goal.push_reserved-requires-2
 push_reserved-requires-2 c =
     let g = c.take_step-reply.ensures.goes c.self.inside.trace.items c.self.invariant.trace in
     let room = c.get_room-has_room in
     let i = c.self.invariant in
-    (room_step _ c.args.step c.take_step-reply.result _ _ _ _ _ g.answers record { enough = i.ends; fits = omega (arith, i.calls_room, room.ensures.long.1, room.ensures.kept.1) } c.pairs_for-more.ensures
-    (λ e. (room.ensures.got e).2) (λ e. (c.may_go_on.ensures.yes c.if-not-may_go_on.false e, c.is_kept.ensures.real c.if-not-is_kept.false e))).0
+    (room_step _ c.args.step c.take_step-reply.result _ _ _ _ _ g.answers record {
+      enough = i.ends;
+      fits = omega (arith, i.calls_room, room.ensures.long.1, room.ensures.kept.1);
+    } c.pairs_for-more.ensures
+    (λ e. (room.ensures.got e).2) (λ e. (
+      c.may_go_on.ensures.yes c.if-not-may_go_on.false e,
+      c.is_kept.ensures.real c.if-not-is_kept.false e,
+    ))).0
 
 pub invariant_of-self-2 : goal.invariant_of-self-2
 invariant_of-self-2 c =
@@ -37,13 +50,31 @@ invariant_of-self-2 c =
     let room = c.get_room-has_room in
     let i = c.self.invariant in
     let copies = c.in-Some.ensures.copies in
-    let pushed : c.push_reserved.new.self.items ≡ old ++ (st, r) ∷ [] = c.push_reserved.ensures.items ∙ (λ j. room.ensures.same.0 j ++ (copies.0 j, c.copy_reply.ensures j) ∷ []) in
-    let ends : c.count_ends-self-inside.result ≡ ends_after c.self.inside.ends (change st r) = c.count_ends-self-inside.ensures ∙ ap (ends_after c.self.inside.ends) (c.change_by.ensures ∙ ap (λ (s : Step). change s r) copies.0) in
-    let now : active_in_trace c.push_reserved.new.self.items ≡ numbers_with (active_in_trace old) (change st r) = ap active_in_trace pushed ∙ active_from-snoc [] old (st, r) in
-    let a = (room_step (active_in_trace old) st r c.self.inside.ends c.pairs_for-more.result (vec_len room.new.trace) (vec_capacity room.new.trace) room.result g.answers record { enough = i.ends; fits = omega (arith, i.trace_room, room.ensures.long.0, room.ensures.kept.0) } c.pairs_for-more.ensures
-    (λ e. (room.ensures.got e).1) (λ e. (c.may_go_on.ensures.yes c.if-not-may_go_on.false e, c.is_kept.ensures.real c.if-not-is_kept.false e))).1 in
-    let b = (room_step (active_in_trace old) st r c.self.inside.ends c.pairs_for-more.result (vec_len room.new.calls) (vec_capacity room.new.calls) room.result g.answers record { enough = i.ends; fits = omega (arith, i.calls_room, room.ensures.long.1, room.ensures.kept.1) } c.pairs_for-more.ensures
-    (λ e. (room.ensures.got e).2) (λ e. (c.may_go_on.ensures.yes c.if-not-may_go_on.false e, c.is_kept.ensures.real c.if-not-is_kept.false e))).1 in
+    let pushed : c.push_reserved.new.self.items ≡ old ++ (st, r) ∷ [] = c.push_reserved.ensures.items ∙
+    (λ j. room.ensures.same.0 j ++ (copies.0 j, c.copy_reply.ensures j) ∷ []) in
+    let ends : c.count_ends-self-inside.result ≡ ends_after c.self.inside.ends (change st r) =
+    c.count_ends-self-inside.ensures ∙ ap (ends_after c.self.inside.ends)
+    (c.change_by.ensures ∙ ap (λ (s : Step). change s r) copies.0) in
+    let now : active_in_trace c.push_reserved.new.self.items ≡ numbers_with (active_in_trace old) (change st r) =
+    ap active_in_trace pushed ∙ active_from-snoc [] old (st, r) in
+    let a = (room_step (active_in_trace old) st r c.self.inside.ends c.pairs_for-more.result (vec_len room.new.trace)
+    (vec_capacity room.new.trace) room.result g.answers record {
+      enough = i.ends;
+      fits = omega (arith, i.trace_room, room.ensures.long.0, room.ensures.kept.0);
+    } c.pairs_for-more.ensures
+    (λ e. (room.ensures.got e).1) (λ e. (
+      c.may_go_on.ensures.yes c.if-not-may_go_on.false e,
+      c.is_kept.ensures.real c.if-not-is_kept.false e,
+    ))).1 in
+    let b = (room_step (active_in_trace old) st r c.self.inside.ends c.pairs_for-more.result (vec_len room.new.calls)
+    (vec_capacity room.new.calls) room.result g.answers record {
+      enough = i.ends;
+      fits = omega (arith, i.calls_room, room.ensures.long.1, room.ensures.kept.1);
+    } c.pairs_for-more.ensures
+    (λ e. (room.ensures.got e).2) (λ e. (
+      c.may_go_on.ensures.yes c.if-not-may_go_on.false e,
+      c.is_kept.ensures.real c.if-not-is_kept.false e,
+    ))).1 in
     let p = c.push_reserved.ensures in
     let q = c.push_reserved-2.ensures in record {
       trace = subst (λ (h : Trace). HasTrace h c.take_step-reply.new.store) (sym pushed) g.here;
@@ -59,7 +90,10 @@ returns-then-not-may_go_on-clause-memory c = λ is.
     let inside = c.self.inside in
     let none : c.get_room-has_room.result ≡ false = c.may_go_on.ensures.short (search rules) in
     subst (λ (e : EngineState). MayWantMemory e c.args.step) c.self.view_is
-    (inl (short (room_left inside) (pairs_needed c.args.step) c.pairs_for-more.result (vec_len inside.trace) (vec_len inside.calls) inside.ends (vec_capacity inside.trace) (vec_capacity inside.calls) c.get_room-has_room.result none c.pairs_for-more.ensures refl i.even (short_of c.args.step) c.get_room-has_room.ensures.there))
+    (inl (short (room_left inside) (pairs_needed c.args.step) c.pairs_for-more.result (vec_len inside.trace)
+    (vec_len inside.calls) inside.ends (vec_capacity inside.trace) (vec_capacity inside.calls)
+    c.get_room-has_room.result none c.pairs_for-more.ensures refl i.even (short_of c.args.step)
+    c.get_room-has_room.ensures.there))
 
 pub returns-then-not-is_kept-clause-memory : goal.returns-then-not-is_kept-clause-memory
 returns-then-not-is_kept-clause-memory c = λ is.
@@ -71,11 +105,16 @@ returns-then-not-is_kept-clause-memory c = λ is.
     let own = c.take_step-reply.ensures.own inside.trace.items i.trace in
     subst (λ (e : EngineState). MayWantMemory e st) c.self.view_is
     (by_reason e st c.get_room-has_room.result
-    (λ none. short (room_left inside) (pairs_needed st) c.pairs_for-more.result (vec_len inside.trace) (vec_len inside.calls) inside.ends (vec_capacity inside.trace) (vec_capacity inside.calls) c.get_room-has_room.result none c.pairs_for-more.ensures refl i.even (short_of st) c.get_room-has_room.ensures.there)
-    (λ had. store_wants e inside.store st c.take_step-reply.result i.trace (c.is_kept.ensures.lost lost had) c.take_step-reply.ensures.memory own))
+    (λ none. short (room_left inside) (pairs_needed st) c.pairs_for-more.result (vec_len inside.trace)
+    (vec_len inside.calls) inside.ends (vec_capacity inside.trace) (vec_capacity inside.calls)
+    c.get_room-has_room.result none c.pairs_for-more.ensures refl i.even (short_of st)
+    c.get_room-has_room.ensures.there)
+    (λ had. store_wants e inside.store st c.take_step-reply.result i.trace (c.is_kept.ensures.lost lost had)
+    c.take_step-reply.ensures.memory own))
 
 pub returns-then-not-is_kept-clause-answers : goal.returns-then-not-is_kept-clause-answers
 returns-then-not-is_kept-clause-answers c =
     let g = c.take_step-reply.ensures.goes c.self.inside.trace.items c.self.invariant.trace in
     let lost : c.is_kept.result ≡ false = search rules in
-    subst (λ (e : EngineState). MayFollow (active_in_trace e.trace) c.args.step (Refused NoMemory)) c.self.view_is (refused_so _ c.args.step c.take_step-reply.result g.answers (c.is_kept.ensures.no lost))
+    subst (λ (e : EngineState). MayFollow (active_in_trace e.trace) c.args.step (Refused NoMemory)) c.self.view_is
+    (refused_so _ c.args.step c.take_step-reply.result g.answers (c.is_kept.ensures.no lost))

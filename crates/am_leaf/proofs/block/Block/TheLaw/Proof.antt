@@ -1,4 +1,5 @@
--- A `&` to a block is made where one to a value is. It lends the values, and neither the room after them nor the right to give the block back. Assumes `Logic`.
+-- A `&` to a block is made where one to a value is. It lends the values, and neither the room after them nor the right
+-- to give the block back. Assumes `Logic`.
 use Rattle.std.specs.Prelude.{List, [], ◌++◌, ◌*◌, ◌^◌, ◌-◌, length}
 use Rattle.std.specs.Mem.{type_size}
 use seplogic.Ra.Ura.{Ura}
@@ -30,18 +31,25 @@ use Rattle.std.proofs.SharedLaws.{lent_shr_laws}
 use Rattle.am_leaf.specs.contracts.block.Block.TheInside as C
 use Rattle.am_leaf.proofs.block.Block.TheLaw.Statement.{statement}
 
-module _ {M : Type 1} {𝓤 : Ura M} (𝓛 : Logic 𝓤) (g : Global) (R : RattleType) (L : Laws R) (l : Lft) (s : Shares 𝓛 R l) (xs : List R.Denot) where
-  Lends-values : (p : Ptr) → Lends 𝓛 (in_block p (block_with_items (ghosts.dealloc_token g) R p (length xs) 32 xs)) (lent_at (Array R (length xs)) p xs) l
+module _ {M : Type 1} {𝓤 : Ura M} (𝓛 : Logic 𝓤) (g : Global) (R : RattleType) (L : Laws R) (l : Lft) (s : Shares 𝓛 R l)
+    (xs : List R.Denot) where
+  Lends-values : (p : Ptr) → Lends 𝓛 (in_block p (block_with_items (ghosts.dealloc_token g) R p (length xs) 32 xs))
+      (lent_at (Array R (length xs)) p xs) l
   Lends-values null_ptr = Lends-false 𝓛 (lent_at (Array R (length xs)) null_ptr xs) l
   Lends-values (block_ptr b o) =
       let p : Ptr = block_ptr b o in let n = length xs in
-      Lends-first 𝓛 (lies_at (Array R n) full_share p xs) (fsep (room_for (raw (ty_array (lone R.mir) (32 - n))) (p +ₚ (n * type_size R))) (ghosts.dealloc_token g (raw (ty_array (lone R.mir) 32)) p)) (lent_at (Array R n) p xs) l
+      Lends-first 𝓛 (lies_at (Array R n) full_share p xs)
+      (fsep (room_for (raw (ty_array (lone R.mir) (32 - n))) (p +ₚ (n * type_size R)))
+      (ghosts.dealloc_token g (raw (ty_array (lone R.mir) 32)) p)) (lent_at (Array R n) p xs) l
       (Lends-lies 𝓛 (Array R n) l p xs (Shares-Array 𝓛 R (subst Single (sym L.one) tt) n l s xs))
 
 pub shares : (K : RattleType) (L : Laws K) → statement K L
-shares K L = of_Lends (C.struct K) (C.the_codes K.Denot K.coded (Heap.the_row).coded) (C.the_heap K) (C.the_lent K) (λ d p. lent_shr_laws K L.shr_laws d.at (length d.values) 32 d.values)
+shares K L = of_Lends (C.struct K) (C.the_codes K.Denot K.coded (Heap.the_row).coded) (C.the_heap K) (C.the_lent K)
+    (λ d p. lent_shr_laws K L.shr_laws d.at (length d.values) 32 d.values)
     (copy_shared RawPtr-field RawPtr-copy, (the_field_shared, tt))
     (λ M 𝓤 𝓛 d p.
     let l = (C.the_row K).lives in let small = flt (32 * type_size K) (2 ^ 63) in
-    Lends-both 𝓛 small (in_block d.at (block_with_items (ghosts.dealloc_token d.alloc) K d.at (length d.values) 32 d.values)) (said small) (lent_at (Array K (length d.values)) d.at d.values) l (Lends-said 𝓛 small tt l)
-    (Lends-values 𝓛 d.alloc K L l (Shares-less 𝓛 K K.lives l (Incl-trans (meet_⊑_left (K.lives ++ []) _) (meet_⊑_left K.lives [])) (L.shares 𝓛)) d.values d.at))
+    Lends-both 𝓛 small (in_block d.at (block_with_items (ghosts.dealloc_token d.alloc) K d.at (length d.values) 32
+    d.values)) (said small) (lent_at (Array K (length d.values)) d.at d.values) l (Lends-said 𝓛 small tt l)
+    (Lends-values 𝓛 d.alloc K L l (Shares-less 𝓛 K K.lives l
+    (Incl-trans (meet_⊑_left (K.lives ++ []) _) (meet_⊑_left K.lives [])) (L.shares 𝓛)) d.values d.at))

@@ -16,7 +16,8 @@ loop-low-preserved-in-Less c =
     record {
       ordered = omega arith;
       in_range = held.in_range;
-      below = subst (λ (n : ℕ). AllBelow p (take n es)) next (all_below p es middle d c.len-high.ensures.rising within (sym (c.in-Less.ensures d)));
+      below = subst (λ (n : ℕ). AllBelow p (take n es)) next
+          (all_below p es middle d c.len-high.ensures.rising within (sym (c.in-Less.ensures d)));
       above = held.above;
     }
 

@@ -8,5 +8,6 @@ returns c =
     let a = c.self.inside in let held = c.self.invariant in let at = c.args.at in
     let e = entry_of c.get.result.now c.get-2.result.now c.has_bit.result in
     (λ j. entry_of (c.get.ensures j) (c.get-2.ensures j) (c.has_bit.ensures j))
-    ∙ sym (entries_of-at a.places a.values a.ghosts at c.get.result.now c.get-2.result.now e (alike a held) (omega (arith, held.places, counted a held _ c.self.view_is, c.requires)))
+    ∙ sym (entries_of-at a.places a.values a.ghosts at c.get.result.now c.get-2.result.now e (alike a held)
+    (omega (arith, held.places, counted a held _ c.self.view_is, c.requires)))
     ∙ ap (λ l. get_or l at e) c.self.view_is

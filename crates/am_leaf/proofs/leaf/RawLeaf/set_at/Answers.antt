@@ -13,14 +13,16 @@ pub returns : goal.returns
 returns c =
     let a = c.self.inside in let held = c.self.invariant in let at = c.args.at in
     (λ j. entries_of a.places (c.set.ensures j) (c.change_bit-self-inside.ensures j))
-    ∙ entries_of-set a.places a.values a.ghosts at c.args.value c.args.is_ghost (alike a held) (omega (arith, held.places, counted a held _ c.self.view_is, c.requires))
+    ∙ entries_of-set a.places a.values a.ghosts at c.args.value c.args.is_ghost (alike a held)
+    (omega (arith, held.places, counted a held _ c.self.view_is, c.requires))
     ∙ ap (λ l. set_at l at c.args.value c.args.is_ghost) c.self.view_is
 
 pub invariant_of-self : goal.invariant_of-self
 invariant_of-self c =
     let a = c.self.inside in let held = c.self.invariant in let at = c.args.at in
     let rising : IsRising c.args.self.now = subst IsRising c.self.view_is held.rising in
-    let below = changed_below a.ghosts at a.len c.args.is_ghost (omega (arith, counted a held _ c.self.view_is, c.requires)) held.ghosts in
+    let below = changed_below a.ghosts at a.len c.args.is_ghost
+    (omega (arith, counted a held _ c.self.view_is, c.requires)) held.ghosts in
     record {
       places = held.places;
       values = ap length c.set.ensures ∙ length-set a.values at c.args.value ∙ held.values;

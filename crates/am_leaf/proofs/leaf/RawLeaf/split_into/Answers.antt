@@ -38,7 +38,8 @@ invariant_of-self c =
       values = ap length c.split_into-2.ensures.front ∙ length-take-le at a.values (omega (arith, held.values));
       most = omega (arith, held.most);
       ghosts = subst (λ (m : ℕ). m < 2 ^ at) (sym c.split_bits.ensures.below) (cut_below a.ghosts at);
-      rising = subst IsRising (sym (returns-clause-front c)) (rising-take at c.args.self.now (subst IsRising c.self.view_is held.rising));
+      rising = subst IsRising (sym (returns-clause-front c))
+          (rising-take at c.args.self.now (subst IsRising c.self.view_is held.rising));
     }
 
 pub invariant_of-other : goal.invariant_of-other
@@ -49,6 +50,8 @@ invariant_of-other c =
       places = ap length c.split_into.ensures.back ∙ omega (arith, length-drop at a.places, held.places);
       values = ap length c.split_into-2.ensures.back ∙ omega (arith, length-drop at a.values, held.values);
       most = omega (arith, held.most);
-      ghosts = subst (λ (m : ℕ). m < 2 ^ (a.len - at)) (sym c.split_bits.ensures.above) (rest_below a.ghosts at a.len le held.ghosts);
-      rising = subst IsRising (sym (returns-clause-back c)) (rising-drop at c.args.self.now (subst IsRising c.self.view_is held.rising));
+      ghosts = subst (λ (m : ℕ). m < 2 ^ (a.len - at)) (sym c.split_bits.ensures.above)
+          (rest_below a.ghosts at a.len le held.ghosts);
+      rising = subst IsRising (sym (returns-clause-back c))
+          (rising-drop at c.args.self.now (subst IsRising c.self.view_is held.rising));
     }

@@ -6,5 +6,7 @@ use Rattle.am_list_index.proofs.list_index.ListIndexPartIndex.append_run.Goals a
 
 pub invariant_of-self : goal.invariant_of-self
 invariant_of-self c =
-    let above = subst (λ (l : List Entry). AllByRecursion (λ e. e.part < c.args.part) l) (sym c.self.view_is) c.requires.above in
-    rising_either c.push_run.result c.args.part c.self.inside.items.items c.args.pairs.now c.push_run.new.items.items c.self.invariant above c.requires.rising c.push_run.ensures.ok c.push_run.ensures.err
+    let above = subst (λ (l : List Entry). AllByRecursion (λ e. e.part < c.args.part) l) (sym c.self.view_is)
+    c.requires.above in
+    rising_either c.push_run.result c.args.part c.self.inside.items.items c.args.pairs.now c.push_run.new.items.items
+    c.self.invariant above c.requires.rising c.push_run.ensures.ok c.push_run.ensures.err

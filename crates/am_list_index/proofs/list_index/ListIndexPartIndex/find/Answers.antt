@@ -3,7 +3,8 @@ use Rattle.am_list.proofs.Searches.{find_found, find_absent}
 use Rattle.am_list_index.proofs.list_index.ListIndexPartIndex.find.Goals as goal
 
 pub returns-in-Ok-clause-found : goal.returns-in-Ok-clause-found
-returns-in-Ok-clause-found c = sym (find_found _ _ _ _ c.in-Ok.ensures.found c.index-e.result.now (rw (← c.self.view_is) c.index-e.ensures))
+returns-in-Ok-clause-found c = sym (find_found _ _ _ _ c.in-Ok.ensures.found c.index-e.result.now
+    (rw (← c.self.view_is) c.index-e.ensures))
 
 pub returns-in-Err-clause-found : goal.returns-in-Err-clause-found
 returns-in-Err-clause-found c = sym (find_absent _ _ _ _ c.in-Err.ensures.absent)

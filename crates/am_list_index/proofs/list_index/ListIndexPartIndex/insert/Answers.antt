@@ -6,7 +6,9 @@ pub unreachable-requires : goal.unreachable-requires
 unreachable-requires c = find_present _ _ _ _ c.in_default.ensures.found c.requires
 
 pub invariant_of-self-2 : goal.invariant_of-self-2
-invariant_of-self-2 c = rw c.in_ok-insert.ensures.items (rising_insert_gap _ _ _ (rw c.self.view_is c.in-Err.ensures.absent) c.self.invariant)
+invariant_of-self-2 c = rw c.in_ok-insert.ensures.items
+    (rising_insert_gap _ _ _ (rw c.self.view_is c.in-Err.ensures.absent) c.self.invariant)
 
 pub returns-clause-ok : goal.returns-clause-ok
-returns-clause-ok c = c.in_ok-insert.ensures.items ∙ insert_gap _ _ _ (rw c.self.view_is c.in-Err.ensures.absent) ∙ rw c.self.view_is refl
+returns-clause-ok c = c.in_ok-insert.ensures.items ∙ insert_gap _ _ _ (rw c.self.view_is c.in-Err.ensures.absent) ∙
+    rw c.self.view_is refl

@@ -3,4 +3,5 @@ use Rattle.am_list.proofs.Searches.{next_from_at}
 use Rattle.am_list_index.proofs.list_index.ListIndexPartIndex.next_from.Goals as goal
 
 pub returns-clause-found : goal.returns-clause-found
-returns-clause-found c = c.of_part.ensures ∙ next_from_at _ _ _ _ c.lower_bound.ensures.bound c.lower_bound.ensures.rising
+returns-clause-found c = c.of_part.ensures ∙ next_from_at _ _ _ _ c.lower_bound.ensures.bound
+    c.lower_bound.ensures.rising

@@ -1,4 +1,5 @@
-use Rattle.std.proofs.Common.{◌≡◌, ap, sym, ◌∙◌, Bool, cond, ◌-◌, List, [], ◌∷◌, Option, Some, None, option_map, length, take, drop, refl, rules, tests}
+use Rattle.std.proofs.Common.{◌≡◌, ap, sym, ◌∙◌, Bool, cond, ◌-◌, List, [], ◌∷◌, Option, Some, None, option_map, length}
+use Rattle.std.proofs.Common.{take, drop, refl, rules, tests}
 use Rattle.std.specs.List.{find}
 use Rattle.std.proofs.lemmas.Iterator.{YieldsList-from_slice}
 use Rattle.std.proofs.lemmas.Iterator.Consumers.{YieldsList-from_copied}
@@ -20,7 +21,11 @@ find_such test (e ∷ es) = λ i. cond (test e) (Some e) (find_such test es i)
 pub returns-clause-found : goal.returns-clause-found
 returns-clause-found c =
     let from = c.lower_bound-from.result in
-    let rest = ap (λ es. take (length es - from) (drop from es)) (c.deref.ensures.value ∙ c.self.view_is) ∙ whole_rest from c.args.self.now in
+    let rest = ap (λ es. take (length es - from) (drop from es)) (c.deref.ensures.value ∙ c.self.view_is) ∙
+    whole_rest from c.args.self.now in
     sym (itself c.find.result)
-    ∙ find_from_yields_List (λ e. e.is_ghost) _ _ c.find.result c.find.ensures.ran (YieldsList-from_copied (YieldsList-from_slice (drop from c.args.self.now) (ap iter_rest c.copied.ensures.source ∙ c.iter.ensures.rest ∙ rest))) (λ x b q k. search (rules, tests))
-    ∙ find_such (λ e. e.is_ghost) (drop from c.args.self.now) ∙ next_ghost_at c.args.self.now c.args.part c.args.key from c.lower_bound-from.ensures.bound
+    ∙ find_from_yields_List (λ e. e.is_ghost) _ _ c.find.result c.find.ensures.ran
+    (YieldsList-from_copied (YieldsList-from_slice (drop from c.args.self.now) (ap iter_rest c.copied.ensures.source ∙
+    c.iter.ensures.rest ∙ rest))) (λ x b q k. search (rules, tests))
+    ∙ find_such (λ e. e.is_ghost) (drop from c.args.self.now) ∙ next_ghost_at c.args.self.now c.args.part c.args.key
+    from c.lower_bound-from.ensures.bound

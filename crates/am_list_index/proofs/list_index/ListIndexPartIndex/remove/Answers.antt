@@ -8,10 +8,14 @@ pub unreachable-requires : goal.unreachable-requires
 unreachable-requires c = false≢true (rw (find_absent _ _ _ _ c.in_default.ensures.absent) at c.requires)
 
 pub invariant_of-self : goal.invariant_of-self
-invariant_of-self c = rw c.remove.ensures.items (rising_remove_found c.self.inside.items.items c.args.part c.args.key c.in-Ok.at c.self.invariant (rw c.self.view_is c.in-Ok.ensures.found))
+invariant_of-self c = rw c.remove.ensures.items (rising_remove_found c.self.inside.items.items c.args.part c.args.key
+    c.in-Ok.at c.self.invariant (rw c.self.view_is c.in-Ok.ensures.found))
 
 pub returns-clause-entry : goal.returns-clause-entry
-returns-clause-entry c = entry_at_found _ _ _ _ c.in-Ok.ensures.found c.remove.result (rw (← c.self.view_is) c.remove.ensures.value)
+returns-clause-entry c = entry_at_found _ _ _ _ c.in-Ok.ensures.found c.remove.result
+    (rw (← c.self.view_is) c.remove.ensures.value)
 
 pub returns-clause-others : goal.returns-clause-others
-returns-clause-others c = c.remove.ensures.items ∙ remove_found c.self.inside.items.items c.args.part c.args.key c.in-Ok.at (rw c.self.view_is c.in-Ok.ensures.found) ∙ ap (λ es. remove_entry es c.args.part c.args.key) c.self.view_is
+returns-clause-others c = c.remove.ensures.items ∙ remove_found c.self.inside.items.items c.args.part c.args.key
+    c.in-Ok.at (rw c.self.view_is c.in-Ok.ensures.found) ∙ ap (λ es. remove_entry es c.args.part c.args.key)
+    c.self.view_is

@@ -8,7 +8,10 @@ pub unreachable-requires : goal.unreachable-requires
 unreachable-requires c = false≢true (rw (find_absent _ _ _ _ c.in_default.ensures.absent) at c.requires)
 
 pub invariant_of-self : goal.invariant_of-self
-invariant_of-self c = rising_set_found c.self.inside.items.items c.args.part c.args.key c.in-Ok.at c.self.invariant (rw c.self.view_is c.in-Ok.ensures.found) _ c.index_mut-e.ensures.value _ _
+invariant_of-self c = rising_set_found c.self.inside.items.items c.args.part c.args.key c.in-Ok.at c.self.invariant
+    (rw c.self.view_is c.in-Ok.ensures.found) _ c.index_mut-e.ensures.value _ _
 
 pub returns : goal.returns
-returns c = set_found c.self.inside.items.items c.args.part c.args.key c.in-Ok.at (rw c.self.view_is c.in-Ok.ensures.found) _ c.index_mut-e.ensures.value _ _ ∙ ap (λ es. set_entry es c.args.part c.args.key c.args.value c.args.is_ghost) c.self.view_is
+returns c = set_found c.self.inside.items.items c.args.part c.args.key c.in-Ok.at
+    (rw c.self.view_is c.in-Ok.ensures.found) _ c.index_mut-e.ensures.value _ _ ∙
+    ap (λ es. set_entry es c.args.part c.args.key c.args.value c.args.is_ghost) c.self.view_is

@@ -4,4 +4,6 @@ use Rattle.am_locks.proofs.fronts.Fronts.renew.Given as goal
 
 abbrev pub invariant-loop-lock : goal.invariant-loop-lock
 invariant-loop-lock l =
-    AreFrontsOf (take l.lock-index l.locks) l.self.all.ranges.items l.self.exclusive.ranges.items × (vec_capacity l.self.all.ranges ≡ vec_capacity l.initial.self.all.ranges) × (vec_capacity l.self.exclusive.ranges ≡ vec_capacity l.initial.self.exclusive.ranges)
+    AreFrontsOf (take l.lock-index l.locks) l.self.all.ranges.items l.self.exclusive.ranges.items ×
+    (vec_capacity l.self.all.ranges ≡ vec_capacity l.initial.self.all.ranges) ×
+    (vec_capacity l.self.exclusive.ranges ≡ vec_capacity l.initial.self.exclusive.ranges)

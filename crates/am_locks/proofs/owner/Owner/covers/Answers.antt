@@ -9,11 +9,18 @@ use Rattle.am_locks.proofs.owner.Owner.covers.Goals as goal
 pub returns-then-covered_among : goal.returns-then-covered_among
 returns-then-covered_among c =
     let test = λ (l : Lock). covers l c.args.asked.now in
-    let first : list_any test (take 8 c.self.inside.locks.items) ≡ true = ap (λ ls. list_any test (take 8 ls)) (sym c.deref.ensures) ∙ ap (list_any test) (sym c.first_of.ensures) ∙ sym c.covered_among.ensures ∙ c.if-covered_among.true in
-    c.if-covered_among.true ∙ sym (found_first test 8 c.self.inside.locks.items first) ∙ ap (λ (h : OwnerLocks). is_covered h.locks c.args.asked.now) c.self.view_is
+    let first : list_any test (take 8 c.self.inside.locks.items) ≡ true = ap (λ ls. list_any test (take 8 ls))
+    (sym c.deref.ensures) ∙ ap (list_any test) (sym c.first_of.ensures) ∙ sym c.covered_among.ensures ∙
+    c.if-covered_among.true in
+    c.if-covered_among.true ∙ sym (found_first test 8 c.self.inside.locks.items first) ∙
+    ap (λ (h : OwnerLocks). is_covered h.locks c.args.asked.now) c.self.view_is
 
 pub returns-else-covered_among : goal.returns-else-covered_among
 returns-else-covered_among c =
     let test = λ (l : Lock). covers l c.args.asked.now in
-    let first : list_any test (take 8 c.self.inside.locks.items) ≡ false = ap (λ ls. list_any test (take 8 ls)) (sym c.deref.ensures) ∙ ap (list_any test) (sym c.first_of.ensures) ∙ sym c.covered_among.ensures ∙ c.if-covered_among.false in
-    c.cover.ensures (drop 8 c.self.inside.locks.items) c.self.invariant.4 ∙ sym (none_first test 8 c.self.inside.locks.items first) ∙ ap (λ (h : OwnerLocks). is_covered h.locks c.args.asked.now) c.self.view_is
+    let first : list_any test (take 8 c.self.inside.locks.items) ≡ false = ap (λ ls. list_any test (take 8 ls))
+    (sym c.deref.ensures) ∙ ap (list_any test) (sym c.first_of.ensures) ∙ sym c.covered_among.ensures ∙
+    c.if-covered_among.false in
+    c.cover.ensures (drop 8 c.self.inside.locks.items) c.self.invariant.4 ∙
+    sym (none_first test 8 c.self.inside.locks.items first) ∙
+    ap (λ (h : OwnerLocks). is_covered h.locks c.args.asked.now) c.self.view_is

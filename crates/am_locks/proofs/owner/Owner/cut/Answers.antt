@@ -9,7 +9,8 @@ invariant_of-self c = (
   search rules,
   search rules,
   subst (λ ls. IsFilterOf ls c.key_filter_of-self-inside.result) c.deref-2.ensures c.key_filter_of-self-inside.ensures,
-  subst (λ ls. AreFrontsOf ls c.renew.new.self.all.ranges.items c.renew.new.self.exclusive.ranges.items) (c.later_of.ensures ∙ ap (drop 8) c.deref-3.ensures) c.renew.ensures.fronts,
+  subst (λ ls. AreFrontsOf ls c.renew.new.self.all.ranges.items c.renew.new.self.exclusive.ranges.items)
+      (c.later_of.ensures ∙ ap (drop 8) c.deref-3.ensures) c.renew.ensures.fronts,
   search rules,
   search rules,
 )

@@ -9,23 +9,32 @@ use Rattle.am_locks.proofs.owner.Owner.has_conflict.Goals as goal
 
 pub returns-then-not-is_exclusive : goal.returns-then-not-is_exclusive
 returns-then-not-is_exclusive c =
-    sym (none_conflicts c.args.asked.now c.self.inside.locks.items (sym c.self.invariant.2 ∙ c.if-not-self.true) (sym c.is_exclusive.ensures ∙ c.if-not-is_exclusive.true))
+    sym (none_conflicts c.args.asked.now c.self.inside.locks.items (sym c.self.invariant.2 ∙ c.if-not-self.true)
+    (sym c.is_exclusive.ensures ∙ c.if-not-is_exclusive.true))
     ∙ ap (has_conflict c.args.asked.now) c.self.view_is
 
 pub returns-then-denies : goal.returns-then-denies
 returns-then-denies c =
-    sym (denied_conflict c.self.inside.key_filter c.args.asked.now c.in-Some.number c.self.inside.locks.items c.self.invariant.3
-    (subst (λ o. IfSome o (IsNumberOf c.args.asked.now)) c.in-Some.is c.requires) (sym c.denies.ensures ∙ c.if-denies.true))
+    sym (denied_conflict c.self.inside.key_filter c.args.asked.now c.in-Some.number c.self.inside.locks.items
+    c.self.invariant.3
+    (subst (λ o. IfSome o (IsNumberOf c.args.asked.now)) c.in-Some.is c.requires)
+    (sym c.denies.ensures ∙ c.if-denies.true))
     ∙ ap (has_conflict c.args.asked.now) c.self.view_is
 
 pub returns-then-conflict_among : goal.returns-then-conflict_among
 returns-then-conflict_among c =
     let test = conflicts c.args.asked.now in
-    let first : list_any test (take 8 c.self.inside.locks.items) ≡ true = ap (λ ls. list_any test (take 8 ls)) (sym c.deref.ensures) ∙ ap (list_any test) (sym c.first_of.ensures) ∙ sym c.conflict_among.ensures ∙ c.if-conflict_among.true in
-    c.if-conflict_among.true ∙ sym (found_first test 8 c.self.inside.locks.items first) ∙ ap (has_conflict c.args.asked.now) c.self.view_is
+    let first : list_any test (take 8 c.self.inside.locks.items) ≡ true = ap (λ ls. list_any test (take 8 ls))
+    (sym c.deref.ensures) ∙ ap (list_any test) (sym c.first_of.ensures) ∙ sym c.conflict_among.ensures ∙
+    c.if-conflict_among.true in
+    c.if-conflict_among.true ∙ sym (found_first test 8 c.self.inside.locks.items first) ∙
+    ap (has_conflict c.args.asked.now) c.self.view_is
 
 pub returns-else-conflict_among : goal.returns-else-conflict_among
 returns-else-conflict_among c =
     let test = conflicts c.args.asked.now in
-    let first : list_any test (take 8 c.self.inside.locks.items) ≡ false = ap (λ ls. list_any test (take 8 ls)) (sym c.deref.ensures) ∙ ap (list_any test) (sym c.first_of.ensures) ∙ sym c.conflict_among.ensures ∙ c.if-conflict_among.false in
-    c.conflict.ensures (drop 8 c.self.inside.locks.items) c.self.invariant.4 ∙ sym (none_first test 8 c.self.inside.locks.items first) ∙ ap (has_conflict c.args.asked.now) c.self.view_is
+    let first : list_any test (take 8 c.self.inside.locks.items) ≡ false = ap (λ ls. list_any test (take 8 ls))
+    (sym c.deref.ensures) ∙ ap (list_any test) (sym c.first_of.ensures) ∙ sym c.conflict_among.ensures ∙
+    c.if-conflict_among.false in
+    c.conflict.ensures (drop 8 c.self.inside.locks.items) c.self.invariant.4 ∙
+    sym (none_first test 8 c.self.inside.locks.items first) ∙ ap (has_conflict c.args.asked.now) c.self.view_is

@@ -11,15 +11,21 @@ use Rattle.am_locks.proofs.table.LockTable.exclusive_at.Goals as goal
 pub returns-in_err-owner-clause-holder : goal.returns-in_err-owner-clause-holder
 returns-in_err-owner-clause-holder c =
     let owners = YieldsList-from_slice c.args.self.now (c.iter.ensures.rest ∙ c.deref.ensures.value ∙ c.self.view_is) in
-    let first = find_from_yields_List (is_exclusive_at c.args.key) _ _ c.find.result c.find.ensures.ran owners (λ x b q k. search (rules, tests)) in
+    let first = find_from_yields_List (is_exclusive_at c.args.key) _ _ c.find.result c.find.ensures.ran owners
+    (λ x b q k. search (rules, tests)) in
     let all = exclusive_holders-find c.args.self.now c.args.key (subst AreAllApart c.self.view_is c.self.invariant.0) in
-    let none : find (is_exclusive_at c.args.key) c.args.self.now ≡ None = sym first ∙ ap (option_map (λ (h : Bor OwnerLocks). h.now)) c.in_err-owner.was in
-    all ∙ ap (λ o. option_to_list (option_map (λ (h : OwnerLocks). h.owner) o)) none ∙ ap option_to_list (sym c.from_residual.ensures)
+    let none : find (is_exclusive_at c.args.key) c.args.self.now ≡ None = sym first ∙
+    ap (option_map (λ (h : Bor OwnerLocks). h.now)) c.in_err-owner.was in
+    all ∙ ap (λ o. option_to_list (option_map (λ (h : OwnerLocks). h.owner) o)) none ∙
+    ap option_to_list (sym c.from_residual.ensures)
 
 pub returns-clause-holder : goal.returns-clause-holder
 returns-clause-holder c =
     let owners = YieldsList-from_slice c.args.self.now (c.iter.ensures.rest ∙ c.deref.ensures.value ∙ c.self.view_is) in
-    let first = find_from_yields_List (is_exclusive_at c.args.key) _ _ c.find.result c.find.ensures.ran owners (λ x b q k. search (rules, tests)) in
+    let first = find_from_yields_List (is_exclusive_at c.args.key) _ _ c.find.result c.find.ensures.ran owners
+    (λ x b q k. search (rules, tests)) in
     let all = exclusive_holders-find c.args.self.now c.args.key (subst AreAllApart c.self.view_is c.self.invariant.0) in
-    let some : find (is_exclusive_at c.args.key) c.args.self.now ≡ Some c.in_ok-owner.owner.now = sym first ∙ ap (option_map (λ (h : Bor OwnerLocks). h.now)) c.in_ok-owner.was in
-    all ∙ ap (λ o. option_to_list (option_map (λ (h : OwnerLocks). h.owner) o)) some ∙ (λ i. sym c.number.ensures i ∷ [])
+    let some : find (is_exclusive_at c.args.key) c.args.self.now ≡ Some c.in_ok-owner.owner.now = sym first ∙
+    ap (option_map (λ (h : Bor OwnerLocks). h.now)) c.in_ok-owner.was in
+    all ∙ ap (λ o. option_to_list (option_map (λ (h : OwnerLocks). h.owner) o)) some ∙
+    (λ i. sym c.number.ensures i ∷ [])

@@ -19,6 +19,7 @@ returns c =
     ∙ min_from_yields_List c.map.result c.min.result c.min.ensures.ran
     (YieldsList-from_map _ (λ (h : OwnerLocks). h.owner)
     (YieldsList-at c.map.ensures.source
-    (YieldsList-from_filter _ (blocks c.args.tx c.args.asked.now) (YieldsList-at c.filter.ensures.source owners) c.filter.ensures.closure (λ x r q k. search (rules, tests))))
+    (YieldsList-from_filter _ (blocks c.args.tx c.args.asked.now) (YieldsList-at c.filter.ensures.source owners)
+    c.filter.ensures.closure (λ x r q k. search (rules, tests))))
     c.map.ensures.closure (λ x r q k. search rules)) in
     subst (λ r. MatchOption r (numbers ≡ []) (IsLeastOf numbers)) (sym e) (reduce_min-least numbers)

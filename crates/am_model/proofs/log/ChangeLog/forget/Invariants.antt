@@ -5,4 +5,5 @@ use Rattle.am_model.proofs.log.ChangeLog.forget.Given as goal
 
 abbrev pub invariant-loop-note : goal.invariant-loop-note
 invariant-loop-note l =
-    (live l.records ≡ live l.fn.records) × AllByRecursion (λ n. IsNoPlace l.records n.key) (take l.note-index l.note-items)
+    (live l.records ≡ live l.fn.records) × AllByRecursion (λ n. IsNoPlace l.records n.key)
+    (take l.note-index l.note-items)

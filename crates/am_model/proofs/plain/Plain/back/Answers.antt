@@ -5,9 +5,11 @@ use Rattle.am_model.proofs.plain.Plain.back.Goals as goal
 
 pub invariant_of-self : goal.invariant_of-self
 invariant_of-self c =
-    back_stand c.self.inside.records c.back.new.records c.self.inside.log c.back.new.self c.self.invariant c.back.ensures.records c.back.ensures.notes c.back.ensures.marks
+    back_stand c.self.inside.records c.back.new.records c.self.inside.log c.back.new.self c.self.invariant
+    c.back.ensures.records c.back.ensures.notes c.back.ensures.marks
 
 pub returns-clause-after : goal.returns-clause-after
 returns-clause-after c =
-    went_back_to c.self.inside.records c.back.new.records c.self.inside.log c.back.new.self c.self.invariant c.back.ensures.records c.back.ensures.notes c.back.ensures.marks
+    went_back_to c.self.inside.records c.back.new.records c.self.inside.log c.back.new.self c.self.invariant
+    c.back.ensures.records c.back.ensures.notes c.back.ensures.marks
     ∙ ap (λ (d : Draft). draft_back d.saved d) c.self.view_is

@@ -12,13 +12,20 @@ loop-pair-init c = least_of_none _
 
 pub loop-pair-preserved : goal.loop-pair-preserved
 loop-pair-preserved c =
-    let next : take (c.loop-pair.pair-index + 1) c.args.pairs.now ≡ take c.loop-pair.pair-index c.args.pairs.now ++ c.pair-item.result ∷ [] =
-    ap (λ n. take n c.args.pairs.now) (add-one c.loop-pair.pair-index) ∙ take-suc c.args.pairs.now c.loop-pair.pair-index c.pair-item.result c.loop-pair-test.true
+    let next : take (c.loop-pair.pair-index + 1) c.args.pairs.now ≡ take c.loop-pair.pair-index c.args.pairs.now ++
+    c.pair-item.result ∷ [] =
+    ap (λ n. take n c.args.pairs.now) (add-one c.loop-pair.pair-index) ∙
+    take-suc c.args.pairs.now c.loop-pair.pair-index c.pair-item.result c.loop-pair-test.true
     ∙ ap (λ r. take c.loop-pair.pair-index c.args.pairs.now ++ r ∷ []) (sym c.pair-item.is) in
     subst (λ rs. IsLeast (live c.args.self.now) rs c.if-is_some.least) (sym next)
     (elim c.if-is_some.branch [
-      | then-is_some w ↦ subst (IsLeast (live c.args.self.now) (take c.loop-pair.pair-index c.args.pairs.now ++ c.pair-item.result ∷ [])) (sym (w.least-is ∙ w.lesser-least.ensures)) (least_moves _ _ _ _ c.loop-pair.invariant (ap is_some (sym c.get.ensures) ∙ sym c.is_some.ensures ∙ w.if-is_some.true))
-      | else-is_some w ↦ subst (IsLeast (live c.args.self.now) (take c.loop-pair.pair-index c.args.pairs.now ++ c.pair-item.result ∷ [])) (sym w.least-is) (least_stays _ _ _ _ c.loop-pair.invariant (ap is_some (sym c.get.ensures) ∙ sym c.is_some.ensures ∙ w.if-is_some.false))
+      | then-is_some w ↦ subst (IsLeast (live c.args.self.now) (take c.loop-pair.pair-index c.args.pairs.now ++
+          c.pair-item.result ∷ [])) (sym (w.least-is ∙ w.lesser-least.ensures))
+          (least_moves _ _ _ _ c.loop-pair.invariant (ap is_some (sym c.get.ensures) ∙ sym c.is_some.ensures ∙
+          w.if-is_some.true))
+      | else-is_some w ↦ subst (IsLeast (live c.args.self.now) (take c.loop-pair.pair-index c.args.pairs.now ++
+          c.pair-item.result ∷ [])) (sym w.least-is) (least_stays _ _ _ _ c.loop-pair.invariant
+          (ap is_some (sym c.get.ensures) ∙ sym c.is_some.ensures ∙ w.if-is_some.false))
     ])
 
 pub returns : goal.returns

@@ -17,12 +17,14 @@ returns c =
     let lo = c.new.ensures.start ∙ c.lo.ensures.value in
     let hi = c.new.ensures.end ∙ c.hi.ensures.value in
     let whole : records_of_cells all ≡ rows_where (within c.args.range) (live c.args.self.now) =
-    ap records_of_cells (c.into_iter-key-iterator.ensures.into_iter_gives ∙ c.range-key-items.ensures.between c.new.ensures.exhausted
+    ap records_of_cells (c.into_iter-key-iterator.ensures.into_iter_gives ∙
+    c.range-key-items.ensures.between c.new.ensures.exhausted
     ∙ ap (λ k. entries_between key_cmp (Included k) (Included (range_inclusive_end c.new.result)) es) lo
     ∙ ap (λ k. entries_between key_cmp (Included c.args.range.lo) (Included k) es) hi)
     ∙ between_rows es c.args.range c.range-key-items.ensures.ordered
     ∙ ap (λ m. rows_where (within c.args.range) (live m)) c.self.view_is in
-    first_rows (records_of_cells all) c.loop-key.rows.items (records_of_cells c.loop-key.key-iterator) c.args.max c.loop-key.invariant.listed c.loop-key.invariant.few
+    first_rows (records_of_cells all) c.loop-key.rows.items (records_of_cells c.loop-key.key-iterator) c.args.max
+    c.loop-key.invariant.listed c.loop-key.invariant.few
     (elim c.match-next.branch [
       | in-None w ↦ inl (ap records_of_cells (w.in-None.ensures.steps.0))
       | in-Some+then-len-max w ↦ inr (sym c.loop-key.rows.ok.0 ∙ sym w.len.ensures ∙ w.if-len-max.true)

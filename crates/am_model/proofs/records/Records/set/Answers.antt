@@ -6,10 +6,12 @@ use Rattle.am_model.proofs.records.Records.set.Goals as goal
 
 pub returns-clause-ok : goal.returns-clause-ok
 returns-clause-ok c =
-    put_is_insert c.self.inside.by_key.entries c.insert.new.self.entries c.args.key c.args.slot c.in_ok-insert.ensures.updates.0
+    put_is_insert c.self.inside.by_key.entries c.insert.new.self.entries c.args.key c.args.slot
+    c.in_ok-insert.ensures.updates.0
     ∙ ap (λ m. map.insert m c.args.key c.args.slot) c.self.view_is
 
 pub returns-in_err-insert-clause-absent : goal.returns-in_err-insert-clause-absent
 returns-in_err-insert-clause-absent c =
     OnErr-from c.from_residual.result
-    (sym (ap (λ m. map.get m c.args.key) c.self.view_is) ∙ sym (got_where c.self.inside.by_key.entries c.args.key) ∙ c.in_err-insert.ensures.absent)
+    (sym (ap (λ m. map.get m c.args.key) c.self.view_is) ∙ sym (got_where c.self.inside.by_key.entries c.args.key) ∙
+    c.in_err-insert.ensures.absent)

@@ -7,7 +7,8 @@ use Rattle.am_parts.specs.Catalogs.{IsCatalog}
 use Rattle.am_parts.specs.Partitions.{AreEmptyFrom}
 use Rattle.am_parts.proofs.Finding.{empty_up_to, empty_from}
 use Rattle.am_parts.proofs.catalog.Catalog.next_part.Goals as goal
-use Rattle.am_parts.proofs.catalog.Catalog.next_part.Goals.{else-from-eq0-via-then-from-eq0+else-has_final, else-from-eq0-via-else-from-eq0}
+use Rattle.am_parts.proofs.catalog.Catalog.next_part.Goals.{else-from-eq0-via-then-from-eq0+else-has_final}
+use Rattle.am_parts.proofs.catalog.Catalog.next_part.Goals.{else-from-eq0-via-else-from-eq0}
 
 pub returns-in_err-get-clause-none : goal.returns-in_err-get-clause-none
 returns-in_err-get-clause-none c =
@@ -16,9 +17,13 @@ returns-in_err-get-clause-none c =
       | else-from-eq0-via-then-from-eq0+else-has_final w ↦ w.has_final.ensures w.if-has_final.false
       | else-from-eq0-via-else-from-eq0 w ↦ absurd (w.if-from-eq0.false zero)
     ] in
-    let below = subst (λ (l : List OpenRun). AllByRecursion (λ (r : OpenRun). r.part < c.args.from) (take at l)) c.deref.ensures.value (subst (λ n. AllByRecursion (λ (r : OpenRun). r.part < n) (take at c.deref.result.now)) c.from.ensures c.count_below-at.ensures.below) in
+    let below = subst (λ (l : List OpenRun). AllByRecursion (λ (r : OpenRun). r.part < c.args.from) (take at l))
+    c.deref.ensures.value (subst (λ n. AllByRecursion (λ (r : OpenRun). r.part < n) (take at c.deref.result.now))
+    c.from.ensures c.count_below-at.ensures.below) in
     let past = subst (λ (l : List OpenRun). length l ≤ at) c.deref-2.ensures.value c.in_err-get.ensures.lookup.3 in
-    subst (λ o. IfNone o ((hash : HashKey) (es : List Entry) → IsCatalog hash es c.args.self.now → AreEmptyFrom es c.args.from)) (sym c.from_residual.ensures) (λ hash es whole. empty_from whole.counted c.args.from at final below past)
+    subst (λ o. IfNone o ((hash : HashKey) (es : List Entry) → IsCatalog hash es c.args.self.now →
+    AreEmptyFrom es c.args.from)) (sym c.from_residual.ensures)
+    (λ hash es whole. empty_from whole.counted c.args.from at final below past)
 
 pub returns-clause-passed : goal.returns-clause-passed
 returns-clause-passed c = λ hash es whole.
@@ -27,8 +32,11 @@ returns-clause-passed c = λ hash es whole.
       | else-from-eq0-via-then-from-eq0+else-has_final w ↦ w.has_final.ensures w.if-has_final.false
       | else-from-eq0-via-else-from-eq0 w ↦ absurd (w.if-from-eq0.false zero)
     ] in
-    let below = subst (λ (l : List OpenRun). AllByRecursion (λ (r : OpenRun). r.part < c.args.from) (take at l)) c.deref.ensures.value (subst (λ n. AllByRecursion (λ (r : OpenRun). r.part < n) (take at c.deref.result.now)) c.from.ensures c.count_below-at.ensures.below) in
+    let below = subst (λ (l : List OpenRun). AllByRecursion (λ (r : OpenRun). r.part < c.args.from) (take at l))
+    c.deref.ensures.value (subst (λ n. AllByRecursion (λ (r : OpenRun). r.part < n) (take at c.deref.result.now))
+    c.from.ensures c.count_below-at.ensures.below) in
     let run = c.in_ok-get.field-0.now in
     let inside = subst (λ (l : List OpenRun). at < length l) c.deref-2.ensures.value c.in_ok-get.ensures.lookup.3.0 in
-    let here = subst (λ (l : List OpenRun). run ≡ get_or l at run) c.deref-2.ensures.value c.in_ok-get.ensures.lookup.1 in
+    let here = subst (λ (l : List OpenRun). run ≡ get_or l at run) c.deref-2.ensures.value
+    c.in_ok-get.ensures.lookup.1 in
     empty_up_to whole.counted c.args.from at final below run inside here

@@ -16,7 +16,11 @@ returns-clause-none c = λ to hash es key number whole part low high.
     (λ (lt : part < next). c.loop-at.invariant.1 hash es key number whole part low lt)
     (λ (le : next ≤ part).
     let ends : AllByRecursion (λ (g : Generation). g.end ≤ next) gens =
-    subst (AllByRecursion (λ (g : Generation). g.end ≤ next)) (take_all c.loop-at.at c.list-generation-items.result.now c.loop-at-test.false ∙ c.list-generation-items.ensures) c.loop-at.invariant.2 in
+    subst (AllByRecursion (λ (g : Generation). g.end ≤ next))
+    (take_all c.loop-at.at c.list-generation-items.result.now c.loop-at-test.false ∙ c.list-generation-items.ensures)
+    c.loop-at.invariant.2 in
     unheld es key hash gens part whole.held (omega (arith, low, c.requires.some))
-    (held_by_none part (key_number hash key) gens (AllByRecursion-map (λ (g : Generation). g.end ≤ next) (λ (g : Generation). g.end ≤ part) (λ g end. omega (arith, end, le)) gens ends)))
+    (held_by_none part (key_number hash key) gens
+    (AllByRecursion-map (λ (g : Generation). g.end ≤ next) (λ (g : Generation). g.end ≤ part)
+    (λ g end. omega (arith, end, le)) gens ends)))
     (cases_lt part next)

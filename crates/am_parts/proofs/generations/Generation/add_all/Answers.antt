@@ -11,7 +11,8 @@ loop-number-preserved c =
     let was = c.loop-number.invariant in let now = c.add.ensures in
     let filter = c.add.new.self.filter in let numbers = c.args.numbers.now in let i = c.loop-number.number-index in (
       record { end = now.grown.end ∙ was.0.end; kept = λ n h. now.grown.kept n (was.0.kept n h) },
-      subst (λ (n : ℕ). AllHeld filter (take n numbers)) (sym (add-one i)) (one_more_held filter numbers i (get_or numbers i 0) c.loop-number-test.true refl now.added
+      subst (λ (n : ℕ). AllHeld filter (take n numbers)) (sym (add-one i))
+          (one_more_held filter numbers i (get_or numbers i 0) c.loop-number-test.true refl now.added
           (all_still_held c.loop-number.self.filter filter (take i numbers) now.grown.kept was.1)),
     )
 
@@ -19,4 +20,5 @@ pub returns-clause-grown : goal.returns-clause-grown
 returns-clause-grown c = c.loop-number.invariant.0
 
 pub returns-clause-added : goal.returns-clause-added
-returns-clause-added c = subst (AllHeld c.loop-number.self.filter) (take_all c.loop-number.number-index c.args.numbers.now c.loop-number-test.false) c.loop-number.invariant.1
+returns-clause-added c = subst (AllHeld c.loop-number.self.filter)
+    (take_all c.loop-number.number-index c.args.numbers.now c.loop-number-test.false) c.loop-number.invariant.1

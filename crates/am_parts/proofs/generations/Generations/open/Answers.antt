@@ -7,4 +7,5 @@ pub returns-clause-kept : goal.returns-clause-kept
 returns-clause-kept c = λ hash es below held.
     let gens = c.close.new.self.list.items in let s = c.in_ok-generation.generation in
     subst (AreHeld hash es) (sym c.in_ok-push.ensures.items)
-    (all_held gens (gens ++ s ∷ []) (λ q r. held_behind q r gens s) hash es (c.close.ensures hash es below (subst (AreHeld hash es) (sym c.reserve.ensures.items) held)))
+    (all_held gens (gens ++ s ∷ []) (λ q r. held_behind q r gens s) hash es
+    (c.close.ensures hash es below (subst (AreHeld hash es) (sym c.reserve.ensures.items) held)))

@@ -11,13 +11,21 @@ loop-merged-preserved c =
     let range = c.args.range.now in
     let ms = c.args.self.now.list.items in
     let m = c.merged-item.result in
-    let is : m ≡ get_or ms c.loop-merged.merged-index m = c.merged-item.is ∙ ap (λ (l : List MergedRange). get_or l c.loop-merged.merged-index m) c.deref-merged-items.ensures.value in
-    let inside : c.loop-merged.merged-index < length ms = subst (λ (l : List MergedRange). c.loop-merged.merged-index < length l) c.deref-merged-items.ensures.value c.loop-merged-test.true in
+    let is : m ≡ get_or ms c.loop-merged.merged-index m = c.merged-item.is ∙
+    ap (λ (l : List MergedRange). get_or l c.loop-merged.merged-index m) c.deref-merged-items.ensures.value in
+    let inside : c.loop-merged.merged-index < length ms =
+    subst (λ (l : List MergedRange). c.loop-merged.merged-index < length l) c.deref-merged-items.ensures.value
+    c.loop-merged-test.true in
     elim c.if-first-merged.branch [
       | then-first-merged+then-encloses w ↦ (
         omega (arith, w.first-is, w.if-first-merged.true),
         λ es runs are. subst (HasNoneBefore es range) (ap (λ (x : MergedRange). x.first_run) (sym is) ∙ sym w.first-is)
-            (said_within ms c.loop-merged.merged-index m range inside (ap (λ (x : MergedRange). encloses x.range range) (sym is) ∙ sym w.encloses.ensures ∙ w.if-encloses.true) es runs are),
+            (said_within ms c.loop-merged.merged-index m range inside
+            (ap (λ (x : MergedRange). encloses x.range range) (sym is) ∙ sym w.encloses.ensures ∙
+            w.if-encloses.true) es runs are),
       )
-      | else-first-merged w ↦ (omega (arith, w.first-is, c.loop-merged.invariant.0), λ es runs are. subst (HasNoneBefore es range) (sym w.first-is) (c.loop-merged.invariant.1 es runs are))
+      | else-first-merged w ↦ (
+        omega (arith, w.first-is, c.loop-merged.invariant.0),
+        λ es runs are. subst (HasNoneBefore es range) (sym w.first-is) (c.loop-merged.invariant.1 es runs are),
+      )
     ]

@@ -4,4 +4,5 @@ use Rattle.am_parts.specs.Merged.{AreMerged, HasNoneBefore}
 use Rattle.am_parts.proofs.merged.MergedRanges.first_run.Given as goal
 
 abbrev pub invariant-loop-merged : goal.invariant-loop-merged
-invariant-loop-merged l = (0 < l.first) × ((es : List Entry) (runs : ℕ) → AreMerged es runs l.self.list.items → HasNoneBefore es l.range l.first)
+invariant-loop-merged l = (0 < l.first) × ((es : List Entry) (runs : ℕ) → AreMerged es runs l.self.list.items →
+    HasNoneBefore es l.range l.first)

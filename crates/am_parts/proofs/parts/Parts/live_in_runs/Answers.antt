@@ -11,4 +11,5 @@ returns-in-Some-live_at-clause-live g c =
     let entry = c.in-Some-live_at.entry in
     let live = c.in-Some-live_at.ensures.live in
     stands_live (subst AreWellFormed same c.self.invariant.0) c.in-Some.part entry
-    (ap (λ (es : List Entry). find es c.in-Some.part c.args.key) (sym same) ∙ sym c.find-slot.ensures.found ∙ live.0) live.1 live.2 live.3
+    (ap (λ (es : List Entry). find es c.in-Some.part c.args.key) (sym same) ∙ sym c.find-slot.ensures.found ∙ live.0)
+    live.1 live.2 live.3

@@ -19,13 +19,17 @@ take-requires g c = record {
 
 pub invariant_of-self : goal.invariant_of-self
 invariant_of-self g c = (
-  (takes (ap (λ (p : Partitions). p.entries) c.self.view_is) c.self.invariant.0 c.args.part c.args.key c.requires c.remove.ensures.others).sound,
+  (takes (ap (λ (p : Partitions). p.entries) c.self.view_is) c.self.invariant.0 c.args.part c.args.key c.requires
+      c.remove.ensures.others).sound,
   c.self.invariant.1,
   subst (λ es. IsCatalog c.self.inside.hash es c.take.new.self) (sym c.remove.ensures.others)
-      (c.take.ensures.listed c.self.inside.hash _ c.args.key c.self.invariant.2 (subst (λ (p : Partitions). IsSome (find p.entries c.args.part c.args.key)) (sym c.self.view_is) c.requires)),
+      (c.take.ensures.listed c.self.inside.hash _ c.args.key c.self.invariant.2
+      (subst (λ (p : Partitions). IsSome (find p.entries c.args.part c.args.key)) (sym c.self.view_is) c.requires)),
   subst (λ es. AreMerged es c.self.inside.runs c.self.inside.merged.list.items) (sym c.remove.ensures.others)
-      (merged_removed (g.I.PartIndex.entries c.self.inside.index) c.self.inside.runs c.args.part c.args.key c.self.inside.merged.list.items c.self.invariant.3),
+      (merged_removed (g.I.PartIndex.entries c.self.inside.index) c.self.inside.runs c.args.part c.args.key
+      c.self.inside.merged.list.items c.self.invariant.3),
 )
 
 pub returns-clause-content : goal.returns-clause-content
-returns-clause-content g c = (takes (ap (λ (p : Partitions). p.entries) c.self.view_is) c.self.invariant.0 c.args.part c.args.key c.requires c.remove.ensures.others).has
+returns-clause-content g c = (takes (ap (λ (p : Partitions). p.entries) c.self.view_is) c.self.invariant.0 c.args.part
+    c.args.key c.requires c.remove.ensures.others).has

@@ -12,7 +12,10 @@ returns c =
     c.fold_in-3.ensures
     ∙ (λ i. fold_in hash (c.fold_in-2.ensures i) (c.from.ensures i))
     ∙ (λ i. fold_in hash (fold_in hash (c.fold_in-front.ensures i) (get_or (c.words-words.ensures.value i) 3 0)) len)
-    ∙ (λ i. fold_in hash (fold_in hash (fold_in hash (c.fold_in.ensures i) (get_or (c.words-words.ensures.value i) 2 0)) (get_or words 3 0)) len)
-    ∙ (λ i. fold_in hash (fold_in hash (fold_in hash (fold_in hash (get_or (c.words-words.ensures.value i) 0 0) (get_or (c.words-words.ensures.value i) 1 0)) (get_or words 2 0)) (get_or words 3 0)) len)
+    ∙ (λ i. fold_in hash (fold_in hash (fold_in hash (c.fold_in.ensures i) (get_or (c.words-words.ensures.value i) 2 0))
+    (get_or words 3 0)) len)
+    ∙ (λ i. fold_in hash (fold_in hash (fold_in hash
+    (fold_in hash (get_or (c.words-words.ensures.value i) 0 0) (get_or (c.words-words.ensures.value i) 1 0))
+    (get_or words 2 0)) (get_or words 3 0)) len)
     ∙ (λ i. bytes_number hash (sym fields i).bytes (sym fields i).len)
     ∙ (λ i. key_number hash (c.self.view_is i))

@@ -9,6 +9,7 @@ use Rattle.am_record.proofs.pairs.PairsPartialEq.eq.Goals as goal
 pub returns : goal.returns
 returns c =
     c.eq.ensures
-    ∙ pointwise_alike _ same_record (λ x y. ap (λ b. eq_by_cmp key_cmp x.0 y.0 && b) (same_bytes x.1 y.1)) c.self.inside.items.items c.other.inside.items.items
+    ∙ pointwise_alike _ same_record (λ x y. ap (λ b. eq_by_cmp key_cmp x.0 y.0 && b) (same_bytes x.1 y.1))
+    c.self.inside.items.items c.other.inside.items.items
     ∙ ap (λ xs. same_records xs c.other.inside.items.items) c.self.view_is
     ∙ ap (same_records c.args.self.now) c.other.view_is

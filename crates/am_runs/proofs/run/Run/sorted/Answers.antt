@@ -11,31 +11,44 @@ use Rattle.am_runs.proofs.run.Run.sorted.Goals as goal
 
 pub returns-then-is_rising-clause-apart : goal.returns-then-is_rising-clause-apart
 returns-then-is_rising-clause-apart c =
-    rising_apart c.args.records.now c.in_ok-pairs.pairs.items c.in_ok-pairs.ensures (sym (ap is_rising c.deref.ensures.value) ∙ sym c.is_rising.ensures ∙ c.if-is_rising.true)
+    rising_apart c.args.records.now c.in_ok-pairs.pairs.items c.in_ok-pairs.ensures
+    (sym (ap is_rising c.deref.ensures.value) ∙ sym c.is_rising.ensures ∙ c.if-is_rising.true)
 
 pub first_tie-requires : goal.first_tie-requires
 first_tie-requires c =
     let run = c.sort_unstable_by_key.new.self.items in
-    let sorted : IsSortedByKey (λ (r : Record). r.0) key_cmp run = c.sort_unstable_by_key.ensures.sorted (λ (r : Record). r.0) (answers_always _ _ _ (λ f a r g h. search rules)) in
-    let are : c.deref-3.result.now ≡ keys_of run = c.deref-3.ensures.value ∙ c.in_ok-keys.ensures ∙ ap keys_of c.deref-2.ensures.value in
-    keys_sorted c.args.records.now c.in_ok-pairs.pairs.items run c.deref-3.result.now c.in_ok-pairs.ensures c.sort_unstable_by_key.ensures.permutation sorted are
+    let sorted : IsSortedByKey (λ (r : Record). r.0) key_cmp run =
+    c.sort_unstable_by_key.ensures.sorted (λ (r : Record). r.0)
+    (answers_always _ _ _ (λ f a r g h. search rules)) in
+    let are : c.deref-3.result.now ≡ keys_of run = c.deref-3.ensures.value ∙ c.in_ok-keys.ensures ∙
+    ap keys_of c.deref-2.ensures.value in
+    keys_sorted c.args.records.now c.in_ok-pairs.pairs.items run c.deref-3.result.now c.in_ok-pairs.ensures
+    c.sort_unstable_by_key.ensures.permutation sorted are
 
 pub returns-in-Some-clause-fault : goal.returns-in-Some-clause-fault
 returns-in-Some-clause-fault c =
     let run = c.sort_unstable_by_key.new.self.items in
     let keys = c.deref-3.result.now in
-    let sorted : IsSortedByKey (λ (r : Record). r.0) key_cmp run = c.sort_unstable_by_key.ensures.sorted (λ (r : Record). r.0) (answers_always _ _ _ (λ f a r g h. search rules)) in
-    let are : keys ≡ keys_of run = c.deref-3.ensures.value ∙ c.in_ok-keys.ensures ∙ ap keys_of c.deref-2.ensures.value in
-    found_of c.args.records.now c.in_ok-pairs.pairs.items run keys c.in_ok-pairs.ensures c.sort_unstable_by_key.ensures.permutation sorted are (Some c.in-Some.key)
+    let sorted : IsSortedByKey (λ (r : Record). r.0) key_cmp run =
+    c.sort_unstable_by_key.ensures.sorted (λ (r : Record). r.0)
+    (answers_always _ _ _ (λ f a r g h. search rules)) in
+    let are : keys ≡ keys_of run = c.deref-3.ensures.value ∙ c.in_ok-keys.ensures ∙
+    ap keys_of c.deref-2.ensures.value in
+    found_of c.args.records.now c.in_ok-pairs.pairs.items run keys c.in_ok-pairs.ensures
+    c.sort_unstable_by_key.ensures.permutation sorted are (Some c.in-Some.key)
     (subst (λ found. MatchOption found (NoneTwice keys) (IsLeastTwice keys)) c.in-Some.is c.first_tie.ensures)
 
 pub invariant_of-result-2 : goal.invariant_of-result-2
 invariant_of-result-2 c =
     let run = c.sort_unstable_by_key.new.self.items in
     let keys = c.deref-3.result.now in
-    let sorted : IsSortedByKey (λ (r : Record). r.0) key_cmp run = c.sort_unstable_by_key.ensures.sorted (λ (r : Record). r.0) (answers_always _ _ _ (λ f a r g h. search rules)) in
-    let are : keys ≡ keys_of run = c.deref-3.ensures.value ∙ c.in_ok-keys.ensures ∙ ap keys_of c.deref-2.ensures.value in
-    run_rises c.args.records.now c.in_ok-pairs.pairs.items run keys c.in_ok-pairs.ensures c.sort_unstable_by_key.ensures.permutation sorted are
+    let sorted : IsSortedByKey (λ (r : Record). r.0) key_cmp run =
+    c.sort_unstable_by_key.ensures.sorted (λ (r : Record). r.0)
+    (answers_always _ _ _ (λ f a r g h. search rules)) in
+    let are : keys ≡ keys_of run = c.deref-3.ensures.value ∙ c.in_ok-keys.ensures ∙
+    ap keys_of c.deref-2.ensures.value in
+    run_rises c.args.records.now c.in_ok-pairs.pairs.items run keys c.in_ok-pairs.ensures
+    c.sort_unstable_by_key.ensures.permutation sorted are
     (search rules)
     (subst (λ found. MatchOption found (NoneTwice keys) (IsLeastTwice keys)) c.in_default.is c.first_tie.ensures)
 
@@ -43,10 +56,15 @@ pub returns-clause-run : goal.returns-clause-run
 returns-clause-run c =
     let run = c.sort_unstable_by_key.new.self.items in
     let keys = c.deref-3.result.now in
-    let sorted : IsSortedByKey (λ (r : Record). r.0) key_cmp run = c.sort_unstable_by_key.ensures.sorted (λ (r : Record). r.0) (answers_always _ _ _ (λ f a r g h. search rules)) in
-    let are : keys ≡ keys_of run = c.deref-3.ensures.value ∙ c.in_ok-keys.ensures ∙ ap keys_of c.deref-2.ensures.value in
-    run_of c.args.records.now c.in_ok-pairs.pairs.items run keys c.in_ok-pairs.ensures c.sort_unstable_by_key.ensures.permutation sorted are
-    (run_rises c.args.records.now c.in_ok-pairs.pairs.items run keys c.in_ok-pairs.ensures c.sort_unstable_by_key.ensures.permutation sorted are
+    let sorted : IsSortedByKey (λ (r : Record). r.0) key_cmp run =
+    c.sort_unstable_by_key.ensures.sorted (λ (r : Record). r.0)
+    (answers_always _ _ _ (λ f a r g h. search rules)) in
+    let are : keys ≡ keys_of run = c.deref-3.ensures.value ∙ c.in_ok-keys.ensures ∙
+    ap keys_of c.deref-2.ensures.value in
+    run_of c.args.records.now c.in_ok-pairs.pairs.items run keys c.in_ok-pairs.ensures
+    c.sort_unstable_by_key.ensures.permutation sorted are
+    (run_rises c.args.records.now c.in_ok-pairs.pairs.items run keys c.in_ok-pairs.ensures
+    c.sort_unstable_by_key.ensures.permutation sorted are
     (search rules)
     (subst (λ found. MatchOption found (NoneTwice keys) (IsLeastTwice keys)) c.in_default.is c.first_tie.ensures))
 
@@ -54,7 +72,11 @@ pub returns-clause-apart : goal.returns-clause-apart
 returns-clause-apart c =
     let run = c.sort_unstable_by_key.new.self.items in
     let keys = c.deref-3.result.now in
-    let sorted : IsSortedByKey (λ (r : Record). r.0) key_cmp run = c.sort_unstable_by_key.ensures.sorted (λ (r : Record). r.0) (answers_always _ _ _ (λ f a r g h. search rules)) in
-    let are : keys ≡ keys_of run = c.deref-3.ensures.value ∙ c.in_ok-keys.ensures ∙ ap keys_of c.deref-2.ensures.value in
-    found_of c.args.records.now c.in_ok-pairs.pairs.items run keys c.in_ok-pairs.ensures c.sort_unstable_by_key.ensures.permutation sorted are None
+    let sorted : IsSortedByKey (λ (r : Record). r.0) key_cmp run =
+    c.sort_unstable_by_key.ensures.sorted (λ (r : Record). r.0)
+    (answers_always _ _ _ (λ f a r g h. search rules)) in
+    let are : keys ≡ keys_of run = c.deref-3.ensures.value ∙ c.in_ok-keys.ensures ∙
+    ap keys_of c.deref-2.ensures.value in
+    found_of c.args.records.now c.in_ok-pairs.pairs.items run keys c.in_ok-pairs.ensures
+    c.sort_unstable_by_key.ensures.permutation sorted are None
     (subst (λ found. MatchOption found (NoneTwice keys) (IsLeastTwice keys)) c.in_default.is c.first_tie.ensures)

@@ -10,15 +10,18 @@ use Rattle.am_runs.proofs.walk.Walk.pass_below.Goals.{In-Some, In_default}
 here : (c : In-Some) → slice_get c.loop-entry.self.read c.loop-entry.self.passed ≡ Some c.in-Some.entry.now
 here c =
     let found = c.in-Some.ensures.lookup in
-    ap (λ l. slice_get l c.loop-entry.self.passed) (sym c.entries.ensures.all) ∙ slice_get_read c.entries.result.now (length c.entries.result.now) c.loop-entry.self.passed c.in-Some.entry.now refl found.3.0 found.1
+    ap (λ l. slice_get l c.loop-entry.self.passed) (sym c.entries.ensures.all) ∙ slice_get_read c.entries.result.now
+    (length c.entries.result.now) c.loop-entry.self.passed c.in-Some.entry.now refl found.3.0 found.1
 
 past : (c : In_default) → slice_get c.loop-entry.self.read c.loop-entry.self.passed ≡ None
 past c =
-    ap (λ l. slice_get l c.loop-entry.self.passed) (sym c.entries.ensures.all) ∙ slice_get_past c.entries.result.now c.loop-entry.self.passed c.in_default.ensures.lookup.3
+    ap (λ l. slice_get l c.loop-entry.self.passed) (sym c.entries.ensures.all) ∙ slice_get_past c.entries.result.now
+    c.loop-entry.self.passed c.in_default.ensures.lookup.3
 
 pub loop-entry-preserved : goal.loop-entry-preserved
 loop-entry-preserved c = record {
-  walk = λ es h. passes (c.loop-entry.invariant.walk es h) _ c.in-Some.entry.now (here (goal.at.loop-entry-preserved c).In-Some) (sym c.le.ensures ∙ c.if-le.false) refl refl (omega arith) refl;
+  walk = λ es h. passes (c.loop-entry.invariant.walk es h) _ c.in-Some.entry.now
+      (here (goal.at.loop-entry-preserved c).In-Some) (sym c.le.ensures ∙ c.if-le.false) refl refl (omega arith) refl;
   part = c.loop-entry.invariant.part;
   last = c.loop-entry.invariant.last;
   descents = c.loop-entry.invariant.descents;

@@ -17,8 +17,18 @@ returns-clause-copied g c =
     let range = c.self.inside.range in
     let h = c.in-Some.head in
     let sound = c.self.invariant.ahead.sound in
-    let none : heap_items c.self.inside.others ≡ [] = no_length (heap_items c.self.inside.others) (omega (arith, eqb-true (heap_len c.self.inside.others) 0 (sym c.is_empty.ensures ∙ c.if-not-is_empty.false), c.self.inside.others.data.ok.0)) in
-    let alone = subst (λ (l : List Stand). AreAhead es range (h ∷ l)) none (subst (λ (o : Option Stand). AreAhead es range (cons_option o (heap_items c.self.inside.others))) c.in-Some.is c.self.invariant.ahead) in
-    let seen = sym c.self.view_is ∙ ap (λ (o : Option Stand). rows_ahead (cons_option o (heap_items c.self.inside.others)) range (content es)) c.in-Some.is ∙ ap (λ (l : List Stand). rows_ahead (h ∷ l) range (content es)) none in
+    let none : heap_items c.self.inside.others ≡ [] = no_length (heap_items c.self.inside.others)
+    (omega (
+      arith,
+      eqb-true (heap_len c.self.inside.others) 0 (sym c.is_empty.ensures ∙ c.if-not-is_empty.false),
+      c.self.inside.others.data.ok.0,
+    )) in
+    let alone = subst (λ (l : List Stand). AreAhead es range (h ∷ l)) none
+    (subst (λ (o : Option Stand). AreAhead es range (cons_option o (heap_items c.self.inside.others)))
+    c.in-Some.is c.self.invariant.ahead) in
+    let seen = sym c.self.view_is ∙ ap (λ (o : Option Stand). rows_ahead
+    (cons_option o (heap_items c.self.inside.others)) range (content es)) c.in-Some.is ∙
+    ap (λ (l : List Stand). rows_ahead (h ∷ l) range (content es)) none in
     let rows = alone_rows h alone (λ part r. c.rows_follow.ensures es part r sound.rising sound.one_place) in
-    λ _. c.in_ok-copy_rows.ensures.copied ∙ ap (λ (l : Records). take c.args.max (c.args.rows.now.items ++ l)) (ap (λ (r : ℕ × Interval). rows_in es r.0 r.1) c.rest-part.ensures ∙ sym rows ∙ sym seen)
+    λ _. c.in_ok-copy_rows.ensures.copied ∙ ap (λ (l : Records). take c.args.max (c.args.rows.now.items ++ l))
+    (ap (λ (r : ℕ × Interval). rows_in es r.0 r.1) c.rest-part.ensures ∙ sym rows ∙ sym seen)

@@ -5,20 +5,24 @@ use Rattle.std.specs.BinaryHeap.{heap_items, IsUpperBound}
 use Rattle.am_list.specs.Content.{content}
 use Rattle.am_scan.specs.Heads.{Stand, head_cmp}
 use Rattle.am_scan.specs.Cursors.{AreAhead, rows_ahead}
-use Rattle.am_scan.proofs.Merging.{at_end, none_left, standing, moves_on, moves_first, ends_on, ends_first, is_first, is_rest}
+use Rattle.am_scan.proofs.Merging.{at_end, none_left, standing, moves_on, moves_first, ends_on, ends_first, is_first}
+use Rattle.am_scan.proofs.Merging.{is_rest}
 use Rattle.am_scan.proofs.cursor.Cursor.next.Goals as goal
 use Rattle.am_scan.proofs.cursor.Cursor.next.Goals.{in-Some-1, in-None-1}
 
 pub returns-in_default-clause-record : goal.returns-in_default-clause-record
 returns-in_default-clause-record g c =
     let heads = cons_option c.self.inside.least (heap_items c.self.inside.others) in
-    let none = none_left c.self.inside.least (heap_items c.self.inside.others) c.self.invariant.beside c.in_default.is in
-    ap (λ rows. slice_get rows 0) (sym (at_end heads c.self.inside.range (content c.self.inside.parts.now.entries) none) ∙ c.self.view_is)
+    let none = none_left c.self.inside.least (heap_items c.self.inside.others) c.self.invariant.beside
+    c.in_default.is in
+    ap (λ rows. slice_get rows 0) (sym (at_end heads c.self.inside.range (content c.self.inside.parts.now.entries)
+    none) ∙ c.self.view_is)
 
 pub returns-in_default-clause-rest : goal.returns-in_default-clause-rest
 returns-in_default-clause-rest g c =
     let heads = cons_option c.self.inside.least (heap_items c.self.inside.others) in
-    let none = none_left c.self.inside.least (heap_items c.self.inside.others) c.self.invariant.beside c.in_default.is in
+    let none = none_left c.self.inside.least (heap_items c.self.inside.others) c.self.invariant.beside
+    c.in_default.is in
     let end = at_end heads c.self.inside.range (content c.self.inside.parts.now.entries) none in
     end ∙ ap (drop 1) (sym end ∙ c.self.view_is)
 
@@ -28,8 +32,10 @@ move_on-requires-clause-reads g c =
     let range = c.self.inside.range in
     let others = heap_items c.self.inside.others in
     let h = c.in-Some.head in
-    let ahead = subst (λ (o : Option Stand). AreAhead es range (cons_option o others)) c.in-Some.is c.self.invariant.ahead in
-    let least = subst (λ (o : Option Stand). MatchOption o (others ≡ []) (λ g. IsUpperBound head_cmp g others)) c.in-Some.is c.self.invariant.beside.first in
+    let ahead = subst (λ (o : Option Stand). AreAhead es range (cons_option o others)) c.in-Some.is
+    c.self.invariant.ahead in
+    let least = subst (λ (o : Option Stand). MatchOption o (others ≡ []) (λ g. IsUpperBound head_cmp g others))
+    c.in-Some.is c.self.invariant.beside.first in
     (standing h others ahead least).reads
 
 pub invariant_of-self-then-move_on : goal.invariant_of-self-then-move_on
@@ -38,11 +44,14 @@ invariant_of-self-then-move_on g c =
     let range = c.self.inside.range in
     let others = heap_items c.self.inside.others in
     let h = c.in-Some.head in
-    let ahead = subst (λ (o : Option Stand). AreAhead es range (cons_option o others)) c.in-Some.is c.self.invariant.ahead in
-    let least = subst (λ (o : Option Stand). MatchOption o (others ≡ []) (λ g. IsUpperBound head_cmp g others)) c.in-Some.is c.self.invariant.beside.first in
+    let ahead = subst (λ (o : Option Stand). AreAhead es range (cons_option o others)) c.in-Some.is
+    c.self.invariant.ahead in
+    let least = subst (λ (o : Option Stand). MatchOption o (others ≡ []) (λ g. IsUpperBound head_cmp g others))
+    c.in-Some.is c.self.invariant.beside.first in
     record {
       beside = c.keep_least.ensures.least;
-      ahead = moves_on h others ahead least c.move_on.new.self (c.move_on.ensures.moved c.if-move_on.true) (c.keep_least.new.head ∷ heap_items c.keep_least.new.others) c.keep_least.ensures.same;
+      ahead = moves_on h others ahead least c.move_on.new.self (c.move_on.ensures.moved c.if-move_on.true)
+          (c.keep_least.new.head ∷ heap_items c.keep_least.new.others) c.keep_least.ensures.same;
     }
 
 pub invariant_of-self-else-move_on : goal.invariant_of-self-else-move_on
@@ -51,11 +60,14 @@ invariant_of-self-else-move_on g c =
     let range = c.self.inside.range in
     let others = heap_items c.self.inside.others in
     let h = c.in-Some.head in
-    let ahead = subst (λ (o : Option Stand). AreAhead es range (cons_option o others)) c.in-Some.is c.self.invariant.ahead in
-    let least = subst (λ (o : Option Stand). MatchOption o (others ≡ []) (λ g. IsUpperBound head_cmp g others)) c.in-Some.is c.self.invariant.beside.first in
+    let ahead = subst (λ (o : Option Stand). AreAhead es range (cons_option o others)) c.in-Some.is
+    c.self.invariant.ahead in
+    let least = subst (λ (o : Option Stand). MatchOption o (others ≡ []) (λ g. IsUpperBound head_cmp g others))
+    c.in-Some.is c.self.invariant.beside.first in
     record {
       beside = c.pop_least.ensures.least;
-      ahead = ends_on h others ahead least (c.move_on.ensures.ended c.if-move_on.false) (cons_option c.pop_least.result (heap_items c.pop_least.new.others)) c.pop_least.ensures.same;
+      ahead = ends_on h others ahead least (c.move_on.ensures.ended c.if-move_on.false)
+          (cons_option c.pop_least.result (heap_items c.pop_least.new.others)) c.pop_least.ensures.same;
     }
 
 pub returns-then-move_on-clause-record : goal.returns-then-move_on-clause-record
@@ -64,11 +76,17 @@ returns-then-move_on-clause-record g c =
     let range = c.self.inside.range in
     let others = heap_items c.self.inside.others in
     let h = c.in-Some.head in
-    let ahead = subst (λ (o : Option Stand). AreAhead es range (cons_option o others)) c.in-Some.is c.self.invariant.ahead in
-    let least = subst (λ (o : Option Stand). MatchOption o (others ≡ []) (λ g. IsUpperBound head_cmp g others)) c.in-Some.is c.self.invariant.beside.first in
-    let laws = c.content_follows.ensures.edits es c.self.invariant.ahead.sound.rising c.self.invariant.ahead.sound.one_place in
-    let seen = sym c.self.view_is ∙ ap (λ (o : Option Stand). rows_ahead (cons_option o others) range (content es)) c.in-Some.is in
-    ap Some c.record.ensures ∙ is_first (seen ∙ moves_first h others ahead least c.move_on.new.self (c.move_on.ensures.moved c.if-move_on.true) (c.keep_least.new.head ∷ heap_items c.keep_least.new.others) c.keep_least.ensures.same laws)
+    let ahead = subst (λ (o : Option Stand). AreAhead es range (cons_option o others)) c.in-Some.is
+    c.self.invariant.ahead in
+    let least = subst (λ (o : Option Stand). MatchOption o (others ≡ []) (λ g. IsUpperBound head_cmp g others))
+    c.in-Some.is c.self.invariant.beside.first in
+    let laws = c.content_follows.ensures.edits es c.self.invariant.ahead.sound.rising
+    c.self.invariant.ahead.sound.one_place in
+    let seen = sym c.self.view_is ∙ ap (λ (o : Option Stand). rows_ahead (cons_option o others) range (content es))
+    c.in-Some.is in
+    ap Some c.record.ensures ∙ is_first (seen ∙ moves_first h others ahead least c.move_on.new.self
+    (c.move_on.ensures.moved c.if-move_on.true) (c.keep_least.new.head ∷ heap_items c.keep_least.new.others)
+    c.keep_least.ensures.same laws)
 
 pub returns-then-move_on-clause-rest : goal.returns-then-move_on-clause-rest
 returns-then-move_on-clause-rest g c =
@@ -76,11 +94,16 @@ returns-then-move_on-clause-rest g c =
     let range = c.self.inside.range in
     let others = heap_items c.self.inside.others in
     let h = c.in-Some.head in
-    let ahead = subst (λ (o : Option Stand). AreAhead es range (cons_option o others)) c.in-Some.is c.self.invariant.ahead in
-    let least = subst (λ (o : Option Stand). MatchOption o (others ≡ []) (λ g. IsUpperBound head_cmp g others)) c.in-Some.is c.self.invariant.beside.first in
-    let laws = c.content_follows.ensures.edits es c.self.invariant.ahead.sound.rising c.self.invariant.ahead.sound.one_place in
-    let seen = sym c.self.view_is ∙ ap (λ (o : Option Stand). rows_ahead (cons_option o others) range (content es)) c.in-Some.is in
-    is_rest (seen ∙ moves_first h others ahead least c.move_on.new.self (c.move_on.ensures.moved c.if-move_on.true) (c.keep_least.new.head ∷ heap_items c.keep_least.new.others) c.keep_least.ensures.same laws)
+    let ahead = subst (λ (o : Option Stand). AreAhead es range (cons_option o others)) c.in-Some.is
+    c.self.invariant.ahead in
+    let least = subst (λ (o : Option Stand). MatchOption o (others ≡ []) (λ g. IsUpperBound head_cmp g others))
+    c.in-Some.is c.self.invariant.beside.first in
+    let laws = c.content_follows.ensures.edits es c.self.invariant.ahead.sound.rising
+    c.self.invariant.ahead.sound.one_place in
+    let seen = sym c.self.view_is ∙ ap (λ (o : Option Stand). rows_ahead (cons_option o others) range (content es))
+    c.in-Some.is in
+    is_rest (seen ∙ moves_first h others ahead least c.move_on.new.self (c.move_on.ensures.moved c.if-move_on.true)
+    (c.keep_least.new.head ∷ heap_items c.keep_least.new.others) c.keep_least.ensures.same laws)
 
 pub returns-else-move_on-clause-record : goal.returns-else-move_on-clause-record
 returns-else-move_on-clause-record g c =
@@ -88,11 +111,17 @@ returns-else-move_on-clause-record g c =
     let range = c.self.inside.range in
     let others = heap_items c.self.inside.others in
     let h = c.in-Some.head in
-    let ahead = subst (λ (o : Option Stand). AreAhead es range (cons_option o others)) c.in-Some.is c.self.invariant.ahead in
-    let least = subst (λ (o : Option Stand). MatchOption o (others ≡ []) (λ g. IsUpperBound head_cmp g others)) c.in-Some.is c.self.invariant.beside.first in
-    let laws = c.content_follows.ensures.edits es c.self.invariant.ahead.sound.rising c.self.invariant.ahead.sound.one_place in
-    let seen = sym c.self.view_is ∙ ap (λ (o : Option Stand). rows_ahead (cons_option o others) range (content es)) c.in-Some.is in
-    ap Some c.record.ensures ∙ is_first (seen ∙ ends_first h others ahead least (c.move_on.ensures.ended c.if-move_on.false) (cons_option c.pop_least.result (heap_items c.pop_least.new.others)) c.pop_least.ensures.same laws)
+    let ahead = subst (λ (o : Option Stand). AreAhead es range (cons_option o others)) c.in-Some.is
+    c.self.invariant.ahead in
+    let least = subst (λ (o : Option Stand). MatchOption o (others ≡ []) (λ g. IsUpperBound head_cmp g others))
+    c.in-Some.is c.self.invariant.beside.first in
+    let laws = c.content_follows.ensures.edits es c.self.invariant.ahead.sound.rising
+    c.self.invariant.ahead.sound.one_place in
+    let seen = sym c.self.view_is ∙ ap (λ (o : Option Stand). rows_ahead (cons_option o others) range (content es))
+    c.in-Some.is in
+    ap Some c.record.ensures ∙ is_first (seen ∙ ends_first h others ahead least
+    (c.move_on.ensures.ended c.if-move_on.false) (cons_option c.pop_least.result
+    (heap_items c.pop_least.new.others)) c.pop_least.ensures.same laws)
 
 pub returns-else-move_on-clause-rest : goal.returns-else-move_on-clause-rest
 returns-else-move_on-clause-rest g c =
@@ -100,11 +129,19 @@ returns-else-move_on-clause-rest g c =
     let range = c.self.inside.range in
     let others = heap_items c.self.inside.others in
     let h = c.in-Some.head in
-    let ahead = subst (λ (o : Option Stand). AreAhead es range (cons_option o others)) c.in-Some.is c.self.invariant.ahead in
-    let least = subst (λ (o : Option Stand). MatchOption o (others ≡ []) (λ g. IsUpperBound head_cmp g others)) c.in-Some.is c.self.invariant.beside.first in
-    let laws = c.content_follows.ensures.edits es c.self.invariant.ahead.sound.rising c.self.invariant.ahead.sound.one_place in
-    let seen = sym c.self.view_is ∙ ap (λ (o : Option Stand). rows_ahead (cons_option o others) range (content es)) c.in-Some.is in
+    let ahead = subst (λ (o : Option Stand). AreAhead es range (cons_option o others)) c.in-Some.is
+    c.self.invariant.ahead in
+    let least = subst (λ (o : Option Stand). MatchOption o (others ≡ []) (λ g. IsUpperBound head_cmp g others))
+    c.in-Some.is c.self.invariant.beside.first in
+    let laws = c.content_follows.ensures.edits es c.self.invariant.ahead.sound.rising
+    c.self.invariant.ahead.sound.one_place in
+    let seen = sym c.self.view_is ∙ ap (λ (o : Option Stand). rows_ahead (cons_option o others) range (content es))
+    c.in-Some.is in
     elim c.match-self-pop_least.branch [
-      | in-Some-1 w ↦ w.self-is ∙ is_rest (seen ∙ ends_first h others ahead least (c.move_on.ensures.ended c.if-move_on.false) (cons_option c.pop_least.result (heap_items c.pop_least.new.others)) c.pop_least.ensures.same laws)
-      | in-None-1 w ↦ w.self-is ∙ is_rest (seen ∙ ends_first h others ahead least (c.move_on.ensures.ended c.if-move_on.false) (cons_option c.pop_least.result (heap_items c.pop_least.new.others)) c.pop_least.ensures.same laws)
+      | in-Some-1 w ↦ w.self-is ∙ is_rest (seen ∙ ends_first h others ahead least
+          (c.move_on.ensures.ended c.if-move_on.false) (cons_option c.pop_least.result
+          (heap_items c.pop_least.new.others)) c.pop_least.ensures.same laws)
+      | in-None-1 w ↦ w.self-is ∙ is_rest (seen ∙ ends_first h others ahead least
+          (c.move_on.ensures.ended c.if-move_on.false) (cons_option c.pop_least.result
+          (heap_items c.pop_least.new.others)) c.pop_least.ensures.same laws)
     ]

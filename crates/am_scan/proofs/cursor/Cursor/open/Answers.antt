@@ -6,10 +6,12 @@ invariant_of-result g c =
     let sound = c.heads_of.ensures.sound in
     record {
       beside = c.pop_least-least.ensures.least;
-      ahead = begins c.args.range sound (c.content_follows.ensures.edits c.args.parts.now.entries sound.rising sound.one_place) c.in_ok-others.ensures.heads c.pop_least-least.ensures.same;
+      ahead = begins c.args.range sound (c.content_follows.ensures.edits c.args.parts.now.entries sound.rising
+          sound.one_place) c.in_ok-others.ensures.heads c.pop_least-least.ensures.same;
     }
 
 pub returns : goal.returns
 returns g c =
     let sound = c.heads_of.ensures.sound in
-    has_all_rows c.args.range sound (c.content_follows.ensures.edits c.args.parts.now.entries sound.rising sound.one_place) c.in_ok-others.ensures.heads c.pop_least-least.ensures.same
+    has_all_rows c.args.range sound (c.content_follows.ensures.edits c.args.parts.now.entries sound.rising
+    sound.one_place) c.in_ok-others.ensures.heads c.pop_least-least.ensures.same

@@ -19,7 +19,8 @@ returns-in_default-clause-ended g c =
     let seen = c.entries.ensures.all ∙ c.deref.ensures in
     let same = ap (λ (h : Stand). h.entry) c.self.view_is ∙ c.look_ahead.ensures.entry in
     let past = subst (λ l. length l ≤ c.self.inside.passed + 1) seen c.in_default.ensures.lookup.3 in
-    let none = ap (λ (e : Entry). after es e.part e.key) (sym same) ∙ ends_here walks laws ahead c.self.inside.passed is_ready past in
+    let none = ap (λ (e : Entry). after es e.part e.key) (sym same) ∙ ends_here walks laws ahead c.self.inside.passed
+    is_ready past in
     λ _. subst (λ (o : Option Entry). IfSome o (λ e. key_cmp c.args.range.hi e.key ≡ Less)) (sym none) tt
 
 pub returns-then-lt-clause-ended : goal.returns-then-lt-clause-ended
@@ -34,8 +35,10 @@ returns-then-lt-clause-ended g c =
     let x = c.in-Some.next.now in
     let inside = subst (λ l. c.self.inside.passed + 1 < length l) seen c.in-Some.ensures.lookup.3.0 in
     let stands = subst (λ l. x ≡ get_or l (c.self.inside.passed + 1) x) seen c.in-Some.ensures.lookup.1 in
-    let found = ap (λ (e : Entry). after es e.part e.key) (sym same) ∙ follows_here walks laws ahead c.self.inside.passed is_ready x inside stands in
-    λ _. subst (λ (o : Option Entry). IfSome o (λ e. key_cmp c.args.range.hi e.key ≡ Less)) (sym found) (above_end x.key c.hi.ensures.value c.lt.ensures c.if-lt.true)
+    let found = ap (λ (e : Entry). after es e.part e.key) (sym same) ∙
+    follows_here walks laws ahead c.self.inside.passed is_ready x inside stands in
+    λ _. subst (λ (o : Option Entry). IfSome o (λ e. key_cmp c.args.range.hi e.key ≡ Less)) (sym found)
+    (above_end x.key c.hi.ensures.value c.lt.ensures c.if-lt.true)
 
 pub returns-clause-inside : goal.returns-clause-inside
 returns-clause-inside g c =
@@ -48,7 +51,9 @@ returns-clause-inside g c =
     let x = c.in-Some.next.now in
     let inside = subst (λ l. c.self.inside.passed + 1 < length l) seen c.in-Some.ensures.lookup.3.0 in
     let stands = subst (λ l. x ≡ get_or l (c.self.inside.passed + 1) x) seen c.in-Some.ensures.lookup.1 in
-    λ _. subst (λ (e : Entry). key_le e.key c.args.range.hi ≡ true) (next_is walks laws ahead c.self.inside.passed is_ready x inside stands) (within_end x.key c.hi.ensures.value c.lt.ensures c.if-lt.false)
+    λ _. subst (λ (e : Entry). key_le e.key c.args.range.hi ≡ true)
+    (next_is walks laws ahead c.self.inside.passed is_ready x inside stands)
+    (within_end x.key c.hi.ensures.value c.lt.ensures c.if-lt.false)
 
 pub returns-clause-moved : goal.returns-clause-moved
 returns-clause-moved g c =
@@ -62,7 +67,8 @@ returns-clause-moved g c =
     let x = c.in-Some.next.now in
     let inside = subst (λ l. c.self.inside.passed + 1 < length l) seen c.in-Some.ensures.lookup.3.0 in
     let stands = subst (λ l. x ≡ get_or l (c.self.inside.passed + 1) x) seen c.in-Some.ensures.lookup.1 in
-    λ _. ap (λ (e : Entry). after es e.part e.key) (sym same) ∙ follows_here walks laws ahead c.self.inside.passed is_ready x inside stands ∙ ap Some (next_is walks laws ahead c.self.inside.passed is_ready x inside stands)
+    λ _. ap (λ (e : Entry). after es e.part e.key) (sym same) ∙ follows_here walks laws ahead c.self.inside.passed
+    is_ready x inside stands ∙ ap Some (next_is walks laws ahead c.self.inside.passed is_ready x inside stands)
 
 pub returns-clause-reads : goal.returns-clause-reads
 returns-clause-reads g c =

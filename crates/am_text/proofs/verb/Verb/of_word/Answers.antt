@@ -15,4 +15,5 @@ pub returns : goal.returns
 unfolding verb_for
 returns c =
     let word = c.args.word.now in
-    sym (itself c.find.result) ∙ find_from_yields_List (λ v. bytes_eq (word_of v) word) _ _ c.find.result c.find.ensures.ran (YieldsList-from_copied (YieldsList-from_slice verbs cc)) (λ x b q k. search (rules, tests))
+    sym (itself c.find.result) ∙ find_from_yields_List (λ v. bytes_eq (word_of v) word) _ _ c.find.result
+    c.find.ensures.ran (YieldsList-from_copied (YieldsList-from_slice verbs cc)) (λ x b q k. search (rules, tests))

@@ -8,6 +8,8 @@ returns c =
     let word = c.args.word.now in
     let fields = c.args.fields.now in
     let old = c.args.self.now in
-    on_ok c.put_further.result (c.put_further.new.self ≡ c.put.new.self ++ spaced fields) (c.put_further.new.self ≡ old ++ join_with_byte 32 (word ∷ fields))
-    (λ e. behind c.put.new.self word (spaced fields) c.put_further.new.self old c.in_ok-put.ensures e ∙ ap (λ text. old ++ text) (sym (join_is word fields)))
+    on_ok c.put_further.result (c.put_further.new.self ≡ c.put.new.self ++ spaced fields)
+    (c.put_further.new.self ≡ old ++ join_with_byte 32 (word ∷ fields))
+    (λ e. behind c.put.new.self word (spaced fields) c.put_further.new.self old c.in_ok-put.ensures e ∙
+    ap (λ text. old ++ text) (sym (join_is word fields)))
     c.put_further.ensures

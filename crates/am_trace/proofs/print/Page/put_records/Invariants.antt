@@ -8,6 +8,7 @@ use Rattle.am_trace.proofs.print.Page.put_records.Given as goal
 
 abbrev pub invariant-loop-pair : goal.invariant-loop-pair
 invariant-loop-pair l = record {
-  written : l.self ++ flat_map (λ (r : OrderedKey × List ℕ). 32 ∷ record_word Two r) (drop l.pair-index l.records) ≡ l.fn.self ++ flat_map (λ (r : OrderedKey × List ℕ). 32 ∷ record_word Two r) l.records;
+  written : l.self ++ flat_map (λ (r : OrderedKey × List ℕ). 32 ∷ record_word Two r) (drop l.pair-index l.records) ≡
+      l.fn.self ++ flat_map (λ (r : OrderedKey × List ℕ). 32 ∷ record_word Two r) l.records;
   records : AreRecords Two (take l.pair-index l.records);
 }

@@ -13,6 +13,8 @@ returns-clause-text c =
     let rs = c.args.records.now in
     let old = c.args.self.now in
     let more = flat_map (λ (r : OrderedKey × List ℕ). 32 ∷ record_word Two r) rs in
-    on_ok c.put_records.result (c.put_records.new.self ≡ c.put_fields.new.self ++ more) (c.put_records.new.self ≡ old ++ join_with_byte 32 (word ∷ (fields ++ map (record_word Two) rs)))
-    (λ e. behind c.put_fields.new.self (join_with_byte 32 (word ∷ fields)) more c.put_records.new.self old c.in_ok-put_fields.ensures e ∙ ap (λ text. old ++ text) (joined_records fields Two rs word))
+    on_ok c.put_records.result (c.put_records.new.self ≡ c.put_fields.new.self ++ more) (c.put_records.new.self ≡ old ++
+    join_with_byte 32 (word ∷ (fields ++ map (record_word Two) rs)))
+    (λ e. behind c.put_fields.new.self (join_with_byte 32 (word ∷ fields)) more c.put_records.new.self old
+    c.in_ok-put_fields.ensures e ∙ ap (λ text. old ++ text) (joined_records fields Two rs word))
     c.put_records.ensures.text

@@ -11,6 +11,10 @@ invariant_of-self c =
     let few : length c.self.inside.active.items < 64 = search rules in
     let more : c.self.inside.begun < 2 ^ 63 = omega (arith, c.self.invariant.0.begun) in
     let all = c.in-Ok.ensures.items ∙ (λ i. c.self.inside.active.items ++ c.new-transaction.ensures i ∷ []) in (
-      subst IsConsistent (λ i. record { begun = c.self.inside.begun + 1; active = sym all i; locks = sym c.enter.ensures i }) (IsConsistent-txs_after_begin _ c.self.invariant.0 few more),
+      subst IsConsistent (λ i. record {
+        begun = c.self.inside.begun + 1;
+        active = sym all i;
+        locks = sym c.enter.ensures i;
+      }) (IsConsistent-txs_after_begin _ c.self.invariant.0 few more),
       omega (arith, c.push.ensures.capacity, c.self.invariant.1),
     )

@@ -9,16 +9,22 @@ use Rattle.am_undo.proofs.undo_log.UndoLog.back.Goals as goal
 pub take_back_above-requires : goal.take_back_above-requires
 take_back_above-requires g c =
     subst (λ (ns : List Note). CanTakeBack ns (find c.args.parts.now.entries))
-    (since_mark_is c.self.inside.notes.items c.args.self.now.notes c.self.inside.marks.items c.args.self.now.marks (ap (λ (l : Log). l.notes) c.self.view_is) (ap (λ (l : Log). l.marks) c.self.view_is) c.pop.new.self.items c.in-Some.mark c.in-Some.ensures.items)
+    (since_mark_is c.self.inside.notes.items c.args.self.now.notes c.self.inside.marks.items c.args.self.now.marks
+    (ap (λ (l : Log). l.notes) c.self.view_is) (ap (λ (l : Log). l.marks) c.self.view_is) c.pop.new.self.items
+    c.in-Some.mark c.in-Some.ensures.items)
     c.requires
 
 pub returns-clause-entries : goal.returns-clause-entries
 returns-clause-entries g c =
     subst (λ (ns : List Note). TakesBack ns c.args.parts.now.entries c.take_back_above.new.parts.entries)
-    (sym (since_mark_is c.self.inside.notes.items c.args.self.now.notes c.self.inside.marks.items c.args.self.now.marks (ap (λ (l : Log). l.notes) c.self.view_is) (ap (λ (l : Log). l.marks) c.self.view_is) c.pop.new.self.items c.in-Some.mark c.in-Some.ensures.items))
+    (sym (since_mark_is c.self.inside.notes.items c.args.self.now.notes c.self.inside.marks.items c.args.self.now.marks
+    (ap (λ (l : Log). l.notes) c.self.view_is) (ap (λ (l : Log). l.marks) c.self.view_is) c.pop.new.self.items
+    c.in-Some.mark c.in-Some.ensures.items))
     c.take_back_above.ensures.entries
 
 pub returns-clause-notes : goal.returns-clause-notes
 returns-clause-notes g c =
     ap reverse c.take_back_above.ensures.notes
-    ∙ sym (until_mark_is c.self.inside.notes.items c.args.self.now.notes c.self.inside.marks.items c.args.self.now.marks (ap (λ (l : Log). l.notes) c.self.view_is) (ap (λ (l : Log). l.marks) c.self.view_is) c.pop.new.self.items c.in-Some.mark c.in-Some.ensures.items)
+    ∙ sym (until_mark_is c.self.inside.notes.items c.args.self.now.notes c.self.inside.marks.items c.args.self.now.marks
+    (ap (λ (l : Log). l.notes) c.self.view_is) (ap (λ (l : Log). l.marks) c.self.view_is) c.pop.new.self.items
+    c.in-Some.mark c.in-Some.ensures.items)
