@@ -7,6 +7,7 @@ import re
 import shutil
 import sys
 import types
+from typing import Optional
 
 TOP = os.path.dirname(os.path.dirname(os.path.abspath(__file__)))
 # What is taken from the inside of the kit, and its version for which that is known to be right.
@@ -35,12 +36,12 @@ def kit() -> types.ModuleType:
     os.environ.pop("RT_ALLOW_C", None)
     sys.dont_write_bytecode = True
     rt = module_of(os.path.realpath(command), "rt_command")
-    library = getattr(rt, "rtlib", None)
+    library: Optional[types.ModuleType] = getattr(rt, "rtlib", None)
     if library is None or any(not hasattr(rt, it) for it in TAKEN_OF_RT) or any(not hasattr(library, it) for it in TAKEN_OF_LIBRARY):
         sys.exit(f"tools/kit.py knows the inside of {KNOWN}, and this kit is another: {version(command)}")
     library.guarded()
     rt.Crate.allowed = rt.handles_of(TOP)
-    library.Crate = rt.Crate
+    setattr(library, "Crate", rt.Crate)
     return library
 
 

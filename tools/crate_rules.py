@@ -1,0 +1,119 @@
+"""That the crates keep their rules, as far as that is seen without a proof."""
+
+import glob
+import os
+import re
+import shutil
+import subprocess
+from itertools import takewhile
+from typing import Dict, Iterator, List, Tuple
+
+from tree import TOP, crates, given_out, sources, text_of
+
+# What a crate gives out although no other names it. A law, a function with neither parameters nor a result, is read and not
+# called, and needs no place here.
+SURFACE = {
+    "am_latch": {"CallId", "Closed", "Engine", "LatchFault", "Missing"},  # what `close`, `Latch::look` and `Latch::open` give
+    "am_listen": {"BindFault", "serve_session"},  # why `bind` refuses; a session over any source and sink, whose contract is a promise
+    "am_words": {"WordsFault"},  # why `Words` are refused
+}
+
+
+def faults_of_dependencies() -> Iterator[str]:
+    """A crate that another names in crates.txt, and in none of its files: it would wait for it in vain."""
+    for crate, others in crates().items():
+        files = [it for kind in ("rt", "antt") for it in glob.glob(f"{TOP}/crates/{crate}/**/*.{kind}", recursive=True)]
+        named = set(re.findall(r"\bam_\w+", " ".join(text_of(it) for it in files if "/out/" not in it)))
+        for other in others:
+            if other not in named:
+                yield f"crates.txt: {crate} waits for {other}, and names nothing of it"
+
+
+def statements(text: str) -> Iterator[Tuple[str, str]]:
+    """The name and the statement of each lemma, white space folded. Before the statement stand the parameters of the modules
+    round it. Lemmas inside a proof, by `where`, aren't among them."""
+    outer: List[str] = []
+    lines = text.split("\n")
+    for at, line in enumerate(lines):
+        inside = indent_of(line)
+        if not line.strip() or line.lstrip().startswith("--"):
+            continue
+        del outer[inside // 2 :]
+        if inside != 2 * len(outer):
+            continue
+        rest = takewhile(lambda it, inside=inside: it.strip() and indent_of(it) > inside, lines[at + 1 :])  # type: ignore[misc]
+        whole = " ".join([line, *rest]).split()
+        if whole[:2] == ["module", "_"]:
+            outer.append(" ".join(whole[2 : whole.index("where")]))
+        found = re.match(r"(?:pub )?([^\s:({]+) : (.*)$", " ".join(whole))
+        if found:
+            yield found.group(1), " / ".join([*outer, found.group(2)])
+
+
+def indent_of(line: str) -> int:
+    """How many blanks the line begins with."""
+    return len(line) - len(line.lstrip())
+
+
+def faults_of_lemmas() -> Iterator[str]:
+    """A lemma under any name, stated word for word as in another file. The goals of a function, and what a Proof.antt states,
+    speak of that function's own code, so there the same words mean something else. What names no variable and no equation
+    states nothing: it is the type of a definition."""
+    seen: Dict[str, Tuple[str, str]] = {}
+    for path in (it for it in sources("proofs", "specs", kinds="antt") if os.path.basename(it) != "Proof.antt"):
+        for name, statement in statements(text_of(path)):
+            if re.search(r"\bgoal\.", statement) or not re.search(r"[({].* : |[≡≢]", statement):
+                continue
+            other = seen.setdefault(statement, (path, name))
+            if other[0] != path:
+                where = f"{os.path.relpath(other[0], TOP)} states as {other[1]}"
+                yield f"{os.path.relpath(path, TOP)}: {name} is what {where}"
+
+
+def faults_of_surface() -> Iterator[str]:
+    """A name that a crate gives out and no other crate takes: neither code by a path, nor a definition or a proof."""
+    named = list(crates())
+    code = {it: [text_of(path) for path in glob.glob(f"{TOP}/crates/{it}/s*/**/*.*t", recursive=True)] for it in named}
+    examples = [text_of(path) for path in glob.glob(f"{TOP}/tests/rattle/**/*.rs", recursive=True) + glob.glob(f"{TOP}/bench/rattle/*.rs")]
+    proofs = {it: [text_of(path) for path in glob.glob(f"{TOP}/crates/{it}/proofs/**/*.antt", recursive=True)] for it in named}
+    for crate in named:
+        others = "\n".join([*examples, *(text for it in named if it != crate for text in code[it] + proofs[it])])
+        taken = set(re.findall(r"\w+", " ".join(re.findall(rf"\b{crate}(?:::|\.)(?:[\w:.]*\{{[^;]*?\}}|[\w:.]+)", others))))
+        laws = set(re.findall(r"(?m)^pub fn (\w+)(?:<[^>]*>)?\(\)$", "\n".join(code[crate])))
+        exceptions, given = SURFACE.get(crate, set()), set(given_out(crate))
+        for name in sorted(given - taken - laws - exceptions):
+            yield f"crates/{crate}/src/lib.rt: no other crate names {name}"
+        for name in sorted(exceptions - given | exceptions & taken):
+            yield f"tools/crate_rules.py: {name} of {crate} is no exception"
+
+
+def faults_of_layout() -> Iterator[str]:
+    """What `rt fmt` would lay out otherwise."""
+    command = shutil.which("rt")
+    if command is None:
+        yield "rt, the Rattle toolchain, is not on the path"
+        return
+    compiler = os.path.join(os.path.dirname(os.path.realpath(command)), "rattle")
+    told = subprocess.run([compiler, "fmt", "--check", *sources("s*", "proofs")], stderr=subprocess.PIPE, text=True, check=False).stderr
+    yield from told.splitlines()
+
+
+def faults_of_edits() -> Iterator[str]:
+    """An edit that must fail, and can't be applied."""
+    for edit in sorted(glob.glob(f"{TOP}/crates/*/must-fail/*.edit")):
+        path = ""
+        for line in text_of(edit).splitlines():
+            if line.startswith("file: "):
+                path = os.path.join(os.path.dirname(os.path.dirname(edit)), line[len("file: ") :].strip())
+            elif line.startswith("old: "):
+                found = text_of(path).count(line[len("old: ") :])
+                if found != 1:
+                    yield f"{os.path.relpath(edit, TOP)}: what it changes stands {found} times, and not once"
+
+
+def faults_of_widths() -> Iterator[str]:
+    """Code, definitions and proofs fit on a page; a text of code that `rt fmt` leaves as it stands may not."""
+    for path in sources("s*", "proofs"):
+        for number, line in enumerate(text_of(path).splitlines(), 1):
+            if len(line) > 120 and not (path.endswith(".rt") and '"' in line):
+                yield f"{os.path.relpath(path, TOP)}:{number}: a line of {len(line)} characters"

@@ -1,0 +1,51 @@
+"""What stands in the tree: its files and texts, the crates with what they name, and what each crate gives out."""
+
+import glob
+import os
+import re
+import subprocess
+from typing import Dict, Iterator, List
+
+TOP = os.path.dirname(os.path.dirname(os.path.abspath(__file__)))
+
+
+def text_of(path: str) -> str:
+    """The text of a file, whose path goes from the top on."""
+    with open(os.path.join(TOP, path), encoding="utf-8") as file:
+        return file.read()
+
+
+def crates() -> Dict[str, List[str]]:
+    """The crates in order, each with the others that it names."""
+    found = {}
+    for line in text_of("crates.txt").splitlines():
+        if line and not line.startswith("#"):
+            head, _, tail = line.partition(":")
+            found[head.split()[0]] = [word for word in tail.split() if word.startswith("am_")]
+    return found
+
+
+def sources(*folders: str, kinds: str = "rt antt") -> List[str]:
+    """The files of these kinds in folders of that name in crates/."""
+    found = [it for folder in folders for kind in kinds.split() for it in glob.glob(f"{TOP}/crates/*/{folder}/**/*.{kind}", recursive=True)]
+    return sorted(found)
+
+
+def kept_files() -> List[str]:
+    """The files that git keeps, or would keep."""
+    told = subprocess.run(["git", "ls-files", "-co", "--exclude-standard"], cwd=TOP, stdout=subprocess.PIPE, text=True, check=True).stdout
+    return [it for it in told.splitlines() if os.path.isfile(os.path.join(TOP, it))]
+
+
+def documents() -> List[str]:
+    """The documents that say what is so. CHANGELOG.md tells of what was."""
+    return ["README.md", "CONTRIBUTING.md", *(os.path.relpath(it, TOP) for it in sorted(glob.glob(f"{TOP}/docs/*.md")))]
+
+
+def given_out(crate: str) -> Iterator[str]:
+    """The names that a crate's root gives out."""
+    root = os.path.join("crates", crate, "src", "lib.rt")
+    text = text_of(root) if os.path.isfile(os.path.join(TOP, root)) else ""
+    for names, name in re.findall(r"(?m)^pub use [\w:]+::(?:\{([^}]*)\}|(\w+));", text):
+        yield from (it.strip() for it in (names or name).split(",") if it.strip())
+    yield from re.findall(r"(?m)^pub (?:const |unsafe )*(?:fn|const|static|struct|enum|trait|type) (\w+)", text)
