@@ -5,7 +5,9 @@ import random
 import socket
 import subprocess
 import sys
-from typing import Any, List, NoReturn, Optional, Sequence
+import threading
+from collections import deque
+from typing import Any, Deque, Iterable, List, NoReturn, Optional, Sequence, Tuple
 
 TOP = os.path.dirname(os.path.dirname(os.path.abspath(__file__)))
 AMSERVE = os.path.join(TOP, "amserve")
@@ -32,9 +34,18 @@ def built(crate: str) -> str:
     return subprocess.run([f"{TOP}/tools/built", crate], capture_output=True, text=True, check=True).stdout.strip()
 
 
+def alone(lines: Sequence[str], *words: str) -> List[str]:
+    """The answers of `amserve alone` to these lines."""
+    text = "".join(f"{line}\n" for line in lines)
+    return subprocess.run([AMSERVE, "alone", *words], input=text, capture_output=True, text=True, timeout=LIMIT, check=True).stdout.splitlines()
+
+
 def audit(trace: str) -> str:
-    """What the auditor says of a stored run."""
-    return subprocess.run([AMAUDIT, trace], capture_output=True, text=True, timeout=LIMIT, check=False).stdout.strip()
+    """What the auditor says of a stored run, which has to go with its status."""
+    run = subprocess.run([AMAUDIT, trace], capture_output=True, text=True, timeout=LIMIT, check=False)
+    said = run.stdout.strip()
+    wanted(f"the status of {said}", run.returncode == 0, said.startswith("LEGAL "))
+    return said
 
 
 class Server:
@@ -43,33 +54,87 @@ class Server:
     def __init__(self, *words: str, trace: Optional[str] = None, program: Sequence[str] = (AMSERVE,), **how: Any) -> None:
         given = [*program, "listen", "--port", "0", *words] + (["--trace", trace] if trace else [])
         how = {"stdin": subprocess.PIPE, "stdout": subprocess.PIPE, "stderr": subprocess.PIPE, "text": True, **how}
-        self.process = subprocess.Popen(given, **how)
+        self.process: "subprocess.Popen[str]" = subprocess.Popen(given, **how)
         line = self.process.stdout.readline().split() if self.process.stdout else []
         if len(line) != 2 or line[0] != "LISTEN":
             fail(f"first line: {line}, {self.process.stderr.read() if self.process.stderr else ''}")
         self.port = int(line[1])
 
-    def closed(self) -> List[int]:
-        """Waits for the end: the stored entries and the commits that it tells."""
+    def tell(self, text: str) -> None:
+        """Writes to its standard input."""
+        if self.process.stdin:
+            self.process.stdin.write(text)
+            self.process.stdin.flush()
+
+    def close_input(self) -> None:
+        """Ends its standard input."""
+        if self.process.stdin:
+            self.process.stdin.close()
+            self.process.stdin = None
+
+    def end(self, status: int = 0) -> Tuple[str, str]:
+        """Waits for the end: the rest of its output, and what it said on standard error."""
         out, said = self.process.communicate(timeout=LIMIT)
+        if self.process.returncode != status:
+            fail(f"status {self.process.returncode} and not {status}: {said}")
+        return out, said
+
+    def closed(self) -> Tuple[int, int]:
+        """Waits for the end: the stored entries and the commits that it tells."""
+        out, said = self.end()
         words = out.split()
-        if self.process.returncode or len(words) != 3 or words[0] != "CLOSED" or said:
-            fail(f"status {self.process.returncode}, {out!r}, {said!r}")
-        return [int(it) for it in words[1:]]
+        if len(words) != 3 or words[0] != "CLOSED" or said:
+            fail(f"last line: {out!r}, {said!r}")
+        return int(words[1]), int(words[2])
 
 
 class Client:
-    """A session, line by line."""
+    """A session, line by line. It keeps its lines and their answers."""
 
     def __init__(self, port: int) -> None:
         self.socket = socket.create_connection(("127.0.0.1", port), timeout=LIMIT)
         self.socket.setsockopt(socket.IPPROTO_TCP, socket.TCP_NODELAY, 1)
-        self.answers = self.socket.makefile("r")
+        self.lines: List[str] = []
+        self.replies: List[str] = []
+        # (answers that came and weren't asked for yet, and the beginning of the next one)
+        self.came: Deque[bytes] = deque()
+        self.rest = b""
+
+    def reply(self) -> str:
+        """The next answer."""
+        while not self.came:
+            more = self.socket.recv(1 << 20)
+            if not more:
+                fail("the server closed a session")
+            *lines, self.rest = (self.rest + more).split(b"\n")
+            self.came += lines
+        self.replies.append(self.came.popleft().decode())
+        return self.replies[-1]
 
     def ask(self, line: str) -> str:
         """The answer to a line."""
+        self.lines.append(line)
         self.socket.sendall(f"{line}\n".encode())
-        return self.answers.readline().rstrip("\n")
+        return self.reply()
+
+    def ask_all(self, lines: Iterable[str]) -> List[str]:
+        """The answers to lines, each of which waits for the answer before it."""
+        return [self.ask(line) for line in lines]
+
+    def ask_at_once(self, lines: Sequence[str]) -> List[str]:
+        """The answers to lines that are sent together, and read meanwhile."""
+        self.lines += lines
+        sender = threading.Thread(target=self.socket.sendall, args=("".join(f"{line}\n" for line in lines).encode(),))
+        sender.start()
+        replies = [self.reply() for _ in lines]
+        sender.join()
+        return replies
+
+    def quit(self) -> None:
+        """Ends the session, behind which the server closes the connection."""
+        wanted("the answer to QUIT", self.ask("QUIT"), "BYE")
+        wanted("what stands behind BYE", self.socket.recv(1), b"")
+        self.socket.close()
 
 
 KINDS = ["GET", "SCAN", "INS", "REP", "DEL", "LOAD", "COMMIT", "ABORT", "MARK", "BACK", "CLEAN", "MERGE", "SEEN", "odd"]

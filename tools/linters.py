@@ -12,8 +12,8 @@ PYTHON = "3.9"
 # What is checked at once, by the folders in which modules are looked for: two scripts of one name are never modules of one run.
 GROUPS = {
     "tools": "tools",
-    "tests": "tests:python:.",
-    "bench": "tests:python:.",
+    "tests": "tests:tools:python:.",
+    "bench": "tests:tools:python:.",
     "packages": "python:.",
     "launchers": "python:tools:.",
 }

@@ -1,0 +1,3 @@
+extern "C" {
+    fn low_c() -> i32;
+}

@@ -1,0 +1,1 @@
+int low_c(void) { return 1; }
