@@ -5,15 +5,19 @@ import itertools
 import random
 import sys
 import time
+from typing import Any, Callable, Dict, List, Tuple, Type
 
 import tiuvrokk
 
 
-def keys_between(seen, lo, hi):
+Records = Dict[bytes, bytes]
+
+
+def keys_between(seen: Records, lo: bytes, hi: bytes) -> List[Tuple[bytes, bytes]]:
     return sorted(item for item in seen.items() if lo <= item[0] <= hi)
 
 
-def expect(error, call, *words):
+def expect(error: Type[Exception], call: Callable[..., Any], *words: Any) -> Any:
     """The exception of a call that is to fail."""
     try:
         call(*words)
@@ -22,43 +26,44 @@ def expect(error, call, *words):
     raise AssertionError(f"no {error.__name__}")
 
 
-def change(rng, tx, seen, keys):
+def change(rng: random.Random, tx: tiuvrokk.Transaction, seen: Records, keys: List[bytes]) -> None:
     """One random call; `seen` is what the transaction sees."""
     key, value = rng.choice(keys), rng.randbytes(rng.choice((0, 1, 8, 64)))
-    match rng.randrange(10):
-        case 0 | 1:
-            assert tx.get(key) == seen.get(key) and (key in tx) == (key in seen)
-        case 2:
-            tx[key] = value
-            seen[key] = value
-        case 3 if key in seen:
-            assert expect(tiuvrokk.Exists, tx.insert, key, value).key == key
-        case 3:
-            tx.insert(key, value)
-            seen[key] = value
-        case 4 if key in seen:
-            tx.replace(key, value)
-            seen[key] = value
-        case 4:
-            expect(tiuvrokk.Absent, tx.replace, key, value)
-        case 5 if key in seen:
-            del tx[key]
-            del seen[key]
-        case 5:
-            expect(KeyError, tx.__delitem__, key)
-        case 6 | 7:
-            lo, hi = sorted((rng.choice(keys), rng.choice(keys)))
-            assert list(tx.scan(lo, hi, page=rng.choice((1, 3, 100, 999)))) == keys_between(seen, lo, hi)
-        case 8:
-            new = {k: rng.randbytes(3) for k in rng.sample(keys, 8) if k not in seen}
-            assert tx.load(new.items(), run=rng.choice((1, 3, 4096))) == len(new)
-            seen.update(new)
-        case 9:
-            before = dict(seen)
-            tx.mark()
-            tx[key] = value
-            tx.back()
-            assert keys_between(before, b"", keys[-1]) == list(tx.scan())
+    kind = rng.randrange(10)
+    if kind in (0, 1):
+        assert tx.get(key) == seen.get(key) and (key in tx) == (key in seen)
+    elif kind in (2, 3, 4, 5):
+        write(kind, tx, seen, (key, value))
+    elif kind in (6, 7):
+        lo, hi = sorted((rng.choice(keys), rng.choice(keys)))
+        assert list(tx.scan(lo, hi, page=rng.choice((1, 3, 100, 999)))) == keys_between(seen, lo, hi)
+    elif kind == 8:
+        new = {k: rng.randbytes(3) for k in rng.sample(keys, 8) if k not in seen}
+        assert tx.load(new.items(), run=rng.choice((1, 3, 4096))) == len(new)
+        seen.update(new)
+    else:
+        before = dict(seen)
+        tx.mark()
+        tx[key] = value
+        tx.back()
+        assert keys_between(before, b"", keys[-1]) == list(tx.scan())
+
+
+def write(kind: int, tx: tiuvrokk.Transaction, seen: Records, record: Tuple[bytes, bytes]) -> None:
+    """A call that writes a record, or takes it away, where it may."""
+    key, value = record
+    if kind == 3 and key in seen:
+        assert expect(tiuvrokk.Exists, tx.insert, key, value).key == key
+    elif kind == 4 and key not in seen:
+        expect(tiuvrokk.Absent, tx.replace, key, value)
+    elif kind == 5 and key not in seen:
+        expect(KeyError, tx.__delitem__, key)
+    elif kind == 5:
+        del tx[key]
+        del seen[key]
+    else:
+        [tx.__setitem__, tx.insert, tx.replace][kind - 2](key, value)
+        seen[key] = value
 
 
 LAST = b"\xff" * 32
@@ -71,7 +76,7 @@ def mix(number: int, word: int) -> int:
     return mixed ^ mixed >> 32
 
 
-def keys_of_number(rng: random.Random, number: int, count: int) -> list[bytes]:
+def keys_of_number(rng: random.Random, number: int, count: int) -> List[bytes]:
     """Keys of 32 bytes whose number is this one, where it is made without a secret, as locks have it: the last word undoes
     what the others made."""
     keys = []
@@ -87,7 +92,7 @@ def keys_of_number(rng: random.Random, number: int, count: int) -> list[bytes]:
     return keys
 
 
-def load_one_by_one(store: tiuvrokk.Store, keys: list[bytes]) -> float:
+def load_one_by_one(store: tiuvrokk.Store, keys: List[bytes]) -> float:
     """Loads a run of one record for each key, and tells the seconds."""
     began = time.perf_counter()
     for at in range(0, len(keys), 4000):
@@ -97,7 +102,7 @@ def load_one_by_one(store: tiuvrokk.Store, keys: list[bytes]) -> float:
     return time.perf_counter() - began
 
 
-def seconds_of_loads(keys: list[bytes]) -> float:
+def seconds_of_loads(keys: List[bytes]) -> float:
     """The seconds of such loads into a new store, the less of two tries."""
     seconds = []
     for _ in range(2):
@@ -134,7 +139,8 @@ def main(calls: int, seed: int) -> None:
     chosen_keys(rng)
     many_loads(rng)
     keys = sorted({rng.randbytes(rng.randrange(33)) for _ in range(120)})
-    committed, done, commits = {}, 0, 0
+    committed: Records = {}
+    done = commits = 0
     with tiuvrokk.Store() as store:
         while done < calls:
             seen, number = dict(committed), rng.randrange(40)
