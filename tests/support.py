@@ -1,4 +1,4 @@
-"""What tests of the programs have in common: the programs, sessions with a server, and lines that look drawn."""
+"""Things that tests of the programs share: the programs, sessions with a server, and lines that look drawn."""
 
 import os
 import random

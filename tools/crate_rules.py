@@ -1,4 +1,4 @@
-"""That the crates keep their rules, as far as that is seen without a proof."""
+"""The rules of the crates, as far as they are seen without a proof."""
 
 import glob
 import os
@@ -10,7 +10,7 @@ from typing import Dict, Iterator, List, Tuple
 
 from tree import TOP, crates, given_out, sources, text_of
 
-# What a crate gives out although no other names it. A law, a function with neither parameters nor a result, is read and not
+# Names that a crate gives out although no other takes them. A law, a function with neither parameters nor a result, is read and not
 # called, and needs no place here.
 SURFACE = {
     "am_latch": {"CallId", "Closed", "Engine", "LatchFault", "Missing"},  # what `close`, `Latch::look` and `Latch::open` give
@@ -57,8 +57,8 @@ def indent_of(line: str) -> int:
 
 def faults_of_lemmas() -> Iterator[str]:
     """A lemma under any name, stated word for word as in another file. The goals of a function, and what a Proof.antt states,
-    speak of that function's own code, so there the same words mean something else. What names no variable and no equation
-    states nothing: it is the type of a definition."""
+    speak of that function's own code, so there the same words mean something else. A type that names no variable and no
+    equation states nothing: it is that of a definition."""
     seen: Dict[str, Tuple[str, str]] = {}
     for path in (it for it in sources("proofs", "specs", kinds="antt") if os.path.basename(it) != "Proof.antt"):
         for name, statement in statements(text_of(path)):

@@ -1,4 +1,4 @@
-"""That the documents name what is there, and say the same everywhere."""
+"""The rules of the documents: they name what is there, and say the same everywhere."""
 
 import os
 import re

@@ -1,4 +1,4 @@
-"""The kit's command `rt` as a module, for what none of its commands does: crates proved side by side, tests run unproved."""
+"""The kit's command `rt` as a module, which proves crates side by side and runs tests unproved. None of its commands does so."""
 
 import importlib.machinery
 import importlib.util
@@ -10,7 +10,7 @@ import types
 from typing import Optional
 
 TOP = os.path.dirname(os.path.dirname(os.path.abspath(__file__)))
-# What is taken from the inside of the kit, and its version for which that is known to be right.
+# Names that are taken from the inside of the kit, and its version for which they are known to be right.
 KNOWN = "rattle-kit-13"
 TAKEN_OF_RT = ["Crate", "handles_of"]
 TAKEN_OF_LIBRARY = ["KIT", "RATTLE", "Crate", "crates_below", "files_of", "guarded", "kit_sources", "lock", "number_in", "text_of"]

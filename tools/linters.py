@@ -1,4 +1,4 @@
-"""What mypy, pyflakes, shellcheck and clang-tidy find, as far as they are installed. Without one its rules go untold."""
+"""Findings of mypy, pyflakes, shellcheck and clang-tidy, as far as they are installed. Without one its rules go untold."""
 
 import os
 import shutil
@@ -9,7 +9,8 @@ from tree import TOP, kept_files
 
 # The oldest Python that the scripts run by.
 PYTHON = "3.9"
-# What is checked at once, by the folders in which modules are looked for: two scripts of one name are never modules of one run.
+# Groups that are checked at once, each with the folders in which modules are looked for. Two scripts of one name are never
+# modules of one run.
 GROUPS = {
     "tools": "tools",
     "tests": "tests:tools:python:.",

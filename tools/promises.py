@@ -1,4 +1,4 @@
-"""That docs/promises.md has each function that a crate gives out, and names no other function and no other clause."""
+"""The rule of docs/promises.md: it has each function that a crate gives out, and names no other function and no other clause."""
 
 import glob
 import re

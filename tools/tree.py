@@ -1,4 +1,4 @@
-"""What stands in the tree: its files and texts, the crates with what they name, and what each crate gives out."""
+"""The tree: its files and texts, the crates with those that they name, and the names that each crate gives out."""
 
 import glob
 import os
