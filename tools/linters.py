@@ -11,19 +11,15 @@ from tree import TOP, kept_files
 PYTHON = "3.9"
 # Groups that are checked at once, each with the folders in which modules are looked for. Two scripts of one name are never
 # modules of one run.
-GROUPS = {
-    "tools": "tools",
-    "tests": "tests:tools:python:.",
-    "bench": "tests:tools:python:.",
-    "packages": "python:.",
-    "launchers": "python:tools:.",
-}
+GROUPS = {"tools": "tools", "tests": "tests:tools:python:.", "others": "tests:tools:python:."}
+# Programs for users of the library, which have no types.
+UNTYPED = "examples"
 
 
 def group_of(path: str) -> str:
     """The group of a script or a module."""
-    folder = path.split("/")[0] if "/" in path else "launchers"
-    return "packages" if folder in ("python", "replica") else folder
+    folder = path.split("/")[0] if "/" in path else ""
+    return folder if folder in (*GROUPS, UNTYPED) else "others"
 
 
 def first_line(path: str) -> bytes:
