@@ -12,8 +12,8 @@ use am_record::{Key, NoMemory, SHORT_LEN, ShortKey, Value};
 use std::alloc::Global;
 use std::marker::Model;
 
-/// At most 32 places, seen with how many bytes the key of each may have: 16 until room for more is got, and 32 from then
-/// on.
+/// At most 32 places, seen with how many bytes the key of each may have: 16 until room for more is got, and 32 from
+/// then on.
 #[derive(Drop)]
 pub(crate) struct Places {
     kind: Kind,

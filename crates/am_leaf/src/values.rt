@@ -1,7 +1,7 @@
 //! The values of a leaf: short ones until a longer one comes.
 
-ghost use Rattle.std.specs.Prelude.{◌≡◌, ◌<◌, ◌≤◌, [], length, take, drop, IfOk, OnOk, OnErr, slice_index_or, slice_set};
-ghost use Rattle.std.specs.Prelude.{◌+◌, ◌∷◌, ◌++◌};
+ghost use Rattle.std.specs.Prelude.{◌≡◌, ◌<◌, ◌≤◌, ◌+◌, ◌∷◌, ◌++◌, [], length, take, drop, slice_index_or, slice_set};
+ghost use Rattle.std.specs.Prelude.{IfOk, OnOk, OnErr};
 ghost use Rattle.std.specs.List.{insert, remove};
 ghost use Rattle.am_leaf.specs.Seen.{ValuesFit};
 ghost use Rattle.am_leaf.specs.Runs.{values_of};
