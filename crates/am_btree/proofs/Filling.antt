@@ -1,21 +1,13 @@
 -- Records of a run, put behind a leaf's entries one after another.
-use Rattle.std.proofs.Common.{◌≡◌, ℕ, zero, suc, ◌+◌, ◌-◌, ◌<◌, ◌≤◌, List, [], ◌∷◌, ◌++◌, length, get_or, take, drop}
-use Rattle.std.proofs.Common.{refl, sym, ap, ◌∙◌, subst, append_assoc, arith, length-append}
-use Rattle.std.proofs.lemmas.List.Edits.{insert_end}
-use Rattle.std.proofs.lemmas.List.{take_all, drop_all, length-drop}
-use Rattle.std.specs.declared.cmp.Ordering.TheVariants.{Less}
-use Rattle.std.specs.List.{insert}
+use Rattle.std.proofs.Common.{◌≡◌, ℕ, zero, suc, ◌+◌, ◌-◌, ◌≤◌, List, [], ◌∷◌, ◌++◌, length, take, drop, refl, sym, ap}
+use Rattle.std.proofs.Common.{◌∙◌, subst, append_assoc, arith, length-append}
+use Rattle.std.proofs.lemmas.List.{take_all, length-drop}
 use Rattle.am_record.specs.Plain.{Records}
-use Rattle.am_record.specs.EntryOrder.{place_of, place_cmp}
 use Rattle.am_record.specs.declared.entry.Entry.{Entry}
-use Rattle.am_record.proofs.Lists.{AllByRecursion-back}
-use Rattle.am_record.proofs.FirstRows.{Record}
 use Rattle.am_list.specs.Entries.{IsRising}
-use Rattle.am_list.specs.Places.{AllBelow, AllAbove, IsGapFor}
 use Rattle.am_list.specs.Runs.{live_entry, run_entries}
 use Rattle.am_list.proofs.Lists.{rising_front}
-use Rattle.am_list.proofs.Runs.{one_more_pushed, length-front}
-use Rattle.am_btree.proofs.Appended.{under_at, run_below}
+use Rattle.am_list.proofs.Runs.{length-front}
 
 module _ (part : ℕ) where
   run_cut : (rs : Records) (i : ℕ) → run_entries part (take i rs) ++ run_entries part (drop i rs) ≡ run_entries part rs
@@ -71,28 +63,3 @@ module _ (part : ℕ) where
 
     pub within : (n : ℕ) → i ≤ length rs → n ≤ length left → i + n ≤ length rs
     within n le h = omega (arith, ap length left_is, length-drop i rs)
-
-  below_next : (es : List Entry) (rs : Records) (i : ℕ) (r : Record) → i < length rs → r ≡ get_or rs i r →
-      IsRising (es ++ run_entries part rs) → AllBelow (part, r.0) (es ++ run_entries part (take i rs))
-  below_next [] rs i r lt here rising = run_below part rs i r lt here rising
-  below_next (e ∷ es) rs i r lt here rising = (
-    under_at part e rs i r lt here (AllByRecursion-back (λ f. place_cmp (place_of e) (place_of f) ≡ Less) es
-        (run_entries part rs) rising.0),
-    below_next es rs i r lt here rising.1,
-  )
-
-  module _ (es : List Entry) (rs : Records) (rising : IsRising (es ++ run_entries part rs)) (i : ℕ) (r : Record)
-      (lt : i < length rs) (here : r ≡ get_or rs i r) where
-    -- the place of the next record is behind those that stand
-    pub next_gap : (now : List Entry) → now ≡ es ++ run_entries part (take i rs) → IsGapFor now part r.0 (length now)
-    next_gap now is = record {
-      in_range = omega arith;
-      below = subst (AllBelow (part, r.0)) (sym (take_all (length now) now (omega arith) ∙ is))
-          (below_next es rs i r lt here rising);
-      above = subst (AllAbove (part, r.0)) (sym (drop_all (length now) now (omega arith))) tt;
-    }
-
-    pub next_filled : (now : List Entry) → now ≡ es ++ run_entries part (take i rs) →
-        insert now (length now) (live_entry part r) ≡ es ++ run_entries part (take (suc i) rs)
-    next_filled now is = insert_end now (live_entry part r) ∙ ap (λ (l : List Entry). l ++ live_entry part r ∷ []) is ∙
-        one_more_pushed part es rs i r lt here

@@ -18,7 +18,7 @@ use Rattle.am_btree.specs.Nodes.{all_entries, shape_of, IsTree, AreFilledChildre
 use Rattle.am_btree.specs.Grown.{HasSplit}
 
 pub tree_rises : (n : Node) → IsTree n → IsRising (shape_of n).entries
-tree_rises (Leaf l) t = t.1
+tree_rises (Leaf l) t = t.1.0
 tree_rises (Inner separators children) t = t.children.rising
 
 -- no place is below the least key of partition 0

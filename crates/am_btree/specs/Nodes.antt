@@ -27,7 +27,7 @@ abbrev pub inner_shape : List Shape → Shape
 inner_shape ks = record { depth = depth_of ks; entries = all_entries ks }
 
 abbrev pub shape_of : Node → Shape
-shape_of (Leaf l) = leaf_shape l
+shape_of (Leaf l) = leaf_shape l.entries
 shape_of (Inner separators children) = inner_shape children.items
 
 -- no entry of a child is below its separator, and all are below the separators of later children
@@ -60,6 +60,6 @@ pub record IsInner (separators : List Separator) (kids : List Shape) (room_separ
   pub children : AreChildren (depth_of kids) separators kids
 
 abbrev pub IsTree : Node → Type 0
-IsTree (Leaf l) = (length l ≤ 32) × IsRising l
+IsTree (Leaf l) = (length l.entries ≤ 32) × (IsRising l.entries × (64 ≤ l.value_room))
 IsTree (Inner separators children) = IsInner separators.items children.items (vec_capacity separators)
     (vec_capacity children)

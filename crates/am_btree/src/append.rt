@@ -40,7 +40,7 @@ impl Subtree {
                 break;
             }
             added += 1;
-            added += self.fill_last(part, &pairs[added..]);
+            added += self.fill_last(alloc, part, &pairs[added..]);
         }
         if added == pairs.len() {
             return Ok(());

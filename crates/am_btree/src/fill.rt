@@ -7,12 +7,13 @@ ghost use Rattle.am_list.specs.Runs.{run_entries};
 use crate::node::{Node, Subtree};
 use crate::room::ROOM;
 use am_leaf::RawLeaf;
-use am_record::{Entry, Key, Value};
+use am_record::{Key, Value};
+use std::alloc::Global;
 
 impl Subtree {
     /// Puts the first of the records, all live, behind all entries: as many as the last leaf has room for. Says how
     /// many. (Where there is no entry, the records may belong below a separator that was left.)
-    pub(crate) fn fill_last(&mut self, part: u32, pairs: &[(Key, Value)]) -> usize
+    pub(crate) fn fill_last(&mut self, alloc: Global, part: u32, pairs: &[(Key, Value)]) -> usize
         requires some { 0 < length self.old.entries }
         requires rising { IsRising (self.old.entries ++ run_entries part pairs.now) }
         ensures most { result ≤ length pairs.now }
@@ -20,35 +21,26 @@ impl Subtree {
         ensures depth { self.new.depth ≡ self.old.depth }
     {
         match &mut self.node {
-            Node::Leaf(leaf) => fill_leaf(leaf, part, pairs),
+            Node::Leaf(leaf) => fill_leaf(alloc, leaf, part, pairs),
             Node::Inner(_, children) => {
                 let last = children.len() - 1;
-                children[last].fill_last(part, pairs)
+                children[last].fill_last(alloc, part, pairs)
             }
         }
     }
 }
 
-// Puts the first of the records behind a leaf's entries, as many as it has room for.
-fn fill_leaf(leaf: &mut RawLeaf, part: u32, pairs: &[(Key, Value)]) -> usize
-    requires { IsRising (leaf.old ++ run_entries part pairs.now) }
+// Puts the first of the records behind a leaf's entries, as many as it has room for; none where memory for longer keys
+// was refused.
+fn fill_leaf(alloc: Global, leaf: &mut RawLeaf, part: u32, pairs: &[(Key, Value)]) -> usize
+    requires { IsRising (leaf.old.entries ++ run_entries part pairs.now) }
     ensures count { result ≤ length pairs.now }
-    ensures entries { leaf.new ≡ leaf.old ++ run_entries part (take result pairs.now) }
-    ensures most { length leaf.new ≤ 32 }
+    ensures entries { leaf.new.entries ≡ leaf.old.entries ++ run_entries part (take result pairs.now) }
+    ensures most { length leaf.new.entries ≤ 32 }
+    ensures wide { leaf.old.value_room ≤ leaf.new.value_room }
 {
-    let len = leaf.len();
-    let count = pairs.len().min(ROOM - len);
-    let fitting = &pairs[..count];
-    for (at, pair) in fitting.iter().enumerate() {
-        leaf.insert_at(
-            len + at,
-            Entry {
-                part,
-                key: pair.0,
-                value: pair.1,
-                is_ghost: false,
-            },
-        );
-    }
-    count
+    let count = pairs.len().min(ROOM - leaf.len());
+    let added = leaf.append(alloc, part, &pairs[..count]);
+    prove!(leaf.len() <= 32);
+    if added.is_err() { 0 } else { count }
 }

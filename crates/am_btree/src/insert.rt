@@ -5,6 +5,8 @@ ghost use Rattle.std.specs.Prelude.{IfOk, IfSome, vec_len, vec_capacity};
 ghost use Rattle.std.specs.List.{insert};
 ghost use Rattle.am_list.specs.Entries.{find, insert_entry, IsRising};
 ghost use Rattle.am_list.specs.Places.{IsGapFor};
+ghost use Rattle.am_record.specs.OrderedKey.{bytes_of};
+ghost use Rattle.am_leaf.specs.Seen.{Fits, SameRoom};
 ghost use Rattle.am_btree.specs.Grown.{Grows, NowHolds};
 ghost use Rattle.am_btree.specs.Nodes.{all_entries, depth_of, leaf_shape, inner_shape, AreFilledChildren, IsInner};
 ghost use Rattle.am_btree.specs.Splits.{lower_size};
@@ -153,12 +155,37 @@ fn insert_in_leaf(
     last: bool,
     wanted: usize,
 ) -> Result<Option<Split>, Obstacle>
-    ensures ok { IfOk result (Grows (leaf_shape leaf.old) (leaf_shape leaf.new) entry wanted) }
-    ensures absent { OnOk result (find leaf.old entry.part entry.key ≡ None) }
-    ensures taken { IsErrOf result Obstacle.Taken → IsSome (find leaf.old entry.part entry.key) }
-    ensures err { OnErr result (leaf.new ≡ leaf.old) }
-    ensures most { length leaf.new ≤ 32 }
-    ensures rising { IsRising leaf.new }
+    requires wide { 64 ≤ leaf.old.value_room }
+    ensures ok { IfOk result (Grows (leaf_shape leaf.old.entries) (leaf_shape leaf.new.entries) entry wanted) }
+    ensures absent { OnOk result (find leaf.old.entries entry.part entry.key ≡ None) }
+    ensures taken { IsErrOf result Obstacle.Taken → IsSome (find leaf.old.entries entry.part entry.key) }
+    ensures err { OnErr result (leaf.new.entries ≡ leaf.old.entries) }
+    ensures most { length leaf.new.entries ≤ 32 }
+    ensures rising { IsRising leaf.new.entries }
+    ensures room { leaf.old.value_room ≤ leaf.new.value_room }
+{
+    prove!(leaf.len() <= 32);
+    leaf.widen(alloc, entry.key.bytes().len(), entry.value.len())?;
+    insert_fitting(alloc, leaf, entry, last, wanted)
+}
+
+// Adds an entry that has room to a leaf, unless its place is taken. The leaf is split where it is full.
+fn insert_fitting(
+    alloc: Global,
+    leaf: &mut RawLeaf,
+    entry: Entry,
+    last: bool,
+    wanted: usize,
+) -> Result<Option<Split>, Obstacle>
+    requires wide { 64 ≤ leaf.old.value_room }
+    requires fits { Fits leaf.old (length (bytes_of entry.key)) (length entry.value) }
+    ensures ok { IfOk result (Grows (leaf_shape leaf.old.entries) (leaf_shape leaf.new.entries) entry wanted) }
+    ensures absent { OnOk result (find leaf.old.entries entry.part entry.key ≡ None) }
+    ensures taken { IsErrOf result Obstacle.Taken → IsSome (find leaf.old.entries entry.part entry.key) }
+    ensures err { OnErr result (leaf.new.entries ≡ leaf.old.entries) }
+    ensures most { length leaf.new.entries ≤ 32 }
+    ensures rising { IsRising leaf.new.entries }
+    ensures room { leaf.new.value_room ≡ leaf.old.value_room }
 {
     let len = leaf.len();
     let Err(at) = leaf.find(entry.part, entry.key) else {
@@ -168,7 +195,7 @@ fn insert_in_leaf(
         leaf.insert_at(at, entry);
         return Ok(None);
     }
-    let mut upper = RawLeaf::new(alloc)?;
+    let mut upper = leaf.new_like(alloc)?;
     let spares = spares(alloc, wanted)?;
     split_insert(leaf, keep_of(last, at), at, entry, &mut upper);
     let separator = Separator::of(&upper.get(0));
@@ -184,13 +211,17 @@ fn insert_in_leaf(
 
 // Puts an entry at the index of a full leaf, the upper part of which is moved to an empty one.
 fn split_insert(leaf: &mut RawLeaf, keep: usize, at: usize, entry: Entry, upper: &mut RawLeaf)
-    requires full { length leaf.old ≡ 32 }
-    requires place { IsGapFor leaf.old entry.part entry.key at }
+    requires full { length leaf.old.entries ≡ 32 }
+    requires place { IsGapFor leaf.old.entries entry.part entry.key at }
     requires keeps { (0 < keep) × (keep ≤ 32) }
     requires room { at < keep → keep < 32 }
-    requires empty { upper.old ≡ [] }
-    ensures front { leaf.new ≡ take (lower_size keep at) (insert leaf.old at entry) }
-    ensures back { upper.new ≡ drop (lower_size keep at) (insert leaf.old at entry) }
+    requires empty { upper.old.entries ≡ [] }
+    requires alike { SameRoom upper.old leaf.old }
+    requires fits { Fits leaf.old (length (bytes_of entry.key)) (length entry.value) }
+    ensures front { leaf.new.entries ≡ take (lower_size keep at) (insert leaf.old.entries at entry) }
+    ensures back { upper.new.entries ≡ drop (lower_size keep at) (insert leaf.old.entries at entry) }
+    ensures room { leaf.new.value_room ≡ leaf.old.value_room }
+    ensures upper_room { upper.new.value_room ≡ leaf.old.value_room }
 {
     leaf.split_into(upper, keep);
     if at < keep {

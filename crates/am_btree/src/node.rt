@@ -5,7 +5,7 @@ ghost use Rattle.am_list.specs.Entries.{IsRising};
 
 use crate::separator::Separator;
 use am_leaf::RawLeaf;
-use am_record::NoMemory;
+use am_record::{MAX_VALUE_LEN, NoMemory};
 use std::alloc::Global;
 use std::marker::Model;
 
@@ -51,7 +51,7 @@ impl Subtree {
         ensures { IfOk result (λ tree. (tree.depth ≡ 0) × (tree.entries ≡ [])) }
     {
         Ok(Subtree {
-            node: Node::Leaf(RawLeaf::new(alloc)?),
+            node: Node::Leaf(RawLeaf::new(alloc, 0, MAX_VALUE_LEN)?),
         })
     }
 }

@@ -143,7 +143,7 @@ impl Subtree {
 
 // The entry of the leaf at the index, if there is one.
 fn entry_at(leaf: &RawLeaf, at: usize) -> Option<Entry>
-    ensures { result ≡ slice_get leaf.now at }
+    ensures { result ≡ slice_get leaf.now.entries at }
 {
     if at < leaf.len() {
         Some(leaf.get(at))
@@ -154,8 +154,8 @@ fn entry_at(leaf: &RawLeaf, at: usize) -> Option<Entry>
 
 // Where a walk over the leaf begins.
 fn start_in_leaf(leaf: &RawLeaf, part: u32, key: Key, start: Start) -> usize
-    ensures begins { IsStart start leaf.now part key result }
-    ensures rising { IsRising leaf.now }
+    ensures begins { IsStart start leaf.now.entries part key result }
+    ensures rising { IsRising leaf.now.entries }
 {
     // Asked here, an entry's index is known to have a next one.
     prove!(leaf.len() <= 32);
@@ -170,24 +170,24 @@ fn start_in_leaf(leaf: &RawLeaf, part: u32, key: Key, start: Start) -> usize
 
 // The first entry of the leaf from the place on.
 fn seek_in_leaf(leaf: &RawLeaf, part: u32, key: Key, start: Start) -> Option<Entry>
-    ensures found { result ≡ first_from start leaf.now part key }
-    ensures rising { IsRising leaf.now }
+    ensures found { result ≡ first_from start leaf.now.entries part key }
+    ensures rising { IsRising leaf.now.entries }
 {
     entry_at(leaf, start_in_leaf(leaf, part, key, start))
 }
 
 // The first ghost of the leaf from the place on.
 fn next_ghost_in_leaf(leaf: &RawLeaf, part: u32, key: Key) -> Option<Entry>
-    ensures found { result ≡ next_ghost leaf.now part key }
-    ensures rising { IsRising leaf.now }
+    ensures found { result ≡ next_ghost leaf.now.entries part key }
+    ensures rising { IsRising leaf.now.entries }
 {
     leaf.ghost_from(start_in_leaf(leaf, part, key, Start::At))
 }
 
 // Appends the entries of the partition of a leaf, as many as the batch has room for.
 fn read_on_in_leaf(leaf: &RawLeaf, part: u32, key: Key, start: Start, batch: &mut Batch)
-    ensures read { batch.new ≡ take 16 (batch.old ++ all_such start leaf.now part key) }
-    ensures rising { IsRising leaf.now }
+    ensures read { batch.new ≡ take 16 (batch.old ++ all_such start leaf.now.entries part key) }
+    ensures rising { IsRising leaf.now.entries }
 {
     prove!(batch.entries().len() <= 16);
     for at in start_in_leaf(leaf, part, key, start)..leaf.len() {
@@ -211,8 +211,8 @@ fn copy_rows_in_leaf(
     rows: &mut Vec<(Key, Value)>,
 ) -> Result<(), NoMemory>
     requires { length rows.old.items ≤ max }
-    ensures copied { OnOk result (rows.new.items ≡ take max (rows.old.items ++ rows_in leaf.now part range)) }
-    ensures rising { IsRising leaf.now }
+    ensures copied { OnOk result (rows.new.items ≡ take max (rows.old.items ++ rows_in leaf.now.entries part range)) }
+    ensures rising { IsRising leaf.now.entries }
 {
     let from = start_in_leaf(leaf, part, range.lo(), Start::At);
     let to = start_in_leaf(leaf, part, range.hi(), Start::Above);

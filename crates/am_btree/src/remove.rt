@@ -65,12 +65,13 @@ impl Subtree {
 
 // Takes the entry of a present place out of a leaf.
 fn remove_from_leaf(leaf: &mut RawLeaf, part: u32, key: Key) -> Removed
-    requires { IsSome (find leaf.old part key) }
-    ensures entry { entry_at leaf.old part key ≡ Some result.entry }
-    ensures others { leaf.new ≡ remove_entry leaf.old part key }
-    ensures rising { IsRising leaf.new }
-    ensures most { length leaf.new ≤ 32 }
-    ensures empty { MatchBool result.is_empty (leaf.new ≡ []) (0 < length leaf.new) }
+    requires { IsSome (find leaf.old.entries part key) }
+    ensures entry { entry_at leaf.old.entries part key ≡ Some result.entry }
+    ensures others { leaf.new.entries ≡ remove_entry leaf.old.entries part key }
+    ensures rising { IsRising leaf.new.entries }
+    ensures wide { leaf.new.value_room ≡ leaf.old.value_room }
+    ensures most { length leaf.new.entries ≤ 32 }
+    ensures empty { MatchBool result.is_empty (leaf.new.entries ≡ []) (0 < length leaf.new.entries) }
 {
     let Ok(at) = leaf.find(part, key) else {
         unreachable!()

@@ -1,6 +1,6 @@
 //! Writing over an entry.
 
-ghost use Rattle.std.specs.Prelude.{◌≡◌, IsSome};
+ghost use Rattle.std.specs.Prelude.{◌≡◌, ◌≤◌, IsSome, length};
 ghost use Rattle.am_list.specs.Entries.{find, set_entry, IsRising};
 
 use crate::node::{Node, Subtree};
@@ -15,6 +15,7 @@ impl Subtree {
         ensures entries { self.new.entries ≡ set_entry self.old.entries part key value is_ghost }
         ensures depth { self.new.depth ≡ self.old.depth }
     {
+        prove!(value.len() <= 64);
         match &mut self.node {
             Node::Leaf(leaf) => set_in_leaf(leaf, part, key, value, is_ghost),
             Node::Inner(separators, children) => {
@@ -27,9 +28,11 @@ impl Subtree {
 
 // Writes over the entry of a present place of a leaf.
 fn set_in_leaf(leaf: &mut RawLeaf, part: u32, key: Key, value: Value, is_ghost: bool)
-    requires { IsSome (find leaf.old part key) }
-    ensures entries { leaf.new ≡ set_entry leaf.old part key value is_ghost }
-    ensures rising { IsRising leaf.new }
+    requires stands { IsSome (find leaf.old.entries part key) }
+    requires fits { length value ≤ leaf.old.value_room }
+    ensures entries { leaf.new.entries ≡ set_entry leaf.old.entries part key value is_ghost }
+    ensures rising { IsRising leaf.new.entries }
+    ensures wide { leaf.new.value_room ≡ leaf.old.value_room }
 {
     let Ok(at) = leaf.find(part, key) else {
         unreachable!()

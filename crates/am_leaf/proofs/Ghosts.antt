@@ -34,7 +34,7 @@ module _ (a : Inside) (held : IsLeaf a) (es : List Entry) (seen : entries a ≡ 
   bit_of : (k : ℕ) (d : Entry) → k < length es → (get_or es k d).is_ghost ≡ has_bit a.ghosts k
   bit_of k d lt =
       ap (λ l. (get_or l k d).is_ghost) (sym seen)
-      ∙ ap (λ (e : Entry). e.is_ghost) (entries_of-at a.places a.values a.ghosts k (d.part, d.key) d.value d
+      ∙ ap (λ (e : Entry). e.is_ghost) (entries_of-at a.places.items a.values.items a.ghosts k (d.part, d.key) d.value d
       (alike a held) (omega (arith, held.places, many)))
 
   pub no_ghost : (from : ℕ) → ((k : ℕ) → from ≤ k → has_bit a.ghosts k ≡ false) →

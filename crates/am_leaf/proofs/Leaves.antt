@@ -8,19 +8,19 @@ use Rattle.am_leaf.proofs.BitLemmas.{pow_mono}
 use Rattle.am_leaf.proofs.Zips.{length-entries_of}
 
 module _ (a : Inside) (held : IsLeaf a) where
-  pub alike : length a.places ≡ length a.values
+  pub alike : length a.places.items ≡ length a.values.items
   alike = held.places ∙ sym held.values
 
   pub counted : (es : List Entry) → entries a ≡ es → length es ≡ a.len
-  counted es seen = sym (ap length seen) ∙ length-entries_of a.places a.values a.ghosts alike ∙ held.places
+  counted es seen = sym (ap length seen) ∙ length-entries_of a.places.items a.values.items a.ghosts alike ∙ held.places
 
   -- the highest bit is free
   pub room_in_ghosts : a.len < 32 → a.ghosts < 2 ^ 31
   room_in_ghosts room = let up = pow_mono a.len 31 (omega arith) in omega (arith, held.ghosts)
 
   -- a leaf with no entries has nil_from_length in its blocks
-  pub no_places : entries a ≡ [] → a.places ≡ []
-  no_places empty = nil_from_length a.places (held.places ∙ sym (counted [] empty))
+  pub no_places : entries a ≡ [] → a.places.items ≡ []
+  no_places empty = nil_from_length a.places.items (held.places ∙ sym (counted [] empty))
 
-  pub no_values : entries a ≡ [] → a.values ≡ []
-  no_values empty = nil_from_length a.values (held.values ∙ sym (counted [] empty))
+  pub no_values : entries a ≡ [] → a.values.items ≡ []
+  no_values empty = nil_from_length a.values.items (held.values ∙ sym (counted [] empty))

@@ -1,5 +1,5 @@
 pub mod Crosses
-pub mod Filling
+pub mod Extending
 pub mod Ghosts
 pub mod Heap
 pub mod Leaves

@@ -1,4 +1,9 @@
 pub mod Blocks
 pub mod Changes
+pub mod Columns
+pub mod Seen
+pub mod Runs
+pub mod ValueKinds
+pub mod PlaceKinds
 pub mod Leaf
 pub mod Bits

@@ -2,7 +2,7 @@
 //! (`proofs/block`), and no other code sees it.
 
 ghost use Rattle.std.specs.Prelude.{◌≡◌, ◌*◌, ◌^◌, ◌<◌, ◌≤◌, List, [], take, drop, length, IfOk, slice_index_or};
-ghost use Rattle.std.specs.Prelude.{slice_set};
+ghost use Rattle.std.specs.Prelude.{slice_set, ◌∷◌, ◌++◌};
 ghost use Rattle.std.specs.List.{insert, remove};
 ghost use Rattle.std.specs.Mem.{type_size};
 
@@ -73,6 +73,15 @@ impl<T: Copy> Block<T> {
         ensures { self.new ≡ slice_set self.old at value }
     {
         unsafe { self.at.add(at).write(value) }
+    }
+
+    /// Writes a value behind the others.
+    pub(crate) fn push(&mut self, len: usize, value: T)
+        requires all { len ≡ length self.old }
+        requires room { len < 32 }
+        ensures { self.new ≡ self.old ++ value ∷ [] }
+    {
+        unsafe { self.at.add(len).write(value) }
     }
 
     /// Moves the values from `at` on up by one, and writes one there.

@@ -1,6 +1,7 @@
 //! A leaf: at most 32 entries over raw memory.
 
-ghost use Rattle.std.specs.Prelude.{◌≡◌, ◌<◌, ◌≤◌, [], length, take, drop, IfOk, IfErr, slice_index_or};
+ghost use Rattle.std.specs.Prelude.{◌≡◌, ◌+◌, ◌<◌, ◌≤◌, ◌++◌, [], length, take, drop, IfOk, IfErr, OnOk, OnErr};
+ghost use Rattle.std.specs.Prelude.{slice_index_or};
 ghost use Rattle.std.specs.List.{insert, remove};
 ghost use Rattle.am_record.specs.EntryOrder.{place_cmp, place_of};
 ghost use Rattle.am_record.specs.declared.entry.Entry.{Entry};
@@ -8,9 +9,13 @@ ghost use Rattle.am_list.specs.Entries.{first_such, IsRising};
 ghost use Rattle.am_list.specs.Places.{IsPlaceOf, IsGapFor};
 ghost use Rattle.am_list.specs.Runs.{run_entries};
 ghost use Rattle.am_leaf.specs.Changes.{set_at};
+ghost use Rattle.am_leaf.specs.Seen.{SameRoom, Widened, Fits, KeysFit, ValuesFit};
+ghost use Rattle.am_record.specs.OrderedKey.{bytes_of};
 
 use crate::bits::{change_bit, has_bit, insert_bit, next_bit, remove_bit, split_bits};
-use crate::block::Block;
+use crate::longest::longest;
+use crate::places::Places;
+use crate::values::Values;
 use am_record::{Entry, Key, NoMemory, Value};
 use std::alloc::Global;
 use std::cmp::Ordering;
@@ -21,48 +26,85 @@ use std::marker::Model;
 /// bits that say which are ghosts are those of one word.
 #[derive(Drop)]
 pub struct RawLeaf {
-    places: Block<(u32, Key)>,
-    values: Block<Value>,
+    places: Places,
+    values: Values,
     len: usize,
     ghosts: u32,
 }
 
 impl Model for RawLeaf {
-    ghost use Rattle.std.specs.Prelude.{List};
-    ghost use Rattle.am_record.specs.declared.entry.Entry.{Entry};
-    ghost use Rattle.am_list.specs.EntryCode.{entries_code};
-    ghost use Rattle.am_leaf.specs.Leaf.{entries, IsLeaf};
+    ghost use Rattle.am_leaf.specs.Seen.{Seen, seen_code};
 
-    ghost Value = { List Entry };
+    ghost Value = { Seen };
 
-    ghost coded = { entries_code };
+    ghost coded = { seen_code };
 
-    ghost view = { entries };
+    ghost use Rattle.am_leaf.specs.Leaf.{seen, IsLeaf};
+
+    ghost view = { seen };
 
     ghost invariant = { IsLeaf };
 }
 
 impl RawLeaf {
-    /// A leaf with no entries, and all the memory that it will ever have.
+    /// A leaf with no entries, and room for keys and values of so many bytes.
     ///
     /// # Errors
     /// NoMemory, where memory was refused.
-    pub fn new(alloc: Global) -> Result<RawLeaf, NoMemory>
-        ensures { IfOk result (λ leaf. leaf ≡ []) }
+    pub fn new(alloc: Global, key_len: usize, value_len: usize) -> Result<RawLeaf, NoMemory>
+        requires key { key_len ≤ 32 }
+        requires value { value_len ≤ 64 }
+        ensures empty { IfOk result (λ leaf. leaf.entries ≡ []) }
+        ensures room { IfOk result (λ leaf. Fits leaf key_len value_len) }
     {
         Ok(RawLeaf {
-            places: Block::new(alloc)?,
-            values: Block::new(alloc)?,
+            places: Places::new(alloc, key_len)?,
+            values: Values::new(alloc, value_len)?,
             len: 0,
             ghosts: 0,
         })
     }
 
+    /// A leaf with no entries, and room for such keys and values as this one has room for.
+    ///
+    /// # Errors
+    /// NoMemory, where memory was refused.
+    pub fn new_like(&self, alloc: Global) -> Result<RawLeaf, NoMemory>
+        ensures entries { IfOk result (λ leaf. leaf.entries ≡ []) }
+        ensures room { IfOk result (λ leaf. SameRoom leaf self.now) }
+    {
+        Ok(RawLeaf {
+            places: self.places.new_like(alloc)?,
+            values: self.values.new_like(alloc)?,
+            len: 0,
+            ghosts: 0,
+        })
+    }
+
+    /// Gets room for keys and values of so many bytes.
+    ///
+    /// # Errors
+    /// NoMemory, where memory was refused. There may be more room for keys then; the entries are as before.
+    pub fn widen(&mut self, alloc: Global, key_len: usize, value_len: usize) -> Result<(), NoMemory>
+        requires key { key_len ≤ 32 }
+        requires value { value_len ≤ 64 }
+        ensures widened { Widened self.new self.old }
+        ensures ok { OnOk result (Fits self.new key_len value_len) }
+    {
+        if key_len > self.places.room() {
+            self.places.widen(alloc, self.len)?;
+        }
+        if value_len > self.values.room() {
+            self.values.widen(alloc, self.len)?;
+        }
+        Ok(())
+    }
+
     /// How many entries it holds.
     pub fn len(&self) -> usize
-        ensures all { result ≡ length self.now }
+        ensures all { result ≡ length self.now.entries }
         ensures most { result ≤ 32 }
-        ensures rising { IsRising self.now }
+        ensures rising { IsRising self.now.entries }
     {
         self.len
     }
@@ -70,22 +112,22 @@ impl RawLeaf {
     /// The entry at the index.
     #[tactic(auto, using(crate::proofs::Leaves::counted))]
     pub fn get(&self, at: usize) -> Entry
-        requires { at < length self.now }
-        ensures { result ≡ slice_index_or self.now at result }
+        requires { at < length self.now.entries }
+        ensures { result ≡ slice_index_or self.now.entries at result }
     {
-        let (part, key) = *self.places.get(at);
+        let (part, key) = self.places.get(at);
         Entry {
             part,
             key,
-            value: *self.values.get(at),
+            value: self.values.get(at),
             is_ghost: has_bit(self.ghosts, at),
         }
     }
 
     /// The first ghost from the index on. The word of bits says where it is, so that no other entry is looked at.
     pub fn ghost_from(&self, at: usize) -> Option<Entry>
-        requires { at ≤ length self.now }
-        ensures { result ≡ first_such (λ e. e.is_ghost) (drop at self.now) }
+        requires { at ≤ length self.now.entries }
+        ensures { result ≡ first_such (λ e. e.is_ghost) (drop at self.now.entries) }
     {
         let next = next_bit(self.ghosts, at)?;
         Some(self.get(next))
@@ -94,8 +136,8 @@ impl RawLeaf {
     // Where the entry at the index stands against a place. Its value is not read.
     #[tactic(auto, using(crate::proofs::Leaves::counted))]
     fn cmp_at(&self, at: usize, part: u32, key: Key) -> Ordering
-        requires { at < length self.now }
-        ensures { (d : Entry) → result ≡ place_cmp (place_of (slice_index_or self.now at d)) (part, key) }
+        requires { at < length self.now.entries }
+        ensures { (d : Entry) → result ≡ place_cmp (place_of (slice_index_or self.now.entries at d)) (part, key) }
     {
         let place = self.places.get(at);
         place.0.cmp(&part).then(place.1.cmp(&key))
@@ -104,9 +146,9 @@ impl RawLeaf {
     /// The index of the entry of a partition and key, or else, as an error, the index where it
     /// would stand: the number of entries below.
     pub fn find(&self, part: u32, key: Key) -> Result<usize, usize>
-        ensures found { IfOk result (IsPlaceOf self.now part key) }
-        ensures absent { IfErr result (IsGapFor self.now part key) }
-        ensures rising { IsRising self.now }
+        ensures found { IfOk result (IsPlaceOf self.now.entries part key) }
+        ensures absent { IfErr result (IsGapFor self.now.entries part key) }
+        ensures rising { IsRising self.now.entries }
     {
         let mut low = 0;
         let mut high = self.len();
@@ -125,9 +167,11 @@ impl RawLeaf {
     /// that there is room, and that the entry's place goes there.
     #[tactic(auto, using(crate::proofs::Leaves::counted, crate::proofs::Leaves::room_in_ghosts))]
     pub fn insert_at(&mut self, at: usize, entry: Entry)
-        requires room { length self.old < 32 }
-        requires place { IsGapFor self.old entry.part entry.key at }
-        ensures { self.new ≡ insert self.old at entry }
+        requires room { length self.old.entries < 32 }
+        requires place { IsGapFor self.old.entries entry.part entry.key at }
+        requires fits { Fits self.old (length (bytes_of entry.key)) (length entry.value) }
+        ensures entries { self.new.entries ≡ insert self.old.entries at entry }
+        ensures same_room { SameRoom self.new self.old }
     {
         self.places.insert(self.len, at, (entry.part, entry.key));
         self.values.insert(self.len, at, entry.value);
@@ -135,32 +179,52 @@ impl RawLeaf {
         self.len += 1;
     }
 
-    /// Fills an empty leaf with records of one partition, all live. The caller sees to it that they rise and that there
-    /// is room.
-    pub fn fill(&mut self, part: u32, pairs: &[(Key, Value)])
-        requires empty { self.old ≡ [] }
-        requires room { length pairs.now ≤ 32 }
-        requires rising { IsRising (run_entries part pairs.now) }
-        ensures { self.new ≡ run_entries part pairs.now }
+    /// Puts records of one partition, all live, behind the entries. The caller sees to it that they rise and that there
+    /// is room for so many.
+    ///
+    /// # Errors
+    /// NoMemory, where memory for longer keys or values was refused; the entries are as before.
+    pub fn append(
+        &mut self,
+        alloc: Global,
+        part: u32,
+        pairs: &[(Key, Value)],
+    ) -> Result<(), NoMemory>
+        requires room { length self.old.entries + length pairs.now ≤ 32 }
+        requires rising { IsRising (self.old.entries ++ run_entries part pairs.now) }
+        ensures ok { OnOk result (self.new.entries ≡ self.old.entries ++ run_entries part pairs.now) }
+        ensures key_room { self.old.key_room ≤ self.new.key_room }
+        ensures value_room { self.old.value_room ≤ self.new.value_room }
+        ensures err { OnErr result (self.new.entries ≡ self.old.entries) }
     {
-        for (at, pair) in pairs.iter().enumerate() {
-            self.insert_at(
-                at,
-                Entry {
-                    part,
-                    key: pair.0,
-                    value: pair.1,
-                    is_ghost: false,
-                },
-            );
-        }
+        let (key_len, value_len) = longest(pairs);
+        self.widen(alloc, key_len, value_len)?;
+        self.extend(part, pairs, key_len, value_len);
+        Ok(())
+    }
+
+    // Puts records behind the entries that all have room.
+    fn extend(&mut self, part: u32, pairs: &[(Key, Value)], key_len: usize, value_len: usize)
+        requires room { length self.old.entries + length pairs.now ≤ 32 }
+        requires rising { IsRising (self.old.entries ++ run_entries part pairs.now) }
+        requires fits { Fits self.old key_len value_len }
+        requires keys { KeysFit pairs.now key_len }
+        requires values { ValuesFit pairs.now value_len }
+        ensures entries { self.new.entries ≡ self.old.entries ++ run_entries part pairs.now }
+        ensures same_room { SameRoom self.new self.old }
+    {
+        self.places.extend(self.len, part, pairs, key_len);
+        self.values.extend(self.len, pairs, value_len);
+        self.len += pairs.len();
     }
 
     /// Writes over the value of the entry at the index, and whether it is a ghost.
     #[tactic(auto, using(crate::proofs::Leaves::counted))]
     pub fn set_at(&mut self, at: usize, value: Value, is_ghost: bool)
-        requires { at < length self.old }
-        ensures { self.new ≡ set_at self.old at value is_ghost }
+        requires in_range { at < length self.old.entries }
+        requires fits { length value ≤ self.old.value_room }
+        ensures entries { self.new.entries ≡ set_at self.old.entries at value is_ghost }
+        ensures same_room { SameRoom self.new self.old }
     {
         self.values.set(at, value);
         self.ghosts = change_bit(self.ghosts, at, is_ghost);
@@ -169,9 +233,10 @@ impl RawLeaf {
     /// Takes the entry at the index out; those above it move down by one.
     #[tactic(auto, using(crate::proofs::Leaves::counted))]
     pub fn remove_at(&mut self, at: usize) -> Entry
-        requires { at < length self.old }
-        ensures entry { result ≡ slice_index_or self.old at result }
-        ensures others { self.new ≡ remove self.old at }
+        requires { at < length self.old.entries }
+        ensures entry { result ≡ slice_index_or self.old.entries at result }
+        ensures others { self.new.entries ≡ remove self.old.entries at }
+        ensures same_room { SameRoom self.new self.old }
     {
         let is_ghost = has_bit(self.ghosts, at);
         let (part, key) = self.places.remove(self.len, at);
@@ -189,10 +254,13 @@ impl RawLeaf {
     /// Moves the entries from the index on to another leaf, which is empty.
     #[tactic(auto, using(crate::proofs::Leaves::counted))]
     pub fn split_into(&mut self, other: &mut RawLeaf, at: usize)
-        requires in_range { at ≤ length self.old }
-        requires empty { other.old ≡ [] }
-        ensures front { self.new ≡ take at self.old }
-        ensures back { other.new ≡ drop at self.old }
+        requires in_range { at ≤ length self.old.entries }
+        requires empty { other.old.entries ≡ [] }
+        requires alike { SameRoom other.old self.old }
+        ensures front { self.new.entries ≡ take at self.old.entries }
+        ensures back { other.new.entries ≡ drop at self.old.entries }
+        ensures same_room { SameRoom self.new self.old }
+        ensures other_room { SameRoom other.new self.old }
     {
         self.places.split_into(self.len, &mut other.places, at);
         self.values.split_into(self.len, &mut other.values, at);

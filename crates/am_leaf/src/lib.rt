@@ -4,5 +4,8 @@
 mod bits;
 mod block;
 mod leaf;
+mod longest;
+mod places;
+mod values;
 
 pub use leaf::RawLeaf;

@@ -8,6 +8,8 @@ pub mod KeyMix
 pub mod Records
 pub mod Interval
 pub mod ValueFields
+pub mod ShortFields
+pub mod ShortKeyFields
 pub mod EntryOrder
 pub mod Locks
 pub mod Plain

@@ -8,7 +8,7 @@ ghost use Rattle.am_record.specs.KeyWords.{word_at, key_words, AreBytes};
 ghost use Rattle.am_record.specs.OrderedKey.{key_of, bytes_of, number_key, key_least, IsLeast};
 
 use crate::hash_key::HashKey;
-use crate::limits::MAX_KEY_LEN;
+use crate::limits::{MAX_KEY_LEN, SHORT_LEN};
 use std::cmp::Ordering;
 use std::hash::{Hash, Hasher};
 use std::marker::Model;
@@ -42,7 +42,65 @@ impl Model for Key {
     ghost inverse_ok = { λ a h. fields_of-view a h };
 }
 
+/// A key of at most 16 bytes, for where many stand side by side. The bytes past its length are zero.
+#[derive(Clone, Copy, Debug)]
+pub struct ShortKey {
+    bytes: [u8; 16],
+    len: u32,
+}
+
+impl Model for ShortKey {
+    ghost use Rattle.std.specs.Prelude.{take, length};
+    ghost use Rattle.am_record.specs.OrderedKey.{OrderedKey, key_code, key_of, bytes_of};
+    ghost use Rattle.am_record.specs.PaddedBytes.{IsPadded};
+
+    ghost Value = { OrderedKey };
+
+    ghost coded = { key_code };
+
+    ghost use Rattle.am_record.specs.ShortKeyFields.{padded_short, key_fields_of-view};
+
+    ghost view = { λ k. key_of (take k.len k.bytes) };
+
+    ghost invariant = { λ k. IsPadded 16 k.bytes k.len };
+
+    ghost inverse = { λ k. record { bytes = padded_short (bytes_of k); len = length (bytes_of k) } };
+
+    ghost inverse_ok = { λ a h. key_fields_of-view a h };
+}
+
+impl ShortKey {
+    /// The same key.
+    pub fn key(&self) -> Key
+        ensures value { result ≡ self.now }
+        ensures short { length (bytes_of self.now) ≤ 16 }
+    {
+        let mut bytes = [0; 32];
+        bytes[..16].copy_from_slice(&self.bytes);
+        Key {
+            bytes,
+            len: self.len,
+        }
+    }
+}
+
 impl Key {
+    /// The same key in room for 16 bytes, where it has no more.
+    pub fn short(&self) -> Option<ShortKey>
+        ensures short { IsSome result ↔ (length (bytes_of self.now) ≤ 16) }
+        ensures value { IfSome result (λ k. k ≡ self.now) }
+    {
+        if self.len as usize > SHORT_LEN {
+            return None;
+        }
+        let mut bytes = [0; 16];
+        bytes.copy_from_slice(&self.bytes[..16]);
+        Some(ShortKey {
+            bytes,
+            len: self.len,
+        })
+    }
+
     /// The key of the bytes, where they are at most 32.
     pub fn new(bytes: &[u8]) -> Option<Self>
         ensures short { IsSome result ↔ (length bytes.now ≤ 32) }

@@ -17,17 +17,17 @@ mod value;
 pub use admission::is_limit;
 pub use entry::Entry;
 pub use hash_key::HashKey;
-pub use key::Key;
+pub use key::{Key, ShortKey};
 pub use laws::{
     fronts_follow_keys, keys_are_ordered, ranges_are_sets_of_keys, shared_is_compatible_with_shared,
 };
 pub use limits::{
     MAX_ACTIVE, MAX_BEGUN, MAX_KEY_LEN, MAX_LOCKS, MAX_OPS, MAX_RUN_RECORDS, MAX_RUNS,
-    MAX_VALUE_LEN,
+    MAX_VALUE_LEN, SHORT_LEN,
 };
 pub use lock::{Lock, Mode};
 pub use memory::NoMemory;
 pub use pairs::{Pairs, is_rising};
 pub use range::Range;
 pub use step::{Op, Refusal, Reply, Step};
-pub use value::Value;
+pub use value::{ShortValue, Value};

@@ -7,6 +7,9 @@ pub const MAX_KEY_LEN: usize = 32;
 /// The most bytes that a value may have.
 pub const MAX_VALUE_LEN: usize = 64;
 
+/// The most bytes of a short key or value.
+pub const SHORT_LEN: usize = 16;
+
 /// The most transactions that are active at once.
 pub const MAX_ACTIVE: usize = 64;
 

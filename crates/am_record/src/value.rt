@@ -2,7 +2,7 @@
 
 ghost use Rattle.std.specs.Prelude.{◌≡◌, ◌↔◌, ◌≤◌, IsSome, IfSome, length};
 
-use crate::limits::MAX_VALUE_LEN;
+use crate::limits::{MAX_VALUE_LEN, SHORT_LEN};
 use std::marker::Model;
 
 /// At most 64 bytes. The bytes past its length are zero, so equal values are equal byte by byte.
@@ -53,5 +53,70 @@ impl Value {
         ensures short { length self.now ≤ 64 }
     {
         &self.bytes[..self.len as usize]
+    }
+}
+
+/// A value of at most 16 bytes, for where many stand side by side. The bytes past its length are zero.
+#[derive(Clone, Copy, Debug)]
+pub struct ShortValue {
+    bytes: [u8; 16],
+    len: u32,
+}
+
+impl Model for ShortValue {
+    ghost use Rattle.std.specs.Prelude.{ℕ, List, take, length, replicate, ◌++◌, ◌-◌};
+    ghost use Rattle.am_record.specs.PaddedBytes.{IsPadded};
+
+    ghost Value = { List ℕ };
+
+    ghost view = { λ v. take v.len v.bytes };
+
+    ghost invariant = { λ v. IsPadded 16 v.bytes v.len };
+
+    ghost inverse = { λ xs. record { bytes = xs ++ replicate (16 - length xs) 0; len = length xs } };
+
+    ghost use Rattle.am_record.specs.ShortFields.{value_fields_of-view};
+
+    ghost inverse_ok = { λ a h. value_fields_of-view a h };
+}
+
+impl Value {
+    /// How many bytes it has.
+    pub fn len(&self) -> usize
+        ensures all { result ≡ length self.now }
+        ensures short { length self.now ≤ 64 }
+    {
+        self.len as usize
+    }
+
+    /// The same value in room for 16 bytes, where it has no more.
+    pub fn short(&self) -> Option<ShortValue>
+        ensures short { IsSome result ↔ (length self.now ≤ 16) }
+        ensures value { IfSome result (λ v. v ≡ self.now) }
+    {
+        if self.len as usize > SHORT_LEN {
+            return None;
+        }
+        let mut bytes = [0; 16];
+        bytes.copy_from_slice(&self.bytes[..16]);
+        Some(ShortValue {
+            bytes,
+            len: self.len,
+        })
+    }
+}
+
+impl ShortValue {
+    /// The same value.
+    pub fn value(&self) -> Value
+        ensures value { result ≡ self.now }
+        ensures short { length self.now ≤ 16 }
+    {
+        let mut bytes = [0; 64];
+        bytes[..16].copy_from_slice(&self.bytes);
+        Value {
+            bytes,
+            len: self.len,
+        }
     }
 }

@@ -25,20 +25,22 @@ fn entry_like(number: u64, like: u64) -> Entry {
 }
 
 // Adds the entry, unless its place is taken or the leaf is full.
-fn add(leaf: &mut RawLeaf, entry: Entry) {
+fn add(alloc: Global, leaf: &mut RawLeaf, entry: Entry) -> Result<(), NoMemory> {
+    leaf.widen(alloc, entry.key.bytes().len(), entry.value.len())?;
     if leaf.len() < 32 {
         if let Err(at) = leaf.find(entry.part, entry.key) {
             leaf.insert_at(at, entry);
         }
     }
+    Ok(())
 }
 
 // A leaf of the entries of 0 to 31, added from both ends.
 fn full(alloc: Global) -> Result<RawLeaf, NoMemory> {
-    let mut leaf = RawLeaf::new(alloc)?;
+    let mut leaf = RawLeaf::new(alloc, 16, 16)?;
     for number in 0..16_u64 {
-        add(&mut leaf, entry(31 - number));
-        add(&mut leaf, entry(number));
+        add(alloc, &mut leaf, entry(31 - number))?;
+        add(alloc, &mut leaf, entry(number))?;
     }
     Ok(leaf)
 }
@@ -75,15 +77,17 @@ fn ghost_from(leaf: &RawLeaf, at: usize) -> Option<Entry> {
 }
 
 // Gives the entry at the index the value and ghost bit of another.
-fn set(leaf: &mut RawLeaf, at: usize, like: Entry) {
+fn set(alloc: Global, leaf: &mut RawLeaf, at: usize, like: Entry) -> Result<(), NoMemory> {
+    leaf.widen(alloc, 0, like.value.len())?;
     if at < leaf.len() {
         leaf.set_at(at, like.value, like.is_ghost);
     }
+    Ok(())
 }
 
 // Splits the leaf, where it is long enough.
 fn split(alloc: Global, leaf: &mut RawLeaf, at: usize) -> Result<RawLeaf, NoMemory> {
-    let mut other = RawLeaf::new(alloc)?;
+    let mut other = leaf.new_like(alloc)?;
     if at <= leaf.len() {
         leaf.split_into(&mut other, at);
     }
@@ -92,7 +96,7 @@ fn split(alloc: Global, leaf: &mut RawLeaf, at: usize) -> Result<RawLeaf, NoMemo
 
 #[test]
 fn an_empty_leaf_finds_nothing(rt: HostRuntime) -> Result<(), Fail> {
-    let leaf = RawLeaf::new(rt.alloc())?;
+    let leaf = RawLeaf::new(rt.alloc(), 16, 16)?;
     assert_eq!(rt; leaf.len(), 0);
     assert!(rt; leaf.find(0, Key::least()) == Err(0));
     assert!(rt; leaf.find(7, Key::of_u64(7)) == Err(0));
@@ -122,7 +126,7 @@ fn ghosts_move_with_their_slots(rt: HostRuntime) -> Result<(), Fail> {
 #[test]
 fn an_entry_gets_its_value_and_bit(rt: HostRuntime) -> Result<(), Fail> {
     let mut leaf = full(rt.alloc())?;
-    set(&mut leaf, 9, entry(4));
+    set(rt.alloc(), &mut leaf, 9, entry(4))?;
     assert!(rt; get(&leaf, 9) == Some(entry_like(9, 4)));
     assert!(rt; get(&leaf, 8) == Some(entry(8)));
     assert!(rt; get(&leaf, 11) == Some(entry(11)));
@@ -137,9 +141,69 @@ fn finds_the_next_ghost(rt: HostRuntime) -> Result<(), Fail> {
         assert!(rt; leaf.ghost_from(at) == Some(entry(at as u64 | 1)));
     }
     assert!(rt; leaf.ghost_from(leaf.len()).is_none());
-    set(&mut leaf, 31, entry(0));
+    set(rt.alloc(), &mut leaf, 31, entry(0))?;
     assert!(rt; ghost_from(&leaf, 29) == Some(entry(29)));
     assert!(rt; ghost_from(&leaf, 30).is_none());
     assert!(rt; ghost_from(&leaf, 32).is_none());
+    Ok(())
+}
+
+// A run of one partition with a key and a value of so many bytes at its end.
+fn run(alloc: Global, key_len: usize, value_len: usize) -> Result<Vec<(Key, Value)>, NoMemory> {
+    let mut pairs = Vec::with_capacity(alloc, 4)?;
+    let bytes = [0xFF; 64];
+    for number in 0..3_u64 {
+        pairs.push((Key::of_u64(number), entry(number).value))?;
+    }
+    let key = Key::new(&bytes[..key_len.min(32)]).unwrap();
+    let value = Value::new(&bytes[..value_len.min(64)]).unwrap();
+    pairs.push((key, value))?;
+    Ok(pairs)
+}
+
+// Adds the records one by one.
+fn added(alloc: Global, pairs: &[(Key, Value)]) -> Result<RawLeaf, NoMemory> {
+    let mut leaf = RawLeaf::new(alloc, 16, 16)?;
+    for pair in pairs {
+        let entry = Entry {
+            part: 7,
+            key: pair.0,
+            value: pair.1,
+            is_ghost: false,
+        };
+        add(alloc, &mut leaf, entry)?;
+    }
+    Ok(leaf)
+}
+
+// Whether these are the records, live.
+fn holds_run(leaf: &RawLeaf, pairs: &[(Key, Value)]) -> bool {
+    for (at, pair) in pairs.iter().enumerate() {
+        let Some(entry) = get(leaf, at) else {
+            return false;
+        };
+        if entry.key != pair.0 || entry.value != pair.1 || entry.is_ghost {
+            return false;
+        }
+    }
+    leaf.len() == pairs.len()
+}
+
+#[test]
+fn records_of_every_length_stand(rt: HostRuntime) -> Result<(), Fail> {
+    for key_len in 9..33 {
+        for value_len in [0, 1, 15, 16, 17, 32, 63, 64] {
+            let pairs = run(rt.alloc(), key_len, value_len)?;
+            let mut leaf = added(rt.alloc(), &pairs)?;
+            assert!(rt; holds_run(&leaf, &pairs));
+            assert!(rt; leaf.find(7, pairs[3].0) == Ok(3));
+            let upper = split(rt.alloc(), &mut leaf, 2)?;
+            assert!(rt; holds_run(&leaf, &pairs[..2]));
+            assert!(rt; holds_run(&upper, &pairs[2..]));
+            set(rt.alloc(), &mut leaf, 0, get(&upper, 1).unwrap())?;
+            assert!(rt; get(&leaf, 0).unwrap().value == pairs[3].1);
+            assert!(rt; get(&leaf, 1).unwrap().value == pairs[1].1);
+        }
+    }
     Ok(())
 }

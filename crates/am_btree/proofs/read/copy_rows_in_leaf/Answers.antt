@@ -14,14 +14,14 @@ a_ghost false h = absurd (cc)
 
 pub loop-at-init : goal.loop-at-init
 loop-at-init c =
-    subst (λ (l : Records). AreCopied c.args.leaf.now c.args.part c.args.range c.args.max c.args.rows.now.items l
-    c.start_in_leaf-from.result) (sym c.reserve.ensures.items)
-    (none_copied c.args.leaf.now c.args.part c.args.range c.args.max c.args.rows.now.items c.lo.ensures.value
+    subst (λ (l : Records). AreCopied c.args.leaf.now.entries c.args.part c.args.range c.args.max c.args.rows.now.items
+    l c.start_in_leaf-from.result) (sym c.reserve.ensures.items)
+    (none_copied c.args.leaf.now.entries c.args.part c.args.range c.args.max c.args.rows.now.items c.lo.ensures.value
     c.hi.ensures.value c.start_in_leaf-from.ensures.begins c.start_in_leaf-to.ensures.begins c.requires)
 
 pub loop-at-preserved : goal.loop-at-preserved
 loop-at-preserved c =
-    let es = c.args.leaf.now in let at = c.loop-at.at in let e = c.get-entry.result in
+    let es = c.args.leaf.now.entries in let at = c.loop-at.at in let e = c.get-entry.result in
     let inside : at < length es = omega (arith, c.loop-at-test.true, c.start_in_leaf-to.ensures.begins.in_range) in
     elim c.if-not-entry.branch [
       | then-not-entry+in_ok-push w ↦
@@ -40,10 +40,10 @@ loop-at-preserved c =
 
 pub returns-then-len-max-clause-copied : goal.returns-then-len-max-clause-copied
 returns-then-len-max-clause-copied c =
-    are_enough c.args.leaf.now c.args.part c.args.range c.args.max c.args.rows.now.items c.loop-at.invariant
+    are_enough c.args.leaf.now.entries c.args.part c.args.range c.args.max c.args.rows.now.items c.loop-at.invariant
     (omega (arith, c.if-len-max.true, c.len.ensures, c.loop-at.rows.ok.0))
 
 pub returns-clause-copied : goal.returns-clause-copied
-returns-clause-copied c = all_copied c.args.leaf.now c.args.part c.args.range c.args.max c.args.rows.now.items
+returns-clause-copied c = all_copied c.args.leaf.now.entries c.args.part c.args.range c.args.max c.args.rows.now.items
     c.lo.ensures.value c.hi.ensures.value c.start_in_leaf-from.ensures.begins c.start_in_leaf-to.ensures.begins
     c.loop-at.invariant c.loop-at-test.false

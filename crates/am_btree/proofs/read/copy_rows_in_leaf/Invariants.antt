@@ -2,4 +2,4 @@ use Rattle.am_list.proofs.Rows.{AreCopied}
 use Rattle.am_btree.proofs.read.copy_rows_in_leaf.Given as goal
 
 abbrev pub invariant-loop-at : goal.invariant-loop-at
-invariant-loop-at l = AreCopied l.leaf l.fn.part l.fn.range l.fn.max l.fn.rows.items l.rows.items l.at
+invariant-loop-at l = AreCopied l.leaf.entries l.fn.part l.fn.range l.fn.max l.fn.rows.items l.rows.items l.at

@@ -3,5 +3,5 @@ use Rattle.am_list.proofs.Searches.{next_ghost_at}
 use Rattle.am_btree.proofs.read.next_ghost_in_leaf.Goals as goal
 
 pub returns-clause-found : goal.returns-clause-found
-returns-clause-found c = c.ghost_from.ensures ∙ next_ghost_at c.args.leaf.now c.args.part c.args.key
+returns-clause-found c = c.ghost_from.ensures ∙ next_ghost_at c.args.leaf.now.entries c.args.part c.args.key
     c.start_in_leaf.result c.start_in_leaf.ensures.begins

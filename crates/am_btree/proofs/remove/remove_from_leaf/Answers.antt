@@ -5,13 +5,14 @@ use Rattle.am_btree.proofs.remove.remove_from_leaf.Goals as goal
 
 pub unreachable-requires : goal.unreachable-requires
 unreachable-requires c =
-    let none = find_absent c.args.leaf.now c.args.part c.args.key c.in_default.field-0 c.in_default.ensures.absent in
+    let none = find_absent c.args.leaf.now.entries c.args.part c.args.key c.in_default.field-0
+    c.in_default.ensures.absent in
     false≢true (subst IsSome none c.requires)
 
 pub returns-clause-entry : goal.returns-clause-entry
-returns-clause-entry c = entry_at_found c.args.leaf.now c.args.part c.args.key c.in-Ok.at c.in-Ok.ensures.found
+returns-clause-entry c = entry_at_found c.args.leaf.now.entries c.args.part c.args.key c.in-Ok.at c.in-Ok.ensures.found
     c.remove_at-entry.result c.remove_at-entry.ensures.entry
 
 pub returns-clause-others : goal.returns-clause-others
-returns-clause-others c = c.remove_at-entry.ensures.others ∙ remove_found c.args.leaf.now c.args.part c.args.key
+returns-clause-others c = c.remove_at-entry.ensures.others ∙ remove_found c.args.leaf.now.entries c.args.part c.args.key
     c.in-Ok.at c.in-Ok.ensures.found

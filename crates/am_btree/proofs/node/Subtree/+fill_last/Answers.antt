@@ -31,13 +31,17 @@ fill_last-requires t c =
 pub invariant_of-self : goal.invariant_of-self
 invariant_of-self t c = elim c.match-self.branch [
   | in-Leaf w ↦
-      let seen : c.args.self.now ≡ leaf_shape w.in-Leaf.leaf = sym c.self.view_is ∙ ap shape_of w.in-Leaf.is in
+      let seen : c.args.self.now ≡ leaf_shape w.in-Leaf.leaf.entries = sym c.self.view_is ∙ ap shape_of w.in-Leaf.is in
       let rising = subst (λ (s : Shape). IsRising (s.entries ++ run_entries c.args.part c.args.pairs.now)) seen
       c.requires.rising in
+      let old = subst IsTree w.in-Leaf.is c.self.invariant in
       rw w.self-inside-is (
         w.fill_leaf.ensures.most,
-        subst IsRising (sym w.fill_leaf.ensures.entries)
-            (front_rises c.args.part w.in-Leaf.leaf c.args.pairs.now rising w.fill_leaf.result),
+        (
+          subst IsRising (sym w.fill_leaf.ensures.entries)
+              (front_rises c.args.part w.in-Leaf.leaf.entries c.args.pairs.now rising w.fill_leaf.result),
+          omega (arith, old.1.1, w.fill_leaf.ensures.wide),
+        ),
       )
   | in-Inner w ↦
       let ls = w.in-Inner.field-0.items in let ks = w.in-Inner.children.items in let k = w.index_mut.result.now in
@@ -57,7 +61,7 @@ invariant_of-self t c = elim c.match-self.branch [
 pub returns-clause-entries : goal.returns-clause-entries
 returns-clause-entries t c = elim c.match-self.branch [
   | in-Leaf w ↦
-      let seen : c.args.self.now ≡ leaf_shape w.in-Leaf.leaf = sym c.self.view_is ∙ ap shape_of w.in-Leaf.is in
+      let seen : c.args.self.now ≡ leaf_shape w.in-Leaf.leaf.entries = sym c.self.view_is ∙ ap shape_of w.in-Leaf.is in
       rw (w.result-is, w.self-inside-is) (w.fill_leaf.ensures.entries ∙
       sym (ap (λ (s : Shape). s.entries ++ run_entries c.args.part (take w.fill_leaf.result c.args.pairs.now))
       seen))
@@ -80,7 +84,7 @@ returns-clause-entries t c = elim c.match-self.branch [
 pub returns-clause-depth : goal.returns-clause-depth
 returns-clause-depth t c = elim c.match-self.branch [
   | in-Leaf w ↦
-      let seen : c.args.self.now ≡ leaf_shape w.in-Leaf.leaf = sym c.self.view_is ∙ ap shape_of w.in-Leaf.is in
+      let seen : c.args.self.now ≡ leaf_shape w.in-Leaf.leaf.entries = sym c.self.view_is ∙ ap shape_of w.in-Leaf.is in
       rw w.self-inside-is (sym (ap (λ (s : Shape). s.depth) seen))
   | in-Inner w ↦
       let ls = w.in-Inner.field-0.items in let ks = w.in-Inner.children.items in let k = w.index_mut.result.now in

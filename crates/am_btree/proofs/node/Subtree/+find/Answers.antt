@@ -26,14 +26,14 @@ child_for-at-requires-clause-some t c =
 
 pub returns-in_default-clause-found : goal.returns-in_default-clause-found
 returns-in_default-clause-found t c =
-    let seen : c.args.self.now ≡ leaf_shape c.in-Leaf.leaf = sym c.self.view_is ∙ ap shape_of c.in-Leaf.is in
-    sym (ap (λ (s : Shape). find s.entries c.args.part c.args.key) seen ∙ find_absent c.in-Leaf.leaf c.args.part
+    let seen : c.args.self.now ≡ leaf_shape c.in-Leaf.leaf.entries = sym c.self.view_is ∙ ap shape_of c.in-Leaf.is in
+    sym (ap (λ (s : Shape). find s.entries c.args.part c.args.key) seen ∙ find_absent c.in-Leaf.leaf.entries c.args.part
     c.args.key c.in_default.field-0 c.in_default.ensures.absent)
 
 pub returns-in-Ok-clause-found : goal.returns-in-Ok-clause-found
 returns-in-Ok-clause-found t c =
-    let seen : c.args.self.now ≡ leaf_shape c.in-Leaf.leaf = sym c.self.view_is ∙ ap shape_of c.in-Leaf.is in
-    sym (ap (λ (s : Shape). find s.entries c.args.part c.args.key) seen ∙ find_found c.in-Leaf.leaf c.args.part
+    let seen : c.args.self.now ≡ leaf_shape c.in-Leaf.leaf.entries = sym c.self.view_is ∙ ap shape_of c.in-Leaf.is in
+    sym (ap (λ (s : Shape). find s.entries c.args.part c.args.key) seen ∙ find_found c.in-Leaf.leaf.entries c.args.part
     c.args.key c.in-Ok.at c.in-Ok.ensures.found c.get-e.result c.get-e.ensures)
 
 pub index-requires : goal.index-requires

@@ -100,7 +100,7 @@ returns-in_default-clause-absent t c =
 pub returns-clause-absent : goal.returns-clause-absent
 returns-clause-absent t c = elim c.match-self.branch [
   | in-Leaf w ↦
-      let seen : c.args.self.now ≡ leaf_shape w.in-Leaf.leaf = sym c.self.view_is ∙ ap shape_of w.in-Leaf.is in
+      let seen : c.args.self.now ≡ leaf_shape w.in-Leaf.leaf.entries = sym c.self.view_is ∙ ap shape_of w.in-Leaf.is in
       rw w.result-is (subst (λ (s : Shape). OnOk w.insert_in_leaf.result
       (find s.entries c.args.entry.part c.args.entry.key ≡ None)) (sym seen) w.insert_in_leaf.ensures.absent)
   | in-Inner+in_ok-more-in-Inner+in_ok-grown-in-Inner+in-Some w ↦
@@ -225,9 +225,9 @@ add_child-requires-clause-in_range t c =
 pub returns-clause-ok : goal.returns-clause-ok
 returns-clause-ok t c = elim c.match-self.branch [
   | in-Leaf w ↦
-      let seen : c.args.self.now ≡ leaf_shape w.in-Leaf.leaf = sym c.self.view_is ∙ ap shape_of w.in-Leaf.is in
+      let seen : c.args.self.now ≡ leaf_shape w.in-Leaf.leaf.entries = sym c.self.view_is ∙ ap shape_of w.in-Leaf.is in
       rw (w.result-is, w.self-inside-is) (subst (λ (s : Shape). IfOk w.insert_in_leaf.result
-      (Grows s (leaf_shape w.insert_in_leaf.new.leaf) c.args.entry c.args.wanted)) (sym seen)
+      (Grows s (leaf_shape w.insert_in_leaf.new.leaf.entries) c.args.entry c.args.wanted)) (sym seen)
       w.insert_in_leaf.ensures.ok)
   | in-Inner+in_ok-more-in-Inner+in_ok-grown-in-Inner+in-Some w ↦
       let x = c.args.entry in let ls = w.in-Inner.separators.items in let ks = w.in-Inner.children.items in

@@ -62,7 +62,7 @@ remove-removed-requires t c =
 
 pub remove_from_leaf-requires : goal.remove_from_leaf-requires
 remove_from_leaf-requires t c =
-    let seen : c.args.self.now ≡ leaf_shape c.in-Leaf.leaf = sym c.self.view_is ∙ ap shape_of c.in-Leaf.is in
+    let seen : c.args.self.now ≡ leaf_shape c.in-Leaf.leaf.entries = sym c.self.view_is ∙ ap shape_of c.in-Leaf.is in
     subst IsSome (ap (λ (s : Shape). find s.entries c.args.part c.args.key) seen) c.requires
 
 -- ---- where no child is freed
@@ -178,7 +178,12 @@ take_out-requires-in-Inner t c =
 
 pub invariant_of-self-2 : goal.invariant_of-self-2
 invariant_of-self-2 t c = elim c.match-self.branch [
-  | in-Leaf w ↦ rw w.self-inside-is (w.remove_from_leaf.ensures.most, w.remove_from_leaf.ensures.rising)
+  | in-Leaf w ↦
+      let old = subst IsTree w.in-Leaf.is c.self.invariant in
+      rw w.self-inside-is (
+        w.remove_from_leaf.ensures.most,
+        (w.remove_from_leaf.ensures.rising, omega (arith, old.1.1, w.remove_from_leaf.ensures.wide)),
+      )
   | in-Inner+else-not-removed+else-len-eq1 w ↦
       let ls = w.in-Inner.separators.items in let ks = w.in-Inner.children.items in let at = w.child_for-at.result in
       let part = c.args.part in let key = c.args.key in
@@ -211,7 +216,7 @@ invariant_of-self-2 t c = elim c.match-self.branch [
 pub returns-clause-entry : goal.returns-clause-entry
 returns-clause-entry t c = elim c.match-self.branch [
   | in-Leaf w ↦
-      let seen : c.args.self.now ≡ leaf_shape w.in-Leaf.leaf = sym c.self.view_is ∙ ap shape_of w.in-Leaf.is in
+      let seen : c.args.self.now ≡ leaf_shape w.in-Leaf.leaf.entries = sym c.self.view_is ∙ ap shape_of w.in-Leaf.is in
       rw w.result-is (ap (λ (s : Shape). entry_at s.entries c.args.part c.args.key) seen ∙
       w.remove_from_leaf.ensures.entry)
   | in-Inner+else-not-removed+else-len-eq1 w ↦
@@ -230,7 +235,7 @@ returns-clause-entry t c = elim c.match-self.branch [
 pub returns-clause-others : goal.returns-clause-others
 returns-clause-others t c = elim c.match-self.branch [
   | in-Leaf w ↦
-      let seen : c.args.self.now ≡ leaf_shape w.in-Leaf.leaf = sym c.self.view_is ∙ ap shape_of w.in-Leaf.is in
+      let seen : c.args.self.now ≡ leaf_shape w.in-Leaf.leaf.entries = sym c.self.view_is ∙ ap shape_of w.in-Leaf.is in
       rw w.self-inside-is (w.remove_from_leaf.ensures.others ∙
       sym (ap (λ (s : Shape). remove_entry s.entries c.args.part c.args.key) seen))
   | in-Inner+else-not-removed+else-len-eq1 w ↦
@@ -258,7 +263,7 @@ returns-clause-others t c = elim c.match-self.branch [
 pub returns-clause-depth : goal.returns-clause-depth
 returns-clause-depth t c = elim c.match-self.branch [
   | in-Leaf w ↦
-      let seen : c.args.self.now ≡ leaf_shape w.in-Leaf.leaf = sym c.self.view_is ∙ ap shape_of w.in-Leaf.is in
+      let seen : c.args.self.now ≡ leaf_shape w.in-Leaf.leaf.entries = sym c.self.view_is ∙ ap shape_of w.in-Leaf.is in
       rw w.self-inside-is (sym (ap (λ (s : Shape). s.depth) seen))
   | in-Inner+else-not-removed+else-len-eq1 w ↦
       let ls = w.in-Inner.separators.items in let ks = w.in-Inner.children.items in let at = w.child_for-at.result in

@@ -55,9 +55,13 @@ set-requires t c =
           c.requires,
     )
 
-pub set_in_leaf-requires : goal.set_in_leaf-requires
-set_in_leaf-requires t c =
-    let seen : c.args.self.now ≡ leaf_shape c.in-Leaf.leaf = sym c.self.view_is ∙ ap shape_of c.in-Leaf.is in
+pub set_in_leaf-requires-clause-fits : goal.set_in_leaf-requires-clause-fits
+set_in_leaf-requires-clause-fits t c = let old = subst IsTree c.in-Leaf.is c.self.invariant in
+    omega (arith, old.1.1, c.len.ensures.short)
+
+pub set_in_leaf-requires-clause-stands : goal.set_in_leaf-requires-clause-stands
+set_in_leaf-requires-clause-stands t c =
+    let seen : c.args.self.now ≡ leaf_shape c.in-Leaf.leaf.entries = sym c.self.view_is ∙ ap shape_of c.in-Leaf.is in
     subst IsSome (ap (λ (s : Shape). find s.entries c.args.part c.args.key) seen) c.requires
 
 pub invariant_of-self : goal.invariant_of-self
@@ -69,9 +73,9 @@ invariant_of-self t c = elim c.match-self.branch [
           arith,
           old.0,
           ap length w.set_in_leaf.ensures.entries,
-          written_long c.args.part c.args.key c.args.value c.args.is_ghost w.in-Leaf.leaf,
+          written_long c.args.part c.args.key c.args.value c.args.is_ghost w.in-Leaf.leaf.entries,
         ),
-        w.set_in_leaf.ensures.rising,
+        (w.set_in_leaf.ensures.rising, omega (arith, old.1.1, w.set_in_leaf.ensures.wide)),
       )
   | in-Inner w ↦
       let ls = w.in-Inner.separators.items in let ks = w.in-Inner.children.items in let at = w.child_for-at.result in
@@ -98,7 +102,7 @@ invariant_of-self t c = elim c.match-self.branch [
 pub returns-clause-entries : goal.returns-clause-entries
 returns-clause-entries t c = elim c.match-self.branch [
   | in-Leaf w ↦
-      let seen : c.args.self.now ≡ leaf_shape w.in-Leaf.leaf = sym c.self.view_is ∙ ap shape_of w.in-Leaf.is in
+      let seen : c.args.self.now ≡ leaf_shape w.in-Leaf.leaf.entries = sym c.self.view_is ∙ ap shape_of w.in-Leaf.is in
       rw w.self-inside-is (w.set_in_leaf.ensures.entries ∙
       sym (ap (λ (s : Shape). set_entry s.entries c.args.part c.args.key c.args.value c.args.is_ghost) seen))
   | in-Inner w ↦
@@ -117,7 +121,7 @@ returns-clause-entries t c = elim c.match-self.branch [
 pub returns-clause-depth : goal.returns-clause-depth
 returns-clause-depth t c = elim c.match-self.branch [
   | in-Leaf w ↦
-      let seen : c.args.self.now ≡ leaf_shape w.in-Leaf.leaf = sym c.self.view_is ∙ ap shape_of w.in-Leaf.is in
+      let seen : c.args.self.now ≡ leaf_shape w.in-Leaf.leaf.entries = sym c.self.view_is ∙ ap shape_of w.in-Leaf.is in
       rw w.self-inside-is (sym (ap (λ (s : Shape). s.depth) seen))
   | in-Inner w ↦
       let ls = w.in-Inner.separators.items in let ks = w.in-Inner.children.items in let at = w.child_for-at.result in

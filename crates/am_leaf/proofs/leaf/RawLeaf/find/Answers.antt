@@ -7,7 +7,7 @@ use Rattle.am_leaf.proofs.leaf.RawLeaf.find.Goals as goal
 
 pub loop-low-preserved-in-Less : goal.loop-low-preserved-in-Less
 loop-low-preserved-in-Less c =
-    let es = c.args.self.now in let held = c.loop-low.invariant in
+    let es = c.args.self.now.entries in let held = c.loop-low.invariant in
     let low : ℕ = c.loop-low.low in let high : ℕ = c.loop-low.high in let middle : ℕ = low + (high - low) / 2 in
     let apart : low < high = c.loop-low-test.true in
     let within : middle < length es = omega (arith, held.in_range) in
@@ -23,7 +23,7 @@ loop-low-preserved-in-Less c =
 
 pub loop-low-preserved : goal.loop-low-preserved
 loop-low-preserved c =
-    let es = c.args.self.now in let held = c.loop-low.invariant in
+    let es = c.args.self.now.entries in let held = c.loop-low.invariant in
     let low : ℕ = c.loop-low.low in let high : ℕ = c.loop-low.high in let middle : ℕ = low + (high - low) / 2 in
     let apart : low < high = c.loop-low-test.true in
     let within : middle < length es = omega (arith, held.in_range) in
@@ -37,7 +37,7 @@ loop-low-preserved c =
 
 pub returns-in-Equal-clause-found : goal.returns-in-Equal-clause-found
 returns-in-Equal-clause-found c =
-    let es = c.args.self.now in let held = c.loop-low.invariant in
+    let es = c.args.self.now.entries in let held = c.loop-low.invariant in
     let low : ℕ = c.loop-low.low in let high : ℕ = c.loop-low.high in let middle : ℕ = low + (high - low) / 2 in
     let apart : low < high = c.loop-low-test.true in
     let within : middle < length es = omega (arith, held.in_range) in

@@ -6,9 +6,9 @@ use Rattle.am_leaf.proofs.leaf.RawLeaf.find.Given as goal
 abbrev pub invariant-loop-low : goal.invariant-loop-low
 invariant-loop-low l = record {
   ordered : l.low ≤ l.high;
-  in_range : l.high ≤ length l.self;
-  below : AllBelow (l.part, l.key) (take l.low l.self);
-  above : AllAbove (l.part, l.key) (drop l.high l.self);
+  in_range : l.high ≤ length l.self.entries;
+  below : AllBelow (l.part, l.key) (take l.low l.self.entries);
+  above : AllAbove (l.part, l.key) (drop l.high l.self.entries);
 }
 
 abbrev pub decreases-loop-low : goal.decreases-loop-low

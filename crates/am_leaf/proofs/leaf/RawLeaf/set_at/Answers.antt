@@ -7,26 +7,30 @@ use Rattle.am_leaf.proofs.BitLemmas.{changed_below}
 use Rattle.am_leaf.proofs.Rising.{rising-set_at}
 use Rattle.am_leaf.proofs.Zips.{entries_of-set}
 use Rattle.am_leaf.proofs.Leaves.{alike, counted}
+use Rattle.am_leaf.specs.Seen.{Seen}
 use Rattle.am_leaf.proofs.leaf.RawLeaf.set_at.Goals as goal
 
-pub returns : goal.returns
-returns c =
+pub returns-clause-entries : goal.returns-clause-entries
+returns-clause-entries c =
     let a = c.self.inside in let held = c.self.invariant in let at = c.args.at in
-    (λ j. entries_of a.places (c.set.ensures j) (c.change_bit-self-inside.ensures j))
-    ∙ entries_of-set a.places a.values a.ghosts at c.args.value c.args.is_ghost (alike a held)
-    (omega (arith, held.places, counted a held _ c.self.view_is, c.requires))
-    ∙ ap (λ l. set_at l at c.args.value c.args.is_ghost) c.self.view_is
+    (λ j. entries_of a.places.items (c.set.ensures.items j) (c.change_bit-self-inside.ensures j))
+    ∙ entries_of-set a.places.items a.values.items a.ghosts at c.args.value c.args.is_ghost (alike a held)
+    (omega (arith, held.places, counted a held _ (ap (λ (s : Seen). s.entries) c.self.view_is), c.requires.in_range))
+    ∙ ap (λ l. set_at l at c.args.value c.args.is_ghost) (ap (λ (s : Seen). s.entries) c.self.view_is)
 
 pub invariant_of-self : goal.invariant_of-self
 invariant_of-self c =
     let a = c.self.inside in let held = c.self.invariant in let at = c.args.at in
-    let rising : IsRising c.args.self.now = subst IsRising c.self.view_is held.rising in
+    let rising : IsRising c.args.self.now.entries = subst IsRising (ap (λ (s : Seen). s.entries) c.self.view_is)
+    held.rising in
     let below = changed_below a.ghosts at a.len c.args.is_ghost
-    (omega (arith, counted a held _ c.self.view_is, c.requires)) held.ghosts in
+    (omega (arith, counted a held _ (ap (λ (s : Seen). s.entries) c.self.view_is), c.requires.in_range))
+    held.ghosts in
     record {
       places = held.places;
-      values = ap length c.set.ensures ∙ length-set a.values at c.args.value ∙ held.values;
+      values = ap length c.set.ensures.items ∙ length-set a.values.items at c.args.value ∙ held.values;
       most = held.most;
       ghosts = subst (λ (m : ℕ). m < 2 ^ a.len) (sym c.change_bit-self-inside.ensures) below;
-      rising = subst IsRising (sym (returns c)) (rising-set_at c.args.self.now at c.args.value c.args.is_ghost rising);
+      rising = subst IsRising (sym (returns-clause-entries c))
+          (rising-set_at c.args.self.now.entries at c.args.value c.args.is_ghost rising);
     }

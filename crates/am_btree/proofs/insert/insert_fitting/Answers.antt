@@ -10,50 +10,54 @@ use Rattle.am_btree.specs.Separators.{separator_place}
 use Rattle.am_btree.specs.Splits.{lower_size}
 use Rattle.am_btree.proofs.Halving.{half_stays, size_range}
 use Rattle.am_btree.proofs.LeafSplit.{joined, rising_both, rising_upper, upper_long, parted_at}
-use Rattle.am_btree.proofs.insert.insert_in_leaf.Goals as goal
+use Rattle.am_btree.proofs.insert.insert_fitting.Goals as goal
 
 pub returns-then-len-lt-ROOM-clause-ok : goal.returns-then-len-lt-ROOM-clause-ok
 returns-then-len-lt-ROOM-clause-ok c = (
   (
     refl,
-    c.insert_at.ensures ∙ insert_gap c.args.leaf.now c.args.entry c.in-Err.at
-        c.in-Err.ensures.absent,
+    c.insert_at.ensures.entries ∙
+        insert_gap c.args.leaf.now.entries c.args.entry c.in-Err.at c.in-Err.ensures.absent,
   ),
   tt,
 )
 
 pub returns-then-len-lt-ROOM-clause-rising : goal.returns-then-len-lt-ROOM-clause-rising
-returns-then-len-lt-ROOM-clause-rising c = subst IsRising (sym c.insert_at.ensures)
-    (rising_insert_gap c.args.leaf.now c.args.entry c.in-Err.at c.in-Err.ensures.absent c.in-Err.ensures.rising)
+returns-then-len-lt-ROOM-clause-rising c = subst IsRising (sym c.insert_at.ensures.entries)
+    (rising_insert_gap c.args.leaf.now.entries c.args.entry c.in-Err.at c.in-Err.ensures.absent c.in-Err.ensures.rising)
 
 pub invariant_of-right : goal.invariant_of-right
 invariant_of-right c =
-    let xs = c.args.leaf.now in let x = c.args.entry in let i = c.in-Err.at in let gap = c.in-Err.ensures.absent in
-    let m = lower_size c.keep_of.result i in
+    let xs = c.args.leaf.now.entries in let x = c.args.entry in let i = c.in-Err.at in let gap = c.in-Err.ensures.absent
+    in let m = lower_size c.keep_of.result i in
     let out = c.split_insert.ensures in
     let range = size_range c.keep_of.result i c.keep_of.ensures.keeps c.keep_of.ensures.room in
-    let long = upper_long xs x i gap c.in-Err.ensures.rising m c.split_insert.new.leaf c.split_insert.new.upper
-    out.front out.back in (
+    let long = upper_long xs x i gap c.in-Err.ensures.rising m c.split_insert.new.leaf.entries
+    c.split_insert.new.upper.entries out.front out.back in (
       omega (arith, c.len-len.ensures.most, c.len-len.ensures.all),
-      rising_upper xs x i gap c.in-Err.ensures.rising m
-          c.split_insert.new.leaf c.split_insert.new.upper out.front out.back,
+      (
+        rising_upper xs x i gap c.in-Err.ensures.rising m c.split_insert.new.leaf.entries
+            c.split_insert.new.upper.entries out.front out.back,
+        omega (arith, out.upper_room, c.requires.wide),
+      ),
     )
 
 pub get-requires : goal.get-requires
 get-requires c =
-    let xs = c.args.leaf.now in let x = c.args.entry in let i = c.in-Err.at in let gap = c.in-Err.ensures.absent in
-    let m = lower_size c.keep_of.result i in
+    let xs = c.args.leaf.now.entries in let x = c.args.entry in let i = c.in-Err.at in let gap = c.in-Err.ensures.absent
+    in let m = lower_size c.keep_of.result i in
     let out = c.split_insert.ensures in
     let range = size_range c.keep_of.result i c.keep_of.ensures.keeps c.keep_of.ensures.room in
-    let long = upper_long xs x i gap c.in-Err.ensures.rising m c.split_insert.new.leaf c.split_insert.new.upper
-    out.front out.back in
+    let long = upper_long xs x i gap c.in-Err.ensures.rising m c.split_insert.new.leaf.entries
+    c.split_insert.new.upper.entries out.front out.back in
     omega (arith, c.len-len.ensures.all, c.if-len-lt-ROOM.false)
 
 pub returns-clause-ok : goal.returns-clause-ok
 returns-clause-ok c =
-    let xs = c.args.leaf.now in let x = c.args.entry in let i = c.in-Err.at in let gap = c.in-Err.ensures.absent in
-    let m = lower_size c.keep_of.result i in
-    let out = c.split_insert.ensures in let lower = c.split_insert.new.leaf in let upper = c.split_insert.new.upper in
+    let xs = c.args.leaf.now.entries in let x = c.args.entry in let i = c.in-Err.at in let gap = c.in-Err.ensures.absent
+    in let m = lower_size c.keep_of.result i in
+    let out = c.split_insert.ensures in let lower = c.split_insert.new.leaf.entries in
+    let upper = c.split_insert.new.upper.entries in
     let range = size_range c.keep_of.result i c.keep_of.ensures.keeps c.keep_of.ensures.room in
     let long = upper_long xs x i gap c.in-Err.ensures.rising m lower upper out.front out.back in
     let longer = length-insert xs i x gap.in_range in
@@ -91,25 +95,26 @@ returns-clause-ok c =
 
 pub returns-clause-rising : goal.returns-clause-rising
 returns-clause-rising c =
-    let xs = c.args.leaf.now in let x = c.args.entry in let i = c.in-Err.at in let gap = c.in-Err.ensures.absent in
-    let m = lower_size c.keep_of.result i in
+    let xs = c.args.leaf.now.entries in let x = c.args.entry in let i = c.in-Err.at in let gap = c.in-Err.ensures.absent
+    in let m = lower_size c.keep_of.result i in
     let out = c.split_insert.ensures in
-    rising_front c.split_insert.new.leaf c.split_insert.new.upper
-    (rising_both xs x i gap c.in-Err.ensures.rising m c.split_insert.new.leaf c.split_insert.new.upper out.front
-    out.back)
+    rising_front c.split_insert.new.leaf.entries c.split_insert.new.upper.entries
+    (rising_both xs x i gap c.in-Err.ensures.rising m c.split_insert.new.leaf.entries c.split_insert.new.upper.entries
+    out.front out.back)
 
 is_some : {X : Type 0} (o : Option X) → o ≢ None → IsSome o
 is_some None n = absurd (n refl)
 is_some (Some x) n = refl
 
 pub returns-in_default-clause-taken : goal.returns-in_default-clause-taken
-returns-in_default-clause-taken c = λ _. is_some (find c.args.leaf.now c.args.entry.part c.args.entry.key)
-    (find_present c.args.leaf.now c.args.entry.part c.args.entry.key c.in_default.field-0 c.in_default.ensures.found)
+returns-in_default-clause-taken c = λ _. is_some (find c.args.leaf.now.entries c.args.entry.part c.args.entry.key)
+    (find_present c.args.leaf.now.entries c.args.entry.part c.args.entry.key c.in_default.field-0
+    c.in_default.ensures.found)
 
 pub returns-then-len-lt-ROOM-clause-absent : goal.returns-then-len-lt-ROOM-clause-absent
-returns-then-len-lt-ROOM-clause-absent c = find_absent c.args.leaf.now c.args.entry.part c.args.entry.key c.in-Err.at
-    c.in-Err.ensures.absent
+returns-then-len-lt-ROOM-clause-absent c = find_absent c.args.leaf.now.entries c.args.entry.part c.args.entry.key
+    c.in-Err.at c.in-Err.ensures.absent
 
 pub returns-clause-absent : goal.returns-clause-absent
-returns-clause-absent c = find_absent c.args.leaf.now c.args.entry.part c.args.entry.key c.in-Err.at
+returns-clause-absent c = find_absent c.args.leaf.now.entries c.args.entry.part c.args.entry.key c.in-Err.at
     c.in-Err.ensures.absent

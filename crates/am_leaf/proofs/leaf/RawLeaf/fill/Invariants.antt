@@ -1,6 +1,0 @@
-use Rattle.std.proofs.Common.{◌≡◌, take}
-use Rattle.am_list.specs.Runs.{run_entries}
-use Rattle.am_leaf.proofs.leaf.RawLeaf.fill.Given as goal
-
-abbrev pub invariant-loop-at : goal.invariant-loop-at
-invariant-loop-at l = l.self ≡ run_entries l.part (take l.at l.pairs)

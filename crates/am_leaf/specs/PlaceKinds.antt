@@ -1,0 +1,8 @@
+use Rattle.am_leaf.specs.Columns.{PlaceColumn}
+use Rattle.am_leaf.specs.declared.places.Kind.{Kind}
+use Rattle.am_leaf.specs.declared.places.Kind.TheVariants.{Short, Wide}
+
+-- the places of either block
+abbrev pub place_column : Kind → PlaceColumn
+place_column (Short places) = record { items = places; room = 16 }
+place_column (Wide places) = record { items = places; room = 32 }

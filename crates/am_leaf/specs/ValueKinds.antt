@@ -1,0 +1,8 @@
+use Rattle.am_leaf.specs.Columns.{ValueColumn}
+use Rattle.am_leaf.specs.declared.values.Kind.{Kind}
+use Rattle.am_leaf.specs.declared.values.Kind.TheVariants.{Short, Wide}
+
+-- the values of either block
+abbrev pub value_column : Kind → ValueColumn
+value_column (Short values) = record { items = values; room = 16 }
+value_column (Wide values) = record { items = values; room = 64 }
