@@ -1,0 +1,183 @@
+"""Texts and records, as Python has them and as C has them. Many records go to and fro at once, by `struct`."""
+
+from __future__ import annotations
+
+import ctypes
+import itertools
+import re
+import struct
+import sys
+from collections.abc import Iterable, Iterator, Mapping, Sequence
+from operator import itemgetter
+from typing import Any, Union
+
+from .errors import MAX_KEY, MAX_VALUE, BadLine, bad_key, bad_value, shown
+
+Text = Union[bytes, bytearray, memoryview, str]
+Record = tuple[bytes, bytes]
+Records = Union[Mapping[Any, Text], Iterable[tuple[Text, Text]]]
+
+GREATEST = b"\xff" * MAX_KEY
+
+# `tvk_record` is a length, room for a key, a length, and room for a value. All but the lowest byte of a length are 0, so the
+# byte in front of the room is free: with the length there, key and value are strings of Pascal, which `struct` knows.
+_LENGTH = ctypes.sizeof(ctypes.c_size_t)
+_VALUE_AT = _LENGTH + MAX_KEY
+RECORD = _VALUE_AT + _LENGTH + MAX_VALUE
+_LOWEST = 0 if sys.byteorder == "little" else _LENGTH - 1
+_KEY_FORM = f"{_LENGTH - 1}x{MAX_KEY + 1}p"
+_VALUE_FORM = f"{_LENGTH - 1}x{MAX_VALUE + 1}p"
+_BOTH = struct.Struct(_KEY_FORM + _VALUE_FORM)
+_KEYS = struct.Struct(f"{_KEY_FORM}{_LENGTH + MAX_VALUE}x")
+_VALUES = struct.Struct(f"{_VALUE_AT}x{_VALUE_FORM}")
+
+Value: type[ctypes.Array[ctypes.c_char]] = ctypes.c_char * (_LENGTH + MAX_VALUE)
+"""`tvk_value`."""
+Key: type[ctypes.Array[ctypes.c_char]] = ctypes.c_char * (_LENGTH + MAX_KEY)
+"""`tvk_key`."""
+
+
+def text_of(room: ctypes.Array[ctypes.c_char]) -> bytes:
+    """The text in a `tvk_value` or a `tvk_key`."""
+    raw = room.raw
+    return raw[_LENGTH : _LENGTH + raw[_LOWEST]]
+
+
+class _Sizes(dict[int, ctypes.c_size_t]):
+    """Each number as C takes it."""
+
+    def __missing__(self, size: int) -> ctypes.c_size_t:
+        return ctypes.c_size_t(size)
+
+
+SIZES = _Sizes((size, ctypes.c_size_t(size)) for size in range(MAX_VALUE + 1))
+
+
+def bytes_of(text: Text) -> bytes:
+    """The bytes of a key or a value: a `str` is taken for its UTF-8."""
+    if isinstance(text, str):
+        return text.encode()
+    if isinstance(text, (bytes, bytearray, memoryview)):
+        return bytes(text)
+    raise TypeError(f"a key or a value is bytes, bytearray, memoryview or str, and not {type(text).__name__}")
+
+
+def all_bytes(texts: Sequence[Text]) -> Sequence[bytes]:
+    """The bytes of many."""
+    kinds = set(map(type, texts))
+    if kinds == {bytes}:
+        return texts  # type: ignore[return-value]
+    return list(map(str.encode, texts)) if kinds == {str} else list(map(bytes_of, texts))  # type: ignore[arg-type]
+
+
+def range_of(lo: Text, hi: Text) -> tuple[bytes, bytes]:
+    """The bytes of two keys."""
+    low, high = bytes_of(lo), bytes_of(hi)
+    if (most := max(len(low), len(high))) > MAX_KEY:
+        raise bad_key(most)
+    return low, high
+
+
+def below(key: bytes) -> bytes:
+    """The greatest key below another one, which isn't empty."""
+    if key[-1] == 0:
+        return key[:-1]
+    return (key[:-1] + bytes([key[-1] - 1])).ljust(MAX_KEY, b"\xff")
+
+
+class Page:
+    """Room for the rows of one scan."""
+
+    def __init__(self, size: int) -> None:
+        self._rows = bytearray(size * RECORD)
+        self.room = (ctypes.c_char * len(self._rows)).from_buffer(self._rows)
+
+    def last_key(self, count: int) -> bytes:
+        """The key of the last row of so many."""
+        at = (count - 1) * RECORD
+        return bytes(self._rows[at + _LENGTH : at + _LENGTH + self._rows[at + _LOWEST]])
+
+    def _texts(self, form: struct.Struct, count: int) -> Iterator[Any]:
+        end = count * RECORD
+        for at in (0, _VALUE_AT) if count else ():
+            self._rows[at + _LENGTH - 1 : end : RECORD] = self._rows[at + _LOWEST : end : RECORD]
+        return form.iter_unpack(memoryview(self._rows)[:end])
+
+    def records(self, count: int) -> list[Record]:
+        """The first rows."""
+        return list(self._texts(_BOTH, count))
+
+    def keys(self, count: int) -> list[bytes]:
+        return list(itertools.chain.from_iterable(self._texts(_KEYS, count)))
+
+    def values(self, count: int) -> list[bytes]:
+        return list(itertools.chain.from_iterable(self._texts(_VALUES, count)))
+
+
+def pairs_of(records: Records) -> Iterator[tuple[Text, Text]]:
+    """The pairs of a mapping, or of what gives pairs."""
+    return iter(records.items() if isinstance(records, Mapping) else records)
+
+
+def sorted_run(pairs: Sequence[tuple[Text, Text]]) -> tuple[Sequence[bytes], Sequence[bytes]]:
+    """The keys of some records and their values, by rising key."""
+    for kind in set(map(type, pairs)):
+        if not issubclass(kind, (tuple, list)):
+            raise TypeError(f"a record is a pair of a key and a value, and not {kind.__name__}")
+    if set(map(len, pairs)) != {2}:
+        raise TypeError("a record is a pair of a key and a value")
+    given, values = zip(*pairs)
+    keys = all_bytes(given)
+    records = sorted(zip(keys, all_bytes(values)), key=itemgetter(0))
+    return tuple(zip(*records))  # type: ignore[return-value]
+
+
+def packed(keys: Sequence[bytes], values: Sequence[bytes]) -> bytearray:
+    """Records as C has them."""
+    if (most := max(map(len, keys))) > MAX_KEY:
+        raise bad_key(most)
+    if (most := max(map(len, values))) > MAX_VALUE:
+        raise bad_value(most)
+    rows = bytearray().join(map(_BOTH.pack, keys, values))
+    if _LOWEST != _LENGTH - 1:
+        for at in (0, _VALUE_AT):
+            rows[at + _LOWEST :: RECORD] = rows[at + _LENGTH - 1 :: RECORD]
+            rows[at + _LENGTH - 1 :: RECORD] = bytes(len(keys))
+    return rows
+
+
+def first_double(keys: Sequence[bytes]) -> bytes:
+    """The first of rising keys that stands twice."""
+    return next((key for key, other in zip(keys, keys[1:]) if key == other), b"")
+
+
+_LINE = re.compile(rb"^([!-<>-~]{1,32})[\t=]([!-~]{1,64})$", re.MULTILINE)
+
+
+def file_records(text: bytes) -> list[Record]:
+    """The records of a file: each line has a key, a TAB or the first =, and a value. An empty last line is none."""
+    lines = text.replace(b"\r\n", b"\n")
+    if lines and not lines.endswith(b"\n"):
+        lines += b"\n"
+    records = _LINE.findall(lines)
+    if len(records) < lines.count(b"\n") - lines.endswith((b"\n\n",)) - (lines == b"\n"):
+        raise _bad_line(lines)
+    if len(dict(records)) < len(records):
+        raise _double_line(lines)
+    return records
+
+
+def _bad_line(lines: bytes) -> BadLine:
+    """Why the first line that is no record is none."""
+    numbered = enumerate(lines.split(b"\n")[:-1], 1)
+    number, line = next((number, line) for number, line in numbered if not _LINE.fullmatch(line))
+    return BadLine(number, f"{shown(line[:60])} is no record: a key of 1 to 32 visible characters, none of them =, a TAB or =, and a value of 1 to 64")
+
+
+def _double_line(lines: bytes) -> BadLine:
+    """The first line whose key stands in a line before."""
+    first: dict[bytes, int] = {}
+    for number, (key, _) in enumerate(_LINE.findall(lines), 1):
+        if first.setdefault(key, number) != number:
+            return BadLine(number, f"the key {shown(key)} stands in line {first[key]} already")
+    raise AssertionError("no key stands twice")
