@@ -11,8 +11,6 @@ import functools
 import os
 from collections.abc import Callable
 
-SHARED = "libtiuvrokk.so.1"
-
 # Calls that may take long, or end a store that is large: other threads of Python run meanwhile. The others are over sooner
 # than a thread can be woken.
 _LONG = ["open", "close", "abort", "load", "entries"]
@@ -20,6 +18,8 @@ _SHORT = [
     "begin", "commit", "mark", "back", "get", "insert", "replace", "delete", "scan", "scan_behind", "lock", "merge", "clean",
     "commits",
 ]
+
+_ADVICE = "./install-library PREFIX installs it from the sources, and TIUVROKK_LIBRARY=PREFIX/lib/libtiuvrokk.so names it"
 
 Call = Callable[..., int]
 
@@ -32,10 +32,13 @@ class Handle(ctypes.Structure):
 
 def library_path() -> str:
     """Where the library lies, or the name by which the system is asked for it."""
-    beside = os.path.join(os.path.dirname(os.path.abspath(__file__)), SHARED)
+    from . import __version__  # (which is there once the package is)
+
+    shared = f"libtiuvrokk.so.{__version__.partition('.')[0]}"
+    beside = os.path.join(os.path.dirname(os.path.abspath(__file__)), shared)
     if named := os.environ.get("TIUVROKK_LIBRARY"):
         return named
-    return beside if os.path.exists(beside) else ctypes.util.find_library("tiuvrokk") or SHARED
+    return beside if os.path.exists(beside) else ctypes.util.find_library("tiuvrokk") or shared
 
 
 @functools.lru_cache(None)
@@ -50,12 +53,6 @@ def _calls() -> dict[str, Call]:
     except (OSError, AttributeError) as error:
         raise ImportError(f"the library of tiuvrokk can't be loaded: {error}. {_ADVICE}", name="tiuvrokk", path=path) from None
     return found
-
-
-_ADVICE = (
-    "./install-library PREFIX installs it from the sources; TIUVROKK_LIBRARY=PREFIX/lib/libtiuvrokk.so in the environment then "
-    "names it"
-)
 
 
 class Calls:
