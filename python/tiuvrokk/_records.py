@@ -28,8 +28,14 @@ _LOWEST = 0 if sys.byteorder == "little" else _LENGTH - 1
 _KEY_FORM = f"{_LENGTH - 1}x{MAX_KEY + 1}p"
 _VALUE_FORM = f"{_LENGTH - 1}x{MAX_VALUE + 1}p"
 _BOTH = struct.Struct(_KEY_FORM + _VALUE_FORM)
+_PACK = struct.Struct(f"N{MAX_KEY}sN{MAX_VALUE}s").pack
 _KEYS = struct.Struct(f"{_KEY_FORM}{_LENGTH + MAX_VALUE}x")
 _VALUES = struct.Struct(f"{_VALUE_AT}x{_VALUE_FORM}")
+
+FIRST, _SECOND = itemgetter(0), itemgetter(1)
+
+CHUNK = 1024
+"""So many records are looked at, or packed, at once: as many as stay in a processor's cache from one look to the next."""
 
 Value: type[ctypes.Array[ctypes.c_char]] = ctypes.c_char * (_LENGTH + MAX_VALUE)
 """`tvk_value`."""
@@ -119,36 +125,35 @@ def pairs_of(records: Records) -> Iterator[tuple[Text, Text]]:
     return iter(records.items() if isinstance(records, Mapping) else records)
 
 
-def sorted_run(pairs: Sequence[tuple[Text, Text]]) -> tuple[Sequence[bytes], Sequence[bytes]]:
-    """The keys of some records and their values, by rising key."""
+def checked(pairs: Sequence[Any]) -> Sequence[Record]:
+    """The records of some pairs, each of which has to be one."""
     for kind in set(map(type, pairs)):
         if not issubclass(kind, (tuple, list)):
             raise TypeError(f"a record is a pair of a key and a value, and not {kind.__name__}")
     if set(map(len, pairs)) != {2}:
         raise TypeError("a record is a pair of a key and a value")
-    given, values = zip(*pairs)
-    keys = all_bytes(given)
-    records = sorted(zip(keys, all_bytes(values)), key=itemgetter(0))
-    return tuple(zip(*records))  # type: ignore[return-value]
-
-
-def packed(keys: Sequence[bytes], values: Sequence[bytes]) -> bytearray:
-    """Records as C has them."""
+    given_keys, given_values = list(map(FIRST, pairs)), list(map(_SECOND, pairs))
+    keys, values = all_bytes(given_keys), all_bytes(given_values)
     if (most := max(map(len, keys))) > MAX_KEY:
         raise bad_key(most)
     if (most := max(map(len, values))) > MAX_VALUE:
         raise bad_value(most)
-    rows = bytearray().join(map(_BOTH.pack, keys, values))
-    if _LOWEST != _LENGTH - 1:
-        for at in (0, _VALUE_AT):
-            rows[at + _LOWEST :: RECORD] = rows[at + _LENGTH - 1 :: RECORD]
-            rows[at + _LENGTH - 1 :: RECORD] = bytes(len(keys))
-    return rows
+    return pairs if keys is given_keys and values is given_values else list(zip(keys, values))
 
 
-def first_double(keys: Sequence[bytes]) -> bytes:
-    """The first of rising keys that stands twice."""
-    return next((key for key, other in zip(keys, keys[1:]) if key == other), b"")
+def _packed(records: Sequence[Record]) -> bytearray:
+    keys, values = list(map(FIRST, records)), list(map(_SECOND, records))
+    return bytearray().join(map(_PACK, map(len, keys), keys, map(len, values), values))
+
+
+def packed(records: Sequence[Record]) -> bytearray:
+    """Records as C has them."""
+    return bytearray().join(_packed(records[at : at + CHUNK]) for at in range(0, len(records), CHUNK))
+
+
+def first_double(records: Sequence[Record]) -> bytes:
+    """The first key of sorted records that stands twice."""
+    return next((one[0] for one, other in zip(records, records[1:]) if one[0] == other[0]), b"")
 
 
 _LINE = re.compile(rb"^([!-<>-~]{1,32})[\t=]([!-~]{1,64})$", re.MULTILINE)

@@ -14,8 +14,8 @@ from types import TracebackType
 from typing import Any, NoReturn, Optional, TypeVar, Union, overload
 
 from ._library import Call, Handle, calls
-from ._records import GREATEST, SIZES, Key, Page, Record, Records, Text, Value, below, bytes_of, file_records, first_double
-from ._records import packed, pairs_of, range_of, sorted_run, text_of
+from ._records import CHUNK, FIRST, GREATEST, SIZES, Key, Page, Record, Records, Text, Value, below, bytes_of, checked
+from ._records import file_records, first_double, packed, pairs_of, range_of, text_of
 from .errors import MAX_LIMIT, Absent, Closed, Exists, NotRising, Status, WrongThread, bad_limit, bad_range, error_of
 
 Default = TypeVar("Default")
@@ -164,17 +164,19 @@ class Transaction(_Unique):
     nothing, and the transaction goes on. Keys and values are bytes, bytearray, memoryview or str, which is taken for its
     UTF-8; anything else is a TypeError."""
 
+    _is_over = True  # (until it is begun)
+
     def __init__(self, store: Store, number: int) -> None:
         self._store = store
         self._thread = store._thread
         self._at = store._at
         self._tx = ctypes.c_uint64(number)
         self._end = calls.abort
-        self._is_over = False
         self.number = number
         """The number by which `Busy.holder` names the transaction."""
         self.commit_number = 0
         """The number of its commit, or 0 before that."""
+        self._is_over = False
 
     @property
     def is_active(self) -> bool:
@@ -187,13 +189,15 @@ class Transaction(_Unique):
     def __exit__(
         self, kind: Optional[type[BaseException]], error: Optional[BaseException], trace: Optional[TracebackType]
     ) -> None:
-        if self.is_active and kind is None:
+        if self._is_over or not self.is_active:
+            return
+        if kind is None:
             self.commit()
-        elif self.is_active:
+        else:
             self.abort()
 
     def __del__(self, warn: Callable[..., None] = warnings.warn, here: Callable[[], int] = get_ident) -> None:
-        if not hasattr(self, "commit_number") or not self.is_active:
+        if self._is_over or not self.is_active:
             return
         told = f"{self!r} was dropped, and is aborted"
         if self._thread == here():
@@ -213,7 +217,7 @@ class Transaction(_Unique):
     def commit(self) -> int:
         """Commits, and answers the number of the commit: they rise by one from 1."""
         told = ctypes.c_uint64()
-        self._ask(calls.commit, ctypes.byref(told))
+        self._ask(calls.commit, told)
         self.commit_number = told.value
         self._over()
         return self.commit_number
@@ -271,7 +275,8 @@ class Transaction(_Unique):
 
     def __setitem__(self, key: Text, value: Text) -> None:
         """Sets the value under the key, whether it has one or not."""
-        text, new = bytes_of(key), bytes_of(value)
+        text = key if type(key) is bytes else bytes_of(key)
+        new = value if type(value) is bytes else bytes_of(value)
         if self._write(calls.replace, text, new):
             self._write(calls.insert, text, new)
 
@@ -287,14 +292,14 @@ class Transaction(_Unique):
 
     def insert(self, key: Text, value: Text) -> None:
         """Adds a record. Raises `Exists` where the key has one."""
-        text = bytes_of(key)
-        if self._write(calls.insert, text, bytes_of(value)):
+        text = key if type(key) is bytes else bytes_of(key)
+        if self._write(calls.insert, text, value if type(value) is bytes else bytes_of(value)):
             raise Exists(text)
 
     def replace(self, key: Text, value: Text) -> None:
         """Gives a record another value. Raises `Absent` where there is none."""
-        text = bytes_of(key)
-        if self._write(calls.replace, text, bytes_of(value)):
+        text = key if type(key) is bytes else bytes_of(key)
+        if self._write(calls.replace, text, value if type(value) is bytes else bytes_of(value)):
             raise Absent(text)
 
     def setdefault(self, key: Text, default: Text) -> bytes:
@@ -333,10 +338,13 @@ class Transaction(_Unique):
         if index(run) < 1:
             raise bad_limit(RUN, run)
         count, pairs = 0, pairs_of(records)
-        while piece := list(itertools.islice(pairs, run)):
-            self._load(piece)
-            count += len(piece)
-        return count
+        piece: list[Record] = []
+        while part := list(itertools.islice(pairs, min(CHUNK, run - len(piece)))):
+            piece += checked(part)
+            if len(piece) == run:
+                count += self._load(piece)
+                piece = []
+        return count + self._load(piece) if piece else count
 
     def scan(self, lo: Text = b"", hi: Text = GREATEST, page: int = 100) -> Iterator[Record]:
         """The records from `lo` to `hi`, both included, by rising key. So many are read at a time: `page` at first, 999 at most, and
@@ -384,10 +392,11 @@ class Transaction(_Unique):
         self._is_over = True
         self._store._active -= 1
 
-    def _ask(self, call: Call, *more: Any) -> None:
-        """A call that speaks of the transaction alone."""
-        self._stay()
-        if status := call(self._at, self._tx, *more):
+    def _ask(self, call: Call, *told: ctypes.c_uint64) -> None:
+        """A call that speaks of the transaction alone, and may tell a number."""
+        if self._thread != get_ident():
+            self._store._stay()
+        if status := call(self._at, self._tx, *map(ctypes.byref, told)):
             raise error_of(status, self.number)
 
     def _write(self, call: Call, key: bytes, value: bytes) -> int:
@@ -408,16 +417,18 @@ class Transaction(_Unique):
             raise error_of(status, self.number, number.value, [it for it in words if isinstance(it, bytes)])
         return status
 
-    def _load(self, piece: list[tuple[Text, Text]]) -> None:
-        keys, values = sorted_run(piece)
-        rows, exists = packed(keys, values), Key()
+    def _load(self, piece: list[Record]) -> int:
+        """Loads a run, and answers how many records it has."""
+        piece.sort(key=FIRST)
+        rows, exists = packed(piece), Key()
         room = (ctypes.c_char * len(rows)).from_buffer(rows)
         try:
-            status = self._again(calls.load, room, ctypes.c_size_t(len(keys)), exists)
+            status = self._again(calls.load, room, ctypes.c_size_t(len(piece)), exists)
         except NotRising:
-            raise NotRising(first_double(keys)) from None
+            raise NotRising(first_double(piece)) from None
         if status:
             raise Exists(text_of(exists))
+        return len(piece)
 
     def _rows(self, rows_of: Callable[[Page, int], list[Row]], lo: Text, hi: Text, page: int = 100) -> Iterator[Row]:
         """What is made of each page of the records from `lo` to `hi`."""
