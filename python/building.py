@@ -50,7 +50,8 @@ def sum_of(data: bytes) -> str:
 
 def documents(tag: str, licence: Optional[bytes]) -> Dict[str, bytes]:
     """What a wheel says of itself."""
-    about = f"Metadata-Version: 2.1\nName: tiuvrokk\nVersion: {version()}\nLicense: MIT\nRequires-Python: >=3.9\nSummary: {SUMMARY}\n"
+    about = f"Metadata-Version: 2.1\nName: tiuvrokk\nVersion: {version()}\nLicense: MIT\nRequires-Python: >=3.9\n"
+    about += f"Summary: {SUMMARY}\n"
     is_pure = "true" if tag.endswith("-any") else "false"
     said = f"Wheel-Version: 1.0\nGenerator: tiuvrokk\nRoot-Is-Purelib: {is_pure}\nTag: {tag}\n"
     found = {"METADATA": about.encode(), "WHEEL": said.encode()}

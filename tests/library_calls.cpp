@@ -55,7 +55,8 @@ static void moved_and_closed() {
     expect(thrown([&] { tx.commit(); }) == TVK_NO_STORE, "the commit of a transaction that was moved from");
     std::uint64_t number = next.number();
     next = other.transaction();
-    expect(thrown([&] { next.insert("ant", "6"); }) == TVK_OK && next.number() != number, "a transaction that is assigned to aborts");
+    expect(next.number() != number, "a transaction that is assigned to");
+    next.insert("ant", "6");
     auto rows = next.scan();
     expect((*rows.begin()).key == "ant", "a scan");
     other.close();
@@ -133,7 +134,8 @@ static void loads_and_scans() {
     auto rows = tx.scan();
     expect(Map(rows.begin(), rows.end()) == all, "a scan of all");
     int count = 0;
-    for (auto [key, value] : tx.scan(key_of(100), key_of(199))) count += key == key_of(100 + count) && value == all[std::string(key)];
+    for (auto [key, value] : tx.scan(key_of(100), key_of(199)))
+        count += key == key_of(100 + count) && value == all[std::string(key)];
     expect(count == 100, "a scan of one page");
     for (auto record : tx.scan("l")) expect(false, std::string(record.key).c_str());
     try {

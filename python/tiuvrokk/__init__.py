@@ -24,8 +24,8 @@ ImportError.
 
 from ._store import Store, Transaction
 from .errors import (
-    MAX_KEY, MAX_LIMIT, MAX_VALUE, Absent, Bad, BadLine, Busy, Closed, Error, Exists, NoMark, NotRising, NoTransaction, OutOfMemory,
-    Status, TooMany, WrongThread,
+    MAX_KEY, MAX_LIMIT, MAX_VALUE, Absent, Bad, BadLine, Busy, Closed, Error, Exists, NoMark, NotRising, NoTransaction,
+    OutOfMemory, Status, TooMany, WrongThread,
 )
 
 __version__ = "1.1.0"

@@ -176,7 +176,8 @@ def _bad_line(lines: bytes) -> BadLine:
     """Why the first line that is no record is none."""
     numbered = enumerate(lines.split(b"\n")[:-1], 1)
     number, line = next((number, line) for number, line in numbered if not _LINE.fullmatch(line))
-    return BadLine(number, f"{shown(line[:60])} is no record: a key of 1 to 32 visible characters, none of them =, a TAB or =, and a value of 1 to 64")
+    why = "a record has a key of 1 to 32 visible characters, none of them =, a TAB or the first =, and a value of 1 to 64"
+    return BadLine(number, f"{shown(line[:60])} is no record: {why}")
 
 
 def _double_line(lines: bytes) -> BadLine:

@@ -143,6 +143,8 @@ class Store(_Unique):
         self._stay()
         if not self._handle.at:
             raise Closed
+        if self._dropped:
+            self._abort_dropped()
         return self._at
 
     def _count(self, call: Call) -> int:
@@ -323,13 +325,13 @@ class Transaction(_Unique):
 
     def update(self, records: Records = (), **named: Text) -> None:
         """Sets the value under each key of a mapping, or of pairs, and of the arguments that are named. Each is a write, and
-        locks its key: `load` and `lock` serve many."""
+        locks its key: `lock` and `load` serve many."""
         for key, value in itertools.chain(pairs_of(records), named.items()):
             self[key] = value
 
     def load(self, records: Records, run: int = RUN) -> int:
-        """Adds the records of a mapping, or pairs, in any order, cut into runs of at most `run` records, each sorted and added as
-        a whole. Answers how many records were added.
+        """Adds the records of a mapping, or pairs, in any order, cut into runs of at most `run` records, each sorted and added
+        as a whole. Answers how many records were added.
 
         Raises `Exists`, with the least key of the run that has a record, and `NotRising` where a run has a key twice. The
         run that was refused isn't added, and those before it stay: set a savepoint first, or abort, to be rid of them. Each
@@ -347,8 +349,8 @@ class Transaction(_Unique):
         return count + self._load(piece) if piece else count
 
     def scan(self, lo: Text = b"", hi: Text = GREATEST, page: int = 100) -> Iterator[Record]:
-        """The records from `lo` to `hi`, both included, by rising key. So many are read at a time: `page` at first, 999 at most, and
-        twice as many each time after. Each time locks the range from the next key to `hi`."""
+        """The records from `lo` to `hi`, both included, by rising key. So many are read at a time: `page` at first, 999 at most,
+        and twice as many each time after. Each time locks the range from the next key to `hi`."""
         return self._rows(Page.records, lo, hi, page)
 
     def items(self, lo: Text = b"", hi: Text = GREATEST) -> Iterator[Record]:
