@@ -115,17 +115,25 @@ template <class Text> std::string_view view(const Text &text) noexcept {
     return {reinterpret_cast<const char *>(text.bytes), text.length};
 }
 
-/* Throws what a status that refuses is: `told` is the number that came with it, `key` the key that it is about. */
-[[noreturn]] inline void refuse(tvk_status status, std::uint64_t told = 0, std::string_view key = {}) {
+/* Throws what a status that refuses is: `told` is the number that came with it, `text` the key or the value that it may be
+ * about, `about` what else. */
+[[noreturn]] inline void refuse(tvk_status status, std::uint64_t told, std::string_view text, const std::string &about) {
     switch (status) {
     case TVK_NO_MEMORY: throw OutOfMemory();
     case TVK_BUSY: throw Busy(told);
-    case TVK_ABSENT: throw Absent(key);
-    case TVK_EXISTS: throw Exists(key);
-    case TVK_BAD_KEY: throw Error(status, std::string(key));
-    default: throw Error(status);
+    case TVK_ABSENT: throw Absent(text);
+    case TVK_EXISTS: throw Exists(text);
+    case TVK_BAD_KEY:
+    case TVK_BAD_VALUE: throw Error(status, std::string(text));
+    default: throw Error(status, about);
     }
 }
+
+inline void check(tvk_status status, const std::string &about) {
+    if (status != TVK_OK) refuse(status, 0, about, about);
+}
+
+inline std::string transaction_text(std::uint64_t number) { return "transaction " + std::to_string(number); }
 
 template <class Text> void fill(Text &text, std::string_view from, tvk_status bad) {
     if (from.size() > sizeof text.bytes) throw Error(bad, std::string(from));
@@ -196,7 +204,7 @@ private:
             scan(store_.get(), number_, lo_.data(), lo_.size(), hi_.data(), hi_.size(), page_.data(), size_, &told);
         page_.resize(status == TVK_OK ? static_cast<std::size_t>(told) : 0);
         at_ = 0;
-        if (status != TVK_OK) detail::refuse(status, told, detail::longer(lo_, hi_));
+        if (status != TVK_OK) detail::refuse(status, told, detail::longer(lo_, hi_), detail::transaction_text(number_));
         is_begun_ = true;
     }
 
@@ -298,7 +306,7 @@ public:
     template <class Iterator> std::uint64_t load(Iterator first, Iterator last, std::size_t run = RUN) {
         std::vector<tvk_record> piece;
         std::uint64_t count = 0;
-        if (run == 0) throw Error(TVK_BAD_LIMIT);
+        if (run == 0) throw Error(TVK_BAD_LIMIT, "a run of no records");
         for (; first != last; ++first) {
             const auto &[key, value] = *first;
             tvk_record &record = piece.emplace_back();
@@ -309,7 +317,7 @@ public:
         return piece.empty() ? count : count + load_run(piece);
     }
 
-    template <class Pairs> std::uint64_t load(const Pairs &pairs, std::size_t run = RUN) {
+    template <class Pairs> std::uint64_t load(Pairs &&pairs, std::size_t run = RUN) {
         return load(std::begin(pairs), std::end(pairs), run);
     }
 
@@ -330,14 +338,14 @@ private:
     Transaction(std::shared_ptr<tvk_store> store, std::uint64_t number) noexcept
         : store_(std::move(store)), number_(number), is_active_(true) {}
 
-    static void check(tvk_status status, std::uint64_t told = 0, std::string_view key = {}) {
-        if (status != TVK_OK) detail::refuse(status, told, key);
+    void check(tvk_status status, std::uint64_t told = 0, std::string_view text = {}) const {
+        if (status != TVK_OK) detail::refuse(status, told, text, detail::transaction_text(number_));
     }
 
     /* Whether there was a record, or none, as the call wants it. */
-    static bool is_done(tvk_status status, std::uint64_t told, std::string_view key) {
+    bool is_done(tvk_status status, std::uint64_t told, std::string_view text) const {
         if (status == TVK_ABSENT || status == TVK_EXISTS) return false;
-        check(status, told, key);
+        check(status, told, text);
         return true;
     }
 
@@ -350,7 +358,7 @@ private:
     template <class Call> bool write(Call call, std::string_view key, std::string_view value) {
         std::uint64_t told = 0;
         tvk_status status = call(store_.get(), number_, key.data(), key.size(), value.data(), value.size(), &told);
-        return is_done(status, told, key);
+        return is_done(status, told, status == TVK_BAD_VALUE ? value : key);
     }
 
     std::uint64_t load_run(std::vector<tvk_record> &piece) {
@@ -383,7 +391,7 @@ private:
 /* A store. It is open until it is closed or leaves its scope; its memory is given back then, whatever is open in it. */
 class Store {
 public:
-    Store() : store_(std::make_shared<tvk_store>(tvk_store TVK_CLOSED)) { check(tvk_open(store_.get())); }
+    Store() : store_(std::make_shared<tvk_store>(tvk_store TVK_CLOSED)) { detail::check(tvk_open(store_.get()), {}); }
 
     Store(Store &&) noexcept = default;
 
@@ -402,11 +410,11 @@ public:
 
     bool is_open() const noexcept { return store_ && store_->at; }
 
-    void close() { check(tvk_close(store_.get())); }
+    void close() { detail::check(tvk_close(store_.get()), {}); }
 
     [[nodiscard]] Transaction transaction() {
         std::uint64_t number = 0;
-        check(tvk_begin(store_.get(), &number));
+        detail::check(tvk_begin(store_.get(), &number), {});
         return Transaction(store_, number);
     }
 
@@ -417,14 +425,15 @@ public:
         tvk_status status = tvk_merge(store_.get(), limit, &told);
         if (status == TVK_IDLE) return std::nullopt;
         if (status == TVK_DONE || status == TVK_ENDED) return 0;
-        check(status);
+        detail::check(status, std::to_string(limit));
         return told;
     }
 
     /* One clean step: takes away entries that are marked as deleted, and tells how many. */
     std::uint64_t clean(std::string_view lo = {}, std::string_view hi = GREATEST, std::uint64_t limit = TVK_MAX_LIMIT) {
         std::uint64_t told = 0;
-        check(tvk_clean(store_.get(), lo.data(), lo.size(), hi.data(), hi.size(), limit, &told));
+        tvk_status status = tvk_clean(store_.get(), lo.data(), lo.size(), hi.data(), hi.size(), limit, &told);
+        detail::check(status, status == TVK_BAD_LIMIT ? std::to_string(limit) : std::string(detail::longer(lo, hi)));
         return told;
     }
 
@@ -435,13 +444,9 @@ public:
     tvk_store *handle() const noexcept { return store_.get(); }
 
 private:
-    static void check(tvk_status status) {
-        if (status != TVK_OK) detail::refuse(status);
-    }
-
     template <class Call> std::uint64_t count(Call call) const {
         std::uint64_t told = 0;
-        check(call(store_.get(), &told));
+        detail::check(call(store_.get(), &told), {});
         return told;
     }
 

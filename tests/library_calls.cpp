@@ -118,6 +118,11 @@ static void errors() {
     expect(thrown([&] { one.load(Map{}, 0); }) == TVK_BAD_LIMIT, "runs of no records");
     expect(thrown([&] { store.merge(65); }) == TVK_BAD_LIMIT, "a merge of too many");
     expect(thrown([&] { one.back(); }) == TVK_NO_MARK, "no savepoint");
+    try {
+        store.merge(65);
+    } catch (const tiuvrokk::Error &error) {
+        expect(error.what() == std::string(tvk_text(TVK_BAD_LIMIT)) + ": 65", "what a limit was");
+    }
     std::vector<std::pair<std::string, const char *>> twice{{"b", "1"}, {"a", "2"}, {"b", "3"}};
     expect(thrown([&] { one.load(twice); }) == TVK_NOT_RISING, "a key that stands twice");
     std::vector<Transaction> many;
@@ -133,6 +138,9 @@ static void loads_and_scans() {
     expect(tx.load(all.begin(), all.end(), 700) == 3000, "a load");
     auto rows = tx.scan();
     expect(Map(rows.begin(), rows.end()) == all, "a scan of all");
+    Store copy;
+    Transaction to = copy.transaction();
+    expect(to.load(tx.scan()) == 3000 && to.get(key_of(8)) == all[key_of(8)], "a load of what is scanned");
     int count = 0;
     for (auto [key, value] : tx.scan(key_of(100), key_of(199)))
         count += key == key_of(100 + count) && value == all[std::string(key)];
