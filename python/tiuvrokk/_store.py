@@ -312,6 +312,12 @@ class Transaction(_Unique):
             self.insert(text, new)
         return new if value is None else value
 
+    @overload
+    def pop(self, key: Text) -> bytes: ...
+
+    @overload
+    def pop(self, key: Text, default: Default) -> Union[bytes, Default]: ...
+
     def pop(self, key: Text, default: Any = _REQUIRED) -> Any:
         """Takes the record away and answers its value, or `default` where there is none; without one `Absent` is raised."""
         text = bytes_of(key)
@@ -323,7 +329,7 @@ class Transaction(_Unique):
             raise Absent(text)
         return default
 
-    def update(self, records: Records = (), **named: Text) -> None:
+    def update(self, records: Records = (), /, **named: Text) -> None:
         """Sets the value under each key of a mapping, or of pairs, and of the arguments that are named. Each is a write, and
         locks its key: `lock` and `load` serve many."""
         for key, value in itertools.chain(pairs_of(records), named.items()):
@@ -354,7 +360,7 @@ class Transaction(_Unique):
         return self._rows(Page.records, lo, hi, page)
 
     def items(self, lo: Text = b"", hi: Text = GREATEST) -> Iterator[Record]:
-        """The records of `scan`."""
+        """The records of `scan`. `dict(tx.items())` is one scan, where `dict(tx)` would read each record by itself."""
         return self._rows(Page.records, lo, hi)
 
     def keys(self, lo: Text = b"", hi: Text = GREATEST) -> Iterator[bytes]:
@@ -384,7 +390,8 @@ class Transaction(_Unique):
         self._stay()
         low = bytes_of(lo)
         high = low if hi is None else bytes_of(hi)
-        self._again(calls.lock, SIZES[bool(exclusive)], low, SIZES[len(low)], high, SIZES[len(high)])
+        mode = ctypes.c_uint(bool(exclusive))
+        self._again(calls.lock, mode, low, SIZES[len(low)], high, SIZES[len(high)])
 
     def _stay(self) -> None:
         if self._thread != get_ident():
