@@ -152,13 +152,18 @@ static void loads_and_scans() {
     } catch (const tiuvrokk::Exists &exists) {
         expect(exists.key() == key_of(4), "the least key that is there");
     }
-    std::uint64_t merged = 0;
-    while (auto step = store.merge()) merged += *step;
-    expect(merged > 0, "a merge");
     tx.erase(key_of(7));
     tx.commit();
-    expect(store.clean() <= 1 && store.entries() >= 2999, "a clean");
     expect(thrown([&] { for (auto record : tx.scan()) (void)record; }) == TVK_NO_TX, "a scan behind the commit");
+    Transaction reader = store.transaction();
+    auto seen = reader.scan();
+    expect(std::distance(seen.begin(), seen.end()) == 2999, "a scan of what was committed");
+    reader.commit();
+    std::uint64_t merged = 0;
+    while (auto step = store.merge()) merged += *step;
+    expect(merged >= 2999, "a merge of all");
+    while (store.clean()) continue;
+    expect(store.entries() == 2999, "a clean");
 }
 
 static void threads_in_turn() {
