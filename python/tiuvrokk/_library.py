@@ -24,6 +24,10 @@ _ADVICE = "./install-library PREFIX installs it from the sources, and TIUVROKK_L
 Call = Callable[..., int]
 
 
+Number: type[ctypes.Array[ctypes.c_uint64]] = ctypes.c_uint64 * 1
+"""Where a call tells a number: an array, which C is passed the address of."""
+
+
 class Handle(ctypes.Structure):
     """`tvk_store`."""
 

@@ -13,7 +13,7 @@ from threading import get_ident
 from types import TracebackType
 from typing import Any, NoReturn, Optional, TypeVar, Union, overload
 
-from ._library import Call, Handle, calls
+from ._library import Call, Handle, Number, calls
 from ._records import CHUNK, FIRST, GREATEST, SIZES, Key, Page, Record, Records, Text, Value, below, bytes_of, checked
 from ._records import file_records, first_double, packed, pairs_of, range_of, text_of
 from .errors import MAX_LIMIT, Absent, Closed, Exists, NotRising, Status, WrongThread, bad_limit, bad_range, error_of
@@ -83,34 +83,34 @@ class Store(_Unique):
             self._stay()
         if self._dropped:
             self._abort_dropped()
-        told = ctypes.c_uint64()
-        if status := calls.begin(self._at, ctypes.byref(told)):
+        told = Number()
+        if status := calls.begin(self._at, told):
             raise error_of(status)
         self._active += 1
-        return Transaction(self, told.value)
+        return Transaction(self, told[0])
 
     def merge(self, limit: int = MAX_LIMIT) -> Optional[int]:
         """One merge step: moves at most `limit` records of the oldest range that was read to their final place. Answers how
         many entries were worked off, 0 where that range is forgotten, since nothing is left of it or its next key is locked,
         and None where no range is waiting."""
-        told = ctypes.c_uint64()
-        status = calls.merge(self._use(), _limit(limit), ctypes.byref(told))
+        told = Number()
+        status = calls.merge(self._use(), _limit(limit), told)
         if status in (Status.DONE, Status.ENDED):
             return 0
         if status == Status.IDLE:
             return None
         if status:
             raise error_of(status)
-        return told.value
+        return told[0]
 
     def clean(self, lo: Text = b"", hi: Text = GREATEST, limit: int = MAX_LIMIT) -> int:
         """One clean step: takes away at most `limit` entries that are marked as deleted, and answers how many."""
         at, low, high = self._use(), bytes_of(lo), bytes_of(hi)
-        most, told = _limit(limit), ctypes.c_uint64()
-        status = calls.clean(at, low, SIZES[len(low)], high, SIZES[len(high)], most, ctypes.byref(told))
+        most, told = _limit(limit), Number()
+        status = calls.clean(at, low, SIZES[len(low)], high, SIZES[len(high)], most, told)
         if status:
             raise error_of(status, texts=[low, high])
-        return told.value
+        return told[0]
 
     @property
     def commits(self) -> int:
@@ -148,10 +148,10 @@ class Store(_Unique):
         return self._at
 
     def _count(self, call: Call) -> int:
-        told = ctypes.c_uint64()
-        if status := call(self._use(), ctypes.byref(told)):
+        told = Number()
+        if status := call(self._use(), told):
             raise error_of(status)
-        return told.value
+        return told[0]
 
     def _abort_dropped(self) -> None:
         while self._dropped:
@@ -191,7 +191,7 @@ class Transaction(_Unique):
     def __exit__(
         self, kind: Optional[type[BaseException]], error: Optional[BaseException], trace: Optional[TracebackType]
     ) -> None:
-        if self._is_over or not self.is_active:
+        if self._is_over or not self._store._handle.at:
             return
         if kind is None:
             self.commit()
@@ -218,24 +218,27 @@ class Transaction(_Unique):
 
     def commit(self) -> int:
         """Commits, and answers the number of the commit: they rise by one from 1."""
-        told = ctypes.c_uint64()
-        self._ask(calls.commit, told)
-        self.commit_number = told.value
+        if self._thread != get_ident():
+            self._store._stay()
+        told = Number()
+        if status := calls.commit(self._at, self._tx, told):
+            raise error_of(status, self.number)
+        self.commit_number = told[0]
         self._over()
         return self.commit_number
 
     def abort(self) -> None:
         """Takes back what was written, and ends the transaction."""
-        self._ask(calls.abort)
+        self._plain(calls.abort)
         self._over()
 
     def mark(self) -> None:
         """Sets a savepoint."""
-        self._ask(calls.mark)
+        self._plain(calls.mark)
 
     def back(self) -> None:
         """Takes back what was written since the newest savepoint, which goes. Locks stay. Raises `NoMark`."""
-        self._ask(calls.back)
+        self._plain(calls.back)
 
     @overload
     def get(self, key: Text) -> Optional[bytes]: ...
@@ -251,7 +254,7 @@ class Transaction(_Unique):
         value = Value()
         status = calls.get(self._at, self._tx, text, SIZES[len(text)], value, None)
         if status > _ABSENT:
-            status = self._again(calls.get, text, SIZES[len(text)], value)
+            status = self._ask(calls.get, Number(), text, SIZES[len(text)], value)
         if status:
             return default
         return text_of(value)
@@ -288,7 +291,7 @@ class Transaction(_Unique):
         text = bytes_of(key)
         status = calls.delete(self._at, self._tx, text, SIZES[len(text)], None)
         if status > _ABSENT:
-            status = self._again(calls.delete, text, SIZES[len(text)])
+            status = self._ask(calls.delete, Number(), text, SIZES[len(text)])
         if status:
             raise Absent(text)
 
@@ -391,7 +394,7 @@ class Transaction(_Unique):
         low = bytes_of(lo)
         high = low if hi is None else bytes_of(hi)
         mode = ctypes.c_uint(bool(exclusive))
-        self._again(calls.lock, mode, low, SIZES[len(low)], high, SIZES[len(high)])
+        self._ask(calls.lock, Number(), mode, low, SIZES[len(low)], high, SIZES[len(high)])
 
     def _stay(self) -> None:
         if self._thread != get_ident():
@@ -401,11 +404,10 @@ class Transaction(_Unique):
         self._is_over = True
         self._store._active -= 1
 
-    def _ask(self, call: Call, *told: ctypes.c_uint64) -> None:
-        """A call that speaks of the transaction alone, and may tell a number."""
-        if self._thread != get_ident():
-            self._store._stay()
-        if status := call(self._at, self._tx, *map(ctypes.byref, told)):
+    def _plain(self, call: Call) -> None:
+        """A call that speaks of the transaction alone."""
+        self._stay()
+        if status := call(self._at, self._tx):
             raise error_of(status, self.number)
 
     def _write(self, call: Call, key: bytes, value: bytes) -> int:
@@ -413,17 +415,16 @@ class Transaction(_Unique):
         if self._thread != get_ident():
             self._store._stay()
         status = call(self._at, self._tx, key, SIZES[len(key)], value, SIZES[len(value)], None)
-        return self._again(call, key, SIZES[len(key)], value, SIZES[len(value)]) if status > _EXISTS else status
+        return self._ask(call, Number(), key, SIZES[len(key)], value, SIZES[len(value)]) if status > _EXISTS else status
 
-    def _again(self, call: Call, *words: Any, told: Optional[ctypes.c_uint64] = None) -> int:
-        """A call with room for the number that it tells, which most calls are made without at first: what was refused then
-        changed nothing. Answers OK, ABSENT or EXISTS."""
-        number = ctypes.c_uint64() if told is None else told
+    def _ask(self, call: Call, told: ctypes.Array[ctypes.c_uint64], *words: Any) -> int:
+        """A call with room for the number that it tells. Reads and writes are made without at first, and made again so where
+        they are refused, which changed nothing. Answers OK, ABSENT or EXISTS."""
         if self._store._dropped:
             self._store._abort_dropped()
-        status = call(self._at, self._tx, *words, ctypes.byref(number))
+        status = call(self._at, self._tx, *words, told)
         if status > _EXISTS:
-            raise error_of(status, self.number, number.value, [it for it in words if isinstance(it, bytes)])
+            raise error_of(status, self.number, told[0], [it for it in words if isinstance(it, bytes)])
         return status
 
     def _load(self, piece: list[Record]) -> int:
@@ -432,7 +433,7 @@ class Transaction(_Unique):
         rows, exists = packed(piece), Key()
         room = (ctypes.c_char * len(rows)).from_buffer(rows)
         try:
-            status = self._again(calls.load, room, ctypes.c_size_t(len(piece)), exists)
+            status = self._ask(calls.load, Number(), room, ctypes.c_size_t(len(piece)), exists)
         except NotRising:
             raise NotRising(first_double(piece)) from None
         if status:
@@ -450,12 +451,12 @@ class Transaction(_Unique):
         return itertools.chain.from_iterable(self._pages(rows_of, low, high, page))
 
     def _pages(self, made: Callable[[Page, int], Made], low: bytes, high: bytes, size: int) -> Iterator[Made]:
-        told, call = ctypes.c_uint64(), calls.scan
+        told, call = Number(), calls.scan
         while True:
             page = Page(size)
             self._stay()
-            self._again(call, low, SIZES[len(low)], high, SIZES[len(high)], page.room, ctypes.c_size_t(size), told=told)
-            count = told.value
+            self._ask(call, told, low, SIZES[len(low)], high, SIZES[len(high)], page.room, ctypes.c_size_t(size))
+            count = told[0]
             if count:
                 low, call = page.last_key(count), calls.scan_behind
             yield made(page, count)
