@@ -301,20 +301,20 @@ public:
     }
 
     /* Adds pairs of keys and values, in any order, cut into runs, each sorted and added as a whole; tells how many they are.
-     * The run that is refused isn't added, and those before it stay. Each run is locked, so a lock over all keys serves where
-     * there are more than 256. */
+     * The run that is refused isn't added, and those before it stay. Each run is locked, and all keys are where there are more
+     * than 255. */
     template <class Iterator> std::uint64_t load(Iterator first, Iterator last, std::size_t run = RUN) {
         std::vector<tvk_record> piece;
-        std::uint64_t count = 0;
+        std::uint64_t count = 0, runs = 0;
         if (run == 0) throw Error(TVK_BAD_LIMIT, "a run of no records");
         for (; first != last; ++first) {
             const auto &[key, value] = *first;
             tvk_record &record = piece.emplace_back();
             detail::fill(record.key, key, TVK_BAD_KEY);
             detail::fill(record.value, value, TVK_BAD_VALUE);
-            if (piece.size() == run) count += load_run(piece);
+            if (piece.size() == run) count += load_run(piece, runs++);
         }
-        return piece.empty() ? count : count + load_run(piece);
+        return piece.empty() ? count : count + load_run(piece, runs);
     }
 
     template <class Pairs> std::uint64_t load(Pairs &&pairs, std::size_t run = RUN) {
@@ -361,7 +361,8 @@ private:
         return is_done(status, told, status == TVK_BAD_VALUE ? value : key);
     }
 
-    std::uint64_t load_run(std::vector<tvk_record> &piece) {
+    std::uint64_t load_run(std::vector<tvk_record> &piece, std::uint64_t before) {
+        if (before == TVK_MAX_LOCKS - 1) lock(TVK_EXCLUSIVE);
         std::sort(piece.begin(), piece.end(), detail::is_below);
         tvk_key exists;
         exists.length = 0;

@@ -135,7 +135,7 @@ static void loads_and_scans() {
     Map all;
     for (int i = 0; i < 3000; i++) all[key_of(i * 7919 % 3000)] = std::string(static_cast<std::size_t>(i % 65), 'v');
     Transaction tx = store.transaction();
-    expect(tx.load(all.begin(), all.end(), 700) == 3000, "a load");
+    expect(tx.load(all.begin(), all.end(), 10) == 3000, "a load of more runs than there are locks");
     auto rows = tx.scan();
     expect(Map(rows.begin(), rows.end()) == all, "a scan of all");
     Store copy;

@@ -9,7 +9,7 @@ import struct
 import sys
 from collections.abc import Iterable, Iterator, Mapping, Sequence
 from operator import itemgetter
-from typing import Any, Union
+from typing import Any, Optional, Union
 
 from .errors import MAX_KEY, MAX_VALUE, BadLine, bad_key, bad_value, shown
 
@@ -120,11 +120,6 @@ class Page:
         return list(itertools.chain.from_iterable(self._texts(_VALUES, count)))
 
 
-def pairs_of(records: Records) -> Iterator[tuple[Text, Text]]:
-    """The pairs of a mapping, or of what gives pairs."""
-    return iter(records.items() if isinstance(records, Mapping) else records)
-
-
 def checked(pairs: Sequence[Any]) -> Sequence[Record]:
     """The records of some pairs, each of which has to be one."""
     for kind in set(map(type, pairs)):
@@ -156,34 +151,65 @@ def first_double(records: Sequence[Record]) -> bytes:
     return next((one[0] for one, other in zip(records, records[1:]) if one[0] == other[0]), b"")
 
 
-_LINE = re.compile(rb"^([!-<>-~]{1,32})[\t=]([!-~]{1,64})$", re.MULTILINE)
+def runs_of(records: Records, run: int) -> Iterator[list[Record]]:
+    """Runs of so many records of a mapping, or of what gives pairs, each by rising key."""
+    pairs = iter(records.items() if isinstance(records, Mapping) else records)
+    piece: list[Record] = []
+    while part := list(itertools.islice(pairs, min(CHUNK, run - len(piece)))):
+        piece += checked(part)
+        if len(piece) == run:
+            yield sorted(piece, key=FIRST)
+            piece = []
+    if piece:
+        yield sorted(piece, key=FIRST)
 
 
-def file_records(text: bytes) -> list[Record]:
-    """The records of a file: each line has a key, a TAB or the first =, and a value. An empty last line is none."""
-    lines = text.replace(b"\r\n", b"\n")
-    if lines and not lines.endswith(b"\n"):
-        lines += b"\n"
-    records = _LINE.findall(lines)
-    if len(records) < lines.count(b"\n") - lines.endswith((b"\n\n",)) - (lines == b"\n"):
-        raise _bad_line(lines)
-    if len(dict(records)) < len(records):
-        raise _double_line(lines)
+_LINE = re.compile(rb"^([!-<>-~]{1,32})\t([!-~]{1,64})\r?$", re.MULTILINE)
+
+
+def line_runs(file: Iterable[bytes], run: int) -> Iterator[list[Record]]:
+    """The same of a file: each line has a key, a TAB or the first =, and a value. An empty last line is none."""
+    rest, number = iter(file), 1
+    lines = list(itertools.islice(rest, run))
+    while lines:
+        following = list(itertools.islice(rest, run))
+        if not following and lines[-1] in (b"\n", b"\r\n"):
+            lines.pop()
+        if lines:
+            yield _records(lines, number)
+        number += len(lines)
+        lines = following
+
+
+def _with_tab(line: bytes) -> bytes:
+    """The line with a TAB behind its key."""
+    return line if b"\t" in line else line.replace(b"=", b"\t", 1)
+
+
+def _records(lines: list[bytes], number: int) -> list[Record]:
+    """The records of lines, by rising key: a TAB is below all that a key has. The first of them has that number."""
+    if not lines[-1].endswith(b"\n"):
+        lines[-1] += b"\n"
+    has_tabs = b"".join(lines).count(b"\t") >= len(lines)
+    records: list[Record] = _LINE.findall(b"".join(sorted(lines if has_tabs else map(_with_tab, lines))))
+    if len(records) < len(lines):
+        raise _bad_line(lines, number)
     return records
 
 
-def _bad_line(lines: bytes) -> BadLine:
-    """Why the first line that is no record is none."""
-    numbered = enumerate(lines.split(b"\n")[:-1], 1)
-    number, line = next((number, line) for number, line in numbered if not _LINE.fullmatch(line))
+def _bad_line(lines: list[bytes], number: int) -> BadLine:
+    """The first line that is no record."""
+    at, line = next((at, it[:-1]) for at, it in enumerate(lines, number) if not _LINE.fullmatch(_with_tab(it[:-1])))
     why = "a record has a key of 1 to 32 visible characters, none of them =, a TAB or the first =, and a value of 1 to 64"
-    return BadLine(number, f"{shown(line[:60])} is no record: {why}")
+    return BadLine(at, f"{shown(line[:60])} is no record: {why}")
 
 
-def _double_line(lines: bytes) -> BadLine:
-    """The first line whose key stands in a line before."""
-    first: dict[bytes, int] = {}
-    for number, (key, _) in enumerate(_LINE.findall(lines), 1):
-        if first.setdefault(key, number) != number:
-            return BadLine(number, f"the key {shown(key)} stands in line {first[key]} already")
-    raise AssertionError("no key stands twice")
+def double_line(lines: Iterable[bytes], key: bytes) -> Optional[BadLine]:
+    """The second line that has the key, where two have it."""
+    first = 0
+    for number, line in enumerate(lines, 1):
+        if line.startswith(key) and _with_tab(line).partition(b"\t")[0] == key:
+            if first:
+                return BadLine(number, f"the key {shown(key)} stands in line {first} already")
+            first = number
+    return None

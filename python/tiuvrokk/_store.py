@@ -7,15 +7,15 @@ import itertools
 import os
 import warnings
 from collections import deque
-from collections.abc import Callable, Iterator
+from collections.abc import Callable, Iterable, Iterator, Mapping
 from operator import index
 from threading import get_ident
 from types import TracebackType
 from typing import Any, NoReturn, Optional, TypeVar, Union, overload
 
 from ._library import Call, Handle, Number, calls
-from ._records import CHUNK, FIRST, GREATEST, SIZES, Key, Page, Record, Records, Text, Value, below, bytes_of, checked
-from ._records import file_records, first_double, packed, pairs_of, range_of, text_of
+from ._records import GREATEST, SIZES, Key, Page, Record, Records, Text, Value, below, bytes_of, double_line, first_double
+from ._records import line_runs, packed, range_of, runs_of, text_of
 from .errors import MAX_LIMIT, Absent, Closed, Exists, NotRising, Status, WrongThread, bad_limit, bad_range, error_of
 
 Default = TypeVar("Default")
@@ -24,7 +24,7 @@ Made = TypeVar("Made")
 
 MAX_PAGE = 999
 RUN = 65536
-_MAX_LOCKED_RUNS = 256
+_LOCKED_RUNS = 255
 _REQUIRED: Any = object()
 _ABSENT, _EXISTS = int(Status.ABSENT), int(Status.EXISTS)
 
@@ -126,12 +126,14 @@ class Store(_Unique):
         record, as `amload` reads it: a key of 1 to 32 visible characters of ASCII, none of them `=`, a TAB or the first
         `=`, and a value of 1 to 64. Raises `BadLine`, and `Exists` where a key has a record."""
         self._use()
-        with open(path, "rb") as file:
-            records = file_records(file.read())
-        with self.transaction() as tx:
-            if len(records) > run * _MAX_LOCKED_RUNS:
-                tx.lock(b"", GREATEST, exclusive=True)
-            return tx.load(records, run)
+        with open(path, "rb") as file, self.transaction() as tx:
+            try:
+                return tx._load_runs(line_runs(file, _run(run)))
+            except (Exists, NotRising) as error:
+                if not file.seekable():
+                    raise
+                file.seek(0)
+                raise double_line(file, error.key) or error from None
 
     def _stay(self) -> None:
         """Raises where another thread than the store's is at work."""
@@ -335,7 +337,8 @@ class Transaction(_Unique):
     def update(self, records: Records = (), /, **named: Text) -> None:
         """Sets the value under each key of a mapping, or of pairs, and of the arguments that are named. Each is a write, and
         locks its key: `lock` and `load` serve many."""
-        for key, value in itertools.chain(pairs_of(records), named.items()):
+        pairs = records.items() if isinstance(records, Mapping) else records
+        for key, value in itertools.chain(pairs, named.items()):
             self[key] = value
 
     def load(self, records: Records, run: int = RUN) -> int:
@@ -344,18 +347,9 @@ class Transaction(_Unique):
 
         Raises `Exists`, with the least key of the run that has a record, and `NotRising` where a run has a key twice. The
         run that was refused isn't added, and those before it stay: set a savepoint first, or abort, to be rid of them. Each
-        run is locked, so a lock over all keys serves where there are more than 256."""
+        run is locked, and all keys are where there are more than 255."""
         self._store._use()
-        if index(run) < 1:
-            raise bad_limit(RUN, run)
-        count, pairs = 0, pairs_of(records)
-        piece: list[Record] = []
-        while part := list(itertools.islice(pairs, min(CHUNK, run - len(piece)))):
-            piece += checked(part)
-            if len(piece) == run:
-                count += self._load(piece)
-                piece = []
-        return count + self._load(piece) if piece else count
+        return self._load_runs(runs_of(records, _run(run)))
 
     def scan(self, lo: Text = b"", hi: Text = GREATEST, page: int = 100) -> Iterator[Record]:
         """The records from `lo` to `hi`, both included, by rising key. So many are read at a time: `page` at first, 999 at most,
@@ -427,18 +421,25 @@ class Transaction(_Unique):
             raise error_of(status, self.number, told[0], [it for it in words if isinstance(it, bytes)])
         return status
 
-    def _load(self, piece: list[Record]) -> int:
-        """Loads a run, and answers how many records it has."""
-        piece.sort(key=FIRST)
-        rows, exists = packed(piece), Key()
+    def _load_runs(self, runs: Iterable[list[Record]]) -> int:
+        """Loads runs, and answers how many records they have."""
+        count = 0
+        for number, records in enumerate(runs):
+            if number == _LOCKED_RUNS:
+                self.lock(b"", GREATEST, exclusive=True)
+            self._load(records)
+            count += len(records)
+        return count
+
+    def _load(self, records: list[Record]) -> None:
+        rows, exists = packed(records), Key()
         room = (ctypes.c_char * len(rows)).from_buffer(rows)
         try:
-            status = self._ask(calls.load, Number(), room, ctypes.c_size_t(len(piece)), exists)
+            status = self._ask(calls.load, Number(), room, ctypes.c_size_t(len(records)), exists)
         except NotRising:
-            raise NotRising(first_double(piece)) from None
+            raise NotRising(first_double(records)) from None
         if status:
             raise Exists(text_of(exists))
-        return len(piece)
 
     def _rows(self, rows_of: Callable[[Page, int], list[Row]], lo: Text, hi: Text, page: int = 100) -> Iterator[Row]:
         """What is made of each page of the records from `lo` to `hi`."""
@@ -471,6 +472,13 @@ class Transaction(_Unique):
         low, end = range_of(b"" if asked.start is None else asked.start, GREATEST if asked.stop is None else asked.stop)
         high = GREATEST if asked.stop is None else below(end) if end else b""
         return [] if asked.stop is not None and end <= low else list(self._rows(Page.records, low, high, MAX_PAGE))
+
+
+def _run(run: int) -> int:
+    """The most records of a run."""
+    if index(run) < 1:
+        raise bad_limit(RUN, run)
+    return run
 
 
 def _limit(limit: int) -> ctypes.c_uint64:
