@@ -153,10 +153,12 @@ def main(records: int, operations: int, folder: str) -> None:
     print(f"{'microseconds':<28}{'tiuvrokk':>9}" + "".join(f"{kind.__name__.lower():>11}" for kind in made[1:]))
     stores: Dict[int, Any] = {}
 
-    def loads(sort: bool) -> List[float]:
+    # (made anew in their order, so that neighbours lie beside one another in memory)
+    by_key = [(bytes(bytearray(key)), bytes(bytearray(value))) for key, value in sorted(given)]
+
+    def loads(rows: List[Record]) -> List[float]:
         times = []
         for at, kind in enumerate(made):
-            rows = sorted(given) if sort else given
             found = []
             for _ in range(TRIES):
                 stores[at] = kind()
@@ -164,8 +166,8 @@ def main(records: int, operations: int, folder: str) -> None:
             times.append(min(found) / records)
         return times
 
-    tell("load, records by key", loads(True))
-    tell("load, records in no order", loads(False))
+    tell("load, records by key", loads(by_key))
+    tell("load, records in no order", loads(given))
     keys = [dice.choice(given)[0] for _ in range(operations)]
     rows = [(key, dice.randbytes(64)) for key in keys]
     for size in (1, 10, 1000):
