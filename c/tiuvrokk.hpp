@@ -15,9 +15,9 @@
  *     c++ -std=c++17 demo.cpp $(pkg-config --cflags --libs tiuvrokk)
  *
  * All of it stands over the calls of tiuvrokk.h, which says what each does, which statuses it has, and what locks are. A call
- * that is refused throws, and changed nothing: OutOfMemory, which is a std::bad_alloc, where memory was refused; Busy, Absent or
- * Exists, with the transaction or the key that they are about; and else an Error with its status. A transaction is aborted where
- * it leaves its scope without a commit, by an exception or otherwise.
+ * that is refused throws, and changed nothing: OutOfMemory, which is a std::bad_alloc, where memory was refused; Busy, Absent
+ * or Exists, with the transaction or the key that they are about; and else an Error with its status. A transaction is aborted
+ * where it leaves its scope without a commit, by an exception or otherwise.
  *
  * A store and its transactions are moved and not copied. An object that was moved from has no store, and neither has a
  * transaction of a closed store: their calls throw an Error of TVK_NO_STORE. Any thread may use a store with its transactions,
