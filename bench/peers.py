@@ -137,7 +137,7 @@ def seconds(call: Callable[[], Any], tries: int = TRIES) -> float:
 
 def tell(what: str, times: List[float]) -> None:
     others = "".join(f"{it / times[0]:10.2f}x" for it in times[1:])
-    print(f"{what:<28}{times[0] * 1e6:9.2f}{others}", flush=True)
+    print(f"{what:<32}{times[0] * 1e6:9.2f}{others}", flush=True)
 
 
 def parts(items: List[Any], size: int) -> List[List[Any]]:
@@ -150,7 +150,7 @@ def main(records: int, operations: int, folder: str) -> None:
     kinds: List[Optional[Callable[[], Any]]] = [Tiuvrokk, Sqlite, Lmdb if lmdb else None]
     made = [kind for kind in kinds if kind]
     given = [(dice.randbytes(16), dice.randbytes(64)) for _ in range(records)]
-    print(f"{'microseconds':<28}{'tiuvrokk':>9}" + "".join(f"{kind.__name__.lower():>11}" for kind in made[1:]))
+    print(f"{'microseconds':<32}{'tiuvrokk':>9}" + "".join(f"{kind.__name__.lower():>11}" for kind in made[1:]))
     stores: Dict[int, Any] = {}
 
     # (made anew in their order, so that neighbours lie beside one another in memory)
@@ -177,12 +177,13 @@ def main(records: int, operations: int, folder: str) -> None:
         times = [seconds(lambda: [store.put(it) for it in given_rows]) / operations for store in stores.values()]
         tell(f"sets, {size} each", times)
     starts = keys[: max(operations // 100, 1)]
-    times = [seconds(lambda: [store.scan(it, 100) for it in starts]) / len(starts) / 100 for store in stores.values()]
-    tell("scans of 100, a row", times)
-    tell("scan of all, a row", [seconds(lambda: store.scan(b"", records)) / records for store in stores.values()])
-    while stores[0].store.merge() is not None:
-        pass
-    tell("the same, all merged", [seconds(lambda: store.scan(b"", records)) / records for store in stores.values()])
+    for state in ("", ", all merged"):
+        times = [seconds(lambda: [store.scan(it, 100) for it in starts]) / len(starts) / 100 for store in stores.values()]
+        tell(f"scans of 100{state}, a row", times)
+        times = [seconds(lambda: store.scan(b"", records)) / records for store in stores.values()]
+        tell(f"scan of all{state}, a row", times)
+        while stores[0].store.merge() is not None:
+            pass
     tell("transactions of nothing", [seconds(lambda: [store.get([]) for _ in keys]) / operations for store in stores.values()])
 
 
