@@ -63,15 +63,41 @@ static tvk_record no_records[1];
 #define KEY(key) TEXT(key, TVK_MAX_KEY, TVK_BAD_KEY)
 #define VALUE(value) TEXT(value, TVK_MAX_VALUE, TVK_BAD_VALUE)
 
-const char *tvk_name(tvk_status status) {
-    static const char *const names[] = {
-        "TVK_OK", "TVK_ABSENT", "TVK_EXISTS", "TVK_BUSY", "TVK_NO_TX", "TVK_NO_MARK", "TVK_DONE", "TVK_IDLE", "TVK_ENDED",
-        "TVK_TOO_MANY_TX", "TVK_TOO_MANY_LOCKS", "TVK_TOO_MANY_OPS", "TVK_TOO_MANY_RUNS", "TVK_NOT_RISING",
-        "TVK_BAD_LIMIT", "TVK_NO_MEMORY", "?", "TVK_NO_STORE", "TVK_IS_OPEN", "TVK_BAD_KEY", "TVK_BAD_VALUE",
-        "TVK_BAD_RANGE", "TVK_BAD_MODE", "TVK_NULL",
-    };
-    return (size_t)status < sizeof names / sizeof *names ? names[status] : "?";
-}
+static const struct {
+    const char *name, *text;
+} statuses[] = {
+    {"TVK_OK", "the call did what it is for"},
+    {"TVK_ABSENT", "the key has no record"},
+    {"TVK_EXISTS", "the key has a record already"},
+    {"TVK_BUSY", "another transaction holds a lock that is in the way"},
+    {"TVK_NO_TX", "no transaction of this number is active"},
+    {"TVK_NO_MARK", "the transaction has no savepoint"},
+    {"TVK_DONE", "nothing is left to merge for the oldest range that was read"},
+    {"TVK_IDLE", "no range is waiting to be merged"},
+    {"TVK_ENDED", "the next key to merge is locked by a transaction"},
+    {"TVK_TOO_MANY_TX", "64 transactions are active, and may be no more"},
+    {"TVK_TOO_MANY_LOCKS", "the transaction holds 256 locks, and may hold no more"},
+    {"TVK_TOO_MANY_OPS", "4096 operations of the transaction were answered, and may be no more"},
+    {"TVK_TOO_MANY_RUNS", "65535 loads were made, and may be no more"},
+    {"TVK_NOT_RISING", "the records of a load don't rise strictly by key, or there are none"},
+    {"TVK_BAD_LIMIT", "a number of rows or entries is out of bounds"},
+    {"TVK_NO_MEMORY", "memory was refused, and nothing is changed"},
+    {"?", "no status has this number"},
+    {"TVK_NO_STORE", "the handle has no store"},
+    {"TVK_IS_OPEN", "the handle has a store already"},
+    {"TVK_BAD_KEY", "a key is longer than 32 bytes"},
+    {"TVK_BAD_VALUE", "a value is longer than 64 bytes"},
+    {"TVK_BAD_RANGE", "the first key of a range is above its last"},
+    {"TVK_BAD_MODE", "a lock is neither shared nor exclusive"},
+    {"TVK_NULL", "a pointer is NULL that may not be"},
+};
+
+/* Where the words for a status stand; 16 is none. */
+static size_t place_of(tvk_status status) { return (size_t)status < sizeof statuses / sizeof *statuses ? (size_t)status : 16; }
+
+const char *tvk_name(tvk_status status) { return statuses[place_of(status)].name; }
+
+const char *tvk_text(tvk_status status) { return statuses[place_of(status)].text; }
 
 /* The words of a hash key: the system's random bytes. Where it gives none, the clock and an address, which differ from run to
  * run, and which a stranger may guess: then keys can be chosen that take longer to look for. No memory is taken. */

@@ -29,8 +29,11 @@
  * MEMORY is taken by malloc and realloc and given back by free, and by nothing else. Any call that may want memory may
  * answer TVK_NO_MEMORY, and has changed nothing then. tvk_begin, tvk_commit, tvk_abort, tvk_back and tvk_clean never do.
  *
- * THREADS. A handle is used by one thread at a time, and stays on the thread that opened it. Different handles have nothing
- * in common. The library starts no thread and takes no lock, and is called from no signal handler.
+ * THREADS. Any thread may use a handle, one at a time: it may be opened on one, used on another, and closed on a third, where
+ * each is done before the next begins, by a mutex, a join, or a message. The library keeps nothing for a thread, and its memory
+ * is malloc's, which any thread may free. Two calls at once on one handle are the caller's fault, and aren't seen. Different
+ * handles have nothing in common and may be used at once. The library starts no thread and takes no lock. It is called from no
+ * signal handler, and from no child that a process with several threads forked.
  *
  * LOCKS. Each operation of a transaction locks the range of keys that it speaks of, shared to read and exclusive to write,
  * until the transaction ends. A lock is granted or refused at once: no call waits. TVK_BUSY names the transaction that is
@@ -45,11 +48,11 @@
  * said, which for rows, values and numbers told are the caller's to write; nothing that a call writes overlaps what else it
  * is passed.
  *
- * ONE ORDER. Where several things are wrong, the first of these is told: TVK_NO_STORE; TVK_NULL, TVK_BAD_KEY and
- * TVK_BAD_VALUE, in the order of the arguments; TVK_BAD_LIMIT; TVK_BAD_MODE; TVK_BAD_RANGE; of the records of a load
- * TVK_BAD_KEY, TVK_BAD_VALUE, and TVK_NO_MEMORY for their copy; and then, by the store, TVK_NO_TX, TVK_TOO_MANY_TX,
- * TVK_TOO_MANY_OPS, TVK_NOT_RISING, TVK_TOO_MANY_RUNS, TVK_BUSY, TVK_TOO_MANY_LOCKS, TVK_NO_MEMORY, and the answer itself. A
- * lock stays where the answer is TVK_ABSENT or TVK_EXISTS.
+ * ONE ORDER. Where several things are wrong, the first of these is told, and each call below has its statuses in this order:
+ * TVK_NO_STORE; TVK_NULL, TVK_BAD_KEY and TVK_BAD_VALUE, in the order of the arguments; TVK_BAD_LIMIT; TVK_BAD_MODE;
+ * TVK_BAD_RANGE; of the records of a load TVK_NO_MEMORY for their copy, and TVK_BAD_KEY and TVK_BAD_VALUE; and then, by the
+ * store, TVK_NO_TX, TVK_TOO_MANY_TX, TVK_TOO_MANY_OPS, TVK_NOT_RISING, TVK_TOO_MANY_RUNS, TVK_BUSY, TVK_TOO_MANY_LOCKS,
+ * TVK_NO_MEMORY, and the answer itself. A lock stays where the answer is TVK_ABSENT or TVK_EXISTS.
  *
  * NUMBERS TOLD. The last argument of most calls points to a number, or is NULL where it isn't wanted. It is set by every call
  * that was passed a handle: to what the call says, and where the status is TVK_BUSY or TVK_ENDED to the number of the
@@ -67,7 +70,7 @@
 extern "C" {
 #endif
 
-/* How a call ended. Only what a call says beside TVK_OK may come of it, and TVK_NO_STORE, TVK_NULL. */
+/* How a call ended. Nothing but what a call lists comes of it. */
 typedef enum tvk_status {
     TVK_OK = 0,
     TVK_ABSENT = 1,          /* the key has no record */
@@ -133,83 +136,348 @@ typedef enum tvk_mode {
     TVK_EXCLUSIVE = 1
 } tvk_mode;
 
-/* The name of a status, as "TVK_BUSY". It is a constant. */
+/** The name of a status, as "TVK_BUSY". It is a constant, and "?" for a number that is no status. */
 const char *tvk_name(tvk_status status);
 
-/* Opens an empty store. TVK_IS_OPEN, TVK_NO_MEMORY. */
+/** What a status says, as "another transaction holds a lock that is in the way". It is a constant. */
+const char *tvk_text(tvk_status status);
+
+/** Opens an empty store.
+ *
+ * @param[in,out] store  a handle that is TVK_CLOSED
+ *
+ * @retval TVK_OK         the handle has a store
+ * @retval TVK_NO_STORE   `store` is NULL
+ * @retval TVK_IS_OPEN    the handle has a store already, which stays
+ * @retval TVK_NO_MEMORY  memory was refused
+ */
 tvk_status tvk_open(tvk_store *store);
 
-/* Gives back all memory of the store, whatever is open in it. */
+/** Gives back all memory of the store, whatever is open in it. The handle is TVK_CLOSED then.
+ *
+ * @param[in,out] store  the store
+ *
+ * @retval TVK_OK        it is closed
+ * @retval TVK_NO_STORE  the handle is NULL or has no store
+ */
 tvk_status tvk_close(tvk_store *store);
 
-/* Begins a transaction, and tells its number: they rise by one from 1. TVK_TOO_MANY_TX. */
+/** Begins a transaction.
+ *
+ * @param[in,out] store  the store
+ * @param[out] tx        the transaction's number: they rise by one from 1
+ *
+ * @retval TVK_OK           it is begun
+ * @retval TVK_NO_STORE     the handle is NULL or has no store
+ * @retval TVK_TOO_MANY_TX  TVK_MAX_TX transactions are active
+ */
 tvk_status tvk_begin(tvk_store *store, uint64_t *tx);
 
-/* Commits a transaction, and tells the number of the commit: they rise by one from 1. Its locks end. TVK_NO_TX. */
+/** Commits a transaction. Its locks end.
+ *
+ * @param[in,out] store  the store
+ * @param tx             the transaction
+ * @param[out] commit    the number of the commit: they rise by one from 1
+ *
+ * @retval TVK_OK        it is committed
+ * @retval TVK_NO_STORE  the handle is NULL or has no store
+ * @retval TVK_NO_TX     no transaction of this number is active
+ */
 tvk_status tvk_commit(tvk_store *store, uint64_t tx, uint64_t *commit);
 
-/* Takes back what a transaction wrote, and ends it. Its locks end. TVK_NO_TX. */
+/** Takes back what a transaction wrote, and ends it. Its locks end.
+ *
+ * @param[in,out] store  the store
+ * @param tx             the transaction
+ *
+ * @retval TVK_OK        it is aborted
+ * @retval TVK_NO_STORE  the handle is NULL or has no store
+ * @retval TVK_NO_TX     no transaction of this number is active
+ */
 tvk_status tvk_abort(tvk_store *store, uint64_t tx);
 
-/* Sets a savepoint. TVK_NO_TX, TVK_TOO_MANY_OPS, TVK_NO_MEMORY. */
+/** Sets a savepoint.
+ *
+ * @param[in,out] store  the store
+ * @param tx             the transaction
+ *
+ * @retval TVK_OK            it is set
+ * @retval TVK_NO_STORE      the handle is NULL or has no store
+ * @retval TVK_NO_TX         no transaction of this number is active
+ * @retval TVK_TOO_MANY_OPS  TVK_MAX_OPS operations of the transaction were answered
+ * @retval TVK_NO_MEMORY     memory was refused
+ */
 tvk_status tvk_mark(tvk_store *store, uint64_t tx);
 
-/* Takes back what was written since the newest savepoint, which goes. Locks stay. TVK_NO_MARK, TVK_NO_TX, TVK_TOO_MANY_OPS. */
+/** Takes back what was written since the newest savepoint, which goes. Locks stay.
+ *
+ * @param[in,out] store  the store
+ * @param tx             the transaction
+ *
+ * @retval TVK_OK            it is taken back
+ * @retval TVK_NO_STORE      the handle is NULL or has no store
+ * @retval TVK_NO_TX         no transaction of this number is active
+ * @retval TVK_TOO_MANY_OPS  TVK_MAX_OPS operations of the transaction were answered
+ * @retval TVK_NO_MARK       the transaction has no savepoint
+ */
 tvk_status tvk_back(tvk_store *store, uint64_t tx);
 
-/* The operations of a transaction may answer TVK_BUSY, telling the holder, TVK_NO_TX, TVK_TOO_MANY_OPS, TVK_TOO_MANY_LOCKS
- * and TVK_NO_MEMORY, and TVK_BAD_KEY, TVK_BAD_VALUE and TVK_BAD_RANGE of what they are given. A key or a value of no bytes
- * may be NULL. */
-
-/* Reads a record: its value goes to `value`. TVK_ABSENT, and `value` is as it was wherever the status isn't TVK_OK. */
+/** Reads a record. Its key is locked, shared.
+ *
+ * @param[in,out] store   the store
+ * @param tx              the transaction
+ * @param[in] key         the key's bytes: NULL where there are none
+ * @param key_length      how many they are
+ * @param[out] value      the record's value; as it was wherever the status isn't TVK_OK
+ * @param[out] holder     the transaction that is in the way, or 0; NULL where it isn't wanted
+ *
+ * @retval TVK_OK              `value` is the record's
+ * @retval TVK_NO_STORE        the handle is NULL or has no store
+ * @retval TVK_BAD_KEY         the key is longer than TVK_MAX_KEY bytes
+ * @retval TVK_NULL            `value` is NULL, or `key` is and has a length
+ * @retval TVK_NO_TX           no transaction of this number is active
+ * @retval TVK_TOO_MANY_OPS    TVK_MAX_OPS operations of the transaction were answered
+ * @retval TVK_BUSY            `holder` has a lock that is in the way
+ * @retval TVK_TOO_MANY_LOCKS  the transaction holds TVK_MAX_LOCKS locks, and none of them covers the key
+ * @retval TVK_NO_MEMORY       memory was refused
+ * @retval TVK_ABSENT          the key has no record
+ */
 tvk_status tvk_get(tvk_store *store, uint64_t tx, const void *key, size_t key_length, tvk_value *value, uint64_t *holder);
 
-/* Adds a record. TVK_EXISTS, and nothing is changed. */
+/** Adds a record. Its key is locked, exclusive.
+ *
+ * @param[in,out] store   the store
+ * @param tx              the transaction
+ * @param[in] key         the key's bytes: NULL where there are none
+ * @param key_length      how many they are
+ * @param[in] value       the value's bytes: NULL where there are none
+ * @param value_length    how many they are
+ * @param[out] holder     the transaction that is in the way, or 0; NULL where it isn't wanted
+ *
+ * @retval TVK_OK              the record is added
+ * @retval TVK_NO_STORE        the handle is NULL or has no store
+ * @retval TVK_BAD_KEY         the key is longer than TVK_MAX_KEY bytes
+ * @retval TVK_BAD_VALUE       the value is longer than TVK_MAX_VALUE bytes
+ * @retval TVK_NULL            `key` or `value` is NULL and has a length
+ * @retval TVK_NO_TX           no transaction of this number is active
+ * @retval TVK_TOO_MANY_OPS    TVK_MAX_OPS operations of the transaction were answered
+ * @retval TVK_BUSY            `holder` has a lock that is in the way
+ * @retval TVK_TOO_MANY_LOCKS  the transaction holds TVK_MAX_LOCKS locks, and none of them covers the key
+ * @retval TVK_NO_MEMORY       memory was refused
+ * @retval TVK_EXISTS          the key has a record, which is as it was
+ */
 tvk_status tvk_insert(tvk_store *store, uint64_t tx, const void *key, size_t key_length, const void *value,
                       size_t value_length, uint64_t *holder);
 
-/* Gives a record another value. TVK_ABSENT, and nothing is changed. */
+/** Gives a record another value. Its key is locked, exclusive.
+ *
+ * @param[in,out] store   the store
+ * @param tx              the transaction
+ * @param[in] key         the key's bytes: NULL where there are none
+ * @param key_length      how many they are
+ * @param[in] value       the value's bytes: NULL where there are none
+ * @param value_length    how many they are
+ * @param[out] holder     the transaction that is in the way, or 0; NULL where it isn't wanted
+ *
+ * @retval TVK_OK              the record has the value
+ * @retval TVK_NO_STORE        the handle is NULL or has no store
+ * @retval TVK_BAD_KEY         the key is longer than TVK_MAX_KEY bytes
+ * @retval TVK_BAD_VALUE       the value is longer than TVK_MAX_VALUE bytes
+ * @retval TVK_NULL            `key` or `value` is NULL and has a length
+ * @retval TVK_NO_TX           no transaction of this number is active
+ * @retval TVK_TOO_MANY_OPS    TVK_MAX_OPS operations of the transaction were answered
+ * @retval TVK_BUSY            `holder` has a lock that is in the way
+ * @retval TVK_TOO_MANY_LOCKS  the transaction holds TVK_MAX_LOCKS locks, and none of them covers the key
+ * @retval TVK_NO_MEMORY       memory was refused
+ * @retval TVK_ABSENT          the key has no record, and gets none
+ */
 tvk_status tvk_replace(tvk_store *store, uint64_t tx, const void *key, size_t key_length, const void *value,
                        size_t value_length, uint64_t *holder);
 
-/* Takes a record away. TVK_ABSENT, and nothing is changed. */
+/** Takes a record away. Its key is locked, exclusive.
+ *
+ * @param[in,out] store   the store
+ * @param tx              the transaction
+ * @param[in] key         the key's bytes: NULL where there are none
+ * @param key_length      how many they are
+ * @param[out] holder     the transaction that is in the way, or 0; NULL where it isn't wanted
+ *
+ * @retval TVK_OK              the key has no record any more
+ * @retval TVK_NO_STORE        the handle is NULL or has no store
+ * @retval TVK_BAD_KEY         the key is longer than TVK_MAX_KEY bytes
+ * @retval TVK_NULL            `key` is NULL and has a length
+ * @retval TVK_NO_TX           no transaction of this number is active
+ * @retval TVK_TOO_MANY_OPS    TVK_MAX_OPS operations of the transaction were answered
+ * @retval TVK_BUSY            `holder` has a lock that is in the way
+ * @retval TVK_TOO_MANY_LOCKS  the transaction holds TVK_MAX_LOCKS locks, and none of them covers the key
+ * @retval TVK_NO_MEMORY       memory was refused
+ * @retval TVK_ABSENT          the key had no record
+ */
 tvk_status tvk_delete(tvk_store *store, uint64_t tx, const void *key, size_t key_length, uint64_t *holder);
 
-/* Adds `number` records, which rise strictly by key, as a new run, all of them or none. They can be read at once; merging
- * brings them to their place later, where they are read. TVK_EXISTS, and the least key that has a record goes to `exists`,
- * which may be NULL; TVK_NOT_RISING, TVK_TOO_MANY_RUNS. The range from the first key to the last is locked. */
+/** Adds records as a new run, all of them or none. They can be read at once; merging brings them to their place later, where
+ * they are read. The range from the first key to the last is locked, exclusive.
+ *
+ * @param[in,out] store   the store
+ * @param tx              the transaction
+ * @param[in] records     the records, which rise strictly by key
+ * @param number          how many they are
+ * @param[out] exists     where the status is TVK_EXISTS, the least of the keys that has a record; NULL where it isn't wanted
+ * @param[out] holder     the transaction that is in the way, or 0; NULL where it isn't wanted
+ *
+ * @retval TVK_OK              the records are added
+ * @retval TVK_NO_STORE        the handle is NULL or has no store
+ * @retval TVK_NULL            `records` is NULL, and `number` isn't 0
+ * @retval TVK_BAD_KEY         a key is longer than TVK_MAX_KEY bytes
+ * @retval TVK_BAD_VALUE       a value is longer than TVK_MAX_VALUE bytes
+ * @retval TVK_NO_TX           no transaction of this number is active
+ * @retval TVK_TOO_MANY_OPS    TVK_MAX_OPS operations of the transaction were answered
+ * @retval TVK_NOT_RISING      the records don't rise strictly by key, or there are none
+ * @retval TVK_TOO_MANY_RUNS   TVK_MAX_RUNS loads were made
+ * @retval TVK_BUSY            `holder` has a lock that is in the way
+ * @retval TVK_TOO_MANY_LOCKS  the transaction holds TVK_MAX_LOCKS locks, and none of them covers the range
+ * @retval TVK_NO_MEMORY       memory was refused: for the run, or, in front of TVK_BAD_KEY, for a copy of the records
+ * @retval TVK_EXISTS          a key has a record: `exists`
+ */
 tvk_status tvk_load(tvk_store *store, uint64_t tx, const tvk_record *records, size_t number, tvk_key *exists,
                     uint64_t *holder);
 
-/* Reads the first records from `lo` to `hi`, both included, by rising key: as many as there are, at most `limit`, which is
- * 1 to TVK_MAX_ROWS. They go to `rows`, which has room for `limit`; `told` is how many they are. The whole range is locked.
- * TVK_BAD_LIMIT. */
+/** Reads the first records of a range by rising key: as many as there are, at most `limit`. The whole range is locked, shared.
+ *
+ * @param[in,out] store   the store
+ * @param tx              the transaction
+ * @param[in] lo          the least key of the range: NULL where it has no bytes
+ * @param lo_length       how many bytes it has
+ * @param[in] hi          the greatest key of the range
+ * @param hi_length       how many bytes it has
+ * @param[out] rows       room for `limit` records
+ * @param limit           1 to TVK_MAX_ROWS
+ * @param[out] told       how many records went to `rows`, or the transaction that is in the way, or 0
+ *
+ * @retval TVK_OK              `told` records are read
+ * @retval TVK_NO_STORE        the handle is NULL or has no store
+ * @retval TVK_BAD_KEY         a key is longer than TVK_MAX_KEY bytes
+ * @retval TVK_NULL            `rows` is NULL, or a key is and has a length
+ * @retval TVK_BAD_LIMIT       `limit` is out of bounds
+ * @retval TVK_BAD_RANGE       `lo` is above `hi`
+ * @retval TVK_NO_TX           no transaction of this number is active
+ * @retval TVK_TOO_MANY_OPS    TVK_MAX_OPS operations of the transaction were answered
+ * @retval TVK_BUSY            `told` has a lock that is in the way
+ * @retval TVK_TOO_MANY_LOCKS  the transaction holds TVK_MAX_LOCKS locks, and none of them covers the range
+ * @retval TVK_NO_MEMORY       memory was refused
+ */
 tvk_status tvk_scan(tvk_store *store, uint64_t tx, const void *lo, size_t lo_length, const void *hi, size_t hi_length,
                     tvk_record *rows, size_t limit, uint64_t *told);
 
-/* Goes on from a key: the same from behind `key` on, for the last key of the rows before. `limit` is at most
- * TVK_MAX_ROWS - 1. */
+/** Goes on with a scan: reads the first records behind `key`, the last key of the rows before. The range from `key` to `hi` is
+ * locked, shared.
+ *
+ * @param[in,out] store   the store
+ * @param tx              the transaction
+ * @param[in] key         the key that the records are behind: NULL where it has no bytes
+ * @param key_length      how many bytes it has
+ * @param[in] hi          the greatest key of the range
+ * @param hi_length       how many bytes it has
+ * @param[out] rows       room for `limit` records
+ * @param limit           1 to TVK_MAX_ROWS - 1
+ * @param[out] told       how many records went to `rows`, or the transaction that is in the way, or 0
+ *
+ * @retval TVK_OK              `told` records are read
+ * @retval TVK_NO_STORE        the handle is NULL or has no store
+ * @retval TVK_BAD_KEY         a key is longer than TVK_MAX_KEY bytes
+ * @retval TVK_NULL            `rows` is NULL, or a key is and has a length
+ * @retval TVK_BAD_LIMIT       `limit` is out of bounds
+ * @retval TVK_BAD_RANGE       `key` is above `hi`
+ * @retval TVK_NO_TX           no transaction of this number is active
+ * @retval TVK_TOO_MANY_OPS    TVK_MAX_OPS operations of the transaction were answered
+ * @retval TVK_BUSY            `told` has a lock that is in the way
+ * @retval TVK_TOO_MANY_LOCKS  the transaction holds TVK_MAX_LOCKS locks, and none of them covers the range
+ * @retval TVK_NO_MEMORY       memory was refused
+ */
 tvk_status tvk_scan_behind(tvk_store *store, uint64_t tx, const void *key, size_t key_length, const void *hi,
                            size_t hi_length, tvk_record *rows, size_t limit, uint64_t *told);
 
-/* Locks the range from `lo` to `hi`, absent keys too. TVK_BAD_MODE. */
+/** Locks a range, absent keys too.
+ *
+ * @param[in,out] store   the store
+ * @param tx              the transaction
+ * @param mode            TVK_SHARED to read, TVK_EXCLUSIVE to write
+ * @param[in] lo          the least key of the range: NULL where it has no bytes
+ * @param lo_length       how many bytes it has
+ * @param[in] hi          the greatest key of the range
+ * @param hi_length       how many bytes it has
+ * @param[out] holder     the transaction that is in the way, or 0; NULL where it isn't wanted
+ *
+ * @retval TVK_OK              the range is locked
+ * @retval TVK_NO_STORE        the handle is NULL or has no store
+ * @retval TVK_BAD_KEY         a key is longer than TVK_MAX_KEY bytes
+ * @retval TVK_NULL            a key is NULL and has a length
+ * @retval TVK_BAD_MODE        `mode` is neither
+ * @retval TVK_BAD_RANGE       `lo` is above `hi`
+ * @retval TVK_NO_TX           no transaction of this number is active
+ * @retval TVK_TOO_MANY_OPS    TVK_MAX_OPS operations of the transaction were answered
+ * @retval TVK_BUSY            `holder` has a lock that is in the way
+ * @retval TVK_TOO_MANY_LOCKS  the transaction holds TVK_MAX_LOCKS locks, and none of them covers the range
+ * @retval TVK_NO_MEMORY       memory was refused
+ */
 tvk_status tvk_lock(tvk_store *store, uint64_t tx, tvk_mode mode, const void *lo, size_t lo_length, const void *hi,
                     size_t hi_length, uint64_t *holder);
 
-/* Moves records of the oldest range that was read from loaded runs to their final place, at most `limit` of them, 1 to
- * TVK_MAX_LIMIT, and tells how many entries of a run were worked off. No transaction sees a difference. TVK_DONE, TVK_IDLE,
- * TVK_ENDED, TVK_BAD_LIMIT, TVK_NO_MEMORY. */
+/** Moves records of the oldest range that was read from loaded runs to their final place. No transaction sees a difference.
+ *
+ * @param[in,out] store  the store
+ * @param limit          the most records that are moved, 1 to TVK_MAX_LIMIT
+ * @param[out] told      how many entries of a run were worked off, or the transaction that is in the way, or 0
+ *
+ * @retval TVK_OK         `told` entries were worked off
+ * @retval TVK_NO_STORE   the handle is NULL or has no store
+ * @retval TVK_BAD_LIMIT  `limit` is out of bounds
+ * @retval TVK_DONE       nothing is left to merge for the range, which is forgotten
+ * @retval TVK_IDLE       no range is waiting to be merged
+ * @retval TVK_ENDED      the next key to merge is locked by `told`, and the range is forgotten
+ * @retval TVK_NO_MEMORY  memory was refused
+ */
 tvk_status tvk_merge(tvk_store *store, uint64_t limit, uint64_t *told);
 
-/* Takes away entries from `lo` to `hi` that are marked as deleted, at most `limit`, 1 to TVK_MAX_LIMIT, and tells how many. No
- * transaction sees a difference. TVK_BAD_LIMIT. */
+/** Takes away entries of a range that are marked as deleted. No transaction sees a difference.
+ *
+ * @param[in,out] store  the store
+ * @param[in] lo         the least key of the range: NULL where it has no bytes
+ * @param lo_length      how many bytes it has
+ * @param[in] hi         the greatest key of the range
+ * @param hi_length      how many bytes it has
+ * @param limit          the most entries that are taken away, 1 to TVK_MAX_LIMIT
+ * @param[out] told      how many were taken away
+ *
+ * @retval TVK_OK         `told` entries were taken away
+ * @retval TVK_NO_STORE   the handle is NULL or has no store
+ * @retval TVK_BAD_KEY    a key is longer than TVK_MAX_KEY bytes
+ * @retval TVK_NULL       a key is NULL and has a length
+ * @retval TVK_BAD_LIMIT  `limit` is out of bounds
+ * @retval TVK_BAD_RANGE  `lo` is above `hi`
+ */
 tvk_status tvk_clean(tvk_store *store, const void *lo, size_t lo_length, const void *hi, size_t hi_length, uint64_t limit,
                      uint64_t *told);
 
-/* Tells how many transactions committed. */
+/** Tells how many transactions committed.
+ *
+ * @param[in,out] store  the store
+ * @param[out] told      the number
+ *
+ * @retval TVK_OK        it is told
+ * @retval TVK_NO_STORE  the handle is NULL or has no store
+ */
 tvk_status tvk_commits(tvk_store *store, uint64_t *told);
 
-/* Tells how many entries the index has, those marked as deleted too. All are copied to be counted. TVK_NO_MEMORY. */
+/** Tells how many entries the index has, those marked as deleted too. All are copied to be counted.
+ *
+ * @param[in,out] store  the store
+ * @param[out] told      the number
+ *
+ * @retval TVK_OK         it is told
+ * @retval TVK_NO_STORE   the handle is NULL or has no store
+ * @retval TVK_NO_MEMORY  memory was refused
+ */
 tvk_status tvk_entries(tvk_store *store, uint64_t *told);
 
 #ifdef __cplusplus

@@ -1,4 +1,4 @@
-/* A store inside a C program: loads 100,000 records, queries, merges, commits, and meets a transaction in the way.
+/* A store inside a C program, which loads structs of its own, reads between two loads, and merges while it is idle.
  *
  *     cc examples/embed.c $(pkg-config --cflags --libs tiuvrokk) */
 #include <inttypes.h>
@@ -7,96 +7,73 @@
 #include <string.h>
 #include <tiuvrokk.h>
 
-enum { RECORDS = 100000, RUN = 1000 };
+enum { SENSORS = 100, BATCHES = 100, BATCH = 1000, ROWS = 100, SENSOR = 7 };
 
-/* Ends the program where a call isn't answered as it is to be. */
-static void expect(tvk_status wanted, tvk_status status, const char *what) {
-    if (status == wanted) return;
-    fprintf(stderr, "%s: %s\n", what, tvk_name(status));
+/* Readings come in the order of time, and are asked for by sensor. */
+typedef struct { uint32_t sensor, second; double degrees; } reading;
+
+static void must(tvk_status status, const char *what) {
+    if (status == TVK_OK) return;
+    fprintf(stderr, "%s: %s\n", what, tvk_text(status));
     exit(1);
 }
 
-static void fill(tvk_record *record, int number) {
-    char text[TVK_MAX_VALUE + 1];
-    record->key.length = (size_t)snprintf(text, sizeof text, "key%06d", number);
-    memcpy(record->key.bytes, text, record->key.length);
-    record->value.length = (size_t)snprintf(text, sizeof text, "value %d", number);
-    memcpy(record->value.bytes, text, record->value.length);
-}
-
-/* Loads the records as runs: each of every hundredth record, so that each run spans all keys. */
-static void load(tvk_store *store) {
-    static tvk_record run[RUN];
-    uint64_t tx, commit;
-    expect(TVK_OK, tvk_begin(store, &tx), "begin");
-    for (int first = 0; first < RECORDS / RUN; first++) {
-        for (int i = 0; i < RUN; i++) fill(&run[i], first + i * (RECORDS / RUN));
-        expect(TVK_OK, tvk_load(store, tx, run, RUN, NULL, NULL), "load");
+/* Keys are ordered byte by byte, so each number begins at its highest byte. */
+static void put_key(uint8_t *key, uint32_t sensor, uint32_t second) {
+    for (int i = 0; i < 4; i++) {
+        key[i] = (uint8_t)(sensor >> (24 - 8 * i));
+        key[4 + i] = (uint8_t)(second >> (24 - 8 * i));
     }
-    expect(TVK_OK, tvk_commit(store, tx, &commit), "commit");
-    printf("loaded %d, commit %" PRIu64 "\n", RECORDS, commit);
 }
 
-/* What was loaded is read at once, from all runs; a scan goes on where the rows were full. */
-static void query(tvk_store *store) {
-    static tvk_record rows[100];
-    tvk_value value;
-    uint64_t tx, told;
-    int all = 0;
-    expect(TVK_OK, tvk_begin(store, &tx), "begin");
-    expect(TVK_OK, tvk_get(store, tx, "key004711", 9, &value, NULL), "get");
-    printf("read %.*s\n", (int)value.length, (char *)value.bytes);
-    expect(TVK_OK, tvk_scan(store, tx, "key000100", 9, "key000349", 9, rows, 100, &told), "scan");
-    for (all = (int)told; told == 100; all += (int)told) {
-        const tvk_key *last = &rows[99].key;
-        expect(TVK_OK, tvk_scan_behind(store, tx, last->bytes, last->length, "key000349", 9, rows, 100, &told), "scan on");
+static int by_key(const void *one, const void *other) {
+    return memcmp(((const tvk_record *)one)->key.bytes, ((const tvk_record *)other)->key.bytes, 8);
+}
+
+/* Loads a batch as one run, which can be read at once. It is merged with the others where it is read. */
+static tvk_status load(tvk_store *store, uint64_t tx, const reading *batch, uint64_t *holder) {
+    static tvk_record run[BATCH];
+    for (int i = 0; i < BATCH; i++) {
+        put_key(run[i].key.bytes, batch[i].sensor, batch[i].second);
+        memcpy(run[i].value.bytes, &batch[i].degrees, sizeof batch[i].degrees);
+        run[i].key.length = run[i].value.length = 8;
     }
-    printf("scanned %d, the last %.*s\n", all, (int)rows[told - 1].key.length, (char *)rows[told - 1].key.bytes);
-    expect(TVK_OK, tvk_commit(store, tx, NULL), "commit");
+    qsort(run, BATCH, sizeof *run, by_key);
+    return tvk_load(store, tx, run, BATCH, NULL, holder);
 }
 
-/* What was read is merged, step by step, until no range is waiting. */
-static void merge(tvk_store *store) {
-    uint64_t told, moved = 0;
-    tvk_status status;
-    while ((status = tvk_merge(store, TVK_MAX_LIMIT, &told)) != TVK_IDLE)
-        if (status == TVK_OK) moved += told;
-        else if (status != TVK_DONE) expect(TVK_DONE, status, "merge");
-    printf("merged %" PRIu64 "\n", moved);
-}
-
-/* What one transaction writes another can't read: it is told at once who is in the way, and tries again later. */
-static void meet(tvk_store *store) {
-    tvk_value value;
-    uint64_t writer, reader, holder;
-    expect(TVK_OK, tvk_begin(store, &writer), "begin");
-    expect(TVK_OK, tvk_begin(store, &reader), "begin");
-    expect(TVK_OK, tvk_replace(store, writer, "key000500", 9, "new", 3, NULL), "replace");
-    expect(TVK_BUSY, tvk_get(store, reader, "key000500", 9, &value, &holder), "get");
-    printf("busy by the writer: %s\n", holder == writer ? "yes" : "no");
-    expect(TVK_OK, tvk_commit(store, writer, NULL), "commit");
-    expect(TVK_OK, tvk_get(store, reader, "key000500", 9, &value, &holder), "get");
-    printf("then %.*s\n", (int)value.length, (char *)value.bytes);
-    expect(TVK_OK, tvk_mark(store, reader), "mark");
-    expect(TVK_OK, tvk_delete(store, reader, "key000500", 9, NULL), "delete");
-    expect(TVK_ABSENT, tvk_get(store, reader, "key000500", 9, &value, NULL), "get");
-    expect(TVK_OK, tvk_back(store, reader), "back");
-    expect(TVK_EXISTS, tvk_insert(store, reader, "key000500", 9, "again", 5, NULL), "insert");
-    expect(TVK_OK, tvk_abort(store, reader), "abort");
+/* How many readings a sensor has: while the rows are full, the scan goes on behind the last of them. */
+static int count(tvk_store *store, uint64_t tx, uint32_t sensor) {
+    static tvk_record rows[ROWS];
+    uint8_t lo[8], hi[8];
+    uint64_t told;
+    put_key(lo, sensor, 0);
+    put_key(hi, sensor, UINT32_MAX);
+    must(tvk_scan(store, tx, lo, 8, hi, 8, rows, ROWS, &told), "scan");
+    int all = (int)told;
+    for (; told == ROWS; all += (int)told)
+        must(tvk_scan_behind(store, tx, rows[ROWS - 1].key.bytes, 8, hi, 8, rows, ROWS, &told), "scan");
+    return all;
 }
 
 int main(void) {
+    static reading batch[BATCH];
     tvk_store store = TVK_CLOSED;
-    uint64_t commits, entries;
-    expect(TVK_OK, tvk_open(&store), "open");
-    load(&store);
-    query(&store);
-    merge(&store);
-    meet(&store);
-    expect(TVK_OK, tvk_commits(&store, &commits), "commits");
-    expect(TVK_OK, tvk_entries(&store, &entries), "entries");
-    printf("commits %" PRIu64 ", entries enough: %s\n", commits, entries >= RECORDS ? "yes" : "no");
-    expect(TVK_OK, tvk_close(&store), "close");
-    expect(TVK_NO_STORE, tvk_close(&store), "close");
-    return 0;
+    uint64_t writer, reader, told, merged = 0;
+    int found = 0, waits = 0;
+    must(tvk_open(&store), "open");
+    for (uint32_t b = 0; b < BATCHES; b++) {
+        for (uint32_t i = 0; i < BATCH; i++) batch[i] = (reading){i % SENSORS, (b * BATCH + i) / SENSORS, 20 + b % 7};
+        must(tvk_begin(&store, &reader), "begin");
+        must(tvk_begin(&store, &writer), "begin");
+        found = count(&store, reader, SENSOR);
+        /* The reader has locked what it read: the load is refused at once, and is tried again once the reader has ended. */
+        if (load(&store, writer, batch, &told) == TVK_BUSY && told == reader) waits++;
+        must(tvk_commit(&store, reader, NULL), "commit");
+        must(load(&store, writer, batch, NULL), "load");
+        must(tvk_commit(&store, writer, NULL), "commit");
+        for (int step = 0; step < 4 && tvk_merge(&store, TVK_MAX_LIMIT, &told) == TVK_OK; step++) merged += told;
+    }
+    printf("loaded %d, waited %d times, read %d, merged %" PRIu64 "\n", BATCHES * BATCH, waits, found, merged);
+    must(tvk_close(&store), "close");
 }

@@ -1,69 +1,62 @@
 #!/usr/bin/env python3
-"""A store inside a Python program: loads 100,000 records, queries, merges, commits, and meets a transaction in the way.
+"""A store inside a Python program, which loads objects of its own, reads between two loads, and merges while it is idle.
 
     PYTHONPATH=python TIUVROKK_LIBRARY=PREFIX/lib/libtiuvrokk.so examples/embed.py
 """
 
+import struct
+from dataclasses import dataclass
+from typing import Iterator
+
 import tiuvrokk
 
-RECORDS = 100_000
+SENSORS, BATCHES, BATCH, SENSOR, LAST = 100, 100, 1000, 7, 2**32 - 1
+# Keys are ordered byte by byte, so each number begins at its highest byte.
+KEY, VALUE = struct.Struct(">II"), struct.Struct("d")
 
 
-def records():
-    """Records in no order: the multiples of a number that has no divisor in common with theirs."""
-    for place in range(RECORDS):
-        number = place * 7919 % RECORDS
-        yield f"key{number:06}", f"value {number}"
+@dataclass
+class Reading:
+    """Readings come in the order of time, and are asked for by sensor."""
+
+    sensor: int
+    second: int
+    degrees: float
+
+    def record(self) -> "tuple[bytes, bytes]":
+        return KEY.pack(self.sensor, self.second), VALUE.pack(self.degrees)
+
+
+def batch_of(number: int) -> Iterator[Reading]:
+    for i in range(BATCH):
+        yield Reading(i % SENSORS, (number * BATCH + i) // SENSORS, 20 + number % 7)
+
+
+def mean(tx: tiuvrokk.Transaction, sensor: int) -> float:
+    """The mean of a sensor's readings."""
+    values = tx.values(KEY.pack(sensor, 0), KEY.pack(sensor, LAST))
+    degrees: "list[float]" = [VALUE.unpack(value)[0] for value in values]
+    return sum(degrees) / len(degrees) if degrees else 0
 
 
 def main() -> None:
+    loaded = waits = merged = 0
+    last = 0.0
     with tiuvrokk.Store() as store:
-        with store.transaction() as tx:
-            print("loaded", tx.load(records()))
-
-        # What was loaded is read at once, from all runs.
-        with store.transaction() as tx:
-            print("read", tx["key004711"].decode())
-            rows = list(tx.scan("key000100", "key000299"))
-            print("scanned", len(rows), rows[0][0].decode(), rows[-1][0].decode())
-
-        # What was read is merged, step by step.
-        moved = 0
-        while (step := store.merge()) is not None:
-            moved += step
-        print("merged", moved)
-
-        # An exception aborts, and a savepoint takes back a part.
-        try:
-            with store.transaction() as tx:
-                tx["key000001"] = "lost"
-                raise RuntimeError("on the way")
-        except RuntimeError:
-            pass
-        with store.transaction() as tx:
-            print("kept", tx["key000001"].decode())
-            tx.mark()
-            del tx["key000001"]
-            tx.back()
-            print("back", "key000001" in tx)
-
-        # Two transactions: what one writes the other can't read, and is told so at once.
-        writer, reader = store.transaction(), store.transaction()
-        writer["key000500"] = "new"
-        try:
-            reader["key000500"]
-        except tiuvrokk.Busy as busy:
-            print("busy", busy.holder == writer.number)
-        writer.commit()
-        print("then", reader["key000500"].decode())
-        reader.abort()
-
-        try:
-            with store.transaction() as tx:
-                tx.load([("key000007", "again"), ("new", "1")])
-        except tiuvrokk.Exists as exists:
-            print("exists", exists.key.decode())
-        print("commits", store.commits, "entries", store.entries() >= RECORDS)
+        for number in range(BATCHES):
+            records = [reading.record() for reading in batch_of(number)]
+            with store.transaction() as writer:
+                with store.transaction() as reader:
+                    last = mean(reader, SENSOR)
+                    try:
+                        writer.load(records)
+                    except tiuvrokk.Busy as busy:
+                        waits += busy.holder == reader.number
+                # The reader had locked what it read: it has ended by now, so the load is tried again.
+                loaded += writer.load(records)
+            for _ in range(4):
+                merged += store.merge() or 0
+    print(f"loaded {loaded}, waited {waits} times, the mean {last}, merged {merged}")
 
 
 if __name__ == "__main__":

@@ -123,7 +123,7 @@ def chosen_keys(rng: random.Random) -> None:
             assert all(tx[key] == b"1" for key in chosen[:2000])
             assert not any(key in tx for key in absent)
             assert expect(tiuvrokk.Exists, tx.insert, chosen[0], b"2").key == chosen[0]
-            assert expect(tiuvrokk.Exists, tx.load, [(key, b"2") for key in keys]).key == min(keys[:4096])
+            assert expect(tiuvrokk.Exists, tx.load, [(key, b"2") for key in keys], 4096).key == min(keys[:4096])
             assert tx.load((key, b"2") for key in absent) == len(absent)
             assert [key for key, _ in itertools.islice(tx.scan(), 300)] == sorted(keys)[:300]
 

@@ -86,7 +86,8 @@ def library_package(name: str, shared: Entry) -> Package:
 
 def development_package(library: str, rest: List[Entry]) -> Package:
     place = "share/doc/libtiuvrokk-dev/examples"
-    entries = [*rest, *layout.manual_entries([3]), Entry(f"{place}/embed.c", layout.bytes_of("examples/embed.c"))]
+    entries = [*rest, *layout.manual_entries([3])]
+    entries += [Entry(f"{place}/{name}", layout.bytes_of(f"examples/{name}")) for name in ("embed.c", "embed.cpp")]
     about = "This package has what a program needs to be compiled with the library."
     return Package("libtiuvrokk-dev", "libdevel", [f"{library} (= {layout.version()})"], about, entries)
 

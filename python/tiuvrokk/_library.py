@@ -1,0 +1,71 @@
+"""The shared library of `tiuvrokk.h`: where it is found, and its calls.
+
+It is the one that the environment's TIUVROKK_LIBRARY names, else the one beside this file, as a wheel has it, else the one that
+the system finds. It is loaded at the first call, so who speaks to a replica alone needs none."""
+
+from __future__ import annotations
+
+import ctypes
+import ctypes.util
+import functools
+import os
+from collections.abc import Callable
+
+# Calls that may take long, or end a store that is large: other threads of Python run meanwhile. The others are over sooner
+# than a thread can be woken.
+_LONG = ["open", "close", "abort", "load", "entries"]
+_SHORT = [
+    "begin", "commit", "mark", "back", "get", "insert", "replace", "delete", "scan", "scan_behind", "lock", "merge", "clean",
+    "commits",
+]
+
+_ADVICE = "./install-library PREFIX installs it from the sources, and TIUVROKK_LIBRARY=PREFIX/lib/libtiuvrokk.so names it"
+
+Call = Callable[..., int]
+
+
+Number: type[ctypes.Array[ctypes.c_uint64]] = ctypes.c_uint64 * 1
+"""Where a call tells a number: an array, which C is passed the address of."""
+
+
+class Handle(ctypes.Structure):
+    """`tvk_store`."""
+
+    _fields_ = [("at", ctypes.c_void_p)]
+
+
+def library_path() -> str:
+    """Where the library lies, or the name by which the system is asked for it."""
+    from . import __version__  # (which is there once the package is)
+
+    shared = f"libtiuvrokk.so.{__version__.partition('.')[0]}"
+    beside = os.path.join(os.path.dirname(os.path.abspath(__file__)), shared)
+    if named := os.environ.get("TIUVROKK_LIBRARY"):
+        return named
+    return beside if os.path.exists(beside) else ctypes.util.find_library("tiuvrokk") or shared
+
+
+@functools.lru_cache(None)
+def _calls() -> dict[str, Call]:
+    """All calls. They are passed what C takes, made beforehand, and so have no types of their own: these would be looked at
+    for each argument anew, which takes as long as a call."""
+    path = library_path()
+    try:
+        holding, freeing = ctypes.PyDLL(path), ctypes.CDLL(path)
+        found: dict[str, Call] = {name: holding[f"tvk_{name}"] for name in _SHORT}
+        found.update((name, freeing[f"tvk_{name}"]) for name in _LONG)
+    except (OSError, AttributeError) as error:
+        raise ImportError(f"the library of tiuvrokk can't be loaded: {error}. {_ADVICE}", name="tiuvrokk", path=path) from None
+    return found
+
+
+class Calls:
+    """The calls of the library by their names, without `tvk_`."""
+
+    def __getattr__(self, name: str) -> Call:
+        call = _calls()[name]
+        setattr(self, name, call)
+        return call
+
+
+calls = Calls()

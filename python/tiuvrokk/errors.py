@@ -1,0 +1,259 @@
+"""How a call ends: the statuses of `tiuvrokk.h`, and an exception for each that refuses. Each names what it is about."""
+
+from __future__ import annotations
+
+from collections.abc import Callable, Sequence
+from enum import IntEnum
+from typing import Optional
+
+MAX_KEY = 32
+"""The most bytes of a key."""
+MAX_VALUE = 64
+"""The most bytes of a value."""
+MAX_LIMIT = 64
+"""The most entries of one merge or clean step."""
+
+
+class Status(IntEnum):
+    """The statuses of `tiuvrokk.h`, under the same numbers."""
+
+    OK = 0
+    ABSENT = 1
+    EXISTS = 2
+    BUSY = 3
+    NO_TX = 4
+    NO_MARK = 5
+    DONE = 6
+    IDLE = 7
+    ENDED = 8
+    TOO_MANY_TX = 9
+    TOO_MANY_LOCKS = 10
+    TOO_MANY_OPS = 11
+    TOO_MANY_RUNS = 12
+    NOT_RISING = 13
+    BAD_LIMIT = 14
+    NO_MEMORY = 15
+    NO_STORE = 17
+    IS_OPEN = 18
+    BAD_KEY = 19
+    BAD_VALUE = 20
+    BAD_RANGE = 21
+    BAD_MODE = 22
+    NULL = 23
+
+
+# How many of what there may be, by the status that says that there are as many.
+_LIMITS = {
+    Status.TOO_MANY_TX: (64, "transactions that are active at once"),
+    Status.TOO_MANY_LOCKS: (256, "locks of a transaction"),
+    Status.TOO_MANY_OPS: (4096, "operations of a transaction"),
+    Status.TOO_MANY_RUNS: (65535, "loads of a store"),
+}
+
+
+def shown(text: bytes) -> str:
+    """A text in the words of an exception: what isn't visible ASCII is escaped."""
+    return repr(text)[2:-1] if text else "of no bytes"
+
+
+class Error(Exception):
+    """A call that was refused. It changed nothing."""
+
+    status: Optional[Status] = None
+    """The status of `tiuvrokk.h`, or None where the library wasn't asked."""
+    number = 0
+    """The number told with it, or 0."""
+
+    @property
+    def name(self) -> str:
+        """The name of the status, as the header has it."""
+        return "" if self.status is None else f"TVK_{self.status.name}"
+
+    def _text(self) -> str:
+        return self.name
+
+    def __str__(self) -> str:
+        return self._text()
+
+
+class Absent(Error, KeyError):
+    """The key has no record: `key`."""
+
+    status = Status.ABSENT
+
+    def __init__(self, key: bytes) -> None:
+        super().__init__(key)
+        self.key = key
+
+    def _text(self) -> str:
+        return f"the key {shown(self.key)} has no record"
+
+
+class Exists(Error):
+    """The key has a record already: `key`, the least such key of a load, and else the one that was given."""
+
+    status = Status.EXISTS
+
+    def __init__(self, key: bytes) -> None:
+        super().__init__(key)
+        self.key = key
+
+    def _text(self) -> str:
+        return f"the key {shown(self.key)} has a record"
+
+
+class Busy(Error):
+    """Another transaction holds a lock that is in the way: its number is `holder`."""
+
+    status = Status.BUSY
+
+    def __init__(self, holder: int) -> None:
+        super().__init__(holder)
+        self.holder = self.number = holder
+
+    def _text(self) -> str:
+        return f"transaction {self.holder} holds a lock that is in the way"
+
+
+class NoTransaction(Error):
+    """The transaction has ended: its number is `transaction`."""
+
+    status = Status.NO_TX
+
+    def __init__(self, transaction: int) -> None:
+        super().__init__(transaction)
+        self.transaction = transaction
+
+    def _text(self) -> str:
+        return f"transaction {self.transaction} has ended"
+
+
+class NoMark(Error):
+    """The transaction has no savepoint: its number is `transaction`."""
+
+    status = Status.NO_MARK
+
+    def __init__(self, transaction: int) -> None:
+        super().__init__(transaction)
+        self.transaction = transaction
+
+    def _text(self) -> str:
+        return f"transaction {self.transaction} has no savepoint"
+
+
+class TooMany(Error):
+    """A store or a transaction holds as many of something as it may: `limit` of `what`."""
+
+    def __init__(self, status: Status) -> None:
+        super().__init__(status)
+        self.status = status
+        self.limit, self.what = _LIMITS[status]
+
+    def _text(self) -> str:
+        return f"there are {self.limit} {self.what}, and may be no more"
+
+
+class NotRising(Error):
+    """The records of a run have a key twice: `key`."""
+
+    status = Status.NOT_RISING
+
+    def __init__(self, key: bytes) -> None:
+        super().__init__(key)
+        self.key = key
+
+    def _text(self) -> str:
+        return f"the key {shown(self.key)} stands twice among the records"
+
+
+class Bad(Error, ValueError):
+    """A length, a limit, a range or a mode is out of bounds."""
+
+    def __init__(self, status: Status, text: str) -> None:
+        super().__init__(status, text)
+        self.status = status
+        self.text = text
+
+    def _text(self) -> str:
+        return self.text
+
+
+class BadLine(Error, ValueError):
+    """A line of a file is no record: its number is `line`, from 1 on."""
+
+    def __init__(self, line: int, text: str) -> None:
+        super().__init__(line, text)
+        self.line = line
+        self.text = text
+
+    def _text(self) -> str:
+        return f"line {self.line}: {self.text}"
+
+
+class Closed(Error):
+    """The store is closed."""
+
+    status = Status.NO_STORE
+
+    def _text(self) -> str:
+        return "the store is closed"
+
+
+class OutOfMemory(Error, MemoryError):
+    """Memory was refused."""
+
+    status = Status.NO_MEMORY
+
+    def _text(self) -> str:
+        return "memory was refused"
+
+
+class WrongThread(Error, RuntimeError):
+    """The store belongs to another thread, which opened it: `opener` and `user` are the two, as `threading.get_ident` has
+    them. The library wasn't asked."""
+
+    def __init__(self, opener: int, user: int) -> None:
+        super().__init__(opener, user)
+        self.opener = opener
+        self.user = user
+
+    def _text(self) -> str:
+        return f"the store was opened by thread {self.opener}, and is used by thread {self.user}"
+
+
+def bad_key(length: int) -> Bad:
+    return Bad(Status.BAD_KEY, f"a key has at most {MAX_KEY} bytes, and not {length}")
+
+
+def bad_value(length: int) -> Bad:
+    return Bad(Status.BAD_VALUE, f"a value has at most {MAX_VALUE} bytes, and not {length}")
+
+
+def bad_range(low: bytes, high: bytes) -> Bad:
+    return Bad(Status.BAD_RANGE, f"the range begins at {shown(low)}, which is above its end {shown(high)}")
+
+
+def bad_limit(most: int, limit: int) -> Bad:
+    return Bad(Status.BAD_LIMIT, f"a limit is 1 to {most}, and not {limit}")
+
+
+def error_of(status: int, transaction: int = 0, told: int = 0, texts: Sequence[bytes] = ()) -> Error:
+    """The exception for a status that refuses, with what it is about: the transaction, the number that was told, and the
+    keys and the value that the library was passed."""
+    named = Status(status)
+    if named in _LIMITS:
+        return TooMany(named)
+    about: dict[Status, Callable[[], Error]] = {
+        Status.ABSENT: lambda: Absent(texts[0]),
+        Status.EXISTS: lambda: Exists(texts[0]),
+        Status.BUSY: lambda: Busy(told),
+        Status.NO_TX: lambda: NoTransaction(transaction),
+        Status.NO_MARK: lambda: NoMark(transaction),
+        Status.NOT_RISING: lambda: NotRising(b""),
+        Status.NO_MEMORY: OutOfMemory,
+        Status.NO_STORE: Closed,
+        Status.BAD_KEY: lambda: bad_key(max(map(len, texts))),
+        Status.BAD_VALUE: lambda: bad_value(len(texts[-1])),
+        Status.BAD_RANGE: lambda: bad_range(texts[0], texts[-1]),
+    }
+    return about[named]() if named in about else Bad(named, f"the library answered TVK_{named.name}")

@@ -1,0 +1,228 @@
+/* The C++ side: what was moved from or closed, exceptions that abort, what errors are about, loads and scans of any length,
+ * threads one at a time, and random transactions compared with a map: library_calls_cpp CALLS SEED */
+#include <cstdio>
+#include <cstdlib>
+#include <functional>
+#include <map>
+#include <random>
+#include <thread>
+#include <tiuvrokk.hpp>
+#include <type_traits>
+
+using tiuvrokk::Store;
+using tiuvrokk::Transaction;
+using Map = std::map<std::string, std::string>;
+
+static_assert(!std::is_copy_constructible_v<Store> && !std::is_copy_assignable_v<Store>);
+static_assert(!std::is_copy_constructible_v<Transaction> && !std::is_copy_assignable_v<Transaction>);
+static_assert(std::is_nothrow_move_constructible_v<Store> && std::is_nothrow_move_assignable_v<Transaction>);
+
+static void expect(bool is_so, const char *what) {
+    if (is_so) return;
+    std::fprintf(stderr, "library_calls.cpp: %s\n", what);
+    std::exit(1);
+}
+
+/* The status of what a call throws. */
+static tvk_status thrown(const std::function<void()> &call) {
+    try {
+        call();
+    } catch (const tiuvrokk::Error &error) {
+        expect(std::string(error.what()).rfind(tvk_text(error.status()), 0) == 0, "the text of an error");
+        return error.status();
+    }
+    return TVK_OK;
+}
+
+static std::string key_of(int number) {
+    char text[16];
+    std::snprintf(text, sizeof text, "key%06d", number);
+    return text;
+}
+
+static void moved_and_closed() {
+    Store store;
+    Transaction tx = store.transaction();
+    tx.insert("ant", "6");
+    Store other = std::move(store);
+    expect(!store.is_open() && other.is_open(), "a store that was moved from"); // NOLINT: that is what is tested
+    expect(thrown([&] { (void)store.transaction(); }) == TVK_NO_STORE, "a transaction of a store that was moved from");
+    expect(thrown([&] { store.close(); }) == TVK_NO_STORE, "the close of a store that was moved from");
+    expect(tx.get("ant") == "6", "a transaction whose store was moved");
+    Transaction next = std::move(tx);
+    expect(!tx.is_active() && next.is_active(), "a transaction that was moved from"); // NOLINT
+    expect(thrown([&] { tx.get("ant"); }) == TVK_NO_STORE, "a read of a transaction that was moved from");
+    expect(thrown([&] { tx.commit(); }) == TVK_NO_STORE, "the commit of a transaction that was moved from");
+    std::uint64_t number = next.number();
+    next = other.transaction();
+    expect(next.number() != number, "a transaction that is assigned to");
+    next.insert("ant", "6");
+    auto rows = next.scan();
+    expect((*rows.begin()).key == "ant", "a scan");
+    other.close();
+    expect(!next.is_active(), "a transaction of a closed store");
+    expect(thrown([&] { next.get("ant"); }) == TVK_NO_STORE, "a read in a closed store");
+    expect(thrown([&] { next.scan().begin(); }) == TVK_NO_STORE, "a scan in a closed store");
+    expect(thrown([&] { other.close(); }) == TVK_NO_STORE, "a second close");
+    other = Store();
+    expect(other.is_open() && other.commits() == 0, "a store that is assigned to");
+}
+
+static void exceptions_abort() {
+    Store store;
+    try {
+        Transaction tx = store.transaction();
+        tx.insert("ant", "6");
+        throw std::logic_error("on the way");
+    } catch (const std::logic_error &) {
+    }
+    Transaction tx = store.transaction();
+    expect(!tx.contains("ant") && store.commits() == 0, "an exception aborts");
+    tx.put("ant", "6");
+    expect(tx.commit() == 1 && !tx.is_active(), "a commit");
+    expect(thrown([&] { tx.abort(); }) == TVK_NO_TX, "an abort behind a commit");
+    for (int i = 0; i < 1000; i++) (void)store.transaction();
+    expect(store.transaction().number() == 1003, "dropped transactions are no longer active");
+}
+
+static void errors() {
+    Store store;
+    Transaction one = store.transaction(), other = store.transaction();
+    one.lock(TVK_EXCLUSIVE, "a", "c");
+    try {
+        other.get("bee");
+        expect(false, "a lock that is in the way");
+    } catch (const tiuvrokk::Busy &busy) {
+        expect(busy.holder() == one.number(), "who is in the way");
+    }
+    one.insert("bee", "1");
+    try {
+        one.insert("bee", "2");
+        expect(false, "a record that is there");
+    } catch (const tiuvrokk::Exists &exists) {
+        expect(exists.key() == "bee", "which record is there");
+    }
+    try {
+        one.replace("cat", "2");
+        expect(false, "a record that isn't there");
+    } catch (const tiuvrokk::Absent &absent) {
+        expect(absent.key() == "cat", "which record isn't there");
+    }
+    expect(!one.erase("cat") && one.erase("bee") && !one.get("bee"), "records that are erased");
+    std::string long_key(33, 'k'), long_value(65, 'v');
+    expect(thrown([&] { one.get(long_key); }) == TVK_BAD_KEY, "a long key");
+    expect(thrown([&] { one.scan("", long_key).begin(); }) == TVK_BAD_KEY, "the long key of a scan");
+    expect(thrown([&] { one.put("bee", long_value); }) == TVK_BAD_VALUE, "a long value");
+    expect(thrown([&] { one.load(Map{{"bee", long_value}}); }) == TVK_BAD_VALUE, "the long value of a load");
+    expect(thrown([&] { one.scan("b", "a").begin(); }) == TVK_BAD_RANGE, "a range that doesn't rise");
+    expect(thrown([&] { one.load(Map{}, 0); }) == TVK_BAD_LIMIT, "runs of no records");
+    expect(thrown([&] { store.merge(65); }) == TVK_BAD_LIMIT, "a merge of too many");
+    expect(thrown([&] { one.back(); }) == TVK_NO_MARK, "no savepoint");
+    try {
+        store.merge(65);
+    } catch (const tiuvrokk::Error &error) {
+        expect(error.what() == std::string(tvk_text(TVK_BAD_LIMIT)) + ": 65", "what a limit was");
+    }
+    std::vector<std::pair<std::string, const char *>> twice{{"b", "1"}, {"a", "2"}, {"b", "3"}};
+    expect(thrown([&] { one.load(twice); }) == TVK_NOT_RISING, "a key that stands twice");
+    std::vector<Transaction> many;
+    expect(thrown([&] { for (;;) many.push_back(store.transaction()); }) == TVK_TOO_MANY_TX && many.size() == TVK_MAX_TX - 2,
+           "as many transactions as there may be");
+}
+
+static void loads_and_scans() {
+    Store store;
+    Map all;
+    for (int i = 0; i < 3000; i++) all[key_of(i * 7919 % 3000)] = std::string(static_cast<std::size_t>(i % 65), 'v');
+    Transaction tx = store.transaction();
+    expect(tx.load(all.begin(), all.end(), 10) == 3000, "a load of more runs than there are locks");
+    auto rows = tx.scan();
+    expect(Map(rows.begin(), rows.end()) == all, "a scan of all");
+    Store copy;
+    Transaction to = copy.transaction();
+    expect(to.load(tx.scan()) == 3000 && to.get(key_of(8)) == all[key_of(8)], "a load of what is scanned");
+    int count = 0;
+    for (auto [key, value] : tx.scan(key_of(100), key_of(199)))
+        count += key == key_of(100 + count) && value == all[std::string(key)];
+    expect(count == 100, "a scan of one page");
+    for (auto record : tx.scan("l")) expect(false, std::string(record.key).c_str());
+    try {
+        tx.load(Map{{"a", "1"}, {key_of(5), "2"}, {key_of(4), "3"}});
+        expect(false, "a load of what is there");
+    } catch (const tiuvrokk::Exists &exists) {
+        expect(exists.key() == key_of(4), "the least key that is there");
+    }
+    tx.erase(key_of(7));
+    tx.commit();
+    expect(thrown([&] { for (auto record : tx.scan()) (void)record; }) == TVK_NO_TX, "a scan behind the commit");
+    Transaction reader = store.transaction();
+    auto seen = reader.scan();
+    expect(std::distance(seen.begin(), seen.end()) == 2999, "a scan of what was committed");
+    reader.commit();
+    std::uint64_t merged = 0;
+    while (auto step = store.merge()) merged += *step;
+    expect(merged >= 2999, "a merge of all");
+    while (store.clean()) continue;
+    expect(store.entries() == 2999, "a clean");
+}
+
+static void threads_in_turn() {
+    std::optional<Store> store;
+    std::optional<Transaction> tx;
+    std::thread([&] { tx.emplace(store.emplace().transaction()); }).join();
+    std::thread([&] { tx->insert("ant", "6"); }).join();
+    expect(tx->get("ant") == "6", "a record that another thread added");
+    std::thread([&] {
+        tx->commit();
+        store->close();
+    }).join();
+    expect(!store->is_open(), "a store that another thread closed");
+}
+
+static void random_transactions(int calls, unsigned seed) {
+    std::mt19937 random(seed);
+    auto below = [&](unsigned bound) { return static_cast<int>(random() % bound); };
+    Store store;
+    Map committed;
+    for (int done = 0; done < calls;) {
+        Map seen = committed;
+        Transaction tx = store.transaction();
+        for (int i = below(40); i > 0; i--, done++) {
+            std::string key = key_of(below(200)), value(static_cast<std::size_t>(below(65)), 'v');
+            bool is_there = seen.count(key) != 0;
+            switch (below(6)) {
+            case 0: expect(tx.get(key) == (is_there ? std::optional(seen[key]) : std::nullopt), "a read"); break;
+            case 1: tx.put(key, seen[key] = value); break;
+            case 2: expect(tx.erase(key) == (seen.erase(key) != 0), "an erase"); break;
+            case 3:
+                expect((thrown([&] { tx.insert(key, value); }) == TVK_EXISTS) == is_there, "an insert");
+                seen.emplace(key, value);
+                break;
+            case 4: {
+                auto rows = tx.scan(key);
+                expect(Map(rows.begin(), rows.end()) == Map(seen.lower_bound(key), seen.end()), "a scan");
+                break;
+            }
+            default:
+                tx.mark();
+                tx.put(key, value);
+                tx.back();
+            }
+        }
+        if (below(5)) {
+            tx.commit();
+            committed = seen;
+        }
+        while (below(3) && store.merge()) continue;
+    }
+}
+
+int main(int, char **words) {
+    moved_and_closed();
+    exceptions_abort();
+    errors();
+    loads_and_scans();
+    threads_in_turn();
+    random_transactions(std::atoi(words[1]), static_cast<unsigned>(std::atoi(words[2])));
+    std::printf("library: %s calls from C++\n", words[1]);
+}
