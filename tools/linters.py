@@ -52,7 +52,8 @@ def checked_by_mypy(group: str) -> Callable[[], Iterator[str]]:
 
     def check() -> Iterator[str]:
         files = [it for it in kept_files() if is_python(it) and group_of(it) == group]
-        words = ["mypy", "--strict", "--no-error-summary", "--python-version", PYTHON, "--scripts-are-modules", "--cache-dir", os.devnull]
+        # (a module that isn't installed has no types, and then a line needs its comment that else it doesn't)
+        words = ["mypy", "--strict", "--no-warn-unused-ignores", "--no-error-summary", "--python-version", PYTHON, "--scripts-are-modules", "--cache-dir", os.devnull]
         return told_by([*words, *files], MYPYPATH=GROUPS[group]) if files else iter(())
 
     return check
