@@ -26,7 +26,8 @@ EPILOG = """status:
   2  the words of the command line are wrong
   3  the store ended, wants memory, or answered what isn't an answer: it may differ from those of the other replicas
   4  the port can't be listened at, or a file can't be read or written
-  5  etcd refuses what the log needs"""
+  5  etcd refuses what the log needs
+  6  etcd went back: it no longer has what this replica read of it, as after a restored backup"""
 
 
 class Ending(Exception):
@@ -64,9 +65,16 @@ def log_name(word: str) -> str:
     return word
 
 
+def version() -> str:
+    """That of all programs."""
+    with open(os.path.join(TOP, "VERSION"), encoding="ascii") as file:
+        return file.read().strip()
+
+
 def parser() -> argparse.ArgumentParser:
     words = argparse.ArgumentParser("amreplica", description=DESCRIPTION, epilog=EPILOG,
                                     formatter_class=argparse.RawDescriptionHelpFormatter)
+    words.add_argument("-V", "--version", action="version", version=f"%(prog)s {version()}", help="show the version and exit")
     words.add_argument("--port", type=number_of(int, 0, 65535), default=0, metavar="P",
                        help="of 127.0.0.1; 0, the default, is any free one")
     words.add_argument("--log", type=log_name, default="tiuvrokk", metavar="NAME",

@@ -19,7 +19,7 @@ def wheel(library: List[Entry], epoch: int, folder: str) -> str:
     shared, version = layout.shared_library(library), layout.version()
     glibc = glibc_of([shared.data]).replace(".", "_")
     tag = f"py3-none-manylinux_{glibc}_{os.uname().machine}"
-    entries = [it._replace(path=it.path.lstrip("/")) for it in layout.package_entries("tiuvrokk", "")]
+    entries = [it._replace(path=it.path.lstrip("/")) for it in layout.package_entries("python/tiuvrokk", "")]
     entries.append(Entry(f"tiuvrokk/{os.path.basename(shared.path)}", shared.data))
     entries += wheel_documents(f"tiuvrokk-{version}.dist-info", tag, entries)
     made = os.path.join(folder, f"tiuvrokk-{version}-{tag}.whl")
@@ -56,7 +56,8 @@ def archive(programs: Dict[str, bytes], library: List[Entry], epoch: int, folder
     """Makes the .tar.gz, and tells its name."""
     name = f"tiuvrokk-{layout.version()}-linux-{os.uname().machine}"
     entries = layout.all_entries(programs, library)
-    entries += [Entry(it, layout.bytes_of(it)) for it in ("README.md", "LICENSE", "CHANGELOG.md", "docs/protocol.md")]
+    documents = ("README.md", "LICENSE", "CHANGELOG.md", "docs/protocol.md", "docs/replicas.md")
+    entries += [Entry(it, layout.bytes_of(it)) for it in documents]
     made, data = os.path.join(folder, f"{name}.tar.gz"), io.BytesIO()
     with tarfile.open(fileobj=data, mode="w", format=tarfile.PAX_FORMAT) as file:
         for entry in sorted(entries):
