@@ -24,8 +24,8 @@ class Ends:
         self.question: Optional["asyncio.Task[None]"] = None
 
     def reach(self, revision: int) -> None:
-        """All up to that revision is applied."""
-        self.applied = revision
+        """All entries up to that revision are applied."""
+        self.applied = max(self.applied, revision)
         self.progress.set()
 
     async def wait_for(self, revision: int) -> None:

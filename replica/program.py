@@ -12,7 +12,7 @@ import sys
 from typing import Any, Callable, Coroutine, List, NoReturn, Optional
 
 from .etcd import Access, Etcd, Refused
-from .log import LeftBehind, Log
+from .log import LeftBehind, Log, WentBack
 from .replica import Replica
 from .sessions import Session
 from .store import Store, StoreEnded
@@ -208,6 +208,8 @@ async def live(asked: argparse.Namespace) -> None:
         leave(4, f"{asked.trace}: {fault}")
     except Refused as fault:
         leave(5, f"etcd: {fault}")
+    except WentBack as fault:
+        leave(6, f"etcd went back: {fault}")
     except LeftBehind as fault:
         # Only a newer snapshot has what the log did meanwhile.
         print(f"amreplica: left behind: {fault}: beginning anew", file=sys.stderr, flush=True)

@@ -5,12 +5,12 @@ import asyncio
 import hashlib
 import json
 import uuid
-from typing import Dict, List, NamedTuple, Optional
+from typing import Any, Dict, List, NamedTuple, Optional
 
 from . import snapshots
 from .ends import Ends
-from .log import Event, Log
-from .store import PORTION, Store, StoreEnded
+from .log import Event, Log, News
+from .store import PORTION, Store
 from .trace import Trace
 from .transaction import CONFLICT, MOST_ANSWERS, UNKNOWN, UNREACHABLE, Block, blocks_of
 
@@ -52,6 +52,8 @@ class Replica:
         self.queue: List[Waiting] = []
         self.on_way: Dict[str, List[Waiting]] = {}
         self.tasks: "asyncio.Queue[asyncio.Task[None]]" = asyncio.Queue()  # that write, for `life` to look at their ends
+        self.is_handing_over = False
+        self.failure: "asyncio.Future[None]" = asyncio.get_running_loop().create_future()  # of what the log's news did
         self.snapshot: Optional["asyncio.Task[None]"] = None
         self.has_begun = False  # all that the log had at the start was applied
 
@@ -62,7 +64,10 @@ class Replica:
         loop = asyncio.get_running_loop()
         waiting = Waiting(b"".join(block.text() for block in blocks), len(blocks), loop.create_future())
         self.queue.append(waiting)
-        self.hand_over()
+        if not self.is_handing_over:
+            # Sessions whose lines came at the same time go together.
+            self.is_handing_over = True
+            loop.call_soon(self.hand_over)
         timer = loop.call_later(limit, self.expire, waiting)
         try:
             return await waiting.outcomes
@@ -80,6 +85,7 @@ class Replica:
 
     def hand_over(self) -> None:
         """What waits goes on its way, as far as there is room."""
+        self.is_handing_over = False
         while self.queue and len(self.on_way) < ENTRIES:
             size = count = 0
             while count < len(self.queue) and (count == 0 or size + len(self.queue[count].text) <= ENTRY):
@@ -98,6 +104,17 @@ class Replica:
 
     # The log's entries, into the store
 
+    def hear(self, news: News) -> None:
+        """What the log has to tell. What fails in that ends the replica."""
+        if self.failure.done():
+            return
+        try:
+            for event in news.events:
+                self.take(event)
+            self.ends.reach(news.revision)
+        except Exception as fault:
+            self.failure.set_exception(fault)
+
     def take(self, event: Event) -> None:
         """An event of the log, in its turn."""
         entry = self.log.take(event)
@@ -107,12 +124,11 @@ class Replica:
                 self.write(name)
         if entry is None or event.revision <= self.applied:
             return
-        name, text = entry
-        outcomes = self.apply(list(blocks_of(text)))
+        outcomes = self.apply(list(blocks_of(entry.text())))
         self.applied = event.revision
         if self.trace:
             self.trace.flush()
-        self.tell(self.on_way.pop(name, []), outcomes)
+        self.tell(self.on_way.pop(entry.name, []), outcomes)
         self.hand_over()
         if self.is_snapshot_due():
             self.snapshot = asyncio.ensure_future(snapshots.write(self))
@@ -180,7 +196,7 @@ class Replica:
 
     def committed(self, block: Block, answers: List[bytes], end: bytes) -> Outcome:
         if not end.startswith(b"COMMITTED "):
-            raise StoreEnded(f"COMMIT was answered {end.decode()}")
+            raise self.store.ended(f"COMMIT was answered {end.decode()}")
         self.commits += 1
         self.blocks += 1
         if any(line == b"BACK" or line.startswith(b"DEL ") for line in block.lines):
@@ -209,20 +225,14 @@ class Replica:
 
     async def live(self, after: int) -> None:
         """Follows the log, until that or something that writes to it fails."""
-        follow = asyncio.ensure_future(self.follow(after))
+        follow = asyncio.ensure_future(self.log.follow(after, self.hear))
         while True:
             task = asyncio.ensure_future(self.tasks.get())
-            await asyncio.wait({follow, task}, return_when=asyncio.FIRST_COMPLETED)
-            if follow.done():
-                follow.result()
+            lasting: List["asyncio.Future[None]"] = [follow, self.failure]
+            waited: List["asyncio.Future[Any]"] = [*lasting, task]
+            await asyncio.wait(waited, return_when=asyncio.FIRST_COMPLETED)
+            for done in lasting:
+                if done.done():
+                    done.result()
             if task.done():
                 task.result().result()
-
-    async def follow(self, after: int) -> None:
-        async for some in self.log.news(after):
-            for event in some.events:
-                self.take(event)
-                await asyncio.sleep(0)
-            self.ends.reach(some.revision)
-
-

@@ -7,7 +7,6 @@ from typing import List, Optional, Union
 
 from .lines import LONGEST
 from .replica import Replica
-from .store import StoreEnded
 from .transaction import LIMIT, UNREACHABLE, Block, Transaction
 
 # Bytes that are read at once.
@@ -179,7 +178,7 @@ class Session:
         lines = found.group()
         answers = store.raw(lines.replace(b"\nCOMMIT\n", b"\nABORT\n"), lines.count(b"\n"))
         if b"\nERR FULL\n" in answers or b"\nERR MEMORY\n" in answers:
-            raise StoreEnded("memory was refused")
+            raise store.ended("memory was refused")
 
         def number(_: object) -> bytes:
             self.begun += 1

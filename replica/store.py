@@ -40,7 +40,13 @@ class Store:
         self.has_ghosts = False  # that trials and deletions may have left
         self.on_begin: Callable[[], object] = lambda: None
         self.on_end: Callable[[], object] = lambda: None
+        self.fault = ""  # why nothing more is asked
         self.begin()
+
+    def ended(self, fault: str) -> StoreEnded:
+        """What is raised where the store may differ from the others'. Nobody is told anything by it from now on."""
+        self.fault = self.fault or fault
+        return StoreEnded(self.fault)
 
     def begin(self) -> None:
         """Starts the program, with no records."""
@@ -49,7 +55,7 @@ class Store:
             # In a session of its own: a terminal's signals are the replica's, and the program ends by its input.
             self.process = subprocess.Popen(self.command, stdin=subprocess.PIPE, stdout=subprocess.PIPE, start_new_session=True)
         except OSError as fault:
-            raise StoreEnded(str(fault)) from fault
+            raise self.ended(str(fault)) from fault
         assert self.process.stdin is not None and self.process.stdout is not None
         self.into, self.out = self.process.stdin.fileno(), self.process.stdout.fileno()
         for end in (self.into, self.out):
@@ -69,11 +75,13 @@ class Store:
         answers = self.raw(text, len(lines)).split(b"\n")[:-1]
         for answer in answers:
             if answer.partition(b" ")[0] not in WORDS or answer in OWN_FAULTS:
-                raise StoreEnded(f"it answered {answer[:100].decode('ascii', 'replace')}")
+                raise self.ended(f"it answered {answer[:100].decode('ascii', 'replace')}")
         return answers
 
     def raw(self, text: bytes, count: int) -> bytes:
         """The answers to so many lines, as they come."""
+        if self.fault:
+            raise StoreEnded(self.fault)
         parts: List[bytes] = []
         try:
             left, poll = memoryview(text), select.poll()
@@ -89,13 +97,13 @@ class Store:
                         continue
                 data = os.read(self.out, 1 << 20)
                 if not data:
-                    raise StoreEnded("it ended")
+                    raise self.ended("it ended")
                 parts.append(data)
                 count -= data.count(b"\n")
         except OSError as fault:
-            raise StoreEnded(str(fault)) from fault
+            raise self.ended(str(fault)) from fault
         if count < 0 or not parts[-1].endswith(b"\n"):
-            raise StoreEnded("it answered more than it was asked")
+            raise self.ended("it answered more than it was asked")
         return b"".join(parts)
 
     def free(self, lines: List[bytes]) -> List[bytes]:
@@ -144,7 +152,7 @@ class Store:
         while True:
             rows = self.ask([b"BEGIN", b"SCAN %s %s 1000" % (low, b"~" * 32), b"ABORT"])[1].split(b" ")
             if rows[0] != b"ROWS":
-                raise StoreEnded(f"SCAN was answered {rows[0].decode()}")
+                raise self.ended(f"SCAN was answered {rows[0].decode()}")
             found += rows[3:] if found else rows[2:]
             if int(rows[1]) < 1000:
                 return found
@@ -155,7 +163,7 @@ class Store:
         for text in texts:
             answers = self.ask([b"BEGIN", *text.split(b"\n")[:-1], b"COMMIT"])
             if set(answers[1:-1]) != {b"OK"} or not answers[-1].startswith(b"COMMITTED "):
-                raise StoreEnded("records can't be loaded")
+                raise self.ended("records can't be loaded")
 
     def close(self) -> None:
         self.process.kill()
