@@ -175,13 +175,16 @@ class Log:
         newest = int(found[0]["mod_revision"]) if found[0] else 0
         if revision_of(answer) < read or newest < floor.revision:
             raise WentBack(f"it is at revision {revision_of(answer)}, its floor at {newest}; {read} was read before")
-        if head and found[1] is None:
-            # A generation is let go once two floors have followed it.
+        if not head:
+            return
+        made = int(found[1]["create_revision"]) if found[1] else 0
+        if 0 < made <= read and made != head.made:
+            raise WentBack(f"the entry that was made at revision {head.made} was made at {made}")
+        if not 0 < made <= read:
+            # It may be let go once two floors have followed its generation.
             generation = int(json.loads(decoded(found[0]["value"]))["generation"]) if found[0] else 0
             if generation < int(head.key.split("/")[-2]) + 2:
                 raise WentBack(f"it has no entry any more that was read at revision {head.revision}")
-        elif head and int(found[1]["create_revision"]) != head.made:
-            raise WentBack(f"an entry that was made at revision {head.made} is another one")
 
     async def follow(self, after: int, take: Callable[[News], None]) -> None:
         """Gives all that comes behind a revision, once, in its order, for ever."""

@@ -10,6 +10,7 @@ import time
 from typing import Any, Callable, Dict, List, Tuple
 
 from cluster import STORE, Client, Cluster, until
+from replica_ends import largest_block, refused_allocations
 from support import fail, wanted
 
 from replica.etcd import Etcd, Refused, decoded, encoded
@@ -180,17 +181,18 @@ def puts_again(cluster: Cluster, one: Client, two: Client) -> None:
     """A put that comes once more, at once, late, and behind the end of its generation, does nothing."""
     number = int(one.ask("BEGIN", "INS again 1", "COMMIT")[2].split()[1])
     _, key, value = kept(cluster, "log/")[-1]
-    put = {"key": encoded(key.encode()), "value": encoded(value)}
-    request(cluster, "/v3/kv/put", put)
+    tail = (f"{NAME}/tail", key.rpartition("/")[2].rpartition(".")[0].encode())
+    puts = {"success": [{"requestPut": {"key": encoded(it.encode()), "value": encoded(text)}} for it, text in ((key, value), tail)]}
+    request(cluster, "/v3/kv/txn", puts)
     wanted("the next number", one.ask("BEGIN", "DEL again", "COMMIT")[2], f"COMMITTED {number + 1}")
-    request(cluster, "/v3/kv/put", put)
+    request(cluster, "/v3/kv/txn", puts)
     cluster.kill_replica(2)
     start(cluster, 2, "--snapshot", FLOOR_EVERY)
     for _ in range(3):
         before = floors(cluster)
         wanted("a snapshot", until(lambda: two.ask("BEGIN", "INS y 1", "DEL y", "COMMIT") and floors(cluster) > before), True)
     wanted("the key has gone", until(lambda: key not in [found for _, found, _ in kept(cluster, "log/")]), True)
-    request(cluster, "/v3/kv/put", put)
+    request(cluster, "/v3/kv/txn", puts)
     wanted("snapshots at rest", until(lambda: not kept(cluster, "claim/")), True)
     cluster.kill_replica(2)
     start(cluster, 2, "--snapshot", FLOOR_EVERY)
@@ -300,7 +302,9 @@ def all_corners(cluster: Cluster) -> None:
         ("slept", lambda: slept(cluster, 1)),
         ("slept longer", lambda: slept(cluster, 3)),
         ("no majority", lambda: no_majority(cluster)),
+        ("the largest block", lambda: largest_block(cluster.client(0), cluster.client(1))),
         ("equal", lambda: equal(cluster)),
+        ("refused allocations", lambda: refused_allocations(cluster)),
         ("a store that ends", lambda: ended_store(cluster)),
     ]
     for name, corner in corners:
