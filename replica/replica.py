@@ -18,6 +18,9 @@ from .transaction import CONFLICT, MOST_ANSWERS, UNKNOWN, UNREACHABLE, Block, bl
 ENTRIES = 1
 # Bytes of an entry that waits for company.
 ENTRY = 1_000_000
+# Sessions that were just told what became of their blocks may bring the next ones, for one entry: seconds that each of them is
+# awaited, and that all are.
+MOMENT, MOMENTS = 0.002, 0.006
 # LOADs that blocks are applied with at once: as many runs of the store are left at least.
 LOADS = 1_000
 
@@ -52,7 +55,9 @@ class Replica:
         self.queue: List[Waiting] = []
         self.on_way: Dict[str, List[Waiting]] = {}
         self.tasks: "asyncio.Queue[asyncio.Task[None]]" = asyncio.Queue()  # that write, for `life` to look at their ends
-        self.is_handing_over = False
+        self.awaited = 0  # how many sessions wait, or were just told
+        self.awaited_until = 0.0
+        self.moment: Optional[asyncio.TimerHandle] = None
         self.failure: "asyncio.Future[None]" = asyncio.get_running_loop().create_future()  # of what the log's news did
         self.snapshot: Optional["asyncio.Task[None]"] = None
         self.has_begun = False  # all that the log had at the start was applied
@@ -64,10 +69,10 @@ class Replica:
         loop = asyncio.get_running_loop()
         waiting = Waiting(b"".join(block.text() for block in blocks), len(blocks), loop.create_future())
         self.queue.append(waiting)
-        if not self.is_handing_over:
-            # Sessions whose lines came at the same time go together.
-            self.is_handing_over = True
-            loop.call_soon(self.hand_over)
+        if len(self.queue) >= self.awaited:
+            self.hand_over()
+        else:
+            self.hand_over_soon()
         timer = loop.call_later(limit, self.expire, waiting)
         try:
             return await waiting.outcomes
@@ -85,7 +90,7 @@ class Replica:
 
     def hand_over(self) -> None:
         """What waits goes on its way, as far as there is room."""
-        self.is_handing_over = False
+        self.awaited = 0
         while self.queue and len(self.on_way) < ENTRIES:
             size = count = 0
             while count < len(self.queue) and (count == 0 or size + len(self.queue[count].text) <= ENTRY):
@@ -96,6 +101,13 @@ class Replica:
             name = f"{self.name}-{self.entries}"
             self.on_way[name] = some
             self.write(name)
+
+    def hand_over_soon(self) -> None:
+        """Where the next session doesn't come soon."""
+        loop = asyncio.get_running_loop()
+        if self.moment is not None:
+            self.moment.cancel()
+        self.moment = loop.call_at(min(loop.time() + MOMENT, self.awaited_until), self.hand_over)
 
     def write(self, name: str) -> None:
         entry = b"".join(waiting.text for waiting in self.on_way[name])
@@ -128,8 +140,8 @@ class Replica:
         self.applied = event.revision
         if self.trace:
             self.trace.flush()
-        self.tell(self.on_way.pop(entry.name, []), outcomes)
-        self.hand_over()
+        if entry.name in self.on_way:
+            self.tell(self.on_way.pop(entry.name), outcomes)
         if self.is_snapshot_due():
             self.snapshot = asyncio.ensure_future(snapshots.write(self))
             self.snapshot.add_done_callback(self.tasks.put_nowait)
@@ -139,7 +151,10 @@ class Replica:
         return is_free and 0 < self.blocks_between_snapshots <= self.blocks and self.applied > self.log.floor.revision
 
     def tell(self, waitings: List[Waiting], outcomes: List[Outcome]) -> None:
-        """Each session of an entry, what became of its blocks."""
+        """Tells each session of an entry what became of its blocks. What waits goes on its way with what they bring next."""
+        self.awaited = len(self.queue) + len(waitings)
+        self.awaited_until = asyncio.get_running_loop().time() + MOMENTS
+        self.hand_over_soon()
         at = 0
         for waiting in waitings:
             if not waiting.outcomes.done():
