@@ -14,7 +14,7 @@ from typing import Any, Callable, Coroutine, List, NoReturn, Optional
 from .etcd import Access, Etcd, Refused
 from .log import LeftBehind, Log, WentBack
 from .replica import Replica
-from .sessions import Session
+from .sessions import Connection, Session
 from .store import Store, StoreEnded
 from .trace import Trace, TraceFault
 
@@ -141,10 +141,12 @@ class Program:
         self.store.on_begin = self.watch_store
         self.store.on_end = lambda: loop.remove_reader(out)
 
-    async def serve(self, reader: asyncio.StreamReader, writer: asyncio.StreamWriter) -> None:
+    async def serve(self, connection: Connection, reader: asyncio.StreamReader, writer: asyncio.StreamWriter) -> None:
         self.sessions += 1
+        session = Session(self.replica, self.sessions, self.asked.reads == "local", self.asked.limit, writer)
+        connection.session = session
         try:
-            await Session(self.replica, self.sessions, self.asked.reads == "local", self.asked.limit, writer).serve(reader)
+            await session.serve(reader)
         except OSError:
             pass  # the client's end
         except Exception as fault:
@@ -171,7 +173,8 @@ class Program:
         self.watch_store()
         life = await self.replica.start()
         try:
-            server = await asyncio.start_server(self.serve, "127.0.0.1", self.asked.port, backlog=256, limit=1 << 18)
+            loop = asyncio.get_running_loop()
+            server = await loop.create_server(lambda: Connection(self.serve), "127.0.0.1", self.asked.port, backlog=256)
         except OSError as fault:
             raise Ending(4, f"port {self.asked.port}: {os.strerror(fault.errno or 0)}") from fault
         print(f"LISTEN {server.sockets[0].getsockname()[1]}", flush=True)

@@ -5,7 +5,7 @@ import asyncio
 import hashlib
 import json
 import uuid
-from typing import Any, Dict, List, NamedTuple, Optional
+from typing import Any, Callable, Dict, List, NamedTuple, Optional
 
 from . import snapshots
 from .ends import Ends
@@ -32,12 +32,21 @@ class Outcome(NamedTuple):
     end: bytes  # of COMMIT
 
 
-class Waiting(NamedTuple):
-    """Blocks of a session, which go into one entry, in their order."""
+class Waiting:
+    """Blocks of a session, which go into one entry, in their order; and who is told what they came to."""
 
-    text: bytes
-    blocks: int
-    outcomes: "asyncio.Future[List[Outcome]]"
+    def __init__(self, text: bytes, blocks: int, tell: Callable[[List[Outcome]], None]) -> None:
+        self.text, self.blocks, self.tell = text, blocks, tell
+        self.timer: Optional[asyncio.TimerHandle] = None
+        self.is_told = False
+
+    def settle(self, outcomes: List[Outcome]) -> None:
+        """Tells it once."""
+        if not self.is_told:
+            self.is_told = True
+            if self.timer is not None:
+                self.timer.cancel()
+            self.tell(outcomes)
 
 
 class Replica:
@@ -66,27 +75,26 @@ class Replica:
 
     async def commit(self, blocks: List[Block], limit: float) -> List[Outcome]:
         """What the blocks came to; beyond the limit that isn't known, or they were never handed over."""
-        loop = asyncio.get_running_loop()
-        waiting = Waiting(b"".join(block.text() for block in blocks), len(blocks), loop.create_future())
+        outcomes: "asyncio.Future[List[Outcome]]" = asyncio.get_running_loop().create_future()
+        self.hand_in(b"".join(block.text() for block in blocks), len(blocks), limit, outcomes.set_result)
+        return await outcomes
+
+    def hand_in(self, text: bytes, blocks: int, limit: float, tell: Callable[[List[Outcome]], None]) -> None:
+        """Has blocks go into the log, and what they came to be told."""
+        waiting = Waiting(text, blocks, tell)
+        waiting.timer = asyncio.get_running_loop().call_later(limit, self.expire, waiting)
         self.queue.append(waiting)
         if len(self.queue) >= self.awaited:
             self.hand_over()
         else:
             self.hand_over_soon()
-        timer = loop.call_later(limit, self.expire, waiting)
-        try:
-            return await waiting.outcomes
-        finally:
-            timer.cancel()
 
     def expire(self, waiting: Waiting) -> None:
-        if waiting.outcomes.done():
-            return
         end = UNKNOWN
         if waiting in self.queue:
             self.queue.remove(waiting)
             end = UNREACHABLE
-        waiting.outcomes.set_result([Outcome([], end)] * waiting.blocks)
+        waiting.settle([Outcome([], end)] * waiting.blocks)
 
     def hand_over(self) -> None:
         """What waits goes on its way, as far as there is room."""
@@ -157,8 +165,7 @@ class Replica:
         self.hand_over_soon()
         at = 0
         for waiting in waitings:
-            if not waiting.outcomes.done():
-                waiting.outcomes.set_result(outcomes[at:at + waiting.blocks])
+            waiting.settle(outcomes[at:at + waiting.blocks])
             at += waiting.blocks
 
     def apply(self, blocks: List[Block]) -> List[Outcome]:
@@ -179,14 +186,12 @@ class Replica:
         return outcomes
 
     def apply_untold(self, blocks: List[Block]) -> List[Outcome]:
-        lines: List[bytes] = []
-        for block in blocks:
-            lines += [b"BEGIN", *block.lines, b"COMMIT"]
-        answers = self.store.free(lines)
+        text = b"".join(b"BEGIN\n%sCOMMIT\n" % block.body for block in blocks)
+        answers = self.store.free_text(text, sum(block.number + 2 for block in blocks))
         outcomes: List[Outcome] = []
         at = 0
         for block in blocks:
-            end = at + 1 + len(block.lines)
+            end = at + 1 + block.number
             outcomes.append(self.committed(block, answers[at + 1:end], answers[end]))
             at = end + 1
         return outcomes
@@ -207,15 +212,14 @@ class Replica:
             return Outcome(untold.answers[block.told:] if self.trace else untold.answers, untold.end)
         self.store.ask([b"ABORT"])
         self.store.has_ghosts = True
-        return Outcome([CONFLICT] * (len(block.lines) - block.told), CONFLICT)
+        return Outcome([CONFLICT] * (block.number - block.told), CONFLICT)
 
     def committed(self, block: Block, answers: List[bytes], end: bytes) -> Outcome:
         if not end.startswith(b"COMMITTED "):
             raise self.store.ended(f"COMMIT was answered {end.decode()}")
         self.commits += 1
         self.blocks += 1
-        if any(line == b"BACK" or line.startswith(b"DEL ") for line in block.lines):
-            self.store.has_ghosts = True
+        self.store.has_ghosts = self.store.has_ghosts or block.may_leave_ghosts()
         if self.trace:
             self.trace.write(block.lines, answers)
         return Outcome(answers, b"COMMITTED %d" % self.commits)

@@ -3,10 +3,10 @@ from __future__ import annotations
 
 import asyncio
 import re
-from typing import List, Optional, Union
+from typing import Awaitable, Callable, List, Optional, Union
 
 from .lines import LONGEST
-from .replica import Replica
+from .replica import Outcome, Replica
 from .transaction import LIMIT, UNREACHABLE, Block, Transaction
 
 # Bytes that are read at once.
@@ -15,6 +15,12 @@ CHUNK = 1 << 18
 AHEAD = 500_000
 # Whole transactions that read a few records, which may go to the store as they stand.
 READS_AHEAD = re.compile(rb"(?:BEGIN\n(?:(?:GET [!-<>-~]{1,32}|SCAN [!-<>-~]{1,32} [!-<>-~]{1,32} [1-9])\n)*COMMIT\n)+")
+# Whole transactions that write a few records, and the lines between BEGIN and COMMIT of one; a line that may write.
+WRITES_AHEAD = re.compile(rb"(?:BEGIN\n(?:(?:GET|INS|REP|DEL|LOAD|LOCK) [ -~]*\n)+COMMIT\n)+")
+BODY = re.compile(rb"BEGIN\n((?:[^C].*\n)+)COMMIT\n")
+WRITES = re.compile(rb"^(?:INS|REP|DEL|LOAD) ", re.MULTILINE)
+# Bytes of answers that a client hasn't read, beyond which its lines wait.
+UNREAD = 1 << 16
 BEGUN = re.compile(rb"^BEGUN [0-9]+$", re.MULTILINE)
 # Lines that end a transaction, or that don't belong to it.
 APART = (b"QUIT", b"ABORT", b"SEEN")
@@ -31,12 +37,42 @@ class Session:
         self.out: List[Union[bytes, Block]] = []  # answers, and blocks in the place of theirs
         self.ahead = 0  # bytes of those blocks
         self.is_current: Optional[bool] = None  # whether the log's end was reached since the last lines came, once that was asked
+        self.rests = False  # it has nothing to do before more lines come
+        self.flying = 0  # transactions that wait for their end with no task
+        self.landed = asyncio.Event()  # none does
+
+    def take_ahead(self, data: bytes) -> bool:
+        """Whole transactions that write, sent ahead to a session that rests, go into the log with no task. Whether they do."""
+        if not self.rests or len(data) > LONGEST or not WRITES_AHEAD.fullmatch(data):
+            return False
+        bodies = BODY.findall(data)
+        if not all(map(WRITES.search, bodies)) or self.writer.transport.get_write_buffer_size() > UNREAD:
+            return False
+        blocks = [Block(body, body.count(b"\n")) for body in bodies]
+
+        def tell(outcomes: List[Outcome]) -> None:
+            for block, outcome in zip(blocks, outcomes):
+                self.begun += 1
+                answers = outcome.answers or [outcome.end] * block.number
+                self.writer.write(b"BEGUN %d\n%s\n%s\n" % (self.begun, b"\n".join(answers), outcome.end))
+            self.flying -= 1
+            if not self.flying:
+                self.landed.set()
+
+        self.flying += 1
+        self.replica.hand_in(b"".join(block.text() for block in blocks), len(blocks), self.limit, tell)
+        return True
 
     async def serve(self, reader: asyncio.StreamReader) -> None:
         """All lines up to QUIT or the end of the input."""
         rest, data = b"", b"."
         while data:
+            self.rests = not rest and self.transaction is None
             data = await reader.read(CHUNK)
+            self.rests = False
+            while self.flying:
+                self.landed.clear()
+                await self.landed.wait()
             self.is_current = None
             rest = await self.take_reads(rest + data)
             *lines, rest = rest.split(b"\n")
@@ -148,7 +184,7 @@ class Session:
         for one in rest:
             if isinstance(one, Block):
                 outcome = next(outcomes)
-                self.out += outcome.answers or [outcome.end] * (len(one.lines) - one.told)
+                self.out += outcome.answers or [outcome.end] * (one.number - one.told)
                 self.out.append(outcome.end)
             else:
                 self.out.append(one)
@@ -186,3 +222,18 @@ class Session:
 
         self.writer.write(BEGUN.sub(number, answers).replace(b"\nABORTED\n", b"\nCOMMITTED %d\n" % self.replica.commits))
         return text[found.end():]
+
+
+class Connection(asyncio.StreamReaderProtocol):
+    """A client's connection, whose lines go to its session's task, or past it."""
+
+    def __init__(self, serve: Callable[[Connection, asyncio.StreamReader, asyncio.StreamWriter], Awaitable[None]]) -> None:
+        reader = asyncio.StreamReader(limit=CHUNK)
+        self.session: Optional[Session] = None
+        super().__init__(reader, lambda reader, writer: serve(self, reader, writer))
+
+    def data_received(self, data: bytes) -> None:
+        if self.session is None or not self.session.take_ahead(data):
+            if self.session is not None:
+                self.session.rests = False
+            super().data_received(data)

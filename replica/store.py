@@ -68,11 +68,12 @@ class Store:
 
     def ask(self, lines: List[bytes]) -> List[bytes]:
         """The answers to some lines, whatever trial is open."""
-        if not lines:
-            return []
-        text = b"\n".join(lines) + b"\n"
+        return self.ask_text(b"\n".join(lines) + b"\n", len(lines)) if lines else []
+
+    def ask_text(self, text: bytes, count: int) -> List[bytes]:
+        """The answers to so many lines, each of which has its LF."""
         self.runs += text.count(b"\nLOAD ") + text.startswith(b"LOAD ")
-        answers = self.raw(text, len(lines)).split(b"\n")[:-1]
+        answers = self.raw(text, count).split(b"\n")[:-1]
         for answer in answers:
             if answer.partition(b" ")[0] not in WORDS or answer in OWN_FAULTS:
                 raise self.ended(f"it answered {answer[:100].decode('ascii', 'replace')}")
@@ -108,6 +109,10 @@ class Store:
 
     def free(self, lines: List[bytes]) -> List[bytes]:
         """The answers to some lines, once no trial is open."""
+        return self.free_text(b"".join(line + b"\n" for line in lines), len(lines))
+
+    def free_text(self, text: bytes, count: int) -> List[bytes]:
+        """The answers to so many lines, each of which has its LF, once no trial is open."""
         before = [] if self.holder is None else [b"ABORT"]
         if self.has_ghosts:
             before.append(CLEAN)
@@ -115,9 +120,11 @@ class Store:
         if self.runs > RUNS:
             self.ask(before)
             self.renew()
-            return self.ask(lines)
-        answers = self.ask(before + lines)
-        if self.has_ghosts:
+            before = []
+        if not before and not count:
+            return []
+        answers = self.ask_text(b"".join(line + b"\n" for line in before) + text, len(before) + count)
+        if self.has_ghosts and before:
             self.has_ghosts = answers[len(before) - 1] == b"CLEANED 64"
         return answers[len(before):]
 

@@ -6,7 +6,7 @@ from __future__ import annotations
 import hashlib
 from typing import Iterator, List, NamedTuple
 
-from .lines import READS, longest_answer
+from .lines import LONGEST_SHORT, READS, longest_answer
 from .store import RUNS, Store
 
 CONFLICT = b"ERR CONFLICT"
@@ -16,33 +16,48 @@ UNKNOWN = b"ERR UNKNOWN"
 # Bytes of a block's lines, each counted with 100 more, and of its answers.
 MOST_LINES = 64_000_000
 MOST_ANSWERS = 64_000_000
+# The digest of no answers.
+EMPTY = hashlib.sha256().hexdigest().encode()
 
 
 class Block(NamedTuple):
-    """Lines; how many of them were answered; the digest of those answers."""
+    """Lines, each with its LF, and how many there are; how many of them were answered; the digest of those answers."""
 
-    lines: List[bytes]
-    told: int
-    digest: bytes
+    body: bytes
+    number: int
+    told: int = 0
+    digest: bytes = EMPTY
+
+    @classmethod
+    def of(cls, lines: List[bytes], told: int, digest: bytes) -> Block:
+        return cls(b"".join(line + b"\n" for line in lines), len(lines), told, digest)
+
+    @property
+    def lines(self) -> List[bytes]:
+        return self.body.split(b"\n")[:-1]
 
     def text(self) -> bytes:
-        return b"%d %d %s\n" % (len(self.lines), self.told, self.digest) + b"".join(line + b"\n" for line in self.lines)
+        return b"%d %d %d %s\n%s" % (len(self.body), self.number, self.told, self.digest, self.body)
 
     def loads(self) -> int:
-        return sum(line.startswith(b"LOAD ") for line in self.lines)
+        return self.body.count(b"\nLOAD ") + self.body.startswith(b"LOAD ")
 
     def longest_answers(self) -> int:
-        return sum(map(longest_answer, self.lines))
+        return sum(map(longest_answer, self.lines)) if b"SCAN " in self.body else LONGEST_SHORT * self.number
+
+    def may_leave_ghosts(self) -> bool:
+        """Of what it deleted or took back."""
+        return b"DEL " in self.body or b"BACK\n" in self.body
 
 
 def blocks_of(entry: bytes) -> Iterator[Block]:
     """The blocks of an entry."""
-    rows = entry.split(b"\n")
     at = 0
-    while at < len(rows) - 1:
-        count, told, digest = rows[at].split(b" ")
-        yield Block(rows[at + 1:at + 1 + int(count)], int(told), digest)
-        at += 1 + int(count)
+    while at < len(entry):
+        begin = entry.index(b"\n", at) + 1
+        size, number, told, digest = entry[at:begin - 1].split(b" ")
+        at = begin + int(size)
+        yield Block(entry[begin:at], int(number), int(told), digest)
 
 
 def line_size(line: bytes) -> int:
@@ -64,7 +79,7 @@ class Transaction:
         self.line_bytes = self.answer_bytes = 0  # the answers of what is pending are counted as the longest
 
     def block(self) -> Block:
-        return Block(self.lines + self.pending, len(self.lines), self.digest.hexdigest().encode())
+        return Block.of(self.lines + self.pending, len(self.lines), self.digest.hexdigest().encode())
 
     def only_reads(self) -> bool:
         """Whether it wrote nothing, and has no line pending that may."""

@@ -92,6 +92,23 @@ def pipelines(one: Client) -> None:
     wanted("SEEN", one.ask("SEEN")[0].split()[::2], ["SEEN", number])
 
 
+def sent_ahead(cluster: Cluster) -> None:
+    """Whole transactions and parts of others, sent one behind the other with no wait: the answers come in their order."""
+    client = cluster.client(0)
+    client.send("BEGIN", "INS q1 COMMIT", "COMMIT", "BEGIN", "DEL q1", "INS q1 BEGIN", "COMMIT")
+    client.send("BEGIN", "INS q2 1", "COMMIT")
+    time.sleep(0.001)
+    client.send("BEGIN", "GET q1", "GET q2", "COMMIT")
+    client.send("BEGIN", "INS q3 1")
+    client.send("COMMIT", "BEGIN", "INS q4 1", "foo", "ABORT", "QUIT")
+    answers = [client.answer() for _ in range(22)]
+    first = int(answers[2].split()[1])
+    right = ["BEGUN 1", "OK", f"COMMITTED {first}", "BEGUN 2", "OK", "OK", f"COMMITTED {first + 1}", "BEGUN 3", "OK",
+             f"COMMITTED {first + 2}", "BEGUN 4", "VAL BEGIN", "VAL 1", f"COMMITTED {first + 2}", "BEGUN 5", "OK",
+             f"COMMITTED {first + 3}", "BEGUN 6", "OK", "ERR SYNTAX", "ABORTED", "BYE"]
+    wanted("answers in their order", answers, right)
+
+
 def staging(one: Client, two: Client) -> None:
     """Records that are staged: faults, and a run of more than 65,536, at another replica."""
     answers = one.ask("BEGIN", "STAGE s1=1 s2=2", "COMMIT", "LOAD s3=3", "STAGE s4=4", "LOAD s1=1", "COMMIT",
@@ -293,6 +310,7 @@ def all_corners(cluster: Cluster) -> None:
         ("phantoms", lambda: phantoms(one, two)),
         ("one state", lambda: one_state(one, two)),
         ("pipelines", lambda: pipelines(one)),
+        ("sent ahead", lambda: sent_ahead(cluster)),
         ("staging", lambda: staging(one, two)),
         ("always in conflict", lambda: always_in_conflict(cluster, one)),
         ("a long transaction", lambda: long_transaction(cluster, one)),
