@@ -19,8 +19,9 @@ ENTRIES = 1
 # Bytes of an entry that waits for company.
 ENTRY = 1_000_000
 # Sessions that were just told what became of their blocks may bring the next ones, for one entry: seconds that each of them is
-# awaited, and that all are.
+# awaited, and that all are. They aren't where fewer than so much of those came that were told before.
 MOMENT, MOMENTS = 0.002, 0.006
+WORTH = 1 / 3
 # LOADs that blocks are applied with at once: as many runs of the store are left at least.
 LOADS = 1_000
 
@@ -66,6 +67,8 @@ class Replica:
         self.tasks: "asyncio.Queue[asyncio.Task[None]]" = asyncio.Queue()  # that write, for `life` to look at their ends
         self.awaited = 0  # how many sessions wait, or were just told
         self.awaited_until = 0.0
+        self.told = self.came = 0  # sessions that were told last, and those that came within a moment
+        self.told_at = 0.0
         self.moment: Optional[asyncio.TimerHandle] = None
         self.failure: "asyncio.Future[None]" = asyncio.get_running_loop().create_future()  # of what the log's news did
         self.snapshot: Optional["asyncio.Task[None]"] = None
@@ -84,6 +87,7 @@ class Replica:
         waiting = Waiting(text, blocks, tell)
         waiting.timer = asyncio.get_running_loop().call_later(limit, self.expire, waiting)
         self.queue.append(waiting)
+        self.came += asyncio.get_running_loop().time() < self.told_at + MOMENT
         if len(self.queue) >= self.awaited:
             self.hand_over()
         else:
@@ -159,10 +163,14 @@ class Replica:
         return is_free and 0 < self.blocks_between_snapshots <= self.blocks and self.applied > self.log.floor.revision
 
     def tell(self, waitings: List[Waiting], outcomes: List[Outcome]) -> None:
-        """Tells each session of an entry what became of its blocks. What waits goes on its way with what they bring next."""
-        self.awaited = len(self.queue) + len(waitings)
-        self.awaited_until = asyncio.get_running_loop().time() + MOMENTS
-        self.hand_over_soon()
+        """Tells each session of an entry what became of its blocks. What waits goes on its way, with what they bring next."""
+        is_worth = self.came >= self.told * WORTH
+        self.told, self.came, self.told_at = len(waitings), 0, asyncio.get_running_loop().time()
+        if is_worth:
+            self.awaited, self.awaited_until = len(self.queue) + len(waitings), self.told_at + MOMENTS
+            self.hand_over_soon()
+        else:
+            self.hand_over()
         at = 0
         for waiting in waitings:
             waiting.settle(outcomes[at:at + waiting.blocks])
@@ -177,7 +185,7 @@ class Replica:
                 loads += blocks[count].loads()
                 size += blocks[count].longest_answers()
                 count += 1
-            if count > 1:
+            if count > 1 or count == 1 and size <= PORTION:
                 outcomes += self.apply_untold(blocks[:count])
             else:
                 count = 1
