@@ -12,7 +12,7 @@ from .ends import Ends
 from .log import Event, Log, News
 from .store import PORTION, Store
 from .trace import Trace
-from .transaction import CONFLICT, MOST_ANSWERS, UNKNOWN, UNREACHABLE, Block, blocks_of
+from .transaction import CONFLICT, MOST_ANSWERS, UNKNOWN, UNREACHABLE, Block, Transaction, blocks_of
 
 # Entries on their way at once: more of them make smaller ones, and were slower.
 ENTRIES = 1
@@ -205,7 +205,11 @@ class Replica:
         return outcomes
 
     def apply_one(self, block: Block) -> Outcome:
-        """Its lines are taken again: where the answered ones are answered as told it commits, else it aborts."""
+        """Its lines are taken again: where the answered ones are answered as told it commits, else it aborts. Those of a trial
+        that is still open stand there just so."""
+        if not self.trace and isinstance(self.store.holder, Transaction) and self.store.holder.is_all_of(block):
+            self.store.holder = None
+            return self.committed(block, [], self.store.ask([b"COMMIT"])[0])
         told, size, answers = hashlib.sha256(), 0, []
         for number, answer in enumerate(self.store.answers([b"BEGIN", *block.lines]), -1):
             if 0 <= number < block.told:

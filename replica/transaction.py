@@ -81,6 +81,10 @@ class Transaction:
     def block(self) -> Block:
         return Block.of(self.lines + self.pending, len(self.lines), self.digest.hexdigest().encode())
 
+    def is_all_of(self, block: Block) -> bool:
+        """Whether the block has its lines, with the same answers, and no more."""
+        return not self.fault and block.told == block.number == len(self.lines) and self.block() == block
+
     def only_reads(self) -> bool:
         """Whether it wrote nothing, and has no line pending that may."""
         return not self.wrote and all(line.partition(b" ")[0] in READS for line in self.pending)
