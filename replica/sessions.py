@@ -17,6 +17,7 @@ AHEAD = 500_000
 READS_AHEAD = re.compile(rb"(?:BEGIN\n(?:(?:GET [!-<>-~]{1,32}|SCAN [!-<>-~]{1,32} [!-<>-~]{1,32} [1-9])\n)*COMMIT\n)+")
 # Whole transactions that write a few records, and the lines between BEGIN and COMMIT of one; a line that may write.
 WRITES_AHEAD = re.compile(rb"(?:BEGIN\n(?:(?:GET|INS|REP|DEL|LOAD|LOCK) [ -~]*\n)+COMMIT\n)+")
+# (none of the lines between begins as COMMIT does)
 BODY = re.compile(rb"BEGIN\n((?:[^C].*\n)+)COMMIT\n")
 WRITES = re.compile(rb"^(?:INS|REP|DEL|LOAD) ", re.MULTILINE)
 # Bytes of answers that a client hasn't read, beyond which its lines wait.
