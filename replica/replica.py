@@ -191,6 +191,7 @@ class Replica:
                 count = 1
                 outcomes.append(self.apply_one(blocks[0]))
             blocks = blocks[count:]
+        self.store.flush()
         return outcomes
 
     def apply_untold(self, blocks: List[Block]) -> List[Outcome]:
@@ -200,7 +201,8 @@ class Replica:
         at = 0
         for block in blocks:
             end = at + 1 + block.number
-            outcomes.append(self.committed(block, answers[at + 1:end], answers[end]))
+            self.check_end(answers[end])
+            outcomes.append(self.committed(block, answers[at + 1:end]))
             at = end + 1
         return outcomes
 
@@ -209,7 +211,7 @@ class Replica:
         that is still open stand there just so."""
         if not self.trace and isinstance(self.store.holder, Transaction) and self.store.holder.is_all_of(block):
             self.store.holder = None
-            return self.committed(block, [], self.store.ask([b"COMMIT"])[0])
+            return self.commit_later(block, [])
         told, size, answers = hashlib.sha256(), 0, []
         for number, answer in enumerate(self.store.answers([b"BEGIN", *block.lines]), -1):
             if 0 <= number < block.told:
@@ -220,15 +222,23 @@ class Replica:
             if number >= block.told or self.trace and number >= 0:
                 answers.append(answer)
         if told.hexdigest().encode() == block.digest:
-            untold = self.committed(block, answers, self.store.ask([b"COMMIT"])[0])
-            return Outcome(untold.answers[block.told:] if self.trace else untold.answers, untold.end)
-        self.store.ask([b"ABORT"])
+            return self.commit_later(block, answers)
+        self.store.ask_later(b"ABORT", lambda answer: None)
         self.store.has_ghosts = True
         return Outcome([CONFLICT] * (block.number - block.told), CONFLICT)
 
-    def committed(self, block: Block, answers: List[bytes], end: bytes) -> Outcome:
+    def commit_later(self, block: Block, answers: List[bytes]) -> Outcome:
+        """Its lines stand in the store: the COMMIT goes with what is asked next. Of the answers those that weren't told before
+        are given, or all for a trace."""
+        self.store.ask_later(b"COMMIT", self.check_end)
+        untold = self.committed(block, answers)
+        return Outcome(untold.answers[block.told:] if self.trace else untold.answers, untold.end)
+
+    def check_end(self, end: bytes) -> None:
         if not end.startswith(b"COMMITTED "):
             raise self.store.ended(f"COMMIT was answered {end.decode()}")
+
+    def committed(self, block: Block, answers: List[bytes]) -> Outcome:
         self.commits += 1
         self.blocks += 1
         self.store.has_ghosts = self.store.has_ghosts or block.may_leave_ghosts()

@@ -38,16 +38,35 @@ class Session:
         self.out: List[Union[bytes, Block]] = []  # answers, and blocks in the place of theirs
         self.ahead = 0  # bytes of those blocks
         self.is_current: Optional[bool] = None  # whether the log's end was reached since the last lines came, once that was asked
-        self.rests = False  # it has nothing to do before more lines come
+        self.rests = False  # all lines that came were taken
         self.flying = 0  # transactions that wait for their end with no task
         self.landed = asyncio.Event()  # none does
 
+    def take_past(self, data: bytes) -> bool:
+        """Lines that a session which rests takes with no task: BEGIN, the COMMIT of what was told, and whole transactions that
+        write and were sent ahead. Whether it took them."""
+        if not self.rests or self.writer.transport.get_write_buffer_size() > UNREAD:
+            return False
+        transaction = self.transaction
+        if transaction is None and data != b"BEGIN\n":
+            return len(data) <= LONGEST and self.take_ahead(data)
+        if self.flying:
+            return False
+        if transaction is None:
+            self.begin()
+            self.send()
+            return True
+        if data != b"COMMIT\n" or not transaction.is_told():
+            return False
+        self.transaction = None
+        self.fly([transaction.block()], lambda outcomes: self.writer.write(outcomes[0].end + b"\n"))
+        return True
+
     def take_ahead(self, data: bytes) -> bool:
-        """Whole transactions that write, sent ahead to a session that rests, go into the log with no task. Whether they do."""
-        if not self.rests or len(data) > LONGEST or not WRITES_AHEAD.fullmatch(data):
+        if not WRITES_AHEAD.fullmatch(data):
             return False
         bodies = BODY.findall(data)
-        if not all(map(WRITES.search, bodies)) or self.writer.transport.get_write_buffer_size() > UNREAD:
+        if not all(map(WRITES.search, bodies)):
             return False
         blocks = [Block(body, body.count(b"\n")) for body in bodies]
 
@@ -56,19 +75,32 @@ class Session:
                 self.begun += 1
                 answers = outcome.answers or [outcome.end] * block.number
                 self.writer.write(b"BEGUN %d\n%s\n%s\n" % (self.begun, b"\n".join(answers), outcome.end))
+
+        self.fly(blocks, tell)
+        return True
+
+    def fly(self, blocks: List[Block], tell: Callable[[List[Outcome]], None]) -> None:
+        """Blocks go into the log, and what they come to is told, with no task."""
+
+        def land(outcomes: List[Outcome]) -> None:
+            tell(outcomes)
             self.flying -= 1
             if not self.flying:
                 self.landed.set()
 
         self.flying += 1
-        self.replica.hand_in(b"".join(block.text() for block in blocks), len(blocks), self.limit, tell)
-        return True
+        self.replica.hand_in(b"".join(block.text() for block in blocks), len(blocks), self.limit, land)
+
+    def begin(self) -> None:
+        self.begun += 1
+        self.transaction = Transaction()
+        self.out.append(b"BEGUN %d" % self.begun)
 
     async def serve(self, reader: asyncio.StreamReader) -> None:
         """All lines up to QUIT or the end of the input."""
         rest, data = b"", b"."
         while data:
-            self.rests = not rest and self.transaction is None
+            self.rests = not rest
             data = await reader.read(CHUNK)
             self.rests = False
             while self.flying:
@@ -104,9 +136,7 @@ class Session:
             line = line[:-1]
         transaction = self.transaction
         if line == b"BEGIN" and transaction is None:
-            self.begun += 1
-            self.transaction = Transaction()
-            self.out.append(b"BEGUN %d" % self.begun)
+            self.begin()
         elif transaction is None or b"\r" in line or line in APART or line.startswith(MAINTENANCE):
             await self.answer_all()
             return self.take_apart(line)
@@ -234,7 +264,7 @@ class Connection(asyncio.StreamReaderProtocol):
         super().__init__(reader, lambda reader, writer: serve(self, reader, writer))
 
     def data_received(self, data: bytes) -> None:
-        if self.session is None or not self.session.take_ahead(data):
+        if self.session is None or not self.session.take_past(data):
             if self.session is not None:
                 self.session.rests = False
             super().data_received(data)

@@ -7,7 +7,7 @@ import os
 import select
 import subprocess
 from fcntl import fcntl
-from typing import Callable, Iterator, List, Optional
+from typing import Callable, Iterator, List, Optional, Tuple
 
 from .lines import EVERYTHING, longest_answer
 
@@ -40,6 +40,7 @@ class Store:
         self.has_ghosts = False  # that trials and deletions may have left
         self.on_begin: Callable[[], object] = lambda: None
         self.on_end: Callable[[], object] = lambda: None
+        self.owed: List[Tuple[bytes, Callable[[bytes], None]]] = []  # lines that go with the next ones, and who takes the answers
         self.fault = ""  # why nothing more is asked
         self.begin()
 
@@ -68,16 +69,30 @@ class Store:
 
     def ask(self, lines: List[bytes]) -> List[bytes]:
         """The answers to some lines, whatever trial is open."""
-        return self.ask_text(b"\n".join(lines) + b"\n", len(lines)) if lines else []
+        return self.ask_text(b"".join(line + b"\n" for line in lines), len(lines))
 
     def ask_text(self, text: bytes, count: int) -> List[bytes]:
         """The answers to so many lines, each of which has its LF."""
+        owed, self.owed = self.owed, []
+        if owed:
+            text = b"".join(line + b"\n" for line, _ in owed) + text
+        if not text:
+            return []
         self.runs += text.count(b"\nLOAD ") + text.startswith(b"LOAD ")
-        answers = self.raw(text, count).split(b"\n")[:-1]
+        answers = self.raw(text, len(owed) + count).split(b"\n")[:-1]
         for answer in answers:
             if answer.partition(b" ")[0] not in WORDS or answer in OWN_FAULTS:
                 raise self.ended(f"it answered {answer[:100].decode('ascii', 'replace')}")
-        return answers
+        for (_, take), answer in zip(owed, answers):
+            take(answer)
+        return answers[len(owed):]
+
+    def ask_later(self, line: bytes, take: Callable[[bytes], None]) -> None:
+        """A line whose answer isn't awaited: it goes with the next lines, or with `flush`."""
+        self.owed.append((line, take))
+
+    def flush(self) -> None:
+        self.ask_text(b"", 0)
 
     def raw(self, text: bytes, count: int) -> bytes:
         """The answers to so many lines, as they come."""
@@ -87,8 +102,9 @@ class Store:
         try:
             left, poll = memoryview(text), select.poll()
             left = left[os.write(self.into, left[:ROOM]):]
-            poll.register(self.into, select.POLLOUT)
-            poll.register(self.out, select.POLLIN)
+            if left:
+                poll.register(self.into, select.POLLOUT)
+                poll.register(self.out, select.POLLIN)
             while count > 0:
                 if left:
                     ready = dict(poll.poll())
@@ -121,8 +137,6 @@ class Store:
             self.ask(before)
             self.renew()
             before = []
-        if not before and not count:
-            return []
         answers = self.ask_text(b"".join(line + b"\n" for line in before) + text, len(before) + count)
         if self.has_ghosts and before:
             self.has_ghosts = answers[len(before) - 1] == b"CLEANED 64"

@@ -85,6 +85,10 @@ class Transaction:
         """Whether the block has its lines, with the same answers, and no more."""
         return not self.fault and block.told == block.number == len(self.lines) and self.block() == block
 
+    def is_told(self) -> bool:
+        """Whether it wrote, and all its lines were answered, with no fault."""
+        return self.wrote and not (self.pending or self.fault or self.waits_to_load)
+
     def only_reads(self) -> bool:
         """Whether it wrote nothing, and has no line pending that may."""
         return not self.wrote and all(line.partition(b" ")[0] in READS for line in self.pending)
