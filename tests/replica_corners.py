@@ -10,7 +10,7 @@ import time
 from typing import Any, Callable, Dict, List, Tuple
 
 from cluster import STORE, Client, Cluster, until
-from replica_ends import largest_block, refused_allocations
+from replica_ends import largest_block
 from support import fail, wanted
 
 from replica.etcd import Etcd, Refused, decoded, encoded
@@ -322,7 +322,6 @@ def all_corners(cluster: Cluster) -> None:
         ("no majority", lambda: no_majority(cluster)),
         ("the largest block", lambda: largest_block(cluster.client(0), cluster.client(1))),
         ("equal", lambda: equal(cluster)),
-        ("refused allocations", lambda: refused_allocations(cluster)),
         ("a store that ends", lambda: ended_store(cluster)),
     ]
     for name, corner in corners:

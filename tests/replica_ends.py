@@ -12,8 +12,9 @@ from typing import List, Optional
 from cluster import Client, Cluster, until
 from support import LIMIT, TOP, built, fail, wanted
 
-# Replicas that are tried at a time, at the ports behind those of the ones that go on.
-TRIED = (3, 4, 5)
+# The log that refused stores read, the replica that goes on, and those that are tried at a time.
+LOG = "refused"
+LASTING, TRIED = 0, (3, 4, 5)
 # Each of a store's first allocations is refused in turn, and then each so many.
 FIRST, STEP = 12, 9
 # Records of a line, and lines of a run, so that a line counts 4,000 bytes of the 64,000,000 that a block has.
@@ -33,7 +34,9 @@ def refused_allocations(cluster: Cluster) -> None:
     words = [*compiler, "-O2", "-shared", "-fPIC", "-o", library, f"{TOP}/tests/refuse_memory.c"]
     subprocess.run(words, check=True, timeout=LIMIT)
     program = f"LD_PRELOAD={shlex.quote(library)} {shlex.quote(built('am_alone'))} alone"
-    one = cluster.client(0)
+    cluster.start_replica(LASTING, "--log", LOG, "--snapshot", "0")
+    wanted("a replica that goes on", cluster.is_ready(LASTING), True)
+    one = cluster.client(LASTING)
     for number in range(20):
         wanted("a block", one.ask("BEGIN", load_line("r", number), "SCAN r r~ 50", "COMMIT")[3].split()[0], "COMMITTED")
     start(cluster, TRIED[0], f"env REFUSE_COUNT={shlex.quote(count)} {program}")
@@ -49,11 +52,12 @@ def refused_allocations(cluster: Cluster) -> None:
             start(cluster, replica, f"env REFUSE_FROM={point} {program}")
         for replica, point in some.items():
             end_of(cluster, one, replica, f"a store refused from its allocation {point} on")
+    cluster.kill_replica(LASTING)
     print(f"replicas: of {made} allocations of a store those from {len(points)} points on were refused")
 
 
 def start(cluster: Cluster, at: int, store: str) -> None:
-    cluster.start_replica(at, "--log", "corners", "--snapshot", "0", store=store)
+    cluster.start_replica(at, "--log", LOG, "--snapshot", "0", store=store)
 
 
 def end_of(cluster: Cluster, one: Client, replica: int, what: str) -> None:
