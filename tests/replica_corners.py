@@ -320,9 +320,9 @@ def all_corners(cluster: Cluster) -> None:
         ("slept", lambda: slept(cluster, 1)),
         ("slept longer", lambda: slept(cluster, 3)),
         ("no majority", lambda: no_majority(cluster)),
-        ("the largest block", lambda: largest_block(cluster.client(0), cluster.client(1))),
         ("equal", lambda: equal(cluster)),
         ("a store that ends", lambda: ended_store(cluster)),
+        ("the largest block", lambda: largest_block(cluster.client(1), cluster.client(2))),
     ]
     for name, corner in corners:
         begun = time.monotonic()
