@@ -20,7 +20,7 @@ ENTRIES = 1
 ENTRY = 1_000_000
 # Sessions that were just told what became of their blocks may bring the next ones, for one entry: seconds that each of them is
 # awaited, and that all are. They aren't where fewer than so much of those came that were told before.
-MOMENT, MOMENTS = 0.002, 0.006
+MOMENT, MOMENTS = 0.003, 0.008
 WORTH = 1 / 3
 # LOADs that blocks are applied with at once: as many runs of the store are left at least.
 LOADS = 1_000
