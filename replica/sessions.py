@@ -20,8 +20,8 @@ WRITES_AHEAD = re.compile(rb"(?:BEGIN\n(?:(?:GET|INS|REP|DEL|LOAD|LOCK) [ -~]*\n
 # (none of the lines between begins as COMMIT does)
 BODY = re.compile(rb"BEGIN\n((?:[^C].*\n)+)COMMIT\n")
 WRITES = re.compile(rb"^(?:INS|REP|DEL|LOAD) ", re.MULTILINE)
-# Bytes of answers that a client hasn't read, beyond which its lines wait.
-UNREAD = 1 << 16
+# Bytes of answers that a client hasn't read, and sendings whose ends aren't known, beyond which its lines wait.
+UNREAD, MOST_FLYING = 1 << 16, 100
 BEGUN = re.compile(rb"^BEGUN [0-9]+$", re.MULTILINE)
 # Lines that end a transaction, or that don't belong to it.
 APART = (b"QUIT", b"ABORT", b"SEEN")
@@ -45,7 +45,7 @@ class Session:
     def take_past(self, data: bytes) -> bool:
         """Lines that a session which rests takes with no task: BEGIN, the COMMIT of what was told, and whole transactions that
         write and were sent ahead. Whether it took them."""
-        if not self.rests or self.writer.transport.get_write_buffer_size() > UNREAD:
+        if not self.rests or self.flying >= MOST_FLYING or self.writer.transport.get_write_buffer_size() > UNREAD:
             return False
         transaction = self.transaction
         if transaction is None and data != b"BEGIN\n":

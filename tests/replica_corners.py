@@ -107,6 +107,13 @@ def sent_ahead(cluster: Cluster) -> None:
              f"COMMITTED {first + 2}", "BEGUN 4", "VAL BEGIN", "VAL 1", f"COMMITTED {first + 2}", "BEGUN 5", "OK",
              f"COMMITTED {first + 3}", "BEGUN 6", "OK", "ERR SYNTAX", "ABORTED", "BYE"]
     wanted("answers in their order", answers, right)
+    client = cluster.client(0)
+    for number in range(2000):  # more than may be on their way, in small pieces
+        client.send("BEGIN", f"REP q1 {number}", "COMMIT")
+    answers = [client.answer() for _ in range(6000)]
+    first = int(answers[2].split()[1])
+    right = [answer for number in range(2000) for answer in (f"BEGUN {number + 1}", "OK", f"COMMITTED {first + number}")]
+    wanted("answers to many", answers == right, True)
 
 
 def staging(one: Client, two: Client) -> None:
