@@ -53,8 +53,8 @@ class Ends:
             if not self.is_asking and len(self.questions) < QUESTIONS:
                 self.is_asking = True
                 self.questions.add(asyncio.ensure_future(self.ask()))
-            questions = set(self.questions)
-            done, _ = await asyncio.wait(questions, timeout=max(0.0, begun + limit - now()), return_when=asyncio.FIRST_COMPLETED)
+            left = max(0.0, begun + limit - now())
+            done, _ = await asyncio.wait(set(self.questions), timeout=left, return_when=asyncio.FIRST_COMPLETED)
             self.questions -= done
             if not done:
                 return False

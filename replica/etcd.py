@@ -76,7 +76,8 @@ class Link(asyncio.Protocol):
     async def open(cls, host: str, access: Access) -> Link:
         """A connection, within PATIENCE."""
         name, _, port = host.rpartition(":")
-        opening = asyncio.get_running_loop().create_connection(lambda: cls(host), name.strip("[]"), int(port), ssl=access.context)
+        loop = asyncio.get_running_loop()
+        opening = loop.create_connection(lambda: cls(host), name.strip("[]"), int(port), ssl=access.context)
         return (await asyncio.wait_for(opening, PATIENCE))[1]
 
     def post(

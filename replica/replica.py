@@ -9,10 +9,10 @@ from typing import Any, Callable, Dict, List, NamedTuple, Optional
 
 from . import snapshots
 from .ends import Ends
-from .log import Entry, Event, Log, News
-from .store import PORTION, RUNS, Store, StoreEnded
+from .log import Event, Log, News
+from .store import LOADS, PORTION, RUNS, Store, StoreEnded
 from .trace import Trace
-from .transaction import CONFLICT, MOST_ANSWERS, UNKNOWN, UNREACHABLE, Block, Transaction, blocks_of
+from .transaction import CONFLICT, MOST_ANSWERS, UNKNOWN, UNREACHABLE, Batch, Block, Transaction, entry_of, may_leave_ghosts
 
 # Entries on their way at once: more of them make smaller ones, and were slower.
 ENTRIES = 1
@@ -22,8 +22,8 @@ ENTRY = 1_000_000
 # awaited, and that all are. They aren't where fewer than so much of those came that were told before.
 MOMENT, MOMENTS = 0.003, 0.008
 WORTH = 1 / 3
-# LOADs that blocks are applied with at once: as many runs of the store are left at least.
-LOADS = 1_000
+# Bytes that a block takes beside its lines, at most.
+HEAD = 110
 
 
 class Outcome(NamedTuple):
@@ -36,8 +36,9 @@ class Outcome(NamedTuple):
 class Waiting:
     """Blocks of a session, which go into one entry, in their order; and who is told what they came to."""
 
-    def __init__(self, text: bytes, blocks: int, tell: Callable[[List[Outcome]], None]) -> None:
-        self.text, self.blocks, self.tell = text, blocks, tell
+    def __init__(self, blocks: List[Block], tell: Callable[[List[Outcome]], None]) -> None:
+        self.blocks, self.tell = blocks, tell
+        self.size = sum(len(block.body) + HEAD for block in blocks)
         self.timer: Optional[asyncio.TimerHandle] = None
         self.is_told = False
 
@@ -87,12 +88,12 @@ class Replica:
     async def commit(self, blocks: List[Block], limit: float) -> List[Outcome]:
         """What the blocks came to; beyond the limit that isn't known, or they were never handed over."""
         outcomes: "asyncio.Future[List[Outcome]]" = asyncio.get_running_loop().create_future()
-        self.hand_in(b"".join(block.text() for block in blocks), len(blocks), limit, outcomes.set_result)
+        self.hand_in(blocks, limit, outcomes.set_result)
         return await outcomes
 
-    def hand_in(self, text: bytes, blocks: int, limit: float, tell: Callable[[List[Outcome]], None]) -> None:
+    def hand_in(self, blocks: List[Block], limit: float, tell: Callable[[List[Outcome]], None]) -> None:
         """Has blocks go into the log, and what they came to be told."""
-        waiting = Waiting(text, blocks, tell)
+        waiting = Waiting(blocks, tell)
         waiting.timer = asyncio.get_running_loop().call_later(limit, self.expire, waiting)
         self.queue.append(waiting)
         self.came += asyncio.get_running_loop().time() < self.told_at + MOMENT
@@ -106,22 +107,22 @@ class Replica:
         if waiting in self.queue:
             self.queue.remove(waiting)
             end = UNREACHABLE
-        waiting.settle([Outcome([], end)] * waiting.blocks)
+        waiting.settle([Outcome([], end)] * len(waiting.blocks))
 
     def hand_over(self) -> None:
         """What waits goes on its way, as far as there is room."""
         self.awaited = 0
         while self.queue and len(self.on_way) < ENTRIES:
             size = count = 0
-            while count < len(self.queue) and (count == 0 or size + len(self.queue[count].text) <= ENTRY):
-                size += len(self.queue[count].text)
+            while count < len(self.queue) and (count == 0 or size + self.queue[count].size <= ENTRY):
+                size += self.queue[count].size
                 count += 1
             some, self.queue = self.queue[:count], self.queue[count:]
             self.entries += 1
             name = f"{self.name}-{self.entries}"
             self.on_way[name] = some
             self.write(name)
-            if count == 1 and some[0].blocks == 1:
+            if count == 1 and len(some[0].blocks) == 1:
                 # (behind the first step of the task that writes)
                 asyncio.get_running_loop().call_soon(self.guess, name)
 
@@ -133,7 +134,7 @@ class Replica:
         self.moment = loop.call_at(min(loop.time() + MOMENT, self.awaited_until), self.hand_over)
 
     def write(self, name: str) -> None:
-        entry = b"".join(waiting.text for waiting in self.on_way[name])
+        entry = entry_of([block for waiting in self.on_way[name] for block in waiting.blocks])
         task = asyncio.ensure_future(self.log.write(name, entry, lambda: name not in self.on_way))
         task.add_done_callback(self.tasks.put_nowait)
 
@@ -141,7 +142,7 @@ class Replica:
         """Tries the one block of an entry that is on its way, where the store has nothing else to do."""
         if name not in self.on_way or self.store.holder is not None or self.failure.done():
             return
-        block = next(blocks_of(self.on_way[name][0].text))
+        block = self.on_way[name][0].blocks[0]
         if block.told or block.longest_answers() > PORTION or self.store.runs + block.loads() > RUNS:
             return
         try:
@@ -173,7 +174,7 @@ class Replica:
                 self.write(name)
         if entry is None or event.revision <= self.applied:
             return
-        outcomes = self.guessed(entry) or self.apply(list(blocks_of(entry.text())))
+        outcomes = self.guessed(entry.name) or self.apply_entry(Batch(entry.text()), entry.name in self.on_way)
         self.applied = event.revision
         if self.trace:
             self.trace.flush()
@@ -199,8 +200,26 @@ class Replica:
             self.hand_over()
         at = 0
         for waiting in waitings:
-            waiting.settle(outcomes[at:at + waiting.blocks])
-            at += waiting.blocks
+            waiting.settle(outcomes[at:at + len(waiting.blocks)])
+            at += len(waiting.blocks)
+
+    def apply_entry(self, batch: Batch, is_own: bool) -> List[Outcome]:
+        """What its blocks come to, which is told where they are this replica's sessions'."""
+        if self.trace or not batch.is_untold() or not batch.is_small():
+            return self.apply(batch.blocks())
+        answers = self.store.free_text(batch.text, sum(batch.numbers) + 2 * len(batch.numbers))
+        self.store.has_ghosts = self.store.has_ghosts or may_leave_ghosts(batch.text)
+        outcomes: List[Outcome] = []
+        at = 0
+        for number in batch.numbers:
+            end = at + 1 + number
+            self.check_end(answers[end])
+            self.commits += 1
+            if is_own:
+                outcomes.append(Outcome(answers[at + 1:end], b"COMMITTED %d" % self.commits))
+            at = end + 1
+        self.blocks += len(batch.numbers)
+        return outcomes
 
     def apply(self, blocks: List[Block]) -> List[Outcome]:
         """Blocks in their order. Those that were told nothing can't be contradicted: as many as there is room for go at once."""
@@ -219,14 +238,13 @@ class Replica:
             blocks = blocks[count:]
         return outcomes
 
-    def guessed(self, entry: Entry) -> List[Outcome]:
+    def guessed(self, name: str) -> List[Outcome]:
         """The outcome of an entry whose trial is open, so that nothing has come before it."""
         guess = self.store.holder
-        if not isinstance(guess, Guess) or guess.entry != entry.name:
+        if not isinstance(guess, Guess) or guess.entry != name:
             return []
-        block = next(blocks_of(entry.text()))
         self.store.holder, self.store.has_ghosts = None, guess.had_ghosts
-        return [self.commit_later(block, guess.answers)]
+        return [self.commit_later(self.on_way[name][0].blocks[0], guess.answers)]
 
     def apply_untold(self, blocks: List[Block]) -> List[Outcome]:
         text = b"".join(b"BEGIN\n%sCOMMIT\n" % block.body for block in blocks)

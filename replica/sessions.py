@@ -89,7 +89,7 @@ class Session:
                 self.landed.set()
 
         self.flying += 1
-        self.replica.hand_in(b"".join(block.text() for block in blocks), len(blocks), self.limit, land)
+        self.replica.hand_in(blocks, self.limit, land)
 
     def begin(self) -> None:
         self.begun += 1
@@ -187,7 +187,7 @@ class Session:
         else:
             block = transaction.block()
             self.out.append(block)
-            self.ahead += len(block.text())
+            self.ahead += len(block.body)
             if self.ahead > AHEAD:
                 await self.settle()
         self.transaction = None

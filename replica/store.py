@@ -22,6 +22,8 @@ SET_PIPE_SIZE = 1031  # fcntl's F_SETPIPE_SZ, which Python has from 3.10 on
 PORTION = 4_000_000
 # Runs that a store may make before it is made anew. It has 65,535; those of aborted LOADs count, and slow it down.
 RUNS = 20_000
+# LOADs that are asked for at once: as many runs of the store are left at least.
+LOADS = 1_000
 # Most records, and bytes of lines, of a run that is loaded.
 RUN_RECORDS, RUN_BYTES = 65_000, 900_000
 CLEAN = b"CLEAN " + EVERYTHING + b" 64"
@@ -40,7 +42,8 @@ class Store:
         self.has_ghosts = False  # that trials and deletions may have left
         self.on_begin: Callable[[], object] = lambda: None
         self.on_end: Callable[[], object] = lambda: None
-        self.owed: List[Tuple[bytes, Callable[[bytes], None]]] = []  # lines that go with the next ones, and who takes the answers
+        # Lines that go with the next ones, and who takes the answers.
+        self.owed: List[Tuple[bytes, Callable[[bytes], None]]] = []
         self.fault = ""  # why nothing more is asked
         self.begin()
 

@@ -4,10 +4,10 @@ All that a transaction was told is what one state of the store, which was the lo
 from __future__ import annotations
 
 import hashlib
-from typing import Iterator, List, NamedTuple
+from typing import List, NamedTuple
 
 from .lines import LONGEST_SHORT, READS, longest_answer
-from .store import RUNS, Store
+from .store import LOADS, PORTION, RUNS, Store
 
 CONFLICT = b"ERR CONFLICT"
 LIMIT = b"ERR LIMIT"
@@ -18,6 +18,11 @@ MOST_LINES = 64_000_000
 MOST_ANSWERS = 64_000_000
 # The digest of no answers.
 EMPTY = hashlib.sha256().hexdigest().encode()
+
+
+def may_leave_ghosts(text: bytes) -> bool:
+    """Whether lines may leave places of what they deleted or took back."""
+    return b"DEL " in text or b"BACK\n" in text
 
 
 class Block(NamedTuple):
@@ -36,9 +41,6 @@ class Block(NamedTuple):
     def lines(self) -> List[bytes]:
         return self.body.split(b"\n")[:-1]
 
-    def text(self) -> bytes:
-        return b"%d %d %d %s\n%s" % (len(self.body), self.number, self.told, self.digest, self.body)
-
     def loads(self) -> int:
         return self.body.count(b"\nLOAD ") + self.body.startswith(b"LOAD ")
 
@@ -46,18 +48,41 @@ class Block(NamedTuple):
         return sum(map(longest_answer, self.lines)) if b"SCAN " in self.body else LONGEST_SHORT * self.number
 
     def may_leave_ghosts(self) -> bool:
-        """Of what it deleted or took back."""
-        return b"DEL " in self.body or b"BACK\n" in self.body
+        return may_leave_ghosts(self.body)
 
 
-def blocks_of(entry: bytes) -> Iterator[Block]:
+def entry_of(blocks: List[Block]) -> bytes:
+    """The entry that has them: their number, a head for each, and then the lines of all, as the store takes them."""
+    heads = b"".join(b"%d %d %d %s\n" % (len(body), number, told, digest) for body, number, told, digest in blocks)
+    return b"%d\n%s%s" % (len(blocks), heads, b"".join(b"BEGIN\n%sCOMMIT\n" % block.body for block in blocks))
+
+
+class Batch:
     """The blocks of an entry."""
-    at = 0
-    while at < len(entry):
-        begin = entry.index(b"\n", at) + 1
-        size, number, told, digest = entry[at:begin - 1].split(b" ")
-        at = begin + int(size)
-        yield Block(entry[begin:at], int(number), int(told), digest)
+
+    def __init__(self, entry: bytes) -> None:
+        first, rest = entry.split(b"\n", 1)
+        *heads, self.text = rest.split(b"\n", int(first))
+        self.heads = [head.split(b" ") for head in heads]
+        self.numbers = [int(number) for _, number, _, _ in self.heads]
+
+    def is_untold(self) -> bool:
+        """Whether none of their lines was answered."""
+        return all(told == b"0" for _, _, told, _ in self.heads)
+
+    def is_small(self) -> bool:
+        """Whether no store answers more than PORTION, and it makes no more runs than LOADS by them."""
+        most = LONGEST_SHORT * (sum(self.numbers) + 2 * len(self.numbers))
+        return b"SCAN " not in self.text and most <= PORTION and self.text.count(b"LOAD ") <= LOADS
+
+    def blocks(self) -> List[Block]:
+        found: List[Block] = []
+        at = 0
+        for size, number, told, digest in self.heads:
+            begin = at + len(b"BEGIN\n")
+            found.append(Block(self.text[begin:begin + int(size)], int(number), int(told), digest))
+            at = begin + int(size) + len(b"COMMIT\n")
+        return found
 
 
 def line_size(line: bytes) -> int:
