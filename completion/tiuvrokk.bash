@@ -1,4 +1,4 @@
-# Completion by bash of amserve, amaudit, amload, amdump, amcli and amdraw: options, subcommands, and files where one is asked for.
+# Completion by bash of all programs: options, subcommands, and files where one is asked for.
 # shellcheck shell=bash
 
 _tiuvrokk_words() {
@@ -15,6 +15,7 @@ _tiuvrokk_words() {
     amdump) echo '--port --wait --help --version' ;;
     amcli) echo '--port --wait --store --raw --strict --history --help --version' ;;
     amdraw) echo '--text --help --version' ;;
+    amreplica) echo '--port --log --store --reads --limit --snapshot --trace --cacert --cert --key --user --help --version' ;;
     esac
 }
 
@@ -22,8 +23,9 @@ _tiuvrokk() {
     local program=${1##*/} word=$2 before=$3
     COMPREPLY=()
     case $before in
-    --port | --sessions | --workers | --auto | --run | --wait) return ;;
-    --trace | --store | --history) mapfile -t COMPREPLY < <(compgen -f -- "$word") ;;
+    --port | --sessions | --workers | --auto | --run | --wait | --log | --limit | --snapshot | --user) return ;;
+    --reads) mapfile -t COMPREPLY < <(compgen -W 'log local' -- "$word") ;;
+    --trace | --store | --history | --cacert | --cert | --key) mapfile -t COMPREPLY < <(compgen -f -- "$word") ;;
     *)
         if [[ $word == -* || ($program == amserve && $COMP_CWORD == 1) ]]; then
             mapfile -t COMPREPLY < <(compgen -W "$(_tiuvrokk_words "$program")" -- "$word")
@@ -34,4 +36,4 @@ _tiuvrokk() {
     esac
 }
 
-complete -F _tiuvrokk amserve amaudit amload amdump amcli amdraw
+complete -F _tiuvrokk amserve amaudit amload amdump amcli amdraw amreplica

@@ -1,11 +1,14 @@
-"""That a replica stands at the log's end: one question to the cluster at a time, for all who wait."""
+"""That a replica stands at the log's end: a question to the cluster, for all who wait by the time that it is asked."""
 from __future__ import annotations
 
 import asyncio
 import time
-from typing import Optional
+from typing import Set
 
 from .log import Log
+
+# Questions on their way at once: who comes while one is needs the next.
+QUESTIONS = 2
 
 
 def now() -> float:
@@ -21,11 +24,12 @@ class Ends:
         self.known = 0.0  # all that the log had then was applied since
         self.applied = 0  # the revision up to which all was
         self.progress = asyncio.Event()
-        self.question: Optional["asyncio.Task[None]"] = None
+        self.questions: Set["asyncio.Task[None]"] = set()
+        self.is_asking = False  # a question will be put that all may wait for who come before
 
     def reach(self, revision: int) -> None:
-        """All up to that revision is applied."""
-        self.applied = revision
+        """All entries up to that revision are applied."""
+        self.applied = max(self.applied, revision)
         self.progress.set()
 
     async def wait_for(self, revision: int) -> None:
@@ -37,21 +41,25 @@ class Ends:
     async def ask(self) -> None:
         """Asks for the log's end, and waits until that is applied."""
         asked = now()
+        self.is_asking = False
         await self.wait_for(await self.log.end())
         self.known = max(self.known, asked)
 
     async def is_reached(self, limit: float) -> bool:
         """Whether the replica comes to the end that the log has now within so many seconds. A question that was asked before
-        says nothing of now, so there may be two to wait for."""
+        says nothing of now."""
         begun = now()
         while self.known < begun:
-            if self.question is None or self.question.done():
-                self.question = asyncio.ensure_future(self.ask())
-            question = self.question
-            done, _ = await asyncio.wait({question}, timeout=max(0.0, begun + limit - now()))
+            if not self.is_asking and len(self.questions) < QUESTIONS:
+                self.is_asking = True
+                self.questions.add(asyncio.ensure_future(self.ask()))
+            left = max(0.0, begun + limit - now())
+            done, _ = await asyncio.wait(set(self.questions), timeout=left, return_when=asyncio.FIRST_COMPLETED)
+            self.questions -= done
             if not done:
                 return False
-            question.result()
+            for question in done:
+                question.result()
         return True
 
     def age(self) -> float:

@@ -2,16 +2,16 @@
 from __future__ import annotations
 
 import asyncio
-import base64
 import json
 import ssl
 import sys
 import time
-from typing import Any, AsyncIterator, Callable, Dict, List, NamedTuple, Optional, Tuple
+from binascii import a2b_base64, b2a_base64
+from typing import Any, Callable, Dict, List, NamedTuple, Optional, Tuple
 
 Message = Dict[str, Any]
 # What a connection may end with.
-FAULTS = (OSError, asyncio.TimeoutError, asyncio.IncompleteReadError, ValueError)
+FAULTS = (OSError, asyncio.TimeoutError, ValueError)
 # Seconds for one answer of one member, and between two tries.
 PATIENCE = 2.0
 PAUSE = 0.05
@@ -37,12 +37,12 @@ class Access(NamedTuple):
 
 def encoded(data: bytes) -> str:
     """Bytes, as the gateway has them."""
-    return base64.b64encode(data).decode()
+    return b2a_base64(data, newline=False).decode()
 
 
 def decoded(text: str) -> bytes:
     """The bytes that the gateway's text means."""
-    return base64.b64decode(text)
+    return a2b_base64(text)
 
 
 def put_of(key: str, value: bytes) -> Message:
@@ -59,49 +59,105 @@ def refusal_of(body: bytes) -> str:
         return body[:200].decode("utf-8", "replace").strip()
 
 
-class Link:
+class Link(asyncio.Protocol):
     """A connection to a member, for one request at a time."""
 
-    def __init__(self, host: str, reader: asyncio.StreamReader, writer: asyncio.StreamWriter) -> None:
-        self.host, self.reader, self.writer = host, reader, writer
+    def __init__(self, host: str) -> None:
+        self.host = host
+        self.transport: Optional[asyncio.Transport] = None
+        self.buffer = bytearray()  # what came and wasn't read yet
+        self.has_head = self.is_chunked = self.is_closed = False
+        self.status = self.length = 0
+        self.pieces: List[bytes] = []
+        self.sink: Optional[Callable[[bytes], None]] = None  # who takes the body as it comes
+        self.answer: Optional["asyncio.Future[Tuple[int, bytes]]"] = None
 
     @classmethod
     async def open(cls, host: str, access: Access) -> Link:
+        """A connection, within PATIENCE."""
         name, _, port = host.rpartition(":")
-        reader, writer = await asyncio.open_connection(name.strip("[]"), int(port), limit=1 << 20, ssl=access.context)
-        return cls(host, reader, writer)
+        loop = asyncio.get_running_loop()
+        opening = loop.create_connection(lambda: cls(host), name.strip("[]"), int(port), ssl=access.context)
+        return (await asyncio.wait_for(opening, PATIENCE))[1]
 
-    async def post(self, path: str, message: Message, token: str) -> Tuple[int, Dict[str, str]]:
-        """The status and the headers of the answer; its body is read by `body` or `chunks`."""
+    def post(
+        self, path: str, message: Message, token: str, sink: Optional[Callable[[bytes], None]] = None
+    ) -> "asyncio.Future[Tuple[int, bytes]]":
+        """The status and the body of the answer, once that is whole. A sink takes the body of a good answer as it comes."""
+        self.answer = asyncio.get_running_loop().create_future()
+        if self.transport is None or self.is_closed:
+            self.fail(ConnectionError("closed"))
+            return self.answer
+        self.has_head, self.pieces, self.sink = False, [], sink
         body = json.dumps(message).encode()
         head = [f"POST {path} HTTP/1.1", f"Host: {self.host}", "Content-Type: application/json", f"Content-Length: {len(body)}"]
         head += [f"Authorization: {token}"] if token else []
-        self.writer.write("\r\n".join([*head, "", ""]).encode() + body)
-        await self.writer.drain()
-        words = (await self.reader.readline()).split()
-        if len(words) < 2:
-            raise ConnectionError("closed")
-        headers: Dict[str, str] = {}
-        while line := (await self.reader.readline()).strip():
-            name, _, value = line.decode("latin-1").partition(":")
-            headers[name.lower()] = value.strip().lower()
-        return int(words[1]), headers
+        self.transport.write("\r\n".join([*head, "", ""]).encode() + body)
+        return self.answer
 
-    async def chunks(self) -> AsyncIterator[bytes]:
-        while True:
-            size = int((await self.reader.readline()).split(b";")[0] or b"none", 16)
-            data = await self.reader.readexactly(size + 2)
-            if size == 0:
-                return
-            yield data[:-2]
+    def fail(self, fault: BaseException) -> None:
+        """The answer won't be whole."""
+        if self.answer is not None and not self.answer.done():
+            self.answer.set_exception(fault)
 
-    async def body(self, headers: Dict[str, str]) -> bytes:
-        if headers.get("transfer-encoding") == "chunked":
-            return b"".join([chunk async for chunk in self.chunks()])
-        return await self.reader.readexactly(int(headers.get("content-length", "0")))
+    def expire(self) -> None:
+        self.fail(asyncio.TimeoutError())
+
+    def connection_made(self, transport: asyncio.BaseTransport) -> None:
+        assert isinstance(transport, asyncio.Transport)
+        self.transport = transport
+
+    def connection_lost(self, fault: Optional[Exception]) -> None:
+        self.is_closed = True
+        self.fail(fault or ConnectionError("closed"))
+
+    def data_received(self, data: bytes) -> None:
+        self.buffer += data
+        try:
+            while self.answer is not None and not self.answer.done() and self.read():
+                pass
+        except (ValueError, IndexError) as fault:
+            self.fail(ValueError(f"no answer of HTTP: {fault}"))
+
+    def read(self) -> bool:
+        """Reads the head, or a piece of the body; whether it was there as a whole."""
+        if not self.has_head:
+            return self.read_head()
+        begin, length = 0, self.length
+        if self.is_chunked:
+            end = self.buffer.find(b"\r\n")
+            if end < 0:
+                return False
+            begin, length = end + 2, int(self.buffer[:end].split(b";")[0], 16)
+        end = begin + length
+        if len(self.buffer) < end + 2 * self.is_chunked:
+            return False
+        piece = bytes(self.buffer[begin:end])
+        del self.buffer[:end + 2 * self.is_chunked]
+        if self.sink is not None and self.status == 200:
+            self.sink(piece)
+        else:
+            self.pieces.append(piece)
+        if (length == 0 or not self.is_chunked) and self.answer is not None and not self.answer.done():
+            self.answer.set_result((self.status, b"".join(self.pieces)))
+        return True
+
+    def read_head(self) -> bool:
+        end = self.buffer.find(b"\r\n\r\n")
+        if end < 0:
+            return False
+        first, *rest = bytes(self.buffer[:end]).lower().split(b"\r\n")
+        del self.buffer[:end + 4]
+        headers = {name: value.strip() for name, _, value in (line.partition(b":") for line in rest)}
+        self.status = int(first.split()[1])
+        self.is_chunked = headers.get(b"transfer-encoding") == b"chunked"
+        self.length = int(headers.get(b"content-length", b"0"))
+        self.has_head = True
+        return True
 
     def close(self) -> None:
-        self.writer.close()
+        if self.transport is not None:
+            self.transport.abort()
 
 
 class Etcd:
@@ -129,18 +185,21 @@ class Etcd:
 
     async def exchange(self, host: str, path: str, message: Message) -> Tuple[int, bytes]:
         """The status and the body of the member's answer."""
-        link = self.idle.pop() if self.idle else await Link.open(host, self.access)
+        link = self.idle.pop() if self.idle else None
+        if link is None or link.is_closed:
+            link = await Link.open(host, self.access)
+        timer = asyncio.get_running_loop().call_later(PATIENCE, link.expire)
         is_whole = False
         try:
-            status, headers = await link.post(path, message, self.token)
-            body = await link.body(headers)
+            answer = await link.post(path, message, self.token)
             is_whole = link.host == self.host
         finally:
+            timer.cancel()
             if is_whole:
                 self.idle.append(link)
             else:
                 link.close()
-        return status, body
+        return answer
 
     async def authenticate(self) -> None:
         """A token for the user's requests. Members forget it at their end, and after some minutes."""
@@ -156,7 +215,7 @@ class Etcd:
     async def answer_of(self, path: str, message: Message) -> Message:
         host = self.host
         try:
-            status, body = await asyncio.wait_for(self.exchange(host, path, message), PATIENCE)
+            status, body = await self.exchange(host, path, message)
             if status == 200:
                 answer: Message = json.loads(body)
                 return answer

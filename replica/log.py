@@ -3,7 +3,7 @@
 Keys, under the log's name:
     NAME/floor                  the newest snapshot (a text), and the number of the generation that began with it
     NAME/log/GENERATION/ID.N    the pieces of an entry; the last of them, whose name ends in `.!`, is its head
-    NAME/tail                   put together with each head: its revision is the log's end
+    NAME/tail                   put together with each head, whose entry it names: its revision is the log's end
     NAME/snap/ID/N              pieces of snapshots (snapshots.py)
     NAME/claim/GENERATION       the replica that writes the next snapshot, by a lease
 
@@ -11,14 +11,16 @@ An entry has its place by the revision that made its head. Puts are plain, and t
 twice and late. The readers settle that, all alike: a key that is put again says nothing, and a key of another generation
 than the one that its place is in says nothing. The generation is the floor's, and the floor moves by a compared put alone.
 A generation's keys are let go once two floors have followed it: until then a put that comes again finds its key, and later
-its generation is over. Whoever sees a generation end without its entry puts it under the next."""
+its generation is over. Whoever sees a generation end without its entry puts it under the next.
+
+A cluster that has an older state than was read, or another one, went back. No reader goes on from there."""
 from __future__ import annotations
 
 import asyncio
 import json
-from typing import AsyncIterator, Callable, Dict, List, NamedTuple, Optional, Tuple
+from typing import Callable, Dict, List, NamedTuple, Optional, Tuple
 
-from .etcd import FAULTS, PATIENCE, PAUSE, Etcd, Link, Message, Refused, Unreachable, decoded, encoded, put_of
+from .etcd import FAULTS, PAUSE, Etcd, Link, Message, Refused, Unreachable, decoded, encoded, put_of
 
 # Bytes of a piece; etcd takes requests of 1.5 MB.
 PIECE = 1_000_000
@@ -30,19 +32,62 @@ class LeftBehind(Exception):
     """Entries that weren't read are gone: only a snapshot has what they did."""
 
 
+class WentBack(Exception):
+    """The cluster no longer has what was read of it."""
+
+
 class Event(NamedTuple):
     """A put that counts."""
 
     revision: int
     key: str
-    value: bytes
+    text: str  # as the gateway has the value
+
+    @property
+    def value(self) -> bytes:
+        return decoded(self.text)
+
+
+class Entry(NamedTuple):
+    """An entry of the log, by the events that made it."""
+
+    name: str
+    pieces: List[Event]
+
+    def text(self) -> bytes:
+        return b"".join(piece.value for piece in self.pieces)
+
+
+class Head(NamedTuple):
+    """The newest put of a head that was read: the revision by which its key was made, and that of the put."""
+
+    key: str
+    made: int
+    revision: int
+
+    @property
+    def name(self) -> str:
+        """That of its entry."""
+        return name_of(self.key)[0]
 
 
 class News(NamedTuple):
-    """The events that count up to a revision, behind those told before."""
+    """The events that count up to a revision, behind those told before, and the newest head put among them."""
 
     events: List[Event]
     revision: int
+    head: Optional[Head]
+
+
+def name_of(key: str) -> Tuple[str, str]:
+    """The name of the entry that a key belongs to, and which of its pieces it has."""
+    name, _, piece = key.rpartition("/")[2].rpartition(".")
+    return name, piece
+
+
+def revision_of(answer: Message) -> int:
+    """That of the cluster's state by which it answered."""
+    return int(answer["header"]["revision"])
 
 
 class Log:
@@ -51,11 +96,12 @@ class Log:
     def __init__(self, etcd: Etcd, name: str) -> None:
         self.etcd, self.name = etcd, name
         self.tail = f"{name}/tail"
-        self.floor = Event(0, f"{name}/floor", b"")  # as far as was read
+        self.floor = Event(0, f"{name}/floor", "")  # as far as was read
         self.generation = 0
         self.moved = asyncio.Event()  # the floor has
         self.seen = 0  # the revision up to which all was read
-        self.pieces: Dict[str, Dict[str, bytes]] = {}
+        self.head: Optional[Head] = None  # the newest that was read, where one was
+        self.pieces: Dict[str, Dict[str, Event]] = {}
         self.oldest: Dict[str, int] = {}  # of the pieces whose head hasn't come: the first one's revision
 
     # Writing
@@ -72,31 +118,36 @@ class Log:
         for number, piece in enumerate(pieces[:-1]):
             if await self.etcd.ask("/v3/kv/put", put_of(f"{place}.{number}", piece), is_settled) is None:
                 return
-        puts = [put_of(f"{place}.!", pieces[-1]), put_of(self.tail, b"")]
-        await self.etcd.ask("/v3/kv/txn", {"success": [{"requestPut": put} for put in puts]}, is_settled)
+        puts = [put_of(f"{place}.!", pieces[-1]), put_of(self.tail, name.encode())]
+        read = self.seen
+        answer = await self.etcd.ask("/v3/kv/txn", {"success": [{"requestPut": put} for put in puts]}, is_settled)
+        if answer is not None and revision_of(answer) <= read:
+            raise WentBack(f"an entry was put at revision {revision_of(answer)}, and {read} was read before")
 
     # Reading
 
-    def take(self, event: Event) -> Optional[Tuple[str, bytes]]:
-        """An event, in its turn: the name and the bytes of the entry whose head it is."""
+    def take(self, event: Event) -> Optional[Entry]:
+        """An event, in its turn: the entry whose head it is."""
         if event.key == self.floor.key:
+            told = json.loads(event.value)
+            if told["since"] != self.floor.revision:
+                raise WentBack("the floor before this one isn't the one that was read")
             self.floor = event
-            self.generation = int(json.loads(event.value)["generation"])
+            self.generation = int(told["generation"])
             self.pieces.clear()
             self.oldest.clear()
             self.moved.set()
             return None
-        folder, _, last = event.key.rpartition("/")
-        if int(folder.rpartition("/")[2]) != self.generation:
+        if int(event.key.rpartition("/")[0].rpartition("/")[2]) != self.generation:
             return None
-        name, _, piece = last.rpartition(".")
+        name, piece = name_of(event.key)
         if piece != "!":
-            self.pieces.setdefault(name, {})[piece] = event.value
+            self.pieces.setdefault(name, {})[piece] = event
             self.oldest.setdefault(name, event.revision)
             return None
         pieces = self.pieces.pop(name, {})
         self.oldest.pop(name, None)
-        return name, b"".join(pieces[str(at)] for at in range(len(pieces))) + event.value
+        return Entry(name, [pieces[str(at)] for at in range(len(pieces))] + [event])
 
     def first(self, revision: int) -> int:
         """Behind which revision a reader has to begin who has a snapshot of the given one: entries may have begun before."""
@@ -104,91 +155,114 @@ class Log:
 
     async def end(self) -> int:
         """The newest entry's revision, of what the cluster has agreed on by now."""
-        seen = self.seen  # it goes on while the answer is awaited
+        read, head = self.seen, self.head  # they go on while the answer is awaited
         answer = await self.etcd.get(self.tail)
-        if int(answer["header"]["revision"]) < seen:
-            raise LeftBehind("the cluster has an older state than was read")
-        return max([0] + [int(kv["mod_revision"]) for kv in answer.get("kvs", [])])
+        tail = (answer.get("kvs") or [None])[0]
+        end = int(tail["mod_revision"]) if tail else 0
+        if revision_of(answer) < read:
+            raise WentBack(f"it is at revision {revision_of(answer)}, and {read} was read before")
+        if head and end <= read and (end != head.revision or decoded(tail.get("value", "")).decode() != head.name):
+            raise WentBack(f"the newest entry that it has is none that was read at revision {end}")
+        return end
 
-    async def news(self, after: int) -> AsyncIterator[News]:
-        """All that comes behind a revision, once, in its order, for ever."""
+    async def check(self) -> None:
+        """That the cluster still has what was read."""
+        read, head, floor = self.seen, self.head, self.floor
+        keys = [floor.key] + ([head.key] if head else [])
+        asked = [{"requestRange": {"key": encoded(key.encode())}} for key in keys]
+        answer = await self.etcd.must("/v3/kv/txn", {"success": asked})
+        found = [(next(iter(it.values())).get("kvs") or [None])[0] for it in answer["responses"]]
+        newest = int(found[0]["mod_revision"]) if found[0] else 0
+        if revision_of(answer) < read or newest < floor.revision:
+            raise WentBack(f"it is at revision {revision_of(answer)}, its floor at {newest}; {read} was read before")
+        if not head:
+            return
+        made = int(found[1]["create_revision"]) if found[1] else 0
+        if 0 < made <= read and made != head.made:
+            raise WentBack(f"the entry that was made at revision {head.made} was made at {made}")
+        if not 0 < made <= read:
+            # It may be let go once two floors have followed its generation.
+            generation = int(json.loads(decoded(found[0]["value"]))["generation"]) if found[0] else 0
+            if generation < int(head.key.split("/")[-2]) + 2:
+                raise WentBack(f"it has no entry any more that was read at revision {head.revision}")
+
+    async def follow(self, after: int, take: Callable[[News], None]) -> None:
+        """Gives all that comes behind a revision, once, in its order, for ever."""
         self.seen = after
         while True:
             host = self.etcd.host
             try:
-                async for some in self.watch(host):
-                    self.seen = some.revision
-                    yield some
+                await self.check()
+                host = self.etcd.host
+                await self.watch(host, take)
             except FAULTS + (Unreachable,):
                 pass
             except Refused:  # the history is gone up to somewhere behind what was read
-                some = await self.kept()
-                self.seen = some.revision
-                yield some
+                self.give(await self.kept(), take)
             self.etcd.pass_over(host)
             await asyncio.sleep(PAUSE)
 
-    async def watch(self, host: str) -> AsyncIterator[News]:
-        """What a member tells of the log, as it comes."""
+    def give(self, news: News, take: Callable[[News], None]) -> None:
+        if news.revision <= self.seen:
+            return
+        self.seen = news.revision
+        self.head = news.head or self.head
+        take(news)
+
+    async def watch(self, host: str, take: Callable[[News], None]) -> None:
+        """Gives what a member tells of the log, as it comes, until the member fails or is cut off."""
         if self.etcd.access.user and not self.etcd.token:
             await self.etcd.authenticate()
-        link = await asyncio.wait_for(Link.open(host, self.etcd.access), PATIENCE)
-        waiting: Optional["asyncio.Future[bytes]"] = None
+        link = await Link.open(host, self.etcd.access)
+        request = {"key": encoded(self.floor.key.encode()), "range_end": encoded(f"{self.name}/log0".encode()),
+                   "start_revision": str(self.seen + 1), "fragment": True}
+        hearing = Hearing(lambda line: self.give(self.news_of(host, json.loads(line).get("result", {})), take), link)
         try:
-            request = {"key": encoded(self.floor.key.encode()), "range_end": encoded(f"{self.name}/log0".encode()),
-                       "start_revision": str(self.seen + 1), "fragment": True}
-            status, _ = await asyncio.wait_for(link.post("/v3/watch", {"create_request": request}, self.etcd.token), PATIENCE)
-            if status != 200:
+            answer = link.post("/v3/watch", {"create_request": request}, self.etcd.token, hearing.hear)
+            await self.listen(host, hearing, answer)
+            if answer.result()[0] != 200:
                 self.etcd.token = ""
                 raise Unreachable(host)
-            chunks, text = link.chunks(), b""
-            while True:
-                waiting = asyncio.ensure_future(chunks.__anext__())
-                await self.hear(host, waiting)
-                text += waiting.result()
-                *lines, text = text.split(b"\n")
-                for line in lines:
-                    some = self.news_of(host, json.loads(line).get("result", {}))
-                    if some.revision > self.seen:
-                        yield some
-        except StopAsyncIteration:
-            return
         finally:
-            if waiting is not None:
-                waiting.cancel()
             link.close()
 
-    async def hear(self, host: str, waiting: "asyncio.Future[bytes]") -> None:
-        """Waits until a member says more. Where it is silent: has it nothing to say, or is it cut off? The cluster knows."""
+    async def listen(self, host: str, hearing: Hearing, answer: "asyncio.Future[Tuple[int, bytes]]") -> None:
+        """Waits until a watch ends. Where it is silent: has it nothing to say, or is it cut off? The cluster knows."""
         end = 0
-        while True:
-            await asyncio.wait({waiting}, timeout=SILENCE)
-            if waiting.done():
-                return
+        while not answer.done():
+            hearing.is_silent = True
+            await asyncio.wait({answer}, timeout=SILENCE)
+            if answer.done() or not hearing.is_silent:
+                end = 0
+                continue
             if end > self.seen:
                 raise Unreachable(host)
-            end = await asyncio.wait_for(self.end(), PATIENCE)
+            end = await self.end()
 
     def news_of(self, host: str, result: Message) -> News:
         """The news in one message of a watch."""
         if result.get("canceled"):
             raise Refused("compacted") if "compact_revision" in result else Unreachable(host)
-        found = result.get("events", [])
-        revision = max([0] + [int(event["kv"]["mod_revision"]) for event in found])
-        events = [self.event_of(event["kv"]) for event in found if event.get("type", "PUT") == "PUT" and self.counts(event["kv"])]
-        return News([event for event in events if event.revision > self.seen], revision)
-
-    def counts(self, kv: Message) -> bool:
-        """Whether a put says anything: the first of its key does, and each of the floor."""
-        return kv["version"] == "1" or decoded(kv["key"]).decode() == self.floor.key
-
-    def event_of(self, kv: Message) -> Event:
-        return Event(int(kv["mod_revision"]), decoded(kv["key"]).decode(), decoded(kv.get("value", "")))
+        events: List[Event] = []
+        revision, head = 0, None
+        for told in result.get("events", ()):
+            kv = told["kv"]
+            at = int(kv["mod_revision"])
+            revision = max(revision, at)
+            if at <= self.seen or told.get("type", "PUT") != "PUT":
+                continue
+            key = decoded(kv["key"]).decode()
+            if key.endswith(".!"):
+                head = Head(key, int(kv["create_revision"]), at)
+            # The first put of a key says something, and each of the floor.
+            if kv["version"] == "1" or key == self.floor.key:
+                events.append(Event(at, key, kv.get("value", "")))
+        return News(events, revision, head)
 
     async def kept(self) -> News:
         """The news by what is kept, where the history was compacted."""
         answer = await self.etcd.get(self.floor.key, f"{self.name}/log0", keys_only=True)
-        at = int(answer["header"]["revision"])
+        at = revision_of(answer)
         events: List[Event] = []
         for kv in answer.get("kvs", []):
             key = decoded(kv["key"]).decode()
@@ -196,10 +270,29 @@ class Log:
             if revision <= self.seen:
                 continue
             try:
-                value = decoded((await self.etcd.get(key, revision=str(at)))["kvs"][0].get("value", ""))
+                text = (await self.etcd.get(key, revision=str(at)))["kvs"][0].get("value", "")
             except Refused as fault:
                 raise LeftBehind("compacted while it was read") from fault
-            if key == self.floor.key and json.loads(value)["since"] != self.floor.revision:
+            if key == self.floor.key and json.loads(decoded(text))["since"] != self.floor.revision:
                 raise LeftBehind("the floor has moved twice")
-            events.append(Event(revision, key, value))
-        return News(sorted(events), at)
+            events.append(Event(revision, key, text))
+        self.head = None  # a newer one may have been put again, or have gone since
+        return News(sorted(events), at, None)
+
+
+class Hearing:
+    """The lines of a watch, each of which has a taker. What the taker raises ends the watch."""
+
+    def __init__(self, take: Callable[[bytes], None], link: Link) -> None:
+        self.take, self.link = take, link
+        self.rest = b""
+        self.is_silent = True  # since this was set
+
+    def hear(self, piece: bytes) -> None:
+        self.is_silent = False
+        *lines, self.rest = (self.rest + piece).split(b"\n")
+        try:
+            for line in lines:
+                self.take(line)
+        except Exception as fault:
+            self.link.fail(fault)

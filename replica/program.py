@@ -12,9 +12,9 @@ import sys
 from typing import Any, Callable, Coroutine, List, NoReturn, Optional
 
 from .etcd import Access, Etcd, Refused
-from .log import LeftBehind, Log
+from .log import LeftBehind, Log, WentBack
 from .replica import Replica
-from .sessions import Session
+from .sessions import Connection, Session
 from .store import Store, StoreEnded
 from .trace import Trace, TraceFault
 
@@ -26,7 +26,8 @@ EPILOG = """status:
   2  the words of the command line are wrong
   3  the store ended, wants memory, or answered what isn't an answer: it may differ from those of the other replicas
   4  the port can't be listened at, or a file can't be read or written
-  5  etcd refuses what the log needs"""
+  5  etcd refuses what the log needs
+  6  etcd went back: it no longer has what this replica read of it, as after a restored backup"""
 
 
 class Ending(Exception):
@@ -64,9 +65,16 @@ def log_name(word: str) -> str:
     return word
 
 
+def version() -> str:
+    """That of all programs."""
+    with open(os.path.join(TOP, "VERSION"), encoding="ascii") as file:
+        return file.read().strip()
+
+
 def parser() -> argparse.ArgumentParser:
     words = argparse.ArgumentParser("amreplica", description=DESCRIPTION, epilog=EPILOG,
                                     formatter_class=argparse.RawDescriptionHelpFormatter)
+    words.add_argument("-V", "--version", action="version", version=f"%(prog)s {version()}", help="show the version and exit")
     words.add_argument("--port", type=number_of(int, 0, 65535), default=0, metavar="P",
                        help="of 127.0.0.1; 0, the default, is any free one")
     words.add_argument("--log", type=log_name, default="tiuvrokk", metavar="NAME",
@@ -133,10 +141,12 @@ class Program:
         self.store.on_begin = self.watch_store
         self.store.on_end = lambda: loop.remove_reader(out)
 
-    async def serve(self, reader: asyncio.StreamReader, writer: asyncio.StreamWriter) -> None:
+    async def serve(self, connection: Connection, reader: asyncio.StreamReader, writer: asyncio.StreamWriter) -> None:
         self.sessions += 1
+        session = Session(self.replica, self.sessions, self.asked.reads == "local", self.asked.limit, writer)
+        connection.session = session
         try:
-            await Session(self.replica, self.sessions, self.asked.reads == "local", self.asked.limit, writer).serve(reader)
+            await session.serve(reader)
         except OSError:
             pass  # the client's end
         except Exception as fault:
@@ -163,7 +173,8 @@ class Program:
         self.watch_store()
         life = await self.replica.start()
         try:
-            server = await asyncio.start_server(self.serve, "127.0.0.1", self.asked.port, backlog=256, limit=1 << 18)
+            loop = asyncio.get_running_loop()
+            server = await loop.create_server(lambda: Connection(self.serve), "127.0.0.1", self.asked.port, backlog=256)
         except OSError as fault:
             raise Ending(4, f"port {self.asked.port}: {os.strerror(fault.errno or 0)}") from fault
         print(f"LISTEN {server.sockets[0].getsockname()[1]}", flush=True)
@@ -200,6 +211,8 @@ async def live(asked: argparse.Namespace) -> None:
         leave(4, f"{asked.trace}: {fault}")
     except Refused as fault:
         leave(5, f"etcd: {fault}")
+    except WentBack as fault:
+        leave(6, f"etcd went back: {fault}")
     except LeftBehind as fault:
         # Only a newer snapshot has what the log did meanwhile.
         print(f"amreplica: left behind: {fault}: beginning anew", file=sys.stderr, flush=True)

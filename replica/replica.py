@@ -5,21 +5,25 @@ import asyncio
 import hashlib
 import json
 import uuid
-from typing import Dict, List, NamedTuple, Optional
+from typing import Any, Callable, Dict, List, NamedTuple, Optional
 
 from . import snapshots
 from .ends import Ends
-from .log import Event, Log
-from .store import PORTION, Store, StoreEnded
+from .log import Event, Log, News
+from .store import LOADS, PORTION, RUNS, Store, StoreEnded
 from .trace import Trace
-from .transaction import CONFLICT, MOST_ANSWERS, UNKNOWN, UNREACHABLE, Block, blocks_of
+from .transaction import CONFLICT, MOST_ANSWERS, UNKNOWN, UNREACHABLE, Batch, Block, Transaction, entry_of, may_leave_ghosts
 
 # Entries on their way at once: more of them make smaller ones, and were slower.
 ENTRIES = 1
 # Bytes of an entry that waits for company.
 ENTRY = 1_000_000
-# LOADs that blocks are applied with at once: as many runs of the store are left at least.
-LOADS = 1_000
+# Sessions that were just told what became of their blocks may bring the next ones, for one entry: seconds that each of them is
+# awaited, and that all are. They aren't where fewer than so much of those came that were told before.
+MOMENT, MOMENTS = 0.003, 0.008
+WORTH = 1 / 3
+# Bytes that a block takes beside its lines, at most.
+HEAD = 110
 
 
 class Outcome(NamedTuple):
@@ -29,12 +33,30 @@ class Outcome(NamedTuple):
     end: bytes  # of COMMIT
 
 
-class Waiting(NamedTuple):
-    """Blocks of a session, which go into one entry, in their order."""
+class Waiting:
+    """Blocks of a session, which go into one entry, in their order; and who is told what they came to."""
 
-    text: bytes
-    blocks: int
-    outcomes: "asyncio.Future[List[Outcome]]"
+    def __init__(self, blocks: List[Block], tell: Callable[[List[Outcome]], None]) -> None:
+        self.blocks, self.tell = blocks, tell
+        self.size = sum(len(block.body) + HEAD for block in blocks)
+        self.timer: Optional[asyncio.TimerHandle] = None
+        self.is_told = False
+
+    def settle(self, outcomes: List[Outcome]) -> None:
+        """Tells it once."""
+        if not self.is_told:
+            self.is_told = True
+            if self.timer is not None:
+                self.timer.cancel()
+            self.tell(outcomes)
+
+
+class Guess(NamedTuple):
+    """What the one block of an entry on its way is answered, if no other entry comes before it: its trial is open."""
+
+    entry: str
+    answers: List[bytes]
+    had_ghosts: bool
 
 
 class Replica:
@@ -52,6 +74,12 @@ class Replica:
         self.queue: List[Waiting] = []
         self.on_way: Dict[str, List[Waiting]] = {}
         self.tasks: "asyncio.Queue[asyncio.Task[None]]" = asyncio.Queue()  # that write, for `life` to look at their ends
+        self.awaited = 0  # how many sessions wait, or were just told
+        self.awaited_until = 0.0
+        self.told = self.came = 0  # sessions that were told last, and those that came within a moment
+        self.told_at = 0.0
+        self.moment: Optional[asyncio.TimerHandle] = None
+        self.failure: "asyncio.Future[None]" = asyncio.get_running_loop().create_future()  # of what the log's news did
         self.snapshot: Optional["asyncio.Task[None]"] = None
         self.has_begun = False  # all that the log had at the start was applied
 
@@ -59,44 +87,83 @@ class Replica:
 
     async def commit(self, blocks: List[Block], limit: float) -> List[Outcome]:
         """What the blocks came to; beyond the limit that isn't known, or they were never handed over."""
-        loop = asyncio.get_running_loop()
-        waiting = Waiting(b"".join(block.text() for block in blocks), len(blocks), loop.create_future())
+        outcomes: "asyncio.Future[List[Outcome]]" = asyncio.get_running_loop().create_future()
+        self.hand_in(blocks, limit, outcomes.set_result)
+        return await outcomes
+
+    def hand_in(self, blocks: List[Block], limit: float, tell: Callable[[List[Outcome]], None]) -> None:
+        """Has blocks go into the log, and what they came to be told."""
+        waiting = Waiting(blocks, tell)
+        waiting.timer = asyncio.get_running_loop().call_later(limit, self.expire, waiting)
         self.queue.append(waiting)
-        self.hand_over()
-        timer = loop.call_later(limit, self.expire, waiting)
-        try:
-            return await waiting.outcomes
-        finally:
-            timer.cancel()
+        self.came += asyncio.get_running_loop().time() < self.told_at + MOMENT
+        if len(self.queue) >= self.awaited:
+            self.hand_over()
+        else:
+            self.hand_over_soon()
 
     def expire(self, waiting: Waiting) -> None:
-        if waiting.outcomes.done():
-            return
         end = UNKNOWN
         if waiting in self.queue:
             self.queue.remove(waiting)
             end = UNREACHABLE
-        waiting.outcomes.set_result([Outcome([], end)] * waiting.blocks)
+        waiting.settle([Outcome([], end)] * len(waiting.blocks))
 
     def hand_over(self) -> None:
         """What waits goes on its way, as far as there is room."""
+        self.awaited = 0
         while self.queue and len(self.on_way) < ENTRIES:
             size = count = 0
-            while count < len(self.queue) and (count == 0 or size + len(self.queue[count].text) <= ENTRY):
-                size += len(self.queue[count].text)
+            while count < len(self.queue) and (count == 0 or size + self.queue[count].size <= ENTRY):
+                size += self.queue[count].size
                 count += 1
             some, self.queue = self.queue[:count], self.queue[count:]
             self.entries += 1
             name = f"{self.name}-{self.entries}"
             self.on_way[name] = some
             self.write(name)
+            if count == 1 and len(some[0].blocks) == 1:
+                # (behind the first step of the task that writes)
+                asyncio.get_running_loop().call_soon(self.guess, name)
+
+    def hand_over_soon(self) -> None:
+        """Where the next session doesn't come soon."""
+        loop = asyncio.get_running_loop()
+        if self.moment is not None:
+            self.moment.cancel()
+        self.moment = loop.call_at(min(loop.time() + MOMENT, self.awaited_until), self.hand_over)
 
     def write(self, name: str) -> None:
-        entry = b"".join(waiting.text for waiting in self.on_way[name])
+        entry = entry_of([block for waiting in self.on_way[name] for block in waiting.blocks])
         task = asyncio.ensure_future(self.log.write(name, entry, lambda: name not in self.on_way))
         task.add_done_callback(self.tasks.put_nowait)
 
+    def guess(self, name: str) -> None:
+        """Tries the one block of an entry that is on its way, where the store has nothing else to do."""
+        if name not in self.on_way or self.store.holder is not None or self.failure.done():
+            return
+        block = self.on_way[name][0].blocks[0]
+        if block.told or block.longest_answers() > PORTION or self.store.runs + block.loads() > RUNS:
+            return
+        try:
+            answers = self.store.free_text(b"BEGIN\n" + block.body, block.number + 1)
+            self.store.holder = Guess(name, answers[1:], self.store.has_ghosts)
+            self.store.has_ghosts = True
+        except StoreEnded as fault:
+            self.failure.set_exception(fault)
+
     # The log's entries, into the store
+
+    def hear(self, news: News) -> None:
+        """What the log has to tell. What fails in that ends the replica."""
+        if self.failure.done():
+            return
+        try:
+            for event in news.events:
+                self.take(event)
+            self.ends.reach(news.revision)
+        except Exception as fault:
+            self.failure.set_exception(fault)
 
     def take(self, event: Event) -> None:
         """An event of the log, in its turn."""
@@ -107,13 +174,13 @@ class Replica:
                 self.write(name)
         if entry is None or event.revision <= self.applied:
             return
-        name, text = entry
-        outcomes = self.apply(list(blocks_of(text)))
+        outcomes = self.guessed(entry.name) or self.apply_entry(Batch(entry.text()), entry.name in self.on_way)
         self.applied = event.revision
         if self.trace:
             self.trace.flush()
-        self.tell(self.on_way.pop(name, []), outcomes)
-        self.hand_over()
+        if entry.name in self.on_way:
+            self.tell(self.on_way.pop(entry.name), outcomes)
+        self.store.flush()
         if self.is_snapshot_due():
             self.snapshot = asyncio.ensure_future(snapshots.write(self))
             self.snapshot.add_done_callback(self.tasks.put_nowait)
@@ -123,12 +190,36 @@ class Replica:
         return is_free and 0 < self.blocks_between_snapshots <= self.blocks and self.applied > self.log.floor.revision
 
     def tell(self, waitings: List[Waiting], outcomes: List[Outcome]) -> None:
-        """Each session of an entry, what became of its blocks."""
+        """Tells each session of an entry what became of its blocks. What waits goes on its way, with what they bring next."""
+        is_worth = self.came >= self.told * WORTH
+        self.told, self.came, self.told_at = len(waitings), 0, asyncio.get_running_loop().time()
+        if is_worth:
+            self.awaited, self.awaited_until = len(self.queue) + len(waitings), self.told_at + MOMENTS
+            self.hand_over_soon()
+        else:
+            self.hand_over()
         at = 0
         for waiting in waitings:
-            if not waiting.outcomes.done():
-                waiting.outcomes.set_result(outcomes[at:at + waiting.blocks])
-            at += waiting.blocks
+            waiting.settle(outcomes[at:at + len(waiting.blocks)])
+            at += len(waiting.blocks)
+
+    def apply_entry(self, batch: Batch, is_own: bool) -> List[Outcome]:
+        """What its blocks come to, which is told where they are this replica's sessions'."""
+        if self.trace or not batch.is_untold() or not batch.is_small():
+            return self.apply(batch.blocks())
+        answers = self.store.free_text(batch.text, sum(batch.numbers) + 2 * len(batch.numbers))
+        self.store.has_ghosts = self.store.has_ghosts or may_leave_ghosts(batch.text)
+        outcomes: List[Outcome] = []
+        at = 0
+        for number in batch.numbers:
+            end = at + 1 + number
+            self.check_end(answers[end])
+            self.commits += 1
+            if is_own:
+                outcomes.append(Outcome(answers[at + 1:end], b"COMMITTED %d" % self.commits))
+            at = end + 1
+        self.blocks += len(batch.numbers)
+        return outcomes
 
     def apply(self, blocks: List[Block]) -> List[Outcome]:
         """Blocks in their order. Those that were told nothing can't be contradicted: as many as there is room for go at once."""
@@ -139,7 +230,7 @@ class Replica:
                 loads += blocks[count].loads()
                 size += blocks[count].longest_answers()
                 count += 1
-            if count > 1:
+            if count > 1 or count == 1 and size <= PORTION:
                 outcomes += self.apply_untold(blocks[:count])
             else:
                 count = 1
@@ -147,21 +238,32 @@ class Replica:
             blocks = blocks[count:]
         return outcomes
 
+    def guessed(self, name: str) -> List[Outcome]:
+        """The outcome of an entry whose trial is open, so that nothing has come before it."""
+        guess = self.store.holder
+        if not isinstance(guess, Guess) or guess.entry != name:
+            return []
+        self.store.holder, self.store.has_ghosts = None, guess.had_ghosts
+        return [self.commit_later(self.on_way[name][0].blocks[0], guess.answers)]
+
     def apply_untold(self, blocks: List[Block]) -> List[Outcome]:
-        lines: List[bytes] = []
-        for block in blocks:
-            lines += [b"BEGIN", *block.lines, b"COMMIT"]
-        answers = self.store.free(lines)
+        text = b"".join(b"BEGIN\n%sCOMMIT\n" % block.body for block in blocks)
+        answers = self.store.free_text(text, sum(block.number + 2 for block in blocks))
         outcomes: List[Outcome] = []
         at = 0
         for block in blocks:
-            end = at + 1 + len(block.lines)
-            outcomes.append(self.committed(block, answers[at + 1:end], answers[end]))
+            end = at + 1 + block.number
+            self.check_end(answers[end])
+            outcomes.append(self.committed(block, answers[at + 1:end]))
             at = end + 1
         return outcomes
 
     def apply_one(self, block: Block) -> Outcome:
-        """Its lines are taken again: where the answered ones are answered as told it commits, else it aborts."""
+        """Its lines are taken again: where the answered ones are answered as told it commits, else it aborts. Those of a trial
+        that is still open stand there just so."""
+        if not self.trace and isinstance(self.store.holder, Transaction) and self.store.holder.is_all_of(block):
+            self.store.holder = None
+            return self.commit_later(block, [])
         told, size, answers = hashlib.sha256(), 0, []
         for number, answer in enumerate(self.store.answers([b"BEGIN", *block.lines]), -1):
             if 0 <= number < block.told:
@@ -172,19 +274,26 @@ class Replica:
             if number >= block.told or self.trace and number >= 0:
                 answers.append(answer)
         if told.hexdigest().encode() == block.digest:
-            untold = self.committed(block, answers, self.store.ask([b"COMMIT"])[0])
-            return Outcome(untold.answers[block.told:] if self.trace else untold.answers, untold.end)
-        self.store.ask([b"ABORT"])
+            return self.commit_later(block, answers)
+        self.store.ask_later(b"ABORT", lambda answer: None)
         self.store.has_ghosts = True
-        return Outcome([CONFLICT] * (len(block.lines) - block.told), CONFLICT)
+        return Outcome([CONFLICT] * (block.number - block.told), CONFLICT)
 
-    def committed(self, block: Block, answers: List[bytes], end: bytes) -> Outcome:
+    def commit_later(self, block: Block, answers: List[bytes]) -> Outcome:
+        """Its lines stand in the store: the COMMIT goes with what is asked next. Of the answers those that weren't told before
+        are given, or all for a trace."""
+        self.store.ask_later(b"COMMIT", self.check_end)
+        untold = self.committed(block, answers)
+        return Outcome(untold.answers[block.told:] if self.trace else untold.answers, untold.end)
+
+    def check_end(self, end: bytes) -> None:
         if not end.startswith(b"COMMITTED "):
-            raise StoreEnded(f"COMMIT was answered {end.decode()}")
+            raise self.store.ended(f"COMMIT was answered {end.decode()}")
+
+    def committed(self, block: Block, answers: List[bytes]) -> Outcome:
         self.commits += 1
         self.blocks += 1
-        if any(line == b"BACK" or line.startswith(b"DEL ") for line in block.lines):
-            self.store.has_ghosts = True
+        self.store.has_ghosts = self.store.has_ghosts or block.may_leave_ghosts()
         if self.trace:
             self.trace.write(block.lines, answers)
         return Outcome(answers, b"COMMITTED %d" % self.commits)
@@ -209,20 +318,14 @@ class Replica:
 
     async def live(self, after: int) -> None:
         """Follows the log, until that or something that writes to it fails."""
-        follow = asyncio.ensure_future(self.follow(after))
+        follow = asyncio.ensure_future(self.log.follow(after, self.hear))
         while True:
             task = asyncio.ensure_future(self.tasks.get())
-            await asyncio.wait({follow, task}, return_when=asyncio.FIRST_COMPLETED)
-            if follow.done():
-                follow.result()
+            lasting: List["asyncio.Future[None]"] = [follow, self.failure]
+            waited: List["asyncio.Future[Any]"] = [*lasting, task]
+            await asyncio.wait(waited, return_when=asyncio.FIRST_COMPLETED)
+            for done in lasting:
+                if done.done():
+                    done.result()
             if task.done():
                 task.result().result()
-
-    async def follow(self, after: int) -> None:
-        async for some in self.log.news(after):
-            for event in some.events:
-                self.take(event)
-                await asyncio.sleep(0)
-            self.ends.reach(some.revision)
-
-

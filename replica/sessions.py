@@ -3,11 +3,10 @@ from __future__ import annotations
 
 import asyncio
 import re
-from typing import List, Optional, Union
+from typing import Awaitable, Callable, List, Optional, Union
 
 from .lines import LONGEST
-from .replica import Replica
-from .store import StoreEnded
+from .replica import Outcome, Replica
 from .transaction import LIMIT, UNREACHABLE, Block, Transaction
 
 # Bytes that are read at once.
@@ -16,6 +15,13 @@ CHUNK = 1 << 18
 AHEAD = 500_000
 # Whole transactions that read a few records, which may go to the store as they stand.
 READS_AHEAD = re.compile(rb"(?:BEGIN\n(?:(?:GET [!-<>-~]{1,32}|SCAN [!-<>-~]{1,32} [!-<>-~]{1,32} [1-9])\n)*COMMIT\n)+")
+# Whole transactions that write a few records, and the lines between BEGIN and COMMIT of one; a line that may write.
+WRITES_AHEAD = re.compile(rb"(?:BEGIN\n(?:(?:GET|INS|REP|DEL|LOAD|LOCK) [ -~]*\n)+COMMIT\n)+")
+# (none of the lines between begins as COMMIT does)
+BODY = re.compile(rb"BEGIN\n((?:[^C].*\n)+)COMMIT\n")
+WRITES = re.compile(rb"^(?:INS|REP|DEL|LOAD) ", re.MULTILINE)
+# Bytes of answers that a client hasn't read, and sendings whose ends aren't known, beyond which its lines wait.
+UNREAD, MOST_FLYING = 1 << 16, 100
 BEGUN = re.compile(rb"^BEGUN [0-9]+$", re.MULTILINE)
 # Lines that end a transaction, or that don't belong to it.
 APART = (b"QUIT", b"ABORT", b"SEEN")
@@ -32,12 +38,74 @@ class Session:
         self.out: List[Union[bytes, Block]] = []  # answers, and blocks in the place of theirs
         self.ahead = 0  # bytes of those blocks
         self.is_current: Optional[bool] = None  # whether the log's end was reached since the last lines came, once that was asked
+        self.rests = False  # all lines that came were taken
+        self.flying = 0  # transactions that wait for their end with no task
+        self.landed = asyncio.Event()  # none does
+
+    def take_past(self, data: bytes) -> bool:
+        """Lines that a session which rests takes with no task: BEGIN, the COMMIT of what was told, and whole transactions that
+        write and were sent ahead. Whether it took them."""
+        if not self.rests or self.flying >= MOST_FLYING or self.writer.transport.get_write_buffer_size() > UNREAD:
+            return False
+        transaction = self.transaction
+        if transaction is None and data != b"BEGIN\n":
+            return len(data) <= LONGEST and self.take_ahead(data)
+        if self.flying:
+            return False
+        if transaction is None:
+            self.begin()
+            self.send()
+            return True
+        if data != b"COMMIT\n" or not transaction.is_told():
+            return False
+        self.transaction = None
+        self.fly([transaction.block()], lambda outcomes: self.writer.write(outcomes[0].end + b"\n"))
+        return True
+
+    def take_ahead(self, data: bytes) -> bool:
+        if not WRITES_AHEAD.fullmatch(data):
+            return False
+        bodies = BODY.findall(data)
+        if not all(map(WRITES.search, bodies)):
+            return False
+        blocks = [Block(body, body.count(b"\n")) for body in bodies]
+
+        def tell(outcomes: List[Outcome]) -> None:
+            for block, outcome in zip(blocks, outcomes):
+                self.begun += 1
+                answers = outcome.answers or [outcome.end] * block.number
+                self.writer.write(b"BEGUN %d\n%s\n%s\n" % (self.begun, b"\n".join(answers), outcome.end))
+
+        self.fly(blocks, tell)
+        return True
+
+    def fly(self, blocks: List[Block], tell: Callable[[List[Outcome]], None]) -> None:
+        """Blocks go into the log, and what they come to is told, with no task."""
+
+        def land(outcomes: List[Outcome]) -> None:
+            tell(outcomes)
+            self.flying -= 1
+            if not self.flying:
+                self.landed.set()
+
+        self.flying += 1
+        self.replica.hand_in(blocks, self.limit, land)
+
+    def begin(self) -> None:
+        self.begun += 1
+        self.transaction = Transaction()
+        self.out.append(b"BEGUN %d" % self.begun)
 
     async def serve(self, reader: asyncio.StreamReader) -> None:
         """All lines up to QUIT or the end of the input."""
         rest, data = b"", b"."
         while data:
+            self.rests = not rest
             data = await reader.read(CHUNK)
+            self.rests = False
+            while self.flying:
+                self.landed.clear()
+                await self.landed.wait()
             self.is_current = None
             rest = await self.take_reads(rest + data)
             *lines, rest = rest.split(b"\n")
@@ -68,9 +136,7 @@ class Session:
             line = line[:-1]
         transaction = self.transaction
         if line == b"BEGIN" and transaction is None:
-            self.begun += 1
-            self.transaction = Transaction()
-            self.out.append(b"BEGUN %d" % self.begun)
+            self.begin()
         elif transaction is None or b"\r" in line or line in APART or line.startswith(MAINTENANCE):
             await self.answer_all()
             return self.take_apart(line)
@@ -121,7 +187,7 @@ class Session:
         else:
             block = transaction.block()
             self.out.append(block)
-            self.ahead += len(block.text())
+            self.ahead += len(block.body)
             if self.ahead > AHEAD:
                 await self.settle()
         self.transaction = None
@@ -149,7 +215,7 @@ class Session:
         for one in rest:
             if isinstance(one, Block):
                 outcome = next(outcomes)
-                self.out += outcome.answers or [outcome.end] * (len(one.lines) - one.told)
+                self.out += outcome.answers or [outcome.end] * (one.number - one.told)
                 self.out.append(outcome.end)
             else:
                 self.out.append(one)
@@ -179,7 +245,7 @@ class Session:
         lines = found.group()
         answers = store.raw(lines.replace(b"\nCOMMIT\n", b"\nABORT\n"), lines.count(b"\n"))
         if b"\nERR FULL\n" in answers or b"\nERR MEMORY\n" in answers:
-            raise StoreEnded("memory was refused")
+            raise store.ended("memory was refused")
 
         def number(_: object) -> bytes:
             self.begun += 1
@@ -187,3 +253,18 @@ class Session:
 
         self.writer.write(BEGUN.sub(number, answers).replace(b"\nABORTED\n", b"\nCOMMITTED %d\n" % self.replica.commits))
         return text[found.end():]
+
+
+class Connection(asyncio.StreamReaderProtocol):
+    """A client's connection, whose lines go to its session's task, or past it."""
+
+    def __init__(self, serve: Callable[[Connection, asyncio.StreamReader, asyncio.StreamWriter], Awaitable[None]]) -> None:
+        reader = asyncio.StreamReader(limit=CHUNK)
+        self.session: Optional[Session] = None
+        super().__init__(reader, lambda reader, writer: serve(self, reader, writer))
+
+    def data_received(self, data: bytes) -> None:
+        if self.session is None or not self.session.take_past(data):
+            if self.session is not None:
+                self.session.rests = False
+            super().data_received(data)

@@ -133,7 +133,7 @@ async def read(replica: Replica) -> int:
     replica.store.load([zlib.decompress(piece) for piece in found])
     replica.commits, replica.applied = told["commits"], told["revision"]
     # The floor's own event comes once more, behind that.
-    log.floor, log.generation = Event(int(told["since"]), log.floor.key, b""), int(told["generation"]) - 1
+    log.floor, log.generation = Event(int(told["since"]), log.floor.key, ""), int(told["generation"]) - 1
     return min(int(told["after"]), int(kvs[0]["mod_revision"]) - 1)
 
 

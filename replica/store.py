@@ -7,7 +7,7 @@ import os
 import select
 import subprocess
 from fcntl import fcntl
-from typing import Callable, Iterator, List, Optional
+from typing import Callable, Iterator, List, Optional, Tuple
 
 from .lines import EVERYTHING, longest_answer
 
@@ -22,6 +22,8 @@ SET_PIPE_SIZE = 1031  # fcntl's F_SETPIPE_SZ, which Python has from 3.10 on
 PORTION = 4_000_000
 # Runs that a store may make before it is made anew. It has 65,535; those of aborted LOADs count, and slow it down.
 RUNS = 20_000
+# LOADs that are asked for at once: as many runs of the store are left at least.
+LOADS = 1_000
 # Most records, and bytes of lines, of a run that is loaded.
 RUN_RECORDS, RUN_BYTES = 65_000, 900_000
 CLEAN = b"CLEAN " + EVERYTHING + b" 64"
@@ -40,7 +42,15 @@ class Store:
         self.has_ghosts = False  # that trials and deletions may have left
         self.on_begin: Callable[[], object] = lambda: None
         self.on_end: Callable[[], object] = lambda: None
+        # Lines that go with the next ones, and who takes the answers.
+        self.owed: List[Tuple[bytes, Callable[[bytes], None]]] = []
+        self.fault = ""  # why nothing more is asked
         self.begin()
+
+    def ended(self, fault: str) -> StoreEnded:
+        """What is raised where the store may differ from the others'. Nobody is told anything by it from now on."""
+        self.fault = self.fault or fault
+        return StoreEnded(self.fault)
 
     def begin(self) -> None:
         """Starts the program, with no records."""
@@ -49,7 +59,7 @@ class Store:
             # In a session of its own: a terminal's signals are the replica's, and the program ends by its input.
             self.process = subprocess.Popen(self.command, stdin=subprocess.PIPE, stdout=subprocess.PIPE, start_new_session=True)
         except OSError as fault:
-            raise StoreEnded(str(fault)) from fault
+            raise self.ended(str(fault)) from fault
         assert self.process.stdin is not None and self.process.stdout is not None
         self.into, self.out = self.process.stdin.fileno(), self.process.stdout.fileno()
         for end in (self.into, self.out):
@@ -62,24 +72,42 @@ class Store:
 
     def ask(self, lines: List[bytes]) -> List[bytes]:
         """The answers to some lines, whatever trial is open."""
-        if not lines:
+        return self.ask_text(b"".join(line + b"\n" for line in lines), len(lines))
+
+    def ask_text(self, text: bytes, count: int) -> List[bytes]:
+        """The answers to so many lines, each of which has its LF."""
+        owed, self.owed = self.owed, []
+        if owed:
+            text = b"".join(line + b"\n" for line, _ in owed) + text
+        if not text:
             return []
-        text = b"\n".join(lines) + b"\n"
         self.runs += text.count(b"\nLOAD ") + text.startswith(b"LOAD ")
-        answers = self.raw(text, len(lines)).split(b"\n")[:-1]
+        answers = self.raw(text, len(owed) + count).split(b"\n")[:-1]
         for answer in answers:
             if answer.partition(b" ")[0] not in WORDS or answer in OWN_FAULTS:
-                raise StoreEnded(f"it answered {answer[:100].decode('ascii', 'replace')}")
-        return answers
+                raise self.ended(f"it answered {answer[:100].decode('ascii', 'replace')}")
+        for (_, take), answer in zip(owed, answers):
+            take(answer)
+        return answers[len(owed):]
+
+    def ask_later(self, line: bytes, take: Callable[[bytes], None]) -> None:
+        """A line whose answer isn't awaited: it goes with the next lines, or with `flush`."""
+        self.owed.append((line, take))
+
+    def flush(self) -> None:
+        self.ask_text(b"", 0)
 
     def raw(self, text: bytes, count: int) -> bytes:
         """The answers to so many lines, as they come."""
+        if self.fault:
+            raise StoreEnded(self.fault)
         parts: List[bytes] = []
         try:
             left, poll = memoryview(text), select.poll()
             left = left[os.write(self.into, left[:ROOM]):]
-            poll.register(self.into, select.POLLOUT)
-            poll.register(self.out, select.POLLIN)
+            if left:
+                poll.register(self.into, select.POLLOUT)
+                poll.register(self.out, select.POLLIN)
             while count > 0:
                 if left:
                     ready = dict(poll.poll())
@@ -89,17 +117,21 @@ class Store:
                         continue
                 data = os.read(self.out, 1 << 20)
                 if not data:
-                    raise StoreEnded("it ended")
+                    raise self.ended("it ended")
                 parts.append(data)
                 count -= data.count(b"\n")
         except OSError as fault:
-            raise StoreEnded(str(fault)) from fault
+            raise self.ended(str(fault)) from fault
         if count < 0 or not parts[-1].endswith(b"\n"):
-            raise StoreEnded("it answered more than it was asked")
+            raise self.ended("it answered more than it was asked")
         return b"".join(parts)
 
     def free(self, lines: List[bytes]) -> List[bytes]:
         """The answers to some lines, once no trial is open."""
+        return self.free_text(b"".join(line + b"\n" for line in lines), len(lines))
+
+    def free_text(self, text: bytes, count: int) -> List[bytes]:
+        """The answers to so many lines, each of which has its LF, once no trial is open."""
         before = [] if self.holder is None else [b"ABORT"]
         if self.has_ghosts:
             before.append(CLEAN)
@@ -107,9 +139,9 @@ class Store:
         if self.runs > RUNS:
             self.ask(before)
             self.renew()
-            return self.ask(lines)
-        answers = self.ask(before + lines)
-        if self.has_ghosts:
+            before = []
+        answers = self.ask_text(b"".join(line + b"\n" for line in before) + text, len(before) + count)
+        if self.has_ghosts and before:
             self.has_ghosts = answers[len(before) - 1] == b"CLEANED 64"
         return answers[len(before):]
 
@@ -144,7 +176,7 @@ class Store:
         while True:
             rows = self.ask([b"BEGIN", b"SCAN %s %s 1000" % (low, b"~" * 32), b"ABORT"])[1].split(b" ")
             if rows[0] != b"ROWS":
-                raise StoreEnded(f"SCAN was answered {rows[0].decode()}")
+                raise self.ended(f"SCAN was answered {rows[0].decode()}")
             found += rows[3:] if found else rows[2:]
             if int(rows[1]) < 1000:
                 return found
@@ -155,7 +187,7 @@ class Store:
         for text in texts:
             answers = self.ask([b"BEGIN", *text.split(b"\n")[:-1], b"COMMIT"])
             if set(answers[1:-1]) != {b"OK"} or not answers[-1].startswith(b"COMMITTED "):
-                raise StoreEnded("records can't be loaded")
+                raise self.ended("records can't be loaded")
 
     def close(self) -> None:
         self.process.kill()

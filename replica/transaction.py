@@ -4,10 +4,10 @@ All that a transaction was told is what one state of the store, which was the lo
 from __future__ import annotations
 
 import hashlib
-from typing import Iterator, List, NamedTuple
+from typing import List, NamedTuple
 
-from .lines import READS, longest_answer
-from .store import RUNS, Store
+from .lines import LONGEST_SHORT, READS, longest_answer
+from .store import LOADS, PORTION, RUNS, Store
 
 CONFLICT = b"ERR CONFLICT"
 LIMIT = b"ERR LIMIT"
@@ -16,33 +16,73 @@ UNKNOWN = b"ERR UNKNOWN"
 # Bytes of a block's lines, each counted with 100 more, and of its answers.
 MOST_LINES = 64_000_000
 MOST_ANSWERS = 64_000_000
+# The digest of no answers.
+EMPTY = hashlib.sha256().hexdigest().encode()
+
+
+def may_leave_ghosts(text: bytes) -> bool:
+    """Whether lines may leave places of what they deleted or took back."""
+    return b"DEL " in text or b"BACK\n" in text
 
 
 class Block(NamedTuple):
-    """Lines; how many of them were answered; the digest of those answers."""
+    """Lines, each with its LF, and how many there are; how many of them were answered; the digest of those answers."""
 
-    lines: List[bytes]
-    told: int
-    digest: bytes
+    body: bytes
+    number: int
+    told: int = 0
+    digest: bytes = EMPTY
 
-    def text(self) -> bytes:
-        return b"%d %d %s\n" % (len(self.lines), self.told, self.digest) + b"".join(line + b"\n" for line in self.lines)
+    @classmethod
+    def of(cls, lines: List[bytes], told: int, digest: bytes) -> Block:
+        return cls(b"".join(line + b"\n" for line in lines), len(lines), told, digest)
+
+    @property
+    def lines(self) -> List[bytes]:
+        return self.body.split(b"\n")[:-1]
 
     def loads(self) -> int:
-        return sum(line.startswith(b"LOAD ") for line in self.lines)
+        return self.body.count(b"\nLOAD ") + self.body.startswith(b"LOAD ")
 
     def longest_answers(self) -> int:
-        return sum(map(longest_answer, self.lines))
+        return sum(map(longest_answer, self.lines)) if b"SCAN " in self.body else LONGEST_SHORT * self.number
+
+    def may_leave_ghosts(self) -> bool:
+        return may_leave_ghosts(self.body)
 
 
-def blocks_of(entry: bytes) -> Iterator[Block]:
+def entry_of(blocks: List[Block]) -> bytes:
+    """The entry that has them: their number, a head for each, and then the lines of all, as the store takes them."""
+    heads = b"".join(b"%d %d %d %s\n" % (len(body), number, told, digest) for body, number, told, digest in blocks)
+    return b"%d\n%s%s" % (len(blocks), heads, b"".join(b"BEGIN\n%sCOMMIT\n" % block.body for block in blocks))
+
+
+class Batch:
     """The blocks of an entry."""
-    rows = entry.split(b"\n")
-    at = 0
-    while at < len(rows) - 1:
-        count, told, digest = rows[at].split(b" ")
-        yield Block(rows[at + 1:at + 1 + int(count)], int(told), digest)
-        at += 1 + int(count)
+
+    def __init__(self, entry: bytes) -> None:
+        first, rest = entry.split(b"\n", 1)
+        *heads, self.text = rest.split(b"\n", int(first))
+        self.heads = [head.split(b" ") for head in heads]
+        self.numbers = [int(number) for _, number, _, _ in self.heads]
+
+    def is_untold(self) -> bool:
+        """Whether none of their lines was answered."""
+        return all(told == b"0" for _, _, told, _ in self.heads)
+
+    def is_small(self) -> bool:
+        """Whether no store answers more than PORTION, and it makes no more runs than LOADS by them."""
+        most = LONGEST_SHORT * (sum(self.numbers) + 2 * len(self.numbers))
+        return b"SCAN " not in self.text and most <= PORTION and self.text.count(b"LOAD ") <= LOADS
+
+    def blocks(self) -> List[Block]:
+        found: List[Block] = []
+        at = 0
+        for size, number, told, digest in self.heads:
+            begin = at + len(b"BEGIN\n")
+            found.append(Block(self.text[begin:begin + int(size)], int(number), int(told), digest))
+            at = begin + int(size) + len(b"COMMIT\n")
+        return found
 
 
 def line_size(line: bytes) -> int:
@@ -64,7 +104,15 @@ class Transaction:
         self.line_bytes = self.answer_bytes = 0  # the answers of what is pending are counted as the longest
 
     def block(self) -> Block:
-        return Block(self.lines + self.pending, len(self.lines), self.digest.hexdigest().encode())
+        return Block.of(self.lines + self.pending, len(self.lines), self.digest.hexdigest().encode())
+
+    def is_all_of(self, block: Block) -> bool:
+        """Whether the block has its lines, with the same answers, and no more."""
+        return not self.fault and block.told == block.number == len(self.lines) and self.block() == block
+
+    def is_told(self) -> bool:
+        """Whether it wrote, and all its lines were answered, with no fault."""
+        return self.wrote and not (self.pending or self.fault or self.waits_to_load)
 
     def only_reads(self) -> bool:
         """Whether it wrote nothing, and has no line pending that may."""

@@ -97,7 +97,9 @@ class Cluster:
         self.member(at).send_signal(signal.SIGCONT)
 
     def start_replica(self, at: int, *words: str, endpoints: Sequence[str] = (), store: str = STORE) -> None:
-        given = [f"{TOP}/amreplica", "--port", str(self.ports[at]), "--store", store, *words, *(endpoints or self.endpoints)]
+        first = at % len(self.endpoints)  # each has another member to begin with
+        members = endpoints or self.endpoints[first:] + self.endpoints[:first]
+        given = [f"{TOP}/amreplica", "--port", str(self.ports[at]), "--store", store, *words, *members]
         with open(f"{self.folder}/r{at}.log", "ab") as log:
             self.replicas[at] = subprocess.Popen(given, stdout=subprocess.DEVNULL, stderr=log)
 

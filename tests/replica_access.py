@@ -1,6 +1,7 @@
 """What lies round a replica: TLS and a password, etcd's space, statuses and texts, and the transactions of the Python package."""
 from __future__ import annotations
 
+import asyncio
 import os
 import subprocess
 import sys
@@ -9,6 +10,8 @@ from typing import Any, Callable, List, Tuple
 
 from cluster import STORE, Cluster, until
 from support import LIMIT, TOP, fail, wanted
+
+from replica.etcd import Etcd, Refused, Unreachable, put_of
 
 sys.path.insert(0, os.path.join(TOP, "python"))
 
@@ -87,12 +90,21 @@ def guarded(folder: str) -> None:
 
 
 def exhausted(folder: str) -> None:
-    """etcd's space is used up: nothing more commits, and what stands is read."""
+    """etcd's space is used up, by others' history and then by the log: nothing more commits, and what stands is read. Once
+    the history is compacted and its space given back all goes on, with what was on its way."""
     cluster = Cluster(folder, "--quota-backend-bytes", "20000000", members=1)
     try:
         cluster.start_replica(0, "--limit", "5")
         wanted("a replica", cluster.is_ready(0), True)
         client = cluster.client(0)
+        client.ask("BEGIN", "INS first 1", "COMMIT")
+        revision = fill_history(cluster)
+        wanted("without space", client.ask("BEGIN", "INS late 1", "COMMIT")[2], "ERR UNKNOWN")
+        wanted("what is read", client.ask("BEGIN", "GET first", "COMMIT")[1:], ["VAL 1", "COMMITTED 1"])
+        for words in (["compact", str(revision)], ["defrag"], ["alarm", "disarm"]):
+            wanted(f"etcdctl {words}", cluster.status(*words), 0)
+        wanted("what was on its way", until(lambda: client.ask("BEGIN", "GET late", "COMMIT")[1] == "VAL 1"), True)
+        wanted("a commit", client.ask("BEGIN", "INS next 1", "COMMIT")[2], "COMMITTED 3")
         ends = ["COMMITTED"]
         while ends[-1].startswith("COMMITTED") and len(ends) < 100:
             ends.append(client.ask("BEGIN", *filler(len(ends)), "COMMIT")[-1])
@@ -106,6 +118,22 @@ def exhausted(folder: str) -> None:
         wanted("has what stands", until(lambda: client.ask("BEGIN", "GET f1.0000", "COMMIT")[1] == stands), True)
     finally:
         cluster.close()
+
+
+def fill_history(cluster: Cluster) -> int:
+    """Puts another key again and again, until there is no space: the newest revision."""
+
+    async def fill() -> int:
+        etcd, revision = Etcd(cluster.endpoints), 0
+        try:
+            for _ in range(100):
+                answer = await etcd.try_once("/v3/kv/put", put_of("other", b"x" * 1_000_000))
+                revision = int(answer["header"]["revision"])
+        except (Refused, Unreachable):
+            return revision
+        fail("etcd's space isn't used up")
+
+    return asyncio.run(fill())
 
 
 def filler(number: int) -> List[str]:

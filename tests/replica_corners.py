@@ -10,6 +10,7 @@ import time
 from typing import Any, Callable, Dict, List, Tuple
 
 from cluster import STORE, Client, Cluster, until
+from replica_ends import largest_block
 from support import fail, wanted
 
 from replica.etcd import Etcd, Refused, decoded, encoded
@@ -89,6 +90,30 @@ def pipelines(one: Client) -> None:
     wanted("CR CR LF", answers, ["BEGUN", "ERR", "VAL", "ERR", "COMMITTED"])
     number = one.ask("BEGIN", "COMMIT")[1].split()[1]
     wanted("SEEN", one.ask("SEEN")[0].split()[::2], ["SEEN", number])
+
+
+def sent_ahead(cluster: Cluster) -> None:
+    """Whole transactions and parts of others, sent one behind the other with no wait: the answers come in their order."""
+    client = cluster.client(0)
+    client.send("BEGIN", "INS q1 COMMIT", "COMMIT", "BEGIN", "DEL q1", "INS q1 BEGIN", "COMMIT")
+    client.send("BEGIN", "INS q2 1", "COMMIT")
+    time.sleep(0.001)
+    client.send("BEGIN", "GET q1", "GET q2", "COMMIT")
+    client.send("BEGIN", "INS q3 1")
+    client.send("COMMIT", "BEGIN", "INS q4 1", "foo", "ABORT", "QUIT")
+    answers = [client.answer() for _ in range(22)]
+    first = int(answers[2].split()[1])
+    right = ["BEGUN 1", "OK", f"COMMITTED {first}", "BEGUN 2", "OK", "OK", f"COMMITTED {first + 1}", "BEGUN 3", "OK",
+             f"COMMITTED {first + 2}", "BEGUN 4", "VAL BEGIN", "VAL 1", f"COMMITTED {first + 2}", "BEGUN 5", "OK",
+             f"COMMITTED {first + 3}", "BEGUN 6", "OK", "ERR SYNTAX", "ABORTED", "BYE"]
+    wanted("answers in their order", answers, right)
+    client = cluster.client(0)
+    for number in range(2000):  # more than may be on their way, in small pieces
+        client.send("BEGIN", f"REP q1 {number}", "COMMIT")
+    answers = [client.answer() for _ in range(6000)]
+    first = int(answers[2].split()[1])
+    right = [answer for number in range(2000) for answer in (f"BEGUN {number + 1}", "OK", f"COMMITTED {first + number}")]
+    wanted("answers to many", answers == right, True)
 
 
 def staging(one: Client, two: Client) -> None:
@@ -180,17 +205,18 @@ def puts_again(cluster: Cluster, one: Client, two: Client) -> None:
     """A put that comes once more, at once, late, and behind the end of its generation, does nothing."""
     number = int(one.ask("BEGIN", "INS again 1", "COMMIT")[2].split()[1])
     _, key, value = kept(cluster, "log/")[-1]
-    put = {"key": encoded(key.encode()), "value": encoded(value)}
-    request(cluster, "/v3/kv/put", put)
+    tail = (f"{NAME}/tail", key.rpartition("/")[2].rpartition(".")[0].encode())
+    puts = {"success": [{"requestPut": {"key": encoded(it.encode()), "value": encoded(text)}} for it, text in ((key, value), tail)]}
+    request(cluster, "/v3/kv/txn", puts)
     wanted("the next number", one.ask("BEGIN", "DEL again", "COMMIT")[2], f"COMMITTED {number + 1}")
-    request(cluster, "/v3/kv/put", put)
+    request(cluster, "/v3/kv/txn", puts)
     cluster.kill_replica(2)
     start(cluster, 2, "--snapshot", FLOOR_EVERY)
     for _ in range(3):
         before = floors(cluster)
         wanted("a snapshot", until(lambda: two.ask("BEGIN", "INS y 1", "DEL y", "COMMIT") and floors(cluster) > before), True)
     wanted("the key has gone", until(lambda: key not in [found for _, found, _ in kept(cluster, "log/")]), True)
-    request(cluster, "/v3/kv/put", put)
+    request(cluster, "/v3/kv/txn", puts)
     wanted("snapshots at rest", until(lambda: not kept(cluster, "claim/")), True)
     cluster.kill_replica(2)
     start(cluster, 2, "--snapshot", FLOOR_EVERY)
@@ -291,6 +317,7 @@ def all_corners(cluster: Cluster) -> None:
         ("phantoms", lambda: phantoms(one, two)),
         ("one state", lambda: one_state(one, two)),
         ("pipelines", lambda: pipelines(one)),
+        ("sent ahead", lambda: sent_ahead(cluster)),
         ("staging", lambda: staging(one, two)),
         ("always in conflict", lambda: always_in_conflict(cluster, one)),
         ("a long transaction", lambda: long_transaction(cluster, one)),
@@ -302,6 +329,7 @@ def all_corners(cluster: Cluster) -> None:
         ("no majority", lambda: no_majority(cluster)),
         ("equal", lambda: equal(cluster)),
         ("a store that ends", lambda: ended_store(cluster)),
+        ("the largest block", lambda: largest_block(cluster.client(1), cluster.client(2))),
     ]
     for name, corner in corners:
         begun = time.monotonic()

@@ -26,7 +26,8 @@ def archive(programs: Dict[str, bytes], library: List[Entry], epoch: int, folder
     """Makes the .tar.gz, and tells its name."""
     name = f"tiuvrokk-{layout.version()}-linux-{os.uname().machine}"
     entries = layout.all_entries(programs, library)
-    entries += [Entry(it, layout.bytes_of(it)) for it in ("README.md", "LICENSE", "CHANGELOG.md", "docs/protocol.md")]
+    documents = ("README.md", "LICENSE", "CHANGELOG.md", "docs/protocol.md", "docs/replicas.md")
+    entries += [Entry(it, layout.bytes_of(it)) for it in documents]
     made, data = os.path.join(folder, f"{name}.tar.gz"), io.BytesIO()
     with tarfile.open(fileobj=data, mode="w", format=tarfile.PAX_FORMAT) as file:
         for entry in sorted(entries):

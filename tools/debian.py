@@ -20,6 +20,7 @@ ABOUT = """ Tiuvrokk keeps records in memory, and answers queries over freshly l
  .
 """
 PYTHON = "lib/python3/dist-packages"
+UNITS = ["amserve.service", "amreplica@.service"]
 COPYRIGHT = """Format: https://www.debian.org/doc/packaging-manuals/copyright-format/1.0/
 Upstream-Name: tiuvrokk
 
@@ -37,6 +38,7 @@ class Package(NamedTuple):
     entries: List[Entry]
     control: List[Entry] = []
     is_for_all: bool = False
+    suggests: str = ""
 
 
 def architecture() -> str:
@@ -71,9 +73,12 @@ def packages(programs: Dict[str, bytes], library: List[Entry]) -> List[Package]:
 
 def programs_package(programs: Dict[str, bytes]) -> Package:
     entries = layout.program_entries(programs) + layout.manual_entries([1, 7]) + layout.completion_entries()
-    entries.append(Entry("lib/systemd/system/tiuvrokk.service", layout.bytes_of("packaging/tiuvrokk.service")))
+    entries += [Entry(f"lib/systemd/system/{it}", layout.bytes_of(f"packaging/{it}")) for it in UNITS]
+    entries.append(Entry("share/doc/tiuvrokk/replicas.md.gz", packed(layout.bytes_of("docs/replicas.md"))))
     needs = [f"libc6 (>= {glibc_of(programs.values())})", "python3 (>= 3.9)"]
-    return Package("tiuvrokk", "database", needs, "This package has the programs and their manuals.", entries)
+    about = "This package has the programs and their manuals."
+    # A replica needs nothing more on its own machine: etcd's members may lie on others.
+    return Package("tiuvrokk", "database", needs, about, entries, suggests="etcd-client, etcd-server")
 
 
 def library_package(name: str, shared: Entry) -> Package:
@@ -93,7 +98,7 @@ def development_package(library: str, rest: List[Entry]) -> Package:
 
 
 def python_package(library: str) -> Package:
-    entries = layout.package_entries("tiuvrokk", PYTHON)
+    entries = layout.package_entries("python/tiuvrokk", PYTHON)
     entries.append(Entry("share/doc/python3-tiuvrokk/examples/embed.py", layout.bytes_of("examples/embed.py")))
     # What Python compiles where it may write is no file of the package, so it would stay.
     removal = Entry("prerm", f"#!/bin/sh\nset -e\nrm -rf /usr/{PYTHON}/tiuvrokk/__pycache__\n".encode(), 0o755)
@@ -130,6 +135,8 @@ def control_of(package: Package, entries: List[Entry]) -> bytes:
     }
     if package.section.startswith("lib"):
         fields["Multi-Arch"] = "same"
+    if package.suggests:
+        fields["Suggests"] = package.suggests
     lines = "".join(f"{name}: {value}\n" for name, value in sorted(fields.items(), key=lambda it: it[0] == "Description"))
     return f"{lines}{ABOUT} {package.about}\n".encode()
 

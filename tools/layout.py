@@ -12,7 +12,7 @@ from typing import Dict, Iterable, List, NamedTuple, Optional
 TOP = os.path.dirname(os.path.dirname(os.path.abspath(__file__)))
 # The proved programs by their crates, and where each is installed.
 PROVED = {"am_alone": "lib/tiuvrokk/am_alone", "am_server": "lib/tiuvrokk/am_server", "am_auditor": "bin/amaudit"}
-PYTHON_PROGRAMS = ["amload", "amdump", "amcli", "amdraw"]
+PYTHON_PROGRAMS = ["amload", "amdump", "amcli", "amdraw", "amreplica"]
 COMMANDS = ["amserve", "amaudit", *PYTHON_PROGRAMS]
 AMSERVE = """#!/bin/bash
 # Runs the proved program that the first word asks for: am_server for `listen`, and am_alone for all else.
@@ -92,13 +92,13 @@ def program_entries(programs: Dict[str, bytes]) -> List[Entry]:
     entries += [Entry("lib/tiuvrokk/amserve", AMSERVE.encode(), 0o755), Entry("lib/tiuvrokk/VERSION", bytes_of("VERSION"))]
     entries += [Entry(f"lib/tiuvrokk/{name}", bytes_of(name), 0o755) for name in PYTHON_PROGRAMS]
     entries += [Entry(f"bin/{name}", link=f"../lib/tiuvrokk/{name}") for name in ("amserve", *PYTHON_PROGRAMS)]
-    return entries + package_entries("tiuvrokk_tools", "lib/tiuvrokk/python")
+    return entries + package_entries("python/tiuvrokk_tools", "lib/tiuvrokk/python") + package_entries("replica", "lib/tiuvrokk")
 
 
 def package_entries(package: str, place: str) -> List[Entry]:
-    """The modules of a Python package."""
-    names = sorted(os.path.basename(it) for it in glob.glob(f"{TOP}/python/{package}/*") if os.path.isfile(it))
-    return [Entry(f"{place}/{package}/{name}", bytes_of(f"python/{package}/{name}")) for name in names]
+    """The modules of a Python package, which lies somewhere in the repository."""
+    names = sorted(os.path.basename(it) for it in glob.glob(f"{TOP}/{package}/*") if os.path.isfile(it))
+    return [Entry(f"{place}/{os.path.basename(package)}/{name}", bytes_of(f"{package}/{name}")) for name in names]
 
 
 def manual_entries(sections: Iterable[int]) -> List[Entry]:
@@ -132,7 +132,7 @@ def library_at(library: List[Entry], folder: str) -> List[Entry]:
 def all_entries(programs: Dict[str, bytes], library: List[Entry]) -> List[Entry]:
     """All that is installed below one prefix."""
     shared = os.path.basename(shared_library(library).path)
-    entries = program_entries(programs) + library + package_entries("tiuvrokk", "lib/tiuvrokk/python")
+    entries = program_entries(programs) + library + package_entries("python/tiuvrokk", "lib/tiuvrokk/python")
     entries.append(Entry(f"lib/tiuvrokk/python/tiuvrokk/{shared}", link=f"../../../{shared}"))
     return entries + manual_entries(range(1, 10)) + completion_entries()
 

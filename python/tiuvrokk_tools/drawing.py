@@ -1,10 +1,12 @@
 """Draws how a store was merged, from a stored run: a picture as SVG on standard output, or with --text a table.
 
 TRACE is what `amserve listen --trace TRACE` stored (standard input, where none or - is named). Keys go from left to right, each
-record as wide as any other. Above stands each loaded run, a band that is thinned where its records left it. Below that the
-steps go from top to bottom: each query a bar over its range, each merge step a bar over what it moved; locks, refusals and
-aborts are told by a word. At the foot stands the final partition after each quarter of the steps. The table has the share of
-each run that is merged, by step. A trace is drawn as it stands: `amaudit` says whether it is legal. Python 3.9 is needed.
+record as wide as any other. Above stands each loaded run, a band that is thinned where its records left it, and pale where
+they are deleted and still take their place. Below that the steps go from top to bottom: each query a bar over its range, each
+merge step a bar over what it moved, each CLEAN one over what it freed; locks, refusals and aborts are told by a word. At the
+foot stands the final partition after each quarter of the steps. The table has, by step, how many records were merged and
+places cleaned, and the share of each run that has left it. A trace is drawn as it stands: `amaudit` says whether it is legal.
+Python 3.9 is needed.
 
     ./amdraw TRACE >picture.svg"""
 
@@ -29,7 +31,8 @@ TOP, STEPS_HEIGHT, FOOT_HEIGHT, GAP = 58, 420, 84, 30
 RUNS_HEIGHT, BAND, WORD_HEIGHT = 360, 14, 10
 COLUMN = 4
 TABLE_ROWS, MOST_COLUMNS = 16, 20
-COLOURS = {"run": "#30506e", "ghost": "#e3e9ee", "query": "#2a78b5", "move": "#d9701e", "word": "#b02030"}
+COLOURS = {"run": "#30506e", "ghost": "#e2b4bc", "gone": "#e3e9ee", "query": "#2a78b5", "move": "#d9701e", "clean": "#2f8f4e"}
+WORD_COLOUR = "#b02030"
 SHADES = ["#f6dcc4", "#efba8c", "#e59450", "#c9601a"]
 
 
@@ -67,17 +70,20 @@ class Picture:
     def run(self, number: int, run: Run) -> None:
         """A band, thinned where records left it."""
         middle = TOP + self.band * (number + 0.5)
-        full = self.columns(run.keys)
-        left = self.columns(key for at, key in enumerate(run.keys) if run.stays(at) == at)
+        full, standing = self.columns(run.keys), run.standing()
+        live = [key for key in standing if self.merging.homes.get(key) is run]
         low, high = min(full, default=0), max(full, default=-1)
         height = self.band * 0.8
         x, wide = LEFT + COLUMN * low, COLUMN * (high + 1 - low)
         size = f'x="{x}" y="{middle - height / 2:.1f}" width="{wide}" height="{height:.1f}"'
-        self.marks.append(f'<rect {size} fill="{COLOURS["ghost"]}"/>')
-        shares = [left[column] / full[column] if full[column] else 0.0 for column in range(low, high + 1)]
-        self.marks.append(f'<path d="{outline(x, middle, height, shares)}" fill="{COLOURS["run"]}"/>')
+        self.marks.append(f'<rect {size} fill="{COLOURS["gone"]}"/>')
+        for kind, keys in (("ghost", standing if run.ghosts else []), ("run", live)):
+            left = self.columns(keys)
+            shares = [left[column] / full[column] if full[column] else 0.0 for column in range(low, high + 1)]
+            if keys:
+                self.marks.append(f'<path d="{outline(x, middle, height, shares)}" fill="{COLOURS[kind]}"/>')
         if self.band >= WORD_HEIGHT or not number % round(WORD_HEIGHT / self.band + 0.5):
-            told = "taken back" if run.is_taken_back else f"{percent(run.left, len(run.keys))} left"
+            told = "taken back" if run.taken_back else f"{percent(len(live), len(run.keys))} left"
             self.text(LEFT - 8, middle + 4, f"run {number + 1}", 'text-anchor="end"')
             self.text(LEFT + WIDTH + 8, middle + 4, told)
 
@@ -85,11 +91,13 @@ class Picture:
         """The queries and the merge steps."""
         queries = {(*self.span(it.low, it.high), self.y(it.step)) for it in self.merging.queries}
         moves = {(*self.span(it.low, it.high), self.y(it.step)) for it in self.merging.moves}
+        cleans = {(*self.span(it.low, it.high), self.y(it.step)) for it in self.merging.cleans}
         frame = f'x="{LEFT}" y="{self.steps_top:.0f}" width="{WIDTH}" height="{STEPS_HEIGHT}"'
         self.marks.append(f'<rect {frame} fill="none" stroke="#bbb"/>')
-        for kind, bars in (("query", queries), ("move", moves)):
+        for kind, bars in (("query", queries), ("move", moves), ("clean", cleans)):
             path = " ".join(sorted({f"M{low},{y:.1f}h{high - low}" for low, high, y in bars}))
-            self.marks.append(f'<path d="{path}" stroke="{COLOURS[kind]}" stroke-width="1" stroke-opacity="0.6"/>')
+            if path:
+                self.marks.append(f'<path d="{path}" stroke="{COLOURS[kind]}" stroke-width="1" stroke-opacity="0.6"/>')
         for quarter in range(5):
             step = self.merging.steps * quarter // 4
             self.text(LEFT - 8, self.y(step) + 4, f"step {step}", 'text-anchor="end"')
@@ -101,7 +109,7 @@ class Picture:
             rows.setdefault(int(self.y(step) / WORD_HEIGHT), Counter())[word] += 1
         for row, words in sorted(rows.items()):
             told = ", ".join(word if number == 1 else f"{number} {word}" for word, number in sorted(words.items()))
-            self.text(LEFT + WIDTH + 8, row * WORD_HEIGHT + 8, told, f'fill="{COLOURS["word"]}"')
+            self.text(LEFT + WIDTH + 8, row * WORD_HEIGHT + 8, told, f'fill="{WORD_COLOUR}"')
 
     def foot(self) -> None:
         """The final partition after each quarter of the steps, the last one behind the others."""
@@ -109,8 +117,7 @@ class Picture:
         columns = range(max(whole, default=-1) + 1)
         bottom = self.foot_top + FOOT_HEIGHT
         for quarter, shade in zip((4, 3, 2, 1), SHADES):
-            until = self.merging.steps * quarter / 4
-            there = self.columns(key for key, step in self.merging.arrived.items() if step <= until)
+            there = self.columns(self.merging.final_at(self.merging.steps * quarter / 4))
             shares = [there[column] / whole[column] if whole[column] else 0.0 for column in columns]
             self.marks.append(f'<path d="{outline(LEFT, bottom, FOOT_HEIGHT, shares, is_standing=True)}" fill="{shade}"/>')
         self.marks.append(f'<path d="M{LEFT},{bottom:.0f}h{WIDTH}" stroke="#888"/>')
@@ -123,12 +130,17 @@ class Picture:
         merging = self.merging
         whole = f"{count(len(self.keys), 'record')} in {count(len(merging.runs), 'run')}"
         self.text(LEFT, 22, f"{whole}, keys from left to right", 'class="title"')
-        self.text(LEFT, 42, "loaded runs at the end: a band is thinned where its records left it")
-        moved = sum(it.number for it in merging.moves)
+        pale = ", and pale where they are deleted" if any(run.ghosts for run in merging.runs) else ""
+        self.text(LEFT, 42, f"loaded runs at the end: a band is thinned where its records left it{pale}")
+        moved, freed = (sum(it.number for it in steps) for steps in (merging.moves, merging.cleans))
         told = (
             f'<tspan fill="{COLOURS["query"]}">{len(merging.queries)} queries</tspan> and '
             f'<tspan fill="{COLOURS["move"]}">{len(merging.moves)} merge steps that moved {count(moved, "record")}</tspan>'
         )
+        if freed:
+            told = told.replace("</tspan> and ", "</tspan>, ")
+            cleans = f'{count(len(merging.cleans), "CLEAN")} of {count(freed, "place")}'
+            told += f' and <tspan fill="{COLOURS["clean"]}">{cleans}</tspan>'
         self.text(LEFT, self.steps_top - 8, told + ", steps from top to bottom")
 
     def svg(self) -> str:
@@ -177,26 +189,27 @@ def percent(part: int, whole: int) -> str:
 
 
 def table(merging: Merging) -> str:
-    """The share of each run that is merged, by step; of many runs the least, the middle and the greatest share."""
+    """What was done by each step, and the share of each run that has left it; of many runs the least, the middle and the
+    greatest share."""
     is_wide = len(merging.runs) > MOST_COLUMNS
     names = ["least", "middle", "most"] if is_wide else [f"run {number}" for number in range(1, len(merging.runs) + 1)]
-    rows = [["step", "queries", "moved", *names]]
+    rows = [["step", "queries", "moved", "cleaned", *names]]
     for part in range(1, TABLE_ROWS + 1):
         step = merging.steps * part // TABLE_ROWS
-        shares = [share_merged(run, step) for run in merging.runs]
+        shares = [share_gone(run, step) for run in merging.runs]
         known = sorted(share for share in shares if share >= 0)
         if is_wide:
             shares = [known[0], known[len(known) // 2], known[-1]] if known else [-1.0] * 3
         queries = sum(it.step <= step for it in merging.queries)
-        moved = sum(it.number for it in merging.moves if it.step <= step)
-        rows.append([str(step), str(queries), str(moved), *("-" if share < 0 else f"{share:.0f} %" for share in shares)])
+        done = [sum(it.number for it in steps if it.step <= step) for steps in (merging.moves, merging.cleans)]
+        rows.append([str(step), str(queries), *map(str, done), *("-" if share < 0 else f"{share:.0f} %" for share in shares)])
     widths = [max(map(len, column)) for column in zip(*rows)]
     return "".join("  ".join(f"{cell:>{width}}" for cell, width in zip(row, widths)) + "\n" for row in rows)
 
 
-def share_merged(run: Run, step: int) -> float:
+def share_gone(run: Run, step: int) -> float:
     """How much of a run has left it after a step, of a hundred; less than 0 where it isn't loaded, or was taken back."""
-    if step < run.step or not run.keys or run.is_taken_back and step >= run.changes[-1][0]:
+    if step < run.step or not run.keys or 0 < run.taken_back <= step:
         return -1.0
     return 100 * (1 - run.left_at(step) / len(run.keys))
 

@@ -1,12 +1,14 @@
 """A stored run, followed as far as its partitions go: which records each run still has, and what went to the final partition.
 
 A merge step works off the first records, by run and key, of the oldest of the 64 newest ranges that were read; so the text of a
-stored run tells where each record stands, though it names no partition but that of MOVED."""
+stored run tells where each record stands, though it names no partition but that of MOVED. A record that was deleted, or whose
+transaction was aborted, is a ghost: it stands at its place, unseen, until a merge step of its run or CLEAN takes it away. CLEAN
+takes the first ghosts, by partition and key, whose keys nobody has locked exclusively."""
 
 import re
-from bisect import bisect_left
+from bisect import bisect_left, bisect_right, insort
 from collections import deque
-from typing import Deque, Dict, List, NamedTuple, Set, Tuple
+from typing import Deque, Dict, List, NamedTuple, Optional, Set, Tuple
 
 from .program import Stop
 
@@ -24,7 +26,7 @@ class Query(NamedTuple):
 
 
 class Move(NamedTuple):
-    """What a merge step moved: the first and the last key, and how many."""
+    """What a merge step moved, or a clean step took away: the first and the last key, and how many."""
 
     step: int
     low: bytes
@@ -32,16 +34,25 @@ class Move(NamedTuple):
     number: int
 
 
+class Stay(NamedTuple):
+    """A record in the final partition: from which step on, and up to which, where it is over."""
+
+    key: bytes
+    begin: int
+    end: int
+
+
 class Run:
-    """A loaded run: its keys, and which of them have left it."""
+    """A loaded run: its keys, which of them have left it, and which are ghosts."""
 
     def __init__(self, step: int, keys: List[bytes]) -> None:
         self.step = step
         self.keys = keys
         self.following = list(range(len(keys) + 1))
-        self.left = len(keys)
+        self.left = len(keys)  # records and ghosts that stand there
+        self.ghosts: List[bytes] = []  # rising
         self.changes: List[Tuple[int, int]] = [(step, self.left)]
-        self.is_taken_back = False
+        self.taken_back = 0  # the step of that, where it was
 
     def stays(self, at: int) -> int:
         """The first place from this one on whose record hasn't left."""
@@ -53,30 +64,47 @@ class Run:
             self.following[place] = at
         return at
 
-    def work_off(self, step: int, low: bytes, high: bytes, number: int) -> List[bytes]:
-        """The first records of a range leave."""
-        moved: List[bytes] = []
-        at = self.stays(bisect_left(self.keys, low))
-        while len(moved) < number and at < len(self.keys) and self.keys[at] <= high:
-            moved.append(self.keys[at])
+    def standing(self) -> List[bytes]:
+        """The keys of what stands there, ghosts among them."""
+        return [key for at, key in enumerate(self.keys) if self.stays(at) == at]
+
+    def leave(self, step: int, places: List[int]) -> None:
+        """What stands at these places goes."""
+        for at in places:
             self.following[at] = at + 1
-            at = self.stays(at)
-        self.left -= len(moved)
+            forget(self.ghosts, self.keys[at])
+        self.left -= len(places)
         self.changes.append((step, self.left))
-        return moved
+
+    def first(self, low: bytes, high: bytes, number: int) -> List[int]:
+        """The places of the first records of a range, ghosts among them."""
+        found: List[int] = []
+        at = self.stays(bisect_left(self.keys, low))
+        while len(found) < number and at < len(self.keys) and self.keys[at] <= high:
+            found.append(at)
+            at = self.stays(at + 1)
+        return found
 
     def left_at(self, step: int) -> int:
-        """How many records it had after a step."""
+        """How much stood there after a step."""
         return next((left for at, left in reversed(self.changes) if at <= step), len(self.keys))
 
 
+class Write(NamedTuple):
+    """What a transaction wrote: a run, or a key that it inserted or deleted, in the run where that stands."""
+
+    key: bytes
+    run: Optional[Run]
+    is_deletion: bool
+
+
 class Body:
-    """What an active transaction wrote, and its savepoints."""
+    """What an active transaction wrote, its savepoints, and the ranges that it locked exclusively."""
 
     def __init__(self) -> None:
-        self.runs: List[Run] = []
-        self.inserted: List[bytes] = []
-        self.marks: List[Tuple[int, int]] = []
+        self.writes: List[Write] = []
+        self.marks: List[int] = []
+        self.locks: Set[Tuple[bytes, bytes]] = set()
 
 
 class Merging:
@@ -87,88 +115,171 @@ class Merging:
         self.runs: List[Run] = []
         self.queries: List[Query] = []
         self.moves: List[Move] = []
+        self.cleans: List[Move] = []
         self.words: List[Tuple[int, str]] = []
-        self.arrived: Dict[bytes, int] = {}
+        self.homes: Dict[bytes, Run] = {}  # the runs of the records that stand in one
+        self.arrived: Dict[bytes, int] = {}  # the records of the final partition
+        self.ghosts: List[bytes] = []  # the ghosts of that, rising
+        self.over: List[Stay] = []
         self.wishes: Deque[Tuple[bytes, bytes]] = deque(maxlen=MOST_WISHES)
         self.bodies: Dict[bytes, Body] = {}
 
     def keys(self) -> List[bytes]:
-        """All keys that were loaded or stand in the final partition, by rising key."""
-        found: Set[bytes] = set(self.arrived)
+        """All keys that were loaded or stood in the final partition, by rising key."""
+        found: Set[bytes] = {*self.arrived, *(stay.key for stay in self.over)}
         for run in self.runs:
             found.update(run.keys)
         return sorted(found)
+
+    def final_at(self, step: float) -> List[bytes]:
+        """The records of the final partition after a step."""
+        over = [stay.key for stay in self.over if stay.begin <= step < stay.end]
+        return over + [key for key, begin in self.arrived.items() if begin <= step]
 
     def take(self, verb: bytes, words: List[bytes], reply: bytes, told: List[bytes]) -> None:
         """Follows one step."""
         self.steps += 1
         if verb == b"MERGE":
             self.merge(reply, told)
+        elif verb == b"CLEAN":
+            self.clean(key_of(words[0]), key_of(words[1]), int(told[0]) if reply == b"CLEANED" else 0)
         elif reply == b"BUSY":
             self.words.append((self.steps, "busy"))
-        elif verb in (b"GET", b"SCAN") and reply in (b"VAL", b"NONE", b"ROWS"):
+        elif reply == b"ERR":
+            pass
+        elif verb in (b"GET", b"SCAN"):
             self.read(key_of(words[1]), key_of(words[2 if verb == b"SCAN" else 1]))
-        elif verb in (b"INS", b"LOAD") and reply == b"OK":
-            self.write(verb, words)
+        elif verb in (b"INS", b"REP", b"DEL", b"LOAD"):
+            self.write(verb, words, reply == b"OK")
         elif verb in (b"LOCK", b"MARK", b"BACK", b"COMMIT", b"ABORT"):
-            self.control(verb, words[0], reply)
+            self.control(verb, words, reply)
+
+    def body(self, owner: bytes) -> Body:
+        return self.bodies.setdefault(owner, Body())
 
     def read(self, low: bytes, high: bytes) -> None:
         self.queries.append(Query(self.steps, low, high))
         self.wishes.append((low, high))
 
-    def write(self, verb: bytes, words: List[bytes]) -> None:
-        """New records, in a run or in the final partition."""
-        body = self.bodies.setdefault(words[0], Body())
+    def write(self, verb: bytes, words: List[bytes], is_done: bool) -> None:
+        """A record or a run that is new, or a record that goes. The lock is kept whatever was answered."""
+        body = self.body(words[0])
+        keys = [key_of(word.partition(b"=")[0]) for word in (words[1:] if verb == b"LOAD" else words[1:2])]
+        body.locks.add((keys[0], keys[-1]))
+        if not is_done or verb == b"REP":
+            return
         if verb == b"LOAD":
-            run = Run(self.steps, [key_of(word.partition(b"=")[0]) for word in words[1:]])
+            run = Run(self.steps, keys)
             self.runs.append(run)
-            body.runs.append(run)
+            self.homes.update(dict.fromkeys(keys, run))
+            body.writes.append(Write(b"", run, False))
+        elif verb == b"INS":
+            self.arrive(keys[0])
+            body.writes.append(Write(keys[0], None, False))
         else:
-            key = key_of(words[1])
-            self.arrived.setdefault(key, self.steps)
-            body.inserted.append(key)
+            body.writes.append(Write(keys[0], self.homes.get(keys[0]), True))
+            self.vanish(keys[0])
 
-    def control(self, verb: bytes, owner: bytes, reply: bytes) -> None:
+    def arrive(self, key: bytes) -> None:
+        """A record stands in the final partition, in place of any ghost there."""
+        forget(self.ghosts, key)
+        self.arrived[key] = self.steps
+
+    def vanish(self, key: bytes) -> None:
+        """A record becomes a ghost at its place."""
+        run = self.homes.pop(key, None)
+        if run:
+            insort(run.ghosts, key)
+        elif key in self.arrived:
+            self.over.append(Stay(key, self.arrived.pop(key), self.steps))
+            insort(self.ghosts, key)
+
+    def control(self, verb: bytes, words: List[bytes], reply: bytes) -> None:
         """A lock, a savepoint, an end."""
-        body = self.bodies.setdefault(owner, Body())
+        body = self.body(words[0])
         if verb == b"LOCK":
             self.words.append((self.steps, "lock"))
-        elif verb == b"MARK" and reply == b"OK":
-            body.marks.append((len(body.runs), len(body.inserted)))
+            if words[1] == b"X":
+                body.locks.add((key_of(words[2]), key_of(words[3])))
+        elif verb == b"MARK":
+            body.marks.append(len(body.writes))
         elif verb == b"BACK" and reply == b"OK" and body.marks:
             self.words.append((self.steps, "back"))
-            self.take_back(body, *body.marks.pop())
+            self.take_back(body, body.marks.pop())
         elif verb in (b"COMMIT", b"ABORT"):
             if verb == b"ABORT":
                 self.words.append((self.steps, "abort"))
-                self.take_back(body, 0, 0)
-            del self.bodies[owner]
+                self.take_back(body, 0)
+            del self.bodies[words[0]]
 
-    def take_back(self, body: Body, runs: int, inserted: int) -> None:
-        """What was written since goes."""
-        for run in body.runs[runs:]:
-            run.is_taken_back = True
-            run.left = 0
-            run.following = [len(run.keys)] * (len(run.keys) + 1)
-            run.changes.append((self.steps, 0))
-        for key in body.inserted[inserted:]:
-            self.arrived.pop(key, None)
-        del body.runs[runs:], body.inserted[inserted:]
+    def take_back(self, body: Body, kept: int) -> None:
+        """What was written since goes, the newest first: new records become ghosts, and deleted ones stand again."""
+        for write in reversed(body.writes[kept:]):
+            if write.run and not write.is_deletion:
+                write.run.taken_back = self.steps
+                for key in write.run.keys:
+                    self.homes.pop(key, None)
+                write.run.ghosts = write.run.standing()
+            elif not write.is_deletion:
+                self.vanish(write.key)
+            elif write.run:
+                forget(write.run.ghosts, write.key)
+                self.homes[write.key] = write.run
+            else:
+                self.arrive(write.key)
+        del body.writes[kept:]
 
     def merge(self, reply: bytes, told: List[bytes]) -> None:
         """The oldest wish is worked off, or dropped."""
         if reply in (b"DONE", b"ENDED") and self.wishes:
             self.wishes.popleft()
         elif reply == b"MOVED" and self.wishes:
-            number, run = int(told[0]), int(told[1])
-            if not 1 <= run <= len(self.runs):
+            number, at = int(told[0]), int(told[1])
+            if not 1 <= at <= len(self.runs):
                 raise ValueError
-            moved = self.runs[run - 1].work_off(self.steps, *self.wishes[0], number)
-            for key in moved:
-                self.arrived.setdefault(key, self.steps)
-            if moved:
-                self.moves.append(Move(self.steps, moved[0], moved[-1], len(moved)))
+            run = self.runs[at - 1]
+            places = run.first(*self.wishes[0], number)
+            keys = [run.keys[place] for place in places]
+            for key in keys:
+                if self.homes.get(key) is run:
+                    del self.homes[key]
+                    self.arrive(key)
+            run.leave(self.steps, places)
+            if keys:
+                self.moves.append(Move(self.steps, keys[0], keys[-1], len(keys)))
+
+    def clean(self, low: bytes, high: bytes, number: int) -> None:
+        """So many ghosts go, those of the final partition first."""
+        freed = self.free_ghosts(self.ghosts, low, high, number)
+        for key in freed:
+            forget(self.ghosts, key)
+        for run in self.runs:
+            if len(freed) == number:
+                break
+            if run.ghosts:
+                keys = self.free_ghosts(run.ghosts, low, high, number - len(freed))
+                run.leave(self.steps, [bisect_left(run.keys, key) for key in keys])
+                freed += keys
+        if freed:
+            self.cleans.append(Move(self.steps, min(freed), max(freed), len(freed)))
+
+    def free_ghosts(self, ghosts: List[bytes], low: bytes, high: bytes, number: int) -> List[bytes]:
+        """The first ghosts of a range that nobody has locked exclusively."""
+        found: List[bytes] = []
+        locks = [lock for body in self.bodies.values() for lock in body.locks]
+        for key in ghosts[bisect_left(ghosts, low) : bisect_right(ghosts, high)]:
+            if len(found) == number:
+                break
+            if not any(first <= key <= last for first, last in locks):
+                found.append(key)
+        return found
+
+
+def forget(ghosts: List[bytes], key: bytes) -> None:
+    """No ghost of the key stands there any more."""
+    at = bisect_left(ghosts, key)
+    if at < len(ghosts) and ghosts[at] == key:
+        del ghosts[at]
 
 
 def key_of(word: bytes) -> bytes:
