@@ -11,7 +11,8 @@ behind [] r = append-nil (record_line r)
 behind (q ∷ rs) r = ap (λ l. record_line q ++ l) (behind rs r) ∙
     sym (append_assoc (record_line q) (records_text rs) (record_line r))
 
-pub one_more_line : (rs : Records) (i : ℕ) (r : OrderedKey × List ℕ) (t : List ℕ) → i < length rs → t ≡ records_text (take i rs) →
+pub one_more_line : (rs : Records) (i : ℕ) (r : OrderedKey × List ℕ) (t : List ℕ) → i < length rs →
+    t ≡ records_text (take i rs) →
     t ++ record_line (get_or rs i r) ≡ records_text (take (i + 1) rs)
 one_more_line rs i r t less is =
     ap (λ l. l ++ record_line (get_or rs i r)) is ∙ sym (behind (take i rs) (get_or rs i r)) ∙

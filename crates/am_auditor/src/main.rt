@@ -29,8 +29,8 @@ fn bytes<R: AllocGlobal + Files + Input>(rt: &R, file: Option<&str>) -> io::Resu
     }
 }
 
-/// Reads the text and writes what is to be said of it, or the records that it leaves. It has a frame of its own, beside that of the words, so that
-/// neither is large.
+/// Reads the text and writes what is to be said of it, or the records that it leaves. It has a frame of its own, beside
+/// that of the words, so that neither is large.
 #[inline(never)]
 fn audit<R: AllocGlobal + Files + Input + Print>(rt: &R, asked: &Audited<'_>) -> ExitCode {
     let mut sink = Writing::new(io::writer(rt));
