@@ -1,7 +1,8 @@
 //! Judging a trace.
 
 ghost use Rattle.std.specs.Prelude.{◌≡◌, ◌+◌, ◌<◌, ◌^◌, ◌++◌, ◌∷◌, [], length, IfOk, IfErr};
-ghost use Rattle.am_serial.specs.Trace.{Trace, effects, committers};
+ghost use Rattle.std.specs.FinMap.{entries};
+ghost use Rattle.am_serial.specs.Trace.{Trace, effects, committers, committed};
 ghost use Rattle.am_serial.specs.Legal.{IsLegal};
 ghost use Rattle.am_audit.specs.Faults.{IsTrueFault};
 ghost use Rattle.am_audit.specs.Progress.{fault_of, position_told};
@@ -9,7 +10,7 @@ ghost use Rattle.am_audit.specs.Progress.{fault_of, position_told};
 use crate::checker::Checker;
 use crate::event_fault::EventFault;
 use crate::fault::{Fault, FaultKind};
-use am_record::{NoMemory, Reply, Step};
+use am_record::{Key, NoMemory, Reply, Step, Value};
 use std::alloc::Global;
 
 /// A trace that is judged as it comes, an event at a time. Of its events those alone are kept that belong to active
@@ -66,6 +67,26 @@ impl Audit {
         match self.fault {
             Some(fault) => Err(fault),
             None => Ok(self.checker.commits),
+        }
+    }
+
+    /// The records that the committed transactions leave, by rising key, where the events that were judged have no
+    /// fault.
+    ///
+    /// # Errors
+    /// What `verdict` says of the events. NoMemory in place of any answer, where memory was refused.
+    pub fn records(&self, alloc: Global) -> Result<Vec<(Key, Value)>, Fault>
+        ensures legal { IfOk result (λ rows. (seen : Trace) → HasJudged self.now seen →
+            IsLegal seen × (rows.items ≡ entries (committed (effects seen)))) }
+        ensures wrong { IfErr result (λ fault. (seen : Trace) → HasJudged self.now seen → IsTrueFault seen fault) }
+    {
+        am_serial::formed_traces_follow();
+        if let Some(fault) = self.fault {
+            return Err(fault);
+        }
+        match self.checker.committed.records(alloc) {
+            Ok(rows) => Ok(rows),
+            Err(NoMemory) => Err(Fault::NoMemory),
         }
     }
 }

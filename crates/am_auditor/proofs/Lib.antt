@@ -1,2 +1,3 @@
 mod Torn
 mod Reading
+mod RecordLines

@@ -1,10 +1,15 @@
 -- What is said of a text: of the trace that it is the text of, or that it is none.
-use Rattle.std.specs.Prelude.{◌≡◌, ℕ, List, ◌++◌, codes, decimal, length, Option}
-use Rattle.am_serial.specs.Trace.{Trace, effects, committers}
+use Rattle.std.specs.Prelude.{◌≡◌, ◌≢◌, ◌⊎◌, ℕ, List, [], ◌∷◌, ◌++◌, codes, decimal, length, Option}
+use Rattle.std.specs.FinMap.{entries}
+use Rattle.am_record.specs.OrderedKey.{OrderedKey, bytes_of}
+use Rattle.am_record.specs.Records.{Records}
+use Rattle.am_serial.specs.Trace.{Trace, effects, committers, committed}
 use Rattle.am_stream.specs.Giving.{Gave, GaveBeginning}
 use Rattle.am_trace.specs.Lines.{IsTextOf, IsBadLine}
 use Rattle.am_serial.specs.Legal.{IsLegal}
 use Rattle.am_audit.specs.Faults.{IsFirstFault}
+use Rattle.am_audit.specs.Judged.{HasJudged}
+use Rattle.am_audit.specs.declared.checking.Audit.{Audit}
 use Rattle.am_audit.specs.declared.fault.FaultKind.{FaultKind}
 use Rattle.am_audit.specs.declared.fault.FaultKind.TheVariants.{Form, Busy, Answer}
 use Rattle.am_auditor.specs.declared.judgement.Judgement.{Judgement}
@@ -19,6 +24,10 @@ IsTrueOf text (Wrong line kind) = (trace : Trace) × IsTextOf text trace × IsFi
 IsTrueOf text (Bad line) = IsBadLine text line
 IsTrueOf text NoFile = ⊥
 IsTrueOf text NoMemory = Unit {0}
+
+-- the text is that of a trace, all events of which were judged
+abbrev pub HasText : List ℕ → Audit → Type 0
+HasText text audit = (trace : Trace) × IsTextOf text trace × HasJudged audit trace
 
 abbrev pub kind_word : FaultKind → List ℕ
 kind_word Form = codes " FORM\n"
@@ -38,6 +47,40 @@ judgement_status (Wrong line kind) = 1
 judgement_status (Bad line) = 3
 judgement_status NoFile = 4
 judgement_status NoMemory = 5
+
+-- ---- records
+
+-- a record's line
+abbrev pub record_line : OrderedKey × List ℕ → List ℕ
+record_line r = bytes_of r.0 ++ 9 ∷ r.1 ++ 10 ∷ []
+
+abbrev pub records_text : Records → List ℕ
+records_text [] = []
+records_text (r ∷ rs) = record_line r ++ records_text rs
+
+-- the text is that of a legal trace, and the lines are the records that its committed transactions leave, by rising key
+pub record HasRecords (text lines : List ℕ) : Type 0 where
+  pub trace : Trace
+  pub is_text : IsTextOf text trace
+  pub legal : IsLegal trace
+  pub are : lines ≡ records_text (entries (committed (effects trace)))
+
+-- a true judgement that isn't Legal
+abbrev pub IsAgainst : List ℕ → Judgement → Type 0
+IsAgainst text judgement = IsTrueOf text judgement × (judgement_status judgement ≢ 0)
+
+-- the records were told, or why there are none, and this is the status
+abbrev pub TellsRecords : {S : Type 0} → (S → Option (List ℕ)) → List ℕ → S → S → ℕ → Type 0
+TellsRecords holds text old new status =
+    ((lines : List ℕ) × HasRecords text lines × Gave holds old lines new × (status ≡ 0)) ⊎
+    ((judgement : Judgement) × IsAgainst text judgement × Gave holds old (judgement_line judgement) new ×
+    (status ≡ judgement_status judgement))
+
+-- a beginning of that went out
+abbrev pub HasBegunRecords : {S : Type 0} → (S → Option (List ℕ)) → List ℕ → S → S → Type 0
+HasBegunRecords holds text old new =
+    ((lines : List ℕ) × HasRecords text lines × GaveBeginning holds old lines new) ⊎
+    ((judgement : Judgement) × IsAgainst text judgement × GaveBeginning holds old (judgement_line judgement) new)
 
 -- a true judgement of the text was said, and this is its status
 pub record SaysJudgement {S : Type 0} (holds : S → Option (List ℕ)) (text : List ℕ) (old new : S)

@@ -2,7 +2,12 @@
 
 ghost use Rattle.std.specs.Prelude.{◌≡◌, ◌^◌, ◌<◌, ◌≤◌, ◌+◌, length, true, false, OnOk, OnErr, IfOk};
 ghost use Rattle.am_stream.specs.Giving.{Gave, GaveBeginning};
+ghost use Rattle.std.specs.Prelude.{◌≢◌, ℕ, List, IfErr};
+ghost use Rattle.am_serial.specs.Trace.{Trace};
+ghost use Rattle.am_trace.specs.Lines.{IsTextOf};
+ghost use Rattle.am_audit.specs.Faults.{IsTrueFault};
 ghost use Rattle.am_auditor.specs.Judgements.{IsTrueOf, SaysJudgement, IsBegun, judgement_line, judgement_status};
+ghost use Rattle.am_auditor.specs.Judgements.{HasText};
 
 use am_audit::{Audit, Fault, FaultKind};
 use am_stream::{Failed, Sink, give_all};
@@ -29,11 +34,41 @@ pub enum Judgement {
 fn judge_text(alloc: Global, text: &[u8]) -> Judgement
     ensures { IsTrueOf text.now result }
 {
+    match audit_text(alloc, text) {
+        Ok(audit) => match audit.verdict() {
+            Ok(commits) => Judgement::Legal(commits),
+            Err(fault) => judgement_of(fault),
+        },
+        Err(judgement) => judgement,
+    }
+}
+
+/// What is to be said of a trace with the fault.
+pub(crate) fn judgement_of(fault: Fault) -> Judgement
+    ensures told { (text : List ℕ) (trace : Trace) → IsTextOf text trace → IsTrueFault trace fault →
+        IsTrueOf text result }
+    ensures others { judgement_status result ≢ 0 }
+{
+    match fault {
+        Fault::Wrong(line, kind) => Judgement::Wrong(line, kind),
+        Fault::NoMemory => Judgement::NoMemory,
+    }
+}
+
+/// The audit of a text's lines, judged one after another.
+///
+/// # Errors
+/// What is to be said of a text that is none of a trace, or where memory was refused.
+pub(crate) fn audit_text(alloc: Global, text: &[u8]) -> Result<Audit, Judgement>
+    ensures judged { IfOk result (HasText text.now) }
+    ensures told { IfErr result (IsTrueOf text.now) }
+    ensures others { IfErr result (λ judgement. judgement_status judgement ≢ 0) }
+{
     let Some((version, mut rest)) = read_header(text) else {
-        return Judgement::Bad(1);
+        return Err(Judgement::Bad(1));
     };
     let Ok(mut audit) = Audit::new(alloc) else {
-        return Judgement::NoMemory;
+        return Err(Judgement::NoMemory);
     };
     let _bytes = text.len();
     let mut line = 2;
@@ -45,15 +80,11 @@ fn judge_text(alloc: Global, text: &[u8]) -> Judgement
                 line += 1;
                 rest = further;
             }
-            Err(ReadFault::Bad) => return Judgement::Bad(line),
-            Err(ReadFault::NoMemory) => return Judgement::NoMemory,
+            Err(ReadFault::Bad) => return Err(Judgement::Bad(line)),
+            Err(ReadFault::NoMemory) => return Err(Judgement::NoMemory),
         }
     }
-    match audit.verdict() {
-        Ok(commits) => Judgement::Legal(commits),
-        Err(Fault::Wrong(line, kind)) => Judgement::Wrong(line, kind),
-        Err(Fault::NoMemory) => Judgement::NoMemory,
-    }
+    Ok(audit)
 }
 
 // The line that says it.

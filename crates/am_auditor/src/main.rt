@@ -1,12 +1,14 @@
-//! The program `amaudit`: judges the text of a stored trace.
+//! The program `amaudit`: judges the text of a stored trace, or tells the records that it leaves.
 #![tactic(auto)]
 
 mod judgement;
+mod records;
 
-use am_command::{OptionsFault, audited_file, words};
+use am_command::{Audited, OptionsFault, audited, words};
 use am_stack::hold_stack;
 use am_stream::Writing;
 use judgement::{Judgement, judge, say};
+use records::tell_records;
 use std::io::Read;
 use std::process::ExitCode;
 use std::rt::Files;
@@ -27,13 +29,19 @@ fn bytes<R: AllocGlobal + Files + Input>(rt: &R, file: Option<&str>) -> io::Resu
     }
 }
 
-/// Reads the text and writes what is to be said of it. It has a frame of its own, beside that of the words, so that
-/// neither is large.
+/// Reads the text and writes what is to be said of it, or the records that it leaves. It has a frame of its own, beside
+/// that of the words, so that neither is large.
 #[inline(never)]
-fn audit<R: AllocGlobal + Files + Input + Print>(rt: &R, file: Option<&str>) -> ExitCode {
+fn audit<R: AllocGlobal + Files + Input + Print>(rt: &R, asked: &Audited<'_>) -> ExitCode {
     let mut sink = Writing::new(io::writer(rt));
-    let said = match bytes(rt, file) {
-        Ok(text) => judge(rt.alloc(), &text, &mut sink),
+    let said = match bytes(rt, asked.file) {
+        Ok(text) => {
+            if asked.tells_records {
+                tell_records(rt.alloc(), &text, &mut sink)
+            } else {
+                judge(rt.alloc(), &text, &mut sink)
+            }
+        }
         Err(error) if error.kind() == io::ErrorKind::OutOfMemory => {
             say(&Judgement::NoMemory, &mut sink)
         }
@@ -50,8 +58,8 @@ fn main(rt: HostRuntime) -> io::Result<ExitCode> {
         Ok(words) => words,
         Err(fault) => return fault.tell(&rt, PROGRAM),
     };
-    match audited_file(rt.alloc(), words.as_slice()) {
-        Ok(file) => Ok(audit(&rt, file)),
+    match audited(rt.alloc(), words.as_slice()) {
+        Ok(asked) => Ok(audit(&rt, &asked)),
         Err(fault) => fault.tell(&rt, PROGRAM),
     }
 }

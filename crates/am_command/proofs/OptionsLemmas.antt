@@ -1,9 +1,9 @@
 -- From clap's clauses to what words name.
-use Rattle.std.proofs.Common.{◌≡◌, ◌∙◌, ◌⊎◌, ℕ, List, [], Option, codes, refl, sym, subst, ap, ap₂, inl, inr, true}
+use Rattle.std.proofs.Common.{◌≡◌, ◌∙◌, ◌⊎◌, List, [], refl, sym, subst, ap, ap₂, inl, inr, true}
 use Rattle.std.proofs.Common.{false, ◌||◌}
 use Rattle.std.proofs.lemmas.Bool.{true≢false}
 use Rattle.std.specs.Prelude.{IsSomeAnd}
-use Rattle.clap.specs.Words.{AddsArg, AddsSubcommand, App, HasMatchesOf, Rule, Text, fault_of, first_of, found_of}
+use Rattle.clap.specs.Words.{AddsArg, AddsSubcommand, App, HasMatchesOf, Rule, Text, fault_of, found_of}
 use Rattle.clap.specs.Words.{is_simple, is_simple_and_free, kind_of, matches_of, rows_of, rule_of, subcommand_of}
 use Rattle.clap.specs.Words.{subcommand_rows_of, with_rule, with_subcommand, app_of}
 use Rattle.clap.specs.Kinds.{IsAmong}
@@ -15,7 +15,8 @@ use Rattle.clap.specs.declared.parser.matches.ArgMatches.{ArgMatches}
 use Rattle.clap.proofs.OnLiterals.{clap_on_literals}
 use Rattle.am_command.specs.Faults.{IsFaultOf, Refuses, is_request}
 use Rattle.am_command.specs.Options.{IsCommand, Names, Selects, amserve_app}
-use Rattle.am_command.specs.Audited.{amaudit_app}
+use Rattle.am_command.specs.Audited.{AsksFor, NamesAudited, amaudit_app}
+use Rattle.am_command.specs.declared.choice.Audited.{Audited}
 use Rattle.am_command.specs.declared.choice.Options.{Options}
 use Rattle.am_command.specs.declared.fault.OptionsFault.{OptionsFault}
 use Rattle.am_command.specs.declared.fault.OptionsFault.TheVariants.{Asked, Wrong, Unserved, NotText, NoMemory}
@@ -74,14 +75,13 @@ refused_as_nothing app m words app_is rows faults none = (
       (sym (entered_as app m words app_is rows)) named.1),
 )
 
-pub names_file : (app : App) (m : ArgMatches) (words : List Text) (file : Option (List ℕ)) → app ≡ amaudit_app →
-    HasMatchesOf app words m
-    → (is_simple_and_free app ≡ true → fault_of app words ≡ []) → file ≡ first_of (codes "file") (rows_of (found_of m))
-    → (fault_of amaudit_app words ≡ []) × (file ≡ first_of (codes "file") (matches_of amaudit_app words))
-names_file app m words file app_is rows faults named = (
+pub names_audited : (app : App) (m : ArgMatches) (words : List Text) (audited : Audited) → app ≡ amaudit_app →
+    HasMatchesOf app words m → (is_simple_and_free app ≡ true → fault_of app words ≡ []) →
+    AsksFor (rows_of (found_of m)) audited → NamesAudited words audited
+names_audited app m words audited app_is rows faults asks = (
   ap (λ a. fault_of a words) (sym app_is) ∙ faults (ap is_simple_and_free app_is ∙ amaudit_free),
-  named ∙ ap (first_of (codes "file")) ((rows (ap is_simple app_is ∙ amaudit_plain)).0 ∙
-      ap (λ a. matches_of a words) app_is),
+  subst (λ found. AsksFor found audited) ((rows (ap is_simple app_is ∙ amaudit_plain)).0 ∙
+      ap (λ a. matches_of a words) app_is) asks,
 )
 
 -- a fault of clap, at the words of an app without rules between arguments

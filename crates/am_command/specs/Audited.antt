@@ -1,15 +1,22 @@
--- The file that a command line of `amaudit` names, by clap's meaning of its words.
-use Rattle.std.specs.Prelude.{◌≡◌, List, [], Option, codes, true}
-use Rattle.clap.specs.Words.{App, Text, fault_of, first_of, matches_of, new_app, new_rule, with_rule}
+-- What a command line of `amaudit` asks for, by clap's meaning of its words.
+use Rattle.std.specs.Prelude.{◌≡◌, ◌↔◌, IsTrue, List, [], Some, codes, option_map, true}
+use Rattle.clap.specs.Words.{App, Row, Text, fault_of, first_of, matches_of, new_app, new_rule, with_rule}
+use Rattle.am_command.specs.Options.{flag_rule}
+use Rattle.am_command.specs.declared.choice.Audited.{Audited}
 
--- `amaudit [FILE]`, which has a version
+-- `amaudit [--records] [FILE]`, which has a version
 abbrev pub amaudit_app : App
 amaudit_app =
     let plain = new_app (codes "amaudit") in
     let with_version = record plain { top = record plain.top { has_version = true } } in
-    with_rule with_version (record (new_rule (codes "file")) { value_names = 1 })
+    let with_file = with_rule with_version (record (new_rule (codes "file")) { value_names = 1 }) in
+    with_rule with_file (flag_rule (codes "records"))
 
--- clap finds no fault in the words, and this is the file that they name, if they name one
-abbrev pub NamesFile : List Text → Option Text → Type 0
-NamesFile words file = (fault_of amaudit_app words ≡ [])
-    × (file ≡ first_of (codes "file") (matches_of amaudit_app words))
+-- the rows name this file, or none, and say whether records are to be told
+pub record AsksFor (rows : List Row) (audited : Audited) : Type 0 where
+  pub file_named : option_map (λ file. file.now) audited.file ≡ first_of (codes "file") rows
+  pub records_told : IsTrue audited.tells_records ↔ (first_of (codes "records") rows ≡ Some (codes "true"))
+
+-- clap finds no fault in the words, and they ask for this
+abbrev pub NamesAudited : List Text → Audited → Type 0
+NamesAudited words audited = (fault_of amaudit_app words ≡ []) × AsksFor (matches_of amaudit_app words) audited

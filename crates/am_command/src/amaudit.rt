@@ -1,13 +1,15 @@
 //! The command line of `amaudit`.
 
-ghost use Rattle.std.specs.Prelude.{◌≡◌, IfErr, IfOk, map, option_map};
-ghost use Rattle.clap.specs.Words.{app_of};
-ghost use Rattle.am_command.specs.Audited.{NamesFile, amaudit_app};
+ghost use Rattle.std.specs.Prelude.{◌≡◌, IfErr, IfOk, map};
+ghost use Rattle.clap.specs.Words.{app_of, found_of, rows_of};
+ghost use Rattle.am_command.specs.Audited.{AsksFor, NamesAudited, amaudit_app};
 ghost use Rattle.am_command.specs.Faults.{Refuses};
 
+use crate::amserve::flag;
+use crate::choice::Audited;
 use crate::fault::{OptionsFault, fault_of};
 use crate::program_words::{VERSION, text_in};
-use clap::{Arg, Command};
+use clap::{Arg, ArgMatches, Command};
 use std::alloc::{AllocError, Global};
 use std::convert::AsStr;
 
@@ -15,25 +17,31 @@ use std::convert::AsStr;
 const ABOUT: &str =
     "Judges a stored trace: whether it is formed, right in its refusals, and serial in order of commit";
 
-/// The file whose text is to be judged, where the words name one; the first word is the program's name.
+/// What the words ask for; the first word is the program's name.
 ///
 /// # Errors
 /// Help or the version was asked for, clap finds another fault in the words, or memory was refused.
-pub fn audited_file<'a, S: AsStr>(
-    alloc: Global,
-    words: &'a [S],
-) -> Result<Option<&'a str>, OptionsFault>
-    ensures accepted { IfOk result (λ file.
-        NamesFile (map S.text words.entry.now) (option_map (λ name. name.now) file)) }
-    ensures refused { IfErr result (Refuses amaudit_app NamesFile (map S.text words.entry.now)) }
+pub fn audited<'a, S: AsStr>(alloc: Global, words: &'a [S]) -> Result<Audited<'a>, OptionsFault>
+    ensures accepted { IfOk result (NamesAudited (map S.text words.entry.now)) }
+    ensures refused { IfErr result (Refuses amaudit_app NamesAudited (map S.text words.entry.now)) }
 {
     match amaudit(alloc)?.try_get_matches_from(words) {
-        Ok(matches) => Ok(text_in(&matches, "file")),
+        Ok(matches) => Ok(audited_in(&matches)),
         Err(error) => Err(fault_of(alloc, &error)),
     }
 }
 
-/// `amaudit [FILE]`.
+/// What `amaudit` was given.
+fn audited_in<'a>(given: &ArgMatches<'a>) -> Audited<'a>
+    ensures { AsksFor (rows_of (found_of given.now)) result }
+{
+    Audited {
+        file: text_in(given, "file"),
+        tells_records: text_in(given, "records") == Some("true"),
+    }
+}
+
+/// `amaudit [--records] [FILE]`.
 fn amaudit<'a>(alloc: Global) -> Result<Command<'a>, AllocError>
     ensures { IfOk result (λ command. app_of command ≡ amaudit_app) }
 {
@@ -43,5 +51,10 @@ fn amaudit<'a>(alloc: Global) -> Result<Command<'a>, AllocError>
     Command::new(alloc, "amaudit")
         .about(ABOUT)
         .version(VERSION)
-        .arg(file)
+        .arg(file)?
+        .arg(flag(
+            alloc,
+            "records",
+            "Where the trace is legal, write the records that it leaves, as amload reads them",
+        ))
 }

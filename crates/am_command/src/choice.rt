@@ -1,4 +1,4 @@
-//! What a command line of `amserve` asks for.
+//! What command lines ask for.
 
 /// The program that was asked for, with its numbers.
 #[derive(Debug, Clone, Copy, PartialEq, Eq)]
@@ -23,4 +23,13 @@ pub struct Listening<'a> {
     pub trace: Option<&'a str>,
     /// Whether the server goes on until a line `STOP`, or the end of its standard input, has come.
     pub awaits_stop: bool,
+}
+
+/// What `amaudit` is asked for.
+#[derive(Debug, Clone, Copy, PartialEq, Eq)]
+pub struct Audited<'a> {
+    /// The file whose text is read, where one is named.
+    pub file: Option<&'a str>,
+    /// Whether the records that a legal trace leaves are told.
+    pub tells_records: bool,
 }

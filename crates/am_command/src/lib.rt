@@ -1,5 +1,5 @@
 //! The command lines of `amserve` and `amaudit`: their words ([`words`]), and what they ask for ([`options`],
-//! [`audited_file`]).
+//! [`audited`]).
 #![tactic(auto)]
 
 mod amaudit;
@@ -8,8 +8,8 @@ mod choice;
 mod fault;
 mod program_words;
 
-pub use amaudit::audited_file;
+pub use amaudit::audited;
 pub use amserve::options;
-pub use choice::{Listening, Options};
+pub use choice::{Audited, Listening, Options};
 pub use fault::OptionsFault;
 pub use program_words::words;

@@ -11,7 +11,7 @@ use Rattle.std.specs.Ordering.{is_lt, is_le, ordering_reverse}
 use Rattle.std.specs.List.Sorted.{IsStrictlySortedBy}
 use Rattle.std.specs.Map.{keys_of}
 use Rattle.std.specs.BTreeMap.Range.{entries_between}
-use Rattle.std.specs.FinMap.{from_entries}
+use Rattle.std.specs.FinMap.{from_entries, entries}
 use Rattle.am_record.specs.OrderedKey.{OrderedKey, key_cmp, key_cmp-total}
 use Rattle.am_record.specs.Interval.{Interval, key_le, within}
 use Rattle.am_record.specs.Plain.{Records, rows_where}
@@ -28,6 +28,11 @@ same_test : (r : Interval) (q : OrderedKey) → (is_le (key_cmp r.lo q) && not (
 same_test r q = ap (λ b. key_le r.lo q && b) (ap (λ o. not (is_lt o)) (key_cmp-total.antisymm r.hi q) ∙
     turned (key_cmp q r.hi))
 
+-- the records of entries whose keys rise are those of their map
+pub all_rows : (es : List (OrderedKey × Cell)) → IsStrictlySortedBy key_cmp (keys_of es) →
+    records_of_cells es ≡ entries (live (from_entries es))
+all_rows es h = ap records_of_cells (sym (entries_stay es (rising es h))) ∙ sym (entries_live (from_entries es))
+
 -- the records in a range of entries are the rows that pass its test
 pub between_rows : (es : List (OrderedKey × Cell)) (r : Interval) → IsStrictlySortedBy key_cmp (keys_of es) →
     records_of_cells (entries_between key_cmp (Included r.lo) (Included r.hi) es) ≡ rows_where (within r)
@@ -36,8 +41,7 @@ between_rows es r h =
     ap records_of_cells (filter_agree (λ (e : OrderedKey × Cell). is_le (key_cmp r.lo e.0) && not
     (is_lt (key_cmp r.hi e.0))) (λ (e : OrderedKey × Cell). within r e.0) (λ e. same_test r e.0) es)
     ∙ live_where (within r) es
-    ∙ ap (λ xs. filter (λ (e : OrderedKey × List ℕ). within r e.0) xs)
-    (ap records_of_cells (sym (entries_stay es (rising es h))) ∙ sym (entries_live (from_entries es)))
+    ∙ ap (λ xs. filter (λ (e : OrderedKey × List ℕ). within r e.0) xs) (all_rows es h)
 
 -- the first of all rows, where no more are left or so many are there
 pub first_rows : (all rows rest : Records) (max : ℕ) → rows ++ rest ≡ all → length rows ≤ max → (rest ≡ []) ⊎

@@ -135,6 +135,16 @@ impl Plain {
         }
     }
 
+    /// All records of the map by rising key.
+    ///
+    /// # Errors
+    /// NoMemory, where memory was refused.
+    pub fn records(&self, alloc: Global) -> Result<Vec<(Key, Value)>, NoMemory>
+        ensures { IfOk result (λ rows. rows.items ≡ map.entries self.now.map) }
+    {
+        self.records.all(alloc)
+    }
+
     /// Drops the saved maps: the next body begins with none. It takes no memory.
     pub fn forget_saved(&mut self)
         ensures { self.new ≡ fresh self.old.map }

@@ -120,6 +120,19 @@ impl Records {
         Ok(rows)
     }
 
+    /// All records by rising key.
+    pub(crate) fn all(&self, alloc: Global) -> Result<Vec<(Key, Value)>, NoMemory>
+        ensures { IfOk result (λ rows. rows.items ≡ map.entries (live self.now)) }
+    {
+        let mut rows = Vec::new(alloc);
+        for (key, slot) in self.by_key.iter() {
+            if let Some(value) = slot {
+                rows.push((*key, *value))?;
+            }
+        }
+        Ok(rows)
+    }
+
     /// The least of the keys that has a record.
     pub(crate) fn least_taken(&self, pairs: &[(Key, Value)]) -> Option<Key>
         ensures { result ≡ least_taken pairs.now (live self.now) }

@@ -1,6 +1,6 @@
 //! Command lines of the programs.
 
-use am_command::{Listening, Options, audited_file, options};
+use am_command::{Audited, Listening, Options, audited, options};
 
 /// Words after the program's name, and the options that they ask for, or the status with which they are refused.
 type Asked<'a> = (&'a [&'a str], Result<Options<'a>, u8>);
@@ -82,13 +82,15 @@ fn words_give_their_options(rt: HostRuntime) {
     }
 }
 
-/// Words, and the file that they name, or the status with which they are refused.
-type Named<'a> = (&'a [&'a str], Result<Option<&'a str>, u8>);
+/// Words, and the file that they name with whether its records are told, or the status with which they are refused.
+type Named<'a> = (&'a [&'a str], Result<(Option<&'a str>, bool), u8>);
 
-const NAMED: [Named<'static>; 7] = [
-    (&["amaudit"], Ok(None)),
-    (&["amaudit", "t"], Ok(Some("t"))),
-    (&["amaudit", "-"], Ok(Some("-"))),
+const NAMED: [Named<'static>; 9] = [
+    (&["amaudit"], Ok((None, false))),
+    (&["amaudit", "t"], Ok((Some("t"), false))),
+    (&["amaudit", "-"], Ok((Some("-"), false))),
+    (&["amaudit", "--records"], Ok((None, true))),
+    (&["amaudit", "--records", "t"], Ok((Some("t"), true))),
     (&["amaudit", "t", "u"], Err(2)),
     (&["amaudit", "--trace"], Err(2)),
     (&["amaudit", "--help"], Err(0)),
@@ -98,6 +100,10 @@ const NAMED: [Named<'static>; 7] = [
 #[test]
 fn words_name_a_file(rt: HostRuntime) {
     for (words, named) in NAMED {
-        assert!(rt; audited_file(rt.alloc(), words).map_err(|fault| fault.status()) == named);
+        let named = named.map(|(file, tells_records)| Audited {
+            file,
+            tells_records,
+        });
+        assert!(rt; audited(rt.alloc(), words).map_err(|fault| fault.status()) == named);
     }
 }

@@ -1,34 +1,6 @@
-use Rattle.std.proofs.Common.{◌≡◌, ◌<◌, ◌^◌, length, arith, rules}
-use Rattle.std.proofs.lemmas.Bool.Decides.{nat_tests}
-use Rattle.std.proofs.lemmas.List.{nil_from_length}
-use Rattle.am_auditor.proofs.Reading.{is_short, can_judge, one_more, is_whole}
 use Rattle.am_auditor.proofs.judgement.judge_text.Goals as goal
 
-pub judge-requires : goal.judge-requires
-judge-requires c = can_judge c.args.text.now c.in-Some.version c.lines.rest.now c.lines.line c.lines.audit
-    (search rules) c.lines.invariant
-
-pub overflow_add-line : goal.overflow_add-line
-overflow_add-line c =
-    let short = is_short c.args.text.now c.in-Some.version c.lines.rest.now c.lines.line c.lines.audit
-    c.lines.invariant in
-    let bytes : length c.args.text.now < 2 ^ 63 = search rules in
-    omega arith
-
-pub lines-preserved : goal.lines-preserved
-lines-preserved c =
-    one_more c.args.text.now c.in-Some.version c.lines.rest.now c.in-Ok-read_line.read.1.now c.lines.line
-    c.in-Ok-read_line.read.0.0 c.in-Ok-read_line.read.0.1 c.lines.audit c.judge.new.self c.lines.invariant
-    c.in-Ok-read_line.ensures.event.0 c.in-Ok-read_line.ensures.event.1
-    c.judge.ensures
-
-pub returns-in-Ok-verdict : goal.returns-in-Ok-verdict
-returns-in-Ok-verdict c =
-    let none : length c.lines.rest.now ≡ 0 = grind (arith, nat_tests, c.is_empty.ensures, c.lines-test.false) in
-    let legal = c.in-Ok-verdict.ensures.legal c.lines.invariant.seen c.lines.invariant.judged in (
-      c.lines.invariant.seen,
-      is_whole c.args.text.now c.in-Some.version c.lines.rest.now c.lines.line c.lines.audit c.lines.invariant
-          (nil_from_length c.lines.rest.now none),
-      legal.0,
-      legal.1,
-    )
+pub returns-in-Ok : goal.returns-in-Ok
+returns-in-Ok c =
+    let judged = c.in-Ok.ensures.judged in
+    c.judgement_of.ensures.told c.args.text.now judged.0 judged.1 (c.in-Err-verdict.ensures.wrong judged.0 judged.2)

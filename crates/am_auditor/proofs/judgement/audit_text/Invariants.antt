@@ -1,6 +1,6 @@
 use Rattle.std.proofs.Common.{length}
 use Rattle.am_auditor.proofs.Reading.{IsReadTo}
-use Rattle.am_auditor.proofs.judgement.judge_text.Given as goal
+use Rattle.am_auditor.proofs.judgement.audit_text.Given as goal
 
 abbrev pub invariant-lines : goal.invariant-lines
 invariant-lines l = IsReadTo l.text l.version l.rest l.line l.audit
