@@ -27,6 +27,8 @@ EPILOG = """status:
   7  there was no memory"""
 NAME = "amdraw"
 LEFT, RIGHT, WIDTH = 84, 96, 780
+# So wide is a letter at most.
+LETTER = 7
 TOP, STEPS_HEIGHT, FOOT_HEIGHT, GAP = 58, 420, 84, 30
 RUNS_HEIGHT, BAND, WORD_HEIGHT = 360, 14, 10
 COLUMN = 4
@@ -44,6 +46,7 @@ class Picture:
         self.keys = merging.keys()
         self.ranks = {key: rank for rank, key in enumerate(self.keys)}
         self.marks: List[str] = []
+        self.right = RIGHT
         self.band = min(BAND, RUNS_HEIGHT / max(1, len(merging.runs)))
         self.steps_top = TOP + self.band * len(merging.runs) + GAP
         self.foot_top = self.steps_top + STEPS_HEIGHT + GAP
@@ -110,6 +113,7 @@ class Picture:
         for row, words in sorted(rows.items()):
             told = ", ".join(word if number == 1 else f"{number} {word}" for word, number in sorted(words.items()))
             self.text(LEFT + WIDTH + 8, row * WORD_HEIGHT + 8, told, f'fill="{WORD_COLOUR}"')
+            self.right = max(self.right, 16 + LETTER * len(told))
 
     def foot(self) -> None:
         """The final partition after each quarter of the steps, the last one behind the others."""
@@ -151,7 +155,7 @@ class Picture:
         self.steps()
         self.words()
         self.foot()
-        wide, high = LEFT + WIDTH + RIGHT, self.foot_top + FOOT_HEIGHT + GAP
+        wide, high = LEFT + WIDTH + self.right, self.foot_top + FOOT_HEIGHT + GAP
         size = f'width="{wide}" height="{high:.0f}" viewBox="0 0 {wide} {high:.0f}"'
         style = "text{font:12px sans-serif} .title{font-weight:bold;font-size:14px}"
         head = f'<svg xmlns="http://www.w3.org/2000/svg" {size}><style>{style}</style>'
