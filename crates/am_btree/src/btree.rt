@@ -131,8 +131,8 @@ impl PartIndex for BTree {
         self.root.append(self.alloc, part, pairs)
     }
 
-    fn set(&mut self, part: u32, key: Key, value: Value, is_ghost: bool) {
-        self.root.set(part, key, value, is_ghost);
+    fn set(&mut self, part: u32, key: Key, value: Value, is_ghost: bool) -> bool {
+        self.root.set(part, key, value, is_ghost)
     }
 
     fn remove(&mut self, part: u32, key: Key) -> Entry {

@@ -1,7 +1,8 @@
 //! Writing over an entry.
 
-ghost use Rattle.std.specs.Prelude.{◌≡◌, ◌≤◌, IsSome, length};
+ghost use Rattle.std.specs.Prelude.{◌≡◌, ◌≤◌, IsSome, is_some, length};
 ghost use Rattle.am_list.specs.Entries.{find, set_entry, IsRising};
+ghost use Rattle.am_list.specs.Content.{live_value};
 
 use crate::node::{Node, Subtree};
 use crate::separator::child_for;
@@ -9,9 +10,10 @@ use am_leaf::RawLeaf;
 use am_record::{Key, Value};
 
 impl Subtree {
-    /// Writes over the value and the ghost bit of the entry of a present place.
-    pub(crate) fn set(&mut self, part: u32, key: Key, value: Value, is_ghost: bool)
+    /// Writes over the value and the ghost bit of the entry of a present place. Whether it was live.
+    pub(crate) fn set(&mut self, part: u32, key: Key, value: Value, is_ghost: bool) -> bool
         requires { IsSome (find self.old.entries part key) }
+        ensures was_live { result ≡ is_some (live_value (find self.old.entries part key)) }
         ensures entries { self.new.entries ≡ set_entry self.old.entries part key value is_ghost }
         ensures depth { self.new.depth ≡ self.old.depth }
     {
@@ -20,16 +22,17 @@ impl Subtree {
             Node::Leaf(leaf) => set_in_leaf(leaf, part, key, value, is_ghost),
             Node::Inner(separators, children) => {
                 let at = child_for(separators, part, key);
-                children[at].set(part, key, value, is_ghost);
+                children[at].set(part, key, value, is_ghost)
             }
         }
     }
 }
 
-// Writes over the entry of a present place of a leaf.
-fn set_in_leaf(leaf: &mut RawLeaf, part: u32, key: Key, value: Value, is_ghost: bool)
+// Writes over the entry of a present place of a leaf. Whether it was live.
+fn set_in_leaf(leaf: &mut RawLeaf, part: u32, key: Key, value: Value, is_ghost: bool) -> bool
     requires stands { IsSome (find leaf.old.entries part key) }
     requires fits { length value ≤ leaf.old.value_room }
+    ensures was_live { result ≡ is_some (live_value (find leaf.old.entries part key)) }
     ensures entries { leaf.new.entries ≡ set_entry leaf.old.entries part key value is_ghost }
     ensures rising { IsRising leaf.new.entries }
     ensures wide { leaf.new.value_room ≡ leaf.old.value_room }
@@ -37,5 +40,7 @@ fn set_in_leaf(leaf: &mut RawLeaf, part: u32, key: Key, value: Value, is_ghost: 
     let Ok(at) = leaf.find(part, key) else {
         unreachable!()
     };
+    let was_live = !leaf.is_ghost(at);
     leaf.set_at(at, value, is_ghost);
+    was_live
 }

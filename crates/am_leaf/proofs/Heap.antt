@@ -19,8 +19,8 @@ use types.Logic.{Logic, sem}
 use types.Match.{live}
 use contract.BorrowLft.{◌⊑◌}
 use contract.Monad.{Fun, fact, fact_i}
-use types.Kit.{Goal, Soaks, Seq, Step, step, Item, ‵, raw, ◌⊛◌, some, later, given, ◌$◌, ◌∵◌, !, qed, move, keep, drop}
-use types.Kit.{use0, use1, use2, split, split3, join, pick, learn, rewrite, fsplit, fjoin, fpick, feq_l, feq_i, flt_i}
+use types.Kit.{Goal, Soaks, Seq, Step, step, Item, ‵, raw, ◌⊛◌, some, later, ◌$◌, ◌∵◌, !, qed, move, keep, drop}
+use types.Kit.{use0, use1, use2, split, split3, join, pick, rewrite, fsplit, fjoin, fpick, feq_l, feq_i, flt_i}
 use types.Kit.{check, mean, show, await, updating, now as at_once, done}
 use denote.Laws.{Is, shows}
 use denote.Memory.{part_at, hidden_shr}

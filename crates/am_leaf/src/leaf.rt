@@ -218,6 +218,15 @@ impl RawLeaf {
         self.len += pairs.len();
     }
 
+    /// Whether the entry at the index is a ghost.
+    #[tactic(auto, using(crate::proofs::Leaves::counted))]
+    pub fn is_ghost(&self, at: usize) -> bool
+        requires { at < length self.now.entries }
+        ensures { (d : Entry) → result ≡ (slice_index_or self.now.entries at d).is_ghost }
+    {
+        has_bit(self.ghosts, at)
+    }
+
     /// Writes over the value of the entry at the index, and whether it is a ghost.
     #[tactic(auto, using(crate::proofs::Leaves::counted))]
     pub fn set_at(&mut self, at: usize, value: Value, is_ghost: bool)

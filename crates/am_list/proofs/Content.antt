@@ -151,6 +151,13 @@ live_slot (Some (v, true)) value h = absurd (cc)
 live_slot (Some (v, false)) value h = let same : v ≡ value = same_Some _ _ h in
     ap (λ (x : List ℕ). let s : Slot = (x, false) in Some s) same
 
+-- what an entry shows is live where it is no ghost
+pub slot_live : (e : Entry) → is_some (live_value (Some (slot_of e))) ≡ not e.is_ghost
+slot_live e = elim e.is_ghost as (λ b. is_some (live_value (Some (e.value, b))) ≡ not b) [
+  | true ↦ refl
+  | false ↦ refl
+]
+
 -- a live value stands live
 pub live_at : {es : List Entry} {part : ℕ} {key : OrderedKey} {value : List ℕ} → values_at es key part ≡ Some value →
     IsLiveAt es part key value

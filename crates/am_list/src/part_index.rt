@@ -1,12 +1,13 @@
 //! What every index over partitions does.
 
 ghost use Rattle.std.specs.Prelude.{◌≡◌, ◌<◌, ◌≤◌, ◌++◌, List, length, take, Some, None, IsSome, OnOk, OnErr};
+ghost use Rattle.std.specs.Prelude.{is_some};
 ghost use Rattle.std.specs.List.{AllByRecursion};
 ghost use Rattle.am_record.specs.declared.entry.Entry.{Entry};
 ghost use Rattle.am_list.specs.Entries.{find, next_any, next_ghost, next_from, after, all_from, all_after, entry_at};
 ghost use Rattle.am_list.specs.Entries.{insert_entry, set_entry, remove_entry, IsRising};
 ghost use Rattle.am_list.specs.Runs.{run_entries};
-ghost use Rattle.am_list.specs.Content.{rows_in};
+ghost use Rattle.am_list.specs.Content.{rows_in, live_value};
 
 use crate::Batch;
 use am_record::{Entry, Key, NoMemory, Range, Value};
@@ -92,10 +93,12 @@ pub trait PartIndex {
         ensures ok { OnOk result (entries self.new ≡ entries self.old ++ run_entries part pairs.now) }
         ensures err { OnErr result (entries self.new ≡ entries self.old) };
 
-    /// Writes over the value and the ghost bit of an entry. The caller sees to it that it is there.
-    fn set(&mut self, part: u32, key: Key, value: Value, is_ghost: bool)
+    /// Writes over the value and the ghost bit of an entry. Whether it was live before. The caller sees to it that it
+    /// is there.
+    fn set(&mut self, part: u32, key: Key, value: Value, is_ghost: bool) -> bool
         requires { IsSome (find (entries self.old) part key) }
-        ensures { entries self.new ≡ set_entry (entries self.old) part key value is_ghost };
+        ensures was_live { result ≡ is_some (live_value (find (entries self.old) part key)) }
+        ensures set { entries self.new ≡ set_entry (entries self.old) part key value is_ghost };
 
     /// Takes an entry out. The caller sees to it that it is there.
     fn remove(&mut self, part: u32, key: Key) -> Entry

@@ -169,13 +169,15 @@ impl PartIndex for ListIndex {
         push_run(&mut self.items, part, pairs)
     }
 
-    fn set(&mut self, part: u32, key: Key, value: Value, is_ghost: bool) {
+    fn set(&mut self, part: u32, key: Key, value: Value, is_ghost: bool) -> bool {
         let Ok(at) = self.search(part, key) else {
             unreachable!()
         };
+        let was_live = !self.items[at].is_ghost;
         let e = &mut self.items[at];
         e.value = value;
         e.is_ghost = is_ghost;
+        was_live
     }
 
     fn remove(&mut self, part: u32, key: Key) -> Entry {

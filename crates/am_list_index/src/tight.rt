@@ -1,8 +1,9 @@
 //! An index to which some inserts are refused.
 
-ghost use Rattle.std.specs.Prelude.{◌≡◌, ◌<◌, ◌+◌, ◌-◌, ◌^◌, ◌++◌, min, Some, None, IsSome, IsErr, OnOk, OnErr};
+ghost use Rattle.std.specs.Prelude.{◌≡◌, ◌<◌, ◌+◌, ◌-◌, ◌^◌, ◌++◌, min, Some, None, IsSome, is_some, IsErr, OnOk, OnErr};
 ghost use Rattle.std.specs.List.{AllByRecursion, Contains};
 ghost use Rattle.am_list.specs.Entries.{find, entry_at, insert_entry, set_entry, remove_entry, IsRising};
+ghost use Rattle.am_list.specs.Content.{live_value};
 ghost use Rattle.am_list.specs.Runs.{run_entries};
 
 use am_list::{Batch, PartIndex};
@@ -116,13 +117,14 @@ impl<I: PartIndex + Drop> PartIndex for Tight<I> {
         self.index.append_run(part, pairs)
     }
 
-    fn set(&mut self, part: u32, key: Key, value: Value, is_ghost: bool)
+    fn set(&mut self, part: u32, key: Key, value: Value, is_ghost: bool) -> bool
         requires { IsSome (find self.old.entries part key) }
+        ensures was_live { result ≡ is_some (live_value (find self.old.entries part key)) }
         ensures set { self.new.entries ≡ set_entry self.old.entries part key value is_ghost }
         ensures counted { self.new.inserts ≡ self.old.inserts }
         ensures same_refused { self.new.refused ≡ self.old.refused }
     {
-        self.index.set(part, key, value, is_ghost);
+        self.index.set(part, key, value, is_ghost)
     }
 
     fn remove(&mut self, part: u32, key: Key) -> Entry

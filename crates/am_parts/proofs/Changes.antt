@@ -160,7 +160,7 @@ module _ {es seen : List Entry} (e : es ≡ seen) (was : AreWellFormed es) where
 
   module _ (x : Entry) (fits : x.part < 2 ^ 32) (absent : find seen x.part x.key ≡ None)
       (dead : x.is_ghost ≡ false → get (content seen) x.key ≡ None) where
-    adds : {es' : List Entry} → es' ≡ insert_entry es x → IsAfter es' (content_with seen x)
+    pub adds : {es' : List Entry} → es' ≡ insert_entry es x → IsAfter es' (content_with seen x)
     adds is = becomes (added seen_sound x absent dead) (fits_inserted seen x fits seen_sound.fits)
         (is ∙ ap (λ l. insert_entry l x) e)
 

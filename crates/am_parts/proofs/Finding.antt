@@ -1,29 +1,20 @@
 -- The look for a live key, by what the catalog says.
 use Rattle.std.proofs.Common.{◌≡◌, ◌≢◌, ℕ, zero, suc, ◌+◌, ◌<◌, ◌≤◌, true, false, List, [], ◌∷◌, length, get_or, take}
-use Rattle.std.proofs.Common.{drop, Option, Some, None, refl, sym, ap, ◌∙◌, subst, ⊎_elim, arith}
+use Rattle.std.proofs.Common.{Option, Some, None, refl, sym, ap, ◌∙◌, subst, ⊎_elim, arith}
 use Rattle.std.specs.Prelude.{IsSome, IfSome, IfNone, is_some, ◌==◌}
-use Rattle.std.specs.Option.{option_map}
 use Rattle.std.proofs.lemmas.Bool.{or_cases, cases_eq, eqb-true, true≢false, false≢true}
-use Rattle.std.proofs.lemmas.Option.{none-some}
 use Rattle.std.specs.List.{AllByRecursion}
 use Rattle.std.specs.FinMap.{get}
-use Rattle.am_record.specs.KeyNumber.{key_number}
 use Rattle.am_record.specs.OrderedKey.{OrderedKey}
-use Rattle.am_record.specs.EntryOrder.{Place}
 use Rattle.am_record.specs.declared.entry.Entry.{Entry}
-use Rattle.am_record.specs.declared.hash_key.HashKey.{HashKey}
-use Rattle.am_list.specs.Entries.{Slot, slot_of, find, entry_at}
+use Rattle.am_list.specs.Entries.{Slot, find}
 use Rattle.am_list.specs.Content.{content, live_value, IsLiveAt}
-use Rattle.am_list.proofs.Edits.{first_such_all, entry_at_place}
-use Rattle.std.proofs.lemmas.List.{length-drop, get_or-drop, get_or_default}
-use Rattle.am_record.proofs.Lists.{AllByRecursion-map}
-use Rattle.am_filter.specs.Filters.{has_bits}
+use Rattle.std.proofs.lemmas.List.{get_or_default}
 use Rattle.am_parts.specs.declared.catalog.OpenRun.{OpenRun}
-use Rattle.am_parts.specs.declared.generations.Generation.{Generation}
-use Rattle.am_parts.specs.Generations.{is_held, AreHeld}
-use Rattle.am_parts.specs.Catalogs.{parts_of, is_one_of, PartsRise, IsOpenRun, AreListed, Lacks}
+use Rattle.am_parts.specs.Catalogs.{parts_of, is_one_of, PartsRise, AreListed}
 use Rattle.am_parts.specs.Partitions.{AreWellFormed, AreEmpty, AreEmptyFrom, LivesIn, LivesInNoRun, IsLiveEntry}
 use Rattle.am_parts.specs.Partitions.{IsVacancy, vacancy_over}
+use Rattle.am_parts.specs.Residences.{LivesInRun}
 use Rattle.am_parts.proofs.Lives.{laws_of, lives_in}
 use Rattle.am_parts.proofs.Listed.{is_listed, some_left}
 
@@ -35,66 +26,37 @@ live_slot None h = absurd (cc h)
 live_slot (Some (v, true)) h = absurd (cc h)
 live_slot (Some (v, false)) h = (v, refl)
 
--- the entry behind a slot
-standing : (o : Option Entry) (s : Slot) → option_map slot_of o ≡ Some s → (e : Entry) × (o ≡ Some e)
-standing None s h = absurd (none-some s h)
-standing (Some e) s h = (e, refl)
-
-pub nothing_in_final : {hash : HashKey} {es : List Entry} (k : OrderedKey) {n : ℕ} {runs : List OpenRun} →
-    AreListed hash es n runs → n ≡ 0 → find es 0 k ≡ None
-nothing_in_final {hash} {es} k {n} {runs} h none = by_cases (find es 0 k) refl
+pub nothing_in_final : {es : List Entry} (k : OrderedKey) {n : ℕ} {runs : List OpenRun} →
+    AreListed es n runs → n ≡ 0 → find es 0 k ≡ None
+nothing_in_final {es} k {n} {runs} h none = by_cases (find es 0 k) refl
   where
     by_cases : (o : Option Slot) → find es 0 k ≡ o → o ≡ None
     by_cases None e = refl
     by_cases (Some s) e = absurd (omega (arith, some_left h 0 k (ap is_some e), h.counted, none))
 
--- ---- partitions in which the key has no entry
+-- ---- partitions in which nothing stands
 
--- the filters of the runs from one partition up to another rule the number out
-abbrev pub Deny : ℕ → ℕ → ℕ → List OpenRun → Type 0
-Deny number from to rs = AllByRecursion (λ (r : OpenRun). from ≤ r.part → r.part < to →
-    has_bits r.filter number ≡ false) rs
+-- no run is that of a partition from one up to another
+abbrev pub NoneBetween : ℕ → ℕ → List OpenRun → Type 0
+NoneBetween from to rs = AllByRecursion (λ (r : OpenRun). from ≤ r.part → r.part < to → ⊥) rs
 
-module _ (es : List Entry) (key : OrderedKey) where
-  -- where an entry of the key stands, what is said of it
-  of_key : (P : ℕ → OrderedKey → Type 0) (part : ℕ) (e : Entry) → entry_at es part key ≡ Some e →
-      AllByRecursion (λ f. P f.part f.key) es → P part key
-  of_key P part e at all =
-      let place : (e.part, e.key) ≡ (part, key) = entry_at_place es part key e at in
-      subst (λ (p : Place). P p.0 p.1) place (first_such_all (λ f. P f.part f.key) _ es e all at)
+none_within : (from to part : ℕ) (rs : List OpenRun) → NoneBetween from to rs → from ≤ part → part < to →
+    is_one_of (parts_of rs) part ≡ true → ⊥
+none_within from to part [] out low high one = false≢true one
+none_within from to part (r ∷ rs) out low high one =
+    ⊎_elim
+    (λ here. let same : r.part ≡ part = eqb-true r.part part here in
+    out.0 (omega (arith, same, low)) (omega (arith, same, high)))
+    (λ later. none_within from to part rs out.1 low high later)
+    (or_cases (r.part == part) (is_one_of (parts_of rs) part) one)
 
-  none_stands : (part : ℕ) → ((e : Entry) → entry_at es part key ≡ Some e → ⊥) → find es part key ≡ None
-  none_stands part not = by_cases (find es part key) refl
-    where
-      by_cases : (o : Option Slot) → find es part key ≡ o → o ≡ None
-      by_cases None h = refl
-      by_cases (Some s) h = let e = standing (entry_at es part key) s h in absurd (not e.0 e.1)
-
-  pub unheld : (hash : HashKey) (gens : List Generation) (part : ℕ) → AreHeld hash es gens → 0 < part →
-      is_held gens part (key_number hash key) ≡ false → find es part key ≡ None
-  unheld hash gens part held some denied =
-      none_stands part (λ e at. true≢false (sym (of_key (λ p k. 0 < p → is_held gens p (key_number hash k) ≡ true) part
-      e at held some) ∙ denied))
-
-  one_denied : (hash : HashKey) (from to part : ℕ) (e : Entry) (rs : List OpenRun) → entry_at es part key ≡ Some e →
-      from ≤ part → part < to → AllByRecursion (IsOpenRun hash es) rs → Deny (key_number hash key) from to rs →
-      is_one_of (parts_of rs) part ≡ true → ⊥
-  one_denied hash from to part e [] at low high each deny one = false≢true one
-  one_denied hash from to part e (r ∷ rs) at low high each deny one =
-      ⊎_elim
-      (λ here.
-      let same : r.part ≡ part = eqb-true r.part part here in
-      let held = of_key (λ p k. p ≡ r.part → has_bits r.filter (key_number hash k) ≡ true) part e at each.0.held
-      (sym same) in
-      true≢false (sym held ∙ deny.0 (omega (arith, same, low)) (omega (arith, same, high))))
-      (λ later. one_denied hash from to part e rs at low high each.1 deny.1 later)
-      (or_cases (r.part == part) (is_one_of (parts_of rs) part) one)
-
-  pub denied : {hash : HashKey} {n : ℕ} {runs : List OpenRun} (from to : ℕ) → AreListed hash es n runs → 0 < from →
-      Deny (key_number hash key) from to runs → Lacks es key from to
-  denied {hash} {n} {runs} from to h some deny = λ part low high.
-      none_stands part (λ e at. one_denied hash from to part e runs at low high h.each deny
-      (is_listed h part key (omega (arith, some, low)) (ap (λ o. is_some (option_map slot_of o)) at)))
+pub unlisted : {es : List Entry} {n : ℕ} {runs : List OpenRun} (key : OrderedKey) (part : ℕ) → AreListed es n runs →
+    0 < part → (is_one_of (parts_of runs) part ≡ true → ⊥) → find es part key ≡ None
+unlisted {es} key part h some denied = by_cases (find es part key) refl
+  where
+    by_cases : (o : Option Slot) → find es part key ≡ o → o ≡ None
+    by_cases None e = refl
+    by_cases (Some s) e = absurd (denied (is_listed h part key some (ap is_some e)))
 
 module _ {es : List Entry} {key : OrderedKey} where
   pub found_dead : (part : ℕ) → is_some (live_value (find es part key)) ≡ false → (value : List ℕ) →
@@ -125,53 +87,28 @@ module _ {es : List Entry} {key : OrderedKey} where
       (λ (other : part ≢ 0). none.none part value (omega (arith, other)) live)
       (cases_eq part 0))
 
-module _ (es : List Entry) (key : OrderedKey) where
-  -- the key is live in none of the runs below a partition
-  abbrev pub NotLiveBelow : ℕ → Type 0
-  NotLiveBelow to = (part : ℕ) (value : List ℕ) → 0 < part → part < to → IsLiveAt es part key value → ⊥
+-- ---- the runs from an index on
 
--- ---- the runs that a look went through
-
-module _ (number from to : ℕ) where
-  over_later : (p : ℕ) (rs : List OpenRun) → to ≤ p → AllByRecursion (λ q. p < q) (parts_of rs) → Deny number from to rs
+module _ (from to : ℕ) where
+  over_later : (p : ℕ) (rs : List OpenRun) → to ≤ p → AllByRecursion (λ q. p < q) (parts_of rs) → NoneBetween from to rs
   over_later p [] le up = tt
   over_later p (r ∷ rs) le up = (
     (λ low high. let lt : p < r.part = up.0 in absurd (omega (arith, lt, le, high))),
     over_later p rs le up.1,
   )
 
-  from_here : (rs : List OpenRun) (i : ℕ) → PartsRise (parts_of rs) →
-      AllByRecursion (λ (r : OpenRun). has_bits r.filter number ≡ false) (take i rs) →
-      ((d : OpenRun) → i < length rs → to ≤ (get_or rs i d).part) → Deny number from to rs
-  from_here [] i up none stop = tt
-  from_here (r ∷ rs) zero up none stop =
+  -- those before the index are below the one partition, and the one at it isn't below the other
+  pub none_there : (rs : List OpenRun) (at : ℕ) → PartsRise (parts_of rs) →
+      AllByRecursion (λ (r : OpenRun). r.part < from)
+      (take at rs) → ((d : OpenRun) → at < length rs → to ≤ (get_or rs at d).part) → NoneBetween from to rs
+  none_there [] at up below stop = tt
+  none_there (r ∷ rs) zero up below stop =
       let le : to ≤ r.part = stop r (omega arith) in
       ((λ low high. absurd (omega (arith, le, high))), over_later r.part rs le up.0)
-  from_here (r ∷ rs) (suc i) up none stop = (
-    (λ low high. none.0),
-    from_here rs i up.1 none.1 (λ d lt. stop d (omega arith)),
-  )
-
-  pub went : (rs : List OpenRun) (at i : ℕ) → PartsRise (parts_of rs) → AllByRecursion (λ (r : OpenRun). r.part < from)
-      (take at rs) → AllByRecursion (λ (r : OpenRun). has_bits r.filter number ≡ false) (take i (drop at rs))
-      → ((d : OpenRun) → i < length (drop at rs) → to ≤ (get_or (drop at rs) i d).part) → Deny number from to rs
-  went rs zero i up below none stop = from_here rs i up none stop
-  went [] (suc at) i up below none stop = tt
-  went (r ∷ rs) (suc at) i up below none stop = (
+  none_there (r ∷ rs) (suc at) up below stop = (
     let lt : r.part < from = below.0 in (λ low high. absurd (omega (arith, lt, low))),
-    went rs at i up.1 below.1 none stop,
+    none_there rs at up.1 below.1 (λ d lt. stop d (omega arith)),
   )
-
-  -- where the rest was cut out as a slice
-  pub went_on : (rs rest : List OpenRun) (at i : ℕ) → rest ≡ drop at rs → PartsRise (parts_of rs) →
-      AllByRecursion (λ (r : OpenRun). r.part < from) (take at rs) →
-      AllByRecursion (λ (r : OpenRun). has_bits r.filter number ≡ false) (take i rest)
-      → ((d : OpenRun) → i < length rest → to ≤ (get_or rest i d).part) → Deny number from to rs
-  went_on rs rest at i same up below none stop =
-      went rs at i up below (subst (λ (l : List OpenRun). AllByRecursion
-      (λ (r : OpenRun). has_bits r.filter number ≡ false) (take i l)) same none)
-      (λ d lt. subst (λ (l : List OpenRun). to ≤ (get_or l i d).part) same
-      (stop d (subst (λ (l : List OpenRun). i < length l) (sym same) lt)))
 
 pub of_none : {P : Type 0} (o : Option Entry) → ((e : Entry) → o ≡ Some e → ⊥) → IfNone o P → P
 of_none None not h = h
@@ -210,34 +147,73 @@ module _ (es : List Entry) (key : OrderedKey) (sound : AreWellFormed es) where
 
 -- ---- partitions without entries
 
-module _ {hash : HashKey} {es : List Entry} {n : ℕ} {runs : List OpenRun} (h : AreListed hash es n runs) (from at : ℕ)
+module _ {es : List Entry} {n : ℕ} {runs : List OpenRun} (h : AreListed es n runs) (from at : ℕ)
     (final : from ≡ 0 → n ≡ 0) (below : AllByRecursion (λ (r : OpenRun). r.part < from) (take at runs)) where
-  none_between : (to : ℕ) → ((d : OpenRun) → 0 < length (drop at runs) → to ≤ (get_or (drop at runs) 0 d).part) →
+  none_between : (to : ℕ) → ((d : OpenRun) → at < length runs → to ≤ (get_or runs at d).part) →
       (part : ℕ) (key : OrderedKey) → from ≤ part → part < to → find es part key ≡ None
   none_between to stop part key low high =
       ⊎_elim
       (λ (same : part ≡ 0). ap (λ p. find es p key) same ∙ nothing_in_final key h (final (omega (arith, same, low))))
       (λ (other : part ≢ 0).
-      let deny = went (key_number hash key) from to runs at 0 h.rising below tt stop in
-      denied es key part to h (omega (arith, other))
-      (AllByRecursion-map (λ (r : OpenRun). from ≤ r.part → r.part < to → has_bits r.filter (key_number hash key) ≡
-      false) (λ (r : OpenRun). part ≤ r.part → r.part < to → has_bits r.filter (key_number hash key) ≡ false)
-      (λ r f up down. f (omega (arith, up, low)) down) runs deny)
-      part (omega arith) high)
+      unlisted key part h (omega (arith, other))
+      (none_within from to part runs (none_there from to runs at h.rising below stop) low high))
       (cases_eq part 0)
 
   pub empty_up_to : (r : OpenRun) → at < length runs → r ≡ get_or runs at r → AreEmpty es from r.part
   empty_up_to r inside here = record {
     none = none_between r.part (λ d lt.
-        let end : at ≡ at + 0 = omega arith in
-        let same : r.part ≡ (get_or (drop at runs) 0 d).part =
-        ap (λ (q : OpenRun). q.part) (here ∙ get_or_default runs at r d inside ∙ ap (λ k. get_or runs k d) end ∙
-        sym (get_or-drop at runs 0 d)) in
+        let same : r.part ≡ (get_or runs at d).part =
+        ap (λ (q : OpenRun). q.part) (here ∙ get_or_default runs at r d inside) in
         omega (arith, same));
   }
 
   pub empty_from : length runs ≤ at → AreEmptyFrom es from
   empty_from past = record {
     none = λ part key low. none_between (part + 1)
-        (λ d lt. absurd (omega (arith, lt, past, length-drop at runs))) part key low (omega arith);
+        (λ d lt. absurd (omega (arith, lt, past))) part key low (omega arith);
+  }
+
+-- ---- a look in every run
+
+-- what is live in a run is in none of the first runs
+abbrev pub NotLiveIn : List Entry → OrderedKey → List OpenRun → Type 0
+NotLiveIn es key rs = AllByRecursion (λ (r : OpenRun). (value : List ℕ) → IsLiveAt es r.part key value → ⊥) rs
+
+pub live_in_no_run : {es : List Entry} {n : ℕ} {runs : List OpenRun} (key : OrderedKey) → AreListed es n runs →
+    NotLiveIn es key runs → LivesInNoRun es key
+live_in_no_run {es} {n} {runs} key h none = record {
+  none = λ part value some live. in_list runs part value live none
+      (is_listed h part key some (ap is_some live.there));
+}
+  where
+    in_list : (rs : List OpenRun) (part : ℕ) (value : List ℕ) → IsLiveAt es part key value → NotLiveIn es key rs →
+        is_one_of (parts_of rs) part ≡ true → ⊥
+    in_list [] part value live none one = false≢true one
+    in_list (r ∷ rs) part value live none one =
+        ⊎_elim
+        (λ here. none.0 value (subst (λ (p : ℕ). IsLiveAt es p key value) (sym (eqb-true r.part part here)) live))
+        (λ later. in_list rs part value live none.1 later)
+        (or_cases (r.part == part) (is_one_of (parts_of rs) part) one)
+
+-- ---- the entry that a look found, or none
+
+-- the entry of what stands live at the place
+abbrev pub IsOf : ℕ → OrderedKey → Option Slot → Entry → Type 0
+IsOf part key slot e = (slot ≡ Some (e.value, false)) × (e.part ≡ part) × (e.key ≡ key) × (e.is_ghost ≡ false)
+
+module _ {es : List Entry} (sound : AreWellFormed es) (part : ℕ) (key : OrderedKey) {slot : Option Slot}
+    (found : slot ≡ find es part key) where
+  pub found_live : (o : Option Entry) → IfSome o (IsOf part key slot) → IfSome o (IsLiveEntry es key)
+  found_live None h = tt
+  found_live (Some e) h = stands_live {es = es} {key = key} sound part e (sym found ∙ h.0) h.1 h.2 h.3
+
+  -- where it may be live in this run alone, and isn't, it is live in none
+  pub found_none : (o : Option Entry) → ((part' : ℕ) → LivesInRun es key part' → part ≡ part') →
+      IfNone o (is_some (live_value slot) ≡ false) → IfNone o (LivesInNoRun es key)
+  found_none (Some e) only dead = tt
+  found_none None only dead = record {
+    none = λ part' value some live.
+        let same : part ≡ part' = only part' (record { is_run = some; value = value; live = live }) in
+        found_dead part (ap (λ (o : Option Slot). is_some (live_value o)) (sym found) ∙ dead) value
+        (subst (λ (p : ℕ). IsLiveAt es p key value) (sym same) live);
   }

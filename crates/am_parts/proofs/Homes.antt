@@ -1,6 +1,6 @@
 -- A live entry of a run on its way to the final partition.
 use Rattle.std.proofs.Common.{◌≡◌, ◌≢◌, List, true, false, cond, Option, Some, None, refl, sym, ap, ◌∙◌, subst}
-use Rattle.std.specs.Prelude.{IsSome, is_some}
+use Rattle.std.specs.Prelude.{is_some}
 use Rattle.std.proofs.lemmas.Bool.{cond-false}
 use Rattle.am_record.specs.declared.entry.Entry.{Entry}
 use Rattle.am_list.specs.Entries.{Slot, slot_of, find, insert_entry, set_entry, remove_entry, IsRising}
@@ -19,20 +19,20 @@ module _ (e : Entry) (es : List Entry) (in_run : e.part ≢ 0) where
   final = record e { part = 0; is_ghost = false }
 
   -- the entry of the run stands as before
-  pub still_stands : IsRising es → IsSome (find es e.part e.key) → IsSome (find (settled e es) e.part e.key)
-  still_stands rises there = by_cases (find es 0 e.key) refl
+  pub stands_as_before : IsRising es → find (settled e es) e.part e.key ≡ find es e.part e.key
+  stands_as_before rises = by_cases (find es 0 e.key) refl
     where
-      by_cases : (o : Option Slot) → find es 0 e.key ≡ o → IsSome (find (settled e es) e.part e.key)
+      by_cases : (o : Option Slot) → find es 0 e.key ≡ o → find (settled e es) e.part e.key ≡ find es e.part e.key
       by_cases None h =
-          ap (λ (o : Option Slot). is_some (find (cond (is_some o) (set_entry es 0 e.key e.value false)
-          (insert_entry es final)) e.part e.key)) h
-          ∙ ap is_some ((edit_laws es rises).finds.inserted final e.part e.key ∙
-          cond-false (same_place e.part e.key 0 e.key) (Some (e.value, false)) (find es e.part e.key) apart) ∙ there
+          ap (λ (o : Option Slot). find (cond (is_some o) (set_entry es 0 e.key e.value false)
+          (insert_entry es final)) e.part e.key) h
+          ∙ (edit_laws es rises).finds.inserted final e.part e.key ∙
+          cond-false (same_place e.part e.key 0 e.key) (Some (e.value, false)) (find es e.part e.key) apart
       by_cases (Some s) h =
-          ap (λ (o : Option Slot). is_some (find (cond (is_some o) (set_entry es 0 e.key e.value false)
-          (insert_entry es final)) e.part e.key)) h
-          ∙ ap is_some ((edit_laws es rises).finds.reset 0 e.key e.value false (ap is_some h) e.part e.key ∙
-          cond-false (same_place e.part e.key 0 e.key) (Some (e.value, false)) (find es e.part e.key) apart) ∙ there
+          ap (λ (o : Option Slot). find (cond (is_some o) (set_entry es 0 e.key e.value false)
+          (insert_entry es final)) e.part e.key) h
+          ∙ (edit_laws es rises).finds.reset 0 e.key e.value false (ap is_some h) e.part e.key ∙
+          cond-false (same_place e.part e.key 0 e.key) (Some (e.value, false)) (find es e.part e.key) apart
 
   -- at home, the content is as it was
   pub content_at_home : AreWellFormed es → find es e.part e.key ≡ Some (slot_of e) → e.is_ghost ≡ false →

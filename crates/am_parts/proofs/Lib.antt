@@ -1,6 +1,8 @@
 pub mod AppendedRuns
 pub mod Counts
-pub mod Held
+pub mod Telling
+pub mod Alive
+pub mod LiveRuns
 pub mod Listed
 pub mod Catalogued
 pub mod Appending

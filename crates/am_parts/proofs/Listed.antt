@@ -5,18 +5,15 @@ use Rattle.std.specs.Prelude.{IsSome, ◌==◌}
 use Rattle.std.proofs.lemmas.Bool.{or_left, or_right, or_cases, cases_eq, cases_lt, eqb-true, eq-eqb, false≢true}
 use Rattle.std.proofs.lemmas.List.{length-map}
 use Rattle.std.specs.List.{AllByRecursion, insert, remove}
-use Rattle.am_record.specs.KeyNumber.{key_number, numbers_of}
 use Rattle.am_record.specs.OrderedKey.{OrderedKey}
 use Rattle.am_record.specs.Plain.{Records}
 use Rattle.am_record.specs.declared.entry.Entry.{Entry}
-use Rattle.am_record.specs.declared.hash_key.HashKey.{HashKey}
 use Rattle.am_record.proofs.Lists.{AllByRecursion-map, AllByRecursion-append, AllByRecursion-at}
 use Rattle.am_list.specs.Entries.{find, insert_entry, set_entry, remove_entry}
 use Rattle.am_list.specs.Runs.{run_entries}
-use Rattle.am_filter.specs.Filters.{has_bits}
 use Rattle.am_parts.specs.declared.catalog.OpenRun.{OpenRun}
 use Rattle.am_parts.specs.Catalogs.{left_in, IsOpenRun, parts_of, PartsRise, is_one_of, AreListed, IsRunAt, IsGapAt}
-use Rattle.am_parts.specs.Catalogs.{HasMore, IsOpenRunOf, IsNext}
+use Rattle.am_parts.specs.Catalogs.{HasMore, IsNext, HasRuns}
 use Rattle.am_parts.proofs.Counts.{one_if, none_if, all_inserted, all_removed, all_set, count_inserted, count_removed}
 use Rattle.am_parts.proofs.Counts.{count_set, count_append, count_run, none_in_run, none_counted, none_left}
 
@@ -163,18 +160,16 @@ no_run_at_gap p (r ∷ rs) (suc i) below above = let lt : r.part < p = below.0 i
 
 -- ---- an entry more
 
-module _ {hash : HashKey} (es : List Entry) (x : Entry) where
-  untouched : (r : OpenRun) → r.part ≢ x.part → IsOpenRun hash es r → IsOpenRun hash (insert_entry es x) r
+module _ (es : List Entry) (x : Entry) where
+  untouched : (r : OpenRun) → r.part ≢ x.part → IsOpenRun es r → IsOpenRun (insert_entry es x) r
   untouched r other h = record {
     is_run = h.is_run;
     some = h.some;
     exact = omega (arith, h.exact, count_inserted r.part es x, none_if x.part r.part (λ same. other (sym same)));
-    held = all_inserted (λ e. e.part ≡ r.part → has_bits r.filter (key_number hash e.key) ≡ true) es x
-        (λ same. absurd (other (sym same))) h.held;
   }
 
-  grown : (r s : OpenRun) → r.part ≡ x.part → HasMore r (key_number hash x.key) s → IsOpenRun hash es r →
-      IsOpenRun hash (insert_entry es x) s
+  grown : (r s : OpenRun) → r.part ≡ x.part → HasMore r s → IsOpenRun es r →
+      IsOpenRun (insert_entry es x) s
   grown r s here more h = record {
     is_run = omega (arith, more.part, h.is_run);
     some = omega (arith, more.left);
@@ -182,19 +177,14 @@ module _ {hash : HashKey} (es : List Entry) (x : Entry) where
         let e : r.left + 1 ≡ left_in r.part (insert_entry es x) =
         omega (arith, h.exact, count_inserted r.part es x, one_if x.part r.part (sym here)) in
         more.left ∙ e ∙ ap (λ (p : ℕ). left_in p (insert_entry es x)) (sym more.part);
-    held = all_inserted (λ e. e.part ≡ s.part → has_bits s.filter (key_number hash e.key) ≡ true) es x
-        (λ same. more.added)
-        (AllByRecursion-map (λ e. e.part ≡ r.part → has_bits r.filter (key_number hash e.key) ≡ true)
-        (λ e. e.part ≡ s.part → has_bits s.filter (key_number hash e.key) ≡ true)
-        (λ e was same. more.kept (key_number hash e.key) (was (same ∙ more.part))) es h.held);
   }
 
-module _ {hash : HashKey} {es : List Entry} {n : ℕ} {runs : List OpenRun} (h : AreListed hash es n runs) (x : Entry)
+module _ {es : List Entry} {n : ℕ} {runs : List OpenRun} (h : AreListed es n runs) (x : Entry)
   where
-    pub final_more : x.part ≡ 0 → AreListed hash (insert_entry es x) (n + 1) runs
+    pub final_more : x.part ≡ 0 → AreListed (insert_entry es x) (n + 1) runs
     final_more final = record {
       counted = omega (arith, h.counted, count_inserted 0 es x, one_if x.part 0 final);
-      each = AllByRecursion-map (IsOpenRun hash es) (IsOpenRun hash (insert_entry es x))
+      each = AllByRecursion-map (IsOpenRun es) (IsOpenRun (insert_entry es x))
           (λ r it. untouched es x r (λ same. let some : 0 < r.part = it.is_run in
           absurd (omega (arith, same, final, some)))
           it) runs h.each;
@@ -207,17 +197,16 @@ module _ {hash : HashKey} {es : List Entry} {n : ℕ} {runs : List OpenRun} (h :
       not_final : ◌≡◌ {A = ℕ} (cond (x.part == 0) 1 0) 0
       not_final = none_if x.part 0 (λ same. absurd (omega (arith, same, lt)))
 
-      pub run_more : (i : ℕ) (s : OpenRun) → IsRunAt runs x.part i → HasMore (get_or runs i s) (key_number hash x.key)
-          s →
-          AreListed hash (insert_entry es x) n (set runs i s)
+      pub run_more : (i : ℕ) (s : OpenRun) → IsRunAt runs x.part i → HasMore (get_or runs i s) s →
+          AreListed (insert_entry es x) n (set runs i s)
       run_more i s at more =
           let same : parts_of (set runs i s) ≡ parts_of runs = parts_set runs i s at.in_range more.part in
           record {
             counted = omega (arith, h.counted, count_inserted 0 es x, not_final);
-            each = replaced x.part (IsOpenRun hash es) (IsOpenRun hash (insert_entry es x)) (untouched es x) runs i s
+            each = replaced x.part (IsOpenRun es) (IsOpenRun (insert_entry es x)) (untouched es x) runs i s
                 h.rising at.in_range (at.here s)
                 (grown es x (get_or runs i s) s (at.here s) more
-                (AllByRecursion-at (IsOpenRun hash es) runs i s h.each at.in_range)) h.each;
+                (AllByRecursion-at (IsOpenRun es) runs i s h.each at.in_range)) h.each;
             every = subst (λ ps. AllByRecursion (λ (e : Entry). 0 < e.part → is_one_of ps e.part ≡ true)
                 (insert_entry es x)) (sym same)
                 (all_inserted (λ e. 0 < e.part → is_one_of (parts_of runs) e.part ≡ true) es x
@@ -226,8 +215,8 @@ module _ {hash : HashKey} {es : List Entry} {n : ℕ} {runs : List OpenRun} (h :
           }
 
       pub opened : (i : ℕ) (s : OpenRun) → IsGapAt runs x.part i → s.part ≡ x.part → s.left ≡ 1 →
-          has_bits s.filter (key_number hash x.key) ≡ true → AreListed hash (insert_entry es x) n (insert runs i s)
-      opened i s gap here one held =
+          AreListed (insert_entry es x) n (insert runs i s)
+      opened i s gap here one =
           let others = no_run_at_gap x.part runs i gap.below gap.above in
           let absent : AllByRecursion (λ (e : Entry). e.part ≢ x.part) es =
           AllByRecursion-map (λ e. 0 < e.part → is_one_of (parts_of runs) e.part ≡ true) (λ e. e.part ≢ x.part)
@@ -235,7 +224,7 @@ module _ {hash : HashKey} {es : List Entry} {n : ℕ} {runs : List OpenRun} (h :
           was (omega (arith, same, lt)))) es h.every in
           record {
             counted = omega (arith, h.counted, count_inserted 0 es x, not_final);
-            each = all_put (IsOpenRun hash (insert_entry es x)) runs i s
+            each = all_put (IsOpenRun (insert_entry es x)) runs i s
                 (record {
                   is_run = omega (arith, here, lt);
                   some = omega (arith, one);
@@ -244,13 +233,8 @@ module _ {hash : HashKey} {es : List Entry} {n : ℕ} {runs : List OpenRun} (h :
                       let now : ◌≡◌ {A = ℕ} 1 (left_in x.part (insert_entry es x)) =
                       omega (arith, none, count_inserted x.part es x, one_if x.part x.part refl) in
                       one ∙ now ∙ ap (λ (p : ℕ). left_in p (insert_entry es x)) (sym here);
-                  held = all_inserted (λ e. e.part ≡ s.part → has_bits s.filter (key_number hash e.key) ≡ true) es x
-                      (λ same. held)
-                      (AllByRecursion-map (λ e. e.part ≢ x.part) (λ e. e.part ≡ s.part →
-                      has_bits s.filter (key_number hash e.key) ≡ true)
-                      (λ e other same. absurd (other (same ∙ here))) es absent);
                 })
-                (moved x.part (IsOpenRun hash es) (IsOpenRun hash (insert_entry es x)) (untouched es x) runs others
+                (moved x.part (IsOpenRun es) (IsOpenRun (insert_entry es x)) (untouched es x) runs others
                 h.each);
             every = all_inserted (λ e. 0 < e.part → is_one_of (parts_of (insert runs i s)) e.part ≡ true) es x
                 (λ _. ap (is_one_of (parts_of (insert runs i s))) (sym here) ∙ put_one runs i s)
@@ -266,7 +250,7 @@ module _ {hash : HashKey} {es : List Entry} {n : ℕ} {runs : List OpenRun} (h :
 
 -- ---- an entry less
 
-module _ {hash : HashKey} {es : List Entry} {n : ℕ} {runs : List OpenRun} (h : AreListed hash es n runs) where
+module _ {es : List Entry} {n : ℕ} {runs : List OpenRun} (h : AreListed es n runs) where
   -- where an entry stands, the partition is counted
   pub some_left : (part : ℕ) (key : OrderedKey) → IsSome (find es part key) → 0 < left_in part es
   some_left part key stands = omega (arith, count_removed part part key es stands, one_if part part refl)
@@ -285,7 +269,7 @@ module _ {hash : HashKey} {es : List Entry} {n : ℕ} {runs : List OpenRun} (h :
           (cases_eq e.part part)
 
   module _ (part : ℕ) (key : OrderedKey) (stands : IsSome (find es part key)) where
-    left_alone : (r : OpenRun) → r.part ≢ part → IsOpenRun hash es r → IsOpenRun hash (remove_entry es part key) r
+    left_alone : (r : OpenRun) → r.part ≢ part → IsOpenRun es r → IsOpenRun (remove_entry es part key) r
     left_alone r other it = record {
       is_run = it.is_run;
       some = it.some;
@@ -295,17 +279,16 @@ module _ {hash : HashKey} {es : List Entry} {n : ℕ} {runs : List OpenRun} (h :
         count_removed r.part part key es stands,
         none_if part r.part (λ same. other (sym same)),
       );
-      held = all_removed (λ e. e.part ≡ r.part → has_bits r.filter (key_number hash e.key) ≡ true) part key es it.held;
     }
 
     every_left : AllByRecursion (λ (e : Entry). 0 < e.part → is_one_of (parts_of runs) e.part ≡ true)
         (remove_entry es part key)
     every_left = all_removed (λ e. 0 < e.part → is_one_of (parts_of runs) e.part ≡ true) part key es h.every
 
-    pub final_less : part ≡ 0 → AreListed hash (remove_entry es part key) (n - 1) runs
+    pub final_less : part ≡ 0 → AreListed (remove_entry es part key) (n - 1) runs
     final_less final = record {
       counted = omega (arith, h.counted, count_removed 0 part key es stands, one_if part 0 final);
-      each = AllByRecursion-map (IsOpenRun hash es) (IsOpenRun hash (remove_entry es part key))
+      each = AllByRecursion-map (IsOpenRun es) (IsOpenRun (remove_entry es part key))
           (λ r it. left_alone r (λ same. let some : 0 < r.part = it.is_run in absurd (omega (arith, same, final, some)))
           it) runs h.each;
       every = every_left;
@@ -323,15 +306,15 @@ module _ {hash : HashKey} {es : List Entry} {n : ℕ} {runs : List OpenRun} (h :
 
       -- the run has others left
       pub run_less : (s : OpenRun) → s.part ≡ (get_or runs i s).part → s.left + 1 ≡ (get_or runs i s).left →
-          s.filter ≡ (get_or runs i s).filter → 0 < s.left → AreListed hash (remove_entry es part key) n (set runs i s)
-      run_less s here less filter some =
-          let was = AllByRecursion-at (IsOpenRun hash es) runs i s h.each at.in_range in
+          0 < s.left → AreListed (remove_entry es part key) n (set runs i s)
+      run_less s here less some =
+          let was = AllByRecursion-at (IsOpenRun es) runs i s h.each at.in_range in
           let same : parts_of (set runs i s) ≡ parts_of runs = parts_set runs i s at.in_range here in
           let its : s.part ≡ part = here ∙ at.here s in
           let exact : (get_or runs i s).left ≡ left_in part es = was.exact ∙ ap (λ (p : ℕ). left_in p es) (at.here s) in
           record {
             counted = as_counted;
-            each = replaced part (IsOpenRun hash es) (IsOpenRun hash (remove_entry es part key)) left_alone runs i s
+            each = replaced part (IsOpenRun es) (IsOpenRun (remove_entry es part key)) left_alone runs i s
                 h.rising at.in_range (at.here s)
                 (record {
                   is_run = omega (arith, its, lt);
@@ -340,13 +323,6 @@ module _ {hash : HashKey} {es : List Entry} {n : ℕ} {runs : List OpenRun} (h :
                       let now : s.left ≡ left_in part (remove_entry es part key) =
                       omega (arith, less, exact, count_removed part part key es stands, one_if part part refl) in
                       now ∙ ap (λ (p : ℕ). left_in p (remove_entry es part key)) (sym its);
-                  held = all_removed (λ e. e.part ≡ s.part → has_bits s.filter (key_number hash e.key) ≡ true) part key
-                      es
-                      (AllByRecursion-map (λ e. e.part ≡ (get_or runs i s).part →
-                      has_bits (get_or runs i s).filter (key_number hash e.key) ≡ true)
-                      (λ e. e.part ≡ s.part → has_bits s.filter (key_number hash e.key) ≡ true)
-                      (λ e old now. ap (λ f. has_bits f (key_number hash e.key)) filter ∙ old (now ∙ here)) es
-                      was.held);
                 }) h.each;
             every = subst (λ ps. AllByRecursion (λ (e : Entry). 0 < e.part → is_one_of ps e.part ≡ true)
                 (remove_entry es part key)) (sym same) every_left;
@@ -354,16 +330,16 @@ module _ {hash : HashKey} {es : List Entry} {n : ℕ} {runs : List OpenRun} (h :
           }
 
       -- it was the last one
-      pub run_gone : (d : OpenRun) → (get_or runs i d).left ≤ 1 → AreListed hash (remove_entry es part key) n
+      pub run_gone : (d : OpenRun) → (get_or runs i d).left ≤ 1 → AreListed (remove_entry es part key) n
           (remove runs i)
       run_gone d last =
-          let was = AllByRecursion-at (IsOpenRun hash es) runs i d h.each at.in_range in
+          let was = AllByRecursion-at (IsOpenRun es) runs i d h.each at.in_range in
           let exact : (get_or runs i d).left ≡ left_in part es = was.exact ∙ ap (λ (p : ℕ). left_in p es) (at.here d) in
           let none : left_in part (remove_entry es part key) ≡ 0 =
           omega (arith, last, exact, count_removed part part key es stands, one_if part part refl) in
           record {
             counted = as_counted;
-            each = taken_out part (IsOpenRun hash es) (IsOpenRun hash (remove_entry es part key)) left_alone runs i d
+            each = taken_out part (IsOpenRun es) (IsOpenRun (remove_entry es part key)) left_alone runs i d
                 h.rising at.in_range (at.here d) h.each;
             every = all_both (remove_entry es part key) every_left (none_left part (remove_entry es part key) none) d;
             rising = rises_out runs i h.rising;
@@ -382,38 +358,37 @@ module _ {hash : HashKey} {es : List Entry} {n : ℕ} {runs : List OpenRun} (h :
 
 -- ---- other changes
 
-pub listed_set : {hash : HashKey} {es : List Entry} {n : ℕ} {runs : List OpenRun} (part : ℕ) (key : OrderedKey)
-    (value : List ℕ) (is_ghost : Bool) → AreListed hash es n runs →
-    AreListed hash (set_entry es part key value is_ghost)
+pub listed_set : {es : List Entry} {n : ℕ} {runs : List OpenRun} (part : ℕ) (key : OrderedKey)
+    (value : List ℕ) (is_ghost : Bool) → AreListed es n runs →
+    AreListed (set_entry es part key value is_ghost)
     n runs
-listed_set {hash} {es} {n} {runs} part key value is_ghost h = record {
+listed_set {es} {n} {runs} part key value is_ghost h = record {
   counted = h.counted ∙ sym (count_set 0 part key value is_ghost es);
-  each = AllByRecursion-map (IsOpenRun hash es) (IsOpenRun hash (set_entry es part key value is_ghost))
+  each = AllByRecursion-map (IsOpenRun es) (IsOpenRun (set_entry es part key value is_ghost))
       (λ r it. record {
         is_run = it.is_run;
         some = it.some;
         exact = it.exact ∙ sym (count_set r.part part key value is_ghost es);
-        held = all_set (λ p k. p ≡ r.part → has_bits r.filter (key_number hash k) ≡ true) part key value is_ghost es
-            it.held;
       }) runs h.each;
   every = all_set (λ p k. 0 < p → is_one_of (parts_of runs) p ≡ true) part key value is_ghost es h.every;
   rising = h.rising;
 }
 
 -- a run more behind all others
-module _ {hash : HashKey} {es : List Entry} {n : ℕ} {runs : List OpenRun} (h : AreListed hash es n runs) (part : ℕ)
-    (rs : Records) (nxt : IsNext es part rs) (s : OpenRun) (it : IsOpenRunOf part (numbers_of hash rs) s) where
+module _ {es : List Entry} {n : ℕ} {runs : List OpenRun} (h : AreListed es n runs) (part : ℕ)
+    (rs : Records) (nxt : IsNext es part rs) (s : OpenRun) (at : s.part ≡ part)
+    (many : s.left ≡ length rs) where
   none_above : (p : ℕ) (fs : List Entry) → part ≤ p → AllByRecursion (λ (e : Entry). e.part < part) fs →
       left_in p fs ≡ 0
   none_above p fs le above = none_counted p fs (AllByRecursion-map (λ e. e.part < part) (λ e. e.part ≢ p)
       (λ e lt same. absurd (omega (arith, lt, same, le))) fs above)
 
-  below : (r : OpenRun) → IsOpenRun hash es r → r.part < part
+  below : (r : OpenRun) → IsOpenRun es r → r.part < part
   below r was =
       ⊎_elim (λ (lt : r.part < part). lt) (λ (le : part ≤ r.part). absurd
       (omega (arith, was.some, was.exact, none_above r.part es le nxt.above))) (cases_lt r.part part)
 
-  after_others : (r : OpenRun) → IsOpenRun hash es r → IsOpenRun hash (es ++ run_entries part rs) r
+  after_others : (r : OpenRun) → IsOpenRun es r → IsOpenRun (es ++ run_entries part rs) r
   after_others r was =
       let lt = below r was in
       let other : part ≢ r.part = λ same. absurd (omega (arith, same, lt)) in
@@ -426,45 +401,23 @@ module _ {hash : HashKey} {es : List Entry} {n : ℕ} {runs : List OpenRun} (h :
           count_append r.part es (run_entries part rs),
           none_in_run r.part part rs other,
         );
-        held = AllByRecursion-append (λ e. e.part ≡ r.part → has_bits r.filter (key_number hash e.key) ≡ true) es
-            (run_entries part rs) was.held (apart rs);
       }
-    where
-      apart : (qs : Records) → AllByRecursion (λ (e : Entry). e.part ≡ r.part →
-          has_bits r.filter (key_number hash e.key) ≡ true) (run_entries part qs)
-      apart [] = tt
-      apart (q ∷ qs) = let lt = below r was in ((λ same. absurd (omega (arith, same, lt))), apart qs)
 
-  as_many : length (numbers_of hash rs) ≡ length rs
-  as_many = length-map rs _
-
-  new_run : IsOpenRun hash (es ++ run_entries part rs) s
+  new_run : IsOpenRun (es ++ run_entries part rs) s
   new_run = record {
-    is_run = omega (arith, it.at, nxt.is_run);
-    some = omega (arith, it.left, as_many, nxt.some);
+    is_run = omega (arith, at, nxt.is_run);
+    some = omega (arith, many, nxt.some);
     exact =
         let now : s.left ≡ left_in part (es ++ run_entries part rs) =
         omega (
           arith,
-          it.left,
-          as_many,
+          many,
           count_append part es (run_entries part rs),
           count_run part part rs refl,
           none_above part es (omega arith) nxt.above,
         ) in
-        now ∙ ap (λ (p : ℕ). left_in p (es ++ run_entries part rs)) (sym it.at);
-    held = AllByRecursion-append (λ e. e.part ≡ s.part → has_bits s.filter (key_number hash e.key) ≡ true) es
-        (run_entries part rs)
-        (AllByRecursion-map (λ e. e.part < part) (λ e. e.part ≡ s.part → has_bits s.filter (key_number hash e.key) ≡
-        true) (λ e lt same. absurd (omega (arith, lt, same, it.at))) es nxt.above)
-        (in_run rs it.held);
+        now ∙ ap (λ (p : ℕ). left_in p (es ++ run_entries part rs)) (sym at);
   }
-    where
-      in_run : (qs : Records) → AllByRecursion (λ (n : ℕ). has_bits s.filter n ≡ true) (numbers_of hash qs) →
-          AllByRecursion (λ (e : Entry). e.part ≡ s.part → has_bits s.filter (key_number hash e.key) ≡ true)
-          (run_entries part qs)
-      in_run [] held = tt
-      in_run (q ∷ qs) held = ((λ same. held.0), in_run qs held.1)
 
   -- the run at the end
   one_behind : (p : ℕ) (qs : List OpenRun) → is_one_of (parts_of qs) p ≡ true → is_one_of (parts_of (qs ++ s ∷ [])) p ≡
@@ -477,20 +430,20 @@ module _ {hash : HashKey} {es : List Entry} {n : ℕ} {runs : List OpenRun} (h :
       (or_cases (q.part == p) (is_one_of (parts_of qs) p) one)
 
   last_one : (qs : List OpenRun) → is_one_of (parts_of (qs ++ s ∷ [])) part ≡ true
-  last_one [] = or_left (s.part == part) false (eq-eqb s.part part it.at)
+  last_one [] = or_left (s.part == part) false (eq-eqb s.part part at)
   last_one (q ∷ qs) = or_right (q.part == part) (is_one_of (parts_of (qs ++ s ∷ [])) part) (last_one qs)
 
   up_behind : (p : ℕ) (qs : List OpenRun) → p < part → AllByRecursion (λ q. p < q) (parts_of qs) →
       AllByRecursion (λ q. p < q) (parts_of (qs ++ s ∷ []))
-  up_behind p [] lt a = (omega (arith, lt, it.at), tt)
+  up_behind p [] lt a = (omega (arith, lt, at), tt)
   up_behind p (q ∷ qs) lt a = (a.0, up_behind p qs lt a.1)
 
-  rises_behind : (qs : List OpenRun) → AllByRecursion (IsOpenRun hash es) qs → PartsRise (parts_of qs) →
+  rises_behind : (qs : List OpenRun) → AllByRecursion (IsOpenRun es) qs → PartsRise (parts_of qs) →
       PartsRise (parts_of (qs ++ s ∷ []))
   rises_behind [] each up = (tt, tt)
   rises_behind (q ∷ qs) each up = (up_behind q.part qs (below q each.0) up.0, rises_behind qs each.1 up.1)
 
-  pub appended : AreListed hash (es ++ run_entries part rs) n (runs ++ s ∷ [])
+  pub appended : AreListed (es ++ run_entries part rs) n (runs ++ s ∷ [])
   appended = record {
     counted = omega (
       arith,
@@ -498,8 +451,8 @@ module _ {hash : HashKey} {es : List Entry} {n : ℕ} {runs : List OpenRun} (h :
       count_append 0 es (run_entries part rs),
       none_in_run 0 part rs (λ same. absurd (omega (arith, same, nxt.is_run))),
     );
-    each = AllByRecursion-append (IsOpenRun hash (es ++ run_entries part rs)) runs (s ∷ [])
-        (AllByRecursion-map (IsOpenRun hash es) (IsOpenRun hash (es ++ run_entries part rs)) after_others runs h.each)
+    each = AllByRecursion-append (IsOpenRun (es ++ run_entries part rs)) runs (s ∷ [])
+        (AllByRecursion-map (IsOpenRun es) (IsOpenRun (es ++ run_entries part rs)) after_others runs h.each)
         (new_run, tt);
     every = AllByRecursion-append (λ e. 0 < e.part → is_one_of (parts_of (runs ++ s ∷ [])) e.part ≡ true) es
         (run_entries part rs)
@@ -514,3 +467,19 @@ module _ {hash : HashKey} {es : List Entry} {n : ℕ} {runs : List OpenRun} (h :
           e.part ≡ true) (run_entries part qs)
       in_last [] = tt
       in_last (q ∷ qs) = ((λ some. last_one runs), in_last qs)
+
+-- the runs that are listed are those in which entries stand
+pub has_runs : {es : List Entry} {n : ℕ} {runs : List OpenRun} (h : AreListed es n runs) (number : ℕ) →
+    number ≡ length runs → HasRuns es number
+has_runs {es} {n} {runs} h number same = record {
+  runs = parts_of runs;
+  rising = h.rising;
+  each = parts_left runs h.each;
+  every = h.every;
+  number = same ∙ sym (length-map runs (λ (r : OpenRun). r.part));
+}
+  where
+    parts_left : (rs : List OpenRun) → AllByRecursion (IsOpenRun es) rs →
+        AllByRecursion (λ part. (0 < part) × (0 < left_in part es)) (parts_of rs)
+    parts_left [] a = tt
+    parts_left (r ∷ rs) a = let it = a.0 in ((it.is_run, omega (arith, it.exact, it.some)), parts_left rs a.1)

@@ -1,13 +1,14 @@
 -- What two tests of one list find, and the entry behind a slot.
-use Rattle.std.proofs.Common.{◌≡◌, List, [], ◌∷◌, Bool, true, false, Option, Some, None, refl, sym, ◌∙◌, subst, ◌⊎◌}
+use Rattle.std.proofs.Common.{◌≡◌, List, [], ◌∷◌, Bool, true, false, Option, Some, None, refl, sym, ap, ◌∙◌, subst, ◌⊎◌}
 use Rattle.std.proofs.Common.{inl, inr, ⊎_elim}
 use Rattle.std.proofs.lemmas.Bool.{cases_Bool, cond-true, cond-false, both_ways}
 use Rattle.std.proofs.lemmas.Option.{none-some, same_Some}
 use Rattle.std.specs.declared.cmp.Ordering.TheVariants.{Less}
 use Rattle.am_record.specs.EntryOrder.{place_of, place_cmp}
 use Rattle.am_record.specs.declared.entry.Entry.{Entry}
-use Rattle.am_list.specs.Entries.{Slot, slot_of, first_such, IsRising}
-use Rattle.am_list.proofs.Edits.{first_such_all}
+use Rattle.am_list.specs.Entries.{Slot, slot_of, find, entry_at, first_such, IsRising}
+use Rattle.am_list.proofs.EditLaws.{same_entry}
+use Rattle.am_list.proofs.Edits.{first_such_all, entry_at_place}
 
 -- ---- two tests of one list
 
@@ -58,3 +59,10 @@ pub entry_of : (o : Option Entry) (s : Slot) →
     (slot_of x ≡ s)
 entry_of None s h = absurd (none-some s h)
 entry_of (Some x) s h = (x, refl, same_Some _ _ h)
+
+-- what stands at an entry's place with its value and mark is the entry
+pub entry_there : (es : List Entry) (e : Entry) → find es e.part e.key ≡ Some (slot_of e) → entry_at es e.part e.key ≡
+    Some e
+entry_there es e stands =
+    let it = entry_of (entry_at es e.part e.key) (slot_of e) stands in
+    it.1 ∙ ap Some (same_entry it.0 e (entry_at_place es e.part e.key it.0 it.1) it.2)

@@ -1,4 +1,5 @@
 pub mod Catalogs
-pub mod Generations
+pub mod Figures
 pub mod Merged
 pub mod Partitions
+pub mod Residences

@@ -2,9 +2,10 @@
 #![tactic(auto)]
 
 mod catalog;
-mod generations;
+mod figures;
 mod merged;
-mod numbers;
 mod parts;
+mod residences;
 
+pub use figures::Figures;
 pub use parts::{Parts, Vacancy};

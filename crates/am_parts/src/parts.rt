@@ -14,8 +14,10 @@ ghost use Rattle.am_parts.specs.Merged.{HasNoneBefore};
 ghost use Rattle.am_parts.specs.Partitions.{settled, vacancy_over};
 
 use crate::catalog::Catalog;
+use crate::figures::Figures;
 use crate::merged::MergedRanges;
-use crate::numbers::numbers_of;
+use crate::residences::Residences;
+use am_directory::Residence;
 use am_list::{Batch, PartIndex};
 use am_record::{Entry, HashKey, Key, NoMemory, Range, Value};
 use std::alloc::Global;
@@ -38,11 +40,9 @@ pub enum Vacancy {
 pub struct Parts<I: PartIndex + Drop> {
     index: I,
     catalog: Catalog,
+    residences: Residences,
     merged: MergedRanges,
     runs: u32,
-    // What keys have their numbers by, which filters know them by. No answer depends on it.
-    hash: HashKey,
-    alloc: Global,
 }
 
 impl<I: PartIndex + Drop> Model for Parts<I> {
@@ -50,6 +50,7 @@ impl<I: PartIndex + Drop> Model for Parts<I> {
     ghost use Rattle.am_parts.specs.Catalogs.{IsCatalog};
     ghost use Rattle.am_parts.specs.Merged.{AreMerged};
     ghost use Rattle.am_parts.specs.Partitions.{Partitions, partitions_code, AreWellFormed};
+    ghost use Rattle.am_parts.specs.Residences.{AreResidences};
 
     ghost Value = { Partitions };
 
@@ -58,17 +59,18 @@ impl<I: PartIndex + Drop> Model for Parts<I> {
     ghost view = { λ p. record { entries = I.entries p.index; runs = p.runs } };
 
     ghost invariant = { λ p. AreWellFormed (I.entries p.index) × (p.runs ≤ 65535) ×
-        IsCatalog p.hash (I.entries p.index) p.catalog ×
+        IsCatalog (I.entries p.index) p.catalog × AreResidences (I.entries p.index) p.residences ×
         AreMerged (I.entries p.index) p.runs p.merged.list.items };
 }
 
 impl<I: PartIndex + Drop> Parts<I> {
     ghost use Rattle.am_parts.specs.Partitions.{AreWellFormed, AreEmpty, AreEmptyFrom, LivesIn, LivesInNoRun};
+    ghost use Rattle.am_parts.specs.Figures.{AreFigures};
     ghost use Rattle.am_parts.specs.Partitions.{LivesNowhereElse, IsLiveEntry, IsVacancy, content_with};
     ghost use Rattle.am_parts.specs.Partitions.{content_without, content_set, brought_home};
 
-    /// The partitions of an empty index. By the hash key the filters know the keys: whoever doesn't know it can't
-    /// choose keys that they don't tell apart.
+    /// The partitions of an empty index. By the hash key the keys of runs have their numbers: whoever doesn't know it
+    /// can't choose keys that have one number.
     pub fn new(alloc: Global, index: I, hash: HashKey) -> Parts<I>
         requires { I.entries index ≡ [] }
         ensures entries { result.entries ≡ [] }
@@ -77,10 +79,9 @@ impl<I: PartIndex + Drop> Parts<I> {
         Parts {
             index,
             catalog: Catalog::new(alloc),
+            residences: Residences::new(alloc, hash),
             merged: MergedRanges::new(alloc),
             runs: 0,
-            hash,
-            alloc,
         }
     }
 
@@ -196,7 +197,15 @@ impl<I: PartIndex + Drop> Parts<I> {
         Some(self.live_entry(key)?.part)
     }
 
-    /// The entry that has the key live. Runs whose filters rule the key out aren't searched.
+    /// How many entries there are. The index isn't searched.
+    pub fn figures(&self) -> Figures
+        ensures counted { AreFigures self.now.entries result }
+        ensures sound { AreWellFormed self.now.entries }
+    {
+        self.catalog.figures()
+    }
+
+    /// The entry that has the key live. Of the runs that one alone is searched in which the key may be live.
     pub fn live_entry(&self, key: Key) -> Option<Entry>
         ensures live { IfSome result (λ e. IsLiveEntry self.now.entries key e) }
         ensures absent { IfNone result (get (content self.now.entries) key ≡ None) }
@@ -215,14 +224,23 @@ impl<I: PartIndex + Drop> Parts<I> {
         ensures absent { IfNone result (LivesInNoRun self.now.entries key) }
         ensures sound { AreWellFormed self.now.entries }
     {
-        let number = key.number(self.hash);
-        let mut from = 1;
-        while let Some(part) = self.catalog.next_place(from, number) {
-            let slot = self.index.find(part, key);
-            if let Some(entry) = live_at(part, key, slot) {
-                return Some(entry);
+        match self.residences.of(key) {
+            Residence::Nowhere => None,
+            Residence::In(run) => live_at(run, key, self.index.find(run, key)),
+            Residence::Unknown => self.live_in_any_run(key),
+        }
+    }
+
+    // The same, where the runs are searched one after another.
+    fn live_in_any_run(&self, key: Key) -> Option<Entry>
+        ensures live { IfSome result (λ e. IsLiveEntry self.now.entries key e) }
+        ensures absent { IfNone result (LivesInNoRun self.now.entries key) }
+    {
+        for run in self.catalog.runs() {
+            let found = live_at(run.part, key, self.index.find(run.part, key));
+            if found.is_some() {
+                return found;
             }
-            from = u64::from(part) + 1;
         }
         None
     }
@@ -254,9 +272,12 @@ impl<I: PartIndex + Drop> Parts<I> {
     {
         // Read here, the number is known to fit its type.
         prove!(entry.part <= u32::MAX);
-        self.catalog.add(entry.part, entry.key.number(self.hash))?;
+        self.residences.make_room(entry.part, 1)?;
+        self.catalog.add(entry.part, entry.is_ghost)?;
         self.merged.add(entry.part);
-        insert_or_forget(self.hash, &mut self.index, &mut self.catalog, entry)
+        insert_or_forget(&mut self.index, &mut self.catalog, entry)?;
+        self.residences.add(&entry);
+        Ok(())
     }
 
     /// Writes over the value of an entry, and whether it is a ghost. The caller sees to it that it is there, and
@@ -268,7 +289,9 @@ impl<I: PartIndex + Drop> Parts<I> {
         ensures content { HasContent self.new.entries (content_set self.old.entries part key value is_ghost) }
         ensures runs { self.new.runs ≡ self.old.runs }
     {
-        self.index.set(part, key, value, is_ghost);
+        let was_live = self.index.set(part, key, value, is_ghost);
+        self.catalog.mark(was_live, is_ghost);
+        self.residences.set(part, key, was_live, is_ghost);
     }
 
     /// Takes an entry out. The caller sees to it that it is there. Takes no memory.
@@ -279,8 +302,10 @@ impl<I: PartIndex + Drop> Parts<I> {
         ensures content { HasContent self.new.entries (content_without self.old.entries part key) }
         ensures runs { self.new.runs ≡ self.old.runs }
     {
-        self.catalog.take(part);
-        self.index.remove(part, key)
+        let entry = self.index.remove(part, key);
+        self.catalog.take(part, !entry.is_ghost);
+        self.residences.take(&entry);
+        entry
     }
 
     /// Brings a live entry of a run home: it goes to the final partition, over a ghost that stands there. The caller
@@ -299,9 +324,10 @@ impl<I: PartIndex + Drop> Parts<I> {
         ensures place { OnErr result (find self.old.entries 0 entry.now.key ≡ None) }
         ensures runs { self.new.runs ≡ self.old.runs }
     {
-        settle(self.hash, &mut self.index, &mut self.catalog, entry)?;
-        self.catalog.take(entry.part);
+        settle(&mut self.index, &mut self.catalog, entry)?;
+        self.catalog.take(entry.part, true);
         self.index.remove(entry.part, entry.key);
+        self.residences.take(entry);
         Ok(())
     }
 
@@ -352,10 +378,11 @@ impl<I: PartIndex + Drop> Parts<I> {
     {
         let part = self.runs + 1;
         self.merged.reserve()?;
-        let numbers = numbers_of(self.alloc, self.hash, pairs)?;
-        let run = self.catalog.make_room(part, &numbers)?;
+        self.catalog.make_room(pairs.len())?;
+        self.residences.make_room(part, pairs.len())?;
         self.index.append_run(part, pairs)?;
-        self.catalog.push(run, &numbers);
+        self.catalog.push(part, pairs.len());
+        self.residences.push(part, pairs);
         self.runs = part;
         Ok(())
     }
@@ -363,50 +390,50 @@ impl<I: PartIndex + Drop> Parts<I> {
 
 // Adds an entry that is counted, or counts it as gone where memory is refused.
 fn insert_or_forget<I: PartIndex + Drop>(
-    hash: HashKey,
     index: &mut I,
     catalog: &mut Catalog,
     entry: Entry,
 ) -> Result<(), NoMemory>
     requires absent { find (I.entries index.old) entry.part entry.key ≡ None }
-    requires counted { IsCatalog hash (insert_entry (I.entries index.old) entry) catalog.old }
+    requires counted { IsCatalog (insert_entry (I.entries index.old) entry) catalog.old }
     ensures ok { OnOk result (I.entries index.new ≡ insert_entry (I.entries index.old) entry) }
     ensures err { OnErr result (I.entries index.new ≡ I.entries index.old) }
-    ensures catalog { IsCatalog hash (I.entries index.new) catalog.new }
+    ensures catalog { IsCatalog (I.entries index.new) catalog.new }
 {
     let part = entry.part;
+    let is_live = !entry.is_ghost;
     let added = index.insert(entry);
     if added.is_err() {
-        catalog.take(part);
+        catalog.take(part, is_live);
     }
     added
 }
 
 // Lets a live entry of a run stand in the final partition too, over a ghost there.
 fn settle<I: PartIndex + Drop>(
-    hash: HashKey,
     index: &mut I,
     catalog: &mut Catalog,
     entry: &Entry,
 ) -> Result<(), NoMemory>
-    requires counted { IsCatalog hash (I.entries index.old) catalog.old }
+    requires counted { IsCatalog (I.entries index.old) catalog.old }
     ensures ok { OnOk result (I.entries index.new ≡ settled entry.now (I.entries index.old)) }
     ensures err { OnErr result (I.entries index.new ≡ I.entries index.old) }
     ensures place { OnErr result (find (I.entries index.old) 0 entry.now.key ≡ None) }
     ensures rising { IsRising (I.entries index.old) }
-    ensures catalog { IsCatalog hash (I.entries index.new) catalog.new }
+    ensures catalog { IsCatalog (I.entries index.new) catalog.new }
 {
     if index.find(0, entry.key).is_some() {
-        index.set(0, entry.key, entry.value, false);
+        let was_live = index.set(0, entry.key, entry.value, false);
+        catalog.mark(was_live, false);
         return Ok(());
     }
-    catalog.add(0, entry.key.number(hash))?;
+    catalog.add(0, false)?;
     let settled = Entry {
         part: 0,
         is_ghost: false,
         ..*entry
     };
-    insert_or_forget(hash, index, catalog, settled)
+    insert_or_forget(index, catalog, settled)
 }
 
 // Whether what stands at a place is live.

@@ -1,10 +1,11 @@
-use Rattle.std.proofs.Common.{◌≡◌, ◌<◌, length, sym, ap, ◌∙◌, subst, rules, arith}
-use Rattle.am_list.specs.Entries.{find, set_entry}
+use Rattle.std.proofs.Common.{◌≡◌, ◌<◌, Option, length, sym, ap, ◌∙◌, subst, rules, arith}
+use Rattle.am_list.specs.Entries.{Slot, find, set_entry}
+use Rattle.am_list.specs.Content.{live_value}
 use Rattle.am_btree.specs.Separators.{SeparatorsRise, IsChildFor}
 use Rattle.am_btree.specs.Shape.{Shape}
 use Rattle.am_btree.specs.Nodes.{shape_of, depth_of, IsTree, inner_shape, leaf_shape}
 use Rattle.am_btree.proofs.Inner.{as_many, they_rise, some_separators, one_below}
-use Rattle.std.specs.Prelude.{IsSome}
+use Rattle.std.specs.Prelude.{IsSome, is_some}
 use Rattle.am_record.proofs.Lists.{AllByRecursion-at}
 use Rattle.am_btree.proofs.Children.{find_in_child}
 use Rattle.am_btree.proofs.Editing.{writing, written_long, kept_inner, kept_entries, kept_depth}
@@ -134,4 +135,23 @@ returns-clause-depth t c = elim c.match-self.branch [
       rw w.self-inside-is (kept_depth part key (λ es. set_entry es part key c.args.value c.args.is_ghost) is
       (depth_of ks) ls ks at k k' inner.children child here e.depth e.entries ∙
       sym (ap (λ (s : Shape). s.depth) seen))
+]
+
+pub returns-clause-was_live : goal.returns-clause-was_live
+returns-clause-was_live t c = elim c.match-self.branch [
+  | in-Leaf w ↦
+      let seen : c.args.self.now ≡ leaf_shape w.in-Leaf.leaf.entries = sym c.self.view_is ∙ ap shape_of w.in-Leaf.is in
+      w.result-is ∙ w.set_in_leaf.ensures.was_live ∙
+      sym (ap (λ (s : Shape). is_some (live_value (find s.entries c.args.part c.args.key))) seen)
+  | in-Inner w ↦
+      let ls = w.in-Inner.separators.items in let ks = w.in-Inner.children.items in let at = w.child_for-at.result in
+      let part = c.args.part in let key = c.args.key in
+      let inner = subst IsTree w.in-Inner.is c.self.invariant in
+      let seen : c.args.self.now ≡ inner_shape ks = sym c.self.view_is ∙ ap shape_of w.in-Inner.is in
+      let child = subst (λ ms. IsChildFor ms part key at) w.deref.ensures.value w.child_for-at.ensures in
+      let k = w.index_mut.result.now in
+      w.result-is ∙ w.set.ensures.was_live ∙
+      sym (ap (λ (o : Option Slot). is_some (live_value o))
+      (ap (λ (s : Shape). find s.entries part key) seen ∙
+      find_in_child part key ls ks at k inner.children.parted child w.index_mut.ensures.value))
 ]

@@ -1,7 +1,10 @@
-use Rattle.std.proofs.Common.{ap, ◌∙◌}
+use Rattle.std.proofs.Common.{get_or, Option, sym, ap, ◌∙◌}
+use Rattle.std.specs.Prelude.{is_some}
+use Rattle.am_list.specs.Content.{live_value}
 use mathlib.Core.Bool.{false≢true}
-use Rattle.am_list.specs.Entries.{set_entry}
-use Rattle.am_list.proofs.Searches.{find_absent, set_found, rising_set_found}
+use Rattle.am_list.specs.Entries.{Slot, set_entry}
+use Rattle.am_list.proofs.Content.{slot_live}
+use Rattle.am_list.proofs.Searches.{find_absent, find_found, set_found, rising_set_found}
 use Rattle.am_list_index.proofs.list_index.ListIndexPartIndex.set.Goals as goal
 
 pub unreachable-requires : goal.unreachable-requires
@@ -11,7 +14,14 @@ pub invariant_of-self : goal.invariant_of-self
 invariant_of-self c = rising_set_found c.self.inside.items.items c.args.part c.args.key c.in-Ok.at c.self.invariant
     (rw c.self.view_is c.in-Ok.ensures.found) _ c.index_mut-e.ensures.value _ _
 
-pub returns : goal.returns
-returns c = set_found c.self.inside.items.items c.args.part c.args.key c.in-Ok.at
+pub returns-clause-was_live : goal.returns-clause-was_live
+returns-clause-was_live c =
+    let e = c.index.result.now in
+    sym (slot_live e) ∙ ap (λ (o : Option Slot). is_some (live_value o))
+    (sym (find_found c.args.self.now c.args.part c.args.key c.in-Ok.at c.in-Ok.ensures.found e
+    (c.index.ensures ∙ ap (λ es. get_or es c.in-Ok.at e) c.self.view_is)))
+
+pub returns-clause-set : goal.returns-clause-set
+returns-clause-set c = set_found c.self.inside.items.items c.args.part c.args.key c.in-Ok.at
     (rw c.self.view_is c.in-Ok.ensures.found) _ c.index_mut-e.ensures.value _ _ ∙
     ap (λ es. set_entry es c.args.part c.args.key c.args.value c.args.is_ghost) c.self.view_is

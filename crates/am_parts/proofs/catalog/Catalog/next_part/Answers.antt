@@ -2,7 +2,6 @@ use Rattle.std.proofs.Common.{◌≡◌, ◌<◌, ◌≤◌, List, IfNone, take,
 use Rattle.std.specs.List.{AllByRecursion}
 use Rattle.am_parts.specs.declared.catalog.OpenRun.{OpenRun}
 use Rattle.am_record.specs.declared.entry.Entry.{Entry}
-use Rattle.am_record.specs.declared.hash_key.HashKey.{HashKey}
 use Rattle.am_parts.specs.Catalogs.{IsCatalog}
 use Rattle.am_parts.specs.Partitions.{AreEmptyFrom}
 use Rattle.am_parts.proofs.Finding.{empty_up_to, empty_from}
@@ -21,12 +20,12 @@ returns-in_err-get-clause-none c =
     c.deref.ensures.value (subst (λ n. AllByRecursion (λ (r : OpenRun). r.part < n) (take at c.deref.result.now))
     c.from.ensures c.count_below-at.ensures.below) in
     let past = subst (λ (l : List OpenRun). length l ≤ at) c.deref-2.ensures.value c.in_err-get.ensures.lookup.3 in
-    subst (λ o. IfNone o ((hash : HashKey) (es : List Entry) → IsCatalog hash es c.args.self.now →
+    subst (λ o. IfNone o ((es : List Entry) → IsCatalog es c.args.self.now →
     AreEmptyFrom es c.args.from)) (sym c.from_residual.ensures)
-    (λ hash es whole. empty_from whole.counted c.args.from at final below past)
+    (λ es whole. empty_from whole.counted c.args.from at final below past)
 
 pub returns-clause-passed : goal.returns-clause-passed
-returns-clause-passed c = λ hash es whole.
+returns-clause-passed c = λ es whole.
     let runs = c.args.self.now.runs.items in let at = c.count_below-at.result in
     let final : c.args.from ≡ 0 → c.args.self.now.in_final ≡ 0 = λ zero. elim c.else-from-eq0.branch [
       | else-from-eq0-via-then-from-eq0+else-has_final w ↦ w.has_final.ensures w.if-has_final.false

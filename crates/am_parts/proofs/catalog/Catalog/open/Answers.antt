@@ -1,13 +1,11 @@
-use Rattle.std.proofs.Common.{◌<◌, ℕ, sym, ap, ◌∙◌, subst, refl}
-use Rattle.am_filter.specs.Filters.{has_bits}
+use Rattle.std.proofs.Common.{◌<◌, ℕ, sym, subst, refl}
 use Rattle.am_parts.specs.Catalogs.{AreListed, IsGapAt}
 use Rattle.am_parts.proofs.Listed.{opened}
 use Rattle.am_parts.proofs.catalog.Catalog.open.Goals as goal
 
 pub returns-clause-ok : goal.returns-clause-ok
-returns-clause-ok c = λ hash es x p k h.
+returns-clause-ok c = λ es x p h.
     let gap = subst (λ (q : ℕ). IsGapAt c.args.self.now.runs.items q c.args.at) (sym p) c.requires.gap in
-    subst (AreListed hash _ _) (sym c.in_ok-insert.ensures.items)
+    subst (AreListed _ _) (sym c.in_ok-insert.ensures.items)
     (opened h x (subst (λ (q : ℕ). 0 < q) (sym p) c.requires.is_run) c.args.at
-    (record { part = c.args.part; left = 1; filter = c.add.new.self }) gap (sym p) refl
-    (ap (has_bits c.add.new.self) (sym k) ∙ c.add.ensures.added))
+    (record { part = c.args.part; left = 1 }) gap (sym p) refl)

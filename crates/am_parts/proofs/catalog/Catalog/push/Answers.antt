@@ -1,14 +1,22 @@
-use Rattle.std.proofs.Common.{◌++◌, ℕ, List, sym, subst}
+use Rattle.std.proofs.Common.{sym, subst, refl, arith}
 use Rattle.am_list.specs.Runs.{run_entries}
-use Rattle.am_parts.specs.Catalogs.{AreListed, IsOpenRunOf}
-use Rattle.am_parts.specs.Generations.{AreHeld}
+use Rattle.am_parts.specs.Catalogs.{AreListed}
+use Rattle.am_parts.proofs.Alive.{length_append, length_run, live_append, live_run}
 use Rattle.am_parts.proofs.Listed.{appended}
 use Rattle.am_parts.proofs.catalog.Catalog.push.Goals as goal
 
 pub returns : goal.returns
-returns c = λ hash es part rs same whole nxt it. record {
-  counted = subst (AreListed hash _ _) (sym c.in-Ok.ensures.items)
-      (appended whole.counted part rs nxt c.args.run (subst (λ (ns : List ℕ). IsOpenRunOf part ns c.args.run) same it));
-  held = subst (λ (p : ℕ). AreHeld hash (es ++ run_entries p rs) c.push.new.self.list.items) it.at
-      (c.push.ensures hash es rs same whole.held);
+returns c = λ es rs many whole nxt. record {
+  counted = subst (AreListed _ _) (sym c.in-Ok.ensures.items)
+      (appended whole.counted c.args.part rs nxt (record { part = c.args.part; left = c.args.entries }) refl many);
+  all = record {
+    entries = omega (
+      arith,
+      many,
+      whole.all.entries,
+      length_append es (run_entries c.args.part rs),
+      length_run c.args.part rs,
+    );
+    live = omega (arith, many, whole.all.live, live_append es (run_entries c.args.part rs), live_run c.args.part rs);
+  };
 }

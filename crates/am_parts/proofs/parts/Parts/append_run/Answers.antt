@@ -1,14 +1,15 @@
-use Rattle.std.proofs.Common.{◌≡◌, ℕ, ◌+◌, ◌≤◌, ◌++◌, None, List, sym, ap, ◌∙◌, subst, arith}
+use Rattle.std.proofs.Common.{◌≡◌, ◌+◌, ◌≤◌, ◌++◌, None, List, refl, sym, ap, ◌∙◌, subst, arith}
 use Rattle.std.specs.List.{AllByRecursion}
 use Rattle.std.specs.FinMap.{get}
 use Rattle.am_record.specs.Plain.{insert_all}
 use Rattle.am_record.specs.declared.entry.Entry.{Entry}
 use Rattle.am_list.specs.Content.{content, HasContent}
 use Rattle.am_list.specs.Runs.{run_entries}
-use Rattle.am_parts.specs.Catalogs.{IsCatalog, IsOpenRunOf}
+use Rattle.am_parts.specs.Catalogs.{IsCatalog}
 use Rattle.am_parts.specs.Merged.{AreMerged}
 use Rattle.am_parts.specs.Partitions.{Partitions, AreWellFormed}
-use Rattle.am_parts.proofs.Appending.{is_next, under_next, next_rises, next_content, next_sound}
+use Rattle.am_parts.specs.Residences.{AreResidences}
+use Rattle.am_parts.proofs.Appending.{is_next, next_rises, next_content, next_sound}
 use Rattle.am_parts.proofs.Emptied.{merged_appended}
 use Rattle.am_parts.proofs.parts.Parts.append_run.Goals as goal
 
@@ -35,44 +36,31 @@ invariant_of-self-2 g c =
           (next_sound c.self.inside.runs c.args.pairs.now c.self.invariant.0 above c.requires.rising dead
           (omega (arith, runs, c.requires.room))),
       omega (arith, runs, c.requires.room),
-      subst (λ (es : List Entry). IsCatalog c.self.inside.hash es c.push.new.self) (sym c.in_ok-append_run.ensures.ok)
-          (c.push.ensures c.self.inside.hash _ (c.self.inside.runs + 1) c.args.pairs.now
-          (c.deref-2.ensures.value ∙ c.in_ok-numbers.ensures) (c.make_room.ensures.same c.self.inside.hash _
-          (under_next _ c.self.inside.runs above) c.self.invariant.2)
-          (is_next _ c.self.inside.runs c.args.pairs.now above c.requires.rising)
-          (subst (λ (ns : List ℕ). IsOpenRunOf (c.self.inside.runs + 1) ns c.in_ok-run.run')
-          (c.deref.ensures.value ∙ sym c.deref-2.ensures.value) c.in_ok-run.ensures.run)),
+      subst (λ (es : List Entry). IsCatalog es c.push.new.self) (sym c.in_ok-append_run.ensures.ok)
+          (c.push.ensures _ c.args.pairs.now refl (c.make_room.ensures.same _ c.self.invariant.2)
+          (is_next _ c.self.inside.runs c.args.pairs.now above c.requires.rising)),
+      subst (λ (es : List Entry). AreResidences es c.push-2.new.self) (sym c.in_ok-append_run.ensures.ok)
+          (c.push-2.ensures _ (c.make_room-2.ensures _ c.self.invariant.3)),
       subst (λ (es : List Entry). AreMerged es (c.self.inside.runs + 1) c.reserve.new.self.list.items)
           (sym c.in_ok-append_run.ensures.ok)
           (merged_appended (g.I.PartIndex.entries c.self.inside.index) c.self.inside.runs c.args.pairs.now
           c.reserve.new.self.list.items
           (subst (AreMerged (g.I.PartIndex.entries c.self.inside.index) c.self.inside.runs) (sym c.reserve.ensures)
-          c.self.invariant.3)),
-    )
-
-pub invariant_of-self-in_err-run : goal.invariant_of-self-in_err-run
-invariant_of-self-in_err-run g c =
-    let above = subst (λ (p : Partitions). AllByRecursion (λ (e : Entry). e.part ≤ p.runs) p.entries)
-    (sym c.self.view_is) c.requires.above in (
-      c.self.invariant.0,
-      c.self.invariant.1,
-      c.make_room.ensures.same c.self.inside.hash _ (under_next _ c.self.inside.runs above) c.self.invariant.2,
-      subst (AreMerged (g.I.PartIndex.entries c.self.inside.index) c.self.inside.runs) (sym c.reserve.ensures)
-          c.self.invariant.3,
+          c.self.invariant.4)),
     )
 
 pub invariant_of-self-in_err-append_run : goal.invariant_of-self-in_err-append_run
 invariant_of-self-in_err-append_run g c =
-    let above = subst (λ (p : Partitions). AllByRecursion (λ (e : Entry). e.part ≤ p.runs) p.entries)
-    (sym c.self.view_is) c.requires.above in
     let same = sym c.in_err-append_run.ensures.err in (
       subst AreWellFormed same c.self.invariant.0,
       c.self.invariant.1,
-      subst (λ (es : List Entry). IsCatalog c.self.inside.hash es c.make_room.new.self) same
-          (c.make_room.ensures.same c.self.inside.hash _ (under_next _ c.self.inside.runs above) c.self.invariant.2),
+      subst (λ (es : List Entry). IsCatalog es c.make_room.new.self) same
+          (c.make_room.ensures.same _ c.self.invariant.2),
+      subst (λ (es : List Entry). AreResidences es c.make_room-2.new.self) same
+          (c.make_room-2.ensures _ c.self.invariant.3),
       subst (λ (es : List Entry). AreMerged es c.self.inside.runs c.reserve.new.self.list.items) same
           (subst (AreMerged (g.I.PartIndex.entries c.self.inside.index) c.self.inside.runs) (sym c.reserve.ensures)
-          c.self.invariant.3),
+          c.self.invariant.4),
     )
 
 pub returns-clause-content : goal.returns-clause-content

@@ -1,15 +1,29 @@
-use Rattle.std.proofs.Common.{List, sym, ap, ◌∙◌, subst}
-use Rattle.am_record.specs.declared.entry.Entry.{Entry}
-use Rattle.am_list.specs.Entries.{find}
-use Rattle.am_parts.specs.Partitions.{Partitions, AreWellFormed}
-use Rattle.am_parts.proofs.Finding.{stands_live}
+use Rattle.std.proofs.Common.{subst}
+use Rattle.std.specs.Prelude.{IfSome, IfNone}
+use Rattle.am_directory.specs.declared.residence.Residence.{Residence}
+use Rattle.am_parts.specs.Partitions.{Partitions, IsLiveEntry, LivesInNoRun}
+use Rattle.am_parts.specs.Residences.{Allows}
+use Rattle.am_parts.proofs.Finding.{found_live, found_none}
 use Rattle.am_parts.proofs.parts.Parts.live_in_runs.Goals as goal
 
-pub returns-in-Some-live_at-clause-live : goal.returns-in-Some-live_at-clause-live
-returns-in-Some-live_at-clause-live g c =
-    let same = ap (λ (p : Partitions). p.entries) c.self.view_is in
-    let entry = c.in-Some-live_at.entry in
-    let live = c.in-Some-live_at.ensures.live in
-    stands_live (subst AreWellFormed same c.self.invariant.0) c.in-Some.part entry
-    (ap (λ (es : List Entry). find es c.in-Some.part c.args.key) (sym same) ∙ sym c.find-slot.ensures.found ∙ live.0)
-    live.1 live.2 live.3
+pub returns-in-Nowhere-clause-absent : goal.returns-in-Nowhere-clause-absent
+returns-in-Nowhere-clause-absent g c =
+    subst (λ (p : Partitions). LivesInNoRun p.entries c.args.key) c.self.view_is
+    (record {
+      none = λ part value some live.
+          subst (λ (r : Residence). Allows r part) c.in-Nowhere.is
+          (c.of.ensures (g.I.PartIndex.entries c.self.inside.index) c.self.invariant.3 part
+          (record { is_run = some; value = value; live = live }));
+    })
+
+pub returns-in-In-clause-live : goal.returns-in-In-clause-live
+returns-in-In-clause-live g c =
+    subst (λ (p : Partitions). IfSome c.live_at.result (λ e. IsLiveEntry p.entries c.args.key e)) c.self.view_is
+    (found_live c.self.invariant.0 c.in-In.run' c.args.key c.find.ensures.found c.live_at.result c.live_at.ensures.live)
+
+pub returns-in-In-clause-absent : goal.returns-in-In-clause-absent
+returns-in-In-clause-absent g c =
+    subst (λ (p : Partitions). IfNone c.live_at.result (LivesInNoRun p.entries c.args.key)) c.self.view_is
+    (found_none c.self.invariant.0 c.in-In.run' c.args.key c.find.ensures.found c.live_at.result
+    (λ part it. subst (λ (r : Residence). Allows r part) c.in-In.is
+    (c.of.ensures (g.I.PartIndex.entries c.self.inside.index) c.self.invariant.3 part it)) c.live_at.ensures.none)

@@ -1,11 +1,13 @@
 use Rattle.std.proofs.Common.{rules, sym, subst, arith}
 use Rattle.am_parts.specs.Catalogs.{IsCatalog}
+use Rattle.am_parts.specs.Residences.{AreResidences}
 use Rattle.am_parts.proofs.parts.Parts.new.Goals as goal
 
 pub invariant_of-result : goal.invariant_of-result
 invariant_of-result g c = (
   search rules,
   omega arith,
-  subst (λ es. IsCatalog c.args.hash es c.new.result) (sym c.requires) (c.new.ensures c.args.hash),
+  subst (λ es. IsCatalog es c.new.result) (sym c.requires) c.new.ensures,
+  subst (λ es. AreResidences es c.new-2.result) (sym c.requires) c.new-2.ensures,
   search rules,
 )

@@ -10,6 +10,7 @@ invariant_of-self g c =
       c.self.invariant.0,
       c.self.invariant.1,
       c.self.invariant.2,
+      c.self.invariant.3,
       c.note.ensures (g.I.PartIndex.entries c.self.inside.index) c.self.inside.runs
-          (record { made = omega arith; none_before = none }, c.self.invariant.3),
+          (record { made = omega arith; none_before = none }, c.self.invariant.4),
     )

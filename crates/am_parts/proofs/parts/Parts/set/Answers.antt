@@ -1,24 +1,34 @@
 use Rattle.std.proofs.Common.{sym, subst, ap}
+use Rattle.std.specs.Prelude.{IsSome}
+use Rattle.am_list.specs.Entries.{find}
 use Rattle.am_parts.specs.Catalogs.{IsCatalog}
 use Rattle.am_parts.specs.Merged.{AreMerged}
 use Rattle.am_parts.specs.Partitions.{Partitions}
+use Rattle.am_parts.specs.Residences.{AreResidences}
+use Rattle.am_parts.proofs.LiveRuns.{one_run}
 use Rattle.am_parts.proofs.Changes.{marks}
-use Rattle.am_parts.proofs.Catalogued.{catalog_set}
 use Rattle.am_parts.proofs.Emptied.{merged_set}
 use Rattle.am_parts.proofs.parts.Parts.set.Goals as goal
 
 pub invariant_of-self : goal.invariant_of-self
-invariant_of-self g c = (
-  (marks (ap (λ (p : Partitions). p.entries) c.self.view_is) c.self.invariant.0 c.args.part c.args.key c.args.value
-      c.args.is_ghost c.requires.present c.requires.alone c.set.ensures).sound,
-  c.self.invariant.1,
-  subst (λ es. IsCatalog c.self.inside.hash es c.self.inside.catalog) (sym c.set.ensures)
-      (catalog_set c.args.part c.args.key c.args.value c.args.is_ghost c.self.invariant.2),
-  subst (λ es. AreMerged es c.self.inside.runs c.self.inside.merged.list.items) (sym c.set.ensures)
-      (merged_set (g.I.PartIndex.entries c.self.inside.index) c.self.inside.runs c.args.part c.args.key c.args.value
-      c.args.is_ghost c.self.inside.merged.list.items c.self.invariant.3),
-)
+invariant_of-self g c =
+    let there : IsSome (find (g.I.PartIndex.entries c.self.inside.index) c.args.part c.args.key) =
+    subst (λ (p : Partitions). IsSome (find p.entries c.args.part c.args.key)) (sym c.self.view_is)
+    c.requires.present in (
+      (marks (ap (λ (p : Partitions). p.entries) c.self.view_is) c.self.invariant.0 c.args.part c.args.key c.args.value
+          c.args.is_ghost c.requires.present c.requires.alone c.set-was_live.ensures.set).sound,
+      c.self.invariant.1,
+      subst (λ es. IsCatalog es c.mark.new.self) (sym c.set-was_live.ensures.set)
+          (c.mark.ensures _ c.args.part c.args.key c.args.value c.self.invariant.2 there
+          (sym c.set-was_live.ensures.was_live)),
+      subst (λ es. AreResidences es c.set.new.self) (sym c.set-was_live.ensures.set)
+          (c.set.ensures _ c.args.value c.self.invariant.0.rising (one_run c.self.invariant.0) there
+          c.set-was_live.ensures.was_live c.self.invariant.3),
+      subst (λ es. AreMerged es c.self.inside.runs c.self.inside.merged.list.items) (sym c.set-was_live.ensures.set)
+          (merged_set (g.I.PartIndex.entries c.self.inside.index) c.self.inside.runs c.args.part c.args.key c.args.value
+          c.args.is_ghost c.self.inside.merged.list.items c.self.invariant.4),
+    )
 
 pub returns-clause-content : goal.returns-clause-content
 returns-clause-content g c = (marks (ap (λ (p : Partitions). p.entries) c.self.view_is) c.self.invariant.0 c.args.part
-    c.args.key c.args.value c.args.is_ghost c.requires.present c.requires.alone c.set.ensures).has
+    c.args.key c.args.value c.args.is_ghost c.requires.present c.requires.alone c.set-was_live.ensures.set).has

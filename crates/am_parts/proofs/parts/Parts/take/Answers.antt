@@ -1,35 +1,57 @@
-use Rattle.std.proofs.Common.{sym, subst, ap}
-use Rattle.std.specs.Prelude.{IsSome}
-use Rattle.am_list.specs.Entries.{find}
+use Rattle.std.proofs.Common.{◌≡◌, ◌∙◌, Option, Some, sym, subst, ap}
+use Rattle.std.specs.Prelude.{is_some}
+use Rattle.std.specs.Option.{option_map}
+use Rattle.am_record.specs.EntryOrder.{Place}
+use Rattle.am_record.specs.declared.entry.Entry.{Entry}
+use Rattle.am_list.specs.Content.{live_value}
+use Rattle.am_list.specs.Entries.{slot_of, entry_at, remove_entry}
+use Rattle.am_list.proofs.Edits.{entry_at_place}
 use Rattle.am_parts.specs.Catalogs.{IsCatalog}
 use Rattle.am_parts.specs.Merged.{AreMerged}
 use Rattle.am_parts.specs.Partitions.{Partitions}
+use Rattle.am_parts.specs.Residences.{AreResidences}
+use Rattle.am_list.proofs.Content.{slot_live}
 use Rattle.am_parts.proofs.Changes.{takes}
 use Rattle.am_parts.proofs.Emptied.{merged_removed}
+use Rattle.am_parts.proofs.LiveRuns.{one_run}
 use Rattle.am_parts.proofs.parts.Parts.take.Goals as goal
 
 pub take-requires : goal.take-requires
-take-requires g c = record {
-  hash = c.self.inside.hash;
-  entries = g.I.PartIndex.entries c.self.inside.index;
-  key = c.args.key;
-  catalog = c.self.invariant.2;
-  stands = subst (λ (p : Partitions). IsSome (find p.entries c.args.part c.args.key)) (sym c.self.view_is) c.requires;
-}
+take-requires g c =
+    let found = c.remove-entry.ensures.entry in record {
+      entries = g.I.PartIndex.entries c.self.inside.index;
+      key = c.args.key;
+      catalog = c.self.invariant.2;
+      stands = ap (λ (o : Option Entry). is_some (option_map slot_of o)) found;
+      mark = ap (λ (o : Option Entry). is_some (live_value (option_map slot_of o))) found ∙
+          slot_live c.remove-entry.result;
+    }
 
 pub invariant_of-self : goal.invariant_of-self
-invariant_of-self g c = (
-  (takes (ap (λ (p : Partitions). p.entries) c.self.view_is) c.self.invariant.0 c.args.part c.args.key c.requires
-      c.remove.ensures.others).sound,
-  c.self.invariant.1,
-  subst (λ es. IsCatalog c.self.inside.hash es c.take.new.self) (sym c.remove.ensures.others)
-      (c.take.ensures.listed c.self.inside.hash _ c.args.key c.self.invariant.2
-      (subst (λ (p : Partitions). IsSome (find p.entries c.args.part c.args.key)) (sym c.self.view_is) c.requires)),
-  subst (λ es. AreMerged es c.self.inside.runs c.self.inside.merged.list.items) (sym c.remove.ensures.others)
-      (merged_removed (g.I.PartIndex.entries c.self.inside.index) c.self.inside.runs c.args.part c.args.key
-      c.self.inside.merged.list.items c.self.invariant.3),
-)
+invariant_of-self g c =
+    let es = g.I.PartIndex.entries c.self.inside.index in
+    let x = c.remove-entry.result in
+    let at : (x.part, x.key) ≡ (c.args.part, c.args.key) =
+    entry_at_place es c.args.part c.args.key x c.remove-entry.ensures.entry in
+    let found : entry_at es x.part x.key ≡ Some x =
+    ap (λ (q : Place). entry_at es q.0 q.1) at ∙ c.remove-entry.ensures.entry in
+    let others : g.I.PartIndex.entries c.remove-entry.new.self ≡ remove_entry es x.part x.key =
+    c.remove-entry.ensures.others ∙ ap (λ (q : Place). remove_entry es q.0 q.1) (sym at) in (
+      (takes (ap (λ (p : Partitions). p.entries) c.self.view_is) c.self.invariant.0 c.args.part c.args.key c.requires
+          c.remove-entry.ensures.others).sound,
+      c.self.invariant.1,
+      subst (λ es. IsCatalog es c.take.new.self) (sym c.remove-entry.ensures.others)
+          (c.take.ensures es c.args.key c.self.invariant.2
+          (ap (λ (o : Option Entry). is_some (option_map slot_of o)) c.remove-entry.ensures.entry)
+          (ap (λ (o : Option Entry). is_some (live_value (option_map slot_of o))) c.remove-entry.ensures.entry ∙
+          slot_live x)),
+      subst (λ es. AreResidences es c.take-2.new.self) (sym others)
+          (c.take-2.ensures es c.self.invariant.0.rising (one_run c.self.invariant.0) found c.self.invariant.3),
+      subst (λ es. AreMerged es c.self.inside.runs c.self.inside.merged.list.items) (sym c.remove-entry.ensures.others)
+          (merged_removed es c.self.inside.runs c.args.part c.args.key c.self.inside.merged.list.items
+          c.self.invariant.4),
+    )
 
 pub returns-clause-content : goal.returns-clause-content
 returns-clause-content g c = (takes (ap (λ (p : Partitions). p.entries) c.self.view_is) c.self.invariant.0 c.args.part
-    c.args.key c.requires c.remove.ensures.others).has
+    c.args.key c.requires c.remove-entry.ensures.others).has

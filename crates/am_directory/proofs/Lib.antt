@@ -1,0 +1,4 @@
+pub mod Looks
+pub mod Changes
+pub mod Residences
+pub mod Copies

@@ -1,0 +1,82 @@
+-- What a directory tells by the code of a label.
+use Rattle.std.proofs.Common.{◌≡◌, ◌≢◌, ⊎_elim, if◌then◌else◌, ℕ, Bool, true, false, List, [], sym, ap, ◌∙◌, ◌-◌, refl}
+use Rattle.std.proofs.Common.{subst, arith}
+use Rattle.std.proofs.Common.{◌<◌, ◌≤◌, ltb, eqb, cond}
+use Rattle.std.proofs.lemmas.Bool.{cases_Bool, cases_eq, ne_eqb}
+use Rattle.std.proofs.lemmas.Bool.Decides.{nat_tests}
+use Rattle.am_directory.specs.declared.residence.Residence.{Residence}
+use Rattle.am_directory.specs.declared.residence.Residence.TheVariants.{Nowhere, In, Unknown}
+use Rattle.am_directory.specs.Tables.{Table, label, code, code_of, residence_by, residence_of, left, HasPut, HasLeft}
+use Rattle.am_directory.proofs.Looks.{code_of-none}
+
+pub residence_of-lost : (table : Table) (n : ℕ) → table.is_lost ≡ true → residence_of table n ≡ Unknown
+unfolding residence_of
+residence_of-lost table n lost = rw lost refl
+
+pub residence_of-code : (table : Table) (n : ℕ) → table.is_lost ≡ false →
+    residence_of table n ≡ residence_by (code_of table.words (label n))
+unfolding residence_of
+residence_of-code table n whole = rw whole refl
+
+pub residence_of-empty : (table : Table) (n : ℕ) → table.is_lost ≡ false → table.words ≡ [] →
+    residence_of table n ≡ Nowhere
+residence_of-empty table n whole empty = residence_of-code table n whole ∙
+    ap residence_by (ap (λ (l : List ℕ). code_of l (label n)) empty ∙
+    code_of-none [] (label n) (λ i h. absurd (omega arith)))
+
+-- where the code of one label alone has changed, what is told of the others stays
+pub others_told : (old new : Table) (word : ℕ) → new.is_lost ≡ old.is_lost → HasPut old.words word new.words →
+    (n : ℕ) → label n ≢ label word → residence_of new n ≡ residence_of old n
+unfolding residence_of
+others_told old new word lost put n other =
+    (λ j. if lost j then Unknown else residence_by (put.others (label n) other j))
+
+-- and of its own the code tells
+pub own_told : (old new : Table) (number word : ℕ) (change : Residence → Residence) →
+    new.is_lost ≡ old.is_lost → HasPut old.words word new.words → label word ≡ label number →
+    change Unknown ≡ Unknown →
+    residence_by (code word) ≡ change (residence_by (code_of old.words (label number))) →
+    (n : ℕ) → label n ≡ label number → residence_of new n ≡ change (residence_of old n)
+own_told old new number word change lost put same unknown told n here = ⊎_elim
+    (λ (gone : old.is_lost ≡ true). residence_of-lost new n (lost ∙ gone) ∙ sym unknown ∙
+    ap change (sym (residence_of-lost old n gone)))
+    (λ (whole : old.is_lost ≡ false). residence_of-code new n (lost ∙ whole) ∙
+    ap residence_by (ap (code_of new.words) (here ∙ sym same) ∙ put.now) ∙ told ∙
+    ap change (ap (λ (l : ℕ). residence_by (code_of old.words l)) (sym here) ∙ sym (residence_of-code old n whole)))
+    (cases_Bool old.is_lost)
+
+-- a code of a run tells of it, and each below of none
+pub none_by : (c : ℕ) → c < 3 → residence_by c ≡ Nowhere
+none_by c lt = let test : ltb c 3 ≡ true = grind (arith, nat_tests) in
+    ap (λ (b : Bool). cond b Nowhere (cond (eqb c 3) Unknown (In (c - 4)))) test
+
+unknown_by : (c : ℕ) → c ≡ 3 → residence_by c ≡ Unknown
+unknown_by c e = ap residence_by e
+
+run_by : (c : ℕ) → 4 ≤ c → residence_by c ≡ In (c - 4)
+run_by c ge =
+    let test : ltb c 3 ≡ false = grind (arith, nat_tests) in
+    let other : eqb c 3 ≡ false = ne_eqb c 3 (λ e. omega arith) in
+    (λ j. cond (test j) Nowhere (cond (other j) Unknown (In (c - 4))))
+
+pub left_asleep : (c : ℕ) → 4 ≤ c → Nowhere ≡ left (residence_by c)
+left_asleep c ge = ap left (sym (run_by c ge))
+
+left_same : (c : ℕ) → c < 4 → residence_by c ≡ left (residence_by c)
+left_same c lt = ⊎_elim
+    (λ (e : c ≡ 3). unknown_by c e ∙ ap left (sym (unknown_by c e)))
+    (λ (n : c ≢ 3). none_by c (omega arith) ∙ ap left (sym (none_by c (omega arith))))
+    (cases_eq c 3)
+
+-- where no key of the label is live in a run, none leaves
+pub none_leaves : (table : Table) (number : ℕ) → code_of table.words (label number) < 4 → HasLeft table number table
+none_leaves table number none = record {
+  left = λ n here. ⊎_elim
+      (λ (gone : table.is_lost ≡ true). residence_of-lost table n gone ∙ ap left (sym (residence_of-lost table n gone)))
+      (λ (whole : table.is_lost ≡ false).
+      let told = residence_of-code table n whole in
+      told ∙ left_same (code_of table.words (label n))
+      (subst (λ (l : ℕ). code_of table.words l < 4) (sym here) none) ∙ ap left (sym told))
+      (cases_Bool table.is_lost);
+  others = λ n other. refl;
+}

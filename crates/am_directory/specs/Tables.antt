@@ -1,0 +1,118 @@
+-- What a directory knows of the keys of a label.
+use Rattle.std.specs.Prelude.{◌≡◌, ◌≢◌, ℕ, ◌-◌, ◌*◌, ◌/◌, ◌%◌, ◌^◌, ◌<◌, ◌≤◌, ◌==◌, nat_lt, nat_le, Bool}
+use Rattle.std.specs.Prelude.{List, [], ◌∷◌, ◌++◌, length, take, drop, slice_index, if◌then◌else◌}
+use Rattle.std.specs.List.{count_by}
+use Rattle.am_directory.specs.declared.residence.Residence.{Residence}
+use Rattle.am_directory.specs.declared.residence.Residence.TheVariants.{Nowhere, In, Unknown}
+
+-- a hash table of words; one that is lost knows nothing
+pub record Table : Type 0 where
+  pub words : List ℕ
+  pub is_lost : Bool
+
+-- what a table tells of a number. A word is 0, and empty, or so many times its label, and its code
+abbrev pub label : ℕ → ℕ
+label n = n / 2 ^ 17
+
+abbrev pub code : ℕ → ℕ
+code word = word % 2 ^ 17
+
+-- where a look for the label begins, in a table of so many words
+abbrev pub home_index : ℕ → ℕ → ℕ
+home_index count sought = sought / 2 ^ 15 * count / 2 ^ 32
+
+-- the code of the first word of the label, where no empty word stands before it
+abbrev pub code_on : List ℕ → ℕ → ℕ
+code_on [] sought = 0
+code_on (word ∷ words) sought =
+    if word == 0 then 0 else (if label word == sought then code word else code_on words sought)
+
+-- the words in the order of a look that begins at a place: from there to the end, and then from the begin
+abbrev pub way_from : ℕ → List ℕ → List ℕ
+way_from home words = drop home words ++ take home words
+
+-- the code of the label in the table, 0 where it has no word
+unfoldable pub code_of : List ℕ → ℕ → ℕ
+code_of words sought = code_on (way_from (home_index (length words) sought) words) sought
+
+-- what a code says: 1 is a word that may be left out, 2 that no key of the label is live
+abbrev pub residence_by : ℕ → Residence
+residence_by c = if nat_lt c 3 then Nowhere else (if c == 3 then Unknown else In (c - 4))
+
+-- what is known of the keys of the number's label
+unfoldable pub residence_of : Table → ℕ → Residence
+residence_of table n = if table.is_lost then Unknown else residence_by (code_of table.words (label n))
+
+-- how many words are empty
+abbrev pub empty_in : List ℕ → ℕ
+empty_in words = count_by (λ word. word == 0) words
+
+-- how many words a table made anew has to keep
+abbrev pub kept : List ℕ → ℕ
+kept words = count_by (λ word. nat_le 2 (code word)) words
+
+-- a key more is live in the run. Of two live keys of a label nothing is known from then on
+abbrev pub entered : Residence → ℕ → Residence
+entered Nowhere run = if nat_le run 65535 then In run else Unknown
+entered (In other) run = Unknown
+entered Unknown run = Unknown
+
+-- a key that was live in a run is not any more
+abbrev pub left : Residence → Residence
+left Nowhere = Nowhere
+left (In run) = Nowhere
+left Unknown = Unknown
+
+-- the key of the number, live in no run before, is live in that run
+pub record HasEntered (old : Table) (number run : ℕ) (new : Table) : Type 0 where
+  pub entered : (n : ℕ) → label n ≡ label number → residence_of new n ≡ entered (residence_of old n) run
+  pub others : (n : ℕ) → label n ≢ label number → residence_of new n ≡ residence_of old n
+
+-- the key of the number, live in a run before, is not any more
+pub record HasLeft (old : Table) (number : ℕ) (new : Table) : Type 0 where
+  pub left : (n : ℕ) → label n ≡ label number → residence_of new n ≡ left (residence_of old n)
+  pub others : (n : ℕ) → label n ≢ label number → residence_of new n ≡ residence_of old n
+
+-- a look that begins at the home comes to one place before another
+abbrev pub IsBefore : ℕ → ℕ → ℕ → Type 0
+IsBefore home at later = (home ≤ later → home ≤ at) × (home ≤ later → at < later) ×
+    (later < home → at < home → at < later)
+
+-- a look for the label goes on past the word
+pub record IsPassed (sought word : ℕ) : Type 0 where
+  pub some : word ≢ 0
+  pub other : label word ≢ sought
+
+-- a look for the label goes on past the first so many words
+abbrev pub ArePassed : ℕ → List ℕ → ℕ → Type 0
+ArePassed sought words count = (i : ℕ) → i < count → IsPassed sought (slice_index words i)
+
+-- a look for the label comes to the place
+pub record IsComeTo (words : List ℕ) (sought at : ℕ) : Type 0 where
+  pub within : at < length words
+  pub before : (i : ℕ) → i < length words → IsBefore (home_index (length words) sought) i at →
+      IsPassed sought (slice_index words i)
+
+-- it ends there: the word is empty or of the label
+pub record IsEnd (words : List ℕ) (sought at : ℕ) : Type 0 where
+  pub come : IsComeTo words sought at
+  pub here : slice_index words at ≢ 0 → label (slice_index words at) ≡ sought
+
+-- it is the first word of the list that is empty or of the label
+pub record IsFirstEnd (words : List ℕ) (sought at : ℕ) : Type 0 where
+  pub within : at < length words
+  pub passed : ArePassed sought words at
+  pub here : slice_index words at ≢ 0 → label (slice_index words at) ≡ sought
+
+-- a table of so many empty words, in which each other word stands where its label is looked for. So no way to a word
+-- has a gap, and no label has two words
+pub record IsTable (words : List ℕ) (empty : ℕ) : Type 0 where
+  pub counted : empty ≡ empty_in words
+  pub short : length words < 2 ^ 32
+  pub in_place : (i : ℕ) → i < length words → slice_index words i ≢ 0 →
+      IsComeTo words (label (slice_index words i)) i
+
+-- the word was put down, for all that was said of its label
+pub record HasPut (old : List ℕ) (word : ℕ) (new : List ℕ) : Type 0 where
+  pub now : code_of new (label word) ≡ code word
+  pub others : (sought : ℕ) → sought ≢ label word → code_of new sought ≡ code_of old sought

@@ -1,6 +1,0 @@
-use Rattle.std.proofs.Common.{◌≡◌, take}
-use Rattle.am_record.specs.KeyNumber.{numbers_of}
-use Rattle.am_parts.proofs.numbers.numbers_of.Given as goal
-
-abbrev pub invariant-loop-pair : goal.invariant-loop-pair
-invariant-loop-pair l = l.numbers.items ≡ numbers_of l.hash (take l.pair-index l.pairs)
