@@ -4,6 +4,7 @@ ghost use Rattle.std.specs.Prelude.{◌≡◌, ◌+◌, ◌≤◌, ◌^◌, [], 
 ghost use Rattle.am_record.specs.declared.step.Refusal.{Refusal as TheRefusal};
 ghost use Rattle.am_record.specs.declared.step.Refusal.TheVariants.{NoMemory as OutOfMemory};
 ghost use Rattle.am_sound.specs.StoreState.{empty_state, IsFit, MayAnswer, state_after};
+ghost use Rattle.am_parts.specs.Figures.{AreFigures};
 ghost use Rattle.am_core.specs.Memory.{may_want_memory};
 ghost use Rattle.am_core.specs.Standing.{IsSoundAt, Extends, IsWithin, KeepsContent};
 ghost use Rattle.am_core.specs.InnerState.{inner_state};
@@ -12,7 +13,7 @@ use crate::entries::all_entries;
 use crate::inner::Inner;
 use am_list::PartIndex;
 use am_merge::Wishes;
-use am_parts::Parts;
+use am_parts::{Figures, Parts};
 use am_record::{Entry, HashKey, NoMemory, Reply, Step};
 use am_tx::TxTable;
 use std::alloc::Global;
@@ -91,6 +92,20 @@ impl<I: PartIndex + Drop> Store<I> {
         ensures { IfOk result (λ entries. entries.items ≡ self.now.entries) }
     {
         all_entries(alloc, &self.inner.parts)
+    }
+
+    /// How many entries there are, final and in runs. It costs no look into the index.
+    pub fn figures(&self) -> Figures
+        ensures { AreFigures self.now.entries result }
+    {
+        self.inner.parts.figures()
+    }
+
+    /// How many transactions are active.
+    pub fn active(&self) -> u64
+        ensures { result ≡ length self.now.active }
+    {
+        self.inner.txs.active() as u64
     }
 
     /// How many transactions committed.

@@ -10,10 +10,11 @@ pub record Table : Type 0 where
   pub words : List ℕ
   pub is_lost : Bool
 
--- what a table tells of a number. A word is 0, and empty, or so many times its label, and its code
+-- the upper bits of a key's number, by which a table knows it. A word is 0, and empty, or has a label and a code
 abbrev pub label : ℕ → ℕ
 label n = n / 2 ^ 17
 
+-- the code of a word, its lower bits
 abbrev pub code : ℕ → ℕ
 code word = word % 2 ^ 17
 
@@ -35,7 +36,8 @@ way_from home words = drop home words ++ take home words
 unfoldable pub code_of : List ℕ → ℕ → ℕ
 code_of words sought = code_on (way_from (home_index (length words) sought) words) sought
 
--- what a code says: 1 is a word that may be left out, 2 that no key of the label is live
+-- what a code says: that no key of the label is live (1, in a word that may be left out, and 2), that nothing is known of
+-- them (3), or that one is live, in run 0 (4), run 1 (5) and so on
 abbrev pub residence_by : ℕ → Residence
 residence_by c = if nat_lt c 3 then Nowhere else (if c == 3 then Unknown else In (c - 4))
 
