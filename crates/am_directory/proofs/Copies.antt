@@ -41,6 +41,7 @@ found : (old : List ℕ) (i : ℕ) → InPlace old → i < length old → is_kep
 found old i placed within keep = code_of-stands old (label (get_or old i 0)) i placed
     (record { within = within; some = kept_some (get_or old i 0) keep; here = refl })
 
+-- what is below the next index, and is not the index, is below it
 earlier : (i j : ℕ) → j < i + 1 → j ≢ i → j < i
 earlier i j before apart = omega arith
 

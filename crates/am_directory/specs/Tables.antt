@@ -36,8 +36,8 @@ way_from home words = drop home words ++ take home words
 unfoldable pub code_of : List ℕ → ℕ → ℕ
 code_of words sought = code_on (way_from (home_index (length words) sought) words) sought
 
--- what a code says: that no key of the label is live (1, in a word that may be left out, and 2), that nothing is known of
--- them (3), or that one is live, in run 0 (4), run 1 (5) and so on
+-- what a code says: that no key of the label is live (1, in a word that may be left out, and 2), that nothing is known
+-- of them (3), or that one is live, in run 0 (4), run 1 (5) and so on
 abbrev pub residence_by : ℕ → Residence
 residence_by c = if nat_lt c 3 then Nowhere else (if c == 3 then Unknown else In (c - 4))
 

@@ -1,0 +1,139 @@
+//! A directory of 1,000 keys, beside a plain list of those that live.
+
+use am_directory::{Directory, Residence};
+use std::process::Abort;
+use std::test::Fail;
+
+const KEYS: usize = 1000;
+
+/// The last keys have the labels of the first ones.
+const LABELS: usize = 900;
+
+/// In which run each key lives, 0 in none; and of each label whether two of its keys have lived at once.
+#[derive(Drop)]
+struct Plain {
+    runs: [u32; KEYS],
+    was_shared: [bool; LABELS],
+}
+
+/// The number of a key: its label in the upper bits, and the key itself in the lower ones.
+fn number(key: usize) -> u64 {
+    let label = (key % LABELS) as u64;
+    (label.wrapping_mul(0x9E37_79B9_7F4A_7C15) >> 17 << 17) + key as u64
+}
+
+impl Plain {
+    fn new() -> Plain {
+        Plain {
+            runs: [0; KEYS],
+            was_shared: [false; LABELS],
+        }
+    }
+
+    /// In which run the first living key of a label lives, 0 where none does.
+    fn run_of(&self, label: usize) -> u32 {
+        if self.runs[label] == 0 && label + LABELS < KEYS {
+            self.runs[label + LABELS]
+        } else {
+            self.runs[label]
+        }
+    }
+
+    fn enter(&mut self, key: usize, run: u32) {
+        if self.run_of(key % LABELS) > 0 {
+            self.was_shared[key % LABELS] = true;
+        }
+        self.runs[key] = run;
+    }
+
+    fn told(&self, key: usize) -> Residence {
+        let run = self.run_of(key % LABELS);
+        if self.was_shared[key % LABELS] {
+            Residence::Unknown
+        } else if run == 0 {
+            Residence::Nowhere
+        } else {
+            Residence::In(run)
+        }
+    }
+}
+
+/// The directory tells of each key what the list does, and of another key that it lives nowhere.
+fn tells_the_same(rt: &impl Abort, directory: &Directory, plain: &Plain) {
+    for key in 0..KEYS {
+        assert!(rt;
+            directory.residence_of(number(key)) == plain.told(key),
+            "of key {key}"
+        );
+    }
+    assert!(rt; directory.residence_of(u64::MAX) == Residence::Nowhere);
+}
+
+/// Gets room: where memory is refused, once more, and nothing has changed.
+fn reserve(rt: &impl Abort, directory: &mut Directory, plain: &Plain, count: usize) {
+    if directory.reserve(count).is_err() {
+        tells_the_same(rt, directory, plain);
+        directory.reserve(count).expect(rt, "memory");
+    }
+}
+
+/// Has all keys live, one after another.
+fn filled(rt: &impl Abort, directory: &mut Directory, plain: &mut Plain) {
+    for key in 0..KEYS {
+        reserve(rt, directory, plain, 1);
+        directory.enter(number(key), 1 + key as u32 % 7);
+        plain.enter(key, 1 + key as u32 % 7);
+        if key % 100 == 0 {
+            tells_the_same(rt, directory, plain);
+        }
+    }
+}
+
+/// Has each third key leave. Of each sixth no entry is left.
+fn emptied(directory: &mut Directory, plain: &mut Plain) {
+    for key in (0..KEYS).step_by(3) {
+        directory.leave(number(key));
+        plain.runs[key] = 0;
+        if key % 6 == 0 {
+            directory.let_go(number(key));
+        }
+    }
+}
+
+#[test]
+fn tells_what_a_list_does(rt: HostRuntime) -> Result<(), Fail> {
+    let mut directory = Directory::new(rt.alloc());
+    let mut plain = Plain::new();
+    tells_the_same(&rt, &directory, &plain);
+    filled(&rt, &mut directory, &mut plain);
+    tells_the_same(&rt, &directory, &plain);
+
+    emptied(&mut directory, &mut plain);
+    tells_the_same(&rt, &directory, &plain);
+    reserve(&rt, &mut directory, &plain, 2000);
+    tells_the_same(&rt, &directory, &plain);
+
+    for key in (0..KEYS).step_by(3) {
+        directory.enter(number(key), 65_535);
+        plain.enter(key, 65_535);
+    }
+    tells_the_same(&rt, &directory, &plain);
+    Ok(())
+}
+
+#[test]
+fn is_lost_without_room(rt: HostRuntime) -> Result<(), Fail> {
+    let mut directory = Directory::new(rt.alloc());
+    directory.enter(number(1), 1);
+    assert!(rt; directory.residence_of(number(1)) == Residence::Unknown);
+    assert!(rt; directory.residence_of(number(2)) == Residence::Unknown);
+    Ok(())
+}
+
+#[test]
+fn asks_for_no_more_words_than_it_may_have(rt: HostRuntime) -> Result<(), Fail> {
+    let mut directory = Directory::new(rt.alloc());
+    assert!(rt; directory.reserve(usize::MAX).is_err());
+    assert!(rt; directory.residence_of(number(1)) == Residence::Nowhere);
+    Ok(())
+}
