@@ -2,4 +2,5 @@ mod Given
 mod Handles
 mod Loosened
 mod Rows
+mod Turns
 mod Zeros

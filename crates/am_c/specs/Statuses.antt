@@ -34,6 +34,7 @@ code is.BadKey = 19
 code is.BadValue = 20
 code is.BadRange = 21
 code is.BadMode = 22
+code is.Twice = 24
 
 abbrev pub refusal_status : Refusal → Status
 refusal_status NoSuchTx = is.NoTx

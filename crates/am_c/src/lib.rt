@@ -3,9 +3,11 @@
 
 mod asking;
 mod handle;
+mod loads;
 mod loose;
 mod ranges;
 mod records;
+mod runs;
 mod status;
 mod store;
 mod taking;

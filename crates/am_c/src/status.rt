@@ -32,6 +32,8 @@ pub enum Status {
     BadValue,
     BadRange,
     BadMode,
+    /// A key stands twice in what was given.
+    Twice,
 }
 
 impl Status {
@@ -64,6 +66,7 @@ impl Status {
             Status::BadValue => 20,
             Status::BadRange => 21,
             Status::BadMode => 22,
+            Status::Twice => 24,
         }
     }
 }
