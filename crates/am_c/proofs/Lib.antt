@@ -1,3 +1,4 @@
+mod Cutting
 mod Given
 mod Handles
 mod Loosened

@@ -3,6 +3,7 @@
 
 mod asking;
 mod handle;
+mod lines;
 mod loads;
 mod loose;
 mod ranges;

@@ -3,10 +3,12 @@
 ghost use Rattle.std.specs.Prelude.{◌≡◌};
 ghost use Rattle.am_c.specs.Asking.{pairs_given};
 ghost use Rattle.am_c.specs.Taking.{status, number};
+ghost use Rattle.am_c.specs.Lines.{TellsText};
 ghost use Rattle.am_c.specs.Loading.{TellsRuns, without_key, load_key_told};
 
 use crate::asking::pairs_asked;
 use crate::handle::Handle;
+use crate::lines::text_asked;
 use crate::runs::{load_given, tell_load_key, without_key};
 use crate::status::Status;
 use crate::taking::{number_told, status_told};
@@ -31,6 +33,26 @@ pub extern "C" fn tiuvrokk_load_sorting(
         × (key.new ≡ load_key_told answer key.old) × (loaded.new ≡ n)) }
 {
     let pairs = pairs_asked(alloc, records);
+    tell_runs(alloc, store, tx, pairs, key, loaded, told)
+}
+
+/// The same of the records of a text. Where a line is none, its number goes out, and else 0.
+#[unsafe(no_mangle)]
+pub extern "C" fn tiuvrokk_load_text(
+    alloc: Global,
+    store: &mut Handle,
+    tx: u64,
+    text: &[u8],
+    key: &mut KeyText,
+    line: &mut u64,
+    loaded: &mut u64,
+    told: &mut u64,
+) -> u32
+    ensures { TellsText store.old.held tx text.now line.new store.new.held
+        (λ n answer. (result ≡ status (without_key answer)) × (told.new ≡ number (without_key answer))
+        × (key.new ≡ load_key_told answer key.old) × (loaded.new ≡ n)) }
+{
+    let pairs = text_asked(alloc, text, line);
     tell_runs(alloc, store, tx, pairs, key, loaded, told)
 }
 

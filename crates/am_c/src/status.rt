@@ -34,6 +34,8 @@ pub enum Status {
     BadMode,
     /// A key stands twice in what was given.
     Twice,
+    /// A line of a text has no TAB.
+    BadLine,
 }
 
 impl Status {
@@ -67,6 +69,7 @@ impl Status {
             Status::BadRange => 21,
             Status::BadMode => 22,
             Status::Twice => 24,
+            Status::BadLine => 25,
         }
     }
 }
