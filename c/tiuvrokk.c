@@ -26,6 +26,10 @@ uint32_t tiuvrokk_replace(tvk_store *store, uint64_t tx, const void *key, size_t
 uint32_t tiuvrokk_delete(tvk_store *store, uint64_t tx, const void *key, size_t key_length, uint64_t *told);
 uint32_t tiuvrokk_load(tvk_store *store, uint64_t tx, const tvk_record *records, size_t number, tvk_key *exists,
                        uint64_t *told);
+uint32_t tiuvrokk_load_sorting(tvk_store *store, uint64_t tx, const tvk_record *records, size_t number, tvk_key *key,
+                               uint64_t *loaded, uint64_t *told);
+uint32_t tiuvrokk_load_text(tvk_store *store, uint64_t tx, const void *text, size_t length, tvk_key *key, uint64_t *line,
+                            uint64_t *loaded, uint64_t *told);
 uint32_t tiuvrokk_scan(tvk_store *store, uint64_t tx, const void *lo, size_t lo_length, const void *hi, size_t hi_length,
                        tvk_record *rows, size_t limit, uint64_t *told);
 uint32_t tiuvrokk_scan_behind(tvk_store *store, uint64_t tx, const void *key, size_t key_length, const void *hi,
@@ -90,6 +94,8 @@ static const struct {
     {"TVK_BAD_RANGE", "the first key of a range is above its last"},
     {"TVK_BAD_MODE", "a lock is neither shared nor exclusive"},
     {"TVK_NULL", "a pointer is NULL that may not be"},
+    {"TVK_TWICE", "a key stands twice in what is to be loaded"},
+    {"TVK_BAD_LINE", "a line has no TAB behind its key"},
 };
 
 /* Where the words for a status stand; 16 is none. */
@@ -190,6 +196,42 @@ tvk_status tvk_load(tvk_store *store, uint64_t tx, const tvk_record *records, si
         records = no_records;
     }
     return tiuvrokk_load(store, tx, records, number, exists, told);
+}
+
+/* What a load of many runs tells, where it is wanted. */
+#define BEGIN_LOAD                           \
+    tvk_key unread;                          \
+    uint64_t uncounted;                      \
+    if (!loaded) loaded = &uncounted;        \
+    *loaded = 0;                             \
+    if (!key) {                              \
+        unread.length = 0;                   \
+        key = &unread;                       \
+    }
+
+tvk_status tvk_load_sorting(tvk_store *store, uint64_t tx, const tvk_record *records, size_t number, tvk_key *key,
+                            uint64_t *loaded, uint64_t *told) {
+    BEGIN_LOAD
+    BEGIN;
+    if (!records) {
+        if (number) return TVK_NULL;
+        records = no_records;
+    }
+    return tiuvrokk_load_sorting(store, tx, records, number, key, loaded, told);
+}
+
+tvk_status tvk_load_text(tvk_store *store, uint64_t tx, const void *text, size_t length, tvk_key *key, uint64_t *line,
+                         uint64_t *loaded, uint64_t *told) {
+    uint64_t unnumbered;
+    BEGIN_LOAD
+    if (!line) line = &unnumbered;
+    *line = 0;
+    BEGIN;
+    if (!text) {
+        if (length) return TVK_NULL;
+        text = no_bytes;
+    }
+    return tiuvrokk_load_text(store, tx, text, length, key, line, loaded, told);
 }
 
 tvk_status tvk_scan(tvk_store *store, uint64_t tx, const void *lo, size_t lo_length, const void *hi, size_t hi_length,

@@ -27,7 +27,8 @@
  * nothing but a handle has to be given back.
  *
  * MEMORY is taken by malloc and realloc and given back by free, and by nothing else. Any call that may want memory may
- * answer TVK_NO_MEMORY, and has changed nothing then. tvk_begin, tvk_commit, tvk_abort, tvk_back and tvk_clean never do.
+ * answer TVK_NO_MEMORY, and has changed nothing then; but the runs that tvk_load_sorting and tvk_load_text loaded before stay,
+ * as `loaded` tells. tvk_begin, tvk_commit, tvk_abort, tvk_back and tvk_clean never do.
  *
  * THREADS. Any thread may use a handle, one at a time: it may be opened on one, used on another, and closed on a third, where
  * each is done before the next begins, by a mutex, a join, or a message. The library keeps nothing for a thread, and its memory
@@ -50,8 +51,8 @@
  *
  * ONE ORDER. Where several things are wrong, the first of these is told, and each call below has its statuses in this order:
  * TVK_NO_STORE; TVK_NULL, TVK_BAD_KEY and TVK_BAD_VALUE, in the order of the arguments; TVK_BAD_LIMIT; TVK_BAD_MODE;
- * TVK_BAD_RANGE; of the records of a load TVK_NO_MEMORY for their copy, and TVK_BAD_KEY and TVK_BAD_VALUE; and then, by the
- * store, TVK_NO_TX, TVK_TOO_MANY_TX, TVK_TOO_MANY_OPS, TVK_NOT_RISING, TVK_TOO_MANY_RUNS, TVK_BUSY, TVK_TOO_MANY_LOCKS,
+ * TVK_BAD_RANGE; of the records of a load TVK_NO_MEMORY for their copy, and TVK_BAD_LINE, TVK_BAD_KEY and TVK_BAD_VALUE of the
+ * first that is wrong; where they are sorted, TVK_NO_MEMORY for the runs, and TVK_TWICE; and then, by the store, TVK_NO_TX, TVK_TOO_MANY_TX, TVK_TOO_MANY_OPS, TVK_NOT_RISING, TVK_TOO_MANY_RUNS, TVK_BUSY, TVK_TOO_MANY_LOCKS,
  * TVK_NO_MEMORY, and the answer itself. A lock stays where the answer is TVK_ABSENT or TVK_EXISTS.
  *
  * NUMBERS TOLD. The last argument of most calls points to a number, or is NULL where it isn't wanted. It is set by every call
@@ -94,7 +95,9 @@ typedef enum tvk_status {
     TVK_BAD_VALUE = 20,      /* a value is longer than TVK_MAX_VALUE bytes */
     TVK_BAD_RANGE = 21,      /* the first key of a range is above its last */
     TVK_BAD_MODE = 22,       /* neither TVK_SHARED nor TVK_EXCLUSIVE */
-    TVK_NULL = 23            /* a pointer is NULL that may not be */
+    TVK_NULL = 23,           /* a pointer is NULL that may not be */
+    TVK_TWICE = 24,          /* a key stands twice in what is to be loaded */
+    TVK_BAD_LINE = 25        /* a line has no TAB behind its key */
 } tvk_status;
 
 enum {
@@ -341,6 +344,75 @@ tvk_status tvk_delete(tvk_store *store, uint64_t tx, const void *key, size_t key
  */
 tvk_status tvk_load(tvk_store *store, uint64_t tx, const tvk_record *records, size_t number, tvk_key *exists,
                     uint64_t *holder);
+
+/** Adds records in any order. The first 65,536 of them make the first run, the next 65,536 the second, and so on; each run is
+ * sorted, and they are loaded in turn, each as by tvk_load, until one is refused. No savepoint is set: what was loaded before
+ * the refused run stays. Then abort, or go back to a savepoint of your own, or go on later with the records behind `loaded`.
+ * Each run that is loaded is an operation, and locks the range from its first key to its last, exclusive: where there are more
+ * than 255 runs, lock all keys first.
+ *
+ * @param[in,out] store   the store
+ * @param tx              the transaction
+ * @param[in] records     the records
+ * @param number          how many they are
+ * @param[out] key        where the status is TVK_TWICE, the least key that stands twice; where it is TVK_EXISTS, the least key of
+ *                        the refused run that has a record; NULL where it isn't wanted
+ * @param[out] loaded     how many records stand before the refused run, and all are counted where none is; NULL where it isn't
+ *                        wanted
+ * @param[out] holder     the transaction that is in the way, or 0; NULL where it isn't wanted
+ *
+ * @retval TVK_OK              the records are added
+ * @retval TVK_NO_STORE        the handle is NULL or has no store
+ * @retval TVK_NULL            `records` is NULL, and `number` isn't 0
+ * @retval TVK_BAD_KEY         a key is longer than TVK_MAX_KEY bytes; none is loaded
+ * @retval TVK_BAD_VALUE       a value is longer than TVK_MAX_VALUE bytes; none is loaded
+ * @retval TVK_TWICE           a key stands twice: `key`; none is loaded
+ * @retval TVK_NO_TX           no transaction of this number is active
+ * @retval TVK_TOO_MANY_OPS    TVK_MAX_OPS operations of the transaction were answered
+ * @retval TVK_NOT_RISING      there are no records
+ * @retval TVK_TOO_MANY_RUNS   TVK_MAX_RUNS loads were made
+ * @retval TVK_BUSY            `holder` has a lock that is in the way
+ * @retval TVK_TOO_MANY_LOCKS  the transaction holds TVK_MAX_LOCKS locks, and none of them covers the range
+ * @retval TVK_NO_MEMORY       memory was refused: for a run; or in front of TVK_BAD_KEY for a copy of the records, or in front of
+ *                             TVK_TWICE for the runs, and then none is loaded
+ * @retval TVK_EXISTS          a key of the refused run has a record: `key`
+ */
+tvk_status tvk_load_sorting(tvk_store *store, uint64_t tx, const tvk_record *records, size_t number, tvk_key *key,
+                            uint64_t *loaded, uint64_t *holder);
+
+/** Adds the records of a text, as tvk_load_sorting does: each line has a key, a TAB, a value and an LF, which the last line may
+ * lack. The key is what stands in front of the line's first TAB, and the value is all behind it up to the LF, a CR too. Either
+ * may be empty, but an empty line is wrong.
+ *
+ * @param[in,out] store   the store
+ * @param tx              the transaction
+ * @param[in] text        the text: NULL where it has no bytes
+ * @param length          how many bytes it has
+ * @param[out] key        as of tvk_load_sorting
+ * @param[out] line       where the status is TVK_BAD_LINE, TVK_BAD_KEY or TVK_BAD_VALUE, the number of the first line that is no
+ *                        record, from 1; else 0; NULL where it isn't wanted
+ * @param[out] loaded     as of tvk_load_sorting
+ * @param[out] holder     the transaction that is in the way, or 0; NULL where it isn't wanted
+ *
+ * @retval TVK_OK              the records are added
+ * @retval TVK_NO_STORE        the handle is NULL or has no store
+ * @retval TVK_NULL            `text` is NULL, and `length` isn't 0
+ * @retval TVK_BAD_LINE        `line` has no TAB; none is loaded
+ * @retval TVK_BAD_KEY         the key of `line` is longer than TVK_MAX_KEY bytes; none is loaded
+ * @retval TVK_BAD_VALUE       the value of `line` is longer than TVK_MAX_VALUE bytes; none is loaded
+ * @retval TVK_TWICE           a key stands twice: `key`; none is loaded
+ * @retval TVK_NO_TX           no transaction of this number is active
+ * @retval TVK_TOO_MANY_OPS    TVK_MAX_OPS operations of the transaction were answered
+ * @retval TVK_NOT_RISING      the text is empty
+ * @retval TVK_TOO_MANY_RUNS   TVK_MAX_RUNS loads were made
+ * @retval TVK_BUSY            `holder` has a lock that is in the way
+ * @retval TVK_TOO_MANY_LOCKS  the transaction holds TVK_MAX_LOCKS locks, and none of them covers the range
+ * @retval TVK_NO_MEMORY       memory was refused: for a run; or in front of TVK_BAD_LINE for the records, or in front of TVK_TWICE for
+ *                             the runs, and then none is loaded
+ * @retval TVK_EXISTS          a key of the refused run has a record: `key`
+ */
+tvk_status tvk_load_text(tvk_store *store, uint64_t tx, const void *text, size_t length, tvk_key *key, uint64_t *line,
+                         uint64_t *loaded, uint64_t *holder);
 
 /** Reads the first records of a range by rising key: as many as there are, at most `limit`. The whole range is locked, shared.
  *

@@ -15,8 +15,9 @@
  *     c++ -std=c++17 demo.cpp $(pkg-config --cflags --libs tiuvrokk)
  *
  * All of it stands over the calls of tiuvrokk.h, which says what each does, which statuses it has, and what locks are. A call
- * that is refused throws, and changed nothing: OutOfMemory, which is a std::bad_alloc, where memory was refused; Busy, Absent
- * or Exists, with the transaction or the key that they are about; and else an Error with its status. A transaction is aborted
+ * that is refused throws, and changed nothing, but that the runs of a load stay that were added before the refused one:
+ * OutOfMemory, which is a std::bad_alloc, where memory was refused; Busy, Absent, Exists, Twice or BadLine, with the
+ * transaction, the key or the line that they are about; and else an Error with its status. A transaction is aborted
  * where it leaves its scope without a commit, by an exception or otherwise.
  *
  * A store and its transactions are moved and not copied. An object that was moved from has no store, and neither has a
@@ -87,6 +88,23 @@ public:
     explicit Exists(std::string_view key) : KeyError(TVK_EXISTS, key) {}
 };
 
+/* A key that stands twice among what is to be loaded. */
+class Twice : public KeyError {
+public:
+    explicit Twice(std::string_view key) : KeyError(TVK_TWICE, key) {}
+};
+
+/* A line of a text that is no record, by its number from 1. */
+class BadLine : public Error {
+public:
+    BadLine(tvk_status status, std::uint64_t line) : Error(status, "line " + std::to_string(line)), line_(line) {}
+
+    std::uint64_t line() const noexcept { return line_; }
+
+private:
+    std::uint64_t line_;
+};
+
 /* Memory was refused. */
 class OutOfMemory : public std::bad_alloc {
 public:
@@ -124,6 +142,7 @@ template <class Text> std::string_view view(const Text &text) noexcept {
     case TVK_BUSY: throw Busy(told);
     case TVK_ABSENT: throw Absent(text);
     case TVK_EXISTS: throw Exists(text);
+    case TVK_TWICE: throw Twice(text);
     case TVK_BAD_KEY:
     case TVK_BAD_VALUE: throw Error(status, std::string(text));
     default: throw Error(status, about);
@@ -322,6 +341,35 @@ public:
         return load(std::begin(pairs), std::end(pairs), run);
     }
 
+    /* The same by the library's own sort, in runs of RUN, each record copied once: a key that stands twice anywhere throws Twice,
+     * and nothing is added then. No pairs at all are refused, as TVK_NOT_RISING. `loaded` is told how many records were added
+     * before a run that is refused. */
+    template <class Iterator> std::uint64_t load_sorting(Iterator first, Iterator last, std::uint64_t *loaded = nullptr) {
+        std::vector<tvk_record> records;
+        for (; first != last; ++first) {
+            const auto &[key, value] = *first;
+            tvk_record &record = records.emplace_back();
+            detail::fill(record.key, key, TVK_BAD_KEY);
+            detail::fill(record.value, value, TVK_BAD_VALUE);
+        }
+        return load_all(records.size(), loaded, [&](tvk_key *key, std::uint64_t *, std::uint64_t *count, std::uint64_t *told) {
+            return tvk_load_sorting(store_.get(), number_, records.data(), records.size(), key, count, told);
+        });
+    }
+
+    template <class Pairs> std::uint64_t load_sorting(Pairs &&pairs, std::uint64_t *loaded = nullptr) {
+        return load_sorting(std::begin(pairs), std::end(pairs), loaded);
+    }
+
+    /* The same of a text, whose lines have a key, a TAB and a value each; the last one may lack its LF. A line that is no record
+     * throws BadLine, and nothing is added then. */
+    std::uint64_t load_text(std::string_view text, std::uint64_t *loaded = nullptr) {
+        auto lines = static_cast<std::size_t>(std::count(text.begin(), text.end(), '\n')) + 1;
+        return load_all(lines, loaded, [&](tvk_key *key, std::uint64_t *line, std::uint64_t *count, std::uint64_t *told) {
+            return tvk_load_text(store_.get(), number_, text.data(), text.size(), key, line, count, told);
+        });
+    }
+
     /* The records from `lo` to `hi`, both included, by rising key. They are read while they are walked through, and each time
      * the range from the next key to `hi` is locked. */
     Rows scan(std::string_view lo = {}, std::string_view hi = GREATEST) const { return Rows(store_, number_, lo, hi); }
@@ -360,6 +408,19 @@ private:
         std::uint64_t told = 0;
         tvk_status status = call(store_.get(), number_, key.data(), key.size(), value.data(), value.size(), &told);
         return is_done(status, told, status == TVK_BAD_VALUE ? value : key);
+    }
+
+    template <class Load> std::uint64_t load_all(std::size_t most, std::uint64_t *loaded, Load load) {
+        tvk_key key;
+        key.length = 0;
+        std::uint64_t line = 0, count = 0, told = 0;
+        if (loaded) *loaded = 0;
+        if (most > (TVK_MAX_LOCKS - 1) * RUN) lock(TVK_EXCLUSIVE);
+        tvk_status status = load(&key, &line, &count, &told);
+        if (loaded) *loaded = count;
+        if (line) throw BadLine(status, line);
+        check(status, told, detail::view(key));
+        return count;
     }
 
     std::uint64_t load_run(std::vector<tvk_record> &piece, std::uint64_t before) {

@@ -31,7 +31,7 @@ static tvk_store store = TVK_CLOSED;
 static tvk_record rows[TVK_MAX_ROWS + 1];
 static long call;
 static int may_refuse, is_ever_refused;
-static long refused, answers[TVK_NULL + 1];
+static long refused, answers[TVK_BAD_LINE + 1];
 
 static uint64_t state;
 static uint64_t any(void) {
@@ -267,6 +267,54 @@ static void test_load(transaction *tx) {
     for (int i = 0; i < number; i++) put(tx, chosen[i], (record){1, records[i].value});
 }
 
+/* Records in any order, which all are one run: as they are, or as a text, whose last LF may be missing. */
+static void test_load_sorting(transaction *tx) {
+    int number = below(below(2) ? 4 : 12), exists = KEYS, twice = KEYS, lo = KEYS, hi = -1, is_text = below(2);
+    static tvk_record records[16];
+    static int chosen[16];
+    static char text[16 * (TVK_MAX_KEY + TVK_MAX_VALUE + 2)];
+    size_t length = 0;
+    uint64_t told = 7, loaded = 7, line = 7, holder = 0;
+    tvk_key found;
+    memset(&found, 0, sizeof found);
+    if (loads > 60000) return;
+    for (int i = 0; i < number; i++) {
+        int at = chosen[i] = below(KEYS);
+        tvk_value value = any_value();
+        for (size_t b = 0; b < value.length; b++) value.bytes[b] = (uint8_t)(value.bytes[b] == '\n' ? '\t' : value.bytes[b]);
+        records[i].key = keys[at];
+        records[i].value = value;
+        memcpy(text + length, keys[at].bytes, keys[at].length);
+        length += keys[at].length;
+        text[length++] = '\t';
+        memcpy(text + length, value.bytes, value.length);
+        length += value.length;
+        text[length++] = '\n';
+        for (int j = 0; j < i; j++)
+            if (chosen[j] == at && at < twice) twice = at;
+        if (at < lo) lo = at;
+        if (at > hi) hi = at;
+    }
+    if (length && below(2)) length--;
+    lock asked = {lo, hi, 1};
+    tvk_status due = twice < KEYS ? TVK_TWICE : refusal(tx);
+    if (!due) due = number ? lock_due(tx, asked, &holder) : TVK_NOT_RISING;
+    for (int i = 0; !due && i < number; i++)
+        if (seen(tx, chosen[i])->is_there && chosen[i] < exists) exists = chosen[i];
+    tvk_status got = is_text ? tvk_load_text(&store, tx->number, number ? text : NULL, length, &found, &line, &loaded, &told)
+                             : tvk_load_sorting(&store, tx->number, number ? records : NULL, (size_t)number, &found, &loaded, &told);
+    tvk_status wanted = due ? due : exists < KEYS ? TVK_EXISTS : TVK_OK;
+    if (loaded != (got ? 0 : (uint64_t)number) || (is_text && line)) fail("another number loaded");
+    if (!is_answer(got, wanted, told, holder)) return;
+    if ((got == TVK_TWICE && memcmp(&found, &keys[twice], sizeof found)) || (got == TVK_EXISTS && memcmp(&found, &keys[exists], sizeof found)))
+        fail("another key of a load");
+    if (due) return;
+    grant(tx, asked);
+    if (got) return;
+    loads++;
+    for (int i = 0; i < number; i++) put(tx, chosen[i], (record){1, records[i].value});
+}
+
 static void test_scan(transaction *tx, int is_behind) {
     int lo = below(KEYS), hi = lo + below(below(16) ? 8 : KEYS), limit = 1 + below(below(4) ? 8 : TVK_MAX_ROWS - 1);
     if (hi >= KEYS) hi = KEYS - 1;
@@ -322,7 +370,7 @@ static void test_clean(void) {
 static void test_bad_use(void) {
     tvk_store closed = TVK_CLOSED;
     tvk_value value;
-    uint64_t tx = begun + 1, told;
+    uint64_t tx = begun + 1, told, line;
     tvk_status got;
 #define EXPECT(due, what) \
     if ((got = (what)) != (due) && !(got == TVK_NO_MEMORY && may_refuse)) fail(#what)
@@ -372,6 +420,24 @@ static void test_bad_use(void) {
     rows[0].key.length = 0;
     rows[1].value.length = TVK_MAX_VALUE + 1;
     EXPECT(TVK_BAD_VALUE, tvk_load(&store, tx, rows, 2, NULL, NULL));
+    EXPECT(TVK_BAD_VALUE, tvk_load_sorting(&store, tx, rows, 2, NULL, NULL, NULL));
+    EXPECT(TVK_NO_STORE, tvk_load_sorting(&closed, tx, NULL, 1, NULL, NULL, NULL));
+    EXPECT(TVK_NULL, tvk_load_sorting(&store, tx, NULL, 1, NULL, NULL, NULL));
+    EXPECT(TVK_NO_TX, tvk_load_sorting(&store, tx, NULL, 0, NULL, NULL, NULL));
+    EXPECT(TVK_NO_STORE, tvk_load_text(&closed, tx, NULL, 1, NULL, NULL, NULL, NULL));
+    EXPECT(TVK_NULL, tvk_load_text(&store, tx, NULL, 1, NULL, NULL, NULL, NULL));
+    EXPECT(TVK_NO_TX, tvk_load_text(&store, tx, NULL, 0, NULL, NULL, NULL, NULL));
+    /* The number of the first wrong line, whatever is wrong behind it; a line may be of a TAB alone, and not empty. */
+#define EXPECT_LINE(due, number, text)                                                                     \
+    EXPECT(due, tvk_load_text(&store, tx, text, sizeof text - 1, NULL, &line, NULL, NULL));                \
+    if (line != (got == TVK_NO_MEMORY ? 0 : number)) fail("another line")
+    EXPECT_LINE(TVK_BAD_LINE, 1u, "\n");
+    EXPECT_LINE(TVK_BAD_LINE, 2u, "a\tb\n\nc\td\n");
+    EXPECT_LINE(TVK_BAD_LINE, 3u, "a\tb\n\t\nb");
+    EXPECT_LINE(TVK_BAD_KEY, 2u, "a\t\n123456789012345678901234567890123\t\nb\n");
+    EXPECT_LINE(TVK_BAD_VALUE, 1u, "a\t12345678901234567890123456789012345678901234567890123456789012345\nb");
+    EXPECT_LINE(TVK_TWICE, 0u, "b\t\na\t1\na\t2\nb\t");
+    EXPECT_LINE(TVK_NO_TX, 0u, "12345678901234567890123456789012\t1234567890123456789012345678901234567890123456789012345678901234");
 }
 
 static void test_any(void) {
@@ -390,7 +456,8 @@ static void test_any(void) {
     else if (kind < 58) test_write(tx, kind % 3);
     else if (kind < 70) test_scan(tx, 0);
     else if (kind < 76) test_scan(tx, 1);
-    else if (kind < 79) test_load(tx);
+    else if (kind < 78) test_load(tx);
+    else if (kind < 79) test_load_sorting(tx);
     else if (kind < 82) test_lock(tx);
     else if (kind < 85) test_mark(tx);
     else if (kind < 88) test_back(tx);
@@ -438,27 +505,88 @@ static void test_end(void) {
     if (got || told != due) fail("another number of entries in the end");
 }
 
-/* A load of more records than a session could stage, in one call. */
-static void test_large_load(void) {
-    enum { MANY = 300000 };
-    tvk_store large = TVK_CLOSED;
-    tvk_value value;
-    uint64_t tx, told;
-    char text[16];
-    tvk_record *records = calloc(MANY, sizeof *records);
-    if (!records || tvk_open(&large) || tvk_begin(&large, &tx)) fail("no room for a large load");
+/* Loads of more records than a session could stage: by rising key in one run, and in any order in five. */
+enum { MANY = 300000, RUN = 65536, LINE = 18 };
+
+static tvk_store large = TVK_CLOSED;
+static tvk_record *records;
+static char *text;
+
+static void begin_large(uint64_t *tx) {
+    if (tvk_open(&large) || tvk_begin(&large, tx)) fail("no room for a large load");
+}
+
+static void end_large(uint64_t tx, uint64_t due) {
+    uint64_t told;
+    if (tvk_commit(&large, tx, NULL) || tvk_entries(&large, &told) || told != due) fail("the records of a large load");
+    if (tvk_close(&large)) fail("a large store is not closed");
+}
+
+/* Each record's key by a number, and the text of them all. */
+static void make_large(int factor) {
+    char line[32];
     for (int i = 0; i < MANY; i++) {
+        snprintf(line, sizeof line, "%08lld\t%08d\n", (long long)i * factor % MANY, i);
+        memcpy(text + (size_t)LINE * (size_t)i, line, LINE);
         records[i].key.length = records[i].value.length = 8;
-        snprintf(text, sizeof text, "%08d", i);
-        memcpy(records[i].key.bytes, text, 8);
-        memcpy(records[i].value.bytes, text, 8);
+        memcpy(records[i].key.bytes, line, 8);
+        memcpy(records[i].value.bytes, line + 9, 8);
     }
-    if (tvk_load(&large, tx, records, MANY, NULL, &told)) fail("a load of 300,000 records");
+}
+
+static void look_at_large(uint64_t tx) {
+    tvk_value value;
     for (int i = 0; i < MANY; i += 997)
         if (tvk_get(&large, tx, records[i].key.bytes, 8, &value, NULL) || memcmp(value.bytes, records[i].value.bytes, 8))
             fail("a record of a large load");
-    if (tvk_commit(&large, tx, NULL) || tvk_entries(&large, &told) || told != MANY) fail("the records of a large load");
-    if (tvk_close(&large)) fail("a large store is not closed");
+}
+
+/* The third run is refused, for a record of its own: the two before it stay, and what is behind them can be loaded later. */
+static void test_refused_run(uint64_t tx) {
+    uint64_t loaded, told;
+    tvk_key found;
+    const tvk_key *key = &records[2 * RUN + 5].key;
+    if (tvk_insert(&large, tx, key->bytes, key->length, NULL, 0, NULL)) fail("a record of a run");
+    if (tvk_load_sorting(&large, tx, records, MANY, &found, &loaded, NULL) != TVK_EXISTS || loaded != 2 * RUN) fail("a refused run");
+    if (memcmp(&found, key, sizeof found)) fail("the key of a refused run");
+    if (tvk_entries(&large, &told) || told != 2 * RUN + 1) fail("the runs before a refused one");
+    if (tvk_delete(&large, tx, key->bytes, key->length, NULL)) fail("the record of a run");
+    if (tvk_load_sorting(&large, tx, records + loaded, MANY - (size_t)loaded, NULL, &loaded, NULL) || loaded != MANY - 2 * RUN)
+        fail("the runs behind a refused one");
+}
+
+static void test_large_loads(void) {
+    uint64_t tx, told, loaded, line;
+    tvk_key found;
+    records = calloc(MANY, sizeof *records);
+    text = malloc((size_t)LINE * MANY);
+    if (!records || !text) fail("no room for large loads");
+    make_large(1);
+    begin_large(&tx);
+    if (tvk_load(&large, tx, records, MANY, NULL, &told)) fail("a load of 300,000 records");
+    look_at_large(tx);
+    end_large(tx, MANY);
+
+    make_large(7919);
+    begin_large(&tx);
+    if (tvk_load_text(&large, tx, text, (size_t)LINE * MANY - 1, NULL, &line, &loaded, NULL) || loaded != MANY || line)
+        fail("a text of 300,000 lines");
+    look_at_large(tx);
+    end_large(tx, MANY);
+
+    begin_large(&tx);
+    test_refused_run(tx);
+    look_at_large(tx);
+    if (tvk_clean(&large, NULL, 0, keys[KEYS - 1].bytes, TVK_MAX_KEY, TVK_MAX_LIMIT, NULL)) fail("the last clean steps");
+    end_large(tx, MANY + 1);
+
+    /* A key of the first run stands in the last one too. */
+    begin_large(&tx);
+    records[MANY - 1].key = records[3].key;
+    if (tvk_load_sorting(&large, tx, records, MANY, &found, &loaded, NULL) != TVK_TWICE || loaded) fail("a key that stands twice");
+    if (memcmp(&found, &records[3].key, sizeof found)) fail("the key that stands twice");
+    end_large(tx, 0);
+    free(text);
     free(records);
 }
 
@@ -480,9 +608,9 @@ int main(int words, char **word) {
     if (tvk_close(&store) || store.at) fail("the store is not closed");
     if (tvk_close(&store) != TVK_NO_STORE) fail("a closed store is closed again");
     if (may_refuse) return 0;
-    test_large_load();
+    test_large_loads();
     printf("library: %ld calls, %llu commits, %llu loads;", number, (unsigned long long)commits, (unsigned long long)loads);
-    for (int status = 0; status <= TVK_NULL; status++)
+    for (int status = 0; status <= TVK_BAD_LINE; status++)
         if (answers[status]) printf(" %s %ld", tvk_name((tvk_status)status), answers[status]);
     printf("\n");
     return 0;

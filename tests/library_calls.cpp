@@ -166,6 +166,49 @@ static void loads_and_scans() {
     expect(store.entries() == 2999, "a clean");
 }
 
+static void loads_in_any_order() {
+    Store store;
+    Transaction tx = store.transaction();
+    std::vector<std::pair<std::string, std::string>> all;
+    std::string text;
+    for (int i = 0; i < 70000; i++) {
+        char key[16];
+        std::snprintf(key, sizeof key, "%06d", static_cast<int>(i * 7919ll % 70000));
+        all.emplace_back(key, std::to_string(i));
+        if (i < 100) text += "x" + all.back().first + '\t' + all.back().second + '\n';
+    }
+    expect(tx.load_sorting(all) == 70000 && tx.get(all[69999].first) == "69999", "a load of two runs");
+    expect(tx.load_text(text) == 100 && tx.get("x" + all[7].first) == "7", "a load of a text");
+    std::uint64_t loaded = 7;
+    tx.abort();
+
+    Transaction second = store.transaction();
+    second.insert(all[66000].first, "1");
+    try {
+        second.load_sorting(all, &loaded);
+        expect(false, "a load of what is there");
+    } catch (const tiuvrokk::Exists &exists) {
+        expect(exists.key() == all[66000].first && loaded == 65536, "the key that is there, and the run before");
+    }
+    all[69999].first = all[3].first;
+    try {
+        second.load_sorting(all.begin(), all.end(), &loaded);
+        expect(false, "a key that stands twice");
+    } catch (const tiuvrokk::Twice &twice) {
+        expect(twice.key() == all[3].first && twice.status() == TVK_TWICE && loaded == 0, "the key that stands twice");
+    }
+    for (const char *wrong : {"a\t1\nb=2\n", "a\t1\n\nb\t2", "a\t1\n123456789012345678901234567890123\t1\n"}) {
+        try {
+            second.load_text(wrong);
+            expect(false, "a wrong line");
+        } catch (const tiuvrokk::BadLine &bad) {
+            expect(bad.line() == 2 && !second.contains("a"), "which line is wrong");
+        }
+    }
+    expect(thrown([&] { second.load_text(""); }) == TVK_NOT_RISING, "a text of no lines");
+    expect(thrown([&] { second.load_sorting(Map{}); }) == TVK_NOT_RISING, "a load of no records");
+}
+
 static void threads_in_turn() {
     std::optional<Store> store;
     std::optional<Transaction> tx;
@@ -222,6 +265,7 @@ int main(int, char **words) {
     exceptions_abort();
     errors();
     loads_and_scans();
+    loads_in_any_order();
     threads_in_turn();
     random_transactions(std::atoi(words[1]), static_cast<unsigned>(std::atoi(words[2])));
     std::printf("library: %s calls from C++\n", words[1]);

@@ -1,5 +1,6 @@
 /* Worked calls of the library for C, one after another, with a line for each. A call that is refused memory must have left
- * everything as it was, and is made again: so with any one allocation refused the same lines are printed. */
+ * everything as it was, and is made again: so with any one allocation refused the same lines are printed.
+ *     refused_calls [two_runs] */
 #include <stdio.h>
 #include <string.h>
 #include <tiuvrokk.h>
@@ -158,6 +159,61 @@ static void two_loads(void) {
     close_and_tell("loads_of_a_tree");
 }
 
+/* Two hundred records in any order, as they are and as a text, and what is wrong with others. */
+static void any_order(void) {
+    static tvk_record records[200];
+    static char text[200 * 8];
+    uint64_t line, loaded;
+    tvk_key key;
+    tvk_status got;
+    open_anew();
+    memset(records, 0, sizeof records);
+    for (int i = 0; i < 200; i++) {
+        records[i].key.length = key_of(i * 7 % 200, (char *)records[i].key.bytes);
+        records[i].value.length = 1;
+        records[i].value.bytes[0] = 'a';
+        key_of(1000 + i * 7 % 200, text + i * 7);
+        memcpy(text + i * 7 + 4, "\tb\n", 3);
+    }
+    want(AGAIN(tvk_load_sorting(&store, tx, records, 200, NULL, &loaded, NULL)) == TVK_OK && loaded == 200);
+    for (int number = 0; number < 200; number++) stands[number] = 'a';
+    want(AGAIN(tvk_load_text(&store, tx, text, 200 * 7 - 1, NULL, &line, &loaded, NULL)) == TVK_OK && loaded == 200 && !line);
+    for (int number = 1000; number < 1200; number++) stands[number] = 'b';
+    want(is_as_it_was());
+    want(AGAIN(tvk_load_sorting(&store, tx, records + 20, 180, &key, &loaded, NULL)) == TVK_EXISTS && !loaded);
+    want(key.length == 4 && !memcmp(key.bytes, "0001", 4));
+    records[150] = records[0];
+    want(AGAIN(tvk_load_sorting(&store, tx, records, 200, &key, &loaded, NULL)) == TVK_TWICE && !loaded);
+    want(key.length == 4 && !memcmp(key.bytes, "0000", 4));
+    want(AGAIN(tvk_load_text(&store, tx, "1500\ta\n1501", 11, &key, &line, &loaded, NULL)) == TVK_BAD_LINE && line == 2 && !loaded);
+    want(is_as_it_was());
+    close_and_tell("any_order");
+}
+
+/* Records in any order that make two runs. Where memory is refused the first of them may stay: what is behind it is loaded
+ * again. */
+static void two_runs(void) {
+    enum { RUN = 65536, BOTH = RUN + 500 };
+    static tvk_record records[BOTH];
+    uint64_t loaded, entries, all = 0;
+    tvk_status got;
+    open_anew();
+    memset(records, 0, sizeof records);
+    for (uint64_t i = 0; i < BOTH; i++) {
+        uint64_t number = i * 7919 % BOTH;
+        records[i].key.length = 5;
+        for (int at = 4; at >= 0; at--, number /= 10) records[i].key.bytes[at] = (uint8_t)('0' + number % 10);
+    }
+    do {
+        got = tvk_load_sorting(&store, tx, records + all, BOTH - (size_t)all, NULL, &loaded, NULL);
+        all += loaded;
+        want(got == TVK_OK ? all == BOTH : got == TVK_NO_MEMORY && (!all || all == RUN));
+        if (tvk_entries(&store, &entries) == TVK_NO_MEMORY) tvk_entries(&store, &entries);
+        want(entries == all);
+    } while (got == TVK_NO_MEMORY);
+    close_and_tell("two_runs");
+}
+
 /* Scans of keys that stand in three runs in turn, and in one. */
 static void scans(void) {
     open_anew();
@@ -293,12 +349,17 @@ static void abort_restores(void) {
     close_and_tell("abort_restores_across_partitions");
 }
 
-int main(void) {
+int main(int words, char **word) {
     static char buffer[4096];
     setvbuf(stdout, buffer, _IOFBF, sizeof buffer);
+    if (words > 1 && !strcmp(word[1], "two_runs")) {
+        two_runs();
+        return 0;
+    }
     tree_of(33, "full_leaf_and_one_more");
     tree_of(MOST, "tree_of_two_thousand");
     two_loads();
+    any_order();
     scans();
     twelve_locks();
     six_notes();

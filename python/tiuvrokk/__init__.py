@@ -25,14 +25,14 @@ ImportError.
 from ._store import Store, Transaction
 from .errors import (
     MAX_KEY, MAX_LIMIT, MAX_VALUE, Absent, Bad, BadLine, Busy, Closed, Error, Exists, NoMark, NotRising, NoTransaction,
-    OutOfMemory, Status, TooMany, WrongThread,
+    OutOfMemory, Status, TooMany, Twice, WrongThread,
 )
 
 __version__ = "1.1.0"
 
 __all__ = [
     "MAX_KEY", "MAX_VALUE", "MAX_LIMIT", "Store", "Transaction", "Status", "Error", "Absent", "Exists", "Busy", "NoTransaction",
-    "NoMark", "TooMany", "NotRising", "Bad", "BadLine", "Closed", "OutOfMemory", "WrongThread",
+    "NoMark", "TooMany", "NotRising", "Twice", "Bad", "BadLine", "Closed", "OutOfMemory", "WrongThread",
 ]
 
 # A traceback names an exception as a program does.

@@ -3,6 +3,7 @@
 from __future__ import annotations
 
 import ctypes
+import io
 import itertools
 import re
 import struct
@@ -162,6 +163,35 @@ def runs_of(records: Records, run: int) -> Iterator[list[Record]]:
             piece = []
     if piece:
         yield sorted(piece, key=FIRST)
+
+
+_WITHIN = bytes(range(0x21, 0x7F)) + b"\t\n"
+_EQUALS_ALONE = re.compile(rb"^([^\t\n=]*)=([^\t\n]*)$", re.MULTILINE)
+_EQUALS_IN_KEY = re.compile(rb"=[^\t\n]*\t")
+
+
+def plain_text(text: bytes) -> Optional[bytes]:
+    """The text of a file as the library reads it, without CRs and an empty last line, and with a TAB behind each key; None where
+    a line is no record. That no key or value is too long, and that each line has a TAB, is left to the library."""
+    if text in (b"\n", b"\r\n"):
+        return b""
+    if text.endswith((b"\n\n", b"\n\r\n")):
+        text = text[: -1 if text.endswith(b"\n\n") else -2]
+    if b"\r" in text:
+        text = (text + b"\n" if text.endswith(b"\r") else text).replace(b"\r\n", b"\n")
+    lines = text.count(b"\n") + (not text.endswith(b"\n") and text != b"")
+    if b"=" in text:
+        if text.count(b"\t") < lines:
+            text = _EQUALS_ALONE.sub(rb"\1\t\2", text)
+        if _EQUALS_IN_KEY.search(text):
+            return None
+    is_empty = text.startswith(b"\t") or text.endswith(b"\t") or b"\n\t" in text or b"\t\n" in text
+    return None if is_empty or text.count(b"\t") != lines or text.translate(None, _WITHIN) else text
+
+
+def bad_line(text: bytes) -> BadLine:
+    """The first line of a file that is no record, where one is."""
+    return _bad_line(list(io.BytesIO(text if text.endswith(b"\n") else text + b"\n")), 1)
 
 
 _LINE = re.compile(rb"^([!-<>-~]{1,32})\t([!-~]{1,64})\r?$", re.MULTILINE)

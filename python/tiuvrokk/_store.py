@@ -3,6 +3,7 @@
 from __future__ import annotations
 
 import ctypes
+import io
 import itertools
 import os
 import warnings
@@ -14,9 +15,9 @@ from types import TracebackType
 from typing import Any, NoReturn, Optional, TypeVar, Union, overload
 
 from ._library import Call, Handle, Number, calls
-from ._records import GREATEST, SIZES, Key, Page, Record, Records, Text, Value, below, bytes_of, double_line, first_double
-from ._records import line_runs, packed, range_of, runs_of, text_of
-from .errors import MAX_LIMIT, Absent, Closed, Exists, NotRising, Status, WrongThread, bad_limit, bad_range, error_of
+from ._records import GREATEST, SIZES, Key, Page, Record, Records, Text, Value, bad_line, below, bytes_of, double_line
+from ._records import first_double, line_runs, packed, plain_text, range_of, runs_of, text_of
+from .errors import MAX_LIMIT, Absent, Bad, Closed, Exists, NotRising, Status, Twice, WrongThread, bad_limit, bad_range, error_of
 
 Default = TypeVar("Default")
 Row = TypeVar("Row")
@@ -124,11 +125,14 @@ class Store(_Unique):
     def load_file(self, path: Union[str, os.PathLike[str]], run: int = RUN) -> int:
         """Loads the records of a file, all or none, in a transaction of its own, and answers how many they are. Each line is a
         record, as `amload` reads it: a key of 1 to 32 visible characters of ASCII, none of them `=`, a TAB or the first
-        `=`, and a value of 1 to 64. Raises `BadLine`, and `Exists` where a key has a record."""
+        `=`, and a value of 1 to 64. Raises `BadLine`, and `Exists` where a key has a record. The file is read whole, unless its
+        runs are to have another number of records."""
         self._use()
         with open(path, "rb") as file, self.transaction() as tx:
+            if _run(run) == RUN:
+                return tx._load_text(file.read())
             try:
-                return tx._load_runs(line_runs(file, _run(run)))
+                return tx._load_runs(line_runs(file, run))
             except (Exists, NotRising) as error:
                 if not file.seekable():
                     raise
@@ -430,6 +434,26 @@ class Transaction(_Unique):
             self._load(records)
             count += len(records)
         return count
+
+    def _load_text(self, text: bytes) -> int:
+        """Loads the records of a file, and answers how many they are."""
+        plain = plain_text(text)
+        if plain is None:
+            raise bad_line(text)
+        if not plain:
+            return 0
+        if plain.count(b"\n") >= _LOCKED_RUNS * RUN:
+            self.lock(b"", GREATEST, exclusive=True)
+        key, line, loaded = Key(), Number(), Number()
+        try:
+            status = self._ask(calls.load_text, Number(), plain, SIZES[len(plain)], key, line, loaded)
+        except Twice:
+            raise double_line(io.BytesIO(text), text_of(key)) or Twice(text_of(key)) from None
+        except Bad as error:
+            raise bad_line(text) if line[0] else error from None
+        if status:
+            raise Exists(text_of(key))
+        return loaded[0]
 
     def _load(self, records: list[Record]) -> None:
         rows, exists = packed(records), Key()

@@ -40,6 +40,8 @@ class Status(IntEnum):
     BAD_RANGE = 21
     BAD_MODE = 22
     NULL = 23
+    TWICE = 24
+    BAD_LINE = 25
 
 
 # How many of what there may be, by the status that says that there are as many.
@@ -166,6 +168,19 @@ class NotRising(Error):
         return f"the key {shown(self.key)} stands twice among the records"
 
 
+class Twice(Error):
+    """A key stands twice among what is to be loaded: `key`, the least such one."""
+
+    status = Status.TWICE
+
+    def __init__(self, key: bytes) -> None:
+        super().__init__(key)
+        self.key = key
+
+    def _text(self) -> str:
+        return f"the key {shown(self.key)} stands twice"
+
+
 class Bad(Error, ValueError):
     """A length, a limit, a range or a mode is out of bounds."""
 
@@ -250,6 +265,7 @@ def error_of(status: int, transaction: int = 0, told: int = 0, texts: Sequence[b
         Status.NO_TX: lambda: NoTransaction(transaction),
         Status.NO_MARK: lambda: NoMark(transaction),
         Status.NOT_RISING: lambda: NotRising(b""),
+        Status.TWICE: lambda: Twice(b""),
         Status.NO_MEMORY: OutOfMemory,
         Status.NO_STORE: Closed,
         Status.BAD_KEY: lambda: bad_key(max(map(len, texts))),

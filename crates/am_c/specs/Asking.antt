@@ -43,6 +43,10 @@ abbrev pub pairs_given : List Record → Result (List (OrderedKey × List ℕ)) 
 pairs_given [] = Ok []
 pairs_given (r ∷ rs) = of_both (λ pair pairs. Ok (pair ∷ pairs)) (pair_given r) (pairs_given rs)
 
+-- what was given, or memory was refused for a copy of it
+abbrev pub IsCopied : Result (List (OrderedKey × List ℕ)) Status → Result (List (OrderedKey × List ℕ)) Status → Type 0
+IsCopied given copied = (copied ≡ given) ⊎ (copied ≡ Err NoMemory)
+
 abbrev pub clean_asked : List ℕ → List ℕ → ℕ → Result Step Status
 clean_asked lo hi limit = of_one (λ range. Clean range limit) (range_given lo hi)
 

@@ -34,6 +34,8 @@ code is.BadKey = 19
 code is.BadValue = 20
 code is.BadRange = 21
 code is.BadMode = 22
+code is.Twice = 24
+code is.BadLine = 25
 
 abbrev pub refusal_status : Refusal → Status
 refusal_status NoSuchTx = is.NoTx

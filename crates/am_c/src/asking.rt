@@ -2,7 +2,8 @@
 
 ghost use Rattle.std.specs.Prelude.{◌≡◌, []};
 ghost use Rattle.am_c.specs.Asking.{get_asked, insert_asked, replace_asked, delete_asked, scan_asked, mode_given};
-ghost use Rattle.am_c.specs.Asking.{lock_asked, IsLoadAsked, IsAdded, clean_asked};
+ghost use Rattle.am_c.specs.Asking.{lock_asked, pairs_given, IsLoadAsked, IsCopied, IsAdded};
+ghost use Rattle.am_c.specs.Asking.{clean_asked};
 
 use crate::status::Status;
 use crate::text::{Record, key_given, range_given, value_given};
@@ -68,11 +69,21 @@ pub(crate) fn clean_asked(lo: &[u8], hi: &[u8], limit: u64) -> Result<Step, Stat
 pub(crate) fn load_asked(alloc: Global, tx: u64, records: &[Record]) -> Result<Step, Status>
     ensures { IsLoadAsked tx records.now result }
 {
+    match pairs_asked(alloc, records) {
+        Ok(pairs) => Ok(Step::Do(tx, Op::Load(pairs))),
+        Err(why) => Err(why),
+    }
+}
+
+/// The pairs of the records, or what is wrong with the first that isn't one; or NoMemory.
+pub(crate) fn pairs_asked(alloc: Global, records: &[Record]) -> Result<Pairs, Status>
+    ensures { IsCopied (pairs_given records.now) result }
+{
     let Ok(mut pairs) = Vec::with_capacity(alloc, records.len()) else {
         return Err(Status::NoMemory);
     };
     match add_pairs(records, &mut pairs) {
-        Ok(()) => Ok(Step::Do(tx, Op::Load(Pairs::new(pairs)))),
+        Ok(()) => Ok(Pairs::new(pairs)),
         Err(why) => Err(why),
     }
 }

@@ -3,9 +3,12 @@
 
 mod asking;
 mod handle;
+mod lines;
+mod loads;
 mod loose;
 mod ranges;
 mod records;
+mod runs;
 mod status;
 mod store;
 mod taking;

@@ -32,6 +32,10 @@ pub enum Status {
     BadValue,
     BadRange,
     BadMode,
+    /// A key stands twice in what was given.
+    Twice,
+    /// A line of a text has no TAB.
+    BadLine,
 }
 
 impl Status {
@@ -64,6 +68,8 @@ impl Status {
             Status::BadValue => 20,
             Status::BadRange => 21,
             Status::BadMode => 22,
+            Status::Twice => 24,
+            Status::BadLine => 25,
         }
     }
 }

@@ -33,7 +33,7 @@ pub(crate) fn take_step(
     answer
 }
 
-fn take_there(store: &mut Box<Store<BTree>>, step: Step) -> Reply
+pub(crate) fn take_there(store: &mut Box<Store<BTree>>, step: Step) -> Reply
     ensures { Takes store.old.value step result store.new.value }
 {
     let store = &mut **store;
