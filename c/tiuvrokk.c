@@ -41,6 +41,7 @@ uint32_t tiuvrokk_clean(tvk_store *store, const void *lo, size_t lo_length, cons
                         uint64_t limit, uint64_t *told);
 uint32_t tiuvrokk_commits(tvk_store *store, uint64_t *told);
 uint32_t tiuvrokk_entries(tvk_store *store, uint64_t *told);
+uint32_t tiuvrokk_figures(tvk_store *store, tvk_counts *counts);
 
 /* What a text of no bytes points to, and a list of no records. */
 static const char no_bytes[1];
@@ -285,4 +286,10 @@ tvk_status tvk_commits(tvk_store *store, uint64_t *told) {
 tvk_status tvk_entries(tvk_store *store, uint64_t *told) {
     BEGIN;
     return tiuvrokk_entries(store, told);
+}
+
+tvk_status tvk_figures(tvk_store *store, tvk_counts *counts) {
+    if (!store || !store->at) return TVK_NO_STORE;
+    NEEDS(counts);
+    return tiuvrokk_figures(store, counts);
 }

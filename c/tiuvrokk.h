@@ -134,6 +134,17 @@ typedef struct tvk_record {
     tvk_value value;
 } tvk_record;
 
+/* How large a store is. */
+typedef struct tvk_counts {
+    uint64_t entries;  /* of the index, those marked as deleted too */
+    uint64_t in_final; /* those in the final partition */
+    uint64_t in_runs;  /* those in loaded runs, from where merges move them */
+    uint64_t runs;     /* runs that have entries */
+    uint64_t ghosts;   /* entries that are marked as deleted */
+    uint64_t active;   /* transactions that are active */
+    uint64_t commits;  /* transactions that committed */
+} tvk_counts;
+
 typedef enum tvk_mode {
     TVK_SHARED = 0,
     TVK_EXCLUSIVE = 1
@@ -541,16 +552,26 @@ tvk_status tvk_clean(tvk_store *store, const void *lo, size_t lo_length, const v
  */
 tvk_status tvk_commits(tvk_store *store, uint64_t *told);
 
-/** Tells how many entries the index has, those marked as deleted too. All are copied to be counted.
+/** Tells how many entries the index has, those marked as deleted too.
  *
  * @param[in,out] store  the store
  * @param[out] told      the number
  *
- * @retval TVK_OK         it is told
- * @retval TVK_NO_STORE   the handle is NULL or has no store
- * @retval TVK_NO_MEMORY  memory was refused
+ * @retval TVK_OK        it is told
+ * @retval TVK_NO_STORE  the handle is NULL or has no store
  */
 tvk_status tvk_entries(tvk_store *store, uint64_t *told);
+
+/** Tells how large the store is. It takes no memory, and looks at no entry.
+ *
+ * @param[in,out] store  the store
+ * @param[out] counts    the numbers, which a refused call leaves as they were
+ *
+ * @retval TVK_OK        they are told
+ * @retval TVK_NO_STORE  the handle is NULL or has no store
+ * @retval TVK_NULL      `counts` is NULL
+ */
+tvk_status tvk_figures(tvk_store *store, tvk_counts *counts);
 
 #ifdef __cplusplus
 }

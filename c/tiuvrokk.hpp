@@ -503,6 +503,13 @@ public:
     std::uint64_t commits() const { return count(tvk_commits); }
     std::uint64_t entries() const { return count(tvk_entries); }
 
+    /* How large the store is. */
+    tvk_counts figures() const {
+        tvk_counts counts{};
+        detail::check(tvk_figures(store_.get(), &counts), {});
+        return counts;
+    }
+
     /* The handle, for the calls of tiuvrokk.h. It stays the store's. */
     tvk_store *handle() const noexcept { return store_.get(); }
 

@@ -382,6 +382,8 @@ static void test_bad_use(void) {
     EXPECT(TVK_NO_STORE, tvk_get(&closed, 1, "a", 1, &value, NULL));
     EXPECT(TVK_NO_STORE, tvk_commits(&closed, &told));
     EXPECT(TVK_NO_STORE, tvk_entries(&closed, &told));
+    EXPECT(TVK_NO_STORE, tvk_figures(&closed, NULL));
+    EXPECT(TVK_NULL, tvk_figures(&store, NULL));
     EXPECT(TVK_IS_OPEN, tvk_open(&store));
     EXPECT(TVK_NULL, tvk_get(&store, tx, "a", 1, NULL, NULL));
     EXPECT(TVK_NULL, tvk_get(&store, tx, NULL, 1, &value, NULL));
@@ -503,6 +505,10 @@ static void test_end(void) {
     if (got || told != due) fail("another number of records in the end");
     ASK(tvk_entries(&store, &told));
     if (got || told != due) fail("another number of entries in the end");
+    tvk_counts counts;
+    ASK(tvk_figures(&store, &counts));
+    if (got || counts.entries != due || counts.in_final + counts.in_runs != due || counts.ghosts) fail("other figures in the end");
+    if (counts.active != 1 || counts.commits != commits + 1) fail("other transactions in the end");
 }
 
 /* Loads of more records than a session could stage: by rising key in one run, and in any order in five. */

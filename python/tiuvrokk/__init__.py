@@ -22,7 +22,7 @@ beside this file, as a wheel has it, else the one that the system finds. Where t
 ImportError.
 """
 
-from ._store import Store, Transaction
+from ._store import Figures, Store, Transaction
 from .errors import (
     MAX_KEY, MAX_LIMIT, MAX_VALUE, Absent, Bad, BadLine, Busy, Closed, Error, Exists, NoMark, NotRising, NoTransaction,
     OutOfMemory, Status, TooMany, Twice, WrongThread,
@@ -31,7 +31,7 @@ from .errors import (
 __version__ = "1.1.0"
 
 __all__ = [
-    "MAX_KEY", "MAX_VALUE", "MAX_LIMIT", "Store", "Transaction", "Status", "Error", "Absent", "Exists", "Busy", "NoTransaction",
+    "MAX_KEY", "MAX_VALUE", "MAX_LIMIT", "Store", "Transaction", "Figures", "Status", "Error", "Absent", "Exists", "Busy", "NoTransaction",
     "NoMark", "TooMany", "NotRising", "Twice", "Bad", "BadLine", "Closed", "OutOfMemory", "WrongThread",
 ]
 

@@ -13,10 +13,10 @@ from collections.abc import Callable
 
 # Calls that may take long, or end a store that is large: other threads of Python run meanwhile. The others are over sooner
 # than a thread can be woken.
-_LONG = ["open", "close", "abort", "load", "load_text", "entries"]
+_LONG = ["open", "close", "abort", "load", "load_text"]
 _SHORT = [
     "begin", "commit", "mark", "back", "get", "insert", "replace", "delete", "scan", "scan_behind", "lock", "merge", "clean",
-    "commits",
+    "commits", "entries", "figures",
 ]
 
 _ADVICE = "./install-library PREFIX installs it from the sources, and TIUVROKK_LIBRARY=PREFIX/lib/libtiuvrokk.so names it"
@@ -26,6 +26,9 @@ Call = Callable[..., int]
 
 Number: type[ctypes.Array[ctypes.c_uint64]] = ctypes.c_uint64 * 1
 """Where a call tells a number: an array, which C is passed the address of."""
+
+Counts: type[ctypes.Array[ctypes.c_uint64]] = ctypes.c_uint64 * 7
+"""`tvk_counts`."""
 
 
 class Handle(ctypes.Structure):

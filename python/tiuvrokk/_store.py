@@ -12,9 +12,9 @@ from collections.abc import Callable, Iterable, Iterator, Mapping
 from operator import index
 from threading import get_ident
 from types import TracebackType
-from typing import Any, NoReturn, Optional, TypeVar, Union, overload
+from typing import Any, NamedTuple, NoReturn, Optional, TypeVar, Union, overload
 
-from ._library import Call, Handle, Number, calls
+from ._library import Call, Counts, Handle, Number, calls
 from ._records import GREATEST, SIZES, Key, Page, Record, Records, Text, Value, bad_line, below, bytes_of, double_line
 from ._records import first_double, line_runs, packed, plain_text, range_of, runs_of, text_of
 from .errors import MAX_LIMIT, Absent, Bad, Closed, Exists, NotRising, Status, Twice, WrongThread, bad_limit, bad_range, error_of
@@ -35,6 +35,25 @@ class _Unique:
 
     def __reduce_ex__(self, protocol: Any) -> NoReturn:
         raise TypeError(f"a {type(self).__name__} stands in the memory of its process, and can't be copied or pickled")
+
+
+class Figures(NamedTuple):
+    """How large a store is."""
+
+    entries: int
+    """Of the index, those marked as deleted too."""
+    in_final: int
+    """Those in the final partition."""
+    in_runs: int
+    """Those in loaded runs, from where merges move them."""
+    runs: int
+    """Runs that have entries."""
+    ghosts: int
+    """Entries that are marked as deleted."""
+    active: int
+    """Transactions that are active."""
+    commits: int
+    """Transactions that committed."""
 
 
 class Store(_Unique):
@@ -119,8 +138,15 @@ class Store(_Unique):
         return self._count(calls.commits)
 
     def entries(self) -> int:
-        """How many entries the index has, those marked as deleted too. All are copied to be counted."""
+        """How many entries the index has, those marked as deleted too."""
         return self._count(calls.entries)
+
+    def figures(self) -> Figures:
+        """How large the store is."""
+        counts = Counts()
+        if status := calls.figures(self._use(), counts):
+            raise error_of(status)
+        return Figures(*counts)
 
     def load_file(self, path: Union[str, os.PathLike[str]], run: int = RUN) -> int:
         """Loads the records of a file, all or none, in a transaction of its own, and answers how many they are. Each line is a

@@ -3,6 +3,7 @@ pub mod Held
 pub mod Lines
 pub mod Loading
 pub mod Statuses
+pub mod StoreFigures
 pub mod Taking
 pub mod Telling
 pub mod Texts

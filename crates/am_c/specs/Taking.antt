@@ -65,8 +65,3 @@ Closes None told = told ≡ code NoStore
 abbrev pub Counts : (StoreState → ℕ) → Option StoreState → ℕ → ℕ → Type 0
 Counts count (Some p) told n = (told ≡ code Fine) × (n ≡ count p)
 Counts count None told n = (told ≡ code NoStore) × (n ≡ 0)
-
--- the same, or memory is refused
-abbrev pub CountsOrFails : (StoreState → ℕ) → Option StoreState → ℕ → ℕ → Type 0
-CountsOrFails count (Some p) told n = ((told ≡ code Fine) × (n ≡ count p)) ⊎ ((told ≡ code NoMemory) × (n ≡ 0))
-CountsOrFails count None told n = (told ≡ code NoStore) × (n ≡ 0)

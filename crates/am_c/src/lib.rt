@@ -2,6 +2,7 @@
 #![tactic(auto)]
 
 mod asking;
+mod figures;
 mod handle;
 mod lines;
 mod loads;
