@@ -1,18 +1,16 @@
 -- Texts are cut at their first LF, and lines at their first TAB.
-use Rattle.std.proofs.Common.{◌≡◌, ℕ, ◌+◌, ◌-◌, ◌<◌, ◌≤◌, ltb, cond, List, [], ◌∷◌, ◌++◌, length}
-use Rattle.std.proofs.Common.{take, drop, Option, Some, None, Ok, Err, refl, sym, ap, ◌∙◌, subst, arith, append_assoc}
+use Rattle.std.proofs.Common.{◌≡◌, ℕ, ◌+◌, ◌-◌, ◌<◌, ◌≤◌, ltb, List, [], ◌∷◌, ◌++◌, length}
+use Rattle.std.proofs.Common.{take, drop, Option, Some, None, Ok, refl, sym, ap, ◌∙◌, subst, arith}
 use Rattle.std.specs.Prelude.{Result}
 use Rattle.std.specs.List.{position, position_or_len, slice_split, onto_first}
-use Rattle.core.specs.Result.{is_ok}
 use Rattle.std.proofs.lemmas.Bool.{ltb-true, ltb-false, cond_both}
 use Rattle.std.proofs.lemmas.Grind.{common_steps}
 use Rattle.std.proofs.lemmas.List.Splits.{slice_split_first, slice_split_none}
 use Rattle.std.proofs.lemmas.List.Sums.{fails_before_first}
-use Rattle.am_record.specs.OrderedKey.{OrderedKey}
 use Rattle.am_record.specs.Plain.{Records}
 use Rattle.am_c.specs.declared.status.Status.{Status}
 use Rattle.am_c.specs.Texts.{of_both}
-use Rattle.am_c.specs.Lines.{is_lf, lines_in, lines_of, line_given, lines_given, wrong_line}
+use Rattle.am_c.specs.Lines.{is_lf, lines_in, lines_of, lines_given, wrong_line}
 
 -- the rest of a slice behind a place
 pub behind : (text : List ℕ) (k : ℕ) → take (length text - (k + 1)) (drop (k + 1) text) ≡ drop (k + 1) text
@@ -77,12 +75,6 @@ one_line text some =
 
 -- ---- line after line
 
-abbrev Pair : Type 0
-Pair = OrderedKey × List ℕ
-
-abbrev put : Pair → Records → Result Records Status
-put p ps = Ok (p ∷ ps)
-
 abbrev join : Records → Records → Result Records Status
 join ps qs = Ok (ps ++ qs)
 
@@ -91,51 +83,3 @@ pub record IsReading (text : List ℕ) (rest : List ℕ) (number : ℕ) (pairs :
   pub given : lines_given (lines_of text) ≡ of_both join (Ok pairs) (lines_given (lines_of rest))
   pub wrong : wrong_line 1 (lines_of text) ≡ wrong_line (number + 1) (lines_of rest)
   pub few : number + length rest ≤ length text
-
-none_before : (c : Result Records Status) → c ≡ of_both join (Ok []) c
-none_before (Ok qs) = refl
-none_before (Err why) = refl
-
-pub reads_first : (text : List ℕ) → IsReading text text 0 []
-reads_first text = record {
-  given = none_before (lines_given (lines_of text));
-  wrong = let one : 1 ≡ 0 + 1 = omega arith in ap (λ (n : ℕ). wrong_line n (lines_of text)) one;
-  few = omega arith;
-}
-
-put_last : (p : Pair) (ps : Records) (c : Result Records Status) →
-    of_both join (Ok ps) (of_both put (Ok p) c) ≡ of_both join (Ok (ps ++ p ∷ [])) c
-put_last p ps (Ok qs) = ap Ok (sym (append_assoc ps (p ∷ []) qs))
-put_last p ps (Err why) = refl
-
-module _ (text rest : List ℕ) (number : ℕ) (pairs : Records) (line more : List ℕ)
-    (h : IsReading text rest number pairs) (first : lines_of rest ≡ line ∷ lines_of more) where
-  pub reads_on : (p : Pair) → line_given line ≡ Ok p → length more < length rest →
-      IsReading text more (number + 1) (pairs ++ p ∷ [])
-  reads_on p made fewer = record {
-    given = h.given ∙ ap (λ (ls : List (List ℕ)). of_both join (Ok pairs) (lines_given ls)) first
-        ∙ ap (λ (r : Result Pair Status). of_both join (Ok pairs) (of_both put r (lines_given (lines_of more)))) made
-        ∙ put_last p pairs (lines_given (lines_of more));
-    wrong = h.wrong ∙ ap (wrong_line (number + 1)) first
-        ∙ ap (λ (r : Result Pair Status). cond (is_ok r) (wrong_line (number + 1 + 1) (lines_of more)) (number + 1))
-        made;
-    few = omega (arith, h.few, fewer);
-  }
-
-  pub reads_wrong : (why : Status) → line_given line ≡ Err why →
-      (lines_given (lines_of text) ≡ Err why) × (wrong_line 1 (lines_of text) ≡ number + 1)
-  reads_wrong why is = (
-    h.given ∙ ap (λ (ls : List (List ℕ)). of_both join (Ok pairs) (lines_given ls)) first
-        ∙ ap (λ (r : Result Pair Status). of_both join (Ok pairs) (of_both put r (lines_given (lines_of more)))) is,
-    h.wrong ∙ ap (wrong_line (number + 1)) first
-        ∙ ap (λ (r : Result Pair Status). cond (is_ok r) (wrong_line (number + 1 + 1) (lines_of more)) (number + 1)) is,
-  )
-
-all_put : (ps : Records) → ps ++ [] ≡ ps
-all_put [] = refl
-all_put (p ∷ ps) = ap (λ (rs : Records). p ∷ rs) (all_put ps)
-
-pub reads_all : (text rest : List ℕ) (number : ℕ) (pairs : Records) → IsReading text rest number pairs →
-    length rest ≡ 0 → (lines_given (lines_of text) ≡ Ok pairs) × (wrong_line 1 (lines_of text) ≡ 0)
-reads_all text [] number pairs h none = (h.given ∙ ap Ok (all_put pairs), h.wrong)
-reads_all text (b ∷ rest) number pairs h none = absurd (omega (arith, none))

@@ -16,8 +16,8 @@ use crate::text::{KeyText, Record};
 use am_record::Pairs;
 use std::alloc::Global;
 
-/// Adds records in any order, as runs of 65,536 that are loaded in turn, until one is refused: how many records stand in
-/// front of that one goes out, and the least key that has a record already, or that stands twice.
+/// Adds records in any order, as runs of 65,536 that are loaded in turn, until one is refused: how many records stand
+/// in front of that one goes out, and the least key that has a record already, or that stands twice.
 #[unsafe(no_mangle)]
 pub extern "C" fn tiuvrokk_load_sorting(
     alloc: Global,

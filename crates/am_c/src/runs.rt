@@ -4,7 +4,8 @@ ghost use Rattle.std.specs.Prelude.{◌≡◌, ◌<◌, ◌^◌, ◌∷◌, [], 
 ghost use Rattle.am_runs.specs.Cuts.{IsCut, records_of};
 ghost use Rattle.am_c.specs.declared.runs.Fault.TheVariants.{Other};
 ghost use Rattle.am_c.specs.declared.status.Status.TheVariants.{NoMemory};
-ghost use Rattle.am_c.specs.Loading.{fault_of, AreRuns, AreRunsGiven, IsFault, LoadInTurn, Loads, without_key, load_key_told};
+ghost use Rattle.am_c.specs.Loading.{AreRuns, AreRunsGiven, fault_of, IsFault, LoadInTurn, Loads};
+ghost use Rattle.am_c.specs.Loading.{without_key, load_key_told};
 
 use crate::handle::Handle;
 use crate::status::Status;
