@@ -112,7 +112,7 @@ def seconds_of_loads(keys: List[bytes]) -> float:
 
 
 def chosen_keys(rng: random.Random) -> None:
-    """Keys that a stranger chose without the secret of the filters take no longer, and are found, as are the absent ones not."""
+    """Keys that a stranger chose without the hash key take no longer, and are found, as are the absent ones not."""
     keys = keys_of_number(rng, rng.randrange(WORD), 21_000)
     chosen, absent = keys[:20_000], keys[20_000:]
     assert seconds_of_loads(chosen) < 3 * seconds_of_loads([rng.randbytes(32) for _ in chosen])

@@ -1,6 +1,7 @@
 //! An index to which some inserts are refused.
 
-ghost use Rattle.std.specs.Prelude.{◌≡◌, ◌<◌, ◌+◌, ◌-◌, ◌^◌, ◌++◌, min, Some, None, IsSome, is_some, IsErr, OnOk, OnErr};
+ghost use Rattle.std.specs.Prelude.{◌≡◌, ◌<◌, ◌+◌, ◌-◌, ◌^◌, ◌++◌, min, Some, None};
+ghost use Rattle.std.specs.Prelude.{IsSome, is_some, IsErr, OnOk, OnErr};
 ghost use Rattle.std.specs.List.{AllByRecursion, Contains};
 ghost use Rattle.am_list.specs.Entries.{find, entry_at, insert_entry, set_entry, remove_entry, IsRising};
 ghost use Rattle.am_list.specs.Content.{live_value};
