@@ -134,10 +134,37 @@ def many_loads(rng: random.Random) -> None:
     assert seconds_of_loads(keys) < 3 * seconds_of_loads(keys[:16_384])
 
 
+def seconds_of_looks(store: tiuvrokk.Store, key: bytes) -> float:
+    """The seconds of 2,000 looks for a key that has no record, the least of five tries."""
+    seconds = []
+    for _ in range(5):
+        with store.transaction() as tx:
+            began = time.perf_counter()
+            assert all(tx.get(key) is None for _ in range(2000))
+            seconds.append(time.perf_counter() - began)
+    return min(seconds)
+
+
+def ghosts_in_many_runs() -> None:
+    """A key that stands as deleted in 8,192 runs is looked for as fast as one that never stood anywhere."""
+    with tiuvrokk.Store() as store:
+        for _ in range(8192):
+            tx = store.transaction()
+            tx.load([(b"ant", b"6")])
+            tx.abort()
+        figures = store.figures()
+        assert (figures.entries, figures.in_runs, figures.runs, figures.ghosts) == (8192, 8192, 8192, 8192)
+        assert seconds_of_looks(store, b"ant") < 3 * seconds_of_looks(store, b"bee")
+        with store.transaction() as tx:
+            tx[b"ant"] = b"7"
+            assert tx[b"ant"] == b"7"
+
+
 def main(calls: int, seed: int) -> None:
     rng = random.Random(seed)
     chosen_keys(rng)
     many_loads(rng)
+    ghosts_in_many_runs()
     keys = sorted({rng.randbytes(rng.randrange(33)) for _ in range(120)})
     committed: Records = {}
     done = commits = 0
