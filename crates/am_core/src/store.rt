@@ -41,7 +41,7 @@ impl<I: PartIndex + Drop> Model for Store<I> {
 }
 
 impl<I: PartIndex + Drop> Store<I> {
-    /// A store over an empty index. By the hash key its filters know the keys: no answer depends on it.
+    /// A store over an empty index. By the hash key the keys of runs have numbers: no answer depends on it.
     ///
     /// # Errors
     /// NoMemory, where memory was refused for the ring of wishes or the tables.

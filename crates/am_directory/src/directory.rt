@@ -18,7 +18,7 @@ const FEWEST: usize = 64;
 /// How many labels a table is made for at most.
 const MOST: usize = 1 << 30;
 
-/// Of so many words one stays empty, so that looks are short.
+/// Where room is got, one of so many words stays empty beside what was asked for, so that looks are short.
 const SPARE: usize = 5;
 
 /// Tells in which run a key is live, by the key's number. It is a hash table with linear probing (Knuth, The Art of
@@ -60,9 +60,10 @@ impl Directory {
         ensures { result ≡ residence_of self.now number }
     {
         if self.is_lost {
-            return Residence::Unknown;
+            Residence::Unknown
+        } else {
+            word::residence_by(self.code_of(word::label(number)))
         }
-        word::residence_by(self.code_of(word::label(number)))
     }
 
     /// Gets room for so many labels more.
@@ -99,6 +100,32 @@ impl Directory {
             }
             None => self.is_lost = true,
         }
+    }
+
+    /// Puts down that a key of the number is live in that run, where none of its label is live in a run. Answers what was
+    /// known of them before: where one may be live, nothing is changed. Takes no memory: where no word is left, the
+    /// directory is lost.
+    pub fn enter_first(&mut self, number: u64, run: u32) -> Residence
+        ensures known { result ≡ residence_of self.old number }
+        ensures entered { result ≡ Nowhere → self.new.is_lost ≡ false → HasEntered self.old number run self.new }
+        ensures same { result ≢ Nowhere → self.new ≡ self.old }
+        ensures lost { self.old.is_lost ≡ false → 0 < empty_in self.old.words → self.new.is_lost ≡ false }
+        ensures room { empty_in self.old.words ≤ empty_in self.new.words + 1 }
+    {
+        if self.is_lost {
+            return Residence::Unknown;
+        }
+        let label = word::label(number);
+        let Some(at) = self.find(label) else {
+            self.is_lost = true;
+            return Residence::Nowhere;
+        };
+        let code = word::code(self.words[at]);
+        if word::may_be_live(code) {
+            return word::residence_by(code);
+        }
+        self.put(at, word::word_of(label, word::code_entered(code, run)));
+        Residence::Nowhere
     }
 
     /// Puts down that the key of the number, live in a run before, is not any more. Its word stays, so that it may be

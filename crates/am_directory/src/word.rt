@@ -59,6 +59,13 @@ pub(crate) fn word_of(label: u64, code: u64) -> u64
     label * CODES + code
 }
 
+/// Whether a key of the label may be live.
+pub(crate) fn may_be_live(code: u64) -> bool
+    ensures { result ≡ nat_le 3 code }
+{
+    code >= UNKNOWN
+}
+
 /// What a code says.
 pub(crate) fn residence_by(code: u64) -> Residence
     requires { code < 2 ^ 17 }

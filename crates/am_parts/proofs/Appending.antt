@@ -41,7 +41,7 @@ is_next es runs rs above rising = record {
 
 -- ---- the content, record by record
 
-apart_keys : (k l : OrderedKey) → key_cmp k l ≡ Less → k ≢ l
+pub apart_keys : (k l : OrderedKey) → key_cmp k l ≡ Less → k ≢ l
 apart_keys k l less same = let tied : key_cmp k l ≡ Equal = ap (key_cmp k) (sym same) ∙ key_cmp-itself k in
     absurd (cc (sym less ∙ tied))
 

@@ -217,3 +217,12 @@ module _ {es : List Entry} (sound : AreWellFormed es) (part : ℕ) (key : Ordere
         found_dead part (ap (λ (o : Option Slot). is_some (live_value o)) (sym found) ∙ dead) value
         (subst (λ (p : ℕ). IsLiveAt es p key value) (sym same) live);
   }
+
+-- what is said of an answer that there is, or that there isn't
+pub said_of_some : {A : Type 0} (o : Option A) (P : A → Type 0) → is_some o ≡ true → IfSome o P → (x : A) × P x
+said_of_some None P some h = absurd (false≢true some)
+said_of_some (Some x) P some h = (x, h)
+
+pub said_of_none : {A : Type 0} (o : Option A) (P : Type 0) → is_some o ≡ false → IfNone o P → P
+said_of_none None P none h = h
+said_of_none (Some x) P none h = absurd (true≢false none)

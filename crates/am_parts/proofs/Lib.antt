@@ -12,3 +12,4 @@ mod Emptied
 mod Homes
 mod Changes
 pub mod Looks
+pub mod Noting

@@ -5,7 +5,7 @@ use Rattle.std.specs.List.{AllByRecursion}
 use Rattle.std.specs.Coded.{Coded, code_by, coded×, coded_ℕ}
 use Rattle.std.specs.FinMap.{get, insert, remove}
 use Rattle.am_record.specs.OrderedKey.{OrderedKey}
-use Rattle.am_record.specs.Plain.{PlainMap}
+use Rattle.am_record.specs.Plain.{PlainMap, Records, is_key_of}
 use Rattle.am_record.specs.declared.entry.Entry.{Entry}
 use Rattle.am_list.specs.Entries.{Slot, find, insert_entry, set_entry, remove_entry, IsRising}
 use Rattle.am_list.specs.EntryCode.{entries_code}
@@ -57,6 +57,14 @@ pub record LivesInNoRun (es : List Entry) (key : OrderedKey) : Type 0 where
 -- the key is live in no other partition
 pub record LivesNowhereElse (es : List Entry) (part : ℕ) (key : OrderedKey) : Type 0 where
   pub only : (part' : ℕ) (value : List ℕ) → IsLiveAt es part' key value → part' ≡ part
+
+-- no key of the records is live in the partition
+pub record NoneLiveIn (es : List Entry) (part : ℕ) (pairs : Records) : Type 0 where
+  pub none : (key : OrderedKey) (value : List ℕ) → is_key_of pairs key ≡ true → ¬ IsLiveAt es part key value
+
+-- none is live at all
+abbrev pub AreAllAbsent : List Entry → Records → Type 0
+AreAllAbsent es pairs = AllByRecursion (λ (r : OrderedKey × List ℕ). get (content es) r.0 ≡ None) pairs
 
 -- the content with the entry, which a ghost leaves as it is
 abbrev pub content_with : List Entry → Entry → PlainMap

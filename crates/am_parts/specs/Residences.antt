@@ -1,11 +1,12 @@
 -- In which runs keys are live, and what a directory may tell of it.
-use Rattle.std.specs.Prelude.{◌≡◌, ◌≢◌, ◌<◌, ℕ, List}
+use Rattle.std.specs.Prelude.{◌≡◌, ◌≢◌, ◌⊎◌, ◌<◌, ◌≤◌, ℕ, List, false, get_or}
 use Rattle.am_record.specs.OrderedKey.{OrderedKey}
 use Rattle.am_record.specs.KeyNumber.{key_number}
+use Rattle.am_record.specs.Plain.{Records}
 use Rattle.am_record.specs.declared.hash_key.HashKey.{HashKey}
 use Rattle.am_record.specs.declared.entry.Entry.{Entry}
 use Rattle.am_list.specs.Content.{IsLiveAt}
-use Rattle.am_directory.specs.Tables.{Table, label, residence_of}
+use Rattle.am_directory.specs.Tables.{Table, label, residence_of, empty_in, HasEntered}
 use Rattle.am_directory.specs.declared.residence.Residence.{Residence}
 use Rattle.am_directory.specs.declared.residence.Residence.TheVariants.{Nowhere, In, Unknown}
 use Rattle.am_parts.specs.declared.residences.Residences.{Residences}
@@ -34,5 +35,26 @@ pub record Tells (Lives : OrderedKey → ℕ → Type 0) (hash : HashKey) (t : T
       label (key_number hash key) ≡ label (key_number hash other) →
       residence_of t (key_number hash key) ≢ Unknown → key ≡ other
 
+abbrev pub Tell : (OrderedKey → ℕ → Type 0) → Residences → Type 0
+Tell Lives r = Tells Lives r.hash r.directory
+
 abbrev pub AreResidences : List Entry → Residences → Type 0
-AreResidences es r = Tells (LivesInRun es) r.hash r.directory
+AreResidences es r = Tell (LivesInRun es) r
+
+-- one more key is live in the run
+pub record HasNoted (old : Residences) (key : OrderedKey) (part : ℕ) (new : Residences) : Type 0 where
+  pub hash : new.hash ≡ old.hash
+  pub entered : new.directory.is_lost ≡ false → HasEntered old.directory (key_number old.hash key) part new.directory
+
+-- there is room for so many live keys more
+abbrev pub HasRoom : Residences → ℕ → Type 0
+HasRoom r keys = keys ≤ empty_in r.directory.words
+
+-- the key is that of the record at a place
+abbrev pub IsKeyAt : Records → ℕ → OrderedKey → Type 0
+IsKeyAt rs i key = (r : OrderedKey × List ℕ) → (get_or rs i r).0 ≡ key
+
+-- the key is live in a run, or it is that of a record from one place up to another, and the run is theirs
+abbrev pub LivesWith : List Entry → ℕ → Records → ℕ → ℕ → OrderedKey → ℕ → Type 0
+LivesWith es part rs from to key run =
+    LivesInRun es key run ⊎ ((run ≡ part) × ((i : ℕ) × (from ≤ i) × (i < to) × IsKeyAt rs i key))

@@ -2,10 +2,14 @@
 #![tactic(auto)]
 
 mod catalog;
+mod entering;
+mod fault;
 mod figures;
+mod looking;
 mod merged;
 mod parts;
 mod residences;
 
+pub use fault::RunFault;
 pub use figures::Figures;
 pub use parts::{Parts, Vacancy};

@@ -1,7 +1,7 @@
 //! The partitions of an index, and the changes that keep each key live in at most one of them.
 
 ghost use Rattle.std.specs.Prelude.{◌≡◌, ◌≢◌, ◌+◌, ◌<◌, ◌≤◌, ◌++◌, [], length, take, true, false, Some, None, IsSome};
-ghost use Rattle.std.specs.Prelude.{is_some, IfSome, IfNone, OnOk, OnErr};
+ghost use Rattle.std.specs.Prelude.{is_some, IfSome, IfNone, Err, OnOk, OnErr};
 ghost use Rattle.std.specs.List.{AllByRecursion};
 ghost use Rattle.std.specs.FinMap.{get};
 ghost use Rattle.am_record.specs.Plain.{insert_all, is_rising};
@@ -11,13 +11,15 @@ ghost use Rattle.am_list.specs.Runs.{run_entries};
 ghost use Rattle.am_list.specs.Content.{content, rows_in, live_value, HasContent};
 ghost use Rattle.am_parts.specs.Catalogs.{IsCatalog};
 ghost use Rattle.am_parts.specs.Merged.{HasNoneBefore};
-ghost use Rattle.am_parts.specs.Partitions.{settled, vacancy_over};
+ghost use Rattle.am_parts.specs.Partitions.{settled, vacancy_over, NoneLiveIn, AreAllAbsent};
 
 use crate::catalog::Catalog;
+use crate::entering::enter_run;
+use crate::fault::RunFault;
 use crate::figures::Figures;
+use crate::looking::{live_at, live_by};
 use crate::merged::MergedRanges;
 use crate::residences::Residences;
-use am_directory::Residence;
 use am_list::{Batch, PartIndex};
 use am_record::{Entry, HashKey, Key, NoMemory, Range, Value};
 use std::alloc::Global;
@@ -224,25 +226,7 @@ impl<I: PartIndex + Drop> Parts<I> {
         ensures absent { IfNone result (LivesInNoRun self.now.entries key) }
         ensures sound { AreWellFormed self.now.entries }
     {
-        match self.residences.of(key) {
-            Residence::Nowhere => None,
-            Residence::In(run) => live_at(run, key, self.index.find(run, key)),
-            Residence::Unknown => self.live_in_any_run(key),
-        }
-    }
-
-    // The same, where the runs are searched one after another.
-    fn live_in_any_run(&self, key: Key) -> Option<Entry>
-        ensures live { IfSome result (λ e. IsLiveEntry self.now.entries key e) }
-        ensures absent { IfNone result (LivesInNoRun self.now.entries key) }
-    {
-        for run in self.catalog.runs() {
-            let found = live_at(run.part, key, self.index.find(run.part, key));
-            if found.is_some() {
-                return found;
-            }
-        }
-        None
+        live_by(&self.index, &self.catalog, self.residences.of(key), key)
     }
 
     /// What a new record of the key meets.
@@ -361,28 +345,40 @@ impl<I: PartIndex + Drop> Parts<I> {
 
     /// Makes the records the next run, all of them live in it, and counts it. The caller sees to it that fewer than
     /// 65,535 runs were made, that no entry stands above them, that there is a record, that the records rise, and that
-    /// none of their keys is live.
+    /// none of their keys is live in the final partition. Each key costs one probe of a hash table, and where it, or
+    /// one of its number, is live in a run, a descent.
     ///
     /// # Errors
-    /// NoMemory, where memory was refused; nothing is changed.
-    pub fn append_run(&mut self, pairs: &[(Key, Value)]) -> Result<(), NoMemory>
+    /// Taken, where one of the keys is live in a run; NoMemory, where memory was refused. Nothing is changed.
+    pub fn append_run(&mut self, pairs: &[(Key, Value)]) -> Result<(), RunFault>
         requires room { self.old.runs < 65535 }
         requires above { AllByRecursion (λ e. e.part ≤ self.old.runs) self.old.entries }
         requires rising { is_rising pairs.now ≡ true }
-        requires dead { AllByRecursion (λ r. get (content self.old.entries) r.0 ≡ None) pairs.now }
+        requires in_final { NoneLiveIn self.old.entries 0 pairs.now }
         ensures entries { OnOk result (self.new.entries ≡ self.old.entries ++
             run_entries (self.old.runs + 1) pairs.now) }
         ensures content { OnOk result (HasContent self.new.entries (insert_all pairs.now (content self.old.entries))) }
+        ensures dead { OnOk result (AreAllAbsent self.old.entries pairs.now) }
         ensures runs { OnOk result (self.new.runs ≡ self.old.runs + 1) }
+        ensures taken { result ≡ Err RunFault.Taken → ¬ AreAllAbsent self.old.entries pairs.now }
         ensures err { OnErr result (self.new ≡ self.old) }
     {
         let part = self.runs + 1;
         self.merged.reserve()?;
         self.catalog.make_room(pairs.len())?;
         self.residences.make_room(part, pairs.len())?;
-        self.index.append_run(part, pairs)?;
+        enter_run(
+            &self.index,
+            &self.catalog,
+            &mut self.residences,
+            part,
+            pairs,
+        )?;
+        if self.index.append_run(part, pairs).is_err() {
+            self.residences.forget(pairs);
+            return Err(RunFault::NoMemory);
+        }
         self.catalog.push(part, pairs.len());
-        self.residences.push(part, pairs);
         self.runs = part;
         Ok(())
     }
@@ -454,22 +450,4 @@ fn vacancy_over(slot: &Option<(Value, bool)>) -> Vacancy
         Some((value, _)) => Vacancy::Ghost(*value),
         None => Vacancy::Free,
     }
-}
-
-// The entry of what stands live at a place.
-fn live_at(part: u32, key: Key, slot: Option<(Value, bool)>) -> Option<Entry>
-    ensures live { IfSome result (λ e. (slot ≡ Some (e.value, false)) × (e.part ≡ part) × (e.key ≡ key) ×
-        (e.is_ghost ≡ false)) }
-    ensures none { IfNone result (is_some (live_value slot) ≡ false) }
-{
-    let (value, is_ghost) = slot?;
-    if is_ghost {
-        return None;
-    }
-    Some(Entry {
-        part,
-        key,
-        value,
-        is_ghost,
-    })
 }

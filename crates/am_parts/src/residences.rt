@@ -1,11 +1,17 @@
 //! In which runs keys are live.
 
-ghost use Rattle.std.specs.Prelude.{◌≡◌, ◌++◌, ◌<◌, ℕ, List, [], Some, IsSome, is_some};
+ghost use Rattle.std.specs.Prelude.{◌≡◌, ◌≢◌, ◌+◌, ◌<◌, ℕ, List, [], Some, IsSome, is_some, true, false, length, OnOk};
+ghost use Rattle.std.specs.List.{AllByRecursion};
+ghost use Rattle.std.specs.FinMap.{is_sorted};
+ghost use Rattle.am_record.specs.OrderedKey.{key_cmp};
+ghost use Rattle.am_record.specs.KeyNumber.{key_number};
 ghost use Rattle.am_record.specs.declared.entry.Entry.{Entry};
 ghost use Rattle.am_list.specs.Entries.{find, entry_at, insert_entry, set_entry, remove_entry, IsRising};
 ghost use Rattle.am_list.specs.Content.{live_value};
-ghost use Rattle.am_list.specs.Runs.{run_entries};
-ghost use Rattle.am_parts.specs.Residences.{LivesInRun, OneRun, Allows, AreResidences};
+ghost use Rattle.am_directory.specs.Tables.{residence_of};
+ghost use Rattle.am_directory.specs.declared.residence.Residence.TheVariants.{Nowhere};
+ghost use Rattle.am_parts.specs.Partitions.{LivesInNoRun};
+ghost use Rattle.am_parts.specs.Residences.{LivesInRun, OneRun, Allows, AreResidences, Tell, LivesWith, HasNoted, HasRoom};
 
 use am_directory::{Directory, Residence};
 use am_record::{Entry, HashKey, Key, NoMemory, Value};
@@ -43,7 +49,9 @@ impl Residences {
     /// # Errors
     /// NoMemory, where memory was refused.
     pub(crate) fn make_room(&mut self, part: u32, keys: usize) -> Result<(), NoMemory>
-        ensures { (es : List Entry) → AreResidences es self.old → AreResidences es self.new }
+        ensures room { OnOk result (0 < part → HasRoom self.new keys) }
+        ensures lost { self.new.directory.is_lost ≡ self.old.directory.is_lost }
+        ensures same { (es : List Entry) → AreResidences es self.old → AreResidences es self.new }
     {
         if part == 0 {
             return Ok(());
@@ -51,10 +59,12 @@ impl Residences {
         self.directory.reserve(keys)
     }
 
-    /// Notes an entry that is added. Takes no memory.
+    /// Notes an entry that is added, for whose key room was got. Takes no memory.
     pub(crate) fn add(&mut self, entry: &Entry)
-        ensures { (es : List Entry) → IsRising es → AreResidences es self.old →
+        requires room { 0 < entry.now.part → HasRoom self.old 1 }
+        ensures added { (es : List Entry) → IsRising es → AreResidences es self.old →
             AreResidences (insert_entry es entry.now) self.new }
+        ensures lost { self.old.directory.is_lost ≡ false → self.new.directory.is_lost ≡ false }
     {
         if entry.part > 0 && !entry.is_ghost {
             self.directory
@@ -97,13 +107,40 @@ impl Residences {
         self.directory.let_go(number);
     }
 
-    /// Notes a run that is put behind all others. Takes no memory, where room was got for its keys.
-    pub(crate) fn push(&mut self, part: u32, pairs: &[(Key, Value)])
-        ensures { (es : List Entry) → AreResidences es self.old →
-            AreResidences (es ++ run_entries part pairs.now) self.new }
+    /// Notes that a key, for which room was got, is live in the run, unless one of its label may be live in a run
+    /// already: then nothing is changed. Answers in which run it may have been live. Takes no memory.
+    pub(crate) fn enter_first(&mut self, key: Key, part: u32) -> Residence
+        requires { HasRoom self.old 1 }
+        ensures known { result ≡ residence_of self.old.directory (key_number self.old.hash key) }
+        ensures entered { result ≡ Nowhere → HasNoted self.old key part self.new }
+        ensures same { result ≢ Nowhere → self.new ≡ self.old }
+        ensures lost { self.old.directory.is_lost ≡ false → self.new.directory.is_lost ≡ false }
+        ensures room { (keys : ℕ) → HasRoom self.old (keys + 1) → HasRoom self.new keys }
+    {
+        self.directory.enter_first(key.number(self.hash), part)
+    }
+
+    /// Notes that a key, for which room was got, is live in the run, where others of its label may be. Takes no memory.
+    pub(crate) fn enter(&mut self, key: Key, part: u32)
+        requires { HasRoom self.old 1 }
+        ensures entered { HasNoted self.old key part self.new }
+        ensures lost { self.old.directory.is_lost ≡ false → self.new.directory.is_lost ≡ false }
+        ensures room { (keys : ℕ) → HasRoom self.old (keys + 1) → HasRoom self.new keys }
+    {
+        self.directory.enter(key.number(self.hash), part);
+    }
+
+    /// Notes that the keys of records, which were entered for a run, are not live in it. Takes no memory.
+    pub(crate) fn forget(&mut self, pairs: &[(Key, Value)])
+        requires rising { is_sorted key_cmp pairs.now ≡ true }
+        ensures forgot { (es : List Entry) (part : ℕ) → AllByRecursion (λ r. LivesInNoRun es r.0) pairs.now →
+            Tell (LivesWith es part pairs.now 0 (length pairs.now)) self.old → AreResidences es self.new }
+        ensures lost { self.new.directory.is_lost ≡ self.old.directory.is_lost }
     {
         for pair in pairs {
-            self.directory.enter(pair.0.number(self.hash), part);
+            let forgotten = pair.0.number(self.hash);
+            self.directory.leave(forgotten);
+            self.directory.let_go(forgotten);
         }
     }
 }

@@ -10,4 +10,3 @@ pub mod Beginnings
 pub mod Passing
 pub mod Settling
 pub mod Walking
-pub mod ByPieces

@@ -1,14 +1,12 @@
 -- The entries and the content while the records of a run go in, and while they are taken out again.
-use Rattle.std.proofs.Common.{◌≡◌, ◌≢◌, ℕ, ◌+◌, ◌<◌, ◌≤◌, true, false, List, [], ◌∷◌, ◌++◌, None, Result, refl, sym, ap}
+use Rattle.std.proofs.Common.{◌≡◌, ℕ, ◌+◌, ◌<◌, ◌≤◌, true, false, List, [], ◌∷◌, ◌++◌, Result, sym, ap}
 use Rattle.std.proofs.Common.{◌∙◌, subst, arith}
 use Rattle.std.specs.Prelude.{is_err, OnOk}
-use Rattle.std.specs.List.{AllByRecursion}
-use Rattle.am_record.specs.OrderedKey.{OrderedKey}
 use Rattle.am_record.specs.Plain.{Records, insert_all}
 use Rattle.am_record.specs.declared.entry.Entry.{Entry}
-use Rattle.am_list.specs.Entries.{find, insert_entry}
+use Rattle.am_list.specs.Entries.{insert_entry}
 use Rattle.am_list.specs.Content.{content, HasContent}
-use Rattle.am_list.proofs.Edits.{find-miss, other_part, all_inserted}
+use Rattle.am_list.proofs.Edits.{all_inserted}
 use Rattle.am_parts.specs.Partitions.{Partitions}
 use Rattle.am_record.specs.Plain.{is_rising}
 use Rattle.am_record.proofs.Lists.{AllByRecursion-map}

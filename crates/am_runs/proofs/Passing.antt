@@ -19,9 +19,9 @@ use Rattle.am_list.specs.Content.{IsLiveAt}
 use Rattle.am_list.proofs.Edits.{entry_at_slot}
 use Rattle.am_list.proofs.WalkLaws.{walk_laws}
 use Rattle.am_list.proofs.Content.{none_live}
-use Rattle.am_parts.specs.Partitions.{AreWellFormed}
+use Rattle.am_parts.specs.Partitions.{AreWellFormed, NoneLiveIn}
 use Rattle.am_parts.proofs.Lives.{lives_in}
-use Rattle.am_runs.specs.Looks.{NoneLiveIn, IsLeastLiveIn}
+use Rattle.am_runs.specs.Looks.{IsLeastLiveIn}
 use Rattle.am_runs.proofs.Parting.{is_below, kept, is_key_kept, sorted_kept}
 
 -- ---- keys of records

@@ -1,19 +1,18 @@
 -- Records that are cut piece by piece.
-use Rattle.std.proofs.Common.{◌≡◌, ℕ, ◌<◌, ◌≤◌, zero, suc, List, [], ◌∷◌, ◌++◌, None, length, take, drop, refl, sym, ap}
+use Rattle.std.proofs.Common.{◌≡◌, ℕ, ◌<◌, zero, suc, List, [], ◌∷◌, ◌++◌, None, length, take, drop, refl, sym, ap}
 use Rattle.std.proofs.Common.{◌∙◌, subst, arith, append_assoc, length-append}
 use Rattle.std.specs.Prelude.{min}
 use Rattle.std.specs.List.Sorted.{IsPermutation}
 use Rattle.std.proofs.Math.Seq.{take-append_seam}
 use Rattle.std.proofs.lemmas.List.{append-nil, take_all, drop_all}
 use Rattle.std.proofs.lemmas.List.Sorted.{IsPermutation-refl, IsPermutation-append, IsPermutation-map}
-use Rattle.am_record.specs.OrderedKey.{OrderedKey}
 use Rattle.am_record.specs.Plain.{Records}
 use Rattle.am_runs.specs.declared.fault.LoadFault.{LoadFault}
 use Rattle.am_runs.specs.declared.fault.LoadFault.TheVariants.{NotRising, BadSize, Twice, NoMemory}
-use Rattle.am_runs.specs.Cuts.{keys_of, times_among, records_of, NoneTwice, IsRunOf, AreRunsOf, IsPieceFault}
+use Rattle.am_runs.specs.Cuts.{keys_of, records_of, NoneTwice, IsRunOf, AreRunsOf, IsPieceFault}
 use Rattle.am_runs.specs.Cuts.{IsTwiceFault}
 use Rattle.am_record.proofs.FirstRows.{Record}
-use Rattle.am_runs.proofs.Twice.{times_among-append, found_permuted}
+use Rattle.am_runs.proofs.Twice.{found_permuted}
 use Rattle.am_runs.proofs.Sorts.{rising_apart}
 
 pub keys_of-append : (rs qs : Records) → keys_of (rs ++ qs) ≡ keys_of rs ++ keys_of qs

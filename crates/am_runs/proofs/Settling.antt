@@ -1,6 +1,6 @@
 -- The least live key of rising records: in the final partition, and below it in the runs.
 use Rattle.std.proofs.Common.{◌≡◌, ◌≢◌, ℕ, zero, suc, ◌<◌, List, [], ◌∷◌, length, get_or, take, true, Option, Some}
-use Rattle.std.proofs.Common.{None, refl, sym, ap, ◌∙◌, subst, arith, ⊎_elim}
+use Rattle.std.proofs.Common.{None, sym, ap, ◌∙◌, subst, arith, ⊎_elim}
 use Rattle.std.specs.Prelude.{is_some, IfSome}
 use Rattle.std.proofs.lemmas.Bool.{cases_Bool, cases_eq, and_parts, and_from, or_left, or_right, or_cases, false≢true}
 use Rattle.std.proofs.lemmas.Option.{none-some, same_Some}
@@ -17,11 +17,11 @@ use Rattle.am_record.proofs.Orderings.{is_less}
 use Rattle.am_list.specs.Entries.{next_from}
 use Rattle.am_list.specs.Content.{content, IsLiveAt}
 use Rattle.am_list.proofs.WalkLaws.{walk_laws}
-use Rattle.am_parts.specs.Partitions.{AreWellFormed, LivesIn, LivesInNoRun}
+use Rattle.am_parts.specs.Partitions.{AreWellFormed, LivesIn, LivesInNoRun, NoneLiveIn}
 use Rattle.am_parts.proofs.Lives.{laws_of}
-use Rattle.am_runs.specs.Looks.{NoneLiveIn, IsLeastLiveIn, NoneInRuns, IsLeastInRuns}
+use Rattle.am_runs.specs.Looks.{IsLeastLiveIn, NoneInRuns, IsLeastInRuns}
 use Rattle.am_runs.proofs.Parting.{not_less, less_not, is_below, kept, is_key_kept, sorted_kept}
-use Rattle.am_runs.proofs.Passing.{same_key, first_below, nothing_reached, no_key}
+use Rattle.am_runs.proofs.Passing.{same_key, first_below, nothing_reached}
 use Rattle.am_runs.proofs.Taken.{least_found}
 
 -- ---- the final partition

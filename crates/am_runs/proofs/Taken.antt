@@ -1,10 +1,10 @@
 -- The least key of some records that a map has.
-use Rattle.std.proofs.Common.{◌≡◌, true, [], ◌∷◌, Option, Some, None, refl, sym, ap, ◌∙◌}
+use Rattle.std.proofs.Common.{◌≡◌, true, [], ◌∷◌, Option, Some, None, refl, sym, ap, ◌∙◌, ⊎_elim}
 use Rattle.std.specs.Prelude.{is_some}
-use Rattle.std.proofs.lemmas.Bool.{or_left, or_right, false≢true}
+use Rattle.std.proofs.lemmas.Bool.{or_left, or_right, or_cases, false≢true}
 use Rattle.std.specs.List.{AllByRecursion}
 use Rattle.std.specs.FinMap.{get, entries, entries_sorted, get-entries}
-use Rattle.am_record.specs.OrderedKey.{OrderedKey}
+use Rattle.am_record.specs.OrderedKey.{OrderedKey, key_eq-exact}
 use Rattle.am_record.specs.Interval.{key_le}
 use Rattle.am_record.specs.Plain.{PlainMap, Records, is_key_of, least_taken}
 use Rattle.am_record.proofs.FirstRows.{Record, key_eq, key_eq-itself, le_both, first_passes, first_found, none_found}
@@ -55,3 +55,15 @@ module _ (m : PlainMap) where
 
   pub none_from_least : (rs : Records) → least_taken rs m ≡ None → NoneTaken m rs
   none_from_least rs h = none_of rs rs h (λ k key. key)
+
+  -- and the other way round
+  absent_key : (rs : Records) → NoneTaken m rs → (q : OrderedKey) → is_key_of rs q ≡ true → get m q ≡ None
+  absent_key [] none q one = absurd (false≢true one)
+  absent_key (r ∷ rs) none q one =
+      ⊎_elim
+      (λ here. ap (get m) (key_eq-exact q r.0 here) ∙ none.0)
+      (λ later. absent_key rs none.1 q later)
+      (or_cases (key_eq q r.0) (is_key_of rs q) one)
+
+  pub least_from_none : (rs : Records) → NoneTaken m rs → least_taken rs m ≡ None
+  least_from_none rs none = sym (least_found rs None (absent_key rs none))

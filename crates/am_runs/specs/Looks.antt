@@ -8,10 +8,6 @@ use Rattle.am_record.specs.declared.entry.Entry.{Entry}
 use Rattle.am_list.specs.Content.{IsLiveAt}
 use Rattle.am_parts.specs.Partitions.{LivesIn, LivesInNoRun}
 
--- no key of the records is live in the partition
-pub record NoneLiveIn (es : List Entry) (part : ℕ) (pairs : Records) : Type 0 where
-  pub none : (key : OrderedKey) (value : List ℕ) → is_key_of pairs key ≡ true → ¬ IsLiveAt es part key value
-
 -- the key is the least of the records' keys that are live in the partition
 pub record IsLeastLiveIn (es : List Entry) (part : ℕ) (pairs : Records) (key : OrderedKey) : Type 0 where
   pub is_key : is_key_of pairs key ≡ true

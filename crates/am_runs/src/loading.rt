@@ -4,7 +4,7 @@ ghost use Rattle.std.specs.Prelude.{◌≡◌, ◌≢◌};
 ghost use Rattle.am_list.specs.Runs.{NothingAbove};
 ghost use Rattle.am_runs.specs.Loads.{load_due, IsAnswer, IsLoaded};
 
-use crate::look::first_live;
+use crate::look::{first_live, least_in_final};
 use crate::run::Run;
 use am_list::PartIndex;
 use am_parts::Parts;
@@ -27,11 +27,12 @@ pub fn load<I: PartIndex + Drop>(parts: &mut Parts<I>, run: &Run) -> Reply
     if parts.runs() == MAX_RUNS {
         return Reply::Refused(Refusal::TooManyRuns);
     }
-    if let Some(key) = first_live(parts, run.pairs()) {
-        return Reply::Exists(key);
+    let pairs = run.pairs();
+    if least_in_final(parts, pairs).is_none() && parts.append_run(pairs).is_ok() {
+        return Reply::Done;
     }
-    if parts.append_run(run.pairs()).is_err() {
-        return Reply::Refused(Refusal::NoMemory);
+    match first_live(parts, pairs) {
+        Some(key) => Reply::Exists(key),
+        None => Reply::Refused(Refusal::NoMemory),
     }
-    Reply::Done
 }

@@ -5,49 +5,27 @@ ghost use Rattle.std.specs.List.{AllWithin};
 ghost use Rattle.std.specs.Ordering.{is_lt};
 ghost use Rattle.std.specs.FinMap.{is_sorted};
 ghost use Rattle.am_record.specs.OrderedKey.{key_cmp};
-ghost use Rattle.am_record.specs.Plain.{first_key, is_rising, least_taken};
+ghost use Rattle.am_record.specs.Plain.{first_key, least_taken};
 ghost use Rattle.am_list.specs.Entries.{next_from};
 ghost use Rattle.am_list.specs.Content.{content};
-ghost use Rattle.am_parts.specs.Partitions.{AreWellFormed};
-ghost use Rattle.am_runs.specs.Looks.{NoneLiveIn, IsLeastLiveIn, NoneInRuns, IsLeastInRuns};
+ghost use Rattle.am_parts.specs.Partitions.{AreWellFormed, NoneLiveIn};
+ghost use Rattle.am_runs.specs.Looks.{IsLeastLiveIn, NoneInRuns, IsLeastInRuns};
 
 use crate::walk::Walk;
 use am_list::PartIndex;
 use am_parts::Parts;
 use am_record::{Entry, Key, Value};
 
-// How many pairs are looked for in all partitions before the next ones are: so few that they stay in
-// a processor's cache.
-const PIECE_LEN: usize = 2048;
-
-/// The first key of the pairs that is live.
+/// The least key of the pairs that is live. The final partition is walked through beside them, what lies between being
+/// passed over; of the runs those are searched in which a key may be live.
 pub(crate) fn first_live<I: PartIndex + Drop>(
     parts: &Parts<I>,
-    pairs: &[(Key, Value)],
-) -> Option<Key>
-    requires { is_rising pairs.now ≡ true }
-    ensures { result ≡ least_taken pairs.now (content parts.now.entries) }
-{
-    let mut walk = Walk::new();
-    for piece in pairs.chunks(PIECE_LEN) {
-        if let Some(key) = least_live(parts, &mut walk, piece) {
-            return Some(key);
-        }
-    }
-    None
-}
-
-// The least key of the pairs that is live. The final partition is walked through beside them, what lies between being
-// passed over; of the runs only those are searched whose filters don't rule a key out.
-fn least_live<I: PartIndex + Drop>(
-    parts: &Parts<I>,
-    walk: &mut Walk,
     pairs: &[(Key, Value)],
 ) -> Option<Key>
     requires { is_sorted key_cmp pairs.now ≡ true }
     ensures { result ≡ least_taken pairs.now (content parts.now.entries) }
 {
-    let Some(key) = least_in_final(parts, walk, pairs) else {
+    let Some(key) = least_in_final(parts, pairs) else {
         return first_in_runs(parts, pairs);
     };
     let below = &pairs[..count_below(pairs, key)];
@@ -57,10 +35,9 @@ fn least_live<I: PartIndex + Drop>(
     Some(key)
 }
 
-// The least key of the pairs that is live in the final partition.
-fn least_in_final<I: PartIndex + Drop>(
+/// The least key of the pairs that is live in the final partition.
+pub(crate) fn least_in_final<I: PartIndex + Drop>(
     parts: &Parts<I>,
-    walk: &mut Walk,
     pairs: &[(Key, Value)],
 ) -> Option<Key>
     requires { is_sorted key_cmp pairs.now ≡ true }
@@ -72,7 +49,7 @@ fn least_in_final<I: PartIndex + Drop>(
     let _ = parts.runs();
     let low = pairs.first()?;
     let first = parts.next_from(0, low.0)?;
-    least_live_in(parts, walk, first, pairs)
+    least_live_in(parts, first, pairs)
 }
 
 // The first key of the pairs that is live in a run.
@@ -88,11 +65,10 @@ fn first_in_runs<I: PartIndex + Drop>(parts: &Parts<I>, pairs: &[(Key, Value)]) 
     None
 }
 
-// The least key of the pairs that is live in a partition, by a new walk through it. The caller gives
+// The least key of the pairs that is live in a partition, by a walk through it. The caller gives
 // the partition's first entry at or above the least pair's key.
 fn least_live_in<I: PartIndex + Drop>(
     parts: &Parts<I>,
-    walk: &mut Walk,
     first: Entry,
     pairs: &[(Key, Value)],
 ) -> Option<Key>
@@ -102,6 +78,7 @@ fn least_live_in<I: PartIndex + Drop>(
     ensures { MatchOption result (NoneLiveIn parts.now.entries first.part pairs.now)
         (IsLeastLiveIn parts.now.entries first.part pairs.now) }
 {
+    let mut walk = Walk::new();
     walk.begin(&first);
     let mut left = pairs;
     while let Some((pair, above)) = left.split_first() {

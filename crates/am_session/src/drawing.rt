@@ -6,8 +6,7 @@ use std::rt::Clock;
 use std::time::{SystemTime, UNIX_EPOCH};
 
 /// A hash key of the system's random bytes, which no stranger knows. Where the system gives none, it is one of the
-/// clock, which a stranger may guess: then keys can be chosen that filters don't tell apart, and a look for them takes
-/// longer.
+/// clock, which a stranger may guess: then keys can be chosen that have one number, and a look for them takes longer.
 pub fn draw_hash_key<R: RandomSource + Clock>(rt: &R) -> HashKey {
     let mut bytes = [0; 16];
     if rt.fill_bytes(&mut bytes).is_err() {

@@ -1,24 +1,32 @@
-use Rattle.std.proofs.Common.{◌<◌, sym, ◌∙◌, subst}
-use Rattle.std.specs.Slice.Iter.{chunks_rest}
-use Rattle.am_runs.proofs.ByPieces.{piece_sorted, none_in_piece, found_in_piece, none_to_come}
+use Rattle.std.proofs.Common.{Option, Some, None, take}
+use Rattle.std.specs.Prelude.{MatchOption}
+use Rattle.am_record.specs.OrderedKey.{OrderedKey}
+use Rattle.am_runs.specs.Looks.{NoneInRuns, IsLeastInRuns}
+use Rattle.am_runs.proofs.Settling.{IsRunsAnswer, none_in_final, left_sorted, final_is_least, run_is_least}
 use Rattle.am_runs.proofs.look.first_live.Goals as goal
 
-pub least_live-requires : goal.least_live-requires
-least_live-requires g c = piece_sorted c.loop-piece.invariant.rest c.in-Some.piece.now (chunks_rest c.next.new.self)
-    c.in-Some.ensures.steps.1.0
+pub returns-in_default : goal.returns-in_default
+returns-in_default g c = none_in_final c.least_in_final.ensures.sound c.args.pairs.now c.in_default.ensures.found
+    c.first_in_runs.result (answer c.first_in_runs.result c.first_in_runs.ensures)
+  where
+    answer : (o : Option OrderedKey) → MatchOption o (NoneInRuns c.args.parts.now.entries c.args.pairs.now)
+        (IsLeastInRuns c.args.parts.now.entries c.args.pairs.now) → IsRunsAnswer c.args.parts.now.entries
+        c.args.pairs.now
+        o
+    answer None h = h
+    answer (Some k) h = h
 
-pub returns-in-Some-least_live : goal.returns-in-Some-least_live
-returns-in-Some-least_live g c =
-    found_in_piece c.loop-piece.invariant.rest c.in-Some.piece.now (chunks_rest c.next.new.self)
-    c.in-Some.ensures.steps.1.0 c.in-Some-least_live.key (sym c.in-Some-least_live.ensures)
+pub first_in_runs-requires-2 : goal.first_in_runs-requires-2
+first_in_runs-requires-2 g c = left_sorted c.least_in_final.ensures.sound c.args.pairs.now c.in-Some.key
+    c.in-Some.ensures.found (take c.count_below.result c.args.pairs.now) c.count_below.ensures.below c.requires
 
-pub loop-piece-preserved : goal.loop-piece-preserved
-loop-piece-preserved g c = record {
-  can = subst (λ n. 0 < n) (sym c.in-Some.ensures.steps.0) c.loop-piece.invariant.can;
-  finite = tt;
-  rest = none_in_piece c.loop-piece.invariant.rest c.in-Some.piece.now (chunks_rest c.next.new.self)
-      c.in-Some.ensures.steps.1.0 (sym c.least_live.ensures ∙ c.in_default.is);
-}
+pub returns-in-Some-first_in_runs : goal.returns-in-Some-first_in_runs
+returns-in-Some-first_in_runs g c =
+    run_is_least c.least_in_final.ensures.sound c.args.pairs.now c.in-Some.key c.in-Some.ensures.found
+    (take c.count_below.result c.args.pairs.now) c.count_below.ensures.below c.in-Some-first_in_runs.lower
+    c.in-Some-first_in_runs.ensures
 
 pub returns : goal.returns
-returns g c = none_to_come c.loop-piece.invariant.rest c.in-None.ensures.steps.1.0
+returns g c =
+    final_is_least c.least_in_final.ensures.sound c.args.pairs.now c.in-Some.key c.in-Some.ensures.found
+    (take c.count_below.result c.args.pairs.now) c.count_below.ensures.below c.in_default-first_in_runs.ensures

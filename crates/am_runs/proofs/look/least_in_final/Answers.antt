@@ -1,6 +1,7 @@
 use Rattle.std.proofs.Common.{ℕ, sym, subst}
 use Rattle.std.specs.Prelude.{MatchOption}
-use Rattle.am_runs.specs.Looks.{NoneLiveIn, IsLeastLiveIn}
+use Rattle.am_parts.specs.Partitions.{NoneLiveIn}
+use Rattle.am_runs.specs.Looks.{IsLeastLiveIn}
 use Rattle.am_runs.proofs.Settling.{empty_final, first_of_final, from_first}
 use Rattle.am_runs.proofs.look.least_in_final.Goals as goal
 

@@ -7,8 +7,8 @@ pub returns-then-self : goal.returns-then-self
 returns-then-self c = sym (residence_of-lost c.args.self.now c.args.number
     (sym (ap (λ (t : Table). t.is_lost) c.self.view_is) ∙ c.if-self.true))
 
-pub returns : goal.returns
-returns c =
+pub returns-else-self : goal.returns-else-self
+returns-else-self c =
     let whole = sym (ap (λ (t : Table). t.is_lost) c.self.view_is) ∙ c.if-self.false in
     c.residence_by.ensures ∙ ap residence_by (c.code_of.ensures.value ∙
     ap (code_of c.args.self.now.words) c.label.ensures.value) ∙

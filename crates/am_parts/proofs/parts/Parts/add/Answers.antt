@@ -16,8 +16,8 @@ invariant_of-self-2 g c = (
   c.self.invariant.1,
   c.insert_or_forget.ensures.catalog,
   subst (λ es. AreResidences es c.add-3.new.self) (sym c.in_ok-insert_or_forget.ensures.ok)
-      (c.add-3.ensures (g.I.PartIndex.entries c.self.inside.index) c.self.invariant.0.rising
-      (c.make_room.ensures (g.I.PartIndex.entries c.self.inside.index) c.self.invariant.3)),
+      (c.add-3.ensures.added (g.I.PartIndex.entries c.self.inside.index) c.self.invariant.0.rising
+      (c.make_room.ensures.same (g.I.PartIndex.entries c.self.inside.index) c.self.invariant.3)),
   merged_where_added (g.I.PartIndex.entries c.self.inside.index) (g.I.PartIndex.entries c.insert_or_forget.new.index)
       c.self.inside.runs c.args.entry c.self.inside.merged.list.items c.add-2.new.self.list.items
       c.insert_or_forget.result
@@ -33,7 +33,7 @@ invariant_of-self-in_err-insert_or_forget g c = (
   c.self.invariant.1,
   c.insert_or_forget.ensures.catalog,
   subst (λ es. AreResidences es c.make_room.new.self) (sym c.in_err-insert_or_forget.ensures.err)
-      (c.make_room.ensures (g.I.PartIndex.entries c.self.inside.index) c.self.invariant.3),
+      (c.make_room.ensures.same (g.I.PartIndex.entries c.self.inside.index) c.self.invariant.3),
   merged_where_added (g.I.PartIndex.entries c.self.inside.index) (g.I.PartIndex.entries c.insert_or_forget.new.index)
       c.self.inside.runs c.args.entry c.self.inside.merged.list.items c.add-2.new.self.list.items
       c.insert_or_forget.result

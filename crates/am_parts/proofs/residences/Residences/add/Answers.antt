@@ -8,8 +8,8 @@ use Rattle.am_parts.proofs.residences.Residences.add.Goals as goal
 use Rattle.am_parts.proofs.residences.Residences.add.Goals.{else-entry-gt0-via-then-entry-gt0+else-not-entry}
 use Rattle.am_parts.proofs.residences.Residences.add.Goals.{else-entry-gt0-via-else-entry-gt0}
 
-pub returns-then-not-entry : goal.returns-then-not-entry
-returns-then-not-entry c = λ es rising was.
+pub returns-then-not-entry-clause-added : goal.returns-then-not-entry-clause-added
+returns-then-not-entry-clause-added c = λ es rising was.
     let x = c.args.entry.now in
     tells_entered c.args.self.now.hash (LivesInRun es) (LivesInRun (insert_entry es x)) c.args.self.now.directory
     c.enter.new.self was x.key x.part
@@ -17,8 +17,8 @@ returns-then-not-entry c = λ es rising was.
     (λ whole. subst (λ (n : ℕ). HasEntered c.args.self.now.directory n x.part c.enter.new.self) c.number.ensures
     (c.enter.ensures.entered whole))
 
-pub returns-else-entry-gt0 : goal.returns-else-entry-gt0
-returns-else-entry-gt0 c = λ es rising was.
+pub returns-else-entry-gt0-clause-added : goal.returns-else-entry-gt0-clause-added
+returns-else-entry-gt0-clause-added c = λ es rising was.
     let x = c.args.entry.now in
     tells_fewer c.args.self.now.hash (LivesInRun es) (LivesInRun (insert_entry es x)) c.args.self.now.directory
     c.args.self.now.directory was

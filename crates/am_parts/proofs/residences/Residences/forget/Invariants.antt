@@ -1,0 +1,15 @@
+use Rattle.std.proofs.Common.{◌≡◌, ℕ, List, length}
+use Rattle.std.specs.List.{AllByRecursion}
+use Rattle.am_record.specs.declared.entry.Entry.{Entry}
+use Rattle.am_parts.specs.Partitions.{LivesInNoRun}
+use Rattle.am_parts.specs.Residences.{LivesWith, Tell}
+use Rattle.am_parts.proofs.residences.Residences.forget.Given as goal
+
+abbrev pub invariant-loop-pair : goal.invariant-loop-pair
+invariant-loop-pair l = record {
+  hash : l.self.hash ≡ l.fn.self.hash;
+  lost : l.self.directory.is_lost ≡ l.fn.self.directory.is_lost;
+  told : (es : List Entry) (part : ℕ) → AllByRecursion (λ r. LivesInNoRun es r.0) l.pairs →
+      Tell (LivesWith es part l.pairs 0 (length l.pairs)) l.fn.self →
+      Tell (LivesWith es part l.pairs l.pair-index (length l.pairs)) l.self;
+}
