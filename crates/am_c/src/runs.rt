@@ -124,7 +124,7 @@ fn runs_of(alloc: Global, pairs: Pairs) -> Result<Vec<Pairs>, Fault>
     }
     let runs = cut(alloc, pairs.as_slice())?;
     drop(pairs);
-    copies_of(alloc, &runs)
+    pairs_of(alloc, runs)
 }
 
 // The runs of the pairs, of which there is one or more.
@@ -157,16 +157,16 @@ fn one_run(alloc: Global, pairs: Pairs) -> Result<Vec<Pairs>, Fault>
     Ok(runs)
 }
 
-// The pairs of the runs, so that a step can take them.
-fn copies_of(alloc: Global, runs: &[Run]) -> Result<Vec<Pairs>, Fault>
-    ensures copies { IfOk result (λ copies. copies.items ≡ runs.now) }
+// The pairs of the runs, which a step takes.
+fn pairs_of(alloc: Global, runs: Vec<Run>) -> Result<Vec<Pairs>, Fault>
+    ensures pairs { IfOk result (λ pairs. pairs.items ≡ runs.items) }
     ensures fault { IfErr result (λ fault. fault ≡ Other NoMemory) }
 {
-    let mut copies = Vec::with_capacity(alloc, runs.len())?;
+    let mut pairs = Vec::with_capacity(alloc, runs.len())?;
     for run in runs {
-        copies.push(Pairs::new(Vec::from_slice(alloc, run.pairs())?))?;
+        pairs.push(Pairs::new(run.into_pairs()))?;
     }
-    Ok(copies)
+    Ok(pairs)
 }
 
 /// The answer, without the key that stands twice.

@@ -89,4 +89,11 @@ impl Run {
     {
         &self.pairs
     }
+
+    /// The pairs, by rising key. Takes no memory.
+    pub fn into_pairs(self) -> Vec<(Key, Value)>
+        ensures { result.items ≡ self }
+    {
+        self.pairs
+    }
 }

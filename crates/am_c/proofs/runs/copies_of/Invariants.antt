@@ -1,5 +1,0 @@
-use Rattle.std.proofs.Common.{◌≡◌, take}
-use Rattle.am_c.proofs.runs.copies_of.Given as goal
-
-abbrev pub invariant-loop-run : goal.invariant-loop-run
-invariant-loop-run l = l.copies.items ≡ take l.run-index l.runs
