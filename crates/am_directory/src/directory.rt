@@ -102,8 +102,8 @@ impl Directory {
         }
     }
 
-    /// Puts down that a key of the number is live in that run, where none of its label is live in a run. Answers what was
-    /// known of them before: where one may be live, nothing is changed. Takes no memory: where no word is left, the
+    /// Puts down that a key of the number is live in that run, where none of its label is live in a run. Answers what
+    /// was known of them before: where one may be live, nothing is changed. Takes no memory: where no word is left, the
     /// directory is lost.
     pub fn enter_first(&mut self, number: u64, run: u32) -> Residence
         ensures known { result ≡ residence_of self.old number }

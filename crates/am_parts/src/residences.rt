@@ -11,7 +11,8 @@ ghost use Rattle.am_list.specs.Content.{live_value};
 ghost use Rattle.am_directory.specs.Tables.{residence_of};
 ghost use Rattle.am_directory.specs.declared.residence.Residence.TheVariants.{Nowhere};
 ghost use Rattle.am_parts.specs.Partitions.{LivesInNoRun};
-ghost use Rattle.am_parts.specs.Residences.{LivesInRun, OneRun, Allows, AreResidences, Tell, LivesWith, HasNoted, HasRoom};
+ghost use Rattle.am_parts.specs.Residences.{LivesInRun, OneRun, Allows, AreResidences, Tell, LivesWith};
+ghost use Rattle.am_parts.specs.Residences.{HasNoted, HasRoom};
 
 use am_directory::{Directory, Residence};
 use am_record::{Entry, HashKey, Key, NoMemory, Value};

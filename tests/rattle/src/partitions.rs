@@ -3,8 +3,9 @@
 use crate::entries::{add, byte, dead, live, over};
 use am_list::PartIndex;
 use am_list_index::ListIndex;
-use am_parts::Parts;
+use am_parts::{Parts, RunFault};
 use am_record::{Entry, HashKey, Key};
+use std::alloc::Global;
 use std::process::Abort;
 
 #[test]
@@ -72,6 +73,40 @@ fn changes_the_entry_of_the_named_partition(rt: HostRuntime) {
     assert!(rt; take(&mut parts, 1, 5) == Some(dead(1, 5, b'q')));
     assert!(rt; parts.find(1, key).is_none());
     assert!(rt; parts.runs() == 1);
+}
+
+// Makes one-byte records of the keys the next run, where memory is refused once more.
+fn append(
+    rt: &impl Abort,
+    alloc: Global,
+    parts: &mut Parts<ListIndex>,
+    keys: &[u64],
+) -> Result<(), RunFault> {
+    let mut pairs = Vec::new(alloc);
+    for key in keys {
+        pairs
+            .push((Key::of_u64(*key), byte(b'r')))
+            .expect(rt, "memory");
+    }
+    match parts.append_run(&pairs) {
+        Err(RunFault::NoMemory) => parts.append_run(&pairs),
+        answer => answer,
+    }
+}
+
+#[test]
+fn a_run_with_a_key_that_is_live_in_a_run_leaves_nothing(rt: HostRuntime) {
+    let alloc = rt.alloc();
+    let mut parts = Parts::new(alloc, ListIndex::new(alloc), HashKey::known());
+    assert!(rt; append(&rt, alloc, &mut parts, &[1, 5]) == Ok(()));
+    assert!(rt; append(&rt, alloc, &mut parts, &[3, 5, 7]) == Err(RunFault::Taken));
+    assert!(rt; parts.runs() == 1);
+    assert!(rt; parts.place_of(Key::of_u64(3)).is_none());
+    assert!(rt; parts.place_of(Key::of_u64(7)).is_none());
+    assert!(rt; append(&rt, alloc, &mut parts, &[3, 7]) == Ok(()));
+    for (number, run) in [(1, 1), (3, 2), (5, 1), (7, 2)] {
+        assert!(rt; parts.place_of(Key::of_u64(number)) == Some(run));
+    }
 }
 
 // Adds the entry of the number, which is less than all others: where memory is refused, once more.
