@@ -10,6 +10,7 @@ pub mod Editing
 pub mod Extending
 pub mod Filling
 pub mod Leaves
+mod Ending
 pub mod Seeking
 pub mod Walking
 pub mod Ghosts

@@ -1,8 +1,9 @@
 //! Walks from a place on.
 
-ghost use Rattle.std.specs.Prelude.{◌≡◌, ◌≤◌, ◌++◌, length, take, slice_get, OnOk};
+ghost use Rattle.std.specs.Prelude.{◌≡◌, ◌<◌, ◌≤◌, ◌++◌, length, take, slice_get, OnOk, OnErr, vec_capacity};
 ghost use Rattle.am_list.specs.Entries.{first_such, next_ghost, IsRising};
 ghost use Rattle.am_list.specs.Content.{rows_in};
+ghost use Rattle.am_list.specs.Places.{IsUpperBound};
 ghost use Rattle.am_btree.specs.Seek.{first_from, all_such, IsStart};
 
 use crate::node::{Node, Subtree};
@@ -124,6 +125,8 @@ impl Subtree {
         requires { length rows.old.items ≤ max }
         ensures copied { OnOk result (rows.new.items ≡ take max
             (rows.old.items ++ rows_in self.now.entries part range)) }
+        ensures room { vec_capacity rows.old ≤ vec_capacity rows.new }
+        ensures full { OnErr result (vec_capacity rows.old < max) }
         ensures rising { IsRising self.now.entries }
     {
         match &self.node {
@@ -166,6 +169,19 @@ fn start_in_leaf(leaf: &RawLeaf, part: u32, key: Key, start: Start) -> usize
         },
         Err(at) => at,
     }
+}
+
+// Where a walk over the leaf ends that goes no further than the place. The last entry is asked first, since most leaves
+// end before the end of a range.
+fn end_in_leaf(leaf: &RawLeaf, part: u32, key: Key) -> usize
+    ensures ends { IsUpperBound leaf.now.entries part key result }
+    ensures rising { IsRising leaf.now.entries }
+{
+    let len = leaf.len();
+    if len > 0 && leaf.cmp_at(len - 1, part, key).is_le() {
+        return len;
+    }
+    start_in_leaf(leaf, part, key, Start::Above)
 }
 
 // The first entry of the leaf from the place on.
@@ -212,18 +228,20 @@ fn copy_rows_in_leaf(
 ) -> Result<(), NoMemory>
     requires { length rows.old.items ≤ max }
     ensures copied { OnOk result (rows.new.items ≡ take max (rows.old.items ++ rows_in leaf.now.entries part range)) }
+    ensures room { vec_capacity rows.old ≤ vec_capacity rows.new }
+    ensures full { OnErr result (vec_capacity rows.old < max) }
     ensures rising { IsRising leaf.now.entries }
 {
     let from = start_in_leaf(leaf, part, range.lo(), Start::At);
-    let to = start_in_leaf(leaf, part, range.hi(), Start::Above);
+    let to = end_in_leaf(leaf, part, range.hi());
     let wanted = max.saturating_sub(rows.len() as u64) as usize;
     rows.reserve(to.saturating_sub(from).min(wanted))?;
     for at in from..to {
         if rows.len() as u64 >= max {
             return Ok(());
         }
-        let entry = leaf.get(at);
-        if !entry.is_ghost {
+        if !leaf.is_ghost(at) {
+            let entry = leaf.get(at);
             rows.push((entry.key, entry.value))?;
         }
     }

@@ -133,9 +133,9 @@ impl RawLeaf {
         Some(self.get(next))
     }
 
-    // Where the entry at the index stands against a place. Its value is not read.
+    /// Where the entry at the index stands against a place. Its value is not read.
     #[tactic(auto, using(crate::proofs::Leaves::counted))]
-    fn cmp_at(&self, at: usize, part: u32, key: Key) -> Ordering
+    pub fn cmp_at(&self, at: usize, part: u32, key: Key) -> Ordering
         requires { at < length self.now.entries }
         ensures { (d : Entry) → result ≡ place_cmp (place_of (slice_index_or self.now.entries at d)) (part, key) }
     {

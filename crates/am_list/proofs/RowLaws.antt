@@ -15,7 +15,7 @@ use Rattle.am_record.specs.EntryOrder.{Place, place_of, place_cmp, place_cmp-sam
 use Rattle.am_record.specs.declared.entry.Entry.{Entry}
 use Rattle.am_list.specs.Entries.{find, IsRising}
 use Rattle.am_list.specs.Content.{content, live_records, rows_in, live_value, values_at, IsLiveAt, LivesInOne, OnePlace}
-use Rattle.am_list.specs.Content.{HasOne}
+use Rattle.am_list.specs.Content.{HasOne, RowsRead}
 use Rattle.am_list.proofs.ReadLaws.{kept_at, pass_rising}
 use Rattle.am_list.proofs.Content.{get-content, same_has_one, content_has_one, content_found, content_live, live_at}
 use Rattle.am_list.proofs.Rows.{live-cons}
@@ -108,13 +108,37 @@ module _ (part : ℕ) (range : Interval) where
           (and_from (eqb p part) (within range q) (eq-eqb p part same) inside) ∙ live.there;
     }
 
-  module _ (es : List Entry) (rising : IsRising es) (one : OnePlace es) (alone : LivesInOne es part range) where
+  module _ (es : List Entry) (rising : IsRising es) where
     kept_rising : IsRising (kept es)
     kept_rising = pass_rising (λ e. passes (place_of e)) es rising
 
     kept_one : OnePlace (kept es)
     kept_one = record { one = λ key p p' v v' l l'. (kept_live es p key v l).0 ∙ sym (kept_live es p' key v' l').0 }
 
+    has_row : (q : OrderedKey) (b : Bool) → within range q ≡ b →
+        HasOne (values_at (kept es) q) (cond b (live_value (find es part q)) None)
+    has_row q true inside = record {
+      sound = λ p v h. let there = kept_live es p q v (live_at h) in
+          ap (λ n. live_value (find es n q)) (sym there.0) ∙ ap live_value there.2.there;
+      full = λ v h. (part, ap live_value (live_kept es part q v refl inside (live_at h)).there);
+      one = λ p p' v v' h h'. (kept_live es p q v (live_at h)).0 ∙ sym (kept_live es p' q v' (live_at h')).0;
+    }
+    has_row q false outside = record {
+      sound = λ p v h. absurd (both_ways (within range q) outside (kept_live es p q v (live_at h)).1);
+      full = λ v h. absurd (none-some v h);
+      one = λ p p' v v' h h'. (kept_live es p q v (live_at h)).0 ∙ sym (kept_live es p' q v' (live_at h')).0;
+    }
+
+    pub rows_read : RowsRead es part range
+    rows_read = record {
+      rise = live_rise part (kept es) (kept_parts es) kept_rising;
+      live = λ q. sym (get-content (kept es) q)
+          ∙ same_has_one (values_at (kept es) q) (get (content (kept es)) q)
+          (cond (within range q) (live_value (find es part q)) None) (content_has_one (kept es) kept_rising kept_one q)
+          (has_row q (within range q) refl);
+    }
+
+  module _ (es : List Entry) (rising : IsRising es) (one : OnePlace es) (alone : LivesInOne es part range) where
     has_one : (q : OrderedKey) (b : Bool) → within range q ≡ b →
         HasOne (values_at (kept es) q) (cond b (get (content es) q) None)
     has_one q true inside = record {
@@ -137,7 +161,8 @@ module _ (part : ℕ) (range : Interval) where
     value q =
         sym (get-content (kept es) q)
         ∙ same_has_one (values_at (kept es) q) (get (content (kept es)) q)
-        (cond (within range q) (get (content es) q) None) (content_has_one (kept es) kept_rising kept_one q)
+        (cond (within range q) (get (content es) q) None) (content_has_one (kept es) (kept_rising es rising)
+        (kept_one es rising) q)
         (has_one q (within range q) refl)
         ∙ ap (λ o. cond (within range q) o None) (get-entries (content es) q)
         ∙ sym (find-where_key key_cmp (within range) q (alike q) (entries (content es)))
@@ -146,5 +171,5 @@ module _ (part : ℕ) (range : Interval) where
     rows_of_content =
         same_entries key_cmp key_cmp-total key_cmp-exact (rows_in es part range)
         (rows_where (within range) (content es))
-        (true_of (is_sorted key_cmp (live_records (kept es))) (live_rise part (kept es) (kept_parts es) kept_rising))
+        (true_of (is_sorted key_cmp (live_records (kept es))) (rows_read es rising).rise)
         (is_sorted-where_key key_cmp (within range) (entries (content es)) (entries_sorted (content es))) value

@@ -1,8 +1,8 @@
 -- The content of an index: the map of the live entries of its list, no key being live in two partitions.
 use Rattle.std.specs.Prelude.{◌≡◌, ◌≢◌, ◌==◌, ◌&&◌, ℕ, List, true, false, not, map, filter, Option, Some, None}
 use Rattle.std.specs.Prelude.{if◌then◌else◌}
-use Rattle.std.specs.FinMap.{get, insert, remove, from_entries}
-use Rattle.am_record.specs.OrderedKey.{OrderedKey}
+use Rattle.std.specs.FinMap.{get, insert, remove, from_entries, is_sorted, find as row_with}
+use Rattle.am_record.specs.OrderedKey.{OrderedKey, key_cmp}
 use Rattle.am_record.specs.Interval.{Interval, within}
 use Rattle.am_record.specs.Plain.{PlainMap, Records}
 use Rattle.am_record.specs.declared.entry.Entry.{Entry}
@@ -15,6 +15,10 @@ live_records es = map (λ (e : Entry). (e.key, e.value)) (filter (λ (e : Entry)
 -- the live records of that partition in the range
 abbrev pub rows_in : List Entry → ℕ → Interval → Records
 rows_in es part range = live_records (filter (λ (e : Entry). e.part == part && within range e.key) es)
+
+-- what the rows have for a key
+abbrev pub row_at : OrderedKey → Records → Option (List ℕ)
+row_at key rows = row_with key_cmp key rows
 
 -- the map of the live entries
 abbrev pub content : List Entry → PlainMap
@@ -43,6 +47,12 @@ pub record HasContent (es : List Entry) (m : PlainMap) : Type 0 where
 abbrev pub live_value : Option Slot → Option (List ℕ)
 live_value None = None
 live_value (Some s) = if s.1 then None else Some s.0
+
+-- the rows of the partition in the range rise, and are what is live there
+pub record RowsRead (es : List Entry) (part : ℕ) (range : Interval) : Type 0 where
+  pub rise : is_sorted key_cmp (rows_in es part range) ≡ true
+  pub live : (key : OrderedKey) → row_at key (rows_in es part range) ≡
+      (if within range key then live_value (find es part key) else None)
 
 -- of the partitions one at most has a live value, and it is this one
 pub record HasOne (at : ℕ → Option (List ℕ)) (value : Option (List ℕ)) : Type 0 where

@@ -11,7 +11,7 @@ ghost use Rattle.am_list.specs.Edits.{EditLaws};
 ghost use Rattle.am_list.specs.Walks.{WalkLaws, ReadLaws};
 ghost use Rattle.am_list.specs.Runs.{RunLaws};
 ghost use Rattle.am_list.specs.Content.{content, rows_in, LivesInOne, OnePlace, HasContent, HasOne, values_at};
-ghost use Rattle.am_list.specs.Content.{ContentLaws};
+ghost use Rattle.am_list.specs.Content.{ContentLaws, RowsRead};
 
 /// What insertion, setting and removal do to a rising list, place by place.
 pub fn edits_follow()
@@ -36,9 +36,11 @@ pub fn content_follows()
     ensures nothing { HasContent [] empty }
 {}
 
-/// The rows of a partition are those of the content, where nothing of the range is live elsewhere.
+/// What the rows of a partition are: what is live in it, by rising key. They are those of the content, where nothing of
+/// the range is live elsewhere.
 pub fn rows_follow()
-    ensures { (es : List Entry) (part : ℕ) (range : Interval) → IsRising es → OnePlace es → LivesInOne es part range →
+    ensures reads { (es : List Entry) (part : ℕ) (range : Interval) → IsRising es → RowsRead es part range }
+    ensures alone { (es : List Entry) (part : ℕ) (range : Interval) → IsRising es → OnePlace es → LivesInOne es part range →
         rows_in es part range ≡ rows_where (within range) (content es) }
 {}
 

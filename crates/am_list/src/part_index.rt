@@ -1,7 +1,7 @@
 //! What every index over partitions does.
 
 ghost use Rattle.std.specs.Prelude.{◌≡◌, ◌<◌, ◌≤◌, ◌++◌, List, length, take, Some, None, IsSome, OnOk, OnErr};
-ghost use Rattle.std.specs.Prelude.{is_some};
+ghost use Rattle.std.specs.Prelude.{is_some, vec_capacity};
 ghost use Rattle.std.specs.List.{AllByRecursion};
 ghost use Rattle.am_record.specs.declared.entry.Entry.{Entry};
 ghost use Rattle.am_list.specs.Entries.{find, next_any, next_ghost, next_from, after, all_from, all_after, entry_at};
@@ -46,7 +46,8 @@ pub trait PartIndex {
         ensures rising { IsRising (entries self.now) };
 
     /// Appends the live records of the partition in the range, by rising key, until there are `max`
-    /// rows. The caller sees to it that there are no more than these.
+    /// rows. The caller sees to it that there are no more than these. No memory is taken where there is room for
+    /// `max` rows.
     ///
     /// # Errors
     /// NoMemory, where memory was refused. Some rows may have been appended.
@@ -60,6 +61,8 @@ pub trait PartIndex {
         requires { length rows.old.items ≤ max }
         ensures copied { OnOk result (rows.new.items ≡ take max
             (rows.old.items ++ rows_in (entries self.now) part range)) }
+        ensures room { vec_capacity rows.old ≤ vec_capacity rows.new }
+        ensures full { OnErr result (vec_capacity rows.old < max) }
         ensures rising { IsRising (entries self.now) };
 
     /// The first entry of the whole index at or above the place of a partition and key. It may be

@@ -1,7 +1,7 @@
 //! The partitions of an index, and the changes that keep each key live in at most one of them.
 
 ghost use Rattle.std.specs.Prelude.{◌≡◌, ◌≢◌, ◌+◌, ◌<◌, ◌≤◌, ◌++◌, [], length, take, true, false, Some, None, IsSome};
-ghost use Rattle.std.specs.Prelude.{is_some, IfSome, IfNone, Err, OnOk, OnErr};
+ghost use Rattle.std.specs.Prelude.{is_some, IfSome, IfNone, Err, OnOk, OnErr, vec_capacity};
 ghost use Rattle.std.specs.List.{AllByRecursion};
 ghost use Rattle.std.specs.FinMap.{get};
 ghost use Rattle.am_record.specs.Plain.{insert_all, is_rising};
@@ -143,7 +143,8 @@ impl<I: PartIndex + Drop> Parts<I> {
     }
 
     /// Appends the live records of the partition in the range, by rising key, until there are `max`
-    /// rows. The caller sees to it that there are no more than these.
+    /// rows. The caller sees to it that there are no more than these. No memory is taken where there is room for
+    /// `max` rows.
     ///
     /// # Errors
     /// NoMemory, where memory was refused. Some rows may have been appended.
@@ -157,6 +158,8 @@ impl<I: PartIndex + Drop> Parts<I> {
         requires { length rows.old.items ≤ max }
         ensures copied { OnOk result (rows.new.items ≡ take max
             (rows.old.items ++ rows_in self.now.entries part range)) }
+        ensures room { vec_capacity rows.old ≤ vec_capacity rows.new }
+        ensures full { OnErr result (vec_capacity rows.old < max) }
         ensures sound { AreWellFormed self.now.entries }
     {
         self.index.copy_rows(part, range, max, rows)

@@ -2,7 +2,7 @@
 use Rattle.std.proofs.Common.{◌≡◌, ℕ, ◌+◌, ◌^◌, ◌<◌, ◌≤◌, List, [], ◌∷◌, true, false, ◌&&◌, ◌==◌, Some, None, ◌⊎◌, inl}
 use Rattle.std.proofs.Common.{inr, max, refl, sym, ap, ◌∙◌, subst, arith, ⊎_elim}
 use Rattle.std.proofs.Math.Nat.{max-le, max-eq_left}
-use Rattle.std.proofs.lemmas.Bool.{and_parts, true≢false, both_ways, false_from_ne_true, cases_lt, cases_Bool}
+use Rattle.std.proofs.lemmas.Bool.{true≢false, both_ways, false_from_ne_true, cases_lt, cases_Bool}
 use Rattle.std.proofs.lemmas.Bool.{cond-false, eqb-true, or_right, or_left, and_from}
 use Rattle.std.proofs.lemmas.Bool.Decides.{nat_tests}
 use Rattle.std.proofs.lemmas.Option.{none-some}
@@ -28,8 +28,7 @@ use Rattle.am_list.proofs.Edits.{one_place}
 use Rattle.am_list.proofs.Content.{none_live}
 use Rattle.am_parts.specs.Merged.{HasNoneBefore}
 use Rattle.am_parts.specs.Partitions.{AreWellFormed, AreEmpty, AreEmptyFrom}
-use Rattle.am_scan.specs.Looks.{HasNoneLive}
-use Rattle.am_scan.specs.Heads.{Stand, head_cmp, IsHead, IsFirstHead}
+use Rattle.am_scan.specs.Heads.{Stand, head_cmp, IsHead, IsFirstHead, HasNoneLive}
 use Rattle.am_scan.specs.Cursors.{is_ahead_in, same_part, AreHeads, AreAllHeads}
 use Rattle.am_scan.proofs.Moving.{turned}
 
@@ -44,10 +43,10 @@ other_number x y h = ⊎_elim (λ yes. absurd (h (eqb-true x y yes))) (λ no. no
 pub same_either_way : (g h : Stand) → same_part g h ≡ same_part h g
 same_either_way g h =
     ⊎_elim
-    (λ yes. yes ∙ sym (same_number h.entry.part g.entry.part (sym (eqb-true g.entry.part h.entry.part yes))))
-    (λ no. no ∙ sym (other_number h.entry.part g.entry.part
-    (λ same. true≢false (sym (same_number g.entry.part h.entry.part (sym same)) ∙ no))))
-    (cases_Bool (g.entry.part == h.entry.part))
+    (λ yes. yes ∙ sym (same_number h.part g.part (sym (eqb-true g.part h.part yes))))
+    (λ no. no ∙ sym (other_number h.part g.part
+    (λ same. true≢false (sym (same_number g.part h.part (sym same)) ∙ no))))
+    (cases_Bool (g.part == h.part))
 
 -- what is live stands in a partition whose number is one
 pub live_fits : (es : List Entry) (part : ℕ) (key : OrderedKey) (s : Slot) →
@@ -93,7 +92,7 @@ max_one a b = ⊎_elim (λ (less : a < b). inr (max-le (omega arith) (omega arit
 pub record AreHeadsBelow (es : List Entry) (range : Interval) (to : ℕ) (heads : List Stand) : Type 0 where
   pub are_heads : AreHeads es range heads
   pub heap : IsHeap head_cmp heads
-  pub below : All (λ (h : Stand). h.entry.part < to) heads
+  pub below : All (λ (h : Stand). h.part < to) heads
   pub before : (part : ℕ) (key : OrderedKey) (value : List ℕ) → part < to → IsLiveAt es part key value →
       within range key ≡ true → is_ahead_in heads part key ≡ true
 
@@ -106,22 +105,22 @@ none_yet es range heads none heap = record {
     apart = subst (IsDistinct same_part) (sym none) tt;
   };
   heap = heap;
-  below = subst (All (λ (h : Stand). h.entry.part < 0)) (sym none) (All-nil (λ (h : Stand). h.entry.part < 0));
+  below = subst (All (λ (h : Stand). h.part < 0)) (sym none) (All-nil (λ (h : Stand). h.part < 0));
   before = λ part key value less live inside. absurd (omega arith);
 }
 
-lower_all : (to to' : ℕ) (heads : List Stand) → to ≤ to' → AllByRecursion (λ (h : Stand). h.entry.part < to) heads →
-    AllByRecursion (λ (h : Stand). h.entry.part < to') heads
+lower_all : (to to' : ℕ) (heads : List Stand) → to ≤ to' → AllByRecursion (λ (h : Stand). h.part < to) heads →
+    AllByRecursion (λ (h : Stand). h.part < to') heads
 lower_all to to' [] le all = tt
-lower_all to to' (h ∷ heads) le all = let low : h.entry.part < to = all.0 in
+lower_all to to' (h ∷ heads) le all = let low : h.part < to = all.0 in
     (omega (arith, low), lower_all to to' heads le all.1)
 
-apart_from : (to : ℕ) (h : Stand) (heads : List Stand) → to ≤ h.entry.part →
-    AllByRecursion (λ (g : Stand). g.entry.part < to) heads → AllByRecursion (λ (g : Stand). same_part h g ≡ false)
+apart_from : (to : ℕ) (h : Stand) (heads : List Stand) → to ≤ h.part →
+    AllByRecursion (λ (g : Stand). g.part < to) heads → AllByRecursion (λ (g : Stand). same_part h g ≡ false)
     heads
 apart_from to h [] le all = tt
-apart_from to h (g ∷ heads) le all = let low : g.entry.part < to = all.0 in
-    (other_number h.entry.part g.entry.part (λ same. omega (arith, low, same)), apart_from to h heads le all.1)
+apart_from to h (g ∷ heads) le all = let low : g.part < to = all.0 in
+    (other_number h.part g.part (λ same. omega (arith, low, same)), apart_from to h heads le all.1)
 
 module _ {es : List Entry} {range : Interval} {to : ℕ} {heads : List Stand} (gathered : AreHeadsBelow es range to heads)
   where
@@ -135,9 +134,9 @@ module _ {es : List Entry} {range : Interval} {to : ℕ} {heads : List Stand} (g
       passes_part none = record {
         are_heads = gathered.are_heads;
         heap = gathered.heap;
-        below = All-from_recursion (λ (h : Stand). h.entry.part < at + 1) heads
+        below = All-from_recursion (λ (h : Stand). h.part < at + 1) heads
             (lower_all to (at + 1) heads (omega (arith, from))
-            (recursion_from_All (λ (h : Stand). h.entry.part < to) heads gathered.below));
+            (recursion_from_All (λ (h : Stand). h.part < to) heads gathered.below));
         before = λ part key value less live inside.
             ⊎_elim (λ old. gathered.before part key value old live inside)
             (λ new. ⊎_elim (λ before. absurd (skipped part key value new before inside live))
@@ -149,33 +148,33 @@ module _ {es : List Entry} {range : Interval} {to : ℕ} {heads : List Stand} (g
 
       module _ (h : Stand) (begins : IsFirstHead es range at h) {heads' : List Stand}
           (moved : IsPermutation (h ∷ heads) heads') (keeps : KeepsHeap head_cmp heads heads') where
-        below_h : AllByRecursion (λ (g : Stand). g.entry.part < to) heads
-        below_h = recursion_from_All (λ (g : Stand). g.entry.part < to) heads gathered.below
+        below_h : AllByRecursion (λ (g : Stand). g.part < to) heads
+        below_h = recursion_from_All (λ (g : Stand). g.part < to) heads gathered.below
 
-        above_to : to ≤ h.entry.part
+        above_to : to ≤ h.part
         above_to = let same = begins.in_part in omega (arith, from, same)
 
         reached : (key : OrderedKey) (value : List ℕ) → within range key ≡ true → IsLiveAt es at key value →
-            key_le h.entry.key key ≡ true
-        reached key value inside live = by_order (key_cmp h.entry.key key) refl
+            key_le h.key key ≡ true
+        reached key value inside live = by_order (key_cmp h.key key) refl
           where
-            by_order : (o : Ordering) → key_cmp h.entry.key key ≡ o → key_le h.entry.key key ≡ true
+            by_order : (o : Ordering) → key_cmp h.key key ≡ o → key_le h.key key ≡ true
             by_order Less e = ap is_le e
             by_order Equal e = ap is_le e
-            by_order Greater e = absurd (begins.none_before key value inside (turned h.entry.key key e) live)
+            by_order Greater e = absurd (begins.none_before key value inside (turned h.key key e) live)
 
         -- of the new list before it was put in order
         ahead : (part : ℕ) (key : OrderedKey) (value : List ℕ) → part < at + 1 → IsLiveAt es part key value →
             within range key ≡ true → is_ahead_in (h ∷ heads) part key ≡ true
         ahead part key value less live inside =
-            ⊎_elim (λ old. or_right (h.entry.part == part && key_le h.entry.key key) (is_ahead_in heads part key)
+            ⊎_elim (λ old. or_right (h.part == part && key_le h.key key) (is_ahead_in heads part key)
             (gathered.before part key value old live inside))
             (λ new. ⊎_elim (λ before. absurd (skipped part key value new before inside live))
             (λ not_before.
             let same : part ≡ at = omega (arith, less, not_before) in
-            or_left (h.entry.part == part && key_le h.entry.key key) (is_ahead_in heads part key)
-            (and_from (h.entry.part == part) (key_le h.entry.key key)
-            (same_number h.entry.part part (begins.in_part ∙ sym same))
+            or_left (h.part == part && key_le h.key key) (is_ahead_in heads part key)
+            (and_from (h.part == part) (key_le h.key key)
+            (same_number h.part part (begins.in_part ∙ sym same))
             (reached key value inside (subst (λ p. IsLiveAt es p key value) same live))))
             (cases_lt part at))
             (cases_lt part to)
@@ -189,15 +188,15 @@ module _ {es : List Entry} {range : Interval} {to : ℕ} {heads : List Stand} (g
                 (IsDistinct-cons same_part h heads (apart_from to h heads above_to below_h) gathered.are_heads.apart);
           };
           heap = keeps gathered.heap;
-          below = All-permutation (λ (g : Stand). g.entry.part < at + 1) (h ∷ heads) heads' moved
-              (All-from_recursion (λ (g : Stand). g.entry.part < at + 1) (h ∷ heads)
+          below = All-permutation (λ (g : Stand). g.part < at + 1) (h ∷ heads) heads' moved
+              (All-from_recursion (λ (g : Stand). g.part < at + 1) (h ∷ heads)
               (let same = begins.in_part in (
                 omega (arith, same),
                 lower_all to (at + 1) heads (omega (arith, from))
                     below_h,
               )));
           before = λ part key value less live inside.
-              sym (list_any-IsPermutation (λ (g : Stand). g.entry.part == part && key_le g.entry.key key) (h ∷ heads)
+              sym (list_any-IsPermutation (λ (g : Stand). g.part == part && key_le g.key key) (h ∷ heads)
               heads' moved) ∙ ahead part key value less live inside;
         }
 
@@ -207,8 +206,8 @@ module _ {es : List Entry} {range : Interval} {to : ℕ} {heads : List Stand} (g
     passes_runs run to' some up which none = record {
       are_heads = gathered.are_heads;
       heap = gathered.heap;
-      below = All-from_recursion (λ (h : Stand). h.entry.part < to') heads
-          (lower_all to to' heads up (recursion_from_All (λ (h : Stand). h.entry.part < to) heads gathered.below));
+      below = All-from_recursion (λ (h : Stand). h.part < to') heads
+          (lower_all to to' heads up (recursion_from_All (λ (h : Stand). h.part < to) heads gathered.below));
       before = λ part key value less live inside.
           ⊎_elim (λ old. gathered.before part key value old live inside)
           (λ new. ⊎_elim (λ (same : to' ≡ to). absurd (omega (arith, same, less, new)))

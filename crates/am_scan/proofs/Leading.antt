@@ -1,17 +1,29 @@
 -- The least of several heads.
-use Rattle.std.proofs.Common.{◌≡◌, ◌<◌, List, [], ◌∷◌, true, false, length, get_or, refl, sym, ap, ◌∙◌, arith}
+use Rattle.std.proofs.Common.{◌≡◌, ◌≢◌, ℕ, ◌<◌, List, [], ◌∷◌, true, false, length, get_or, refl, sym, ap, ◌∙◌, arith}
 use Rattle.std.proofs.lemmas.Bool.{true≢false}
 use Rattle.std.proofs.lemmas.List.{get_or_default}
 use Rattle.std.proofs.lemmas.List.Elements.{All-from_recursion, recursion_from_All}
 use Rattle.std.proofs.lemmas.List.Sorted.{All-permutation, IsPermutation-cons, IsPermutation-swap, IsPermutation-trans}
 use Rattle.std.specs.declared.cmp.Ordering.{Ordering}
 use Rattle.std.specs.declared.cmp.Ordering.TheVariants.{Less, Equal, Greater}
-use Rattle.std.specs.Ordering.{is_lt, is_le}
+use Rattle.std.specs.Ordering.{is_lt, is_le, nat_cmp, ordering_reverse}
+use Rattle.std.proofs.lemmas.Cmp.{ranked}
 use Rattle.std.specs.List.Sorted.{IsPermutation}
 use Rattle.std.specs.BinaryHeap.{IsUpperBound}
 use Rattle.am_scan.specs.Heads.{Stand, head_cmp}
-use Rattle.am_record.specs.OrderedKey.{key_cmp}
+use Rattle.am_record.specs.OrderedKey.{OrderedKey, key_cmp, key_cmp-total}
+use Rattle.am_record.specs.KeyFront.{key_front}
 use Rattle.am_scan.proofs.Moving.{less_le}
+
+-- where the fronts of two keys differ, they stand as their keys do
+pub fronts_tell : ((a b : OrderedKey) → key_front a < key_front b → key_cmp a b ≡ Less) → (a b : OrderedKey) (x y : ℕ) →
+    x ≡ key_front a → y ≡ key_front b → (o : Ordering) → o ≡ nat_cmp x y → o ≢ Equal → o ≡ key_cmp a b
+fronts_tell law a b x y of_a of_b Less is differs =
+    let less : x < y = ranked x y Less is in sym (law a b (omega (arith, less, of_a, of_b)))
+fronts_tell law a b x y of_a of_b Equal is differs = absurd (differs refl)
+fronts_tell law a b x y of_a of_b Greater is differs =
+    let less : y < x = ranked x y Greater is in
+    sym (key_cmp-total.antisymm a b ∙ ap ordering_reverse (law b a (omega (arith, less, of_a, of_b))))
 
 -- above a head that is not below any of these
 pub not_below_others : (a b : Stand) (heads : List Stand) → is_le (head_cmp b a) ≡ true →
@@ -21,7 +33,7 @@ not_below_others a b (y ∷ ys) over bound = (by_order (head_cmp a y) refl, not_
   where
     by_order : (o : Ordering) → head_cmp a y ≡ o → is_lt (head_cmp a y) ≡ false
     by_order Less e =
-        absurd (true≢false (sym (ap is_lt (less_le y.entry.key a.entry.key b.entry.key (key_cmp a.entry.key b.entry.key)
+        absurd (true≢false (sym (ap is_lt (less_le y.key a.key b.key (key_cmp a.key b.key)
         e
         refl over)) ∙ bound.0))
     by_order Equal e = ap is_lt e

@@ -1,7 +1,5 @@
 mod Rising
-mod Reading
 mod Moving
-mod Beginnings
 mod Gathering
 mod Leading
 mod Merging

@@ -141,11 +141,11 @@ pub ahead_somewhere : (heads : List Stand) (part : ℕ) (key : OrderedKey) → i
 ahead_somewhere [] part key h = h
 ahead_somewhere (g ∷ heads) part key h =
     ⊎_elim
-    (λ here. or_left (key_le g.entry.key key) (is_ahead heads key)
-    (and_parts (g.entry.part == part) (key_le g.entry.key key) here).1)
-    (λ no. or_right (key_le g.entry.key key) (is_ahead heads key)
+    (λ here. or_left (key_le g.key key) (is_ahead heads key)
+    (and_parts (g.part == part) (key_le g.key key) here).1)
+    (λ no. or_right (key_le g.key key) (is_ahead heads key)
     (ahead_somewhere heads part key (ap (λ b. b || is_ahead_in heads part key) (sym no) ∙ h)))
-    (cases_Bool (g.entry.part == part && key_le g.entry.key key))
+    (cases_Bool (g.part == part && key_le g.key key))
 
 -- ---- a cursor begins
 
@@ -153,8 +153,8 @@ module _ {es : List Entry} (range : Interval) (sound : AreWellFormed es) (laws :
     (all : AreAllHeads es range heads) {heads' : List Stand} (popped : IsPermutation heads heads') where
   all_before : (part : ℕ) (key : OrderedKey) (value : List ℕ) → IsLiveAt es part key value → within range key ≡ true →
       is_ahead_in heads' part key ≡ true
-  all_before part key value live inside = sym (list_any-IsPermutation (λ (g : Stand). g.entry.part == part && key_le
-      g.entry.key key) heads heads' popped) ∙ all.before part key value live inside
+  all_before part key value live inside = sym (list_any-IsPermutation (λ (g : Stand). g.part == part && key_le
+      g.key key) heads heads' popped) ∙ all.before part key value live inside
 
   pub begins : AreAhead es range heads'
   begins = record {
@@ -207,39 +207,39 @@ module _ {es : List Entry} {range : Interval} (h : Stand) (rest : List Stand) (c
   rest_above : (gs : List Stand) → AllByRecursion (IsHead es range) gs →
       AllByRecursion (λ (g : Stand). same_part h g ≡ false) gs →
       AllByRecursion (λ (g : Stand). is_lt (head_cmp h g) ≡ false) gs
-      → AllByRecursion (λ (g : Stand). key_cmp h.entry.key g.entry.key ≡ Less) gs
+      → AllByRecursion (λ (g : Stand). key_cmp h.key g.key ≡ Less) gs
   rest_above [] each apart bound = tt
   rest_above (g ∷ gs) each apart bound = (
-    by_order (key_cmp h.entry.key g.entry.key) refl,
+    by_order (key_cmp h.key g.key) refl,
     rest_above gs each.1 apart.1 bound.1,
   )
     where
-      by_order : (o : Ordering) → key_cmp h.entry.key g.entry.key ≡ o → key_cmp h.entry.key g.entry.key ≡ Less
+      by_order : (o : Ordering) → key_cmp h.key g.key ≡ o → key_cmp h.key g.key ≡ Less
       by_order Less e = e
       by_order Equal e =
-          let one : h.entry.key ≡ g.entry.key = key_cmp-exact h.entry.key g.entry.key e in
-          let live : IsLiveAt es h.entry.part g.entry.key h.entry.value =
-          subst (λ k. IsLiveAt es h.entry.part k h.entry.value) one standing.live in
-          let same : h.entry.part ≡ g.entry.part = cursor.sound.one_place.one g.entry.key h.entry.part g.entry.part
-          h.entry.value g.entry.value live each.0.live in
-          absurd (true≢false (sym (same_number h.entry.part g.entry.part same) ∙ apart.0))
-      by_order Greater e = absurd (true≢false (sym (ap is_lt (turned h.entry.key g.entry.key e)) ∙ bound.0))
+          let one : h.key ≡ g.key = key_cmp-exact h.key g.key e in
+          let live : IsLiveAt es h.part g.key h.value =
+          subst (λ k. IsLiveAt es h.part k h.value) one standing.live in
+          let same : h.part ≡ g.part = cursor.sound.one_place.one g.key h.part g.part
+          h.value g.value live each.0.live in
+          absurd (true≢false (sym (same_number h.part g.part same) ∙ apart.0))
+      by_order Greater e = absurd (true≢false (sym (ap is_lt (turned h.key g.key e)) ∙ bound.0))
 
-  others_above : AllByRecursion (λ (g : Stand). key_cmp h.entry.key g.entry.key ≡ Less) rest
+  others_above : AllByRecursion (λ (g : Stand). key_cmp h.key g.key ≡ Less) rest
   others_above = rest_above rest (recursion_from_All (IsHead es range) rest rest_heads)
       (IsDistinct-head same_part h rest cursor.are_heads.apart) least
 
   -- what is left: heads above it, which have all that is live above it before them
   module _ (heads' : List Stand) (are : AreHeads es range heads')
-      (above : All (λ (g : Stand). key_cmp h.entry.key g.entry.key ≡ Less) heads')
+      (above : All (λ (g : Stand). key_cmp h.key g.key ≡ Less) heads')
       (ahead : (part : ℕ) (key : OrderedKey) (value : List ℕ) → IsLiveAt es part key value → within range key ≡ true →
-      key_cmp h.entry.key key ≡ Less → is_ahead_in heads' part key ≡ true) where
-    above_head : (key : OrderedKey) → is_ahead heads' key ≡ true → key_cmp h.entry.key key ≡ Less
+      key_cmp h.key key ≡ Less → is_ahead_in heads' part key ≡ true) where
+    above_head : (key : OrderedKey) → is_ahead heads' key ≡ true → key_cmp h.key key ≡ Less
     above_head key any =
-        let g = some_head (λ (g : Stand). key_cmp h.entry.key g.entry.key ≡ Less)
-        (λ (g : Stand). key_le g.entry.key key) heads'
-        (recursion_from_All (λ (g : Stand). key_cmp h.entry.key g.entry.key ≡ Less) heads' above) any in
-        less_le h.entry.key g.0.entry.key key (key_cmp g.0.entry.key key) g.1 refl g.2
+        let g = some_head (λ (g : Stand). key_cmp h.key g.key ≡ Less)
+        (λ (g : Stand). key_le g.key key) heads'
+        (recursion_from_All (λ (g : Stand). key_cmp h.key g.key ≡ Less) heads' above) any in
+        less_le h.key g.0.key key (key_cmp g.0.key key) g.1 refl g.2
 
     goes_on : AreAhead es range heads'
     goes_on = record {
@@ -248,32 +248,32 @@ module _ {es : List Entry} {range : Interval} (h : Stand) (rest : List Stand) (c
       before = λ part key value live inside any. ahead part key value live inside (above_head key any);
     }
 
-    from_head : (key : OrderedKey) → key_le h.entry.key key ≡ true → is_ahead (h ∷ rest) key ≡ true
-    from_head key le = or_left (key_le h.entry.key key) (is_ahead rest key) le
+    from_head : (key : OrderedKey) → key_le h.key key ≡ true → is_ahead (h ∷ rest) key ≡ true
+    from_head key le = or_left (key_le h.key key) (is_ahead rest key) le
 
-    none_below : (key : OrderedKey) → key_cmp key h.entry.key ≡ Less → is_ahead (h ∷ rest) key ≡ false
-    none_below key below = no_head (λ (g : Stand). key_le g.entry.key key) (h ∷ rest)
-        (not_le h.entry.key below, not_rest rest others_above)
+    none_below : (key : OrderedKey) → key_cmp key h.key ≡ Less → is_ahead (h ∷ rest) key ≡ false
+    none_below key below = no_head (λ (g : Stand). key_le g.key key) (h ∷ rest)
+        (not_le h.key below, not_rest rest others_above)
       where
         not_le : (k : OrderedKey) → key_cmp key k ≡ Less → key_le k key ≡ false
         not_le k less = ap is_le (key_cmp-total.antisymm k key ∙ ap ordering_reverse less)
 
-        not_rest : (gs : List Stand) → AllByRecursion (λ (g : Stand). key_cmp h.entry.key g.entry.key ≡ Less) gs →
-            AllByRecursion (λ (g : Stand). key_le g.entry.key key ≡ false) gs
+        not_rest : (gs : List Stand) → AllByRecursion (λ (g : Stand). key_cmp h.key g.key ≡ Less) gs →
+            AllByRecursion (λ (g : Stand). key_le g.key key ≡ false) gs
         not_rest [] all = tt
         not_rest (g ∷ gs) all = (
-          not_le g.entry.key (key_cmp-total.trans key h.entry.key g.entry.key below all.0),
+          not_le g.key (key_cmp-total.trans key h.key g.key below all.0),
           not_rest gs all.1,
         )
 
-    gives_first : ContentLaws es → rows_ahead (h ∷ rest) range (content es) ≡ (h.entry.key, h.entry.value) ∷ rows_ahead
+    gives_first : ContentLaws es → rows_ahead (h ∷ rest) range (content es) ≡ (h.key, h.value) ∷ rows_ahead
         heads' range (content es)
     gives_first laws =
         first_row (λ key. is_ahead (h ∷ rest) key && within range key) (λ key. is_ahead heads' key && within range key)
-        (content es) h.entry.key h.entry.value
-        (laws.reads.live h.entry.part h.entry.key h.entry.value standing.live)
-        (and_from (is_ahead (h ∷ rest) h.entry.key) (within range h.entry.key)
-        (from_head h.entry.key (ap is_le (key_cmp-itself h.entry.key))) standing.inside)
+        (content es) h.key h.value
+        (laws.reads.live h.part h.key h.value standing.live)
+        (and_from (is_ahead (h ∷ rest) h.key) (within range h.key)
+        (from_head h.key (ap is_le (key_cmp-itself h.key))) standing.inside)
         (λ q passed. above_head q (and_parts (is_ahead heads' q) (within range q) passed).0)
         (λ q below. ap (λ b. b && within range q) (none_below q below))
         (λ q v there over. by_test q v there over (within range q) refl)
@@ -284,21 +284,21 @@ module _ {es : List Entry} {range : Interval} (h : Stand) (rest : List Stand) (c
         never false true = refl
         never false false = refl
 
-        by_test : (q : OrderedKey) (v : List ℕ) → get (content es) q ≡ Some v → key_cmp h.entry.key q ≡ Less →
+        by_test : (q : OrderedKey) (v : List ℕ) → get (content es) q ≡ Some v → key_cmp h.key q ≡ Less →
             (b : Bool) → within range q ≡ b
             → (is_ahead (h ∷ rest) q && within range q) ≡ (is_ahead heads' q && within range q)
         by_test q v there over true e =
             let home = laws.reads.found q v there in
-            ap (λ b. b && within range q) (from_head q (le_of_less h.entry.key q over) ∙
+            ap (λ b. b && within range q) (from_head q (le_of_less h.key q over) ∙
             sym (ahead_somewhere heads' home.0 q (ahead home.0 q v home.1 e over)))
         by_test q v there over false e = ap (λ b. is_ahead (h ∷ rest) q && b) e ∙
             never (is_ahead (h ∷ rest) q) (is_ahead heads' q) ∙ ap (λ b. is_ahead heads' q && b) (sym e)
 
   -- the heads that it was one of have what is live above it before them
   among : (part : ℕ) (key : OrderedKey) (value : List ℕ) → IsLiveAt es part key value → within range key ≡ true →
-      key_cmp h.entry.key key ≡ Less → is_ahead_in (h ∷ rest) part key ≡ true
+      key_cmp h.key key ≡ Less → is_ahead_in (h ∷ rest) part key ≡ true
   among part key value live inside over = cursor.before part key value live inside
-      (or_left (key_le h.entry.key key) (is_ahead rest key) (le_of_less h.entry.key key over))
+      (or_left (key_le h.key key) (is_ahead rest key) (le_of_less h.key key over))
 
   -- it was the last of its partition
   module _ (ended : HasNoNext es range h) (heads' : List Stand) (popped : IsPermutation rest heads') where
@@ -309,26 +309,26 @@ module _ {es : List Entry} {range : Interval} (h : Stand) (rest : List Stand) (c
           (IsDistinct-tail same_part h rest cursor.are_heads.apart);
     }
 
-    without_above : All (λ (g : Stand). key_cmp h.entry.key g.entry.key ≡ Less) heads'
-    without_above = All-permutation (λ (g : Stand). key_cmp h.entry.key g.entry.key ≡ Less) rest heads' popped
-        (All-from_recursion (λ (g : Stand). key_cmp h.entry.key g.entry.key ≡ Less) rest others_above)
+    without_above : All (λ (g : Stand). key_cmp h.key g.key ≡ Less) heads'
+    without_above = All-permutation (λ (g : Stand). key_cmp h.key g.key ≡ Less) rest heads' popped
+        (All-from_recursion (λ (g : Stand). key_cmp h.key g.key ≡ Less) rest others_above)
 
     without_ahead : (part : ℕ) (key : OrderedKey) (value : List ℕ) → IsLiveAt es part key value →
-        within range key ≡ true → key_cmp h.entry.key key ≡ Less → is_ahead_in heads' part key ≡ true
+        within range key ≡ true → key_cmp h.key key ≡ Less → is_ahead_in heads' part key ≡ true
     without_ahead part key value live inside over =
-        sym (list_any-IsPermutation (λ (g : Stand). g.entry.part == part && key_le g.entry.key key) rest heads' popped)
+        sym (list_any-IsPermutation (λ (g : Stand). g.part == part && key_le g.key key) rest heads' popped)
         ∙ ⊎_elim
         (λ here.
-        let same : h.entry.part ≡ part = eqb-true h.entry.part part
-        (and_parts (h.entry.part == part) (key_le h.entry.key key) here).0 in
+        let same : h.part ≡ part = eqb-true h.part part
+        (and_parts (h.part == part) (key_le h.key key) here).0 in
         absurd (ended.none key value over inside (subst (λ p. IsLiveAt es p key value) (sym same) live)))
         (λ no. ap (λ b. b || is_ahead_in rest part key) (sym no) ∙ among part key value live inside over)
-        (cases_Bool (h.entry.part == part && key_le h.entry.key key))
+        (cases_Bool (h.part == part && key_le h.key key))
 
     pub ends_on : AreAhead es range heads'
     ends_on = goes_on heads' without_are without_above without_ahead
 
-    pub ends_first : ContentLaws es → rows_ahead (h ∷ rest) range (content es) ≡ (h.entry.key, h.entry.value) ∷
+    pub ends_first : ContentLaws es → rows_ahead (h ∷ rest) range (content es) ≡ (h.key, h.value) ∷
         rows_ahead heads' range (content es)
     ends_first = gives_first heads' without_are without_above without_ahead
 
@@ -338,7 +338,7 @@ module _ {es : List Entry} {range : Interval} (h : Stand) (rest : List Stand) (c
     new_apart : (gs : List Stand) → AllByRecursion (λ (g : Stand). same_part h g ≡ false) gs →
         AllByRecursion (λ (g : Stand). same_part new g ≡ false) gs
     new_apart [] all = tt
-    new_apart (g ∷ gs) all = (ap (λ p. p == g.entry.part) moved.in_part ∙ all.0, new_apart gs all.1)
+    new_apart (g ∷ gs) all = (ap (λ p. p == g.part) moved.in_part ∙ all.0, new_apart gs all.1)
 
     with_are : AreHeads es range heads'
     with_are = record {
@@ -349,42 +349,42 @@ module _ {es : List Entry} {range : Interval} (h : Stand) (rest : List Stand) (c
           (IsDistinct-tail same_part h rest cursor.are_heads.apart));
     }
 
-    with_above : All (λ (g : Stand). key_cmp h.entry.key g.entry.key ≡ Less) heads'
-    with_above = All-permutation (λ (g : Stand). key_cmp h.entry.key g.entry.key ≡ Less) (new ∷ rest) heads' kept
-        (All-from_recursion (λ (g : Stand). key_cmp h.entry.key g.entry.key ≡ Less) (new ∷ rest)
+    with_above : All (λ (g : Stand). key_cmp h.key g.key ≡ Less) heads'
+    with_above = All-permutation (λ (g : Stand). key_cmp h.key g.key ≡ Less) (new ∷ rest) heads' kept
+        (All-from_recursion (λ (g : Stand). key_cmp h.key g.key ≡ Less) (new ∷ rest)
         (moved.above, others_above))
 
-    reached : (part : ℕ) (key : OrderedKey) (value : List ℕ) → h.entry.part ≡ part → IsLiveAt es part key value →
-        key_cmp h.entry.key key ≡ Less → key_le new.entry.key key ≡ true
-    reached part key value same live over = by_order (key_cmp new.entry.key key) refl
+    reached : (part : ℕ) (key : OrderedKey) (value : List ℕ) → h.part ≡ part → IsLiveAt es part key value →
+        key_cmp h.key key ≡ Less → key_le new.key key ≡ true
+    reached part key value same live over = by_order (key_cmp new.key key) refl
       where
-        by_order : (o : Ordering) → key_cmp new.entry.key key ≡ o → key_le new.entry.key key ≡ true
+        by_order : (o : Ordering) → key_cmp new.key key ≡ o → key_le new.key key ≡ true
         by_order Less e = ap is_le e
         by_order Equal e = ap is_le e
-        by_order Greater e = absurd (moved.none_between key value over (turned new.entry.key key e)
+        by_order Greater e = absurd (moved.none_between key value over (turned new.key key e)
             (subst (λ p. IsLiveAt es p key value) (sym same) live))
 
     with_ahead : (part : ℕ) (key : OrderedKey) (value : List ℕ) → IsLiveAt es part key value → within range key ≡ true →
-        key_cmp h.entry.key key ≡ Less → is_ahead_in heads' part key ≡ true
+        key_cmp h.key key ≡ Less → is_ahead_in heads' part key ≡ true
     with_ahead part key value live inside over =
-        sym (list_any-IsPermutation (λ (g : Stand). g.entry.part == part && key_le g.entry.key key) (new ∷ rest) heads'
+        sym (list_any-IsPermutation (λ (g : Stand). g.part == part && key_le g.key key) (new ∷ rest) heads'
         kept)
         ∙ ⊎_elim
         (λ here.
-        let same : h.entry.part ≡ part = eqb-true h.entry.part part
-        (and_parts (h.entry.part == part) (key_le h.entry.key key) here).0 in
-        or_left (new.entry.part == part && key_le new.entry.key key) (is_ahead_in rest part key)
-        (and_from (new.entry.part == part) (key_le new.entry.key key)
-        (same_number new.entry.part part (moved.in_part ∙ same)) (reached part key value same live over)))
+        let same : h.part ≡ part = eqb-true h.part part
+        (and_parts (h.part == part) (key_le h.key key) here).0 in
+        or_left (new.part == part && key_le new.key key) (is_ahead_in rest part key)
+        (and_from (new.part == part) (key_le new.key key)
+        (same_number new.part part (moved.in_part ∙ same)) (reached part key value same live over)))
         (λ no.
-        or_right (new.entry.part == part && key_le new.entry.key key) (is_ahead_in rest part key)
+        or_right (new.part == part && key_le new.key key) (is_ahead_in rest part key)
         (ap (λ b. b || is_ahead_in rest part key) (sym no) ∙ among part key value live inside over))
-        (cases_Bool (h.entry.part == part && key_le h.entry.key key))
+        (cases_Bool (h.part == part && key_le h.key key))
 
     pub moves_on : AreAhead es range heads'
     moves_on = goes_on heads' with_are with_above with_ahead
 
-    pub moves_first : ContentLaws es → rows_ahead (h ∷ rest) range (content es) ≡ (h.entry.key, h.entry.value) ∷
+    pub moves_first : ContentLaws es → rows_ahead (h ∷ rest) range (content es) ≡ (h.key, h.value) ∷
         rows_ahead heads' range (content es)
     moves_first = gives_first heads' with_are with_above with_ahead
 
@@ -398,28 +398,28 @@ is_rest is = sym (ap (drop 1) is)
 
 module _ {es : List Entry} {range : Interval} (h : Stand) (cursor : AreAhead es range (h ∷ [])) where
   abbrev pub rest_of : Interval
-  rest_of = record { lo = h.entry.key; hi = range.hi }
+  rest_of = record { lo = h.key; hi = range.hi }
 
   only : IsHead es range h
   only = All-head (IsHead es range) h [] cursor.are_heads.each
 
-  ends : (key_le range.lo h.entry.key ≡ true) × (key_le h.entry.key range.hi ≡ true)
-  ends = and_parts (key_le range.lo h.entry.key) (key_le h.entry.key range.hi) only.inside
+  ends : (key_le range.lo h.key ≡ true) × (key_le h.key range.hi ≡ true)
+  ends = and_parts (key_le range.lo h.key) (key_le h.key range.hi) only.inside
 
-  pub ordered : key_le h.entry.key range.hi ≡ true
+  pub ordered : key_le h.key range.hi ≡ true
   ordered = ends.1
 
-  widened : (q : OrderedKey) → key_le h.entry.key q ≡ true → key_le range.lo q ≡ true
-  widened q le = key_le_trans range.lo h.entry.key q ends.0 le
+  widened : (q : OrderedKey) → key_le h.key q ≡ true → key_le range.lo q ≡ true
+  widened q le = key_le_trans range.lo h.key q ends.0 le
 
-  lives_in_one : LivesInOne es h.entry.part rest_of
+  lives_in_one : LivesInOne es h.part rest_of
   lives_in_one = record {
     one = λ p key value live inside.
-        let parts = and_parts (key_le h.entry.key key) (key_le key range.hi) inside in
+        let parts = and_parts (key_le h.key key) (key_le key range.hi) inside in
         let ahead = cursor.before p key value live (and_from (key_le range.lo key) (key_le key range.hi)
-        (widened key parts.0) parts.1) (or_left (key_le h.entry.key key) false parts.0) in
-        sym (eqb-true h.entry.part p (and_parts (h.entry.part == p) (key_le h.entry.key key)
-        (or_alone (h.entry.part == p && key_le h.entry.key key) ahead)).0);
+        (widened key parts.0) parts.1) (or_left (key_le h.key key) false parts.0) in
+        sym (eqb-true h.part p (and_parts (h.part == p) (key_le h.key key)
+        (or_alone (h.part == p && key_le h.key key) ahead)).0);
   }
     where
       or_alone : (b : Bool) → (b || false) ≡ true → b ≡ true
@@ -428,13 +428,13 @@ module _ {es : List Entry} {range : Interval} (h : Stand) (cursor : AreAhead es 
 
   pub alone_rows : ((part : ℕ) (range : Interval) → LivesInOne es part range →
       rows_in es part range ≡ rows_where (within range) (content es)) → rows_ahead (h ∷ []) range (content es) ≡ rows_in
-      es h.entry.part rest_of
+      es h.part rest_of
   alone_rows law =
       same_rows (λ key. is_ahead (h ∷ []) key && within range key) (within rest_of) (content es)
-      (λ q v there. same_test (key_le h.entry.key q) q refl)
-      ∙ sym (law h.entry.part rest_of lives_in_one)
+      (λ q v there. same_test (key_le h.key q) q refl)
+      ∙ sym (law h.part rest_of lives_in_one)
     where
-      same_test : (b : Bool) (q : OrderedKey) → key_le h.entry.key q ≡ b → (is_ahead (h ∷ []) q && within range q) ≡
+      same_test : (b : Bool) (q : OrderedKey) → key_le h.key q ≡ b → (is_ahead (h ∷ []) q && within range q) ≡
           within rest_of q
       same_test true q e =
           ap (λ b. (b || false) && within range q) e ∙ ap (λ b. b && key_le q range.hi) (widened q e) ∙

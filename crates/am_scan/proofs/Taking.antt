@@ -61,3 +61,7 @@ module _ {X : Type 0} where
     -- the rest at once
     pub all_at_once : {taken' : List X} (max : ℕ) → taken' ≡ take max (taken ++ left) → taken' ≡ take max all
     all_at_once max is = is ∙ ap (take max) (sym so_far.together)
+
+  pub no_length : (xs : List X) → length xs ≡ 0 → xs ≡ []
+  no_length [] h = refl
+  no_length (x ∷ xs) h = absurd (omega arith)

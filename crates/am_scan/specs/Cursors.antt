@@ -12,7 +12,7 @@ use Rattle.am_scan.specs.Heads.{Stand, head_cmp, IsHead}
 
 -- whether a head stands at the key or below it
 abbrev pub is_ahead : List Stand → OrderedKey → Bool
-is_ahead heads key = list_any (λ (h : Stand). key_le h.entry.key key) heads
+is_ahead heads key = list_any (λ (h : Stand). key_le h.key key) heads
 
 -- the records of the range from the least head on, by rising key
 abbrev pub rows_ahead : List Stand → Interval → PlainMap → Records
@@ -20,10 +20,10 @@ rows_ahead heads range m = rows_where (λ key. is_ahead heads key && within rang
 
 -- whether the head of the partition stands at the key or below it
 abbrev pub is_ahead_in : List Stand → ℕ → OrderedKey → Bool
-is_ahead_in heads part key = list_any (λ (h : Stand). h.entry.part == part && key_le h.entry.key key) heads
+is_ahead_in heads part key = list_any (λ (h : Stand). h.part == part && key_le h.key key) heads
 
 abbrev pub same_part : Stand → Stand → Bool
-same_part g h = g.entry.part == h.entry.part
+same_part g h = g.part == h.part
 
 -- heads at live entries of the range, one of a partition at most
 pub record AreHeads (es : List Entry) (range : Interval) (heads : List Stand) : Type 0 where

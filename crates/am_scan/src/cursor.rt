@@ -14,6 +14,9 @@ use std::alloc::Global;
 use std::collections::BinaryHeap;
 use std::marker::Model;
 
+// How many rows of a partition a cursor reads at once that doesn't know how many are asked for.
+const ROWS_AT_ONCE: usize = 16;
+
 /// A place in the records of a range, seen as the list of the records still to come. It merges the
 /// partitions as runs are merged in an external sort: each has a head at its next record, and the
 /// least of them has the next record of all.
@@ -53,8 +56,24 @@ impl<'a, I: PartIndex + Drop> Cursor<'a, I> {
     pub fn open(alloc: Global, parts: &'a Parts<I>, range: Range) -> Result<Cursor<'a, I>, NoMemory>
         ensures { IfOk result (λ rows. rows ≡ rows_where (within range) (content parts.now.entries)) }
     {
+        Cursor::open_for(alloc, parts, range, ROWS_AT_ONCE)
+    }
+
+    /// The same, where each partition is asked for so many rows at once.
+    ///
+    /// # Errors
+    /// NoMemory, where memory was refused.
+    pub(crate) fn open_for(
+        alloc: Global,
+        parts: &'a Parts<I>,
+        range: Range,
+        rows_at_once: usize,
+    ) -> Result<Cursor<'a, I>, NoMemory>
+        requires { 2 ≤ rows_at_once }
+        ensures { IfOk result (λ rows. rows ≡ rows_where (within range) (content parts.now.entries)) }
+    {
         content_follows();
-        let mut others = heads_of(alloc, parts, range)?;
+        let mut others = heads_of(alloc, parts, range, rows_at_once)?;
         let least = pop_least(&mut others);
         Ok(Cursor {
             parts,

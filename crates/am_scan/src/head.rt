@@ -1,53 +1,49 @@
-//! The head of a partition: the entry at which a cursor stands in it, and what was read behind it.
+//! The head of a partition: the record at which a cursor stands in it, and those that were read behind it.
 
-ghost use Rattle.std.specs.Prelude.{◌≡◌, [], ◌∷◌, true, false, take, IfOk, IfSome, IfNone, Some};
-ghost use Rattle.std.specs.declared.cmp.Ordering.TheVariants.{Less};
-ghost use Rattle.am_record.specs.OrderedKey.{key_cmp};
-ghost use Rattle.am_record.specs.Interval.{key_le};
-ghost use Rattle.am_list.specs.Entries.{after, all_after, IsRising};
+ghost use Rattle.std.specs.Prelude.{◌≡◌, ◌≤◌, true, false, take, IfOk, IfSome, IfNone, vec_capacity};
+ghost use Rattle.am_record.specs.Interval.{key_le, within};
+ghost use Rattle.am_list.specs.Entries.{IsRising};
+ghost use Rattle.am_list.specs.Content.{rows_in};
 
-use am_list::{Batch, PartIndex, reads_follow, walks_follow};
+use am_list::{PartIndex, rows_follow};
 use am_parts::Parts;
-use am_record::{Entry, Key, NoMemory, Range, Value};
+use am_record::{Key, NoMemory, Range, Value, fronts_follow_keys};
 use std::alloc::Global;
 use std::cmp::Ordering;
 use std::marker::Model;
 
-/// Where a cursor stands in one partition, seen as the entry there and those read behind it. The head with the least
+/// Where a cursor stands in one partition, seen as the record there and those read behind it. The head with the least
 /// key is the greatest, so that a heap gives it first.
 #[derive(Drop)]
 pub(crate) struct Head {
-    // Entries that follow one another in the partition. They are boxed, so that a heap moves little.
-    ahead: Box<Batch>,
+    part: u32,
+    // The front of its key: nearly always it tells two heads apart, without a look at their rows.
+    front: u64,
+    // Records that follow one another in the partition, ghosts left out.
+    rows: Vec<(Key, Value)>,
     // How many of them were passed: it stands at the one behind these.
     passed: usize,
 }
 
 impl Model for Head {
-    ghost use Rattle.std.specs.Prelude.{◌<◌, length};
-    ghost use Rattle.am_scan.specs.Heads.{Stand, stand_code, stand_at};
+    ghost use Rattle.std.specs.Prelude.{◌≡◌, ◌<◌, ◌≤◌, length, vec_capacity};
+    ghost use Rattle.am_record.specs.KeyFront.{key_front};
+    ghost use Rattle.am_scan.specs.Heads.{Stand, stand_code, stand_at, row_of};
 
     ghost Value = { Stand };
 
     ghost coded = { stand_code };
 
-    ghost view = { λ h. stand_at h.ahead.value h.passed };
+    ghost view = { λ h. stand_at h.part h.rows.items h.passed };
 
-    ghost invariant = { λ h. h.passed < length h.ahead.value };
+    ghost invariant = { λ h. (h.passed < length h.rows.items) × (2 ≤ vec_capacity h.rows) ×
+        (h.front ≡ key_front (row_of h.rows.items h.passed).0) };
 }
 
 impl Head {
-    ghost use Rattle.am_scan.specs.Heads.{HasReadOn, HasReadSome, IsAtFirst, IsNextHead, IsFirstHead, HasNoNext};
-    ghost use Rattle.am_scan.specs.Looks.{IsPast, HasNoneLive};
+    ghost use Rattle.am_scan.specs.Heads.{HasReadOn, HasReadSome, IsNextHead, IsFirstHead, HasNoNext, HasNoneLive};
 
-    // The entry at which it stands.
-    fn entry(&self) -> &Entry
-        ensures { result.now ≡ self.now.entry }
-    {
-        &self.ahead.entries()[self.passed]
-    }
-
-    /// The head of a partition at its first live entry in the range, if there is one.
+    /// The head of a partition at its first record in the range, if there is one. It reads so many rows at once.
     ///
     /// # Errors
     /// NoMemory, where memory was refused.
@@ -56,135 +52,103 @@ impl Head {
         parts: &Parts<I>,
         range: Range,
         part: u32,
+        room: usize,
     ) -> Result<Option<Head>, NoMemory>
+        requires room { 2 ≤ room }
         requires rising { IsRising parts.now.entries }
         ensures some { IfOk result (λ first. IfSome first (λ head. IsFirstHead parts.now.entries range part head)) }
         ensures none { IfOk result (λ first. IfNone first (HasNoneLive parts.now.entries range part)) }
     {
-        let Some(mut head) = Head::begin(alloc, parts, part, range.lo())? else {
+        rows_follow();
+        let mut rows = Vec::with_capacity(alloc, room)?;
+        parts.copy_rows(part, range, room as u64, &mut rows)?;
+        if rows.is_empty() {
             return Ok(None);
-        };
-        if range.hi() < head.entry().key {
-            return Ok(None);
         }
-        if !head.entry().is_ghost {
-            return Ok(Some(head));
-        }
-        if head.move_on(parts, range) {
-            Ok(Some(head))
-        } else {
-            Ok(None)
-        }
+        Ok(Some(Head {
+            part,
+            front: rows[0].0.front(),
+            rows,
+            passed: 0,
+        }))
     }
 
-    // The head of a partition at its first entry at or above the key, if there is one.
-    fn begin<I: PartIndex + Drop>(
-        alloc: Global,
-        parts: &Parts<I>,
-        part: u32,
-        lo: Key,
-    ) -> Result<Option<Head>, NoMemory>
-        requires rising { IsRising parts.now.entries }
-        ensures some { IfOk result (λ begun. IfSome begun (λ head. IsAtFirst parts.now.entries part lo head)) }
-        ensures none { IfOk result (λ begun. IfNone begun (IsPast parts.now.entries part lo)) }
+    // The key of the record at which it stands.
+    fn key(&self) -> Key
+        ensures { result ≡ self.now.key }
     {
-        reads_follow();
-        walks_follow();
-        let mut ahead = Box::new(alloc, Batch::new())?;
-        parts.read_from(part, lo, &mut ahead);
-        if ahead.entries().is_empty() {
-            return Ok(None);
-        }
-        Ok(Some(Head { ahead, passed: 0 }))
+        self.rows[self.passed].0
     }
 
     /// The record at which the head stands.
     pub(crate) fn record(&self) -> (Key, Value)
-        ensures { result ≡ (self.now.entry.key, self.now.entry.value) }
+        ensures { result ≡ (self.now.key, self.now.value) }
     {
-        let entry = self.entry();
-        (entry.key, entry.value)
+        self.rows[self.passed]
     }
 
-    /// Its partition, and the range from its entry up to another's end. The caller sees to it that its entry is not
+    /// Its partition, and the range from its record up to another's end. The caller sees to it that its record is not
     /// above that end.
     pub(crate) fn rest(&self, range: Range) -> (u32, Range)
-        requires { key_le self.now.entry.key range.hi ≡ true }
-        ensures { result ≡ (self.now.entry.part, record { lo = self.now.entry.key; hi = range.hi }) }
+        requires { key_le self.now.key range.hi ≡ true }
+        ensures { result ≡ (self.now.part, record { lo = self.now.key; hi = range.hi }) }
     {
-        let entry = self.entry();
-        let Some(rest) = Range::new(entry.key, range.hi()) else {
+        let Some(rest) = Range::new(self.key(), range.hi()) else {
             unreachable!()
         };
-        (entry.part, rest)
+        (self.part, rest)
     }
 
-    /// Moves to the next live entry of the partition in the range, and says whether there is one.
+    /// Moves to the next record of the partition in the range, and says whether there is one. Takes no memory.
     pub(crate) fn move_on<I: PartIndex + Drop>(&mut self, parts: &Parts<I>, range: Range) -> bool
-        requires reads { HasReadOn parts.now.entries self.old }
-        requires reached { key_le range.lo self.old.entry.key ≡ true }
+        requires reads { HasReadOn parts.now.entries range.hi self.old }
+        requires inside { within range self.old.key ≡ true }
         requires rising { IsRising parts.now.entries }
         ensures moved { result ≡ true → IsNextHead parts.now.entries range self.old self.new }
         ensures ended { result ≡ false → HasNoNext parts.now.entries range self.old }
     {
-        reads_follow();
-        walks_follow();
-        while self.follow(parts, range) {
-            if !self.entry().is_ghost {
-                return true;
-            }
-        }
-        false
-    }
-
-    // Moves to the next entry of the partition, a ghost or not, and says whether there is one up to
-    // the range's end.
-    fn follow<I: PartIndex + Drop>(&mut self, parts: &Parts<I>, range: Range) -> bool
-        requires reads { HasReadOn parts.now.entries self.old }
-        requires rising { IsRising parts.now.entries }
-        ensures moved { result ≡ true → after parts.now.entries self.old.entry.part self.old.entry.key ≡
-            Some self.new.entry }
-        ensures inside { result ≡ true → key_le self.new.entry.key range.hi ≡ true }
-        ensures ended { result ≡ false → IfSome (after parts.now.entries self.old.entry.part self.old.entry.key)
-            (λ entry. key_cmp range.hi entry.key ≡ Less) }
-        ensures reads { HasReadOn parts.now.entries self.new }
-    {
-        reads_follow();
-        walks_follow();
-        self.look_ahead(parts);
-        let Some(next) = self.ahead.entries().get(self.passed + 1) else {
-            return false;
-        };
-        if range.hi() < next.key {
+        rows_follow();
+        self.look_ahead(parts, range);
+        if self.passed + 1 >= self.rows.len() {
             return false;
         }
         self.passed += 1;
+        self.front = self.rows[self.passed].0.front();
         true
     }
 
-    // Reads on, where nothing was read behind the entry.
-    fn look_ahead<I: PartIndex + Drop>(&mut self, parts: &Parts<I>)
-        requires reads { HasReadOn parts.now.entries self.old }
-        ensures ready { HasReadSome parts.now.entries self.new }
-        ensures entry { self.new.entry ≡ self.old.entry }
+    // Reads on, where nothing was read behind the record.
+    fn look_ahead<I: PartIndex + Drop>(&mut self, parts: &Parts<I>, range: Range)
+        requires reads { HasReadOn parts.now.entries range.hi self.old }
+        requires reached { key_le self.old.key range.hi ≡ true }
+        ensures ready { HasReadSome parts.now.entries range.hi self.new }
+        ensures part { self.new.part ≡ self.old.part }
+        ensures key { self.new.key ≡ self.old.key }
     {
-        let read = self.ahead.entries().len();
-        if self.passed + 1 == read {
-            let entry = *self.entry();
-            self.passed = 0;
-            read_behind(parts, entry, &mut self.ahead);
+        if self.passed + 1 < self.rows.len() {
+            return;
         }
+        let (part, rest) = self.rest(range);
+        self.passed = 0;
+        read_again(parts, part, rest, &mut self.rows);
     }
 }
 
-// Fills the batch with the entry and those that follow it in its partition.
-fn read_behind<I: PartIndex + Drop>(parts: &Parts<I>, entry: Entry, batch: &mut Batch)
-    ensures { batch.new ≡ entry ∷ take 15 (all_after parts.now.entries entry.part entry.key) }
+// Reads the rows of a range anew, as many as there is room for.
+fn read_again<I: PartIndex + Drop>(
+    parts: &Parts<I>,
+    part: u32,
+    range: Range,
+    rows: &mut Vec<(Key, Value)>,
+)
+    ensures rows { rows.new.items ≡ take (vec_capacity rows.old) (rows_in parts.now.entries part range) }
+    ensures room { vec_capacity rows.old ≤ vec_capacity rows.new }
 {
-    let Entry { part, key, .. } = entry;
-    batch.clear();
-    batch.push(entry);
-    parts.read_on(part, key, batch);
+    let room = rows.capacity() as u64;
+    rows.clear();
+    let Ok(()) = parts.copy_rows(part, range, room, rows) else {
+        unreachable!()
+    };
 }
 
 impl Ord for Head {
@@ -200,7 +164,11 @@ impl Ord for Head {
     ghost matches_eq = { λ a b. refl };
 
     fn cmp(&self, other: &Head) -> Ordering {
-        other.entry().key.cmp(&self.entry().key)
+        fronts_follow_keys();
+        match other.front.cmp(&self.front) {
+            Ordering::Equal => other.key().cmp(&self.key()),
+            order => order,
+        }
     }
 }
 

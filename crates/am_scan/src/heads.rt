@@ -1,6 +1,6 @@
 //! The heads with which a cursor begins, and the least one of several.
 
-ghost use Rattle.std.specs.Prelude.{◌∷◌, IfOk, Some};
+ghost use Rattle.std.specs.Prelude.{◌≤◌, ◌∷◌, IfOk, Some};
 ghost use Rattle.std.specs.List.{cons_option};
 ghost use Rattle.std.specs.List.Sorted.{IsPermutation};
 ghost use Rattle.std.specs.BinaryHeap.{heap_items, IsHeap};
@@ -16,7 +16,7 @@ use std::alloc::Global;
 use std::collections::BinaryHeap;
 use std::mem;
 
-/// The heads of all partitions that have a live entry in the range, each at its first one.
+/// The heads of all partitions that have a record in the range, each at its first one. They read so many rows at once.
 ///
 /// # Errors
 /// NoMemory, where memory was refused.
@@ -24,7 +24,9 @@ pub(crate) fn heads_of<I: PartIndex + Drop>(
     alloc: Global,
     parts: &Parts<I>,
     range: Range,
+    room: usize,
 ) -> Result<BinaryHeap<Head>, NoMemory>
+    requires { 2 ≤ room }
     ensures heads { IfOk result (λ heads. AreAllHeads parts.now.entries range (heap_items heads)) }
     ensures sound { AreWellFormed parts.now.entries }
 {
@@ -32,7 +34,7 @@ pub(crate) fn heads_of<I: PartIndex + Drop>(
     let mut heads = BinaryHeap::new(alloc);
     let mut from = 0;
     while let Some(part) = parts.next_part(from) {
-        let first = Head::first(alloc, parts, range, part)?;
+        let first = Head::first(alloc, parts, range, part, room)?;
         if let Some(head) = first {
             heads.push(head)?;
         }

@@ -1,6 +1,6 @@
 //! A scan: the first records of a range, over all partitions of an index.
 
-ghost use Rattle.std.specs.Prelude.{◌≡◌, IfOk, IfSome};
+ghost use Rattle.std.specs.Prelude.{◌≡◌, ◌<◌, ◌≤◌, IfOk, IfSome};
 ghost use Rattle.am_record.specs.Plain.{scan_rows};
 ghost use Rattle.am_list.specs.Content.{content, LivesInOne};
 ghost use Rattle.am_parts.specs.Partitions.{AreWellFormed};
@@ -10,6 +10,15 @@ use am_list::{PartIndex, rows_follow};
 use am_parts::Parts;
 use am_record::{Key, NoMemory, Range, Value};
 use std::alloc::Global;
+
+// Room for so many rows is got before any are found.
+const FIRST_ROOM: u64 = 128;
+
+// The most rows of a partition that are read at once.
+const MOST_AT_ONCE: u64 = 64;
+
+// No more rows than so many are shared among partitions.
+const MOST_WANTED: u64 = 1000;
 
 /// The records of the range by rising key, the first `max` of them, whichever partitions they stand
 /// in. Ghosts are no records.
@@ -57,8 +66,10 @@ fn merge_rows<I: PartIndex + Drop>(
 ) -> Result<Vec<(Key, Value)>, NoMemory>
     ensures { IfOk result (λ rows. rows.items ≡ scan_rows range max (content parts.now.entries)) }
 {
-    let mut cursor = Cursor::open(alloc, parts, range)?;
+    let rows_at_once = rows_at_once(parts, range, max);
+    let mut cursor = Cursor::open_for(alloc, parts, range, rows_at_once)?;
     let mut rows = Vec::new(alloc);
+    rows.reserve(max.min(FIRST_ROOM) as usize)?;
     for _ in 0..max {
         if cursor.copy_rest(max, &mut rows)? {
             break;
@@ -69,4 +80,36 @@ fn merge_rows<I: PartIndex + Drop>(
         rows.push(row)?;
     }
     Ok(rows)
+}
+
+// How many rows of each partition are to be read at once: a partition's share of those that are asked for, and some
+// more, since the shares are not alike. To read on costs a descent of the tree, and a row that is read in vain its
+// lines of memory.
+fn rows_at_once<I: PartIndex + Drop>(parts: &Parts<I>, range: Range, max: u64) -> usize
+    ensures { 2 ≤ result }
+{
+    let wanted = max.min(MOST_WANTED);
+    let share = (wanted + wanted / 4) / partitions(parts, range, 2 * wanted);
+    let rows = (share + 2).min(wanted + 1);
+    rows.min(MOST_AT_ONCE).max(2) as usize
+}
+
+// How many partitions may have something in the range, counted up to so many.
+fn partitions<I: PartIndex + Drop>(parts: &Parts<I>, range: Range, most: u64) -> u64
+    ensures { 0 < result }
+{
+    let first_run = parts.first_run(range);
+    let mut count = 0;
+    let mut from = 0;
+    while let Some(part) = parts.next_part(from) {
+        if count >= most {
+            break;
+        }
+        let Some(above) = part.checked_add(1) else {
+            break;
+        };
+        count += 1;
+        from = above.max(first_run);
+    }
+    count.max(1)
 }

@@ -1,6 +1,7 @@
 //! Scans and cursors.
 
 use crate::entries::{add, byte, dead, live, over};
+use am_btree::BTree;
 use am_list::PartIndex;
 use am_list_index::ListIndex;
 use am_parts::Parts;
@@ -181,5 +182,75 @@ fn partitions_with_entries_are_told_in_turn(rt: HostRuntime) {
     let parts = over(&rt, rt.alloc(), &entries);
     for (from, part) in [(0, Some(0)), (1, Some(3)), (4, Some(7)), (8, None)] {
         assert!(rt; parts.next_part(from) == part);
+    }
+}
+
+// How many numbers stand in the runs of the tests below.
+const NUMBERS: u64 = 1200;
+
+// The numbers are dealt to so many runs, or cut into them one after another; every fifth is marked as deleted.
+fn dealt(rt: &impl Abort, alloc: Global, runs: u64, in_turn: bool) -> Parts<BTree> {
+    let tree = BTree::new(alloc).expect(rt, "memory");
+    let mut parts = Parts::new(alloc, tree, HashKey::known());
+    for run in 0..runs {
+        let mut pairs = Vec::new(alloc);
+        for number in 0..NUMBERS {
+            let home = if in_turn {
+                number % runs
+            } else {
+                number * runs / NUMBERS
+            };
+            if home == run {
+                pairs.push(row(number, b'a')).expect(rt, "memory");
+            }
+        }
+        if parts.append_run(&pairs).is_err() {
+            parts.append_run(&pairs).expect(rt, "memory");
+        }
+        for pair in &pairs {
+            let part = parts.runs();
+            if pair.0.front().is_multiple_of(5) {
+                parts.set(part, pair.0, byte(b'g'), true);
+            }
+        }
+    }
+    parts
+}
+
+// The rows of a scan from that number on: of the numbers that aren't marked, the first ones.
+fn first_numbers(rt: &impl Abort, alloc: Global, lo: u64, hi: u64, max: u64) -> Vec<(Key, Value)> {
+    let mut rows = Vec::new(alloc);
+    for number in lo..NUMBERS.min(hi + 1) {
+        if number % 5 != 0 && (rows.len() as u64) < max {
+            rows.push(row(number, b'a')).expect(rt, "memory");
+        }
+    }
+    rows
+}
+
+// Scans of many limits give the first numbers, in however many runs these stand.
+fn scans_by_limit(rt: &impl Abort, alloc: Global, runs: u64) {
+    for in_turn in [true, false] {
+        let parts = dealt(rt, alloc, runs, in_turn);
+        for (lo, hi) in [(0, NUMBERS), (17, 18), (600, 900), (1190, NUMBERS)] {
+            for max in [1, 2, 3, 10, 64, 65, 100, 999, 1000] {
+                let rows = first_numbers(rt, alloc, lo, hi, max);
+                scans(rt, alloc, &parts, range(rt, lo, hi), max, &rows);
+            }
+        }
+    }
+}
+
+#[test]
+fn scans_of_any_limit_over_a_few_runs(rt: HostRuntime) {
+    for runs in [1, 2, 3, 5] {
+        scans_by_limit(&rt, rt.alloc(), runs);
+    }
+}
+
+#[test]
+fn scans_of_any_limit_over_many_runs(rt: HostRuntime) {
+    for runs in [16, 40, 300] {
+        scans_by_limit(&rt, rt.alloc(), runs);
     }
 }

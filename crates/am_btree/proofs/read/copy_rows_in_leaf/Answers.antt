@@ -1,49 +1,60 @@
-use Rattle.std.proofs.Common.{◌≡◌, ◌<◌, Bool, true, false, not, length, refl, sym, subst, arith}
+use Rattle.std.proofs.Common.{◌<◌, length, get_or, sym, ap, ◌∙◌, subst, arith}
+use Rattle.std.proofs.lemmas.List.{get_or_default}
+use Rattle.am_record.specs.declared.entry.Entry.{Entry}
+use Rattle.am_record.proofs.Lists.{some_item}
 use Rattle.am_record.specs.Plain.{Records}
 use Rattle.am_list.proofs.Rows.{AreCopied, are_enough, none_copied, all_copied, ghost_passed, row_copied}
 use Rattle.am_btree.proofs.read.copy_rows_in_leaf.Goals as goal
-use Rattle.am_btree.proofs.read.copy_rows_in_leaf.Goals.{then-not-entry+in_ok-push, else-not-entry}
-
-not_ghost : (b : Bool) → not b ≡ true → b ≡ false
-not_ghost true h = absurd (cc)
-not_ghost false h = refl
-
-a_ghost : (b : Bool) → not b ≡ false → b ≡ true
-a_ghost true h = refl
-a_ghost false h = absurd (cc)
+use Rattle.am_btree.proofs.read.copy_rows_in_leaf.Goals.{then-not-is_ghost+in_ok-push, else-not-is_ghost}
 
 pub loop-at-init : goal.loop-at-init
-loop-at-init c =
-    subst (λ (l : Records). AreCopied c.args.leaf.now.entries c.args.part c.args.range c.args.max c.args.rows.now.items
-    l c.start_in_leaf-from.result) (sym c.reserve.ensures.items)
-    (none_copied c.args.leaf.now.entries c.args.part c.args.range c.args.max c.args.rows.now.items c.lo.ensures.value
-    c.hi.ensures.value c.start_in_leaf-from.ensures.begins c.start_in_leaf-to.ensures.begins c.requires)
+loop-at-init c = record {
+  room = c.reserve.ensures.capacity;
+  copied = subst (λ (l : Records). AreCopied c.args.leaf.now.entries c.args.part c.args.range c.args.max
+      c.args.rows.now.items
+      l c.start_in_leaf-from.result) (sym c.reserve.ensures.items)
+      (none_copied c.args.leaf.now.entries c.args.part c.args.range c.args.max c.args.rows.now.items c.lo.ensures.value
+      c.hi.ensures.value c.start_in_leaf-from.ensures.begins c.end_in_leaf-to.ensures.ends c.requires);
+}
 
 pub loop-at-preserved : goal.loop-at-preserved
 loop-at-preserved c =
-    let es = c.args.leaf.now.entries in let at = c.loop-at.at in let e = c.get-entry.result in
-    let inside : at < length es = omega (arith, c.loop-at-test.true, c.start_in_leaf-to.ensures.begins.in_range) in
-    elim c.if-not-entry.branch [
-      | then-not-entry+in_ok-push w ↦
+    let es = c.args.leaf.now.entries in let at = c.loop-at.at in
+    let inside : at < length es = omega (arith, c.loop-at-test.true, c.end_in_leaf-to.ensures.ends.in_range) in
+    elim c.if-not-is_ghost.branch [
+      | then-not-is_ghost+in_ok-push w ↦
+          let e = w.get-entry.result in
           let room : length c.loop-at.rows.items < c.args.max =
           omega (arith, c.if-len-max.false, c.len.ensures, c.loop-at.rows.ok.0) in
-          rw w.rows-is (row_copied es c.args.part c.args.range c.args.max c.args.rows.now.items c.lo.ensures.value
-          c.hi.ensures.value c.start_in_leaf-from.ensures.begins c.start_in_leaf-to.ensures.begins
-          c.loop-at.invariant e c.loop-at.auto.at c.loop-at-test.true inside c.get-entry.ensures
-          (not_ghost e.is_ghost w.if-not-entry.true) w.in_ok-push.ensures.items room)
-      | else-not-entry w ↦
-          rw w.rows-is (ghost_passed es c.args.part c.args.range c.args.max c.args.rows.now.items c.lo.ensures.value
-          c.hi.ensures.value c.start_in_leaf-from.ensures.begins c.start_in_leaf-to.ensures.begins
-          c.loop-at.invariant e c.loop-at.auto.at c.loop-at-test.true inside c.get-entry.ensures
-          (a_ghost e.is_ghost w.if-not-entry.false))
+          let live = ap (λ (f : Entry). f.is_ghost) w.get-entry.ensures ∙ sym (c.is_ghost.ensures e) ∙
+          w.if-not-is_ghost.true in
+          rw w.rows-is (record {
+            room = omega (arith, c.loop-at.invariant.room, w.in_ok-push.ensures.capacity);
+            copied = row_copied es c.args.part c.args.range c.args.max c.args.rows.now.items c.lo.ensures.value
+                c.hi.ensures.value c.start_in_leaf-from.ensures.begins c.end_in_leaf-to.ensures.ends
+                c.loop-at.invariant.copied e c.loop-at.auto.at c.loop-at-test.true inside w.get-entry.ensures live
+                w.in_ok-push.ensures.items room;
+          })
+      | else-not-is_ghost w ↦
+          let d = some_item es at inside in
+          let e : Entry = get_or es at d in
+          rw w.rows-is (record {
+            room = c.loop-at.invariant.room;
+            copied = ghost_passed es c.args.part c.args.range c.args.max c.args.rows.now.items c.lo.ensures.value
+                c.hi.ensures.value c.start_in_leaf-from.ensures.begins c.end_in_leaf-to.ensures.ends
+                c.loop-at.invariant.copied e c.loop-at.auto.at c.loop-at-test.true inside
+                (get_or_default es at d e inside)
+                (sym (c.is_ghost.ensures d) ∙ w.if-not-is_ghost.false);
+          })
     ]
 
 pub returns-then-len-max-clause-copied : goal.returns-then-len-max-clause-copied
 returns-then-len-max-clause-copied c =
-    are_enough c.args.leaf.now.entries c.args.part c.args.range c.args.max c.args.rows.now.items c.loop-at.invariant
+    are_enough c.args.leaf.now.entries c.args.part c.args.range c.args.max c.args.rows.now.items
+    c.loop-at.invariant.copied
     (omega (arith, c.if-len-max.true, c.len.ensures, c.loop-at.rows.ok.0))
 
 pub returns-clause-copied : goal.returns-clause-copied
 returns-clause-copied c = all_copied c.args.leaf.now.entries c.args.part c.args.range c.args.max c.args.rows.now.items
-    c.lo.ensures.value c.hi.ensures.value c.start_in_leaf-from.ensures.begins c.start_in_leaf-to.ensures.begins
-    c.loop-at.invariant c.loop-at-test.false
+    c.lo.ensures.value c.hi.ensures.value c.start_in_leaf-from.ensures.begins c.end_in_leaf-to.ensures.ends
+    c.loop-at.invariant.copied c.loop-at-test.false

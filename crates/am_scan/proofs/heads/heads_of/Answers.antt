@@ -1,8 +1,7 @@
 use Rattle.std.proofs.Common.{ℕ, ◌≡◌, ◌⊎◌, ◌≤◌, IfSome, IfNone, ◌+◌, sym, subst, arith}
 use Rattle.std.proofs.Math.Nat.{le-max_left}
 use Rattle.std.specs.BinaryHeap.{heap_items}
-use Rattle.am_scan.specs.Looks.{HasNoneLive}
-use Rattle.am_scan.specs.Heads.{IsFirstHead}
+use Rattle.am_scan.specs.Heads.{IsFirstHead, HasNoneLive}
 use Rattle.am_scan.proofs.Gathering.{AreHeadsBelow, none_yet, passes_part, passes_runs, max_one, takes_head, has_all}
 use Rattle.am_scan.proofs.Gathering.{has_all_numbers}
 use Rattle.am_scan.proofs.heads.heads_of.Goals as goal

@@ -38,6 +38,7 @@ loop-at-init t c =
     (subst (λ ms. IsChildFor ms c.args.part c.lo.result at) c.deref.ensures.value c.child_for-at.ensures) in
     record {
       fits = c.requires;
+      room = omega arith;
       same = ap (λ l. take c.args.max (c.args.rows.now.items ++ l)) (rows_from c.args.part c.args.range (depth_of ks) ls
           ks inner.children at child);
     }
@@ -93,6 +94,7 @@ loop-at-preserved t c =
     let within : i < length ks = omega (arith, c.loop-at-test.true, c.len-at-end.ensures, c.in-Inner.children.ok.0) in
     record {
       fits = omega (arith, ap length copied, length-take max (rows ++ rows_in k.entries part range));
+      room = omega (arith, c.loop-at.invariant.room, c.in_ok-copy_rows-in-Inner.ensures.room);
       same = ap (λ l. take max (l ++ rest)) copied ∙ next_rows part range max rows ks i k within
           c.index-in-loop-at.ensures ∙ c.loop-at.invariant.same;
     }

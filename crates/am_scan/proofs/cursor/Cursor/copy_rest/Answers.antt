@@ -1,4 +1,4 @@
-use Rattle.std.proofs.Common.{◌≡◌, ◌++◌, ℕ, length, List, [], ◌∷◌, take, Option, Some, sym, ap, ◌∙◌, subst, arith}
+use Rattle.std.proofs.Common.{◌≡◌, ◌++◌, ℕ, List, [], ◌∷◌, take, Option, sym, ap, ◌∙◌, subst, arith}
 use Rattle.std.proofs.lemmas.Bool.{eqb-true}
 use Rattle.std.specs.List.{cons_option}
 use Rattle.std.specs.BinaryHeap.{heap_items, heap_len}
@@ -7,7 +7,7 @@ use Rattle.am_record.specs.Plain.{Records}
 use Rattle.am_list.specs.Content.{content, rows_in}
 use Rattle.am_scan.specs.Heads.{Stand}
 use Rattle.am_scan.specs.Cursors.{AreAhead, rows_ahead}
-use Rattle.am_scan.proofs.Beginnings.{no_length}
+use Rattle.am_scan.proofs.Taking.{no_length}
 use Rattle.am_scan.proofs.Merging.{alone_rows}
 use Rattle.am_scan.proofs.cursor.Cursor.copy_rest.Goals as goal
 
@@ -29,6 +29,6 @@ returns-clause-copied g c =
     let seen = sym c.self.view_is ∙ ap (λ (o : Option Stand). rows_ahead
     (cons_option o (heap_items c.self.inside.others)) range (content es)) c.in-Some.is ∙
     ap (λ (l : List Stand). rows_ahead (h ∷ l) range (content es)) none in
-    let rows = alone_rows h alone (λ part r. c.rows_follow.ensures es part r sound.rising sound.one_place) in
+    let rows = alone_rows h alone (λ part r. c.rows_follow.ensures.alone es part r sound.rising sound.one_place) in
     λ _. c.in_ok-copy_rows.ensures.copied ∙ ap (λ (l : Records). take c.args.max (c.args.rows.now.items ++ l))
     (ap (λ (r : ℕ × Interval). rows_in es r.0 r.1) c.rest-part.ensures ∙ sym rows ∙ sym seen)

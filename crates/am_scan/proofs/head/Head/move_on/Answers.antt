@@ -1,39 +1,35 @@
-use Rattle.std.proofs.Common.{refl, sym, ap, ◌∙◌}
-use Rattle.am_record.specs.declared.entry.Entry.{Entry}
-use Rattle.am_list.specs.Entries.{after}
-use Rattle.am_scan.proofs.Moving.{sets_out, way_stops, arrives, way_on, way_shortens}
+use Rattle.std.proofs.Common.{◌+◌, ◌<◌, ◌≤◌, length, sym, ap, ◌∙◌, subst, arith}
+use Rattle.am_record.specs.Interval.{within}
+use Rattle.am_scan.specs.Heads.{Stand, HasReadSome}
+use Rattle.am_scan.proofs.Moving.{ends_here, goes_on_here, same_old, none_of_old}
 use Rattle.am_scan.proofs.head.Head.move_on.Goals as goal
 
-pub loop-range-init : goal.loop-range-init
-loop-range-init g c = sets_out c.args.parts.now.entries c.args.self.now c.requires.reads
-
-pub returns-then-not-entry-clause-moved : goal.returns-then-not-entry-clause-moved
-returns-then-not-entry-clause-moved g c =
+pub returns-then-self-len-clause-ended : goal.returns-then-self-len-clause-ended
+returns-then-self-len-clause-ended g c =
     let es = c.args.parts.now.entries in
-    let e = c.follow.new.self.entry in
-    λ _. arrives (c.walks_follow.ensures es c.requires.rising) (c.reads_follow.ensures es c.requires.rising)
-    c.loop-range.invariant e (c.follow.ensures.moved c.loop-range-test.true)
-    c.args.range refl c.follow.ensures.reads c.requires.reached (c.follow.ensures.inside c.loop-range-test.true)
-    (ap (λ (e : Entry). e.is_ghost) (sym c.entry.ensures) ∙ c.if-not-entry.true)
+    let now = c.self.inside in
+    let same_part = ap (λ (h : Stand). h.part) c.self.view_is ∙ c.look_ahead.ensures.part in
+    let same_key = ap (λ (h : Stand). h.key) c.self.view_is ∙ c.look_ahead.ensures.key in
+    let is_ready = subst (HasReadSome es c.args.range.hi) (sym c.self.view_is) c.look_ahead.ensures.ready in
+    let past : length now.rows.items ≤ now.passed + 1 = omega (arith, c.if-self-len.true, c.len.ensures, now.rows.ok.0)
+    in
+    λ _. none_of_old same_part same_key
+    (ends_here (λ p r. c.rows_follow.ensures.reads es p r c.requires.rising) c.args.range now.part now.rows.items
+    now.passed (ap (within c.args.range) same_key ∙ c.requires.inside) is_ready past)
 
-pub loop-range-smaller : goal.loop-range-smaller
-loop-range-smaller g c =
+pub returns-clause-moved : goal.returns-clause-moved
+returns-clause-moved g c =
     let es = c.args.parts.now.entries in
-    let new = c.follow.new.self in
-    way_shortens (c.walks_follow.ensures es c.requires.rising) (c.reads_follow.ensures es c.requires.rising)
-    c.loop-range.invariant new.entry (c.follow.ensures.moved c.loop-range-test.true) new refl
-
-pub loop-range-preserved : goal.loop-range-preserved
-loop-range-preserved g c =
-    let es = c.args.parts.now.entries in
-    way_on (c.walks_follow.ensures es c.requires.rising) (c.reads_follow.ensures es c.requires.rising)
-    c.loop-range.invariant c.follow.new.self.entry (c.follow.ensures.moved c.loop-range-test.true)
-    refl c.follow.ensures.reads (ap (λ (e : Entry). e.is_ghost) (sym c.entry.ensures) ∙ c.if-not-entry.false)
-
-pub returns-clause-ended : goal.returns-clause-ended
-returns-clause-ended g c =
-    let es = c.args.parts.now.entries in
-    let now = c.loop-range.self in
-    λ _. way_stops (c.walks_follow.ensures es c.requires.rising) (c.reads_follow.ensures es c.requires.rising)
-    c.loop-range.invariant c.args.range (after es now.entry.part now.entry.key) refl
-    (c.follow.ensures.ended c.loop-range-test.false)
+    let now = c.self.inside in
+    let same_part = ap (λ (h : Stand). h.part) c.self.view_is ∙ c.look_ahead.ensures.part in
+    let same_key = ap (λ (h : Stand). h.key) c.self.view_is ∙ c.look_ahead.ensures.key in
+    let is_ready = subst (HasReadSome es c.args.range.hi) (sym c.self.view_is) c.look_ahead.ensures.ready in
+    let more : now.passed + 1 < length now.rows.items = omega (
+      arith,
+      c.if-self-len.false,
+      c.len.ensures,
+      now.rows.ok.0,
+    ) in
+    λ _. same_old same_part same_key
+    (goes_on_here (λ p r. c.rows_follow.ensures.reads es p r c.requires.rising) c.args.range now.part now.rows.items
+    now.passed (ap (within c.args.range) same_key ∙ c.requires.inside) is_ready more)

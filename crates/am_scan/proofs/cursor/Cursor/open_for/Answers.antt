@@ -1,5 +1,5 @@
 use Rattle.am_scan.proofs.Merging.{begins, has_all_rows}
-use Rattle.am_scan.proofs.cursor.Cursor.open.Goals as goal
+use Rattle.am_scan.proofs.cursor.Cursor.open_for.Goals as goal
 
 pub invariant_of-result : goal.invariant_of-result
 invariant_of-result g c =
