@@ -40,8 +40,8 @@ pub fn content_follows()
 /// the range is live elsewhere.
 pub fn rows_follow()
     ensures reads { (es : List Entry) (part : ℕ) (range : Interval) → IsRising es → RowsRead es part range }
-    ensures alone { (es : List Entry) (part : ℕ) (range : Interval) → IsRising es → OnePlace es → LivesInOne es part range →
-        rows_in es part range ≡ rows_where (within range) (content es) }
+    ensures alone { (es : List Entry) (part : ℕ) (range : Interval) → IsRising es → OnePlace es →
+        LivesInOne es part range → rows_in es part range ≡ rows_where (within range) (content es) }
 {}
 
 /// Where the records of a run stand, and where nothing stands.
