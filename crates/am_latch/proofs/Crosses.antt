@@ -9,6 +9,7 @@ use denote.Param.Send.{view_send}
 use denote.Struct.Declared as declared
 use Rattle.atomic_table.proofs.badge.Badge.TheSendSync as badge
 use Rattle.atomic_table.proofs.owned.Table.TheSendSync as table
+use Rattle.atomic_table.proofs.shared.Seat.TheSendSync as seat
 use Rattle.am_record.proofs.step.Step.TheSendSync as step
 use Rattle.am_record.proofs.step.Reply.TheSendSync as reply
 use Rattle.am_btree.proofs.Crosses.{tree_send}
@@ -16,11 +17,15 @@ use Rattle.am_core.proofs.store.Store.TheSendSync as store
 use Rattle.am_latch.specs.declared.latch_name.LatchName as latch_name
 use Rattle.am_latch.specs.contracts.views.View as View
 use Rattle.am_latch.specs.contracts.engine.Engine as Engine
+use Rattle.am_latch.specs.contracts.handed.Handed as Handed
 use Rattle.am_latch.specs.contracts.state.LatchState as LatchState
 use Rattle.am_latch.specs.contracts.state.LatchState.TheInside as HeldInside
 use Rattle.am_latch.specs.contracts.latch.Latch as Latch
 use Rattle.am_latch.proofs.views.AgreeingViews.TheSendSync as numbered
 use Rattle.am_latch.proofs.receipt.CallId.TheSendSync as call_id
+
+handed_send : IsSend Handed.the_row
+handed_send = search (crosses, sendable, table.the_field_send, seat.the_send, heap.the_send) depth 60
 
 engine_send : IsSend Engine.the_row
 engine_send = search (
@@ -28,6 +33,7 @@ engine_send = search (
   sendable,
   tree_send,
   store.the_send,
+  handed_send,
   step.the_field_send,
   reply.the_field_send,
   call_id.the_field_send,

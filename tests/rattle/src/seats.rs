@@ -48,12 +48,12 @@ fn by_two_threads<L: LatchName + Send + Sync, R: Threads + Wait + Abort + Sync>(
     alloc: Global,
     blank: Blank,
 ) -> Result<(), Fail> {
-    let (latch, mut seats) = Latch::<L>::open(blank, HashKey::known())?;
+    let (latch, mut seats, taker) = Latch::<L>::open(blank, HashKey::known())?;
     let second = seats.pop().ok_or("no seat")?;
     let mut first = seats.pop().ok_or("no seat")?;
     let shared = &latch;
     assert_eq!(rt;
-        shared.look(rt, &mut first, |engine| engine.trace().len()),
+        shared.look(rt, &mut first, |engine| engine.len()),
         0
     );
     let ((mut first, one), (second, other)) = thread::join(
@@ -69,14 +69,14 @@ fn by_two_threads<L: LatchName + Send + Sync, R: Threads + Wait + Abort + Sync>(
     );
     seats.push(first)?;
     seats.push(second)?;
-    let Ok(closed) = close(latch, seats) else {
+    let Ok(closed) = close(latch, seats, taker) else {
         panic!(rt; "all seats are there")
     };
     assert_eq!(rt; closed.trace.len(), 600);
     assert_eq!(rt; closed.store.commits(), 200);
     assert!(rt; check(alloc, &closed.trace) == Ok(200));
     for seat in &closed.seats {
-        assert_eq!(rt; seat.receipts().len(), 300);
+        assert_eq!(rt; seat.positions().len(), 300);
         assert!(rt; seat.last_commit().is_some());
     }
     Ok(())
@@ -88,15 +88,15 @@ fn two_seats_on_two_threads(rt: HostRuntime) -> Result<(), Fail> {
 }
 
 fn without_one<L: LatchName, R: Abort>(rt: &R, blank: Blank) -> Result<(), Fail> {
-    let (latch, mut seats) = Latch::<L>::open(blank, HashKey::known())?;
+    let (latch, mut seats, taker) = Latch::<L>::open(blank, HashKey::known())?;
     let second = seats.pop().ok_or("no seat")?;
-    let Err(missing) = close(latch, seats) else {
+    let Err(missing) = close(latch, seats, taker) else {
         panic!(rt; "a seat is missing")
     };
     let mut seats = missing.seats;
     assert_eq!(rt; seats.len(), 1);
     seats.push(second)?;
-    let Ok(closed) = close(missing.latch, seats) else {
+    let Ok(closed) = close(missing.latch, seats, missing.taker) else {
         panic!(rt; "all seats are there")
     };
     assert_eq!(rt; closed.trace.len(), 0);
@@ -115,7 +115,7 @@ fn begun_by_all<L: LatchName, R: Wait + Abort>(
     alloc: Global,
     blank: Blank,
 ) -> Result<Vec<Reply>, Fail> {
-    let (latch, seats) = Latch::<L>::open(blank, HashKey::known())?;
+    let (latch, seats, _taker) = Latch::<L>::open(blank, HashKey::known())?;
     let mut replies = Vec::new(alloc);
     for mut seat in seats {
         if seat.open_tx().is_none() {

@@ -1,5 +1,10 @@
+use Rattle.std.proofs.Common.{rules, ap}
 use Rattle.am_latch.proofs.Rules.{starts}
+use Rattle.am_latch.proofs.Taking.{starts as none_taken}
 use Rattle.am_latch.proofs.latch.Blank.new.Goals as goal
 
 pub of_words-requires : goal.of_words-requires
 of_words-requires c = starts
+
+pub of_words-2-requires : goal.of_words-2-requires
+of_words-2-requires c = none_taken
