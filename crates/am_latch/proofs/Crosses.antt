@@ -21,6 +21,9 @@ use Rattle.am_latch.specs.contracts.handed.Handed as Handed
 use Rattle.am_latch.specs.contracts.state.LatchState as LatchState
 use Rattle.am_latch.specs.contracts.state.LatchState.TheInside as HeldInside
 use Rattle.am_latch.specs.contracts.latch.Latch as Latch
+use Rattle.am_latch.specs.contracts.taken.TakenView as TakenView
+use Rattle.am_latch.specs.contracts.taker.Taker as Taker
+use Rattle.am_latch.proofs.taker.Taker.TheSendSync as taker
 use Rattle.am_latch.proofs.views.AgreeingViews.TheSendSync as numbered
 use Rattle.am_latch.proofs.receipt.CallId.TheSendSync as call_id
 
@@ -44,7 +47,10 @@ module _ (T : RattleType) (g : latch_name.Ghosts T.Denot) where
   held_send = view_send (HeldInside.the_row T g) _ _ _ _
       (recorded_send (HeldInside.the_field T g).row _ _ (HeldInside.the_type T g).to_one
       (struct_send (declared.shape (HeldInside.the_type T g))
-      (engine_send, (badge.the_send View.the_row, (phantom.the_field_send T, tt)))))
+      (
+        engine_send,
+        (badge.the_send View.the_row, (badge.the_send TakenView.the_row, (phantom.the_field_send T, tt))),
+      )))
 
   pub latch_sync : IsSync (Latch.the_row T g)
   latch_sync = recorded_sync (Latch.the_field T g).row _ _ (Latch.the_type T g).to_one
@@ -61,6 +67,13 @@ module _ (T : RattleType) (g : latch_name.Ghosts T.Denot) where
             crosses,
             sendable,
           ) depth 40,
-          (plain_sync _ _ _ _ _, (phantom.the_field_sync T, tt)),
+          (
+            search (table.the_field_sync, heap.the_sync, heap.the_send, crosses, sendable) depth 40,
+            (plain_sync _ _ _ _ _, (phantom.the_field_sync T, tt)),
+          ),
         ),
       ))
+
+  -- the taker may have a thread of its own
+  pub taker_send : IsSend (Taker.the_row T g)
+  taker_send = taker.the_send T g

@@ -1,14 +1,14 @@
 use Rattle.std.proofs.Common.{arith, rules, refl, inl, false, ◌≡◌, ℕ, length, List, [], ◌∷◌, ◌++◌, vec_len}
-use Rattle.std.proofs.Common.{vec_capacity, ◌+◌, append_assoc, ap, sym, subst, ◌∙◌}
+use Rattle.std.proofs.Common.{vec_capacity, ◌+◌, ◌-◌, ◌≤◌, min, append_assoc, ap, sym, subst, ◌∙◌}
 use Rattle.am_record.specs.declared.step.Step.{Step}
 use Rattle.am_record.specs.declared.step.Reply.TheVariants.{Refused}
 use Rattle.am_record.specs.declared.step.Refusal.TheVariants.{NoMemory}
 use Rattle.am_serial.specs.Trace.{Trace}
 use Rattle.am_latch.specs.Changes.{active_in_trace, change, numbers_with, HasTrace, MayFollow}
-use Rattle.am_latch.specs.EngineFields.{room_left}
+use Rattle.am_latch.specs.EngineFields.{room_left, most_positions}
 use Rattle.am_latch.specs.Traces.{EngineState, ends_after}
 use Rattle.am_latch.specs.Wants.{MayWantMemory, pairs_needed}
-use Rattle.am_latch.proofs.Rooms.{room_step}
+use Rattle.am_latch.proofs.Rooms.{room_step, room_less, ends_spent}
 use Rattle.am_latch.proofs.Storing.{active_from-snoc}
 use Rattle.am_latch.proofs.Wanting.{short, short_of, store_wants, by_reason, refused_so}
 use Rattle.am_latch.proofs.engine.Engine.step.Goals as goal
@@ -138,3 +138,26 @@ returns-then-not-is_kept-clause-answers c =
     let lost : c.is_kept.result ≡ false = search rules in
     subst (λ (e : EngineState). MayFollow (active_in_trace e.trace) c.args.step (Refused NoMemory)) c.self.view_is
     (refused_so _ c.args.step c.take_step-reply.result g.answers (c.is_kept.ensures.no lost))
+
+pub returns-clause-room : goal.returns-clause-room
+returns-clause-room c =
+    let inside = c.self.inside in
+    let room = c.get_room-has_room.ensures in
+    let st = c.args.step in
+    let r = c.take_step-reply.result in
+    let ends : c.count_ends-self-inside.result ≡ ends_after inside.ends (change st r) =
+    c.count_ends-self-inside.ensures ∙ ap (ends_after inside.ends)
+    (c.change_by.ensures ∙ ap (λ (s : Step). change s r) c.in-Some.ensures.copies.0) in
+    let spent = ends_spent st r inside.ends in
+    let p = c.push_reserved.ensures in
+    let q = c.push_reserved-2.ensures in
+    let less = room_less (pairs_needed st) inside.count (vec_len inside.trace) (vec_len c.push_reserved.new.self)
+    inside.ends c.count_ends-self-inside.result (vec_capacity inside.trace) (vec_capacity c.push_reserved.new.self)
+    (vec_capacity inside.calls) (vec_capacity c.push_reserved-2.new.self)
+    (omega (arith, room.kept.0, p.capacity)) (omega (arith, room.kept.1, q.capacity))
+    (omega (arith, room.long.0, p.len)) (omega (arith, spent, ends)) in
+    let len = vec_len c.push_reserved.new.self in
+    let after = c.count_ends-self-inside.result in
+    let left : ℕ = min (min (vec_capacity c.push_reserved.new.self) (vec_capacity c.push_reserved-2.new.self) - (len + after))
+    (most_positions - (inside.count + len + after)) in
+    subst (λ (n : ℕ). n ≤ left + pairs_needed st) (ap (λ (e : EngineState). e.room) c.self.view_is) less

@@ -6,5 +6,5 @@ use Rattle.am_latch.proofs.latch.Blank.new.Goals as goal
 pub of_words-requires : goal.of_words-requires
 of_words-requires c = starts
 
-pub of_words-2-requires : goal.of_words-2-requires
-of_words-2-requires c = none_taken
+pub of_words-requires-2 : goal.of_words-requires-2
+of_words-requires-2 c = none_taken

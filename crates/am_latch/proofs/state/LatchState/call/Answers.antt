@@ -51,8 +51,7 @@ invariant_of-self-2 g c =
     (λ j. receipts_of (sym c.requires.token.1 j) (log_in_view (trace_token j))) in
     let may : IsAllowed (open_in e c.args.call_id.seat) c.args.step =
     subst (λ (rs : List Receipt). IsAllowed (open_of rs) c.args.step) known c.requires.may in
-    let even : length e.calls ≡ length e.trace = sym (ap length c.calls-calls.ensures.calls) ∙
-    c.kept_calls-calls.ensures.each in
+    let even : length e.calls ≡ length e.trace = c.kept_calls-calls.ensures.each in
     let entered = ap (λ m. m.0) c.append_call.ensures.trace_token in record {
       table_of = search rules;
       knows = c.into_badge-2.ensures.2 ∙ ap (λ (v : View). v ∷ [])
