@@ -1,6 +1,6 @@
 -- Want of memory: whose it is, and that the store answers no full seat.
 use Rattle.std.proofs.Common.{◌≡◌, ◌⊎◌, inl, inr, ℕ, ◌+◌, ◌-◌, ◌<◌, ◌≤◌, ◌^◌, min, nat_lt, if◌then◌else◌, ◌∷◌, ◌++◌, []}
-use Rattle.std.proofs.Common.{List, Bool, true, false, cond, Option, Some, None, refl, sym, subst, ⊎_elim, arith}
+use Rattle.std.proofs.Common.{List, Bool, true, false, cond, Option, Some, None, refl, subst, ⊎_elim, arith}
 use Rattle.std.proofs.lemmas.Bool.{ltb-true, ltb-false}
 use Rattle.am_record.specs.declared.step.Op.{Op}
 use Rattle.am_record.specs.declared.step.Op.TheVariants.{Get, Scan, Insert, Replace, Delete, Load, Lock as TakeLock}
@@ -22,9 +22,9 @@ use Rattle.am_serial.specs.Sound.{IsAnswerOf, IsBusy, FormedDo, FormedAt}
 use Rattle.am_sound.specs.StoreState.{StoreState}
 use Rattle.am_core.specs.Memory.{may_want_memory}
 use Rattle.am_core.specs.Standing.{IsSoundAt}
-use Rattle.am_latch.specs.Changes.{change, end_of, is_begin, is_refused, is_stored, has, HasTrace, MayFollow}
+use Rattle.am_latch.specs.Changes.{is_begin, is_refused, is_stored, has, HasTrace, MayFollow}
 use Rattle.am_latch.specs.Traces.{EngineState}
-use Rattle.am_latch.specs.Wants.{takes_lists, pairs_needed, MayWantMemory}
+use Rattle.am_latch.specs.Wants.{pairs_needed, MayWantMemory}
 use Rattle.am_latch.proofs.Replies.{refused_nothing}
 use Rattle.am_latch.proofs.Storing.{last_event}
 

@@ -1,5 +1,5 @@
 -- What always holds of the fields of an engine.
-use Rattle.std.specs.Prelude.{◌≡◌, ℕ, ◌≤◌, ◌<◌, ◌+◌, ◌-◌, ◌++◌, min, length, vec_len, vec_capacity}
+use Rattle.std.specs.Prelude.{◌≡◌, ℕ, ◌≤◌, ◌+◌, ◌-◌, ◌++◌, min, length, vec_len, vec_capacity}
 use Rattle.am_latch.specs.declared.engine.Engine.TheInside.{Inside}
 use Rattle.am_latch.specs.Changes.{active_in_trace, HasTrace}
 

@@ -1,5 +1,5 @@
 -- The rule over what is known of the events that were handed out: by the engine's token, and by the taker's.
-use Rattle.std.specs.Prelude.{◌≡◌, ℕ, List, [], ◌++◌, true, false}
+use Rattle.std.specs.Prelude.{◌≡◌, ℕ, [], ◌++◌, true, false}
 use mathlib.Core.Option.{some}
 use lib.ListN.{get_elem?}
 use Rattle.atomic_table.specs.Table.{State, Me, Step}

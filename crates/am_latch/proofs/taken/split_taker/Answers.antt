@@ -1,5 +1,5 @@
-use Rattle.std.proofs.Common.{rules, ap, sym, refl, subst, []}
-use Rattle.am_latch.specs.Taken.{IsWholeView, whole_view}
+use Rattle.std.proofs.Common.{rules, ap, sym, refl, subst}
+use Rattle.am_latch.specs.Taken.{IsWholeView}
 use Rattle.am_latch.proofs.Taking.{splits_as}
 use Rattle.am_latch.proofs.taken.split_taker.Goals as goal
 

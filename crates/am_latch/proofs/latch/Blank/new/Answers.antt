@@ -1,4 +1,3 @@
-use Rattle.std.proofs.Common.{rules, ap}
 use Rattle.am_latch.proofs.Rules.{starts}
 use Rattle.am_latch.proofs.Taking.{starts as none_taken}
 use Rattle.am_latch.proofs.latch.Blank.new.Goals as goal
