@@ -46,8 +46,7 @@ module _ (T : RattleType) (g : latch_name.Ghosts T.Denot) where
   held_send : IsSend (LatchState.the_row T g)
   held_send = view_send (HeldInside.the_row T g) _ _ _ _
       (recorded_send (HeldInside.the_field T g).row _ _ (HeldInside.the_type T g).to_one
-      (struct_send (declared.shape (HeldInside.the_type T g))
-      (
+      (struct_send (declared.shape (HeldInside.the_type T g)) (
         engine_send,
         (badge.the_send View.the_row, (badge.the_send TakenView.the_row, (phantom.the_field_send T, tt))),
       )))

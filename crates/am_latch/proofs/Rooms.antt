@@ -1,5 +1,6 @@
 -- Room in the trace after a step.
-use Rattle.std.proofs.Common.{◌≡◌, ℕ, suc, ◌+◌, ◌-◌, ◌<◌, ◌≤◌, ◌==◌, min, if◌then◌else◌, List, [], ◌∷◌, length, Bool, true, false}
+use Rattle.std.proofs.Common.{◌≡◌, ℕ, suc, ◌+◌, ◌-◌, ◌<◌, ◌≤◌, ◌==◌, min, if◌then◌else◌, List, [], ◌∷◌, length, Bool}
+use Rattle.std.proofs.Common.{true, false}
 use Rattle.std.proofs.Common.{not, ◌||◌, Option, Some, None, IsSome, refl, subst, arith, length-append}
 use Rattle.am_record.specs.declared.step.Step.{Step}
 use Rattle.am_record.specs.declared.step.Refusal.TheVariants.{NoMemory}
@@ -118,6 +119,7 @@ ends_spent st r ends = ends_more (is_begin st) ends (change st r) (λ t e. (begi
 
 pub room_less : (pairs count len len' ends ends' cap cap' calls calls' : ℕ) → cap ≤ cap' → calls ≤ calls' →
     len' ≡ len + 1 → ends' + 1 ≤ ends + pairs
-    → min (min cap calls - (len + ends)) (most_positions - (count + len + ends)) ≤ min (min cap' calls' - (len' + ends'))
+    → min (min cap calls - (len + ends)) (most_positions - (count + len + ends)) ≤ min
+    (min cap' calls' - (len' + ends'))
     (most_positions - (count + len' + ends')) + pairs
 room_less pairs count len len' ends ends' cap cap' calls calls' more even longer fits = omega arith

@@ -17,11 +17,8 @@ use Rattle.am_latch.specs.Views.{trace_view, minting_view, seat_view, empty_view
 use Rattle.am_latch.specs.Views.{trace_part, one_more_minted, minted_seat, IsViewOf, ViewsAgree, view_with_call}
 use Rattle.am_latch.specs.Views.{AppendsCall, ReceiptsAgree, log_in_view, IsTraceView, IsSeatView, IsJointView}
 use Rattle.am_latch.specs.Views.{EndsMinting}
-use Rattle.am_latch.proofs.Each.{each_of_set, each_of_end}
+use Rattle.am_latch.proofs.Each.{off, each_of_set, each_of_end}
 use Rattle.am_latch.proofs.Places.{mine_more, others_same}
-
-off : false ≡ true → ⊥
-off e = true≢false (sym e)
 
 agrees_nobody : (trace_token count by : ℕ) (e : CallLog) → IsViewOf trace_token e count by empty_view
 agrees_nobody trace_token count by e = record {

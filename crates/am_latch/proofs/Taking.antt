@@ -10,10 +10,7 @@ use Rattle.am_serial.specs.Trace.{Trace}
 use Rattle.am_latch.specs.declared.taken.TakenView.{TakenView}
 use Rattle.am_latch.specs.Taken.{handed_view, taker_view, whole_view, spent_view, both_views, taker_part, handed_part}
 use Rattle.am_latch.specs.Taken.{IsTakenIn, TakersAgree, taken_with, HandsOver, IsHandedView, IsTakerView, IsWholeView}
-use Rattle.am_latch.proofs.Each.{each_of_set, each_of_end}
-
-off : false ≡ true → ⊥
-off e = true≢false (sym e)
+use Rattle.am_latch.proofs.Each.{off, each_of_set, each_of_end}
 
 pub starts : TakersAgree (opening (0 ∷ []) [] (whole_view [] []))
 starts = record { handing = 0; taking = 0; events = []; each = one }

@@ -12,8 +12,8 @@ abbrev pub room_left : Inside → ℕ
 room_left e = min (min (vec_capacity e.trace) (vec_capacity e.calls) - (vec_len e.trace + e.ends))
     (most_positions - (e.count + vec_len e.trace + e.ends))
 
--- the trace leads to the store, each of its pairs has its call, and for the end of each active transaction is room where
--- the kept ones stand, and a position
+-- the trace leads to the store, each of its pairs has its call, and for the end of each active transaction is room
+-- where the kept pairs stand, and a position
 pub record IsEngine (e : Inside) : Type 0 where
   pub trace : HasTrace (e.handed.trace ++ e.trace.items) e.store
   pub even : vec_len e.calls ≡ vec_len e.trace

@@ -14,8 +14,8 @@ use Rattle.am_latch.specs.Taken.{whole_view, handed_view, IsTakerView}
 use Rattle.am_latch.specs.Traces.{AreMadeBelow, log_of}
 use Rattle.am_latch.specs.Views.{minting_view, trace_view, IsSeatView}
 
--- The token under the latch knows the trace, each call of which one of the seats made, and what is open in these is
--- active. Another one knows what was handed out
+-- One token under the latch knows the trace, another what was handed out of it. One of the seats made each call, and
+-- what is open in these is active
 pub record IsLatchState {L : Type 0} (tables : LatchTables) (seats : ℕ) (s : LatchStateFields L) : Type 0 where
   pub table_of : s.trace_token.table_id ≡ tables.calls
   pub knows : s.trace_token.views ≡ trace_view (log_of s.engine) ∷ []
@@ -24,8 +24,8 @@ pub record IsLatchState {L : Type 0} (tables : LatchTables) (seats : ℕ) (s : L
   pub made : AreMadeBelow seats s.engine.calls
   pub tied : IsTied (log_of s.engine)
 
--- The token knows all receipts. The positions of those that weren't let go are held, with room for that of the end of an
--- open transaction
+-- The token knows all receipts. The positions of those that weren't let go are held, with room for that of the end of
+-- an open transaction
 pub record IsSeat {L : Type 0} (table : TableId) (seats : ℕ) (s : SeatFields L) : Type 0 where
   pub table_of : s.token.table_id ≡ table
   pub view : IsSeatView s.token.me.0

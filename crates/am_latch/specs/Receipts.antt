@@ -1,7 +1,7 @@
 -- Seats and their receipts.
 use Rattle.std.specs.Coded.{Coded, code_by, coded×, coded_ℕ, coded_list}
-use Rattle.std.specs.Prelude.{refl, ◌≡◌, ℕ, zero, suc, ◌<◌, ◌+◌, ◌-◌, List, [], ◌∷◌, ◌++◌, length, map, slice_get, Option}
-use Rattle.std.specs.Prelude.{Some, None, MatchBool, ◌==◌, if◌then◌else◌}
+use Rattle.std.specs.Prelude.{refl, ◌≡◌, ℕ, zero, suc, ◌<◌, ◌+◌, ◌-◌, List, [], ◌∷◌, ◌++◌, length, map, slice_get}
+use Rattle.std.specs.Prelude.{Option, Some, None, MatchBool, ◌==◌, if◌then◌else◌}
 use Rattle.am_record.specs.declared.step.Step.{Step}
 use Rattle.am_record.specs.contracts.step.Step as the_step
 use Rattle.am_record.specs.contracts.step.Reply as the_reply
@@ -32,7 +32,8 @@ receipt_code =
 abbrev pub seat_state_code : Coded SeatState
 seat_state_code =
     code_by (ℕ × (List Receipt × ℕ)) (coded× coded_ℕ (coded× (coded_list receipt_code) coded_ℕ))
-    (λ s. (s.number, (s.receipts, s.let_go))) (λ f. record { number = f.0; receipts = f.1.0; let_go = f.1.1 }) (λ _. refl)
+    (λ s. (s.number, (s.receipts, s.let_go)))
+    (λ f. record { number = f.0; receipts = f.1.0; let_go = f.1.1 }) (λ _. refl)
 
 abbrev pub seat_state : ℕ → List Receipt → ℕ → SeatState
 seat_state k rs n = record { number = k; receipts = rs; let_go = n }

@@ -18,8 +18,8 @@ use am_btree::BTree;
 use am_core::Store;
 use am_record::{Reply, Step};
 
-/// What a latch leaves: what it keeps of the trace of its calls, the store where the whole trace leaves it, and the seats
-/// with their receipts. The trace is what was handed out and then what is kept.
+/// What a latch leaves: what it keeps of the trace of its calls, the store where the whole trace leaves it, and the
+/// seats with their receipts. The trace is what was handed out and then what is kept.
 #[derive(Drop)]
 pub struct Closed<L: LatchName> {
     /// The stored calls that weren't handed out.
@@ -51,7 +51,8 @@ fn in_order<L: LatchName>(seats: &[Seat<L>]) -> bool
 // Each seat has just the receipts that stand in the trace.
 fn audit_all<L: LatchName>(table: &ViewTable, trace_token: Token, seats: &mut [Seat<L>])
     requires table { (table.now.shared.table_id ≡ L.table.calls) × (0 < table.now.shared.table_id.words) }
-    requires trace_token { (trace_token.table_id ≡ L.table.calls) × IsTraceView trace_token.me.0 × (trace_token.me.1 ≡ []) }
+    requires trace_token { (trace_token.table_id ≡ L.table.calls) × IsTraceView trace_token.me.0 ×
+        (trace_token.me.1 ≡ []) }
     ensures same { seats.new ≡ seats.old }
     ensures known { HaveReceiptsIn (log_in_view trace_token.me.0) seats.old (length seats.old) }
 {
@@ -61,9 +62,9 @@ fn audit_all<L: LatchName>(table: &ViewTable, trace_token: Token, seats: &mut [S
     }
 }
 
-/// Ends a latch with all its seats, in the order of their numbers, and its taker. It ends no transaction: what the store has
-/// active is what is open in the seats. Whoever judges the trace finds nothing wrong in it. The trace is what the taker took
-/// and then what is kept.
+/// Ends a latch with all its seats, in the order of their numbers, and its taker. It ends no transaction: what the
+/// store has active is what is open in the seats. The trace is what the taker took and then what is kept: whoever
+/// judges it finds nothing wrong in it.
 ///
 /// # Errors
 /// Missing, with the latch, the seats and the taker as they were, where these aren't all seats of the latch.

@@ -129,12 +129,13 @@ impl Engine {
         reply
     }
 
-    /// Hands out all stored calls that are kept, which are the oldest that weren't handed out before. The trace is what it
-    /// was, and the room for the ends of active transactions is kept. Where memory is refused for it, nothing is handed
-    /// out.
+    /// Hands out all stored calls that are kept, which are the oldest that weren't handed out before. The trace is what
+    /// it was, and the room for the ends of active transactions is kept. Where memory is refused for that, nothing is
+    /// handed out.
     pub fn hand_out(&mut self) -> Piece
         ensures handed { HandsOn self.old record { trace = result.trace.items; calls = result.calls.items } self.new }
-        ensures next { IsNextOf self.old result.first record { trace = result.trace.items; calls = result.calls.items } }
+        ensures next { IsNextOf self.old result.first
+            record { trace = result.trace.items; calls = result.calls.items } }
         ensures all { (result.trace.items ≡ []) ⊎ (self.new.handed ≡ log_of self.new) }
     {
         let first = self.count;

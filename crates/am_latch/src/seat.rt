@@ -99,8 +99,8 @@ impl<L: LatchName> Seat<L> {
         self.let_go
     }
 
-    /// Lets all receipts go that are held: contracts know of them as before, and their memory serves the next ones. Past
-    /// 10^14 of them nothing happens.
+    /// Lets all receipts go that are held: contracts know of them as before, and their memory serves the next ones.
+    /// Past 10^14 of them nothing happens.
     pub fn let_go(&mut self)
         ensures same { (self.new.number ≡ self.old.number) × (self.new.receipts ≡ self.old.receipts) }
         ensures gone { self.old.let_go ≤ 100000000000000 → self.new.let_go ≡ length self.old.receipts }

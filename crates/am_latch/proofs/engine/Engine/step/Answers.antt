@@ -158,6 +158,7 @@ returns-clause-room c =
     (omega (arith, room.long.0, p.len)) (omega (arith, spent, ends)) in
     let len = vec_len c.push_reserved.new.self in
     let after = c.count_ends-self-inside.result in
-    let left : ℕ = min (min (vec_capacity c.push_reserved.new.self) (vec_capacity c.push_reserved-2.new.self) - (len + after))
+    let left : ℕ = min (min (vec_capacity c.push_reserved.new.self) (vec_capacity c.push_reserved-2.new.self) -
+    (len + after))
     (most_positions - (inside.count + len + after)) in
     subst (λ (n : ℕ). n ≤ left + pairs_needed st) (ap (λ (e : EngineState). e.room) c.self.view_is) less
