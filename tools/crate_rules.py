@@ -13,7 +13,7 @@ from tree import TOP, crates, given_out, sources, text_of
 # Names that a crate gives out although no other takes them. A law, a function with neither parameters nor a result, is read and not
 # called, and needs no place here.
 SURFACE = {
-    "am_latch": {"CallId", "Closed", "Engine", "LatchFault", "Missing"},  # what `close`, `Latch::look` and `Latch::open` give
+    "am_latch": {"Closed", "LatchFault", "Missing"},  # what `close` and `Latch::open` give
     "am_listen": {"BindFault", "serve_session"},  # why `bind` refuses; a session over any source and sink, whose contract is a promise
     "am_words": {"WordsFault"},  # why `Words` are refused
 }

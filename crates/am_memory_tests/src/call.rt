@@ -3,6 +3,7 @@
 use crate::cutting::{cuts, loads_of_a_list, run_alone, sorts};
 use crate::fault::Fault;
 use crate::filling::list_of_five;
+use crate::handing::trace_in_pieces;
 use crate::mapping::{plain_alone, plain_answers};
 use crate::texts::replies;
 use std::alloc::Global;
@@ -18,10 +19,11 @@ pub(crate) enum Call {
     PlainAnswers,
     PlainAlone,
     Replies,
+    TraceInPieces,
 }
 
 /// All calls.
-pub(crate) const CALLS: [Call; 8] = [
+pub(crate) const CALLS: [Call; 9] = [
     Call::ListOfFive,
     Call::RunAlone,
     Call::Sorts,
@@ -30,6 +32,7 @@ pub(crate) const CALLS: [Call; 8] = [
     Call::PlainAnswers,
     Call::PlainAlone,
     Call::Replies,
+    Call::TraceInPieces,
 ];
 
 impl Call {
@@ -43,6 +46,7 @@ impl Call {
             Call::PlainAnswers => "plain_answers",
             Call::PlainAlone => "plain_alone",
             Call::Replies => "replies",
+            Call::TraceInPieces => "trace_in_pieces",
         }
     }
 
@@ -57,6 +61,7 @@ impl Call {
             Call::PlainAnswers => plain_answers(alloc),
             Call::PlainAlone => plain_alone(alloc),
             Call::Replies => replies(alloc),
+            Call::TraceInPieces => trace_in_pieces(alloc),
         }
     }
 }

@@ -7,6 +7,7 @@ mod call;
 mod cutting;
 mod fault;
 mod filling;
+mod handing;
 mod holding;
 mod mapping;
 mod numbers;
