@@ -10,7 +10,7 @@ _tiuvrokk_words() {
         *) echo 'alone listen help --help --version' ;;
         esac
         ;;
-    amaudit) echo '--records --help --version' ;;
+    amaudit) echo '--records --open --help --version' ;;
     amload) echo '--run --skip-empty --port --wait --help --version' ;;
     amdump) echo '--port --wait --help --version' ;;
     amcli) echo '--port --wait --store --raw --strict --history --help --version' ;;

@@ -32,4 +32,6 @@ pub struct Audited<'a> {
     pub file: Option<&'a str>,
     /// Whether the records that a legal trace leaves are told.
     pub tells_records: bool,
+    /// Whether the run isn't ended: what stands behind the last LF is left out.
+    pub is_open: bool,
 }
