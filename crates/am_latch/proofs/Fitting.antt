@@ -1,5 +1,5 @@
 -- Which replies fit which steps.
-use Rattle.std.proofs.Common.{◌≡◌, ◌⊎◌, ℕ, List, true, false, Bool, Option, Some, None, refl, sym, subst, ⊎_elim}
+use Rattle.std.proofs.Common.{◌≡◌, ◌⊎◌, List, true, false, Bool, Option, Some, None, refl, sym, subst, ⊎_elim}
 use Rattle.am_record.specs.declared.step.Op.{Op}
 use Rattle.am_record.specs.declared.step.Op.TheVariants.{Get, Scan, Insert, Replace, Delete, Load, Lock as TakeLock}
 use Rattle.am_record.specs.declared.step.Op.TheVariants.{Mark, Back}

@@ -3,6 +3,7 @@ use Rattle.std.proofs.Common.{◌≡◌, ℕ, ◌<◌, List, [], ◌∷◌, ◌+
 use Rattle.am_record.specs.declared.step.Step.{Step}
 use Rattle.am_record.specs.declared.step.Reply.{Reply}
 use Rattle.am_latch.specs.declared.receipt.CallId.{CallId}
+use Rattle.am_latch.specs.declared.taken.TakenView.{TakenView}
 use Rattle.am_latch.specs.declared.views.View.{View}
 use Rattle.am_latch.specs.Changes.{is_stored}
 use Rattle.am_latch.specs.Traces.{CallLog, log_with, StoresCall, AreMadeBelow}
@@ -18,3 +19,6 @@ below-snoc n (x ∷ xs) m h lt = (h.0, below-snoc n xs m h.1 lt)
 
 pub only : (v w : View) → v ∷ [] ≡ w ∷ [] → v ≡ w
 only v w e = cc
+
+pub only_taken : (v w : TakenView) → v ∷ [] ≡ w ∷ [] → v ≡ w
+only_taken v w e = cc

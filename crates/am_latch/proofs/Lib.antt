@@ -1,5 +1,6 @@
 pub mod Crosses
 pub mod Calling
+pub mod Each
 pub mod Fitting
 pub mod Holding
 pub mod Keeping
@@ -10,5 +11,6 @@ pub mod Rooms
 pub mod Rules
 pub mod Seats
 pub mod Storing
+pub mod Taking
 pub mod Tying
 pub mod Wanting

@@ -1,5 +1,5 @@
 -- Steps and replies, case by case.
-use Rattle.std.proofs.Common.{◌≡◌, ℕ, true, false, Some, None, refl}
+use Rattle.std.proofs.Common.{◌≡◌, ℕ, true, Some, None, refl}
 use Rattle.am_record.specs.declared.step.Op.{Op}
 use Rattle.am_record.specs.declared.step.Step.{Step}
 use Rattle.am_record.specs.declared.step.Step.TheVariants.{Begin, Do, Commit, Abort, Merge, Clean}
@@ -9,7 +9,7 @@ use Rattle.am_record.specs.declared.step.Reply.TheVariants.{Begun, Done, Found, 
 use Rattle.am_record.specs.declared.step.Reply.TheVariants.{Committed, Aborted, Moved, MergeDone, Ended, Idle, Cleaned}
 use Rattle.am_record.specs.declared.step.Reply.TheVariants.{NoMark, Refused}
 use Rattle.am_latch.specs.declared.change.Change.TheVariants.{Begins, Ends, Nothing}
-use Rattle.am_latch.specs.Changes.{change, end_of, is_begin, is_refused, is_stored, room_of}
+use Rattle.am_latch.specs.Changes.{change, end_of, is_begin, is_refused, room_of}
 
 pub refused_nothing : (r : Reply) (st : Step) → is_refused r ≡ true → change st r ≡ Nothing
 refused_nothing (Begun t) st h = absurd (cc)

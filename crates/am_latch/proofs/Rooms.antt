@@ -1,5 +1,5 @@
 -- Room in the trace after a step.
-use Rattle.std.proofs.Common.{◌≡◌, ℕ, suc, ◌+◌, ◌<◌, ◌≤◌, ◌==◌, if◌then◌else◌, List, [], ◌∷◌, length, Bool, true, false}
+use Rattle.std.proofs.Common.{◌≡◌, ℕ, suc, ◌+◌, ◌-◌, ◌<◌, ◌≤◌, ◌==◌, min, if◌then◌else◌, List, [], ◌∷◌, length, Bool, true, false}
 use Rattle.std.proofs.Common.{not, ◌||◌, Option, Some, None, IsSome, refl, subst, arith, length-append}
 use Rattle.am_record.specs.declared.step.Step.{Step}
 use Rattle.am_record.specs.declared.step.Refusal.TheVariants.{NoMemory}
@@ -9,7 +9,9 @@ use Rattle.am_latch.specs.declared.change.Change.{Change}
 use Rattle.am_latch.specs.declared.change.Change.TheVariants.{Begins, Ends, Nothing}
 use Rattle.am_latch.specs.Changes.{change, end_of, is_begin, is_refused, numbers_with, active_in_trace, has}
 use Rattle.am_latch.specs.Changes.{without_number, MayFollow}
+use Rattle.am_latch.specs.EngineFields.{most_positions}
 use Rattle.am_latch.specs.Traces.{ends_after}
+use Rattle.am_latch.specs.Wants.{pairs_needed}
 use Rattle.am_latch.proofs.Replies.{refused_nothing, begins_begin}
 
 keep_length : (b : Bool) (u : ℕ) (us : List ℕ) (n : ℕ) → length us ≤ n → length (if not b then u ∷ us else us) ≤ suc n
@@ -100,3 +102,22 @@ none_taken ts st idle = record {
 
 pub no_end : (st : Step) → end_of st ≡ None → (t : ℕ) → end_of st ≡ Some t → ⊥
 no_end st none t e = absurd (cc)
+
+-- a pair and its end take no more room than its step asks for
+ends_more : (begins : Bool) (ends : ℕ) (e : Change) → ((t : ℕ) → e ≡ Begins t → begins ≡ true) →
+    ends_after ends e + 1 ≤ ends + (if begins then 2 else 1)
+ends_more true ends (Begins t) is = omega arith
+ends_more false ends (Begins t) is = let yes = is t refl in absurd (cc)
+ends_more true ends (Ends t) is = omega arith
+ends_more false ends (Ends t) is = omega arith
+ends_more true ends Nothing is = omega arith
+ends_more false ends Nothing is = omega arith
+
+pub ends_spent : (st : Step) (r : Reply) (ends : ℕ) → ends_after ends (change st r) + 1 ≤ ends + pairs_needed st
+ends_spent st r ends = ends_more (is_begin st) ends (change st r) (λ t e. (begins_begin st r t e).0)
+
+pub room_less : (pairs count len len' ends ends' cap cap' calls calls' : ℕ) → cap ≤ cap' → calls ≤ calls' →
+    len' ≡ len + 1 → ends' + 1 ≤ ends + pairs
+    → min (min cap calls - (len + ends)) (most_positions - (count + len + ends)) ≤ min (min cap' calls' - (len' + ends'))
+    (most_positions - (count + len' + ends')) + pairs
+room_less pairs count len len' ends ends' cap cap' calls calls' more even longer fits = omega arith

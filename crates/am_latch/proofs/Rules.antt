@@ -1,6 +1,6 @@
 -- Each step keeps the rule over the views.
-use Rattle.std.proofs.Common.{◌≡◌, ◌≢◌, ◌⊎◌, ℕ, zero, suc, ◌+◌, true, false, true≢false, List, [], ◌∷◌, ◌++◌, length}
-use Rattle.std.proofs.Common.{set, inl, inr, refl, sym, ap, ◌∙◌, subst, ⊎_elim, arith, length-append, length-set}
+use Rattle.std.proofs.Common.{◌≡◌, ◌≢◌, ℕ, zero, suc, ◌+◌, true, false, true≢false, List, [], ◌∷◌, ◌++◌, length}
+use Rattle.std.proofs.Common.{set, refl, sym, ap, ◌∙◌, subst, ⊎_elim, arith, length-append, length-set}
 use Rattle.std.proofs.Common.{zero-add}
 use mathlib.Core.Option.{none, some, some-ne-none, some-injective}
 use lib.ListN.{get_elem?}
@@ -17,36 +17,11 @@ use Rattle.am_latch.specs.Views.{trace_view, minting_view, seat_view, empty_view
 use Rattle.am_latch.specs.Views.{trace_part, one_more_minted, minted_seat, IsViewOf, ViewsAgree, view_with_call}
 use Rattle.am_latch.specs.Views.{AppendsCall, ReceiptsAgree, log_in_view, IsTraceView, IsSeatView, IsJointView}
 use Rattle.am_latch.specs.Views.{EndsMinting}
+use Rattle.am_latch.proofs.Each.{each_of_set, each_of_end}
 use Rattle.am_latch.proofs.Places.{mine_more, others_same}
 
 off : false ≡ true → ⊥
 off e = true≢false (sym e)
-
-at_end : (l : List View) (a b : View) (j : ℕ) → get_elem? (l ++ a ∷ []) j ≡ some b → (get_elem? l j ≡ some b) ⊎
-    ((j ≡ length l) × (a ≡ b))
-at_end [] a b zero e = inr (refl, some-injective a b e)
-at_end [] a b (suc j) e = absurd (some-ne-none b (sym e))
-at_end (x ∷ xs) a b zero e = inl e
-at_end (x ∷ xs) a b (suc j) e = ⊎_elim inl (λ t. inr (ap suc t.0, t.1)) (at_end xs a b j e)
-
--- what holds of the other views and of the one that is set
-each_of_set : (P : ℕ → View → Type 0) (views : List View) (id : ℕ) (w : View) →
-    ((j : ℕ) (u : View) → j ≢ id → get_elem? views j ≡ some u → P j u) → P id w → (j : ℕ) (u : View) →
-    get_elem? (set views id w) j ≡ some u → P j u
-each_of_set P views id w others receipts j u e =
-    ⊎_elim
-    (λ (t : (j ≡ id) × (w ≡ u)). subst (λ (y : ℕ × View). P y.0 y.1) (λ i. (sym t.0 i, t.1 i)) receipts)
-    (λ (t : (j ≢ id) × (get_elem? views j ≡ some u)). others j u t.0 t.1)
-    (at_set views id j w u e)
-
-each_of_end : (P : ℕ → View → Type 0) (views : List View) (w : View) →
-    ((j : ℕ) (u : View) → get_elem? views j ≡ some u → P j u) → P (length views) w → (j : ℕ) (u : View) →
-    get_elem? (views ++ w ∷ []) j ≡ some u → P j u
-each_of_end P views w others receipts j u e =
-    ⊎_elim
-    (λ (t : get_elem? views j ≡ some u). others j u t)
-    (λ (t : (j ≡ length views) × (w ≡ u)). subst (λ (y : ℕ × View). P y.0 y.1) (λ i. (sym t.0 i, t.1 i)) receipts)
-    (at_end views w u j e)
 
 agrees_nobody : (trace_token count by : ℕ) (e : CallLog) → IsViewOf trace_token e count by empty_view
 agrees_nobody trace_token count by e = record {

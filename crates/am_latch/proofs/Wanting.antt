@@ -1,6 +1,6 @@
 -- Want of memory: whose it is, and that the store answers no full seat.
-use Rattle.std.proofs.Common.{◌≡◌, ◌⊎◌, inl, inr, ℕ, ◌+◌, ◌-◌, ◌<◌, ◌≤◌, min, nat_lt, if◌then◌else◌, ◌∷◌, ◌++◌, []}
-use Rattle.std.proofs.Common.{List, Bool, true, false, cond, Option, Some, None, refl, sym, subst, ⊎_elim, arith}
+use Rattle.std.proofs.Common.{◌≡◌, ◌⊎◌, inl, inr, ℕ, ◌+◌, ◌-◌, ◌<◌, ◌≤◌, ◌^◌, min, nat_lt, if◌then◌else◌, ◌∷◌, ◌++◌, []}
+use Rattle.std.proofs.Common.{List, Bool, true, false, cond, Option, Some, None, refl, subst, ⊎_elim, arith}
 use Rattle.std.proofs.lemmas.Bool.{ltb-true, ltb-false}
 use Rattle.am_record.specs.declared.step.Op.{Op}
 use Rattle.am_record.specs.declared.step.Op.TheVariants.{Get, Scan, Insert, Replace, Delete, Load, Lock as TakeLock}
@@ -22,9 +22,9 @@ use Rattle.am_serial.specs.Sound.{IsAnswerOf, IsBusy, FormedDo, FormedAt}
 use Rattle.am_sound.specs.StoreState.{StoreState}
 use Rattle.am_core.specs.Memory.{may_want_memory}
 use Rattle.am_core.specs.Standing.{IsSoundAt}
-use Rattle.am_latch.specs.Changes.{change, end_of, is_begin, is_refused, is_stored, has, HasTrace, MayFollow}
+use Rattle.am_latch.specs.Changes.{is_begin, is_refused, is_stored, has, HasTrace, MayFollow}
 use Rattle.am_latch.specs.Traces.{EngineState}
-use Rattle.am_latch.specs.Wants.{takes_lists, pairs_needed, MayWantMemory}
+use Rattle.am_latch.specs.Wants.{pairs_needed, MayWantMemory}
 use Rattle.am_latch.proofs.Replies.{refused_nothing}
 use Rattle.am_latch.proofs.Storing.{last_event}
 
@@ -118,18 +118,21 @@ some_needed true = omega arith
 some_needed false = omega arith
 
 -- where no room was got, there was none
-module _ (room pairs more len len' ends cap cap' : ℕ) (got : Bool) (none : got ≡ false) (needed : more ≡ pairs)
-    (is : room ≡ min cap cap' - (len + ends)) (even : len' ≡ len) (some : 1 ≤ pairs)
-    (there : len + (ends + more) ≤ cap → len' + (ends + more) ≤ cap' → got ≡ true) where
-  by_room : (b : Bool) → nat_lt room pairs ≡ b → room < pairs
-  by_room true e = ltb-true room pairs e
-  by_room false e =
-      let enough = ltb-false room pairs e in
-      let yes : got ≡ true = there (omega arith) (omega arith) in
-      absurd (cc)
+module _ (room pairs more count len len' ends cap cap' : ℕ) (got : Bool) (none : got ≡ false) (needed : more ≡ pairs)
+    (is : room ≡ min (min cap cap' - (len + ends)) (18446744073709551615 - (count + len + ends))) (even : len' ≡ len)
+    (some : 1 ≤ pairs)
+    (there : len + (ends + more) ≤ cap → len' + (ends + more) ≤ cap' → count + len + (ends + more) < 2 ^ 64 →
+    got ≡ true)
+  where
+    by_room : (b : Bool) → nat_lt room pairs ≡ b → room < pairs
+    by_room true e = ltb-true room pairs e
+    by_room false e =
+        let enough = ltb-false room pairs e in
+        let yes : got ≡ true = there (omega arith) (omega arith) (omega arith) in
+        absurd (cc)
 
-  pub short : room < pairs
-  short = by_room (nat_lt room pairs) refl
+    pub short : room < pairs
+    short = by_room (nat_lt room pairs) refl
 
 pub short_of : (st : Step) → 1 ≤ pairs_needed st
 short_of st = some_needed (is_begin st)

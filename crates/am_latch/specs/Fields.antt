@@ -1,38 +1,59 @@
 -- What always holds of the fields of the state under the latch, of a seat, and of a blank.
-use Rattle.std.specs.Prelude.{◌≡◌, ◌≤◌, ◌<◌, ◌*◌, ℕ, [], ◌∷◌, vec_len, vec_capacity}
+use Rattle.std.specs.Prelude.{◌≡◌, ◌≤◌, ◌<◌, ◌*◌, ◌+◌, ℕ, [], ◌∷◌, length, vec_len, vec_capacity}
 use Rattle.atomic_table.specs.Seated.{TableId}
 use Rattle.am_record.specs.Limits.{max_limit}
 use Rattle.am_latch.specs.Faults.{max_seats}
 use Rattle.am_latch.specs.declared.latch.Blank.TheInside.{Inside as BlankFields}
 use Rattle.am_latch.specs.declared.seat.Seat.TheInside.{Inside as SeatFields}
 use Rattle.am_latch.specs.declared.state.LatchState.TheInside.{Inside as LatchStateFields}
-use Rattle.am_latch.specs.Receipts.{moved_in}
+use Rattle.am_latch.specs.declared.taker.Taker.TheInside.{Inside as TakerFields}
+use Rattle.am_latch.specs.Receipts.{moved_in, last_commit_of, positions_of, AreBehind, most_let_go}
 use Rattle.am_latch.specs.Ties.{open_of, HasRoom, IsTied}
+use Rattle.am_latch.specs.Tables.{LatchTables}
+use Rattle.am_latch.specs.Taken.{whole_view, handed_view, IsTakerView}
 use Rattle.am_latch.specs.Traces.{AreMadeBelow, log_of}
-use Rattle.am_latch.specs.Views.{minting_view, seat_view, trace_view}
+use Rattle.am_latch.specs.Views.{minting_view, trace_view, IsSeatView}
 
--- the token under the latch knows the trace, each call of which one of the seats made, and what is open in these is
--- active
-pub record IsLatchState {L : Type 0} (table : TableId) (seats : ℕ) (s : LatchStateFields L) : Type 0 where
-  pub table_of : s.trace_token.table_id ≡ table
+-- The token under the latch knows the trace, each call of which one of the seats made, and what is open in these is
+-- active. Another one knows what was handed out
+pub record IsLatchState {L : Type 0} (tables : LatchTables) (seats : ℕ) (s : LatchStateFields L) : Type 0 where
+  pub table_of : s.trace_token.table_id ≡ tables.calls
   pub knows : s.trace_token.views ≡ trace_view (log_of s.engine) ∷ []
+  pub handed_of : s.handed_token.table_id ≡ tables.handed
+  pub handed : s.handed_token.views ≡ handed_view s.engine.handed.trace ∷ []
   pub made : AreMadeBelow seats s.engine.calls
   pub tied : IsTied (log_of s.engine)
 
--- the token knows the receipts, which have room for that of the end of an open transaction
+-- The token knows all receipts. The positions of those that weren't let go are held, with room for that of the end of an
+-- open transaction
 pub record IsSeat {L : Type 0} (table : TableId) (seats : ℕ) (s : SeatFields L) : Type 0 where
   pub table_of : s.token.table_id ≡ table
-  pub knows : s.token.me ≡ (seat_view s.number s.receipts.items, [])
+  pub view : IsSeatView s.token.me.0
+  pub seat : s.token.me.0.seat ≡ s.number
+  pub slots : s.token.me.1 ≡ []
   pub below : s.number < seats
-  pub open_tx : s.open_now ≡ open_of s.receipts.items
-  pub room : HasRoom s.open_now (vec_len s.receipts) (vec_capacity s.receipts)
-  pub moved : s.moved ≡ moved_in s.receipts.items
-  pub few : s.moved ≤ max_limit * vec_len s.receipts
+  pub held : AreBehind s.let_go (positions_of s.token.me.0.receipts) s.positions.items
+  pub count : s.let_go + vec_len s.positions ≡ length s.token.me.0.receipts
+  pub open_tx : s.open_now ≡ open_of s.token.me.0.receipts
+  pub last : s.last_commit ≡ last_commit_of s.token.me.0.receipts
+  pub room : HasRoom s.open_now (vec_len s.positions) (vec_capacity s.positions)
+  pub moved : s.moved ≡ moved_in s.token.me.0.receipts
+  pub few : s.moved ≤ max_limit * length s.token.me.0.receipts
+  pub numbers : s.let_go ≤ most_let_go
 
--- 1 to 1,024 seats, and none of them minted yet
+-- the token knows what was taken
+pub record IsTaker {L : Type 0} (table : TableId) (t : TakerFields L) : Type 0 where
+  pub table_of : t.token.table_id ≡ table
+  pub view : IsTakerView t.token.me.0
+  pub slots : t.token.me.1 ≡ []
+
+-- 1 to 1,024 seats, and none of them minted yet; nothing was handed out
 pub record IsBlank (b : BlankFields) : Type 0 where
   pub some : 0 < b.seats
   pub few : b.seats ≤ max_seats
   pub words : 0 < b.table.shared.table_id.words
   pub table_of : b.trace_token.table_id ≡ b.table.shared.table_id
   pub knows : b.trace_token.me ≡ (minting_view 0, [])
+  pub taken_words : 0 < b.taken.shared.table_id.words
+  pub taken_of : b.taken_token.table_id ≡ b.taken.shared.table_id
+  pub none_taken : b.taken_token.me ≡ (whole_view [] [], [])

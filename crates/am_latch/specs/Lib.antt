@@ -2,8 +2,11 @@ pub mod Views
 pub mod Changes
 pub mod EngineFields
 pub mod Faults
+pub mod Handed
+pub mod HandedFields
 pub mod Receipts
 pub mod Tables
+pub mod Taken
 pub mod Ties
 pub mod Fields
 pub mod Traces

@@ -1,6 +1,6 @@
 -- Seats and their receipts.
 use Rattle.std.specs.Coded.{Coded, code_by, coded×, coded_ℕ, coded_list}
-use Rattle.std.specs.Prelude.{refl, ◌≡◌, ℕ, zero, suc, ◌<◌, ◌+◌, ◌-◌, List, [], ◌∷◌, ◌++◌, length, slice_get, Option}
+use Rattle.std.specs.Prelude.{refl, ◌≡◌, ℕ, zero, suc, ◌<◌, ◌+◌, ◌-◌, List, [], ◌∷◌, ◌++◌, length, map, slice_get, Option}
 use Rattle.std.specs.Prelude.{Some, None, MatchBool, ◌==◌, if◌then◌else◌}
 use Rattle.am_record.specs.declared.step.Step.{Step}
 use Rattle.am_record.specs.contracts.step.Step as the_step
@@ -12,10 +12,11 @@ use Rattle.am_latch.specs.declared.receipt.CallId.{CallId}
 use Rattle.am_latch.specs.Changes.{is_stored, moves_in}
 use Rattle.am_latch.specs.Traces.{CallLog}
 
--- what contracts see of a seat
+-- what contracts see of a seat: all its receipts, and how many of them, the oldest, it let go
 pub record SeatState : Type 0 where
   pub number : ℕ
   pub receipts : List Receipt
+  pub let_go : ℕ
 
 -- it is stored as its fields
 abbrev pub ReceiptFields : Type 0
@@ -29,14 +30,30 @@ receipt_code =
     (λ f. record { seat = f.0.0; call = f.0.1; step = f.1.0.0; reply = f.1.0.1; position = f.1.1 }) (λ _. refl)
 
 abbrev pub seat_state_code : Coded SeatState
-seat_state_code = code_by (ℕ × List Receipt) (coded× coded_ℕ (coded_list receipt_code)) (λ s. (s.number, s.receipts))
-    (λ f. record { number = f.0; receipts = f.1 }) (λ _. refl)
+seat_state_code =
+    code_by (ℕ × (List Receipt × ℕ)) (coded× coded_ℕ (coded× (coded_list receipt_code) coded_ℕ))
+    (λ s. (s.number, (s.receipts, s.let_go))) (λ f. record { number = f.0; receipts = f.1.0; let_go = f.1.1 }) (λ _. refl)
 
-abbrev pub seat_state : ℕ → List Receipt → SeatState
-seat_state k rs = record { number = k; receipts = rs }
+abbrev pub seat_state : ℕ → List Receipt → ℕ → SeatState
+seat_state k rs n = record { number = k; receipts = rs; let_go = n }
+
+-- so many receipts at most are let go, lest their numbers run out
+abbrev pub most_let_go : ℕ
+most_let_go = 140000000000000
+
+-- how many receipts it holds
+abbrev pub held_by : SeatState → ℕ
+held_by s = length s.receipts - s.let_go
+
+abbrev pub positions_of : List Receipt → List ℕ
+positions_of rs = map (λ (r : Receipt). r.position) rs
+
+-- these are the last of all, behind so many
+abbrev pub AreBehind : ℕ → List ℕ → List ℕ → Type 0
+AreBehind n all xs = (gone : List ℕ) × (length gone ≡ n) × (all ≡ gone ++ xs)
 
 abbrev pub new_seat : ℕ → SeatState
-new_seat k = seat_state k []
+new_seat k = seat_state k [] 0
 
 abbrev pub receipt : ℕ → ℕ → Step → Reply → ℕ → Receipt
 receipt number call st r position = record { seat = number; call = call; step = st; reply = r; position = position }
@@ -76,7 +93,7 @@ receipts_of k e = receipts_from k 0 0 e.trace e.calls
 -- one receipt more, of the next call
 abbrev pub GetsReceipt : SeatState → Step → Reply → SeatState → Type 0
 GetsReceipt s st r s' = (position : ℕ) × (s' ≡ seat_state s.number
-    (s.receipts ++ receipt s.number (length s.receipts) st r position ∷ []))
+    (s.receipts ++ receipt s.number (length s.receipts) st r position ∷ []) s.let_go)
 
 -- the call has its receipt, or the seat is unchanged
 abbrev pub HasReceiptOf : SeatState → Step → Reply → SeatState → Type 0

@@ -1,7 +1,7 @@
 //! The store with its trace.
 
-ghost use Rattle.std.specs.Prelude.{◌≡◌, ◌≢◌, ◌≤◌, ◌+◌, ◌<◌, ◌^◌, ℕ, IfOk, IfSome, IsSome, None, length, true, false};
-ghost use Rattle.std.specs.Prelude.{vec_len, vec_capacity};
+ghost use Rattle.std.specs.Prelude.{◌≡◌, ◌≢◌, ◌⊎◌, ◌≤◌, ◌+◌, ◌<◌, ◌^◌, ◌++◌, [], ℕ, IfOk, IfSome, IsSome, None, length};
+ghost use Rattle.std.specs.Prelude.{true, false, vec_len, vec_capacity};
 ghost use Rattle.am_record.specs.declared.step.Reply.TheVariants.{Refused};
 ghost use Rattle.am_record.specs.declared.step.Refusal.TheVariants.{NoMemory as OutOfMemory, SeatFull};
 ghost use Rattle.am_serial.specs.Trace.{Trace};
@@ -11,10 +11,11 @@ ghost use Rattle.am_sound.specs.Right.{IsSoundStore};
 ghost use Rattle.am_latch.specs.Changes.{active_in_trace, numbers_active, end_of, is_refused, is_stored};
 ghost use Rattle.am_latch.specs.Changes.{room_of};
 ghost use Rattle.am_latch.specs.Changes.{HasTrace, TakesStep, MayFollow, IsBoundedReply};
-ghost use Rattle.am_latch.specs.Traces.{EngineState, log_of, empty_log, StoresCall, ends_after};
+ghost use Rattle.am_latch.specs.Traces.{EngineState, log_of, empty_log, StoresCall, HandsOn, IsNextOf, ends_after};
 ghost use Rattle.am_latch.specs.Wants.{MayWantMemory, pairs_needed, takes_lists};
 
 use crate::change::{Change, change_by, starts_tx, tx_to_end, was_refused, was_stored};
+use crate::handed::Handed;
 use crate::receipt::CallId;
 use crate::room::{Room, copy_reply, copy_step, rows_of};
 use am_btree::BTree;
@@ -22,11 +23,25 @@ use am_core::Store;
 use am_record::{HashKey, NoMemory, Refusal, Reply, Step};
 use std::alloc::Global;
 use std::marker::Model;
+use std::mem;
 
-/// A store and its stored trace, with room in it for the end of each active transaction.
+/// Calls that stand in the trace side by side, in their order, and whose they are.
+#[derive(Drop)]
+pub struct Piece {
+    /// How many calls stand in the trace before these.
+    pub first: u64,
+    pub trace: Vec<(Step, Reply)>,
+    pub calls: Vec<CallId>,
+}
+
+/// A store and its stored trace, with room in it for the end of each active transaction. The trace begins with what was
+/// handed out, and what is kept follows.
 #[derive(Drop)]
 pub struct Engine {
     store: Store<BTree>,
+    handed: Handed,
+    /// How many pairs were handed out.
+    count: u64,
     trace: Vec<(Step, Reply)>,
     calls: Vec<CallId>,
     /// For how many ends room is kept.
@@ -35,6 +50,7 @@ pub struct Engine {
 }
 
 impl Model for Engine {
+    ghost use Rattle.std.specs.Prelude.{◌++◌};
     ghost use Rattle.am_latch.specs.Traces.{engine_code, EngineState};
     ghost use Rattle.am_latch.specs.EngineFields.{IsEngine, room_left};
 
@@ -42,7 +58,12 @@ impl Model for Engine {
 
     ghost coded = { engine_code };
 
-    ghost view = { λ e. record { trace = e.trace.items; calls = e.calls.items; room = room_left e } };
+    ghost view = { λ e. record {
+      trace = e.handed.trace ++ e.trace.items;
+      calls = e.handed.calls ++ e.calls.items;
+      handed = e.handed;
+      room = room_left e;
+    } };
 
     ghost invariant = { IsEngine };
 }
@@ -53,12 +74,15 @@ impl Engine {
     /// # Errors
     /// NoMemory, where memory was refused for the store.
     pub fn open(alloc: Global, hash: HashKey) -> Result<Engine, NoMemory>
-        ensures { IfOk result (λ e. log_of e ≡ empty_log) }
+        ensures empty { IfOk result (λ e. log_of e ≡ empty_log) }
+        ensures handed { IfOk result (λ e. e.handed ≡ empty_log) }
     {
         am_sound::steps_lift();
         let store = Store::open(alloc, BTree::new(alloc)?, hash)?;
         Ok(Engine {
             store,
+            handed: Handed::new(alloc)?,
+            count: 0,
             trace: Vec::new(alloc),
             calls: Vec::new(alloc),
             ends: 0,
@@ -73,6 +97,7 @@ impl Engine {
     #[inline(never)]
     pub fn step(&mut self, call_id: CallId, step: Step) -> Reply
         ensures stepped { StoresCall (log_of self.old) call_id step result (log_of self.new) }
+        ensures handed { self.new.handed ≡ self.old.handed }
         ensures memory { result ≡ Refused OutOfMemory → MayWantMemory self.old step }
         ensures room { self.old.room ≤ self.new.room + pairs_needed step }
         ensures never_full { result ≢ Refused SeatFull }
@@ -80,7 +105,13 @@ impl Engine {
         ensures bounded { IsBoundedReply step result }
     {
         let more = pairs_for(&step);
-        let has_room = get_room(&mut self.trace, &mut self.calls, self.ends, more);
+        let has_room = get_room(
+            &mut self.trace,
+            &mut self.calls,
+            self.count,
+            self.ends,
+            more,
+        );
         if !may_go_on(has_room, &step) {
             return Reply::Refused(Refusal::NoMemory);
         }
@@ -98,18 +129,54 @@ impl Engine {
         reply
     }
 
-    /// The stored calls: each step with its reply. The trace is sound.
-    pub fn trace(&self) -> &[(Step, Reply)]
-        ensures trace { result.now ≡ self.now.trace }
-        ensures sound { IsSoundStore result.now }
+    /// Hands out all stored calls that are kept, which are the oldest that weren't handed out before. The trace is what it
+    /// was, and the room for the ends of active transactions is kept. Where memory is refused for it, nothing is handed
+    /// out.
+    pub fn hand_out(&mut self) -> Piece
+        ensures handed { HandsOn self.old record { trace = result.trace.items; calls = result.calls.items } self.new }
+        ensures next { IsNextOf self.old result.first record { trace = result.trace.items; calls = result.calls.items } }
+        ensures all { (result.trace.items ≡ []) ⊎ (self.new.handed ≡ log_of self.new) }
+    {
+        let first = self.count;
+        let Some((trace, calls)) = rooms_for(self.alloc, self.ends) else {
+            return Piece {
+                first,
+                trace: Vec::new(self.alloc),
+                calls: Vec::new(self.alloc),
+            };
+        };
+        self.handed
+            .add(self.trace.as_slice(), self.calls.as_slice());
+        self.count += self.trace.len() as u64;
+        let trace = mem::replace(&mut self.trace, trace);
+        let calls = mem::replace(&mut self.calls, calls);
+        Piece {
+            first,
+            trace,
+            calls,
+        }
+    }
+
+    /// How many calls are stored, those that were handed out among them.
+    pub fn len(&self) -> u64
+        ensures { result ≡ length self.now.trace }
+    {
+        self.count + self.trace.len() as u64
+    }
+
+    /// The stored calls that are kept: each step with its reply. After those that were handed out they are the trace,
+    /// which is sound.
+    pub fn kept(&self) -> &[(Step, Reply)]
+        ensures trace { self.now.trace ≡ self.now.handed.trace ++ result.now }
+        ensures sound { IsSoundStore self.now.trace }
     {
         self.trace.as_slice()
     }
 
-    /// Whose call each pair of the trace is.
-    pub fn calls(&self) -> &[CallId]
-        ensures calls { result.now ≡ self.now.calls }
-        ensures each { length result.now ≡ length self.now.trace }
+    /// Whose call each kept pair is.
+    pub fn kept_calls(&self) -> &[CallId]
+        ensures calls { self.now.calls ≡ self.now.handed.calls ++ result.now }
+        ensures each { length self.now.calls ≡ length self.now.trace }
     {
         self.calls.as_slice()
     }
@@ -123,9 +190,9 @@ impl Engine {
 }
 
 impl Engine {
-    /// The trace, and the store that it leaves.
+    /// What is kept of the trace, and the store that the whole trace leaves.
     pub(crate) fn into_parts(self) -> (Vec<(Step, Reply)>, Store<BTree>)
-        ensures trace { result.0.items ≡ self.trace }
+        ensures trace { self.handed.trace ++ result.0.items ≡ self.trace }
         ensures stands { IsSoundAt self.trace result.1 }
         ensures active { numbers_active result.1 ≡ active_in_trace self.trace }
         ensures even { length self.calls ≡ length self.trace }
@@ -190,10 +257,25 @@ pub(crate) fn copies_for(alloc: Global, step: &Step) -> Option<(Step, Room)>
     Some((copy, rows))
 }
 
-// Room for so many more than the ends that it is kept for.
+// Room for so many pairs and their calls.
+fn rooms_for(alloc: Global, ends: usize) -> Option<(Vec<(Step, Reply)>, Vec<CallId>)>
+    ensures room { IfSome result (λ r. (ends ≤ vec_capacity r.0) × (ends ≤ vec_capacity r.1)) }
+    ensures empty { IfSome result (λ r. (r.0.items ≡ []) × (r.1.items ≡ [])) }
+{
+    let Ok(trace) = Vec::with_capacity(alloc, ends) else {
+        return None;
+    };
+    let Ok(calls) = Vec::with_capacity(alloc, ends) else {
+        return None;
+    };
+    Some((trace, calls))
+}
+
+// Room for so many more than the ends that it is kept for, and positions.
 fn get_room(
     trace: &mut Vec<(Step, Reply)>,
     calls: &mut Vec<CallId>,
+    count: u64,
     ends: usize,
     more: usize,
 ) -> bool
@@ -204,12 +286,20 @@ fn get_room(
     ensures got { result ≡ true → (ends + more < 2 ^ 64) ×
         (vec_len trace.new + (ends + more) ≤ vec_capacity trace.new) ×
         (vec_len calls.new + (ends + more) ≤ vec_capacity calls.new) }
+    ensures numbers { result ≡ true → count + vec_len trace.new + (ends + more) < 2 ^ 64 }
     ensures there { vec_len trace.old + (ends + more) ≤ vec_capacity trace.old →
-        vec_len calls.old + (ends + more) ≤ vec_capacity calls.old → result ≡ true }
+        vec_len calls.old + (ends + more) ≤ vec_capacity calls.old →
+        count + vec_len trace.old + (ends + more) < 2 ^ 64 → result ≡ true }
 {
     let Some(wanted) = ends.checked_add(more) else {
         return false;
     };
+    let Some(stored) = count.checked_add(trace.len() as u64) else {
+        return false;
+    };
+    if stored.checked_add(wanted as u64).is_none() {
+        return false;
+    }
     trace.reserve(wanted).is_ok() && calls.reserve(wanted).is_ok()
 }
 

@@ -1,13 +1,17 @@
 //! The latch, round the engine.
-ghost use Rattle.std.specs.Prelude.{◌≡◌, ◌↔◌, ◌⊎◌, ◌<◌, ◌≤◌, IfOk, IfErr};
+ghost use Rattle.std.specs.Prelude.{◌≡◌, ◌↔◌, ◌⊎◌, ◌<◌, ◌≤◌, [], ◌++◌, IfOk, IfErr};
+ghost use Rattle.am_sound.specs.Right.{IsSoundStore};
 ghost use Rattle.am_latch.specs.Receipts.{numbered};
 ghost use Rattle.am_latch.specs.Faults.{IsBadSeats};
 ghost use Rattle.am_latch.specs.Ties.{IsEngineOf, HasReceiptsIn};
+ghost use Rattle.am_latch.specs.Traces.{EngineState, IsNextOf};
 
-use crate::engine::Engine;
+use crate::engine::{Engine, Piece};
 use crate::latch_name::LatchName;
 use crate::seat::Seat;
 use crate::state::LatchState;
+use crate::taken::{TakenTable, TakenToken, split_taker};
+use crate::taker::Taker;
 use crate::view_steps::{end_minting, mint_seat};
 use crate::views::{Token, ViewTable};
 use am_record::HashKey;
@@ -40,6 +44,8 @@ pub struct Blank {
     seats: u64,
     table: ViewTable,
     trace_token: Token,
+    taken: TakenTable,
+    taken_token: TakenToken,
     alloc: Global,
 }
 
@@ -49,7 +55,10 @@ impl Model for Blank {
 
     ghost Value = { BlankParts };
 
-    ghost view = { λ b. record { table = b.table.shared.table_id; seats = b.seats } };
+    ghost view = { λ b. record {
+      table = record { calls = b.table.shared.table_id; handed = b.taken.shared.table_id };
+      seats = b.seats;
+    } };
 
     ghost invariant = { IsBlank };
 }
@@ -69,10 +78,15 @@ impl Blank {
         let Ok((table, trace_token)) = ViewTable::of_words(alloc, &[0], &()) else {
             return Err(LatchFault::NoMemory);
         };
+        let Ok((taken, taken_token)) = TakenTable::of_words(alloc, &[0], &()) else {
+            return Err(LatchFault::NoMemory);
+        };
         Ok(Blank {
             seats,
             table,
             trace_token,
+            taken,
+            taken_token,
             alloc,
         })
     }
@@ -83,26 +97,34 @@ impl Blank {
 pub struct Latch<L: LatchName> {
     pub(crate) state: Mutex<LatchState<L>>,
     pub(crate) table: ViewTable,
+    pub(crate) taken: TakenTable,
     pub(crate) seats: u64,
     pub(crate) of: PhantomData<L>,
     ghost all: { seats ≡ L.seats },
-    ghost named: { (table.shared.table_id ≡ L.table) × (0 < table.shared.table_id.words) },
+    ghost named: { (table.shared.table_id ≡ L.table.calls) × (0 < table.shared.table_id.words) },
+    ghost taken_named: { (taken.shared.table_id ≡ L.table.handed) × (0 < taken.shared.table_id.words) },
 }
 
 impl<L: LatchName> Latch<L> {
-    /// The latch over an empty store, and its seats by number, with no receipts.
+    /// The latch over an empty store; its seats by number, with no receipts; and its taker, which took nothing.
     ///
     /// # Errors
     /// NoMemory, where memory was refused. The blank is spent.
-    pub fn open(blank: Blank, hash: HashKey) -> Result<(Latch<L>, Vec<Seat<L>>), LatchFault>
+    pub fn open(
+        blank: Blank,
+        hash: HashKey,
+    ) -> Result<(Latch<L>, Vec<Seat<L>>, Taker<L>), LatchFault>
         requires { (blank.seats ≡ L.seats) × (blank.table ≡ L.table) }
         ensures seats { IfOk result (λ r. r.1.items ≡ numbered L.seats) }
+        ensures taker { IfOk result (λ r. r.2 ≡ []) }
         ensures fault { IfErr result (λ e. ¬ (IsBadSeats e)) }
     {
         let Blank {
             seats: count,
             table,
             mut trace_token,
+            taken,
+            mut taken_token,
             alloc,
         } = blank;
         let Ok(engine) = Engine::open(alloc, hash) else {
@@ -119,15 +141,18 @@ impl<L: LatchName> Latch<L> {
             }
         }
         end_minting(&table, &mut trace_token, count);
-        let state = LatchState::new(engine, trace_token);
+        let handed_token = split_taker(&taken, &mut taken_token);
+        let state = LatchState::new(engine, trace_token, handed_token);
         Ok((
             Latch {
                 state: Mutex::new(state),
                 table,
+                taken,
                 seats: count,
                 of: PhantomData,
             },
             seats,
+            Taker::new(taken_token),
         ))
     }
 
@@ -155,6 +180,17 @@ impl<L: LatchName> Latch<L> {
     {
         lend(&self.table, &mut self.lock(rt), seat, f)
     }
+
+    /// Hands out the stored calls that are kept, which are the oldest that weren't handed out before, or nothing where
+    /// memory is refused. No call and no look sees a difference.
+    pub fn hand_out<R: Wait>(&self, rt: &R, taker: &mut Taker<L>) -> Piece
+        ensures taken { taker.new ≡ taker.old ++ result.trace.items }
+        ensures next { (engine : EngineState) × IsEngineOf L.seats engine × IsSoundStore engine.trace ×
+            (engine.handed.trace ≡ taker.old) ×
+            IsNextOf engine result.first record { trace = result.trace.items; calls = result.calls.items } }
+    {
+        self.lock(rt).hand_out(&self.taken, taker)
+    }
 }
 
 // Lends the engine, once the seat's receipts were compared.
@@ -164,7 +200,7 @@ fn lend<L: LatchName, T, F: FnOnce(&Engine) -> T>(
     seat: &mut Seat<L>,
     f: F,
 ) -> T
-    requires table { (table.now.shared.table_id ≡ L.table) × (0 < table.now.shared.table_id.words) }
+    requires table { (table.now.shared.table_id ≡ L.table.calls) × (0 < table.now.shared.table_id.words) }
     requires callable { F.IsAlwaysCallable f }
     ensures lent { (engine : _) × IsEngineOf L.seats engine.now × HasReceiptsIn engine.now seat.old ×
         F.post f engine result }

@@ -2,20 +2,20 @@
 use std::marker::Brand;
 
 /// Names one latch, so that a seat is its latch's by its type. Each call of a program picks it, as
-/// [`Brand`] with the table and the seats of a [`crate::Blank`].
+/// [`Brand`] with the tables and the seats of a [`crate::Blank`].
 pub trait LatchName {
     ghost use Rattle.std.specs.Prelude.{ℕ};
-    ghost use Rattle.atomic_table.specs.Seated.{TableId};
+    ghost use Rattle.am_latch.specs.Tables.{LatchTables};
 
-    ghost table: { TableId };
+    ghost table: { LatchTables };
 
     ghost seats: { ℕ };
 }
 
 impl LatchName for Brand {
-    ghost use Rattle.am_latch.specs.Tables.{no_table};
+    ghost use Rattle.am_latch.specs.Tables.{no_tables};
 
-    ghost table = { no_table };
+    ghost table = { no_tables };
 
     ghost seats = { 0 };
 }

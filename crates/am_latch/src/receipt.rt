@@ -5,8 +5,8 @@ ghost use Rattle.std.specs.Prelude.{◌≡◌};
 use am_record::{Reply, Step};
 use std::marker::Model;
 
-/// One call of a seat: the step and its reply, and where the pair stands in the trace.
-#[derive(Drop)]
+/// One call of a seat: the step and its reply, and where the pair stands in the trace. No value of it is made: the pair is
+/// stored in the trace alone, and a seat keeps the position.
 pub struct Receipt {
     pub seat: u64,
     /// The calls of a seat are numbered from 0.

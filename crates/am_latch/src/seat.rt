@@ -7,16 +7,16 @@ ghost use Rattle.am_record.specs.declared.step.Refusal.TheVariants.{SeatFull};
 ghost use Rattle.am_latch.specs.Changes.{end_of, is_stored, open_after};
 ghost use Rattle.am_latch.specs.Changes.{IsBoundedReply};
 ghost use Rattle.am_latch.specs.Receipts.{SeatState, new_seat, HasReceiptOf, receipts_of, moved_in, last_commit_of};
+ghost use Rattle.am_latch.specs.Receipts.{held_by, positions_of, AreBehind};
 ghost use Rattle.am_latch.specs.Ties.{open_of, EndsTx, receipts_needed};
 ghost use Rattle.am_latch.specs.Traces.{StoresCall};
 ghost use Rattle.am_latch.specs.Views.{seat_view, trace_view, log_in_view, IsTraceView};
 
 use crate::change::{Change, change_by, commit_by, moved_by, tx_to_end, was_stored};
-use crate::engine::copies_for;
 use crate::latch::Latch;
 use crate::latch_name::LatchName;
-use crate::receipt::{CallId, CommitReceipt, Receipt};
-use crate::room::copy_reply;
+use crate::receipt::{CallId, CommitReceipt};
+use crate::room::copy_step;
 use crate::state::LatchState;
 use crate::view_steps::compare_receipts;
 use crate::views::{Token, ViewTable};
@@ -27,12 +27,19 @@ use std::sync::Wait;
 
 const MOST_RECEIPTS: usize = 1_000_000;
 
-/// Makes calls through a latch, and has their receipts.
+/// So many receipts let go are the most after which more are.
+const MOST_LET_GO: u64 = 100_000_000_000_000;
+
+/// Makes calls through a latch, and has their receipts: it keeps the position of each in the trace, until it is let go.
 #[derive(Drop)]
 pub struct Seat<L: LatchName> {
     number: u64,
-    receipts: Vec<Receipt>,
+    /// Where the calls stand in the trace whose receipts weren't let go.
+    positions: Vec<u64>,
+    /// How many receipts were let go.
+    let_go: u64,
     open_now: Option<u64>,
+    last_commit: Option<u64>,
     /// How many entries the receipts say were moved.
     moved: u64,
     token: Token,
@@ -48,20 +55,22 @@ impl<L: LatchName> Model for Seat<L> {
 
     ghost coded = { seat_state_code };
 
-    ghost view = { λ s. seat_state s.number s.receipts.items };
+    ghost view = { λ s. seat_state s.number s.token.me.0.receipts s.let_go };
 
-    ghost invariant = { IsSeat L.table L.seats };
+    ghost invariant = { IsSeat L.table.calls L.seats };
 }
 
 impl<L: LatchName> Seat<L> {
     pub(crate) fn new(alloc: Global, number: u64, token: Token) -> Seat<L>
-        requires { (token.table_id ≡ L.table) × (token.me ≡ (seat_view number [], [])) × (number < L.seats) }
+        requires { (token.table_id ≡ L.table.calls) × (token.me ≡ (seat_view number [], [])) × (number < L.seats) }
         ensures { result ≡ new_seat number }
     {
         Seat {
             number,
-            receipts: Vec::new(alloc),
+            positions: Vec::new(alloc),
+            let_go: 0,
             open_now: None,
+            last_commit: None,
             moved: 0,
             token,
             alloc,
@@ -76,11 +85,32 @@ impl<L: LatchName> Seat<L> {
         self.number
     }
 
-    /// A receipt for each stored call of this seat, in their order.
-    pub fn receipts(&self) -> &[Receipt]
-        ensures { result.now ≡ self.now.receipts }
+    /// Where this seat's stored calls stand in the trace, in their order, but for those whose receipts were let go.
+    pub fn positions(&self) -> &[u64]
+        ensures { AreBehind self.now.let_go (positions_of self.now.receipts) result.now }
     {
-        self.receipts.as_slice()
+        self.positions.as_slice()
+    }
+
+    /// How many receipts were let go. The calls of the others are numbered from there.
+    pub fn count_let_go(&self) -> u64
+        ensures { result ≡ self.now.let_go }
+    {
+        self.let_go
+    }
+
+    /// Lets all receipts go that are held: contracts know of them as before, and their memory serves the next ones. Past
+    /// 10^14 of them nothing happens.
+    pub fn let_go(&mut self)
+        ensures same { (self.new.number ≡ self.old.number) × (self.new.receipts ≡ self.old.receipts) }
+        ensures gone { self.old.let_go ≤ 100000000000000 → self.new.let_go ≡ length self.old.receipts }
+        ensures kept { 100000000000000 < self.old.let_go → self.new ≡ self.old }
+    {
+        if self.let_go > MOST_LET_GO {
+            return;
+        }
+        self.let_go += self.positions.len() as u64;
+        self.positions.clear();
     }
 
     /// The transaction that this seat has begun and not ended.
@@ -94,15 +124,14 @@ impl<L: LatchName> Seat<L> {
     pub fn last_commit(&self) -> Option<CommitReceipt>
         ensures { result ≡ last_commit_of self.now.receipts }
     {
-        let receipt = self.receipts.last()?;
-        let commit = commit_by(&receipt.reply)?;
+        let commit = self.last_commit?;
         Some(CommitReceipt { commit })
     }
 
     /// How many entries the receipts say were moved.
     pub fn moved(&self) -> u64
         ensures moved { result ≡ moved_in self.now.receipts }
-        ensures few { result ≤ 64000064 }
+        ensures few { result ≤ 9007199254740992 }
     {
         self.moved
     }
@@ -117,12 +146,12 @@ impl<L: LatchName> Seat<L> {
     pub fn call<R: Wait>(&mut self, rt: &R, latch: &Latch<L>, step: Step) -> Reply
         requires { IsAllowed (open_of self.old.receipts) step }
         ensures called { HasReceiptOf self.old step result self.new }
-        ensures full { (result ≡ Refused SeatFull) ↔ ((1000000 ≤ length self.old.receipts) × (end_of step ≡ None)) }
+        ensures full { (result ≡ Refused SeatFull) ↔ ((1000000 ≤ held_by self.old) × (end_of step ≡ None)) }
         ensures ended { EndsTx step result }
         ensures neither { IsSome (end_of step) → is_stored result ≡ true }
         ensures bounded { IsBoundedReply step result }
     {
-        if self.receipts.len() >= MOST_RECEIPTS && tx_to_end(&step).is_none() {
+        if self.positions.len() >= MOST_RECEIPTS && tx_to_end(&step).is_none() {
             return Reply::Refused(Refusal::SeatFull);
         }
         self.call_under(&latch.table, &mut latch.lock(rt), step)
@@ -130,9 +159,9 @@ impl<L: LatchName> Seat<L> {
 
     // Takes a step under the latch.
     fn call_under(&mut self, table: &ViewTable, state: &mut LatchState<L>, step: Step) -> Reply
-        requires table { (table.now.shared.table_id ≡ L.table) × (0 < table.now.shared.table_id.words) }
+        requires table { (table.now.shared.table_id ≡ L.table.calls) × (0 < table.now.shared.table_id.words) }
         requires may { IsAllowed (open_of self.old.receipts) step }
-        requires room { end_of step ≡ None → length self.old.receipts < 1000000 }
+        requires room { end_of step ≡ None → held_by self.old < 1000000 }
         ensures called { HasReceiptOf self.old step result self.new }
         ensures never_full { result ≢ Refused SeatFull }
         ensures ended { EndsTx step result }
@@ -141,37 +170,32 @@ impl<L: LatchName> Seat<L> {
             result state.new }
     {
         let receipts_needed = places_for(self.open_now, &step);
-        if !get_places(&mut self.receipts, receipts_needed) {
+        if !get_places(&mut self.positions, receipts_needed) {
             return Reply::Refused(Refusal::NoMemory);
         }
-        let Some((kept, rows)) = copies_for(self.alloc, &step) else {
+        let Ok(kept) = copy_step(self.alloc, &step) else {
             return Reply::Refused(Refusal::NoMemory);
         };
         let call_id = CallId {
             seat: self.number,
-            call: self.receipts.len() as u64,
+            call: self.let_go + self.positions.len() as u64,
         };
-        let position = state.len() as u64;
+        let position = state.len();
         let reply = state.call(table, &mut self.token, call_id, step, &kept);
         if !was_stored(&reply) {
             return reply;
         }
         self.open_now = open_after(self.open_now, change_by(&kept, &reply));
+        self.last_commit = commit_by(&reply);
         self.moved += moved_by(&reply);
-        self.receipts.push_reserved(Receipt {
-            seat: call_id.seat,
-            call: call_id.call,
-            step: kept,
-            reply: copy_reply(self.alloc, &reply, rows),
-            position,
-        });
+        self.positions.push_reserved(position);
         reply
     }
 
     /// The receipts are just those of this seat's calls in the trace.
     pub(crate) fn audit(&mut self, table: &ViewTable, trace_token: Token) -> Token
-        requires table { (table.now.shared.table_id ≡ L.table) × (0 < table.now.shared.table_id.words) }
-        requires trace_token { (trace_token.table_id ≡ L.table) × IsTraceView trace_token.me.0 ×
+        requires table { (table.now.shared.table_id ≡ L.table.calls) × (0 < table.now.shared.table_id.words) }
+        requires trace_token { (trace_token.table_id ≡ L.table.calls) × IsTraceView trace_token.me.0 ×
             (trace_token.me.1 ≡ []) }
         ensures same { (self.new ≡ self.old) × (result.table_id ≡ trace_token.table_id) × (result.me ≡ trace_token.me) }
         ensures known { self.old.receipts ≡ receipts_of self.old.number (log_in_view trace_token.me.0) }
@@ -181,14 +205,14 @@ impl<L: LatchName> Seat<L> {
 }
 
 // Room for so many receipts more.
-fn get_places(receipts: &mut Vec<Receipt>, receipts_needed: usize) -> bool
-    ensures same { receipts.new.items ≡ receipts.old.items }
-    ensures long { vec_len receipts.new ≡ vec_len receipts.old }
-    ensures kept { vec_capacity receipts.old ≤ vec_capacity receipts.new }
-    ensures got { result ≡ true → vec_len receipts.new + receipts_needed ≤ vec_capacity receipts.new }
-    ensures there { vec_len receipts.old + receipts_needed ≤ vec_capacity receipts.old → result ≡ true }
+fn get_places(positions: &mut Vec<u64>, receipts_needed: usize) -> bool
+    ensures same { positions.new.items ≡ positions.old.items }
+    ensures long { vec_len positions.new ≡ vec_len positions.old }
+    ensures kept { vec_capacity positions.old ≤ vec_capacity positions.new }
+    ensures got { result ≡ true → vec_len positions.new + receipts_needed ≤ vec_capacity positions.new }
+    ensures there { vec_len positions.old + receipts_needed ≤ vec_capacity positions.old → result ≡ true }
 {
-    receipts.reserve(receipts_needed).is_ok()
+    positions.reserve(receipts_needed).is_ok()
 }
 
 // How many receipts need room: that of the end of an open transaction too.

@@ -3,18 +3,22 @@ ghost use Rattle.std.specs.Prelude.{◌≡◌, ◌≢◌, ◌<◌, [], ◌∷◌
 ghost use Rattle.am_record.specs.Sessions.{IsAllowed};
 ghost use Rattle.am_record.specs.declared.step.Reply.TheVariants.{Refused};
 ghost use Rattle.am_record.specs.declared.step.Refusal.TheVariants.{SeatFull};
+ghost use Rattle.am_sound.specs.Right.{IsSoundStore};
 ghost use Rattle.am_latch.specs.Changes.{is_stored};
 ghost use Rattle.am_latch.specs.Changes.{IsBoundedReply};
-ghost use Rattle.am_latch.specs.Traces.{CallLog, log_of, empty_log, StoresCall, AreMadeBelow};
+ghost use Rattle.am_latch.specs.Traces.{CallLog, EngineState, log_of, empty_log, StoresCall, AreMadeBelow, IsNextOf};
 ghost use Rattle.am_latch.specs.Receipts.{receipt, receipts_of};
-ghost use Rattle.am_latch.specs.Ties.{open_of, EndsTx, IsTied};
+ghost use Rattle.am_latch.specs.Ties.{open_of, EndsTx, IsTied, IsEngineOf};
+ghost use Rattle.am_latch.specs.Taken.{handed_view};
 ghost use Rattle.am_latch.specs.Views.{trace_view, seat_view, IsSeatView};
 
 use crate::change::was_stored;
-use crate::engine::Engine;
+use crate::engine::{Engine, Piece};
 use crate::latch_name::LatchName;
 use crate::receipt::CallId;
 use crate::seat::Seat;
+use crate::taken::{TakenTable, TakenToken, TakenView, hand_over};
+use crate::taker::Taker;
 use crate::view_steps::{append_call, compare_receipts};
 use crate::views::{Token, View, ViewTable};
 use am_record::{Reply, Step};
@@ -22,11 +26,12 @@ use atomic_table::Badge;
 use std::marker::{Model, PhantomData};
 use std::mem;
 
-/// An engine, and the token that knows its trace.
+/// An engine, the token that knows its trace, and the one that knows what was handed out of it.
 #[derive(Drop)]
 pub(crate) struct LatchState<L: LatchName> {
     pub(crate) engine: Engine,
     pub(crate) trace_token: Badge<View>,
+    pub(crate) handed_token: Badge<TakenView>,
     pub(crate) of: PhantomData<L>,
 }
 
@@ -44,28 +49,52 @@ impl<L: LatchName> Model for LatchState<L> {
 }
 
 impl<L: LatchName> LatchState<L> {
-    pub(crate) fn new(engine: Engine, trace_token: Token) -> LatchState<L>
-        requires engine { log_of engine ≡ empty_log }
-        requires trace_token { (trace_token.table_id ≡ L.table) × (trace_token.me ≡ (trace_view empty_log, [])) }
+    pub(crate) fn new(engine: Engine, trace_token: Token, handed_token: TakenToken) -> LatchState<L>
+        requires engine { (log_of engine ≡ empty_log) × (engine.handed ≡ empty_log) }
+        requires trace_token { (trace_token.table_id ≡ L.table.calls) × (trace_token.me ≡ (trace_view empty_log, [])) }
+        requires handed_token { (handed_token.table_id ≡ L.table.handed) × (handed_token.me ≡ (handed_view [], [])) }
         ensures { result ≡ empty_log }
     {
         LatchState {
             engine,
             trace_token: trace_token.into_badge(),
+            handed_token: handed_token.into_badge(),
             of: PhantomData,
         }
     }
 
     /// How many pairs are stored.
-    pub(crate) fn len(&self) -> usize
+    pub(crate) fn len(&self) -> u64
         ensures { result ≡ length self.now.trace }
     {
-        self.engine.trace().len()
+        self.engine.len()
+    }
+
+    /// Hands out what the engine keeps. The taker's token knows of it, too.
+    pub(crate) fn hand_out(&mut self, table: &TakenTable, taker: &mut Taker<L>) -> Piece
+        requires { (table.now.shared.table_id ≡ L.table.handed) × (0 < table.now.shared.table_id.words) }
+        ensures same { self.new ≡ self.old }
+        ensures taken { taker.new ≡ taker.old ++ result.trace.items }
+        ensures next { (engine : EngineState) × IsEngineOf L.seats engine × IsSoundStore engine.trace ×
+            (engine.handed.trace ≡ taker.old) ×
+            IsNextOf engine result.first record { trace = result.trace.items; calls = result.calls.items } }
+    {
+        let _kept = self.engine.kept();
+        let piece = self.engine.hand_out();
+        let handed_token = mem::replace(&mut self.handed_token, Badge::blank()).into_seat();
+        self.handed_token = hand_over(
+            table,
+            &mut taker.token,
+            handed_token,
+            piece.trace.as_slice(),
+        )
+        .into_badge();
+        piece
     }
 
     /// The seat has just the receipts of its calls in the trace.
     pub(crate) fn audit(&mut self, table: &ViewTable, seat: &mut Seat<L>)
-        requires { (table.now.shared.table_id ≡ L.table) × (0 < table.now.shared.table_id.words) }
+        requires { (table.now.shared.table_id ≡ L.table.calls) × (0 < table.now.shared.table_id.words) }
         ensures same { (self.new ≡ self.old) × (seat.new ≡ seat.old) }
         ensures known { seat.old.receipts ≡ receipts_of seat.old.number self.old }
     {
@@ -82,8 +111,8 @@ impl<L: LatchName> LatchState<L> {
         step: Step,
         kept: &Step,
     ) -> Reply
-        requires table { (table.now.shared.table_id ≡ L.table) × (0 < table.now.shared.table_id.words) ×
-            (token.old.table_id ≡ L.table) }
+        requires table { (table.now.shared.table_id ≡ L.table.calls) × (0 < table.now.shared.table_id.words) ×
+            (token.old.table_id ≡ L.table.calls) }
         requires token { IsSeatView token.old.me.0 × (call_id.seat ≡ token.old.me.0.seat) × (call_id.seat < L.seats) }
         requires may { IsAllowed (open_of token.old.me.0.receipts) step }
         requires kept { kept.now ≡ step }
@@ -100,7 +129,7 @@ impl<L: LatchName> LatchState<L> {
     {
         let trace_token = mem::replace(&mut self.trace_token, Badge::blank()).into_seat();
         let trace_token = compare_receipts(table, token, trace_token);
-        let _calls = self.engine.calls();
+        let _calls = self.engine.kept_calls();
         let reply = self.engine.step(call_id, step);
         if !was_stored(&reply) {
             self.trace_token = trace_token.into_badge();

@@ -1,6 +1,6 @@
 //! All sessions, and the workers beside them.
 
-ghost use Rattle.std.specs.Prelude.{◌≡◌, ◌≤◌, ◌+◌, ◌++◌, IfOk, All, length, vec_len, vec_capacity};
+ghost use Rattle.std.specs.Prelude.{◌≡◌, ◌≤◌, ◌+◌, [], ◌++◌, IfOk, All, length, vec_len, vec_capacity};
 ghost use Rattle.std.specs.List.{AllZip};
 ghost use Rattle.am_workers.specs.Turns.{HasTakenTurns};
 ghost use Rattle.am_latch.specs.Receipts.{AreAll};
@@ -10,7 +10,7 @@ ghost use Rattle.am_listen.specs.ServerRuns.{session_seat_numbers, latch_seats};
 use crate::acceptor::Acceptor;
 use crate::pacer::MergePacer;
 use crate::sessions::serve_next;
-use am_latch::{Blank, Latch, LatchName, Seat, close};
+use am_latch::{Blank, Latch, LatchName, Seat, Taker, close};
 use am_record::{HashKey, NoMemory, Reply, Step};
 use am_seating::SessionSeat;
 use am_words::{WordSeat, Words};
@@ -114,12 +114,18 @@ fn take_seats<'a, L: LatchName>(all: &mut Vec<Seat<L>>, session_seats: Vec<Sessi
     }
 }
 
-// Closes the latch, of which these are all seats, and tells the run that they made.
-fn close_all<L: LatchName>(latch: Latch<L>, seats: Vec<Seat<L>>, accepted_all: bool) -> ServerRun
-    requires { AreAll L.seats seats.items }
+// Closes the latch, of which these are all seats and nothing was handed out, and tells the run that they made.
+fn close_all<L: LatchName>(
+    latch: Latch<L>,
+    seats: Vec<Seat<L>>,
+    taker: Taker<L>,
+    accepted_all: bool,
+) -> ServerRun
+    requires seats { AreAll L.seats seats.items }
+    requires taker { taker ≡ [] }
     ensures { IsRunOf seats.items result }
 {
-    let Ok(closed) = close(latch, seats) else {
+    let Ok(closed) = close(latch, seats, taker) else {
         unreachable!()
     };
     ServerRun {
@@ -143,7 +149,7 @@ pub(crate) fn run<L: LatchName + Send + Sync, R: Threads + Wait + Sync>(
     requires word_seats { All (λ h. h.of ≡ words.now) word_seats.items }
     ensures { IfOk result IsSoundRun }
 {
-    let Ok((latch, seats)) = Latch::<L>::open(blank, hash) else {
+    let Ok((latch, seats, taker)) = Latch::<L>::open(blank, hash) else {
         return Err(NoMemory);
     };
     let mut all = Vec::new(alloc);
@@ -167,5 +173,5 @@ pub(crate) fn run<L: LatchName + Send + Sync, R: Threads + Wait + Sync>(
     let Ok(()) = all.append(&mut worked) else {
         unreachable!()
     };
-    Ok(close_all(latch, all, !acceptor.into_inner().has_failed()))
+    Ok(close_all(latch, all, taker, !acceptor.into_inner().has_failed()))
 }

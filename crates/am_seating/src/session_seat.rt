@@ -1,6 +1,6 @@
 //! The seats of one session at the server.
 
-ghost use Rattle.std.specs.Prelude.{◌≡◌, ℕ, Some};
+ghost use Rattle.std.specs.Prelude.{◌≡◌, ◌≤◌, ℕ, Some, length};
 ghost use Rattle.am_latch.specs.Receipts.{last_commit_of};
 ghost use Rattle.am_seating.specs.SessionSeats.{published, seat_meaning, HasDrawn};
 
@@ -68,6 +68,16 @@ impl<'a, L: LatchName> SessionSeat<'a, L> {
             }
             None => false,
         }
+    }
+
+    /// Lets the receipts of the latch's seat go: contracts know of them as before. Past 10^14 of them nothing happens.
+    pub fn let_go(&mut self)
+        ensures same { (self.new.number ≡ self.old.number) × (self.new.word_seat ≡ self.old.word_seat) ×
+            (self.new.seat.number ≡ self.old.seat.number) × (self.new.seat.receipts ≡ self.old.seat.receipts) }
+        ensures gone { self.old.seat.let_go ≤ 100000000000000 →
+            self.new.seat.let_go ≡ length self.old.seat.receipts }
+    {
+        self.seat.let_go();
     }
 
     /// The seat of the latch, with its receipts.

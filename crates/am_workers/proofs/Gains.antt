@@ -46,6 +46,18 @@ same limit n s t u h e = record {
   open_tx = ap (λ (v : SeatState). open_of v.receipts) e ∙ h.open_tx;
 }
 
+-- a seat that lets receipts go keeps them in what contracts see
+pub let_go : (limit n : ℕ) (s t u : SeatState) → HasTakenTurns limit n s t → u.number ≡ t.number →
+    u.receipts ≡ t.receipts → HasTakenTurns limit n s u
+let_go limit n s t u h number receipts = record {
+  number = number ∙ h.number;
+  more = h.more;
+  longer = receipts ∙ h.longer;
+  few = h.few;
+  merges = h.merges;
+  open_tx = ap open_of receipts ∙ h.open_tx;
+}
+
 either_way : (limit n : ℕ) (s t u : SeatState) (r : Reply) (b : Bool) → HasTakenTurns limit n s t →
     MatchBool b (GetsReceipt t (Merge limit) r u) (u ≡ t) → HasTakenTurns limit (n + 1) s u
 either_way limit n s t u r true h c = received limit n s t u r h c

@@ -7,7 +7,7 @@ use am_latch::{Latch, LatchName, Seat};
 use am_record::{Refusal, Reply, Step};
 use std::sync::Wait;
 
-/// Takes a worker's turns.
+/// Takes a worker's turns. Receipts are let go one turn later.
 pub(crate) fn take_turns<L: LatchName, R: Wait, G: Pacer>(
     rt: &R,
     latch: &Latch<L>,
@@ -23,6 +23,7 @@ pub(crate) fn take_turns<L: LatchName, R: Wait, G: Pacer>(
         if !pacer.await_turn(rt, worker, turn) {
             return;
         }
+        seat.let_go();
         let reply = seat.call(rt, latch, Step::Merge(limit));
         if let Reply::Refused(Refusal::SeatFull) = reply {
             return;

@@ -19,8 +19,9 @@ pub struct WorkerSeats<L: LatchName> {
 }
 
 /// Lets each seat take at most so many turns, in a thread of its own, and returns when all have ended. In each turn
-/// the worker waits for the pacer, and then calls `Merge(limit)` once. It ends after its turns, where the pacer answers
-/// false, and where its seat is full; a turn that is refused memory is used up.
+/// the worker waits for the pacer, and then calls `Merge(limit)` once. It lets the receipts of the turns before go, so its
+/// seat is not full before 10^14 turns. It ends after its turns, where the pacer answers false, and where its
+/// seat is full; a turn that is refused memory is used up.
 ///
 /// A seat whose thread can't be started has its turns on another's thread or the caller's. A latch has at most 1,024
 /// seats; of a longer list the others would have no turns.

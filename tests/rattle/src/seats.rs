@@ -1,7 +1,7 @@
 //! Seats of one latch.
 
 use am_audit::check;
-use am_latch::{Blank, Latch, LatchName, Seat, close, was_refused};
+use am_latch::{Blank, Latch, LatchName, Seat, Taker, close, was_refused};
 use am_record::{HashKey, Key, Op, Refusal, Reply, Step, Value};
 use std::alloc::Global;
 use std::marker::Brand;
@@ -48,14 +48,11 @@ fn by_two_threads<L: LatchName + Send + Sync, R: Threads + Wait + Abort + Sync>(
     alloc: Global,
     blank: Blank,
 ) -> Result<(), Fail> {
-    let (latch, mut seats) = Latch::<L>::open(blank, HashKey::known())?;
+    let (latch, mut seats, taker) = Latch::<L>::open(blank, HashKey::known())?;
     let second = seats.pop().ok_or("no seat")?;
     let mut first = seats.pop().ok_or("no seat")?;
     let shared = &latch;
-    assert_eq!(rt;
-        shared.look(rt, &mut first, |engine| engine.trace().len()),
-        0
-    );
+    assert_eq!(rt; shared.look(rt, &mut first, |engine| engine.len()), 0);
     let ((mut first, one), (second, other)) = thread::join(
         rt,
         move || insert_all(rt, shared, first, 0),
@@ -69,14 +66,14 @@ fn by_two_threads<L: LatchName + Send + Sync, R: Threads + Wait + Abort + Sync>(
     );
     seats.push(first)?;
     seats.push(second)?;
-    let Ok(closed) = close(latch, seats) else {
+    let Ok(closed) = close(latch, seats, taker) else {
         panic!(rt; "all seats are there")
     };
     assert_eq!(rt; closed.trace.len(), 600);
     assert_eq!(rt; closed.store.commits(), 200);
     assert!(rt; check(alloc, &closed.trace) == Ok(200));
     for seat in &closed.seats {
-        assert_eq!(rt; seat.receipts().len(), 300);
+        assert_eq!(rt; seat.positions().len(), 300);
         assert!(rt; seat.last_commit().is_some());
     }
     Ok(())
@@ -88,15 +85,15 @@ fn two_seats_on_two_threads(rt: HostRuntime) -> Result<(), Fail> {
 }
 
 fn without_one<L: LatchName, R: Abort>(rt: &R, blank: Blank) -> Result<(), Fail> {
-    let (latch, mut seats) = Latch::<L>::open(blank, HashKey::known())?;
+    let (latch, mut seats, taker) = Latch::<L>::open(blank, HashKey::known())?;
     let second = seats.pop().ok_or("no seat")?;
-    let Err(missing) = close(latch, seats) else {
+    let Err(missing) = close(latch, seats, taker) else {
         panic!(rt; "a seat is missing")
     };
     let mut seats = missing.seats;
     assert_eq!(rt; seats.len(), 1);
     seats.push(second)?;
-    let Ok(closed) = close(missing.latch, seats) else {
+    let Ok(closed) = close(missing.latch, seats, missing.taker) else {
         panic!(rt; "all seats are there")
     };
     assert_eq!(rt; closed.trace.len(), 0);
@@ -115,7 +112,7 @@ fn begun_by_all<L: LatchName, R: Wait + Abort>(
     alloc: Global,
     blank: Blank,
 ) -> Result<Vec<Reply>, Fail> {
-    let (latch, seats) = Latch::<L>::open(blank, HashKey::known())?;
+    let (latch, seats, _taker) = Latch::<L>::open(blank, HashKey::known())?;
     let mut replies = Vec::new(alloc);
     for mut seat in seats {
         if seat.open_tx().is_none() {
@@ -134,4 +131,137 @@ fn sixty_five_seats_of_one_latch(rt: HostRuntime) -> Result<(), Fail> {
     assert!(rt; replies[63] == Reply::Begun(64));
     assert!(rt; replies[64] == Reply::Refused(Refusal::TooManyTx));
     Ok(())
+}
+
+// What is handed out and then what is kept are the whole trace; a call behind both stands where it did.
+fn in_pieces<L: LatchName, R: Wait + Abort>(
+    rt: &R,
+    alloc: Global,
+    blank: Blank,
+) -> Result<(), Fail> {
+    let (latch, mut seats, mut taker) = Latch::<L>::open(blank, HashKey::known())?;
+    let mut seat = seats.pop().ok_or("no seat")?;
+    assert!(rt; inserts(rt, &latch, &mut seat, 1));
+    assert!(rt; !was_refused(&seat.call(rt, &latch, Step::Begin)));
+    let tx = seat.open_tx().ok_or("no transaction")?;
+    let first = latch.hand_out(rt, &mut taker);
+    assert_eq!(rt; first.first, 0);
+    assert_eq!(rt; first.trace.len(), 4);
+    assert_eq!(rt; first.calls.len(), 4);
+    let none = latch.hand_out(rt, &mut taker);
+    assert_eq!(rt; none.first, 4);
+    assert_eq!(rt; none.trace.len(), 0);
+    seat.let_go();
+    assert_eq!(rt; seat.positions().len(), 0);
+    assert_eq!(rt;
+        seat.call(rt, &latch, Step::Commit(tx)),
+        Reply::Committed(2)
+    );
+    assert_eq!(rt; seat.count_let_go(), 4);
+    assert_eq!(rt; seat.positions().first().copied(), Some(4));
+    assert!(rt; seat.last_commit().is_some());
+    assert_eq!(rt;
+        latch.look(rt, &mut seat, |engine| (engine.len(), engine.kept().len())),
+        (5, 1)
+    );
+    let Ok(closed) = close(latch, vec![in alloc; seat]?, taker) else {
+        panic!(rt; "all seats are there")
+    };
+    assert_eq!(rt; closed.trace.len(), 1);
+    let mut whole = first.trace;
+    let mut rest = closed.trace;
+    whole.append(&mut rest)?;
+    assert!(rt; check(alloc, &whole) == Ok(2));
+    Ok(())
+}
+
+#[test]
+fn a_trace_in_pieces(rt: HostRuntime) -> Result<(), Fail> {
+    in_pieces::<Brand, HostRuntime>(&rt, rt.alloc(), Blank::new(rt.alloc(), 1)?)
+}
+
+// What so many pieces have, one behind another. Whether each began where the one before it ended.
+fn take_pieces<L: LatchName, R: Wait>(
+    rt: &R,
+    alloc: Global,
+    latch: &Latch<L>,
+    mut taker: Taker<L>,
+) -> (Taker<L>, Vec<(Step, Reply)>, bool) {
+    let mut taken = Vec::new(alloc);
+    let mut fine = true;
+    for _ in 0..100 {
+        let mut piece = latch.hand_out(rt, &mut taker);
+        fine = fine
+            & (piece.first == taken.len() as u64)
+            & (piece.calls.len() == piece.trace.len());
+        fine = fine & taken.append(&mut piece.trace).is_ok();
+        thread::yield_now();
+    }
+    (taker, taken, fine)
+}
+
+fn beside_two_seats<L: LatchName + Send + Sync, R: Threads + Wait + Abort + Sync>(
+    rt: &R,
+    alloc: Global,
+    blank: Blank,
+) -> Result<(), Fail> {
+    let (latch, mut seats, taker) = Latch::<L>::open(blank, HashKey::known())?;
+    let second = seats.pop().ok_or("no seat")?;
+    let first = seats.pop().ok_or("no seat")?;
+    let shared = &latch;
+    let ((taker, mut taken, whole), ((first, one), (second, other))) = thread::join(
+        rt,
+        move || take_pieces(rt, alloc, shared, taker),
+        move || {
+            thread::join(
+                rt,
+                move || insert_all(rt, shared, first, 0),
+                move || insert_all(rt, shared, second, 100),
+            )
+        },
+    );
+    assert!(rt; whole & one & other);
+    seats.push(first)?;
+    seats.push(second)?;
+    let Ok(mut closed) = close(latch, seats, taker) else {
+        panic!(rt; "all seats are there")
+    };
+    taken.append(&mut closed.trace)?;
+    assert_eq!(rt; taken.len(), 600);
+    assert!(rt; check(alloc, &taken) == Ok(200));
+    Ok(())
+}
+
+#[test]
+fn a_taker_beside_two_seats(rt: HostRuntime) -> Result<(), Fail> {
+    beside_two_seats::<Brand, HostRuntime>(&rt, rt.alloc(), Blank::new(rt.alloc(), 2)?)
+}
+
+// How a seat is answered that holds its most receipts, its transaction open, and then once it let them go.
+fn filled<L: LatchName, R: Wait + Abort>(rt: &R, blank: Blank) -> Result<(), Fail> {
+    let (latch, mut seats, _taker) = Latch::<L>::open(blank, HashKey::known())?;
+    let mut seat = seats.pop().ok_or("no seat")?;
+    assert!(rt; !was_refused(&seat.call(rt, &latch, Step::Begin)));
+    let tx = seat.open_tx().ok_or("no transaction")?;
+    for _ in 0..999_999 {
+        seat.call(rt, &latch, Step::Merge(16));
+    }
+    let full = seat.call(rt, &latch, Step::Merge(16));
+    assert_eq!(rt; full, Reply::Refused(Refusal::SeatFull));
+    seat.let_go();
+    assert_eq!(rt; seat.call(rt, &latch, Step::Merge(16)), Reply::Idle);
+    assert_eq!(rt;
+        seat.call(rt, &latch, Step::Commit(tx)),
+        Reply::Committed(1)
+    );
+    assert_eq!(rt; seat.positions().len(), 2);
+    assert_eq!(rt; seat.count_let_go(), 1_000_000);
+    Ok(())
+}
+
+// A full seat takes calls again, once it let its receipts go.
+// (long)
+#[test]
+fn a_full_seat_lets_go(rt: HostRuntime) -> Result<(), Fail> {
+    filled::<Brand, HostRuntime>(&rt, Blank::new(rt.alloc(), 1)?)
 }

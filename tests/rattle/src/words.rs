@@ -76,7 +76,7 @@ fn beside_the_latch<L: LatchName + Send + Sync, R: Threads + Wait + Clock + Sync
     words: &Words,
     word_seat: &mut WordSeat,
 ) -> Result<(Option<u64>, u64, bool), Fail> {
-    let (latch, mut seats) = Latch::<L>::open(blank, HashKey::known())?;
+    let (latch, mut seats, _taker) = Latch::<L>::open(blank, HashKey::known())?;
     let seat = seats.pop().ok_or("no seat")?;
     let shared = &latch;
     let signals = Signals {
@@ -121,7 +121,7 @@ fn publishes_the_third<L: LatchName, R: Wait + Abort>(
     word_seat: &mut WordSeat,
     other: &mut WordSeat,
 ) -> Result<(u64, u64, u64), Fail> {
-    let (latch, mut seats) = Latch::<L>::open(blank, HashKey::known())?;
+    let (latch, mut seats, _taker) = Latch::<L>::open(blank, HashKey::known())?;
     let mut seat = seats.pop().ok_or("no seat")?;
     for _ in 0..3 {
         assert!(rt; commits(rt, &latch, &mut seat));

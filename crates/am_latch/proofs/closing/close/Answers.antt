@@ -1,6 +1,7 @@
 use Rattle.std.proofs.Common.{rules, ap, sym, ◌≡◌, ◌∙◌, subst, length, ℕ, List, take, drop, ◌++◌}
 use Rattle.am_serial.specs.Trace.{Trace}
 use Rattle.am_serial.specs.Legal.{IsLegal}
+use Rattle.am_core.specs.Standing.{IsSoundAt}
 use Rattle.am_latch.specs.Traces.{CallLog, log_of}
 use Rattle.am_latch.specs.Receipts.{SeatState, AreAll, HaveReceiptsIn, AreReceiptsOf, NumberedBelow}
 use Rattle.am_latch.specs.Views.{log_in_view}
@@ -8,13 +9,24 @@ use Rattle.am_latch.proofs.Keeping.{kept, whole_again}
 use Rattle.am_latch.specs.Changes.{active_in_trace}
 use Rattle.am_latch.specs.Ties.{SeatsAreTied}
 use Rattle.am_latch.proofs.Opens.{open_is}
-use Rattle.am_latch.proofs.Holding.{only}
+use Rattle.am_latch.specs.declared.taken.TakenView.{TakenView}
+use Rattle.am_latch.proofs.Holding.{only, only_taken}
+use Rattle.am_latch.proofs.closing.close.Given.{Over}
 use Rattle.am_latch.proofs.closing.close.Goals as goal
+
+-- what was taken is what was handed out, and what is kept stands behind it
+whole_trace : (g : Over) (c : goal.After-drop-table g) →
+    c.args.taker ++ c.into_parts-trace.result.0.items ≡ c.engine.inside.engine.trace
+whole_trace g c =
+    let handed_token = only_taken _ _ (sym c.into_seat.ensures.2 ∙ c.engine.invariant.handed) in
+    let took : c.args.taker ≡ c.engine.inside.engine.handed.trace = sym c.taker.view_is ∙ c.hand_over.ensures.agree ∙
+    ap (λ (v : TakenView). v.handed) handed_token in
+    ap (λ (l : Trace). l ++ c.into_parts-trace.result.0.items) took ∙ c.into_parts-trace.ensures.trace
 
 pub returns-clause-kept : goal.returns-clause-kept
 returns-clause-kept g c =
     let e = log_of c.engine.inside.engine in
-    let trace_token = only _ _ (sym c.into_seat.ensures.2 ∙ c.engine.invariant.knows) in
+    let trace_token = only _ _ (sym c.into_seat-2.ensures.2 ∙ c.engine.invariant.knows) in
     let old : c.as_mut_slice.result.now ≡ c.args.seats.items = c.as_mut_slice.ensures.value in
     let known : HaveReceiptsIn e c.args.seats.items (length c.args.seats.items) =
     subst (λ (l : List SeatState). HaveReceiptsIn e l (length l)) old
@@ -31,13 +43,13 @@ returns-clause-kept g c =
           (c.in_order.ensures.0 c.if-not-in_order.false)),
     ) in
     subst (λ (y : List SeatState × Trace). AreReceiptsOf y.0 y.1)
-    (λ j. (sym whole j, sym c.into_parts-trace.ensures.trace j))
+    (λ j. (sym whole j, sym (whole_trace g c) j))
     (kept e g.L.LatchName.seats c.args.seats.items c.into_parts-trace.ensures.even c.engine.invariant.made all known)
 
 pub returns-clause-open_txs : goal.returns-clause-open_txs
 returns-clause-open_txs g c =
     let e = log_of c.engine.inside.engine in
-    let trace_token = only _ _ (sym c.into_seat.ensures.2 ∙ c.engine.invariant.knows) in
+    let trace_token = only _ _ (sym c.into_seat-2.ensures.2 ∙ c.engine.invariant.knows) in
     let old : c.as_mut_slice.result.now ≡ c.args.seats.items = c.as_mut_slice.ensures.value in
     let known : HaveReceiptsIn e c.args.seats.items (length c.args.seats.items) =
     subst (λ (l : List SeatState). HaveReceiptsIn e l (length l)) old
@@ -58,11 +70,14 @@ returns-clause-open_txs g c =
     (open_is e g.L.LatchName.seats c.args.seats.items c.engine.invariant.made all known c.engine.invariant.tied)
 
 pub returns-clause-active : goal.returns-clause-active
-returns-clause-active g c = c.into_parts-trace.ensures.active ∙
-    ap active_in_trace (sym c.into_parts-trace.ensures.trace)
+returns-clause-active g c = c.into_parts-trace.ensures.active ∙ ap active_in_trace (sym (whole_trace g c))
+
+pub returns-clause-stands : goal.returns-clause-stands
+returns-clause-stands g c = subst (λ (l : Trace). IsSoundAt l c.into_parts-trace.result.1) (sym (whole_trace g c))
+    c.into_parts-trace.ensures.stands
 
 pub returns-clause-legal : goal.returns-clause-legal
-returns-clause-legal g c = subst IsLegal (sym c.into_parts-trace.ensures.trace)
+returns-clause-legal g c = subst IsLegal (sym (whole_trace g c))
     (c.sound_traces_are_legal.ensures _ c.into_parts-trace.ensures.stands.sound.sound)
 
 pub returns-clause-all : goal.returns-clause-all

@@ -51,8 +51,8 @@ unreachable-requires g c =
       c.join-worked.result.0.seats.ok,
     )
 
-pub close_all-requires : goal.close_all-requires
-close_all-requires g c =
+pub close_all-requires-clause-seats : goal.close_all-requires-clause-seats
+close_all-requires-clause-seats g c =
     let back = all_back 16 1000000 c.in_ok-session_seats.session_seats.items c.join-worked.result.1.items
     c.in_ok-session_seats.worker_seats.items c.join-worked.result.0.seats.items c.in-Ok.seats.items
     c.join-worked.ensures.second c.join-worked.ensures.first c.in_ok-session_seats.ensures.seats in

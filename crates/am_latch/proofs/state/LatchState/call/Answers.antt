@@ -4,6 +4,7 @@ use Rattle.am_latch.specs.declared.receipt.Receipt.{Receipt}
 use Rattle.am_latch.specs.Traces.{CallLog, log_of, log_with, AreMadeBelow}
 use Rattle.am_latch.specs.Receipts.{receipts_of}
 use Rattle.am_latch.specs.Ties.{open_of, open_in, IsTied}
+use Rattle.am_latch.specs.Taken.{handed_view}
 use Rattle.am_latch.specs.Views.{trace_view, log_in_view}
 use Rattle.am_latch.specs.declared.views.View.{View}
 use Rattle.am_latch.proofs.Holding.{grown, below-snoc, only}
@@ -51,13 +52,15 @@ invariant_of-self-2 g c =
     (λ j. receipts_of (sym c.requires.token.1 j) (log_in_view (trace_token j))) in
     let may : IsAllowed (open_in e c.args.call_id.seat) c.args.step =
     subst (λ (rs : List Receipt). IsAllowed (open_of rs) c.args.step) known c.requires.may in
-    let even : length e.calls ≡ length e.trace = sym (ap length c.calls-calls.ensures.calls) ∙
-    c.calls-calls.ensures.each in
+    let even : length e.calls ≡ length e.trace = c.kept_calls-calls.ensures.each in
     let entered = ap (λ m. m.0) c.append_call.ensures.trace_token in record {
       table_of = search rules;
       knows = c.into_badge-2.ensures.2 ∙ ap (λ (v : View). v ∷ [])
           (entered ∙ (λ j. trace_view (log_with (log_in_view (again j)) c.args.call_id (c.requires.kept j)
           c.step-reply.result)) ∙ ap trace_view (sym after));
+      handed_of = i.handed_of;
+      handed = i.handed ∙
+          ap (λ (d : CallLog). handed_view d.trace ∷ []) (sym c.step-reply.ensures.handed);
       made = subst (λ (d : CallLog). AreMadeBelow g.L.LatchName.seats d.calls) (sym after)
           (below-snoc _ _ _ i.made c.requires.token.2);
       tied = subst IsTied (sym after) (tied_more e c.args.call_id c.args.step c.step-reply.result even i.tied may

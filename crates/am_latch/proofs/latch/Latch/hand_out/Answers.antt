@@ -1,0 +1,4 @@
+use Rattle.am_latch.proofs.latch.Latch.hand_out.Goals as goal
+
+pub returns : goal.returns
+returns g c = record { taken = c.hand_out.ensures.taken; next = c.hand_out.ensures.next }
