@@ -6,11 +6,11 @@ _tiuvrokk_words() {
     amserve)
         case ${COMP_WORDS[1]-} in
         alone) echo '--auto --help' ;;
-        listen) echo '--port --sessions --workers --trace --stop --help' ;;
+        listen) echo '--port --sessions --workers --trace --stop --stay --grace --log --help' ;;
         *) echo 'alone listen help --help --version' ;;
         esac
         ;;
-    amaudit) echo '--records --help --version' ;;
+    amaudit) echo '--records --open --help --version' ;;
     amload) echo '--run --skip-empty --port --wait --help --version' ;;
     amdump) echo '--port --wait --help --version' ;;
     amcli) echo '--port --wait --store --raw --strict --history --help --version' ;;
@@ -23,7 +23,7 @@ _tiuvrokk() {
     local program=${1##*/} word=$2 before=$3
     COMPREPLY=()
     case $before in
-    --port | --sessions | --workers | --auto | --run | --wait | --log | --limit | --snapshot | --user) return ;;
+    --port | --sessions | --workers | --grace | --auto | --run | --wait | --log | --limit | --snapshot | --user) return ;;
     --reads) mapfile -t COMPREPLY < <(compgen -W 'log local' -- "$word") ;;
     --trace | --store | --history | --cacert | --cert | --key) mapfile -t COMPREPLY < <(compgen -f -- "$word") ;;
     *)

@@ -15,10 +15,12 @@ PROVED = {"am_alone": "lib/tiuvrokk/am_alone", "am_server": "lib/tiuvrokk/am_ser
 PYTHON_PROGRAMS = ["amload", "amdump", "amcli", "amdraw", "amreplica"]
 COMMANDS = ["amserve", "amaudit", *PYTHON_PROGRAMS]
 AMSERVE = """#!/bin/bash
-# Runs the proved program that the first word asks for: am_server for `listen`, and am_alone for all else.
+# Runs the proved program that the first word asks for: am_server for `listen`, and am_alone for all else. A server that stays is
+# held by what passes signals on to it.
 here=$(dirname "$(readlink -f "${BASH_SOURCE[0]}")")
-case ${1-} in
-listen) exec -a amserve "$here/am_server" "$@" ;;
+case "${1-} $* " in
+listen*' --stay '*) exec "$here/stay" "$here/am_server" "$@" ;;
+'listen '*) exec -a amserve "$here/am_server" "$@" ;;
 *) exec -a amserve "$here/am_alone" "$@" ;;
 esac
 """
@@ -90,6 +92,7 @@ def program_entries(programs: Dict[str, bytes]) -> List[Entry]:
     """The programs, of which those in Python and amserve look for the rest where they themselves lie."""
     entries = [Entry(PROVED[name], data, 0o755) for name, data in programs.items()]
     entries += [Entry("lib/tiuvrokk/amserve", AMSERVE.encode(), 0o755), Entry("lib/tiuvrokk/VERSION", bytes_of("VERSION"))]
+    entries += [Entry("lib/tiuvrokk/stay", bytes_of("tools/stay"), 0o755)]
     entries += [Entry(f"lib/tiuvrokk/{name}", bytes_of(name), 0o755) for name in PYTHON_PROGRAMS]
     entries += [Entry(f"bin/{name}", link=f"../lib/tiuvrokk/{name}") for name in ("amserve", *PYTHON_PROGRAMS)]
     return entries + package_entries("python/tiuvrokk_tools", "lib/tiuvrokk/python") + package_entries("replica", "lib/tiuvrokk")

@@ -1,3 +1,4 @@
 mod Torn
 mod Reading
 mod RecordLines
+mod WholeLines

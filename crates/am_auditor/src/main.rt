@@ -1,14 +1,15 @@
 //! The program `amaudit`: judges the text of a stored trace, or tells the records that it leaves.
 #![tactic(auto)]
 
+mod answer;
 mod judgement;
 mod records;
 
 use am_command::{Audited, OptionsFault, audited, words};
 use am_stack::hold_stack;
 use am_stream::Writing;
-use judgement::{Judgement, judge, say};
-use records::tell_records;
+use answer::answer;
+use judgement::{Judgement, say};
 use std::io::Read;
 use std::process::ExitCode;
 use std::rt::Files;
@@ -35,13 +36,7 @@ fn bytes<R: AllocGlobal + Files + Input>(rt: &R, file: Option<&str>) -> io::Resu
 fn audit<R: AllocGlobal + Files + Input + Print>(rt: &R, asked: &Audited<'_>) -> ExitCode {
     let mut sink = Writing::new(io::writer(rt));
     let said = match bytes(rt, asked.file) {
-        Ok(text) => {
-            if asked.tells_records {
-                tell_records(rt.alloc(), &text, &mut sink)
-            } else {
-                judge(rt.alloc(), &text, &mut sink)
-            }
-        }
+        Ok(text) => answer(rt.alloc(), asked, &text, &mut sink),
         Err(error) if error.kind() == io::ErrorKind::OutOfMemory => {
             say(&Judgement::NoMemory, &mut sink)
         }

@@ -1,5 +1,5 @@
 -- From clap's clauses to what words name.
-use Rattle.std.proofs.Common.{◌≡◌, ◌∙◌, ◌⊎◌, List, [], refl, sym, subst, ap, ap₂, inl, inr, true}
+use Rattle.std.proofs.Common.{◌≡◌, ◌∙◌, ◌⊎◌, ℕ, Option, Some, None, List, [], refl, sym, subst, ap, ap₂, inl, inr, true}
 use Rattle.std.proofs.Common.{false, ◌||◌}
 use Rattle.std.proofs.lemmas.Bool.{true≢false}
 use Rattle.std.specs.Prelude.{IsSomeAnd}
@@ -14,7 +14,8 @@ use Rattle.clap.specs.declared.error.kind.ErrorKind.TheVariants.{OutOfMemory}
 use Rattle.clap.specs.declared.parser.matches.ArgMatches.{ArgMatches}
 use Rattle.clap.proofs.OnLiterals.{clap_on_literals}
 use Rattle.am_command.specs.Faults.{IsFaultOf, Refuses, is_request}
-use Rattle.am_command.specs.Options.{IsCommand, Names, Selects, amserve_app}
+use Rattle.am_command.specs.Options.{IsCommand, Names, Selects, Sets, SetsIfGiven, amserve_app}
+use Rattle.am_command.specs.declared.amserve.Setting.{Setting}
 use Rattle.am_command.specs.Audited.{AsksFor, NamesAudited, amaudit_app}
 use Rattle.am_command.specs.declared.choice.Audited.{Audited}
 use Rattle.am_command.specs.declared.choice.Options.{Options}
@@ -104,3 +105,14 @@ refused_by_clap names its app free e words fault app_is kinds said =
     by_fault (Unserved why) k h = absurd h
     by_fault NotText k h = absurd h
     by_fault NoMemory k h = tt
+
+none_set : (setting : Setting) (text : Text) → ((n : ℕ) → Sets setting (Some text) n → ⊥) → (number : Option ℕ) →
+    SetsIfGiven setting (Some text) number → ⊥
+none_set setting text never None h = h
+none_set setting text never (Some n) h = never n h
+
+-- no number is set by the text that was given, so none is set at all
+pub none_given : (setting : Setting) (given : Option Text) (text : Text) → given ≡ Some text →
+    ((n : ℕ) → Sets setting (Some text) n → ⊥) → (number : Option ℕ) → SetsIfGiven setting given number → ⊥
+none_given setting given text is never number h =
+    none_set setting text never number (subst (λ (g : Option Text). SetsIfGiven setting g number) is h)

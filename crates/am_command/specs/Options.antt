@@ -1,5 +1,5 @@
 -- What a command line of `amserve` asks for, by clap's meaning of its words.
-use Rattle.std.specs.Prelude.{◌≡◌, ◌≢◌, ◌≤◌, ◌↔◌, IsTrue, ℕ, List, [], Option, Some, None, codes, false, is_some}
+use Rattle.std.specs.Prelude.{◌≡◌, ◌≢◌, ◌≤◌, ◌↔◌, IsTrue, ℕ, List, [], Option, Some, None, codes, cond, false, is_some}
 use Rattle.std.specs.Prelude.{not, true}
 use Rattle.std.specs.Prelude.{IsSomeAnd, option_map}
 use Rattle.std.specs.Str.Parse.{IsNumeral, digits_value, without_leading_plus}
@@ -24,6 +24,14 @@ port = record { least = 0; most = 65535; default = None }
 abbrev pub sessions : Setting
 sessions = record { least = 1; most = 256; default = Some 1 }
 
+-- of a server that stays: at once
+abbrev pub staying_sessions : Setting
+staying_sessions = record { least = 1; most = 256; default = Some 64 }
+
+-- that has a default says here only that the words needn't give it
+abbrev pub grace : Setting
+grace = record { least = 0; most = 3600; default = Some 0 }
+
 abbrev pub workers : Setting
 workers = record { least = 0; most = 16; default = Some 1 }
 
@@ -47,13 +55,20 @@ abbrev pub flag_rule : Text → Rule
 flag_rule name = record (new_rule name) { long = Some name; action = Some SetTrue }
 
 -- `listen --port P [--sessions N] [--workers W] [--trace FILE] [--stop]`
-abbrev pub listen_app : App
-listen_app =
+abbrev pub common_app : App
+common_app =
     let with_port = with_rule (new_app (codes "listen")) (number_rule (option_rule (codes "port")) port) in
     let with_sessions = with_rule with_port (number_rule (option_rule (codes "sessions")) sessions) in
     let with_workers = with_rule with_sessions (number_rule (option_rule (codes "workers")) workers) in
     let with_trace = with_rule with_workers (option_rule (codes "trace")) in
     with_rule with_trace (flag_rule (codes "stop"))
+
+-- and `[--stay] [--grace S] [--log]`
+abbrev pub listen_app : App
+listen_app =
+    let with_stay = with_rule common_app (flag_rule (codes "stay")) in
+    let with_grace = with_rule with_stay (number_rule (option_rule (codes "grace")) grace) in
+    with_rule with_grace (flag_rule (codes "log"))
 
 -- the command is this one, with no global argument
 abbrev pub IsCommand : App → Command → Type 0
@@ -81,14 +96,25 @@ Gives setting (Some text) n =
 abbrev pub Sets : Setting → Option Text → ℕ → Type 0
 Sets setting text n = (setting.least ≤ n) × (n ≤ setting.most) × Gives setting text n
 
--- the rows of `listen` give these numbers and this file, which has a name, and say whether to await a STOP
+-- the number that an option's text gives, within the setting's bounds, or none where there is no text
+abbrev pub SetsIfGiven : Setting → Option Text → Option ℕ → Type 0
+SetsIfGiven setting None number = number ≡ None
+SetsIfGiven setting (Some text) number = IsSomeAnd number (Sets setting (Some text))
+
+-- the rows of `listen` give these numbers and this file, which has a name, and say whether to await a STOP, whether the
+-- server stays, and whether it tells how it does; a limit of time, and that it tells, go with one that stays
 pub record NamesListening (rows : List Row) (listening : Listening) : Type 0 where
   pub port_set : Sets port (first_of (codes "port") rows) listening.port
-  pub sessions_set : Sets sessions (first_of (codes "sessions") rows) listening.sessions
+  pub sessions_set : Sets (cond listening.stays staying_sessions sessions) (first_of (codes "sessions") rows)
+      listening.sessions
   pub workers_set : Sets workers (first_of (codes "workers") rows) listening.workers
   pub trace_named : option_map (λ file. file.now) listening.trace ≡ first_of (codes "trace") rows
   pub trace_has_name : first_of (codes "trace") rows ≢ Some []
   pub stop_awaited : IsTrue listening.awaits_stop ↔ (first_of (codes "stop") rows ≡ Some (codes "true"))
+  pub stay_told : IsTrue listening.stays ↔ (first_of (codes "stay") rows ≡ Some (codes "true"))
+  pub grace_set : SetsIfGiven grace (first_of (codes "grace") rows) listening.grace
+  pub log_told : IsTrue listening.is_logged ↔ (first_of (codes "log") rows ≡ Some (codes "true"))
+  pub together : listening.stays ≡ false → (listening.grace ≡ None) × (listening.is_logged ≡ false)
 
 -- the name of a subcommand and its rows name these options
 abbrev pub Selects : Text × List Row → Options → Type 0

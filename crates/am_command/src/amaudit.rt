@@ -38,10 +38,11 @@ fn audited_in<'a>(given: &ArgMatches<'a>) -> Audited<'a>
     Audited {
         file: text_in(given, "file"),
         tells_records: text_in(given, "records") == Some("true"),
+        is_open: text_in(given, "open") == Some("true"),
     }
 }
 
-/// `amaudit [--records] [FILE]`.
+/// `amaudit [--records] [--open] [FILE]`.
 fn amaudit<'a>(alloc: Global) -> Result<Command<'a>, AllocError>
     ensures { IfOk result (λ command. app_of command ≡ amaudit_app) }
 {
@@ -56,5 +57,10 @@ fn amaudit<'a>(alloc: Global) -> Result<Command<'a>, AllocError>
             alloc,
             "records",
             "Where the trace is legal, write the records that it leaves, as amload reads them",
+        ))?
+        .arg(flag(
+            alloc,
+            "open",
+            "The run isn't ended: leave out what stands behind the last line's end",
         ))
 }

@@ -1,10 +1,12 @@
 //! The command line of `amserve`.
 
-ghost use Rattle.std.specs.Prelude.{◌≡◌, ◌≢◌, ℕ, [], IfErr, IfOk, IsSomeAnd, MatchOption, false, map, option_map};
+ghost use Rattle.std.specs.Prelude.{◌≡◌, ◌≢◌, ◌↔◌, ℕ, [], Option, Some, IfErr, IfOk, IsSomeAnd, IsTrue, MatchOption};
+ghost use Rattle.std.specs.Prelude.{codes, false, map, option_map};
 ghost use Rattle.clap.specs.Words.{app_of, first_of, found_of, rows_of, rule_of, subcommand_rows_of};
 ghost use Rattle.am_command.specs.Faults.{Refuses};
-ghost use Rattle.am_command.specs.Options.{IsCommand, Names, NamesListening, Selects, Sets};
-ghost use Rattle.am_command.specs.Options.{alone_app, amserve_app, flag_rule, listen_app, number_rule, option_rule};
+ghost use Rattle.am_command.specs.Options.{IsCommand, Names, NamesListening, Selects, Sets, SetsIfGiven, grace};
+ghost use Rattle.am_command.specs.Options.{alone_app, amserve_app, common_app, flag_rule, listen_app, number_rule};
+ghost use Rattle.am_command.specs.Options.{option_rule};
 
 use crate::choice::{Listening, Options};
 use crate::fault::{OptionsFault, fault_of};
@@ -42,6 +44,20 @@ const SESSIONS: Setting = Setting {
     default: Some(1),
 };
 
+/// How many sessions a server serves at once that stays.
+const STAYING_SESSIONS: Setting = Setting {
+    least: 1,
+    most: 256,
+    default: Some(64),
+};
+
+/// How many seconds sessions may go on after a stop, where that is given. The default only says that it needn't be.
+const GRACE: Setting = Setting {
+    least: 0,
+    most: 3600,
+    default: Some(0),
+};
+
 /// How many workers merge.
 const WORKERS: Setting = Setting {
     least: 0,
@@ -62,7 +78,7 @@ pub fn options<'a, S: AsStr>(alloc: Global, words: &'a [S]) -> Result<Options<'a
         Ok(matches) => match selected(&matches) {
             Some(options) => Ok(options),
             None => Err(OptionsFault::Unserved(
-                "expected alone or listen, and a file that has a name",
+                "expected alone or listen, a file that has a name, and --stay beside --grace and --log",
             )),
         },
         Err(error) => Err(fault_of(alloc, &error)),
@@ -96,9 +112,33 @@ fn alone<'a>(alloc: Global) -> Result<Command<'a>, AllocError>
         ))
 }
 
-/// `listen --port P [--sessions N] [--workers W] [--trace FILE] [--stop]`.
+/// `listen`, with what each server takes and what goes with one that stays: `[--stay] [--grace S] [--log]`.
 fn listen<'a>(alloc: Global) -> Result<Command<'a>, AllocError>
     ensures { IfOk result (λ command. IsCommand listen_app command) }
+{
+    listen_common(alloc)?
+        .arg(flag(
+            alloc,
+            "stay",
+            "Take connections until the stop, any number in all; the trace is written meanwhile",
+        ))?
+        .arg(number(
+            alloc,
+            "grace",
+            "S",
+            "With --stay: cut the sessions that haven't ended S seconds after the stop, 0 to 3600",
+            GRACE,
+        ))?
+        .arg(flag(
+            alloc,
+            "log",
+            "With --stay: tell on standard error each minute how the server does",
+        ))
+}
+
+/// `listen --port P [--sessions N] [--workers W] [--trace FILE] [--stop]`.
+fn listen_common<'a>(alloc: Global) -> Result<Command<'a>, AllocError>
+    ensures { IfOk result (λ command. IsCommand common_app command) }
 {
     Command::new(alloc, "listen")
         .about("Serves sessions over TCP, on one store")
@@ -113,7 +153,7 @@ fn listen<'a>(alloc: Global) -> Result<Command<'a>, AllocError>
             alloc,
             "sessions",
             "N",
-            "How many sessions are served, 1 to 256 [default: 1]",
+            "How many sessions are served, 1 to 256; with --stay at once [default: 1; with --stay 64]",
             SESSIONS,
         ))?
         .arg(number(
@@ -203,13 +243,44 @@ fn listening_in<'a>(given: &ArgMatches<'a>) -> Option<Listening<'a>>
         ((listening : Listening) → NamesListening (rows_of (found_of given.now)) listening → ⊥)
         (NamesListening (rows_of (found_of given.now))) }
 {
-    Some(Listening {
+    let stays = is_given(given, "stay");
+    let sessions = if stays { STAYING_SESSIONS } else { SESSIONS };
+    let listening = Listening {
         port: number_in(given, "port", PORT)?,
-        sessions: u64::from(number_in(given, "sessions", SESSIONS)?),
+        sessions: u64::from(number_in(given, "sessions", sessions)?),
         workers: u64::from(number_in(given, "workers", WORKERS)?),
         trace: file_in(text_in(given, "trace"))?,
-        awaits_stop: text_in(given, "stop") == Some("true"),
-    })
+        awaits_stop: is_given(given, "stop"),
+        stays,
+        grace: seconds_in(text_in(given, "grace"))?,
+        is_logged: is_given(given, "log"),
+    };
+    if !stays && (listening.grace.is_some() || listening.is_logged) {
+        return None;
+    }
+    Some(listening)
+}
+
+/// Whether a flag was given.
+fn is_given(given: &ArgMatches<'_>, name: &str) -> bool
+    ensures { IsTrue result ↔ (first_of name.now (rows_of (found_of given.now)) ≡ Some (codes "true")) }
+{
+    text_in(given, name) == Some("true")
+}
+
+/// The seconds that an option's text gives, if there is one, where they are within their bounds.
+fn seconds_in(given: Option<&str>) -> Option<Option<u64>>
+    ensures { MatchOption result
+        ((n : Option ℕ) → SetsIfGiven grace (option_map (λ text. text.now) given.entry) n → ⊥)
+        (SetsIfGiven grace (option_map (λ text. text.now) given.entry)) }
+{
+    match given {
+        None => Some(None),
+        Some(text) => match number_of(Some(text), GRACE) {
+            Some(seconds) => Some(Some(u64::from(seconds))),
+            None => None,
+        },
+    }
 }
 
 /// The file that an option names, if it does. None where the name is empty.

@@ -15,7 +15,7 @@ pub enum Options<'a> {
 pub struct Listening<'a> {
     /// The port to listen at; 0 for any that is free.
     pub port: u16,
-    /// How many sessions are served; 1 to 256.
+    /// How many sessions are served; where the server stays, how many at once; 1 to 256.
     pub sessions: u64,
     /// How many workers merge; 0 to 16.
     pub workers: u64,
@@ -23,6 +23,12 @@ pub struct Listening<'a> {
     pub trace: Option<&'a str>,
     /// Whether the server goes on until a line `STOP`, or the end of its standard input, has come.
     pub awaits_stop: bool,
+    /// Whether the server takes connections until it is stopped, any number in all.
+    pub stays: bool,
+    /// How many seconds sessions may go on after the stop of a server that stays, where that is limited; 0 to 3,600.
+    pub grace: Option<u64>,
+    /// Whether a server that stays tells each minute how it does.
+    pub is_logged: bool,
 }
 
 /// What `amaudit` is asked for.
@@ -32,4 +38,6 @@ pub struct Audited<'a> {
     pub file: Option<&'a str>,
     /// Whether the records that a legal trace leaves are told.
     pub tells_records: bool,
+    /// Whether the run isn't ended: what stands behind the last LF is left out.
+    pub is_open: bool,
 }

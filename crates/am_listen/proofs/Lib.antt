@@ -1,3 +1,6 @@
 pub mod Crosses
 pub mod ServedSessions
 pub mod Seatings
+pub mod Taking
+pub mod InTurn
+pub mod FirstLines

@@ -59,13 +59,13 @@ IsOfWorker s = All (λ (r : Receipt). r.step ≡ Merge 16) s.receipts
 
 -- The trace is sound, with every merge and clean right, and legal; it leads to a store with so many commits; and it is
 -- that of the seats: each of their receipts stands in it, and each of its pairs has one.
-pub record IsRunOf (seats : List SeatState) (s : ServerRun) : Type 0 where
-  pub sound : IsSoundStore s.trace.items
-  pub legal : IsLegal s.trace.items
+pub record IsRunOf (seats : List SeatState) (trace : Trace) (commits : ℕ) : Type 0 where
+  pub sound : IsSoundStore trace
+  pub legal : IsLegal trace
   pub store : StoreState
-  pub stands : IsSoundAt s.trace.items store
-  pub commits : s.commits ≡ store.commits
-  pub receipts : AreReceiptsOf seats s.trace.items
+  pub stands : IsSoundAt trace store
+  pub committed : commits ≡ store.commits
+  pub receipts : AreReceiptsOf seats trace
 
 -- and the seats are those of sessions and of workers
 pub record IsSoundRun (s : ServerRun) : Type 0 where
@@ -73,4 +73,4 @@ pub record IsSoundRun (s : ServerRun) : Type 0 where
   pub workers : List SeatState
   pub served : All IsOfSession sessions
   pub worked : All IsOfWorker workers
-  pub run : IsRunOf (latch_seats sessions ++ workers) s
+  pub run : IsRunOf (latch_seats sessions ++ workers) s.trace.items s.commits

@@ -2,9 +2,14 @@
 
 ghost use Rattle.std.specs.Prelude.{◌≡◌, ◌≤◌, ◌<◌, IfOk};
 ghost use Rattle.am_listen.specs.ServerRuns.{IsSoundRun};
+ghost use Rattle.am_listen.specs.Stays.{IsStayedRun};
 
 use crate::acceptor::Acceptor;
+use crate::counts::Watcher;
+use crate::house::House;
+use crate::pieces::PieceTaker;
 use crate::server_run::{ServerRun, run};
+use crate::staying::{Keeping, StayedRun, stay};
 use am_latch::Blank;
 use am_record::{HashKey, NoMemory};
 use am_words::Words;
@@ -12,6 +17,7 @@ use std::alloc::Global;
 use std::io;
 use std::marker::Brand;
 use std::net::{Ipv4Addr, Net, TcpListener, TcpStream};
+use std::rt::Clock;
 use std::sync::Wait;
 use std::sync::atomic::{AtomicBool, Ordering};
 use std::thread::Threads;
@@ -99,5 +105,40 @@ impl PortListener {
         };
         let acceptor = Acceptor::new(&self.listener, &self.is_stopped);
         run::<Brand, R>(rt, self.alloc, hash, acceptor, blank, &words, word_seats)
+    }
+
+    /// Serves connections until [`PortListener::stop`], so many at once, each on a seat of its own, one after another
+    /// at each seat, over one store that begins with no records; further ones wait to be accepted. So many workers
+    /// merge beside them: one turn for each answered line. The trace is taken by pieces meanwhile, and its rest at the
+    /// end. All pieces together are sound and legal, and their store has so many commits.
+    ///
+    /// # Errors
+    /// NoMemory, where memory was refused before a connection was accepted.
+    pub fn stay<
+        R: Threads + Wait + Clock + Sync,
+        T: PieceTaker + Drop + Send,
+        V: Watcher + Drop + Send,
+    >(
+        &self,
+        rt: &R,
+        sessions: u64,
+        workers: u64,
+        hash: HashKey,
+        keeping: Keeping<T, V>,
+    ) -> Result<StayedRun<T>, NoMemory>
+        requires sessions { (1 ≤ sessions) × (sessions ≤ 256) }
+        requires workers { workers ≤ 16 }
+        ensures { IfOk result (IsStayedRun T.took keeping.pieces) }
+    {
+        let Ok(blank) = Blank::new(self.alloc, sessions + workers) else {
+            return Err(NoMemory);
+        };
+        let Ok((words, word_seats)) = Words::open(self.alloc, sessions as usize) else {
+            return Err(NoMemory);
+        };
+        let house = House::new(self.alloc, &self.listener, &self.is_stopped, sessions)?;
+        stay::<Brand, R, T, V>(
+            rt, self.alloc, hash, &house, blank, &words, word_seats, keeping,
+        )
     }
 }

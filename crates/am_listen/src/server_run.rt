@@ -24,7 +24,7 @@ use std::thread::Threads;
 const MAX_TURNS: u64 = 1_000_000;
 
 /// How many entries a turn may merge.
-const MERGE_LIMIT: u64 = 16;
+pub(crate) const MERGE_LIMIT: u64 = 16;
 
 /// What was served.
 #[derive(Drop)]
@@ -38,7 +38,7 @@ pub struct ServerRun {
 }
 
 // Gives the first seats to the sessions, one for each seat of the words, and the others to the workers.
-fn assign_seats<'a, L: LatchName>(
+pub(crate) fn assign_seats<'a, L: LatchName>(
     alloc: Global,
     latch: &'a Latch<L>,
     words: &'a Words,
@@ -103,7 +103,10 @@ fn serve_each<'a, L: LatchName + Send + Sync, R: Threads + Wait + Sync>(
 }
 
 // The latch's seats of the sessions, behind what stands there.
-fn take_seats<'a, L: LatchName>(all: &mut Vec<Seat<L>>, session_seats: Vec<SessionSeat<'a, L>>)
+pub(crate) fn take_seats<'a, L: LatchName>(
+    all: &mut Vec<Seat<L>>,
+    session_seats: Vec<SessionSeat<'a, L>>,
+)
     requires { vec_len all.old + length session_seats.items ≤ vec_capacity all.old }
     ensures seats { all.new.items ≡ all.old.items ++ latch_seats session_seats.entry.items }
     ensures len { vec_len all.new ≡ vec_len all.old + length session_seats.entry.items }
@@ -123,7 +126,7 @@ fn close_all<L: LatchName>(
 ) -> ServerRun
     requires seats { AreAll L.seats seats.items }
     requires taker { taker ≡ [] }
-    ensures { IsRunOf seats.items result }
+    ensures { IsRunOf seats.items result.trace.items result.commits }
 {
     let Ok(closed) = close(latch, seats, taker) else {
         unreachable!()

@@ -11,7 +11,7 @@ use crate::pacer::MergePacer;
 use am_latch::LatchName;
 use am_seating::SessionSeat;
 use am_session::{End, PartingSink, serve};
-use am_stream::{AnsweredSource, Reading, Sink, Writing};
+use am_stream::{AnsweredSource, Reading, Sink, Source, Writing};
 use std::alloc::Global;
 use std::io::{BufWriter, Write};
 use std::net::TcpStream;
@@ -46,16 +46,19 @@ pub fn serve_session<
     serve(rt, alloc, source, sink, session_seat, 0)
 }
 
-// Serves one connection to its end.
-fn serve_connection<'a, W: Wait, L: LatchName>(
+/// Serves one connection to its end. What comes from it is the source's.
+pub(crate) fn serve_connection<'a, W: Wait, S: Source, L: LatchName>(
     rt: &W,
     alloc: Global,
     stream: &TcpStream,
+    source: &mut S,
     pacer: &MergePacer,
     session_seat: &mut SessionSeat<'a, L>,
 )
+    requires countable { S.failures source.old < 2 ^ 63 }
     requires idle { open_at session_seat.old ≡ None }
     requires numbered { IsNumbered session_seat.old }
+    ensures idle { open_at session_seat.new ≡ None }
     ensures seat { session_seat.new.seat.number ≡ session_seat.old.seat.number }
     ensures left { WasServed session_seat.old session_seat.new }
 {
@@ -65,17 +68,21 @@ fn serve_connection<'a, W: Wait, L: LatchName>(
         refuse(stream);
         return;
     };
-    let mut source = Reading::new(stream);
     let mut sink = CountingSink::new(Writing::new(writer), pacer);
-    if let End::NoMemory = serve_session(rt, alloc, &mut source, &mut sink, session_seat) {
+    if let End::NoMemory = serve_session(rt, alloc, source, &mut sink, session_seat) {
         refuse(stream);
     }
 }
 
 // Says that there was no memory for a session's buffers, before anything was read.
-fn refuse(stream: &TcpStream) {
+pub(crate) fn refuse(stream: &TcpStream) {
+    say(stream, b"ERR MEMORY\n");
+}
+
+/// Writes a line in place of a session, where that goes.
+pub(crate) fn say(stream: &TcpStream, line: &[u8]) {
     let mut writer = stream;
-    let _ = writer.write_all(b"ERR MEMORY\n");
+    let _ = writer.write_all(line);
 }
 
 /// Takes the next connection, if one comes, and serves it to its end.
@@ -96,7 +103,8 @@ pub(crate) fn serve_next<'a, W: Wait, L: LatchName>(
     if let Some(stream) = came
         && drew
     {
-        serve_connection(rt, alloc, &stream, pacer, session_seat);
+        let mut source = Reading::new(&stream);
+        serve_connection(rt, alloc, &stream, &mut source, pacer, session_seat);
     }
     pacer.end_session();
 }

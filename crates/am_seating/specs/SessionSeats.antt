@@ -8,7 +8,7 @@ use Rattle.am_latch.specs.declared.receipt.Receipt.{Receipt}
 use Rattle.am_latch.specs.Changes.{is_stored}
 use Rattle.am_latch.specs.Receipts.{SeatState, HasReceiptOf}
 use Rattle.am_latch.specs.Ties.{open_of}
-use Rattle.am_words.specs.Words.{WordHistory}
+use Rattle.am_words.specs.Words.{WordHistory, most_draws}
 use Rattle.am_session.specs.Backends.{BackendMeaning}
 
 pub record SessionSeatState : Type 0 where
@@ -40,14 +40,14 @@ pub record ShowsCounts (old : SessionSeatState) (number commits : ℕ) (new : Se
 abbrev pub seat_meaning : BackendMeaning SessionSeatState
 seat_meaning = record { active = open_at; steps = MakesCall; shows = ShowsCounts }
 
--- the number is drawn, unless 1,000,000 were
+-- the number is drawn, unless 2 ^ 50 were
 abbrev pub HasDrawn : SessionSeatState → Bool → SessionSeatState → Type 0
 HasDrawn old drew new = MatchBool drew
     (new ≡ record old {
       word_seat = record old.word_seat { drawn = old.word_seat.drawn ++ new.number ∷ [] };
       number = new.number;
     })
-    ((length old.word_seat.drawn ≡ 1000000) × (new ≡ old))
+    ((length old.word_seat.drawn ≡ most_draws) × (new ≡ old))
 
 -- the steps and replies of receipts
 abbrev pub taken : List Receipt → Trace

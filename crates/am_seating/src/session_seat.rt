@@ -57,7 +57,7 @@ impl<'a, L: LatchName> SessionSeat<'a, L> {
         }
     }
 
-    /// Draws the number of the session. Whether there was one: a seat has 1,000,000 draws.
+    /// Draws the number of the session. Whether there was one: a seat has 2 ^ 50 draws.
     pub fn draw(&mut self) -> bool
         ensures { HasDrawn self.old result self.new }
     {

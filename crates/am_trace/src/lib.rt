@@ -14,5 +14,7 @@ mod version;
 mod word;
 
 pub use read::ReadFault;
-pub use text::{TraceFault, read_header, read_line, read_trace, trace_text, traces_are_texts};
+pub use text::{
+    TraceFault, event_lines, read_header, read_line, read_trace, trace_text, traces_are_texts,
+};
 pub use version::Version;

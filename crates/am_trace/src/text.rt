@@ -3,7 +3,7 @@
 ghost use Rattle.std.specs.Prelude.{◌≡◌, ◌++◌, List, ℕ, IfOk, IfSome, IfNone, Err};
 ghost use Rattle.am_record.specs.Events.{Event};
 ghost use Rattle.am_trace.specs.Lines.{IsEvent, AreEvents, event_words, with_lf, header, trace_text, IsTextOf};
-ghost use Rattle.am_trace.specs.Lines.{IsBadLine, BeginsNoEvent, BeginsNoHeader, CanBeStored};
+ghost use Rattle.am_trace.specs.Lines.{event_lines, IsBadLine, BeginsNoEvent, BeginsNoHeader, CanBeStored};
 
 use crate::cut::cut;
 use crate::event::read_event;
@@ -38,6 +38,21 @@ pub fn trace_text(alloc: Global, trace: &[(Step, Reply)]) -> Result<Vec<u8>, NoM
     let mut page = Page::new(alloc);
     page.put(b"TRACE 2\n")?;
     for event in trace {
+        page.put_event(&event.0, &event.1)?;
+    }
+    Ok(page.into_bytes())
+}
+
+/// The lines of events, in version 2: what the text of a trace has more where they stand behind it.
+///
+/// # Errors
+/// NoMemory, where memory was refused.
+#[inline(never)]
+pub fn event_lines(alloc: Global, events: &[(Step, Reply)]) -> Result<Vec<u8>, NoMemory>
+    ensures { IfOk result (λ text. text.items ≡ event_lines Version.Two events.now) }
+{
+    let mut page = Page::new(alloc);
+    for event in events {
         page.put_event(&event.0, &event.1)?;
     }
     Ok(page.into_bytes())

@@ -8,7 +8,8 @@ use lib.ListN.{get_elem?}
 use Rattle.atomic_table.specs.Table.{Me, step, keeps, Allows, Splits, opening}
 use Rattle.atomic_table.proofs.Lists.{at_set, at_snoc}
 use Rattle.am_words.specs.declared.rule.View.{View}
-use Rattle.am_words.specs.Words.{all_seats, one_seat, without_one_seat, total, count_of, once_below, greatest}
+use Rattle.am_words.specs.Words.{most_draws, all_seats, one_seat, without_one_seat, total, count_of, once_below}
+use Rattle.am_words.specs.Words.{greatest}
 use Rattle.am_words.specs.Words.{IsRuleOfWords, DrawsNumber, RaisesWatch, SeesWatch}
 
 pub total_set : (f : View → ℕ) (vs : List View) (k : ℕ) (v w : View) → get_elem? vs k ≡ some v →
@@ -74,21 +75,21 @@ starts = record {
   watch = 0;
   words = refl;
   seats = omega arith;
-  few = each_one (λ v. length v.drawn ≤ 1000000 * v.seats) all_seats (omega arith);
+  few = each_one (λ v. length v.drawn ≤ most_draws * v.seats) all_seats (omega arith);
   count = refl;
   each_once = λ x. grind (arith, nat_tests);
   top = refl;
   seen = each_one (λ v. v.saw ≤ 0) all_seats (omega arith);
 }
 
-pub draws : (slots id : ℕ) (me : Me ℕ View) → length me.0.drawn < 1000000 → 1 ≤ me.0.seats
+pub draws : (slots id : ℕ) (me : Me ℕ View) → length me.0.drawn < most_draws → 1 ≤ me.0.seats
     → Allows IsRuleOfWords slots id me 0 (λ n. (n + 1) % 2 ^ 64) (DrawsNumber (step slots 0 1 0 none) me)
 draws slots id me few some_seat s h long at fits =
     let v = me.0 in
     let n : ℕ = slice_index s.words 0 in
     let found : n ≡ h.next = ap (λ ws. slice_index ws 0) h.words in
     let w : View = record { seats = v.seats; drawn = v.drawn ++ n ∷ []; saw = v.saw; published = v.published } in
-    let bound = total_bound 1000000 (λ u. length u.drawn) (λ u. u.seats) s.views h.few in
+    let bound = total_bound most_draws (λ u. length u.drawn) (λ u. u.seats) s.views h.few in
     let small : n + 1 < 2 ^ 64 = omega (arith, bound, h.count, h.seats) in
     let sum : (n + 1) % 2 ^ 64 ≡ h.next + 1 = mod-eq_of_lt small ∙ ap (λ k. k + 1) found in
     let longer : length w.drawn ≡ length v.drawn + 1 = length-append v.drawn (n ∷ []) in (
@@ -100,7 +101,7 @@ draws slots id me few some_seat s h long at fits =
         watch = h.watch;
         words = λ i. slice_set (h.words i) 0 (sum i);
         seats = omega (arith, total_set (λ u. u.seats) s.views id v w at, h.seats);
-        few = each_set (λ u. length u.drawn ≤ 1000000 * u.seats) s.views id w h.few (omega arith);
+        few = each_set (λ u. length u.drawn ≤ most_draws * u.seats) s.views id w h.few (omega arith);
         count = omega (arith, total_set (λ u. length u.drawn) s.views id v w at, h.count, longer);
         each_once = λ x. let here : count_of x w.drawn ≡ count_of x v.drawn + cond (h.next == x) 1 0 =
             count_of-snoc x v.drawn n ∙ ap (λ k. count_of x v.drawn + cond (k == x) 1 0) found in
@@ -131,7 +132,7 @@ publishes slots id k me s h long at fits =
         watch = max h.watch k;
         words = λ i. slice_set (h.words i) 1 (max (found i) k);
         seats = omega (arith, total_set (λ u. u.seats) s.views id v w at, h.seats);
-        few = each_set (λ u. length u.drawn ≤ 1000000 * u.seats) s.views id w h.few (h.few id v at);
+        few = each_set (λ u. length u.drawn ≤ most_draws * u.seats) s.views id w h.few (h.few id v at);
         count = omega (arith, total_set (λ u. length u.drawn) s.views id v w at, h.count);
         each_once = λ x. omega (arith, total_set (λ u. count_of x u.drawn) s.views id v w at, h.each_once x);
         top = ap (λ m. max m k) h.top ∙ sym (greatest_set s.views id k v w at refl);
@@ -156,7 +157,7 @@ sees slots id me s h long at fits =
         watch = h.watch;
         words = λ i. slice_set (h.words i) 1 (found i);
         seats = omega (arith, total_set (λ u. u.seats) s.views id v w at, h.seats);
-        few = each_set (λ u. length u.drawn ≤ 1000000 * u.seats) s.views id w h.few (h.few id v at);
+        few = each_set (λ u. length u.drawn ≤ most_draws * u.seats) s.views id w h.few (h.few id v at);
         count = omega (arith, total_set (λ u. length u.drawn) s.views id v w at, h.count);
         each_once = λ x. omega (arith, total_set (λ u. count_of x u.drawn) s.views id v w at, h.each_once x);
         top = let t = greatest_set s.views id 0 v w at (omega arith) in omega (arith, t, h.top);
@@ -169,14 +170,14 @@ pub splits : (id : ℕ) (v : View) → 1 ≤ v.seats → v.drawn ≡ [] → Spli
 splits id v some_seat none_drawn s h at =
     let w = without_one_seat v in
     let vs = set s.views id w in
-    let mine : length w.drawn ≤ 1000000 * w.seats = omega (arith, ap length none_drawn) in
+    let mine : length w.drawn ≤ most_draws * w.seats = omega (arith, ap length none_drawn) in
     record {
       next = h.next;
       watch = h.watch;
       words = h.words;
       seats = omega (arith, total_set (λ u. u.seats) s.views id v w at, total-snoc (λ u. u.seats) vs one_seat, h.seats);
-      few = each_snoc (λ u. length u.drawn ≤ 1000000 * u.seats) vs one_seat
-          (each_set (λ u. length u.drawn ≤ 1000000 * u.seats) s.views id w h.few mine) (omega arith);
+      few = each_snoc (λ u. length u.drawn ≤ most_draws * u.seats) vs one_seat
+          (each_set (λ u. length u.drawn ≤ most_draws * u.seats) s.views id w h.few mine) (omega arith);
       count = omega (
         arith,
         total_set (λ u. length u.drawn) s.views id v w at,

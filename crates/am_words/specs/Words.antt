@@ -14,6 +14,10 @@ pub record WordHistory : Type 0 where
   pub saw : ℕ
   pub published : ℕ
 
+-- how many numbers a seat may draw: 2 ^ 50
+abbrev pub most_draws : ℕ
+most_draws = 1125899906842624
+
 abbrev pub new_history : TableId → WordHistory
 new_history id = record { of = id; drawn = []; saw = 0; published = 0 }
 
@@ -52,7 +56,7 @@ pub record IsRuleOfWords (s : State ℕ View) : Type 0 where
   pub watch : ℕ
   pub words : s.words ≡ next ∷ watch ∷ []
   pub seats : total (λ v. v.seats) s.views ≤ max_seats
-  pub few : (k : ℕ) (v : View) → get_elem? s.views k ≡ some v → length v.drawn ≤ 1000000 * v.seats
+  pub few : (k : ℕ) (v : View) → get_elem? s.views k ≡ some v → length v.drawn ≤ most_draws * v.seats
   pub count : total (λ v. length v.drawn) s.views ≡ next
   pub each_once : (x : ℕ) → total (λ v. count_of x v.drawn) s.views ≡ once_below x next
   pub top : watch ≡ greatest s.views

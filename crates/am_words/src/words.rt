@@ -2,7 +2,7 @@
 
 ghost use Rattle.std.specs.Prelude.{◌≡◌, ℕ, ◌+◌, ◌*◌, ◌<◌, ◌≤◌, ◌∷◌, ◌++◌, [], All, IfErr, IfOk, MatchOption, OnOk};
 ghost use Rattle.std.specs.Prelude.{length, max, vec_len, ◌⊎◌, ◌↔◌};
-ghost use Rattle.am_words.specs.Words.{WordHistory, new_history, HeldAtEnd};
+ghost use Rattle.am_words.specs.Words.{WordHistory, new_history, most_draws, HeldAtEnd};
 ghost use Rattle.am_words.specs.Faults.{IsBadCount};
 
 use crate::rule::{Draws, OneSeat, Publishes, Sees, TwoWords, View};
@@ -12,7 +12,8 @@ use std::alloc::Global;
 use std::marker::Model;
 use thiserror::Error;
 
-const MOST_DRAWS: u64 = 1_000_000;
+/// So many draws of all seats of a table that numbers don't wrap, and more than any seat makes.
+const MOST_DRAWS: u64 = 1 << 50;
 
 const NEXT: usize = 0;
 
@@ -55,7 +56,7 @@ pub struct WordSeat {
 
 impl Model for WordSeat {
     ghost use Rattle.std.specs.Prelude.{◌≡◌, ◌≤◌, length};
-    ghost use Rattle.am_words.specs.Words.{WordHistory};
+    ghost use Rattle.am_words.specs.Words.{WordHistory, most_draws};
 
     ghost Value = { WordHistory };
 
@@ -66,7 +67,7 @@ impl Model for WordSeat {
       published = s.seat.me.0.published;
     } };
 
-    ghost invariant = { λ s. (s.drawn ≡ length s.seat.me.0.drawn) × (s.drawn ≤ 1000000) × (1 ≤ s.seat.me.0.seats) };
+    ghost invariant = { λ s. (s.drawn ≡ length s.seat.me.0.drawn) × (s.drawn ≤ most_draws) × (1 ≤ s.seat.me.0.seats) };
 }
 
 impl Words {
@@ -98,12 +99,12 @@ impl Words {
         Ok((Words { table }, seats))
     }
 
-    /// A number that no seat drew before. None exactly where this seat has drawn 1,000,000. The numbers that all
+    /// A number that no seat drew before. None exactly where this seat has drawn 2 ^ 50. The numbers that all
     /// seats have drawn are those below the next number, each once.
     pub fn draw(&self, me: &mut WordSeat) -> Option<u64>
         requires { me.old.of ≡ self.now }
-        ensures { MatchOption result ((length me.old.drawn ≡ 1000000) × (me.new ≡ me.old))
-            (λ n. (length me.old.drawn < 1000000) × (me.new ≡ record me.old { drawn = me.old.drawn ++ n ∷ [] })) }
+        ensures { MatchOption result ((length me.old.drawn ≡ most_draws) × (me.new ≡ me.old))
+            (λ n. (length me.old.drawn < most_draws) × (me.new ≡ record me.old { drawn = me.old.drawn ++ n ∷ [] })) }
     {
         if me.drawn >= MOST_DRAWS {
             return None;

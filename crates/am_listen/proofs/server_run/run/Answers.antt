@@ -1,4 +1,4 @@
-use Rattle.std.proofs.Common.{◌≡◌, ◌∙◌, rules, sym, subst, arith, All, List}
+use Rattle.std.proofs.Common.{◌∙◌, sym, subst, arith, All, List}
 use Rattle.std.proofs.Crossing.{Vec-send}
 use denote.Exit.{no}
 use denote.Param.{param}
@@ -74,5 +74,6 @@ returns g c =
           c.in_ok-session_seats.ensures.sessions;
       worked = all_of_workers 1000000 c.in_ok-session_seats.worker_seats.items worked c.join-worked.ensures.first
           c.in_ok-session_seats.ensures.workers;
-      run = subst (λ (l : List SeatState). IsRunOf l c.close_all.result) seats c.close_all.ensures;
+      run = subst (λ (l : List SeatState). IsRunOf l c.close_all.result.trace.items c.close_all.result.commits) seats
+          c.close_all.ensures;
     }

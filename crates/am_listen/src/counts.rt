@@ -1,0 +1,73 @@
+//! What a server that stays counts.
+
+use std::sync::atomic::{AtomicU64, Ordering};
+
+/// A count that many threads add to.
+#[derive(Drop)]
+pub(crate) struct Count(AtomicU64);
+
+impl Count {
+    pub(crate) fn new() -> Count {
+        Count(AtomicU64::new(0))
+    }
+
+    pub(crate) fn add(&self) {
+        self.0.fetch_add(1, Ordering::SeqCst);
+    }
+
+    pub(crate) fn get(&self) -> u64 {
+        self.0.load(Ordering::SeqCst)
+    }
+}
+
+/// The counts of a server.
+#[derive(Drop)]
+pub(crate) struct Tally {
+    pub(crate) begun: Count,
+    pub(crate) ended: Count,
+    pub(crate) refused_by_system: Count,
+}
+
+impl Tally {
+    pub(crate) fn new() -> Tally {
+        Tally {
+            begun: Count::new(),
+            ended: Count::new(),
+            refused_by_system: Count::new(),
+        }
+    }
+
+    /// The counts as they are, beside so many events.
+    pub(crate) fn counts(&self, events: u64, is_cut: bool) -> Counts {
+        let ended = self.ended.get();
+        let sessions = self.begun.get();
+        Counts {
+            sessions,
+            open: sessions.saturating_sub(ended),
+            events,
+            refused_by_system: self.refused_by_system.get(),
+            is_cut,
+        }
+    }
+}
+
+/// How a server does.
+#[derive(Clone, Copy, Debug, PartialEq, Eq)]
+pub struct Counts {
+    /// How many sessions began.
+    pub sessions: u64,
+    /// How many of them have not ended.
+    pub open: u64,
+    /// How many events were handed out.
+    pub events: u64,
+    /// How often the system refused to accept a connection.
+    pub refused_by_system: u64,
+    /// Whether some of the trace is lost.
+    pub is_cut: bool,
+}
+
+/// Looks at how a server does, some ten times a second.
+pub trait Watcher {
+    /// Looks at the counts.
+    fn look(&mut self, counts: &Counts);
+}

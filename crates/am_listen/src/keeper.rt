@@ -1,0 +1,97 @@
+//! The thread that takes what the latch hands out.
+
+ghost use Rattle.std.specs.Prelude.{◌≡◌};
+ghost use Rattle.am_listen.specs.Stays.{HasTaken};
+
+use crate::counts::Watcher;
+use crate::house::House;
+use crate::pieces::PieceTaker;
+use am_latch::{Latch, LatchName, Taker};
+use std::rt::Clock;
+use std::sync::Wait;
+use std::time::{Duration, Instant};
+
+/// Takes a latch's trace by pieces, and looks at the server beside that.
+#[derive(Drop)]
+pub(crate) struct Keeper<L: LatchName, T: PieceTaker + Drop, V: Watcher + Drop> {
+    pub(crate) taker: Taker<L>,
+    pub(crate) pieces: T,
+    // How many events were taken.
+    pub(crate) events: u64,
+    watcher: V,
+    // How long sessions may go on after a stop.
+    grace: Option<Duration>,
+    stopped_at: Option<Instant>,
+}
+
+impl<L: LatchName, T: PieceTaker + Drop, V: Watcher + Drop> Keeper<L, T, V> {
+    pub(crate) fn new(
+        taker: Taker<L>,
+        pieces: T,
+        watcher: V,
+        grace: Option<Duration>,
+    ) -> Keeper<L, T, V>
+        ensures { (result.taker ≡ taker) × (result.pieces ≡ pieces) × (result.events ≡ 0) }
+    {
+        Keeper {
+            taker,
+            pieces,
+            events: 0,
+            watcher,
+            grace,
+            stopped_at: None,
+        }
+    }
+
+    /// Takes what the latch keeps, some ten times a second, until all sessions have ended, and cuts those that are
+    /// late.
+    pub(crate) fn keep<R: Wait + Clock>(self, rt: &R, latch: &Latch<L>, house: &House<'_>) -> Self
+        ensures { HasTaken T.took self.taker self.pieces self.events result.taker result.pieces
+            result.events }
+    {
+        let mut keeper = self;
+        'rounds: for _ in rt.forever() {
+            let is_last = house.await_round(rt);
+            keeper.take_piece(rt, latch, house);
+            if is_last {
+                return keeper;
+            }
+            if keeper.is_late(rt, house) {
+                house.connections.cut_all(rt);
+            }
+        }
+        unreachable!()
+    }
+
+    // Takes what the latch keeps.
+    fn take_piece<R: Wait>(&mut self, rt: &R, latch: &Latch<L>, house: &House<'_>)
+        ensures { HasTaken T.took self.old.taker self.old.pieces self.old.events self.new.taker self.new.pieces
+            self.new.events }
+    {
+        let piece = latch.hand_out(rt, &mut self.taker);
+        self.pieces.take(&piece.trace);
+        self.events = self.events.saturating_add(piece.trace.len() as u64);
+        self.watcher
+            .look(&house.tally.counts(self.events, self.pieces.is_cut()));
+    }
+
+    // Whether sessions have gone on for too long after a stop.
+    fn is_late<R: Clock>(&mut self, rt: &R, house: &House<'_>) -> bool
+        ensures { (self.new.taker ≡ self.old.taker) × (self.new.pieces ≡ self.old.pieces) ×
+            (self.new.events ≡ self.old.events) }
+    {
+        let Some(grace) = self.grace else {
+            return false;
+        };
+        if !house.is_stopped() {
+            return false;
+        }
+        if self.stopped_at.is_none() {
+            self.stopped_at = Instant::now(rt).ok();
+        }
+        match self.stopped_at {
+            Some(at) => at.elapsed(rt).map_or(true, |past| past >= grace),
+            None => true,
+        }
+    }
+}

@@ -1,0 +1,41 @@
+//! Who takes a trace by pieces, while a server runs.
+
+ghost use Rattle.std.specs.Prelude.{[], ◌++◌};
+ghost use Rattle.am_serial.specs.Trace.{Trace};
+
+use am_record::{Reply, Step};
+
+/// Takes a trace piece by piece, each behind those before it.
+pub trait PieceTaker {
+    // From the one state to the other it took these events, in their order.
+    ghost took: { Self → Trace → Self → Type 0 };
+
+    /// Takes the events that come next.
+    fn take(&mut self, piece: &[(Step, Reply)])
+        ensures { took self.old piece.now self.new };
+
+    /// Whether some of what it took is lost.
+    fn is_cut(&self) -> bool;
+
+    ghost took_none: { (a : Self) → took a [] a };
+
+    ghost took_both: { (a b c : Self) (x y : Trace) → took a x b → took b y c → took a (x ++ y) c };
+}
+
+/// Lets all pieces go.
+#[derive(Drop)]
+pub struct LetGo;
+
+impl PieceTaker for LetGo {
+    ghost took = { λ _ _ _. Unit {0} };
+
+    fn take(&mut self, _piece: &[(Step, Reply)]) {}
+
+    fn is_cut(&self) -> bool {
+        false
+    }
+
+    ghost took_none = { λ _. tt };
+
+    ghost took_both = { λ _ _ _ _ _ _ _. tt };
+}

@@ -1,0 +1,213 @@
+//! All sessions of a server that stays, the workers and the keeper beside them.
+
+ghost use Rattle.std.specs.Prelude.{◌≡◌, ◌++◌, [], IfOk, All, length, vec_len, vec_capacity};
+ghost use Rattle.std.specs.List.{AllZip};
+ghost use Rattle.am_workers.specs.Turns.{HasTakenTurns};
+ghost use Rattle.am_latch.specs.Receipts.{AreAll};
+ghost use Rattle.am_listen.specs.ServerRuns.{HasNewSeat};
+ghost use Rattle.am_listen.specs.Stays.{HasServedInTurn, HasTaken, HasClosed, HasStored, IsStayedRun, all_turns};
+
+use crate::counts::Watcher;
+use crate::house::House;
+use crate::keeper::Keeper;
+use crate::pieces::PieceTaker;
+use crate::server_run::{MERGE_LIMIT, assign_seats, take_seats};
+use crate::turns::serve_in_turn;
+use am_latch::{Blank, Latch, LatchName, Seat, close};
+use am_record::{HashKey, NoMemory};
+use am_seating::SessionSeat;
+use am_words::{WordSeat, Words};
+use am_workers::{WorkerSeats, run_workers};
+use std::alloc::Global;
+use std::rt::Clock;
+use std::sync::Wait;
+use std::thread;
+use std::thread::Threads;
+use std::time::Duration;
+
+/// What a server that stayed did.
+#[derive(Drop)]
+pub struct StayedRun<T: Drop> {
+    /// How many events its trace has.
+    pub events: u64,
+    /// How many transactions committed.
+    pub commits: u64,
+    /// Who took the trace.
+    pub pieces: T,
+}
+
+/// Who takes the trace of a server, who looks at the server, and how long sessions may go on after a stop.
+#[derive(Drop)]
+pub struct Keeping<T: PieceTaker + Drop, V: Watcher + Drop> {
+    pub pieces: T,
+    pub watcher: V,
+    pub grace: Option<Duration>,
+}
+
+// Who works beside the sessions.
+#[derive(Drop)]
+struct Beside<L: LatchName, T: PieceTaker + Drop, V: Watcher + Drop> {
+    worker_seats: Vec<Seat<L>>,
+    keeper: Keeper<L, T, V>,
+}
+
+// Lets workers merge, and the keeper take the trace, until all sessions have ended.
+fn work_beside<
+    L: LatchName + Send + Sync,
+    R: Threads + Wait + Clock + Sync,
+    T: PieceTaker + Drop + Send,
+    V: Watcher + Drop + Send,
+>(rt: &R, latch: &Latch<L>, house: &House<'_>, beside: Beside<L, T, V>) -> Beside<L, T, V>
+    ensures taken { HasTaken T.took beside.keeper.taker beside.keeper.pieces beside.keeper.events result.keeper.taker
+        result.keeper.pieces result.keeper.events }
+    ensures worked { AllZip (HasTakenTurns 16 all_turns) beside.worker_seats.items result.worker_seats.items }
+{
+    let Beside {
+        worker_seats,
+        keeper,
+    } = beside;
+    let (keeper, worked) = thread::join(
+        rt,
+        || -> Keeper<L, T, V>
+            ensures { HasTaken T.took keeper.taker keeper.pieces keeper.events result.taker
+                result.pieces result.events }
+        { keeper.keep(rt, latch, house) },
+        || -> WorkerSeats<L>
+            ensures { AllZip (HasTakenTurns 16 all_turns) worker_seats.items result.seats.items }
+        { run_workers(rt, latch, worker_seats, u64::MAX, MERGE_LIMIT, &house.pacer) },
+    );
+    Beside {
+        worker_seats: worked.seats,
+        keeper,
+    }
+}
+
+// Lets each seat have its sessions.
+fn serve_all<'a, L: LatchName + Send + Sync, R: Threads + Wait + Clock + Sync>(
+    rt: &R,
+    alloc: Global,
+    house: &House<'_>,
+    session_seats: Vec<SessionSeat<'a, L>>,
+) -> Vec<SessionSeat<'a, L>>
+    requires { All HasNewSeat session_seats.items }
+    ensures { AllZip HasServedInTurn session_seats.entry.items result.items }
+{
+    let mut session_seats = session_seats;
+    serve_each(rt, alloc, house, session_seats.as_mut_slice());
+    house.end();
+    session_seats
+}
+
+fn serve_each<'a, L: LatchName + Send + Sync, R: Threads + Wait + Clock + Sync>(
+    rt: &R,
+    alloc: Global,
+    house: &House<'_>,
+    session_seats: &mut [SessionSeat<'a, L>],
+)
+    requires { All HasNewSeat session_seats.old }
+    ensures { AllZip HasServedInTurn session_seats.old session_seats.new }
+{
+    let threads = session_seats.len().max(1);
+    thread::for_each_mut(
+        rt,
+        session_seats,
+        threads,
+        &|place, session_seat| serve_in_turn(rt, alloc, house, place, session_seat),
+    );
+}
+
+// Closes the latch, of which these are all seats, and has what it kept passed on too: behind all that was, all is.
+fn close_all<L: LatchName, T: PieceTaker + Drop, V: Watcher + Drop>(
+    latch: Latch<L>,
+    seats: Vec<Seat<L>>,
+    keeper: Keeper<L, T, V>,
+) -> StayedRun<T>
+    requires { AreAll L.seats seats.items }
+    ensures { (first : T) → HasTaken T.took [] first 0 keeper.taker keeper.pieces keeper.events →
+        HasStored T.took first seats.items result }
+{
+    pass_rest(latch, seats, keeper)
+}
+
+// Closes the latch, of which these are all seats, and has what it kept passed on.
+fn pass_rest<L: LatchName, T: PieceTaker + Drop, V: Watcher + Drop>(
+    latch: Latch<L>,
+    seats: Vec<Seat<L>>,
+    keeper: Keeper<L, T, V>,
+) -> StayedRun<T>
+    requires { AreAll L.seats seats.items }
+    ensures { HasClosed T.took seats.items keeper.taker keeper.pieces keeper.events result }
+{
+    let Keeper {
+        taker,
+        mut pieces,
+        events,
+        ..
+    } = keeper;
+    let Ok(closed) = close(latch, seats, taker) else {
+        unreachable!()
+    };
+    pieces.take(&closed.trace);
+    StayedRun {
+        events: events.saturating_add(closed.trace.len() as u64),
+        commits: closed.store.commits(),
+        pieces,
+    }
+}
+
+/// Opens the latch, serves sessions at each seat of the words until a stop is asked for, and closes the latch.
+pub(crate) fn stay<
+    L: LatchName + Send + Sync,
+    R: Threads + Wait + Clock + Sync,
+    T: PieceTaker + Drop + Send,
+    V: Watcher + Drop + Send,
+>(
+    rt: &R,
+    alloc: Global,
+    hash: HashKey,
+    house: &House<'_>,
+    blank: Blank,
+    words: &Words,
+    word_seats: Vec<WordSeat>,
+    keeping: Keeping<T, V>,
+) -> Result<StayedRun<T>, NoMemory>
+    requires named { (blank.seats ≡ L.seats) × (blank.table ≡ L.table) }
+    requires word_seats { All (λ h. h.of ≡ words.now) word_seats.items }
+    ensures { IfOk result (IsStayedRun T.took keeping.pieces) }
+{
+    let Ok((latch, seats, taker)) = Latch::<L>::open(blank, hash) else {
+        return Err(NoMemory);
+    };
+    let mut all = Vec::new(alloc);
+    all.reserve(seats.len())?;
+    let (session_seats, worker_seats) = assign_seats(alloc, &latch, words, seats, word_seats)?;
+    let Keeping {
+        pieces,
+        watcher,
+        grace,
+    } = keeping;
+    let beside = Beside {
+        worker_seats,
+        keeper: Keeper::new(taker, pieces, watcher, grace),
+    };
+    // Where no second thread can be started the first of these comes last: it waits for the sessions.
+    let (beside, session_seats) = thread::join(
+        rt,
+        || -> Beside<L, T, V>
+            ensures taken { HasTaken T.took beside.keeper.taker beside.keeper.pieces beside.keeper.events
+                result.keeper.taker result.keeper.pieces result.keeper.events }
+            ensures worked { AllZip (HasTakenTurns 16 all_turns) beside.worker_seats.items
+                result.worker_seats.items }
+        { work_beside(rt, &latch, house, beside) },
+        || -> Vec<SessionSeat<'_, L>>
+            requires { All HasNewSeat session_seats.items }
+            ensures { AllZip HasServedInTurn session_seats.entry.items result.items }
+        { serve_all(rt, alloc, house, session_seats) },
+    );
+    take_seats(&mut all, session_seats);
+    let mut worker_seats = beside.worker_seats;
+    let Ok(()) = all.append(&mut worker_seats) else {
+        unreachable!()
+    };
+    Ok(close_all(latch, all, beside.keeper))
+}

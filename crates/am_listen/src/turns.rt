@@ -1,0 +1,79 @@
+//! Sessions one after another at one seat.
+
+ghost use Rattle.std.specs.Prelude.{◌≡◌, ◌^◌, ◌<◌, None};
+ghost use Rattle.am_seating.specs.SessionSeats.{open_at, IsNumbered};
+ghost use Rattle.am_listen.specs.ServerRuns.{WasServed, HasNewSeat};
+ghost use Rattle.am_listen.specs.Stays.{HasServedInTurn};
+
+use crate::house::House;
+use crate::http::NoHttp;
+use crate::sessions::{refuse, say, serve_connection};
+use am_latch::LatchName;
+use am_seating::SessionSeat;
+use am_stream::Reading;
+use std::alloc::Global;
+use std::net::TcpStream;
+use std::rt::Clock;
+use std::sync::{Arc, Wait};
+
+// Serves a connection to its end, where it can be cut.
+fn serve_at_place<'a, R: Wait, L: LatchName>(
+    rt: &R,
+    alloc: Global,
+    house: &House<'_>,
+    place: usize,
+    stream: TcpStream,
+    session_seat: &mut SessionSeat<'a, L>,
+)
+    requires idle { open_at session_seat.old ≡ None }
+    requires numbered { IsNumbered session_seat.old }
+    ensures idle { open_at session_seat.new ≡ None }
+    ensures seat { session_seat.new.seat.number ≡ session_seat.old.seat.number }
+    ensures left { WasServed session_seat.old session_seat.new }
+{
+    let shared = match Arc::new(alloc, stream) {
+        Ok(shared) => shared,
+        Err(failed) => {
+            refuse(&failed.value);
+            return;
+        }
+    };
+    let Ok(other) = Arc::try_clone(&shared) else {
+        refuse(&shared);
+        return;
+    };
+    house.connections.enter(rt, place, other);
+    let mut source = NoHttp::new(Reading::new(&*shared));
+    serve_connection(rt, alloc, &shared, &mut source, &house.pacer, session_seat);
+    house.connections.leave(rt, place);
+}
+
+/// Serves connections at a seat, one after another, until a stop is asked for. Receipts are let go between them.
+pub(crate) fn serve_in_turn<'a, R: Wait + Clock, L: LatchName>(
+    rt: &R,
+    alloc: Global,
+    house: &House<'_>,
+    place: usize,
+    session_seat: &mut SessionSeat<'a, L>,
+)
+    requires { HasNewSeat session_seat.old }
+    ensures { HasServedInTurn session_seat.old session_seat.new }
+{
+    'sessions: for _ in rt.forever() {
+        let mut held = house.gate.lock(rt);
+        let Some(stream) = held.next(rt, &house.tally) else {
+            break;
+        };
+        let drew = session_seat.draw();
+        drop(held);
+        if drew {
+            house.tally.begun.add();
+            serve_at_place(rt, alloc, house, place, stream, session_seat);
+            house.tally.ended.add();
+        } else {
+            say(&stream, b"ERR SESSIONS\n");
+        }
+        session_seat.let_go();
+    }
+    house.pacer.end_session();
+}

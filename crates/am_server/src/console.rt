@@ -1,0 +1,85 @@
+//! What a server that stays says on standard error while it runs.
+
+use crate::fault::ListenFault;
+use am_listen::{Counts, Watcher};
+use std::rt::Clock;
+use std::time::{Duration, Instant};
+
+/// How often it is told how the server does.
+const LOG_SECONDS: u64 = 60;
+
+/// Says once what goes wrong, and each minute how the server does, where that is asked for.
+#[derive(Drop)]
+pub(crate) struct Console<'a, R> {
+    rt: &'a R,
+    is_logged: bool,
+    told_at: Option<Instant>,
+    told_accept: bool,
+    told_cut: bool,
+}
+
+impl<'a, R: Eprint + Clock> Console<'a, R> {
+    pub(crate) fn new(rt: &'a R, is_logged: bool) -> Console<'a, R> {
+        Console {
+            rt,
+            is_logged,
+            told_at: Instant::now(rt).ok(),
+            told_accept: false,
+            told_cut: false,
+        }
+    }
+
+    // Whether a minute has passed since it was told.
+    fn is_due(&self) -> bool {
+        match self.told_at {
+            Some(at) => at
+                .elapsed(self.rt)
+                .is_ok_and(|past| past >= Duration::from_secs(LOG_SECONDS)),
+            None => false,
+        }
+    }
+
+    fn log(&self, counts: &Counts) {
+        let Counts {
+            sessions,
+            open,
+            events,
+            refused_by_system: refused,
+            is_cut,
+        } = *counts;
+        let trace = if is_cut { "cut" } else { "whole" };
+        let _ = eprintln!(self.rt;
+            "sessions={sessions} open={open} steps={events} refused={refused} trace={trace}"
+        );
+    }
+}
+
+// Says it, unless it was said.
+fn say_once<R: Eprint>(rt: &R, is_so: bool, was_said: &mut bool, fault: ListenFault) {
+    if is_so && !*was_said {
+        *was_said = true;
+        let _ = eprintln!(rt; "{}", fault.words());
+    }
+}
+
+impl<'a, R: Eprint + Clock> Watcher for Console<'a, R> {
+    fn look(&mut self, counts: &Counts) {
+        let is_refused = counts.refused_by_system > 0;
+        say_once(
+            self.rt,
+            is_refused,
+            &mut self.told_accept,
+            ListenFault::CannotAccept,
+        );
+        say_once(
+            self.rt,
+            counts.is_cut,
+            &mut self.told_cut,
+            ListenFault::CannotWriteTrace,
+        );
+        if self.is_logged && self.is_due() {
+            self.log(counts);
+            self.told_at = Instant::now(self.rt).ok();
+        }
+    }
+}
