@@ -11,6 +11,9 @@ const DEFAULTS: Listening<'static> = Listening {
     workers: 1,
     trace: None,
     awaits_stop: false,
+    stays: false,
+    grace: None,
+    is_logged: false,
 };
 
 const MOST: Listening<'static> = Listening {
@@ -19,9 +22,20 @@ const MOST: Listening<'static> = Listening {
     workers: 16,
     trace: Some("t"),
     awaits_stop: true,
+    stays: false,
+    grace: None,
+    is_logged: false,
 };
 
-const ASKED: [Asked<'static>; 18] = [
+const STAYING: Listening<'static> = Listening {
+    sessions: 64,
+    stays: true,
+    grace: Some(3600),
+    is_logged: true,
+    ..DEFAULTS
+};
+
+const ASKED: [Asked<'static>; 22] = [
     (&["amserve", "alone"], Ok(Options::Alone { auto: 16 })),
     (
         &["amserve", "alone", "--auto", "0"],
@@ -53,6 +67,23 @@ const ASKED: [Asked<'static>; 18] = [
         ],
         Ok(Options::Listen(MOST)),
     ),
+    (
+        &[
+            "amserve", "listen", "--port", "0", "--stay", "--grace", "3600", "--log",
+        ],
+        Ok(Options::Listen(STAYING)),
+    ),
+    (
+        &[
+            "amserve", "listen", "--port", "0", "--stay", "--grace", "3601",
+        ],
+        Err(2),
+    ),
+    (
+        &["amserve", "listen", "--port", "0", "--grace", "1"],
+        Err(2),
+    ),
+    (&["amserve", "listen", "--port", "0", "--log"], Err(2)),
     (&["amserve", "listen"], Err(2)),
     (&["amserve", "listen", "--port", "65536"], Err(2)),
     (
@@ -82,15 +113,18 @@ fn words_give_their_options(rt: HostRuntime) {
     }
 }
 
-/// Words, and the file that they name with whether its records are told, or the status with which they are refused.
-type Named<'a> = (&'a [&'a str], Result<(Option<&'a str>, bool), u8>);
+/// Words, and the file that they name, whether its records are told and whether it is open, or the status with which they
+/// are refused.
+type Named<'a> = (&'a [&'a str], Result<(Option<&'a str>, bool, bool), u8>);
 
-const NAMED: [Named<'static>; 9] = [
-    (&["amaudit"], Ok((None, false))),
-    (&["amaudit", "t"], Ok((Some("t"), false))),
-    (&["amaudit", "-"], Ok((Some("-"), false))),
-    (&["amaudit", "--records"], Ok((None, true))),
-    (&["amaudit", "--records", "t"], Ok((Some("t"), true))),
+const NAMED: [Named<'static>; 11] = [
+    (&["amaudit"], Ok((None, false, false))),
+    (&["amaudit", "t"], Ok((Some("t"), false, false))),
+    (&["amaudit", "-"], Ok((Some("-"), false, false))),
+    (&["amaudit", "--records"], Ok((None, true, false))),
+    (&["amaudit", "--records", "t"], Ok((Some("t"), true, false))),
+    (&["amaudit", "--open", "t"], Ok((Some("t"), false, true))),
+    (&["amaudit", "--open", "--records"], Ok((None, true, true))),
     (&["amaudit", "t", "u"], Err(2)),
     (&["amaudit", "--trace"], Err(2)),
     (&["amaudit", "--help"], Err(0)),
@@ -100,9 +134,10 @@ const NAMED: [Named<'static>; 9] = [
 #[test]
 fn words_name_a_file(rt: HostRuntime) {
     for (words, named) in NAMED {
-        let named = named.map(|(file, tells_records)| Audited {
+        let named = named.map(|(file, tells_records, is_open)| Audited {
             file,
             tells_records,
+            is_open,
         });
         assert!(rt; audited(rt.alloc(), words).map_err(|fault| fault.status()) == named);
     }
