@@ -4,13 +4,14 @@
 //! It writes a file for each way, of lines "query, seconds of it, seconds from the data's coming to its answer", and to
 //! standard output what they come to.
 
+mod ways;
+
 use std::collections::BTreeMap;
-use std::ffi::{c_char, c_int, c_void, CStr};
 use std::fs::File;
 use std::hint::black_box;
 use std::io::{BufWriter, Write};
-use std::ptr::null_mut;
 use std::time::{Duration, Instant};
+use ways::{text, Numbers, Record, Sqlite, Statement, Store, Text};
 
 const RECORDS: usize = 1_000_000;
 const RUNS: usize = 16;
@@ -19,31 +20,6 @@ const HOT_QUERIES: usize = 10_000;
 const OTHER_QUERIES: usize = 1_000;
 // Without an index a query takes so long that a few of them tell it.
 const QUERIES_WITHOUT: usize = 100;
-
-type Text = [u8; 16];
-type Record = (Text, Text);
-
-/// A fixed sequence of numbers (xorshift, Marsaglia 2003).
-struct Numbers(u64);
-
-impl Numbers {
-    fn next(&mut self) -> u64 {
-        self.0 ^= self.0 << 13;
-        self.0 ^= self.0 >> 7;
-        self.0 ^= self.0 << 17;
-        self.0
-    }
-
-    fn below(&mut self, bound: usize) -> usize {
-        (self.next() % bound as u64) as usize
-    }
-}
-
-fn text(number: u64) -> Text {
-    let mut text = [0; 16];
-    text.copy_from_slice(format!("{number:016x}").as_bytes());
-    text
-}
 
 /// The records in the order of their coming, and the ranges that are asked for, of 100 records each: first 10,000 in a hot
 /// twentieth of the keys, then 1,000 anywhere.
@@ -68,137 +44,16 @@ trait Way {
     fn query(&mut self, lo: &Text, hi: &Text) -> usize;
 }
 
-// ---- Tiuvrokk, by its library for C
+// ---- Tiuvrokk
 
-#[repr(C)]
-struct Handle(*mut c_void);
-
-#[repr(C)]
-#[derive(Clone, Copy)]
-struct Key {
-    length: usize,
-    bytes: [u8; 32],
+/// A store with the records in runs, each sorted before it is loaded.
+fn loaded(records: &[Record]) -> Store {
+    let mut store = Store::open();
+    store.load(records.chunks(RECORDS / RUNS));
+    store
 }
 
-#[repr(C)]
-#[derive(Clone, Copy)]
-struct Value {
-    length: usize,
-    bytes: [u8; 64],
-}
-
-#[repr(C)]
-#[derive(Clone, Copy)]
-struct Row {
-    key: Key,
-    value: Value,
-}
-
-extern "C" {
-    fn tvk_open(store: *mut Handle) -> c_int;
-    fn tvk_close(store: *mut Handle) -> c_int;
-    fn tvk_begin(store: *mut Handle, tx: *mut u64) -> c_int;
-    fn tvk_commit(store: *mut Handle, tx: u64, commit: *mut u64) -> c_int;
-    fn tvk_load(store: *mut Handle, tx: u64, rows: *const Row, number: usize, exists: *mut Key, holder: *mut u64) -> c_int;
-    fn tvk_scan(
-        store: *mut Handle, tx: u64, lo: *const u8, lo_length: usize, hi: *const u8, hi_length: usize, rows: *mut Row, limit: usize,
-        told: *mut u64,
-    ) -> c_int;
-    fn tvk_merge(store: *mut Handle, limit: u64, told: *mut u64) -> c_int;
-}
-
-const OK: c_int = 0;
-const IDLE: c_int = 7;
-
-const NO_ROW: Row = Row { key: Key { length: 0, bytes: [0; 32] }, value: Value { length: 0, bytes: [0; 64] } };
-
-struct Tiuvrokk {
-    store: Handle,
-    rows: Vec<Row>,
-    moved: u64,
-}
-
-impl Tiuvrokk {
-    /// A store with the records in runs, each sorted before it is loaded.
-    fn load(records: &[Record]) -> Tiuvrokk {
-        let mut way = Tiuvrokk { store: Handle(null_mut()), rows: vec![NO_ROW; 1000], moved: 0 };
-        let tx = unsafe {
-            assert_eq!(tvk_open(&mut way.store), OK);
-            way.begin()
-        };
-        for run in records.chunks(RECORDS / RUNS) {
-            let mut sorted = run.to_vec();
-            sorted.sort_unstable();
-            let rows: Vec<Row> = sorted.iter().map(row).collect();
-            assert_eq!(unsafe { tvk_load(&mut way.store, tx, rows.as_ptr(), rows.len(), null_mut(), null_mut()) }, OK);
-        }
-        way.commit(tx);
-        way
-    }
-
-    fn begin(&mut self) -> u64 {
-        let mut tx = 0;
-        assert_eq!(unsafe { tvk_begin(&mut self.store, &mut tx) }, OK);
-        tx
-    }
-
-    fn commit(&mut self, tx: u64) {
-        assert_eq!(unsafe { tvk_commit(&mut self.store, tx, null_mut()) }, OK);
-    }
-
-    fn scan(&mut self, lo: &[u8], hi: &[u8], limit: usize) -> usize {
-        let tx = self.begin();
-        let mut told = 0;
-        let rows = self.rows.as_mut_ptr();
-        assert_eq!(unsafe { tvk_scan(&mut self.store, tx, lo.as_ptr(), lo.len(), hi.as_ptr(), hi.len(), rows, limit, &mut told) }, OK);
-        self.commit(tx);
-        told as usize
-    }
-
-    /// Merges what was read, and nothing else.
-    fn merge(&mut self) {
-        let mut told = 0;
-        loop {
-            let status = unsafe { tvk_merge(&mut self.store, 64, &mut told) };
-            if status == IDLE {
-                return;
-            }
-            self.moved += if status == OK { told } else { 0 };
-        }
-    }
-
-    /// Reads and so merges all that there is.
-    fn merge_all(&mut self) {
-        let mut from = [0; 32].to_vec();
-        from.truncate(1);
-        loop {
-            let found = self.scan(&from.clone(), &[0x7e; 32], 1000);
-            self.merge();
-            let last = self.rows[found - 1].key;
-            from = last.bytes[..last.length].to_vec();
-            if found < 1000 {
-                return;
-            }
-        }
-    }
-}
-
-impl Drop for Tiuvrokk {
-    fn drop(&mut self) {
-        unsafe { tvk_close(&mut self.store) };
-    }
-}
-
-fn row(record: &Record) -> Row {
-    let mut row = NO_ROW;
-    row.key.length = record.0.len();
-    row.key.bytes[..record.0.len()].copy_from_slice(&record.0);
-    row.value.length = record.1.len();
-    row.value.bytes[..record.1.len()].copy_from_slice(&record.1);
-    row
-}
-
-impl Way for Tiuvrokk {
+impl Way for Store {
     fn query(&mut self, lo: &Text, hi: &Text) -> usize {
         let found = self.scan(lo, hi, 1000);
         self.merge();
@@ -243,91 +98,33 @@ impl Way for NoIndex<'_> {
     }
 }
 
-// ---- SQLite, in memory
+// ---- SQLite
 
-extern "C" {
-    fn sqlite3_open(name: *const c_char, db: *mut *mut c_void) -> c_int;
-    fn sqlite3_close(db: *mut c_void) -> c_int;
-    fn sqlite3_exec(db: *mut c_void, sql: *const c_char, call: *mut c_void, with: *mut c_void, error: *mut *mut c_char) -> c_int;
-    fn sqlite3_prepare_v2(db: *mut c_void, sql: *const c_char, length: c_int, made: *mut *mut c_void, tail: *mut *const c_char) -> c_int;
-    fn sqlite3_bind_text(made: *mut c_void, at: c_int, text: *const u8, length: c_int, free: *const c_void) -> c_int;
-    fn sqlite3_step(made: *mut c_void) -> c_int;
-    fn sqlite3_reset(made: *mut c_void) -> c_int;
-    fn sqlite3_finalize(made: *mut c_void) -> c_int;
-    fn sqlite3_column_text(made: *mut c_void, at: c_int) -> *const u8;
+struct Table {
+    select: Statement,
+    _sqlite: Sqlite,
 }
 
-const SQLITE_ROW: c_int = 100;
-const SQLITE_DONE: c_int = 101;
-
-struct Sqlite {
-    db: *mut c_void,
-    select: *mut c_void,
-}
-
-impl Sqlite {
+impl Table {
     /// A table that is filled and then indexed.
-    fn load(records: &[Record]) -> Sqlite {
-        let mut way = Sqlite { db: null_mut(), select: null_mut() };
-        assert_eq!(unsafe { sqlite3_open(c":memory:".as_ptr(), &mut way.db) }, 0);
-        way.exec(c"CREATE TABLE records (key TEXT NOT NULL, value TEXT NOT NULL)");
-        way.exec(c"BEGIN");
-        let insert = way.prepare(c"INSERT INTO records VALUES (?, ?)");
+    fn load(records: &[Record]) -> Table {
+        let mut sqlite = Sqlite::open();
+        sqlite.exec(c"CREATE TABLE records (key TEXT NOT NULL, value TEXT NOT NULL)");
+        sqlite.exec(c"BEGIN");
+        let mut insert = sqlite.prepare(c"INSERT INTO records VALUES (?, ?)");
         for (key, value) in records {
-            bind(insert, 1, key);
-            bind(insert, 2, value);
-            unsafe {
-                assert_eq!(sqlite3_step(insert), SQLITE_DONE);
-                sqlite3_reset(insert);
-            }
+            insert.run(&[key, value]);
         }
-        unsafe { sqlite3_finalize(insert) };
-        way.exec(c"CREATE UNIQUE INDEX by_key ON records (key, value)");
-        way.exec(c"COMMIT");
-        way.select = way.prepare(c"SELECT key, value FROM records WHERE key BETWEEN ? AND ? ORDER BY key");
-        way
-    }
-
-    fn exec(&mut self, sql: &CStr) {
-        assert_eq!(unsafe { sqlite3_exec(self.db, sql.as_ptr(), null_mut(), null_mut(), null_mut()) }, 0);
-    }
-
-    fn prepare(&mut self, sql: &CStr) -> *mut c_void {
-        let mut made = null_mut();
-        assert_eq!(unsafe { sqlite3_prepare_v2(self.db, sql.as_ptr(), -1, &mut made, null_mut()) }, 0);
-        made
+        drop(insert);
+        sqlite.exec(c"CREATE UNIQUE INDEX by_key ON records (key, value)");
+        sqlite.exec(c"COMMIT");
+        Table { select: sqlite.prepare(c"SELECT key, value FROM records WHERE key BETWEEN ? AND ? ORDER BY key"), _sqlite: sqlite }
     }
 }
 
-fn bind(made: *mut c_void, at: c_int, text: &Text) {
-    assert_eq!(unsafe { sqlite3_bind_text(made, at, text.as_ptr(), text.len() as c_int, null_mut()) }, 0);
-}
-
-fn column(made: *mut c_void, at: c_int) -> Text {
-    let mut text = [0; 16];
-    text.copy_from_slice(unsafe { std::slice::from_raw_parts(sqlite3_column_text(made, at), 16) });
-    text
-}
-
-impl Way for Sqlite {
+impl Way for Table {
     fn query(&mut self, lo: &Text, hi: &Text) -> usize {
-        bind(self.select, 1, lo);
-        bind(self.select, 2, hi);
-        let mut rows = Vec::new();
-        while unsafe { sqlite3_step(self.select) } == SQLITE_ROW {
-            rows.push((column(self.select, 0), column(self.select, 1)));
-        }
-        unsafe { sqlite3_reset(self.select) };
-        found(&rows)
-    }
-}
-
-impl Drop for Sqlite {
-    fn drop(&mut self) {
-        unsafe {
-            sqlite3_finalize(self.select);
-            sqlite3_close(self.db);
-        }
+        found(&self.select.records(&[lo, hi]))
     }
 }
 
@@ -396,7 +193,7 @@ fn main() {
     let (records, ranges) = workload();
     println!("{RECORDS} records in random order, keys and values of 16 bytes; {HOT_QUERIES} scans of {ROWS} over a hot twentieth, then {OTHER_QUERIES} anywhere");
     println!("{:<38} {:>10} {:>8} {:>8} {:>8} {:>8} {:>8}", "", "to the 1st", "query 1", "10", "100", "1,000", "10,000 (us)");
-    let (ours, store) = measure(|| Tiuvrokk::load(&records), &ranges);
+    let (ours, store) = measure(|| loaded(&records), &ranges);
     tell(&folder, "tiuvrokk", "Tiuvrokk, 16 runs, merged by queries", &ours);
     let moved = store.moved;
     drop(store);
@@ -406,11 +203,11 @@ fn main() {
     let (sorted, map) = measure(|| map_of_sorted(&records), &ranges);
     tell(&folder, "sorted", "std's map, built of all, sorted", &sorted);
     drop(map);
-    let (sqlite, _) = measure(|| Sqlite::load(&records), &ranges);
+    let (sqlite, _) = measure(|| Table::load(&records), &ranges);
     tell(&folder, "sqlite", "SQLite :memory:, then CREATE INDEX", &sqlite);
     let (without, _) = measure(|| NoIndex(&records), &ranges[..QUERIES_WITHOUT]);
     tell(&folder, "no_index", "no index", &without);
-    let mut whole = Tiuvrokk::load(&records);
+    let mut whole = loaded(&records);
     whole.merge_all();
     let (merged, _) = measure(|| whole, &ranges[..HOT_QUERIES]);
     println!("moved by the queries: {moved} records");
