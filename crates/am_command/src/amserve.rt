@@ -112,7 +112,9 @@ fn alone<'a>(alloc: Global) -> Result<Command<'a>, AllocError>
         ))
 }
 
-/// `listen`, with what each server takes and what goes with one that stays: `[--stay] [--grace S] [--log]`.
+/// `listen`, with what each server takes and what goes with one that stays: `[--stay] [--grace S] [--log]`. It has a
+/// frame of its own, so that none is large.
+#[inline(never)]
 fn listen<'a>(alloc: Global) -> Result<Command<'a>, AllocError>
     ensures { IfOk result (λ command. IsCommand listen_app command) }
 {
