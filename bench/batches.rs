@@ -40,7 +40,7 @@ fn sorted(batch: &[Record]) -> Vec<Record> {
     sorted
 }
 
-// ---- Tiuvrokk: a scan has the merging behind it with it
+// ---- Tiuvrokk: each batch is a run, and nothing is merged
 
 impl Way for Store {
     fn add(&mut self, batch: &[Record]) {
@@ -52,9 +52,7 @@ impl Way for Store {
     }
 
     fn scan(&mut self, lo: &Text) -> usize {
-        let found = Store::scan(self, lo, &LAST, ROWS);
-        self.merge();
-        found
+        Store::scan(self, lo, &LAST, ROWS)
     }
 }
 
