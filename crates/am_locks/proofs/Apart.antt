@@ -11,8 +11,6 @@ use Rattle.am_record.specs.OrderedKey.{OrderedKey}
 use Rattle.am_record.specs.Interval.{within}
 use Rattle.am_record.specs.Locks.{conflicts, is_covered, is_exclusive, with_lock}
 use Rattle.am_record.specs.declared.lock.Lock.{Lock}
-use Rattle.am_locks.specs.declared.asked.Asked.{Asked}
-use Rattle.am_locks.specs.declared.asked.Asked.TheVariants.{Granted, Busy, TooManyLocks, NoMemory}
 use Rattle.am_locks.specs.OwnerLocks.{OwnerLocks, has_conflict, is_exclusive_at, NoConflicts, AreApart}
 use Rattle.am_locks.specs.Table.{is_owner, locks_owned, entered, relocked, with_locks, blockers, exclusive_holders}
 use Rattle.am_locks.specs.Table.{AreAllApart}
@@ -142,7 +140,7 @@ blockers-none (h ∷ table) tx asked e =
 
 -- ---- exclusive locks on one key
 
-filter_none : {X : Type 0} (p : X → Bool) (xs : List X) → All (λ x. p x ≡ false) xs → filter p xs ≡ []
+pub filter_none : {X : Type 0} (p : X → Bool) (xs : List X) → All (λ x. p x ≡ false) xs → filter p xs ≡ []
 filter_none p [] a = refl
 filter_none p (x ∷ xs) a =
     ap (λ b. cond b (x ∷ filter p xs) (filter p xs)) (All-head (λ x. p x ≡ false) x xs a) ∙
@@ -194,39 +192,3 @@ pub AreAllApart-with_lock : (table : List OwnerLocks) (tx : ℕ) (asked : Lock) 
 AreAllApart-with_lock table tx asked a free =
     AreAllApart-with_locks table tx _ a (Spares-with_lock table tx (locks_owned table tx) asked (Spares-own table tx a)
     (blockers-none table tx asked free))
-
--- the same locks
-pub AreAllApart-own : (table : List OwnerLocks) (tx : ℕ) → AreAllApart table →
-    AreAllApart (with_locks table tx (locks_owned table tx))
-AreAllApart-own table tx a = AreAllApart-with_locks table tx _ a (Spares-own table tx a)
-
--- an owner after it asked for a lock that nobody blocks
-pub record IsRelocked (table : List OwnerLocks) (tx : ℕ) (new : OwnerLocks) : Type 0 where
-  pub owner : new.owner ≡ tx
-  pub apart : AreAllApart (with_locks table tx new.locks)
-
-granted : (table : List OwnerLocks) (tx : ℕ) (asked : Lock) (old new : OwnerLocks) → AreAllApart table →
-    blockers table tx asked ≡ [] → old ≡ record { owner = tx; locks = locks_owned table tx }
-    → new.owner ≡ old.owner → new.locks ≡ with_lock old.locks asked → IsRelocked table tx new
-granted table tx asked old new a free e o l = record {
-  owner = o ∙ (λ i. (e i).owner);
-  apart = subst (λ ls. AreAllApart (with_locks table tx ls)) (sym (l ∙ (λ i. with_lock (e i).locks asked)))
-      (AreAllApart-with_lock table tx asked a free);
-}
-
-unchanged : (table : List OwnerLocks) (tx : ℕ) (old new : OwnerLocks) → AreAllApart table →
-    old ≡ record { owner = tx; locks = locks_owned table tx } → new ≡ old → IsRelocked table tx new
-unchanged table tx old new a e n = record {
-  owner = λ i. ((n ∙ e) i).owner;
-  apart = subst (λ ls. AreAllApart (with_locks table tx ls)) (sym (λ i. ((n ∙ e) i).locks))
-      (AreAllApart-own table tx a);
-}
-
-pub IsRelocked-asked : (answer : Asked) (table : List OwnerLocks) (tx : ℕ) (asked : Lock) (old new : OwnerLocks) →
-    AreAllApart table → blockers table tx asked ≡ [] → old ≡ record { owner = tx; locks = locks_owned table tx }
-    → new.owner ≡ old.owner → (answer ≡ Granted → new.locks ≡ with_lock old.locks asked) →
-    (answer ≢ Granted → new ≡ old) → IsRelocked table tx new
-IsRelocked-asked Granted table tx asked old new a free e o g r = granted table tx asked old new a free e o (g refl)
-IsRelocked-asked (Busy h) table tx asked old new a free e o g r = unchanged table tx old new a e (r (λ p. cc))
-IsRelocked-asked TooManyLocks table tx asked old new a free e o g r = unchanged table tx old new a e (r (λ p. cc))
-IsRelocked-asked NoMemory table tx asked old new a free e o g r = unchanged table tx old new a e (r (λ p. cc))

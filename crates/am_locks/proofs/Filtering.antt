@@ -6,42 +6,38 @@ use Rattle.std.proofs.lemmas.Bool.{and_parts, true≢false, false_from_ne_true, 
 use Rattle.std.proofs.lemmas.List.{get_or-set_same, get_or-set_other}
 use Rattle.std.proofs.lemmas.List.Folds.{list_any-append}
 use Rattle.am_record.specs.OrderedKey.{OrderedKey}
-use Rattle.am_record.specs.Interval.{Interval, key_le, within}
-use Rattle.am_record.specs.KeyMix.{key_mix}
+use Rattle.am_record.specs.Interval.{key_le, within}
 use Rattle.am_record.specs.Locks.{conflicts, is_exclusive, are_compatible}
 use Rattle.am_record.specs.declared.lock.Lock.{Lock}
-use Rattle.am_record.proofs.FirstRows.{le_both}
 use Rattle.am_locks.specs.declared.key_filter.KeyFilter.{KeyFilter}
-use Rattle.am_locks.specs.KeyFilter.{denies, IsFilterOf, IsNumberOf}
-
--- ---- the one key of a range
-
-the_one_key : (r : Interval) (key : OrderedKey) → r.lo ≡ r.hi → within r key ≡ true → key ≡ r.lo
-the_one_key r key one h =
-    let parts = and_parts _ _ h in
-    le_both key r.lo (ap (key_le key) one ∙ parts.1) parts.0
+use Rattle.am_locks.specs.KeyCounts.{key_bucket, bucket_of}
+use Rattle.am_locks.specs.KeyFilter.{denies, IsFilterOf}
+use Rattle.am_locks.proofs.Buckets.{the_one_key, HasOneKey, HasOneKey-from_bucket}
 
 -- ---- what is denied
 
 -- the lock is none of what stays denied once its slot is set
-module _ (key_filter : KeyFilter) (lock : Lock) (number i : ℕ) (is : IsNumberOf lock number) (slot : i ≡ number % 256)
-    (inside : i < length key_filter.slots) where
+module _ (key_filter : KeyFilter) (lock : Lock) (bucket i : ℕ) (is : bucket ≡ bucket_of lock) (narrow : bucket ≢ 4096)
+    (slot : i ≡ bucket % 256) (inside : i < length key_filter.slots) where
   abbrev pub with_slot : KeyFilter
   with_slot = record key_filter { slots = set key_filter.slots i true }
 
-  elsewhere : (key : OrderedKey) → denies with_slot (key_mix key) ≡ true → key_mix key % 256 ≢ i
+  one : HasOneKey lock
+  one = HasOneKey-from_bucket lock bucket is narrow
+
+  elsewhere : (key : OrderedKey) → denies with_slot (key_bucket key) ≡ true → key_bucket key % 256 ≢ i
   elsewhere key h e =
       true≢false (sym (and_parts _ _ h).1 ∙ ap not (ap (λ (j : ℕ). get_or (set key_filter.slots i true) j true) e ∙
       get_or-set_same key_filter.slots i true true inside))
 
-  before : (key : OrderedKey) → denies with_slot (key_mix key) ≡ true → denies key_filter (key_mix key) ≡ true
+  before : (key : OrderedKey) → denies with_slot (key_bucket key) ≡ true → denies key_filter (key_bucket key) ≡ true
   before key h = ap (λ b. not key_filter.has_wide && not b)
-      (sym (get_or-set_other key_filter.slots i (key_mix key % 256) true true (elsewhere key h))) ∙ h
+      (sym (get_or-set_other key_filter.slots i (key_bucket key % 256) true true (elsewhere key h))) ∙ h
 
-  outside : (key : OrderedKey) → denies with_slot (key_mix key) ≡ true → within lock.range key ≡ false
+  outside : (key : OrderedKey) → denies with_slot (key_bucket key) ≡ true → within lock.range key ≡ false
   outside key h = false_from_ne_true (within lock.range key) (λ w.
-      elsewhere key h (ap (λ k. key_mix k % 256) (the_one_key lock.range key is.one_key w) ∙
-      ap (λ (n : ℕ). n % 256) (sym is.mixed) ∙ sym slot))
+      elsewhere key h (ap (λ k. key_bucket k % 256) (the_one_key lock.range key one.ends w) ∙
+      ap (λ (n : ℕ). n % 256) (sym (is ∙ one.bucket)) ∙ sym slot))
 
   pub key_filter-point : (locks : List Lock) → IsFilterOf locks key_filter → IsFilterOf (locks ++ lock ∷ []) with_slot
   key_filter-point locks promise = λ key h.
@@ -55,7 +51,7 @@ fails_too : (test other : Lock → Bool) (l : Lock) (b later others : Bool) → 
 fails_too test other l true later others k h fails rest = cc
 fails_too test other l false later others k h fails rest = (λ i. fails k i || others) ∙ rest h
 
-none_of : (test other : Lock → Bool) → ((l : Lock) → test l ≡ false → other l ≡ false) → (locks : List Lock) →
+pub none_of : (test other : Lock → Bool) → ((l : Lock) → test l ≡ false → other l ≡ false) → (locks : List Lock) →
     list_any test locks ≡ false → list_any other locks ≡ false
 none_of test other fails [] e = refl
 none_of test other fails (l ∷ locks) e = fails_too test other l (test l) (list_any test locks) (list_any other locks)
@@ -68,20 +64,21 @@ apart false true c e = refl
 apart false false c e = refl
 
 -- a lock of one key that is denied conflicts with none
-pub denied_conflict : (key_filter : KeyFilter) (asked : Lock) (number : ℕ) (locks : List Lock) →
-    IsFilterOf locks key_filter → IsNumberOf asked number → denies key_filter number ≡ true →
+pub denied_conflict : (key_filter : KeyFilter) (asked : Lock) (bucket : ℕ) (locks : List Lock) →
+    IsFilterOf locks key_filter → bucket ≡ bucket_of asked → bucket ≢ 4096 → denies key_filter bucket ≡ true →
     list_any (conflicts asked) locks ≡ false
-denied_conflict key_filter asked number locks promise is h =
+denied_conflict key_filter asked bucket locks promise is narrow h =
+    let one = HasOneKey-from_bucket asked bucket is narrow in
     none_of (λ l. within l.range asked.range.lo) (conflicts asked)
-    (λ l e. (λ i. (key_le asked.range.lo l.range.hi && key_le l.range.lo (sym is.one_key i)) && not
+    (λ l e. (λ i. (key_le asked.range.lo l.range.hi && key_le l.range.lo (sym one.ends i)) && not
     (are_compatible asked.mode l.mode))
     ∙ apart (key_le l.range.lo asked.range.lo) (key_le asked.range.lo l.range.hi)
     (not (are_compatible asked.mode l.mode)) e)
-    locks (promise asked.range.lo (subst (λ n. denies key_filter n ≡ true) is.mixed h))
+    locks (promise asked.range.lo (subst (λ n. denies key_filter n ≡ true) (is ∙ one.bucket) h))
 
 -- and no lock on it is exclusive
 pub denied_exclusive : (key_filter : KeyFilter) (key : OrderedKey) (locks : List Lock) → IsFilterOf locks key_filter →
-    denies key_filter (key_mix key) ≡ true → list_any (λ l. is_exclusive l.mode && within l.range key) locks ≡ false
+    denies key_filter (key_bucket key) ≡ true → list_any (λ l. is_exclusive l.mode && within l.range key) locks ≡ false
 denied_exclusive key_filter key locks promise h =
     none_of (λ l. within l.range key) (λ l. is_exclusive l.mode && within l.range key)
     (λ l e. and_right (is_exclusive l.mode) (within l.range key) e) locks (promise key h)

@@ -1,9 +1,12 @@
 pub mod Spans
 pub mod Puts
 pub mod FirstLocks
+pub mod Buckets
+pub mod Counting
 pub mod Filtering
 pub mod Conflicts
 pub mod Apart
+pub mod AllLocks
 pub mod Places
 pub mod Least
 pub mod Laws

@@ -1,5 +1,6 @@
 pub mod OwnerLocks
 pub mod Fronts
+pub mod KeyCounts
 pub mod KeyFilter
 pub mod Table
 pub mod Answers

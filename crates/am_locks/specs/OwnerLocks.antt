@@ -1,5 +1,5 @@
 -- The owner of locks, and what it holds.
-use Rattle.std.specs.Prelude.{ℕ, List, Bool, not, ◌==◌, ◌&&◌, ◌≡◌, ◌≢◌, false, refl}
+use Rattle.std.specs.Prelude.{ℕ, ◌≤◌, List, length, Bool, not, ◌==◌, ◌&&◌, ◌≡◌, ◌≢◌, false, refl}
 use Rattle.std.specs.Coded.{Coded, code_by, coded×, coded_ℕ, coded_list}
 use Rattle.std.specs.List.{list_any, All}
 use Rattle.am_record.specs.OrderedKey.{OrderedKey}
@@ -30,6 +30,10 @@ blocks tx asked held = not (held.owner == tx) && has_conflict asked held
 -- whether the owner holds an exclusive lock on the key
 abbrev pub is_exclusive_at : OrderedKey → OwnerLocks → Bool
 is_exclusive_at key held = list_any (λ l. is_exclusive l.mode && within l.range key) held.locks
+
+-- the owner has no more locks than it may have
+abbrev pub HasFew : OwnerLocks → Type 0
+HasFew held = length held.locks ≤ 256
 
 -- no lock of the first list conflicts with one of the second
 abbrev pub NoConflicts : List Lock → List Lock → Type 0

@@ -1,18 +1,19 @@
 //! One owner of locks.
 
-ghost use Rattle.std.specs.Prelude.{◌≡◌, ◌≢◌, ◌<◌, ◌≤◌, ◌↔◌, ◌&&◌, ℕ, ◌++◌, ◌∷◌, [], false, length, take, drop, IfSome};
+ghost use Rattle.std.specs.Prelude.{◌≡◌, ◌≢◌, ◌<◌, ◌≤◌, ◌↔◌, ◌&&◌, ℕ, ◌++◌, ◌∷◌, [], length, take, drop};
 ghost use Rattle.std.specs.Prelude.{IsOk, OnOk, vec_capacity};
-ghost use Rattle.std.specs.List.{list_any};
+ghost use Rattle.std.specs.List.{list_any, count_by};
 ghost use Rattle.am_record.specs.Interval.{within};
-ghost use Rattle.am_record.specs.KeyMix.{key_mix};
-ghost use Rattle.am_record.specs.Locks.{conflicts, is_covered, is_exclusive, with_lock};
+ghost use Rattle.am_record.specs.Locks.{conflicts, is_covered, is_exclusive};
 ghost use Rattle.am_locks.specs.OwnerLocks.{has_conflict, blocks, is_exclusive_at};
 ghost use Rattle.am_locks.specs.Fronts.{any_exclusive, AreFrontsOf};
-ghost use Rattle.am_locks.specs.KeyFilter.{IsFilterOf, IsNumberOf};
+ghost use Rattle.am_locks.specs.KeyCounts.{key_bucket, bucket_of, is_near};
+ghost use Rattle.am_locks.specs.KeyFilter.{IsFilterOf};
 ghost use Rattle.smallvec.specs.SmallVec.{HasRoomFor};
 
 use crate::asked::Asked;
 use crate::fronts::Fronts;
+use crate::key_counts::WIDE;
 use crate::key_filter::{KeyFilter, key_filter_of};
 use am_record::{Key, Lock, MAX_LOCKS};
 use smallvec::SmallVec;
@@ -81,61 +82,71 @@ impl Owner {
         self.locks.len()
     }
 
-    /// Whether one of its locks keeps the transaction from the asked lock. Its own never do. The number is that of the
-    /// asked lock's key, so that it is made once for many owners; it is given where that lock has one key alone.
-    pub(crate) fn blocks(&self, tx: u64, asked: &Lock, number: Option<u64>) -> bool
-        requires { IfSome number (IsNumberOf asked.now) }
-        ensures { result ≡ blocks tx asked.now self.now }
+    /// Its locks.
+    pub(crate) fn locks(&self) -> &[Lock]
+        ensures { result.now ≡ self.now.locks }
     {
-        self.number != tx && self.has_conflict(asked, number)
+        &self.locks
     }
 
-    fn has_conflict(&self, asked: &Lock, number: Option<u64>) -> bool
-        requires { IfSome number (IsNumberOf asked.now) }
+    /// Whether one of its locks keeps the transaction from the asked lock. Its own never do. The bucket is that of the
+    /// asked lock, so that it is made once for many owners.
+    pub(crate) fn blocks(&self, tx: u64, asked: &Lock, bucket: usize) -> bool
+        requires { bucket ≡ bucket_of asked.now }
+        ensures { result ≡ blocks tx asked.now self.now }
+    {
+        self.number != tx && self.has_conflict(asked, bucket)
+    }
+
+    fn has_conflict(&self, asked: &Lock, bucket: usize) -> bool
+        requires { bucket ≡ bucket_of asked.now }
         ensures { result ≡ has_conflict asked.now self.now }
     {
         if !self.has_exclusive && !asked.mode.is_exclusive() {
             return false;
         }
-        if let Some(number) = number {
-            if self.key_filter.denies(number) {
-                return false;
-            }
+        if bucket != WIDE && self.key_filter.denies(bucket) {
+            return false;
         }
         conflict_among(first_of(&self.locks), asked) || self.later.conflict(asked)
     }
 
-    /// Whether one of its locks is exclusive, on the key of this number.
-    pub(crate) fn is_exclusive_at(&self, key: Key, number: u64) -> bool
-        requires { number ≡ key_mix key }
+    /// Whether one of its locks is exclusive, on the key of this bucket.
+    pub(crate) fn is_exclusive_at(&self, key: Key, bucket: usize) -> bool
+        requires { bucket ≡ key_bucket key }
         ensures { result ≡ is_exclusive_at key self.now }
     {
-        if !self.has_exclusive || self.key_filter.denies(number) {
+        if !self.has_exclusive || self.key_filter.denies(bucket) {
             return false;
         }
         is_exclusive_among(first_of(&self.locks), key) || self.later.is_exclusive_at(key)
     }
 
-    fn covers(&self, asked: &Lock) -> bool
+    /// How many of its locks have the asked lock's key or more keys than one, and don't go with its mode.
+    pub(crate) fn near(&self, asked: &Lock) -> usize
+        ensures { result ≡ count_by (is_near asked.now) self.now.locks }
+    {
+        near_among(&self.locks, asked)
+    }
+
+    /// Whether one of its locks makes the asked one needless.
+    pub(crate) fn covers(&self, asked: &Lock) -> bool
         ensures { result ≡ is_covered self.now.locks asked.now }
     {
         covered_among(first_of(&self.locks), asked) || self.later.cover(asked)
     }
 
-    /// Adds the lock, unless an own one covers it. It doesn't look at other owners.
-    pub(crate) fn add(&mut self, asked: Lock) -> Asked
+    /// Adds the lock, of this bucket. It doesn't look at own locks, nor at other owners.
+    pub(crate) fn add(&mut self, asked: Lock, bucket: usize) -> Asked
+        requires { bucket ≡ bucket_of asked }
         ensures owner { self.new.owner ≡ self.old.owner }
-        ensures granted { result ≡ Asked.Granted → self.new.locks ≡ with_lock self.old.locks asked }
+        ensures granted { result ≡ Asked.Granted → self.new.locks ≡ self.old.locks ++ asked ∷ [] }
         ensures refused { result ≢ Asked.Granted → self.new ≡ self.old }
-        ensures too_many_locks { (result ≡ Asked.TooManyLocks)
-            ↔ ((is_covered self.old.locks asked ≡ false) × (length self.old.locks ≡ 256)) }
-        ensures no_memory { result ≡ Asked.NoMemory
-            → (is_covered self.old.locks asked ≡ false) × (8 ≤ length self.old.locks) }
+        ensures too_many_locks { (result ≡ Asked.TooManyLocks) ↔ (length self.old.locks ≡ 256) }
+        ensures no_memory { result ≡ Asked.NoMemory → 8 ≤ length self.old.locks }
         ensures busy { (h : ℕ) → result ≢ Asked.Busy h }
+        ensures few { length self.new.locks ≤ 256 }
     {
-        if self.covers(&asked) {
-            return Asked::Granted;
-        }
         if self.locks.len() == MAX_LOCKS {
             return Asked::TooManyLocks;
         }
@@ -144,7 +155,7 @@ impl Owner {
         }
         add_later(&mut self.later, &self.locks, &asked);
         self.has_exclusive |= asked.mode.is_exclusive();
-        self.key_filter.add(&asked);
+        self.key_filter.add(bucket);
         self.locks.push_reserved(asked);
         Asked::Granted
     }
@@ -224,6 +235,21 @@ fn conflict_among(locks: &[Lock], asked: &Lock) -> bool
     ensures { result ≡ list_any (conflicts asked.now) locks.now }
 {
     locks.iter().any(|held| asked.conflicts(held))
+}
+
+fn near_among(locks: &[Lock], asked: &Lock) -> usize
+    ensures { result ≡ count_by (is_near asked.now) locks.now }
+{
+    locks.iter().filter(|held| is_near(held, asked)).count()
+}
+
+// Whether the lock has the asked one's key, or more keys than one, and doesn't go with its mode.
+fn is_near(held: &Lock, asked: &Lock) -> bool
+    ensures { result ≡ is_near asked.now held.now }
+{
+    let lo = held.range.lo();
+    let is_there = lo == asked.range.lo() || lo != held.range.hi();
+    is_there && !asked.mode.is_compatible(held.mode)
 }
 
 fn covered_among(locks: &[Lock], asked: &Lock) -> bool

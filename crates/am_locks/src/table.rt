@@ -5,32 +5,38 @@ ghost use Rattle.std.specs.Prelude.{slice_set, List, MatchOption, IfOk};
 ghost use Rattle.std.specs.Option.{option_to_list};
 ghost use Rattle.am_record.specs.Locks.{is_covered, with_lock};
 ghost use Rattle.am_locks.specs.OwnerLocks.{OwnerLocks, blocks};
+ghost use Rattle.am_locks.specs.KeyCounts.{bucket_of, key_bucket};
 ghost use Rattle.am_locks.specs.Table.{is_owner, locks_owned, entered, with_locks, without_owner, blockers};
 ghost use Rattle.am_locks.specs.Table.{exclusive_holders};
 ghost use Rattle.am_locks.specs.Table.{AreAllApart};
 ghost use Rattle.am_locks.specs.Answers.{IsLeastOf, MatchBusy};
 
 use crate::asked::Asked;
-use crate::key_filter::number_of;
+use crate::key_counts::{KeyCounts, WIDE, bucket_of, key_bucket};
 use crate::owner::Owner;
-use am_record::{Key, Lock, MAX_ACTIVE, NoMemory};
+use am_record::{Key, Lock, MAX_ACTIVE, Mode, NoMemory};
 use std::alloc::Global;
 use std::marker::Model;
 
 /// Who holds which locks. Owners are named by the numbers of their transactions.
 ///
-/// No lock of one owner conflicts with a lock of another.
+/// No lock of one owner conflicts with a lock of another. An asked lock of one key is looked up in the counts first.
+/// Only where these leave a doubt are the owners looked at, one after another.
 #[derive(Drop)]
 pub struct LockTable {
     // It has room for as many as there may be.
     owners: Vec<Owner>,
+    // Of the locks of all owners.
+    counts: KeyCounts,
 }
 
 impl Model for LockTable {
     ghost use Rattle.std.specs.Prelude.{◌≤◌, List, length, vec_capacity};
+    ghost use Rattle.std.specs.List.{All};
     ghost use Rattle.std.specs.Coded.{coded_list};
-    ghost use Rattle.am_locks.specs.OwnerLocks.{OwnerLocks, held_code};
+    ghost use Rattle.am_locks.specs.OwnerLocks.{OwnerLocks, held_code, HasFew};
     ghost use Rattle.am_locks.specs.Table.{AreAllApart};
+    ghost use Rattle.am_locks.specs.KeyCounts.{AreCountsOf, all_locks};
 
     ghost Value = { List OwnerLocks };
 
@@ -39,7 +45,9 @@ impl Model for LockTable {
     ghost view = { λ t. t.owners.items };
 
     ghost invariant = { λ t. AreAllApart t.owners.items × (length t.owners.items ≤ 64)
-        × (64 ≤ vec_capacity t.owners) };
+        × (64 ≤ vec_capacity t.owners)
+        × All HasFew t.owners.items
+        × AreCountsOf (all_locks t.owners.items) t.counts.buckets.items };
 }
 
 impl LockTable {
@@ -52,6 +60,7 @@ impl LockTable {
     {
         Ok(LockTable {
             owners: Vec::with_capacity(alloc, MAX_ACTIVE)?,
+            counts: KeyCounts::new(alloc)?,
         })
     }
 
@@ -102,11 +111,20 @@ impl LockTable {
             with_locks self.old tx (with_lock (locks_owned self.old tx) asked) }
         ensures refused { result ≢ Asked.Granted → self.new ≡ self.old }
     {
-        if let Some(holder) = self.least_blocker(tx, &asked) {
+        let slot = self.slot_of(tx);
+        let own = &self.owners[slot];
+        if own.covers(&asked) {
+            return Asked::Granted;
+        }
+        let bucket = bucket_of(&asked);
+        if let Some(holder) = self.least_blocker(own, &asked, bucket) {
             return Asked::Busy(holder);
         }
-        let slot = self.slot_of(tx);
-        self.owners[slot].add(asked)
+        let answer = self.owners[slot].add(asked, bucket);
+        if let Asked::Granted = answer {
+            self.counts.add(&asked, bucket);
+        }
+        answer
     }
 
     /// Lets all locks of an owner go. The transaction is no owner any more.
@@ -114,7 +132,9 @@ impl LockTable {
         requires { is_owner self.old tx ≡ true }
         ensures { self.new ≡ without_owner self.old tx }
     {
-        self.owners.retain(|owner| owner.number() != tx);
+        let slot = self.slot_of(tx);
+        let released = self.owners.remove(slot);
+        self.counts.remove(released.locks());
     }
 
     /// How many locks an owner holds.
@@ -133,6 +153,7 @@ impl LockTable {
         ensures { self.new ≡ with_locks self.old tx (take n (locks_owned self.old tx)) }
     {
         let slot = self.slot_of(tx);
+        self.counts.remove(&self.owners[slot].locks()[n..]);
         self.owners[slot].cut(n);
     }
 
@@ -141,24 +162,45 @@ impl LockTable {
         ensures holder { exclusive_holders self.now key ≡ option_to_list result }
         ensures apart { AreAllApart self.now }
     {
-        let number = key.mixed();
+        let bucket = key_bucket(key);
+        if self.counts.near(bucket, Mode::Shared) == 0 {
+            return None;
+        }
         let owner = self
             .owners
             .iter()
-            .find(|owner| owner.is_exclusive_at(key, number))?;
+            .find(|owner| owner.is_exclusive_at(key, bucket))?;
         Some(owner.number())
     }
 
-    fn least_blocker(&self, tx: u64, asked: &Lock) -> Option<u64>
-        ensures { MatchOption result (blockers self.now tx asked.now ≡ [])
-            (IsLeastOf (blockers self.now tx asked.now)) }
+    fn least_blocker(&self, own: &Owner, asked: &Lock, bucket: usize) -> Option<u64>
+        requires own { own.now.locks ≡ locks_owned self.now own.now.owner }
+        requires bucket { bucket ≡ bucket_of asked.now }
+        ensures { MatchOption result (blockers self.now own.now.owner asked.now ≡ [])
+            (IsLeastOf (blockers self.now own.now.owner asked.now)) }
     {
-        let number = number_of(asked);
+        if self.meets_nobody(own, asked, bucket) {
+            return None;
+        }
+        let tx = own.number();
         self.owners
             .iter()
-            .filter(|owner| owner.blocks(tx, asked, number))
+            .filter(|owner| owner.blocks(tx, asked, bucket))
             .map(|owner| owner.number())
             .min()
+    }
+
+    // Whether the counts tell that no other owner blocks the lock: there are no more near it than the owner's own.
+    fn meets_nobody(&self, own: &Owner, asked: &Lock, bucket: usize) -> bool
+        requires own { own.now.locks ≡ locks_owned self.now own.now.owner }
+        requires bucket { bucket ≡ bucket_of asked.now }
+        ensures { result ≡ true → blockers self.now own.now.owner asked.now ≡ [] }
+    {
+        if bucket == WIDE {
+            return false;
+        }
+        let near = self.counts.near(bucket, asked.mode);
+        near == 0 || near <= own.near(asked)
     }
 
     fn slot_of(&self, tx: u64) -> usize

@@ -1,8 +1,8 @@
-use Rattle.std.proofs.Common.{rules}
+use Rattle.std.proofs.Common.{rules, ◌%◌, refl}
 use Rattle.am_locks.proofs.Filtering.{key_filter-point}
 use Rattle.am_locks.proofs.key_filter.KeyFilter.add.Goals as goal
 
-pub returns-in-Some : goal.returns-in-Some
-returns-in-Some c = λ locks promise.
-    key_filter-point c.args.self.now c.args.lock.now c.in-Some.number c.slot_of.result c.in-Some.ensures.one
-    c.slot_of.ensures (search rules) locks promise
+pub returns-else-bucket-eq-WIDE : goal.returns-else-bucket-eq-WIDE
+returns-else-bucket-eq-WIDE c = λ locks lock is promise.
+    key_filter-point c.args.self.now lock c.args.bucket (c.args.bucket % 256) is c.if-bucket-eq-WIDE.false refl
+    (search rules) locks promise

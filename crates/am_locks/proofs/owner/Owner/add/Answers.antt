@@ -27,7 +27,8 @@ invariant_of-self-2 c =
       search rules,
       grind (arith, common_steps),
       grind (arith, common_steps),
-      subst (λ ls. IsFilterOf ls c.add.new.self) (sym items) (c.add.ensures old c.self.invariant.3),
+      subst (λ ls. IsFilterOf ls c.add.new.self) (sym items)
+          (c.add.ensures old c.args.asked c.requires c.self.invariant.3),
       search rules,
       later_fit old c.push_reserved.new.self.items c.args.asked _ _ items (λ many. (room many).0)
           c.add_later.ensures.capacity.0,

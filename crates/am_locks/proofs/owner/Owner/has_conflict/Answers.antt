@@ -1,8 +1,7 @@
-use Rattle.std.proofs.Common.{◌≡◌, take, drop, true, false, IfSome, sym, ap, ◌∙◌, subst}
+use Rattle.std.proofs.Common.{◌≡◌, take, drop, true, false, sym, ap, ◌∙◌}
 use Rattle.std.specs.List.{list_any}
 use Rattle.am_record.specs.Locks.{conflicts}
 use Rattle.am_locks.specs.OwnerLocks.{has_conflict}
-use Rattle.am_locks.specs.KeyFilter.{IsNumberOf}
 use Rattle.am_locks.proofs.FirstLocks.{found_first, none_first, none_conflicts}
 use Rattle.am_locks.proofs.Filtering.{denied_conflict}
 use Rattle.am_locks.proofs.owner.Owner.has_conflict.Goals as goal
@@ -15,10 +14,8 @@ returns-then-not-is_exclusive c =
 
 pub returns-then-denies : goal.returns-then-denies
 returns-then-denies c =
-    sym (denied_conflict c.self.inside.key_filter c.args.asked.now c.in-Some.number c.self.inside.locks.items
-    c.self.invariant.3
-    (subst (λ o. IfSome o (IsNumberOf c.args.asked.now)) c.in-Some.is c.requires)
-    (sym c.denies.ensures ∙ c.if-denies.true))
+    sym (denied_conflict c.self.inside.key_filter c.args.asked.now c.args.bucket c.self.inside.locks.items
+    c.self.invariant.3 c.requires c.if-bucket-ne-WIDE.true (sym c.denies.ensures ∙ c.if-denies.true))
     ∙ ap (has_conflict c.args.asked.now) c.self.view_is
 
 pub returns-then-conflict_among : goal.returns-then-conflict_among

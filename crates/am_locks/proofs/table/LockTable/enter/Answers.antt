@@ -1,5 +1,9 @@
-use Rattle.std.proofs.Common.{[], ◌∷◌, ◌++◌, ◌≡◌, length, subst, sym, ap, ◌∙◌, arith, length-append}
+use Rattle.std.proofs.Common.{All, [], ◌∷◌, ◌++◌, ◌≡◌, length, subst, sym, ap, ◌∙◌, arith, length-append}
 use Rattle.am_locks.specs.Table.{AreAllApart, entered}
+use Rattle.std.proofs.lemmas.List.Elements.{All-push}
+use Rattle.am_locks.specs.OwnerLocks.{HasFew}
+use Rattle.am_locks.specs.KeyCounts.{all_locks, AreCountsOf}
+use Rattle.am_locks.proofs.AllLocks.{all_locks-entered}
 use Rattle.am_locks.proofs.Apart.{AreAllApart-entered}
 use Rattle.am_locks.proofs.table.LockTable.enter.Goals as goal
 
@@ -16,4 +20,10 @@ invariant_of-self c =
         length-append c.args.self.now (record { owner = c.args.tx; locks = [] } ∷ []),
       ),
       omega (arith, c.self.invariant.2, c.push.ensures.capacity),
+      subst (All HasFew) (sym all)
+          (All-push HasFew c.args.self.now (record { owner = c.args.tx; locks = [] })
+          (subst (All HasFew) c.self.view_is c.self.invariant.3) (omega arith)),
+      subst (λ locks. AreCountsOf locks c.self.inside.counts.buckets.items)
+          (ap all_locks c.self.view_is ∙ sym (all_locks-entered c.args.self.now c.args.tx) ∙ ap all_locks (sym all))
+          c.self.invariant.4,
     )

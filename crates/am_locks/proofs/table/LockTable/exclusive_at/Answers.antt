@@ -3,10 +3,21 @@ use Rattle.std.proofs.lemmas.Iterator.{YieldsList-from_slice}
 use Rattle.std.proofs.lemmas.Iterator.Search.{find_from_yields_List}
 use borrow.Author.Tests.{tests}
 use denote.Ref.{Bor}
+use Rattle.std.specs.List.{count_by}
+use Rattle.am_record.specs.declared.lock.Mode.TheVariants.{Shared}
 use Rattle.am_locks.specs.OwnerLocks.{OwnerLocks, is_exclusive_at}
 use Rattle.am_locks.specs.Table.{AreAllApart}
+use Rattle.am_locks.specs.KeyCounts.{all_locks, may_clash}
+use Rattle.am_locks.proofs.AllLocks.{nobody_holds}
 use Rattle.am_locks.proofs.Apart.{exclusive_holders-find}
 use Rattle.am_locks.proofs.table.LockTable.exclusive_at.Goals as goal
+
+pub returns-then-near-eq0-clause-holder : goal.returns-then-near-eq0-clause-holder
+returns-then-near-eq0-clause-holder c =
+    let near = c.near.ensures (all_locks c.self.inside.owners.items) c.self.invariant.4 in
+    nobody_holds c.args.self.now c.args.key
+    ((λ i. count_by (may_clash Shared (sym c.key_bucket-bucket.ensures.bucket i)) (all_locks (sym c.self.view_is i))) ∙
+    sym near ∙ c.if-near-eq0.true)
 
 pub returns-in_err-owner-clause-holder : goal.returns-in_err-owner-clause-holder
 returns-in_err-owner-clause-holder c =

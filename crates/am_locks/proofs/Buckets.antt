@@ -1,0 +1,104 @@
+-- The buckets of locks and keys: a lock with a key in its range is in that key's bucket, or in the last one.
+use Rattle.std.proofs.Common.{⊎_elim, ◌≡◌, ◌≢◌, ℕ, ◌≤◌, Bool, true, false, cond, not, ◌==◌, ◌&&◌, ◌||◌, refl, sym, ap}
+use Rattle.std.proofs.Common.{◌∙◌, subst, arith}
+use Rattle.std.proofs.lemmas.Bool.{and_parts, and_from, or_left, or_right, or_cases, eq-eqb, not-true}
+use Rattle.std.specs.Ordering.{eq_by_cmp}
+use Rattle.am_record.specs.OrderedKey.{OrderedKey, key_cmp, key_eq-exact}
+use Rattle.am_record.specs.Interval.{Interval, key_le, within}
+use Rattle.am_record.specs.Locks.{conflicts, is_exclusive, are_compatible}
+use Rattle.am_record.specs.declared.lock.Mode.{Mode}
+use Rattle.am_record.specs.declared.lock.Mode.TheVariants.{Shared, Exclusive}
+use Rattle.am_record.specs.declared.lock.Lock.{Lock}
+use Rattle.am_record.proofs.FirstRows.{le_both}
+use Rattle.am_locks.specs.KeyCounts.{key_bucket, has_one_key, bucket_of, may_clash, is_near}
+
+pub the_one_key : (r : Interval) (key : OrderedKey) → r.lo ≡ r.hi → within r key ≡ true → key ≡ r.lo
+the_one_key r key one h =
+    let parts = and_parts _ _ h in
+    le_both key r.lo (ap (key_le key) one ∙ parts.1) parts.0
+
+pub key_bucket-few : (key : OrderedKey) → key_bucket key ≤ 4095
+key_bucket-few key = omega arith
+
+few : (b : Bool) (n : ℕ) → n ≤ 4095 → cond b n 4096 ≤ 4096
+few true n h = omega (arith, h)
+few false n h = omega arith
+
+pub bucket_of-few : (l : Lock) → bucket_of l ≤ 4096
+bucket_of-few l = few (has_one_key l) (key_bucket l.range.lo) (key_bucket-few l.range.lo)
+
+-- a lock of one key
+pub record HasOneKey (l : Lock) : Type 0 where
+  pub ends : l.range.lo ≡ l.range.hi
+  pub bucket : bucket_of l ≡ key_bucket l.range.lo
+
+with_one : (l : Lock) → has_one_key l ≡ true → HasOneKey l
+with_one l e = record {
+  ends = key_eq-exact _ _ e;
+  bucket = ap (λ b. cond b (key_bucket l.range.lo) 4096) e;
+}
+
+with_more : (l : Lock) → has_one_key l ≡ false → bucket_of l ≡ 4096
+with_more l e = ap (λ b. cond b (key_bucket l.range.lo) 4096) e
+
+-- what is not in the last bucket has one key
+one_key : (l : Lock) (b : Bool) → has_one_key l ≡ b → bucket_of l ≢ 4096 → HasOneKey l
+one_key l true e n = with_one l e
+one_key l false e n = absurd (n (with_more l e))
+
+pub HasOneKey-from_bucket : (l : Lock) (bucket : ℕ) → bucket ≡ bucket_of l → bucket ≢ 4096 → HasOneKey l
+HasOneKey-from_bucket l bucket e n = one_key l (has_one_key l) refl (λ w. n (e ∙ w))
+
+-- ---- what has a key in its range
+
+abbrev pub is_at : ℕ → Lock → Bool
+is_at bucket l = (bucket_of l == bucket) || (bucket_of l == 4096)
+
+at_key : (l : Lock) (key : OrderedKey) (b : Bool) → has_one_key l ≡ b → within l.range key ≡ true →
+    is_at (key_bucket key) l ≡ true
+at_key l key true e w =
+    let one = with_one l e in
+    or_left _ _ (eq-eqb _ _ (one.bucket ∙ ap key_bucket (sym (the_one_key l.range key one.ends w))))
+at_key l key false e w = or_right _ _ (eq-eqb _ _ (with_more l e))
+
+pub is_at-from_within : (l : Lock) (key : OrderedKey) → within l.range key ≡ true → is_at (key_bucket key) l ≡ true
+is_at-from_within l key w = at_key l key (has_one_key l) refl w
+
+-- ---- what is in the way of a lock of one key
+
+module _ (asked : Lock) (bucket : ℕ) (is : bucket ≡ bucket_of asked) (one : bucket ≢ 4096) where
+  key : HasOneKey asked
+  key = HasOneKey-from_bucket asked bucket is one
+
+  place : key_bucket asked.range.lo ≡ bucket
+  place = sym (is ∙ key.bucket)
+
+  pub may_clash-from_conflict : (l : Lock) → conflicts asked l ≡ true → may_clash asked.mode bucket l ≡ true
+  may_clash-from_conflict l h =
+      let parts = and_parts _ _ h in
+      let ends = and_parts _ _ parts.0 in
+      let has : within l.range asked.range.lo ≡ true = and_from _ _ (ap (key_le l.range.lo) key.ends ∙ ends.1) ends.0 in
+      and_from _ _ (subst (λ n. is_at n l ≡ true) place (is_at-from_within l asked.range.lo has)) parts.1
+
+  near : (l : Lock) → (eq_by_cmp key_cmp l.range.lo asked.range.lo ≡ true) → (b : Bool) → has_one_key l ≡ b →
+      is_at bucket l ≡ true
+  near l e true h = or_left _ _ (eq-eqb _ _ ((with_one l h).bucket ∙ ap key_bucket (key_eq-exact _ _ e) ∙ place))
+  near l e false h = or_right _ _ (eq-eqb _ _ (with_more l h))
+
+  pub may_clash-from_near : (l : Lock) → is_near asked l ≡ true → may_clash asked.mode bucket l ≡ true
+  may_clash-from_near l h =
+      let parts = and_parts _ _ h in
+      and_from _ _ (⊎_elim (λ e. near l e (has_one_key l) refl)
+      (λ e. or_right _ _ (eq-eqb _ _ (with_more l (not-true (has_one_key l) e)))) (or_cases _ _ parts.0)) parts.1
+
+-- ---- an exclusive lock on a key
+
+apart_from_shared : (m : Mode) → is_exclusive m ≡ true → not (are_compatible Shared m) ≡ true
+apart_from_shared Exclusive e = refl
+apart_from_shared Shared e = cc
+
+pub may_clash-from_exclusive : (l : Lock) (key : OrderedKey) → (is_exclusive l.mode && within l.range key) ≡ true →
+    may_clash Shared (key_bucket key) l ≡ true
+may_clash-from_exclusive l key h =
+    let parts = and_parts _ _ h in
+    and_from _ _ (is_at-from_within l key parts.1) (apart_from_shared l.mode parts.0)

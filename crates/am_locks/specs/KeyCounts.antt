@@ -1,0 +1,43 @@
+-- Counts of locks by their keys: which keys none of the locks has, as far as two looks tell.
+use Rattle.std.specs.Prelude.{◌≡◌, ◌<◌, ◌%◌, ℕ, List, length, Bool, cond, not, ◌==◌, ◌&&◌, ◌||◌, slice_index_or}
+use Rattle.std.specs.List.{count_by, flat_map}
+use Rattle.std.specs.Ordering.{eq_by_cmp}
+use Rattle.am_record.specs.OrderedKey.{OrderedKey, key_cmp}
+use Rattle.am_record.specs.KeyMix.{key_mix}
+use Rattle.am_record.specs.Locks.{is_exclusive, are_compatible}
+use Rattle.am_record.specs.declared.lock.Mode.{Mode}
+use Rattle.am_record.specs.declared.lock.Lock.{Lock}
+use Rattle.am_locks.specs.OwnerLocks.{OwnerLocks}
+use Rattle.am_locks.specs.declared.key_counts.Bucket.{Bucket}
+
+-- the bucket of the locks that have this key alone
+abbrev pub key_bucket : OrderedKey → ℕ
+key_bucket key = key_mix key % 4096
+
+-- whether the lock has one key alone
+abbrev pub has_one_key : Lock → Bool
+has_one_key l = eq_by_cmp key_cmp l.range.lo l.range.hi
+
+-- the bucket of a lock: that of its one key, and the last one where it has more keys
+abbrev pub bucket_of : Lock → ℕ
+bucket_of l = cond (has_one_key l) (key_bucket l.range.lo) 4096
+
+-- each bucket has the number of its locks, and of the exclusive ones among them
+pub record AreCountsOf (locks : List Lock) (buckets : List Bucket) : Type 0 where
+  pub long : length buckets ≡ 4097
+  pub all : (n : ℕ) (d : Bucket) → n < 4097 → (slice_index_or buckets n d).all ≡ count_by (λ l. bucket_of l == n) locks
+  pub exclusive : (n : ℕ) (d : Bucket) → n < 4097 →
+      (slice_index_or buckets n d).exclusive ≡ count_by (λ l. is_exclusive l.mode && (bucket_of l == n)) locks
+
+-- the locks of all owners
+abbrev pub all_locks : List OwnerLocks → List Lock
+all_locks table = flat_map (λ h. h.locks) table
+
+-- whether the lock may have a key of this bucket, and its mode doesn't go with the asked one
+abbrev pub may_clash : Mode → ℕ → Lock → Bool
+may_clash asked bucket l = ((bucket_of l == bucket) || (bucket_of l == 4096)) && not (are_compatible asked l.mode)
+
+-- the same of the asked lock's one key in place of its bucket, which is told sooner
+abbrev pub is_near : Lock → Lock → Bool
+is_near asked l = (eq_by_cmp key_cmp l.range.lo asked.range.lo || not (has_one_key l)) && not
+    (are_compatible asked.mode l.mode)

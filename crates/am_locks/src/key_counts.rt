@@ -1,0 +1,138 @@
+//! How many locks there are at a key, over the locks of all owners.
+
+ghost use Rattle.std.specs.Prelude.{◌≡◌, ◌+◌, ◌<◌, ◌≤◌, List, [], ◌∷◌, ◌++◌, cond, length, IfOk};
+ghost use Rattle.std.specs.List.{count_by};
+ghost use Rattle.am_record.specs.Locks.{is_exclusive};
+ghost use Rattle.am_record.specs.declared.lock.Lock.{Lock};
+ghost use Rattle.am_locks.specs.KeyCounts.{key_bucket, bucket_of, AreCountsOf, may_clash};
+
+use am_record::{Key, Lock, Mode, NoMemory};
+use std::alloc::Global;
+
+/// Locks that have one key alone are counted by the number of that key, in so many buckets.
+const BUCKETS: usize = 4096;
+
+/// All other locks are counted in one bucket behind these.
+pub(crate) const WIDE: usize = BUCKETS;
+
+/// How many locks there are, and how many exclusive ones among them. 64 owners have 2^14 locks at most.
+#[derive(Clone, Copy)]
+struct Bucket {
+    all: u16,
+    exclusive: u16,
+}
+
+/// How many locks of any owner may have a key, as far as two looks tell. Most asked locks meet none, and then no owner
+/// is looked at.
+#[derive(Drop)]
+pub(crate) struct KeyCounts {
+    buckets: Vec<Bucket>,
+}
+
+impl KeyCounts {
+    /// The counts of no locks.
+    pub(crate) fn new(alloc: Global) -> Result<KeyCounts, NoMemory>
+        ensures { IfOk result (λ counts. AreCountsOf [] counts.buckets.items) }
+    {
+        let none = Bucket {
+            all: 0,
+            exclusive: 0,
+        };
+        Ok(KeyCounts {
+            buckets: vec![in alloc; none; BUCKETS + 1]?,
+        })
+    }
+
+    /// How many locks may have a key of the bucket and don't go with the mode.
+    pub(crate) fn near(&self, bucket: usize, mode: Mode) -> usize
+        requires long { length self.now.buckets.items ≡ 4097 }
+        requires one_key { bucket < 4096 }
+        ensures { (locks : List Lock) → AreCountsOf locks self.now.buckets.items
+            → result ≡ count_by (may_clash mode bucket) locks }
+    {
+        self.buckets[bucket].clashing(mode) + self.buckets[WIDE].clashing(mode)
+    }
+
+    /// Counts one lock more.
+    pub(crate) fn add(&mut self, lock: &Lock, bucket: usize)
+        requires bucket { bucket ≡ bucket_of lock.now }
+        requires few { (locks : List Lock) × AreCountsOf locks self.old.buckets.items × (length locks < 65535) }
+        ensures { (locks : List Lock) → AreCountsOf locks self.old.buckets.items
+            → AreCountsOf (lock.now ∷ locks) self.new.buckets.items }
+    {
+        self.buckets[bucket].add(lock.mode);
+    }
+
+    /// Counts these locks no more.
+    pub(crate) fn remove(&mut self, locks: &[Lock])
+        requires { (left : List Lock) × AreCountsOf (locks.now ++ left) self.old.buckets.items }
+        ensures { (left : List Lock) → AreCountsOf (locks.now ++ left) self.old.buckets.items
+            → AreCountsOf left self.new.buckets.items }
+    {
+        for lock in locks {
+            self.remove_one(lock);
+        }
+    }
+
+    fn remove_one(&mut self, lock: &Lock)
+        requires { (left : List Lock) × AreCountsOf (lock.now ∷ left) self.old.buckets.items }
+        ensures { (left : List Lock) → AreCountsOf (lock.now ∷ left) self.old.buckets.items
+            → AreCountsOf left self.new.buckets.items }
+    {
+        self.buckets[bucket_of(lock)].remove(lock.mode);
+    }
+}
+
+impl Bucket {
+    fn clashing(&self, mode: Mode) -> usize
+        ensures count { result ≡ cond (is_exclusive mode) self.now.all self.now.exclusive }
+        ensures few { result < 65536 }
+    {
+        let count = if mode.is_exclusive() {
+            self.all
+        } else {
+            self.exclusive
+        };
+        count as usize
+    }
+
+    fn add(&mut self, mode: Mode)
+        requires all { self.old.all < 65535 }
+        requires exclusive { self.old.exclusive < 65535 }
+        ensures all { self.new.all ≡ self.old.all + 1 }
+        ensures exclusive { self.new.exclusive ≡ self.old.exclusive + cond (is_exclusive mode) 1 0 }
+    {
+        self.all += 1;
+        self.exclusive += u16::from(mode.is_exclusive());
+    }
+
+    fn remove(&mut self, mode: Mode)
+        requires all { 1 ≤ self.old.all }
+        requires exclusive { cond (is_exclusive mode) 1 0 ≤ self.old.exclusive }
+        ensures all { self.new.all + 1 ≡ self.old.all }
+        ensures exclusive { self.new.exclusive + cond (is_exclusive mode) 1 0 ≡ self.old.exclusive }
+    {
+        self.all -= 1;
+        self.exclusive -= u16::from(mode.is_exclusive());
+    }
+}
+
+/// The bucket that counts the lock.
+pub(crate) fn bucket_of(lock: &Lock) -> usize
+    ensures bucket { result ≡ bucket_of lock.now }
+    ensures few { bucket_of lock.now ≤ 4096 }
+{
+    let key = lock.range.lo();
+    if key != lock.range.hi() {
+        return WIDE;
+    }
+    key_bucket(key)
+}
+
+/// The bucket that counts the locks which have this key alone.
+pub(crate) fn key_bucket(key: Key) -> usize
+    ensures bucket { result ≡ key_bucket key }
+    ensures few { key_bucket key < 4096 }
+{
+    (key.mixed() % BUCKETS as u64) as usize
+}
