@@ -1,5 +1,5 @@
 -- Sessions one after another at a seat.
-use Rattle.std.proofs.Common.{◌≡◌, ◌∙◌, ℕ, zero, suc, ◌<◌, List, [], ◌∷◌, ◌++◌, length, get_or, sym, ap, refl, arith}
+use Rattle.std.proofs.Common.{◌≡◌, ◌∙◌, ℕ, zero, suc, ◌+◌, ◌<◌, ◌≤◌, List, [], ◌∷◌, ◌++◌, length, get_or, sym, ap, refl, arith}
 use Rattle.std.proofs.Common.{true, false, Bool, None, All, subst}
 use Rattle.std.proofs.lemmas.Bool.{true≢false}
 use Rattle.std.specs.List.{AllZip}
@@ -10,7 +10,7 @@ use Rattle.am_latch.specs.Ties.{open_of}
 use Rattle.am_seating.specs.SessionSeats.{SessionSeatState, HasDrawn, IsNumbered, open_at}
 use Rattle.am_workers.specs.Turns.{HasTakenTurns}
 use Rattle.am_listen.specs.ServerRuns.{HasSameSeat, HasNewSeat, WasServed, session_seat_numbers, seat_numbers}
-use Rattle.am_listen.specs.Stays.{HasSameReceipts, ServedInTurn, HasServedInTurn, IsOfSessions}
+use Rattle.am_listen.specs.ServerRuns.{HasSameReceipts, ServedInTurn, HasServedInTurn, IsOfSessions}
 use Rattle.am_listen.proofs.Seatings.{all_first, all_rest, same_turned}
 
 pub same_then : (p q r : SessionSeatState) → HasSameReceipts p q → HasSameReceipts q r → HasSameReceipts p r
@@ -46,72 +46,93 @@ pub one_more : (p : SessionSeatState) (n : ℕ) (before began ended q : SessionS
     ServedInTurn p (suc n) q
 one_more p n before began ended q f drawn number served gone = (before, began, ended, f, drawn, number, served, gone)
 
--- what a turn keeps
-pub record IsKept (p q : SessionSeatState) : Type 0 where
-  pub served : (n : ℕ) × ServedInTurn p n q
+-- what so many turns keep
+pub record IsKept (turns : ℕ) (p q : SessionSeatState) : Type 0 where
+  pub served : HasServedInTurn turns p q
   pub idle : open_at q ≡ None
-  pub same : HasSameSeat p q
+
+pub none_served : (p : SessionSeatState) → open_at p ≡ None → IsKept 0 p p
+none_served p idle = record {
+  served = record { same = refl; sessions = 0; few = omega arith; served = record { number = refl; receipts = refl } };
+  idle = idle;
+}
 
 -- a session was served, and receipts were let go
-pub turn_served : (p old drawn ended before q : SessionSeatState) (drew : Bool) → IsKept p old → drew ≡ true →
-    HasDrawn old drew drawn → WasServed drawn ended → open_at ended ≡ None → ended.seat.number ≡ drawn.seat.number →
-    before ≡ ended → HasSameReceipts before q → IsKept p q
-turn_served p old drawn ended before q false k is h served idle number at gone = absurd (true≢false (sym is))
-turn_served p old drawn ended before q true k is h served idle number at gone =
+pub turn_served : (turns : ℕ) (p old drawn ended before q : SessionSeatState) (drew : Bool) → IsKept turns p old →
+    drew ≡ true → HasDrawn old drew drawn → WasServed drawn ended → open_at ended ≡ None →
+    ended.seat.number ≡ drawn.seat.number → before ≡ ended → HasSameReceipts before q → IsKept (turns + 1) p q
+turn_served turns p old drawn ended before q false k is h served idle number at gone = absurd (true≢false (sym is))
+turn_served turns p old drawn ended before q true k is h served idle number at gone =
     let same_drew = same_drawn old drawn true h in
     let let_go : HasSameReceipts ended q = subst (λ (s : SessionSeatState). HasSameReceipts s q) at gone in record {
-      served = (
-        suc k.served.0,
-        one_more p k.served.0 old drawn ended q k.served.1 same_drew (numbered old drawn h) served let_go,
-      );
+      served = record {
+        same = let_go.number ∙ number ∙ same_drew.number ∙ k.served.same;
+        sessions = suc k.served.sessions;
+        few = omega (arith, k.served.few);
+        served = one_more p k.served.sessions old drawn ended q k.served.served same_drew (numbered old drawn h) served
+            let_go;
+      };
       idle = same_open ended q let_go idle;
-      same = let_go.number ∙ number ∙ same_drew.number ∙ k.same;
     }
 
 -- no number was drawn
-pub turn_refused : (p old drawn before q : SessionSeatState) (drew : Bool) → IsKept p old → HasDrawn old drew drawn →
-    before ≡ drawn → HasSameReceipts before q → IsKept p q
-turn_refused p old drawn before q drew k h at gone =
+pub turn_refused : (turns : ℕ) (p old drawn before q : SessionSeatState) (drew : Bool) → IsKept turns p old →
+    HasDrawn old drew drawn → before ≡ drawn → HasSameReceipts before q → IsKept (turns + 1) p q
+turn_refused turns p old drawn before q drew k h at gone =
     let both = same_then old drawn q (same_drawn old drawn drew h)
     (subst (λ (s : SessionSeatState). HasSameReceipts s q) at gone) in record {
-      served = (k.served.0, none_more p k.served.0 old q k.served.1 both);
+      served = record {
+        same = both.number ∙ k.served.same;
+        sessions = k.served.sessions;
+        few = omega (arith, k.served.few);
+        served = none_more p k.served.sessions old q k.served.served both;
+      };
       idle = same_open old q both k.idle;
-      same = both.number ∙ k.same;
     }
+
+-- fewer turns than there may be
+pub few_turns : (turns most : ℕ) (p q : SessionSeatState) → turns ≤ most → IsKept turns p q → HasServedInTurn most p q
+few_turns turns most p q le k = record {
+  same = k.served.same;
+  sessions = k.served.sessions;
+  few = omega (arith, k.served.few, le);
+  served = k.served.served;
+}
 
 -- ---- all seats
 
-pub all_in_turn : (xs ys : List SessionSeatState) → length ys ≡ length xs →
-    ((i : ℕ) (d : SessionSeatState) → i < length xs → HasServedInTurn (get_or xs i d) (get_or ys i d)) →
-    AllZip HasServedInTurn xs ys
-all_in_turn [] [] e h = tt
-all_in_turn [] (y ∷ ys) e h = absurd (omega (arith, e))
-all_in_turn (x ∷ xs) [] e h = absurd (omega (arith, e))
-all_in_turn (x ∷ xs) (y ∷ ys) e h = (
+pub all_in_turn : (most : ℕ) (xs ys : List SessionSeatState) → length ys ≡ length xs →
+    ((i : ℕ) (d : SessionSeatState) → i < length xs → HasServedInTurn most (get_or xs i d) (get_or ys i d)) →
+    AllZip (HasServedInTurn most) xs ys
+all_in_turn most [] [] e h = tt
+all_in_turn most [] (y ∷ ys) e h = absurd (omega (arith, e))
+all_in_turn most (x ∷ xs) [] e h = absurd (omega (arith, e))
+all_in_turn most (x ∷ xs) (y ∷ ys) e h = (
   h 0 x (omega arith),
-  all_in_turn xs ys (omega (arith, e)) (λ i d lt. h (suc i) d (omega arith)),
+  all_in_turn most xs ys (omega (arith, e)) (λ i d lt. h (suc i) d (omega arith)),
 )
 
-same_numbers : (xs ys : List SessionSeatState) → AllZip HasServedInTurn xs ys →
+same_numbers : (most : ℕ) (xs ys : List SessionSeatState) → AllZip (HasServedInTurn most) xs ys →
     session_seat_numbers ys ≡ session_seat_numbers xs
-same_numbers [] [] h = refl
-same_numbers [] (y ∷ ys) h = absurd h
-same_numbers (x ∷ xs) [] h = absurd h
-same_numbers (x ∷ xs) (y ∷ ys) h = λ i. h.0.same i ∷ same_numbers xs ys h.1 i
+same_numbers most [] [] h = refl
+same_numbers most [] (y ∷ ys) h = absurd h
+same_numbers most (x ∷ xs) [] h = absurd h
+same_numbers most (x ∷ xs) (y ∷ ys) h = λ i. h.0.same i ∷ same_numbers most xs ys h.1 i
 
-pub all_came_back : (limit n : ℕ) (session_seats served : List SessionSeatState)
-    (worker_seats worked seats : List SeatState) → AllZip HasServedInTurn session_seats served →
+pub all_came_back : (limit n most : ℕ) (session_seats served : List SessionSeatState)
+    (worker_seats worked seats : List SeatState) → AllZip (HasServedInTurn most) session_seats served →
     AllZip (HasTakenTurns limit n) worker_seats worked →
     session_seat_numbers session_seats ++ seat_numbers worker_seats ≡ seat_numbers seats →
     session_seat_numbers served ++ seat_numbers worked ≡ seat_numbers seats
-all_came_back limit n session_seats served worker_seats worked seats sat worked_on e =
-    (λ i. same_numbers session_seats served sat i ++ same_turned limit n worker_seats worked worked_on i) ∙ e
+all_came_back limit n most session_seats served worker_seats worked seats sat worked_on e =
+    (λ i. same_numbers most session_seats served sat i ++ same_turned limit n worker_seats worked worked_on i) ∙ e
 
-pub all_of_turns : (xs ys : List SessionSeatState) → AllZip HasServedInTurn xs ys → All HasNewSeat xs →
-    All IsOfSessions ys
-all_of_turns [] [] h new = All-nil IsOfSessions
-all_of_turns [] (y ∷ ys) h new = absurd h
-all_of_turns (x ∷ xs) [] h new = absurd h
-all_of_turns (x ∷ xs) (y ∷ ys) h new =
-    All-cons IsOfSessions y ys (x, h.0.sessions, all_first HasNewSeat x xs (x ∷ xs) refl new, h.0.served)
-    (all_of_turns xs ys h.1 (all_rest HasNewSeat x xs (x ∷ xs) refl new))
+pub all_of_turns : (most : ℕ) (xs ys : List SessionSeatState) → AllZip (HasServedInTurn most) xs ys → All HasNewSeat xs →
+    All (IsOfSessions most) ys
+all_of_turns most [] [] h new = All-nil (IsOfSessions most)
+all_of_turns most [] (y ∷ ys) h new = absurd h
+all_of_turns most (x ∷ xs) [] h new = absurd h
+all_of_turns most (x ∷ xs) (y ∷ ys) h new =
+    All-cons (IsOfSessions most) y ys
+    (record { first = x; new = all_first HasNewSeat x xs (x ∷ xs) refl new; served = h.0 })
+    (all_of_turns most xs ys h.1 (all_rest HasNewSeat x xs (x ∷ xs) refl new))

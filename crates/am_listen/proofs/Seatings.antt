@@ -12,31 +12,11 @@ use Rattle.std.proofs.Math.Seq.{get_or-append_seam}
 use Rattle.am_record.specs.declared.step.Step.TheVariants.{Merge}
 use Rattle.am_latch.specs.declared.receipt.Receipt.{Receipt}
 use Rattle.am_latch.specs.Receipts.{SeatState, new_seat, numbered, AreAll}
-use Rattle.am_latch.specs.Ties.{open_of}
-use Rattle.am_seating.specs.SessionSeats.{SessionSeatState, HasDrawn, open_at}
+use Rattle.am_seating.specs.SessionSeats.{SessionSeatState}
 use Rattle.am_workers.specs.Turns.{HasTakenTurns}
-use Rattle.am_listen.specs.ServerRuns.{seat_numbers, session_seat_numbers, latch_seats, HasSameSeat, WasServed}
-use Rattle.am_listen.specs.ServerRuns.{HasServed, HasNewSeat, IsNewSeat, IsOfSession, IsOfWorker}
-
-pub all_zip : (xs ys : List SessionSeatState) → length ys ≡ length xs →
-    ((i : ℕ) (d : SessionSeatState) → i < length xs → HasServed (get_or xs i d) (get_or ys i d)) →
-    AllZip HasServed xs ys
-all_zip [] [] e h = tt
-all_zip [] (y ∷ ys) e h = absurd (omega (arith, e))
-all_zip (x ∷ xs) [] e h = absurd (omega (arith, e))
-all_zip (x ∷ xs) (y ∷ ys) e h = (
-  h 0 x (omega arith),
-  all_zip xs ys (omega (arith, e)) (λ i d lt. h (suc i) d (omega arith)),
-)
+use Rattle.am_listen.specs.ServerRuns.{seat_numbers, session_seat_numbers, latch_seats, IsNewSeat, IsOfWorker}
 
 -- ---- numbers stay
-
-pub same_seats : (xs ys : List SessionSeatState) → AllZip HasServed xs ys →
-    session_seat_numbers ys ≡ session_seat_numbers xs
-same_seats [] [] h = refl
-same_seats [] (y ∷ ys) h = absurd h
-same_seats (x ∷ xs) [] h = absurd h
-same_seats (x ∷ xs) (y ∷ ys) h = λ i. h.0.same i ∷ same_seats xs ys h.1 i
 
 pub same_turned : (limit n : ℕ) (xs ys : List SeatState) → AllZip (HasTakenTurns limit n) xs ys →
     seat_numbers ys ≡ seat_numbers xs
@@ -50,15 +30,6 @@ count_seats xs = length-map xs (λ (s : SeatState). s.number)
 
 pub count_places : (xs : List SessionSeatState) → length (session_seat_numbers xs) ≡ length xs
 count_places xs = length-map xs (λ (p : SessionSeatState). p.seat.number)
-
--- what went to the sessions and the workers came back
-pub all_back : (limit n : ℕ) (session_seats placed : List SessionSeatState)
-    (worker_seats worked seats : List SeatState) → AllZip HasServed session_seats placed →
-    AllZip (HasTakenTurns limit n) worker_seats worked
-    → session_seat_numbers session_seats ++ seat_numbers worker_seats ≡ seat_numbers seats →
-    session_seat_numbers placed ++ seat_numbers worked ≡ seat_numbers seats
-all_back limit n session_seats placed worker_seats worked seats sat worked_on e =
-    (λ i. same_seats session_seats placed sat i ++ same_turned limit n worker_seats worked worked_on i) ∙ e
 
 pub count_back : (placed : List SessionSeatState) (worked seats : List SeatState) → session_seat_numbers placed ++
     seat_numbers worked ≡ seat_numbers seats → length placed + length worked ≡ length seats
@@ -144,38 +115,7 @@ worker_more session_seats s worker_seats rest rest' all next e =
     (sym next)
     ∙ e
 
--- ---- a session's number is drawn, and the session served
-
-pub drew_seat : (old new : SessionSeatState) (drew : Bool) → HasDrawn old drew new → new.seat ≡ old.seat
-drew_seat old new true h = ap (λ (p : SessionSeatState). p.seat) h
-drew_seat old new false h = ap (λ (p : SessionSeatState). p.seat) h.1
-
-pub idle_there : (old new : SessionSeatState) → new.seat ≡ old.seat → HasNewSeat old → open_at new ≡ None
-idle_there old new same empty = ap (λ (s : SeatState). open_of s.receipts) same ∙ ap open_of empty
-
-pub served_there : (old drawn new : SessionSeatState) → drawn.seat ≡ old.seat → HasSameSeat drawn new →
-    WasServed drawn new → HasServed old new
-served_there old drawn new same kept served = record {
-  same = kept ∙ ap (λ (s : SeatState). s.number) same;
-  drawn = drawn;
-  seat = same;
-  served = served;
-}
-
 -- ---- what each seat is left with
-
-pub all_of_sessions : (xs ys : List SessionSeatState) → AllZip HasServed xs ys → All HasNewSeat xs → All IsOfSession ys
-all_of_sessions [] [] h new = All-nil IsOfSession
-all_of_sessions [] (y ∷ ys) h new = absurd h
-all_of_sessions (x ∷ xs) [] h new = absurd h
-all_of_sessions (x ∷ xs) (y ∷ ys) h new =
-    All-cons IsOfSession y ys (
-      h.0.drawn,
-      ap (λ (s : SeatState). s.receipts) h.0.seat ∙
-          all_first HasNewSeat x xs (x ∷ xs) refl new,
-      h.0.served,
-    )
-    (all_of_sessions xs ys h.1 (all_rest HasNewSeat x xs (x ∷ xs) refl new))
 
 pub all_of_workers : (n : ℕ) (xs ys : List SeatState) → AllZip (HasTakenTurns 16 n) xs ys → All IsNewSeat xs →
     All IsOfWorker ys

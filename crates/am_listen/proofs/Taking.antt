@@ -3,9 +3,9 @@ use Rattle.std.proofs.Common.{◌≡◌, ℕ, ◌+◌, ◌≤◌, List, [], ◌+
 use Rattle.std.proofs.Common.{append_assoc, append-nil, length-append}
 use Rattle.am_serial.specs.Trace.{Trace}
 use Rattle.am_latch.specs.Receipts.{SeatState}
-use Rattle.am_listen.specs.ServerRuns.{IsRunOf}
-use Rattle.am_listen.specs.Stays.{HasTaken, HasClosed, HasStored, add_count}
-use Rattle.am_listen.specs.declared.staying.StayedRun.{StayedRun}
+use Rattle.am_listen.specs.ServerRuns.{IsRunOf, HasStored, add_count}
+use Rattle.am_listen.specs.Pieces.{HasTaken, HasClosed}
+use Rattle.am_listen.specs.declared.server_run.ServerRun.{ServerRun}
 
 pub counted_both : (m x y : ℕ) → add_count (add_count m x) y ≡ add_count m (x + y)
 counted_both m x y = omega arith
@@ -43,7 +43,7 @@ module _ {T : Type 0} (took : T → Trace → T → Type 0) where
 
   -- all that was taken from the first, and the rest
   pub stored : ((a b c : T) (x y : Trace) → took a x b → took b y c → took a (x ++ y) c) → (all : Trace) (a b : T)
-      (n : ℕ) (seats : List SeatState) (s : StayedRun T) → HasTaken took [] a 0 all b n →
+      (n : ℕ) (seats : List SeatState) (s : ServerRun T) → HasTaken took [] a 0 all b n →
       HasClosed took seats all b n s → HasStored took a seats s
   stored both all a b n seats s f h = record {
     trace = f.piece ++ h.rest;

@@ -1,5 +1,5 @@
 pub mod ServerRuns
 pub mod Writers
-pub mod Stays
+pub mod Pieces
 pub mod WriterLaws
 pub mod Http

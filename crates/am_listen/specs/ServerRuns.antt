@@ -1,5 +1,5 @@
 -- What a server leaves, and what its sessions leave of their seats.
-use Rattle.std.specs.Prelude.{◌≡◌, ◌⊎◌, ℕ, List, [], ◌++◌, map, All}
+use Rattle.std.specs.Prelude.{◌≡◌, ◌⊎◌, ℕ, zero, suc, ◌+◌, ◌≤◌, List, [], ◌++◌, map, min, length, All}
 use Rattle.am_record.specs.declared.step.Step.TheVariants.{Merge}
 use Rattle.am_serial.specs.Trace.{Trace}
 use Rattle.am_sound.specs.Right.{IsSoundStore}
@@ -10,7 +10,9 @@ use Rattle.am_core.specs.Standing.{IsSoundAt}
 use Rattle.am_sound.specs.StoreState.{StoreState}
 use Rattle.am_talk.specs.Dialogue.{Exchange}
 use Rattle.am_session.specs.Talk.{AnswersAll, AnswersOneMore}
-use Rattle.am_seating.specs.SessionSeats.{SessionSeatState, seat_meaning}
+use Rattle.am_seating.specs.SessionSeats.{SessionSeatState, IsNumbered, seat_meaning}
+use Rattle.am_listen.specs.declared.mode.Mode.{Mode}
+use Rattle.am_listen.specs.declared.mode.Mode.TheVariants.{Bounded, Staying}
 use Rattle.am_listen.specs.declared.server_run.ServerRun.{ServerRun}
 
 -- the numbers of seats, and of those of sessions
@@ -42,16 +44,29 @@ WasServed p q = (q ≡ p) ⊎
     ((exchanges : List Exchange) × (last : Exchange) × (events : Trace) ×
     AnswersOneMore seat_meaning 0 p exchanges last events q))
 
--- the number of a session was drawn, and the session served
-pub record HasServed (p q : SessionSeatState) : Type 0 where
-  pub same : HasSameSeat p q
-  pub drawn : SessionSeatState
-  pub seat : drawn.seat ≡ p.seat
-  pub served : WasServed drawn q
+-- the same seat, with the same receipts, whether they were let go or not
+pub record HasSameReceipts (p q : SessionSeatState) : Type 0 where
+  pub number : q.seat.number ≡ p.seat.number
+  pub receipts : q.seat.receipts ≡ p.seat.receipts
 
--- a session was served there, and nothing else
-abbrev pub IsOfSession : SessionSeatState → Type 0
-IsOfSession q = (p : SessionSeatState) × HasNewSeat p × WasServed p q
+-- So many sessions were served at the seat, one after another: each with a number that was drawn for it, and from the
+-- receipts that the one before left.
+abbrev pub ServedInTurn : SessionSeatState → ℕ → SessionSeatState → Type 0
+ServedInTurn p zero q = HasSameReceipts p q
+ServedInTurn p (suc n) q = (before began ended : SessionSeatState) × ServedInTurn p n before ×
+    HasSameReceipts before began × IsNumbered began × WasServed began ended × HasSameReceipts ended q
+
+-- sessions were served there one after another, so many at most, and nothing else
+pub record HasServedInTurn (most : ℕ) (p q : SessionSeatState) : Type 0 where
+  pub same : HasSameSeat p q
+  pub sessions : ℕ
+  pub few : sessions ≤ most
+  pub served : ServedInTurn p sessions q
+
+pub record IsOfSessions (most : ℕ) (q : SessionSeatState) : Type 0 where
+  pub first : SessionSeatState
+  pub new : HasNewSeat first
+  pub served : HasServedInTurn most first q
 
 -- nothing but merge steps was taken there
 abbrev pub IsOfWorker : SeatState → Type 0
@@ -67,10 +82,34 @@ pub record IsRunOf (seats : List SeatState) (trace : Trace) (commits : ℕ) : Ty
   pub committed : commits ≡ store.commits
   pub receipts : AreReceiptsOf seats trace
 
+-- how many sessions a seat serves at most
+abbrev pub most_sessions : Mode → ℕ
+most_sessions Bounded = 1
+most_sessions Staying = 18446744073709551615
+
+-- how many turns a worker has at most
+abbrev pub most_turns : Mode → ℕ
+most_turns Bounded = 1000000
+most_turns Staying = 18446744073709551615
+
+-- a count of so many more, as far as 64 bits go
+abbrev pub add_count : ℕ → ℕ → ℕ
+add_count n more = min 18446744073709551615 (n + more)
+
+-- A trace was passed on from the first, in its order, and counted, and it is that of these seats (`IsRunOf`: sound,
+-- legal, with so many commits, each receipt in it).
+pub record HasStored {T : Type 0} (took : T → Trace → T → Type 0) (first : T) (seats : List SeatState)
+    (s : ServerRun T) : Type 0 where
+  pub trace : Trace
+  pub passed : took first trace s.pieces
+  pub count : s.events ≡ add_count 0 (length trace)
+  pub run : IsRunOf seats trace s.commits
+
 -- and the seats are those of sessions and of workers
-pub record IsSoundRun (s : ServerRun) : Type 0 where
+pub record IsServerRun {T : Type 0} (took : T → Trace → T → Type 0) (first : T) (mode : Mode) (s : ServerRun T) :
+    Type 0 where
   pub sessions : List SessionSeatState
   pub workers : List SeatState
-  pub served : All IsOfSession sessions
+  pub served : All (IsOfSessions (most_sessions mode)) sessions
   pub worked : All IsOfWorker workers
-  pub run : IsRunOf (latch_seats sessions ++ workers) s.trace.items s.commits
+  pub run : HasStored took first (latch_seats sessions ++ workers) s

@@ -1,4 +1,4 @@
-//! What a server that stays counts.
+//! What a server counts.
 
 use std::sync::atomic::{AtomicU64, Ordering};
 
@@ -35,6 +35,11 @@ impl Tally {
             ended: Count::new(),
             refused_by_system: Count::new(),
         }
+    }
+
+    /// Whether no connection was refused by the system.
+    pub(crate) fn accepted_all(&self) -> bool {
+        self.refused_by_system.get() == 0
     }
 
     /// The counts as they are, beside so many events.

@@ -1,6 +1,7 @@
-//! Where connections come in for as long as a server stays.
+//! Where connections come in.
 
 use crate::counts::Tally;
+use crate::mode::Mode;
 use std::net::{TcpListener, TcpStream};
 use std::rt::Clock;
 use std::sync::Wait;
@@ -16,25 +17,32 @@ const PAUSE_MILLIS: u64 = 100;
 pub(crate) struct Gate<'a> {
     listener: &'a TcpListener,
     is_stopped: &'a AtomicBool,
+    mode: Mode,
 }
 
 impl<'a> Gate<'a> {
-    pub(crate) fn new(listener: &'a TcpListener, is_stopped: &'a AtomicBool) -> Gate<'a> {
+    pub(crate) fn new(
+        listener: &'a TcpListener,
+        is_stopped: &'a AtomicBool,
+        mode: Mode,
+    ) -> Gate<'a> {
         Gate {
             listener,
             is_stopped,
+            mode,
         }
     }
 
-    /// The next connection. Where it can't be accepted, that is counted, and the next one is waited for a little later.
-    /// None once a stop was asked for, also of the connection that came meanwhile.
+    /// The next connection. Where it can't be accepted, that is counted, and a server that stays waits for the next one
+    /// a little later; a bounded one takes no further one. None once a stop was asked for, also of the connection that
+    /// came meanwhile.
     pub(crate) fn next<R: Wait + Clock>(&mut self, rt: &R, tally: &Tally) -> Option<TcpStream> {
         for _ in rt.forever() {
-            if self.is_stopped.load(Ordering::SeqCst) {
+            if self.is_closed(tally) {
                 return None;
             }
             match self.listener.accept() {
-                Ok((stream, _)) if !self.is_stopped.load(Ordering::SeqCst) => return Some(stream),
+                Ok((stream, _)) if !self.is_closed(tally) => return Some(stream),
                 Ok(_) => return None,
                 Err(_) => {
                     tally.refused_by_system.add();
@@ -43,5 +51,10 @@ impl<'a> Gate<'a> {
             }
         }
         unreachable!()
+    }
+
+    // Whether no further connection is taken.
+    fn is_closed(&self, tally: &Tally) -> bool {
+        self.is_stopped.load(Ordering::SeqCst) || (!self.mode.stays() && !tally.accepted_all())
     }
 }

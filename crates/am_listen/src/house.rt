@@ -1,8 +1,11 @@
-//! What the threads of a server that stays share.
+//! What the threads of a server share.
+
+ghost use Rattle.std.specs.Prelude.{◌≡◌, IfOk};
 
 use crate::connections::Connections;
 use crate::counts::Tally;
 use crate::gate::Gate;
+use crate::mode::Mode;
 use crate::pacer::MergePacer;
 use am_record::NoMemory;
 use std::alloc::Global;
@@ -21,6 +24,7 @@ pub(crate) struct House<'a> {
     pub(crate) pacer: MergePacer,
     pub(crate) connections: Connections,
     pub(crate) tally: Tally,
+    pub(crate) mode: Mode,
     is_stopped: &'a AtomicBool,
     // 0 until all sessions have ended.
     all_ended: AtomicU64,
@@ -33,12 +37,16 @@ impl<'a> House<'a> {
         listener: &'a TcpListener,
         is_stopped: &'a AtomicBool,
         sessions: u64,
-    ) -> Result<House<'a>, NoMemory> {
+        mode: Mode,
+    ) -> Result<House<'a>, NoMemory>
+        ensures { IfOk result (λ house. house.mode ≡ mode) }
+    {
         Ok(House {
-            gate: Mutex::new(Gate::new(listener, is_stopped)),
+            gate: Mutex::new(Gate::new(listener, is_stopped, mode)),
             pacer: MergePacer::new(sessions),
             connections: Connections::new(alloc, sessions as usize)?,
             tally: Tally::new(),
+            mode,
             is_stopped,
             all_ended: AtomicU64::new(0),
         })

@@ -3,7 +3,7 @@
 ghost use Rattle.std.specs.Prelude.{◌≡◌, ◌+◌, ◌^◌, ◌<◌, ◌≤◌, [], length, take, IfOk, OnOk, OnErr};
 ghost use Rattle.am_stream.specs.Taking.{Took};
 ghost use Rattle.am_listen.specs.Http.{may_come};
-ghost use Rattle.am_listen.specs.declared.http.Stage.TheVariants.{First};
+ghost use Rattle.am_listen.specs.declared.http.Stage.TheVariants.{First, Open};
 
 use am_stream::{Failed, Source};
 
@@ -60,6 +60,16 @@ impl<S: Source + Drop> NoHttp<S> {
         NoHttp {
             source,
             stage: Stage::First,
+        }
+    }
+
+    /// A source of which all is passed on.
+    pub(crate) fn open(source: S) -> NoHttp<S>
+        ensures { (result.source ≡ source) × (result.stage ≡ Open) }
+    {
+        NoHttp {
+            source,
+            stage: Stage::Open,
         }
     }
 

@@ -1,7 +1,7 @@
 //! The thread that takes what the latch hands out.
 
 ghost use Rattle.std.specs.Prelude.{◌≡◌};
-ghost use Rattle.am_listen.specs.Stays.{HasTaken};
+ghost use Rattle.am_listen.specs.Pieces.{HasTaken};
 
 use crate::counts::Watcher;
 use crate::house::House;

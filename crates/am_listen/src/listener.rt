@@ -1,15 +1,14 @@
 //! A port of this machine.
 
 ghost use Rattle.std.specs.Prelude.{◌≡◌, ◌≤◌, ◌<◌, IfOk};
-ghost use Rattle.am_listen.specs.ServerRuns.{IsSoundRun};
-ghost use Rattle.am_listen.specs.Stays.{IsStayedRun};
+ghost use Rattle.am_listen.specs.ServerRuns.{IsServerRun};
 
-use crate::acceptor::Acceptor;
 use crate::counts::Watcher;
 use crate::house::House;
+use crate::mode::Mode;
 use crate::pieces::PieceTaker;
-use crate::server_run::{ServerRun, run};
-use crate::staying::{Keeping, StayedRun, stay};
+use crate::server::{Keeping, run};
+use crate::server_run::ServerRun;
 use am_latch::Blank;
 use am_record::{HashKey, NoMemory};
 use am_words::Words;
@@ -79,56 +78,30 @@ impl PortListener {
         drop(TcpStream::connect(rt, (Ipv4Addr::LOCALHOST, self.port)));
     }
 
-    /// Accepts so many connections, or those that come before [`PortListener::stop`], each of which is served on a
-    /// thread and a seat of its own, over one store that begins with no records, and lets so many workers merge beside
-    /// them: one turn for each answered line. It returns once all sessions have ended. The trace is sound, and whoever
-    /// judges it finds nothing wrong in it.
+    /// Serves connections over one store that begins with no records, until [`PortListener::stop`], so many at once,
+    /// each on a thread and a seat of its own, and lets so many workers merge beside them: one turn for each answered
+    /// line. A bounded server serves no more connections than these, and one that stays any number, one after another
+    /// at each seat; further ones wait to be accepted. The trace is taken by pieces meanwhile, and its rest at the end,
+    /// once all sessions have ended. All pieces together are sound and legal, and their store has so many commits.
     ///
     /// # Errors
     /// NoMemory, where memory was refused before a connection was accepted.
-    pub fn serve<R: Threads + Wait + Sync>(
-        &self,
-        rt: &R,
-        sessions: u64,
-        workers: u64,
-        hash: HashKey,
-    ) -> Result<ServerRun, NoMemory>
-        requires sessions { (1 ≤ sessions) × (sessions ≤ 256) }
-        requires workers { workers ≤ 16 }
-        ensures { IfOk result IsSoundRun }
-    {
-        let Ok(blank) = Blank::new(self.alloc, sessions + workers) else {
-            return Err(NoMemory);
-        };
-        let Ok((words, word_seats)) = Words::open(self.alloc, sessions as usize) else {
-            return Err(NoMemory);
-        };
-        let acceptor = Acceptor::new(&self.listener, &self.is_stopped);
-        run::<Brand, R>(rt, self.alloc, hash, acceptor, blank, &words, word_seats)
-    }
-
-    /// Serves connections until [`PortListener::stop`], so many at once, each on a seat of its own, one after another
-    /// at each seat, over one store that begins with no records; further ones wait to be accepted. So many workers
-    /// merge beside them: one turn for each answered line. The trace is taken by pieces meanwhile, and its rest at the
-    /// end. All pieces together are sound and legal, and their store has so many commits.
-    ///
-    /// # Errors
-    /// NoMemory, where memory was refused before a connection was accepted.
-    pub fn stay<
+    pub fn serve<
         R: Threads + Wait + Clock + Sync,
         T: PieceTaker + Drop + Send,
         V: Watcher + Drop + Send,
     >(
         &self,
         rt: &R,
+        mode: Mode,
         sessions: u64,
         workers: u64,
         hash: HashKey,
         keeping: Keeping<T, V>,
-    ) -> Result<StayedRun<T>, NoMemory>
+    ) -> Result<ServerRun<T>, NoMemory>
         requires sessions { (1 ≤ sessions) × (sessions ≤ 256) }
         requires workers { workers ≤ 16 }
-        ensures { IfOk result (IsStayedRun T.took keeping.pieces) }
+        ensures { IfOk result (IsServerRun T.took keeping.pieces mode) }
     {
         let Ok(blank) = Blank::new(self.alloc, sessions + workers) else {
             return Err(NoMemory);
@@ -136,8 +109,8 @@ impl PortListener {
         let Ok((words, word_seats)) = Words::open(self.alloc, sessions as usize) else {
             return Err(NoMemory);
         };
-        let house = House::new(self.alloc, &self.listener, &self.is_stopped, sessions)?;
-        stay::<Brand, R, T, V>(
+        let house = House::new(self.alloc, &self.listener, &self.is_stopped, sessions, mode)?;
+        run::<Brand, R, T, V>(
             rt, self.alloc, hash, &house, blank, &words, word_seats, keeping,
         )
     }

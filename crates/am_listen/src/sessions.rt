@@ -3,9 +3,8 @@
 ghost use Rattle.std.specs.Prelude.{◌≡◌, ◌+◌, ◌^◌, ◌<◌, false, None};
 ghost use Rattle.am_session.specs.Served.{Served, read_failures, write_failures, IsSentOn};
 ghost use Rattle.am_seating.specs.SessionSeats.{open_at, seat_meaning, IsNumbered, IsPublishedByReceipt};
-ghost use Rattle.am_listen.specs.ServerRuns.{WasServed, HasServed, HasNewSeat};
+ghost use Rattle.am_listen.specs.ServerRuns.{WasServed};
 
-use crate::acceptor::Acceptor;
 use crate::counting_sink::CountingSink;
 use crate::pacer::MergePacer;
 use am_latch::LatchName;
@@ -15,7 +14,7 @@ use am_stream::{AnsweredSource, Reading, Sink, Source, Writing};
 use std::alloc::Global;
 use std::io::{BufWriter, Write};
 use std::net::TcpStream;
-use std::sync::{Mutex, Wait};
+use std::sync::Wait;
 
 /// Answers the lines of a source at a seat, each by one line, and at the end aborts what is open there. The sink has
 /// nothing that isn't sent on, and the number of the session is drawn. The number of the seat stays, and what is
@@ -83,28 +82,4 @@ pub(crate) fn refuse(stream: &TcpStream) {
 pub(crate) fn say(stream: &TcpStream, line: &[u8]) {
     let mut writer = stream;
     let _ = writer.write_all(line);
-}
-
-/// Takes the next connection, if one comes, and serves it to its end.
-pub(crate) fn serve_next<'a, W: Wait, L: LatchName>(
-    rt: &W,
-    alloc: Global,
-    acceptor: &Mutex<Acceptor<'_>>,
-    pacer: &MergePacer,
-    session_seat: &mut SessionSeat<'a, L>,
-)
-    requires { HasNewSeat session_seat.old }
-    ensures { HasServed session_seat.old session_seat.new }
-{
-    let mut held = acceptor.lock(rt);
-    let came = held.next();
-    let drew = session_seat.draw();
-    drop(held);
-    if let Some(stream) = came
-        && drew
-    {
-        let mut source = Reading::new(&stream);
-        serve_connection(rt, alloc, &stream, &mut source, pacer, session_seat);
-    }
-    pacer.end_session();
 }

@@ -1,14 +1,14 @@
 //! A trace that is written while its server runs.
 
-ghost use Rattle.std.specs.Prelude.{◌≡◌, ◌+◌, ◌^◌, ◌<◌, [], false, true, IfOk, OnOk};
-ghost use Rattle.am_stream.specs.Giving.{Gave};
+ghost use Rattle.std.specs.Prelude.{◌≡◌, ◌^◌, ◌<◌, false, MatchBool};
+ghost use Rattle.am_stream.specs.Giving.{Gave, GaveBeginning};
 ghost use Rattle.am_trace.specs.Lines.{header};
 ghost use Rattle.am_trace.specs.declared.version.Version.TheVariants.{Two};
 ghost use Rattle.am_listen.specs.Writers.{TookLines};
 
 use crate::pieces::PieceTaker;
 use am_record::{NoMemory, Reply, Step};
-use am_stream::{Failed, Sink, give_all};
+use am_stream::{Sink, give_all};
 use am_trace::event_lines;
 use std::alloc::Global;
 
@@ -26,22 +26,19 @@ pub struct TraceWriter<K: Sink + Drop> {
 }
 
 impl<K: Sink + Drop> TraceWriter<K> {
-    /// Writes the first line.
-    ///
-    /// # Errors
-    /// Failed, where the sink failed.
-    pub fn begin(alloc: Global, sink: K) -> Result<TraceWriter<K>, Failed>
+    /// Writes the first line. Where the sink fails, the trace is cut there.
+    pub fn begin(alloc: Global, sink: K) -> TraceWriter<K>
         requires { K.failures sink < 2 ^ 63 }
-        ensures begun { IfOk result (λ writer. Gave K.holds sink (header Two) writer.sink) }
-        ensures whole { IfOk result (λ writer. writer.is_cut ≡ false) }
+        ensures { MatchBool result.is_cut (GaveBeginning K.holds sink (header Two) result.sink)
+            (Gave K.holds sink (header Two) result.sink) }
     {
         let mut sink = sink;
-        give_all(&mut sink, b"TRACE 2\n")?;
-        Ok(TraceWriter {
+        let is_cut = give_all(&mut sink, b"TRACE 2\n").is_err();
+        TraceWriter {
             sink,
-            is_cut: false,
+            is_cut,
             alloc,
-        })
+        }
     }
 
     /// The sink, with what it was given.

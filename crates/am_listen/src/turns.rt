@@ -2,8 +2,7 @@
 
 ghost use Rattle.std.specs.Prelude.{◌≡◌, ◌^◌, ◌<◌, None};
 ghost use Rattle.am_seating.specs.SessionSeats.{open_at, IsNumbered};
-ghost use Rattle.am_listen.specs.ServerRuns.{WasServed, HasNewSeat};
-ghost use Rattle.am_listen.specs.Stays.{HasServedInTurn};
+ghost use Rattle.am_listen.specs.ServerRuns.{WasServed, HasNewSeat, HasServedInTurn, most_sessions};
 
 use crate::house::House;
 use crate::http::NoHttp;
@@ -43,12 +42,17 @@ fn serve_at_place<'a, R: Wait, L: LatchName>(
         return;
     };
     house.connections.enter(rt, place, other);
-    let mut source = NoHttp::new(Reading::new(&*shared));
+    let mut source = if house.mode.stays() {
+        NoHttp::new(Reading::new(&*shared))
+    } else {
+        NoHttp::open(Reading::new(&*shared))
+    };
     serve_connection(rt, alloc, &shared, &mut source, &house.pacer, session_seat);
     house.connections.leave(rt, place);
 }
 
-/// Serves connections at a seat, one after another, until a stop is asked for. Receipts are let go between them.
+/// Serves connections at a seat, one after another, so many at most, until no further one comes. Receipts are let go
+/// between them.
 pub(crate) fn serve_in_turn<'a, R: Wait + Clock, L: LatchName>(
     rt: &R,
     alloc: Global,
@@ -57,9 +61,9 @@ pub(crate) fn serve_in_turn<'a, R: Wait + Clock, L: LatchName>(
     session_seat: &mut SessionSeat<'a, L>,
 )
     requires { HasNewSeat session_seat.old }
-    ensures { HasServedInTurn session_seat.old session_seat.new }
+    ensures { HasServedInTurn (most_sessions house.now.mode) session_seat.old session_seat.new }
 {
-    'sessions: for _ in rt.forever() {
+    'sessions: for turn in 0..house.mode.sessions_each() {
         let mut held = house.gate.lock(rt);
         let Some(stream) = held.next(rt, &house.tally) else {
             break;

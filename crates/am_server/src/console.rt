@@ -1,6 +1,7 @@
 //! What a server that stays says on standard error while it runs.
 
 use crate::fault::ListenFault;
+use am_command::Listening;
 use am_listen::{Counts, Watcher};
 use std::rt::Clock;
 use std::time::{Duration, Instant};
@@ -19,13 +20,14 @@ pub(crate) struct Console<'a, R> {
 }
 
 impl<'a, R: Eprint + Clock> Console<'a, R> {
-    pub(crate) fn new(rt: &'a R, is_logged: bool) -> Console<'a, R> {
+    /// Of a bounded server nothing is said while it runs.
+    pub(crate) fn new(rt: &'a R, listening: &Listening<'_>) -> Console<'a, R> {
         Console {
             rt,
-            is_logged,
+            is_logged: listening.is_logged,
             told_at: Instant::now(rt).ok(),
-            told_accept: false,
-            told_cut: false,
+            told_accept: !listening.stays,
+            told_cut: !listening.stays,
         }
     }
 

@@ -4,12 +4,14 @@
 
 ghost use Rattle.std.specs.Prelude.{◌≤◌};
 
+use crate::console::Console;
 use crate::fault::ListenFault;
+use crate::growing_file::GrowingFile;
 use crate::trace_file::TraceFile;
 use am_command::Listening;
-use am_listen::{PortListener, ServerRun, bind};
+use am_listen::{Keeping, LetGo, Mode, PieceTaker, PortListener, TraceWriter, bind};
 use am_session::draw_hash_key;
-use std::io;
+use std::fs::File;
 use std::io::{BufRead, BufReader};
 use std::net::{Net, TcpListener, TcpStream};
 use std::process::ExitCode;
@@ -17,55 +19,124 @@ use std::random::RandomSource;
 use std::rt::{Clock, Files};
 use std::sync::Wait;
 use std::thread::Threads;
+use std::time::Duration;
+use std::{io, thread};
 
-/// The file for the trace, where one is named, and then the port.
-#[inline(never)]
-pub(crate) fn open<'a, R: AllocGlobal + Files + Net<Listener = TcpListener, Stream = TcpStream>>(
-    rt: &R,
-    listening: &Listening<'a>,
-) -> Result<(Option<TraceFile<'a>>, PortListener), ListenFault> {
-    let file = match listening.trace {
-        Some(path) => Some(TraceFile::prepare(rt, path)?),
-        None => None,
-    };
-    match bind(rt, listening.port) {
-        Ok(bound) => Ok((file, bound)),
-        Err(_) => {
-            forget(rt, file.as_ref());
-            Err(ListenFault::CannotListen)
-        }
-    }
+type Writer = TraceWriter<GrowingFile>;
+
+/// What is there before the first connection: a port, and where a file is named for the trace that file, and who writes.
+#[derive(Drop)]
+struct Opened {
+    port: PortListener,
+    file: Option<TraceFile>,
+    writer: Option<Writer>,
 }
 
-fn forget<R: Files>(rt: &R, file: Option<&TraceFile<'_>>) {
+/// What a server did.
+#[derive(Clone, Copy, Debug)]
+struct Served {
+    events: u64,
+    commits: u64,
+    accepted_all: bool,
+    is_cut: bool,
+}
+
+/// Listens, serves and ends, as the words ask. The program's status.
+#[inline(never)]
+pub(crate) fn listen(rt: &HostRuntime, listening: &Listening<'_>) -> io::Result<ExitCode>
+    requires sessions { (1 ≤ listening.now.sessions) × (listening.now.sessions ≤ 256) }
+    requires workers { listening.now.workers ≤ 16 }
+{
+    let Opened { port, file, writer } = match open(rt, listening) {
+        Ok(opened) => opened,
+        Err(fault) => return tell(rt, fault),
+    };
+    if let Err(fault) = println!(rt; "LISTEN {}", port.port()) {
+        forget(rt, file.as_ref());
+        return Err(fault);
+    }
+    let served = serve_until_stop(rt, &port, listening, writer);
+    close(rt, listening.stays, file.as_ref(), served)
+}
+
+// The file for the trace, where one is named, and then the port; and the trace's first line.
+#[inline(never)]
+fn open<R: AllocGlobal + Files<File = File> + Net<Listener = TcpListener, Stream = TcpStream>>(
+    rt: &R,
+    listening: &Listening<'_>,
+) -> Result<Opened, ListenFault> {
+    let opened = match listening.trace {
+        Some(path) if listening.stays => Some(TraceFile::open_growing(rt, path)?),
+        Some(path) => Some(TraceFile::open_beside(rt, path)?),
+        None => None,
+    };
+    let Ok(port) = bind(rt, listening.port) else {
+        if let Some((file, _)) = &opened {
+            file.forget(rt);
+        }
+        return Err(ListenFault::CannotListen);
+    };
+    let Some((file, grown)) = opened else {
+        return Ok(Opened {
+            port,
+            file: None,
+            writer: None,
+        });
+    };
+    let writer = TraceWriter::begin(rt.alloc(), GrowingFile::new(grown));
+    if listening.stays && writer.is_cut() {
+        return Err(ListenFault::CannotWriteTrace);
+    }
+    Ok(Opened {
+        port,
+        file: Some(file),
+        writer: Some(writer),
+    })
+}
+
+fn forget<R: Files>(rt: &R, file: Option<&TraceFile>) {
     if let Some(file) = file {
         file.forget(rt);
     }
 }
 
-/// Serves so many sessions, with so many workers beside them, on a store whose hash key no stranger knows.
+// Serves, and where a stop is awaited hears it.
 #[inline(never)]
-pub(crate) fn serve<R: Threads + Wait + RandomSource + Clock + Sync>(
-    rt: &R,
-    bound: &PortListener,
-    sessions: u64,
-    workers: u64,
-) -> Result<ServerRun, ListenFault>
-    requires sessions { (1 ≤ sessions) × (sessions ≤ 256) }
-    requires workers { workers ≤ 16 }
+fn serve_until_stop(
+    rt: &HostRuntime,
+    port: &PortListener,
+    listening: &Listening<'_>,
+    writer: Option<Writer>,
+) -> Result<Served, ListenFault>
+    requires sessions { (1 ≤ listening.now.sessions) × (listening.now.sessions ≤ 256) }
+    requires workers { listening.now.workers ≤ 16 }
 {
-    bound
-        .serve(rt, sessions, workers, draw_hash_key(rt))
-        .map_err(|_| ListenFault::NoMemory)
+    let (sessions, workers) = (listening.sessions, listening.workers);
+    if !listening.awaits_stop {
+        return serve(rt, port, listening, sessions, workers, writer);
+    }
+    thread::scope(
+        thread::scope_env(),
+        rt,
+        |scope|
+            requires { (1 ≤ sessions) × (sessions ≤ 256) × (workers ≤ 16) }
+        {
+            match scope.spawn(move || stop_at_word(rt, port)) {
+                Ok(_) => serve(rt, port, listening, sessions, workers, writer),
+                Err(_) => Err(ListenFault::CannotHear),
+            }
+        },
+    )
 }
 
-/// Has the server stop once a line STOP, or the end of standard input or a fault of it, has come.
+// Has the server stop once a line STOP, or the end of standard input or a fault of it, has come.
 #[inline(never)]
-pub(crate) fn stop_at_word<
-    R: AllocGlobal + Input + Net<Listener = TcpListener, Stream = TcpStream>,
->(rt: &R, bound: &PortListener) {
+fn stop_at_word<R: AllocGlobal + Input + Net<Listener = TcpListener, Stream = TcpStream>>(
+    rt: &R,
+    port: &PortListener,
+) {
     await_stop(rt);
-    bound.stop(rt);
+    port.stop(rt);
 }
 
 fn await_stop<R: AllocGlobal + Input>(rt: &R) {
@@ -80,12 +151,64 @@ fn await_stop<R: AllocGlobal + Input>(rt: &R) {
     }
 }
 
-/// Stores the trace, and tells what was stored. The program's status.
+// Serves so many sessions, or so many at once until a stop, with so many workers beside them, on a store whose hash key
+// no stranger knows.
 #[inline(never)]
-pub(crate) fn close<R: AllocGlobal + Files + Print + Eprint>(
+fn serve<R: Threads + Wait + RandomSource + Clock + Eprint + Sync>(
     rt: &R,
-    file: Option<&TraceFile<'_>>,
-    served: Result<ServerRun, ListenFault>,
+    port: &PortListener,
+    listening: &Listening<'_>,
+    sessions: u64,
+    workers: u64,
+    writer: Option<Writer>,
+) -> Result<Served, ListenFault>
+    requires sessions { (1 ≤ sessions) × (sessions ≤ 256) }
+    requires workers { workers ≤ 16 }
+{
+    match writer {
+        Some(writer) => serve_with(rt, port, listening, sessions, workers, writer),
+        None => serve_with(rt, port, listening, sessions, workers, LetGo),
+    }
+}
+
+fn serve_with<
+    R: Threads + Wait + RandomSource + Clock + Eprint + Sync,
+    T: PieceTaker + Drop + Send,
+>(
+    rt: &R,
+    port: &PortListener,
+    listening: &Listening<'_>,
+    sessions: u64,
+    workers: u64,
+    pieces: T,
+) -> Result<Served, ListenFault>
+    requires sessions { (1 ≤ sessions) × (sessions ≤ 256) }
+    requires workers { workers ≤ 16 }
+{
+    let keeping = Keeping {
+        pieces,
+        watcher: Console::new(rt, listening),
+        grace: listening.grace.map(Duration::from_secs),
+    };
+    let mode = if listening.stays { Mode::Staying } else { Mode::Bounded };
+    match port.serve(rt, mode, sessions, workers, draw_hash_key(rt), keeping) {
+        Ok(run) => Ok(Served {
+            events: run.events,
+            commits: run.commits,
+            accepted_all: run.accepted_all,
+            is_cut: run.pieces.is_cut(),
+        }),
+        Err(_) => Err(ListenFault::NoMemory),
+    }
+}
+
+// Stores the trace, and tells what was done. The program's status.
+#[inline(never)]
+fn close<R: Files + Print + Eprint>(
+    rt: &R,
+    stays: bool,
+    file: Option<&TraceFile>,
+    served: Result<Served, ListenFault>,
 ) -> io::Result<ExitCode> {
     let served = match served {
         Ok(served) => served,
@@ -94,22 +217,32 @@ pub(crate) fn close<R: AllocGlobal + Files + Print + Eprint>(
             return tell(rt, fault);
         }
     };
-    let stored = match file {
-        Some(file) => file.store(rt, &served.trace),
-        None => Ok(()),
-    };
-    if stored.is_ok() {
-        println!(rt; "CLOSED {} {}", served.trace.len(), served.commits)?;
+    let stored = store(rt, file, served.is_cut);
+    if stays || stored.is_ok() {
+        println!(rt; "CLOSED {} {}", served.events, served.commits)?;
     }
     match stored {
-        _ if !served.accepted_all => tell(rt, ListenFault::CannotAccept),
-        Ok(()) => Ok(ExitCode::SUCCESS),
+        // A server that stays said what fails when it failed.
+        Err(fault) if stays => Ok(ExitCode::from(fault.status())),
+        _ if !stays && !served.accepted_all => tell(rt, ListenFault::CannotAccept),
         Err(fault) => tell(rt, fault),
+        Ok(()) => Ok(ExitCode::SUCCESS),
     }
 }
 
-/// Says what is wrong, and answers the program's status.
-pub(crate) fn tell<R: Eprint>(rt: &R, fault: ListenFault) -> io::Result<ExitCode> {
+fn store<R: Files>(rt: &R, file: Option<&TraceFile>, is_cut: bool) -> Result<(), ListenFault> {
+    if is_cut {
+        forget(rt, file);
+        return Err(ListenFault::CannotWriteTrace);
+    }
+    match file {
+        Some(file) => file.keep(rt),
+        None => Ok(()),
+    }
+}
+
+// Says what is wrong, and answers the program's status.
+fn tell<R: Eprint>(rt: &R, fault: ListenFault) -> io::Result<ExitCode> {
     eprintln!(rt; "{}", fault.words())?;
     Ok(ExitCode::from(fault.status()))
 }

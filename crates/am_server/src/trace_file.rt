@@ -1,70 +1,101 @@
 //! The file that gets the trace.
 
 use crate::fault::ListenFault;
-use am_record::{Reply, Step};
-use am_trace::trace_text;
+use std::fs::{File, FileExt, Metadata, OpenFile, OpenOptions};
+use std::io::ErrorKind;
 use std::rt::Files;
 use std::{fs, io};
 
-/// A file that gets the trace at the end.
+/// So many names are tried for what is written beside a file.
+const MOST_NAMES: u32 = 1000;
+
+/// A file that gets the trace.
 #[derive(Drop)]
-pub(crate) struct TraceFile<'a> {
-    path: &'a str,
-    // What is written first, and renamed at the end, so that no file is left half written. None for what is no plain
-    // file, as a device or a pipe, which is written itself.
+pub(crate) struct TraceFile {
+    path: String,
+    // What is written while the server runs, and gets the file's name at the end, so that no file is left half written.
+    // None where the file itself is written: one that grows, and what is no plain file, as a device or a pipe.
     part: Option<String>,
 }
 
-impl<'a> TraceFile<'a> {
-    /// Sees whether the file can be written, before there is anything to write.
-    pub(crate) fn prepare<R: AllocGlobal + Files>(
+impl TraceFile {
+    /// Opens the file itself, which grows. What it had is still there.
+    pub(crate) fn open_growing<R: AllocGlobal + Files<File = File>>(
         rt: &R,
-        path: &'a str,
-    ) -> Result<TraceFile<'a>, ListenFault> {
-        let part = match fs::metadata(rt, path) {
-            Ok(found) if found.is_dir() => return Err(ListenFault::CannotWriteTrace),
-            Ok(found) if !found.is_file() => None,
-            _ => Some(beside(rt, path)?),
-        };
-        if let Some(name) = &part {
-            fs::write(rt, name.as_str(), b"").map_err(|_| ListenFault::CannotWriteTrace)?;
+        path: &str,
+    ) -> Result<(TraceFile, File), ListenFault> {
+        let file = OpenOptions::new().write(true).create(true).open(rt, path);
+        let file = file.map_err(|_| ListenFault::CannotWriteTrace)?;
+        Ok((TraceFile::of(rt, path, None)?, file))
+    }
+
+    /// Opens a file beside it, with a name that nobody has, for what will have its name at the end. Where it is a link,
+    /// that is done to the file that it leads to.
+    pub(crate) fn open_beside<R: AllocGlobal + Files<File = File>>(
+        rt: &R,
+        path: &str,
+    ) -> Result<(TraceFile, File), ListenFault> {
+        match fs::symlink_metadata(rt, path) {
+            Ok(found) if found.is_symlink() => {
+                let Ok(target) = fs::canonicalize(rt, rt.alloc(), path) else {
+                    return Err(ListenFault::CannotWriteTrace);
+                };
+                TraceFile::open_at(rt, target.as_str())
+            }
+            _ => TraceFile::open_at(rt, path),
         }
+    }
+
+    // The same of what is no link.
+    fn open_at<R: AllocGlobal + Files<File = File>>(
+        rt: &R,
+        path: &str,
+    ) -> Result<(TraceFile, File), ListenFault> {
+        match fs::metadata(rt, path) {
+            Ok(found) if found.is_dir() => Err(ListenFault::CannotWriteTrace),
+            Ok(found) if !found.is_file() => TraceFile::open_growing(rt, path),
+            Ok(found) => TraceFile::create_beside(rt, path, Some(&found)),
+            Err(_) => TraceFile::create_beside(rt, path, None),
+        }
+    }
+
+    // A new file beside the path, which may be read and written as what was found there.
+    fn create_beside<R: AllocGlobal + Files<File = File>>(
+        rt: &R,
+        path: &str,
+        found: Option<&Metadata>,
+    ) -> Result<(TraceFile, File), ListenFault> {
+        for number in 1..MOST_NAMES {
+            let name = name_beside(rt, path, number)?;
+            match create_new(rt, name.as_str(), found) {
+                Ok(file) => return Ok((TraceFile::of(rt, path, Some(name))?, file)),
+                Err(fault) if fault.kind() == ErrorKind::AlreadyExists => {}
+                Err(_) => return Err(ListenFault::CannotWriteTrace),
+            }
+        }
+        Err(ListenFault::CannotWriteTrace)
+    }
+
+    fn of<R: AllocGlobal>(
+        rt: &R,
+        path: &str,
+        part: Option<String>,
+    ) -> Result<TraceFile, ListenFault> {
+        let path = String::from_str(rt.alloc(), path).map_err(|_| ListenFault::NoMemory)?;
         Ok(TraceFile { path, part })
     }
 
-    /// Writes the text of the trace. Where it can't be written, the file is as it was.
+    /// Gives what was written the file's name. Where that can't be done, the file is as it was. In a frame of its own:
+    /// the two names take 8 KB.
     #[inline(never)]
-    pub(crate) fn store<R: AllocGlobal + Files>(
-        &self,
-        rt: &R,
-        trace: &[(Step, Reply)],
-    ) -> Result<(), ListenFault> {
-        let Ok(text) = trace_text(rt.alloc(), trace) else {
-            self.forget(rt);
-            return Err(ListenFault::CannotWriteTrace);
+    pub(crate) fn keep<R: Files>(&self, rt: &R) -> Result<(), ListenFault> {
+        let Some(name) = &self.part else {
+            return Ok(());
         };
-        let stored = fs::write(rt, self.first_place(), &text).and_then(|()| self.rename(rt));
-        stored.map_err(|_| {
+        fs::rename(rt, name.as_str(), self.path.as_str()).map_err(|_| {
             self.forget(rt);
             ListenFault::CannotWriteTrace
         })
-    }
-
-    // Where the text is written first.
-    fn first_place(&self) -> &str {
-        match &self.part {
-            Some(name) => name.as_str(),
-            None => self.path,
-        }
-    }
-
-    // Gives what is written its name, in a frame of its own: the two names take 8 KB.
-    #[inline(never)]
-    fn rename<R: Files>(&self, rt: &R) -> io::Result<()> {
-        match &self.part {
-            Some(name) => fs::rename(rt, name.as_str(), self.path),
-            None => Ok(()),
-        }
     }
 
     /// Removes what stands beside the file.
@@ -75,7 +106,28 @@ impl<'a> TraceFile<'a> {
     }
 }
 
-// The name under which a file is written first.
-fn beside<R: AllocGlobal>(rt: &R, path: &str) -> Result<String, ListenFault> {
-    format!(in rt.alloc(); "{path}.part").map_err(|_| ListenFault::NoMemory)
+// A name beside the path: the first one with no number.
+fn name_beside<R: AllocGlobal>(rt: &R, path: &str, number: u32) -> Result<String, ListenFault> {
+    let name = if number == 1 {
+        format!(in rt.alloc(); "{path}.part")
+    } else {
+        format!(in rt.alloc(); "{path}.{number}.part")
+    };
+    name.map_err(|_| ListenFault::NoMemory)
+}
+
+// A file of that name, where there is none.
+fn create_new<R: Files<File = File>>(
+    rt: &R,
+    name: &str,
+    found: Option<&Metadata>,
+) -> io::Result<File> {
+    let file = OpenOptions::new()
+        .write(true)
+        .create_new(true)
+        .open(rt, name)?;
+    if let Some(found) = found {
+        file.set_permissions(found.permissions())?;
+    }
+    Ok(file)
 }

@@ -1,6 +1,6 @@
 //! Clients of a server, over sockets.
 
-use am_listen::{ServerRun, bind};
+use am_listen::{Counts, Keeping, LetGo, Mode, ServerRun, Watcher, bind};
 use am_record::HashKey;
 use std::io::{Read, Write};
 use std::net::{Ipv4Addr, Net, Shutdown, TcpListener, TcpStream};
@@ -31,19 +31,34 @@ fn ask_twice<R: AllocGlobal + Net<Listener = TcpListener, Stream = TcpStream>>(
     Ok((first, second))
 }
 
+struct Unwatched;
+
+impl Watcher for Unwatched {
+    fn look(&mut self, _counts: &Counts) {}
+}
+
+fn nobody_keeps() -> Keeping<LetGo, Unwatched> {
+    Keeping {
+        pieces: LetGo,
+        watcher: Unwatched,
+        grace: None,
+    }
+}
+
 #[test]
 fn two_clients_beside_a_worker(rt: HostRuntime) -> Result<(), Fail> {
     let bound = bind(&rt, 0).ok().ok_or("no port")?;
     let port = bound.port();
     let (served, said) = thread::join(
         &rt,
-        || bound.serve(&rt, 2, 1, HashKey::known()),
+        || bound.serve(&rt, Mode::Bounded, 2, 1, HashKey::known(), nobody_keeps()),
         || ask_twice(&rt, port),
     );
     let ServerRun {
-        trace,
+        events,
         commits,
         accepted_all,
+        ..
     } = served.ok().ok_or("no memory")?;
     let (first, second) = said?;
     assert!(rt; first.as_str() == "BEGUN 1\nOK\nCOMMITTED 1\nSEEN 0 1\nBYE\n");
@@ -51,7 +66,7 @@ fn two_clients_beside_a_worker(rt: HostRuntime) -> Result<(), Fail> {
     assert!(rt; commits == 2);
     assert!(rt; accepted_all);
     // Six steps, and at most a turn of the worker for each of nine lines.
-    assert!(rt; 6 <= trace.len() && trace.len() <= 15);
+    assert!(rt; 6 <= events && events <= 15);
     Ok(())
 }
 

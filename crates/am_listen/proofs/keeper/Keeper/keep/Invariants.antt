@@ -1,4 +1,4 @@
-use Rattle.am_listen.specs.Stays.{HasTaken}
+use Rattle.am_listen.specs.Pieces.{HasTaken}
 use Rattle.am_listen.proofs.keeper.Keeper.keep.Given as goal
 
 abbrev pub invariant-rounds : goal.invariant-rounds

@@ -1,17 +1,18 @@
-//! All sessions of a server that stays, the workers and the keeper beside them.
+//! All sessions of a server, the workers and the keeper beside them.
 
 ghost use Rattle.std.specs.Prelude.{◌≡◌, ◌++◌, [], IfOk, All, length, vec_len, vec_capacity};
 ghost use Rattle.std.specs.List.{AllZip};
 ghost use Rattle.am_workers.specs.Turns.{HasTakenTurns};
 ghost use Rattle.am_latch.specs.Receipts.{AreAll};
-ghost use Rattle.am_listen.specs.ServerRuns.{HasNewSeat};
-ghost use Rattle.am_listen.specs.Stays.{HasServedInTurn, HasTaken, HasClosed, HasStored, IsStayedRun, all_turns};
+ghost use Rattle.am_listen.specs.ServerRuns.{HasNewSeat, HasServedInTurn, HasStored, IsServerRun};
+ghost use Rattle.am_listen.specs.ServerRuns.{most_sessions, most_turns};
+ghost use Rattle.am_listen.specs.Pieces.{HasTaken, HasClosed};
 
 use crate::counts::Watcher;
 use crate::house::House;
 use crate::keeper::Keeper;
 use crate::pieces::PieceTaker;
-use crate::server_run::{MERGE_LIMIT, assign_seats, take_seats};
+use crate::server_run::{ServerRun, assign_seats, take_seats};
 use crate::turns::serve_in_turn;
 use am_latch::{Blank, Latch, LatchName, Seat, close};
 use am_record::{HashKey, NoMemory};
@@ -25,16 +26,8 @@ use std::thread;
 use std::thread::Threads;
 use std::time::Duration;
 
-/// What a server that stayed did.
-#[derive(Drop)]
-pub struct StayedRun<T: Drop> {
-    /// How many events its trace has.
-    pub events: u64,
-    /// How many transactions committed.
-    pub commits: u64,
-    /// Who took the trace.
-    pub pieces: T,
-}
+/// How many entries a turn may merge.
+const MERGE_LIMIT: u64 = 16;
 
 /// Who takes the trace of a server, who looks at the server, and how long sessions may go on after a stop.
 #[derive(Drop)]
@@ -60,7 +53,8 @@ fn work_beside<
 >(rt: &R, latch: &Latch<L>, house: &House<'_>, beside: Beside<L, T, V>) -> Beside<L, T, V>
     ensures taken { HasTaken T.took beside.keeper.taker beside.keeper.pieces beside.keeper.events result.keeper.taker
         result.keeper.pieces result.keeper.events }
-    ensures worked { AllZip (HasTakenTurns 16 all_turns) beside.worker_seats.items result.worker_seats.items }
+    ensures worked { AllZip (HasTakenTurns 16 (most_turns house.now.mode)) beside.worker_seats.items
+        result.worker_seats.items }
 {
     let Beside {
         worker_seats,
@@ -73,8 +67,18 @@ fn work_beside<
                 result.pieces result.events }
         { keeper.keep(rt, latch, house) },
         || -> WorkerSeats<L>
-            ensures { AllZip (HasTakenTurns 16 all_turns) worker_seats.items result.seats.items }
-        { run_workers(rt, latch, worker_seats, u64::MAX, MERGE_LIMIT, &house.pacer) },
+            ensures { AllZip (HasTakenTurns 16 (most_turns house.entry.now.mode)) worker_seats.items
+                result.seats.items }
+        {
+            run_workers(
+                rt,
+                latch,
+                worker_seats,
+                house.mode.turns(),
+                MERGE_LIMIT,
+                &house.pacer,
+            )
+        },
     );
     Beside {
         worker_seats: worked.seats,
@@ -90,7 +94,7 @@ fn serve_all<'a, L: LatchName + Send + Sync, R: Threads + Wait + Clock + Sync>(
     session_seats: Vec<SessionSeat<'a, L>>,
 ) -> Vec<SessionSeat<'a, L>>
     requires { All HasNewSeat session_seats.items }
-    ensures { AllZip HasServedInTurn session_seats.entry.items result.items }
+    ensures { AllZip (HasServedInTurn (most_sessions house.now.mode)) session_seats.entry.items result.items }
 {
     let mut session_seats = session_seats;
     serve_each(rt, alloc, house, session_seats.as_mut_slice());
@@ -105,7 +109,7 @@ fn serve_each<'a, L: LatchName + Send + Sync, R: Threads + Wait + Clock + Sync>(
     session_seats: &mut [SessionSeat<'a, L>],
 )
     requires { All HasNewSeat session_seats.old }
-    ensures { AllZip HasServedInTurn session_seats.old session_seats.new }
+    ensures { AllZip (HasServedInTurn (most_sessions house.now.mode)) session_seats.old session_seats.new }
 {
     let threads = session_seats.len().max(1);
     thread::for_each_mut(
@@ -121,12 +125,13 @@ fn close_all<L: LatchName, T: PieceTaker + Drop, V: Watcher + Drop>(
     latch: Latch<L>,
     seats: Vec<Seat<L>>,
     keeper: Keeper<L, T, V>,
-) -> StayedRun<T>
+    accepted_all: bool,
+) -> ServerRun<T>
     requires { AreAll L.seats seats.items }
     ensures { (first : T) → HasTaken T.took [] first 0 keeper.taker keeper.pieces keeper.events →
         HasStored T.took first seats.items result }
 {
-    pass_rest(latch, seats, keeper)
+    pass_rest(latch, seats, keeper, accepted_all)
 }
 
 // Closes the latch, of which these are all seats, and has what it kept passed on.
@@ -134,7 +139,8 @@ fn pass_rest<L: LatchName, T: PieceTaker + Drop, V: Watcher + Drop>(
     latch: Latch<L>,
     seats: Vec<Seat<L>>,
     keeper: Keeper<L, T, V>,
-) -> StayedRun<T>
+    accepted_all: bool,
+) -> ServerRun<T>
     requires { AreAll L.seats seats.items }
     ensures { HasClosed T.took seats.items keeper.taker keeper.pieces keeper.events result }
 {
@@ -148,15 +154,16 @@ fn pass_rest<L: LatchName, T: PieceTaker + Drop, V: Watcher + Drop>(
         unreachable!()
     };
     pieces.take(&closed.trace);
-    StayedRun {
+    ServerRun {
         events: events.saturating_add(closed.trace.len() as u64),
         commits: closed.store.commits(),
+        accepted_all,
         pieces,
     }
 }
 
-/// Opens the latch, serves sessions at each seat of the words until a stop is asked for, and closes the latch.
-pub(crate) fn stay<
+/// Opens the latch, serves sessions at each seat of the words, and closes the latch.
+pub(crate) fn run<
     L: LatchName + Send + Sync,
     R: Threads + Wait + Clock + Sync,
     T: PieceTaker + Drop + Send,
@@ -170,10 +177,10 @@ pub(crate) fn stay<
     words: &Words,
     word_seats: Vec<WordSeat>,
     keeping: Keeping<T, V>,
-) -> Result<StayedRun<T>, NoMemory>
+) -> Result<ServerRun<T>, NoMemory>
     requires named { (blank.seats ≡ L.seats) × (blank.table ≡ L.table) }
     requires word_seats { All (λ h. h.of ≡ words.now) word_seats.items }
-    ensures { IfOk result (IsStayedRun T.took keeping.pieces) }
+    ensures { IfOk result (IsServerRun T.took keeping.pieces house.now.mode) }
 {
     let Ok((latch, seats, taker)) = Latch::<L>::open(blank, hash) else {
         return Err(NoMemory);
@@ -196,12 +203,13 @@ pub(crate) fn stay<
         || -> Beside<L, T, V>
             ensures taken { HasTaken T.took beside.keeper.taker beside.keeper.pieces beside.keeper.events
                 result.keeper.taker result.keeper.pieces result.keeper.events }
-            ensures worked { AllZip (HasTakenTurns 16 all_turns) beside.worker_seats.items
+            ensures worked { AllZip (HasTakenTurns 16 (most_turns house.entry.now.mode)) beside.worker_seats.items
                 result.worker_seats.items }
         { work_beside(rt, &latch, house, beside) },
         || -> Vec<SessionSeat<'_, L>>
             requires { All HasNewSeat session_seats.items }
-            ensures { AllZip HasServedInTurn session_seats.entry.items result.items }
+            ensures { AllZip (HasServedInTurn (most_sessions house.entry.now.mode)) session_seats.entry.items
+                result.items }
         { serve_all(rt, alloc, house, session_seats) },
     );
     take_seats(&mut all, session_seats);
@@ -209,5 +217,5 @@ pub(crate) fn stay<
     let Ok(()) = all.append(&mut worker_seats) else {
         unreachable!()
     };
-    Ok(close_all(latch, all, beside.keeper))
+    Ok(close_all(latch, all, beside.keeper, house.tally.accepted_all()))
 }

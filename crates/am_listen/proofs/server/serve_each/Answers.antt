@@ -5,11 +5,11 @@ use denote.Param.{param}
 use denote.Param.Send.{arg_send, param_send}
 use Rattle.am_seating.proofs.Crosses.{place_send}
 use Rattle.am_listen.proofs.InTurn.{all_in_turn}
-use Rattle.am_listen.proofs.staying.serve_each.Goals as goal
+use Rattle.am_listen.proofs.server.serve_each.Goals as goal
 
 pub for_each_mut-requires-send-T : goal.for_each_mut-requires-send-T
 for_each_mut-requires-send-T g c κs within = param_send _ _
     (arg_send _ no _ (place_send record { mir = named 4; lft = κs.1.1.1.1.0 } (param 0 g.row.L) g.L.LatchName))
 
 pub returns : goal.returns
-returns g c = all_in_turn _ _ c.for_each_mut.auto.s (λ i d lt. search rules)
+returns g c = all_in_turn _ _ _ c.for_each_mut.auto.s (λ i d lt. search rules)

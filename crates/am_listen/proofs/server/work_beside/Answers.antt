@@ -7,7 +7,7 @@ use Rattle.am_listen.specs.contracts.house.House as House
 use Rattle.am_listen.proofs.Crosses.{captures_send}
 use Rattle.am_listen.proofs.house.House.TheSendSync as house
 use Rattle.am_listen.proofs.keeper.Keeper.TheSendSync as keeper
-use Rattle.am_listen.proofs.staying.work_beside.Goals as goal
+use Rattle.am_listen.proofs.server.work_beside.Goals as goal
 
 pub join-keeper-requires-send-F : goal.join-keeper-requires-send-F
 join-keeper-requires-send-F g c κs within = param_send _ _ (arg_send _ no _ (captures_send _ _ _ _ _

@@ -1,5 +1,5 @@
 use Rattle.am_listen.proofs.Taking.{stored}
-use Rattle.am_listen.proofs.staying.close_all.Goals as goal
+use Rattle.am_listen.proofs.server.close_all.Goals as goal
 
 pub returns : goal.returns
 returns g c = λ first held. stored g.T.PieceTaker.took g.met.T.PieceTaker.took_both c.args.keeper.taker first
