@@ -6,7 +6,7 @@ _tiuvrokk_words() {
     amserve)
         case ${COMP_WORDS[1]-} in
         alone) echo '--auto --help' ;;
-        listen) echo '--port --sessions --workers --trace --stop --stay --grace --log --help' ;;
+        listen) echo '--port --sessions --workers --trace --stop --stay --grace --idle --log --help' ;;
         *) echo 'alone listen help --help --version' ;;
         esac
         ;;
@@ -23,7 +23,7 @@ _tiuvrokk() {
     local program=${1##*/} word=$2 before=$3
     COMPREPLY=()
     case $before in
-    --port | --sessions | --workers | --grace | --auto | --run | --wait | --log | --limit | --snapshot | --user) return ;;
+    --port | --sessions | --workers | --grace | --idle | --auto | --run | --wait | --log | --limit | --snapshot | --user) return ;;
     --reads) mapfile -t COMPREPLY < <(compgen -W 'log local' -- "$word") ;;
     --trace | --store | --history | --cacert | --cert | --key) mapfile -t COMPREPLY < <(compgen -f -- "$word") ;;
     *)

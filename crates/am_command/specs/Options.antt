@@ -32,6 +32,9 @@ staying_sessions = record { least = 1; most = 256; default = Some 64 }
 abbrev pub grace : Setting
 grace = record { least = 0; most = 3600; default = Some 0 }
 
+abbrev pub idle : Setting
+idle = record { least = 1; most = 43200; default = Some 1 }
+
 abbrev pub workers : Setting
 workers = record { least = 0; most = 16; default = Some 1 }
 
@@ -63,12 +66,13 @@ common_app =
     let with_trace = with_rule with_workers (option_rule (codes "trace")) in
     with_rule with_trace (flag_rule (codes "stop"))
 
--- and `[--stay] [--grace S] [--log]`
+-- and `[--stay] [--grace S] [--idle S] [--log]`
 abbrev pub listen_app : App
 listen_app =
     let with_stay = with_rule common_app (flag_rule (codes "stay")) in
     let with_grace = with_rule with_stay (number_rule (option_rule (codes "grace")) grace) in
-    with_rule with_grace (flag_rule (codes "log"))
+    let with_idle = with_rule with_grace (number_rule (option_rule (codes "idle")) idle) in
+    with_rule with_idle (flag_rule (codes "log"))
 
 -- the command is this one, with no global argument
 abbrev pub IsCommand : App → Command → Type 0
@@ -102,7 +106,7 @@ SetsIfGiven setting None number = number ≡ None
 SetsIfGiven setting (Some text) number = IsSomeAnd number (Sets setting (Some text))
 
 -- the rows of `listen` give these numbers and this file, which has a name, and say whether to await a STOP, whether the
--- server stays, and whether it tells how it does; a limit of time, and that it tells, go with one that stays
+-- server stays, and whether it tells how it does; limits of time, and that it tells, go with one that stays
 pub record NamesListening (rows : List Row) (listening : Listening) : Type 0 where
   pub port_set : Sets port (first_of (codes "port") rows) listening.port
   pub sessions_set : Sets (cond listening.stays staying_sessions sessions) (first_of (codes "sessions") rows)
@@ -113,8 +117,10 @@ pub record NamesListening (rows : List Row) (listening : Listening) : Type 0 whe
   pub stop_awaited : IsTrue listening.awaits_stop ↔ (first_of (codes "stop") rows ≡ Some (codes "true"))
   pub stay_told : IsTrue listening.stays ↔ (first_of (codes "stay") rows ≡ Some (codes "true"))
   pub grace_set : SetsIfGiven grace (first_of (codes "grace") rows) listening.grace
+  pub idle_set : SetsIfGiven idle (first_of (codes "idle") rows) listening.idle
   pub log_told : IsTrue listening.is_logged ↔ (first_of (codes "log") rows ≡ Some (codes "true"))
-  pub together : listening.stays ≡ false → (listening.grace ≡ None) × (listening.is_logged ≡ false)
+  pub together : listening.stays ≡ false → (listening.grace ≡ None) × (listening.idle ≡ None) ×
+      (listening.is_logged ≡ false)
 
 -- the name of a subcommand and its rows name these options
 abbrev pub Selects : Text × List Row → Options → Type 0

@@ -4,7 +4,7 @@ ghost use Rattle.std.specs.Prelude.{◌≡◌, ◌≢◌, ◌↔◌, ℕ, [], Op
 ghost use Rattle.std.specs.Prelude.{codes, false, map, option_map};
 ghost use Rattle.clap.specs.Words.{app_of, first_of, found_of, rows_of, rule_of, subcommand_rows_of};
 ghost use Rattle.am_command.specs.Faults.{Refuses};
-ghost use Rattle.am_command.specs.Options.{IsCommand, Names, NamesListening, Selects, Sets, SetsIfGiven, grace};
+ghost use Rattle.am_command.specs.Options.{IsCommand, Names, NamesListening, Selects, Sets, SetsIfGiven};
 ghost use Rattle.am_command.specs.Options.{alone_app, amserve_app, common_app, flag_rule, listen_app, number_rule};
 ghost use Rattle.am_command.specs.Options.{option_rule};
 
@@ -58,6 +58,13 @@ const GRACE: Setting = Setting {
     default: Some(0),
 };
 
+/// After how many seconds an idle session ends, where it does.
+const IDLE: Setting = Setting {
+    least: 1,
+    most: 43_200,
+    default: Some(1),
+};
+
 /// How many workers merge.
 const WORKERS: Setting = Setting {
     least: 0,
@@ -78,7 +85,7 @@ pub fn options<'a, S: AsStr>(alloc: Global, words: &'a [S]) -> Result<Options<'a
         Ok(matches) => match selected(&matches) {
             Some(options) => Ok(options),
             None => Err(OptionsFault::Unserved(
-                "expected alone or listen, a file that has a name, and --stay beside --grace and --log",
+                "expected alone or listen, a file that has a name, and --stay beside --grace, --idle and --log",
             )),
         },
         Err(error) => Err(fault_of(alloc, &error)),
@@ -112,8 +119,8 @@ fn alone<'a>(alloc: Global) -> Result<Command<'a>, AllocError>
         ))
 }
 
-/// `listen`, with what each server takes and what goes with one that stays: `[--stay] [--grace S] [--log]`. It has a
-/// frame of its own, so that none is large.
+/// `listen`, with what each server takes and what goes with one that stays:
+/// `[--stay] [--grace S] [--idle S] [--log]`. It has a frame of its own, so that none is large.
 #[inline(never)]
 fn listen<'a>(alloc: Global) -> Result<Command<'a>, AllocError>
     ensures { IfOk result (λ command. IsCommand listen_app command) }
@@ -131,10 +138,17 @@ fn listen<'a>(alloc: Global) -> Result<Command<'a>, AllocError>
             "With --stay: cut the sessions that haven't ended S seconds after the stop, 0 to 3600",
             GRACE,
         ))?
+        .arg(number(
+            alloc,
+            "idle",
+            "S",
+            "With --stay: end a session from which nothing came for S seconds, 1 to 43200",
+            IDLE,
+        ))?
         .arg(flag(
             alloc,
             "log",
-            "With --stay: tell on standard error each minute how the server does",
+            "With --stay: tell on standard error each minute, and at the end, how the server does",
         ))
 }
 
@@ -254,10 +268,12 @@ fn listening_in<'a>(given: &ArgMatches<'a>) -> Option<Listening<'a>>
         trace: file_in(text_in(given, "trace"))?,
         awaits_stop: is_given(given, "stop"),
         stays,
-        grace: seconds_in(text_in(given, "grace"))?,
+        grace: seconds_in(text_in(given, "grace"), GRACE)?,
+        idle: seconds_in(text_in(given, "idle"), IDLE)?,
         is_logged: is_given(given, "log"),
     };
-    if !stays && (listening.grace.is_some() || listening.is_logged) {
+    let is_limited = listening.grace.is_some() || listening.idle.is_some();
+    if !stays && (is_limited || listening.is_logged) {
         return None;
     }
     Some(listening)
@@ -271,14 +287,14 @@ fn is_given(given: &ArgMatches<'_>, name: &str) -> bool
 }
 
 /// The seconds that an option's text gives, if there is one, where they are within their bounds.
-fn seconds_in(given: Option<&str>) -> Option<Option<u64>>
+fn seconds_in(given: Option<&str>, setting: Setting) -> Option<Option<u64>>
     ensures { MatchOption result
-        ((n : Option ℕ) → SetsIfGiven grace (option_map (λ text. text.now) given.entry) n → ⊥)
-        (SetsIfGiven grace (option_map (λ text. text.now) given.entry)) }
+        ((n : Option ℕ) → SetsIfGiven setting (option_map (λ text. text.now) given.entry) n → ⊥)
+        (SetsIfGiven setting (option_map (λ text. text.now) given.entry)) }
 {
     match given {
         None => Some(None),
-        Some(text) => match number_of(Some(text), GRACE) {
+        Some(text) => match number_of(Some(text), setting) {
             Some(seconds) => Some(Some(u64::from(seconds))),
             None => None,
         },

@@ -27,7 +27,9 @@ pub struct Listening<'a> {
     pub stays: bool,
     /// How many seconds sessions may go on after the stop of a server that stays, where that is limited; 0 to 3,600.
     pub grace: Option<u64>,
-    /// Whether a server that stays tells each minute how it does.
+    /// After how many seconds in which nothing came a session of a server that stays ends, where it does; 1 to 43,200.
+    pub idle: Option<u64>,
+    /// Whether a server that stays tells each minute, and at the end, how it does.
     pub is_logged: bool,
 }
 

@@ -43,7 +43,22 @@ struct Served {
 
 /// Listens, serves and ends, as the words ask. The program's status.
 #[inline(never)]
-pub(crate) fn listen(rt: &HostRuntime, listening: &Listening<'_>) -> io::Result<ExitCode>
+pub(crate) fn listen<
+    R: AllocGlobal
+        + Input
+        + Print
+        + Eprint
+        + Threads
+        + Wait
+        + RandomSource
+        + Clock
+        + Files<File = File>
+        + Net<Listener = TcpListener, Stream = TcpStream>
+        + Sync,
+>(
+    rt: &R,
+    listening: &Listening<'_>,
+) -> io::Result<ExitCode>
     requires sessions { (1 ≤ listening.now.sessions) × (listening.now.sessions ≤ 256) }
     requires workers { listening.now.workers ≤ 16 }
 {
@@ -102,8 +117,18 @@ fn forget<R: Files>(rt: &R, file: Option<&TraceFile>) {
 
 // Serves, and where a stop is awaited hears it.
 #[inline(never)]
-fn serve_until_stop(
-    rt: &HostRuntime,
+fn serve_until_stop<
+    R: AllocGlobal
+        + Input
+        + Eprint
+        + Threads
+        + Wait
+        + RandomSource
+        + Clock
+        + Net<Listener = TcpListener, Stream = TcpStream>
+        + Sync,
+>(
+    rt: &R,
     port: &PortListener,
     listening: &Listening<'_>,
     writer: Option<Writer>,

@@ -1,7 +1,7 @@
 //! The file that gets the trace.
 
 use crate::fault::ListenFault;
-use std::fs::{File, FileExt, Metadata, OpenFile, OpenOptions};
+use std::fs::{File, Metadata, OpenFile, OpenOptions};
 use std::io::ErrorKind;
 use std::rt::Files;
 use std::{fs, io};
@@ -37,7 +37,7 @@ impl TraceFile {
     ) -> Result<(TraceFile, File), ListenFault> {
         match fs::symlink_metadata(rt, path) {
             Ok(found) if found.is_symlink() => {
-                let Ok(target) = fs::canonicalize(rt, rt.alloc(), path) else {
+                let Ok(target) = fs::canonicalize(rt, path) else {
                     return Err(ListenFault::CannotWriteTrace);
                 };
                 TraceFile::open_at(rt, target.as_str())

@@ -8,6 +8,8 @@ returns c =
     c.in_ok-listen_common.ensures c.flag.ensures c.in_ok-arg.ensures in
     let with_grace = arg_added c.in_ok-arg.field-0 c.in_ok-arg-2.field-0 c.number.result _ _ with_stay
     c.number.ensures c.in_ok-arg-2.ensures in
-    IfOk-weaker c.arg-3.result _ _
-    (λ command adds. arg_added c.in_ok-arg-2.field-0 command c.flag-2.result _ _ with_grace c.flag-2.ensures adds)
-    c.arg-3.ensures
+    let with_idle = arg_added c.in_ok-arg-2.field-0 c.in_ok-arg-3.field-0 c.number-2.result _ _ with_grace
+    c.number-2.ensures c.in_ok-arg-3.ensures in
+    IfOk-weaker c.arg-4.result _ _
+    (λ command adds. arg_added c.in_ok-arg-3.field-0 command c.flag-2.result _ _ with_idle c.flag-2.ensures adds)
+    c.arg-4.ensures
