@@ -1,5 +1,6 @@
 //! What a server counts.
 
+use crate::events::EventCounts;
 use std::sync::atomic::{AtomicU64, Ordering};
 
 /// A count that many threads add to.
@@ -42,18 +43,29 @@ impl Tally {
         self.refused_by_system.get() == 0
     }
 
-    /// The counts as they are, beside so many events.
-    pub(crate) fn counts(&self, events: u64, is_cut: bool) -> Counts {
+    /// The counts as they are, beside those of the trace.
+    pub(crate) fn counts(&self, trace: TraceCounts, is_cut: bool) -> Counts {
         let ended = self.ended.get();
         let sessions = self.begun.get();
         Counts {
             sessions,
             open: sessions.saturating_sub(ended),
-            events,
+            trace,
             refused_by_system: self.refused_by_system.get(),
             is_cut,
         }
     }
+}
+
+/// What a server's trace is made of.
+#[derive(Clone, Copy, Debug, PartialEq, Eq)]
+pub struct TraceCounts {
+    /// How many events it has.
+    pub events: u64,
+    /// How many of them were kept until they were taken just now.
+    pub kept: u64,
+    /// What they were.
+    pub of: EventCounts,
 }
 
 /// How a server does.
@@ -63,16 +75,16 @@ pub struct Counts {
     pub sessions: u64,
     /// How many of them have not ended.
     pub open: u64,
-    /// How many events were handed out.
-    pub events: u64,
+    /// What the trace is made of.
+    pub trace: TraceCounts,
     /// How often the system refused to accept a connection.
     pub refused_by_system: u64,
     /// Whether some of the trace is lost.
     pub is_cut: bool,
 }
 
-/// Looks at how a server does, some ten times a second.
+/// Looks at how a server does, some ten times a second, and once when all its sessions have ended.
 pub trait Watcher {
-    /// Looks at the counts.
-    fn look(&mut self, counts: &Counts);
+    /// Looks at the counts. The last time all sessions have ended.
+    fn look(&mut self, counts: &Counts, is_last: bool);
 }

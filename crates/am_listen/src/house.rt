@@ -25,6 +25,8 @@ pub(crate) struct House<'a> {
     pub(crate) connections: Connections,
     pub(crate) tally: Tally,
     pub(crate) mode: Mode,
+    // How long a session may be idle, where that is limited.
+    pub(crate) idle: Option<Duration>,
     is_stopped: &'a AtomicBool,
     // 0 until all sessions have ended.
     all_ended: AtomicU64,
@@ -38,6 +40,7 @@ impl<'a> House<'a> {
         is_stopped: &'a AtomicBool,
         sessions: u64,
         mode: Mode,
+        idle: Option<Duration>,
     ) -> Result<House<'a>, NoMemory>
         ensures { IfOk result (λ house. house.mode ≡ mode) }
     {
@@ -47,6 +50,7 @@ impl<'a> House<'a> {
             connections: Connections::new(alloc, sessions as usize)?,
             tally: Tally::new(),
             mode,
+            idle,
             is_stopped,
             all_ended: AtomicU64::new(0),
         })

@@ -3,7 +3,8 @@
 ghost use Rattle.std.specs.Prelude.{◌≡◌};
 ghost use Rattle.am_listen.specs.Pieces.{HasTaken};
 
-use crate::counts::Watcher;
+use crate::counts::{TraceCounts, Watcher};
+use crate::events::EventCounts;
 use crate::house::House;
 use crate::pieces::PieceTaker;
 use am_latch::{Latch, LatchName, Taker};
@@ -18,6 +19,7 @@ pub(crate) struct Keeper<L: LatchName, T: PieceTaker + Drop, V: Watcher + Drop> 
     pub(crate) pieces: T,
     // How many events were taken.
     pub(crate) events: u64,
+    counts: EventCounts,
     watcher: V,
     // How long sessions may go on after a stop.
     grace: Option<Duration>,
@@ -37,6 +39,7 @@ impl<L: LatchName, T: PieceTaker + Drop, V: Watcher + Drop> Keeper<L, T, V> {
             taker,
             pieces,
             events: 0,
+            counts: EventCounts::new(),
             watcher,
             grace,
             stopped_at: None,
@@ -52,7 +55,7 @@ impl<L: LatchName, T: PieceTaker + Drop, V: Watcher + Drop> Keeper<L, T, V> {
         let mut keeper = self;
         'rounds: for _ in rt.forever() {
             let is_last = house.await_round(rt);
-            keeper.take_piece(rt, latch, house);
+            keeper.take_piece(rt, latch, house, is_last);
             if is_last {
                 return keeper;
             }
@@ -64,15 +67,21 @@ impl<L: LatchName, T: PieceTaker + Drop, V: Watcher + Drop> Keeper<L, T, V> {
     }
 
     // Takes what the latch keeps.
-    fn take_piece<R: Wait>(&mut self, rt: &R, latch: &Latch<L>, house: &House<'_>)
+    fn take_piece<R: Wait>(&mut self, rt: &R, latch: &Latch<L>, house: &House<'_>, is_last: bool)
         ensures { HasTaken T.took self.old.taker self.old.pieces self.old.events self.new.taker self.new.pieces
             self.new.events }
     {
         let piece = latch.hand_out(rt, &mut self.taker);
         self.pieces.take(&piece.trace);
         self.events = self.events.saturating_add(piece.trace.len() as u64);
-        self.watcher
-            .look(&house.tally.counts(self.events, self.pieces.is_cut()));
+        self.counts.add(&piece.trace);
+        let trace = TraceCounts {
+            events: self.events,
+            kept: piece.trace.len() as u64,
+            of: self.counts,
+        };
+        let counts = house.tally.counts(trace, self.pieces.is_cut());
+        self.watcher.look(&counts, is_last);
     }
 
     // Whether sessions have gone on for too long after a stop.

@@ -10,6 +10,7 @@
 mod connections;
 mod counting_sink;
 mod counts;
+mod events;
 mod gate;
 mod house;
 mod http;
@@ -24,7 +25,8 @@ mod sessions;
 mod trace_writer;
 mod turns;
 
-pub use counts::{Counts, Watcher};
+pub use counts::{Counts, TraceCounts, Watcher};
+pub use events::EventCounts;
 pub use listener::{BindFault, PortListener, bind};
 pub use mode::Mode;
 pub use pieces::{LetGo, PieceTaker};

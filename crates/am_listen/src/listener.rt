@@ -109,7 +109,14 @@ impl PortListener {
         let Ok((words, word_seats)) = Words::open(self.alloc, sessions as usize) else {
             return Err(NoMemory);
         };
-        let house = House::new(self.alloc, &self.listener, &self.is_stopped, sessions, mode)?;
+        let house = House::new(
+            self.alloc,
+            &self.listener,
+            &self.is_stopped,
+            sessions,
+            mode,
+            keeping.idle,
+        )?;
         run::<Brand, R, T, V>(
             rt, self.alloc, hash, &house, blank, &words, word_seats, keeping,
         )

@@ -29,12 +29,14 @@ use std::time::Duration;
 /// How many entries a turn may merge.
 const MERGE_LIMIT: u64 = 16;
 
-/// Who takes the trace of a server, who looks at the server, and how long sessions may go on after a stop.
+/// Who takes the trace of a server, who looks at the server, how long sessions may go on after a stop, and how long a
+/// session may be idle.
 #[derive(Drop)]
 pub struct Keeping<T: PieceTaker + Drop, V: Watcher + Drop> {
     pub pieces: T,
     pub watcher: V,
     pub grace: Option<Duration>,
+    pub idle: Option<Duration>,
 }
 
 // Who works beside the sessions.
@@ -192,6 +194,7 @@ pub(crate) fn run<
         pieces,
         watcher,
         grace,
+        ..
     } = keeping;
     let beside = Beside {
         worker_seats,

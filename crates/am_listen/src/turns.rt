@@ -14,6 +14,15 @@ use std::alloc::Global;
 use std::net::TcpStream;
 use std::rt::Clock;
 use std::sync::{Arc, Wait};
+use std::time::Duration;
+
+// Where nothing comes, or nothing is taken, for longer than that, the session ends.
+fn limit_idleness(stream: &TcpStream, idle: Option<Duration>) {
+    if idle.is_some() {
+        let _ = stream.set_read_timeout(idle);
+        let _ = stream.set_write_timeout(idle);
+    }
+}
 
 // Serves a connection to its end, where it can be cut.
 fn serve_at_place<'a, R: Wait, L: LatchName>(
@@ -41,6 +50,7 @@ fn serve_at_place<'a, R: Wait, L: LatchName>(
         refuse(&shared);
         return;
     };
+    limit_idleness(&shared, house.idle);
     house.connections.enter(rt, place, other);
     let mut source = if house.mode.stays() {
         NoHttp::new(Reading::new(&*shared))

@@ -2,14 +2,14 @@
 
 use crate::fault::ListenFault;
 use am_command::Listening;
-use am_listen::{Counts, Watcher};
+use am_listen::{Counts, EventCounts, TraceCounts, Watcher};
 use std::rt::Clock;
 use std::time::{Duration, Instant};
 
 /// How often it is told how the server does.
 const LOG_SECONDS: u64 = 60;
 
-/// Says once what goes wrong, and each minute how the server does, where that is asked for.
+/// Says once what goes wrong, and each minute and at the end how the server does, where that is asked for.
 #[derive(Drop)]
 pub(crate) struct Console<'a, R> {
     rt: &'a R,
@@ -45,13 +45,19 @@ impl<'a, R: Eprint + Clock> Console<'a, R> {
         let Counts {
             sessions,
             open,
-            events,
-            refused_by_system: refused,
+            trace: TraceCounts { events, kept, of },
+            refused_by_system: unaccepted,
             is_cut,
         } = *counts;
+        let EventCounts {
+            commits,
+            busy,
+            too_many,
+            wrong,
+        } = of;
         let trace = if is_cut { "cut" } else { "whole" };
         let _ = eprintln!(self.rt;
-            "sessions={sessions} open={open} steps={events} refused={refused} trace={trace}"
+            "sessions={sessions} open={open} steps={events} commits={commits} busy={busy} too_many={too_many} wrong={wrong} kept={kept} unaccepted={unaccepted} trace={trace}"
         );
     }
 }
@@ -65,7 +71,7 @@ fn say_once<R: Eprint>(rt: &R, is_so: bool, was_said: &mut bool, fault: ListenFa
 }
 
 impl<'a, R: Eprint + Clock> Watcher for Console<'a, R> {
-    fn look(&mut self, counts: &Counts) {
+    fn look(&mut self, counts: &Counts, is_last: bool) {
         let is_refused = counts.refused_by_system > 0;
         say_once(
             self.rt,
@@ -79,7 +85,7 @@ impl<'a, R: Eprint + Clock> Watcher for Console<'a, R> {
             &mut self.told_cut,
             ListenFault::CannotWriteTrace,
         );
-        if self.is_logged && self.is_due() {
+        if self.is_logged && (is_last || self.is_due()) {
             self.log(counts);
             self.told_at = Instant::now(self.rt).ok();
         }

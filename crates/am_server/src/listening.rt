@@ -214,6 +214,7 @@ fn serve_with<
         pieces,
         watcher: Console::new(rt, listening),
         grace: listening.grace.map(Duration::from_secs),
+        idle: listening.idle.map(Duration::from_secs),
     };
     let mode = if listening.stays { Mode::Staying } else { Mode::Bounded };
     match port.serve(rt, mode, sessions, workers, draw_hash_key(rt), keeping) {

@@ -34,7 +34,7 @@ fn ask_twice<R: AllocGlobal + Net<Listener = TcpListener, Stream = TcpStream>>(
 struct Unwatched;
 
 impl Watcher for Unwatched {
-    fn look(&mut self, _counts: &Counts) {}
+    fn look(&mut self, _counts: &Counts, _is_last: bool) {}
 }
 
 fn nobody_keeps() -> Keeping<LetGo, Unwatched> {
@@ -42,6 +42,7 @@ fn nobody_keeps() -> Keeping<LetGo, Unwatched> {
         pieces: LetGo,
         watcher: Unwatched,
         grace: None,
+        idle: None,
     }
 }
 

@@ -1,0 +1,37 @@
+-- What events of a trace are counted.
+use Rattle.std.specs.Prelude.{ℕ, List, Bool, true, false, count_by}
+use Rattle.am_record.specs.declared.step.Step.{Step}
+use Rattle.am_record.specs.declared.step.Reply.{Reply}
+use Rattle.am_record.specs.declared.step.Reply.TheVariants.{Committed, Refused}
+use Rattle.am_record.specs.declared.step.Refusal.{Refusal}
+use Rattle.am_record.specs.declared.step.Refusal.TheVariants.{NoSuchTx, Busy, TooManyTx, TooManyLocks, TooManyOps}
+use Rattle.am_record.specs.declared.step.Refusal.TheVariants.{TooManyRuns, NotRising, BadLimit}
+
+-- a transaction committed
+abbrev pub is_commit : Reply → Bool
+is_commit (Committed c) = true
+is_commit _ = false
+
+-- a lock of another transaction was in the way
+abbrev pub is_busy : Reply → Bool
+is_busy (Refused (Busy tx)) = true
+is_busy _ = false
+
+-- a limit of transactions, locks, operations or runs was reached
+abbrev pub is_too_many : Reply → Bool
+is_too_many (Refused TooManyTx) = true
+is_too_many (Refused TooManyLocks) = true
+is_too_many (Refused TooManyOps) = true
+is_too_many (Refused TooManyRuns) = true
+is_too_many _ = false
+
+-- the step asked for what isn't to be had: of a transaction that isn't active, of pairs that don't rise, of a limit
+abbrev pub is_wrong : Reply → Bool
+is_wrong (Refused NoSuchTx) = true
+is_wrong (Refused NotRising) = true
+is_wrong (Refused BadLimit) = true
+is_wrong _ = false
+
+-- how many of the events were answered so
+abbrev pub count_events : (Reply → Bool) → List (Step × Reply) → ℕ
+count_events is events = count_by (λ e. is e.1) events
