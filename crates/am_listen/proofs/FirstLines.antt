@@ -1,8 +1,11 @@
 -- Bytes that come behind those that came.
-use Rattle.std.proofs.Common.{◌≡◌, ℕ, ◌+◌, ◌≤◌, List, ◌++◌, length, take, sym, ap, ◌∙◌, subst, append_assoc}
+use Rattle.std.proofs.Common.{◌≡◌, ℕ, zero, suc, ◌+◌, ◌<◌, ◌≤◌, List, [], ◌∷◌, ◌++◌, length, take, sym, ap, ◌∙◌}
+use Rattle.std.proofs.Common.{subst, append_assoc, arith, refl}
 use Rattle.std.proofs.Math.Seq.{take-append-add}
 use Rattle.std.proofs.lemmas.List.{take-append-le, length-take-le}
 use Rattle.am_stream.specs.Taking.{Took}
+use Rattle.am_listen.specs.Http.{stage_behind}
+use Rattle.am_listen.specs.declared.http.Stage.TheVariants.{Open}
 use borrow.Rule.Slice.PartMut.{put_mid, post_of}
 
 taken_behind : (a k n : ℕ) (xs ys : List ℕ) → a ≤ length xs → n ≤ length ys →
@@ -19,3 +22,9 @@ took_behind comes p q r a k n xs ys fits few f h = λ rest e.
     subst (λ (l : List ℕ). comes p (l ++ rest)) (sym (taken_behind a k n xs ys fits few))
     (subst (λ (l : List ℕ). comes p l) (sym (append_assoc (take a xs) (take n ys) rest))
     (f (take n ys ++ rest) (h rest e)))
+
+-- what passed something on is open
+pub behind_some : (n : ℕ) (xs : List ℕ) → 0 < n → n ≤ length xs → stage_behind (take n xs) ≡ Open
+behind_some zero xs more fits = absurd (omega arith)
+behind_some (suc n) [] more fits = absurd (omega arith)
+behind_some (suc n) (x ∷ xs) more fits = refl

@@ -4,3 +4,4 @@ pub mod Seatings
 pub mod Taking
 pub mod InTurn
 pub mod FirstLines
+pub mod Requests

@@ -4,3 +4,4 @@ pub mod Pieces
 pub mod Events
 pub mod WriterLaws
 pub mod Http
+pub mod Stops

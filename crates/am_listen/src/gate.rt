@@ -1,5 +1,8 @@
 //! Where connections come in.
 
+ghost use Rattle.std.specs.Prelude.{◌≡◌};
+ghost use Rattle.am_listen.specs.Stops.{deed_of};
+
 use crate::counts::Tally;
 use crate::mode::Mode;
 use std::net::{TcpListener, TcpStream};
@@ -11,6 +14,38 @@ use std::time::Duration;
 
 /// How long nothing is accepted where a connection couldn't be.
 const PAUSE_MILLIS: u64 = 100;
+
+/// What came to the gate.
+#[derive(Drop)]
+enum Came<C: Drop> {
+    /// A connection.
+    Connection(C),
+    /// The word that the system can't accept one.
+    Failure,
+}
+
+/// What is done with it.
+#[derive(Drop)]
+enum Deed<C: Drop> {
+    /// The connection is served.
+    Serve(C),
+    /// A further connection is waited for, a little later.
+    TryAgain,
+    /// Nothing is taken any more.
+    End,
+}
+
+// What is done with what came.
+fn deed_for<C: Drop>(mode: Mode, came: Came<C>, is_closed: bool) -> Deed<C>
+    ensures { result ≡ deed_of mode came is_closed }
+{
+    match (mode, came) {
+        _ if is_closed => Deed::End,
+        (_, Came::Connection(connection)) => Deed::Serve(connection),
+        (Mode::Staying, Came::Failure) => Deed::TryAgain,
+        (Mode::Bounded, Came::Failure) => Deed::End,
+    }
+}
 
 /// The listener, at which one thread at a time waits, until a stop is asked for.
 #[derive(Drop)]
@@ -41,20 +76,32 @@ impl<'a> Gate<'a> {
             if self.is_closed(tally) {
                 return None;
             }
-            match self.listener.accept() {
-                Ok((stream, _)) if !self.is_closed(tally) => return Some(stream),
-                Ok(_) => return None,
-                Err(_) => {
-                    tally.refused_by_system.add();
-                    thread::sleep(rt, Duration::from_millis(PAUSE_MILLIS));
-                }
+            let came = self.accept(tally);
+            match deed_for(self.mode, came, self.is_stopped()) {
+                Deed::Serve(stream) => return Some(stream),
+                Deed::TryAgain => thread::sleep(rt, Duration::from_millis(PAUSE_MILLIS)),
+                Deed::End => return None,
             }
         }
         unreachable!()
     }
 
-    // Whether no further connection is taken.
+    fn accept(&self, tally: &Tally) -> Came<TcpStream> {
+        match self.listener.accept() {
+            Ok((stream, _)) => Came::Connection(stream),
+            Err(_) => {
+                tally.refused_by_system.add();
+                Came::Failure
+            }
+        }
+    }
+
+    // Whether no further connection is waited for: after a stop, and in a bounded server after a failure.
     fn is_closed(&self, tally: &Tally) -> bool {
-        self.is_stopped.load(Ordering::SeqCst) || (!self.mode.stays() && !tally.accepted_all())
+        self.is_stopped() || (!self.mode.stays() && !tally.accepted_all())
+    }
+
+    fn is_stopped(&self) -> bool {
+        self.is_stopped.load(Ordering::SeqCst)
     }
 }

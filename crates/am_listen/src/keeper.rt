@@ -1,7 +1,8 @@
 //! The thread that takes what the latch hands out.
 
-ghost use Rattle.std.specs.Prelude.{◌≡◌};
+ghost use Rattle.std.specs.Prelude.{◌≡◌, IsSome};
 ghost use Rattle.am_listen.specs.Pieces.{HasTaken};
+ghost use Rattle.am_listen.specs.Stops.{is_over};
 
 use crate::counts::{TraceCounts, Watcher};
 use crate::events::EventCounts;
@@ -11,6 +12,28 @@ use am_latch::{Latch, LatchName, Taker};
 use std::rt::Clock;
 use std::sync::Wait;
 use std::time::{Duration, Instant};
+
+/// How long ago a stop was asked for.
+#[derive(Clone, Copy, Debug, PartialEq, Eq)]
+enum SinceStop {
+    /// None was.
+    Unasked,
+    /// So long ago, by the clock.
+    Ago(Duration),
+    /// The clock doesn't tell.
+    Untold,
+}
+
+// Whether sessions have gone on for too long: as long as their grace, where they have one, or where the clock fails.
+fn is_over(grace: Option<Duration>, since: SinceStop) -> bool
+    ensures { result ≡ is_over grace since }
+{
+    match (grace, since) {
+        (None, _) | (_, SinceStop::Unasked) => false,
+        (Some(grace), SinceStop::Ago(past)) => past.as_nanos() >= grace.as_nanos(),
+        (Some(_), SinceStop::Untold) => true,
+    }
+}
 
 /// Takes a latch's trace by pieces, and looks at the server beside that.
 #[derive(Drop)]
@@ -59,7 +82,8 @@ impl<L: LatchName, T: PieceTaker + Drop, V: Watcher + Drop> Keeper<L, T, V> {
             if is_last {
                 return keeper;
             }
-            if keeper.is_late(rt, house) {
+            let since = keeper.since_stop(rt, house);
+            if is_over(keeper.grace, since) {
                 house.connections.cut_all(rt);
             }
         }
@@ -84,23 +108,21 @@ impl<L: LatchName, T: PieceTaker + Drop, V: Watcher + Drop> Keeper<L, T, V> {
         self.watcher.look(&counts, is_last);
     }
 
-    // Whether sessions have gone on for too long after a stop.
-    fn is_late<R: Clock>(&mut self, rt: &R, house: &House<'_>) -> bool
-        ensures { (self.new.taker ≡ self.old.taker) × (self.new.pieces ≡ self.old.pieces) ×
+    // How long ago a stop was asked for. Its time is that of the first round that sees it.
+    fn since_stop<R: Clock>(&mut self, rt: &R, house: &House<'_>) -> SinceStop
+        ensures kept { (self.new.taker ≡ self.old.taker) × (self.new.pieces ≡ self.old.pieces) ×
             (self.new.events ≡ self.old.events) }
+        ensures same { IsSome self.old.stopped_at → self.new.stopped_at ≡ self.old.stopped_at }
     {
-        let Some(grace) = self.grace else {
-            return false;
-        };
         if !house.is_stopped() {
-            return false;
+            return SinceStop::Unasked;
         }
         if self.stopped_at.is_none() {
             self.stopped_at = Instant::now(rt).ok();
         }
         match self.stopped_at {
-            Some(at) => at.elapsed(rt).map_or(true, |past| past >= grace),
-            None => true,
+            Some(at) => at.elapsed(rt).map_or(SinceStop::Untold, SinceStop::Ago),
+            None => SinceStop::Untold,
         }
     }
 }

@@ -13,14 +13,18 @@ use am_latch::Blank;
 use am_record::{HashKey, NoMemory};
 use am_words::Words;
 use std::alloc::Global;
-use std::io;
 use std::marker::Brand;
 use std::net::{Ipv4Addr, Net, TcpListener, TcpStream};
 use std::rt::Clock;
 use std::sync::Wait;
 use std::sync::atomic::{AtomicBool, Ordering};
 use std::thread::Threads;
+use std::time::Duration;
+use std::{io, thread};
 use thiserror::Error;
+
+/// How long it takes until a stop tries again to wake the thread that waits for a connection.
+const WAKE_MILLIS: u64 = 100;
 
 /// Why no port is listened at.
 #[derive(Clone, Copy, Debug, PartialEq, Eq, Error)]
@@ -71,11 +75,21 @@ impl PortListener {
     }
 
     /// No further connection is taken, and `serve` returns once the sessions begun have ended. May be called from
-    /// another thread while `serve` runs.
-    pub fn stop<R: Net<Listener = TcpListener, Stream = TcpStream>>(&self, rt: &R) {
+    /// another thread while `serve` runs. Where no connection can be made, as where no files are left, it returns only
+    /// once one can.
+    pub fn stop<R: Net<Listener = TcpListener, Stream = TcpStream> + Wait + Clock>(&self, rt: &R) {
         self.is_stopped.store(true, Ordering::SeqCst);
-        // A thread that waits for a connection gets this one, and sees that it is to stop.
-        drop(TcpStream::connect(rt, (Ipv4Addr::LOCALHOST, self.port)));
+        for _ in rt.forever() {
+            if self.wake(rt) {
+                return;
+            }
+            thread::sleep(rt, Duration::from_millis(WAKE_MILLIS));
+        }
+    }
+
+    // A thread that waits for a connection gets this one, and sees that it is to stop. Whether it could be made.
+    fn wake<R: Net<Listener = TcpListener, Stream = TcpStream>>(&self, rt: &R) -> bool {
+        TcpStream::connect(rt, (Ipv4Addr::LOCALHOST, self.port)).is_ok()
     }
 
     /// Serves connections over one store that begins with no records, until [`PortListener::stop`], so many at once,

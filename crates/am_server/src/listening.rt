@@ -156,7 +156,9 @@ fn serve_until_stop<
 
 // Has the server stop once a line STOP, or the end of standard input or a fault of it, has come.
 #[inline(never)]
-fn stop_at_word<R: AllocGlobal + Input + Net<Listener = TcpListener, Stream = TcpStream>>(
+fn stop_at_word<
+    R: AllocGlobal + Input + Net<Listener = TcpListener, Stream = TcpStream> + Wait + Clock,
+>(
     rt: &R,
     port: &PortListener,
 ) {
