@@ -1,5 +1,6 @@
 -- Sessions one after another at a seat.
-use Rattle.std.proofs.Common.{◌≡◌, ◌∙◌, ℕ, zero, suc, ◌+◌, ◌<◌, ◌≤◌, List, [], ◌∷◌, ◌++◌, length, get_or, sym, ap, refl, arith}
+use Rattle.std.proofs.Common.{◌≡◌, ◌∙◌, ℕ, zero, suc, ◌+◌, ◌<◌, ◌≤◌, List, [], ◌∷◌, ◌++◌, length, get_or, sym, ap, refl}
+use Rattle.std.proofs.Common.{arith}
 use Rattle.std.proofs.Common.{true, false, Bool, None, All, subst}
 use Rattle.std.proofs.lemmas.Bool.{true≢false}
 use Rattle.std.specs.List.{AllZip}
@@ -8,10 +9,10 @@ use Rattle.am_latch.specs.declared.receipt.Receipt.{Receipt}
 use Rattle.am_latch.specs.Receipts.{SeatState}
 use Rattle.am_latch.specs.Ties.{open_of}
 use Rattle.am_seating.specs.SessionSeats.{SessionSeatState, HasDrawn, IsNumbered, open_at}
-use Rattle.am_workers.specs.Turns.{HasTakenTurns}
+use Rattle.am_listen.specs.declared.mode.Mode.{Mode}
 use Rattle.am_listen.specs.ServerRuns.{HasSameSeat, HasNewSeat, WasServed, session_seat_numbers, seat_numbers}
-use Rattle.am_listen.specs.ServerRuns.{HasSameReceipts, ServedInTurn, HasServedInTurn, IsOfSessions}
-use Rattle.am_listen.proofs.Seatings.{all_first, all_rest, same_turned}
+use Rattle.am_listen.specs.ServerRuns.{HasSameReceipts, ServedInTurn, HasServedInTurn, HasWorked, IsOfSessions}
+use Rattle.am_listen.proofs.Seatings.{all_first, all_rest, same_worked}
 
 pub same_then : (p q r : SessionSeatState) → HasSameReceipts p q → HasSameReceipts q r → HasSameReceipts p r
 same_then p q r f h = record { number = h.number ∙ f.number; receipts = h.receipts ∙ f.receipts }
@@ -119,15 +120,16 @@ same_numbers most [] (y ∷ ys) h = absurd h
 same_numbers most (x ∷ xs) [] h = absurd h
 same_numbers most (x ∷ xs) (y ∷ ys) h = λ i. h.0.same i ∷ same_numbers most xs ys h.1 i
 
-pub all_came_back : (limit n most : ℕ) (session_seats served : List SessionSeatState)
+pub all_came_back : (mode : Mode) (most : ℕ) (session_seats served : List SessionSeatState)
     (worker_seats worked seats : List SeatState) → AllZip (HasServedInTurn most) session_seats served →
-    AllZip (HasTakenTurns limit n) worker_seats worked →
+    AllZip (HasWorked mode) worker_seats worked →
     session_seat_numbers session_seats ++ seat_numbers worker_seats ≡ seat_numbers seats →
     session_seat_numbers served ++ seat_numbers worked ≡ seat_numbers seats
-all_came_back limit n most session_seats served worker_seats worked seats sat worked_on e =
-    (λ i. same_numbers most session_seats served sat i ++ same_turned limit n worker_seats worked worked_on i) ∙ e
+all_came_back mode most session_seats served worker_seats worked seats sat worked_on e =
+    (λ i. same_numbers most session_seats served sat i ++ same_worked mode worker_seats worked worked_on i) ∙ e
 
-pub all_of_turns : (most : ℕ) (xs ys : List SessionSeatState) → AllZip (HasServedInTurn most) xs ys → All HasNewSeat xs →
+pub all_of_turns : (most : ℕ) (xs ys : List SessionSeatState) → AllZip (HasServedInTurn most) xs ys →
+    All HasNewSeat xs →
     All (IsOfSessions most) ys
 all_of_turns most [] [] h new = All-nil (IsOfSessions most)
 all_of_turns most [] (y ∷ ys) h new = absurd h

@@ -9,21 +9,22 @@ use Rattle.std.proofs.lemmas.List.Elements.{All-nil, All-push, All-cons}
 use Rattle.std.proofs.lemmas.Bool.{ltb-true, ltb-false}
 use Rattle.std.proofs.Math.ListN.{get_or-append}
 use Rattle.std.proofs.Math.Seq.{get_or-append_seam}
-use Rattle.am_record.specs.declared.step.Step.TheVariants.{Merge}
 use Rattle.am_latch.specs.declared.receipt.Receipt.{Receipt}
 use Rattle.am_latch.specs.Receipts.{SeatState, new_seat, numbered, AreAll}
 use Rattle.am_seating.specs.SessionSeats.{SessionSeatState}
-use Rattle.am_workers.specs.Turns.{HasTakenTurns}
+use Rattle.am_workers.specs.Turns.{AreOfTurns}
+use Rattle.am_listen.specs.declared.mode.Mode.{Mode}
 use Rattle.am_listen.specs.ServerRuns.{seat_numbers, session_seat_numbers, latch_seats, IsNewSeat, IsOfWorker}
+use Rattle.am_listen.specs.ServerRuns.{HasWorked, most_turns, upkeep_of}
 
 -- ---- numbers stay
 
-pub same_turned : (limit n : ℕ) (xs ys : List SeatState) → AllZip (HasTakenTurns limit n) xs ys →
+pub same_worked : (mode : Mode) (xs ys : List SeatState) → AllZip (HasWorked mode) xs ys →
     seat_numbers ys ≡ seat_numbers xs
-same_turned limit n [] [] h = refl
-same_turned limit n [] (y ∷ ys) h = absurd h
-same_turned limit n (x ∷ xs) [] h = absurd h
-same_turned limit n (x ∷ xs) (y ∷ ys) h = λ i. h.0.number i ∷ same_turned limit n xs ys h.1 i
+same_worked mode [] [] h = refl
+same_worked mode [] (y ∷ ys) h = absurd h
+same_worked mode (x ∷ xs) [] h = absurd h
+same_worked mode (x ∷ xs) (y ∷ ys) h = λ i. h.0.number i ∷ same_worked mode xs ys h.1 i
 
 pub count_seats : (xs : List SeatState) → length (seat_numbers xs) ≡ length xs
 count_seats xs = length-map xs (λ (s : SeatState). s.number)
@@ -117,17 +118,17 @@ worker_more session_seats s worker_seats rest rest' all next e =
 
 -- ---- what each seat is left with
 
-pub all_of_workers : (n : ℕ) (xs ys : List SeatState) → AllZip (HasTakenTurns 16 n) xs ys → All IsNewSeat xs →
-    All IsOfWorker ys
-all_of_workers n [] [] h new = All-nil IsOfWorker
-all_of_workers n [] (y ∷ ys) h new = absurd h
-all_of_workers n (x ∷ xs) [] h new = absurd h
-all_of_workers n (x ∷ xs) (y ∷ ys) h new =
-    All-cons IsOfWorker y ys
-    (subst (λ (rs : List Receipt). All (λ (r : Receipt). r.step ≡ Merge 16) rs)
+pub all_of_workers : (mode : Mode) (xs ys : List SeatState) → AllZip (HasWorked mode) xs ys → All IsNewSeat xs →
+    All (IsOfWorker mode) ys
+all_of_workers mode [] [] h new = All-nil (IsOfWorker mode)
+all_of_workers mode [] (y ∷ ys) h new = absurd h
+all_of_workers mode (x ∷ xs) [] h new = absurd h
+all_of_workers mode (x ∷ xs) (y ∷ ys) h new =
+    All-cons (IsOfWorker mode) y ys
+    (subst (AreOfTurns (upkeep_of mode) 16 (most_turns mode))
     (sym (h.0.longer ∙ ap (λ (l : List Receipt). l ++ h.0.more) (all_first IsNewSeat x xs (x ∷ xs) refl new)))
-    h.0.merges)
-    (all_of_workers n xs ys h.1 (all_rest IsNewSeat x xs (x ∷ xs) refl new))
+    h.0.turns)
+    (all_of_workers mode xs ys h.1 (all_rest IsNewSeat x xs (x ∷ xs) refl new))
 
 -- ---- all seats of a latch
 

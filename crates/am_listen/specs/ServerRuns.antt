@@ -1,16 +1,17 @@
 -- What a server leaves, and what its sessions leave of their seats.
 use Rattle.std.specs.Prelude.{◌≡◌, ◌⊎◌, ℕ, zero, suc, ◌+◌, ◌≤◌, List, [], ◌++◌, map, min, length, All}
-use Rattle.am_record.specs.declared.step.Step.TheVariants.{Merge}
 use Rattle.am_serial.specs.Trace.{Trace}
 use Rattle.am_sound.specs.Right.{IsSoundStore}
 use Rattle.am_serial.specs.Legal.{IsLegal}
-use Rattle.am_latch.specs.declared.receipt.Receipt.{Receipt}
 use Rattle.am_latch.specs.Receipts.{SeatState, AreReceiptsOf}
 use Rattle.am_core.specs.Standing.{IsSoundAt}
 use Rattle.am_sound.specs.StoreState.{StoreState}
 use Rattle.am_talk.specs.Dialogue.{Exchange}
 use Rattle.am_session.specs.Talk.{AnswersAll, AnswersOneMore}
 use Rattle.am_seating.specs.SessionSeats.{SessionSeatState, IsNumbered, seat_meaning}
+use Rattle.am_workers.specs.Turns.{AreOfTurns, HasTakenTurns}
+use Rattle.am_workers.specs.declared.upkeep.Upkeep.{Upkeep}
+use Rattle.am_workers.specs.declared.upkeep.Upkeep.TheVariants.{MergeOnly, MergeAndClean}
 use Rattle.am_listen.specs.declared.mode.Mode.{Mode}
 use Rattle.am_listen.specs.declared.mode.Mode.TheVariants.{Bounded, Staying}
 use Rattle.am_listen.specs.declared.server_run.ServerRun.{ServerRun}
@@ -68,10 +69,6 @@ pub record IsOfSessions (most : ℕ) (q : SessionSeatState) : Type 0 where
   pub new : HasNewSeat first
   pub served : HasServedInTurn most first q
 
--- nothing but merge steps was taken there
-abbrev pub IsOfWorker : SeatState → Type 0
-IsOfWorker s = All (λ (r : Receipt). r.step ≡ Merge 16) s.receipts
-
 -- The trace is sound, with every merge and clean right, and legal; it leads to a store with so many commits; and it is
 -- that of the seats: each of their receipts stands in it, and each of its pairs has one.
 pub record IsRunOf (seats : List SeatState) (trace : Trace) (commits : ℕ) : Type 0 where
@@ -92,6 +89,19 @@ abbrev pub most_turns : Mode → ℕ
 most_turns Bounded = 1000000
 most_turns Staying = 18446744073709551615
 
+-- whether a worker cleans where nothing is left to merge
+abbrev pub upkeep_of : Mode → Upkeep
+upkeep_of Bounded = MergeOnly
+upkeep_of Staying = MergeAndClean
+
+-- a worker had its turns there
+abbrev pub HasWorked : Mode → SeatState → SeatState → Type 0
+HasWorked mode s t = HasTakenTurns (upkeep_of mode) 16 (most_turns mode) s t
+
+-- a worker's turns were taken there, and nothing else
+abbrev pub IsOfWorker : Mode → SeatState → Type 0
+IsOfWorker mode s = AreOfTurns (upkeep_of mode) 16 (most_turns mode) s.receipts
+
 -- a count of so many more, as far as 64 bits go
 abbrev pub add_count : ℕ → ℕ → ℕ
 add_count n more = min 18446744073709551615 (n + more)
@@ -111,5 +121,5 @@ pub record IsServerRun {T : Type 0} (took : T → Trace → T → Type 0) (first
   pub sessions : List SessionSeatState
   pub workers : List SeatState
   pub served : All (IsOfSessions (most_sessions mode)) sessions
-  pub worked : All IsOfWorker workers
+  pub worked : All (IsOfWorker mode) workers
   pub run : HasStored took first (latch_seats sessions ++ workers) s

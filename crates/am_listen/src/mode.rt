@@ -1,7 +1,9 @@
 //! How long a server serves.
 
 ghost use Rattle.std.specs.Prelude.{◌≡◌};
-ghost use Rattle.am_listen.specs.ServerRuns.{most_sessions, most_turns};
+ghost use Rattle.am_listen.specs.ServerRuns.{most_sessions, most_turns, upkeep_of};
+
+use am_workers::Upkeep;
 
 /// Whether a server serves so many connections and ends, or stays until it is stopped.
 #[derive(Clone, Copy, Debug, PartialEq, Eq)]
@@ -31,6 +33,16 @@ impl Mode {
         match self {
             Mode::Bounded => 1_000_000,
             Mode::Staying => u64::MAX,
+        }
+    }
+
+    /// What a worker does in its turns.
+    pub(crate) fn upkeep(self) -> Upkeep
+        ensures { result ≡ upkeep_of self }
+    {
+        match self {
+            Mode::Bounded => Upkeep::MergeOnly,
+            Mode::Staying => Upkeep::MergeAndClean,
         }
     }
 

@@ -2,10 +2,9 @@
 
 ghost use Rattle.std.specs.Prelude.{◌≡◌, ◌++◌, [], IfOk, All, length, vec_len, vec_capacity};
 ghost use Rattle.std.specs.List.{AllZip};
-ghost use Rattle.am_workers.specs.Turns.{HasTakenTurns};
 ghost use Rattle.am_latch.specs.Receipts.{AreAll};
 ghost use Rattle.am_listen.specs.ServerRuns.{HasNewSeat, HasServedInTurn, HasStored, IsServerRun};
-ghost use Rattle.am_listen.specs.ServerRuns.{most_sessions, most_turns};
+ghost use Rattle.am_listen.specs.ServerRuns.{HasWorked, most_sessions};
 ghost use Rattle.am_listen.specs.Pieces.{HasTaken, HasClosed};
 
 use crate::counts::Watcher;
@@ -46,7 +45,7 @@ struct Beside<L: LatchName, T: PieceTaker + Drop, V: Watcher + Drop> {
     keeper: Keeper<L, T, V>,
 }
 
-// Lets workers merge, and the keeper take the trace, until all sessions have ended.
+// Lets workers merge and clean, and the keeper take the trace, until all sessions have ended.
 fn work_beside<
     L: LatchName + Send + Sync,
     R: Threads + Wait + Clock + Sync,
@@ -55,7 +54,7 @@ fn work_beside<
 >(rt: &R, latch: &Latch<L>, house: &House<'_>, beside: Beside<L, T, V>) -> Beside<L, T, V>
     ensures taken { HasTaken T.took beside.keeper.taker beside.keeper.pieces beside.keeper.events result.keeper.taker
         result.keeper.pieces result.keeper.events }
-    ensures worked { AllZip (HasTakenTurns 16 (most_turns house.now.mode)) beside.worker_seats.items
+    ensures worked { AllZip (HasWorked house.now.mode) beside.worker_seats.items
         result.worker_seats.items }
 {
     let Beside {
@@ -69,7 +68,7 @@ fn work_beside<
                 result.pieces result.events }
         { keeper.keep(rt, latch, house) },
         || -> WorkerSeats<L>
-            ensures { AllZip (HasTakenTurns 16 (most_turns house.entry.now.mode)) worker_seats.items
+            ensures { AllZip (HasWorked house.entry.now.mode) worker_seats.items
                 result.seats.items }
         {
             run_workers(
@@ -78,6 +77,7 @@ fn work_beside<
                 worker_seats,
                 house.mode.turns(),
                 MERGE_LIMIT,
+                house.mode.upkeep(),
                 &house.pacer,
             )
         },
@@ -206,7 +206,7 @@ pub(crate) fn run<
         || -> Beside<L, T, V>
             ensures taken { HasTaken T.took beside.keeper.taker beside.keeper.pieces beside.keeper.events
                 result.keeper.taker result.keeper.pieces result.keeper.events }
-            ensures worked { AllZip (HasTakenTurns 16 (most_turns house.entry.now.mode)) beside.worker_seats.items
+            ensures worked { AllZip (HasWorked house.entry.now.mode) beside.worker_seats.items
                 result.worker_seats.items }
         { work_beside(rt, &latch, house, beside) },
         || -> Vec<SessionSeat<'_, L>>

@@ -7,6 +7,7 @@
 
 mod audits;
 mod calls;
+mod cleaning;
 mod commands;
 mod directory;
 mod entries;

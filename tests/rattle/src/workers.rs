@@ -2,7 +2,7 @@
 
 use am_latch::{Blank, Latch, LatchName, Seat, close};
 use am_record::{HashKey, Key, Lock, Mode, Op, Pairs, Range, Refusal, Reply, Step, Value};
-use am_workers::{Pacer, run_workers};
+use am_workers::{Pacer, Upkeep, run_workers};
 use std::alloc::Global;
 use std::marker::Brand;
 use std::process::Abort;
@@ -65,7 +65,7 @@ fn by_two_workers<L: LatchName + Send + Sync, R: Threads + Wait + Clock + Abort 
         there: AtomicU64::new(0),
         clock: rt,
     };
-    let worked = run_workers(rt, &latch, seats, 2, 16, &meeting);
+    let worked = run_workers(rt, &latch, seats, 2, 16, Upkeep::MergeOnly, &meeting);
     assert_eq!(rt; worked.seats.len(), 2);
     assert_eq!(rt; count_receipts(&worked.seats[0]), 2);
     assert_eq!(rt; count_receipts(&worked.seats[1]), 1);
@@ -78,7 +78,7 @@ fn workers_at_the_same_time(rt: HostRuntime) -> Result<(), Fail> {
     by_two_workers::<Brand, HostRuntime>(&rt, Blank::new(rt.alloc(), 2)?)
 }
 
-struct Always;
+pub(crate) struct Always;
 
 impl Pacer for Always {
     fn await_turn<R: Wait>(&self, _rt: &R, _worker: u32, _turn: u64) -> bool {
@@ -86,14 +86,14 @@ impl Pacer for Always {
     }
 }
 
-fn begin<L: LatchName, R: Wait>(rt: &R, latch: &Latch<L>, seat: &mut Seat<L>) {
+pub(crate) fn begin<L: LatchName, R: Wait>(rt: &R, latch: &Latch<L>, seat: &mut Seat<L>) {
     if seat.open_tx().is_none() {
         seat.call(rt, latch, Step::Begin);
     }
 }
 
 // What the operation is answered in the transaction that is open in the seat.
-fn answer_of<L: LatchName, R: Wait + Abort>(
+pub(crate) fn answer_of<L: LatchName, R: Wait + Abort>(
     rt: &R,
     latch: &Latch<L>,
     seat: &mut Seat<L>,
@@ -105,7 +105,7 @@ fn answer_of<L: LatchName, R: Wait + Abort>(
     seat.call(rt, latch, Step::Do(tx, op))
 }
 
-fn commit<L: LatchName, R: Wait + Abort>(rt: &R, latch: &Latch<L>, seat: &mut Seat<L>) {
+pub(crate) fn commit<L: LatchName, R: Wait + Abort>(rt: &R, latch: &Latch<L>, seat: &mut Seat<L>) {
     let Some(tx) = seat.open_tx() else {
         panic!(rt; "no transaction is open")
     };
@@ -157,7 +157,8 @@ fn by_one_worker<L: LatchName + Send + Sync, R: Threads + Wait + Abort + Sync>(
     let mut reader = seats.pop().ok_or("no seat")?;
     load_three(rt, alloc, &latch, &mut reader)?;
     scan_three(rt, &latch, &mut reader)?;
-    let mut worked = run_workers(rt, &latch, vec![in alloc; worker]?, 5, 16, &Always);
+    let workers = vec![in alloc; worker]?;
+    let mut worked = run_workers(rt, &latch, workers, 5, 16, Upkeep::MergeOnly, &Always);
     assert_eq!(rt; worked.moved, 3);
     let worker = worked.seats.pop().ok_or("no seat")?;
     assert_eq!(rt; count_receipts(&worker), 5);
@@ -182,7 +183,7 @@ fn answers_of_one_worker<L: LatchName + Send + Sync, R: Threads + Wait + Abort +
     limit: u64,
 ) -> Result<Vec<Reply>, Fail> {
     let (latch, seats, taker) = Latch::<L>::open(blank, HashKey::known())?;
-    let worked = run_workers(rt, &latch, seats, turns, limit, &Always);
+    let worked = run_workers(rt, &latch, seats, turns, limit, Upkeep::MergeOnly, &Always);
     assert_eq!(rt; worked.moved, 0);
     let Ok(closed) = close(latch, worked.seats, taker) else {
         panic!(rt; "all seats are there")
@@ -229,7 +230,7 @@ fn turns_of<L: LatchName + Send + Sync, R: Threads + Wait + Abort + Sync>(
     blank: Blank,
 ) -> Result<u64, Fail> {
     let (latch, seats, _taker) = Latch::<L>::open(blank, HashKey::known())?;
-    let worked = run_workers(rt, &latch, seats, 2, 16, &Always);
+    let worked = run_workers(rt, &latch, seats, 2, 16, Upkeep::MergeOnly, &Always);
     let mut turns = 0_u64;
     for seat in &worked.seats {
         turns = turns.saturating_add(count_receipts(seat));
@@ -261,7 +262,8 @@ fn behind_a_locked_record<L: LatchName + Send + Sync, R: Threads + Wait + Abort 
     let range = Range::new(Key::of_u64(2), Key::of_u64(2)).ok_or("no range")?;
     let mode = Mode::Exclusive;
     answer_of(rt, &latch, &mut reader, Op::Lock(Lock { mode, range }));
-    let mut worked = run_workers(rt, &latch, vec![in alloc; worker]?, 5, 16, &Always);
+    let workers = vec![in alloc; worker]?;
+    let mut worked = run_workers(rt, &latch, workers, 5, 16, Upkeep::MergeOnly, &Always);
     let worker = worked.seats.pop().ok_or("no seat")?;
     assert_eq!(rt; count_receipts(&worker), 5);
     let met = latch.look(rt, &mut reader, |engine| {

@@ -7,7 +7,7 @@ use Rattle.am_latch.specs.contracts.latch.Latch as Latch
 use Rattle.am_listen.specs.contracts.house.House as House
 use Rattle.am_listen.specs.ServerRuns.{IsNewSeat}
 use Rattle.am_latch.specs.Receipts.{SeatState}
-use Rattle.am_listen.specs.ServerRuns.{HasStored, most_sessions, most_turns}
+use Rattle.am_listen.specs.ServerRuns.{HasStored, most_sessions}
 use Rattle.am_listen.proofs.Seatings.{all_new, count_back, all_there, all_of_workers, joined_seats}
 use Rattle.am_listen.proofs.InTurn.{all_came_back, all_of_turns}
 use Rattle.am_listen.proofs.Taking.{taken_at_first}
@@ -30,7 +30,8 @@ assign_seats-requires-clause-fresh g c = subst (All IsNewSeat) (sym c.in-Ok.ensu
 
 pub take_seats-requires : goal.take_seats-requires
 take_seats-requires g c =
-    let back = all_came_back 16 (most_turns c.args.house.now.mode) (most_sessions c.args.house.now.mode) c.in_ok-session_seats.session_seats.items c.join-beside.result.1.items
+    let back = all_came_back c.args.house.now.mode (most_sessions c.args.house.now.mode)
+    c.in_ok-session_seats.session_seats.items c.join-beside.result.1.items
     c.in_ok-session_seats.worker_seats.items c.join-beside.result.0.worker_seats.items c.in-Ok.seats.items
     c.join-beside.ensures.second c.join-beside.ensures.first.1 c.in_ok-session_seats.ensures.seats in
     let all = count_back c.join-beside.result.1.items c.join-beside.result.0.worker_seats.items c.in-Ok.seats.items
@@ -39,7 +40,8 @@ take_seats-requires g c =
 
 pub unreachable-requires : goal.unreachable-requires
 unreachable-requires g c =
-    let back = all_came_back 16 (most_turns c.args.house.now.mode) (most_sessions c.args.house.now.mode) c.in_ok-session_seats.session_seats.items c.join-beside.result.1.items
+    let back = all_came_back c.args.house.now.mode (most_sessions c.args.house.now.mode)
+    c.in_ok-session_seats.session_seats.items c.join-beside.result.1.items
     c.in_ok-session_seats.worker_seats.items c.join-beside.result.0.worker_seats.items c.in-Ok.seats.items
     c.join-beside.ensures.second c.join-beside.ensures.first.1 c.in_ok-session_seats.ensures.seats in
     let all = count_back c.join-beside.result.1.items c.join-beside.result.0.worker_seats.items c.in-Ok.seats.items
@@ -59,7 +61,8 @@ unreachable-requires g c =
 
 pub close_all-requires : goal.close_all-requires
 close_all-requires g c =
-    let back = all_came_back 16 (most_turns c.args.house.now.mode) (most_sessions c.args.house.now.mode) c.in_ok-session_seats.session_seats.items c.join-beside.result.1.items
+    let back = all_came_back c.args.house.now.mode (most_sessions c.args.house.now.mode)
+    c.in_ok-session_seats.session_seats.items c.join-beside.result.1.items
     c.in_ok-session_seats.worker_seats.items c.join-beside.result.0.worker_seats.items c.in-Ok.seats.items
     c.join-beside.ensures.second c.join-beside.ensures.first.1 c.in_ok-session_seats.ensures.seats in
     all_there g.L.LatchName.seats c.append.new.self.items c.take_seats.new.all.items c.reserve.new.self.items
@@ -72,13 +75,16 @@ returns g c =
     let served = c.join-beside.result.1.items in
     let worked = c.join-beside.result.0.worker_seats.items in
     let seats = joined_seats c.append.new.self.items c.take_seats.new.all.items c.reserve.new.self.items worked served
-    c.in-Ok-append.ensures.items c.take_seats.ensures.seats (◌∙◌ {A = List SeatState} c.reserve.ensures.items c.new-all.ensures.items) in
+    c.in-Ok-append.ensures.items c.take_seats.ensures.seats
+    (◌∙◌ {A = List SeatState} c.reserve.ensures.items c.new-all.ensures.items) in
     record {
       sessions = served;
       workers = worked;
-      served = all_of_turns (most_sessions c.args.house.now.mode) c.in_ok-session_seats.session_seats.items served c.join-beside.ensures.second
+      served = all_of_turns (most_sessions c.args.house.now.mode) c.in_ok-session_seats.session_seats.items served
+          c.join-beside.ensures.second
           c.in_ok-session_seats.ensures.sessions;
-      worked = all_of_workers (most_turns c.args.house.now.mode) c.in_ok-session_seats.worker_seats.items worked c.join-beside.ensures.first.1
+      worked = all_of_workers c.args.house.now.mode c.in_ok-session_seats.worker_seats.items worked
+          c.join-beside.ensures.first.1
           c.in_ok-session_seats.ensures.workers;
       run = subst (λ (l : List SeatState). HasStored g.T.PieceTaker.took c.args.keeping.pieces l c.close_all.result)
           seats

@@ -2,4 +2,4 @@ use Rattle.am_workers.specs.Turns.{HasTakenTurns}
 use Rattle.am_workers.proofs.turns.take_turns.Given as goal
 
 abbrev pub invariant-loop-turn : goal.invariant-loop-turn
-invariant-loop-turn g l = HasTakenTurns l.limit l.turn l.initial.seat l.seat
+invariant-loop-turn g l = HasTakenTurns l.upkeep l.limit l.turn l.initial.seat l.seat

@@ -1,0 +1,10 @@
+//! What workers do.
+
+/// What a worker does in its turns.
+#[derive(Clone, Copy, Debug, PartialEq, Eq)]
+pub enum Upkeep {
+    /// It merges.
+    MergeOnly,
+    /// It merges, and cleans where nothing is left to merge.
+    MergeAndClean,
+}
