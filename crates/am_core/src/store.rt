@@ -3,6 +3,7 @@
 ghost use Rattle.std.specs.Prelude.{◌≡◌, ◌+◌, ◌≤◌, ◌^◌, [], ◌∷◌, true, length, IfOk};
 ghost use Rattle.am_record.specs.declared.step.Refusal.{Refusal as TheRefusal};
 ghost use Rattle.am_record.specs.declared.step.Refusal.TheVariants.{NoMemory as OutOfMemory};
+ghost use Rattle.am_list.specs.Entries.{next_ghost};
 ghost use Rattle.am_sound.specs.StoreState.{empty_state, IsFit, MayAnswer, state_after};
 ghost use Rattle.am_parts.specs.Figures.{AreFigures};
 ghost use Rattle.am_core.specs.Memory.{may_want_memory};
@@ -14,7 +15,7 @@ use crate::inner::Inner;
 use am_list::PartIndex;
 use am_merge::Wishes;
 use am_parts::{Figures, Parts};
-use am_record::{Entry, HashKey, NoMemory, Reply, Step};
+use am_record::{Entry, HashKey, Key, NoMemory, Reply, Step};
 use am_tx::TxTable;
 use std::alloc::Global;
 use std::marker::Model;
@@ -99,6 +100,14 @@ impl<I: PartIndex + Drop> Store<I> {
         ensures { AreFigures self.now.entries result }
     {
         self.inner.parts.figures()
+    }
+
+    /// The first ghost at or above the place of a partition and key. It may be one of a later
+    /// partition.
+    pub fn next_ghost(&self, part: u32, key: Key) -> Option<Entry>
+        ensures { result ≡ next_ghost self.now.entries part key }
+    {
+        self.inner.parts.next_ghost(part, key)
     }
 
     /// How many transactions are active.
