@@ -56,8 +56,11 @@ impl<'a, R: Eprint + Clock> Console<'a, R> {
             wrong,
         } = of;
         let trace = if is_cut { "cut" } else { "whole" };
+        let _ = eprint!(self.rt;
+            "sessions={sessions} open={open} steps={events} commits={commits} busy={busy} "
+        );
         let _ = eprintln!(self.rt;
-            "sessions={sessions} open={open} steps={events} commits={commits} busy={busy} too_many={too_many} wrong={wrong} kept={kept} unaccepted={unaccepted} trace={trace}"
+            "too_many={too_many} wrong={wrong} kept={kept} unaccepted={unaccepted} trace={trace}"
         );
     }
 }

@@ -24,7 +24,7 @@ use std::{io, thread};
 
 type Writer = TraceWriter<GrowingFile>;
 
-/// What is there before the first connection: a port, and where a file is named for the trace that file, and who writes.
+/// What is there before the first connection: a port, and where a file is named for the trace, that file and who writes.
 #[derive(Drop)]
 struct Opened {
     port: PortListener,
@@ -55,10 +55,7 @@ pub(crate) fn listen<
         + Files<File = File>
         + Net<Listener = TcpListener, Stream = TcpStream>
         + Sync,
->(
-    rt: &R,
-    listening: &Listening<'_>,
-) -> io::Result<ExitCode>
+>(rt: &R, listening: &Listening<'_>) -> io::Result<ExitCode>
     requires sessions { (1 ≤ listening.now.sessions) × (listening.now.sessions ≤ 256) }
     requires workers { listening.now.workers ≤ 16 }
 {
@@ -158,10 +155,7 @@ fn serve_until_stop<
 #[inline(never)]
 fn stop_at_word<
     R: AllocGlobal + Input + Net<Listener = TcpListener, Stream = TcpStream> + Wait + Clock,
->(
-    rt: &R,
-    port: &PortListener,
-) {
+>(rt: &R, port: &PortListener) {
     await_stop(rt);
     port.stop(rt);
 }
@@ -218,7 +212,11 @@ fn serve_with<
         grace: listening.grace.map(Duration::from_secs),
         idle: listening.idle.map(Duration::from_secs),
     };
-    let mode = if listening.stays { Mode::Staying } else { Mode::Bounded };
+    let mode = if listening.stays {
+        Mode::Staying
+    } else {
+        Mode::Bounded
+    };
     match port.serve(rt, mode, sessions, workers, draw_hash_key(rt), keeping) {
         Ok(run) => Ok(Served {
             events: run.events,
