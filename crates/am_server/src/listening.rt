@@ -24,7 +24,7 @@ use std::{io, thread};
 
 type Writer = TraceWriter<GrowingFile>;
 
-/// What is there before the first connection: a port, and where a file is named for the trace, that file and who writes.
+/// What is there before the first connection: a port, and where a file is named for the trace that file and a writer.
 #[derive(Drop)]
 struct Opened {
     port: PortListener,

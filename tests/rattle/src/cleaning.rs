@@ -50,11 +50,7 @@ fn abort<L: LatchName, R: Wait + Abort>(rt: &R, latch: &Latch<L>, seat: &mut Sea
 }
 
 // How many entries there are, how many of them are ghosts, and how many runs have entries.
-fn counts<L: LatchName, R: Wait>(
-    rt: &R,
-    latch: &Latch<L>,
-    seat: &mut Seat<L>,
-) -> (u64, u64, u64) {
+fn counts<L: LatchName, R: Wait>(rt: &R, latch: &Latch<L>, seat: &mut Seat<L>) -> (u64, u64, u64) {
     let figures = latch.look(rt, seat, |engine| engine.store().figures());
     (figures.entries, figures.ghosts, figures.runs)
 }
@@ -127,7 +123,15 @@ fn by_two_workers<L: LatchName + Send + Sync, R: Threads + Wait + Abort + Sync>(
     );
     let reader = read?;
     // The last reads may have come behind the last turns.
-    let worked = run_workers(rt, shared, worked.seats, 100, 16, Upkeep::MergeAndClean, &Always);
+    let worked = run_workers(
+        rt,
+        shared,
+        worked.seats,
+        100,
+        16,
+        Upkeep::MergeAndClean,
+        &Always,
+    );
     assert_eq!(rt; counts(rt, shared, &mut writer), (LIVE, 0, 0));
     let mut all = worked.seats;
     all.push(writer)?;
