@@ -45,6 +45,28 @@ struct Beside<L: LatchName, T: PieceTaker + Drop, V: Watcher + Drop> {
     keeper: Keeper<L, T, V>,
 }
 
+// Lets workers have their turns, until all sessions have ended.
+fn let_work<L: LatchName + Send + Sync, R: Threads + Wait + Sync>(
+    rt: &R,
+    latch: &Latch<L>,
+    house: &House<'_>,
+    worker_seats: Vec<Seat<L>>,
+) -> WorkerSeats<L>
+    ensures { AllZip (HasWorked house.now.mode) worker_seats.items result.seats.items }
+{
+    let upkeep = house.mode.upkeep();
+    let turns = house.mode.turns();
+    run_workers(
+        rt,
+        latch,
+        worker_seats,
+        turns,
+        MERGE_LIMIT,
+        upkeep,
+        &house.pacer,
+    )
+}
+
 // Lets workers merge and clean, and the keeper take the trace, until all sessions have ended.
 fn work_beside<
     L: LatchName + Send + Sync,
@@ -70,17 +92,7 @@ fn work_beside<
         || -> WorkerSeats<L>
             ensures { AllZip (HasWorked house.entry.now.mode) worker_seats.items
                 result.seats.items }
-        {
-            run_workers(
-                rt,
-                latch,
-                worker_seats,
-                house.mode.turns(),
-                MERGE_LIMIT,
-                house.mode.upkeep(),
-                &house.pacer,
-            )
-        },
+        { let_work(rt, latch, house, worker_seats) },
     );
     Beside {
         worker_seats: worked.seats,

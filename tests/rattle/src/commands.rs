@@ -13,6 +13,7 @@ const DEFAULTS: Listening<'static> = Listening {
     awaits_stop: false,
     stays: false,
     grace: None,
+    idle: None,
     is_logged: false,
 };
 
@@ -24,6 +25,7 @@ const MOST: Listening<'static> = Listening {
     awaits_stop: true,
     stays: false,
     grace: None,
+    idle: None,
     is_logged: false,
 };
 
@@ -31,11 +33,12 @@ const STAYING: Listening<'static> = Listening {
     sessions: 64,
     stays: true,
     grace: Some(3600),
+    idle: Some(43_200),
     is_logged: true,
     ..DEFAULTS
 };
 
-const ASKED: [Asked<'static>; 22] = [
+const ASKED: [Asked<'static>; 24] = [
     (&["amserve", "alone"], Ok(Options::Alone { auto: 16 })),
     (
         &["amserve", "alone", "--auto", "0"],
@@ -69,7 +72,8 @@ const ASKED: [Asked<'static>; 22] = [
     ),
     (
         &[
-            "amserve", "listen", "--port", "0", "--stay", "--grace", "3600", "--log",
+            "amserve", "listen", "--port", "0", "--stay", "--grace", "3600", "--idle", "43200",
+            "--log",
         ],
         Ok(Options::Listen(STAYING)),
     ),
@@ -79,6 +83,13 @@ const ASKED: [Asked<'static>; 22] = [
         ],
         Err(2),
     ),
+    (
+        &[
+            "amserve", "listen", "--port", "0", "--stay", "--idle", "43201",
+        ],
+        Err(2),
+    ),
+    (&["amserve", "listen", "--port", "0", "--idle", "1"], Err(2)),
     (
         &["amserve", "listen", "--port", "0", "--grace", "1"],
         Err(2),

@@ -31,6 +31,7 @@ fn ask_twice<R: AllocGlobal + Net<Listener = TcpListener, Stream = TcpStream>>(
     Ok((first, second))
 }
 
+#[derive(Drop)]
 struct Unwatched;
 
 impl Watcher for Unwatched {
