@@ -1,5 +1,6 @@
 pub mod Views
 pub mod Changes
+pub mod Copies
 pub mod EngineFields
 pub mod Faults
 pub mod Handed

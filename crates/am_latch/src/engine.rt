@@ -1,7 +1,9 @@
 //! The store with its trace.
 
-ghost use Rattle.std.specs.Prelude.{◌≡◌, ◌≢◌, ◌⊎◌, ◌≤◌, ◌+◌, ◌<◌, ◌^◌, ◌++◌, [], ℕ, IfOk, IfSome, IsSome, None, length};
-ghost use Rattle.std.specs.Prelude.{true, false, vec_len, vec_capacity};
+ghost use Rattle.std.specs.Prelude.{◌≡◌, ◌≢◌, ◌⊎◌, ◌≤◌, ◌+◌, ◌<◌, ◌^◌, ◌++◌, ◌∷◌, [], ℕ, IfOk, IfSome, IsSome, None};
+ghost use Rattle.std.specs.Prelude.{length, true, false, vec_len, vec_capacity};
+ghost use Rattle.am_record.specs.declared.step.Step.{Step};
+ghost use Rattle.am_record.specs.declared.step.Reply.{Reply};
 ghost use Rattle.am_record.specs.declared.step.Reply.TheVariants.{Refused};
 ghost use Rattle.am_record.specs.declared.step.Refusal.TheVariants.{NoMemory as OutOfMemory, SeatFull};
 ghost use Rattle.am_serial.specs.Trace.{Trace};
@@ -9,15 +11,15 @@ ghost use Rattle.am_core.specs.Memory.{may_want_memory};
 ghost use Rattle.am_core.specs.Standing.{IsSoundAt};
 ghost use Rattle.am_sound.specs.Right.{IsSoundStore};
 ghost use Rattle.am_latch.specs.Changes.{active_in_trace, numbers_active, end_of, is_refused, is_stored};
-ghost use Rattle.am_latch.specs.Changes.{room_of};
 ghost use Rattle.am_latch.specs.Changes.{HasTrace, TakesStep, MayFollow, IsBoundedReply};
+ghost use Rattle.am_latch.specs.Copies.{IsCopyOf};
 ghost use Rattle.am_latch.specs.Traces.{EngineState, log_of, empty_log, StoresCall, HandsOn, IsNextOf, ends_after};
-ghost use Rattle.am_latch.specs.Wants.{MayWantMemory, pairs_needed, takes_lists};
+ghost use Rattle.am_latch.specs.Wants.{MayWantMemory, pairs_needed};
 
 use crate::change::{Change, change_by, starts_tx, tx_to_end, was_refused, was_stored};
 use crate::handed::Handed;
 use crate::receipt::CallId;
-use crate::room::{Room, copy_reply, copy_step, rows_of};
+use crate::room::{StepCopy, copy_reply};
 use am_btree::BTree;
 use am_core::Store;
 use am_record::{HashKey, NoMemory, Refusal, Reply, Step};
@@ -104,6 +106,25 @@ impl Engine {
         ensures answers { MayFollow (active_in_trace self.old.trace) step result }
         ensures bounded { IsBoundedReply step result }
     {
+        let Some(copy) = StepCopy::of(self.alloc, &step) else {
+            return Reply::Refused(Refusal::NoMemory);
+        };
+        self.step_with(call_id, step, copy)
+    }
+
+    /// Does the same with a copy of the step that was made before, so that it can be made without the latch.
+    #[inline(never)]
+    pub(crate) fn step_with(&mut self, call_id: CallId, step: Step, copy: StepCopy) -> Reply
+        requires { IsCopyOf step copy }
+        ensures stepped { StoresCall (log_of self.old) call_id step result (log_of self.new) }
+        ensures handed { self.new.handed ≡ self.old.handed }
+        ensures memory { result ≡ Refused OutOfMemory → MayWantMemory self.old step }
+        ensures room { self.old.room ≤ self.new.room + pairs_needed step }
+        ensures never_full { result ≢ Refused SeatFull }
+        ensures answers { MayFollow (active_in_trace self.old.trace) step result }
+        ensures bounded { IsBoundedReply step result }
+        ensures kept { is_stored result ≡ true → length self.new.handed.trace < length self.new.trace }
+    {
         let more = pairs_for(&step);
         let has_room = get_room(
             &mut self.trace,
@@ -115,9 +136,7 @@ impl Engine {
         if !may_go_on(has_room, &step) {
             return Reply::Refused(Refusal::NoMemory);
         }
-        let Some((copy, rows)) = copies_for(self.alloc, &step) else {
-            return Reply::Refused(Refusal::NoMemory);
-        };
+        let StepCopy { step: copy, rows } = copy;
         let reply = take_step(&mut self.store, step);
         if !is_kept(has_room, &reply) {
             return Reply::Refused(Refusal::NoMemory);
@@ -172,6 +191,14 @@ impl Engine {
         ensures sound { IsSoundStore self.now.trace }
     {
         self.trace.as_slice()
+    }
+
+    /// The pair that was stored last, where it is kept.
+    pub(crate) fn newest(&self) -> &(Step, Reply)
+        requires { length self.now.handed.trace < length self.now.trace }
+        ensures { (before : Trace) (pair : Step × Reply) → self.now.trace ≡ before ++ pair ∷ [] → result.now ≡ pair }
+    {
+        &self.trace[self.trace.len() - 1]
     }
 
     /// Whose call each kept pair is.
@@ -241,21 +268,6 @@ fn is_kept(has_room: bool, reply: &Reply) -> bool
     } else {
         true
     }
-}
-
-/// A copy of the step, and room for a copy of its reply's rows.
-pub(crate) fn copies_for(alloc: Global, step: &Step) -> Option<(Step, Room)>
-    ensures copies { IfSome result (λ r. (r.0 ≡ step.now) × (r.1 ≡ room_of step.now)) }
-    ensures ends { IsSome (end_of step.now) → IsSome result }
-    ensures memory { takes_lists step.now ≡ false → IsSome result }
-{
-    let Ok(rows) = Room::new(alloc, rows_of(step)) else {
-        return None;
-    };
-    let Ok(copy) = copy_step(alloc, step) else {
-        return None;
-    };
-    Some((copy, rows))
 }
 
 // Room for so many pairs and their calls.

@@ -1,7 +1,8 @@
 //! Copies of steps and replies, for which room is got before the step.
 
-ghost use Rattle.std.specs.Prelude.{◌≡◌, ◌≤◌, IfOk, IsOk, IsSome, [], length, false};
+ghost use Rattle.std.specs.Prelude.{◌≡◌, ◌≤◌, IfOk, IsOk, IfSome, IsSome, [], length, false};
 ghost use Rattle.am_latch.specs.Changes.{end_of, room_of, count_rows};
+ghost use Rattle.am_latch.specs.Copies.{IsCopyOf};
 ghost use Rattle.am_latch.specs.Wants.{takes_lists};
 
 use am_record::{Key, NoMemory, Op, Pairs, Reply, Step, Value};
@@ -54,8 +55,32 @@ impl Room {
     }
 }
 
-/// How many rows the step's reply may have.
-pub(crate) fn rows_of(step: &Step) -> usize
+/// What the trace is to keep of a step: a copy, and room for a copy of its reply's rows.
+#[derive(Drop)]
+pub(crate) struct StepCopy {
+    pub(crate) step: Step,
+    pub(crate) rows: Room,
+}
+
+impl StepCopy {
+    /// The copy, where memory was found. The end of a transaction takes none.
+    pub(crate) fn of(alloc: Global, step: &Step) -> Option<StepCopy>
+        ensures copies { IfSome result (IsCopyOf step.now) }
+        ensures ends { IsSome (end_of step.now) → IsSome result }
+        ensures memory { takes_lists step.now ≡ false → IsSome result }
+    {
+        let Ok(rows) = Room::new(alloc, rows_of(step)) else {
+            return None;
+        };
+        let Ok(step) = copy_step(alloc, step) else {
+            return None;
+        };
+        Some(StepCopy { step, rows })
+    }
+}
+
+// How many rows the step's reply may have.
+fn rows_of(step: &Step) -> usize
     ensures { result ≡ room_of step.now }
 {
     match step {
@@ -67,8 +92,8 @@ pub(crate) fn rows_of(step: &Step) -> usize
     }
 }
 
-/// The same step. Only a load's pairs take memory.
-pub(crate) fn copy_step(alloc: Global, step: &Step) -> Result<Step, NoMemory>
+// The same step. Only a load's pairs take memory.
+fn copy_step(alloc: Global, step: &Step) -> Result<Step, NoMemory>
     ensures copy { IfOk result (λ s. s ≡ step.now) }
     ensures ends { IsSome (end_of step.now) → IsOk result }
     ensures memory { takes_lists step.now ≡ false → IsOk result }

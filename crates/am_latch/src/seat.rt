@@ -9,15 +9,13 @@ ghost use Rattle.am_latch.specs.Changes.{IsBoundedReply};
 ghost use Rattle.am_latch.specs.Receipts.{SeatState, new_seat, HasReceiptOf, receipts_of, moved_in, last_commit_of};
 ghost use Rattle.am_latch.specs.Receipts.{held_by, positions_of, AreBehind};
 ghost use Rattle.am_latch.specs.Ties.{open_of, EndsTx, receipts_needed};
-ghost use Rattle.am_latch.specs.Traces.{StoresCall};
 ghost use Rattle.am_latch.specs.Views.{seat_view, trace_view, log_in_view, IsTraceView};
 
-use crate::change::{Change, change_by, commit_by, moved_by, tx_to_end, was_stored};
+use crate::change::{Change, commit_by, moved_by, tx_to_end, was_stored};
 use crate::latch::Latch;
 use crate::latch_name::LatchName;
 use crate::receipt::{CallId, CommitReceipt};
-use crate::room::copy_step;
-use crate::state::LatchState;
+use crate::room::StepCopy;
 use crate::view_steps::compare_receipts;
 use crate::views::{Token, ViewTable};
 use am_record::{Refusal, Reply, Step};
@@ -154,42 +152,40 @@ impl<L: LatchName> Seat<L> {
         if self.positions.len() >= MOST_RECEIPTS && tx_to_end(&step).is_none() {
             return Reply::Refused(Refusal::SeatFull);
         }
-        self.call_under(&latch.table, &mut latch.lock(rt), step)
+        self.make_call(rt, latch, step)
     }
 
-    // Takes a step under the latch.
-    fn call_under(&mut self, table: &ViewTable, state: &mut LatchState<L>, step: Step) -> Reply
-        requires table { (table.now.shared.table_id ≡ L.table.calls) × (0 < table.now.shared.table_id.words) }
+    // Takes a step. What needs no latch comes before it: the room for the receipt, and the copy for the trace.
+    fn make_call<R: Wait>(&mut self, rt: &R, latch: &Latch<L>, step: Step) -> Reply
         requires may { IsAllowed (open_of self.old.receipts) step }
         requires room { end_of step ≡ None → held_by self.old < 1000000 }
         ensures called { HasReceiptOf self.old step result self.new }
         ensures never_full { result ≢ Refused SeatFull }
         ensures ended { EndsTx step result }
         ensures bounded { IsBoundedReply step result }
-        ensures stepped { StoresCall state.old record { seat = self.old.number; call = length self.old.receipts } step
-            result state.new }
     {
         let receipts_needed = places_for(self.open_now, &step);
         if !get_places(&mut self.positions, receipts_needed) {
             return Reply::Refused(Refusal::NoMemory);
         }
-        let Ok(kept) = copy_step(self.alloc, &step) else {
+        let Some(copy) = StepCopy::of(self.alloc, &step) else {
             return Reply::Refused(Refusal::NoMemory);
         };
         let call_id = CallId {
             seat: self.number,
             call: self.let_go + self.positions.len() as u64,
         };
-        let position = state.len();
-        let reply = state.call(table, &mut self.token, call_id, step, &kept);
-        if !was_stored(&reply) {
-            return reply;
+        let outcome = latch
+            .lock(rt)
+            .call(&latch.table, &mut self.token, call_id, step, copy);
+        if !was_stored(&outcome.reply) {
+            return outcome.reply;
         }
-        self.open_now = open_after(self.open_now, change_by(&kept, &reply));
-        self.last_commit = commit_by(&reply);
-        self.moved += moved_by(&reply);
-        self.positions.push_reserved(position);
-        reply
+        self.open_now = open_after(self.open_now, outcome.change);
+        self.last_commit = commit_by(&outcome.reply);
+        self.moved += moved_by(&outcome.reply);
+        self.positions.push_reserved(outcome.position);
+        outcome.reply
     }
 
     /// The receipts are just those of this seat's calls in the trace.

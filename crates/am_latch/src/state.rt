@@ -1,21 +1,23 @@
 //! What lies under the latch: the engine, with the token that knows its trace.
-ghost use Rattle.std.specs.Prelude.{◌≡◌, ◌≢◌, ◌<◌, [], ◌∷◌, ◌++◌, length, MatchBool};
+ghost use Rattle.std.specs.Prelude.{◌≡◌, ◌≢◌, ◌<◌, [], ◌∷◌, ◌++◌, true, length, MatchBool};
 ghost use Rattle.am_record.specs.Sessions.{IsAllowed};
 ghost use Rattle.am_record.specs.declared.step.Reply.TheVariants.{Refused};
 ghost use Rattle.am_record.specs.declared.step.Refusal.TheVariants.{SeatFull};
 ghost use Rattle.am_sound.specs.Right.{IsSoundStore};
-ghost use Rattle.am_latch.specs.Changes.{is_stored};
+ghost use Rattle.am_latch.specs.Changes.{is_stored, change};
 ghost use Rattle.am_latch.specs.Changes.{IsBoundedReply};
+ghost use Rattle.am_latch.specs.Copies.{IsCopyOf};
 ghost use Rattle.am_latch.specs.Traces.{CallLog, EngineState, log_of, empty_log, StoresCall, AreMadeBelow, IsNextOf};
 ghost use Rattle.am_latch.specs.Receipts.{receipt, receipts_of};
 ghost use Rattle.am_latch.specs.Ties.{open_of, EndsTx, IsTied, IsEngineOf};
 ghost use Rattle.am_latch.specs.Taken.{handed_view};
 ghost use Rattle.am_latch.specs.Views.{trace_view, seat_view, IsSeatView};
 
-use crate::change::was_stored;
+use crate::change::{Change, change_by, was_stored};
 use crate::engine::{Engine, Piece};
 use crate::latch_name::LatchName;
 use crate::receipt::CallId;
+use crate::room::StepCopy;
 use crate::seat::Seat;
 use crate::taken::{TakenTable, TakenToken, TakenView, hand_over};
 use crate::taker::Taker;
@@ -25,6 +27,14 @@ use am_record::{Reply, Step};
 use atomic_table::Badge;
 use std::marker::{Model, PhantomData};
 use std::mem;
+
+/// What came of a call: the reply, what the step did to the transactions, and where the pair stands in the trace.
+#[derive(Drop)]
+pub(crate) struct Outcome {
+    pub(crate) reply: Reply,
+    pub(crate) change: Change,
+    pub(crate) position: u64,
+}
 
 /// An engine, the token that knows its trace, and the one that knows what was handed out of it.
 #[derive(Drop)]
@@ -61,13 +71,6 @@ impl<L: LatchName> LatchState<L> {
             handed_token: handed_token.into_badge(),
             of: PhantomData,
         }
-    }
-
-    /// How many pairs are stored.
-    pub(crate) fn len(&self) -> u64
-        ensures { result ≡ length self.now.trace }
-    {
-        self.engine.len()
     }
 
     /// Hands out what the engine keeps. The taker's token knows of it, too.
@@ -109,40 +112,53 @@ impl<L: LatchName> LatchState<L> {
         token: &mut Token,
         call_id: CallId,
         step: Step,
-        kept: &Step,
-    ) -> Reply
+        copy: StepCopy,
+    ) -> Outcome
         requires table { (table.now.shared.table_id ≡ L.table.calls) × (0 < table.now.shared.table_id.words) ×
             (token.old.table_id ≡ L.table.calls) }
         requires token { IsSeatView token.old.me.0 × (call_id.seat ≡ token.old.me.0.seat) × (call_id.seat < L.seats) }
         requires may { IsAllowed (open_of token.old.me.0.receipts) step }
-        requires kept { kept.now ≡ step }
-        ensures stepped { StoresCall self.old call_id step result self.new }
-        ensures never_full { result ≢ Refused SeatFull }
-        ensures ended { EndsTx step result }
-        ensures bounded { IsBoundedReply step result }
+        requires copy { IsCopyOf step copy }
+        ensures stepped { StoresCall self.old call_id step result.reply self.new }
+        ensures never_full { result.reply ≢ Refused SeatFull }
+        ensures ended { EndsTx step result.reply }
+        ensures bounded { IsBoundedReply step result.reply }
+        ensures change { is_stored result.reply ≡ true → result.change ≡ change step result.reply }
+        ensures position { result.position ≡ length self.old.trace }
         ensures same { token.new.table_id ≡ token.old.table_id }
-        ensures token { MatchBool (is_stored result) (token.new.me ≡ (
+        ensures token { MatchBool (is_stored result.reply) (token.new.me ≡ (
           seat_view call_id.seat (token.old.me.0.receipts ++
-              receipt call_id.seat (length token.old.me.0.receipts) step result (length self.old.trace) ∷ []),
+              receipt call_id.seat (length token.old.me.0.receipts) step result.reply result.position ∷ []),
           token.old.me.1,
         )) (token.new.me ≡ token.old.me) }
     {
         let trace_token = mem::replace(&mut self.trace_token, Badge::blank()).into_seat();
         let trace_token = compare_receipts(table, token, trace_token);
         let _calls = self.engine.kept_calls();
-        let reply = self.engine.step(call_id, step);
+        let position = self.engine.len();
+        let reply = self.engine.step_with(call_id, step, copy);
         if !was_stored(&reply) {
             self.trace_token = trace_token.into_badge();
-            return reply;
+            return Outcome {
+                reply,
+                change: Change::Nothing,
+                position,
+            };
         }
+        let (step, stored) = self.engine.newest();
+        let change = change_by(step, stored);
         self.trace_token = append_call(
             table,
             token,
             trace_token,
-            kept,
-            &reply,
+            step,
+            stored,
             &call_id,
         ).into_badge();
-        reply
+        Outcome {
+            reply,
+            change,
+            position,
+        }
     }
 }

@@ -22,7 +22,7 @@ returns-then-not-was_stored-clause-ended g c =
     (λ j. receipts_of (sym c.requires.token.1 j) (log_in_view (trace_token j))) in
     let may : IsAllowed (open_in e c.args.call_id.seat) c.args.step =
     subst (λ (rs : List Receipt). IsAllowed (open_of rs) c.args.step) known c.requires.may in
-    ends_active e c.args.call_id.seat c.args.step c.step-reply.result i.tied may c.step-reply.ensures.answers
+    ends_active e c.args.call_id.seat c.args.step c.step_with-reply.result i.tied may c.step_with-reply.ensures.answers
 
 pub returns-clause-ended : goal.returns-clause-ended
 returns-clause-ended g c =
@@ -35,14 +35,14 @@ returns-clause-ended g c =
     (λ j. receipts_of (sym c.requires.token.1 j) (log_in_view (trace_token j))) in
     let may : IsAllowed (open_in e c.args.call_id.seat) c.args.step =
     subst (λ (rs : List Receipt). IsAllowed (open_of rs) c.args.step) known c.requires.may in
-    ends_active e c.args.call_id.seat c.args.step c.step-reply.result i.tied may c.step-reply.ensures.answers
+    ends_active e c.args.call_id.seat c.args.step c.step_with-reply.result i.tied may c.step_with-reply.ensures.answers
 
 pub invariant_of-self-2 : goal.invariant_of-self-2
 invariant_of-self-2 g c =
     let i = c.self.invariant in
     let e = log_of c.self.inside.engine in
     let stored = sym c.was_stored.ensures ∙ c.if-not-was_stored.false in
-    let after = grown _ _ _ _ _ stored c.step-reply.ensures.stepped in
+    let after = grown _ _ _ _ _ stored c.step_with-reply.ensures.stepped in
     let trace_token = only _ _ (sym c.into_seat-trace_token.ensures.2 ∙ ap (λ b. b.views) c.replace.ensures.value ∙
     i.knows) in
     let again : c.compare_receipts-trace_token.result.me.0 ≡ trace_view e =
@@ -53,16 +53,18 @@ invariant_of-self-2 g c =
     let may : IsAllowed (open_in e c.args.call_id.seat) c.args.step =
     subst (λ (rs : List Receipt). IsAllowed (open_of rs) c.args.step) known c.requires.may in
     let even : length e.calls ≡ length e.trace = c.kept_calls-calls.ensures.each in
+    let newest : c.newest.result.now ≡ (c.args.step, c.step_with-reply.result) =
+    c.newest.ensures e.trace (c.args.step, c.step_with-reply.result) (ap (λ (d : CallLog). d.trace) after) in
     let entered = ap (λ m. m.0) c.append_call.ensures.trace_token in record {
       table_of = search rules;
       knows = c.into_badge-2.ensures.2 ∙ ap (λ (v : View). v ∷ [])
-          (entered ∙ (λ j. trace_view (log_with (log_in_view (again j)) c.args.call_id (c.requires.kept j)
-          c.step-reply.result)) ∙ ap trace_view (sym after));
+          (entered ∙ (λ j. trace_view (log_with (log_in_view (again j)) c.args.call_id (newest j).0 (newest j).1)) ∙
+          ap trace_view (sym after));
       handed_of = i.handed_of;
       handed = i.handed ∙
-          ap (λ (d : CallLog). handed_view d.trace ∷ []) (sym c.step-reply.ensures.handed);
+          ap (λ (d : CallLog). handed_view d.trace ∷ []) (sym c.step_with-reply.ensures.handed);
       made = subst (λ (d : CallLog). AreMadeBelow g.L.LatchName.seats d.calls) (sym after)
           (below-snoc _ _ _ i.made c.requires.token.2);
-      tied = subst IsTied (sym after) (tied_more e c.args.call_id c.args.step c.step-reply.result even i.tied may
-          c.step-reply.ensures.answers);
+      tied = subst IsTied (sym after) (tied_more e c.args.call_id c.args.step c.step_with-reply.result even i.tied may
+          c.step_with-reply.ensures.answers);
     }

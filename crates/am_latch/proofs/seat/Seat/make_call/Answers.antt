@@ -2,7 +2,6 @@ use Rattle.std.proofs.Common.{rules, arith, length, length-append, ap, sym, subs
 use Rattle.std.proofs.Common.{◌++◌, Option, None, vec_len, vec_capacity, refl}
 use Rattle.atomic_table.specs.Table.{Me}
 use Rattle.am_record.specs.Sessions.{IsAllowed}
-use Rattle.am_record.specs.declared.step.Step.{Step}
 use Rattle.am_latch.specs.Changes.{change, end_of, open_after}
 use Rattle.am_latch.specs.declared.receipt.Receipt.{Receipt}
 use Rattle.am_latch.specs.declared.views.View.{View}
@@ -12,13 +11,13 @@ use Rattle.am_latch.specs.Ties.{open_of, HasRoom}
 use Rattle.am_latch.proofs.Calling.{where_true, received, last_commit-snoc, behind-snoc}
 use Rattle.am_latch.proofs.Seats.{room_after, wider, moved_in-snoc}
 use Rattle.am_latch.proofs.Tying.{open_from-snoc}
-use Rattle.am_latch.proofs.seat.Seat.call_under.Goals as goal
+use Rattle.am_latch.proofs.seat.Seat.make_call.Goals as goal
 
 pub returns-clause-called : goal.returns-clause-called
 returns-clause-called g c =
     let stored = sym c.was_stored.ensures ∙ c.if-not-was_stored.false in
-    let more = ap (λ (m : Me ℕ View). m.0.receipts) (where_true _ _ _ stored c.call-reply.ensures.token) in
-    received _ _ _ (length c.args.state.now.trace) c.self.inside.token.me.0.receipts _ _ _ c.self.view_is stored more
+    let more = ap (λ (m : Me ℕ View). m.0.receipts) (where_true _ _ _ stored c.call-outcome.ensures.token) in
+    received _ _ _ c.call-outcome.result.position c.self.inside.token.me.0.receipts _ _ _ c.self.view_is stored more
 
 pub invariant_of-self-2 : goal.invariant_of-self-2
 invariant_of-self-2 g c =
@@ -26,32 +25,32 @@ invariant_of-self-2 g c =
     let old = c.self.inside.positions in
     let rs = c.self.inside.token.me.0.receipts in
     let st = c.args.step in
-    let r = c.call-reply.result in
+    let r = c.call-outcome.result.reply in
     let stored = sym c.was_stored.ensures ∙ c.if-not-was_stored.false in
-    let x : Receipt = receipt c.self.inside.number (length rs) st r (length c.args.state.now.trace) in
-    let me = where_true _ _ _ stored c.call-reply.ensures.token in
-    let more : c.call-reply.new.token.me.0.receipts ≡ rs ++ x ∷ [] = ap (λ (m : Me ℕ View). m.0.receipts) me in
+    let x : Receipt = receipt c.self.inside.number (length rs) st r c.call-outcome.result.position in
+    let me = where_true _ _ _ stored c.call-outcome.ensures.token in
+    let more : c.call-outcome.new.token.me.0.receipts ≡ rs ++ x ∷ [] = ap (λ (m : Me ℕ View). m.0.receipts) me in
     let was : rs ≡ c.args.self.now.receipts = ap (λ (s : SeatState). s.receipts) c.self.view_is in
     let gone : c.self.inside.let_go ≡ c.args.self.now.let_go = ap (λ (s : SeatState). s.let_go) c.self.view_is in
     let may : IsAllowed c.self.inside.open_now st = subst (λ (o : Option ℕ). IsAllowed o st)
     (ap open_of (sym was) ∙ sym i.open_tx) c.requires.may in
     let few : (end_of st ≡ None) → vec_len old < 1000000 = λ e. let f = c.requires.room e in
     omega (arith, ap (λ (l : List Receipt). length l) was, gone, i.count) in
-    let kept = c.in-Ok.ensures.copy in
-    let done : c.change_by.result ≡ change st r = c.change_by.ensures ∙ ap (λ (s : Step). change s r) kept in
+    let done : c.call-outcome.result.change ≡ change st r = c.call-outcome.ensures.change stored in
     let now : c.open_after-self-inside.result ≡ open_after c.self.inside.open_now (change st r) =
     c.open_after-self-inside.ensures ∙ ap (open_after c.self.inside.open_now) done in
     let p = c.push_reserved.ensures in
     let q = c.get_places.ensures in
     let items : c.push_reserved.new.self.items ≡ old.items ++ x.position ∷ [] = p.items ∙
-    (λ j. q.same j ++ c.len-position.ensures j ∷ []) in
+    (λ j. q.same j ++ x.position ∷ []) in
     let moved = moved_in-snoc rs x in
     let here : HasRoom (open_after c.self.inside.open_now (change st r)) (vec_len old + 1)
     (vec_capacity c.get_places.new.positions) = room_after c.self.inside.open_now st r (vec_len old)
-    (vec_capacity c.get_places.new.positions) may c.call-reply.ensures.ended (wider _ _ _ _ i.room q.kept)
+    (vec_capacity c.get_places.new.positions) may c.call-outcome.ensures.ended (wider _ _ _ _ i.room q.kept)
     (let got = q.got c.if-not-get_places.false in
     omega (arith, got, c.places_for-receipts_needed.ensures, q.long)) few in
-    let long : length c.call-reply.new.token.me.0.receipts ≡ length rs + 1 = ap (λ (l : List Receipt). length l) more ∙
+    let long : length c.call-outcome.new.token.me.0.receipts ≡ length rs + 1 = ap (λ (l : List Receipt). length l)
+    more ∙
     length-append rs (x ∷ []) in record {
       table_of = search rules;
       view = subst (λ (m : Me ℕ View). IsSeatView m.0) (sym me) refl;
@@ -67,6 +66,6 @@ invariant_of-self-2 g c =
       room = subst (λ (y : Option ℕ × ℕ × ℕ). HasRoom y.0 y.1 y.2)
           (λ j. (sym now j, (ap (λ (n : ℕ). n + 1) (sym q.long) ∙ sym p.len) j, sym p.capacity j)) here;
       moved = (λ j. i.moved j + c.moved_by.ensures j) ∙ sym moved ∙ ap moved_in (sym more);
-      few = omega (arith, i.few, c.call-reply.ensures.bounded.moves, c.moved_by.ensures, long);
+      few = omega (arith, i.few, c.call-outcome.ensures.bounded.moves, c.moved_by.ensures, long);
       numbers = i.numbers;
     }

@@ -11,7 +11,7 @@ use Rattle.am_latch.specs.Wants.{MayWantMemory, pairs_needed}
 use Rattle.am_latch.proofs.Rooms.{room_step, room_less, ends_spent}
 use Rattle.am_latch.proofs.Storing.{active_from-snoc}
 use Rattle.am_latch.proofs.Wanting.{short, short_of, store_wants, by_reason, refused_so}
-use Rattle.am_latch.proofs.engine.Engine.step.Goals as goal
+use Rattle.am_latch.proofs.engine.Engine.step_with.Goals as goal
 
 pub push_reserved-requires : goal.push_reserved-requires
 push_reserved-requires c =
@@ -52,14 +52,13 @@ invariant_of-self-2 c =
     let g = c.take_step-reply.ensures.goes old c.self.invariant.trace in
     let room = c.get_room-has_room in
     let i = c.self.invariant in
-    let copies = c.in-Some.ensures.copies in
     let kept : c.push_reserved.new.self.items ≡ c.self.inside.trace.items ++ (st, r) ∷ [] =
-    c.push_reserved.ensures.items ∙ (λ j. room.ensures.same.0 j ++ (copies.0 j, c.copy_reply.ensures j) ∷ []) in
+    c.push_reserved.ensures.items ∙ (λ j. room.ensures.same.0 j ++ (c.requires.same j, c.copy_reply.ensures j) ∷ []) in
     let pushed : before ++ c.push_reserved.new.self.items ≡ old ++ (st, r) ∷ [] = ap (λ (l : Trace). before ++ l) kept ∙
     sym (append_assoc before c.self.inside.trace.items ((st, r) ∷ [])) in
     let ends : c.count_ends-self-inside.result ≡ ends_after c.self.inside.ends (change st r) =
     c.count_ends-self-inside.ensures ∙ ap (ends_after c.self.inside.ends)
-    (c.change_by.ensures ∙ ap (λ (s : Step). change s r) copies.0) in
+    (c.change_by.ensures ∙ ap (λ (s : Step). change s r) c.requires.same) in
     let now : active_in_trace (before ++ c.push_reserved.new.self.items) ≡ numbers_with (active_in_trace old)
     (change st r) = ap active_in_trace pushed ∙ active_from-snoc [] old (st, r) in
     let a = (room_step (active_in_trace old) st r c.self.inside.ends c.pairs_for-more.result (vec_len room.new.trace)
@@ -147,7 +146,7 @@ returns-clause-room c =
     let r = c.take_step-reply.result in
     let ends : c.count_ends-self-inside.result ≡ ends_after inside.ends (change st r) =
     c.count_ends-self-inside.ensures ∙ ap (ends_after inside.ends)
-    (c.change_by.ensures ∙ ap (λ (s : Step). change s r) c.in-Some.ensures.copies.0) in
+    (c.change_by.ensures ∙ ap (λ (s : Step). change s r) c.requires.same) in
     let spent = ends_spent st r inside.ends in
     let p = c.push_reserved.ensures in
     let q = c.push_reserved-2.ensures in
