@@ -6,7 +6,7 @@ _tiuvrokk_words() {
     amserve)
         case ${COMP_WORDS[1]-} in
         alone) echo '--auto --help' ;;
-        listen) echo '--port --sessions --workers --trace --stop --stay --grace --idle --log --help' ;;
+        listen) echo '--port --sessions --workers --trace --stop --stay --grace --idle --socket --log --help' ;;
         *) echo 'alone listen help --help --version' ;;
         esac
         ;;

@@ -14,7 +14,7 @@ from tree import TOP, crates, given_out, sources, text_of
 # called, and needs no place here.
 SURFACE = {
     "am_latch": {"Closed", "LatchFault", "Missing"},  # what `close` and `Latch::open` give
-    "am_listen": {"BindFault", "serve_session"},  # why `bind` refuses; a session over any source and sink, whose contract is a promise
+    "am_listen": {"serve_session"},  # a session over any source and sink, whose contract is a promise
     "am_words": {"WordsFault"},  # why `Words` are refused
 }
 

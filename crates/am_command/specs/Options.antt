@@ -66,13 +66,14 @@ common_app =
     let with_trace = with_rule with_workers (option_rule (codes "trace")) in
     with_rule with_trace (flag_rule (codes "stop"))
 
--- and `[--stay] [--grace S] [--idle S] [--log]`
+-- and `[--stay] [--grace S] [--idle S] [--socket PATH] [--log]`
 abbrev pub listen_app : App
 listen_app =
     let with_stay = with_rule common_app (flag_rule (codes "stay")) in
     let with_grace = with_rule with_stay (number_rule (option_rule (codes "grace")) grace) in
     let with_idle = with_rule with_grace (number_rule (option_rule (codes "idle")) idle) in
-    with_rule with_idle (flag_rule (codes "log"))
+    let with_socket = with_rule with_idle (option_rule (codes "socket")) in
+    with_rule with_socket (flag_rule (codes "log"))
 
 -- the command is this one, with no global argument
 abbrev pub IsCommand : App → Command → Type 0
@@ -105,8 +106,9 @@ abbrev pub SetsIfGiven : Setting → Option Text → Option ℕ → Type 0
 SetsIfGiven setting None number = number ≡ None
 SetsIfGiven setting (Some text) number = IsSomeAnd number (Sets setting (Some text))
 
--- the rows of `listen` give these numbers and this file, which has a name, and say whether to await a STOP, whether the
--- server stays, and whether it tells how it does; limits of time, and that it tells, go with one that stays
+-- the rows of `listen` give these numbers and these files, which have names, and say whether to await a STOP, whether
+-- the server stays, and whether it tells how it does; limits of time, a socket, and that it tells, go with one that
+-- stays
 pub record NamesListening (rows : List Row) (listening : Listening) : Type 0 where
   pub port_set : Sets port (first_of (codes "port") rows) listening.port
   pub sessions_set : Sets (cond listening.stays staying_sessions sessions) (first_of (codes "sessions") rows)
@@ -118,9 +120,11 @@ pub record NamesListening (rows : List Row) (listening : Listening) : Type 0 whe
   pub stay_told : IsTrue listening.stays ↔ (first_of (codes "stay") rows ≡ Some (codes "true"))
   pub grace_set : SetsIfGiven grace (first_of (codes "grace") rows) listening.grace
   pub idle_set : SetsIfGiven idle (first_of (codes "idle") rows) listening.idle
+  pub socket_named : option_map (λ file. file.now) listening.socket ≡ first_of (codes "socket") rows
+  pub socket_has_name : first_of (codes "socket") rows ≢ Some []
   pub log_told : IsTrue listening.is_logged ↔ (first_of (codes "log") rows ≡ Some (codes "true"))
   pub together : listening.stays ≡ false → (listening.grace ≡ None) × (listening.idle ≡ None) ×
-      (listening.is_logged ≡ false)
+      (listening.socket ≡ None) × (listening.is_logged ≡ false)
 
 -- the name of a subcommand and its rows name these options
 abbrev pub Selects : Text × List Row → Options → Type 0

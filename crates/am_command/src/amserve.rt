@@ -85,7 +85,7 @@ pub fn options<'a, S: AsStr>(alloc: Global, words: &'a [S]) -> Result<Options<'a
         Ok(matches) => match selected(&matches) {
             Some(options) => Ok(options),
             None => Err(OptionsFault::Unserved(
-                "expected alone or listen, a file that has a name, and --stay beside --grace, --idle and --log",
+                "expected alone or listen, files that have names, and --stay beside --grace, --idle, --socket and --log",
             )),
         },
         Err(error) => Err(fault_of(alloc, &error)),
@@ -120,7 +120,7 @@ fn alone<'a>(alloc: Global) -> Result<Command<'a>, AllocError>
 }
 
 /// `listen`, with what each server takes and what goes with one that stays:
-/// `[--stay] [--grace S] [--idle S] [--log]`. It has a frame of its own, so that none is large.
+/// `[--stay] [--grace S] [--idle S] [--socket PATH] [--log]`. It has a frame of its own, so that none is large.
 #[inline(never)]
 fn listen<'a>(alloc: Global) -> Result<Command<'a>, AllocError>
     ensures { IfOk result (λ command. IsCommand listen_app command) }
@@ -144,6 +144,12 @@ fn listen<'a>(alloc: Global) -> Result<Command<'a>, AllocError>
             "S",
             "With --stay: end a session from which nothing came for S seconds, 1 to 43200",
             IDLE,
+        ))?
+        .arg(option(
+            alloc,
+            "socket",
+            "PATH",
+            "With --stay: listen at this socket of the file system too, which its owner alone may open",
         ))?
         .arg(flag(
             alloc,
@@ -270,10 +276,11 @@ fn listening_in<'a>(given: &ArgMatches<'a>) -> Option<Listening<'a>>
         stays,
         grace: seconds_in(text_in(given, "grace"), GRACE)?,
         idle: seconds_in(text_in(given, "idle"), IDLE)?,
+        socket: file_in(text_in(given, "socket"))?,
         is_logged: is_given(given, "log"),
     };
     let is_limited = listening.grace.is_some() || listening.idle.is_some();
-    if !stays && (is_limited || listening.is_logged) {
+    if !stays && (is_limited || listening.socket.is_some() || listening.is_logged) {
         return None;
     }
     Some(listening)

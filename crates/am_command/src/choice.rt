@@ -29,6 +29,9 @@ pub struct Listening<'a> {
     pub grace: Option<u64>,
     /// After how many seconds in which nothing came a session of a server that stays ends, where it does; 1 to 43,200.
     pub idle: Option<u64>,
+    /// The socket of the file system at which a server that stays listens too, where one is named; never the empty
+    /// name.
+    pub socket: Option<&'a str>,
     /// Whether a server that stays tells each minute, and at the end, how it does.
     pub is_logged: bool,
 }

@@ -4,8 +4,9 @@ ghost use Rattle.std.specs.Prelude.{◌≡◌};
 ghost use Rattle.am_listen.specs.Stops.{deed_of};
 
 use crate::counts::Tally;
+use crate::door::Door;
 use crate::mode::Mode;
-use std::net::{TcpListener, TcpStream};
+use std::net::TcpStream;
 use std::rt::Clock;
 use std::sync::Wait;
 use std::sync::atomic::{AtomicBool, Ordering};
@@ -47,22 +48,18 @@ fn deed_for<C: Drop>(mode: Mode, came: Came<C>, is_closed: bool) -> Deed<C>
     }
 }
 
-/// The listener, at which one thread at a time waits, until a stop is asked for.
+/// A door, at which one thread at a time waits, until a stop is asked for.
 #[derive(Drop)]
 pub(crate) struct Gate<'a> {
-    listener: &'a TcpListener,
+    door: &'a Door,
     is_stopped: &'a AtomicBool,
     mode: Mode,
 }
 
 impl<'a> Gate<'a> {
-    pub(crate) fn new(
-        listener: &'a TcpListener,
-        is_stopped: &'a AtomicBool,
-        mode: Mode,
-    ) -> Gate<'a> {
+    pub(crate) fn new(door: &'a Door, is_stopped: &'a AtomicBool, mode: Mode) -> Gate<'a> {
         Gate {
-            listener,
+            door,
             is_stopped,
             mode,
         }
@@ -87,8 +84,8 @@ impl<'a> Gate<'a> {
     }
 
     fn accept(&self, tally: &Tally) -> Came<TcpStream> {
-        match self.listener.accept() {
-            Ok((stream, _)) => Came::Connection(stream),
+        match self.door.accept() {
+            Ok(stream) => Came::Connection(stream),
             Err(_) => {
                 tally.refused_by_system.add();
                 Came::Failure

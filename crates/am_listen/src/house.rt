@@ -1,15 +1,15 @@
 //! What the threads of a server share.
 
-ghost use Rattle.std.specs.Prelude.{◌≡◌, IfOk};
+ghost use Rattle.std.specs.Prelude.{◌≡◌, ◌≤◌, IfOk};
 
 use crate::connections::Connections;
 use crate::counts::Tally;
+use crate::door::Door;
 use crate::gate::Gate;
 use crate::mode::Mode;
 use crate::pacer::MergePacer;
 use am_record::NoMemory;
 use std::alloc::Global;
-use std::net::TcpListener;
 use std::sync::atomic::{AtomicBool, AtomicU64, Ordering};
 use std::sync::{Mutex, Wait};
 use std::time::Duration;
@@ -17,10 +17,33 @@ use std::time::Duration;
 /// How long a round of the keeper is, where nothing ends it.
 const ROUND_MILLIS: u64 = 100;
 
+/// The doors of a server.
+#[derive(Clone, Copy)]
+pub(crate) struct Doors<'a> {
+    pub(crate) port: &'a Door,
+    pub(crate) socket: Option<&'a Door>,
+}
+
+impl<'a> Doors<'a> {
+    /// How many seats there are, where each door has so many.
+    pub(crate) fn seats(self, sessions: u64) -> u64
+        requires { sessions ≤ 256 }
+        ensures few { result ≤ 512 }
+    {
+        match self.socket {
+            Some(_) => 2 * sessions,
+            None => sessions,
+        }
+    }
+}
+
 /// What the threads of a server share, but for its store.
 #[derive(Drop)]
 pub(crate) struct House<'a> {
-    pub(crate) gate: Mutex<Gate<'a>>,
+    port: Mutex<Gate<'a>>,
+    socket: Option<Mutex<Gate<'a>>>,
+    // How many seats each door has.
+    seats: usize,
     pub(crate) pacer: MergePacer,
     pub(crate) connections: Connections,
     pub(crate) tally: Tally,
@@ -33,27 +56,43 @@ pub(crate) struct House<'a> {
 }
 
 impl<'a> House<'a> {
-    /// A house for so many sessions at once.
+    /// A house for so many sessions at once at each door.
     pub(crate) fn new(
         alloc: Global,
-        listener: &'a TcpListener,
+        doors: Doors<'a>,
         is_stopped: &'a AtomicBool,
         sessions: u64,
         mode: Mode,
         idle: Option<Duration>,
     ) -> Result<House<'a>, NoMemory>
+        requires { sessions ≤ 256 }
         ensures { IfOk result (λ house. house.mode ≡ mode) }
     {
+        let socket = match doors.socket {
+            Some(door) => Some(Mutex::new(Gate::new(door, is_stopped, mode))),
+            None => None,
+        };
+        let all = doors.seats(sessions);
         Ok(House {
-            gate: Mutex::new(Gate::new(listener, is_stopped, mode)),
-            pacer: MergePacer::new(sessions),
-            connections: Connections::new(alloc, sessions as usize)?,
+            port: Mutex::new(Gate::new(doors.port, is_stopped, mode)),
+            socket,
+            seats: sessions as usize,
+            pacer: MergePacer::new(all),
+            connections: Connections::new(alloc, all as usize)?,
             tally: Tally::new(),
             mode,
             idle,
             is_stopped,
             all_ended: AtomicU64::new(0),
         })
+    }
+
+    /// The gate at which the seat of this place waits: the first ones have the port, and the others the socket.
+    pub(crate) fn gate(&self, place: usize) -> &Mutex<Gate<'a>> {
+        match &self.socket {
+            Some(socket) if place >= self.seats => socket,
+            _ => &self.port,
+        }
     }
 
     /// Whether a stop was asked for.

@@ -10,6 +10,7 @@
 mod connections;
 mod counting_sink;
 mod counts;
+mod door;
 mod events;
 mod gate;
 mod house;

@@ -4,7 +4,8 @@ ghost use Rattle.std.specs.Prelude.{◌≡◌, ◌≤◌, ◌<◌, IfOk};
 ghost use Rattle.am_listen.specs.ServerRuns.{IsServerRun};
 
 use crate::counts::Watcher;
-use crate::house::House;
+use crate::door::{Door, listen_at_port, listen_at_socket};
+use crate::house::{Doors, House};
 use crate::mode::Mode;
 use crate::pieces::PieceTaker;
 use crate::server::{Keeping, run};
@@ -14,13 +15,13 @@ use am_record::{HashKey, NoMemory};
 use am_words::Words;
 use std::alloc::Global;
 use std::marker::Brand;
-use std::net::{Ipv4Addr, Net, TcpListener, TcpStream};
-use std::rt::Clock;
+use std::net::{Net, TcpListener, TcpStream};
+use std::rt::{Clock, Files};
 use std::sync::Wait;
 use std::sync::atomic::{AtomicBool, Ordering};
+use std::thread;
 use std::thread::Threads;
 use std::time::Duration;
-use std::{io, thread};
 use thiserror::Error;
 
 /// How long it takes until a stop tries again to wake the thread that waits for a connection.
@@ -34,11 +35,13 @@ pub enum BindFault {
     CannotListen,
 }
 
-/// A listener at a port of this machine, which takes connections from this machine alone.
+/// A listener at a port of this machine, which takes connections from this machine alone, and where it is asked for at
+/// a socket of the file system too.
 #[derive(Drop)]
 pub struct PortListener {
-    listener: TcpListener,
     port: u16,
+    door: Door,
+    socket: Option<Door>,
     alloc: Global,
     is_stopped: AtomicBool,
 }
@@ -51,18 +54,13 @@ pub fn bind<R: AllocGlobal + Net<Listener = TcpListener, Stream = TcpStream>>(
     rt: &R,
     port: u16,
 ) -> Result<PortListener, BindFault> {
-    listen(rt, port).map_err(|_| BindFault::CannotListen)
-}
-
-fn listen<R: AllocGlobal + Net<Listener = TcpListener, Stream = TcpStream>>(
-    rt: &R,
-    port: u16,
-) -> io::Result<PortListener> {
-    let listener = TcpListener::bind(rt, (Ipv4Addr::LOCALHOST, port))?;
-    let port = listener.local_addr()?.port();
+    let Ok((listener, port)) = listen_at_port(rt, port) else {
+        return Err(BindFault::CannotListen);
+    };
     Ok(PortListener {
-        listener,
         port,
+        door: Door::Port { listener, port },
+        socket: None,
         alloc: rt.alloc(),
         is_stopped: AtomicBool::new(false),
     })
@@ -74,29 +72,53 @@ impl PortListener {
         self.port
     }
 
+    /// Listens at a socket of the file system too, which its owner alone may open. A socket of that name at which
+    /// nobody listens is replaced. The file stays when the listener goes.
+    ///
+    /// # Errors
+    /// CannotListen, where the system refuses it, as it does where there is a file of that name.
+    pub fn with_socket<R: AllocGlobal + Files + Net>(
+        self,
+        rt: &R,
+        path: &str,
+    ) -> Result<PortListener, BindFault> {
+        let Ok(name) = String::from_str(rt.alloc(), path) else {
+            return Err(BindFault::CannotListen);
+        };
+        let Ok(listener) = listen_at_socket(rt, path) else {
+            return Err(BindFault::CannotListen);
+        };
+        let socket = Some(Door::Socket {
+            listener,
+            path: name,
+        });
+        Ok(PortListener { socket, ..self })
+    }
+
     /// No further connection is taken, and `serve` returns once the sessions begun have ended. May be called from
     /// another thread while `serve` runs. Where no connection can be made, as where no files are left, it returns only
     /// once one can.
     pub fn stop<R: Net<Listener = TcpListener, Stream = TcpStream> + Wait + Clock>(&self, rt: &R) {
         self.is_stopped.store(true, Ordering::SeqCst);
-        for _ in rt.forever() {
-            if self.wake(rt) {
-                return;
-            }
-            thread::sleep(rt, Duration::from_millis(WAKE_MILLIS));
+        wake(rt, &self.door);
+        if let Some(socket) = &self.socket {
+            wake(rt, socket);
         }
     }
 
-    // A thread that waits for a connection gets this one, and sees that it is to stop. Whether it could be made.
-    fn wake<R: Net<Listener = TcpListener, Stream = TcpStream>>(&self, rt: &R) -> bool {
-        TcpStream::connect(rt, (Ipv4Addr::LOCALHOST, self.port)).is_ok()
+    fn doors(&self) -> Doors<'_> {
+        Doors {
+            port: &self.door,
+            socket: self.socket.as_ref(),
+        }
     }
 
-    /// Serves connections over one store that begins with no records, until [`PortListener::stop`], so many at once,
-    /// each on a thread and a seat of its own, and lets so many workers merge beside them: one turn for each answered
-    /// line. A bounded server serves no more connections than these, and one that stays any number, one after another
-    /// at each seat; further ones wait to be accepted. The trace is taken by pieces meanwhile, and its rest at the end,
-    /// once all sessions have ended. All pieces together are sound and legal, and their store has so many commits.
+    /// Serves connections over one store that begins with no records, until [`PortListener::stop`], so many at once at
+    /// each door, each on a thread and a seat of its own, and lets so many workers merge beside them: one turn for each
+    /// answered line. A bounded server serves no more connections than there are seats, and one that stays any number,
+    /// one after another at each seat; further ones wait to be accepted. The trace is taken by pieces meanwhile, and
+    /// its rest at the end, once all sessions have ended. All pieces together are sound and legal, and their store has
+    /// so many commits.
     ///
     /// # Errors
     /// NoMemory, where memory was refused before a connection was accepted.
@@ -117,15 +139,17 @@ impl PortListener {
         requires workers { workers ≤ 16 }
         ensures { IfOk result (IsServerRun T.took keeping.pieces mode) }
     {
-        let Ok(blank) = Blank::new(self.alloc, sessions + workers) else {
+        let doors = self.doors();
+        let seats = doors.seats(sessions);
+        let Ok(blank) = Blank::new(self.alloc, seats + workers) else {
             return Err(NoMemory);
         };
-        let Ok((words, word_seats)) = Words::open(self.alloc, sessions as usize) else {
+        let Ok((words, word_seats)) = Words::open(self.alloc, seats as usize) else {
             return Err(NoMemory);
         };
         let house = House::new(
             self.alloc,
-            &self.listener,
+            doors,
             &self.is_stopped,
             sessions,
             mode,
@@ -134,5 +158,15 @@ impl PortListener {
         run::<Brand, R, T, V>(
             rt, self.alloc, hash, &house, blank, &words, word_seats, keeping,
         )
+    }
+}
+
+// Connects until it could, so that a thread which waits at the door sees that it is to stop.
+fn wake<R: Net<Listener = TcpListener, Stream = TcpStream> + Wait + Clock>(rt: &R, door: &Door) {
+    for _ in rt.forever() {
+        if door.wake(rt) {
+            return;
+        }
+        thread::sleep(rt, Duration::from_millis(WAKE_MILLIS));
     }
 }

@@ -74,7 +74,7 @@ pub(crate) fn serve_in_turn<'a, R: Wait + Clock, L: LatchName>(
     ensures { HasServedInTurn (most_sessions house.now.mode) session_seat.old session_seat.new }
 {
     'sessions: for turn in 0..house.mode.sessions_each() {
-        let mut held = house.gate.lock(rt);
+        let mut held = house.gate(place).lock(rt);
         let Some(stream) = held.next(rt, &house.tally) else {
             break;
         };

@@ -9,7 +9,7 @@ use crate::fault::ListenFault;
 use crate::growing_file::GrowingFile;
 use crate::trace_file::TraceFile;
 use am_command::Listening;
-use am_listen::{Keeping, LetGo, Mode, PieceTaker, PortListener, TraceWriter, bind};
+use am_listen::{BindFault, Keeping, LetGo, Mode, PieceTaker, PortListener, TraceWriter, bind};
 use am_session::draw_hash_key;
 use std::fs::File;
 use std::io::{BufRead, BufReader};
@@ -20,7 +20,7 @@ use std::rt::{Clock, Files};
 use std::sync::Wait;
 use std::thread::Threads;
 use std::time::Duration;
-use std::{io, thread};
+use std::{fs, io, thread};
 
 type Writer = TraceWriter<GrowingFile>;
 
@@ -68,6 +68,9 @@ pub(crate) fn listen<
         return Err(fault);
     }
     let served = serve_until_stop(rt, &port, listening, writer);
+    if let Some(path) = listening.socket {
+        let _ = fs::remove_file(rt, path);
+    }
     close(rt, listening.stays, file.as_ref(), served)
 }
 
@@ -82,7 +85,7 @@ fn open<R: AllocGlobal + Files<File = File> + Net<Listener = TcpListener, Stream
         Some(path) => Some(TraceFile::open_beside(rt, path)?),
         None => None,
     };
-    let Ok(port) = bind(rt, listening.port) else {
+    let Ok(port) = open_doors(rt, listening) else {
         if let Some((file, _)) = &opened {
             file.forget(rt);
         }
@@ -104,6 +107,18 @@ fn open<R: AllocGlobal + Files<File = File> + Net<Listener = TcpListener, Stream
         file: Some(file),
         writer: Some(writer),
     })
+}
+
+// The port, and where one is named the socket.
+fn open_doors<R: AllocGlobal + Files + Net<Listener = TcpListener, Stream = TcpStream>>(
+    rt: &R,
+    listening: &Listening<'_>,
+) -> Result<PortListener, BindFault> {
+    let port = bind(rt, listening.port)?;
+    match listening.socket {
+        Some(path) => port.with_socket(rt, path),
+        None => Ok(port),
+    }
 }
 
 fn forget<R: Files>(rt: &R, file: Option<&TraceFile>) {

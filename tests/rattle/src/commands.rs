@@ -14,6 +14,7 @@ const DEFAULTS: Listening<'static> = Listening {
     stays: false,
     grace: None,
     idle: None,
+    socket: None,
     is_logged: false,
 };
 
@@ -26,6 +27,7 @@ const MOST: Listening<'static> = Listening {
     stays: false,
     grace: None,
     idle: None,
+    socket: None,
     is_logged: false,
 };
 
@@ -34,11 +36,12 @@ const STAYING: Listening<'static> = Listening {
     stays: true,
     grace: Some(3600),
     idle: Some(43_200),
+    socket: Some("s"),
     is_logged: true,
     ..DEFAULTS
 };
 
-const ASKED: [Asked<'static>; 24] = [
+const ASKED: [Asked<'static>; 26] = [
     (&["amserve", "alone"], Ok(Options::Alone { auto: 16 })),
     (
         &["amserve", "alone", "--auto", "0"],
@@ -73,7 +76,7 @@ const ASKED: [Asked<'static>; 24] = [
     (
         &[
             "amserve", "listen", "--port", "0", "--stay", "--grace", "3600", "--idle", "43200",
-            "--log",
+            "--socket", "s", "--log",
         ],
         Ok(Options::Listen(STAYING)),
     ),

@@ -10,6 +10,8 @@ returns c =
     c.number.ensures c.in_ok-arg-2.ensures in
     let with_idle = arg_added c.in_ok-arg-2.field-0 c.in_ok-arg-3.field-0 c.number-2.result _ _ with_grace
     c.number-2.ensures c.in_ok-arg-3.ensures in
-    IfOk-weaker c.arg-4.result _ _
-    (λ command adds. arg_added c.in_ok-arg-3.field-0 command c.flag-2.result _ _ with_idle c.flag-2.ensures adds)
-    c.arg-4.ensures
+    let with_socket = arg_added c.in_ok-arg-3.field-0 c.in_ok-arg-4.field-0 c.option.result _ _ with_idle
+    c.option.ensures c.in_ok-arg-4.ensures in
+    IfOk-weaker c.arg-5.result _ _
+    (λ command adds. arg_added c.in_ok-arg-4.field-0 command c.flag-2.result _ _ with_socket c.flag-2.ensures adds)
+    c.arg-5.ensures
