@@ -94,6 +94,14 @@ const ASKED: [Asked<'static>; 26] = [
     ),
     (&["amserve", "listen", "--port", "0", "--idle", "1"], Err(2)),
     (
+        &["amserve", "listen", "--port", "0", "--socket", "s"],
+        Err(2),
+    ),
+    (
+        &["amserve", "listen", "--port", "0", "--stay", "--socket", ""],
+        Err(2),
+    ),
+    (
         &["amserve", "listen", "--port", "0", "--grace", "1"],
         Err(2),
     ),
