@@ -20,66 +20,53 @@ use std::rt::{Clock, Files};
 use std::sync::Wait;
 use std::thread::Threads;
 use std::time::Duration;
-use std::{fs, io, thread};
+use std::{fs, io};
 
-type Writer = TraceWriter<GrowingFile>;
+pub(crate) type Writer = TraceWriter<GrowingFile>;
 
 /// What is there before the first connection: a port, and where a file is named for the trace that file and a writer.
 #[derive(Drop)]
-struct Opened {
-    port: PortListener,
-    file: Option<TraceFile>,
-    writer: Option<Writer>,
+pub(crate) struct Opened {
+    pub(crate) port: PortListener,
+    pub(crate) file: Option<TraceFile>,
+    pub(crate) writer: Option<Writer>,
 }
 
 /// What a server did.
 #[derive(Clone, Copy, Debug)]
-struct Served {
+pub(crate) struct Served {
     events: u64,
     commits: u64,
     accepted_all: bool,
     is_cut: bool,
 }
 
-/// Listens, serves and ends, as the words ask. The program's status.
-#[inline(never)]
-pub(crate) fn listen<
-    R: AllocGlobal
-        + Input
-        + Print
-        + Eprint
-        + Threads
-        + Wait
-        + RandomSource
-        + Clock
-        + Files<File = File>
-        + Net<Listener = TcpListener, Stream = TcpStream>
-        + Sync,
->(rt: &R, listening: &Listening<'_>) -> io::Result<ExitCode>
-    requires sessions { (1 ≤ listening.now.sessions) × (listening.now.sessions ≤ 256) }
-    requires workers { listening.now.workers ≤ 16 }
-{
-    let Opened { port, file, writer } = match open(rt, listening) {
-        Ok(opened) => opened,
-        Err(fault) => return tell(rt, fault),
-    };
-    if let Err(fault) = println!(rt; "LISTEN {}", port.port()) {
-        forget(rt, file.as_ref());
-        return Err(fault);
+/// Says which port it is. Where that can't be said nothing is left of the trace and the socket.
+pub(crate) fn say_port<R: Files + Print>(
+    rt: &R,
+    port: &PortListener,
+    listening: &Listening<'_>,
+    file: Option<&TraceFile>,
+) -> io::Result<()> {
+    let said = println!(rt; "LISTEN {}", port.port());
+    if said.is_err() {
+        forget(rt, file);
+        remove_socket(rt, listening);
     }
-    let served = serve_until_stop(rt, &port, listening, writer);
+    said
+}
+
+fn remove_socket<R: Files>(rt: &R, listening: &Listening<'_>) {
     if let Some(path) = listening.socket {
         let _ = fs::remove_file(rt, path);
     }
-    close(rt, listening.stays, file.as_ref(), served)
 }
 
-// The file for the trace, where one is named, and then the port; and the trace's first line.
+/// The file for the trace, where one is named, and then the port; and the trace's first line.
 #[inline(never)]
-fn open<R: AllocGlobal + Files<File = File> + Net<Listener = TcpListener, Stream = TcpStream>>(
-    rt: &R,
-    listening: &Listening<'_>,
-) -> Result<Opened, ListenFault> {
+pub(crate) fn open<
+    R: AllocGlobal + Files<File = File> + Net<Listener = TcpListener, Stream = TcpStream>,
+>(rt: &R, listening: &Listening<'_>) -> Result<Opened, ListenFault> {
     let opened = match listening.trace {
         Some(path) if listening.stays => Some(TraceFile::open_growing(rt, path)?),
         Some(path) => Some(TraceFile::open_beside(rt, path)?),
@@ -100,6 +87,7 @@ fn open<R: AllocGlobal + Files<File = File> + Net<Listener = TcpListener, Stream
     };
     let writer = TraceWriter::begin(rt.alloc(), GrowingFile::new(grown));
     if listening.stays && writer.is_cut() {
+        remove_socket(rt, listening);
         return Err(ListenFault::CannotWriteTrace);
     }
     Ok(Opened {
@@ -127,48 +115,9 @@ fn forget<R: Files>(rt: &R, file: Option<&TraceFile>) {
     }
 }
 
-// Serves, and where a stop is awaited hears it.
+/// Has the server stop once a line STOP, or the end of standard input or a fault of it, has come.
 #[inline(never)]
-fn serve_until_stop<
-    R: AllocGlobal
-        + Input
-        + Eprint
-        + Threads
-        + Wait
-        + RandomSource
-        + Clock
-        + Net<Listener = TcpListener, Stream = TcpStream>
-        + Sync,
->(
-    rt: &R,
-    port: &PortListener,
-    listening: &Listening<'_>,
-    writer: Option<Writer>,
-) -> Result<Served, ListenFault>
-    requires sessions { (1 ≤ listening.now.sessions) × (listening.now.sessions ≤ 256) }
-    requires workers { listening.now.workers ≤ 16 }
-{
-    let (sessions, workers) = (listening.sessions, listening.workers);
-    if !listening.awaits_stop {
-        return serve(rt, port, listening, sessions, workers, writer);
-    }
-    thread::scope(
-        thread::scope_env(),
-        rt,
-        |scope|
-            requires { (1 ≤ sessions) × (sessions ≤ 256) × (workers ≤ 16) }
-        {
-            match scope.spawn(move || stop_at_word(rt, port)) {
-                Ok(_) => serve(rt, port, listening, sessions, workers, writer),
-                Err(_) => Err(ListenFault::CannotHear),
-            }
-        },
-    )
-}
-
-// Has the server stop once a line STOP, or the end of standard input or a fault of it, has come.
-#[inline(never)]
-fn stop_at_word<
+pub(crate) fn stop_at_word<
     R: AllocGlobal + Input + Net<Listener = TcpListener, Stream = TcpStream> + Wait + Clock,
 >(rt: &R, port: &PortListener) {
     await_stop(rt);
@@ -187,10 +136,10 @@ fn await_stop<R: AllocGlobal + Input>(rt: &R) {
     }
 }
 
-// Serves so many sessions, or so many at once until a stop, with so many workers beside them, on a store whose hash key
-// no stranger knows.
+/// Serves so many sessions, or so many at once until a stop, with so many workers beside them, on a store whose hash
+/// key no stranger knows.
 #[inline(never)]
-fn serve<R: Threads + Wait + RandomSource + Clock + Eprint + Sync>(
+pub(crate) fn serve<R: Threads + Wait + RandomSource + Clock + Eprint + Sync>(
     rt: &R,
     port: &PortListener,
     listening: &Listening<'_>,
@@ -243,14 +192,16 @@ fn serve_with<
     }
 }
 
-// Stores the trace, and tells what was done. The program's status.
+/// Stores the trace, and tells what was done. The program's status.
 #[inline(never)]
-fn close<R: Files + Print + Eprint>(
+pub(crate) fn close<R: Files + Print + Eprint>(
     rt: &R,
-    stays: bool,
+    listening: &Listening<'_>,
     file: Option<&TraceFile>,
     served: Result<Served, ListenFault>,
 ) -> io::Result<ExitCode> {
+    remove_socket(rt, listening);
+    let stays = listening.stays;
     let served = match served {
         Ok(served) => served,
         Err(fault) => {
@@ -282,8 +233,8 @@ fn store<R: Files>(rt: &R, file: Option<&TraceFile>, is_cut: bool) -> Result<(),
     }
 }
 
-// Says what is wrong, and answers the program's status.
-fn tell<R: Eprint>(rt: &R, fault: ListenFault) -> io::Result<ExitCode> {
+/// Says what is wrong, and answers the program's status.
+pub(crate) fn tell<R: Eprint>(rt: &R, fault: ListenFault) -> io::Result<ExitCode> {
     eprintln!(rt; "{}", fault.words())?;
     Ok(ExitCode::from(fault.status()))
 }
