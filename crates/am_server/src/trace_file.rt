@@ -24,9 +24,9 @@ impl TraceFile {
         rt: &R,
         path: &str,
     ) -> Result<(TraceFile, File), ListenFault> {
+        let named = TraceFile::of(rt, path, None)?;
         let file = OpenOptions::new().write(true).create(true).open(rt, path);
-        let file = file.map_err(|_| ListenFault::CannotWriteTrace)?;
-        Ok((TraceFile::of(rt, path, None)?, file))
+        Ok((named, file.map_err(|_| ListenFault::CannotWriteTrace)?))
     }
 
     /// Opens a file beside it, with a name that nobody has, for what will have its name at the end. Where it is a link,
@@ -67,8 +67,9 @@ impl TraceFile {
     ) -> Result<(TraceFile, File), ListenFault> {
         for number in 1..MOST_NAMES {
             let name = name_beside(rt, path, number)?;
-            match create_new(rt, name.as_str(), found) {
-                Ok(file) => return Ok((TraceFile::of(rt, path, Some(name))?, file)),
+            let named = TraceFile::of(rt, path, Some(name))?;
+            match create_new(rt, named.first_place(), found) {
+                Ok(file) => return Ok((named, file)),
                 Err(fault) if fault.kind() == ErrorKind::AlreadyExists => {}
                 Err(_) => return Err(ListenFault::CannotWriteTrace),
             }
@@ -83,6 +84,14 @@ impl TraceFile {
     ) -> Result<TraceFile, ListenFault> {
         let path = String::from_str(rt.alloc(), path).map_err(|_| ListenFault::NoMemory)?;
         Ok(TraceFile { path, part })
+    }
+
+    // Where the text is written first.
+    fn first_place(&self) -> &str {
+        match &self.part {
+            Some(name) => name.as_str(),
+            None => self.path.as_str(),
+        }
     }
 
     /// Gives what was written the file's name. Where that can't be done, the file is as it was. In a frame of its own:
@@ -126,8 +135,11 @@ fn create_new<R: Files<File = File>>(
         .write(true)
         .create_new(true)
         .open(rt, name)?;
-    if let Some(found) = found {
-        file.set_permissions(found.permissions())?;
+    if let Some(found) = found
+        && let Err(fault) = file.set_permissions(found.permissions())
+    {
+        let _ = fs::remove_file(rt, name);
+        return Err(fault);
     }
     Ok(file)
 }
