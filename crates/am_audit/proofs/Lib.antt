@@ -1,6 +1,8 @@
 pub mod Rows
 pub mod Actives
 pub mod Tables
+pub mod Held
+pub mod OnlyOwners
 pub mod Replays
 pub mod Judging
 pub mod Progresses

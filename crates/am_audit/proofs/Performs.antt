@@ -1,5 +1,5 @@
 -- Operations and commits that the audit takes.
-use Rattle.std.proofs.Common.{◌≡◌, ℕ, ◌+◌, ◌≤◌, List, length, map, take, Bool, true, false, cond, refl, sym, ap, ◌∙◌}
+use Rattle.std.proofs.Common.{◌≡◌, ℕ, ◌+◌, List, map, Bool, true, false, cond, refl, sym, ap, ◌∙◌}
 use Rattle.std.proofs.Common.{subst, Option, Some, None}
 use Rattle.std.specs.Prelude.{◌==◌, not, filter}
 use Rattle.std.proofs.lemmas.Bool.{both_ways, false≢true, not-false}
@@ -11,8 +11,7 @@ use Rattle.am_record.specs.declared.step.Op.{Op}
 use Rattle.am_record.specs.declared.step.Step.TheVariants.{Do, Commit}
 use Rattle.am_record.specs.declared.step.Reply.{Reply}
 use Rattle.am_record.specs.declared.step.Reply.TheVariants.{Committed, Refused}
-use Rattle.am_locks.specs.OwnerLocks.{OwnerLocks}
-use Rattle.am_locks.specs.Table.{is_owner, locks_owned, with_locks, without_owner as released}
+use Rattle.am_locks.specs.Table.{is_owner, with_locks, without_owner as released}
 use Rattle.am_serial.specs.Trace.{Answered, Answers, Commits, Nothing, effect, runs_made, ops_of, replies_of}
 use Rattle.am_serial.specs.Trace.{IsAnsweredAlone}
 use Rattle.am_serial.specs.Machine.{State, is_open, body_in, locks_in, view, due_early, May}
@@ -20,10 +19,9 @@ use Rattle.am_audit.specs.declared.event_fault.EventFault.{EventFault}
 use Rattle.am_audit.specs.declared.event_fault.EventFault.TheVariants.{Form, Busy, Answer, NoMemory}
 use Rattle.am_audit.specs.declared.active.Active.{Active}
 use Rattle.am_audit.specs.declared.checker.Checker.{Checker}
-use Rattle.am_audit.specs.Progress.{PlacedAnswer, answered_of, Listed, listed, is_listed, own_in, with_own, owner_of}
+use Rattle.am_audit.specs.Progress.{PlacedAnswer, answered_of, Listed, listed, is_listed, own_in, with_own}
 use Rattle.am_audit.specs.Progress.{Progress, IsAt, NextIn, IsRightOf, TakesEvent, IsEventFault, AreAnsweredOn}
 use Rattle.am_audit.specs.Progress.{left_by_all, IsFirstWrong, IsReplayFault, refused_of}
-use Rattle.am_audit.proofs.Tables.{still_owner, held_before, given_back}
 use Rattle.am_audit.proofs.Progresses.{stands_behind, no_answer, answers, commits}
 use Rattle.am_audit.proofs.Takings.{takes_still, is_owned}
 use Rattle.am_audit.proofs.Bodies.{body_placed, own_placed, listed_open}
@@ -71,28 +69,6 @@ module _ (p : Checker) (here : Progress) (h : IsAt p here) (t : ℕ) (op : Op) (
   where
     abbrev s : State
     s = here.state
-
-    pub owner_here : is_owner p.locks t ≡ true
-    owner_here = is_owned p here h t ∙ open_of_none s t op none
-
-    module _ (asked : Option Lock) (granted : List OwnerLocks)
-        (is : granted ≡ with_locks p.locks t (with_asked (locks_in s.active t) asked)) where
-      is' : granted ≡ with_locks (map owner_of s.active) t (with_asked (locks_in s.active t) asked)
-      is' = is ∙ ap (λ (table : List OwnerLocks). with_locks table t (with_asked (locks_in s.active t) asked)) h.locks
-
-      pub owner_still : is_owner granted t ≡ true
-      owner_still = still_owner s.active t asked h.ordinary.rising (open_of_none s t op none) granted is'
-
-      module _ (n : ℕ) (count : n ≡ length (locks_owned p.locks t)) where
-        count' : n ≡ length (locks_owned (map owner_of s.active) t)
-        count' = count ∙ ap (λ (table : List OwnerLocks). length (locks_owned table t)) h.locks
-
-        pub enough : n ≤ length (locks_owned granted t)
-        enough = held_before s.active t asked h.ordinary.rising (open_of_none s t op none) granted is' n count'
-
-        pub locks_back : with_locks granted t (take n (locks_owned granted t)) ≡ p.locks
-        locks_back = given_back s.active t asked h.ordinary.rising (open_of_none s t op none) granted is' n count' ∙
-            sym h.locks
 
     pub takes_answer : (p' : Checker) (reply : Reply) (n : ℕ) (asked : Option Lock) → n ≡ here.count →
         asked ≡ lock_of op → refused_of reply ≡ false → IsRightOf s (Do t op) reply → p'.begun ≡ p.begun →

@@ -4,7 +4,7 @@ ghost use Rattle.std.specs.Prelude.{◌≡◌, ◌==◌, not, map, filter, lengt
 ghost use Rattle.am_locks.specs.Table.{is_owner, without_owner};
 ghost use Rattle.am_audit.specs.Progress.{listed, is_listed, own_in, placed_answer, with_own};
 
-use am_locks::LockTable;
+use crate::held_locks::HeldLocks;
 use am_record::{NoMemory, Op, Reply};
 
 /// An answered operation with its reply, until its transaction ends.
@@ -74,7 +74,7 @@ pub(crate) fn keep(all: &mut [Active], tx: u64, kept: OwnAnswer) -> Result<(), N
 }
 
 /// Ends the transaction: it is not active any more, and its locks are gone.
-pub(crate) fn end(all: &mut Vec<Active>, locks: &mut LockTable, tx: u64)
+pub(crate) fn end(all: &mut Vec<Active>, locks: &mut HeldLocks, tx: u64)
     requires { is_owner locks.old tx ≡ true }
     ensures active { map listed all.new.items ≡ filter (λ x. not (x.0 == tx)) (map listed all.old.items) }
     ensures locks { locks.new ≡ without_owner locks.old tx }

@@ -5,14 +5,13 @@ ghost use Rattle.am_record.specs.declared.step.Step.TheVariants.{Begin, Do, Comm
 ghost use Rattle.am_serial.specs.Machine.{due_early};
 
 use crate::active::{Active, OwnAnswer, end, is_active, keep, operations, own};
-use crate::asking::ask;
 use crate::early::{is_early, refusal};
 use crate::event_fault::EventFault;
 use crate::forms::{may_abort, may_begin, may_clean, may_commit, may_merge};
+use crate::held_locks::HeldLocks;
 use crate::operations::runs_made;
 use crate::replay::replay;
 use crate::verdict::{is_refusal, is_refused, verdict};
-use am_locks::{Asked, LockTable};
 use am_model::Plain;
 use am_record::{NoMemory, Op, Range, Reply, Step};
 use std::alloc::Global;
@@ -24,7 +23,7 @@ pub(crate) struct Checker {
     pub(crate) commits: u64,
     pub(crate) runs: u32,
     pub(crate) active: Vec<Active>,
-    pub(crate) locks: LockTable,
+    pub(crate) locks: HeldLocks,
     /// The map that the committed transactions leave.
     pub(crate) committed: Plain,
 }
@@ -44,7 +43,7 @@ impl Checker {
             commits: 0,
             runs: 0,
             active: Vec::new(alloc),
-            locks: LockTable::new(alloc)?,
+            locks: HeldLocks::new(alloc)?,
             committed: Plain::new(alloc),
         })
     }
@@ -90,7 +89,7 @@ impl Checker {
                 number: *tx,
                 own: Vec::new(alloc),
             })?;
-            self.locks.enter(*tx);
+            self.locks.enter(*tx)?;
             self.begun = *tx;
         }
         Ok(())
@@ -165,16 +164,13 @@ impl Checker {
         ensures takes { OnOk result (TakesEvent here (Do tx op) reply self.new) }
         ensures event_fault { IfErr result (IsEventFault here (Do tx op) reply) }
     {
-        let held = self.locks.held(tx);
-        let asked = ask(&mut self.locks, tx, op.asked_lock());
+        if is_refusal(&reply) {
+            let asked = self.locks.look(tx, op.asked_lock());
+            return verdict(asked, tx, &op, &reply);
+        }
+        let asked = self.locks.ask(tx, &op);
         if let Err(event_fault) = verdict(asked, tx, &op, &reply) {
             return Err(event_fault);
-        }
-        if is_refusal(&reply) {
-            if let Asked::Granted = asked {
-                self.locks.cut(tx, held);
-            }
-            return Ok(());
         }
         let made = runs_made(&op, &reply);
         keep(

@@ -10,6 +10,8 @@ mod event_fault;
 mod exclusion;
 mod fault;
 mod forms;
+mod held_locks;
+mod listed;
 mod operations;
 mod replay;
 mod replies;

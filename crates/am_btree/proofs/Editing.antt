@@ -11,8 +11,10 @@ use Rattle.am_record.specs.declared.entry.Entry.{Entry}
 use Rattle.am_record.specs.EntryOrder.{Place, place_of, place_cmp}
 use Rattle.am_record.proofs.Lists.{AllByRecursion-map, AllByRecursion-append, AllByRecursion-take, AllByRecursion-drop}
 use Rattle.am_record.proofs.Lists.{AllByRecursion-at}
-use Rattle.am_list.specs.Entries.{remove_entry, set_entry, IsRising}
+use Rattle.std.specs.Prelude.{IsSome}
+use Rattle.am_list.specs.Entries.{find, set_entry, remove_from, IsRising}
 use Rattle.am_list.specs.Places.{AllBelow, NoneBelow, AllAbove}
+use Rattle.am_list.proofs.Removals.{remove_from-back, remove_from-front, all_remove_from, rising_remove_from}
 use Rattle.am_btree.specs.declared.separator.Separator.{Separator}
 use Rattle.am_btree.specs.Shape.{Shape}
 use Rattle.am_btree.specs.Separators.{separator_place, IsChildFor}
@@ -74,10 +76,10 @@ none_set (c ∷ []) zero k one lt h = ap (λ es. es ++ []) h
 none_set (c ∷ []) (suc i) k one lt h = absurd (omega arith)
 none_set (c ∷ j ∷ ks) i k one lt h = absurd (omega (arith, one))
 
--- an edit of lists that changes nothing but the entry of one place, and brings no entry of another place
-pub record IsEditAt (part : ℕ) (key : OrderedKey) (edit : List Entry → List Entry) : Type 1 where
+-- an edit of lists that changes entries from one place on, all of them in the list xs, and brings none of another place
+pub record IsEditAt (part : ℕ) (key : OrderedKey) (edit : List Entry → List Entry) (xs : List Entry) : Type 1 where
   pub back : (xs ys : List Entry) → AllBelow (part, key) xs → edit (xs ++ ys) ≡ xs ++ edit ys
-  pub front : (xs ys : List Entry) → AllAbove (part, key) ys → edit (xs ++ ys) ≡ edit xs ++ ys
+  pub front : (ys : List Entry) → AllAbove (part, key) ys → edit (xs ++ ys) ≡ edit xs ++ ys
   pub places : (P : Place → Type 0) (es : List Entry) → AllByRecursion (λ e. P (place_of e)) es →
       AllByRecursion (λ e. P (place_of e)) (edit es)
   pub rising : (es : List Entry) → IsRising es → IsRising (edit es)
@@ -88,47 +90,14 @@ module _ (part : ℕ) (key : OrderedKey) where
 
   -- ---- taking out
 
-  remove_entry-back : (xs ys : List Entry) → AllBelow p xs → remove_entry (xs ++ ys) part key ≡ xs ++
-      remove_entry ys part key
-  remove_entry-back [] ys b = refl
-  remove_entry-back (e ∷ xs) ys b = rw b.0 (ap (λ l. e ∷ l) (remove_entry-back xs ys b.1))
-
-  remove_none : (ys : List Entry) → AllAbove p ys → remove_entry ys part key ≡ ys
-  remove_none [] a = refl
-  remove_none (y ∷ ys) a = rw a.0 (ap (λ l. y ∷ l) (remove_none ys a.1))
-
-  remove_entry-front : (xs ys : List Entry) → AllAbove p ys → remove_entry (xs ++ ys) part key ≡ remove_entry xs part
-      key ++ ys
-  remove_entry-front [] ys a = remove_none ys a
-  remove_entry-front (e ∷ xs) ys a =
-      elim (is_eq (place_cmp (place_of e) p)) as (λ b. (if b then xs ++ ys else e ∷ remove_entry (xs ++ ys) part key) ≡
-      ((if b then xs else e ∷ remove_entry xs part key) ++ ys))
-      [ true ↦ refl | false ↦ ap (λ l. e ∷ l) (remove_entry-front xs ys a) ]
-
-  all_remove : (P : Entry → Type 0) (es : List Entry) → AllByRecursion P es →
-      AllByRecursion P (remove_entry es part key)
-  all_remove P [] a = tt
-  all_remove P (e ∷ es) a =
-      elim (is_eq (place_cmp (place_of e) p)) as (λ b. AllByRecursion P
-      (if b then es else e ∷ remove_entry es part key)) [ true ↦ a.1 | false ↦ (a.0, all_remove P es a.1) ]
-
-  rising_removed : (es : List Entry) → IsRising es → IsRising (remove_entry es part key)
-  rising_removed [] r = tt
-  rising_removed (e ∷ es) r =
-      elim (is_eq (place_cmp (place_of e) p)) as (λ b. IsRising (if b then es else e ∷ remove_entry es part key)) [
-        | true ↦ r.1
-        | false ↦ (
-          all_remove (λ f. place_cmp (place_of e) (place_of f) ≡ Less) es r.0,
-          rising_removed es r.1,
-        )
-      ]
-
-  pub removing : IsEditAt part key (λ es. remove_entry es part key)
-  removing = record {
-    back = remove_entry-back;
-    front = remove_entry-front;
-    places = (λ P es a. all_remove (λ e. P (place_of e)) es a);
-    rising = rising_removed;
+  -- of a list in which so many were there to be taken out
+  pub removing : (n : ℕ) (xs xs' : List Entry) → IsSome (find xs part key) → xs' ≡ remove_from xs part key n →
+      length xs' + n ≡ length xs → IsEditAt part key (λ es. remove_from es part key n) xs
+  removing n xs xs' there gone all = record {
+    back = (λ xs ys below. remove_from-back part key xs ys n below);
+    front = (λ ys above. remove_from-front part key xs ys n there (ap (λ l. length l + n) (sym gone) ∙ all));
+    places = (λ P es a. all_remove_from part key (λ e. P (place_of e)) es n a);
+    rising = (λ es rise. rising_remove_from part key es n rise);
   }
 
   -- ---- writing over
@@ -168,10 +137,10 @@ module _ (part : ℕ) (key : OrderedKey) where
         (if b then record e { value = value; is_ghost = is_ghost } ∷ es else e ∷ written es))
         [ true ↦ r | false ↦ (places_written (λ q. place_cmp (place_of e) q ≡ Less) es r.0, rising_written es r.1) ]
 
-    pub writing : IsEditAt part key written
-    writing = record {
+    pub writing : (xs : List Entry) → IsEditAt part key written xs
+    writing xs = record {
       back = set_entry-back;
-      front = set_entry-front;
+      front = set_entry-front xs;
       places = places_written;
       rising = rising_written;
     }
@@ -185,7 +154,7 @@ module _ (part : ℕ) (key : OrderedKey) where
 
   -- ---- any edit below a child
 
-  module _ (edit : List Entry → List Entry) (is : IsEditAt part key edit) where
+  module _ (edit : List Entry → List Entry) {edited : List Entry} (is : IsEditAt part key edit edited) where
     parted_set : (i : ℕ) (ls : List Separator) (ks : List Shape) (k k' : Shape) → AreParted ls ks → i < length ls →
         k ≡ get_or ks i k → k'.entries ≡ edit k.entries → AreParted ls (set ks i k')
     parted_set i [] ks k k' a lt here h = absurd (omega arith)
@@ -206,22 +175,41 @@ module _ (part : ℕ) (key : OrderedKey) where
         k ≡ get_or ks i k
         → (i ≡ 0) ⊎ ((d : Separator) → place_cmp (separator_place (get_or ls i d)) p ≢ Greater)
         → AllByRecursion (λ l. place_cmp (separator_place l) p ≡ Greater) (drop (suc i) ls)
-        → k'.entries ≡ edit k.entries → all_entries (set ks i k') ≡ edit (all_entries ks)
-    entries_edited [] ks i k k' a lt here reached above h = absurd (omega arith)
-    entries_edited (l ∷ ls) [] i k k' a lt here reached above h = absurd (omega (arith, a))
-    entries_edited (l ∷ ls) (c ∷ ks) zero k k' a lt here reached above h =
-        ap (λ es. es ++ all_entries ks) h ∙ ap (λ (s : Shape). edit s.entries ++ all_entries ks) here ∙
-        sym (is.front c.entries (all_entries ks) (children_above p ls ks a.2 above))
-    entries_edited (l ∷ ls) (c ∷ ks) (suc j) k k' a lt here (inl none) above h = absurd (omega arith)
-    entries_edited (l ∷ ls) (c ∷ ks) (suc j) k k' a lt here (inr reached) above h =
+        → edited ≡ k.entries → k'.entries ≡ edit k.entries → all_entries (set ks i k') ≡ edit (all_entries ks)
+    entries_edited [] ks i k k' a lt here reached above at h = absurd (omega arith)
+    entries_edited (l ∷ ls) [] i k k' a lt here reached above at h = absurd (omega (arith, a))
+    entries_edited (l ∷ ls) (c ∷ ks) zero k k' a lt here reached above at h =
+        ap (λ es. es ++ all_entries ks) (h ∙ ap edit (sym at)) ∙
+        sym (is.front (all_entries ks) (children_above p ls ks a.2 above)) ∙
+        ap (λ es. edit (es ++ all_entries ks)) at ∙ ap (λ (s : Shape). edit (s.entries ++ all_entries ks)) here
+    entries_edited (l ∷ ls) (c ∷ ks) (suc j) k k' a lt here (inl none) above at h = absurd (omega arith)
+    entries_edited (l ∷ ls) (c ∷ ks) (suc j) k k' a lt here (inr reached) above at h =
         let later = AllByRecursion-at (λ n. AllBelow (separator_place n) c.entries) ls j l a.1 (omega arith) in
-        ap (λ es. c.entries ++ es) (entries_edited ls ks j k k' a.2 (omega arith) here (inr reached) above h)
+        ap (λ es. c.entries ++ es) (entries_edited ls ks j k k' a.2 (omega arith) here (inr reached) above at h)
         ∙ sym (is.back c.entries (all_entries ks) (all_below_through (separator_place (get_or ls j l)) p c.entries later
         (reached l)))
 
+    -- as many entries fewer as the child has
+    fewer_set : (ks : List Shape) (i : ℕ) (k k' : Shape) (n : ℕ) → i < length ks → k ≡ get_or ks i k →
+        length k'.entries + n ≡ length k.entries → length (all_entries (set ks i k')) + n ≡ length (all_entries ks)
+    fewer_set [] i k k' n lt here h = absurd (omega arith)
+    fewer_set (c ∷ ks) zero k k' n lt here h = omega (
+      arith,
+      length-append k'.entries (all_entries ks),
+      length-append c.entries (all_entries ks),
+      ap (λ (s : Shape). length s.entries) here,
+      h,
+    )
+    fewer_set (c ∷ ks) (suc i) k k' n lt here h = omega (
+      arith,
+      length-append c.entries (all_entries (set ks i k')),
+      length-append c.entries (all_entries ks),
+      fewer_set ks i k k' n (omega arith) here h,
+    )
+
     module _ (d : ℕ) (ls : List Separator) (ks : List Shape) (i : ℕ) (k k' : Shape) (c : AreChildren d ls ks)
         (child : IsChildFor ls part key i) (here : k ≡ get_or ks i k) (deep : k'.depth ≡ k.depth)
-        (h : k'.entries ≡ edit k.entries) where
+        (at : edited ≡ k.entries) (h : k'.entries ≡ edit k.entries) where
       inside : i < length ks
       inside = omega (arith, child.in_range, parted_lengths ls ks c.parted)
 
@@ -235,7 +223,8 @@ module _ (part : ℕ) (key : OrderedKey) where
       kept_depth = depth_level d (set ks i k') (omega (arith, inside, length-set ks i k')) level_kept
 
       pub kept_entries : all_entries (set ks i k') ≡ edit (all_entries ks)
-      kept_entries = entries_edited ls ks i k k' c.parted child.in_range here child.reached child.above h
+      kept_entries = entries_edited ls ks i k k' c.parted child.in_range here child.reached child.above at
+          h
 
       pub kept_children : (1 < length ks → 0 < length k'.entries) → AreChildren d ls (set ks i k')
       kept_children f = record {
@@ -253,6 +242,10 @@ module _ (part : ℕ) (key : OrderedKey) where
           inner_with d ls (set ks i k') ls (set ks i k') rl rk refl refl (kept_children f) (omega (arith, inside))
           (omega (arith, most)) room
 
+      pub kept_fewer : (n : ℕ) → length k'.entries + n ≡ length k.entries →
+          length (all_entries (set ks i k')) + n ≡ length (all_entries ks)
+      kept_fewer n fewer = fewer_set ks i k k' n inside here fewer
+
       pub kept_some : 0 < length k'.entries → 0 < length (all_entries (set ks i k'))
       kept_some some = some_set ks i k' inside some
 
@@ -262,6 +255,10 @@ module _ (part : ℕ) (key : OrderedKey) where
       module _ (more : 1 < length ks) (empty : k'.entries ≡ []) where
         pub left_entries : all_entries (remove (set ks i k') i) ≡ edit (all_entries ks)
         left_entries = hollow_out i ks k' empty ∙ kept_entries
+
+        pub left_fewer : (n : ℕ) → length k'.entries + n ≡ length k.entries →
+            length (all_entries (remove (set ks i k') i)) + n ≡ length (all_entries ks)
+        left_fewer n fewer = ap (λ es. length es + n) (hollow_out i ks k' empty) ∙ kept_fewer n fewer
 
         pub left_filled : AllByRecursion (λ (j : Shape). 0 < length j.entries) (remove (set ks i k') i)
         left_filled = subst (AllByRecursion (λ (j : Shape). 0 < length j.entries)) (sym (remove_set ks i k'))

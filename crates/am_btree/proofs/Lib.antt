@@ -1,6 +1,7 @@
 pub mod Appended
 pub mod Children
 pub mod Crosses
+pub mod Cutting
 pub mod Halving
 pub mod LeafSplit
 pub mod Growing

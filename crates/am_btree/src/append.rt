@@ -36,7 +36,7 @@ impl Subtree {
                 value,
                 is_ghost: false,
             };
-            if self.insert(alloc, entry).is_err() {
+            if self.insert(alloc, &entry).is_err() {
                 break;
             }
             added += 1;
@@ -47,7 +47,7 @@ impl Subtree {
         }
         'take: while added > 0 {
             added -= 1;
-            self.remove(part, pairs[added].0);
+            self.remove(part, pairs[added].0, 1);
         }
         self.collapse();
         Err(NoMemory)

@@ -1,7 +1,6 @@
 //! The tree as an index.
 
-ghost use Rattle.std.specs.Prelude.{◌≡◌, ◌<◌, ◌^◌, [], IfOk, OnErr, is_none, if◌then◌else◌};
-ghost use Rattle.am_list.specs.Entries.{find, insert_entry};
+ghost use Rattle.std.specs.Prelude.{◌≡◌, ◌<◌, ◌^◌, [], IfOk};
 ghost use Rattle.am_list.specs.Places.{only_of};
 
 use crate::insert::Obstacle;
@@ -58,24 +57,6 @@ impl BTree {
     {
         self.depth_at(0, Key::least())
     }
-
-    /// Adds an entry, unless its place is taken, and says whether it did. It goes down once, where
-    /// to find and then to insert is to go down twice.
-    ///
-    /// # Errors
-    /// NoMemory, where memory was refused; nothing is changed.
-    pub fn insert_new(&mut self, entry: Entry) -> Result<bool, NoMemory>
-        ensures new { IfOk result (λ is_new. is_new ≡ is_none (find self.old.entries entry.part entry.key)) }
-        ensures entries { IfOk result (λ is_new. self.new.entries ≡
-            (if is_new then insert_entry self.old.entries entry else self.old.entries)) }
-        ensures err { OnErr result (self.new ≡ self.old) }
-    {
-        match self.root.insert(self.alloc, entry) {
-            Ok(()) => Ok(true),
-            Err(Obstacle::Taken) => Ok(false),
-            Err(Obstacle::NoMemory) => Err(NoMemory),
-        }
-    }
 }
 
 impl PartIndex for BTree {
@@ -120,10 +101,24 @@ impl PartIndex for BTree {
     }
 
     fn insert(&mut self, entry: Entry) -> Result<(), NoMemory> {
-        match self.root.insert(self.alloc, entry) {
+        match self.root.insert(self.alloc, &entry) {
             Ok(()) => Ok(()),
             Err(Obstacle::NoMemory) => Err(NoMemory),
             Err(Obstacle::Taken) => unreachable!(),
+        }
+    }
+
+    fn insert_new(&mut self, entry: Entry) -> Result<bool, NoMemory> {
+        match self.root.insert(self.alloc, &entry) {
+            Ok(()) => Ok(true),
+            Err(Obstacle::Taken) => Ok(false),
+            Err(Obstacle::NoMemory) => {
+                // Memory for a leaf may be asked before its places are looked at.
+                if self.root.find(entry.part, entry.key).is_some() {
+                    return Ok(false);
+                }
+                Err(NoMemory)
+            }
         }
     }
 
@@ -136,9 +131,15 @@ impl PartIndex for BTree {
     }
 
     fn remove(&mut self, part: u32, key: Key) -> Entry {
-        let removed = self.root.remove(part, key);
+        let removed = self.root.remove(part, key, 1);
         self.root.collapse();
         removed.entry
+    }
+
+    fn remove_from(&mut self, part: u32, key: Key, most: usize) -> usize {
+        let removed = self.root.remove(part, key, most);
+        self.root.collapse();
+        removed.count
     }
 }
 

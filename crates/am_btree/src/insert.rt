@@ -60,17 +60,17 @@ pub(crate) struct Split {
 
 impl Subtree {
     /// Adds an entry, unless its place is taken. Where the topmost node is split, a new one comes above it.
-    pub(crate) fn insert(&mut self, alloc: Global, entry: Entry) -> Result<(), Obstacle>
-        ensures ok { OnOk result (self.new.entries ≡ insert_entry self.old.entries entry) }
-        ensures absent { OnOk result (find self.old.entries entry.part entry.key ≡ None) }
-        ensures taken { IsErrOf result Obstacle.Taken → IsSome (find self.old.entries entry.part entry.key) }
+    pub(crate) fn insert(&mut self, alloc: Global, entry: &Entry) -> Result<(), Obstacle>
+        ensures ok { OnOk result (self.new.entries ≡ insert_entry self.old.entries entry.now) }
+        ensures absent { OnOk result (find self.old.entries entry.now.part entry.now.key ≡ None) }
+        ensures taken { IsErrOf result Obstacle.Taken → IsSome (find self.old.entries entry.now.part entry.now.key) }
         ensures depth { OnOk result ((self.old.depth ≤ self.new.depth) × (self.new.depth ≤ self.old.depth + 1)) }
         ensures err { OnErr result (self.new ≡ self.old) }
     {
         // Read here, the node's invariant is known before it is changed.
         let _ = &self.node;
         // A topmost node that is split wants room for the one above it.
-        let Some(split) = self.insert_below(alloc, entry, true, 1)? else {
+        let Some(split) = self.insert_below(alloc, entry, 1)? else {
             return Ok(());
         };
         let Split {
@@ -106,29 +106,27 @@ impl Subtree {
     fn insert_below(
         &mut self,
         alloc: Global,
-        entry: Entry,
-        last: bool,
+        entry: &Entry,
         wanted: usize,
     ) -> Result<Option<Split>, Obstacle>
-        ensures ok { IfOk result (Grows self.old self.new entry wanted) }
-        ensures absent { OnOk result (find self.old.entries entry.part entry.key ≡ None) }
-        ensures taken { IsErrOf result Obstacle.Taken → IsSome (find self.old.entries entry.part entry.key) }
+        ensures ok { IfOk result (Grows self.old self.new entry.now wanted) }
+        ensures absent { OnOk result (find self.old.entries entry.now.part entry.now.key ≡ None) }
+        ensures taken { IsErrOf result Obstacle.Taken → IsSome (find self.old.entries entry.now.part entry.now.key) }
         ensures err { OnErr result (self.new ≡ self.old) }
     {
         match &mut self.node {
-            Node::Leaf(leaf) => insert_in_leaf(alloc, leaf, entry, last, wanted),
+            Node::Leaf(leaf) => insert_in_leaf(alloc, leaf, entry, wanted),
             Node::Inner(separators, children) => {
                 let more = wanted_below(children.len(), wanted)?;
                 let reach = reached(separators, entry.part, entry.key);
                 let at = reach.saturating_sub(1);
-                let last_child = last && at + 1 == children.len();
                 let child = &mut children[at];
-                let grown = child.insert_below(alloc, entry, last_child, more)?;
-                lower(separators, reach, &entry);
+                let grown = child.insert_below(alloc, entry, more)?;
+                lower(separators, reach, entry);
                 let Some(split) = grown else {
                     return Ok(None);
                 };
-                Ok(add_child(separators, children, at + 1, split, last))
+                Ok(add_child(separators, children, at + 1, split))
             }
         }
     }
@@ -151,14 +149,13 @@ fn wanted_below(len: usize, wanted: usize) -> Result<usize, NoMemory>
 fn insert_in_leaf(
     alloc: Global,
     leaf: &mut RawLeaf,
-    entry: Entry,
-    last: bool,
+    entry: &Entry,
     wanted: usize,
 ) -> Result<Option<Split>, Obstacle>
     requires wide { 64 ≤ leaf.old.value_room }
-    ensures ok { IfOk result (Grows (leaf_shape leaf.old.entries) (leaf_shape leaf.new.entries) entry wanted) }
-    ensures absent { OnOk result (find leaf.old.entries entry.part entry.key ≡ None) }
-    ensures taken { IsErrOf result Obstacle.Taken → IsSome (find leaf.old.entries entry.part entry.key) }
+    ensures ok { IfOk result (Grows (leaf_shape leaf.old.entries) (leaf_shape leaf.new.entries) entry.now wanted) }
+    ensures absent { OnOk result (find leaf.old.entries entry.now.part entry.now.key ≡ None) }
+    ensures taken { IsErrOf result Obstacle.Taken → IsSome (find leaf.old.entries entry.now.part entry.now.key) }
     ensures err { OnErr result (leaf.new.entries ≡ leaf.old.entries) }
     ensures most { length leaf.new.entries ≤ 32 }
     ensures rising { IsRising leaf.new.entries }
@@ -166,22 +163,21 @@ fn insert_in_leaf(
 {
     prove!(leaf.len() <= 32);
     leaf.widen(alloc, entry.key.bytes().len(), entry.value.len())?;
-    insert_fitting(alloc, leaf, entry, last, wanted)
+    insert_fitting(alloc, leaf, entry, wanted)
 }
 
 // Adds an entry that has room to a leaf, unless its place is taken. The leaf is split where it is full.
 fn insert_fitting(
     alloc: Global,
     leaf: &mut RawLeaf,
-    entry: Entry,
-    last: bool,
+    entry: &Entry,
     wanted: usize,
 ) -> Result<Option<Split>, Obstacle>
     requires wide { 64 ≤ leaf.old.value_room }
-    requires fits { Fits leaf.old (length (bytes_of entry.key)) (length entry.value) }
-    ensures ok { IfOk result (Grows (leaf_shape leaf.old.entries) (leaf_shape leaf.new.entries) entry wanted) }
-    ensures absent { OnOk result (find leaf.old.entries entry.part entry.key ≡ None) }
-    ensures taken { IsErrOf result Obstacle.Taken → IsSome (find leaf.old.entries entry.part entry.key) }
+    requires fits { Fits leaf.old (length (bytes_of entry.now.key)) (length entry.now.value) }
+    ensures ok { IfOk result (Grows (leaf_shape leaf.old.entries) (leaf_shape leaf.new.entries) entry.now wanted) }
+    ensures absent { OnOk result (find leaf.old.entries entry.now.part entry.now.key ≡ None) }
+    ensures taken { IsErrOf result Obstacle.Taken → IsSome (find leaf.old.entries entry.now.part entry.now.key) }
     ensures err { OnErr result (leaf.new.entries ≡ leaf.old.entries) }
     ensures most { length leaf.new.entries ≤ 32 }
     ensures rising { IsRising leaf.new.entries }
@@ -192,12 +188,12 @@ fn insert_fitting(
         return Err(Obstacle::Taken);
     };
     if len < ROOM {
-        leaf.insert_at(at, entry);
+        leaf.insert_at(at, *entry);
         return Ok(None);
     }
     let mut upper = leaf.new_like(alloc)?;
     let spares = spares(alloc, wanted)?;
-    split_insert(leaf, keep_of(last, at), at, entry, &mut upper);
+    split_insert(leaf, keep_of(at), at, entry, &mut upper);
     let separator = Separator::of(&upper.get(0));
     let right = Subtree {
         node: Node::Leaf(upper),
@@ -210,24 +206,24 @@ fn insert_fitting(
 }
 
 // Puts an entry at the index of a full leaf, the upper part of which is moved to an empty one.
-fn split_insert(leaf: &mut RawLeaf, keep: usize, at: usize, entry: Entry, upper: &mut RawLeaf)
+fn split_insert(leaf: &mut RawLeaf, keep: usize, at: usize, entry: &Entry, upper: &mut RawLeaf)
     requires full { length leaf.old.entries ≡ 32 }
-    requires place { IsGapFor leaf.old.entries entry.part entry.key at }
+    requires place { IsGapFor leaf.old.entries entry.now.part entry.now.key at }
     requires keeps { (0 < keep) × (keep ≤ 32) }
     requires room { at < keep → keep < 32 }
     requires empty { upper.old.entries ≡ [] }
     requires alike { SameRoom upper.old leaf.old }
-    requires fits { Fits leaf.old (length (bytes_of entry.key)) (length entry.value) }
-    ensures front { leaf.new.entries ≡ take (lower_size keep at) (insert leaf.old.entries at entry) }
-    ensures back { upper.new.entries ≡ drop (lower_size keep at) (insert leaf.old.entries at entry) }
+    requires fits { Fits leaf.old (length (bytes_of entry.now.key)) (length entry.now.value) }
+    ensures front { leaf.new.entries ≡ take (lower_size keep at) (insert leaf.old.entries at entry.now) }
+    ensures back { upper.new.entries ≡ drop (lower_size keep at) (insert leaf.old.entries at entry.now) }
     ensures room { leaf.new.value_room ≡ leaf.old.value_room }
     ensures upper_room { upper.new.value_room ≡ leaf.old.value_room }
 {
     leaf.split_into(upper, keep);
     if at < keep {
-        leaf.insert_at(at, entry);
+        leaf.insert_at(at, *entry);
     } else {
-        upper.insert_at(at - keep, entry);
+        upper.insert_at(at - keep, *entry);
     }
 }
 
@@ -238,7 +234,6 @@ fn add_child(
     children: &mut Vec<Subtree>,
     at: usize,
     split: Split,
-    last: bool,
 ) -> Option<Split>
     requires children { AreFilledChildren (depth_of children.old.items)
         (insert separators.old.items at split.separator) (insert children.old.items at split.right) }
@@ -268,7 +263,7 @@ fn add_child(
     };
     let mut upper_separators = spare.separators;
     let mut upper_children = spare.children;
-    let keep = keep_of(last, at);
+    let keep = keep_of(at);
     split_put(separators, keep, at, separator, &mut upper_separators);
     split_put(children, keep, at, right, &mut upper_children);
     let first = upper_separators[0];

@@ -2,10 +2,11 @@
 //! the key), as an index of entries.
 //!
 //! A leaf has at most 32 entries and an inner node at most 32 children, and all leaves stand at one
-//! depth. A full node is halved, but for the last nodes of the tree: where these grow at their end,
-//! as in a load, they stay full and new ones begin. A node that became empty is freed, and so is a
-//! topmost node with one child; nodes that are only sparse are not merged. An insert gets all new
-//! nodes before it changes anything, and nothing else takes memory.
+//! depth. A full node is halved, but where what is new comes behind all that it has: then it stays
+//! full, and a node begins with what is new. So a load fills nodes, and so does whatever else comes
+//! in order. A node that became empty is freed, and so is a topmost node with one child; nodes that
+//! are only sparse are not merged. An insert gets all new nodes before it changes anything, and
+//! nothing else takes memory.
 #![tactic(auto)]
 
 mod append;

@@ -1,6 +1,6 @@
 //! Vectors whose room was got once.
 
-ghost use Rattle.std.specs.Prelude.{◌≡◌, ◌+◌, ◌<◌, ◌≤◌, ◌==◌, ◌&&◌, [], ◌++◌, length, take, drop, vec_len};
+ghost use Rattle.std.specs.Prelude.{◌≡◌, ◌+◌, ◌<◌, ◌≤◌, ◌==◌, [], ◌++◌, length, take, drop, vec_len};
 ghost use Rattle.std.specs.Prelude.{vec_capacity, IfOk, if◌then◌else◌};
 ghost use Rattle.std.specs.List.{insert, remove};
 ghost use Rattle.am_btree.specs.Splits.{lower_size};
@@ -56,15 +56,15 @@ pub(crate) fn move_tail<T: Drop>(from: &mut Vec<T>, at: usize, to: &mut Vec<T>)
     to.reverse();
 }
 
-/// How many of a full node's values stay, where a new one comes to the index. Where the tree's last
-/// node grows at its end, all of them do.
-pub(crate) fn keep_of(last: bool, at: usize) -> usize
+/// How many of a full node's values stay, where a new one comes to the index. Where it comes behind them, all do: so
+/// what comes in order fills nodes, wherever in the tree it goes.
+pub(crate) fn keep_of(at: usize) -> usize
     requires { at ≤ 32 }
-    ensures size { result ≡ (if last && at == 32 then 32 else 16) }
+    ensures size { result ≡ (if at == 32 then 32 else 16) }
     ensures keeps { (0 < result) × (result ≤ 32) }
     ensures room { at < result → result < 32 }
 {
-    if last && at == ROOM { ROOM } else { ROOM / 2 }
+    if at == ROOM { ROOM } else { ROOM / 2 }
 }
 
 /// Puts a value at the index of a full vector, the upper part of which is moved to an empty one.

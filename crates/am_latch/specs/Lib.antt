@@ -6,6 +6,7 @@ pub mod Faults
 pub mod Handed
 pub mod HandedFields
 pub mod Receipts
+pub mod Sizes
 pub mod Tables
 pub mod Taken
 pub mod Ties

@@ -4,6 +4,7 @@ ghost use Rattle.am_sound.specs.Right.{IsSoundStore};
 ghost use Rattle.am_latch.specs.Receipts.{numbered};
 ghost use Rattle.am_latch.specs.Faults.{IsBadSeats};
 ghost use Rattle.am_latch.specs.Ties.{IsEngineOf, HasReceiptsIn};
+ghost use Rattle.am_latch.specs.Sizes.{AreFiguresUnder};
 ghost use Rattle.am_latch.specs.Traces.{EngineState, IsNextOf};
 
 use crate::engine::{Engine, Piece};
@@ -14,11 +15,12 @@ use crate::taken::{TakenTable, TakenToken, split_taker};
 use crate::taker::Taker;
 use crate::view_steps::{end_minting, mint_seat};
 use crate::views::{Token, ViewTable};
+use am_parts::Figures;
 use am_record::HashKey;
 use std::alloc::Global;
 use std::marker::{Model, PhantomData};
 use std::sync::{Mutex, MutexGuard, Wait};
-use std::thread;
+use std::{hint, thread};
 use thiserror::Error;
 
 /// The most seats of a latch.
@@ -26,6 +28,9 @@ pub const MAX_SEATS: usize = 1024;
 
 /// How often a thread lets others run before it sleeps at the latch.
 const PATIENCE: u32 = 1000;
+
+/// How often it tries to get the latch before it lets others run.
+const TRIES: u32 = 100;
 
 /// Why there is no latch.
 #[derive(Clone, Copy, Debug, PartialEq, Eq, Error)]
@@ -156,17 +161,27 @@ impl<L: LatchName> Latch<L> {
         ))
     }
 
-    /// Takes the lock. A call holds it for some microseconds, and a thread that sleeps is woken much later than that:
-    /// among many threads each call would then wait for the next one to wake. So a thread lets others run first, and
-    /// sleeps only where that doesn't help.
+    /// Takes the lock. A call holds it for about a microsecond, and a thread that sleeps is woken much later than that:
+    /// among many threads each call would then wait for the next one to wake. So a thread tries for as long as a call
+    /// takes, then lets others run, of which one may hold the lock, and sleeps only where that doesn't help.
     pub(crate) fn lock<R: Wait>(&self, rt: &R) -> MutexGuard<'_, LatchState<L>> {
         for _ in 0..PATIENCE {
-            if let Some(state) = self.state.try_lock() {
+            if let Some(state) = self.try_briefly() {
                 return state;
             }
             thread::yield_now();
         }
         self.state.lock(rt)
+    }
+
+    fn try_briefly(&self) -> Option<MutexGuard<'_, LatchState<L>>> {
+        for _ in 0..TRIES {
+            if let Some(state) = self.state.try_lock() {
+                return Some(state);
+            }
+            hint::spin_loop();
+        }
+        None
     }
 
     /// Lends the engine to the closure, which has the latch to itself meanwhile, and answers what it answers of that
@@ -179,6 +194,13 @@ impl<L: LatchName> Latch<L> {
         ensures same { seat.new ≡ seat.old }
     {
         lend(&self.table, &mut self.lock(rt), seat, f)
+    }
+
+    /// How large the store's index is.
+    pub fn figures<R: Wait>(&self, rt: &R) -> Figures
+        ensures { AreFiguresUnder L.seats result }
+    {
+        self.lock(rt).figures()
     }
 
     /// Hands out the stored calls that are kept, which are the oldest that weren't handed out before, or nothing where

@@ -9,6 +9,7 @@ ghost use Rattle.am_latch.specs.Changes.{IsBoundedReply};
 ghost use Rattle.am_latch.specs.Copies.{IsCopyOf};
 ghost use Rattle.am_latch.specs.Traces.{CallLog, EngineState, log_of, empty_log, StoresCall, AreMadeBelow, IsNextOf};
 ghost use Rattle.am_latch.specs.Receipts.{receipt, receipts_of};
+ghost use Rattle.am_latch.specs.Sizes.{AreFiguresUnder};
 ghost use Rattle.am_latch.specs.Ties.{open_of, EndsTx, IsTied, IsEngineOf};
 ghost use Rattle.am_latch.specs.Taken.{handed_view};
 ghost use Rattle.am_latch.specs.Views.{trace_view, seat_view, IsSeatView};
@@ -23,6 +24,7 @@ use crate::taken::{TakenTable, TakenToken, TakenView, hand_over};
 use crate::taker::Taker;
 use crate::view_steps::{append_call, compare_receipts};
 use crate::views::{Token, View, ViewTable};
+use am_parts::Figures;
 use am_record::{Reply, Step};
 use atomic_table::Badge;
 use std::marker::{Model, PhantomData};
@@ -93,6 +95,13 @@ impl<L: LatchName> LatchState<L> {
         )
         .into_badge();
         piece
+    }
+
+    /// How large the store's index is.
+    pub(crate) fn figures(&self) -> Figures
+        ensures { AreFiguresUnder L.seats result }
+    {
+        self.engine.store().figures()
     }
 
     /// The seat has just the receipts of its calls in the trace.

@@ -9,5 +9,6 @@ pub mod WalkLaws
 pub mod ReadLaws
 pub mod Runs
 pub mod RunLaws
+pub mod Removals
 pub mod Rows
 mod RowLaws

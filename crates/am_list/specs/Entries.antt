@@ -1,5 +1,5 @@
 -- An index is seen as the list of its entries. These are the list's own operations.
-use Rattle.std.specs.Prelude.{◌≡◌, ℕ, Bool, ◌&&◌, ◌==◌, List, [], ◌∷◌, filter, Option, Some, None, if◌then◌else◌}
+use Rattle.std.specs.Prelude.{◌≡◌, ℕ, Bool, ◌&&◌, ◌==◌, List, [], ◌∷◌, filter, drop, Option, Some, None, if◌then◌else◌}
 use Rattle.std.specs.declared.cmp.Ordering.TheVariants.{Less}
 use Rattle.std.specs.Ordering.{is_eq, is_lt, is_gt, is_ge}
 use Rattle.std.specs.Option.{option_map}
@@ -72,3 +72,9 @@ set_entry (e ∷ es) part key value is_ghost = if is_eq (place_cmp (place_of e) 
 abbrev pub remove_entry : List Entry → ℕ → OrderedKey → List Entry
 remove_entry [] part key = []
 remove_entry (e ∷ es) part key = if is_eq (place_cmp (place_of e) (part, key)) then es else e ∷ remove_entry es part key
+
+-- the list without n entries: the one of that partition and key, and those that follow it
+abbrev pub remove_from : List Entry → ℕ → OrderedKey → ℕ → List Entry
+remove_from [] part key n = []
+remove_from (e ∷ es) part key n = if is_eq (place_cmp (place_of e) (part, key)) then drop n
+    (e ∷ es) else e ∷ remove_from es part key n

@@ -1,11 +1,11 @@
 //! What every index over partitions does.
 
-ghost use Rattle.std.specs.Prelude.{◌≡◌, ◌<◌, ◌≤◌, ◌++◌, List, length, take, Some, None, IsSome, OnOk, OnErr};
-ghost use Rattle.std.specs.Prelude.{is_some, vec_capacity};
+ghost use Rattle.std.specs.Prelude.{◌≡◌, ◌+◌, ◌<◌, ◌≤◌, ◌++◌, List, length, take, Some, None, IsSome, IfOk, OnOk};
+ghost use Rattle.std.specs.Prelude.{OnErr, is_some, is_none, vec_capacity, if◌then◌else◌};
 ghost use Rattle.std.specs.List.{AllByRecursion};
 ghost use Rattle.am_record.specs.declared.entry.Entry.{Entry};
 ghost use Rattle.am_list.specs.Entries.{find, next_any, next_ghost, next_from, after, all_from, all_after, entry_at};
-ghost use Rattle.am_list.specs.Entries.{insert_entry, set_entry, remove_entry, IsRising};
+ghost use Rattle.am_list.specs.Entries.{insert_entry, set_entry, remove_entry, remove_from, IsRising};
 ghost use Rattle.am_list.specs.Runs.{run_entries};
 ghost use Rattle.am_list.specs.Content.{rows_in, live_value};
 
@@ -86,6 +86,17 @@ pub trait PartIndex {
         ensures ok { OnOk result (entries self.new ≡ insert_entry (entries self.old) entry) }
         ensures err { OnErr result (entries self.new ≡ entries self.old) };
 
+    /// Adds an entry, unless its place is taken, and says whether it did.
+    ///
+    /// # Errors
+    /// NoMemory, where its place is free and memory was refused; the entries are as before.
+    fn insert_new(&mut self, entry: Entry) -> Result<bool, NoMemory>
+        ensures new { IfOk result (λ is_new. is_new ≡ is_none (find (entries self.old) entry.part entry.key)) }
+        ensures entries { IfOk result (λ is_new. entries self.new ≡
+            (if is_new then insert_entry (entries self.old) entry else entries self.old)) }
+        ensures err { OnErr result (entries self.new ≡ entries self.old) }
+        ensures free { OnErr result (find (entries self.old) entry.part entry.key ≡ None) };
+
     /// Appends a run: its records, all live, in a partition above those of all entries.
     ///
     /// # Errors
@@ -108,4 +119,14 @@ pub trait PartIndex {
         requires { IsSome (find (entries self.old) part key) }
         ensures entry { entry_at (entries self.old) part key ≡ Some result }
         ensures others { entries self.new ≡ remove_entry (entries self.old) part key };
+
+    /// Takes several entries out at once: one that the caller sees to is there, and those that follow it, `most` in all
+    /// or fewer. How many it took, at least that one. Which number is at hand depends on how the index keeps them.
+    fn remove_from(&mut self, part: u32, key: Key, most: usize) -> usize
+        requires present { IsSome (find (entries self.old) part key) }
+        requires some { 1 ≤ most }
+        ensures some { 1 ≤ result }
+        ensures most { result ≤ most }
+        ensures counted { length (entries self.new) + result ≡ length (entries self.old) }
+        ensures others { entries self.new ≡ remove_from (entries self.old) part key result };
 }

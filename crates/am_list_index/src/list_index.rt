@@ -165,6 +165,14 @@ impl PartIndex for ListIndex {
         Ok(())
     }
 
+    fn insert_new(&mut self, entry: Entry) -> Result<bool, NoMemory> {
+        let Err(at) = self.search(entry.part, entry.key) else {
+            return Ok(false);
+        };
+        self.items.insert(at, entry)?;
+        Ok(true)
+    }
+
     fn append_run(&mut self, part: u32, pairs: &[(Key, Value)]) -> Result<(), NoMemory> {
         push_run(&mut self.items, part, pairs)
     }
@@ -185,6 +193,12 @@ impl PartIndex for ListIndex {
             unreachable!()
         };
         self.items.remove(at)
+    }
+
+    // One at a time: this index is plain.
+    fn remove_from(&mut self, part: u32, key: Key, _most: usize) -> usize {
+        self.remove(part, key);
+        1
     }
 }
 

@@ -1,9 +1,9 @@
 //! An index to which some inserts are refused.
 
-ghost use Rattle.std.specs.Prelude.{◌≡◌, ◌<◌, ◌+◌, ◌-◌, ◌^◌, ◌++◌, min, Some, None};
-ghost use Rattle.std.specs.Prelude.{IsSome, is_some, IsErr, OnOk, OnErr};
+ghost use Rattle.std.specs.Prelude.{◌≡◌, ◌<◌, ◌≤◌, ◌+◌, ◌-◌, ◌^◌, ◌++◌, length, min, Some, None, if◌then◌else◌};
+ghost use Rattle.std.specs.Prelude.{IsSome, is_some, is_none, IsErr, IfOk, OnOk, OnErr};
 ghost use Rattle.std.specs.List.{AllByRecursion, Contains};
-ghost use Rattle.am_list.specs.Entries.{find, entry_at, insert_entry, set_entry, remove_entry, IsRising};
+ghost use Rattle.am_list.specs.Entries.{find, entry_at, insert_entry, set_entry, remove_entry, remove_from, IsRising};
 ghost use Rattle.am_list.specs.Content.{live_value};
 ghost use Rattle.am_list.specs.Runs.{run_entries};
 
@@ -102,6 +102,25 @@ impl<I: PartIndex + Drop> PartIndex for Tight<I> {
         self.index.insert(entry)
     }
 
+    fn insert_new(&mut self, entry: Entry) -> Result<bool, NoMemory>
+        ensures new { IfOk result (λ is_new. is_new ≡ is_none (find self.old.entries entry.part entry.key)) }
+        ensures entries { IfOk result (λ is_new. self.new.entries ≡
+            (if is_new then insert_entry self.old.entries entry else self.old.entries)) }
+        ensures err { OnErr result (self.new.entries ≡ self.old.entries) }
+        ensures free { OnErr result (find self.old.entries entry.part entry.key ≡ None) }
+        ensures counted { self.new.inserts ≡ (if is_none (find self.old.entries entry.part entry.key)
+            then min (self.old.inserts + 1) (2 ^ 64 - 1) else self.old.inserts) }
+        ensures same_refused { self.new.refused ≡ self.old.refused }
+        ensures refused { find self.old.entries entry.part entry.key ≡ None →
+            Contains self.old.refused self.new.inserts → IsErr result }
+    {
+        if self.index.find(entry.part, entry.key).is_some() {
+            return Ok(false);
+        }
+        self.insert(entry)?;
+        Ok(true)
+    }
+
     fn append_run(&mut self, part: u32, pairs: &[(Key, Value)]) -> Result<(), NoMemory>
         requires above { AllByRecursion (λ e. e.part < part) self.old.entries }
         requires rising { IsRising (run_entries part pairs.now) }
@@ -136,5 +155,18 @@ impl<I: PartIndex + Drop> PartIndex for Tight<I> {
         ensures same_refused { self.new.refused ≡ self.old.refused }
     {
         self.index.remove(part, key)
+    }
+
+    fn remove_from(&mut self, part: u32, key: Key, most: usize) -> usize
+        requires present { IsSome (find self.old.entries part key) }
+        requires some { 1 ≤ most }
+        ensures some { 1 ≤ result }
+        ensures most { result ≤ most }
+        ensures counted { length self.new.entries + result ≡ length self.old.entries }
+        ensures others { self.new.entries ≡ remove_from self.old.entries part key result }
+        ensures no_insert { self.new.inserts ≡ self.old.inserts }
+        ensures same_refused { self.new.refused ≡ self.old.refused }
+    {
+        self.index.remove_from(part, key, most)
     }
 }

@@ -1,5 +1,5 @@
 -- What a server leaves, and what its sessions leave of their seats.
-use Rattle.std.specs.Prelude.{◌≡◌, ◌⊎◌, ℕ, zero, suc, ◌+◌, ◌≤◌, List, [], ◌++◌, map, min, length, All}
+use Rattle.std.specs.Prelude.{◌≡◌, ◌⊎◌, ℕ, zero, suc, ◌≤◌, List, [], ◌++◌, map, length, All}
 use Rattle.am_serial.specs.Trace.{Trace}
 use Rattle.am_sound.specs.Right.{IsSoundStore}
 use Rattle.am_serial.specs.Legal.{IsLegal}
@@ -12,6 +12,7 @@ use Rattle.am_seating.specs.SessionSeats.{SessionSeatState, IsNumbered, seat_mea
 use Rattle.am_workers.specs.Turns.{AreOfTurns, HasTakenTurns}
 use Rattle.am_workers.specs.declared.upkeep.Upkeep.{Upkeep}
 use Rattle.am_workers.specs.declared.upkeep.Upkeep.TheVariants.{MergeOnly, MergeAndClean}
+use Rattle.am_listen.specs.Events.{add_count}
 use Rattle.am_listen.specs.declared.mode.Mode.{Mode}
 use Rattle.am_listen.specs.declared.mode.Mode.TheVariants.{Bounded, Staying}
 use Rattle.am_listen.specs.declared.server_run.ServerRun.{ServerRun}
@@ -64,6 +65,7 @@ pub record HasServedInTurn (most : ℕ) (p q : SessionSeatState) : Type 0 where
   pub few : sessions ≤ most
   pub served : ServedInTurn p sessions q
 
+-- a seat that had no receipt, and at which sessions were served one after another since then, so many at most
 pub record IsOfSessions (most : ℕ) (q : SessionSeatState) : Type 0 where
   pub first : SessionSeatState
   pub new : HasNewSeat first
@@ -101,10 +103,6 @@ HasWorked mode s t = HasTakenTurns (upkeep_of mode) 16 (most_turns mode) s t
 -- a worker's turns were taken there, and nothing else
 abbrev pub IsOfWorker : Mode → SeatState → Type 0
 IsOfWorker mode s = AreOfTurns (upkeep_of mode) 16 (most_turns mode) s.receipts
-
--- a count of so many more, as far as 64 bits go
-abbrev pub add_count : ℕ → ℕ → ℕ
-add_count n more = min 18446744073709551615 (n + more)
 
 -- A trace was passed on from the first, in its order, and counted, and it is that of these seats (`IsRunOf`: sound,
 -- legal, with so many commits, each receipt in it).

@@ -1,7 +1,8 @@
 //! What a server counts.
 
 use crate::events::EventCounts;
-use std::sync::atomic::{AtomicU64, Ordering};
+use am_parts::Figures;
+use std::sync::atomic::{AtomicI32, AtomicU64, Ordering};
 
 /// A count that many threads add to.
 #[derive(Drop)]
@@ -26,7 +27,9 @@ impl Count {
 pub(crate) struct Tally {
     pub(crate) begun: Count,
     pub(crate) ended: Count,
-    pub(crate) refused_by_system: Count,
+    refused_by_system: Count,
+    // The number that the system gave with the first refusal, or 0.
+    first_refusal: AtomicI32,
 }
 
 impl Tally {
@@ -35,7 +38,16 @@ impl Tally {
             begun: Count::new(),
             ended: Count::new(),
             refused_by_system: Count::new(),
+            first_refusal: AtomicI32::new(0),
         }
+    }
+
+    /// The system refused to accept a connection, with this number of its own.
+    pub(crate) fn note_refusal(&self, number: Option<i32>) {
+        let _ = self
+            .first_refusal
+            .compare_exchange(0, number.unwrap_or(0), Ordering::SeqCst, Ordering::SeqCst);
+        self.refused_by_system.add();
     }
 
     /// Whether no connection was refused by the system.
@@ -43,15 +55,17 @@ impl Tally {
         self.refused_by_system.get() == 0
     }
 
-    /// The counts as they are, beside those of the trace.
-    pub(crate) fn counts(&self, trace: TraceCounts, is_cut: bool) -> Counts {
+    /// The counts as they are, beside those of the trace and of the index.
+    pub(crate) fn counts(&self, trace: TraceCounts, index: Figures, is_cut: bool) -> Counts {
         let ended = self.ended.get();
         let sessions = self.begun.get();
         Counts {
             sessions,
             open: sessions.saturating_sub(ended),
             trace,
+            index,
             refused_by_system: self.refused_by_system.get(),
+            first_refusal: self.first_refusal.load(Ordering::SeqCst),
             is_cut,
         }
     }
@@ -77,8 +91,12 @@ pub struct Counts {
     pub open: u64,
     /// What the trace is made of.
     pub trace: TraceCounts,
+    /// How large the index is.
+    pub index: Figures,
     /// How often the system refused to accept a connection.
     pub refused_by_system: u64,
+    /// The number that the system gave with the first of these, 0 where there was none.
+    pub first_refusal: i32,
     /// Whether some of the trace is lost.
     pub is_cut: bool,
 }

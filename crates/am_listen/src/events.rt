@@ -1,8 +1,8 @@
 //! How many events of a trace were commits, and how many were refused.
 
-ghost use Rattle.std.specs.Prelude.{◌≡◌};
-ghost use Rattle.am_listen.specs.Events.{is_commit, is_busy, is_too_many, is_wrong, count_events};
-ghost use Rattle.am_listen.specs.ServerRuns.{add_count};
+ghost use Rattle.std.specs.Prelude.{◌≡◌, []};
+ghost use Rattle.am_listen.specs.Events.{is_commit, is_busy, is_too_many, is_wrong, count_events, add_count};
+ghost use Rattle.am_listen.specs.Events.{AreCountsOf};
 
 use am_record::{Refusal, Reply, Step};
 
@@ -21,7 +21,9 @@ pub struct EventCounts {
 }
 
 impl EventCounts {
-    pub(crate) fn new() -> EventCounts {
+    pub(crate) fn new() -> EventCounts
+        ensures { AreCountsOf [] result }
+    {
         EventCounts {
             commits: 0,
             busy: 0,

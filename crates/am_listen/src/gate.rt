@@ -37,11 +37,11 @@ enum Deed<C: Drop> {
 }
 
 // What is done with what came.
-fn deed_for<C: Drop>(mode: Mode, came: Came<C>, is_closed: bool) -> Deed<C>
-    ensures { result ≡ deed_of mode came is_closed }
+fn deed_for<C: Drop>(mode: Mode, came: Came<C>, is_stopped: bool) -> Deed<C>
+    ensures { result ≡ deed_of mode came is_stopped }
 {
     match (mode, came) {
-        _ if is_closed => Deed::End,
+        _ if is_stopped => Deed::End,
         (_, Came::Connection(connection)) => Deed::Serve(connection),
         (Mode::Staying, Came::Failure) => Deed::TryAgain,
         (Mode::Bounded, Came::Failure) => Deed::End,
@@ -86,8 +86,8 @@ impl<'a> Gate<'a> {
     fn accept(&self, tally: &Tally) -> Came<TcpStream> {
         match self.door.accept() {
             Ok(stream) => Came::Connection(stream),
-            Err(_) => {
-                tally.refused_by_system.add();
+            Err(fault) => {
+                tally.note_refusal(fault.raw_os_error());
                 Came::Failure
             }
         }

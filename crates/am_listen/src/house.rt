@@ -1,6 +1,6 @@
 //! What the threads of a server share.
 
-ghost use Rattle.std.specs.Prelude.{◌≡◌, ◌≤◌, IfOk};
+ghost use Rattle.std.specs.Prelude.{◌≡◌, ◌≤◌, ◌*◌, nat_le, is_some, if◌then◌else◌, IfOk};
 
 use crate::connections::Connections;
 use crate::counts::Tally;
@@ -28,7 +28,7 @@ impl<'a> Doors<'a> {
     /// How many seats there are, where each door has so many.
     pub(crate) fn seats(self, sessions: u64) -> u64
         requires { sessions ≤ 256 }
-        ensures few { result ≤ 512 }
+        ensures { result ≡ (if is_some self.entry.socket then 2 * sessions else sessions) }
     {
         match self.socket {
             Some(_) => 2 * sessions,
@@ -53,6 +53,13 @@ pub(crate) struct House<'a> {
     is_stopped: &'a AtomicBool,
     // 0 until all sessions have ended.
     all_ended: AtomicU64,
+}
+
+// Whether the seat of this place has the socket: the first ones, so many, have the port.
+fn is_behind(seats: usize, place: usize) -> bool
+    ensures { result ≡ nat_le seats place }
+{
+    place >= seats
 }
 
 impl<'a> House<'a> {
@@ -87,10 +94,10 @@ impl<'a> House<'a> {
         })
     }
 
-    /// The gate at which the seat of this place waits: the first ones have the port, and the others the socket.
+    /// The gate at which the seat of this place waits.
     pub(crate) fn gate(&self, place: usize) -> &Mutex<Gate<'a>> {
         match &self.socket {
-            Some(socket) if place >= self.seats => socket,
+            Some(socket) if is_behind(self.seats, place) => socket,
             _ => &self.port,
         }
     }

@@ -1,6 +1,7 @@
 //! The thread that takes what the latch hands out.
 
-ghost use Rattle.std.specs.Prelude.{◌≡◌, IsSome};
+ghost use Rattle.std.specs.Prelude.{◌≡◌, [], length, IsSome};
+ghost use Rattle.am_listen.specs.Events.{add_count, AreCountsOf, AreTraceCountsOf};
 ghost use Rattle.am_listen.specs.Pieces.{HasTaken};
 ghost use Rattle.am_listen.specs.Stops.{is_over};
 
@@ -43,6 +44,8 @@ pub(crate) struct Keeper<L: LatchName, T: PieceTaker + Drop, V: Watcher + Drop> 
     // How many events were taken.
     pub(crate) events: u64,
     counts: EventCounts,
+    ghost numbered: { events ≡ add_count 0 (length taker) },
+    ghost counted: { AreCountsOf taker counts },
     watcher: V,
     // How long sessions may go on after a stop.
     grace: Option<Duration>,
@@ -56,6 +59,7 @@ impl<L: LatchName, T: PieceTaker + Drop, V: Watcher + Drop> Keeper<L, T, V> {
         watcher: V,
         grace: Option<Duration>,
     ) -> Keeper<L, T, V>
+        requires { taker ≡ [] }
         ensures { (result.taker ≡ taker) × (result.pieces ≡ pieces) × (result.events ≡ 0) }
     {
         Keeper {
@@ -95,17 +99,25 @@ impl<L: LatchName, T: PieceTaker + Drop, V: Watcher + Drop> Keeper<L, T, V> {
         ensures { HasTaken T.took self.old.taker self.old.pieces self.old.events self.new.taker self.new.pieces
             self.new.events }
     {
+        let index = latch.figures(rt);
         let piece = latch.hand_out(rt, &mut self.taker);
         self.pieces.take(&piece.trace);
         self.events = self.events.saturating_add(piece.trace.len() as u64);
         self.counts.add(&piece.trace);
-        let trace = TraceCounts {
-            events: self.events,
-            kept: piece.trace.len() as u64,
-            of: self.counts,
-        };
-        let counts = house.tally.counts(trace, self.pieces.is_cut());
+        let trace = self.trace_counts(piece.trace.len());
+        let counts = house.tally.counts(trace, index, self.pieces.is_cut());
         self.watcher.look(&counts, is_last);
+    }
+
+    // What all that was taken is made of, of which so many events came last.
+    fn trace_counts(&self, kept: usize) -> TraceCounts
+        ensures { AreTraceCountsOf self.now.taker kept result }
+    {
+        TraceCounts {
+            events: self.events,
+            kept: kept as u64,
+            of: self.counts,
+        }
     }
 
     // How long ago a stop was asked for. Its time is that of the first round that sees it.

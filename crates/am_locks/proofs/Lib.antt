@@ -8,6 +8,7 @@ pub mod Conflicts
 pub mod Apart
 pub mod AllLocks
 pub mod Places
+pub mod Numbers
 pub mod Least
 pub mod Laws
 pub mod FirstOwners

@@ -5,6 +5,10 @@ use Rattle.am_record.specs.OrderedKey.{OrderedKey}
 use Rattle.am_record.specs.declared.lock.Lock.{Lock}
 use Rattle.am_locks.specs.OwnerLocks.{OwnerLocks, blocks, is_exclusive_at, AreApart}
 
+-- the numbers of the owners
+abbrev pub owner_numbers : List OwnerLocks → List ℕ
+owner_numbers table = map (λ (h : OwnerLocks). h.owner) table
+
 -- whether the transaction is an owner
 abbrev pub is_owner : List OwnerLocks → ℕ → Bool
 is_owner table tx = list_any (λ (h : OwnerLocks). h.owner == tx) table

@@ -1,12 +1,14 @@
 //! The table of locks.
 
 ghost use Rattle.std.specs.Prelude.{◌≡◌, ◌≢◌, ◌<◌, ◌≤◌, ◌↔◌, ◌∷◌, [], false, true, length, take, slice_index_or};
-ghost use Rattle.std.specs.Prelude.{slice_set, List, MatchOption, IfOk};
+ghost use Rattle.std.specs.Prelude.{◌==◌, slice_set, List, MatchOption, IfOk};
+ghost use Rattle.std.specs.List.{list_any, position};
 ghost use Rattle.std.specs.Option.{option_to_list};
 ghost use Rattle.am_record.specs.Locks.{is_covered, with_lock};
 ghost use Rattle.am_locks.specs.OwnerLocks.{OwnerLocks, blocks};
 ghost use Rattle.am_locks.specs.KeyCounts.{bucket_of, key_bucket};
-ghost use Rattle.am_locks.specs.Table.{is_owner, locks_owned, entered, with_locks, without_owner, blockers};
+ghost use Rattle.am_locks.specs.Table.{is_owner, locks_owned, owner_numbers, entered, with_locks, without_owner};
+ghost use Rattle.am_locks.specs.Table.{blockers};
 ghost use Rattle.am_locks.specs.Table.{exclusive_holders};
 ghost use Rattle.am_locks.specs.Table.{AreAllApart};
 ghost use Rattle.am_locks.specs.Answers.{IsLeastOf, MatchBusy};
@@ -26,16 +28,18 @@ use std::marker::Model;
 pub struct LockTable {
     // It has room for as many as there may be.
     owners: Vec<Owner>,
+    // Their numbers, side by side, so that the place of an owner is found without a look at each.
+    numbers: Vec<u64>,
     // Of the locks of all owners.
     counts: KeyCounts,
 }
 
 impl Model for LockTable {
-    ghost use Rattle.std.specs.Prelude.{◌≤◌, List, length, vec_capacity};
+    ghost use Rattle.std.specs.Prelude.{◌≡◌, ◌≤◌, List, length, vec_capacity};
     ghost use Rattle.std.specs.List.{All};
     ghost use Rattle.std.specs.Coded.{coded_list};
     ghost use Rattle.am_locks.specs.OwnerLocks.{OwnerLocks, held_code, HasFew};
-    ghost use Rattle.am_locks.specs.Table.{AreAllApart};
+    ghost use Rattle.am_locks.specs.Table.{owner_numbers, AreAllApart};
     ghost use Rattle.am_locks.specs.KeyCounts.{AreCountsOf, all_locks};
 
     ghost Value = { List OwnerLocks };
@@ -47,7 +51,9 @@ impl Model for LockTable {
     ghost invariant = { λ t. AreAllApart t.owners.items × (length t.owners.items ≤ 64)
         × (64 ≤ vec_capacity t.owners)
         × All HasFew t.owners.items
-        × AreCountsOf (all_locks t.owners.items) t.counts.buckets.items };
+        × AreCountsOf (all_locks t.owners.items) t.counts.buckets.items
+        × (64 ≤ vec_capacity t.numbers)
+        × (t.numbers.items ≡ owner_numbers t.owners.items) };
 }
 
 impl LockTable {
@@ -60,6 +66,7 @@ impl LockTable {
     {
         Ok(LockTable {
             owners: Vec::with_capacity(alloc, MAX_ACTIVE)?,
+            numbers: Vec::with_capacity(alloc, MAX_ACTIVE)?,
             counts: KeyCounts::new(alloc)?,
         })
     }
@@ -76,7 +83,15 @@ impl LockTable {
     pub fn is_owner(&self, tx: u64) -> bool
         ensures { result ≡ is_owner self.now tx }
     {
-        self.owners.iter().any(|owner| owner.number() == tx)
+        has_number(&self.numbers, tx)
+    }
+
+    /// The place of the transaction among the owners, which stand in the order in which they entered.
+    pub fn place_of(&self, tx: u64) -> Option<usize>
+        ensures place { result ≡ position (λ n. n == tx) (owner_numbers self.now) }
+        ensures apart { AreAllApart self.now }
+    {
+        self.numbers.iter().position(|number| *number == tx)
     }
 
     /// Makes the transaction an owner, the last one, which holds nothing yet. It takes no memory.
@@ -89,6 +104,7 @@ impl LockTable {
         let Ok(()) = self.owners.push(owner) else {
             unreachable!()
         };
+        self.numbers.push_reserved(tx);
     }
 
     /// Asks for a lock for an owner, at once and without waiting. A transaction's own locks are never in its way.
@@ -135,6 +151,7 @@ impl LockTable {
         let slot = self.slot_of(tx);
         let released = self.owners.remove(slot);
         self.counts.remove(released.locks());
+        self.numbers.remove(slot);
     }
 
     /// How many locks an owner holds.
@@ -211,7 +228,13 @@ impl LockTable {
         ensures write { (locks : List Lock)
             → slice_set self.now result (record { owner = tx; locks = locks }) ≡ with_locks self.now tx locks }
     {
-        let slot = self.owners.iter().position(|owner| owner.number() == tx);
+        let slot = self.place_of(tx);
         slot.unwrap()
     }
+}
+
+fn has_number(numbers: &[u64], tx: u64) -> bool
+    ensures { result ≡ list_any (λ n. n == tx) numbers.now }
+{
+    numbers.iter().any(|number| *number == tx)
 }

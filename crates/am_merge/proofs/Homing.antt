@@ -1,16 +1,17 @@
 -- An entry of a run is worked off.
-use Rattle.std.proofs.Common.{◌≡◌, ◌≢◌, List, true, false, Option, Some, None, refl, sym, ap, ◌∙◌, ⊎_elim, Result, Ok}
-use Rattle.std.proofs.Common.{Err}
-use Rattle.std.specs.Prelude.{is_some, OnOk}
+use Rattle.std.proofs.Common.{◌≡◌, ◌≢◌, List, [], ◌∷◌, true, false, Option, Some, None, refl, sym, ap, ◌∙◌, ⊎_elim}
+use Rattle.std.specs.Prelude.{is_some}
+use Rattle.std.specs.List.{AllByRecursion}
 use Rattle.std.proofs.lemmas.Bool.{cases_Bool, cond-true, cond-false, true≢false}
 use Rattle.am_record.specs.declared.entry.Entry.{Entry}
 use Rattle.am_list.specs.Entries.{Slot, find, insert_entry, set_entry, remove_entry, IsRising}
 use Rattle.am_list.specs.Edits.{same_place}
 use Rattle.am_list.proofs.Edits.{other_part}
 use Rattle.am_list.proofs.EditLaws.{edit_laws}
-use Rattle.am_parts.specs.Partitions.{brought_home}
+use Rattle.am_parts.specs.Partitions.{brought_home, gone_home, all_gone_home}
 use Rattle.am_effect.specs.Places.{put}
-use Rattle.am_effect.specs.Merging.{worked_off}
+use Rattle.am_effect.specs.Merging.{worked_off, all_worked_off}
+use Rattle.am_effect.proofs.Merges.{rising-worked_off}
 
 absent : (o : Option Slot) → is_some o ≡ false → o ≡ None
 absent None h = refl
@@ -44,12 +45,22 @@ comes_home e es rises in_run live =
     (insert_entry less final) (ap is_some same ∙ none)))
     (cases_Bool (is_some (find es 0 e.key)))
 
-pub home_if_ok : {T E : Type 0} (r : Result T E) (e : Entry) (es es' : List Entry) → IsRising es → e.part ≢ 0 →
-    e.is_ghost ≡ false → OnOk r (es' ≡ brought_home e es) → OnOk r (es' ≡ worked_off e es)
-home_if_ok (Ok v) e es es' rises in_run live is = is ∙ comes_home e es rises in_run live
-home_if_ok (Err v) e es es' rises in_run live is = tt
-
 -- a ghost just goes
 pub ghost_goes : (e : Entry) (es : List Entry) → e.is_ghost ≡ true → remove_entry es e.part e.key ≡ worked_off e es
 ghost_goes e es ghost_ = sym (cond-true e.is_ghost (remove_entry es e.part e.key)
     (put (record e { part = 0 }) (remove_entry es e.part e.key)) ghost_)
+
+one_home : (e : Entry) (es : List Entry) → IsRising es → e.part ≢ 0 → gone_home e es ≡ worked_off e es
+one_home e es rises in_run = ⊎_elim
+    (λ ghost_. cond-true e.is_ghost (remove_entry es e.part e.key) (brought_home e es) ghost_ ∙ ghost_goes e es ghost_)
+    (λ live. cond-false e.is_ghost (remove_entry es e.part e.key) (brought_home e es) live ∙
+    comes_home e es rises in_run live)
+    (cases_Bool e.is_ghost)
+
+-- what goes home is worked off
+pub all_home : (xs es : List Entry) → IsRising es → AllByRecursion (λ e. e.part ≢ 0) xs → all_gone_home xs es ≡
+    all_worked_off xs es
+all_home [] es rises runs = refl
+all_home (x ∷ xs) es rises runs =
+    let one = one_home x es rises runs.0 in
+    ap (all_gone_home xs) one ∙ all_home xs (worked_off x es) (rising-worked_off x es rises) runs.1

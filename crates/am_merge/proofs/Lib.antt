@@ -3,6 +3,8 @@ pub mod Firsts
 pub mod Walks
 pub mod Homing
 pub mod Passing
+pub mod Skipping
+pub mod Stretches
 pub mod Merging
 pub mod Replies
 pub mod Cleaning

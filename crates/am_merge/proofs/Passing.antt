@@ -1,9 +1,9 @@
 -- How many of the first elements of a list pass a test.
-use Rattle.std.proofs.Common.{◌≡◌, ℕ, zero, suc, ◌<◌, ◌≤◌, List, [], ◌∷◌, ◌++◌, length, take, drop, Bool, true, false}
-use Rattle.std.proofs.Common.{cond, Option, Some, None, refl, sym, ap, ◌∙◌, ⊎_elim, arith}
+use Rattle.std.proofs.Common.{◌≡◌, ℕ, zero, suc, ◌+◌, ◌<◌, ◌≤◌, List, [], ◌∷◌, ◌++◌, length, take, drop, Bool, true}
+use Rattle.std.proofs.Common.{false}
+use Rattle.std.proofs.Common.{cond, refl, sym, ap, ◌∙◌, ⊎_elim, arith}
 use Rattle.std.specs.Prelude.{take_while}
 use Rattle.std.proofs.lemmas.Bool.{cases_Bool, cond-true, cond-false, false≢true}
-use Rattle.std.proofs.lemmas.Option.{none-some, same_Some}
 use Rattle.std.proofs.lemmas.List.Sums.{take_while-cons}
 
 -- ---- a list cut at its place n
@@ -22,28 +22,9 @@ module _ {X : Type 0} (x : X) (rest : List X) where
   drop-next (suc n) (y ∷ xs) h = drop-next n xs h
 
 module _ {X : Type 0} (test : X → Bool) where
-  -- ---- the first that passes, if it is the very first
-
-  abbrev pub first_if : List X → Option X
-  first_if [] = None
-  first_if (x ∷ xs) = cond (test x) (Some x) None
-
   abbrev pub first_passes : List X → Bool
   first_passes [] = false
   first_passes (x ∷ xs) = test x
-
-  pub if_none : (xs : List X) → None ≡ first_if xs → first_passes xs ≡ false
-  if_none [] h = refl
-  if_none (x ∷ xs) h = ⊎_elim (λ passes. absurd (none-some x (h ∙ cond-true (test x) (Some x) None passes)))
-      (λ fails. fails) (cases_Bool (test x))
-
-  pub if_some : (xs : List X) (x : X) → Some x ≡ first_if xs → (rest : List X) × (xs ≡ x ∷ rest) × (test x ≡ true)
-  if_some [] x h = absurd (none-some x (sym h))
-  if_some (y ∷ xs) x h = ⊎_elim
-      (λ passes. let same : x ≡ y = same_Some x y (h ∙ cond-true (test y) (Some y) None passes) in
-      (xs, ap (λ z. z ∷ xs) (sym same), ap test same ∙ passes))
-      (λ fails. absurd (none-some x (sym (h ∙ cond-false (test y) (Some y) None fails))))
-      (cases_Bool (test y))
 
   -- ---- how many of the first pass, up to a limit
 
@@ -114,4 +95,21 @@ module _ {X : Type 0} (test : X → Bool) where
   within_limit (suc limit) (x ∷ xs) = ⊎_elim
       (λ passes. omega (arith, passing-pass limit x xs passes, within_limit limit xs))
       (λ fails. omega (arith, passing-fail limit x xs fails))
+      (cases_Bool (test x))
+
+  -- beyond the first n they are counted on
+  pub passing_on : (n left limit : ℕ) (xs : List X) → limit ≡ n + left → n ≤ passing limit xs →
+      passing limit xs ≡ n + passing left (drop n xs)
+  passing_on zero left limit xs all h =
+      let same : limit ≡ left = omega (arith, all) in
+      let one : passing limit xs ≡ passing left (drop 0 xs) = ap (λ k. passing k xs) same in omega (arith, one)
+  passing_on (suc n) left zero xs all h = absurd (omega (arith, all))
+  passing_on (suc n) left (suc limit) [] all h = absurd (none h)
+    where
+      none : suc n ≤ 0 → ⊥
+      none e = omega arith
+  passing_on (suc n) left (suc limit) (x ∷ xs) all h = ⊎_elim
+      (λ passes. let is = passing-pass limit x xs passes in
+      let on = passing_on n left limit xs (omega (arith, all)) (omega (arith, is, h)) in omega (arith, is, on))
+      (λ fails. absurd (omega (arith, passing-fail limit x xs fails, h)))
       (cases_Bool (test x))

@@ -19,7 +19,7 @@ use Rattle.am_merge.specs.Walks.{in_parts_from}
 use Rattle.am_merge.specs.Steps.{IsAsFar}
 use Rattle.am_merge.proofs.Firsts.{first_head, no_head, a_head}
 use Rattle.am_merge.proofs.Passing.{one_more}
-use Rattle.am_merge.proofs.Merging.{may_move}
+use Rattle.am_merge.proofs.Stretches.{may_move}
 
 module _ (es : List Entry) (held : Holders) (limit : ℕ) (wishes : List Interval) (wish : Interval)
     (oldest : Some wish ≡ slice_get wishes 0) where

@@ -1,8 +1,8 @@
 -- Walks over the entries of a range, from partition to partition.
-use Rattle.std.proofs.Common.{◌≡◌, ◌≢◌, ℕ, ◌+◌, ◌-◌, ◌^◌, ◌<◌, ◌≤◌, List, Bool, true, false, cond, Option, Some, None}
+use Rattle.std.proofs.Common.{◌≡◌, ◌≢◌, ℕ, ◌+◌, ◌-◌, ◌^◌, ◌<◌, ◌≤◌, List, Bool, true, false, Option, Some, None}
 use Rattle.std.proofs.Common.{refl, sym, ap, ◌∙◌, subst, arith, ◌⊎◌, inl, inr, ⊎_elim}
 use Rattle.std.specs.Prelude.{nat_le, ◌==◌, ◌&&◌, not}
-use Rattle.std.proofs.lemmas.Bool.{cases_Bool, cond-true, cond-false, both_ways, and_parts, and_from, and_left}
+use Rattle.std.proofs.lemmas.Bool.{cases_Bool, both_ways, and_parts, and_from, and_left}
 use Rattle.std.proofs.lemmas.Bool.{false_from_ne_true, true_from_ne_false, leb-true, le-leb, eqb-true, eq-eqb, cases_lt}
 use Rattle.std.specs.declared.cmp.Ordering.{Ordering}
 use Rattle.std.specs.declared.cmp.Ordering.TheVariants.{Less, Equal, Greater}
@@ -24,7 +24,7 @@ use Rattle.am_list.proofs.Edits.{first_such_all, first_such_passes, none_such}
 use Rattle.am_list.proofs.WalkLaws.{first_stands}
 use Rattle.am_parts.specs.Merged.{HasNoneBefore}
 use Rattle.am_parts.specs.Partitions.{AreWellFormed}
-use Rattle.am_merge.specs.Walks.{in_parts_from, later_in_part, later, is_from, ghost_from, GoesOnAt}
+use Rattle.am_merge.specs.Walks.{in_parts_from, later, is_from, ghost_from, GoesOnAt}
 use Rattle.am_merge.proofs.Firsts.{comes_to, All-zip, All-any, first_same, none_under, first_comes, first_is}
 
 -- ---- orderings
@@ -56,6 +56,9 @@ pub le_trans : (a b c : Place) → is_le (place_cmp a b) ≡ true → is_le (pla
     is_le (place_cmp a c) ≡ true
 le_trans a b c h k = not_gt_le (place_cmp a c)
     (upto place_cmp-total a b c (le_not_gt (place_cmp a b) h) (le_not_gt (place_cmp b c) k))
+
+pub ge_key : (lo k : OrderedKey) → is_ge (key_cmp k lo) ≡ key_le lo k
+ge_key lo k = sym (ap is_le (key_cmp-total.antisymm lo k) ∙ le_reversed (key_cmp k lo))
 
 gt_lt : (a b : Place) → is_gt (place_cmp b a) ≡ true → is_lt (place_cmp a b) ≡ true
 gt_lt a b h = sym (gt_reversed (place_cmp a b)) ∙ ap is_gt (sym (place_cmp-total.antisymm b a)) ∙ h
@@ -243,6 +246,10 @@ tells_from range k lo b t same is told =
 
 -- ---- on in one partition
 
+-- in the range, and in x's partition after x
+abbrev later_in_part : Interval → Entry → Entry → Bool
+later_in_part range x e = (e.part == x.part) && (is_lt (key_cmp x.key e.key) && within range e.key)
+
 module _ (es : List Entry) (rise : IsRising es) (range : Interval) (x : Entry) (inside : within range x.key ≡ true)
   where
     abbrev above_x : Entry → Bool
@@ -281,40 +288,7 @@ module _ (es : List Entry) (rise : IsRising es) (range : Interval) (x : Entry) (
           (subst (λ o. AllByRecursion (λ f. above_x f ≡ true → comes_to o f ≡ true) es) at_y
           (first_comes above_x es rise))
 
-      pub part_goes_on : within range y.key ≡ true → Some y ≡ first_such (later_in_part range x) es
-      part_goes_on w =
-          sym (first_is (later_in_part range x) es y rise (first_stands above_x es y rise at_y)
-          (and_from (y.part == x.part) (is_lt (key_cmp x.key y.key) && within range y.key) (eq-eqb y.part x.part keys.0)
-          (and_from (is_lt (key_cmp x.key y.key)) (within range y.key) keys.1 w))
-          comes_to_y)
-
-      -- its key is above the range, and so are all later ones
-      pub part_is_past : within range y.key ≡ false → None ≡ first_such (later_in_part range x) es
-      part_is_past out =
-          let from : key_le range.lo y.key ≡ true = key_le_trans range.lo x.key y.key
-          (and_parts (key_le range.lo x.key) (key_le x.key range.hi) inside).0
-          (lt_le (key_cmp x.key y.key) keys.1) in
-          let past : key_le y.key range.hi ≡ false = above_range range y.key out from in
-          sym (first_such_none (later_in_part range x) es
-          (AllByRecursion-map (λ f. later_in_part range x f ≡ true → comes_to (Some y) f ≡ true)
-          (λ f. later_in_part range x f ≡ false)
-          (λ f h. false_from_ne_true (later_in_part range x f) (λ t.
-          let p = and_parts (f.part == x.part) (is_lt (key_cmp x.key f.key) && within range f.key) t in
-          let w = and_parts (is_lt (key_cmp x.key f.key)) (within range f.key) p.1 in
-          let hi = and_parts (key_le range.lo f.key) (key_le f.key range.hi) w.1 in
-          let same : y.part ≡ f.part = keys.0 ∙ sym (eqb-true f.part x.part p.0) in
-          let up : key_le y.key f.key ≡ true = ap is_le (sym (same_part y f same)) ∙ h t in
-          both_ways (key_le y.key range.hi) past (key_le_trans y.key f.key range.hi up hi.1)))
-          es comes_to_y))
-
     -- ---- and on in the partitions after it
-
-    in_later : (e : Entry) → later_in_part range x e ≡ true → later range x e ≡ true
-    in_later e t =
-        let p = and_parts (e.part == x.part) (is_lt (key_cmp x.key e.key) && within range e.key) t in
-        let w = and_parts (is_lt (key_cmp x.key e.key)) (within range e.key) p.1 in
-        and_from (is_lt (place_cmp (place_of x) (place_of e))) (within range e.key)
-        (ap is_lt (same_part x e (sym (eqb-true e.part x.part p.0))) ∙ w.0) w.1
 
     -- what is later stands in x's partition or in a later one
     later_where : (e : Entry) → later range x e ≡ true → (later_in_part range x e ≡ true) ⊎
@@ -330,42 +304,6 @@ module _ (es : List Entry) (rise : IsRising es) (range : Interval) (x : Entry) (
         (λ other. let apart : e.part ≢ x.part = λ h. both_ways (e.part == x.part) other (eq-eqb e.part x.part h) in
         inr (omega arith, p.1))
         (cases_Bool (e.part == x.part))
-
-    -- in x's partition
-    pub next_here : (y : Entry) → Some y ≡ first_such (later_in_part range x) es → Some y ≡ first_such (later range x)
-        es
-    next_here y found =
-        let at = sym found in
-        let passes = first_such_passes (later_in_part range x) es y at in
-        let part : y.part ≡ x.part = eqb-true y.part x.part
-        (and_parts (y.part == x.part) (is_lt (key_cmp x.key y.key) && within range y.key) passes).0 in
-        sym (first_is (later range x) es y rise (first_stands (later_in_part range x) es y rise at) (in_later y passes)
-        (AllByRecursion-map (λ f. later_in_part range x f ≡ true → comes_to (Some y) f ≡ true)
-        (λ f. later range x f ≡ true → comes_to (Some y) f ≡ true)
-        (λ f h t. ⊎_elim (λ here. h here) (λ w. let up : y.part < f.part = omega (arith, w.0) in
-        ap is_le (lower_part (place_of y) (place_of f) up)) (later_where f t))
-        es (subst (λ o. AllByRecursion (λ f. later_in_part range x f ≡ true → comes_to o f ≡ true) es) at
-        (first_comes (later_in_part range x) es rise))))
-
-    -- in a later one
-    pub next_there : None ≡ first_such (later_in_part range x) es → first_such (in_parts_from (x.part + 1) range) es ≡
-        first_such (later range x) es
-    next_there none =
-        first_same (in_parts_from (x.part + 1) range) (later range x) es
-        (AllByRecursion-map (λ f. later_in_part range x f ≡ false)
-        (λ f. in_parts_from (x.part + 1) range f ≡ later range x f)
-        (λ f not_here. same_test (in_parts_from (x.part + 1) range f) (later range x f)
-        (λ t. let p = and_parts (nat_le (x.part + 1) f.part) (within range f.key) t in
-        let up : x.part + 1 ≤ f.part = leb-true (x.part + 1) f.part p.0 in
-        and_from (is_lt (place_cmp (place_of x) (place_of f))) (within range f.key)
-        (ap is_lt (lower_part (place_of x) (place_of f) (omega arith))) p.1)
-        (λ t. ⊎_elim
-        (λ here. absurd (both_ways (later_in_part range x f) not_here here))
-        (λ w. and_from (nat_le (x.part + 1) f.part) (within range f.key)
-        (le-leb (x.part + 1) f.part (omega (arith, w.0)))
-        w.1)
-        (later_where f t)))
-        es (none_such (later_in_part range x) es (sym none)))
 
     -- ---- where a walk goes on
 
@@ -547,16 +485,6 @@ module _ (es : List Entry) (sound : AreWellFormed es) (range : Interval) (part :
       None ≡ first_such (ghost_from range (part, key)) es
   ghost_past_all out not_below over = sym (sym (ghost_above es sound.rising range part key low x found out not_below) ∙
       no_ghost_past es sound range (x.part + 1) over)
-
--- what a test of the range keeps
-pub part_next : (es : List Entry) → IsRising es → (range : Interval) (x : Entry) → within range x.key ≡ true →
-    (y : Entry) → Some y ≡ after es x.part x.key
-    → cond (within range y.key) (Some y) None ≡ first_such (later_in_part range x) es
-part_next es rise range x inside y found =
-    ⊎_elim
-    (λ w. cond-true (within range y.key) (Some y) None w ∙ part_goes_on es rise range x inside y found w)
-    (λ out. cond-false (within range y.key) (Some y) None out ∙ part_is_past es rise range x inside y found out)
-    (cases_Bool (within range y.key))
 
 -- ---- runs that have nothing in the range
 

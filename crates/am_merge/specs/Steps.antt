@@ -12,6 +12,10 @@ pub record IsAsFar (es : List Entry) (held : Holders) (limit run : ℕ) (cs : Li
   pub at_most : n ≤ most held limit run cs
   pub greatest : (n ≡ most held limit run cs) ⊎ FirstNeedsPlace es (drop n cs)
 
+-- a key of the range that nobody has exclusively locked
+abbrev pub is_free_in : Holders → Interval → Entry → Bool
+is_free_in held range e = within range e.key && is_none (held e.key)
+
 -- a ghost in the range that nobody has exclusively locked
 abbrev pub is_cleanable : Holders → Interval → Entry → Bool
 is_cleanable held range e = e.is_ghost && (within range e.key && is_none (held e.key))

@@ -1,8 +1,7 @@
 -- Entries of a range, by where a walk over them has come.
-use Rattle.std.specs.Prelude.{◌≡◌, ℕ, nat_le, ◌==◌, List, Bool, true, ◌&&◌}
+use Rattle.std.specs.Prelude.{◌≡◌, ℕ, nat_le, List, Bool, true, ◌&&◌}
 use Rattle.std.specs.List.{AllByRecursion}
 use Rattle.std.specs.Ordering.{is_lt, is_le}
-use Rattle.am_record.specs.OrderedKey.{key_cmp}
 use Rattle.am_record.specs.Interval.{Interval, key_le, within}
 use Rattle.am_record.specs.EntryOrder.{Place, place_of, place_cmp}
 use Rattle.am_record.specs.declared.entry.Entry.{Entry}
@@ -10,10 +9,6 @@ use Rattle.am_record.specs.declared.entry.Entry.{Entry}
 -- in the range, in that partition or a later one
 abbrev pub in_parts_from : ℕ → Interval → Entry → Bool
 in_parts_from part range e = nat_le part e.part && within range e.key
-
--- in the range, and in x's partition after x
-abbrev pub later_in_part : Interval → Entry → Entry → Bool
-later_in_part range x e = (e.part == x.part) && (is_lt (key_cmp x.key e.key) && within range e.key)
 
 -- in the range, and after x by partition and key
 abbrev pub later : Interval → Entry → Entry → Bool

@@ -4,7 +4,6 @@
 mod clean;
 mod laws;
 mod merge;
-mod moves;
 mod walk;
 mod wishes;
 

@@ -1,22 +1,23 @@
 //! Merge steps.
 
-ghost use Rattle.std.specs.Prelude.{◌≡◌, ◌≤◌, None, Some, take, true};
-ghost use Rattle.am_record.specs.Interval.{within};
+ghost use Rattle.std.specs.Prelude.{◌≡◌, ◌≤◌, Some, take, take_while, length};
 ghost use Rattle.am_list.specs.Content.{content};
 ghost use Rattle.am_list.specs.Entries.{first_such};
 ghost use Rattle.am_parts.specs.Partitions.{AreWellFormed};
 ghost use Rattle.am_effect.specs.Merging.{MergeRight, merged_by, wishes_left, all_worked_off, candidates};
-ghost use Rattle.am_merge.specs.Holding.{holder_of, only_free};
-ghost use Rattle.am_merge.specs.Walks.{in_parts_from, later_in_part};
-ghost use Rattle.am_merge.specs.Steps.{IsAsFar};
+ghost use Rattle.am_merge.specs.Holding.{holder_of};
+ghost use Rattle.am_merge.specs.Walks.{in_parts_from};
+ghost use Rattle.am_merge.specs.Steps.{IsAsFar, is_free_in};
 
-use crate::moves::work_off;
-use crate::walk::{first_in_runs, is_free, next_in_part};
+use crate::walk::{first_in_runs, is_free};
 use crate::wishes::Wishes;
-use am_list::PartIndex;
+use am_list::{Batch, PartIndex};
 use am_locks::LockTable;
 use am_parts::Parts;
 use am_record::{Entry, Range, Refusal, Reply};
+
+// How many entries a batch has room for.
+const STRETCH: usize = 16;
 
 /// Works entries of the oldest wish off: of those in runs with keys in its range, the first `limit`
 /// at most, all of one run. A live one then stands in partition 0, a ghost is gone. The caller has a
@@ -47,7 +48,6 @@ pub fn merge_step<I: PartIndex + Drop>(
         return Reply::Idle;
     };
     let Some(first) = first_in_runs(parts, wish) else {
-        parts.note_merged(wish);
         wishes.drop_oldest();
         return Reply::MergeDone;
     };
@@ -62,7 +62,8 @@ pub fn merge_step<I: PartIndex + Drop>(
     }
 }
 
-// Works off the first candidate of the range and those that follow in its run, and counts them.
+// Works off the first candidate of the range and those that follow in its run, and counts them. They are read and moved
+// by batches: what was worked off is gone, so each batch begins where the range does.
 fn work_off_run<I: PartIndex + Drop>(
     parts: &mut Parts<I>,
     locks: &LockTable,
@@ -71,38 +72,36 @@ fn work_off_run<I: PartIndex + Drop>(
     limit: u64,
 ) -> u64
     requires first { first_such (in_parts_from 1 range) parts.old.entries ≡ Some first }
-    requires free { holder_of locks.now first.key ≡ None }
     requires sound { AreWellFormed parts.old.entries }
-    requires some { 1 ≤ limit }
     ensures far { IsAsFar parts.old.entries (holder_of locks.now) limit first.part
         (candidates parts.old.entries range) result }
     ensures entries { parts.new.entries ≡ all_worked_off
         (take result (candidates parts.old.entries range)) parts.old.entries }
     ensures runs { parts.new.runs ≡ parts.old.runs }
 {
-    let mut next = Some(first);
-    for moved in 0..limit {
-        let Some(entry) = next else {
-            return moved;
-        };
-        if work_off(parts, &entry).is_err() {
+    let mut batch = Batch::new();
+    let mut moved = 0;
+    while moved < limit {
+        batch.clear();
+        parts.read_from(first.part, range.lo(), &mut batch);
+        let free = count_free(batch.entries(), locks, range, limit - moved);
+        let count = parts.bring_home(&batch.entries()[..free]);
+        moved += count as u64;
+        if count < STRETCH {
             return moved;
         }
-        next = next_free(parts, locks, range, &entry);
     }
-    limit
+    moved
 }
 
-// The next entry of the range in the entry's run, unless somebody has it exclusively locked.
-fn next_free<I: PartIndex + Drop>(
-    parts: &Parts<I>,
-    locks: &LockTable,
-    range: Range,
-    entry: &Entry,
-) -> Option<Entry>
-    requires { within range entry.now.key ≡ true }
-    ensures { result ≡ only_free locks.now (first_such (later_in_part range entry.now) parts.now.entries) }
+// How many of the first entries lie in the range and have keys that nobody has exclusively locked, `most` at most.
+fn count_free(entries: &[Entry], locks: &LockTable, range: Range, most: u64) -> usize
+    ensures { result ≡ length (take_while (is_free_in (holder_of locks.now) range) (take most entries.now)) }
 {
-    let next = next_in_part(parts, range, entry)?;
-    is_free(locks, next.key).then_some(next)
+    for (at, entry) in entries.iter().enumerate() {
+        if at as u64 >= most || !range.contains(entry.key) || !is_free(locks, entry.key) {
+            return at;
+        }
+    }
+    entries.len()
 }

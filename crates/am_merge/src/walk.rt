@@ -1,10 +1,10 @@
 //! Walks over the entries of a range, from partition to partition.
 
-ghost use Rattle.std.specs.Prelude.{◌≡◌, true, Some, None, is_none, IfSome, IfNone, if◌then◌else◌};
+ghost use Rattle.std.specs.Prelude.{◌≡◌, true, None, is_none, IfSome, IfNone};
 ghost use Rattle.am_record.specs.Interval.{key_le, within};
 ghost use Rattle.am_list.specs.Entries.{first_such};
 ghost use Rattle.am_parts.specs.Partitions.{AreWellFormed};
-ghost use Rattle.am_merge.specs.Walks.{in_parts_from, later_in_part, later, ghost_from, GoesOnAt};
+ghost use Rattle.am_merge.specs.Walks.{in_parts_from, later, ghost_from, GoesOnAt};
 ghost use Rattle.am_merge.specs.Holding.{holder_of};
 
 use am_list::PartIndex;
@@ -19,12 +19,35 @@ pub(crate) fn is_free(locks: &LockTable, key: Key) -> bool
     locks.exclusive_at(key).is_none()
 }
 
-/// The first entry of the range in a run. Runs that are known to have none there aren't searched.
-pub(crate) fn first_in_runs<I: PartIndex + Drop>(parts: &Parts<I>, range: Range) -> Option<Entry>
-    ensures first { result ≡ first_such (in_parts_from 1 range) parts.now.entries }
+/// The first entry of the range in a run. Runs that are known to have none there aren't searched, and those before it
+/// are known from then on.
+pub(crate) fn first_in_runs<I: PartIndex + Drop>(
+    parts: &mut Parts<I>,
+    range: Range,
+) -> Option<Entry>
+    ensures first { result ≡ first_such (in_parts_from 1 range) parts.old.entries }
+    ensures same { parts.new ≡ parts.old }
+    ensures sound { AreWellFormed parts.old.entries }
+{
+    let from = parts.first_run(range);
+    let first = first_from(parts, from, range);
+    let first_run = match &first {
+        Some(entry) => entry.part,
+        None => parts.runs() + 1,
+    };
+    if from < first_run {
+        parts.note_merged(range, first_run);
+    }
+    first
+}
+
+// The first entry of the range in that run or a later one. Where none of these has entries, the index isn't searched.
+fn first_from<I: PartIndex + Drop>(parts: &Parts<I>, from: u32, range: Range) -> Option<Entry>
+    ensures first { result ≡ first_such (in_parts_from from range) parts.now.entries }
     ensures sound { AreWellFormed parts.now.entries }
 {
-    first_within(parts, parts.first_run(range), range)
+    let part = parts.next_part(from)?;
+    first_within(parts, part, range)
 }
 
 // The first entry of the range in the partition `from` or a later one.
@@ -45,27 +68,6 @@ fn first_within<I: PartIndex + Drop>(parts: &Parts<I>, from: u32, range: Range) 
         };
     }
     None
-}
-
-/// The next entry of the range in the entry's own partition.
-pub(crate) fn next_in_part<I: PartIndex + Drop>(
-    parts: &Parts<I>,
-    range: Range,
-    entry: &Entry,
-) -> Option<Entry>
-    requires { within range entry.now.key ≡ true }
-    ensures first { result ≡ first_such (later_in_part range entry.now) parts.now.entries }
-    ensures sound { AreWellFormed parts.now.entries }
-{
-    let next = parts.after(entry.part, entry.key)?;
-    only_within(range, next)
-}
-
-// The entry, where its key lies in the range.
-fn only_within(range: Range, entry: Entry) -> Option<Entry>
-    ensures { result ≡ (if within range entry.key then Some entry else None) }
-{
-    range.contains(entry.key).then_some(entry)
 }
 
 /// The first ghost of the range at or above the place.

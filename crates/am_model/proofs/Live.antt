@@ -1,10 +1,10 @@
 -- The records among slots.
 use Rattle.std.proofs.Common.{◌≡◌, ◌≢◌, IsSome, ℕ, Bool, true, false, cond, List, [], ◌∷◌, Option, Some, None, filter}
 use Rattle.std.proofs.Common.{refl, sym, ap, ◌∙◌, subst}
-use Rattle.std.specs.Option.{option_flatten}
+use Rattle.std.specs.Option.{option_flatten, is_some, unwrap_or}
 use Rattle.std.proofs.lemmas.Bool.{and_from, and_parts, false≢true}
 use Rattle.std.specs.Ordering.{is_lt, is_eq, eq_by_cmp}
-use Rattle.std.specs.FinMap.{find, get, insert, remove, entries, entries_sorted, get-entries, get-empty}
+use Rattle.std.specs.FinMap.{find, get, contains_key, insert, remove, entries, entries_sorted, get-entries, get-empty}
 use Rattle.std.specs.FinMap.{get-from_entries, get-insert, get-remove, same_map, is_sorted}
 use Rattle.std.specs.FinMap as map
 use Rattle.std.specs.FinMap.Entries.{below_all}
@@ -174,3 +174,47 @@ no_place_live slots k some is = absurd (false≢true (subst IsSome (get_live slo
 
 pub removed_none : (m : PlainMap) (k : OrderedKey) → get m k ≡ None → m ≡ remove m k
 removed_none m k none = sym (put_there m k None none)
+
+-- whether a record is under a key
+pub has_live : (slots : Cells) (k : OrderedKey) (o : Option Cell) → get slots k ≡ o → contains_key (live slots) k ≡
+    is_some (option_flatten o)
+has_live slots k o is = ap is_some (get_live slots k ∙ ap option_flatten is)
+
+pub flattened : (o : Option Cell) → option_flatten o ≡ unwrap_or o None
+flattened None = refl
+flattened (Some s) = refl
+
+-- what the map is where a value was put into a slot
+module _ (slots left : Cells) (k : OrderedKey) (w : Cell) (is : left ≡ insert slots k w) where
+  put_live : live left ≡ with_cell (live slots) k w
+  put_live = ap live is ∙ live_put slots k (Some w)
+
+  -- where none was
+  pub filled_live : (v : List ℕ) (o : Option Cell) → get slots k ≡ o → w ≡ Some (unwrap_or (unwrap_or o None) v) →
+      live left ≡ cond (contains_key (live slots) k) (live slots) (insert (live slots) k v)
+  filled_live v o there new = at (unwrap_or o None) (get_live slots k ∙ ap option_flatten there ∙ flattened o) new
+    where
+      at : (s : Cell) → get (live slots) k ≡ s → w ≡ Some (unwrap_or s v) → live left ≡
+          cond (contains_key (live slots) k) (live slots) (insert (live slots) k v)
+      at None none e = put_live ∙ ap (with_cell (live slots) k) e ∙
+          sym (ap (λ (o : Option (List ℕ)). cond (is_some o) (live slots) (insert (live slots) k v)) none)
+      at (Some x) some e = put_live ∙ ap (with_cell (live slots) k) e ∙ put_there (live slots) k (Some x) some ∙
+          sym (ap (λ (o : Option (List ℕ)). cond (is_some o) (live slots) (insert (live slots) k v)) some)
+
+  -- where one was
+  pub over_live : (v : List ℕ) (s : Cell) → get slots k ≡ Some s → w ≡ cond (is_some s) (Some v) None →
+      live left ≡ cond (contains_key (live slots) k) (insert (live slots) k v) (live slots)
+  over_live v s there new = at s (get_live slots k ∙ ap option_flatten there) new
+    where
+      at : (s : Cell) → get (live slots) k ≡ s → w ≡ cond (is_some s) (Some v) None → live left ≡
+          cond (contains_key (live slots) k) (insert (live slots) k v) (live slots)
+      at None none e = put_live ∙ ap (with_cell (live slots) k) e ∙ put_there (live slots) k None none ∙
+          sym (ap (λ (o : Option (List ℕ)). cond (is_some o) (insert (live slots) k v) (live slots)) none)
+      at (Some x) some e = put_live ∙ ap (with_cell (live slots) k) e ∙
+          sym (ap (λ (o : Option (List ℕ)). cond (is_some o) (insert (live slots) k v) (live slots)) some)
+
+-- nothing was put where nothing stands
+pub nothing_over : (slots left : Cells) (k : OrderedKey) (v : List ℕ) → left ≡ slots → get slots k ≡ None → live left ≡
+    cond (contains_key (live slots) k) (insert (live slots) k v) (live slots)
+nothing_over slots left k v is there = ap live is ∙
+    sym (ap (λ b. cond b (insert (live slots) k v) (live slots)) (has_live slots k None there))

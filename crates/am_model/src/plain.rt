@@ -73,10 +73,25 @@ impl Plain {
         ensures after { OnOk result (self.new ≡ draft_after (Insert key value) self.old) }
         ensures err { OnErr result (self.new ≡ self.old) }
     {
+        if self.log.has_mark() {
+            return self.insert_noted(key, value);
+        }
+        if self.records.add(key, value)? {
+            Ok(Reply::Done)
+        } else {
+            Ok(Reply::Exists(key))
+        }
+    }
+
+    fn insert_noted(&mut self, key: Key, value: Value) -> Result<Reply, NoMemory>
+        ensures answer { IfOk result (λ reply. reply ≡ answer (Insert key value) self.old) }
+        ensures after { OnOk result (self.new ≡ draft_after (Insert key value) self.old) }
+        ensures err { OnErr result (self.new ≡ self.old) }
+    {
         if self.records.get(key).is_some() {
             return Ok(Reply::Exists(key));
         }
-        self.set(key, Some(value))?;
+        self.set_noted(key, Some(value))?;
         Ok(Reply::Done)
     }
 
@@ -85,10 +100,25 @@ impl Plain {
         ensures after { OnOk result (self.new ≡ draft_after (Replace key value) self.old) }
         ensures err { OnErr result (self.new ≡ self.old) }
     {
+        if self.log.has_mark() {
+            return self.replace_noted(key, value);
+        }
+        if self.records.replace(key, value) {
+            Ok(Reply::Done)
+        } else {
+            Ok(Reply::Missing)
+        }
+    }
+
+    fn replace_noted(&mut self, key: Key, value: Value) -> Result<Reply, NoMemory>
+        ensures answer { IfOk result (λ reply. reply ≡ answer (Replace key value) self.old) }
+        ensures after { OnOk result (self.new ≡ draft_after (Replace key value) self.old) }
+        ensures err { OnErr result (self.new ≡ self.old) }
+    {
         if self.records.get(key).is_none() {
             return Ok(Reply::Missing);
         }
-        self.set(key, Some(value))?;
+        self.set_noted(key, Some(value))?;
         Ok(Reply::Done)
     }
 
@@ -97,10 +127,25 @@ impl Plain {
         ensures after { OnOk result (self.new ≡ draft_after (Delete key) self.old) }
         ensures err { OnErr result (self.new ≡ self.old) }
     {
+        if self.log.has_mark() {
+            return self.delete_noted(key);
+        }
+        if self.records.take(key) {
+            Ok(Reply::Done)
+        } else {
+            Ok(Reply::Missing)
+        }
+    }
+
+    fn delete_noted(&mut self, key: Key) -> Result<Reply, NoMemory>
+        ensures answer { IfOk result (λ reply. reply ≡ answer (Delete key) self.old) }
+        ensures after { OnOk result (self.new ≡ draft_after (Delete key) self.old) }
+        ensures err { OnErr result (self.new ≡ self.old) }
+    {
         if self.records.get(key).is_none() {
             return Ok(Reply::Missing);
         }
-        self.set(key, None)?;
+        self.set_noted(key, None)?;
         Ok(Reply::Done)
     }
 

@@ -1,6 +1,6 @@
 //! Records by key.
 
-ghost use Rattle.std.specs.Prelude.{◌≡◌, Option, None, Some, IfOk, OnOk, OnErr};
+ghost use Rattle.std.specs.Prelude.{◌≡◌, Option, None, Some, cond, not, is_some, unwrap_or, IfOk, OnOk, OnErr};
 ghost use Rattle.std.specs.FinMap as map;
 ghost use Rattle.am_record.specs.Plain.{scan_rows, least_taken};
 ghost use Rattle.am_model.specs.Least.{lesser_key};
@@ -12,6 +12,7 @@ use crate::note::{Note, Slot};
 use am_record::{Key, NoMemory, Range, Value};
 use std::alloc::Global;
 use std::collections::BTreeMap;
+use std::collections::btree_map::Entry;
 use std::marker::Model;
 
 /// A finite map from keys to slots: records, and the places of deleted ones.
@@ -70,6 +71,38 @@ impl Records {
         ensures { self.new ≡ map.remove self.old key }
     {
         let _ = self.by_key.remove(&key);
+    }
+
+    /// Puts a record under a key that has none, and tells whether it had none. It wants memory only where not even a
+    /// place stands there.
+    pub(crate) fn add(&mut self, key: Key, value: Value) -> Result<bool, NoMemory>
+        ensures new { IfOk result (λ is_new. is_new ≡ not (map.contains_key (live self.old) key)) }
+        ensures left { OnOk result (live self.new ≡
+            cond (map.contains_key (live self.old) key) (live self.old) (map.insert (live self.old) key value)) }
+        ensures err { OnErr result (self.new ≡ self.old) }
+    {
+        let slot = self.by_key.entry(key)?.or_insert(None);
+        Ok(fill(slot, value))
+    }
+
+    /// Puts a value in place of the one under the key, and tells whether there was one. Takes no memory.
+    pub(crate) fn replace(&mut self, key: Key, value: Value) -> bool
+        ensures stood { result ≡ map.contains_key (live self.old) key }
+        ensures left { live self.new ≡
+            cond (map.contains_key (live self.old) key) (map.insert (live self.old) key value) (live self.old) }
+    {
+        match self.by_key.get_mut(&key) {
+            Some(slot) => put_over(slot, value),
+            None => false,
+        }
+    }
+
+    /// Takes the record under the key away, and tells whether there was one. Its place goes too.
+    pub(crate) fn take(&mut self, key: Key) -> bool
+        ensures stood { result ≡ map.contains_key (live self.old) key }
+        ensures left { live self.new ≡ map.remove (live self.old) key }
+    {
+        self.by_key.remove(&key).flatten().is_some()
     }
 
     /// Takes the place of a deleted record away.
@@ -145,6 +178,30 @@ impl Records {
         }
         least
     }
+}
+
+// Puts a value where none is, and tells whether none was.
+fn fill(slot: &mut Slot, value: Value) -> bool
+    ensures new { result ≡ not (is_some slot.old) }
+    ensures left { slot.new ≡ Some (unwrap_or slot.old value) }
+{
+    if slot.is_some() {
+        return false;
+    }
+    *slot = Some(value);
+    true
+}
+
+// Puts a value where one is, and tells whether one was.
+fn put_over(slot: &mut Slot, value: Value) -> bool
+    ensures stood { result ≡ is_some slot.old }
+    ensures left { slot.new ≡ cond (is_some slot.old) (Some value) None }
+{
+    if slot.is_none() {
+        return false;
+    }
+    *slot = Some(value);
+    true
 }
 
 // The lesser of the keys, of which there may be one alone.

@@ -90,7 +90,7 @@ module _ {es : List Entry} (sound : AreWellFormed es) where
     without_live old h = ap (λ (o : Option Slot). cond (is_some (live_value o)) (remove (content es) key) (content es))
         h
 
-    without_ghost : (old : List ℕ) → find es part key ≡ Some (old, true) → content_without es part key ≡ content es
+    pub without_ghost : (old : List ℕ) → find es part key ≡ Some (old, true) → content_without es part key ≡ content es
     without_ghost old h = ap (λ (o : Option Slot). cond (is_some (live_value o)) (remove (content es) key) (content es))
         h
 

@@ -11,5 +11,6 @@ pub mod Lives
 mod Emptied
 mod Homes
 mod Changes
+pub mod Neighbours
 pub mod Looks
 pub mod Noting

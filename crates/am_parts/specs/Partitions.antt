@@ -1,13 +1,13 @@
 -- What is seen of the partitions of an index, where a key lives in them, and what their changes do to the content.
-use Rattle.std.specs.Prelude.{◌≡◌, ◌≤◌, ◌<◌, ◌^◌, ℕ, List, Bool, true, false, Option, Some, None, IsSome, is_some, refl}
-use Rattle.std.specs.Prelude.{if◌then◌else◌}
+use Rattle.std.specs.Prelude.{◌≡◌, ◌≤◌, ◌<◌, ◌^◌, ℕ, List, [], ◌∷◌, length, take, Bool, true, false, Option, Some, None}
+use Rattle.std.specs.Prelude.{IsSome, is_some, refl, if◌then◌else◌}
 use Rattle.std.specs.List.{AllByRecursion}
 use Rattle.std.specs.Coded.{Coded, code_by, coded×, coded_ℕ}
 use Rattle.std.specs.FinMap.{get, insert, remove}
 use Rattle.am_record.specs.OrderedKey.{OrderedKey}
 use Rattle.am_record.specs.Plain.{PlainMap, Records, is_key_of}
 use Rattle.am_record.specs.declared.entry.Entry.{Entry}
-use Rattle.am_list.specs.Entries.{Slot, find, insert_entry, set_entry, remove_entry, IsRising}
+use Rattle.am_list.specs.Entries.{Slot, find, all_from, insert_entry, set_entry, remove_entry, IsRising}
 use Rattle.am_list.specs.EntryCode.{entries_code}
 use Rattle.am_list.specs.Content.{content, OnePlace, IsLiveAt, live_value}
 use Rattle.am_parts.specs.declared.parts.Vacancy.{Vacancy}
@@ -95,6 +95,34 @@ abbrev pub settled : Entry → List Entry → List Entry
 settled e es = if is_some (find es 0 e.key) then set_entry es 0 e.key e.value false else insert_entry es
     (record e { part = 0; is_ghost = false })
 
+-- the same of any entry of a run: a ghost stays where it is
+abbrev pub settled_too : Entry → List Entry → List Entry
+settled_too e es = if e.is_ghost then es else settled e es
+
+abbrev pub all_settled : List Entry → List Entry → List Entry
+all_settled [] es = es
+all_settled (e ∷ more) es = all_settled more (settled_too e es)
+
 -- the list in which it has moved there
 abbrev pub brought_home : Entry → List Entry → List Entry
 brought_home e es = remove_entry (settled e es) e.part e.key
+
+-- the list in which an entry of a run went home: a live one moved, and a ghost is gone
+abbrev pub gone_home : Entry → List Entry → List Entry
+gone_home e es = if e.is_ghost then remove_entry es e.part e.key else brought_home e es
+
+abbrev pub all_gone_home : List Entry → List Entry → List Entry
+all_gone_home [] es = es
+all_gone_home (e ∷ more) es = all_gone_home more (gone_home e es)
+
+-- the first of the entries is live, and nothing of its key stands in the final partition
+abbrev pub FirstIsNew : List Entry → List Entry → Type 0
+FirstIsNew es [] = ⊥
+FirstIsNew es (e ∷ more) = (e.is_ghost ≡ false) × (find es 0 e.key ≡ None)
+
+-- the entries are the first ones of a run from some key on
+pub record IsStretch (es xs : List Entry) : Type 0 where
+  pub run : ℕ
+  pub key : OrderedKey
+  pub is_run : 0 < run
+  pub first : xs ≡ take (length xs) (all_from es run key)

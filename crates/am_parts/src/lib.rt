@@ -5,6 +5,7 @@ mod catalog;
 mod entering;
 mod fault;
 mod figures;
+mod homing;
 mod looking;
 mod merged;
 mod parts;

@@ -1,22 +1,23 @@
 //! The partitions of an index, and the changes that keep each key live in at most one of them.
 
-ghost use Rattle.std.specs.Prelude.{◌≡◌, ◌≢◌, ◌+◌, ◌<◌, ◌≤◌, ◌++◌, [], length, take, true, false, Some, None, IsSome};
-ghost use Rattle.std.specs.Prelude.{is_some, IfSome, IfNone, Err, OnOk, OnErr, vec_capacity};
+ghost use Rattle.std.specs.Prelude.{◌≡◌, ◌⊎◌, ◌+◌, ◌<◌, ◌≤◌, ◌++◌, [], length, take, drop, true, false, Some, None};
+ghost use Rattle.std.specs.Prelude.{IsSome, is_some, IfSome, IfNone, Err, OnOk, OnErr, vec_capacity};
 ghost use Rattle.std.specs.List.{AllByRecursion};
 ghost use Rattle.std.specs.FinMap.{get};
 ghost use Rattle.am_record.specs.Plain.{insert_all, is_rising};
-ghost use Rattle.am_list.specs.Entries.{find, slot_of, next_any, next_ghost, next_from, after, all_from, all_after};
+ghost use Rattle.am_list.specs.Entries.{find, next_any, next_ghost, next_from, after, all_from, all_after};
 ghost use Rattle.am_list.specs.Entries.{entry_at, insert_entry, set_entry, remove_entry, IsRising};
 ghost use Rattle.am_list.specs.Runs.{run_entries};
 ghost use Rattle.am_list.specs.Content.{content, rows_in, live_value, HasContent};
 ghost use Rattle.am_parts.specs.Catalogs.{IsCatalog};
 ghost use Rattle.am_parts.specs.Merged.{HasNoneBefore};
-ghost use Rattle.am_parts.specs.Partitions.{settled, vacancy_over, NoneLiveIn, AreAllAbsent};
+ghost use Rattle.am_parts.specs.Partitions.{vacancy_over, NoneLiveIn, AreAllAbsent};
 
 use crate::catalog::Catalog;
 use crate::entering::enter_run;
 use crate::fault::RunFault;
 use crate::figures::Figures;
+use crate::homing::{forget_all, remove_all, settle_all};
 use crate::looking::{live_at, live_by};
 use crate::merged::MergedRanges;
 use crate::residences::Residences;
@@ -69,7 +70,7 @@ impl<I: PartIndex + Drop> Parts<I> {
     ghost use Rattle.am_parts.specs.Partitions.{AreWellFormed, AreEmpty, AreEmptyFrom, LivesIn, LivesInNoRun};
     ghost use Rattle.am_parts.specs.Figures.{AreFigures};
     ghost use Rattle.am_parts.specs.Partitions.{LivesNowhereElse, IsLiveEntry, IsVacancy, content_with};
-    ghost use Rattle.am_parts.specs.Partitions.{content_without, content_set, brought_home};
+    ghost use Rattle.am_parts.specs.Partitions.{content_without, content_set, IsStretch, all_gone_home, FirstIsNew};
 
     /// The partitions of an empty index. By the hash key the keys of runs have their numbers: whoever doesn't know it
     /// can't choose keys that have one number.
@@ -295,27 +296,24 @@ impl<I: PartIndex + Drop> Parts<I> {
         entry
     }
 
-    /// Brings a live entry of a run home: it goes to the final partition, over a ghost that stands there. The caller
-    /// sees to it that it stands in that run.
-    ///
-    /// # Errors
-    /// NoMemory, where its new place was refused memory; nothing is changed.
-    pub fn bring_home(&mut self, entry: &Entry) -> Result<(), NoMemory>
-        requires stands { find self.old.entries entry.now.part entry.now.key ≡ Some (slot_of entry.now) }
-        requires in_run { entry.now.part ≢ 0 }
-        requires live { entry.now.is_ghost ≡ false }
-        ensures entries { OnOk result (self.new.entries ≡ brought_home entry.now self.old.entries) }
-        ensures content { OnOk result (HasContent self.new.entries (content self.old.entries)) }
+    /// Brings entries of a run home, one after another: a live one goes to the final partition, over a ghost that
+    /// stands there, and a ghost just goes. The caller sees to it that they are the first ones of the run from some key
+    /// on. How many went home: all, or fewer where the next one's new place was refused memory.
+    pub fn bring_home(&mut self, entries: &[Entry]) -> usize
+        requires { IsStretch self.old.entries entries.now }
+        ensures most { result ≤ length entries.now }
+        ensures entries { self.new.entries ≡ all_gone_home (take result entries.now) self.old.entries }
+        ensures content { HasContent self.new.entries (content self.old.entries) }
         ensures sound { AreWellFormed self.old.entries }
-        ensures err { OnErr result (self.new.entries ≡ self.old.entries) }
-        ensures place { OnErr result (find self.old.entries 0 entry.now.key ≡ None) }
+        ensures greatest { (result ≡ length entries.now) ⊎
+            FirstIsNew self.old.entries (drop result entries.now) }
         ensures runs { self.new.runs ≡ self.old.runs }
     {
-        settle(&mut self.index, &mut self.catalog, entry)?;
-        self.catalog.take(entry.part, true);
-        self.index.remove(entry.part, entry.key);
-        self.residences.take(entry);
-        Ok(())
+        let count = settle_all(&mut self.index, &mut self.catalog, entries);
+        let gone = &entries[..count];
+        remove_all(&mut self.index, gone);
+        forget_all(&mut self.catalog, &mut self.residences, gone);
+        count
     }
 
     /// The first run that may have an entry with a key in the range, as far as is known.
@@ -327,14 +325,14 @@ impl<I: PartIndex + Drop> Parts<I> {
         self.merged.first_run(&range)
     }
 
-    /// Puts a range down as merged. The caller sees to it that no run made so far has an entry with a key in it. What
-    /// is known of other ranges may be let go. Takes no memory.
-    pub fn note_merged(&mut self, range: Range)
-        requires { HasNoneBefore self.old.entries range (self.old.runs + 1) }
-        ensures entries { self.new.entries ≡ self.old.entries }
-        ensures runs { self.new.runs ≡ self.old.runs }
+    /// Puts a range down as merged in all runs before that one. The caller sees to it that none of these that was made
+    /// so far has an entry with a key in it. What is known of other ranges may be let go. Takes no memory.
+    pub fn note_merged(&mut self, range: Range, first_run: u32)
+        requires { HasNoneBefore self.old.entries range first_run }
+        ensures same { self.new ≡ self.old }
     {
-        self.merged.note(range, self.runs + 1);
+        let next_run = self.runs + 1;
+        self.merged.note(range, first_run.min(next_run));
     }
 
     /// Counts one more run. The caller sees to it that fewer than 65,535 were made.
@@ -406,33 +404,6 @@ fn insert_or_forget<I: PartIndex + Drop>(
         catalog.take(part, is_live);
     }
     added
-}
-
-// Lets a live entry of a run stand in the final partition too, over a ghost there.
-fn settle<I: PartIndex + Drop>(
-    index: &mut I,
-    catalog: &mut Catalog,
-    entry: &Entry,
-) -> Result<(), NoMemory>
-    requires counted { IsCatalog (I.entries index.old) catalog.old }
-    ensures ok { OnOk result (I.entries index.new ≡ settled entry.now (I.entries index.old)) }
-    ensures err { OnErr result (I.entries index.new ≡ I.entries index.old) }
-    ensures place { OnErr result (find (I.entries index.old) 0 entry.now.key ≡ None) }
-    ensures rising { IsRising (I.entries index.old) }
-    ensures catalog { IsCatalog (I.entries index.new) catalog.new }
-{
-    if index.find(0, entry.key).is_some() {
-        let was_live = index.set(0, entry.key, entry.value, false);
-        catalog.mark(was_live, false);
-        return Ok(());
-    }
-    catalog.add(0, false)?;
-    let settled = Entry {
-        part: 0,
-        is_ghost: false,
-        ..*entry
-    };
-    insert_or_forget(index, catalog, settled)
 }
 
 // Whether what stands at a place is live.

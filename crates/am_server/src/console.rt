@@ -1,9 +1,13 @@
 //! What a server that stays says on standard error while it runs.
 
 use crate::fault::ListenFault;
+use crate::outbox::Outbox;
 use am_command::Listening;
 use am_listen::{Counts, EventCounts, TraceCounts, Watcher};
+use am_parts::Figures;
+use std::io;
 use std::rt::Clock;
+use std::sync::Wait;
 use std::time::{Duration, Instant};
 
 /// How often it is told how the server does.
@@ -13,17 +17,19 @@ const LOG_SECONDS: u64 = 60;
 #[derive(Drop)]
 pub(crate) struct Console<'a, R> {
     rt: &'a R,
+    outbox: &'a Outbox,
     is_logged: bool,
     told_at: Option<Instant>,
     told_accept: bool,
     told_cut: bool,
 }
 
-impl<'a, R: Eprint + Clock> Console<'a, R> {
+impl<'a, R: Eprint + Clock + Wait> Console<'a, R> {
     /// Of a bounded server nothing is said while it runs.
-    pub(crate) fn new(rt: &'a R, listening: &Listening<'_>) -> Console<'a, R> {
+    pub(crate) fn new(rt: &'a R, outbox: &'a Outbox, listening: &Listening<'_>) -> Console<'a, R> {
         Console {
             rt,
+            outbox,
             is_logged: listening.is_logged,
             told_at: Instant::now(rt).ok(),
             told_accept: !listening.stays,
@@ -46,8 +52,10 @@ impl<'a, R: Eprint + Clock> Console<'a, R> {
             sessions,
             open,
             trace: TraceCounts { events, kept, of },
+            index,
             refused_by_system: unaccepted,
             is_cut,
+            ..
         } = *counts;
         let EventCounts {
             commits,
@@ -55,39 +63,53 @@ impl<'a, R: Eprint + Clock> Console<'a, R> {
             too_many,
             wrong,
         } = of;
+        let Figures {
+            in_final,
+            in_runs,
+            runs,
+            ghosts,
+            ..
+        } = index;
+        let is_cut = is_cut || self.outbox.is_failed();
         let trace = if is_cut { "cut" } else { "whole" };
         let _ = eprint!(self.rt;
             "sessions={sessions} open={open} steps={events} commits={commits} busy={busy} "
         );
+        let _ = eprint!(self.rt;
+            "too_many={too_many} wrong={wrong} in_final={in_final} in_runs={in_runs} runs={runs} "
+        );
+        let waiting = self.outbox.len(self.rt);
         let _ = eprintln!(self.rt;
-            "too_many={too_many} wrong={wrong} kept={kept} unaccepted={unaccepted} trace={trace}"
+            "ghosts={ghosts} kept={kept} waiting={waiting} unaccepted={unaccepted} trace={trace}"
         );
     }
-}
 
-// Says it, unless it was said.
-fn say_once<R: Eprint>(rt: &R, is_so: bool, was_said: &mut bool, fault: ListenFault) {
-    if is_so && !*was_said {
-        *was_said = true;
-        let _ = eprintln!(rt; "{}", fault.words());
+    // Says once that a connection couldn't be accepted, and why, as the system has it.
+    fn tell_accept(&mut self, counts: &Counts) {
+        if counts.refused_by_system == 0 || self.told_accept {
+            return;
+        }
+        if counts.first_refusal != 0 {
+            let why = io::Error::from_raw_os_error(counts.first_refusal);
+            let _ = eprintln!(self.rt; "amserve: a connection: {why}");
+        }
+        self.told_accept = true;
+        let _ = eprintln!(self.rt; "{}", ListenFault::CannotAccept.words());
+    }
+
+    // Says once that the trace is cut, unless its file said so.
+    fn tell_cut(&mut self, counts: &Counts) {
+        if counts.is_cut && !self.outbox.is_failed() && !self.told_cut {
+            self.told_cut = true;
+            let _ = eprintln!(self.rt; "{}", ListenFault::CannotWriteTrace.words());
+        }
     }
 }
 
-impl<'a, R: Eprint + Clock> Watcher for Console<'a, R> {
+impl<'a, R: Eprint + Clock + Wait> Watcher for Console<'a, R> {
     fn look(&mut self, counts: &Counts, is_last: bool) {
-        let is_refused = counts.refused_by_system > 0;
-        say_once(
-            self.rt,
-            is_refused,
-            &mut self.told_accept,
-            ListenFault::CannotAccept,
-        );
-        say_once(
-            self.rt,
-            counts.is_cut,
-            &mut self.told_cut,
-            ListenFault::CannotWriteTrace,
-        );
+        self.tell_accept(counts);
+        self.tell_cut(counts);
         if self.is_logged && (is_last || self.is_due()) {
             self.log(counts);
             self.told_at = Instant::now(self.rt).ok();

@@ -1,59 +1,43 @@
 //! The file of a trace that grows while its server runs.
 
-ghost use Rattle.std.specs.Prelude.{◌≡◌};
-ghost use Rattle.am_server.specs.GrowingFiles.{file_failures};
-
-use am_stream::{Failed, Sink};
+use crate::fault::ListenFault;
+use am_stream::Failed;
 use std::fs::File;
+use std::io;
 use std::io::Write;
 
-/// A file that gets whole pieces: of one that can't be written whole nothing is left, where the file can be cut.
+/// A file that gets whole pieces: of one that can't be written whole nothing is left, where the file can be cut. Where
+/// it has a name it says why it can't be written.
 #[derive(Drop)]
 pub(crate) struct GrowingFile {
+    name: Option<String>,
     file: File,
     len: u64,
-    failures: u64,
-    is_pending: bool,
 }
 
 impl GrowingFile {
     /// The file, of which all that stood in it is forgotten. A device keeps what it is.
-    pub(crate) fn new(file: File) -> GrowingFile
-        ensures { file_failures result ≡ 0 }
-    {
+    pub(crate) fn new(file: File, name: Option<String>) -> GrowingFile {
         let _ = file.set_len(0);
-        GrowingFile {
-            file,
-            len: 0,
-            failures: 0,
-            is_pending: false,
-        }
+        GrowingFile { name, file, len: 0 }
     }
-}
 
-impl Sink for GrowingFile {
-    ghost use Rattle.std.specs.Prelude.{None};
-    ghost use Rattle.am_server.specs.GrowingFiles.{file_failures, is_unsent};
-
-    ghost holds = { λ _. None };
-
-    ghost failures = { file_failures };
-
-    ghost pending = { is_unsent };
-
-    fn give(&mut self, piece: &[u8]) -> Result<usize, Failed> {
-        if self.file.write_all(piece).is_err() {
+    /// Writes a piece behind the others.
+    pub(crate) fn write<R: Eprint>(&mut self, rt: &R, piece: &[u8]) -> Result<(), Failed> {
+        if let Err(fault) = self.file.write_all(piece) {
             let _ = self.file.set_len(self.len);
-            self.failures += 1;
+            if let Some(name) = &self.name {
+                say_why(rt, name.as_str(), &fault);
+                let _ = eprintln!(rt; "{}", ListenFault::CannotWriteTrace.words());
+            }
             return Err(Failed);
         }
         self.len = self.len.saturating_add(piece.len() as u64);
-        self.is_pending = self.is_pending || !piece.is_empty();
-        Ok(piece.len())
-    }
-
-    fn flush(&mut self) -> Result<(), Failed> {
-        self.is_pending = false;
         Ok(())
     }
+}
+
+/// Says why a file can't be written.
+pub(crate) fn say_why<R: Eprint>(rt: &R, name: &str, fault: &io::Error) {
+    let _ = eprintln!(rt; "amserve: {name}: {fault}");
 }

@@ -7,6 +7,7 @@ ghost use Rattle.std.specs.Prelude.{◌≤◌};
 use crate::console::Console;
 use crate::fault::ListenFault;
 use crate::growing_file::GrowingFile;
+use crate::outbox::{Outbox, Sending};
 use crate::trace_file::TraceFile;
 use am_command::Listening;
 use am_listen::{BindFault, Keeping, LetGo, Mode, PieceTaker, PortListener, TraceWriter, bind};
@@ -22,14 +23,13 @@ use std::thread::Threads;
 use std::time::Duration;
 use std::{fs, io};
 
-pub(crate) type Writer = TraceWriter<GrowingFile>;
+pub(crate) type Writer<'a, R> = TraceWriter<Sending<'a, R>>;
 
-/// What is there before the first connection: a port, and where a file is named for the trace that file and a writer.
+/// What is there before the first connection: a port, and where one is named the file for the trace.
 #[derive(Drop)]
 pub(crate) struct Opened {
     pub(crate) port: PortListener,
     pub(crate) file: Option<TraceFile>,
-    pub(crate) writer: Option<Writer>,
 }
 
 /// What a server did.
@@ -62,13 +62,18 @@ fn remove_socket<R: Files>(rt: &R, listening: &Listening<'_>) {
     }
 }
 
-/// The file for the trace, where one is named, and then the port; and the trace's first line.
+/// The file for the trace, where one is named, which the outbox gets, and then the port.
 #[inline(never)]
 pub(crate) fn open<
-    R: AllocGlobal + Files<File = File> + Net<Listener = TcpListener, Stream = TcpStream>,
->(rt: &R, listening: &Listening<'_>) -> Result<Opened, ListenFault> {
+    R: AllocGlobal
+        + Files<File = File>
+        + Net<Listener = TcpListener, Stream = TcpStream>
+        + Eprint
+        + Wait,
+>(rt: &R, listening: &Listening<'_>, outbox: &Outbox) -> Result<Opened, ListenFault> {
+    let name = name_to_tell(rt, listening)?;
     let opened = match listening.trace {
-        Some(path) if listening.stays => Some(TraceFile::open_growing(rt, path)?),
+        Some(path) if listening.stays => Some(TraceFile::open_or_say(rt, path)?),
         Some(path) => Some(TraceFile::open_beside(rt, path)?),
         None => None,
     };
@@ -79,22 +84,45 @@ pub(crate) fn open<
         return Err(ListenFault::CannotListen);
     };
     let Some((file, grown)) = opened else {
-        return Ok(Opened {
-            port,
-            file: None,
-            writer: None,
-        });
+        return Ok(Opened { port, file: None });
     };
-    let writer = TraceWriter::begin(rt.alloc(), GrowingFile::new(grown));
+    outbox.give_file(rt, GrowingFile::new(grown, name));
+    Ok(Opened {
+        port,
+        file: Some(file),
+    })
+}
+
+/// The writer of the trace, where a file is named, which has written its first line.
+#[inline(never)]
+pub(crate) fn begin_trace<'a, R: AllocGlobal + Files + Eprint + Wait>(
+    rt: &'a R,
+    listening: &Listening<'_>,
+    outbox: &'a Outbox,
+) -> Result<Option<Writer<'a, R>>, ListenFault> {
+    if listening.trace.is_none() {
+        return Ok(None);
+    }
+    let writer = TraceWriter::begin(rt.alloc(), Sending::new(rt, outbox));
     if listening.stays && writer.is_cut() {
         remove_socket(rt, listening);
         return Err(ListenFault::CannotWriteTrace);
     }
-    Ok(Opened {
-        port,
-        file: Some(file),
-        writer: Some(writer),
-    })
+    Ok(Some(writer))
+}
+
+// The name by which the file is told: a bounded server tells none.
+fn name_to_tell<R: AllocGlobal>(
+    rt: &R,
+    listening: &Listening<'_>,
+) -> Result<Option<String>, ListenFault> {
+    match listening.trace {
+        Some(path) if listening.stays => match String::from_str(rt.alloc(), path) {
+            Ok(name) => Ok(Some(name)),
+            Err(_) => Err(ListenFault::NoMemory),
+        },
+        _ => Ok(None),
+    }
 }
 
 // The port, and where one is named the socket.
@@ -145,14 +173,15 @@ pub(crate) fn serve<R: Threads + Wait + RandomSource + Clock + Eprint + Sync>(
     listening: &Listening<'_>,
     sessions: u64,
     workers: u64,
-    writer: Option<Writer>,
+    outbox: &Outbox,
+    writer: Option<Writer<'_, R>>,
 ) -> Result<Served, ListenFault>
     requires sessions { (1 ≤ sessions) × (sessions ≤ 256) }
     requires workers { workers ≤ 16 }
 {
     match writer {
-        Some(writer) => serve_with(rt, port, listening, sessions, workers, writer),
-        None => serve_with(rt, port, listening, sessions, workers, LetGo),
+        Some(writer) => serve_with(rt, port, listening, sessions, workers, outbox, writer),
+        None => serve_with(rt, port, listening, sessions, workers, outbox, LetGo),
     }
 }
 
@@ -165,6 +194,7 @@ fn serve_with<
     listening: &Listening<'_>,
     sessions: u64,
     workers: u64,
+    outbox: &Outbox,
     pieces: T,
 ) -> Result<Served, ListenFault>
     requires sessions { (1 ≤ sessions) × (sessions ≤ 256) }
@@ -172,7 +202,7 @@ fn serve_with<
 {
     let keeping = Keeping {
         pieces,
-        watcher: Console::new(rt, listening),
+        watcher: Console::new(rt, outbox, listening),
         grace: listening.grace.map(Duration::from_secs),
         idle: listening.idle.map(Duration::from_secs),
     };
@@ -192,12 +222,13 @@ fn serve_with<
     }
 }
 
-/// Stores the trace, and tells what was done. The program's status.
+/// Stores the trace, unless some of its text could not be written, and tells what was done. The program's status.
 #[inline(never)]
 pub(crate) fn close<R: Files + Print + Eprint>(
     rt: &R,
     listening: &Listening<'_>,
     file: Option<&TraceFile>,
+    is_failed: bool,
     served: Result<Served, ListenFault>,
 ) -> io::Result<ExitCode> {
     remove_socket(rt, listening);
@@ -209,7 +240,7 @@ pub(crate) fn close<R: Files + Print + Eprint>(
             return tell(rt, fault);
         }
     };
-    let stored = store(rt, file, served.is_cut);
+    let stored = store(rt, file, served.is_cut || is_failed);
     if stays || stored.is_ok() {
         println!(rt; "CLOSED {} {}", served.events, served.commits)?;
     }

@@ -1,6 +1,7 @@
 //! The file that gets the trace.
 
 use crate::fault::ListenFault;
+use crate::growing_file::say_why;
 use std::fs::{File, Metadata, OpenFile, OpenOptions};
 use std::io::ErrorKind;
 use std::rt::Files;
@@ -25,8 +26,25 @@ impl TraceFile {
         path: &str,
     ) -> Result<(TraceFile, File), ListenFault> {
         let named = TraceFile::of(rt, path, None)?;
-        let file = OpenOptions::new().write(true).create(true).open(rt, path);
-        Ok((named, file.map_err(|_| ListenFault::CannotWriteTrace)?))
+        match grow(rt, path) {
+            Ok(file) => Ok((named, file)),
+            Err(_) => Err(ListenFault::CannotWriteTrace),
+        }
+    }
+
+    /// Does the same, and says why where it can't be done.
+    pub(crate) fn open_or_say<R: AllocGlobal + Files<File = File> + Eprint>(
+        rt: &R,
+        path: &str,
+    ) -> Result<(TraceFile, File), ListenFault> {
+        let named = TraceFile::of(rt, path, None)?;
+        match grow(rt, path) {
+            Ok(file) => Ok((named, file)),
+            Err(fault) => {
+                say_why(rt, path, &fault);
+                Err(ListenFault::CannotWriteTrace)
+            }
+        }
     }
 
     /// Opens a file beside it, with a name that nobody has, for what will have its name at the end. Where it is a link,
@@ -113,6 +131,11 @@ impl TraceFile {
             let _ = fs::remove_file(rt, name.as_str());
         }
     }
+}
+
+// The file itself, which needn't be there yet.
+fn grow<R: Files<File = File>>(rt: &R, path: &str) -> io::Result<File> {
+    OpenOptions::new().write(true).create(true).open(rt, path)
 }
 
 // A name beside the path: the first one with no number.

@@ -1,3 +1,4 @@
+pub mod Places
 pub mod Spaces
 pub mod Numerals
 pub mod Keys

@@ -1,7 +1,7 @@
 -- Each number has one text, and each text of a number is that of its value.
 use Rattle.std.proofs.Common.{◌≡◌, ◌≢◌, ℕ, ◌+◌, ◌*◌, ◌/◌, ◌%◌, ◌^◌, ◌<◌, true, not, ◌||◌, eqb, List, [], ◌∷◌, ◌++◌}
 use Rattle.std.proofs.Common.{length, get_or, map, refl, sym, ap, ◌∙◌, inl, inr, arith, rules, ltb, Some, None, Result}
-use Rattle.std.proofs.Common.{Ok, Err, append_assoc, append-nil, decimal}
+use Rattle.std.proofs.Common.{◌≤◌, ◌-◌, take, Ok, Err, append_assoc, append-nil, decimal}
 use Rattle.std.specs.Char.{is_ascii_digit, digit_value}
 use Rattle.std.specs.List.{list_all}
 use Rattle.std.specs.Result.{OkIff, result_ok}
@@ -10,11 +10,14 @@ use Rattle.std.specs.Str.Parse.{digits_value, AllDigits, ParsesUnsigned}
 use Rattle.std.proofs.lemmas.Bool.{and_parts, and_from, or_left, cond-false, cond-true, ne_eqb, cases_eq}
 use Rattle.std.proofs.lemmas.Bool.{false_from_ne_true, lt-ltb, ltb-true}
 use Rattle.std.proofs.lemmas.Bool.Decides.{nat_tests}
-use Rattle.std.proofs.lemmas.Int.Digits.{digits_value_is, digits_of_step, all_below_base_digits_of}
+use Rattle.std.proofs.lemmas.Int.Digits.{digits_value_is, digits_value_more, digits_of_step, all_below_base_digits_of}
+use Rattle.std.proofs.lemmas.Grind.{common_steps}
+use Rattle.std.proofs.lemmas.List.Sums.{AllPass-from_list_all, list_all-from_AllPass}
 use Rattle.std.proofs.lemmas.Int.Digits.{all_below_base_from_digits, first_digits_of, number_digits_of, number_after_ge}
 use Rattle.std.proofs.lemmas.Fmt.{decimal-digits_of, decimal_digit}
 use Rattle.std.proofs.lemmas.Str.{digit_value_digit}
 use Rattle.std.proofs.lemmas.Str.Parse.{IsNumeralModel, numerals_by_value, parse_digits, digit_from_value}
+use Rattle.std.proofs.lemmas.Str.Parse.{digits_value_short}
 use Rattle.am_text.specs.Fields.{has_no_space}
 use Rattle.am_text.proofs.Spaces.{list_all-weaker}
 use Rattle.am_text.specs.Numbers.{numeral, is_numeral, numeral_value, number_for}
@@ -190,3 +193,35 @@ digit-no_space b h = grind (arith, nat_tests)
 pub numeral-no_space : (n : ℕ) → has_no_space (numeral n) ≡ true
 numeral-no_space n = list_all-weaker is_ascii_digit (λ b. not (eqb b 32)) digit-no_space (numeral n)
     (is_numeral-digits (numeral n) (is_numeral-numeral n))
+
+-- a few digits, read one after another
+module _ (ds : List ℕ) (i : ℕ) (all : list_all is_ascii_digit ds ≡ true) (few : length ds ≤ 19) (inside : i < length ds)
+  where
+    one_digit_is : is_ascii_digit (get_or ds i 0) ≡ true
+    one_digit_is = AllPass-from_list_all is_ascii_digit ds all i 0 inside
+
+    are_bounds : (48 ≤ get_or ds i 0) × (get_or ds i 0 ≤ 57)
+    are_bounds = (grind (arith, nat_tests, one_digit_is), grind (arith, nat_tests, one_digit_is))
+
+    pub next_digit : numeral_value (take (i + 1) ds) ≡ 10 * numeral_value (take i ds) + (get_or ds i 0 - 48)
+    next_digit = omega (arith, digits_value_more 10 ds i inside, digit_value_digit (get_or ds i 0) are_bounds)
+
+    pub from_zero : 48 ≤ get_or ds i 0
+    from_zero = are_bounds.0
+
+    pub stays_short : numeral_value (take (i + 1) ds) < 10 ^ 19
+    stays_short = digits_value_short are_digits (take (i + 1) ds) 19
+        (list_all-from_AllPass is_ascii_digit (take (i + 1) ds) (λ j d h.
+        let below : j < i + 1 = grind (arith, common_steps) in
+        let same : get_or (take (i + 1) ds) j d ≡ get_or ds j d = grind (arith, common_steps) in
+        ap is_ascii_digit same ∙ AllPass-from_list_all is_ascii_digit ds all j d (omega arith)))
+        (grind (arith, common_steps))
+
+-- so their number has 64 bits
+pub short_fits : (ds : List ℕ) → list_all is_ascii_digit ds ≡ true → length ds ≤ 19 → number_for (numeral_value ds) ≡
+    Some (numeral_value ds)
+short_fits ds all few =
+    let small : numeral_value ds < 10 ^ 19 = digits_value_short are_digits ds 19 all few in
+    let below : numeral_value ds < 2 ^ 64 = omega (arith, small) in
+    cond-true (ltb (numeral_value ds) (2 ^ 64)) (Some (numeral_value ds)) None
+    (lt-ltb (numeral_value ds) (2 ^ 64) below)

@@ -1,6 +1,6 @@
 -- The words of verbs: each verb has one, and no space stands in it.
-use Rattle.std.proofs.Common.{◌≡◌, ℕ, Bool, true, false, cond, List, [], ◌∷◌, Option, Some, refl}
-use Rattle.std.specs.Prelude.{bytes_eq, find}
+use Rattle.std.proofs.Common.{◌≡◌, ℕ, Bool, true, false, cond, List, [], ◌∷◌, Option, Some, None, refl, subst}
+use Rattle.std.specs.Prelude.{bytes_eq, find, slice_get}
 use Rattle.std.proofs.lemmas.Slice.Eq.{bytes_eq-Decides}
 use Rattle.am_text.specs.Verbs.{word_of, verb_for, verbs}
 use Rattle.am_text.specs.declared.verb.Verb.{Verb}
@@ -62,3 +62,27 @@ pub word_of-verb_for : (word : List ℕ) (verb : Verb) → verb_for word ≡ Som
 unfolding verb_for
 word_of-verb_for word verb e = (bytes_eq-Decides (word_of verb) word).0
     (found_passes (λ v. bytes_eq (word_of v) word) verbs verb e)
+
+-- what holds of each word with the letter holds of this one
+pub with_letter : (word : List ℕ) (letter : ℕ) (P : List ℕ → Type 0) → slice_get word 0 ≡ Some letter →
+    ((rest : List ℕ) → P (letter ∷ rest)) → P word
+with_letter [] letter P e h = absurd (cc)
+with_letter (b ∷ rest) letter P e h = let same : letter ≡ b = cc in subst (λ l. P (l ∷ rest)) same (h rest)
+
+-- a verb whose letter no other begins with is told by it
+module _ (rest : List ℕ) where
+  pub get_by_letter : verb_for (71 ∷ rest) ≡ cond (bytes_eq (word_of Get) (71 ∷ rest)) (Some Get) None
+  unfolding verb_for
+  get_by_letter = refl
+
+  pub insert_by_letter : verb_for (73 ∷ rest) ≡ cond (bytes_eq (word_of Insert) (73 ∷ rest)) (Some Insert) None
+  unfolding verb_for
+  insert_by_letter = refl
+
+  pub replace_by_letter : verb_for (82 ∷ rest) ≡ cond (bytes_eq (word_of Replace) (82 ∷ rest)) (Some Replace) None
+  unfolding verb_for
+  replace_by_letter = refl
+
+  pub delete_by_letter : verb_for (68 ∷ rest) ≡ cond (bytes_eq (word_of Delete) (68 ∷ rest)) (Some Delete) None
+  unfolding verb_for
+  delete_by_letter = refl

@@ -4,6 +4,7 @@ ghost use Rattle.std.specs.Prelude.{◌≡◌, ◌∷◌, [], MatchResult, optio
 ghost use Rattle.am_text.specs.Fields.{line_fields, fields_left, HasField};
 
 use crate::fault::LineFault;
+use crate::place::position_of;
 use std::marker::Model;
 
 /// The fields of a line that are still to be read. A space parts two fields, so a field may be empty.
@@ -58,7 +59,7 @@ impl<'a> Fields<'a> {
 fn split_field(text: &[u8]) -> (&[u8], Option<&[u8]>)
     ensures { line_fields text.now ≡ result.0.now ∷ fields_left (option_copied result.1) }
 {
-    match text.iter().position(|byte| *byte == b' ') {
+    match position_of(b' ', text) {
         Some(space) => (&text[..space], Some(&text[space + 1..])),
         None => (text, None),
     }

@@ -5,6 +5,7 @@ ghost use Rattle.am_text.specs.Records.{record_for, record_text, is_record_text}
 
 use crate::fault::LineFault;
 use crate::key::parse_key;
+use crate::place::position_of;
 use crate::value::parse_value;
 use am_record::{Key, Value};
 
@@ -32,7 +33,7 @@ pub fn parse_record_field(field: &[u8]) -> Result<Option<(Key, Value)>, LineFaul
 pub fn split_record(field: &[u8]) -> (&[u8], &[u8])
     ensures { (result.0.now, result.1.now) ≡ record_text field.now }
 {
-    match field.iter().position(|byte| *byte == b'=') {
+    match position_of(b'=', field) {
         Some(equals) => (&field[..equals], &field[equals + 1..]),
         None => (field, &[]),
     }

@@ -1,6 +1,6 @@
 //! The verbs of lines.
 
-ghost use Rattle.std.specs.Prelude.{◌≡◌};
+ghost use Rattle.std.specs.Prelude.{◌≡◌, Some, None, cond, bytes_eq};
 ghost use Rattle.am_text.specs.Verbs.{word_of, verb_for};
 
 /// What a line asks for, by its first word.
@@ -71,10 +71,34 @@ impl Verb {
         }
     }
 
-    /// The verb of the word.
+    /// The verb of the word. Those that come most often are told by their letters, which no others begin with.
     pub fn of_word(word: &[u8]) -> Option<Verb>
         ensures { result ≡ verb_for word.now }
     {
-        VERBS.iter().copied().find(|verb| verb.word() == word)
+        match word.first() {
+            Some(b'G') => told(Verb::Get, word),
+            Some(b'I') => told(Verb::Insert, word),
+            Some(b'R') => told(Verb::Replace, word),
+            Some(b'D') => told(Verb::Delete, word),
+            _ => find(word),
+        }
+    }
+}
+
+// The verb of the word, found among all.
+fn find(word: &[u8]) -> Option<Verb>
+    ensures { result ≡ verb_for word.now }
+{
+    VERBS.iter().copied().find(|verb| verb.word() == word)
+}
+
+// The verb, where the word is its own.
+fn told(verb: Verb, word: &[u8]) -> Option<Verb>
+    ensures { result ≡ cond (bytes_eq (word_of verb) word.now) (Some verb) None }
+{
+    if verb.word() == word {
+        Some(verb)
+    } else {
+        None
     }
 }

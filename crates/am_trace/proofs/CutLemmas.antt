@@ -1,11 +1,14 @@
 -- A text is cut at its first byte of a kind in one way.
-use Rattle.std.proofs.Common.{◌≡◌, ℕ, ◌<◌, ◌≤◌, ltb, eqb, not, true, cond, List, [], ◌∷◌, ◌++◌, length, get_or, take}
-use Rattle.std.proofs.Common.{Some, None, refl, sym, ap, ◌∙◌, arith, append_assoc}
+use Rattle.std.proofs.Common.{◌≡◌, ℕ, ◌+◌, ◌-◌, ◌<◌, ◌≤◌, ltb, eqb, not, true, cond, List, [], ◌∷◌, ◌++◌, length}
+use Rattle.std.proofs.Common.{get_or}
+use Rattle.std.proofs.Common.{take, drop, Some, None, refl, sym, ap, ◌∙◌, arith, append_assoc}
 use Rattle.std.specs.Prelude.{codes}
-use Rattle.std.specs.List.{position_or_len}
-use Rattle.std.proofs.lemmas.Bool.{cond_both, ltb-true, ltb-false, and_parts, and_from}
+use Rattle.std.specs.List.{position, position_or_len}
+use Rattle.std.proofs.lemmas.Bool.{cond_both, ltb-true, ltb-false, and_parts, and_from, eqb-true}
 use Rattle.std.proofs.lemmas.Bool.Decides.{nat_tests}
 use Rattle.std.proofs.lemmas.Grind.{common_steps}
+use Rattle.std.proofs.lemmas.List.{drop_more, take-append-drop}
+use Rattle.std.proofs.lemmas.List.Quantifiers.{position-Some}
 use Rattle.std.proofs.lemmas.List.Sums.{fails_before_first, list_all-from_AllPass}
 use Rattle.am_trace.specs.Cuts.{has_no, IsParted}
 
@@ -39,6 +42,17 @@ not_cut c text =
     let end : length text ≤ place = ltb-false place (length text) past in
     list_all-from_AllPass (λ b. not (eqb b c)) text
     (λ j d h. ap not (fails_before_first (λ b. eqb b c) text j d (omega arith))))
+
+-- the byte of the kind stands at the cut
+pub whole_at_cut : (c : ℕ) (text : List ℕ) (k : ℕ) → position (λ b. eqb b c) text ≡ Some k → text ≡ take k text ++
+    c ∷ take (length text - (k + 1)) (drop (k + 1) text)
+whole_at_cut c text k found =
+    let at = position-Some (λ b. eqb b c) text k c found in
+    let inside : k < length text = at.0 in
+    let byte : get_or text k c ≡ c = eqb-true (get_or text k c) c at.1 in
+    let tail : drop (k + 1) text ≡ take (length text - (k + 1)) (drop (k + 1) text) = grind (arith, common_steps) in
+    sym (take-append-drop k text) ∙ ap (λ l. take k text ++ l) (drop_more text k c inside) ∙
+    (λ i. take k text ++ byte i ∷ tail i)
 
 -- the byte of the kind isn't among those before the cut
 heads : (c b : ℕ) (rest : List ℕ) → has_no c (b ∷ rest) ≡ true → b ≡ c → ⊥

@@ -1,6 +1,6 @@
 -- The lines of events: each event has one, and no line is that of two.
-use Rattle.std.proofs.Common.{◌≡◌, ◌≢◌, ℕ, ◌+◌, ◌^◌, ◌<◌, leb, eqb, not, ◌&&◌, Bool, true, false, List, [], ◌∷◌, ◌++◌}
-use Rattle.std.proofs.Common.{length, map, Some, None, refl, sym, ap, ◌∙◌, subst, arith, append_assoc, decimal, inr}
+use Rattle.std.proofs.Common.{◌≡◌, ◌≢◌, ℕ, ◌^◌, ◌<◌, leb, eqb, not, ◌&&◌, Bool, true, false, List, [], ◌∷◌, ◌++◌}
+use Rattle.std.proofs.Common.{length, map, Some, None, refl, sym, ap, ◌∙◌, subst, arith, append_assoc, decimal}
 use Rattle.std.specs.Prelude.{codes, Result, Ok, Err, IfOk}
 use Rattle.std.specs.List.{list_all, AllByRecursion, join_with_byte}
 use Rattle.std.proofs.lemmas.Bool.{and_parts, and_from}
@@ -29,7 +29,7 @@ use Rattle.am_trace.specs.Steps.{verb_of, argument_fields, step_fields, IsOp, Is
 use Rattle.am_trace.specs.Replies.{refusal_fields, reply_fields, IsRefusal, IsReply}
 use Rattle.am_record.specs.Events.{Event}
 use Rattle.am_trace.specs.Lines.{IsEvent, AreEvents, step_words, reply_words, event_words, with_lf, event_lines}
-use Rattle.am_trace.specs.Lines.{trace_text, BeginsNoEvent, IsBadLine}
+use Rattle.am_trace.specs.Lines.{BeginsNoEvent}
 use Rattle.am_trace.specs.Reading.{step_in, reply_in, parts_in, IsReadAs}
 use Rattle.am_trace.specs.declared.read.ReadFault.{ReadFault}
 use Rattle.am_trace.specs.declared.read.ReadFault.TheVariants.{Bad, NoMemory}

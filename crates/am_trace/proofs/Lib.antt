@@ -3,6 +3,7 @@ pub mod CutLemmas
 pub mod Joins
 pub mod Writing
 pub mod Digits
+pub mod DigitTable
 pub mod ReadRecords
 pub mod IsText
 pub mod FieldTexts

@@ -65,3 +65,13 @@ refusal_for-code P every code r e =
 pub option_map-itself : {A : Type 0} (o : Option A) → option_map (λ x. x) o ≡ o
 option_map-itself None = refl
 option_map-itself (Some x) = refl
+
+-- a word whose letter no other begins with is told by it
+module _ (rest : List ℕ) where
+  pub done_by_letter : word_for (79 ∷ rest) ≡ cond (bytes_eq (word_text Done) (79 ∷ rest)) (Some Done) None
+  unfolding word_for
+  done_by_letter = refl
+
+  pub found_by_letter : word_for (86 ∷ rest) ≡ cond (bytes_eq (word_text Found) (86 ∷ rest)) (Some Found) None
+  unfolding word_for
+  found_by_letter = refl

@@ -1,6 +1,7 @@
 //! The words that replies begin with, and the codes of refusals, as they are read.
 
-ghost use Rattle.std.specs.Prelude.{◌≡◌};
+ghost use Rattle.std.specs.Prelude.{◌≡◌, Some, None, cond, bytes_eq};
+ghost use Rattle.am_text.specs.ReplyWords.{word_text};
 ghost use Rattle.am_trace.specs.Reading.{refusal_for, word_for};
 
 use am_record::Refusal;
@@ -38,11 +39,33 @@ const REFUSALS: [Refusal; 8] = [
     Refusal::NoMemory,
 ];
 
-/// The word of a text.
+/// The word of a text. Those that come most often are told by their letters, which no others begin with.
 pub(crate) fn word_for(text: &[u8]) -> Option<ReplyWord>
     ensures { result ≡ word_for text.now }
 {
+    match text.first() {
+        Some(b'O') => told(ReplyWord::Done, text),
+        Some(b'V') => told(ReplyWord::Found, text),
+        _ => find(text),
+    }
+}
+
+// The word of a text, found among all.
+fn find(text: &[u8]) -> Option<ReplyWord>
+    ensures { result ≡ word_for text.now }
+{
     WORDS.iter().copied().find(|word| word.text() == text)
+}
+
+// The word, where the text is its own.
+fn told(word: ReplyWord, text: &[u8]) -> Option<ReplyWord>
+    ensures { result ≡ cond (bytes_eq (word_text word) text.now) (Some word) None }
+{
+    if word.text() == text {
+        Some(word)
+    } else {
+        None
+    }
 }
 
 /// The refusal of a code.

@@ -13,7 +13,8 @@ use Rattle.am_locks.specs.Table.{is_owner, with_locks}
 use Rattle.am_tx.specs.declared.transaction.Transaction.{Transaction}
 use Rattle.am_tx.specs.Active.{tx_numbers, is_active_in, with_changed, new_transaction}
 use Rattle.am_tx.specs.Txs.{Txs, Rise, IsConsistent, txs_after_begin, txs_after_end}
-use Rattle.am_tx.proofs.Numbers.{any-map, map-filter, Rise-filter, Rise-push, none-next, tx_numbers-with_changed}
+use Rattle.am_locks.proofs.Numbers.{any-map}
+use Rattle.am_tx.proofs.Numbers.{map-filter, Rise-filter, Rise-push, none-next, tx_numbers-with_changed}
 use Rattle.am_tx.proofs.Numbers.{owners-with_locks}
 
 -- the owners of locks are the active transactions

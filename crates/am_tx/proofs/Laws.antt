@@ -6,7 +6,8 @@ use Rattle.std.proofs.lemmas.Bool.{ne_eqb, eqb-true}
 use Rattle.am_tx.specs.declared.transaction.Transaction.{Transaction}
 use Rattle.am_undo.specs.Log.{Log}
 use Rattle.am_tx.specs.Active.{is_active_in, of_active, with_changed}
-use Rattle.am_tx.proofs.Numbers.{any-map, tx_numbers-with_changed}
+use Rattle.am_locks.proofs.Numbers.{any-map}
+use Rattle.am_tx.proofs.Numbers.{tx_numbers-with_changed}
 
 -- ---- a transaction is changed
 

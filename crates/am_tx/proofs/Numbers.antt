@@ -11,11 +11,6 @@ use Rattle.am_tx.specs.declared.transaction.Transaction.{Transaction}
 use Rattle.am_tx.specs.Active.{tx_numbers, with_changed}
 use Rattle.am_tx.specs.Txs.{Rise}
 
-pub any-map : {X : Type 0} (number : X → ℕ) (tx : ℕ) (xs : List X) → list_any (λ x. number x == tx) xs ≡ list_any
-    (λ n. n == tx) (map number xs)
-any-map number tx [] = refl
-any-map number tx (x ∷ xs) = ap (λ b. (number x == tx) || b) (any-map number tx xs)
-
 pub map-filter : {X : Type 0} (number : X → ℕ) (tx : ℕ) (xs : List X) →
     map number (filter (λ x. not (number x == tx)) xs) ≡ filter (λ n. not (n == tx)) (map number xs)
 map-filter number tx [] = refl

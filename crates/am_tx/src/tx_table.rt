@@ -84,7 +84,7 @@ impl TxTable {
         ensures active { result ≡ is_active_in self.now.active tx }
         ensures consistent { IsConsistent self.now }
     {
-        self.active.iter().any(|active| active.number == tx)
+        self.locks.is_owner(tx)
     }
 
     /// How many transactions are active.
@@ -202,7 +202,8 @@ impl TxTable {
             → slice_set self.now.active result (f (slice_index_or self.now.active result d)) ≡
             with_changed f tx self.now.active }
     {
-        let place = self.active.iter().position(|active| active.number == tx);
+        // The owners of locks are the active transactions, in the same order.
+        let place = self.locks.place_of(tx);
         place.unwrap()
     }
 }

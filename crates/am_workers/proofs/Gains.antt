@@ -1,7 +1,7 @@
 -- What turns leave of a seat and of all seats, and what they gain.
 use Rattle.std.proofs.Common.{◌≡◌, ℕ, suc, ◌+◌, ◌<◌, ◌≤◌, List, [], ◌∷◌, ◌++◌, length, get_or, refl, sym, ap, ◌∙◌}
-use Rattle.std.proofs.Common.{arith, append_assoc, append-nil, length-append, None, Bool, true, false, MatchBool, subst}
-use Rattle.std.proofs.Common.{inl, inr, All}
+use Rattle.std.proofs.Common.{arith, append_assoc, append-nil, length-append, Bool, true, false, MatchBool, subst}
+use Rattle.std.proofs.Common.{inl, inr, Option, Some, None, ◌⊎◌}
 use Rattle.std.specs.Prelude.{flat_map}
 use Rattle.std.specs.List.{AllZip, AllByRecursion}
 use Rattle.std.proofs.lemmas.Grind.{flat_map-append}
@@ -22,7 +22,13 @@ use Rattle.am_latch.specs.Ties.{open_of}
 use Rattle.am_latch.proofs.Tying.{open_from-snoc}
 use Rattle.am_workers.specs.declared.upkeep.Upkeep.{Upkeep}
 use Rattle.am_workers.specs.declared.upkeep.Upkeep.TheVariants.{MergeOnly, MergeAndClean}
-use Rattle.am_workers.specs.Turns.{IsTurn, AreOfTurns, HasTakenTurns, MayHaveCleaned, all_moved}
+use Rattle.am_workers.specs.declared.cleaning.Place.{Place}
+use Rattle.am_workers.specs.Turns.{IsTurn, AreOfTurns, HasTakenTurns, all_moved}
+use Rattle.am_workers.specs.Cleaning.{HasCleaned}
+
+-- the seat has one receipt more, of a Clean of at most 64, or none
+abbrev pub MayHaveCleaned : SeatState → SeatState → Type 0
+MayHaveCleaned s t = (t ≡ s) ⊎ ((range : Interval) × (reply : Reply) × GetsReceipt s (Clean range 64) reply t)
 
 -- the seat has these receipts more, and what is open in it stays open
 record GoesOn (s t : SeatState) (more : List Receipt) : Type 0 where
@@ -154,28 +160,16 @@ cleaned_either_way : (s t : SeatState) (range : Interval) (r : Reply) (b : Bool)
 cleaned_either_way s t range r true c = inr (range, r, c)
 cleaned_either_way s t range r false e = inl e
 
-pub cleaned : (s t : SeatState) (range : Interval) (r : Reply) → HasReceiptOf s (Clean range 64) r t →
-    MayHaveCleaned s t
-cleaned s t range r c = cleaned_either_way s t range r (is_stored r) c
+-- so one receipt is there more, or none
+pub may_have_cleaned : (seats : ℕ) (from to : Place) (s t : SeatState) (reply : Option Reply) →
+    HasCleaned seats from s reply to t → MayHaveCleaned s t
+may_have_cleaned seats from to s t (Some r) h = cleaned_either_way s t h.range r (is_stored r) h.called
+may_have_cleaned seats from to s t None h = inl h.same
 
--- who only merges has no receipts but of Merge(limit)
-merges_in : (limit : ℕ) (turn : List Receipt) → IsTurn MergeOnly limit turn →
-    All (λ (r : Receipt). r.step ≡ Merge limit) turn
-merges_in limit [] h = absurd h
-merges_in limit (m ∷ []) h = All-push (λ (r : Receipt). r.step ≡ Merge limit) [] m
-    (All-nil (λ (r : Receipt). r.step ≡ Merge limit)) h
-merges_in limit (m ∷ c ∷ rest) h = absurd h
-
-merges_in_all : (limit : ℕ) (turns : List (List Receipt)) → AllByRecursion (IsTurn MergeOnly limit) turns →
-    All (λ (r : Receipt). r.step ≡ Merge limit) (flat_map (λ turn. turn) turns)
-merges_in_all limit [] h = All-nil (λ (r : Receipt). r.step ≡ Merge limit)
-merges_in_all limit (turn ∷ turns) h = All-append (λ (r : Receipt). r.step ≡ Merge limit) turn (flat_map (λ t. t) turns)
-    (merges_in limit turn h.0) (merges_in_all limit turns h.1)
-
-pub only_merges : (limit n : ℕ) (receipts : List Receipt) → AreOfTurns MergeOnly limit n receipts →
-    All (λ (r : Receipt). r.step ≡ Merge limit) receipts
-only_merges limit n receipts h = subst (All (λ (r : Receipt). r.step ≡ Merge limit)) (sym h.joined)
-    (merges_in_all limit h.turns h.each)
+-- a look changes no seat
+pub receipt_of_same : (s t u : SeatState) (step : Step) (r : Reply) → t ≡ s → HasReceiptOf t step r u →
+    HasReceiptOf s step r u
+receipt_of_same s t u step r same called = subst (λ (v : SeatState). HasReceiptOf v step r u) same called
 
 -- ---- all seats
 

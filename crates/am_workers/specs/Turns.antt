@@ -1,12 +1,11 @@
 -- What turns leave of a seat, and how many entries were moved.
-use Rattle.std.specs.Prelude.{◌≡◌, ◌⊎◌, ℕ, ◌≤◌, List, [], ◌∷◌, ◌++◌, length, flat_map, sum_by}
+use Rattle.std.specs.Prelude.{◌≡◌, ℕ, ◌≤◌, List, [], ◌∷◌, ◌++◌, length, flat_map, sum_by}
 use Rattle.std.specs.List.{AllByRecursion}
 use Rattle.am_record.specs.Interval.{Interval}
-use Rattle.am_record.specs.declared.step.Reply.{Reply}
 use Rattle.am_record.specs.declared.step.Reply.TheVariants.{Idle}
 use Rattle.am_record.specs.declared.step.Step.TheVariants.{Merge, Clean}
 use Rattle.am_latch.specs.declared.receipt.Receipt.{Receipt}
-use Rattle.am_latch.specs.Receipts.{SeatState, GetsReceipt, moved_in}
+use Rattle.am_latch.specs.Receipts.{SeatState, moved_in}
 use Rattle.am_latch.specs.Ties.{open_of}
 use Rattle.am_workers.specs.declared.upkeep.Upkeep.{Upkeep}
 use Rattle.am_workers.specs.declared.upkeep.Upkeep.TheVariants.{MergeAndClean}
@@ -33,10 +32,6 @@ pub record HasTakenTurns (upkeep : Upkeep) (limit n : ℕ) (s t : SeatState) : T
   pub longer : t.receipts ≡ s.receipts ++ more
   pub turns : AreOfTurns upkeep limit n more
   pub open_tx : open_of t.receipts ≡ open_of s.receipts
-
--- the seat has one receipt more, of a Clean of at most 64, or none
-abbrev pub MayHaveCleaned : SeatState → SeatState → Type 0
-MayHaveCleaned s t = (t ≡ s) ⊎ ((range : Interval) × (reply : Reply) × GetsReceipt s (Clean range 64) reply t)
 
 -- how many entries the receipts of all seats say were moved
 abbrev pub all_moved : List SeatState → ℕ

@@ -1,12 +1,13 @@
 //! What a worker cleans where nothing is left to merge.
 
-ghost use Rattle.std.specs.Prelude.{◌≡◌, ◌*◌, nat_le};
-ghost use Rattle.am_workers.specs.Cleaning.{ghost_to_clean};
-ghost use Rattle.am_workers.specs.Turns.{MayHaveCleaned};
+ghost use Rattle.std.specs.Prelude.{◌≡◌, ◌*◌, nat_le, false, IfSome, IfNone};
+ghost use Rattle.am_record.specs.OrderedKey.{key_least};
+ghost use Rattle.am_record.specs.Interval.{key_le};
+ghost use Rattle.am_workers.specs.Cleaning.{ghost_to_clean, highest_key, place_behind, IsFrom, IsSeen, HasCleaned};
 
 use am_btree::BTree;
 use am_core::Store;
-use am_latch::{Latch, LatchName, Seat};
+use am_latch::{Engine, Latch, LatchName, Seat};
 use am_parts::Figures;
 use am_record::{Entry, Key, MAX_KEY_LEN, Range, Reply, Step};
 use std::sync::Wait;
@@ -26,7 +27,9 @@ pub(crate) struct Place {
 
 impl Place {
     /// The beginning of a partition.
-    pub(crate) fn front_of(part: u32) -> Place {
+    pub(crate) fn front_of(part: u32) -> Place
+        ensures { result ≡ record { part = part; key = key_least } }
+    {
         Place {
             part,
             key: Key::least(),
@@ -35,7 +38,9 @@ impl Place {
 
     // Where to go on after a Clean from the entry's key on. Where it cleaned fewer than it might, all ghosts left from
     // there on are locked: the partition has no more to clean behind the entry.
-    fn behind(entry: &Entry, reply: &Reply) -> Place {
+    fn behind(entry: &Entry, reply: &Reply) -> Place
+        ensures { result ≡ place_behind entry.now reply.now }
+    {
         match reply {
             Reply::Cleaned(count) if *count < CLEAN_LIMIT => {
                 Place::front_of(entry.part.saturating_add(1))
@@ -55,11 +60,22 @@ pub(crate) fn clean<L: LatchName, R: Wait>(
     seat: &mut Seat<L>,
     place: &mut Place,
 ) -> Option<Reply>
-    ensures { MayHaveCleaned seat.old seat.new }
+    ensures { HasCleaned L.seats place.old seat.old result place.new seat.new }
 {
     let from = *place;
-    let entry = latch.look(rt, seat, |engine| ghost_to_clean(engine.store(), from))?;
-    let range = keys_from(entry.key)?;
+    let found = latch.look(
+        rt,
+        seat,
+        |engine: &Engine| -> Option<Entry>
+            ensures { IsSeen from engine.now.trace result }
+        { ghost_to_clean(engine.store(), from) },
+    );
+    let Some(entry) = found else {
+        return None;
+    };
+    let Some(range) = keys_from(entry.key) else {
+        return None;
+    };
     let reply = seat.call(rt, latch, Step::Clean(range, CLEAN_LIMIT));
     *place = Place::behind(&entry, &reply);
     Some(reply)
@@ -87,6 +103,9 @@ fn are_many(figures: Figures) -> bool
 }
 
 // All keys from this one on. No key is above the longest one of the highest bytes, so there is always such a range.
-fn keys_from(key: Key) -> Option<Range> {
+fn keys_from(key: Key) -> Option<Range>
+    ensures from { IfSome result (IsFrom key) }
+    ensures none { IfNone result (key_le key highest_key ≡ false) }
+{
     Range::new(key, Key::new(&[u8::MAX; MAX_KEY_LEN])?)
 }

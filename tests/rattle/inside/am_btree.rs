@@ -81,7 +81,7 @@ fn scattered_inserts_leave_leaves_half_full(rt: HostRuntime) -> Result<(), Fail>
     for i in 0..1500_u64 {
         let entry = numbered(0, 7919 * i % 1500);
         if tree.find(entry.part, entry.key).is_none() {
-            tree.insert(rt.alloc(), entry)?;
+            tree.insert(rt.alloc(), &entry)?;
         }
     }
     assert!(rt; leaves(&tree) <= 100);
@@ -121,12 +121,30 @@ fn a_new_entry_is_added_once(rt: HostRuntime) -> Result<(), Fail> {
 }
 
 #[test]
+fn what_comes_in_order_fills_its_leaves(rt: HostRuntime) -> Result<(), Fail> {
+    let mut tree = Subtree::new(rt.alloc())?;
+    for number in 0..32_u64 {
+        tree.insert(rt.alloc(), &numbered(0, number))?;
+    }
+    for number in 0..32_u64 {
+        tree.insert(rt.alloc(), &numbered(2, number))?;
+    }
+    assert!(rt; leaves(&tree) == 2);
+    // They go behind the one leaf and before the other.
+    for number in 0..3200_u64 {
+        tree.insert(rt.alloc(), &numbered(1, number))?;
+    }
+    assert!(rt; leaves(&tree) == 102);
+    Ok(())
+}
+
+#[test]
 fn a_loaded_run_fills_its_leaves(rt: HostRuntime) -> Result<(), Fail> {
     let mut tree = Subtree::new(rt.alloc())?;
     for number in 0..3200_u64 {
         let entry = numbered(1, number);
         if tree.find(entry.part, entry.key).is_none() {
-            tree.insert(rt.alloc(), entry)?;
+            tree.insert(rt.alloc(), &entry)?;
         }
     }
     assert!(rt; leaves(&tree) == 100);
@@ -203,7 +221,7 @@ fn count(tree: &Subtree) -> usize {
 
 // Adds the entry to a tree, unless its place is taken.
 fn add_to(tree: &mut Subtree, alloc: Global, entry: Entry) -> Result<(), NoMemory> {
-    match tree.insert(alloc, entry) {
+    match tree.insert(alloc, &entry) {
         Err(Obstacle::NoMemory) => Err(NoMemory),
         Ok(()) | Err(Obstacle::Taken) => Ok(()),
     }

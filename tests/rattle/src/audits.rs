@@ -1,7 +1,7 @@
 //! Worked traces, as they are stored: a text holds nothing that a test would have to give back.
 
 use am_audit::{Fault, FaultKind, check};
-use am_record::{Key, Op, Refusal, Reply, Step};
+use am_record::{Key, NoMemory, Op, Refusal, Reply, Step};
 use am_trace::read_trace;
 use std::alloc::Global;
 use std::process::Abort;
@@ -81,6 +81,64 @@ SCAN 1 10 20 5 | ROWS 0
 INS 2 15 h78 | OK
 ";
     expect(&rt, rt.alloc(), text, wrong(5, FaultKind::Busy));
+}
+
+// What the first transaction locked while it was the only one stands in the second one's way.
+#[test]
+fn audit_locks_taken_alone(rt: HostRuntime) {
+    let text = b"TRACE 1
+BEGIN | BEGUN 1
+GET 1 5 | NONE
+INS 1 6 h61 | OK
+SCAN 1 10 20 5 | ROWS 0
+BEGIN | BEGUN 2
+GET 2 5 | NONE
+INS 2 5 h62 | BUSY 1
+GET 2 6 | BUSY 1
+INS 2 15 h63 | BUSY 1
+COMMIT 1 | COMMITTED 1
+GET 2 6 | VAL h61
+COMMIT 2 | COMMITTED 2
+";
+    expect(&rt, rt.alloc(), text, Ok(2));
+    let text = b"TRACE 1
+BEGIN | BEGUN 1
+GET 1 5 | NONE
+BEGIN | BEGUN 2
+INS 2 5 h62 | OK
+";
+    expect(&rt, rt.alloc(), text, wrong(5, FaultKind::Busy));
+}
+
+// An operation that was refused memory has no lock, whoever else is active.
+#[test]
+fn audit_refused_alone(rt: HostRuntime) {
+    let text = b"TRACE 1
+BEGIN | BEGUN 1
+INS 1 6 h61 | OK
+GET 1 5 | ERR MEMORY
+BEGIN | BEGUN 2
+INS 2 5 h62 | OK
+INS 2 6 h62 | BUSY 1
+COMMIT 2 | COMMITTED 1
+COMMIT 1 | COMMITTED 2
+";
+    expect(&rt, rt.alloc(), text, Ok(2));
+}
+
+// The 257th lock is one too many for an only transaction too, unless it has it.
+#[test]
+fn audit_most_locks_alone(rt: HostRuntime) -> Result<(), NoMemory> {
+    let mut text = Vec::new(rt.alloc());
+    text.extend_from_slice(b"TRACE 1\nBEGIN | BEGUN 1\n")?;
+    for key in 0..256 {
+        text.extend_from_slice(format!(in rt.alloc(); "GET 1 {key} | NONE\n")?.as_bytes())?;
+    }
+    text.extend_from_slice(b"GET 1 7 | NONE\nGET 1 256 | ERR LOCKS\nCOMMIT 1 | COMMITTED 1\n")?;
+    expect(&rt, rt.alloc(), &text, Ok(1));
+    text.extend_from_slice(b"BEGIN | BEGUN 2\nGET 2 256 | ERR LOCKS\n")?;
+    expect(&rt, rt.alloc(), &text, wrong(263, FaultKind::Form));
+    Ok(())
 }
 
 // What an aborted transaction read is not compared.

@@ -1,5 +1,6 @@
 //! Merge steps, clean steps and their wishes.
 
+use am_btree::BTree;
 use am_list::PartIndex;
 use am_list_index::ListIndex;
 use am_locks::{Asked, LockTable};
@@ -143,6 +144,93 @@ fn merges_add_up_where_memory_is_refused(rt: HostRuntime) {
     wishes.wish(range(&rt, 0, 9));
     assert!(rt; merge_all(&rt, &mut parts, &mut wishes, &locks) == 8);
     assert!(rt; count_in(&parts, 0) == 8 && count_in(&parts, 1) == 0);
+}
+
+// A run of the keys 0 to 99, each fourth one a ghost, over a final partition with every tenth key as a ghost.
+fn hundred<I: PartIndex + Drop>(rt: &impl Abort, alloc: Global, index: I) -> Parts<I> {
+    let mut parts = Parts::new(alloc, index, HashKey::known());
+    for number in 0..100_u64 {
+        add(&mut parts, 1, number, b'r', number % 4 == 0).expect(rt, "memory");
+        if number % 10 == 0 {
+            add(&mut parts, 0, number, b'f', true).expect(rt, "memory");
+        }
+    }
+    parts
+}
+
+// What stands of the hundred in the final partition and in the run, once the first `moved` are worked off.
+fn is_moved<I: PartIndex + Drop>(rt: &impl Abort, parts: &Parts<I>, moved: u64) {
+    for number in 0..100_u64 {
+        let is_ghost = number % 4 == 0;
+        let home = if number < moved && !is_ghost {
+            Some((value(b'r'), false))
+        } else if number % 10 == 0 {
+            Some((value(b'f'), true))
+        } else {
+            None
+        };
+        let left = (number >= moved).then_some((value(b'r'), is_ghost));
+        let key = Key::of_u64(number);
+        assert!(rt; parts.find(0, key) == home, "{number} in 0");
+        assert!(rt; parts.find(1, key) == left, "{number} in 1");
+    }
+}
+
+// Merges the hundred by steps of the limit, up to where the locks end it.
+fn moves<I: PartIndex + Drop>(
+    rt: &impl Abort,
+    alloc: Global,
+    index: I,
+    locks: &LockTable,
+    limit: u64,
+    steps: &[u64],
+) {
+    let mut parts = hundred(rt, alloc, index);
+    let mut wishes = Wishes::new(alloc).expect(rt, "memory");
+    wishes.wish(range(rt, 0, 200));
+    let mut moved: u64 = 0;
+    for step in steps {
+        let reply = merge_step(&mut parts, &mut wishes, locks, limit);
+        assert!(rt; reply == Reply::Moved(*step, 1));
+        moved = moved.saturating_add(*step);
+        is_moved(rt, &parts, moved);
+    }
+    let end = if moved == 100 {
+        Reply::MergeDone
+    } else {
+        Reply::Ended(Key::of_u64(moved), 2)
+    };
+    let reply = merge_step(&mut parts, &mut wishes, locks, limit);
+    assert!(rt; reply == end);
+    is_moved(rt, &parts, moved);
+}
+
+// The same over a list, and over a tree, whose leaves have fewer entries than a step may move.
+fn moves_over_both(rt: &impl Abort, alloc: Global, locks: &LockTable, limit: u64, steps: &[u64]) {
+    moves(rt, alloc, ListIndex::new(alloc), locks, limit, steps);
+    let tree = BTree::new(alloc).expect(rt, "memory");
+    moves(rt, alloc, tree, locks, limit, steps);
+}
+
+#[test]
+fn a_stretch_ends_at_the_limit_and_at_the_end_of_its_run(rt: HostRuntime) {
+    let locks = LockTable::new(rt.alloc()).expect(&rt, "memory");
+    moves_over_both(&rt, rt.alloc(), &locks, 64, &[64, 36]);
+    moves_over_both(&rt, rt.alloc(), &locks, 33, &[33, 33, 33, 1]);
+    moves_over_both(&rt, rt.alloc(), &locks, 16, &[16, 16, 16, 16, 16, 16, 4]);
+    moves_over_both(&rt, rt.alloc(), &locks, 1, &[1; 100]);
+}
+
+#[test]
+fn a_stretch_ends_at_a_lock(rt: HostRuntime) {
+    for at in [1_u64, 15, 16, 17, 40, 63, 64, 65] {
+        let locks = locked(&rt, rt.alloc(), at);
+        if at < 65 {
+            moves_over_both(&rt, rt.alloc(), &locks, 64, &[at]);
+        } else {
+            moves_over_both(&rt, rt.alloc(), &locks, 64, &[64, 1]);
+        }
+    }
 }
 
 // The keys 2 to 9 are cleaned.

@@ -7,29 +7,28 @@ use am_record::{HashKey, Key, NoMemory, Op, Pairs, Range, Refusal, Reply, Step, 
 use std::alloc::Global;
 use std::test::Fail;
 
-fn three_pairs(alloc: Global) -> Result<Pairs, NoMemory> {
+fn pairs_to(alloc: Global, last: u64) -> Result<Pairs, NoMemory> {
     let mut pairs = Vec::new(alloc);
-    for (number, byte) in [(1, b'a'), (2, b'b'), (3, b'c')] {
-        pairs.push((Key::of_u64(number), Value::new(&[byte]).unwrap()))?;
+    for number in 1..=last {
+        pairs.push((Key::of_u64(number), Value::new(b"v").unwrap()))?;
     }
     Ok(Pairs::new(pairs))
 }
 
-// A store with one run, which is asked for, and in which the third and the fourth insert of its merge are refused; the
-// load is the first that is counted.
-fn asked(alloc: Global) -> Result<Store<Tight<BTree>>, NoMemory> {
-    let refused = vec![in alloc; 4, 5]?;
+// A store with one run of the keys from 1 to the last one, which is asked for, and in which inserts of those numbers are
+// refused; the load is the first that is counted.
+fn asked(alloc: Global, last: u64, refused: Vec<u64>) -> Result<Store<Tight<BTree>>, NoMemory> {
     let mut store = Store::open(
         alloc,
         Tight::new(BTree::new(alloc)?, refused),
         HashKey::known(),
     )?;
-    let Some(range) = Range::new(Key::of_u64(1), Key::of_u64(3)) else {
+    let Some(range) = Range::new(Key::of_u64(1), Key::of_u64(last)) else {
         return Err(NoMemory);
     };
     for step in [
         Step::Begin,
-        Step::Do(1, Op::Load(three_pairs(alloc)?)),
+        Step::Do(1, Op::Load(pairs_to(alloc, last)?)),
         Step::Commit(1),
         Step::Begin,
         Step::Do(2, Op::Scan(range, 9)),
@@ -43,7 +42,8 @@ fn asked(alloc: Global) -> Result<Store<Tight<BTree>>, NoMemory> {
 
 #[test]
 fn refused_inserts_of_a_merge(rt: HostRuntime) -> Result<(), Fail> {
-    let mut store = asked(rt.alloc())?;
+    // The third and the fourth insert of the merge.
+    let mut store = asked(rt.alloc(), 3, vec![in rt.alloc(); 4, 5]?)?;
     for reply in [
         Reply::Moved(2, 1),
         Reply::Refused(Refusal::NoMemory),
@@ -51,6 +51,22 @@ fn refused_inserts_of_a_merge(rt: HostRuntime) -> Result<(), Fail> {
         Reply::MergeDone,
     ] {
         assert_eq!(rt; store.step(Step::Merge(16)), reply);
+    }
+    Ok(())
+}
+
+#[test]
+fn a_stretch_ends_where_memory_is_refused(rt: HostRuntime) -> Result<(), Fail> {
+    // The twentieth insert of the merge and the one after it, each in the midst of a batch, and the first of a step.
+    let mut store = asked(rt.alloc(), 50, vec![in rt.alloc(); 21, 22, 40]?)?;
+    for reply in [
+        Reply::Moved(19, 1),
+        Reply::Refused(Refusal::NoMemory),
+        Reply::Moved(17, 1),
+        Reply::Moved(14, 1),
+        Reply::MergeDone,
+    ] {
+        assert_eq!(rt; store.step(Step::Merge(64)), reply);
     }
     Ok(())
 }

@@ -205,3 +205,57 @@ fn refused_insert_changes_nothing(rt: HostRuntime) -> Result<(), Fail> {
     }
     Ok(())
 }
+
+// Takes a hundred neighbours of the partition out, from the tenth on, and answers in how many calls.
+fn take_hundred<I: PartIndex>(index: &mut I) -> u64 {
+    let mut calls: u64 = 0;
+    let mut gone: usize = 0;
+    while gone < 100 {
+        let key = Key::of_u64(10 + gone as u64);
+        gone += index.remove_from(1, key, 100 - gone);
+        calls += 1;
+    }
+    calls
+}
+
+fn hundred_are_gone<I: PartIndex>(rt: &impl Abort, index: &I) {
+    for number in 0..200_u64 {
+        let stands = index.find(1, Key::of_u64(number)).is_some();
+        assert!(rt; stands == !(10..110).contains(&number), "{number}");
+    }
+    assert!(rt; index.find(0, Key::of_u64(100)).is_some());
+    assert!(rt; index.find(2, Key::of_u64(100)).is_some());
+}
+
+#[test]
+fn neighbours_are_taken_out_leaf_by_leaf(rt: HostRuntime) {
+    let alloc = rt.alloc();
+    let mut list = ListIndex::new(alloc);
+    fill(&rt, &mut list);
+    assert!(rt; take_hundred(&mut list) == 100);
+    hundred_are_gone(&rt, &list);
+    let mut tree = BTree::new(alloc).expect(&rt, "memory");
+    fill(&rt, &mut tree);
+    // A leaf has sixteen entries at least.
+    assert!(rt; take_hundred(&mut tree) <= 8);
+    hundred_are_gone(&rt, &tree);
+}
+
+fn adds_once<I: PartIndex>(rt: &impl Abort, index: &mut I) {
+    let entry = numbered(1, 7);
+    assert!(rt; index.insert_new(entry) == Ok(true));
+    assert!(rt;
+        index.insert_new(Entry {
+            is_ghost: true,
+            ..entry
+        }) == Ok(false)
+    );
+    assert!(rt; index.find(1, entry.key) == Some((entry.value, entry.is_ghost)));
+}
+
+#[test]
+fn what_is_new_is_added_once(rt: HostRuntime) {
+    adds_once(&rt, &mut ListIndex::new(rt.alloc()));
+    let mut tree = BTree::new(rt.alloc()).expect(&rt, "memory");
+    adds_once(&rt, &mut tree);
+}

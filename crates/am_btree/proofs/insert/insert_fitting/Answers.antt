@@ -17,18 +17,20 @@ returns-then-len-lt-ROOM-clause-ok c = (
   (
     refl,
     c.insert_at.ensures.entries ∙
-        insert_gap c.args.leaf.now.entries c.args.entry c.in-Err.at c.in-Err.ensures.absent,
+        insert_gap c.args.leaf.now.entries c.args.entry.now c.in-Err.at c.in-Err.ensures.absent,
   ),
   tt,
 )
 
 pub returns-then-len-lt-ROOM-clause-rising : goal.returns-then-len-lt-ROOM-clause-rising
 returns-then-len-lt-ROOM-clause-rising c = subst IsRising (sym c.insert_at.ensures.entries)
-    (rising_insert_gap c.args.leaf.now.entries c.args.entry c.in-Err.at c.in-Err.ensures.absent c.in-Err.ensures.rising)
+    (rising_insert_gap c.args.leaf.now.entries c.args.entry.now c.in-Err.at c.in-Err.ensures.absent
+    c.in-Err.ensures.rising)
 
 pub invariant_of-right : goal.invariant_of-right
 invariant_of-right c =
-    let xs = c.args.leaf.now.entries in let x = c.args.entry in let i = c.in-Err.at in let gap = c.in-Err.ensures.absent
+    let xs = c.args.leaf.now.entries in let x = c.args.entry.now in let i = c.in-Err.at in
+    let gap = c.in-Err.ensures.absent
     in let m = lower_size c.keep_of.result i in
     let out = c.split_insert.ensures in
     let range = size_range c.keep_of.result i c.keep_of.ensures.keeps c.keep_of.ensures.room in
@@ -44,7 +46,8 @@ invariant_of-right c =
 
 pub get-requires : goal.get-requires
 get-requires c =
-    let xs = c.args.leaf.now.entries in let x = c.args.entry in let i = c.in-Err.at in let gap = c.in-Err.ensures.absent
+    let xs = c.args.leaf.now.entries in let x = c.args.entry.now in let i = c.in-Err.at in
+    let gap = c.in-Err.ensures.absent
     in let m = lower_size c.keep_of.result i in
     let out = c.split_insert.ensures in
     let range = size_range c.keep_of.result i c.keep_of.ensures.keeps c.keep_of.ensures.room in
@@ -54,7 +57,8 @@ get-requires c =
 
 pub returns-clause-ok : goal.returns-clause-ok
 returns-clause-ok c =
-    let xs = c.args.leaf.now.entries in let x = c.args.entry in let i = c.in-Err.at in let gap = c.in-Err.ensures.absent
+    let xs = c.args.leaf.now.entries in let x = c.args.entry.now in let i = c.in-Err.at in
+    let gap = c.in-Err.ensures.absent
     in let m = lower_size c.keep_of.result i in
     let out = c.split_insert.ensures in let lower = c.split_insert.new.leaf.entries in
     let upper = c.split_insert.new.upper.entries in
@@ -95,7 +99,8 @@ returns-clause-ok c =
 
 pub returns-clause-rising : goal.returns-clause-rising
 returns-clause-rising c =
-    let xs = c.args.leaf.now.entries in let x = c.args.entry in let i = c.in-Err.at in let gap = c.in-Err.ensures.absent
+    let xs = c.args.leaf.now.entries in let x = c.args.entry.now in let i = c.in-Err.at in
+    let gap = c.in-Err.ensures.absent
     in let m = lower_size c.keep_of.result i in
     let out = c.split_insert.ensures in
     rising_front c.split_insert.new.leaf.entries c.split_insert.new.upper.entries
@@ -107,14 +112,16 @@ is_some None n = absurd (n refl)
 is_some (Some x) n = refl
 
 pub returns-in_default-clause-taken : goal.returns-in_default-clause-taken
-returns-in_default-clause-taken c = λ _. is_some (find c.args.leaf.now.entries c.args.entry.part c.args.entry.key)
-    (find_present c.args.leaf.now.entries c.args.entry.part c.args.entry.key c.in_default.field-0
+returns-in_default-clause-taken c = λ _. is_some
+    (find c.args.leaf.now.entries c.args.entry.now.part c.args.entry.now.key)
+    (find_present c.args.leaf.now.entries c.args.entry.now.part c.args.entry.now.key c.in_default.field-0
     c.in_default.ensures.found)
 
 pub returns-then-len-lt-ROOM-clause-absent : goal.returns-then-len-lt-ROOM-clause-absent
-returns-then-len-lt-ROOM-clause-absent c = find_absent c.args.leaf.now.entries c.args.entry.part c.args.entry.key
+returns-then-len-lt-ROOM-clause-absent c = find_absent c.args.leaf.now.entries c.args.entry.now.part
+    c.args.entry.now.key
     c.in-Err.at c.in-Err.ensures.absent
 
 pub returns-clause-absent : goal.returns-clause-absent
-returns-clause-absent c = find_absent c.args.leaf.now.entries c.args.entry.part c.args.entry.key c.in-Err.at
+returns-clause-absent c = find_absent c.args.leaf.now.entries c.args.entry.now.part c.args.entry.now.key c.in-Err.at
     c.in-Err.ensures.absent

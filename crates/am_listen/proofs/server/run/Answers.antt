@@ -22,7 +22,7 @@ join-beside-requires-send-F g c κs within = param_send _ _ (arg_send _ no _ (ca
     (shr_send _ _ (Latch.the_row (param 0 g.row.L) g.L.LatchName) (latch_sync (param 0 g.row.L) g.L.LatchName))
     (shr_send _ _ (House.the_row _)
     (house.the_sync _))
-    (beside.the_send (param 0 g.row.L) (param 2 g.row.T) (param 3 g.row.V) g.L.LatchName
+    (beside.the_send (param 0 g.row.L) (param 2 g.row.T) (param 3 g.row.V) g.L.LatchName g.T.PieceTaker
     (search (c.type_bounds, sendable) depth 10) (search (c.type_bounds, sendable) depth 10))))
 
 pub assign_seats-requires-clause-fresh : goal.assign_seats-requires-clause-fresh

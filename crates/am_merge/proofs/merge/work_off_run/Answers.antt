@@ -1,61 +1,114 @@
-use Rattle.std.proofs.Common.{◌≡◌, ◌+◌, take, sym, ap, ◌∙◌, refl, arith}
-use Rattle.am_record.proofs.Outcomes.{on_err}
-use Rattle.am_effect.specs.Merging.{candidates, all_worked_off}
-use Rattle.am_merge.proofs.Merging.{starts, stops, is_full, stands, in_run, inside, is_refused, goes_on, on_ok}
+use Rattle.std.proofs.Common.{◌≡◌, ◌+◌, ◌-◌, take, length, refl, sym, ap, ◌∙◌, arith}
+use Rattle.std.specs.Prelude.{take_while}
+use Rattle.am_merge.specs.Holding.{holder_of}
+use Rattle.am_merge.specs.Steps.{is_free_in}
+use Rattle.am_merge.proofs.Merging.{starts, is_full, is_stretch, stands_first, within_all, goes_on, ends}
 use Rattle.am_merge.proofs.merge.work_off_run.Goals as goal
 
 pub loop-moved-init : goal.loop-moved-init
 loop-moved-init g c = record {
-  way = starts c.requires.sound c.args.locks.now c.args.limit c.args.range c.args.first
-      c.requires.first c.requires.free;
+  way = starts c.requires.sound (holder_of c.args.locks.now) c.args.limit c.args.range c.args.first.part;
   runs = refl;
 }
 
-pub returns-in_default-clause-far : goal.returns-in_default-clause-far
-returns-in_default-clause-far g c = stops c.requires.sound c.args.locks.now c.args.limit c.args.range
-    c.loop-moved.invariant.way c.in_default.is
+pub bring_home-count-requires : goal.bring_home-count-requires
+bring_home-count-requires g c =
+    stands_first c.requires.sound (holder_of c.args.locks.now) c.args.limit c.args.range
+    c.loop-moved.invariant.way c.args.first c.requires.first refl c.lo.result c.lo.ensures.value
+    (c.args.limit - c.loop-moved.moved) c.count_free-free.result c.clear.new.self c.entries-in-loop-moved.result.now
+    c.clear.ensures (c.entries-in-loop-moved.ensures.all ∙ c.read_from.ensures.read)
 
-pub returns-in_default-clause-entries : goal.returns-in_default-clause-entries
-returns-in_default-clause-entries g c = c.loop-moved.invariant.way.entries
+pub overflow_add-moved : goal.overflow_add-moved
+overflow_add-moved g c =
+    let read = c.entries-in-loop-moved.ensures.all ∙ c.read_from.ensures.read in
+    let counted : c.count_free-free.result ≡ length (take_while
+    (is_free_in (holder_of c.args.locks.now) c.args.range)
+    (take (c.args.limit - c.loop-moved.moved) c.entries-in-loop-moved.result.now)) =
+    c.count_free-free.ensures ∙ ap (λ l. length (take_while (is_free_in (holder_of c.args.locks.now) c.args.range)
+    (take (c.args.limit - c.loop-moved.moved) l)))
+    (c.entries.ensures.all ∙ sym c.entries-in-loop-moved.ensures.all) in
+    let stretch = is_stretch c.requires.sound (holder_of c.args.locks.now) c.args.limit c.args.range
+    c.loop-moved.invariant.way c.args.first c.requires.first refl c.lo.result c.lo.ensures.value
+    (c.args.limit - c.loop-moved.moved) c.count_free-free.result c.clear.new.self c.entries-in-loop-moved.result.now
+    c.clear.ensures read counted in
+    let all : c.args.limit ≡ c.loop-moved.moved + (c.args.limit - c.loop-moved.moved) =
+    omega (arith, c.loop-moved-test.true) in
+    omega (
+      arith,
+      c.ranges.limit.fits,
+      within_all c.requires.sound (holder_of c.args.locks.now) c.args.limit
+          c.args.range c.loop-moved.invariant.way (c.args.limit - c.loop-moved.moved) all
+          (take c.count_free-free.result c.entries-in-loop-moved.result.now) stretch c.bring_home-count.result
+          c.bring_home-count.ensures.most,
+    )
 
-pub work_off-requires-clause-stands : goal.work_off-requires-clause-stands
-work_off-requires-clause-stands g c = stands c.requires.sound c.args.locks.now c.args.limit c.args.range
-    c.loop-moved.invariant.way c.in-Some.entry c.in-Some.is
+pub returns-then-count-lt-STRETCH-clause-far : goal.returns-then-count-lt-STRETCH-clause-far
+returns-then-count-lt-STRETCH-clause-far g c =
+    let read = c.entries-in-loop-moved.ensures.all ∙ c.read_from.ensures.read in
+    let counted : c.count_free-free.result ≡ length (take_while
+    (is_free_in (holder_of c.args.locks.now) c.args.range)
+    (take (c.args.limit - c.loop-moved.moved) c.entries-in-loop-moved.result.now)) =
+    c.count_free-free.ensures ∙ ap (λ l. length (take_while (is_free_in (holder_of c.args.locks.now) c.args.range)
+    (take (c.args.limit - c.loop-moved.moved) l)))
+    (c.entries.ensures.all ∙ sym c.entries-in-loop-moved.ensures.all) in
+    let stretch = is_stretch c.requires.sound (holder_of c.args.locks.now) c.args.limit c.args.range
+    c.loop-moved.invariant.way c.args.first c.requires.first refl c.lo.result c.lo.ensures.value
+    (c.args.limit - c.loop-moved.moved) c.count_free-free.result c.clear.new.self c.entries-in-loop-moved.result.now
+    c.clear.ensures read counted in
+    let all : c.args.limit ≡ c.loop-moved.moved + (c.args.limit - c.loop-moved.moved) =
+    omega (arith, c.loop-moved-test.true) in
+    ends c.requires.sound (holder_of c.args.locks.now) c.args.limit c.args.range c.loop-moved.invariant.way
+    (c.args.limit - c.loop-moved.moved) all (take c.count_free-free.result c.entries-in-loop-moved.result.now) stretch
+    c.bring_home-count.result c.bring_home-count.ensures.most
+    (c.loop-moved.moved + c.bring_home-count.result) refl (omega (arith, c.if-count-lt-STRETCH.true))
+    c.bring_home-count.ensures.greatest
 
-pub work_off-requires-clause-in_run : goal.work_off-requires-clause-in_run
-work_off-requires-clause-in_run g c = in_run c.requires.sound c.args.locks.now c.args.limit c.args.range
-    c.loop-moved.invariant.way c.in-Some.entry c.in-Some.is
-
-pub returns-then-is_err-clause-far : goal.returns-then-is_err-clause-far
-returns-then-is_err-clause-far g c =
-    is_refused c.requires.sound c.args.locks.now c.args.limit c.args.range c.loop-moved.invariant.way c.in-Some.entry
-    c.in-Some.is
-    (on_err c.work_off.result (sym c.is_err.ensures.value ∙ c.if-is_err.true) c.work_off.ensures.place)
-
-pub returns-then-is_err-clause-entries : goal.returns-then-is_err-clause-entries
-returns-then-is_err-clause-entries g c = on_err c.work_off.result (sym c.is_err.ensures.value ∙ c.if-is_err.true)
-    c.work_off.ensures.err ∙ c.loop-moved.invariant.way.entries
-
-pub next_free-next-requires : goal.next_free-next-requires
-next_free-next-requires g c = inside c.requires.sound c.args.locks.now c.args.limit c.args.range
-    c.loop-moved.invariant.way c.in-Some.entry c.in-Some.is
+pub returns-then-count-lt-STRETCH-clause-entries : goal.returns-then-count-lt-STRETCH-clause-entries
+returns-then-count-lt-STRETCH-clause-entries g c =
+    let read = c.entries-in-loop-moved.ensures.all ∙ c.read_from.ensures.read in
+    let counted : c.count_free-free.result ≡ length (take_while
+    (is_free_in (holder_of c.args.locks.now) c.args.range)
+    (take (c.args.limit - c.loop-moved.moved) c.entries-in-loop-moved.result.now)) =
+    c.count_free-free.ensures ∙ ap (λ l. length (take_while (is_free_in (holder_of c.args.locks.now) c.args.range)
+    (take (c.args.limit - c.loop-moved.moved) l)))
+    (c.entries.ensures.all ∙ sym c.entries-in-loop-moved.ensures.all) in
+    let stretch = is_stretch c.requires.sound (holder_of c.args.locks.now) c.args.limit c.args.range
+    c.loop-moved.invariant.way c.args.first c.requires.first refl c.lo.result c.lo.ensures.value
+    (c.args.limit - c.loop-moved.moved) c.count_free-free.result c.clear.new.self c.entries-in-loop-moved.result.now
+    c.clear.ensures read counted in
+    let all : c.args.limit ≡ c.loop-moved.moved + (c.args.limit - c.loop-moved.moved) =
+    omega (arith, c.loop-moved-test.true) in
+    (goes_on c.requires.sound (holder_of c.args.locks.now) c.args.limit c.args.range c.loop-moved.invariant.way
+    (c.args.limit - c.loop-moved.moved) all (take c.count_free-free.result c.entries-in-loop-moved.result.now) stretch
+    c.bring_home-count.result c.bring_home-count.ensures.most
+    (c.loop-moved.moved + c.bring_home-count.result) c.bring_home-count.new.self.entries refl
+    c.bring_home-count.ensures.entries).entries
 
 pub loop-moved-preserved : goal.loop-moved-preserved
-loop-moved-preserved g c = record {
-  way = goes_on c.requires.sound c.args.locks.now c.args.limit c.args.range c.loop-moved.invariant.way c.in-Some.entry
-      c.in-Some.is (c.loop-moved.moved + 1) c.work_off.new.parts.entries c.next_free-next.result (omega arith)
-      (omega arith)
-      (on_ok c.work_off.result (sym c.is_err.ensures.value ∙ c.if-is_err.false) c.work_off.ensures.entries)
-      c.next_free-next.ensures;
-  runs = c.work_off.ensures.runs ∙ c.loop-moved.invariant.runs;
-}
+loop-moved-preserved g c =
+    let read = c.entries-in-loop-moved.ensures.all ∙ c.read_from.ensures.read in
+    let counted : c.count_free-free.result ≡ length (take_while
+    (is_free_in (holder_of c.args.locks.now) c.args.range)
+    (take (c.args.limit - c.loop-moved.moved) c.entries-in-loop-moved.result.now)) =
+    c.count_free-free.ensures ∙ ap (λ l. length (take_while (is_free_in (holder_of c.args.locks.now) c.args.range)
+    (take (c.args.limit - c.loop-moved.moved) l)))
+    (c.entries.ensures.all ∙ sym c.entries-in-loop-moved.ensures.all) in
+    let stretch = is_stretch c.requires.sound (holder_of c.args.locks.now) c.args.limit c.args.range
+    c.loop-moved.invariant.way c.args.first c.requires.first refl c.lo.result c.lo.ensures.value
+    (c.args.limit - c.loop-moved.moved) c.count_free-free.result c.clear.new.self c.entries-in-loop-moved.result.now
+    c.clear.ensures read counted in
+    let all : c.args.limit ≡ c.loop-moved.moved + (c.args.limit - c.loop-moved.moved) =
+    omega (arith, c.loop-moved-test.true) in
+    record {
+      way = goes_on c.requires.sound (holder_of c.args.locks.now) c.args.limit c.args.range c.loop-moved.invariant.way
+          (c.args.limit - c.loop-moved.moved) all
+          (take c.count_free-free.result c.entries-in-loop-moved.result.now) stretch
+          c.bring_home-count.result c.bring_home-count.ensures.most
+          (c.loop-moved.moved + c.bring_home-count.result) c.bring_home-count.new.self.entries refl
+          c.bring_home-count.ensures.entries;
+      runs = c.bring_home-count.ensures.runs ∙ c.loop-moved.invariant.runs;
+    }
 
 pub returns-clause-far : goal.returns-clause-far
-returns-clause-far g c = is_full c.requires.sound c.args.locks.now c.args.limit c.args.range c.loop-moved.invariant.way
-    (omega arith)
-
-pub returns-clause-entries : goal.returns-clause-entries
-returns-clause-entries g c =
-    let at : c.loop-moved.moved ≡ c.args.limit = omega arith in
-    c.loop-moved.invariant.way.entries ∙ ap (λ n. all_worked_off
-    (take n (candidates c.args.parts.now.entries c.args.range)) c.args.parts.now.entries) at
+returns-clause-far g c = is_full c.requires.sound (holder_of c.args.locks.now) c.args.limit c.args.range
+    c.loop-moved.invariant.way (omega (arith, c.loop-moved-test.false))

@@ -1,11 +1,13 @@
-use Rattle.std.proofs.Common.{◌≡◌}
+use Rattle.std.proofs.Common.{◌≡◌, ◌-◌}
 use Rattle.am_merge.specs.Holding.{holder_of}
 use Rattle.am_merge.proofs.Merging.{IsOnTheWay}
 use Rattle.am_merge.proofs.merge.work_off_run.Given as goal
 
 abbrev pub invariant-loop-moved : goal.invariant-loop-moved
 invariant-loop-moved g l = record {
-  way : IsOnTheWay l.initial.parts.entries (holder_of l.locks) l.limit l.fn.first.part l.range l.parts.entries l.next
-      l.moved;
+  way : IsOnTheWay l.initial.parts.entries (holder_of l.locks) l.limit l.fn.first.part l.range l.parts.entries l.moved;
   runs : l.parts.runs ≡ l.initial.parts.runs;
 }
+
+abbrev pub decreases-loop-moved : goal.decreases-loop-moved
+decreases-loop-moved g l = l.limit - l.moved

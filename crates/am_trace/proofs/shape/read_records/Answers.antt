@@ -1,4 +1,4 @@
-use Rattle.std.proofs.Common.{◌≡◌, ◌∷◌, ◌++◌, [], false, Option, Some, None, Ok, is_err, ok_or, sym, ◌∙◌, subst}
+use Rattle.std.proofs.Common.{◌≡◌, ◌∷◌, ◌++◌, [], Option, Some, None, Ok, ok_or, sym, ◌∙◌, subst}
 use Rattle.am_record.specs.Records.{Records}
 use Rattle.am_record.proofs.Outcomes.{pushed}
 use Rattle.am_trace.proofs.ReadRecords.{AreRead, record_more}

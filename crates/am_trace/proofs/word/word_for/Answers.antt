@@ -1,17 +1,23 @@
-use Rattle.std.proofs.Common.{sym, ◌∙◌, rules, tests}
+use Rattle.std.proofs.Common.{◌≡◌, Some, None, cond, sym, ap, ◌∙◌}
 use Rattle.std.specs.Prelude.{bytes_eq}
-use Rattle.std.proofs.lemmas.Iterator.{YieldsList-from_slice}
-use Rattle.std.proofs.lemmas.Iterator.Consumers.{YieldsList-from_copied}
-use Rattle.std.proofs.lemmas.Iterator.Search.{find_from_yields_List}
+use Rattle.std.specs.Option.{option_copied}
 use Rattle.am_text.specs.ReplyWords.{word_text}
-use Rattle.am_trace.specs.Reading.{all_words, word_for}
-use Rattle.am_trace.proofs.WordTexts.{option_map-itself}
+use Rattle.am_text.specs.declared.reply_word.ReplyWord.TheVariants.{Done, Found}
+use Rattle.am_text.proofs.VerbWords.{with_letter}
+use Rattle.am_trace.specs.Reading.{word_for}
+use Rattle.am_trace.proofs.WordTexts.{done_by_letter, found_by_letter}
 use Rattle.am_trace.proofs.word.word_for.Goals as goal
 
-pub returns : goal.returns
-unfolding word_for
-returns c =
-    let text = c.args.text.now in
-    sym (option_map-itself c.find.result) ∙ find_from_yields_List (λ w. bytes_eq (word_text w) text) _ _ c.find.result
-    c.find.ensures.ran (YieldsList-from_copied (YieldsList-from_slice all_words cc))
-    (λ x b q k. search (rules, tests))
+pub returns-in-Some-eq79 : goal.returns-in-Some-eq79
+returns-in-Some-eq79 c =
+    c.told.ensures
+    ∙ with_letter c.args.text.now 79 (λ w. cond (bytes_eq (word_text Done) w) (Some Done) None ≡ word_for w)
+    (sym c.first.ensures.value ∙ ap option_copied c.in-Some-eq79.is ∙ ap Some c.in-Some-eq79.field-0-test)
+    (λ rest. sym (done_by_letter rest))
+
+pub returns-in-Some-eq86 : goal.returns-in-Some-eq86
+returns-in-Some-eq86 c =
+    c.told-in-Some-eq86.ensures
+    ∙ with_letter c.args.text.now 86 (λ w. cond (bytes_eq (word_text Found) w) (Some Found) None ≡ word_for w)
+    (sym c.first.ensures.value ∙ ap option_copied c.in-Some-eq86.is ∙ ap Some c.in-Some-eq86.field-0-test)
+    (λ rest. sym (found_by_letter rest))

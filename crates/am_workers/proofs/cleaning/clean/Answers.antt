@@ -1,9 +1,34 @@
-use Rattle.std.proofs.Common.{subst}
-use Rattle.am_latch.specs.Receipts.{SeatState}
-use Rattle.am_workers.specs.Turns.{MayHaveCleaned}
-use Rattle.am_workers.proofs.Gains.{cleaned}
+use Rattle.std.proofs.Common.{refl, inl, inr}
+use Rattle.am_workers.proofs.Gains.{receipt_of_same}
 use Rattle.am_workers.proofs.cleaning.clean.Goals as goal
 
+pub returns-in_default : goal.returns-in_default
+returns-in_default g c =
+    let lent = c.in_default.ensures.lent in record {
+      ghost = _;
+      found = record { engine = lent.0.now; of = lent.1; own = lent.2; seen = lent.3 };
+      none = inl refl;
+      same = c.look-found.ensures.same;
+      there = refl;
+    }
+
+pub returns-in_default-keys_from : goal.returns-in_default-keys_from
+returns-in_default-keys_from g c =
+    let lent = c.in-Some.ensures.lent in record {
+      ghost = _;
+      found = record { engine = lent.0.now; of = lent.1; own = lent.2; seen = lent.3 };
+      none = inr (c.in-Some.entry, refl, c.in_default-keys_from.ensures.none);
+      same = c.look-found.ensures.same;
+      there = refl;
+    }
+
 pub returns : goal.returns
-returns g c = subst (λ (s : SeatState). MayHaveCleaned s c.call-reply.new.self) c.look.ensures.same
-    (cleaned _ _ _ _ c.call-reply.ensures.called)
+returns g c =
+    let lent = c.in-Some.ensures.lent in record {
+      ghost = _;
+      found = record { engine = lent.0.now; of = lent.1; own = lent.2; seen = lent.3 };
+      range = _;
+      all = c.in-Some-keys_from.ensures.from;
+      called = receipt_of_same _ _ _ _ _ c.look-found.ensures.same c.call-reply.ensures.called;
+      behind = c.behind.ensures;
+    }

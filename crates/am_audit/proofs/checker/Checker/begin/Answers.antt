@@ -9,8 +9,8 @@ pub enter-requires-clause-new : goal.enter-requires-clause-new
 enter-requires-clause-new g c = is_new c.args.self.now g.here c.requires c.in-Begun.tx
     (may_begin_with g.here.state c.args.reply.now c.in-Begun.tx c.in-Begun.is (c.if-not-may_begin.ensures.0 refl))
 
-pub returns-in_ok-push-clause-takes : goal.returns-in_ok-push-clause-takes
-returns-in_ok-push-clause-takes g c =
+pub returns-in_ok-enter-clause-takes : goal.returns-in_ok-enter-clause-takes
+returns-in_ok-enter-clause-takes g c =
     let active : map listed c.push.new.self.items ≡ map listed c.args.self.now.active.items ++
     (c.in-Begun.tx, []) ∷ [] =
     ap (map listed) c.in_ok-push.ensures.items
@@ -19,7 +19,7 @@ returns-in_ok-push-clause-takes g c =
     []) c.new.ensures.items in
     takes_begin c.args.self.now g.here c.requires c.in-Begun.tx
     (may_begin_with g.here.state c.args.reply.now c.in-Begun.tx c.in-Begun.is (c.if-not-may_begin.ensures.0 refl))
-    _ c.args.reply.now c.in-Begun.is refl refl refl active c.enter.ensures refl
+    _ c.args.reply.now c.in-Begun.is refl refl refl active c.in_ok-enter.ensures refl
 
 pub returns-in_default : goal.returns-in_default
 returns-in_default g c = record {

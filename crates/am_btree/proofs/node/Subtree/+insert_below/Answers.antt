@@ -64,7 +64,7 @@ insert_below-requires t c =
 
 pub returns-in_err-grown-in-Inner-clause-taken : goal.returns-in_err-grown-in-Inner-clause-taken
 returns-in_err-grown-in-Inner-clause-taken t c =
-    let x = c.args.entry in let ls = c.in-Inner.separators.items in let ks = c.in-Inner.children.items in
+    let x = c.args.entry.now in let ls = c.in-Inner.separators.items in let ks = c.in-Inner.children.items in
     let n = c.reached-reach.result in
     let inner = subst IsTree c.in-Inner.is c.self.invariant in
     let seen : c.args.self.now ≡ inner_shape ks = sym c.self.view_is ∙ ap shape_of c.in-Inner.is in
@@ -84,7 +84,7 @@ returns-in_err-grown-in-Inner-clause-taken t c =
 
 pub returns-in_default-clause-absent : goal.returns-in_default-clause-absent
 returns-in_default-clause-absent t c =
-    let x = c.args.entry in let ls = c.in-Inner.separators.items in let ks = c.in-Inner.children.items in
+    let x = c.args.entry.now in let ls = c.in-Inner.separators.items in let ks = c.in-Inner.children.items in
     let n = c.reached-reach.result in
     let inner = subst IsTree c.in-Inner.is c.self.invariant in
     let seen : c.args.self.now ≡ inner_shape ks = sym c.self.view_is ∙ ap shape_of c.in-Inner.is in
@@ -102,9 +102,9 @@ returns-clause-absent t c = elim c.match-self.branch [
   | in-Leaf w ↦
       let seen : c.args.self.now ≡ leaf_shape w.in-Leaf.leaf.entries = sym c.self.view_is ∙ ap shape_of w.in-Leaf.is in
       rw w.result-is (subst (λ (s : Shape). OnOk w.insert_in_leaf.result
-      (find s.entries c.args.entry.part c.args.entry.key ≡ None)) (sym seen) w.insert_in_leaf.ensures.absent)
+      (find s.entries c.args.entry.now.part c.args.entry.now.key ≡ None)) (sym seen) w.insert_in_leaf.ensures.absent)
   | in-Inner+in_ok-more-in-Inner+in_ok-grown-in-Inner+in-Some w ↦
-      let x = c.args.entry in let ls = w.in-Inner.separators.items in let ks = w.in-Inner.children.items in
+      let x = c.args.entry.now in let ls = w.in-Inner.separators.items in let ks = w.in-Inner.children.items in
       let n = w.reached-reach.result in
       let inner = subst IsTree w.in-Inner.is c.self.invariant in
       let seen : c.args.self.now ≡ inner_shape ks = sym c.self.view_is ∙ ap shape_of w.in-Inner.is in
@@ -120,7 +120,7 @@ returns-clause-absent t c = elim c.match-self.branch [
 
 pub invariant_of-self-in_default : goal.invariant_of-self-in_default
 invariant_of-self-in_default t c =
-    let x = c.args.entry in let ls = c.in-Inner.separators.items in let ks = c.in-Inner.children.items in
+    let x = c.args.entry.now in let ls = c.in-Inner.separators.items in let ks = c.in-Inner.children.items in
     let n = c.reached-reach.result in let d = depth_of ks in
     let inner = subst IsTree c.in-Inner.is c.self.invariant in
     let seen : c.args.self.now ≡ inner_shape ks = sym c.self.view_is ∙ ap shape_of c.in-Inner.is in
@@ -144,7 +144,7 @@ invariant_of-self-in_default t c =
 
 pub returns-in_default-clause-ok : goal.returns-in_default-clause-ok
 returns-in_default-clause-ok t c =
-    let x = c.args.entry in let ls = c.in-Inner.separators.items in let ks = c.in-Inner.children.items in
+    let x = c.args.entry.now in let ls = c.in-Inner.separators.items in let ks = c.in-Inner.children.items in
     let n = c.reached-reach.result in let d = depth_of ks in
     let inner = subst IsTree c.in-Inner.is c.self.invariant in
     let seen : c.args.self.now ≡ inner_shape ks = sym c.self.view_is ∙ ap shape_of c.in-Inner.is in
@@ -173,7 +173,7 @@ returns-in_default-clause-ok t c =
 
 pub add_child-requires-clause-children : goal.add_child-requires-clause-children
 add_child-requires-clause-children t c =
-    let x = c.args.entry in let ls = c.in-Inner.separators.items in let ks = c.in-Inner.children.items in
+    let x = c.args.entry.now in let ls = c.in-Inner.separators.items in let ks = c.in-Inner.children.items in
     let n = c.reached-reach.result in let d = depth_of ks in
     let inner = subst IsTree c.in-Inner.is c.self.invariant in
     let seen : c.args.self.now ≡ inner_shape ks = sym c.self.view_is ∙ ap shape_of c.in-Inner.is in
@@ -200,14 +200,14 @@ add_child-requires-clause-pairs t c =
       arith,
       parted_lengths c.in-Inner.separators.items c.in-Inner.children.items inner.children.parted,
       ap length c.lower.ensures.items,
-      length_lowered c.in-Inner.separators.items c.reached-reach.result c.args.entry,
+      length_lowered c.in-Inner.separators.items c.reached-reach.result c.args.entry.now,
       c.lower.new.separators.ok.0,
       c.in-Inner.children.ok.0,
     )
 
 pub add_child-requires-clause-in_range : goal.add_child-requires-clause-in_range
 add_child-requires-clause-in_range t c =
-    let x = c.args.entry in let ls = c.in-Inner.separators.items in let ks = c.in-Inner.children.items in
+    let x = c.args.entry.now in let ls = c.in-Inner.separators.items in let ks = c.in-Inner.children.items in
     let n = c.reached-reach.result in let d = depth_of ks in
     let inner = subst IsTree c.in-Inner.is c.self.invariant in
     let seen : c.args.self.now ≡ inner_shape ks = sym c.self.view_is ∙ ap shape_of c.in-Inner.is in
@@ -227,10 +227,10 @@ returns-clause-ok t c = elim c.match-self.branch [
   | in-Leaf w ↦
       let seen : c.args.self.now ≡ leaf_shape w.in-Leaf.leaf.entries = sym c.self.view_is ∙ ap shape_of w.in-Leaf.is in
       rw (w.result-is, w.self-inside-is) (subst (λ (s : Shape). IfOk w.insert_in_leaf.result
-      (Grows s (leaf_shape w.insert_in_leaf.new.leaf.entries) c.args.entry c.args.wanted)) (sym seen)
+      (Grows s (leaf_shape w.insert_in_leaf.new.leaf.entries) c.args.entry.now c.args.wanted)) (sym seen)
       w.insert_in_leaf.ensures.ok)
   | in-Inner+in_ok-more-in-Inner+in_ok-grown-in-Inner+in-Some w ↦
-      let x = c.args.entry in let ls = w.in-Inner.separators.items in let ks = w.in-Inner.children.items in
+      let x = c.args.entry.now in let ls = w.in-Inner.separators.items in let ks = w.in-Inner.children.items in
       let n = w.reached-reach.result in let d = depth_of ks in
       let inner = subst IsTree w.in-Inner.is c.self.invariant in
       let seen : c.args.self.now ≡ inner_shape ks = sym c.self.view_is ∙ ap shape_of w.in-Inner.is in

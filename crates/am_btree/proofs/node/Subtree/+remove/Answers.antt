@@ -1,6 +1,6 @@
 use Rattle.std.specs.List.{remove}
-use Rattle.std.proofs.Common.{◌≡◌, ◌<◌, [], length, set, MatchBool, sym, ap, ◌∙◌, subst, rules, arith}
-use Rattle.am_list.specs.Entries.{find, entry_at, remove_entry}
+use Rattle.std.proofs.Common.{◌≡◌, ◌+◌, ◌<◌, List, [], length, set, MatchBool, refl, sym, ap, ◌∙◌, subst, rules, arith}
+use Rattle.am_list.specs.Entries.{find, entry_at, remove_from}
 use Rattle.am_btree.specs.Separators.{SeparatorsRise, IsChildFor}
 use Rattle.am_btree.specs.Shape.{Shape}
 use Rattle.am_btree.specs.Nodes.{all_entries, shape_of, depth_of, IsTree, inner_shape, leaf_shape}
@@ -10,7 +10,7 @@ use Rattle.std.proofs.lemmas.Bool.{not-true, not-false}
 use Rattle.am_btree.proofs.Children.{find_in_child, entry_in_child}
 use Rattle.am_btree.proofs.Parting.{inner_with}
 use Rattle.am_btree.proofs.Editing.{removing, kept_inner, kept_entries, kept_depth, kept_some, kept_none, left_entries}
-use Rattle.am_btree.proofs.Editing.{left_children, left_long, left_depth, left_some}
+use Rattle.am_btree.proofs.Editing.{left_children, left_long, left_depth, left_some, left_fewer, kept_fewer}
 use Rattle.am_btree.proofs.node.Subtree.+remove.Goals as goal
 use Rattle.am_btree.proofs.node.Subtree.+remove.Goals.{in-Leaf, in-Inner+else-not-removed+else-len-eq1}
 use Rattle.am_btree.proofs.node.Subtree.+remove.Goals.{then-not-removed-via-then-not-removed}
@@ -55,15 +55,21 @@ remove-removed-requires t c =
     c.index_mut.ensures.value in
     let falls : k.depth < c.args.self.now.depth = omega (arith, deep, ap (λ (s : Shape). s.depth) seen) in (
       search rules,
-      subst IsSome (ap (λ (s : Shape). find s.entries c.args.part c.args.key) seen ∙
-          find_in_child c.args.part c.args.key ls ks at k inner.children.parted child c.index_mut.ensures.value)
-          c.requires,
+      (
+        subst IsSome (ap (λ (s : Shape). find s.entries c.args.part c.args.key) seen ∙
+            find_in_child c.args.part c.args.key ls ks at k inner.children.parted child c.index_mut.ensures.value)
+            c.requires.present,
+        c.requires.some,
+      ),
     )
 
 pub remove_from_leaf-requires : goal.remove_from_leaf-requires
 remove_from_leaf-requires t c =
     let seen : c.args.self.now ≡ leaf_shape c.in-Leaf.leaf.entries = sym c.self.view_is ∙ ap shape_of c.in-Leaf.is in
-    subst IsSome (ap (λ (s : Shape). find s.entries c.args.part c.args.key) seen) c.requires
+    record {
+      present = subst IsSome (ap (λ (s : Shape). find s.entries c.args.part c.args.key) seen) c.requires.present;
+      some = c.requires.some;
+    }
 
 -- ---- where no child is freed
 
@@ -75,16 +81,19 @@ invariant_of-self t c =
     let seen : c.args.self.now ≡ inner_shape ks = sym c.self.view_is ∙ ap shape_of c.in-Inner.is in
     let child = subst (λ ms. IsChildFor ms part key at) c.deref.ensures.value c.child_for-at.ensures in
     let k = c.index_mut.result.now in let k' = c.remove-removed.new.self in let here = c.index_mut.ensures.value in
-    let is = removing part key in let e = c.remove-removed.ensures in
+    let e = c.remove-removed.ensures in let n = c.remove-removed.result.count in
+    let there = subst IsSome (ap (λ (s : Shape). find s.entries part key) seen ∙
+    find_in_child part key ls ks at k inner.children.parted child here) c.requires.present in
+    let is = removing part key n k.entries k'.entries there e.others e.counted in
     elim c.then-not-removed.branch [
       | then-not-removed-via-then-not-removed w ↦
           let some = subst (λ b. MatchBool b (k'.entries ≡ []) (0 < length k'.entries))
           (not-true _ w.if-not-removed.true) e.empty in
-          rw w.self-inside-is (kept_inner part key (λ es. remove_entry es part key) is (depth_of ks) ls ks at k k'
-          inner.children child here e.depth e.others _ _ (λ _. some) inner.most inner.room)
+          rw w.self-inside-is (kept_inner part key (λ es. remove_from es part key n) is (depth_of ks) ls ks at k k'
+          inner.children child here e.depth refl e.others _ _ (λ _. some) inner.most inner.room)
       | then-not-removed-via-else-not-removed+then-len-eq1 w ↦
-          rw w.self-inside-is (kept_inner part key (λ es. remove_entry es part key) is (depth_of ks) ls ks at k k'
-          inner.children child here e.depth e.others _ _
+          rw w.self-inside-is (kept_inner part key (λ es. remove_from es part key n) is (depth_of ks) ls ks at k k'
+          inner.children child here e.depth refl e.others _ _
           (λ more. absurd (omega (arith, more, w.len.ensures, w.if-len-eq1.true, c.in-Inner.children.ok.0)))
           inner.most inner.room)
     ]
@@ -97,7 +106,10 @@ returns-then-not-removed-clause-entry t c =
     let seen : c.args.self.now ≡ inner_shape ks = sym c.self.view_is ∙ ap shape_of c.in-Inner.is in
     let child = subst (λ ms. IsChildFor ms part key at) c.deref.ensures.value c.child_for-at.ensures in
     let k = c.index_mut.result.now in let k' = c.remove-removed.new.self in let here = c.index_mut.ensures.value in
-    let is = removing part key in let e = c.remove-removed.ensures in
+    let e = c.remove-removed.ensures in let n = c.remove-removed.result.count in
+    let there = subst IsSome (ap (λ (s : Shape). find s.entries part key) seen ∙
+    find_in_child part key ls ks at k inner.children.parted child here) c.requires.present in
+    let is = removing part key n k.entries k'.entries there e.others e.counted in
     ap (λ (s : Shape). entry_at s.entries part key) seen ∙ entry_in_child part key ls ks at k inner.children.parted
     child.in_range here child.reached child.above ∙ e.entry
 
@@ -109,10 +121,13 @@ returns-then-not-removed-clause-others t c =
     let seen : c.args.self.now ≡ inner_shape ks = sym c.self.view_is ∙ ap shape_of c.in-Inner.is in
     let child = subst (λ ms. IsChildFor ms part key at) c.deref.ensures.value c.child_for-at.ensures in
     let k = c.index_mut.result.now in let k' = c.remove-removed.new.self in let here = c.index_mut.ensures.value in
-    let is = removing part key in let e = c.remove-removed.ensures in
-    let kept : all_entries (set ks at k') ≡ remove_entry c.args.self.now.entries part key =
-    kept_entries part key (λ es. remove_entry es part key) is (depth_of ks) ls ks at k k' inner.children child
-    here e.depth e.others ∙ sym (ap (λ (s : Shape). remove_entry s.entries part key) seen) in
+    let e = c.remove-removed.ensures in let n = c.remove-removed.result.count in
+    let there = subst IsSome (ap (λ (s : Shape). find s.entries part key) seen ∙
+    find_in_child part key ls ks at k inner.children.parted child here) c.requires.present in
+    let is = removing part key n k.entries k'.entries there e.others e.counted in
+    let kept : all_entries (set ks at k') ≡ remove_from c.args.self.now.entries part key n =
+    kept_entries part key (λ es. remove_from es part key n) is (depth_of ks) ls ks at k k' inner.children child
+    here e.depth refl e.others ∙ sym (ap (λ (s : Shape). remove_from s.entries part key n) seen) in
     elim c.then-not-removed.branch [
       | then-not-removed-via-then-not-removed w ↦ rw w.self-inside-is kept
       | then-not-removed-via-else-not-removed+then-len-eq1 w ↦ rw w.self-inside-is kept
@@ -126,10 +141,34 @@ returns-then-not-removed-clause-depth t c =
     let seen : c.args.self.now ≡ inner_shape ks = sym c.self.view_is ∙ ap shape_of c.in-Inner.is in
     let child = subst (λ ms. IsChildFor ms part key at) c.deref.ensures.value c.child_for-at.ensures in
     let k = c.index_mut.result.now in let k' = c.remove-removed.new.self in let here = c.index_mut.ensures.value in
-    let is = removing part key in let e = c.remove-removed.ensures in
-    let kept : depth_of (set ks at k') ≡ c.args.self.now.depth = kept_depth part key (λ es. remove_entry es part key) is
-    (depth_of ks) ls ks at k k' inner.children child here e.depth e.others ∙
+    let e = c.remove-removed.ensures in let n = c.remove-removed.result.count in
+    let there = subst IsSome (ap (λ (s : Shape). find s.entries part key) seen ∙
+    find_in_child part key ls ks at k inner.children.parted child here) c.requires.present in
+    let is = removing part key n k.entries k'.entries there e.others e.counted in
+    let kept : depth_of (set ks at k') ≡ c.args.self.now.depth = kept_depth part key (λ es. remove_from es part key n)
+    is
+    (depth_of ks) ls ks at k k' inner.children child here e.depth refl e.others ∙
     sym (ap (λ (s : Shape). s.depth) seen) in
+    elim c.then-not-removed.branch [
+      | then-not-removed-via-then-not-removed w ↦ rw w.self-inside-is kept
+      | then-not-removed-via-else-not-removed+then-len-eq1 w ↦ rw w.self-inside-is kept
+    ]
+
+pub returns-then-not-removed-clause-counted : goal.returns-then-not-removed-clause-counted
+returns-then-not-removed-clause-counted t c =
+    let ls = c.in-Inner.separators.items in let ks = c.in-Inner.children.items in let at = c.child_for-at.result in
+    let part = c.args.part in let key = c.args.key in
+    let inner = subst IsTree c.in-Inner.is c.self.invariant in
+    let seen : c.args.self.now ≡ inner_shape ks = sym c.self.view_is ∙ ap shape_of c.in-Inner.is in
+    let child = subst (λ ms. IsChildFor ms part key at) c.deref.ensures.value c.child_for-at.ensures in
+    let k = c.index_mut.result.now in let k' = c.remove-removed.new.self in let here = c.index_mut.ensures.value in
+    let e = c.remove-removed.ensures in let n = c.remove-removed.result.count in
+    let there = subst IsSome (ap (λ (s : Shape). find s.entries part key) seen ∙
+    find_in_child part key ls ks at k inner.children.parted child here) c.requires.present in
+    let is = removing part key n k.entries k'.entries there e.others e.counted in
+    let kept : length (all_entries (set ks at k')) + n ≡ length c.args.self.now.entries =
+    kept_fewer part key (λ es. remove_from es part key n) is (depth_of ks) ls ks at k k' inner.children child here
+    e.depth refl e.others n e.counted ∙ sym (ap (λ (s : Shape). length s.entries) seen) in
     elim c.then-not-removed.branch [
       | then-not-removed-via-then-not-removed w ↦ rw w.self-inside-is kept
       | then-not-removed-via-else-not-removed+then-len-eq1 w ↦ rw w.self-inside-is kept
@@ -143,23 +182,26 @@ returns-then-not-removed-clause-empty t c =
     let seen : c.args.self.now ≡ inner_shape ks = sym c.self.view_is ∙ ap shape_of c.in-Inner.is in
     let child = subst (λ ms. IsChildFor ms part key at) c.deref.ensures.value c.child_for-at.ensures in
     let k = c.index_mut.result.now in let k' = c.remove-removed.new.self in let here = c.index_mut.ensures.value in
-    let is = removing part key in let e = c.remove-removed.ensures in
+    let e = c.remove-removed.ensures in let n = c.remove-removed.result.count in
+    let there = subst IsSome (ap (λ (s : Shape). find s.entries part key) seen ∙
+    find_in_child part key ls ks at k inner.children.parted child here) c.requires.present in
+    let is = removing part key n k.entries k'.entries there e.others e.counted in
     elim c.then-not-removed.branch [
       | then-not-removed-via-then-not-removed w ↦
           let test = not-true _ w.if-not-removed.true in
           let some = subst (λ b. MatchBool b (k'.entries ≡ []) (0 < length k'.entries)) test e.empty in
           rw w.self-inside-is (subst (λ b. MatchBool b (all_entries (set ks at k') ≡ [])
           (0 < length (all_entries (set ks at k')))) (sym test)
-          (kept_some part key (λ es. remove_entry es part key) is (depth_of ks) ls ks at k k' inner.children child
-          here e.depth e.others some))
+          (kept_some part key (λ es. remove_from es part key n) is (depth_of ks) ls ks at k k' inner.children child
+          here e.depth refl e.others some))
       | then-not-removed-via-else-not-removed+then-len-eq1 w ↦
           let test = not-false _ w.if-not-removed.false in
           let empty = subst (λ b. MatchBool b (k'.entries ≡ []) (0 < length k'.entries)) test e.empty in
           let one : length ks ≡ 1 = omega (arith, w.len.ensures, w.if-len-eq1.true, c.in-Inner.children.ok.0) in
           rw w.self-inside-is (subst (λ b. MatchBool b (all_entries (set ks at k') ≡ [])
           (0 < length (all_entries (set ks at k')))) (sym test)
-          (kept_none part key (λ es. remove_entry es part key) is (depth_of ks) ls ks at k k' inner.children child
-          here e.depth e.others one empty))
+          (kept_none part key (λ es. remove_from es part key n) is (depth_of ks) ls ks at k k' inner.children child
+          here e.depth refl e.others one empty))
     ]
 
 -- ---- where an empty child is freed
@@ -181,7 +223,7 @@ invariant_of-self-2 t c = elim c.match-self.branch [
   | in-Leaf w ↦
       let old = subst IsTree w.in-Leaf.is c.self.invariant in
       rw w.self-inside-is (
-        w.remove_from_leaf.ensures.most,
+        w.remove_from_leaf.ensures.short,
         (w.remove_from_leaf.ensures.rising, omega (arith, old.1.1, w.remove_from_leaf.ensures.wide)),
       )
   | in-Inner+else-not-removed+else-len-eq1 w ↦
@@ -191,7 +233,10 @@ invariant_of-self-2 t c = elim c.match-self.branch [
       let seen : c.args.self.now ≡ inner_shape ks = sym c.self.view_is ∙ ap shape_of w.in-Inner.is in
       let child = subst (λ ms. IsChildFor ms part key at) w.deref.ensures.value w.child_for-at.ensures in
       let k = w.index_mut.result.now in let k' = w.remove-removed.new.self in let here = w.index_mut.ensures.value in
-      let is = removing part key in let e = w.remove-removed.ensures in
+      let e = w.remove-removed.ensures in let n = w.remove-removed.result.count in
+      let there = subst IsSome (ap (λ (s : Shape). find s.entries part key) seen ∙
+      find_in_child part key ls ks at k inner.children.parted child here) c.requires.present in
+      let is = removing part key n k.entries k'.entries there e.others e.counted in
       let empty : k'.entries ≡ [] = subst (λ b. MatchBool b (k'.entries ≡ []) (0 < length k'.entries))
       (not-false _ w.if-not-removed.false) e.empty in
       let many : 1 < length ks = omega (
@@ -201,12 +246,13 @@ invariant_of-self-2 t c = elim c.match-self.branch [
         w.if-len-eq1.false,
         w.in-Inner.children.ok.0,
       ) in
-      let long = left_long part key (λ es. remove_entry es part key) is (depth_of ks) ls ks at k k' inner.children child
-      here e.depth e.others many empty in
+      let long = left_long part key (λ es. remove_from es part key n) is (depth_of ks) ls ks at k k' inner.children
+      child
+      here e.depth refl e.others many empty in
       rw w.self-inside-is (inner_with (depth_of ks) (remove ls at) (remove (set ks at k') at) w.take_out.new.v.items
       w.take_out-in-Inner.new.v.items _ _ w.take_out.ensures.items w.take_out-in-Inner.ensures.items
-      (left_children part key (λ es. remove_entry es part key) is (depth_of ks) ls ks at k k' inner.children child
-      here e.depth e.others many empty)
+      (left_children part key (λ es. remove_from es part key n) is (depth_of ks) ls ks at k k' inner.children child
+      here e.depth refl e.others many empty)
       (omega (arith, long, many)) (omega (arith, long, inner.most)) (
         omega (arith, inner.room, w.take_out.ensures.capacity),
         omega (arith, inner.room, w.take_out-in-Inner.ensures.capacity),
@@ -226,7 +272,10 @@ returns-clause-entry t c = elim c.match-self.branch [
       let seen : c.args.self.now ≡ inner_shape ks = sym c.self.view_is ∙ ap shape_of w.in-Inner.is in
       let child = subst (λ ms. IsChildFor ms part key at) w.deref.ensures.value w.child_for-at.ensures in
       let k = w.index_mut.result.now in let k' = w.remove-removed.new.self in let here = w.index_mut.ensures.value in
-      let is = removing part key in let e = w.remove-removed.ensures in
+      let e = w.remove-removed.ensures in let n = w.remove-removed.result.count in
+      let there = subst IsSome (ap (λ (s : Shape). find s.entries part key) seen ∙
+      find_in_child part key ls ks at k inner.children.parted child here) c.requires.present in
+      let is = removing part key n k.entries k'.entries there e.others e.counted in
       rw w.result-is (ap (λ (s : Shape). entry_at s.entries part key) seen ∙
       entry_in_child part key ls ks at k inner.children.parted child.in_range here child.reached child.above ∙
       e.entry)
@@ -236,8 +285,8 @@ pub returns-clause-others : goal.returns-clause-others
 returns-clause-others t c = elim c.match-self.branch [
   | in-Leaf w ↦
       let seen : c.args.self.now ≡ leaf_shape w.in-Leaf.leaf.entries = sym c.self.view_is ∙ ap shape_of w.in-Leaf.is in
-      rw w.self-inside-is (w.remove_from_leaf.ensures.others ∙
-      sym (ap (λ (s : Shape). remove_entry s.entries c.args.part c.args.key) seen))
+      rw (w.result-is, w.self-inside-is) (w.remove_from_leaf.ensures.others ∙
+      sym (ap (λ (s : Shape). remove_from s.entries c.args.part c.args.key w.remove_from_leaf.result.count) seen))
   | in-Inner+else-not-removed+else-len-eq1 w ↦
       let ls = w.in-Inner.separators.items in let ks = w.in-Inner.children.items in let at = w.child_for-at.result in
       let part = c.args.part in let key = c.args.key in
@@ -245,7 +294,10 @@ returns-clause-others t c = elim c.match-self.branch [
       let seen : c.args.self.now ≡ inner_shape ks = sym c.self.view_is ∙ ap shape_of w.in-Inner.is in
       let child = subst (λ ms. IsChildFor ms part key at) w.deref.ensures.value w.child_for-at.ensures in
       let k = w.index_mut.result.now in let k' = w.remove-removed.new.self in let here = w.index_mut.ensures.value in
-      let is = removing part key in let e = w.remove-removed.ensures in
+      let e = w.remove-removed.ensures in let n = w.remove-removed.result.count in
+      let there = subst IsSome (ap (λ (s : Shape). find s.entries part key) seen ∙
+      find_in_child part key ls ks at k inner.children.parted child here) c.requires.present in
+      let is = removing part key n k.entries k'.entries there e.others e.counted in
       let empty : k'.entries ≡ [] = subst (λ b. MatchBool b (k'.entries ≡ []) (0 < length k'.entries))
       (not-false _ w.if-not-removed.false) e.empty in
       let many : 1 < length ks = omega (
@@ -255,9 +307,9 @@ returns-clause-others t c = elim c.match-self.branch [
         w.if-len-eq1.false,
         w.in-Inner.children.ok.0,
       ) in
-      rw w.self-inside-is (ap all_entries w.take_out-in-Inner.ensures.items ∙
-      left_entries part key (λ es. remove_entry es part key) is (depth_of ks) ls ks at k k' inner.children child
-      here e.depth e.others many empty ∙ sym (ap (λ (s : Shape). remove_entry s.entries part key) seen))
+      rw (w.result-is, w.self-inside-is) (ap all_entries w.take_out-in-Inner.ensures.items ∙
+      left_entries part key (λ es. remove_from es part key n) is (depth_of ks) ls ks at k k' inner.children child
+      here e.depth refl e.others many empty ∙ sym (ap (λ (s : Shape). remove_from s.entries part key n) seen))
 ]
 
 pub returns-clause-depth : goal.returns-clause-depth
@@ -272,7 +324,10 @@ returns-clause-depth t c = elim c.match-self.branch [
       let seen : c.args.self.now ≡ inner_shape ks = sym c.self.view_is ∙ ap shape_of w.in-Inner.is in
       let child = subst (λ ms. IsChildFor ms part key at) w.deref.ensures.value w.child_for-at.ensures in
       let k = w.index_mut.result.now in let k' = w.remove-removed.new.self in let here = w.index_mut.ensures.value in
-      let is = removing part key in let e = w.remove-removed.ensures in
+      let e = w.remove-removed.ensures in let n = w.remove-removed.result.count in
+      let there = subst IsSome (ap (λ (s : Shape). find s.entries part key) seen ∙
+      find_in_child part key ls ks at k inner.children.parted child here) c.requires.present in
+      let is = removing part key n k.entries k'.entries there e.others e.counted in
       let empty : k'.entries ≡ [] = subst (λ b. MatchBool b (k'.entries ≡ []) (0 < length k'.entries))
       (not-false _ w.if-not-removed.false) e.empty in
       let many : 1 < length ks = omega (
@@ -283,8 +338,40 @@ returns-clause-depth t c = elim c.match-self.branch [
         w.in-Inner.children.ok.0,
       ) in
       rw w.self-inside-is (ap depth_of w.take_out-in-Inner.ensures.items ∙
-      left_depth part key (λ es. remove_entry es part key) is (depth_of ks) ls ks at k k' inner.children child here
-      e.depth e.others many empty ∙ sym (ap (λ (s : Shape). s.depth) seen))
+      left_depth part key (λ es. remove_from es part key n) is (depth_of ks) ls ks at k k' inner.children child here
+      e.depth refl e.others many empty ∙ sym (ap (λ (s : Shape). s.depth) seen))
+]
+
+pub returns-clause-counted : goal.returns-clause-counted
+returns-clause-counted t c = elim c.match-self.branch [
+  | in-Leaf w ↦
+      let seen : c.args.self.now ≡ leaf_shape w.in-Leaf.leaf.entries = sym c.self.view_is ∙ ap shape_of w.in-Leaf.is in
+      rw (w.result-is, w.self-inside-is) (w.remove_from_leaf.ensures.counted ∙
+      sym (ap (λ (s : Shape). length s.entries) seen))
+  | in-Inner+else-not-removed+else-len-eq1 w ↦
+      let ls = w.in-Inner.separators.items in let ks = w.in-Inner.children.items in let at = w.child_for-at.result in
+      let part = c.args.part in let key = c.args.key in
+      let inner = subst IsTree w.in-Inner.is c.self.invariant in
+      let seen : c.args.self.now ≡ inner_shape ks = sym c.self.view_is ∙ ap shape_of w.in-Inner.is in
+      let child = subst (λ ms. IsChildFor ms part key at) w.deref.ensures.value w.child_for-at.ensures in
+      let k = w.index_mut.result.now in let k' = w.remove-removed.new.self in let here = w.index_mut.ensures.value in
+      let e = w.remove-removed.ensures in let n = w.remove-removed.result.count in
+      let there = subst IsSome (ap (λ (s : Shape). find s.entries part key) seen ∙
+      find_in_child part key ls ks at k inner.children.parted child here) c.requires.present in
+      let is = removing part key n k.entries k'.entries there e.others e.counted in
+      let empty : k'.entries ≡ [] = subst (λ b. MatchBool b (k'.entries ≡ []) (0 < length k'.entries))
+      (not-false _ w.if-not-removed.false) e.empty in
+      let many : 1 < length ks = omega (
+        arith,
+        inner.some,
+        w.len.ensures,
+        w.if-len-eq1.false,
+        w.in-Inner.children.ok.0,
+      ) in
+      rw (w.result-is, w.self-inside-is) (ap (λ (js : List Shape). length (all_entries js) + n)
+      w.take_out-in-Inner.ensures.items ∙ left_fewer part key (λ es. remove_from es part key n) is (depth_of ks) ls ks
+      at k k' inner.children child here e.depth refl e.others many empty n e.counted ∙
+      sym (ap (λ (s : Shape). length s.entries) seen))
 ]
 
 pub returns-clause-empty : goal.returns-clause-empty
@@ -297,7 +384,10 @@ returns-clause-empty t c = elim c.match-self.branch [
       let seen : c.args.self.now ≡ inner_shape ks = sym c.self.view_is ∙ ap shape_of w.in-Inner.is in
       let child = subst (λ ms. IsChildFor ms part key at) w.deref.ensures.value w.child_for-at.ensures in
       let k = w.index_mut.result.now in let k' = w.remove-removed.new.self in let here = w.index_mut.ensures.value in
-      let is = removing part key in let e = w.remove-removed.ensures in
+      let e = w.remove-removed.ensures in let n = w.remove-removed.result.count in
+      let there = subst IsSome (ap (λ (s : Shape). find s.entries part key) seen ∙
+      find_in_child part key ls ks at k inner.children.parted child here) c.requires.present in
+      let is = removing part key n k.entries k'.entries there e.others e.counted in
       let empty : k'.entries ≡ [] = subst (λ b. MatchBool b (k'.entries ≡ []) (0 < length k'.entries))
       (not-false _ w.if-not-removed.false) e.empty in
       let many : 1 < length ks = omega (
@@ -308,6 +398,6 @@ returns-clause-empty t c = elim c.match-self.branch [
         w.in-Inner.children.ok.0,
       ) in
       rw (w.result-is, w.self-inside-is) (subst (λ js. 0 < length (all_entries js))
-      (sym w.take_out-in-Inner.ensures.items) (left_some part key (λ es. remove_entry es part key) is (depth_of ks)
-      ls ks at k k' inner.children child here e.depth e.others many empty))
+      (sym w.take_out-in-Inner.ensures.items) (left_some part key (λ es. remove_from es part key n) is (depth_of ks)
+      ls ks at k k' inner.children child here e.depth refl e.others many empty))
 ]

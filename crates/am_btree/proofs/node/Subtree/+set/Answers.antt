@@ -1,4 +1,4 @@
-use Rattle.std.proofs.Common.{◌≡◌, ◌<◌, Option, length, sym, ap, ◌∙◌, subst, rules, arith}
+use Rattle.std.proofs.Common.{◌≡◌, ◌<◌, Option, length, refl, sym, ap, ◌∙◌, subst, rules, arith}
 use Rattle.am_list.specs.Entries.{Slot, find, set_entry}
 use Rattle.am_list.specs.Content.{live_value}
 use Rattle.am_btree.specs.Separators.{SeparatorsRise, IsChildFor}
@@ -85,7 +85,7 @@ invariant_of-self t c = elim c.match-self.branch [
       let seen : c.args.self.now ≡ inner_shape ks = sym c.self.view_is ∙ ap shape_of w.in-Inner.is in
       let child = subst (λ ms. IsChildFor ms part key at) w.deref.ensures.value w.child_for-at.ensures in
       let k = w.index_mut.result.now in let k' = w.set.new.self in let here = w.index_mut.ensures.value in
-      let is = writing part key c.args.value c.args.is_ghost in let e = w.set.ensures in
+      let is = writing part key c.args.value c.args.is_ghost k.entries in let e = w.set.ensures in
       let filled : 1 < length ks → 0 < length k'.entries = λ more.
       let old = AllByRecursion-at (λ (j : Shape). 0 < length j.entries) ks at k (inner.children.filled more)
       (omega (arith, child.in_range, as_many ls ks _ _ inner)) in
@@ -97,7 +97,7 @@ invariant_of-self t c = elim c.match-self.branch [
         written_long part key c.args.value c.args.is_ghost k.entries,
       ) in
       rw w.self-inside-is (kept_inner part key (λ es. set_entry es part key c.args.value c.args.is_ghost) is
-      (depth_of ks) ls ks at k k' inner.children child here e.depth e.entries _ _ filled inner.most inner.room)
+      (depth_of ks) ls ks at k k' inner.children child here e.depth refl e.entries _ _ filled inner.most inner.room)
 ]
 
 pub returns-clause-entries : goal.returns-clause-entries
@@ -113,9 +113,9 @@ returns-clause-entries t c = elim c.match-self.branch [
       let seen : c.args.self.now ≡ inner_shape ks = sym c.self.view_is ∙ ap shape_of w.in-Inner.is in
       let child = subst (λ ms. IsChildFor ms part key at) w.deref.ensures.value w.child_for-at.ensures in
       let k = w.index_mut.result.now in let k' = w.set.new.self in let here = w.index_mut.ensures.value in
-      let is = writing part key c.args.value c.args.is_ghost in let e = w.set.ensures in
+      let is = writing part key c.args.value c.args.is_ghost k.entries in let e = w.set.ensures in
       rw w.self-inside-is (kept_entries part key (λ es. set_entry es part key c.args.value c.args.is_ghost) is
-      (depth_of ks) ls ks at k k' inner.children child here e.depth e.entries ∙
+      (depth_of ks) ls ks at k k' inner.children child here e.depth refl e.entries ∙
       sym (ap (λ (s : Shape). set_entry s.entries part key c.args.value c.args.is_ghost) seen))
 ]
 
@@ -131,9 +131,9 @@ returns-clause-depth t c = elim c.match-self.branch [
       let seen : c.args.self.now ≡ inner_shape ks = sym c.self.view_is ∙ ap shape_of w.in-Inner.is in
       let child = subst (λ ms. IsChildFor ms part key at) w.deref.ensures.value w.child_for-at.ensures in
       let k = w.index_mut.result.now in let k' = w.set.new.self in let here = w.index_mut.ensures.value in
-      let is = writing part key c.args.value c.args.is_ghost in let e = w.set.ensures in
+      let is = writing part key c.args.value c.args.is_ghost k.entries in let e = w.set.ensures in
       rw w.self-inside-is (kept_depth part key (λ es. set_entry es part key c.args.value c.args.is_ghost) is
-      (depth_of ks) ls ks at k k' inner.children child here e.depth e.entries ∙
+      (depth_of ks) ls ks at k k' inner.children child here e.depth refl e.entries ∙
       sym (ap (λ (s : Shape). s.depth) seen))
 ]
 

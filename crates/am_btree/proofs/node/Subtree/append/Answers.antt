@@ -12,6 +12,7 @@ use Rattle.am_btree.proofs.Growing.{insert_some}
 use Rattle.am_btree.proofs.Rooted.{tree_rises}
 use Rattle.am_btree.proofs.Filling.{left_rise, further, within}
 use Rattle.am_btree.proofs.Appended.{put, stands, out}
+use Rattle.am_btree.proofs.Cutting.{just_one}
 use Rattle.am_btree.proofs.node.Subtree.append.Goals as goal
 
 pub fill_last-added-requires-clause-some : goal.fill_last-added-requires-clause-some
@@ -60,8 +61,8 @@ put-preserved c =
       so_far = further part es rs all (i + 1) c.fill_last-added.result now c.fill_last-added.ensures.entries;
     }
 
-pub remove-requires : goal.remove-requires
-remove-requires c =
+pub remove-requires-clause-present : goal.remove-requires-clause-present
+remove-requires-clause-present c =
     let rs = c.args.pairs.now in let i = c.take.added - 1 in let es = c.args.self.now.entries in
     let d = c.index-pairs-added-in-take.result in let r : Record = get_or rs i d in
     let lt : i < length rs = omega (arith, c.take-test.true, c.take.invariant.most) in
@@ -79,5 +80,7 @@ take-preserved c =
       most = omega (arith, c.take.invariant.most);
       so_far = out c.args.part es rs c.requires.above c.requires.rising i r lt (get_or_default rs i d r lt)
           (subst (λ (n : ℕ). c.take.self.entries ≡ es ++ run_entries c.args.part (take n rs)) at
-          c.take.invariant.so_far) c.remove.ensures.others;
+          c.take.invariant.so_far)
+          (c.remove.ensures.others ∙ just_one c.take.self.entries c.args.part (get_or rs i d).0
+          c.remove.result.count c.remove.ensures.some c.remove.ensures.most);
     }

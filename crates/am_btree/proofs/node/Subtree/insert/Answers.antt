@@ -12,7 +12,7 @@ use Rattle.am_btree.proofs.node.Subtree.insert.Goals as goal
 
 pub invariant_of-self : goal.invariant_of-self
 invariant_of-self c =
-    let x = c.args.entry in let old = c.args.self.now in let k = c.least.result in let s = c.in-Some.split in
+    let x = c.args.entry.now in let old = c.args.self.now in let k = c.least.result in let s = c.in-Some.split in
     let left = c.insert_below.new.self in
     let rising : IsRising old.entries = subst (λ (o : Shape). IsRising o.entries) c.self.view_is
     (tree_rises c.self.inside.node c.self.invariant) in

@@ -8,7 +8,8 @@ use Rattle.am_locks.specs.declared.asked.Asked.TheVariants.{Granted, Busy, TooMa
 use Rattle.am_locks.specs.Answers.{MatchBusy}
 use Rattle.am_locks.specs.OwnerLocks.{OwnerLocks, HasFew}
 use Rattle.am_locks.specs.KeyCounts.{all_locks, AreCountsOf}
-use Rattle.am_locks.specs.Table.{locks_owned, with_locks, blockers, AreAllApart}
+use Rattle.am_locks.specs.Table.{locks_owned, with_locks, blockers, owner_numbers, AreAllApart}
+use Rattle.am_locks.proofs.Numbers.{numbers-set}
 use Rattle.am_locks.proofs.AllLocks.{nobody_blocks_covered, all_locks-few, AreCountsOf-added}
 use Rattle.am_locks.proofs.Apart.{AreAllApart-with_lock}
 use Rattle.am_locks.proofs.Places.{own_entry}
@@ -77,6 +78,9 @@ invariant_of-self c =
           c.self.invariant.3,
       AreCountsOf-added items slot old c.add-answer.new.self asked c.add.new.self.buckets.items inside
           c.index_mut.ensures.value granted (c.add.ensures (all_locks items) c.self.invariant.4),
+      c.self.invariant.5,
+      c.self.invariant.6 ∙ sym (numbers-set items slot c.add-answer.new.self old
+          (c.add-answer.ensures.owner ∙ ap (λ (h : OwnerLocks). h.owner) c.index_mut.ensures.value)),
     )
 
 -- ---- it is refused for another reason
@@ -93,6 +97,8 @@ invariant_of-self-in_default-answer c =
       c.self.invariant.2,
       subst (All HasFew) (sym same) c.self.invariant.3,
       subst (λ t. AreCountsOf (all_locks t) c.self.inside.counts.buckets.items) (sym same) c.self.invariant.4,
+      c.self.invariant.5,
+      c.self.invariant.6 ∙ ap owner_numbers (sym same),
     )
 
 not_busy : (answer : Asked) (P : ℕ → Type 0) (Q : Type 0) → ((h : ℕ) → answer ≢ Busy h) → Q → MatchBusy answer P Q

@@ -3,6 +3,7 @@ use Rattle.std.proofs.lemmas.List.{length-set, length-take, take_rest, get_or_de
 use Rattle.std.proofs.lemmas.List.Elements.{All-set, All-get_or}
 use Rattle.am_locks.specs.OwnerLocks.{OwnerLocks, HasFew}
 use Rattle.am_locks.specs.Table.{locks_owned, with_locks, AreAllApart}
+use Rattle.am_locks.proofs.Numbers.{numbers-set}
 use Rattle.am_locks.specs.KeyCounts.{all_locks, AreCountsOf}
 use Rattle.am_locks.proofs.AllLocks.{AreCountsOf-cut}
 use Rattle.am_locks.proofs.Apart.{AreAllApart-take}
@@ -58,4 +59,8 @@ invariant_of-self c =
       c.remove.ensures left (subst (λ locks. AreCountsOf (locks ++ left) c.self.inside.counts.buckets.items) (sym rest)
           (AreCountsOf-cut c.self.inside.owners.items slot c.args.n c.index.result.now c.cut.new.self
           c.self.inside.counts.buckets.items inside c.index.ensures locks c.self.invariant.4)),
+      c.self.invariant.5,
+      c.self.invariant.6 ∙ sym (numbers-set c.self.inside.owners.items slot c.cut.new.self old
+          (ap (λ (h : OwnerLocks). h.owner) c.cut.ensures ∙
+          ap (λ (h : OwnerLocks). h.owner) c.index_mut.ensures.value)),
     )

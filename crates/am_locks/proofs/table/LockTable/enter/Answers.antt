@@ -1,5 +1,6 @@
 use Rattle.std.proofs.Common.{All, [], ◌∷◌, ◌++◌, ◌≡◌, length, subst, sym, ap, ◌∙◌, arith, length-append}
-use Rattle.am_locks.specs.Table.{AreAllApart, entered}
+use Rattle.am_locks.specs.Table.{AreAllApart, entered, owner_numbers}
+use Rattle.am_locks.proofs.Numbers.{numbers-entered}
 use Rattle.std.proofs.lemmas.List.Elements.{All-push}
 use Rattle.am_locks.specs.OwnerLocks.{HasFew}
 use Rattle.am_locks.specs.KeyCounts.{all_locks, AreCountsOf}
@@ -26,4 +27,8 @@ invariant_of-self c =
       subst (λ locks. AreCountsOf locks c.self.inside.counts.buckets.items)
           (ap all_locks c.self.view_is ∙ sym (all_locks-entered c.args.self.now c.args.tx) ∙ ap all_locks (sym all))
           c.self.invariant.4,
+      omega (arith, c.self.invariant.5, c.push_reserved.ensures.capacity),
+      c.push_reserved.ensures.items ∙
+          ap (λ ns. ns ++ c.args.tx ∷ []) (c.self.invariant.6 ∙ ap owner_numbers c.self.view_is) ∙
+          sym (numbers-entered c.args.self.now c.args.tx) ∙ ap owner_numbers (sym all),
     )

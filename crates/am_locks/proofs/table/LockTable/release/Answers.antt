@@ -1,8 +1,10 @@
-use Rattle.std.proofs.Common.{not, ◌==◌, ◌≡◌, ◌++◌, All, subst, sym, ap, ◌∙◌, arith}
+use Rattle.std.proofs.Common.{not, ◌==◌, ◌≡◌, ◌++◌, All, length, subst, sym, ap, ◌∙◌, arith}
 use Rattle.std.specs.List.{remove}
+use Rattle.std.proofs.lemmas.List.{length-map}
 use Rattle.std.proofs.lemmas.List.Elements.{All-filter}
 use Rattle.am_locks.specs.OwnerLocks.{OwnerLocks, HasFew}
-use Rattle.am_locks.specs.Table.{without_owner, AreAllApart}
+use Rattle.am_locks.specs.Table.{without_owner, owner_numbers, AreAllApart}
+use Rattle.am_locks.proofs.Numbers.{numbers-removed}
 use Rattle.am_locks.specs.KeyCounts.{all_locks, AreCountsOf}
 use Rattle.am_locks.proofs.AllLocks.{AreCountsOf-released}
 use Rattle.am_locks.proofs.Apart.{AreAllApart-filter}
@@ -21,6 +23,14 @@ remove-requires c =
           (AreCountsOf-released now c.args.tx buckets (subst AreAllApart c.self.view_is c.self.invariant.0)
           (subst (λ t. AreCountsOf (all_locks t) buckets) c.self.view_is c.self.invariant.4)),
     )
+
+pub remove-requires-2 : goal.remove-requires-2
+remove-requires-2 c = omega (
+  arith,
+  c.slot_of-slot.ensures.in_bounds,
+  ap length (c.self.invariant.6 ∙ ap owner_numbers c.self.view_is),
+  length-map c.args.self.now (λ (h : OwnerLocks). h.owner),
+)
 
 pub returns : goal.returns
 returns c =
@@ -55,4 +65,7 @@ invariant_of-self c =
           (All-filter (λ (h : OwnerLocks). not (h.owner == c.args.tx)) HasFew now
           (subst (All HasFew) c.self.view_is c.self.invariant.3)),
       subst (λ t. AreCountsOf (all_locks t) c.remove.new.self.buckets.items) (sym left) counts,
+      omega (arith, c.remove-2.ensures.capacity, c.self.invariant.5),
+      c.remove-2.ensures.items ∙ ap (λ ns. remove ns slot) c.self.invariant.6 ∙
+          numbers-removed c.self.inside.owners.items slot ∙ ap owner_numbers (sym c.remove-released.ensures.items),
     )

@@ -1,89 +1,105 @@
-use Rattle.std.proofs.Common.{◌≡◌, ◌≢◌, ◌∙◌, ℕ, List, Option, Some, true, false, refl, sym, ap, subst}
-use Rattle.std.specs.Prelude.{IsSome, is_some, not}
-use Rattle.am_record.specs.OrderedKey.{OrderedKey}
+use Rattle.std.proofs.Common.{List, take, drop, inl, inr, ⊎_elim, sym, ap, ◌∙◌, subst}
 use Rattle.am_record.specs.declared.entry.Entry.{Entry}
-use Rattle.am_list.specs.Content.{live_value}
-use Rattle.am_list.specs.Entries.{Slot, slot_of, find, remove_entry, IsRising}
+use Rattle.am_list.specs.Content.{content, HasContent}
+use Rattle.am_list.specs.Entries.{IsRising}
 use Rattle.am_parts.specs.Catalogs.{IsCatalog}
 use Rattle.am_parts.specs.Merged.{AreMerged}
-use Rattle.am_parts.specs.Partitions.{Partitions, settled}
-use Rattle.am_parts.specs.Residences.{LivesInRun, AreResidences}
-use Rattle.am_list.proofs.Content.{slot_live}
-use Rattle.am_parts.proofs.Changes.{homes}
-use Rattle.am_parts.proofs.Homes.{stands_as_before}
-use Rattle.am_parts.proofs.Emptied.{merged_home}
-use Rattle.am_parts.proofs.LiveRuns.{one_run, rising_settled, fewer_settled}
-use Rattle.am_parts.proofs.Looks.{entry_there}
-use Rattle.am_parts.proofs.Telling.{tells_fewer}
+use Rattle.am_parts.specs.Partitions.{Partitions, AreWellFormed, IsStretch, FirstIsNew, all_gone_home}
+use Rattle.am_parts.specs.Residences.{AreResidences}
+use Rattle.am_parts.proofs.Neighbours.{front_then, back_then, settled_is, settled_rise, home_is, at_home, one_run_then}
+use Rattle.am_parts.proofs.Neighbours.{told_then, merged_all_home, new_before}
 use Rattle.am_parts.proofs.parts.Parts.bring_home.Goals as goal
 
--- what stands where the entry stood, once it stands in the final partition too
-module _ (e : Entry) (es after : List Entry) (settles : after ≡ settled e es) (rising : IsRising es)
-    (in_run : e.part ≢ 0) (stands : find es e.part e.key ≡ Some (slot_of e)) where
-  still : find after e.part e.key ≡ Some (slot_of e)
-  still = ap (λ (l : List Entry). find l e.part e.key) settles ∙ stands_as_before e es in_run rising ∙ stands
+pub remove_all-requires-clause-stand : goal.remove_all-requires-clause-stand
+remove_all-requires-clause-stand g c =
+    let es = g.I.PartIndex.entries c.self.inside.index in let xs = c.args.entries.now in
+    let n = c.settle_all-count.result in let le = c.settle_all-count.ensures.most in
+    let same = ap (λ (p : Partitions). p.entries) c.self.view_is in let sound = c.self.invariant.0 in
+    let stretch = subst (λ (l : List Entry). IsStretch l xs) (sym same) c.requires in
+    let settles = c.settle_all-count.ensures.settled ∙ settled_is sound xs stretch n le in
+    (front_then sound xs stretch n le, back_then sound xs stretch n le, settles)
 
-  still_some : IsSome (find after e.part e.key)
-  still_some = ap is_some still
+pub remove_all-requires-clause-rising : goal.remove_all-requires-clause-rising
+remove_all-requires-clause-rising g c =
+    let es = g.I.PartIndex.entries c.self.inside.index in let xs = c.args.entries.now in
+    let n = c.settle_all-count.result in let le = c.settle_all-count.ensures.most in
+    let same = ap (λ (p : Partitions). p.entries) c.self.view_is in let sound = c.self.invariant.0 in
+    let stretch = subst (λ (l : List Entry). IsStretch l xs) (sym same) c.requires in
+    let settles = c.settle_all-count.ensures.settled ∙ settled_is sound xs stretch n le in
+    subst IsRising (sym settles) (settled_rise sound xs stretch n le)
 
-  still_live : e.is_ghost ≡ false → is_some (live_value (find after e.part e.key)) ≡ true
-  still_live live = ap (λ (o : Option Slot). is_some (live_value o)) still ∙ slot_live e ∙ ap not live
-
-pub take-requires : goal.take-requires
-take-requires g c =
-    let e = c.args.entry.now in
-    let es = g.I.PartIndex.entries c.self.inside.index in
-    let after = g.I.PartIndex.entries c.settle.new.index in
-    let stands = ap (λ (p : Partitions). find p.entries c.args.entry.now.part c.args.entry.now.key) c.self.view_is ∙
-    c.requires.stands in
-    let ok = c.in_ok-settle.ensures.ok in
-    let rising = c.settle.ensures.rising in record {
-      entries = g.I.PartIndex.entries c.settle.new.index;
-      key = c.args.entry.now.key;
-      catalog = c.settle.ensures.catalog;
-      stands = still_some e es after ok rising c.requires.in_run stands;
-      mark = still_live e es after ok rising c.requires.in_run stands c.requires.live;
-    }
-
-pub remove-requires : goal.remove-requires
-remove-requires g c =
-    still_some c.args.entry.now (g.I.PartIndex.entries c.self.inside.index) (g.I.PartIndex.entries c.settle.new.index)
-    c.in_ok-settle.ensures.ok c.settle.ensures.rising c.requires.in_run
-    (ap (λ (p : Partitions). find p.entries c.args.entry.now.part c.args.entry.now.key) c.self.view_is ∙
-    c.requires.stands)
-
-pub invariant_of-self-2 : goal.invariant_of-self-2
-invariant_of-self-2 g c =
-    let e = c.args.entry.now in
-    let es = g.I.PartIndex.entries c.self.inside.index in
-    let after = g.I.PartIndex.entries c.settle.new.index in
-    let stands = ap (λ (p : Partitions). find p.entries e.part e.key) c.self.view_is ∙ c.requires.stands in
-    let ok = c.in_ok-settle.ensures.ok in
-    let rising = c.settle.ensures.rising in
-    let fewer : (key : OrderedKey) (part : ℕ) → LivesInRun after key part → LivesInRun es key part =
-    λ key part it. fewer_settled e es rising key part (subst (λ (l : List Entry). LivesInRun l key part) ok it) in
-    let tells : AreResidences after c.self.inside.residences = tells_fewer c.self.inside.residences.hash
-    (LivesInRun es) (LivesInRun after) c.self.inside.residences.directory c.self.inside.residences.directory
-    c.self.invariant.3 fewer (λ n. refl) in (
-      (homes (ap (λ (p : Partitions). p.entries) c.self.view_is) c.self.invariant.0 e c.requires.stands
-          c.requires.in_run c.requires.live (c.remove.ensures.others ∙ ap (λ l. remove_entry l e.part e.key) ok)).sound,
-      c.self.invariant.1,
-      subst (λ (l : List Entry). IsCatalog l c.take.new.self) (sym c.remove.ensures.others)
-          (c.take.ensures after e.key c.settle.ensures.catalog
-          (still_some e es after ok rising c.requires.in_run stands)
-          (still_live e es after ok rising c.requires.in_run stands c.requires.live)),
-      subst (λ (l : List Entry). AreResidences l c.take-2.new.self) (sym c.remove.ensures.others)
-          (c.take-2.ensures after (subst IsRising (sym ok) (rising_settled e es rising))
-          (λ key part part' here there. one_run c.self.invariant.0 key part part' (fewer key part here)
-          (fewer key part' there))
-          (entry_there after e (still e es after ok rising c.requires.in_run stands)) tells),
-      subst (λ (l : List Entry). AreMerged l c.self.inside.runs c.self.inside.merged.list.items)
-          (sym (c.remove.ensures.others ∙ ap (λ l. remove_entry l e.part e.key) ok))
-          (merged_home es c.self.inside.runs e c.self.inside.merged.list.items c.self.invariant.4),
+pub forget_all-requires : goal.forget_all-requires
+forget_all-requires g c =
+    let es = g.I.PartIndex.entries c.self.inside.index in let xs = c.args.entries.now in
+    let n = c.settle_all-count.result in let le = c.settle_all-count.ensures.most in
+    let same = ap (λ (p : Partitions). p.entries) c.self.view_is in let sound = c.self.invariant.0 in
+    let stretch = subst (λ (l : List Entry). IsStretch l xs) (sym same) c.requires in
+    let settles = c.settle_all-count.ensures.settled ∙ settled_is sound xs stretch n le in (
+      front_then sound xs stretch n le,
+      back_then sound xs stretch n le,
+      settled_rise sound xs stretch n le,
+      subst (λ (l : List Entry). IsCatalog l c.settle_all-count.new.catalog) settles c.settle_all-count.ensures.catalog,
     )
+
+pub invariant_of-self : goal.invariant_of-self
+invariant_of-self g c =
+    let es = g.I.PartIndex.entries c.self.inside.index in let xs = c.args.entries.now in
+    let n = c.settle_all-count.result in let le = c.settle_all-count.ensures.most in
+    let same = ap (λ (p : Partitions). p.entries) c.self.view_is in let sound = c.self.invariant.0 in
+    let stretch = subst (λ (l : List Entry). IsStretch l xs) (sym same) c.requires in
+    let settles = c.settle_all-count.ensures.settled ∙ settled_is sound xs stretch n le in
+    let front = front_then sound xs stretch n le in let back = back_then sound xs stretch n le in
+    let final = c.remove_all.ensures front back settles in
+    let home = home_is sound xs stretch n le ∙ sym final in
+    let rise = settled_rise sound xs stretch n le in (
+      subst AreWellFormed home (at_home sound xs stretch n le).sound,
+      c.self.invariant.1,
+      subst (λ (l : List Entry). IsCatalog l c.forget_all.new.catalog) (sym final)
+          (c.forget_all.ensures.catalog front back rise
+          (subst (λ (l : List Entry). IsCatalog l c.settle_all-count.new.catalog) settles
+          c.settle_all-count.ensures.catalog)),
+      subst (λ (l : List Entry). AreResidences l c.forget_all.new.residences) (sym final)
+          (c.forget_all.ensures.residences front back rise (one_run_then sound xs stretch n le)
+          (told_then sound xs stretch n le c.self.inside.residences c.self.invariant.3)),
+      subst (λ (l : List Entry). AreMerged l c.self.inside.runs c.self.inside.merged.list.items) home
+          (merged_all_home (take n xs) es c.self.inside.runs c.self.inside.merged.list.items c.self.invariant.4),
+    )
+
+pub returns-clause-entries : goal.returns-clause-entries
+returns-clause-entries g c =
+    let es = g.I.PartIndex.entries c.self.inside.index in let xs = c.args.entries.now in
+    let n = c.settle_all-count.result in let le = c.settle_all-count.ensures.most in
+    let same = ap (λ (p : Partitions). p.entries) c.self.view_is in let sound = c.self.invariant.0 in
+    let stretch = subst (λ (l : List Entry). IsStretch l xs) (sym same) c.requires in
+    let settles = c.settle_all-count.ensures.settled ∙ settled_is sound xs stretch n le in
+    let front = front_then sound xs stretch n le in let back = back_then sound xs stretch n le in
+    let final = c.remove_all.ensures front back settles in
+    let home = home_is sound xs stretch n le ∙ sym final in
+    sym home ∙ ap (all_gone_home (take n xs)) same
 
 pub returns-clause-content : goal.returns-clause-content
 returns-clause-content g c =
-    let e = c.args.entry.now in
-    (homes (ap (λ (p : Partitions). p.entries) c.self.view_is) c.self.invariant.0 e c.requires.stands c.requires.in_run
-    c.requires.live (c.remove.ensures.others ∙ ap (λ l. remove_entry l e.part e.key) c.in_ok-settle.ensures.ok)).has
+    let es = g.I.PartIndex.entries c.self.inside.index in let xs = c.args.entries.now in
+    let n = c.settle_all-count.result in let le = c.settle_all-count.ensures.most in
+    let same = ap (λ (p : Partitions). p.entries) c.self.view_is in let sound = c.self.invariant.0 in
+    let stretch = subst (λ (l : List Entry). IsStretch l xs) (sym same) c.requires in
+    let settles = c.settle_all-count.ensures.settled ∙ settled_is sound xs stretch n le in
+    let front = front_then sound xs stretch n le in let back = back_then sound xs stretch n le in
+    let final = c.remove_all.ensures front back settles in
+    let home = home_is sound xs stretch n le ∙ sym final in
+    subst (λ (l : List Entry). HasContent l (content c.args.self.now.entries)) home
+    (subst (λ (l : List Entry). HasContent (all_gone_home (take n xs) es) (content l)) same
+    (at_home sound xs stretch n le).has)
+
+pub returns-clause-greatest : goal.returns-clause-greatest
+returns-clause-greatest g c =
+    let es = g.I.PartIndex.entries c.self.inside.index in let xs = c.args.entries.now in
+    let n = c.settle_all-count.result in let le = c.settle_all-count.ensures.most in
+    let same = ap (λ (p : Partitions). p.entries) c.self.view_is in let sound = c.self.invariant.0 in
+    let stretch = subst (λ (l : List Entry). IsStretch l xs) (sym same) c.requires in
+    let settles = c.settle_all-count.ensures.settled ∙ settled_is sound xs stretch n le in
+    ⊎_elim (λ whole. inl whole)
+    (λ new. inr (subst (λ (l : List Entry). FirstIsNew l (drop n xs)) same
+    (new_before (take n xs) es (drop n xs) sound.rising
+    (subst (λ (l : List Entry). FirstIsNew l (drop n xs)) c.settle_all-count.ensures.settled new))))
+    c.settle_all-count.ensures.greatest

@@ -1,7 +1,5 @@
-use Rattle.std.proofs.Common.{◌≡◌, ◌==◌, position, IsSome, subst, sym, ◌∙◌, rules}
-use Rattle.std.proofs.lemmas.Iterator.{YieldsList-from_slice}
-use Rattle.std.proofs.lemmas.Iterator.Search.{position_from_yields_List}
-use borrow.Author.Tests.{tests}
+use Rattle.std.proofs.Common.{◌≡◌, ◌==◌, position, IsSome, subst, sym, ap, ◌∙◌}
+use Rattle.am_locks.proofs.Numbers.{position-map}
 use Rattle.am_locks.proofs.Places.{position-found}
 use Rattle.am_tx.specs.declared.transaction.Transaction.{Transaction}
 use Rattle.am_tx.specs.Active.{no_notes, tx_numbers}
@@ -11,20 +9,18 @@ use Rattle.am_tx.proofs.tx_table.TxTable.place_of.Goals as goal
 
 pub unwrap-requires : goal.unwrap-requires
 unwrap-requires c =
-    let active = YieldsList-from_slice c.args.self.now.active (c.iter.ensures.rest ∙ c.deref.ensures.value ∙
-    (λ i. (c.self.view_is i).active)) in
-    let e : c.position-place.result ≡ position (λ (x : Transaction). x.number == c.args.tx) c.args.self.now.active =
-    position_from_yields_List (λ (x : Transaction). x.number == c.args.tx) _ _ c.position-place.result
-    c.position-place.ensures.ran active (λ x b q k. search (rules, tests)) in
+    let e : c.place_of-place.result ≡ position (λ (x : Transaction). x.number == c.args.tx) c.args.self.now.active =
+    c.place_of-place.ensures.place ∙ ap (position (λ n. n == c.args.tx))
+    (c.self.invariant.0.owners ∙ ap (λ (t : Txs). tx_numbers t.active) c.self.view_is) ∙
+    position-map (λ (x : Transaction). x.number) c.args.tx c.args.self.now.active in
     subst IsSome (sym e) (position-found (λ (x : Transaction). x.number == c.args.tx) c.args.self.now.active c.requires)
 
 pub returns-clause-found : goal.returns-clause-found
 returns-clause-found c =
-    let active = YieldsList-from_slice c.args.self.now.active (c.iter.ensures.rest ∙ c.deref.ensures.value ∙
-    (λ i. (c.self.view_is i).active)) in
-    let e : c.position-place.result ≡ position (λ (x : Transaction). x.number == c.args.tx) c.args.self.now.active =
-    position_from_yields_List (λ (x : Transaction). x.number == c.args.tx) _ _ c.position-place.result
-    c.position-place.ensures.ran active (λ x b q k. search (rules, tests)) in
+    let e : c.place_of-place.result ≡ position (λ (x : Transaction). x.number == c.args.tx) c.args.self.now.active =
+    c.place_of-place.ensures.place ∙ ap (position (λ n. n == c.args.tx))
+    (c.self.invariant.0.owners ∙ ap (λ (t : Txs). tx_numbers t.active) c.self.view_is) ∙
+    position-map (λ (x : Transaction). x.number) c.args.tx c.args.self.now.active in
     let rise : Rise (tx_numbers c.args.self.now.active) = subst (λ (t : Txs). Rise (tx_numbers t.active)) c.self.view_is
     c.self.invariant.0.rise in
     λ d. let at = position-number c.args.self.now.active c.unwrap.result c.args.tx d (sym e ∙ c.unwrap.ensures) in (
@@ -35,11 +31,10 @@ returns-clause-found c =
 
 pub returns-clause-write : goal.returns-clause-write
 returns-clause-write c =
-    let active = YieldsList-from_slice c.args.self.now.active (c.iter.ensures.rest ∙ c.deref.ensures.value ∙
-    (λ i. (c.self.view_is i).active)) in
-    let e : c.position-place.result ≡ position (λ (x : Transaction). x.number == c.args.tx) c.args.self.now.active =
-    position_from_yields_List (λ (x : Transaction). x.number == c.args.tx) _ _ c.position-place.result
-    c.position-place.ensures.ran active (λ x b q k. search (rules, tests)) in
+    let e : c.place_of-place.result ≡ position (λ (x : Transaction). x.number == c.args.tx) c.args.self.now.active =
+    c.place_of-place.ensures.place ∙ ap (position (λ n. n == c.args.tx))
+    (c.self.invariant.0.owners ∙ ap (λ (t : Txs). tx_numbers t.active) c.self.view_is) ∙
+    position-map (λ (x : Transaction). x.number) c.args.tx c.args.self.now.active in
     let rise : Rise (tx_numbers c.args.self.now.active) = subst (λ (t : Txs). Rise (tx_numbers t.active)) c.self.view_is
     c.self.invariant.0.rise in
     λ f d. let at = position-number c.args.self.now.active c.unwrap.result c.args.tx d (sym e ∙ c.unwrap.ensures) in

@@ -1,0 +1,13 @@
+use Rattle.std.proofs.Common.{◌≡◌, ◌≤◌, ◌-◌, ◌++◌, List, length, drop}
+use Rattle.am_record.specs.declared.entry.Entry.{Entry}
+use Rattle.am_parts.proofs.homing.remove_all.Given as goal
+
+abbrev pub invariant-loop-gone : goal.invariant-loop-gone
+invariant-loop-gone g l = record {
+  most : l.gone ≤ length l.entries;
+  left : (front back : List Entry) → g.I.PartIndex.entries l.initial.index ≡ front ++ (l.entries ++ back) →
+      g.I.PartIndex.entries l.index ≡ front ++ (drop l.gone l.entries ++ back);
+}
+
+abbrev pub decreases-loop-gone : goal.decreases-loop-gone
+decreases-loop-gone g l = length l.entries - l.gone
