@@ -121,16 +121,17 @@ def exhausted(folder: str) -> None:
 
 
 def fill_history(cluster: Cluster) -> int:
-    """Puts another key again and again, until there is no space: the newest revision."""
+    """Puts another key again and again, until there is no space: the newest revision. A put that only takes long is repeated."""
 
     async def fill() -> int:
         etcd, revision = Etcd(cluster.endpoints), 0
-        try:
-            for _ in range(100):
+        for _ in range(100):
+            try:
                 answer = await etcd.try_once("/v3/kv/put", put_of("other", b"x" * 1_000_000))
                 revision = int(answer["header"]["revision"])
-        except (Refused, Unreachable):
-            return revision
+            except (Refused, Unreachable) as fault:
+                if "space exceeded" in str(fault):
+                    return revision
         fail("etcd's space isn't used up")
 
     return asyncio.run(fill())

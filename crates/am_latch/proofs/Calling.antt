@@ -6,7 +6,7 @@ use Rattle.std.proofs.lemmas.List.{map-append}
 use Rattle.am_record.specs.declared.step.Step.{Step}
 use Rattle.am_record.specs.declared.step.Reply.{Reply}
 use Rattle.am_latch.specs.declared.receipt.Receipt.{Receipt}
-use Rattle.am_latch.specs.Changes.{is_stored}
+use Rattle.am_engine.specs.Changes.{is_stored}
 use Rattle.am_latch.specs.Receipts.{SeatState, seat_state, receipt, GetsReceipt, HasReceiptOf, commit_in, committed_by}
 use Rattle.am_latch.specs.Receipts.{last_commit_of, positions_of, AreBehind}
 

@@ -2,11 +2,11 @@
 use Rattle.std.proofs.Common.{◌≡◌, ℕ, ◌<◌, List, [], ◌∷◌, ◌++◌, true, MatchBool, subst}
 use Rattle.am_record.specs.declared.step.Step.{Step}
 use Rattle.am_record.specs.declared.step.Reply.{Reply}
-use Rattle.am_latch.specs.declared.receipt.CallId.{CallId}
+use Rattle.am_engine.specs.declared.call_id.CallId.{CallId}
 use Rattle.am_latch.specs.declared.taken.TakenView.{TakenView}
 use Rattle.am_latch.specs.declared.views.View.{View}
-use Rattle.am_latch.specs.Changes.{is_stored}
-use Rattle.am_latch.specs.Traces.{CallLog, log_with, StoresCall, AreMadeBelow}
+use Rattle.am_engine.specs.Changes.{is_stored}
+use Rattle.am_engine.specs.Traces.{CallLog, log_with, StoresCall, AreMadeBelow}
 
 pub grown : (e e' : CallLog) (m : CallId) (st : Step) (r : Reply) → is_stored r ≡ true → StoresCall e m st r e' →
     e' ≡ log_with e m st r

@@ -9,8 +9,8 @@ use Rattle.std.proofs.lemmas.List.{set-get_or}
 use Rattle.am_record.specs.declared.step.Step.{Step}
 use Rattle.am_record.specs.declared.step.Reply.{Reply}
 use Rattle.am_latch.specs.declared.receipt.Receipt.{Receipt}
-use Rattle.am_latch.specs.declared.receipt.CallId.{CallId}
-use Rattle.am_latch.specs.Traces.{CallLog, AreMadeBelow}
+use Rattle.am_engine.specs.declared.call_id.CallId.{CallId}
+use Rattle.am_engine.specs.Traces.{CallLog, AreMadeBelow}
 use Rattle.am_latch.specs.Receipts.{SeatState, receipt, receipts_from, receipts_of, AreReceiptsOf, AreAll}
 use Rattle.am_latch.specs.Receipts.{HaveReceiptsIn}
 

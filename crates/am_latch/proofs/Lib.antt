@@ -1,16 +1,11 @@
 pub mod Crosses
 pub mod Calling
 pub mod Each
-pub mod Fitting
 pub mod Holding
 pub mod Keeping
 pub mod Opens
 pub mod Places
-pub mod Replies
-pub mod Rooms
 pub mod Rules
 pub mod Seats
-pub mod Storing
 pub mod Taking
 pub mod Tying
-pub mod Wanting

@@ -4,7 +4,7 @@ use Rattle.std.proofs.Common.{length, refl, sym, ap, ◌∙◌, subst, eq-eqb, n
 use Rattle.am_record.specs.declared.step.Step.{Step}
 use Rattle.am_record.specs.declared.step.Reply.{Reply}
 use Rattle.am_latch.specs.declared.receipt.Receipt.{Receipt}
-use Rattle.am_latch.specs.declared.receipt.CallId.{CallId}
+use Rattle.am_engine.specs.declared.call_id.CallId.{CallId}
 use Rattle.am_latch.specs.Receipts.{receipt, receipts_from}
 
 mine_head : (k call position : ℕ) (st : Step) (r : Reply) (b : Bool) (x : Receipt) (A A' B B' : List Receipt) →

@@ -9,9 +9,9 @@ use Rattle.atomic_table.proofs.Lists.{at_set, set_again}
 use Rattle.am_record.specs.declared.step.Step as what
 use Rattle.am_record.specs.declared.step.Reply.{Reply}
 use Rattle.am_latch.specs.declared.receipt.Receipt.{Receipt}
-use Rattle.am_latch.specs.declared.receipt.CallId.{CallId}
+use Rattle.am_engine.specs.declared.call_id.CallId.{CallId}
 use Rattle.am_latch.specs.declared.views.View.{View}
-use Rattle.am_latch.specs.Traces.{CallLog, log_with}
+use Rattle.am_engine.specs.Traces.{CallLog, log_with}
 use Rattle.am_latch.specs.Receipts.{receipt, receipts_of}
 use Rattle.am_latch.specs.Views.{trace_view, minting_view, seat_view, empty_view, joint_view, join_views, seat_part}
 use Rattle.am_latch.specs.Views.{trace_part, one_more_minted, minted_seat, IsViewOf, ViewsAgree, view_with_call}

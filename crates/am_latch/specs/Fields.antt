@@ -11,7 +11,7 @@ use Rattle.am_latch.specs.Receipts.{moved_in, last_commit_of, positions_of, AreB
 use Rattle.am_latch.specs.Ties.{open_of, HasRoom, IsTied}
 use Rattle.am_latch.specs.Tables.{LatchTables}
 use Rattle.am_latch.specs.Taken.{whole_view, handed_view, IsTakerView}
-use Rattle.am_latch.specs.Traces.{AreMadeBelow, log_of}
+use Rattle.am_engine.specs.Traces.{AreMadeBelow, log_of}
 use Rattle.am_latch.specs.Views.{minting_view, trace_view, IsSeatView}
 
 -- One token under the latch knows the trace, another what was handed out of it. One of the seats made each call, and

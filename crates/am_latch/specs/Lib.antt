@@ -1,15 +1,7 @@
 pub mod Views
-pub mod Changes
-pub mod Copies
-pub mod EngineFields
 pub mod Faults
-pub mod Handed
-pub mod HandedFields
 pub mod Receipts
-pub mod Sizes
 pub mod Tables
 pub mod Taken
 pub mod Ties
 pub mod Fields
-pub mod Traces
-pub mod Wants

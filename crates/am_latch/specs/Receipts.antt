@@ -8,9 +8,9 @@ use Rattle.am_record.specs.contracts.step.Reply as the_reply
 use Rattle.am_record.specs.declared.step.Reply.{Reply}
 use Rattle.am_record.specs.declared.step.Reply.TheVariants.{Committed}
 use Rattle.am_latch.specs.declared.receipt.Receipt.{Receipt}
-use Rattle.am_latch.specs.declared.receipt.CallId.{CallId}
-use Rattle.am_latch.specs.Changes.{is_stored, moves_in}
-use Rattle.am_latch.specs.Traces.{CallLog}
+use Rattle.am_engine.specs.declared.call_id.CallId.{CallId}
+use Rattle.am_engine.specs.Changes.{is_stored, moves_in}
+use Rattle.am_engine.specs.Traces.{CallLog}
 
 -- what contracts see of a seat: all its receipts, and how many of them, the oldest, it let go
 pub record SeatState : Type 0 where

@@ -3,10 +3,10 @@ use Rattle.std.specs.Prelude.{◌≡◌, ◌<◌, ◌≤◌, ℕ, List, [], ◌�
 use Rattle.am_record.specs.declared.step.Step.{Step}
 use Rattle.am_record.specs.declared.step.Step.TheVariants.{Begin, Do, Commit, Abort, Merge, Clean}
 use Rattle.am_record.specs.declared.step.Reply.{Reply}
-use Rattle.am_latch.specs.declared.change.Change.TheVariants.{Ends}
-use Rattle.am_latch.specs.Changes.{change, end_of, open_after, has, active_in_trace}
+use Rattle.am_engine.specs.declared.change.Change.TheVariants.{Ends}
+use Rattle.am_engine.specs.Changes.{change, end_of, open_after, has, active_in_trace}
 use Rattle.am_latch.specs.declared.receipt.Receipt.{Receipt}
-use Rattle.am_latch.specs.Traces.{CallLog, EngineState, log_of, AreMadeBelow}
+use Rattle.am_engine.specs.Traces.{CallLog, EngineState, log_of, AreMadeBelow}
 use Rattle.am_latch.specs.Receipts.{SeatState, receipts_of}
 
 abbrev pub open_from : Option ℕ → List Receipt → Option ℕ

@@ -6,9 +6,9 @@ use Rattle.atomic_table.specs.Table.{State, Me, Step}
 use Rattle.am_record.specs.declared.step.Step as step
 use Rattle.am_record.specs.declared.step.Reply.{Reply}
 use Rattle.am_latch.specs.declared.receipt.Receipt.{Receipt}
-use Rattle.am_latch.specs.declared.receipt.CallId.{CallId}
+use Rattle.am_engine.specs.declared.call_id.CallId.{CallId}
 use Rattle.am_latch.specs.declared.views.View.{View}
-use Rattle.am_latch.specs.Traces.{CallLog}
+use Rattle.am_engine.specs.Traces.{CallLog}
 use Rattle.am_latch.specs.Receipts.{receipt, receipts_of}
 
 abbrev pub trace_view : CallLog → View

@@ -3,7 +3,7 @@ ghost use Rattle.std.specs.Prelude.{◌≡◌, ◌<◌, ◌++◌, ◌↔◌, [],
 ghost use Rattle.am_core.specs.Standing.{IsSoundAt};
 ghost use Rattle.am_latch.specs.Receipts.{AreReceiptsOf, AreAll, NumberedBelow, HaveReceiptsIn};
 ghost use Rattle.am_latch.specs.Ties.{SeatsAreTied};
-ghost use Rattle.am_latch.specs.Changes.{active_in_trace, numbers_active};
+ghost use Rattle.am_engine.specs.Changes.{active_in_trace, numbers_active};
 ghost use Rattle.am_serial.specs.Legal.{IsLegal};
 ghost use Rattle.am_latch.specs.Views.{IsTraceView, log_in_view};
 

@@ -1,13 +1,12 @@
 //! The latch, round the engine.
-ghost use Rattle.std.specs.Prelude.{◌≡◌, ◌↔◌, ◌⊎◌, ◌<◌, ◌≤◌, [], ◌++◌, IfOk, IfErr};
+ghost use Rattle.std.specs.Prelude.{◌≡◌, ◌↔◌, ◌⊎◌, ◌<◌, ◌≤◌, [], ◌++◌, IfOk, IfErr, OnErr};
 ghost use Rattle.am_sound.specs.Right.{IsSoundStore};
 ghost use Rattle.am_latch.specs.Receipts.{numbered};
 ghost use Rattle.am_latch.specs.Faults.{IsBadSeats};
 ghost use Rattle.am_latch.specs.Ties.{IsEngineOf, HasReceiptsIn};
-ghost use Rattle.am_latch.specs.Sizes.{AreFiguresUnder};
-ghost use Rattle.am_latch.specs.Traces.{EngineState, IsNextOf};
+ghost use Rattle.am_engine.specs.Sizes.{AreFiguresAt};
+ghost use Rattle.am_engine.specs.Traces.{EngineState, IsNextOf};
 
-use crate::engine::{Engine, Piece};
 use crate::latch_name::LatchName;
 use crate::seat::Seat;
 use crate::state::LatchState;
@@ -15,8 +14,8 @@ use crate::taken::{TakenTable, TakenToken, split_taker};
 use crate::taker::Taker;
 use crate::view_steps::{end_minting, mint_seat};
 use crate::views::{Token, ViewTable};
-use am_parts::Figures;
-use am_record::HashKey;
+use am_engine::{Engine, Piece};
+use am_record::{HashKey, NoMemory};
 use std::alloc::Global;
 use std::marker::{Model, PhantomData};
 use std::sync::{Mutex, MutexGuard, Wait};
@@ -196,20 +195,18 @@ impl<L: LatchName> Latch<L> {
         lend(&self.table, &mut self.lock(rt), seat, f)
     }
 
-    /// How large the store's index is.
-    pub fn figures<R: Wait>(&self, rt: &R) -> Figures
-        ensures { AreFiguresUnder L.seats result }
-    {
-        self.lock(rt).figures()
-    }
-
-    /// Hands out the stored calls that are kept, which are the oldest that weren't handed out before, or nothing where
-    /// memory is refused. No call and no look sees a difference.
-    pub fn hand_out<R: Wait>(&self, rt: &R, taker: &mut Taker<L>) -> Piece
-        ensures taken { taker.new ≡ taker.old ++ result.trace.items }
-        ensures next { (engine : EngineState) × IsEngineOf L.seats engine × IsSoundStore engine.trace ×
-            (engine.handed.trace ≡ taker.old) ×
-            IsNextOf engine result.first record { trace = result.trace.items; calls = result.calls.items } }
+    /// Hands out the stored calls that are kept, which are the oldest that weren't handed out before. No call and no
+    /// look sees a difference.
+    ///
+    /// # Errors
+    /// NoMemory, where memory was refused. Nothing is handed out then.
+    pub fn hand_out<R: Wait>(&self, rt: &R, taker: &mut Taker<L>) -> Result<Piece, NoMemory>
+        ensures taken { IfOk result (λ p. taker.new ≡ taker.old ++ p.trace.items) }
+        ensures next { IfOk result (λ p. (engine : EngineState) × IsEngineOf L.seats engine ×
+            IsSoundStore engine.trace × (engine.handed.trace ≡ taker.old) ×
+            IsNextOf engine p.first record { trace = p.trace.items; calls = p.calls.items }) }
+        ensures figures { IfOk result (λ p. AreFiguresAt taker.new p.figures) }
+        ensures same { OnErr result (taker.new ≡ taker.old) }
     {
         self.lock(rt).hand_out(&self.taken, taker)
     }

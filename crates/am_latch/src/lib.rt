@@ -1,23 +1,18 @@
 //! A store under one latch, whose calls stand in one trace, and seats that keep a receipt for each call.
 //!
-//! - [`Engine`]: a store with the trace of its calls, each with its [`CallId`].
-//! - [`Blank`], [`Latch`]: the engine under a lock, and its seats.
+//! - [`Blank`], [`Latch`]: an [`am_engine::Engine`] under a lock, and its seats.
 //! - [`Seat`]: calls through the latch, with a [`Receipt`] for each; [`CommitReceipt`] says that a commit stands.
-//! - [`Piece`], [`Taker`]: what the latch hands out of its trace, and who takes it.
+//! - [`Taker`]: who takes what the latch hands out of its trace.
 //! - [`close`]: when the threads have ended, receipts and trace are the same.
 //!
 //! A rule over views ties the receipts to the trace, so that what is open in a seat is one of the
 //! store's active transactions, and its end always finds its room.
 #![tactic(auto)]
 
-mod change;
 mod closing;
-mod engine;
-mod handed;
 mod latch;
 mod latch_name;
 mod receipt;
-mod room;
 mod seat;
 mod state;
 mod taken;
@@ -25,11 +20,9 @@ mod taker;
 mod view_steps;
 mod views;
 
-pub use change::was_refused;
 pub use closing::{Closed, Missing, close};
-pub use engine::{Engine, Piece};
 pub use latch::{Blank, Latch, LatchFault, MAX_SEATS};
 pub use latch_name::LatchName;
-pub use receipt::{CallId, CommitReceipt, Receipt};
+pub use receipt::{CommitReceipt, Receipt};
 pub use seat::Seat;
 pub use taker::Taker;

@@ -1,6 +1,8 @@
 //! What a seat keeps of a call.
 
 ghost use Rattle.std.specs.Prelude.{◌≡◌};
+ghost use Rattle.am_engine.specs.Changes.{moves_in};
+ghost use Rattle.am_latch.specs.Receipts.{committed_by};
 
 use am_record::{Reply, Step};
 use std::marker::Model;
@@ -14,13 +16,6 @@ pub struct Receipt {
     pub step: Step,
     pub reply: Reply,
     pub position: u64,
-}
-
-/// Whose call a pair of the trace is.
-#[derive(Clone, Copy, Debug, PartialEq, Eq)]
-pub struct CallId {
-    pub seat: u64,
-    pub call: u64,
 }
 
 /// Says that a commit stands in the trace. Contracts see it as the commit's number.
@@ -43,5 +38,25 @@ impl CommitReceipt {
         ensures { result ≡ self.now }
     {
         self.commit
+    }
+}
+
+/// How many entries the reply says were moved.
+pub(crate) fn moved_by(reply: &Reply) -> u64
+    ensures { result ≡ moves_in reply.now }
+{
+    match reply {
+        Reply::Moved(n, _) => *n,
+        _ => 0,
+    }
+}
+
+/// The number of the commit that the reply tells.
+pub(crate) fn commit_by(reply: &Reply) -> Option<u64>
+    ensures { result ≡ committed_by reply.now }
+{
+    match reply {
+        Reply::Committed(commit) => Some(*commit),
+        _ => None,
     }
 }

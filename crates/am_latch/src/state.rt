@@ -1,31 +1,27 @@
 //! What lies under the latch: the engine, with the token that knows its trace.
-ghost use Rattle.std.specs.Prelude.{◌≡◌, ◌≢◌, ◌<◌, [], ◌∷◌, ◌++◌, true, length, MatchBool};
+ghost use Rattle.std.specs.Prelude.{◌≡◌, ◌≢◌, ◌<◌, [], ◌∷◌, ◌++◌, true, length, IfOk, OnErr, MatchBool};
 ghost use Rattle.am_record.specs.Sessions.{IsAllowed};
 ghost use Rattle.am_record.specs.declared.step.Reply.TheVariants.{Refused};
 ghost use Rattle.am_record.specs.declared.step.Refusal.TheVariants.{SeatFull};
 ghost use Rattle.am_sound.specs.Right.{IsSoundStore};
-ghost use Rattle.am_latch.specs.Changes.{is_stored, change};
-ghost use Rattle.am_latch.specs.Changes.{IsBoundedReply};
-ghost use Rattle.am_latch.specs.Copies.{IsCopyOf};
-ghost use Rattle.am_latch.specs.Traces.{CallLog, EngineState, log_of, empty_log, StoresCall, AreMadeBelow, IsNextOf};
+ghost use Rattle.am_engine.specs.Changes.{is_stored, change};
+ghost use Rattle.am_engine.specs.Changes.{IsBoundedReply};
+ghost use Rattle.am_engine.specs.Copies.{IsCopyOf};
+ghost use Rattle.am_engine.specs.Traces.{CallLog, EngineState, log_of, empty_log, StoresCall, AreMadeBelow, IsNextOf};
 ghost use Rattle.am_latch.specs.Receipts.{receipt, receipts_of};
-ghost use Rattle.am_latch.specs.Sizes.{AreFiguresUnder};
+ghost use Rattle.am_engine.specs.Sizes.{AreFiguresAt};
 ghost use Rattle.am_latch.specs.Ties.{open_of, EndsTx, IsTied, IsEngineOf};
 ghost use Rattle.am_latch.specs.Taken.{handed_view};
 ghost use Rattle.am_latch.specs.Views.{trace_view, seat_view, IsSeatView};
 
-use crate::change::{Change, change_by, was_stored};
-use crate::engine::{Engine, Piece};
 use crate::latch_name::LatchName;
-use crate::receipt::CallId;
-use crate::room::StepCopy;
 use crate::seat::Seat;
 use crate::taken::{TakenTable, TakenToken, TakenView, hand_over};
 use crate::taker::Taker;
 use crate::view_steps::{append_call, compare_receipts};
 use crate::views::{Token, View, ViewTable};
-use am_parts::Figures;
-use am_record::{Reply, Step};
+use am_engine::{CallId, Change, Engine, Piece, StepCopy, change_by, was_stored};
+use am_record::{NoMemory, Reply, Step};
 use atomic_table::Badge;
 use std::marker::{Model, PhantomData};
 use std::mem;
@@ -48,7 +44,7 @@ pub(crate) struct LatchState<L: LatchName> {
 }
 
 impl<L: LatchName> Model for LatchState<L> {
-    ghost use Rattle.am_latch.specs.Traces.{call_log_code, CallLog, log_of};
+    ghost use Rattle.am_engine.specs.Traces.{call_log_code, CallLog, log_of};
     ghost use Rattle.am_latch.specs.Fields.{IsLatchState};
 
     ghost Value = { CallLog };
@@ -76,16 +72,22 @@ impl<L: LatchName> LatchState<L> {
     }
 
     /// Hands out what the engine keeps. The taker's token knows of it, too.
-    pub(crate) fn hand_out(&mut self, table: &TakenTable, taker: &mut Taker<L>) -> Piece
+    pub(crate) fn hand_out(
+        &mut self,
+        table: &TakenTable,
+        taker: &mut Taker<L>,
+    ) -> Result<Piece, NoMemory>
         requires { (table.now.shared.table_id ≡ L.table.handed) × (0 < table.now.shared.table_id.words) }
         ensures same { self.new ≡ self.old }
-        ensures taken { taker.new ≡ taker.old ++ result.trace.items }
-        ensures next { (engine : EngineState) × IsEngineOf L.seats engine × IsSoundStore engine.trace ×
-            (engine.handed.trace ≡ taker.old) ×
-            IsNextOf engine result.first record { trace = result.trace.items; calls = result.calls.items } }
+        ensures taken { IfOk result (λ p. taker.new ≡ taker.old ++ p.trace.items) }
+        ensures next { IfOk result (λ p. (engine : EngineState) × IsEngineOf L.seats engine ×
+            IsSoundStore engine.trace × (engine.handed.trace ≡ taker.old) ×
+            IsNextOf engine p.first record { trace = p.trace.items; calls = p.calls.items }) }
+        ensures figures { IfOk result (λ p. AreFiguresAt taker.new p.figures) }
+        ensures none { OnErr result (taker.new ≡ taker.old) }
     {
         let _kept = self.engine.kept();
-        let piece = self.engine.hand_out();
+        let piece = self.engine.hand_out()?;
         let handed_token = mem::replace(&mut self.handed_token, Badge::blank()).into_seat();
         self.handed_token = hand_over(
             table,
@@ -94,14 +96,7 @@ impl<L: LatchName> LatchState<L> {
             piece.trace.as_slice(),
         )
         .into_badge();
-        piece
-    }
-
-    /// How large the store's index is.
-    pub(crate) fn figures(&self) -> Figures
-        ensures { AreFiguresUnder L.seats result }
-    {
-        self.engine.store().figures()
+        Ok(piece)
     }
 
     /// The seat has just the receipts of its calls in the trace.

@@ -4,7 +4,7 @@ ghost use Rattle.std.specs.Prelude.{◌≡◌, ◌<◌, [], ◌++◌};
 ghost use Rattle.am_latch.specs.Taken.{whole_view, handed_view, taker_view, taken_with};
 ghost use Rattle.am_latch.specs.Taken.{IsHandedView, IsTakerView, IsWholeView};
 
-use crate::handed::Events;
+use am_engine::Events;
 use am_record::{Reply, Step};
 use atomic_table::{Join, Play, Seat, Split, Table, TableRule};
 use std::alloc::Global;

@@ -17,7 +17,7 @@ pub struct Taker<L: LatchName> {
 impl<L: LatchName> Model for Taker<L> {
     ghost use Rattle.am_serial.specs.Trace.{Trace};
     ghost use Rattle.am_latch.specs.Fields.{IsTaker};
-    ghost use Rattle.am_latch.specs.Traces.{events_code};
+    ghost use Rattle.am_engine.specs.Traces.{events_code};
 
     ghost Value = { Trace };
 

@@ -1,15 +1,15 @@
 //! What is done with a seat's token and that of the trace, under the latch.
 ghost use Rattle.std.specs.Prelude.{◌≡◌, ◌+◌, ◌<◌, [], ◌∷◌, ◌++◌, length};
-ghost use Rattle.am_latch.specs.Traces.{empty_log, log_with};
+ghost use Rattle.am_engine.specs.Traces.{empty_log, log_with};
 ghost use Rattle.am_latch.specs.Receipts.{receipt, receipts_of};
 ghost use Rattle.am_latch.specs.Views.{minting_view, trace_view, seat_view, view_with_call, log_in_view, IsTraceView};
 ghost use Rattle.am_latch.specs.Views.{IsSeatView, IsJointView};
 
-use crate::receipt::CallId;
 use crate::views::{
     AppendCall, CompareReceipts, EndMinting, Event, JoinViews, MintSeat, SplitViews, Token,
     ViewTable,
 };
+use am_engine::CallId;
 use am_record::{Reply, Step};
 use std::marker::Brand;
 

@@ -1,6 +1,7 @@
 //! What ties receipts to the trace: a table of one word, which never changes, under a rule over the views of tokens.
 
-use crate::receipt::{CallId, Receipt};
+use crate::receipt::Receipt;
+use am_engine::CallId;
 use am_record::{Reply, Step};
 use atomic_table::{Join, Play, Seat, Split, Table, TableRule};
 use std::alloc::Global;
@@ -37,7 +38,7 @@ pub type Token = Seat<u8, View>;
 
 /// The pair that is appended, and its call.
 pub trait Event {
-    ghost use Rattle.am_latch.specs.declared.receipt.CallId.{CallId};
+    ghost use Rattle.am_engine.specs.declared.call_id.CallId.{CallId};
     ghost use Rattle.am_record.specs.declared.step.Step.{Step};
     ghost use Rattle.am_record.specs.declared.step.Reply.{Reply};
 

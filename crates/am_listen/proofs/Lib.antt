@@ -3,5 +3,3 @@ pub mod ServedSessions
 pub mod Seatings
 pub mod Taking
 pub mod InTurn
-pub mod FirstLines
-pub mod Requests

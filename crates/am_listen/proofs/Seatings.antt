@@ -13,9 +13,10 @@ use Rattle.am_latch.specs.declared.receipt.Receipt.{Receipt}
 use Rattle.am_latch.specs.Receipts.{SeatState, new_seat, numbered, AreAll}
 use Rattle.am_seating.specs.SessionSeats.{SessionSeatState}
 use Rattle.am_workers.specs.Turns.{AreOfTurns}
-use Rattle.am_listen.specs.declared.mode.Mode.{Mode}
+use Rattle.am_doors.specs.declared.mode.Mode.{Mode}
 use Rattle.am_listen.specs.ServerRuns.{seat_numbers, session_seat_numbers, latch_seats, IsNewSeat, IsOfWorker}
-use Rattle.am_listen.specs.ServerRuns.{HasWorked, most_turns, upkeep_of}
+use Rattle.am_doors.specs.Modes.{most_turns, upkeep_of}
+use Rattle.am_listen.specs.ServerRuns.{HasWorked}
 
 -- ---- numbers stay
 

@@ -3,7 +3,7 @@ use Rattle.std.proofs.Common.{◌≡◌, ℕ, ◌+◌, ◌≤◌, List, [], ◌+
 use Rattle.std.proofs.Common.{append_assoc, append-nil, length-append}
 use Rattle.am_serial.specs.Trace.{Trace}
 use Rattle.am_latch.specs.Receipts.{SeatState}
-use Rattle.am_listen.specs.Events.{add_count}
+use Rattle.am_pieces.specs.Events.{add_count}
 use Rattle.am_listen.specs.ServerRuns.{IsRunOf, HasStored}
 use Rattle.am_listen.specs.Pieces.{HasTaken, HasClosed}
 use Rattle.am_listen.specs.declared.server_run.ServerRun.{ServerRun}

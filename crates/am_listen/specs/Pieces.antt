@@ -2,7 +2,7 @@
 use Rattle.std.specs.Prelude.{◌≡◌, ℕ, List, ◌++◌, length}
 use Rattle.am_serial.specs.Trace.{Trace}
 use Rattle.am_latch.specs.Receipts.{SeatState}
-use Rattle.am_listen.specs.Events.{add_count}
+use Rattle.am_pieces.specs.Events.{add_count}
 use Rattle.am_listen.specs.ServerRuns.{IsRunOf}
 use Rattle.am_listen.specs.declared.server_run.ServerRun.{ServerRun}
 

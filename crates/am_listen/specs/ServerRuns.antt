@@ -10,11 +10,9 @@ use Rattle.am_talk.specs.Dialogue.{Exchange}
 use Rattle.am_session.specs.Talk.{AnswersAll, AnswersOneMore}
 use Rattle.am_seating.specs.SessionSeats.{SessionSeatState, IsNumbered, seat_meaning}
 use Rattle.am_workers.specs.Turns.{AreOfTurns, HasTakenTurns}
-use Rattle.am_workers.specs.declared.upkeep.Upkeep.{Upkeep}
-use Rattle.am_workers.specs.declared.upkeep.Upkeep.TheVariants.{MergeOnly, MergeAndClean}
-use Rattle.am_listen.specs.Events.{add_count}
-use Rattle.am_listen.specs.declared.mode.Mode.{Mode}
-use Rattle.am_listen.specs.declared.mode.Mode.TheVariants.{Bounded, Staying}
+use Rattle.am_pieces.specs.Events.{add_count}
+use Rattle.am_doors.specs.Modes.{most_sessions, most_turns, upkeep_of}
+use Rattle.am_doors.specs.declared.mode.Mode.{Mode}
 use Rattle.am_listen.specs.declared.server_run.ServerRun.{ServerRun}
 
 -- the numbers of seats, and of those of sessions
@@ -80,21 +78,6 @@ pub record IsRunOf (seats : List SeatState) (trace : Trace) (commits : ℕ) : Ty
   pub stands : IsSoundAt trace store
   pub committed : commits ≡ store.commits
   pub receipts : AreReceiptsOf seats trace
-
--- how many sessions a seat serves at most
-abbrev pub most_sessions : Mode → ℕ
-most_sessions Bounded = 1
-most_sessions Staying = 18446744073709551615
-
--- how many turns a worker has at most
-abbrev pub most_turns : Mode → ℕ
-most_turns Bounded = 1000000
-most_turns Staying = 18446744073709551615
-
--- whether a worker cleans where nothing is left to merge
-abbrev pub upkeep_of : Mode → Upkeep
-upkeep_of Bounded = MergeOnly
-upkeep_of Staying = MergeAndClean
 
 -- a worker had its turns there
 abbrev pub HasWorked : Mode → SeatState → SeatState → Type 0

@@ -1,15 +1,18 @@
 //! The thread that takes what the latch hands out.
 
 ghost use Rattle.std.specs.Prelude.{◌≡◌, [], length, IsSome};
-ghost use Rattle.am_listen.specs.Events.{add_count, AreCountsOf, AreTraceCountsOf};
+ghost use Rattle.am_pieces.specs.Events.{add_count, AreCountsOf};
+ghost use Rattle.am_engine.specs.Sizes.{AreFiguresAt};
+ghost use Rattle.am_listen.specs.Told.{AreCountsBehind};
 ghost use Rattle.am_listen.specs.Pieces.{HasTaken};
 ghost use Rattle.am_listen.specs.Stops.{is_over};
 
-use crate::counts::{TraceCounts, Watcher};
-use crate::events::EventCounts;
-use crate::house::House;
-use crate::pieces::PieceTaker;
+use crate::counts::{Counts, Watcher};
+use am_doors::{House, SessionCounts};
+use am_engine::empty_figures;
 use am_latch::{Latch, LatchName, Taker};
+use am_parts::Figures;
+use am_pieces::{EventCounts, PieceTaker, TraceCounts};
 use std::rt::Clock;
 use std::sync::Wait;
 use std::time::{Duration, Instant};
@@ -46,6 +49,9 @@ pub(crate) struct Keeper<L: LatchName, T: PieceTaker + Drop, V: Watcher + Drop> 
     counts: EventCounts,
     ghost numbered: { events ≡ add_count 0 (length taker) },
     ghost counted: { AreCountsOf taker counts },
+    // How large the store was behind them.
+    index: Figures,
+    ghost sized: { AreFiguresAt taker index },
     watcher: V,
     // How long sessions may go on after a stop.
     grace: Option<Duration>,
@@ -67,6 +73,7 @@ impl<L: LatchName, T: PieceTaker + Drop, V: Watcher + Drop> Keeper<L, T, V> {
             pieces,
             events: 0,
             counts: EventCounts::new(),
+            index: empty_figures(),
             watcher,
             grace,
             stopped_at: None,
@@ -99,24 +106,31 @@ impl<L: LatchName, T: PieceTaker + Drop, V: Watcher + Drop> Keeper<L, T, V> {
         ensures { HasTaken T.took self.old.taker self.old.pieces self.old.events self.new.taker self.new.pieces
             self.new.events }
     {
-        let index = latch.figures(rt);
-        let piece = latch.hand_out(rt, &mut self.taker);
-        self.pieces.take(&piece.trace);
-        self.events = self.events.saturating_add(piece.trace.len() as u64);
-        self.counts.add(&piece.trace);
-        let trace = self.trace_counts(piece.trace.len());
-        let counts = house.tally.counts(trace, index, self.pieces.is_cut());
+        let mut kept = 0;
+        if let Ok(piece) = latch.hand_out(rt, &mut self.taker) {
+            kept = piece.trace.len();
+            self.pieces.take(&piece.trace);
+            self.events = self.events.saturating_add(kept as u64);
+            self.counts.add(&piece.trace);
+            self.index = piece.figures;
+        }
+        let counts = self.counts(house.tally.counts(), kept);
         self.watcher.look(&counts, is_last);
     }
 
-    // What all that was taken is made of, of which so many events came last.
-    fn trace_counts(&self, kept: usize) -> TraceCounts
-        ensures { AreTraceCountsOf self.now.taker kept result }
+    // How the server does, by all that was taken, of which so many events came last.
+    fn counts(&self, sessions: SessionCounts, kept: usize) -> Counts
+        ensures { AreCountsBehind self.now.taker sessions kept result }
     {
-        TraceCounts {
-            events: self.events,
-            kept: kept as u64,
-            of: self.counts,
+        Counts {
+            sessions,
+            trace: TraceCounts {
+                events: self.events,
+                kept: kept as u64,
+                of: self.counts,
+            },
+            index: self.index,
+            is_cut: self.pieces.is_cut(),
         }
     }
 

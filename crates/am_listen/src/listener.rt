@@ -4,13 +4,11 @@ ghost use Rattle.std.specs.Prelude.{◌≡◌, ◌≤◌, ◌<◌, IfOk};
 ghost use Rattle.am_listen.specs.ServerRuns.{IsServerRun};
 
 use crate::counts::Watcher;
-use crate::door::{Door, listen_at_port, listen_at_socket};
-use crate::house::{Doors, House};
-use crate::mode::Mode;
-use crate::pieces::PieceTaker;
 use crate::server::{Keeping, run};
 use crate::server_run::ServerRun;
+use am_doors::{Door, Doors, House, Mode, listen_at_port, listen_at_socket};
 use am_latch::Blank;
+use am_pieces::PieceTaker;
 use am_record::{HashKey, NoMemory};
 use am_words::Words;
 use std::alloc::Global;

@@ -4,16 +4,17 @@ ghost use Rattle.std.specs.Prelude.{◌≡◌, ◌++◌, [], IfOk, All, length, 
 ghost use Rattle.std.specs.List.{AllZip};
 ghost use Rattle.am_latch.specs.Receipts.{AreAll};
 ghost use Rattle.am_listen.specs.ServerRuns.{HasNewSeat, HasServedInTurn, HasStored, IsServerRun};
-ghost use Rattle.am_listen.specs.ServerRuns.{HasWorked, most_sessions};
+ghost use Rattle.am_listen.specs.ServerRuns.{HasWorked};
+ghost use Rattle.am_doors.specs.Modes.{most_sessions};
 ghost use Rattle.am_listen.specs.Pieces.{HasTaken, HasClosed};
 
 use crate::counts::Watcher;
-use crate::house::House;
 use crate::keeper::Keeper;
-use crate::pieces::PieceTaker;
 use crate::server_run::{ServerRun, assign_seats, take_seats};
 use crate::turns::serve_in_turn;
+use am_doors::House;
 use am_latch::{Blank, Latch, LatchName, Seat, close};
+use am_pieces::PieceTaker;
 use am_record::{HashKey, NoMemory};
 use am_seating::SessionSeat;
 use am_words::{WordSeat, Words};

@@ -5,8 +5,7 @@ ghost use Rattle.am_session.specs.Served.{Served, read_failures, write_failures,
 ghost use Rattle.am_seating.specs.SessionSeats.{open_at, seat_meaning, IsNumbered, IsPublishedByReceipt};
 ghost use Rattle.am_listen.specs.ServerRuns.{WasServed};
 
-use crate::counting_sink::CountingSink;
-use crate::pacer::MergePacer;
+use am_doors::{CountingSink, MergePacer};
 use am_latch::LatchName;
 use am_seating::SessionSeat;
 use am_session::{End, PartingSink, serve};

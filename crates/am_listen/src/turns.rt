@@ -2,11 +2,11 @@
 
 ghost use Rattle.std.specs.Prelude.{◌≡◌, ◌^◌, ◌<◌, None};
 ghost use Rattle.am_seating.specs.SessionSeats.{open_at, IsNumbered};
-ghost use Rattle.am_listen.specs.ServerRuns.{WasServed, HasNewSeat, HasServedInTurn, most_sessions};
+ghost use Rattle.am_listen.specs.ServerRuns.{WasServed, HasNewSeat, HasServedInTurn};
+ghost use Rattle.am_doors.specs.Modes.{most_sessions};
 
-use crate::house::House;
-use crate::http::NoHttp;
 use crate::sessions::{refuse, say, serve_connection};
+use am_doors::{House, NoHttp};
 use am_latch::LatchName;
 use am_seating::SessionSeat;
 use am_stream::Reading;

@@ -1,7 +1,7 @@
 //! A trace that is handed out.
 
 use crate::fault::{Fault, expect, expect_unchanged};
-use am_latch::{CallId, Engine, Piece};
+use am_engine::{CallId, Engine, Piece};
 use am_record::{HashKey, Reply, Step};
 use std::alloc::Global;
 
@@ -21,18 +21,11 @@ fn begin(engine: &mut Engine) -> Result<u64, Fault> {
 fn hand_out(engine: &mut Engine) -> Result<Piece, Fault> {
     let all = engine.len();
     let kept = engine.kept().len();
-    let piece = engine.hand_out();
-    if piece.trace.len() == kept {
+    if let Ok(piece) = engine.hand_out() {
         return Ok(piece);
     }
-    expect_unchanged(piece.trace.is_empty() && piece.calls.is_empty())?;
     expect_unchanged(engine.len() == all && engine.kept().len() == kept)?;
-    let piece = engine.hand_out();
-    if piece.trace.len() == kept {
-        Ok(piece)
-    } else {
-        Err(Fault::NoMemory)
-    }
+    Ok(engine.hand_out()?)
 }
 
 /// A transaction whose begin is handed out ends behind that, and its end wants no memory.

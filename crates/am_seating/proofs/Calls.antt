@@ -12,8 +12,8 @@ use Rattle.am_record.specs.declared.step.Reply.TheVariants.{Begun, Done, Found, 
 use Rattle.am_record.specs.declared.step.Reply.TheVariants.{Committed, Aborted, Moved, MergeDone, Ended, Idle, Cleaned}
 use Rattle.am_record.specs.declared.step.Reply.TheVariants.{NoMark, Refused}
 use Rattle.am_latch.specs.declared.receipt.Receipt.{Receipt}
-use Rattle.am_latch.specs.declared.change.Change.TheVariants.{Ends}
-use Rattle.am_latch.specs.Changes.{change, open_after, is_stored, IsReplyTo, IsBoundedReply}
+use Rattle.am_engine.specs.declared.change.Change.TheVariants.{Ends}
+use Rattle.am_engine.specs.Changes.{change, open_after, is_stored, IsReplyTo, IsBoundedReply}
 use Rattle.am_latch.specs.Receipts.{SeatState, receipt, GetsReceipt, HasReceiptOf, commit_in, last_commit_of}
 use Rattle.am_latch.specs.Ties.{open_from, open_of}
 use Rattle.am_latch.specs.Ties.{EndsTx as IsEnded}

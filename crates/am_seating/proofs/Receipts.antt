@@ -11,7 +11,7 @@ use Rattle.am_record.specs.declared.step.Reply.{Reply}
 use Rattle.am_record.specs.declared.step.Reply.TheVariants.{Aborted, Committed}
 use Rattle.am_serial.specs.Trace.{Trace}
 use Rattle.am_latch.specs.declared.receipt.Receipt.{Receipt}
-use Rattle.am_latch.specs.Changes.{is_stored}
+use Rattle.am_engine.specs.Changes.{is_stored}
 use Rattle.am_latch.specs.Receipts.{SeatState, GetsReceipt, receipt}
 use Rattle.am_talk.specs.Session.{staged_after}
 use Rattle.am_talk.specs.Dialogue.{Exchange}

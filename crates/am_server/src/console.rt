@@ -3,8 +3,10 @@
 use crate::fault::ListenFault;
 use crate::outbox::Outbox;
 use am_command::Listening;
-use am_listen::{Counts, EventCounts, TraceCounts, Watcher};
+use am_doors::SessionCounts;
+use am_listen::{Counts, Watcher};
 use am_parts::Figures;
+use am_pieces::{EventCounts, TraceCounts};
 use std::io;
 use std::rt::Clock;
 use std::sync::Wait;
@@ -50,13 +52,16 @@ impl<'a, R: Eprint + Clock + Wait> Console<'a, R> {
     fn log(&self, counts: &Counts) {
         let Counts {
             sessions,
-            open,
             trace: TraceCounts { events, kept, of },
             index,
-            refused_by_system: unaccepted,
             is_cut,
-            ..
         } = *counts;
+        let SessionCounts {
+            begun,
+            open,
+            refused_by_system: unaccepted,
+            ..
+        } = sessions;
         let EventCounts {
             commits,
             busy,
@@ -73,7 +78,7 @@ impl<'a, R: Eprint + Clock + Wait> Console<'a, R> {
         let is_cut = is_cut || self.outbox.is_failed();
         let trace = if is_cut { "cut" } else { "whole" };
         let _ = eprint!(self.rt;
-            "sessions={sessions} open={open} steps={events} commits={commits} busy={busy} "
+            "sessions={begun} open={open} steps={events} commits={commits} busy={busy} "
         );
         let _ = eprint!(self.rt;
             "too_many={too_many} wrong={wrong} in_final={in_final} in_runs={in_runs} runs={runs} "
@@ -85,12 +90,12 @@ impl<'a, R: Eprint + Clock + Wait> Console<'a, R> {
     }
 
     // Says once that a connection couldn't be accepted, and why, as the system has it.
-    fn tell_accept(&mut self, counts: &Counts) {
-        if counts.refused_by_system == 0 || self.told_accept {
+    fn tell_accept(&mut self, sessions: &SessionCounts) {
+        if sessions.refused_by_system == 0 || self.told_accept {
             return;
         }
-        if counts.first_refusal != 0 {
-            let why = io::Error::from_raw_os_error(counts.first_refusal);
+        if let Some(number) = sessions.first_refusal {
+            let why = io::Error::from_raw_os_error(number);
             let _ = eprintln!(self.rt; "amserve: a connection: {why}");
         }
         self.told_accept = true;
@@ -108,7 +113,7 @@ impl<'a, R: Eprint + Clock + Wait> Console<'a, R> {
 
 impl<'a, R: Eprint + Clock + Wait> Watcher for Console<'a, R> {
     fn look(&mut self, counts: &Counts, is_last: bool) {
-        self.tell_accept(counts);
+        self.tell_accept(&counts.sessions);
         self.tell_cut(counts);
         if self.is_logged && (is_last || self.is_due()) {
             self.log(counts);

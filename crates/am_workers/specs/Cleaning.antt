@@ -13,7 +13,7 @@ use Rattle.am_parts.specs.Catalogs.{live_in}
 use Rattle.am_serial.specs.Trace.{Trace}
 use Rattle.am_sound.specs.StoreState.{StoreState}
 use Rattle.am_core.specs.Standing.{IsSoundAt}
-use Rattle.am_latch.specs.Traces.{EngineState}
+use Rattle.am_engine.specs.Traces.{EngineState}
 use Rattle.am_latch.specs.Ties.{IsEngineOf, HasReceiptsIn}
 use Rattle.am_latch.specs.Receipts.{SeatState, HasReceiptOf}
 use Rattle.am_workers.specs.declared.cleaning.Place.{Place}

@@ -7,7 +7,8 @@ ghost use Rattle.am_workers.specs.Cleaning.{ghost_to_clean, highest_key, place_b
 
 use am_btree::BTree;
 use am_core::Store;
-use am_latch::{Engine, Latch, LatchName, Seat};
+use am_engine::Engine;
+use am_latch::{Latch, LatchName, Seat};
 use am_parts::Figures;
 use am_record::{Entry, Key, MAX_KEY_LEN, Range, Reply, Step};
 use std::sync::Wait;

@@ -1,7 +1,8 @@
 //! Seats of one latch.
 
 use am_audit::check;
-use am_latch::{Blank, Latch, LatchName, Seat, Taker, close, was_refused};
+use am_engine::was_refused;
+use am_latch::{Blank, Latch, LatchName, Seat, Taker, close};
 use am_record::{HashKey, Key, Op, Refusal, Reply, Step, Value};
 use std::alloc::Global;
 use std::marker::Brand;
@@ -144,11 +145,12 @@ fn in_pieces<L: LatchName, R: Wait + Abort>(
     assert!(rt; inserts(rt, &latch, &mut seat, 1));
     assert!(rt; !was_refused(&seat.call(rt, &latch, Step::Begin)));
     let tx = seat.open_tx().ok_or("no transaction")?;
-    let first = latch.hand_out(rt, &mut taker);
+    let first = latch.hand_out(rt, &mut taker)?;
     assert_eq!(rt; first.first, 0);
     assert_eq!(rt; first.trace.len(), 4);
     assert_eq!(rt; first.calls.len(), 4);
-    let none = latch.hand_out(rt, &mut taker);
+    assert_eq!(rt; first.figures.in_final, 1);
+    let none = latch.hand_out(rt, &mut taker)?;
     assert_eq!(rt; none.first, 4);
     assert_eq!(rt; none.trace.len(), 0);
     seat.let_go();
@@ -190,7 +192,10 @@ fn take_pieces<L: LatchName, R: Wait>(
     let mut taken = Vec::new(alloc);
     let mut fine = true;
     for _ in 0..100 {
-        let mut piece = latch.hand_out(rt, &mut taker);
+        let Ok(mut piece) = latch.hand_out(rt, &mut taker) else {
+            fine = false;
+            break;
+        };
         fine = fine
             & (piece.first == taken.len() as u64)
             & (piece.calls.len() == piece.trace.len());

@@ -1,6 +1,8 @@
 //! Clients of a server, over sockets.
 
-use am_listen::{Counts, Keeping, LetGo, Mode, ServerRun, Watcher, bind};
+use am_doors::Mode;
+use am_listen::{Counts, Keeping, ServerRun, Watcher, bind};
+use am_pieces::LetGo;
 use am_record::HashKey;
 use std::io::{Read, Write};
 use std::net::{Ipv4Addr, Net, Shutdown, TcpListener, TcpStream};

@@ -1,6 +1,7 @@
 //! The two shared words.
 
-use am_latch::{Blank, Latch, LatchName, Seat, was_refused};
+use am_engine::was_refused;
+use am_latch::{Blank, Latch, LatchName, Seat};
 use am_record::{HashKey, Step};
 use am_words::{WordSeat, Words};
 use std::marker::Brand;

@@ -2,11 +2,11 @@ use Rattle.std.proofs.Common.{rules, ap, sym, ◌≡◌, ◌∙◌, subst, lengt
 use Rattle.am_serial.specs.Trace.{Trace}
 use Rattle.am_serial.specs.Legal.{IsLegal}
 use Rattle.am_core.specs.Standing.{IsSoundAt}
-use Rattle.am_latch.specs.Traces.{CallLog, log_of}
+use Rattle.am_engine.specs.Traces.{CallLog, log_of}
 use Rattle.am_latch.specs.Receipts.{SeatState, AreAll, HaveReceiptsIn, AreReceiptsOf, NumberedBelow}
 use Rattle.am_latch.specs.Views.{log_in_view}
 use Rattle.am_latch.proofs.Keeping.{kept, whole_again}
-use Rattle.am_latch.specs.Changes.{active_in_trace}
+use Rattle.am_engine.specs.Changes.{active_in_trace}
 use Rattle.am_latch.specs.Ties.{SeatsAreTied}
 use Rattle.am_latch.proofs.Opens.{open_is}
 use Rattle.am_latch.specs.declared.taken.TakenView.{TakenView}

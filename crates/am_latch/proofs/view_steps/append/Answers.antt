@@ -1,6 +1,6 @@
 use Rattle.std.proofs.Common.{rules, ap, sym, ◌∙◌}
 use Rattle.am_latch.specs.Views.{view_with_call}
-use Rattle.am_latch.specs.declared.receipt.CallId.{CallId}
+use Rattle.am_engine.specs.declared.call_id.CallId.{CallId}
 use Rattle.am_latch.proofs.Rules.{appends_as}
 use Rattle.am_latch.proofs.view_steps.append.Goals as goal
 

@@ -4,15 +4,16 @@ use denote.Param.{param}
 use denote.Param.Send.{arg_send, param_send, shr_send, sendable}
 use Rattle.am_latch.proofs.Crosses.{latch_sync}
 use Rattle.am_latch.specs.contracts.latch.Latch as Latch
-use Rattle.am_listen.specs.contracts.house.House as House
+use Rattle.am_doors.specs.contracts.house.House as House
 use Rattle.am_listen.specs.ServerRuns.{IsNewSeat}
 use Rattle.am_latch.specs.Receipts.{SeatState}
-use Rattle.am_listen.specs.ServerRuns.{HasStored, most_sessions}
+use Rattle.am_doors.specs.Modes.{most_sessions}
+use Rattle.am_listen.specs.ServerRuns.{HasStored}
 use Rattle.am_listen.proofs.Seatings.{all_new, count_back, all_there, all_of_workers, joined_seats}
 use Rattle.am_listen.proofs.InTurn.{all_came_back, all_of_turns}
 use Rattle.am_listen.proofs.Taking.{taken_at_first}
 use Rattle.am_listen.proofs.Crosses.{captures_send}
-use Rattle.am_listen.proofs.house.House.TheSendSync as house
+use Rattle.am_doors.proofs.house.House.TheSendSync as house
 use Rattle.am_listen.proofs.server.Beside.TheSendSync as beside
 use Rattle.am_listen.proofs.server.run.Goals as goal
 

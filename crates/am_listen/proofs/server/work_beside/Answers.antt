@@ -3,9 +3,9 @@ use denote.Param.{param}
 use denote.Param.Send.{arg_send, param_send, shr_send, sendable}
 use Rattle.am_latch.proofs.Crosses.{latch_sync}
 use Rattle.am_latch.specs.contracts.latch.Latch as Latch
-use Rattle.am_listen.specs.contracts.house.House as House
+use Rattle.am_doors.specs.contracts.house.House as House
 use Rattle.am_listen.proofs.Crosses.{captures_send}
-use Rattle.am_listen.proofs.house.House.TheSendSync as house
+use Rattle.am_doors.proofs.house.House.TheSendSync as house
 use Rattle.am_listen.proofs.keeper.Keeper.TheSendSync as keeper
 use Rattle.am_listen.proofs.server.work_beside.Goals as goal
 

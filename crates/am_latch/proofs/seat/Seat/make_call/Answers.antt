@@ -2,7 +2,7 @@ use Rattle.std.proofs.Common.{rules, arith, length, length-append, ap, sym, subs
 use Rattle.std.proofs.Common.{◌++◌, Option, None, vec_len, vec_capacity, refl}
 use Rattle.atomic_table.specs.Table.{Me}
 use Rattle.am_record.specs.Sessions.{IsAllowed}
-use Rattle.am_latch.specs.Changes.{change, end_of, open_after}
+use Rattle.am_engine.specs.Changes.{change, end_of, open_after}
 use Rattle.am_latch.specs.declared.receipt.Receipt.{Receipt}
 use Rattle.am_latch.specs.declared.views.View.{View}
 use Rattle.am_latch.specs.Receipts.{SeatState, receipt, moved_in, last_commit_of, positions_of, AreBehind}

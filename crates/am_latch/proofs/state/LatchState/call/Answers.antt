@@ -1,7 +1,7 @@
 use Rattle.am_record.specs.Sessions.{IsAllowed}
 use Rattle.std.proofs.Common.{rules, ap, sym, subst, ◌≡◌, ◌∙◌, [], ◌∷◌, List, length}
 use Rattle.am_latch.specs.declared.receipt.Receipt.{Receipt}
-use Rattle.am_latch.specs.Traces.{CallLog, log_of, log_with, AreMadeBelow}
+use Rattle.am_engine.specs.Traces.{CallLog, log_of, log_with, AreMadeBelow}
 use Rattle.am_latch.specs.Receipts.{receipts_of}
 use Rattle.am_latch.specs.Ties.{open_of, open_in, IsTied}
 use Rattle.am_latch.specs.Taken.{handed_view}

@@ -1,0 +1,3 @@
+pub mod Http
+pub mod Modes
+pub mod Gates

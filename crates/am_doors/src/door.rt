@@ -1,0 +1,100 @@
+//! Where connections come to.
+
+use std::fs::Permissions;
+use std::io::ErrorKind;
+use std::net::{Ipv4Addr, Net, TcpListener, TcpStream};
+use std::os::fd::OwnedFd;
+use std::os::unix::fs::{FileTypeExt, PermissionsExt};
+use std::os::unix::net::{UnixListener, UnixStream};
+use std::rt::Files;
+use std::{fs, io};
+
+/// So many connections at most may have come to a socket before its mode was set.
+const MOST_EARLY: u32 = 4096;
+
+/// A port of this machine, or a socket of its file system.
+#[derive(Drop)]
+pub enum Door {
+    Port {
+        listener: TcpListener,
+        port: u16,
+    },
+    Socket {
+        listener: UnixListener,
+        path: String,
+    },
+}
+
+impl Door {
+    /// The next connection. One that came to a socket of the file system is read, written and shut down as any other.
+    pub(crate) fn accept(&self) -> io::Result<TcpStream> {
+        match self {
+            Door::Port { listener, .. } => {
+                let (stream, _) = listener.accept()?;
+                Ok(stream)
+            }
+            Door::Socket { listener, .. } => {
+                let (stream, _) = listener.accept()?;
+                Ok(TcpStream::from(OwnedFd::from(stream)))
+            }
+        }
+    }
+
+    /// Connects, so that a thread which waits for a connection gets this one. Whether it could.
+    pub fn wake<R: Net<Listener = TcpListener, Stream = TcpStream>>(&self, rt: &R) -> bool {
+        match self {
+            Door::Port { port, .. } => {
+                TcpStream::connect(rt, (Ipv4Addr::LOCALHOST, *port)).is_ok()
+            }
+            Door::Socket { path, .. } => UnixStream::connect(rt, path.as_str()).is_ok(),
+        }
+    }
+}
+
+/// Listens at a port of this machine, at any free one where it is 0. The listener and its port.
+pub fn listen_at_port<R: Net<Listener = TcpListener, Stream = TcpStream>>(
+    rt: &R,
+    port: u16,
+) -> io::Result<(TcpListener, u16)> {
+    let listener = TcpListener::bind(rt, (Ipv4Addr::LOCALHOST, port))?;
+    let port = listener.local_addr()?.port();
+    Ok((listener, port))
+}
+
+/// Listens at a socket of the file system that nobody but its owner may open. One of that name at which nobody listens
+/// is replaced.
+pub fn listen_at_socket<R: Files + Net>(rt: &R, path: &str) -> io::Result<UnixListener> {
+    let listener = match UnixListener::bind(rt, path) {
+        Err(fault) if fault.kind() == ErrorKind::AddrInUse && is_left(rt, path) => {
+            fs::remove_file(rt, path)?;
+            UnixListener::bind(rt, path)?
+        }
+        bound => bound?,
+    };
+    fs::set_permissions(rt, path, Permissions::from_mode(0o600))?;
+    close_early(&listener)?;
+    Ok(listener)
+}
+
+// Closes the connections that came before the mode was set.
+fn close_early(listener: &UnixListener) -> io::Result<()> {
+    listener.set_nonblocking(true)?;
+    for _ in 0..MOST_EARLY {
+        if listener.accept().is_err() {
+            break;
+        }
+    }
+    listener.set_nonblocking(false)
+}
+
+// Whether there is a socket of that name at which nobody listens.
+fn is_left<R: Files + Net>(rt: &R, path: &str) -> bool {
+    match fs::symlink_metadata(rt, path) {
+        Ok(found) if found.file_type().is_socket() => {}
+        _ => return false,
+    }
+    match UnixStream::connect(rt, path) {
+        Err(fault) => fault.kind() == ErrorKind::ConnectionRefused,
+        Ok(_) => false,
+    }
+}

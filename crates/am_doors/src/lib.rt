@@ -1,0 +1,25 @@
+//! Where connections come to a server, and what its threads share beside the store.
+//!
+//! - [`listen_at_port`], [`listen_at_socket`]: a port of this machine, a socket of its file system ([`Door`]).
+//! - [`House`]: gates at which threads wait for connections, those that are open, what is counted, and workers' turns.
+//! - [`NoHttp`]: a connection whose bytes are passed on, unless it begins with a request of HTTP.
+//! - [`CountingSink`]: a sink of a session, whose answers let workers have turns.
+#![tactic(auto)]
+
+mod connections;
+mod counting_sink;
+mod door;
+mod gate;
+mod house;
+mod http;
+mod mode;
+mod pacer;
+mod tally;
+
+pub use counting_sink::CountingSink;
+pub use door::{Door, listen_at_port, listen_at_socket};
+pub use house::{Doors, House};
+pub use http::NoHttp;
+pub use mode::Mode;
+pub use pacer::MergePacer;
+pub use tally::SessionCounts;

@@ -1,0 +1,109 @@
+//! When a worker may take a turn.
+
+ghost use Rattle.std.specs.Prelude.{◌≡◌, ◌+◌, min};
+
+use am_workers::Pacer;
+use std::sync::Wait;
+use std::sync::atomic::{AtomicU64, Ordering};
+
+/// Lets workers have one turn for each answered line, until all sessions have ended.
+#[derive(Drop)]
+pub struct MergePacer {
+    // Both only rise, so that a worker which sleeps at one value of the first misses no later one.
+    answered: AtomicU64,
+    taken: AtomicU64,
+    sessions: AtomicU64,
+    // How many workers sleep or are about to: where there is none, nobody is woken.
+    sleeping: AtomicU64,
+}
+
+impl MergePacer {
+    /// A pacer beside so many sessions, of which no line was answered yet.
+    pub(crate) fn new(sessions: u64) -> MergePacer {
+        MergePacer {
+            answered: AtomicU64::new(0),
+            taken: AtomicU64::new(0),
+            sessions: AtomicU64::new(sessions),
+            sleeping: AtomicU64::new(0),
+        }
+    }
+
+    /// So many lines were answered.
+    pub(crate) fn count_answers(&self, lines: u64) {
+        self.answered.fetch_add(lines, Ordering::SeqCst);
+        if self.sleeping.load(Ordering::SeqCst) == 0 {
+            return;
+        }
+        match lines {
+            0 => {}
+            1 => self.answered.wake_one(),
+            _ => self.answered.wake_all(),
+        }
+    }
+
+    /// A session ended. After the last one no worker waits any more.
+    pub fn end_session(&self) {
+        if self.sessions.fetch_sub(1, Ordering::SeqCst) <= 1 {
+            self.answered.fetch_add(1, Ordering::SeqCst);
+            self.answered.wake_all();
+        }
+    }
+
+    // Sleeps until a line more than these was answered, or all sessions have ended. Whoever counts a line behind the
+    // first of these steps sees that somebody sleeps; a line counted before it changes what the sleeper compares.
+    fn sleep<R: Wait>(&self, rt: &R, answered: u64) {
+        self.sleeping.fetch_add(1, Ordering::SeqCst);
+        self.answered.park(rt, (answered % (1 << 32)) as u32);
+        self.sleeping.fetch_sub(1, Ordering::SeqCst);
+    }
+
+    // Takes the turn behind `taken`, unless another worker has it.
+    fn try_take(&self, taken: u64) -> bool {
+        let next = taken.wrapping_add(1);
+        self.taken
+            .compare_exchange(taken, next, Ordering::SeqCst, Ordering::SeqCst)
+            .is_ok()
+    }
+}
+
+/// Gives turns for the answers of one session.
+#[derive(Drop)]
+pub(crate) struct TurnGiver<'a> {
+    pacer: &'a MergePacer,
+    // How many it gave.
+    given: u64,
+}
+
+impl<'a> TurnGiver<'a> {
+    pub(crate) fn new(pacer: &'a MergePacer) -> TurnGiver<'a>
+        ensures { result.given ≡ 0 }
+    {
+        TurnGiver { pacer, given: 0 }
+    }
+
+    /// Lets workers have so many turns more.
+    pub(crate) fn give(&mut self, turns: u64)
+        ensures { self.new.given ≡ min 18446744073709551615 (self.old.given + turns) }
+    {
+        self.pacer.count_answers(turns);
+        self.given = self.given.saturating_add(turns);
+    }
+}
+
+impl Pacer for MergePacer {
+    fn await_turn<R: Wait>(&self, rt: &R, _worker: u32, _turn: u64) -> bool {
+        for _ in rt.forever() {
+            let answered = self.answered.load(Ordering::SeqCst);
+            if self.sessions.load(Ordering::SeqCst) == 0 {
+                return false;
+            }
+            let taken = self.taken.load(Ordering::SeqCst);
+            if taken >= answered {
+                self.sleep(rt, answered);
+            } else if self.try_take(taken) {
+                return true;
+            }
+        }
+        unreachable!()
+    }
+}

@@ -1,0 +1,86 @@
+//! How many sessions there were, and how many connections the system refused.
+
+use std::sync::atomic::{AtomicI32, AtomicU64, Ordering};
+
+/// A count that many threads add to.
+#[derive(Drop)]
+pub struct Count(AtomicU64);
+
+impl Count {
+    fn new() -> Count {
+        Count(AtomicU64::new(0))
+    }
+
+    /// One more.
+    pub fn add(&self) {
+        self.0.fetch_add(1, Ordering::SeqCst);
+    }
+
+    fn get(&self) -> u64 {
+        self.0.load(Ordering::SeqCst)
+    }
+}
+
+/// What the threads of a server count.
+#[derive(Drop)]
+pub struct Tally {
+    /// Sessions that began.
+    pub begun: Count,
+    /// Sessions that ended.
+    pub ended: Count,
+    refused_by_system: Count,
+    // The number that the system gave with the first refusal, or 0.
+    first_refusal: AtomicI32,
+}
+
+/// How many sessions a server had, and how many connections the system refused.
+#[derive(Clone, Copy, Debug, PartialEq, Eq)]
+pub struct SessionCounts {
+    /// How many sessions began.
+    pub begun: u64,
+    /// How many of them have not ended.
+    pub open: u64,
+    /// How often the system refused to accept a connection.
+    pub refused_by_system: u64,
+    /// The number that the system gave with the first of these, where it gave one.
+    pub first_refusal: Option<i32>,
+}
+
+impl Tally {
+    pub(crate) fn new() -> Tally {
+        Tally {
+            begun: Count::new(),
+            ended: Count::new(),
+            refused_by_system: Count::new(),
+            first_refusal: AtomicI32::new(0),
+        }
+    }
+
+    /// The system refused to accept a connection, with this number of its own.
+    pub(crate) fn note_refusal(&self, number: Option<i32>) {
+        let _ = self
+            .first_refusal
+            .compare_exchange(0, number.unwrap_or(0), Ordering::SeqCst, Ordering::SeqCst);
+        self.refused_by_system.add();
+    }
+
+    /// Whether no connection was refused by the system.
+    pub fn accepted_all(&self) -> bool {
+        self.refused_by_system.get() == 0
+    }
+
+    /// The counts as they are.
+    pub fn counts(&self) -> SessionCounts {
+        let ended = self.ended.get();
+        let begun = self.begun.get();
+        SessionCounts {
+            begun,
+            open: begun.saturating_sub(ended),
+            refused_by_system: self.refused_by_system.get(),
+            first_refusal: match self.first_refusal.load(Ordering::SeqCst) {
+                0 => None,
+                number => Some(number),
+            },
+        }
+    }
+}

@@ -1,0 +1,5 @@
+pub mod Fitting
+pub mod Replies
+pub mod Rooms
+pub mod Storing
+pub mod Wanting

@@ -1,0 +1,21 @@
+//! A store with the trace of its calls, each with whose it is.
+//!
+//! - [`Engine`]: takes steps, and stores each with its reply and its [`CallId`]. The end of an active transaction finds
+//!   its room.
+//! - [`Piece`]: what an engine hands out of its trace.
+//! - [`StepCopy`]: what the trace is to keep of a step, made before the step is taken.
+#![tactic(auto)]
+
+mod call_id;
+mod change;
+mod engine;
+mod figures;
+mod handed;
+mod room;
+
+pub use call_id::CallId;
+pub use change::{Change, change_by, tx_to_end, was_refused, was_stored};
+pub use engine::{Engine, Piece};
+pub use figures::empty_figures;
+pub use handed::Events;
+pub use room::StepCopy;
