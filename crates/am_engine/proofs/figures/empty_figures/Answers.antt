@@ -1,0 +1,17 @@
+use Rattle.std.proofs.Common.{[], refl}
+use Rattle.am_sound.specs.StoreState.{empty_state}
+use Rattle.am_core.proofs.Standings.{stands_opened}
+use Rattle.am_engine.proofs.figures.empty_figures.Goals as goal
+
+pub returns : goal.returns
+returns c = record {
+  store = empty_state;
+  stands = stands_opened empty_state c.steps_lift.ensures.opened c.steps_lift.ensures.sound refl;
+  figures = record {
+    entries = refl;
+    in_final = refl;
+    in_runs = refl;
+    runs = record { runs = []; rising = tt; each = tt; every = tt; number = refl };
+    ghosts = refl;
+  };
+}
