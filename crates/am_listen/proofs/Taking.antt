@@ -42,6 +42,19 @@ module _ {T : Type 0} (took : T → Trace → T → Type 0) where
         counted_both m (length f.piece) (length h.piece) ∙ ap (add_count m) (sym (length-append f.piece h.piece));
   }
 
+  -- what was taken in a further round, behind which nothing of it changed
+  pub taken_next : ((a b c : T) (x y : Trace) → took a x b → took b y c → took a (x ++ y) c) → (r s t t' : Trace)
+      (a b c c' : T) (m n o o' : ℕ) → HasTaken took r a m s b n → HasTaken took s b n t c o →
+      (t' ≡ t) × (c' ≡ c) × (o' ≡ o) → HasTaken took r a m t' c' o'
+  taken_next both r s t t' a b c c' m n o o' f h same =
+      let all = taken_both both r s t a b c m n o f h in
+      record {
+        piece = all.piece;
+        longer = same.0 ∙ all.longer;
+        passed = subst (λ (x : T). took a all.piece x) (sym same.1) all.passed;
+        count = same.2 ∙ all.count;
+      }
+
   -- all that was taken from the first, and the rest
   pub stored : ((a b c : T) (x y : Trace) → took a x b → took b y c → took a (x ++ y) c) → (all : Trace) (a b : T)
       (n : ℕ) (seats : List SeatState) (s : ServerRun T) → HasTaken took [] a 0 all b n →

@@ -11,4 +11,4 @@ use Rattle.am_listen.specs.declared.counts.Counts.{Counts}
 pub record AreCountsBehind (taken : Trace) (sessions : SessionCounts) (kept : ℕ) (c : Counts) : Type 0 where
   pub of_sessions : c.sessions ≡ sessions
   pub of_trace : AreTraceCountsOf taken kept c.trace
-  pub of_index : AreFiguresAt taken c.index
+  pub of_index : ∥ AreFiguresAt taken c.index ∥₁

@@ -51,7 +51,7 @@ pub(crate) struct Keeper<L: LatchName, T: PieceTaker + Drop, V: Watcher + Drop> 
     ghost counted: { AreCountsOf taker counts },
     // How large the store was behind them.
     index: Figures,
-    ghost sized: { AreFiguresAt taker index },
+    ghost sized: { ∥ AreFiguresAt taker index ∥₁ },
     watcher: V,
     // How long sessions may go on after a stop.
     grace: Option<Duration>,

@@ -1,0 +1,10 @@
+use Rattle.am_listen.proofs.Taking.{taken_next}
+use Rattle.am_listen.proofs.keeper.Keeper.keep.Goals as goal
+
+pub rounds-preserved-then-is_over : goal.rounds-preserved-then-is_over
+rounds-preserved-then-is_over g c = taken_next g.T.PieceTaker.took g.met.T.PieceTaker.took_both _ _ _ _ _ _ _ _ _ _ _ _
+    c.rounds.invariant c.take_piece.ensures c.since_stop-since.ensures.kept
+
+pub rounds-preserved : goal.rounds-preserved
+rounds-preserved g c = taken_next g.T.PieceTaker.took g.met.T.PieceTaker.took_both _ _ _ _ _ _ _ _ _ _ _ _
+    c.rounds.invariant c.take_piece.ensures c.since_stop-since.ensures.kept
