@@ -14,3 +14,4 @@ mod Changes
 pub mod Neighbours
 pub mod Looks
 pub mod Noting
+pub mod Putting

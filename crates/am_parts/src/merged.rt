@@ -1,16 +1,20 @@
 //! The ranges that were merged, and the runs that have nothing left in them.
 
-ghost use Rattle.std.specs.Prelude.{ℕ, ◌≡◌, ◌∷◌, ◌||◌, ◌<◌, [], List, true, IfSome};
+ghost use Rattle.std.specs.Prelude.{ℕ, ◌≡◌, ◌∷◌, ◌||◌, ◌<◌, ◌≤◌, [], List, true, IfSome, vec_len};
+ghost use Rattle.std.specs.List.{cons_option};
 ghost use Rattle.am_record.specs.OrderedKey.{OrderedKey};
 ghost use Rattle.am_record.specs.Interval.{within};
 ghost use Rattle.am_record.specs.declared.entry.Entry.{Entry};
 ghost use Rattle.am_parts.specs.Merged.{HasNoneBefore, AreMerged, SayNoMore};
 
-use am_record::{NoMemory, Range};
+use am_record::{Key, NoMemory, Range};
 use std::alloc::Global;
 
-// How many ranges are known at most.
-const MOST_RANGES: usize = 64;
+// How many ranges are known at most. A range that a query asks for mostly meets others, and becomes one with them.
+const MOST_RANGES: usize = 4096;
+
+// Room for so many ranges is got when a run is loaded, and for more when they come.
+const FIRST_RANGES: usize = 64;
 
 /// A range, and the first run that may have an entry in it.
 #[derive(Clone, Copy)]
@@ -44,9 +48,41 @@ impl MergedRange {
     fn covers(&self, other: &MergedRange) -> bool {
         self.range.encloses(&other.range) && self.first_run >= other.first_run
     }
+
+    // What it says of its keys up to that one, where it begins below it.
+    fn up_to(&self, key: Key) -> Option<MergedRange>
+        ensures { IfSome result (λ part. SayNoMore (self.now ∷ []) (part ∷ [])) }
+    {
+        if self.range.lo() >= key {
+            return None;
+        }
+        self.part(self.range.lo(), key)
+    }
+
+    // What it says of its keys from that one on, where it ends above it.
+    fn from(&self, key: Key) -> Option<MergedRange>
+        ensures { IfSome result (λ part. SayNoMore (self.now ∷ []) (part ∷ [])) }
+    {
+        if self.range.hi() <= key {
+            return None;
+        }
+        self.part(key, self.range.hi())
+    }
+
+    // What it says of the keys between two of its own.
+    fn part(&self, lo: Key, hi: Key) -> Option<MergedRange>
+        ensures { IfSome result (λ part. SayNoMore (self.now ∷ []) (part ∷ [])) }
+    {
+        let range = Range::new(lo, hi)?;
+        if !self.range.encloses(&range) {
+            return None;
+        }
+        Some(MergedRange { range, ..*self })
+    }
 }
 
-/// The ranges that were merged last, in the order of their coming.
+/// The ranges that were merged: the one noted last, and behind it, by rising keys, those in which no run had an entry
+/// left.
 ///
 /// A run that was merged in a range never gets an entry there again, unless one is added to it by hand. So a look for
 /// the entries of such a range begins behind it.
@@ -71,16 +107,29 @@ impl MergedRanges {
         ensures none_before { (es : List Entry) (runs : ℕ) → AreMerged es runs self.now.list.items →
             HasNoneBefore es range.now result }
     {
-        let mut first = 1;
-        for merged in &self.list {
-            if first < merged.first_run && merged.range.encloses(range) {
-                first = merged.first_run;
-            }
-        }
-        first
+        let end = self.end_of(range.lo());
+        let newest = first_run_by(&self.list[..self.list.len().min(1)], range);
+        let near = first_run_by(&self.list[end.saturating_sub(1)..end], range);
+        if near < newest { newest } else { near }
     }
 
-    /// Gets room for all ranges that may become known.
+    // How many ranges stand before the first one that begins above the key, but for the newest.
+    fn end_of(&self, key: Key) -> usize
+        ensures { result ≤ vec_len self.now.list }
+    {
+        let first = self.list.len().min(1);
+        first + self.list[first..].partition_point(|merged| merged.range.lo() <= key)
+    }
+
+    // How many stand before the first one that ends at the key or above it, the newest among them.
+    fn place_of(&self, key: Key) -> usize
+        ensures { result ≤ vec_len self.now.list }
+    {
+        let first = self.list.len().min(1);
+        first + self.list[first..].partition_point(|merged| merged.range.hi() < key)
+    }
+
+    /// Gets room for the first ranges that may become known.
     ///
     /// # Errors
     /// NoMemory, where memory was refused.
@@ -88,39 +137,74 @@ impl MergedRanges {
         ensures { self.new.list.items ≡ self.old.list.items }
     {
         self.list
-            .reserve(MOST_RANGES.saturating_sub(self.list.len()))?;
+            .reserve(FIRST_RANGES.saturating_sub(self.list.len()))?;
         Ok(())
     }
 
-    /// Puts down a range as merged in all runs before that one, where there is room. Ranges that meet become one, and
-    /// the one that came first goes where there are too many. Takes no memory.
-    pub(crate) fn note(&mut self, range: Range, first_run: u32)
+    /// Puts down a range as merged in all runs before that one; it may be that no run has an entry left there. Such
+    /// ranges that meet become one. Where there are too many, or memory is refused, some are let go.
+    pub(crate) fn note(&mut self, range: Range, first_run: u32, is_whole: bool)
         ensures { SayNoMore (record { range = range; first_run = first_run } ∷ self.old.list.items)
             self.new.list.items }
     {
-        let mut merged = MergedRange { range, first_run };
-        let mut at = 0;
-        while at < self.list.len() {
-            if let Some(both) = merged.with(&self.list[at]) {
-                merged = both;
-                let _ = self.list.remove(at);
-            } else {
-                at += 1;
-            }
+        self.renew(MergedRange { range, first_run });
+        if is_whole {
+            self.join(MergedRange { range, first_run });
         }
-        self.put(merged);
     }
 
-    // Puts a range behind the others, where there is room.
-    fn put(&mut self, merged: MergedRange)
+    // It is the newest.
+    fn renew(&mut self, merged: MergedRange)
         ensures { SayNoMore (merged ∷ self.old.list.items) self.new.list.items }
     {
-        if self.list.len() >= MOST_RANGES {
+        if !self.list.is_empty() {
             let _ = self.list.remove(0);
         }
-        if self.list.len() < self.list.capacity() {
-            let _ = self.list.push(merged);
+        self.put(0, merged);
+    }
+
+    // Puts it among those behind the newest: it becomes one with those that it meets, and takes the place of what says
+    // less of its keys.
+    fn join(&mut self, merged: MergedRange)
+        ensures { SayNoMore (merged ∷ self.old.list.items) self.new.list.items }
+    {
+        let mut merged = merged;
+        self.list.truncate(MOST_RANGES - 3);
+        let mut at = self.place_of(merged.range.lo());
+        'met: for _ in 0..self.list.len() {
+            if at >= self.list.len() || !self.list[at].range.meets(&merged.range) {
+                break 'met;
+            }
+            let other = self.list.remove(at);
+            if let Some(both) = merged.with(&other) {
+                merged = both;
+            } else {
+                self.put_part(at, other.from(merged.range.hi()));
+                self.put_part(at, other.up_to(merged.range.lo()));
+                at += usize::from(other.range.lo() < merged.range.lo());
+                if other.range.hi() > merged.range.hi() {
+                    break 'met;
+                }
+            }
         }
+        self.put(at, merged);
+    }
+
+    // Puts a part of a range there, if there is one.
+    fn put_part(&mut self, at: usize, part: Option<MergedRange>)
+        ensures { SayNoMore (cons_option part self.old.list.items) self.new.list.items }
+    {
+        if let Some(part) = part {
+            self.put(at, part);
+        }
+    }
+
+    // Puts a range there, or at the end, where there is room.
+    fn put(&mut self, at: usize, merged: MergedRange)
+        ensures { SayNoMore (merged ∷ self.old.list.items) self.new.list.items }
+    {
+        let at = at.min(self.list.len());
+        let _ = self.list.insert(at, merged);
     }
 
     /// Lets all go, where an entry is added to a run.
@@ -132,6 +216,21 @@ impl MergedRanges {
             self.list.clear();
         }
     }
+}
+
+// The first run that may have an entry in the range, by what these say.
+fn first_run_by(list: &[MergedRange], range: &Range) -> u32
+    ensures is_run { 0 < result }
+    ensures none_before { (es : List Entry) (runs : ℕ) → AreMerged es runs list.now →
+        HasNoneBefore es range.now result }
+{
+    let mut first = 1;
+    for merged in list {
+        if first < merged.first_run && merged.range.encloses(range) {
+            first = merged.first_run;
+        }
+    }
+    first
 }
 
 // The keys of both ranges, where they meet.

@@ -326,13 +326,14 @@ impl<I: PartIndex + Drop> Parts<I> {
     }
 
     /// Puts a range down as merged in all runs before that one. The caller sees to it that none of these that was made
-    /// so far has an entry with a key in it. What is known of other ranges may be let go. Takes no memory.
+    /// so far has an entry with a key in it. What is known of other ranges may be let go, as where memory is refused.
     pub fn note_merged(&mut self, range: Range, first_run: u32)
         requires { HasNoneBefore self.old.entries range first_run }
         ensures same { self.new ≡ self.old }
     {
         let next_run = self.runs + 1;
-        self.merged.note(range, first_run.min(next_run));
+        self.merged
+            .note(range, first_run.min(next_run), first_run >= next_run);
     }
 
     /// Counts one more run. The caller sees to it that fewer than 65,535 were made.

@@ -1,31 +1,18 @@
-use Rattle.std.proofs.Common.{◌<◌, ◌≡◌, List, get_or, length, sym, ap, ◌∙◌, subst, arith}
-use Rattle.am_record.specs.Interval.{encloses}
-use Rattle.am_parts.specs.declared.merged.MergedRange.{MergedRange}
-use Rattle.am_parts.specs.Merged.{HasNoneBefore}
-use Rattle.am_parts.proofs.Emptied.{said_within}
+use Rattle.std.proofs.Common.{◌-◌, drop, sym, subst}
+use Rattle.am_record.proofs.Lists.{AllByRecursion-take, AllByRecursion-drop}
+use Rattle.am_parts.specs.Merged.{AreMerged, IsMerged}
 use Rattle.am_parts.proofs.merged.MergedRanges.first_run.Goals as goal
-use Rattle.am_parts.proofs.merged.MergedRanges.first_run.Goals.{then-first-merged+then-encloses, else-first-merged}
 
-pub loop-merged-preserved : goal.loop-merged-preserved
-loop-merged-preserved c =
-    let range = c.args.range.now in
-    let ms = c.args.self.now.list.items in
-    let m = c.merged-item.result in
-    let is : m ≡ get_or ms c.loop-merged.merged-index m = c.merged-item.is ∙
-    ap (λ (l : List MergedRange). get_or l c.loop-merged.merged-index m) c.deref-merged-items.ensures.value in
-    let inside : c.loop-merged.merged-index < length ms =
-    subst (λ (l : List MergedRange). c.loop-merged.merged-index < length l) c.deref-merged-items.ensures.value
-    c.loop-merged-test.true in
-    elim c.if-first-merged.branch [
-      | then-first-merged+then-encloses w ↦ (
-        omega (arith, w.first-is, w.if-first-merged.true),
-        λ es runs are. subst (HasNoneBefore es range) (ap (λ (x : MergedRange). x.first_run) (sym is) ∙ sym w.first-is)
-            (said_within ms c.loop-merged.merged-index m range inside
-            (ap (λ (x : MergedRange). encloses x.range range) (sym is) ∙ sym w.encloses.ensures ∙
-            w.if-encloses.true) es runs are),
-      )
-      | else-first-merged w ↦ (
-        omega (arith, w.first-is, c.loop-merged.invariant.0),
-        λ es runs are. subst (HasNoneBefore es range) (sym w.first-is) (c.loop-merged.invariant.1 es runs are),
-      )
-    ]
+pub returns-then-near-newest-clause-none_before : goal.returns-then-near-newest-clause-none_before
+returns-then-near-newest-clause-none_before c = λ es runs are.
+    c.first_run_by-newest.ensures.none_before es runs
+    (AllByRecursion-take (IsMerged es runs) c.min.result c.deref.result.now
+    (subst (AreMerged es runs) (sym c.deref.ensures.value) are))
+
+pub returns-else-near-newest-clause-none_before : goal.returns-else-near-newest-clause-none_before
+returns-else-near-newest-clause-none_before c = λ es runs are.
+    let from = c.saturating_sub.result in
+    c.first_run_by-near.ensures.none_before es runs
+    (AllByRecursion-take (IsMerged es runs) (c.end_of-end.result - from) (drop from c.deref-2.result.now)
+    (AllByRecursion-drop (IsMerged es runs) from c.deref-2.result.now
+    (subst (AreMerged es runs) (sym c.deref-2.ensures.value) are)))
