@@ -67,17 +67,49 @@ fn a_look_in_a_merged_range_begins_behind_its_runs(rt: HostRuntime) {
 }
 
 #[test]
-fn the_sixty_four_ranges_merged_last_are_known(rt: HostRuntime) {
+fn many_merged_ranges_are_known(rt: HostRuntime) {
     let alloc = rt.alloc();
     let mut parts = three_runs(&rt, alloc);
-    for number in 0..66 {
-        merge(&rt, alloc, &mut parts, number * 2, number * 2);
+    for number in 0..150 {
+        // In no order: 7 and 150 have no common divisor.
+        let key = number * 7 % 150 * 2;
+        merge(&rt, alloc, &mut parts, key, key);
     }
-    begins(&rt, &parts, 0, 0, 1);
-    begins(&rt, &parts, 2, 2, 1);
-    begins(&rt, &parts, 4, 4, 4);
-    begins(&rt, &parts, 130, 130, 4);
+    for number in 0..150 {
+        begins(&rt, &parts, number * 2, number * 2, 4);
+        begins(&rt, &parts, number * 2, number * 2 + 1, 1);
+    }
     // One that has all of them stands in their place.
-    merge(&rt, alloc, &mut parts, 0, 200);
-    begins(&rt, &parts, 0, 199, 4);
+    merge(&rt, alloc, &mut parts, 0, 299);
+    begins(&rt, &parts, 0, 299, 4);
+}
+
+#[test]
+fn a_range_that_is_merged_in_part_begins_where_its_step_did(rt: HostRuntime) {
+    let alloc = rt.alloc();
+    let mut parts = three_runs(&rt, alloc);
+    let mut wishes = Wishes::new(alloc).expect(&rt, "memory");
+    let locks = LockTable::new(alloc).expect(&rt, "memory");
+    wishes.wish(range(&rt, 50, 250));
+    merge_step(&mut parts, &mut wishes, &locks, 64);
+    begins(&rt, &parts, 50, 250, 1);
+    merge_step(&mut parts, &mut wishes, &locks, 64);
+    begins(&rt, &parts, 50, 250, 2);
+}
+
+#[test]
+fn of_a_range_that_says_less_the_rest_stays(rt: HostRuntime) {
+    let alloc = rt.alloc();
+    let mut parts = three_runs(&rt, alloc);
+    merge(&rt, alloc, &mut parts, 0, 400);
+    loads_all(&rt, alloc, &mut parts, 300, 399, Reply::Done);
+    begins(&rt, &parts, 0, 400, 4);
+    merge(&rt, alloc, &mut parts, 320, 330);
+    begins(&rt, &parts, 320, 330, 5);
+    begins(&rt, &parts, 0, 320, 4);
+    begins(&rt, &parts, 330, 400, 4);
+    merge(&rt, alloc, &mut parts, 310, 399);
+    begins(&rt, &parts, 310, 399, 5);
+    begins(&rt, &parts, 0, 310, 4);
+    begins(&rt, &parts, 399, 400, 4);
 }
