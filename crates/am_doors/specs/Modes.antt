@@ -1,5 +1,5 @@
 -- What the mode of a server says of its seats and workers.
-use Rattle.std.specs.Prelude.{ℕ}
+use Rattle.std.specs.Prelude.{ℕ, Bool, true, false}
 use Rattle.am_workers.specs.declared.upkeep.Upkeep.{Upkeep}
 use Rattle.am_workers.specs.declared.upkeep.Upkeep.TheVariants.{MergeOnly, MergeAndClean}
 use Rattle.am_doors.specs.declared.mode.Mode.{Mode}
@@ -19,3 +19,8 @@ most_turns Staying = 18446744073709551615
 abbrev pub upkeep_of : Mode → Upkeep
 upkeep_of Bounded = MergeOnly
 upkeep_of Staying = MergeAndClean
+
+-- whether it serves until it is stopped
+abbrev pub stays : Mode → Bool
+stays Bounded = false
+stays Staying = true

@@ -24,6 +24,7 @@ fn answers_in(piece: &[u8]) -> u64
 }
 
 impl<'a, K: Sink + Drop> CountingSink<'a, K> {
+    /// Over a sink; no answer was written yet.
     pub fn new(sink: K, pacer: &'a MergePacer) -> CountingSink<'a, K>
         ensures sink { result.sink ≡ sink }
         ensures none { (result.turns.given ≡ 0) × (result.unsent ≡ 0) }

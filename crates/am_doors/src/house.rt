@@ -20,7 +20,9 @@ const ROUND_MILLIS: u64 = 100;
 /// The doors of a server.
 #[derive(Clone, Copy)]
 pub struct Doors<'a> {
+    /// The port.
     pub port: &'a Door,
+    /// The socket of the file system, where there is one.
     pub socket: Option<&'a Door>,
 }
 
@@ -44,11 +46,15 @@ pub struct House<'a> {
     socket: Option<Mutex<Gate<'a>>>,
     // How many seats each door has.
     seats: usize,
+    /// Gives workers their turns.
     pub pacer: MergePacer,
+    /// The connections that are open, by the places of their seats.
     pub connections: Connections,
+    /// What is counted.
     pub tally: Tally,
+    /// How long it serves.
     pub mode: Mode,
-    // How long a session may be idle, where that is limited.
+    /// How long a session may be idle, where that is limited.
     pub idle: Option<Duration>,
     is_stopped: &'a AtomicBool,
     // 0 until all sessions have ended.

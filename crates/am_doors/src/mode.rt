@@ -1,7 +1,7 @@
 //! How long a server serves.
 
 ghost use Rattle.std.specs.Prelude.{◌≡◌};
-ghost use Rattle.am_doors.specs.Modes.{most_sessions, most_turns, upkeep_of};
+ghost use Rattle.am_doors.specs.Modes.{most_sessions, most_turns, stays, upkeep_of};
 
 use am_workers::Upkeep;
 
@@ -47,7 +47,9 @@ impl Mode {
     }
 
     /// Whether it stays.
-    pub fn stays(self) -> bool {
-        self == Mode::Staying
+    pub fn stays(self) -> bool
+        ensures { result ≡ stays self }
+    {
+        matches!(self, Mode::Staying)
     }
 }
