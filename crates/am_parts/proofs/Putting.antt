@@ -1,7 +1,7 @@
 -- What is said of merged ranges where some are put in the place of others.
-use Rattle.std.proofs.Common.{◌≡◌, sym, subst, ℕ, ◌<◌, List, [], ◌∷◌, Option, Some, None, get_or, length}
+use Rattle.std.proofs.Common.{◌≡◌, sym, subst, ℕ, zero, suc, ◌<◌, slice_set, List, [], ◌∷◌, Option, Some, None, get_or, length}
 use Rattle.std.specs.Prelude.{IfSome}
-use Rattle.std.specs.List.{remove, cons_option}
+use Rattle.std.specs.List.{AllByRecursion, remove, cons_option}
 use Rattle.am_parts.specs.declared.merged.MergedRange.{MergedRange}
 use Rattle.am_parts.specs.Merged.{IsMerged, AreMerged, SayNoMore}
 use Rattle.am_parts.proofs.Emptied.{at, without}
@@ -12,6 +12,12 @@ taken_out ms rest i other lt is left es runs are = (
   subst (IsMerged es runs) (sym is) (at (IsMerged es runs) ms i other lt are),
   subst (AreMerged es runs) (sym left) (without (IsMerged es runs) ms i are),
 )
+
+pub placed : (P : MergedRange → Type 0) (ms : List MergedRange) (i : ℕ) (m : MergedRange) → P m →
+    AllByRecursion P ms → AllByRecursion P (slice_set ms i m)
+placed P [] i m is all = tt
+placed P (x ∷ ms) zero m is all = (is, all.1)
+placed P (x ∷ ms) (suc i) m is all = (all.0, placed P ms i m is all.1)
 
 part_put : (other : MergedRange) (part : Option MergedRange) (ms ms' : List MergedRange) →
     IfSome part (λ p. SayNoMore (other ∷ []) (p ∷ [])) → SayNoMore (cons_option part ms) ms' →

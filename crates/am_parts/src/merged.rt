@@ -1,6 +1,6 @@
 //! The ranges that were merged, and the runs that have nothing left in them.
 
-ghost use Rattle.std.specs.Prelude.{ℕ, ◌≡◌, ◌∷◌, ◌||◌, ◌<◌, ◌≤◌, [], List, true, IfSome, vec_len};
+ghost use Rattle.std.specs.Prelude.{ℕ, ◌≡◌, ◌∷◌, ◌||◌, ◌<◌, ◌≤◌, [], List, true, false, IfSome, vec_len};
 ghost use Rattle.std.specs.List.{cons_option};
 ghost use Rattle.am_record.specs.OrderedKey.{OrderedKey};
 ghost use Rattle.am_record.specs.Interval.{within};
@@ -157,20 +157,48 @@ impl MergedRanges {
     fn renew(&mut self, merged: MergedRange)
         ensures { SayNoMore (merged ∷ self.old.list.items) self.new.list.items }
     {
-        if !self.list.is_empty() {
-            let _ = self.list.remove(0);
+        if self.list.is_empty() {
+            self.put(0, merged);
+        } else {
+            self.list[0] = merged;
         }
-        self.put(0, merged);
     }
 
-    // Puts it among those behind the newest: it becomes one with those that it meets, and takes the place of what says
-    // less of its keys.
+    // Puts it among those behind the newest.
     fn join(&mut self, merged: MergedRange)
         ensures { SayNoMore (merged ∷ self.old.list.items) self.new.list.items }
     {
-        let mut merged = merged;
         self.list.truncate(MOST_RANGES - 3);
-        let mut at = self.place_of(merged.range.lo());
+        let at = self.place_of(merged.range.lo());
+        if !self.widen(at, &merged) {
+            self.join_all(at, merged);
+        }
+    }
+
+    // Lets the range there become one with it, where these two meet and no other does. Whether they did.
+    fn widen(&mut self, at: usize, merged: &MergedRange) -> bool
+        ensures says { SayNoMore (merged.now ∷ self.old.list.items) self.new.list.items }
+        ensures same { result ≡ false → self.new ≡ self.old }
+    {
+        if at >= self.list.len() || !self.list[at].range.meets(&merged.range) {
+            return false;
+        }
+        let Some(both) = merged.with(&self.list[at]) else {
+            return false;
+        };
+        if at + 1 < self.list.len() && self.list[at + 1].range.meets(&both.range) {
+            return false;
+        }
+        self.list[at] = both;
+        true
+    }
+
+    // Lets it become one with those from that place on that it meets, and take the place of what says less of its keys.
+    fn join_all(&mut self, at: usize, merged: MergedRange)
+        ensures { SayNoMore (merged ∷ self.old.list.items) self.new.list.items }
+    {
+        let mut merged = merged;
+        let mut at = at;
         'met: for _ in 0..self.list.len() {
             if at >= self.list.len() || !self.list[at].range.meets(&merged.range) {
                 break 'met;
