@@ -1,5 +1,6 @@
 -- What is said of merged ranges where some are put in the place of others.
-use Rattle.std.proofs.Common.{◌≡◌, sym, subst, ℕ, zero, suc, ◌<◌, slice_set, List, [], ◌∷◌, Option, Some, None, get_or, length}
+use Rattle.std.proofs.Common.{◌≡◌, sym, subst, ℕ, zero, suc, ◌<◌, slice_set, List, [], ◌∷◌, Option, Some, None}
+use Rattle.std.proofs.Common.{get_or, length}
 use Rattle.std.specs.Prelude.{IfSome}
 use Rattle.std.specs.List.{AllByRecursion, remove, cons_option}
 use Rattle.am_parts.specs.declared.merged.MergedRange.{MergedRange}
