@@ -171,7 +171,7 @@ impl MergedRanges {
         self.list.truncate(MOST_RANGES - 3);
         let at = self.place_of(merged.range.lo());
         if !self.widen(at, &merged) {
-            self.join_all(at, merged);
+            self.unite(at, merged);
         }
     }
 
@@ -194,7 +194,7 @@ impl MergedRanges {
     }
 
     // Lets it become one with those from that place on that it meets, and take the place of what says less of its keys.
-    fn join_all(&mut self, at: usize, merged: MergedRange)
+    fn unite(&mut self, at: usize, merged: MergedRange)
         ensures { SayNoMore (merged ∷ self.old.list.items) self.new.list.items }
     {
         let mut merged = merged;

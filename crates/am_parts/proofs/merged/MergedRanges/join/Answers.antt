@@ -4,7 +4,7 @@ use Rattle.am_parts.specs.Merged.{IsMerged, AreMerged}
 use Rattle.am_parts.proofs.merged.MergedRanges.join.Goals as goal
 
 pub returns-then-not-widen : goal.returns-then-not-widen
-returns-then-not-widen c = λ es runs are. c.join_all.ensures es runs (
+returns-then-not-widen c = λ es runs are. c.unite.ensures es runs (
   are.0,
   c.widen.ensures.says es runs (
     are.0,

@@ -3,11 +3,11 @@ use Rattle.am_parts.specs.declared.merged.MergedRange.{MergedRange}
 use Rattle.am_parts.specs.declared.merged.MergedRanges.{MergedRanges}
 use Rattle.am_parts.specs.Merged.{AreMerged, SayNoMore}
 use Rattle.am_parts.proofs.Putting.{taken_out, both_as_one, parts_put}
-use Rattle.am_parts.proofs.merged.MergedRanges.join_all.Goals as goal
-use Rattle.am_parts.proofs.merged.MergedRanges.join_all.Goals.{in-Some, in_default+else-gt, else-met-test}
-use Rattle.am_parts.proofs.merged.MergedRanges.join_all.Goals.{then-met-test+then-at-len}
-use Rattle.am_parts.proofs.merged.MergedRanges.join_all.Goals.{}
-use Rattle.am_parts.proofs.merged.MergedRanges.join_all.Goals.{then-met-test+else-at-len+else-not-meets+in_default+then-gt}
+use Rattle.am_parts.proofs.merged.MergedRanges.unite.Goals as goal
+use Rattle.am_parts.proofs.merged.MergedRanges.unite.Goals.{in-Some, in_default+else-gt, else-met-test}
+use Rattle.am_parts.proofs.merged.MergedRanges.unite.Goals.{then-met-test+then-at-len}
+use Rattle.am_parts.proofs.merged.MergedRanges.unite.Goals.{}
+use Rattle.am_parts.proofs.merged.MergedRanges.unite.Goals.{then-met-test+else-at-len+else-not-meets+in_default+then-gt}
 
 pub met-preserved : goal.met-preserved
 met-preserved c =
