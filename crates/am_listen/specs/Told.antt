@@ -1,5 +1,5 @@
 -- What is told of a server while it runs.
-use Rattle.std.specs.Prelude.{◌≡◌, ℕ}
+use Rattle.std.specs.Prelude.{◌≡◌, ℕ, Bool}
 use Rattle.am_serial.specs.Trace.{Trace}
 use Rattle.am_engine.specs.Sizes.{AreFiguresAt}
 use Rattle.am_doors.specs.declared.tally.SessionCounts.{SessionCounts}
@@ -7,8 +7,10 @@ use Rattle.am_pieces.specs.Events.{AreTraceCountsOf}
 use Rattle.am_listen.specs.declared.counts.Counts.{Counts}
 
 -- Behind the events that were taken, of which so many came last, this is told of them, and how large the store is to
--- which they lead. What its sessions are is told as it is given.
-pub record AreCountsBehind (taken : Trace) (sessions : SessionCounts) (kept : ℕ) (c : Counts) : Type 0 where
+-- which they lead. What its sessions are, and whether some of the trace is lost, is told as it is given.
+pub record AreCountsBehind (taken : Trace) (sessions : SessionCounts) (kept : ℕ) (is_cut : Bool) (c : Counts) :
+    Type 0 where
   pub of_sessions : c.sessions ≡ sessions
   pub of_trace : AreTraceCountsOf taken kept c.trace
   pub of_index : ∥ AreFiguresAt taken c.index ∥₁
+  pub loss : c.is_cut ≡ is_cut

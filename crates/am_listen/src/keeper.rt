@@ -114,13 +114,13 @@ impl<L: LatchName, T: PieceTaker + Drop, V: Watcher + Drop> Keeper<L, T, V> {
             self.counts.add(&piece.trace);
             self.index = piece.figures;
         }
-        let counts = self.counts(house.tally.counts(), kept);
+        let counts = self.counts(house.tally.counts(), kept, self.pieces.is_cut());
         self.watcher.look(&counts, is_last);
     }
 
     // How the server does, by all that was taken, of which so many events came last.
-    fn counts(&self, sessions: SessionCounts, kept: usize) -> Counts
-        ensures { AreCountsBehind self.now.taker sessions kept result }
+    fn counts(&self, sessions: SessionCounts, kept: usize, is_cut: bool) -> Counts
+        ensures { AreCountsBehind self.now.taker sessions kept is_cut result }
     {
         Counts {
             sessions,
@@ -130,7 +130,7 @@ impl<L: LatchName, T: PieceTaker + Drop, V: Watcher + Drop> Keeper<L, T, V> {
                 of: self.counts,
             },
             index: self.index,
-            is_cut: self.pieces.is_cut(),
+            is_cut,
         }
     }
 
