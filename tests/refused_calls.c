@@ -190,6 +190,30 @@ static void any_order(void) {
     close_and_tell("any_order");
 }
 
+/* Sixty records in no order, whose keys begin alike. */
+static void one_beginning(void) {
+    static tvk_record records[60];
+    uint64_t loaded, told;
+    tvk_status got;
+    open_anew();
+    memset(records, 0, sizeof records);
+    for (int i = 0; i < 60; i++) {
+        memcpy(records[i].key.bytes, "one beginning ", 14);
+        records[i].key.length = 14 + key_of(i * 7 % 60, (char *)records[i].key.bytes + 14);
+    }
+    is_counted = 1;
+    want(AGAIN(tvk_load_sorting(&store, tx, records, 60, NULL, &loaded, NULL)) == TVK_OK && loaded == 60);
+    memset(stands, 'a', 60);
+    want(AGAIN(tvk_scan(&store, tx, "one", 3, "two", 3, rows, 1000, &told)) == TVK_OK && told == 60);
+    is_counted = 0;
+    for (int number = 0; number < 60; number++) {
+        char text[8];
+        key_of(number, text);
+        want(!memcmp(rows[number].key.bytes + 14, text, 4));
+    }
+    close_and_tell("one_beginning");
+}
+
 /* Records in any order that make two runs. Where memory is refused the first of them may stay: what is behind it is loaded
  * again. */
 static void two_runs(void) {
@@ -359,6 +383,7 @@ int main(int words, char **word) {
     tree_of(MOST, "tree_of_two_thousand");
     two_loads();
     any_order();
+    one_beginning();
     scans();
     twelve_locks();
     six_notes();

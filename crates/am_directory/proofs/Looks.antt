@@ -1,6 +1,6 @@
 -- Where a look for a label ends, and what it finds there.
 use Rattle.std.proofs.Common.{◌≡◌, ◌≢◌, ℕ, zero, suc, ◌+◌, ◌-◌, ◌<◌, ◌≤◌, ◌⊎◌, inl, inr, ⊎_elim}
-use Rattle.std.proofs.Common.{List, [], ◌∷◌, length, get_or, take, drop}
+use Rattle.std.proofs.Common.{List, [], ◌∷◌, length, get_or, take, drop, true}
 use Rattle.std.proofs.Common.{refl, sym, ap, ◌∙◌, subst, arith, length-append, length-drop, length-take}
 use Rattle.std.proofs.Common.{Option, Some, None, MatchOption}
 use Rattle.std.proofs.lemmas.Grind.{get_or_default_zero}
@@ -9,7 +9,7 @@ use Rattle.std.proofs.lemmas.Bool.{cases_eq, cases_lt}
 use Rattle.std.proofs.lemmas.Bool.Decides.{nat_tests}
 use Rattle.std.proofs.lemmas.List.{get_or_append_left, get_or-append-add, get_or-take, get_or-drop}
 use Rattle.am_directory.specs.Tables.{label, code, code_on, code_of, way_from, home_index, IsPassed, ArePassed}
-use Rattle.am_directory.specs.Tables.{IsEnd, IsFirstEnd, empty_in}
+use Rattle.am_directory.specs.Tables.{IsEnd, IsFirstEnd, empty_in, is_free}
 
 -- a word at which a look for the label ends
 abbrev pub Ends : ℕ → ℕ → Type 0
@@ -141,6 +141,22 @@ code_of-end words sought at end =
     (cases_lt i front))
     (subst (Ends sought) (sym here) end.here) ∙ ap code here)
     (elim (cases_lt at home) as (λ _. (home ≤ at) ⊎ (at < home)) [ inl p ↦ inr p | inr q ↦ inl q ])
+
+-- where it ends at once, it finds none
+pub code_of-free : (words : List ℕ) (sought : ℕ) → is_free words sought ≡ true → code_of words sought ≡ 0
+code_of-free words sought free = ⊎_elim
+    (λ (h : home_index (length words) sought < length words).
+    let home = home_index (length words) sought in
+    let empty : get_or words home 0 ≡ 0 = grind (arith, nat_tests) in
+    code_of-end words sought home (record {
+      come = record {
+        within = h;
+        before = λ i lt b. absurd (omega (arith, b.0 (omega arith), b.1 (omega arith)));
+      };
+      here = λ some. absurd (some empty);
+    }) ∙ ap code empty)
+    (λ (h : length words ≤ home_index (length words) sought). absurd (grind (arith, nat_tests)))
+    (cases_lt (home_index (length words) sought) (length words))
 
 -- so does the word that was read there
 pub code_of-read : (items words : List ℕ) (sought at word : ℕ) → items ≡ words → word ≡ get_or items at word →

@@ -1,13 +1,16 @@
 -- What a directory tells by the code of a label.
 use Rattle.std.proofs.Common.{◌≡◌, ◌≢◌, ⊎_elim, if◌then◌else◌, ℕ, Bool, true, false, List, [], sym, ap, ◌∙◌, ◌-◌, refl}
 use Rattle.std.proofs.Common.{subst, arith}
-use Rattle.std.proofs.Common.{◌<◌, ◌≤◌, ltb, eqb, cond}
-use Rattle.std.proofs.lemmas.Bool.{cases_Bool, cases_eq, ne_eqb}
+use Rattle.std.proofs.Common.{◌<◌, ◌≤◌, ltb, eqb, cond, get_or, length}
+use Rattle.std.specs.List.{list_all}
+use Rattle.std.proofs.lemmas.Bool.{cases_Bool, cases_eq, ne_eqb, cond-false, cond-true, false≢true}
+use Rattle.std.proofs.lemmas.List.Folds.{list_all_at}
 use Rattle.std.proofs.lemmas.Bool.Decides.{nat_tests}
 use Rattle.am_directory.specs.declared.residence.Residence.{Residence}
 use Rattle.am_directory.specs.declared.residence.Residence.TheVariants.{Nowhere, In, Unknown}
 use Rattle.am_directory.specs.Tables.{Table, label, code, code_of, residence_by, residence_of, left, HasPut, HasLeft}
-use Rattle.am_directory.proofs.Looks.{code_of-none}
+use Rattle.am_directory.specs.Tables.{is_free, are_free}
+use Rattle.am_directory.proofs.Looks.{code_of-free, code_of-none}
 
 pub residence_of-lost : (table : Table) (n : ℕ) → table.is_lost ≡ true → residence_of table n ≡ Unknown
 unfolding residence_of
@@ -23,6 +26,23 @@ pub residence_of-empty : (table : Table) (n : ℕ) → table.is_lost ≡ false �
 residence_of-empty table n whole empty = residence_of-code table n whole ∙
     ap residence_by (ap (λ (l : List ℕ). code_of l (label n)) empty ∙
     code_of-none [] (label n) (λ i h. absurd (omega arith)))
+
+-- where looks for all of the numbers end at once, nothing is known of them
+pub nowhere_if_free : (table : Table) (numbers : List ℕ) → are_free table numbers ≡ true → (k d : ℕ) →
+    k < length numbers → residence_of table (get_or numbers k d) ≡ Nowhere
+nowhere_if_free table numbers free k d lt =
+    let free_at = λ (n : ℕ). is_free table.words (label n) in
+    let all = list_all free_at numbers in
+    let n = get_or numbers k d in
+    ⊎_elim
+    (λ (lost : table.is_lost ≡ true). absurd (false≢true (sym (cond-true table.is_lost false all lost) ∙ free)))
+    (λ (whole : table.is_lost ≡ false). ⊎_elim
+    (λ (yes : free_at n ≡ true). residence_of-code table n whole ∙
+    ap residence_by (code_of-free table.words (label n) yes))
+    (λ (no : free_at n ≡ false). absurd (false≢true (sym (list_all_at free_at numbers k d lt no) ∙
+    (sym (cond-false table.is_lost false all whole) ∙ free))))
+    (cases_Bool (free_at n)))
+    (cases_Bool table.is_lost)
 
 -- where the code of one label alone has changed, what is told of the others stays
 pub others_told : (old new : Table) (word : ℕ) → new.is_lost ≡ old.is_lost → HasPut old.words word new.words →

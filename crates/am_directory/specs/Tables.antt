@@ -1,7 +1,7 @@
 -- What a directory knows of the keys of a label.
 use Rattle.std.specs.Prelude.{◌≡◌, ◌≢◌, ℕ, ◌-◌, ◌*◌, ◌/◌, ◌%◌, ◌^◌, ◌<◌, ◌≤◌, ◌==◌, nat_lt, nat_le, Bool}
-use Rattle.std.specs.Prelude.{List, [], ◌∷◌, ◌++◌, length, take, drop, slice_index, if◌then◌else◌}
-use Rattle.std.specs.List.{count_by}
+use Rattle.std.specs.Prelude.{List, [], ◌∷◌, ◌++◌, length, take, drop, slice_index, false, if◌then◌else◌}
+use Rattle.std.specs.List.{count_by, list_all}
 use Rattle.am_directory.specs.declared.residence.Residence.{Residence}
 use Rattle.am_directory.specs.declared.residence.Residence.TheVariants.{Nowhere, In, Unknown}
 
@@ -44,6 +44,16 @@ residence_by c = if nat_lt c 3 then Nowhere else (if c == 3 then Unknown else In
 -- what is known of the keys of the number's label
 unfoldable pub residence_of : Table → ℕ → Residence
 residence_of table n = if table.is_lost then Unknown else residence_by (code_of table.words (label n))
+
+-- a look for the label ends where it begins, since no word stands there
+abbrev pub is_free : List ℕ → ℕ → Bool
+is_free words sought =
+    let home = home_index (length words) sought in
+    if nat_lt home (length words) then slice_index words home == 0 else false
+
+-- so do the looks for all of these numbers
+abbrev pub are_free : Table → List ℕ → Bool
+are_free table numbers = if table.is_lost then false else list_all (λ n. is_free table.words (label n)) numbers
 
 -- how many words are empty
 abbrev pub empty_in : List ℕ → ℕ

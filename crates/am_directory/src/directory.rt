@@ -1,9 +1,11 @@
 //! A directory of the keys that are live in runs.
 
 ghost use Rattle.std.specs.Prelude.{◌≡◌, ◌≢◌, ◌<◌, ◌≤◌, ◌+◌, ◌*◌, ◌^◌, ℕ, false, length, max, replicate, slice_index};
-ghost use Rattle.std.specs.Prelude.{slice_set, MatchOption, OnOk, OnErr, IfOk};
+ghost use Rattle.std.specs.Prelude.{slice_set, true, MatchOption, OnOk, OnErr, IfOk};
 ghost use Rattle.am_directory.specs.declared.residence.Residence.TheVariants.{Nowhere};
-ghost use Rattle.am_directory.specs.Tables.{code, code_of, empty_in, home_index, kept, label, residence_of};
+ghost use Rattle.std.specs.List.{All};
+ghost use Rattle.am_directory.specs.Tables.{are_free, code, code_of, empty_in, home_index, is_free, kept, label};
+ghost use Rattle.am_directory.specs.Tables.{residence_of};
 ghost use Rattle.am_directory.specs.Tables.{HasEntered, HasLeft, HasPut, IsEnd, ArePassed};
 
 use crate::seek::{count_kept, seek};
@@ -64,6 +66,19 @@ impl Directory {
         } else {
             word::residence_by(self.code_of(word::label(number)))
         }
+    }
+
+    /// Whether no word stands where the look for each number begins: then no key of their labels is live. It goes no
+    /// further, so the words of all come from memory at once, and looks that follow find them near.
+    pub fn are_free(&self, numbers: &[u64]) -> bool
+        ensures exact { result ≡ are_free self.now numbers.now }
+        ensures nowhere { result ≡ true → All (λ n. residence_of self.now n ≡ Nowhere) numbers.now }
+    {
+        let mut are_free = !self.is_lost;
+        for number in numbers {
+            are_free &= self.is_free(word::label(*number));
+        }
+        are_free
     }
 
     /// Gets room for so many labels more.
@@ -172,6 +187,15 @@ impl Directory {
             Some(at) => word::code(self.words[at]),
             None => 0,
         }
+    }
+
+    // Whether no word stands where the look for the label begins.
+    fn is_free(&self, sought: u64) -> bool
+        requires { sought < 2 ^ 47 }
+        ensures { result ≡ is_free self.now.words sought }
+    {
+        let home = self.home(sought);
+        home < self.words.len() && self.words[home] == 0
     }
 
     // The place of the label's word, or of the empty word that it would take.

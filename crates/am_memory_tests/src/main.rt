@@ -4,11 +4,8 @@
 #![tactic(auto)]
 
 mod call;
-mod cutting;
 mod fault;
 mod filling;
-mod handing;
-mod holding;
 mod mapping;
 mod numbers;
 mod texts;

@@ -19,9 +19,11 @@ use Rattle.am_record.proofs.Orderings.{is_less}
 use Rattle.am_list.specs.Content.{IsLiveAt}
 use Rattle.am_list.specs.Runs.{live_entry, run_entries}
 use Rattle.am_directory.specs.Tables.{Table, residence_of, HasLeft}
+use Rattle.am_directory.specs.declared.residence.Residence.{Residence}
+use Rattle.am_directory.specs.declared.residence.Residence.TheVariants.{Nowhere}
 use Rattle.am_parts.specs.declared.residences.Residences.{Residences}
 use Rattle.am_parts.specs.Partitions.{AreWellFormed, AreAllAbsent, LivesInNoRun}
-use Rattle.am_parts.specs.Residences.{LivesInRun, LivesWith, IsKeyAt, Tells, Tell, AreResidences, HasNoted}
+use Rattle.am_parts.specs.Residences.{LivesInRun, LivesWith, IsKeyAt, Tells, Tell, Allows, AreResidences, HasNoted}
 use Rattle.am_parts.proofs.Appending.{apart_keys}
 use Rattle.am_parts.proofs.Lives.{laws_of}
 use Rattle.am_parts.proofs.LiveRuns.{lives_in_either, lives_alone, none_lives_yet}
@@ -102,6 +104,14 @@ module _ (es : List Entry) (part : ℕ) (rs : Records) where
   pub none_noted : (r : Residences) → AreResidences es r → Tell (Lives 0 0) r
   none_noted r was = tells_fewer r.hash (LivesInRun es) (Lives 0 0) r.directory r.directory was
       (λ key run it. ⊎_elim (λ here. here) (λ with. absurd (omega (arith, with.1.2))) it) (λ n. refl)
+
+  -- a key of which nothing is known is live in no run
+  pub lives_nowhere : (r : Residences) (n : ℕ) (key : OrderedKey) → Tell (Lives 0 n) r →
+      residence_of r.directory (key_number r.hash key) ≡ Nowhere → LivesInNoRun es key
+  lives_nowhere r n key was nowhere = record {
+    none = λ run value some live. subst (λ (q : Residence). Allows q run) nowhere
+        (was.allowed key run (inl (record { is_run = some; value = value; live = live })));
+  }
 
   -- one more is
   one_more : (i : ℕ) (key : OrderedKey) → IsKeyAt rs i key → (other : OrderedKey) (run : ℕ) →

@@ -1,3 +1,4 @@
+pub mod Ahead
 pub mod Catalogs
 pub mod Figures
 pub mod Merged

@@ -1,9 +1,10 @@
 //! In which runs keys are live.
 
-ghost use Rattle.std.specs.Prelude.{◌≡◌, ◌≢◌, ◌+◌, ◌<◌, ℕ, List, [], Some, IsSome, is_some, true, false, length, OnOk};
+ghost use Rattle.std.specs.Prelude.{◌≡◌, ◌≢◌, ◌+◌, ◌<◌, ℕ, List, [], Some, IsSome, is_some, true, false, length};
+ghost use Rattle.std.specs.Prelude.{◌≤◌, get_or, OnOk};
 ghost use Rattle.std.specs.List.{AllByRecursion};
 ghost use Rattle.std.specs.FinMap.{is_sorted};
-ghost use Rattle.am_record.specs.OrderedKey.{key_cmp};
+ghost use Rattle.am_record.specs.OrderedKey.{OrderedKey, key_cmp};
 ghost use Rattle.am_record.specs.KeyNumber.{key_number};
 ghost use Rattle.am_record.specs.declared.entry.Entry.{Entry};
 ghost use Rattle.am_list.specs.Entries.{find, entry_at, insert_entry, set_entry, remove_entry, IsRising};
@@ -17,6 +18,9 @@ ghost use Rattle.am_parts.specs.Residences.{HasNoted, HasRoom};
 use am_directory::{Directory, Residence};
 use am_record::{Entry, HashKey, Key, NoMemory, Value};
 use std::alloc::Global;
+
+/// For how many keys looks are begun at once.
+pub(crate) const AHEAD: usize = 16;
 
 /// In which run each key is live, as far as it is known. Keys are known by their numbers, and the numbers are made by a
 /// hash key, on which no answer depends.
@@ -106,6 +110,20 @@ impl Residences {
         }
         self.directory.leave(number);
         self.directory.let_go(number);
+    }
+
+    /// Whether the looks for these keys end where they begin: then none of them is live in a run. All are begun at
+    /// once, so that looks that follow find their words near.
+    pub(crate) fn are_free(&self, pairs: &[(Key, Value)]) -> bool
+        requires few { length pairs.now ≤ 16 }
+        ensures { result ≡ true → (i : ℕ) (r : OrderedKey × List ℕ) → i < length pairs.now →
+            residence_of self.now.directory (key_number self.now.hash (get_or pairs.now i r).0) ≡ Nowhere }
+    {
+        let mut numbers = [0; AHEAD];
+        for (at, pair) in pairs.iter().enumerate() {
+            numbers[at] = pair.0.number(self.hash);
+        }
+        self.directory.are_free(&numbers[..pairs.len()])
     }
 
     /// Notes that a key, for which room was got, is live in the run, unless one of its label may be live in a run

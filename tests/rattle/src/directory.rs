@@ -65,6 +65,11 @@ fn tells_the_same(rt: &impl Abort, directory: &Directory, plain: &Plain) {
             directory.residence_of(number(key)) == plain.told(key),
             "of key {key}"
         );
+        let is_free = directory.are_free(&[u64::MAX, number(key)]);
+        assert!(rt;
+            !is_free || plain.told(key) == Residence::Nowhere,
+            "a free look for key {key}"
+        );
     }
     assert!(rt; directory.residence_of(u64::MAX) == Residence::Nowhere);
 }
@@ -105,6 +110,8 @@ fn tells_what_a_list_does(rt: HostRuntime) -> Result<(), Fail> {
     let mut directory = Directory::new(rt.alloc());
     let mut plain = Plain::new();
     tells_the_same(&rt, &directory, &plain);
+    reserve(&rt, &mut directory, &plain, 1);
+    assert!(rt; directory.are_free(&[number(0), number(1)]));
     filled(&rt, &mut directory, &mut plain);
     tells_the_same(&rt, &directory, &plain);
 
@@ -127,6 +134,7 @@ fn is_lost_without_room(rt: HostRuntime) -> Result<(), Fail> {
     directory.enter(number(1), 1);
     assert!(rt; directory.residence_of(number(1)) == Residence::Unknown);
     assert!(rt; directory.residence_of(number(2)) == Residence::Unknown);
+    assert!(rt; !directory.are_free(&[number(2)]));
     Ok(())
 }
 

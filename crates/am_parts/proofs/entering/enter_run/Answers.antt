@@ -1,6 +1,6 @@
 use Rattle.std.proofs.Common.{◌≡◌, ◌≢◌, ◌+◌, ◌≤◌, ℕ, None, length, get_or, sym, ap, ◌∙◌, subst}
 use Rattle.std.proofs.Common.{⊎_elim, arith}
-use Rattle.std.proofs.lemmas.Bool.{cases_eq}
+use Rattle.std.proofs.lemmas.Bool.{cases_eq, false≢true}
 use Rattle.std.proofs.lemmas.List.{get_or_default}
 use Rattle.std.proofs.lemmas.Option.{none-some}
 use Rattle.std.specs.FinMap.{get}
@@ -21,34 +21,36 @@ loop-at-init g c = record {
       c.requires.told;
   dead = λ i r lt. absurd (omega (arith, lt));
   room = λ keys le. omega (arith, le, c.requires.room);
+  reached = omega arith;
+  free = λ no i r low lt. absurd (false≢true no);
   lost = λ whole. whole;
 }
 
-pub enter_dead-requires-clause-room : goal.enter_dead-requires-clause-room
-enter_dead-requires-clause-room g c = c.loop-at.invariant.room 1 (omega (arith, c.loop-at-test.true))
+pub enter_one-requires-clause-room : goal.enter_one-requires-clause-room
+enter_one-requires-clause-room g c = c.loop-at.invariant.room 1 (omega (arith, c.loop-at-test.true))
 
 pub forget-requires : goal.forget-requires
 forget-requires g c = record { rising = sorted_taken c.loop-at.at c.args.pairs.now c.requires.sorted }
 
-pub returns-then-not-enter_dead-clause-taken : goal.returns-then-not-enter_dead-clause-taken
-returns-then-not-enter_dead-clause-taken g c = λ yes all.
+pub returns-then-not-enter_one-clause-taken : goal.returns-then-not-enter_one-clause-taken
+returns-then-not-enter_one-clause-taken g c = λ yes all.
     let es = g.I.PartIndex.entries c.args.index.now in
     let pair = c.index-pairs-at.result in
-    let live = c.enter_dead.ensures.live c.if-not-enter_dead.true in
+    let live = c.enter_one.ensures.live c.if-not-enter_one.true in
     none-some live.0.value (sym (ap (λ (r : Record). get (content es) r.0) c.index-pairs-at.is ∙
     AllByRecursion-at (λ (r : Record). get (content es) r.0 ≡ None) c.args.pairs.now c.loop-at.at pair all
     c.loop-at-test.true) ∙ live.1.has)
 
-pub returns-then-not-enter_dead-clause-same : goal.returns-then-not-enter_dead-clause-same
-returns-then-not-enter_dead-clause-same g c =
+pub returns-then-not-enter_one-clause-same : goal.returns-then-not-enter_one-clause-same
+returns-then-not-enter_one-clause-same g c =
     let es = g.I.PartIndex.entries c.args.index.now in
     let at = c.loop-at.at in
     let le : at ≤ length c.args.pairs.now = omega (arith, c.loop-at-test.true) in
     c.forget.ensures.forgot es c.args.part
     (all_take (λ (r : Record). LivesInNoRun es r.0) c.args.pairs.now at le c.loop-at.invariant.dead)
-    (first_noted es c.args.part c.args.pairs.now c.enter_dead.new.residences at le
+    (first_noted es c.args.part c.args.pairs.now c.enter_one.new.residences at le
     (subst (λ (r : Residences). Tell (LivesWith es c.args.part c.args.pairs.now 0 at) r)
-    (sym (c.enter_dead.ensures.same c.if-not-enter_dead.true)) c.loop-at.invariant.told))
+    (sym (c.enter_one.ensures.same c.if-not-enter_one.true)) c.loop-at.invariant.told))
 
 pub loop-at-preserved : goal.loop-at-preserved
 loop-at-preserved g c =
@@ -56,21 +58,31 @@ loop-at-preserved g c =
     let at = c.loop-at.at in
     let pair = c.index-pairs-at.result in
     record {
-      told = one_noted es c.args.part c.args.pairs.now c.loop-at.residences c.enter_dead.new.residences at pair
-          c.loop-at-test.true c.index-pairs-at.is (c.enter_dead.ensures.entered c.if-not-enter_dead.false)
+      told = one_noted es c.args.part c.args.pairs.now c.loop-at.residences c.enter_one.new.residences at pair
+          c.loop-at-test.true c.index-pairs-at.is (c.enter_one.ensures.entered c.if-not-enter_one.false)
           c.loop-at.invariant.told;
       dead = λ i r lt. ⊎_elim
           (λ (same : i ≡ at). subst (λ (k : OrderedKey). LivesInNoRun es k)
           (ap (λ (q : Record). q.0) (c.index-pairs-at.is ∙ get_or_default c.args.pairs.now at pair r
           c.loop-at-test.true) ∙ ap (λ (n : ℕ). (get_or c.args.pairs.now n r).0) (sym same))
-          (c.enter_dead.ensures.dead c.if-not-enter_dead.false))
+          (c.enter_one.ensures.dead c.if-not-enter_one.false))
           (λ (apart : i ≢ at). c.loop-at.invariant.dead i r (omega (arith, lt)))
           (cases_eq i at);
-      room = λ keys le. c.enter_dead.ensures.room keys (c.loop-at.invariant.room (keys + 1) (omega (arith, le)));
-      lost = λ whole. c.enter_dead.ensures.lost (c.loop-at.invariant.lost whole);
+      room = λ keys le. c.enter_one.ensures.room keys (c.loop-at.invariant.room (keys + 1) (omega (arith, le)));
+      reached = omega (arith, c.renewed-ahead.ensures.reaches);
+      free = λ free i r low lt. c.renewed-ahead.ensures.free es c.args.part c.loop-at.invariant.told
+          c.loop-at.invariant.free free i r (omega (arith, low)) lt;
+      lost = λ whole. c.enter_one.ensures.lost (c.loop-at.invariant.lost whole);
     }
 
 pub returns-clause-dead : goal.returns-clause-dead
 returns-clause-dead g c =
     all_drop (λ (r : Record). LivesInNoRun (g.I.PartIndex.entries c.args.index.now) r.0) c.args.pairs.now 0
     (λ i r low lt. c.loop-at.invariant.dead i r (omega (arith, lt, c.loop-at-test.false)))
+
+pub enter_one-requires-clause-free : goal.enter_one-requires-clause-free
+enter_one-requires-clause-free g c = λ free.
+    let es = g.I.PartIndex.entries c.args.index.now in
+    subst (λ (k : OrderedKey). LivesInNoRun es k) (ap (λ (q : Record). q.0) (sym c.index-pairs-at.is))
+    (c.renewed-ahead.ensures.free es c.args.part c.loop-at.invariant.told c.loop-at.invariant.free free c.loop-at.at
+    c.index-pairs-at.result (omega arith) c.renewed-ahead.ensures.reaches)

@@ -1,5 +1,6 @@
 use Rattle.std.proofs.Common.{◌≡◌, ◌+◌, ◌<◌, ◌≤◌, ℕ, false, length, get_or}
 use Rattle.am_record.proofs.FirstRows.{Record}
+use Rattle.am_parts.specs.Ahead.{AreFreeAhead}
 use Rattle.am_parts.specs.Partitions.{LivesInNoRun}
 use Rattle.am_parts.specs.Residences.{LivesWith, Tell, HasRoom}
 use Rattle.am_parts.proofs.entering.enter_run.Given as goal
@@ -9,5 +10,7 @@ invariant-loop-at g l = record {
   told : Tell (LivesWith (g.I.PartIndex.entries l.index) l.part l.pairs 0 l.at) l.residences;
   dead : (i : ℕ) (r : Record) → i < l.at → LivesInNoRun (g.I.PartIndex.entries l.index) (get_or l.pairs i r).0;
   room : (keys : ℕ) → keys + l.at ≤ length l.pairs → HasRoom l.residences keys;
+  reached : l.at ≤ l.ahead.end;
+  free : AreFreeAhead (g.I.PartIndex.entries l.index) l.pairs l.at l.ahead;
   lost : l.fn.residences.directory.is_lost ≡ false → l.residences.directory.is_lost ≡ false;
 }

@@ -1,9 +1,7 @@
-use Rattle.std.proofs.Common.{◌≡◌, ◌≢◌, ◌<◌, ◌≤◌, ℕ, false, sym, ap, ◌∙◌, refl, arith}
-use Rattle.std.proofs.lemmas.Bool.{false≢true}
+use Rattle.std.proofs.Common.{◌≡◌, ◌<◌, ℕ, sym, ap, ◌∙◌, refl, arith}
 use Rattle.std.proofs.lemmas.Bool.Decides.{nat_tests}
-use Rattle.am_directory.specs.Tables.{Table, label, code, code_of, residence_by, residence_of, entered, HasEntered}
+use Rattle.am_directory.specs.Tables.{Table, label, code, code_of, residence_by, entered}
 use Rattle.am_directory.specs.declared.residence.Residence.{Residence}
-use Rattle.am_directory.specs.declared.residence.Residence.TheVariants.{Nowhere}
 use Rattle.am_directory.proofs.Looks.{code_of-read, code_of-none, passed_full}
 use Rattle.am_directory.proofs.Residences.{residence_of-lost, residence_of-code, none_by, own_told, others_told}
 use Rattle.am_directory.proofs.directory.Directory.enter_first.Goals as goal

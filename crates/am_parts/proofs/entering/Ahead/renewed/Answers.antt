@@ -1,0 +1,23 @@
+use Rattle.std.proofs.Common.{◌≡◌, ◌-◌, ◌<◌, ◌≤◌, ℕ, drop, get_or, length, length-drop, arith, subst, ap, ◌∙◌}
+use Rattle.std.proofs.lemmas.List.{get_or-drop, get_or-take, length-take-le}
+use Rattle.am_record.specs.KeyNumber.{key_number}
+use Rattle.am_record.proofs.FirstRows.{Record}
+use Rattle.am_directory.specs.Tables.{residence_of}
+use Rattle.am_directory.specs.declared.residence.Residence.TheVariants.{Nowhere}
+use Rattle.am_parts.proofs.Noting.{lives_nowhere}
+use Rattle.am_parts.proofs.entering.Ahead.renewed.Goals as goal
+
+pub returns-clause-free : goal.returns-clause-free
+returns-clause-free c = λ es part told before free i r low lt.
+    let rs = c.args.pairs.now in
+    let at = c.args.at in
+    let here = c.args.residences.now in
+    let count = c.min-end.result - at in
+    let rest = length-drop at rs in
+    let fits : count ≤ length (drop at rs) = omega (arith, rest, c.min-end.ensures) in
+    let within : i - at < count = omega (arith, low, lt) in
+    lives_nowhere es part rs here at (get_or rs i r).0 told
+    (subst (λ (q : Record). residence_of here.directory (key_number here.hash q.0) ≡ Nowhere)
+    (get_or-take count (drop at rs) (i - at) r within ∙ get_or-drop at rs (i - at) r ∙
+    ap (λ (n : ℕ). get_or rs n r) (omega (arith, low)))
+    (c.are_free.ensures free (i - at) r (omega (arith, within, length-take-le count (drop at rs) fits))))
