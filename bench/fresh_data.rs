@@ -46,7 +46,7 @@ trait Way {
 
 // ---- Tiuvrokk
 
-/// A store with the records in runs, each sorted before it is loaded.
+/// A store with the records in runs.
 fn loaded(records: &[Record]) -> Store {
     let mut store = Store::open();
     store.load(records.chunks(RECORDS / RUNS));

@@ -4,6 +4,7 @@
 #![allow(dead_code)]
 
 use std::ffi::{c_char, c_int, c_void, CStr};
+use std::mem::{offset_of, size_of};
 use std::ptr::null_mut;
 
 pub type Text = [u8; 16];
@@ -57,12 +58,33 @@ struct Row {
     value: Value,
 }
 
+#[repr(C)]
+struct Layout {
+    size: usize,
+    key_at: usize,
+    key_length: usize,
+    value_at: usize,
+    value_length: usize,
+}
+
+/// Where a record has its key and its value.
+const LAYOUT: Layout = Layout {
+    size: size_of::<Record>(),
+    key_at: offset_of!(Record, 0),
+    key_length: size_of::<Text>(),
+    value_at: offset_of!(Record, 1),
+    value_length: size_of::<Text>(),
+};
+
 extern "C" {
     fn tvk_open(store: *mut Handle) -> c_int;
     fn tvk_close(store: *mut Handle) -> c_int;
     fn tvk_begin(store: *mut Handle, tx: *mut u64) -> c_int;
     fn tvk_commit(store: *mut Handle, tx: u64, commit: *mut u64) -> c_int;
-    fn tvk_load(store: *mut Handle, tx: u64, rows: *const Row, number: usize, exists: *mut Key, holder: *mut u64) -> c_int;
+    fn tvk_load_structs(
+        store: *mut Handle, tx: u64, structs: *const c_void, number: usize, layout: *const Layout, key: *mut Key, loaded: *mut u64,
+        holder: *mut u64,
+    ) -> c_int;
     fn tvk_get(store: *mut Handle, tx: u64, key: *const u8, length: usize, value: *mut Value, holder: *mut u64) -> c_int;
     fn tvk_scan(
         store: *mut Handle, tx: u64, lo: *const u8, lo_length: usize, hi: *const u8, hi_length: usize, rows: *mut Row, limit: usize,
@@ -92,14 +114,13 @@ impl Store {
         store
     }
 
-    /// Loads each of the runs, which are sorted first, and commits them together.
+    /// Loads each of the runs, whose records come in any order, and commits them together.
     pub fn load<'a>(&mut self, runs: impl Iterator<Item = &'a [Record]>) {
         let tx = self.begin();
         for run in runs {
-            let mut sorted = run.to_vec();
-            sorted.sort_unstable();
-            let rows: Vec<Row> = sorted.iter().map(row).collect();
-            assert_eq!(unsafe { tvk_load(&mut self.store, tx, rows.as_ptr(), rows.len(), null_mut(), null_mut()) }, OK);
+            let store = &mut self.store;
+            let status = unsafe { tvk_load_structs(store, tx, run.as_ptr().cast(), run.len(), &LAYOUT, null_mut(), null_mut(), null_mut()) };
+            assert_eq!(status, OK);
         }
         self.commit(tx);
     }
@@ -164,15 +185,6 @@ impl Drop for Store {
     fn drop(&mut self) {
         unsafe { tvk_close(&mut self.store) };
     }
-}
-
-fn row(record: &Record) -> Row {
-    let mut row = NO_ROW;
-    row.key.length = record.0.len();
-    row.key.bytes[..record.0.len()].copy_from_slice(&record.0);
-    row.value.length = record.1.len();
-    row.value.bytes[..record.1.len()].copy_from_slice(&record.1);
-    row
 }
 
 // ---- SQLite

@@ -28,6 +28,8 @@ uint32_t tiuvrokk_load(tvk_store *store, uint64_t tx, const tvk_record *records,
                        uint64_t *told);
 uint32_t tiuvrokk_load_sorting(tvk_store *store, uint64_t tx, const tvk_record *records, size_t number, tvk_key *key,
                                uint64_t *loaded, uint64_t *told);
+uint32_t tiuvrokk_load_structs(tvk_store *store, uint64_t tx, const void *structs, size_t length, size_t number,
+                               const tvk_layout *layout, tvk_key *key, uint64_t *loaded, uint64_t *told);
 uint32_t tiuvrokk_load_text(tvk_store *store, uint64_t tx, const void *text, size_t length, tvk_key *key, uint64_t *line,
                             uint64_t *loaded, uint64_t *told);
 uint32_t tiuvrokk_scan(tvk_store *store, uint64_t tx, const void *lo, size_t lo_length, const void *hi, size_t hi_length,
@@ -219,6 +221,19 @@ tvk_status tvk_load_sorting(tvk_store *store, uint64_t tx, const tvk_record *rec
         records = no_records;
     }
     return tiuvrokk_load_sorting(store, tx, records, number, key, loaded, told);
+}
+
+tvk_status tvk_load_structs(tvk_store *store, uint64_t tx, const void *structs, size_t number, const tvk_layout *layout,
+                            tvk_key *key, uint64_t *loaded, uint64_t *told) {
+    BEGIN_LOAD
+    BEGIN;
+    if (!structs) {
+        if (number) return TVK_NULL;
+        structs = no_bytes;
+    }
+    NEEDS(layout);
+    if (layout->size && number > PTRDIFF_MAX / layout->size) return TVK_NO_MEMORY;
+    return tiuvrokk_load_structs(store, tx, structs, number * layout->size, number, layout, key, loaded, told);
 }
 
 tvk_status tvk_load_text(tvk_store *store, uint64_t tx, const void *text, size_t length, tvk_key *key, uint64_t *line,

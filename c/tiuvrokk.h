@@ -27,7 +27,7 @@
  * nothing but a handle has to be given back.
  *
  * MEMORY is taken by malloc and realloc and given back by free, and by nothing else. Any call that may want memory may
- * answer TVK_NO_MEMORY, and has changed nothing then; but the runs that tvk_load_sorting and tvk_load_text loaded before stay,
+ * answer TVK_NO_MEMORY, and has changed nothing then; but the runs that tvk_load_sorting, tvk_load_structs and tvk_load_text loaded before stay,
  * as `loaded` tells. tvk_begin, tvk_commit, tvk_abort, tvk_back and tvk_clean never do.
  *
  * THREADS. Any thread may use a handle, one at a time: it may be opened on one, used on another, and closed on a third, where
@@ -134,6 +134,16 @@ typedef struct tvk_record {
     tvk_key key;
     tvk_value value;
 } tvk_record;
+
+/* Where structs of a caller's own have their keys and values, in bytes. Keys are compared byte by byte, so a number in one has
+ * its highest byte first. */
+typedef struct tvk_layout {
+    size_t size;         /* of a struct */
+    size_t key_at;       /* in front of its key */
+    size_t key_length;   /* of its key */
+    size_t value_at;     /* in front of its value */
+    size_t value_length; /* of its value */
+} tvk_layout;
 
 /* How large a store is. */
 typedef struct tvk_counts {
@@ -391,6 +401,37 @@ tvk_status tvk_load(tvk_store *store, uint64_t tx, const tvk_record *records, si
  */
 tvk_status tvk_load_sorting(tvk_store *store, uint64_t tx, const tvk_record *records, size_t number, tvk_key *key,
                             uint64_t *loaded, uint64_t *holder);
+
+/** Adds the records of an array of structs, as tvk_load_sorting does: each struct has its key and its value at the same places,
+ * as `layout` says, so keys have one length, and values have one. Nothing is copied but these bytes.
+ *
+ * @param[in,out] store   the store
+ * @param tx              the transaction
+ * @param[in] structs     the structs, one behind another
+ * @param number          how many they are
+ * @param[in] layout      where each has its key and its value
+ * @param[out] key        as of tvk_load_sorting
+ * @param[out] loaded     as of tvk_load_sorting
+ * @param[out] holder     the transaction that is in the way, or 0; NULL where it isn't wanted
+ *
+ * @retval TVK_OK              the records are added
+ * @retval TVK_NO_STORE        the handle is NULL or has no store
+ * @retval TVK_NULL            `structs` is NULL, and `number` isn't 0, or `layout` is NULL
+ * @retval TVK_BAD_KEY         a key is longer than TVK_MAX_KEY bytes, or doesn't lie within its struct; none is loaded
+ * @retval TVK_BAD_VALUE       a value is longer than TVK_MAX_VALUE bytes, or doesn't lie within its struct; none is loaded
+ * @retval TVK_TWICE           a key stands twice: `key`; none is loaded
+ * @retval TVK_NO_TX           no transaction of this number is active
+ * @retval TVK_TOO_MANY_OPS    TVK_MAX_OPS operations of the transaction were answered
+ * @retval TVK_NOT_RISING      there are no structs
+ * @retval TVK_TOO_MANY_RUNS   TVK_MAX_RUNS loads were made
+ * @retval TVK_BUSY            `holder` has a lock that is in the way
+ * @retval TVK_TOO_MANY_LOCKS  the transaction holds TVK_MAX_LOCKS locks, and none of them covers the range
+ * @retval TVK_NO_MEMORY       memory was refused: for a run; or in front of TVK_BAD_KEY for the records, also where so many
+ *                             structs have no room in any memory, or in front of TVK_TWICE for the runs, and then none is loaded
+ * @retval TVK_EXISTS          a key of the refused run has a record: `key`
+ */
+tvk_status tvk_load_structs(tvk_store *store, uint64_t tx, const void *structs, size_t number, const tvk_layout *layout,
+                            tvk_key *key, uint64_t *loaded, uint64_t *holder);
 
 /** Adds the records of a text, as tvk_load_sorting does: each line has a key, a TAB, a value and an LF, which the last line may
  * lack. The key is what stands in front of the line's first TAB, and the value is all behind it up to the LF, a CR too. Either

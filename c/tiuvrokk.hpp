@@ -361,6 +361,15 @@ public:
         return load_sorting(std::begin(pairs), std::end(pairs), loaded);
     }
 
+    /* The same of an array of structs, of which nothing is copied but the bytes of their keys and values: `layout` says where
+     * each has its own. */
+    template <class Struct>
+    std::uint64_t load_structs(const Struct *structs, std::size_t number, const tvk_layout &layout, std::uint64_t *loaded = nullptr) {
+        return load_all(number, loaded, [&](tvk_key *key, std::uint64_t *, std::uint64_t *count, std::uint64_t *told) {
+            return tvk_load_structs(store_.get(), number_, structs, number, &layout, key, count, told);
+        });
+    }
+
     /* The same of a text, whose lines have a key, a TAB and a value each; the last one may lack its LF. A line that is no record
      * throws BadLine, and nothing is added then. */
     std::uint64_t load_text(std::string_view text, std::uint64_t *loaded = nullptr) {

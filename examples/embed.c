@@ -9,8 +9,10 @@
 
 enum { SENSORS = 100, BATCHES = 100, BATCH = 1000, ROWS = 100, SENSOR = 7 };
 
-/* Readings come in the order of time, and are asked for by sensor. */
-typedef struct { uint32_t sensor, second; double degrees; } reading;
+/* Readings come in the order of time, and are asked for by sensor: their keys are both numbers. */
+typedef struct { uint8_t key[8]; double degrees; } reading;
+
+static const tvk_layout layout = {sizeof(reading), offsetof(reading, key), 8, offsetof(reading, degrees), sizeof(double)};
 
 static void must(tvk_status status, const char *what) {
     if (status == TVK_OK) return;
@@ -26,20 +28,9 @@ static void put_key(uint8_t *key, uint32_t sensor, uint32_t second) {
     }
 }
 
-static int by_key(const void *one, const void *other) {
-    return memcmp(((const tvk_record *)one)->key.bytes, ((const tvk_record *)other)->key.bytes, 8);
-}
-
-/* Loads a batch as one run, which can be read at once. It is merged with the others where it is read. */
+/* Loads a batch as one run, as it stands, which can be read at once. It is merged with the others where it is read. */
 static tvk_status load(tvk_store *store, uint64_t tx, const reading *batch, uint64_t *holder) {
-    static tvk_record run[BATCH];
-    for (int i = 0; i < BATCH; i++) {
-        put_key(run[i].key.bytes, batch[i].sensor, batch[i].second);
-        memcpy(run[i].value.bytes, &batch[i].degrees, sizeof batch[i].degrees);
-        run[i].key.length = run[i].value.length = 8;
-    }
-    qsort(run, BATCH, sizeof *run, by_key);
-    return tvk_load(store, tx, run, BATCH, NULL, holder);
+    return tvk_load_structs(store, tx, batch, BATCH, &layout, NULL, NULL, holder);
 }
 
 /* How many readings a sensor has: while the rows are full, the scan goes on behind the last of them. */
@@ -63,7 +54,10 @@ int main(void) {
     int found = 0, waits = 0;
     must(tvk_open(&store), "open");
     for (uint32_t b = 0; b < BATCHES; b++) {
-        for (uint32_t i = 0; i < BATCH; i++) batch[i] = (reading){i % SENSORS, (b * BATCH + i) / SENSORS, 20 + b % 7};
+        for (uint32_t i = 0; i < BATCH; i++) {
+            put_key(batch[i].key, i % SENSORS, (b * BATCH + i) / SENSORS);
+            batch[i].degrees = 20 + b % 7;
+        }
         must(tvk_begin(&store, &reader), "begin");
         must(tvk_begin(&store, &writer), "begin");
         found = count(&store, reader, SENSOR);

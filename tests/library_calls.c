@@ -426,6 +426,24 @@ static void test_bad_use(void) {
     EXPECT(TVK_NO_STORE, tvk_load_sorting(&closed, tx, NULL, 1, NULL, NULL, NULL));
     EXPECT(TVK_NULL, tvk_load_sorting(&store, tx, NULL, 1, NULL, NULL, NULL));
     EXPECT(TVK_NO_TX, tvk_load_sorting(&store, tx, NULL, 0, NULL, NULL, NULL));
+    tvk_layout layout = {sizeof *rows, offsetof(tvk_record, key.bytes), TVK_MAX_KEY, offsetof(tvk_record, value.bytes), TVK_MAX_VALUE};
+    EXPECT(TVK_NO_STORE, tvk_load_structs(&closed, tx, NULL, 1, NULL, NULL, NULL, NULL));
+    EXPECT(TVK_NULL, tvk_load_structs(&store, tx, NULL, 1, &layout, NULL, NULL, NULL));
+    EXPECT(TVK_NULL, tvk_load_structs(&store, tx, rows, 0, NULL, NULL, NULL, NULL));
+    EXPECT(TVK_NO_TX, tvk_load_structs(&store, tx, NULL, 0, &layout, NULL, NULL, NULL));
+    EXPECT(TVK_NO_TX, tvk_load_structs(&store, tx, rows, 1, &layout, NULL, NULL, NULL));
+    EXPECT(TVK_TWICE, tvk_load_structs(&store, tx, rows, 2, &layout, NULL, NULL, NULL));
+    EXPECT(TVK_NO_MEMORY, tvk_load_structs(&store, tx, rows, SIZE_MAX / sizeof *rows + 1, &layout, NULL, NULL, NULL));
+    layout.value_length++;
+    EXPECT(TVK_BAD_VALUE, tvk_load_structs(&store, tx, rows, 1, &layout, NULL, NULL, NULL));
+    layout.value_length = 1;
+    layout.value_at = sizeof *rows;
+    EXPECT(TVK_BAD_VALUE, tvk_load_structs(&store, tx, rows, 1, &layout, NULL, NULL, NULL));
+    layout.key_length++;
+    EXPECT(TVK_BAD_KEY, tvk_load_structs(&store, tx, rows, 1, &layout, NULL, NULL, NULL));
+    layout.key_length = 1;
+    layout.key_at = SIZE_MAX;
+    EXPECT(TVK_BAD_KEY, tvk_load_structs(&store, tx, rows, 1, &layout, NULL, NULL, NULL));
     EXPECT(TVK_NO_STORE, tvk_load_text(&closed, tx, NULL, 1, NULL, NULL, NULL, NULL));
     EXPECT(TVK_NULL, tvk_load_text(&store, tx, NULL, 1, NULL, NULL, NULL, NULL));
     EXPECT(TVK_NO_TX, tvk_load_text(&store, tx, NULL, 0, NULL, NULL, NULL, NULL));
@@ -577,6 +595,12 @@ static void test_large_loads(void) {
     begin_large(&tx);
     if (tvk_load_text(&large, tx, text, (size_t)LINE * MANY - 1, NULL, &line, &loaded, NULL) || loaded != MANY || line)
         fail("a text of 300,000 lines");
+    look_at_large(tx);
+    end_large(tx, MANY);
+
+    const tvk_layout layout = {sizeof *records, offsetof(tvk_record, key.bytes), 8, offsetof(tvk_record, value.bytes), 8};
+    begin_large(&tx);
+    if (tvk_load_structs(&large, tx, records, MANY, &layout, NULL, &loaded, NULL) || loaded != MANY) fail("300,000 structs");
     look_at_large(tx);
     end_large(tx, MANY);
 

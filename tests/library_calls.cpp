@@ -182,6 +182,9 @@ static void loads_in_any_order() {
     }
     expect(tx.load_sorting(all) == 70000 && tx.get(all[69999].first) == "69999", "a load of two runs");
     expect(tx.load_text(text) == 100 && tx.get("x" + all[7].first) == "7", "a load of a text");
+    struct Reading { char key[4]; short degrees; } readings[2] = {{{'r', 0, 0, 2}, 7}, {{'r', 0, 0, 1}, 8}};
+    const tvk_layout layout = {sizeof(Reading), offsetof(Reading, key), 4, offsetof(Reading, degrees), sizeof(short)};
+    expect(tx.load_structs(readings, 2, layout) == 2 && tx.get(std::string_view(readings[1].key, 4))->size() == sizeof(short), "structs");
     std::uint64_t loaded = 7;
     tx.abort();
 

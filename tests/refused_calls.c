@@ -190,19 +190,20 @@ static void any_order(void) {
     close_and_tell("any_order");
 }
 
-/* Sixty records in no order, whose keys begin alike. */
+/* Sixty structs in no order, whose keys begin alike. */
 static void one_beginning(void) {
     static tvk_record records[60];
+    static const tvk_layout layout = {sizeof *records, offsetof(tvk_record, key.bytes), 18, offsetof(tvk_record, value.bytes), 0};
     uint64_t loaded, told;
     tvk_status got;
     open_anew();
     memset(records, 0, sizeof records);
     for (int i = 0; i < 60; i++) {
         memcpy(records[i].key.bytes, "one beginning ", 14);
-        records[i].key.length = 14 + key_of(i * 7 % 60, (char *)records[i].key.bytes + 14);
+        key_of(i * 7 % 60, (char *)records[i].key.bytes + 14);
     }
     is_counted = 1;
-    want(AGAIN(tvk_load_sorting(&store, tx, records, 60, NULL, &loaded, NULL)) == TVK_OK && loaded == 60);
+    want(AGAIN(tvk_load_structs(&store, tx, records, 60, &layout, NULL, &loaded, NULL)) == TVK_OK && loaded == 60);
     memset(stands, 'a', 60);
     want(AGAIN(tvk_scan(&store, tx, "one", 3, "two", 3, rows, 1000, &told)) == TVK_OK && told == 60);
     is_counted = 0;

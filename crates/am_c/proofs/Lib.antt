@@ -3,5 +3,6 @@ mod Given
 mod Handles
 mod Loosened
 mod Rows
+mod Structs
 mod Turns
 mod Zeros

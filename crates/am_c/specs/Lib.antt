@@ -4,6 +4,7 @@ pub mod Lines
 pub mod Loading
 pub mod Statuses
 pub mod StoreFigures
+pub mod Structs
 pub mod Taking
 pub mod Telling
 pub mod Texts

@@ -12,6 +12,7 @@ mod records;
 mod runs;
 mod status;
 mod store;
+mod structs;
 mod taking;
 mod text;
 mod transactions;

@@ -5,12 +5,14 @@ ghost use Rattle.am_c.specs.Asking.{pairs_given};
 ghost use Rattle.am_c.specs.Taking.{status, number};
 ghost use Rattle.am_c.specs.Lines.{TellsText};
 ghost use Rattle.am_c.specs.Loading.{TellsRuns, without_key, load_key_told};
+ghost use Rattle.am_c.specs.Structs.{structs_given};
 
 use crate::asking::pairs_asked;
 use crate::handle::Handle;
 use crate::lines::text_asked;
 use crate::runs::{load_given, tell_load_key, without_key};
 use crate::status::Status;
+use crate::structs::{Layout, structs_asked};
 use crate::taking::{number_told, status_told};
 use crate::text::{KeyText, Record};
 use am_record::Pairs;
@@ -33,6 +35,27 @@ pub extern "C" fn tiuvrokk_load_sorting(
         × (key.new ≡ load_key_told answer key.old) × (loaded.new ≡ n)) }
 {
     let pairs = pairs_asked(alloc, records);
+    tell_runs(alloc, store, tx, pairs, key, loaded, told)
+}
+
+/// The same of so many structs of the caller's own, one behind another.
+#[unsafe(no_mangle)]
+pub extern "C" fn tiuvrokk_load_structs(
+    alloc: Global,
+    store: &mut Handle,
+    tx: u64,
+    structs: &[u8],
+    count: usize,
+    layout: &Layout,
+    key: &mut KeyText,
+    loaded: &mut u64,
+    told: &mut u64,
+) -> u32
+    ensures { TellsRuns store.old.held tx (structs_given layout.now structs.now count) store.new.held
+        (λ n answer. (result ≡ status (without_key answer)) × (told.new ≡ number (without_key answer))
+        × (key.new ≡ load_key_told answer key.old) × (loaded.new ≡ n)) }
+{
+    let pairs = structs_asked(alloc, structs, count, layout);
     tell_runs(alloc, store, tx, pairs, key, loaded, told)
 }
 

@@ -1,0 +1,30 @@
+-- Structs of the caller's own, one behind another, each with its key and its value at the same places.
+use Rattle.std.specs.Prelude.{ℕ, zero, suc, ◌+◌, nat_le, length, List, [], ◌∷◌, take, drop, cond, Result, Ok, Err}
+use Rattle.am_record.specs.OrderedKey.{OrderedKey}
+use Rattle.am_record.specs.Plain.{Records}
+use Rattle.am_c.specs.declared.status.Status.{Status}
+use Rattle.am_c.specs.declared.status.Status.TheVariants.{BadKey, BadValue}
+use Rattle.am_c.specs.declared.structs.Layout.{Layout}
+use Rattle.am_c.specs.Texts.{of_both, key_given, value_given}
+
+-- the key of a struct of these bytes
+abbrev pub key_in : Layout → List ℕ → Result OrderedKey Status
+key_in l bytes =
+    cond (nat_le (l.key_at + l.key_length) (length bytes)) (key_given (take l.key_length (drop l.key_at bytes)))
+    (Err BadKey)
+
+-- its value
+abbrev pub value_in : Layout → List ℕ → Result (List ℕ) Status
+value_in l bytes =
+    cond (nat_le (l.value_at + l.value_length) (length bytes))
+    (value_given (take l.value_length (drop l.value_at bytes))) (Err BadValue)
+
+-- both, or what is wrong with the first that is wrong
+abbrev pub struct_given : Layout → List ℕ → Result (OrderedKey × List ℕ) Status
+struct_given l bytes = of_both (λ key value. Ok (key, value)) (key_in l bytes) (value_in l bytes)
+
+-- the records of the first so many structs, or what is wrong with the first of them that has none
+abbrev pub structs_given : Layout → List ℕ → ℕ → Result Records Status
+structs_given l bytes zero = Ok []
+structs_given l bytes (suc n) = of_both (λ pair pairs. Ok (pair ∷ pairs)) (struct_given l (take l.size bytes))
+    (structs_given l (drop l.size bytes) n)

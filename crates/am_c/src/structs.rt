@@ -1,0 +1,105 @@
+//! Structs of the caller's own, one behind another.
+
+ghost use Rattle.std.specs.Prelude.{◌≡◌, ◌⊎◌, ◌+◌, [], nat_le, OnOk, IfErr, Ok, Err};
+ghost use Rattle.am_c.specs.declared.status.Status.TheVariants.{NoMemory};
+ghost use Rattle.am_c.specs.Asking.{IsCopied};
+ghost use Rattle.am_c.specs.Structs.{key_in, value_in, struct_given, structs_given};
+
+use crate::status::Status;
+use crate::text::{key_given, value_given};
+use am_record::{Key, Pairs, Value};
+use std::alloc::Global;
+
+/// `tvk_layout` of the header: how many bytes a struct has, and which of them are its key and its value.
+#[repr(C)]
+#[derive(Clone, Copy)]
+pub struct Layout {
+    pub size: usize,
+    pub key_at: usize,
+    pub key_length: usize,
+    pub value_at: usize,
+    pub value_length: usize,
+}
+
+impl Layout {
+    // The key of a struct, or BadKey where it is too long or doesn't lie within the struct.
+    fn key(&self, bytes: &[u8]) -> Result<Key, Status>
+        ensures { result ≡ key_in self.now bytes.now }
+    {
+        if !lies_within(self.key_at, self.key_length, bytes.len()) {
+            return Err(Status::BadKey);
+        }
+        key_given(&bytes[self.key_at..self.key_at + self.key_length])
+    }
+
+    // The value of a struct, or BadValue in the same cases.
+    fn value(&self, bytes: &[u8]) -> Result<Value, Status>
+        ensures { result ≡ value_in self.now bytes.now }
+    {
+        if !lies_within(self.value_at, self.value_length, bytes.len()) {
+            return Err(Status::BadValue);
+        }
+        value_given(&bytes[self.value_at..self.value_at + self.value_length])
+    }
+
+    // Both.
+    fn pair(&self, bytes: &[u8]) -> Result<(Key, Value), Status>
+        ensures { result ≡ struct_given self.now bytes.now }
+    {
+        Ok((self.key(bytes)?, self.value(bytes)?))
+    }
+}
+
+// Whether so many bytes from a place on end within the first so many.
+fn lies_within(at: usize, length: usize, size: usize) -> bool
+    ensures { result ≡ nat_le (at + length) size }
+{
+    at <= size && length <= size - at
+}
+
+/// The pairs of so many structs, or what is wrong with the first that has none; or NoMemory.
+pub(crate) fn structs_asked(
+    alloc: Global,
+    structs: &[u8],
+    count: usize,
+    layout: &Layout,
+) -> Result<Pairs, Status>
+    ensures { IsCopied (structs_given layout.now structs.now count) result }
+{
+    let Ok(mut pairs) = Vec::with_capacity(alloc, count) else {
+        return Err(Status::NoMemory);
+    };
+    match add_structs(structs, count, layout, &mut pairs) {
+        Ok(()) => Ok(Pairs::new(pairs)),
+        Err(why) => Err(why),
+    }
+}
+
+// Adds the pairs of the structs.
+fn add_structs(
+    structs: &[u8],
+    count: usize,
+    layout: &Layout,
+    pairs: &mut Vec<(Key, Value)>,
+) -> Result<(), Status>
+    requires { pairs.old.items ≡ [] }
+    ensures added { OnOk result (structs_given layout.now structs.now count ≡ Ok pairs.new.items) }
+    ensures wrong { IfErr result (λ why. (structs_given layout.now structs.now count ≡ Err why) ⊎ (why ≡ NoMemory)) }
+{
+    let mut rest = structs;
+    let mut left = count;
+    while left > 0 {
+        let (first, behind) = rest.split_at(layout.size.min(rest.len()));
+        match layout.pair(first) {
+            Ok(pair) => {
+                if pairs.push(pair).is_err() {
+                    return Err(Status::NoMemory);
+                }
+            }
+            Err(why) => return Err(why),
+        }
+        rest = behind;
+        left -= 1;
+    }
+    Ok(())
+}
