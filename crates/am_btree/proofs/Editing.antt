@@ -235,11 +235,11 @@ module _ (part : ℕ) (key : OrderedKey) where
         rising = subst IsRising (sym kept_entries) (is.rising (all_entries ks) c.rising);
       }
 
-      pub kept_inner : (rl rk : ℕ) → (1 < length ks → 0 < length k'.entries) → length ks ≤ 32 → (32 ≤ rl) × (32 ≤ rk) →
-          IsInner ls (set ks i k') rl rk
-      kept_inner rl rk f most room =
+      pub kept_inner : (rk : ℕ) → (1 < length ks → 0 < length k'.entries) → length ks ≤ 32 → 32 ≤ rk →
+          IsInner ls (set ks i k') rk
+      kept_inner rk f most room =
           let same = length-set ks i k' in
-          inner_with d ls (set ks i k') ls (set ks i k') rl rk refl refl (kept_children f) (omega (arith, inside))
+          inner_with d ls (set ks i k') ls (set ks i k') rk refl refl (kept_children f) (omega (arith, inside))
           (omega (arith, most)) room
 
       pub kept_fewer : (n : ℕ) → length k'.entries + n ≡ length k.entries →

@@ -77,7 +77,7 @@ parted_more (suc i) (l ∷ ls) (c ∷ ks) k k' more a last here h some rising =
     (a.0, a.1, parted_more i ls ks k k' more a.2 (omega arith) here h some rising)
 
 -- an inner node, whose last child has more entries now
-module _ (ls : List Separator) (ks : List Shape) (rl rk : ℕ) (inner : IsInner ls ks rl rk) (i : ℕ) (k : Shape)
+module _ (ls : List Separator) (ks : List Shape) (rk : ℕ) (inner : IsInner ls ks rk) (i : ℕ) (k : Shape)
     (more : List Entry) (last : suc i ≡ length ks) (here : k ≡ get_or ks i k) (some : 0 < length (all_entries ks))
     (rising : IsRising (all_entries ks ++ more)) where
   pub last_some : 0 < length k.entries
@@ -100,10 +100,10 @@ module _ (ls : List Separator) (ks : List Shape) (rl rk : ℕ) (inner : IsInner 
     pub more_depth : depth_of (set ks i k') ≡ depth_of ks
     more_depth = depth_level (depth_of ks) (set ks i k') (omega (arith, length-set ks i k')) level
 
-    pub more_inner : IsInner ls (set ks i k') rl rk
+    pub more_inner : IsInner ls (set ks i k') rk
     more_inner =
         let same = length-set ks i k' in
-        inner_with (depth_of ks) ls (set ks i k') ls (set ks i k') rl rk refl refl (record {
+        inner_with (depth_of ks) ls (set ks i k') ls (set ks i k') rk refl refl (record {
           level = level;
           filled = (λ lt. all_set (λ (j : Shape). 0 < length j.entries) ks i k'
               (inner.children.filled (omega (arith, lt, same)))

@@ -321,10 +321,10 @@ module _ (x : Entry) (d : ℕ) (ls : List Separator) (ks : List Shape) (n : ℕ)
     pub one_children : AreFilledChildren d (in_place ls (before n) (low ∷ [])) (in_place ks (before n) (k' ∷ []))
     one_children = regrown [] (k' ∷ []) own_one tt all_one (omega (arith, deep), tt) (filled_one, tt)
 
-    pub one_inner : (L : List Separator) → L ≡ lowered ls n x → (rl rk : ℕ) → (32 ≤ rl) × (32 ≤ rk) → length ks ≤ 32 →
-        IsInner L (set ks (before n) k') rl rk
-    one_inner L e rl rk room most =
-        inner_from d (in_place ls (before n) (low ∷ [])) (in_place ks (before n) (k' ∷ [])) L (set ks (before n) k') rl
+    pub one_inner : (L : List Separator) → L ≡ lowered ls n x → (rk : ℕ) → 32 ≤ rk → length ks ≤ 32 →
+        IsInner L (set ks (before n) k') rk
+    one_inner L e rk room most =
+        inner_from d (in_place ls (before n) (low ∷ [])) (in_place ks (before n) (k' ∷ [])) L (set ks (before n) k')
         rk (lowered_now L e) (set_is k') one_children
         (omega (arith, ap length (set_is k'), length-set ks (before n) k'))
         (omega (arith, ap length (set_is k'), length-set ks (before n) k')) room

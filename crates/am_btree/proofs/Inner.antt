@@ -8,7 +8,7 @@ use Rattle.am_btree.specs.Nodes.{depth_of, IsInner}
 use Rattle.am_btree.proofs.Parting.{parted_lengths, children_rise}
 
 -- an inner node, and the index of the child for a place
-module _ (separators : List Separator) (ks : List Shape) (rl rk : ℕ) (inner : IsInner separators ks rl rk) where
+module _ (separators : List Separator) (ks : List Shape) (rk : ℕ) (inner : IsInner separators ks rk) where
   pub as_many : length separators ≡ length ks
   as_many = parted_lengths separators ks inner.children.parted
 

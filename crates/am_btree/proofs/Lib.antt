@@ -11,6 +11,7 @@ pub mod Editing
 pub mod Extending
 pub mod Filling
 pub mod Leaves
+pub mod Fronts
 mod Ending
 pub mod Seeking
 pub mod Walking

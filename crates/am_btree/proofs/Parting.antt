@@ -161,21 +161,20 @@ module _ (m d : ℕ) (ls : List Separator) (ks : List Shape) (c : AreFilledChild
     rising = rising_back (all_entries (take m ks)) (all_entries (drop m ks)) both;
   }
 
-pub inner_with : (d : ℕ) (ls : List Separator) (ks : List Shape) (L : List Separator) (K : List Shape) (rl rk : ℕ) →
-    L ≡ ls → K ≡ ks → AreChildren d ls ks → 0 < length ks → length ks ≤ 32 → (32 ≤ rl) × (32 ≤ rk) → IsInner L K rl rk
-inner_with d ls ks L K rl rk e f c some most room =
-    subst (λ ms. IsInner ms K rl rk) (sym e) (subst (λ js. IsInner ls js rl rk) (sym f) (record {
+pub inner_with : (d : ℕ) (ls : List Separator) (ks : List Shape) (L : List Separator) (K : List Shape) (rk : ℕ) →
+    L ≡ ls → K ≡ ks → AreChildren d ls ks → 0 < length ks → length ks ≤ 32 → 32 ≤ rk → IsInner L K rk
+inner_with d ls ks L K rk e f c some most room =
+    subst (λ ms. IsInner ms K rk) (sym e) (subst (λ js. IsInner ls js rk) (sym f) (record {
       some = some;
       most = most;
       room = room;
       children = subst (λ (n : ℕ). AreChildren n ls ks) (sym (depth_level d ks some c.level)) c;
     }))
 
-pub inner_from : (d : ℕ) (ls : List Separator) (ks : List Shape) (L : List Separator) (K : List Shape) (rl rk : ℕ) →
-    L ≡ ls → K ≡ ks → AreFilledChildren d ls ks → 0 < length ks → length ks ≤ 32 → (32 ≤ rl) × (32 ≤ rk) →
-    IsInner L K rl rk
-inner_from d ls ks L K rl rk e f c some most room =
-    inner_with d ls ks L K rl rk e f (record {
+pub inner_from : (d : ℕ) (ls : List Separator) (ks : List Shape) (L : List Separator) (K : List Shape) (rk : ℕ) →
+    L ≡ ls → K ≡ ks → AreFilledChildren d ls ks → 0 < length ks → length ks ≤ 32 → 32 ≤ rk → IsInner L K rk
+inner_from d ls ks L K rk e f c some most room =
+    inner_with d ls ks L K rk e f (record {
       level = c.level;
       filled = (λ _. c.filled);
       parted = c.parted;

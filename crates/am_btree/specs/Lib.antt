@@ -1,7 +1,9 @@
+pub mod Fronts
 pub mod Grown
 pub mod Splits
 pub mod Nodes
 pub mod NodesFall
+pub mod SeparatorCode
 pub mod Separators
 pub mod Shape
 pub mod Seek

@@ -53,13 +53,12 @@ pub record AreChildren (depth : ℕ) (separators : List Separator) (children : L
   pub rising : IsRising (all_entries children)
 
 -- an inner node; room for 32 was got once
-pub record IsInner (separators : List Separator) (kids : List Shape) (room_separators room_kids : ℕ) : Type 0 where
+pub record IsInner (separators : List Separator) (kids : List Shape) (room_kids : ℕ) : Type 0 where
   pub some : 0 < length kids
   pub most : length kids ≤ 32
-  pub room : (32 ≤ room_separators) × (32 ≤ room_kids)
+  pub room : 32 ≤ room_kids
   pub children : AreChildren (depth_of kids) separators kids
 
 abbrev pub IsTree : Node → Type 0
 IsTree (Leaf l) = (length l.entries ≤ 32) × (IsRising l.entries × (64 ≤ l.value_room))
-IsTree (Inner separators children) = IsInner separators.items children.items (vec_capacity separators)
-    (vec_capacity children)
+IsTree (Inner separators children) = IsInner separators children.items (vec_capacity children)

@@ -4,7 +4,6 @@ ghost use Rattle.std.specs.Prelude.{◌≡◌, ◌<◌, ◌^◌};
 ghost use Rattle.am_list.specs.Entries.{find, IsRising};
 
 use crate::node::{Node, Subtree};
-use crate::separator::child_for;
 use am_record::{Key, Value};
 
 impl Subtree {
@@ -15,7 +14,7 @@ impl Subtree {
         match &self.node {
             Node::Leaf(_) => 0,
             Node::Inner(separators, children) => {
-                let at = child_for(separators, part, key);
+                let at = separators.child_for(part, key);
                 children[at].depth_at(part, key).saturating_add(1)
             }
         }
@@ -35,7 +34,7 @@ impl Subtree {
                 Some((e.value, e.is_ghost))
             }
             Node::Inner(separators, children) => {
-                let at = child_for(separators, part, key);
+                let at = separators.child_for(part, key);
                 children[at].find(part, key)
             }
         }

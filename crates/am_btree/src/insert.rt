@@ -13,7 +13,8 @@ ghost use Rattle.am_btree.specs.Splits.{lower_size};
 
 use crate::node::{Node, Subtree};
 use crate::room::{ROOM, keep_of, put, split_put};
-use crate::separator::{Separator, lower, reached};
+use crate::separator::Separator;
+use crate::separators::Separators;
 use crate::spare::{Spare, spares};
 use am_leaf::RawLeaf;
 use am_record::{Entry, Key, NoMemory};
@@ -81,22 +82,22 @@ impl Subtree {
         let Some(spare) = spares.pop() else {
             unreachable!()
         };
-        let mut separators = spare.separators;
-        let mut children = spare.children;
         let node = mem::replace(
             &mut self.node,
-            Node::Inner(Vec::new(alloc), Vec::new(alloc)),
+            Node::Inner(spare.separators, spare.children),
         );
         let left = Subtree { node };
         let least = Separator {
             part: 0,
             key: Key::least(),
         };
-        put(&mut separators, 0, least);
-        put(&mut separators, 1, separator);
-        put(&mut children, 0, left);
-        put(&mut children, 1, right);
-        self.node = Node::Inner(separators, children);
+        let Node::Inner(separators, children) = &mut self.node else {
+            unreachable!()
+        };
+        separators.put(0, least);
+        separators.put(1, separator);
+        put(children, 0, left);
+        put(children, 1, right);
         Ok(())
     }
 
@@ -118,11 +119,11 @@ impl Subtree {
             Node::Leaf(leaf) => insert_in_leaf(alloc, leaf, entry, wanted),
             Node::Inner(separators, children) => {
                 let more = wanted_below(children.len(), wanted)?;
-                let reach = reached(separators, entry.part, entry.key);
+                let reach = separators.reached(entry.part, entry.key);
                 let at = reach.saturating_sub(1);
                 let child = &mut children[at];
                 let grown = child.insert_below(alloc, entry, more)?;
-                lower(separators, reach, entry);
+                separators.lower(reach, entry);
                 let Some(split) = grown else {
                     return Ok(None);
                 };
@@ -230,20 +231,19 @@ fn split_insert(leaf: &mut RawLeaf, keep: usize, at: usize, entry: &Entry, upper
 // Adds a child, and splits the node where it is full.
 #[inline(never)]
 fn add_child(
-    separators: &mut Vec<Separator>,
+    separators: &mut Separators,
     children: &mut Vec<Subtree>,
     at: usize,
     split: Split,
 ) -> Option<Split>
     requires children { AreFilledChildren (depth_of children.old.items)
-        (insert separators.old.items at split.separator) (insert children.old.items at split.right) }
-    requires pairs { vec_len separators.old ≡ vec_len children.old }
+        (insert separators.old at split.separator) (insert children.old.items at split.right) }
+    requires pairs { length separators.old ≡ vec_len children.old }
     requires in_range { at ≤ vec_len children.old }
     requires most { vec_len children.old ≤ 32 }
-    requires room { (32 ≤ vec_capacity separators.old) × (32 ≤ vec_capacity children.old) }
+    requires room { 32 ≤ vec_capacity children.old }
     requires spares { vec_len children.old ≡ 32 → 0 < vec_len split.spares }
-    ensures inner { IsInner separators.new.items children.new.items (vec_capacity separators.new)
-        (vec_capacity children.new) }
+    ensures inner { IsInner separators.new children.new.items (vec_capacity children.new) }
     ensures holds { NowHolds (depth_of children.old.items) (all_entries (insert children.old.items at split.right))
         (inner_shape children.new.items) result }
     ensures spares { IfSome result (λ s. (vec_len children.old ≡ 32) × (vec_len s.spares + 1 ≡ vec_len split.spares)) }
@@ -254,7 +254,7 @@ fn add_child(
         mut spares,
     } = split;
     if children.len() < ROOM {
-        put(separators, at, separator);
+        separators.put(at, separator);
         put(children, at, right);
         return None;
     }
@@ -264,9 +264,9 @@ fn add_child(
     let mut upper_separators = spare.separators;
     let mut upper_children = spare.children;
     let keep = keep_of(at);
-    split_put(separators, keep, at, separator, &mut upper_separators);
+    separators.split_put(keep, at, separator, &mut upper_separators);
     split_put(children, keep, at, right, &mut upper_children);
-    let first = upper_separators[0];
+    let first = upper_separators.get(0);
     Some(Split {
         separator: first,
         right: Subtree {

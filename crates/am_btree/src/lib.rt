@@ -19,6 +19,7 @@ mod read;
 mod remove;
 mod room;
 mod separator;
+mod separators;
 mod set;
 mod spare;
 

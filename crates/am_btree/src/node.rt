@@ -3,7 +3,7 @@
 ghost use Rattle.std.specs.Prelude.{◌≡◌, [], IfOk};
 ghost use Rattle.am_list.specs.Entries.{IsRising};
 
-use crate::separator::Separator;
+use crate::separators::Separators;
 use am_leaf::RawLeaf;
 use am_record::{MAX_VALUE_LEN, NoMemory};
 use std::alloc::Global;
@@ -22,7 +22,7 @@ pub(crate) struct Subtree {
 pub(crate) enum Node {
     Leaf(RawLeaf),
     /// The children, and for each the place at which it begins.
-    Inner(Vec<Separator>, Vec<Subtree>),
+    Inner(Separators, Vec<Subtree>),
 }
 
 impl Model for Subtree {

@@ -7,7 +7,6 @@ ghost use Rattle.am_list.specs.Places.{IsUpperBound};
 ghost use Rattle.am_btree.specs.Seek.{first_from, all_such, IsStart};
 
 use crate::node::{Node, Subtree};
-use crate::separator::child_for;
 use am_leaf::RawLeaf;
 use am_list::Batch;
 use am_record::{Entry, Key, NoMemory, Range, Value};
@@ -30,7 +29,7 @@ impl Subtree {
         match &self.node {
             Node::Leaf(leaf) => seek_in_leaf(leaf, part, key, start),
             Node::Inner(separators, children) => {
-                let at = child_for(separators, part, key);
+                let at = separators.child_for(part, key);
                 if let Some(entry) = children[at].seek(part, key, start) {
                     return Some(entry);
                 }
@@ -60,7 +59,7 @@ impl Subtree {
         match &self.node {
             Node::Leaf(leaf) => next_ghost_in_leaf(leaf, part, key),
             Node::Inner(separators, children) => {
-                let at = child_for(separators, part, key);
+                let at = separators.child_for(part, key);
                 if let Some(entry) = children[at].next_ghost(part, key) {
                     return Some(entry);
                 }
@@ -100,8 +99,8 @@ impl Subtree {
             Node::Leaf(leaf) => read_on_in_leaf(leaf, part, key, start, batch),
             Node::Inner(separators, children) => {
                 prove!(batch.entries().len() <= 16);
-                for at in child_for(separators, part, key)..children.len() {
-                    if batch.is_full() || separators[at].part > part {
+                for at in separators.child_for(part, key)..children.len() {
+                    if batch.is_full() || separators.get(at).part > part {
                         return;
                     }
                     children[at].read_on(part, key, start, batch);
@@ -132,8 +131,10 @@ impl Subtree {
         match &self.node {
             Node::Leaf(leaf) => copy_rows_in_leaf(leaf, part, range, max, rows),
             Node::Inner(separators, children) => {
-                for at in child_for(separators, part, range.lo())..children.len() {
-                    if rows.len() as u64 >= max || !separators[at].is_reached(part, range.hi()) {
+                for at in separators.child_for(part, range.lo())..children.len() {
+                    if rows.len() as u64 >= max
+                        || !separators.get(at).is_reached(part, range.hi())
+                    {
                         return Ok(());
                     }
                     children[at].copy_rows(part, range, max, rows)?;

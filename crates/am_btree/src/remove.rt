@@ -5,7 +5,6 @@ ghost use Rattle.am_list.specs.Entries.{find, entry_at, remove_from, IsRising};
 
 use crate::node::{Node, Subtree};
 use crate::room::take_out;
-use crate::separator::child_for;
 use am_leaf::RawLeaf;
 use am_record::{Entry, Key};
 
@@ -34,12 +33,12 @@ impl Subtree {
         match &mut self.node {
             Node::Leaf(leaf) => remove_from_leaf(leaf, part, key, most),
             Node::Inner(separators, children) => {
-                let at = child_for(separators, part, key);
+                let at = separators.child_for(part, key);
                 let removed = children[at].remove(part, key, most);
                 if !removed.is_empty || children.len() == 1 {
                     return removed;
                 }
-                take_out(separators, at);
+                separators.take_out(at);
                 take_out(children, at);
                 Removed {
                     entry: removed.entry,

@@ -1,13 +1,16 @@
-//! Where the children of a node begin.
+//! Where a child of a node begins.
 
-ghost use Rattle.std.specs.Prelude.{◌≡◌, ◌<◌, length, vec_len, vec_capacity};
-ghost use Rattle.am_btree.specs.Separators.{IsReach, IsChildFor, SeparatorsRise, lowered};
+ghost use Rattle.std.specs.Prelude.{◌≡◌};
+ghost use Rattle.am_btree.specs.Separators.{IsReach, SeparatorsRise};
 
 use am_record::{Entry, Key};
 use std::cmp::Ordering;
 
 /// How many separators a long step of a search passes.
 const STEP: usize = 8;
+
+/// All partitions from this one on have one front.
+const LAST_PART: u32 = 65_535;
 
 /// The least place that a child may hold.
 #[derive(Clone, Copy, Debug)]
@@ -19,6 +22,7 @@ pub(crate) struct Separator {
 impl Separator {
     ghost use Rattle.std.specs.Ordering.{is_le};
     ghost use Rattle.am_record.specs.EntryOrder.{place_cmp};
+    ghost use Rattle.am_btree.specs.Fronts.{place_front};
     ghost use Rattle.am_btree.specs.Separators.{separator_for, separator_place};
 
     /// The place of the entry.
@@ -28,6 +32,19 @@ impl Separator {
         Separator {
             part: entry.part,
             key: entry.key,
+        }
+    }
+
+    /// A number that follows the order of places: where one place's front is below another's, so is the place. Where
+    /// they are equal, it says nothing.
+    #[tactic(auto, unfolding(crate::specs::Fronts::place_front))]
+    pub(crate) fn front(&self) -> u64
+        ensures { result ≡ place_front (separator_place self.now) }
+    {
+        if self.part < LAST_PART {
+            u64::from(self.part) * (1 << 48) + self.key.front() / (1 << 16)
+        } else {
+            u64::MAX
         }
     }
 
@@ -46,9 +63,9 @@ impl Separator {
     }
 }
 
-/// How many children begin at or below the place. The last one is asked first, since a load goes there. Then the search
-/// takes long steps and short ones, each to a separator that doesn't depend on what the one before it was: so several
-/// of them come from memory at once, where a search by halves would wait for each.
+/// How many separators stand at or below the place. The last one is asked first, since a load goes there. Then the
+/// search takes long steps and short ones, each to a separator that doesn't depend on what the one before it was: so
+/// several of them come from memory at once, where a search by halves would wait for each.
 pub(crate) fn reached(separators: &[Separator], part: u32, key: Key) -> usize
     requires { SeparatorsRise separators.now }
     ensures { IsReach separators.now part key result }
@@ -65,25 +82,4 @@ pub(crate) fn reached(separators: &[Separator], part: u32, key: Key) -> usize
         reach += 1;
     }
     reach
-}
-
-/// The child in which the place is to be looked for: the last one that begins at or below it, and
-/// the first one where none does.
-pub(crate) fn child_for(separators: &[Separator], part: u32, key: Key) -> usize
-    requires rising { SeparatorsRise separators.now }
-    requires some { 0 < length separators.now }
-    ensures { IsChildFor separators.now part key result }
-{
-    reached(separators, part, key).saturating_sub(1)
-}
-
-/// Lets the first child begin at the entry, where none begins at or below it.
-pub(crate) fn lower(separators: &mut Vec<Separator>, reach: usize, entry: &Entry)
-    requires { 0 < vec_len separators.old }
-    ensures items { separators.new.items ≡ lowered separators.old.items reach entry.now }
-    ensures capacity { vec_capacity separators.new ≡ vec_capacity separators.old }
-{
-    if reach == 0 {
-        separators[0] = Separator::of(entry);
-    }
 }

@@ -5,7 +5,6 @@ ghost use Rattle.am_list.specs.Entries.{find, set_entry, IsRising};
 ghost use Rattle.am_list.specs.Content.{live_value};
 
 use crate::node::{Node, Subtree};
-use crate::separator::child_for;
 use am_leaf::RawLeaf;
 use am_record::{Key, Value};
 
@@ -21,7 +20,7 @@ impl Subtree {
         match &mut self.node {
             Node::Leaf(leaf) => set_in_leaf(leaf, part, key, value, is_ghost),
             Node::Inner(separators, children) => {
-                let at = child_for(separators, part, key);
+                let at = separators.child_for(part, key);
                 children[at].set(part, key, value, is_ghost)
             }
         }

@@ -4,16 +4,16 @@ ghost use Rattle.std.specs.Prelude.{◌≡◌, ◌≤◌, [], IfOk, vec_len, vec
 
 use crate::node::Subtree;
 use crate::room::with_room;
-use crate::separator::Separator;
+use crate::separators::Separators;
 use std::alloc::{AllocError, Global};
 
 /// Room for an inner node.
 #[derive(Drop)]
 pub(crate) struct Spare {
-    pub(crate) separators: Vec<Separator>,
+    pub(crate) separators: Separators,
     pub(crate) children: Vec<Subtree>,
-    ghost empty: { (separators.items ≡ []) × (children.items ≡ []) },
-    ghost room: { (32 ≤ vec_capacity separators) × (32 ≤ vec_capacity children) },
+    ghost empty: { (separators ≡ []) × (children.items ≡ []) },
+    ghost room: { 32 ≤ vec_capacity children },
 }
 
 /// Room for n inner nodes.
@@ -23,7 +23,7 @@ pub(crate) fn spares(alloc: Global, n: usize) -> Result<Vec<Spare>, AllocError>
     let mut all = Vec::new(alloc);
     while all.len() < n {
         all.push(Spare {
-            separators: with_room(alloc)?,
+            separators: Separators::with_room(alloc)?,
             children: with_room(alloc)?,
         })?;
     }

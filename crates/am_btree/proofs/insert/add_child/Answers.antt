@@ -15,16 +15,14 @@ use Rattle.am_btree.proofs.insert.add_child.Goals as goal
 pub returns-then-len-lt-ROOM-clause-inner : goal.returns-then-len-lt-ROOM-clause-inner
 returns-then-len-lt-ROOM-clause-inner c =
     let i = c.args.at in let s = c.args.split in
-    let ls = insert c.args.separators.now.items i s.separator in let ks = insert c.args.children.now.items i s.right in
+    let ls = insert c.args.separators.now i s.separator in let ks = insert c.args.children.now.items i s.right in
     let d = depth_of c.args.children.now.items in
     let count = c.args.children.now.ok.0 in
     let long = length-insert c.args.children.now.items i s.right (omega (arith, c.requires.in_range)) in
-    inner_from d ls ks c.put.new.v.items c.put-then-len-lt-ROOM.new.v.items _ _ c.put.ensures.items
+    inner_from d ls ks c.put.new.self c.put-then-len-lt-ROOM.new.v.items _ c.put.ensures
     c.put-then-len-lt-ROOM.ensures.items c.requires.children
-    (omega arith) (omega (arith, c.if-len-lt-ROOM.true, c.len.ensures)) (
-      omega (arith, c.put.ensures.capacity, c.requires.room),
-      omega (arith, c.put-then-len-lt-ROOM.ensures.capacity, c.requires.room),
-    )
+    (omega arith) (omega (arith, c.if-len-lt-ROOM.true, c.len.ensures))
+    (omega (arith, c.put-then-len-lt-ROOM.ensures.capacity, c.requires.room))
 
 pub returns-then-len-lt-ROOM-clause-holds : goal.returns-then-len-lt-ROOM-clause-holds
 returns-then-len-lt-ROOM-clause-holds c =
@@ -39,39 +37,34 @@ returns-then-len-lt-ROOM-clause-holds c =
 pub invariant_of-result : goal.invariant_of-result
 invariant_of-result c =
     let i = c.args.at in let s = c.args.split in let m = lower_size c.keep_of-keep.result i in
-    let ls = insert c.args.separators.now.items i s.separator in let ks = insert c.args.children.now.items i s.right in
+    let ls = insert c.args.separators.now i s.separator in let ks = insert c.args.children.now.items i s.right in
     let d = depth_of c.args.children.now.items in
     let count = c.args.children.now.ok.0 in let range = size_range c.keep_of-keep.result i c.keep_of-keep.ensures.keeps
     c.keep_of-keep.ensures.room in
     let long = length-insert c.args.children.now.items i s.right (omega (arith, c.requires.in_range)) in
     let cut = length-drop m ks in
-    inner_from d (drop m ls) (drop m ks) c.split_put.new.upper.items c.split_put-2.new.upper.items _ _
+    inner_from d (drop m ls) (drop m ks) c.split_put.new.upper c.split_put-2.new.upper.items _
     c.split_put.ensures.back c.split_put-2.ensures.back (children_dropped m d ls ks c.requires.children)
-    (omega (arith, c.if-len-lt-ROOM.false, c.len.ensures)) (omega (arith, c.requires.most)) (
-      omega (arith, c.split_put.ensures.capacity, c.in-Some.spare.room),
-      omega (arith, c.split_put-2.ensures.capacity, c.in-Some.spare.room),
-    )
+    (omega (arith, c.if-len-lt-ROOM.false, c.len.ensures)) (omega (arith, c.requires.most))
+    (omega (arith, c.split_put-2.ensures.capacity, c.in-Some.spare.room))
 
 pub returns-clause-inner : goal.returns-clause-inner
 returns-clause-inner c =
     let i = c.args.at in let s = c.args.split in let m = lower_size c.keep_of-keep.result i in
-    let ls = insert c.args.separators.now.items i s.separator in let ks = insert c.args.children.now.items i s.right in
+    let ls = insert c.args.separators.now i s.separator in let ks = insert c.args.children.now.items i s.right in
     let d = depth_of c.args.children.now.items in
     let count = c.args.children.now.ok.0 in let range = size_range c.keep_of-keep.result i c.keep_of-keep.ensures.keeps
     c.keep_of-keep.ensures.room in
     let long = length-insert c.args.children.now.items i s.right (omega (arith, c.requires.in_range)) in
     let cut = length-take m ks in
-    inner_from d (take m ls) (take m ks) c.split_put.new.v.items c.split_put-2.new.v.items _ _ c.split_put.ensures.front
+    inner_from d (take m ls) (take m ks) c.split_put.new.self c.split_put-2.new.v.items _ c.split_put.ensures.front
     c.split_put-2.ensures.front (children_taken m d ls ks c.requires.children)
-    (omega arith) (omega arith) (
-      omega (arith, c.split_put.ensures.capacity, c.requires.room),
-      omega (arith, c.split_put-2.ensures.capacity, c.requires.room),
-    )
+    (omega arith) (omega arith) (omega (arith, c.split_put-2.ensures.capacity, c.requires.room))
 
 pub returns-clause-holds : goal.returns-clause-holds
 returns-clause-holds c =
     let i = c.args.at in let s = c.args.split in let m = lower_size c.keep_of-keep.result i in
-    let ls = insert c.args.separators.now.items i s.separator in let ks = insert c.args.children.now.items i s.right in
+    let ls = insert c.args.separators.now i s.separator in let ks = insert c.args.children.now.items i s.right in
     let d = depth_of c.args.children.now.items in
     let count = c.args.children.now.ok.0 in let range = size_range c.keep_of-keep.result i c.keep_of-keep.ensures.keeps
     c.keep_of-keep.ensures.room in
@@ -81,8 +74,8 @@ returns-clause-holds c =
     let all = c.requires.children in
     let lower = children_taken m d ls ks all in let upper = children_dropped m d ls ks all in
     let front = c.split_put-2.ensures.front in let back = c.split_put-2.ensures.back in
-    let first = c.index-first.result.now in
-    let low : first ≡ get_or ls m first = c.index-first.ensures ∙
+    let first = c.get-first.result in
+    let low : first ≡ get_or ls m first = c.get-first.ensures ∙
     ap (λ es. get_or es 0 first) c.split_put.ensures.back ∙ get_dropped m ls first in
     let apart = parted_cut m ls ks first all.parted all.filled (omega (arith, parted_lengths ls ks all.parted)) in
     record {

@@ -11,7 +11,7 @@ use Rattle.am_btree.proofs.node.Subtree.+fill_last.Goals.{in-Leaf, in-Inner}
 
 pub fill_last-requires : goal.fill_last-requires
 fill_last-requires t c =
-    let ls = c.in-Inner.field-0.items in let ks = c.in-Inner.children.items in let k = c.index_mut.result.now in
+    let ls = c.in-Inner.field-0 in let ks = c.in-Inner.children.items in let k = c.index_mut.result.now in
     let i = c.len-last.result - 1 in
     let inner = subst IsTree c.in-Inner.is c.self.invariant in
     let seen : c.args.self.now ≡ inner_shape ks = sym c.self.view_is ∙ ap shape_of c.in-Inner.is in
@@ -19,12 +19,12 @@ fill_last-requires t c =
     let some = subst (λ (s : Shape). 0 < length s.entries) seen c.requires.some in
     let rising = subst (λ (s : Shape). IsRising (s.entries ++ run_entries c.args.part c.args.pairs.now)) seen
     c.requires.rising in
-    let deep = one_below ls ks _ _ inner i k (omega arith) c.index_mut.ensures.value in
+    let deep = one_below ls ks _ inner i k (omega arith) c.index_mut.ensures.value in
     let falls : k.depth < c.args.self.now.depth = omega (arith, deep, ap (λ (s : Shape). s.depth) seen) in (
       search rules,
       (
-        last_some ls ks _ _ inner i k _ last c.index_mut.ensures.value some rising,
-        last_rises ls ks _ _ inner i k _ last c.index_mut.ensures.value some rising,
+        last_some ls ks _ inner i k _ last c.index_mut.ensures.value some rising,
+        last_rises ls ks _ inner i k _ last c.index_mut.ensures.value some rising,
       ),
     )
 
@@ -44,7 +44,7 @@ invariant_of-self t c = elim c.match-self.branch [
         ),
       )
   | in-Inner w ↦
-      let ls = w.in-Inner.field-0.items in let ks = w.in-Inner.children.items in let k = w.index_mut.result.now in
+      let ls = w.in-Inner.field-0 in let ks = w.in-Inner.children.items in let k = w.index_mut.result.now in
       let i = w.len-last.result - 1 in
       let inner = subst IsTree w.in-Inner.is c.self.invariant in
       let seen : c.args.self.now ≡ inner_shape ks = sym c.self.view_is ∙ ap shape_of w.in-Inner.is in
@@ -54,7 +54,7 @@ invariant_of-self t c = elim c.match-self.branch [
       (subst (λ (s : Shape). IsRising (s.entries ++ run_entries c.args.part c.args.pairs.now)) seen
       c.requires.rising) w.fill_last.result in
       let e = w.fill_last.ensures in
-      rw w.self-inside-is (more_inner ls ks _ _ inner i k _ last w.index_mut.ensures.value some rising
+      rw w.self-inside-is (more_inner ls ks _ inner i k _ last w.index_mut.ensures.value some rising
       w.fill_last.new.self e.depth e.entries)
 ]
 
@@ -66,7 +66,7 @@ returns-clause-entries t c = elim c.match-self.branch [
       sym (ap (λ (s : Shape). s.entries ++ run_entries c.args.part (take w.fill_leaf.result c.args.pairs.now))
       seen))
   | in-Inner w ↦
-      let ls = w.in-Inner.field-0.items in let ks = w.in-Inner.children.items in let k = w.index_mut.result.now in
+      let ls = w.in-Inner.field-0 in let ks = w.in-Inner.children.items in let k = w.index_mut.result.now in
       let i = w.len-last.result - 1 in
       let inner = subst IsTree w.in-Inner.is c.self.invariant in
       let seen : c.args.self.now ≡ inner_shape ks = sym c.self.view_is ∙ ap shape_of w.in-Inner.is in
@@ -76,7 +76,7 @@ returns-clause-entries t c = elim c.match-self.branch [
       (subst (λ (s : Shape). IsRising (s.entries ++ run_entries c.args.part c.args.pairs.now)) seen
       c.requires.rising) w.fill_last.result in
       let e = w.fill_last.ensures in
-      rw (w.result-is, w.self-inside-is) (more_entries ls ks _ _ inner i k _ last w.index_mut.ensures.value some rising
+      rw (w.result-is, w.self-inside-is) (more_entries ls ks _ inner i k _ last w.index_mut.ensures.value some rising
       w.fill_last.new.self e.depth e.entries
       ∙ sym (ap (λ (s : Shape). s.entries ++ run_entries c.args.part (take w.fill_last.result c.args.pairs.now)) seen))
 ]
@@ -87,7 +87,7 @@ returns-clause-depth t c = elim c.match-self.branch [
       let seen : c.args.self.now ≡ leaf_shape w.in-Leaf.leaf.entries = sym c.self.view_is ∙ ap shape_of w.in-Leaf.is in
       rw w.self-inside-is (sym (ap (λ (s : Shape). s.depth) seen))
   | in-Inner w ↦
-      let ls = w.in-Inner.field-0.items in let ks = w.in-Inner.children.items in let k = w.index_mut.result.now in
+      let ls = w.in-Inner.field-0 in let ks = w.in-Inner.children.items in let k = w.index_mut.result.now in
       let i = w.len-last.result - 1 in
       let inner = subst IsTree w.in-Inner.is c.self.invariant in
       let seen : c.args.self.now ≡ inner_shape ks = sym c.self.view_is ∙ ap shape_of w.in-Inner.is in
@@ -97,6 +97,6 @@ returns-clause-depth t c = elim c.match-self.branch [
       (subst (λ (s : Shape). IsRising (s.entries ++ run_entries c.args.part c.args.pairs.now)) seen
       c.requires.rising) w.fill_last.result in
       let e = w.fill_last.ensures in
-      rw w.self-inside-is (more_depth ls ks _ _ inner i k _ last w.index_mut.ensures.value some rising
+      rw w.self-inside-is (more_depth ls ks _ inner i k _ last w.index_mut.ensures.value some rising
       w.fill_last.new.self e.depth e.entries ∙ sym (ap (λ (s : Shape). s.depth) seen))
 ]

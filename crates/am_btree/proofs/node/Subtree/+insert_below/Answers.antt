@@ -1,11 +1,10 @@
 use Rattle.std.proofs.Common.{◌≡◌, ℕ, ◌+◌, ◌<◌, length, get_or, set, IfOk, OnOk, IfSome, IsSome, Option, None, Some}
-use Rattle.std.proofs.Common.{Err, vec_len, vec_capacity, sym, ap, ◌∙◌, subst, rules, arith}
+use Rattle.std.proofs.Common.{Err, vec_len, sym, ap, ◌∙◌, subst, rules, arith}
 use Rattle.std.specs.List.{insert}
 use Rattle.std.specs.Result.{IsErrAnd}
 use Rattle.am_btree.specs.declared.insert.Obstacle.TheVariants.{Taken}
 use Rattle.am_list.specs.Entries.{find, insert_entry}
 use Rattle.am_btree.specs.Shape.{Shape}
-use Rattle.am_btree.specs.Separators.{SeparatorsRise, IsReach}
 use Rattle.am_btree.specs.Nodes.{all_entries, depth_of, leaf_shape, inner_shape, shape_of, IsTree, IsInner}
 use Rattle.am_btree.specs.Nodes.{AreFilledChildren}
 use Rattle.am_btree.specs.Grown.{Grows, NowHolds}
@@ -25,36 +24,31 @@ if_some_map P Q f (Some x) h = f x h
 pub reached-reach-requires : goal.reached-reach-requires
 reached-reach-requires t c =
     let inner = subst IsTree c.in-Inner.is c.self.invariant in
-    subst SeparatorsRise (sym c.deref.ensures.value)
-    (children_rise c.in-Inner.separators.items c.in-Inner.children.items inner.children.parted inner.children.filled)
+    children_rise c.in-Inner.separators c.in-Inner.children.items inner.children.parted inner.children.filled
 
 pub index_mut-child-requires : goal.index_mut-child-requires
 index_mut-child-requires t c =
     let inner = subst IsTree c.in-Inner.is c.self.invariant in
-    let same = parted_lengths c.in-Inner.separators.items c.in-Inner.children.items inner.children.parted in
+    let same = parted_lengths c.in-Inner.separators c.in-Inner.children.items inner.children.parted in
     let some = inner.some in
     omega (
       arith,
       c.saturating_sub-at.ensures,
       c.reached-reach.ensures.in_range,
-      c.deref.ensures.len,
-      c.in-Inner.separators.ok.0,
       c.in-Inner.children.ok.0,
     )
 
 pub insert_below-requires : goal.insert_below-requires
 insert_below-requires t c =
-    let ls = c.in-Inner.separators.items in let ks = c.in-Inner.children.items in
+    let ls = c.in-Inner.separators in let ks = c.in-Inner.children.items in
     let k = c.index_mut-child.result.now in
     let inner = subst IsTree c.in-Inner.is c.self.invariant in
     let seen : c.args.self.now ≡ inner_shape ks = sym c.self.view_is ∙ ap shape_of c.in-Inner.is in
-    let lower = one_below ls ks _ _ inner c.saturating_sub-at.result k
+    let lower = one_below ls ks _ inner c.saturating_sub-at.result k
     (omega (
       arith,
       c.saturating_sub-at.ensures,
       c.reached-reach.ensures.in_range,
-      c.deref.ensures.len,
-      c.in-Inner.separators.ok.0,
       parted_lengths ls ks inner.children.parted,
       inner.some,
     ))
@@ -64,11 +58,11 @@ insert_below-requires t c =
 
 pub returns-in_err-grown-in-Inner-clause-taken : goal.returns-in_err-grown-in-Inner-clause-taken
 returns-in_err-grown-in-Inner-clause-taken t c =
-    let x = c.args.entry.now in let ls = c.in-Inner.separators.items in let ks = c.in-Inner.children.items in
+    let x = c.args.entry.now in let ls = c.in-Inner.separators in let ks = c.in-Inner.children.items in
     let n = c.reached-reach.result in
     let inner = subst IsTree c.in-Inner.is c.self.invariant in
     let seen : c.args.self.now ≡ inner_shape ks = sym c.self.view_is ∙ ap shape_of c.in-Inner.is in
-    let r = subst (λ ms. IsReach ms x.part x.key n) c.deref.ensures.value c.reached-reach.ensures in
+    let r = c.reached-reach.ensures in
     let at_is : c.saturating_sub-at.result ≡ before n = c.saturating_sub-at.ensures ∙ sym (before_is n) in
     let k = c.index_mut-child.result.now in
     let here : k ≡ get_or ks (before n) k = c.index_mut-child.ensures.value ∙ ap (λ (j : ℕ). get_or ks j k) at_is in
@@ -84,11 +78,11 @@ returns-in_err-grown-in-Inner-clause-taken t c =
 
 pub returns-in_default-clause-absent : goal.returns-in_default-clause-absent
 returns-in_default-clause-absent t c =
-    let x = c.args.entry.now in let ls = c.in-Inner.separators.items in let ks = c.in-Inner.children.items in
+    let x = c.args.entry.now in let ls = c.in-Inner.separators in let ks = c.in-Inner.children.items in
     let n = c.reached-reach.result in
     let inner = subst IsTree c.in-Inner.is c.self.invariant in
     let seen : c.args.self.now ≡ inner_shape ks = sym c.self.view_is ∙ ap shape_of c.in-Inner.is in
-    let r = subst (λ ms. IsReach ms x.part x.key n) c.deref.ensures.value c.reached-reach.ensures in
+    let r = c.reached-reach.ensures in
     let at_is : c.saturating_sub-at.result ≡ before n = c.saturating_sub-at.ensures ∙ sym (before_is n) in
     let k = c.index_mut-child.result.now in
     let here : k ≡ get_or ks (before n) k = c.index_mut-child.ensures.value ∙ ap (λ (j : ℕ). get_or ks j k) at_is in
@@ -104,11 +98,11 @@ returns-clause-absent t c = elim c.match-self.branch [
       rw w.result-is (subst (λ (s : Shape). OnOk w.insert_in_leaf.result
       (find s.entries c.args.entry.now.part c.args.entry.now.key ≡ None)) (sym seen) w.insert_in_leaf.ensures.absent)
   | in-Inner+in_ok-more-in-Inner+in_ok-grown-in-Inner+in-Some w ↦
-      let x = c.args.entry.now in let ls = w.in-Inner.separators.items in let ks = w.in-Inner.children.items in
+      let x = c.args.entry.now in let ls = w.in-Inner.separators in let ks = w.in-Inner.children.items in
       let n = w.reached-reach.result in
       let inner = subst IsTree w.in-Inner.is c.self.invariant in
       let seen : c.args.self.now ≡ inner_shape ks = sym c.self.view_is ∙ ap shape_of w.in-Inner.is in
-      let r = subst (λ ms. IsReach ms x.part x.key n) w.deref.ensures.value w.reached-reach.ensures in
+      let r = w.reached-reach.ensures in
       let at_is : w.saturating_sub-at.result ≡ before n = w.saturating_sub-at.ensures ∙ sym (before_is n) in
       let k = w.index_mut-child.result.now in
       let here : k ≡ get_or ks (before n) k = w.index_mut-child.ensures.value ∙ ap (λ (j : ℕ). get_or ks j k) at_is in
@@ -120,11 +114,11 @@ returns-clause-absent t c = elim c.match-self.branch [
 
 pub invariant_of-self-in_default : goal.invariant_of-self-in_default
 invariant_of-self-in_default t c =
-    let x = c.args.entry.now in let ls = c.in-Inner.separators.items in let ks = c.in-Inner.children.items in
+    let x = c.args.entry.now in let ls = c.in-Inner.separators in let ks = c.in-Inner.children.items in
     let n = c.reached-reach.result in let d = depth_of ks in
     let inner = subst IsTree c.in-Inner.is c.self.invariant in
     let seen : c.args.self.now ≡ inner_shape ks = sym c.self.view_is ∙ ap shape_of c.in-Inner.is in
-    let r = subst (λ ms. IsReach ms x.part x.key n) c.deref.ensures.value c.reached-reach.ensures in
+    let r = c.reached-reach.ensures in
     let at_is : c.saturating_sub-at.result ≡ before n = c.saturating_sub-at.ensures ∙ sym (before_is n) in
     let k = c.index_mut-child.result.now in
     let here : k ≡ get_or ks (before n) k = c.index_mut-child.ensures.value ∙ ap (λ (j : ℕ). get_or ks j k) at_is in
@@ -135,20 +129,17 @@ invariant_of-self-in_default t c =
     let k' = c.insert_below.new.self in
     let h = subst (λ g. NowHolds k.depth (insert_entry k.entries x) k' g) c.in_default.is
     c.in_ok-grown-in-Inner.ensures.ok.0 in
-    let cap = c.lower.ensures.capacity in
-    subst (λ (j : ℕ). IsInner c.lower.new.separators.items (set ks j k') (vec_capacity c.lower.new.separators)
-    c.in-Inner.children.cap) (sym at_is)
-    (one_inner x d ls ks n k inner.children inner.some r absent here k' h.0 h.1 c.lower.new.separators.items
-    c.lower.ensures.items (vec_capacity c.lower.new.separators) c.in-Inner.children.cap
-    (omega (arith, cap, inner.room.0), inner.room.1) inner.most)
+    subst (λ (j : ℕ). IsInner c.lower.new.self (set ks j k') c.in-Inner.children.cap) (sym at_is)
+    (one_inner x d ls ks n k inner.children inner.some r absent here k' h.0 h.1 c.lower.new.self c.lower.ensures
+    c.in-Inner.children.cap inner.room inner.most)
 
 pub returns-in_default-clause-ok : goal.returns-in_default-clause-ok
 returns-in_default-clause-ok t c =
-    let x = c.args.entry.now in let ls = c.in-Inner.separators.items in let ks = c.in-Inner.children.items in
+    let x = c.args.entry.now in let ls = c.in-Inner.separators in let ks = c.in-Inner.children.items in
     let n = c.reached-reach.result in let d = depth_of ks in
     let inner = subst IsTree c.in-Inner.is c.self.invariant in
     let seen : c.args.self.now ≡ inner_shape ks = sym c.self.view_is ∙ ap shape_of c.in-Inner.is in
-    let r = subst (λ ms. IsReach ms x.part x.key n) c.deref.ensures.value c.reached-reach.ensures in
+    let r = c.reached-reach.ensures in
     let at_is : c.saturating_sub-at.result ≡ before n = c.saturating_sub-at.ensures ∙ sym (before_is n) in
     let k = c.index_mut-child.result.now in
     let here : k ≡ get_or ks (before n) k = c.index_mut-child.ensures.value ∙ ap (λ (j : ℕ). get_or ks j k) at_is in
@@ -173,11 +164,11 @@ returns-in_default-clause-ok t c =
 
 pub add_child-requires-clause-children : goal.add_child-requires-clause-children
 add_child-requires-clause-children t c =
-    let x = c.args.entry.now in let ls = c.in-Inner.separators.items in let ks = c.in-Inner.children.items in
+    let x = c.args.entry.now in let ls = c.in-Inner.separators in let ks = c.in-Inner.children.items in
     let n = c.reached-reach.result in let d = depth_of ks in
     let inner = subst IsTree c.in-Inner.is c.self.invariant in
     let seen : c.args.self.now ≡ inner_shape ks = sym c.self.view_is ∙ ap shape_of c.in-Inner.is in
-    let r = subst (λ ms. IsReach ms x.part x.key n) c.deref.ensures.value c.reached-reach.ensures in
+    let r = c.reached-reach.ensures in
     let at_is : c.saturating_sub-at.result ≡ before n = c.saturating_sub-at.ensures ∙ sym (before_is n) in
     let k = c.index_mut-child.result.now in
     let here : k ≡ get_or ks (before n) k = c.index_mut-child.ensures.value ∙ ap (λ (j : ℕ). get_or ks j k) at_is in
@@ -189,29 +180,28 @@ add_child-requires-clause-children t c =
     let h = subst (λ g. NowHolds k.depth (insert_entry k.entries x) k' g) c.in-Some.is
     c.in_ok-grown-in-Inner.ensures.ok.0 in
     subst (λ (j : ℕ). AreFilledChildren (depth_of (set ks j k'))
-    (insert c.lower.new.separators.items (j + 1) s.separator) (insert (set ks j k') (j + 1) s.right)) (sym at_is)
-    (two_children x d ls ks n k inner.children inner.some r absent here k' s h c.lower.new.separators.items
-    c.lower.ensures.items)
+    (insert c.lower.new.self (j + 1) s.separator) (insert (set ks j k') (j + 1) s.right)) (sym at_is)
+    (two_children x d ls ks n k inner.children inner.some r absent here k' s h c.lower.new.self
+    c.lower.ensures)
 
 pub add_child-requires-clause-pairs : goal.add_child-requires-clause-pairs
 add_child-requires-clause-pairs t c =
     let inner = subst IsTree c.in-Inner.is c.self.invariant in
     omega (
       arith,
-      parted_lengths c.in-Inner.separators.items c.in-Inner.children.items inner.children.parted,
-      ap length c.lower.ensures.items,
-      length_lowered c.in-Inner.separators.items c.reached-reach.result c.args.entry.now,
-      c.lower.new.separators.ok.0,
+      parted_lengths c.in-Inner.separators c.in-Inner.children.items inner.children.parted,
+      ap length c.lower.ensures,
+      length_lowered c.in-Inner.separators c.reached-reach.result c.args.entry.now,
       c.in-Inner.children.ok.0,
     )
 
 pub add_child-requires-clause-in_range : goal.add_child-requires-clause-in_range
 add_child-requires-clause-in_range t c =
-    let x = c.args.entry.now in let ls = c.in-Inner.separators.items in let ks = c.in-Inner.children.items in
+    let x = c.args.entry.now in let ls = c.in-Inner.separators in let ks = c.in-Inner.children.items in
     let n = c.reached-reach.result in let d = depth_of ks in
     let inner = subst IsTree c.in-Inner.is c.self.invariant in
     let seen : c.args.self.now ≡ inner_shape ks = sym c.self.view_is ∙ ap shape_of c.in-Inner.is in
-    let r = subst (λ ms. IsReach ms x.part x.key n) c.deref.ensures.value c.reached-reach.ensures in
+    let r = c.reached-reach.ensures in
     let at_is : c.saturating_sub-at.result ≡ before n = c.saturating_sub-at.ensures ∙ sym (before_is n) in
     let k = c.index_mut-child.result.now in
     let here : k ≡ get_or ks (before n) k = c.index_mut-child.ensures.value ∙ ap (λ (j : ℕ). get_or ks j k) at_is in
@@ -230,11 +220,11 @@ returns-clause-ok t c = elim c.match-self.branch [
       (Grows s (leaf_shape w.insert_in_leaf.new.leaf.entries) c.args.entry.now c.args.wanted)) (sym seen)
       w.insert_in_leaf.ensures.ok)
   | in-Inner+in_ok-more-in-Inner+in_ok-grown-in-Inner+in-Some w ↦
-      let x = c.args.entry.now in let ls = w.in-Inner.separators.items in let ks = w.in-Inner.children.items in
+      let x = c.args.entry.now in let ls = w.in-Inner.separators in let ks = w.in-Inner.children.items in
       let n = w.reached-reach.result in let d = depth_of ks in
       let inner = subst IsTree w.in-Inner.is c.self.invariant in
       let seen : c.args.self.now ≡ inner_shape ks = sym c.self.view_is ∙ ap shape_of w.in-Inner.is in
-      let r = subst (λ ms. IsReach ms x.part x.key n) w.deref.ensures.value w.reached-reach.ensures in
+      let r = w.reached-reach.ensures in
       let at_is : w.saturating_sub-at.result ≡ before n = w.saturating_sub-at.ensures ∙ sym (before_is n) in
       let k = w.index_mut-child.result.now in
       let here : k ≡ get_or ks (before n) k = w.index_mut-child.ensures.value ∙ ap (λ (j : ℕ). get_or ks j k) at_is in

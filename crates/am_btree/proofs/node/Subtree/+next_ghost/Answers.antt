@@ -1,6 +1,5 @@
 use Rattle.std.proofs.Common.{◌≡◌, ◌+◌, ◌<◌, List, length, drop, sym, ap, ◌∙◌, subst, rules, arith}
 use Rattle.am_list.specs.Entries.{next_ghost}
-use Rattle.am_btree.specs.Separators.{SeparatorsRise, IsChildFor}
 use Rattle.am_btree.specs.Shape.{Shape}
 use Rattle.am_btree.specs.Nodes.{all_entries, shape_of, depth_of, IsTree, inner_shape}
 use Rattle.am_list.proofs.Searches.{whole_rest}
@@ -12,17 +11,34 @@ use Rattle.am_btree.proofs.node.Subtree.+next_ghost.Goals as goal
 pub child_for-at-requires-clause-rising : goal.child_for-at-requires-clause-rising
 child_for-at-requires-clause-rising t c =
     let inner = subst IsTree c.in-Inner.is c.self.invariant in
-    subst SeparatorsRise (sym c.deref.ensures.value) (they_rise c.in-Inner.separators.items c.in-Inner.children.items _
-    _ inner)
+    they_rise c.in-Inner.separators c.in-Inner.children.items _ inner
 
 pub child_for-at-requires-clause-some : goal.child_for-at-requires-clause-some
 child_for-at-requires-clause-some t c =
     let inner = subst IsTree c.in-Inner.is c.self.invariant in
     omega (
       arith,
-      some_separators c.in-Inner.separators.items c.in-Inner.children.items _ _ inner,
-      c.in-Inner.separators.ok.0,
-      c.deref.ensures.len,
+      some_separators c.in-Inner.separators c.in-Inner.children.items _ inner,
+    )
+
+pub overflow_add-child-items : goal.overflow_add-child-items
+overflow_add-child-items t c =
+    let inner = subst IsTree c.in-Inner.is c.self.invariant in
+    omega (
+      arith,
+      as_many c.in-Inner.separators c.in-Inner.children.items _ inner,
+      c.child_for-at.ensures.in_range,
+      inner.most,
+    )
+
+pub offset_bounds-deref-at : goal.offset_bounds-deref-at
+offset_bounds-deref-at t c =
+    let inner = subst IsTree c.in-Inner.is c.self.invariant in
+    omega (
+      arith,
+      as_many c.in-Inner.separators c.in-Inner.children.items _ inner,
+      c.child_for-at.ensures.in_range,
+      inner.most,
     )
 
 pub index-requires : goal.index-requires
@@ -30,31 +46,29 @@ index-requires t c =
     let inner = subst IsTree c.in-Inner.is c.self.invariant in
     omega (
       arith,
-      as_many c.in-Inner.separators.items c.in-Inner.children.items _ _ inner,
+      as_many c.in-Inner.separators c.in-Inner.children.items _ inner,
       c.child_for-at.ensures.in_range,
-      c.deref.ensures.len,
-      c.in-Inner.separators.ok.0,
       c.in-Inner.children.ok.0,
     )
 
 pub next_ghost-requires : goal.next_ghost-requires
 next_ghost-requires t c =
-    let ls = c.in-Inner.separators.items in let ks = c.in-Inner.children.items in let at = c.child_for-at.result in
+    let ls = c.in-Inner.separators in let ks = c.in-Inner.children.items in let at = c.child_for-at.result in
     let k = c.index.result.now in
     let inner = subst IsTree c.in-Inner.is c.self.invariant in
     let seen : c.args.self.now ≡ inner_shape ks = sym c.self.view_is ∙ ap shape_of c.in-Inner.is in
-    let child = subst (λ ms. IsChildFor ms c.args.part c.args.key at) c.deref.ensures.value c.child_for-at.ensures in
-    let deep = one_below ls ks _ _ inner at k (omega (arith, child.in_range, as_many ls ks _ _ inner))
+    let child = c.child_for-at.ensures in
+    let deep = one_below ls ks _ inner at k (omega (arith, child.in_range, as_many ls ks _ inner))
     c.index.ensures in
     let falls : k.depth < c.args.self.now.depth = omega (arith, deep, ap (λ (s : Shape). s.depth) seen) in
     (search rules, tt)
 
 pub returns-in-Some-clause-found : goal.returns-in-Some-clause-found
 returns-in-Some-clause-found t c =
-    let ls = c.in-Inner.separators.items in let ks = c.in-Inner.children.items in let at = c.child_for-at.result in
+    let ls = c.in-Inner.separators in let ks = c.in-Inner.children.items in let at = c.child_for-at.result in
     let inner = subst IsTree c.in-Inner.is c.self.invariant in
     let seen : c.args.self.now ≡ inner_shape ks = sym c.self.view_is ∙ ap shape_of c.in-Inner.is in
-    let child = subst (λ ms. IsChildFor ms c.args.part c.args.key at) c.deref.ensures.value c.child_for-at.ensures in
+    let child = c.child_for-at.ensures in
     ghost_in_child c.args.part c.args.key (depth_of ks) ls ks inner.children at child c.index.result.now c.index.ensures
     c.in-Some.entry c.in-Some.ensures.found
     ∙ sym (ap (λ (s : Shape). next_ghost s.entries c.args.part c.args.key) seen)
@@ -64,10 +78,9 @@ slice_bounds-child-items-start t c =
     let inner = subst IsTree c.in-Inner.is c.self.invariant in
     omega (
       arith,
-      as_many c.in-Inner.separators.items c.in-Inner.children.items _ _ inner,
+      as_many c.in-Inner.separators c.in-Inner.children.items _ inner,
       c.child_for-at.ensures.in_range,
       ap length c.deref.ensures.value,
-      ap length c.deref-in-Inner.ensures.value,
     )
 
 pub slice_bounds-child-items-count : goal.slice_bounds-child-items-count
@@ -75,20 +88,19 @@ slice_bounds-child-items-count t c =
     let inner = subst IsTree c.in-Inner.is c.self.invariant in
     omega (
       arith,
-      as_many c.in-Inner.separators.items c.in-Inner.children.items _ _ inner,
+      as_many c.in-Inner.separators c.in-Inner.children.items _ inner,
       c.child_for-at.ensures.in_range,
       ap length c.deref.ensures.value,
-      ap length c.deref-in-Inner.ensures.value,
     )
 
 pub loop-child-init : goal.loop-child-init
 loop-child-init t c =
-    let ls = c.in-Inner.separators.items in let ks = c.in-Inner.children.items in let at = c.child_for-at.result in
+    let ls = c.in-Inner.separators in let ks = c.in-Inner.children.items in let at = c.child_for-at.result in
     let inner = subst IsTree c.in-Inner.is c.self.invariant in
     let seen : c.args.self.now ≡ inner_shape ks = sym c.self.view_is ∙ ap shape_of c.in-Inner.is in
-    let child = subst (λ ms. IsChildFor ms c.args.part c.args.key at) c.deref.ensures.value c.child_for-at.ensures in
-    ap (λ (l : List Shape). first_ghost (all_entries l)) (whole_rest (at + 1) c.deref-in-Inner.result.now ∙
-    ap (λ (l : List Shape). drop (at + 1) l) c.deref-in-Inner.ensures.value)
+    let child = c.child_for-at.ensures in
+    ap (λ (l : List Shape). first_ghost (all_entries l)) (whole_rest (at + 1) c.deref.result.now ∙
+    ap (λ (l : List Shape). drop (at + 1) l) c.deref.ensures.value)
     ∙ ghost_after_child c.args.part c.args.key (depth_of ks) ls ks inner.children at child c.index.result.now
     c.index.ensures c.in_default.ensures.found
     ∙ sym (ap (λ (s : Shape). next_ghost s.entries c.args.part c.args.key) seen)

@@ -1,5 +1,4 @@
 use Rattle.std.proofs.Common.{◌≡◌, ◌+◌, ◌<◌, ◌≤◌, length, sym, ap, ◌∙◌, subst, arith}
-use Rattle.am_btree.specs.Separators.{SeparatorsRise, IsChildFor}
 use Rattle.am_btree.specs.Shape.{Shape}
 use Rattle.am_btree.specs.Nodes.{shape_of, depth_of, IsTree, inner_shape}
 use Rattle.am_btree.proofs.Inner.{as_many, they_rise, some_separators}
@@ -12,50 +11,46 @@ use Rattle.am_btree.specs.Nodes.{all_entries}
 use Rattle.am_btree.proofs.Walking.{read_from, next_child, nothing_left}
 use Rattle.am_btree.proofs.node.Subtree.+read_on.Goals as goal
 use Rattle.am_btree.proofs.node.Subtree.+read_on.Goals.{then-is_full-via-then-is_full}
-use Rattle.am_btree.proofs.node.Subtree.+read_on.Goals.{then-is_full-via-else-is_full+then-index-part}
+use Rattle.am_btree.proofs.node.Subtree.+read_on.Goals.{then-is_full-via-else-is_full+then-get-part}
 
 pub child_for-at-requires-clause-rising : goal.child_for-at-requires-clause-rising
 child_for-at-requires-clause-rising t c =
     let inner = subst IsTree c.in-Inner.is c.self.invariant in
-    subst SeparatorsRise (sym c.deref.ensures.value) (they_rise c.in-Inner.separators.items c.in-Inner.children.items _
-    _ inner)
+    they_rise c.in-Inner.separators c.in-Inner.children.items _ inner
 
 pub child_for-at-requires-clause-some : goal.child_for-at-requires-clause-some
 child_for-at-requires-clause-some t c =
     let inner = subst IsTree c.in-Inner.is c.self.invariant in
     omega (
       arith,
-      some_separators c.in-Inner.separators.items c.in-Inner.children.items _ _ inner,
-      c.in-Inner.separators.ok.0,
-      c.deref.ensures.len,
+      some_separators c.in-Inner.separators c.in-Inner.children.items _ inner,
     )
 
 pub loop-at-init : goal.loop-at-init
 loop-at-init t c =
-    let ls = c.in-Inner.separators.items in let ks = c.in-Inner.children.items in let at = c.child_for-at.result in
+    let ls = c.in-Inner.separators in let ks = c.in-Inner.children.items in let at = c.child_for-at.result in
     let inner = subst IsTree c.in-Inner.is c.self.invariant in
-    let child = subst (λ ms. IsChildFor ms c.args.part c.args.key at) c.deref.ensures.value c.child_for-at.ensures in
+    let child = c.child_for-at.ensures in
     record {
       fits = c.entries.ensures.fits;
       same = ap (λ es. take 16 (c.args.batch.now ++ es)) (read_from c.args.part c.args.key (depth_of ks) ls ks
           inner.children at child c.args.start);
     }
 
-pub index-requires : goal.index-requires
-index-requires t c =
+pub get-requires : goal.get-requires
+get-requires t c =
     let inner = subst IsTree c.in-Inner.is c.self.invariant in
     omega (
       arith,
-      as_many c.in-Inner.separators.items c.in-Inner.children.items _ _ inner,
+      as_many c.in-Inner.separators c.in-Inner.children.items _ inner,
       c.loop-at-test.true,
       c.len-at-end.ensures,
-      c.in-Inner.separators.ok.0,
       c.in-Inner.children.ok.0,
     )
 
 pub returns-then-is_full-clause-read : goal.returns-then-is_full-clause-read
 returns-then-is_full-clause-read t c =
-    let ls = c.in-Inner.separators.items in let ks = c.in-Inner.children.items in let i = c.loop-at.at in
+    let ls = c.in-Inner.separators in let ks = c.in-Inner.children.items in let i = c.loop-at.at in
     let part = c.args.part in let key = c.args.key in let batch = c.loop-at.batch in
     let inner = subst IsTree c.in-Inner.is c.self.invariant in
     let seen : c.args.self.now ≡ inner_shape ks = sym c.self.view_is ∙ ap shape_of c.in-Inner.is in
@@ -64,16 +59,16 @@ returns-then-is_full-clause-read t c =
     elim c.then-is_full.branch [
       | then-is_full-via-then-is_full w ↦ take_full 16 batch left
           (eqb-true _ _ (sym c.is_full.ensures.full ∙ w.if-is_full.true))
-      | then-is_full-via-else-is_full+then-index-part w ↦
+      | then-is_full-via-else-is_full+then-get-part w ↦
           let within : i < length ls = omega (
             arith,
-            as_many ls ks _ _ inner,
+            as_many ls ks _ inner,
             c.loop-at-test.true,
             c.len-at-end.ensures,
             c.in-Inner.children.ok.0,
           ) in
           ap (λ es. take 16 (batch ++ es)) (nothing_left part key c.args.start (depth_of ks) ls ks inner.children i
-          w.index.result.now within w.index.ensures w.if-index-part.true) ∙
+          w.get.result within w.get.ensures w.if-get-part.true) ∙
           take_whole 16 batch c.loop-at.invariant.fits
     ] in
     sym taken ∙ c.loop-at.invariant.same ∙ ap (λ (s : Shape). take 16
@@ -81,22 +76,22 @@ returns-then-is_full-clause-read t c =
 
 pub loop-at-preserved : goal.loop-at-preserved
 loop-at-preserved t c =
-    let ls = c.in-Inner.separators.items in let ks = c.in-Inner.children.items in let i = c.loop-at.at in
+    let ls = c.in-Inner.separators in let ks = c.in-Inner.children.items in let i = c.loop-at.at in
     let part = c.args.part in let key = c.args.key in let batch = c.loop-at.batch in
     let inner = subst IsTree c.in-Inner.is c.self.invariant in
     let seen : c.args.self.now ≡ inner_shape ks = sym c.self.view_is ∙ ap shape_of c.in-Inner.is in
-    let k = c.index-in-loop-at.result.now in let read = c.read_on.ensures.read in
+    let k = c.index.result.now in let read = c.read_on.ensures.read in
     let rest = all_such c.args.start (all_entries (drop (i + 1) ks)) part key in
     let within : i < length ks = omega (arith, c.loop-at-test.true, c.len-at-end.ensures, c.in-Inner.children.ok.0) in
     record {
       fits = omega (arith, ap length read, length-take 16 (batch ++ all_such c.args.start k.entries part key));
       same = ap (λ es. take 16 (es ++ rest)) read ∙ next_child part key c.args.start batch ks i k within
-          c.index-in-loop-at.ensures ∙ c.loop-at.invariant.same;
+          c.index.ensures ∙ c.loop-at.invariant.same;
     }
 
 pub returns-after-loop-at-clause-read : goal.returns-after-loop-at-clause-read
 returns-after-loop-at-clause-read t c =
-    let ls = c.in-Inner.separators.items in let ks = c.in-Inner.children.items in let i = c.loop-at.at in
+    let ls = c.in-Inner.separators in let ks = c.in-Inner.children.items in let i = c.loop-at.at in
     let part = c.args.part in let key = c.args.key in let batch = c.loop-at.batch in
     let inner = subst IsTree c.in-Inner.is c.self.invariant in
     let seen : c.args.self.now ≡ inner_shape ks = sym c.self.view_is ∙ ap shape_of c.in-Inner.is in

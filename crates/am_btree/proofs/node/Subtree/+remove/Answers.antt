@@ -1,7 +1,6 @@
 use Rattle.std.specs.List.{remove}
 use Rattle.std.proofs.Common.{◌≡◌, ◌+◌, ◌<◌, List, [], length, set, MatchBool, refl, sym, ap, ◌∙◌, subst, rules, arith}
 use Rattle.am_list.specs.Entries.{find, entry_at, remove_from}
-use Rattle.am_btree.specs.Separators.{SeparatorsRise, IsChildFor}
 use Rattle.am_btree.specs.Shape.{Shape}
 use Rattle.am_btree.specs.Nodes.{all_entries, shape_of, depth_of, IsTree, inner_shape, leaf_shape}
 use Rattle.am_btree.proofs.Inner.{as_many, they_rise, some_separators, one_below}
@@ -19,17 +18,14 @@ use Rattle.am_btree.proofs.node.Subtree.+remove.Goals.{then-not-removed-via-else
 pub child_for-at-requires-clause-rising : goal.child_for-at-requires-clause-rising
 child_for-at-requires-clause-rising t c =
     let inner = subst IsTree c.in-Inner.is c.self.invariant in
-    subst SeparatorsRise (sym c.deref.ensures.value) (they_rise c.in-Inner.separators.items c.in-Inner.children.items _
-    _ inner)
+    they_rise c.in-Inner.separators c.in-Inner.children.items _ inner
 
 pub child_for-at-requires-clause-some : goal.child_for-at-requires-clause-some
 child_for-at-requires-clause-some t c =
     let inner = subst IsTree c.in-Inner.is c.self.invariant in
     omega (
       arith,
-      some_separators c.in-Inner.separators.items c.in-Inner.children.items _ _ inner,
-      c.in-Inner.separators.ok.0,
-      c.deref.ensures.len,
+      some_separators c.in-Inner.separators c.in-Inner.children.items _ inner,
     )
 
 pub index_mut-requires : goal.index_mut-requires
@@ -37,21 +33,19 @@ index_mut-requires t c =
     let inner = subst IsTree c.in-Inner.is c.self.invariant in
     omega (
       arith,
-      as_many c.in-Inner.separators.items c.in-Inner.children.items _ _ inner,
+      as_many c.in-Inner.separators c.in-Inner.children.items _ inner,
       c.child_for-at.ensures.in_range,
-      c.deref.ensures.len,
-      c.in-Inner.separators.ok.0,
       c.in-Inner.children.ok.0,
     )
 
 pub remove-removed-requires : goal.remove-removed-requires
 remove-removed-requires t c =
-    let ls = c.in-Inner.separators.items in let ks = c.in-Inner.children.items in let at = c.child_for-at.result in
+    let ls = c.in-Inner.separators in let ks = c.in-Inner.children.items in let at = c.child_for-at.result in
     let k = c.index_mut.result.now in
     let inner = subst IsTree c.in-Inner.is c.self.invariant in
     let seen : c.args.self.now ≡ inner_shape ks = sym c.self.view_is ∙ ap shape_of c.in-Inner.is in
-    let child = subst (λ ms. IsChildFor ms c.args.part c.args.key at) c.deref.ensures.value c.child_for-at.ensures in
-    let deep = one_below ls ks _ _ inner at k (omega (arith, child.in_range, as_many ls ks _ _ inner))
+    let child = c.child_for-at.ensures in
+    let deep = one_below ls ks _ inner at k (omega (arith, child.in_range, as_many ls ks _ inner))
     c.index_mut.ensures.value in
     let falls : k.depth < c.args.self.now.depth = omega (arith, deep, ap (λ (s : Shape). s.depth) seen) in (
       search rules,
@@ -75,11 +69,11 @@ remove_from_leaf-requires t c =
 
 pub invariant_of-self : goal.invariant_of-self
 invariant_of-self t c =
-    let ls = c.in-Inner.separators.items in let ks = c.in-Inner.children.items in let at = c.child_for-at.result in
+    let ls = c.in-Inner.separators in let ks = c.in-Inner.children.items in let at = c.child_for-at.result in
     let part = c.args.part in let key = c.args.key in
     let inner = subst IsTree c.in-Inner.is c.self.invariant in
     let seen : c.args.self.now ≡ inner_shape ks = sym c.self.view_is ∙ ap shape_of c.in-Inner.is in
-    let child = subst (λ ms. IsChildFor ms part key at) c.deref.ensures.value c.child_for-at.ensures in
+    let child = c.child_for-at.ensures in
     let k = c.index_mut.result.now in let k' = c.remove-removed.new.self in let here = c.index_mut.ensures.value in
     let e = c.remove-removed.ensures in let n = c.remove-removed.result.count in
     let there = subst IsSome (ap (λ (s : Shape). find s.entries part key) seen ∙
@@ -90,21 +84,21 @@ invariant_of-self t c =
           let some = subst (λ b. MatchBool b (k'.entries ≡ []) (0 < length k'.entries))
           (not-true _ w.if-not-removed.true) e.empty in
           rw w.self-inside-is (kept_inner part key (λ es. remove_from es part key n) is (depth_of ks) ls ks at k k'
-          inner.children child here e.depth refl e.others _ _ (λ _. some) inner.most inner.room)
+          inner.children child here e.depth refl e.others _ (λ _. some) inner.most inner.room)
       | then-not-removed-via-else-not-removed+then-len-eq1 w ↦
           rw w.self-inside-is (kept_inner part key (λ es. remove_from es part key n) is (depth_of ks) ls ks at k k'
-          inner.children child here e.depth refl e.others _ _
+          inner.children child here e.depth refl e.others _
           (λ more. absurd (omega (arith, more, w.len.ensures, w.if-len-eq1.true, c.in-Inner.children.ok.0)))
           inner.most inner.room)
     ]
 
 pub returns-then-not-removed-clause-entry : goal.returns-then-not-removed-clause-entry
 returns-then-not-removed-clause-entry t c =
-    let ls = c.in-Inner.separators.items in let ks = c.in-Inner.children.items in let at = c.child_for-at.result in
+    let ls = c.in-Inner.separators in let ks = c.in-Inner.children.items in let at = c.child_for-at.result in
     let part = c.args.part in let key = c.args.key in
     let inner = subst IsTree c.in-Inner.is c.self.invariant in
     let seen : c.args.self.now ≡ inner_shape ks = sym c.self.view_is ∙ ap shape_of c.in-Inner.is in
-    let child = subst (λ ms. IsChildFor ms part key at) c.deref.ensures.value c.child_for-at.ensures in
+    let child = c.child_for-at.ensures in
     let k = c.index_mut.result.now in let k' = c.remove-removed.new.self in let here = c.index_mut.ensures.value in
     let e = c.remove-removed.ensures in let n = c.remove-removed.result.count in
     let there = subst IsSome (ap (λ (s : Shape). find s.entries part key) seen ∙
@@ -115,11 +109,11 @@ returns-then-not-removed-clause-entry t c =
 
 pub returns-then-not-removed-clause-others : goal.returns-then-not-removed-clause-others
 returns-then-not-removed-clause-others t c =
-    let ls = c.in-Inner.separators.items in let ks = c.in-Inner.children.items in let at = c.child_for-at.result in
+    let ls = c.in-Inner.separators in let ks = c.in-Inner.children.items in let at = c.child_for-at.result in
     let part = c.args.part in let key = c.args.key in
     let inner = subst IsTree c.in-Inner.is c.self.invariant in
     let seen : c.args.self.now ≡ inner_shape ks = sym c.self.view_is ∙ ap shape_of c.in-Inner.is in
-    let child = subst (λ ms. IsChildFor ms part key at) c.deref.ensures.value c.child_for-at.ensures in
+    let child = c.child_for-at.ensures in
     let k = c.index_mut.result.now in let k' = c.remove-removed.new.self in let here = c.index_mut.ensures.value in
     let e = c.remove-removed.ensures in let n = c.remove-removed.result.count in
     let there = subst IsSome (ap (λ (s : Shape). find s.entries part key) seen ∙
@@ -135,11 +129,11 @@ returns-then-not-removed-clause-others t c =
 
 pub returns-then-not-removed-clause-depth : goal.returns-then-not-removed-clause-depth
 returns-then-not-removed-clause-depth t c =
-    let ls = c.in-Inner.separators.items in let ks = c.in-Inner.children.items in let at = c.child_for-at.result in
+    let ls = c.in-Inner.separators in let ks = c.in-Inner.children.items in let at = c.child_for-at.result in
     let part = c.args.part in let key = c.args.key in
     let inner = subst IsTree c.in-Inner.is c.self.invariant in
     let seen : c.args.self.now ≡ inner_shape ks = sym c.self.view_is ∙ ap shape_of c.in-Inner.is in
-    let child = subst (λ ms. IsChildFor ms part key at) c.deref.ensures.value c.child_for-at.ensures in
+    let child = c.child_for-at.ensures in
     let k = c.index_mut.result.now in let k' = c.remove-removed.new.self in let here = c.index_mut.ensures.value in
     let e = c.remove-removed.ensures in let n = c.remove-removed.result.count in
     let there = subst IsSome (ap (λ (s : Shape). find s.entries part key) seen ∙
@@ -156,11 +150,11 @@ returns-then-not-removed-clause-depth t c =
 
 pub returns-then-not-removed-clause-counted : goal.returns-then-not-removed-clause-counted
 returns-then-not-removed-clause-counted t c =
-    let ls = c.in-Inner.separators.items in let ks = c.in-Inner.children.items in let at = c.child_for-at.result in
+    let ls = c.in-Inner.separators in let ks = c.in-Inner.children.items in let at = c.child_for-at.result in
     let part = c.args.part in let key = c.args.key in
     let inner = subst IsTree c.in-Inner.is c.self.invariant in
     let seen : c.args.self.now ≡ inner_shape ks = sym c.self.view_is ∙ ap shape_of c.in-Inner.is in
-    let child = subst (λ ms. IsChildFor ms part key at) c.deref.ensures.value c.child_for-at.ensures in
+    let child = c.child_for-at.ensures in
     let k = c.index_mut.result.now in let k' = c.remove-removed.new.self in let here = c.index_mut.ensures.value in
     let e = c.remove-removed.ensures in let n = c.remove-removed.result.count in
     let there = subst IsSome (ap (λ (s : Shape). find s.entries part key) seen ∙
@@ -176,11 +170,11 @@ returns-then-not-removed-clause-counted t c =
 
 pub returns-then-not-removed-clause-empty : goal.returns-then-not-removed-clause-empty
 returns-then-not-removed-clause-empty t c =
-    let ls = c.in-Inner.separators.items in let ks = c.in-Inner.children.items in let at = c.child_for-at.result in
+    let ls = c.in-Inner.separators in let ks = c.in-Inner.children.items in let at = c.child_for-at.result in
     let part = c.args.part in let key = c.args.key in
     let inner = subst IsTree c.in-Inner.is c.self.invariant in
     let seen : c.args.self.now ≡ inner_shape ks = sym c.self.view_is ∙ ap shape_of c.in-Inner.is in
-    let child = subst (λ ms. IsChildFor ms part key at) c.deref.ensures.value c.child_for-at.ensures in
+    let child = c.child_for-at.ensures in
     let k = c.index_mut.result.now in let k' = c.remove-removed.new.self in let here = c.index_mut.ensures.value in
     let e = c.remove-removed.ensures in let n = c.remove-removed.result.count in
     let there = subst IsSome (ap (λ (s : Shape). find s.entries part key) seen ∙
@@ -211,10 +205,8 @@ take_out-requires-in-Inner t c =
     let inner = subst IsTree c.in-Inner.is c.self.invariant in
     omega (
       arith,
-      as_many c.in-Inner.separators.items c.in-Inner.children.items _ _ inner,
+      as_many c.in-Inner.separators c.in-Inner.children.items _ inner,
       c.child_for-at.ensures.in_range,
-      c.deref.ensures.len,
-      c.in-Inner.separators.ok.0,
       c.in-Inner.children.ok.0,
     )
 
@@ -227,11 +219,11 @@ invariant_of-self-2 t c = elim c.match-self.branch [
         (w.remove_from_leaf.ensures.rising, omega (arith, old.1.1, w.remove_from_leaf.ensures.wide)),
       )
   | in-Inner+else-not-removed+else-len-eq1 w ↦
-      let ls = w.in-Inner.separators.items in let ks = w.in-Inner.children.items in let at = w.child_for-at.result in
+      let ls = w.in-Inner.separators in let ks = w.in-Inner.children.items in let at = w.child_for-at.result in
       let part = c.args.part in let key = c.args.key in
       let inner = subst IsTree w.in-Inner.is c.self.invariant in
       let seen : c.args.self.now ≡ inner_shape ks = sym c.self.view_is ∙ ap shape_of w.in-Inner.is in
-      let child = subst (λ ms. IsChildFor ms part key at) w.deref.ensures.value w.child_for-at.ensures in
+      let child = w.child_for-at.ensures in
       let k = w.index_mut.result.now in let k' = w.remove-removed.new.self in let here = w.index_mut.ensures.value in
       let e = w.remove-removed.ensures in let n = w.remove-removed.result.count in
       let there = subst IsSome (ap (λ (s : Shape). find s.entries part key) seen ∙
@@ -249,14 +241,12 @@ invariant_of-self-2 t c = elim c.match-self.branch [
       let long = left_long part key (λ es. remove_from es part key n) is (depth_of ks) ls ks at k k' inner.children
       child
       here e.depth refl e.others many empty in
-      rw w.self-inside-is (inner_with (depth_of ks) (remove ls at) (remove (set ks at k') at) w.take_out.new.v.items
-      w.take_out-in-Inner.new.v.items _ _ w.take_out.ensures.items w.take_out-in-Inner.ensures.items
+      rw w.self-inside-is (inner_with (depth_of ks) (remove ls at) (remove (set ks at k') at) w.take_out.new.self
+      w.take_out-in-Inner.new.v.items _ w.take_out.ensures w.take_out-in-Inner.ensures.items
       (left_children part key (λ es. remove_from es part key n) is (depth_of ks) ls ks at k k' inner.children child
       here e.depth refl e.others many empty)
-      (omega (arith, long, many)) (omega (arith, long, inner.most)) (
-        omega (arith, inner.room, w.take_out.ensures.capacity),
-        omega (arith, inner.room, w.take_out-in-Inner.ensures.capacity),
-      ))
+      (omega (arith, long, many)) (omega (arith, long, inner.most))
+      (omega (arith, inner.room, w.take_out-in-Inner.ensures.capacity)))
 ]
 
 pub returns-clause-entry : goal.returns-clause-entry
@@ -266,11 +256,11 @@ returns-clause-entry t c = elim c.match-self.branch [
       rw w.result-is (ap (λ (s : Shape). entry_at s.entries c.args.part c.args.key) seen ∙
       w.remove_from_leaf.ensures.entry)
   | in-Inner+else-not-removed+else-len-eq1 w ↦
-      let ls = w.in-Inner.separators.items in let ks = w.in-Inner.children.items in let at = w.child_for-at.result in
+      let ls = w.in-Inner.separators in let ks = w.in-Inner.children.items in let at = w.child_for-at.result in
       let part = c.args.part in let key = c.args.key in
       let inner = subst IsTree w.in-Inner.is c.self.invariant in
       let seen : c.args.self.now ≡ inner_shape ks = sym c.self.view_is ∙ ap shape_of w.in-Inner.is in
-      let child = subst (λ ms. IsChildFor ms part key at) w.deref.ensures.value w.child_for-at.ensures in
+      let child = w.child_for-at.ensures in
       let k = w.index_mut.result.now in let k' = w.remove-removed.new.self in let here = w.index_mut.ensures.value in
       let e = w.remove-removed.ensures in let n = w.remove-removed.result.count in
       let there = subst IsSome (ap (λ (s : Shape). find s.entries part key) seen ∙
@@ -288,11 +278,11 @@ returns-clause-others t c = elim c.match-self.branch [
       rw (w.result-is, w.self-inside-is) (w.remove_from_leaf.ensures.others ∙
       sym (ap (λ (s : Shape). remove_from s.entries c.args.part c.args.key w.remove_from_leaf.result.count) seen))
   | in-Inner+else-not-removed+else-len-eq1 w ↦
-      let ls = w.in-Inner.separators.items in let ks = w.in-Inner.children.items in let at = w.child_for-at.result in
+      let ls = w.in-Inner.separators in let ks = w.in-Inner.children.items in let at = w.child_for-at.result in
       let part = c.args.part in let key = c.args.key in
       let inner = subst IsTree w.in-Inner.is c.self.invariant in
       let seen : c.args.self.now ≡ inner_shape ks = sym c.self.view_is ∙ ap shape_of w.in-Inner.is in
-      let child = subst (λ ms. IsChildFor ms part key at) w.deref.ensures.value w.child_for-at.ensures in
+      let child = w.child_for-at.ensures in
       let k = w.index_mut.result.now in let k' = w.remove-removed.new.self in let here = w.index_mut.ensures.value in
       let e = w.remove-removed.ensures in let n = w.remove-removed.result.count in
       let there = subst IsSome (ap (λ (s : Shape). find s.entries part key) seen ∙
@@ -318,11 +308,11 @@ returns-clause-depth t c = elim c.match-self.branch [
       let seen : c.args.self.now ≡ leaf_shape w.in-Leaf.leaf.entries = sym c.self.view_is ∙ ap shape_of w.in-Leaf.is in
       rw w.self-inside-is (sym (ap (λ (s : Shape). s.depth) seen))
   | in-Inner+else-not-removed+else-len-eq1 w ↦
-      let ls = w.in-Inner.separators.items in let ks = w.in-Inner.children.items in let at = w.child_for-at.result in
+      let ls = w.in-Inner.separators in let ks = w.in-Inner.children.items in let at = w.child_for-at.result in
       let part = c.args.part in let key = c.args.key in
       let inner = subst IsTree w.in-Inner.is c.self.invariant in
       let seen : c.args.self.now ≡ inner_shape ks = sym c.self.view_is ∙ ap shape_of w.in-Inner.is in
-      let child = subst (λ ms. IsChildFor ms part key at) w.deref.ensures.value w.child_for-at.ensures in
+      let child = w.child_for-at.ensures in
       let k = w.index_mut.result.now in let k' = w.remove-removed.new.self in let here = w.index_mut.ensures.value in
       let e = w.remove-removed.ensures in let n = w.remove-removed.result.count in
       let there = subst IsSome (ap (λ (s : Shape). find s.entries part key) seen ∙
@@ -349,11 +339,11 @@ returns-clause-counted t c = elim c.match-self.branch [
       rw (w.result-is, w.self-inside-is) (w.remove_from_leaf.ensures.counted ∙
       sym (ap (λ (s : Shape). length s.entries) seen))
   | in-Inner+else-not-removed+else-len-eq1 w ↦
-      let ls = w.in-Inner.separators.items in let ks = w.in-Inner.children.items in let at = w.child_for-at.result in
+      let ls = w.in-Inner.separators in let ks = w.in-Inner.children.items in let at = w.child_for-at.result in
       let part = c.args.part in let key = c.args.key in
       let inner = subst IsTree w.in-Inner.is c.self.invariant in
       let seen : c.args.self.now ≡ inner_shape ks = sym c.self.view_is ∙ ap shape_of w.in-Inner.is in
-      let child = subst (λ ms. IsChildFor ms part key at) w.deref.ensures.value w.child_for-at.ensures in
+      let child = w.child_for-at.ensures in
       let k = w.index_mut.result.now in let k' = w.remove-removed.new.self in let here = w.index_mut.ensures.value in
       let e = w.remove-removed.ensures in let n = w.remove-removed.result.count in
       let there = subst IsSome (ap (λ (s : Shape). find s.entries part key) seen ∙
@@ -378,11 +368,11 @@ pub returns-clause-empty : goal.returns-clause-empty
 returns-clause-empty t c = elim c.match-self.branch [
   | in-Leaf w ↦ rw (w.result-is, w.self-inside-is) w.remove_from_leaf.ensures.empty
   | in-Inner+else-not-removed+else-len-eq1 w ↦
-      let ls = w.in-Inner.separators.items in let ks = w.in-Inner.children.items in let at = w.child_for-at.result in
+      let ls = w.in-Inner.separators in let ks = w.in-Inner.children.items in let at = w.child_for-at.result in
       let part = c.args.part in let key = c.args.key in
       let inner = subst IsTree w.in-Inner.is c.self.invariant in
       let seen : c.args.self.now ≡ inner_shape ks = sym c.self.view_is ∙ ap shape_of w.in-Inner.is in
-      let child = subst (λ ms. IsChildFor ms part key at) w.deref.ensures.value w.child_for-at.ensures in
+      let child = w.child_for-at.ensures in
       let k = w.index_mut.result.now in let k' = w.remove-removed.new.self in let here = w.index_mut.ensures.value in
       let e = w.remove-removed.ensures in let n = w.remove-removed.result.count in
       let there = subst IsSome (ap (λ (s : Shape). find s.entries part key) seen ∙

@@ -1,5 +1,4 @@
 use Rattle.std.proofs.Common.{◌≡◌, ◌+◌, ◌<◌, ◌≤◌, length, sym, ap, ◌∙◌, subst, rules, arith}
-use Rattle.am_btree.specs.Separators.{SeparatorsRise, IsChildFor}
 use Rattle.am_btree.specs.Shape.{Shape}
 use Rattle.am_btree.specs.Nodes.{shape_of, depth_of, IsTree, inner_shape}
 use Rattle.am_btree.proofs.Inner.{as_many, they_rise, some_separators, one_below}
@@ -10,17 +9,34 @@ use Rattle.am_btree.proofs.node.Subtree.+seek.Goals as goal
 pub child_for-at-requires-clause-rising : goal.child_for-at-requires-clause-rising
 child_for-at-requires-clause-rising t c =
     let inner = subst IsTree c.in-Inner.is c.self.invariant in
-    subst SeparatorsRise (sym c.deref.ensures.value) (they_rise c.in-Inner.separators.items c.in-Inner.children.items _
-    _ inner)
+    they_rise c.in-Inner.separators c.in-Inner.children.items _ inner
 
 pub child_for-at-requires-clause-some : goal.child_for-at-requires-clause-some
 child_for-at-requires-clause-some t c =
     let inner = subst IsTree c.in-Inner.is c.self.invariant in
     omega (
       arith,
-      some_separators c.in-Inner.separators.items c.in-Inner.children.items _ _ inner,
-      c.in-Inner.separators.ok.0,
-      c.deref.ensures.len,
+      some_separators c.in-Inner.separators c.in-Inner.children.items _ inner,
+    )
+
+pub overflow_add-at : goal.overflow_add-at
+overflow_add-at t c =
+    let inner = subst IsTree c.in-Inner.is c.self.invariant in
+    omega (
+      arith,
+      as_many c.in-Inner.separators c.in-Inner.children.items _ inner,
+      c.child_for-at.ensures.in_range,
+      inner.most,
+    )
+
+pub overflow_add-at-in-Inner : goal.overflow_add-at-in-Inner
+overflow_add-at-in-Inner t c =
+    let inner = subst IsTree c.in-Inner.is c.self.invariant in
+    omega (
+      arith,
+      as_many c.in-Inner.separators c.in-Inner.children.items _ inner,
+      c.child_for-at.ensures.in_range,
+      inner.most,
     )
 
 pub index-requires : goal.index-requires
@@ -28,32 +44,30 @@ index-requires t c =
     let inner = subst IsTree c.in-Inner.is c.self.invariant in
     omega (
       arith,
-      as_many c.in-Inner.separators.items c.in-Inner.children.items _ _ inner,
+      as_many c.in-Inner.separators c.in-Inner.children.items _ inner,
       c.child_for-at.ensures.in_range,
-      c.deref.ensures.len,
-      c.in-Inner.separators.ok.0,
       c.in-Inner.children.ok.0,
     )
 
 pub seek-requires : goal.seek-requires
 seek-requires t c =
-    let ls = c.in-Inner.separators.items in let ks = c.in-Inner.children.items in let at = c.child_for-at.result in
+    let ls = c.in-Inner.separators in let ks = c.in-Inner.children.items in let at = c.child_for-at.result in
     let k = c.index.result.now in
     let inner = subst IsTree c.in-Inner.is c.self.invariant in
     let seen : c.args.self.now ≡ inner_shape ks = sym c.self.view_is ∙ ap shape_of c.in-Inner.is in
-    let child = subst (λ ms. IsChildFor ms c.args.part c.args.key at) c.deref.ensures.value c.child_for-at.ensures in
-    let deep = one_below ls ks _ _ inner at k (omega (arith, child.in_range, as_many ls ks _ _ inner))
+    let child = c.child_for-at.ensures in
+    let deep = one_below ls ks _ inner at k (omega (arith, child.in_range, as_many ls ks _ inner))
     c.index.ensures in
     let falls : k.depth < c.args.self.now.depth = omega (arith, deep, ap (λ (s : Shape). s.depth) seen) in
     (search rules, tt)
 
 pub returns-in-Some-clause-found : goal.returns-in-Some-clause-found
 returns-in-Some-clause-found t c =
-    let ls = c.in-Inner.separators.items in let ks = c.in-Inner.children.items in let at = c.child_for-at.result in
+    let ls = c.in-Inner.separators in let ks = c.in-Inner.children.items in let at = c.child_for-at.result in
     let part = c.args.part in let key = c.args.key in
     let inner = subst IsTree c.in-Inner.is c.self.invariant in
     let seen : c.args.self.now ≡ inner_shape ks = sym c.self.view_is ∙ ap shape_of c.in-Inner.is in
-    let child = subst (λ ms. IsChildFor ms part key at) c.deref.ensures.value c.child_for-at.ensures in
+    let child = c.child_for-at.ensures in
     let k = c.index.result.now in
     sym (ap (λ (s : Shape). first_from c.args.start s.entries part key) seen ∙ found_here part key (depth_of ks) ls ks
     inner.children at child c.args.start k c.index.ensures c.in-Some.entry
@@ -61,11 +75,11 @@ returns-in-Some-clause-found t c =
 
 pub returns-then-at-len-clause-found : goal.returns-then-at-len-clause-found
 returns-then-at-len-clause-found t c =
-    let ls = c.in-Inner.separators.items in let ks = c.in-Inner.children.items in let at = c.child_for-at.result in
+    let ls = c.in-Inner.separators in let ks = c.in-Inner.children.items in let at = c.child_for-at.result in
     let part = c.args.part in let key = c.args.key in
     let inner = subst IsTree c.in-Inner.is c.self.invariant in
     let seen : c.args.self.now ≡ inner_shape ks = sym c.self.view_is ∙ ap shape_of c.in-Inner.is in
-    let child = subst (λ ms. IsChildFor ms part key at) c.deref.ensures.value c.child_for-at.ensures in
+    let child = c.child_for-at.ensures in
     let k = c.index.result.now in
     let last : length ks ≤ at + 1 = omega (arith, c.if-at-len.true, c.len.ensures, c.in-Inner.children.ok.0) in
     sym (ap (λ (s : Shape). first_from c.args.start s.entries part key) seen ∙ found_nowhere part key (depth_of ks) ls
@@ -76,10 +90,8 @@ index-requires-in-Inner t c =
     let inner = subst IsTree c.in-Inner.is c.self.invariant in
     omega (
       arith,
-      as_many c.in-Inner.separators.items c.in-Inner.children.items _ _ inner,
+      as_many c.in-Inner.separators c.in-Inner.children.items _ inner,
       c.child_for-at.ensures.in_range,
-      c.deref.ensures.len,
-      c.in-Inner.separators.ok.0,
       c.in-Inner.children.ok.0,
       c.if-at-len.false,
       c.len.ensures,
@@ -87,16 +99,16 @@ index-requires-in-Inner t c =
 
 pub returns-else-at-len-clause-found : goal.returns-else-at-len-clause-found
 returns-else-at-len-clause-found t c =
-    let ls = c.in-Inner.separators.items in let ks = c.in-Inner.children.items in let at = c.child_for-at.result in
+    let ls = c.in-Inner.separators in let ks = c.in-Inner.children.items in let at = c.child_for-at.result in
     let part = c.args.part in let key = c.args.key in
     let inner = subst IsTree c.in-Inner.is c.self.invariant in
     let seen : c.args.self.now ≡ inner_shape ks = sym c.self.view_is ∙ ap shape_of c.in-Inner.is in
-    let child = subst (λ ms. IsChildFor ms part key at) c.deref.ensures.value c.child_for-at.ensures in
+    let child = c.child_for-at.ensures in
     let k = c.index.result.now in
     let more : at + 1 < length ks = omega (
       arith,
       child.in_range,
-      as_many ls ks _ _ inner,
+      as_many ls ks _ inner,
       c.if-at-len.false,
       c.len.ensures,
       c.in-Inner.children.ok.0,

@@ -1,7 +1,6 @@
 use Rattle.std.proofs.Common.{◌≡◌, ◌<◌, Option, length, refl, sym, ap, ◌∙◌, subst, rules, arith}
 use Rattle.am_list.specs.Entries.{Slot, find, set_entry}
 use Rattle.am_list.specs.Content.{live_value}
-use Rattle.am_btree.specs.Separators.{SeparatorsRise, IsChildFor}
 use Rattle.am_btree.specs.Shape.{Shape}
 use Rattle.am_btree.specs.Nodes.{shape_of, depth_of, IsTree, inner_shape, leaf_shape}
 use Rattle.am_btree.proofs.Inner.{as_many, they_rise, some_separators, one_below}
@@ -15,17 +14,14 @@ use Rattle.am_btree.proofs.node.Subtree.+set.Goals.{in-Leaf, in-Inner}
 pub child_for-at-requires-clause-rising : goal.child_for-at-requires-clause-rising
 child_for-at-requires-clause-rising t c =
     let inner = subst IsTree c.in-Inner.is c.self.invariant in
-    subst SeparatorsRise (sym c.deref.ensures.value) (they_rise c.in-Inner.separators.items c.in-Inner.children.items _
-    _ inner)
+    they_rise c.in-Inner.separators c.in-Inner.children.items _ inner
 
 pub child_for-at-requires-clause-some : goal.child_for-at-requires-clause-some
 child_for-at-requires-clause-some t c =
     let inner = subst IsTree c.in-Inner.is c.self.invariant in
     omega (
       arith,
-      some_separators c.in-Inner.separators.items c.in-Inner.children.items _ _ inner,
-      c.in-Inner.separators.ok.0,
-      c.deref.ensures.len,
+      some_separators c.in-Inner.separators c.in-Inner.children.items _ inner,
     )
 
 pub index_mut-requires : goal.index_mut-requires
@@ -33,21 +29,19 @@ index_mut-requires t c =
     let inner = subst IsTree c.in-Inner.is c.self.invariant in
     omega (
       arith,
-      as_many c.in-Inner.separators.items c.in-Inner.children.items _ _ inner,
+      as_many c.in-Inner.separators c.in-Inner.children.items _ inner,
       c.child_for-at.ensures.in_range,
-      c.deref.ensures.len,
-      c.in-Inner.separators.ok.0,
       c.in-Inner.children.ok.0,
     )
 
 pub set-requires : goal.set-requires
 set-requires t c =
-    let ls = c.in-Inner.separators.items in let ks = c.in-Inner.children.items in let at = c.child_for-at.result in
+    let ls = c.in-Inner.separators in let ks = c.in-Inner.children.items in let at = c.child_for-at.result in
     let k = c.index_mut.result.now in
     let inner = subst IsTree c.in-Inner.is c.self.invariant in
     let seen : c.args.self.now ≡ inner_shape ks = sym c.self.view_is ∙ ap shape_of c.in-Inner.is in
-    let child = subst (λ ms. IsChildFor ms c.args.part c.args.key at) c.deref.ensures.value c.child_for-at.ensures in
-    let deep = one_below ls ks _ _ inner at k (omega (arith, child.in_range, as_many ls ks _ _ inner))
+    let child = c.child_for-at.ensures in
+    let deep = one_below ls ks _ inner at k (omega (arith, child.in_range, as_many ls ks _ inner))
     c.index_mut.ensures.value in
     let falls : k.depth < c.args.self.now.depth = omega (arith, deep, ap (λ (s : Shape). s.depth) seen) in (
       search rules,
@@ -79,16 +73,16 @@ invariant_of-self t c = elim c.match-self.branch [
         (w.set_in_leaf.ensures.rising, omega (arith, old.1.1, w.set_in_leaf.ensures.wide)),
       )
   | in-Inner w ↦
-      let ls = w.in-Inner.separators.items in let ks = w.in-Inner.children.items in let at = w.child_for-at.result in
+      let ls = w.in-Inner.separators in let ks = w.in-Inner.children.items in let at = w.child_for-at.result in
       let part = c.args.part in let key = c.args.key in
       let inner = subst IsTree w.in-Inner.is c.self.invariant in
       let seen : c.args.self.now ≡ inner_shape ks = sym c.self.view_is ∙ ap shape_of w.in-Inner.is in
-      let child = subst (λ ms. IsChildFor ms part key at) w.deref.ensures.value w.child_for-at.ensures in
+      let child = w.child_for-at.ensures in
       let k = w.index_mut.result.now in let k' = w.set.new.self in let here = w.index_mut.ensures.value in
       let is = writing part key c.args.value c.args.is_ghost k.entries in let e = w.set.ensures in
       let filled : 1 < length ks → 0 < length k'.entries = λ more.
       let old = AllByRecursion-at (λ (j : Shape). 0 < length j.entries) ks at k (inner.children.filled more)
-      (omega (arith, child.in_range, as_many ls ks _ _ inner)) in
+      (omega (arith, child.in_range, as_many ls ks _ inner)) in
       omega (
         arith,
         old,
@@ -97,7 +91,7 @@ invariant_of-self t c = elim c.match-self.branch [
         written_long part key c.args.value c.args.is_ghost k.entries,
       ) in
       rw w.self-inside-is (kept_inner part key (λ es. set_entry es part key c.args.value c.args.is_ghost) is
-      (depth_of ks) ls ks at k k' inner.children child here e.depth refl e.entries _ _ filled inner.most inner.room)
+      (depth_of ks) ls ks at k k' inner.children child here e.depth refl e.entries _ filled inner.most inner.room)
 ]
 
 pub returns-clause-entries : goal.returns-clause-entries
@@ -107,11 +101,11 @@ returns-clause-entries t c = elim c.match-self.branch [
       rw w.self-inside-is (w.set_in_leaf.ensures.entries ∙
       sym (ap (λ (s : Shape). set_entry s.entries c.args.part c.args.key c.args.value c.args.is_ghost) seen))
   | in-Inner w ↦
-      let ls = w.in-Inner.separators.items in let ks = w.in-Inner.children.items in let at = w.child_for-at.result in
+      let ls = w.in-Inner.separators in let ks = w.in-Inner.children.items in let at = w.child_for-at.result in
       let part = c.args.part in let key = c.args.key in
       let inner = subst IsTree w.in-Inner.is c.self.invariant in
       let seen : c.args.self.now ≡ inner_shape ks = sym c.self.view_is ∙ ap shape_of w.in-Inner.is in
-      let child = subst (λ ms. IsChildFor ms part key at) w.deref.ensures.value w.child_for-at.ensures in
+      let child = w.child_for-at.ensures in
       let k = w.index_mut.result.now in let k' = w.set.new.self in let here = w.index_mut.ensures.value in
       let is = writing part key c.args.value c.args.is_ghost k.entries in let e = w.set.ensures in
       rw w.self-inside-is (kept_entries part key (λ es. set_entry es part key c.args.value c.args.is_ghost) is
@@ -125,11 +119,11 @@ returns-clause-depth t c = elim c.match-self.branch [
       let seen : c.args.self.now ≡ leaf_shape w.in-Leaf.leaf.entries = sym c.self.view_is ∙ ap shape_of w.in-Leaf.is in
       rw w.self-inside-is (sym (ap (λ (s : Shape). s.depth) seen))
   | in-Inner w ↦
-      let ls = w.in-Inner.separators.items in let ks = w.in-Inner.children.items in let at = w.child_for-at.result in
+      let ls = w.in-Inner.separators in let ks = w.in-Inner.children.items in let at = w.child_for-at.result in
       let part = c.args.part in let key = c.args.key in
       let inner = subst IsTree w.in-Inner.is c.self.invariant in
       let seen : c.args.self.now ≡ inner_shape ks = sym c.self.view_is ∙ ap shape_of w.in-Inner.is in
-      let child = subst (λ ms. IsChildFor ms part key at) w.deref.ensures.value w.child_for-at.ensures in
+      let child = w.child_for-at.ensures in
       let k = w.index_mut.result.now in let k' = w.set.new.self in let here = w.index_mut.ensures.value in
       let is = writing part key c.args.value c.args.is_ghost k.entries in let e = w.set.ensures in
       rw w.self-inside-is (kept_depth part key (λ es. set_entry es part key c.args.value c.args.is_ghost) is
@@ -144,11 +138,11 @@ returns-clause-was_live t c = elim c.match-self.branch [
       w.result-is ∙ w.set_in_leaf.ensures.was_live ∙
       sym (ap (λ (s : Shape). is_some (live_value (find s.entries c.args.part c.args.key))) seen)
   | in-Inner w ↦
-      let ls = w.in-Inner.separators.items in let ks = w.in-Inner.children.items in let at = w.child_for-at.result in
+      let ls = w.in-Inner.separators in let ks = w.in-Inner.children.items in let at = w.child_for-at.result in
       let part = c.args.part in let key = c.args.key in
       let inner = subst IsTree w.in-Inner.is c.self.invariant in
       let seen : c.args.self.now ≡ inner_shape ks = sym c.self.view_is ∙ ap shape_of w.in-Inner.is in
-      let child = subst (λ ms. IsChildFor ms part key at) w.deref.ensures.value w.child_for-at.ensures in
+      let child = w.child_for-at.ensures in
       let k = w.index_mut.result.now in
       w.result-is ∙ w.set.ensures.was_live ∙
       sym (ap (λ (o : Option Slot). is_some (live_value o))

@@ -1,0 +1,274 @@
+-- The fronts of separators, where their list is changed and where it is searched.
+use Rattle.std.proofs.Common.{◌≡◌, ◌≢◌, ℕ, zero, suc, ◌+◌, ◌-◌, ◌*◌, ◌/◌, ◌^◌, ◌<◌, ◌≤◌, min, true, false, List, []}
+use Rattle.std.proofs.Common.{◌∷◌, ◌++◌, length, map, get_or, take, drop, nat_eq, nat_lt, refl, sym, ap, ◌∙◌, subst, arith}
+use Rattle.std.proofs.Common.{cond, ⊎_elim, length-append, length-drop}
+use Rattle.std.proofs.lemmas.Bool.{cases_Bool, cond-true, cond-false, ltb-true, ltb-false, lt-ltb, le-ltb, eqb-false}
+use Rattle.std.proofs.lemmas.List.{take-map, drop-map, length-map, get_or-map, get_or_default, take-append-drop}
+use Rattle.std.proofs.lemmas.List.{take-append-le, drop-append-le, length-take-le}
+use Rattle.std.proofs.lemmas.List.Sums.{count_by-le-length, prefix_len-le-length, sum_by-cons}
+use Rattle.std.specs.declared.cmp.Ordering.{Ordering}
+use Rattle.std.specs.declared.cmp.Ordering.TheVariants.{Less, Equal, Greater}
+use Rattle.std.specs.Ordering.{nat_cmp, is_le, MatchOrdering}
+use Rattle.std.specs.Cmp.{ranks}
+use Rattle.std.specs.List.{AllByRecursion, count_by, prefix_len, insert, remove}
+use Rattle.am_record.specs.OrderedKey.{OrderedKey, key_cmp}
+use Rattle.am_record.specs.KeyFront.{key_front}
+use Rattle.am_record.specs.EntryOrder.{Place, place_cmp, place_cmp-same}
+use Rattle.am_record.proofs.Lists.{AllByRecursion-map, AllByRecursion-append, AllByRecursion-take}
+use Rattle.am_record.proofs.Lists.{some_item}
+use Rattle.am_record.proofs.Orderings.{less_or_greater}
+use Rattle.am_record.proofs.PlaceOrder.{turned_less, lower_part}
+use Rattle.am_btree.specs.declared.separator.Separator.{Separator}
+use Rattle.am_btree.specs.Separators.{separator_place, SeparatorsRise, IsReach}
+use Rattle.am_btree.specs.Fronts.{place_front, fronts_of}
+use Rattle.am_btree.proofs.Reaching.{reached_to, reached_all}
+
+-- ---- where the list is changed
+
+module _ {X Y : Type 0} (f : X → Y) where
+  map-insert : (xs : List X) (i : ℕ) (x : X) → map f (insert xs i x) ≡ insert (map f xs) i (f x)
+  map-insert xs zero x = refl
+  map-insert [] (suc i) x = refl
+  map-insert (y ∷ xs) (suc i) x = ap (λ l. f y ∷ l) (map-insert xs i x)
+
+  map-remove : (xs : List X) (i : ℕ) → map f (remove xs i) ≡ remove (map f xs) i
+  map-remove [] zero = refl
+  map-remove [] (suc i) = refl
+  map-remove (y ∷ xs) zero = refl
+  map-remove (y ∷ xs) (suc i) = ap (λ l. f y ∷ l) (map-remove xs i)
+
+abbrev front : Separator → ℕ
+front l = place_front (separator_place l)
+
+module _ (ls : List Separator) (fs : List ℕ) (same : fs ≡ fronts_of ls) (i : ℕ) where
+  pub fronts-remove : remove fs i ≡ fronts_of (remove ls i)
+  fronts-remove = ap (λ l. remove l i) same ∙ sym (map-remove front ls i)
+
+  module _ (x : Separator) (n : ℕ) (its : n ≡ front x) where
+    pub fronts-insert : insert fs i n ≡ fronts_of (insert ls i x)
+    fronts-insert =
+        ap (λ l. insert l i n) same ∙ ap (insert (fronts_of ls) i) its ∙ sym (map-insert front ls i x)
+
+    pub fronts-take : (m : ℕ) → take m (insert fs i n) ≡ fronts_of (take m (insert ls i x))
+    fronts-take m = ap (take m) fronts-insert ∙ take-map front m (insert ls i x)
+
+    pub fronts-drop : (m : ℕ) → drop m (insert fs i n) ≡ fronts_of (drop m (insert ls i x))
+    fronts-drop m = ap (drop m) fronts-insert ∙ drop-map front m (insert ls i x)
+
+-- ---- a lower front is that of a lower place
+
+front-low : (p : Place) → p.0 < 65535 → place_front p ≡ p.0 * 2 ^ 48 + min (key_front p.1 / 2 ^ 16) (2 ^ 48 - 1)
+unfolding place_front
+front-low p h = cond-true (nat_lt p.0 65535) (p.0 * 2 ^ 48 + min (key_front p.1 / 2 ^ 16) (2 ^ 48 - 1)) (2 ^ 64 - 1)
+    (lt-ltb p.0 65535 h)
+
+front-high : (p : Place) → 65535 ≤ p.0 → place_front p ≡ 2 ^ 64 - 1
+unfolding place_front
+front-high p h = cond-false (nat_lt p.0 65535) (p.0 * 2 ^ 48 + min (key_front p.1 / 2 ^ 16) (2 ^ 48 - 1)) (2 ^ 64 - 1)
+    (le-ltb p.0 65535 h)
+
+front_most : (p : Place) → place_front p < 2 ^ 64
+front_most p = ⊎_elim (λ e. let low = ltb-true p.0 65535 e in omega (arith, front-low p low))
+    (λ e. omega (arith, front-high p (ltb-false p.0 65535 e))) (cases_Bool (nat_lt p.0 65535))
+
+module _ (law : (k l : OrderedKey) → key_front k < key_front l → key_cmp k l ≡ Less) where
+  -- in partitions below the last
+  among : (a b : Place) → a.0 < 65535 → b.0 < 65535 → place_front a < place_front b →
+      (r : Ordering) → MatchOrdering r (a.0 < b.0) (a.0 ≡ b.0) (b.0 < a.0) → place_cmp a b ≡ Less
+  among a b la lb h Less m = lower_part a b m
+  among a b la lb h Equal m =
+      let lower : key_front a.1 < key_front b.1 = omega (arith, h, front-low a la, front-low b lb, m) in
+      ap (λ n. place_cmp (n, a.1) b) m ∙ place_cmp-same b.0 a.1 b.1 ∙ law a.1 b.1 lower
+  among a b la lb h Greater m = absurd (omega (arith, h, front-low a la, front-low b lb, m))
+
+  pub places_follow : (a b : Place) → place_front a < place_front b → place_cmp a b ≡ Less
+  places_follow a b h =
+      ⊎_elim
+      (λ e. let la = ltb-true a.0 65535 e in
+      ⊎_elim (λ f. among a b la (ltb-true b.0 65535 f) h (nat_cmp a.0 b.0) (ranks a.0 b.0))
+      (λ f. let hb = ltb-false b.0 65535 f in lower_part a b (omega (arith, la, hb))) (cases_Bool (nat_lt b.0 65535)))
+      (λ e. absurd (omega (arith, h, front-high a (ltb-false a.0 65535 e), front_most b)))
+      (cases_Bool (nat_lt a.0 65535))
+
+  -- along a rising list the fronts don't fall
+  never_falls : (a b : Place) → place_cmp a b ≡ Less → place_front a ≤ place_front b
+  never_falls a b h =
+      ⊎_elim
+      (λ e. absurd (less_or_greater (place_cmp b a) (places_follow b a (ltb-true (place_front b) (place_front a) e))
+      (turned_less a b h)))
+      (λ e. ltb-false (place_front b) (place_front a) e) (cases_Bool (nat_lt (place_front b) (place_front a)))
+
+  -- ---- the search
+
+  rise-drop : (n : ℕ) (ls : List Separator) → SeparatorsRise ls → SeparatorsRise (drop n ls)
+  rise-drop zero ls r = r
+  rise-drop (suc n) [] r = tt
+  rise-drop (suc n) (l ∷ ls) r = rise-drop n ls r.1
+
+  rise-take : (n : ℕ) (ls : List Separator) → SeparatorsRise ls → SeparatorsRise (take n ls)
+  rise-take zero ls r = tt
+  rise-take (suc n) [] r = tt
+  rise-take (suc n) (l ∷ ls) r = (
+    AllByRecursion-take (λ m. place_cmp (separator_place l) (separator_place m) ≡ Less) n ls r.0,
+    rise-take n ls r.1,
+  )
+
+  module _ (p : Place) where
+    -- how many fronts are below the place's
+    abbrev lower : List Separator → ℕ
+    lower ls = count_by (λ n. nat_lt n (place_front p)) (fronts_of ls)
+
+    -- how many of the first are the place's
+    abbrev alike : List Separator → ℕ
+    alike ls = prefix_len (λ n. nat_eq n (place_front p)) (fronts_of ls)
+
+    abbrev AreLower : List Separator → Type 0
+    AreLower ls = AllByRecursion (λ l. front l < place_front p) ls
+
+    abbrev AreNoLower : List Separator → Type 0
+    AreNoLower ls = AllByRecursion (λ l. place_front p ≤ front l) ls
+
+    abbrev AreHigher : List Separator → Type 0
+    AreHigher ls = AllByRecursion (λ l. place_front p < front l) ls
+
+    lower-cons : (l : Separator) (ls : List Separator) →
+        lower (l ∷ ls) ≡ cond {A = ℕ} (nat_lt (front l) (place_front p)) 1 0 + lower ls
+    lower-cons l ls = sum_by-cons (λ n. cond {A = ℕ} (nat_lt n (place_front p)) 1 0) (front l) (fronts_of ls)
+
+    lower-yes : (l : Separator) (ls : List Separator) → nat_lt (front l) (place_front p) ≡ true →
+        lower (l ∷ ls) ≡ suc (lower ls)
+    lower-yes l ls e = omega (arith, lower-cons l ls, cond-true {A = ℕ} (nat_lt (front l) (place_front p)) 1 0 e)
+
+    lower-no : (l : Separator) (ls : List Separator) → nat_lt (front l) (place_front p) ≡ false →
+        lower (l ∷ ls) ≡ lower ls
+    lower-no l ls e = omega (arith, lower-cons l ls, cond-false {A = ℕ} (nat_lt (front l) (place_front p)) 1 0 e)
+
+    none_lower : (ls : List Separator) → AreNoLower ls → lower ls ≡ 0
+    none_lower [] a = refl
+    none_lower (l ∷ ls) a = lower-no l ls (le-ltb (front l) (place_front p) a.0) ∙ none_lower ls a.1
+
+    -- what stands behind a separator whose front isn't below
+    no_lower : (l : Separator) (ls : List Separator) → SeparatorsRise (l ∷ ls) → place_front p ≤ front l → AreNoLower ls
+    no_lower l ls r le = AllByRecursion-map (λ m. place_cmp (separator_place l) (separator_place m) ≡ Less)
+        (λ m. place_front p ≤ front m)
+        (λ m h. let more = never_falls (separator_place l) (separator_place m) h in omega (arith, le, more)) ls r.0
+
+    higher : (l : Separator) (ls : List Separator) → SeparatorsRise (l ∷ ls) → place_front p < front l → AreHigher ls
+    higher l ls r lt = AllByRecursion-map (λ m. place_cmp (separator_place l) (separator_place m) ≡ Less)
+        (λ m. place_front p < front m)
+        (λ m h. let more = never_falls (separator_place l) (separator_place m) h in omega (arith, lt, more)) ls r.0
+
+    -- the lower ones come first
+    lower_first : (ls : List Separator) → SeparatorsRise ls →
+        AreLower (take (lower ls) ls) × AreNoLower (drop (lower ls) ls)
+    lower_first [] r = (tt, tt)
+    lower_first (l ∷ ls) r =
+        ⊎_elim
+        (λ e. let rest = lower_first ls r.1 in
+        subst (λ n. AreLower (take n (l ∷ ls)) × AreNoLower (drop n (l ∷ ls))) (sym (lower-yes l ls e))
+        ((ltb-true (front l) (place_front p) e, rest.0), rest.1))
+        (λ e. let le = ltb-false (front l) (place_front p) e in let all = no_lower l ls r le in
+        subst (λ n. AreLower (take n (l ∷ ls)) × AreNoLower (drop n (l ∷ ls))) (sym (none_lower (l ∷ ls) (le, all)))
+        (tt, (le, all)))
+        (cases_Bool (nat_lt (front l) (place_front p)))
+
+    alike-yes : (l : Separator) (ls : List Separator) → nat_eq (front l) (place_front p) ≡ true →
+        alike (l ∷ ls) ≡ suc (alike ls)
+    alike-yes l ls e = omega (arith, cond-true (nat_eq (front l) (place_front p)) (1 + alike ls) 0 e)
+
+    alike-no : (l : Separator) (ls : List Separator) → nat_eq (front l) (place_front p) ≡ false → alike (l ∷ ls) ≡ 0
+    alike-no l ls e = cond-false (nat_eq (front l) (place_front p)) (1 + alike ls) 0 e
+
+    -- behind the lower ones and those of the same front stand higher ones
+    higher_last : (ls : List Separator) → SeparatorsRise ls → AreNoLower ls → AreHigher (drop (alike ls) ls)
+    higher_last [] r a = tt
+    higher_last (l ∷ ls) r a =
+        ⊎_elim
+        (λ e. subst (λ n. AreHigher (drop n (l ∷ ls))) (sym (alike-yes l ls e)) (higher_last ls r.1 a.1))
+        (λ e. let differs = eqb-false (front l) (place_front p) e in
+        let lt : place_front p < front l = omega (arith, a.0, differs) in
+        subst (λ n. AreHigher (drop n (l ∷ ls))) (sym (alike-no l ls e)) (lt, higher l ls r lt))
+        (cases_Bool (nat_eq (front l) (place_front p)))
+
+    -- lower ones, some that are reached so far, and higher ones
+    reach_joined : (ls ms hs : List Separator) (r : ℕ) → AreLower ls → IsReach ms p.0 p.1 r → AreHigher hs →
+        IsReach (ls ++ (ms ++ hs)) p.0 p.1 (length ls + r)
+    reach_joined [] ms hs r a b c =
+        subst (IsReach (ms ++ hs) p.0 p.1) {x = r} {y = 0 + r} (omega arith) (record {
+          in_range = omega (arith, b.in_range, length-append ms hs);
+          reached = subst (AllByRecursion (λ l. place_cmp (separator_place l) p ≢ Greater))
+              (sym (take-append-le r ms hs b.in_range)) b.reached;
+          above = subst (AllByRecursion (λ l. place_cmp (separator_place l) p ≡ Greater))
+              (sym (drop-append-le r ms hs b.in_range))
+              (AllByRecursion-append (λ l. place_cmp (separator_place l) p ≡ Greater) (drop r ms) hs b.above
+              (AllByRecursion-map (λ l. place_front p < front l) (λ l. place_cmp (separator_place l) p ≡ Greater)
+              (λ l h. turned_less p (separator_place l) (places_follow p (separator_place l) h)) hs c));
+        })
+    reach_joined (l ∷ ls) ms hs r a b c =
+        let rest = reach_joined ls ms hs r a.1 b c in
+        subst (IsReach (l ∷ (ls ++ (ms ++ hs))) p.0 p.1) {x = suc (length ls + r)} {y = suc (length ls) + r} (omega arith)
+        (record {
+          in_range = omega (arith, rest.in_range);
+          reached = (
+            (λ g. less_or_greater (place_cmp (separator_place l) p) (places_follow (separator_place l) p a.0) g),
+            rest.reached,
+          );
+          above = rest.above;
+        })
+
+    module _ (ls : List Separator) (rise : SeparatorsRise ls) (fs : List ℕ) (theirs : fs ≡ fronts_of ls) (f : ℕ)
+        (its : f ≡ place_front p) where
+      -- where the last front is lower, all are
+      pub reach_whole : (j x : ℕ) → suc j ≡ length fs → x ≡ get_or fs j x → x < f → IsReach ls p.0 p.1 (length fs)
+      reach_whole j x last here below =
+          let long : length fs ≡ length ls = ap length theirs ∙ length-map ls front in
+          let within : j < length ls = omega (arith, last, long) in
+          let d = some_item ls j within in let s = get_or ls j d in
+          let is : x ≡ front s = here ∙ ap (λ l. get_or l j x) theirs ∙ get_or-map front ls j d x within in
+          let lt : front s < place_front p = omega (arith, below, is, its) in
+          reached_all p ls (length fs) long (reached_to p ls rise j s within (get_or_default ls j d s within)
+          (ap is_le (places_follow (separator_place s) p lt)) (length fs) (omega (arith, last)))
+
+      module _ (n m : ℕ) (first : n ≡ count_by (λ x. nat_lt x f) fs)
+          (next : m ≡ prefix_len (λ x. nat_eq x f) (drop n fs)) where
+        first_is : n ≡ lower ls
+        first_is = first ∙ ap (λ g. count_by (λ x. nat_lt x g) fs) its ∙
+            ap (count_by (λ x. nat_lt x (place_front p))) theirs
+
+        next_is : m ≡ alike (drop n ls)
+        next_is = next ∙ ap (λ g. prefix_len (λ x. nat_eq x g) (drop n fs)) its ∙
+            ap (prefix_len (λ x. nat_eq x (place_front p))) (ap (drop n) theirs ∙ drop-map front n ls)
+
+        first_within : n ≤ length ls
+        first_within = omega (
+          arith,
+          first_is,
+          count_by-le-length (λ x. nat_lt x (place_front p)) (fronts_of ls),
+          length-map ls front,
+        )
+
+        pub both_within : n + m ≤ length ls
+        both_within = omega (
+          arith,
+          first_within,
+          next_is,
+          prefix_len-le-length (λ x. nat_eq x (place_front p)) (fronts_of (drop n ls)),
+          length-map (drop n ls) front,
+          length-drop n ls,
+        )
+
+        pub these_rise : SeparatorsRise (take m (drop n ls))
+        these_rise = rise-take m (drop n ls) (rise-drop n ls rise)
+
+        -- those of the place's own front alone have to be looked at
+        pub reach_by_fronts : (r : ℕ) → IsReach (take m (drop n ls)) p.0 p.1 r → IsReach ls p.0 p.1 (n + r)
+        reach_by_fronts r h =
+            let below = subst (λ k. AreLower (take k ls) × AreNoLower (drop k ls)) (sym first_is)
+            (lower_first ls rise) in
+            let above = subst (λ k. AreHigher (drop k (drop n ls))) (sym next_is)
+            (higher_last (drop n ls) (rise-drop n ls rise) below.1) in
+            let whole : take n ls ++ (take m (drop n ls) ++ drop m (drop n ls)) ≡ ls =
+            ap (λ l. take n ls ++ l) (take-append-drop m (drop n ls)) ∙ take-append-drop n ls in
+            subst (λ k. IsReach ls p.0 p.1 (k + r)) (length-take-le n ls first_within)
+            (subst (λ l. IsReach l p.0 p.1 (length (take n ls) + r)) whole
+            (reach_joined (take n ls) (take m (drop n ls)) (drop m (drop n ls)) r below.0 h above))

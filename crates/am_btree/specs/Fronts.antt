@@ -1,0 +1,16 @@
+-- The fronts of places, which follow their order.
+use Rattle.std.specs.Prelude.{ℕ, ◌+◌, ◌-◌, ◌*◌, ◌/◌, ◌^◌, List, map, min, nat_lt, if◌then◌else◌}
+use Rattle.am_record.specs.EntryOrder.{Place}
+use Rattle.am_record.specs.KeyFront.{key_front}
+use Rattle.am_btree.specs.declared.separator.Separator.{Separator}
+use Rattle.am_btree.specs.Separators.{separator_place}
+
+-- the partition as the upper 16 bits of 64, and the upper 48 of the key's front as the others. All places from the
+-- partition 65,535 on have one front, the highest
+unfoldable pub place_front : Place → ℕ
+place_front p =
+    if nat_lt p.0 65535 then p.0 * 2 ^ 48 + min (key_front p.1 / 2 ^ 16) (2 ^ 48 - 1) else 2 ^ 64 - 1
+
+-- those of separators, one for each
+abbrev pub fronts_of : List Separator → List ℕ
+fronts_of separators = map (λ l. place_front (separator_place l)) separators
