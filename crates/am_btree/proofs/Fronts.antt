@@ -1,6 +1,7 @@
 -- The fronts of separators, where their list is changed and where it is searched.
 use Rattle.std.proofs.Common.{◌≡◌, ◌≢◌, ℕ, zero, suc, ◌+◌, ◌-◌, ◌*◌, ◌/◌, ◌^◌, ◌<◌, ◌≤◌, min, true, false, List, []}
-use Rattle.std.proofs.Common.{◌∷◌, ◌++◌, length, map, get_or, take, drop, nat_eq, nat_lt, refl, sym, ap, ◌∙◌, subst, arith}
+use Rattle.std.proofs.Common.{◌∷◌, ◌++◌, length, map, get_or, take, drop, nat_eq, nat_lt, refl, sym, ap, ◌∙◌, subst}
+use Rattle.std.proofs.Common.{arith}
 use Rattle.std.proofs.Common.{cond, ⊎_elim, length-append, length-drop}
 use Rattle.std.proofs.lemmas.Bool.{cases_Bool, cond-true, cond-false, ltb-true, ltb-false, lt-ltb, le-ltb, eqb-false}
 use Rattle.std.proofs.lemmas.List.{take-map, drop-map, length-map, get_or-map, get_or_default, take-append-drop}
@@ -206,7 +207,8 @@ module _ (law : (k l : OrderedKey) → key_front k < key_front l → key_cmp k l
         })
     reach_joined (l ∷ ls) ms hs r a b c =
         let rest = reach_joined ls ms hs r a.1 b c in
-        subst (IsReach (l ∷ (ls ++ (ms ++ hs))) p.0 p.1) {x = suc (length ls + r)} {y = suc (length ls) + r} (omega arith)
+        subst (IsReach (l ∷ (ls ++ (ms ++ hs))) p.0 p.1) {x = suc (length ls + r)} {y = suc (length ls) + r}
+        (omega arith)
         (record {
           in_range = omega (arith, rest.in_range);
           reached = (
