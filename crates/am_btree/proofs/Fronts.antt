@@ -21,7 +21,7 @@ use Rattle.am_record.proofs.Orderings.{less_or_greater}
 use Rattle.am_record.proofs.PlaceOrder.{turned_less, lower_part}
 use Rattle.am_btree.specs.declared.separator.Separator.{Separator}
 use Rattle.am_btree.specs.Separators.{separator_place, SeparatorsRise, IsReach}
-use Rattle.am_btree.specs.Fronts.{place_front, fronts_of}
+use Rattle.am_btree.specs.Fronts.{short_front, place_front, fronts_of}
 use Rattle.am_btree.proofs.Reaching.{reached_to, reached_all}
 
 -- ---- where the list is changed
@@ -58,18 +58,44 @@ module _ (ls : List Separator) (fs : List ℕ) (same : fs ≡ fronts_of ls) (i :
 
 -- ---- a lower front is that of a lower place
 
-front-low : (p : Place) → p.0 < 65535 → place_front p ≡ p.0 * 2 ^ 48 + min (key_front p.1 / 2 ^ 16) (2 ^ 48 - 1)
+short-small : (n : ℕ) → n < 2 ^ 47 → short_front n ≡ n
+unfolding short_front
+short-small n h = cond-true (nat_lt n (2 ^ 47)) n (min (2 ^ 47 + n / 2 ^ 17) (2 ^ 48 - 1)) (lt-ltb n (2 ^ 47) h)
+
+short-large : (n : ℕ) → 2 ^ 47 ≤ n → short_front n ≡ min (2 ^ 47 + n / 2 ^ 17) (2 ^ 48 - 1)
+unfolding short_front
+short-large n h = cond-false (nat_lt n (2 ^ 47)) n (min (2 ^ 47 + n / 2 ^ 17) (2 ^ 48 - 1)) (le-ltb n (2 ^ 47) h)
+
+short_most : (n : ℕ) → short_front n < 2 ^ 48
+short_most n = ⊎_elim (λ e. let small = ltb-true n (2 ^ 47) e in omega (arith, short-small n small))
+    (λ e. omega (arith, short-large n (ltb-false n (2 ^ 47) e))) (cases_Bool (nat_lt n (2 ^ 47)))
+
+short_follows : (n m : ℕ) → short_front n < short_front m → n < m
+short_follows n m h =
+    ⊎_elim
+    (λ e. let small = ltb-true n (2 ^ 47) e in
+    ⊎_elim (λ f. omega (arith, h, short-small n small, short-small m (ltb-true m (2 ^ 47) f)))
+    (λ f. let large = ltb-false m (2 ^ 47) f in omega (arith, small, large)) (cases_Bool (nat_lt m (2 ^ 47))))
+    (λ e. let large = ltb-false n (2 ^ 47) e in
+    ⊎_elim
+    (λ f. let small = ltb-true m (2 ^ 47) f in omega (arith, h, small, short-small m small, short-large n large))
+    (λ f. omega (arith, h, short-large n large, short-large m (ltb-false m (2 ^ 47) f)))
+    (cases_Bool (nat_lt m (2 ^ 47))))
+    (cases_Bool (nat_lt n (2 ^ 47)))
+
+front-low : (p : Place) → p.0 < 65535 → place_front p ≡ p.0 * 2 ^ 48 + short_front (key_front p.1)
 unfolding place_front
-front-low p h = cond-true (nat_lt p.0 65535) (p.0 * 2 ^ 48 + min (key_front p.1 / 2 ^ 16) (2 ^ 48 - 1)) (2 ^ 64 - 1)
+front-low p h = cond-true (nat_lt p.0 65535) (p.0 * 2 ^ 48 + short_front (key_front p.1)) (2 ^ 64 - 1)
     (lt-ltb p.0 65535 h)
 
 front-high : (p : Place) → 65535 ≤ p.0 → place_front p ≡ 2 ^ 64 - 1
 unfolding place_front
-front-high p h = cond-false (nat_lt p.0 65535) (p.0 * 2 ^ 48 + min (key_front p.1 / 2 ^ 16) (2 ^ 48 - 1)) (2 ^ 64 - 1)
+front-high p h = cond-false (nat_lt p.0 65535) (p.0 * 2 ^ 48 + short_front (key_front p.1)) (2 ^ 64 - 1)
     (le-ltb p.0 65535 h)
 
 front_most : (p : Place) → place_front p < 2 ^ 64
-front_most p = ⊎_elim (λ e. let low = ltb-true p.0 65535 e in omega (arith, front-low p low))
+front_most p = ⊎_elim (λ e. let low = ltb-true p.0 65535 e in
+    omega (arith, low, front-low p low, short_most (key_front p.1)))
     (λ e. omega (arith, front-high p (ltb-false p.0 65535 e))) (cases_Bool (nat_lt p.0 65535))
 
 module _ (law : (k l : OrderedKey) → key_front k < key_front l → key_cmp k l ≡ Less) where
@@ -78,9 +104,10 @@ module _ (law : (k l : OrderedKey) → key_front k < key_front l → key_cmp k l
       (r : Ordering) → MatchOrdering r (a.0 < b.0) (a.0 ≡ b.0) (b.0 < a.0) → place_cmp a b ≡ Less
   among a b la lb h Less m = lower_part a b m
   among a b la lb h Equal m =
-      let lower : key_front a.1 < key_front b.1 = omega (arith, h, front-low a la, front-low b lb, m) in
+      let lower = short_follows (key_front a.1) (key_front b.1) (omega (arith, h, front-low a la, front-low b lb, m)) in
       ap (λ n. place_cmp (n, a.1) b) m ∙ place_cmp-same b.0 a.1 b.1 ∙ law a.1 b.1 lower
-  among a b la lb h Greater m = absurd (omega (arith, h, front-low a la, front-low b lb, m))
+  among a b la lb h Greater m =
+      absurd (omega (arith, h, front-low a la, front-low b lb, m, short_most (key_front b.1)))
 
   pub places_follow : (a b : Place) → place_front a < place_front b → place_cmp a b ≡ Less
   places_follow a b h =

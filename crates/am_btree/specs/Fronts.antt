@@ -5,11 +5,14 @@ use Rattle.am_record.specs.KeyFront.{key_front}
 use Rattle.am_btree.specs.declared.separator.Separator.{Separator}
 use Rattle.am_btree.specs.Separators.{separator_place}
 
--- the partition as the upper 16 bits of 64, and the upper 48 of the key's front as the others. All places from the
--- partition 65,535 on have one front, the highest
+-- a key's front in 48 bits: one below 2^47 as it is, and the upper 47 bits of any other
+unfoldable pub short_front : ℕ → ℕ
+short_front n = if nat_lt n (2 ^ 47) then n else min (2 ^ 47 + n / 2 ^ 17) (2 ^ 48 - 1)
+
+-- the partition as the upper 16 bits of 64, and the key's short front as the others. All places from the partition
+-- 65,535 on have one front, the highest
 unfoldable pub place_front : Place → ℕ
-place_front p =
-    if nat_lt p.0 65535 then p.0 * 2 ^ 48 + min (key_front p.1 / 2 ^ 16) (2 ^ 48 - 1) else 2 ^ 64 - 1
+place_front p = if nat_lt p.0 65535 then p.0 * 2 ^ 48 + short_front (key_front p.1) else 2 ^ 64 - 1
 
 -- those of separators, one for each
 abbrev pub fronts_of : List Separator → List ℕ

@@ -1,6 +1,7 @@
 //! Where a child of a node begins.
 
-ghost use Rattle.std.specs.Prelude.{◌≡◌};
+ghost use Rattle.std.specs.Prelude.{◌≡◌, ◌<◌, ◌^◌};
+ghost use Rattle.am_btree.specs.Fronts.{short_front};
 ghost use Rattle.am_btree.specs.Separators.{IsReach, SeparatorsRise};
 
 use am_record::{Entry, Key};
@@ -42,7 +43,7 @@ impl Separator {
         ensures { result ≡ place_front (separator_place self.now) }
     {
         if self.part < LAST_PART {
-            u64::from(self.part) * (1 << 48) + self.key.front() / (1 << 16)
+            u64::from(self.part) * (1 << 48) + short_front(self.key.front())
         } else {
             u64::MAX
         }
@@ -60,6 +61,20 @@ impl Separator {
         ensures { result ≡ place_cmp (separator_place self.now) (part, key) }
     {
         self.part.cmp(&part).then(self.key.cmp(&key))
+    }
+}
+
+// A key's front in 48 bits. Small numbers keep all of theirs, since numbers that count up differ in their last bits; the
+// fronts of texts are no small numbers.
+#[tactic(auto, unfolding(crate::specs::Fronts::short_front))]
+fn short_front(front: u64) -> u64
+    ensures value { result ≡ short_front front }
+    ensures short { result < 2 ^ 48 }
+{
+    if front < 1 << 47 {
+        front
+    } else {
+        (1 << 47) + front / (1 << 17)
     }
 }
 
