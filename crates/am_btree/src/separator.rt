@@ -64,8 +64,8 @@ impl Separator {
     }
 }
 
-// A key's front in 48 bits. Small numbers keep all of theirs, since numbers that count up differ in their last bits; the
-// fronts of texts are no small numbers.
+// A key's front in 48 bits. Small numbers keep all of theirs, since numbers that count up differ in their last bits.
+// The fronts of texts are no small numbers.
 #[tactic(auto, unfolding(crate::specs::Fronts::short_front))]
 fn short_front(front: u64) -> u64
     ensures value { result ≡ short_front front }
