@@ -13,7 +13,7 @@ from collections.abc import Callable
 
 # Calls that may take long, or end a store that is large: other threads of Python run meanwhile. The others are over sooner
 # than a thread can be woken.
-_LONG = ["open", "close", "abort", "load", "load_text"]
+_LONG = ["open", "close", "abort", "load", "load_structs", "load_text"]
 _SHORT = [
     "begin", "commit", "mark", "back", "get", "insert", "replace", "delete", "scan", "scan_behind", "lock", "merge", "clean",
     "commits", "entries", "figures",

@@ -17,6 +17,8 @@ from .errors import MAX_KEY, MAX_VALUE, BadLine, bad_key, bad_value, shown
 Text = Union[bytes, bytearray, memoryview, str]
 Record = tuple[bytes, bytes]
 Records = Union[Mapping[Any, Text], Iterable[tuple[Text, Text]]]
+Place = tuple[int, int]
+"""At which byte of a struct something begins, and how many bytes it has."""
 
 GREATEST = b"\xff" * MAX_KEY
 
@@ -48,6 +50,30 @@ def text_of(room: ctypes.Array[ctypes.c_char]) -> bytes:
     """The text in a `tvk_value` or a `tvk_key`."""
     raw = room.raw
     return raw[_LENGTH : _LENGTH + raw[_LOWEST]]
+
+
+def layout_of(size: int, key: Place, value: Place) -> ctypes.Array[ctypes.c_size_t]:
+    """`tvk_layout` of structs of so many bytes, with a key and a value at these places."""
+    for at, length in (key, value):
+        if not 0 <= at <= at + length <= size:
+            raise ValueError(f"{length} bytes from byte {at} on don't lie in a struct of {size}")
+    if key[1] > MAX_KEY:
+        raise bad_key(key[1])
+    if value[1] > MAX_VALUE:
+        raise bad_value(value[1])
+    return (ctypes.c_size_t * 5)(size, *key, *value)
+
+
+def lent(structs: Any) -> tuple[Any, int]:
+    """The bytes of an object as C is passed them, and how many they are. They are copied where nobody may write to them, but
+    for `bytes`."""
+    if isinstance(structs, bytes):
+        return ctypes.c_char_p(structs), len(structs)
+    view = memoryview(structs)
+    if not view.c_contiguous:
+        raise ValueError("the structs don't stand one behind another")
+    kind = ctypes.c_char * view.nbytes
+    return (kind.from_buffer_copy if view.readonly else kind.from_buffer)(structs), view.nbytes
 
 
 class _Sizes(dict[int, ctypes.c_size_t]):

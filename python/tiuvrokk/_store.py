@@ -15,8 +15,8 @@ from types import TracebackType
 from typing import Any, NamedTuple, NoReturn, Optional, TypeVar, Union, overload
 
 from ._library import Call, Counts, Handle, Number, calls
-from ._records import GREATEST, SIZES, Key, Page, Record, Records, Text, Value, bad_line, below, bytes_of, double_line
-from ._records import first_double, line_runs, packed, plain_text, range_of, runs_of, text_of
+from ._records import GREATEST, SIZES, Key, Page, Place, Record, Records, Text, Value, bad_line, below, bytes_of, double_line
+from ._records import first_double, layout_of, lent, line_runs, packed, plain_text, range_of, runs_of, text_of
 from .errors import MAX_LIMIT, Absent, Bad, Closed, Exists, NotRising, Status, Twice, WrongThread, bad_limit, bad_range, error_of
 
 Default = TypeVar("Default")
@@ -380,6 +380,31 @@ class Transaction(_Unique):
         run is locked, and all keys are where there are more than 255."""
         self._store._use()
         return self._load_runs(runs_of(records, _run(run)))
+
+    def load_structs(self, structs: Any, size: int, key: Place, value: Place) -> int:
+        """Adds the records of structs of `size` bytes, one behind another, as `struct.pack` or an array of numpy has them: `key`
+        and `value` say at which byte of a struct each begins, and how many bytes it has. They may come in any order. The library
+        cuts and sorts them into runs of 65,536, and nothing else is made of them. Answers how many records were added.
+
+        Raises `Twice` where a key stands twice, and adds nothing then, and `Exists` as `load` does."""
+        self._store._use()
+        layout = layout_of(index(size), key, value)
+        room, length = lent(structs)
+        number, rest = divmod(length, size) if length else (0, 0)
+        if rest:
+            raise ValueError(f"{length} bytes are no whole number of structs of {size}")
+        if not number:
+            return 0
+        if number > _LOCKED_RUNS * RUN:
+            self.lock(b"", GREATEST, exclusive=True)
+        found, loaded = Key(), Number()
+        try:
+            status = self._ask(calls.load_structs, Number(), room, ctypes.c_size_t(number), layout, found, loaded)
+        except Twice:
+            raise Twice(text_of(found)) from None
+        if status:
+            raise Exists(text_of(found))
+        return loaded[0]
 
     def scan(self, lo: Text = b"", hi: Text = GREATEST, page: int = 100) -> Iterator[Record]:
         """The records from `lo` to `hi`, both included, by rising key. So many are read at a time: `page` at first, 999 at most,
