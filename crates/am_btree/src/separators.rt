@@ -142,8 +142,15 @@ fn search(separators: &[Separator], fronts: &[u64], part: u32, key: Key) -> usiz
     fronts_follow_keys();
     let front = Separator { part, key }.front();
     let len = fronts.len();
-    if len > 0 && fronts[len - 1] < front {
-        return len;
+    if len > 0 {
+        let last = fronts[len - 1];
+        if last < front {
+            return len;
+        }
+        // Then all of them are the place's front, as of texts that begin alike.
+        if last == front && fronts[0] == front {
+            return reached(separators, part, key);
+        }
     }
     let lower = count_lower(fronts, front);
     let alike = count_alike(&fronts[lower..], front);
