@@ -1,8 +1,8 @@
 mod Cutting
 mod Given
 mod Handles
+mod Layouts
 mod Loosened
 mod Rows
-mod Structs
 mod Turns
 mod Zeros
