@@ -54,6 +54,8 @@ def text_of(room: ctypes.Array[ctypes.c_char]) -> bytes:
 
 def layout_of(size: int, key: Place, value: Place) -> ctypes.Array[ctypes.c_size_t]:
     """`tvk_layout` of structs of so many bytes, with a key and a value at these places."""
+    if size < 1:
+        raise ValueError("a struct has a byte at least")
     for at, length in (key, value):
         if not 0 <= at <= at + length <= size:
             raise ValueError(f"{length} bytes from byte {at} on don't lie in a struct of {size}")
