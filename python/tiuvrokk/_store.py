@@ -383,8 +383,9 @@ class Transaction(_Unique):
 
     def load_structs(self, structs: Any, size: int, key: Place, value: Place) -> int:
         """Adds the records of structs of `size` bytes, one behind another, as `struct.pack` or an array of numpy has them: `key`
-        and `value` say at which byte of a struct each begins, and how many bytes it has. They may come in any order. The library
-        cuts and sorts them into runs of 65,536, and nothing else is made of them. Answers how many records were added.
+        and `value` say at which byte of a struct each begins, and how many bytes it has. They may come in any order: the
+        library cuts and sorts them into runs of 65,536. Structs that nobody may write to are copied first, where they aren't
+        `bytes`. Answers how many records were added.
 
         Raises `Twice` where a key stands twice, and adds nothing then, and `Exists` as `load` does."""
         self._store._use()
