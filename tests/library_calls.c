@@ -444,6 +444,14 @@ static void test_bad_use(void) {
     layout.key_length = 1;
     layout.key_at = SIZE_MAX;
     EXPECT(TVK_BAD_KEY, tvk_load_structs(&store, tx, rows, 1, &layout, NULL, NULL, NULL));
+    /* Structs of no bytes, however many they are. */
+    layout.size = 0;
+    EXPECT(TVK_BAD_KEY, tvk_load_structs(&store, tx, rows, 1, &layout, NULL, NULL, NULL));
+    EXPECT(TVK_NO_MEMORY, tvk_load_structs(&store, tx, rows, SIZE_MAX, &layout, NULL, NULL, NULL));
+    memset(&layout, 0, sizeof layout);
+    EXPECT(TVK_NO_TX, tvk_load_structs(&store, tx, rows, 1, &layout, NULL, NULL, NULL));
+    EXPECT(TVK_TWICE, tvk_load_structs(&store, tx, rows, 2, &layout, NULL, NULL, NULL));
+    EXPECT(TVK_NO_MEMORY, tvk_load_structs(&store, tx, rows, SIZE_MAX, &layout, NULL, NULL, NULL));
     EXPECT(TVK_NO_STORE, tvk_load_text(&closed, tx, NULL, 1, NULL, NULL, NULL, NULL));
     EXPECT(TVK_NULL, tvk_load_text(&store, tx, NULL, 1, NULL, NULL, NULL, NULL));
     EXPECT(TVK_NO_TX, tvk_load_text(&store, tx, NULL, 0, NULL, NULL, NULL, NULL));

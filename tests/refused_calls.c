@@ -10,8 +10,11 @@ enum { MOST = 2000 };
 static tvk_store store = TVK_CLOSED;
 static uint64_t tx;
 static tvk_record rows[TVK_MAX_ROWS];
-/* What has to stand, by number: the first byte of its value, or 0 where it is absent. */
+/* What has to stand, by number: the first byte of its value, or 0 where it is absent, and how long the value is. */
 static char stands[MOST];
+static uint8_t lengths[MOST];
+/* How long the values are that are written next. */
+static uint8_t value_length = 1;
 static int differs;
 /* A look at the records leaves wishes to merge them; where that would tell on the test only their number is looked at. */
 static int is_counted;
@@ -48,6 +51,7 @@ static int is_as_it_was(void) {
             if (!stands[number]) continue;
             key_of(number, text);
             if (at >= told || memcmp(rows[at].key.bytes, text, 4) || rows[at].value.bytes[0] != (uint8_t)stands[number]) return 0;
+            if (rows[at].value.length != lengths[number]) return 0;
             at++;
         }
         if (at != told) return 0;
@@ -75,20 +79,27 @@ static void close_and_tell(const char *name) {
     differs = 0;
 }
 
+static void now_stands(int number, char byte) {
+    stands[number] = byte;
+    lengths[number] = value_length;
+}
+
 static void insert(int number, char byte) {
-    char key[8];
+    char key[8], value[64];
     tvk_status got;
     size_t length = key_of(number, key);
-    want(AGAIN(tvk_insert(&store, tx, key, length, &byte, 1, NULL)) == TVK_OK);
-    stands[number] = byte;
+    memset(value, byte, sizeof value);
+    want(AGAIN(tvk_insert(&store, tx, key, length, value, value_length, NULL)) == TVK_OK);
+    now_stands(number, byte);
 }
 
 static void replace(int number, char byte) {
-    char key[8];
+    char key[8], value[64];
     tvk_status got;
     size_t length = key_of(number, key);
-    want(AGAIN(tvk_replace(&store, tx, key, length, &byte, 1, NULL)) == TVK_OK);
-    stands[number] = byte;
+    memset(value, byte, sizeof value);
+    want(AGAIN(tvk_replace(&store, tx, key, length, value, value_length, NULL)) == TVK_OK);
+    now_stands(number, byte);
 }
 
 static void delete(int number) {
@@ -114,11 +125,11 @@ static void load(int from, int to, int step, char byte) {
         memset(&records[count], 0, sizeof *records);
         records[count].key.length = key_of(number, key);
         memcpy(records[count].key.bytes, key, 4);
-        records[count].value.length = 1;
-        records[count].value.bytes[0] = (uint8_t)byte;
+        records[count].value.length = value_length;
+        memset(records[count].value.bytes, byte, value_length);
     }
     want(AGAIN(tvk_load(&store, tx, records, count, NULL, NULL)) == TVK_OK);
-    for (int number = from; number < to; number += step) stands[number] = byte;
+    for (int number = from; number < to; number += step) now_stands(number, byte);
 }
 
 static void lock_all(void) {
@@ -176,9 +187,9 @@ static void any_order(void) {
         memcpy(text + i * 7 + 4, "\tb\n", 3);
     }
     want(AGAIN(tvk_load_sorting(&store, tx, records, 200, NULL, &loaded, NULL)) == TVK_OK && loaded == 200);
-    for (int number = 0; number < 200; number++) stands[number] = 'a';
+    for (int number = 0; number < 200; number++) now_stands(number, 'a');
     want(AGAIN(tvk_load_text(&store, tx, text, 200 * 7 - 1, NULL, &line, &loaded, NULL)) == TVK_OK && loaded == 200 && !line);
-    for (int number = 1000; number < 1200; number++) stands[number] = 'b';
+    for (int number = 1000; number < 1200; number++) now_stands(number, 'b');
     want(is_as_it_was());
     want(AGAIN(tvk_load_sorting(&store, tx, records + 20, 180, &key, &loaded, NULL)) == TVK_EXISTS && !loaded);
     want(key.length == 4 && !memcmp(key.bytes, "0001", 4));
@@ -194,7 +205,9 @@ static void any_order(void) {
 static void one_beginning(void) {
     static tvk_record records[60];
     static const tvk_layout layout = {sizeof *records, offsetof(tvk_record, key.bytes), 18, offsetof(tvk_record, value.bytes), 0};
+    static const tvk_layout without_key = {sizeof *records, sizeof *records, 1, 0, 0};
     uint64_t loaded, told;
+    tvk_key key;
     tvk_status got;
     open_anew();
     memset(records, 0, sizeof records);
@@ -205,6 +218,10 @@ static void one_beginning(void) {
     is_counted = 1;
     want(AGAIN(tvk_load_structs(&store, tx, records, 60, &layout, NULL, &loaded, NULL)) == TVK_OK && loaded == 60);
     memset(stands, 'a', 60);
+    records[59] = records[7];
+    want(AGAIN(tvk_load_structs(&store, tx, records, 60, &layout, &key, &loaded, NULL)) == TVK_TWICE && !loaded);
+    want(key.length == 18 && !memcmp(key.bytes, records[7].key.bytes, 18));
+    want(AGAIN(tvk_load_structs(&store, tx, records, 60, &without_key, NULL, &loaded, NULL)) == TVK_BAD_KEY && !loaded);
     want(AGAIN(tvk_scan(&store, tx, "one", 3, "two", 3, rows, 1000, &told)) == TVK_OK && told == 60);
     is_counted = 0;
     for (int number = 0; number < 60; number++) {
@@ -373,6 +390,54 @@ static void abort_restores(void) {
     close_and_tell("abort_restores_across_partitions");
 }
 
+/* Values that are longer than those in whose leaves they come want memory; to set back what stood there wants none. */
+static void longer_values(void) {
+    static char stood[MOST];
+    static uint8_t long_was[MOST];
+    uint64_t told;
+    tvk_status got = TVK_OK;
+    open_anew();
+    load(0, 40, 1, 'r');
+    for (int number = 100; number < 140; number++) insert(number, 'a');
+    commit();
+    memcpy(stood, stands, sizeof stands);
+    memcpy(long_was, lengths, sizeof lengths);
+    begin();
+    value_length = 40;
+    replace(5, 'R');
+    replace(120, 'A');
+    delete(110);
+    insert(110, 'B');
+    load(200, 240, 1, 'S');
+    value_length = 1;
+    replace(120, 'c');
+    value_length = 64;
+    replace(121, 'D');
+    want(is_as_it_was());
+    want(tvk_abort(&store, tx) == TVK_OK);
+    memcpy(stands, stood, sizeof stands);
+    memcpy(lengths, long_was, sizeof lengths);
+    begin();
+    want(is_as_it_was());
+
+    /* A longer value that goes home over a deleted record. */
+    delete(139);
+    commit();
+    begin();
+    value_length = 17;
+    load(139, 141, 1, 'L');
+    commit();
+    value_length = 1;
+    begin();
+    wish_for(139, 140);
+    for (int steps = 0; steps < 1000 && got != TVK_IDLE; steps++) {
+        got = tvk_merge(&store, 64, &told);
+        want(got == TVK_OK || got == TVK_DONE || got == TVK_NO_MEMORY || got == TVK_IDLE);
+    }
+    want(got == TVK_IDLE && is_as_it_was());
+    close_and_tell("longer_values");
+}
+
 int main(int words, char **word) {
     static char buffer[4096];
     setvbuf(stdout, buffer, _IOFBF, sizeof buffer);
@@ -381,6 +446,7 @@ int main(int words, char **word) {
         return 0;
     }
     tree_of(33, "full_leaf_and_one_more");
+    longer_values();
     tree_of(MOST, "tree_of_two_thousand");
     two_loads();
     any_order();

@@ -299,13 +299,15 @@ def ended_store(cluster: Cluster) -> None:
     start(cluster, 3, store=f"sh -c 'ulimit -v 60000; exec {STORE}'")
     one = cluster.client(1)
     keys = [f"m{number:06}" for number in range(500_000)]
-    rows = [" ".join(f"{key}=value" for key in keys[at:at + 250]) for at in range(0, len(keys), 250)]
+    # (values of 16 bytes or fewer would fit into the memory that there is)
+    value = 17 * "v"
+    rows = [" ".join(f"{key}={value}" for key in keys[at:at + 125]) for at in range(0, len(keys), 125)]
     for at in range(0, len(rows), 200):
         lines = [f"STAGE {row}" for row in rows[at:at + 199]] + [f"LOAD {rows[at + 199]}"]
         wanted("a load", set(one.ask("BEGIN", *lines)[1:]), {"OK"})
         wanted("its end", one.ask("COMMIT")[0].split()[0], "COMMITTED")
     wanted("a store that is refused memory", cluster.replicas[3].wait(60), 3)
-    wanted("the others", [sees(cluster, at, keys[-1]) for at in (1, 2)], ["VAL value"] * 2)
+    wanted("the others", [sees(cluster, at, keys[-1]) for at in (1, 2)], [f"VAL {value}"] * 2)
 
 
 def all_corners(cluster: Cluster) -> None:

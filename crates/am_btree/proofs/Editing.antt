@@ -17,6 +17,7 @@ use Rattle.am_list.specs.Places.{AllBelow, NoneBelow, AllAbove}
 use Rattle.am_list.proofs.Removals.{remove_from-back, remove_from-front, all_remove_from, rising_remove_from}
 use Rattle.am_btree.specs.declared.separator.Separator.{Separator}
 use Rattle.am_btree.specs.Shape.{Shape}
+use Rattle.am_btree.specs.Rooms.{IsRoomed}
 use Rattle.am_btree.specs.Separators.{separator_place, IsChildFor}
 use Rattle.am_btree.specs.Nodes.{all_entries, depth_of, AreParted, AreChildren, IsInner}
 use Rattle.am_btree.proofs.Children.{all_below_through, children_above}
@@ -33,7 +34,7 @@ all_set P [] i y a h = tt
 all_set P (x ∷ xs) zero y a h = (h, a.1)
 all_set P (x ∷ xs) (suc i) y a h = (a.0, all_set P xs i y a.1 h)
 
-remove_set : {X : Type 0} (xs : List X) (i : ℕ) (y : X) → remove (set xs i y) i ≡ remove xs i
+pub remove_set : {X : Type 0} (xs : List X) (i : ℕ) (y : X) → remove (set xs i y) i ≡ remove xs i
 remove_set [] i y = refl
 remove_set (x ∷ xs) zero y = refl
 remove_set (x ∷ xs) (suc i) y = ap (λ l. x ∷ l) (remove_set xs i y)
@@ -98,6 +99,16 @@ module _ (part : ℕ) (key : OrderedKey) where
     front = (λ ys above. remove_from-front part key xs ys n there (ap (λ l. length l + n) (sym gone) ∙ all));
     places = (λ P es a. all_remove_from part key (λ e. P (place_of e)) es n a);
     rising = (λ es rise. rising_remove_from part key es n rise);
+  }
+
+  -- ---- nothing
+
+  pub staying : (xs : List Entry) → IsEditAt part key (λ es. es) xs
+  staying xs = record {
+    back = (λ xs ys below. refl);
+    front = (λ ys above. refl);
+    places = (λ P es a. a);
+    rising = (λ es rise. rise);
   }
 
   -- ---- writing over
@@ -226,20 +237,21 @@ module _ (part : ℕ) (key : OrderedKey) where
       kept_entries = entries_edited ls ks i k k' c.parted child.in_range here child.reached child.above at
           h
 
-      pub kept_children : (1 < length ks → 0 < length k'.entries) → AreChildren d ls (set ks i k')
-      kept_children f = record {
+      pub kept_children : IsRoomed k' → (1 < length ks → 0 < length k'.entries) → AreChildren d ls (set ks i k')
+      kept_children roomed f = record {
         level = level_kept;
         filled = (λ lt. all_set (λ (j : Shape). 0 < length j.entries) ks i k'
             (c.filled (omega (arith, lt, length-set ks i k'))) (f (omega (arith, lt, length-set ks i k'))));
         parted = parted_set i ls ks k k' c.parted child.in_range here h;
+        roomed = all_set (λ (j : Shape). IsRoomed j) ks i k' c.roomed roomed;
         rising = subst IsRising (sym kept_entries) (is.rising (all_entries ks) c.rising);
       }
 
-      pub kept_inner : (rk : ℕ) → (1 < length ks → 0 < length k'.entries) → length ks ≤ 32 → 32 ≤ rk →
+      pub kept_inner : (rk : ℕ) → IsRoomed k' → (1 < length ks → 0 < length k'.entries) → length ks ≤ 32 → 32 ≤ rk →
           IsInner ls (set ks i k') rk
-      kept_inner rk f most room =
+      kept_inner rk roomed f most room =
           let same = length-set ks i k' in
-          inner_with d ls (set ks i k') ls (set ks i k') rk refl refl (kept_children f) (omega (arith, inside))
+          inner_with d ls (set ks i k') ls (set ks i k') rk refl refl (kept_children roomed f) (omega (arith, inside))
           (omega (arith, most)) room
 
       pub kept_fewer : (n : ℕ) → length k'.entries + n ≡ length k.entries →
@@ -269,6 +281,8 @@ module _ (part : ℕ) (key : OrderedKey) where
           level = all_removed (λ (j : Shape). j.depth + 1 ≡ d) (set ks i k') i level_kept;
           filled = (λ _. left_filled);
           parted = parted_removed i ls (set ks i k') (parted_set i ls ks k k' c.parted child.in_range here h);
+          roomed = subst (AllByRecursion (λ (j : Shape). IsRoomed j)) (sym (remove_set ks i k'))
+              (all_removed (λ (j : Shape). IsRoomed j) ks i c.roomed);
           rising = subst IsRising (sym left_entries) (is.rising (all_entries ks) c.rising);
         }
 

@@ -11,6 +11,7 @@ use Rattle.am_list.specs.Places.{NoneBelow}
 use Rattle.am_list.proofs.Lists.{rising_back}
 use Rattle.am_btree.specs.declared.separator.Separator.{Separator}
 use Rattle.am_btree.specs.Shape.{Shape}
+use Rattle.am_btree.specs.Rooms.{IsRoomed}
 use Rattle.am_btree.specs.Separators.{separator_place}
 use Rattle.am_btree.specs.Nodes.{all_entries, depth_of, AreParted, IsInner}
 use Rattle.am_btree.proofs.Parting.{depth_level, inner_with}
@@ -100,8 +101,8 @@ module _ (ls : List Separator) (ks : List Shape) (rk : ℕ) (inner : IsInner ls 
     pub more_depth : depth_of (set ks i k') ≡ depth_of ks
     more_depth = depth_level (depth_of ks) (set ks i k') (omega (arith, length-set ks i k')) level
 
-    pub more_inner : IsInner ls (set ks i k') rk
-    more_inner =
+    pub more_inner : IsRoomed k' → IsInner ls (set ks i k') rk
+    more_inner roomed =
         let same = length-set ks i k' in
         inner_with (depth_of ks) ls (set ks i k') ls (set ks i k') rk refl refl (record {
           level = level;
@@ -109,5 +110,6 @@ module _ (ls : List Separator) (ks : List Shape) (rk : ℕ) (inner : IsInner ls 
               (inner.children.filled (omega (arith, lt, same)))
               (omega (arith, last_some, ap length h, length-append k.entries more)));
           parted = parted_more i ls ks k k' more inner.children.parted last here h last_some last_rises;
+          roomed = all_set (λ (j : Shape). IsRoomed j) ks i k' inner.children.roomed roomed;
           rising = subst IsRising (sym more_entries) rising;
         }) (omega (arith, same)) (omega (arith, same, inner.most)) inner.room

@@ -1,6 +1,6 @@
 -- One entry more below one of a node's children.
 use Rattle.std.proofs.Common.{◌≡◌, ◌≢◌, ℕ, zero, suc, ◌+◌, ◌-◌, ◌<◌, ◌≤◌, true, false, List, [], ◌∷◌, ◌++◌, length}
-use Rattle.std.proofs.Common.{get_or, set, take, drop, Option, Some, None, if◌then◌else◌, refl, sym, ap, ◌∙◌, subst}
+use Rattle.std.proofs.Common.{get_or, set, take, drop, None, if◌then◌else◌, refl, sym, ap, ◌∙◌, subst}
 use Rattle.std.proofs.Common.{append-nil, length-set, inl, inr, ◌⊎◌, arith}
 use Rattle.std.specs.declared.cmp.Ordering.TheVariants.{Less, Greater}
 use Rattle.std.specs.Ordering.{is_lt}
@@ -8,7 +8,6 @@ use Rattle.std.specs.Cmp.{tied_itself}
 use Rattle.std.specs.List.{insert, AllByRecursion}
 use Rattle.std.proofs.lemmas.List.{take-append-drop, set_split}
 use Rattle.std.proofs.Math.Seq.{drop-cons}
-use Rattle.std.specs.Option.{option_map}
 use Rattle.am_record.specs.OrderedKey.{OrderedKey}
 use Rattle.am_record.specs.declared.entry.Entry.{Entry}
 use Rattle.am_record.specs.EntryOrder.{Place, place_of, place_cmp, place_cmp-total}
@@ -19,8 +18,10 @@ use Rattle.am_list.specs.Entries.{entry_at, find, insert_entry, IsRising}
 use Rattle.am_list.specs.Places.{AllBelow, NoneBelow, AllAbove}
 use Rattle.am_list.proofs.Lists.{insert_entry-append}
 use Rattle.am_list.proofs.Edits.{rising_inserted as entry_inserted}
+use Rattle.am_list.proofs.Insertions.{option_none}
 use Rattle.am_btree.specs.declared.separator.Separator.{Separator}
 use Rattle.am_btree.specs.Shape.{Shape}
+use Rattle.am_btree.specs.Rooms.{IsRoomed}
 use Rattle.am_btree.specs.Separators.{separator_place, separator_for, lowered, IsReach, IsChildFor}
 use Rattle.am_btree.specs.Nodes.{all_entries, depth_of, AreParted, AreFilledChildren, AreChildren, IsInner}
 use Rattle.am_btree.specs.declared.insert.Split.{Split}
@@ -35,7 +36,7 @@ pub none_below_above : (p : Place) (es : List Entry) → AllAbove p es → NoneB
 none_below_above p es a = AllByRecursion-map (λ e. place_cmp (place_of e) p ≡ Greater)
     (λ e. place_cmp (place_of e) p ≢ Less) (λ e g less. absurd (cc)) es a
 
-insert_entry-front : (x : Entry) (xs ys : List Entry) → AllAbove (place_of x) ys →
+pub insert_entry-front : (x : Entry) (xs ys : List Entry) → AllAbove (place_of x) ys →
     insert_entry (xs ++ ys) x ≡ insert_entry xs x ++ ys
 insert_entry-front x [] ys a = insert_entry-append x [] ys tt (none_below_above (place_of x) ys a)
 insert_entry-front x (e ∷ xs) ys a =
@@ -44,7 +45,7 @@ insert_entry-front x (e ∷ xs) ys a =
     ((if b then e ∷ insert_entry xs x else x ∷ e ∷ xs) ++ ys))
     [ true ↦ ap (λ l. e ∷ l) (insert_entry-front x xs ys a) | false ↦ refl ]
 
-insert_entry-back : (x : Entry) (xs ys : List Entry) → AllBelow (place_of x) xs → insert_entry (xs ++ ys) x ≡ xs ++
+pub insert_entry-back : (x : Entry) (xs ys : List Entry) → AllBelow (place_of x) xs → insert_entry (xs ++ ys) x ≡ xs ++
     insert_entry ys x
 insert_entry-back x [] ys b = refl
 insert_entry-back x (e ∷ xs) ys b = rw b.0 (ap (λ l. e ∷ l) (insert_entry-back x xs ys b.1))
@@ -62,10 +63,6 @@ insert_some [] x = omega arith
 insert_some (e ∷ es) x =
     elim (is_lt (place_cmp (place_of e) (place_of x))) as
     (λ b. 0 < length (if b then e ∷ insert_entry es x else x ∷ e ∷ es)) [ true ↦ omega arith | false ↦ omega arith ]
-
-option_none : {X Y : Type 0} (f : X → Y) (o : Option X) → option_map f o ≡ None → o ≡ None
-option_none f None e = refl
-option_none f (Some x) e = absurd (cc e)
 
 pub rising_inserted : (es : List Entry) (x : Entry) → IsRising es → find es x.part x.key ≡ None →
     IsRising (insert_entry es x)
@@ -277,8 +274,9 @@ module _ (x : Entry) (d : ℕ) (ls : List Separator) (ks : List Shape) (n : ℕ)
     regrown_entries = entries_in_place x ls ks (before n) k nk c.parted child.in_range here child.reached child.above
         all
 
-    pub regrown : AreFilledChildren d (in_place ls (before n) (low ∷ ms)) (in_place ks (before n) nk)
-    regrown = record {
+    pub regrown : AllByRecursion (λ (j : Shape). IsRoomed j) nk →
+        AreFilledChildren d (in_place ls (before n) (low ∷ ms)) (in_place ks (before n) nk)
+    regrown roomed = record {
       level = all_in_place (λ (j : Shape). j.depth + 1 ≡ d) ks (before n) nk c.level level;
       filled = filled_in_place (λ (j : Shape). 0 < length j.entries) ks (before n) nk child_in c.filled filled;
       parted = regrow (before n) ls ks low ms nk c.parted child.in_range (same_separator ls n x) own apart
@@ -286,6 +284,7 @@ module _ (x : Entry) (d : ℕ) (ls : List Separator) (ks : List Shape) (n : ℕ)
           (λ m. AllByRecursion (λ j. AllBelow (separator_place m) j.entries) nk)
           (λ m b. all_in_each (λ e. place_cmp (place_of e) (separator_place m) ≡ Less) nk
           (subst (AllBelow (separator_place m)) (sym all) b)) (drop (suc (before n)) ls) all_later);
+      roomed = all_in_place (λ (j : Shape). IsRoomed j) ks (before n) nk c.roomed roomed;
       rising = subst IsRising (sym regrown_entries) (rising_inserted (all_entries ks) x c.rising absent);
     }
 
@@ -318,14 +317,16 @@ module _ (x : Entry) (d : ℕ) (ls : List Separator) (ks : List Shape) (n : ℕ)
     filled_one : 0 < length k'.entries
     filled_one = omega (arith, ap length holds, insert_some k.entries x)
 
-    pub one_children : AreFilledChildren d (in_place ls (before n) (low ∷ [])) (in_place ks (before n) (k' ∷ []))
-    one_children = regrown [] (k' ∷ []) own_one tt all_one (omega (arith, deep), tt) (filled_one, tt)
+    pub one_children : IsRoomed k' → AreFilledChildren d (in_place ls (before n) (low ∷ []))
+        (in_place ks (before n) (k' ∷ []))
+    one_children roomed = regrown [] (k' ∷ []) own_one tt all_one (omega (arith, deep), tt) (filled_one, tt)
+        (roomed, tt)
 
-    pub one_inner : (L : List Separator) → L ≡ lowered ls n x → (rk : ℕ) → 32 ≤ rk → length ks ≤ 32 →
+    pub one_inner : IsRoomed k' → (L : List Separator) → L ≡ lowered ls n x → (rk : ℕ) → 32 ≤ rk → length ks ≤ 32 →
         IsInner L (set ks (before n) k') rk
-    one_inner L e rk room most =
+    one_inner roomed L e rk room most =
         inner_from d (in_place ls (before n) (low ∷ [])) (in_place ks (before n) (k' ∷ [])) L (set ks (before n) k')
-        rk (lowered_now L e) (set_is k') one_children
+        rk (lowered_now L e) (set_is k') (one_children roomed)
         (omega (arith, ap length (set_is k'), length-set ks (before n) k'))
         (omega (arith, ap length (set_is k'), length-set ks (before n) k')) room
 
@@ -362,23 +363,24 @@ module _ (x : Entry) (d : ℕ) (ls : List Separator) (ks : List Shape) (n : ℕ)
         {y = suc (before n)} (omega arith)
         ∙ insert_next ls (drop (suc (before n)) ls) (before n) low s.separator child.in_range
 
-    children_are : insert (set ks (before n) k') (before n + 1) s.right ≡ in_place ks (before n) (k' ∷ s.right ∷ [])
+    pub children_are : insert (set ks (before n) k') (before n + 1) s.right ≡ in_place ks (before n) (k' ∷ s.right ∷ [])
     children_are =
         ap (λ ms. insert ms (before n + 1) s.right) (set_is k') ∙
         ap (λ (j : ℕ). insert (in_place ks (before n) (k' ∷ [])) j s.right) {x = before n + 1} {y = suc (before n)}
         (omega arith)
         ∙ insert_next ks (drop (suc (before n)) ks) (before n) k' s.right within
 
-    pub two_children : (L : List Separator) → L ≡ lowered ls n x → AreFilledChildren (depth_of (set ks (before n) k'))
+    pub two_children : IsRoomed k' → IsRoomed s.right → (L : List Separator) → L ≡ lowered ls n x →
+        AreFilledChildren (depth_of (set ks (before n) k'))
         (insert L (before n + 1) s.separator) (insert (set ks (before n) k') (before n + 1) s.right)
-    two_children L e =
+    two_children roomed right_roomed L e =
         subst (λ (j : ℕ). AreFilledChildren j (insert L (before n + 1) s.separator)
         (insert (set ks (before n) k') (before n + 1) s.right)) (sym (set_deep k' h.depth))
         (subst (λ ms. AreFilledChildren d ms (insert (set ks (before n) k') (before n + 1) s.right))
         (sym (separators_are L e))
         (subst (AreFilledChildren d (in_place ls (before n) (low ∷ s.separator ∷ []))) (sym children_are)
         (regrown (s.separator ∷ []) (k' ∷ s.right ∷ []) own_two (apart_two, tt) all_two level_two
-        (h.left_some, (h.right_some, tt)))))
+        (h.left_some, (h.right_some, tt)) (roomed, (right_roomed, tt)))))
 
     pub two_entries : all_entries (insert (set ks (before n) k') (before n + 1) s.right) ≡ insert_entry (all_entries ks)
         x

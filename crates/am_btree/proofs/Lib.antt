@@ -1,4 +1,5 @@
 pub mod Appended
+pub mod Between
 pub mod Children
 pub mod Crosses
 pub mod Cutting
@@ -14,7 +15,9 @@ pub mod Leaves
 pub mod Fronts
 mod Ending
 pub mod Seeking
+pub mod Widening
 pub mod Walking
 pub mod Ghosts
 pub mod Inner
 pub mod Reaching
+pub mod Rooming

@@ -15,6 +15,7 @@ use Rattle.am_list.specs.Places.{AllBelow, NoneBelow}
 use Rattle.am_list.proofs.Lists.{rising_front, rising_back}
 use Rattle.am_btree.specs.declared.separator.Separator.{Separator}
 use Rattle.am_btree.specs.Shape.{Shape}
+use Rattle.am_btree.specs.Rooms.{IsRoomed}
 use Rattle.am_btree.specs.Separators.{separator_place, SeparatorsRise}
 use Rattle.am_btree.specs.Nodes.{all_entries, depth_of, AreParted, AreFilledChildren, AreChildren, IsInner}
 
@@ -150,6 +151,7 @@ module _ (m d : ℕ) (ls : List Separator) (ks : List Shape) (c : AreFilledChild
     level = AllByRecursion-take (λ k. k.depth + 1 ≡ d) m ks c.level;
     filled = AllByRecursion-take (λ k. 0 < length k.entries) m ks c.filled;
     parted = AreParted-take m ls ks c.parted;
+    roomed = AllByRecursion-take (λ (k : Shape). IsRoomed k) m ks c.roomed;
     rising = rising_front (all_entries (take m ks)) (all_entries (drop m ks)) both;
   }
 
@@ -158,6 +160,7 @@ module _ (m d : ℕ) (ls : List Separator) (ks : List Shape) (c : AreFilledChild
     level = AllByRecursion-drop (λ k. k.depth + 1 ≡ d) m ks c.level;
     filled = AllByRecursion-drop (λ k. 0 < length k.entries) m ks c.filled;
     parted = AreParted-drop m ls ks c.parted;
+    roomed = AllByRecursion-drop (λ (k : Shape). IsRoomed k) m ks c.roomed;
     rising = rising_back (all_entries (take m ks)) (all_entries (drop m ks)) both;
   }
 
@@ -178,6 +181,7 @@ inner_from d ls ks L K rk e f c some most room =
       level = c.level;
       filled = (λ _. c.filled);
       parted = c.parted;
+      roomed = c.roomed;
       rising = c.rising;
     }) some most room
 

@@ -14,6 +14,7 @@ use Rattle.am_btree.specs.declared.node.Node.{Node}
 use Rattle.am_btree.specs.declared.node.Node.TheVariants.{Leaf, Inner}
 use Rattle.am_btree.specs.declared.insert.Split.{Split}
 use Rattle.am_btree.specs.Shape.{Shape}
+use Rattle.am_btree.specs.Rooms.{IsRoomed}
 use Rattle.am_btree.specs.Nodes.{all_entries, shape_of, IsTree, AreFilledChildren}
 use Rattle.am_btree.specs.Grown.{HasSplit}
 
@@ -35,7 +36,7 @@ least_below k h [] = tt
 least_below k h (e ∷ es) = (none_under k h (place_of e), least_below k h es)
 
 module _ (k : OrderedKey) (least : IsLeast k) (d : ℕ) (all : List Entry) (left : Shape) (s : Split)
-    (h : HasSplit d all left s) (rising : IsRising all) where
+    (h : HasSplit d all left s) (rising : IsRising all) (roomed : IsRoomed left) (right_roomed : IsRoomed s.right) where
   abbrev low : Separator
   low = record { part = 0; key = k }
 
@@ -47,5 +48,6 @@ module _ (k : OrderedKey) (least : IsLeast k) (d : ℕ) (all : List Entry) (left
     level = (ap (λ (n : ℕ). n + 1) h.depth, (ap (λ (n : ℕ). n + 1) h.right_depth, tt));
     filled = (h.left_some, (h.right_some, tt));
     parted = (least_below k least left.entries, (h.below, tt), (h.others, tt, tt));
+    roomed = (roomed, (right_roomed, tt));
     rising = subst IsRising (sym joined) rising;
   }

@@ -5,7 +5,9 @@ use Rattle.am_list.specs.Entries.{insert_entry}
 use Rattle.am_list.specs.Places.{AllBelow, NoneBelow}
 use Rattle.am_btree.specs.declared.insert.Split.{Split}
 use Rattle.am_btree.specs.Separators.{separator_place}
+use Rattle.am_list.specs.Rooms.{KeepRoom}
 use Rattle.am_btree.specs.Shape.{Shape}
+use Rattle.am_btree.specs.Rooms.{IsRoomed, KeepsRoom}
 
 -- the node and its new right sibling have the entries between them, parted by the sibling's separator; the sibling
 -- isn't empty, and the node keeps half of a full one at least
@@ -24,7 +26,18 @@ abbrev pub NowHolds : ℕ → List Entry → Shape → Option Split → Type 0
 NowHolds depth all new None = (new.depth ≡ depth) × (new.entries ≡ all)
 NowHolds depth all new (Some s) = HasSplit depth all new s
 
+-- each place has the room that it had, in the node or in its new right sibling, and each value has what it takes
+pub record RoomIsSplit (old new right : Shape) : Type 0 where
+  pub kept : KeepRoom old.roomy (new.roomy ++ right.roomy) (new.entries ++ right.entries)
+  pub roomed : IsRoomed new
+  pub right_roomed : IsRoomed right
+
+-- the node has the room that it had, alone or with a new right sibling
+abbrev pub NowRoomed : Shape → Shape → Option Split → Type 0
+NowRoomed old new None = KeepsRoom old new
+NowRoomed old new (Some s) = RoomIsSplit old new s.right
+
 -- an insert below a node: where it is split, as many spare nodes as were wanted come up with the sibling
 abbrev pub Grows : Shape → Shape → Entry → ℕ → Option Split → Type 0
 Grows old new e wanted r = NowHolds old.depth (insert_entry old.entries e) new r ×
-    IfSome r (λ s. vec_len s.spares ≡ wanted)
+    (IfSome r (λ s. vec_len s.spares ≡ wanted) × NowRoomed old new r)

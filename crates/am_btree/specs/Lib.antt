@@ -1,9 +1,11 @@
 pub mod Fronts
+pub mod Between
 pub mod Grown
 pub mod Splits
 pub mod Nodes
 pub mod NodesFall
 pub mod SeparatorCode
 pub mod Separators
+pub mod Rooms
 pub mod Shape
 pub mod Seek

@@ -4,6 +4,7 @@ ghost use Rattle.std.specs.Prelude.{◌≡◌, ◌<◌, ◌++◌, OnOk, OnErr};
 ghost use Rattle.std.specs.List.{AllByRecursion};
 ghost use Rattle.am_list.specs.Entries.{IsRising};
 ghost use Rattle.am_list.specs.Runs.{run_entries};
+ghost use Rattle.am_btree.specs.Rooms.{KeepsRoom};
 
 use crate::node::Subtree;
 use am_record::{Entry, Key, NoMemory, Value};
@@ -24,6 +25,7 @@ impl Subtree {
         requires rising { IsRising (run_entries part pairs.now) }
         ensures ok { OnOk result (self.new.entries ≡ self.old.entries ++ run_entries part pairs.now) }
         ensures err { OnErr result (self.new.entries ≡ self.old.entries) }
+        ensures rooms { KeepsRoom self.old self.new }
     {
         // Read here, the node's invariant is known before it is changed.
         let _ = &self.node;

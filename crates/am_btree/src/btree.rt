@@ -11,8 +11,8 @@ use am_record::{Entry, Key, NoMemory, Range, Value};
 use std::alloc::Global;
 use std::marker::Model;
 
-/// An index that is a B-tree, seen as how deep its leaves stand, all of them alike, and as its
-/// entries in order.
+/// An index that is a B-tree, seen as how deep its leaves stand, all of them alike, as its entries in order, and as the
+/// places of those that have room for any value.
 #[derive(Drop)]
 pub struct BTree {
     root: Subtree,
@@ -61,6 +61,8 @@ impl BTree {
 
 impl PartIndex for BTree {
     ghost entries = { λ t. t.entries };
+
+    ghost roomy = { λ t. t.roomy };
 
     fn find(&self, part: u32, key: Key) -> Option<(Value, bool)> {
         self.root.find(part, key)
@@ -122,8 +124,20 @@ impl PartIndex for BTree {
         }
     }
 
+    fn insert_between(&mut self, more: &[Entry]) -> usize {
+        let (part, key) = match more.first() {
+            Some(first) => (first.part, first.key),
+            None => (0, Key::least()),
+        };
+        self.root.insert_between(part, key, more)
+    }
+
     fn append_run(&mut self, part: u32, pairs: &[(Key, Value)]) -> Result<(), NoMemory> {
         self.root.append(self.alloc, part, pairs)
+    }
+
+    fn make_room(&mut self, part: u32, key: Key, bytes: usize) -> Result<(), NoMemory> {
+        self.root.make_room(self.alloc, part, key, bytes)
     }
 
     fn set(&mut self, part: u32, key: Key, value: Value, is_ghost: bool) -> bool {

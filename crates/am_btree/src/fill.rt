@@ -3,6 +3,8 @@
 ghost use Rattle.std.specs.Prelude.{◌≡◌, ◌<◌, ◌≤◌, ◌++◌, length, take};
 ghost use Rattle.am_list.specs.Entries.{IsRising};
 ghost use Rattle.am_list.specs.Runs.{run_entries};
+ghost use Rattle.am_leaf.specs.Seen.{ValuesHaveRoom};
+ghost use Rattle.am_btree.specs.Rooms.{KeepsRoom};
 
 use crate::node::{Node, Subtree};
 use crate::room::ROOM;
@@ -19,6 +21,7 @@ impl Subtree {
         ensures most { result ≤ length pairs.now }
         ensures entries { self.new.entries ≡ self.old.entries ++ run_entries part (take result pairs.now) }
         ensures depth { self.new.depth ≡ self.old.depth }
+        ensures rooms { KeepsRoom self.old self.new }
     {
         match &mut self.node {
             Node::Leaf(leaf) => fill_leaf(alloc, leaf, part, pairs),
@@ -31,13 +34,14 @@ impl Subtree {
 }
 
 // Puts the first of the records behind a leaf's entries, as many as it has room for; none where memory for longer keys
-// was refused.
+// or values was refused. The longest one says how wide the leaf gets, so a run of short values fills short leaves.
 fn fill_leaf(alloc: Global, leaf: &mut RawLeaf, part: u32, pairs: &[(Key, Value)]) -> usize
     requires { IsRising (leaf.old.entries ++ run_entries part pairs.now) }
     ensures count { result ≤ length pairs.now }
     ensures entries { leaf.new.entries ≡ leaf.old.entries ++ run_entries part (take result pairs.now) }
     ensures most { length leaf.new.entries ≤ 32 }
-    ensures wide { leaf.old.value_room ≤ leaf.new.value_room }
+    ensures no_less_room { leaf.old.value_room ≤ leaf.new.value_room }
+    ensures room { ValuesHaveRoom leaf.new }
 {
     let count = pairs.len().min(ROOM - leaf.len());
     let added = leaf.append(alloc, part, &pairs[..count]);

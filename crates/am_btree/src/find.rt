@@ -2,6 +2,7 @@
 
 ghost use Rattle.std.specs.Prelude.{◌≡◌, ◌<◌, ◌^◌};
 ghost use Rattle.am_list.specs.Entries.{find, IsRising};
+ghost use Rattle.am_btree.specs.Rooms.{IsRoomed};
 
 use crate::node::{Node, Subtree};
 use am_record::{Key, Value};
@@ -24,6 +25,7 @@ impl Subtree {
     pub(crate) fn find(&self, part: u32, key: Key) -> Option<(Value, bool)>
         ensures found { result ≡ find self.now.entries part key }
         ensures rising { IsRising self.now.entries }
+        ensures roomed { IsRoomed self.now }
     {
         match &self.node {
             Node::Leaf(leaf) => {

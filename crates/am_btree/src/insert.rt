@@ -1,13 +1,14 @@
 //! Adding an entry.
 
-ghost use Rattle.std.specs.Prelude.{◌≡◌, ◌+◌, ◌<◌, ◌≤◌, [], length, take, drop, None, IsSome, IsErrOf, OnOk, OnErr};
-ghost use Rattle.std.specs.Prelude.{IfOk, IfSome, vec_len, vec_capacity};
+ghost use Rattle.std.specs.Prelude.{◌≡◌, ◌+◌, ◌<◌, ◌≤◌, [], length, take, drop, None, Some, IsSome, IsErrOf, OnOk};
+ghost use Rattle.std.specs.Prelude.{OnErr, IfOk, IfSome, vec_len, vec_capacity};
 ghost use Rattle.std.specs.List.{insert};
 ghost use Rattle.am_list.specs.Entries.{find, insert_entry, IsRising};
 ghost use Rattle.am_list.specs.Places.{IsGapFor};
 ghost use Rattle.am_record.specs.OrderedKey.{bytes_of};
-ghost use Rattle.am_leaf.specs.Seen.{Fits, SameRoom};
-ghost use Rattle.am_btree.specs.Grown.{Grows, NowHolds};
+ghost use Rattle.am_leaf.specs.Seen.{Fits, SameRoom, ValuesHaveRoom};
+ghost use Rattle.am_btree.specs.Grown.{Grows, NowHolds, NowRoomed};
+ghost use Rattle.am_btree.specs.Rooms.{KeepsRoom, IsWidened};
 ghost use Rattle.am_btree.specs.Nodes.{all_entries, depth_of, leaf_shape, inner_shape, AreFilledChildren, IsInner};
 ghost use Rattle.am_btree.specs.Splits.{lower_size};
 
@@ -66,7 +67,8 @@ impl Subtree {
         ensures absent { OnOk result (find self.old.entries entry.now.part entry.now.key ≡ None) }
         ensures taken { IsErrOf result Obstacle.Taken → IsSome (find self.old.entries entry.now.part entry.now.key) }
         ensures depth { OnOk result ((self.old.depth ≤ self.new.depth) × (self.new.depth ≤ self.old.depth + 1)) }
-        ensures err { OnErr result (self.new ≡ self.old) }
+        ensures err { OnErr result (IsWidened self.old self.new) }
+        ensures rooms { KeepsRoom self.old self.new }
     {
         // Read here, the node's invariant is known before it is changed.
         let _ = &self.node;
@@ -103,7 +105,7 @@ impl Subtree {
 
     // Adds the entry below this node, unless its place is taken. Where the node is split, its new right
     // sibling comes back, with room for as many inner nodes as are wanted above it. All room is got
-    // before anything changes.
+    // before anything changes but the room of a leaf, which may stay wide where more was refused.
     fn insert_below(
         &mut self,
         alloc: Global,
@@ -113,7 +115,7 @@ impl Subtree {
         ensures ok { IfOk result (Grows self.old self.new entry.now wanted) }
         ensures absent { OnOk result (find self.old.entries entry.now.part entry.now.key ≡ None) }
         ensures taken { IsErrOf result Obstacle.Taken → IsSome (find self.old.entries entry.now.part entry.now.key) }
-        ensures err { OnErr result (self.new ≡ self.old) }
+        ensures err { OnErr result (IsWidened self.old self.new) }
     {
         match &mut self.node {
             Node::Leaf(leaf) => insert_in_leaf(alloc, leaf, entry, wanted),
@@ -144,8 +146,9 @@ fn wanted_below(len: usize, wanted: usize) -> Result<usize, NoMemory>
     wanted.checked_add(1).ok_or(NoMemory)
 }
 
-// Adds an entry to a leaf, unless its place is taken. The leaf is split where it is full. A call of its own: so the
-// nodes above don't clear room for what only a leaf needs.
+// Adds an entry to a leaf, unless its place is taken. The leaf is split where it is full. A value that is too long for
+// a short leaf widens it first, for good: an undo may bring back a long value that stood there, and takes no memory. A
+// call of its own: so the nodes above don't clear room for what only a leaf needs.
 #[inline(never)]
 fn insert_in_leaf(
     alloc: Global,
@@ -153,18 +156,47 @@ fn insert_in_leaf(
     entry: &Entry,
     wanted: usize,
 ) -> Result<Option<Split>, Obstacle>
-    requires wide { 64 ≤ leaf.old.value_room }
-    ensures ok { IfOk result (Grows (leaf_shape leaf.old.entries) (leaf_shape leaf.new.entries) entry.now wanted) }
+    ensures ok { IfOk result (Grows (leaf_shape leaf.old) (leaf_shape leaf.new) entry.now wanted) }
     ensures absent { OnOk result (find leaf.old.entries entry.now.part entry.now.key ≡ None) }
     ensures taken { IsErrOf result Obstacle.Taken → IsSome (find leaf.old.entries entry.now.part entry.now.key) }
     ensures err { OnErr result (leaf.new.entries ≡ leaf.old.entries) }
     ensures most { length leaf.new.entries ≤ 32 }
     ensures rising { IsRising leaf.new.entries }
-    ensures room { leaf.old.value_room ≤ leaf.new.value_room }
+    ensures no_less_room { leaf.old.value_room ≤ leaf.new.value_room }
+    ensures room { ValuesHaveRoom leaf.new }
+{
+    if leaf.len() == ROOM && leaf.find(entry.part, entry.key) == Err(ROOM) {
+        return Ok(Some(leaf_behind(alloc, leaf, entry, wanted)?));
+    }
+    let widened = leaf.widen(alloc, entry.key.bytes().len(), entry.value.len());
+    prove!(leaf.len() <= 32);
+    widened?;
+    insert_fitting(alloc, leaf, entry, wanted)
+}
+
+// A new leaf behind a full one, which begins with the entry. It is as wide as that needs, since nothing else comes into
+// it: so a long value widens its own leaf, and not those that a load fills behind it.
+fn leaf_behind(
+    alloc: Global,
+    leaf: &RawLeaf,
+    entry: &Entry,
+    wanted: usize,
+) -> Result<Split, NoMemory>
+    requires full { length leaf.now.entries ≡ 32 }
+    requires behind { IsGapFor leaf.now.entries entry.now.part entry.now.key 32 }
+    ensures { IfOk result (λ split. Grows (leaf_shape leaf.now) (leaf_shape leaf.now) entry.now wanted (Some split)) }
 {
     prove!(leaf.len() <= 32);
-    leaf.widen(alloc, entry.key.bytes().len(), entry.value.len())?;
-    insert_fitting(alloc, leaf, entry, wanted)
+    let mut right = RawLeaf::new(alloc, entry.key.bytes().len(), entry.value.len())?;
+    right.insert_at(0, *entry);
+    prove!(right.len() <= 32);
+    Ok(Split {
+        separator: Separator::of(entry),
+        right: Subtree {
+            node: Node::Leaf(right),
+        },
+        spares: spares(alloc, wanted)?,
+    })
 }
 
 // Adds an entry that has room to a leaf, unless its place is taken. The leaf is split where it is full.
@@ -174,15 +206,15 @@ fn insert_fitting(
     entry: &Entry,
     wanted: usize,
 ) -> Result<Option<Split>, Obstacle>
-    requires wide { 64 ≤ leaf.old.value_room }
     requires fits { Fits leaf.old (length (bytes_of entry.now.key)) (length entry.now.value) }
-    ensures ok { IfOk result (Grows (leaf_shape leaf.old.entries) (leaf_shape leaf.new.entries) entry.now wanted) }
+    ensures ok { IfOk result (Grows (leaf_shape leaf.old) (leaf_shape leaf.new) entry.now wanted) }
     ensures absent { OnOk result (find leaf.old.entries entry.now.part entry.now.key ≡ None) }
     ensures taken { IsErrOf result Obstacle.Taken → IsSome (find leaf.old.entries entry.now.part entry.now.key) }
     ensures err { OnErr result (leaf.new.entries ≡ leaf.old.entries) }
     ensures most { length leaf.new.entries ≤ 32 }
     ensures rising { IsRising leaf.new.entries }
-    ensures room { leaf.new.value_room ≡ leaf.old.value_room }
+    ensures same_room { leaf.new.value_room ≡ leaf.old.value_room }
+    ensures room { ValuesHaveRoom leaf.new }
 {
     let len = leaf.len();
     let Err(at) = leaf.find(entry.part, entry.key) else {
@@ -190,11 +222,15 @@ fn insert_fitting(
     };
     if len < ROOM {
         leaf.insert_at(at, *entry);
+        prove!(leaf.len() <= 32);
         return Ok(None);
     }
+    // The right half is of the same kind: what has room in the leaf has it there.
     let mut upper = leaf.new_like(alloc)?;
     let spares = spares(alloc, wanted)?;
     split_insert(leaf, keep_of(at), at, entry, &mut upper);
+    prove!(leaf.len() <= 32);
+    prove!(upper.len() <= 32);
     let separator = Separator::of(&upper.get(0));
     let right = Subtree {
         node: Node::Leaf(upper),
@@ -245,6 +281,8 @@ fn add_child(
     requires spares { vec_len children.old ≡ 32 → 0 < vec_len split.spares }
     ensures inner { IsInner separators.new children.new.items (vec_capacity children.new) }
     ensures holds { NowHolds (depth_of children.old.items) (all_entries (insert children.old.items at split.right))
+        (inner_shape children.new.items) result }
+    ensures rooms { NowRoomed (inner_shape (insert children.old.items at split.right))
         (inner_shape children.new.items) result }
     ensures spares { IfSome result (λ s. (vec_len children.old ≡ 32) × (vec_len s.spares + 1 ≡ vec_len split.spares)) }
 {

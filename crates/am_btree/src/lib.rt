@@ -5,8 +5,12 @@
 //! depth. A full node is halved, but where what is new comes behind all that it has: then it stays
 //! full, and a node begins with what is new. So a load fills nodes, and so does whatever else comes
 //! in order. A node that became empty is freed, and so is a topmost node with one child; nodes that
-//! are only sparse are not merged. An insert gets all new nodes before it changes anything, and
-//! nothing else takes memory.
+//! are only sparse are not merged. An insert gets all new nodes before it changes an entry.
+//!
+//! A leaf has room for values of 16 bytes until a longer one comes, and for any from then on: it is
+//! short while all its values are, and a wide one stays wide. So leaves of short values take less
+//! memory, and what an undo sets again has the room that it had. Besides an insert only `make_room`
+//! takes memory.
 #![tactic(auto)]
 
 mod append;
@@ -14,6 +18,8 @@ mod btree;
 mod fill;
 mod find;
 mod insert;
+mod insert_between;
+mod make_room;
 mod node;
 mod read;
 mod remove;

@@ -5,11 +5,12 @@ ghost use Rattle.am_list.specs.Entries.{IsRising};
 
 use crate::separators::Separators;
 use am_leaf::RawLeaf;
-use am_record::{MAX_VALUE_LEN, NoMemory};
+use am_record::NoMemory;
 use std::alloc::Global;
 use std::marker::Model;
 
-/// A subtree, seen as how deep its leaves stand and as its entries in order.
+/// A subtree, seen as how deep its leaves stand, as its entries in order, and as the places of those that have room for
+/// any value.
 #[cycle(tree)]
 #[derive(Drop)]
 pub(crate) struct Subtree {
@@ -46,12 +47,15 @@ impl Model for Subtree {
 }
 
 impl Subtree {
-    /// One leaf with no entries.
+    /// One leaf with no entries. It is short, since values mostly are. A longer one widens the leaf that it comes to.
     pub(crate) fn new(alloc: Global) -> Result<Subtree, NoMemory>
         ensures { IfOk result (λ tree. (tree.depth ≡ 0) × (tree.entries ≡ [])) }
     {
+        let leaf = RawLeaf::new(alloc, 0, 0)?;
+        // Asked here, its room is known.
+        prove!(leaf.len() <= 32);
         Ok(Subtree {
-            node: Node::Leaf(RawLeaf::new(alloc, 0, MAX_VALUE_LEN)?),
+            node: Node::Leaf(leaf),
         })
     }
 }

@@ -4,6 +4,7 @@ ghost use Rattle.std.specs.Prelude.{◌≡◌, ◌<◌, ◌≤◌, ◌++◌, len
 ghost use Rattle.am_list.specs.Entries.{first_such, next_ghost, IsRising};
 ghost use Rattle.am_list.specs.Content.{rows_in};
 ghost use Rattle.am_list.specs.Places.{IsUpperBound};
+ghost use Rattle.am_btree.specs.Rooms.{IsRoomed};
 ghost use Rattle.am_btree.specs.Seek.{first_from, all_such, IsStart};
 
 use crate::node::{Node, Subtree};
@@ -25,6 +26,7 @@ impl Subtree {
     pub(crate) fn seek(&self, part: u32, key: Key, start: Start) -> Option<Entry>
         ensures found { result ≡ first_from start self.now.entries part key }
         ensures rising { IsRising self.now.entries }
+        ensures roomed { IsRoomed self.now }
     {
         match &self.node {
             Node::Leaf(leaf) => seek_in_leaf(leaf, part, key, start),

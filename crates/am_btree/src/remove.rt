@@ -2,6 +2,8 @@
 
 ghost use Rattle.std.specs.Prelude.{◌≡◌, ◌+◌, ◌<◌, ◌≤◌, ◌++◌, [], length, take, drop, Some, IsSome, MatchBool};
 ghost use Rattle.am_list.specs.Entries.{find, entry_at, remove_from, IsRising};
+ghost use Rattle.am_leaf.specs.Seen.{ValuesHaveRoom};
+ghost use Rattle.am_btree.specs.Rooms.{KeepsRoom};
 
 use crate::node::{Node, Subtree};
 use crate::room::take_out;
@@ -28,6 +30,7 @@ impl Subtree {
         ensures counted { length self.new.entries + result.count ≡ length self.old.entries }
         ensures others { self.new.entries ≡ remove_from self.old.entries part key result.count }
         ensures depth { self.new.depth ≡ self.old.depth }
+        ensures rooms { KeepsRoom self.old self.new }
         ensures empty { MatchBool result.is_empty (self.new.entries ≡ []) (0 < length self.new.entries) }
     {
         match &mut self.node {
@@ -52,6 +55,7 @@ impl Subtree {
     /// Frees the topmost nodes that have one child alone.
     pub(crate) fn collapse(&mut self)
         ensures entries { self.new.entries ≡ self.old.entries }
+        ensures roomy { self.new.roomy ≡ self.old.roomy }
         ensures depth { self.new.depth ≤ self.old.depth }
     {
         let Node::Inner(_, children) = &mut self.node else {
@@ -78,7 +82,8 @@ fn remove_from_leaf(leaf: &mut RawLeaf, part: u32, key: Key, most: usize) -> Rem
     ensures counted { length leaf.new.entries + result.count ≡ length leaf.old.entries }
     ensures others { leaf.new.entries ≡ remove_from leaf.old.entries part key result.count }
     ensures rising { IsRising leaf.new.entries }
-    ensures wide { leaf.new.value_room ≡ leaf.old.value_room }
+    ensures same_room { leaf.new.value_room ≡ leaf.old.value_room }
+    ensures room { ValuesHaveRoom leaf.new }
     ensures short { length leaf.new.entries ≤ 32 }
     ensures empty { MatchBool result.is_empty (leaf.new.entries ≡ []) (0 < length leaf.new.entries) }
 {
@@ -100,7 +105,7 @@ fn cut(leaf: &mut RawLeaf, from: usize, to: usize)
     requires ordered { from ≤ to }
     requires in_range { to ≤ length leaf.old.entries }
     ensures entries { leaf.new.entries ≡ take from leaf.old.entries ++ drop to leaf.old.entries }
-    ensures wide { leaf.new.value_room ≡ leaf.old.value_room }
+    ensures same_room { leaf.new.value_room ≡ leaf.old.value_room }
 {
     let mut at = to;
     while at > from {

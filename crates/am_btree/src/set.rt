@@ -3,18 +3,24 @@
 ghost use Rattle.std.specs.Prelude.{◌≡◌, ◌≤◌, IsSome, is_some, length};
 ghost use Rattle.am_list.specs.Entries.{find, set_entry, IsRising};
 ghost use Rattle.am_list.specs.Content.{live_value};
+ghost use Rattle.am_list.specs.Rooms.{HasRoom};
+ghost use Rattle.am_leaf.specs.Seen.{ValuesHaveRoom};
+ghost use Rattle.am_btree.specs.Rooms.{KeepsRoom};
 
 use crate::node::{Node, Subtree};
 use am_leaf::RawLeaf;
 use am_record::{Key, Value};
 
 impl Subtree {
-    /// Writes over the value and the ghost bit of the entry of a present place. Whether it was live.
+    /// Writes over the value and the ghost bit of the entry of a present place, where the value has room. Whether it
+    /// was live.
     pub(crate) fn set(&mut self, part: u32, key: Key, value: Value, is_ghost: bool) -> bool
-        requires { IsSome (find self.old.entries part key) }
+        requires present { IsSome (find self.old.entries part key) }
+        requires room { HasRoom self.old.roomy part key (length value) }
         ensures was_live { result ≡ is_some (live_value (find self.old.entries part key)) }
         ensures entries { self.new.entries ≡ set_entry self.old.entries part key value is_ghost }
         ensures depth { self.new.depth ≡ self.old.depth }
+        ensures rooms { KeepsRoom self.old self.new }
     {
         prove!(value.len() <= 64);
         match &mut self.node {
@@ -34,12 +40,14 @@ fn set_in_leaf(leaf: &mut RawLeaf, part: u32, key: Key, value: Value, is_ghost: 
     ensures was_live { result ≡ is_some (live_value (find leaf.old.entries part key)) }
     ensures entries { leaf.new.entries ≡ set_entry leaf.old.entries part key value is_ghost }
     ensures rising { IsRising leaf.new.entries }
-    ensures wide { leaf.new.value_room ≡ leaf.old.value_room }
+    ensures same_room { leaf.new.value_room ≡ leaf.old.value_room }
+    ensures room { ValuesHaveRoom leaf.new }
 {
     let Ok(at) = leaf.find(part, key) else {
         unreachable!()
     };
     let was_live = !leaf.is_ghost(at);
     leaf.set_at(at, value, is_ghost);
+    prove!(leaf.len() <= 32);
     was_live
 }

@@ -5,4 +5,5 @@ mod Layouts
 mod Loosened
 mod Rows
 mod Turns
+mod Wholes
 mod Zeros

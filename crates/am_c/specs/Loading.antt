@@ -18,6 +18,11 @@ use Rattle.am_c.specs.declared.text.KeyText.{KeyText}
 use Rattle.am_c.specs.Taking.{Takes}
 use Rattle.am_c.specs.Texts.{key_text}
 
+-- the records of what was given, where nothing is wrong with it
+abbrev pub given_by : {S : Type 0} → (S → Records) → Result S Status → Result Records Status
+given_by records (Ok source) = Ok (records source)
+given_by records (Err why) = Err why
+
 -- the runs of the pairs: of 65,536 each, and of no pairs one of none, which the store refuses
 abbrev pub AreRuns : Records → List Records → Type 0
 AreRuns [] runs = runs ≡ [] ∷ []

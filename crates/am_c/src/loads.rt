@@ -4,7 +4,7 @@ ghost use Rattle.std.specs.Prelude.{◌≡◌};
 ghost use Rattle.am_c.specs.Asking.{pairs_given};
 ghost use Rattle.am_c.specs.Taking.{status, number};
 ghost use Rattle.am_c.specs.Lines.{TellsText};
-ghost use Rattle.am_c.specs.Loading.{TellsRuns, without_key, load_key_told};
+ghost use Rattle.am_c.specs.Loading.{TellsRuns, given_by, without_key, load_key_told};
 ghost use Rattle.am_c.specs.Structs.{structs_given};
 
 use crate::asking::pairs_asked;
@@ -12,10 +12,10 @@ use crate::handle::Handle;
 use crate::lines::text_asked;
 use crate::runs::{load_given, tell_load_key, without_key};
 use crate::status::Status;
-use crate::structs::{Layout, structs_asked};
+use crate::structs::{Layout, Structs, structs_asked};
 use crate::taking::{number_told, status_told};
 use crate::text::{KeyText, Record};
-use am_record::Pairs;
+use am_runs::RecordSource;
 use std::alloc::Global;
 
 /// Adds records in any order, as runs of 65,536 that are loaded in turn, until one is refused: how many records stand
@@ -38,7 +38,8 @@ pub extern "C" fn tiuvrokk_load_sorting(
     tell_runs(alloc, store, tx, pairs, key, loaded, told)
 }
 
-/// The same of so many structs of the caller's own, one behind another.
+/// The same of so many structs of the caller's own, one behind another. Those that stand there whole and all have a
+/// record are read where they lie; else pairs are made of them, up to the first that has none.
 #[unsafe(no_mangle)]
 pub extern "C" fn tiuvrokk_load_structs(
     alloc: Global,
@@ -55,8 +56,13 @@ pub extern "C" fn tiuvrokk_load_structs(
         (λ n answer. (result ≡ status (without_key answer)) × (told.new ≡ number (without_key answer))
         × (key.new ≡ load_key_told answer key.old) × (loaded.new ≡ n)) }
 {
-    let pairs = structs_asked(alloc, structs, count, layout);
-    tell_runs(alloc, store, tx, pairs, key, loaded, told)
+    match Structs::whole(structs, count, layout) {
+        Some(whole) => tell_runs(alloc, store, tx, Ok(whole), key, loaded, told),
+        None => {
+            let pairs = structs_asked(alloc, structs, count, layout);
+            tell_runs(alloc, store, tx, pairs, key, loaded, told)
+        }
+    }
 }
 
 /// The same of the records of a text. Where a line is none, its number goes out, and else 0.
@@ -79,16 +85,17 @@ pub extern "C" fn tiuvrokk_load_text(
     tell_runs(alloc, store, tx, pairs, key, loaded, told)
 }
 
-fn tell_runs(
+// Loads what was given, and tells how that ended.
+fn tell_runs<S: RecordSource + Drop>(
     alloc: Global,
     store: &mut Handle,
     tx: u64,
-    given: Result<Pairs, Status>,
+    given: Result<S, Status>,
     key: &mut KeyText,
     loaded: &mut u64,
     told: &mut u64,
 ) -> u32
-    ensures { TellsRuns store.old.held tx given store.new.held
+    ensures { TellsRuns store.old.held tx (given_by S.records given) store.new.held
         (λ n answer. (result ≡ status (without_key answer)) × (told.new ≡ number (without_key answer))
         × (key.new ≡ load_key_told answer key.old) × (loaded.new ≡ n)) }
 {

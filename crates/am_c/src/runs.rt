@@ -5,7 +5,7 @@ ghost use Rattle.am_runs.specs.Cuts.{IsCut, records_of};
 ghost use Rattle.am_c.specs.declared.runs.Fault.TheVariants.{Other};
 ghost use Rattle.am_c.specs.declared.status.Status.TheVariants.{NoMemory};
 ghost use Rattle.am_c.specs.Loading.{AreRuns, AreRunsGiven, fault_of, IsFault, LoadInTurn, Loads};
-ghost use Rattle.am_c.specs.Loading.{without_key, load_key_told};
+ghost use Rattle.am_c.specs.Loading.{given_by, without_key, load_key_told};
 
 use crate::handle::Handle;
 use crate::status::Status;
@@ -13,8 +13,8 @@ use crate::taking::take_there;
 use crate::text::KeyText;
 use am_btree::BTree;
 use am_core::Store;
-use am_record::{Key, MAX_RUN_RECORDS, Op, Pairs, Reply, Step, Value};
-use am_runs::{LoadFault, Run, cut_runs};
+use am_record::{Key, MAX_RUN_RECORDS, Op, Pairs, Reply, Step};
+use am_runs::{LoadFault, RecordSource, Run, cut_source};
 use std::alloc::{AllocError, AllocFailed, Global};
 
 /// Why nothing is loaded.
@@ -53,13 +53,13 @@ pub(crate) struct Loaded {
 
 /// Loads what was given, run after run, until one is refused.
 #[inline(never)]
-pub(crate) fn load_given(
+pub(crate) fn load_given<S: RecordSource + Drop>(
     alloc: Global,
     handle: &mut Handle,
     tx: u64,
-    given: Result<Pairs, Status>,
+    given: Result<S, Status>,
 ) -> Loaded
-    ensures { Loads handle.old.held tx given result.records result.answer handle.new.held }
+    ensures { Loads handle.old.held tx (given_by S.records given) result.records result.answer handle.new.held }
 {
     let Some(mut store) = handle.take(alloc) else {
         return not_loaded(Fault::Other(Status::NoStore));
@@ -103,36 +103,40 @@ fn load_in_turn(store: &mut Box<Store<BTree>>, tx: u64, runs: Vec<Pairs>) -> (u6
 }
 
 // The runs of what was given.
-fn runs_given(alloc: Global, given: Result<Pairs, Status>) -> Result<Vec<Pairs>, Fault>
-    ensures runs { IfOk result (λ runs. AreRunsGiven given runs.items) }
+fn runs_given<S: RecordSource + Drop>(
+    alloc: Global,
+    given: Result<S, Status>,
+) -> Result<Vec<Pairs>, Fault>
+    ensures runs { IfOk result (λ runs. AreRunsGiven (given_by S.records given) runs.items) }
     ensures few { IfOk result (λ runs. length (records_of runs.items) < 2 ^ 64) }
-    ensures fault { IfErr result (IsFault given) }
+    ensures fault { IfErr result (IsFault (given_by S.records given)) }
 {
     match given {
-        Ok(pairs) => runs_of(alloc, pairs),
+        Ok(source) => runs_of(alloc, source),
         Err(why) => Err(Fault::Other(why)),
     }
 }
 
-fn runs_of(alloc: Global, pairs: Pairs) -> Result<Vec<Pairs>, Fault>
-    ensures runs { IfOk result (λ runs. AreRuns pairs runs.items) }
+fn runs_of<S: RecordSource + Drop>(alloc: Global, source: S) -> Result<Vec<Pairs>, Fault>
+    ensures runs { IfOk result (λ runs. AreRuns (S.records source) runs.items) }
     ensures few { IfOk result (λ runs. length (records_of runs.items) < 2 ^ 64) }
-    ensures fault { IfErr result (IsFault (Ok pairs)) }
+    ensures fault { IfErr result (IsFault (Ok (S.records source))) }
 {
-    if pairs.as_slice().is_empty() {
-        return one_run(alloc, pairs);
+    let len = source.len();
+    if len == 0 {
+        return one_run(alloc, Pairs::new(Vec::new(alloc)));
     }
-    let runs = cut(alloc, pairs.as_slice())?;
-    drop(pairs);
+    let runs = cut(alloc, &source)?;
+    drop(source);
     pairs_of(alloc, runs)
 }
 
-// The runs of the pairs, of which there is one or more.
-fn cut(alloc: Global, pairs: &[(Key, Value)]) -> Result<Vec<Run>, Fault>
-    ensures runs { IfOk result (λ runs. IsCut 65536 pairs.now runs.items) }
-    ensures fault { IfErr result (IsFault (Ok pairs.now)) }
+// The runs of the records, of which there is one or more.
+fn cut<S: RecordSource>(alloc: Global, source: &S) -> Result<Vec<Run>, Fault>
+    ensures runs { IfOk result (λ runs. IsCut 65536 (S.records source.now) runs.items) }
+    ensures fault { IfErr result (IsFault (Ok (S.records source.now))) }
 {
-    match cut_runs(alloc, pairs, MAX_RUN_RECORDS) {
+    match cut_source(alloc, source, MAX_RUN_RECORDS) {
         Ok(runs) => Ok(runs),
         Err(why) => Err(fault_of(why)),
     }

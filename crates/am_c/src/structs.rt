@@ -1,14 +1,17 @@
 //! Structs of the caller's own, one behind another.
 
-ghost use Rattle.std.specs.Prelude.{◌≡◌, ◌⊎◌, ◌+◌, [], nat_le, OnOk, IfErr, Ok, Err};
+ghost use Rattle.std.specs.Prelude.{◌≡◌, ◌≤◌, ◌↔◌, ◌⊎◌, ◌+◌, ◌*◌, [], nat_le, length, IsTrue};
+ghost use Rattle.std.specs.Prelude.{IsSome, IfSome, OnOk, IfErr, Ok, Err};
 ghost use Rattle.am_c.specs.declared.status.Status.TheVariants.{NoMemory};
 ghost use Rattle.am_c.specs.Asking.{IsCopied};
-ghost use Rattle.am_c.specs.Structs.{key_in, value_in, struct_given, structs_given};
+ghost use Rattle.am_c.specs.Structs.{key_in, value_in, struct_given, structs_given, struct_at, IsSound};
 
 use crate::status::Status;
 use crate::text::{key_given, value_given};
-use am_record::{Key, Pairs, Value};
+use am_record::{Key, MAX_KEY_LEN, MAX_VALUE_LEN, Pairs, Value};
+use am_runs::RecordSource;
 use std::alloc::Global;
+use std::marker::Model;
 
 /// `tvk_layout` of the header: how many bytes a struct has, and which of them are its key and its value.
 #[repr(C)]
@@ -48,6 +51,26 @@ impl Layout {
     {
         Ok((self.key(bytes)?, self.value(bytes)?))
     }
+
+    // Whether a struct has bytes, and in them a key and a value that are no longer than they may be.
+    fn is_sound(&self) -> bool
+        ensures { IsTrue result ↔ IsSound self.now }
+    {
+        self.size > 0
+            && self.key_length <= MAX_KEY_LEN
+            && self.value_length <= MAX_VALUE_LEN
+            && lies_within(self.key_at, self.key_length, self.size)
+            && lies_within(self.value_at, self.value_length, self.size)
+    }
+
+    // The bytes of the struct at the place.
+    fn struct_at<'a>(&self, structs: &'a [u8], at: usize) -> &'a [u8]
+        requires { at * self.now.size + self.now.size ≤ length structs.now }
+        ensures { result.now ≡ struct_at self.now structs.now at }
+    {
+        let from = at * self.size;
+        &structs[from..from + self.size]
+    }
 }
 
 // Whether so many bytes from a place on end within the first so many.
@@ -55,6 +78,68 @@ fn lies_within(at: usize, length: usize, size: usize) -> bool
     ensures { result ≡ nat_le (at + length) size }
 {
     at <= size && length <= size - at
+}
+
+/// Structs that all have a key and a value, seen as their records. They are read where they lie.
+#[derive(Drop)]
+pub(crate) struct Structs<'a> {
+    bytes: &'a [u8],
+    count: usize,
+    layout: Layout,
+}
+
+impl<'a> Model for Structs<'a> {
+    ghost use Rattle.am_record.specs.Records.{Records, records_code};
+    ghost use Rattle.am_c.specs.Structs.{AreWhole, records_given, structs_given};
+
+    ghost Value = { Records };
+
+    ghost coded = { records_code };
+
+    ghost view = { λ s. records_given (structs_given s.layout s.bytes.now s.count) };
+
+    ghost invariant = { λ s. AreWhole s.layout s.bytes.now s.count };
+}
+
+impl<'a> Structs<'a> {
+    ghost use Rattle.am_c.specs.Structs.{AreWhole};
+
+    /// So many structs, where so many stand there whole, and each is sure to have a key and a value.
+    pub(crate) fn whole(structs: &'a [u8], count: usize, layout: &Layout) -> Option<Structs<'a>>
+        ensures some { IsSome result ↔ AreWhole layout.now structs.entry.now count }
+        ensures value { IfSome result (λ whole. structs_given layout.now structs.entry.now count ≡ Ok whole) }
+    {
+        if !layout.is_sound() || count > structs.len() / layout.size {
+            return None;
+        }
+        Some(Structs {
+            bytes: structs,
+            count,
+            layout: *layout,
+        })
+    }
+}
+
+impl<'a> RecordSource for Structs<'a> {
+    ghost records = { λ records. records };
+
+    fn len(&self) -> usize {
+        self.count
+    }
+
+    fn key(&self, at: usize) -> Key {
+        let Ok(key) = self.layout.key(self.layout.struct_at(self.bytes, at)) else {
+            unreachable!()
+        };
+        key
+    }
+
+    fn get(&self, at: usize) -> (Key, Value) {
+        let Ok(pair) = self.layout.pair(self.layout.struct_at(self.bytes, at)) else {
+            unreachable!()
+        };
+        pair
+    }
 }
 
 /// The pairs of so many structs, or what is wrong with the first that has none; or NoMemory.

@@ -3,10 +3,11 @@ use Rattle.std.proofs.Common.{◌≡◌, ◌+◌, ◌++◌, ◌∷◌, [], ℕ, 
 use Rattle.std.proofs.Common.{subst, cond}
 use Rattle.std.proofs.lemmas.Bool.{cond-true}
 use Rattle.am_record.specs.Interval.{Interval}
+use Rattle.am_record.specs.EntryOrder.{Place}
 use Rattle.am_list.specs.Entries.{find}
 use Rattle.am_parts.specs.Partitions.{Partitions}
 use Rattle.am_undo.specs.declared.note.Note.{Note}
-use Rattle.am_undo.specs.Notes.{CanTakeBack}
+use Rattle.am_undo.specs.Notes.{CanTakeBack, NotesFit}
 use Rattle.am_record.specs.Marks.{since_mark}
 use Rattle.am_locks.specs.Table.{locks_owned}
 use Rattle.am_tx.specs.Active.{is_active_in, log_in}
@@ -83,6 +84,11 @@ can_back parts t wishes commits tx fit a =
     (subst (λ (ns : List Note). CanTakeBack (since_mark (in_table (actives t) tx).marks ns) (find parts.entries))
     (notes-actives (locks_owned t.locks) t.active tx)
     (fit.can_back tx (is_in-inner t tx true a)))
+
+-- what it noted has room
+pub fits_abort : (roomy : List Place) (t : Txs) (tx : ℕ) → ((u : ℕ) → NotesFit roomy (in_table (actives t) u).notes) →
+    NotesFit roomy (log_in t.active tx).notes
+fits_abort roomy t tx fits = subst (NotesFit roomy) (notes-actives (locks_owned t.locks) t.active tx) (fits tx)
 
 pub still_active : (t t' : Txs) (tx : ℕ) → HasNewLog t tx t' → is_active_in t.active tx ≡ true →
     is_active_in t'.active tx ≡ true

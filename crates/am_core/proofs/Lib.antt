@@ -4,5 +4,6 @@ pub mod Grants
 pub mod Operations
 pub mod Merges
 pub mod Reaching
+mod Rooms
 pub mod Standings
 pub mod Listings

@@ -1,7 +1,7 @@
 -- What an operation that is refused, that wants memory, and that is done leave of what is kept.
 use Rattle.std.proofs.Common.{◌≡◌, ◌≤◌, ◌<◌, ◌+◌, ◌++◌, ◌⊎◌, inl, inr, ℕ, List, length, map, take, Bool, true, false}
-use Rattle.std.proofs.Common.{cond, not, ◌||◌, Option, Some, None, refl, sym, ap, ◌∙◌, subst, ⊎_elim, arith}
-use Rattle.std.specs.Prelude.{nat_le, is_some, MatchOption}
+use Rattle.std.proofs.Common.{cond, ◌||◌, Option, Some, None, refl, sym, ap, ◌∙◌, subst, ⊎_elim, arith}
+use Rattle.std.specs.Prelude.{nat_le, MatchOption}
 use Rattle.std.specs.FinMap.{get, contains_key}
 use Rattle.std.proofs.lemmas.Bool.{le-leb, leb-false, or_right, or_left}
 use Rattle.am_record.specs.Interval.{Interval}
@@ -18,6 +18,7 @@ use Rattle.am_record.specs.declared.step.Reply.{Reply}
 use Rattle.am_record.specs.declared.step.Reply.TheVariants.{Done, NoMark, Exists, Missing, Refused}
 use Rattle.am_list.specs.Entries.{find}
 use Rattle.am_list.specs.Content.{content}
+use Rattle.am_list.specs.Rooms.{needs_room}
 use Rattle.am_parts.specs.Partitions.{Partitions}
 use Rattle.am_undo.specs.Log.{Log}
 use Rattle.am_record.specs.Marks.{since_mark, has_mark}
@@ -33,7 +34,7 @@ use Rattle.am_sound.specs.Represents.{stored_answer}
 use Rattle.am_sound.specs.StoreState.{StoreState, is_in, in_table, MayAnswer, refusal_in, takes_memory, state_after_op}
 use Rattle.am_sound.specs.StoreState.{with_op, taken_back_to_mark, blocker_in}
 use Rattle.am_core.specs.Keeping.{state_kept, actives}
-use Rattle.am_core.specs.Memory.{adds_ninth_lock, adds_fifth_note, adds_third_mark, may_want_room}
+use Rattle.am_core.specs.Memory.{adds_ninth_lock, adds_fifth_note, adds_third_mark, outgrows_live, may_want_room}
 use Rattle.am_core.specs.Admission.{lock_refusal_for, IsLockRefusal, HasLocks, IsLockGranted, wish_of}
 use Rattle.am_core.specs.Doing.{MayWantRoom, Works, LeavesAllAlone}
 use Rattle.am_core.proofs.Actives.{is_in-actives, ops-actives, notes-actives, marks-actives, locks-actives, actives-did}
@@ -112,13 +113,16 @@ module _ (parts : Partitions) (t : Txs) (wishes : List Interval) (commits tx : �
       may_want_room (state_kept parts t wishes commits) (in_table (actives t) tx) op ≡ true
   by_lock (Get k) e = e
   by_lock (Scan range max) e = refl
-  by_lock (Insert k v) e = or_right (not (is_some (find parts.entries 0 k)))
+  by_lock (Insert k v) e = or_right (needs_room (find parts.entries 0 k) v)
       (adds_ninth_lock (in_table (actives t) tx).locks (lock_of (Insert k v)) || adds_fifth_note
       (in_table (actives t) tx).notes)
       (or_left (adds_ninth_lock (in_table (actives t) tx).locks (lock_of (Insert k v)))
       (adds_fifth_note (in_table (actives t) tx).notes) e)
-  by_lock (Replace k v) e = or_left (adds_ninth_lock (in_table (actives t) tx).locks (lock_of (Replace k v)))
-      (adds_fifth_note (in_table (actives t) tx).notes) e
+  by_lock (Replace k v) e = or_right (outgrows_live (get (content parts.entries) k) v)
+      (adds_ninth_lock (in_table (actives t) tx).locks (lock_of (Replace k v)) || adds_fifth_note
+      (in_table (actives t) tx).notes)
+      (or_left (adds_ninth_lock (in_table (actives t) tx).locks (lock_of (Replace k v)))
+      (adds_fifth_note (in_table (actives t) tx).notes) e)
   by_lock (Delete k) e = or_left (adds_ninth_lock (in_table (actives t) tx).locks (lock_of (Delete k)))
       (adds_fifth_note (in_table (actives t) tx).notes) e
   by_lock (Load pairs) e = refl
@@ -155,21 +159,23 @@ module _ (parts : Partitions) (t : Txs) (wishes : List Interval) (commits tx : �
       adds_fifth_note (in_table (actives t) tx).notes ≡ true
   five log e h = ap adds_fifth_note (sym e) ∙ le-leb 4 (length log.notes) h
 
+  -- the value needs room, or the note does
+  by_need : (asked : Option TheLock) (log : Log) → log.notes ≡ (in_table (actives t) tx).notes → (b : Bool) →
+      (b ≡ false → 4 ≤ length log.notes) →
+      (b || (adds_ninth_lock (in_table (actives t) tx).locks asked || adds_fifth_note
+      (in_table (actives t) tx).notes)) ≡ true
+  by_need asked log e true w = refl
+  by_need asked log e false w = or_right (adds_ninth_lock (in_table (actives t) tx).locks asked)
+      (adds_fifth_note (in_table (actives t) tx).notes) (five log e (w refl))
+
   by_room : (op : Op) (log : Log) → log.notes ≡ (in_table (actives t) tx).notes →
       log.marks ≡ (in_table (actives t) tx).marks → MayWantRoom op parts.entries log →
       may_want_room (state_kept parts t wishes commits) (in_table (actives t) tx) op ≡ true
   by_room (Get k) log e m w = absurd w
   by_room (Scan range max) log e m w = refl
-  by_room (Insert k v) log e m w = by_slot (is_some (find parts.entries 0 k)) refl
-    where
-      by_slot : (b : Bool) → is_some (find parts.entries 0 k) ≡ b →
-          (not b || (adds_ninth_lock (in_table (actives t) tx).locks (lock_of (Insert k v)) || adds_fifth_note
-          (in_table (actives t) tx).notes)) ≡ true
-      by_slot true s = or_right (adds_ninth_lock (in_table (actives t) tx).locks (lock_of (Insert k v)))
-          (adds_fifth_note (in_table (actives t) tx).notes) (five log e (w s))
-      by_slot false s = refl
-  by_room (Replace k v) log e m w = or_right (adds_ninth_lock (in_table (actives t) tx).locks (lock_of (Replace k v)))
-      (adds_fifth_note (in_table (actives t) tx).notes) (five log e w)
+  by_room (Insert k v) log e m w = by_need (lock_of (Insert k v)) log e (needs_room (find parts.entries 0 k) v) w
+  by_room (Replace k v) log e m w = by_need (lock_of (Replace k v)) log e
+      (outgrows_live (get (content parts.entries) k) v) w
   by_room (Delete k) log e m w = or_right (adds_ninth_lock (in_table (actives t) tx).locks (lock_of (Delete k)))
       (adds_fifth_note (in_table (actives t) tx).notes) (five log e w)
   by_room (Load pairs) log e m w = refl

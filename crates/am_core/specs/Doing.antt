@@ -1,11 +1,13 @@
 -- What one operation of a transaction does to the partitions and to its log, once its lock is granted.
-use Rattle.std.specs.Prelude.{◌≡◌, ℕ, ◌+◌, ◌≤◌, length, List, ◌++◌, IsSome}
+use Rattle.std.specs.Prelude.{◌≡◌, ℕ, ◌+◌, ◌≤◌, length, List, ◌++◌, false}
+use Rattle.std.specs.FinMap.{get}
 use Rattle.am_record.specs.declared.entry.Entry.{Entry}
 use Rattle.am_record.specs.declared.step.Op.{Op}
 use Rattle.am_record.specs.declared.step.Op.TheVariants.{Insert, Replace, Delete, Load, Scan, Mark}
 use Rattle.am_record.specs.declared.step.Reply.{Reply}
 use Rattle.am_list.specs.Entries.{find}
 use Rattle.am_list.specs.Content.{content}
+use Rattle.am_list.specs.Rooms.{needs_room}
 use Rattle.am_parts.specs.Partitions.{Partitions}
 use Rattle.am_undo.specs.Log.{Log}
 use Rattle.am_record.specs.Marks.{since_mark}
@@ -15,6 +17,7 @@ use Rattle.am_effect.specs.Store.{changed, noted, notes_left, marks_left}
 use Rattle.am_sound.specs.Represents.{stored_answer}
 use Rattle.am_tx.specs.Active.{log_in}
 use Rattle.am_tx.specs.Txs.{Txs, with_log}
+use Rattle.am_core.specs.Memory.{outgrows_live}
 
 -- the operation had this reply, and did with it what it does
 pub record IsDone (op : Op) (reply : Reply) (parts : Partitions) (log : Log) (parts' : Partitions)
@@ -34,10 +37,11 @@ pub record LeavesAlone (parts : Partitions) (log : Log) (parts' : Partitions) (l
   pub marks : log'.marks ≡ log.marks
 
 -- when an operation may want memory beside its lock's: for the fifth note or the third mark, and those behind them;
--- a Scan, a Load and an Insert of a key that has no entry in the final partition always may
+-- a Scan and a Load always may, a Replace where its value outgrows the live one, and an Insert where the key has no
+-- entry in the final partition, or its value outgrows that of the ghost there
 abbrev pub MayWantRoom : Op → List Entry → Log → Type 0
-MayWantRoom (Insert k v) es log = IsSome (find es 0 k) → 4 ≤ length log.notes
-MayWantRoom (Replace k v) es log = 4 ≤ length log.notes
+MayWantRoom (Insert k v) es log = needs_room (find es 0 k) v ≡ false → 4 ≤ length log.notes
+MayWantRoom (Replace k v) es log = outgrows_live (get (content es) k) v ≡ false → 4 ≤ length log.notes
 MayWantRoom (Delete k) es log = 4 ≤ length log.notes
 MayWantRoom (Scan range max) es log = Unit {0}
 MayWantRoom (Load pairs) es log = Unit {0}

@@ -1,5 +1,6 @@
 pub mod Doing
 pub mod Memory
+pub mod Rooms
 pub mod Keeping
 pub mod InnerState
 pub mod Admission

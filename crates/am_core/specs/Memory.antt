@@ -1,5 +1,6 @@
 -- Which steps may be refused for want of memory.
-use Rattle.std.specs.Prelude.{ℕ, nat_le, length, List, Bool, true, false, not, ◌&&◌, ◌||◌, Option, Some, None, is_some}
+use Rattle.std.specs.Prelude.{ℕ, nat_le, length, List, Bool, true, false, not, ◌&&◌, ◌||◌, Option, Some, None}
+use Rattle.std.specs.FinMap.{get}
 use Rattle.am_record.specs.Locks.{is_covered}
 use Rattle.am_record.specs.Asks.{lock_of}
 use Rattle.am_record.specs.declared.lock.Lock.{Lock}
@@ -9,6 +10,8 @@ use Rattle.am_record.specs.declared.step.Op.TheVariants.{Mark, Back}
 use Rattle.am_record.specs.declared.step.Step.{Step}
 use Rattle.am_record.specs.declared.step.Step.TheVariants.{Do, Merge}
 use Rattle.am_list.specs.Entries.{find}
+use Rattle.am_list.specs.Content.{content}
+use Rattle.am_list.specs.Rooms.{outgrows, needs_room}
 use Rattle.am_undo.specs.declared.note.Note.{Note}
 use Rattle.am_sound.specs.StoreState.{Active, StoreState, in_table}
 
@@ -25,14 +28,20 @@ adds_fifth_note notes = nat_le 4 (length notes)
 abbrev pub adds_third_mark : List ℕ → Bool
 adds_third_mark marks = nat_le 2 (length marks)
 
--- whether the operation of that transaction may want memory. An Insert does where the key has no entry in the final
--- partition yet
+-- the value may want more room than the live one in whose place it comes: it is longer than 16 bytes and than that one
+abbrev pub outgrows_live : Option (List ℕ) → List ℕ → Bool
+outgrows_live None value = false
+outgrows_live (Some live) value = outgrows value live
+
+-- whether the operation of that transaction may want memory. A Replace does where its value outgrows the live one, an
+-- Insert where the key has no entry in the final partition yet, or where its value outgrows that of the ghost there
 abbrev pub may_want_room : StoreState → Active → Op → Bool
 may_want_room p x (Get k) = adds_ninth_lock x.locks (lock_of (Get k))
 may_want_room p x (TakeLock lock) = adds_ninth_lock x.locks (Some lock)
-may_want_room p x (Replace k v) = adds_ninth_lock x.locks (lock_of (Replace k v)) || adds_fifth_note x.notes
+may_want_room p x (Replace k v) = outgrows_live (get (content p.entries) k) v ||
+    (adds_ninth_lock x.locks (lock_of (Replace k v)) || adds_fifth_note x.notes)
 may_want_room p x (Delete k) = adds_ninth_lock x.locks (lock_of (Delete k)) || adds_fifth_note x.notes
-may_want_room p x (Insert k v) = not (is_some (find p.entries 0 k)) ||
+may_want_room p x (Insert k v) = needs_room (find p.entries 0 k) v ||
     (adds_ninth_lock x.locks (lock_of (Insert k v)) || adds_fifth_note x.notes)
 may_want_room p x (Scan range max) = true
 may_want_room p x (Load pairs) = true

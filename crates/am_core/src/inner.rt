@@ -2,10 +2,11 @@
 
 ghost use Rattle.std.specs.Prelude.{◌≡◌, ◌+◌, ◌≤◌, ◌^◌, length, true};
 ghost use Rattle.am_record.specs.declared.step.Refusal.TheVariants.{NoMemory};
+ghost use Rattle.am_list.specs.Rooms.{KeepRoom};
 ghost use Rattle.am_sound.specs.StoreState.{MayAnswer, state_after, IsFit};
 ghost use Rattle.am_core.specs.Memory.{may_want_memory};
 ghost use Rattle.am_core.specs.Standing.{KeepsContent};
-ghost use Rattle.am_core.specs.InnerState.{inner_state};
+ghost use Rattle.am_core.specs.InnerState.{inner_state, HasRooms};
 
 use am_list::PartIndex;
 use am_merge::Wishes;
@@ -29,9 +30,11 @@ impl<I: PartIndex + Drop> Inner<I> {
     pub(crate) fn step(&mut self, step: Step) -> Reply
         requires fit { IsFit (inner_state self.old) }
         requires few { self.old.commits + length self.old.txs.active ≤ 2 ^ 63 }
+        requires room { HasRooms self.old }
         ensures says { MayAnswer (inner_state self.old) step result }
         ensures after { inner_state self.new ≡ state_after (inner_state self.old) step result }
         ensures memory { result ≡ Reply.Refused NoMemory → may_want_memory (inner_state self.old) step ≡ true }
+        ensures rooms { KeepRoom self.old.parts.roomy self.new.parts.roomy self.new.parts.entries }
         ensures content { KeepsContent (inner_state self.old) step (inner_state self.new) }
     {
         match step {

@@ -2,6 +2,7 @@
 
 ghost use Rattle.std.specs.Prelude.{◌≡◌, ◌<◌, true, IfOk, OnErr};
 ghost use Rattle.am_record.specs.Plain.{is_rising};
+ghost use Rattle.am_list.specs.Rooms.{HaveRoom, KeepRoom};
 ghost use Rattle.am_list.specs.Runs.{NothingAbove};
 ghost use Rattle.am_core.specs.Doing.{IsDone, LeavesAlone};
 ghost use Rattle.am_record.specs.declared.step.Op.TheVariants.{Load};
@@ -22,8 +23,10 @@ pub(crate) fn load_pairs<I: PartIndex + Drop>(
     requires rising { is_rising pairs ≡ true }
     requires room { parts.old.runs < 65535 }
     requires above { NothingAbove parts.old.runs parts.old.entries }
+    requires values { HaveRoom parts.old.entries parts.old.roomy }
     ensures done { IfOk result (λ reply. IsDone (Load pairs) reply parts.old log.old parts.new log.new) }
     ensures err { OnErr result (LeavesAlone parts.old log.old parts.new log.new) }
+    ensures rooms { KeepRoom parts.old.roomy parts.new.roomy parts.new.entries }
 {
     let run = Run::of_rising(pairs.into_vec());
     log.reserve_one()?;

@@ -5,8 +5,9 @@ ghost use Rattle.am_record.specs.Plain.{is_orderly};
 ghost use Rattle.am_record.specs.declared.step.Step.TheVariants.{Do};
 ghost use Rattle.am_record.specs.declared.step.Refusal.TheVariants.{NoMemory as OutOfMemory};
 ghost use Rattle.am_list.specs.Entries.{find};
+ghost use Rattle.am_list.specs.Rooms.{HaveRoom, KeepRoom};
 ghost use Rattle.am_record.specs.Marks.{since_mark};
-ghost use Rattle.am_undo.specs.Notes.{CanTakeBack};
+ghost use Rattle.am_undo.specs.Notes.{CanTakeBack, NotesFit};
 ghost use Rattle.am_list.specs.Runs.{NothingAbove};
 ghost use Rattle.am_tx.specs.Active.{is_active_in, log_in};
 ghost use Rattle.am_record.specs.Refusals.{is_load};
@@ -14,7 +15,7 @@ ghost use Rattle.am_sound.specs.StoreState.{MayAnswer, state_after, IsFit};
 ghost use Rattle.am_effect.specs.Store.{with_wish};
 ghost use Rattle.am_core.specs.Doing.{IsDone, LeavesAlone, MayWantRoom, Works, LeavesAllAlone};
 ghost use Rattle.am_core.specs.Memory.{may_want_memory};
-ghost use Rattle.am_core.specs.InnerState.{inner_state};
+ghost use Rattle.am_core.specs.InnerState.{inner_state, HasRooms};
 
 use crate::admission::{ask, refusal, wish_of};
 use crate::inner::Inner;
@@ -36,10 +37,12 @@ impl<I: PartIndex + Drop> Inner<I> {
     /// cut again where memory is refused later.
     #[inline(never)]
     pub(crate) fn operate(&mut self, tx: u64, op: Op) -> Reply
-        requires { IsFit (inner_state self.old) }
+        requires fit { IsFit (inner_state self.old) }
+        requires room { HasRooms self.old }
         ensures says { MayAnswer (inner_state self.old) (Do tx op) result }
         ensures after { inner_state self.new ≡ state_after (inner_state self.old) (Do tx op) result }
         ensures memory { result ≡ Reply.Refused OutOfMemory → may_want_memory (inner_state self.old) (Do tx op) ≡ true }
+        ensures rooms { KeepRoom self.old.parts.roomy self.new.parts.roomy self.new.parts.entries }
     {
         am_list::runs_follow();
         // Read here, the numbers of the active transactions are known to rise.
@@ -85,9 +88,12 @@ fn work<I: PartIndex + Drop>(
     requires above { NothingAbove parts.old.runs parts.old.entries }
     requires back { CanTakeBack (since_mark (log_in txs.old.active tx).marks (log_in txs.old.active tx).notes)
         (find parts.old.entries) }
+    requires noted { NotesFit parts.old.roomy (log_in txs.old.active tx).notes }
+    requires values { HaveRoom parts.old.entries parts.old.roomy }
     ensures done { IfOk result (λ reply. Works op reply parts.old txs.old tx parts.new txs.new) }
     ensures err { OnErr result (LeavesAllAlone parts.old txs.old tx parts.new txs.new) }
     ensures memory { OnErr result (MayWantRoom op parts.old.entries (log_in txs.old.active tx)) }
+    ensures rooms { KeepRoom parts.old.roomy parts.new.roomy parts.new.entries }
 {
     carry_out(alloc, parts, txs.undo(tx), op)
 }
@@ -103,9 +109,12 @@ fn carry_out<I: PartIndex + Drop>(
     requires room { (is_load op && nat_le 65535 parts.old.runs) ≡ false }
     requires above { NothingAbove parts.old.runs parts.old.entries }
     requires back { CanTakeBack (since_mark log.old.marks log.old.notes) (find parts.old.entries) }
+    requires noted { NotesFit parts.old.roomy log.old.notes }
+    requires values { HaveRoom parts.old.entries parts.old.roomy }
     ensures done { IfOk result (λ reply. IsDone op reply parts.old log.old parts.new log.new) }
     ensures err { OnErr result (LeavesAlone parts.old log.old parts.new log.new) }
     ensures memory { OnErr result (MayWantRoom op parts.old.entries log.old) }
+    ensures rooms { KeepRoom parts.old.roomy parts.new.roomy parts.new.entries }
 {
     match op {
         Op::Get(key) => Ok(get(parts, key)),

@@ -4,11 +4,12 @@ ghost use Rattle.std.specs.Prelude.{◌≡◌, ◌+◌, ◌≤◌, ◌^◌, [], 
 ghost use Rattle.am_record.specs.declared.step.Refusal.{Refusal as TheRefusal};
 ghost use Rattle.am_record.specs.declared.step.Refusal.TheVariants.{NoMemory as OutOfMemory};
 ghost use Rattle.am_list.specs.Entries.{next_ghost};
+ghost use Rattle.am_list.specs.Rooms.{KeepRoom};
 ghost use Rattle.am_sound.specs.StoreState.{empty_state, IsFit, MayAnswer, state_after};
 ghost use Rattle.am_parts.specs.Figures.{AreFigures};
 ghost use Rattle.am_core.specs.Memory.{may_want_memory};
 ghost use Rattle.am_core.specs.Standing.{IsSoundAt, Extends, IsWithin, KeepsContent};
-ghost use Rattle.am_core.specs.InnerState.{inner_state};
+ghost use Rattle.am_core.specs.InnerState.{inner_state, HasRooms};
 
 use crate::entries::all_entries;
 use crate::inner::Inner;
@@ -30,7 +31,7 @@ pub struct Store<I: PartIndex + Drop> {
 impl<I: PartIndex + Drop> Model for Store<I> {
     ghost use Rattle.am_sound.specs.StoreState.{StoreState};
     ghost use Rattle.am_core.specs.Keeping.{state_code, IsReached};
-    ghost use Rattle.am_core.specs.InnerState.{inner_state};
+    ghost use Rattle.am_core.specs.InnerState.{inner_state, HasRooms};
 
     ghost Value = { StoreState };
 
@@ -38,7 +39,7 @@ impl<I: PartIndex + Drop> Model for Store<I> {
 
     ghost view = { λ s. inner_state s.inner.value };
 
-    ghost invariant = { λ s. IsReached (inner_state s.inner.value) };
+    ghost invariant = { λ s. IsReached (inner_state s.inner.value) × HasRooms s.inner.value };
 }
 
 impl<I: PartIndex + Drop> Store<I> {
@@ -53,9 +54,12 @@ impl<I: PartIndex + Drop> Store<I> {
     {
         am_sound::steps_lift();
         let wishes = Wishes::new(alloc)?;
+        let parts = Parts::new(alloc, index, hash);
+        // Asked here, each value is known to have its room.
+        prove!(parts.runs() <= 65535);
         let inner = Inner {
             alloc,
-            parts: Parts::new(alloc, index, hash),
+            parts,
             txs: TxTable::new(alloc)?,
             wishes,
             commits: 0,
@@ -129,9 +133,11 @@ impl<I: PartIndex + Drop> Store<I> {
 fn step_there<I: PartIndex + Drop>(inner: &mut Box<Inner<I>>, step: Step) -> Reply
     requires fit { IsFit (inner_state inner.old.value) }
     requires few { inner.old.value.commits + length inner.old.value.txs.active ≤ 2 ^ 63 }
+    requires room { HasRooms inner.old.value }
     ensures says { MayAnswer (inner_state inner.old.value) step result }
     ensures after { inner_state inner.new.value ≡ state_after (inner_state inner.old.value) step result }
     ensures memory { result ≡ Reply.Refused OutOfMemory → may_want_memory (inner_state inner.old.value) step ≡ true }
+    ensures rooms { KeepRoom inner.old.value.parts.roomy inner.new.value.parts.roomy inner.new.value.parts.entries }
     ensures content { KeepsContent (inner_state inner.old.value) step (inner_state inner.new.value) }
 {
     let inner = &mut **inner;

@@ -4,10 +4,11 @@ ghost use Rattle.std.specs.Prelude.{◌≡◌, ◌+◌, ◌≤◌, ◌<◌, ◌^
 ghost use Rattle.am_record.specs.declared.step.Step.TheVariants.{Begin, Commit, Abort};
 ghost use Rattle.am_sound.specs.StoreState.{MayAnswer, state_after, IsFit};
 ghost use Rattle.am_list.specs.Entries.{find};
-ghost use Rattle.am_undo.specs.Notes.{TakesBack, CanTakeBack};
+ghost use Rattle.am_list.specs.Rooms.{KeepRoom};
+ghost use Rattle.am_undo.specs.Notes.{TakesBack, CanTakeBack, NotesFit};
 ghost use Rattle.am_tx.specs.Active.{is_active_in, log_in};
 ghost use Rattle.am_core.specs.Doing.{HasNewLog};
-ghost use Rattle.am_core.specs.InnerState.{inner_state};
+ghost use Rattle.am_core.specs.InnerState.{inner_state, HasRooms};
 
 use crate::inner::Inner;
 use am_list::PartIndex;
@@ -19,6 +20,7 @@ impl<I: PartIndex + Drop> Inner<I> {
     pub(crate) fn begin(&mut self) -> Reply
         ensures says { MayAnswer (inner_state self.old) Begin result }
         ensures after { inner_state self.new ≡ state_after (inner_state self.old) Begin result }
+        ensures parts { self.new.parts ≡ self.old.parts }
     {
         // Read here, the table's numbers are known to rise.
         let _active = self.txs.active();
@@ -33,6 +35,7 @@ impl<I: PartIndex + Drop> Inner<I> {
         requires { self.old.commits + length self.old.txs.active ≤ 2 ^ 63 }
         ensures says { MayAnswer (inner_state self.old) (Commit tx) result }
         ensures after { inner_state self.new ≡ state_after (inner_state self.old) (Commit tx) result }
+        ensures parts { self.new.parts ≡ self.old.parts }
     {
         if !self.txs.is_active(tx) {
             return Reply::Refused(Refusal::NoSuchTx);
@@ -44,9 +47,11 @@ impl<I: PartIndex + Drop> Inner<I> {
 
     #[inline(never)]
     pub(crate) fn abort(&mut self, tx: u64) -> Reply
-        requires { IsFit (inner_state self.old) }
+        requires fit { IsFit (inner_state self.old) }
+        requires room { HasRooms self.old }
         ensures says { MayAnswer (inner_state self.old) (Abort tx) result }
         ensures after { inner_state self.new ≡ state_after (inner_state self.old) (Abort tx) result }
+        ensures rooms { KeepRoom self.old.parts.roomy self.new.parts.roomy self.new.parts.entries }
     {
         am_effect::taking_back_is_known();
         if !self.txs.is_active(tx) {
@@ -63,8 +68,10 @@ impl<I: PartIndex + Drop> Inner<I> {
 fn take_back<I: PartIndex + Drop>(txs: &mut TxTable, tx: u64, parts: &mut Parts<I>)
     requires active { is_active_in txs.old.active tx ≡ true }
     requires can { CanTakeBack (log_in txs.old.active tx).notes (find parts.old.entries) }
+    requires room { NotesFit parts.old.roomy (log_in txs.old.active tx).notes }
     ensures entries { TakesBack (log_in txs.old.active tx).notes parts.old.entries parts.new.entries }
     ensures runs { parts.new.runs ≡ parts.old.runs }
+    ensures rooms { KeepRoom parts.old.roomy parts.new.roomy parts.new.entries }
     ensures log { HasNewLog txs.old tx txs.new }
 {
     txs.undo(tx).take_back(parts);

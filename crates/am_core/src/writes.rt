@@ -1,6 +1,7 @@
-//! Insert, Replace and Delete. Each gets the room for its note first.
+//! Insert, Replace and Delete. Each gets the room for its note first, and then that for its value.
 
 ghost use Rattle.std.specs.Prelude.{◌≡◌, ◌≤◌, ◌∷◌, IfOk, OnErr};
+ghost use Rattle.am_list.specs.Rooms.{HaveRoom, KeepRoom};
 ghost use Rattle.am_core.specs.Doing.{IsDone, LeavesAlone, MayWantRoom};
 ghost use Rattle.am_record.specs.declared.step.Op.TheVariants.{Insert, Replace, Delete};
 
@@ -18,9 +19,11 @@ pub(crate) fn insert<I: PartIndex + Drop>(
     key: Key,
     value: Value,
 ) -> Result<Reply, NoMemory>
+    requires { HaveRoom parts.old.entries parts.old.roomy }
     ensures done { IfOk result (λ reply. IsDone (Insert key value) reply parts.old log.old parts.new log.new) }
     ensures err { OnErr result (LeavesAlone parts.old log.old parts.new log.new) }
     ensures memory { OnErr result (MayWantRoom (Insert key value) parts.old.entries log.old) }
+    ensures rooms { KeepRoom parts.old.roomy parts.new.roomy parts.new.entries }
 {
     am_list::content_follows();
     let vacancy = parts.vacancy(key);
@@ -30,6 +33,7 @@ pub(crate) fn insert<I: PartIndex + Drop>(
     log.reserve_one()?;
     let note = match vacancy {
         Vacancy::Ghost(old) => {
+            parts.make_room(0, key, value.len())?;
             parts.set(0, key, value, false);
             Note::Before {
                 part: 0,
@@ -60,14 +64,17 @@ pub(crate) fn replace<I: PartIndex + Drop>(
     key: Key,
     value: Value,
 ) -> Result<Reply, NoMemory>
+    requires { HaveRoom parts.old.entries parts.old.roomy }
     ensures done { IfOk result (λ reply. IsDone (Replace key value) reply parts.old log.old parts.new log.new) }
     ensures err { OnErr result (LeavesAlone parts.old log.old parts.new log.new) }
     ensures memory { OnErr result (MayWantRoom (Replace key value) parts.old.entries log.old) }
+    ensures rooms { KeepRoom parts.old.roomy parts.new.roomy parts.new.entries }
 {
     let Some(live) = find_live(parts, key) else {
         return Ok(Reply::Missing);
     };
     log.reserve_one()?;
+    parts.make_room(live.part, live.key, value.len())?;
     parts.set(live.part, live.key, value, false);
     log.note(note_of(&live));
     Ok(Reply::Done)
@@ -80,9 +87,11 @@ pub(crate) fn delete<I: PartIndex + Drop>(
     log: &mut UndoLog,
     key: Key,
 ) -> Result<Reply, NoMemory>
+    requires { HaveRoom parts.old.entries parts.old.roomy }
     ensures done { IfOk result (λ reply. IsDone (Delete key) reply parts.old log.old parts.new log.new) }
     ensures err { OnErr result (LeavesAlone parts.old log.old parts.new log.new) }
     ensures memory { OnErr result (MayWantRoom (Delete key) parts.old.entries log.old) }
+    ensures rooms { KeepRoom parts.old.roomy parts.new.roomy parts.new.entries }
 {
     let Some(live) = find_live(parts, key) else {
         return Ok(Reply::Missing);

@@ -1,21 +1,37 @@
 //! The connections that are open, so that they can be cut.
 
+ghost use Rattle.std.specs.Prelude.{◌≡◌, IfOk};
+
 use am_record::NoMemory;
 use std::alloc::Global;
+use std::marker::Model;
 use std::net::{Shutdown, TcpStream};
 use std::sync::atomic::{AtomicBool, Ordering};
 use std::sync::{Arc, Mutex, Wait};
 
-/// One place for each session that is served at once.
+/// One place for each session that is served at once, seen as how many there are.
 #[derive(Drop)]
 pub struct Connections {
     places: Vec<Mutex<Option<Arc<TcpStream, Global>>>>,
     is_cut: AtomicBool,
 }
 
+impl Model for Connections {
+    ghost use Rattle.std.specs.Prelude.{ℕ, length};
+    ghost use Rattle.std.specs.Coded.{coded_ℕ};
+
+    ghost Value = { ℕ };
+
+    ghost coded = { coded_ℕ };
+
+    ghost view = { λ c. length c.places.items };
+}
+
 impl Connections {
-    pub(crate) fn new(alloc: Global, count: usize) -> Result<Connections, NoMemory> {
-        let mut places = Vec::new(alloc);
+    pub(crate) fn new(alloc: Global, count: usize) -> Result<Connections, NoMemory>
+        ensures { IfOk result (λ connections. connections ≡ count) }
+    {
+        let mut places = Vec::with_capacity(alloc, count)?;
         for _ in 0..count {
             places.push(Mutex::new(None))?;
         }

@@ -1,6 +1,6 @@
 //! What the threads of a server share.
 
-ghost use Rattle.std.specs.Prelude.{◌≡◌, ◌≤◌, ◌*◌, nat_le, is_some, if◌then◌else◌, IfOk};
+ghost use Rattle.std.specs.Prelude.{◌≡◌, ◌≤◌, ◌*◌, nat_le, is_some, if◌then◌else◌, IfOk, MatchOption};
 
 use crate::connections::Connections;
 use crate::door::Door;
@@ -44,8 +44,8 @@ impl<'a> Doors<'a> {
 pub struct House<'a> {
     port: Mutex<Gate<'a>>,
     socket: Option<Mutex<Gate<'a>>>,
-    // How many seats each door has.
-    seats: usize,
+    /// How many seats each door has.
+    pub seats: usize,
     /// Gives workers their turns.
     pub pacer: MergePacer,
     /// The connections that are open, by the places of their seats.
@@ -79,7 +79,12 @@ impl<'a> House<'a> {
         idle: Option<Duration>,
     ) -> Result<House<'a>, NoMemory>
         requires { sessions ≤ 256 }
-        ensures { IfOk result (λ house. house.mode ≡ mode) }
+        ensures mode { IfOk result (λ house. house.mode ≡ mode) }
+        ensures idle { IfOk result (λ house. house.idle ≡ idle) }
+        ensures seats { IfOk result (λ house. house.seats ≡ sessions) }
+        ensures places { IfOk result (λ house. house.connections ≡
+            (if is_some doors.entry.socket then 2 * sessions else sessions)) }
+        ensures socket { IfOk result (λ house. is_some house.socket ≡ is_some doors.entry.socket) }
     {
         let socket = match doors.socket {
             Some(door) => Some(Mutex::new(Gate::new(door, is_stopped, mode))),
@@ -101,7 +106,10 @@ impl<'a> House<'a> {
     }
 
     /// The gate at which the seat of this place waits.
-    pub fn gate(&self, place: usize) -> &Mutex<Gate<'a>> {
+    pub fn gate(&self, place: usize) -> &Mutex<Gate<'a>>
+        ensures { MatchOption self.now.socket (result.now ≡ self.now.port)
+            (λ socket. result.now ≡ (if nat_le self.now.seats place then socket else self.now.port)) }
+    {
         match &self.socket {
             Some(socket) if is_behind(self.seats, place) => socket,
             _ => &self.port,

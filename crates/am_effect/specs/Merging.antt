@@ -1,5 +1,5 @@
 -- What a merge step and a clean step may answer, and the list of entries after.
-use Rattle.std.specs.Prelude.{◌≡◌, ◌⊎◌, ℕ, ◌≤◌, nat_le, ◌==◌, min, length, List, [], ◌∷◌, false, ◌&&◌, take, drop}
+use Rattle.std.specs.Prelude.{◌≡◌, ◌⊎◌, ℕ, ◌≤◌, nat_le, ◌==◌, min, length, List, [], ◌∷◌, true, false, ◌&&◌, take, drop}
 use Rattle.std.specs.Prelude.{filter, take_while, Option, Some, None, is_none, if◌then◌else◌}
 use Rattle.am_record.specs.OrderedKey.{OrderedKey}
 use Rattle.am_record.specs.Interval.{Interval, within}
@@ -8,6 +8,7 @@ use Rattle.am_record.specs.declared.step.Refusal.TheVariants.{NoMemory}
 use Rattle.am_record.specs.declared.step.Reply.{Reply}
 use Rattle.am_record.specs.declared.step.Reply.TheVariants.{Moved, MergeDone, Ended, Idle, Cleaned, Refused}
 use Rattle.am_list.specs.Entries.{find, remove_entry}
+use Rattle.am_list.specs.Rooms.{needs_room}
 use Rattle.am_effect.specs.Places.{put}
 
 -- who holds an exclusive lock on the key, if anybody does
@@ -31,26 +32,26 @@ all_worked_off (e ∷ more) es = all_worked_off more (worked_off e es)
 abbrev pub most : Holders → ℕ → ℕ → List Entry → ℕ
 most held limit run cs = length (take_while (λ (e : Entry). (e.part == run) && is_none (held e.key)) (take limit cs))
 
--- a move of the entry needs a new place in partition 0
-abbrev pub NeedsPlace : List Entry → Entry → Type 0
-NeedsPlace es e = (e.is_ghost ≡ false) × (find es 0 e.key ≡ None)
+-- a move of the entry needs room in partition 0: a new place, or more than a ghost's value there has
+abbrev pub NeedsRoom : List Entry → Entry → Type 0
+NeedsRoom es e = (e.is_ghost ≡ false) × (needs_room (find es 0 e.key) e.value ≡ true)
 
 -- so does the move of the first of them
-abbrev pub FirstNeedsPlace : List Entry → List Entry → Type 0
-FirstNeedsPlace es [] = ⊥
-FirstNeedsPlace es (e ∷ more) = NeedsPlace es e
+abbrev pub FirstNeedsRoom : List Entry → List Entry → Type 0
+FirstNeedsRoom es [] = ⊥
+FirstNeedsRoom es (e ∷ more) = NeedsRoom es e
 
--- a merge step works off the first n candidates: as many as it may, or fewer where the next needs a place
+-- a merge step works off the first n candidates: as many as it may, or fewer where the next needs room
 pub record MovesRight (es : List Entry) (held : Holders) (limit run : ℕ) (cs : List Entry) (n : ℕ) : Type 0 where
   pub some : 1 ≤ n
   pub at_most : n ≤ most held limit run cs
-  pub greatest : (n ≡ most held limit run cs) ⊎ FirstNeedsPlace es (drop n cs)
+  pub greatest : (n ≡ most held limit run cs) ⊎ FirstNeedsRoom es (drop n cs)
 
 -- the answer where c is the first of the candidates, by who holds its key
 abbrev pub AnswersFirst : List Entry → Holders → ℕ → Entry → List Entry → Option ℕ → Reply → Type 0
 AnswersFirst es held limit c cs (Some h) reply = reply ≡ Ended c.key h
 AnswersFirst es held limit c cs None (Moved n run) = (run ≡ c.part) × MovesRight es held limit run cs n
-AnswersFirst es held limit c cs None reply = (reply ≡ Refused NoMemory) × NeedsPlace es c
+AnswersFirst es held limit c cs None reply = (reply ≡ Refused NoMemory) × NeedsRoom es c
 
 abbrev pub AnswersCandidates : List Entry → Holders → ℕ → List Entry → Reply → Type 0
 AnswersCandidates es held limit [] reply = reply ≡ MergeDone

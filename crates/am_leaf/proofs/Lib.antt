@@ -1,5 +1,6 @@
 pub mod Crosses
 pub mod Extending
+pub mod Fitting
 pub mod Ghosts
 pub mod Heap
 pub mod Leaves

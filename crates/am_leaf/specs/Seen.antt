@@ -1,5 +1,5 @@
 -- What is seen of a leaf, and its code.
-use Rattle.std.specs.Prelude.{◌≡◌, ℕ, ◌≤◌, List, length, refl}
+use Rattle.std.specs.Prelude.{◌≡◌, ◌⊎◌, ℕ, ◌≤◌, List, length, refl}
 use Rattle.std.specs.Coded.{Coded, code_by, coded×, coded_ℕ}
 use Rattle.std.specs.List.{AllByRecursion}
 use Rattle.am_record.specs.OrderedKey.{OrderedKey, bytes_of}
@@ -40,3 +40,12 @@ KeysFit rs n = AllByRecursion (λ (r : OrderedKey × List ℕ). length (bytes_of
 
 abbrev pub ValuesFit : Records → ℕ → Type 0
 ValuesFit rs n = AllByRecursion (λ (r : OrderedKey × List ℕ). length r.1 ≤ n) rs
+
+-- none of the values has more bytes
+abbrev pub NoneLonger : ℕ → List (List ℕ) → Type 0
+NoneLonger n vs = AllByRecursion (λ (v : List ℕ). length v ≤ n) vs
+
+-- a value may have 16 bytes or 64, and none has more
+pub record ValuesHaveRoom (s : Seen) : Type 0 where
+  pub kind : (s.value_room ≡ 16) ⊎ (s.value_room ≡ 64)
+  pub none_longer : AllByRecursion (λ e. length e.value ≤ s.value_room) s.entries

@@ -1,7 +1,7 @@
 //! A leaf: at most 32 entries over raw memory.
 
 ghost use Rattle.std.specs.Prelude.{◌≡◌, ◌+◌, ◌<◌, ◌≤◌, ◌++◌, [], length, take, drop, IfOk, IfErr, OnOk, OnErr};
-ghost use Rattle.std.specs.Prelude.{slice_index_or};
+ghost use Rattle.std.specs.Prelude.{slice_index_or, MatchBool};
 ghost use Rattle.std.specs.List.{insert, remove};
 ghost use Rattle.am_record.specs.EntryOrder.{place_cmp, place_of};
 ghost use Rattle.am_record.specs.declared.entry.Entry.{Entry};
@@ -9,7 +9,7 @@ ghost use Rattle.am_list.specs.Entries.{first_such, IsRising};
 ghost use Rattle.am_list.specs.Places.{IsPlaceOf, IsGapFor};
 ghost use Rattle.am_list.specs.Runs.{run_entries};
 ghost use Rattle.am_leaf.specs.Changes.{set_at};
-ghost use Rattle.am_leaf.specs.Seen.{SameRoom, Widened, Fits, KeysFit, ValuesFit};
+ghost use Rattle.am_leaf.specs.Seen.{SameRoom, Widened, Fits, KeysFit, ValuesFit, ValuesHaveRoom};
 ghost use Rattle.am_record.specs.OrderedKey.{bytes_of};
 
 use crate::bits::{change_bit, has_bit, insert_bit, next_bit, remove_bit, split_bits};
@@ -90,6 +90,7 @@ impl RawLeaf {
         requires value { value_len ≤ 64 }
         ensures widened { Widened self.new self.old }
         ensures ok { OnOk result (Fits self.new key_len value_len) }
+        ensures full { OnErr result (¬ Fits self.old key_len value_len) }
     {
         if key_len > self.places.room() {
             self.places.widen(alloc, self.len)?;
@@ -100,12 +101,21 @@ impl RawLeaf {
         Ok(())
     }
 
+    /// Whether a key and a value of so many bytes have room, with no memory asked.
+    pub fn fits(&self, key_len: usize, value_len: usize) -> bool
+        ensures { MatchBool result (Fits self.now key_len value_len) (¬ Fits self.now key_len value_len) }
+    {
+        key_len <= self.places.room() && value_len <= self.values.room()
+    }
+
     /// How many entries it holds.
     pub fn len(&self) -> usize
         ensures all { result ≡ length self.now.entries }
         ensures most { result ≤ 32 }
         ensures rising { IsRising self.now.entries }
+        ensures room { ValuesHaveRoom self.now }
     {
+        prove!(self.values.room() <= 64);
         self.len
     }
 

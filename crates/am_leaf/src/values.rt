@@ -1,7 +1,7 @@
 //! The values of a leaf: short ones until a longer one comes.
 
 ghost use Rattle.std.specs.Prelude.{◌≡◌, ◌<◌, ◌≤◌, ◌+◌, ◌∷◌, ◌++◌, [], length, take, drop, slice_index_or, slice_set};
-ghost use Rattle.std.specs.Prelude.{IfOk, OnOk, OnErr};
+ghost use Rattle.std.specs.Prelude.{◌⊎◌, IfOk, OnOk, OnErr};
 ghost use Rattle.std.specs.List.{insert, remove};
 ghost use Rattle.am_leaf.specs.Seen.{ValuesFit};
 ghost use Rattle.am_leaf.specs.Runs.{values_of};
@@ -62,7 +62,7 @@ impl Values {
     /// How many bytes a value may have.
     pub(crate) fn room(&self) -> usize
         ensures all { result ≡ self.now.room }
-        ensures least { 16 ≤ self.now.room }
+        ensures kind { (self.now.room ≡ 16) ⊎ (self.now.room ≡ 64) }
     {
         match &self.kind {
             Kind::Short(_) => SHORT_LEN,

@@ -3,6 +3,7 @@ pub mod Batches
 pub mod Searches
 pub mod Edits
 pub mod EditLaws
+pub mod Insertions
 pub mod Content
 pub mod ContentLaws
 pub mod WalkLaws
@@ -10,5 +11,6 @@ pub mod ReadLaws
 pub mod Runs
 pub mod RunLaws
 pub mod Removals
+pub mod Rooms
 pub mod Rows
 mod RowLaws

@@ -62,6 +62,11 @@ abbrev pub insert_entry : List Entry → Entry → List Entry
 insert_entry [] x = x ∷ []
 insert_entry (e ∷ es) x = if is_lt (place_cmp (place_of e) (place_of x)) then e ∷ insert_entry es x else x ∷ e ∷ es
 
+-- the list with each of the entries inserted, one after another
+abbrev pub all_inserted : List Entry → List Entry → List Entry
+all_inserted [] es = es
+all_inserted (x ∷ xs) es = all_inserted xs (insert_entry es x)
+
 -- the list with that value and mark at that partition and key
 abbrev pub set_entry : List Entry → ℕ → OrderedKey → List ℕ → Bool → List Entry
 set_entry [] part key value is_ghost = []

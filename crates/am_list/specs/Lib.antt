@@ -5,3 +5,4 @@ pub mod Edits
 pub mod Walks
 pub mod Content
 pub mod Runs
+pub mod Rooms

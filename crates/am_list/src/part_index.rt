@@ -5,9 +5,11 @@ ghost use Rattle.std.specs.Prelude.{OnErr, is_some, is_none, vec_capacity, if◌
 ghost use Rattle.std.specs.List.{AllByRecursion};
 ghost use Rattle.am_record.specs.declared.entry.Entry.{Entry};
 ghost use Rattle.am_list.specs.Entries.{find, next_any, next_ghost, next_from, after, all_from, all_after, entry_at};
-ghost use Rattle.am_list.specs.Entries.{insert_entry, set_entry, remove_entry, remove_from, IsRising};
+ghost use Rattle.am_list.specs.Entries.{insert_entry, all_inserted, set_entry, remove_entry, remove_from, IsRising};
 ghost use Rattle.am_list.specs.Runs.{run_entries};
 ghost use Rattle.am_list.specs.Content.{rows_in, live_value};
+ghost use Rattle.am_list.specs.Rooms.{HasRoom, HaveRoom, KeepRoom};
+ghost use Rattle.am_record.specs.EntryOrder.{Place};
 
 use crate::Batch;
 use am_record::{Entry, Key, NoMemory, Range, Value};
@@ -18,20 +20,26 @@ pub trait PartIndex {
     /// The entries, in order.
     ghost entries: { Self → List Entry };
 
+    /// The places of entries for which room was got, so that a value of any length can be set there.
+    ghost roomy: { Self → List Place };
+
     /// The value that stands under a partition and key, and whether it is a ghost.
     fn find(&self, part: u32, key: Key) -> Option<(Value, bool)>
         ensures found { result ≡ find (entries self.now) part key }
-        ensures rising { IsRising (entries self.now) };
+        ensures rising { IsRising (entries self.now) }
+        ensures room { HaveRoom (entries self.now) (roomy self.now) };
 
     /// The first entry of the partition at or above the key.
     fn next_from(&self, part: u32, key: Key) -> Option<Entry>
         ensures found { result ≡ next_from (entries self.now) part key }
-        ensures rising { IsRising (entries self.now) };
+        ensures rising { IsRising (entries self.now) }
+        ensures room { HaveRoom (entries self.now) (roomy self.now) };
 
     /// The first entry of the partition strictly above the key.
     fn after(&self, part: u32, key: Key) -> Option<Entry>
         ensures found { result ≡ after (entries self.now) part key }
-        ensures rising { IsRising (entries self.now) };
+        ensures rising { IsRising (entries self.now) }
+        ensures room { HaveRoom (entries self.now) (roomy self.now) };
 
     /// Appends the first entries of the partition at or above the key, as many as the batch has
     /// room for. Where it is not full afterwards, the partition has no further ones.
@@ -84,7 +92,8 @@ pub trait PartIndex {
     fn insert(&mut self, entry: Entry) -> Result<(), NoMemory>
         requires { find (entries self.old) entry.part entry.key ≡ None }
         ensures ok { OnOk result (entries self.new ≡ insert_entry (entries self.old) entry) }
-        ensures err { OnErr result (entries self.new ≡ entries self.old) };
+        ensures err { OnErr result (entries self.new ≡ entries self.old) }
+        ensures rooms { KeepRoom (roomy self.old) (roomy self.new) (entries self.new) };
 
     /// Adds an entry, unless its place is taken, and says whether it did.
     ///
@@ -95,7 +104,18 @@ pub trait PartIndex {
         ensures entries { IfOk result (λ is_new. entries self.new ≡
             (if is_new then insert_entry (entries self.old) entry else entries self.old)) }
         ensures err { OnErr result (entries self.new ≡ entries self.old) }
-        ensures free { OnErr result (find (entries self.old) entry.part entry.key ≡ None) };
+        ensures free { OnErr result (find (entries self.old) entry.part entry.key ≡ None) }
+        ensures rooms { KeepRoom (roomy self.old) (roomy self.new) (entries self.new) };
+
+    /// Adds the first of several entries that rise, as many as is at hand where nothing is in the way: their places are
+    /// free, and no memory is taken. How many it added, perhaps none. Which number is at hand depends on how the index
+    /// keeps them.
+    fn insert_between(&mut self, more: &[Entry]) -> usize
+        requires rising { IsRising more.now }
+        ensures most { result ≤ length more.now }
+        ensures free { AllByRecursion (λ e. find (entries self.old) e.part e.key ≡ None) (take result more.now) }
+        ensures added { entries self.new ≡ all_inserted (take result more.now) (entries self.old) }
+        ensures rooms { KeepRoom (roomy self.old) (roomy self.new) (entries self.new) };
 
     /// Appends a run: its records, all live, in a partition above those of all entries.
     ///
@@ -105,20 +125,37 @@ pub trait PartIndex {
         requires above { AllByRecursion (λ e. e.part < part) (entries self.old) }
         requires rising { IsRising (run_entries part pairs.now) }
         ensures ok { OnOk result (entries self.new ≡ entries self.old ++ run_entries part pairs.now) }
-        ensures err { OnErr result (entries self.new ≡ entries self.old) };
+        ensures err { OnErr result (entries self.new ≡ entries self.old) }
+        ensures rooms { KeepRoom (roomy self.old) (roomy self.new) (entries self.new) };
+
+    /// Gets room for a value of so many bytes at an entry. The caller sees to it that it is there. A value of 16 bytes
+    /// or fewer has room everywhere, and where room was got once, it stays until the entry is taken out.
+    ///
+    /// # Errors
+    /// NoMemory, where such a value had no room there and memory was refused.
+    fn make_room(&mut self, part: u32, key: Key, bytes: usize) -> Result<(), NoMemory>
+        requires present { IsSome (find (entries self.old) part key) }
+        requires most { bytes ≤ 64 }
+        ensures ok { OnOk result (HasRoom (roomy self.new) part key bytes) }
+        ensures full { OnErr result (¬ HasRoom (roomy self.old) part key bytes) }
+        ensures same { entries self.new ≡ entries self.old }
+        ensures rooms { KeepRoom (roomy self.old) (roomy self.new) (entries self.new) };
 
     /// Writes over the value and the ghost bit of an entry. Whether it was live before. The caller sees to it that it
-    /// is there.
+    /// is there, and that the value has room there.
     fn set(&mut self, part: u32, key: Key, value: Value, is_ghost: bool) -> bool
-        requires { IsSome (find (entries self.old) part key) }
+        requires present { IsSome (find (entries self.old) part key) }
+        requires room { HasRoom (roomy self.old) part key (length value) }
         ensures was_live { result ≡ is_some (live_value (find (entries self.old) part key)) }
-        ensures set { entries self.new ≡ set_entry (entries self.old) part key value is_ghost };
+        ensures set { entries self.new ≡ set_entry (entries self.old) part key value is_ghost }
+        ensures rooms { KeepRoom (roomy self.old) (roomy self.new) (entries self.new) };
 
     /// Takes an entry out. The caller sees to it that it is there.
     fn remove(&mut self, part: u32, key: Key) -> Entry
         requires { IsSome (find (entries self.old) part key) }
         ensures entry { entry_at (entries self.old) part key ≡ Some result }
-        ensures others { entries self.new ≡ remove_entry (entries self.old) part key };
+        ensures others { entries self.new ≡ remove_entry (entries self.old) part key }
+        ensures rooms { KeepRoom (roomy self.old) (roomy self.new) (entries self.new) };
 
     /// Takes several entries out at once: one that the caller sees to is there, and those that follow it, `most` in all
     /// or fewer. How many it took, at least that one. Which number is at hand depends on how the index keeps them.
@@ -128,5 +165,6 @@ pub trait PartIndex {
         ensures some { 1 ≤ result }
         ensures most { result ≤ most }
         ensures counted { length (entries self.new) + result ≡ length (entries self.old) }
-        ensures others { entries self.new ≡ remove_from (entries self.old) part key result };
+        ensures others { entries self.new ≡ remove_from (entries self.old) part key result }
+        ensures rooms { KeepRoom (roomy self.old) (roomy self.new) (entries self.new) };
 }

@@ -99,6 +99,13 @@ impl ListIndex {
 impl PartIndex for ListIndex {
     ghost entries = { λ es. es };
 
+    ghost use Rattle.std.specs.Prelude.{map};
+    ghost use Rattle.am_record.specs.declared.entry.Entry.{Entry};
+    ghost use Rattle.am_record.specs.EntryOrder.{place_of};
+
+    // A value of any length stands in its place.
+    ghost roomy = { λ es. map (λ (e : Entry). place_of e) es };
+
     fn find(&self, part: u32, key: Key) -> Option<(Value, bool)> {
         match self.search(part, key) {
             Ok(at) => {
@@ -173,8 +180,17 @@ impl PartIndex for ListIndex {
         Ok(true)
     }
 
+    // None: this index is plain.
+    fn insert_between(&mut self, _more: &[Entry]) -> usize {
+        0
+    }
+
     fn append_run(&mut self, part: u32, pairs: &[(Key, Value)]) -> Result<(), NoMemory> {
         push_run(&mut self.items, part, pairs)
+    }
+
+    fn make_room(&mut self, _part: u32, _key: Key, _bytes: usize) -> Result<(), NoMemory> {
+        Ok(())
     }
 
     fn set(&mut self, part: u32, key: Key, value: Value, is_ghost: bool) -> bool {

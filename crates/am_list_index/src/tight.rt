@@ -1,11 +1,13 @@
 //! An index to which some inserts are refused.
 
-ghost use Rattle.std.specs.Prelude.{◌≡◌, ◌<◌, ◌≤◌, ◌+◌, ◌-◌, ◌^◌, ◌++◌, length, min, Some, None, if◌then◌else◌};
+ghost use Rattle.std.specs.Prelude.{◌≡◌, ◌<◌, ◌≤◌, ◌+◌, ◌-◌, ◌^◌, ◌++◌, length, take, min, Some, None, if◌then◌else◌};
 ghost use Rattle.std.specs.Prelude.{IsSome, is_some, is_none, IsErr, IfOk, OnOk, OnErr};
 ghost use Rattle.std.specs.List.{AllByRecursion, Contains};
-ghost use Rattle.am_list.specs.Entries.{find, entry_at, insert_entry, set_entry, remove_entry, remove_from, IsRising};
+ghost use Rattle.am_list.specs.Entries.{find, entry_at, insert_entry, all_inserted, set_entry, remove_entry};
+ghost use Rattle.am_list.specs.Entries.{remove_from, IsRising};
 ghost use Rattle.am_list.specs.Content.{live_value};
 ghost use Rattle.am_list.specs.Runs.{run_entries};
+ghost use Rattle.am_list.specs.Rooms.{HasRoom, KeepRoom};
 
 use am_list::{Batch, PartIndex};
 use am_record::{Entry, Key, NoMemory, Range, Value};
@@ -28,13 +30,19 @@ impl<I: PartIndex + Drop> Model for Tight<I> {
 
     ghost coded = { refusing_code };
 
-    ghost view = { λ t. record { entries = I.entries t.index; refused = t.refused.items; inserts = t.inserts } };
+    ghost view = { λ t. record {
+      entries = I.entries t.index;
+      roomy = I.roomy t.index;
+      refused = t.refused.items;
+      inserts = t.inserts;
+    } };
 }
 
 impl<I: PartIndex + Drop> Tight<I> {
     /// The index, with no insert counted yet. It takes no memory.
     pub fn new(index: I, refused: Vec<u64>) -> Tight<I>
         ensures entries { result.entries ≡ I.entries index }
+        ensures roomy { result.roomy ≡ I.roomy index }
         ensures refused { result.refused ≡ refused.items }
         ensures none { result.inserts ≡ 0 }
     {
@@ -46,8 +54,11 @@ impl<I: PartIndex + Drop> Tight<I> {
     }
 }
 
+#[tactic(auto, using(am_list::proofs::Rooms::keep_all))]
 impl<I: PartIndex + Drop> PartIndex for Tight<I> {
     ghost entries = { λ t. t.entries };
+
+    ghost roomy = { λ t. t.roomy };
 
     fn find(&self, part: u32, key: Key) -> Option<(Value, bool)> {
         self.index.find(part, key)
@@ -91,12 +102,15 @@ impl<I: PartIndex + Drop> PartIndex for Tight<I> {
         requires { find self.old.entries entry.part entry.key ≡ None }
         ensures ok { OnOk result (self.new.entries ≡ insert_entry self.old.entries entry) }
         ensures err { OnErr result (self.new.entries ≡ self.old.entries) }
+        ensures rooms { KeepRoom self.old.roomy self.new.roomy self.new.entries }
         ensures counted { self.new.inserts ≡ min (self.old.inserts + 1) (2 ^ 64 - 1) }
         ensures same_refused { self.new.refused ≡ self.old.refused }
         ensures refused { Contains self.old.refused self.new.inserts → IsErr result }
     {
         self.inserts = self.inserts.saturating_add(1);
         if self.refused.contains(&self.inserts) {
+            // Asked here, the room of what stands is known.
+            self.index.find(entry.part, entry.key);
             return Err(NoMemory);
         }
         self.index.insert(entry)
@@ -108,6 +122,7 @@ impl<I: PartIndex + Drop> PartIndex for Tight<I> {
             (if is_new then insert_entry self.old.entries entry else self.old.entries)) }
         ensures err { OnErr result (self.new.entries ≡ self.old.entries) }
         ensures free { OnErr result (find self.old.entries entry.part entry.key ≡ None) }
+        ensures rooms { KeepRoom self.old.roomy self.new.roomy self.new.entries }
         ensures counted { self.new.inserts ≡ (if is_none (find self.old.entries entry.part entry.key)
             then min (self.old.inserts + 1) (2 ^ 64 - 1) else self.old.inserts) }
         ensures same_refused { self.new.refused ≡ self.old.refused }
@@ -121,26 +136,57 @@ impl<I: PartIndex + Drop> PartIndex for Tight<I> {
         Ok(true)
     }
 
+    // No insert is counted: this one wants no memory.
+    fn insert_between(&mut self, more: &[Entry]) -> usize
+        requires rising { IsRising more.now }
+        ensures most { result ≤ length more.now }
+        ensures free { AllByRecursion (λ e. find self.old.entries e.part e.key ≡ None) (take result more.now) }
+        ensures added { self.new.entries ≡ all_inserted (take result more.now) self.old.entries }
+        ensures rooms { KeepRoom self.old.roomy self.new.roomy self.new.entries }
+        ensures no_insert { self.new.inserts ≡ self.old.inserts }
+        ensures same_refused { self.new.refused ≡ self.old.refused }
+    {
+        self.index.insert_between(more)
+    }
+
     fn append_run(&mut self, part: u32, pairs: &[(Key, Value)]) -> Result<(), NoMemory>
         requires above { AllByRecursion (λ e. e.part < part) self.old.entries }
         requires rising { IsRising (run_entries part pairs.now) }
         ensures ok { OnOk result (self.new.entries ≡ self.old.entries ++ run_entries part pairs.now) }
         ensures err { OnErr result (self.new.entries ≡ self.old.entries) }
+        ensures rooms { KeepRoom self.old.roomy self.new.roomy self.new.entries }
         ensures counted { self.new.inserts ≡ min (self.old.inserts + 1) (2 ^ 64 - 1) }
         ensures same_refused { self.new.refused ≡ self.old.refused }
         ensures refused { Contains self.old.refused self.new.inserts → IsErr result }
     {
         self.inserts = self.inserts.saturating_add(1);
         if self.refused.contains(&self.inserts) {
+            // Asked here, the room of what stands is known.
+            self.index.find(part, Key::least());
             return Err(NoMemory);
         }
         self.index.append_run(part, pairs)
     }
 
+    fn make_room(&mut self, part: u32, key: Key, bytes: usize) -> Result<(), NoMemory>
+        requires present { IsSome (find self.old.entries part key) }
+        requires most { bytes ≤ 64 }
+        ensures ok { OnOk result (HasRoom self.new.roomy part key bytes) }
+        ensures full { OnErr result (¬ HasRoom self.old.roomy part key bytes) }
+        ensures same { self.new.entries ≡ self.old.entries }
+        ensures rooms { KeepRoom self.old.roomy self.new.roomy self.new.entries }
+        ensures no_insert { self.new.inserts ≡ self.old.inserts }
+        ensures same_refused { self.new.refused ≡ self.old.refused }
+    {
+        self.index.make_room(part, key, bytes)
+    }
+
     fn set(&mut self, part: u32, key: Key, value: Value, is_ghost: bool) -> bool
-        requires { IsSome (find self.old.entries part key) }
+        requires present { IsSome (find self.old.entries part key) }
+        requires room { HasRoom self.old.roomy part key (length value) }
         ensures was_live { result ≡ is_some (live_value (find self.old.entries part key)) }
         ensures set { self.new.entries ≡ set_entry self.old.entries part key value is_ghost }
+        ensures rooms { KeepRoom self.old.roomy self.new.roomy self.new.entries }
         ensures counted { self.new.inserts ≡ self.old.inserts }
         ensures same_refused { self.new.refused ≡ self.old.refused }
     {
@@ -151,6 +197,7 @@ impl<I: PartIndex + Drop> PartIndex for Tight<I> {
         requires { IsSome (find self.old.entries part key) }
         ensures entry { entry_at self.old.entries part key ≡ Some result }
         ensures others { self.new.entries ≡ remove_entry self.old.entries part key }
+        ensures rooms { KeepRoom self.old.roomy self.new.roomy self.new.entries }
         ensures counted { self.new.inserts ≡ self.old.inserts }
         ensures same_refused { self.new.refused ≡ self.old.refused }
     {
@@ -164,6 +211,7 @@ impl<I: PartIndex + Drop> PartIndex for Tight<I> {
         ensures most { result ≤ most }
         ensures counted { length self.new.entries + result ≡ length self.old.entries }
         ensures others { self.new.entries ≡ remove_from self.old.entries part key result }
+        ensures rooms { KeepRoom self.old.roomy self.new.roomy self.new.entries }
         ensures no_insert { self.new.inserts ≡ self.old.inserts }
         ensures same_refused { self.new.refused ≡ self.old.refused }
     {

@@ -7,7 +7,7 @@ use Rattle.am_pieces.specs.Events.{AreTraceCountsOf}
 use Rattle.am_listen.specs.declared.counts.Counts.{Counts}
 
 -- Behind the events that were taken, of which so many came last, this is told of them, and how large the store is to
--- which they lead. What its sessions are, and whether some of the trace is lost, is told as it is given.
+-- which they lead. What its sessions are is told as it is given.
 pub record AreCountsBehind (taken : Trace) (sessions : SessionCounts) (kept : ℕ) (is_cut : Bool) (c : Counts) :
     Type 0 where
   pub of_sessions : c.sessions ≡ sessions

@@ -106,21 +106,30 @@ impl<L: LatchName, T: PieceTaker + Drop, V: Watcher + Drop> Keeper<L, T, V> {
         ensures { HasTaken T.took self.old.taker self.old.pieces self.old.events self.new.taker self.new.pieces
             self.new.events }
     {
-        let mut kept = 0;
-        if let Ok(piece) = latch.hand_out(rt, &mut self.taker) {
-            kept = piece.trace.len();
-            self.pieces.take(&piece.trace);
-            self.events = self.events.saturating_add(kept as u64);
-            self.counts.add(&piece.trace);
-            self.index = piece.figures;
-        }
-        let counts = self.counts(house.tally.counts(), kept, self.pieces.is_cut());
+        let kept = self.pass_piece(rt, latch);
+        let counts = self.counts(house.tally.counts(), kept);
         self.watcher.look(&counts, is_last);
     }
 
+    // Passes on what the latch keeps, and answers how many events these are.
+    fn pass_piece<R: Wait>(&mut self, rt: &R, latch: &Latch<L>) -> usize
+        ensures { HasTaken T.took self.old.taker self.old.pieces self.old.events self.new.taker self.new.pieces
+            self.new.events }
+    {
+        let Ok(piece) = latch.hand_out(rt, &mut self.taker) else {
+            return 0;
+        };
+        let kept = piece.trace.len();
+        self.pieces.take(&piece.trace);
+        self.events = self.events.saturating_add(kept as u64);
+        self.counts.add(&piece.trace);
+        self.index = piece.figures;
+        kept
+    }
+
     // How the server does, by all that was taken, of which so many events came last.
-    fn counts(&self, sessions: SessionCounts, kept: usize, is_cut: bool) -> Counts
-        ensures { AreCountsBehind self.now.taker sessions kept is_cut result }
+    fn counts(&self, sessions: SessionCounts, kept: usize) -> Counts
+        ensures { AreCountsBehind self.now.taker sessions kept (T.has_lost self.now.pieces) result }
     {
         Counts {
             sessions,
@@ -130,7 +139,7 @@ impl<L: LatchName, T: PieceTaker + Drop, V: Watcher + Drop> Keeper<L, T, V> {
                 of: self.counts,
             },
             index: self.index,
-            is_cut,
+            is_cut: self.pieces.is_cut(),
         }
     }
 

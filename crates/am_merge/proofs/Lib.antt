@@ -2,6 +2,7 @@ pub mod Holders
 pub mod Firsts
 pub mod Walks
 pub mod Homing
+mod Rooms
 pub mod Passing
 pub mod Skipping
 pub mod Stretches

@@ -4,13 +4,13 @@ use Rattle.std.specs.List.{AllByRecursion}
 use Rattle.am_record.specs.Interval.{Interval, key_le, within}
 use Rattle.am_record.specs.EntryOrder.{Place}
 use Rattle.am_record.specs.declared.entry.Entry.{Entry}
-use Rattle.am_effect.specs.Merging.{Holders, most, FirstNeedsPlace}
+use Rattle.am_effect.specs.Merging.{Holders, most, FirstNeedsRoom}
 use Rattle.am_merge.specs.Walks.{is_from}
 
--- n of the candidates cs are worked off: as many as may be, or fewer where the next one needs a place
+-- n of the candidates cs are worked off: as many as may be, or fewer where the next one needs room
 pub record IsAsFar (es : List Entry) (held : Holders) (limit run : ℕ) (cs : List Entry) (n : ℕ) : Type 0 where
   pub at_most : n ≤ most held limit run cs
-  pub greatest : (n ≡ most held limit run cs) ⊎ FirstNeedsPlace es (drop n cs)
+  pub greatest : (n ≡ most held limit run cs) ⊎ FirstNeedsRoom es (drop n cs)
 
 -- a key of the range that nobody has exclusively locked
 abbrev pub is_free_in : Holders → Interval → Entry → Bool

@@ -3,6 +3,7 @@
 ghost use Rattle.std.specs.Prelude.{◌≡◌, ◌≤◌};
 ghost use Rattle.am_list.specs.Content.{content};
 ghost use Rattle.am_list.specs.Entries.{first_such};
+ghost use Rattle.am_list.specs.Rooms.{KeepRoom};
 ghost use Rattle.am_effect.specs.Merging.{CleanRight, cleaned_by, all_worked_off};
 ghost use Rattle.am_merge.specs.Holding.{holder_of};
 ghost use Rattle.am_merge.specs.Steps.{is_cleanable, HasPassedNone};
@@ -29,9 +30,10 @@ pub fn clean_step<I: PartIndex + Drop>(
     ensures entries { parts.new.entries ≡ all_worked_off
         (cleaned_by parts.old.entries (holder_of locks.now) range result) parts.old.entries }
     ensures runs { parts.new.runs ≡ parts.old.runs }
+    ensures rooms { KeepRoom parts.old.roomy parts.new.roomy parts.new.entries }
     ensures content { content parts.new.entries ≡ content parts.old.entries }
 {
-    // Asked here, the entries are known to be sound.
+    // Asked here, the entries are known to be sound, and each value to have its room.
     prove!(parts.runs() <= 65535);
     let mut from = (0, range.lo());
     for cleaned in 0..limit {

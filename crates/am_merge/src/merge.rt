@@ -3,6 +3,7 @@
 ghost use Rattle.std.specs.Prelude.{◌≡◌, ◌≤◌, Some, take, take_while, length};
 ghost use Rattle.am_list.specs.Content.{content};
 ghost use Rattle.am_list.specs.Entries.{first_such};
+ghost use Rattle.am_list.specs.Rooms.{HaveRoom, KeepRoom};
 ghost use Rattle.am_parts.specs.Partitions.{AreWellFormed};
 ghost use Rattle.am_effect.specs.Merging.{MergeRight, merged_by, wishes_left, all_worked_off, candidates};
 ghost use Rattle.am_merge.specs.Holding.{holder_of};
@@ -26,8 +27,8 @@ const STRETCH: usize = 16;
 /// Answers Idle, where there is no wish; MergeDone, where no run has an entry in the range, and
 /// Ended with the key of the first such entry, where somebody has it exclusively locked: the wish is
 /// dropped at these two. Else Moved with how many it worked off and the run: as many as it may, or
-/// fewer where the next one's new place in partition 0 was refused memory, or Refused(NoMemory),
-/// where the first one's was. The content is as before.
+/// fewer where the next one was refused memory for its place in partition 0, or for more room than a
+/// ghost's value has there, or Refused(NoMemory), where the first one was. The content is as before.
 #[inline(never)]
 pub fn merge_step<I: PartIndex + Drop>(
     parts: &mut Parts<I>,
@@ -42,8 +43,11 @@ pub fn merge_step<I: PartIndex + Drop>(
         (merged_by parts.old.entries wishes.old result) parts.old.entries }
     ensures wishes { wishes.new ≡ wishes_left wishes.old result }
     ensures runs { parts.new.runs ≡ parts.old.runs }
+    ensures rooms { KeepRoom parts.old.roomy parts.new.roomy parts.new.entries }
     ensures content { content parts.new.entries ≡ content parts.old.entries }
 {
+    // Asked here, each value is known to have its room.
+    prove!(parts.runs() <= 65535);
     let Some(wish) = wishes.oldest() else {
         return Reply::Idle;
     };
@@ -73,11 +77,13 @@ fn work_off_run<I: PartIndex + Drop>(
 ) -> u64
     requires first { first_such (in_parts_from 1 range) parts.old.entries ≡ Some first }
     requires sound { AreWellFormed parts.old.entries }
+    requires room { HaveRoom parts.old.entries parts.old.roomy }
     ensures far { IsAsFar parts.old.entries (holder_of locks.now) limit first.part
         (candidates parts.old.entries range) result }
     ensures entries { parts.new.entries ≡ all_worked_off
         (take result (candidates parts.old.entries range)) parts.old.entries }
     ensures runs { parts.new.runs ≡ parts.old.runs }
+    ensures rooms { KeepRoom parts.old.roomy parts.new.roomy parts.new.entries }
 {
     let mut batch = Batch::new();
     let mut moved = 0;

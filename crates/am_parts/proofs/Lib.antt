@@ -5,12 +5,16 @@ pub mod Alive
 pub mod LiveRuns
 pub mod Listed
 pub mod Catalogued
+pub mod Counting
+pub mod Settling
 pub mod Appending
 pub mod Finding
 pub mod Lives
 mod Emptied
 mod Homes
 mod Changes
+mod Standing
+mod HomeRooms
 pub mod Neighbours
 pub mod Looks
 pub mod Noting

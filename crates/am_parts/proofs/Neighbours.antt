@@ -16,7 +16,7 @@ use Rattle.std.specs.declared.cmp.Ordering.TheVariants.{Less, Equal, Greater}
 use Rattle.am_record.specs.OrderedKey.{OrderedKey}
 use Rattle.am_record.specs.EntryOrder.{Place, place_of, place_cmp, place_cmp-part}
 use Rattle.am_record.specs.declared.entry.Entry.{Entry}
-use Rattle.am_record.proofs.Lists.{AllByRecursion-map, AllByRecursion-take}
+use Rattle.am_record.proofs.Lists.{AllByRecursion-map, AllByRecursion-take, AllByRecursion-back}
 use Rattle.am_record.proofs.Lists.{filter-no}
 use Rattle.am_record.proofs.PlaceOrder.{lower_part, turned_less}
 use Rattle.am_list.specs.Content.{content, live_value}
@@ -26,14 +26,17 @@ use Rattle.am_list.specs.Edits.{same_place}
 use Rattle.am_list.specs.Places.{AllBelow, AllAbove, NoneBelow}
 use Rattle.am_list.proofs.Batches.{all_reached_front}
 use Rattle.am_list.proofs.Content.{slot_live}
+use Rattle.am_list.specs.Rooms.{needs_room}
+use Rattle.am_list.proofs.Edits.{other_key}
 use Rattle.am_list.proofs.Edits.{place_cmp-itself, find-hit, find-miss, set-hit, set-miss, insert-later, insert-here}
 use Rattle.am_list.proofs.Lists.{entry_at-append, entry_at_here, remove_entry-append, below_itself, rising_remove}
-use Rattle.am_list.proofs.Lists.{not_less, rising_above, rising_back}
+use Rattle.am_list.proofs.Lists.{not_less, rising_above, rising_back, rising-take}
+use Rattle.am_list.proofs.ReadLaws.{pass_rising}
 use Rattle.am_list.proofs.Removals.{remove_from-at}
 use Rattle.am_parts.specs.Merged.{AreMerged}
 use Rattle.am_parts.specs.declared.merged.MergedRange.{MergedRange}
 use Rattle.am_parts.specs.Partitions.{AreWellFormed, settled, settled_too, all_settled, brought_home, gone_home}
-use Rattle.am_parts.specs.Partitions.{all_gone_home, FirstIsNew, IsStretch}
+use Rattle.am_parts.specs.Partitions.{all_gone_home, FirstNeedsRoom, IsStretch}
 use Rattle.am_parts.specs.Residences.{LivesInRun, OneRun, AreResidences}
 use Rattle.am_parts.specs.declared.residences.Residences.{Residences}
 use Rattle.am_parts.proofs.Changes.{IsAfter, homes, takes, without_ghost}
@@ -406,32 +409,75 @@ pub absent_unless : (b : Bool) (s : Slot) (o : Option Slot) → cond b (Some s) 
 absent_unless true s o h = absurd (none-some s (sym h))
 absent_unless false s o h = h
 
-absent_one : (m : Entry) (es : List Entry) → IsRising es → (key : OrderedKey) → find (settled_too m es) 0 key ≡ None →
-    find es 0 key ≡ None
-absent_one m es rise key = elim m.is_ghost as (λ b. find (cond b es (settled m es)) 0 key ≡ None → find es 0 key ≡ None)
-    [ true ↦ (λ none. none) | false ↦ settles (find es 0 m.key) refl ]
+-- under another key it has what it had
+other_home : (m : Entry) (es : List Entry) → IsRising es → (key : OrderedKey) → m.key ≢ key →
+    find (settled_too m es) 0 key ≡ find es 0 key
+other_home m es rise key other = elim m.is_ghost as (λ b. find (cond b es (settled m es)) 0 key ≡ find es 0 key)
+    [ true ↦ refl | false ↦ settles (find es 0 m.key) refl ]
   where
     final : Entry
     final = record m { part = 0; is_ghost = false }
 
-    settles : (o : Option Slot) → find es 0 m.key ≡ o → find (settled m es) 0 key ≡ None → find es 0 key ≡ None
-    settles None h none = absent_unless (same_place 0 key 0 m.key) (slot_of final) (find es 0 key)
-        (sym (inserted_finds es rise final 0 key) ∙ ap (λ l. find l 0 key) (sym (ap (λ (o : Option Slot).
-        cond (is_some o) (set_entry es 0 m.key m.value false) (insert_entry es final)) h)) ∙ none)
-    settles (Some s) h none = absent_unless (same_place 0 key 0 m.key) (m.value, false) (find es 0 key)
-        (sym (reset_finds es rise 0 m.key m.value false (ap is_some h) 0 key) ∙
-        ap (λ l. find l 0 key) (sym (ap (λ (o : Option Slot).
-        cond (is_some o) (set_entry es 0 m.key m.value false) (insert_entry es final)) h)) ∙ none)
+    apart : same_place 0 key 0 m.key ≡ false
+    apart = other_key 0 0 key m.key (λ e. other (sym e))
 
-absent_before : (ms es : List Entry) → IsRising es → (key : OrderedKey) → find (all_settled ms es) 0 key ≡ None →
-    find es 0 key ≡ None
-absent_before [] es rise key none = none
-absent_before (m ∷ ms) es rise key none = absent_one m es rise key
-    (absent_before ms (settled_too m es) (rising_settled_too m es rise) key none)
+    settles : (o : Option Slot) → find es 0 m.key ≡ o → find (settled m es) 0 key ≡ find es 0 key
+    settles None h = ap (λ l. find l 0 key) (ap (λ (o : Option Slot).
+        cond (is_some o) (set_entry es 0 m.key m.value false) (insert_entry es final)) h) ∙
+        inserted_finds es rise final 0 key ∙
+        cond-false (same_place 0 key 0 m.key) (Some (slot_of final)) (find es 0 key) apart
+    settles (Some s) h = ap (λ l. find l 0 key) (ap (λ (o : Option Slot).
+        cond (is_some o) (set_entry es 0 m.key m.value false) (insert_entry es final)) h) ∙
+        reset_finds es rise 0 m.key m.value false (ap is_some h) 0 key ∙
+        cond-false (same_place 0 key 0 m.key) (Some (m.value, false)) (find es 0 key) apart
 
-pub new_before : (ms es ys : List Entry) → IsRising es → FirstIsNew (all_settled ms es) ys → FirstIsNew es ys
-new_before ms es [] rise new = new
-new_before ms es (y ∷ ys) rise new = (new.0, absent_before ms es rise y.key new.1)
+others_home : (ms es : List Entry) → IsRising es → (key : OrderedKey) → AllByRecursion (λ m. m.key ≢ key) ms →
+    find (all_settled ms es) 0 key ≡ find es 0 key
+others_home [] es rise key others = refl
+others_home (m ∷ ms) es rise key others =
+    others_home ms (settled_too m es) (rising_settled_too m es rise) key others.1 ∙ other_home m es rise key others.0
+
+-- in one partition those before an entry have other keys
+keys_apart : (run : ℕ) (ms : List Entry) (y : Entry) (ys : List Entry) → IsRising (ms ++ y ∷ ys) →
+    AllByRecursion (λ e. e.part ≡ run) (ms ++ y ∷ ys) → AllByRecursion (λ m. m.key ≢ y.key) ms
+keys_apart run [] y ys rise parts = tt
+keys_apart run (m ∷ ms) y ys rise parts = (
+  λ same.
+      let less : place_cmp (place_of m) (place_of y) ≡ Less =
+      (AllByRecursion-back (λ (f : Entry). place_cmp (place_of m) (place_of f) ≡ Less) ms (y ∷ ys) rise.0).0 in
+      let part : m.part ≡ y.part =
+      parts.0 ∙ sym (AllByRecursion-back (λ (e : Entry). e.part ≡ run) ms (y ∷ ys) parts.1).0 in
+      let place : place_of m ≡ place_of y = λ i. (part i, same i) in
+      let both : Less ≡ Equal =
+      sym less ∙ ap (λ (q : Place). place_cmp q (place_of y)) place ∙ place_cmp-itself (place_of y) in
+      cc,
+  keys_apart run ms y ys rise.1 parts.1,
+)
+
+-- the next one needs no more room than it did before the others settled
+needs_as_before : (run : ℕ) (ms es ys : List Entry) → IsRising es → IsRising (ms ++ ys) →
+    AllByRecursion (λ e. e.part ≡ run) (ms ++ ys) → FirstNeedsRoom (all_settled ms es) ys → FirstNeedsRoom es ys
+needs_as_before run ms es [] rise rises parts needs = needs
+needs_as_before run ms es (y ∷ ys) rise rises parts needs = (
+  needs.0,
+  ap (λ (o : Option Slot). needs_room o y.value)
+      (sym (others_home ms es rise y.key (keys_apart run ms y ys rises parts))) ∙ needs.1,
+)
+
+pub needs_before : (es xs : List Entry) → IsRising es → IsStretch es xs → (n : ℕ) →
+    FirstNeedsRoom (all_settled (take n xs) es) (drop n xs) → FirstNeedsRoom es (drop n xs)
+needs_before es xs rise stretch n = needs_as_before stretch.run (take n xs) es (drop n xs) rise
+    (subst IsRising whole (rising-take (length xs) read
+    (pass_rising (λ (e : Entry). (e.part == stretch.run) && is_ge (place_cmp (place_of e) (stretch.run, stretch.key)))
+    es rise)))
+    (subst (AllByRecursion (λ e. e.part ≡ stretch.run)) whole
+    (AllByRecursion-take (λ e. e.part ≡ stretch.run) (length xs) read (all_of_part stretch.run stretch.key es)))
+  where
+    read : List Entry
+    read = all_from es stretch.run stretch.key
+
+    whole : take (length xs) read ≡ take n xs ++ drop n xs
+    whole = sym stretch.first ∙ sym (take-append-drop n xs)
 
 all_stand : (xs front back : List Entry) → IsRising (front ++ (xs ++ back)) → AllInRuns xs →
     all_settled xs (front ++ (xs ++ back)) ≡ all_settled xs front ++ (xs ++ back)

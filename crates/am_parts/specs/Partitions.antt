@@ -2,26 +2,32 @@
 use Rattle.std.specs.Prelude.{◌≡◌, ◌≤◌, ◌<◌, ◌^◌, ℕ, List, [], ◌∷◌, length, take, Bool, true, false, Option, Some, None}
 use Rattle.std.specs.Prelude.{IsSome, is_some, refl, if◌then◌else◌}
 use Rattle.std.specs.List.{AllByRecursion}
-use Rattle.std.specs.Coded.{Coded, code_by, coded×, coded_ℕ}
+use Rattle.std.specs.Coded.{Coded, code_by, coded×, coded_ℕ, coded_list}
 use Rattle.std.specs.FinMap.{get, insert, remove}
-use Rattle.am_record.specs.OrderedKey.{OrderedKey}
+use Rattle.am_record.specs.OrderedKey.{OrderedKey, key_code}
 use Rattle.am_record.specs.Plain.{PlainMap, Records, is_key_of}
+use Rattle.am_record.specs.EntryOrder.{Place}
 use Rattle.am_record.specs.declared.entry.Entry.{Entry}
 use Rattle.am_list.specs.Entries.{Slot, find, all_from, insert_entry, set_entry, remove_entry, IsRising}
 use Rattle.am_list.specs.EntryCode.{entries_code}
 use Rattle.am_list.specs.Content.{content, OnePlace, IsLiveAt, live_value}
+use Rattle.am_list.specs.Rooms.{needs_room}
 use Rattle.am_parts.specs.declared.parts.Vacancy.{Vacancy}
 use Rattle.am_parts.specs.declared.parts.Vacancy.TheVariants.{Taken, Ghost, Free}
 
--- the entries of all partitions, and how many runs were made
+-- the entries of all partitions, how many runs were made, and the places of entries for which room for a value of any
+-- length was got
 pub record Partitions : Type 0 where
   pub entries : List Entry
   pub runs : ℕ
+  pub roomy : List Place
 
 abbrev pub partitions_code : Coded Partitions
 partitions_code =
-    code_by (List Entry × ℕ) (coded× entries_code coded_ℕ) (λ p. (p.entries, p.runs))
-    (λ p. record { entries = p.0; runs = p.1 }) (λ _. refl)
+    code_by (List Entry × (ℕ × List Place))
+    (coded× entries_code (coded× coded_ℕ (coded_list (coded× coded_ℕ key_code))))
+    (λ p. (p.entries, (p.runs, p.roomy)))
+    (λ p. record { entries = p.0; runs = p.1.0; roomy = p.1.1 }) (λ _. refl)
 
 -- the entries rise, no key is live in two partitions, and the numbers of partitions are u32s
 pub record AreWellFormed (es : List Entry) : Type 0 where
@@ -115,10 +121,11 @@ abbrev pub all_gone_home : List Entry → List Entry → List Entry
 all_gone_home [] es = es
 all_gone_home (e ∷ more) es = all_gone_home more (gone_home e es)
 
--- the first of the entries is live, and nothing of its key stands in the final partition
-abbrev pub FirstIsNew : List Entry → List Entry → Type 0
-FirstIsNew es [] = ⊥
-FirstIsNew es (e ∷ more) = (e.is_ghost ≡ false) × (find es 0 e.key ≡ None)
+-- the first of the entries is live, and its value may want memory in the final partition: nothing of its key stands
+-- there, or the value outgrows that of the ghost that does
+abbrev pub FirstNeedsRoom : List Entry → List Entry → Type 0
+FirstNeedsRoom es [] = ⊥
+FirstNeedsRoom es (e ∷ more) = (e.is_ghost ≡ false) × (needs_room (find es 0 e.key) e.value ≡ true)
 
 -- the entries are the first ones of a run from some key on
 pub record IsStretch (es xs : List Entry) : Type 0 where

@@ -7,9 +7,10 @@ ghost use Rattle.std.specs.List.{AllByRecursion};
 ghost use Rattle.am_record.specs.OrderedKey.{OrderedKey};
 ghost use Rattle.am_record.specs.Plain.{Records};
 ghost use Rattle.am_record.specs.declared.entry.Entry.{Entry};
-ghost use Rattle.am_list.specs.Entries.{find, insert_entry, set_entry, remove_entry};
+ghost use Rattle.am_list.specs.Entries.{find, insert_entry, all_inserted, set_entry, remove_entry};
 ghost use Rattle.am_list.specs.Content.{live_value};
 ghost use Rattle.am_list.specs.Runs.{run_entries};
+ghost use Rattle.am_parts.specs.GoingHome.{IsHome};
 ghost use Rattle.am_parts.specs.Catalogs.{parts_of, PartsRise, IsRunAt, IsGapAt, HasCounted, HasMore, IsNext, AreAll};
 
 use crate::figures::Figures;
@@ -123,6 +124,27 @@ impl Catalog {
         self.entries = entries;
         self.live = live;
         Ok(())
+    }
+
+    /// Whether so many entries more can be counted.
+    pub(crate) fn has_count_for(&self, more: usize) -> bool
+        ensures { result ≡ true → self.now.entries + more < 2 ^ 64 }
+    {
+        // No memory holds 2^64 entries.
+        self.entries.checked_add(more as u64).is_some()
+    }
+
+    /// Counts so many live entries of the final partition. Takes no memory.
+    pub(crate) fn add_homes(&mut self, count: usize)
+        requires catalog { (es : List Entry) × IsCatalog es self.old }
+        requires counts { self.old.entries + count < 2 ^ 64 }
+        ensures { (es xs : List Entry) → count ≡ length xs → AllByRecursion IsHome xs → IsCatalog es self.old →
+            IsCatalog (all_inserted xs es) self.new }
+    {
+        let more = count as u64;
+        self.in_final += more;
+        self.entries += more;
+        self.live += more;
     }
 
     // Counts an entry in its partition.

@@ -1,36 +1,107 @@
 //! The way of a run's entries to the final partition.
 
-ghost use Rattle.std.specs.Prelude.{◌≡◌, ◌⊎◌, ◌≤◌, ◌++◌, List, length, take, drop, false, None, OnOk, OnErr};
+ghost use Rattle.std.specs.Prelude.{◌≡◌, ◌⊎◌, ◌≤◌, ◌++◌, ◌∷◌, List, [], length, take, drop, true, false, OnOk, OnErr};
 ghost use Rattle.am_record.specs.declared.entry.Entry.{Entry};
 ghost use Rattle.am_list.specs.Entries.{find, IsRising};
+ghost use Rattle.am_list.specs.Rooms.{needs_room, HaveRoom, KeepRoom};
 ghost use Rattle.am_parts.specs.Catalogs.{IsCatalog};
-ghost use Rattle.am_parts.specs.Partitions.{settled_too, all_settled, FirstIsNew};
+ghost use Rattle.am_parts.specs.GoingHome.{AreHomesOf};
+ghost use Rattle.am_parts.specs.Partitions.{settled_too, all_settled, FirstNeedsRoom};
 ghost use Rattle.am_parts.specs.Residences.{OneRun, AreResidences};
 
 use crate::catalog::Catalog;
 use crate::residences::Residences;
-use am_list::PartIndex;
+use am_list::{Batch, PartIndex};
 use am_record::{Entry, NoMemory};
 
 /// Lets entries of a run stand in the final partition too, over ghosts there, but for those that are ghosts. How many
-/// it came past: all, or fewer where the next one's new place was refused memory.
+/// it came past: all, or fewer where the next one was refused memory for its place, or for its value there.
 pub(crate) fn settle_all<I: PartIndex + Drop>(
     index: &mut I,
     catalog: &mut Catalog,
     entries: &[Entry],
 ) -> usize
-    requires { IsCatalog (I.entries index.old) catalog.old }
+    requires counted { IsCatalog (I.entries index.old) catalog.old }
+    requires room { HaveRoom (I.entries index.old) (I.roomy index.old) }
     ensures most { result ≤ length entries.now }
     ensures settled { I.entries index.new ≡ all_settled (take result entries.now) (I.entries index.old) }
-    ensures greatest { (result ≡ length entries.now) ⊎ FirstIsNew (I.entries index.new) (drop result entries.now) }
+    ensures greatest { (result ≡ length entries.now) ⊎ FirstNeedsRoom (I.entries index.new) (drop result entries.now) }
     ensures catalog { IsCatalog (I.entries index.new) catalog.new }
+    ensures rooms { KeepRoom (I.roomy index.old) (I.roomy index.new) (I.entries index.new) }
 {
-    for (at, entry) in entries.iter().enumerate() {
-        if settle(index, catalog, entry).is_err() {
-            return at;
+    let mut count = 0;
+    let mut is_asked = true;
+    'settle: while count < entries.len() {
+        if settle(index, catalog, &entries[count]).is_err() {
+            return count;
         }
+        count += 1;
+        count += settle_between(index, catalog, &entries[count..], &mut is_asked);
     }
-    entries.len()
+    count
+}
+
+// Lets the first of the entries stand in the final partition too, as many as are live there at once, between others:
+// by one walk, and without memory. Says how many. Where none was, the index isn't asked again: the entries mostly go to
+// leaves apart then, so that each would be looked for twice.
+fn settle_between<I: PartIndex + Drop>(
+    index: &mut I,
+    catalog: &mut Catalog,
+    entries: &[Entry],
+    is_asked: &mut bool,
+) -> usize
+    requires counted { IsCatalog (I.entries index.old) catalog.old }
+    requires room { HaveRoom (I.entries index.old) (I.roomy index.old) }
+    ensures most { result ≤ length entries.now }
+    ensures settled { I.entries index.new ≡ all_settled (take result entries.now) (I.entries index.old) }
+    ensures catalog { IsCatalog (I.entries index.new) catalog.new }
+    ensures rooms { KeepRoom (I.roomy index.old) (I.roomy index.new) (I.entries index.new) }
+{
+    if !*is_asked || entries.is_empty() || entries[0].is_ghost {
+        return 0;
+    }
+    let homes = first_homes(entries);
+    if !catalog.has_count_for(homes.entries().len()) {
+        return 0;
+    }
+    let count = index.insert_between(homes.entries());
+    catalog.add_homes(count);
+    *is_asked = count > 0;
+    count
+}
+
+// The first of the entries as live ones of the final partition: those that rise, up to the first ghost.
+fn first_homes(entries: &[Entry]) -> Batch
+    ensures { AreHomesOf entries.now result }
+{
+    let mut homes = Batch::new();
+    let mut at = 0;
+    'take: while at < entries.len() {
+        let entry = &entries[at];
+        let home = Entry {
+            part: 0,
+            is_ghost: false,
+            ..*entry
+        };
+        if entry.is_ghost || homes.is_full() || !goes_behind(homes.entries(), &home) {
+            break;
+        }
+        homes.push(home);
+        at += 1;
+    }
+    homes
+}
+
+// Whether an entry goes behind others that rise.
+fn goes_behind(entries: &[Entry], entry: &Entry) -> bool
+    ensures { result ≡ true → IsRising entries.now → IsRising (entries.now ++ entry.now ∷ []) }
+{
+    let len = entries.len();
+    if len == 0 {
+        return true;
+    }
+    let last = &entries[len - 1];
+    last.cmp_place(entry.part, entry.key).is_lt()
 }
 
 // Lets an entry of a run stand in the final partition too, over a ghost there, unless it is a ghost itself.
@@ -39,12 +110,14 @@ fn settle<I: PartIndex + Drop>(
     catalog: &mut Catalog,
     entry: &Entry,
 ) -> Result<(), NoMemory>
-    requires { IsCatalog (I.entries index.old) catalog.old }
+    requires counted { IsCatalog (I.entries index.old) catalog.old }
+    requires room { HaveRoom (I.entries index.old) (I.roomy index.old) }
     ensures ok { OnOk result (I.entries index.new ≡ settled_too entry.now (I.entries index.old)) }
     ensures err { OnErr result (I.entries index.new ≡ I.entries index.old) }
     ensures live { OnErr result (entry.now.is_ghost ≡ false) }
-    ensures place { OnErr result (find (I.entries index.old) 0 entry.now.key ≡ None) }
+    ensures needs { OnErr result (needs_room (find (I.entries index.old) 0 entry.now.key) entry.now.value ≡ true) }
     ensures catalog { IsCatalog (I.entries index.new) catalog.new }
+    ensures rooms { KeepRoom (I.roomy index.old) (I.roomy index.new) (I.entries index.new) }
 {
     if entry.is_ghost {
         return Ok(());
@@ -61,6 +134,7 @@ fn settle<I: PartIndex + Drop>(
         }
         return Ok(());
     }
+    index.make_room(0, entry.key, entry.value.len())?;
     let was_live = index.set(0, entry.key, entry.value, false);
     catalog.mark(was_live, false);
     Ok(())
@@ -71,8 +145,10 @@ pub(crate) fn remove_all<I: PartIndex + Drop>(index: &mut I, entries: &[Entry])
     requires stand { (front : List Entry) × (back : List Entry) ×
         (I.entries index.old ≡ front ++ (entries.now ++ back)) }
     requires rising { IsRising (I.entries index.old) }
-    ensures { (front back : List Entry) → I.entries index.old ≡ front ++ (entries.now ++ back) →
+    requires room { HaveRoom (I.entries index.old) (I.roomy index.old) }
+    ensures gone { (front back : List Entry) → I.entries index.old ≡ front ++ (entries.now ++ back) →
         I.entries index.new ≡ front ++ back }
+    ensures rooms { KeepRoom (I.roomy index.old) (I.roomy index.new) (I.entries index.new) }
 {
     let mut gone = 0;
     while gone < entries.len() {

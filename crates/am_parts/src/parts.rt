@@ -7,6 +7,7 @@ ghost use Rattle.std.specs.FinMap.{get};
 ghost use Rattle.am_record.specs.Plain.{insert_all, is_rising};
 ghost use Rattle.am_list.specs.Entries.{find, next_any, next_ghost, next_from, after, all_from, all_after};
 ghost use Rattle.am_list.specs.Entries.{entry_at, insert_entry, set_entry, remove_entry, IsRising};
+ghost use Rattle.am_list.specs.Rooms.{HasRoom, HaveRoom, KeepRoom};
 ghost use Rattle.am_list.specs.Runs.{run_entries};
 ghost use Rattle.am_list.specs.Content.{content, rows_in, live_value, HasContent};
 ghost use Rattle.am_parts.specs.Catalogs.{IsCatalog};
@@ -37,8 +38,9 @@ pub enum Vacancy {
     Free,
 }
 
-/// The partitions of an index, seen as its entries and the number of runs made. Partition 0 is the
-/// final one, run n is partition n. No key is live, that is not a ghost, in two partitions.
+/// The partitions of an index, seen as its entries, the number of runs made, and the places of entries for which room
+/// for a value of any length was got. Partition 0 is the final one, run n is partition n. No key is live, that is not a
+/// ghost, in two partitions.
 #[derive(Drop)]
 pub struct Parts<I: PartIndex + Drop> {
     index: I,
@@ -50,6 +52,7 @@ pub struct Parts<I: PartIndex + Drop> {
 
 impl<I: PartIndex + Drop> Model for Parts<I> {
     ghost use Rattle.std.specs.Prelude.{◌≤◌};
+    ghost use Rattle.am_list.specs.Rooms.{HaveRoom};
     ghost use Rattle.am_parts.specs.Catalogs.{IsCatalog};
     ghost use Rattle.am_parts.specs.Merged.{AreMerged};
     ghost use Rattle.am_parts.specs.Partitions.{Partitions, partitions_code, AreWellFormed};
@@ -59,18 +62,18 @@ impl<I: PartIndex + Drop> Model for Parts<I> {
 
     ghost coded = { partitions_code };
 
-    ghost view = { λ p. record { entries = I.entries p.index; runs = p.runs } };
+    ghost view = { λ p. record { entries = I.entries p.index; runs = p.runs; roomy = I.roomy p.index } };
 
     ghost invariant = { λ p. AreWellFormed (I.entries p.index) × (p.runs ≤ 65535) ×
         IsCatalog (I.entries p.index) p.catalog × AreResidences (I.entries p.index) p.residences ×
-        AreMerged (I.entries p.index) p.runs p.merged.list.items };
+        AreMerged (I.entries p.index) p.runs p.merged.list.items × HaveRoom (I.entries p.index) (I.roomy p.index) };
 }
 
 impl<I: PartIndex + Drop> Parts<I> {
     ghost use Rattle.am_parts.specs.Partitions.{AreWellFormed, AreEmpty, AreEmptyFrom, LivesIn, LivesInNoRun};
     ghost use Rattle.am_parts.specs.Figures.{AreFigures};
     ghost use Rattle.am_parts.specs.Partitions.{LivesNowhereElse, IsLiveEntry, IsVacancy, content_with};
-    ghost use Rattle.am_parts.specs.Partitions.{content_without, content_set, IsStretch, all_gone_home, FirstIsNew};
+    ghost use Rattle.am_parts.specs.Partitions.{content_without, content_set, IsStretch, all_gone_home, FirstNeedsRoom};
 
     /// The partitions of an empty index. By the hash key the keys of runs have their numbers: whoever doesn't know it
     /// can't choose keys that have one number.
@@ -79,6 +82,8 @@ impl<I: PartIndex + Drop> Parts<I> {
         ensures entries { result.entries ≡ [] }
         ensures runs { result.runs ≡ 0 }
     {
+        // Read here, the index is known to have no room for values that don't stand in it.
+        let _ = index.find(0, Key::least());
         Parts {
             index,
             catalog: Catalog::new(alloc),
@@ -93,6 +98,7 @@ impl<I: PartIndex + Drop> Parts<I> {
         ensures runs { result ≡ self.now.runs }
         ensures limit { result ≤ 65535 }
         ensures sound { AreWellFormed self.now.entries }
+        ensures room { HaveRoom self.now.entries self.now.roomy }
     {
         self.runs
     }
@@ -102,6 +108,7 @@ impl<I: PartIndex + Drop> Parts<I> {
     pub fn find(&self, part: u32, key: Key) -> Option<(Value, bool)>
         ensures found { result ≡ find self.now.entries part key }
         ensures sound { AreWellFormed self.now.entries }
+        ensures room { HaveRoom self.now.entries self.now.roomy }
     {
         if part == 0 && !self.catalog.has_final() {
             return None;
@@ -113,6 +120,7 @@ impl<I: PartIndex + Drop> Parts<I> {
     pub fn next_from(&self, part: u32, key: Key) -> Option<Entry>
         ensures found { result ≡ next_from self.now.entries part key }
         ensures sound { AreWellFormed self.now.entries }
+        ensures room { HaveRoom self.now.entries self.now.roomy }
     {
         self.index.next_from(part, key)
     }
@@ -121,6 +129,7 @@ impl<I: PartIndex + Drop> Parts<I> {
     pub fn after(&self, part: u32, key: Key) -> Option<Entry>
         ensures found { result ≡ after self.now.entries part key }
         ensures sound { AreWellFormed self.now.entries }
+        ensures room { HaveRoom self.now.entries self.now.roomy }
     {
         self.index.after(part, key)
     }
@@ -216,6 +225,7 @@ impl<I: PartIndex + Drop> Parts<I> {
         ensures live { IfSome result (λ e. IsLiveEntry self.now.entries key e) }
         ensures absent { IfNone result (get (content self.now.entries) key ≡ None) }
         ensures sound { AreWellFormed self.now.entries }
+        ensures room { HaveRoom self.now.entries self.now.roomy }
     {
         let slot = self.find(0, key);
         if let Some(entry) = live_at(0, key, slot) {
@@ -237,6 +247,7 @@ impl<I: PartIndex + Drop> Parts<I> {
     pub fn vacancy(&self, key: Key) -> Vacancy
         ensures met { IsVacancy self.now.entries key result }
         ensures sound { AreWellFormed self.now.entries }
+        ensures room { HaveRoom self.now.entries self.now.roomy }
     {
         let slot = self.find(0, key);
         if is_live(&slot) || self.live_in_runs(key).is_some() {
@@ -249,7 +260,7 @@ impl<I: PartIndex + Drop> Parts<I> {
     /// is live, that its key is live nowhere.
     ///
     /// # Errors
-    /// NoMemory, where memory was refused; nothing is changed.
+    /// NoMemory, where memory was refused; the entries are as before.
     pub fn add(&mut self, entry: Entry) -> Result<(), NoMemory>
         requires absent { find self.old.entries entry.part entry.key ≡ None }
         requires dead { entry.is_ghost ≡ false → get (content self.old.entries) entry.key ≡ None }
@@ -257,6 +268,7 @@ impl<I: PartIndex + Drop> Parts<I> {
         ensures content { OnOk result (HasContent self.new.entries (content_with self.old.entries entry)) }
         ensures err { OnErr result (self.new.entries ≡ self.old.entries) }
         ensures runs { self.new.runs ≡ self.old.runs }
+        ensures rooms { KeepRoom self.old.roomy self.new.roomy self.new.entries }
     {
         // Read here, the number is known to fit its type.
         prove!(entry.part <= u32::MAX);
@@ -268,14 +280,33 @@ impl<I: PartIndex + Drop> Parts<I> {
         Ok(())
     }
 
-    /// Writes over the value of an entry, and whether it is a ghost. The caller sees to it that it is there, and
-    /// where it is to be live, that its key is live in no other partition. Takes no memory.
+    /// Gets room for a value of so many bytes at an entry. The caller sees to it that it is there. A value of 16 bytes
+    /// or fewer has room everywhere, and where room was got once, it stays until the entry is taken out.
+    ///
+    /// # Errors
+    /// NoMemory, where such a value had no room there and memory was refused.
+    pub fn make_room(&mut self, part: u32, key: Key, bytes: usize) -> Result<(), NoMemory>
+        requires present { IsSome (find self.old.entries part key) }
+        requires most { bytes ≤ 64 }
+        ensures ok { OnOk result (HasRoom self.new.roomy part key bytes) }
+        ensures full { OnErr result (¬ HasRoom self.old.roomy part key bytes) }
+        ensures entries { self.new.entries ≡ self.old.entries }
+        ensures runs { self.new.runs ≡ self.old.runs }
+        ensures rooms { KeepRoom self.old.roomy self.new.roomy self.new.entries }
+    {
+        self.index.make_room(part, key, bytes)
+    }
+
+    /// Writes over the value of an entry, and whether it is a ghost. The caller sees to it that it is there, that the
+    /// value has room there, and where it is to be live, that its key is live in no other partition. Takes no memory.
     pub fn set(&mut self, part: u32, key: Key, value: Value, is_ghost: bool)
         requires present { IsSome (find self.old.entries part key) }
+        requires room { HasRoom self.old.roomy part key (length value) }
         requires alone { is_ghost ≡ false → LivesNowhereElse self.old.entries part key }
         ensures entries { self.new.entries ≡ set_entry self.old.entries part key value is_ghost }
         ensures content { HasContent self.new.entries (content_set self.old.entries part key value is_ghost) }
         ensures runs { self.new.runs ≡ self.old.runs }
+        ensures rooms { KeepRoom self.old.roomy self.new.roomy self.new.entries }
     {
         let was_live = self.index.set(part, key, value, is_ghost);
         self.catalog.mark(was_live, is_ghost);
@@ -289,6 +320,7 @@ impl<I: PartIndex + Drop> Parts<I> {
         ensures entries { self.new.entries ≡ remove_entry self.old.entries part key }
         ensures content { HasContent self.new.entries (content_without self.old.entries part key) }
         ensures runs { self.new.runs ≡ self.old.runs }
+        ensures rooms { KeepRoom self.old.roomy self.new.roomy self.new.entries }
     {
         let entry = self.index.remove(part, key);
         self.catalog.take(part, !entry.is_ghost);
@@ -306,8 +338,9 @@ impl<I: PartIndex + Drop> Parts<I> {
         ensures content { HasContent self.new.entries (content self.old.entries) }
         ensures sound { AreWellFormed self.old.entries }
         ensures greatest { (result ≡ length entries.now) ⊎
-            FirstIsNew self.old.entries (drop result entries.now) }
+            FirstNeedsRoom self.old.entries (drop result entries.now) }
         ensures runs { self.new.runs ≡ self.old.runs }
+        ensures rooms { KeepRoom self.old.roomy self.new.roomy self.new.entries }
     {
         let count = settle_all(&mut self.index, &mut self.catalog, entries);
         let gone = &entries[..count];
@@ -341,6 +374,7 @@ impl<I: PartIndex + Drop> Parts<I> {
         requires { self.old.runs < 65535 }
         ensures runs { self.new.runs ≡ self.old.runs + 1 }
         ensures entries { self.new.entries ≡ self.old.entries }
+        ensures rooms { self.new.roomy ≡ self.old.roomy }
     {
         self.runs += 1;
     }
@@ -351,7 +385,8 @@ impl<I: PartIndex + Drop> Parts<I> {
     /// one of its number, is live in a run, a descent.
     ///
     /// # Errors
-    /// Taken, where one of the keys is live in a run; NoMemory, where memory was refused. Nothing is changed.
+    /// Taken, where one of the keys is live in a run; NoMemory, where memory was refused. Entries and runs are as
+    /// before.
     pub fn append_run(&mut self, pairs: &[(Key, Value)]) -> Result<(), RunFault>
         requires room { self.old.runs < 65535 }
         requires above { AllByRecursion (λ e. e.part ≤ self.old.runs) self.old.entries }
@@ -363,7 +398,8 @@ impl<I: PartIndex + Drop> Parts<I> {
         ensures dead { OnOk result (AreAllAbsent self.old.entries pairs.now) }
         ensures runs { OnOk result (self.new.runs ≡ self.old.runs + 1) }
         ensures taken { result ≡ Err RunFault.Taken → ¬ AreAllAbsent self.old.entries pairs.now }
-        ensures err { OnErr result (self.new ≡ self.old) }
+        ensures err { OnErr result ((self.new.entries ≡ self.old.entries) × (self.new.runs ≡ self.old.runs)) }
+        ensures rooms { KeepRoom self.old.roomy self.new.roomy self.new.entries }
     {
         let part = self.runs + 1;
         self.merged.reserve()?;
@@ -397,6 +433,7 @@ fn insert_or_forget<I: PartIndex + Drop>(
     ensures ok { OnOk result (I.entries index.new ≡ insert_entry (I.entries index.old) entry) }
     ensures err { OnErr result (I.entries index.new ≡ I.entries index.old) }
     ensures catalog { IsCatalog (I.entries index.new) catalog.new }
+    ensures rooms { KeepRoom (I.roomy index.old) (I.roomy index.new) (I.entries index.new) }
 {
     let part = entry.part;
     let is_live = !entry.is_ghost;

@@ -1,6 +1,6 @@
 //! Who takes a trace by pieces, while a server runs.
 
-ghost use Rattle.std.specs.Prelude.{[], ◌++◌};
+ghost use Rattle.std.specs.Prelude.{◌≡◌, [], ◌++◌, Bool};
 ghost use Rattle.am_serial.specs.Trace.{Trace};
 
 use am_record::{Reply, Step};
@@ -10,12 +10,16 @@ pub trait PieceTaker {
     // From the one state to the other it took these events, in their order.
     ghost took: { Self → Trace → Self → Type 0 };
 
+    // Whether some of what it took is lost.
+    ghost has_lost: { Self → Bool };
+
     /// Takes the events that come next.
     fn take(&mut self, piece: &[(Step, Reply)])
         ensures { took self.old piece.now self.new };
 
     /// Whether some of what it took is lost.
-    fn is_cut(&self) -> bool;
+    fn is_cut(&self) -> bool
+        ensures { result ≡ has_lost self.now };
 
     ghost took_none: { (a : Self) → took a [] a };
 
@@ -27,7 +31,11 @@ pub trait PieceTaker {
 pub struct LetGo;
 
 impl PieceTaker for LetGo {
+    ghost use Rattle.std.specs.Prelude.{false};
+
     ghost took = { λ _ _ _. Unit {0} };
+
+    ghost has_lost = { λ _. false };
 
     fn take(&mut self, _piece: &[(Step, Reply)]) {}
 

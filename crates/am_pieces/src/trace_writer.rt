@@ -69,6 +69,8 @@ impl<K: Sink + Drop> PieceTaker for TraceWriter<K> {
 
     ghost took = { λ a events b. TookLines K.holds a.sink a.is_cut events b.sink b.is_cut };
 
+    ghost has_lost = { λ a. a.is_cut };
+
     fn take(&mut self, piece: &[(Step, Reply)]) {
         let mut rest = piece;
         'chunks: while !rest.is_empty() && !self.is_cut {
@@ -78,9 +80,7 @@ impl<K: Sink + Drop> PieceTaker for TraceWriter<K> {
         }
     }
 
-    fn is_cut(&self) -> bool
-        ensures { result ≡ self.now.is_cut }
-    {
+    fn is_cut(&self) -> bool {
         self.is_cut
     }
 

@@ -1,9 +1,9 @@
 -- Closed intervals of keys.
-use Rattle.std.specs.Prelude.{◌≡◌, Bool, true, ◌&&◌, refl}
+use Rattle.std.specs.Prelude.{◌≡◌, Bool, true, ◌&&◌, refl, replicate}
 use Rattle.std.proofs.Common.{ap}
 use Rattle.std.specs.Coded.{Coded, code_by, coded×}
 use Rattle.std.specs.Ordering.{is_le}
-use Rattle.am_record.specs.OrderedKey.{OrderedKey, key_cmp, key_code, key_cmp-itself}
+use Rattle.am_record.specs.OrderedKey.{OrderedKey, key_cmp, key_code, key_of, key_cmp-itself}
 
 -- the keys from lo to hi, both included
 pub record Interval : Type 0 where
@@ -33,6 +33,14 @@ meets a b = key_le a.lo b.hi && key_le b.lo a.hi
 -- the interval of one key
 abbrev pub point : OrderedKey → Interval
 point k = record { lo = k; hi = k }
+
+-- the longest key of the highest bytes
+abbrev pub key_greatest : OrderedKey
+key_greatest = key_of (replicate 32 255)
+
+-- the interval of all keys from one on
+abbrev pub IsFrom : OrderedKey → Interval → Type 0
+IsFrom key range = range ≡ record { lo = key; hi = key_greatest }
 
 abbrev pub interval_code : Coded Interval
 interval_code = code_by (OrderedKey × OrderedKey) (coded× key_code key_code) (λ r. (r.lo, r.hi))

@@ -1,9 +1,10 @@
 //! Ranges of keys.
 
-ghost use Rattle.std.specs.Prelude.{◌≡◌, ◌↔◌, IsSome, IfSome, true};
-ghost use Rattle.am_record.specs.Interval.{Interval, key_le, within, encloses, meets, point};
+ghost use Rattle.std.specs.Prelude.{◌≡◌, ◌↔◌, IsSome, IfSome, IfNone, true, false};
+ghost use Rattle.am_record.specs.Interval.{Interval, IsFrom, key_le, key_greatest, within, encloses, meets, point};
 
 use crate::key::Key;
+use crate::limits::MAX_KEY_LEN;
 use std::marker::Model;
 
 /// The keys from one to another, both included. It is never empty.
@@ -39,6 +40,15 @@ impl Range {
         } else {
             None
         }
+    }
+
+    /// All keys from this one on, up to the longest key of the highest bytes. No key is above that one, so there always
+    /// is such a range; the contract says it of keys that are not.
+    pub fn all_from(key: Key) -> Option<Range>
+        ensures from { IfSome result (IsFrom key) }
+        ensures none { IfNone result (key_le key key_greatest ≡ false) }
+    {
+        Range::new(key, Key::new(&[u8::MAX; MAX_KEY_LEN])?)
     }
 
     /// The range of one key.

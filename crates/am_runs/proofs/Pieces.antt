@@ -1,18 +1,21 @@
 -- Records that are cut piece by piece.
-use Rattle.std.proofs.Common.{◌≡◌, ℕ, ◌<◌, zero, suc, List, [], ◌∷◌, ◌++◌, None, length, take, drop, refl, sym, ap}
+use Rattle.std.proofs.Common.{◌≡◌, ℕ, ◌<◌, ◌≤◌, ◌+◌, ◌-◌, zero, suc, List, [], ◌∷◌, ◌++◌, None, length, take, drop}
+use Rattle.std.proofs.Common.{refl, sym, ap}
 use Rattle.std.proofs.Common.{◌∙◌, subst, arith, append_assoc, length-append}
 use Rattle.std.specs.Prelude.{min}
 use Rattle.std.specs.List.Sorted.{IsPermutation}
 use Rattle.std.proofs.Math.Seq.{take-append_seam}
-use Rattle.std.proofs.lemmas.List.{append-nil, take_all, drop_all}
+use Rattle.std.proofs.lemmas.List.{append-nil, take_all, drop_all, take-append-drop, drop-drop, length-drop}
 use Rattle.std.proofs.lemmas.List.Sorted.{IsPermutation-refl, IsPermutation-append, IsPermutation-map}
 use Rattle.am_record.specs.Plain.{Records}
 use Rattle.am_runs.specs.declared.fault.LoadFault.{LoadFault}
 use Rattle.am_runs.specs.declared.fault.LoadFault.TheVariants.{NotRising, BadSize, Twice, NoMemory}
-use Rattle.am_runs.specs.Cuts.{keys_of, records_of, NoneTwice, IsRunOf, AreRunsOf, IsPieceFault}
-use Rattle.am_runs.specs.Cuts.{IsTwiceFault}
+use Rattle.am_runs.specs.Cuts.{keys_of, records_of, times_among, NoneTwice, IsRunOf, AreRunsOf, IsSortFault}
+use Rattle.am_runs.specs.Cuts.{IsPieceFault, IsTwiceFault}
+use Rattle.am_runs.specs.Sorting.{piece}
 use Rattle.am_record.proofs.FirstRows.{Record}
-use Rattle.am_runs.proofs.Twice.{found_permuted}
+use Rattle.am_runs.proofs.Spots.{piece_long}
+use Rattle.am_runs.proofs.Twice.{found_permuted, times_among-append}
 use Rattle.am_runs.proofs.Sorts.{rising_apart}
 
 pub keys_of-append : (rs qs : Records) → keys_of (rs ++ qs) ≡ keys_of rs ++ keys_of qs
@@ -69,6 +72,55 @@ pub cut_whole : {n : ℕ} {all : Records} (runs : List Records) (rest : Records)
     IsCutting n all runs rest → AreRunsOf n all runs
 cut_whole {n} {all} runs [] none h = subst (λ (l : List Records). AreRunsOf n all l) (append-nil runs) (h.done [] refl)
 cut_whole runs (r ∷ rest) none h = absurd (omega (arith, none))
+
+-- ---- pieces by their places
+
+-- a piece, and what comes behind it
+pub piece_behind : (rs : Records) (from more : ℕ) → drop from rs ≡ piece rs from (from + more) ++ drop (from + more) rs
+piece_behind rs from more =
+    sym (take-append-drop more (drop from rs))
+    ∙ ap (λ (l : Records). take more (drop from rs) ++ l) (drop-drop more from rs)
+    ∙ ap (λ n. take n (drop from rs) ++ drop (from + more) rs) (omega (arith))
+
+-- the next piece is cut
+pub cut_next : {n : ℕ} {all : Records} {runs : List Records} (from more : ℕ) (run : Records) → from ≤ length all →
+    more ≡ min n (length all - from) → IsCutting n all runs (drop from all) → IsRunOf (piece all from (from + more))
+    run →
+    IsCutting n all (runs ++ run ∷ []) (drop (from + more) all)
+cut_next {n} {all} {runs} from more run within size h is =
+    cut_piece (piece all from (from + more)) (drop (from + more) all) run (piece_behind all from more)
+    (piece_long all from (from + more) (omega arith) (omega (arith, within, size))
+    ∙ omega (arith, size, length-drop from all)) h is
+
+-- what keeps a piece from being a run
+pub fault_of_piece : (rs : Records) (from more : ℕ) (fault : LoadFault) → 0 < more → from + more ≤ length rs →
+    IsSortFault (piece rs from (from + more)) fault → IsPieceFault rs fault
+fault_of_piece rs from more NotRising some within none =
+    absurd (omega (
+      arith,
+      some,
+      ap (λ (l : Records). length l) none,
+      piece_long rs from (from + more) (omega arith)
+          within,
+    ))
+fault_of_piece rs from more (Twice key) some within two =
+    let split : rs ≡ take from rs ++ (piece rs from (from + more) ++ drop (from + more) rs) =
+    sym (take-append-drop from rs) ∙ ap (λ (l : Records). take from rs ++ l) (piece_behind rs from more) in
+    let front = take from rs in
+    let some = piece rs from (from + more) in
+    let rest = drop (from + more) rs in
+    let keys : keys_of rs ≡ keys_of front ++ (keys_of some ++ keys_of rest) =
+    ap keys_of split ∙ keys_of-append front (some ++ rest) ∙
+    ap (λ ks. keys_of front ++ ks) (keys_of-append some rest) in
+    omega (
+      arith,
+      two.twice,
+      ap (times_among key) keys,
+      times_among-append key (keys_of front) (keys_of some ++ keys_of rest),
+      times_among-append key (keys_of some) (keys_of rest),
+    )
+fault_of_piece rs from more NoMemory some within h = tt
+fault_of_piece rs from more BadSize some within h = h
 
 -- ---- the records of the runs
 

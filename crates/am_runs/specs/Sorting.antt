@@ -1,5 +1,5 @@
 -- Records that are named by where they stand.
-use Rattle.std.specs.Prelude.{◌<◌, List, [], map, length, get_or}
+use Rattle.std.specs.Prelude.{◌<◌, ◌-◌, ℕ, List, [], map, length, get_or, take, drop}
 use Rattle.std.specs.List.{AllByRecursion}
 use Rattle.am_record.specs.OrderedKey.{key_least}
 use Rattle.am_record.specs.Plain.{Records}
@@ -12,3 +12,7 @@ pub record AreWithin (records : Records) (spots : List Spot) : Type 0 where
 -- the records that the spots name, in the spots' order
 abbrev pub named : Records → List Spot → Records
 named records spots = map (λ (s : Spot). get_or records s.place (key_least, [])) spots
+
+-- the records from one place up to another
+abbrev pub piece : Records → ℕ → ℕ → Records
+piece records from to = take (to - from) (drop from records)

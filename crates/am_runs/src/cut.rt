@@ -6,6 +6,7 @@ ghost use Rattle.am_runs.specs.Cuts.{keys_of, records_of, AreRunsOf, IsCut, IsCu
 ghost use Rattle.am_runs.specs.Cuts.{IsRunSize, NoneTwice};
 
 use crate::fault::LoadFault;
+use crate::record_source::{Listed, RecordSource};
 use crate::run::Run;
 use crate::ties::least_twice;
 use am_record::{Key, MAX_RUN_RECORDS, Value};
@@ -22,25 +23,40 @@ pub fn cut_runs(alloc: Global, records: &[(Key, Value)], n: usize) -> Result<Vec
     ensures cut { IfOk result (λ runs. IsCut n records.now runs.items) }
     ensures fault { IfErr result (IsCutFault n records.now) }
 {
+    cut_source(alloc, &Listed { records }, n)
+}
+
+/// The same of the records of a source.
+///
+/// # Errors
+/// As of `cut_runs`.
+pub fn cut_source<S: RecordSource>(
+    alloc: Global,
+    source: &S,
+    n: usize,
+) -> Result<Vec<Run>, LoadFault>
+    ensures cut { IfOk result (λ runs. IsCut n (S.records source.now) runs.items) }
+    ensures fault { IfErr result (IsCutFault n (S.records source.now)) }
+{
     if !(1..=MAX_RUN_RECORDS).contains(&n) {
         return Err(LoadFault::BadSize);
     }
-    let runs = match sorted_pieces(alloc, records, n) {
+    let runs = match sorted_pieces(alloc, source, n) {
         Ok(runs) => runs,
-        Err(fault) => return Err(over_all(alloc, records, fault)),
+        Err(fault) => return Err(over_all(alloc, source, fault)),
     };
-    with_keys_apart(alloc, records, runs)
+    with_keys_apart(alloc, source, runs)
 }
 
 // The fault of the records by that of a piece: a lower key may stand twice elsewhere.
-fn over_all(alloc: Global, records: &[(Key, Value)], fault: LoadFault) -> LoadFault
-    requires { IsPieceFault records.now fault }
-    ensures { IsTwiceFault records.now result }
+fn over_all<S: RecordSource>(alloc: Global, source: &S, fault: LoadFault) -> LoadFault
+    requires { IsPieceFault (S.records source.now) fault }
+    ensures { IsTwiceFault (S.records source.now) result }
 {
     if fault == LoadFault::NoMemory {
         return fault;
     }
-    match least_twice(alloc, records) {
+    match least_twice(alloc, source) {
         Ok(Some(key)) => LoadFault::Twice(key),
         Ok(None) => fault,
         Err(_) => LoadFault::NoMemory,
@@ -48,34 +64,42 @@ fn over_all(alloc: Global, records: &[(Key, Value)], fault: LoadFault) -> LoadFa
 }
 
 // The run of each piece, where no key stands twice in one of them.
-fn sorted_pieces(alloc: Global, records: &[(Key, Value)], n: usize) -> Result<Vec<Run>, LoadFault>
+fn sorted_pieces<S: RecordSource>(
+    alloc: Global,
+    source: &S,
+    n: usize,
+) -> Result<Vec<Run>, LoadFault>
     requires { IsRunSize n }
-    ensures runs { IfOk result (λ runs. AreRunsOf n records.now runs.items) }
-    ensures fault { IfErr result (IsPieceFault records.now) }
+    ensures runs { IfOk result (λ runs. AreRunsOf n (S.records source.now) runs.items) }
+    ensures fault { IfErr result (IsPieceFault (S.records source.now)) }
 {
+    let len = source.len();
     let mut runs = Vec::new(alloc);
-    for piece in records.chunks(n) {
-        runs.push(Run::sorted(alloc, piece)?)?;
+    let mut from = 0;
+    while from < len {
+        let to = from + n.min(len - from);
+        runs.push(Run::of_piece(alloc, source, from, to)?)?;
+        from = to;
     }
     Ok(runs)
 }
 
 // The runs of the records, where no key stands in two of them.
-fn with_keys_apart(
+fn with_keys_apart<S: RecordSource>(
     alloc: Global,
-    records: &[(Key, Value)],
+    source: &S,
     runs: Vec<Run>,
 ) -> Result<Vec<Run>, LoadFault>
-    requires { (n : ℕ) × AreRunsOf n records.now runs.items }
+    requires { (n : ℕ) × AreRunsOf n (S.records source.now) runs.items }
     ensures value { IfOk result (λ same. same ≡ runs) }
-    ensures apart { IfOk result (λ _. NoneTwice (keys_of records.now)) }
-    ensures fault { IfErr result (IsTwiceFault records.now) }
+    ensures apart { IfOk result (λ _. NoneTwice (keys_of (S.records source.now))) }
+    ensures fault { IfErr result (IsTwiceFault (S.records source.now)) }
 {
-    if runs.len() < 2 || have_fronts_apart(alloc, &runs, records.len())? {
+    if runs.len() < 2 || have_fronts_apart(alloc, &runs, source.len())? {
         return Ok(runs);
     }
     // Keys with one beginning may be equal.
-    match least_twice(alloc, records)? {
+    match least_twice(alloc, source)? {
         Some(key) => Err(LoadFault::Twice(key)),
         None => Ok(runs),
     }

@@ -5,12 +5,14 @@ mod cut;
 mod fault;
 mod loading;
 mod look;
+mod record_source;
 mod run;
 mod sorting;
 mod ties;
 mod walk;
 
-pub use cut::cut_runs;
+pub use cut::{cut_runs, cut_source};
 pub use fault::LoadFault;
 pub use loading::load;
+pub use record_source::RecordSource;
 pub use run::Run;

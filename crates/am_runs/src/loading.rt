@@ -1,6 +1,7 @@
 //! Loading a run into the partitions.
 
 ghost use Rattle.std.specs.Prelude.{◌≡◌, ◌≢◌};
+ghost use Rattle.am_list.specs.Rooms.{KeepRoom};
 ghost use Rattle.am_list.specs.Runs.{NothingAbove};
 ghost use Rattle.am_runs.specs.Loads.{load_due, IsAnswer, IsLoaded};
 
@@ -15,13 +16,15 @@ use am_record::{MAX_RUNS, Refusal, Reply};
 ///
 /// Answers Refused(TooManyRuns) where 65,535 runs were made; else Exists with the least key of the
 /// pairs that is live, where one is; else Done. Refused(NoMemory) comes in place of Done alone,
-/// where memory was refused. All but Done change nothing.
+/// where memory was refused. All but Done leave entries and runs as they were.
 #[inline(never)]
 pub fn load<I: PartIndex + Drop>(parts: &mut Parts<I>, run: &Run) -> Reply
     requires { NothingAbove parts.old.runs parts.old.entries }
     ensures answer { IsAnswer (load_due parts.old run.now) result }
     ensures done { result ≡ Reply.Done → IsLoaded parts.old run.now parts.new }
-    ensures others { result ≢ Reply.Done → parts.new ≡ parts.old }
+    ensures others { result ≢ Reply.Done →
+        (parts.new.entries ≡ parts.old.entries) × (parts.new.runs ≡ parts.old.runs) }
+    ensures rooms { KeepRoom parts.old.roomy parts.new.roomy parts.new.entries }
     ensures nothing_above { NothingAbove parts.new.runs parts.new.entries }
 {
     if parts.runs() == MAX_RUNS {

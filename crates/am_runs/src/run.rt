@@ -1,10 +1,12 @@
 //! Runs: records that rise strictly by key.
 
-ghost use Rattle.std.specs.Prelude.{◌≡◌, ◌↔◌, true, IsOk, IfOk, IfErr};
+ghost use Rattle.std.specs.Prelude.{◌≡◌, ◌↔◌, ◌≤◌, true, length, IsOk, IfOk, IfErr};
 ghost use Rattle.am_record.specs.Plain.{is_rising};
 ghost use Rattle.am_runs.specs.Cuts.{keys_of, IsRunOf, IsSortFault, NoneTwice};
+ghost use Rattle.am_runs.specs.Sorting.{piece};
 
 use crate::fault::LoadFault;
+use crate::record_source::{Listed, RecordSource};
 use crate::sorting::by_front;
 use crate::ties::{first_tie, keys_of};
 use am_record::{Key, Value, is_rising};
@@ -66,10 +68,29 @@ impl Run {
         ensures apart { IfOk result (λ _. NoneTwice (keys_of records.now)) }
         ensures fault { IfErr result (IsSortFault records.now) }
     {
-        if records.is_empty() {
+        Run::of_piece(alloc, &Listed { records }, 0, records.len())
+    }
+
+    /// The run of the records of a source from one place to another, which may stand in any order. Each is copied once.
+    ///
+    /// # Errors
+    /// As of `sorted`.
+    pub(crate) fn of_piece<S: RecordSource>(
+        alloc: Global,
+        source: &S,
+        from: usize,
+        to: usize,
+    ) -> Result<Run, LoadFault>
+        requires order { from ≤ to }
+        requires within { to ≤ length (S.records source.now) }
+        ensures run { IfOk result (λ run. IsRunOf (piece (S.records source.now) from to) run) }
+        ensures apart { IfOk result (λ _. NoneTwice (keys_of (piece (S.records source.now) from to))) }
+        ensures fault { IfErr result (IsSortFault (piece (S.records source.now) from to)) }
+    {
+        if from == to {
             return Err(LoadFault::NotRising);
         }
-        let mut pairs = by_front(alloc, records)?;
+        let mut pairs = by_front(alloc, source, from, to)?;
         if is_rising(&pairs) {
             return Ok(Run { pairs });
         }

@@ -5,17 +5,32 @@ ghost use Rattle.std.specs.List.Sorted.{IsSorted};
 ghost use Rattle.am_record.specs.OrderedKey.{key_cmp};
 ghost use Rattle.am_runs.specs.Cuts.{keys_of, NoneTwice, IsLeastTwice};
 
+use crate::record_source::RecordSource;
 use am_record::{Key, NoMemory, Value};
 use std::alloc::{AllocError, Global};
 
 /// The least of the keys that stand twice in the records.
-pub(crate) fn least_twice(alloc: Global, records: &[(Key, Value)]) -> Result<Option<Key>, NoMemory>
-    ensures { IfOk result (λ found. MatchOption found (NoneTwice (keys_of records.now))
-        (IsLeastTwice (keys_of records.now))) }
+pub(crate) fn least_twice<S: RecordSource>(
+    alloc: Global,
+    source: &S,
+) -> Result<Option<Key>, NoMemory>
+    ensures { IfOk result (λ found. MatchOption found (NoneTwice (keys_of (S.records source.now)))
+        (IsLeastTwice (keys_of (S.records source.now)))) }
 {
-    let mut keys = keys_of(alloc, records)?;
+    let mut keys = keys_in(alloc, source)?;
     keys.sort_unstable();
     Ok(first_tie(&keys))
+}
+
+fn keys_in<S: RecordSource>(alloc: Global, source: &S) -> Result<Vec<Key>, AllocError>
+    ensures { IfOk result (λ keys. keys.items ≡ keys_of (S.records source.now)) }
+{
+    let len = source.len();
+    let mut keys = Vec::with_capacity(alloc, len)?;
+    for at in 0..len {
+        keys.push(source.key(at))?;
+    }
+    Ok(keys)
 }
 
 pub(crate) fn keys_of(alloc: Global, records: &[(Key, Value)]) -> Result<Vec<Key>, AllocError>

@@ -1,14 +1,17 @@
 -- The notes above a mark taken back one by one.
-use Rattle.std.proofs.Common.{◌≡◌, ℕ, ◌-◌, ◌<◌, ◌≤◌, List, [], ◌∷◌, ◌++◌, length, reverse, take, drop, arith, refl, sym}
-use Rattle.std.proofs.Common.{ap, ◌∙◌, length-drop, length-append}
-use Rattle.std.proofs.lemmas.List.{drop-append-le, take-append-le, take-append-drop, append-nil}
+use Rattle.std.proofs.Common.{◌≡◌, ℕ, ◌<◌, ◌≤◌, List, [], ◌∷◌, ◌++◌, length, reverse, take, drop, arith, sym}
+use Rattle.std.proofs.Common.{ap, ◌∙◌, subst, length-drop, length-append}
+use Rattle.std.specs.Prelude.{IsSome, is_some}
+use Rattle.std.proofs.lemmas.List.{drop-append-le, take-append-le, take-append-drop, append-nil, reverse-append}
 use Rattle.std.proofs.Math.ListN.{drop_of_length-le}
 use Rattle.am_record.specs.OrderedKey.{OrderedKey}
+use Rattle.am_record.specs.EntryOrder.{Place}
 use Rattle.am_record.specs.declared.entry.Entry.{Entry}
 use Rattle.am_list.specs.Entries.{find, IsRising}
 use Rattle.am_undo.specs.declared.note.Note.{Note}
-use Rattle.am_undo.specs.Notes.{back_one, back_at, Stands, OneLive, CanTakeBack, TakesBack}
-use Rattle.am_undo.proofs.Log.{Undone, begins, ended, next_stands, next_one, goes_on}
+use Rattle.am_undo.specs.Notes.{back_one, back_at, Stands, OneLive, TakesBack, NoteFits, NotesFit}
+use Rattle.am_undo.proofs.Fits.{stood_before}
+use Rattle.am_undo.proofs.Log.{Undone, ended, next_stands, next_one, goes_on}
 
 -- some of the notes above the mark were taken back, and those under it are untouched. The newest stand last
 pub record Above (was : List Entry) (items : List Note) (mark : ℕ) (left : List Note) (es : List Entry) : Type 0 where
@@ -40,6 +43,17 @@ module _ {was : List Entry} {items : List Note} {mark : ℕ} {left : List Note} 
 
     pub above_one : OneLive (back_at n (find es))
     above_one = next_one a.undone (drop mark older) n newest
+
+    -- the noted values that are left, the newest of them first
+    pub above_fits : (roomy : List Place) → NotesFit roomy (reverse (drop mark left)) →
+        NoteFits roomy n × NotesFit roomy (reverse (drop mark older))
+    above_fits roomy fits = subst (NotesFit roomy) (ap reverse newest ∙ reverse-append (drop mark older) (n ∷ [])) fits
+
+    -- where something stands when the note was taken back, something stood before
+    pub above_stood : (es' : List Entry) → ((part : ℕ) (key : OrderedKey) → find es' part key ≡ back_one n part key
+        (find es part key)) → (part : ℕ) (key : OrderedKey) → IsSome (find es' part key) → IsSome (find es part key)
+    above_stood es' at part key there = stood_before n (find es) part key above_stands
+        (ap is_some (sym (at part key)) ∙ there)
 
     pub above_goes_on : (es' : List Entry) → ((part : ℕ) (key : OrderedKey) → find es' part key ≡ back_one n part key
         (find es part key)) → IsRising es' → Above was items mark older es'

@@ -4,4 +4,5 @@ mod Run
 mod Log
 pub mod Noting
 mod Above
+pub mod Fits
 pub mod Marking

@@ -1,18 +1,15 @@
 -- Notes that can be taken back together with those before them.
-use Rattle.std.proofs.Common.{◌≡◌, ℕ, List, [], ◌∷◌, Bool, false, Some, None, sym, ap, ◌∙◌, subst, ⊎_elim}
-use Rattle.std.specs.Prelude.{is_some, ◌==◌}
-use Rattle.std.proofs.lemmas.Bool.{cases_Bool, cond-true, cond-false}
-use Rattle.std.proofs.lemmas.Option.{none-some}
+use Rattle.std.proofs.Common.{◌≡◌, ℕ, List, ◌∷◌, Bool, Some, None, sym, ap, ◌∙◌, subst}
+use Rattle.std.specs.Prelude.{is_some}
 use Rattle.am_record.specs.OrderedKey.{OrderedKey}
 use Rattle.am_record.specs.declared.entry.Entry.{Entry}
 use Rattle.am_list.specs.Entries.{find, insert_entry, set_entry}
-use Rattle.am_list.specs.Content.{live_value}
 use Rattle.am_list.proofs.EditLaws.{edit_laws}
 use Rattle.am_parts.specs.Partitions.{AreWellFormed}
 use Rattle.am_undo.specs.declared.note.Note.{Note}
-use Rattle.am_undo.specs.declared.note.Note.TheVariants.{New, Before, RunMade}
-use Rattle.am_undo.specs.Notes.{ghosted, back_at, CanTakeBack}
-use Rattle.am_undo.proofs.Slots.{ghosted_dead, can_note}
+use Rattle.am_undo.specs.declared.note.Note.TheVariants.{New, Before}
+use Rattle.am_undo.specs.Notes.{CanTakeBack}
+use Rattle.am_undo.proofs.Slots.{can_note}
 use Rattle.am_undo.proofs.Undoing.{one_live, changed_more, made_more}
 
 module _ {es : List Entry} (sound : AreWellFormed es) {notes : List Note} (can : CanTakeBack notes (find es))

@@ -177,7 +177,7 @@ ends was es run r b none p k =
     (cases_Bool (p == run))
 
 module _ (was es : List Entry) (run : ℕ) (e : Entry) (b : Buries was es run (Some e)) where
-  stands : find es run e.key ≡ Some (slot_of e)
+  pub stands : find es run e.key ≡ Some (slot_of e)
   stands = ap (option_map slot_of) (b.ahead e refl).1
 
   pub is_there : IsSome (find es run e.key)

@@ -41,7 +41,7 @@ lacking slots part key p k stands none =
     (cases_Bool (same_place part key p k))
 
 -- where nothing stands, taking one note back makes nothing, and nothing live
-one_none : (n : Note) (slots : Slots) (part : ℕ) (key : OrderedKey) → Stands n slots → slots part key ≡ None →
+pub one_none : (n : Note) (slots : Slots) (part : ℕ) (key : OrderedKey) → Stands n slots → slots part key ≡ None →
     (s : Option Slot) → s ≡ None → back_one n part key s ≡ None
 one_none (New k) slots part key stands none s h = either_none (same_place part key 0 k) s h
 one_none (Before p k value is_ghost) slots part key stands none s h = cond-false (same_place part key p k)

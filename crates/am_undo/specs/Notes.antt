@@ -1,9 +1,13 @@
 -- Undo notes: what stands at each place when notes are taken back, the newest first.
-use Rattle.std.specs.Prelude.{◌≡◌, ℕ, ◌==◌, List, [], ◌∷◌, true, false, Option, Some, None, IsSome, if◌then◌else◌}
+use Rattle.std.specs.Prelude.{◌≡◌, ℕ, ◌==◌, length, List, [], ◌∷◌, true, false, Option, Some, None, IsSome}
+use Rattle.std.specs.Prelude.{if◌then◌else◌}
+use Rattle.std.specs.List.{AllByRecursion}
 use Rattle.am_record.specs.OrderedKey.{OrderedKey}
+use Rattle.am_record.specs.EntryOrder.{Place}
 use Rattle.am_record.specs.declared.entry.Entry.{Entry}
 use Rattle.am_list.specs.Entries.{Slot, find, IsRising}
 use Rattle.am_list.specs.Edits.{same_place}
+use Rattle.am_list.specs.Rooms.{HasRoom}
 use Rattle.am_undo.specs.declared.note.Note.{Note}
 use Rattle.am_undo.specs.declared.note.Note.TheVariants.{New, Before, RunMade}
 
@@ -55,3 +59,12 @@ CanTakeBack (n ∷ notes) slots = record {
   one : OneLive (back_at n slots);
   older : CanTakeBack notes (back_at n slots);
 }
+
+-- the noted value has room at its place
+abbrev pub NoteFits : List Place → Note → Type 0
+NoteFits roomy (Before p k value is_ghost) = HasRoom roomy p k (length value)
+NoteFits roomy _ = Unit {0}
+
+-- each of the noted values has
+abbrev pub NotesFit : List Place → List Note → Type 0
+NotesFit roomy notes = AllByRecursion (NoteFits roomy) notes

@@ -6,7 +6,9 @@ ghost use Rattle.am_record.specs.OrderedKey.{OrderedKey};
 ghost use Rattle.am_list.specs.Entries.{find, IsRising};
 ghost use Rattle.am_list.specs.Edits.{same_place};
 ghost use Rattle.am_record.specs.Marks.{since_mark, until_mark, older, has_mark};
-ghost use Rattle.am_undo.specs.Notes.{TakesBack, CanTakeBack, Stands, OneLive, back_at, back_one, ghosted};
+ghost use Rattle.am_list.specs.Rooms.{KeepRoom};
+ghost use Rattle.am_undo.specs.Notes.{TakesBack, CanTakeBack, Stands, OneLive, NoteFits, NotesFit, back_at, back_one};
+ghost use Rattle.am_undo.specs.Notes.{ghosted};
 
 use crate::note::Note;
 use am_list::PartIndex;
@@ -79,12 +81,15 @@ impl UndoLog {
     }
 
     /// Takes all notes back, from the newest to the oldest, and drops the marks. The caller sees to it that each noted
-    /// entry is still there, and that no key becomes live twice on the way. Takes no memory.
+    /// entry is still there, with room for the noted value, and that no key becomes live twice on the way. Takes no
+    /// memory.
     #[inline(never)]
     pub fn take_back<I: PartIndex + Drop>(&mut self, parts: &mut Parts<I>)
-        requires { CanTakeBack self.old.notes (find parts.old.entries) }
+        requires can { CanTakeBack self.old.notes (find parts.old.entries) }
+        requires room { NotesFit parts.old.roomy self.old.notes }
         ensures entries { TakesBack self.old.notes parts.old.entries parts.new.entries }
         ensures runs { parts.new.runs ≡ parts.old.runs }
+        ensures rooms { KeepRoom parts.old.roomy parts.new.roomy parts.new.entries }
         ensures notes { self.new.notes ≡ [] }
         ensures marks { self.new.marks ≡ [] }
         ensures room { self.new.has_room ≡ true }
@@ -111,19 +116,23 @@ impl UndoLog {
 
     /// Takes the notes since the newest mark back, from the newest to the oldest, and drops the mark;
     /// where no mark stands it does nothing and answers false. The caller sees to it that each of
-    /// these noted entries is still there, and that no key becomes live twice on the way. Takes no
-    /// memory.
+    /// these noted entries is still there, with room for the noted value, and that no key becomes
+    /// live twice on the way. Takes no memory.
     #[inline(never)]
     pub fn back<I: PartIndex + Drop>(&mut self, parts: &mut Parts<I>) -> bool
-        requires { CanTakeBack (since_mark self.old.marks self.old.notes) (find parts.old.entries) }
+        requires can { CanTakeBack (since_mark self.old.marks self.old.notes) (find parts.old.entries) }
+        requires room { NotesFit parts.old.roomy (since_mark self.old.marks self.old.notes) }
         ensures stood { result ≡ has_mark self.old.marks }
         ensures entries { TakesBack (since_mark self.old.marks self.old.notes) parts.old.entries parts.new.entries }
         ensures runs { parts.new.runs ≡ parts.old.runs }
+        ensures rooms { KeepRoom parts.old.roomy parts.new.roomy parts.new.entries }
         ensures notes { self.new.notes ≡ until_mark self.old.marks self.old.notes }
         ensures marks { self.new.marks ≡ older self.old.marks }
         ensures room { self.old.has_room ≡ true → self.new.has_room ≡ true }
     {
         let Some(mark) = self.marks.pop() else {
+            // Asked here, each value is known to have its room.
+            prove!(parts.runs() <= 65535);
             return false;
         };
         take_back_above(&mut self.notes, mark, parts);
@@ -137,12 +146,16 @@ fn take_back_above<I: PartIndex + Drop>(
     mark: usize,
     parts: &mut Parts<I>,
 )
-    requires { CanTakeBack (reverse (drop mark notes.old.items)) (find parts.old.entries) }
+    requires can { CanTakeBack (reverse (drop mark notes.old.items)) (find parts.old.entries) }
+    requires room { NotesFit parts.old.roomy (reverse (drop mark notes.old.items)) }
     ensures entries { TakesBack (reverse (drop mark notes.old.items)) parts.old.entries parts.new.entries }
     ensures runs { parts.new.runs ≡ parts.old.runs }
+    ensures rooms { KeepRoom parts.old.roomy parts.new.roomy parts.new.entries }
     ensures notes { notes.new.items ≡ take mark notes.old.items }
     ensures capacity { notes.new.capacity ≡ notes.old.capacity }
 {
+    // Asked here, each value is known to have its room.
+    prove!(parts.runs() <= 65535);
     while mark < notes.len() {
         let Some(note) = notes.pop() else {
             unreachable!()
@@ -154,11 +167,13 @@ fn take_back_above<I: PartIndex + Drop>(
 // Takes one note back.
 fn take_back_one<I: PartIndex + Drop>(parts: &mut Parts<I>, note: Note)
     requires stands { Stands note (find parts.old.entries) }
+    requires room { NoteFits parts.old.roomy note }
     requires one { OneLive (back_at note (find parts.old.entries)) }
     ensures back { (part : ℕ) (key : OrderedKey) → find parts.new.entries part key ≡
         back_one note part key (find parts.old.entries part key) }
     ensures rising { IsRising parts.new.entries }
     ensures runs { parts.new.runs ≡ parts.old.runs }
+    ensures rooms { KeepRoom parts.old.roomy parts.new.roomy parts.new.entries }
 {
     match note {
         Note::New(key) => bury(parts, 0, key),
@@ -179,6 +194,7 @@ fn bury<I: PartIndex + Drop>(parts: &mut Parts<I>, part: u32, key: Key)
         (if same_place p k part key then ghosted (find parts.old.entries p k) else find parts.old.entries p k) }
     ensures rising { IsRising parts.new.entries }
     ensures runs { parts.new.runs ≡ parts.old.runs }
+    ensures rooms { KeepRoom parts.old.roomy parts.new.roomy parts.new.entries }
 {
     let Some(found) = parts.find(part, key) else {
         unreachable!()
@@ -192,6 +208,7 @@ fn bury_run<I: PartIndex + Drop>(parts: &mut Parts<I>, run: u32)
         (if p == run then ghosted (find parts.old.entries p k) else find parts.old.entries p k) }
     ensures rising { IsRising parts.new.entries }
     ensures runs { parts.new.runs ≡ parts.old.runs }
+    ensures rooms { KeepRoom parts.old.roomy parts.new.roomy parts.new.entries }
 {
     let mut next = parts.next_from(run, Key::least());
     while let Some(entry) = next {

@@ -1,9 +1,9 @@
 -- Which ghost a worker cleans from, what it cleans, and where it goes on.
-use Rattle.std.specs.Prelude.{◌≡◌, ◌⊎◌, ℕ, ◌+◌, ◌*◌, ◌-◌, nat_le, nat_lt, min, List, length, replicate, Bool, false}
+use Rattle.std.specs.Prelude.{◌≡◌, ◌⊎◌, ℕ, ◌+◌, ◌*◌, ◌-◌, nat_le, nat_lt, min, List, length, Bool, false}
 use Rattle.std.specs.Prelude.{Option, Some, None, if◌then◌else◌}
 use Rattle.std.specs.Option.{option_or}
-use Rattle.am_record.specs.OrderedKey.{OrderedKey, key_least, key_of}
-use Rattle.am_record.specs.Interval.{Interval, key_le}
+use Rattle.am_record.specs.OrderedKey.{OrderedKey, key_least}
+use Rattle.am_record.specs.Interval.{Interval, IsFrom, key_le, key_greatest}
 use Rattle.am_record.specs.declared.entry.Entry.{Entry}
 use Rattle.am_record.specs.declared.step.Reply.{Reply}
 use Rattle.am_record.specs.declared.step.Reply.TheVariants.{Cleaned}
@@ -26,14 +26,6 @@ has_many_ghosts es = nat_le (length es) (1024 * (length es - live_in es))
 abbrev pub ghost_to_clean : List Entry → ℕ → OrderedKey → Option Entry
 ghost_to_clean es part key =
     if has_many_ghosts es then option_or (next_ghost es part key) (next_ghost es 0 key_least) else None
-
--- the longest key of the highest bytes
-abbrev pub highest_key : OrderedKey
-highest_key = key_of (replicate 32 255)
-
--- all keys from this one on
-abbrev pub IsFrom : OrderedKey → Interval → Type 0
-IsFrom key range = range ≡ record { lo = key; hi = highest_key }
 
 -- Where to go on behind a Clean from the entry's key on: where it cleaned fewer than 64, at the next partition, since
 -- all ghosts left there are locked; else at the entry itself.
@@ -70,7 +62,7 @@ pub record CleanedFrom (seats : ℕ) (from : Place) (s : SeatState) (reply : Rep
 pub record CleanedNone (seats : ℕ) (from : Place) (s : SeatState) (to : Place) (t : SeatState) : Type 0 where
   pub ghost : Option Entry
   pub found : Found seats from s ghost
-  pub none : (ghost ≡ None) ⊎ ((e : Entry) × (ghost ≡ Some e) × (key_le e.key highest_key ≡ false))
+  pub none : (ghost ≡ None) ⊎ ((e : Entry) × (ghost ≡ Some e) × (key_le e.key key_greatest ≡ false))
   pub same : t ≡ s
   pub there : to ≡ from
 

@@ -1,16 +1,15 @@
 //! What a worker cleans where nothing is left to merge.
 
-ghost use Rattle.std.specs.Prelude.{◌≡◌, ◌*◌, nat_le, false, IfSome, IfNone};
+ghost use Rattle.std.specs.Prelude.{◌≡◌, ◌*◌, nat_le};
 ghost use Rattle.am_record.specs.OrderedKey.{key_least};
-ghost use Rattle.am_record.specs.Interval.{key_le};
-ghost use Rattle.am_workers.specs.Cleaning.{ghost_to_clean, highest_key, place_behind, IsFrom, IsSeen, HasCleaned};
+ghost use Rattle.am_workers.specs.Cleaning.{ghost_to_clean, place_behind, IsSeen, HasCleaned};
 
 use am_btree::BTree;
 use am_core::Store;
 use am_engine::Engine;
 use am_latch::{Latch, LatchName, Seat};
 use am_parts::Figures;
-use am_record::{Entry, Key, MAX_KEY_LEN, Range, Reply, Step};
+use am_record::{Entry, Key, Range, Reply, Step};
 use std::sync::Wait;
 
 /// How many ghosts a turn may clean.
@@ -74,7 +73,7 @@ pub(crate) fn clean<L: LatchName, R: Wait>(
     let Some(entry) = found else {
         return None;
     };
-    let Some(range) = keys_from(entry.key) else {
+    let Some(range) = Range::all_from(entry.key) else {
         return None;
     };
     let reply = seat.call(rt, latch, Step::Clean(range, CLEAN_LIMIT));
@@ -101,12 +100,4 @@ fn are_many(figures: Figures) -> bool
     ensures { result ≡ nat_le figures.entries (1024 * figures.ghosts) }
 {
     figures.entries <= figures.ghosts.saturating_mul(ENTRIES_TO_A_GHOST)
-}
-
-// All keys from this one on. No key is above the longest one of the highest bytes, so there is always such a range.
-fn keys_from(key: Key) -> Option<Range>
-    ensures from { IfSome result (IsFrom key) }
-    ensures none { IfNone result (key_le key highest_key ≡ false) }
-{
-    Range::new(key, Key::new(&[u8::MAX; MAX_KEY_LEN])?)
 }

@@ -233,6 +233,74 @@ fn a_stretch_ends_at_a_lock(rt: HostRuntime) {
     }
 }
 
+// A run of the keys 0 to 63, each second one a ghost, goes home over ghosts of every third key, by steps of sixteen.
+fn alternate<I: PartIndex + Drop>(rt: &impl Abort, alloc: Global, index: I) {
+    let mut parts = Parts::new(alloc, index, HashKey::known());
+    for number in 0..64_u64 {
+        add(&mut parts, 1, number, b'r', number % 2 == 0).expect(rt, "memory");
+        if number % 3 == 0 {
+            add(&mut parts, 0, number, b'f', true).expect(rt, "memory");
+        }
+    }
+    let mut wishes = Wishes::new(alloc).expect(rt, "memory");
+    let locks = LockTable::new(alloc).expect(rt, "memory");
+    wishes.wish(range(rt, 0, 200));
+    for _ in 0..4 {
+        assert!(rt; merge_step(&mut parts, &mut wishes, &locks, 16) == Reply::Moved(16, 1));
+    }
+    for number in 0..64_u64 {
+        let home = if number % 2 == 1 {
+            Some((value(b'r'), false))
+        } else {
+            (number % 3 == 0).then_some((value(b'f'), true))
+        };
+        let key = Key::of_u64(number);
+        assert!(rt; parts.find(0, key) == home, "{number}");
+        assert!(rt; parts.find(1, key).is_none(), "{number}");
+    }
+}
+
+#[test]
+fn a_stretch_alternates_between_live_ones_and_ghosts(rt: HostRuntime) {
+    alternate(&rt, rt.alloc(), ListIndex::new(rt.alloc()));
+    let tree = BTree::new(rt.alloc()).expect(&rt, "memory");
+    alternate(&rt, rt.alloc(), tree);
+}
+
+// Is one of the run that goes between final records: of four keys it has three.
+fn is_between(number: u64) -> bool {
+    number % 4 > 0
+}
+
+// Keys below 400, of which those go home.
+fn goes_between<I: PartIndex + Drop>(rt: &impl Abort, alloc: Global, index: I) {
+    let mut parts = Parts::new(alloc, index, HashKey::known());
+    for number in 0..400_u64 {
+        let part = u32::from(is_between(number));
+        add(&mut parts, part, number, b'r', false).expect(rt, "memory");
+    }
+    let mut wishes = Wishes::new(alloc).expect(rt, "memory");
+    let locks = LockTable::new(alloc).expect(rt, "memory");
+    wishes.wish(range(rt, 0, 400));
+    for moved in 1..19_u64 {
+        assert!(rt; merge_step(&mut parts, &mut wishes, &locks, 16) == Reply::Moved(16, 1));
+        let figures = parts.figures();
+        assert!(rt; figures.in_final == 100 + 16 * moved && figures.ghosts == 0);
+        assert!(rt; figures.entries == 400 && figures.in_runs == 300 - 16 * moved);
+    }
+    for number in 0..400_u64 {
+        let part = u32::from(number >= 384 && is_between(number));
+        assert!(rt; parts.find(part, Key::of_u64(number)) == Some((value(b'r'), false)));
+    }
+}
+
+#[test]
+fn a_run_goes_between_final_records(rt: HostRuntime) {
+    goes_between(&rt, rt.alloc(), ListIndex::new(rt.alloc()));
+    let tree = BTree::new(rt.alloc()).expect(&rt, "memory");
+    goes_between(&rt, rt.alloc(), tree);
+}
+
 // The keys 2 to 9 are cleaned.
 fn cleans(
     rt: &impl Abort,

@@ -2,7 +2,8 @@
 
 use am_btree::BTree;
 use am_core::Store;
-use am_list_index::Tight;
+use am_list::PartIndex;
+use am_list_index::{ListIndex, Tight};
 use am_record::{HashKey, Key, NoMemory, Op, Pairs, Range, Refusal, Reply, Step, Value};
 use std::alloc::Global;
 use std::test::Fail;
@@ -17,12 +18,13 @@ fn pairs_to(alloc: Global, last: u64) -> Result<Pairs, NoMemory> {
 
 // A store with one run of the keys from 1 to the last one, which is asked for, and in which inserts of those numbers are
 // refused; the load is the first that is counted.
-fn asked(alloc: Global, last: u64, refused: Vec<u64>) -> Result<Store<Tight<BTree>>, NoMemory> {
-    let mut store = Store::open(
-        alloc,
-        Tight::new(BTree::new(alloc)?, refused),
-        HashKey::known(),
-    )?;
+fn asked<I: PartIndex + Drop>(
+    alloc: Global,
+    index: I,
+    last: u64,
+    refused: Vec<u64>,
+) -> Result<Store<Tight<I>>, NoMemory> {
+    let mut store = Store::open(alloc, Tight::new(index, refused), HashKey::known())?;
     let Some(range) = Range::new(Key::of_u64(1), Key::of_u64(last)) else {
         return Err(NoMemory);
     };
@@ -43,7 +45,8 @@ fn asked(alloc: Global, last: u64, refused: Vec<u64>) -> Result<Store<Tight<BTre
 #[test]
 fn refused_inserts_of_a_merge(rt: HostRuntime) -> Result<(), Fail> {
     // The third and the fourth insert of the merge.
-    let mut store = asked(rt.alloc(), 3, vec![in rt.alloc(); 4, 5]?)?;
+    let list = ListIndex::new(rt.alloc());
+    let mut store = asked(rt.alloc(), list, 3, vec![in rt.alloc(); 4, 5]?)?;
     for reply in [
         Reply::Moved(2, 1),
         Reply::Refused(Refusal::NoMemory),
@@ -58,7 +61,8 @@ fn refused_inserts_of_a_merge(rt: HostRuntime) -> Result<(), Fail> {
 #[test]
 fn a_stretch_ends_where_memory_is_refused(rt: HostRuntime) -> Result<(), Fail> {
     // The twentieth insert of the merge and the one after it, each in the midst of a batch, and the first of a step.
-    let mut store = asked(rt.alloc(), 50, vec![in rt.alloc(); 21, 22, 40]?)?;
+    let list = ListIndex::new(rt.alloc());
+    let mut store = asked(rt.alloc(), list, 50, vec![in rt.alloc(); 21, 22, 40]?)?;
     for reply in [
         Reply::Moved(19, 1),
         Reply::Refused(Refusal::NoMemory),
@@ -67,6 +71,17 @@ fn a_stretch_ends_where_memory_is_refused(rt: HostRuntime) -> Result<(), Fail> {
         Reply::MergeDone,
     ] {
         assert_eq!(rt; store.step(Step::Merge(64)), reply);
+    }
+    Ok(())
+}
+
+#[test]
+fn what_goes_between_others_wants_no_memory(rt: HostRuntime) -> Result<(), Fail> {
+    // The merge inserts the first record. Those behind it go between it and the run.
+    let tree = BTree::new(rt.alloc())?;
+    let mut store = asked(rt.alloc(), tree, 9, vec![in rt.alloc(); 3, 4, 5, 6]?)?;
+    for reply in [Reply::Moved(9, 1), Reply::MergeDone] {
+        assert_eq!(rt; store.step(Step::Merge(16)), reply);
     }
     Ok(())
 }

@@ -259,3 +259,111 @@ fn what_is_new_is_added_once(rt: HostRuntime) {
     let mut tree = BTree::new(rt.alloc()).expect(&rt, "memory");
     adds_once(&rt, &mut tree);
 }
+
+// A tree of one leaf, of the numbers 10, 20 and so on up to 200.
+fn tens(rt: &impl Abort, alloc: Global) -> BTree {
+    let mut tree = BTree::new(alloc).expect(rt, "memory");
+    for ten in 1..21_u64 {
+        add(&mut tree, numbered(0, 10 * ten)).expect(rt, "memory");
+    }
+    tree
+}
+
+// Of the entries the first so many go between those of the tens, and the tree is then as with each of them added.
+fn goes_between(rt: &impl Abort, alloc: Global, tree: &mut BTree, more: &[Entry], count: usize) {
+    let mut other = tens(rt, alloc);
+    for entry in &more[..count] {
+        add(&mut other, *entry).expect(rt, "memory");
+    }
+    let added = tree.insert_between(more);
+    assert!(rt; added == count, "{added} of {count}");
+    assert!(rt; same_walks(tree, &other, 0, 40));
+}
+
+// The same of numbers.
+fn numbers_go_between(rt: &impl Abort, alloc: Global, numbers: &[u64], count: usize) {
+    let mut more = Vec::new(alloc);
+    for number in numbers {
+        more.push(numbered(0, *number)).expect(rt, "memory");
+    }
+    goes_between(rt, alloc, &mut tens(rt, alloc), &more, count);
+}
+
+#[test]
+fn entries_go_between_others_of_a_leaf(rt: HostRuntime) {
+    let alloc = rt.alloc();
+    numbers_go_between(&rt, alloc, &[11, 12, 25, 199], 4);
+    numbers_go_between(&rt, alloc, &[15], 1);
+    numbers_go_between(&rt, alloc, &[], 0);
+    // A taken place ends it, the leaf's end, and its beginning.
+    numbers_go_between(&rt, alloc, &[11, 20, 25], 1);
+    numbers_go_between(&rt, alloc, &[30, 31], 0);
+    numbers_go_between(&rt, alloc, &[198, 199, 201], 2);
+    numbers_go_between(&rt, alloc, &[201, 202], 0);
+    numbers_go_between(&rt, alloc, &[9, 11], 0);
+    // The leaf is full with 32.
+    let many = [11, 12, 13, 14, 15, 16, 17, 18, 19, 21, 22, 23, 24, 25];
+    numbers_go_between(&rt, alloc, &many, 12);
+    let mut empty = BTree::new(alloc).expect(&rt, "memory");
+    assert!(rt; empty.insert_between(&[numbered(0, 1)]) == 0);
+}
+
+#[test]
+fn what_has_no_room_in_a_leaf_does_not_go_between(rt: HostRuntime) {
+    let alloc = rt.alloc();
+    let long_value = Entry {
+        value: Value::new(&[7; 40]).expect(&rt, "a value"),
+        ..numbered(0, 12)
+    };
+    let more = [numbered(0, 11), long_value, numbered(0, 13)];
+    goes_between(&rt, alloc, &mut tens(&rt, alloc), &more, 1);
+    let mut roomy = tens(&rt, alloc);
+    let made = roomy.make_room(0, Key::of_u64(10), 40);
+    assert!(rt; made.is_ok());
+    goes_between(&rt, alloc, &mut roomy, &more, 3);
+
+    // It stands between 11 and 12.
+    let mut bytes = [0; 20];
+    bytes[..8].copy_from_slice(&11_u64.to_be_bytes());
+    let long_key = Entry {
+        key: Key::new(&bytes).expect(&rt, "a key"),
+        ..numbered(0, 11)
+    };
+    let more = [numbered(0, 11), long_key, numbered(0, 12)];
+    goes_between(&rt, alloc, &mut tens(&rt, alloc), &more, 1);
+}
+
+// Adds every number below 1,000 between every tenth one, and answers how many went between others at once.
+fn thousand_between<I: PartIndex>(rt: &impl Abort, alloc: Global, index: &mut I) -> u64 {
+    for number in 0..100_u64 {
+        add(index, numbered(0, 10 * number)).expect(rt, "memory");
+    }
+    let mut more = Vec::new(alloc);
+    for number in 0..1000_u64 {
+        if number % 10 > 0 {
+            more.push(numbered(0, number)).expect(rt, "memory");
+        }
+    }
+    let mut between: u64 = 0;
+    let mut at = 0;
+    while at < more.len() {
+        assert!(rt; index.insert_new(more[at]) == Ok(true));
+        at += 1;
+        let to = more.len().min(at + 15);
+        let count = index.insert_between(&more[at..to]);
+        between = between.saturating_add(count as u64);
+        at += count;
+    }
+    between
+}
+
+#[test]
+fn neighbours_go_between_others_leaf_by_leaf(rt: HostRuntime) {
+    let alloc = rt.alloc();
+    let mut list = ListIndex::new(alloc);
+    assert!(rt; thousand_between(&rt, alloc, &mut list) == 0);
+    let mut tree = BTree::new(alloc).expect(&rt, "memory");
+    let between = thousand_between(&rt, alloc, &mut tree);
+    assert!(rt; between >= 700, "{between}");
+    assert!(rt; same_walks(&tree, &list, 0, 1_001));
+}

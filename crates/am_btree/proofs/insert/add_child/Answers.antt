@@ -10,6 +10,7 @@ use Rattle.am_btree.specs.Nodes.{all_entries, depth_of}
 use Rattle.am_btree.proofs.Halving.{half_stays, size_range}
 use Rattle.am_btree.proofs.Parting.{inner_from, depth_level, all_entries_cut, children_taken, children_dropped}
 use Rattle.am_btree.proofs.Parting.{parted_cut, parted_lengths, some_entries, many_entries, get_dropped}
+use Rattle.am_btree.proofs.Rooming.{same_children, cut_keeps}
 use Rattle.am_btree.proofs.insert.add_child.Goals as goal
 
 pub returns-then-len-lt-ROOM-clause-inner : goal.returns-then-len-lt-ROOM-clause-inner
@@ -101,3 +102,15 @@ returns-clause-holds c =
       right_some = subst (λ js. 0 < length (all_entries js)) (sym back)
           (some_entries (drop m ks) (omega arith) upper.filled);
     }
+
+pub returns-then-len-lt-ROOM-clause-rooms : goal.returns-then-len-lt-ROOM-clause-rooms
+returns-then-len-lt-ROOM-clause-rooms c =
+    same_children (insert c.args.children.now.items c.args.at c.args.split.right) c.put-then-len-lt-ROOM.new.v.items
+    c.put-then-len-lt-ROOM.ensures.items c.requires.children.roomed
+
+pub returns-clause-rooms : goal.returns-clause-rooms
+returns-clause-rooms c =
+    cut_keeps (lower_size c.keep_of-keep.result c.args.at)
+    (insert c.args.children.now.items c.args.at c.args.split.right)
+    c.split_put-2.new.v.items c.split_put-2.new.upper.items c.split_put-2.ensures.front c.split_put-2.ensures.back
+    c.requires.children.roomed

@@ -7,6 +7,7 @@ use Rattle.am_list.proofs.Lists.{rising_front}
 use Rattle.std.specs.List.{insert}
 use Rattle.std.proofs.lemmas.List.Edits.{length-insert}
 use Rattle.am_btree.specs.Separators.{separator_place}
+use Rattle.am_btree.proofs.Rooming.{leaf_keeps, leaves_keep}
 use Rattle.am_btree.specs.Splits.{lower_size}
 use Rattle.am_btree.proofs.Halving.{half_stays, size_range}
 use Rattle.am_btree.proofs.LeafSplit.{joined, rising_both, rising_upper, upper_long, parted_at}
@@ -19,7 +20,11 @@ returns-then-len-lt-ROOM-clause-ok c = (
     c.insert_at.ensures.entries ∙
         insert_gap c.args.leaf.now.entries c.args.entry.now c.in-Err.at c.in-Err.ensures.absent,
   ),
-  tt,
+  (
+    tt,
+    leaf_keeps c.args.leaf.now c.insert_at.new.self c.len.ensures.room
+        (omega (arith, c.insert_at.ensures.same_room.values)),
+  ),
 )
 
 pub returns-then-len-lt-ROOM-clause-rising : goal.returns-then-len-lt-ROOM-clause-rising
@@ -40,7 +45,7 @@ invariant_of-right c =
       (
         rising_upper xs x i gap c.in-Err.ensures.rising m c.split_insert.new.leaf.entries
             c.split_insert.new.upper.entries out.front out.back,
-        omega (arith, out.upper_room, c.requires.wide),
+        c.len-3.ensures.room,
       ),
     )
 
@@ -89,7 +94,11 @@ returns-clause-ok c =
         );
         right_some = some;
       },
-      c.in_ok-spares.ensures,
+      (
+        c.in_ok-spares.ensures,
+        leaves_keep c.args.leaf.now c.split_insert.new.leaf c.split_insert.new.upper c.len-2.ensures.room
+            c.len-3.ensures.room (omega (arith, out.room)) (omega (arith, out.upper_room)),
+      ),
     )
   where
     same_default : {X : Type 0} (xs : List X) (k : ℕ) (c d : X) → k < length xs → get_or xs k c ≡ get_or xs k d

@@ -6,7 +6,7 @@ invariant-loop-at l = record {
   low : l.from ≤ l.at;
   high : l.at ≤ l.to;
   entries : l.leaf.entries ≡ take l.at l.initial.leaf.entries ++ drop l.to l.initial.leaf.entries;
-  wide : l.leaf.value_room ≡ l.initial.leaf.value_room;
+  same_room : l.leaf.value_room ≡ l.initial.leaf.value_room;
 }
 
 abbrev pub decreases-loop-at : goal.decreases-loop-at

@@ -1,6 +1,8 @@
 use Rattle.std.proofs.Common.{◌+◌, ◌∙◌, refl, arith}
+use Rattle.am_list.proofs.Rooms.{keep_all}
 use Rattle.am_merge.specs.Holding.{holder_of}
 use Rattle.am_merge.proofs.Cleaning.{clean_starts, all_clean, clean_full, is_there, clean_goes_on, clean_content}
+use Rattle.am_merge.proofs.Rooms.{keep_removed}
 use Rattle.am_merge.proofs.clean.clean_step.Goals as goal
 
 pub loop-cleaned-init : goal.loop-cleaned-init
@@ -9,6 +11,7 @@ loop-cleaned-init g c = record {
       c.runs.ensures.sound);
   sound = c.runs.ensures.sound;
   runs = refl;
+  rooms = keep_all c.args.parts.now.roomy c.args.parts.now.entries c.runs.ensures.room;
 }
 
 pub returns-in_default-clause-reply : goal.returns-in_default-clause-reply
@@ -25,6 +28,9 @@ loop-cleaned-preserved g c = record {
       (c.loop-cleaned.cleaned + 1) c.take.new.self.entries (omega arith) c.take.ensures.entries;
   sound = c.loop-cleaned.invariant.sound;
   runs = c.take.ensures.runs ∙ c.loop-cleaned.invariant.runs;
+  rooms = keep_removed c.args.parts.now.roomy c.loop-cleaned.parts.roomy c.take.new.self.roomy
+      c.loop-cleaned.parts.entries c.in-Some.entry.part c.in-Some.entry.key c.loop-cleaned.invariant.way.rises
+      c.loop-cleaned.invariant.rooms c.take.new.self.entries c.take.ensures.entries c.take.ensures.rooms;
 }
 
 pub returns-clause-reply : goal.returns-clause-reply

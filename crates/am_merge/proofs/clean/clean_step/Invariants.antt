@@ -1,4 +1,5 @@
 use Rattle.std.proofs.Common.{◌≡◌}
+use Rattle.am_list.specs.Rooms.{KeepRoom}
 use Rattle.am_parts.specs.Partitions.{AreWellFormed}
 use Rattle.am_merge.specs.Holding.{holder_of}
 use Rattle.am_merge.proofs.Cleaning.{IsCleaned}
@@ -9,4 +10,5 @@ invariant-loop-cleaned g l = record {
   way : IsCleaned l.initial.parts.entries (holder_of l.locks) l.range l.parts.entries l.from l.cleaned;
   sound : AreWellFormed l.initial.parts.entries;
   runs : l.parts.runs ≡ l.initial.parts.runs;
+  rooms : KeepRoom l.initial.parts.roomy l.parts.roomy l.parts.entries;
 }

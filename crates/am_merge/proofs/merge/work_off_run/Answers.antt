@@ -1,14 +1,16 @@
 use Rattle.std.proofs.Common.{◌≡◌, ◌+◌, ◌-◌, take, length, refl, sym, ap, ◌∙◌, arith}
 use Rattle.std.specs.Prelude.{take_while}
+use Rattle.am_list.proofs.Rooms.{keep_all}
 use Rattle.am_merge.specs.Holding.{holder_of}
 use Rattle.am_merge.specs.Steps.{is_free_in}
-use Rattle.am_merge.proofs.Merging.{starts, is_full, is_stretch, stands_first, within_all, goes_on, ends}
+use Rattle.am_merge.proofs.Merging.{starts, is_full, is_stretch, stands_first, within_all, goes_on, ends, keeps_room}
 use Rattle.am_merge.proofs.merge.work_off_run.Goals as goal
 
 pub loop-moved-init : goal.loop-moved-init
 loop-moved-init g c = record {
   way = starts c.requires.sound (holder_of c.args.locks.now) c.args.limit c.args.range c.args.first.part;
   runs = refl;
+  rooms = keep_all c.args.parts.now.roomy c.args.parts.now.entries c.requires.room;
 }
 
 pub bring_home-count-requires : goal.bring_home-count-requires
@@ -84,6 +86,27 @@ returns-then-count-lt-STRETCH-clause-entries g c =
     (c.loop-moved.moved + c.bring_home-count.result) c.bring_home-count.new.self.entries refl
     c.bring_home-count.ensures.entries).entries
 
+pub returns-then-count-lt-STRETCH-clause-rooms : goal.returns-then-count-lt-STRETCH-clause-rooms
+returns-then-count-lt-STRETCH-clause-rooms g c =
+    let read = c.entries-in-loop-moved.ensures.all ∙ c.read_from.ensures.read in
+    let counted : c.count_free-free.result ≡ length (take_while
+    (is_free_in (holder_of c.args.locks.now) c.args.range)
+    (take (c.args.limit - c.loop-moved.moved) c.entries-in-loop-moved.result.now)) =
+    c.count_free-free.ensures ∙ ap (λ l. length (take_while (is_free_in (holder_of c.args.locks.now) c.args.range)
+    (take (c.args.limit - c.loop-moved.moved) l)))
+    (c.entries.ensures.all ∙ sym c.entries-in-loop-moved.ensures.all) in
+    let stretch = is_stretch c.requires.sound (holder_of c.args.locks.now) c.args.limit c.args.range
+    c.loop-moved.invariant.way c.args.first c.requires.first refl c.lo.result c.lo.ensures.value
+    (c.args.limit - c.loop-moved.moved) c.count_free-free.result c.clear.new.self c.entries-in-loop-moved.result.now
+    c.clear.ensures read counted in
+    let all : c.args.limit ≡ c.loop-moved.moved + (c.args.limit - c.loop-moved.moved) =
+    omega (arith, c.loop-moved-test.true) in
+    keeps_room c.requires.sound (holder_of c.args.locks.now) c.args.limit c.args.range c.loop-moved.invariant.way
+    (c.args.limit - c.loop-moved.moved) all (take c.count_free-free.result c.entries-in-loop-moved.result.now) stretch
+    c.bring_home-count.result c.bring_home-count.ensures.most c.args.parts.now.roomy c.loop-moved.parts.roomy
+    c.bring_home-count.new.self.roomy c.bring_home-count.new.self.entries c.bring_home-count.ensures.entries
+    c.requires.room c.loop-moved.invariant.rooms c.bring_home-count.ensures.rooms
+
 pub loop-moved-preserved : goal.loop-moved-preserved
 loop-moved-preserved g c =
     let read = c.entries-in-loop-moved.ensures.all ∙ c.read_from.ensures.read in
@@ -107,6 +130,13 @@ loop-moved-preserved g c =
           (c.loop-moved.moved + c.bring_home-count.result) c.bring_home-count.new.self.entries refl
           c.bring_home-count.ensures.entries;
       runs = c.bring_home-count.ensures.runs ∙ c.loop-moved.invariant.runs;
+      rooms = keeps_room c.requires.sound (holder_of c.args.locks.now) c.args.limit c.args.range
+          c.loop-moved.invariant.way
+          (c.args.limit - c.loop-moved.moved) all (take c.count_free-free.result c.entries-in-loop-moved.result.now)
+          stretch
+          c.bring_home-count.result c.bring_home-count.ensures.most c.args.parts.now.roomy c.loop-moved.parts.roomy
+          c.bring_home-count.new.self.roomy c.bring_home-count.new.self.entries c.bring_home-count.ensures.entries
+          c.requires.room c.loop-moved.invariant.rooms c.bring_home-count.ensures.rooms;
     }
 
 pub returns-clause-far : goal.returns-clause-far

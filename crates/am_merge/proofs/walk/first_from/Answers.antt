@@ -1,4 +1,4 @@
-use Rattle.std.proofs.Common.{ℕ, ◌<◌, ◌≤◌, sym, ◌∙◌}
+use Rattle.std.proofs.Common.{◌<◌, ◌≤◌, sym, ◌∙◌}
 use Rattle.am_merge.proofs.Skipping.{none_in, passes_empty, none_left}
 use Rattle.am_merge.proofs.walk.first_from.Goals as goal
 

@@ -1,5 +1,8 @@
 use Rattle.std.proofs.Common.{sym, ◌∙◌, subst, arith}
-use Rattle.am_list.specs.Entries.{IsRising}
+use Rattle.std.specs.Prelude.{IsSome}
+use Rattle.am_list.specs.Entries.{find, IsRising}
+use Rattle.am_list.proofs.Rooms.{keep_on}
+use Rattle.am_parts.proofs.Standing.{before_removals}
 use Rattle.am_parts.proofs.Neighbours.{rising_left, next_found, next_gone}
 use Rattle.am_parts.proofs.homing.remove_all.Goals as goal
 
@@ -23,4 +26,10 @@ loop-gone-preserved g c =
           c.loop-gone-test.true front back (g.I.PartIndex.entries c.loop-gone.index) left
           (subst IsRising (sym left) (rising_left at front xs back (subst IsRising is c.requires.rising)))
           c.remove_from-gone.result c.remove_from-gone.ensures.most;
+      rooms = keep_on _ _ _ (g.I.PartIndex.entries c.loop-gone.index)
+          (g.I.PartIndex.entries c.remove_from-gone.new.self)
+          c.loop-gone.invariant.rooms c.remove_from-gone.ensures.rooms
+          (λ part key among stands. before_removals part key (g.I.PartIndex.entries c.loop-gone.index)
+          c.index-entries-gone.result.part c.index-entries-gone.result.key c.remove_from-gone.result
+          (subst (λ l. IsSome (find l part key)) c.remove_from-gone.ensures.others stands));
     }

@@ -1,26 +1,40 @@
-use Rattle.std.proofs.Common.{◌≡◌, ◌<◌, List, sym, ap, ◌∙◌, subst}
+use Rattle.std.proofs.Common.{rules, List, ◌≡◌, ◌+◌, ◌-◌, ◌≤◌, Ok, Err, drop, sym, ap, ◌∙◌, subst, arith}
 use Rattle.std.specs.Prelude.{length, min}
-use Rattle.std.specs.Slice.Iter.{chunks_rest}
 use Rattle.am_record.specs.Plain.{Records}
-use Rattle.am_runs.proofs.Pieces.{IsCutting, cut_piece, cut_whole}
+use Rattle.am_runs.specs.Cuts.{IsPieceFault}
+use Rattle.am_runs.proofs.Pieces.{IsCutting, cut_next, cut_whole, fault_of_piece}
 use Rattle.am_runs.proofs.cut.sorted_pieces.Goals as goal
+use Rattle.std.proofs.lemmas.List.{length-drop}
 
-pub loop-piece-preserved : goal.loop-piece-preserved
-loop-piece-preserved c =
-    let steps = c.in-Some.ensures.steps in
-    let rest = chunks_rest c.next.new.self in
-    let long : length c.in-Some.piece.now ≡ min c.args.n (length (chunks_rest c.loop-piece.piece-iterator)) =
-    steps.1.1 ∙ ap (λ n. min n (length (chunks_rest c.loop-piece.piece-iterator))) c.loop-piece.invariant.size in
+pub loop-from-preserved : goal.loop-from-preserved
+loop-from-preserved g c =
+    let all = g.S.RecordSource.records c.args.source.now in
+    let size : c.min.result ≡ min c.args.n (length all - c.loop-from.from) = c.min.ensures
+    ∙ ap (λ k. min c.args.n (k - c.loop-from.from)) c.len-len.ensures in
     record {
-      can = subst (λ n. 0 < n) (sym steps.0) c.loop-piece.invariant.can;
-      finite = tt;
-      size = steps.0 ∙ c.loop-piece.invariant.size;
-      cutting = subst (λ (runs : List Records). IsCutting c.args.n c.args.records.now runs rest)
+      within = omega (arith, size, c.loop-from.invariant.within);
+      cutting = subst (λ (runs : List Records). IsCutting c.args.n all runs
+          (drop (c.loop-from.from + c.min.result) all))
           (sym c.in_ok-push.ensures.items)
-          (cut_piece c.in-Some.piece.now rest c.in_ok-sorted.field-0 steps.1.0 long c.loop-piece.invariant.cutting
-          c.in_ok-sorted.ensures.run);
+          (cut_next c.loop-from.from c.min.result c.in_ok-of_piece.field-0 c.loop-from.invariant.within size
+          c.loop-from.invariant.cutting c.in_ok-of_piece.ensures.run);
     }
 
 pub returns-clause-runs : goal.returns-clause-runs
-returns-clause-runs c = cut_whole c.loop-piece.runs.items (chunks_rest c.loop-piece.piece-iterator)
-    c.in-None.ensures.steps.1.0 c.loop-piece.invariant.cutting
+returns-clause-runs g c =
+    let all = g.S.RecordSource.records c.args.source.now in
+    cut_whole c.loop-from.runs.items (drop c.loop-from.from all)
+    (omega (arith, length-drop c.loop-from.from all, c.loop-from-test.false, c.len-len.ensures))
+    c.loop-from.invariant.cutting
+
+pub returns-in_err-of_piece-clause-fault : goal.returns-in_err-of_piece-clause-fault
+returns-in_err-of_piece-clause-fault g c =
+    let all = g.S.RecordSource.records c.args.source.now in
+    let size : c.min.result ≡ min c.args.n (length all - c.loop-from.from) = c.min.ensures
+    ∙ ap (λ k. min c.args.n (k - c.loop-from.from)) c.len-len.ensures in
+    let is : IsPieceFault all c.in_err-of_piece.field-0.0 =
+    fault_of_piece all c.loop-from.from c.min.result c.in_err-of_piece.field-0.0
+    (omega (arith, size, c.requires.low, c.loop-from-test.true, c.len-len.ensures))
+    (omega (arith, size, c.loop-from.invariant.within))
+    c.in_err-of_piece.ensures.fault in
+    search (rules, is)

@@ -1,13 +1,13 @@
-use Rattle.std.proofs.Common.{◌≡◌}
-use Rattle.std.specs.Slice.Iter.{chunks_rest, chunks_size}
+use Rattle.std.proofs.Common.{◌≡◌, ◌≤◌, drop, length, ℕ, ◌-◌}
 use Rattle.am_runs.proofs.Pieces.{IsCutting}
 use Rattle.am_runs.proofs.cut.sorted_pieces.Given as goal
 
-abbrev pub invariant-loop-piece : goal.invariant-loop-piece
-invariant-loop-piece l =
-    record {
-      can : (goal.iterator-loop-piece).can_next l.piece-iterator;
-      finite : (goal.iterator-loop-piece).is_finite l.piece-iterator;
-      size : chunks_size l.piece-iterator ≡ l.fn.n;
-      cutting : IsCutting l.fn.n l.records l.runs.items (chunks_rest l.piece-iterator);
-    }
+abbrev pub invariant-loop-from : goal.invariant-loop-from
+invariant-loop-from g l = record {
+  within : l.from ≤ length (g.S.RecordSource.records l.source);
+  cutting : IsCutting l.n (g.S.RecordSource.records l.source) l.runs.items
+      (drop l.from (g.S.RecordSource.records l.source));
+}
+
+abbrev pub decreases-loop-from : goal.decreases-loop-from
+decreases-loop-from g l = length (g.S.RecordSource.records l.source) - l.from

@@ -3,4 +3,4 @@ use Rattle.am_runs.specs.Sorting.{named}
 use Rattle.am_runs.proofs.sorting.gather.Given as goal
 
 abbrev pub invariant-loop-spot : goal.invariant-loop-spot
-invariant-loop-spot l = l.pairs.items ≡ named l.records (take l.spot-index l.spots)
+invariant-loop-spot g l = l.pairs.items ≡ named (g.S.RecordSource.records l.source) (take l.spot-index l.spots)

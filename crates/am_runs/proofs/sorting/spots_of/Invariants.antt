@@ -1,9 +1,11 @@
-use Rattle.std.proofs.Common.{◌≡◌, take}
-use Rattle.am_runs.specs.Sorting.{AreWithin, named}
+use Rattle.std.proofs.Common.{◌≡◌, ◌≤◌}
+use Rattle.am_runs.specs.Sorting.{AreWithin, named, piece}
 use Rattle.am_runs.proofs.sorting.spots_of.Given as goal
 
 abbrev pub invariant-loop-place : goal.invariant-loop-place
-invariant-loop-place l = record {
-  within : AreWithin l.records l.spots.items;
-  all : named l.records l.spots.items ≡ take l.place l.records;
+invariant-loop-place g l = record {
+  within : AreWithin (g.S.RecordSource.records l.source) l.spots.items;
+  all : named (g.S.RecordSource.records l.source) l.spots.items ≡ piece (g.S.RecordSource.records l.source) l.from
+      l.place;
+  order : l.from ≤ l.place;
 }

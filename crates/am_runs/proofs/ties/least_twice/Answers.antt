@@ -7,9 +7,10 @@ use Rattle.am_runs.proofs.Twice.{found_permuted}
 use Rattle.am_runs.proofs.ties.least_twice.Goals as goal
 
 pub returns : goal.returns
-returns c =
-    let moved : IsPermutation (keys_of c.args.records.now) c.deref.result.now =
+returns g c =
+    let moved : IsPermutation (keys_of (g.S.RecordSource.records c.args.source.now)) c.deref.result.now =
     subst (λ (ks : List OrderedKey). IsPermutation ks c.deref.result.now) c.in_ok-keys.ensures
     (subst (IsPermutation c.in_ok-keys.keys.items) (sym c.deref.ensures.value)
     c.sort_unstable.ensures.permutation) in
-    found_permuted c.first_tie.result (keys_of c.args.records.now) c.deref.result.now moved c.first_tie.ensures
+    found_permuted c.first_tie.result (keys_of (g.S.RecordSource.records c.args.source.now)) c.deref.result.now moved
+    c.first_tie.ensures

@@ -1,4 +1,5 @@
 use Rattle.std.proofs.Common.{◌≡◌}
+use Rattle.am_list.specs.Rooms.{KeepRoom}
 use Rattle.am_undo.proofs.Run.{Buries, work}
 use Rattle.am_undo.proofs.undo_log.bury_run.Given as goal
 
@@ -6,6 +7,7 @@ abbrev pub invariant-loop-next : goal.invariant-loop-next
 invariant-loop-next g l = record {
   buries : Buries l.fn.parts.entries l.parts.entries l.run l.next;
   runs : l.parts.runs ≡ l.fn.parts.runs;
+  rooms : KeepRoom l.fn.parts.roomy l.parts.roomy l.parts.entries;
 }
 
 abbrev pub decreases-loop-next : goal.decreases-loop-next

@@ -1,4 +1,6 @@
-use Rattle.std.proofs.Common.{◌≡◌, length}
+use Rattle.std.proofs.Common.{◌≡◌, length, reverse, drop}
+use Rattle.am_list.specs.Rooms.{KeepRoom}
+use Rattle.am_undo.specs.Notes.{NotesFit}
 use Rattle.am_undo.proofs.Above.{Above}
 use Rattle.am_undo.proofs.undo_log.take_back_above.Given as goal
 
@@ -6,6 +8,8 @@ abbrev pub invariant-loop-notes : goal.invariant-loop-notes
 invariant-loop-notes g l = record {
   above : Above l.fn.parts.entries l.fn.notes.items l.fn.mark l.notes.items l.parts.entries;
   runs : l.parts.runs ≡ l.fn.parts.runs;
+  rooms : KeepRoom l.fn.parts.roomy l.parts.roomy l.parts.entries;
+  fits : NotesFit l.parts.roomy (reverse (drop l.fn.mark l.notes.items));
   capacity : l.notes.capacity ≡ l.fn.notes.capacity;
 }
 

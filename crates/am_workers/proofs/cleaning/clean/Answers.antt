@@ -12,12 +12,12 @@ returns-in_default g c =
       there = refl;
     }
 
-pub returns-in_default-keys_from : goal.returns-in_default-keys_from
-returns-in_default-keys_from g c =
+pub returns-in_default-all_from : goal.returns-in_default-all_from
+returns-in_default-all_from g c =
     let lent = c.in-Some.ensures.lent in record {
       ghost = _;
       found = record { engine = lent.0.now; of = lent.1; own = lent.2; seen = lent.3 };
-      none = inr (c.in-Some.entry, refl, c.in_default-keys_from.ensures.none);
+      none = inr (c.in-Some.entry, refl, c.in_default-all_from.ensures.none);
       same = c.look-found.ensures.same;
       there = refl;
     }
@@ -28,7 +28,7 @@ returns g c =
       ghost = _;
       found = record { engine = lent.0.now; of = lent.1; own = lent.2; seen = lent.3 };
       range = _;
-      all = c.in-Some-keys_from.ensures.from;
+      all = c.in-Some-all_from.ensures.from;
       called = receipt_of_same _ _ _ _ _ c.look-found.ensures.same c.call-reply.ensures.called;
       behind = c.behind.ensures;
     }

@@ -1,7 +1,9 @@
-use Rattle.std.proofs.Common.{◌≡◌, ◌<◌, ◌-◌, ◌++◌, suc, length, take, sym, ap, ◌∙◌, subst, rules, arith}
+use Rattle.std.proofs.Common.{◌≡◌, ◌<◌, ◌-◌, ◌++◌, suc, length, set, take, sym, ap, ◌∙◌, subst, rules, arith}
 use Rattle.am_list.specs.Entries.{IsRising}
 use Rattle.am_list.specs.Runs.{run_entries}
 use Rattle.am_btree.specs.Shape.{Shape}
+use Rattle.am_btree.specs.Rooms.{KeepsRoom}
+use Rattle.am_btree.proofs.Rooming.{keeps_set, leaf_keeps}
 use Rattle.am_btree.specs.Nodes.{shape_of, IsTree, inner_shape, leaf_shape}
 use Rattle.am_btree.proofs.Inner.{one_below}
 use Rattle.am_btree.proofs.Filling.{front_rises}
@@ -31,16 +33,15 @@ fill_last-requires t c =
 pub invariant_of-self : goal.invariant_of-self
 invariant_of-self t c = elim c.match-self.branch [
   | in-Leaf w ↦
-      let seen : c.args.self.now ≡ leaf_shape w.in-Leaf.leaf.entries = sym c.self.view_is ∙ ap shape_of w.in-Leaf.is in
+      let seen : c.args.self.now ≡ leaf_shape w.in-Leaf.leaf = sym c.self.view_is ∙ ap shape_of w.in-Leaf.is in
       let rising = subst (λ (s : Shape). IsRising (s.entries ++ run_entries c.args.part c.args.pairs.now)) seen
       c.requires.rising in
-      let old = subst IsTree w.in-Leaf.is c.self.invariant in
       rw w.self-inside-is (
         w.fill_leaf.ensures.most,
         (
           subst IsRising (sym w.fill_leaf.ensures.entries)
               (front_rises c.args.part w.in-Leaf.leaf.entries c.args.pairs.now rising w.fill_leaf.result),
-          omega (arith, old.1.1, w.fill_leaf.ensures.wide),
+          w.fill_leaf.ensures.room,
         ),
       )
   | in-Inner w ↦
@@ -55,13 +56,13 @@ invariant_of-self t c = elim c.match-self.branch [
       c.requires.rising) w.fill_last.result in
       let e = w.fill_last.ensures in
       rw w.self-inside-is (more_inner ls ks _ inner i k _ last w.index_mut.ensures.value some rising
-      w.fill_last.new.self e.depth e.entries)
+      w.fill_last.new.self e.depth e.entries e.rooms.have)
 ]
 
 pub returns-clause-entries : goal.returns-clause-entries
 returns-clause-entries t c = elim c.match-self.branch [
   | in-Leaf w ↦
-      let seen : c.args.self.now ≡ leaf_shape w.in-Leaf.leaf.entries = sym c.self.view_is ∙ ap shape_of w.in-Leaf.is in
+      let seen : c.args.self.now ≡ leaf_shape w.in-Leaf.leaf = sym c.self.view_is ∙ ap shape_of w.in-Leaf.is in
       rw (w.result-is, w.self-inside-is) (w.fill_leaf.ensures.entries ∙
       sym (ap (λ (s : Shape). s.entries ++ run_entries c.args.part (take w.fill_leaf.result c.args.pairs.now))
       seen))
@@ -84,7 +85,7 @@ returns-clause-entries t c = elim c.match-self.branch [
 pub returns-clause-depth : goal.returns-clause-depth
 returns-clause-depth t c = elim c.match-self.branch [
   | in-Leaf w ↦
-      let seen : c.args.self.now ≡ leaf_shape w.in-Leaf.leaf.entries = sym c.self.view_is ∙ ap shape_of w.in-Leaf.is in
+      let seen : c.args.self.now ≡ leaf_shape w.in-Leaf.leaf = sym c.self.view_is ∙ ap shape_of w.in-Leaf.is in
       rw w.self-inside-is (sym (ap (λ (s : Shape). s.depth) seen))
   | in-Inner w ↦
       let ls = w.in-Inner.field-0 in let ks = w.in-Inner.children.items in let k = w.index_mut.result.now in
@@ -99,4 +100,22 @@ returns-clause-depth t c = elim c.match-self.branch [
       let e = w.fill_last.ensures in
       rw w.self-inside-is (more_depth ls ks _ inner i k _ last w.index_mut.ensures.value some rising
       w.fill_last.new.self e.depth e.entries ∙ sym (ap (λ (s : Shape). s.depth) seen))
+]
+
+pub returns-clause-rooms : goal.returns-clause-rooms
+returns-clause-rooms t c = elim c.match-self.branch [
+  | in-Leaf w ↦
+      let seen : c.args.self.now ≡ leaf_shape w.in-Leaf.leaf = sym c.self.view_is ∙ ap shape_of w.in-Leaf.is in
+      let e = w.fill_leaf.ensures in
+      rw w.self-inside-is (subst (λ (s : Shape). KeepsRoom s (leaf_shape w.fill_leaf.new.leaf)) (sym seen)
+      (leaf_keeps w.in-Leaf.leaf w.fill_leaf.new.leaf e.room e.no_less_room))
+  | in-Inner w ↦
+      let ks = w.in-Inner.children.items in let k = w.index_mut.result.now in let k' = w.fill_last.new.self in
+      let i = w.len-last.result - 1 in
+      let inner = subst IsTree w.in-Inner.is c.self.invariant in
+      let seen : c.args.self.now ≡ inner_shape ks = sym c.self.view_is ∙ ap shape_of w.in-Inner.is in
+      rw w.self-inside-is (subst (λ (s : Shape). KeepsRoom s (inner_shape (set ks i k'))) (sym seen)
+      (keeps_set ks i k inner.children.rising inner.children.roomed
+      (omega (arith, w.len-last.ensures, w.in-Inner.children.ok.0, inner.some)) w.index_mut.ensures.value k'
+      w.fill_last.ensures.rooms))
 ]

@@ -5,6 +5,7 @@ use Rattle.am_btree.specs.Nodes.{shape_of, IsTree, inner_shape, leaf_shape}
 use Rattle.am_btree.proofs.Inner.{as_many, they_rise, some_separators, one_below}
 use Rattle.am_list.proofs.Searches.{find_absent, find_found}
 use Rattle.am_btree.proofs.Children.{find_in_child}
+use Rattle.am_btree.proofs.Rooming.{tree_roomed}
 use Rattle.am_btree.proofs.node.Subtree.+find.Goals as goal
 
 pub child_for-at-requires-clause-rising : goal.child_for-at-requires-clause-rising
@@ -22,13 +23,13 @@ child_for-at-requires-clause-some t c =
 
 pub returns-in_default-clause-found : goal.returns-in_default-clause-found
 returns-in_default-clause-found t c =
-    let seen : c.args.self.now ≡ leaf_shape c.in-Leaf.leaf.entries = sym c.self.view_is ∙ ap shape_of c.in-Leaf.is in
+    let seen : c.args.self.now ≡ leaf_shape c.in-Leaf.leaf = sym c.self.view_is ∙ ap shape_of c.in-Leaf.is in
     sym (ap (λ (s : Shape). find s.entries c.args.part c.args.key) seen ∙ find_absent c.in-Leaf.leaf.entries c.args.part
     c.args.key c.in_default.field-0 c.in_default.ensures.absent)
 
 pub returns-in-Ok-clause-found : goal.returns-in-Ok-clause-found
 returns-in-Ok-clause-found t c =
-    let seen : c.args.self.now ≡ leaf_shape c.in-Leaf.leaf.entries = sym c.self.view_is ∙ ap shape_of c.in-Leaf.is in
+    let seen : c.args.self.now ≡ leaf_shape c.in-Leaf.leaf = sym c.self.view_is ∙ ap shape_of c.in-Leaf.is in
     sym (ap (λ (s : Shape). find s.entries c.args.part c.args.key) seen ∙ find_found c.in-Leaf.leaf.entries c.args.part
     c.args.key c.in-Ok.at c.in-Ok.ensures.found c.get-e.result c.get-e.ensures)
 
@@ -63,3 +64,12 @@ returns-in-Inner-clause-found t c =
     let child = c.child_for-at.ensures in
     c.find-in-Inner.ensures.found ∙ sym (find_in_child part key ls ks at c.index.result.now inner.children.parted child
     c.index.ensures) ∙ sym (ap (λ (s : Shape). find s.entries part key) seen)
+
+pub returns-in_default-clause-roomed : goal.returns-in_default-clause-roomed
+returns-in_default-clause-roomed t c = tree_roomed c.self.inside.node c.self.invariant c.args.self.now c.self.view_is
+
+pub returns-in-Ok-clause-roomed : goal.returns-in-Ok-clause-roomed
+returns-in-Ok-clause-roomed t c = tree_roomed c.self.inside.node c.self.invariant c.args.self.now c.self.view_is
+
+pub returns-in-Inner-clause-roomed : goal.returns-in-Inner-clause-roomed
+returns-in-Inner-clause-roomed t c = tree_roomed c.self.inside.node c.self.invariant c.args.self.now c.self.view_is

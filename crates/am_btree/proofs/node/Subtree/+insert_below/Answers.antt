@@ -4,14 +4,18 @@ use Rattle.std.specs.List.{insert}
 use Rattle.std.specs.Result.{IsErrAnd}
 use Rattle.am_btree.specs.declared.insert.Obstacle.TheVariants.{Taken}
 use Rattle.am_list.specs.Entries.{find, insert_entry}
+use Rattle.am_record.proofs.Outcomes.{OnErr-from}
 use Rattle.am_btree.specs.Shape.{Shape}
 use Rattle.am_btree.specs.Nodes.{all_entries, depth_of, leaf_shape, inner_shape, shape_of, IsTree, IsInner}
 use Rattle.am_btree.specs.Nodes.{AreFilledChildren}
-use Rattle.am_btree.specs.Grown.{Grows, NowHolds}
+use Rattle.am_btree.specs.Grown.{Grows, NowHolds, NowRoomed}
+use Rattle.am_btree.specs.Rooms.{KeepsRoom, IsWidened}
 use Rattle.am_btree.proofs.Parting.{parted_lengths, children_rise}
 use Rattle.am_btree.proofs.Children.{find_in_child}
 use Rattle.am_btree.proofs.Growing.{before, before_is, child_from_reach, one_inner, one_entries, two_children}
-use Rattle.am_btree.proofs.Growing.{two_entries, set_deep, within, length_lowered}
+use Rattle.am_btree.proofs.Growing.{two_entries, children_are, set_deep, within, length_lowered}
+use Rattle.am_btree.proofs.Rooming.{keeps_set, keeps_split, tree_roomed}
+use Rattle.am_btree.proofs.Widening.{now_after, leaf_widened, unchanged, widened_inner, widened_all, on_err_map}
 use Rattle.am_btree.proofs.Inner.{one_below}
 use Rattle.am_btree.proofs.node.Subtree.+insert_below.Goals as goal
 use Rattle.am_btree.proofs.node.Subtree.+insert_below.Goals.{in-Leaf}
@@ -94,7 +98,7 @@ returns-in_default-clause-absent t c =
 pub returns-clause-absent : goal.returns-clause-absent
 returns-clause-absent t c = elim c.match-self.branch [
   | in-Leaf w ↦
-      let seen : c.args.self.now ≡ leaf_shape w.in-Leaf.leaf.entries = sym c.self.view_is ∙ ap shape_of w.in-Leaf.is in
+      let seen : c.args.self.now ≡ leaf_shape w.in-Leaf.leaf = sym c.self.view_is ∙ ap shape_of w.in-Leaf.is in
       rw w.result-is (subst (λ (s : Shape). OnOk w.insert_in_leaf.result
       (find s.entries c.args.entry.now.part c.args.entry.now.key ≡ None)) (sym seen) w.insert_in_leaf.ensures.absent)
   | in-Inner+in_ok-more-in-Inner+in_ok-grown-in-Inner+in-Some w ↦
@@ -130,7 +134,9 @@ invariant_of-self-in_default t c =
     let h = subst (λ g. NowHolds k.depth (insert_entry k.entries x) k' g) c.in_default.is
     c.in_ok-grown-in-Inner.ensures.ok.0 in
     subst (λ (j : ℕ). IsInner c.lower.new.self (set ks j k') c.in-Inner.children.cap) (sym at_is)
-    (one_inner x d ls ks n k inner.children inner.some r absent here k' h.0 h.1 c.lower.new.self c.lower.ensures
+    (one_inner x d ls ks n k inner.children inner.some r absent here k' h.0 h.1
+    (subst (λ g. NowRoomed k k' g) c.in_default.is c.in_ok-grown-in-Inner.ensures.ok.1.1).have c.lower.new.self
+    c.lower.ensures
     c.in-Inner.children.cap inner.room inner.most)
 
 pub returns-in_default-clause-ok : goal.returns-in_default-clause-ok
@@ -159,7 +165,14 @@ returns-in_default-clause-ok t c =
         ap (λ (j : ℕ). all_entries (set ks j k')) at_is ∙ holds ∙
             sym (ap (λ (s : Shape). insert_entry s.entries x) seen),
       ),
-      tt,
+      (
+        tt,
+        subst (λ (s : Shape). KeepsRoom s (inner_shape (set ks c.saturating_sub-at.result k'))) (sym seen)
+            (keeps_set ks c.saturating_sub-at.result k inner.children.rising inner.children.roomed
+            (omega (arith, at_is, within x d ls ks n k inner.children inner.some r absent here))
+            c.index_mut-child.ensures.value k'
+            (subst (λ g. NowRoomed k k' g) c.in_default.is c.in_ok-grown-in-Inner.ensures.ok.1.1)),
+      ),
     )
 
 pub add_child-requires-clause-children : goal.add_child-requires-clause-children
@@ -179,10 +192,11 @@ add_child-requires-clause-children t c =
     let k' = c.insert_below.new.self in let s = c.in-Some.split in
     let h = subst (λ g. NowHolds k.depth (insert_entry k.entries x) k' g) c.in-Some.is
     c.in_ok-grown-in-Inner.ensures.ok.0 in
+    let room = subst (λ g. NowRoomed k k' g) c.in-Some.is c.in_ok-grown-in-Inner.ensures.ok.1.1 in
     subst (λ (j : ℕ). AreFilledChildren (depth_of (set ks j k'))
     (insert c.lower.new.self (j + 1) s.separator) (insert (set ks j k') (j + 1) s.right)) (sym at_is)
-    (two_children x d ls ks n k inner.children inner.some r absent here k' s h c.lower.new.self
-    c.lower.ensures)
+    (two_children x d ls ks n k inner.children inner.some r absent here k' s h room.roomed room.right_roomed
+    c.lower.new.self c.lower.ensures)
 
 pub add_child-requires-clause-pairs : goal.add_child-requires-clause-pairs
 add_child-requires-clause-pairs t c =
@@ -215,9 +229,9 @@ add_child-requires-clause-in_range t c =
 pub returns-clause-ok : goal.returns-clause-ok
 returns-clause-ok t c = elim c.match-self.branch [
   | in-Leaf w ↦
-      let seen : c.args.self.now ≡ leaf_shape w.in-Leaf.leaf.entries = sym c.self.view_is ∙ ap shape_of w.in-Leaf.is in
+      let seen : c.args.self.now ≡ leaf_shape w.in-Leaf.leaf = sym c.self.view_is ∙ ap shape_of w.in-Leaf.is in
       rw (w.result-is, w.self-inside-is) (subst (λ (s : Shape). IfOk w.insert_in_leaf.result
-      (Grows s (leaf_shape w.insert_in_leaf.new.leaf.entries) c.args.entry.now c.args.wanted)) (sym seen)
+      (Grows s (leaf_shape w.insert_in_leaf.new.leaf) c.args.entry.now c.args.wanted)) (sym seen)
       w.insert_in_leaf.ensures.ok)
   | in-Inner+in_ok-more-in-Inner+in_ok-grown-in-Inner+in-Some w ↦
       let x = c.args.entry.now in let ls = w.in-Inner.separators in let ks = w.in-Inner.children.items in
@@ -245,11 +259,74 @@ returns-clause-ok t c = elim c.match-self.branch [
       let now = subst (λ (j : ℕ). NowHolds j (insert_entry c.args.self.now.entries x) new out) to_depth
       (subst (λ es. NowHolds (depth_of (set ks w.saturating_sub-at.result k')) es new out) to_entries
       w.add_child.ensures.holds) in
+      let all_kept = subst (λ (j : ℕ). KeepsRoom (inner_shape ks) (inner_shape (insert (set ks j k') (j + 1) s.right)))
+      (sym at_is)
+      (keeps_split ks (before n) k inner.children.rising inner.children.roomed
+      (within x d ls ks n k inner.children inner.some r absent here) here k' s.right
+      (insert (set ks (before n) k') (before n + 1) s.right)
+      (children_are x d ls ks n k inner.children inner.some r absent here k' s up.0) up.1.1) in
+      let roomed = subst (λ (o : Shape). NowRoomed o new out) (sym seen)
+      (now_after (inner_shape ks) (inner_shape (insert (set ks w.saturating_sub-at.result k')
+      (w.saturating_sub-at.result + 1) s.right)) new (depth_of (set ks w.saturating_sub-at.result k')) out all_kept
+      w.add_child.ensures.holds w.add_child.ensures.rooms) in
       rw (w.result-is, w.self-inside-is) ((
         now,
-        if_some_map (λ s'. (w.in-Inner.children.len ≡ 32) ×
-            (vec_len s'.spares + 1 ≡ vec_len s.spares)) (λ s'. vec_len s'.spares ≡ c.args.wanted)
-            (λ s' p. omega (arith, p.1, up.1, w.in_ok-more-in-Inner.ensures (w.len.ensures ∙ p.0))) out
-            w.add_child.ensures.spares,
+        (
+          if_some_map (λ s'. (w.in-Inner.children.len ≡ 32) ×
+              (vec_len s'.spares + 1 ≡ vec_len s.spares)) (λ s'. vec_len s'.spares ≡ c.args.wanted)
+              (λ s' p. omega (arith, p.1, up.1.0, w.in_ok-more-in-Inner.ensures (w.len.ensures ∙ p.0))) out
+              w.add_child.ensures.spares,
+          roomed,
+        ),
       ))
+]
+
+-- ---- where memory was refused or the place is taken
+
+pub returns-in_err-more-in-Inner-clause-err : goal.returns-in_err-more-in-Inner-clause-err
+returns-in_err-more-in-Inner-clause-err t c =
+    let seen : c.args.self.now ≡ inner_shape c.in-Inner.children.items = sym c.self.view_is ∙
+    ap shape_of c.in-Inner.is in
+    OnErr-from _ (subst (λ (o : Shape). IsWidened c.args.self.now o) seen (unchanged c.args.self.now
+    (tree_roomed c.self.inside.node c.self.invariant c.args.self.now c.self.view_is)))
+
+pub invariant_of-self-in_err-grown-in-Inner : goal.invariant_of-self-in_err-grown-in-Inner
+invariant_of-self-in_err-grown-in-Inner t c =
+    let x = c.args.entry.now in let ls = c.in-Inner.separators in let ks = c.in-Inner.children.items in
+    let n = c.reached-reach.result in
+    let inner = subst IsTree c.in-Inner.is c.self.invariant in
+    let at_is : c.saturating_sub-at.result ≡ before n = c.saturating_sub-at.ensures ∙ sym (before_is n) in
+    let k = c.index_mut-child.result.now in
+    let here : k ≡ get_or ks (before n) k = c.index_mut-child.ensures.value ∙ ap (λ (j : ℕ). get_or ks j k) at_is in
+    let child = child_from_reach ls x.part x.key n
+    (omega (arith, inner.some, parted_lengths ls ks inner.children.parted)) c.reached-reach.ensures in
+    let k' = c.insert_below.new.self in let w = c.in_err-grown-in-Inner.ensures.err in
+    subst (λ (j : ℕ). IsInner ls (set ks j k') c.in-Inner.children.cap) (sym at_is)
+    (widened_inner x.part x.key ls ks _ inner (before n) child k here k' w)
+
+pub returns-in_err-grown-in-Inner-clause-err : goal.returns-in_err-grown-in-Inner-clause-err
+returns-in_err-grown-in-Inner-clause-err t c =
+    let x = c.args.entry.now in let ls = c.in-Inner.separators in let ks = c.in-Inner.children.items in
+    let n = c.reached-reach.result in
+    let inner = subst IsTree c.in-Inner.is c.self.invariant in
+    let seen : c.args.self.now ≡ inner_shape ks = sym c.self.view_is ∙ ap shape_of c.in-Inner.is in
+    let at_is : c.saturating_sub-at.result ≡ before n = c.saturating_sub-at.ensures ∙ sym (before_is n) in
+    let k = c.index_mut-child.result.now in
+    let here : k ≡ get_or ks (before n) k = c.index_mut-child.ensures.value ∙ ap (λ (j : ℕ). get_or ks j k) at_is in
+    let child = child_from_reach ls x.part x.key n
+    (omega (arith, inner.some, parted_lengths ls ks inner.children.parted)) c.reached-reach.ensures in
+    let k' = c.insert_below.new.self in let w = c.in_err-grown-in-Inner.ensures.err in
+    OnErr-from _ (subst (λ (j : ℕ). IsWidened c.args.self.now (inner_shape (set ks j k'))) (sym at_is)
+    (subst (λ (o : Shape). IsWidened o (inner_shape (set ks (before n) k'))) (sym seen)
+    (widened_all x.part x.key ls ks _ inner (before n) child k here k' w)))
+
+pub returns-clause-err : goal.returns-clause-err
+returns-clause-err t c = elim c.match-self.branch [
+  | in-Leaf w ↦
+      let seen : c.args.self.now ≡ leaf_shape w.in-Leaf.leaf = sym c.self.view_is ∙ ap shape_of w.in-Leaf.is in
+      let e = w.insert_in_leaf.ensures in
+      rw (w.result-is, w.self-inside-is) (on_err_map
+      (λ same. subst (λ (o : Shape). IsWidened o (leaf_shape w.insert_in_leaf.new.leaf)) (sym seen)
+      (leaf_widened w.in-Leaf.leaf w.insert_in_leaf.new.leaf same e.room e.no_less_room)) w.insert_in_leaf.result e.err)
+  | in-Inner+in_ok-more-in-Inner+in_ok-grown-in-Inner+in-Some w ↦ rw w.result-is tt
 ]

@@ -2,6 +2,8 @@ use Rattle.std.specs.List.{remove}
 use Rattle.std.proofs.Common.{◌≡◌, ◌+◌, ◌<◌, List, [], length, set, MatchBool, refl, sym, ap, ◌∙◌, subst, rules, arith}
 use Rattle.am_list.specs.Entries.{find, entry_at, remove_from}
 use Rattle.am_btree.specs.Shape.{Shape}
+use Rattle.am_btree.specs.Rooms.{KeepsRoom}
+use Rattle.am_btree.proofs.Rooming.{keeps_set, keeps_removed, leaf_keeps}
 use Rattle.am_btree.specs.Nodes.{all_entries, shape_of, depth_of, IsTree, inner_shape, leaf_shape}
 use Rattle.am_btree.proofs.Inner.{as_many, they_rise, some_separators, one_below}
 use Rattle.std.specs.Prelude.{IsSome}
@@ -59,7 +61,7 @@ remove-removed-requires t c =
 
 pub remove_from_leaf-requires : goal.remove_from_leaf-requires
 remove_from_leaf-requires t c =
-    let seen : c.args.self.now ≡ leaf_shape c.in-Leaf.leaf.entries = sym c.self.view_is ∙ ap shape_of c.in-Leaf.is in
+    let seen : c.args.self.now ≡ leaf_shape c.in-Leaf.leaf = sym c.self.view_is ∙ ap shape_of c.in-Leaf.is in
     record {
       present = subst IsSome (ap (λ (s : Shape). find s.entries c.args.part c.args.key) seen) c.requires.present;
       some = c.requires.some;
@@ -84,10 +86,10 @@ invariant_of-self t c =
           let some = subst (λ b. MatchBool b (k'.entries ≡ []) (0 < length k'.entries))
           (not-true _ w.if-not-removed.true) e.empty in
           rw w.self-inside-is (kept_inner part key (λ es. remove_from es part key n) is (depth_of ks) ls ks at k k'
-          inner.children child here e.depth refl e.others _ (λ _. some) inner.most inner.room)
+          inner.children child here e.depth refl e.others _ e.rooms.have (λ _. some) inner.most inner.room)
       | then-not-removed-via-else-not-removed+then-len-eq1 w ↦
           rw w.self-inside-is (kept_inner part key (λ es. remove_from es part key n) is (depth_of ks) ls ks at k k'
-          inner.children child here e.depth refl e.others _
+          inner.children child here e.depth refl e.others _ e.rooms.have
           (λ more. absurd (omega (arith, more, w.len.ensures, w.if-len-eq1.true, c.in-Inner.children.ok.0)))
           inner.most inner.room)
     ]
@@ -213,10 +215,9 @@ take_out-requires-in-Inner t c =
 pub invariant_of-self-2 : goal.invariant_of-self-2
 invariant_of-self-2 t c = elim c.match-self.branch [
   | in-Leaf w ↦
-      let old = subst IsTree w.in-Leaf.is c.self.invariant in
       rw w.self-inside-is (
         w.remove_from_leaf.ensures.short,
-        (w.remove_from_leaf.ensures.rising, omega (arith, old.1.1, w.remove_from_leaf.ensures.wide)),
+        (w.remove_from_leaf.ensures.rising, w.remove_from_leaf.ensures.room),
       )
   | in-Inner+else-not-removed+else-len-eq1 w ↦
       let ls = w.in-Inner.separators in let ks = w.in-Inner.children.items in let at = w.child_for-at.result in
@@ -252,7 +253,7 @@ invariant_of-self-2 t c = elim c.match-self.branch [
 pub returns-clause-entry : goal.returns-clause-entry
 returns-clause-entry t c = elim c.match-self.branch [
   | in-Leaf w ↦
-      let seen : c.args.self.now ≡ leaf_shape w.in-Leaf.leaf.entries = sym c.self.view_is ∙ ap shape_of w.in-Leaf.is in
+      let seen : c.args.self.now ≡ leaf_shape w.in-Leaf.leaf = sym c.self.view_is ∙ ap shape_of w.in-Leaf.is in
       rw w.result-is (ap (λ (s : Shape). entry_at s.entries c.args.part c.args.key) seen ∙
       w.remove_from_leaf.ensures.entry)
   | in-Inner+else-not-removed+else-len-eq1 w ↦
@@ -274,7 +275,7 @@ returns-clause-entry t c = elim c.match-self.branch [
 pub returns-clause-others : goal.returns-clause-others
 returns-clause-others t c = elim c.match-self.branch [
   | in-Leaf w ↦
-      let seen : c.args.self.now ≡ leaf_shape w.in-Leaf.leaf.entries = sym c.self.view_is ∙ ap shape_of w.in-Leaf.is in
+      let seen : c.args.self.now ≡ leaf_shape w.in-Leaf.leaf = sym c.self.view_is ∙ ap shape_of w.in-Leaf.is in
       rw (w.result-is, w.self-inside-is) (w.remove_from_leaf.ensures.others ∙
       sym (ap (λ (s : Shape). remove_from s.entries c.args.part c.args.key w.remove_from_leaf.result.count) seen))
   | in-Inner+else-not-removed+else-len-eq1 w ↦
@@ -305,7 +306,7 @@ returns-clause-others t c = elim c.match-self.branch [
 pub returns-clause-depth : goal.returns-clause-depth
 returns-clause-depth t c = elim c.match-self.branch [
   | in-Leaf w ↦
-      let seen : c.args.self.now ≡ leaf_shape w.in-Leaf.leaf.entries = sym c.self.view_is ∙ ap shape_of w.in-Leaf.is in
+      let seen : c.args.self.now ≡ leaf_shape w.in-Leaf.leaf = sym c.self.view_is ∙ ap shape_of w.in-Leaf.is in
       rw w.self-inside-is (sym (ap (λ (s : Shape). s.depth) seen))
   | in-Inner+else-not-removed+else-len-eq1 w ↦
       let ls = w.in-Inner.separators in let ks = w.in-Inner.children.items in let at = w.child_for-at.result in
@@ -335,7 +336,7 @@ returns-clause-depth t c = elim c.match-self.branch [
 pub returns-clause-counted : goal.returns-clause-counted
 returns-clause-counted t c = elim c.match-self.branch [
   | in-Leaf w ↦
-      let seen : c.args.self.now ≡ leaf_shape w.in-Leaf.leaf.entries = sym c.self.view_is ∙ ap shape_of w.in-Leaf.is in
+      let seen : c.args.self.now ≡ leaf_shape w.in-Leaf.leaf = sym c.self.view_is ∙ ap shape_of w.in-Leaf.is in
       rw (w.result-is, w.self-inside-is) (w.remove_from_leaf.ensures.counted ∙
       sym (ap (λ (s : Shape). length s.entries) seen))
   | in-Inner+else-not-removed+else-len-eq1 w ↦
@@ -390,4 +391,39 @@ returns-clause-empty t c = elim c.match-self.branch [
       rw (w.result-is, w.self-inside-is) (subst (λ js. 0 < length (all_entries js))
       (sym w.take_out-in-Inner.ensures.items) (left_some part key (λ es. remove_from es part key n) is (depth_of ks)
       ls ks at k k' inner.children child here e.depth refl e.others many empty))
+]
+
+pub returns-then-not-removed-clause-rooms : goal.returns-then-not-removed-clause-rooms
+returns-then-not-removed-clause-rooms t c =
+    let ls = c.in-Inner.separators in let ks = c.in-Inner.children.items in let at = c.child_for-at.result in
+    let inner = subst IsTree c.in-Inner.is c.self.invariant in
+    let seen : c.args.self.now ≡ inner_shape ks = sym c.self.view_is ∙ ap shape_of c.in-Inner.is in
+    let k = c.index_mut.result.now in let k' = c.remove-removed.new.self in
+    let kept : KeepsRoom c.args.self.now (inner_shape (set ks at k')) =
+    subst (λ (s : Shape). KeepsRoom s (inner_shape (set ks at k'))) (sym seen)
+    (keeps_set ks at k inner.children.rising inner.children.roomed
+    (omega (arith, c.child_for-at.ensures.in_range, as_many ls ks _ inner)) c.index_mut.ensures.value k'
+    c.remove-removed.ensures.rooms) in
+    elim c.then-not-removed.branch [
+      | then-not-removed-via-then-not-removed w ↦ rw w.self-inside-is kept
+      | then-not-removed-via-else-not-removed+then-len-eq1 w ↦ rw w.self-inside-is kept
+    ]
+
+pub returns-clause-rooms : goal.returns-clause-rooms
+returns-clause-rooms t c = elim c.match-self.branch [
+  | in-Leaf w ↦
+      let seen : c.args.self.now ≡ leaf_shape w.in-Leaf.leaf = sym c.self.view_is ∙ ap shape_of w.in-Leaf.is in
+      let e = w.remove_from_leaf.ensures in
+      rw w.self-inside-is (subst (λ (s : Shape). KeepsRoom s (leaf_shape w.remove_from_leaf.new.leaf)) (sym seen)
+      (leaf_keeps w.in-Leaf.leaf w.remove_from_leaf.new.leaf e.room (omega (arith, e.same_room))))
+  | in-Inner+else-not-removed+else-len-eq1 w ↦
+      let ls = w.in-Inner.separators in let ks = w.in-Inner.children.items in let at = w.child_for-at.result in
+      let inner = subst IsTree w.in-Inner.is c.self.invariant in
+      let seen : c.args.self.now ≡ inner_shape ks = sym c.self.view_is ∙ ap shape_of w.in-Inner.is in
+      let k' = w.remove-removed.new.self in
+      rw w.self-inside-is (subst (λ js. KeepsRoom c.args.self.now (inner_shape js))
+      (sym w.take_out-in-Inner.ensures.items)
+      (subst (λ (s : Shape). KeepsRoom s (inner_shape (remove (set ks at k') at))) (sym seen)
+      (keeps_removed ks at w.index_mut.result.now inner.children.rising inner.children.roomed
+      (omega (arith, w.child_for-at.ensures.in_range, as_many ls ks _ inner)) w.index_mut.ensures.value k')))
 ]

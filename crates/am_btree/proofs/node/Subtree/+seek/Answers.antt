@@ -4,6 +4,7 @@ use Rattle.am_btree.specs.Nodes.{shape_of, depth_of, IsTree, inner_shape}
 use Rattle.am_btree.proofs.Inner.{as_many, they_rise, some_separators, one_below}
 use Rattle.am_btree.specs.Seek.{first_from}
 use Rattle.am_btree.proofs.Walking.{found_here, found_next, found_nowhere}
+use Rattle.am_btree.proofs.Rooming.{tree_roomed}
 use Rattle.am_btree.proofs.node.Subtree.+seek.Goals as goal
 
 pub child_for-at-requires-clause-rising : goal.child_for-at-requires-clause-rising
@@ -117,3 +118,15 @@ returns-else-at-len-clause-found t c =
     ∙ sym (found_next part key (depth_of ks) ls ks inner.children at child c.args.start k c.index.ensures
     c.index-in-Inner.result.now (sym c.seek.ensures.found ∙ c.in_default.is) more c.index-in-Inner.ensures)
     ∙ sym (ap (λ (s : Shape). first_from c.args.start s.entries part key) seen)
+
+pub returns-in-Some-clause-roomed : goal.returns-in-Some-clause-roomed
+returns-in-Some-clause-roomed t c = tree_roomed c.self.inside.node c.self.invariant c.args.self.now c.self.view_is
+
+pub returns-then-at-len-clause-roomed : goal.returns-then-at-len-clause-roomed
+returns-then-at-len-clause-roomed t c = tree_roomed c.self.inside.node c.self.invariant c.args.self.now c.self.view_is
+
+pub returns-in-Leaf-clause-roomed : goal.returns-in-Leaf-clause-roomed
+returns-in-Leaf-clause-roomed t c = tree_roomed c.self.inside.node c.self.invariant c.args.self.now c.self.view_is
+
+pub returns-else-at-len-clause-roomed : goal.returns-else-at-len-clause-roomed
+returns-else-at-len-clause-roomed t c = tree_roomed c.self.inside.node c.self.invariant c.args.self.now c.self.view_is

@@ -1,7 +1,10 @@
-use Rattle.std.proofs.Common.{◌≡◌, ◌<◌, Option, length, refl, sym, ap, ◌∙◌, subst, rules, arith}
+use Rattle.std.proofs.Common.{◌≡◌, ◌<◌, Option, length, set, refl, sym, ap, ◌∙◌, subst, rules, arith}
 use Rattle.am_list.specs.Entries.{Slot, find, set_entry}
 use Rattle.am_list.specs.Content.{live_value}
+use Rattle.am_list.specs.Rooms.{HasRoom}
 use Rattle.am_btree.specs.Shape.{Shape}
+use Rattle.am_btree.specs.Rooms.{KeepsRoom}
+use Rattle.am_btree.proofs.Rooming.{room_child, keeps_set, leaf_fits, leaf_keeps}
 use Rattle.am_btree.specs.Nodes.{shape_of, depth_of, IsTree, inner_shape, leaf_shape}
 use Rattle.am_btree.proofs.Inner.{as_many, they_rise, some_separators, one_below}
 use Rattle.std.specs.Prelude.{IsSome, is_some}
@@ -43,21 +46,29 @@ set-requires t c =
     let child = c.child_for-at.ensures in
     let deep = one_below ls ks _ inner at k (omega (arith, child.in_range, as_many ls ks _ inner))
     c.index_mut.ensures.value in
-    let falls : k.depth < c.args.self.now.depth = omega (arith, deep, ap (λ (s : Shape). s.depth) seen) in (
+    let falls : k.depth < c.args.self.now.depth = omega (arith, deep, ap (λ (s : Shape). s.depth) seen) in
+    let stands = subst IsSome (ap (λ (s : Shape). find s.entries c.args.part c.args.key) seen ∙
+    find_in_child c.args.part c.args.key ls ks at k inner.children.parted child c.index_mut.ensures.value)
+    c.requires.present in (
       search rules,
-      subst IsSome (ap (λ (s : Shape). find s.entries c.args.part c.args.key) seen ∙
-          find_in_child c.args.part c.args.key ls ks at k inner.children.parted child c.index_mut.ensures.value)
-          c.requires,
+      (
+        stands,
+        room_child c.args.part c.args.key ks at k (length c.args.value) inner.children.rising inner.children.roomed
+            (omega (arith, child.in_range, as_many ls ks _ inner)) c.index_mut.ensures.value stands
+            (subst (λ (s : Shape). HasRoom s.roomy c.args.part c.args.key (length c.args.value)) seen c.requires.room),
+      ),
     )
 
 pub set_in_leaf-requires-clause-fits : goal.set_in_leaf-requires-clause-fits
 set_in_leaf-requires-clause-fits t c = let old = subst IsTree c.in-Leaf.is c.self.invariant in
-    omega (arith, old.1.1, c.len.ensures.short)
+    let seen : c.args.self.now ≡ leaf_shape c.in-Leaf.leaf = sym c.self.view_is ∙ ap shape_of c.in-Leaf.is in
+    leaf_fits c.in-Leaf.leaf c.args.part c.args.key (length c.args.value) old.1.1 (omega (arith, c.len.ensures.short))
+    (subst (λ (s : Shape). HasRoom s.roomy c.args.part c.args.key (length c.args.value)) seen c.requires.room)
 
 pub set_in_leaf-requires-clause-stands : goal.set_in_leaf-requires-clause-stands
 set_in_leaf-requires-clause-stands t c =
-    let seen : c.args.self.now ≡ leaf_shape c.in-Leaf.leaf.entries = sym c.self.view_is ∙ ap shape_of c.in-Leaf.is in
-    subst IsSome (ap (λ (s : Shape). find s.entries c.args.part c.args.key) seen) c.requires
+    let seen : c.args.self.now ≡ leaf_shape c.in-Leaf.leaf = sym c.self.view_is ∙ ap shape_of c.in-Leaf.is in
+    subst IsSome (ap (λ (s : Shape). find s.entries c.args.part c.args.key) seen) c.requires.present
 
 pub invariant_of-self : goal.invariant_of-self
 invariant_of-self t c = elim c.match-self.branch [
@@ -70,7 +81,7 @@ invariant_of-self t c = elim c.match-self.branch [
           ap length w.set_in_leaf.ensures.entries,
           written_long c.args.part c.args.key c.args.value c.args.is_ghost w.in-Leaf.leaf.entries,
         ),
-        (w.set_in_leaf.ensures.rising, omega (arith, old.1.1, w.set_in_leaf.ensures.wide)),
+        (w.set_in_leaf.ensures.rising, w.set_in_leaf.ensures.room),
       )
   | in-Inner w ↦
       let ls = w.in-Inner.separators in let ks = w.in-Inner.children.items in let at = w.child_for-at.result in
@@ -91,13 +102,14 @@ invariant_of-self t c = elim c.match-self.branch [
         written_long part key c.args.value c.args.is_ghost k.entries,
       ) in
       rw w.self-inside-is (kept_inner part key (λ es. set_entry es part key c.args.value c.args.is_ghost) is
-      (depth_of ks) ls ks at k k' inner.children child here e.depth refl e.entries _ filled inner.most inner.room)
+      (depth_of ks) ls ks at k k' inner.children child here e.depth refl e.entries _ e.rooms.have filled inner.most
+      inner.room)
 ]
 
 pub returns-clause-entries : goal.returns-clause-entries
 returns-clause-entries t c = elim c.match-self.branch [
   | in-Leaf w ↦
-      let seen : c.args.self.now ≡ leaf_shape w.in-Leaf.leaf.entries = sym c.self.view_is ∙ ap shape_of w.in-Leaf.is in
+      let seen : c.args.self.now ≡ leaf_shape w.in-Leaf.leaf = sym c.self.view_is ∙ ap shape_of w.in-Leaf.is in
       rw w.self-inside-is (w.set_in_leaf.ensures.entries ∙
       sym (ap (λ (s : Shape). set_entry s.entries c.args.part c.args.key c.args.value c.args.is_ghost) seen))
   | in-Inner w ↦
@@ -116,7 +128,7 @@ returns-clause-entries t c = elim c.match-self.branch [
 pub returns-clause-depth : goal.returns-clause-depth
 returns-clause-depth t c = elim c.match-self.branch [
   | in-Leaf w ↦
-      let seen : c.args.self.now ≡ leaf_shape w.in-Leaf.leaf.entries = sym c.self.view_is ∙ ap shape_of w.in-Leaf.is in
+      let seen : c.args.self.now ≡ leaf_shape w.in-Leaf.leaf = sym c.self.view_is ∙ ap shape_of w.in-Leaf.is in
       rw w.self-inside-is (sym (ap (λ (s : Shape). s.depth) seen))
   | in-Inner w ↦
       let ls = w.in-Inner.separators in let ks = w.in-Inner.children.items in let at = w.child_for-at.result in
@@ -134,7 +146,7 @@ returns-clause-depth t c = elim c.match-self.branch [
 pub returns-clause-was_live : goal.returns-clause-was_live
 returns-clause-was_live t c = elim c.match-self.branch [
   | in-Leaf w ↦
-      let seen : c.args.self.now ≡ leaf_shape w.in-Leaf.leaf.entries = sym c.self.view_is ∙ ap shape_of w.in-Leaf.is in
+      let seen : c.args.self.now ≡ leaf_shape w.in-Leaf.leaf = sym c.self.view_is ∙ ap shape_of w.in-Leaf.is in
       w.result-is ∙ w.set_in_leaf.ensures.was_live ∙
       sym (ap (λ (s : Shape). is_some (live_value (find s.entries c.args.part c.args.key))) seen)
   | in-Inner w ↦
@@ -148,4 +160,22 @@ returns-clause-was_live t c = elim c.match-self.branch [
       sym (ap (λ (o : Option Slot). is_some (live_value o))
       (ap (λ (s : Shape). find s.entries part key) seen ∙
       find_in_child part key ls ks at k inner.children.parted child w.index_mut.ensures.value))
+]
+
+pub returns-clause-rooms : goal.returns-clause-rooms
+returns-clause-rooms t c = elim c.match-self.branch [
+  | in-Leaf w ↦
+      let seen : c.args.self.now ≡ leaf_shape w.in-Leaf.leaf = sym c.self.view_is ∙ ap shape_of w.in-Leaf.is in
+      let e = w.set_in_leaf.ensures in
+      rw w.self-inside-is (subst (λ (s : Shape). KeepsRoom s (leaf_shape w.set_in_leaf.new.leaf)) (sym seen)
+      (leaf_keeps w.in-Leaf.leaf w.set_in_leaf.new.leaf e.room (omega (arith, e.same_room))))
+  | in-Inner w ↦
+      let ls = w.in-Inner.separators in let ks = w.in-Inner.children.items in let at = w.child_for-at.result in
+      let inner = subst IsTree w.in-Inner.is c.self.invariant in
+      let seen : c.args.self.now ≡ inner_shape ks = sym c.self.view_is ∙ ap shape_of w.in-Inner.is in
+      let k = w.index_mut.result.now in let k' = w.set.new.self in
+      rw w.self-inside-is (subst (λ (s : Shape). KeepsRoom s (inner_shape (set ks at k'))) (sym seen)
+      (keeps_set ks at k inner.children.rising inner.children.roomed
+      (omega (arith, w.child_for-at.ensures.in_range, as_many ls ks _ inner)) w.index_mut.ensures.value k'
+      w.set.ensures.rooms))
 ]

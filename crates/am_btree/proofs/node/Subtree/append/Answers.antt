@@ -1,19 +1,29 @@
 use Rattle.std.proofs.Common.{◌≡◌, ◌<◌, ◌+◌, ◌-◌, ℕ, suc, false, List, ◌++◌, length, get_or, take, sym, ap, ◌∙◌, subst}
-use Rattle.std.proofs.Common.{add-one, arith}
+use Rattle.std.proofs.Common.{add-one, append-nil, arith}
 use Rattle.std.proofs.lemmas.List.{get_or_default}
 use Rattle.am_record.specs.declared.entry.Entry.{Entry}
 use Rattle.am_record.proofs.Outcomes.{on_ok}
 use Rattle.am_record.proofs.FirstRows.{Record}
 use Rattle.am_list.specs.Entries.{insert_entry, IsRising}
 use Rattle.am_list.specs.Runs.{live_entry, run_entries}
+use Rattle.am_list.proofs.Rooms.{keep_all}
 use Rattle.am_list.proofs.Runs.{rising_with_run}
 use Rattle.am_btree.specs.Shape.{Shape}
 use Rattle.am_btree.proofs.Growing.{insert_some}
 use Rattle.am_btree.proofs.Rooted.{tree_rises}
+use Rattle.am_btree.proofs.Rooming.{tree_roomed, keeps_further}
 use Rattle.am_btree.proofs.Filling.{left_rise, further, within}
 use Rattle.am_btree.proofs.Appended.{put, stands, out}
 use Rattle.am_btree.proofs.Cutting.{just_one}
 use Rattle.am_btree.proofs.node.Subtree.append.Goals as goal
+
+pub put-init : goal.put-init
+put-init c = record {
+  most = omega arith;
+  so_far = sym (append-nil c.args.self.now.entries);
+  rooms = keep_all c.args.self.now.roomy c.args.self.now.entries
+      (tree_roomed c.self.inside.node c.self.invariant c.args.self.now c.self.view_is);
+}
 
 pub fill_last-added-requires-clause-some : goal.fill_last-added-requires-clause-some
 fill_last-added-requires-clause-some c =
@@ -55,10 +65,16 @@ put-preserved c =
     let tree = subst (λ (s : Shape). IsRising s.entries) c.self.view_is
     (tree_rises c.self.inside.node c.self.invariant) in
     let all = rising_with_run part es rs tree c.requires.above c.requires.rising in
+    let roomed = tree_roomed c.self.inside.node c.self.invariant c.args.self.now c.self.view_is in
     record {
       most = within part es rs all (i + 1) c.fill_last-added.result (omega (arith, c.put-test.true))
           c.fill_last-added.ensures.most;
       so_far = further part es rs all (i + 1) c.fill_last-added.result now c.fill_last-added.ensures.entries;
+      rooms = keeps_further c.args.self.now c.insert.new.self c.fill_last-added.new.self roomed
+          (run_entries part (take (i + 1) rs)) now
+          (keeps_further c.args.self.now c.put.self c.insert.new.self roomed (run_entries part (take i rs))
+          c.put.invariant.so_far c.put.invariant.rooms c.insert.ensures.rooms)
+          c.fill_last-added.ensures.rooms;
     }
 
 pub remove-requires-clause-present : goal.remove-requires-clause-present
@@ -83,4 +99,8 @@ take-preserved c =
           c.take.invariant.so_far)
           (c.remove.ensures.others ∙ just_one c.take.self.entries c.args.part (get_or rs i d).0
           c.remove.result.count c.remove.ensures.some c.remove.ensures.most);
+      rooms = keeps_further c.args.self.now c.take.self c.remove.new.self
+          (tree_roomed c.self.inside.node c.self.invariant c.args.self.now c.self.view_is)
+          (run_entries c.args.part (take c.take.added rs)) c.take.invariant.so_far c.take.invariant.rooms
+          c.remove.ensures.rooms;
     }

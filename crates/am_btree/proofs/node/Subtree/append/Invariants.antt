@@ -1,11 +1,13 @@
 use Rattle.std.proofs.Common.{◌≡◌, ◌≤◌, ◌-◌, ◌++◌, length, take}
 use Rattle.am_list.specs.Runs.{run_entries}
+use Rattle.am_btree.specs.Rooms.{KeepsRoom}
 use Rattle.am_btree.proofs.node.Subtree.append.Given as goal
 
 abbrev pub invariant-put : goal.invariant-put
 invariant-put l = record {
   most : l.added ≤ length l.pairs;
   so_far : l.self.entries ≡ l.fn.self.entries ++ run_entries l.part (take l.added l.pairs);
+  rooms : KeepsRoom l.fn.self l.self;
 }
 
 abbrev pub decreases-put : goal.decreases-put
@@ -15,6 +17,7 @@ abbrev pub invariant-take : goal.invariant-take
 invariant-take l = record {
   most : l.added ≤ length l.pairs;
   so_far : l.self.entries ≡ l.fn.self.entries ++ run_entries l.part (take l.added l.pairs);
+  rooms : KeepsRoom l.fn.self l.self;
 }
 
 abbrev pub decreases-take : goal.decreases-take

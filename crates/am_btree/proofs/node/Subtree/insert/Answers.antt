@@ -18,8 +18,9 @@ invariant_of-self c =
     let rising : IsRising old.entries = subst (λ (o : Shape). IsRising o.entries) c.self.view_is
     (tree_rises c.self.inside.node c.self.invariant) in
     let h = (subst (λ g. Grows old left x 1 g) c.in-Some.is c.in_ok-split.ensures.ok).0 in
+    let room = (subst (λ g. Grows old left x 1 g) c.in-Some.is c.in_ok-split.ensures.ok).1.1 in
     let all = root_children k c.least.ensures.least old.depth (insert_entry old.entries x) left s h
-    (rising_inserted old.entries x rising c.in_ok-split.ensures.absent) in
+    (rising_inserted old.entries x rising c.in_ok-split.ensures.absent) room.roomed room.right_roomed in
     let low : Separator = record { part = 0; key = k } in
     let there = shape_of c.replace-node.result in
     let same : there ≡ left = ap shape_of c.replace-node.ensures.value ∙ c.self-2.view_is in

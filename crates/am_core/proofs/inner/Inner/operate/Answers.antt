@@ -2,14 +2,14 @@ use Rattle.std.proofs.Common.{Option, List, sym, ap, subst, ◌∙◌}
 use Rattle.am_record.specs.declared.lock.Lock.{Lock}
 use Rattle.am_list.specs.Entries.{find}
 use Rattle.am_record.specs.Marks.{since_mark}
-use Rattle.am_undo.specs.Notes.{CanTakeBack}
+use Rattle.am_undo.specs.Notes.{CanTakeBack, NotesFit}
 use Rattle.am_tx.specs.declared.transaction.Transaction.{Transaction}
 use Rattle.am_tx.specs.Active.{is_active_in, ops_in, log_in}
 use Rattle.am_effect.specs.Store.{with_wish}
 use Rattle.am_core.specs.Admission.{IsLockRefusal, IsLockGranted}
 use Rattle.am_core.proofs.Operations.{cleared, says_first, says_lock, wants_lock, says_room, wants_room, idle}
 use Rattle.am_core.proofs.Operations.{says_done, after_done, active_then, few_then}
-use Rattle.am_core.proofs.Endings.{can_back}
+use Rattle.am_core.proofs.Endings.{can_back, fits_abort}
 use Rattle.am_core.proofs.inner.Inner.operate.Goals as goal
 
 pub returns-in-Some-clause-says : goal.returns-in-Some-clause-says
@@ -41,7 +41,14 @@ work-requires-clause-back g c =
     c.args.op (sym c.in_default.is ∙ c.refusal.ensures) in
     subst (λ (xs : List Transaction). CanTakeBack (since_mark (log_in xs c.args.tx).marks (log_in xs c.args.tx).notes)
     (find old.parts.entries)) (sym c.in-Ok.ensures.granted.locks.active)
-    (can_back old.parts old.txs old.wishes old.commits c.args.tx c.requires clear.is_active)
+    (can_back old.parts old.txs old.wishes old.commits c.args.tx c.requires.fit clear.is_active)
+
+pub work-requires-clause-noted : goal.work-requires-clause-noted
+work-requires-clause-noted g c =
+    let old = c.args.self.now in
+    subst (λ (xs : List Transaction). NotesFit old.parts.roomy (log_in xs c.args.tx).notes)
+    (sym c.in-Ok.ensures.granted.locks.active)
+    (fits_abort old.parts.roomy old.txs c.args.tx c.requires.room.noted)
 
 pub cut-requires-clause-active : goal.cut-requires-clause-active
 cut-requires-clause-active g c =

@@ -1,3 +1,7 @@
+use Rattle.std.proofs.Common.{sym, subst}
+use Rattle.am_list.specs.Rooms.{KeepRoom}
+use Rattle.am_list.proofs.Rooms.{keep_all}
+use Rattle.am_parts.specs.Partitions.{Partitions}
 use Rattle.am_core.specs.InnerState.{inner_state}
 use Rattle.am_core.proofs.Reaching.{unwanted_begin, unwanted_commit, unwanted_abort, unwanted_clean}
 use Rattle.am_core.proofs.inner.Inner.step.Goals as goal
@@ -18,3 +22,14 @@ pub returns-in-Clean-clause-memory : goal.returns-in-Clean-clause-memory
 returns-in-Clean-clause-memory g c = λ e. absurd
     (unwanted_clean (inner_state c.args.self.now) c.in-Clean.range c.in-Clean.limit c.clean.result c.clean.ensures.says
     e)
+
+pub returns-in-Begin-clause-rooms : goal.returns-in-Begin-clause-rooms
+returns-in-Begin-clause-rooms g c = subst (λ (ps : Partitions). KeepRoom c.args.self.now.parts.roomy ps.roomy
+    ps.entries)
+    (sym c.begin.ensures.parts) (keep_all c.args.self.now.parts.roomy c.args.self.now.parts.entries
+    c.requires.room.values)
+
+pub returns-in-Commit-clause-rooms : goal.returns-in-Commit-clause-rooms
+returns-in-Commit-clause-rooms g c = subst (λ (ps : Partitions). KeepRoom c.args.self.now.parts.roomy ps.roomy
+    ps.entries) (sym c.commit.ensures.parts) (keep_all c.args.self.now.parts.roomy c.args.self.now.parts.entries
+    c.requires.room.values)

@@ -2,22 +2,36 @@ use Rattle.std.proofs.Common.{◌∙◌, ap, subst}
 use Rattle.am_sound.specs.StoreState.{StoreState, MayAnswer, state_after}
 use Rattle.am_core.specs.InnerState.{inner_state}
 use Rattle.am_core.proofs.Reaching.{reaches, few_commits}
+use Rattle.am_core.proofs.Rooms.{have_room}
 use Rattle.am_core.proofs.Standings.{goes, within, stays}
 use Rattle.am_core.proofs.store.Store.step.Goals as goal
 
 pub step_there-requires-clause-fit : goal.step_there-requires-clause-fit
-step_there-requires-clause-fit g c = c.steps_lift.ensures.fit c.self.invariant.trace
-    (inner_state c.self.inside.inner.value) c.self.invariant.at
+step_there-requires-clause-fit g c = c.steps_lift.ensures.fit c.self.invariant.0.trace
+    (inner_state c.self.inside.inner.value) c.self.invariant.0.at
 
 pub step_there-requires-clause-few : goal.step_there-requires-clause-few
 step_there-requires-clause-few g c = let old = c.self.inside.inner.value in few_commits old.parts old.txs old.wishes
-    old.commits c.self.invariant
+    old.commits c.self.invariant.0
 
 pub invariant_of-self : goal.invariant_of-self
 invariant_of-self g c =
-    reaches (inner_state c.self.inside.inner.value) (inner_state c.step_there.new.inner.value) c.args.step
-    c.step_there.result (λ trace. c.steps_lift.ensures.lift trace (inner_state c.self.inside.inner.value) c.args.step
-    c.step_there.result) c.self.invariant c.step_there.ensures.says c.step_there.ensures.after
+    let old = c.self.inside.inner.value in
+    let new = c.step_there.new.inner.value in
+    let fit = c.steps_lift.ensures.fit c.self.invariant.0.trace (inner_state old) c.self.invariant.0.at in
+    let reached = reaches (inner_state old) (inner_state new) c.args.step c.step_there.result
+    (λ trace. c.steps_lift.ensures.lift trace (inner_state old) c.args.step c.step_there.result) c.self.invariant.0
+    c.step_there.ensures.says c.step_there.ensures.after in (
+      reached,
+      record {
+        values = c.step_there.ensures.rooms.have;
+        noted = have_room (inner_state old) old.parts.roomy fit.rising c.self.invariant.1.values
+            c.self.invariant.1.noted
+            (inner_state new) c.args.step c.step_there.result c.step_there.ensures.after
+            (c.steps_lift.ensures.fit reached.trace (inner_state new) reached.at) new.parts.roomy
+            c.step_there.ensures.rooms;
+      },
+    )
 
 pub returns-clause-goes : goal.returns-clause-goes
 returns-clause-goes g c =

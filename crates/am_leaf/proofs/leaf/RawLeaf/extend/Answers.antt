@@ -1,9 +1,11 @@
-use Rattle.std.proofs.Common.{ℕ, ◌+◌, ◌^◌, ◌<◌, length, sym, ap, ◌∙◌, subst, length-append, ◌++◌, arith}
+use Rattle.am_record.proofs.Lists.{AllByRecursion-append}
+use Rattle.std.proofs.Common.{ℕ, List, ◌+◌, ◌^◌, ◌<◌, ◌≤◌, length, sym, ap, ◌∙◌, subst, length-append, ◌++◌, arith}
 use Rattle.am_list.specs.Entries.{IsRising}
 use Rattle.am_list.specs.Runs.{run_entries}
 use Rattle.am_leaf.specs.Leaf.{entries_of}
 use Rattle.am_leaf.specs.Runs.{places_of, values_of}
 use Rattle.am_leaf.specs.Seen.{Seen}
+use Rattle.am_leaf.proofs.Fitting.{fit_now, fit_run, fit_run_more}
 use Rattle.am_leaf.proofs.BitLemmas.{pow_mono}
 use Rattle.am_leaf.proofs.Extending.{length-places_of, length-values_of, entries_of-extend}
 use Rattle.am_leaf.proofs.Leaves.{alike, counted}
@@ -55,5 +57,10 @@ invariant_of-self c =
       );
       most = omega (arith, many, c.requires.room);
       ghosts = omega (arith, held.ghosts, up);
+      fit = fit_now a.values.room _ c.extend-2.ensures.room c.extend-2.ensures.items
+          (AllByRecursion-append (λ (v : List ℕ). length v ≤ a.values.room) a.values.items (values_of rs) held.fit
+          (fit_run a.values.room rs (fit_run_more c.args.value_len a.values.room rs
+          (omega (arith, c.requires.fits.value_fits, ap (λ (s : Seen). s.value_room) c.self.view_is))
+          c.requires.values)));
       rising = subst IsRising (sym (returns-clause-entries c)) c.requires.rising;
     }

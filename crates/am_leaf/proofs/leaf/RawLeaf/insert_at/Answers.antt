@@ -9,6 +9,7 @@ use Rattle.am_leaf.proofs.Rising.{rising-insert}
 use Rattle.am_leaf.proofs.Zips.{entries_of-insert}
 use Rattle.am_leaf.proofs.Leaves.{alike, counted}
 use Rattle.am_leaf.specs.Seen.{Seen}
+use Rattle.am_leaf.proofs.Fitting.{fit_now, fit_inserted}
 use Rattle.am_leaf.proofs.leaf.RawLeaf.insert_at.Goals as goal
 
 longer : {X : Type 0} (xs : List X) (i : ℕ) (x : X) {ys : List X} {n : ℕ} → length xs ≡ n → ys ≡ insert xs i x → i ≤ n →
@@ -48,6 +49,9 @@ invariant_of-self c =
       most = omega (arith, counted a held _ (ap (λ (s : Seen). s.entries) c.self.view_is), c.requires.room);
       ghosts = subst (λ (m : ℕ). m < 2 ^ (a.len + 1)) (sym c.insert_bit-self-inside.ensures)
           (subst (λ (k : ℕ). inserted_bit a.ghosts at c.args.entry.is_ghost < 2 ^ k) next below);
+      fit = fit_now a.values.room _ c.insert-2.ensures.room c.insert-2.ensures.items
+          (fit_inserted a.values.room a.values.items at c.args.entry.value held.fit
+          (omega (arith, c.requires.fits.value_fits, ap (λ (s : Seen). s.value_room) c.self.view_is)));
       rising = subst IsRising (sym (returns-clause-entries c))
           (rising-insert c.args.self.now.entries at c.args.entry rising c.requires.place.in_range c.requires.place.below
           c.requires.place.above);

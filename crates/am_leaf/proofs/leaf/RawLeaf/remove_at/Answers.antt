@@ -8,6 +8,7 @@ use Rattle.am_leaf.proofs.Rising.{rising-remove}
 use Rattle.am_leaf.proofs.Zips.{entry_of, entries_of-at, entries_of-remove}
 use Rattle.am_leaf.proofs.Leaves.{alike, counted}
 use Rattle.am_leaf.specs.Seen.{Seen}
+use Rattle.am_leaf.proofs.Fitting.{fit_now, fit_removed}
 use Rattle.am_leaf.proofs.leaf.RawLeaf.remove_at.Goals as goal
 
 shorter : {X : Type 0} (xs : List X) (i : ℕ) {ys : List X} {n : ℕ} → length xs ≡ n → ys ≡ remove xs i → i < n →
@@ -48,6 +49,8 @@ invariant_of-self c =
       values = shorter a.values.items at held.values c.remove-value.ensures.others lt;
       most = omega (arith, held.most);
       ghosts = subst (λ (m : ℕ). m < 2 ^ (a.len - 1)) (sym c.remove_bit-self-inside.ensures) below;
+      fit = fit_now a.values.room _ c.remove-value.ensures.room c.remove-value.ensures.others
+          (fit_removed a.values.room a.values.items at held.fit);
       rising = subst IsRising (sym (returns-clause-others c))
           (rising-remove c.args.self.now.entries at rising c.requires);
     }

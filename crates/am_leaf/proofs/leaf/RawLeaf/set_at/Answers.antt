@@ -8,6 +8,7 @@ use Rattle.am_leaf.proofs.Rising.{rising-set_at}
 use Rattle.am_leaf.proofs.Zips.{entries_of-set}
 use Rattle.am_leaf.proofs.Leaves.{alike, counted}
 use Rattle.am_leaf.specs.Seen.{Seen}
+use Rattle.am_leaf.proofs.Fitting.{fit_now, fit_set}
 use Rattle.am_leaf.proofs.leaf.RawLeaf.set_at.Goals as goal
 
 pub returns-clause-entries : goal.returns-clause-entries
@@ -31,6 +32,9 @@ invariant_of-self c =
       values = ap length c.set.ensures.items ∙ length-set a.values.items at c.args.value ∙ held.values;
       most = held.most;
       ghosts = subst (λ (m : ℕ). m < 2 ^ a.len) (sym c.change_bit-self-inside.ensures) below;
+      fit = fit_now a.values.room _ c.set.ensures.room c.set.ensures.items
+          (fit_set a.values.room a.values.items at c.args.value held.fit
+          (omega (arith, c.requires.fits, ap (λ (s : Seen). s.value_room) c.self.view_is)));
       rising = subst IsRising (sym (returns-clause-entries c))
           (rising-set_at c.args.self.now.entries at c.args.value c.args.is_ghost rising);
     }

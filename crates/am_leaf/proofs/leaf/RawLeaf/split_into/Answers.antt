@@ -1,4 +1,4 @@
-use Rattle.std.proofs.Common.{ℕ, length, ◌-◌, ◌^◌, ◌<◌, ◌≤◌, take, drop, sym, ap, ◌∙◌, subst, arith}
+use Rattle.std.proofs.Common.{ℕ, List, length, ◌-◌, ◌^◌, ◌<◌, ◌≤◌, take, drop, sym, ap, ◌∙◌, subst, arith}
 use Rattle.std.proofs.lemmas.List.{length-take-le, length-drop}
 use Rattle.am_leaf.specs.Leaf.{entries_of}
 use Rattle.am_list.specs.Entries.{IsRising}
@@ -8,6 +8,8 @@ use Rattle.am_leaf.proofs.Rising.{rising-drop}
 use Rattle.am_leaf.proofs.Zips.{entries_of-take, entries_of-drop}
 use Rattle.am_leaf.proofs.Leaves.{alike, counted, no_places, no_values}
 use Rattle.am_leaf.specs.Seen.{Seen}
+use Rattle.am_leaf.proofs.Fitting.{fit_now}
+use Rattle.am_record.proofs.Lists.{AllByRecursion-take, AllByRecursion-drop}
 use Rattle.am_leaf.proofs.leaf.RawLeaf.split_into.Goals as goal
 
 pub split_into-requires-clause-empty : goal.split_into-requires-clause-empty
@@ -45,6 +47,8 @@ invariant_of-self c =
       values = ap length c.split_into-2.ensures.front ∙ length-take-le at a.values.items (omega (arith, held.values));
       most = omega (arith, held.most);
       ghosts = subst (λ (m : ℕ). m < 2 ^ at) (sym c.split_bits.ensures.below) (cut_below a.ghosts at);
+      fit = fit_now a.values.room _ c.split_into-2.ensures.room c.split_into-2.ensures.front
+          (AllByRecursion-take (λ (v : List ℕ). length v ≤ a.values.room) at a.values.items held.fit);
       rising = subst IsRising (sym (returns-clause-front c))
           (rising-take at c.args.self.now.entries (subst IsRising (ap (λ (s : Seen). s.entries) c.self.view_is)
           held.rising));
@@ -64,6 +68,10 @@ invariant_of-other c =
       most = omega (arith, held.most);
       ghosts = subst (λ (m : ℕ). m < 2 ^ (a.len - at)) (sym c.split_bits.ensures.above)
           (rest_below a.ghosts at a.len le held.ghosts);
+      fit = fit_now a.values.room _ (c.split_into-2.ensures.other_room ∙
+          ap (λ (s : Seen). s.value_room) c.other.view_is ∙ c.requires.alike.values ∙
+          sym (ap (λ (s : Seen). s.value_room) c.self.view_is)) c.split_into-2.ensures.back
+          (AllByRecursion-drop (λ (v : List ℕ). length v ≤ a.values.room) at a.values.items held.fit);
       rising = subst IsRising (sym (returns-clause-back c))
           (rising-drop at c.args.self.now.entries (subst IsRising (ap (λ (s : Seen). s.entries) c.self.view_is)
           held.rising));

@@ -2,6 +2,7 @@ use Rattle.std.proofs.Common.{◌<◌, List, sym, subst}
 use Rattle.std.specs.List.{AllByRecursion}
 use Rattle.am_record.specs.declared.entry.Entry.{Entry}
 use Rattle.am_list.proofs.Runs.{rising_either}
+use Rattle.am_list.proofs.Rooms.{all_keep_room}
 use Rattle.am_list_index.proofs.list_index.ListIndexPartIndex.append_run.Goals as goal
 
 pub invariant_of-self : goal.invariant_of-self
@@ -10,3 +11,6 @@ invariant_of-self c =
     c.requires.above in
     rising_either c.push_run.result c.args.part c.self.inside.items.items c.args.pairs.now c.push_run.new.items.items
     c.self.invariant above c.requires.rising c.push_run.ensures.ok c.push_run.ensures.err
+
+pub returns-clause-rooms : goal.returns-clause-rooms
+returns-clause-rooms c = all_keep_room _ _

@@ -1,5 +1,6 @@
 use Rattle.std.proofs.Common.{◌∙◌, refl}
 use Rattle.am_list.proofs.Searches.{find_present, insert_gap, rising_insert_gap}
+use Rattle.am_list.proofs.Rooms.{all_keep_room}
 use Rattle.am_list_index.proofs.list_index.ListIndexPartIndex.insert.Goals as goal
 
 pub unreachable-requires : goal.unreachable-requires
@@ -12,3 +13,9 @@ invariant_of-self-2 c = rw c.in_ok-insert.ensures.items
 pub returns-clause-ok : goal.returns-clause-ok
 returns-clause-ok c = c.in_ok-insert.ensures.items ∙ insert_gap _ _ _ (rw c.self.view_is c.in-Err.ensures.absent) ∙
     rw c.self.view_is refl
+
+pub returns-in_err-insert-clause-rooms : goal.returns-in_err-insert-clause-rooms
+returns-in_err-insert-clause-rooms c = all_keep_room _ _
+
+pub returns-clause-rooms : goal.returns-clause-rooms
+returns-clause-rooms c = all_keep_room _ _

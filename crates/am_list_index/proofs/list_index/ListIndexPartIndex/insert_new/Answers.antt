@@ -2,6 +2,7 @@ use Rattle.std.proofs.Common.{◌≡◌, ◌≢◌, false, Option, Some, None, R
 use Rattle.std.specs.Prelude.{is_none, OnErr}
 use Rattle.am_list.specs.Entries.{Slot}
 use Rattle.am_list.proofs.Searches.{find_absent, find_present, insert_gap, rising_insert_gap}
+use Rattle.am_list.proofs.Rooms.{all_keep_room}
 use Rattle.am_list_index.proofs.list_index.ListIndexPartIndex.insert_new.Goals as goal
 
 some_stands : (o : Option Slot) → o ≢ None → false ≡ is_none o
@@ -28,3 +29,12 @@ returns-clause-new c = sym (ap is_none (find_absent _ _ _ _ c.in-Err.ensures.abs
 pub returns-clause-entries : goal.returns-clause-entries
 returns-clause-entries c = c.in_ok-insert.ensures.items ∙ insert_gap _ _ _
     (rw c.self.view_is c.in-Err.ensures.absent) ∙ rw c.self.view_is refl
+
+pub returns-in_default-clause-rooms : goal.returns-in_default-clause-rooms
+returns-in_default-clause-rooms c = all_keep_room _ _
+
+pub returns-in_err-insert-clause-rooms : goal.returns-in_err-insert-clause-rooms
+returns-in_err-insert-clause-rooms c = all_keep_room _ _
+
+pub returns-clause-rooms : goal.returns-clause-rooms
+returns-clause-rooms c = all_keep_room _ _

@@ -2,6 +2,7 @@ use Rattle.std.proofs.Common.{ap, ◌∙◌}
 use mathlib.Core.Bool.{false≢true}
 use Rattle.am_list.specs.Entries.{remove_entry}
 use Rattle.am_list.proofs.Searches.{entry_at_found, find_absent, remove_found, rising_remove_found}
+use Rattle.am_list.proofs.Rooms.{all_keep_room}
 use Rattle.am_list_index.proofs.list_index.ListIndexPartIndex.remove.Goals as goal
 
 pub unreachable-requires : goal.unreachable-requires
@@ -19,3 +20,6 @@ pub returns-clause-others : goal.returns-clause-others
 returns-clause-others c = c.remove.ensures.items ∙ remove_found c.self.inside.items.items c.args.part c.args.key
     c.in-Ok.at (rw c.self.view_is c.in-Ok.ensures.found) ∙ ap (λ es. remove_entry es c.args.part c.args.key)
     c.self.view_is
+
+pub returns-clause-rooms : goal.returns-clause-rooms
+returns-clause-rooms c = all_keep_room _ _

@@ -5,10 +5,11 @@ use mathlib.Core.Bool.{false≢true}
 use Rattle.am_list.specs.Entries.{Slot, set_entry}
 use Rattle.am_list.proofs.Content.{slot_live}
 use Rattle.am_list.proofs.Searches.{find_absent, find_found, set_found, rising_set_found}
+use Rattle.am_list.proofs.Rooms.{all_keep_room}
 use Rattle.am_list_index.proofs.list_index.ListIndexPartIndex.set.Goals as goal
 
 pub unreachable-requires : goal.unreachable-requires
-unreachable-requires c = false≢true (rw (find_absent _ _ _ _ c.in_default.ensures.absent) at c.requires)
+unreachable-requires c = false≢true (rw (find_absent _ _ _ _ c.in_default.ensures.absent) at c.requires.present)
 
 pub invariant_of-self : goal.invariant_of-self
 invariant_of-self c = rising_set_found c.self.inside.items.items c.args.part c.args.key c.in-Ok.at c.self.invariant
@@ -25,3 +26,6 @@ pub returns-clause-set : goal.returns-clause-set
 returns-clause-set c = set_found c.self.inside.items.items c.args.part c.args.key c.in-Ok.at
     (rw c.self.view_is c.in-Ok.ensures.found) _ c.index_mut-e.ensures.value _ _ ∙
     ap (λ es. set_entry es c.args.part c.args.key c.args.value c.args.is_ghost) c.self.view_is
+
+pub returns-clause-rooms : goal.returns-clause-rooms
+returns-clause-rooms c = all_keep_room _ _

@@ -1,5 +1,13 @@
-use Rattle.am_listen.proofs.Taking.{taken_next}
+use Rattle.std.proofs.Common.{arith}
+use Rattle.am_listen.proofs.Taking.{taken_none, taken_both, taken_next}
 use Rattle.am_listen.proofs.keeper.Keeper.keep.Goals as goal
+
+pub rounds-init : goal.rounds-init
+rounds-init g c = taken_none g.T.PieceTaker.took _ _ _ (omega arith) (g.met.T.PieceTaker.took_none _)
+
+pub returns-then-is_last : goal.returns-then-is_last
+returns-then-is_last g c = taken_both g.T.PieceTaker.took g.met.T.PieceTaker.took_both _ _ _ _ _ _ _ _ _
+    c.rounds.invariant c.take_piece.ensures
 
 pub rounds-preserved-then-is_over : goal.rounds-preserved-then-is_over
 rounds-preserved-then-is_over g c = taken_next g.T.PieceTaker.took g.met.T.PieceTaker.took_both _ _ _ _ _ _ _ _ _ _ _ _

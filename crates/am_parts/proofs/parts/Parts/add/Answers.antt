@@ -23,6 +23,7 @@ invariant_of-self-2 g c = (
       c.insert_or_forget.result
       c.add-2.ensures.kept c.add-2.ensures.let_go c.insert_or_forget.ensures.ok c.insert_or_forget.ensures.err
       c.self.invariant.4,
+  c.insert_or_forget.ensures.rooms.have,
 )
 
 pub invariant_of-self-in_err-insert_or_forget : goal.invariant_of-self-in_err-insert_or_forget
@@ -39,6 +40,7 @@ invariant_of-self-in_err-insert_or_forget g c = (
       c.insert_or_forget.result
       c.add-2.ensures.kept c.add-2.ensures.let_go c.insert_or_forget.ensures.ok c.insert_or_forget.ensures.err
       c.self.invariant.4,
+  c.insert_or_forget.ensures.rooms.have,
 )
 
 pub returns-clause-content : goal.returns-clause-content

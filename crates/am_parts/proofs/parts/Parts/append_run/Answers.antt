@@ -49,6 +49,7 @@ invariant_of-self-2 g c =
       subst (λ (es : List Entry). AreMerged es (c.self.inside.runs + 1) c.reserve.new.self.list.items) (sym is)
           (merged_appended es c.self.inside.runs c.args.pairs.now c.reserve.new.self.list.items
           (subst (AreMerged es c.self.inside.runs) (sym c.reserve.ensures) c.self.invariant.4)),
+      c.append_run.ensures.rooms.have,
     )
 
 pub returns-clause-dead : goal.returns-clause-dead

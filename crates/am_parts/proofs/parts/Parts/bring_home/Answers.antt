@@ -1,13 +1,18 @@
 use Rattle.std.proofs.Common.{List, take, drop, inl, inr, ⊎_elim, sym, ap, ◌∙◌, subst}
+use Rattle.std.specs.Prelude.{IsSome}
+use Rattle.am_record.specs.EntryOrder.{Place}
 use Rattle.am_record.specs.declared.entry.Entry.{Entry}
 use Rattle.am_list.specs.Content.{content, HasContent}
-use Rattle.am_list.specs.Entries.{IsRising}
+use Rattle.am_list.specs.Entries.{find, IsRising}
+use Rattle.am_list.specs.Rooms.{KeepRoom}
+use Rattle.am_list.proofs.Rooms.{keep_on}
 use Rattle.am_parts.specs.Catalogs.{IsCatalog}
 use Rattle.am_parts.specs.Merged.{AreMerged}
-use Rattle.am_parts.specs.Partitions.{Partitions, AreWellFormed, IsStretch, FirstIsNew, all_gone_home}
+use Rattle.am_parts.specs.Partitions.{Partitions, AreWellFormed, IsStretch, FirstNeedsRoom, all_gone_home}
 use Rattle.am_parts.specs.Residences.{AreResidences}
 use Rattle.am_parts.proofs.Neighbours.{front_then, back_then, settled_is, settled_rise, home_is, at_home, one_run_then}
-use Rattle.am_parts.proofs.Neighbours.{told_then, merged_all_home, new_before}
+use Rattle.am_parts.proofs.Neighbours.{told_then, merged_all_home, needs_before}
+use Rattle.am_parts.proofs.Standing.{between}
 use Rattle.am_parts.proofs.parts.Parts.bring_home.Goals as goal
 
 pub remove_all-requires-clause-stand : goal.remove_all-requires-clause-stand
@@ -49,7 +54,7 @@ invariant_of-self g c =
     let stretch = subst (λ (l : List Entry). IsStretch l xs) (sym same) c.requires in
     let settles = c.settle_all-count.ensures.settled ∙ settled_is sound xs stretch n le in
     let front = front_then sound xs stretch n le in let back = back_then sound xs stretch n le in
-    let final = c.remove_all.ensures front back settles in
+    let final = c.remove_all.ensures.gone front back settles in
     let home = home_is sound xs stretch n le ∙ sym final in
     let rise = settled_rise sound xs stretch n le in (
       subst AreWellFormed home (at_home sound xs stretch n le).sound,
@@ -63,6 +68,7 @@ invariant_of-self g c =
           (told_then sound xs stretch n le c.self.inside.residences c.self.invariant.3)),
       subst (λ (l : List Entry). AreMerged l c.self.inside.runs c.self.inside.merged.list.items) home
           (merged_all_home (take n xs) es c.self.inside.runs c.self.inside.merged.list.items c.self.invariant.4),
+      c.remove_all.ensures.rooms.have,
     )
 
 pub returns-clause-entries : goal.returns-clause-entries
@@ -73,7 +79,7 @@ returns-clause-entries g c =
     let stretch = subst (λ (l : List Entry). IsStretch l xs) (sym same) c.requires in
     let settles = c.settle_all-count.ensures.settled ∙ settled_is sound xs stretch n le in
     let front = front_then sound xs stretch n le in let back = back_then sound xs stretch n le in
-    let final = c.remove_all.ensures front back settles in
+    let final = c.remove_all.ensures.gone front back settles in
     let home = home_is sound xs stretch n le ∙ sym final in
     sym home ∙ ap (all_gone_home (take n xs)) same
 
@@ -85,7 +91,7 @@ returns-clause-content g c =
     let stretch = subst (λ (l : List Entry). IsStretch l xs) (sym same) c.requires in
     let settles = c.settle_all-count.ensures.settled ∙ settled_is sound xs stretch n le in
     let front = front_then sound xs stretch n le in let back = back_then sound xs stretch n le in
-    let final = c.remove_all.ensures front back settles in
+    let final = c.remove_all.ensures.gone front back settles in
     let home = home_is sound xs stretch n le ∙ sym final in
     subst (λ (l : List Entry). HasContent l (content c.args.self.now.entries)) home
     (subst (λ (l : List Entry). HasContent (all_gone_home (take n xs) es) (content l)) same
@@ -99,7 +105,23 @@ returns-clause-greatest g c =
     let stretch = subst (λ (l : List Entry). IsStretch l xs) (sym same) c.requires in
     let settles = c.settle_all-count.ensures.settled ∙ settled_is sound xs stretch n le in
     ⊎_elim (λ whole. inl whole)
-    (λ new. inr (subst (λ (l : List Entry). FirstIsNew l (drop n xs)) same
-    (new_before (take n xs) es (drop n xs) sound.rising
-    (subst (λ (l : List Entry). FirstIsNew l (drop n xs)) c.settle_all-count.ensures.settled new))))
+    (λ needs. inr (subst (λ (l : List Entry). FirstNeedsRoom l (drop n xs)) same
+    (needs_before es xs sound.rising stretch n
+    (subst (λ (l : List Entry). FirstNeedsRoom l (drop n xs)) c.settle_all-count.ensures.settled needs))))
     c.settle_all-count.ensures.greatest
+
+pub returns-clause-rooms : goal.returns-clause-rooms
+returns-clause-rooms g c =
+    let es = g.I.PartIndex.entries c.self.inside.index in let xs = c.args.entries.now in
+    let n = c.settle_all-count.result in let le = c.settle_all-count.ensures.most in
+    let same = ap (λ (p : Partitions). p.entries) c.self.view_is in let sound = c.self.invariant.0 in
+    let stretch = subst (λ (l : List Entry). IsStretch l xs) (sym same) c.requires in
+    let settles = c.settle_all-count.ensures.settled ∙ settled_is sound xs stretch n le in
+    let front = front_then sound xs stretch n le in let back = back_then sound xs stretch n le in
+    let final = c.remove_all.ensures.gone front back settles in
+    subst (λ (rooms : List Place). KeepRoom rooms (g.I.PartIndex.roomy c.remove_all.new.index)
+    (g.I.PartIndex.entries c.remove_all.new.index)) (ap (λ (p : Partitions). p.roomy) c.self.view_is)
+    (keep_on _ _ _ (g.I.PartIndex.entries c.settle_all-count.new.index) (g.I.PartIndex.entries c.remove_all.new.index)
+    c.settle_all-count.ensures.rooms c.remove_all.ensures.rooms
+    (λ part key among stands. subst (λ (l : List Entry). IsSome (find l part key)) (sym settles)
+    (between part key front (take n xs) back (subst (λ (l : List Entry). IsSome (find l part key)) final stands))))

@@ -10,4 +10,5 @@ invariant_of-result g c = (
   subst (λ es. IsCatalog es c.new.result) (sym c.requires) c.new.ensures,
   subst (λ es. AreResidences es c.new-2.result) (sym c.requires) c.new-2.ensures,
   search rules,
+  c.find.ensures.room,
 )

@@ -24,4 +24,5 @@ invariant_of-self g c =
         },
         c.self.invariant.4,
       ),
+      c.self.invariant.5,
     )

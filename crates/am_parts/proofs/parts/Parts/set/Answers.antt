@@ -27,6 +27,7 @@ invariant_of-self g c =
       subst (λ es. AreMerged es c.self.inside.runs c.self.inside.merged.list.items) (sym c.set-was_live.ensures.set)
           (merged_set (g.I.PartIndex.entries c.self.inside.index) c.self.inside.runs c.args.part c.args.key c.args.value
           c.args.is_ghost c.self.inside.merged.list.items c.self.invariant.4),
+      c.set-was_live.ensures.rooms.have,
     )
 
 pub returns-clause-content : goal.returns-clause-content

@@ -50,6 +50,7 @@ invariant_of-self g c =
       subst (λ es. AreMerged es c.self.inside.runs c.self.inside.merged.list.items) (sym c.remove-entry.ensures.others)
           (merged_removed es c.self.inside.runs c.args.part c.args.key c.self.inside.merged.list.items
           c.self.invariant.4),
+      c.remove-entry.ensures.rooms.have,
     )
 
 pub returns-clause-content : goal.returns-clause-content

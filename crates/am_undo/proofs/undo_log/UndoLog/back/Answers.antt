@@ -3,16 +3,24 @@ use Rattle.am_record.proofs.Newest.{since_mark_is, until_mark_is}
 use Rattle.am_list.specs.Entries.{find}
 use Rattle.am_undo.specs.declared.note.Note.{Note}
 use Rattle.am_undo.specs.Log.{Log}
-use Rattle.am_undo.specs.Notes.{TakesBack, CanTakeBack}
+use Rattle.am_undo.specs.Notes.{TakesBack, CanTakeBack, NotesFit}
 use Rattle.am_undo.proofs.undo_log.UndoLog.back.Goals as goal
 
-pub take_back_above-requires : goal.take_back_above-requires
-take_back_above-requires g c =
+pub take_back_above-requires-clause-can : goal.take_back_above-requires-clause-can
+take_back_above-requires-clause-can g c =
     subst (λ (ns : List Note). CanTakeBack ns (find c.args.parts.now.entries))
     (since_mark_is c.self.inside.notes.items c.args.self.now.notes c.self.inside.marks.items c.args.self.now.marks
     (ap (λ (l : Log). l.notes) c.self.view_is) (ap (λ (l : Log). l.marks) c.self.view_is) c.pop.new.self.items
     c.in-Some.mark c.in-Some.ensures.items)
-    c.requires
+    c.requires.can
+
+pub take_back_above-requires-clause-room : goal.take_back_above-requires-clause-room
+take_back_above-requires-clause-room g c =
+    subst (λ (ns : List Note). NotesFit c.args.parts.now.roomy ns)
+    (since_mark_is c.self.inside.notes.items c.args.self.now.notes c.self.inside.marks.items c.args.self.now.marks
+    (ap (λ (l : Log). l.notes) c.self.view_is) (ap (λ (l : Log). l.marks) c.self.view_is) c.pop.new.self.items
+    c.in-Some.mark c.in-Some.ensures.items)
+    c.requires.room
 
 pub returns-clause-entries : goal.returns-clause-entries
 returns-clause-entries g c =

@@ -1,0 +1,18 @@
+use Rattle.std.proofs.Common.{rules}
+use Rattle.am_list.proofs.Searches.{find_absent}
+use Rattle.am_btree.specs.Grown.{Grows}
+use Rattle.am_btree.specs.Nodes.{leaf_shape}
+use Rattle.am_btree.proofs.Widening.{grows_widened, if_ok_map}
+use Rattle.am_btree.proofs.insert.insert_in_leaf.Goals as goal
+
+pub returns-clause-ok : goal.returns-clause-ok
+returns-clause-ok c =
+    let old = c.args.leaf.now in let mid = c.widen-widened.new.self in let new = c.insert_fitting.new.leaf in
+    if_ok_map (Grows (leaf_shape mid) (leaf_shape new) c.args.entry.now c.args.wanted)
+    (Grows (leaf_shape old) (leaf_shape new) c.args.entry.now c.args.wanted)
+    (grows_widened old mid c.widen-widened.ensures.widened (leaf_shape new) c.args.entry.now c.args.wanted)
+    c.insert_fitting.result c.insert_fitting.ensures.ok
+
+pub returns-then-eq-clause-absent : goal.returns-then-eq-clause-absent
+returns-then-eq-clause-absent c =
+    find_absent c.args.leaf.now.entries c.args.entry.now.part c.args.entry.now.key 32 (search rules)

@@ -1,0 +1,12 @@
+use Rattle.std.proofs.Common.{◌-◌, length, sym, ap, ◌∙◌, arith}
+use Rattle.std.specs.Ordering.{is_lt}
+use Rattle.am_record.proofs.Orderings.{is_less}
+use Rattle.am_parts.proofs.Settling.{rising_push}
+use Rattle.am_parts.proofs.homing.goes_behind.Goals as goal
+
+pub returns : goal.returns
+returns c = λ yes rise.
+    let xs = c.args.entries.now in
+    rising_push xs (length xs - 1) c.index-entries-len.result c.args.entry.now
+    (omega (arith, c.if-len-eq0.false)) c.index-entries-len.is rise
+    (is_less _ (ap is_lt (sym c.cmp_place.ensures) ∙ sym c.is_lt.ensures ∙ yes))
