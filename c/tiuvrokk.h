@@ -52,9 +52,9 @@
  * ONE ORDER. Where several things are wrong, the first of these is told, and each call below has its statuses in this order:
  * TVK_NO_STORE; TVK_NULL, TVK_BAD_KEY and TVK_BAD_VALUE, in the order of the arguments; TVK_BAD_LIMIT; TVK_BAD_MODE;
  * TVK_BAD_RANGE; of the records of a load TVK_NO_MEMORY for their copy, and TVK_BAD_LINE, TVK_BAD_KEY and TVK_BAD_VALUE of the
- * first that is wrong; where they are sorted, TVK_NO_MEMORY for the runs, and TVK_TWICE; and then, by the store, TVK_NO_TX,
- * TVK_TOO_MANY_TX, TVK_TOO_MANY_OPS, TVK_NOT_RISING, TVK_TOO_MANY_RUNS, TVK_BUSY, TVK_TOO_MANY_LOCKS, TVK_NO_MEMORY, and the
- * answer itself. A lock stays where the answer is TVK_ABSENT or TVK_EXISTS.
+ * first that is wrong; where they are sorted, TVK_NO_MEMORY for their order, TVK_TWICE, and of each run TVK_NO_MEMORY for its
+ * copy; and then, by the store, TVK_NO_TX, TVK_TOO_MANY_TX, TVK_TOO_MANY_OPS, TVK_NOT_RISING, TVK_TOO_MANY_RUNS, TVK_BUSY,
+ * TVK_TOO_MANY_LOCKS, TVK_NO_MEMORY, and the answer itself. A lock stays where the answer is TVK_ABSENT or TVK_EXISTS.
  *
  * NUMBERS TOLD. The last argument of most calls points to a number, or is NULL where it isn't wanted. It is set by every call
  * that was passed a handle: to what the call says, and where the status is TVK_BUSY or TVK_ENDED to the number of the
@@ -396,7 +396,7 @@ tvk_status tvk_load(tvk_store *store, uint64_t tx, const tvk_record *records, si
  * @retval TVK_BUSY            `holder` has a lock that is in the way
  * @retval TVK_TOO_MANY_LOCKS  the transaction holds TVK_MAX_LOCKS locks, and none of them covers the range
  * @retval TVK_NO_MEMORY       memory was refused: for a run; or in front of TVK_BAD_KEY for a copy of the records, or in front of
- *                             TVK_TWICE for the runs, and then none is loaded
+ *                             TVK_TWICE for their order, and then none is loaded
  * @retval TVK_EXISTS          a key of the refused run has a record: `key`
  */
 tvk_status tvk_load_sorting(tvk_store *store, uint64_t tx, const tvk_record *records, size_t number, tvk_key *key,
@@ -427,7 +427,8 @@ tvk_status tvk_load_sorting(tvk_store *store, uint64_t tx, const tvk_record *rec
  * @retval TVK_BUSY            `holder` has a lock that is in the way
  * @retval TVK_TOO_MANY_LOCKS  the transaction holds TVK_MAX_LOCKS locks, and none of them covers the range
  * @retval TVK_NO_MEMORY       memory was refused: for a run; or in front of TVK_BAD_KEY for the records, also where so many
- *                             structs have no room in any memory, or in front of TVK_TWICE for the runs, and then none is loaded
+ *                             structs have no room in any memory, or in front of TVK_TWICE for their order, and then none is
+ *                             loaded
  * @retval TVK_EXISTS          a key of the refused run has a record: `key`
  */
 tvk_status tvk_load_structs(tvk_store *store, uint64_t tx, const void *structs, size_t number, const tvk_layout *layout,
@@ -461,7 +462,7 @@ tvk_status tvk_load_structs(tvk_store *store, uint64_t tx, const void *structs, 
  * @retval TVK_BUSY            `holder` has a lock that is in the way
  * @retval TVK_TOO_MANY_LOCKS  the transaction holds TVK_MAX_LOCKS locks, and none of them covers the range
  * @retval TVK_NO_MEMORY       memory was refused: for a run; or in front of TVK_BAD_LINE for the records, or in front of
- *                             TVK_TWICE for the runs, and then none is loaded
+ *                             TVK_TWICE for their order, and then none is loaded
  * @retval TVK_EXISTS          a key of the refused run has a record: `key`
  */
 tvk_status tvk_load_text(tvk_store *store, uint64_t tx, const void *text, size_t length, tvk_key *key, uint64_t *line,

@@ -612,6 +612,15 @@ static void test_large_loads(void) {
     look_at_large(tx);
     end_large(tx, MANY);
 
+    for (size_t more = 0; more <= 1; more++) {
+        tvk_counts counts;
+        begin_large(&tx);
+        if (tvk_load_structs(&large, tx, records, RUN + more, &layout, NULL, &loaded, NULL) || loaded != RUN + more)
+            fail("65,536 structs, and one more");
+        if (tvk_figures(&large, &counts) || counts.runs != 1 + more) fail("the runs of 65,536 structs, and of one more");
+        end_large(tx, RUN + more);
+    }
+
     begin_large(&tx);
     test_refused_run(tx);
     look_at_large(tx);

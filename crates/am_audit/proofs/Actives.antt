@@ -1,12 +1,13 @@
 -- Lists of active transactions.
-use Rattle.std.proofs.Common.{◌≡◌, ℕ, ◌+◌, ◌<◌, List, [], ◌∷◌, ◌++◌, cond, Vec, Global, length, map, get_or, take, drop}
+use Rattle.std.proofs.Common.{◌≡◌, ℕ, ◌+◌, ◌<◌, List, [], ◌∷◌, ◌++◌, Vec, Global, length, map, get_or, take, drop}
 use Rattle.std.proofs.Common.{refl, sym, ap, ◌∙◌, arith, append_assoc}
-use Rattle.std.specs.Prelude.{◌==◌, not, filter, true, false}
+use Rattle.std.specs.Prelude.{◌==◌, not, filter}
 use Rattle.std.proofs.Math.ListN.{set}
 use Rattle.std.proofs.lemmas.Bool.{cond-true, eq-eqb}
 use Rattle.std.proofs.lemmas.List.{map-append, drop_more, take_more_set, take-append-drop, drop-set-lt, drop_all}
 use Rattle.std.proofs.lemmas.List.{take_all, append-nil}
 use Rattle.std.specs.Vec.{with_items}
+use Rattle.am_record.proofs.Numbered.{without_number-map}
 use Rattle.am_audit.specs.declared.active.Active.{Active}
 use Rattle.am_audit.specs.Progress.{PlacedAnswer, placed_answer, Listed, listed, with_own}
 
@@ -34,21 +35,12 @@ kept_here t p old all all' i x y less h is found changed new =
     ∙ ap (λ z. map listed (take i old) ++ z ∷ map listed (drop (i + 1) old)) new
     ∙ sym (h.others
     ∙ ap (λ l. map listed (take i old) ++ with_own t p (map listed l)) (split_here old i x less is')
-    ∙ ap (λ l. map listed (take i old) ++ l) (cond-true (t == x.number) _ _ (eq-eqb t x.number (sym found))))
+    ∙ ap (λ l. map listed (take i old) ++ l) (cond-true (x.number == t) _ _ (eq-eqb x.number t found)))
 
 -- the list without a transaction
 pub list_kept : (t : ℕ) (all : List Active) → map listed (filter (λ (x : Active). not (x.number == t)) all) ≡ filter
     (λ (x : Listed). not (x.0 == t)) (map listed all)
-list_kept t [] = refl
-list_kept t (x ∷ all) =
-    elim (not (x.number == t)) as (λ b. map listed
-    (cond b (x ∷ filter (λ (x : Active). not (x.number == t)) all)
-    (filter (λ (x : Active). not (x.number == t)) all)) ≡ cond b
-    (listed x ∷ filter (λ (x : Listed). not (x.0 == t)) (map listed all))
-    (filter (λ (x : Listed). not (x.0 == t)) (map listed all))) [
-      | true ↦ ap (λ xs. listed x ∷ xs) (list_kept t all)
-      | false ↦ list_kept t all
-    ]
+list_kept t all = sym (without_number-map (λ (x : Active). x.number) (λ (x : Listed). x.0) listed (λ x. refl) t all)
 
 -- a vector whose elements were changed has those elements
 pub items_kept : (v : Vec Active Global) (all lent : List Active) → lent ≡ v.items → length all ≡ length lent →

@@ -1,10 +1,10 @@
 -- The operations of a transaction, with their places.
 use Rattle.std.proofs.Common.{◌≡◌, ℕ, ◌+◌, List, [], ◌∷◌, ◌++◌, length, map, Bool, true, false, cond, refl, sym, ap}
-use Rattle.std.proofs.Common.{◌∙◌, subst, ⊎_elim, Option, Some, None, arith}
+use Rattle.std.proofs.Common.{◌∙◌, subst, Option, Some, None, arith}
 use Rattle.std.specs.Prelude.{◌==◌, IfSome, IfNone}
 use Rattle.std.specs.List.{cons_option, AllByRecursion}
 use Rattle.std.specs.Option.{option_map}
-use Rattle.std.proofs.lemmas.Bool.{cond_both, false≢true, both_ways, or_cases, eqb-true}
+use Rattle.std.proofs.lemmas.Bool.{eqb-true}
 use Rattle.std.proofs.lemmas.List.{length-map}
 use Rattle.am_record.specs.Plain.{PlainMap, Draft, fresh, answer, answers_on, left_on}
 use Rattle.am_record.specs.declared.step.Op.{Op}
@@ -12,7 +12,8 @@ use Rattle.am_record.specs.declared.step.Step.{Step}
 use Rattle.am_record.specs.declared.step.Step.TheVariants.{Begin, Do, Commit, Abort}
 use Rattle.am_record.specs.declared.step.Reply.{Reply}
 use Rattle.am_record.specs.declared.step.Reply.TheVariants.{Begun, Committed, Aborted, Refused}
-use Rattle.am_record.proofs.Lists.{heads, tails}
+use Rattle.am_record.proofs.Lists.{AllByRecursion-map, heads, tails}
+use Rattle.am_record.proofs.Numbered.{of_number-all, of_number-map, of_number-known}
 use Rattle.am_record.specs.Events.{Event}
 use Rattle.am_serial.specs.Trace.{Trace, Answered, Answers, answered_to, effect, effect_of_do, effects, body, ops_of}
 use Rattle.am_serial.specs.Trace.{replies_of, IsAnsweredAlone}
@@ -29,21 +30,20 @@ use Rattle.am_audit.proofs.Takings.{is_active}
 pub body_is : (bodies : Bodies) (txs : List Transaction) →
     AllByRecursion (λ (x : Transaction). x.1 ≡ answered_of (bodies x.0)) txs → (t : ℕ) → is_open txs t ≡ true →
     body_in txs t ≡ answered_of (bodies t)
-body_is bodies [] a t on = absurd (false≢true on)
-body_is bodies (x ∷ txs) a t on =
-    cond_both (t == x.0) x.1 (body_in txs t) (λ b. b ≡ answered_of (bodies t))
-    (λ e. a.0 ∙ ap (λ u. answered_of (bodies u)) (sym (eqb-true t x.0 e)))
-    (λ e. body_is bodies txs a.1 t (⊎_elim (λ here. absurd (both_ways (t == x.0) e here)) (λ later. later)
-    (or_cases (t == x.0) (is_open txs t) on)))
+body_is bodies txs a t on = of_number-all (λ (x : Transaction). x.0) (λ x. x.1) [] (λ b. b ≡ answered_of (bodies t)) t
+    txs
+    (AllByRecursion-map (λ (x : Transaction). x.1 ≡ answered_of (bodies x.0))
+    (λ (x : Transaction). x.0 ≡ t → x.1 ≡ answered_of (bodies t))
+    (λ x made e. made ∙ ap (λ u. answered_of (bodies u)) e)
+    txs a) on
 
 pub own_are : (bodies : Bodies) (txs : List Transaction) (t : ℕ) → is_open txs t ≡ true →
     own_in (map (list_of bodies) txs) t ≡ bodies t
-own_are bodies [] t on = absurd (false≢true on)
-own_are bodies (x ∷ txs) t on =
-    cond_both (t == x.0) (bodies x.0) (own_in (map (list_of bodies) txs) t) (λ ps. ps ≡ bodies t)
-    (λ e. ap bodies (sym (eqb-true t x.0 e)))
-    (λ e. own_are bodies txs t (⊎_elim (λ here. absurd (both_ways (t == x.0) e here)) (λ later. later)
-    (or_cases (t == x.0) (is_open txs t) on)))
+own_are bodies txs t on =
+    of_number-map (λ (x : Transaction). x.0) (λ (x : Listed). x.0) (list_of bodies) (λ x. refl) (λ x. bodies x.0)
+    (λ x. x.1) [] (λ x. refl) txs t
+    ∙ of_number-known (λ (x : Transaction). x.0) (λ x. bodies x.0) [] (λ ps. ps ≡ bodies t) t (λ x e. ap bodies e) txs
+    on
 
 module _ (p : Checker) (here : Progress) (h : IsAt p here) (all : List Active) (is : all ≡ p.active.items) (t : ℕ) where
   abbrev s : State

@@ -1,16 +1,16 @@
 -- The moment that an audit tells by itself: what it keeps of the active transactions are their bodies.
 use Rattle.std.proofs.Common.{◌≡◌, ℕ, ◌+◌, ◌<◌, ◌≤◌, List, [], ◌∷◌, ◌++◌, map, true, false, refl, sym, ap, ◌∙◌, subst}
 use Rattle.std.proofs.Common.{arith}
-use Rattle.std.specs.Prelude.{◌==◌, ◌||◌}
+use Rattle.std.specs.Prelude.{◌==◌, not}
 use Rattle.std.specs.List.{AllByRecursion}
-use Rattle.std.proofs.lemmas.Bool.{cond_both, eq-eqb, true≢false, false_from_ne_true}
-use Rattle.std.proofs.Math.Bool.{or-true}
+use Rattle.std.proofs.lemmas.Bool.{false_from_ne_true}
 use Rattle.am_record.specs.Plain.{Draft, fresh}
 use Rattle.am_record.specs.declared.step.Step.{Step}
 use Rattle.am_record.specs.declared.step.Step.TheVariants.{Begin, Do, Commit, Abort}
 use Rattle.am_record.specs.declared.step.Reply.{Reply}
 use Rattle.am_record.specs.declared.step.Reply.TheVariants.{Begun, Committed, Aborted, Refused}
-use Rattle.am_record.proofs.Lists.{AllByRecursion-map, AllByRecursion-push}
+use Rattle.am_record.proofs.Lists.{AllByRecursion-map, AllByRecursion-push, AllByRecursion-filter, map-alike}
+use Rattle.am_record.proofs.Numbered.{each_there, of_number-none}
 use Rattle.am_serial.specs.Trace.{Effect, Begins, Answers, Commits, Aborts, Nothing, effect}
 use Rattle.am_serial.specs.Machine.{State, Transaction, is_open, next}
 use Rattle.am_audit.specs.declared.event_fault.EventFault.{EventFault}
@@ -19,7 +19,8 @@ use Rattle.am_audit.specs.declared.checker.Checker.{Checker}
 use Rattle.am_audit.specs.Progress.{PlacedAnswer, answered_of, Listed, listed, own_in, Bodies, list_of, IsAtState}
 use Rattle.am_audit.specs.Progress.{added, Progress, IsAt, FormedIn, IsRightIn, IsMisformedIn, IsWronglyBusyIn}
 use Rattle.am_audit.specs.Progress.{TakesEvent, IsEventFault, IsFirstWrong}
-use Rattle.am_audit.proofs.Progresses.{all_without, all_extended, open_below}
+use Rattle.am_audit.proofs.Progresses.{all_extended, open_below}
+use Rattle.am_audit.proofs.Takings.{listed_is}
 use Rattle.am_audit.proofs.Bodies.{own_are}
 use Rattle.am_audit.proofs.Lifts.{commit_open}
 
@@ -63,18 +64,9 @@ state_is p bodies s h =
 abbrev AgreeOn : List Transaction → Bodies → Bodies → Type 0
 AgreeOn txs b c = AllByRecursion (λ (x : Transaction). b x.0 ≡ c x.0) txs
 
-each_open : (txs : List Transaction) → AllByRecursion (λ (x : Transaction). is_open txs x.0 ≡ true) txs
-each_open [] = tt
-each_open (x ∷ txs) = (
-  ap (λ b. b || is_open txs x.0) (eq-eqb x.0 x.0 refl),
-  AllByRecursion-map (λ (y : Transaction). is_open txs y.0 ≡ true)
-      (λ (y : Transaction). (y.0 == x.0) || is_open txs y.0 ≡ true) (λ y on. ap (λ b. (y.0 == x.0) || b) on ∙
-      or-true (y.0 == x.0)) txs (each_open txs),
-)
-
 lists_agree : (b c : Bodies) (txs : List Transaction) → AgreeOn txs b c → map (list_of b) txs ≡ map (list_of c) txs
-lists_agree b c [] a = refl
-lists_agree b c (x ∷ txs) a = let rest = lists_agree b c txs a.1 in λ i. (x.0, a.0 i) ∷ rest i
+lists_agree b c txs a = map-alike (list_of b) (list_of c) txs (AllByRecursion-map (λ (x : Transaction). b x.0 ≡ c x.0)
+    (λ x. list_of b x ≡ list_of c x) (λ x e i. (x.0, e i)) txs a)
 
 -- other bodies that are the same for the active transactions
 rebodied : (p : Checker) (b c : Bodies) (s : State) → AgreeOn s.active b c → ((t : ℕ) → s.begun < t → c t ≡ []) →
@@ -101,11 +93,8 @@ rebodied p b c s same none h = record {
 
 none_listed : (b : Bodies) (txs : List Transaction) (t : ℕ) → is_open txs t ≡ false →
     own_in (map (list_of b) txs) t ≡ []
-none_listed b [] t off = refl
-none_listed b (x ∷ txs) t off =
-    cond_both (t == x.0) (b x.0) (own_in (map (list_of b) txs) t) (λ ps. ps ≡ [])
-    (λ e. absurd (true≢false (sym (ap (λ o. o || is_open txs t) e) ∙ off)))
-    (λ e. none_listed b txs t (sym (ap (λ o. o || is_open txs t) e) ∙ off))
+none_listed b txs t off = of_number-none (λ (x : Listed). x.0) (λ x. x.1) [] t (map (list_of b) txs)
+    (listed_is b t txs ∙ off)
 
 module _ (p : Checker) (b : Bodies) (s : State) (h : IsAtState p b s) where
   own_here : (t : ℕ) → is_open s.active t ≡ true → own_bodies p t ≡ b t
@@ -119,7 +108,8 @@ module _ (p : Checker) (b : Bodies) (s : State) (h : IsAtState p b s) where
 
   all_here : AgreeOn s.active (own_bodies p) b
   all_here = AllByRecursion-map (λ (x : Transaction). is_open s.active x.0 ≡ true)
-      (λ (x : Transaction). own_bodies p x.0 ≡ b x.0) (λ x on. own_here x.0 on) s.active (each_open s.active)
+      (λ (x : Transaction). own_bodies p x.0 ≡ b x.0) (λ x on. own_here x.0 on) s.active
+      (each_there (λ (x : Transaction). x.0) s.active)
 
   -- the audit stands where it tells itself
   pub stands_own : (n : ℕ) → IsAt p (own_moment p n)
@@ -149,9 +139,11 @@ module _ (p : Checker) (b : Bodies) (s : State) (h : IsAtState p b s) where
       AllByRecursion-push (λ (x : Transaction). own_bodies p x.0 ≡ b x.0) s.active (t, []) all_here
       (own_none t above ∙ sym (h.ordinary.new t above))
   agree_next (Answers t op reply) new = all_extended (λ (x : Transaction). own_bodies p x.0 ≡ b x.0)
-      (λ (x : Transaction). own_bodies p x.0 ≡ b x.0) t (op, reply) (λ x k. k) s.active all_here
-  agree_next (Commits t) new = all_without (λ (x : Transaction). own_bodies p x.0 ≡ b x.0) t s.active all_here
-  agree_next (Aborts t) new = all_without (λ (x : Transaction). own_bodies p x.0 ≡ b x.0) t s.active all_here
+      (λ (x : Transaction). own_bodies p x.0 ≡ b x.0) t (op, reply) (λ x e k. k) (λ x d k. k) s.active all_here
+  agree_next (Commits t) new = AllByRecursion-filter (λ (x : Transaction). own_bodies p x.0 ≡ b x.0)
+      (λ x. not (x.0 == t)) s.active all_here
+  agree_next (Aborts t) new = AllByRecursion-filter (λ (x : Transaction). own_bodies p x.0 ≡ b x.0)
+      (λ x. not (x.0 == t)) s.active all_here
   agree_next Nothing new = all_here
 
   abbrev with_added : Bodies → ℕ → Effect → Bodies

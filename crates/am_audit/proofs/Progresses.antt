@@ -1,17 +1,23 @@
 -- How one event moves what the audit stands for.
-use Rattle.std.proofs.Common.{◌≡◌, ℕ, ◌+◌, ◌<◌, ◌≤◌, List, [], ◌∷◌, ◌++◌, length, map, true, false, cond, refl, sym, ap}
+use Rattle.std.proofs.Common.{◌≡◌, ◌≢◌, ℕ, ◌+◌, ◌<◌, ◌≤◌, List, [], ◌∷◌, ◌++◌, length, map, true, false, cond, refl}
+use Rattle.std.proofs.Common.{sym, ap}
 use Rattle.std.proofs.Common.{◌∙◌, subst, ⊎_elim, Option, Some, None, arith}
 use Rattle.std.specs.Prelude.{◌==◌, not, filter}
 use Rattle.std.specs.List.{cons_option, AllByRecursion}
 use Rattle.std.specs.Option.{option_map}
-use Rattle.std.proofs.lemmas.Bool.{cond_both, cond-true, cond-false, false≢true, or_cases, eqb-true, ne_eqb}
+use Rattle.std.proofs.lemmas.Bool.{cond_both, cond-true, cond-false, cases_Bool, eqb-true, eqb-false, eq-eqb, ne_eqb}
+use Rattle.std.proofs.lemmas.Simd.{map-map}
 use Rattle.std.proofs.lemmas.List.{map-append, append-nil}
 use Rattle.am_record.specs.Plain.{fresh}
 use Rattle.am_record.specs.Asks.{lock_of, with_asked}
 use Rattle.am_record.specs.declared.step.Op.{Op}
 use Rattle.am_record.specs.declared.step.Step.{Step}
 use Rattle.am_record.specs.declared.step.Reply.{Reply}
-use Rattle.am_record.proofs.Lists.{AllByRecursion-map, AllByRecursion-push}
+use Rattle.am_record.specs.Numbered.{has_number, with_changed}
+use Rattle.am_record.proofs.Lists.{AllByRecursion-always, AllByRecursion-map, AllByRecursion-push}
+use Rattle.am_record.proofs.Lists.{AllByRecursion-filter}
+use Rattle.am_record.proofs.Numbered.{AreOnce, AreOnce-RiseBy, RiseBy-map, RiseBy-push, RiseBy-filter, number_of_one}
+use Rattle.am_record.proofs.Numbered.{RiseBy-with_changed, with_changed-none, with_changed-map, without_number-map}
 use Rattle.am_locks.specs.Table.{with_locks, entered, without_owner as released}
 use Rattle.am_record.specs.Events.{Event}
 use Rattle.am_serial.specs.Trace.{Trace, Answered, Effect, Begins, Answers, Commits, Aborts, Nothing, answered_to}
@@ -69,60 +75,27 @@ unchanged bodies i t = append-nil (bodies t) i
 
 -- ---- the machine's transactions
 
-pub all_without : (P : Transaction → Type 0) (t : ℕ) (xs : List Transaction) → AllByRecursion P xs →
-    AllByRecursion P (without_transaction t xs)
-all_without P t [] a = tt
-all_without P t (x ∷ xs) a = cond_both (not (x.0 == t)) (x ∷ without_transaction t xs) (without_transaction t xs)
-    (AllByRecursion P) (λ _. (a.0, all_without P t xs a.1)) (λ _. all_without P t xs a.1)
+abbrev number : Transaction → ℕ
+number x = x.0
 
-rise_push : (xs : List Transaction) (y : Transaction) → RiseByNumber xs →
-    AllByRecursion (λ (x : Transaction). x.0 < y.0) xs → RiseByNumber (xs ++ y ∷ [])
-rise_push [] y r a = (tt, tt)
-rise_push (x ∷ xs) y r a = (AllByRecursion-push (λ (z : Transaction). x.0 < z.0) xs y r.0 a.0, rise_push xs y r.1 a.1)
-
-rise_without : (t : ℕ) (xs : List Transaction) → RiseByNumber xs → RiseByNumber (without_transaction t xs)
-rise_without t [] r = tt
-rise_without t (x ∷ xs) r = cond_both (not (x.0 == t)) (x ∷ without_transaction t xs) (without_transaction t xs)
-    RiseByNumber (λ _. (all_without (λ (z : Transaction). x.0 < z.0) t xs r.0, rise_without t xs r.1))
-    (λ _. rise_without t xs r.1)
+abbrev number_of : Listed → ℕ
+number_of x = x.0
 
 pub all_extended : (P Q : Transaction → Type 0) (t : ℕ) (a : Answered) →
-    ((x : Transaction) → P x → Q (extended t a x)) → (xs : List Transaction) → AllByRecursion P xs →
-    AllByRecursion Q (map (extended t a) xs)
-all_extended P Q t a f [] h = tt
-all_extended P Q t a f (x ∷ xs) h = (f x h.0, all_extended P Q t a f xs h.1)
-
-rise_extended : (t : ℕ) (a : Answered) (xs : List Transaction) → RiseByNumber xs → RiseByNumber (map (extended t a) xs)
-rise_extended t a [] r = tt
-rise_extended t a (x ∷ xs) r = (
-  all_extended (λ (z : Transaction). x.0 < z.0) (λ (z : Transaction). x.0 < z.0) t a
-      (λ z h. h) xs r.0,
-  rise_extended t a xs r.1,
+    ((x : Transaction) → x.0 ≡ t → P x → Q (extended a x)) → ((x : Transaction) → x.0 ≢ t → P x → Q x) →
+    (xs : List Transaction) → AllByRecursion P xs → AllByRecursion Q (with_changed number (extended a) t xs)
+all_extended P Q t a here there [] h = tt
+all_extended P Q t a here there (x ∷ xs) h = (
+  cond_both (x.0 == t) (extended a x) x Q (λ e. here x (eqb-true x.0 t e) h.0) (λ e. there x (eqb-false x.0 t e) h.0),
+  all_extended P Q t a here there xs h.1,
 )
 
 -- an active number is not above the numbers begun
 pub open_below : (n t : ℕ) (xs : List Transaction) → AllByRecursion (λ (x : Transaction). x.0 ≤ n) xs →
     is_open xs t ≡ true → t ≤ n
-open_below n t [] a on = absurd (false≢true on)
-open_below n t (x ∷ xs) a on =
-    let low : x.0 ≤ n = a.0 in
-    ⊎_elim
-    (λ here. let same : t ≡ x.0 = eqb-true t x.0 here in omega arith)
-    (λ later. open_below n t xs a.1 later)
-    (or_cases (t == x.0) (is_open xs t) on)
+open_below n = number_of_one number (λ u. u ≤ n)
 
 -- ---- the lists
-
-list_without : (bodies : Bodies) (t : ℕ) (xs : List Transaction) → filter (λ (x : Listed). not (x.0 == t))
-    (map (list_of bodies) xs) ≡ map (list_of bodies) (without_transaction t xs)
-list_without bodies t [] = refl
-list_without bodies t (x ∷ xs) =
-    elim (not (x.0 == t)) as (λ b. cond b (list_of bodies x ∷ filter (λ (x : Listed). not (x.0 == t))
-    (map (list_of bodies) xs)) (filter (λ (x : Listed). not (x.0 == t)) (map (list_of bodies) xs)) ≡ map
-    (list_of bodies) (cond b (x ∷ without_transaction t xs) (without_transaction t xs))) [
-      | true ↦ ap (λ ys. list_of bodies x ∷ ys) (list_without bodies t xs)
-      | false ↦ list_without bodies t xs
-    ]
 
 added_answer : (n t : ℕ) (op : Op) (reply : Reply) (u : ℕ) (ps : List PlacedAnswer) → ps ++
     added n u (Answers t op reply) ≡ cond (t == u) (ps ++ (n, (op, reply)) ∷ []) ps
@@ -130,36 +103,50 @@ added_answer n t op reply u ps = elim (t == u) as
     (λ b. ps ++ cons_option (option_map (λ (a : Answered). (n, a)) (cond b (Some (op, reply)) None)) [] ≡ cond b
     (ps ++ (n, (op, reply)) ∷ []) ps) [ true ↦ refl | false ↦ append-nil ps ]
 
--- transactions of higher numbers
-list_beside : (bodies : Bodies) (n t : ℕ) (op : Op) (reply : Reply) (xs : List Transaction) →
-    AllByRecursion (λ (y : Transaction). t < y.0) xs → map (list_of (λ u. bodies u ++ added n u (Answers t op reply)))
-    (map (extended t (op, reply)) xs) ≡ map (list_of bodies) xs
-list_beside bodies n t op reply [] a = refl
-list_beside bodies n t op reply (x ∷ xs) a =
-    let above : t < x.0 = a.0 in
-    let here = added_answer n t op reply x.0 (bodies x.0) ∙
-    cond-false (t == x.0) _ _ (ne_eqb t x.0 (λ e. let no : ⊥ = omega arith in no)) in
-    let rest = list_beside bodies n t op reply xs a.1 in
-    λ i. (x.0, here i) ∷ rest i
+-- where each number stands once, the first is the only one
+abbrev with_one_more : PlacedAnswer → Listed → Listed
+with_one_more p x = (x.0, x.1 ++ p ∷ [])
+
+with_own_is : (t : ℕ) (p : PlacedAnswer) (xs : List Listed) → AreOnce number_of xs → with_own t p xs ≡ with_changed
+    number_of (with_one_more p) t xs
+with_own_is t p [] o = refl
+with_own_is t p (x ∷ xs) o = ⊎_elim
+    (λ e.
+    let rest = with_changed-none number_of (with_one_more p) t xs
+    (ap (has_number number_of xs) (sym (eqb-true x.0 t e)) ∙ o.0) in
+    (λ i. cond (e i) (with_one_more p x ∷ xs) (x ∷ with_own t p xs))
+    ∙ sym (λ i. cond (e i) (with_one_more p x) x ∷ rest i))
+    (λ e. (λ i. cond (e i) (with_one_more p x ∷ xs) (x ∷ with_own_is t p xs o.1 i))
+    ∙ sym (λ i. cond (e i) (with_one_more p x) x ∷ with_changed number_of (with_one_more p) t xs))
+    (cases_Bool (x.0 == t))
 
 list_extended : (bodies : Bodies) (n t : ℕ) (op : Op) (reply : Reply) (xs : List Transaction) → RiseByNumber xs →
     with_own t (n, (op, reply)) (map (list_of bodies) xs) ≡ map
-    (list_of (λ u. bodies u ++ added n u (Answers t op reply))) (map (extended t (op, reply)) xs)
-list_extended bodies n t op reply [] r = refl
-list_extended bodies n t op reply (x ∷ xs) r =
-    let own = added_answer n t op reply x.0 (bodies x.0) in
-    cond_both (t == x.0) ((x.0, bodies x.0 ++ (n, (op, reply)) ∷ []) ∷ map (list_of bodies) xs)
-    (list_of bodies x ∷ with_own t (n, (op, reply)) (map (list_of bodies) xs))
-    (λ l. l ≡ map (list_of (λ u. bodies u ++ added n u (Answers t op reply))) (map (extended t (op, reply)) (x ∷ xs)))
-    (λ e.
-    let later = subst (λ u. AllByRecursion (λ (y : Transaction). u < y.0) xs) (sym (eqb-true t x.0 e)) r.0 in
-    let here = sym (own ∙ cond-true (t == x.0) _ _ e) in
-    let rest = sym (list_beside bodies n t op reply xs later) in
-    λ i. (x.0, here i) ∷ rest i)
-    (λ e.
-    let here = sym (own ∙ cond-false (t == x.0) _ _ e) in
-    let rest = list_extended bodies n t op reply xs r.1 in
-    λ i. (x.0, here i) ∷ rest i)
+    (list_of (λ u. bodies u ++ added n u (Answers t op reply)))
+    (with_changed number (extended (op, reply)) t xs)
+list_extended bodies n t op reply xs r =
+    let p : PlacedAnswer = (n, (op, reply)) in
+    let more : Bodies = λ u. bodies u ++ added n u (Answers t op reply) in
+    let then : Transaction → Listed = λ x. list_of more (cond (x.0 == t) (extended (op, reply) x) x) in
+    let here : (x : Transaction) → x.0 ≡ t → with_one_more p (list_of bodies x) ≡ then x = λ x e.
+    sym ((λ i. list_of more (cond (eq-eqb x.0 t e i) (extended (op, reply) x) x))
+    ∙ (λ i. (
+      x.0,
+      (added_answer n t op reply x.0 (bodies x.0)
+          ∙ cond-true (t == x.0) (bodies x.0 ++ p ∷ []) (bodies x.0) (eq-eqb t x.0 (sym e))) i,
+    ))) in
+    let there : (x : Transaction) → x.0 ≢ t → list_of bodies x ≡ then x = λ x d.
+    sym ((λ i. list_of more (cond (ne_eqb x.0 t d i) (extended (op, reply) x) x))
+    ∙ (λ i. (
+      x.0,
+      (added_answer n t op reply x.0 (bodies x.0)
+          ∙ cond-false (t == x.0) (bodies x.0 ++ p ∷ []) (bodies x.0) (ne_eqb t x.0 (λ e. d (sym e)))) i,
+    ))) in
+    with_own_is t p (map (list_of bodies) xs) (AreOnce-RiseBy number_of (map (list_of bodies) xs)
+    (RiseBy-map number number_of (list_of bodies) (λ x. refl) xs r))
+    ∙ with_changed-map number_of (with_one_more p) (list_of bodies) then t xs
+    (AllByRecursion-always (λ x. x.0 ≡ t → with_one_more p (list_of bodies x) ≡ then x) here xs) there
+    ∙ sym (map-map (list_of more) (λ x. cond (x.0 == t) (extended (op, reply) x) x) xs)
 
 -- ---- by effect
 
@@ -188,7 +175,7 @@ module _ (p p' : Checker) (bodies : Bodies) (s : State) (h : IsAtState p bodies 
           below = AllByRecursion-push (λ (x : Transaction). x.0 ≤ s.begun + 1) s.active (t, [])
               (AllByRecursion-map (λ (x : Transaction). x.0 ≤ s.begun) (λ (x : Transaction). x.0 ≤ s.begun + 1)
               (λ x low. omega arith) s.active h.ordinary.below) (omega arith);
-          rising = rise_push s.active (t, []) h.ordinary.rising
+          rising = RiseBy-push number s.active (t, []) h.ordinary.rising
               (AllByRecursion-map (λ (x : Transaction). x.0 ≤ s.begun) (λ (x : Transaction). x.0 < t)
               (λ x low. omega arith) s.active h.ordinary.below);
           made = AllByRecursion-push (λ (x : Transaction). x.1 ≡ answered_of (bodies x.0)) s.active (t, [])
@@ -205,17 +192,20 @@ module _ (p p' : Checker) (bodies : Bodies) (s : State) (h : IsAtState p bodies 
     begun = b ∙ h.begun ∙ sym b';
     commits = c;
     runs = r ∙ h.runs ∙ sym r';
-    active = a ∙ ap (filter (λ (x : Listed). not (x.0 == t))) h.active ∙ list_without bodies t s.active ∙
+    active = a ∙ ap (filter (λ (x : Listed). not (x.0 == t))) h.active ∙
+        without_number-map number number_of (list_of bodies) (λ x. refl) t s.active ∙
         ap (map (list_of bodies)) (sym a');
     locks = l ∙ ap (λ table. released table t) h.locks ∙ released_is s.active t ∙ ap (map owner_of) (sym a');
     committed = m;
     ordinary = record {
       below = subst (λ (xs : List Transaction). AllByRecursion (λ (x : Transaction). x.0 ≤ s'.begun) xs) (sym a')
           (subst (λ (n : ℕ). AllByRecursion (λ (x : Transaction). x.0 ≤ n) (without_transaction t s.active)) (sym b')
-          (all_without (λ (x : Transaction). x.0 ≤ s.begun) t s.active h.ordinary.below));
-      rising = subst RiseByNumber (sym a') (rise_without t s.active h.ordinary.rising);
+          (AllByRecursion-filter (λ (x : Transaction). x.0 ≤ s.begun) (λ x. not (x.0 == t)) s.active h.ordinary.below));
+      rising = subst RiseByNumber (sym a') (RiseBy-filter number (λ x. not (x.0 == t)) s.active h.ordinary.rising);
       made = subst (λ (xs : List Transaction). AllByRecursion (λ (x : Transaction). x.1 ≡ answered_of (bodies x.0)) xs)
-          (sym a') (all_without (λ (x : Transaction). x.1 ≡ answered_of (bodies x.0)) t s.active h.ordinary.made);
+          (sym a') (AllByRecursion-filter (λ (x : Transaction). x.1 ≡ answered_of (bodies x.0)) (λ x. not (x.0 == t))
+          s.active
+          h.ordinary.made);
       new = λ u above. h.ordinary.new u (subst (λ n. n < u) b' above);
     };
   }
@@ -248,27 +238,28 @@ module _ (p p' : Checker) (bodies : Bodies) (s : State) (h : IsAtState p bodies 
         committed = m ∙ h.committed;
         ordinary = record {
           below = all_extended (λ (x : Transaction). x.0 ≤ s.begun) (λ (x : Transaction). x.0 ≤ s.begun) t (op, reply)
-              (λ x k. k) s.active h.ordinary.below;
-          rising = rise_extended t (op, reply) s.active h.ordinary.rising;
+              (λ x e k. k) (λ x d k. k) s.active h.ordinary.below;
+          rising = RiseBy-with_changed number (extended (op, reply)) t (λ x. refl) s.active h.ordinary.rising;
           made = all_extended (λ (x : Transaction). x.1 ≡ answered_of (bodies x.0))
               (λ (x : Transaction). x.1 ≡ answered_of (bodies x.0 ++ added n x.0 (Answers t op reply))) t (op, reply)
-              (λ x k. made_one x k) s.active h.ordinary.made;
+              made_here made_there s.active h.ordinary.made;
           new = λ u above. added_answer n t op reply u (bodies u) ∙
               cond-false (t == u) (bodies u ++ (n, (op, reply)) ∷ []) (bodies u)
               (ne_eqb t u (λ e. let no : ⊥ = omega arith in no)) ∙ h.ordinary.new u above;
         };
       }
     where
-      made_one : (x : Transaction) → x.1 ≡ answered_of (bodies x.0) → cond (t == x.0) (x.1 ++ (op, reply) ∷ []) x.1 ≡
-          answered_of (bodies x.0 ++ added n x.0 (Answers t op reply))
-      made_one x k =
-          elim (t == x.0) as (λ b. cond b (x.1 ++ (op, reply) ∷ []) x.1 ≡ answered_of
-          (cond b (bodies x.0 ++ (n, (op, reply)) ∷ []) (bodies x.0))) [
-            | true ↦ ap (λ xs. xs ++ (op, reply) ∷ []) k ∙
-                sym (map-append (λ (p : PlacedAnswer). p.1) (bodies x.0) ((n, (op, reply)) ∷ []))
-            | false ↦ k
-          ]
-          ∙ ap answered_of (sym (added_answer n t op reply x.0 (bodies x.0)))
+      made_here : (x : Transaction) → x.0 ≡ t → x.1 ≡ answered_of (bodies x.0) → x.1 ++ (op, reply) ∷ [] ≡ answered_of
+          (bodies x.0 ++ added n x.0 (Answers t op reply))
+      made_here x e k = ap (λ xs. xs ++ (op, reply) ∷ []) k ∙
+          sym (map-append (λ (p : PlacedAnswer). p.1) (bodies x.0) ((n, (op, reply)) ∷ [])) ∙
+          ap answered_of (sym (added_answer n t op reply x.0 (bodies x.0)
+          ∙ cond-true (t == x.0) (bodies x.0 ++ (n, (op, reply)) ∷ []) (bodies x.0) (eq-eqb t x.0 (sym e))))
+
+      made_there : (x : Transaction) → x.0 ≢ t → x.1 ≡ answered_of (bodies x.0) → x.1 ≡ answered_of
+          (bodies x.0 ++ added n x.0 (Answers t op reply))
+      made_there x d k = k ∙ ap answered_of (sym (added_answer n t op reply x.0 (bodies x.0)
+          ∙ cond-false (t == x.0) (bodies x.0 ++ (n, (op, reply)) ∷ []) (bodies x.0) (ne_eqb t x.0 (λ e. d (sym e)))))
 
 -- an effect that is no answer adds nothing to the bodies
 pub no_answer : (p : Checker) (here : Progress) (s : State) (e : Effect) → ((t : ℕ) → answered_to t e ≡ None) →

@@ -1,7 +1,7 @@
 -- Events that the audit takes.
 use Rattle.std.proofs.Common.{◌≡◌, ℕ, ◌+◌, ◌<◌, List, [], ◌∷◌, ◌++◌, length, map, true, false, refl, sym, ap, ◌∙◌}
 use Rattle.std.proofs.Common.{subst, arith}
-use Rattle.std.specs.Prelude.{not, filter, ◌==◌, ◌||◌, ◌^◌}
+use Rattle.std.specs.Prelude.{not, filter, ◌==◌, ◌^◌}
 use Rattle.std.proofs.lemmas.List.{length-map}
 use Rattle.std.proofs.lemmas.Bool.{both_ways, false_from_ne_true}
 use Rattle.am_record.specs.declared.step.Refusal.{Refusal}
@@ -11,6 +11,7 @@ use Rattle.am_record.specs.declared.step.Step.{Step}
 use Rattle.am_record.specs.declared.step.Step.TheVariants.{Begin, Do, Abort}
 use Rattle.am_record.specs.declared.step.Reply.{Reply}
 use Rattle.am_record.specs.declared.step.Reply.TheVariants.{Begun, Aborted, Refused}
+use Rattle.am_record.proofs.Numbered.{has_number-map}
 use Rattle.am_locks.specs.OwnerLocks.{OwnerLocks}
 use Rattle.am_locks.specs.Table.{is_owner, entered, without_owner as released}
 use Rattle.am_serial.specs.Trace.{Begins, Aborts, Nothing, effect}
@@ -83,8 +84,8 @@ abort_aborts s t _ on f = absurd f
 -- whether the transaction is listed is whether it is active
 pub listed_is : (bodies : Bodies) (t : ℕ) (txs : List Transaction) → is_listed (map (list_of bodies) txs) t ≡ is_open
     txs t
-listed_is bodies t [] = refl
-listed_is bodies t (x ∷ txs) = ap (λ b. (t == x.0) || b) (listed_is bodies t txs)
+listed_is bodies t txs = has_number-map (λ (x : Transaction). x.0) (λ (x : Listed). x.0) (list_of bodies) (λ x. refl)
+    txs t
 
 pub is_active : (p : Checker) (here : Progress) → IsAt p here → (t : ℕ) → is_listed (map listed p.active.items) t ≡
     is_open here.state.active t

@@ -1,7 +1,7 @@
 -- Where the audit of a trace stands after the events that it has seen.
 use Rattle.std.specs.Prelude.{◌≡◌, ◌≢◌, ◌↔◌, ℕ, ◌+◌, ◌<◌, ◌≤◌, ◌==◌, map, length, List, [], ◌∷◌, ◌++◌, Bool, true}
 use Rattle.std.specs.Prelude.{false, cond, Option, Some, None}
-use Rattle.std.specs.List.{cons_option, list_any, AllByRecursion}
+use Rattle.std.specs.List.{cons_option, AllByRecursion}
 use Rattle.std.specs.Option.{option_map}
 use Rattle.am_record.specs.Plain.{Draft, fresh, answer, answers_on, left_on}
 use Rattle.am_record.specs.Asks.{lock_of, locks_of}
@@ -19,7 +19,7 @@ use Rattle.am_locks.specs.declared.asked.Asked.TheVariants.{Granted, Busy as IsB
 use Rattle.am_locks.specs.declared.asked.Asked.TheVariants.{NoMemory as WantsMemory}
 use Rattle.am_serial.specs.Trace.{Trace, Answered, Effect, Commits, answered_to, effect, ops_of, replies_of}
 use Rattle.am_serial.specs.Trace.{IsAnsweredAlone}
-use Rattle.am_record.specs.Owners.{RiseBy}
+use Rattle.am_record.specs.Numbered.{has_number, of_number, RiseBy}
 use Rattle.am_record.specs.Refusals.{is_one_too_many}
 use Rattle.am_serial.specs.Machine.{State, Transaction, start, after_run, next, due_early, blocker, locks_in, body_in}
 use Rattle.am_serial.specs.Machine.{May}
@@ -65,17 +65,16 @@ abbrev pub listed : Active → Listed
 listed x = (x.number, map placed_answer x.own.items)
 
 abbrev pub is_listed : List Listed → ℕ → Bool
-is_listed xs t = list_any (λ (x : Listed). t == x.0) xs
+is_listed xs t = has_number (λ (x : Listed). x.0) xs t
 
 -- the operations of that transaction, none where it isn't listed
 abbrev pub own_in : List Listed → ℕ → List PlacedAnswer
-own_in [] t = []
-own_in (x ∷ xs) t = cond (t == x.0) x.1 (own_in xs t)
+own_in xs t = of_number (λ (x : Listed). x.0) (λ x. x.1) [] xs t
 
 -- one more operation of the transaction
 abbrev pub with_own : ℕ → PlacedAnswer → List Listed → List Listed
 with_own t p [] = []
-with_own t p (x ∷ xs) = cond (t == x.0) ((x.0, x.1 ++ p ∷ []) ∷ xs) (x ∷ with_own t p xs)
+with_own t p (x ∷ xs) = cond (x.0 == t) ((x.0, x.1 ++ p ∷ []) ∷ xs) (x ∷ with_own t p xs)
 
 -- ---- the machine at the events seen
 

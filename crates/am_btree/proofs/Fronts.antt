@@ -1,12 +1,12 @@
 -- The fronts of separators, where their list is changed and where it is searched.
-use Rattle.std.proofs.Common.{◌≡◌, ◌≢◌, ℕ, zero, suc, ◌+◌, ◌-◌, ◌*◌, ◌/◌, ◌^◌, ◌<◌, ◌≤◌, min, true, false, List, []}
+use Rattle.std.proofs.Common.{◌≡◌, ◌≢◌, ℕ, zero, suc, ◌+◌, ◌-◌, ◌*◌, ◌/◌, ◌^◌, ◌<◌, ◌≤◌, min, List, []}
 use Rattle.std.proofs.Common.{◌∷◌, ◌++◌, length, map, get_or, take, drop, nat_eq, nat_lt, refl, sym, ap, ◌∙◌, subst}
 use Rattle.std.proofs.Common.{arith}
-use Rattle.std.proofs.Common.{cond, ⊎_elim, length-append, length-drop}
-use Rattle.std.proofs.lemmas.Bool.{cases_Bool, cond-true, cond-false, ltb-true, ltb-false, lt-ltb, le-ltb, eqb-false}
+use Rattle.std.proofs.Common.{⊎_elim, length-append, length-drop}
+use Rattle.std.proofs.lemmas.Bool.{cases_Bool, cond-true, cond-false, ltb-true, ltb-false, lt-ltb, le-ltb}
 use Rattle.std.proofs.lemmas.List.{take-map, drop-map, length-map, get_or-map, get_or_default, take-append-drop}
 use Rattle.std.proofs.lemmas.List.{take-append-le, drop-append-le, length-take-le}
-use Rattle.std.proofs.lemmas.List.Sums.{count_by-le-length, prefix_len-le-length, sum_by-cons}
+use Rattle.std.proofs.lemmas.List.Sums.{count_by-le-length, prefix_len-le-length}
 use Rattle.std.specs.declared.cmp.Ordering.{Ordering}
 use Rattle.std.specs.declared.cmp.Ordering.TheVariants.{Less, Equal, Greater}
 use Rattle.std.specs.Ordering.{nat_cmp, is_le, MatchOrdering}
@@ -15,6 +15,7 @@ use Rattle.std.specs.List.{AllByRecursion, count_by, prefix_len, insert, remove}
 use Rattle.am_record.specs.OrderedKey.{OrderedKey, key_cmp}
 use Rattle.am_record.specs.KeyFront.{key_front}
 use Rattle.am_record.specs.EntryOrder.{Place, place_cmp, place_cmp-same}
+use Rattle.am_record.proofs.Fronting.{NeverFalls, falls-drop, lower_first, higher_last}
 use Rattle.am_record.proofs.Lists.{AllByRecursion-map, AllByRecursion-append, AllByRecursion-take}
 use Rattle.am_record.proofs.Lists.{some_item}
 use Rattle.am_record.proofs.Orderings.{less_or_greater}
@@ -141,82 +142,33 @@ module _ (law : (k l : OrderedKey) → key_front k < key_front l → key_cmp k l
     rise-take n ls r.1,
   )
 
+  -- what holds of fronts, and of the separators that have them
+  into_fronts : (P : ℕ → Type 0) (ls : List Separator) → AllByRecursion (λ l. P (front l)) ls →
+      AllByRecursion P (fronts_of ls)
+  into_fronts P [] a = tt
+  into_fronts P (l ∷ ls) a = (a.0, into_fronts P ls a.1)
+
+  out_of_fronts : (P : ℕ → Type 0) (ls : List Separator) (fs : List ℕ) → fs ≡ fronts_of ls → AllByRecursion P fs →
+      AllByRecursion (λ l. P (front l)) ls
+  out_of_fronts P [] fs e a = tt
+  out_of_fronts P (l ∷ ls) fs e a = let b = subst (AllByRecursion P) e a in
+      (b.0, out_of_fronts P ls (fronts_of ls) refl b.1)
+
+  fronts_rise : (ls : List Separator) → SeparatorsRise ls → NeverFalls (λ n. n) (fronts_of ls)
+  fronts_rise [] r = tt
+  fronts_rise (l ∷ ls) r = (
+    into_fronts (λ n. front l ≤ n) ls
+        (AllByRecursion-map (λ m. place_cmp (separator_place l) (separator_place m) ≡ Less) (λ m. front l ≤ front m)
+        (λ m h. never_falls (separator_place l) (separator_place m) h) ls r.0),
+    fronts_rise ls r.1,
+  )
+
   module _ (p : Place) where
-    -- how many fronts are below the place's
-    abbrev lower : List Separator → ℕ
-    lower ls = count_by (λ n. nat_lt n (place_front p)) (fronts_of ls)
-
-    -- how many of the first are the place's
-    abbrev alike : List Separator → ℕ
-    alike ls = prefix_len (λ n. nat_eq n (place_front p)) (fronts_of ls)
-
     abbrev AreLower : List Separator → Type 0
     AreLower ls = AllByRecursion (λ l. front l < place_front p) ls
 
-    abbrev AreNoLower : List Separator → Type 0
-    AreNoLower ls = AllByRecursion (λ l. place_front p ≤ front l) ls
-
     abbrev AreHigher : List Separator → Type 0
     AreHigher ls = AllByRecursion (λ l. place_front p < front l) ls
-
-    lower-cons : (l : Separator) (ls : List Separator) →
-        lower (l ∷ ls) ≡ cond {A = ℕ} (nat_lt (front l) (place_front p)) 1 0 + lower ls
-    lower-cons l ls = sum_by-cons (λ n. cond {A = ℕ} (nat_lt n (place_front p)) 1 0) (front l) (fronts_of ls)
-
-    lower-yes : (l : Separator) (ls : List Separator) → nat_lt (front l) (place_front p) ≡ true →
-        lower (l ∷ ls) ≡ suc (lower ls)
-    lower-yes l ls e = omega (arith, lower-cons l ls, cond-true {A = ℕ} (nat_lt (front l) (place_front p)) 1 0 e)
-
-    lower-no : (l : Separator) (ls : List Separator) → nat_lt (front l) (place_front p) ≡ false →
-        lower (l ∷ ls) ≡ lower ls
-    lower-no l ls e = omega (arith, lower-cons l ls, cond-false {A = ℕ} (nat_lt (front l) (place_front p)) 1 0 e)
-
-    none_lower : (ls : List Separator) → AreNoLower ls → lower ls ≡ 0
-    none_lower [] a = refl
-    none_lower (l ∷ ls) a = lower-no l ls (le-ltb (front l) (place_front p) a.0) ∙ none_lower ls a.1
-
-    -- what stands behind a separator whose front isn't below
-    no_lower : (l : Separator) (ls : List Separator) → SeparatorsRise (l ∷ ls) → place_front p ≤ front l → AreNoLower ls
-    no_lower l ls r le = AllByRecursion-map (λ m. place_cmp (separator_place l) (separator_place m) ≡ Less)
-        (λ m. place_front p ≤ front m)
-        (λ m h. let more = never_falls (separator_place l) (separator_place m) h in omega (arith, le, more)) ls r.0
-
-    higher : (l : Separator) (ls : List Separator) → SeparatorsRise (l ∷ ls) → place_front p < front l → AreHigher ls
-    higher l ls r lt = AllByRecursion-map (λ m. place_cmp (separator_place l) (separator_place m) ≡ Less)
-        (λ m. place_front p < front m)
-        (λ m h. let more = never_falls (separator_place l) (separator_place m) h in omega (arith, lt, more)) ls r.0
-
-    -- the lower ones come first
-    lower_first : (ls : List Separator) → SeparatorsRise ls →
-        AreLower (take (lower ls) ls) × AreNoLower (drop (lower ls) ls)
-    lower_first [] r = (tt, tt)
-    lower_first (l ∷ ls) r =
-        ⊎_elim
-        (λ e. let rest = lower_first ls r.1 in
-        subst (λ n. AreLower (take n (l ∷ ls)) × AreNoLower (drop n (l ∷ ls))) (sym (lower-yes l ls e))
-        ((ltb-true (front l) (place_front p) e, rest.0), rest.1))
-        (λ e. let le = ltb-false (front l) (place_front p) e in let all = no_lower l ls r le in
-        subst (λ n. AreLower (take n (l ∷ ls)) × AreNoLower (drop n (l ∷ ls))) (sym (none_lower (l ∷ ls) (le, all)))
-        (tt, (le, all)))
-        (cases_Bool (nat_lt (front l) (place_front p)))
-
-    alike-yes : (l : Separator) (ls : List Separator) → nat_eq (front l) (place_front p) ≡ true →
-        alike (l ∷ ls) ≡ suc (alike ls)
-    alike-yes l ls e = omega (arith, cond-true (nat_eq (front l) (place_front p)) (1 + alike ls) 0 e)
-
-    alike-no : (l : Separator) (ls : List Separator) → nat_eq (front l) (place_front p) ≡ false → alike (l ∷ ls) ≡ 0
-    alike-no l ls e = cond-false (nat_eq (front l) (place_front p)) (1 + alike ls) 0 e
-
-    -- behind the lower ones and those of the same front stand higher ones
-    higher_last : (ls : List Separator) → SeparatorsRise ls → AreNoLower ls → AreHigher (drop (alike ls) ls)
-    higher_last [] r a = tt
-    higher_last (l ∷ ls) r a =
-        ⊎_elim
-        (λ e. subst (λ n. AreHigher (drop n (l ∷ ls))) (sym (alike-yes l ls e)) (higher_last ls r.1 a.1))
-        (λ e. let differs = eqb-false (front l) (place_front p) e in
-        let lt : place_front p < front l = omega (arith, a.0, differs) in
-        subst (λ n. AreHigher (drop n (l ∷ ls))) (sym (alike-no l ls e)) (lt, higher l ls r lt))
-        (cases_Bool (nat_eq (front l) (place_front p)))
 
     -- lower ones, some that are reached so far, and higher ones
     reach_joined : (ls ms hs : List Separator) (r : ℕ) → AreLower ls → IsReach ms p.0 p.1 r → AreHigher hs →
@@ -260,30 +212,20 @@ module _ (law : (k l : OrderedKey) → key_front k < key_front l → key_cmp k l
 
       module _ (n m : ℕ) (first : n ≡ count_by (λ x. nat_lt x f) fs)
           (next : m ≡ prefix_len (λ x. nat_eq x f) (drop n fs)) where
-        first_is : n ≡ lower ls
-        first_is = first ∙ ap (λ g. count_by (λ x. nat_lt x g) fs) its ∙
-            ap (count_by (λ x. nat_lt x (place_front p))) theirs
-
-        next_is : m ≡ alike (drop n ls)
-        next_is = next ∙ ap (λ g. prefix_len (λ x. nat_eq x g) (drop n fs)) its ∙
-            ap (prefix_len (λ x. nat_eq x (place_front p))) (ap (drop n) theirs ∙ drop-map front n ls)
+        long : length fs ≡ length ls
+        long = ap length theirs ∙ length-map ls front
 
         first_within : n ≤ length ls
-        first_within = omega (
-          arith,
-          first_is,
-          count_by-le-length (λ x. nat_lt x (place_front p)) (fronts_of ls),
-          length-map ls front,
-        )
+        first_within = omega (arith, first, count_by-le-length (λ x. nat_lt x f) fs, long)
 
         pub both_within : n + m ≤ length ls
         both_within = omega (
           arith,
           first_within,
-          next_is,
-          prefix_len-le-length (λ x. nat_eq x (place_front p)) (fronts_of (drop n ls)),
-          length-map (drop n ls) front,
-          length-drop n ls,
+          next,
+          prefix_len-le-length (λ x. nat_eq x f) (drop n fs),
+          length-drop n fs,
+          long,
         )
 
         pub these_rise : SeparatorsRise (take m (drop n ls))
@@ -292,12 +234,20 @@ module _ (law : (k l : OrderedKey) → key_front k < key_front l → key_cmp k l
         -- those of the place's own front alone have to be looked at
         pub reach_by_fronts : (r : ℕ) → IsReach (take m (drop n ls)) p.0 p.1 r → IsReach ls p.0 p.1 (n + r)
         reach_by_fronts r h =
-            let below = subst (λ k. AreLower (take k ls) × AreNoLower (drop k ls)) (sym first_is)
-            (lower_first ls rise) in
-            let above = subst (λ k. AreHigher (drop k (drop n ls))) (sym next_is)
-            (higher_last (drop n ls) (rise-drop n ls rise) below.1) in
+            let falls = subst (NeverFalls (λ x. x)) (sym theirs) (fronts_rise ls rise) in
+            let parted = subst (λ k. AllByRecursion (λ x. x < f) (take k fs) ×
+            AllByRecursion (λ x. f ≤ x) (drop k fs)) (sym first) (lower_first (λ x. x) f fs falls) in
+            let behind = subst (λ k. AllByRecursion (λ x. f < x) (drop k (drop n fs))) (sym next)
+            (higher_last (λ x. x) f (drop n fs) (falls-drop (λ x. x) n fs falls) parted.1) in
+            let rest : drop n fs ≡ fronts_of (drop n ls) = ap (drop n) theirs ∙ drop-map front n ls in
+            let below = out_of_fronts (λ x. x < f) (take n ls) (take n fs) (ap (take n) theirs ∙ take-map front n ls)
+            parted.0 in
+            let above = out_of_fronts (λ x. f < x) (drop m (drop n ls)) (drop m (drop n fs))
+            (ap (drop m) rest ∙ drop-map front m (drop n ls)) behind in
             let whole : take n ls ++ (take m (drop n ls) ++ drop m (drop n ls)) ≡ ls =
             ap (λ l. take n ls ++ l) (take-append-drop m (drop n ls)) ∙ take-append-drop n ls in
             subst (λ k. IsReach ls p.0 p.1 (k + r)) (length-take-le n ls first_within)
             (subst (λ l. IsReach l p.0 p.1 (length (take n ls) + r)) whole
-            (reach_joined (take n ls) (take m (drop n ls)) (drop m (drop n ls)) r below.0 h above))
+            (reach_joined (take n ls) (take m (drop n ls)) (drop m (drop n ls)) r
+            (subst (λ k. AllByRecursion (λ l. front l < k) (take n ls)) its below) h
+            (subst (λ k. AllByRecursion (λ l. k < front l) (drop m (drop n ls))) its above)))

@@ -1,10 +1,22 @@
 -- One row after another is written over.
 use Rattle.std.proofs.Common.{◌≡◌, ℕ, suc, zero, ◌<◌, ◌≤◌, ◌+◌, List, [], ◌∷◌, length, take, slice_set, slice_index_or}
-use Rattle.std.proofs.Common.{refl, ap, arith, sym, ◌∙◌}
+use Rattle.std.proofs.Common.{refl, ap, arith, sym, subst, ◌∙◌}
 use Rattle.am_record.specs.OrderedKey.{OrderedKey}
 use Rattle.am_c.specs.declared.text.Record.{Record}
 use Rattle.am_c.specs.Texts.{record_as_text}
-use Rattle.am_c.specs.Telling.{rows_over}
+use Rattle.am_c.specs.Telling.{rows_in, rows_over}
+use Rattle.std.specs.Prelude.{Option, None, Some, Result, Ok, Err}
+use Rattle.am_record.specs.Interval.{Interval}
+use Rattle.am_record.specs.declared.step.Op.TheVariants.{Scan}
+use Rattle.am_record.specs.declared.step.Step.TheVariants.{Do}
+use Rattle.am_record.specs.declared.step.Reply.{Reply}
+use Rattle.am_record.specs.declared.step.Reply.TheVariants.{Rows}
+use Rattle.am_sound.specs.StoreState.{StoreState}
+use Rattle.am_core.specs.Standing.{IsWithin}
+use Rattle.am_c.specs.declared.status.Status.{Status}
+use Rattle.am_c.specs.Asking.{scan_asked, of_one}
+use Rattle.am_c.specs.Texts.{range_given}
+use Rattle.am_c.specs.Taking.{Answers}
 
 pub next_row : (pairs : List (OrderedKey × List ℕ)) (old : List Record) (i : ℕ) (d : OrderedKey × List ℕ) →
     i < length pairs → length pairs ≤ length old
@@ -24,3 +36,20 @@ writes_next pairs old rows i x r so h k is of =
     let more : suc i ≡ i + 1 = omega arith in
     (λ j. slice_set (so j) i ((of ∙ ap record_as_text (sym is)) j)) ∙ next_row pairs old i x h k ∙
     ap (λ (n : ℕ). rows_over (take n pairs) old) more
+
+-- a scan's reply has no more rows than were asked for
+reply_fits : (tx n : ℕ) (range : Interval) (reply : Reply) → IsWithin (Do tx (Scan range n)) reply →
+    length (rows_in (Ok reply)) ≤ n
+reply_fits tx n range (Rows rows) h = h
+reply_fits tx n range reply h = omega arith
+
+pub rows_fit : (old : Option StoreState) (tx n : ℕ) (lo hi : List ℕ) (answer : Result Reply Status)
+    (held : Option StoreState) → Answers old (scan_asked tx lo hi n) answer held → length (rows_in answer) ≤ n
+rows_fit old tx n lo hi answer held answers = by_range old (range_given lo hi) answers
+  where
+    by_range : (o : Option StoreState) (r : Result Interval Status) →
+        Answers o (of_one (λ (range : Interval). Do tx (Scan range n)) r) answer held → length (rows_in answer) ≤ n
+    by_range None r h = subst (λ (a : Result Reply Status). length (rows_in a) ≤ n) (sym h.0) (omega arith)
+    by_range (Some p) (Err why) h = subst (λ (a : Result Reply Status). length (rows_in a) ≤ n) (sym h.0) (omega arith)
+    by_range (Some p) (Ok range) h = subst (λ (a : Result Reply Status). length (rows_in a) ≤ n) (sym h.replied)
+        (reply_fits tx n range h.reply h.takes.owed.within)

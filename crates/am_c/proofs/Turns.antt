@@ -1,13 +1,16 @@
 -- Runs that are loaded one after another.
-use Rattle.std.proofs.Common.{◌≡◌, ◌≢◌, ℕ, ◌+◌, ◌^◌, ◌<◌, List, [], ◌∷◌, length, refl, sym, ap, subst, arith}
-use Rattle.std.proofs.Common.{length-append, take, drop}
+use Rattle.std.proofs.Common.{◌≡◌, ◌≢◌, ℕ, ◌+◌, ◌^◌, ◌<◌, List, [], ◌∷◌, length, Some, None}
+use Rattle.std.proofs.Common.{refl, sym, ap, subst, arith, length-append, take, drop, inl, inr}
+use Rattle.std.specs.Prelude.{slice_get}
+use Rattle.std.proofs.lemmas.Option.{none-some}
 use Rattle.std.proofs.lemmas.List.{take-append-drop}
 use Rattle.std.proofs.lemmas.List.Sorted.{length_permutation}
 use Rattle.am_record.specs.Plain.{Records}
 use Rattle.am_record.specs.declared.step.Op.TheVariants.{Load}
 use Rattle.am_record.specs.declared.step.Step.TheVariants.{Do}
 use Rattle.am_record.specs.declared.step.Reply.{Reply}
-use Rattle.am_record.specs.declared.step.Reply.TheVariants.{Done}
+use Rattle.am_record.specs.declared.step.Reply.TheVariants.{Done, Refused}
+use Rattle.am_record.specs.declared.step.Refusal.TheVariants.{NoMemory}
 use Rattle.am_runs.specs.Cuts.{AreRunsOf, records_of}
 use Rattle.am_sound.specs.StoreState.{StoreState}
 use Rattle.am_c.specs.Taking.{Takes}
@@ -34,23 +37,31 @@ refusal : (run : Records) (Others : StoreState → ℕ → Reply → StoreState 
 refusal run Others Done p not = absurd (not refl)
 refusal run Others first p not = (refl, refl, refl)
 
+-- the first of the runs that are left
+first_of : (rest : List Records) (run : Records) → Some run ≡ slice_get rest 0 → rest ≡ run ∷ drop 1 rest
+first_of [] run is = cc
+first_of (r ∷ rest) run is = let same : r ≡ run = cc in ap (λ (s : Records). s ∷ rest) same
+
 module _ (tx : ℕ) (all rest : List Records) (old p q : StoreState) (records : ℕ) (run : Records)
-    (others : List Records) (reply : Reply) (h : IsLoading tx all old rest records p) (is : rest ≡ run ∷ others)
+    (reply : Reply) (h : IsLoading tx all old rest records p) (next : Some run ≡ slice_get rest 0)
     (takes : Takes p (Do tx (Load run)) reply q) where
+  is : rest ≡ run ∷ drop 1 rest
+  is = first_of rest run next
+
   pub sum_fits : length (records_of all) < 2 ^ 64 → records + length run < 2 ^ 64
   sum_fits few = omega (
     arith,
     h.sum,
     few,
     ap (λ (rs : List Records). length (records_of rs)) is,
-    length-append run (records_of others),
+    length-append run (records_of (drop 1 rest)),
   )
 
-  pub goes_on : reply ≡ Done → IsLoading tx all old others (records + length run) q
+  pub goes_on : reply ≡ Done → IsLoading tx all old (drop 1 rest) (records + length run) q
   goes_on done = record {
     on = λ more last new turns.
-        let first : LoadInTurn tx (run ∷ others) p (length run + more) last new =
-        (Done, q, subst (λ (r : Reply). Takes p (Do tx (Load run)) r q) done takes, (more, refl, turns)) in
+        let first : LoadInTurn tx (run ∷ drop 1 rest) p (length run + more) last new =
+        inr (Done, q, subst (λ (r : Reply). Takes p (Do tx (Load run)) r q) done takes, (more, refl, turns)) in
         let all_more : records + (length run + more) ≡ records + length run + more = omega arith in
         subst (λ (n : ℕ). LoadInTurn tx all old n last new) all_more
         (h.on (length run + more) last new
@@ -59,25 +70,34 @@ module _ (tx : ℕ) (all rest : List Records) (old p q : StoreState) (records : 
       arith,
       h.sum,
       ap (λ (rs : List Records). length (records_of rs)) is,
-      length-append run (records_of others),
+      length-append run (records_of (drop 1 rest)),
     );
   }
 
   pub ends : reply ≢ Done → LoadInTurn tx all old records reply q
   ends not =
-      let first : LoadInTurn tx (run ∷ others) p 0 reply q =
-      (reply, q, takes, refusal run (LoadInTurn tx others) reply q not) in
+      let first : LoadInTurn tx (run ∷ drop 1 rest) p 0 reply q =
+      inr (reply, q, takes, refusal run (LoadInTurn tx (drop 1 rest)) reply q not) in
       let none : records + 0 ≡ records = omega arith in
       subst (λ (n : ℕ). LoadInTurn tx all old n reply q) none
       (h.on 0 reply q (subst (λ (rs : List Records). LoadInTurn tx rs p 0 reply q) (sym is) first))
 
+-- there is a run left, and no room for it
+pub has_no_room : (tx : ℕ) (all rest : List Records) (old p : StoreState) (records : ℕ) →
+    IsLoading tx all old rest records p → 0 < length rest → LoadInTurn tx all old records (Refused NoMemory) p
+has_no_room tx all [] old p records h left = absurd (omega (arith, left))
+has_no_room tx all (run ∷ rest) old p records h left =
+    let none : records + 0 ≡ records = omega arith in
+    subst (λ (n : ℕ). LoadInTurn tx all old n (Refused NoMemory) p) none
+    (h.on 0 (Refused NoMemory) p (inl (refl, refl, refl)))
+
 pub is_over : (tx : ℕ) (all rest : List Records) (old p : StoreState) (records : ℕ) →
-    IsLoading tx all old rest records p → length rest ≡ 0 → LoadInTurn tx all old records Done p
+    IsLoading tx all old rest records p → None ≡ slice_get rest 0 → LoadInTurn tx all old records Done p
 is_over tx all [] old p records h is =
     let none : records + 0 ≡ records = omega arith in
     subst (λ (n : ℕ). LoadInTurn tx all old n Done p) none
     (h.on 0 Done p (refl, refl, refl))
-is_over tx all (run ∷ rest) old p records h is = absurd (omega (arith, is))
+is_over tx all (run ∷ rest) old p records h is = absurd (none-some run is)
 
 -- the runs have as many records as were cut
 pub records_of_cut : (n : ℕ) (records : Records) (runs : List Records) → AreRunsOf n records runs →
@@ -92,11 +112,6 @@ records_of_cut n records (run ∷ runs) are = omega (
   length-append (take n records) (drop n records),
 )
 
-pub few : (n : ℕ) (records : Records) (runs copies : List Records) → AreRunsOf n records runs →
-    length records < 2 ^ 64 → copies ≡ runs → length (records_of copies) < 2 ^ 64
-few n records runs copies are low same = omega (
-  arith,
-  ap (λ (rs : List Records). length (records_of rs)) same,
-  records_of_cut n records runs are,
-  low,
-)
+pub few : (n : ℕ) (records : Records) (runs : List Records) → AreRunsOf n records runs → length records < 2 ^ 64 →
+    length (records_of runs) < 2 ^ 64
+few n records runs are low = omega (arith, records_of_cut n records runs are, low)

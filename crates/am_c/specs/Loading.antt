@@ -5,7 +5,8 @@ use Rattle.am_record.specs.Plain.{Records}
 use Rattle.am_record.specs.declared.step.Op.TheVariants.{Load}
 use Rattle.am_record.specs.declared.step.Step.TheVariants.{Do}
 use Rattle.am_record.specs.declared.step.Reply.{Reply}
-use Rattle.am_record.specs.declared.step.Reply.TheVariants.{Done, Exists}
+use Rattle.am_record.specs.declared.step.Reply.TheVariants.{Done, Exists, Refused}
+use Rattle.am_record.specs.declared.step.Refusal.TheVariants.{NoMemory}
 use Rattle.am_runs.specs.Cuts.{keys_of, IsCut, IsLeastTwice}
 use Rattle.am_runs.specs.declared.fault.LoadFault.{LoadFault}
 use Rattle.am_runs.specs.declared.fault.LoadFault.TheVariants as due
@@ -51,13 +52,23 @@ abbrev pub GoesOn : Records → (StoreState → ℕ → Reply → StoreState →
 GoesOn run Others Done p loaded reply new = (more : ℕ) × (loaded ≡ length run + more) × Others p more reply new
 GoesOn run Others first p loaded reply new = (loaded ≡ 0) × (reply ≡ first) × (new ≡ p)
 
--- the runs are loaded in turn, each by the store's own step, until one is refused: `loaded` records stand in front of
--- that one, and the reply is the last
+-- memory was refused for the next run, so that nothing is done any more
+abbrev pub HasNoRoom : StoreState → ℕ → Reply → StoreState → Type 0
+HasNoRoom old loaded reply new = (loaded ≡ 0) × (reply ≡ Refused NoMemory) × (new ≡ old)
+
+-- the store took the next run by a step of its own, and what comes behind that
+abbrev pub TakesRun : ℕ → Records → (StoreState → ℕ → Reply → StoreState → Type 0) → StoreState → ℕ → Reply →
+    StoreState → Type 0
+TakesRun tx run Others old loaded reply new =
+    (first : Reply) × (p : StoreState) × Takes old (Do tx (Load run)) first p
+    × GoesOn run Others first p loaded reply new
+
+-- the runs are loaded in turn, until one is refused or has no room: `loaded` records stand in front of that one, and
+-- the reply is the last
 abbrev pub LoadInTurn : ℕ → List Records → StoreState → ℕ → Reply → StoreState → Type 0
 LoadInTurn tx [] old loaded reply new = (loaded ≡ 0) × (reply ≡ Done) × (new ≡ old)
 LoadInTurn tx (run ∷ runs) old loaded reply new =
-    (first : Reply) × (p : StoreState) × Takes old (Do tx (Load run)) first p
-    × GoesOn run (LoadInTurn tx runs) first p loaded reply new
+    HasNoRoom old loaded reply new ⊎ TakesRun tx run (LoadInTurn tx runs) old loaded reply new
 
 -- the runs of what was given were loaded so
 pub record LoadsRuns (old : StoreState) (tx : ℕ) (given : Result Records Status) (loaded : ℕ) (reply : Reply)

@@ -39,6 +39,11 @@ without_first key (r ∷ rows) = cond (pointwise nat_eq (bytes_of r.0) key) rows
 abbrev pub rows_behind : List ℕ → ℕ → List (OrderedKey × List ℕ) → List (OrderedKey × List ℕ)
 rows_behind key max rows = take max (without_first key rows)
 
+-- the rows that an answer has
+abbrev pub rows_in : Result Reply Status → List (OrderedKey × List ℕ)
+rows_in (Ok (Rows rows)) = rows
+rows_in answer = []
+
 -- those of the rows that are chosen are written
 abbrev pub rows_told :
     (List (OrderedKey × List ℕ) → List (OrderedKey × List ℕ)) → Result Reply Status → List Record → List Record

@@ -4,7 +4,7 @@ ghost use Rattle.std.specs.Prelude.{◌≡◌, ◌≤◌, ◌+◌, length};
 ghost use Rattle.am_c.specs.Asking.{scan_asked, lock_asked, IsLoadAsked};
 ghost use Rattle.am_c.specs.Taking.{Tells, status, number};
 ghost use Rattle.am_c.specs.Telling.{all, without_first, rows_behind, rows_over, rows_told, count_told, key_told};
-ghost use Rattle.am_c.specs.Telling.{TellsLoad};
+ghost use Rattle.am_c.specs.Telling.{rows_in, TellsLoad};
 
 use crate::asking::{load_asked, lock_asked, scan_asked};
 use crate::handle::Handle;
@@ -30,14 +30,23 @@ pub extern "C" fn tiuvrokk_scan(
         × (rows.new ≡ rows_told all answer rows.old)) }
 {
     let answer = take_step(alloc, store, scan_asked(tx, lo, hi, rows.len() as u64));
-    if let Ok(Reply::Rows(pairs)) = &answer {
+    *told = tell_rows(&answer, rows);
+    status_told(&answer)
+}
+
+// Writes the rows of an answer, if it has any, over the first ones. The number that is told.
+fn tell_rows(answer: &Result<Reply, Status>, rows: &mut [Record]) -> u64
+    requires { length (rows_in answer.now) ≤ length rows.old }
+    ensures told { result ≡ count_told all answer.now }
+    ensures rows { rows.new ≡ rows_told all answer.now rows.old }
+{
+    if let Ok(Reply::Rows(pairs)) = answer {
         let pairs = pairs.as_slice();
         write_rows(pairs, rows);
-        *told = pairs.len() as u64;
+        pairs.len() as u64
     } else {
-        *told = number_told(&answer);
+        number_told(answer)
     }
-    status_told(&answer)
 }
 
 // Writes the pairs over the first rows.

@@ -1,11 +1,8 @@
 //! Records in any order: they are cut into runs, and these are loaded in turn.
 
-ghost use Rattle.std.specs.Prelude.{◌≡◌, ◌<◌, ◌^◌, ◌∷◌, [], Ok, Err, IfOk, IfErr, length};
-ghost use Rattle.am_runs.specs.Cuts.{IsCut, records_of};
-ghost use Rattle.am_c.specs.declared.runs.Fault.TheVariants.{Other};
-ghost use Rattle.am_c.specs.declared.status.Status.TheVariants.{NoMemory};
-ghost use Rattle.am_c.specs.Loading.{AreRuns, AreRunsGiven, fault_of, IsFault, LoadInTurn, Loads};
-ghost use Rattle.am_c.specs.Loading.{given_by, without_key, load_key_told};
+ghost use Rattle.std.specs.Prelude.{◌≡◌, ◌<◌, ◌^◌, [], Some, Ok, Err, length};
+ghost use Rattle.am_runs.specs.Cuts.{records_of};
+ghost use Rattle.am_c.specs.Loading.{fault_of, given_by, without_key, load_key_told, LoadInTurn, Loads};
 
 use crate::handle::Handle;
 use crate::status::Status;
@@ -13,9 +10,9 @@ use crate::taking::take_there;
 use crate::text::KeyText;
 use am_btree::BTree;
 use am_core::Store;
-use am_record::{Key, MAX_RUN_RECORDS, Op, Pairs, Reply, Step};
-use am_runs::{LoadFault, RecordSource, Run, cut_source};
-use std::alloc::{AllocError, AllocFailed, Global};
+use am_record::{Key, MAX_RUN_RECORDS, Op, Pairs, Refusal, Reply, Step};
+use am_runs::{Cut, LoadFault, RecordSource, cut_source};
+use std::alloc::Global;
 
 /// Why nothing is loaded.
 #[derive(Clone, Copy)]
@@ -24,22 +21,6 @@ pub enum Fault {
     Twice(Key),
     /// NoStore, NoMemory, or what is wrong with what was given.
     Other(Status),
-}
-
-impl From<AllocError> for Fault {
-    ghost from_gives = { λ _ fault. fault ≡ Other NoMemory };
-
-    fn from(_error: AllocError) -> Fault {
-        Fault::Other(Status::NoMemory)
-    }
-}
-
-impl<T: Drop> From<AllocFailed<T>> for Fault {
-    ghost from_gives = { λ _ fault. fault ≡ Other NoMemory };
-
-    fn from(_error: AllocFailed<T>) -> Fault {
-        Fault::Other(Status::NoMemory)
-    }
 }
 
 /// How a load ended.
@@ -64,13 +45,9 @@ pub(crate) fn load_given<S: RecordSource + Drop>(
     let Some(mut store) = handle.take(alloc) else {
         return not_loaded(Fault::Other(Status::NoStore));
     };
-    let loaded = match runs_given(alloc, given) {
-        Ok(runs) => {
-            let (records, reply) = load_in_turn(&mut store, tx, runs);
-            let answer = Ok(reply);
-            Loaded { records, answer }
-        }
-        Err(fault) => not_loaded(fault),
+    let loaded = match given {
+        Ok(source) => load_source(alloc, &mut store, tx, &source),
+        Err(why) => not_loaded(Fault::Other(why)),
     };
     handle.put(store);
     loaded
@@ -86,59 +63,62 @@ fn not_loaded(fault: Fault) -> Loaded
     }
 }
 
-// Each run by a step of its own: how many records were loaded, and the last reply.
-fn load_in_turn(store: &mut Box<Store<BTree>>, tx: u64, runs: Vec<Pairs>) -> (u64, Reply)
-    requires { length (records_of runs.items) < 2 ^ 64 }
-    ensures { LoadInTurn tx runs.items store.old.value result.0 result.1 store.new.value }
+// Loads the records of a source. Of none the store is asked for a run of none, which it refuses.
+fn load_source<S: RecordSource>(
+    alloc: Global,
+    store: &mut Box<Store<BTree>>,
+    tx: u64,
+    source: &S,
+) -> Loaded
+    ensures { Loads (Some store.old.value) tx (Ok (S.records source.now)) result.records result.answer
+        (Some store.new.value) }
 {
+    if source.len() == 0 {
+        return load_none(alloc, store, tx);
+    }
+    match cut_source(alloc, source, MAX_RUN_RECORDS) {
+        Ok(runs) => {
+            let (records, reply) = load_in_turn(alloc, store, tx, runs);
+            let answer = Ok(reply);
+            Loaded { records, answer }
+        }
+        Err(why) => not_loaded(fault_of(why)),
+    }
+}
+
+fn load_none(alloc: Global, store: &mut Box<Store<BTree>>, tx: u64) -> Loaded
+    ensures { Loads (Some store.old.value) tx (Ok []) result.records result.answer (Some store.new.value) }
+{
+    let none = Pairs::new(Vec::new(alloc));
+    Loaded {
+        records: 0,
+        answer: Ok(take_there(store, Step::Do(tx, Op::Load(none)))),
+    }
+}
+
+// Each run by a step of its own: how many records were loaded, and the last reply.
+fn load_in_turn<S: RecordSource>(
+    alloc: Global,
+    store: &mut Box<Store<BTree>>,
+    tx: u64,
+    runs: Cut<'_, S>,
+) -> (u64, Reply)
+    requires { length (records_of runs) < 2 ^ 64 }
+    ensures { LoadInTurn tx runs.entry store.old.value result.0 result.1 store.new.value }
+{
+    let mut runs = runs;
     let mut records = 0;
-    for run in runs {
+    loop {
+        let run = match runs.next(alloc) {
+            Ok(Some(run)) => Pairs::new(run.into_pairs()),
+            Ok(None) => return (records, Reply::Done),
+            Err(_) => return (records, Reply::Refused(Refusal::NoMemory)),
+        };
         let len = run.as_slice().len() as u64;
         match take_there(store, Step::Do(tx, Op::Load(run))) {
             Reply::Done => records += len,
             refused => return (records, refused),
         }
-    }
-    (records, Reply::Done)
-}
-
-// The runs of what was given.
-fn runs_given<S: RecordSource + Drop>(
-    alloc: Global,
-    given: Result<S, Status>,
-) -> Result<Vec<Pairs>, Fault>
-    ensures runs { IfOk result (λ runs. AreRunsGiven (given_by S.records given) runs.items) }
-    ensures few { IfOk result (λ runs. length (records_of runs.items) < 2 ^ 64) }
-    ensures fault { IfErr result (IsFault (given_by S.records given)) }
-{
-    match given {
-        Ok(source) => runs_of(alloc, source),
-        Err(why) => Err(Fault::Other(why)),
-    }
-}
-
-fn runs_of<S: RecordSource + Drop>(alloc: Global, source: S) -> Result<Vec<Pairs>, Fault>
-    ensures runs { IfOk result (λ runs. AreRuns (S.records source) runs.items) }
-    ensures few { IfOk result (λ runs. length (records_of runs.items) < 2 ^ 64) }
-    ensures fault { IfErr result (IsFault (Ok (S.records source))) }
-{
-    let len = source.len();
-    if len == 0 {
-        return one_run(alloc, Pairs::new(Vec::new(alloc)));
-    }
-    let runs = cut(alloc, &source)?;
-    drop(source);
-    pairs_of(alloc, runs)
-}
-
-// The runs of the records, of which there is one or more.
-fn cut<S: RecordSource>(alloc: Global, source: &S) -> Result<Vec<Run>, Fault>
-    ensures runs { IfOk result (λ runs. IsCut 65536 (S.records source.now) runs.items) }
-    ensures fault { IfErr result (IsFault (Ok (S.records source.now))) }
-{
-    match cut_source(alloc, source, MAX_RUN_RECORDS) {
-        Ok(runs) => Ok(runs),
-        Err(why) => Err(fault_of(why)),
     }
 }
 
@@ -150,27 +130,6 @@ fn fault_of(why: LoadFault) -> Fault
         LoadFault::Twice(key) => Fault::Twice(key),
         _ => Fault::Other(Status::NoMemory),
     }
-}
-
-fn one_run(alloc: Global, pairs: Pairs) -> Result<Vec<Pairs>, Fault>
-    ensures run { IfOk result (λ runs. runs.items ≡ pairs ∷ []) }
-    ensures fault { IfErr result (λ fault. fault ≡ Other NoMemory) }
-{
-    let mut runs = Vec::with_capacity(alloc, 1)?;
-    runs.push(pairs)?;
-    Ok(runs)
-}
-
-// The pairs of the runs, which a step takes.
-fn pairs_of(alloc: Global, runs: Vec<Run>) -> Result<Vec<Pairs>, Fault>
-    ensures pairs { IfOk result (λ pairs. pairs.items ≡ runs.items) }
-    ensures fault { IfErr result (λ fault. fault ≡ Other NoMemory) }
-{
-    let mut pairs = Vec::with_capacity(alloc, runs.len())?;
-    for run in runs {
-        pairs.push(Pairs::new(run.into_pairs()))?;
-    }
-    Ok(pairs)
 }
 
 /// The answer, without the key that stands twice.

@@ -13,7 +13,8 @@ use Rattle.am_locks.specs.Table.{locks_owned}
 use Rattle.am_tx.specs.Active.{is_active_in, log_in}
 use Rattle.am_tx.specs.Txs.{Txs, IsConsistent, txs_after_begin, txs_after_end, can_begin}
 use Rattle.am_tx.proofs.Consistent.{next-is-new}
-use Rattle.am_tx.proofs.Laws.{is_active_in-with_changed}
+use Rattle.am_record.proofs.Numbered.{has_number-with_changed}
+use Rattle.am_tx.specs.declared.transaction.Transaction.{Transaction}
 use Rattle.am_effect.specs.Laws.{taken_back}
 use Rattle.am_sound.specs.StoreState.{is_in, in_table, newcomer, IsFit, state_after}
 use Rattle.am_record.specs.declared.step.Step.TheVariants.{Begin, Commit, Abort}
@@ -93,7 +94,8 @@ fits_abort roomy t tx fits = subst (NotesFit roomy) (notes-actives (locks_owned 
 pub still_active : (t t' : Txs) (tx : ℕ) → HasNewLog t tx t' → is_active_in t.active tx ≡ true →
     is_active_in t'.active tx ≡ true
 still_active t t' tx new a = (λ i. is_active_in (new.written i).active tx) ∙
-    is_active_in-with_changed (λ x. record x { log = new.log }) tx tx t.active (λ x. refl) ∙ a
+    has_number-with_changed (λ (x : Transaction). x.number) (λ x. record x { log = new.log }) tx (λ x. refl) t.active
+    tx ∙ a
 
 pub aborted : (parts : Partitions) (t : Txs) (wishes : List Interval) (commits : ℕ) (parts' : Partitions) (t' t'' : Txs)
     (tx : ℕ)

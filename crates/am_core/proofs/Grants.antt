@@ -1,11 +1,12 @@
 -- What the table of locks answers, against what is due.
-use Rattle.std.proofs.Common.{◌≡◌, ◌≤◌, ◌<◌, inl, inr, ℕ, List, [], ◌∷◌, length, true, false, cond, not, ◌==◌, ◌&&◌}
+use Rattle.std.proofs.Common.{◌≡◌, ◌≤◌, ◌<◌, inl, inr, ℕ, [], length, true, false, not, ◌&&◌}
 use Rattle.std.proofs.Common.{Option, Some, None, refl, sym, ap, ◌∙◌, subst, ⊎_elim, arith}
 use Rattle.std.specs.Prelude.{nat_le}
 use Rattle.std.proofs.lemmas.Bool.{cases_Bool, and_left, and_right, le-leb, lt-leb, leb-true, leb-false}
 use Rattle.am_record.specs.Locks.{is_covered, with_lock}
 use Rattle.am_record.specs.declared.lock.Lock.{Lock}
 use Rattle.am_record.specs.declared.step.Refusal.TheVariants.{Busy, TooManyLocks, NoMemory}
+use Rattle.am_record.proofs.Owners.{none_blocks}
 use Rattle.am_locks.specs.Table.{locks_owned, with_locks, blockers}
 use Rattle.am_locks.specs.Answers.{IsLeastOf}
 use Rattle.am_locks.proofs.Laws.{locks_owned-with_locks, locks_owned-with_locks_other, is_owner-with_locks}
@@ -21,15 +22,11 @@ use Rattle.am_core.proofs.Actives.{owners_of-actives, rise-actives}
 
 -- ---- no lock is asked for
 
-none_blocks : (xs : List Active) (t : ℕ) → blocker_in xs t None ≡ None
-none_blocks [] t = refl
-none_blocks (x ∷ xs) t = ap (λ b. cond b (Some x.number) (blocker_in xs t None))
-    (and_right (not (t == x.number)) false refl) ∙ none_blocks xs t
-
 pub granted_nothing : (t : Txs) (tx : ℕ) (asked : Option Lock) → IsConsistent t → is_active_in t.active tx ≡ true →
     asked ≡ None → IsLockGranted t tx asked t
 granted_nothing t tx asked ok a e = subst (λ (o : Option Lock). IsLockGranted t tx o t) (sym e) (record {
-  due = ap (λ (o : Option ℕ). lock_refusal o false) (none_blocks (actives t) tx);
+  due = ap (λ (o : Option ℕ). lock_refusal o false) (none_blocks (λ (x : Active). x.number) (λ x. x.locks) (actives t)
+      tx);
   locks = record {
     begun = refl;
     active = refl;
@@ -90,9 +87,9 @@ module _ (t : Txs) (tx : ℕ) (lock : Lock) (ok : IsConsistent t) (laws : TableL
         locks = subst (λ (s : Txs). HasLocks t tx locks' s) (sym new) (record {
           begun = refl;
           active = refl;
-          owner = is_owner-with_locks t.locks tx tx locks' ∙ owner;
+          owner = is_owner-with_locks t.locks tx locks' tx ∙ owner;
           holds = locks_owned-with_locks t.locks tx locks' owner;
-          others = λ u d. locks_owned-with_locks_other t.locks tx u locks' d;
+          others = λ u d. locks_owned-with_locks_other t.locks tx locks' u d;
         });
       })
 

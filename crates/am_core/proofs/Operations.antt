@@ -1,5 +1,5 @@
 -- What an operation that is refused, that wants memory, and that is done leave of what is kept.
-use Rattle.std.proofs.Common.{◌≡◌, ◌≤◌, ◌<◌, ◌+◌, ◌++◌, ◌⊎◌, inl, inr, ℕ, List, length, map, take, Bool, true, false}
+use Rattle.std.proofs.Common.{◌≡◌, ◌≤◌, ◌<◌, ◌+◌, ◌++◌, ◌⊎◌, inl, inr, ℕ, List, length, take, Bool, true, false}
 use Rattle.std.proofs.Common.{cond, ◌||◌, Option, Some, None, refl, sym, ap, ◌∙◌, subst, ⊎_elim, arith}
 use Rattle.std.specs.Prelude.{nat_le, MatchOption}
 use Rattle.std.specs.FinMap.{get, contains_key}
@@ -25,7 +25,9 @@ use Rattle.am_record.specs.Marks.{since_mark, has_mark}
 use Rattle.am_locks.specs.Table.{locks_owned, with_locks}
 use Rattle.am_tx.specs.Active.{is_active_in, ops_in, log_in}
 use Rattle.am_tx.specs.Txs.{Txs, IsConsistent, with_log, txs_after_op}
-use Rattle.am_tx.proofs.Laws.{is_active_in-with_changed, of_active-kept}
+use Rattle.am_record.specs.Numbered.{with_changed}
+use Rattle.am_record.proofs.Numbered.{has_number-with_changed, of_number-kept}
+use Rattle.am_tx.specs.declared.transaction.Transaction.{Transaction}
 use Rattle.am_record.specs.Refusals.{refusal_before_lock, is_one_too_many, lock_refusal, or_else}
 use Rattle.am_serial.specs.Trace.{runs_made}
 use Rattle.am_effect.specs.Laws.{taken_back}
@@ -243,7 +245,7 @@ module _ (parts : Partitions) (t : Txs) (wishes : List Interval) (commits tx : �
     begun = t.begun;
     commits = commits;
     runs = parts.runs + runs_made op reply;
-    active = map (with_op tx op reply (noted parts.runs op reply parts.entries)) (actives t);
+    active = with_changed (λ x. x.number) (with_op op reply (noted parts.runs op reply parts.entries)) tx (actives t);
   }
   done_by (Refused why) h = absurd h
   done_by reply h = refl
@@ -308,14 +310,16 @@ module _ (parts : Partitions) (t : Txs) (wishes : List Interval) (commits tx : �
 pub active_then : (t t1 t2 : Txs) (tx : ℕ) (log : Log) → t1.active ≡ t.active → t2 ≡ with_log t1 tx log →
     is_active_in t.active tx ≡ true → is_active_in t2.active tx ≡ true
 active_then t t1 t2 tx log same written a =
-    (λ i. is_active_in (written i).active tx) ∙ is_active_in-with_changed (λ x. record x { log = log }) tx tx t1.active
-    (λ x. refl) ∙ (λ i. is_active_in (same i) tx) ∙ a
+    (λ i. is_active_in (written i).active tx) ∙ has_number-with_changed (λ (x : Transaction). x.number)
+    (λ x. record x { log = log }) tx
+    (λ x. refl) t1.active tx ∙ (λ i. is_active_in (same i) tx) ∙ a
 
 pub few_then : (t t1 t2 : Txs) (tx : ℕ) (log : Log) → t1.active ≡ t.active → t2 ≡ with_log t1 tx log →
     nat_le 4096 (ops_in t.active tx) ≡ false → ops_in t2.active tx < 4096
 few_then t t1 t2 tx log same written few =
     let less = leb-false 4096 (ops_in t.active tx) few in
     let is : ops_in t2.active tx ≡ ops_in t.active tx =
-    (λ i. ops_in (written i).active tx) ∙ of_active-kept (λ x. x.ops) 0 (λ x. record x { log = log }) tx tx t1.active
-    (λ x. refl) (λ x. refl) ∙ (λ i. ops_in (same i) tx) in
+    (λ i. ops_in (written i).active tx) ∙ of_number-kept (λ (x : Transaction). x.number) (λ x. record x { log = log })
+    tx (λ x. x.ops) 0
+    (λ x. refl) (λ x. refl) t1.active tx ∙ (λ i. ops_in (same i) tx) in
     omega (arith, less, is)

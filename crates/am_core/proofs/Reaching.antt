@@ -1,12 +1,11 @@
 -- What each step keeps of the store: where it stands, and its numbers.
-use Rattle.std.proofs.Common.{◌≡◌, ◌≤◌, ◌<◌, ◌+◌, ◌^◌, ◌++◌, ◌⊎◌, ℕ, suc, List, [], ◌∷◌, length, take, take_while, Bool}
-use Rattle.std.proofs.Common.{true, false, cond, not, ◌==◌, Option, Some, None, refl, sym, ap, ◌∙◌, subst, ⊎_elim}
+use Rattle.std.proofs.Common.{◌≡◌, ◌≤◌, ◌+◌, ◌^◌, ◌++◌, ◌⊎◌, ℕ, List, [], ◌∷◌, length, take, take_while, Bool}
+use Rattle.std.proofs.Common.{true, false, cond, ◌==◌, Option, Some, None, refl, sym, subst, ⊎_elim}
 use Rattle.std.proofs.Common.{arith, length-append}
 use Rattle.std.specs.Prelude.{MatchOption, MatchBool, is_none, nat_le, ◌&&◌}
-use Rattle.std.proofs.lemmas.Bool.{cases_Bool, or_cases, both_ways, false≢true, and_parts, leb-true}
+use Rattle.std.proofs.lemmas.Bool.{false≢true, and_parts, leb-true}
 use Rattle.std.specs.List.{prefix_len}
 use Rattle.std.proofs.lemmas.List.{length-take, length-map}
-use Rattle.std.proofs.lemmas.Cmp.{nat_eq_equiv}
 use Rattle.am_record.specs.Interval.{Interval, within}
 use Rattle.am_record.specs.Plain.{PlainMap, scan_rows, rows_where}
 use Rattle.am_record.specs.declared.entry.Entry.{Entry}
@@ -23,10 +22,10 @@ use Rattle.am_record.specs.Refusals.{is_limit}
 use Rattle.am_serial.specs.Trace.{Trace}
 use Rattle.am_effect.specs.Merging.{all_worked_off, candidates, MergeRight, AnswersFirst, AnswersCandidates, CleanRight}
 use Rattle.am_sound.specs.Represents.{stored_answer}
-use Rattle.am_sound.specs.StoreState.{StoreState, Active, MayAnswer, state_after, refusal_in, in_table, is_in}
-use Rattle.am_sound.specs.StoreState.{without_tx, newcomer, with_op, takes_memory, holder_in}
+use Rattle.am_sound.specs.StoreState.{StoreState, Active, MayAnswer, state_after, refusal_in, in_table}
+use Rattle.am_sound.specs.StoreState.{newcomer, with_op, takes_memory, holder_in}
 use Rattle.am_sound.specs.StateOf.{IsStateOf}
-use Rattle.am_core.specs.Keeping.{IsReached, state_kept}
+use Rattle.am_core.specs.Keeping.{IsReached, state_kept, active_with}
 use Rattle.am_locks.specs.Table.{locks_owned}
 use Rattle.am_parts.specs.Partitions.{Partitions}
 use Rattle.am_tx.specs.declared.transaction.Transaction.{Transaction}
@@ -34,7 +33,7 @@ use Rattle.am_tx.specs.Active.{is_active_in}
 use Rattle.am_tx.specs.Txs.{Txs}
 use Rattle.am_core.specs.Standing.{IsWithin}
 use Rattle.am_effect.specs.Store.{noted}
-use Rattle.am_core.proofs.Actives.{length-actives}
+use Rattle.am_record.proofs.Numbered.{length-without_number, length-without_one}
 use Rattle.am_core.proofs.Merges.{none_merged}
 
 -- ---- want of memory
@@ -80,30 +79,6 @@ pub record IsCounted (p : StoreState) : Type 0 where
   pub counted : p.commits + length p.active ≤ p.begun
   pub few_begun : p.begun ≤ 2 ^ 63
 
-no_more : (t : ℕ) (xs : List Active) → length (without_tx t xs) ≤ length xs
-no_more t [] = omega arith
-no_more t (x ∷ xs) =
-    let ih = no_more t xs in
-    elim (x.number == t) as (λ b. length (cond (not b) (x ∷ without_tx t xs) (without_tx t xs)) ≤ suc (length xs))
-    [ true ↦ omega arith | false ↦ omega arith ]
-
-one_less : (t : ℕ) (xs : List Active) → is_in xs t ≡ true → length (without_tx t xs) < length xs
-one_less t [] h = absurd (false≢true h)
-one_less t (x ∷ xs) h =
-    let most_left = no_more t xs in
-    ⊎_elim
-    (λ here. let gone : length (cond (not (x.number == t)) (x ∷ without_tx t xs) (without_tx t xs)) ≡ length
-    (without_tx t xs) = ap (λ b. length (cond (not b) (x ∷ without_tx t xs) (without_tx t xs))) here in
-    omega (arith, gone, most_left))
-    (λ other.
-    let later = ⊎_elim (λ yes. absurd (both_ways (t == x.number) (nat_eq_equiv.symm t x.number ∙ other) yes))
-    (λ rest. rest) (or_cases (t == x.number) (is_in xs t) h) in
-    let ih = one_less t xs later in
-    let stays : length (cond (not (x.number == t)) (x ∷ without_tx t xs) (without_tx t xs)) ≡ suc
-    (length (without_tx t xs)) = ap (λ b. length (cond (not b) (x ∷ without_tx t xs) (without_tx t xs))) other in
-    omega (arith, stays, ih))
-    (cases_Bool (x.number == t))
-
 pub counts : (p : StoreState) (step : Step) (reply : Reply) → IsCounted p → MayAnswer p step reply →
     IsCounted (state_after p step reply)
 counts p Begin (Begun t) c says = record {
@@ -117,18 +92,18 @@ counts p (Do t op) reply c says = record {
   counted = omega (
     arith,
     c.counted,
-    length-map p.active (with_op t op reply (noted p.runs op reply p.entries)),
+    length-map p.active (λ (x : Active). cond (x.number == t) (with_op op reply (noted p.runs op reply p.entries) x) x),
   );
   few_begun = c.few_begun;
 }
 counts p (Commit t) (Committed n) c says = record {
-  counted = omega (arith, c.counted, one_less t p.active says.0);
+  counted = omega (arith, c.counted, length-without_one (λ (x : Active). x.number) t p.active says.0);
   few_begun = c.few_begun;
 }
 counts p (Commit t) (Refused why) c says = c
 counts p (Commit t) reply c says = absurd says
 counts p (Abort t) Aborted c says = record {
-  counted = omega (arith, c.counted, no_more t p.active);
+  counted = omega (arith, c.counted, length-without_number (λ (x : Active). x.number) t p.active);
   few_begun = c.few_begun;
 }
 counts p (Abort t) (Refused why) c says = c
@@ -157,8 +132,7 @@ few_commits parts t wishes commits r = omega (
   arith,
   r.counted,
   r.few_begun,
-  length-actives (locks_owned t.locks)
-      t.active,
+  length-map t.active (active_with (locks_owned t.locks)),
 )
 
 pub some_active : (xs : List Transaction) (tx : ℕ) → is_active_in xs tx ≡ true → 1 ≤ length xs

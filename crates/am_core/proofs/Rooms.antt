@@ -1,9 +1,8 @@
 -- Room for values, from one step to the next.
-use Rattle.std.proofs.Common.{◌≡◌, ℕ, List, [], ◌∷◌, ◌++◌, length, map, Bool, true, false, cond, not, ◌==◌, ◌||◌}
-use Rattle.std.proofs.Common.{◌+◌, Option, Some, None, refl, sym, ap, ◌∙◌, subst, ⊎_elim}
+use Rattle.std.proofs.Common.{◌≡◌, ℕ, List, [], ◌∷◌, ◌++◌, length, map, true, false, cond, ◌==◌}
+use Rattle.std.proofs.Common.{Option, Some, None, refl, sym, ap, ◌∙◌, subst, ⊎_elim}
 use Rattle.std.specs.Option.{option_map}
-use Rattle.std.proofs.lemmas.Bool.{cases_Bool, cond-false, eqb-true, false≢true}
-use Rattle.std.proofs.lemmas.Cmp.{nat_eq_equiv}
+use Rattle.std.proofs.lemmas.Bool.{cases_Bool, cond_both, eqb-true, eqb-false}
 use Rattle.am_record.specs.OrderedKey.{OrderedKey}
 use Rattle.am_record.specs.EntryOrder.{Place}
 use Rattle.am_record.specs.declared.entry.Entry.{Entry}
@@ -11,7 +10,6 @@ use Rattle.am_record.specs.declared.step.Op.{Op}
 use Rattle.am_record.specs.declared.step.Op.TheVariants.{Insert, Replace, Delete, Load, Back}
 use Rattle.am_record.specs.declared.step.Step.{Step}
 use Rattle.am_record.specs.declared.step.Step.TheVariants.{Begin, Do, Commit, Abort, Merge, Clean}
-use Rattle.am_record.specs.Asks.{lock_of, with_asked}
 use Rattle.am_record.specs.declared.step.Reply.{Reply}
 use Rattle.am_record.specs.declared.step.Reply.TheVariants.{Begun, Committed, Aborted, Done, Refused}
 use Rattle.am_record.proofs.Lists.{AllByRecursion-append}
@@ -24,8 +22,11 @@ use Rattle.am_undo.specs.declared.note.Note.{Note}
 use Rattle.am_undo.specs.Log.{Log}
 use Rattle.am_undo.specs.Notes.{NoteFits, NotesFit}
 use Rattle.am_undo.proofs.Fits.{fits_on, fits_until}
-use Rattle.am_effect.specs.Store.{find_live, noted, notes_left, marks_left, note_of_slot, note_of_entry, is_live}
-use Rattle.am_sound.specs.StoreState.{Active, StoreState, IsFit, state_after, in_table, is_in, newcomer, with_op}
+use Rattle.am_effect.specs.Store.{find_live, noted, notes_left, note_of_slot, note_of_entry, is_live}
+use Rattle.am_record.proofs.Numbered.{of_number-none, of_number-without_other, has_number-without_number}
+use Rattle.am_record.proofs.Numbered.{changed_number}
+use Rattle.am_sound.specs.StoreState.{Active, StoreState, IsFit, state_after, state_after_op, in_table, is_in, newcomer}
+use Rattle.am_sound.specs.StoreState.{with_op}
 use Rattle.am_sound.specs.StoreState.{without_tx}
 use Rattle.am_core.specs.Memory.{outgrows_live}
 use Rattle.am_core.specs.Doing.{MayWantRoom}
@@ -88,56 +89,32 @@ left_fits roomy op reply marks notes fits = fits
 -- ---- the table of transactions
 
 not_there : (xs : List Active) (t : ℕ) → is_in xs t ≡ false → in_table xs t ≡ newcomer 0
-not_there [] t h = refl
-not_there (x ∷ xs) t h = by_number (t == x.number) (not_there xs t) h
-  where
-    by_number : (b : Bool) → (is_in xs t ≡ false → in_table xs t ≡ newcomer 0) → (b || is_in xs t) ≡ false →
-        cond b x (in_table xs t) ≡ newcomer 0
-    by_number true rest h = absurd (false≢true (sym h))
-    by_number false rest h = rest h
-
--- of the transaction of that number
-gone : (u t : ℕ) → (u == t) ≡ true → (xs : List Active) → in_table (without_tx u xs) t ≡ newcomer 0
-gone u t same [] = refl
-gone u t same (x ∷ xs) = by_number (x.number == u) refl (gone u t same xs)
-  where
-    by_number : (b : Bool) → (x.number == u) ≡ b → in_table (without_tx u xs) t ≡ newcomer 0 →
-        in_table (cond (not b) (x ∷ without_tx u xs) (without_tx u xs)) t ≡ newcomer 0
-    by_number true e rest = rest
-    by_number false e rest = cond-false (t == x.number) x (in_table (without_tx u xs) t)
-        (ap (λ n. n == x.number) (sym (eqb-true u t same)) ∙ nat_eq_equiv.symm u x.number ∙ e) ∙ rest
-
--- and of another
-stays : (u t : ℕ) → (u == t) ≡ false → (xs : List Active) → in_table (without_tx u xs) t ≡ in_table xs t
-stays u t other [] = refl
-stays u t other (x ∷ xs) = by_number (x.number == u) refl (stays u t other xs)
-  where
-    by_number : (b : Bool) → (x.number == u) ≡ b → in_table (without_tx u xs) t ≡ in_table xs t →
-        in_table (cond (not b) (x ∷ without_tx u xs) (without_tx u xs)) t ≡ in_table (x ∷ xs) t
-    by_number true e rest = rest ∙ sym (cond-false (t == x.number) x (in_table xs t)
-        (nat_eq_equiv.symm t x.number ∙ ap (λ n. n == t) (eqb-true x.number u e) ∙ other))
-    by_number false e rest = ap (cond (t == x.number) x) rest
+not_there xs t = of_number-none (λ (x : Active). x.number) (λ x. x) (newcomer 0) t xs
 
 -- what holds of no notes and of those of the transaction of that number holds of them after a begin, an end, and a
 -- change that keeps it
 module _ (P : List Note → Type 0) (none : P []) (t : ℕ) where
   begun : (xs : List Active) (n : ℕ) → P (in_table xs t).notes → P (in_table (xs ++ newcomer n ∷ []) t).notes
-  begun [] n h = elim (t == n) as (λ b. P (cond b (newcomer n) (newcomer 0)).notes) [ true ↦ none | false ↦ none ]
-  begun (x ∷ xs) n h = (elim (t == x.number) as (λ b. P (cond b x (in_table xs t)).notes →
+  begun [] n h = elim (n == t) as (λ b. P (cond b (newcomer n) (newcomer 0)).notes) [ true ↦ none | false ↦ none ]
+  begun (x ∷ xs) n h = (elim (x.number == t) as (λ b. P (cond b x (in_table xs t)).notes →
       P (cond b x (in_table (xs ++ newcomer n ∷ []) t)).notes) [ true ↦ λ k. k | false ↦ λ k. begun xs n k ]) h
 
   changed_by : (f : Active → Active) → ((x : Active) → (f x).number ≡ x.number) →
       ((x : Active) → P x.notes → P (f x).notes) → (xs : List Active) → P (in_table xs t).notes →
       P (in_table (map f xs) t).notes
   changed_by f same on [] h = h
-  changed_by f same on (x ∷ xs) h = subst (λ n. P (cond (t == n) (f x) (in_table (map f xs) t)).notes) (sym (same x))
-      ((elim (t == x.number) as (λ b. P (cond b x (in_table xs t)).notes →
+  changed_by f same on (x ∷ xs) h = subst (λ n. P (cond (n == t) (f x) (in_table (map f xs) t)).notes) (sym (same x))
+      ((elim (x.number == t) as (λ b. P (cond b x (in_table xs t)).notes →
       P (cond b (f x) (in_table (map f xs) t)).notes) [ true ↦ on x | false ↦ changed_by f same on xs ]) h)
 
   ended : (u : ℕ) (xs : List Active) → P (in_table xs t).notes → P (in_table (without_tx u xs) t).notes
   ended u xs h = ⊎_elim
-      (λ same. subst (λ (y : Active). P y.notes) (sym (gone u t same xs)) none)
-      (λ other. subst (λ (y : Active). P y.notes) (sym (stays u t other xs)) h)
+      (λ same.
+      let off = subst (λ n. is_in (without_tx u xs) n ≡ false) (eqb-true u t same)
+      (has_number-without_number (λ (x : Active). x.number) u xs) in
+      subst (λ (y : Active). P y.notes) (sym (not_there (without_tx u xs) t off)) none)
+      (λ other. subst (λ (y : Active). P y.notes) (sym (of_number-without_other (λ (x : Active). x.number) (λ x. x)
+      (newcomer 0) u xs t (λ e. eqb-false u t other (sym e)))) h)
       (cases_Bool (u == t))
 
 -- ---- one step
@@ -145,37 +122,21 @@ module _ (P : List Note → Type 0) (none : P []) (t : ℕ) where
 module _ (p : StoreState) (before : List Place) (rising : IsRising p.entries) (have : HaveRoom p.entries before)
     (fits : (t : ℕ) → NotesFit before (in_table p.active t).notes) where
   does : (u : ℕ) (op : Op) (reply : Reply) (t : ℕ) → NotesFit before
-      (in_table (map (with_op u op reply (noted p.runs op reply p.entries)) p.active) t).notes
-  does u op reply t = changed_by (NotesFit before) tt t (with_op u op reply new) same on p.active (fits t)
-    where
-      new : List Note
-      new = noted p.runs op reply p.entries
-
-      same : (x : Active) → (with_op u op reply new x).number ≡ x.number
-      same x = elim (u == x.number) as (λ b. (cond b (record x {
-        ops = x.ops + 1;
-        locks = with_asked x.locks (lock_of op);
-        notes = new ++ notes_left op reply x.marks x.notes;
-        marks = marks_left op reply (length x.notes) x.marks;
-      }) x).number ≡ x.number) [ true ↦ refl | false ↦ refl ]
-
-      on : (x : Active) → NotesFit before x.notes → NotesFit before (with_op u op reply new x).notes
-      on x h = elim (u == x.number) as (λ b. NotesFit before (cond b (record x {
-        ops = x.ops + 1;
-        locks = with_asked x.locks (lock_of op);
-        notes = new ++ notes_left op reply x.marks x.notes;
-        marks = marks_left op reply (length x.notes) x.marks;
-      }) x).notes) [
-        | true ↦ AllByRecursion-append (NoteFits before) new (notes_left op reply x.marks x.notes)
-            (noted_fits p.entries before rising have p.runs op reply) (left_fits before op reply x.marks x.notes h)
-        | false ↦ h
-      ]
+      (in_table (state_after_op p u op reply).active t).notes
+  does u op (Refused why) t = fits t
+  does u op reply t =
+      let new = noted p.runs op reply p.entries in
+      changed_by (NotesFit before) tt t (λ (x : Active). cond (x.number == u) (with_op op reply new x) x)
+      (changed_number (λ (x : Active). x.number) (with_op op reply new) u (λ x. refl))
+      (λ x h. cond_both (x.number == u) (with_op op reply new x) x (λ (y : Active). NotesFit before y.notes)
+      (λ _. AllByRecursion-append (NoteFits before) new (notes_left op reply x.marks x.notes)
+      (noted_fits p.entries before rising have p.runs op reply) (left_fits before op reply x.marks x.notes h)) (λ _. h))
+      p.active (fits t)
 
   -- the values that are noted after the step had room before it
   had_room : (step : Step) (reply : Reply) (t : ℕ) → NotesFit before
       (in_table (state_after p step reply).active t).notes
   had_room Begin (Begun n) t = begun (NotesFit before) tt t p.active n (fits t)
-  had_room (Do u op) (Refused why) t = fits t
   had_room (Do u op) reply t = does u op reply t
   had_room (Commit u) (Committed c) t = ended (NotesFit before) tt t u p.active (fits t)
   had_room (Abort u) Aborted t = ended (NotesFit before) tt t u p.active (fits t)

@@ -57,7 +57,12 @@ pub struct Gate<'a> {
 }
 
 impl<'a> Gate<'a> {
-    pub(crate) fn new(door: &'a Door, is_stopped: &'a AtomicBool, mode: Mode) -> Gate<'a> {
+    /// The gate at a door, which is closed where the flag says that a stop was asked for.
+    pub(crate) fn new(door: &'a Door, is_stopped: &'a AtomicBool, mode: Mode) -> Gate<'a>
+        ensures door { result.door ≡ door.entry }
+        ensures stop { result.is_stopped ≡ is_stopped.entry }
+        ensures mode { result.mode ≡ mode }
+    {
         Gate {
             door,
             is_stopped,

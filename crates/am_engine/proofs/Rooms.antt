@@ -1,7 +1,8 @@
 -- Room in the trace after a step.
-use Rattle.std.proofs.Common.{◌≡◌, ℕ, suc, ◌+◌, ◌-◌, ◌<◌, ◌≤◌, ◌==◌, min, if◌then◌else◌, List, [], ◌∷◌, length, Bool}
+use Rattle.std.proofs.Common.{◌≡◌, ℕ, ◌+◌, ◌-◌, ◌<◌, ◌≤◌, min, if◌then◌else◌, List, [], ◌∷◌, length, Bool}
 use Rattle.std.proofs.Common.{true, false}
-use Rattle.std.proofs.Common.{not, ◌||◌, Option, Some, None, IsSome, refl, subst, arith, length-append}
+use Rattle.std.proofs.Common.{Option, Some, None, IsSome, refl, subst, arith, length-append}
+use Rattle.am_record.proofs.Numbered.{length-without_one}
 use Rattle.am_record.specs.declared.step.Step.{Step}
 use Rattle.am_record.specs.declared.step.Refusal.TheVariants.{NoMemory}
 use Rattle.am_record.specs.declared.step.Reply.{Reply}
@@ -9,29 +10,11 @@ use Rattle.am_record.specs.declared.step.Reply.TheVariants.{Refused}
 use Rattle.am_engine.specs.declared.change.Change.{Change}
 use Rattle.am_engine.specs.declared.change.Change.TheVariants.{Begins, Ends, Nothing}
 use Rattle.am_engine.specs.Changes.{change, end_of, is_begin, is_refused, numbers_with, active_in_trace, has}
-use Rattle.am_engine.specs.Changes.{without_number, MayFollow}
+use Rattle.am_engine.specs.Changes.{MayFollow}
 use Rattle.am_engine.specs.EngineFields.{most_positions}
 use Rattle.am_engine.specs.Traces.{ends_after}
 use Rattle.am_engine.specs.Wants.{pairs_needed}
 use Rattle.am_engine.proofs.Replies.{refused_nothing, begins_begin}
-
-keep_length : (b : Bool) (u : ℕ) (us : List ℕ) (n : ℕ) → length us ≤ n → length (if not b then u ∷ us else us) ≤ suc n
-keep_length true u us n h = omega arith
-keep_length false u us n h = omega arith
-
-pub length_without : (t : ℕ) (ts : List ℕ) → length (without_number t ts) ≤ length ts
-length_without t [] = omega arith
-length_without t (u ∷ us) = keep_length (u == t) u (without_number t us) (length us) (length_without t us)
-
-fewer_with : (b : Bool) (u : ℕ) (us : List ℕ) (n : ℕ) (c : Bool) → length us ≤ n → (c ≡ true → suc (length us) ≤ n) →
-    (b || c) ≡ true → suc (length (if not b then u ∷ us else us)) ≤ suc n
-fewer_with true u us n c le lt e = omega arith
-fewer_with false u us n c le lt e = let l = lt e in omega arith
-
-pub fewer : (t : ℕ) (ts : List ℕ) → has t ts ≡ true → suc (length (without_number t ts)) ≤ length ts
-fewer t [] h = absurd (cc)
-fewer t (u ∷ us) h = fewer_with (u == t) u (without_number t us) (length us) (has t us) (length_without t us)
-    (fewer t us) h
 
 -- the state of the room: so many pairs and ends, and so much capacity
 pub record Roomy (ts : List ℕ) (ends len cap : ℕ) : Type 0 where
@@ -47,7 +30,7 @@ after_effect ts ends len cap begin (Begins t) r is active_in_trace room =
     (room (λ u x. absurd (cc))) in
     (omega arith, record { enough = omega (arith, length-append ts (t ∷ []), r.enough); fits = omega arith })
 after_effect ts ends len cap begin (Ends t) r is active_in_trace room =
-    let less = fewer t ts (active_in_trace t refl) in (
+    let less = length-without_one (λ u. u) t ts (active_in_trace t refl) in (
       omega (arith, r.enough, r.fits),
       record {
         enough = omega (arith, r.enough);

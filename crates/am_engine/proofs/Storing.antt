@@ -1,9 +1,8 @@
 -- What a step of the store does to its active transactions, and how long its reply may be.
-use Rattle.std.proofs.Common.{◌≡◌, ◌⊎◌, ℕ, ◌+◌, ◌≤◌, ◌==◌, List, [], ◌∷◌, ◌++◌, length, map, Bool, true, false, not}
-use Rattle.std.proofs.Common.{cond, if◌then◌else◌, Option, Some, None, refl, sym, ap, ◌∙◌, subst, ⊎_elim, arith, eq-eqb}
-use Rattle.std.proofs.Common.{ne_eqb}
-use Rattle.std.specs.Prelude.{nat_le, ◌||◌}
-use Rattle.std.proofs.lemmas.Bool.{and_parts, not-false, eqb-true}
+use Rattle.std.proofs.Common.{◌≡◌, ◌⊎◌, ℕ, ◌+◌, ◌≤◌, List, [], ◌∷◌, ◌++◌, length, map, Bool, true, false, not}
+use Rattle.std.proofs.Common.{cond, if◌then◌else◌, Option, Some, None, refl, sym, ap, ◌∙◌, subst, ⊎_elim, arith}
+use Rattle.std.specs.Prelude.{nat_le}
+use Rattle.std.proofs.lemmas.Bool.{and_parts, not-false}
 use Rattle.std.proofs.lemmas.List.{map-append}
 use Rattle.am_record.specs.declared.step.Op.{Op}
 use Rattle.am_record.specs.declared.step.Op.TheVariants.{Get, Scan, Insert, Replace, Delete, Load, Lock as TakeLock}
@@ -23,14 +22,14 @@ use Rattle.am_serial.specs.Trace as serial
 use Rattle.am_record.specs.Refusals.{is_bounded, is_one_too_many}
 use Rattle.am_serial.specs.Machine.{state_at, due_early, locks_in}
 use Rattle.am_serial.specs.Sound.{IsAnswerOf, IsBusy, FormedDo, FormedAt, EachEvent}
-use Rattle.am_record.specs.Asks.{lock_of, with_asked}
-use Rattle.am_effect.specs.Store.{notes_left, marks_left}
+use Rattle.am_record.specs.Asks.{lock_of}
 use Rattle.am_sound.specs.StoreState.{Active, StoreState, MayAnswer, IsFit, state_after, with_op, without_tx, is_in}
 use Rattle.am_sound.specs.StoreState.{newcomer}
-use Rattle.am_sound.proofs.Actives.{kept_number}
+use Rattle.am_record.specs.Numbered.{with_changed, without_number}
+use Rattle.am_record.proofs.Numbered.{has_number-map, numbers-with_changed, without_number-map}
 use Rattle.am_core.specs.Standing.{IsSoundAt, Extends, IsWithin}
 use Rattle.am_engine.specs.declared.change.Change.TheVariants.{Ends, Nothing}
-use Rattle.am_engine.specs.Changes.{change, end_of, room_of, count_rows, moves_in, has, without_number, numbers_with}
+use Rattle.am_engine.specs.Changes.{change, end_of, room_of, count_rows, moves_in, has, numbers_with}
 use Rattle.am_engine.specs.Changes.{active_from, numbers_active, HasTrace, MayFollow, IsBoundedReply, TakesStep}
 use Rattle.am_engine.proofs.Replies.{why_refused, did_nothing}
 use Rattle.am_engine.proofs.Fitting.{fits_formed}
@@ -42,36 +41,16 @@ active_from-snoc ts (q ∷ qs) p = active_from-snoc (numbers_with ts (change q.0
 
 -- ---- the numbers of the active transactions
 
-flip : (b : Bool) (t u : ℕ) → (t == u) ≡ b → (u == t) ≡ (t == u)
-flip true t u e = let same = eqb-true t u e in eq-eqb u t (sym same) ∙ sym e
-flip false t u e = ne_eqb u t (λ s. let is = eq-eqb t u (sym s) in absurd (cc)) ∙ sym e
-
 has_is_in : (t : ℕ) (xs : List Active) → has t (map (λ (x : Active). x.number) xs) ≡ is_in xs t
-has_is_in t [] = refl
-has_is_in t (x ∷ xs) = (λ i. flip (t == x.number) t x.number refl i || has_is_in t xs i)
-
-did_number : (t : ℕ) (op : Op) (r : Reply) (new : List Note) (x : Active) → (with_op t op r new x).number ≡ x.number
-did_number t op r new x = kept_number (t == x.number) x record x {
-  ops = x.ops + 1;
-  locks = with_asked x.locks (lock_of op);
-  notes = new ++ notes_left op r x.marks x.notes;
-  marks = marks_left op r (length x.notes) x.marks;
-} refl
+has_is_in t xs = has_number-map (λ (x : Active). x.number) (λ u. u) (λ x. x.number) (λ x. refl) xs t
 
 did_numbers : (t : ℕ) (op : Op) (r : Reply) (new : List Note) (xs : List Active) →
-    map (λ (x : Active). x.number) (map (with_op t op r new) xs) ≡ map (λ (x : Active). x.number) xs
-did_numbers t op r new [] = refl
-did_numbers t op r new (x ∷ xs) = (λ i. did_number t op r new x i ∷ did_numbers t op r new xs i)
+    map (λ (x : Active). x.number) (with_changed (λ x. x.number) (with_op op r new) t xs) ≡ map (λ x. x.number) xs
+did_numbers t op r new = numbers-with_changed (λ x. x.number) (with_op op r new) t (λ x. refl)
 
-kept_numbers : (b : Bool) (x : Active) (xs : List Active) (ns : List ℕ) → map (λ (y : Active). y.number) xs ≡ ns →
-    map (λ (y : Active). y.number) (if b then x ∷ xs else xs) ≡ (if b then x.number ∷ ns else ns)
-kept_numbers true x xs ns e = ap (λ l. x.number ∷ l) e
-kept_numbers false x xs ns e = e
-
-ended_numbers : (t : ℕ) (xs : List Active) → map (λ (x : Active). x.number) (without_tx t xs) ≡ without_number t
-    (map (λ (x : Active). x.number) xs)
-ended_numbers t [] = refl
-ended_numbers t (x ∷ xs) = kept_numbers (not (x.number == t)) x (without_tx t xs) _ (ended_numbers t xs)
+ended_numbers : (t : ℕ) (xs : List Active) → map (λ (x : Active). x.number) (without_tx t xs) ≡ without_number (λ u. u)
+    t (map (λ (x : Active). x.number) xs)
+ended_numbers t xs = sym (without_number-map (λ (x : Active). x.number) (λ u. u) (λ x. x.number) (λ x. refl) t xs)
 
 numbers_after : (p : StoreState) (st : Step) (r : Reply) → numbers_active (state_after p st r) ≡ numbers_with
     (numbers_active p) (change st r)

@@ -1,8 +1,8 @@
 -- What a step with its reply does to the transactions, and which are active after a trace.
-use Rattle.std.specs.Prelude.{◌≡◌, ℕ, ◌==◌, ◌≤◌, nat_le, List, [], ◌∷◌, ◌++◌, length, map, Bool, true, false}
-use Rattle.std.specs.Prelude.{if◌then◌else◌, not, filter, Option, Some, None}
-use Rattle.std.specs.List.{list_any}
+use Rattle.std.specs.Prelude.{◌≡◌, ℕ, ◌≤◌, nat_le, List, [], ◌∷◌, ◌++◌, length, map, Bool, true, false}
+use Rattle.std.specs.Prelude.{if◌then◌else◌, Option, Some, None}
 use Rattle.am_record.specs.Limits.{max_limit, max_rows}
+use Rattle.am_record.specs.Numbered.{has_number, without_number}
 use Rattle.am_record.specs.declared.step.Op.TheVariants.{Scan}
 use Rattle.am_record.specs.declared.step.Step.{Step}
 use Rattle.am_record.specs.declared.step.Step.TheVariants.{Begin, Do, Commit, Abort}
@@ -61,15 +61,12 @@ moves_in (Moved n run) = n
 moves_in _ = 0
 
 abbrev pub has : ℕ → List ℕ → Bool
-has t ts = list_any (λ (u : ℕ). u == t) ts
-
-abbrev pub without_number : ℕ → List ℕ → List ℕ
-without_number t ts = filter (λ (u : ℕ). not (u == t)) ts
+has t ts = has_number (λ u. u) ts t
 
 -- the active transactions after that
 abbrev pub numbers_with : List ℕ → Change → List ℕ
 numbers_with ts (Begins t) = ts ++ t ∷ []
-numbers_with ts (Ends t) = without_number t ts
+numbers_with ts (Ends t) = without_number (λ u. u) t ts
 numbers_with ts Nothing = ts
 
 abbrev pub active_from : List ℕ → Trace → List ℕ

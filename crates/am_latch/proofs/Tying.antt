@@ -1,15 +1,16 @@
 -- The seats' transactions after a call.
-use Rattle.std.proofs.Common.{◌≡◌, ◌≢◌, ℕ, ◌+◌, ◌==◌, if◌then◌else◌, List, [], ◌∷◌, ◌++◌, length, Bool, true, false}
-use Rattle.std.proofs.Common.{not, ◌||◌, Option, Some, None, refl, sym, ap, ◌∙◌, subst, eq-eqb, zero-add}
-use Rattle.std.proofs.lemmas.Bool.{eqb-true, eqb-false, or_left, or_right}
+use Rattle.std.proofs.Common.{◌≡◌, ◌≢◌, ℕ, ◌+◌, ◌==◌, List, [], ◌∷◌, ◌++◌, length, Bool, true, false}
+use Rattle.std.proofs.Common.{◌||◌, Option, Some, None, refl, sym, ap, ◌∙◌, subst, eq-eqb, zero-add}
+use Rattle.std.proofs.lemmas.Bool.{eqb-true, eqb-false, both_ways, or_left, or_right}
 use Rattle.std.proofs.lemmas.List.Folds.{list_any-append}
+use Rattle.am_record.specs.Numbered.{without_number}
 use Rattle.am_record.specs.Sessions.{IsAllowed}
 use Rattle.am_record.specs.declared.step.Step.{Step}
 use Rattle.am_record.specs.declared.step.Step.TheVariants.{Begin, Do, Commit, Abort, Merge, Clean}
 use Rattle.am_record.specs.declared.step.Reply.{Reply}
 use Rattle.am_engine.specs.declared.change.Change.{Change}
 use Rattle.am_engine.specs.declared.change.Change.TheVariants.{Begins, Ends, Nothing}
-use Rattle.am_engine.specs.Changes.{change, end_of, numbers_with, active_in_trace, has, without_number, open_after}
+use Rattle.am_engine.specs.Changes.{change, end_of, numbers_with, active_in_trace, has, open_after}
 use Rattle.am_engine.specs.Changes.{MayFollow}
 use Rattle.am_latch.specs.declared.receipt.Receipt.{Receipt}
 use Rattle.am_engine.specs.declared.call_id.CallId.{CallId}
@@ -17,6 +18,7 @@ use Rattle.am_engine.specs.Traces.{CallLog, log_with}
 use Rattle.am_latch.specs.Receipts.{receipt, receipts_of}
 use Rattle.am_latch.specs.Ties.{open_from, open_of, AreTied, open_in, IsTied}
 use Rattle.am_latch.proofs.Places.{mine_more, others_same}
+use Rattle.am_record.proofs.Numbered.{has_number-without_number, has_number-without_other}
 use Rattle.am_engine.proofs.Replies.{begins_begin, ends_end, did_nothing}
 use Rattle.am_engine.proofs.Storing.{active_from-snoc}
 
@@ -37,28 +39,12 @@ has_new u t ts e = has_push u t ts ∙ or_right (has u ts) (has u (t ∷ [])) (r
 one_is : (u t : ℕ) → has u (t ∷ []) ≡ true → t ≡ u
 one_is u t h = or_cases (t == u) false h (λ e. eqb-true t u e) (λ e. absurd (cc))
 
-stay : (u t v : ℕ) (vs ws : List ℕ) (b : Bool) → (v == t) ≡ b → u ≢ t → (has u vs ≡ true → has u ws ≡ true) →
-    ((v == u) || has u vs) ≡ true → has u (if not b then v ∷ ws else ws) ≡ true
-stay u t v vs ws true is apart ih h = or_cases (v == u) (has u vs) h
-    (λ e. absurd (apart (sym (eqb-true v u e) ∙ eqb-true v t is))) ih
-stay u t v vs ws false is apart ih h = or_cases (v == u) (has u vs) h (λ e. or_left (v == u) (has u ws) e)
-    (λ e. or_right (v == u) (has u ws) (ih e))
-
-has_rest : (u t : ℕ) (ts : List ℕ) → u ≢ t → has u ts ≡ true → has u (without_number t ts) ≡ true
-has_rest u t [] apart h = absurd (cc)
-has_rest u t (v ∷ vs) apart h = stay u t v vs (without_number t vs) (v == t) refl apart (has_rest u t vs apart) h
-
-was : (u t v : ℕ) (vs ws : List ℕ) (b : Bool) → (v == t) ≡ b → (has u ws ≡ true → (has u vs ≡ true) × (u ≢ t)) →
-    has u (if not b then v ∷ ws else ws) ≡ true → (((v == u) || has u vs) ≡ true) × (u ≢ t)
-was u t v vs ws true is ih h = let i = ih h in (or_right (v == u) (has u vs) i.0, i.1)
-was u t v vs ws false is ih h =
-    or_cases (v == u) (has u ws) h
-    (λ e. (or_left (v == u) (has u vs) e, λ x. eqb-false v t is (eqb-true v u e ∙ x)))
-    (λ e. let i = ih e in (or_right (v == u) (has u vs) i.0, i.1))
-
-was_there : (u t : ℕ) (ts : List ℕ) → has u (without_number t ts) ≡ true → (has u ts ≡ true) × (u ≢ t)
-was_there u t [] h = absurd (cc)
-was_there u t (v ∷ vs) h = was u t v vs (without_number t vs) (v == t) refl (was_there u t vs) h
+was_there : (u t : ℕ) (ts : List ℕ) → has u (without_number (λ v. v) t ts) ≡ true → (has u ts ≡ true) × (u ≢ t)
+was_there u t ts h =
+    let left = without_number (λ v. v) t ts in
+    let apart : u ≢ t = λ e. both_ways (has t left) (has_number-without_number (λ v. v) t ts)
+    (ap (λ v. has v left) (sym e) ∙ h) in
+    (sym (has_number-without_other (λ v. v) t ts u apart) ∙ h, apart)
 
 by_cases : {P : Type 0} (b : Bool) (k s : ℕ) → (k == s) ≡ b → (k ≡ s → P) → (k ≢ s → P) → P
 by_cases true k s is here there = here (eqb-true k s is)
@@ -89,12 +75,13 @@ tied_begin o p ts s t h receipts others before empty_log = record {
 }
 
 tied_end : (o p : ℕ → Option ℕ) (ts : List ℕ) (s t : ℕ) → AreTied o ts → p s ≡ None → ((k : ℕ) → k ≢ s → p k ≡ o k) →
-    o s ≡ Some t → AreTied p (without_number t ts)
+    o s ≡ Some t → AreTied p (without_number (λ v. v) t ts)
 tied_end o p ts s t h receipts others before = record {
   active = λ k u e. same_or k s
       (λ x. let at_s : p k ≡ p s = ap p x in absurd (cc))
-      (λ x. has_rest u t ts (λ y. x (h.apart k s u (sym (others k x) ∙ e) (before ∙ ap (λ (n : ℕ). Some n) (sym y))))
-      (h.active k u (sym (others k x) ∙ e)));
+      (λ x. has_number-without_other (λ v. v) t ts u
+      (λ y. x (h.apart k s u (sym (others k x) ∙ e) (before ∙ ap (λ (n : ℕ). Some n) (sym y))))
+      ∙ h.active k u (sym (others k x) ∙ e));
   apart = λ k l u e f. same_or k s
       (λ x. let at_s : p k ≡ p s = ap p x in absurd (cc))
       (λ x. same_or l s (λ y. let at_s : p l ≡ p s = ap p y in absurd (cc))

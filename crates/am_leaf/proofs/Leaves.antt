@@ -1,7 +1,8 @@
 -- How many entries a leaf has.
-use Rattle.std.proofs.Common.{◌≡◌, List, [], ◌^◌, ◌<◌, length, sym, ap, ◌∙◌, arith}
+use Rattle.std.proofs.Common.{◌≡◌, List, [], ◌^◌, ◌<◌, length, sym, ap, ◌∙◌, subst, arith}
 use Rattle.std.proofs.lemmas.List.{nil_from_length}
 use Rattle.am_record.specs.declared.entry.Entry.{Entry}
+use Rattle.am_list.specs.Entries.{IsRising}
 use Rattle.am_leaf.specs.declared.leaf.RawLeaf.TheInside.{Inside}
 use Rattle.am_leaf.specs.Leaf.{entries, IsLeaf}
 use Rattle.am_leaf.proofs.BitLemmas.{pow_mono}
@@ -13,6 +14,9 @@ module _ (a : Inside) (held : IsLeaf a) where
 
   pub counted : (es : List Entry) → entries a ≡ es → length es ≡ a.len
   counted es seen = sym (ap length seen) ∙ length-entries_of a.places.items a.values.items a.ghosts alike ∙ held.places
+
+  pub rising : (es : List Entry) → entries a ≡ es → IsRising es
+  rising es seen = subst IsRising seen held.rising
 
   -- the highest bit is free
   pub room_in_ghosts : a.len < 32 → a.ghosts < 2 ^ 31

@@ -8,4 +8,5 @@ pub mod BitLemmas
 pub mod Memory
 pub mod Moves
 pub mod Rising
+pub mod Stretches
 pub mod Zips

@@ -1,6 +1,8 @@
 pub mod Blocks
 pub mod Changes
 pub mod Columns
+pub mod Fronts
+pub mod Stretch
 pub mod Seen
 pub mod Runs
 pub mod ValueKinds

@@ -15,6 +15,7 @@ ghost use Rattle.am_record.specs.OrderedKey.{bytes_of};
 use crate::bits::{change_bit, has_bit, insert_bit, next_bit, remove_bit, split_bits};
 use crate::longest::longest;
 use crate::places::Places;
+use crate::stretch::stretch;
 use crate::values::Values;
 use am_record::{Entry, Key, NoMemory, Value};
 use std::alloc::Global;
@@ -160,8 +161,7 @@ impl RawLeaf {
         ensures absent { IfErr result (IsGapFor self.now.entries part key) }
         ensures rising { IsRising self.now.entries }
     {
-        let mut low = 0;
-        let mut high = self.len();
+        let (mut low, mut high) = stretch(&self.places, self.len, part, &key);
         while low < high {
             let middle = low + (high - low) / 2;
             match self.cmp_at(middle, part, key) {

@@ -6,6 +6,7 @@ mod block;
 mod leaf;
 mod longest;
 mod places;
+mod stretch;
 mod values;
 
 pub use leaf::RawLeaf;

@@ -3,7 +3,9 @@
 ghost use Rattle.std.specs.Prelude.{◌≡◌, ◌<◌, ◌≤◌, [], length, take, drop, IfOk, OnOk, OnErr, slice_index_or};
 ghost use Rattle.std.specs.Prelude.{◌+◌, ◌∷◌, ◌++◌};
 ghost use Rattle.std.specs.List.{insert, remove};
+ghost use Rattle.am_record.specs.EntryOrder.{Place};
 ghost use Rattle.am_record.specs.OrderedKey.{bytes_of};
+ghost use Rattle.am_leaf.specs.Fronts.{front_in_part, count_lower, count_alike};
 ghost use Rattle.am_leaf.specs.Seen.{KeysFit};
 ghost use Rattle.am_leaf.specs.Runs.{places_of};
 
@@ -87,6 +89,46 @@ impl Places {
                 let _ = place.1.bytes();
                 place
             }
+        }
+    }
+
+    /// The partition of the place at `at`, and the front of its key.
+    pub(crate) fn front(&self, at: usize) -> (u32, u64)
+        requires { at < length self.now.items }
+        ensures { (d : Place) → result ≡ front_in_part (slice_index_or self.now.items at d) }
+    {
+        match &self.kind {
+            Kind::Short(places) => {
+                let place = places.get(at);
+                (place.0, place.1.front())
+            }
+            Kind::Wide(places) => {
+                let place = places.get(at);
+                (place.0, place.1.front())
+            }
+        }
+    }
+
+    /// How many of the keys have a front below the one.
+    pub(crate) fn count_lower(&self, len: usize, front: u64) -> usize
+        requires { len ≡ length self.now.items }
+        ensures { result ≡ count_lower front self.now.items }
+    {
+        match &self.kind {
+            Kind::Short(places) => count_lower_short(places, len, front),
+            Kind::Wide(places) => count_lower_wide(places, len, front),
+        }
+    }
+
+    /// How many of the keys from `at` on have just that front, up to the first that hasn't.
+    pub(crate) fn count_alike(&self, at: usize, len: usize, front: u64) -> usize
+        requires all { len ≡ length self.now.items }
+        requires in_range { at ≤ len }
+        ensures { result ≡ count_alike front (drop at self.now.items) }
+    {
+        match &self.kind {
+            Kind::Short(places) => count_alike_short(places, at, len, front),
+            Kind::Wide(places) => count_alike_wide(places, at, len, front),
         }
     }
 
@@ -257,4 +299,57 @@ fn extend_wide(places: &mut Block<(u32, Key)>, len: usize, part: u32, pairs: &[(
     for (at, pair) in pairs.iter().enumerate() {
         places.push(len + at, (part, pair.0));
     }
+}
+
+// How many of the short keys have a front below the one. No step depends on what a comparison says, so the memory of
+// all of them is asked for at once.
+fn count_lower_short(places: &Block<(u32, ShortKey)>, len: usize, front: u64) -> usize
+    requires { len ≡ length places.now }
+    ensures { result ≡ count_lower front places.now }
+{
+    let mut lower = 0;
+    for at in 0..len {
+        lower += usize::from(places.get(at).1.front() < front);
+    }
+    lower
+}
+
+// The same of keys of any length.
+fn count_lower_wide(places: &Block<(u32, Key)>, len: usize, front: u64) -> usize
+    requires { len ≡ length places.now }
+    ensures { result ≡ count_lower front places.now }
+{
+    let mut lower = 0;
+    for at in 0..len {
+        lower += usize::from(places.get(at).1.front() < front);
+    }
+    lower
+}
+
+// How many of the short keys from `from` on have just that front.
+fn count_alike_short(places: &Block<(u32, ShortKey)>, from: usize, len: usize, front: u64) -> usize
+    requires all { len ≡ length places.now }
+    requires in_range { from ≤ len }
+    ensures { result ≡ count_alike front (drop from places.now) }
+{
+    for at in from..len {
+        if places.get(at).1.front() != front {
+            return at - from;
+        }
+    }
+    len - from
+}
+
+// The same of keys of any length.
+fn count_alike_wide(places: &Block<(u32, Key)>, from: usize, len: usize, front: u64) -> usize
+    requires all { len ≡ length places.now }
+    requires in_range { from ≤ len }
+    ensures { result ≡ count_alike front (drop from places.now) }
+{
+    for at in from..len {
+        if places.get(at).1.front() != front {
+            return at - from;
+        }
+    }
+    len - from
 }

@@ -28,7 +28,8 @@ use Rattle.am_locks.proofs.Buckets.{is_at-from_within}
 use Rattle.am_locks.proofs.Counting.{none_counted, count_by-le-count_by, one, one_more, may_clash-counted}
 use Rattle.am_locks.proofs.Counting.{AreCountsOf-same}
 use Rattle.am_locks.proofs.Filtering.{none_of}
-use Rattle.am_locks.proofs.Places.{none_leave}
+use Rattle.am_record.proofs.Lists.{AllByRecursion-from_All}
+use Rattle.am_record.proofs.Numbered.{has_number-none, without_number-none}
 
 -- ---- counts of the locks of all owners
 
@@ -93,7 +94,9 @@ leaves : (p : Lock → Bool) (h : OwnerLocks) (table : List OwnerLocks) (tx : �
 leaves p h table tx true e a rest =
     let others : All (λ (g : OwnerLocks). g.owner ≢ tx) table = λ k d less w.
     (a k d less).numbers (eqb-true h.owner tx e ∙ sym w) in
-    ap (λ gs. count_by p (h.locks ++ all_locks gs)) (sym (none_leave table tx others))
+    ap (λ gs. count_by p (h.locks ++ all_locks gs)) (sym (without_number-none (λ (g : OwnerLocks). g.owner) tx table
+    (has_number-none (λ (g : OwnerLocks). g.owner) tx table
+    (AllByRecursion-from_All (λ (g : OwnerLocks). g.owner ≢ tx) table others))))
 leaves p h table tx false e a rest =
     let own = locks_owned table tx in
     let left = all_locks (without_owner table tx) in

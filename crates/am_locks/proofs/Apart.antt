@@ -12,7 +12,7 @@ use Rattle.am_record.specs.Interval.{within}
 use Rattle.am_record.specs.Locks.{conflicts, is_covered, is_exclusive, with_lock}
 use Rattle.am_record.specs.declared.lock.Lock.{Lock}
 use Rattle.am_locks.specs.OwnerLocks.{OwnerLocks, has_conflict, is_exclusive_at, NoConflicts, AreApart}
-use Rattle.am_locks.specs.Table.{is_owner, locks_owned, entered, relocked, with_locks, blockers, exclusive_holders}
+use Rattle.am_locks.specs.Table.{is_owner, locks_owned, entered, with_locks, blockers, exclusive_holders}
 use Rattle.am_locks.specs.Table.{AreAllApart}
 use Rattle.am_locks.proofs.Conflicts.{NoConflicts-comm, exclusive-conflicts}
 
@@ -73,7 +73,8 @@ pub AreAllApart-with_locks : (table : List OwnerLocks) (tx : ℕ) (locks : List 
     All (Spares tx locks) table → AreAllApart (with_locks table tx locks)
 AreAllApart-with_locks [] tx locks a s = tt
 AreAllApart-with_locks (h ∷ table) tx locks a s = (
-  All-map (AreApart (relocked tx locks h)) (relocked tx locks) table
+  All-map (AreApart (cond (h.owner == tx) (record h { locks = locks }) h))
+      (λ (g : OwnerLocks). cond (g.owner == tx) (record g { locks = locks }) g) table
       (λ k d b. apart tx locks h (get_or table k d) _ _ refl refl (All-head (Spares tx locks) h table s)
       (All-tail (Spares tx locks) h table s k d b) (a.0 k d b)),
   AreAllApart-with_locks table tx locks a.1 (All-tail (Spares tx locks) h table s),

@@ -1,7 +1,8 @@
 -- A table of locks: its owners in the order in which they entered.
-use Rattle.std.specs.Prelude.{ℕ, ◌==◌, List, [], ◌∷◌, ◌++◌, Bool, cond, not, map, filter}
-use Rattle.std.specs.List.{list_any, All}
+use Rattle.std.specs.Prelude.{ℕ, List, [], ◌∷◌, ◌++◌, Bool, map, filter}
+use Rattle.std.specs.List.{All}
 use Rattle.am_record.specs.OrderedKey.{OrderedKey}
+use Rattle.am_record.specs.Numbered.{has_number, of_number, with_changed, without_number}
 use Rattle.am_record.specs.declared.lock.Lock.{Lock}
 use Rattle.am_locks.specs.OwnerLocks.{OwnerLocks, blocks, is_exclusive_at, AreApart}
 
@@ -11,27 +12,23 @@ owner_numbers table = map (λ (h : OwnerLocks). h.owner) table
 
 -- whether the transaction is an owner
 abbrev pub is_owner : List OwnerLocks → ℕ → Bool
-is_owner table tx = list_any (λ (h : OwnerLocks). h.owner == tx) table
+is_owner table tx = has_number (λ (h : OwnerLocks). h.owner) table tx
 
 -- the locks of the transaction, none where it is no owner
 abbrev pub locks_owned : List OwnerLocks → ℕ → List Lock
-locks_owned [] tx = []
-locks_owned (h ∷ table) tx = cond (h.owner == tx) h.locks (locks_owned table tx)
+locks_owned table tx = of_number (λ (h : OwnerLocks). h.owner) (λ h. h.locks) [] table tx
 
 -- the table with one more owner, which holds nothing yet
 abbrev pub entered : List OwnerLocks → ℕ → List OwnerLocks
 entered table tx = table ++ record { owner = tx; locks = [] } ∷ []
 
-abbrev pub relocked : ℕ → List Lock → OwnerLocks → OwnerLocks
-relocked tx locks h = cond (h.owner == tx) (record { owner = h.owner; locks = locks }) h
-
 -- the table with these locks as those of the transaction
 abbrev pub with_locks : List OwnerLocks → ℕ → List Lock → List OwnerLocks
-with_locks table tx locks = map (relocked tx locks) table
+with_locks table tx locks = with_changed (λ (h : OwnerLocks). h.owner) (λ h. record h { locks = locks }) tx table
 
 -- the table without the transaction
 abbrev pub without_owner : List OwnerLocks → ℕ → List OwnerLocks
-without_owner table tx = filter (λ (h : OwnerLocks). not (h.owner == tx)) table
+without_owner table tx = without_number (λ (h : OwnerLocks). h.owner) tx table
 
 -- the numbers of the other owners that hold a lock which conflicts with the asked one
 abbrev pub blockers : List OwnerLocks → ℕ → Lock → List ℕ

@@ -12,7 +12,7 @@ use Rattle.am_record.specs.Interval.{Interval, key_le, key_le-itself, within}
 use Rattle.am_record.specs.EntryOrder.{Place, place_of, place_cmp, place_cmp-total, place_cmp-equal}
 use Rattle.am_record.specs.declared.entry.Entry.{Entry}
 use Rattle.am_record.specs.declared.step.Reply.TheVariants.{Cleaned}
-use Rattle.am_record.proofs.Lists.{AllByRecursion-map, filter-yes, filter-no, none_first}
+use Rattle.am_record.proofs.Lists.{AllByRecursion-always, AllByRecursion-map, filter-yes, filter-no, none_first}
 use Rattle.am_record.proofs.Orderings.{lt_le}
 use Rattle.am_list.specs.Entries.{first_such, entry_at, find, remove_entry, IsRising}
 use Rattle.am_list.specs.Content.{content}
@@ -26,7 +26,7 @@ use Rattle.am_effect.proofs.Maintenance.{clean_maintains}
 use Rattle.am_effect.proofs.Knowing.{known_laws}
 use Rattle.am_merge.specs.Walks.{later, is_from, ghost_from, GoesOnAt}
 use Rattle.am_merge.specs.Steps.{is_cleanable, HasPassedNone}
-use Rattle.am_merge.proofs.Firsts.{comes_to, All-zip, All-any, All-passed, none_under, first_comes, first_is}
+use Rattle.am_merge.proofs.Firsts.{comes_to, All-zip, All-passed, none_under, first_comes, first_is}
 use Rattle.am_merge.proofs.Firsts.{first_head, no_head, a_head}
 use Rattle.am_merge.proofs.Walks.{le_trans, lo_le}
 use Rattle.am_merge.proofs.Passing.{take-next, drop-next}
@@ -186,7 +186,7 @@ module _ (es : List Entry) (held : Holders) (range : Interval) (rise : IsRising 
     pub walk_goes_down : (next : Place) → GoesOnAt es range e next → ahead_of es next < ahead_of es from
     walk_goes_down next on =
         fewer (is_from next) (is_from from) es e
-        (All-any (λ f. is_from next f ≡ true → is_from from f ≡ true)
+        (AllByRecursion-always (λ f. is_from next f ≡ true → is_from from f ≡ true)
         (λ f t. le_trans from next (place_of f) (le_trans from (place_of e) next is_wanted.0
         (lt_le (place_cmp (place_of e) next) on.above)) t) es)
         there is_wanted.0 (lt_not_le_back (place_of e) next on.above)
@@ -236,7 +236,7 @@ module _ (es : List Entry) (held : Holders) (range : Interval) (sound : AreWellF
     rises = sound.rising;
     passed = record {
       in_range = key_le-itself range.lo;
-      ahead = All-any (λ f. is_ours f ≡ true → is_from (0, range.lo) f ≡ true)
+      ahead = AllByRecursion-always (λ f. is_ours f ≡ true → is_from (0, range.lo) f ≡ true)
           (λ f t. lo_le range.lo 0 f (omega arith) (and_parts (key_le range.lo f.key) (key_le f.key range.hi)
           (passes_in f t)).0) es;
     };

@@ -27,10 +27,6 @@ pub All-zip : {X : Type 0} (P Q : X → Type 0) (xs : List X) → AllByRecursion
 All-zip P Q [] a b = tt
 All-zip P Q (x ∷ xs) a b = ((a.0, b.0), All-zip P Q xs a.1 b.1)
 
-pub All-any : {X : Type 0} (P : X → Type 0) → ((x : X) → P x) → (xs : List X) → AllByRecursion P xs
-All-any P f [] = tt
-All-any P f (x ∷ xs) = (f x, All-any P f xs)
-
 -- what holds of those that pass a test
 pub All-passed : (P : Entry → Type 0) (test : Entry → Bool) (es : List Entry) → AllByRecursion P (filter test es) →
     AllByRecursion (λ e. test e ≡ true → P e) es

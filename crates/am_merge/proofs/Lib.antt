@@ -6,6 +6,7 @@ mod Rooms
 pub mod Passing
 pub mod Skipping
 pub mod Stretches
+pub mod Leaving
 pub mod Merging
 pub mod Replies
 pub mod Cleaning

@@ -28,14 +28,16 @@ use Rattle.am_effect.proofs.Maintenance.{above_none}
 use Rattle.am_effect.proofs.Next.{candidates-left}
 use Rattle.am_parts.specs.Partitions.{AreWellFormed, all_gone_home, IsStretch as IsStretchOf}
 use Rattle.am_parts.specs.Partitions.{FirstNeedsRoom as FirstNeedsRoomOf}
+use Rattle.am_parts.specs.Merged.{HasNoneBefore}
 use Rattle.am_parts.proofs.Neighbours.{absent_unless}
 use Rattle.am_merge.specs.Walks.{in_parts_from}
-use Rattle.am_merge.specs.Steps.{IsAsFar, is_free_in}
+use Rattle.am_merge.specs.Steps.{IsAsFar, is_free_in, go_on_outside}
 use Rattle.am_merge.proofs.Firsts.{first_head, a_head, All-zip}
 use Rattle.am_merge.proofs.Homing.{ghost_goes, all_home}
 use Rattle.am_merge.proofs.Walks.{le_part}
 use Rattle.am_merge.proofs.Passing.{passing, passing_on, within_limit}
 use Rattle.am_merge.proofs.Rooms.{runs_stood}
+use Rattle.am_merge.proofs.Leaving.{run_ends, none_up_to}
 use Rattle.am_merge.proofs.Stretches.{may_move, front_of_front, IsStretch, read_stretch}
 
 abbrev is_candidate : Interval → Entry → Bool
@@ -256,6 +258,21 @@ module _ {es : List Entry} (sound : AreWellFormed es) (held : Holders) (limit : 
           IsStretch cur held run range left (take free batch)
       is_stretch counted = read_stretch cur cur_rising held range run (subst (λ r. 1 ≤ r) at (first_run first found))
           still_none_before left batch free (read ∙ (λ i. take 16 (cleared i ++ all_from cur run (is_lo i)))) counted
+
+      -- where the batch goes on outside the range behind those that went home, nothing is left up to the run
+      pub has_none_left : (count m : ℕ) (cur' : List Entry) → count < 16 → m ≡ n + count →
+          IsOnTheWay es held limit run range cur' m → go_on_outside range (drop count batch) ≡ true →
+          HasNoneBefore cur' range (run + 1)
+      has_none_left count m cur' short sum on out =
+          let left_then : drop count (candidates cur range) ≡ candidates cur' range =
+          ap (drop count) cur_candidates ∙ drop-drop count n (candidates es range) ∙
+          ap (λ i. drop i (candidates es range)) (sym sum) ∙
+          sym (ap (λ l. candidates l range) on.entries ∙
+          candidates-left range m es (candidates es range) sound.rising refl) in
+          none_up_to run cur' range (subst (AllByRecursion (λ e. run < e.part)) left_then
+          (run_ends cur cur_rising held range run (subst (λ r. 1 ≤ r) at (first_run first found)) still_none_before
+          count short (subst (λ l. go_on_outside range (drop count l) ≡ true)
+          (read ∙ (λ i. take 16 (cleared i ++ all_from cur run (is_lo i)))) out)))
 
     -- at the limit
     pub is_full : limit ≤ n → IsAsFar es held limit run (candidates es range) n

@@ -16,13 +16,13 @@ use Rattle.am_record.specs.Interval.{Interval, key_le, within}
 use Rattle.am_record.specs.EntryOrder.{place_of, place_cmp, place_cmp-same}
 use Rattle.am_record.specs.declared.entry.Entry.{Entry}
 use Rattle.am_record.proofs.KeyOrder.{key_le_trans}
-use Rattle.am_record.proofs.Lists.{AllByRecursion-map, filter-yes, filter-no}
+use Rattle.am_record.proofs.Lists.{AllByRecursion-always, AllByRecursion-map, filter-yes, filter-no}
 use Rattle.am_record.proofs.Outcomes.{same_test}
 use Rattle.am_list.specs.Entries.{all_from, IsRising}
 use Rattle.am_effect.specs.Merging.{Holders, candidates}
 use Rattle.am_merge.specs.Steps.{is_free_in}
 use Rattle.am_merge.specs.Walks.{in_parts_from}
-use Rattle.am_merge.proofs.Firsts.{All-any, All-passed}
+use Rattle.am_merge.proofs.Firsts.{All-passed}
 use Rattle.am_merge.proofs.Passing.{passing}
 use Rattle.am_merge.proofs.Walks.{le_part, same_part, ge_key}
 
@@ -131,7 +131,7 @@ module _ (es : List Entry) (rise : IsRising es) (held : Holders) (range : Interv
       (key_le_trans e.key f.key range.hi up keys.1))
       es rise
       ∙ filter_same (λ e. is_read e && within range e.key) in_run es
-      (All-any (λ e. (is_read e && within range e.key) ≡ in_run e)
+      (AllByRecursion-always (λ e. (is_read e && within range e.key) ≡ in_run e)
       (λ e. same_test (is_read e && within range e.key) (in_run e)
       (λ t. let p = and_parts (is_read e) (within range e.key) t in
       and_from (e.part == run) (within range e.key)
@@ -167,7 +167,7 @@ module _ (es : List Entry) (rise : IsRising es) (held : Holders) (range : Interv
       eq-eqb e.part run (omega arith))
       es rise
       ∙ filter_same (λ e. in_parts_from run range e && (e.part == run)) in_run es
-      (All-any (λ e. (in_parts_from run range e && (e.part == run)) ≡ in_run e)
+      (AllByRecursion-always (λ e. (in_parts_from run range e && (e.part == run)) ≡ in_run e)
       (λ e. same_test (in_parts_from run range e && (e.part == run)) (in_run e)
       (λ t. let p = and_parts (in_parts_from run range e) (e.part == run) t in
       and_from (e.part == run) (within range e.key) p.1 (and_parts (nat_le run e.part) (within range e.key) p.0).1)
@@ -176,12 +176,17 @@ module _ (es : List Entry) (rise : IsRising es) (held : Holders) (range : Interv
       and_from (in_parts_from run range e) (e.part == run)
       (and_from (nat_le run e.part) (within range e.key) (le-leb run e.part (omega arith)) p.1) p.0)) es)
 
+  -- those in the range with which the run begins are those of the run with which the candidates begin
+  pub in_run_front : take_while (λ e. within range e.key) (all_from es run range.lo) ≡
+      take_while (λ (e : Entry). e.part == run) (candidates es range)
+  in_run_front = read_front ∙ sym candidates_front
+
   -- those that are free with which the run begins are those with which the candidates begin
   one_front : take_while (is_free_in held range) (all_from es run range.lo) ≡ take_while (may_move held run)
       (candidates es range)
   one_front =
       take_while-both (λ e. within range e.key) (λ e. is_none (held e.key)) (all_from es run range.lo)
-      ∙ ap (take_while (λ e. is_none (held e.key))) (read_front ∙ sym candidates_front)
+      ∙ ap (take_while (λ e. is_none (held e.key))) in_run_front
       ∙ sym (take_while-both (λ e. e.part == run) (λ e. is_none (held e.key)) (candidates es range))
 
   -- what is read of them, `most` at most and sixteen

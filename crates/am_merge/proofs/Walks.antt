@@ -13,7 +13,7 @@ use Rattle.am_record.specs.OrderedKey.{OrderedKey, key_cmp, key_cmp-total}
 use Rattle.am_record.specs.Interval.{Interval, key_le, key_le-itself, within}
 use Rattle.am_record.specs.EntryOrder.{Place, place_of, place_cmp, place_cmp-total, place_cmp-part, place_cmp-same}
 use Rattle.am_record.specs.declared.entry.Entry.{Entry}
-use Rattle.am_record.proofs.Lists.{AllByRecursion-map}
+use Rattle.am_record.proofs.Lists.{AllByRecursion-always, AllByRecursion-map}
 use Rattle.am_record.proofs.PlaceOrder.{lower_part}
 use Rattle.am_record.proofs.Outcomes.{same_test}
 use Rattle.am_record.proofs.Orderings.{is_less, le_not_greater, ge_reversed, le_not_gt, not_gt_le, gt_reversed, lt_le}
@@ -25,7 +25,7 @@ use Rattle.am_list.proofs.WalkLaws.{first_stands}
 use Rattle.am_parts.specs.Merged.{HasNoneBefore}
 use Rattle.am_parts.specs.Partitions.{AreWellFormed}
 use Rattle.am_merge.specs.Walks.{in_parts_from, later, is_from, ghost_from, GoesOnAt}
-use Rattle.am_merge.proofs.Firsts.{comes_to, All-zip, All-any, first_same, none_under, first_comes, first_is}
+use Rattle.am_merge.proofs.Firsts.{comes_to, All-zip, first_same, none_under, first_comes, first_is}
 
 -- ---- orderings
 
@@ -121,7 +121,7 @@ module _ (es : List Entry) (rise : IsRising es) (range : Interval) (part : ℕ) 
 
   pub ended : next_any es part range.lo ≡ None → first_such (in_parts_from part range) es ≡ None
   ended none = none_under (in_parts_from part range) ahead es
-      (All-any (λ e. in_parts_from part range e ≡ true → ahead e ≡ true) in_ahead es) none
+      (AllByRecursion-always (λ e. in_parts_from part range e ≡ true → ahead e ≡ true) in_ahead es) none
 
   module _ (x : Entry) (found : next_any es part range.lo ≡ Some x) where
     on : part ≤ x.part
@@ -272,7 +272,7 @@ module _ (es : List Entry) (rise : IsRising es) (range : Interval) (x : Entry) (
     pub part_ends : None ≡ after es x.part x.key → None ≡ first_such (later_in_part range x) es
     part_ends found =
         sym (none_under (later_in_part range x) above_x es
-        (All-any (λ e. later_in_part range x e ≡ true → above_x e ≡ true) in_above es) (sym found))
+        (AllByRecursion-always (λ e. later_in_part range x e ≡ true → above_x e ≡ true) in_above es) (sym found))
 
     module _ (y : Entry) (found : Some y ≡ after es x.part x.key) where
       at_y : first_such above_x es ≡ Some y
@@ -379,7 +379,7 @@ module _ (es : List Entry) (rise : IsRising es) (range : Interval) (part : ℕ) 
 
   pub ghosts_end : None ≡ next_ghost es part key → None ≡ first_such wanted es
   ghosts_end none = sym (none_under wanted ghost_ahead es
-      (All-any (λ e. wanted e ≡ true → ghost_ahead e ≡ true) is_ahead es) (sym none))
+      (AllByRecursion-always (λ e. wanted e ≡ true → ghost_ahead e ≡ true) is_ahead es) (sym none))
 
   module _ (x : Entry) (found : Some x ≡ next_ghost es part key) where
     found_parts : (x.is_ghost ≡ true) × (is_ge (place_cmp (place_of x) from) ≡ true)

@@ -1,5 +1,5 @@
 -- How far a merge or a clean step has come.
-use Rattle.std.specs.Prelude.{◌≡◌, ◌⊎◌, ◌≤◌, ℕ, List, Bool, true, ◌&&◌, drop, is_none}
+use Rattle.std.specs.Prelude.{◌≡◌, ◌⊎◌, ◌≤◌, ℕ, List, [], ◌∷◌, Bool, true, not, ◌&&◌, drop, is_none}
 use Rattle.std.specs.List.{AllByRecursion}
 use Rattle.am_record.specs.Interval.{Interval, key_le, within}
 use Rattle.am_record.specs.EntryOrder.{Place}
@@ -15,6 +15,11 @@ pub record IsAsFar (es : List Entry) (held : Holders) (limit run : ℕ) (cs : Li
 -- a key of the range that nobody has exclusively locked
 abbrev pub is_free_in : Holders → Interval → Entry → Bool
 is_free_in held range e = within range e.key && is_none (held e.key)
+
+-- the entries go on outside the range, if at all
+abbrev pub go_on_outside : Interval → List Entry → Bool
+go_on_outside range [] = true
+go_on_outside range (e ∷ es) = not (within range e.key)
 
 -- a ghost in the range that nobody has exclusively locked
 abbrev pub is_cleanable : Holders → Interval → Entry → Bool

@@ -1,14 +1,15 @@
 //! Merge steps.
 
-ghost use Rattle.std.specs.Prelude.{◌≡◌, ◌≤◌, Some, take, take_while, length};
+ghost use Rattle.std.specs.Prelude.{◌≡◌, ◌≤◌, ◌+◌, true, Some, take, take_while, length};
 ghost use Rattle.am_list.specs.Content.{content};
 ghost use Rattle.am_list.specs.Entries.{first_such};
 ghost use Rattle.am_list.specs.Rooms.{HaveRoom, KeepRoom};
+ghost use Rattle.am_parts.specs.Merged.{HasNoneBefore};
 ghost use Rattle.am_parts.specs.Partitions.{AreWellFormed};
 ghost use Rattle.am_effect.specs.Merging.{MergeRight, merged_by, wishes_left, all_worked_off, candidates};
 ghost use Rattle.am_merge.specs.Holding.{holder_of};
 ghost use Rattle.am_merge.specs.Walks.{in_parts_from};
-ghost use Rattle.am_merge.specs.Steps.{IsAsFar, is_free_in};
+ghost use Rattle.am_merge.specs.Steps.{IsAsFar, is_free_in, go_on_outside};
 
 use crate::walk::{first_in_runs, is_free};
 use crate::wishes::Wishes;
@@ -94,10 +95,32 @@ fn work_off_run<I: PartIndex + Drop>(
         let count = parts.bring_home(&batch.entries()[..free]);
         moved += count as u64;
         if count < STRETCH {
+            note_left(parts, range, first.part, &batch.entries()[count..]);
             return moved;
         }
     }
     moved
+}
+
+// Notes the range as merged in the run and those before it, where what was read of the run and stays there shows that
+// no entry of the range is left in it. So the next step begins behind the run, and has no look at it in vain.
+fn note_left<I: PartIndex + Drop>(parts: &mut Parts<I>, range: Range, run: u32, left: &[Entry])
+    requires { go_on_outside range left.now ≡ true → HasNoneBefore parts.old.entries range (run + 1) }
+    ensures { parts.new ≡ parts.old }
+{
+    if go_on_outside(left, range) {
+        parts.note_merged(range, run.saturating_add(1));
+    }
+}
+
+// Whether the entries go on outside the range, if at all.
+fn go_on_outside(entries: &[Entry], range: Range) -> bool
+    ensures { result ≡ go_on_outside range entries.now }
+{
+    match entries.first() {
+        Some(entry) => !range.contains(entry.key),
+        None => true,
+    }
 }
 
 // How many of the first entries lie in the range and have keys that nobody has exclusively locked, `most` at most.

@@ -78,18 +78,22 @@ rising_left zero front xs back rise = rise
 rising_left (suc n) front [] back rise = rise
 rising_left (suc n) front (x ∷ xs) back rise = rising_left n front xs back (rising_remove front x (xs ++ back) rise)
 
+-- what is live among those that are left was live before
+pub lives_left : (n : ℕ) (front xs back : List Entry) → IsRising (front ++ (xs ++ back)) →
+    (key : OrderedKey) (part : ℕ) →
+    LivesInRun (front ++ (drop n xs ++ back)) key part → LivesInRun (front ++ (xs ++ back)) key part
+lives_left zero front xs back rise key part it = it
+lives_left (suc n) front [] back rise key part it = it
+lives_left (suc n) front (x ∷ xs) back rise key part it =
+    let es : List Entry = front ++ x ∷ (xs ++ back) in
+    fewer es (remove_entry es x.part x.key) x.part x.key None (removed_finds es rise x.part x.key) none_dead key part
+    (subst (λ (l : List Entry). LivesInRun l key part) (sym (one_gone front x (xs ++ back) rise))
+    (lives_left n front xs back (rising_remove front x (xs ++ back) rise) key part it))
+
 pub one_run_left : (n : ℕ) (front xs back : List Entry) → IsRising (front ++ (xs ++ back)) → OneRun
     (front ++ (xs ++ back)) → OneRun (front ++ (drop n xs ++ back))
-one_run_left zero front xs back rise one = one
-one_run_left (suc n) front [] back rise one = one
-one_run_left (suc n) front (x ∷ xs) back rise one =
-    let es : List Entry = front ++ x ∷ (xs ++ back) in
-    let was : (key : OrderedKey) (part : ℕ) → LivesInRun (front ++ (xs ++ back)) key part → LivesInRun es key part =
-    λ key part it. fewer es (remove_entry es x.part x.key) x.part x.key None (removed_finds es rise x.part x.key)
-    none_dead key part
-    (subst (λ (l : List Entry). LivesInRun l key part) (sym (one_gone front x (xs ++ back) rise)) it) in
-    one_run_left n front xs back (rising_remove front x (xs ++ back) rise)
-    (λ key part part' here there. one key part part' (was key part here) (was key part' there))
+one_run_left n front xs back rise one = λ key part part' here there.
+    one key part part' (lives_left n front xs back rise key part here) (lives_left n front xs back rise key part' there)
 
 drop-front : {X : Type 0} (n : ℕ) (xs ys : List X) → n ≤ length xs → drop n (xs ++ ys) ≡ drop n xs ++ ys
 drop-front zero xs ys le = refl

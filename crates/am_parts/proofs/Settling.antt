@@ -1,5 +1,6 @@
 -- Live entries of a run that settle where nothing stands.
-use Rattle.std.proofs.Common.{◌≡◌, ℕ, zero, suc, ◌≤◌, false, List, [], ◌∷◌, ◌++◌, length, take, refl, sym, ap, ◌∙◌}
+use Rattle.std.proofs.Common.{◌≡◌, ℕ, zero, suc, ◌≤◌, false, List, [], ◌∷◌, ◌++◌, length, take, drop, refl, sym, ap}
+use Rattle.std.proofs.Common.{◌∙◌}
 use Rattle.std.proofs.Common.{get_or, subst, append-nil, arith}
 use Rattle.std.specs.Prelude.{is_some}
 use Rattle.std.specs.List.{AllByRecursion}
@@ -12,7 +13,7 @@ use Rattle.am_list.specs.Entries.{find, insert_entry, set_entry, all_inserted, I
 use Rattle.am_list.specs.Places.{AllBelow}
 use Rattle.am_list.proofs.Insertions.{AllFree, still_free}
 use Rattle.am_list.proofs.Lists.{rising_insert}
-use Rattle.am_parts.specs.GoingHome.{home_of, homes_of, IsHome}
+use Rattle.am_parts.specs.GoingHome.{home_of, homes_of, IsHome, AreHomesOf}
 use Rattle.am_parts.specs.Partitions.{settled, settled_too, all_settled}
 
 -- what is above the last of entries that rise is above all of them
@@ -64,6 +65,14 @@ fewer_live zero m es le live = tt
 fewer_live (suc n) zero es le live = absurd (omega (arith, le))
 fewer_live (suc n) (suc m) [] le live = tt
 fewer_live (suc n) (suc m) (e ∷ es) le live = (live.0, fewer_live n m es (omega (arith, le)) live.1)
+
+-- those of the others behind the first
+pub homes_left : (n : ℕ) (es homes : List Entry) → AreHomesOf es homes → AreHomesOf (drop n es) (drop n homes)
+homes_left zero es homes h = h
+homes_left (suc n) es [] h = record { first = refl; live = tt; rising = tt }
+homes_left (suc n) [] (x ∷ homes) h = absurd (omega (arith, ap length h.first))
+homes_left (suc n) (e ∷ es) (x ∷ homes) h =
+    homes_left n es homes (record { first = ap (drop 1) h.first; live = h.live.1; rising = h.rising.1 })
 
 -- ---- one after another
 

@@ -47,8 +47,8 @@ pub record HasNoted (old : Residences) (key : OrderedKey) (part : ℕ) (new : Re
   pub entered : new.directory.is_lost ≡ false → HasEntered old.directory (key_number old.hash key) part new.directory
 
 -- there is room for so many live keys more
-abbrev pub HasRoom : Residences → ℕ → Type 0
-HasRoom r keys = keys ≤ empty_in r.directory.words
+abbrev pub HasRoomFor : Residences → ℕ → Type 0
+HasRoomFor r keys = keys ≤ empty_in r.directory.words
 
 -- the key is that of the record at a place
 abbrev pub IsKeyAt : Records → ℕ → OrderedKey → Type 0

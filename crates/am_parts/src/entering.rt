@@ -6,10 +6,11 @@ ghost use Rattle.std.specs.FinMap.{is_sorted};
 ghost use Rattle.am_record.specs.OrderedKey.{key_cmp};
 ghost use Rattle.am_record.specs.KeyNumber.{key_number};
 ghost use Rattle.am_record.specs.declared.entry.Entry.{Entry};
+ghost use Rattle.am_record.specs.declared.hash_key.HashKey.{HashKey};
 ghost use Rattle.am_directory.specs.Tables.{residence_of};
 ghost use Rattle.am_parts.specs.Catalogs.{IsCatalog};
 ghost use Rattle.am_parts.specs.Partitions.{AreWellFormed, AreAllAbsent, IsLiveEntry, LivesInNoRun};
-ghost use Rattle.am_parts.specs.Residences.{LivesInRun, LivesWith, Allows, AreResidences, Tell, HasNoted, HasRoom};
+ghost use Rattle.am_parts.specs.Residences.{LivesInRun, LivesWith, Allows, AreResidences, Tell, HasNoted, HasRoomFor};
 
 use crate::catalog::Catalog;
 use crate::fault::RunFault;
@@ -19,21 +20,39 @@ use am_directory::Residence;
 use am_list::PartIndex;
 use am_record::{Key, Value};
 
-// Looks that were begun ahead: up to which place, and whether all of them ended at once.
+// Looks that were begun ahead: from which place up to which, for which numbers, and whether all of them ended at once.
 #[derive(Clone, Copy)]
 struct Ahead {
+    begin: usize,
     end: usize,
+    numbers: [u64; AHEAD],
     are_free: bool,
 }
 
 impl Ahead {
-    ghost use Rattle.am_parts.specs.Ahead.{AreFreeAhead};
+    ghost use Rattle.am_parts.specs.Ahead.{AreFreeAhead, AreNumbersAhead};
+
+    // None.
+    fn none() -> Ahead
+        ensures begin { result.begin ≡ 0 }
+        ensures end { result.end ≡ 0 }
+        ensures free { result.are_free ≡ false }
+    {
+        Ahead {
+            begin: 0,
+            end: 0,
+            numbers: [0; AHEAD],
+            are_free: false,
+        }
+    }
 
     // Those that reach this place. Where they ended before it, further ones are begun.
     fn renewed(self, residences: &Residences, pairs: &[(Key, Value)], at: usize) -> Ahead
         requires within { at < length pairs.now }
         requires reached { at ≤ self.end }
         ensures reaches { at < result.end }
+        ensures numbers { (hash : HashKey) → residences.now.hash ≡ hash → AreNumbersAhead hash pairs.now at self →
+            AreNumbersAhead hash pairs.now at result }
         ensures free { (es : List Entry) (part : ℕ) → Tell (LivesWith es part pairs.now 0 at) residences.now →
             AreFreeAhead es pairs.now at self → AreFreeAhead es pairs.now at result }
     {
@@ -41,9 +60,12 @@ impl Ahead {
             return self;
         }
         let end = pairs.len().min(at.saturating_add(AHEAD));
+        let (numbers, are_free) = residences.looks_for(&pairs[at..end]);
         Ahead {
+            begin: at,
             end,
-            are_free: residences.are_free(&pairs[at..end]),
+            numbers,
+            are_free,
         }
     }
 }
@@ -63,7 +85,7 @@ pub(crate) fn enter_run<I: PartIndex + Drop>(
     requires sound { AreWellFormed (I.entries index.now) }
     requires counted { IsCatalog (I.entries index.now) catalog.now }
     requires told { AreResidences (I.entries index.now) residences.old }
-    requires room { HasRoom residences.old (length pairs.now) }
+    requires room { HasRoomFor residences.old (length pairs.now) }
     requires sorted { is_sorted key_cmp pairs.now ≡ true }
     ensures entered { OnOk result (Tell (LivesWith (I.entries index.now) part pairs.now 0 (length pairs.now))
         residences.new) }
@@ -72,18 +94,28 @@ pub(crate) fn enter_run<I: PartIndex + Drop>(
     ensures same { OnErr result (AreResidences (I.entries index.now) residences.new) }
     ensures lost { residences.old.directory.is_lost ≡ false → residences.new.directory.is_lost ≡ false }
 {
-    let mut ahead = Ahead {
-        end: 0,
-        are_free: false,
-    };
+    let mut ahead = Ahead::none();
     for (at, pair) in pairs.iter().enumerate() {
         ahead = ahead.renewed(residences, pairs, at);
-        if !enter_one(index, catalog, residences, part, pair.0, ahead.are_free) {
+        let newcomer = Newcomer {
+            key: pair.0,
+            number: ahead.numbers[at - ahead.begin],
+            is_free: ahead.are_free,
+        };
+        if !enter_one(index, catalog, residences, part, newcomer) {
             residences.forget(&pairs[..at]);
             return Err(RunFault::Taken);
         }
     }
     Ok(())
+}
+
+// A key that comes into a run, its number, and whether it is known to be live in none.
+#[derive(Clone, Copy)]
+struct Newcomer {
+    key: Key,
+    number: u64,
+    is_free: bool,
 }
 
 // Notes that a key is live in the run to come, unless it is live in a run. Whether it was not. Of a free key that is
@@ -93,56 +125,33 @@ fn enter_one<I: PartIndex + Drop>(
     catalog: &Catalog,
     residences: &mut Residences,
     part: u32,
-    key: Key,
-    is_free: bool,
+    newcomer: Newcomer,
 ) -> bool
     requires sound { AreWellFormed (I.entries index.now) }
     requires counted { IsCatalog (I.entries index.now) catalog.now }
-    requires known { (run : ℕ) → LivesInRun (I.entries index.now) key run →
-        Allows (residence_of residences.old.directory (key_number residences.old.hash key)) run }
-    requires room { HasRoom residences.old 1 }
-    requires free { is_free ≡ true → LivesInNoRun (I.entries index.now) key }
-    ensures entered { result ≡ true → HasNoted residences.old key part residences.new }
-    ensures dead { result ≡ true → LivesInNoRun (I.entries index.now) key }
-    ensures live { result ≡ false → (e : Entry) × IsLiveEntry (I.entries index.now) key e }
+    requires number { newcomer.number ≡ key_number residences.old.hash newcomer.key }
+    requires known { (run : ℕ) → LivesInRun (I.entries index.now) newcomer.key run →
+        Allows (residence_of residences.old.directory newcomer.number) run }
+    requires room { HasRoomFor residences.old 1 }
+    requires free { newcomer.is_free ≡ true → LivesInNoRun (I.entries index.now) newcomer.key }
+    ensures entered { result ≡ true → HasNoted residences.old newcomer.key part residences.new }
+    ensures dead { result ≡ true → LivesInNoRun (I.entries index.now) newcomer.key }
+    ensures live { result ≡ false → (e : Entry) × IsLiveEntry (I.entries index.now) newcomer.key e }
     ensures same { result ≡ false → residences.new ≡ residences.old }
     ensures lost { residences.old.directory.is_lost ≡ false → residences.new.directory.is_lost ≡ false }
-    ensures room { (keys : ℕ) → HasRoom residences.old (keys + 1) → HasRoom residences.new keys }
+    ensures room { (keys : ℕ) → HasRoomFor residences.old (keys + 1) → HasRoomFor residences.new keys }
 {
-    if is_free {
-        residences.enter(key, part);
+    if newcomer.is_free {
+        residences.enter(newcomer.number, part);
         return true;
     }
-    enter_dead(index, catalog, residences, part, key)
-}
-
-// Notes that a key is live in the run to come, unless it is live in a run. Whether it was not.
-fn enter_dead<I: PartIndex + Drop>(
-    index: &I,
-    catalog: &Catalog,
-    residences: &mut Residences,
-    part: u32,
-    key: Key,
-) -> bool
-    requires sound { AreWellFormed (I.entries index.now) }
-    requires counted { IsCatalog (I.entries index.now) catalog.now }
-    requires known { (run : ℕ) → LivesInRun (I.entries index.now) key run →
-        Allows (residence_of residences.old.directory (key_number residences.old.hash key)) run }
-    requires room { HasRoom residences.old 1 }
-    ensures entered { result ≡ true → HasNoted residences.old key part residences.new }
-    ensures dead { result ≡ true → LivesInNoRun (I.entries index.now) key }
-    ensures live { result ≡ false → (e : Entry) × IsLiveEntry (I.entries index.now) key e }
-    ensures same { result ≡ false → residences.new ≡ residences.old }
-    ensures lost { residences.old.directory.is_lost ≡ false → residences.new.directory.is_lost ≡ false }
-    ensures room { (keys : ℕ) → HasRoom residences.old (keys + 1) → HasRoom residences.new keys }
-{
-    let residence = residences.enter_first(key, part);
+    let residence = residences.enter_first(newcomer.number, part);
     if let Residence::Nowhere = residence {
         return true;
     }
-    if live_by(index, catalog, residence, key).is_some() {
+    if live_by(index, catalog, residence, newcomer.key).is_some() {
         return false;
     }
-    residences.enter(key, part);
+    residences.enter(newcomer.number, part);
     true
 }

@@ -1,6 +1,7 @@
 //! The way of a run's entries to the final partition.
 
-ghost use Rattle.std.specs.Prelude.{◌≡◌, ◌⊎◌, ◌≤◌, ◌++◌, ◌∷◌, List, [], length, take, drop, true, false, OnOk, OnErr};
+ghost use Rattle.std.specs.Prelude.{◌≡◌, ◌⊎◌, ◌<◌, ◌≤◌, ◌++◌, ◌∷◌, List, [], length, take, drop, true, false, OnOk};
+ghost use Rattle.std.specs.Prelude.{OnErr};
 ghost use Rattle.am_record.specs.declared.entry.Entry.{Entry};
 ghost use Rattle.am_list.specs.Entries.{find, IsRising};
 ghost use Rattle.am_list.specs.Rooms.{needs_room, HaveRoom, KeepRoom};
@@ -10,9 +11,13 @@ ghost use Rattle.am_parts.specs.Partitions.{settled_too, all_settled, FirstNeeds
 ghost use Rattle.am_parts.specs.Residences.{OneRun, AreResidences};
 
 use crate::catalog::Catalog;
-use crate::residences::Residences;
+use crate::residences::{AHEAD, Residences};
 use am_list::{Batch, PartIndex};
 use am_record::{Entry, NoMemory};
+
+// How many rounds that bring one entry alone there are before no others are looked for beside it: those that go behind
+// all of their leaf, or into full leaves, would be looked for twice.
+const MOST_LONE: u32 = 3;
 
 /// Lets entries of a run stand in the final partition too, over ghosts there, but for those that are ghosts. How many
 /// it came past: all, or fewer where the next one was refused memory for its place, or for its value there.
@@ -29,27 +34,65 @@ pub(crate) fn settle_all<I: PartIndex + Drop>(
     ensures catalog { IsCatalog (I.entries index.new) catalog.new }
     ensures rooms { KeepRoom (I.roomy index.old) (I.roomy index.new) (I.entries index.new) }
 {
+    let all_homes = first_homes(entries);
     let mut count = 0;
-    let mut is_asked = true;
+    let mut lone: u32 = 0;
     'settle: while count < entries.len() {
-        if settle(index, catalog, &entries[count]).is_err() {
+        let homes = homes_from(all_homes.entries(), count);
+        let more = settle_first(index, catalog, &entries[count..], homes, lone < MOST_LONE);
+        if more == 0 {
             return count;
         }
-        count += 1;
-        count += settle_between(index, catalog, &entries[count..], &mut is_asked);
+        lone = lone.saturating_add(u32::from(more == 1));
+        count += more;
     }
     count
 }
 
-// Lets the first of the entries stand in the final partition too, as many as are live there at once, between others:
-// by one walk, and without memory. Says how many. Where none was, the index isn't asked again: the entries mostly go to
-// leaves apart then, so that each would be looked for twice.
+// The homes from that one on, where there are so many.
+fn homes_from(homes: &[Entry], from: usize) -> &[Entry]
+    ensures { result.now ≡ drop from homes.now }
+{
+    &homes[from.min(homes.len())..]
+}
+
+// Lets the first of the entries stand in the final partition too, and more of them, where others are looked for beside
+// it, which have these homes. How many: none where the first was refused memory.
+fn settle_first<I: PartIndex + Drop>(
+    index: &mut I,
+    catalog: &mut Catalog,
+    entries: &[Entry],
+    homes: &[Entry],
+    beside: bool,
+) -> usize
+    requires some { 0 < length entries.now }
+    requires homes { AreHomesOf entries.now homes.now }
+    requires counted { IsCatalog (I.entries index.old) catalog.old }
+    requires room { HaveRoom (I.entries index.old) (I.roomy index.old) }
+    ensures most { result ≤ length entries.now }
+    ensures settled { I.entries index.new ≡ all_settled (take result entries.now) (I.entries index.old) }
+    ensures refused { result ≡ 0 → FirstNeedsRoom (I.entries index.new) entries.now }
+    ensures catalog { IsCatalog (I.entries index.new) catalog.new }
+    ensures rooms { KeepRoom (I.roomy index.old) (I.roomy index.new) (I.entries index.new) }
+{
+    if beside && !homes.is_empty() {
+        let between = settle_between(index, catalog, entries, homes);
+        if between > 0 {
+            return between;
+        }
+    }
+    usize::from(settle(index, catalog, &entries[0]).is_ok())
+}
+
+// Lets the first of the entries stand in the final partition too, as many of those with homes as go between others
+// there: by one walk, and without memory. Says how many.
 fn settle_between<I: PartIndex + Drop>(
     index: &mut I,
     catalog: &mut Catalog,
     entries: &[Entry],
-    is_asked: &mut bool,
+    homes: &[Entry],
 ) -> usize
+    requires homes { AreHomesOf entries.now homes.now }
     requires counted { IsCatalog (I.entries index.old) catalog.old }
     requires room { HaveRoom (I.entries index.old) (I.roomy index.old) }
     ensures most { result ≤ length entries.now }
@@ -57,16 +100,11 @@ fn settle_between<I: PartIndex + Drop>(
     ensures catalog { IsCatalog (I.entries index.new) catalog.new }
     ensures rooms { KeepRoom (I.roomy index.old) (I.roomy index.new) (I.entries index.new) }
 {
-    if !*is_asked || entries.is_empty() || entries[0].is_ghost {
+    if !catalog.has_count_for(homes.len()) {
         return 0;
     }
-    let homes = first_homes(entries);
-    if !catalog.has_count_for(homes.entries().len()) {
-        return 0;
-    }
-    let count = index.insert_between(homes.entries());
+    let count = index.insert_between(homes);
     catalog.add_homes(count);
-    *is_asked = count > 0;
     count
 }
 
@@ -170,7 +208,11 @@ pub(crate) fn forget_all(catalog: &mut Catalog, residences: &mut Residences, ent
     for entry in entries {
         catalog.take(entry.part, !entry.is_ghost);
     }
-    // A loop of its own: so the words of several keys come from memory at once.
+    // All looks are begun before a word is changed, so the words come from memory at once. Of keys without one nothing
+    // is noted.
+    if entries.len() <= AHEAD && residences.know_none(entries) {
+        return;
+    }
     for gone in entries {
         residences.take(gone);
     }

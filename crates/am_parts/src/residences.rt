@@ -13,7 +13,7 @@ ghost use Rattle.am_directory.specs.Tables.{residence_of};
 ghost use Rattle.am_directory.specs.declared.residence.Residence.TheVariants.{Nowhere};
 ghost use Rattle.am_parts.specs.Partitions.{LivesInNoRun};
 ghost use Rattle.am_parts.specs.Residences.{LivesInRun, OneRun, Allows, AreResidences, Tell, LivesWith};
-ghost use Rattle.am_parts.specs.Residences.{HasNoted, HasRoom};
+ghost use Rattle.am_parts.specs.Residences.{HasNoted, HasRoomFor};
 
 use am_directory::{Directory, Residence};
 use am_record::{Entry, HashKey, Key, NoMemory, Value};
@@ -54,7 +54,7 @@ impl Residences {
     /// # Errors
     /// NoMemory, where memory was refused.
     pub(crate) fn make_room(&mut self, part: u32, keys: usize) -> Result<(), NoMemory>
-        ensures room { OnOk result (0 < part → HasRoom self.new keys) }
+        ensures room { OnOk result (0 < part → HasRoomFor self.new keys) }
         ensures lost { self.new.directory.is_lost ≡ self.old.directory.is_lost }
         ensures same { (es : List Entry) → AreResidences es self.old → AreResidences es self.new }
     {
@@ -66,7 +66,7 @@ impl Residences {
 
     /// Notes an entry that is added, for whose key room was got. Takes no memory.
     pub(crate) fn add(&mut self, entry: &Entry)
-        requires room { 0 < entry.now.part → HasRoom self.old 1 }
+        requires room { 0 < entry.now.part → HasRoomFor self.old 1 }
         ensures added { (es : List Entry) → IsRising es → AreResidences es self.old →
             AreResidences (insert_entry es entry.now) self.new }
         ensures lost { self.old.directory.is_lost ≡ false → self.new.directory.is_lost ≡ false }
@@ -112,41 +112,61 @@ impl Residences {
         self.directory.let_go(number);
     }
 
-    /// Whether the looks for these keys end where they begin: then none of them is live in a run. All are begun at
-    /// once, so that looks that follow find their words near.
-    pub(crate) fn are_free(&self, pairs: &[(Key, Value)]) -> bool
+    /// The numbers of these keys, and whether the looks for all of them end where they begin: then none of them is live
+    /// in a run. All are begun at once, so that looks that follow find their words near.
+    pub(crate) fn looks_for(&self, pairs: &[(Key, Value)]) -> ([u64; AHEAD], bool)
         requires few { length pairs.now ≤ 16 }
-        ensures { result ≡ true → (i : ℕ) (r : OrderedKey × List ℕ) → i < length pairs.now →
+        ensures numbers { (i d : ℕ) (r : OrderedKey × List ℕ) → i < length pairs.now →
+            get_or result.0 i d ≡ key_number self.now.hash (get_or pairs.now i r).0 }
+        ensures room { length result.0 ≡ 16 }
+        ensures free { result.1 ≡ true → (i : ℕ) (r : OrderedKey × List ℕ) → i < length pairs.now →
             residence_of self.now.directory (key_number self.now.hash (get_or pairs.now i r).0) ≡ Nowhere }
     {
         let mut numbers = [0; AHEAD];
         for (at, pair) in pairs.iter().enumerate() {
             numbers[at] = pair.0.number(self.hash);
         }
-        self.directory.are_free(&numbers[..pairs.len()])
+        let are_free = self.directory.are_free(&numbers[..pairs.len()]);
+        (numbers, are_free)
     }
 
-    /// Notes that a key, for which room was got, is live in the run, unless one of its label may be live in a run
-    /// already: then nothing is changed. Answers in which run it may have been live. Takes no memory.
-    pub(crate) fn enter_first(&mut self, key: Key, part: u32) -> Residence
-        requires { HasRoom self.old 1 }
-        ensures known { result ≡ residence_of self.old.directory (key_number self.old.hash key) }
-        ensures entered { result ≡ Nowhere → HasNoted self.old key part self.new }
+    /// Whether the looks for the keys of these entries end where they begin. All are begun at once.
+    pub(crate) fn know_none(&self, entries: &[Entry]) -> bool
+        requires few { length entries.now ≤ 16 }
+        ensures { result ≡ true → (i : ℕ) (e : Entry) → i < length entries.now →
+            residence_of self.now.directory (key_number self.now.hash (get_or entries.now i e).key) ≡ Nowhere }
+    {
+        let mut numbers = [0; AHEAD];
+        for (at, entry) in entries.iter().enumerate() {
+            numbers[at] = entry.key.number(self.hash);
+        }
+        self.directory.are_free(&numbers[..entries.len()])
+    }
+
+    /// Notes that the key of a number, for which room was got, is live in the run, unless one of its label may be live
+    /// in a run already: then nothing is changed. Answers in which run it may have been live. Takes no memory.
+    pub(crate) fn enter_first(&mut self, number: u64, part: u32) -> Residence
+        requires { HasRoomFor self.old 1 }
+        ensures known { result ≡ residence_of self.old.directory number }
+        ensures entered { result ≡ Nowhere → (key : OrderedKey) → number ≡ key_number self.old.hash key →
+            HasNoted self.old key part self.new }
         ensures same { result ≢ Nowhere → self.new ≡ self.old }
         ensures lost { self.old.directory.is_lost ≡ false → self.new.directory.is_lost ≡ false }
-        ensures room { (keys : ℕ) → HasRoom self.old (keys + 1) → HasRoom self.new keys }
+        ensures room { (keys : ℕ) → HasRoomFor self.old (keys + 1) → HasRoomFor self.new keys }
     {
-        self.directory.enter_first(key.number(self.hash), part)
+        self.directory.enter_first(number, part)
     }
 
-    /// Notes that a key, for which room was got, is live in the run, where others of its label may be. Takes no memory.
-    pub(crate) fn enter(&mut self, key: Key, part: u32)
-        requires { HasRoom self.old 1 }
-        ensures entered { HasNoted self.old key part self.new }
+    /// Notes that the key of a number, for which room was got, is live in the run, where others of its label may be.
+    /// Takes no memory.
+    pub(crate) fn enter(&mut self, number: u64, part: u32)
+        requires { HasRoomFor self.old 1 }
+        ensures entered { (key : OrderedKey) → number ≡ key_number self.old.hash key →
+            HasNoted self.old key part self.new }
         ensures lost { self.old.directory.is_lost ≡ false → self.new.directory.is_lost ≡ false }
-        ensures room { (keys : ℕ) → HasRoom self.old (keys + 1) → HasRoom self.new keys }
+        ensures room { (keys : ℕ) → HasRoomFor self.old (keys + 1) → HasRoomFor self.new keys }
     {
-        self.directory.enter(key.number(self.hash), part);
+        self.directory.enter(number, part);
     }
 
     /// Notes that the keys of records, which were entered for a run, are not live in it. Takes no memory.

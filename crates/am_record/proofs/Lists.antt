@@ -1,13 +1,27 @@
 -- What holds of each item of a list, and the parts of a list.
 use Rattle.std.proofs.Common.{◌≡◌, ℕ, zero, suc, ◌<◌, Bool, true, false, cond, List, [], ◌∷◌, ◌++◌, length, get_or}
-use Rattle.std.proofs.Common.{take, drop, filter, arith}
+use Rattle.std.proofs.Common.{take, drop, map, filter, All, refl, arith}
 use Rattle.std.specs.List.{AllByRecursion}
 use Rattle.std.proofs.lemmas.Bool.{cond-true, cond-false}
+use Rattle.std.proofs.lemmas.List.Elements.{All-head, All-tail}
 
 pub AllByRecursion-map : {X : Type 0} (P Q : X → Type 0) → ((x : X) → P x → Q x) → (xs : List X) → AllByRecursion P xs →
     AllByRecursion Q xs
 AllByRecursion-map P Q f [] a = tt
 AllByRecursion-map P Q f (x ∷ xs) a = (f x a.0, AllByRecursion-map P Q f xs a.1)
+
+pub AllByRecursion-always : {X : Type 0} (P : X → Type 0) → ((x : X) → P x) → (xs : List X) → AllByRecursion P xs
+AllByRecursion-always P h [] = tt
+AllByRecursion-always P h (x ∷ xs) = (h x, AllByRecursion-always P h xs)
+
+pub AllByRecursion-from_All : {X : Type 0} (P : X → Type 0) (xs : List X) → All P xs → AllByRecursion P xs
+AllByRecursion-from_All P [] a = tt
+AllByRecursion-from_All P (x ∷ xs) a = (All-head P x xs a, AllByRecursion-from_All P xs (All-tail P x xs a))
+
+-- what is made of each item is the same either way
+pub map-alike : {X Y : Type 0} (f g : X → Y) (xs : List X) → AllByRecursion (λ x. f x ≡ g x) xs → map f xs ≡ map g xs
+map-alike f g [] a = refl
+map-alike f g (x ∷ xs) a = λ i. a.0 i ∷ map-alike f g xs a.1 i
 
 pub AllByRecursion-append : {X : Type 0} (P : X → Type 0) (xs ys : List X) → AllByRecursion P xs → AllByRecursion P ys →
     AllByRecursion P (xs ++ ys)

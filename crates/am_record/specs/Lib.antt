@@ -21,3 +21,4 @@ pub mod Events
 pub mod Sessions
 pub mod Marks
 pub mod Owners
+pub mod Numbered

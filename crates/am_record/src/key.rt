@@ -82,6 +82,13 @@ impl ShortKey {
             len: self.len,
         }
     }
+
+    /// The first eight bytes as a number, as `Key::front` has them.
+    pub fn front(&self) -> u64
+        ensures { result ≡ key_front self.now }
+    {
+        word(&self.bytes, 0)
+    }
 }
 
 impl Key {
@@ -180,8 +187,8 @@ impl Key {
 }
 
 // The eight bytes from `at` on as a number, the first of them the highest.
-fn word(bytes: &[u8; 32], at: usize) -> u64
-    requires { at + 8 ≤ 32 }
+fn word(bytes: &[u8], at: usize) -> u64
+    requires { at + 8 ≤ length bytes.now }
     ensures value { result ≡ word_at bytes.now at }
     ensures bytes { AreBytes bytes.now }
 {

@@ -1,18 +1,21 @@
 -- Keys that are told apart by the numbers of their beginnings.
 use Rattle.std.proofs.Common.{◌≡◌, ℕ, ◌+◌, ◌<◌, ◌≤◌, suc, Bool, true, false, cond, List, [], ◌∷◌, ◌++◌, length, get_or}
-use Rattle.std.proofs.Common.{map, take, refl, sym, ap, ◌∙◌, subst, arith, add-one, append_assoc, ⊎_elim}
-use Rattle.std.specs.Prelude.{nat_eq, nat_lt, count_by}
+use Rattle.std.proofs.Common.{map, refl, sym, ap, ◌∙◌, subst, arith, add-one, ⊎_elim}
+use Rattle.std.specs.Prelude.{nat_eq, nat_lt, count_by, Vec}
 use Rattle.std.proofs.lemmas.Bool.{cases_Bool, eqb-true, eq-eqb, ltb-true, false_from_ne_true}
-use Rattle.std.proofs.lemmas.List.{map-append, append-nil, take_more, take_all}
+use Rattle.std.proofs.lemmas.List.{map-append}
 use Rattle.std.proofs.lemmas.List.Sums.{sum_by-cons}
 use Rattle.std.proofs.lemmas.List.Sorted.{sum_by-IsPermutation}
 use Rattle.std.specs.Ordering.{eq_by_cmp}
-use Rattle.std.specs.List.{IsAllAdjacentAnswer}
+use Rattle.std.specs.List.{AllByRecursion, IsAllAdjacentAnswer, flat_map}
 use Rattle.std.specs.List.Sorted.{IsPermutation}
-use Rattle.am_record.specs.OrderedKey.{OrderedKey, key_cmp, key_eq-exact}
+use Rattle.std.specs.declared.alloc.Global.{Global}
+use Rattle.am_record.specs.OrderedKey.{OrderedKey, key_cmp, key_eq-exact, key_least}
 use Rattle.am_record.specs.KeyFront.{key_front}
 use Rattle.am_record.specs.Plain.{Records}
 use Rattle.am_runs.specs.Cuts.{keys_of, times_among, records_of, NoneTwice}
+use Rattle.am_runs.specs.Sorting.{IsSpot, IsOrder, AreOrders, named, runs_named}
+use Rattle.am_runs.specs.declared.sorting.Spot.{Spot}
 use Rattle.am_runs.proofs.Pieces.{keys_of-append}
 use Rattle.am_runs.proofs.Twice.{one_at, none_at, times_among-cons}
 
@@ -98,7 +101,7 @@ stands_once n (m ∷ ms) h =
     (λ apart. omega (arith, count-cons n m ms, none_where n m apart, stands_once n ms (rise_on m ms h)))
     (cases_Bool (nat_eq n m))
 
-pub apart_by_number : (ks : List OrderedKey) (sorted : List ℕ) → IsPermutation (fronts_of ks) sorted → Rise sorted →
+apart_by_number : (ks : List OrderedKey) (sorted : List ℕ) → IsPermutation (fronts_of ks) sorted → Rise sorted →
     NoneTwice ks
 apart_by_number ks sorted p h = record {
   once = λ k. omega (
@@ -109,28 +112,37 @@ apart_by_number ks sorted p h = record {
   );
 }
 
-pub rise_of : (ms : List ℕ) (b : Bool) → IsAllAdjacentAnswer (λ x y r. r ≡ nat_lt x y) ms b → b ≡ true → Rise ms
+rise_of : (ms : List ℕ) (b : Bool) → IsAllAdjacentAnswer (λ x y r. r ≡ nat_lt x y) ms b → b ≡ true → Rise ms
 rise_of ms true h e = λ k d less. ltb-true _ _ (sym (rw add-one at (h k d (omega arith))))
 rise_of ms false h e = cc
 
--- ---- the numbers of the runs' keys, run by run
+-- ---- the numbers of the keys, order by order
 
-records_more : (runs : List Records) (run : Records) → records_of (runs ++ run ∷ []) ≡ records_of runs ++ run
-records_more [] run = append-nil run
-records_more (r ∷ runs) run = ap (λ (l : Records). r ++ l) (records_more runs run) ∙
-    sym (append_assoc r (records_of runs) run)
+abbrev pub fronts_in : List (Vec Spot Global) → List ℕ
+fronts_in orders = flat_map (λ (o : Vec Spot Global). map (λ (s : Spot). s.front) o.items) orders
 
-pub numbers_more : (runs : List Records) (i : ℕ) (run : Records) → i < length runs → run ≡ get_or runs i run
-    → fronts_of (keys_of (records_of (take i runs))) ++ fronts_of (keys_of run) ≡ fronts_of
-    (keys_of (records_of (take (i + 1) runs)))
-numbers_more runs i run less at =
-    let before = records_of (take i runs) in
-    let next : records_of (take (i + 1) runs) ≡ before ++ run =
-    ap records_of (take_more runs i run less ∙ ap (λ r. take i runs ++ r ∷ []) (sym at)) ∙
-    records_more (take i runs) run in
-    sym (ap (λ (l : Records). fronts_of (keys_of l)) next ∙ ap fronts_of (keys_of-append before run) ∙
-    map-append key_front (keys_of before) (keys_of run))
+fronts_named : (rs : Records) (ss : List Spot) → AllByRecursion (IsSpot rs) ss →
+    map (λ (s : Spot). s.front) ss ≡ fronts_of (keys_of (named rs ss))
+fronts_named rs [] all = refl
+fronts_named rs (s ∷ ss) all = ap (λ n. n ∷ map (λ (t : Spot). t.front) ss) all.0.front ∙
+    ap (λ ns. key_front (get_or rs s.place (key_least, [])).0 ∷ ns) (fronts_named rs ss all.1)
 
-pub numbers_whole : (runs : List Records) (i : ℕ) → length runs ≤ i → fronts_of (keys_of (records_of (take i runs))) ≡
-    fronts_of (keys_of (records_of runs))
-numbers_whole runs i all = ap (λ (l : List Records). fronts_of (keys_of (records_of l))) (take_all i runs all)
+fronts_all : (rs : Records) (os : List (Vec Spot Global)) →
+    AllByRecursion (λ (o : Vec Spot Global). IsOrder rs o.items) os →
+    fronts_in os ≡ fronts_of (keys_of (records_of (runs_named rs os)))
+fronts_all rs [] all = refl
+fronts_all rs (o ∷ os) all =
+    let run = named rs o.items in
+    let others = records_of (runs_named rs os) in
+    ap (λ ns. ns ++ fronts_in os) (fronts_named rs o.items all.0.are.each)
+    ∙ ap (λ ns. fronts_of (keys_of run) ++ ns) (fronts_all rs os all.1)
+    ∙ sym (map-append key_front (keys_of run) (keys_of others))
+    ∙ ap fronts_of (sym (keys_of-append run others))
+
+-- no key stands twice in the runs, where the fronts of their orders were sorted and rise
+pub apart_by_fronts : (rs : Records) (os : List (Vec Spot Global)) (sorted : List ℕ) (b : Bool) → AreOrders rs os →
+    IsPermutation (fronts_in os) sorted → IsAllAdjacentAnswer (λ x y r. r ≡ nat_lt x y) sorted b → b ≡ true →
+    NoneTwice (keys_of (records_of (runs_named rs os)))
+apart_by_fronts rs os sorted b are moved answer rise =
+    apart_by_number (keys_of (records_of (runs_named rs os))) sorted
+    (subst (λ l. IsPermutation l sorted) (fronts_all rs os are.each) moved) (rise_of sorted b answer rise)

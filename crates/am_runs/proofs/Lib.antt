@@ -1,6 +1,7 @@
 pub mod Twice
 pub mod Spots
 pub mod Sorts
+pub mod Orders
 pub mod Pieces
 pub mod Apart
 pub mod Taken

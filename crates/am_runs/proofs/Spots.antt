@@ -9,14 +9,14 @@ use Rattle.std.proofs.lemmas.List.Sorted.{All-permutation, IsPermutation-map}
 use Rattle.am_record.specs.OrderedKey.{key_least}
 use Rattle.am_record.specs.Plain.{Records}
 use Rattle.am_record.proofs.Lists.{AllByRecursion-push}
-use Rattle.am_runs.specs.Sorting.{AreWithin, named, piece}
+use Rattle.am_runs.specs.Sorting.{IsSpot, AreSpots, named, piece}
 use Rattle.am_runs.specs.declared.sorting.Spot.{Spot}
 
 all_permuted : (P : Spot → Type 0) (ss ts : List Spot) → IsPermutation ss ts → AllByRecursion P ss → AllByRecursion P ts
 all_permuted P ss ts p h = recursion_from_All P ts (All-permutation P ss ts p (All-from_recursion P ss h))
 
-pub within_permuted : (rs : Records) (ss ts : List Spot) → IsPermutation ss ts → AreWithin rs ss → AreWithin rs ts
-within_permuted rs ss ts p h = record { each = all_permuted (λ t. t.place < length rs) ss ts p h.each }
+pub spots_permuted : (rs : Records) (ss ts : List Spot) → IsPermutation ss ts → AreSpots rs ss → AreSpots rs ts
+spots_permuted rs ss ts p h = record { each = all_permuted (IsSpot rs) ss ts p h.each }
 
 pub named_permuted : (rs some : Records) (ss ts : List Spot) → IsPermutation ss ts → named rs ss ≡ some →
     IsPermutation some (named rs ts)
@@ -47,8 +47,5 @@ named_more rs ss s from order within are =
     ∙ ap (λ (l : Records). l ++ get_or rs s.place (key_least, []) ∷ []) are
     ∙ sym (piece_more rs from s.place order within)
 
-pub within_more : (rs : Records) (ss : List Spot) (s : Spot) → AreWithin rs ss → s.place < length rs →
-    AreWithin rs (ss ++ s ∷ [])
-within_more rs ss s are within = record {
-  each = AllByRecursion-push (λ (t : Spot). t.place < length rs) ss s are.each within;
-}
+pub spots_more : (rs : Records) (ss : List Spot) (s : Spot) → AreSpots rs ss → IsSpot rs s → AreSpots rs (ss ++ s ∷ [])
+spots_more rs ss s are is = record { each = AllByRecursion-push (IsSpot rs) ss s are.each is }

@@ -1,16 +1,64 @@
 //! Cutting records into runs.
 
-ghost use Rattle.std.specs.Prelude.{◌≡◌, ◌++◌, ℕ, true, map, IfOk, IfErr};
-ghost use Rattle.am_record.specs.KeyFront.{key_front};
+ghost use Rattle.std.specs.Prelude.{◌≡◌, ◌<◌, ℕ, true, drop, length, slice_get, IfOk, IfErr, OnOk, OnErr};
+ghost use Rattle.am_record.specs.Plain.{Records};
 ghost use Rattle.am_runs.specs.Cuts.{keys_of, records_of, AreRunsOf, IsCut, IsCutFault, IsPieceFault, IsTwiceFault};
 ghost use Rattle.am_runs.specs.Cuts.{IsRunSize, NoneTwice};
+ghost use Rattle.am_runs.specs.Sorting.{runs_named, AreOrders};
 
 use crate::fault::LoadFault;
 use crate::record_source::{Listed, RecordSource};
 use crate::run::Run;
+use crate::sorting::{Spot, order_of};
 use crate::ties::least_twice;
-use am_record::{Key, MAX_RUN_RECORDS, Value};
+use am_record::{Key, MAX_RUN_RECORDS, NoMemory, Value};
 use std::alloc::{AllocError, Global};
+use std::marker::Model;
+
+/// Records that are cut into runs: of each run the order of its records is known, and none is copied before its run is
+/// asked for. Seen as the runs still to come.
+#[derive(Drop)]
+pub struct Cut<'a, S: RecordSource> {
+    source: &'a S,
+    // Of each run, where its records stand, by rising key.
+    orders: Vec<Vec<Spot>>,
+    // How many runs were given.
+    given: usize,
+}
+
+impl<'a, S: RecordSource> Model for Cut<'a, S> {
+    ghost use Rattle.std.specs.Prelude.{List, drop};
+    ghost use Rattle.am_record.specs.Plain.{Records};
+    ghost use Rattle.am_runs.specs.Sorting.{runs_named, runs_code, AreOrders};
+
+    ghost Value = { List Records };
+
+    ghost coded = { runs_code };
+
+    ghost view = { λ c. drop c.given (runs_named (S.records c.source.now) c.orders.items) };
+
+    ghost invariant = { λ c. AreOrders (S.records c.source.now) c.orders.items };
+}
+
+impl<'a, S: RecordSource> Cut<'a, S> {
+    /// The next run, if there is one. Its records are copied from the source.
+    ///
+    /// # Errors
+    /// NoMemory, where memory was refused; the run is still to come.
+    pub fn next(&mut self, alloc: Global) -> Result<Option<Run>, NoMemory>
+        ensures run { IfOk result (λ run. run ≡ slice_get self.old 0) }
+        ensures rest { OnOk result (self.new ≡ drop 1 self.old) }
+        ensures same { OnErr result (self.new ≡ self.old) }
+        ensures left { OnErr result (0 < length self.old) }
+    {
+        let Some(order) = self.orders.get(self.given) else {
+            return Ok(None);
+        };
+        let run = Run::in_order(alloc, self.source, order)?;
+        self.given += 1;
+        Ok(Some(run))
+    }
+}
 
 /// Cuts records in any order into runs: the first `n` of them make the first run, the next `n` the
 /// second, and so on; the last run may have fewer. Each run is sorted. No records give no runs.
@@ -23,10 +71,16 @@ pub fn cut_runs(alloc: Global, records: &[(Key, Value)], n: usize) -> Result<Vec
     ensures cut { IfOk result (λ runs. IsCut n records.now runs.items) }
     ensures fault { IfErr result (IsCutFault n records.now) }
 {
-    cut_source(alloc, &Listed { records }, n)
+    let listed = Listed { records };
+    let mut cut = cut_source(alloc, &listed, n)?;
+    let mut runs = Vec::new(alloc);
+    while let Some(run) = cut.next(alloc)? {
+        runs.push(run)?;
+    }
+    Ok(runs)
 }
 
-/// The same of the records of a source.
+/// The same of the records of a source, where each run is made when it is asked for.
 ///
 /// # Errors
 /// As of `cut_runs`.
@@ -34,18 +88,23 @@ pub fn cut_source<S: RecordSource>(
     alloc: Global,
     source: &S,
     n: usize,
-) -> Result<Vec<Run>, LoadFault>
-    ensures cut { IfOk result (λ runs. IsCut n (S.records source.now) runs.items) }
+) -> Result<Cut<'_, S>, LoadFault>
+    ensures cut { IfOk result (λ runs. IsCut n (S.records source.now) runs) }
     ensures fault { IfErr result (IsCutFault n (S.records source.now)) }
 {
     if !(1..=MAX_RUN_RECORDS).contains(&n) {
         return Err(LoadFault::BadSize);
     }
-    let runs = match sorted_pieces(alloc, source, n) {
-        Ok(runs) => runs,
+    let orders = match orders_of(alloc, source, n) {
+        Ok(orders) => orders,
         Err(fault) => return Err(over_all(alloc, source, fault)),
     };
-    with_keys_apart(alloc, source, runs)
+    refuse_twice(alloc, source, &orders)?;
+    Ok(Cut {
+        source,
+        orders,
+        given: 0,
+    })
 }
 
 // The fault of the records by that of a piece: a lower key may stand twice elsewhere.
@@ -63,66 +122,62 @@ fn over_all<S: RecordSource>(alloc: Global, source: &S, fault: LoadFault) -> Loa
     }
 }
 
-// The run of each piece, where no key stands twice in one of them.
-fn sorted_pieces<S: RecordSource>(
+// The order of each piece, where no key stands twice in one of them.
+fn orders_of<S: RecordSource>(
     alloc: Global,
     source: &S,
     n: usize,
-) -> Result<Vec<Run>, LoadFault>
+) -> Result<Vec<Vec<Spot>>, LoadFault>
     requires { IsRunSize n }
-    ensures runs { IfOk result (λ runs. AreRunsOf n (S.records source.now) runs.items) }
+    ensures orders { IfOk result (λ orders. AreOrders (S.records source.now) orders.items) }
+    ensures runs { IfOk result (λ orders. AreRunsOf n (S.records source.now)
+        (runs_named (S.records source.now) orders.items)) }
     ensures fault { IfErr result (IsPieceFault (S.records source.now)) }
 {
     let len = source.len();
-    let mut runs = Vec::new(alloc);
+    let mut orders = Vec::new(alloc);
     let mut from = 0;
     while from < len {
         let to = from + n.min(len - from);
-        runs.push(Run::of_piece(alloc, source, from, to)?)?;
+        orders.push(order_of(alloc, source, from, to)?)?;
         from = to;
     }
-    Ok(runs)
+    Ok(orders)
 }
 
-// The runs of the records, where no key stands in two of them.
-fn with_keys_apart<S: RecordSource>(
+// Fails where a key stands in two of the runs in these orders.
+fn refuse_twice<S: RecordSource>(
     alloc: Global,
     source: &S,
-    runs: Vec<Run>,
-) -> Result<Vec<Run>, LoadFault>
-    requires { (n : ℕ) × AreRunsOf n (S.records source.now) runs.items }
-    ensures value { IfOk result (λ same. same ≡ runs) }
+    orders: &[Vec<Spot>],
+) -> Result<(), LoadFault>
+    requires orders { AreOrders (S.records source.now) orders.now }
+    requires runs { (n : ℕ) × AreRunsOf n (S.records source.now) (runs_named (S.records source.now) orders.now) }
     ensures apart { IfOk result (λ _. NoneTwice (keys_of (S.records source.now))) }
     ensures fault { IfErr result (IsTwiceFault (S.records source.now)) }
 {
-    if runs.len() < 2 || have_fronts_apart(alloc, &runs, source.len())? {
-        return Ok(runs);
+    if orders.len() < 2 || have_fronts_apart(alloc, orders, source.len())? {
+        return Ok(());
     }
     // Keys with one beginning may be equal.
     match least_twice(alloc, source)? {
         Some(key) => Err(LoadFault::Twice(key)),
-        None => Ok(runs),
+        None => Ok(()),
     }
 }
 
-// Whether no two keys of the runs, which have so many, have one number of their first eight bytes.
-fn have_fronts_apart(alloc: Global, runs: &[Run], len: usize) -> Result<bool, AllocError>
-    ensures { IfOk result (λ apart. apart ≡ true → NoneTwice (keys_of (records_of runs.now))) }
+// Whether no two keys of the runs in these orders, which have so many, have one number of their first eight bytes.
+fn have_fronts_apart(alloc: Global, orders: &[Vec<Spot>], len: usize) -> Result<bool, AllocError>
+    ensures { (records : Records) → AreOrders records orders.now →
+        IfOk result (λ apart. apart ≡ true → NoneTwice (keys_of (records_of (runs_named records orders.now)))) }
 {
     let mut fronts = Vec::with_capacity(alloc, len)?;
-    for run in runs {
-        push_fronts(&mut fronts, run)?;
+    for order in orders {
+        for spot in order {
+            fronts.push(spot.front)?;
+        }
     }
     // Each run's rise, so that the stable sort merges them.
     fronts.sort()?;
     Ok(fronts.is_sorted_by(|a, b| a < b))
-}
-
-fn push_fronts(fronts: &mut Vec<u64>, run: &Run) -> Result<(), AllocError>
-    ensures { IfOk result (λ _. fronts.new.items ≡ fronts.old.items ++ map key_front (keys_of run.now)) }
-{
-    for pair in run.pairs() {
-        fronts.push(pair.0.front())?;
-    }
-    Ok(())
 }

@@ -11,7 +11,7 @@ mod sorting;
 mod ties;
 mod walk;
 
-pub use cut::{cut_runs, cut_source};
+pub use cut::{Cut, cut_runs, cut_source};
 pub use fault::LoadFault;
 pub use loading::load;
 pub use record_source::RecordSource;

@@ -1,16 +1,15 @@
 //! Runs: records that rise strictly by key.
 
-ghost use Rattle.std.specs.Prelude.{◌≡◌, ◌↔◌, ◌≤◌, true, length, IsOk, IfOk, IfErr};
+ghost use Rattle.std.specs.Prelude.{◌≡◌, ◌↔◌, true, IsOk, IfOk, IfErr};
 ghost use Rattle.am_record.specs.Plain.{is_rising};
 ghost use Rattle.am_runs.specs.Cuts.{keys_of, IsRunOf, IsSortFault, NoneTwice};
-ghost use Rattle.am_runs.specs.Sorting.{piece};
+ghost use Rattle.am_runs.specs.Sorting.{named, IsOrder};
 
 use crate::fault::LoadFault;
 use crate::record_source::{Listed, RecordSource};
-use crate::sorting::by_front;
-use crate::ties::{first_tie, keys_of};
+use crate::sorting::{Spot, gather, order_of};
 use am_record::{Key, Value, is_rising};
-use std::alloc::Global;
+use std::alloc::{AllocError, Global};
 use std::marker::Model;
 
 /// One record or more, their keys rising strictly.
@@ -68,39 +67,29 @@ impl Run {
         ensures apart { IfOk result (λ _. NoneTwice (keys_of records.now)) }
         ensures fault { IfErr result (IsSortFault records.now) }
     {
-        Run::of_piece(alloc, &Listed { records }, 0, records.len())
-    }
-
-    /// The run of the records of a source from one place to another, which may stand in any order. Each is copied once.
-    ///
-    /// # Errors
-    /// As of `sorted`.
-    pub(crate) fn of_piece<S: RecordSource>(
-        alloc: Global,
-        source: &S,
-        from: usize,
-        to: usize,
-    ) -> Result<Run, LoadFault>
-        requires order { from ≤ to }
-        requires within { to ≤ length (S.records source.now) }
-        ensures run { IfOk result (λ run. IsRunOf (piece (S.records source.now) from to) run) }
-        ensures apart { IfOk result (λ _. NoneTwice (keys_of (piece (S.records source.now) from to))) }
-        ensures fault { IfErr result (IsSortFault (piece (S.records source.now) from to)) }
-    {
-        if from == to {
+        if records.is_empty() {
             return Err(LoadFault::NotRising);
         }
-        let mut pairs = by_front(alloc, source, from, to)?;
-        if is_rising(&pairs) {
-            return Ok(Run { pairs });
-        }
-        // Keys with one beginning may stand in any order.
-        pairs.sort_unstable_by_key(|pair| pair.0);
-        let keys = keys_of(alloc, &pairs)?;
-        if let Some(key) = first_tie(&keys) {
-            return Err(LoadFault::Twice(key));
-        }
-        Ok(Run { pairs })
+        let listed = Listed { records };
+        let order = order_of(alloc, &listed, 0, records.len())?;
+        Ok(Run::in_order(alloc, &listed, &order)?)
+    }
+
+    /// The run of the records of a source that an order names. Each is copied once.
+    ///
+    /// # Errors
+    /// NoMemory, where memory was refused.
+    pub(crate) fn in_order<S: RecordSource>(
+        alloc: Global,
+        source: &S,
+        order: &[Spot],
+    ) -> Result<Run, AllocError>
+        requires { IsOrder (S.records source.now) order.now }
+        ensures { IfOk result (λ run. run ≡ named (S.records source.now) order.now) }
+    {
+        Ok(Run {
+            pairs: gather(alloc, source, order)?,
+        })
     }
 
     /// The pairs, by rising key.

@@ -6,7 +6,7 @@ ghost use Rattle.am_record.specs.OrderedKey.{key_cmp};
 ghost use Rattle.am_runs.specs.Cuts.{keys_of, NoneTwice, IsLeastTwice};
 
 use crate::record_source::RecordSource;
-use am_record::{Key, NoMemory, Value};
+use am_record::{Key, NoMemory};
 use std::alloc::{AllocError, Global};
 
 /// The least of the keys that stand twice in the records.
@@ -31,12 +31,6 @@ fn keys_in<S: RecordSource>(alloc: Global, source: &S) -> Result<Vec<Key>, Alloc
         keys.push(source.key(at))?;
     }
     Ok(keys)
-}
-
-pub(crate) fn keys_of(alloc: Global, records: &[(Key, Value)]) -> Result<Vec<Key>, AllocError>
-    ensures { IfOk result (λ keys. keys.items ≡ keys_of records.now) }
-{
-    records.iter().map(|record| record.0).collect(alloc)
 }
 
 /// The first key of a sorted list that the next one equals.

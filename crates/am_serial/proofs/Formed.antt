@@ -1,9 +1,9 @@
 -- What a formed trace makes, whether or not its answers are right.
-use Rattle.std.proofs.Common.{◌≡◌, ◌≢◌, ℕ, ◌+◌, ◌<◌, List, [], ◌∷◌, ◌++◌, length, map, true, false, cond, refl, sym, ap}
+use Rattle.std.proofs.Common.{◌≡◌, ◌≢◌, ℕ, ◌+◌, ◌<◌, List, [], ◌∷◌, ◌++◌, length, map, true, false, refl, sym, ap}
 use Rattle.std.proofs.Common.{◌∙◌, subst, ⊎_elim, Option, Some, None, arith, append_assoc, length-append}
 use Rattle.std.specs.Prelude.{◌==◌, ◌↔◌}
 use Rattle.std.specs.FinMap.{empty}
-use Rattle.std.proofs.lemmas.Bool.{both_ways, or_parts, cond-false, false_from_ne_true, ne_eqb}
+use Rattle.std.proofs.lemmas.Bool.{both_ways, cond-false, false_from_ne_true, ne_eqb}
 use Rattle.std.proofs.lemmas.List.{append-nil, map-append}
 use Rattle.am_record.specs.declared.step.Refusal.{Refusal}
 use Rattle.am_record.specs.declared.step.Op.{Op}
@@ -23,7 +23,7 @@ use Rattle.am_serial.specs.Sound.{FormedAt, FormedDo, EachEvent}
 use Rattle.am_serial.specs.Formed.{IsFormed, IsNextInOrder, FormedLaws}
 use Rattle.am_serial.proofs.Views.{View, view_of, view_of-push, push, among, active_in, active_parts, committed_in}
 use Rattle.am_serial.proofs.Views.{state_of, is_open-with_body, body_in-with_body, among_push, among_push_old}
-use Rattle.am_serial.proofs.Views.{among_push_last, among_push_none}
+use Rattle.am_serial.proofs.Views.{among_push_last, among_push_none, same_bodies}
 use Rattle.am_serial.proofs.Serial.{IsRisingFrom, IsRisingFrom-push, by_contradiction, none}
 use Rattle.am_serial.proofs.Runs.{same_state, begun_active, ended_active, extended-with_body, view-state_of}
 use Rattle.am_serial.proofs.Sound.{active_early, blocker_is_least, least_is_blocker}
@@ -95,15 +95,6 @@ push_numbered v (Aborts t0) num on = record {
   closed = λ t h. among_push_old v.ended t0 t (num.closed t h);
 }
 push_numbered v Nothing num on = num
-
-same_bodies : (v : View) (t0 : ℕ) (a : Answered) (ts : List ℕ) → among ts t0 ≡ false →
-    map (λ t. cond (t0 == t) (v.body t ++ a ∷ []) (v.body t)) ts ≡ map v.body ts
-same_bodies v t0 a [] h = refl
-same_bodies v t0 a (t ∷ ts) h =
-    let parts = or_parts (t0 == t) (among ts t0) h in
-    let first = cond-false (t0 == t) (v.body t ++ a ∷ []) (v.body t) parts.0 in
-    let rest = same_bodies v t0 a ts parts.1 in
-    λ i. first i ∷ rest i
 
 left_by_push : (bodies : List (List Answered)) (b : List Answered) (m : PlainMap) →
     left_by_bodies (bodies ++ b ∷ []) m ≡ left (ops_of b) (left_by_bodies bodies m)

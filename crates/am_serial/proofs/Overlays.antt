@@ -37,7 +37,7 @@ rest_of : {f : ℕ → List Answered} {x : ℕ} {ts : List ℕ} → Crowd f (x �
 rest_of {f} {x} {ts} c = record {
   once = c.once.1;
   orderly = c.orderly;
-  apart = λ t u ht hu n. c.apart t u (or_right (t == x) (among ts t) ht) (or_right (u == x) (among ts u) hu) n;
+  apart = λ t u ht hu n. c.apart t u (or_right (x == t) (among ts t) ht) (or_right (x == u) (among ts u) hu) n;
 }
 
 first_in : (x : ℕ) (ts : List ℕ) → among (x ∷ ts) x ≡ true
@@ -52,7 +52,7 @@ module _ (f : ℕ → List Answered) where
       ((u : ℕ) → among ts u ≡ true → owns (locks_by f u) q ≡ false) → get (left_by_bodies (map f ts) m) q ≡ get m q
   crowd_frame [] m q c free = refl
   crowd_frame (x ∷ ts) m q c free =
-      crowd_frame ts (left (ops_of (f x)) m) q (rest_of c) (λ u h. free u (or_right (u == x) (among ts u) h))
+      crowd_frame ts (left (ops_of (f x)) m) q (rest_of c) (λ u h. free u (or_right (x == u) (among ts u) h))
       ∙ left_frame (holds (locks_by f x)) (owns (locks_by f x)) (ops_of (f x)) m q
       (scope_of (ops_of (f x)) (c.orderly x)) (free x (first_in x ts))
 
@@ -64,7 +64,7 @@ module _ (f : ℕ → List Answered) where
   crowd_own S t (x ∷ ts) m n c on w free a =
       ⊎_elim
       (λ here.
-      let e : t ≡ x = eqb-true t x here in
+      let e : t ≡ x = sym (eqb-true x t here) in
       let same : Agree S (left (ops_of (f x)) m) (left (ops_of (f t)) n) =
       subst (λ y. Agree S (left (ops_of (f y)) m) (left (ops_of (f t)) n)) e
       (left_local S (owns (locks_by f t)) (ops_of (f t)) m n
@@ -73,12 +73,12 @@ module _ (f : ℕ → List Answered) where
       record {
         at = λ q h.
             crowd_frame ts (left (ops_of (f x)) m) q (rest_of c)
-            (λ u hu. free u (or_right (u == x) (among ts u) hu) (λ k. not_first c u hu (k ∙ e)) q h)
+            (λ u hu. free u (or_right (x == u) (among ts u) hu) (λ k. not_first c u hu (k ∙ e)) q h)
             ∙ same.at q h;
       })
       (λ later.
       crowd_own S t ts (left (ops_of (f x)) m) n (rest_of c) later w
-      (λ u hu. free u (or_right (u == x) (among ts u) hu))
+      (λ u hu. free u (or_right (x == u) (among ts u) hu))
       (record {
         at = λ q h.
             left_frame (holds (locks_by f x)) (owns (locks_by f x)) (ops_of (f x)) m q
@@ -86,7 +86,7 @@ module _ (f : ℕ → List Answered) where
             (free x (first_in x ts) (λ k. not_first c t later (sym k)) q h)
             ∙ a.at q h;
       }))
-      (or_cases (t == x) (among ts t) on)
+      (or_cases (x == t) (among ts t) on)
 
   -- what t holds, no other owns
   others_free : (ts : List ℕ) (t : ℕ) → Crowd f ts → among ts t ≡ true → (u : ℕ) → among ts u ≡ true → u ≢ t →
@@ -113,11 +113,11 @@ module _ (f : ℕ → List Answered) where
       ⊎_elim
       (λ yes. inl (x, first_in x ts, yes))
       (λ no. ⊎_elim
-      (λ o. inl (o.0, or_right (o.0 == x) (among ts o.0) o.1, o.2))
+      (λ o. inl (o.0, or_right (x == o.0) (among ts o.0) o.1, o.2))
       (λ free. inr (λ u h. ⊎_elim
-      (λ here. subst (λ y. owns (locks_by f y) q ≡ false) (sym (eqb-true u x here)) no)
+      (λ here. subst (λ y. owns (locks_by f y) q ≡ false) (eqb-true x u here) no)
       (λ later. free u later)
-      (or_cases (u == x) (among ts u) h)))
+      (or_cases (x == u) (among ts u) h)))
       (owner ts q))
       (cases_Bool (owns (locks_by f x) q))
 

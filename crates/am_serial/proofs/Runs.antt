@@ -3,7 +3,8 @@ use Rattle.std.proofs.Common.{◌≡◌, ◌≢◌, ℕ, ◌<◌, List, [], ◌�
 use Rattle.std.proofs.Common.{ap, ◌∙◌, subst, ⊎_elim, ◌⊎◌, Option, Some, None, arith, append_assoc, length-append}
 use Rattle.std.specs.Prelude.{◌&&◌, ◌||◌, ◌==◌, not, filter, MatchOption}
 use Rattle.std.specs.FinMap.{contains_key, get, empty}
-use Rattle.std.proofs.lemmas.Bool.{false≢true, or_cases, not-false, and_cases, eqb-true}
+use Rattle.std.proofs.lemmas.Bool.{eq-eqb, ne_eqb, not-false}
+use Rattle.std.proofs.lemmas.Cmp.{nat_eq_equiv}
 use Rattle.std.proofs.lemmas.List.{append-nil, map-append}
 use Rattle.std.proofs.lemmas.List.Elements.{filter-append}
 use Rattle.am_record.specs.declared.step.Refusal.{Refusal}
@@ -20,11 +21,16 @@ use Rattle.am_record.specs.OrderedKey.{OrderedKey}
 use Rattle.am_record.specs.Plain.{PlainMap, Draft, fresh, answer, left_on, is_orderly, found, exists_or_done}
 use Rattle.am_record.specs.Plain.{least_taken, went_back}
 use Rattle.am_record.specs.Asks.{lock_of, clashes, locks_of}
+use Rattle.am_record.specs.Numbered.{with_changed}
+use Rattle.am_record.proofs.Lists.{AllByRecursion-always}
+use Rattle.am_record.proofs.Numbered.{of_number-told, with_changed-map, without_number-map}
+use Rattle.am_record.proofs.Owners as owners
 use Rattle.am_record.specs.Events.{Event}
 use Rattle.am_serial.specs.Trace.{Trace, Answered, Effect, Begins, Answers, Commits, Aborts, Nothing, effect}
 use Rattle.am_serial.specs.Trace.{effect_of_do, effects, ops_of, left_by_bodies}
 use Rattle.am_record.specs.Refusals.{or_else, lock_refusal}
-use Rattle.am_serial.specs.Machine.{State, Transaction, start, is_open, view, blocker, due_early, due_lock, due, May}
+use Rattle.am_serial.specs.Machine.{State, Transaction, start, is_open, locks_in, view, blocker, due_early, due_lock}
+use Rattle.am_serial.specs.Machine.{due, May}
 use Rattle.am_serial.specs.Machine.{extended, without_transaction, next, Runs, after_run}
 use Rattle.am_serial.proofs.Views.{View, view_of, view_of-push, push, among, active_in, committed_in, with_body}
 use Rattle.am_serial.proofs.Views.{state_of, is_open-with_body, body_in-with_body}
@@ -39,27 +45,25 @@ after_run-push [] s e = refl
 after_run-push (x ∷ trace) s e = after_run-push trace (next s (effect x.0 x.1)) e
 
 pub extended-with_body : (t : ℕ) (done : Answered) (f : ℕ → List Answered) (ts : List ℕ) →
-    map (extended t done) (map (with_body f) ts) ≡ map (with_body (λ u. cond (t == u) (f u ++ done ∷ []) (f u))) ts
-extended-with_body t done f [] = refl
-extended-with_body t done f (x ∷ ts) = ap (λ xs. (x, cond (t == x) (f x ++ done ∷ []) (f x)) ∷ xs)
-    (extended-with_body t done f ts)
+    with_changed (λ (x : Transaction). x.0) (extended done) t (map (with_body f) ts) ≡ map
+    (with_body (λ u. cond (t == u) (f u ++ done ∷ []) (f u))) ts
+extended-with_body t done f ts =
+    let g : ℕ → List Answered = λ u. cond (t == u) (f u ++ done ∷ []) (f u) in
+    with_changed-map (λ (x : Transaction). x.0) (extended done) (with_body f) (with_body g) t ts
+    (AllByRecursion-always (λ u. u ≡ t → extended done (with_body f u) ≡ with_body g u)
+    (λ u e i. (u, cond (sym (eq-eqb t u (sym e)) i) (f u ++ done ∷ []) (f u))) ts)
+    (λ u d i. (u, cond (sym (ne_eqb t u (λ e. d (sym e))) i) (f u ++ done ∷ []) (f u)))
 
 pub without_transaction-with_body : (t : ℕ) (f : ℕ → List Answered) (ts : List ℕ) →
     without_transaction t (map (with_body f) ts) ≡ map (with_body f) (filter (λ x. not (x == t)) ts)
-without_transaction-with_body t f [] = refl
-without_transaction-with_body t f (x ∷ ts) =
-    elim (not (x == t)) as (λ b. cond b ((x, f x) ∷ without_transaction t (map (with_body f) ts))
-    (without_transaction t (map (with_body f) ts)) ≡ map (with_body f)
-    (cond b (x ∷ filter (λ x. not (x == t)) ts) (filter (λ x. not (x == t)) ts))) [
-      | true ↦ ap (λ xs. (x, f x) ∷ xs) (without_transaction-with_body t f ts)
-      | false ↦ without_transaction-with_body t f ts
-    ]
+without_transaction-with_body t f = without_number-map (λ u. u) (λ (x : Transaction). x.0) (with_body f) (λ x. refl) t
 
 pub not_among_push : (ended : List ℕ) (t x : ℕ) →
     not (among (ended ++ t ∷ []) x) ≡ (not (among ended x) && not (x == t))
-not_among_push [] t x = elim (x == t) as (λ b. not (b || false) ≡ not b) [ true ↦ refl | false ↦ refl ]
+not_among_push [] t x = elim (t == x) as (λ b. not (b || false) ≡ not b) [ true ↦ refl | false ↦ refl ] ∙
+    ap not (nat_eq_equiv.symm t x)
 not_among_push (e ∷ ended) t x =
-    elim (x == e) as (λ b. not (b || among (ended ++ t ∷ []) x) ≡ (not (b || among ended x) && not (x == t))) [
+    elim (e == x) as (λ b. not (b || among (ended ++ t ∷ []) x) ≡ (not (b || among ended x) && not (x == t))) [
       | true ↦ refl
       | false ↦ not_among_push ended t x
     ]
@@ -143,20 +147,19 @@ pub not_busy : (o : Option ℕ) (full : Bool) → lock_refusal o full ≡ None �
 not_busy None full h = refl
 not_busy (Some h') full h = absurd (cc)
 
+pub nobody_blocks : (txs : List Transaction) (t : ℕ) (asked : Option Lock) → blocker txs t asked ≡ None → (u : ℕ) →
+    is_open txs u ≡ true → u ≢ t → clashes asked (locks_in txs u) ≡ false
+nobody_blocks txs t asked none u on n =
+    subst (λ (ls : List Lock). clashes asked ls ≡ false)
+    (sym (of_number-told (λ (x : Transaction). x.0) (λ x. x.1) [] (λ done. locks_of (ops_of done)) txs u))
+    (owners.nobody_blocks (λ (x : Transaction). x.0) (λ x. locks_of (ops_of x.1)) [] txs t asked none u on n)
+
 pub no_blocker : (f : ℕ → List Answered) (t : ℕ) (asked : Option Lock) (ts : List ℕ) →
     blocker (map (with_body f) ts) t asked ≡ None → (u : ℕ) → among ts u ≡ true → u ≢ t →
     clashes asked (locks_of (ops_of (f u))) ≡ false
-no_blocker f t asked [] h u on n = absurd (false≢true on)
-no_blocker f t asked (x ∷ ts) h u on n =
-    let parts = none_of_first (not (t == x) && clashes asked (locks_of (ops_of (f x)))) x
-    (blocker (map (with_body f) ts) t asked) h in
-    ⊎_elim
-    (λ here. ⊎_elim
-    (λ same. absurd (n (eqb-true u x here ∙ sym (eqb-true t x (not-false (t == x) same)))))
-    (λ free. subst (λ y. clashes asked (locks_of (ops_of (f y))) ≡ false) (sym (eqb-true u x here)) free)
-    (and_cases (not (t == x)) (clashes asked (locks_of (ops_of (f x)))) parts.0))
-    (λ later. no_blocker f t asked ts parts.1 u later n)
-    (or_cases (u == x) (among ts u) on)
+no_blocker f t asked ts none u on n =
+    subst (λ (done : List Answered). clashes asked (locks_of (ops_of done)) ≡ false) (body_in-with_body f ts u on)
+    (nobody_blocks (map (with_body f) ts) t asked none u (is_open-with_body f ts u ∙ on) n)
 
 -- an answer is no refusal
 pub answer_is_answer : (t : ℕ) (op : Op) (d : Draft) → effect_of_do t op (answer op d) ≡ Answers t op (answer op d)

@@ -4,7 +4,7 @@ use Rattle.std.proofs.Common.{refl, sym, ap, ◌∙◌, subst, ⊎_elim, inl, in
 use Rattle.std.specs.Prelude.{◌==◌, filter}
 use Rattle.std.specs.FinMap.{empty}
 use Rattle.std.proofs.lemmas.Bool.{false≢true, both_ways, or_parts, or_cases, or_left, or_right, cases_lt, cond_both}
-use Rattle.std.proofs.lemmas.Bool.{cond-false, false_from_ne_true, eqb-true, eqb-false, eq-eqb}
+use Rattle.std.proofs.lemmas.Bool.{false_from_ne_true, eqb-true, eqb-false, eq-eqb}
 use Rattle.std.proofs.lemmas.List.{map-append}
 use Rattle.am_record.specs.declared.lock.Lock.{Lock}
 use Rattle.am_record.specs.declared.step.Op.{Op}
@@ -16,7 +16,7 @@ use Rattle.am_serial.specs.Trace.{IsAnsweredAlone, AreAnsweredInTurn}
 use Rattle.am_serial.proofs.Bodies.{AllOrderly, orderly_push, Apart, locks_of-push, asked_only, not_owned, not_held}
 use Rattle.am_serial.proofs.Bodies.{answers_apart, answers_push}
 use Rattle.am_serial.proofs.Views.{View, push, among, active_in, active_parts, active_from, among_push, among_push_old}
-use Rattle.am_serial.proofs.Views.{among_push_last, among_push_none, committed_in}
+use Rattle.am_serial.proofs.Views.{among_push_last, among_push_none, committed_in, same_bodies}
 
 abbrev pub held_in : View → ℕ → List Lock
 held_in v t = locks_of (ops_of (v.body t))
@@ -29,8 +29,8 @@ AreDistinct (t ∷ ts) = (among ts t ≡ false) × AreDistinct ts
 AreDistinct-push : (ts : List ℕ) (x : ℕ) → AreDistinct ts → among ts x ≡ false → AreDistinct (ts ++ x ∷ [])
 AreDistinct-push [] x d h = (refl, tt)
 AreDistinct-push (t ∷ ts) x d h =
-    let parts = or_parts (x == t) (among ts x) h in
-    (among_push_none ts x t d.0 (λ e. eqb-false x t parts.0 (sym e)), AreDistinct-push ts x d.1 parts.1)
+    let parts = or_parts (t == x) (among ts x) h in
+    (among_push_none ts x t d.0 (eqb-false t x parts.0), AreDistinct-push ts x d.1 parts.1)
 
 -- the numbers rise, all above n
 abbrev pub IsRisingFrom : ℕ → List ℕ → Type 0
@@ -43,7 +43,7 @@ IsRisingFrom-push n [] x r h b = (h, tt)
 IsRisingFrom-push n (t ∷ ts) x r h b = (
   r.0,
   IsRisingFrom-push t ts x r.1
-      (b t (or_left (t == t) (among ts t) (eq-eqb t t refl))) (λ u k. b u (or_right (u == t) (among ts u) k)),
+      (b t (or_left (t == t) (among ts t) (eq-eqb t t refl))) (λ u k. b u (or_right (t == u) (among ts u) k)),
 )
 
 pub IsRisingFrom-weaker : (m n : ℕ) (ts : List ℕ) → m ≤ n → IsRisingFrom n ts → IsRisingFrom m ts
@@ -63,9 +63,9 @@ above_all n [] r u h = absurd (false≢true h)
 above_all n (t ∷ ts) r u h =
     let above = r.0 in
     ⊎_elim
-    (λ here. let e : u ≡ t = eqb-true u t here in omega arith)
+    (λ here. let e : t ≡ u = eqb-true t u here in omega arith)
     (λ later. let more : t < u = above_all t ts r.1 u later in omega arith)
-    (or_cases (u == t) (among ts u) h)
+    (or_cases (t == u) (among ts u) h)
 
 -- what holds of every trace that the machine makes
 pub record Inv (v : View) : Type 0 where
@@ -157,16 +157,8 @@ module _ (v : View) (inv : Inv v) (t0 : ℕ) (op : Op) (reply : Reply) (on : amo
   not_committed = false_from_ne_true (among v.committers t0)
       (λ e. both_ways (among v.ended t0) (active_parts v t0 on).1 (inv.closed t0 e))
 
-  same_bodies : (ts : List ℕ) → among ts t0 ≡ false → map new_body ts ≡ map v.body ts
-  same_bodies [] h = refl
-  same_bodies (t ∷ ts) h =
-      let parts = or_parts (t0 == t) (among ts t0) h in
-      let first = cond-false (t0 == t) (v.body t ++ (op, reply) ∷ []) (v.body t) parts.0 in
-      let rest = same_bodies ts parts.1 in
-      λ i. first i ∷ rest i
-
   pub same_committed_bodies : map new_body v.committers ≡ map v.body v.committers
-  same_committed_bodies = same_bodies v.committers not_committed
+  same_committed_bodies = same_bodies v t0 (op, reply) v.committers not_committed
 
 module _ (v : View) (inv : Inv v) (t0 : ℕ) (op : Op) (reply : Reply) (may : MayAnswer v t0 op reply) where
   abbrev body' : ℕ → List Answered

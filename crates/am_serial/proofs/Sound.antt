@@ -159,39 +159,39 @@ record IsLeast (f : ℕ → List Answered) (ts : List ℕ) (t : ℕ) (asked : Op
 the_blocker : (f : ℕ → List Answered) (t : ℕ) (asked : Option Lock) (n : ℕ) (ts : List ℕ) → IsRisingFrom n ts →
     (h : ℕ) → blocker (map (with_body f) ts) t asked ≡ Some h → IsLeast f ts t asked h
 the_blocker f t asked n [] r h e = absurd (cc)
-the_blocker f t asked n (x ∷ ts) r h e = at (not (t == x) && clash f asked x) refl e
+the_blocker f t asked n (x ∷ ts) r h e = at (not (x == t) && clash f asked x) refl e
     (λ k. the_blocker f t asked x ts r.1 h k)
   where
-    at : (b : Bool) → (not (t == x) && clash f asked x) ≡ b → cond b (Some x) (blocker (map (with_body f) ts) t asked) ≡
+    at : (b : Bool) → (not (x == t) && clash f asked x) ≡ b → cond b (Some x) (blocker (map (with_body f) ts) t asked) ≡
         Some h → (blocker (map (with_body f) ts) t asked ≡ Some h → IsLeast f ts t asked h) →
         IsLeast f (x ∷ ts) t asked h
     at true b k later_on =
         let e : x ≡ h = cc in
-        let parts = and_parts (not (t == x)) (clash f asked x) b in
+        let parts = and_parts (not (x == t)) (clash f asked x) b in
         let first : IsLeast f (x ∷ ts) t asked x = record {
           on = or_left (x == x) (among ts x) (eq-eqb x x refl);
-          other = λ same. both_ways (not (t == x)) (ap not (eq-eqb t x (sym same))) parts.0;
+          other = λ same. both_ways (not (x == t)) (ap not (eq-eqb x t same)) parts.0;
           conflict = parts.1;
           least = λ u hu n c. ⊎_elim
-              (λ here. let same : u ≡ x = eqb-true u x here in omega arith)
+              (λ here. let same : x ≡ u = eqb-true x u here in omega arith)
               (λ later. let above : x < u = above_all x ts r.1 u later in omega arith)
-              (or_cases (u == x) (among ts u) hu);
+              (or_cases (x == u) (among ts u) hu);
         } in
         subst (IsLeast f (x ∷ ts) t asked) e first
     at false b k later_on =
         let rest = later_on k in
         record {
-          on = or_right (h == x) (among ts h) rest.on;
+          on = or_right (x == h) (among ts h) rest.on;
           other = rest.other;
           conflict = rest.conflict;
           least = λ u hu n c. ⊎_elim
               (λ here.
-              let same : u ≡ x = eqb-true u x here in
-              absurd (both_ways (not (t == x) && clash f asked x) b
-              (and_from (not (t == x)) (clash f asked x) (not_from_false (t == x)
-              (ne_eqb t x (λ k. n (same ∙ sym k)))) (subst (λ y. clash f asked y ≡ true) same c))))
+              let same : x ≡ u = eqb-true x u here in
+              absurd (both_ways (not (x == t) && clash f asked x) b
+              (and_from (not (x == t)) (clash f asked x) (not_from_false (x == t)
+              (ne_eqb x t (λ k. n (sym same ∙ k)))) (subst (λ y. clash f asked y ≡ true) (sym same) c))))
               (λ later. rest.least u later n c)
-              (or_cases (u == x) (among ts u) hu);
+              (or_cases (x == u) (among ts u) hu);
         }
 
 module _ (es : List Effect) (begun_rise : IsRisingFrom 0 (view_of es).begun) (t : ℕ) (op : Op) where

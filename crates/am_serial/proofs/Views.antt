@@ -1,15 +1,18 @@
 -- What of a trace the machine's state depends on, and how one more event changes it.
 use Rattle.std.proofs.Common.{◌≡◌, ◌≢◌, ℕ, ◌+◌, List, [], ◌∷◌, ◌++◌, length, map, Bool, true, false, cond, refl, sym}
 use Rattle.std.proofs.Common.{ap, ◌∙◌, subst, ⊎_elim, inl, inr, ◌⊎◌, Some, None, arith}
-use Rattle.std.specs.Prelude.{◌||◌, ◌==◌, not, filter}
-use Rattle.std.specs.List.{list_any, cons_option}
+use Rattle.std.specs.Prelude.{◌==◌, not, filter}
+use Rattle.std.specs.List.{cons_option}
 use Rattle.std.specs.FinMap.{empty}
-use Rattle.std.proofs.lemmas.Bool.{false≢true, both_ways, or_cases, or_left, or_right, cond_both, false_from_ne_true}
-use Rattle.std.proofs.lemmas.Bool.{not-true, not_from_false, eqb-true, eq-eqb}
+use Rattle.std.proofs.lemmas.Bool.{false≢true, both_ways, or_cases, or_left, or_right, cond_both, cond-false}
+use Rattle.std.proofs.lemmas.Bool.{ne_eqb, not-true, not_from_false, eqb-true}
 use Rattle.std.proofs.lemmas.List.{append-nil}
 use Rattle.std.proofs.lemmas.List.Folds.{list_any-append}
 use Rattle.std.proofs.lemmas.List.Elements.{filter_map-append}
 use Rattle.am_record.specs.Plain.{PlainMap}
+use Rattle.am_record.specs.Numbered.{has_number}
+use Rattle.am_record.proofs.Numbered.{has_number-map, has_number-push_other, has_number-push_own, map-there}
+use Rattle.am_record.proofs.Numbered.{of_number-known, of_number-map}
 use Rattle.am_serial.specs.Trace.{Answered, Effect, Begins, Answers, Commits, Aborts, Nothing, begins, ends, commits}
 use Rattle.am_serial.specs.Trace.{answered_to, begun, ended, committers, body, runs, makes, runs_made, left_by_bodies}
 use Rattle.am_serial.specs.Machine.{State, Transaction, is_open, body_in}
@@ -97,7 +100,7 @@ view_of-push es e = view_of-with_all es e ∙ with_all-push (view_of es) e
 -- ---- numbers in lists
 
 abbrev pub among : List ℕ → ℕ → Bool
-among ts t = list_any (λ u. t == u) ts
+among ts t = has_number (λ u. u) ts t
 
 pub among_filter : (p : ℕ → Bool) (t : ℕ) (ts : List ℕ) → among (filter p ts) t ≡ true → (among ts t ≡ true) ×
     (p t ≡ true)
@@ -106,10 +109,10 @@ among_filter p t (x ∷ ts) h =
     let P : List ℕ → Type 0 = λ ys. among ys t ≡ true → (among (x ∷ ts) t ≡ true) × (p t ≡ true) in
     cond_both (p x) (x ∷ filter p ts) (filter p ts) P
     (λ px h. ⊎_elim
-    (λ here. (or_left (t == x) (among ts t) here, subst (λ y. p y ≡ true) (sym (eqb-true t x here)) px))
-    (λ later. let rest = among_filter p t ts later in (or_right (t == x) (among ts t) rest.0, rest.1))
-    (or_cases (t == x) (among (filter p ts) t) h))
-    (λ px h. let rest = among_filter p t ts h in (or_right (t == x) (among ts t) rest.0, rest.1))
+    (λ here. (or_left (x == t) (among ts t) here, subst (λ y. p y ≡ true) (eqb-true x t here) px))
+    (λ later. let rest = among_filter p t ts later in (or_right (x == t) (among ts t) rest.0, rest.1))
+    (or_cases (x == t) (among (filter p ts) t) h))
+    (λ px h. let rest = among_filter p t ts h in (or_right (x == t) (among ts t) rest.0, rest.1))
     h
 
 pub among_filter_from : (p : ℕ → Bool) (t : ℕ) (ts : List ℕ) → among ts t ≡ true → p t ≡ true →
@@ -118,31 +121,36 @@ among_filter_from p t [] h k = absurd (false≢true h)
 among_filter_from p t (x ∷ ts) h k =
     cond_both (p x) (x ∷ filter p ts) (filter p ts) (λ ys. among ys t ≡ true)
     (λ px. ⊎_elim
-    (λ here. or_left (t == x) (among (filter p ts) t) here)
-    (λ later. or_right (t == x) (among (filter p ts) t) (among_filter_from p t ts later k))
-    (or_cases (t == x) (among ts t) h))
+    (λ here. or_left (x == t) (among (filter p ts) t) here)
+    (λ later. or_right (x == t) (among (filter p ts) t) (among_filter_from p t ts later k))
+    (or_cases (x == t) (among ts t) h))
     (λ px. ⊎_elim
-    (λ here. absurd (both_ways (p x) px (subst (λ y. p y ≡ true) (eqb-true t x here) k)))
+    (λ here. absurd (both_ways (p x) px (subst (λ y. p y ≡ true) (sym (eqb-true x t here)) k)))
     (λ later. among_filter_from p t ts later k)
-    (or_cases (t == x) (among ts t) h))
+    (or_cases (x == t) (among ts t) h))
 
 -- one more number at the end
 pub among_push : (ts : List ℕ) (x t : ℕ) → among (ts ++ x ∷ []) t ≡ true → (among ts t ≡ true) ⊎ (t ≡ x)
 among_push ts x t h =
-    ⊎_elim (λ old. inl old) (λ new. ⊎_elim (λ e. inr (eqb-true t x e)) (λ k. absurd (false≢true k))
-    (or_cases (t == x) false new))
-    (or_cases (among ts t) (among (x ∷ []) t) (sym (list_any-append (λ u. t == u) ts (x ∷ [])) ∙ h))
+    ⊎_elim (λ old. inl old) (λ new. ⊎_elim (λ e. inr (sym (eqb-true x t e))) (λ k. absurd (false≢true k))
+    (or_cases (x == t) false new))
+    (or_cases (among ts t) (among (x ∷ []) t) (sym (list_any-append (λ u. u == t) ts (x ∷ [])) ∙ h))
 
 pub among_push_old : (ts : List ℕ) (x t : ℕ) → among ts t ≡ true → among (ts ++ x ∷ []) t ≡ true
-among_push_old ts x t h = list_any-append (λ u. t == u) ts (x ∷ []) ∙ or_left (among ts t) (among (x ∷ []) t) h
+among_push_old ts x t h = list_any-append (λ u. u == t) ts (x ∷ []) ∙ or_left (among ts t) (among (x ∷ []) t) h
 
 pub among_push_last : (ts : List ℕ) (x : ℕ) → among (ts ++ x ∷ []) x ≡ true
-among_push_last ts x = list_any-append (λ u. x == u) ts (x ∷ []) ∙ or_right (among ts x) (among (x ∷ []) x)
-    (or_left (x == x) false (eq-eqb x x refl))
+among_push_last = has_number-push_own (λ u. u)
 
 pub among_push_none : (ts : List ℕ) (x t : ℕ) → among ts t ≡ false → t ≢ x → among (ts ++ x ∷ []) t ≡ false
-among_push_none ts x t h n = false_from_ne_true (among (ts ++ x ∷ []) t)
-    (λ e. ⊎_elim (λ old. both_ways (among ts t) h old) n (among_push ts x t e))
+among_push_none ts x t h n = has_number-push_other (λ u. u) ts x t (λ e. n (sym e)) ∙ h
+
+-- one more answer of a transaction leaves the bodies of others
+pub same_bodies : (v : View) (t0 : ℕ) (a : Answered) (ts : List ℕ) → among ts t0 ≡ false →
+    map (λ t. cond (t0 == t) (v.body t ++ a ∷ []) (v.body t)) ts ≡ map v.body ts
+same_bodies v t0 a ts off = map-there (λ u. u) (λ t. cond (t0 == t) (v.body t ++ a ∷ []) (v.body t)) v.body ts
+    (λ t on. cond-false (t0 == t) (v.body t ++ a ∷ []) (v.body t)
+    (ne_eqb t0 t (λ e. both_ways (among ts t0) off (ap (among ts) e ∙ on))))
 
 -- ---- what is active
 
@@ -175,14 +183,11 @@ state_of v = record {
 }
 
 pub is_open-with_body : (f : ℕ → List Answered) (ts : List ℕ) (t : ℕ) → is_open (map (with_body f) ts) t ≡ among ts t
-is_open-with_body f [] t = refl
-is_open-with_body f (x ∷ ts) t = ap (λ b. (t == x) || b) (is_open-with_body f ts t)
+is_open-with_body f = has_number-map (λ u. u) (λ (x : Transaction). x.0) (with_body f) (λ x. refl)
 
 pub body_in-with_body : (f : ℕ → List Answered) (ts : List ℕ) (t : ℕ) → among ts t ≡ true →
     body_in (map (with_body f) ts) t ≡ f t
-body_in-with_body f [] t h = absurd (false≢true h)
-body_in-with_body f (x ∷ ts) t h =
-    cond_both (t == x) (f x) (body_in (map (with_body f) ts) t) (λ b. b ≡ f t)
-    (λ e. ap f (sym (eqb-true t x e)))
-    (λ e. body_in-with_body f ts t (⊎_elim (λ here. absurd (both_ways (t == x) e here)) (λ later. later)
-    (or_cases (t == x) (among ts t) h)))
+body_in-with_body f ts t on =
+    of_number-map (λ u. u) (λ (x : Transaction). x.0) (with_body f) (λ x. refl) f (λ (x : Transaction). x.1) []
+    (λ x. refl) ts t
+    ∙ of_number-known (λ u. u) f [] (λ done. done ≡ f t) t (λ u e. ap f e) ts on

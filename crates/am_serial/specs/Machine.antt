@@ -1,7 +1,6 @@
 -- The locked machine: the committed map, and of each active transaction its answered operations.
-use Rattle.std.specs.Prelude.{◌≡◌, ◌⊎◌, ℕ, ◌+◌, ◌<◌, ◌≤◌, ◌==◌, length, List, [], ◌∷◌, ◌++◌, Bool, true}
-use Rattle.std.specs.Prelude.{false, cond, not, map, filter, Option, MatchOption}
-use Rattle.std.specs.List.{list_any}
+use Rattle.std.specs.Prelude.{◌≡◌, ◌⊎◌, ℕ, ◌+◌, ◌<◌, ◌≤◌, length, List, [], ◌∷◌, ◌++◌, Bool, true}
+use Rattle.std.specs.Prelude.{false, map, Option, MatchOption}
 use Rattle.std.specs.FinMap.{empty}
 use Rattle.am_record.specs.Limits.{max_active, max_begun}
 use Rattle.am_record.specs.OrderedKey.{OrderedKey}
@@ -16,6 +15,7 @@ use Rattle.am_record.specs.declared.step.Reply.TheVariants.{Begun, Committed, Ab
 use Rattle.am_record.specs.declared.step.Reply.TheVariants.{Cleaned, Refused}
 use Rattle.am_record.specs.Plain.{PlainMap, Draft, fresh, answer, left_on}
 use Rattle.am_record.specs.Asks.{lock_of, locks_of, holds, owns}
+use Rattle.am_record.specs.Numbered.{has_number, of_number, with_changed, without_number}
 use Rattle.am_record.specs.Owners.{blocker_among}
 use Rattle.am_record.specs.Refusals.{is_limit, refusal_before_lock, is_one_too_many, lock_refusal, or_else}
 use Rattle.am_serial.specs.Trace.{Trace, Answered, ops_of, Effect, Begins, Answers, Commits, Aborts, Nothing, effect}
@@ -37,12 +37,11 @@ abbrev pub start : State
 start = record { begun = 0; commits = 0; runs = 0; committed = empty; active = [] }
 
 abbrev pub is_open : List Transaction → ℕ → Bool
-is_open txs t = list_any (λ (x : Transaction). t == x.0) txs
+is_open txs t = has_number (λ (x : Transaction). x.0) txs t
 
 -- the answered operations of a transaction, none where it isn't active
 abbrev pub body_in : List Transaction → ℕ → List Answered
-body_in [] t = []
-body_in (x ∷ txs) t = cond (t == x.0) x.1 (body_in txs t)
+body_in txs t = of_number (λ (x : Transaction). x.0) (λ x. x.1) [] txs t
 
 -- what the transaction sees: its own body alone on the committed map
 abbrev pub view : State → ℕ → Draft
@@ -107,19 +106,19 @@ May s (Clean range limit) (Refused BadLimit) = is_limit limit ≡ false
 May s (Clean range limit) (Refused NoMemory) = is_limit limit ≡ true
 May s _ _ = ⊥
 
--- the operation at the end of its transaction's
-abbrev pub extended : ℕ → Answered → Transaction → Transaction
-extended t done x = (x.0, cond (t == x.0) (x.1 ++ done ∷ []) x.1)
+-- with the operation at the end of its own
+abbrev pub extended : Answered → Transaction → Transaction
+extended done x = (x.0, x.1 ++ done ∷ [])
 
 abbrev pub without_transaction : ℕ → List Transaction → List Transaction
-without_transaction t txs = filter (λ (x : Transaction). not (x.0 == t)) txs
+without_transaction t txs = without_number (λ (x : Transaction). x.0) t txs
 
 -- the state after. A commit rebases what is active: the other views are their bodies alone on the new committed map
 abbrev pub next : State → Effect → State
 next s (Begins t) = record s { begun = s.begun + 1; active = s.active ++ (t, []) ∷ [] }
 next s (Answers t op reply) = record s {
   runs = s.runs + runs_made op reply;
-  active = map (extended t (op, reply)) s.active;
+  active = with_changed (λ (x : Transaction). x.0) (extended (op, reply)) t s.active;
 }
 next s (Commits t) = record s {
   commits = s.commits + 1;

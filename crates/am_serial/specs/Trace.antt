@@ -1,7 +1,7 @@
 -- Traces: what a list of steps with their replies says of its transactions, and when it is serial and steady.
 use Rattle.std.specs.Prelude.{◌≡◌, ℕ, ◌+◌, ◌==◌, List, [], ◌∷◌, ◌++◌, Bool, true, cond, not, map, filter, Option, Some}
 use Rattle.std.specs.Prelude.{None}
-use Rattle.std.specs.List.{list_any, filter_map}
+use Rattle.std.specs.List.{filter_map}
 use Rattle.std.specs.FinMap.{empty}
 use Rattle.am_record.specs.declared.lock.Lock.{Lock}
 use Rattle.am_record.specs.declared.step.Op.{Op}
@@ -12,6 +12,7 @@ use Rattle.am_record.specs.declared.step.Reply.{Reply}
 use Rattle.am_record.specs.declared.step.Reply.TheVariants.{Done, Begun, Committed, Aborted, Refused}
 use Rattle.am_record.specs.Plain.{PlainMap, answers, left}
 use Rattle.am_record.specs.Events.{Event}
+use Rattle.am_record.specs.Numbered.{has_number}
 use Rattle.am_record.specs.Asks.{locks_of}
 
 abbrev pub Trace : Type 0
@@ -86,10 +87,10 @@ runs (e ∷ es) = runs es + makes e
 
 -- begun, and neither committed nor aborted
 abbrev pub active : List Effect → List ℕ
-active es = filter (λ t. not (list_any (λ u. t == u) (ended es))) (begun es)
+active es = filter (λ t. not (has_number (λ u. u) (ended es) t)) (begun es)
 
 abbrev pub is_active : List Effect → ℕ → Bool
-is_active es t = list_any (λ u. t == u) (active es)
+is_active es t = has_number (λ u. u) (active es) t
 
 -- the answered operations of a transaction with their replies, in order
 abbrev pub body : List Effect → ℕ → List Answered

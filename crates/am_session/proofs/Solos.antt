@@ -1,10 +1,9 @@
 -- A store with one session: its transaction stays open until it is ended.
-use Rattle.std.proofs.Common.{◌≡◌, ◌⊎◌, inl, inr, ℕ, ◌==◌, List, [], ◌∷◌, ◌++◌, Bool, true, false, map, ◌||◌, Option}
+use Rattle.std.proofs.Common.{◌≡◌, ◌⊎◌, inl, inr, ℕ, List, [], ◌∷◌, ◌++◌, Bool, true, false, Option}
 use Rattle.std.proofs.Common.{Some, None, refl, sym, ap, ◌∙◌, subst}
 use Rattle.std.specs.Prelude.{MatchOption, MatchBool, if◌then◌else◌}
 use Rattle.std.specs.FinMap.{get, contains_key}
-use Rattle.std.proofs.lemmas.Bool.{or_left, or_right, true≢false, eq-eqb}
-use Rattle.std.proofs.lemmas.List.Folds.{list_any-append}
+use Rattle.std.proofs.lemmas.Bool.{true≢false}
 use Rattle.am_record.specs.Sessions.{IsAllowed, active_after}
 use Rattle.am_record.specs.OrderedKey.{OrderedKey}
 use Rattle.am_record.specs.Interval.{Interval}
@@ -27,7 +26,8 @@ use Rattle.am_effect.specs.Store.{WithinLimit}
 use Rattle.am_record.specs.Refusals.{is_limit}
 use Rattle.am_sound.specs.StoreState.{Active, StoreState, is_in, in_table, newcomer, refusal_in, takes_memory}
 use Rattle.am_sound.specs.StoreState.{MayAnswer, with_op, state_after_op, state_after}
-use Rattle.am_sound.proofs.Actives.{kept_number}
+use Rattle.am_record.specs.Numbered.{with_changed}
+use Rattle.am_record.proofs.Numbered.{has_number-push_own, has_number-with_changed}
 use Rattle.am_talk.specs.Session.{SessionState, session_after}
 use Rattle.am_talk.specs.Actions.{EndsAbort}
 use Rattle.am_talk.specs.Dialogue.{commits_after}
@@ -107,14 +107,9 @@ clean_plain p range limit r h = limit_plain limit r _ (λ is. subst Plain (sym i
 
 -- ---- who is active after a step
 
-still_in : (f : Active → Active) → ((x : Active) → (f x).number ≡ x.number) → (xs : List Active) (u : ℕ) →
-    is_in (map f xs) u ≡ is_in xs u
-still_in f same [] u = refl
-still_in f same (x ∷ xs) u = λ i. (u == same x i) || still_in f same xs u i
-
 did_in : (t : ℕ) (o : Op) (r : Reply) (new : List Note) (xs : List Active) (u : ℕ) →
-    is_in (map (with_op t o r new) xs) u ≡ is_in xs u
-did_in t o r new xs u = still_in (with_op t o r new) (λ x. kept_number (t == x.number) x _ refl) xs u
+    is_in (with_changed (λ (x : Active). x.number) (with_op o r new) t xs) u ≡ is_in xs u
+did_in t o r new = has_number-with_changed (λ (x : Active). x.number) (with_op o r new) t (λ x. refl)
 
 do_in : (p : StoreState) (t : ℕ) (o : Op) (r : Reply) (u : ℕ) → is_in (state_after_op p t o r).active u ≡ is_in p.active
     u
@@ -130,9 +125,7 @@ open_do p t o r None h = h
 open_do p t o r (Some u) h = do_in p t o r u ∙ h
 
 begun_in : (xs : List Active) (t : ℕ) → is_in (xs ++ newcomer t ∷ []) t ≡ true
-begun_in xs t =
-    list_any-append (λ (x : Active). t == x.number) xs (newcomer t ∷ [])
-    ∙ or_right (is_in xs t) ((t == t) || false) (or_left (t == t) false (eq-eqb t t refl))
+begun_in xs t = has_number-push_own (λ (x : Active). x.number) xs (newcomer t)
 
 upkept : (p q : StoreState) (a : Option ℕ) → q.active ≡ p.active → IsOpen p a → IsOpen q a
 upkept p q None e h = h

@@ -6,4 +6,3 @@ pub mod Sounds
 pub mod Counts
 pub mod Lifts
 pub mod Tables
-pub mod Actives

@@ -1,10 +1,16 @@
 -- A step that is right of what the store keeps is right at its trace.
-use Rattle.std.proofs.Common.{◌≡◌, ◌≤◌, ◌<◌, ◌+◌, ℕ, suc, List, [], ◌∷◌, ◌++◌, length, map, Bool, true, false, cond}
-use Rattle.std.proofs.Common.{◌&&◌, ◌||◌, refl, sym, ap, ◌∙◌, subst, ⊎_elim, inl, inr, ◌⊎◌, Option, Some, None, arith}
+use Rattle.std.proofs.Common.{◌≡◌, ◌≤◌, ◌<◌, ◌+◌, ℕ, List, [], ◌∷◌, ◌++◌, length, map, Bool, true, false, cond, ◌≢◌}
+use Rattle.std.proofs.Common.{◌&&◌, refl, sym, ap, ◌∙◌, subst, ⊎_elim, inl, inr, ◌⊎◌, Option, Some, None, arith}
 use Rattle.std.specs.Prelude.{◌==◌, not, nat_le, MatchOption}
-use Rattle.std.proofs.lemmas.Bool.{cases_Bool, cond-true, cond-false, both_ways, or_cases, or_left, or_right, eqb-true}
+use Rattle.std.proofs.lemmas.Bool.{cond-true, cond-false, both_ways}
 use Rattle.std.proofs.lemmas.Bool.{eq-eqb, ne_eqb, false≢true}
-use Rattle.std.proofs.lemmas.List.{map-append}
+use Rattle.std.proofs.lemmas.List.{map-append, length-map}
+use Rattle.std.proofs.lemmas.Simd.{map-map}
+use Rattle.am_record.specs.Numbered.{of_number, with_changed}
+use Rattle.am_record.proofs.Lists.{AllByRecursion-always}
+use Rattle.am_record.proofs.Numbered.{has_number-map, of_number-map, of_number-told, of_number-known, map-there}
+use Rattle.am_record.proofs.Numbered.{with_changed-map, without_number-map}
+use Rattle.am_record.proofs.Owners.{blocker_among-map, holder_among-map}
 use Rattle.am_effect.proofs.Backs.{describe_laws}
 use Rattle.am_effect.proofs.Marks.{back_laws, whole_describes}
 use Rattle.am_effect.specs.History.{aborted, goes_back, gone_back}
@@ -16,7 +22,7 @@ use Rattle.am_sound.proofs.Representing.{goes_on}
 use Rattle.am_sound.specs.Represents.{RepresentsNext, stored_answer}
 use Rattle.am_list.specs.Content.{content}
 use Rattle.am_list.specs.Entries.{find}
-use Rattle.am_record.specs.Asks.{clashes, lock_of, locks_of, owns, with_asked}
+use Rattle.am_record.specs.Asks.{lock_of, locks_of}
 use Rattle.am_record.specs.Interval.{Interval}
 use Rattle.am_record.specs.OrderedKey.{OrderedKey}
 use Rattle.am_record.specs.Plain.{answer, is_orderly}
@@ -45,7 +51,8 @@ use Rattle.am_sound.proofs.Whole.{Right, changed_refused, either_way, marks_left
 use Rattle.am_sound.proofs.Whole.{notes_left_refused, right_at}
 use Rattle.am_sound.specs.StateOf.{IsStateOf, active_of, state_of}
 use Rattle.am_sound.specs.StoreState.{Active, IsFit, MayAnswer, StoreState, state_after, taken_back_to_mark, blocker_in}
-use Rattle.am_sound.specs.StoreState.{with_op, refusal_in, without_tx, holder_in, in_table, is_in, takes_memory}
+use Rattle.am_sound.specs.StoreState.{newcomer, with_op, refusal_in, without_tx, holder_in, in_table, is_in}
+use Rattle.am_sound.specs.StoreState.{takes_memory}
 use Rattle.am_undo.proofs.Marking.{mark_laws}
 use Rattle.am_record.specs.Marks.{since_mark, has_mark}
 use Rattle.am_undo.specs.Marks.{MarkLaws}
@@ -54,88 +61,74 @@ use Rattle.am_undo.specs.declared.note.Note.{Note}
 
 -- ---- the table of active transactions
 
+abbrev number : Transaction → ℕ
+number x = x.0
+
+abbrev number_of : Active → ℕ
+number_of x = x.number
+
 module _ (notes : ℕ → List Note) (marks : ℕ → List ℕ) where
   is_in-map : (txs : List Transaction) (t : ℕ) → is_in (map (active_of notes marks) txs) t ≡ is_open txs t
-  is_in-map [] t = refl
-  is_in-map (x ∷ txs) t = ap (λ b. (t == x.0) || b) (is_in-map txs t)
+  is_in-map = has_number-map number number_of (active_of notes marks) (λ x. refl)
+
+  of_body : {A : Type 0} (told : Active → A) (of : List Answered → A) → told (newcomer 0) ≡ of [] →
+      ((x : Transaction) → told (active_of notes marks x) ≡ of x.1) → (txs : List Transaction) (t : ℕ) →
+      told (in_table (map (active_of notes marks) txs) t) ≡ of (body_in txs t)
+  of_body told of none says txs t =
+      of_number-told number_of (λ x. x) (newcomer 0) told (map (active_of notes marks) txs) t
+      ∙ of_number-map number number_of (active_of notes marks) (λ x. refl) (λ x. of x.1) told (told (newcomer 0)) says
+      txs
+      t
+      ∙ ap (λ a. of_number number (λ x. of x.1) a txs t) none
+      ∙ sym (of_number-told number (λ x. x.1) [] of txs t)
 
   ops-map : (txs : List Transaction) (t : ℕ) → (in_table (map (active_of notes marks) txs) t).ops ≡ length
       (body_in txs t)
-  ops-map [] t = refl
-  ops-map (x ∷ txs) t = elim (t == x.0) as (λ b.
-      (cond b (active_of notes marks x) (in_table (map (active_of notes marks) txs) t)).ops ≡ length
-      (cond b x.1 (body_in txs t))) [ true ↦ refl | false ↦ ops-map txs t ]
+  ops-map = of_body (λ x. x.ops) length refl (λ x. refl)
 
   locks-map : (txs : List Transaction) (t : ℕ) → (in_table (map (active_of notes marks) txs) t).locks ≡ locks_in txs t
-  locks-map [] t = refl
-  locks-map (x ∷ txs) t = elim (t == x.0) as (λ b.
-      (cond b (active_of notes marks x) (in_table (map (active_of notes marks) txs) t)).locks ≡ locks_of
-      (ops_of (cond b x.1 (body_in txs t)))) [ true ↦ refl | false ↦ locks-map txs t ]
+  locks-map = of_body (λ x. x.locks) (λ done. locks_of (ops_of done)) refl (λ x. refl)
+
+  by_number : {A : Type 0} (told : Active → A) (of : ℕ → A) →
+      ((x : Transaction) → told (active_of notes marks x) ≡ of x.0) → (txs : List Transaction) (t : ℕ) →
+      is_open txs t ≡ true → told (in_table (map (active_of notes marks) txs) t) ≡ of t
+  by_number told of says txs t on =
+      of_number-told number_of (λ x. x) (newcomer 0) told (map (active_of notes marks) txs) t
+      ∙ of_number-map number number_of (active_of notes marks) (λ x. refl) (λ x. of x.0) told (told (newcomer 0)) says
+      txs
+      t
+      ∙ of_number-known number (λ x. of x.0) (told (newcomer 0)) (λ a. a ≡ of t) t (λ x e. ap of e) txs on
 
   notes-map : (txs : List Transaction) (t : ℕ) → is_open txs t ≡ true →
       (in_table (map (active_of notes marks) txs) t).notes ≡ notes t
-  notes-map [] t h = absurd (false≢true h)
-  notes-map (x ∷ txs) t h = ⊎_elim
-      (λ here. ap (λ (y : Active). y.notes) (cond-true (t == x.0) (active_of notes marks x)
-      (in_table (map (active_of notes marks) txs) t) here) ∙ ap notes (sym (eqb-true t x.0 here)))
-      (λ no. ap (λ (y : Active). y.notes) (cond-false (t == x.0) (active_of notes marks x)
-      (in_table (map (active_of notes marks) txs) t) no)
-      ∙ notes-map txs t (⊎_elim (λ yes. absurd (both_ways _ no yes)) (λ later. later)
-      (or_cases (t == x.0) (is_open txs t) h)))
-      (cases_Bool (t == x.0))
+  notes-map = by_number (λ x. x.notes) notes (λ x. refl)
 
   marks-map : (txs : List Transaction) (t : ℕ) → is_open txs t ≡ true →
       (in_table (map (active_of notes marks) txs) t).marks ≡ marks t
-  marks-map [] t h = absurd (false≢true h)
-  marks-map (x ∷ txs) t h = ⊎_elim
-      (λ here. ap (λ (y : Active). y.marks) (cond-true (t == x.0) (active_of notes marks x)
-      (in_table (map (active_of notes marks) txs) t) here) ∙ ap marks (sym (eqb-true t x.0 here)))
-      (λ no. ap (λ (y : Active). y.marks) (cond-false (t == x.0) (active_of notes marks x)
-      (in_table (map (active_of notes marks) txs) t) no)
-      ∙ marks-map txs t (⊎_elim (λ yes. absurd (both_ways _ no yes)) (λ later. later)
-      (or_cases (t == x.0) (is_open txs t) h)))
-      (cases_Bool (t == x.0))
+  marks-map = by_number (λ x. x.marks) marks (λ x. refl)
 
   holder-map : (txs : List Transaction) (q : OrderedKey) → holder_in (map (active_of notes marks) txs) q ≡ holder txs q
-  holder-map [] q = refl
-  holder-map (x ∷ txs) q = ap (cond (owns (locks_of (ops_of x.1)) q) (Some x.0)) (holder-map txs q)
+  holder-map = holder_among-map number number_of (λ x. locks_of (ops_of x.1)) (λ x. x.locks) (active_of notes marks)
+      (λ x. refl) (λ x. refl)
 
   blocker-map : (txs : List Transaction) (t : ℕ) (asked : Option TheLock) → blocker_in (map (active_of notes marks) txs)
       t asked ≡ blocker txs t asked
-  blocker-map [] t asked = refl
-  blocker-map (x ∷ txs) t asked = ap (cond (not (t == x.0) && clashes asked (locks_of (ops_of x.1))) (Some x.0))
-      (blocker-map txs t asked)
+  blocker-map = blocker_among-map number number_of (λ x. locks_of (ops_of x.1)) (λ x. x.locks) (active_of notes marks)
+      (λ x. refl) (λ x. refl)
 
   ended-map : (t : ℕ) (txs : List Transaction) → map (active_of notes marks) (without_transaction t txs) ≡ without_tx t
       (map (active_of notes marks) txs)
-  ended-map t [] = refl
-  ended-map t (x ∷ txs) = elim (x.0 == t) as (λ b. map (active_of notes marks)
-      (cond (not b) (x ∷ without_transaction t txs) (without_transaction t txs)) ≡ cond (not b)
-      (active_of notes marks x ∷ without_tx t (map (active_of notes marks) txs))
-      (without_tx t (map (active_of notes marks) txs))) [
-        | true ↦ ended-map t txs
-        | false ↦ ap (λ l. active_of notes marks x ∷ l) (ended-map t txs)
-      ]
-
-length_table : (notes : ℕ → List Note) (marks : ℕ → List ℕ) (txs : List Transaction) →
-    length (map (active_of notes marks) txs) ≡ length txs
-length_table notes marks [] = refl
-length_table notes marks (x ∷ txs) = ap suc (length_table notes marks txs)
+  ended-map t txs = sym (without_number-map number number_of (active_of notes marks) (λ x. refl) t txs)
 
 other_notes : (n n' : ℕ → List Note) (m m' : ℕ → List ℕ) (txs : List Transaction) →
     ((u : ℕ) → is_open txs u ≡ true → (n' u ≡ n u) × (m' u ≡ m u)) → map (active_of n' m') txs ≡ map (active_of n m) txs
-other_notes n n' m m' [] h = refl
-other_notes n n' m m' (x ∷ txs) h =
-    let here : (n' x.0 ≡ n x.0) × (m' x.0 ≡ m x.0) =
-    h x.0 (or_left (x.0 == x.0) (is_open txs x.0) (eq-eqb x.0 x.0 refl)) in
-    let rest = other_notes n n' m m' txs (λ u o. h u (or_right (u == x.0) (is_open txs u) o)) in
-    λ i. record {
-      number = x.0;
-      ops = length x.1;
-      locks = locks_of (ops_of x.1);
-      notes = here.0 i;
-      marks = here.1 i;
-    } ∷ rest i
+other_notes n n' m m' txs h = map-there number (active_of n' m') (active_of n m) txs (λ x on i. record {
+  number = x.0;
+  ops = length x.1;
+  locks = locks_of (ops_of x.1);
+  notes = (h x.0 on).0 i;
+  marks = (h x.0 on).1 i;
+})
 
 -- one more operation
 length-push : (xs : List Answered) (x : Answered) → length (xs ++ x ∷ []) ≡ length xs + 1
@@ -149,48 +142,46 @@ notes_then t op reply new notes marks u = cond (t == u) (new ++ notes_left op re
 abbrev marks_then : ℕ → Op → Reply → (ℕ → List Note) → (ℕ → List ℕ) → ℕ → List ℕ
 marks_then t op reply notes marks u = cond (t == u) (marks_left op reply (length (notes u)) (marks u)) (marks u)
 
-did_one : (t : ℕ) (op : Op) (reply : Reply) (new : List Note) (notes : ℕ → List Note) (marks : ℕ → List ℕ)
-    (x : Transaction) → active_of (notes_then t op reply new notes marks) (marks_then t op reply notes marks)
-    (extended t (op, reply) x) ≡ with_op t op reply new (active_of notes marks x)
-did_one t op reply new notes marks x = by_test (t == x.0)
-  where
-    grown : (x : Transaction) → ops_of (x.1 ++ (op, reply) ∷ []) ≡ ops_of x.1 ++ op ∷ []
-    grown x = map-append (λ (a : Answered). a.0) x.1 ((op, reply) ∷ [])
+module _ (t : ℕ) (op : Op) (reply : Reply) (new : List Note) (notes : ℕ → List Note) (marks : ℕ → List ℕ) where
+  abbrev then : Transaction → Active
+  then = active_of (notes_then t op reply new notes marks) (marks_then t op reply notes marks)
 
-    by_test : (b : Bool) → ◌≡◌ {A = Active}
-        (record {
-          number = x.0;
-          ops = length (cond b (x.1 ++ (op, reply) ∷ []) x.1);
-          locks = locks_of (ops_of (cond b (x.1 ++ (op, reply) ∷ []) x.1));
-          notes = cond b (new ++ notes_left op reply (marks x.0) (notes x.0)) (notes x.0);
-          marks = cond b (marks_left op reply (length (notes x.0)) (marks x.0)) (marks x.0);
-        })
-        (cond b (record {
-          number = x.0;
-          ops = length x.1 + 1;
-          locks = with_asked (locks_of (ops_of x.1)) (lock_of op);
-          notes = new ++ notes_left op reply (marks x.0) (notes x.0);
-          marks = marks_left op reply (length (notes x.0)) (marks x.0);
-        }) (active_of notes marks x))
-    by_test true =
-        let long = length-push x.1 (op, reply) in
-        let locks = ap locks_of (grown x) ∙ locks_of-push (ops_of x.1) op in
-        λ i. record {
-          number = x.0;
-          ops = long i;
-          locks = locks i;
-          notes = new ++ notes_left op reply (marks x.0) (notes x.0);
-          marks = marks_left op reply (length (notes x.0)) (marks x.0);
-        }
-    by_test false = refl
+  did : (x : Transaction) → x.0 ≡ t → with_op op reply new (active_of notes marks x) ≡ then
+      (cond (x.0 == t) (extended (op, reply) x) x)
+  did x e =
+      let on = eq-eqb x.0 t e in
+      let own = eq-eqb t x.0 (sym e) in
+      let long = length-push x.1 (op, reply) in
+      let locks = ap locks_of (map-append (λ (a : Answered). a.0) x.1 ((op, reply) ∷ [])) ∙
+      locks_of-push (ops_of x.1) op in
+      sym ((λ i. then (cond (on i) (extended (op, reply) x) x)) ∙ (λ i. record {
+        number = x.0;
+        ops = long i;
+        locks = locks i;
+        notes = cond (own i) (new ++ notes_left op reply (marks x.0) (notes x.0)) (notes x.0);
+        marks = cond (own i) (marks_left op reply (length (notes x.0)) (marks x.0)) (marks x.0);
+      }))
 
-did_all : (t : ℕ) (op : Op) (reply : Reply) (new : List Note) (notes : ℕ → List Note) (marks : ℕ → List ℕ)
-    (txs : List Transaction) → map (active_of (notes_then t op reply new notes marks)
-    (marks_then t op reply notes marks))
-    (map (extended t (op, reply)) txs) ≡ map (with_op t op reply new) (map (active_of notes marks) txs)
-did_all t op reply new notes marks [] = refl
-did_all t op reply new notes marks (x ∷ txs) = λ i. did_one t op reply new notes marks x i ∷ did_all t op reply new
-    notes marks txs i
+  stayed : (x : Transaction) → x.0 ≢ t → active_of notes marks x ≡ then (cond (x.0 == t) (extended (op, reply) x) x)
+  stayed x d =
+      let off = ne_eqb x.0 t d in
+      let other = ne_eqb t x.0 (λ e. d (sym e)) in
+      sym ((λ i. then (cond (off i) (extended (op, reply) x) x)) ∙ (λ i. record {
+        number = x.0;
+        ops = length x.1;
+        locks = locks_of (ops_of x.1);
+        notes = cond (other i) (new ++ notes_left op reply (marks x.0) (notes x.0)) (notes x.0);
+        marks = cond (other i) (marks_left op reply (length (notes x.0)) (marks x.0)) (marks x.0);
+      }))
+
+  did_all : (txs : List Transaction) → map then (with_changed number (extended (op, reply)) t txs) ≡ with_changed
+      number_of (with_op op reply new) t (map (active_of notes marks) txs)
+  did_all txs =
+      map-map then (λ x. cond (x.0 == t) (extended (op, reply) x) x) txs
+      ∙ sym (with_changed-map number_of (with_op op reply new) (active_of notes marks)
+      (λ x. then (cond (x.0 == t) (extended (op, reply) x) x)) t txs
+      (AllByRecursion-always (λ x. x.0 ≡ t → with_op op reply new (active_of notes marks x) ≡ then
+      (cond (x.0 == t) (extended (op, reply) x) x)) did txs) stayed)
 
 -- what Back leaves counts at Back alone
 changed_alike : (gone gone' : List Entry) (runs : ℕ) (op : Op) (reply : Reply) (es : List Entry) →
@@ -296,7 +287,7 @@ module _ (trace : Trace) (s : Store) (r : Right trace s) where
   same_open t = is_in-map s.notes s.marks s.state.active t
 
   long : length (map (active_of s.notes s.marks) s.state.active) ≡ length s.state.active
-  long = length_table s.notes s.marks s.state.active
+  long = length-map s.state.active (active_of s.notes s.marks)
 
   pub may_reply : (step : Step) (reply : Reply) → MayAnswer (state_of s) step reply → MayReply s step reply
   may_reply Begin (Begun t) h = (h.0, subst (λ n. n < 64) long h.1, h.2)

@@ -168,13 +168,13 @@ holder_of (x ∷ txs) t q o w = ⊎_elim
     (λ own. (x.0, cond-true _ (Some x.0) (holder txs q) own))
     (λ no. ⊎_elim
     (λ here. absurd (both_ways (owns (locks_of (ops_of x.1)) q) no
-    (subst (λ b. owns (locks_of (ops_of b)) q ≡ true) (cond-true (t == x.0) x.1 (body_in txs t) here) w)))
+    (subst (λ b. owns (locks_of (ops_of b)) q ≡ true) (cond-true (x.0 == t) x.1 (body_in txs t) here) w)))
     (λ there.
     let rest = holder_of txs t q (⊎_elim (λ yes. absurd (both_ways _ there yes)) (λ later. later)
-    (or_cases (t == x.0) (is_open txs t) o))
-    (subst (λ b. owns (locks_of (ops_of b)) q ≡ true) (cond-false (t == x.0) x.1 (body_in txs t) there) w) in
+    (or_cases (x.0 == t) (is_open txs t) o))
+    (subst (λ b. owns (locks_of (ops_of b)) q ≡ true) (cond-false (x.0 == t) x.1 (body_in txs t) there) w) in
     (rest.0, cond-false _ (Some x.0) (holder txs q) no ∙ rest.1))
-    (cases_Bool (t == x.0)))
+    (cases_Bool (x.0 == t)))
     (cases_Bool (owns (locks_of (ops_of x.1)) q))
 
 pub either_way : {A : Type 0} (b : Bool) (x : A) → cond b x x ≡ x

@@ -1,11 +1,11 @@
 -- What a store keeps, and what a step may do to it, without the trace.
-use Rattle.std.specs.Prelude.{◌≡◌, ◌⊎◌, ℕ, ◌+◌, ◌<◌, ◌≤◌, ◌==◌, length, List, [], ◌∷◌, ◌++◌, Bool, true}
-use Rattle.std.specs.Prelude.{false, cond, not, map, filter, Option, None, MatchOption}
-use Rattle.std.specs.List.{list_any}
+use Rattle.std.specs.Prelude.{◌≡◌, ◌⊎◌, ℕ, ◌+◌, ◌<◌, ◌≤◌, length, List, [], ◌∷◌, ◌++◌, Bool, true}
+use Rattle.std.specs.Prelude.{false, Option, None, MatchOption}
 use Rattle.am_record.specs.Limits.{max_active, max_begun}
 use Rattle.am_record.specs.OrderedKey.{OrderedKey}
 use Rattle.am_record.specs.Interval.{Interval}
 use Rattle.am_record.specs.Asks.{lock_of, with_asked}
+use Rattle.am_record.specs.Numbered.{has_number, of_number, with_changed, without_number}
 use Rattle.am_record.specs.Owners.{blocker_among, holder_among}
 use Rattle.am_record.specs.declared.lock.Lock.{Lock}
 use Rattle.am_record.specs.declared.entry.Entry.{Entry}
@@ -48,7 +48,7 @@ pub record StoreState : Type 0 where
   pub active : List Active
 
 abbrev pub is_in : List Active → ℕ → Bool
-is_in xs t = list_any (λ (x : Active). t == x.number) xs
+is_in xs t = has_number (λ (x : Active). x.number) xs t
 
 -- a transaction that has just begun
 abbrev pub newcomer : ℕ → Active
@@ -56,8 +56,7 @@ newcomer t = record { number = t; ops = 0; locks = []; notes = []; marks = [] }
 
 -- the transaction of that number
 abbrev pub in_table : List Active → ℕ → Active
-in_table [] t = newcomer 0
-in_table (x ∷ xs) t = cond (t == x.number) x (in_table xs t)
+in_table xs t = of_number (λ (x : Active). x.number) (λ x. x) (newcomer 0) xs t
 
 -- who has exclusively locked the key
 abbrev pub holder_in : List Active → Holders
@@ -97,20 +96,17 @@ MayAnswer p (Clean range limit) reply = WithinLimit limit reply
 MayAnswer p _ _ = ⊥
 
 abbrev pub without_tx : ℕ → List Active → List Active
-without_tx t xs = filter (λ (x : Active). not (x.number == t)) xs
+without_tx t xs = without_number (λ (x : Active). x.number) t xs
 
 -- the transaction after an operation that was answered: one more, its lock and its note. Back drops the notes since the
 -- newest mark, and the mark
-abbrev pub with_op : ℕ → Op → Reply → List Note → Active → Active
-with_op t op reply new x =
-    cond (t == x.number)
-    (record x {
-      ops = x.ops + 1;
-      locks = with_asked x.locks (lock_of op);
-      notes = new ++ notes_left op reply x.marks x.notes;
-      marks = marks_left op reply (length x.notes) x.marks;
-    })
-    x
+abbrev pub with_op : Op → Reply → List Note → Active → Active
+with_op op reply new x = record x {
+  ops = x.ops + 1;
+  locks = with_asked x.locks (lock_of op);
+  notes = new ++ notes_left op reply x.marks x.notes;
+  marks = marks_left op reply (length x.notes) x.marks;
+}
 
 -- the entries when the notes since the transaction's newest mark are taken back
 abbrev pub taken_back_to_mark : StoreState → ℕ → List Entry
@@ -122,7 +118,7 @@ state_after_op p t op reply = record p {
   entries = changed (taken_back_to_mark p t) p.runs op reply p.entries;
   wishes = wishes_after p.wishes (Do t op) reply;
   runs = p.runs + runs_made op reply;
-  active = map (with_op t op reply (noted p.runs op reply p.entries)) p.active;
+  active = with_changed (λ (x : Active). x.number) (with_op op reply (noted p.runs op reply p.entries)) t p.active;
 }
 
 -- what the step leaves

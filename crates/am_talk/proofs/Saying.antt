@@ -226,7 +226,7 @@ module _ (begun commits runs : ℕ) (m : PlainMap) (body : List Answered) (stage
       (record here { runs = runs + runs_made op r; own = Some (body ++ (op, r) ∷ []) })
   next_did op r = λ i. record (machine_at here) {
     runs = runs + runs_made op r;
-    active = (begun, cond (nat_eq_equiv.refl begun i) (body ++ (op, r) ∷ []) body) ∷ [];
+    active = cond (nat_eq_equiv.refl begun i) (begun, body ++ (op, r) ∷ []) (begun, body) ∷ [];
   }
 
   pub next_committed : next (machine_at here) (Commits begun) ≡ machine_at

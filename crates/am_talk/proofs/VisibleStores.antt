@@ -1,11 +1,13 @@
 -- A store that was written with visible keys and values alone tells no others.
-use Rattle.std.proofs.Common.{◌≡◌, ◌⊎◌, inl, inr, ℕ, ◌==◌, List, [], ◌∷◌, ◌++◌, Bool, true, false, cond, not, map}
+use Rattle.std.proofs.Common.{◌≡◌, ◌⊎◌, inl, inr, ℕ, ◌==◌, List, [], ◌∷◌, Bool, true, false, cond, not}
 use Rattle.std.proofs.Common.{Option, Some, None, sym, subst}
 use Rattle.std.specs.Prelude.{All, MatchOption, MatchBool, nat_le, ◌&&◌}
 use Rattle.std.specs.List.{AllByRecursion}
+use Rattle.std.proofs.lemmas.Bool.{cond_both}
 use Rattle.am_record.specs.OrderedKey.{OrderedKey}
 use Rattle.am_record.specs.Interval.{Interval, within}
 use Rattle.am_record.specs.Records.{Records}
+use Rattle.am_record.specs.Numbered.{with_changed}
 use Rattle.am_record.specs.Plain.{fresh, answer}
 use Rattle.am_record.specs.declared.entry.Entry.{Entry}
 use Rattle.am_record.specs.declared.step.Op.{Op}
@@ -54,18 +56,19 @@ either_body false x y h k = k
 body_visible : (txs : List Transaction) (t : ℕ) → AllByRecursion IsVisibleTransaction txs →
     IsVisibleBody (body_in txs t)
 body_visible [] t h = tt
-body_visible (x ∷ txs) t h = either_body (t == x.0) x.1 (body_in txs t) h.0 (body_visible txs t h.1)
+body_visible (x ∷ txs) t h = either_body (x.0 == t) x.1 (body_in txs t) h.0 (body_visible txs t h.1)
 
 view_visible : (s : State) (t : ℕ) → IsVisibleState s → IsVisibleDraft (view s t)
 view_visible s t h = left_visible (ops_of (body_in s.active t)) (fresh s.committed)
     (ops_visible (body_in s.active t) (body_visible s.active t h.active)) (h.committed, tt)
 
 extended_visible : (t : ℕ) (done : Answered) (txs : List Transaction) → WritesVisible done.0 →
-    AllByRecursion IsVisibleTransaction txs → AllByRecursion IsVisibleTransaction (map (extended t done) txs)
+    AllByRecursion IsVisibleTransaction txs → AllByRecursion IsVisibleTransaction
+    (with_changed (λ (x : Transaction). x.0) (extended done) t txs)
 extended_visible t done [] w h = tt
 extended_visible t done (x ∷ txs) w h = (
-  either_body (t == x.0) (x.1 ++ done ∷ []) x.1
-      (all_append (λ (a : Answered). WritesVisible a.0) x.1 (done ∷ []) h.0 (w, tt)) h.0,
+  cond_both (x.0 == t) (extended done x) x IsVisibleTransaction
+      (λ _. all_append (λ (a : Answered). WritesVisible a.0) x.1 (done ∷ []) h.0 (w, tt)) (λ _. h.0),
   extended_visible t done txs w h.1,
 )
 

@@ -1,4 +1,1 @@
-pub mod Numbers
-pub mod Places
 pub mod Consistent
-pub mod Laws

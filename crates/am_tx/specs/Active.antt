@@ -1,6 +1,6 @@
 -- The active transactions, in the order in which they began.
-use Rattle.std.specs.Prelude.{ℕ, ◌==◌, List, [], ◌∷◌, Bool, true, cond, map}
-use Rattle.std.specs.List.{list_any}
+use Rattle.std.specs.Prelude.{ℕ, List, [], Bool, true, map}
+use Rattle.am_record.specs.Numbered.{has_number, of_number}
 use Rattle.am_undo.specs.Log.{Log}
 use Rattle.am_tx.specs.declared.transaction.Transaction.{Transaction}
 
@@ -17,21 +17,12 @@ tx_numbers active = map (λ (t : Transaction). t.number) active
 
 -- whether the transaction is active
 abbrev pub is_active_in : List Transaction → ℕ → Bool
-is_active_in active tx = list_any (λ (t : Transaction). t.number == tx) active
-
--- what is known of the transaction, and `none` where it is not active
-abbrev pub of_active : {A : Type 0} → (Transaction → A) → A → List Transaction → ℕ → A
-of_active what none [] tx = none
-of_active what none (t ∷ active) tx = cond (t.number == tx) (what t) (of_active what none active tx)
+is_active_in active tx = has_number (λ (t : Transaction). t.number) active tx
 
 -- how many operations the transaction has had, 0 where it is not active
 abbrev pub ops_in : List Transaction → ℕ → ℕ
-ops_in active tx = of_active (λ t. t.ops) 0 active tx
+ops_in active tx = of_number (λ (t : Transaction). t.number) (λ t. t.ops) 0 active tx
 
 -- the log of the transaction, without notes where it is not active
 abbrev pub log_in : List Transaction → ℕ → Log
-log_in active tx = of_active (λ t. t.log) no_notes active tx
-
--- the transaction is changed, and no other
-abbrev pub with_changed : (Transaction → Transaction) → ℕ → List Transaction → List Transaction
-with_changed f tx active = map (λ (t : Transaction). cond (t.number == tx) (f t) t) active
+log_in active tx = of_number (λ (t : Transaction). t.number) (λ t. t.log) no_notes active tx

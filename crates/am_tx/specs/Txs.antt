@@ -1,15 +1,16 @@
 -- The table of active transactions.
-use Rattle.std.specs.Prelude.{ℕ, ◌≡◌, ◌+◌, ◌<◌, ◌≤◌, ◌==◌, nat_lt, List, [], ◌∷◌, ◌++◌, length, Bool, not, ◌&&◌}
-use Rattle.std.specs.Prelude.{map, filter, refl}
+use Rattle.std.specs.Prelude.{ℕ, ◌≡◌, ◌+◌, ◌≤◌, nat_lt, List, [], ◌∷◌, ◌++◌, length, Bool, ◌&&◌, map}
+use Rattle.std.specs.Prelude.{refl}
 use Rattle.std.specs.List.{All}
 use Rattle.std.specs.Coded.{Coded, code_by, coded×, coded_ℕ, coded_list}
 use Rattle.am_record.specs.Limits.{max_active, max_begun, max_ops}
+use Rattle.am_record.specs.Numbered.{with_changed, without_number, RiseBy}
 use Rattle.am_locks.specs.OwnerLocks.{OwnerLocks, held_code}
 use Rattle.am_locks.specs.Table.{entered, without_owner}
 use Rattle.am_undo.specs.Log.{Log}
 use Rattle.am_tx.specs.declared.transaction.Transaction.{Transaction}
 use Rattle.am_tx.specs.contracts.transaction.Transaction as transaction
-use Rattle.am_tx.specs.Active.{new_transaction, tx_numbers, with_changed}
+use Rattle.am_tx.specs.Active.{new_transaction, tx_numbers}
 
 -- how many transactions were begun, those that are active, and the locks of each of these
 pub record Txs : Type 0 where
@@ -24,14 +25,9 @@ txs_code =
     (coded× (coded_list transaction.the_row.coded) (coded_list held_code)))
     (λ t. (t.begun, (t.active, t.locks))) (λ p. record { begun = p.0; active = p.1.0; locks = p.1.1 }) (λ _. refl)
 
--- each number is below all later ones
-abbrev pub Rise : List ℕ → Type 0
-Rise [] = Unit {0}
-Rise (n ∷ ns) = All (λ m. n < m) ns × Rise ns
-
 -- what is true of every table: the active transactions are the owners of locks, in the same order
 pub record IsConsistent (t : Txs) : Type 0 where
-  pub rise : Rise (tx_numbers t.active)
+  pub rise : RiseBy (λ (x : Transaction). x.number) t.active
   pub begun_before : All (λ n. n ≤ t.begun) (tx_numbers t.active)
   pub owners : map (λ (h : OwnerLocks). h.owner) t.locks ≡ tx_numbers t.active
   pub few : length t.active ≤ max_active
@@ -52,15 +48,19 @@ txs_after_begin t = record {
 
 -- the transaction had one more operation
 abbrev pub txs_after_op : Txs → ℕ → Txs
-txs_after_op t tx = record t { active = with_changed (λ x. record x { ops = x.ops + 1 }) tx t.active }
+txs_after_op t tx = record t {
+  active = with_changed (λ (x : Transaction). x.number) (λ x. record x { ops = x.ops + 1 }) tx t.active;
+}
 
 -- the transaction has this log
 abbrev pub with_log : Txs → ℕ → Log → Txs
-with_log t tx log = record t { active = with_changed (λ x. record x { log = log }) tx t.active }
+with_log t tx log = record t {
+  active = with_changed (λ (x : Transaction). x.number) (λ x. record x { log = log }) tx t.active;
+}
 
 -- the transaction is not active any more, and owns no locks
 abbrev pub txs_after_end : Txs → ℕ → Txs
 txs_after_end t tx = record t {
-  active = filter (λ (x : Transaction). not (x.number == tx)) t.active;
+  active = without_number (λ (x : Transaction). x.number) tx t.active;
   locks = without_owner t.locks tx;
 }

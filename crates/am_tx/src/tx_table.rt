@@ -4,6 +4,7 @@ ghost use Rattle.std.specs.Prelude.{◌≡◌, ◌≢◌, ◌+◌, ◌<◌, ◌�
 ghost use Rattle.std.specs.Prelude.{slice_index_or, slice_set, if◌then◌else◌, IfOk};
 ghost use Rattle.std.specs.Borrow.{sem};
 ghost use Rattle.am_record.specs.Locks.{is_covered, with_lock};
+ghost use Rattle.am_record.specs.Numbered.{with_changed};
 ghost use Rattle.am_locks.specs.Table.{locks_owned, with_locks, blockers};
 ghost use Rattle.am_locks.specs.Answers.{IsLeastOf, MatchBusy};
 
@@ -42,7 +43,7 @@ impl Model for TxTable {
 
 impl TxTable {
     ghost use Rattle.am_tx.specs.declared.transaction.Transaction.{Transaction};
-    ghost use Rattle.am_tx.specs.Active.{is_active_in, ops_in, log_in, with_changed};
+    ghost use Rattle.am_tx.specs.Active.{is_active_in, ops_in, log_in};
     ghost use Rattle.am_tx.specs.Txs.{IsConsistent, can_begin, txs_after_begin, txs_after_op, txs_after_end};
     ghost use Rattle.am_tx.specs.Lending.{LendsLog};
 
@@ -200,7 +201,7 @@ impl TxTable {
             (x.number ≡ tx) × (x.ops ≡ ops_in self.now.active tx) × (x.log ≡ log_in self.now.active tx) }
         ensures write { (f : Transaction → Transaction) (d : Transaction)
             → slice_set self.now.active result (f (slice_index_or self.now.active result d)) ≡
-            with_changed f tx self.now.active }
+            with_changed (λ (x : Transaction). x.number) f tx self.now.active }
     {
         // The owners of locks are the active transactions, in the same order.
         let place = self.locks.place_of(tx);

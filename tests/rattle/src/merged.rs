@@ -85,16 +85,17 @@ fn many_merged_ranges_are_known(rt: HostRuntime) {
 }
 
 #[test]
-fn a_range_that_is_merged_in_part_begins_where_its_step_did(rt: HostRuntime) {
+fn a_range_that_is_merged_in_part_begins_where_something_is_left(rt: HostRuntime) {
     let alloc = rt.alloc();
     let mut parts = three_runs(&rt, alloc);
     let mut wishes = Wishes::new(alloc).expect(&rt, "memory");
     let locks = LockTable::new(alloc).expect(&rt, "memory");
     wishes.wish(range(&rt, 50, 250));
-    merge_step(&mut parts, &mut wishes, &locks, 64);
-    begins(&rt, &parts, 50, 250, 1);
-    merge_step(&mut parts, &mut wishes, &locks, 64);
-    begins(&rt, &parts, 50, 250, 2);
+    // The first step works off what run 1 has there, the second ends by its limit within run 2.
+    for run in [2, 2, 3, 4] {
+        merge_step(&mut parts, &mut wishes, &locks, 64);
+        begins(&rt, &parts, 50, 250, run);
+    }
 }
 
 #[test]

@@ -1,5 +1,6 @@
-use Rattle.am_merge.proofs.Holders.{holder_is, holder_only, same_holders}
+use Rattle.am_locks.proofs.FirstOwners.{held}
+use Rattle.am_merge.proofs.Holders.{holder_only, same_holders}
 use Rattle.am_merge.proofs.laws.holders_are_known.Goals as goal
 
 pub returns : goal.returns
-returns c = record { one = holder_only; answered = holder_is; same = same_holders }
+returns c = record { one = holder_only; answered = held; same = same_holders }

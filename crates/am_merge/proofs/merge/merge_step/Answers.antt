@@ -4,7 +4,7 @@ use Rattle.am_effect.specs.Merging.{all_worked_off, candidates}
 use Rattle.am_merge.specs.Holding.{holder_of}
 use Rattle.am_parts.specs.Partitions.{Partitions}
 use Rattle.am_merge.specs.Steps.{IsAsFar}
-use Rattle.am_merge.proofs.Holders.{holder_is}
+use Rattle.am_locks.proofs.FirstOwners.{held}
 use Rattle.am_merge.proofs.Replies.{right_done, right_ended, right_moved, right_refused, same_content, merged}
 use Rattle.am_merge.proofs.merge.merge_step.Goals as goal
 
@@ -19,14 +19,14 @@ returns-in-Some-exclusive_at-clause-reply g c =
     right_ended c.args.parts.now.entries (holder_of c.args.locks.now) c.args.limit c.args.wishes.now c.in-Some.wish
     c.in-Some.ensures c.in-Some-first_in_runs.first c.in-Some-first_in_runs.ensures.first
     c.in-Some-exclusive_at.holder
-    (holder_is c.args.locks.now c.in-Some-first_in_runs.first.key (Some c.in-Some-exclusive_at.holder)
+    (held c.args.locks.now c.in-Some-first_in_runs.first.key (Some c.in-Some-exclusive_at.holder)
     c.in-Some-exclusive_at.ensures.holder)
 
 pub returns-in-0-clause-reply : goal.returns-in-0-clause-reply
 returns-in-0-clause-reply g c =
     right_refused c.args.parts.now.entries (holder_of c.args.locks.now) c.args.limit c.args.wishes.now c.in-Some.wish
     c.in-Some.ensures c.in-Some-first_in_runs.first c.in-Some-first_in_runs.ensures.first
-    (holder_is c.args.locks.now c.in-Some-first_in_runs.first.key None c.in_default-exclusive_at.ensures.holder)
+    (held c.args.locks.now c.in-Some-first_in_runs.first.key None c.in_default-exclusive_at.ensures.holder)
     c.requires.some
     (subst (λ (p : Partitions). IsAsFar p.entries (holder_of c.args.locks.now) c.args.limit
     c.in-Some-first_in_runs.first.part (candidates p.entries c.in-Some.wish) 0) c.first_in_runs.ensures.same
@@ -39,7 +39,7 @@ pub returns-in_default-work_off_run-clause-reply :
 returns-in_default-work_off_run-clause-reply g c =
     right_moved c.args.parts.now.entries (holder_of c.args.locks.now) c.args.limit c.args.wishes.now c.in-Some.wish
     c.in-Some.ensures c.in-Some-first_in_runs.first c.in-Some-first_in_runs.ensures.first
-    (holder_is c.args.locks.now c.in-Some-first_in_runs.first.key None c.in_default-exclusive_at.ensures.holder)
+    (held c.args.locks.now c.in-Some-first_in_runs.first.key None c.in_default-exclusive_at.ensures.holder)
     c.work_off_run.result (λ none. absurd (omega (arith, none)))
     (subst (λ (p : Partitions). IsAsFar p.entries (holder_of c.args.locks.now) c.args.limit
     c.in-Some-first_in_runs.first.part (candidates p.entries c.in-Some.wish) c.work_off_run.result)
@@ -52,7 +52,7 @@ returns-in_default-work_off_run-clause-content g c =
     (Moved c.work_off_run.result c.in-Some-first_in_runs.first.part)
     (right_moved c.args.parts.now.entries (holder_of c.args.locks.now) c.args.limit c.args.wishes.now c.in-Some.wish
     c.in-Some.ensures c.in-Some-first_in_runs.first c.in-Some-first_in_runs.ensures.first
-    (holder_is c.args.locks.now c.in-Some-first_in_runs.first.key None c.in_default-exclusive_at.ensures.holder)
+    (held c.args.locks.now c.in-Some-first_in_runs.first.key None c.in_default-exclusive_at.ensures.holder)
     c.work_off_run.result (λ none. absurd (omega (arith, none)))
     (subst (λ (p : Partitions). IsAsFar p.entries (holder_of c.args.locks.now) c.args.limit
     c.in-Some-first_in_runs.first.part (candidates p.entries c.in-Some.wish) c.work_off_run.result)

@@ -1,17 +1,20 @@
-use Rattle.std.proofs.Common.{◌≡◌, ◌≢◌, ◌+◌, ◌≤◌, ℕ, None, length, get_or, sym, ap, ◌∙◌, subst}
+use Rattle.std.proofs.Common.{◌≡◌, ◌≢◌, ◌+◌, ◌≤◌, ℕ, None, length, get_or, refl, sym, inl, ap, ◌∙◌, subst}
 use Rattle.std.proofs.Common.{⊎_elim, arith}
 use Rattle.std.proofs.lemmas.Bool.{cases_eq, false≢true}
 use Rattle.std.proofs.lemmas.List.{get_or_default}
 use Rattle.std.proofs.lemmas.Option.{none-some}
 use Rattle.std.specs.FinMap.{get}
 use Rattle.am_record.specs.OrderedKey.{OrderedKey}
+use Rattle.am_record.specs.KeyNumber.{key_number}
+use Rattle.am_record.specs.declared.hash_key.HashKey.{HashKey}
 use Rattle.am_record.proofs.FirstRows.{Record}
 use Rattle.am_record.proofs.Lists.{AllByRecursion-at}
 use Rattle.am_list.specs.Content.{content}
 use Rattle.am_list.proofs.Searches.{all_drop, all_take}
 use Rattle.am_parts.specs.declared.residences.Residences.{Residences}
 use Rattle.am_parts.specs.Partitions.{LivesInNoRun}
-use Rattle.am_parts.specs.Residences.{LivesWith, Tell}
+use Rattle.am_directory.specs.Tables.{residence_of}
+use Rattle.am_parts.specs.Residences.{Allows, LivesWith, Tell}
 use Rattle.am_parts.proofs.Noting.{none_noted, one_noted, first_noted, sorted_taken}
 use Rattle.am_parts.proofs.entering.enter_run.Goals as goal
 
@@ -22,7 +25,13 @@ loop-at-init g c = record {
   dead = λ i r lt. absurd (omega (arith, lt));
   room = λ keys le. omega (arith, le, c.requires.room);
   reached = omega arith;
-  free = λ no i r low lt. absurd (false≢true no);
+  hash = refl;
+  numbers = record {
+    begun = omega (arith, c.none-ahead.ensures.begin);
+    few = omega (arith, c.none-ahead.ensures.end);
+    theirs = λ i d r low lt. absurd (omega (arith, lt, c.none-ahead.ensures.end));
+  };
+  free = λ no i r low lt. absurd (false≢true (sym c.none-ahead.ensures.free ∙ no));
   lost = λ whole. whole;
 }
 
@@ -57,6 +66,8 @@ loop-at-preserved g c =
     let es = g.I.PartIndex.entries c.args.index.now in
     let at = c.loop-at.at in
     let pair = c.index-pairs-at.result in
+    let numbers = c.renewed-ahead.ensures.numbers c.args.residences.now.hash c.loop-at.invariant.hash
+    c.loop-at.invariant.numbers in
     record {
       told = one_noted es c.args.part c.args.pairs.now c.loop-at.residences c.enter_one.new.residences at pair
           c.loop-at-test.true c.index-pairs-at.is (c.enter_one.ensures.entered c.if-not-enter_one.false)
@@ -70,6 +81,8 @@ loop-at-preserved g c =
           (cases_eq i at);
       room = λ keys le. c.enter_one.ensures.room keys (c.loop-at.invariant.room (keys + 1) (omega (arith, le)));
       reached = omega (arith, c.renewed-ahead.ensures.reaches);
+      hash = (c.enter_one.ensures.entered c.if-not-enter_one.false).hash ∙ c.loop-at.invariant.hash;
+      numbers = record { begun = omega (arith, numbers.begun); few = numbers.few; theirs = numbers.theirs };
       free = λ free i r low lt. c.renewed-ahead.ensures.free es c.args.part c.loop-at.invariant.told
           c.loop-at.invariant.free free i r (omega (arith, low)) lt;
       lost = λ whole. c.enter_one.ensures.lost (c.loop-at.invariant.lost whole);
@@ -86,3 +99,24 @@ enter_one-requires-clause-free g c = λ free.
     subst (λ (k : OrderedKey). LivesInNoRun es k) (ap (λ (q : Record). q.0) (sym c.index-pairs-at.is))
     (c.renewed-ahead.ensures.free es c.args.part c.loop-at.invariant.told c.loop-at.invariant.free free c.loop-at.at
     c.index-pairs-at.result (omega arith) c.renewed-ahead.ensures.reaches)
+
+-- the number that was made ahead is the key's
+pub enter_one-requires-clause-number : goal.enter_one-requires-clause-number
+enter_one-requires-clause-number g c =
+    let pair = c.index-pairs-at.result in
+    let numbers = c.renewed-ahead.ensures.numbers c.args.residences.now.hash c.loop-at.invariant.hash
+    c.loop-at.invariant.numbers in
+    numbers.theirs c.loop-at.at 0 pair numbers.begun c.renewed-ahead.ensures.reaches ∙
+    ap (λ (q : Record). key_number c.args.residences.now.hash q.0) (sym c.index-pairs-at.is) ∙
+    ap (λ (h : HashKey). key_number h pair.0) (sym c.loop-at.invariant.hash)
+
+pub enter_one-requires-clause-known : goal.enter_one-requires-clause-known
+enter_one-requires-clause-known g c = λ run lives.
+    let pair = c.index-pairs-at.result in
+    let numbers = c.renewed-ahead.ensures.numbers c.args.residences.now.hash c.loop-at.invariant.hash
+    c.loop-at.invariant.numbers in
+    let same = numbers.theirs c.loop-at.at 0 pair numbers.begun c.renewed-ahead.ensures.reaches ∙
+    ap (λ (q : Record). key_number c.args.residences.now.hash q.0) (sym c.index-pairs-at.is) ∙
+    ap (λ (h : HashKey). key_number h pair.0) (sym c.loop-at.invariant.hash) in
+    subst (λ (n : ℕ). Allows (residence_of c.loop-at.residences.directory n) run) (sym same)
+    (c.loop-at.invariant.told.allowed pair.0 run (inl lives))

@@ -1,9 +1,11 @@
-use Rattle.std.proofs.Common.{◌≤◌, ◌++◌, List, length, drop, refl, subst, arith}
+use Rattle.std.proofs.Common.{◌≤◌, ◌++◌, List, length, drop, refl, sym, subst, arith}
 use Rattle.std.proofs.lemmas.List.{drop_all}
 use Rattle.am_record.specs.declared.entry.Entry.{Entry}
 use Rattle.am_parts.specs.Catalogs.{IsCatalog}
-use Rattle.am_parts.specs.Residences.{AreResidences}
+use Rattle.am_parts.specs.Residences.{AreResidences, LivesInRun}
 use Rattle.am_parts.proofs.Neighbours.{rising_left, one_run_left, next_found, next_live, next_stands, next_out}
+use Rattle.am_parts.proofs.Neighbours.{lives_left}
+use Rattle.am_parts.proofs.Telling.{tells_fewer}
 use Rattle.am_parts.proofs.homing.forget_all.Goals as goal
 
 pub take-requires : goal.take-requires
@@ -30,6 +32,16 @@ loop-entry-preserved c = λ front back rises are.
     (c.take.ensures es x.key (c.loop-entry.invariant front back rises are)
     (next_found xs at x c.entry-item.is c.loop-entry-test.true front back es refl rise)
     (next_live xs at x c.entry-item.is c.loop-entry-test.true front back es refl rise))
+
+-- the same is told, and fewer are live
+pub returns-then-know_none-clause-residences : goal.returns-then-know_none-clause-residences
+returns-then-know_none-clause-residences c = λ front back rises one are.
+    let xs = c.args.entries.now in
+    tells_fewer c.args.residences.now.hash (LivesInRun (front ++ (xs ++ back))) (LivesInRun (front ++ back))
+    c.args.residences.now.directory c.args.residences.now.directory are
+    (λ key part it. lives_left (length xs) front xs back rises key part
+    (subst (λ (l : List Entry). LivesInRun (front ++ (l ++ back)) key part)
+    (sym (drop_all (length xs) xs (omega arith))) it)) (λ n. refl)
 
 pub loop-gone-preserved : goal.loop-gone-preserved
 loop-gone-preserved c = λ front back rises one are.

@@ -1,4 +1,4 @@
-use Rattle.std.proofs.Common.{◌≡◌, ◌≤◌, List, length, take, sym, ap, ◌∙◌, subst, arith}
+use Rattle.std.proofs.Common.{◌≡◌, ◌≤◌, List, length, take, sym, ap, ◌∙◌, subst}
 use Rattle.std.proofs.lemmas.List.{length-take-le}
 use Rattle.std.specs.List.{AllByRecursion}
 use Rattle.am_record.specs.declared.entry.Entry.{Entry}
@@ -13,24 +13,22 @@ use Rattle.am_parts.proofs.homing.settle_between.Goals as goal
 pub returns-clause-settled : goal.returns-clause-settled
 returns-clause-settled g c =
     let es = g.I.PartIndex.entries c.args.index.now in let xs = c.args.entries.now in
-    let homes = c.entries-2.result.now in let all = c.first_homes-homes.result in let h = c.first_homes-homes.ensures in
+    let homes = c.args.homes.now in let h = c.requires.homes in
     let n = c.insert_between-count.result in let e = c.insert_between-count.ensures in
-    let same : homes ≡ all = c.entries-2.ensures.all in
-    let le : n ≤ length all = omega (arith, e.most, ap length same) in
-    let taken : take n homes ≡ homes_of (take n xs) = ap (take n) (same ∙ h.first) ∙ fewer_homes n (length all) xs le in
+    let le : n ≤ length homes = e.most in
+    let taken : take n homes ≡ homes_of (take n xs) = ap (take n) h.first ∙ fewer_homes n (length homes) xs le in
     e.added ∙ ap (λ l. all_inserted l es) taken ∙
-    sym (settled_inserted (take n xs) es (fewer_live n (length all) xs le h.live)
-    (subst IsRising taken (rising-take n homes (subst IsRising (sym same) h.rising)))
+    sym (settled_inserted (take n xs) es (fewer_live n (length homes) xs le h.live)
+    (subst IsRising taken (rising-take n homes h.rising))
     (subst (AllFree es) taken e.free))
 
 pub returns-clause-catalog : goal.returns-clause-catalog
 returns-clause-catalog g c =
     let es = g.I.PartIndex.entries c.args.index.now in let xs = c.args.entries.now in
-    let homes = c.entries-2.result.now in let all = c.first_homes-homes.result in let h = c.first_homes-homes.ensures in
+    let homes = c.args.homes.now in let h = c.requires.homes in
     let n = c.insert_between-count.result in let e = c.insert_between-count.ensures in
-    let same : homes ≡ all = c.entries-2.ensures.all in
-    let le : n ≤ length all = omega (arith, e.most, ap length same) in
-    let taken : take n homes ≡ homes_of (take n xs) = ap (take n) (same ∙ h.first) ∙ fewer_homes n (length all) xs le in
+    let le : n ≤ length homes = e.most in
+    let taken : take n homes ≡ homes_of (take n xs) = ap (take n) h.first ∙ fewer_homes n (length homes) xs le in
     subst (λ (l : List Entry). IsCatalog l c.add_homes.new.self) (sym e.added)
     (c.add_homes.ensures es (take n homes) (sym (length-take-le n homes e.most))
     (subst (AllByRecursion IsHome) (sym taken) (all_are_home (take n xs))) c.requires.counted)

@@ -1,7 +1,11 @@
-use Rattle.std.proofs.Common.{◌≡◌, map, take}
-use Rattle.am_record.specs.KeyFront.{key_front}
-use Rattle.am_runs.specs.Cuts.{keys_of, records_of}
+use Rattle.std.proofs.Common.{◌≡◌, ◌++◌, map, take}
+use Rattle.am_runs.specs.declared.sorting.Spot.{Spot}
+use Rattle.am_runs.proofs.Apart.{fronts_in}
 use Rattle.am_runs.proofs.cut.have_fronts_apart.Given as goal
 
-abbrev pub invariant-loop-run : goal.invariant-loop-run
-invariant-loop-run l = l.fronts.items ≡ map key_front (keys_of (records_of (take l.run-index l.runs)))
+abbrev pub invariant-loop-order : goal.invariant-loop-order
+invariant-loop-order l = l.fronts.items ≡ fronts_in (take l.order-index l.orders)
+
+abbrev pub invariant-loop-spot : goal.invariant-loop-spot
+invariant-loop-spot l = l.fronts.items ≡ l.initial.fronts.items ++
+    map (λ (s : Spot). s.front) (take l.spot-index l.spot-items)

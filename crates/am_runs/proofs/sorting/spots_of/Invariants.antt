@@ -1,10 +1,10 @@
 use Rattle.std.proofs.Common.{◌≡◌, ◌≤◌}
-use Rattle.am_runs.specs.Sorting.{AreWithin, named, piece}
+use Rattle.am_runs.specs.Sorting.{AreSpots, named, piece}
 use Rattle.am_runs.proofs.sorting.spots_of.Given as goal
 
 abbrev pub invariant-loop-place : goal.invariant-loop-place
 invariant-loop-place g l = record {
-  within : AreWithin (g.S.RecordSource.records l.source) l.spots.items;
+  spots : AreSpots (g.S.RecordSource.records l.source) l.spots.items;
   all : named (g.S.RecordSource.records l.source) l.spots.items ≡ piece (g.S.RecordSource.records l.source) l.from
       l.place;
   order : l.from ≤ l.place;

@@ -1,8 +1,10 @@
-use Rattle.std.proofs.Common.{◌≡◌, ◌≢◌, ◌<◌, ℕ, ◌++◌, ◌∷◌, [], All, cond, true, false, length, set, subst, refl, sym}
+use Rattle.std.proofs.Common.{◌≡◌, ◌≢◌, ◌<◌, ℕ, ◌++◌, ◌∷◌, [], All, List, cond, true, false, length, set, subst, refl}
+use Rattle.std.proofs.Common.{sym}
 use Rattle.std.proofs.Common.{ap, ◌∙◌, arith}
 use Rattle.std.proofs.lemmas.List.{length-set, set-get_or}
 use Rattle.std.proofs.lemmas.List.Elements.{All-set}
 use Rattle.am_record.specs.Locks.{is_covered, with_lock}
+use Rattle.am_record.specs.declared.lock.Lock.{Lock}
 use Rattle.am_locks.specs.declared.asked.Asked.{Asked}
 use Rattle.am_locks.specs.declared.asked.Asked.TheVariants.{Granted, Busy, TooManyLocks, NoMemory}
 use Rattle.am_locks.specs.Answers.{MatchBusy}
@@ -39,6 +41,27 @@ returns-then-covers-clause-granted c = λ _.
 
 -- ---- nobody blocks it, and it is granted
 
+-- the lock is written behind the own ones
+written : (items now : List OwnerLocks) (slot tx : ℕ) (asked : Lock) (own : List Lock) (old new : OwnerLocks) →
+    items ≡ now → old ≡ record { owner = tx; locks = own } → is_covered own asked ≡ false → new.owner ≡ old.owner →
+    new.locks ≡ old.locks ++ asked ∷ [] → set items slot new ≡ set now slot
+    (record { owner = tx; locks = with_lock own asked })
+written items now slot tx asked own old new same entry uncovered owner locks =
+    let number = owner ∙ ap (λ (h : OwnerLocks). h.owner) entry in
+    let all = locks ∙ ap (λ (h : OwnerLocks). h.locks ++ asked ∷ []) entry ∙
+    ap (λ b. cond b own (own ++ asked ∷ [])) (sym uncovered) in
+    λ i. set (same i) slot (record { owner = number i; locks = all i })
+
+pub returns-in-Granted-clause-granted : goal.returns-in-Granted-clause-granted
+returns-in-Granted-clause-granted c = λ granted.
+    let now = c.args.self.now in
+    let found = own_entry _ _ _ _ _ c.index-own.ensures c.self.view_is c.slot_of-slot.ensures.held in
+    let entry = own_entry _ _ _ _ _ c.index_mut.ensures.value c.self.view_is c.slot_of-slot.ensures.held in
+    written _ now c.slot_of-slot.result c.args.tx c.args.asked (locks_owned now c.args.tx) c.index_mut.result.now
+    c.add-answer.new.self c.self.view_is entry
+    (ap (λ (h : OwnerLocks). is_covered h.locks c.args.asked) (sym found) ∙ sym c.if-covers.ensures)
+    c.add-answer.ensures.owner (c.add-answer.ensures.granted granted) ∙ c.slot_of-slot.ensures.write _
+
 pub add-requires-clause-few : goal.add-requires-clause-few
 add-requires-clause-few c = (
   all_locks c.self.inside.owners.items,
@@ -62,13 +85,9 @@ invariant_of-self c =
     ap (λ (h : OwnerLocks). blockers now h.owner asked) (sym found) ∙ c.in_default.ensures in
     let granted : c.add-answer.new.self.locks ≡ old.locks ++ asked ∷ [] = c.add-answer.ensures.granted
     c.in-Granted.is in
-    let owner : c.add-answer.new.self.owner ≡ c.args.tx = c.add-answer.ensures.owner ∙
-    ap (λ (h : OwnerLocks). h.owner) entry in
-    let locks : c.add-answer.new.self.locks ≡ with_lock own asked = granted ∙
-    ap (λ (h : OwnerLocks). h.locks ++ asked ∷ []) entry ∙
-    ap (λ b. cond b own (own ++ asked ∷ [])) (sym uncovered) in
     let all : set items slot c.add-answer.new.self ≡ with_locks now c.args.tx (with_lock own asked) =
-    (λ i. set (c.self.view_is i) slot (record { owner = owner i; locks = locks i })) ∙ c.slot_of-slot.ensures.write _ in
+    written items now slot c.args.tx asked own old c.add-answer.new.self c.self.view_is entry uncovered
+    c.add-answer.ensures.owner granted ∙ c.slot_of-slot.ensures.write _ in
     let inside : slot < length items = omega (arith, c.slot_of-slot.ensures.in_bounds, ap length c.self.view_is) in (
       subst AreAllApart (sym all) (AreAllApart-with_lock now c.args.tx asked
           (subst AreAllApart c.self.view_is c.self.invariant.0) free),

@@ -8,7 +8,8 @@ use Rattle.am_locks.proofs.Numbers.{numbers-removed}
 use Rattle.am_locks.specs.KeyCounts.{all_locks, AreCountsOf}
 use Rattle.am_locks.proofs.AllLocks.{AreCountsOf-released}
 use Rattle.am_locks.proofs.Apart.{AreAllApart-filter}
-use Rattle.am_locks.proofs.Places.{own_entry, remove-without_owner}
+use Rattle.am_record.proofs.Numbered.{remove-without_number}
+use Rattle.am_locks.proofs.Places.{AreOnce-AreAllApart, own_entry}
 use Rattle.am_locks.proofs.table.LockTable.release.Goals as goal
 
 pub remove-requires : goal.remove-requires
@@ -38,7 +39,8 @@ returns c =
     let slot = c.slot_of-slot.result in
     let d = c.remove-released.result in
     c.remove-released.ensures.items ∙ ap (λ t. remove t slot) c.self.view_is ∙
-    remove-without_owner now slot d c.args.tx (subst AreAllApart c.self.view_is c.self.invariant.0)
+    remove-without_number (λ (h : OwnerLocks). h.owner) now slot d c.args.tx
+    (AreOnce-AreAllApart now (subst AreAllApart c.self.view_is c.self.invariant.0))
     c.slot_of-slot.ensures.in_bounds (ap (λ (h : OwnerLocks). h.owner) (c.slot_of-slot.ensures.held d))
 
 pub invariant_of-self : goal.invariant_of-self
@@ -56,7 +58,8 @@ invariant_of-self c =
     (subst (λ t. AreCountsOf (all_locks t) buckets) c.self.view_is c.self.invariant.4))) in
     let left : c.remove-released.new.self.items ≡ without_owner now c.args.tx =
     c.remove-released.ensures.items ∙ ap (λ t. remove t slot) c.self.view_is ∙
-    remove-without_owner now slot d c.args.tx apart c.slot_of-slot.ensures.in_bounds
+    remove-without_number (λ (h : OwnerLocks). h.owner) now slot d c.args.tx (AreOnce-AreAllApart now apart)
+    c.slot_of-slot.ensures.in_bounds
     (ap (λ (h : OwnerLocks). h.owner) (c.slot_of-slot.ensures.held d)) in (
       subst AreAllApart (sym left) (AreAllApart-filter (λ (h : OwnerLocks). not (h.owner == c.args.tx)) now apart),
       omega (arith, c.remove-released.ensures.len, c.self.invariant.1),
