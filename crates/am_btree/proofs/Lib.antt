@@ -1,5 +1,6 @@
 pub mod Appended
 pub mod Between
+pub mod Stretches
 pub mod Children
 pub mod Crosses
 pub mod Cutting

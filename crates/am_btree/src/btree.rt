@@ -125,11 +125,7 @@ impl PartIndex for BTree {
     }
 
     fn insert_between(&mut self, more: &[Entry]) -> usize {
-        let (part, key) = match more.first() {
-            Some(first) => (first.part, first.key),
-            None => (0, Key::least()),
-        };
-        self.root.insert_between(part, key, more)
+        self.root.insert_between(None, more)
     }
 
     fn append_run(&mut self, part: u32, pairs: &[(Key, Value)]) -> Result<(), NoMemory> {

@@ -1,6 +1,7 @@
 //! The separators of a node.
 
-ghost use Rattle.std.specs.Prelude.{◌≡◌, ◌<◌, ◌≤◌, [], length, take, drop, nat_eq, nat_lt, slice_index_or, IfOk};
+ghost use Rattle.std.specs.Prelude.{◌≡◌, ◌+◌, ◌<◌, ◌≤◌, [], length, take, drop, nat_eq, nat_lt, slice_get};
+ghost use Rattle.std.specs.Prelude.{slice_index_or, IfOk, option_copied};
 ghost use Rattle.std.specs.List.{count_by, prefix_len, insert, remove};
 ghost use Rattle.am_btree.specs.Fronts.{fronts_of};
 ghost use Rattle.am_btree.specs.Separators.{IsReach, IsChildFor, SeparatorsRise, lowered};
@@ -53,6 +54,14 @@ impl Separators {
         ensures { result ≡ slice_index_or self.now at result }
     {
         self.places[at]
+    }
+
+    /// Where the child behind that one begins, if there is one.
+    pub(crate) fn behind(&self, at: usize) -> Option<&Separator>
+        requires { at < length self.now }
+        ensures { option_copied result ≡ slice_get self.now (at + 1) }
+    {
+        self.places.get(at + 1)
     }
 
     /// How many children begin at or below the place.

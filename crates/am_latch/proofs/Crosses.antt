@@ -24,7 +24,6 @@ use Rattle.am_latch.specs.contracts.latch.Latch as Latch
 use Rattle.am_latch.specs.contracts.taken.TakenView as TakenView
 use Rattle.am_latch.specs.contracts.taker.Taker as Taker
 use Rattle.am_latch.proofs.taker.Taker.TheSendSync as taker
-use Rattle.am_latch.proofs.views.AgreeingViews.TheSendSync as numbered
 use Rattle.am_engine.proofs.call_id.CallId.TheSendSync as call_id
 
 handed_send : IsSend Handed.the_row
@@ -56,16 +55,7 @@ module _ (T : RattleType) (g : latch_name.Ghosts T.Denot) where
       (struct_sync (declared.shape (Latch.the_type T g)) (
         mutex.the_sync (LatchState.the_row T g) held_send,
         (
-          search (
-            table.the_field_sync,
-            table.the_sync,
-            numbered.the_field_sync,
-            numbered.the_sync,
-            heap.the_sync,
-            heap.the_send,
-            crosses,
-            sendable,
-          ) depth 40,
+          search (table.the_field_sync, heap.the_sync, heap.the_send, crosses, sendable) depth 40,
           (
             search (table.the_field_sync, heap.the_sync, heap.the_send, crosses, sendable) depth 40,
             (plain_sync _ _ _ _ _, (phantom.the_field_sync T, tt)),

@@ -1,14 +1,9 @@
 -- What holds of each view, once one is set or added.
-use Rattle.std.proofs.Common.{◌≡◌, ◌≢◌, ◌⊎◌, true, false, true≢false, ℕ, zero, suc, List, [], ◌∷◌, ◌++◌, length, set}
-use Rattle.std.proofs.Common.{inl, inr, refl, sym, ap}
-use Rattle.std.proofs.Common.{subst}
-use Rattle.std.proofs.Common.{⊎_elim}
+use Rattle.std.proofs.Common.{◌≡◌, ◌≢◌, ◌⊎◌, ℕ, zero, suc, List, [], ◌∷◌, ◌++◌, length, set}
+use Rattle.std.proofs.Common.{inl, inr, refl, sym, ap, subst, ⊎_elim}
 use mathlib.Core.Option.{some, some-ne-none, some-injective}
 use lib.ListN.{get_elem?}
 use Rattle.atomic_table.proofs.Lists.{at_set}
-
-pub off : false ≡ true → ⊥
-off e = true≢false (sym e)
 
 module _ {V : Type 0} where
   at_end : (l : List V) (a b : V) (j : ℕ) → get_elem? (l ++ a ∷ []) j ≡ some b → (get_elem? l j ≡ some b) ⊎

@@ -3,8 +3,6 @@ use Rattle.std.proofs.Common.{◌≡◌, ℕ, ◌<◌, List, [], ◌∷◌, ◌+
 use Rattle.am_record.specs.declared.step.Step.{Step}
 use Rattle.am_record.specs.declared.step.Reply.{Reply}
 use Rattle.am_engine.specs.declared.call_id.CallId.{CallId}
-use Rattle.am_latch.specs.declared.taken.TakenView.{TakenView}
-use Rattle.am_latch.specs.declared.views.View.{View}
 use Rattle.am_engine.specs.Changes.{is_stored}
 use Rattle.am_engine.specs.Traces.{CallLog, log_with, StoresCall, AreMadeBelow}
 
@@ -17,8 +15,5 @@ pub below-snoc : (n : ℕ) (ms : List CallId) (m : CallId) → AreMadeBelow n ms
 below-snoc n [] m h lt = (lt, tt)
 below-snoc n (x ∷ xs) m h lt = (h.0, below-snoc n xs m h.1 lt)
 
-pub only : (v w : View) → v ∷ [] ≡ w ∷ [] → v ≡ w
+pub only : {V : Type 0} (v w : V) → v ∷ [] ≡ w ∷ [] → v ≡ w
 only v w e = cc
-
-pub only_taken : (v w : TakenView) → v ∷ [] ≡ w ∷ [] → v ≡ w
-only_taken v w e = cc

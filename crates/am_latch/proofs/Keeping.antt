@@ -180,8 +180,8 @@ kept e n seats even below all known = record {
       );
   once = λ i k j l s t r q at at' bt bt' same_place. let f = at_receipt i k s r at at' in
       let h = at_receipt j l t q bt bt' in
-      let join_views : f.q ≡ h.q = omega (arith, f.position, h.position) in
-      let made : Some f.m ≡ Some h.m = sym f.made ∙ ap (slice_get e.calls) join_views ∙ h.made in
+      let same : f.q ≡ h.q = omega (arith, f.position, h.position) in
+      let made : Some f.m ≡ Some h.m = sym f.made ∙ ap (slice_get e.calls) same ∙ h.made in
       let call_id : f.m ≡ h.m = cc in
       let number : s.number ≡ t.number = sym f.by ∙ ap (λ (x : CallId). x.seat) call_id ∙ h.by in
       let position : i ≡ j = sym (all.1 i s (subst (λ (z : ℕ). i < z) all.0 (slice_get_within seats i s at)) at) ∙

@@ -27,7 +27,7 @@ none_above n k position call (p ∷ ps) (m ∷ ms) le h = passed (m.seat == k) (
 open_below : (n k t : ℕ) (e : CallLog) → AreMadeBelow n e.calls → open_in e k ≡ Some t → n ≤ k → ⊥
 open_below n k t e below is le =
     let nothing : open_in e k ≡ None = ap open_of (none_above n k 0 0 e.trace e.calls le below) in
-    let join_views : None ≡ Some t = sym nothing ∙ is in cc
+    let same : None ≡ Some t = sym nothing ∙ is in cc
 
 pub open_is : (e : CallLog) (n : ℕ) (seats : List SeatState) → AreMadeBelow n e.calls → AreAll n seats →
     HaveReceiptsIn e seats (length seats) → IsTied e → SeatsAreTied seats (active_in_trace e.trace)

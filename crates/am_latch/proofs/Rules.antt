@@ -1,350 +1,151 @@
 -- Each step keeps the rule over the views.
-use Rattle.std.proofs.Common.{◌≡◌, ◌≢◌, ℕ, zero, suc, ◌+◌, List, [], ◌∷◌, ◌++◌, length}
-use Rattle.std.proofs.Common.{set, refl, sym, ap, ◌∙◌, subst, ⊎_elim, arith, length-append, length-set}
-use Rattle.std.proofs.Common.{zero-add}
-use mathlib.Core.Option.{none, some, some-ne-none, some-injective}
+use Rattle.std.proofs.Common.{◌≡◌, ◌≢◌, ℕ, suc, ◌+◌, List, [], ◌∷◌, ◌++◌, length, set, refl, sym, ap, ◌∙◌, subst}
+use Rattle.std.proofs.Common.{arith, length-append, length-set, zero-add}
+use mathlib.Core.Option.{none, some, some-ne-none}
 use lib.ListN.{get_elem?}
-use Rattle.atomic_table.specs.Table.{Me, step, keeps, Allows, Splits, Joins, opening}
-use Rattle.atomic_table.proofs.Lists.{at_set, set_again}
+use Rattle.atomic_table.specs.Table.{State, Me, step, keeps, Allows, Splits, Joins, opening}
+use Rattle.atomic_table.proofs.Lists.{set_else}
 use Rattle.am_record.specs.declared.step.Step as what
 use Rattle.am_record.specs.declared.step.Reply.{Reply}
-use Rattle.am_latch.specs.declared.receipt.Receipt.{Receipt}
 use Rattle.am_engine.specs.declared.call_id.CallId.{CallId}
+use Rattle.am_latch.specs.declared.views.SeatView.{SeatView}
 use Rattle.am_latch.specs.declared.views.View.{View}
-use Rattle.am_engine.specs.Traces.{CallLog, log_with}
+use Rattle.am_latch.specs.declared.views.View.TheVariants.{Nothing, Minting, Log, Receipts, Joint}
+use Rattle.am_engine.specs.Traces.{CallLog, empty_log, log_with}
 use Rattle.am_latch.specs.Receipts.{receipt, receipts_of}
-use Rattle.am_latch.specs.Views.{trace_view, minting_view, seat_view, empty_view, joint_view, join_views, seat_part}
-use Rattle.am_latch.specs.Views.{trace_part, one_more_minted, minted_seat, IsViewOf, ViewsAgree, view_with_call}
-use Rattle.am_latch.specs.Views.{AppendsCall, ReceiptsAgree, log_in_view, IsTraceView, IsSeatView, IsJointView}
-use Rattle.am_latch.specs.Views.{EndsMinting}
-use Rattle.am_latch.proofs.Each.{off, each_of_set, each_of_end}
+use Rattle.am_latch.specs.Views.{seat_in, log_in, IsSeatView, IsLogView, IsJointView, KnowsReceipts, IsViewOf}
+use Rattle.am_latch.specs.Views.{ViewsAgree, join_views, seat_part, log_part, one_more_minted, minted_seat}
+use Rattle.am_latch.specs.Views.{new_seat_view, seat_with, view_with_call, EndsMinting, AppendsCall, ReceiptsAgree}
+use Rattle.am_latch.proofs.Each.{each_of_set, each_of_end}
 use Rattle.am_latch.proofs.Places.{mine_more, others_same}
 
-agrees_nobody : (trace_token count by : ℕ) (e : CallLog) → IsViewOf trace_token e count by empty_view
-agrees_nobody trace_token count by e = record {
-  here = λ k. absurd (off k);
-  trace = λ k. absurd (off k);
-  calls = λ k. absurd (off k);
-  is_minting = λ k d. absurd (off k);
-  numbered = λ k. absurd (off k);
-  receipts = λ k. absurd (off k);
+agreed : (s : State ℕ View) (holder count : ℕ) (e : CallLog) → length s.views ≡ count →
+    length e.calls ≡ length e.trace →
+    ((by : ℕ) (v : View) → get_elem? s.views by ≡ some v → IsViewOf holder e count by v) → ViewsAgree s
+agreed s holder count e is even each = record {
+  holder = holder;
+  log = e;
+  even = even;
+  each = subst (λ (n : ℕ). (by : ℕ) (v : View) → get_elem? s.views by ≡ some v → IsViewOf holder e n by v) (sym is)
+      each;
 }
 
-pub starts : ViewsAgree (opening (0 ∷ []) [] (minting_view 0))
-starts = record { holder = 0; log = record { trace = []; calls = [] }; even = refl; each = one }
-  where
-    one : (by : ℕ) (v : View) → get_elem? (minting_view 0 ∷ []) by ≡ some v →
-        IsViewOf 0 record { trace = []; calls = [] } 1 by v
-    one zero v e = subst (IsViewOf 0 record { trace = []; calls = [] } 1 0) (some-injective _ _ e)
-        record {
-          here = λ _. refl;
-          trace = λ _. refl;
-          calls = λ _. refl;
-          is_minting = λ _ _. refl;
-          numbered = λ k. absurd (off k);
-          receipts = λ k. absurd (off k);
-        }
-    one (suc by) v e = absurd (some-ne-none v (sym e))
+-- a view that isn't the holder's, where the log is held elsewhere, or has more calls of other seats
+elsewhere : (holder holder' count count' by : ℕ) (e e' : CallLog) (v : View) → by ≢ holder →
+    ((k : ℕ) → by ≡ suc k → receipts_of k e ≡ receipts_of k e') → IsViewOf holder e count by v →
+    IsViewOf holder' e' count' by v
+elsewhere holder holder' count count' by e e' Nothing far same h = tt
+elsewhere holder holder' count count' by e e' (Minting n) far same h = absurd (far h.0)
+elsewhere holder holder' count count' by e e' (Log d) far same h = absurd (far h.0)
+elsewhere holder holder' count count' by e e' (Receipts k) far same h = (h.0, h.1 ∙ same k.seat h.0)
+elsewhere holder holder' count count' by e e' (Joint k d) far same h = absurd (far h.0)
 
--- a view without the trace, where the trace went to another view
-trace_elsewhere : (trace_token trace_token' count by : ℕ) (e : CallLog) (v : View) → by ≢ trace_token →
-    IsViewOf trace_token e count by v → IsViewOf trace_token' e count by v
-trace_elsewhere trace_token trace_token' count by e v apart f = record {
-  here = λ k. absurd (apart (f.here k));
-  trace = f.trace;
-  calls = f.calls;
-  is_minting = λ kp d. f.is_minting kp d;
-  numbered = f.numbered;
-  receipts = f.receipts;
+pub starts : ViewsAgree (opening (0 ∷ []) [] (Minting 0))
+starts = record {
+  holder = 0;
+  log = empty_log;
+  even = refl;
+  each = each_of_end (IsViewOf 0 empty_log 1) [] (Minting 0) (λ i v f. absurd (some-ne-none v (sym f)))
+      (refl, refl, refl);
 }
 
-pub joins : (id k other : ℕ) (rs : List Receipt) (e : CallLog) → Joins ViewsAgree id (seat_view k rs) other
-    (trace_view e) (join_views (seat_view k rs) (trace_view e)) empty_view
-joins id k other rs e s h at apart there =
-    let w = joint_view k rs e in
-    let old : get_elem? s.views other ≡ some (trace_view e) =
-    ⊎_elim (λ (t : (other ≡ id) × (w ≡ trace_view e)). absurd (apart t.0))
-    (λ (t : (other ≢ id) × (get_elem? s.views other ≡ some (trace_view e))). t.1)
-    (at_set s.views id other w (trace_view e) there) in
-    let trace_token = h.each other (trace_view e) old in
-    let seat = h.each id (seat_view k rs) at in
-    let receipts : IsViewOf id h.log (length s.views) id w = record {
-      here = λ _. refl;
-      trace = λ _. trace_token.trace refl;
-      calls = λ _. trace_token.calls refl;
-      is_minting = λ _ d. absurd (off d);
-      numbered = λ _. seat.numbered refl;
-      receipts = λ _. seat.receipts refl;
-    } in
-    record {
-      holder = id;
-      log = h.log;
-      even = h.even;
-      each = λ j u e'. let count : length (set (set s.views id w) other empty_view) ≡ length s.views =
-          length-set (set s.views id w) other empty_view ∙ length-set s.views id w in
-          subst (λ (n : ℕ). IsViewOf id h.log n j u) (sym count)
-          (each_of_set (λ i v. IsViewOf id h.log (length s.views) i v) (set s.views id w) other empty_view
-          (λ i v far f. ⊎_elim (λ (t : (i ≡ id) × (w ≡ v)). subst
-          (λ (y : ℕ × View). IsViewOf id h.log (length s.views) y.0 y.1) (λ z. (sym t.0 z, t.1 z)) receipts)
-          (λ (t : (i ≢ id) × (get_elem? s.views i ≡ some v)). trace_elsewhere h.holder id (length s.views) i h.log v
-          (λ b. far (b ∙ sym (trace_token.here refl))) (h.each i v t.1)) (at_set s.views id i w v f))
-          (agrees_nobody id (length s.views) other h.log) j u e');
-    }
+pub mints : (id n : ℕ) (v : View) → v ≡ Minting n → Splits ViewsAgree id v (one_more_minted v) (minted_seat v)
+mints id m (Minting n) _ s h at =
+    let mine = h.each id (Minting n) at in
+    let vs = set s.views id (Minting (n + 1)) in
+    let count = suc (length s.views) in
+    let same : length vs ≡ length s.views = length-set s.views id (Minting (n + 1)) in
+    agreed _ h.holder count h.log (length-append vs (Receipts (new_seat_view n) ∷ []) ∙ omega (arith, same)) h.even
+    (each_of_end (IsViewOf h.holder h.log count) vs (Receipts (new_seat_view n))
+    (each_of_set (IsViewOf h.holder h.log count) s.views id (Minting (n + 1))
+    (λ j u far f. elsewhere h.holder h.holder _ count j h.log h.log u (λ b. far (b ∙ sym mine.0)) (λ _ _. refl)
+    (h.each j u f)) (mine.0, mine.1, omega (arith, mine.2)))
+    (same ∙ mine.2, ap (receipts_of n) mine.1))
+mints id m v is s h at = absurd (cc)
 
-pub appends : (slots id k : ℕ) (rs : List Receipt) (e : CallLog) (state : List (ℕ × ℕ)) (st : what.Step) (r : Reply)
-    (m : CallId) → m.seat ≡ k
-    → Allows ViewsAgree slots id (joint_view k rs e, state) 0 (λ n. n)
-    (AppendsCall st r m (step slots 0 0 0 none) (joint_view k rs e, state))
-appends slots id k rs e state st r m made s h long at fits =
-    let v = joint_view k rs e in
-    let w = view_with_call st r m v in
-    let receipts = h.each id v at in
-    let log : CallLog = record { trace = h.log.trace ++ (st, r) ∷ []; calls = h.log.calls ++ m ∷ [] } in
-    let count : length (set s.views id w) ≡ length s.views = length-set s.views id w in
-    let known : rs ≡ receipts_of k h.log = receipts.receipts refl in
-    let more = mine_more k 0 0 (length h.log.trace) h.log.trace h.log.calls st r m h.even made
+pub ends_minting : (slots id n : ℕ) (v : View) (state : List (ℕ × ℕ)) → v ≡ Minting n →
+    Allows ViewsAgree slots id (v, state) 0 (λ k. k) (EndsMinting (step slots 0 0 0 none) (v, state))
+ends_minting slots id m (Minting n) state _ s h long at fits =
+    let mine = h.each id (Minting n) at in (
+      Log empty_log,
+      keeps,
+      tt,
+      agreed _ h.holder (length s.views) h.log (length-set s.views id (Log empty_log)) h.even
+          (each_of_set (IsViewOf h.holder h.log (length s.views)) s.views id (Log empty_log)
+          (λ j u _ f. h.each j u f) (mine.0, mine.1)),
+      refl,
+    )
+ends_minting slots id m v state is s h long at fits = absurd (cc)
+
+pub joins : (id other : ℕ) (v w : View) → IsSeatView v → IsLogView w →
+    Joins ViewsAgree id v other w (join_views v w) Nothing
+joins id other (Receipts k) (Log e) _ _ s h at apart there =
+    let all = IsViewOf id h.log (length s.views) in
+    let mine = h.each id (Receipts k) at in
+    let theirs = h.each other (Log e) (sym (set_else s.views id other (Joint k e) apart) ∙ there) in
+    let vs = set s.views id (Joint k e) in
+    agreed _ id (length s.views) h.log (length-set vs other Nothing ∙ length-set s.views id (Joint k e)) h.even
+    (each_of_set all vs other Nothing (λ i u far f. each_of_set (λ j x. j ≢ other → all j x) s.views id (Joint k e)
+    (λ j x _ g away. elsewhere h.holder id _ (length s.views) j h.log h.log x (λ b. away (b ∙ sym theirs.0))
+    (λ _ _. refl) (h.each j x g)) (λ _. (refl, theirs.1, mine.0, mine.1)) i u f far) tt)
+joins id other v w seat log s h at apart there = absurd (cc)
+
+-- the seat's token, once it has joined
+pub joined : (me me' : Me ℕ View) (w : View) → IsSeatView me.0 → IsLogView w → me' ≡ (join_views me.0 w, me.1) →
+    me' ≡ (Joint (seat_in me.0) (log_in w), me.1)
+joined me me' w seat log is = is ∙ (λ i. (join_views (seat i) (log i), me.1))
+
+pub splits : (id : ℕ) (v : View) (k : SeatView) (e : CallLog) → v ≡ Joint k e →
+    Splits ViewsAgree id v (seat_part v) (log_part v)
+splits id (Joint k e) _ _ _ s h at =
+    let mine = h.each id (Joint k e) at in
+    let vs = set s.views id (Receipts k) in
+    let count = suc (length s.views) in
+    let same : length vs ≡ length s.views = length-set s.views id (Receipts k) in
+    agreed _ (length vs) count h.log (length-append vs (Log e ∷ []) ∙ omega (arith, same)) h.even
+    (each_of_end (IsViewOf (length vs) h.log count) vs (Log e)
+    (each_of_set (IsViewOf (length vs) h.log count) s.views id (Receipts k)
+    (λ j u far f. elsewhere h.holder (length vs) _ count j h.log h.log u (λ b. far (b ∙ sym mine.0)) (λ _ _. refl)
+    (h.each j u f)) (mine.2, mine.3))
+    (refl, mine.1))
+splits id v k e is s h at = absurd (cc)
+
+pub appends : (slots id : ℕ) (v : View) (state : List (ℕ × ℕ)) (st : what.Step) (r : Reply) (m : CallId) →
+    IsJointView v → m.seat ≡ (seat_in v).seat →
+    Allows ViewsAgree slots id (v, state) 0 (λ n. n) (AppendsCall st r m (step slots 0 0 0 none) (v, state))
+appends slots id (Joint k e) state st r m _ made s h long at fits =
+    let mine = h.each id (Joint k e) at in
+    let w = view_with_call st r m (Joint k e) in
+    let more = mine_more k.seat 0 0 (length h.log.trace) h.log.trace h.log.calls st r m h.even made
     (sym (zero-add (length h.log.trace))) in
-    let same : w.receipts ≡ receipts_of k log = (λ i. known i ++
-    receipt k (length (known i)) st r (length (receipts.trace refl i)) ∷ []) ∙
-    ap (λ (n : ℕ). receipts_of k h.log ++ receipt k n st r (length h.log.trace) ∷ [])
-    (sym (zero-add (length (receipts_of k h.log)))) ∙ sym more in (
+    let known : KnowsReceipts (log_with h.log m st r) (seat_with k st r (length e.trace)) = (λ i. mine.3 i ++
+    receipt k.seat (length (mine.3 i)) st r (length (mine.1 i).trace) ∷ []) ∙
+    ap (λ (n : ℕ). receipts_of k.seat h.log ++ receipt k.seat n st r (length h.log.trace) ∷ [])
+    (sym (zero-add (length (receipts_of k.seat h.log)))) ∙ sym more in (
       w,
       keeps,
       tt,
-      record {
-        holder = h.holder;
-        log = log;
-        even = omega (arith, length-append h.log.trace ((st, r) ∷ []), length-append h.log.calls (m ∷ []), h.even);
-        each = λ j u e'. subst (λ (n : ℕ). IsViewOf h.holder log n j u) (sym count)
-            (each_of_set (λ i x. IsViewOf h.holder log (length s.views) i x) s.views id w
-            (λ i x apart f. let o = h.each i x f in record {
-              here = o.here;
-              trace = λ kp. absurd (apart (o.here kp ∙ sym (receipts.here refl)));
-              calls = λ kp. absurd (apart (o.here kp ∙ sym (receipts.here refl)));
-              is_minting = o.is_minting;
-              numbered = o.numbered;
-              receipts = λ si. o.receipts si ∙ sym (others_same x.seat 0 0 h.log.trace h.log.calls st r m h.even
-                  (λ z. apart (o.numbered si ∙ ap suc (sym z ∙ made) ∙ sym (receipts.numbered refl))));
-            })
-            record {
-              here = λ _. receipts.here refl;
-              trace = λ _. ap (λ l. l ++ (st, r) ∷ []) (receipts.trace refl);
-              calls = λ _. ap (λ l. l ++ m ∷ []) (receipts.calls refl);
-              is_minting = λ _ d. absurd (off d);
-              numbered = λ _. receipts.numbered refl;
-              receipts = λ _. same;
-            }
-            j u e');
-      },
+      agreed _ h.holder (length s.views) (log_with h.log m st r) (length-set s.views id w)
+          (omega (arith, length-append h.log.trace ((st, r) ∷ []), length-append h.log.calls (m ∷ []), h.even))
+          (each_of_set (IsViewOf h.holder (log_with h.log m st r) (length s.views)) s.views id w
+          (λ j u far f. elsewhere h.holder h.holder _ (length s.views) j h.log (log_with h.log m st r) u
+          (λ b. far (b ∙ sym mine.0)) (λ l is. sym (others_same l 0 0 h.log.trace h.log.calls st r m h.even
+          (λ z. far (is ∙ ap suc (sym z ∙ made) ∙ sym mine.2)))) (h.each j u f))
+          (mine.0, ap (λ (d : CallLog). log_with d m st r) mine.1, mine.2, known)),
       refl,
     )
+appends slots id v state st r m is made s h long at fits = absurd (cc)
 
-pub checks : (slots id k : ℕ) (rs : List Receipt) (e : CallLog) (state : List (ℕ × ℕ)) →
-    Allows ViewsAgree slots id (joint_view k rs e, state) 0 (λ n. n)
-    (ReceiptsAgree (step slots 0 0 0 none) (joint_view k rs e, state))
-checks slots id k rs e state s h long at fits =
-    let v = joint_view k rs e in
-    let receipts = h.each id v at in
-    let again : set s.views id v ≡ s.views = set_again s.views id v at in (
-      v,
+pub compares : (slots id : ℕ) (v : View) (state : List (ℕ × ℕ)) (k : SeatView) (e : CallLog) → v ≡ Joint k e →
+    Allows ViewsAgree slots id (v, state) 0 (λ n. n) (ReceiptsAgree (step slots 0 0 0 none) (v, state))
+compares slots id (Joint k e) state _ _ _ s h long at fits =
+    let mine = h.each id (Joint k e) at in (
+      Joint k e,
       keeps,
       tt,
-      record {
-        holder = h.holder;
-        log = h.log;
-        even = h.even;
-        each = subst (λ (l : List View). (by : ℕ) (u : View) → get_elem? l by ≡ some u →
-            IsViewOf h.holder h.log (length l) by u) (sym again) h.each;
-      },
-      (
-        refl,
-        receipts.receipts refl ∙ (λ i. receipts_of k record {
-          trace = sym (receipts.trace refl) i;
-          calls = sym (receipts.calls refl) i;
-        }),
-      ),
+      agreed _ h.holder (length s.views) h.log (length-set s.views id (Joint k e)) h.even
+          (each_of_set (IsViewOf h.holder h.log (length s.views)) s.views id (Joint k e) (λ j u _ f. h.each j u f)
+          mine),
+      (refl, mine.3 ∙ ap (receipts_of k.seat) (sym mine.1)),
     )
-
-pub parts : (id k : ℕ) (rs : List Receipt) (e : CallLog) → Splits ViewsAgree id (joint_view k rs e) (seat_view k rs)
-    (trace_view e)
-parts id k rs e s h at =
-    let v = joint_view k rs e in
-    let w = seat_view k rs in
-    let receipts = h.each id v at in
-    let vs = set s.views id w in
-    let end : length vs ≡ length s.views = length-set s.views id w in
-    let count : length (vs ++ trace_view e ∷ []) ≡ suc (length s.views) = length-append vs (trace_view e ∷ []) ∙
-    omega arith in
-    record {
-      holder = length vs;
-      log = h.log;
-      even = h.even;
-      each = λ j u e'. subst (λ (n : ℕ). IsViewOf (length vs) h.log n j u) (sym count)
-          (each_of_end (λ i x. IsViewOf (length vs) h.log (suc (length s.views)) i x) vs (trace_view e)
-          (each_of_set (λ i x. IsViewOf (length vs) h.log (suc (length s.views)) i x) s.views id w
-          (λ i x apart f. let o = h.each i x f in record {
-            here = λ kp. absurd
-                (apart (o.here kp ∙ sym (receipts.here refl)));
-            trace = o.trace;
-            calls = o.calls;
-            is_minting = λ kp d. absurd (apart (o.here kp ∙ sym (receipts.here refl)));
-            numbered = o.numbered;
-            receipts = o.receipts;
-          })
-          record {
-            here = λ kp. absurd (off kp);
-            trace = λ kp. absurd (off kp);
-            calls = λ kp. absurd (off kp);
-            is_minting = λ kp d. absurd (off kp);
-            numbered = λ _. receipts.numbered refl;
-            receipts = λ _. receipts.receipts refl;
-          })
-          record {
-            here = λ _. refl;
-            trace = λ _. receipts.trace refl;
-            calls = λ _. receipts.calls refl;
-            is_minting = λ _ d. absurd (off d);
-            numbered = λ d. absurd (off d);
-            receipts = λ d. absurd (off d);
-          }
-          j u e');
-    }
-
-pub is_minting : (id n : ℕ) → Splits ViewsAgree id (minting_view n) (minting_view (n + 1)) (seat_view n [])
-is_minting id n s h at =
-    let v = minting_view n in
-    let w = minting_view (n + 1) in
-    let receipts = h.each id v at in
-    let vs = set s.views id w in
-    let end : length vs ≡ length s.views = length-set s.views id w in
-    let minted : length s.views ≡ suc n = receipts.is_minting refl refl in
-    let count : length (vs ++ seat_view n [] ∷ []) ≡ suc (length s.views) = length-append vs (seat_view n [] ∷ []) ∙
-    omega arith in
-    let none_yet : h.log ≡ record { trace = []; calls = [] } = λ i. record {
-      trace = sym (receipts.trace refl) i;
-      calls = sym (receipts.calls refl) i;
-    } in
-    record {
-      holder = h.holder;
-      log = h.log;
-      even = h.even;
-      each = λ j u e'. subst (λ (k : ℕ). IsViewOf h.holder h.log k j u) (sym count)
-          (each_of_end (λ i x. IsViewOf h.holder h.log (suc (length s.views)) i x) vs (seat_view n [])
-          (each_of_set (λ i x. IsViewOf h.holder h.log (suc (length s.views)) i x) s.views id w
-          (λ i x apart f. let o = h.each i x f in record {
-            here = o.here;
-            trace = o.trace;
-            calls = o.calls;
-            is_minting = λ kp d. absurd (apart (o.here kp ∙ sym (receipts.here refl)));
-            numbered = o.numbered;
-            receipts = o.receipts;
-          })
-          record {
-            here = λ _. receipts.here refl;
-            trace = λ _. receipts.trace refl;
-            calls = λ _. receipts.calls refl;
-            is_minting = λ _ _. omega arith;
-            numbered = λ kp. absurd (off kp);
-            receipts = λ kp. absurd (off kp);
-          })
-          record {
-            here = λ kp. absurd (off kp);
-            trace = λ kp. absurd (off kp);
-            calls = λ kp. absurd (off kp);
-            is_minting = λ kp d. absurd (off kp);
-            numbered = λ _. end ∙ minted;
-            receipts = λ _. ap (receipts_of n) (sym none_yet);
-          }
-          j u e');
-    }
-
--- the steps, at views that are known
-pub joins_as : (id other : ℕ) (v w : View) → IsSeatView v → IsTraceView w →
-    Joins ViewsAgree id v other w (join_views v w) empty_view
-joins_as id other v w has_seat keep = subst (λ (y : View × View). Joins ViewsAgree id y.0 other y.1 (join_views y.0 y.1)
-    empty_view) (λ i. (sym has_seat i, sym keep i)) (joins id v.seat other v.receipts (log_in_view w))
-
-pub appends_as : (slots id : ℕ) (me : Me ℕ View) (st : what.Step) (r : Reply) (m : CallId) → IsJointView me.0 →
-    m.seat ≡ me.0.seat → Allows ViewsAgree slots id me 0 (λ n. n) (AppendsCall st r m (step slots 0 0 0 none) me)
-appends_as slots id me st r m is made = subst (λ (v : View). Allows ViewsAgree slots id (v, me.1) 0 (λ n. n)
-    (AppendsCall st r m (step slots 0 0 0 none) (v, me.1))) (sym is)
-    (appends slots id me.0.seat me.0.receipts (log_in_view me.0) me.1 st r m made)
-
-pub checks_as : (slots id : ℕ) (me : Me ℕ View) → IsJointView me.0 → Allows ViewsAgree slots id me 0 (λ n. n)
-    (ReceiptsAgree (step slots 0 0 0 none) me)
-checks_as slots id me is = subst (λ (v : View). Allows ViewsAgree slots id (v, me.1) 0 (λ n. n)
-    (ReceiptsAgree (step slots 0 0 0 none) (v, me.1))) (sym is)
-    (checks slots id me.0.seat me.0.receipts (log_in_view me.0) me.1)
-
-pub parts_as : (id : ℕ) (v : View) → IsJointView v → Splits ViewsAgree id v (seat_part v) (trace_part v)
-parts_as id v is = subst (λ (w : View). Splits ViewsAgree id w (seat_part w) (trace_part w)) (sym is)
-    (parts id v.seat v.receipts (log_in_view v))
-
-pub deals_as : (id n : ℕ) (v : View) → v ≡ minting_view n → Splits ViewsAgree id v (one_more_minted v) (minted_seat v)
-deals_as id n v is = subst (λ (w : View). Splits ViewsAgree id w (one_more_minted w) (minted_seat w)) (sym is)
-    (is_minting id n)
-
--- what is joined, appended to and cut apart
-pub joined_is : (v w : View) → IsSeatView v → IsTraceView w → IsJointView (join_views v w)
-joined_is v w has_seat keep = subst (λ (y : View × View). IsJointView (join_views y.0 y.1))
-    (λ i. (sym has_seat i, sym keep i)) refl
-
-pub appended_is : (st : what.Step) (r : Reply) (m : CallId) (v : View) → IsJointView v →
-    IsJointView (view_with_call st r m v)
-appended_is st r m v is = subst (λ (y : View). IsJointView (view_with_call st r m y)) (sym is) refl
-
-pub entered_seat : (st : what.Step) (r : Reply) (m : CallId) (v w : View) → IsSeatView v → IsTraceView w →
-    seat_part (view_with_call st r m (join_views v w)) ≡ seat_view v.seat
-    (v.receipts ++ receipt v.seat (length v.receipts) st r (length w.trace) ∷ [])
-entered_seat st r m v w has_seat keep = subst
-    (λ (y : View × View). seat_part (view_with_call st r m (join_views y.0 y.1)) ≡ seat_view y.0.seat
-    (y.0.receipts ++ receipt y.0.seat (length y.0.receipts) st r (length y.1.trace) ∷ []))
-    (λ i. (sym has_seat i, sym keep i)) refl
-
-pub entered_book : (st : what.Step) (r : Reply) (m : CallId) (v w : View) → IsSeatView v → IsTraceView w →
-    trace_part (view_with_call st r m (join_views v w)) ≡ trace_view (log_with (log_in_view w) m st r)
-entered_book st r m v w has_seat keep = subst
-    (λ (y : View × View). trace_part (view_with_call st r m (join_views y.0 y.1)) ≡ trace_view
-    (log_with (log_in_view y.1) m st r)) (λ i. (sym has_seat i, sym keep i)) refl
-
-pub same_seat : (v w : View) → IsSeatView v → IsTraceView w → seat_part (join_views v w) ≡ v
-same_seat v w has_seat keep = subst (λ (y : View × View). seat_part (join_views y.0 y.1) ≡ y.0)
-    (λ i. (sym has_seat i, sym keep i)) refl
-
-pub same_book : (v w : View) → IsSeatView v → IsTraceView w → trace_part (join_views v w) ≡ w
-same_book v w has_seat keep = subst (λ (y : View × View). trace_part (join_views y.0 y.1) ≡ y.1)
-    (λ i. (sym has_seat i, sym keep i)) refl
-
-pub settles : (slots id n : ℕ) (state : List (ℕ × ℕ)) → Allows ViewsAgree slots id (minting_view n, state) 0 (λ k. k)
-    (EndsMinting (step slots 0 0 0 none) (minting_view n, state))
-settles slots id n state s h long at fits =
-    let w = trace_view (log_in_view (minting_view n)) in
-    let receipts = h.each id (minting_view n) at in
-    let count : length (set s.views id w) ≡ length s.views = length-set s.views id w in (
-      w,
-      keeps,
-      tt,
-      record {
-        holder = h.holder;
-        log = h.log;
-        even = h.even;
-        each = λ j u e'. subst (λ (k : ℕ). IsViewOf h.holder h.log k j u) (sym count)
-            (each_of_set (λ i x. IsViewOf h.holder h.log (length s.views) i x) s.views id w
-            (λ i x apart f. h.each i x f)
-            record {
-              here = λ _. receipts.here refl;
-              trace = λ _. receipts.trace refl;
-              calls = λ _. receipts.calls refl;
-              is_minting = λ _ d. absurd (off d);
-              numbered = λ kp. absurd (off kp);
-              receipts = λ kp. absurd (off kp);
-            }
-            j u e');
-      },
-      refl,
-    )
-
-pub settles_as : (slots id n : ℕ) (me : Me ℕ View) → me.0 ≡ minting_view n → Allows ViewsAgree slots id me 0 (λ k. k)
-    (EndsMinting (step slots 0 0 0 none) me)
-settles_as slots id n me is = subst (λ (v : View). Allows ViewsAgree slots id (v, me.1) 0 (λ k. k)
-    (EndsMinting (step slots 0 0 0 none) (v, me.1))) (sym is) (settles slots id n me.1)
+compares slots id v state k e is s h long at fits = absurd (cc)

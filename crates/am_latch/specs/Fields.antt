@@ -10,17 +10,19 @@ use Rattle.am_latch.specs.declared.taker.Taker.TheInside.{Inside as TakerFields}
 use Rattle.am_latch.specs.Receipts.{moved_in, last_commit_of, positions_of, AreBehind, most_let_go}
 use Rattle.am_latch.specs.Ties.{open_of, HasRoom, IsTied}
 use Rattle.am_latch.specs.Tables.{LatchTables}
-use Rattle.am_latch.specs.Taken.{whole_view, handed_view, IsTakerView}
+use Rattle.am_latch.specs.declared.taken.TakenView.TheVariants.{Handed, Whole}
+use Rattle.am_latch.specs.Taken.{IsTakerView}
 use Rattle.am_engine.specs.Traces.{AreMadeBelow, log_of}
-use Rattle.am_latch.specs.Views.{minting_view, trace_view, IsSeatView}
+use Rattle.am_latch.specs.declared.views.View.TheVariants.{Minting, Log}
+use Rattle.am_latch.specs.Views.{seat_in, IsSeatView}
 
 -- One token under the latch knows the trace, another what was handed out of it. One of the seats made each call, and
 -- what is open in these is active
 pub record IsLatchState {L : Type 0} (tables : LatchTables) (seats : ℕ) (s : LatchStateFields L) : Type 0 where
   pub table_of : s.trace_token.table_id ≡ tables.calls
-  pub knows : s.trace_token.views ≡ trace_view (log_of s.engine) ∷ []
+  pub knows : s.trace_token.views ≡ Log (log_of s.engine) ∷ []
   pub handed_of : s.handed_token.table_id ≡ tables.handed
-  pub handed : s.handed_token.views ≡ handed_view s.engine.handed.trace ∷ []
+  pub handed : s.handed_token.views ≡ Handed s.engine.handed.trace ∷ []
   pub made : AreMadeBelow seats s.engine.calls
   pub tied : IsTied (log_of s.engine)
 
@@ -29,16 +31,16 @@ pub record IsLatchState {L : Type 0} (tables : LatchTables) (seats : ℕ) (s : L
 pub record IsSeat {L : Type 0} (table : TableId) (seats : ℕ) (s : SeatFields L) : Type 0 where
   pub table_of : s.token.table_id ≡ table
   pub view : IsSeatView s.token.me.0
-  pub seat : s.token.me.0.seat ≡ s.number
+  pub seat : (seat_in s.token.me.0).seat ≡ s.number
   pub slots : s.token.me.1 ≡ []
   pub below : s.number < seats
-  pub held : AreBehind s.let_go (positions_of s.token.me.0.receipts) s.positions.items
-  pub count : s.let_go + vec_len s.positions ≡ length s.token.me.0.receipts
-  pub open_tx : s.open_now ≡ open_of s.token.me.0.receipts
-  pub last : s.last_commit ≡ last_commit_of s.token.me.0.receipts
+  pub held : AreBehind s.let_go (positions_of (seat_in s.token.me.0).receipts) s.positions.items
+  pub count : s.let_go + vec_len s.positions ≡ length (seat_in s.token.me.0).receipts
+  pub open_tx : s.open_now ≡ open_of (seat_in s.token.me.0).receipts
+  pub last : s.last_commit ≡ last_commit_of (seat_in s.token.me.0).receipts
   pub room : HasRoom s.open_now (vec_len s.positions) (vec_capacity s.positions)
-  pub moved : s.moved ≡ moved_in s.token.me.0.receipts
-  pub few : s.moved ≤ max_limit * length s.token.me.0.receipts
+  pub moved : s.moved ≡ moved_in (seat_in s.token.me.0).receipts
+  pub few : s.moved ≤ max_limit * length (seat_in s.token.me.0).receipts
   pub numbers : s.let_go ≤ most_let_go
 
 -- the token knows what was taken
@@ -53,7 +55,7 @@ pub record IsBlank (b : BlankFields) : Type 0 where
   pub few : b.seats ≤ max_seats
   pub words : 0 < b.table.shared.table_id.words
   pub table_of : b.trace_token.table_id ≡ b.table.shared.table_id
-  pub knows : b.trace_token.me ≡ (minting_view 0, [])
+  pub knows : b.trace_token.me ≡ (Minting 0, [])
   pub taken_words : 0 < b.taken.shared.table_id.words
   pub taken_of : b.taken_token.table_id ≡ b.taken.shared.table_id
-  pub none_taken : b.taken_token.me ≡ (whole_view [] [], [])
+  pub none_taken : b.taken_token.me ≡ (Whole [] [], [])

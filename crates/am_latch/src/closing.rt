@@ -5,7 +5,7 @@ ghost use Rattle.am_latch.specs.Receipts.{AreReceiptsOf, AreAll, NumberedBelow, 
 ghost use Rattle.am_latch.specs.Ties.{SeatsAreTied};
 ghost use Rattle.am_engine.specs.Changes.{active_in_trace, numbers_active};
 ghost use Rattle.am_serial.specs.Legal.{IsLegal};
-ghost use Rattle.am_latch.specs.Views.{IsTraceView, log_in_view};
+ghost use Rattle.am_latch.specs.Views.{IsLogView, log_in};
 
 use crate::latch::Latch;
 use crate::latch_name::LatchName;
@@ -51,10 +51,10 @@ fn in_order<L: LatchName>(seats: &[Seat<L>]) -> bool
 // Each seat has just the receipts that stand in the trace.
 fn audit_all<L: LatchName>(table: &ViewTable, trace_token: Token, seats: &mut [Seat<L>])
     requires table { (table.now.shared.table_id ≡ L.table.calls) × (0 < table.now.shared.table_id.words) }
-    requires trace_token { (trace_token.table_id ≡ L.table.calls) × IsTraceView trace_token.me.0 ×
+    requires trace_token { (trace_token.table_id ≡ L.table.calls) × IsLogView trace_token.me.0 ×
         (trace_token.me.1 ≡ []) }
     ensures same { seats.new ≡ seats.old }
-    ensures known { HaveReceiptsIn (log_in_view trace_token.me.0) seats.old (length seats.old) }
+    ensures known { HaveReceiptsIn (log_in trace_token.me.0) seats.old (length seats.old) }
 {
     let mut trace_token = trace_token;
     for i in 0..seats.len() {

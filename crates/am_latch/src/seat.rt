@@ -9,7 +9,8 @@ ghost use Rattle.am_engine.specs.Changes.{IsBoundedReply};
 ghost use Rattle.am_latch.specs.Receipts.{SeatState, new_seat, HasReceiptOf, receipts_of, moved_in, last_commit_of};
 ghost use Rattle.am_latch.specs.Receipts.{held_by, positions_of, AreBehind};
 ghost use Rattle.am_latch.specs.Ties.{open_of, EndsTx, receipts_needed};
-ghost use Rattle.am_latch.specs.Views.{seat_view, trace_view, log_in_view, IsTraceView};
+ghost use Rattle.am_latch.specs.declared.views.View.TheVariants.{Receipts};
+ghost use Rattle.am_latch.specs.Views.{new_seat_view, log_in, IsLogView};
 
 use crate::latch::Latch;
 use crate::latch_name::LatchName;
@@ -47,19 +48,21 @@ pub struct Seat<L: LatchName> {
 impl<L: LatchName> Model for Seat<L> {
     ghost use Rattle.am_latch.specs.Fields.{IsSeat};
     ghost use Rattle.am_latch.specs.Receipts.{seat_state_code, SeatState, seat_state};
+    ghost use Rattle.am_latch.specs.Views.{seat_in};
 
     ghost Value = { SeatState };
 
     ghost coded = { seat_state_code };
 
-    ghost view = { λ s. seat_state s.number s.token.me.0.receipts s.let_go };
+    ghost view = { λ s. seat_state s.number (seat_in s.token.me.0).receipts s.let_go };
 
     ghost invariant = { IsSeat L.table.calls L.seats };
 }
 
 impl<L: LatchName> Seat<L> {
     pub(crate) fn new(alloc: Global, number: u64, token: Token) -> Seat<L>
-        requires { (token.table_id ≡ L.table.calls) × (token.me ≡ (seat_view number [], [])) × (number < L.seats) }
+        requires { (token.table_id ≡ L.table.calls) × (token.me ≡ (Receipts (new_seat_view number), [])) ×
+            (number < L.seats) }
         ensures { result ≡ new_seat number }
     {
         Seat {
@@ -190,10 +193,10 @@ impl<L: LatchName> Seat<L> {
     /// The receipts are just those of this seat's calls in the trace.
     pub(crate) fn audit(&mut self, table: &ViewTable, trace_token: Token) -> Token
         requires table { (table.now.shared.table_id ≡ L.table.calls) × (0 < table.now.shared.table_id.words) }
-        requires trace_token { (trace_token.table_id ≡ L.table.calls) × IsTraceView trace_token.me.0 ×
+        requires trace_token { (trace_token.table_id ≡ L.table.calls) × IsLogView trace_token.me.0 ×
             (trace_token.me.1 ≡ []) }
         ensures same { (self.new ≡ self.old) × (result.table_id ≡ trace_token.table_id) × (result.me ≡ trace_token.me) }
-        ensures known { self.old.receipts ≡ receipts_of self.old.number (log_in_view trace_token.me.0) }
+        ensures known { self.old.receipts ≡ receipts_of self.old.number (log_in trace_token.me.0) }
     {
         compare_receipts(table, &mut self.token, trace_token)
     }

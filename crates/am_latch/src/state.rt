@@ -8,11 +8,12 @@ ghost use Rattle.am_engine.specs.Changes.{is_stored, change};
 ghost use Rattle.am_engine.specs.Changes.{IsBoundedReply};
 ghost use Rattle.am_engine.specs.Copies.{IsCopyOf};
 ghost use Rattle.am_engine.specs.Traces.{CallLog, EngineState, log_of, empty_log, StoresCall, AreMadeBelow, IsNextOf};
-ghost use Rattle.am_latch.specs.Receipts.{receipt, receipts_of};
+ghost use Rattle.am_latch.specs.Receipts.{receipts_of};
 ghost use Rattle.am_engine.specs.Sizes.{AreFiguresAt};
 ghost use Rattle.am_latch.specs.Ties.{open_of, EndsTx, IsTied, IsEngineOf};
-ghost use Rattle.am_latch.specs.Taken.{handed_view};
-ghost use Rattle.am_latch.specs.Views.{trace_view, seat_view, IsSeatView};
+ghost use Rattle.am_latch.specs.declared.taken.TakenView.TheVariants.{Handed};
+ghost use Rattle.am_latch.specs.declared.views.View.TheVariants.{Log, Receipts};
+ghost use Rattle.am_latch.specs.Views.{seat_in, seat_with, IsSeatView};
 
 use crate::latch_name::LatchName;
 use crate::seat::Seat;
@@ -59,8 +60,8 @@ impl<L: LatchName> Model for LatchState<L> {
 impl<L: LatchName> LatchState<L> {
     pub(crate) fn new(engine: Engine, trace_token: Token, handed_token: TakenToken) -> LatchState<L>
         requires engine { (log_of engine ≡ empty_log) × (engine.handed ≡ empty_log) }
-        requires trace_token { (trace_token.table_id ≡ L.table.calls) × (trace_token.me ≡ (trace_view empty_log, [])) }
-        requires handed_token { (handed_token.table_id ≡ L.table.handed) × (handed_token.me ≡ (handed_view [], [])) }
+        requires trace_token { (trace_token.table_id ≡ L.table.calls) × (trace_token.me ≡ (Log empty_log, [])) }
+        requires handed_token { (handed_token.table_id ≡ L.table.handed) × (handed_token.me ≡ (Handed [], [])) }
         ensures { result ≡ empty_log }
     {
         LatchState {
@@ -120,8 +121,9 @@ impl<L: LatchName> LatchState<L> {
     ) -> Outcome
         requires table { (table.now.shared.table_id ≡ L.table.calls) × (0 < table.now.shared.table_id.words) ×
             (token.old.table_id ≡ L.table.calls) }
-        requires token { IsSeatView token.old.me.0 × (call_id.seat ≡ token.old.me.0.seat) × (call_id.seat < L.seats) }
-        requires may { IsAllowed (open_of token.old.me.0.receipts) step }
+        requires token { IsSeatView token.old.me.0 × (call_id.seat ≡ (seat_in token.old.me.0).seat) ×
+            (call_id.seat < L.seats) }
+        requires may { IsAllowed (open_of (seat_in token.old.me.0).receipts) step }
         requires copy { IsCopyOf step copy }
         ensures stepped { StoresCall self.old call_id step result.reply self.new }
         ensures never_full { result.reply ≢ Refused SeatFull }
@@ -131,8 +133,7 @@ impl<L: LatchName> LatchState<L> {
         ensures position { result.position ≡ length self.old.trace }
         ensures same { token.new.table_id ≡ token.old.table_id }
         ensures token { MatchBool (is_stored result.reply) (token.new.me ≡ (
-          seat_view call_id.seat (token.old.me.0.receipts ++
-              receipt call_id.seat (length token.old.me.0.receipts) step result.reply result.position ∷ []),
+          Receipts (seat_with (seat_in token.old.me.0) step result.reply result.position),
           token.old.me.1,
         )) (token.new.me ≡ token.old.me) }
     {

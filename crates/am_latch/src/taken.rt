@@ -1,8 +1,8 @@
 //! What ties a taker to what was handed out: a table of one word, which never changes, under a rule over the views of
 //! tokens.
 ghost use Rattle.std.specs.Prelude.{◌≡◌, ◌<◌, [], ◌++◌};
-ghost use Rattle.am_latch.specs.Taken.{whole_view, handed_view, taker_view, taken_with};
-ghost use Rattle.am_latch.specs.Taken.{IsHandedView, IsTakerView, IsWholeView};
+ghost use Rattle.am_latch.specs.Taken.{handed_in, taken_in, IsHandedView, IsTakerView, IsWholeView, taken_with};
+ghost use Rattle.am_latch.specs.declared.taken.TakenView.TheVariants.{Handed, Taken, Whole};
 
 use am_engine::Events;
 use am_record::{Reply, Step};
@@ -11,23 +11,31 @@ use std::alloc::Global;
 use std::collections::LinkedList;
 use std::marker::{Brand, PhantomData};
 
-/// What a token knows: the engine's what was handed out, the taker's what it took. No value of it is made.
-pub struct TakenView {
-    pub has_handed: bool,
-    pub handed: LinkedList<(Step, Reply)>,
-    pub has_taker: bool,
-    pub taken: LinkedList<(Step, Reply)>,
+/// What a token knows. No value of it is made.
+pub enum TakenView {
+    /// Nothing: what it knew went to another's.
+    Nothing,
+    /// What was handed out.
+    Handed(LinkedList<(Step, Reply)>),
+    /// What the taker took.
+    Taken(LinkedList<(Step, Reply)>),
+    /// Both, while more is handed over.
+    Whole {
+        handed: LinkedList<(Step, Reply)>,
+        taken: LinkedList<(Step, Reply)>,
+    },
 }
 
 pub struct AgreeingTakers;
 
 impl TableRule<u8, TakenView, ()> for AgreeingTakers {
     ghost use Rattle.std.specs.Prelude.{[]};
-    ghost use Rattle.am_latch.specs.Taken.{TakersAgree, whole_view};
+    ghost use Rattle.am_latch.specs.Taken.{TakersAgree};
+    ghost use Rattle.am_latch.specs.declared.taken.TakenView.TheVariants.{Whole};
 
     ghost holds = { λ _. TakersAgree };
 
-    ghost first = { λ _. whole_view [] [] };
+    ghost first = { λ _. Whole [] [] };
 }
 
 pub type TakenTable = Table<u8, TakenView, (), AgreeingTakers, Global>;
@@ -48,11 +56,12 @@ impl<E: Events> Play<u8, TakenView> for HandOver<E> {
 pub struct JoinTaker;
 
 impl Join<TakenView> for JoinTaker {
-    ghost use Rattle.am_latch.specs.Taken.{both_views, spent_view};
+    ghost use Rattle.am_latch.specs.Taken.{both_views};
+    ghost use Rattle.am_latch.specs.declared.taken.TakenView.TheVariants.{Nothing};
 
     ghost both = { both_views };
 
-    ghost spent = { spent_view };
+    ghost spent = { Nothing };
 }
 
 /// And cut off again.
@@ -73,7 +82,7 @@ fn add_taken<E: Events>(table: &TakenTable, token: &mut TakenToken, trace: &[(St
     requires token { IsWholeView token.old.me.0 }
     ensures same { token.new.table_id ≡ token.old.table_id }
     ensures token { token.new.me ≡ (taken_with trace.now token.old.me.0, token.old.me.1) }
-    ensures agree { token.old.me.0.taken ≡ token.old.me.0.handed }
+    ensures agree { taken_in token.old.me.0 ≡ handed_in token.old.me.0 }
 {
     table.shared.load::<HandOver<E>>(token, 0);
 }
@@ -90,9 +99,9 @@ pub fn hand_over(
     requires token { IsTakerView token.old.me.0 }
     requires handed_token { IsHandedView handed_token.me.0 × (handed_token.me.1 ≡ []) }
     ensures same { (token.new.table_id ≡ token.old.table_id) × (result.table_id ≡ token.old.table_id) }
-    ensures agree { token.old.me.0.taken ≡ handed_token.me.0.handed }
-    ensures token { token.new.me ≡ (taker_view (token.old.me.0.taken ++ trace.now), token.old.me.1) }
-    ensures handed_token { result.me ≡ (handed_view (handed_token.me.0.handed ++ trace.now), []) }
+    ensures agree { taken_in token.old.me.0 ≡ handed_in handed_token.me.0 }
+    ensures token { token.new.me ≡ (Taken (taken_in token.old.me.0 ++ trace.now), token.old.me.1) }
+    ensures handed_token { result.me ≡ (Handed (handed_in handed_token.me.0 ++ trace.now), []) }
 {
     table.shared.join_seat::<JoinTaker>(token, handed_token);
     add_taken::<Brand>(table, token, trace);
@@ -102,10 +111,10 @@ pub fn hand_over(
 /// The token of the taker, from which that under the latch is cut off.
 pub fn split_taker(table: &TakenTable, token: &mut TakenToken) -> TakenToken
     requires table { (token.old.table_id ≡ table.now.shared.table_id) × (0 < table.now.shared.table_id.words) }
-    requires token { token.old.me ≡ (whole_view [] [], []) }
+    requires token { token.old.me ≡ (Whole [] [], []) }
     ensures same { (token.new.table_id ≡ token.old.table_id) × (result.table_id ≡ token.old.table_id) }
-    ensures token { token.new.me ≡ (taker_view [], []) }
-    ensures handed_token { result.me ≡ (handed_view [], []) }
+    ensures token { token.new.me ≡ (Taken [], []) }
+    ensures handed_token { result.me ≡ (Handed [], []) }
 {
     table.shared.split_seat::<SplitTaker>(token)
 }

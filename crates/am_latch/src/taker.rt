@@ -1,6 +1,6 @@
 //! Who takes what a latch hands out.
 ghost use Rattle.std.specs.Prelude.{◌≡◌, []};
-ghost use Rattle.am_latch.specs.Taken.{taker_view};
+ghost use Rattle.am_latch.specs.declared.taken.TakenView.TheVariants.{Taken};
 
 use crate::latch_name::LatchName;
 use crate::taken::TakenToken;
@@ -18,19 +18,20 @@ impl<L: LatchName> Model for Taker<L> {
     ghost use Rattle.am_serial.specs.Trace.{Trace};
     ghost use Rattle.am_latch.specs.Fields.{IsTaker};
     ghost use Rattle.am_engine.specs.Traces.{events_code};
+    ghost use Rattle.am_latch.specs.Taken.{taken_in};
 
     ghost Value = { Trace };
 
     ghost coded = { events_code };
 
-    ghost view = { λ t. t.token.me.0.taken };
+    ghost view = { λ t. taken_in t.token.me.0 };
 
     ghost invariant = { IsTaker L.table.handed };
 }
 
 impl<L: LatchName> Taker<L> {
     pub(crate) fn new(token: TakenToken) -> Taker<L>
-        requires { (token.table_id ≡ L.table.handed) × (token.me ≡ (taker_view [], [])) }
+        requires { (token.table_id ≡ L.table.handed) × (token.me ≡ (Taken [], [])) }
         ensures { result ≡ [] }
     {
         Taker {

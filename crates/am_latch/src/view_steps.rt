@@ -1,9 +1,9 @@
 //! What is done with a seat's token and that of the trace, under the latch.
-ghost use Rattle.std.specs.Prelude.{◌≡◌, ◌+◌, ◌<◌, [], ◌∷◌, ◌++◌, length};
+ghost use Rattle.std.specs.Prelude.{◌≡◌, ◌+◌, ◌<◌, [], length};
 ghost use Rattle.am_engine.specs.Traces.{empty_log, log_with};
-ghost use Rattle.am_latch.specs.Receipts.{receipt, receipts_of};
-ghost use Rattle.am_latch.specs.Views.{minting_view, trace_view, seat_view, view_with_call, log_in_view, IsTraceView};
-ghost use Rattle.am_latch.specs.Views.{IsSeatView, IsJointView};
+ghost use Rattle.am_latch.specs.declared.views.View.TheVariants.{Minting, Log, Receipts};
+ghost use Rattle.am_latch.specs.Views.{new_seat_view, seat_in, log_in, IsSeatView, IsLogView, IsJointView};
+ghost use Rattle.am_latch.specs.Views.{KnowsReceipts, seat_with, view_with_call};
 
 use crate::views::{
     AppendCall, CompareReceipts, EndMinting, Event, JoinViews, MintSeat, SplitViews, Token,
@@ -23,7 +23,7 @@ fn append<E: Event>(
 )
     requires table { (token.old.table_id ≡ table.now.shared.table_id) × (0 < table.now.shared.table_id.words) }
     requires entry { (step.now ≡ E.step) × (reply.now ≡ E.reply) × (call_id.now ≡ E.call_id) }
-    requires token { IsJointView token.old.me.0 × (call_id.now.seat ≡ token.old.me.0.seat) }
+    requires token { IsJointView token.old.me.0 × (call_id.now.seat ≡ (seat_in token.old.me.0).seat) }
     ensures same { token.new.table_id ≡ token.old.table_id }
     ensures token { token.new.me ≡ (view_with_call step.now reply.now call_id.now token.old.me.0, token.old.me.1) }
 {
@@ -41,17 +41,15 @@ pub fn append_call(
 ) -> Token
     requires table { (token.old.table_id ≡ table.now.shared.table_id) ×
         (trace_token.table_id ≡ table.now.shared.table_id) × (0 < table.now.shared.table_id.words) }
-    requires token { IsSeatView token.old.me.0 × (call_id.now.seat ≡ token.old.me.0.seat) }
-    requires trace_token { IsTraceView trace_token.me.0 × (trace_token.me.1 ≡ []) }
+    requires token { IsSeatView token.old.me.0 × (call_id.now.seat ≡ (seat_in token.old.me.0).seat) }
+    requires trace_token { IsLogView trace_token.me.0 × (trace_token.me.1 ≡ []) }
     ensures same { (token.new.table_id ≡ token.old.table_id) × (result.table_id ≡ token.old.table_id) }
     ensures token { token.new.me ≡ (
-      seat_view token.old.me.0.seat
-          (token.old.me.0.receipts ++ receipt token.old.me.0.seat (length token.old.me.0.receipts) step.now reply.now
-          (length trace_token.me.0.trace) ∷ []),
+      Receipts (seat_with (seat_in token.old.me.0) step.now reply.now (length (log_in trace_token.me.0).trace)),
       token.old.me.1,
     ) }
     ensures trace_token { result.me ≡
-        (trace_view (log_with (log_in_view trace_token.me.0) call_id.now step.now reply.now), []) }
+        (Log (log_with (log_in trace_token.me.0) call_id.now step.now reply.now), []) }
 {
     table.shared.join_seat::<JoinViews>(token, trace_token);
     append::<Brand>(table, token, step, reply, call_id);
@@ -63,10 +61,10 @@ pub fn compare_receipts(table: &ViewTable, token: &mut Token, trace_token: Token
     requires table { (token.old.table_id ≡ table.now.shared.table_id) ×
         (trace_token.table_id ≡ table.now.shared.table_id) × (0 < table.now.shared.table_id.words) }
     requires token { IsSeatView token.old.me.0 }
-    requires trace_token { IsTraceView trace_token.me.0 × (trace_token.me.1 ≡ []) }
+    requires trace_token { IsLogView trace_token.me.0 × (trace_token.me.1 ≡ []) }
     ensures same { (token.new.table_id ≡ token.old.table_id) × (token.new.me ≡ token.old.me) ×
         (result.table_id ≡ token.old.table_id) × (result.me ≡ trace_token.me) }
-    ensures known { token.old.me.0.receipts ≡ receipts_of token.old.me.0.seat (log_in_view trace_token.me.0) }
+    ensures known { KnowsReceipts (log_in trace_token.me.0) (seat_in token.old.me.0) }
 {
     table.shared.join_seat::<JoinViews>(token, trace_token);
     table.shared.load::<CompareReceipts>(token, 0);
@@ -76,11 +74,11 @@ pub fn compare_receipts(table: &ViewTable, token: &mut Token, trace_token: Token
 /// The token of the next seat.
 pub fn mint_seat(table: &ViewTable, trace_token: &mut Token, number: u64) -> Token
     requires table { (trace_token.old.table_id ≡ table.now.shared.table_id) × (0 < table.now.shared.table_id.words) }
-    requires trace_token { trace_token.old.me ≡ (minting_view number, []) }
+    requires trace_token { trace_token.old.me ≡ (Minting number, []) }
     ensures same { (trace_token.new.table_id ≡ trace_token.old.table_id) ×
         (result.table_id ≡ trace_token.old.table_id) }
-    ensures trace_token { trace_token.new.me ≡ (minting_view (number + 1), []) }
-    ensures token { result.me ≡ (seat_view number [], []) }
+    ensures trace_token { trace_token.new.me ≡ (Minting (number + 1), []) }
+    ensures token { result.me ≡ (Receipts (new_seat_view number), []) }
 {
     table.shared.split_seat::<MintSeat>(trace_token)
 }
@@ -88,9 +86,9 @@ pub fn mint_seat(table: &ViewTable, trace_token: &mut Token, number: u64) -> Tok
 /// All seats are minted.
 pub fn end_minting(table: &ViewTable, trace_token: &mut Token, number: u64)
     requires table { (trace_token.old.table_id ≡ table.now.shared.table_id) × (0 < table.now.shared.table_id.words) }
-    requires trace_token { trace_token.old.me ≡ (minting_view number, []) }
+    requires trace_token { trace_token.old.me ≡ (Minting number, []) }
     ensures same { trace_token.new.table_id ≡ trace_token.old.table_id }
-    ensures trace_token { trace_token.new.me ≡ (trace_view empty_log, []) }
+    ensures trace_token { trace_token.new.me ≡ (Log empty_log, []) }
 {
     table.shared.load::<EndMinting>(trace_token, 0);
 }

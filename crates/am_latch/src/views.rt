@@ -6,30 +6,51 @@ use am_record::{Reply, Step};
 use atomic_table::{Join, Play, Seat, Split, Table, TableRule};
 use std::alloc::Global;
 use std::collections::LinkedList;
-use std::marker::{Brand, PhantomData};
+use std::marker::{Brand, Model, PhantomData};
 
-/// What a token knows. One knows the trace and the call of each pair, a seat's knows its receipts. No value of it is
-/// made.
-pub struct View {
-    pub has_trace: bool,
-    pub trace: LinkedList<(Step, Reply)>,
-    pub calls: LinkedList<CallId>,
-    /// Whether seats are being minted, and how many were.
-    pub is_minting: bool,
-    pub minted: u64,
-    pub has_seat: bool,
+/// A seat and its receipts.
+pub struct SeatView {
     pub seat: u64,
     pub receipts: LinkedList<Receipt>,
+}
+
+/// The trace, and the call of each of its pairs. Contracts see it as the log that it is.
+pub struct LogView {
+    pub trace: LinkedList<(Step, Reply)>,
+    pub calls: LinkedList<CallId>,
+}
+
+impl Model for LogView {
+    ghost use Rattle.am_engine.specs.Traces.{call_log_code, CallLog};
+
+    ghost Value = { CallLog };
+
+    ghost coded = { call_log_code };
+
+    ghost view = { λ l. record { trace = l.trace; calls = l.calls } };
+}
+
+/// What a token knows. No value of it is made.
+pub enum View {
+    /// Nothing: what it knew went to another's.
+    Nothing,
+    /// How many seats were minted, while they are.
+    Minting(u64),
+    Log(LogView),
+    Receipts(SeatView),
+    /// Both, while the seat makes a call.
+    Joint(SeatView, LogView),
 }
 
 pub struct AgreeingViews;
 
 impl TableRule<u8, View, ()> for AgreeingViews {
-    ghost use Rattle.am_latch.specs.Views.{ViewsAgree, minting_view};
+    ghost use Rattle.am_latch.specs.Views.{ViewsAgree};
+    ghost use Rattle.am_latch.specs.declared.views.View.TheVariants.{Minting};
 
     ghost holds = { λ _. ViewsAgree };
 
-    ghost first = { λ _. minting_view 0 };
+    ghost first = { λ _. Minting 0 };
 }
 
 pub type ViewTable = Table<u8, View, (), AgreeingViews, Global>;
@@ -82,22 +103,23 @@ impl Play<u8, View> for CompareReceipts {
 pub struct JoinViews;
 
 impl Join<View> for JoinViews {
-    ghost use Rattle.am_latch.specs.Views.{join_views, empty_view};
+    ghost use Rattle.am_latch.specs.Views.{join_views};
+    ghost use Rattle.am_latch.specs.declared.views.View.TheVariants.{Nothing};
 
     ghost both = { join_views };
 
-    ghost spent = { empty_view };
+    ghost spent = { Nothing };
 }
 
 /// And cut off again.
 pub struct SplitViews;
 
 impl Split<View> for SplitViews {
-    ghost use Rattle.am_latch.specs.Views.{seat_part, trace_part};
+    ghost use Rattle.am_latch.specs.Views.{seat_part, log_part};
 
     ghost left = { seat_part };
 
-    ghost right = { trace_part };
+    ghost right = { log_part };
 }
 
 /// A new seat.

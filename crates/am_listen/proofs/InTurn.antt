@@ -10,7 +10,7 @@ use Rattle.am_latch.specs.Receipts.{SeatState}
 use Rattle.am_latch.specs.Ties.{open_of}
 use Rattle.am_seating.specs.SessionSeats.{SessionSeatState, HasDrawn, IsNumbered, open_at}
 use Rattle.am_doors.specs.declared.mode.Mode.{Mode}
-use Rattle.am_listen.specs.ServerRuns.{HasSameSeat, HasNewSeat, WasServed, session_seat_numbers, seat_numbers}
+use Rattle.am_listen.specs.ServerRuns.{HasNewSeat, WasServed, session_seat_numbers, seat_numbers}
 use Rattle.am_listen.specs.ServerRuns.{HasSameReceipts, ServedInTurn, HasServedInTurn, HasWorked, IsOfSessions}
 use Rattle.am_listen.proofs.Seatings.{all_first, all_rest, same_worked}
 

@@ -1,13 +1,13 @@
 -- What a server leaves, and what its sessions leave of their seats.
-use Rattle.std.specs.Prelude.{◌≡◌, ◌⊎◌, ℕ, zero, suc, ◌≤◌, List, [], ◌++◌, map, length, All}
+use Rattle.std.specs.Prelude.{◌≡◌, ◌⊎◌, ℕ, zero, suc, ◌≤◌, List, [], ◌++◌, map, length, All, Option}
 use Rattle.am_serial.specs.Trace.{Trace}
 use Rattle.am_sound.specs.Right.{IsSoundStore}
 use Rattle.am_serial.specs.Legal.{IsLegal}
 use Rattle.am_latch.specs.Receipts.{SeatState, AreReceiptsOf}
 use Rattle.am_core.specs.Standing.{IsSoundAt}
 use Rattle.am_sound.specs.StoreState.{StoreState}
-use Rattle.am_talk.specs.Dialogue.{Exchange}
-use Rattle.am_session.specs.Talk.{AnswersAll, AnswersOneMore}
+use Rattle.am_talk.specs.Exchanges.{Exchange}
+use Rattle.am_talk.specs.Conversation.{AnswersAll}
 use Rattle.am_seating.specs.SessionSeats.{SessionSeatState, IsNumbered, seat_meaning}
 use Rattle.am_workers.specs.Turns.{AreOfTurns, HasTakenTurns}
 use Rattle.am_pieces.specs.Events.{add_count}
@@ -40,9 +40,8 @@ HasSameSeat p q = q.seat.number ≡ p.seat.number
 -- none was
 abbrev pub WasServed : SessionSeatState → SessionSeatState → Type 0
 WasServed p q = (q ≡ p) ⊎
-    (((exchanges : List Exchange) × (events : Trace) × AnswersAll seat_meaning 0 p exchanges events q) ⊎
-    ((exchanges : List Exchange) × (last : Exchange) × (events : Trace) ×
-    AnswersOneMore seat_meaning 0 p exchanges last events q))
+    ((exchanges : List Exchange) × (torn : Option Exchange) × (events : Trace) ×
+    AnswersAll seat_meaning 0 p exchanges torn events q)
 
 -- the same seat, with the same receipts, whether they were let go or not
 pub record HasSameReceipts (p q : SessionSeatState) : Type 0 where

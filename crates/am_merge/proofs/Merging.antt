@@ -236,8 +236,7 @@ module _ {es : List Entry} (sound : AreWellFormed es) (held : Holders) (limit : 
 
     -- what is read of the run is the next stretch of candidates
     module _ (first : Entry) (found : first_such (is_candidate range) es ≡ Some first) (at : first.part ≡ run)
-        (lo : OrderedKey) (is_lo : lo ≡ range.lo) (left free : ℕ) (clear batch : List Entry) (cleared : clear ≡ [])
-        (read : batch ≡ take 16 (clear ++ all_from cur run lo)) where
+        (left free : ℕ) (batch : List Entry) (read : batch ≡ take 16 (all_from cur run range.lo)) where
       still_none_before : AllByRecursion (λ e. run ≤ e.part) (candidates cur range)
       still_none_before =
           subst (AllByRecursion (λ e. run ≤ e.part)) (sym cur_candidates)
@@ -247,17 +246,16 @@ module _ {es : List Entry} (sound : AreWellFormed es) (held : Holders) (limit : 
       pub stands_first : IsStretchOf cur (take free batch)
       stands_first = record {
         run = run;
-        key = lo;
+        key = range.lo;
         is_run = subst (λ r. 1 ≤ r) at (first_run first found);
-        first = subst (λ l. take free l ≡ take (length (take free l)) (all_from cur run lo))
-            (sym (read ∙ ap (λ l. take 16 (l ++ all_from cur run lo)) cleared))
-            (front_of_front free 16 (all_from cur run lo));
+        first = subst (λ l. take free l ≡ take (length (take free l)) (all_from cur run range.lo)) (sym read)
+            (front_of_front free 16 (all_from cur run range.lo));
       }
 
       pub is_stretch : free ≡ length (take_while (is_free_in held range) (take left batch)) →
           IsStretch cur held run range left (take free batch)
       is_stretch counted = read_stretch cur cur_rising held range run (subst (λ r. 1 ≤ r) at (first_run first found))
-          still_none_before left batch free (read ∙ (λ i. take 16 (cleared i ++ all_from cur run (is_lo i)))) counted
+          still_none_before left batch free read counted
 
       -- where the batch goes on outside the range behind those that went home, nothing is left up to the run
       pub has_none_left : (count m : ℕ) (cur' : List Entry) → count < 16 → m ≡ n + count →
@@ -271,8 +269,7 @@ module _ {es : List Entry} (sound : AreWellFormed es) (held : Holders) (limit : 
           candidates-left range m es (candidates es range) sound.rising refl) in
           none_up_to run cur' range (subst (AllByRecursion (λ e. run < e.part)) left_then
           (run_ends cur cur_rising held range run (subst (λ r. 1 ≤ r) at (first_run first found)) still_none_before
-          count short (subst (λ l. go_on_outside range (drop count l) ≡ true)
-          (read ∙ (λ i. take 16 (cleared i ++ all_from cur run (is_lo i)))) out)))
+          count short (subst (λ l. go_on_outside range (drop count l) ≡ true) read out)))
 
     -- at the limit
     pub is_full : limit ≤ n → IsAsFar es held limit run (candidates es range) n

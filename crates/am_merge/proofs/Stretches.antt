@@ -1,6 +1,8 @@
 -- What is read of a run, and the first candidates of a range.
 use Rattle.std.proofs.Common.{◌≡◌, ℕ, zero, suc, ◌≤◌, List, [], ◌∷◌, length, take, filter, Bool, true, false}
-use Rattle.std.proofs.Common.{cond}
+use Rattle.std.proofs.Common.{cond, slice_get, Some, None}
+use Rattle.std.specs.Bool.{then_some}
+use Rattle.std.proofs.lemmas.Option.{none-some, same_Some}
 use Rattle.std.proofs.Common.{refl, sym, ap, ◌∙◌, subst, ⊎_elim, arith, min}
 use Rattle.std.specs.Prelude.{nat_le, ◌==◌, ◌&&◌, is_none, take_while}
 use Rattle.std.specs.declared.cmp.Ordering.TheVariants.{Less}
@@ -18,11 +20,11 @@ use Rattle.am_record.specs.declared.entry.Entry.{Entry}
 use Rattle.am_record.proofs.KeyOrder.{key_le_trans}
 use Rattle.am_record.proofs.Lists.{AllByRecursion-always, AllByRecursion-map, filter-yes, filter-no}
 use Rattle.am_record.proofs.Outcomes.{same_test}
-use Rattle.am_list.specs.Entries.{all_from, IsRising}
+use Rattle.am_list.specs.Entries.{first_such, all_from, IsRising}
 use Rattle.am_effect.specs.Merging.{Holders, candidates}
 use Rattle.am_merge.specs.Steps.{is_free_in}
-use Rattle.am_merge.specs.Walks.{in_parts_from}
-use Rattle.am_merge.proofs.Firsts.{All-passed}
+use Rattle.am_merge.specs.Walks.{in_part, in_parts_from}
+use Rattle.am_merge.proofs.Firsts.{All-passed, first_head, head_of}
 use Rattle.am_merge.proofs.Passing.{passing}
 use Rattle.am_merge.proofs.Walks.{le_part, same_part, ge_key}
 
@@ -61,6 +63,22 @@ front_of_front zero m xs = refl
 front_of_front (suc n) zero xs = refl
 front_of_front (suc n) (suc m) [] = refl
 front_of_front (suc n) (suc m) (x ∷ xs) = ap (λ l. x ∷ l) (front_of_front n m xs)
+
+-- the first of a list, if it passes a test
+module _ (test : Entry → Bool) (k : ℕ) where
+  no_head_in : (es : List Entry) → slice_get (take (suc k) es) 0 ≡ None → head_of (take_while test es) ≡ None
+  no_head_in [] none = refl
+  no_head_in (e ∷ es) none = absurd (none-some e (sym none))
+
+  head_in : (es : List Entry) (x : Entry) → slice_get (take (suc k) es) 0 ≡ Some x → head_of (take_while test es) ≡
+      then_some (test x) x
+  head_in [] x one = absurd (none-some x one)
+  head_in (e ∷ es) x one =
+      ap head_of (take_while-cons test e es) ∙ by (test e) ∙ ap (λ f. then_some (test f) f) (same_Some e x one)
+    where
+      by : (b : Bool) → head_of (cond b (e ∷ take_while test es) []) ≡ then_some b e
+      by true = refl
+      by false = refl
 
 -- ---- what passes a test, and how far the list of these passes another one
 
@@ -104,11 +122,8 @@ pub record IsStretch (es : List Entry) (held : Holders) (run : ℕ) (range : Int
   pub first : xs ≡ take (length xs) (candidates es range)
   pub long : length xs ≡ min 16 (passing (may_move held run) most (candidates es range))
 
-module _ (es : List Entry) (rise : IsRising es) (held : Holders) (range : Interval) (run : ℕ) (is_run : 1 ≤ run)
-    (least : AllByRecursion (λ e. run ≤ e.part) (candidates es range)) where
-  abbrev in_run : Entry → Bool
-  in_run e = (e.part == run) && within range e.key
-
+-- what is read of a run from the beginning of a range on
+module _ (es : List Entry) (rise : IsRising es) (range : Interval) (run : ℕ) where
   abbrev is_read : Entry → Bool
   is_read e = (e.part == run) && is_ge (place_cmp (place_of e) (run, range.lo))
 
@@ -118,7 +133,8 @@ module _ (es : List Entry) (rise : IsRising es) (held : Holders) (range : Interv
   read_by_key e at = ap (λ p. is_ge (place_cmp (p, e.key) (run, range.lo))) (eqb-true e.part run at) ∙
       ap is_ge (place_cmp-same run e.key range.lo) ∙ ge_key range.lo e.key
 
-  read_front : take_while (λ e. within range e.key) (all_from es run range.lo) ≡ filter in_run es
+  -- those of the run in the range are those with which it begins
+  read_front : take_while (λ e. within range e.key) (all_from es run range.lo) ≡ filter (in_part run range) es
   read_front =
       front_of is_read (λ e. within range e.key)
       (λ e f less on also inside.
@@ -130,9 +146,9 @@ module _ (es : List Entry) (rise : IsRising es) (held : Holders) (range : Interv
       and_from (key_le range.lo e.key) (key_le e.key range.hi) (sym (read_by_key e here.0) ∙ here.1)
       (key_le_trans e.key f.key range.hi up keys.1))
       es rise
-      ∙ filter_same (λ e. is_read e && within range e.key) in_run es
-      (AllByRecursion-always (λ e. (is_read e && within range e.key) ≡ in_run e)
-      (λ e. same_test (is_read e && within range e.key) (in_run e)
+      ∙ filter_same (λ e. is_read e && within range e.key) (in_part run range) es
+      (AllByRecursion-always (λ e. (is_read e && within range e.key) ≡ in_part run range e)
+      (λ e. same_test (is_read e && within range e.key) (in_part run range e)
       (λ t. let p = and_parts (is_read e) (within range e.key) t in
       and_from (e.part == run) (within range e.key)
       (and_parts (e.part == run) (is_ge (place_cmp (place_of e) (run, range.lo))) p.0).0 p.1)
@@ -142,6 +158,23 @@ module _ (es : List Entry) (rise : IsRising es) (held : Holders) (range : Interv
       (read_by_key e p.0 ∙ (and_parts (key_le range.lo e.key) (key_le e.key range.hi) p.1).0))
       p.1)) es)
 
+  first_is_head : first_such (in_part run range) es ≡ head_of (take_while (λ e. within range e.key)
+      (all_from es run range.lo))
+  first_is_head = first_head (in_part run range) es ∙ ap head_of (sym read_front)
+
+  -- the first entry of the range in the run is the first one read, where that one lies in the range
+  module _ (batch : List Entry) (read : batch ≡ take 16 (all_from es run range.lo)) where
+    pub none_read : None ≡ slice_get batch 0 → None ≡ first_such (in_part run range) es
+    none_read none = sym (first_is_head ∙ no_head_in (λ e. within range e.key) 15 (all_from es run range.lo)
+        (ap (λ l. slice_get l 0) (sym read) ∙ sym none))
+
+    pub one_read : (x : Entry) → Some x ≡ slice_get batch 0 → then_some (within range x.key) x ≡ first_such
+        (in_part run range) es
+    one_read x one = sym (first_is_head ∙ head_in (λ e. within range e.key) 15 (all_from es run range.lo) x
+        (ap (λ l. slice_get l 0) (sym read) ∙ sym one))
+
+module _ (es : List Entry) (rise : IsRising es) (held : Holders) (range : Interval) (run : ℕ) (is_run : 1 ≤ run)
+    (least : AllByRecursion (λ e. run ≤ e.part) (candidates es range)) where
   -- none of them stands before the run
   from_run : candidates es range ≡ filter (in_parts_from run range) es
   from_run =
@@ -156,7 +189,7 @@ module _ (es : List Entry) (rise : IsRising es) (held : Holders) (range : Interv
       and_from (nat_le 1 e.part) (within range e.key) (le-leb 1 e.part (omega arith)) p.1))
       es (All-passed (λ e. run ≤ e.part) (in_parts_from 1 range) es least))
 
-  candidates_front : take_while (λ (e : Entry). e.part == run) (candidates es range) ≡ filter in_run es
+  candidates_front : take_while (λ (e : Entry). e.part == run) (candidates es range) ≡ filter (in_part run range) es
   candidates_front =
       ap (take_while (λ (e : Entry). e.part == run)) from_run ∙
       front_of (in_parts_from run range) (λ e. e.part == run)
@@ -166,9 +199,9 @@ module _ (es : List Entry) (rise : IsRising es) (held : Holders) (range : Interv
       let end : f.part ≡ run = eqb-true f.part run at in
       eq-eqb e.part run (omega arith))
       es rise
-      ∙ filter_same (λ e. in_parts_from run range e && (e.part == run)) in_run es
-      (AllByRecursion-always (λ e. (in_parts_from run range e && (e.part == run)) ≡ in_run e)
-      (λ e. same_test (in_parts_from run range e && (e.part == run)) (in_run e)
+      ∙ filter_same (λ e. in_parts_from run range e && (e.part == run)) (in_part run range) es
+      (AllByRecursion-always (λ e. (in_parts_from run range e && (e.part == run)) ≡ in_part run range e)
+      (λ e. same_test (in_parts_from run range e && (e.part == run)) (in_part run range e)
       (λ t. let p = and_parts (in_parts_from run range e) (e.part == run) t in
       and_from (e.part == run) (within range e.key) p.1 (and_parts (nat_le run e.part) (within range e.key) p.0).1)
       (λ t. let p = and_parts (e.part == run) (within range e.key) t in
@@ -179,7 +212,7 @@ module _ (es : List Entry) (rise : IsRising es) (held : Holders) (range : Interv
   -- those in the range with which the run begins are those of the run with which the candidates begin
   pub in_run_front : take_while (λ e. within range e.key) (all_from es run range.lo) ≡
       take_while (λ (e : Entry). e.part == run) (candidates es range)
-  in_run_front = read_front ∙ sym candidates_front
+  in_run_front = read_front es rise range run ∙ sym candidates_front
 
   -- those that are free with which the run begins are those with which the candidates begin
   one_front : take_while (is_free_in held range) (all_from es run range.lo) ≡ take_while (may_move held run)

@@ -1,9 +1,9 @@
 -- Walks over the entries of a range, from partition to partition.
-use Rattle.std.proofs.Common.{◌≡◌, ◌≢◌, ℕ, ◌+◌, ◌-◌, ◌^◌, ◌<◌, ◌≤◌, List, Bool, true, false, Option, Some, None}
+use Rattle.std.proofs.Common.{◌≡◌, ◌≢◌, ℕ, ◌+◌, ◌-◌, ◌^◌, ◌<◌, ◌≤◌, List, Bool, true, false, Some, None}
 use Rattle.std.proofs.Common.{refl, sym, ap, ◌∙◌, subst, arith, ◌⊎◌, inl, inr, ⊎_elim}
 use Rattle.std.specs.Prelude.{nat_le, ◌==◌, ◌&&◌, not}
 use Rattle.std.proofs.lemmas.Bool.{cases_Bool, both_ways, and_parts, and_from, and_left}
-use Rattle.std.proofs.lemmas.Bool.{false_from_ne_true, true_from_ne_false, leb-true, le-leb, eqb-true, eq-eqb, cases_lt}
+use Rattle.std.proofs.lemmas.Bool.{false_from_ne_true, leb-true, le-leb, eqb-true, eq-eqb, cases_lt}
 use Rattle.std.specs.declared.cmp.Ordering.{Ordering}
 use Rattle.std.specs.declared.cmp.Ordering.TheVariants.{Less, Equal, Greater}
 use Rattle.std.specs.Ordering.{is_lt, is_gt, is_le, is_ge, ordering_reverse}
@@ -16,9 +16,9 @@ use Rattle.am_record.specs.declared.entry.Entry.{Entry}
 use Rattle.am_record.proofs.Lists.{AllByRecursion-always, AllByRecursion-map}
 use Rattle.am_record.proofs.PlaceOrder.{lower_part}
 use Rattle.am_record.proofs.Outcomes.{same_test}
-use Rattle.am_record.proofs.Orderings.{is_less, le_not_greater, ge_reversed, le_not_gt, not_gt_le, gt_reversed, lt_le}
+use Rattle.am_record.proofs.Orderings.{le_not_greater, ge_reversed, le_not_gt, not_gt_le, gt_reversed, lt_le}
 use Rattle.am_record.proofs.KeyOrder.{key_le_trans}
-use Rattle.am_list.specs.Entries.{first_such, next_any, next_ghost, after, IsRising}
+use Rattle.am_list.specs.Entries.{first_such, next_ghost, after, IsRising}
 use Rattle.am_list.proofs.Lists.{first_such_none}
 use Rattle.am_list.proofs.Edits.{first_such_all, first_such_passes, none_such}
 use Rattle.am_list.proofs.WalkLaws.{first_stands}
@@ -38,11 +38,6 @@ not_le_ge : (o : Ordering) → is_le o ≡ false → is_ge o ≡ true
 not_le_ge Less h = absurd (cc)
 not_le_ge Equal h = refl
 not_le_ge Greater h = refl
-
-not_ge_lt : (o : Ordering) → is_ge o ≡ false → is_lt o ≡ true
-not_ge_lt Less h = refl
-not_ge_lt Equal h = absurd (cc)
-not_ge_lt Greater h = absurd (cc)
 
 -- ---- places
 
@@ -70,9 +65,6 @@ lt_gt a b h = ap is_gt (place_cmp-total.antisymm b a) ∙ gt_reversed (place_cmp
 pub le_part : (a b : Place) → is_le (place_cmp a b) ≡ true → a.0 ≤ b.0
 le_part a b h = place_cmp-part a b (le_not_greater (place_cmp a b) h)
 
-less_greater : Less ≡ Greater → ⊥
-less_greater e = cc
-
 -- within a partition the keys decide
 pub same_part : (x e : Entry) → x.part ≡ e.part → place_cmp (place_of x) (place_of e) ≡ key_cmp x.key e.key
 same_part x e same = ap (λ p. place_cmp (p, x.key) (place_of e)) same ∙ place_cmp-same e.part x.key e.key
@@ -95,94 +87,6 @@ lo_le lo part e le keys = ⊎_elim
     let up : part < e.part = omega arith in ap is_le (lower_part (part, lo) (place_of e) up))
     (cases_Bool (part == e.part))
 
--- ---- a look for the first entry at or above the least key of the range in a partition
-
-module _ (es : List Entry) (rise : IsRising es) (range : Interval) (part : ℕ) where
-  abbrev ahead : Entry → Bool
-  ahead e = is_ge (place_cmp (place_of e) (part, range.lo))
-
-  behind : (e : Entry) → part ≤ e.part → key_le range.lo e.key ≡ true → place_cmp (place_of e) (part, range.lo) ≡ Less →
-      ⊥
-  behind e up from less =
-      let down : e.part ≤ part = place_cmp-part (place_of e) (part, range.lo) (λ g. less_greater (sym less ∙ g)) in
-      let same : e.part ≡ part = omega arith in
-      let keys : key_cmp e.key range.lo ≡ Less = sym (place_cmp-same part e.key range.lo) ∙
-      ap (λ p. place_cmp (p, e.key) (part, range.lo)) (sym same) ∙ less in
-      let turned : key_cmp range.lo e.key ≡ Greater = key_cmp-total.antisymm range.lo e.key ∙
-      ap ordering_reverse keys in
-      both_ways (key_le range.lo e.key) (ap is_le turned) from
-
-  in_ahead : (e : Entry) → in_parts_from part range e ≡ true → ahead e ≡ true
-  in_ahead e t =
-      let parts = and_parts (nat_le part e.part) (within range e.key) t in
-      let keys = and_parts (key_le range.lo e.key) (key_le e.key range.hi) parts.1 in
-      true_from_ne_false (ahead e) (λ no. behind e (leb-true part e.part parts.0) keys.0
-      (is_less (place_cmp (place_of e) (part, range.lo)) (not_ge_lt (place_cmp (place_of e) (part, range.lo)) no)))
-
-  pub ended : next_any es part range.lo ≡ None → first_such (in_parts_from part range) es ≡ None
-  ended none = none_under (in_parts_from part range) ahead es
-      (AllByRecursion-always (λ e. in_parts_from part range e ≡ true → ahead e ≡ true) in_ahead es) none
-
-  module _ (x : Entry) (found : next_any es part range.lo ≡ Some x) where
-    on : part ≤ x.part
-    on = le_part (part, range.lo) (place_of x) (ge_le (part, range.lo) (place_of x)
-        (first_such_passes ahead es x found))
-
-    comes : AllByRecursion (λ f. in_parts_from part range f ≡ true → comes_to (Some x) f ≡ true) es
-    comes =
-        AllByRecursion-map (λ f. ahead f ≡ true → comes_to (Some x) f ≡ true) (λ f. in_parts_from part range f ≡ true →
-        comes_to (Some x) f ≡ true) (λ f h t. h (in_ahead f t)) es
-        (subst (λ o. AllByRecursion (λ f. ahead f ≡ true → comes_to o f ≡ true) es) found (first_comes ahead es rise))
-
-    pub here : within range x.key ≡ true → first_such (in_parts_from part range) es ≡ Some x
-    here w = first_is (in_parts_from part range) es x rise (first_stands ahead es x rise found)
-        (and_from (nat_le part x.part) (within range x.key) (le-leb part x.part on) w) comes
-
-    -- the walk goes on in another partition, if none of those that it is for stands before
-    goes_on : (to : ℕ) → part ≤ to → ((f : Entry) → within range f.key ≡ true → comes_to (Some x) f ≡ true →
-        to ≤ f.part) → first_such (in_parts_from to range) es ≡ first_such (in_parts_from part range) es
-    goes_on to up f =
-        first_same (in_parts_from to range) (in_parts_from part range) es
-        (AllByRecursion-map (λ e. in_parts_from part range e ≡ true → comes_to (Some x) e ≡ true)
-        (λ e. in_parts_from to range e ≡ in_parts_from part range e)
-        (λ e h. same_test (in_parts_from to range e) (in_parts_from part range e)
-        (λ t. let p = and_parts (nat_le to e.part) (within range e.key) t in
-        let le : to ≤ e.part = leb-true to e.part p.0 in
-        and_from (nat_le part e.part) (within range e.key) (le-leb part e.part (omega arith)) p.1)
-        (λ t. let p = and_parts (nat_le part e.part) (within range e.key) t in
-        and_from (nat_le to e.part) (within range e.key) (le-leb to e.part (f e p.1 (h t))) p.1))
-        es comes)
-
-    pub goes_to : first_such (in_parts_from x.part range) es ≡ first_such (in_parts_from part range) es
-    goes_to = goes_on x.part on (λ f w c. le_part (place_of x) (place_of f) c)
-
-    pub goes_past : key_le x.key range.hi ≡ false → first_such (in_parts_from (x.part + 1) range) es ≡ first_such
-        (in_parts_from part range) es
-    goes_past above = goes_on (x.part + 1) (omega (arith, on)) (λ f w c.
-        let le : x.part ≤ f.part = le_part (place_of x) (place_of f) c in
-        let other : x.part ≢ f.part = λ same.
-        let keys : key_le x.key f.key ≡ true = ap is_le (sym (same_part x f same)) ∙ c in
-        both_ways (key_le x.key range.hi) above (key_le_trans x.key f.key range.hi keys
-        (and_parts (key_le range.lo f.key) (key_le f.key range.hi) w).1) in
-        omega arith)
-
-    -- the partitions rise
-    pub goes_up : key_le range.lo x.key ≡ false → part < x.part
-    goes_up below =
-        let up : part ≤ x.part = on in
-        let other : x.part ≢ part = λ same.
-        let passes : is_ge (place_cmp (place_of x) (part, range.lo)) ≡ true = first_such_passes ahead es x found in
-        let keys : is_ge (key_cmp x.key range.lo) ≡ true =
-        ap is_ge (sym (ap (λ p. place_cmp (p, x.key) (part, range.lo)) same ∙
-        place_cmp-same part x.key range.lo)) ∙ passes in
-        let from : key_le range.lo x.key ≡ true = ap is_le (key_cmp-total.antisymm range.lo x.key) ∙
-        le_reversed (key_cmp x.key range.lo) ∙ keys in
-        both_ways (key_le range.lo x.key) below from in
-        omega arith
-
-    pub goes_up_by_one : part < x.part + 1
-    goes_up_by_one = omega (arith, on)
-
 -- the numbers of partitions end
 pub none_past : (es : List Entry) → AreWellFormed es → (range : Interval) (to : ℕ) → 2 ^ 32 ≤ to →
     first_such (in_parts_from to range) es ≡ None
@@ -192,45 +96,6 @@ none_past es sound range to over =
     (λ e fits. and_left (nat_le to e.part) (within range e.key)
     (false_from_ne_true (nat_le to e.part) (λ t. let le : to ≤ e.part = leb-true to e.part t in omega arith)))
     es sound.fits)
-
--- a step of the loop, by what its calls answer
-module _ (es : List Entry) (sound : AreWellFormed es) (range : Interval) (part : ℕ) {lo : OrderedKey}
-    (is_lo : lo ≡ range.lo) where
-  looks : {r : Option Entry} → r ≡ next_any es part lo → next_any es part range.lo ≡ r
-  looks found = sym (found ∙ ap (next_any es part) is_lo)
-
-  pub look_ends : None ≡ next_any es part lo → None ≡ first_such (in_parts_from part range) es
-  look_ends found = sym (ended es sound.rising range part (looks found))
-
-  module _ (x : Entry) (found : Some x ≡ next_any es part lo) where
-    at : next_any es part range.lo ≡ Some x
-    at = looks found
-
-    fits : x.part < 2 ^ 32
-    fits = first_such_all (λ y. y.part < 2 ^ 32) (ahead es sound.rising range part) es x sound.fits at
-
-    pub look_finds : within range x.key ≡ true → Some x ≡ first_such (in_parts_from part range) es
-    look_finds w = sym (here es sound.rising range part x at w)
-
-    pub look_goes_to : first_such (in_parts_from x.part range) es ≡ first_such (in_parts_from part range) es
-    look_goes_to = goes_to es sound.rising range part x at
-
-    pub look_goes_down : key_le range.lo x.key ≡ false → 2 ^ 32 - x.part < 2 ^ 32 - part
-    look_goes_down below = omega (arith, goes_up es sound.rising range part x at below, fits)
-
-    above : within range x.key ≡ false → key_le range.lo x.key ≡ true → key_le x.key range.hi ≡ false
-    above out from = above_range range x.key out from
-
-    pub look_goes_past : within range x.key ≡ false → key_le range.lo x.key ≡ true →
-        first_such (in_parts_from (x.part + 1) range) es ≡ first_such (in_parts_from part range) es
-    look_goes_past out from = goes_past es sound.rising range part x at (above out from)
-
-    pub look_past_down : 2 ^ 32 - (x.part + 1) < 2 ^ 32 - part
-    look_past_down = omega (arith, goes_up_by_one es sound.rising range part x at, fits)
-
-    pub look_past_all : within range x.key ≡ false → key_le range.lo x.key ≡ true → 2 ^ 32 ≤ x.part + 1 →
-        None ≡ first_such (in_parts_from part range) es
-    look_past_all out from over = sym (sym (look_goes_past out from) ∙ none_past es sound range (x.part + 1) over)
 
 ge_not_lt : (o : Ordering) → is_ge o ≡ not (is_lt o)
 ge_not_lt Less = refl

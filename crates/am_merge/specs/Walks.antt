@@ -1,10 +1,14 @@
 -- Entries of a range, by where a walk over them has come.
-use Rattle.std.specs.Prelude.{◌≡◌, ℕ, nat_le, List, Bool, true, ◌&&◌}
+use Rattle.std.specs.Prelude.{◌≡◌, ℕ, nat_le, ◌==◌, List, Bool, true, ◌&&◌}
 use Rattle.std.specs.List.{AllByRecursion}
 use Rattle.std.specs.Ordering.{is_lt, is_le}
 use Rattle.am_record.specs.Interval.{Interval, key_le, within}
 use Rattle.am_record.specs.EntryOrder.{Place, place_of, place_cmp}
 use Rattle.am_record.specs.declared.entry.Entry.{Entry}
+
+-- in the range, in that partition
+abbrev pub in_part : ℕ → Interval → Entry → Bool
+in_part part range e = (e.part == part) && within range e.key
 
 -- in the range, in that partition or a later one
 abbrev pub in_parts_from : ℕ → Interval → Entry → Bool

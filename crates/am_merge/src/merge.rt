@@ -2,7 +2,7 @@
 
 ghost use Rattle.std.specs.Prelude.{◌≡◌, ◌≤◌, ◌+◌, true, Some, take, take_while, length};
 ghost use Rattle.am_list.specs.Content.{content};
-ghost use Rattle.am_list.specs.Entries.{first_such};
+ghost use Rattle.am_list.specs.Entries.{first_such, all_from};
 ghost use Rattle.am_list.specs.Rooms.{HaveRoom, KeepRoom};
 ghost use Rattle.am_parts.specs.Merged.{HasNoneBefore};
 ghost use Rattle.am_parts.specs.Partitions.{AreWellFormed};
@@ -11,7 +11,7 @@ ghost use Rattle.am_merge.specs.Holding.{holder_of};
 ghost use Rattle.am_merge.specs.Walks.{in_parts_from};
 ghost use Rattle.am_merge.specs.Steps.{IsAsFar, is_free_in, go_on_outside};
 
-use crate::walk::{first_in_runs, is_free};
+use crate::walk::{first_in_runs, is_free, read_run};
 use crate::wishes::Wishes;
 use am_list::{Batch, PartIndex};
 use am_locks::LockTable;
@@ -52,7 +52,8 @@ pub fn merge_step<I: PartIndex + Drop>(
     let Some(wish) = wishes.oldest() else {
         return Reply::Idle;
     };
-    let Some(first) = first_in_runs(parts, wish) else {
+    let mut batch = Batch::new();
+    let Some(first) = first_in_runs(parts, wish, &mut batch) else {
         wishes.drop_oldest();
         return Reply::MergeDone;
     };
@@ -61,22 +62,24 @@ pub fn merge_step<I: PartIndex + Drop>(
         wishes.drop_oldest();
         return Reply::Ended(key, holder);
     }
-    match work_off_run(parts, locks, wish, first, limit) {
+    match work_off_run(parts, locks, wish, first, &mut batch, limit) {
         0 => Reply::Refused(Refusal::NoMemory),
         moved => Reply::Moved(moved, part),
     }
 }
 
-// Works off the first candidate of the range and those that follow in its run, and counts them. They are read and moved
-// by batches: what was worked off is gone, so each batch begins where the range does.
+// Works off the first candidate of the range and those that follow in its run, and counts them. They are moved by
+// batches, the first of which was read: what was worked off is gone, so each batch begins where the range does.
 fn work_off_run<I: PartIndex + Drop>(
     parts: &mut Parts<I>,
     locks: &LockTable,
     range: Range,
     first: Entry,
+    batch: &mut Batch,
     limit: u64,
 ) -> u64
     requires first { first_such (in_parts_from 1 range) parts.old.entries ≡ Some first }
+    requires read { batch.old ≡ take 16 (all_from parts.old.entries first.part range.lo) }
     requires sound { AreWellFormed parts.old.entries }
     requires room { HaveRoom parts.old.entries parts.old.roomy }
     ensures far { IsAsFar parts.old.entries (holder_of locks.now) limit first.part
@@ -86,11 +89,9 @@ fn work_off_run<I: PartIndex + Drop>(
     ensures runs { parts.new.runs ≡ parts.old.runs }
     ensures rooms { KeepRoom parts.old.roomy parts.new.roomy parts.new.entries }
 {
-    let mut batch = Batch::new();
     let mut moved = 0;
     while moved < limit {
-        batch.clear();
-        parts.read_from(first.part, range.lo(), &mut batch);
+        read_anew(parts, first.part, range, batch, moved);
         let free = count_free(batch.entries(), locks, range, limit - moved);
         let count = parts.bring_home(&batch.entries()[..free]);
         moved += count as u64;
@@ -100,6 +101,22 @@ fn work_off_run<I: PartIndex + Drop>(
         }
     }
     moved
+}
+
+// Reads the next batch of the run, unless none of the first one has been moved yet.
+fn read_anew<I: PartIndex + Drop>(
+    parts: &Parts<I>,
+    run: u32,
+    range: Range,
+    batch: &mut Batch,
+    moved: u64,
+)
+    requires { moved ≡ 0 → batch.old ≡ take 16 (all_from parts.now.entries run range.lo) }
+    ensures { batch.new ≡ take 16 (all_from parts.now.entries run range.lo) }
+{
+    if moved > 0 {
+        read_run(parts, run, range, batch);
+    }
 }
 
 // Notes the range as merged in the run and those before it, where what was read of the run and stays there shows that

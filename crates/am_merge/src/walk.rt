@@ -1,13 +1,13 @@
 //! Walks over the entries of a range, from partition to partition.
 
-ghost use Rattle.std.specs.Prelude.{◌≡◌, true, None, is_none, IfSome, IfNone};
+ghost use Rattle.std.specs.Prelude.{◌≡◌, true, None, take, is_none, IfSome, IfNone};
 ghost use Rattle.am_record.specs.Interval.{key_le, within};
-ghost use Rattle.am_list.specs.Entries.{first_such};
+ghost use Rattle.am_list.specs.Entries.{first_such, all_from};
 ghost use Rattle.am_parts.specs.Partitions.{AreWellFormed};
-ghost use Rattle.am_merge.specs.Walks.{in_parts_from, later, ghost_from, GoesOnAt};
+ghost use Rattle.am_merge.specs.Walks.{in_part, in_parts_from, later, ghost_from, GoesOnAt};
 ghost use Rattle.am_merge.specs.Holding.{holder_of};
 
-use am_list::PartIndex;
+use am_list::{Batch, PartIndex};
 use am_locks::LockTable;
 use am_parts::Parts;
 use am_record::{Entry, Key, Range};
@@ -19,18 +19,21 @@ pub(crate) fn is_free(locks: &LockTable, key: Key) -> bool
     locks.exclusive_at(key).is_none()
 }
 
-/// The first entry of the range in a run. Runs that are known to have none there aren't searched, and those before it
-/// are known from then on.
+/// The first entry of the range in a run. The batch then has the entries of that run from the range's beginning on, as
+/// many as it has room for. Runs that are known to have none there aren't searched, and those before it are known from
+/// then on.
 pub(crate) fn first_in_runs<I: PartIndex + Drop>(
     parts: &mut Parts<I>,
     range: Range,
+    batch: &mut Batch,
 ) -> Option<Entry>
     ensures first { result ≡ first_such (in_parts_from 1 range) parts.old.entries }
+    ensures read { IfSome result (λ e. batch.new ≡ take 16 (all_from parts.old.entries e.part range.lo)) }
     ensures same { parts.new ≡ parts.old }
     ensures sound { AreWellFormed parts.old.entries }
 {
     let from = parts.first_run(range);
-    let first = first_from(parts, from, range);
+    let first = first_from(parts, from, range, batch);
     let first_run = match &first {
         Some(entry) => entry.part,
         None => parts.runs() + 1,
@@ -41,33 +44,57 @@ pub(crate) fn first_in_runs<I: PartIndex + Drop>(
     first
 }
 
-// The first entry of the range in that run or a later one. Where none of these has entries, the index isn't searched.
-fn first_from<I: PartIndex + Drop>(parts: &Parts<I>, from: u32, range: Range) -> Option<Entry>
+// The first entry of the range in that run or a later one, and a batch of the run that has it. Runs without entries
+// aren't searched.
+fn first_from<I: PartIndex + Drop>(
+    parts: &Parts<I>,
+    from: u32,
+    range: Range,
+    batch: &mut Batch,
+) -> Option<Entry>
     ensures first { result ≡ first_such (in_parts_from from range) parts.now.entries }
+    ensures read { IfSome result (λ e. batch.new ≡ take 16 (all_from parts.now.entries e.part range.lo)) }
     ensures sound { AreWellFormed parts.now.entries }
 {
-    let part = parts.next_part(from)?;
-    first_within(parts, part, range)
-}
-
-// The first entry of the range in the partition `from` or a later one.
-fn first_within<I: PartIndex + Drop>(parts: &Parts<I>, from: u32, range: Range) -> Option<Entry>
-    ensures first { result ≡ first_such (in_parts_from from range) parts.now.entries }
-    ensures sound { AreWellFormed parts.now.entries }
-{
-    let mut part = from;
-    while let Some(entry) = parts.next_any(part, range.lo()) {
-        if range.contains(entry.key) {
-            return Some(entry);
+    let mut next = from;
+    while let Some(run) = parts.next_part(next) {
+        if let Some(first) = first_in_run(parts, run, range, batch) {
+            return Some(first);
         }
-        // A partition whose first key from `lo` on is above the range has nothing in it.
-        part = if entry.key < range.lo() {
-            entry.part
-        } else {
-            entry.part.checked_add(1)?
-        };
+        next = run.checked_add(1)?;
     }
     None
+}
+
+// The first entry of the range in the run, and a batch of that run.
+fn first_in_run<I: PartIndex + Drop>(
+    parts: &Parts<I>,
+    run: u32,
+    range: Range,
+    batch: &mut Batch,
+) -> Option<Entry>
+    ensures first { result ≡ first_such (in_part run range) parts.now.entries }
+    ensures read { batch.new ≡ take 16 (all_from parts.now.entries run range.lo) }
+    ensures sound { AreWellFormed parts.now.entries }
+{
+    read_run(parts, run, range, batch);
+    let first = *batch.entries().first()?;
+    // A run whose first key from `lo` on is above the range has nothing in it.
+    range.contains(first.key).then_some(first)
+}
+
+/// Reads the entries of the run from the range's beginning on into the emptied batch, as many as it has room for.
+pub(crate) fn read_run<I: PartIndex + Drop>(
+    parts: &Parts<I>,
+    run: u32,
+    range: Range,
+    batch: &mut Batch,
+)
+    ensures read { batch.new ≡ take 16 (all_from parts.now.entries run range.lo) }
+    ensures sound { AreWellFormed parts.now.entries }
+{
+    batch.clear();
+    parts.read_from(run, range.lo(), batch);
 }
 
 /// The first ghost of the range at or above the place.

@@ -1,6 +1,6 @@
 -- What a directory tells while the keys of a run to come are entered, and while they are forgotten.
 use Rattle.std.proofs.Common.{◌≡◌, ◌≢◌, ◌⊎◌, inl, inr, ⊎_elim, ℕ, zero, suc, ◌+◌, ◌<◌, ◌≤◌, true, List, [], ◌∷◌, ◌++◌}
-use Rattle.std.proofs.Common.{length, get_or, take, refl, sym, ap, ◌∙◌, subst, arith}
+use Rattle.std.proofs.Common.{length, get_or, take, map, refl, sym, ap, ◌∙◌, subst, arith}
 use Rattle.std.specs.declared.cmp.Ordering.TheVariants.{Less}
 use Rattle.std.specs.Ordering.{is_lt}
 use Rattle.std.specs.List.{AllByRecursion}
@@ -200,3 +200,13 @@ module _ (es : List Entry) (part : ℕ) (rs : Records) where
   pub all_forgotten : (r : Residences) (n : ℕ) → Tell (Lives n n) r → AreResidences es r
   all_forgotten r n was = tells_fewer r.hash (Lives n n) (LivesInRun es) r.directory r.directory was
       (λ key run it. inl it) (λ m. refl)
+
+-- the first numbers are those of elements, where each is at its place
+pub first_numbers : {X : Type 0} (f : X → ℕ) (xs : List X) (numbers : List ℕ) → length xs ≤ length numbers →
+    ((i d : ℕ) (x : X) → i < length xs → get_or numbers i d ≡ f (get_or xs i x)) →
+    take (length xs) numbers ≡ map f xs
+first_numbers f [] numbers few at = refl
+first_numbers f (x ∷ xs) [] few at = absurd (omega arith)
+first_numbers f (x ∷ xs) (n ∷ numbers) few at =
+    ap (λ m. m ∷ take (length xs) numbers) (at 0 0 x (omega arith)) ∙
+    ap (λ ms. f x ∷ ms) (first_numbers f xs numbers (omega arith) (λ i d y less. at (suc i) d y (omega arith)))

@@ -1,9 +1,11 @@
 -- Live entries of a run that settle where nothing stands.
-use Rattle.std.proofs.Common.{◌≡◌, ℕ, zero, suc, ◌≤◌, false, List, [], ◌∷◌, ◌++◌, length, take, drop, refl, sym, ap}
+use Rattle.std.proofs.Common.{◌≡◌, ℕ, zero, suc, ◌≤◌, Bool, true, false, List, [], ◌∷◌, ◌++◌, length, take, drop, refl}
+use Rattle.std.proofs.Common.{sym, ap}
 use Rattle.std.proofs.Common.{◌∙◌}
 use Rattle.std.proofs.Common.{get_or, subst, append-nil, arith}
-use Rattle.std.specs.Prelude.{is_some}
+use Rattle.std.specs.Prelude.{is_some, if◌then◌else◌}
 use Rattle.std.specs.List.{AllByRecursion}
+use Rattle.std.specs.Ordering.{is_lt}
 use Rattle.std.specs.declared.cmp.Ordering.TheVariants.{Less}
 use Rattle.std.proofs.lemmas.Bool.{cond-false}
 use Rattle.am_record.specs.EntryOrder.{place_of, place_cmp, place_cmp-total}
@@ -13,7 +15,7 @@ use Rattle.am_list.specs.Entries.{find, insert_entry, set_entry, all_inserted, I
 use Rattle.am_list.specs.Places.{AllBelow}
 use Rattle.am_list.proofs.Insertions.{AllFree, still_free}
 use Rattle.am_list.proofs.Lists.{rising_insert}
-use Rattle.am_parts.specs.GoingHome.{home_of, homes_of, IsHome, AreHomesOf}
+use Rattle.am_parts.specs.GoingHome.{home_of, homes_of, goes_behind, IsHome, AreHomesOf}
 use Rattle.am_parts.specs.Partitions.{settled, settled_too, all_settled}
 
 -- what is above the last of entries that rise is above all of them
@@ -79,3 +81,18 @@ homes_left (suc n) (e ∷ es) (x ∷ homes) h =
 pub settled_on : (xs ys es : List Entry) → all_settled (xs ++ ys) es ≡ all_settled ys (all_settled xs es)
 settled_on [] ys es = refl
 settled_on (x ∷ xs) ys es = settled_on xs ys (settled_too x es)
+
+-- an entry goes behind where it does so of the last one
+pub behind_last : (xs : List Entry) (i : ℕ) (x y : Entry) → suc i ≡ length xs → x ≡ get_or xs i x →
+    goes_behind xs y ≡ is_lt (place_cmp (place_of x) (place_of y))
+behind_last [] i x y last here = absurd (omega arith)
+behind_last (f ∷ []) zero x y last here = ap (λ (e : Entry). is_lt (place_cmp (place_of e) (place_of y))) (sym here)
+behind_last (f ∷ []) (suc i) x y last here = absurd (omega arith)
+behind_last (f ∷ g ∷ xs) zero x y last here = absurd (omega arith)
+behind_last (f ∷ g ∷ xs) (suc i) x y last here = behind_last (g ∷ xs) i x y (omega arith) here
+
+-- no homes are those of none of the entries
+pub homes_or_none : (b : Bool) (es homes : List Entry) → AreHomesOf es homes →
+    AreHomesOf es (if b then homes else [])
+homes_or_none true es homes h = h
+homes_or_none false es homes h = record { first = refl; live = tt; rising = tt }

@@ -1,5 +1,5 @@
 -- In which runs keys are live, and what a directory may tell of it.
-use Rattle.std.specs.Prelude.{◌≡◌, ◌≢◌, ◌⊎◌, ◌<◌, ◌≤◌, ℕ, List, false, get_or}
+use Rattle.std.specs.Prelude.{◌≡◌, ◌≢◌, ◌⊎◌, ◌<◌, ◌≤◌, ℕ, List, false, get_or, map}
 use Rattle.am_record.specs.OrderedKey.{OrderedKey}
 use Rattle.am_record.specs.KeyNumber.{key_number}
 use Rattle.am_record.specs.Plain.{Records}
@@ -49,6 +49,10 @@ pub record HasNoted (old : Residences) (key : OrderedKey) (part : ℕ) (new : Re
 -- there is room for so many live keys more
 abbrev pub HasRoomFor : Residences → ℕ → Type 0
 HasRoomFor r keys = keys ≤ empty_in r.directory.words
+
+-- the numbers of the keys of entries
+abbrev pub entry_numbers : HashKey → List Entry → List ℕ
+entry_numbers hash es = map (λ (e : Entry). key_number hash e.key) es
 
 -- the key is that of the record at a place
 abbrev pub IsKeyAt : Records → ℕ → OrderedKey → Type 0

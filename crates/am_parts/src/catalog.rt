@@ -1,7 +1,8 @@
 //! The runs that have entries left, and how many entries there are.
 
 ghost use Rattle.std.specs.Prelude.{◌≡◌, ◌+◌, ◌<◌, ◌≤◌, ◌++◌, ◌^◌, ℕ, Bool, List, [], length, take, drop, true, false};
-ghost use Rattle.std.specs.Prelude.{not, is_some, IsSome, IfSome, IfNone, IfOk, IfErr, OnOk, OnErr, vec_len};
+ghost use Rattle.std.specs.Prelude.{not, is_some, IsSome, IsTrue, IfSome, IfNone, IfOk, IfErr, OnOk, OnErr, vec_len};
+ghost use Rattle.std.specs.Prelude.{◌↔◌};
 ghost use Rattle.std.specs.Prelude.{vec_capacity};
 ghost use Rattle.std.specs.List.{AllByRecursion};
 ghost use Rattle.am_record.specs.OrderedKey.{OrderedKey};
@@ -128,7 +129,7 @@ impl Catalog {
 
     /// Whether so many entries more can be counted.
     pub(crate) fn has_count_for(&self, more: usize) -> bool
-        ensures { result ≡ true → self.now.entries + more < 2 ^ 64 }
+        ensures { IsTrue result ↔ (self.now.entries + more < 2 ^ 64) }
     {
         // No memory holds 2^64 entries.
         self.entries.checked_add(more as u64).is_some()

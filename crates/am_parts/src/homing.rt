@@ -1,12 +1,12 @@
 //! The way of a run's entries to the final partition.
 
 ghost use Rattle.std.specs.Prelude.{◌≡◌, ◌⊎◌, ◌<◌, ◌≤◌, ◌++◌, ◌∷◌, List, [], length, take, drop, true, false, OnOk};
-ghost use Rattle.std.specs.Prelude.{OnErr};
+ghost use Rattle.std.specs.Prelude.{OnErr, nat_lt, if◌then◌else◌};
 ghost use Rattle.am_record.specs.declared.entry.Entry.{Entry};
 ghost use Rattle.am_list.specs.Entries.{find, IsRising};
 ghost use Rattle.am_list.specs.Rooms.{needs_room, HaveRoom, KeepRoom};
 ghost use Rattle.am_parts.specs.Catalogs.{IsCatalog};
-ghost use Rattle.am_parts.specs.GoingHome.{AreHomesOf};
+ghost use Rattle.am_parts.specs.GoingHome.{AreHomesOf, goes_behind};
 ghost use Rattle.am_parts.specs.Partitions.{settled_too, all_settled, FirstNeedsRoom};
 ghost use Rattle.am_parts.specs.Residences.{OneRun, AreResidences};
 
@@ -38,8 +38,8 @@ pub(crate) fn settle_all<I: PartIndex + Drop>(
     let mut count = 0;
     let mut lone: u32 = 0;
     'settle: while count < entries.len() {
-        let homes = homes_from(all_homes.entries(), count);
-        let more = settle_first(index, catalog, &entries[count..], homes, lone < MOST_LONE);
+        let homes = homes_from(all_homes.entries(), count, lone);
+        let more = settle_first(index, catalog, &entries[count..], homes);
         if more == 0 {
             return count;
         }
@@ -49,21 +49,24 @@ pub(crate) fn settle_all<I: PartIndex + Drop>(
     count
 }
 
-// The homes from that one on, where there are so many.
-fn homes_from(homes: &[Entry], from: usize) -> &[Entry]
-    ensures { result.now ≡ drop from homes.now }
+// The homes from that one on, or none where so many rounds brought one entry alone.
+fn homes_from(homes: &[Entry], from: usize, lone: u32) -> &[Entry]
+    ensures { result.now ≡ if nat_lt lone 3 then drop from homes.now else [] }
 {
-    &homes[from.min(homes.len())..]
+    if lone < MOST_LONE {
+        &homes[from.min(homes.len())..]
+    } else {
+        &[]
+    }
 }
 
-// Lets the first of the entries stand in the final partition too, and more of them, where others are looked for beside
-// it, which have these homes. How many: none where the first was refused memory.
+// Lets the first of the entries stand in the final partition too: as many of those with homes as go by one walk, and
+// the one at which that ends. How many: none where the first was refused memory.
 fn settle_first<I: PartIndex + Drop>(
     index: &mut I,
     catalog: &mut Catalog,
     entries: &[Entry],
     homes: &[Entry],
-    beside: bool,
 ) -> usize
     requires some { 0 < length entries.now }
     requires homes { AreHomesOf entries.now homes.now }
@@ -75,13 +78,14 @@ fn settle_first<I: PartIndex + Drop>(
     ensures catalog { IsCatalog (I.entries index.new) catalog.new }
     ensures rooms { KeepRoom (I.roomy index.old) (I.roomy index.new) (I.entries index.new) }
 {
-    if beside && !homes.is_empty() {
-        let between = settle_between(index, catalog, entries, homes);
-        if between > 0 {
-            return between;
-        }
+    let between = settle_between(index, catalog, entries, homes);
+    let Some(next) = entries.get(between) else {
+        return between;
+    };
+    match settle(index, catalog, next) {
+        Ok(()) => between + 1,
+        Err(NoMemory) => between,
     }
-    usize::from(settle(index, catalog, &entries[0]).is_ok())
 }
 
 // Lets the first of the entries stand in the final partition too, as many of those with homes as go between others
@@ -100,7 +104,7 @@ fn settle_between<I: PartIndex + Drop>(
     ensures catalog { IsCatalog (I.entries index.new) catalog.new }
     ensures rooms { KeepRoom (I.roomy index.old) (I.roomy index.new) (I.entries index.new) }
 {
-    if !catalog.has_count_for(homes.len()) {
+    if homes.is_empty() || !catalog.has_count_for(homes.len()) {
         return 0;
     }
     let count = index.insert_between(homes);
@@ -132,7 +136,8 @@ fn first_homes(entries: &[Entry]) -> Batch
 
 // Whether an entry goes behind others that rise.
 fn goes_behind(entries: &[Entry], entry: &Entry) -> bool
-    ensures { result ≡ true → IsRising entries.now → IsRising (entries.now ++ entry.now ∷ []) }
+    ensures exact { result ≡ goes_behind entries.now entry.now }
+    ensures rising { result ≡ true → IsRising entries.now → IsRising (entries.now ++ entry.now ∷ []) }
 {
     let len = entries.len();
     if len == 0 {

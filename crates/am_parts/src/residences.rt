@@ -5,15 +5,15 @@ ghost use Rattle.std.specs.Prelude.{◌≤◌, get_or, OnOk};
 ghost use Rattle.std.specs.List.{AllByRecursion};
 ghost use Rattle.std.specs.FinMap.{is_sorted};
 ghost use Rattle.am_record.specs.OrderedKey.{OrderedKey, key_cmp};
-ghost use Rattle.am_record.specs.KeyNumber.{key_number};
+ghost use Rattle.am_record.specs.KeyNumber.{key_number, numbers_of};
 ghost use Rattle.am_record.specs.declared.entry.Entry.{Entry};
 ghost use Rattle.am_list.specs.Entries.{find, entry_at, insert_entry, set_entry, remove_entry, IsRising};
 ghost use Rattle.am_list.specs.Content.{live_value};
-ghost use Rattle.am_directory.specs.Tables.{residence_of};
+ghost use Rattle.am_directory.specs.Tables.{are_free, residence_of};
 ghost use Rattle.am_directory.specs.declared.residence.Residence.TheVariants.{Nowhere};
 ghost use Rattle.am_parts.specs.Partitions.{LivesInNoRun};
 ghost use Rattle.am_parts.specs.Residences.{LivesInRun, OneRun, Allows, AreResidences, Tell, LivesWith};
-ghost use Rattle.am_parts.specs.Residences.{HasNoted, HasRoomFor};
+ghost use Rattle.am_parts.specs.Residences.{HasNoted, HasRoomFor, entry_numbers};
 
 use am_directory::{Directory, Residence};
 use am_record::{Entry, HashKey, Key, NoMemory, Value};
@@ -119,6 +119,7 @@ impl Residences {
         ensures numbers { (i d : ℕ) (r : OrderedKey × List ℕ) → i < length pairs.now →
             get_or result.0 i d ≡ key_number self.now.hash (get_or pairs.now i r).0 }
         ensures room { length result.0 ≡ 16 }
+        ensures exact { result.1 ≡ are_free self.now.directory (numbers_of self.now.hash pairs.now) }
         ensures free { result.1 ≡ true → (i : ℕ) (r : OrderedKey × List ℕ) → i < length pairs.now →
             residence_of self.now.directory (key_number self.now.hash (get_or pairs.now i r).0) ≡ Nowhere }
     {
@@ -133,7 +134,8 @@ impl Residences {
     /// Whether the looks for the keys of these entries end where they begin. All are begun at once.
     pub(crate) fn know_none(&self, entries: &[Entry]) -> bool
         requires few { length entries.now ≤ 16 }
-        ensures { result ≡ true → (i : ℕ) (e : Entry) → i < length entries.now →
+        ensures exact { result ≡ are_free self.now.directory (entry_numbers self.now.hash entries.now) }
+        ensures free { result ≡ true → (i : ℕ) (e : Entry) → i < length entries.now →
             residence_of self.now.directory (key_number self.now.hash (get_or entries.now i e).key) ≡ Nowhere }
     {
         let mut numbers = [0; AHEAD];

@@ -1,125 +1,127 @@
--- Keys that are told apart by the numbers of their beginnings.
-use Rattle.std.proofs.Common.{◌≡◌, ℕ, ◌+◌, ◌<◌, ◌≤◌, suc, Bool, true, false, cond, List, [], ◌∷◌, ◌++◌, length, get_or}
-use Rattle.std.proofs.Common.{map, refl, sym, ap, ◌∙◌, subst, arith, add-one, ⊎_elim}
-use Rattle.std.specs.Prelude.{nat_eq, nat_lt, count_by, Vec}
-use Rattle.std.proofs.lemmas.Bool.{cases_Bool, eqb-true, eq-eqb, ltb-true, false_from_ne_true}
-use Rattle.std.proofs.lemmas.List.{map-append}
-use Rattle.std.proofs.lemmas.List.Sums.{sum_by-cons}
-use Rattle.std.proofs.lemmas.List.Sorted.{sum_by-IsPermutation}
-use Rattle.std.specs.Ordering.{eq_by_cmp}
-use Rattle.std.specs.List.{AllByRecursion, IsAllAdjacentAnswer, flat_map}
-use Rattle.std.specs.List.Sorted.{IsPermutation}
+-- Keys that are told apart by their fronts.
+use Rattle.std.proofs.Common.{◌≡◌, ℕ, ◌+◌, ◌<◌, ◌≤◌, suc, zero, Bool, true, false, cond, List, [], ◌∷◌, ◌++◌, length}
+use Rattle.std.proofs.Common.{get_or, map, Option, Some, None, Result, Ok, Err, refl, sym, ap, ◌∙◌, subst, arith}
+use Rattle.std.proofs.Common.{⊎_elim}
+use Rattle.std.specs.Prelude.{nat_eq, nat_lt, Vec, MatchOption, MatchResult, is_ok}
+use Rattle.std.proofs.lemmas.Bool.{cases_Bool, eqb-true, eq-eqb, true≢false, false_from_ne_true, ltb-true, ltb-false}
+use Rattle.std.proofs.lemmas.List.{map-append, get_or_default}
+use Rattle.std.proofs.lemmas.List.Elements.{filter-append}
+use Rattle.std.proofs.lemmas.List.Folds.{list_any_at, list_any_none}
+use Rattle.std.proofs.lemmas.List.Sorted.{searched, IsPermutation-refl, IsPermutation-map}
+use Rattle.std.specs.Ordering.{eq_by_cmp, nat_cmp}
+use Rattle.std.specs.List.{AllByRecursion, AllPairs, flat_map}
+use Rattle.std.specs.List.Sorted.{IsBinarySearchResult, IsPermutation}
 use Rattle.std.specs.declared.alloc.Global.{Global}
 use Rattle.am_record.specs.OrderedKey.{OrderedKey, key_cmp, key_eq-exact, key_least}
 use Rattle.am_record.specs.KeyFront.{key_front}
 use Rattle.am_record.specs.Plain.{Records}
-use Rattle.am_runs.specs.Cuts.{keys_of, times_among, records_of, NoneTwice}
+use Rattle.am_record.proofs.FirstRows.{Record}
+use Rattle.am_runs.specs.Cuts.{keys_of, times_among, records_of, AreRunsOf, NoneTwice, IsLeastTwice}
+use Rattle.am_runs.specs.Fronts.{times_of, is_among, fronts_in, with_fronts, AreShared}
 use Rattle.am_runs.specs.Sorting.{IsSpot, IsOrder, AreOrders, named, runs_named}
 use Rattle.am_runs.specs.declared.sorting.Spot.{Spot}
-use Rattle.am_runs.proofs.Pieces.{keys_of-append}
-use Rattle.am_runs.proofs.Twice.{one_at, none_at, times_among-cons}
+use Rattle.am_runs.proofs.Pieces.{keys_of-append, runs_permuted}
+use Rattle.am_runs.proofs.Repeats.{one_where, times_of-cons, one_there}
+use Rattle.am_runs.proofs.Twice.{one_at, none_at, times_among-cons, found_permuted}
 
 abbrev fronts_of : List OrderedKey → List ℕ
 fronts_of ks = map key_front ks
 
--- ---- how often a number stands
-
-abbrev one_where : ℕ → ℕ → ℕ
-one_where n m = cond (nat_eq n m) 1 0
-
-abbrev count : ℕ → List ℕ → ℕ
-count n ms = count_by (λ m. nat_eq n m) ms
-
-count-cons : (n m : ℕ) (ms : List ℕ) → count n (m ∷ ms) ≡ one_where n m + count n ms
-count-cons n m ms = sum_by-cons (one_where n) m ms
-
-none_where : (n m : ℕ) → nat_eq n m ≡ false → one_where n m ≡ 0
-none_where n m h = ap (λ b. cond b 1 0) h
-
-at_most_one_where : (n m : ℕ) → one_where n m ≤ 1
-at_most_one_where n m = elim (nat_eq n m) as (λ b. cond b 1 0 ≤ 1) [ true ↦ omega arith | false ↦ omega arith ]
-
--- as often as a key stands, so often its number does
-times_number : (k : OrderedKey) (ks : List OrderedKey) → times_among k ks ≤ count (key_front k) (fronts_of ks)
-times_number k [] = omega arith
-times_number k (l ∷ ks) =
+-- as often as a key stands, so often its front does
+times_front : (k : OrderedKey) (ks : List OrderedKey) → times_among k ks ≤ times_of (key_front k) (fronts_of ks)
+times_front k [] = omega arith
+times_front k (l ∷ ks) =
+    let more : times_of (key_front k) (fronts_of (l ∷ ks)) ≡ one_where (key_front k) (key_front l)
+    + times_of (key_front k) (fronts_of ks) = times_of-cons (key_front k) (key_front l) (fronts_of ks) in
     ⊎_elim
-    (λ tie.
-    let same : one_where (key_front k) (key_front l) ≡ 1 =
-    ap (λ b. cond b 1 0) (subst (λ x. nat_eq (key_front k) (key_front x) ≡ true) (key_eq-exact k l tie)
-    (eq-eqb (key_front k) (key_front k) refl)) in
-    omega (
+    (λ tie. omega (
       arith,
+      more,
       times_among-cons k l ks,
       one_at k l tie,
-      count-cons (key_front k) (key_front l) (fronts_of ks),
-      same,
-      times_number k ks,
+      one_there (key_front k) (key_front l) (ap key_front (key_eq-exact k l tie)),
+      times_front k ks,
     ))
-    (λ apart. omega (
-      arith,
-      times_among-cons k l ks,
-      none_at k l apart,
-      count-cons (key_front k) (key_front l)
-          (fronts_of ks),
-      times_number k ks,
-    ))
+    (λ apart. omega (arith, more, times_among-cons k l ks, none_at k l apart, times_front k ks))
     (cases_Bool (eq_by_cmp key_cmp k l))
 
--- ---- numbers that rise
+-- ---- the keys with some fronts
 
-abbrev Rise : List ℕ → Type 0
-Rise ms = (k d : ℕ) → suc k < length ms → get_or ms k d < get_or ms (suc k) d
+kept : (fronts : List ℕ) (l : OrderedKey) (ks : List OrderedKey) → is_among (key_front l) fronts ≡ true →
+    with_fronts fronts (l ∷ ks) ≡ l ∷ with_fronts fronts ks
+kept fronts l ks one = ap (λ b. cond b (l ∷ with_fronts fronts ks) (with_fronts fronts ks)) one
 
-rise_on : (m : ℕ) (ms : List ℕ) → Rise (m ∷ ms) → Rise ms
-rise_on m ms h = λ k d less. h (suc k) d (omega arith)
+left_out : (fronts : List ℕ) (l : OrderedKey) (ks : List OrderedKey) → is_among (key_front l) fronts ≡ false →
+    with_fronts fronts (l ∷ ks) ≡ with_fronts fronts ks
+left_out fronts l ks none = ap (λ b. cond b (l ∷ with_fronts fronts ks) (with_fronts fronts ks)) none
 
-none_later : (n m : ℕ) (ms : List ℕ) → n ≤ m → Rise (m ∷ ms) → count n ms ≡ 0
-none_later n m [] le h = refl
-none_later n m (p ∷ ms) le h =
-    let above : m < p = h 0 m (omega arith) in
-    let apart : nat_eq n p ≡ false = false_from_ne_true (nat_eq n p)
-    (λ tie. absurd (omega (arith, le, above, eqb-true n p tie))) in
-    omega (
-      arith,
-      count-cons n p ms,
-      none_where n p apart,
-      none_later n p ms (omega (arith, le, above))
-          (rise_on m (p ∷ ms) h),
-    )
-
-stands_once : (n : ℕ) (ms : List ℕ) → Rise ms → count n ms ≤ 1
-stands_once n [] h = omega arith
-stands_once n (m ∷ ms) h =
+-- a key with one of the fronts stands among them as often as among all
+all_kept : (fronts : List ℕ) (k : OrderedKey) (ks : List OrderedKey) → is_among (key_front k) fronts ≡ true →
+    times_among k (with_fronts fronts ks) ≡ times_among k ks
+all_kept fronts k [] one = refl
+all_kept fronts k (l ∷ ks) one =
     ⊎_elim
-    (λ same. omega (
+    (λ here. omega (
       arith,
-      count-cons n m ms,
-      at_most_one_where n m,
-      none_later n m ms (omega (arith, eqb-true n m same)) h,
+      ap (times_among k) (kept fronts l ks here),
+      times_among-cons k l (with_fronts fronts ks),
+      times_among-cons k l ks,
+      all_kept fronts k ks one,
     ))
-    (λ apart. omega (arith, count-cons n m ms, none_where n m apart, stands_once n ms (rise_on m ms h)))
-    (cases_Bool (nat_eq n m))
+    (λ none. omega (
+      arith,
+      ap (times_among k) (left_out fronts l ks none),
+      times_among-cons k l ks,
+      none_at k l (false_from_ne_true (eq_by_cmp key_cmp k l) (λ tie. true≢false (sym one
+          ∙ ap (λ q. is_among (key_front q) fronts) (key_eq-exact k l tie) ∙ none))),
+      all_kept fronts k ks one,
+    ))
+    (cases_Bool (is_among (key_front l) fronts))
 
-apart_by_number : (ks : List OrderedKey) (sorted : List ℕ) → IsPermutation (fronts_of ks) sorted → Rise sorted →
-    NoneTwice ks
-apart_by_number ks sorted p h = record {
-  once = λ k. omega (
+none_added : (fronts : List ℕ) (k : OrderedKey) (ks : List OrderedKey) → times_among k (with_fronts fronts ks) ≤
+    times_among k ks
+none_added fronts k [] = omega arith
+none_added fronts k (l ∷ ks) =
+    ⊎_elim
+    (λ here. omega (
+      arith,
+      ap (times_among k) (kept fronts l ks here),
+      times_among-cons k l (with_fronts fronts ks),
+      times_among-cons k l ks,
+      none_added fronts k ks,
+    ))
+    (λ none. omega (
+      arith,
+      ap (times_among k) (left_out fronts l ks none),
+      times_among-cons k l ks,
+      none_added fronts k ks,
+    ))
+    (cases_Bool (is_among (key_front l) fronts))
+
+module _ (ks : List OrderedKey) (shared : List ℕ) (are : AreShared (fronts_of ks) shared) where
+  both_ways : (k : OrderedKey) → 2 ≤ times_among k ks → 2 ≤ times_among k (with_fronts shared ks)
+  both_ways k two = omega (
     arith,
-    times_number k ks,
-    sum_by-IsPermutation (one_where (key_front k)) (fronts_of ks) sorted p,
-    stands_once (key_front k) sorted h,
-  );
-}
+    two,
+    all_kept shared k ks ((are.twice (key_front k)).1 (omega (arith, two, times_front k ks))),
+  )
 
-rise_of : (ms : List ℕ) (b : Bool) → IsAllAdjacentAnswer (λ x y r. r ≡ nat_lt x y) ms b → b ≡ true → Rise ms
-rise_of ms true h e = λ k d less. ltb-true _ _ (sym (rw add-one at (h k d (omega arith))))
-rise_of ms false h e = cc
+  at_most_one : (k : OrderedKey) (n : ℕ) → times_among k ks ≡ n → times_among k (with_fronts shared ks) ≤ 1 → n ≤ 1
+  at_most_one k zero e few = omega arith
+  at_most_one k (suc zero) e few = omega arith
+  at_most_one k (suc (suc n)) e few = absurd (omega (arith, few, both_ways k (omega (arith, e))))
 
--- ---- the numbers of the keys, order by order
+  -- what stands twice among the keys with shared fronts does so among all
+  found_shared : (found : Option OrderedKey) →
+      MatchOption found (NoneTwice (with_fronts shared ks)) (IsLeastTwice (with_fronts shared ks)) →
+      MatchOption found (NoneTwice ks) (IsLeastTwice ks)
+  found_shared None h = record { once = λ k. at_most_one k (times_among k ks) refl (h.once k) }
+  found_shared (Some key) h = record {
+    twice = omega (arith, h.twice, none_added shared key ks);
+    least = λ other two. h.least other (both_ways other two);
+  }
 
-abbrev pub fronts_in : List (Vec Spot Global) → List ℕ
-fronts_in orders = flat_map (λ (o : Vec Spot Global). map (λ (s : Spot). s.front) o.items) orders
+-- ---- the fronts and the keys, order by order
 
 fronts_named : (rs : Records) (ss : List Spot) → AllByRecursion (IsSpot rs) ss →
     map (λ (s : Spot). s.front) ss ≡ fronts_of (keys_of (named rs ss))
@@ -139,10 +141,75 @@ fronts_all rs (o ∷ os) all =
     ∙ sym (map-append key_front (keys_of run) (keys_of others))
     ∙ ap fronts_of (sym (keys_of-append run others))
 
--- no key stands twice in the runs, where the fronts of their orders were sorted and rise
-pub apart_by_fronts : (rs : Records) (os : List (Vec Spot Global)) (sorted : List ℕ) (b : Bool) → AreOrders rs os →
-    IsPermutation (fronts_in os) sorted → IsAllAdjacentAnswer (λ x y r. r ≡ nat_lt x y) sorted b → b ≡ true →
-    NoneTwice (keys_of (records_of (runs_named rs os)))
-apart_by_fronts rs os sorted b are moved answer rise =
-    apart_by_number (keys_of (records_of (runs_named rs os))) sorted
-    (subst (λ l. IsPermutation l sorted) (fronts_all rs os are.each) moved) (rise_of sorted b answer rise)
+-- the keys of the orders' records that have one of the fronts, one order behind another
+abbrev pub keys_by_orders : Records → List ℕ → List (Vec Spot Global) → List OrderedKey
+keys_by_orders rs fronts os =
+    flat_map (λ (o : Vec Spot Global). with_fronts fronts (keys_of (named rs o.items))) os
+
+pub keys_are : (rs : Records) (fronts : List ℕ) (os : List (Vec Spot Global)) →
+    keys_by_orders rs fronts os ≡ with_fronts fronts (keys_of (records_of (runs_named rs os)))
+keys_are rs fronts [] = refl
+keys_are rs fronts (o ∷ os) =
+    let test : OrderedKey → Bool = λ k. is_among (key_front k) fronts in
+    let run = named rs o.items in
+    let others = records_of (runs_named rs os) in
+    ap (λ ks. with_fronts fronts (keys_of run) ++ ks) (keys_are rs fronts os)
+    ∙ sym (filter-append test (keys_of run) (keys_of others))
+    ∙ ap (with_fronts fronts) (sym (keys_of-append run others))
+
+-- what was found in the sorted keys with the fronts that the orders share is so in all records
+pub found_in_orders : (rs : Records) (os : List (Vec Spot Global)) (shared : List ℕ) (sorted : List OrderedKey)
+    (found : Option OrderedKey) → AreOrders rs os → (n : ℕ) × AreRunsOf n rs (runs_named rs os) →
+    AreShared (fronts_in os) shared →
+    IsPermutation (with_fronts shared (keys_of (records_of (runs_named rs os)))) sorted →
+    MatchOption found (NoneTwice sorted) (IsLeastTwice sorted) →
+    MatchOption found (NoneTwice (keys_of rs)) (IsLeastTwice (keys_of rs))
+found_in_orders rs os shared sorted found orders runs are moved h =
+    let all = records_of (runs_named rs os) in
+    found_permuted found (keys_of rs) (keys_of all)
+    (IsPermutation-map (λ (r : Record). r.0) rs all (runs_permuted runs.0 rs (runs_named rs os) runs.1))
+    (found_shared (keys_of all) shared (subst (λ ns. AreShared ns shared) (fronts_all rs os orders.each) are) found
+    (found_permuted found (with_fronts shared (keys_of all)) sorted moved h))
+
+none_kept : (ks : List OrderedKey) → with_fronts [] ks ≡ []
+none_kept [] = refl
+none_kept (k ∷ ks) = none_kept ks
+
+-- no key stands twice where no front is shared
+pub apart_in_orders : (rs : Records) (os : List (Vec Spot Global)) (shared : List ℕ) → AreOrders rs os →
+    (n : ℕ) × AreRunsOf n rs (runs_named rs os) → AreShared (fronts_in os) shared → length shared ≡ 0 →
+    NoneTwice (keys_of rs)
+apart_in_orders rs os (n ∷ shared) orders runs are none = absurd (omega (arith, none))
+apart_in_orders rs os [] orders runs are none =
+    let all = keys_of (records_of (runs_named rs os)) in
+    found_in_orders rs os [] [] None orders runs are
+    (subst (λ ks. IsPermutation ks []) (sym (none_kept all)) (IsPermutation-refl []))
+    (record { once = λ key. omega arith })
+
+-- ---- a search
+
+-- whether a number was found among those that rise
+pub search_tells : (ns : List ℕ) (n : ℕ) (found : Result ℕ ℕ) → AllPairs ◌<◌ ns →
+    IsBinarySearchResult (λ m. nat_cmp m n) ns found → is_ok found ≡ is_among n ns
+search_tells ns n found rising h = by_cases found (searched ns n found h climbs)
+  where
+    climbs : (i j : ℕ) → i ≤ j → j < length ns → get_or ns i 0 ≤ get_or ns j 0
+    climbs i j order less = ⊎_elim
+        (λ before. omega (arith, rising i j 0 (ltb-true i j before) less))
+        (λ behind. let same : i ≡ j = omega (arith, order, ltb-false i j behind) in
+        omega (arith, ap (λ k. get_or ns k 0) same))
+        (cases_Bool (nat_lt i j))
+
+    apart : (i k : ℕ) → (k < i → get_or ns k 0 < n) → (i ≤ k → n < get_or ns k 0) → n ≡ get_or ns k 0 → ⊥
+    apart i k low high same = ⊎_elim
+        (λ before. absurd (omega (arith, same, low (ltb-true k i before))))
+        (λ behind. absurd (omega (arith, same, high (omega (arith, ltb-false k i behind)))))
+        (cases_Bool (nat_lt k i))
+
+    by_cases : (r : Result ℕ ℕ) →
+        MatchResult r (λ i. (i < length ns) × (get_or ns i 0 ≡ n)) (λ i. (i ≤ length ns) × ((k : ℕ) → k < i →
+        get_or ns k 0 < n) × ((k : ℕ) → i ≤ k → k < length ns → n < get_or ns k 0)) → is_ok r ≡ is_among n ns
+    by_cases (Ok i) at = sym (list_any_at (λ m. nat_eq n m) ns i 0 at.0 (eq-eqb n (get_or ns i 0) (sym at.1)))
+    by_cases (Err i) at = sym (list_any_none (λ m. nat_eq n m) ns (λ k d less. false_from_ne_true
+        (nat_eq n (get_or ns k d)) (λ e. apart i k (at.1 k) (λ high. at.2 k high less)
+        (eqb-true n (get_or ns k d) e ∙ get_or_default ns k d 0 less))))

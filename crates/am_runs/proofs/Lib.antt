@@ -1,8 +1,11 @@
 pub mod Twice
 pub mod Spots
 pub mod Sorts
+pub mod Groups
 pub mod Orders
 pub mod Pieces
+pub mod GroupOrders
+pub mod Repeats
 pub mod Apart
 pub mod Taken
 pub mod Loaded

@@ -19,12 +19,10 @@ use Rattle.am_record.specs.Plain.{Records}
 use Rattle.am_record.proofs.FirstRows.{Record}
 use Rattle.am_record.proofs.Lists.{AllByRecursion-push}
 use Rattle.am_record.proofs.Rising.{sorted_run, sorted_rises}
-use Rattle.am_runs.specs.Cuts.{keys_of, NoneTwice, IsLeastTwice, IsSortFault}
+use Rattle.am_runs.specs.Cuts.{keys_of, NoneTwice, IsLeastTwice}
 use Rattle.am_runs.specs.Sorting.{IsSpot, AreSpots, IsOrder, IsByKey, AreOrders, keyed_by, keys_among, named}
 use Rattle.am_runs.specs.Sorting.{runs_named}
 use Rattle.am_runs.specs.Sorting.{spots_among}
-use Rattle.am_runs.specs.declared.fault.LoadFault.{LoadFault}
-use Rattle.am_runs.specs.declared.fault.LoadFault.TheVariants.{NotRising, BadSize, Twice, NoMemory}
 use Rattle.am_runs.specs.declared.sorting.Spot.{Spot}
 use Rattle.am_runs.proofs.Spots.{spots_permuted}
 use Rattle.am_runs.proofs.Twice.{Ascends, ascends_by, rising_of, found_permuted}
@@ -43,7 +41,7 @@ pub named_long : (rs : Records) (ss : List Spot) → length (named rs ss) ≡ le
 named_long rs ss = length-map ss (λ (s : Spot). get_or rs s.place (key_least, []))
 
 module _ (follow : (a b : OrderedKey) → key_front a < key_front b → key_cmp a b ≡ Less) (rs : Records) where
-  lower : (s t : Spot) → IsSpot rs s → IsSpot rs t → s.front < t.front →
+  pub lower : (s t : Spot) → IsSpot rs s → IsSpot rs t → s.front < t.front →
       key_cmp (get_or rs s.place (key_least, [])).0 (get_or rs t.place (key_least, [])).0 ≡ Less
   lower s t is it less = follow _ _ (omega (arith, is.front, it.front, less))
 
@@ -150,20 +148,3 @@ pub next_run : (rs : Records) (os : List (Vec Spot Global)) (n : ℕ) (o : Vec S
 next_run rs [] n o less is = absurd (omega arith)
 next_run rs (p ∷ os) zero o less is = ap (λ (q : Vec Spot Global). Some (named rs q.items)) (sym is)
 next_run rs (p ∷ os) (suc n) o less is = next_run rs os n o (omega arith) is
-
-none_long : (rs : Records) → length rs ≡ 0 → rs ≡ []
-none_long [] none = refl
-none_long (r ∷ rs) none = absurd (omega arith)
-
--- the fault is that of the records in another order
-pub fault_permuted : (rs qs : Records) (fault : LoadFault) → IsPermutation rs qs → IsSortFault qs fault →
-    IsSortFault rs fault
-fault_permuted rs qs NotRising p none = none_long rs (omega (
-  arith,
-  length_permutation rs qs p,
-  ap (λ (l : Records). length l) none,
-))
-fault_permuted rs qs (Twice key) p two = found_permuted (Some key) (keys_of rs) (keys_of qs)
-    (IsPermutation-map (λ (r : Record). r.0) rs qs p) two
-fault_permuted rs qs NoMemory p some = omega (arith, some, length_permutation rs qs p)
-fault_permuted rs qs BadSize p h = h

@@ -1,5 +1,5 @@
 -- Records that are cut piece by piece.
-use Rattle.std.proofs.Common.{◌≡◌, ℕ, ◌<◌, ◌≤◌, ◌+◌, ◌-◌, zero, suc, List, [], ◌∷◌, ◌++◌, None, length, take, drop}
+use Rattle.std.proofs.Common.{◌≡◌, ℕ, ◌<◌, ◌≤◌, ◌+◌, ◌-◌, zero, suc, List, [], ◌∷◌, ◌++◌, length, take, drop}
 use Rattle.std.proofs.Common.{refl, sym, ap}
 use Rattle.std.proofs.Common.{◌∙◌, subst, arith, append_assoc, length-append}
 use Rattle.std.specs.Prelude.{min}
@@ -10,12 +10,12 @@ use Rattle.std.proofs.lemmas.List.Sorted.{IsPermutation-refl, IsPermutation-appe
 use Rattle.am_record.specs.Plain.{Records}
 use Rattle.am_runs.specs.declared.fault.LoadFault.{LoadFault}
 use Rattle.am_runs.specs.declared.fault.LoadFault.TheVariants.{NotRising, BadSize, Twice, NoMemory}
-use Rattle.am_runs.specs.Cuts.{keys_of, records_of, times_among, NoneTwice, IsRunOf, AreRunsOf, IsSortFault}
+use Rattle.am_runs.specs.Cuts.{keys_of, records_of, times_among, NoneTwice, IsRunOf, AreRunsOf}
 use Rattle.am_runs.specs.Cuts.{IsPieceFault, IsTwiceFault}
 use Rattle.am_runs.specs.Sorting.{piece}
 use Rattle.am_record.proofs.FirstRows.{Record}
 use Rattle.am_runs.proofs.Spots.{piece_long}
-use Rattle.am_runs.proofs.Twice.{found_permuted, times_among-append}
+use Rattle.am_runs.proofs.Twice.{times_among-append, times_among-permutation}
 use Rattle.am_runs.proofs.Sorts.{rising_apart}
 
 pub keys_of-append : (rs qs : Records) → keys_of (rs ++ qs) ≡ keys_of rs ++ keys_of qs
@@ -92,35 +92,41 @@ cut_next {n} {all} {runs} from more run within size h is =
     (piece_long all from (from + more) (omega arith) (omega (arith, within, size))
     ∙ omega (arith, size, length-drop from all)) h is
 
--- what keeps a piece from being a run
-pub fault_of_piece : (rs : Records) (from more : ℕ) (fault : LoadFault) → 0 < more → from + more ≤ length rs →
-    IsSortFault (piece rs from (from + more)) fault → IsPieceFault rs fault
-fault_of_piece rs from more NotRising some within none =
-    absurd (omega (
-      arith,
-      some,
-      ap (λ (l : Records). length l) none,
-      piece_long rs from (from + more) (omega arith)
-          within,
-    ))
-fault_of_piece rs from more (Twice key) some within two =
-    let split : rs ≡ take from rs ++ (piece rs from (from + more) ++ drop (from + more) rs) =
-    sym (take-append-drop from rs) ∙ ap (λ (l : Records). take from rs ++ l) (piece_behind rs from more) in
-    let front = take from rs in
-    let some = piece rs from (from + more) in
-    let rest = drop (from + more) rs in
-    let keys : keys_of rs ≡ keys_of front ++ (keys_of some ++ keys_of rest) =
-    ap keys_of split ∙ keys_of-append front (some ++ rest) ∙
-    ap (λ ks. keys_of front ++ ks) (keys_of-append some rest) in
+-- the fault of a part of some records is one of them all
+pub fault_of_part : (front part rest : Records) (fault : LoadFault) → IsPieceFault part fault →
+    IsPieceFault (front ++ (part ++ rest)) fault
+fault_of_part front part rest NotRising h = h
+fault_of_part front part rest (Twice key) two =
     omega (
       arith,
-      two.twice,
-      ap (times_among key) keys,
-      times_among-append key (keys_of front) (keys_of some ++ keys_of rest),
-      times_among-append key (keys_of some) (keys_of rest),
+      two,
+      ap (times_among key) (keys_of-append front (part ++ rest)),
+      ap (λ ks. times_among key (keys_of front ++ ks)) (keys_of-append part rest),
+      times_among-append key (keys_of front) (keys_of part ++ keys_of rest),
+      times_among-append key (keys_of part) (keys_of rest),
     )
-fault_of_piece rs from more NoMemory some within h = tt
-fault_of_piece rs from more BadSize some within h = h
+fault_of_part front part rest NoMemory h = tt
+fault_of_part front part rest BadSize h = h
+
+pub fault_of_piece : (rs : Records) (from more : ℕ) (fault : LoadFault) →
+    IsPieceFault (piece rs from (from + more)) fault → IsPieceFault rs fault
+fault_of_piece rs from more fault is =
+    let split : rs ≡ take from rs ++ (piece rs from (from + more) ++ drop (from + more) rs) =
+    sym (take-append-drop from rs) ∙ ap (λ (l : Records). take from rs ++ l) (piece_behind rs from more) in
+    subst (λ (l : Records). IsPieceFault l fault) (sym split)
+    (fault_of_part (take from rs) (piece rs from (from + more)) (drop (from + more) rs) fault is)
+
+-- or of them in another order
+pub fault_permuted : (rs qs : Records) (fault : LoadFault) → IsPermutation rs qs → IsPieceFault qs fault →
+    IsPieceFault rs fault
+fault_permuted rs qs NotRising p h = h
+fault_permuted rs qs (Twice key) p two = omega (
+  arith,
+  two,
+  times_among-permutation key (keys_of rs) (keys_of qs) (IsPermutation-map (λ (r : Record). r.0) rs qs p),
+)
+fault_permuted rs qs NoMemory p h = tt
+fault_permuted rs qs BadSize p h = h
 
 -- ---- the records of the runs
 
@@ -146,12 +152,6 @@ few_apart n rs (run ∷ []) few are =
     rising_apart rs run (subst (λ (l : Records). IsPermutation rs l) (append-nil run)
     (runs_permuted n rs (run ∷ []) are)) are.0.rising
 few_apart n rs (run ∷ next ∷ runs) few are = absurd (omega (arith, few))
-
--- no key stands twice where none does in the runs
-pub apart_of_runs : (n : ℕ) (rs : Records) (runs : List Records) → AreRunsOf n rs runs →
-    NoneTwice (keys_of (records_of runs)) → NoneTwice (keys_of rs)
-apart_of_runs n rs runs are h = found_permuted None (keys_of rs) (keys_of (records_of runs))
-    (IsPermutation-map (λ (r : Record). r.0) rs (records_of runs) (runs_permuted n rs runs are)) h
 
 -- ---- the fault of a piece, where no key stands twice
 

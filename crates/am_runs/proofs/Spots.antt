@@ -12,7 +12,8 @@ use Rattle.am_record.proofs.Lists.{AllByRecursion-push}
 use Rattle.am_runs.specs.Sorting.{IsSpot, AreSpots, named, piece}
 use Rattle.am_runs.specs.declared.sorting.Spot.{Spot}
 
-all_permuted : (P : Spot → Type 0) (ss ts : List Spot) → IsPermutation ss ts → AllByRecursion P ss → AllByRecursion P ts
+pub all_permuted : (P : Spot → Type 0) (ss ts : List Spot) → IsPermutation ss ts → AllByRecursion P ss →
+    AllByRecursion P ts
 all_permuted P ss ts p h = recursion_from_All P ts (All-permutation P ss ts p (All-from_recursion P ss h))
 
 pub spots_permuted : (rs : Records) (ss ts : List Spot) → IsPermutation ss ts → AreSpots rs ss → AreSpots rs ts

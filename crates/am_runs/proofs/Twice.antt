@@ -40,7 +40,7 @@ pub times_among-append : (key : OrderedKey) (ks ls : List OrderedKey) → times_
     + times_among key ls
 times_among-append key ks ls = sum_by-append (one_if key) ks ls
 
-times_among-permutation : (key : OrderedKey) (ks ls : List OrderedKey) → IsPermutation ks ls →
+pub times_among-permutation : (key : OrderedKey) (ks ls : List OrderedKey) → IsPermutation ks ls →
     times_among key ls ≡ times_among key ks
 times_among-permutation key ks ls p = sum_by-IsPermutation (one_if key) ks ls p
 

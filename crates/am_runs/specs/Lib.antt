@@ -1,4 +1,5 @@
 pub mod Cuts
+pub mod Fronts
 pub mod Loads
 pub mod Looks
 pub mod Walk

@@ -1,5 +1,5 @@
 -- Records that are named by where they stand.
-use Rattle.std.specs.Prelude.{◌≡◌, ◌<◌, ◌-◌, ℕ, List, [], true, map, length, get_or, take, drop, Vec}
+use Rattle.std.specs.Prelude.{◌≡◌, ◌<◌, ◌-◌, ◌++◌, ℕ, List, [], true, map, length, get_or, take, drop, Vec}
 use Rattle.std.specs.Coded.{Coded, coded_list}
 use Rattle.std.specs.List.{AllByRecursion}
 use Rattle.std.specs.List.Sorted.{IsPermutation, IsSortedByKey}
@@ -45,6 +45,13 @@ piece records from to = take (to - from) (drop from records)
 pub record IsOrder (records : Records) (spots : List Spot) : Type 0 where
   pub are : AreSpots records spots
   pub rising : is_rising (named records spots) ≡ true
+
+-- the spots of the group stand behind those that were there, by their records' strictly rising keys
+pub record IsAdded (records : Records) (before group after : List Spot) : Type 0 where
+  pub order : List Spot
+  pub all : after ≡ before ++ order
+  pub is : IsOrder records order
+  pub same : IsPermutation group order
 
 pub record AreOrders (records : Records) (orders : List (Vec Spot Global)) : Type 0 where
   pub each : AllByRecursion (λ order. IsOrder records order.items) orders

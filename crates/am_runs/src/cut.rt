@@ -1,18 +1,18 @@
 //! Cutting records into runs.
 
-ghost use Rattle.std.specs.Prelude.{◌≡◌, ◌<◌, ℕ, true, drop, length, slice_get, IfOk, IfErr, OnOk, OnErr};
-ghost use Rattle.am_record.specs.Plain.{Records};
-ghost use Rattle.am_runs.specs.Cuts.{keys_of, records_of, AreRunsOf, IsCut, IsCutFault, IsPieceFault, IsTwiceFault};
+ghost use Rattle.std.specs.Prelude.{◌≡◌, ◌<◌, ℕ, drop, length, slice_get, IfOk, IfErr, OnOk, OnErr};
+ghost use Rattle.am_runs.specs.Cuts.{keys_of, AreRunsOf, IsCut, IsCutFault, IsPieceFault, IsTwiceFault};
 ghost use Rattle.am_runs.specs.Cuts.{IsRunSize, NoneTwice};
 ghost use Rattle.am_runs.specs.Sorting.{runs_named, AreOrders};
 
 use crate::fault::LoadFault;
+use crate::fronts::{keys_with, shared_fronts};
 use crate::record_source::{Listed, RecordSource};
 use crate::run::Run;
 use crate::sorting::{Spot, order_of};
-use crate::ties::least_twice;
+use crate::ties::{first_tie, over_all};
 use am_record::{Key, MAX_RUN_RECORDS, NoMemory, Value};
-use std::alloc::{AllocError, Global};
+use std::alloc::Global;
 use std::marker::Model;
 
 /// Records that are cut into runs: of each run the order of its records is known, and none is copied before its run is
@@ -107,21 +107,6 @@ pub fn cut_source<S: RecordSource>(
     })
 }
 
-// The fault of the records by that of a piece: a lower key may stand twice elsewhere.
-fn over_all<S: RecordSource>(alloc: Global, source: &S, fault: LoadFault) -> LoadFault
-    requires { IsPieceFault (S.records source.now) fault }
-    ensures { IsTwiceFault (S.records source.now) result }
-{
-    if fault == LoadFault::NoMemory {
-        return fault;
-    }
-    match least_twice(alloc, source) {
-        Ok(Some(key)) => LoadFault::Twice(key),
-        Ok(None) => fault,
-        Err(_) => LoadFault::NoMemory,
-    }
-}
-
 // The order of each piece, where no key stands twice in one of them.
 fn orders_of<S: RecordSource>(
     alloc: Global,
@@ -156,28 +141,18 @@ fn refuse_twice<S: RecordSource>(
     ensures apart { IfOk result (λ _. NoneTwice (keys_of (S.records source.now))) }
     ensures fault { IfErr result (IsTwiceFault (S.records source.now)) }
 {
-    if orders.len() < 2 || have_fronts_apart(alloc, orders, source.len())? {
+    if orders.len() < 2 {
         return Ok(());
     }
-    // Keys with one beginning may be equal.
-    match least_twice(alloc, source)? {
+    let shared = shared_fronts(alloc, orders, source.len())?;
+    if shared.is_empty() {
+        return Ok(());
+    }
+    // Only keys with one front may be equal.
+    let mut keys = keys_with(alloc, source, orders, &shared)?;
+    keys.sort_unstable();
+    match first_tie(&keys) {
         Some(key) => Err(LoadFault::Twice(key)),
         None => Ok(()),
     }
-}
-
-// Whether no two keys of the runs in these orders, which have so many, have one number of their first eight bytes.
-fn have_fronts_apart(alloc: Global, orders: &[Vec<Spot>], len: usize) -> Result<bool, AllocError>
-    ensures { (records : Records) → AreOrders records orders.now →
-        IfOk result (λ apart. apart ≡ true → NoneTwice (keys_of (records_of (runs_named records orders.now)))) }
-{
-    let mut fronts = Vec::with_capacity(alloc, len)?;
-    for order in orders {
-        for spot in order {
-            fronts.push(spot.front)?;
-        }
-    }
-    // Each run's rise, so that the stable sort merges them.
-    fronts.sort()?;
-    Ok(fronts.is_sorted_by(|a, b| a < b))
 }

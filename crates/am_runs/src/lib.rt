@@ -3,6 +3,7 @@
 
 mod cut;
 mod fault;
+mod fronts;
 mod loading;
 mod look;
 mod record_source;

@@ -8,6 +8,7 @@ ghost use Rattle.am_runs.specs.Sorting.{named, IsOrder};
 use crate::fault::LoadFault;
 use crate::record_source::{Listed, RecordSource};
 use crate::sorting::{Spot, gather, order_of};
+use crate::ties::over_all;
 use am_record::{Key, Value, is_rising};
 use std::alloc::{AllocError, Global};
 use std::marker::Model;
@@ -71,7 +72,10 @@ impl Run {
             return Err(LoadFault::NotRising);
         }
         let listed = Listed { records };
-        let order = order_of(alloc, &listed, 0, records.len())?;
+        let order = match order_of(alloc, &listed, 0, records.len()) {
+            Ok(order) => order,
+            Err(fault) => return Err(over_all(alloc, &listed, fault)),
+        };
         Ok(Run::in_order(alloc, &listed, &order)?)
     }
 

@@ -1,9 +1,10 @@
 //! The order of records by their keys, which mostly their beginnings tell.
 
-ghost use Rattle.std.specs.Prelude.{◌≡◌, ◌<◌, ◌≤◌, IfOk, IfErr, length, nat_lt};
-ghost use Rattle.std.specs.List.Sorted.{IsPermutation};
-ghost use Rattle.am_runs.specs.Cuts.{IsSortFault};
-ghost use Rattle.am_runs.specs.Sorting.{AreSpots, IsByKey, IsOrder, keys_among, named, piece, spots_among};
+ghost use Rattle.std.specs.Prelude.{◌≡◌, ◌==◌, ◌<◌, ◌≤◌, IfOk, IfErr, OnOk, length, nat_lt};
+ghost use Rattle.std.specs.List.{prefix_len};
+ghost use Rattle.std.specs.List.Sorted.{IsNonDecreasingBy, IsPermutation};
+ghost use Rattle.am_runs.specs.Cuts.{IsPieceFault, IsSortFault};
+ghost use Rattle.am_runs.specs.Sorting.{AreSpots, IsAdded, IsByKey, IsOrder, keys_among, named, piece, spots_among};
 
 use crate::fault::LoadFault;
 use crate::record_source::RecordSource;
@@ -15,7 +16,7 @@ use std::alloc::{AllocError, Global};
 #[derive(Clone, Copy)]
 pub(crate) struct Spot {
     pub(crate) front: u64,
-    place: usize,
+    pub(crate) place: usize,
 }
 
 impl Spot {
@@ -30,8 +31,8 @@ impl Spot {
 /// The order of the records from one place to another, of which there is one or more: their spots, by rising key.
 ///
 /// # Errors
-/// Twice, where a key stands twice in them: the least such key. NoMemory, where memory was refused; it may come where
-/// Twice is due.
+/// Twice, where a key stands twice in them: one such key. NoMemory, where memory was refused; it may come where Twice
+/// is due.
 pub(crate) fn order_of<S: RecordSource>(
     alloc: Global,
     source: &S,
@@ -43,7 +44,7 @@ pub(crate) fn order_of<S: RecordSource>(
     ensures order { IfOk result (λ spots. IsOrder (S.records source.now) spots.items) }
     ensures same { IfOk result (λ spots. IsPermutation (piece (S.records source.now) from to)
         (named (S.records source.now) spots.items)) }
-    ensures fault { IfErr result (IsSortFault (piece (S.records source.now) from to)) }
+    ensures fault { IfErr result (IsPieceFault (piece (S.records source.now) from to)) }
 {
     fronts_follow_keys();
     let mut spots = spots_of(alloc, source, from, to)?;
@@ -51,8 +52,59 @@ pub(crate) fn order_of<S: RecordSource>(
     if spots.is_sorted_by(|a, b| a.is_below(b)) {
         return Ok(spots);
     }
-    // Keys with one beginning may stand in any order.
-    by_key(alloc, source, &spots)
+    settled(alloc, source, &spots)
+}
+
+// The spots by rising key, from their order by fronts, where keys with one front may stand in any order.
+fn settled<S: RecordSource>(
+    alloc: Global,
+    source: &S,
+    spots: &[Spot],
+) -> Result<Vec<Spot>, LoadFault>
+    requires some { 0 < length spots.now }
+    requires spots { AreSpots (S.records source.now) spots.now }
+    requires sorted { IsNonDecreasingBy (λ s. s.front) spots.now }
+    ensures order { IfOk result (λ settled. IsOrder (S.records source.now) settled.items) }
+    ensures same { IfOk result (λ settled. IsPermutation spots.now settled.items) }
+    ensures fault { IfErr result (IsPieceFault (named (S.records source.now) spots.now)) }
+{
+    fronts_follow_keys();
+    let mut settled = Vec::with_capacity(alloc, spots.len())?;
+    let mut left = spots;
+    while let [first, ..] = left {
+        let (group, others) = left.split_at(count_alike(left, first.front));
+        add_group(alloc, source, group, &mut settled)?;
+        left = others;
+    }
+    Ok(settled)
+}
+
+// How many spots at the beginning have the front.
+fn count_alike(spots: &[Spot], front: u64) -> usize
+    ensures { result ≡ prefix_len (λ s. s.front == front) spots.now }
+{
+    spots.iter().take_while(|spot| spot.front == front).count()
+}
+
+// Adds the spots of a group by rising key. A spot that stands alone is added as it is.
+fn add_group<S: RecordSource>(
+    alloc: Global,
+    source: &S,
+    group: &[Spot],
+    settled: &mut Vec<Spot>,
+) -> Result<(), LoadFault>
+    requires some { 0 < length group.now }
+    requires spots { AreSpots (S.records source.now) group.now }
+    ensures added { OnOk result (IsAdded (S.records source.now) settled.old.items group.now settled.new.items) }
+    ensures fault { IfErr result (IsPieceFault (named (S.records source.now) group.now)) }
+{
+    if let [spot] = group {
+        settled.push(*spot)?;
+        return Ok(());
+    }
+    let sorted = by_key(alloc, source, group)?;
+    settled.extend_from_slice(&sorted)?;
+    Ok(())
 }
 
 fn spots_of<S: RecordSource>(

@@ -3,17 +3,30 @@
 ghost use Rattle.std.specs.Prelude.{◌≡◌, IfOk, MatchOption};
 ghost use Rattle.std.specs.List.Sorted.{IsSorted};
 ghost use Rattle.am_record.specs.OrderedKey.{key_cmp};
-ghost use Rattle.am_runs.specs.Cuts.{keys_of, NoneTwice, IsLeastTwice};
+ghost use Rattle.am_runs.specs.Cuts.{keys_of, NoneTwice, IsLeastTwice, IsPieceFault, IsTwiceFault};
 
+use crate::fault::LoadFault;
 use crate::record_source::RecordSource;
 use am_record::{Key, NoMemory};
 use std::alloc::{AllocError, Global};
 
-/// The least of the keys that stand twice in the records.
-pub(crate) fn least_twice<S: RecordSource>(
-    alloc: Global,
-    source: &S,
-) -> Result<Option<Key>, NoMemory>
+/// The fault of the records by that of some of them: a lower key may stand twice elsewhere.
+pub(crate) fn over_all<S: RecordSource>(alloc: Global, source: &S, fault: LoadFault) -> LoadFault
+    requires { IsPieceFault (S.records source.now) fault }
+    ensures { IsTwiceFault (S.records source.now) result }
+{
+    if fault == LoadFault::NoMemory {
+        return fault;
+    }
+    match least_twice(alloc, source) {
+        Ok(Some(key)) => LoadFault::Twice(key),
+        Ok(None) => fault,
+        Err(_) => LoadFault::NoMemory,
+    }
+}
+
+// The least of the keys that stand twice in the records.
+fn least_twice<S: RecordSource>(alloc: Global, source: &S) -> Result<Option<Key>, NoMemory>
     ensures { IfOk result (λ found. MatchOption found (NoneTwice (keys_of (S.records source.now)))
         (IsLeastTwice (keys_of (S.records source.now)))) }
 {

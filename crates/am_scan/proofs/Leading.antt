@@ -61,9 +61,12 @@ changed_places a b old rest new popped pushed =
     (IsPermutation-trans (a ∷ b ∷ rest) (b ∷ a ∷ rest) (b ∷ new) (turned_round a b rest)
     (IsPermutation-cons b (a ∷ rest) new pushed))
 
-pub bound_of_both : (a b : Stand) (rest new : List Stand) → is_le (head_cmp b a) ≡ false →
-    IsUpperBound head_cmp b rest → IsPermutation (a ∷ rest) new → IsUpperBound head_cmp b new
-bound_of_both a b rest new over bound pushed =
+pub bound_of_both : (a b : Stand) (old rest new : List Stand) → is_le (head_cmp b a) ≡ false →
+    IsUpperBound head_cmp b old → IsPermutation old (b ∷ rest) → IsPermutation (a ∷ rest) new →
+    IsUpperBound head_cmp b new
+bound_of_both a b old rest new over bound popped pushed =
     let P : Stand → Type 0 = λ y. is_lt (head_cmp b y) ≡ false in
+    let both = recursion_from_All P (b ∷ rest) (All-permutation P old (b ∷ rest) popped
+    (All-from_recursion P old bound)) in
     recursion_from_All P new (All-permutation P (a ∷ rest) new pushed
-    (All-from_recursion P (a ∷ rest) (above_not_below (head_cmp b a) over, bound)))
+    (All-from_recursion P (a ∷ rest) (above_not_below (head_cmp b a) over, both.1)))

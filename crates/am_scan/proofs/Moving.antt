@@ -1,6 +1,7 @@
 -- A head on its way from record to record of its partition.
-use Rattle.std.proofs.Common.{◌≡◌, ℕ, zero, suc, ◌+◌, ◌<◌, ◌≤◌, ◌++◌, List, [], ◌∷◌, Bool, true, ◌&&◌, cond, T, length}
-use Rattle.std.proofs.Common.{take, drop, Some, None, refl, sym, ap, ◌∙◌, subst, arith, add-one, drop-cons}
+use Rattle.std.proofs.Common.{◌≡◌, ℕ, zero, suc, ◌+◌, ◌<◌, ◌≤◌, ◌↔◌, ◌++◌, List, [], ◌∷◌, Bool, true, ◌&&◌, cond, T}
+use Rattle.std.proofs.Common.{IsTrue, length, take, drop, Some, None, refl, sym, ap, ◌∙◌, subst, arith, add-one}
+use Rattle.std.proofs.Common.{drop-cons}
 use Rattle.std.proofs.lemmas.Bool.{and_parts, true≢false, cond-true}
 use Rattle.std.proofs.lemmas.List.{take-append-drop, drop_all, get_or_default}
 use Rattle.std.proofs.lemmas.Option.{none-some}
@@ -145,31 +146,34 @@ module _ {es : List Entry} (laws : (part : ℕ) (range : Interval) → RowsRead 
     from_first : rows_in es part (record { lo = k; hi = range.hi }) ≡ (k, v) ∷ rest
     from_first = rows_from_it part range k v rest reaches rise_from (λ q le. ap (row_at q) is)
 
-    is_first : (read further : Records) → rest ≡ read ++ further →
-        IsFirstHead es range part (record { part = part; key = k; value = v; read = read })
-    is_first read further split = record {
+    is_first : (read further : Records) (is_all : Bool) → rest ≡ read ++ further → (IsTrue is_all → further ≡ []) →
+        IsFirstHead es range part (record { part = part; key = k; value = v; read = read; is_all = is_all })
+    is_first read further is_all split ended = record {
       head = record {
         live = here.1;
         inside = here.0;
-        reads = record { further = further; follows = from_first ∙ ap (λ l. (k, v) ∷ l) split };
+        reads = record { further = further; follows = from_first ∙ ap (λ l. (k, v) ∷ l) split; ended = ended };
       };
       in_part = refl;
       none_before = first_before;
     }
 
-  begins_by : (part : ℕ) (range : Interval) (room : ℕ) (all rows : Records) → 1 ≤ room → rows_in es part range ≡ all →
-      rows ≡ take room all → (length rows ≡ 0 → ⊥) → IsFirstHead es range part (stand_at part rows 0)
-  begins_by part range zero all rows some is read full = absurd (omega (arith, some))
-  begins_by part range (suc n) [] rows some is read full = absurd (full (ap length read))
-  begins_by part range (suc n) (row ∷ all) rows some is read full =
-      subst (λ (l : Records). IsFirstHead es range part (stand_at part l 0)) (sym read)
-      (is_first part range row.0 row.1 all is (take n all) (drop n all) (sym (take-append-drop n all)))
+  begins_by : (part : ℕ) (range : Interval) (room : ℕ) (all rows : Records) (is_all : Bool) → 1 ≤ room →
+      rows_in es part range ≡ all → rows ≡ take room all → (length rows ≡ 0 → ⊥) →
+      (IsTrue is_all → length all < room) → IsFirstHead es range part (stand_at part rows 0 is_all)
+  begins_by part range zero all rows is_all some is read full few = absurd (omega (arith, some))
+  begins_by part range (suc n) [] rows is_all some is read full few = absurd (full (ap length read))
+  begins_by part range (suc n) (row ∷ all) rows is_all some is read full few =
+      subst (λ (l : Records). IsFirstHead es range part (stand_at part l 0 is_all)) (sym read)
+      (is_first part range row.0 row.1 all is (take n all) (drop n all) is_all (sym (take-append-drop n all))
+      (λ told. let less = few told in drop_all n all (omega (arith, less))))
 
-  pub begins_at : (part : ℕ) (range : Interval) (room : ℕ) (rows : Records) → 2 ≤ room →
+  pub begins_at : (part : ℕ) (range : Interval) (room : ℕ) (rows : Records) (is_all : Bool) → 2 ≤ room →
       rows ≡ take room (rows_in es part range) → (length rows ≡ 0 → ⊥) →
-      IsFirstHead es range part (stand_at part rows 0)
-  begins_at part range room rows some read full =
-      begins_by part range room (rows_in es part range) rows (omega (arith, some)) refl read full
+      (IsTrue is_all → length (rows_in es part range) < room) →
+      IsFirstHead es range part (stand_at part rows 0 is_all)
+  begins_at part range room rows is_all some read full few =
+      begins_by part range room (rows_in es part range) rows is_all (omega (arith, some)) refl read full few
 
   none_by : (part : ℕ) (range : Interval) (room : ℕ) (all rows : Records) → 1 ≤ room → rows ≡ take room all →
       length rows ≡ 0 → all ≡ []
@@ -231,13 +235,13 @@ module _ {es : List Entry} (laws : (part : ℕ) (range : Interval) → RowsRead 
       from_next = rows_from_it h.part rest_of k v rest next_ends.0 risen.1
           (λ q le. passed q (less_le h.key k q (key_cmp k q) next_above refl le))
 
-      next_head : (read further : Records) → rest ≡ read ++ further →
-          IsNextHead es range h (record { part = h.part; key = k; value = v; read = read })
-      next_head read further split = record {
+      next_head : (read further : Records) → rest ≡ read ++ further → (IsTrue h.is_all → further ≡ []) →
+          IsNextHead es range h (record { part = h.part; key = k; value = v; read = read; is_all = h.is_all })
+      next_head read further split ended = record {
         head = record {
           live = next_here.1;
           inside = in_ends range k (key_le_trans range.lo h.key k ends.0 next_ends.0) next_ends.1;
-          reads = record { further = further; follows = from_next ∙ ap (λ l. (k, v) ∷ l) split };
+          reads = record { further = further; follows = from_next ∙ ap (λ l. (k, v) ∷ l) split; ended = ended };
         };
         in_part = refl;
         above = next_above;
@@ -254,26 +258,27 @@ module _ {es : List Entry} (laws : (part : ℕ) (range : Interval) → RowsRead 
       ∙ ap (λ r. r ∷ drop (suc i) rows) (get_or_default rows i (row_of rows i) (key_least, []) inside)
       ∙ ap (λ n. row_of rows i ∷ drop n rows) (sym (add-one i))
 
-  module _ (range : Interval) (part : ℕ) (rows : Records) (passed : ℕ)
-      (inside : within range (stand_at part rows passed).key ≡ true)
-      (is_ready : HasReadSome es range.hi (stand_at part rows passed)) where
+  module _ (range : Interval) (part : ℕ) (rows : Records) (passed : ℕ) (is_all : Bool)
+      (inside : within range (stand_at part rows passed is_all).key ≡ true)
+      (is_ready : HasReadSome es range.hi (stand_at part rows passed is_all)) where
     abbrev here_at : Stand
-    here_at = stand_at part rows passed
+    here_at = stand_at part rows passed is_all
 
     pub ends_here : length rows ≤ passed + 1 → HasNoNext es range here_at
     ends_here past =
         let none : drop (passed + 1) rows ≡ [] = drop_all (passed + 1) rows past in
         no_next range here_at inside (is_ready.reads.follows
         ∙ ap (λ l. (here_at.key, here_at.value) ∷ (l ++ is_ready.reads.further)) none
-        ∙ ap (λ l. (here_at.key, here_at.value) ∷ l) (is_ready.at_end none))
+        ∙ ap (λ l. (here_at.key, here_at.value) ∷ l) (is_ready.reads.ended (is_ready.at_end none)))
 
-    pub goes_on_here : passed + 1 < length rows → IsNextHead es range here_at (stand_at part rows (passed + 1))
+    pub goes_on_here : passed + 1 < length rows → IsNextHead es range here_at
+        (stand_at part rows (passed + 1) is_all)
     goes_on_here more =
         let row = row_of rows (passed + 1) in
         let read = drop (passed + 1 + 1) rows in
         next_head range here_at inside row.0 row.1 (read ++ is_ready.reads.further)
         (is_ready.reads.follows ∙ ap (λ l. (here_at.key, here_at.value) ∷ (l ++ is_ready.reads.further))
-        (at_place rows (passed + 1) more)) read is_ready.reads.further refl
+        (at_place rows (passed + 1) more)) read is_ready.reads.further refl is_ready.reads.ended
 
 -- ---- reading again
 
@@ -282,27 +287,25 @@ none_taken n [] h = refl
 none_taken n (row ∷ rows) h = absurd (cc)
 
 -- what was read anew from the record on
-pub record HasReadAnew (es : List Entry) (hi : OrderedKey) (old new : Stand) : Type 0 where
-  pub ready : HasReadSome es hi new
-  pub key : new.key ≡ old.key
-
-pub read_anew : {es : List Entry} {hi : OrderedKey} (h : Stand) (room : ℕ) (rows : Records) → 2 ≤ room →
-    HasReadOn es hi h → rows ≡ take room (rows_in es h.part (record { lo = h.key; hi = hi })) →
-    HasReadAnew es hi h (stand_at h.part rows 0)
-read_anew h zero rows some reads read = absurd (omega (arith, some))
-read_anew h (suc zero) rows some reads read = absurd (omega (arith, some))
-read_anew {es} {hi} h (suc (suc n)) rows some reads read =
+pub read_anew : {es : List Entry} {hi : OrderedKey} (h : Stand) (room : ℕ) (rows : Records) (is_all : Bool) →
+    2 ≤ room → HasReadOn es hi h → rows ≡ take room (rows_in es h.part (record { lo = h.key; hi = hi })) →
+    (IsTrue is_all ↔ length (rows_in es h.part (record { lo = h.key; hi = hi })) < room) →
+    HasReadSome es hi (stand_at h.part rows 0 is_all)
+read_anew h zero rows is_all some reads read told = absurd (omega (arith, some))
+read_anew h (suc zero) rows is_all some reads read told = absurd (omega (arith, some))
+read_anew {es} {hi} h (suc (suc n)) rows is_all some reads read told =
     let all = h.read ++ reads.further in
+    let long : length (rows_in es h.part (record { lo = h.key; hi = hi })) ≡ suc (length all) =
+    ap length reads.follows in
     let is : rows ≡ (h.key, h.value) ∷ take (suc n) all = read ∙ ap (take (suc (suc n))) reads.follows in
-    subst (λ (l : Records). HasReadAnew es hi h (stand_at h.part l 0)) (sym is) (record {
-      ready = record {
-        reads = record {
-          further = drop (suc n) all;
-          follows = reads.follows ∙ ap (λ l. (h.key, h.value) ∷ l) (sym (take-append-drop (suc n) all));
-        };
-        at_end = λ none. ap (drop (suc n)) (none_taken n all none);
+    subst (λ (l : Records). HasReadSome es hi (stand_at h.part l 0 is_all)) (sym is) (record {
+      reads = record {
+        further = drop (suc n) all;
+        follows = reads.follows ∙ ap (λ l. (h.key, h.value) ∷ l) (sym (take-append-drop (suc n) all));
+        ended = λ short. let less = told.0 short in drop_all (suc n) all (omega (arith, long, less));
       };
-      key = refl;
+      at_end = λ none. let one : length all ≡ 0 = ap length (none_taken n all none) in
+          told.1 (omega (arith, long, one));
     })
 
 pub same_old : {es : List Entry} {range : Interval} {old now new : Stand} → now.part ≡ old.part → now.key ≡ old.key →

@@ -1,6 +1,6 @@
 -- What the head of a partition stands at and what it passes.
-use Rattle.std.specs.Prelude.{◌≡◌, ◌+◌, ◌++◌, ℕ, List, [], ◌∷◌, true, drop, slice_index_or, refl}
-use Rattle.std.specs.Coded.{Coded, code_by, coded×, coded_ℕ, coded_list}
+use Rattle.std.specs.Prelude.{◌≡◌, ◌+◌, ◌++◌, ℕ, List, [], ◌∷◌, Bool, IsTrue, true, drop, slice_index_or, refl}
+use Rattle.std.specs.Coded.{Coded, code_by, coded×, coded_ℕ, coded_bool, coded_list}
 use Rattle.std.specs.declared.cmp.Ordering.{Ordering}
 use Rattle.std.specs.declared.cmp.Ordering.TheVariants.{Less}
 use Rattle.std.specs.Cmp.{IsTotalOrder, on_total, back_total}
@@ -11,29 +11,32 @@ use Rattle.am_record.specs.Records.{records_code}
 use Rattle.am_record.specs.declared.entry.Entry.{Entry}
 use Rattle.am_list.specs.Content.{rows_in, IsLiveAt}
 
--- where a head stands: in a partition, at the record, with the others read behind it
+-- where a head stands: in a partition, at the record, with the others read behind it, and whether those are all
 pub record Stand : Type 0 where
   pub part : ℕ
   pub key : OrderedKey
   pub value : List ℕ
   pub read : Records
+  pub is_all : Bool
 
 abbrev pub stand_code : Coded Stand
-stand_code = code_by ((ℕ × OrderedKey) × (List ℕ × Records)) (coded× (coded× coded_ℕ key_code)
-    (coded× (coded_list coded_ℕ) records_code)) (λ h. ((h.part, h.key), (h.value, h.read)))
-    (λ p. record { part = p.0.0; key = p.0.1; value = p.1.0; read = p.1.1 }) (λ _. refl)
+stand_code = code_by ((ℕ × OrderedKey) × (List ℕ × (Records × Bool))) (coded× (coded× coded_ℕ key_code)
+    (coded× (coded_list coded_ℕ) (coded× records_code coded_bool)))
+    (λ h. ((h.part, h.key), (h.value, (h.read, h.is_all))))
+    (λ p. record { part = p.0.0; key = p.0.1; value = p.1.0; read = p.1.1.0; is_all = p.1.1.1 }) (λ _. refl)
 
 -- the row of that index of what was read, or one that no partition need have
 abbrev pub row_of : Records → ℕ → OrderedKey × List ℕ
 row_of rows passed = slice_index_or rows passed (key_least, [])
 
 -- it stands at the row of that index
-abbrev pub stand_at : ℕ → Records → ℕ → Stand
-stand_at part rows passed = record {
+abbrev pub stand_at : ℕ → Records → ℕ → Bool → Stand
+stand_at part rows passed is_all = record {
   part = part;
   key = (row_of rows passed).0;
   value = (row_of rows passed).1;
   read = drop (passed + 1) rows;
+  is_all = is_all;
 }
 
 -- by key, the least one the greatest
@@ -43,15 +46,17 @@ head_cmp g h = key_cmp h.key g.key
 pub head_cmp-total : IsTotalOrder head_cmp
 head_cmp-total = back_total (on_total (λ (h : Stand). h.key) key_cmp-total)
 
--- the rows of its partition from its key up to the other one begin with it and what was read behind it
+-- the rows of its partition from its key up to the other one begin with it and what was read behind it, and are no more
+-- where that is all
 pub record HasReadOn (es : List Entry) (hi : OrderedKey) (h : Stand) : Type 0 where
   pub further : Records
   pub follows : rows_in es h.part (record { lo = h.key; hi = hi }) ≡ (h.key, h.value) ∷ (h.read ++ further)
+  pub ended : IsTrue h.is_all → further ≡ []
 
--- and something was read, unless nothing stands behind it
+-- and something was read behind it, unless that is all
 pub record HasReadSome (es : List Entry) (hi : OrderedKey) (h : Stand) : Type 0 where
   pub reads : HasReadOn es hi h
-  pub at_end : h.read ≡ [] → reads.further ≡ []
+  pub at_end : h.read ≡ [] → IsTrue h.is_all
 
 -- the head stands at a live entry in the range
 pub record IsHead (es : List Entry) (range : Interval) (h : Stand) : Type 0 where

@@ -1,6 +1,7 @@
 //! The head of a partition: the record at which a cursor stands in it, and those that were read behind it.
 
-ghost use Rattle.std.specs.Prelude.{◌≡◌, ◌≤◌, true, false, take, IfOk, IfSome, IfNone, vec_capacity};
+ghost use Rattle.std.specs.Prelude.{◌≡◌, ◌<◌, ◌≤◌, ◌↔◌, true, false, length, take, IfOk, IfSome, IfNone, IsTrue};
+ghost use Rattle.std.specs.Prelude.{vec_capacity};
 ghost use Rattle.am_record.specs.Interval.{key_le, within};
 ghost use Rattle.am_list.specs.Entries.{IsRising};
 ghost use Rattle.am_list.specs.Content.{rows_in};
@@ -23,6 +24,8 @@ pub(crate) struct Head {
     rows: Vec<(Key, Value)>,
     // How many of them were passed: it stands at the one behind these.
     passed: usize,
+    // Nothing of the partition in the range follows them: they are fewer than there was room for.
+    is_all: bool,
 }
 
 impl Model for Head {
@@ -34,7 +37,7 @@ impl Model for Head {
 
     ghost coded = { stand_code };
 
-    ghost view = { λ h. stand_at h.part h.rows.items h.passed };
+    ghost view = { λ h. stand_at h.part h.rows.items h.passed h.is_all };
 
     ghost invariant = { λ h. (h.passed < length h.rows.items) × (2 ≤ vec_capacity h.rows) ×
         (h.front ≡ key_front (row_of h.rows.items h.passed).0) };
@@ -58,10 +61,12 @@ impl Head {
         requires rising { IsRising parts.now.entries }
         ensures some { IfOk result (λ first. IfSome first (λ head. IsFirstHead parts.now.entries range part head)) }
         ensures none { IfOk result (λ first. IfNone first (HasNoneLive parts.now.entries range part)) }
+        ensures all { IfOk result (λ first. IfSome first (λ head.
+            IsTrue head.is_all ↔ length (rows_in parts.now.entries part range) < room)) }
     {
         rows_follow();
         let mut rows = Vec::with_capacity(alloc, room)?;
-        parts.copy_rows(part, range, room as u64, &mut rows)?;
+        let is_all = read_rows(parts, part, range, &mut rows);
         if rows.is_empty() {
             return Ok(None);
         }
@@ -70,6 +75,7 @@ impl Head {
             front: rows[0].0.front(),
             rows,
             passed: 0,
+            is_all,
         }))
     }
 
@@ -106,6 +112,7 @@ impl Head {
         requires rising { IsRising parts.now.entries }
         ensures moved { result ≡ true → IsNextHead parts.now.entries range self.old self.new }
         ensures ended { result ≡ false → HasNoNext parts.now.entries range self.old }
+        ensures all { IsTrue self.old.is_all → IsTrue self.new.is_all }
     {
         rows_follow();
         self.look_ahead(parts, range);
@@ -117,38 +124,41 @@ impl Head {
         true
     }
 
-    // Reads on, where nothing was read behind the record.
+    // Reads on, where nothing was read behind the record and something may follow it.
     fn look_ahead<I: PartIndex + Drop>(&mut self, parts: &Parts<I>, range: Range)
         requires reads { HasReadOn parts.now.entries range.hi self.old }
         requires reached { key_le self.old.key range.hi ≡ true }
         ensures ready { HasReadSome parts.now.entries range.hi self.new }
         ensures part { self.new.part ≡ self.old.part }
         ensures key { self.new.key ≡ self.old.key }
+        ensures same { IsTrue self.old.is_all → self.new ≡ self.old }
     {
-        if self.passed + 1 < self.rows.len() {
+        if self.is_all || self.passed + 1 < self.rows.len() {
             return;
         }
         let (part, rest) = self.rest(range);
         self.passed = 0;
-        read_again(parts, part, rest, &mut self.rows);
+        self.is_all = read_rows(parts, part, rest, &mut self.rows);
     }
 }
 
-// Reads the rows of a range anew, as many as there is room for.
-fn read_again<I: PartIndex + Drop>(
+// Reads rows of a range, as many as there is room for, in place of what was read, and says whether they are all.
+fn read_rows<I: PartIndex + Drop>(
     parts: &Parts<I>,
     part: u32,
     range: Range,
     rows: &mut Vec<(Key, Value)>,
-)
+) -> bool
     ensures rows { rows.new.items ≡ take (vec_capacity rows.old) (rows_in parts.now.entries part range) }
     ensures room { vec_capacity rows.old ≤ vec_capacity rows.new }
+    ensures all { IsTrue result ↔ length (rows_in parts.now.entries part range) < vec_capacity rows.old }
 {
-    let room = rows.capacity() as u64;
+    let room = rows.capacity();
     rows.clear();
-    let Ok(()) = parts.copy_rows(part, range, room, rows) else {
+    let Ok(()) = parts.copy_rows(part, range, room as u64, rows) else {
         unreachable!()
     };
+    rows.len() < room
 }
 
 impl Ord for Head {

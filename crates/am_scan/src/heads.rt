@@ -68,11 +68,8 @@ pub(crate) fn keep_least(head: &mut Head, others: &mut BinaryHeap<Head>)
     if *other <= *head {
         return;
     }
-    let Some(least) = others.pop() else {
+    let Some(mut least) = others.peek_mut() else {
         unreachable!()
     };
-    let passed = mem::replace(head, least);
-    let Ok(()) = others.push(passed) else {
-        unreachable!()
-    };
+    mem::swap(&mut *least, head);
 }

@@ -4,7 +4,7 @@ use Rattle.std.proofs.Common.{◌∙◌, ◌-◌, arith, length-append}
 use Rattle.std.specs.Prelude.{MatchBool, slice_get}
 use Rattle.std.proofs.lemmas.Option.{slice_get-get_or}
 use Rattle.std.proofs.Math.Seq.{get_or-append_seam}
-use Rattle.am_record.specs.Sessions.{IsAllowed, active_after}
+use Rattle.am_record.specs.Sessions.{active_after}
 use Rattle.am_record.specs.declared.step.Step.{Step}
 use Rattle.am_record.specs.declared.step.Step.TheVariants.{Begin, Do, Commit, Abort, Merge, Clean}
 use Rattle.am_record.specs.declared.step.Reply.{Reply}
@@ -14,7 +14,7 @@ use Rattle.am_record.specs.declared.step.Reply.TheVariants.{NoMark, Refused}
 use Rattle.am_latch.specs.declared.receipt.Receipt.{Receipt}
 use Rattle.am_engine.specs.declared.change.Change.TheVariants.{Ends}
 use Rattle.am_engine.specs.Changes.{change, open_after, is_stored, IsReplyTo, IsBoundedReply}
-use Rattle.am_latch.specs.Receipts.{SeatState, receipt, GetsReceipt, HasReceiptOf, commit_in, last_commit_of}
+use Rattle.am_latch.specs.Receipts.{SeatState, receipt, GetsReceipt, HasReceiptOf}
 use Rattle.am_latch.specs.Ties.{open_from, open_of}
 use Rattle.am_latch.specs.Ties.{EndsTx as IsEnded}
 use Rattle.am_talk.specs.Actions.{EndsAbort}

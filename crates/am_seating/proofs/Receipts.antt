@@ -1,25 +1,18 @@
 -- A session's receipts, event by event.
-use Rattle.std.proofs.Common.{◌≡◌, ℕ, List, [], ◌∷◌, ◌++◌, Bool, true, false, Option, Some, None, length, refl, sym, ap}
+use Rattle.std.proofs.Common.{◌≡◌, ℕ, [], ◌∷◌, ◌++◌, Bool, true, false, length, refl, sym, ap}
 use Rattle.std.proofs.Common.{subst, ◌∙◌, append_assoc, inl, inr, ⊎_elim, arith}
-use Rattle.std.specs.Prelude.{MatchBool, ◌==◌, cond, ◌⊎◌, max, nat_le}
+use Rattle.std.specs.Prelude.{MatchBool, cond, ◌⊎◌, max, nat_le}
 use Rattle.std.proofs.lemmas.Bool.{leb-true, leb-false}
 use Rattle.std.proofs.lemmas.List.{append-nil, map-append}
 use Rattle.std.proofs.lemmas.List.Elements.{filter-append}
 use Rattle.am_record.specs.declared.step.Step.{Step}
-use Rattle.am_record.specs.declared.step.Step.TheVariants.{Abort, Merge}
 use Rattle.am_record.specs.declared.step.Reply.{Reply}
-use Rattle.am_record.specs.declared.step.Reply.TheVariants.{Aborted, Committed}
+use Rattle.am_record.specs.declared.step.Reply.TheVariants.{Committed}
 use Rattle.am_serial.specs.Trace.{Trace}
 use Rattle.am_latch.specs.declared.receipt.Receipt.{Receipt}
 use Rattle.am_engine.specs.Changes.{is_stored}
 use Rattle.am_latch.specs.Receipts.{SeatState, GetsReceipt, receipt}
-use Rattle.am_talk.specs.Session.{staged_after}
-use Rattle.am_talk.specs.Dialogue.{Exchange}
-use Rattle.am_talk.specs.declared.action.Action.{Action}
-use Rattle.am_talk.specs.declared.action.Action.TheVariants.{Answer, Take, TellSeen}
-use Rattle.am_talk.specs.declared.response.Response.{Response}
-use Rattle.am_session.specs.Talk.{SessionPoint, AnswersAction, AnswersLine, Converses, Leaves, AnswersAll}
-use Rattle.am_session.specs.Talk.{AnswersOneMore}
+use Rattle.am_talk.proofs.Conversations.{HoldsOfSteps}
 use Rattle.am_seating.specs.SessionSeats.{SessionSeatState, published, MakesCall, seat_meaning, HasReceipts, taken}
 use Rattle.am_seating.specs.SessionSeats.{stored_events}
 use Rattle.am_words.specs.Words.{WordHistory}
@@ -97,12 +90,6 @@ behind s s' st r false h = (
       sym (append-nil (taken s.receipts)),
 )
 
-stayed : (old new : SessionPoint SessionSeatState) (events : Trace) → events ≡ [] → new ≡ old →
-    HasReceipts old.0 events new.0
-stayed old new events none same = subst (λ (es : Trace). HasReceipts old.0 es new.0) (sym none)
-    (like old.0 new.0 (ap (λ (p : SessionPoint SessionSeatState). p.0.seat) same)
-    (ap (λ (p : SessionPoint SessionSeatState). p.0.word_seat.published) same))
-
 went : (old new : SessionSeatState) (st : Step) (r : Reply) → MakesCall old st r new →
     HasReceipts old ((st, r) ∷ []) new
 went old new st r h =
@@ -114,55 +101,11 @@ went old new st r h =
           (publishes old.word_seat (taken old.seat.receipts) st r is);
     }
 
-answered : (old new : SessionPoint SessionSeatState) (due : Action) (response : Response) (events : Trace) →
-    AnswersAction seat_meaning old due response events new → HasReceipts old.0 events new.0
-answered old new (Answer due) response events h = stayed old new events h.1 h.2
-answered old new (Take step) response events h = subst (λ (es : Trace). HasReceipts old.0 es new.0) (sym h.3)
-    (went old.0 new.0 step h.0 h.1)
-answered old new TellSeen response events h = subst (λ (es : Trace). HasReceipts old.0 es new.0) (sym h.4)
-    (like old.0 new.0 (ap (λ (p : SessionSeatState). p.seat) h.2.saw)
-    (ap (λ (p : SessionSeatState). p.word_seat.published) h.2.saw))
-
-line : (old new : SessionPoint SessionSeatState) (e : Exchange) (events : Trace) → AnswersLine seat_meaning old e events
-    new → HasReceipts old.0 events new.0
-line old new e events h = answered (old.0, h.2.1) new h.2.0 e.1 events h.2.3
-
-merged : (auto : ℕ) (b : Bool) (old new : SessionPoint SessionSeatState) (events : Trace)
-    → MatchBool b ((events ≡ []) × (new ≡ old)) ((m : Reply) × MakesCall old.0 (Merge auto) m new.0 ×
-    (events ≡ (Merge auto, m) ∷ []) × (new.1 ≡ staged_after old.1 m)) → HasReceipts old.0 events new.0
-merged auto true old new events h = stayed old new events h.0 h.1
-merged auto false old new events h = subst (λ (es : Trace). HasReceipts old.0 es new.0) (sym h.2)
-    (went old.0 new.0 (Merge auto) h.0 h.1)
-
-converse : (auto : ℕ) (exchanges : List Exchange) (old new : SessionPoint SessionSeatState) (events : Trace) →
-    Converses seat_meaning auto old exchanges events new → HasReceipts old.0 events new.0
-converse auto [] old new events h = stayed old new events h.0 h.1
-converse auto (e ∷ exchanges) old new events (own, merges, later, mid, merging, answers, merge, rest, are) =
-    subst (λ (es : Trace). HasReceipts old.0 es new.0) (sym are)
-    (joined old.0 mid.0 new.0 own (merges ++ later) (line old mid e own answers)
-    (joined mid.0 merging.0 new.0 merges later (merged auto (auto == 0) mid merging merges merge)
-    (converse auto exchanges merging new later rest)))
-
-left : (tx : Option ℕ) (old new : SessionSeatState) (events : Trace) → Leaves seat_meaning tx old events new →
-    HasReceipts old events new
-left None old new events h = subst (λ (es : Trace). HasReceipts old es new) (sym h.0)
-    (like old new (ap (λ (p : SessionSeatState). p.seat) h.1)
-    (ap (λ (p : SessionSeatState). p.word_seat.published) h.1))
-left (Some tx) old new events h = subst (λ (es : Trace). HasReceipts old es new) (sym h.1)
-    (went old new (Abort tx) Aborted h.0)
-
-pub all : (auto : ℕ) (old new : SessionSeatState) (exchanges : List Exchange) (events : Trace) →
-    AnswersAll seat_meaning auto old exchanges events new → HasReceipts old events new
-all auto old new exchanges events h =
-    subst (λ (es : Trace). HasReceipts old es new) (sym h.are)
-    (joined old h.last.0 new h.own h.aborting (converse auto exchanges (old, []) h.last h.own h.converses)
-    (left _ h.last.0 new h.aborting h.leaves))
-
-pub one_more : (auto : ℕ) (old new : SessionSeatState) (exchanges : List Exchange) (more : Exchange) (events : Trace)
-    → AnswersOneMore seat_meaning auto old exchanges more events new → HasReceipts old events new
-one_more auto old new exchanges more events h =
-    subst (λ (es : Trace). HasReceipts old es new) (sym h.are)
-    (joined old h.before.0 new h.own (h.its ++ h.aborting) (converse auto exchanges (old, []) h.before h.own
-    h.converses)
-    (joined h.before.0 h.last.0 new h.its h.aborting (line h.before h.last more h.its h.answers)
-    (left _ h.last.0 new h.aborting h.leaves)))
+pub receipts_go : HoldsOfSteps seat_meaning HasReceipts
+receipts_go = record {
+  stays = λ s. like s s refl refl;
+  steps = went;
+  shows = λ old new number commits h. like old new (ap (λ (p : SessionSeatState). p.seat) h.saw)
+      (ap (λ (p : SessionSeatState). p.word_seat.published) h.saw);
+  joins = joined;
+}

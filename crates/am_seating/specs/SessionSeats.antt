@@ -9,7 +9,7 @@ use Rattle.am_engine.specs.Changes.{is_stored}
 use Rattle.am_latch.specs.Receipts.{SeatState, HasReceiptOf}
 use Rattle.am_latch.specs.Ties.{open_of}
 use Rattle.am_words.specs.Words.{WordHistory, most_draws}
-use Rattle.am_session.specs.Backends.{BackendMeaning}
+use Rattle.am_talk.specs.Backends.{BackendMeaning}
 
 pub record SessionSeatState : Type 0 where
   pub seat : SeatState

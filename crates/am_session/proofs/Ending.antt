@@ -1,30 +1,29 @@
 -- From where a line is awaited, with what was active aborted, to the end.
-use Rattle.std.proofs.Common.{inl, inr, ℕ, List, [], ◌++◌, refl, take, Option, ap, ◌∙◌, subst, append_assoc, append-nil}
-use Rattle.am_record.specs.declared.step.Step.{Step}
-use Rattle.am_record.specs.declared.step.Reply.{Reply}
+use Rattle.std.proofs.Common.{◌≡◌, inl, inr, ℕ, List, [], ◌++◌, refl, take, Option, Some, None, subst, append-nil}
 use Rattle.am_serial.specs.Trace.{Trace}
 use Rattle.am_stream.specs.Giving.{Gave}
 use Rattle.am_stream.proofs.Streams.{gave_then}
 use Rattle.am_talk.specs.Responses.{bye}
-use Rattle.am_session.specs.Talk.{SessionPoint, texts, Converses, AnswersAll}
-use Rattle.am_talk.specs.Dialogue.{Exchange}
-use Rattle.am_session.specs.Stops.{Talked, Left}
+use Rattle.am_talk.specs.Exchanges.{Exchange, texts}
+use Rattle.am_talk.specs.Backends.{BackendMeaning}
+use Rattle.am_talk.specs.Conversation.{SessionPoint, Converses, Leaves, AnswersAll}
+use Rattle.am_session.specs.Stops.{Talked}
 use Rattle.am_session.specs.declared.serving.Stop.TheVariants as stop
 use Rattle.am_session.specs.Served.{Served}
 use Rattle.am_session.specs.declared.end.End.TheVariants.{Quit, EndOfInput, ReadFailed, WriteFailed}
-use Rattle.am_session.specs.Backends.{BackendMeaning}
 
 module _ {S K B : Type 0} (comes : S → List ℕ → Type 0) (holds : K → Option (List ℕ)) (parts : B → K → K → Type 0)
     (means : BackendMeaning B) (auto : ℕ) (s s' : S) (k k' : K) (b : B) (last : SessionPoint B) (b' : B)
-    (left : Left means (means.active last.0) last.0 b') where
-  all_answered : (exchanges : List Exchange) (own : Trace) → Converses means auto (b, []) exchanges own last →
-      AnswersAll means auto b exchanges (own ++ left.0) b'
-  all_answered exchanges own c = record {
+    (active : Option ℕ) (known : active ≡ means.active last.0)
+    (left : (events : Trace) × Leaves means active last.0 events b') where
+  answered : (exchanges : List Exchange) (torn : Option Exchange) (own : Trace) →
+      Converses means auto (b, []) exchanges torn own last → AnswersAll means auto b exchanges torn (own ++ left.0) b'
+  answered exchanges torn own c = record {
     last = last;
     own = own;
     aborting = left.0;
     converses = c;
-    leaves = left.1;
+    leaves = subst (λ (tx : Option ℕ). Leaves means tx last.0 left.0 b') known left.1;
     are = refl;
   }
 
@@ -39,7 +38,7 @@ module _ {S K B : Type 0} (comes : S → List ℕ → Type 0) (holds : K → Opt
     no_quit = t.no_quit;
     lines = t.lines;
     gives = t.gives;
-    does = all_answered t.exchanges t.events t.does;
+    does = answered t.exchanges None t.events t.does;
   }
 
   pub ended_failed : Talked comes holds means auto s k (b, []) s' k' last stop.ReadFailed →
@@ -55,7 +54,7 @@ module _ {S K B : Type 0} (comes : S → List ℕ → Type 0) (holds : K → Opt
     no_quit = t.no_quit;
     lines = t.lines;
     gives = t.gives;
-    does = all_answered t.exchanges t.events t.does;
+    does = answered t.exchanges None t.events t.does;
   }
 
   pub ended_torn : Talked comes holds means auto s k (b, []) s' k' last stop.WriteFailed →
@@ -72,17 +71,7 @@ module _ {S K B : Type 0} (comes : S → List ℕ → Type 0) (holds : K → Opt
     no_quit = t.no_quit;
     lines = t.lines;
     gives = t.gives;
-    does = record {
-      before = t.does.before;
-      last = last;
-      own = t.does.own;
-      its = t.does.its;
-      aborting = left.0;
-      converses = t.does.converses;
-      answers = t.does.answers;
-      leaves = left.1;
-      are = ap (λ es. es ++ left.0) t.does.are ∙ append_assoc t.does.own t.does.its left.0;
-    };
+    does = answered t.exchanges (Some t.last) t.events t.does;
   })
 
   -- nothing was written for QUIT yet
@@ -103,7 +92,7 @@ module _ {S K B : Type 0} (comes : S → List ℕ → Type 0) (holds : K → Opt
     lines = t.lines;
     gives = gave_then holds k k' k'' (texts t.exchanges) bye (whole_texts t.exchanges t.gives) a;
     parts = (k', whole_texts t.exchanges t.gives, parted);
-    does = all_answered t.exchanges t.events t.does;
+    does = answered t.exchanges None t.events t.does;
   }
 
   pub ended_bye_torn : (k'' : K) → Talked comes holds means auto s k (b, []) s' k' last stop.Quit →
@@ -122,6 +111,6 @@ module _ {S K B : Type 0} (comes : S → List ℕ → Type 0) (holds : K → Opt
       lines = t.lines;
       gives = gave_then holds k k' k'' (texts t.exchanges) (take a.0 bye) (whole_texts t.exchanges t.gives) a.1;
       parts = (k', whole_texts t.exchanges t.gives, parted);
-      does = all_answered t.exchanges t.events t.does;
+      does = answered t.exchanges None t.events t.does;
     },
   )

@@ -2,7 +2,6 @@
 use Rattle.std.proofs.Common.{◌≡◌, ℕ, ◌==◌, Bool, [], ◌∷◌, Option, Some, None, true, false, refl, sym, ap, ◌∙◌, subst}
 use Rattle.std.proofs.Common.{⊎_elim}
 use Rattle.std.specs.Prelude.{MatchBool}
-use Rattle.am_record.specs.declared.step.Step.{Step}
 use Rattle.am_record.specs.declared.step.Step.TheVariants.{Merge}
 use Rattle.am_record.specs.declared.step.Reply.{Reply}
 use Rattle.am_serial.specs.Trace.{Trace}
@@ -17,9 +16,8 @@ use Rattle.am_talk.specs.declared.action.Action.{Action}
 use Rattle.am_talk.specs.declared.lines.ParsedLine.{ParsedLine}
 use Rattle.am_talk.specs.declared.lines.ParsedLine.TheVariants.{Asked}
 use Rattle.am_talk.specs.declared.response.Response.{Response}
-use Rattle.am_session.specs.Talk.{SessionPoint, AnswersParsed, AnswersLine}
-use Rattle.am_session.specs.Answering.{Merged}
-use Rattle.am_session.specs.Backends.{BackendMeaning}
+use Rattle.am_talk.specs.Backends.{BackendMeaning}
+use Rattle.am_talk.specs.Conversation.{SessionPoint, Stays, TakesStep, AnswersParsed, AnswersLine, MergesAfter}
 
 -- what brings records is no QUIT
 no_quit : (asked : Request) → brings_records asked ≡ true → is_quit (Asked asked) ≡ false
@@ -61,13 +59,11 @@ line_answered means old new line h response events may a = (h, may, a)
 -- the merge behind it
 pub merged_once : {B : Type 0} (means : BackendMeaning B) (auto : ℕ) (old new : SessionPoint B) (reply : Reply) →
     (auto == 0) ≡ false → means.steps old.0 (Merge auto) reply new.0 → new.1 ≡ staged_after old.1 reply →
-    Merged means auto old new
-merged_once means auto old new reply some went waits = (events, subst merges (sym some) (reply, went, refl, waits))
-  where
-    events : Trace
-    events = (Merge auto, reply) ∷ []
-
-    merges : Bool → Type 0
-    merges b = MatchBool b ((events ≡ []) × (new ≡ old))
-        ((merged : Reply) × means.steps old.0 (Merge auto) merged new.0 × (events ≡ (Merge auto, merged) ∷ []) ×
-        (new.1 ≡ staged_after old.1 merged))
+    (events : Trace) × MergesAfter means auto old events new
+merged_once means auto old new reply some went waits =
+    let events : Trace = (Merge auto, reply) ∷ [] in (
+      events,
+      subst (λ (b : Bool). MatchBool b (Stays means old events new)
+          ((merged : Reply) × TakesStep means old (Merge auto) merged events new)) (sym some)
+          (reply, (went, refl, waits)),
+    )

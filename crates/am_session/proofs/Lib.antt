@@ -3,6 +3,5 @@ pub mod Hearing
 pub mod Talking
 pub mod Ending
 pub mod Solos
-pub mod Needing
+pub mod Ends
 pub mod Speaking
-pub mod InMemory

@@ -30,12 +30,12 @@ use Rattle.am_record.specs.Numbered.{with_changed}
 use Rattle.am_record.proofs.Numbered.{has_number-push_own, has_number-with_changed}
 use Rattle.am_talk.specs.Session.{SessionState, session_after}
 use Rattle.am_talk.specs.Actions.{EndsAbort}
-use Rattle.am_talk.specs.Dialogue.{commits_after}
+use Rattle.am_talk.specs.Alone.{commits_after}
 use Rattle.am_session.specs.Solo.{IsOpen}
 
 -- ---- replies that begin and end nothing
 
-abbrev pub Plain : Reply → Type 0
+abbrev Plain : Reply → Type 0
 Plain r = (s : SessionState) → session_after s r ≡ s
 
 -- the same transaction is active
@@ -98,7 +98,7 @@ limit_plain limit r right plain = by_limit (is_limit limit)
     by_limit true is = plain is
     by_limit false is = subst Plain (sym is) (λ s. refl)
 
-pub merge_plain : (p : StoreState) (limit : ℕ) (r : Reply) → MayAnswer p (step.Merge limit) r → Plain r
+merge_plain : (p : StoreState) (limit : ℕ) (r : Reply) → MayAnswer p (step.Merge limit) r → Plain r
 merge_plain p limit r h = limit_plain limit r _ (merge_right_plain p.entries p.wishes _ limit r) h
 
 clean_plain : (p : StoreState) (range : Interval) (limit : ℕ) (r : Reply) → MayAnswer p (step.Clean range limit) r →

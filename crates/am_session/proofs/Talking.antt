@@ -1,9 +1,7 @@
 -- A session so far, and at each line that it waits for.
 use Rattle.std.proofs.Common.{◌≡◌, ◌⊎◌, ℕ, List, [], ◌∷◌, ◌++◌, append_assoc, append-nil, ap, sym, ◌∙◌, refl, take}
-use Rattle.std.proofs.Common.{true, false, Bool, Option, cond, inl, inr, subst}
+use Rattle.std.proofs.Common.{true, false, Bool, Option, Some, None, cond, inl, inr, subst}
 use Rattle.std.proofs.lemmas.List.{map-append}
-use Rattle.am_record.specs.declared.step.Step.{Step}
-use Rattle.am_record.specs.declared.step.Reply.{Reply}
 use Rattle.am_serial.specs.Trace.{Trace}
 use Rattle.am_stream.specs.Lines.{lines_of, TookLine, TookPart}
 use Rattle.am_stream.specs.Taking.{Took, TookAhead, IsAtEnd}
@@ -11,13 +9,13 @@ use Rattle.am_stream.specs.Giving.{Gave}
 use Rattle.am_stream.proofs.Streams.{took_then, gave_then}
 use Rattle.am_talk.specs.ParsedLine.{Line, parsed, is_quit, before_quit, quits}
 use Rattle.am_talk.specs.Responses.{response_text}
-use Rattle.am_talk.specs.Dialogue.{Exchange}
-use Rattle.am_session.specs.Talk.{SessionPoint, asked, texts, AnswersLine, MergesAfter, Converses}
+use Rattle.am_talk.specs.Exchanges.{Exchange, asked, texts}
+use Rattle.am_talk.specs.Backends.{BackendMeaning}
+use Rattle.am_talk.specs.Conversation.{SessionPoint, AnswersLine, MergesAfter, AnswersTorn, Converses}
 use Rattle.am_session.specs.Served.{IsEnded, AsksFor}
 use Rattle.am_session.specs.Stops.{Talked}
 use Rattle.am_session.specs.declared.serving.Stop.TheVariants.{Quit, EndOfInput, ReadFailed, WriteFailed}
 use Rattle.am_session.proofs.Streams.{took_total, appends_none}
-use Rattle.am_session.specs.Backends.{BackendMeaning}
 
 -- whole lines were read and answered, none of them QUIT
 pub record Talks {S K B : Type 0} (comes : S → List ℕ → Type 0) (holds : K → Option (List ℕ)) (means : BackendMeaning B)
@@ -33,8 +31,9 @@ pub record Talks {S K B : Type 0} (comes : S → List ℕ → Type 0) (holds : K
     pub cut : (more : List ℕ) → lines_of (read ++ more) ≡ done ++ lines_of more
     pub before : (more : List Line) → before_quit (done ++ more) ≡ done ++ before_quit more
     pub quitting : (more : List Line) → quits (done ++ more) ≡ quits more
-    pub said : (more : List Exchange) (later : Trace) (end : SessionPoint B) → Converses means auto b more later end →
-        Converses means auto b0 (exchanges ++ more) (events ++ later) end
+    pub said : (more : List Exchange) (torn : Option Exchange) (later : Trace) (end : SessionPoint B) →
+        Converses means auto b more torn later end → Converses means auto b0 (exchanges ++ more) torn (events ++ later)
+        end
 
 pub texts-append : (xs ys : List Exchange) → texts (xs ++ ys) ≡ texts xs ++ texts ys
 texts-append [] ys = refl
@@ -65,7 +64,7 @@ module _ {S K B : Type 0} (comes : S → List ℕ → Type 0) (holds : K → Opt
     cut = λ more. refl;
     before = λ more. refl;
     quitting = λ more. refl;
-    said = λ more later end h. h;
+    said = λ more torn later end h. h;
   }
 
   pub talk_more : (s0 s s' : S) (k0 k k' : K) (b0 b answered merging : SessionPoint B) (w w' : List ℕ) (e : Exchange)
@@ -89,8 +88,8 @@ module _ {S K B : Type 0} (comes : S → List ℕ → Type 0) (holds : K → Opt
         sym (append_assoc t.done (e.0 ∷ []) (before_quit more));
     quitting = λ more. ap quits (append_assoc t.done (e.0 ∷ []) more) ∙ t.quitting (e.0 ∷ more) ∙
         ap (λ x. cond x true (quits more)) q;
-    said = λ more later end h.
-        let next = t.said (e ∷ more) (own ++ (merged ++ later)) end (
+    said = λ more torn later end h.
+        let next = t.said (e ∷ more) torn (own ++ (merged ++ later)) end (
           own,
           merged,
           later,
@@ -101,9 +100,9 @@ module _ {S K B : Type 0} (comes : S → List ℕ → Type 0) (holds : K → Opt
           h,
           refl,
         ) in
-        let with_exchange = subst (λ (x : List Exchange). Converses means auto b0 x
+        let with_exchange = subst (λ (x : List Exchange). Converses means auto b0 x torn
         (t.events ++ (own ++ (merged ++ later))) end) (sym (append_assoc t.exchanges (e ∷ []) more)) next in
-        subst (λ (x : Trace). Converses means auto b0 ((t.exchanges ++ e ∷ []) ++ more) x end)
+        subst (λ (x : Trace). Converses means auto b0 ((t.exchanges ++ e ∷ []) ++ more) torn x end)
         (ap (λ x. t.events ++ x) (sym (append_assoc own merged later)) ∙
         sym (append_assoc t.events (own ++ merged) later)) with_exchange;
   }
@@ -113,12 +112,13 @@ module _ {S K B : Type 0} (comes : S → List ℕ → Type 0) (holds : K → Opt
       lines_of t.read ≡ t.done
   all_of s0 s k0 k b0 b w t = ap lines_of (sym (append-nil t.read)) ∙ t.cut [] ∙ append-nil t.done
 
-  -- they were answered by the exchanges
-  said_all : (s0 s : S) (k0 k : K) (b0 b : SessionPoint B) (w : List ℕ) (t : So s0 k0 b0 w s k b) →
-      Converses means auto b0 t.exchanges t.events b
-  said_all s0 s k0 k b0 b w t = subst (λ (z : List Exchange). Converses means auto b0 z t.events b)
-      (append-nil t.exchanges) (subst (λ (z : Trace). Converses means auto b0 (t.exchanges ++ []) z b)
-      (append-nil t.events) (t.said [] [] b (refl, refl)))
+  -- they were answered by the exchanges, and a torn answer may follow
+  said_all : (s0 s : S) (k0 k : K) (b0 b : SessionPoint B) (w : List ℕ) (t : So s0 k0 b0 w s k b)
+      (torn : Option Exchange) (its : Trace) (b' : SessionPoint B) → AnswersTorn means b torn its b' →
+      Converses means auto b0 t.exchanges torn (t.events ++ its) b'
+  said_all s0 s k0 k b0 b w t torn its b' a =
+      subst (λ (z : List Exchange). Converses means auto b0 z torn (t.events ++ its) b')
+      (append-nil t.exchanges) (t.said [] torn its b' a)
 
   asks_of : (s0 s : S) (k0 k : K) (b0 b : SessionPoint B) (w : List ℕ) (t : So s0 k0 b0 w s k b) →
       AsksFor t.read t.exchanges
@@ -136,14 +136,14 @@ module _ {S K B : Type 0} (comes : S → List ℕ → Type 0) (holds : K → Opt
   talk_end s0 s s' k0 k b0 b w w' t f e = record {
     read = t.read;
     exchanges = t.exchanges;
-    events = t.events;
+    events = t.events ++ [];
     takes = took_total comes s0 s' (t.read ++ []) w' t.read (took_then comes [] w w' s0 s s' t.read [] t.took f)
         (ap (λ z. (t.read ++ []) ++ z) e.0 ∙ append-nil (t.read ++ []) ∙ append-nil t.read);
     done = e.1;
     no_quit = quits_of s0 s k0 k b0 b w t;
     lines = asks_of s0 s k0 k b0 b w t;
     gives = t.gave;
-    does = said_all s0 s k0 k b0 b w t;
+    does = said_all s0 s k0 k b0 b w t None [] b (refl, refl);
   }
 
   -- the source failed within a line
@@ -154,7 +154,7 @@ module _ {S K B : Type 0} (comes : S → List ℕ → Type 0) (holds : K → Opt
     read = t.read;
     part = l.0;
     exchanges = t.exchanges;
-    events = t.events;
+    events = t.events ++ [];
     takes = took_total comes s0 s' (t.read ++ l.0) w' (t.read ++ l.0) (took_then comes [] w w' s0 s s' t.read l.0 t.took
         l.2) (ap (λ z. (t.read ++ l.0) ++ z) e ∙ append-nil (t.read ++ l.0));
     ended = λ more. t.cut more ∙ ap (λ z. z ++ lines_of more) (sym (all_of s0 s k0 k b0 b w t));
@@ -162,7 +162,7 @@ module _ {S K B : Type 0} (comes : S → List ℕ → Type 0) (holds : K → Opt
     no_quit = quits_of s0 s k0 k b0 b w t;
     lines = asks_of s0 s k0 k b0 b w t;
     gives = t.gave;
-    does = said_all s0 s k0 k b0 b w t;
+    does = said_all s0 s k0 k b0 b w t None [] b (refl, refl);
   }
 
   -- a line that was taken is the only one of its bytes
@@ -204,7 +204,7 @@ module _ {S K B : Type 0} (comes : S → List ℕ → Type 0) (holds : K → Opt
       read = t.read ++ l.0;
       waiting = w';
       exchanges = t.exchanges;
-      events = t.events;
+      events = t.events ++ [];
       takes = took_more;
       whole = whole_of s s' w w' line ended l t.read t.done t.cut;
       quit = ap quits lines_more ∙ t.quitting (line ∷ []) ∙ ap (λ x. cond x true false) q;
@@ -212,7 +212,7 @@ module _ {S K B : Type 0} (comes : S → List ℕ → Type 0) (holds : K → Opt
           q ∙ append-nil t.done);
       gives = subst (λ (x : List ℕ). Gave holds k0 x k) (sym (append-nil (texts t.exchanges))) t.gave;
       parts = tt;
-      does = said_all s0 s k0 k b0 b w t;
+      does = said_all s0 s k0 k b0 b w t None [] b (refl, refl);
     }
 
   -- a line was read, and not wholly answered
@@ -233,14 +233,7 @@ module _ {S K B : Type 0} (comes : S → List ℕ → Type 0) (holds : K → Opt
     no_quit = quits_more s0 s s' k0 k b0 b w w' e.0 ended t l q;
     lines = asked-one t.exchanges t.done e t.asks ∙ sym (before_more s0 s s' k0 k b0 b w w' e.0 ended t l q);
     gives = gave_then holds k0 k k' (texts t.exchanges) (take n (response_text e.1)) t.gave g;
-    does = record {
-      before = b;
-      own = t.events;
-      its = its;
-      converses = said_all s0 s k0 k b0 b w t;
-      answers = a;
-      are = refl;
-    };
+    does = said_all s0 s k0 k b0 b w t (Some e) its b' a;
   }
 
   -- the last line, which no LF ended, was read and answered
@@ -260,7 +253,7 @@ module _ {S K B : Type 0} (comes : S → List ℕ → Type 0) (holds : K → Opt
     lines = asked-one t.exchanges t.done e t.asks ∙ sym (before_more s0 s s' k0 k b0 b w w' e.0 false t l q);
     gives = subst (λ (x : List ℕ). Gave holds k0 x k') (texts-one t.exchanges e)
         (gave_then holds k0 k k' (texts t.exchanges) (response_text e.1) t.gave g);
-    does = t.said (e ∷ []) (own ++ (merged ++ [])) merging (
+    does = t.said (e ∷ []) None (own ++ (merged ++ [])) merging (
       own,
       merged,
       [],

@@ -1,5 +1,3 @@
-pub mod Backends
-pub mod Talk
 pub mod Answering
 pub mod Served
 pub mod Stops

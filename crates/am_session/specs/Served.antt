@@ -1,14 +1,14 @@
 -- What a session did, by its end: which bytes it read, which text it wrote, and where it left its backend.
-use Rattle.std.specs.Prelude.{◌≡◌, ℕ, List, [], ◌∷◌, ◌++◌, true, false, Option, take, ◌⊎◌}
+use Rattle.std.specs.Prelude.{◌≡◌, ℕ, List, [], ◌∷◌, ◌++◌, true, false, Option, Some, None, take, ◌⊎◌}
 use Rattle.am_stream.specs.Lines.{lines_of, HasNoLf}
 use Rattle.am_stream.specs.Taking.{Took}
 use Rattle.am_stream.specs.Giving.{Gave}
 use Rattle.am_serial.specs.Trace.{Trace}
 use Rattle.am_talk.specs.ParsedLine.{before_quit, quits}
 use Rattle.am_talk.specs.Responses.{bye, response_text}
-use Rattle.am_talk.specs.Dialogue.{Exchange}
-use Rattle.am_session.specs.Talk.{asked, texts, AnswersAll, AnswersOneMore}
-use Rattle.am_session.specs.Backends.{BackendMeaning}
+use Rattle.am_talk.specs.Exchanges.{Exchange, asked, texts}
+use Rattle.am_talk.specs.Backends.{BackendMeaning}
+use Rattle.am_talk.specs.Conversation.{AnswersAll}
 use Rattle.am_session.specs.declared.serving.Stop.{Stop}
 use Rattle.am_session.specs.declared.serving.Stop.TheVariants as stop
 use Rattle.am_session.specs.declared.end.End.{End}
@@ -22,10 +22,10 @@ IsEnded bytes = (more : List ℕ) → lines_of (bytes ++ more) ≡ lines_of byte
 abbrev pub AsksFor : List ℕ → List Exchange → Type 0
 AsksFor read exchanges = asked exchanges ≡ before_quit (lines_of read)
 
--- By these bytes were taken, by these given, behind which BYE was said, and whether nothing more comes; by exchanges
--- with their events, or with one exchange more, whose answer was torn; and by where a session is left that did nothing.
-module _ (took gave parted : List ℕ → Type 0) (nothing_comes : Type 0) (answers : List Exchange → Trace → Type 0)
-    (answers_more : List Exchange → Exchange → Trace → Type 0) (untouched : Type 0) where
+-- By these bytes were taken, by these given, behind which BYE was said, and whether nothing more comes; by exchanges,
+-- the one whose answer was torn, if one was, and their events; and by where a session is left that did nothing.
+module _ (took gave parted : List ℕ → Type 0) (nothing_comes : Type 0)
+    (answers : List Exchange → Option Exchange → Trace → Type 0) (untouched : Type 0) where
   -- the bytes are whole lines, or all that comes
   abbrev pub AreWhole : List ℕ → List ℕ → Type 0
   AreWhole read waiting = IsEnded read ⊎ ((waiting ≡ []) × nothing_comes)
@@ -42,7 +42,7 @@ module _ (took gave parted : List ℕ → Type 0) (nothing_comes : Type 0) (answ
     pub lines : AsksFor read exchanges
     pub gives : gave (texts exchanges ++ farewell)
     pub parts : parted (texts exchanges)
-    pub does : answers exchanges events
+    pub does : answers exchanges None events
 
   -- every line was answered, and nothing more comes
   pub record EndedThere : Type 0 where
@@ -54,7 +54,7 @@ module _ (took gave parted : List ℕ → Type 0) (nothing_comes : Type 0) (answ
     pub no_quit : quits (lines_of read) ≡ false
     pub lines : AsksFor read exchanges
     pub gives : gave (texts exchanges)
-    pub does : answers exchanges events
+    pub does : answers exchanges None events
 
   -- every line that was ended was answered; what else was taken begins one line
   pub record ReadFailedThere : Type 0 where
@@ -68,7 +68,7 @@ module _ (took gave parted : List ℕ → Type 0) (nothing_comes : Type 0) (answ
     pub no_quit : quits (lines_of read) ≡ false
     pub lines : AsksFor read exchanges
     pub gives : gave (texts exchanges)
-    pub does : answers exchanges events
+    pub does : answers exchanges None events
 
   -- the answer to the last line that was read was torn, or couldn't be sent on; all others were given whole
   pub record AnswerTorn : Type 0 where
@@ -83,7 +83,7 @@ module _ (took gave parted : List ℕ → Type 0) (nothing_comes : Type 0) (answ
     pub no_quit : quits (lines_of read) ≡ false
     pub lines : AsksFor read (exchanges ++ last ∷ [])
     pub gives : gave (texts exchanges ++ take count (response_text last.1))
-    pub does : answers_more exchanges last events
+    pub does : answers exchanges (Some last) events
 
   pub record NothingDone : Type 0 where
     pub takes : took []
@@ -115,9 +115,7 @@ abbrev pub Served : {S K B : Type 0} → (S → List ℕ → Type 0) → (K → 
 Served comes holds parts means auto s k b s' k' b' end =
     EndsBy (λ bytes. Took comes s bytes s') (λ text. Gave holds k text k') (PartsBehind holds parts k k' b')
     (comes s' [])
-    (λ exchanges events. AnswersAll means auto b exchanges events b')
-    (λ exchanges last events. AnswersOneMore means auto b exchanges last events b')
-    (b' ≡ b) end
+    (λ exchanges torn events. AnswersAll means auto b exchanges torn events b') (b' ≡ b) end
 
 -- how often the source and the sink failed
 abbrev pub read_failures : End → ℕ

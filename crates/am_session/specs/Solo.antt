@@ -13,9 +13,9 @@ use Rattle.am_sound.specs.StoreState.{StoreState, empty_state, is_in, MayAnswer,
 use Rattle.am_core.specs.Keeping.{state_code}
 use Rattle.am_core.specs.Memory.{may_want_memory}
 use Rattle.am_core.specs.Standing.{Extends}
-use Rattle.am_session.specs.Backends.{BackendMeaning}
-use Rattle.am_talk.specs.Session.{at_start}
-use Rattle.am_talk.specs.Dialogue.{Exchange, Ends, Dialogue}
+use Rattle.am_talk.specs.Exchanges.{Exchange, with_torn}
+use Rattle.am_talk.specs.Backends.{BackendMeaning}
+use Rattle.am_talk.specs.Alone.{AnswersAlone}
 use Rattle.am_talk.specs.Responses.{response_text}
 use Rattle.am_talk.specs.Say.{Says}
 use Rattle.am_wire.specs.Replies.{IsOneLine}
@@ -58,13 +58,13 @@ SoloShows old session commits new = (session ≡ 0) × (commits ≡ old.kept.com
 abbrev pub solo_meaning : BackendMeaning Solo
 solo_meaning = record { active = λ s. s.active; steps = SoloSteps; shows = SoloShows }
 
--- The exchanges and events of a session alone, which ends in this way: the events are a sound trace, with every merge
--- and clean right, and a legal one; each response is one line, and all of them are those that are said, but where
--- memory was refused. The store refused memory only to steps that may want it.
-pub record IsSpoken (auto : ℕ) (ends : Ends) (exchanges all : List Exchange) (trace : Trace) : Type 0 where
-  pub dialogue : Dialogue auto ends (at_start, 0) exchanges trace
+-- The exchanges and events of a session alone, with the one whose answer was torn, if one was: the events are a sound
+-- trace, with every merge and clean right, and a legal one; each response is one line, and all of them are those that
+-- are said, but where memory was refused. The store refused memory only to steps that may want it.
+pub record IsSpoken (auto : ℕ) (exchanges : List Exchange) (torn : Option Exchange) (trace : Trace) : Type 0 where
+  pub answers : AnswersAlone auto exchanges torn trace
   pub sound : IsSoundStore trace
   pub legal : IsLegal trace
-  pub says : Says all
+  pub says : Says (with_torn exchanges torn)
   pub memory : EachRefusesForNeed empty_state trace
-  pub lines : All (λ (e : Exchange). IsOneLine (response_text e.1)) all
+  pub lines : All (λ (e : Exchange). IsOneLine (response_text e.1)) (with_torn exchanges torn)

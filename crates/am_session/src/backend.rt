@@ -3,7 +3,7 @@
 ghost use Rattle.std.specs.Prelude.{◌≡◌};
 ghost use Rattle.am_record.specs.Sessions.{IsAllowed, active_after};
 ghost use Rattle.am_talk.specs.Actions.{EndsAbort};
-ghost use Rattle.am_session.specs.Backends.{BackendMeaning};
+ghost use Rattle.am_talk.specs.Backends.{BackendMeaning};
 
 use am_record::{Reply, Step};
 use std::sync::Wait;

@@ -7,7 +7,9 @@ ghost use Rattle.am_stream.specs.Lines.{has_lf, TookLine, TookPart};
 ghost use Rattle.am_stream.specs.Seen.{seen};
 ghost use Rattle.am_stream.specs.Taking.{TookAhead, IsAtEnd};
 ghost use Rattle.am_talk.specs.Responses.{response_text};
-ghost use Rattle.am_session.specs.Answering.{Responds, AnswersLine, Torn, Merged};
+ghost use Rattle.am_serial.specs.Trace.{Trace};
+ghost use Rattle.am_talk.specs.Conversation.{AnswersParsed, MergesAfter};
+ghost use Rattle.am_session.specs.Answering.{GivesAnswer, GivesTorn};
 
 use crate::backend::Backend;
 use am_record::Step;
@@ -50,7 +52,7 @@ fn respond<W: Wait, B: Backend>(
     parsed: ParsedLine,
 ) -> Response
     requires { B.means.active backend.old ≡ session.old.active }
-    ensures responds { Responds B.means (backend.old, session.old.staged) parsed result
+    ensures responds { (events : Trace) × AnswersParsed B.means (backend.old, session.old.staged) parsed result events
         (backend.new, session.new.staged) }
     ensures active { B.means.active backend.new ≡ session.new.active }
 {
@@ -97,12 +99,12 @@ pub(crate) fn answer<W: Wait, K: Sink, B: Backend>(
     requires countable { K.failures sink.old < 2 ^ 63 }
     requires active { B.means.active backend.old ≡ session.old.active }
     ensures active { B.means.active backend.new ≡ session.new.active }
-    ensures answered { OnOk result (AnswersLine K.holds B.means sink.old
+    ensures answered { OnOk result (GivesAnswer K.holds B.means sink.old
         (backend.old, session.old.staged) parsed sink.new (backend.new, session.new.staged)) }
     ensures sent { OnOk result (has_lf input.now ≡ false → K.pending sink.new ≡ false) }
     ensures ok { OnOk result (K.failures sink.new ≡ K.failures sink.old) }
     ensures failed { OnErr result (K.failures sink.new ≡ K.failures sink.old + 1) }
-    ensures torn { OnErr result (Torn K.holds B.means sink.old
+    ensures torn { OnErr result (GivesTorn K.holds B.means sink.old
         (backend.old, session.old.staged) parsed sink.new (backend.new, session.new.staged)) }
 {
     let response = respond(rt, backend, session, parsed);
@@ -112,7 +114,7 @@ pub(crate) fn answer<W: Wait, K: Sink, B: Backend>(
 /// Merges once, unless `auto` is 0.
 pub(crate) fn merge<W: Wait, B: Backend>(rt: &W, backend: &mut B, session: &mut Session, auto: u64)
     requires { B.means.active backend.old ≡ session.old.active }
-    ensures merged { Merged B.means auto (backend.old, session.old.staged)
+    ensures merged { (events : Trace) × MergesAfter B.means auto (backend.old, session.old.staged) events
         (backend.new, session.new.staged) }
     ensures active { B.means.active backend.new ≡ session.new.active }
 {

@@ -2,7 +2,9 @@
 
 ghost use Rattle.std.specs.Prelude.{◌≡◌, ◌+◌, ◌^◌, ◌<◌, ◌≤◌, [], false, Option, Some, None};
 ghost use Rattle.am_session.specs.Served.{Served, read_failures, write_failures, IsSentOn};
-ghost use Rattle.am_session.specs.Stops.{Talked, Left, reads_failed, writes_failed, IsSentBy};
+ghost use Rattle.am_serial.specs.Trace.{Trace};
+ghost use Rattle.am_talk.specs.Conversation.{Leaves};
+ghost use Rattle.am_session.specs.Stops.{Talked, reads_failed, writes_failed, IsSentBy};
 
 use crate::backend::Backend;
 use crate::conversation::{answer, merge, next_line};
@@ -72,7 +74,7 @@ fn talk<W: Wait, K: Sink, S: AnsweredSource<K>, B: Backend>(
 // Aborts the transaction that is active, if one is.
 fn leave<W: Wait, B: Backend>(rt: &W, backend: &mut B, active: Option<u64>)
     requires { B.means.active backend.old ≡ active }
-    ensures left { Left B.means active backend.old backend.new }
+    ensures left { (events : Trace) × Leaves B.means active backend.old events backend.new }
     ensures none { B.means.active backend.new ≡ None }
 {
     if let Some(tx) = active {

@@ -1,11 +1,12 @@
 -- Each answer of a dialogue is one line: what the store tells was read from lines.
-use Rattle.std.proofs.Common.{◌≡◌, inl, inr, cond, ℕ, ◌==◌, List, [], ◌∷◌, ◌++◌, Bool, true, false, Option, Some, None}
-use Rattle.std.proofs.Common.{Result, Ok, Err, refl, sym, subst}
-use Rattle.std.specs.Prelude.{MatchBool, codes, decimal}
+use Rattle.std.proofs.Common.{◌≡◌, inl, inr, cond, ℕ, List, [], ◌∷◌, ◌++◌, Bool, true, false, Option, Some, None}
+use Rattle.std.proofs.Common.{Result, Ok, Err, refl, sym, ap, subst, append_assoc}
+use Rattle.std.specs.Prelude.{codes, decimal}
 use Rattle.std.specs.List.{AllByRecursion}
 use Rattle.am_record.specs.Records.{Records}
 use Rattle.am_record.specs.declared.step.Op.{Op}
 use Rattle.am_record.specs.declared.step.Op.TheVariants as op
+use Rattle.am_record.specs.declared.step.Step.{Step}
 use Rattle.am_record.specs.declared.step.Step.TheVariants as step
 use Rattle.am_record.specs.declared.step.Reply.{Reply}
 use Rattle.am_record.specs.declared.step.Reply.TheVariants as reply
@@ -26,7 +27,9 @@ use Rattle.am_talk.specs.Session.{SessionState, staged_after}
 use Rattle.am_talk.specs.Actions.{may_wait, with_staged, staged_left, commit_action, request_action, action_for}
 use Rattle.am_talk.specs.Actions.{no_room, staged_asked, session_behind_line, IsActionFor}
 use Rattle.am_talk.specs.Responses.{response_text, line}
-use Rattle.am_talk.specs.Dialogue.{Exchange, Standing, AnsweredBy, AnswersLine, Merges, Ends, Whole, TornAt, Dialogue}
+use Rattle.am_talk.specs.Exchanges.{Exchange}
+use Rattle.am_talk.specs.Backends.{BackendMeaning}
+use Rattle.am_talk.specs.Conversation.{SessionPoint, session_at, TakesStep, AnswersAction, AnswersLine}
 use Rattle.am_talk.specs.declared.lines.ParsedLine.{ParsedLine}
 use Rattle.am_talk.specs.declared.lines.ParsedLine.TheVariants as said
 use Rattle.am_talk.specs.declared.action.Action.{Action}
@@ -34,6 +37,7 @@ use Rattle.am_talk.specs.declared.action.Action.TheVariants.{Answer, Take, TellS
 use Rattle.am_talk.specs.declared.response.Response.{Response}
 use Rattle.am_talk.specs.declared.response.Response.TheVariants.{TooLong, Faulty, NoTransaction, Active, Staged}
 use Rattle.am_talk.specs.declared.response.Response.TheVariants.{TooManyStaged, StillStaged, Replied, Seen}
+use Rattle.am_talk.proofs.Conversations.{Between, HoldsOfLines}
 use Rattle.am_talk.proofs.VisibleMaps.{all_append}
 use Rattle.am_talk.proofs.VisibleStores.{IsVisibleStore, IsVisibleStep, after_visible, tells_visible}
 
@@ -219,91 +223,86 @@ due_visible s (Some text) h what here v may d = told_visible s text may.0 what h
 
 -- ---- exchanges
 
--- the response is a line, and the session and the store go on visibly
-record GoesOn (response : Response) (rest : Trace) (at' : Standing) : Type 0 where
-  to : Store
-  visible : IsVisibleStore to
-  waits : AreVisible at'.0.staged
-  follows : Follows to rest
-  line : IsLine response
-
-answered : (s : Store) (at : Standing) (d : Action) (response : Response) (own rest : Trace) (at' : Standing) →
-    IsVisibleDue d → AreVisible at.0.staged → IsVisibleStore s → AnsweredBy at d response own at' →
-    Follows s (own ++ rest) → GoesOn response rest at'
-answered s at (Answer known) response own rest at' v w h a f = record {
-  to = s;
-  visible = h;
-  waits = subst (λ (x : Standing). AreVisible x.0.staged) (sym a.2) w;
-  follows = subst (λ (x : Trace). Follows s (x ++ rest)) a.1 f;
-  line = subst IsLine (sym a.0) v;
-}
-answered s at (Take what) response own rest at' v w h a f =
-    let step : Follows s ((what, a.0) ∷ rest) = subst (λ (x : Trace). Follows s (x ++ rest)) a.2 f in
-    record {
-      to = after_step s what a.0;
-      visible = after_visible s what a.0 v h;
-      waits = subst (λ (x : Standing). AreVisible x.0.staged) (sym a.3) (after_reply at.0.staged a.0 w);
-      follows = step.1;
-      line = subst IsLine (sym a.1) (reply_line a.0 (tells_visible s what a.0 v h step.0));
-    }
-answered s at TellSeen response own rest at' v w h a f = record {
-  to = s;
-  visible = h;
-  waits = subst (λ (x : Standing). AreVisible x.0.staged) (sym a.2) w;
-  follows = subst (λ (x : Trace). Follows s (x ++ rest)) a.1 f;
-  line = subst IsLine (sym a.0) (seen_line 0 at.1);
-}
-
-answered_line : (s : Store) (at : Standing) (e : Exchange) (own rest : Trace) (at' : Standing) → IsVisibleStore s →
-    AreVisible at.0.staged → AnswersLine at e own at' → Follows s (own ++ rest) → GoesOn e.1 rest at'
-answered_line s at e own rest at' h w a f =
-    let action_for : GoesVisibly a.1 a.2 = due_visible at.0 e.0 a.0 a.1 a.2 w a.3 a.4 in
-    answered s (a.2, at.1) a.1 e.1 own rest at' action_for.0 action_for.1 h a.5 f
-
--- a merge may follow
-record Merged (later : Trace) : Type 0 where
-  to : Store
-  visible : IsVisibleStore to
-  follows : Follows to later
-
-merged_between : (auto : ℕ) (s : Store) (rest later : Trace) → IsVisibleStore s → Merges auto rest later →
-    Follows s rest → Merged later
-merged_between auto s rest later h = by_auto (auto == 0)
-  where
-    by_auto : (b : Bool) → MatchBool b (rest ≡ later) ((merged : Reply) × (rest ≡ (step.Merge auto, merged) ∷ later)) →
-        Follows s rest → Merged later
-    by_auto true same f = record { to = s; visible = h; follows = subst (Follows s) same f }
-    by_auto false event f = record {
-      to = after_step s (step.Merge auto) event.0;
-      visible = after_visible s (step.Merge auto) event.0 tt h;
-      follows = (subst (Follows s) event.1 f).1;
-    }
-
--- ---- all of them
+-- the store goes on visibly, and so does what waits
+pub record Visibly (waiting : Records) (rest : Trace) : Type 0 where
+  pub to : Store
+  pub visible : IsVisibleStore to
+  pub waits : AreVisible waiting
+  pub follows : Follows to rest
 
 abbrev pub AreLines : List Exchange → Type 0
 AreLines exchanges = AllByRecursion (λ (e : Exchange). IsOneLine (response_text e.1)) exchanges
 
--- what a dialogue's end says of the last responses
-abbrev EndsInLines : Ends → List Exchange → Type 0
-EndsInLines ends tail = (s : Store) (at : Standing) (trace : Trace) → IsVisibleStore s → AreVisible at.0.staged →
-    Follows s trace → ends at trace → AreLines tail
+-- and the responses are lines
+abbrev pub Tells : {B : Type 0} → Between B
+Tells old exchanges events new = (rest : Trace) → Visibly old.1 (events ++ rest) →
+    AreLines exchanges × Visibly new.1 rest
 
-pub whole_lines : EndsInLines Whole []
-whole_lines s at trace h w f ended = tt
+module _ {B : Type 0} (means : BackendMeaning B) where
+  -- a visible step, which the store may answer so
+  steps : (old new : SessionPoint B) (step : Step) (reply : Reply) (events rest : Trace) → IsVisibleStep step →
+      TakesStep means old step reply events new → Visibly old.1 (events ++ rest) →
+      IsLine (Replied reply) × Visibly new.1 rest
+  steps old new step reply events rest is takes v =
+      let may : Follows v.to ((step, reply) ∷ rest) =
+      subst (λ (es : Trace). Follows v.to (es ++ rest)) takes.1 v.follows in (
+        reply_line reply (tells_visible v.to step reply is v.visible may.0),
+        record {
+          to = after_step v.to step reply;
+          visible = after_visible v.to step reply is v.visible;
+          waits = subst AreVisible (sym takes.2) (after_reply old.1 reply v.waits);
+          follows = may.1;
+        },
+      )
 
-pub torn_lines : (last : Exchange) → EndsInLines (TornAt last) (last ∷ [])
-torn_lines last s at trace h w f d =
-    let on : GoesOn last.1 d.1 d.2 = answered_line s at last d.0 d.1 d.2 h w d.3 (subst (Follows s) d.4 f) in
-    (on.line, tt)
+  -- nothing is done
+  rests : (old new : SessionPoint B) (events rest : Trace) → events ≡ [] → new.1 ≡ old.1 →
+      Visibly old.1 (events ++ rest) → Visibly new.1 rest
+  rests old new events rest none same v = record {
+    to = v.to;
+    visible = v.visible;
+    waits = subst AreVisible (sym same) v.waits;
+    follows = subst (λ (es : Trace). Follows v.to (es ++ rest)) none v.follows;
+  }
 
-pub dialogue_lines : (auto : ℕ) (ends : Ends) (tail : List Exchange) → EndsInLines ends tail →
-    (exchanges : List Exchange) (s : Store) (at : Standing) (trace : Trace) → IsVisibleStore s →
-    AreVisible at.0.staged →
-    Follows s trace →
-    Dialogue auto ends at exchanges trace → AreLines (exchanges ++ tail)
-dialogue_lines auto ends tail ending [] s at trace h w f d = ending s at trace h w f d
-dialogue_lines auto ends tail ending (e ∷ exchanges) s at trace h w f d =
-    let on : GoesOn e.1 d.1 d.3 = answered_line s at e d.0 d.1 d.3 h w d.4 (subst (Follows s) d.5 f) in
-    let next : Merged d.2 = merged_between auto on.to d.1 d.2 on.visible d.6 on.follows in
-    (on.line, dialogue_lines auto ends tail ending exchanges next.to d.3 d.2 next.visible on.waits next.follows d.7)
+  acts : (old new : SessionPoint B) (what : Action) (response : Response) (events rest : Trace) → IsVisibleDue what →
+      AnswersAction means old what response events new → Visibly old.1 (events ++ rest) →
+      IsLine response × Visibly new.1 rest
+  acts old new (Answer due) response events rest is a v = (
+    subst IsLine (sym a.0) is,
+    rests old new events rest a.1.0 (ap (λ (at : SessionPoint B). at.1) a.1.1) v,
+  )
+  acts old new (Take step) response events rest is a v =
+      let told = steps old new step a.0 events rest is a.2 v in
+      (subst IsLine (sym a.1) told.0, told.1)
+  acts old new TellSeen response events rest is a v = (
+    subst IsLine (sym a.2) (seen_line a.0 a.1),
+    rests old new events rest a.3.1 a.3.2 v,
+  )
+
+  answers : (old new : SessionPoint B) (e : Exchange) (events : Trace) → AnswersLine means old e events new →
+      Tells old (e ∷ []) events new
+  answers old new e events a rest v =
+      let due : GoesVisibly a.2.0 (session_at means (old.0, a.2.1)) = due_visible (session_at means old) e.0 a.0 a.2.0
+      (session_at means (old.0, a.2.1)) v.waits a.1 a.2.2 in
+      let told = acts (old.0, a.2.1) new a.2.0 e.1 events rest due.0 a.2.3
+      (record { to = v.to; visible = v.visible; waits = due.1; follows = v.follows }) in
+      ((told.0, tt), told.1)
+
+  pub tells : (auto : ℕ) → HoldsOfLines means auto Tells
+  tells auto = record {
+    stays = λ at rest v. (tt, v);
+    lines = answers;
+    merges = λ old new reply events m rest v. (tt, (steps old new (step.Merge auto) reply events rest tt m v).1);
+    joins = λ a b c exchanges more events later f g rest v.
+        let first = f (later ++ rest) (record {
+          to = v.to;
+          visible = v.visible;
+          waits = v.waits;
+          follows = subst (Follows v.to) (append_assoc events later rest) v.follows;
+        }) in
+        let then = g rest first.1 in (
+          all_append (λ (e : Exchange). IsOneLine (response_text e.1)) exchanges more first.0 then.0,
+          then.1,
+        );
+  }

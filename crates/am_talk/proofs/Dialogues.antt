@@ -1,7 +1,8 @@
--- A dialogue, exchange by exchange.
-use Rattle.std.proofs.Common.{◌≡◌, ◌⊎◌, inl, inr, ℕ, ◌+◌, ◌^◌, ◌≤◌, ◌==◌, nat_le, List, [], ◌∷◌, ◌++◌, Bool, true}
+-- A session alone with a sound trace, exchange by exchange.
+use Rattle.std.proofs.Common.{◌≡◌, ◌⊎◌, inl, inr, ℕ, ◌+◌, ◌^◌, ◌≤◌, nat_le, List, [], ◌∷◌, ◌++◌, Bool, true}
 use Rattle.std.proofs.Common.{false, cond, ◌||◌, Option, Some, None, refl, sym, ap, ◌∙◌, subst, ⊎_elim, arith}
-use Rattle.std.specs.Prelude.{MatchOption, MatchBool, option_map}
+use Rattle.std.proofs.Common.{append_assoc}
+use Rattle.std.specs.Prelude.{MatchOption, MatchBool}
 use Rattle.std.proofs.lemmas.Bool.{true≢false, le-leb, lt-leb}
 use Rattle.std.proofs.lemmas.Cmp.{nat_eq_equiv}
 use Rattle.am_record.specs.Records.{Records}
@@ -17,12 +18,13 @@ use Rattle.am_record.specs.declared.step.Refusal.TheVariants as why
 use Rattle.am_serial.specs.Trace.{Trace, Answered, ops_of, effect, effect_of_do, runs_made}
 use Rattle.am_serial.specs.Machine as machine
 use Rattle.am_serial.specs.Machine.{due as due_of, next, Runs, May, view}
-use Rattle.am_talk.specs.ParsedLine.{Line, parsed, parsed_of, MayParse}
-use Rattle.am_talk.specs.Session.{SessionState, session_after}
+use Rattle.am_talk.specs.ParsedLine.{Line, parsed, parsed_of, MayParse, is_upkeep}
+use Rattle.am_talk.specs.Session.{SessionState, staged_after}
 use Rattle.am_talk.specs.Actions.{may_wait, with_staged, staged_left, stage_response, action_for, session_behind_line}
 use Rattle.am_talk.specs.Actions.{no_room, IsActionFor}
-use Rattle.am_talk.specs.Dialogue.{Exchange, Standing, AnsweredBy, AnswersLine, Merges, Ends, Whole, TornAt, Dialogue}
-use Rattle.am_talk.specs.Dialogue.{commits_after}
+use Rattle.am_talk.specs.Exchanges.{Exchange}
+use Rattle.am_talk.specs.Conversation.{SessionPoint, session_at, Stays, TakesStep, AnswersAction, AnswersLine}
+use Rattle.am_talk.specs.Alone.{Alone, alone_after, alone_meaning}
 use Rattle.am_talk.specs.Say as say
 use Rattle.am_talk.specs.Say.{refusal_due, reply_due, refused_or, begin_due, state_did, wants_memory, response_due}
 use Rattle.am_talk.specs.Say.{state_after_line, state_refused, is_load_line, IsSaid, SaysFrom}
@@ -32,11 +34,13 @@ use Rattle.am_text.specs.declared.fault.LineFault.TheVariants as fault
 use Rattle.am_talk.specs.declared.lines.ParsedLine.{ParsedLine}
 use Rattle.am_talk.specs.declared.lines.ParsedLine.TheVariants as said
 use Rattle.am_talk.specs.declared.action.Action.{Action}
+use Rattle.am_talk.specs.declared.action.Action.TheVariants.{TellSeen}
 use Rattle.am_talk.specs.declared.response.Response.{Response}
 use Rattle.am_talk.specs.declared.response.Response.TheVariants as response
 use Rattle.am_talk.specs.declared.response.Response.TheVariants.{Replied, Seen, Faulty}
 use Rattle.am_record.specs.Interval.{Interval}
-pub use Rattle.am_talk.proofs.Saying.{Where, actives, machine_at, state_at, standing_at, is_answer, Counts}
+use Rattle.am_talk.proofs.Conversations.{Between, HoldsOfLines}
+pub use Rattle.am_talk.proofs.Saying.{Where, actives, machine_at, state_at, alone_at, point_at, is_answer, Counts}
 pub use Rattle.am_talk.proofs.Saying.{answer_answers, answer_counts, due_is, due_found, one_view, next_did}
 pub use Rattle.am_talk.proofs.Saying.{next_committed, next_aborted, ops_did}
 
@@ -47,10 +51,10 @@ Outcome s h r s' =
     ⊎ ((wants_memory r ≡ false) × IsSaid (response_due s h) r × (s' ≡ state_after_line s h))
 
 -- where it leaves the machine, from which the rest of the trace goes on
-record Leads (w : Where) (h : ParsedLine) (r : Response) (rest : Trace) (at' : Standing) : Type 0 where
+record Leads (w : Where) (h : ParsedLine) (r : Response) (rest : Trace) (at' : SessionPoint Alone) : Type 0 where
   to : Where
   runs : Runs (machine_at to) rest
-  standing : at' ≡ standing_at to
+  stands : at' ≡ point_at to
   outcome : Outcome (state_at w) h r (state_at to)
 
 -- the response is said
@@ -61,12 +65,12 @@ is_said action_for said r e f = subst (λ (o : Option Response). IsSaid o r) (sy
 at_once : (w : Where) (staged : Records) (h : ParsedLine) (action_for : Response) → wants_memory action_for ≡ false →
     response_due (state_at w) h ≡ Some action_for → state_at (record w { staged = staged }) ≡ state_after_line
     (state_at w) h →
-    (r : Response) (own rest : Trace) (at' : Standing) → (r ≡ action_for) × (own ≡ []) ×
-    (at' ≡ standing_at (record w { staged = staged })) → Runs (machine_at w) (own ++ rest) → Leads w h r rest at'
+    (r : Response) (own rest : Trace) (at' : SessionPoint Alone) → (r ≡ action_for) ×
+    Stays alone_meaning (alone_at w, staged) own at' → Runs (machine_at w) (own ++ rest) → Leads w h r rest at'
 at_once w staged h action_for memory says same r own rest at' answered run = record {
   to = record w { staged = staged };
-  runs = subst (λ (x : Trace). Runs (machine_at w) (x ++ rest)) answered.1 run;
-  standing = answered.2;
+  runs = subst (λ (x : Trace). Runs (machine_at w) (x ++ rest)) answered.1.0 run;
+  stands = answered.1.1;
   outcome = inr (
     ap wants_memory answered.0 ∙ memory,
     is_said (response_due (state_at w) h) action_for r says
@@ -76,15 +80,25 @@ at_once w staged h action_for memory says same r own rest at' answered run = rec
 }
 
 -- memory was refused to the line
-refused_line : (w : Where) (h : ParsedLine) (r : Response) (own rest : Trace) (at' : Standing) →
-    (r ≡ Faulty fault.NoMemory) × (own ≡ []) × (at' ≡ standing_at w) → Runs (machine_at w) (own ++ rest) →
+refused_line : (w : Where) (h : ParsedLine) (r : Response) (own rest : Trace) (at' : SessionPoint Alone) →
+    (r ≡ Faulty fault.NoMemory) × Stays alone_meaning (point_at w) own at' → Runs (machine_at w) (own ++ rest) →
     Leads w h r rest at'
 refused_line w h r own rest at' answered run = record {
   to = w;
-  runs = subst (λ (x : Trace). Runs (machine_at w) (x ++ rest)) answered.1 run;
-  standing = answered.2;
+  runs = subst (λ (x : Trace). Runs (machine_at w) (x ++ rest)) answered.1.0 run;
+  stands = answered.1.1;
   outcome = inl (ap wants_memory answered.0, sym (ap (state_refused (state_at w) h) answered.0));
 }
+
+-- what SEEN shows
+shown : (w : Where) → response_due (state_at w) (said.Asked request.Seen) ≡ Some (Seen 0 w.commits) →
+    state_at w ≡ state_after_line (state_at w) (said.Asked request.Seen) →
+    (r : Response) (own rest : Trace) (at' : SessionPoint Alone) →
+    AnswersAction alone_meaning (point_at w) TellSeen r own at' → Runs (machine_at w) (own ++ rest) →
+    Leads w (said.Asked request.Seen) r rest at'
+shown w says same r own rest at' a = at_once w w.staged (said.Asked request.Seen) (Seen 0 w.commits) refl says same r
+    own
+    rest at' (a.2 ∙ (λ i. Seen (a.3.0.0 i) (a.3.0.1 i)), (a.3.1, λ i. (a.3.0.2 i, a.3.2 i)))
 
 -- a step that is told by a reply, and by what the machine may do
 abbrev After : Where → Step → Reply → Trace → Type 0
@@ -92,60 +106,37 @@ After w s parsed_of rest = May (machine_at w) s parsed_of × Runs (next (machine
 
 -- the step was due where the session waits on with these records
 abbrev Told : Where → Records → Step → Request → Reply → Trace → Type 0
-Told w staged s asked parsed_of rest = Leads w (said.Asked asked) (Replied parsed_of) rest (
-  session_after (record { active = option_map (λ _. w.begun) w.own; staged = staged }) parsed_of,
-  commits_after w.commits s parsed_of,
-)
+Told w staged s asked parsed_of rest = Leads w (said.Asked asked) (Replied parsed_of) rest
+    (alone_after (alone_at w) s parsed_of, staged_after staged parsed_of)
 
 taken : (w : Where) (staged : Records) (s : Step) (asked : Request) →
     ((t : Reply) (rest : Trace) → After w s t rest → Told w staged s asked t rest) →
-    (r : Response) (own rest : Trace) (at' : Standing) → (t : Reply) × (r ≡ Replied t) × (own ≡ (s, t) ∷ []) ×
-    (at' ≡ (
-      session_after (record { active = option_map (λ _. w.begun) w.own; staged = staged }) t,
-      commits_after w.commits s t,
-    )) →
+    (r : Response) (own rest : Trace) (at' : SessionPoint Alone) → (t : Reply) × (r ≡ Replied t) ×
+    TakesStep alone_meaning (alone_at w, staged) s t own at' →
     Runs (machine_at w) (own ++ rest) → Leads w (said.Asked asked) r rest at'
 taken w staged s asked tells r own rest at' a run =
     let led : Told w staged s asked a.0 rest = tells a.0 rest
-    (subst (λ (x : Trace). Runs (machine_at w) (x ++ rest)) a.2 run) in
-    let stands : Standing = (
-      session_after (record { active = option_map (λ _. w.begun) w.own; staged = staged }) a.0,
-      commits_after w.commits s a.0,
-    ) in
+    (subst (λ (x : Trace). Runs (machine_at w) (x ++ rest)) a.2.1 run) in
+    let stands : SessionPoint Alone = (alone_after (alone_at w) s a.0, staged_after staged a.0) in
     let with_reply : Leads w (said.Asked asked) r rest stands =
     subst (λ (x : Response). Leads w (said.Asked asked) x rest stands) (sym a.1) led in
-    subst (λ (x : Standing). Leads w (said.Asked asked) r rest x) (sym a.3) with_reply
+    subst (λ (x : SessionPoint Alone). Leads w (said.Asked asked) r rest x) (λ i. (sym a.2.0 i, sym a.2.2 i)) with_reply
 
 -- the reply is what is said
 said_so : (w : Where) (staged : Records) (s : Step) (asked : Request) (parsed_of : Reply) (rest : Trace) (to : Where) →
-    Runs (machine_at to) rest → (
-      session_after (record { active = option_map (λ _. w.begun) w.own; staged = staged })
-          parsed_of,
-      commits_after w.commits s parsed_of,
-    ) ≡ standing_at to →
+    Runs (machine_at to) rest → (alone_after (alone_at w) s parsed_of, staged_after staged parsed_of) ≡ point_at to →
     wants_memory (Replied parsed_of) ≡ false → response_due (state_at w) (said.Asked asked) ≡ Some (Replied parsed_of) →
     state_at to ≡ state_after_line (state_at w) (said.Asked asked) → Told w staged s asked parsed_of rest
-said_so w staged s asked parsed_of rest to run standing memory says same = record {
+said_so w staged s asked parsed_of rest to run stands memory says same = record {
   to = to;
   runs = run;
-  standing = standing;
+  stands = stands;
   outcome = inr (
     memory,
     is_said (response_due (state_at w) (said.Asked asked)) (Replied parsed_of) (Replied parsed_of)
         says refl,
     same,
   );
-}
-
--- nothing was done
-refused_step : (w : Where) (s : Step) (asked : Request) (rest : Trace) →
-    commits_after w.commits s (reply.Refused why.NoMemory) ≡ w.commits → is_load_line (said.Asked asked) ≡ false →
-    Runs (machine_at w) rest → Told w w.staged s asked (reply.Refused why.NoMemory) rest
-refused_step w s asked rest e other run = record {
-  to = w;
-  runs = run;
-  standing = λ i. ((standing_at w).0, e i);
-  outcome = inl (refl, sym (ap (λ b. cond b (record (state_at w) { staged = [] }) (state_at w)) other));
 }
 
 -- ---- BEGIN
@@ -234,7 +225,7 @@ module _ (begun commits runs : ℕ) (m : PlainMap) (body : List Answered) (stage
         (record busy_on { runs = runs + runs_made whole parsed_of; own = Some (body ++ (whole, parsed_of) ∷ []) })
         (subst (λ (x : machine.State). Runs x rest) (ap (next (machine_at busy)) (counts.effect begun whole) ∙
         next_did begun commits runs m body staged whole parsed_of) run)
-        (λ i. (record { active = counts.active (Some begun) i; staged = counts.staged left_over i }, commits))
+        (λ i. (record { active = counts.active (Some begun) i; commits = commits }, counts.staged left_over i))
         counts.found
         (ap (λ r. Some (Replied r)) due_reply)
         ((λ i. record {
@@ -264,7 +255,7 @@ module _ (begun commits runs : ℕ) (m : PlainMap) (body : List Answered) (stage
     no_memory rest run = record {
       to = busy_on;
       runs = run;
-      standing = refl;
+      stands = refl;
       outcome = inl (refl, refused_keeps o (state_at busy));
     }
 
@@ -331,99 +322,82 @@ module _ (begun commits runs : ℕ) (m : PlainMap) (body : List Answered) where
 
 -- ---- MERGE and CLEAN
 
--- the machine is where it was
-kept_up : (w : Where) (s : Step) (asked : Request) (parsed_of : Reply) (rest : Trace) → Runs (machine_at w) rest →
-    (session_after (standing_at w).0 parsed_of, commits_after w.commits s parsed_of) ≡ standing_at w →
-    wants_memory (Replied parsed_of) ≡ false → response_due (state_at w) (said.Asked asked) ≡ None →
-    state_at w ≡ state_after_line (state_at w) (said.Asked asked) → Told w w.staged s asked parsed_of rest
-kept_up w s asked parsed_of rest run standing memory says same = record {
+-- neither is said, nor changes what is said later
+unsaid : (s : say.DialogueState) (own : Option (List Op)) (asked : Request) → is_upkeep (said.Asked asked) ≡ true →
+    (say.answer_to s own asked ≡ None) × (say.state_asked s own asked ≡ s)
+unsaid s None (request.Merge limit) e = (refl, refl)
+unsaid s (Some ops) (request.Merge limit) e = (refl, refl)
+unsaid s None (request.Clean range limit) e = (refl, refl)
+unsaid s (Some ops) (request.Clean range limit) e = (refl, refl)
+unsaid s own _ e = absurd (true≢false (sym e))
+
+-- the session stands where it stood, and so does the machine
+abbrev IsKept : Where → Step → Reply → Trace → Type 0
+IsKept w s r rest = ((alone_after (alone_at w) s r, staged_after w.staged r) ≡ point_at w) × Runs (machine_at w) rest
+
+kept_up : (w : Where) (s : Step) (asked : Request) (r : Reply) (rest : Trace) → is_upkeep (said.Asked asked) ≡ true →
+    is_load_line (said.Asked asked) ≡ false → IsKept w s r rest → Told w w.staged s asked r rest
+kept_up w s asked r rest upkeep other kept = record {
   to = w;
-  runs = run;
-  standing = standing;
-  outcome = inr (memory, subst (λ (o : Option Response). IsSaid o (Replied parsed_of)) (sym says) tt, same);
+  runs = kept.1;
+  stands = kept.0;
+  outcome = by_memory (wants_memory (Replied r)) refl;
 }
-
--- neither is said
-record IsUnsaid (w : Where) (asked : Request) : Type 0 where
-  unsaid : response_due (state_at w) (said.Asked asked) ≡ None
-  same : state_at w ≡ state_after_line (state_at w) (said.Asked asked)
-
-merge_unsaid : (w : Where) (limit : ℕ) → IsUnsaid w (request.Merge limit)
-merge_unsaid w limit = by_own w.own refl
   where
-    by_own : (own : Option (List Answered)) → w.own ≡ own → IsUnsaid w (request.Merge limit)
-    by_own None e = record {
-      unsaid = ap (λ o. say.answer_to (state_at w) (option_map ops_of o) (request.Merge limit))
-          e;
-      same = sym (ap (λ o. say.state_asked (state_at w) (option_map ops_of o) (request.Merge limit)) e);
-    }
-    by_own (Some body) e = record {
-      unsaid = ap (λ o. say.answer_to (state_at w) (option_map ops_of o)
-          (request.Merge limit)) e;
-      same = sym (ap (λ o. say.state_asked (state_at w) (option_map ops_of o) (request.Merge limit)) e);
-    }
+    said_none : (say.answer_to (state_at w) (state_at w).own asked ≡ None) ×
+        (say.state_asked (state_at w) (state_at w).own asked ≡ state_at w)
+    said_none = unsaid (state_at w) (state_at w).own asked upkeep
 
-merges : (w : Where) (limit : ℕ) (parsed_of : Reply) (rest : Trace) → After w (step.Merge limit) parsed_of rest →
-    Told w w.staged (step.Merge limit) (request.Merge limit) parsed_of rest
-merges w limit parsed_of rest a = by_told parsed_of a
-  where
-    u : IsUnsaid w (request.Merge limit)
-    u = merge_unsaid w limit
+    by_memory : (b : Bool) → wants_memory (Replied r) ≡ b →
+        Outcome (state_at w) (said.Asked asked) (Replied r) (state_at w)
+    by_memory true e = inl (
+      e,
+      sym (ap (λ b. cond b (record (state_at w) { staged = [] }) (state_at w)) other),
+    )
+    by_memory false e = inr (
+      e,
+      subst (λ (o : Option Response). IsSaid o (Replied r)) (sym said_none.0) tt,
+      sym said_none.1,
+    )
 
-    by_told : (parsed_of : Reply) → After w (step.Merge limit) parsed_of rest → Told w w.staged (step.Merge limit)
-        (request.Merge limit) parsed_of rest
-    by_told (reply.Moved n run) a = kept_up w (step.Merge limit) (request.Merge limit) (reply.Moved n run) rest a.1 refl
-        refl u.unsaid u.same
-    by_told reply.MergeDone a = kept_up w (step.Merge limit) (request.Merge limit) reply.MergeDone rest a.1 refl refl
-        u.unsaid u.same
-    by_told (reply.Ended k h) a = kept_up w (step.Merge limit) (request.Merge limit) (reply.Ended k h) rest a.1 refl
-        refl u.unsaid u.same
-    by_told reply.Idle a = kept_up w (step.Merge limit) (request.Merge limit) reply.Idle rest a.1 refl refl u.unsaid
-        u.same
-    by_told (reply.Refused why.BadLimit) a = kept_up w (step.Merge limit) (request.Merge limit)
-        (reply.Refused why.BadLimit) rest a.1 refl refl u.unsaid u.same
-    by_told (reply.Refused why.NoMemory) a = refused_step w (step.Merge limit) (request.Merge limit) rest refl refl a.1
-    by_told _ a = absurd a.0
+merge_keeps : (w : Where) (limit : ℕ) (r : Reply) (rest : Trace) → After w (step.Merge limit) r rest →
+    IsKept w (step.Merge limit) r rest
+merge_keeps w limit (reply.Moved n run) rest a = (refl, a.1)
+merge_keeps w limit reply.MergeDone rest a = (refl, a.1)
+merge_keeps w limit (reply.Ended k h) rest a = (refl, a.1)
+merge_keeps w limit reply.Idle rest a = (refl, a.1)
+merge_keeps w limit (reply.Refused why.BadLimit) rest a = (refl, a.1)
+merge_keeps w limit (reply.Refused why.NoMemory) rest a = (refl, a.1)
+merge_keeps w limit _ rest a = absurd a.0
 
-clean_unsaid : (w : Where) (range : Interval) (limit : ℕ) → IsUnsaid w (request.Clean range limit)
-clean_unsaid w range limit = by_own w.own refl
-  where
-    by_own : (own : Option (List Answered)) → w.own ≡ own → IsUnsaid w (request.Clean range limit)
-    by_own None e = record {
-      unsaid = ap (λ o. say.answer_to (state_at w) (option_map ops_of o)
-          (request.Clean range limit)) e;
-      same = sym (ap (λ o. say.state_asked (state_at w) (option_map ops_of o) (request.Clean range limit)) e);
-    }
-    by_own (Some body) e = record {
-      unsaid = ap (λ o. say.answer_to (state_at w) (option_map ops_of o)
-          (request.Clean range limit)) e;
-      same = sym (ap (λ o. say.state_asked (state_at w) (option_map ops_of o) (request.Clean range limit)) e);
-    }
+clean_keeps : (w : Where) (range : Interval) (limit : ℕ) (r : Reply) (rest : Trace) →
+    After w (step.Clean range limit) r rest → IsKept w (step.Clean range limit) r rest
+clean_keeps w range limit (reply.Cleaned n) rest a = (refl, a.1)
+clean_keeps w range limit (reply.Refused why.BadLimit) rest a = (refl, a.1)
+clean_keeps w range limit (reply.Refused why.NoMemory) rest a = (refl, a.1)
+clean_keeps w range limit _ rest a = absurd a.0
 
-cleans : (w : Where) (range : Interval) (limit : ℕ) (parsed_of : Reply) (rest : Trace) →
-    After w (step.Clean range limit) parsed_of rest → Told w w.staged (step.Clean range limit)
-    (request.Clean range limit)
-    parsed_of rest
-cleans w range limit parsed_of rest a = by_told parsed_of a
-  where
-    u : IsUnsaid w (request.Clean range limit)
-    u = clean_unsaid w range limit
+merges : (w : Where) (limit : ℕ) (r : Reply) (rest : Trace) → After w (step.Merge limit) r rest →
+    Told w w.staged (step.Merge limit) (request.Merge limit) r rest
+merges w limit r rest a = kept_up w (step.Merge limit) (request.Merge limit) r rest refl refl
+    (merge_keeps w limit r rest a)
 
-    by_told : (parsed_of : Reply) → After w (step.Clean range limit) parsed_of rest →
-        Told w w.staged (step.Clean range limit) (request.Clean range limit) parsed_of rest
-    by_told (reply.Cleaned n) a = kept_up w (step.Clean range limit) (request.Clean range limit) (reply.Cleaned n) rest
-        a.1 refl refl u.unsaid u.same
-    by_told (reply.Refused why.BadLimit) a = kept_up w (step.Clean range limit) (request.Clean range limit)
-        (reply.Refused why.BadLimit) rest a.1 refl refl u.unsaid u.same
-    by_told (reply.Refused why.NoMemory) a = refused_step w (step.Clean range limit) (request.Clean range limit) rest
-        refl refl a.1
-    by_told _ a = absurd a.0
+cleans : (w : Where) (range : Interval) (limit : ℕ) (r : Reply) (rest : Trace) →
+    After w (step.Clean range limit) r rest → Told w w.staged (step.Clean range limit) (request.Clean range limit) r
+    rest
+cleans w range limit r rest a = kept_up w (step.Clean range limit) (request.Clean range limit) r rest refl refl
+    (clean_keeps w range limit r rest a)
 
 -- ---- each line
 
+abbrev session : Where → SessionState
+session w = session_at alone_meaning (point_at w)
+
 abbrev Line_leads : Where → ParsedLine → Type 0
-Line_leads w h = (r : Response) (own rest : Trace) (at' : Standing) →
-    AnsweredBy (session_behind_line (standing_at w).0 h, w.commits) (action_for (standing_at w).0 h) r own at' →
+Line_leads w h = (r : Response) (own rest : Trace) (at' : SessionPoint Alone) →
+    AnswersAction alone_meaning (alone_at w, (session_behind_line (session w) h).staged) (action_for (session w) h) r
+    own
+    at' →
     Runs (machine_at w) (own ++ rest) → Leads w h r rest at'
 
 -- with no transaction active
@@ -441,7 +415,7 @@ module _ (begun commits runs : ℕ) (m : PlainMap) (staged : Records) where
   leads_free (request.Merge limit) = taken free staged (step.Merge limit) (request.Merge limit) (merges free limit)
   leads_free (request.Clean range limit) = taken free staged (step.Clean range limit) (request.Clean range limit)
       (cleans free range limit)
-  leads_free request.Seen = at_once free staged (said.Asked request.Seen) (Seen 0 commits) refl refl refl
+  leads_free request.Seen = shown free refl refl
   leads_free request.Quit = at_once free staged (said.Asked request.Quit) response.NoTransaction refl refl refl
 
 -- with one
@@ -470,7 +444,7 @@ module _ (begun commits runs : ℕ) (m : PlainMap) (body : List Answered) where
     leads_busy (request.Merge limit) = taken held staged (step.Merge limit) (request.Merge limit) (merges held limit)
     leads_busy (request.Clean range limit) = taken held staged (step.Clean range limit) (request.Clean range limit)
         (cleans held range limit)
-    leads_busy request.Seen = at_once held staged (said.Asked request.Seen) (Seen 0 commits) refl refl refl
+    leads_busy request.Seen = shown held refl refl
     leads_busy request.Quit = at_once held staged (said.Asked request.Quit) response.NoTransaction refl refl refl
 
 leads : (begun commits runs : ℕ) (m : PlainMap) (own : Option (List Answered)) (staged : Records) (h : ParsedLine) →
@@ -483,16 +457,6 @@ leads b c n m own staged (said.Faulty fault.Range) = at_once _ staged (said.Faul
 leads b c n m own staged (said.Faulty fault.NoMemory) = refused_line _ (said.Faulty fault.NoMemory)
 leads b c n m None staged (said.Asked asked) = leads_free b c n m staged asked
 leads b c n m (Some body) staged (said.Asked asked) = leads_busy b c n m body staged asked
-
--- a merge between two lines leaves the machine as it is
-merged_between : (auto : ℕ) (w : Where) (rest later : Trace) → Merges auto rest later → Runs (machine_at w) rest →
-    Runs (machine_at w) later
-merged_between auto w rest later = by_auto (auto == 0)
-  where
-    by_auto : (b : Bool) → MatchBool b (rest ≡ later) ((merged : Reply) × (rest ≡ (step.Merge auto, merged) ∷ later)) →
-        Runs (machine_at w) rest → Runs (machine_at w) later
-    by_auto true same run = subst (Runs (machine_at w)) same run
-    by_auto false event run = (subst (Runs (machine_at w)) event.1 run).1
 
 -- ---- all lines
 
@@ -522,57 +486,84 @@ due_so s (said.Asked asked) what here (inr refused) = inr (refused.1, refused.2)
 due_so s (said.Faulty f) what here is = inl is
 due_so s said.TooLong what here is = inl is
 
-leads_line : (w : Where) (line : Line) (h : ParsedLine) (what : Action) (here : SessionState) → MayParse line h →
-    IsActionFor (standing_at w).0 h what here →
-    (r : Response) (own rest : Trace) (at' : Standing) → AnsweredBy (here, w.commits) what r own at' →
-    Runs (machine_at w) (own ++ rest) → Leads w (parsed line) r rest at'
-leads_line w line h what here may maybe r own rest at' answered run = ⊎_elim
-    (λ (is : (what ≡ action_for (standing_at w).0 h) × (here ≡ session_behind_line (standing_at w).0 h)). ⊎_elim
-    (λ (same : h ≡ parsed line). leads w.begun w.commits w.runs w.committed w.own w.staged (parsed line) r own rest at'
-    (subst (λ (x : ParsedLine). AnsweredBy (session_behind_line (standing_at w).0 x, w.commits)
-    (action_for (standing_at w).0 x) r own at') same (as_due is)) run)
-    (λ (refused : h ≡ said.Faulty fault.NoMemory). refused_line w (parsed line) r own rest at'
-    (subst (λ (x : ParsedLine). AnsweredBy (session_behind_line (standing_at w).0 x, w.commits)
-    (action_for (standing_at w).0 x) r own at') refused (as_due is)) run)
-    (heard_so line h may))
-    (λ (refused : (what ≡ no_room) × (here ≡ (standing_at w).0)). refused_line w (parsed line) r own rest at'
-    (subst (λ (s : SessionState). AnsweredBy (s, w.commits) no_room r own at') refused.1
-    (subst (λ (d : Action). AnsweredBy (here, w.commits) d r own at') refused.0 answered)) run)
-    (due_so (standing_at w).0 h what here maybe)
-  where
-    as_due : (what ≡ action_for (standing_at w).0 h) × (here ≡ session_behind_line (standing_at w).0 h) →
-        AnsweredBy (session_behind_line (standing_at w).0 h, w.commits) (action_for (standing_at w).0 h) r own at'
-    as_due is = subst (λ (s : SessionState). AnsweredBy (s, w.commits) (action_for (standing_at w).0 h) r own at') is.1
-        (subst (λ (d : Action). AnsweredBy (here, w.commits) d r own at') is.0 answered)
+module _ (w : Where) (r : Response) (own : Trace) (at' : SessionPoint Alone) where
+  abbrev Acts : Records → Action → Type 0
+  Acts waiting what = AnswersAction alone_meaning (alone_at w, waiting) what r own at'
 
--- what a dialogue's end says of the last lines
-abbrev EndsSaying : Ends → List Exchange → Type 0
-EndsSaying ends tail = (w : Where) (at : Standing) (trace : Trace) → at ≡ standing_at w → Runs (machine_at w) trace →
-    ends at trace → SaysFrom (state_at w) tail
+  abbrev ActsFor : ParsedLine → Type 0
+  ActsFor h = Acts (session_behind_line (session w) h).staged (action_for (session w) h)
 
-answers_so : (w : Where) (at : Standing) (e : Exchange) (own rest : Trace) (at' : Standing) → at ≡ standing_at w →
-    AnswersLine at e own at' → Runs (machine_at w) (own ++ rest) → Leads w (parsed e.0) e.1 rest at'
-answers_so w at e own rest at' here a run =
-    let b : AnswersLine (standing_at w) e own at' = subst (λ (x : Standing). AnswersLine x e own at') here a in
-    leads_line w e.0 b.0 b.1 b.2 b.3 b.4 e.1 own rest at' b.5 run
+  acts_so : (what due : Action) (here s : SessionState) → (what ≡ due) × (here ≡ s) → Acts here.staged what →
+      Acts s.staged due
+  acts_so what due here s is acts = subst (λ (x : SessionState). Acts x.staged due) is.1
+      (subst (λ (x : Action). Acts here.staged x) is.0 acts)
 
-pub whole_says : EndsSaying Whole []
-whole_says w at trace here run ended = tt
+  leads_line : (line : Line) (h : ParsedLine) (what : Action) (waiting : Records) (rest : Trace) → MayParse line h →
+      IsActionFor (session w) h what (session_at alone_meaning (alone_at w, waiting)) → Acts waiting what →
+      Runs (machine_at w) (own ++ rest) → Leads w (parsed line) r rest at'
+  leads_line line h what waiting rest may maybe acts run =
+      let here : SessionState = session_at alone_meaning (alone_at w, waiting) in
+      ⊎_elim
+      (λ is.
+      let due : ActsFor h = acts_so what (action_for (session w) h) here (session_behind_line (session w) h) is acts in
+      ⊎_elim
+      (λ (same : h ≡ parsed line). leads w.begun w.commits w.runs w.committed w.own w.staged (parsed line) r own rest
+      at' (subst ActsFor same due) run)
+      (λ (refused : h ≡ said.Faulty fault.NoMemory). refused_line w (parsed line) r own rest at'
+      (subst ActsFor refused due) run)
+      (heard_so line h may))
+      (λ refused. refused_line w (parsed line) r own rest at'
+      (acts_so what no_room here (session w) refused acts) run)
+      (due_so (session w) h what here maybe)
 
-pub torn_says : (last : Exchange) → EndsSaying (TornAt last) (last ∷ [])
-torn_says last w at trace here run d =
-    let led : Leads w (parsed last.0) last.1 d.1 d.2 = answers_so w at last d.0 d.1 d.2 here d.3
-    (subst (Runs (machine_at w)) d.4 run) in
-    says_next last [] (state_at w) (state_at led.to) led.outcome tt
+-- the machine goes on, and what is said to these exchanges is said before all that is said from there
+pub record GoesOn (w : Where) (exchanges : List Exchange) (rest : Trace) (new : SessionPoint Alone) : Type 0 where
+  pub to : Where
+  pub runs : Runs (machine_at to) rest
+  pub stands : new ≡ point_at to
+  pub says : (later : List Exchange) → SaysFrom (state_at to) later → SaysFrom (state_at w) (exchanges ++ later)
 
-pub dialogues_say : (auto : ℕ) (ends : Ends) (tail : List Exchange) → EndsSaying ends tail →
-    (exchanges : List Exchange) (w : Where) (at : Standing) (trace : Trace) → at ≡ standing_at w →
-    Runs (machine_at w) trace →
-    Dialogue auto ends at exchanges trace → SaysFrom (state_at w) (exchanges ++ tail)
-dialogues_say auto ends tail ending [] w at trace here run d = ending w at trace here run d
-dialogues_say auto ends tail ending (e ∷ exchanges) w at trace here run d =
-    let led : Leads w (parsed e.0) e.1 d.1 d.3 = answers_so w at e d.0 d.1 d.3 here d.4
-    (subst (Runs (machine_at w)) d.5 run) in
-    says_next e (exchanges ++ tail) (state_at w) (state_at led.to) led.outcome
-    (dialogues_say auto ends tail ending exchanges led.to d.3 d.2 led.standing
-    (merged_between auto led.to d.1 d.2 d.6 led.runs) d.7)
+answers_so : (w : Where) (at at' : SessionPoint Alone) (e : Exchange) (own rest : Trace) → at ≡ point_at w →
+    AnswersLine alone_meaning at e own at' → Runs (machine_at w) (own ++ rest) → Leads w (parsed e.0) e.1 rest at'
+answers_so w at at' e own rest here a run =
+    let b : AnswersLine alone_meaning (point_at w) e own at' =
+    subst (λ (x : SessionPoint Alone). AnswersLine alone_meaning x e own at') here a in
+    leads_line w e.1 own at' e.0 b.0 b.2.0 b.2.1 rest b.1 b.2.2 b.2.3 run
+
+-- from where the session and the machine stand together
+abbrev pub SaysSo : Between Alone
+SaysSo old exchanges events new = (w : Where) (rest : Trace) → old ≡ point_at w → Runs (machine_at w) (events ++ rest) →
+    GoesOn w exchanges rest new
+
+pub says_so : (auto : ℕ) → HoldsOfLines alone_meaning auto SaysSo
+says_so auto = record {
+  stays = λ at w rest here run. record { to = w; runs = run; stands = here; says = λ later h. h };
+  lines = λ old new e events a w rest here run.
+      let led = answers_so w old new e events rest here a run in
+      record {
+        to = led.to;
+        runs = led.runs;
+        stands = led.stands;
+        says = λ later h. says_next e later (state_at w) (state_at led.to) led.outcome h;
+      };
+  merges = λ old new r events m w rest here run.
+      let kept = merge_keeps w auto r rest (subst (λ (es : Trace). Runs (machine_at w) (es ++ rest)) m.1 run) in
+      let to : SessionPoint Alone → SessionPoint Alone =
+      λ x. (alone_after x.0 (step.Merge auto) r, staged_after x.1 r) in
+      record {
+        to = w;
+        runs = kept.1;
+        stands = (λ i. (m.0 i, m.2 i)) ∙ ap to here ∙ kept.0;
+        says = λ later h. h;
+      };
+  joins = λ a b c exchanges more events later f g w rest here run.
+      let first = f w (later ++ rest) here (subst (Runs (machine_at w)) (append_assoc events later rest) run) in
+      let second = g first.to rest first.stands first.runs in
+      record {
+        to = second.to;
+        runs = second.runs;
+        stands = second.stands;
+        says = λ behind h. subst (SaysFrom (state_at w)) (sym (append_assoc exchanges more behind))
+            (first.says (more ++ behind) (second.says behind h));
+      };
+}

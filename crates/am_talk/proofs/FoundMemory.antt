@@ -11,7 +11,7 @@ use Rattle.am_record.specs.declared.step.Reply.TheVariants as reply
 use Rattle.am_wire.specs.declared.request.Request.{Request}
 use Rattle.am_wire.specs.declared.request.Request.TheVariants as request
 use Rattle.am_talk.specs.ParsedLine.{parsed, is_upkeep, is_stage}
-use Rattle.am_talk.specs.Dialogue.{Exchange}
+use Rattle.am_talk.specs.Exchanges.{Exchange}
 use Rattle.am_talk.specs.Say.{DialogueState, answer_to, state_did, reply_due, state_committed, state_asked}
 use Rattle.am_talk.specs.Say.{response_due, state_after_line, before, say_from, wants_memory, is_refused_load}
 use Rattle.am_talk.specs.Say.{state_refused, IsSaid, SaysFrom, with_memory, without_upkeep, StagesNothing, LosesNothing}

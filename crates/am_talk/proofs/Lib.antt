@@ -1,3 +1,4 @@
+pub mod Conversations
 pub mod Saying
 pub mod Dialogues
 pub mod VisibleMaps

@@ -24,7 +24,8 @@ use Rattle.am_serial.specs.Machine as machine
 use Rattle.am_record.specs.Refusals.{refusal_before_lock, or_else, lock_refusal, is_one_too_many, is_bounded, is_load}
 use Rattle.am_serial.specs.Machine.{Transaction, due, due_early, due_lock, blocker, next, Runs, May, view}
 use Rattle.am_talk.specs.Session.{staged_after}
-use Rattle.am_talk.specs.Dialogue.{Standing}
+use Rattle.am_talk.specs.Alone.{Alone}
+use Rattle.am_talk.specs.Conversation.{SessionPoint}
 use Rattle.am_talk.specs.Say as say
 use Rattle.am_talk.specs.Say.{refusal_due, reply_due, begin_due, state_did, wants_memory}
 use Rattle.am_talk.specs.declared.response.Response.TheVariants.{Replied}
@@ -62,8 +63,12 @@ state_at w = record {
   staged = w.staged;
 }
 
-abbrev pub standing_at : Where → Standing
-standing_at w = (record { active = option_map (λ _. w.begun) w.own; staged = w.staged }, w.commits)
+-- the session alone, and the point where it stands
+abbrev pub alone_at : Where → Alone
+alone_at w = record { active = option_map (λ _. w.begun) w.own; commits = w.commits }
+
+abbrev pub point_at : Where → SessionPoint Alone
+point_at w = (alone_at w, w.staged)
 
 -- ---- refusals
 

@@ -2,6 +2,9 @@ pub mod ParsedLine
 pub mod Session
 pub mod Actions
 pub mod Responses
-pub mod Dialogue
+pub mod Exchanges
+pub mod Backends
+pub mod Conversation
+pub mod Alone
 pub mod Say
 pub mod Staging

@@ -17,7 +17,7 @@ use Rattle.am_serial.specs.Trace.{runs_made}
 use Rattle.am_record.specs.Refusals.{refusal_before_lock, is_one_too_many, lock_refusal, or_else}
 use Rattle.am_talk.specs.ParsedLine.{Line, parsed, is_upkeep, is_stage}
 use Rattle.am_talk.specs.Actions.{with_staged, staged_left, stage_response, may_wait}
-use Rattle.am_talk.specs.Dialogue.{Exchange}
+use Rattle.am_talk.specs.Exchanges.{Exchange}
 use Rattle.am_wire.specs.declared.request.Request.{Request}
 use Rattle.am_wire.specs.declared.request.Request.TheVariants as request
 use Rattle.am_text.specs.declared.fault.LineFault.TheVariants as fault

@@ -1,13 +1,13 @@
 //! What a session on a store of its own says.
 
-ghost use Rattle.std.specs.Prelude.{◌≡◌, ℕ, ◌≤◌, length, List, [], ◌∷◌, ◌++◌, All, Some};
+ghost use Rattle.std.specs.Prelude.{◌≡◌, ℕ, ◌≤◌, length, List, [], All, Option, Some};
 ghost use Rattle.am_serial.specs.Trace.{Trace};
 ghost use Rattle.am_serial.specs.Sound.{IsSound};
 ghost use Rattle.am_effect.specs.Store.{opened, Follows};
 ghost use Rattle.am_wire.specs.Replies.{IsOneLine};
 ghost use Rattle.am_talk.specs.Responses.{response_text};
-ghost use Rattle.am_talk.specs.Dialogue.{Exchange, Dialogue, Whole, TornAt};
-ghost use Rattle.am_talk.specs.Session.{at_start};
+ghost use Rattle.am_talk.specs.Exchanges.{Exchange, with_torn};
+ghost use Rattle.am_talk.specs.Alone.{AnswersAlone};
 ghost use Rattle.am_talk.specs.Say.{DialogueState, Says, AreSay, StagesNothing, LosesNothing};
 ghost use Rattle.am_talk.specs.Staging.{all_of, IsOneLoad};
 ghost use Rattle.am_record.specs.Records.{Records};
@@ -18,10 +18,8 @@ use am_serial::sound_traces_are_runs;
 /// Where one session alone had its steps answered by a sound trace, what it was answered is what is said to its lines.
 /// The answer to a last line may have been torn.
 pub fn sound_dialogues_say()
-    ensures whole { (auto : ℕ) (exchanges : List Exchange) (trace : Trace) → IsSound trace →
-        Dialogue auto Whole (at_start, 0) exchanges trace → Says exchanges }
-    ensures torn { (auto : ℕ) (exchanges : List Exchange) (last : Exchange) (trace : Trace) → IsSound trace →
-        Dialogue auto (TornAt last) (at_start, 0) exchanges trace → Says (exchanges ++ last ∷ []) }
+    ensures { (auto : ℕ) (exchanges : List Exchange) (torn : Option Exchange) (trace : Trace) → IsSound trace →
+        AnswersAlone auto exchanges torn trace → Says (with_torn exchanges torn) }
 {
     sound_traces_are_runs();
 }
@@ -43,10 +41,7 @@ pub fn staging_is_loading()
 /// stands in it. What the store holds came on lines, so no LF is among it. The answer to a last line may have been
 /// torn.
 pub fn answers_are_lines()
-    ensures whole { (auto : ℕ) (exchanges : List Exchange) (trace : Trace) → Follows opened trace →
-        Dialogue auto Whole (at_start, 0) exchanges trace →
-        All (λ (e : Exchange). IsOneLine (response_text e.1)) exchanges }
-    ensures torn { (auto : ℕ) (exchanges : List Exchange) (last : Exchange) (trace : Trace) → Follows opened trace →
-        Dialogue auto (TornAt last) (at_start, 0) exchanges trace →
-        All (λ (e : Exchange). IsOneLine (response_text e.1)) (exchanges ++ last ∷ []) }
+    ensures { (auto : ℕ) (exchanges : List Exchange) (torn : Option Exchange) (trace : Trace) →
+        Follows opened trace → AnswersAlone auto exchanges torn trace →
+        All (λ (e : Exchange). IsOneLine (response_text e.1)) (with_torn exchanges torn) }
 {}

@@ -153,6 +153,53 @@ fn the_least_key_that_stands_twice_is_told(rt: HostRuntime) {
 }
 
 #[test]
+fn keys_of_several_beginnings_are_sorted(rt: HostRuntime) {
+    let alloc = rt.alloc();
+    let shuffled = [
+        named(&rt, "payments/2"),
+        named(&rt, "accounts/7"),
+        named(&rt, "invoices"),
+        named(&rt, "payments/1"),
+        named(&rt, "customer/3"),
+        named(&rt, "accounts/12"),
+        named(&rt, "payments"),
+    ];
+    let rising = [
+        named(&rt, "accounts/12"),
+        named(&rt, "accounts/7"),
+        named(&rt, "customer/3"),
+        named(&rt, "invoices"),
+        named(&rt, "payments"),
+        named(&rt, "payments/1"),
+        named(&rt, "payments/2"),
+    ];
+    sorts(&rt, alloc, &shuffled, &rising);
+    for (len, runs) in [(1, 7), (2, 4), (4, 2), (7, 1)] {
+        makes(&rt, alloc, &shuffled, len, runs);
+    }
+}
+
+#[test]
+fn a_key_that_stands_twice_is_found_behind_others_with_one_beginning(rt: HostRuntime) {
+    let alloc = rt.alloc();
+    let twice = [
+        named(&rt, "payments/2"),
+        named(&rt, "accounts/7"),
+        named(&rt, "invoices"),
+        named(&rt, "payments/1"),
+        named(&rt, "accounts/12"),
+        named(&rt, "payments/2"),
+        named(&rt, "payments/1"),
+    ];
+    let fault = twice_named(&rt, "payments/1");
+    is_no_run(&rt, alloc, &twice, fault);
+    // With six to a piece the first one has the higher key twice, and the lower one stands in both.
+    for len in [1, 2, 3, 6, 7] {
+        is_refused(&rt, alloc, &twice, len, fault);
+    }
+}
+
+#[test]
 fn a_run_rises_and_has_a_record(rt: HostRuntime) {
     let alloc = rt.alloc();
     let equal_keys = vec![in alloc; pair(7, b'a'), pair(7, b'b')].expect(&rt, "memory");

@@ -295,11 +295,11 @@ fn entries_go_between_others_of_a_leaf(rt: HostRuntime) {
     numbers_go_between(&rt, alloc, &[11, 12, 25, 199], 4);
     numbers_go_between(&rt, alloc, &[15], 1);
     numbers_go_between(&rt, alloc, &[], 0);
-    // A taken place ends it, the leaf's end, and its beginning.
+    // A taken place ends it, and the first leaf's beginning. Nothing stands behind the last leaf.
     numbers_go_between(&rt, alloc, &[11, 20, 25], 1);
     numbers_go_between(&rt, alloc, &[30, 31], 0);
-    numbers_go_between(&rt, alloc, &[198, 199, 201], 2);
-    numbers_go_between(&rt, alloc, &[201, 202], 0);
+    numbers_go_between(&rt, alloc, &[198, 199, 201], 3);
+    numbers_go_between(&rt, alloc, &[201, 202], 2);
     numbers_go_between(&rt, alloc, &[9, 11], 0);
     // The leaf is full with 32.
     let many = [11, 12, 13, 14, 15, 16, 17, 18, 19, 21, 22, 23, 24, 25];
@@ -333,6 +333,34 @@ fn what_has_no_room_in_a_leaf_does_not_go_between(rt: HostRuntime) {
     goes_between(&rt, alloc, &mut tens(&rt, alloc), &more, 1);
 }
 
+// The numbers 10, 20 and so on up to 1,000, but for two of each thirty-two: so there is room in each leaf of a tree.
+fn add_tens_with_gaps<I: PartIndex>(rt: &impl Abort, index: &mut I) {
+    for ten in 1..101_u64 {
+        add(index, numbered(0, 10 * ten)).expect(rt, "memory");
+    }
+    for gone in [20, 30, 340, 350, 660, 670] {
+        index.remove(0, Key::of_u64(gone));
+    }
+}
+
+#[test]
+fn entries_go_from_leaf_to_leaf(rt: HostRuntime) {
+    let mut tree = BTree::new(rt.alloc()).expect(&rt, "memory");
+    add_tens_with_gaps(&rt, &mut tree);
+    let mut list = ListIndex::new(rt.alloc());
+    add_tens_with_gaps(&rt, &mut list);
+    // 325, 645 and 965 go behind the last ones of their leaves, which end where the next ones begin.
+    let more = [15, 325, 335, 645, 655, 965, 1001].map(|number| numbered(0, number));
+    let added = tree.insert_between(&more);
+    assert!(rt; added == 7, "{added}");
+    for entry in more {
+        add(&mut list, entry).expect(&rt, "memory");
+    }
+    assert!(rt; same_walks(&tree, &list, 0, 200));
+    // The first leaf is full now.
+    assert!(rt; tree.insert_between(&[numbered(0, 16)]) == 0);
+}
+
 // Adds every number below 1,000 between every tenth one, and answers how many went between others at once.
 fn thousand_between<I: PartIndex>(rt: &impl Abort, alloc: Global, index: &mut I) -> u64 {
     for number in 0..100_u64 {
@@ -364,6 +392,6 @@ fn neighbours_go_between_others_leaf_by_leaf(rt: HostRuntime) {
     assert!(rt; thousand_between(&rt, alloc, &mut list) == 0);
     let mut tree = BTree::new(alloc).expect(&rt, "memory");
     let between = thousand_between(&rt, alloc, &mut tree);
-    assert!(rt; between >= 700, "{between}");
+    assert!(rt; between == 843, "{between}");
     assert!(rt; same_walks(&tree, &list, 0, 1_001));
 }

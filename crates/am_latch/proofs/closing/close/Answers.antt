@@ -1,26 +1,28 @@
-use Rattle.std.proofs.Common.{rules, ap, sym, ◌≡◌, ◌∙◌, subst, length, ℕ, List, take, drop, ◌++◌}
+use Rattle.std.proofs.Common.{rules, ap, sym, ◌≡◌, ◌∙◌, subst, length, true≢false, ℕ, List, take, drop, ◌++◌}
 use Rattle.am_serial.specs.Trace.{Trace}
 use Rattle.am_serial.specs.Legal.{IsLegal}
 use Rattle.am_core.specs.Standing.{IsSoundAt}
 use Rattle.am_engine.specs.Traces.{CallLog, log_of}
 use Rattle.am_latch.specs.Receipts.{SeatState, AreAll, HaveReceiptsIn, AreReceiptsOf, NumberedBelow}
-use Rattle.am_latch.specs.Views.{log_in_view}
+use Rattle.am_latch.specs.Views.{log_in}
 use Rattle.am_latch.proofs.Keeping.{kept, whole_again}
 use Rattle.am_engine.specs.Changes.{active_in_trace}
 use Rattle.am_latch.specs.Ties.{SeatsAreTied}
 use Rattle.am_latch.proofs.Opens.{open_is}
-use Rattle.am_latch.specs.declared.taken.TakenView.{TakenView}
-use Rattle.am_latch.proofs.Holding.{only, only_taken}
+use Rattle.am_latch.specs.Taken.{handed_in}
+use Rattle.am_latch.proofs.Holding.{only}
 use Rattle.am_latch.proofs.closing.close.Given.{Over}
 use Rattle.am_latch.proofs.closing.close.Goals as goal
+use Rattle.am_latch.proofs.closing.close.Goals.{then-len-count-via-then-len-count}
+use Rattle.am_latch.proofs.closing.close.Goals.{then-len-count-via-else-len-count+then-not-in_order}
 
 -- what was taken is what was handed out, and what is kept stands behind it
 whole_trace : (g : Over) (c : goal.After-drop-table g) →
     c.args.taker ++ c.into_parts-trace.result.0.items ≡ c.engine.inside.engine.trace
 whole_trace g c =
-    let handed_token = only_taken _ _ (sym c.into_seat.ensures.2 ∙ c.engine.invariant.handed) in
+    let handed_token = only _ _ (sym c.into_seat.ensures.2 ∙ c.engine.invariant.handed) in
     let took : c.args.taker ≡ c.engine.inside.engine.handed.trace = sym c.taker.view_is ∙ c.hand_over.ensures.agree ∙
-    ap (λ (v : TakenView). v.handed) handed_token in
+    ap handed_in handed_token in
     ap (λ (l : Trace). l ++ c.into_parts-trace.result.0.items) took ∙ c.into_parts-trace.ensures.trace
 
 pub returns-clause-kept : goal.returns-clause-kept
@@ -31,7 +33,7 @@ returns-clause-kept g c =
     let known : HaveReceiptsIn e c.args.seats.items (length c.args.seats.items) =
     subst (λ (l : List SeatState). HaveReceiptsIn e l (length l)) old
     (subst (λ (d : CallLog). HaveReceiptsIn d c.as_mut_slice.result.now (length c.as_mut_slice.result.now))
-    (ap log_in_view trace_token) c.audit_all.ensures.known) in
+    (ap log_in trace_token) c.audit_all.ensures.known) in
     let whole : take c.args.seats.len (c.audit_all.new.seats ++ drop (length c.audit_all.new.seats)
     c.args.seats.items) ≡ c.args.seats.items = whole_again _ _ _ (c.audit_all.ensures.same ∙ old)
     (ap length c.audit_all.ensures.same ∙ c.as_mut_slice.ensures.len) in
@@ -54,7 +56,7 @@ returns-clause-open_txs g c =
     let known : HaveReceiptsIn e c.args.seats.items (length c.args.seats.items) =
     subst (λ (l : List SeatState). HaveReceiptsIn e l (length l)) old
     (subst (λ (d : CallLog). HaveReceiptsIn d c.as_mut_slice.result.now (length c.as_mut_slice.result.now))
-    (ap log_in_view trace_token) c.audit_all.ensures.known) in
+    (ap log_in trace_token) c.audit_all.ensures.known) in
     let whole : take c.args.seats.len (c.audit_all.new.seats ++ drop (length c.audit_all.new.seats)
     c.args.seats.items) ≡ c.args.seats.items = whole_again _ _ _ (c.audit_all.ensures.same ∙ old)
     (ap length c.audit_all.ensures.same ∙ c.as_mut_slice.ensures.len) in
@@ -88,3 +90,13 @@ returns-clause-all g c =
           (subst (λ (l : List SeatState). NumberedBelow l (length l)) c.as_slice.ensures.value
           (c.in_order.ensures.0 c.if-not-in_order.false)),
     )
+
+pub returns-then-len-count-clause-all : goal.returns-then-len-count-clause-all
+returns-then-len-count-clause-all g c all = elim c.then-len-count.branch as (λ _. ⊥) [
+  | then-len-count-via-then-len-count w ↦ search (all, rules)
+  | then-len-count-via-else-len-count+then-not-in_order w ↦
+      let same = sym w.as_slice.ensures.value in
+      let below = subst (λ (y : List SeatState × ℕ). NumberedBelow y.0 y.1)
+      (λ i. (same i, (sym all.0 ∙ ap length same) i)) all.1 in
+      true≢false (sym (w.in_order.ensures.1 below) ∙ w.if-not-in_order.true)
+]

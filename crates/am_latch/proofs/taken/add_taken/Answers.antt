@@ -1,10 +1,10 @@
 use Rattle.std.proofs.Common.{rules, sym, ◌∙◌}
 use Rattle.am_latch.specs.Taken.{taken_with}
-use Rattle.am_latch.proofs.Taking.{hands_as}
+use Rattle.am_latch.proofs.Taking.{hands}
 use Rattle.am_latch.proofs.taken.add_taken.Goals as goal
 
 pub load-requires : goal.load-requires
-load-requires g c = (search rules, search rules, hands_as _ _ _ _ c.requires.token)
+load-requires g c = (search rules, search rules, hands _ _ _ _ _ c.requires.token)
 
 pub returns-clause-token : goal.returns-clause-token
 returns-clause-token g c = c.load.ensures.2.0 ∙

@@ -1,14 +1,14 @@
 use Rattle.std.proofs.Common.{rules, ap, sym, ◌∙◌}
 use Rattle.am_latch.specs.Views.{view_with_call}
 use Rattle.am_engine.specs.declared.call_id.CallId.{CallId}
-use Rattle.am_latch.proofs.Rules.{appends_as}
+use Rattle.am_latch.proofs.Rules.{appends}
 use Rattle.am_latch.proofs.view_steps.append.Goals as goal
 
 pub load-requires : goal.load-requires
 load-requires g c = (
   search rules,
   search rules,
-  appends_as _ _ _ _ _ _ (search rules)
+  appends _ _ _ _ _ _ _ c.requires.token.0
       (ap (λ (m : CallId). m.seat) (sym c.requires.entry.2) ∙ c.requires.token.1),
 )
 

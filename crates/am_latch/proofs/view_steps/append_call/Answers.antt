@@ -1,6 +1,6 @@
-use Rattle.std.proofs.Common.{rules, ap, sym, ◌∙◌, subst, []}
-use Rattle.am_latch.specs.Views.{IsJointView, view_with_call, seat_part, trace_part}
-use Rattle.am_latch.proofs.Rules.{joins_as, parts_as, joined_is, appended_is, entered_seat, entered_book}
+use Rattle.std.proofs.Common.{rules, ap, sym, refl, ◌∙◌, subst, []}
+use Rattle.am_latch.specs.Views.{IsJointView, view_with_call, seat_in, seat_part, log_part}
+use Rattle.am_latch.proofs.Rules.{joins, joined, splits}
 use Rattle.am_latch.proofs.view_steps.append_call.Goals as goal
 
 pub join_seat-requires : goal.join_seat-requires
@@ -9,48 +9,31 @@ join_seat-requires c = (
   search rules,
   search rules,
   search rules,
-  joins_as _ _ _ _ (search rules) (search rules),
+  joins _ _ _ _ c.requires.token.0 c.requires.trace_token.0,
 )
 
 pub append-requires-clause-token : goal.append-requires-clause-token
 append-requires-clause-token c =
-    let j = ap (λ m. m.0) c.join_seat.ensures.2 in (
-      subst IsJointView (sym j) (joined_is _ _ c.requires.token.0 c.requires.trace_token.0),
-      c.requires.token.1 ∙
-          ap (λ v. v.seat) (sym j),
-    )
+    let j = sym (joined _ _ _ c.requires.token.0 c.requires.trace_token.0 c.join_seat.ensures.2) in
+    (subst (λ m. IsJointView m.0) j refl, c.requires.token.1 ∙ ap (λ m. (seat_in m.0).seat) j)
 
 pub split_seat-requires : goal.split_seat-requires
 split_seat-requires c =
-    let j = ap (λ m. m.0) c.join_seat.ensures.2 in
-    let a = ap (λ m. m.0) c.append.ensures.token in (
-      search rules,
-      search rules,
-      parts_as _ _ (subst IsJointView (sym a)
-          (appended_is _ _ _ _ (subst IsJointView (sym j)
-          (joined_is _ _ c.requires.token.0 c.requires.trace_token.0)))),
-    )
+    let j = joined _ _ _ c.requires.token.0 c.requires.trace_token.0 c.join_seat.ensures.2 in
+    let a = ap (λ m. m.0) c.append.ensures.token ∙
+    ap (λ m. view_with_call c.args.step.now c.args.reply.now c.args.call_id.now m.0) j in
+    (search rules, search rules, splits _ _ _ _ a)
 
 pub returns-clause-token : goal.returns-clause-token
 returns-clause-token c =
-    let j = c.join_seat.ensures.2 in
+    let j = joined _ _ _ c.requires.token.0 c.requires.trace_token.0 c.join_seat.ensures.2 in
     let a = c.append.ensures.token in
     c.split_seat.ensures.2 ∙ (λ i. (seat_part (a i).0, (a i).1)) ∙
     (λ i. (seat_part (view_with_call c.args.step.now c.args.reply.now c.args.call_id.now (j i).0), (j i).1))
-    ∙ (λ i. (
-      entered_seat c.args.step.now c.args.reply.now c.args.call_id.now c.args.token.now.me.0
-          c.args.trace_token.me.0 c.requires.token.0 c.requires.trace_token.0 i,
-      c.args.token.now.me.1,
-    ))
 
 pub returns-clause-trace_token : goal.returns-clause-trace_token
 returns-clause-trace_token c =
-    let j = c.join_seat.ensures.2 in
+    let j = joined _ _ _ c.requires.token.0 c.requires.trace_token.0 c.join_seat.ensures.2 in
     let a = c.append.ensures.token in
-    c.split_seat.ensures.4 ∙ (λ i. (trace_part (a i).0, [])) ∙
-    (λ i. (trace_part (view_with_call c.args.step.now c.args.reply.now c.args.call_id.now (j i).0), []))
-    ∙ (λ i. (
-      entered_book c.args.step.now c.args.reply.now c.args.call_id.now c.args.token.now.me.0
-          c.args.trace_token.me.0 c.requires.token.0 c.requires.trace_token.0 i,
-      [],
-    ))
+    c.split_seat.ensures.4 ∙ (λ i. (log_part (a i).0, [])) ∙
+    (λ i. (log_part (view_with_call c.args.step.now c.args.reply.now c.args.call_id.now (j i).0), []))

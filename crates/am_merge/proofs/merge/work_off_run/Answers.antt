@@ -13,6 +13,7 @@ use Rattle.am_merge.proofs.merge.work_off_run.Goals as goal
 pub loop-moved-init : goal.loop-moved-init
 loop-moved-init g c = record {
   way = starts c.requires.sound (holder_of c.args.locks.now) c.args.limit c.args.range c.args.first.part;
+  read = λ _. c.requires.read;
   runs = refl;
   rooms = keep_all c.args.parts.now.roomy c.args.parts.now.entries c.requires.room;
 }
@@ -20,13 +21,13 @@ loop-moved-init g c = record {
 pub bring_home-count-requires : goal.bring_home-count-requires
 bring_home-count-requires g c =
     stands_first c.requires.sound (holder_of c.args.locks.now) c.args.limit c.args.range
-    c.loop-moved.invariant.way c.args.first c.requires.first refl c.lo.result c.lo.ensures.value
-    (c.args.limit - c.loop-moved.moved) c.count_free-free.result c.clear.new.self c.entries-in-loop-moved.result.now
-    c.clear.ensures (c.entries-in-loop-moved.ensures.all ∙ c.read_from.ensures.read)
+    c.loop-moved.invariant.way c.args.first c.requires.first refl
+    (c.args.limit - c.loop-moved.moved) c.count_free-free.result c.entries-in-loop-moved.result.now
+    (c.entries-in-loop-moved.ensures.all ∙ c.read_anew.ensures)
 
 pub overflow_add-moved : goal.overflow_add-moved
 overflow_add-moved g c =
-    let read = c.entries-in-loop-moved.ensures.all ∙ c.read_from.ensures.read in
+    let read = c.entries-in-loop-moved.ensures.all ∙ c.read_anew.ensures in
     let counted : c.count_free-free.result ≡ length (take_while
     (is_free_in (holder_of c.args.locks.now) c.args.range)
     (take (c.args.limit - c.loop-moved.moved) c.entries-in-loop-moved.result.now)) =
@@ -34,9 +35,8 @@ overflow_add-moved g c =
     (take (c.args.limit - c.loop-moved.moved) l)))
     (c.entries.ensures.all ∙ sym c.entries-in-loop-moved.ensures.all) in
     let stretch = is_stretch c.requires.sound (holder_of c.args.locks.now) c.args.limit c.args.range
-    c.loop-moved.invariant.way c.args.first c.requires.first refl c.lo.result c.lo.ensures.value
-    (c.args.limit - c.loop-moved.moved) c.count_free-free.result c.clear.new.self c.entries-in-loop-moved.result.now
-    c.clear.ensures read counted in
+    c.loop-moved.invariant.way c.args.first c.requires.first refl
+    (c.args.limit - c.loop-moved.moved) c.count_free-free.result c.entries-in-loop-moved.result.now read counted in
     let all : c.args.limit ≡ c.loop-moved.moved + (c.args.limit - c.loop-moved.moved) =
     omega (arith, c.loop-moved-test.true) in
     omega (
@@ -50,7 +50,7 @@ overflow_add-moved g c =
 
 pub note_left-requires : goal.note_left-requires
 note_left-requires g c =
-    let read = c.entries-in-loop-moved.ensures.all ∙ c.read_from.ensures.read in
+    let read = c.entries-in-loop-moved.ensures.all ∙ c.read_anew.ensures in
     let counted : c.count_free-free.result ≡ length (take_while
     (is_free_in (holder_of c.args.locks.now) c.args.range)
     (take (c.args.limit - c.loop-moved.moved) c.entries-in-loop-moved.result.now)) =
@@ -58,16 +58,15 @@ note_left-requires g c =
     (take (c.args.limit - c.loop-moved.moved) l)))
     (c.entries.ensures.all ∙ sym c.entries-in-loop-moved.ensures.all) in
     let stretch = is_stretch c.requires.sound (holder_of c.args.locks.now) c.args.limit c.args.range
-    c.loop-moved.invariant.way c.args.first c.requires.first refl c.lo.result c.lo.ensures.value
-    (c.args.limit - c.loop-moved.moved) c.count_free-free.result c.clear.new.self c.entries-in-loop-moved.result.now
-    c.clear.ensures read counted in
+    c.loop-moved.invariant.way c.args.first c.requires.first refl
+    (c.args.limit - c.loop-moved.moved) c.count_free-free.result c.entries-in-loop-moved.result.now read counted in
     let all : c.args.limit ≡ c.loop-moved.moved + (c.args.limit - c.loop-moved.moved) =
     omega (arith, c.loop-moved-test.true) in
     let rest = c.entries-then-count-lt-STRETCH.result.now in
     λ out. has_none_left c.requires.sound (holder_of c.args.locks.now) c.args.limit c.args.range
-    c.loop-moved.invariant.way c.args.first c.requires.first refl c.lo.result c.lo.ensures.value
-    (c.args.limit - c.loop-moved.moved) c.count_free-free.result c.clear.new.self rest
-    c.clear.ensures (c.entries-then-count-lt-STRETCH.ensures.all ∙ c.read_from.ensures.read) c.bring_home-count.result
+    c.loop-moved.invariant.way c.args.first c.requires.first refl
+    (c.args.limit - c.loop-moved.moved) c.count_free-free.result rest
+    (c.entries-then-count-lt-STRETCH.ensures.all ∙ c.read_anew.ensures) c.bring_home-count.result
     (c.loop-moved.moved + c.bring_home-count.result) c.bring_home-count.new.self.entries c.if-count-lt-STRETCH.true refl
     (goes_on c.requires.sound (holder_of c.args.locks.now) c.args.limit c.args.range c.loop-moved.invariant.way
     (c.args.limit - c.loop-moved.moved) all (take c.count_free-free.result c.entries-in-loop-moved.result.now) stretch
@@ -78,7 +77,7 @@ note_left-requires g c =
 
 pub returns-then-count-lt-STRETCH-clause-far : goal.returns-then-count-lt-STRETCH-clause-far
 returns-then-count-lt-STRETCH-clause-far g c =
-    let read = c.entries-in-loop-moved.ensures.all ∙ c.read_from.ensures.read in
+    let read = c.entries-in-loop-moved.ensures.all ∙ c.read_anew.ensures in
     let counted : c.count_free-free.result ≡ length (take_while
     (is_free_in (holder_of c.args.locks.now) c.args.range)
     (take (c.args.limit - c.loop-moved.moved) c.entries-in-loop-moved.result.now)) =
@@ -86,9 +85,8 @@ returns-then-count-lt-STRETCH-clause-far g c =
     (take (c.args.limit - c.loop-moved.moved) l)))
     (c.entries.ensures.all ∙ sym c.entries-in-loop-moved.ensures.all) in
     let stretch = is_stretch c.requires.sound (holder_of c.args.locks.now) c.args.limit c.args.range
-    c.loop-moved.invariant.way c.args.first c.requires.first refl c.lo.result c.lo.ensures.value
-    (c.args.limit - c.loop-moved.moved) c.count_free-free.result c.clear.new.self c.entries-in-loop-moved.result.now
-    c.clear.ensures read counted in
+    c.loop-moved.invariant.way c.args.first c.requires.first refl
+    (c.args.limit - c.loop-moved.moved) c.count_free-free.result c.entries-in-loop-moved.result.now read counted in
     let all : c.args.limit ≡ c.loop-moved.moved + (c.args.limit - c.loop-moved.moved) =
     omega (arith, c.loop-moved-test.true) in
     ends c.requires.sound (holder_of c.args.locks.now) c.args.limit c.args.range c.loop-moved.invariant.way
@@ -99,7 +97,7 @@ returns-then-count-lt-STRETCH-clause-far g c =
 
 pub returns-then-count-lt-STRETCH-clause-entries : goal.returns-then-count-lt-STRETCH-clause-entries
 returns-then-count-lt-STRETCH-clause-entries g c =
-    let read = c.entries-in-loop-moved.ensures.all ∙ c.read_from.ensures.read in
+    let read = c.entries-in-loop-moved.ensures.all ∙ c.read_anew.ensures in
     let counted : c.count_free-free.result ≡ length (take_while
     (is_free_in (holder_of c.args.locks.now) c.args.range)
     (take (c.args.limit - c.loop-moved.moved) c.entries-in-loop-moved.result.now)) =
@@ -107,9 +105,8 @@ returns-then-count-lt-STRETCH-clause-entries g c =
     (take (c.args.limit - c.loop-moved.moved) l)))
     (c.entries.ensures.all ∙ sym c.entries-in-loop-moved.ensures.all) in
     let stretch = is_stretch c.requires.sound (holder_of c.args.locks.now) c.args.limit c.args.range
-    c.loop-moved.invariant.way c.args.first c.requires.first refl c.lo.result c.lo.ensures.value
-    (c.args.limit - c.loop-moved.moved) c.count_free-free.result c.clear.new.self c.entries-in-loop-moved.result.now
-    c.clear.ensures read counted in
+    c.loop-moved.invariant.way c.args.first c.requires.first refl
+    (c.args.limit - c.loop-moved.moved) c.count_free-free.result c.entries-in-loop-moved.result.now read counted in
     let all : c.args.limit ≡ c.loop-moved.moved + (c.args.limit - c.loop-moved.moved) =
     omega (arith, c.loop-moved-test.true) in
     ap (λ (p : Partitions). p.entries) c.note_left.ensures ∙
@@ -121,7 +118,7 @@ returns-then-count-lt-STRETCH-clause-entries g c =
 
 pub returns-then-count-lt-STRETCH-clause-rooms : goal.returns-then-count-lt-STRETCH-clause-rooms
 returns-then-count-lt-STRETCH-clause-rooms g c =
-    let read = c.entries-in-loop-moved.ensures.all ∙ c.read_from.ensures.read in
+    let read = c.entries-in-loop-moved.ensures.all ∙ c.read_anew.ensures in
     let counted : c.count_free-free.result ≡ length (take_while
     (is_free_in (holder_of c.args.locks.now) c.args.range)
     (take (c.args.limit - c.loop-moved.moved) c.entries-in-loop-moved.result.now)) =
@@ -129,9 +126,8 @@ returns-then-count-lt-STRETCH-clause-rooms g c =
     (take (c.args.limit - c.loop-moved.moved) l)))
     (c.entries.ensures.all ∙ sym c.entries-in-loop-moved.ensures.all) in
     let stretch = is_stretch c.requires.sound (holder_of c.args.locks.now) c.args.limit c.args.range
-    c.loop-moved.invariant.way c.args.first c.requires.first refl c.lo.result c.lo.ensures.value
-    (c.args.limit - c.loop-moved.moved) c.count_free-free.result c.clear.new.self c.entries-in-loop-moved.result.now
-    c.clear.ensures read counted in
+    c.loop-moved.invariant.way c.args.first c.requires.first refl
+    (c.args.limit - c.loop-moved.moved) c.count_free-free.result c.entries-in-loop-moved.result.now read counted in
     let all : c.args.limit ≡ c.loop-moved.moved + (c.args.limit - c.loop-moved.moved) =
     omega (arith, c.loop-moved-test.true) in
     subst (λ (p : Partitions). KeepRoom c.args.parts.now.roomy p.roomy p.entries) (sym c.note_left.ensures)
@@ -143,7 +139,7 @@ returns-then-count-lt-STRETCH-clause-rooms g c =
 
 pub loop-moved-preserved : goal.loop-moved-preserved
 loop-moved-preserved g c =
-    let read = c.entries-in-loop-moved.ensures.all ∙ c.read_from.ensures.read in
+    let read = c.entries-in-loop-moved.ensures.all ∙ c.read_anew.ensures in
     let counted : c.count_free-free.result ≡ length (take_while
     (is_free_in (holder_of c.args.locks.now) c.args.range)
     (take (c.args.limit - c.loop-moved.moved) c.entries-in-loop-moved.result.now)) =
@@ -151,9 +147,8 @@ loop-moved-preserved g c =
     (take (c.args.limit - c.loop-moved.moved) l)))
     (c.entries.ensures.all ∙ sym c.entries-in-loop-moved.ensures.all) in
     let stretch = is_stretch c.requires.sound (holder_of c.args.locks.now) c.args.limit c.args.range
-    c.loop-moved.invariant.way c.args.first c.requires.first refl c.lo.result c.lo.ensures.value
-    (c.args.limit - c.loop-moved.moved) c.count_free-free.result c.clear.new.self c.entries-in-loop-moved.result.now
-    c.clear.ensures read counted in
+    c.loop-moved.invariant.way c.args.first c.requires.first refl
+    (c.args.limit - c.loop-moved.moved) c.count_free-free.result c.entries-in-loop-moved.result.now read counted in
     let all : c.args.limit ≡ c.loop-moved.moved + (c.args.limit - c.loop-moved.moved) =
     omega (arith, c.loop-moved-test.true) in
     record {
@@ -163,6 +158,7 @@ loop-moved-preserved g c =
           c.bring_home-count.result c.bring_home-count.ensures.most
           (c.loop-moved.moved + c.bring_home-count.result) c.bring_home-count.new.self.entries refl
           c.bring_home-count.ensures.entries;
+      read = λ none. absurd (omega (arith, none, c.if-count-lt-STRETCH.false));
       runs = c.bring_home-count.ensures.runs ∙ c.loop-moved.invariant.runs;
       rooms = keeps_room c.requires.sound (holder_of c.args.locks.now) c.args.limit c.args.range
           c.loop-moved.invariant.way

@@ -1,4 +1,5 @@
-use Rattle.std.proofs.Common.{◌≡◌, ◌-◌}
+use Rattle.std.proofs.Common.{◌≡◌, ◌-◌, take}
+use Rattle.am_list.specs.Entries.{all_from}
 use Rattle.am_list.specs.Rooms.{KeepRoom}
 use Rattle.am_merge.specs.Holding.{holder_of}
 use Rattle.am_merge.proofs.Merging.{IsOnTheWay}
@@ -7,6 +8,7 @@ use Rattle.am_merge.proofs.merge.work_off_run.Given as goal
 abbrev pub invariant-loop-moved : goal.invariant-loop-moved
 invariant-loop-moved g l = record {
   way : IsOnTheWay l.initial.parts.entries (holder_of l.locks) l.limit l.fn.first.part l.range l.parts.entries l.moved;
+  read : l.moved ≡ 0 → l.batch ≡ take 16 (all_from l.parts.entries l.fn.first.part l.range.lo);
   runs : l.parts.runs ≡ l.initial.parts.runs;
   rooms : KeepRoom l.initial.parts.roomy l.parts.roomy l.parts.entries;
 }

@@ -1,11 +1,18 @@
 use Rattle.std.proofs.Common.{◌-◌, length, sym, ap, ◌∙◌, arith}
 use Rattle.std.specs.Ordering.{is_lt}
 use Rattle.am_record.proofs.Orderings.{is_less}
-use Rattle.am_parts.proofs.Settling.{rising_push}
+use Rattle.am_parts.proofs.Settling.{behind_last, rising_push}
 use Rattle.am_parts.proofs.homing.goes_behind.Goals as goal
 
-pub returns : goal.returns
-returns c = λ yes rise.
+pub returns-clause-exact : goal.returns-clause-exact
+returns-clause-exact c =
+    let xs = c.args.entries.now in
+    c.is_lt.ensures ∙ ap is_lt c.cmp_place.ensures ∙
+    sym (behind_last xs (length xs - 1) c.index-entries-len.result c.args.entry.now
+    (omega (arith, c.if-len-eq0.false)) c.index-entries-len.is)
+
+pub returns-clause-rising : goal.returns-clause-rising
+returns-clause-rising c = λ yes rise.
     let xs = c.args.entries.now in
     rising_push xs (length xs - 1) c.index-entries-len.result c.args.entry.now
     (omega (arith, c.if-len-eq0.false)) c.index-entries-len.is rise

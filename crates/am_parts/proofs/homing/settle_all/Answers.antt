@@ -1,12 +1,12 @@
 use Rattle.std.proofs.Common.{length, take, drop, sym, ap, ◌∙◌, subst, length-drop, arith}
 use Rattle.std.proofs.Math.Seq.{take-add}
-use Rattle.std.specs.Prelude.{IsSome}
+use Rattle.std.specs.Prelude.{IsSome, nat_lt}
 use Rattle.am_list.specs.Entries.{find}
 use Rattle.am_list.proofs.Rooms.{keep_on}
 use Rattle.am_list.proofs.Searches.{whole_rest}
 use Rattle.am_parts.specs.Partitions.{all_settled}
 use Rattle.am_parts.specs.GoingHome.{AreHomesOf}
-use Rattle.am_parts.proofs.Settling.{settled_on, homes_left}
+use Rattle.am_parts.proofs.Settling.{settled_on, homes_left, homes_or_none}
 use Rattle.am_parts.proofs.Standing.{with_all_settled}
 use Rattle.am_parts.proofs.homing.settle_all.Goals as goal
 
@@ -32,6 +32,8 @@ settle-preserved g c =
 pub settle_first-more-requires-clause-homes : goal.settle_first-more-requires-clause-homes
 settle_first-more-requires-clause-homes g c =
     let at = c.settle.count in let xs = c.args.entries.now in
+    let left = drop at c.entries.result.now in let few = nat_lt c.settle.lone 3 in
     subst (λ es. AreHomesOf es c.homes_from-homes.result.now) (sym (whole_rest at xs))
-    (subst (λ hs. AreHomesOf (drop at xs) hs) (sym (c.homes_from-homes.ensures ∙ ap (drop at) c.entries.ensures.all))
-    (homes_left at xs c.first_homes-all_homes.result c.first_homes-all_homes.ensures))
+    (subst (λ hs. AreHomesOf (drop at xs) hs) (sym c.homes_from-homes.ensures)
+    (homes_or_none few (drop at xs) left (subst (λ hs. AreHomesOf (drop at xs) (drop at hs)) (sym c.entries.ensures.all)
+    (homes_left at xs c.first_homes-all_homes.result c.first_homes-all_homes.ensures))))

@@ -42,11 +42,7 @@ returns-clause-runs g c =
 pub returns-in_err-order_of-clause-fault : goal.returns-in_err-order_of-clause-fault
 returns-in_err-order_of-clause-fault g c =
     let all = g.S.RecordSource.records c.args.source.now in
-    let size : c.min.result ≡ min c.args.n (length all - c.loop-from.from) = c.min.ensures
-    ∙ ap (λ k. min c.args.n (k - c.loop-from.from)) c.len-len.ensures in
     let is : IsPieceFault all c.in_err-order_of.field-0.0 =
     fault_of_piece all c.loop-from.from c.min.result c.in_err-order_of.field-0.0
-    (omega (arith, size, c.requires.low, c.loop-from-test.true, c.len-len.ensures))
-    (omega (arith, size, c.loop-from.invariant.within))
     c.in_err-order_of.ensures.fault in
     search (rules, is)

@@ -1,7 +1,8 @@
-use Rattle.std.proofs.Common.{◌≡◌, ◌∷◌, false, Some, sym, ap, ◌∙◌, subst}
+use Rattle.std.proofs.Common.{◌≡◌, ◌∷◌, false, Some, sym, ap, ◌∙◌, subst, rules}
 use Rattle.std.specs.Ordering.{is_le}
 use Rattle.std.specs.List.Sorted.{IsPermutation}
 use Rattle.std.specs.BinaryHeap.{heap_items}
+use Rattle.std.specs.BinaryHeap.PeekMut.{peek_mut_top, peek_mut_rest}
 use Rattle.am_scan.specs.Heads.{Stand, head_cmp}
 use Rattle.am_scan.specs.Cursors.{IsLeastBeside}
 use Rattle.am_scan.proofs.Leading.{not_below_others, same_top, changed_places, bound_of_both}
@@ -16,26 +17,36 @@ returns-then-le-clause-least c = record {
 
 pub returns-clause-same : goal.returns-clause-same
 returns-clause-same c =
-    let pushed = subst (λ (h : Stand). IsPermutation (h ∷ heap_items c.pop.new.self) (heap_items c.push.new.self))
-    c.replace-passed.ensures.value c.in-Ok.ensures.permutation in
-    subst (λ (h : Stand). IsPermutation (c.args.head.now ∷ heap_items c.args.others.now)
-    (h ∷ heap_items c.push.new.self)) (sym c.replace-passed.ensures.after)
-    (changed_places c.args.head.now c.in-Some-pop.least (heap_items c.args.others.now) (heap_items c.pop.new.self)
-    (heap_items c.push.new.self) c.in-Some-pop.ensures.permutation pushed)
+    let head = c.args.head.now in
+    let old = heap_items c.args.others.now in
+    let new = heap_items c.drop-least.new.self.0 in
+    let top = peek_mut_top c.in-Some-peek_mut.least in
+    let rest = peek_mut_rest c.in-Some-peek_mut.least in
+    let pushed = subst (λ (h : Stand). IsPermutation (h ∷ rest) new) c.swap.ensures.x_after
+    (c.drop-least.ensures.permutation (search rules)) in
+    let changed = subst (λ (h : Stand). IsPermutation (head ∷ old) (h ∷ new))
+    (sym (c.swap.ensures.y_after ∙ c.deref_mut.ensures.value))
+    (changed_places head top old rest new c.in-Some-peek_mut.ensures.permutation pushed) in
+    search rules
 
 pub returns-clause-least : goal.returns-clause-least
 returns-clause-least c =
     let head = c.args.head.now in
-    let least = c.in-Some-pop.least in
-    let top : least ≡ c.in-Some.other.now = same_top (heap_items c.args.others.now) c.in-Some.other.now least
-    c.in-Some.ensures.item.3.0 c.in-Some.ensures.lookup c.in-Some-pop.ensures.top in
-    let above : is_le (head_cmp least head) ≡ false = ap (λ (h : Stand). is_le (head_cmp h head)) top ∙
+    let old = heap_items c.args.others.now in
+    let new = heap_items c.drop-least.new.self.0 in
+    let top = peek_mut_top c.in-Some-peek_mut.least in
+    let rest = peek_mut_rest c.in-Some-peek_mut.least in
+    let seen : top ≡ c.in-Some.other.now = same_top old c.in-Some.other.now top c.in-Some.ensures.item.3.0
+    c.in-Some.ensures.lookup c.in-Some-peek_mut.ensures.top in
+    let above : is_le (head_cmp top head) ≡ false = ap (λ (h : Stand). is_le (head_cmp h head)) seen ∙
     sym c.le.ensures ∙ c.if-le.false in
-    let pushed = subst (λ (h : Stand). IsPermutation (h ∷ heap_items c.pop.new.self) (heap_items c.push.new.self))
-    c.replace-passed.ensures.value c.in-Ok.ensures.permutation in
-    subst (λ (h : Stand). IsLeastBeside (Some h) (heap_items c.push.new.self)) (sym c.replace-passed.ensures.after)
-    (record {
-      heap = c.in-Ok.ensures.heap_order (c.in-Some-pop.ensures.heap_order c.requires).0;
-      first = bound_of_both head least (heap_items c.pop.new.self) (heap_items c.push.new.self) above
-          (c.in-Some-pop.ensures.below_top c.requires) pushed;
-    })
+    let pushed = subst (λ (h : Stand). IsPermutation (h ∷ rest) new) c.swap.ensures.x_after
+    (c.drop-least.ensures.permutation (search rules)) in
+    let beside : IsLeastBeside (Some top) new = record {
+      heap = c.drop-least.ensures.heap_order (search rules) (c.in-Some-peek_mut.ensures.heap_order c.requires);
+      first = bound_of_both head top old rest new above (c.in-Some-peek_mut.ensures.greatest c.requires)
+          c.in-Some-peek_mut.ensures.permutation pushed;
+    } in
+    let changed = subst (λ (h : Stand). IsLeastBeside (Some h) new)
+    (sym (c.swap.ensures.y_after ∙ c.deref_mut.ensures.value)) beside in
+    search rules

@@ -1,8 +1,7 @@
-use Rattle.am_seating.proofs.Receipts.{all, one_more}
+use Rattle.am_talk.proofs.Conversations.{conversation_goes}
+use Rattle.am_seating.specs.SessionSeats.{seat_meaning, HasReceipts}
+use Rattle.am_seating.proofs.Receipts.{receipts_go}
 use Rattle.am_seating.proofs.laws.sessions_have_receipts.Goals as goal
 
-pub returns-clause-all : goal.returns-clause-all
-returns-clause-all c = all
-
-pub returns-clause-one_more : goal.returns-clause-one_more
-returns-clause-one_more c = one_more
+pub returns : goal.returns
+returns c = conversation_goes seat_meaning HasReceipts receipts_go

@@ -12,7 +12,7 @@ returns-in-Answer-clause-responds g c = (
     c.action.new.self.staged,
     due_at (g.B.Backend.means.active c.args.backend.now) c.args.session.now c.action.new.self c.args.parsed
         (Answer c.in-Answer.response) c.requires c.action.ensures.active (rw c.in-Answer.is at c.action.ensures.action),
-    (refl, refl, refl),
+    (refl, (refl, refl)),
   ),
 )
 
@@ -24,7 +24,11 @@ returns-in-Take-clause-responds g c = (
     c.action.new.self.staged,
     due_at (g.B.Backend.means.active c.args.backend.now) c.args.session.now c.action.new.self c.args.parsed
         (Take c.in-Take.step) c.requires c.action.ensures.active (rw c.in-Take.is at c.action.ensures.action),
-    (c.call-reply.result, c.call-reply.ensures.steps, refl, refl, ap (λ (s : SessionState). s.staged) c.reply.ensures),
+    (
+      c.call-reply.result,
+      refl,
+      (c.call-reply.ensures.steps, refl, ap (λ (s : SessionState). s.staged) c.reply.ensures),
+    ),
   ),
 )
 
@@ -36,6 +40,6 @@ returns-in-TellSeen-clause-responds g c = (
     c.action.new.self.staged,
     due_at (g.B.Backend.means.active c.args.backend.now) c.args.session.now c.action.new.self c.args.parsed TellSeen
         c.requires c.action.ensures.active (rw c.in-TellSeen.is at c.action.ensures.action),
-    (c.seen-session.result.0, c.seen-session.result.1, c.seen-session.ensures.shows, refl, refl, refl),
+    (c.seen-session.result.0, c.seen-session.result.1, refl, (c.seen-session.ensures.shows, refl, refl)),
   ),
 )

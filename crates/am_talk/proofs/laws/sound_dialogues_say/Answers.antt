@@ -1,23 +1,21 @@
-use Rattle.std.proofs.Common.{[], ◌∷◌, None, append-nil, subst, refl}
+use Rattle.std.proofs.Common.{[], None, append-nil, subst, refl}
 use Rattle.std.specs.FinMap.{empty}
-use Rattle.am_talk.proofs.Dialogues.{Where, whole_says, torn_says, dialogues_say}
-use Rattle.am_talk.specs.Session.{at_start}
-use Rattle.am_talk.specs.Dialogue.{Whole, TornAt}
+use Rattle.am_serial.specs.Machine.{Runs}
+use Rattle.am_talk.specs.Exchanges.{with_torn}
+use Rattle.am_talk.specs.Alone.{alone_start, alone_meaning}
 use Rattle.am_talk.specs.Say.{Says}
+use Rattle.am_talk.proofs.Conversations.{conversation_so}
+use Rattle.am_talk.proofs.Dialogues.{Where, machine_at, SaysSo, says_so}
 use Rattle.am_talk.proofs.laws.sound_dialogues_say.Goals as goal
 
 -- nothing was done yet
 opened : Where
 opened = record { begun = 0; commits = 0; runs = 0; committed = empty; own = None; staged = [] }
 
-pub returns-clause-whole : goal.returns-clause-whole
+pub returns : goal.returns
 unfolding opened
-returns-clause-whole c = λ auto exchanges trace sound dialogue.
-    subst Says (append-nil exchanges) (dialogues_say auto Whole [] whole_says exchanges opened (at_start, 0) trace refl
-    ((c.sound_traces_are_runs.ensures trace).0 sound) dialogue)
-
-pub returns-clause-torn : goal.returns-clause-torn
-unfolding opened
-returns-clause-torn c = λ auto exchanges last trace sound dialogue.
-    dialogues_say auto (TornAt last) (last ∷ []) (torn_says last) exchanges opened (at_start, 0) trace refl
-    ((c.sound_traces_are_runs.ensures trace).0 sound) dialogue
+returns c = λ auto exchanges torn trace sound (_, a).
+    let goes = conversation_so alone_meaning auto SaysSo (says_so auto) exchanges torn (alone_start, []) a.last a.own
+    a.converses opened a.aborting refl
+    (subst (Runs (machine_at opened)) a.are ((c.sound_traces_are_runs.ensures trace).0 sound)) in
+    subst Says (append-nil (with_torn exchanges torn)) (goes.says [] tt)

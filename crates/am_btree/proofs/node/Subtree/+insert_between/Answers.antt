@@ -1,49 +1,96 @@
-use Rattle.std.proofs.Common.{◌≡◌, ◌<◌, set, take, sym, ap, ◌∙◌, subst, rules, arith}
-use Rattle.am_list.specs.Entries.{all_inserted}
+use Rattle.std.proofs.Common.{◌≡◌, ◌<◌, List, length, length-drop, take, drop, sym, ap, ◌∙◌, subst, rules, arith}
+use Rattle.std.specs.Prelude.{option_copied}
+use Rattle.am_record.specs.declared.entry.Entry.{Entry}
+use Rattle.am_list.specs.Entries.{all_inserted, IsRising}
 use Rattle.am_list.proofs.Insertions.{AllFree}
+use Rattle.am_leaf.proofs.Rising.{rising-drop}
 use Rattle.am_list.proofs.Lists.{rising-take}
+use Rattle.am_list.proofs.Rooms.{keep_all}
+use Rattle.am_list.proofs.Searches.{whole_rest}
 use Rattle.am_btree.specs.Shape.{Shape}
-use Rattle.am_btree.specs.Rooms.{KeepsRoom}
-use Rattle.am_btree.specs.Nodes.{shape_of, IsTree, inner_shape, leaf_shape}
-use Rattle.am_btree.proofs.Between.{AreBetween, all_between, all_free, put_entries, put_depth, put_inner}
-use Rattle.am_btree.proofs.Inner.{as_many, they_rise, some_separators, one_below}
-use Rattle.am_btree.proofs.Rooming.{keeps_set, leaf_keeps}
+use Rattle.am_btree.specs.Rooms.{IsRoomed, KeepsRoom}
+use Rattle.am_btree.specs.Nodes.{all_entries, all_roomy, shape_of, IsTree, inner_shape, leaf_shape}
+use Rattle.am_btree.proofs.Between.{AreAmong, IsEnd, end_of, copied_or}
+use Rattle.am_btree.proofs.Stretches.{added_further}
+use Rattle.am_btree.proofs.Inner.{as_many, they_rise, one_below}
+use Rattle.am_btree.proofs.Rooming.{all_have, leaf_keeps}
 use Rattle.am_btree.proofs.node.Subtree.+insert_between.Goals as goal
-use Rattle.am_btree.proofs.node.Subtree.+insert_between.Goals.{in-Leaf, in-Inner}
+use Rattle.am_btree.proofs.node.Subtree.+insert_between.Goals.{in-Leaf, in-Inner+else-stretch-test}
+use Rattle.am_btree.proofs.node.Subtree.+insert_between.Goals.{in-Inner+then-stretch-test+then-added-more+else-is_below}
+use Rattle.am_btree.proofs.node.Subtree.+insert_between.Goals.{in-Inner+then-stretch-test+else-added-more}
+
+pub stretch-init : goal.stretch-init
+stretch-init t c =
+    let ks = c.in-Inner.children.items in let inner = subst IsTree c.in-Inner.is c.self.invariant in
+    let seen : c.args.self.now ≡ inner_shape ks = sym c.self.view_is ∙ ap shape_of c.in-Inner.is in
+    record {
+      range = omega arith;
+      so_far = record {
+        inner = inner;
+        among = tt;
+        free = tt;
+        entries = sym (ap (λ (s : Shape). s.entries) seen);
+        depth = sym (ap (λ (s : Shape). s.depth) seen);
+        rooms = subst (λ (s : Shape). KeepsRoom s (inner_shape ks)) (sym seen)
+            (keep_all (all_roomy ks) (all_entries ks) (all_have ks inner.children.roomed));
+      };
+    }
 
 pub child_for-at-requires-clause-rising : goal.child_for-at-requires-clause-rising
-child_for-at-requires-clause-rising t c =
-    let inner = subst IsTree c.in-Inner.is c.self.invariant in
-    they_rise c.in-Inner.separators c.in-Inner.children.items _ inner
-
-pub child_for-at-requires-clause-some : goal.child_for-at-requires-clause-some
-child_for-at-requires-clause-some t c =
-    let inner = subst IsTree c.in-Inner.is c.self.invariant in
-    omega (
-      arith,
-      some_separators c.in-Inner.separators c.in-Inner.children.items _ inner,
-    )
+child_for-at-requires-clause-rising t c = they_rise c.in-Inner.separators c.stretch.children.items _
+    c.stretch.invariant.so_far.inner
 
 pub index_mut-requires : goal.index_mut-requires
-index_mut-requires t c =
-    let inner = subst IsTree c.in-Inner.is c.self.invariant in
-    omega (
-      arith,
-      as_many c.in-Inner.separators c.in-Inner.children.items _ inner,
-      c.child_for-at.ensures.in_range,
-      c.in-Inner.children.ok.0,
-    )
+index_mut-requires t c = omega (
+  arith,
+  as_many c.in-Inner.separators c.stretch.children.items _ c.stretch.invariant.so_far.inner,
+  c.child_for-at.ensures.in_range,
+  c.stretch.children.ok.0,
+)
 
-pub insert_between-requires : goal.insert_between-requires
-insert_between-requires t c =
-    let ls = c.in-Inner.separators in let ks = c.in-Inner.children.items in let at = c.child_for-at.result in
-    let k = c.index_mut.result.now in
-    let inner = subst IsTree c.in-Inner.is c.self.invariant in
-    let seen : c.args.self.now ≡ inner_shape ks = sym c.self.view_is ∙ ap shape_of c.in-Inner.is in
+pub insert_between-count-requires : goal.insert_between-count-requires
+insert_between-count-requires t c =
+    let ls = c.in-Inner.separators in let ks = c.stretch.children.items in let at = c.child_for-at.result in
+    let k = c.index_mut.result.now in let inner = c.stretch.invariant.so_far.inner in
     let deep = one_below ls ks _ inner at k (omega (arith, c.child_for-at.ensures.in_range, as_many ls ks _ inner))
     c.index_mut.ensures.value in
-    let falls : k.depth < c.args.self.now.depth = omega (arith, deep, ap (λ (s : Shape). s.depth) seen) in
-    (search rules, c.requires.rising)
+    let falls : k.depth < c.args.self.now.depth = omega (arith, deep, c.stretch.invariant.so_far.depth) in (
+      search rules,
+      subst IsRising (sym (whole_rest c.stretch.added c.args.more.now))
+          (rising-drop c.stretch.added c.args.more.now c.requires.rising),
+    )
+
+pub stretch-preserved : goal.stretch-preserved
+stretch-preserved t c =
+    let ls = c.in-Inner.separators in let ks = c.stretch.children.items in let at = c.child_for-at.result in
+    let k = c.index_mut.result.now in let e = c.insert_between-count.ensures in
+    let n = c.insert_between-count.result in
+    let before = c.stretch.invariant.so_far in let more = c.args.more.now in let bound = option_copied c.args.bound in
+    let lt : at < length ks = omega (arith, c.child_for-at.ensures.in_range, as_many ls ks _ before.inner) in
+    let is_end : IsEnd ls ks at bound (option_copied c.or-end.result) =
+    subst (IsEnd ls ks at bound) (sym (ap option_copied c.or-end.ensures ∙ copied_or c.behind.result c.args.bound))
+    (end_of ls ks _ before.inner at lt bound (option_copied c.behind.result) c.behind.ensures) in
+    let ks0 = c.in-Inner.children.items in let inner0 = subst IsTree c.in-Inner.is c.self.invariant in
+    let seen : c.args.self.now ≡ inner_shape ks0 = sym c.self.view_is ∙ ap shape_of c.in-Inner.is in
+    let have : IsRoomed c.args.self.now = subst IsRoomed (sym seen) (all_have ks0 inner0.children.roomed) in
+    let rest = whole_rest c.stretch.added more in
+    let so_far = added_further c.args.self.now have bound more ls ks _ c.stretch.added before at k
+    c.insert_between-count.new.self lt
+    c.index_mut.ensures.value (option_copied c.or-end.result) is_end n
+    (rising-take n (drop c.stretch.added more) (rising-drop c.stretch.added more c.requires.rising))
+    (subst (λ l. AreAmong k.entries (option_copied c.or-end.result) (take n l)) rest e.among)
+    (subst (λ l. AllFree k.entries (take n l)) rest e.free)
+    (e.added ∙ ap (λ l. all_inserted (take n l) k.entries) rest) e.depth e.rooms in
+    record {
+      range = omega (
+        arith,
+        c.stretch.invariant.range,
+        e.most,
+        ap (λ (l : List Entry). length l) rest,
+        length-drop c.stretch.added more,
+      );
+      so_far = so_far;
+    }
 
 pub invariant_of-self : goal.invariant_of-self
 invariant_of-self t c = elim c.match-self.branch [
@@ -51,31 +98,26 @@ invariant_of-self t c = elim c.match-self.branch [
     w.insert_among.ensures.most,
     (w.insert_among.ensures.rising, w.insert_among.ensures.room),
   )
-  | in-Inner w ↦
-      let ls = w.in-Inner.separators in let ks = w.in-Inner.children.items in let at = w.child_for-at.result in
-      let inner = subst IsTree w.in-Inner.is c.self.invariant in
-      let k = w.index_mut.result.now in let e = w.insert_between.ensures in
-      let n = w.insert_between.result in
-      rw w.self-inside-is (put_inner ls ks _ inner at k
-      (omega (arith, w.child_for-at.ensures.in_range, as_many ls ks _ inner)) w.index_mut.ensures.value
-      (take n c.args.more.now) e.between w.insert_between.new.self e.depth e.added
-      (rising-take n c.args.more.now c.requires.rising) e.free e.rooms.have)
+  | in-Inner+else-stretch-test w ↦
+      rw w.self-inside-is w.stretch.invariant.so_far.inner
+  | in-Inner+then-stretch-test+then-added-more+else-is_below w ↦
+      rw w.self-inside-is w.stretch.invariant.so_far.inner
+  | in-Inner+then-stretch-test+else-added-more w ↦
+      rw w.self-inside-is w.stretch.invariant.so_far.inner
 ]
 
-pub returns-clause-between : goal.returns-clause-between
-returns-clause-between t c = elim c.match-self.branch [
+pub returns-clause-among : goal.returns-clause-among
+returns-clause-among t c = elim c.match-self.branch [
   | in-Leaf w ↦
       let seen : c.args.self.now ≡ leaf_shape w.in-Leaf.leaf = sym c.self.view_is ∙ ap shape_of w.in-Leaf.is in
-      rw w.result-is (subst (λ (s : Shape). AreBetween s.entries (take w.insert_among.result c.args.more.now))
-      (sym seen) w.insert_among.ensures.between)
-  | in-Inner w ↦
-      let ls = w.in-Inner.separators in let ks = w.in-Inner.children.items in let at = w.child_for-at.result in
-      let inner = subst IsTree w.in-Inner.is c.self.invariant in
-      let seen : c.args.self.now ≡ inner_shape ks = sym c.self.view_is ∙ ap shape_of w.in-Inner.is in
-      let k = w.index_mut.result.now in let xs = take w.insert_between.result c.args.more.now in
-      rw w.result-is (subst (λ (s : Shape). AreBetween s.entries xs) (sym seen)
-      (all_between ls ks _ inner at k (omega (arith, w.child_for-at.ensures.in_range, as_many ls ks _ inner))
-      w.index_mut.ensures.value xs w.insert_between.ensures.between))
+      rw w.result-is (subst (λ (s : Shape). AreAmong s.entries (option_copied c.args.bound)
+      (take w.insert_among.result c.args.more.now)) (sym seen) w.insert_among.ensures.among)
+  | in-Inner+else-stretch-test w ↦
+      rw w.result-is w.stretch.invariant.so_far.among
+  | in-Inner+then-stretch-test+then-added-more+else-is_below w ↦
+      rw w.result-is w.stretch.invariant.so_far.among
+  | in-Inner+then-stretch-test+else-added-more w ↦
+      rw w.result-is w.stretch.invariant.so_far.among
 ]
 
 pub returns-clause-free : goal.returns-clause-free
@@ -84,14 +126,12 @@ returns-clause-free t c = elim c.match-self.branch [
       let seen : c.args.self.now ≡ leaf_shape w.in-Leaf.leaf = sym c.self.view_is ∙ ap shape_of w.in-Leaf.is in
       rw w.result-is (subst (λ (s : Shape). AllFree s.entries (take w.insert_among.result c.args.more.now))
       (sym seen) w.insert_among.ensures.free)
-  | in-Inner w ↦
-      let ls = w.in-Inner.separators in let ks = w.in-Inner.children.items in let at = w.child_for-at.result in
-      let inner = subst IsTree w.in-Inner.is c.self.invariant in
-      let seen : c.args.self.now ≡ inner_shape ks = sym c.self.view_is ∙ ap shape_of w.in-Inner.is in
-      let k = w.index_mut.result.now in let xs = take w.insert_between.result c.args.more.now in
-      rw w.result-is (subst (λ (s : Shape). AllFree s.entries xs) (sym seen)
-      (all_free ls ks _ inner at k (omega (arith, w.child_for-at.ensures.in_range, as_many ls ks _ inner))
-      w.index_mut.ensures.value xs w.insert_between.ensures.between w.insert_between.ensures.free))
+  | in-Inner+else-stretch-test w ↦
+      rw w.result-is w.stretch.invariant.so_far.free
+  | in-Inner+then-stretch-test+then-added-more+else-is_below w ↦
+      rw w.result-is w.stretch.invariant.so_far.free
+  | in-Inner+then-stretch-test+else-added-more w ↦
+      rw w.result-is w.stretch.invariant.so_far.free
 ]
 
 pub returns-clause-added : goal.returns-clause-added
@@ -100,15 +140,12 @@ returns-clause-added t c = elim c.match-self.branch [
       let seen : c.args.self.now ≡ leaf_shape w.in-Leaf.leaf = sym c.self.view_is ∙ ap shape_of w.in-Leaf.is in
       rw (w.result-is, w.self-inside-is) (w.insert_among.ensures.added ∙
       sym (ap (λ (s : Shape). all_inserted (take w.insert_among.result c.args.more.now) s.entries) seen))
-  | in-Inner w ↦
-      let ls = w.in-Inner.separators in let ks = w.in-Inner.children.items in let at = w.child_for-at.result in
-      let inner = subst IsTree w.in-Inner.is c.self.invariant in
-      let seen : c.args.self.now ≡ inner_shape ks = sym c.self.view_is ∙ ap shape_of w.in-Inner.is in
-      let k = w.index_mut.result.now in let xs = take w.insert_between.result c.args.more.now in
-      let e = w.insert_between.ensures in
-      rw (w.result-is, w.self-inside-is) (put_entries ls ks _ inner at k
-      (omega (arith, w.child_for-at.ensures.in_range, as_many ls ks _ inner)) w.index_mut.ensures.value xs e.between
-      w.insert_between.new.self e.depth e.added ∙ sym (ap (λ (s : Shape). all_inserted xs s.entries) seen))
+  | in-Inner+else-stretch-test w ↦
+      rw (w.result-is, w.self-inside-is) w.stretch.invariant.so_far.entries
+  | in-Inner+then-stretch-test+then-added-more+else-is_below w ↦
+      rw (w.result-is, w.self-inside-is) w.stretch.invariant.so_far.entries
+  | in-Inner+then-stretch-test+else-added-more w ↦
+      rw (w.result-is, w.self-inside-is) w.stretch.invariant.so_far.entries
 ]
 
 pub returns-clause-depth : goal.returns-clause-depth
@@ -116,15 +153,12 @@ returns-clause-depth t c = elim c.match-self.branch [
   | in-Leaf w ↦
       let seen : c.args.self.now ≡ leaf_shape w.in-Leaf.leaf = sym c.self.view_is ∙ ap shape_of w.in-Leaf.is in
       rw w.self-inside-is (sym (ap (λ (s : Shape). s.depth) seen))
-  | in-Inner w ↦
-      let ls = w.in-Inner.separators in let ks = w.in-Inner.children.items in let at = w.child_for-at.result in
-      let inner = subst IsTree w.in-Inner.is c.self.invariant in
-      let seen : c.args.self.now ≡ inner_shape ks = sym c.self.view_is ∙ ap shape_of w.in-Inner.is in
-      let k = w.index_mut.result.now in let e = w.insert_between.ensures in
-      rw w.self-inside-is (put_depth ls ks _ inner at k
-      (omega (arith, w.child_for-at.ensures.in_range, as_many ls ks _ inner)) w.index_mut.ensures.value
-      (take w.insert_between.result c.args.more.now) e.between w.insert_between.new.self e.depth e.added ∙
-      sym (ap (λ (s : Shape). s.depth) seen))
+  | in-Inner+else-stretch-test w ↦
+      rw w.self-inside-is w.stretch.invariant.so_far.depth
+  | in-Inner+then-stretch-test+then-added-more+else-is_below w ↦
+      rw w.self-inside-is w.stretch.invariant.so_far.depth
+  | in-Inner+then-stretch-test+else-added-more w ↦
+      rw w.self-inside-is w.stretch.invariant.so_far.depth
 ]
 
 pub returns-clause-rooms : goal.returns-clause-rooms
@@ -134,13 +168,10 @@ returns-clause-rooms t c = elim c.match-self.branch [
       let e = w.insert_among.ensures in
       rw w.self-inside-is (subst (λ (s : Shape). KeepsRoom s (leaf_shape w.insert_among.new.leaf)) (sym seen)
       (leaf_keeps w.in-Leaf.leaf w.insert_among.new.leaf e.room (omega (arith, e.same_room))))
-  | in-Inner w ↦
-      let ls = w.in-Inner.separators in let ks = w.in-Inner.children.items in let at = w.child_for-at.result in
-      let inner = subst IsTree w.in-Inner.is c.self.invariant in
-      let seen : c.args.self.now ≡ inner_shape ks = sym c.self.view_is ∙ ap shape_of w.in-Inner.is in
-      let k = w.index_mut.result.now in let k' = w.insert_between.new.self in
-      rw w.self-inside-is (subst (λ (s : Shape). KeepsRoom s (inner_shape (set ks at k'))) (sym seen)
-      (keeps_set ks at k inner.children.rising inner.children.roomed
-      (omega (arith, w.child_for-at.ensures.in_range, as_many ls ks _ inner)) w.index_mut.ensures.value k'
-      w.insert_between.ensures.rooms))
+  | in-Inner+else-stretch-test w ↦
+      rw w.self-inside-is w.stretch.invariant.so_far.rooms
+  | in-Inner+then-stretch-test+then-added-more+else-is_below w ↦
+      rw w.self-inside-is w.stretch.invariant.so_far.rooms
+  | in-Inner+then-stretch-test+else-added-more w ↦
+      rw w.self-inside-is w.stretch.invariant.so_far.rooms
 ]

@@ -6,7 +6,7 @@ use Rattle.am_engine.specs.Changes.{change, end_of, open_after}
 use Rattle.am_latch.specs.declared.receipt.Receipt.{Receipt}
 use Rattle.am_latch.specs.declared.views.View.{View}
 use Rattle.am_latch.specs.Receipts.{SeatState, receipt, moved_in, last_commit_of, positions_of, AreBehind}
-use Rattle.am_latch.specs.Views.{IsSeatView}
+use Rattle.am_latch.specs.Views.{seat_in, IsSeatView}
 use Rattle.am_latch.specs.Ties.{open_of, HasRoom}
 use Rattle.am_latch.proofs.Calling.{where_true, received, last_commit-snoc, behind-snoc}
 use Rattle.am_latch.proofs.Seats.{room_after, wider, moved_in-snoc}
@@ -15,21 +15,25 @@ use Rattle.am_latch.proofs.seat.Seat.make_call.Goals as goal
 
 pub returns-clause-called : goal.returns-clause-called
 returns-clause-called g c =
+    let rs = (seat_in c.self.inside.token.me.0).receipts in
     let stored = sym c.was_stored.ensures ∙ c.if-not-was_stored.false in
-    let more = ap (λ (m : Me ℕ View). m.0.receipts) (where_true _ _ _ stored c.call-outcome.ensures.token) in
-    received _ _ _ c.call-outcome.result.position c.self.inside.token.me.0.receipts _ _ _ c.self.view_is stored more
+    let more = ap (λ (m : Me ℕ View). (seat_in m.0).receipts) (where_true _ _ _ stored c.call-outcome.ensures.token) ∙
+    (λ j. rs ++ receipt (c.self.invariant.seat j) (length rs) c.args.step c.call-outcome.result.reply
+    c.call-outcome.result.position ∷ []) in
+    received _ _ _ c.call-outcome.result.position rs _ _ _ c.self.view_is stored more
 
 pub invariant_of-self-2 : goal.invariant_of-self-2
 invariant_of-self-2 g c =
     let i = c.self.invariant in
     let old = c.self.inside.positions in
-    let rs = c.self.inside.token.me.0.receipts in
+    let rs = (seat_in c.self.inside.token.me.0).receipts in
     let st = c.args.step in
     let r = c.call-outcome.result.reply in
     let stored = sym c.was_stored.ensures ∙ c.if-not-was_stored.false in
-    let x : Receipt = receipt c.self.inside.number (length rs) st r c.call-outcome.result.position in
+    let x : Receipt = receipt (seat_in c.self.inside.token.me.0).seat (length rs) st r c.call-outcome.result.position in
     let me = where_true _ _ _ stored c.call-outcome.ensures.token in
-    let more : c.call-outcome.new.token.me.0.receipts ≡ rs ++ x ∷ [] = ap (λ (m : Me ℕ View). m.0.receipts) me in
+    let more : (seat_in c.call-outcome.new.token.me.0).receipts ≡ rs ++ x ∷ [] =
+    ap (λ (m : Me ℕ View). (seat_in m.0).receipts) me in
     let was : rs ≡ c.args.self.now.receipts = ap (λ (s : SeatState). s.receipts) c.self.view_is in
     let gone : c.self.inside.let_go ≡ c.args.self.now.let_go = ap (λ (s : SeatState). s.let_go) c.self.view_is in
     let may : IsAllowed c.self.inside.open_now st = subst (λ (o : Option ℕ). IsAllowed o st)
@@ -49,12 +53,11 @@ invariant_of-self-2 g c =
     (vec_capacity c.get_places.new.positions) may c.call-outcome.ensures.ended (wider _ _ _ _ i.room q.kept)
     (let got = q.got c.if-not-get_places.false in
     omega (arith, got, c.places_for-receipts_needed.ensures, q.long)) few in
-    let long : length c.call-outcome.new.token.me.0.receipts ≡ length rs + 1 = ap (λ (l : List Receipt). length l)
-    more ∙
-    length-append rs (x ∷ []) in record {
+    let long : length (seat_in c.call-outcome.new.token.me.0).receipts ≡ length rs + 1 =
+    ap (λ (l : List Receipt). length l) more ∙ length-append rs (x ∷ []) in record {
       table_of = search rules;
       view = subst (λ (m : Me ℕ View). IsSeatView m.0) (sym me) refl;
-      seat = ap (λ (m : Me ℕ View). m.0.seat) me;
+      seat = ap (λ (m : Me ℕ View). (seat_in m.0).seat) me ∙ i.seat;
       slots = ap (λ (m : Me ℕ View). m.1) me ∙ i.slots;
       below = i.below;
       held = subst (λ (y : List Receipt × List ℕ). AreBehind c.self.inside.let_go (positions_of y.0) y.1)

@@ -4,9 +4,10 @@ use Rattle.am_latch.specs.declared.receipt.Receipt.{Receipt}
 use Rattle.am_engine.specs.Traces.{CallLog, log_of, log_with, AreMadeBelow}
 use Rattle.am_latch.specs.Receipts.{receipts_of}
 use Rattle.am_latch.specs.Ties.{open_of, open_in, IsTied}
-use Rattle.am_latch.specs.Taken.{handed_view}
-use Rattle.am_latch.specs.Views.{trace_view, log_in_view}
+use Rattle.am_latch.specs.declared.taken.TakenView.TheVariants.{Handed}
+use Rattle.am_latch.specs.Views.{seat_in, log_in}
 use Rattle.am_latch.specs.declared.views.View.{View}
+use Rattle.am_latch.specs.declared.views.View.TheVariants.{Log}
 use Rattle.am_latch.proofs.Holding.{grown, below-snoc, only}
 use Rattle.am_latch.proofs.Tying.{tied_more, ends_active}
 use Rattle.am_latch.proofs.state.LatchState.call.Goals as goal
@@ -17,9 +18,9 @@ returns-then-not-was_stored-clause-ended g c =
     let e = log_of c.self.inside.engine in
     let trace_token = only _ _ (sym c.into_seat-trace_token.ensures.2 ∙ ap (λ b. b.views) c.replace.ensures.value ∙
     i.knows) in
-    let known : c.args.token.now.me.0.receipts ≡ receipts_of c.args.call_id.seat e =
+    let known : (seat_in c.args.token.now.me.0).receipts ≡ receipts_of c.args.call_id.seat e =
     c.compare_receipts-trace_token.ensures.known ∙
-    (λ j. receipts_of (sym c.requires.token.1 j) (log_in_view (trace_token j))) in
+    (λ j. receipts_of (sym c.requires.token.1 j) (log_in (trace_token j))) in
     let may : IsAllowed (open_in e c.args.call_id.seat) c.args.step =
     subst (λ (rs : List Receipt). IsAllowed (open_of rs) c.args.step) known c.requires.may in
     ends_active e c.args.call_id.seat c.args.step c.step_with-reply.result i.tied may c.step_with-reply.ensures.answers
@@ -30,9 +31,9 @@ returns-clause-ended g c =
     let e = log_of c.self.inside.engine in
     let trace_token = only _ _ (sym c.into_seat-trace_token.ensures.2 ∙ ap (λ b. b.views) c.replace.ensures.value ∙
     i.knows) in
-    let known : c.args.token.now.me.0.receipts ≡ receipts_of c.args.call_id.seat e =
+    let known : (seat_in c.args.token.now.me.0).receipts ≡ receipts_of c.args.call_id.seat e =
     c.compare_receipts-trace_token.ensures.known ∙
-    (λ j. receipts_of (sym c.requires.token.1 j) (log_in_view (trace_token j))) in
+    (λ j. receipts_of (sym c.requires.token.1 j) (log_in (trace_token j))) in
     let may : IsAllowed (open_in e c.args.call_id.seat) c.args.step =
     subst (λ (rs : List Receipt). IsAllowed (open_of rs) c.args.step) known c.requires.may in
     ends_active e c.args.call_id.seat c.args.step c.step_with-reply.result i.tied may c.step_with-reply.ensures.answers
@@ -45,11 +46,11 @@ invariant_of-self-2 g c =
     let after = grown _ _ _ _ _ stored c.step_with-reply.ensures.stepped in
     let trace_token = only _ _ (sym c.into_seat-trace_token.ensures.2 ∙ ap (λ b. b.views) c.replace.ensures.value ∙
     i.knows) in
-    let again : c.compare_receipts-trace_token.result.me.0 ≡ trace_view e =
+    let again : c.compare_receipts-trace_token.result.me.0 ≡ Log e =
     ap (λ m. m.0) c.compare_receipts-trace_token.ensures.same.3 ∙ trace_token in
-    let known : c.args.token.now.me.0.receipts ≡ receipts_of c.args.call_id.seat e =
+    let known : (seat_in c.args.token.now.me.0).receipts ≡ receipts_of c.args.call_id.seat e =
     c.compare_receipts-trace_token.ensures.known ∙
-    (λ j. receipts_of (sym c.requires.token.1 j) (log_in_view (trace_token j))) in
+    (λ j. receipts_of (sym c.requires.token.1 j) (log_in (trace_token j))) in
     let may : IsAllowed (open_in e c.args.call_id.seat) c.args.step =
     subst (λ (rs : List Receipt). IsAllowed (open_of rs) c.args.step) known c.requires.may in
     let even : length e.calls ≡ length e.trace = c.kept_calls-calls.ensures.each in
@@ -58,11 +59,11 @@ invariant_of-self-2 g c =
     let entered = ap (λ m. m.0) c.append_call.ensures.trace_token in record {
       table_of = search rules;
       knows = c.into_badge-2.ensures.2 ∙ ap (λ (v : View). v ∷ [])
-          (entered ∙ (λ j. trace_view (log_with (log_in_view (again j)) c.args.call_id (newest j).0 (newest j).1)) ∙
-          ap trace_view (sym after));
+          (entered ∙ (λ j. Log (log_with (log_in (again j)) c.args.call_id (newest j).0 (newest j).1)) ∙
+          ap Log (sym after));
       handed_of = i.handed_of;
       handed = i.handed ∙
-          ap (λ (d : CallLog). handed_view d.trace ∷ []) (sym c.step_with-reply.ensures.handed);
+          ap (λ (d : CallLog). Handed d.trace ∷ []) (sym c.step_with-reply.ensures.handed);
       made = subst (λ (d : CallLog). AreMadeBelow g.L.LatchName.seats d.calls) (sym after)
           (below-snoc _ _ _ i.made c.requires.token.2);
       tied = subst IsTied (sym after) (tied_more e c.args.call_id c.args.step c.step_with-reply.result even i.tied may

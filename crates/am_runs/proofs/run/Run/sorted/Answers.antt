@@ -9,7 +9,7 @@ use Rattle.am_runs.proofs.run.Run.sorted.Goals as goal
 pub returns-clause-apart : goal.returns-clause-apart
 returns-clause-apart c =
     let records = c.args.records.now in
-    let run = named records c.in_ok-order.order.items in
+    let run = named records c.in-Ok.order.items in
     rising_apart records run
     (subst (λ (l : Records). IsPermutation l run) (take_all (length records - 0) records (omega arith))
-    c.in_ok-order.ensures.same) c.in_ok-order.ensures.order.rising
+    c.in-Ok.ensures.same) c.in-Ok.ensures.order.rising

@@ -15,7 +15,7 @@ returns-then-self-len-clause-ended g c =
     in
     λ _. none_of_old same_part same_key
     (ends_here (λ p r. c.rows_follow.ensures.reads es p r c.requires.rising) c.args.range now.part now.rows.items
-    now.passed (ap (within c.args.range) same_key ∙ c.requires.inside) is_ready past)
+    now.passed now.is_all (ap (within c.args.range) same_key ∙ c.requires.inside) is_ready past)
 
 pub returns-clause-moved : goal.returns-clause-moved
 returns-clause-moved g c =
@@ -32,4 +32,4 @@ returns-clause-moved g c =
     ) in
     λ _. same_old same_part same_key
     (goes_on_here (λ p r. c.rows_follow.ensures.reads es p r c.requires.rising) c.args.range now.part now.rows.items
-    now.passed (ap (within c.args.range) same_key ∙ c.requires.inside) is_ready more)
+    now.passed now.is_all (ap (within c.args.range) same_key ∙ c.requires.inside) is_ready more)

@@ -2,7 +2,7 @@ use Rattle.std.proofs.Common.{subst}
 use Rattle.std.specs.Prelude.{MatchOption}
 use Rattle.am_runs.specs.Cuts.{keys_of, NoneTwice, IsLeastTwice}
 use Rattle.am_runs.proofs.Pieces.{only_memory}
-use Rattle.am_runs.proofs.cut.over_all.Goals as goal
+use Rattle.am_runs.proofs.ties.over_all.Goals as goal
 
 pub returns-in-Ok-None : goal.returns-in-Ok-None
 returns-in-Ok-None g c =

@@ -1,7 +1,7 @@
 use Rattle.std.proofs.Common.{◌≡◌, ◌++◌, map, take}
 use Rattle.am_runs.specs.declared.sorting.Spot.{Spot}
-use Rattle.am_runs.proofs.Apart.{fronts_in}
-use Rattle.am_runs.proofs.cut.have_fronts_apart.Given as goal
+use Rattle.am_runs.specs.Fronts.{fronts_in}
+use Rattle.am_runs.proofs.fronts.fronts_in.Given as goal
 
 abbrev pub invariant-loop-order : goal.invariant-loop-order
 invariant-loop-order l = l.fronts.items ≡ fronts_in (take l.order-index l.orders)
