@@ -124,8 +124,8 @@ impl PartIndex for BTree {
         }
     }
 
-    fn insert_between(&mut self, more: &[Entry]) -> usize {
-        self.root.insert_between(None, more)
+    fn insert_among(&mut self, more: &[Entry]) -> usize {
+        self.root.insert_among(None, more)
     }
 
     fn append_run(&mut self, part: u32, pairs: &[(Key, Value)]) -> Result<(), NoMemory> {

@@ -18,7 +18,7 @@ mod btree;
 mod fill;
 mod find;
 mod insert;
-mod insert_between;
+mod insert_among;
 mod make_room;
 mod node;
 mod read;

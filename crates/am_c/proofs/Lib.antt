@@ -6,4 +6,3 @@ mod Loosened
 mod Rows
 mod Turns
 mod Wholes
-mod Zeros

@@ -1,7 +1,8 @@
 -- Keys, values and records as C gives and gets them.
-use Rattle.std.specs.Prelude.{ℕ, nat_le, length, List, ◌++◌, ◌-◌, take, replicate, cond, Result, Ok, Err}
+use Rattle.std.specs.Prelude.{ℕ, nat_le, length, List, take, cond, Result, Ok, Err}
 use Rattle.am_record.specs.Limits.{max_key_bytes, max_value_bytes}
 use Rattle.am_record.specs.OrderedKey.{OrderedKey, key_of, bytes_of}
+use Rattle.am_record.specs.PaddedBytes.{zero_filled}
 use Rattle.am_record.specs.Interval.{Interval, key_le}
 use Rattle.am_c.specs.declared.status.Status.{Status}
 use Rattle.am_c.specs.declared.status.Status.TheVariants.{BadKey, BadValue, BadRange}
@@ -35,10 +36,7 @@ pair_given r =
     (Ok (key_of (take r.key.len r.key.bytes), take r.value.len r.value.bytes)) (Err BadValue))
     (Err BadKey)
 
--- bytes with zeros behind them
-abbrev pub zero_filled : ℕ → List ℕ → List ℕ
-zero_filled room bytes = bytes ++ replicate (room - length bytes) 0
-
+-- as C holds them: zeros stand behind the bytes
 abbrev pub key_text : OrderedKey → KeyText
 key_text k = record { len = length (bytes_of k); bytes = zero_filled 32 (bytes_of k) }
 

@@ -1,7 +1,7 @@
 //! Keys, values and records as C holds them: their bytes, zeros behind them, and how many there are.
 
 ghost use Rattle.std.specs.Prelude.{◌≡◌, ◌≤◌, length};
-ghost use Rattle.am_c.specs.Texts.{key_given, value_given, range_given, pair_given, zero_filled, key_text, value_text};
+ghost use Rattle.am_c.specs.Texts.{key_given, value_given, range_given, pair_given, key_text, value_text};
 ghost use Rattle.am_c.specs.Texts.{record_as_text};
 
 use crate::status::Status;
@@ -63,33 +63,14 @@ pub(crate) fn range_given(lo: &[u8], hi: &[u8]) -> Result<Range, Status>
     }
 }
 
-fn key_bytes(text: &[u8]) -> [u8; 32]
-    requires { length text.now ≤ 32 }
-    ensures { result ≡ zero_filled 32 text.now }
-{
-    let mut bytes = [0; 32];
-    bytes[..text.len()].copy_from_slice(text);
-    bytes
-}
-
-fn value_bytes(text: &[u8]) -> [u8; 64]
-    requires { length text.now ≤ 64 }
-    ensures { result ≡ zero_filled 64 text.now }
-{
-    let mut bytes = [0; 64];
-    bytes[..text.len()].copy_from_slice(text);
-    bytes
-}
-
 impl KeyText {
     /// The key as C holds it.
     pub(crate) fn of(key: &Key) -> KeyText
         ensures { result ≡ key_text key.now }
     {
-        let text = key.bytes();
         KeyText {
-            len: text.len(),
-            bytes: key_bytes(text),
+            len: key.bytes().len(),
+            bytes: key.padded(),
         }
     }
 }
@@ -99,10 +80,9 @@ impl ValueText {
     pub(crate) fn of(value: &Value) -> ValueText
         ensures { result ≡ value_text value.now }
     {
-        let text = value.bytes();
         ValueText {
-            len: text.len(),
-            bytes: value_bytes(text),
+            len: value.len(),
+            bytes: value.padded(),
         }
     }
 }

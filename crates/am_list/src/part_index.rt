@@ -110,7 +110,7 @@ pub trait PartIndex {
     /// Adds the first of several entries that rise, as many as is at hand where nothing is in the way: their places are
     /// free, and no memory is taken. How many it added, perhaps none. Which number is at hand depends on how the index
     /// keeps them.
-    fn insert_between(&mut self, more: &[Entry]) -> usize
+    fn insert_among(&mut self, more: &[Entry]) -> usize
         requires rising { IsRising more.now }
         ensures most { result ≤ length more.now }
         ensures free { AllByRecursion (λ e. find (entries self.old) e.part e.key ≡ None) (take result more.now) }

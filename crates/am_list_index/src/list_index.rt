@@ -181,7 +181,7 @@ impl PartIndex for ListIndex {
     }
 
     // None: this index is plain.
-    fn insert_between(&mut self, _more: &[Entry]) -> usize {
+    fn insert_among(&mut self, _more: &[Entry]) -> usize {
         0
     }
 

@@ -137,7 +137,7 @@ impl<I: PartIndex + Drop> PartIndex for Tight<I> {
     }
 
     // No insert is counted: this one wants no memory.
-    fn insert_between(&mut self, more: &[Entry]) -> usize
+    fn insert_among(&mut self, more: &[Entry]) -> usize
         requires rising { IsRising more.now }
         ensures most { result ≤ length more.now }
         ensures free { AllByRecursion (λ e. find self.old.entries e.part e.key ≡ None) (take result more.now) }
@@ -146,7 +146,7 @@ impl<I: PartIndex + Drop> PartIndex for Tight<I> {
         ensures no_insert { self.new.inserts ≡ self.old.inserts }
         ensures same_refused { self.new.refused ≡ self.old.refused }
     {
-        self.index.insert_between(more)
+        self.index.insert_among(more)
     }
 
     fn append_run(&mut self, part: u32, pairs: &[(Key, Value)]) -> Result<(), NoMemory>

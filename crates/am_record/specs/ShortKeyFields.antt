@@ -1,12 +1,12 @@
-use Rattle.std.specs.Prelude.{◌≡◌, List, ℕ, take, length, replicate, ◌++◌, ◌-◌}
+use Rattle.std.specs.Prelude.{◌≡◌, List, ℕ, take, length}
 use Rattle.std.proofs.Common.{ap, ◌∙◌}
 use Rattle.am_record.specs.OrderedKey.{key_of, bytes_of, bytes_of-key_of}
-use Rattle.am_record.specs.PaddedBytes.{IsPadded, padded_back}
+use Rattle.am_record.specs.PaddedBytes.{IsPadded, padded_back, zero_filled}
 use Rattle.am_record.specs.declared.key.ShortKey.TheInside.{Inside}
 
 -- the bytes with zeros behind them, 16 in all
 abbrev pub padded_short : List ℕ → List ℕ
-padded_short bytes = bytes ++ replicate (16 - length bytes) 0
+padded_short bytes = zero_filled 16 bytes
 
 pub key_fields_of-view : (a : Inside) → IsPadded 16 a.bytes a.len →
     record {

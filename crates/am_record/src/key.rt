@@ -6,6 +6,7 @@ ghost use Rattle.am_record.specs.KeyMix.{mix_in, key_mix};
 ghost use Rattle.am_record.specs.KeyNumber.{key_number};
 ghost use Rattle.am_record.specs.KeyWords.{word_at, key_words, AreBytes};
 ghost use Rattle.am_record.specs.OrderedKey.{key_of, bytes_of, number_key, key_least, IsLeast};
+ghost use Rattle.am_record.specs.PaddedBytes.{zero_filled};
 
 use crate::hash_key::HashKey;
 use crate::limits::{MAX_KEY_LEN, SHORT_LEN};
@@ -142,6 +143,13 @@ impl Key {
         ensures short { length (bytes_of self.now) ≤ 32 }
     {
         &self.bytes[..self.len as usize]
+    }
+
+    /// The bytes with zeros behind them, 32 in all.
+    pub fn padded(&self) -> [u8; 32]
+        ensures { result ≡ zero_filled 32 (bytes_of self.now) }
+    {
+        self.bytes
     }
 
     /// The first eight bytes as a number, the first of them the highest, with zeros behind a shorter key. Where it is

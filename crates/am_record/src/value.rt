@@ -1,6 +1,7 @@
 //! Values of records.
 
 ghost use Rattle.std.specs.Prelude.{◌≡◌, ◌↔◌, ◌≤◌, IsSome, IfSome, length};
+ghost use Rattle.am_record.specs.PaddedBytes.{zero_filled};
 
 use crate::limits::{MAX_VALUE_LEN, SHORT_LEN};
 use std::marker::Model;
@@ -13,8 +14,8 @@ pub struct Value {
 }
 
 impl Model for Value {
-    ghost use Rattle.std.specs.Prelude.{ℕ, List, take, length, replicate, ◌++◌, ◌-◌};
-    ghost use Rattle.am_record.specs.PaddedBytes.{IsPadded};
+    ghost use Rattle.std.specs.Prelude.{ℕ, List, take, length};
+    ghost use Rattle.am_record.specs.PaddedBytes.{IsPadded, zero_filled};
 
     ghost Value = { List ℕ };
 
@@ -22,7 +23,7 @@ impl Model for Value {
 
     ghost invariant = { λ v. IsPadded 64 v.bytes v.len };
 
-    ghost inverse = { λ xs. record { bytes = xs ++ replicate (64 - length xs) 0; len = length xs } };
+    ghost inverse = { λ xs. record { bytes = zero_filled 64 xs; len = length xs } };
 
     ghost use Rattle.am_record.specs.ValueFields.{fields_of-view};
 
@@ -64,8 +65,8 @@ pub struct ShortValue {
 }
 
 impl Model for ShortValue {
-    ghost use Rattle.std.specs.Prelude.{ℕ, List, take, length, replicate, ◌++◌, ◌-◌};
-    ghost use Rattle.am_record.specs.PaddedBytes.{IsPadded};
+    ghost use Rattle.std.specs.Prelude.{ℕ, List, take, length};
+    ghost use Rattle.am_record.specs.PaddedBytes.{IsPadded, zero_filled};
 
     ghost Value = { List ℕ };
 
@@ -73,7 +74,7 @@ impl Model for ShortValue {
 
     ghost invariant = { λ v. IsPadded 16 v.bytes v.len };
 
-    ghost inverse = { λ xs. record { bytes = xs ++ replicate (16 - length xs) 0; len = length xs } };
+    ghost inverse = { λ xs. record { bytes = zero_filled 16 xs; len = length xs } };
 
     ghost use Rattle.am_record.specs.ShortFields.{value_fields_of-view};
 
@@ -81,6 +82,13 @@ impl Model for ShortValue {
 }
 
 impl Value {
+    /// The bytes with zeros behind them, 64 in all.
+    pub fn padded(&self) -> [u8; 64]
+        ensures { result ≡ zero_filled 64 self.now }
+    {
+        self.bytes
+    }
+
     /// How many bytes it has.
     pub fn len(&self) -> usize
         ensures all { result ≡ length self.now }

@@ -113,8 +113,8 @@ impl PartIndex for Narrow {
         Ok(true)
     }
 
-    fn insert_between(&mut self, more: &[Entry]) -> usize {
-        let count = self.index.insert_between(more);
+    fn insert_among(&mut self, more: &[Entry]) -> usize {
+        let count = self.index.insert_among(more);
         self.give_up();
         count
     }

@@ -275,7 +275,7 @@ fn goes_between(rt: &impl Abort, alloc: Global, tree: &mut BTree, more: &[Entry]
     for entry in &more[..count] {
         add(&mut other, *entry).expect(rt, "memory");
     }
-    let added = tree.insert_between(more);
+    let added = tree.insert_among(more);
     assert!(rt; added == count, "{added} of {count}");
     assert!(rt; same_walks(tree, &other, 0, 40));
 }
@@ -305,7 +305,7 @@ fn entries_go_between_others_of_a_leaf(rt: HostRuntime) {
     let many = [11, 12, 13, 14, 15, 16, 17, 18, 19, 21, 22, 23, 24, 25];
     numbers_go_between(&rt, alloc, &many, 12);
     let mut empty = BTree::new(alloc).expect(&rt, "memory");
-    assert!(rt; empty.insert_between(&[numbered(0, 1)]) == 0);
+    assert!(rt; empty.insert_among(&[numbered(0, 1)]) == 0);
 }
 
 #[test]
@@ -351,14 +351,14 @@ fn entries_go_from_leaf_to_leaf(rt: HostRuntime) {
     add_tens_with_gaps(&rt, &mut list);
     // 325, 645 and 965 go behind the last ones of their leaves, which end where the next ones begin.
     let more = [15, 325, 335, 645, 655, 965, 1001].map(|number| numbered(0, number));
-    let added = tree.insert_between(&more);
+    let added = tree.insert_among(&more);
     assert!(rt; added == 7, "{added}");
     for entry in more {
         add(&mut list, entry).expect(&rt, "memory");
     }
     assert!(rt; same_walks(&tree, &list, 0, 200));
     // The first leaf is full now.
-    assert!(rt; tree.insert_between(&[numbered(0, 16)]) == 0);
+    assert!(rt; tree.insert_among(&[numbered(0, 16)]) == 0);
 }
 
 // Adds every number below 1,000 between every tenth one, and answers how many went between others at once.
@@ -378,7 +378,7 @@ fn thousand_between<I: PartIndex>(rt: &impl Abort, alloc: Global, index: &mut I)
         assert!(rt; index.insert_new(more[at]) == Ok(true));
         at += 1;
         let to = more.len().min(at + 15);
-        let count = index.insert_between(&more[at..to]);
+        let count = index.insert_among(&more[at..to]);
         between = between.saturating_add(count as u64);
         at += count;
     }

@@ -14,7 +14,7 @@ pub returns-clause-settled : goal.returns-clause-settled
 returns-clause-settled g c =
     let es = g.I.PartIndex.entries c.args.index.now in let xs = c.args.entries.now in
     let homes = c.args.homes.now in let h = c.requires.homes in
-    let n = c.insert_between-count.result in let e = c.insert_between-count.ensures in
+    let n = c.insert_among-count.result in let e = c.insert_among-count.ensures in
     let le : n ≤ length homes = e.most in
     let taken : take n homes ≡ homes_of (take n xs) = ap (take n) h.first ∙ fewer_homes n (length homes) xs le in
     e.added ∙ ap (λ l. all_inserted l es) taken ∙
@@ -26,7 +26,7 @@ pub returns-clause-catalog : goal.returns-clause-catalog
 returns-clause-catalog g c =
     let es = g.I.PartIndex.entries c.args.index.now in let xs = c.args.entries.now in
     let homes = c.args.homes.now in let h = c.requires.homes in
-    let n = c.insert_between-count.result in let e = c.insert_between-count.ensures in
+    let n = c.insert_among-count.result in let e = c.insert_among-count.ensures in
     let le : n ≤ length homes = e.most in
     let taken : take n homes ≡ homes_of (take n xs) = ap (take n) h.first ∙ fewer_homes n (length homes) xs le in
     subst (λ (l : List Entry). IsCatalog l c.add_homes.new.self) (sym e.added)

@@ -17,7 +17,7 @@ impl Subtree {
     /// Adds the first of several entries that rise and go below the bound, each behind another of its leaf: one after
     /// another, up to the first one that doesn't go there, or has no room. How many it added. They belong into these
     /// leaves by the separators as they stand, so none of these changes. It goes down once, and then from leaf to leaf.
-    pub(crate) fn insert_between(&mut self, bound: Option<&Separator>, more: &[Entry]) -> usize
+    pub(crate) fn insert_among(&mut self, bound: Option<&Separator>, more: &[Entry]) -> usize
         requires rising { IsRising more.now }
         ensures most { result ≤ length more.now }
         ensures among { AllByRecursion (GoesAmong self.old.entries (option_copied bound.entry)) (take result more.now) }
@@ -27,14 +27,14 @@ impl Subtree {
         ensures rooms { KeepsRoom self.old self.new }
     {
         match &mut self.node {
-            Node::Leaf(leaf) => insert_among(leaf, bound, more),
+            Node::Leaf(leaf) => put_all_among(leaf, bound, more),
             Node::Inner(separators, children) => {
                 let mut added = 0;
                 let mut goes_on = true;
                 'stretch: while goes_on && added < more.len() && is_below(bound, &more[added]) {
                     let at = separators.child_for(more[added].part, more[added].key);
                     let end = separators.behind(at).or(bound);
-                    let count = children[at].insert_between(end, &more[added..]);
+                    let count = children[at].insert_among(end, &more[added..]);
                     added += count;
                     goes_on = count > 0;
                 }
@@ -55,7 +55,7 @@ fn is_below(bound: Option<&Separator>, entry: &Entry) -> bool
 }
 
 // Adds the first of several entries, each behind another of the leaf and below the bound, and says how many.
-fn insert_among(leaf: &mut RawLeaf, bound: Option<&Separator>, more: &[Entry]) -> usize
+fn put_all_among(leaf: &mut RawLeaf, bound: Option<&Separator>, more: &[Entry]) -> usize
     ensures count { result ≤ length more.now }
     ensures among { AllByRecursion (GoesAmong leaf.old.entries (option_copied bound.entry)) (take result more.now) }
     ensures free { AllByRecursion (λ e. find leaf.old.entries e.part e.key ≡ None) (take result more.now) }

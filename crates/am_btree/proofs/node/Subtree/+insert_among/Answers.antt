@@ -14,10 +14,10 @@ use Rattle.am_btree.proofs.Between.{AreAmong, IsEnd, end_of, copied_or}
 use Rattle.am_btree.proofs.Stretches.{added_further}
 use Rattle.am_btree.proofs.Inner.{as_many, they_rise, one_below}
 use Rattle.am_btree.proofs.Rooming.{all_have, leaf_keeps}
-use Rattle.am_btree.proofs.node.Subtree.+insert_between.Goals as goal
-use Rattle.am_btree.proofs.node.Subtree.+insert_between.Goals.{in-Leaf, in-Inner+else-stretch-test}
-use Rattle.am_btree.proofs.node.Subtree.+insert_between.Goals.{in-Inner+then-stretch-test+then-added-more+else-is_below}
-use Rattle.am_btree.proofs.node.Subtree.+insert_between.Goals.{in-Inner+then-stretch-test+else-added-more}
+use Rattle.am_btree.proofs.node.Subtree.+insert_among.Goals as goal
+use Rattle.am_btree.proofs.node.Subtree.+insert_among.Goals.{in-Leaf, in-Inner+else-stretch-test}
+use Rattle.am_btree.proofs.node.Subtree.+insert_among.Goals.{in-Inner+then-stretch-test+then-added-more+else-is_below}
+use Rattle.am_btree.proofs.node.Subtree.+insert_among.Goals.{in-Inner+then-stretch-test+else-added-more}
 
 pub stretch-init : goal.stretch-init
 stretch-init t c =
@@ -48,8 +48,8 @@ index_mut-requires t c = omega (
   c.stretch.children.ok.0,
 )
 
-pub insert_between-count-requires : goal.insert_between-count-requires
-insert_between-count-requires t c =
+pub insert_among-count-requires : goal.insert_among-count-requires
+insert_among-count-requires t c =
     let ls = c.in-Inner.separators in let ks = c.stretch.children.items in let at = c.child_for-at.result in
     let k = c.index_mut.result.now in let inner = c.stretch.invariant.so_far.inner in
     let deep = one_below ls ks _ inner at k (omega (arith, c.child_for-at.ensures.in_range, as_many ls ks _ inner))
@@ -63,8 +63,8 @@ insert_between-count-requires t c =
 pub stretch-preserved : goal.stretch-preserved
 stretch-preserved t c =
     let ls = c.in-Inner.separators in let ks = c.stretch.children.items in let at = c.child_for-at.result in
-    let k = c.index_mut.result.now in let e = c.insert_between-count.ensures in
-    let n = c.insert_between-count.result in
+    let k = c.index_mut.result.now in let e = c.insert_among-count.ensures in
+    let n = c.insert_among-count.result in
     let before = c.stretch.invariant.so_far in let more = c.args.more.now in let bound = option_copied c.args.bound in
     let lt : at < length ks = omega (arith, c.child_for-at.ensures.in_range, as_many ls ks _ before.inner) in
     let is_end : IsEnd ls ks at bound (option_copied c.or-end.result) =
@@ -75,7 +75,7 @@ stretch-preserved t c =
     let have : IsRoomed c.args.self.now = subst IsRoomed (sym seen) (all_have ks0 inner0.children.roomed) in
     let rest = whole_rest c.stretch.added more in
     let so_far = added_further c.args.self.now have bound more ls ks _ c.stretch.added before at k
-    c.insert_between-count.new.self lt
+    c.insert_among-count.new.self lt
     c.index_mut.ensures.value (option_copied c.or-end.result) is_end n
     (rising-take n (drop c.stretch.added more) (rising-drop c.stretch.added more c.requires.rising))
     (subst (λ l. AreAmong k.entries (option_copied c.or-end.result) (take n l)) rest e.among)
@@ -95,8 +95,8 @@ stretch-preserved t c =
 pub invariant_of-self : goal.invariant_of-self
 invariant_of-self t c = elim c.match-self.branch [
   | in-Leaf w ↦ rw w.self-inside-is (
-    w.insert_among.ensures.most,
-    (w.insert_among.ensures.rising, w.insert_among.ensures.room),
+    w.put_all_among.ensures.most,
+    (w.put_all_among.ensures.rising, w.put_all_among.ensures.room),
   )
   | in-Inner+else-stretch-test w ↦
       rw w.self-inside-is w.stretch.invariant.so_far.inner
@@ -111,7 +111,7 @@ returns-clause-among t c = elim c.match-self.branch [
   | in-Leaf w ↦
       let seen : c.args.self.now ≡ leaf_shape w.in-Leaf.leaf = sym c.self.view_is ∙ ap shape_of w.in-Leaf.is in
       rw w.result-is (subst (λ (s : Shape). AreAmong s.entries (option_copied c.args.bound)
-      (take w.insert_among.result c.args.more.now)) (sym seen) w.insert_among.ensures.among)
+      (take w.put_all_among.result c.args.more.now)) (sym seen) w.put_all_among.ensures.among)
   | in-Inner+else-stretch-test w ↦
       rw w.result-is w.stretch.invariant.so_far.among
   | in-Inner+then-stretch-test+then-added-more+else-is_below w ↦
@@ -124,8 +124,8 @@ pub returns-clause-free : goal.returns-clause-free
 returns-clause-free t c = elim c.match-self.branch [
   | in-Leaf w ↦
       let seen : c.args.self.now ≡ leaf_shape w.in-Leaf.leaf = sym c.self.view_is ∙ ap shape_of w.in-Leaf.is in
-      rw w.result-is (subst (λ (s : Shape). AllFree s.entries (take w.insert_among.result c.args.more.now))
-      (sym seen) w.insert_among.ensures.free)
+      rw w.result-is (subst (λ (s : Shape). AllFree s.entries (take w.put_all_among.result c.args.more.now))
+      (sym seen) w.put_all_among.ensures.free)
   | in-Inner+else-stretch-test w ↦
       rw w.result-is w.stretch.invariant.so_far.free
   | in-Inner+then-stretch-test+then-added-more+else-is_below w ↦
@@ -138,8 +138,8 @@ pub returns-clause-added : goal.returns-clause-added
 returns-clause-added t c = elim c.match-self.branch [
   | in-Leaf w ↦
       let seen : c.args.self.now ≡ leaf_shape w.in-Leaf.leaf = sym c.self.view_is ∙ ap shape_of w.in-Leaf.is in
-      rw (w.result-is, w.self-inside-is) (w.insert_among.ensures.added ∙
-      sym (ap (λ (s : Shape). all_inserted (take w.insert_among.result c.args.more.now) s.entries) seen))
+      rw (w.result-is, w.self-inside-is) (w.put_all_among.ensures.added ∙
+      sym (ap (λ (s : Shape). all_inserted (take w.put_all_among.result c.args.more.now) s.entries) seen))
   | in-Inner+else-stretch-test w ↦
       rw (w.result-is, w.self-inside-is) w.stretch.invariant.so_far.entries
   | in-Inner+then-stretch-test+then-added-more+else-is_below w ↦
@@ -165,9 +165,9 @@ pub returns-clause-rooms : goal.returns-clause-rooms
 returns-clause-rooms t c = elim c.match-self.branch [
   | in-Leaf w ↦
       let seen : c.args.self.now ≡ leaf_shape w.in-Leaf.leaf = sym c.self.view_is ∙ ap shape_of w.in-Leaf.is in
-      let e = w.insert_among.ensures in
-      rw w.self-inside-is (subst (λ (s : Shape). KeepsRoom s (leaf_shape w.insert_among.new.leaf)) (sym seen)
-      (leaf_keeps w.in-Leaf.leaf w.insert_among.new.leaf e.room (omega (arith, e.same_room))))
+      let e = w.put_all_among.ensures in
+      rw w.self-inside-is (subst (λ (s : Shape). KeepsRoom s (leaf_shape w.put_all_among.new.leaf)) (sym seen)
+      (leaf_keeps w.in-Leaf.leaf w.put_all_among.new.leaf e.room (omega (arith, e.same_room))))
   | in-Inner+else-stretch-test w ↦
       rw w.self-inside-is w.stretch.invariant.so_far.rooms
   | in-Inner+then-stretch-test+then-added-more+else-is_below w ↦

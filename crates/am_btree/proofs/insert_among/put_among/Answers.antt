@@ -4,8 +4,8 @@ use Rattle.std.proofs.lemmas.Bool.{not-false}
 use Rattle.am_list.proofs.Searches.{find_absent, insert_gap}
 use Rattle.am_btree.specs.Between.{is_below}
 use Rattle.am_btree.proofs.Between.{among_gap}
-use Rattle.am_btree.proofs.insert_between.put_among.Goals as goal
-use Rattle.am_btree.proofs.insert_between.put_among.Goals.{then-at-len, else-at-len}
+use Rattle.am_btree.proofs.insert_among.put_among.Goals as goal
+use Rattle.am_btree.proofs.insert_among.put_among.Goals.{then-at-len, else-at-len}
 
 pub returns-clause-put : goal.returns-clause-put
 returns-clause-put c =

@@ -1,10 +1,10 @@
 use Rattle.std.proofs.Common.{◌≤◌, ◌-◌, ◌+◌, ◌*◌, cond, length, vec_capacity}
 use Rattle.std.specs.Prelude.{option_copied}
 use Rattle.am_btree.proofs.Stretches.{IsAddedSoFar}
-use Rattle.am_btree.proofs.node.Subtree.+insert_between.Given as goal
+use Rattle.am_btree.proofs.node.Subtree.+insert_among.Given as goal
 
-abbrev pub decreases-insert_between : goal.decreases-insert_between
-decreases-insert_between l = goal.size-insert_between l
+abbrev pub decreases-insert_among : goal.decreases-insert_among
+decreases-insert_among l = goal.size-insert_among l
 
 abbrev pub invariant-stretch : goal.invariant-stretch
 invariant-stretch l = record {

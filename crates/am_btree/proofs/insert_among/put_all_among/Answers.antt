@@ -8,7 +8,7 @@ use Rattle.am_list.specs.Entries.{find, insert_entry, all_inserted}
 use Rattle.am_list.proofs.Insertions.{free_before, inserted_further}
 use Rattle.am_btree.specs.Between.{GoesAmong}
 use Rattle.am_btree.proofs.Between.{among_further}
-use Rattle.am_btree.proofs.insert_between.insert_among.Goals as goal
+use Rattle.am_btree.proofs.insert_among.put_all_among.Goals as goal
 
 pub put-preserved : goal.put-preserved
 put-preserved c =

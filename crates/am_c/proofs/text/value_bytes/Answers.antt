@@ -1,6 +1,0 @@
-use Rattle.std.proofs.Common.{refl}
-use Rattle.am_c.proofs.Zeros.{over_zeros}
-use Rattle.am_c.proofs.text.value_bytes.Goals as goal
-
-pub returns : goal.returns
-returns c = over_zeros 64 c.copy_from_slice.new.self c.args.text.now _ c.copy_from_slice.ensures.after refl
