@@ -244,8 +244,7 @@ fn copy_rows_in_leaf(
             return Ok(());
         }
         if !leaf.is_ghost(at) {
-            let entry = leaf.get(at);
-            rows.push((entry.key, entry.value))?;
+            rows.push(leaf.record(at))?;
         }
     }
     Ok(())

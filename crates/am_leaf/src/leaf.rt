@@ -135,6 +135,17 @@ impl RawLeaf {
         }
     }
 
+    /// The key and the value of the entry at the index.
+    #[tactic(auto, using(crate::proofs::Leaves::counted))]
+    pub fn record(&self, at: usize) -> (Key, Value)
+        requires { at < length self.now.entries }
+        ensures { (d : Entry) → result ≡ ((slice_index_or self.now.entries at d).key,
+            (slice_index_or self.now.entries at d).value) }
+    {
+        let place = self.places.get(at);
+        (place.1, self.values.get(at))
+    }
+
     /// The first ghost from the index on. The word of bits says where it is, so that no other entry is looked at.
     pub fn ghost_from(&self, at: usize) -> Option<Entry>
         requires { at ≤ length self.now.entries }

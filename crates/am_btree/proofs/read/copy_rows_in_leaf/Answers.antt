@@ -1,6 +1,7 @@
-use Rattle.std.proofs.Common.{◌<◌, length, get_or, sym, ap, ◌∙◌, subst, arith}
+use Rattle.std.proofs.Common.{◌<◌, length, ℕ, List, [], ◌∷◌, ◌++◌, get_or, sym, ap, ◌∙◌, subst, arith}
 use Rattle.std.proofs.lemmas.List.{get_or_default}
 use Rattle.am_record.specs.declared.entry.Entry.{Entry}
+use Rattle.am_record.specs.OrderedKey.{OrderedKey}
 use Rattle.am_record.proofs.Lists.{some_item}
 use Rattle.am_record.specs.Plain.{Records}
 use Rattle.am_list.proofs.Rows.{AreCopied, are_enough, none_copied, all_copied, ghost_passed, row_copied}
@@ -23,17 +24,18 @@ loop-at-preserved c =
     let inside : at < length es = omega (arith, c.loop-at-test.true, c.end_in_leaf-to.ensures.ends.in_range) in
     elim c.if-not-is_ghost.branch [
       | then-not-is_ghost+in_ok-push w ↦
-          let e = w.get-entry.result in
+          let d = some_item es at inside in
+          let e : Entry = get_or es at d in
           let room : length c.loop-at.rows.items < c.args.max =
           omega (arith, c.if-len-max.false, c.len.ensures, c.loop-at.rows.ok.0) in
-          let live = ap (λ (f : Entry). f.is_ghost) w.get-entry.ensures ∙ sym (c.is_ghost.ensures e) ∙
-          w.if-not-is_ghost.true in
           rw w.rows-is (record {
             room = omega (arith, c.loop-at.invariant.room, w.in_ok-push.ensures.capacity);
             copied = row_copied es c.args.part c.args.range c.args.max c.args.rows.now.items c.lo.ensures.value
                 c.hi.ensures.value c.start_in_leaf-from.ensures.begins c.end_in_leaf-to.ensures.ends
-                c.loop-at.invariant.copied e c.loop-at.auto.at c.loop-at-test.true inside w.get-entry.ensures live
-                w.in_ok-push.ensures.items room;
+                c.loop-at.invariant.copied e c.loop-at.auto.at c.loop-at-test.true inside
+                (get_or_default es at d e inside) (sym (c.is_ghost.ensures d) ∙ w.if-not-is_ghost.true)
+                (w.in_ok-push.ensures.items ∙ ap (λ (r : OrderedKey × List ℕ). c.loop-at.rows.items ++ r ∷ [])
+                (w.record.ensures d)) room;
           })
       | else-not-is_ghost w ↦
           let d = some_item es at inside in
