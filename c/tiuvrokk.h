@@ -27,8 +27,9 @@
  * nothing but a handle has to be given back.
  *
  * MEMORY is taken by malloc and realloc and given back by free, and by nothing else. Any call that may want memory may
- * answer TVK_NO_MEMORY, and has changed nothing then; but the runs that tvk_load_sorting, tvk_load_structs and tvk_load_text loaded before stay,
- * as `loaded` tells. tvk_begin, tvk_commit, tvk_abort, tvk_back and tvk_clean never do.
+ * answer TVK_NO_MEMORY, and has changed nothing then; but the runs that tvk_load_sorting, tvk_load_structs and tvk_load_text
+ * loaded before stay, as `loaded` tells. tvk_begin, tvk_commit, tvk_abort, tvk_back and tvk_clean never do, and no call that
+ * closes a store or counts.
  *
  * THREADS. Any thread may use a handle, one at a time: it may be opened on one, used on another, and closed on a third, where
  * each is done before the next begins, by a mutex, a join, or a message. The library keeps nothing for a thread, and its memory

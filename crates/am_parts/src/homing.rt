@@ -15,8 +15,8 @@ use crate::residences::{AHEAD, Residences};
 use am_list::{Batch, PartIndex};
 use am_record::{Entry, NoMemory};
 
-// How many rounds that bring one entry alone there are before no others are looked for beside it: those that go into full
-// leaves, or over ghosts, would be looked for twice.
+// How many rounds that bring one entry alone there are before no others are looked for beside it: those that go into
+// full leaves, or over ghosts, would be looked for twice.
 const MOST_LONE: u32 = 3;
 
 /// Lets entries of a run stand in the final partition too, over ghosts there, but for those that are ghosts. How many
