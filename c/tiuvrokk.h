@@ -553,7 +553,7 @@ tvk_status tvk_lock(tvk_store *store, uint64_t tx, tvk_mode mode, const void *lo
 /** Moves records of the oldest range that was read from loaded runs to their final place. No transaction sees a difference.
  *
  * @param[in,out] store  the store
- * @param limit          the most records that are moved, 1 to TVK_MAX_LIMIT
+ * @param limit          the most entries that are worked off, 1 to TVK_MAX_LIMIT
  * @param[out] told      how many entries of a run were worked off, or the transaction that is in the way, or 0
  *
  * @retval TVK_OK         `told` entries were worked off
