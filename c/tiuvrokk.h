@@ -27,8 +27,9 @@
  * nothing but a handle has to be given back.
  *
  * MEMORY is taken by malloc and realloc and given back by free, and by nothing else. Any call that may want memory may
- * answer TVK_NO_MEMORY, and has changed nothing then; but the runs that tvk_load_sorting, tvk_load_structs and tvk_load_text loaded before stay,
- * as `loaded` tells. tvk_begin, tvk_commit, tvk_abort, tvk_back and tvk_clean never do.
+ * answer TVK_NO_MEMORY, and has changed nothing then; but the runs that tvk_load_sorting, tvk_load_structs and tvk_load_text
+ * loaded before stay, as `loaded` tells. tvk_begin, tvk_commit, tvk_abort, tvk_back and tvk_clean never do, and no call that
+ * closes a store or counts.
  *
  * THREADS. Any thread may use a handle, one at a time: it may be opened on one, used on another, and closed on a third, where
  * each is done before the next begins, by a mutex, a join, or a message. The library keeps nothing for a thread, and its memory
@@ -552,7 +553,7 @@ tvk_status tvk_lock(tvk_store *store, uint64_t tx, tvk_mode mode, const void *lo
 /** Moves records of the oldest range that was read from loaded runs to their final place. No transaction sees a difference.
  *
  * @param[in,out] store  the store
- * @param limit          the most records that are moved, 1 to TVK_MAX_LIMIT
+ * @param limit          the most entries that are worked off, 1 to TVK_MAX_LIMIT
  * @param[out] told      how many entries of a run were worked off, or the transaction that is in the way, or 0
  *
  * @retval TVK_OK         `told` entries were worked off

@@ -110,9 +110,9 @@ class Store(_Unique):
         return Transaction(self, told[0])
 
     def merge(self, limit: int = MAX_LIMIT) -> Optional[int]:
-        """One merge step: moves at most `limit` records of the oldest range that was read to their final place. Answers how
-        many entries were worked off, 0 where that range is forgotten, since nothing is left of it or its next key is locked,
-        and None where no range is waiting."""
+        """One merge step: works off at most `limit` entries of the oldest range that was read, whose records go to their final
+        place. Answers how many they were, 0 where that range is forgotten, since nothing is left of it or its next key is
+        locked, and None where no range is waiting."""
         told = Number()
         status = calls.merge(self._use(), _limit(limit), told)
         if status in (Status.DONE, Status.ENDED):

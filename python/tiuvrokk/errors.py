@@ -59,7 +59,7 @@ def shown(text: bytes) -> str:
 
 
 class Error(Exception):
-    """A call that was refused. It changed nothing."""
+    """A call that was refused. It changed nothing, but that the runs stay which a load added before the refused one."""
 
     status: Optional[Status] = None
     """The status of `tiuvrokk.h`, or None where the library wasn't asked."""
@@ -194,7 +194,7 @@ class Bad(Error, ValueError):
 
 
 class BadLine(Error, ValueError):
-    """A line of a file is no record: its number is `line`, from 1 on."""
+    """A line of a file is no record, or has the key of a line before it: its number is `line`, from 1 on."""
 
     def __init__(self, line: int, text: str) -> None:
         super().__init__(line, text)

@@ -10,8 +10,8 @@
         session.transaction(move)
 
 `transaction` runs the function again where another transaction came between, so the function does nothing but ask its
-transaction. What is set isn't sent before an answer is wanted, or the end: a function that only sets is one send, and never
-runs again.
+transaction. What is set isn't sent before an answer is wanted, or the end: a function that only sets, 249 keys at most, is
+one send, and never runs again where the replica reads that at once.
 
 Keys have 1 to 32 bytes and values 1 to 64, all of visible ASCII, and keys no `=`; a `str` or `int` is taken for its text."""
 

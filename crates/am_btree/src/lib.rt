@@ -7,10 +7,10 @@
 //! in order. A node that became empty is freed, and so is a topmost node with one child; nodes that
 //! are only sparse are not merged. An insert gets all new nodes before it changes an entry.
 //!
-//! A leaf has room for values of 16 bytes until a longer one comes, and for any from then on: it is
-//! short while all its values are, and a wide one stays wide. So leaves of short values take less
-//! memory, and what an undo sets again has the room that it had. Besides an insert only `make_room`
-//! takes memory.
+//! A leaf has room for values of 16 bytes until a longer one comes, and for any from then on, and so
+//! it is with keys. So leaves of short records take less memory, and what an undo sets again has the
+//! room that it had. Besides inserts, those of a run among them, only `make_room` takes memory, and
+//! `copy_rows` for its rows.
 #![tactic(auto)]
 
 mod append;

@@ -46,7 +46,7 @@ impl<I: PartIndex + Drop> Store<I> {
     /// A store over an empty index. By the hash key the keys of runs have numbers: no answer depends on it.
     ///
     /// # Errors
-    /// NoMemory, where memory was refused for the ring of wishes or the tables.
+    /// NoMemory, where memory was refused for the ring of wishes, the tables or what holds them.
     pub fn open(alloc: Global, index: I, hash: HashKey) -> Result<Store<I>, NoMemory>
         requires { I.entries index ≡ [] }
         ensures empty { IfOk result (λ store. store ≡ empty_state) }

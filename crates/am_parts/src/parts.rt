@@ -75,8 +75,8 @@ impl<I: PartIndex + Drop> Parts<I> {
     ghost use Rattle.am_parts.specs.Partitions.{LivesNowhereElse, IsLiveEntry, IsVacancy, content_with};
     ghost use Rattle.am_parts.specs.Partitions.{content_without, content_set, IsStretch, all_gone_home, FirstNeedsRoom};
 
-    /// The partitions of an empty index. By the hash key the keys of runs have their numbers: whoever doesn't know it
-    /// can't choose keys that have one number.
+    /// The partitions of an empty index. By the hash key the keys of runs have their numbers: without it no way is
+    /// known to choose keys that have one number.
     pub fn new(alloc: Global, index: I, hash: HashKey) -> Parts<I>
         requires { I.entries index ≡ [] }
         ensures entries { result.entries ≡ [] }
@@ -330,7 +330,8 @@ impl<I: PartIndex + Drop> Parts<I> {
 
     /// Brings entries of a run home, one after another: a live one goes to the final partition, over a ghost that
     /// stands there, and a ghost just goes. The caller sees to it that they are the first ones of the run from some key
-    /// on. How many went home: all, or fewer where the next one's new place was refused memory.
+    /// on. How many went home: all, or fewer where memory was refused for the next one's place, or for its value over a
+    /// ghost there.
     pub fn bring_home(&mut self, entries: &[Entry]) -> usize
         requires { IsStretch self.old.entries entries.now }
         ensures most { result ≤ length entries.now }
@@ -381,8 +382,8 @@ impl<I: PartIndex + Drop> Parts<I> {
 
     /// Makes the records the next run, all of them live in it, and counts it. The caller sees to it that fewer than
     /// 65,535 runs were made, that no entry stands above them, that there is a record, that the records rise, and that
-    /// none of their keys is live in the final partition. Each key costs one probe of a hash table, and where it, or
-    /// one of its number, is live in a run, a descent.
+    /// none of their keys is live in the final partition. Each key costs one probe of a hash table, and where one of
+    /// its label may be live in a run, a descent.
     ///
     /// # Errors
     /// Taken, where one of the keys is live in a run; NoMemory, where memory was refused. Entries and runs are as

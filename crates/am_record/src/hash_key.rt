@@ -3,8 +3,8 @@
 ghost use Rattle.std.specs.Prelude.{◌≡◌, bit_or};
 ghost use Rattle.am_record.specs.KeyNumber.{fold_in, folded};
 
-/// Two words, by which each key has a number. Whoever doesn't know them can't choose keys that meet in a number: they
-/// are drawn at random where keys come from strangers. No answer depends on them.
+/// Two words, by which each key has a number. They are drawn at random where keys come from strangers, since no way is
+/// known to choose keys that meet in a number without them. No answer depends on them.
 #[derive(Clone, Copy)]
 pub struct HashKey {
     first: u64,

@@ -8,7 +8,7 @@ ghost use Rattle.am_server.specs.Faults.{fault_status, fault_words};
 pub enum ListenFault {
     /// The port can't be listened at.
     CannotListen,
-    /// A connection could not be accepted, and no session came after it.
+    /// A connection could not be accepted. In a bounded server no session comes after it.
     CannotAccept,
     /// The trace can't be written.
     CannotWriteTrace,

@@ -1,5 +1,6 @@
-//! The texts of numbers, keys, values, records and locks, the words of verbs and replies, and the fields of a line that
-//! has them: in a session and in a stored run alike.
+//! The texts of numbers, keys, values, records and locks in a session, the words of verbs and replies, and the fields
+//! of a line that has them. A stored run has fields, numbers, modes and these words alike, and texts of its own for
+//! keys and values.
 #![tactic(auto)]
 
 mod fault;

@@ -1,4 +1,4 @@
-//! The law of undo notes, for the proofs of whoever keeps them. Its function does nothing.
+//! The laws of undo notes, for the proofs of whoever keeps them. Their functions do nothing.
 
 ghost use Rattle.std.specs.Prelude.{◌≡◌, ℕ, List, [], Bool, Option, false, length};
 ghost use Rattle.am_record.specs.OrderedKey.{OrderedKey};
