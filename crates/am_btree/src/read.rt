@@ -12,6 +12,9 @@ use am_leaf::RawLeaf;
 use am_list::Batch;
 use am_record::{Entry, Key, NoMemory, Range, Value};
 
+// For how many rows room is got at once, where the rows of a range may go on behind a leaf: those of four.
+const ROWS_AHEAD: usize = 128;
+
 /// Where a walk begins.
 #[derive(Clone, Copy, Debug)]
 pub(crate) enum Start {
@@ -221,7 +224,8 @@ fn read_on_in_leaf(leaf: &RawLeaf, part: u32, key: Key, start: Start, batch: &mu
     }
 }
 
-// Appends the live records of a leaf's partition in the range, until there are `max` rows.
+// Appends the live records of a leaf's partition in the range, until there are `max` rows. Where the range may go on
+// behind the leaf, room for rows of the next ones is got with it.
 fn copy_rows_in_leaf(
     leaf: &RawLeaf,
     part: u32,
@@ -238,7 +242,12 @@ fn copy_rows_in_leaf(
     let from = start_in_leaf(leaf, part, range.lo(), Start::At);
     let to = end_in_leaf(leaf, part, range.hi());
     let wanted = max.saturating_sub(rows.len() as u64) as usize;
-    rows.reserve(to.saturating_sub(from).min(wanted))?;
+    let ahead = if to == leaf.len() {
+        ROWS_AHEAD
+    } else {
+        to.saturating_sub(from)
+    };
+    rows.reserve(ahead.min(wanted))?;
     for at in from..to {
         if rows.len() as u64 >= max {
             return Ok(());
