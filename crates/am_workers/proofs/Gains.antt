@@ -168,7 +168,8 @@ may_have_cleaned seats from to s t None h = inl h.same
 -- a turn has a merge, and perhaps a Clean behind it
 goes_on : (upkeep : Upkeep) (limit seats : ℕ) (from to : Place) (s t u v : SeatState) (merge reply : Reply) →
     HasLetGo s t → HasReceiptOf t (Merge limit) merge u →
-    MatchBool (may_clean upkeep merge) (ThenCleaned seats from u merge reply to v) (OnlyMerged from u merge reply to v) →
+    MatchBool (may_clean upkeep merge) (ThenCleaned seats from u merge reply to v)
+    (OnlyMerged from u merge reply to v) →
     HasTakenTurns upkeep limit 1 s v
 goes_on MergeAndClean limit seats from to s t u v Idle reply f c h =
     merged_and_cleaned MergeAndClean limit s t u v Idle refl refl f.number f.receipts c
