@@ -1,10 +1,13 @@
--- What is done with what comes to a gate.
-use Rattle.std.specs.Prelude.{Bool, true, false}
+-- What is done with what comes to a gate, and what a worker does that waits for its turn.
+use Rattle.std.specs.Prelude.{ℕ, zero, suc, nat_lt, Bool, true, false, not, ◌&&◌, ◌||◌, if◌then◌else◌}
 use Rattle.am_doors.specs.declared.mode.Mode.{Mode}
 use Rattle.am_doors.specs.declared.mode.Mode.TheVariants.{Bounded, Staying}
 use Rattle.am_doors.specs.declared.gate.Came.{Came}
 use Rattle.am_doors.specs.declared.gate.Came.TheVariants.{Connection, Failure}
 use Rattle.am_doors.specs.declared.gate.Deed.{Deed}
+use Rattle.am_doors.specs.declared.pacer.Next.{Next}
+use Rattle.am_doors.specs.declared.pacer.Next.TheVariants as next
+use Rattle.am_doors.specs.Modes.{stays}
 use Rattle.am_doors.specs.declared.gate.Deed.TheVariants.{Serve, TryAgain, End}
 
 -- What is done with what came to the gate, by whether a stop was asked for: a connection is served, and after a failure
@@ -14,3 +17,13 @@ deed_of mode came true = End
 deed_of mode (Connection connection) false = Serve connection
 deed_of Staying Failure false = TryAgain
 deed_of Bounded Failure false = End
+
+-- whether no further connection is waited for: after a stop, and in a bounded server after a failure
+abbrev pub is_closed : Mode → Bool → Bool → Bool
+is_closed mode accepted_all is_stopped = is_stopped || (not accepted_all && not (stays mode))
+
+-- what a worker does where so many sessions have not ended, so many turns were taken and so many lines answered: it has
+-- one turn for each line
+abbrev pub next_of : ℕ → ℕ → ℕ → Next
+next_of zero taken answered = next.End
+next_of (suc sessions) taken answered = if nat_lt taken answered then next.Take else next.Sleep

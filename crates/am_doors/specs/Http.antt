@@ -1,6 +1,9 @@
 -- Requests of HTTP, and what a connection passes on whose first line is looked at.
 use Rattle.std.specs.Prelude.{◌≡◌, ◌≢◌, ◌⊎◌, ◌≤◌, ℕ, List, [], ◌∷◌, ◌++◌, All, Any, Contains, codes, length}
 use Rattle.am_stream.specs.Taking.{Took}
+use Rattle.am_doors.specs.declared.mode.Mode.{Mode}
+use Rattle.am_doors.specs.declared.mode.Mode.TheVariants.{Bounded, Staying}
+use Rattle.am_doors.specs.declared.http.NoHttp.{NoHttp}
 use Rattle.am_doors.specs.declared.http.Stage.{Stage}
 use Rattle.am_doors.specs.declared.http.Stage.TheVariants.{First, Open, Closed}
 
@@ -27,6 +30,14 @@ BeginsGet bytes = (rest : List ℕ) × (bytes ≡ codes "GET " ++ rest) × Begin
 -- bytes begin a request: with one of the methods and a space, or with GET, a word and " HTTP/"
 abbrev pub BeginsRequest : List ℕ → Type 0
 BeginsRequest bytes = Any (BeginWith bytes) methods ⊎ BeginsGet bytes
+
+-- where a connection stands as it comes to a server: its first line is looked at where the server stays
+abbrev pub first_stage : Mode → Stage
+first_stage Staying = First
+first_stage Bounded = Open
+
+abbrev pub IsInMode : {S : Type 0} → Mode → NoHttp S → Type 0
+IsInMode mode source = source.stage ≡ first_stage mode
 
 -- the bytes that may come: all of the source's, or none where it begins with a request of HTTP
 abbrev pub may_come : (List ℕ → Type 0) → Stage → List ℕ → Type 0

@@ -1,3 +1,4 @@
 pub mod Http
 pub mod Modes
 pub mod Gates
+pub mod Tallies

@@ -1,7 +1,7 @@
 //! Where connections come in.
 
 ghost use Rattle.std.specs.Prelude.{◌≡◌};
-ghost use Rattle.am_doors.specs.Gates.{deed_of};
+ghost use Rattle.am_doors.specs.Gates.{deed_of, is_closed};
 
 use crate::door::Door;
 use crate::mode::Mode;
@@ -48,6 +48,13 @@ fn deed_for<C: Drop>(mode: Mode, came: Came<C>, is_stopped: bool) -> Deed<C>
     }
 }
 
+// Whether no further connection is waited for: after a stop, and in a bounded server after a failure.
+fn is_closed(mode: Mode, accepted_all: bool, is_stopped: bool) -> bool
+    ensures { result ≡ is_closed mode accepted_all is_stopped }
+{
+    is_stopped || (!accepted_all && !mode.stays())
+}
+
 /// A door, at which one thread at a time waits, until a stop is asked for.
 #[derive(Drop)]
 pub struct Gate<'a> {
@@ -75,7 +82,7 @@ impl<'a> Gate<'a> {
     /// came meanwhile.
     pub fn next<R: Wait + Clock>(&mut self, rt: &R, tally: &Tally) -> Option<TcpStream> {
         for _ in rt.forever() {
-            if self.is_closed(tally) {
+            if is_closed(self.mode, tally.accepted_all(), self.is_stopped()) {
                 return None;
             }
             let came = self.accept(tally);
@@ -96,11 +103,6 @@ impl<'a> Gate<'a> {
                 Came::Failure
             }
         }
-    }
-
-    // Whether no further connection is waited for: after a stop, and in a bounded server after a failure.
-    fn is_closed(&self, tally: &Tally) -> bool {
-        self.is_stopped() || (!self.mode.stays() && !tally.accepted_all())
     }
 
     fn is_stopped(&self) -> bool {

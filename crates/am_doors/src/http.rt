@@ -5,9 +5,10 @@ ghost use Rattle.std.specs.Prelude.{OnErr, IsOk, IsTrue, MatchOption, All};
 ghost use Rattle.std.specs.List.{list_any, starts_with};
 ghost use Rattle.am_stream.specs.Taking.{Took};
 ghost use Rattle.am_doors.specs.Http.{may_come, BeginsRequest, BeginsGet, BeginsPath, IsOfWord, AreTelling};
-ghost use Rattle.am_doors.specs.Http.{IsEnough, TookFirst};
+ghost use Rattle.am_doors.specs.Http.{IsEnough, TookFirst, IsInMode};
 ghost use Rattle.am_doors.specs.declared.http.Stage.TheVariants.{First, Open, Closed};
 
+use crate::mode::Mode;
 use am_stream::{Failed, Source};
 
 /// The methods whose names are no words of a session, each with the space behind it.
@@ -108,6 +109,18 @@ impl<S: Source + Drop> NoHttp<S> {
         NoHttp {
             source,
             stage: Stage::Open,
+        }
+    }
+
+    /// A source at a server: looked at where the server stays.
+    pub fn in_mode(source: S, mode: Mode) -> NoHttp<S>
+        ensures mode { IsInMode mode result }
+        ensures failures { S.failures result.source ≡ S.failures source }
+    {
+        if mode.stays() {
+            NoHttp::new(source)
+        } else {
+            NoHttp::open(source)
         }
     }
 

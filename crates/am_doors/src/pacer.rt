@@ -1,10 +1,36 @@
 //! When a worker may take a turn.
 
 ghost use Rattle.std.specs.Prelude.{◌≡◌, ◌+◌, min};
+ghost use Rattle.am_doors.specs.Gates.{next_of};
 
 use am_workers::Pacer;
 use std::sync::Wait;
 use std::sync::atomic::{AtomicU64, Ordering};
+
+/// What a worker does next.
+#[derive(Clone, Copy, Debug, PartialEq, Eq)]
+enum Next {
+    /// It ends.
+    End,
+    /// It sleeps until a line more was answered.
+    Sleep,
+    /// It takes a turn, unless another worker has it.
+    Take,
+}
+
+// What a worker does where so many sessions have not ended, so many turns were taken and so many lines answered.
+fn next_for(sessions: u64, taken: u64, answered: u64) -> Next
+    ensures { result ≡ next_of sessions taken answered }
+{
+    if sessions == 0 {
+        return Next::End;
+    }
+    if taken < answered {
+        Next::Take
+    } else {
+        Next::Sleep
+    }
+}
 
 /// Lets workers have one turn for each answered line, until all sessions have ended.
 #[derive(Drop)]
@@ -94,14 +120,16 @@ impl Pacer for MergePacer {
     fn await_turn<R: Wait>(&self, rt: &R, _worker: u32, _turn: u64) -> bool {
         for _ in rt.forever() {
             let answered = self.answered.load(Ordering::SeqCst);
-            if self.sessions.load(Ordering::SeqCst) == 0 {
-                return false;
-            }
+            let sessions = self.sessions.load(Ordering::SeqCst);
             let taken = self.taken.load(Ordering::SeqCst);
-            if taken >= answered {
-                self.sleep(rt, answered);
-            } else if self.try_take(taken) {
-                return true;
+            match next_for(sessions, taken, answered) {
+                Next::End => return false,
+                Next::Sleep => self.sleep(rt, answered),
+                Next::Take => {
+                    if self.try_take(taken) {
+                        return true;
+                    }
+                }
             }
         }
         unreachable!()

@@ -1,5 +1,8 @@
 //! How many sessions there were, and how many connections the system refused.
 
+ghost use Rattle.std.specs.Prelude.{◌≡◌};
+ghost use Rattle.am_doors.specs.Tallies.{IsToldOf};
+
 use std::sync::atomic::{AtomicI32, AtomicU64, Ordering};
 
 /// A count that many threads add to.
@@ -46,6 +49,21 @@ pub struct SessionCounts {
     pub first_refusal: Option<i32>,
 }
 
+// What is told where so many sessions began and ended, and so many connections were refused, the first with this number.
+fn counts_of(begun: u64, ended: u64, refused: u64, first_refusal: i32) -> SessionCounts
+    ensures { IsToldOf begun ended refused first_refusal result }
+{
+    SessionCounts {
+        begun,
+        open: begun.saturating_sub(ended),
+        refused_by_system: refused,
+        first_refusal: match first_refusal {
+            0 => None,
+            number => Some(number),
+        },
+    }
+}
+
 impl Tally {
     pub(crate) fn new() -> Tally {
         Tally {
@@ -73,14 +91,12 @@ impl Tally {
     pub fn counts(&self) -> SessionCounts {
         let ended = self.ended.get();
         let begun = self.begun.get();
-        SessionCounts {
+        let refused = self.refused_by_system.get();
+        counts_of(
             begun,
-            open: begun.saturating_sub(ended),
-            refused_by_system: self.refused_by_system.get(),
-            first_refusal: match self.first_refusal.load(Ordering::SeqCst) {
-                0 => None,
-                number => Some(number),
-            },
-        }
+            ended,
+            refused,
+            self.first_refusal.load(Ordering::SeqCst),
+        )
     }
 }

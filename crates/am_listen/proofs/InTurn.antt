@@ -2,7 +2,8 @@
 use Rattle.std.proofs.Common.{◌≡◌, ◌∙◌, ℕ, zero, suc, ◌+◌, ◌<◌, ◌≤◌, List, [], ◌∷◌, ◌++◌, length, get_or, sym, ap, refl}
 use Rattle.std.proofs.Common.{arith}
 use Rattle.std.proofs.Common.{true, false, Bool, None, All, subst}
-use Rattle.std.proofs.lemmas.Bool.{true≢false}
+use Rattle.std.proofs.Common.{inl, inr, nat_lt}
+use Rattle.std.proofs.lemmas.Bool.{true≢false, ltb-true, ltb-false}
 use Rattle.std.specs.List.{AllZip}
 use Rattle.std.proofs.lemmas.List.Elements.{All-nil, All-cons}
 use Rattle.am_latch.specs.declared.receipt.Receipt.{Receipt}
@@ -11,6 +12,7 @@ use Rattle.am_latch.specs.Ties.{open_of}
 use Rattle.am_seating.specs.SessionSeats.{SessionSeatState, HasDrawn, IsNumbered, open_at}
 use Rattle.am_doors.specs.declared.mode.Mode.{Mode}
 use Rattle.am_listen.specs.ServerRuns.{HasNewSeat, WasServed, session_seat_numbers, seat_numbers}
+use Rattle.am_listen.specs.ServerRuns.{HoldsNoReceipt}
 use Rattle.am_listen.specs.ServerRuns.{HasSameReceipts, ServedInTurn, HasServedInTurn, HasWorked, IsOfSessions}
 use Rattle.am_listen.proofs.Seatings.{all_first, all_rest, same_worked}
 
@@ -47,6 +49,23 @@ pub one_more : (p : SessionSeatState) (n : ℕ) (before began ended q : SessionS
     ServedInTurn p (suc n) q
 one_more p n before began ended q f drawn number served gone = (before, began, ended, f, drawn, number, served, gone)
 
+-- receipts were let go, or too many had been
+let_go_by : (p q : SessionSeatState) (b : Bool) → nat_lt 100000000000000 p.seat.let_go ≡ b →
+    q.seat.receipts ≡ p.seat.receipts →
+    (p.seat.let_go ≤ 100000000000000 → q.seat.let_go ≡ length p.seat.receipts) →
+    (100000000000000 < p.seat.let_go → q ≡ p) → HoldsNoReceipt q.seat
+let_go_by p q true more receipts gone kept =
+    let lt = ltb-true 100000000000000 p.seat.let_go more in
+    inr (subst (λ (s : SessionSeatState). 100000000000000 < s.seat.let_go) (sym (kept lt)) lt)
+let_go_by p q false few receipts gone kept =
+    inl (gone (omega (arith, ltb-false 100000000000000 p.seat.let_go few)) ∙
+    sym (ap (λ (rs : List Receipt). length rs) receipts))
+
+pub all_let_go : (p q : SessionSeatState) → q.seat.receipts ≡ p.seat.receipts →
+    (p.seat.let_go ≤ 100000000000000 → q.seat.let_go ≡ length p.seat.receipts) →
+    (100000000000000 < p.seat.let_go → q ≡ p) → HoldsNoReceipt q.seat
+all_let_go p q receipts gone kept = let_go_by p q (nat_lt 100000000000000 p.seat.let_go) refl receipts gone kept
+
 -- what so many turns keep
 pub record IsKept (turns : ℕ) (p q : SessionSeatState) : Type 0 where
   pub served : HasServedInTurn turns p q
@@ -54,20 +73,28 @@ pub record IsKept (turns : ℕ) (p q : SessionSeatState) : Type 0 where
 
 pub none_served : (p : SessionSeatState) → open_at p ≡ None → IsKept 0 p p
 none_served p idle = record {
-  served = record { same = refl; sessions = 0; few = omega arith; served = record { number = refl; receipts = refl } };
+  served = record {
+    same = refl;
+    let_go = inl refl;
+    sessions = 0;
+    few = omega arith;
+    served = record { number = refl; receipts = refl };
+  };
   idle = idle;
 }
 
 -- a session was served, and receipts were let go
 pub turn_served : (turns : ℕ) (p old drawn ended before q : SessionSeatState) (drew : Bool) → IsKept turns p old →
     drew ≡ true → HasDrawn old drew drawn → WasServed drawn ended → open_at ended ≡ None →
-    ended.seat.number ≡ drawn.seat.number → before ≡ ended → HasSameReceipts before q → IsKept (turns + 1) p q
-turn_served turns p old drawn ended before q false k is h served idle number at gone = absurd (true≢false (sym is))
-turn_served turns p old drawn ended before q true k is h served idle number at gone =
+    ended.seat.number ≡ drawn.seat.number → before ≡ ended → HasSameReceipts before q → HoldsNoReceipt q.seat →
+    IsKept (turns + 1) p q
+turn_served turns p old drawn ended before q false k is h served idle number at gone free = absurd (true≢false (sym is))
+turn_served turns p old drawn ended before q true k is h served idle number at gone free =
     let same_drew = same_drawn old drawn true h in
     let let_go : HasSameReceipts ended q = subst (λ (s : SessionSeatState). HasSameReceipts s q) at gone in record {
       served = record {
         same = let_go.number ∙ number ∙ same_drew.number ∙ k.served.same;
+        let_go = inr free;
         sessions = suc k.served.sessions;
         few = omega (arith, k.served.few);
         served = one_more p k.served.sessions old drawn ended q k.served.served same_drew (numbered old drawn h) served
@@ -78,12 +105,14 @@ turn_served turns p old drawn ended before q true k is h served idle number at g
 
 -- no number was drawn
 pub turn_refused : (turns : ℕ) (p old drawn before q : SessionSeatState) (drew : Bool) → IsKept turns p old →
-    HasDrawn old drew drawn → before ≡ drawn → HasSameReceipts before q → IsKept (turns + 1) p q
-turn_refused turns p old drawn before q drew k h at gone =
+    HasDrawn old drew drawn → before ≡ drawn → HasSameReceipts before q → HoldsNoReceipt q.seat →
+    IsKept (turns + 1) p q
+turn_refused turns p old drawn before q drew k h at gone free =
     let both = same_then old drawn q (same_drawn old drawn drew h)
     (subst (λ (s : SessionSeatState). HasSameReceipts s q) at gone) in record {
       served = record {
         same = both.number ∙ k.served.same;
+        let_go = inr free;
         sessions = k.served.sessions;
         few = omega (arith, k.served.few);
         served = none_more p k.served.sessions old q k.served.served both;
@@ -95,6 +124,7 @@ turn_refused turns p old drawn before q drew k h at gone =
 pub few_turns : (turns most : ℕ) (p q : SessionSeatState) → turns ≤ most → IsKept turns p q → HasServedInTurn most p q
 few_turns turns most p q le k = record {
   same = k.served.same;
+  let_go = k.served.let_go;
   sessions = k.served.sessions;
   few = omega (arith, k.served.few, le);
   served = k.served.served;
@@ -119,6 +149,13 @@ same_numbers most [] [] h = refl
 same_numbers most [] (y ∷ ys) h = absurd h
 same_numbers most (x ∷ xs) [] h = absurd h
 same_numbers most (x ∷ xs) (y ∷ ys) h = λ i. h.0.same i ∷ same_numbers most xs ys h.1 i
+
+pub as_many_served : (most : ℕ) (xs ys : List SessionSeatState) → AllZip (HasServedInTurn most) xs ys →
+    length ys ≡ length xs
+as_many_served most [] [] h = refl
+as_many_served most [] (y ∷ ys) h = absurd h
+as_many_served most (x ∷ xs) [] h = absurd h
+as_many_served most (x ∷ xs) (y ∷ ys) h = omega (arith, as_many_served most xs ys h.1)
 
 pub all_came_back : (mode : Mode) (most : ℕ) (session_seats served : List SessionSeatState)
     (worker_seats worked seats : List SeatState) → AllZip (HasServedInTurn most) session_seats served →

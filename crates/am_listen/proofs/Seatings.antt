@@ -1,8 +1,8 @@
 -- Seats and places, in order.
-use Rattle.std.proofs.Common.{◌≡◌, ℕ, zero, suc, ◌+◌, ◌<◌, List, [], ◌∷◌, ◌++◌, length, get_or, ap, sym, ◌∙◌, refl}
+use Rattle.std.proofs.Common.{◌≡◌, ℕ, zero, suc, ◌+◌, ◌<◌, ◌≤◌, List, [], ◌∷◌, ◌++◌, length, get_or, ap, sym, ◌∙◌, refl}
 use Rattle.std.proofs.Common.{arith, append_assoc, length-append, append-nil, subst, Option, Some, None, All, Bool}
 use Rattle.std.proofs.Common.{true, false, nat_lt}
-use Rattle.std.specs.Prelude.{slice_get}
+use Rattle.std.specs.Prelude.{slice_get, option_to_list}
 use Rattle.std.specs.List.{AllZip}
 use Rattle.std.proofs.lemmas.List.{map-append, length-map}
 use Rattle.std.proofs.lemmas.List.Elements.{All-nil, All-push, All-cons}
@@ -12,6 +12,7 @@ use Rattle.std.proofs.Math.Seq.{get_or-append_seam}
 use Rattle.am_latch.specs.declared.receipt.Receipt.{Receipt}
 use Rattle.am_latch.specs.Receipts.{SeatState, new_seat, numbered, AreAll}
 use Rattle.am_seating.specs.SessionSeats.{SessionSeatState}
+use Rattle.am_words.specs.Words.{WordHistory}
 use Rattle.am_workers.specs.Turns.{AreOfTurns}
 use Rattle.am_doors.specs.declared.mode.Mode.{Mode}
 use Rattle.am_listen.specs.ServerRuns.{seat_numbers, session_seat_numbers, latch_seats, IsNewSeat, IsOfWorker}
@@ -51,7 +52,7 @@ pub all_new : (n : ℕ) → All IsNewSeat (numbered n)
 all_new zero = All-nil IsNewSeat
 all_new (suc n) = All-push IsNewSeat (numbered n) (new_seat n) (all_new n) refl
 
-length-numbered : (n : ℕ) → length (numbered n) ≡ n
+pub length-numbered : (n : ℕ) → length (numbered n) ≡ n
 length-numbered zero = refl
 length-numbered (suc n) = omega (arith, length-numbered n, length-append (numbered n) (new_seat n ∷ []))
 
@@ -117,6 +118,28 @@ worker_more session_seats s worker_seats rest rest' all next e =
     (sym next)
     ∙ e
 
+-- a seat of the words has its session
+pub one_placed : (session_seats placed : List SessionSeatState) (p : SessionSeatState) (words left : List WordHistory)
+    (w : WordHistory) (popped : Option WordHistory) (all : ℕ) → placed ≡ session_seats ++ p ∷ [] → popped ≡ Some w →
+    words ≡ left ++ option_to_list popped →
+    length session_seats + length words ≡ all → length placed + length left ≡ all
+one_placed session_seats placed p words left w popped all more some fewer e =
+    omega (
+      arith,
+      e,
+      ap length more,
+      ap length fewer,
+      ap (λ (o : Option WordHistory). length (left ++ option_to_list o)) some,
+      length-append session_seats (p ∷ []),
+      length-append left (w ∷ []),
+    )
+
+-- each seat of the words has a session, where there are no more of them than seats of the latch
+pub all_counted : (left words placed worked seats : ℕ) → placed + left ≡ words → (0 < worked → left ≡ 0) →
+    placed + worked ≡ seats → words ≤ seats → placed ≡ words
+all_counted left words placed zero seats e none all few = omega (arith, e, all, few)
+all_counted left words placed (suc worked) seats e none all few = omega (arith, e, none (omega arith))
+
 -- ---- what each seat is left with
 
 pub all_of_workers : (mode : Mode) (xs ys : List SeatState) → AllZip (HasWorked mode) xs ys → All IsNewSeat xs →
@@ -130,6 +153,12 @@ all_of_workers mode (x ∷ xs) (y ∷ ys) h new =
     (sym (h.0.longer ∙ ap (λ (l : List Receipt). l ++ h.0.more) (all_first IsNewSeat x xs (x ∷ xs) refl new)))
     h.0.turns)
     (all_of_workers mode xs ys h.1 (all_rest IsNewSeat x xs (x ∷ xs) refl new))
+
+pub as_many : (mode : Mode) (xs ys : List SeatState) → AllZip (HasWorked mode) xs ys → length ys ≡ length xs
+as_many mode [] [] h = refl
+as_many mode [] (y ∷ ys) h = absurd h
+as_many mode (x ∷ xs) [] h = absurd h
+as_many mode (x ∷ xs) (y ∷ ys) h = omega (arith, as_many mode xs ys h.1)
 
 -- ---- all seats of a latch
 

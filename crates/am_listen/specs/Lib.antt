@@ -2,3 +2,4 @@ pub mod ServerRuns
 pub mod Pieces
 pub mod Stops
 pub mod Told
+pub mod Listeners

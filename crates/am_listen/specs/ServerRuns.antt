@@ -1,5 +1,5 @@
 -- What a server leaves, and what its sessions leave of their seats.
-use Rattle.std.specs.Prelude.{◌≡◌, ◌⊎◌, ℕ, zero, suc, ◌≤◌, List, [], ◌++◌, map, length, All, Option}
+use Rattle.std.specs.Prelude.{◌≡◌, ◌⊎◌, ℕ, zero, suc, ◌<◌, ◌≤◌, List, [], ◌++◌, map, length, All, Option}
 use Rattle.am_serial.specs.Trace.{Trace}
 use Rattle.am_sound.specs.Right.{IsSoundStore}
 use Rattle.am_serial.specs.Legal.{IsLegal}
@@ -55,9 +55,14 @@ ServedInTurn p zero q = HasSameReceipts p q
 ServedInTurn p (suc n) q = (before began ended : SessionSeatState) × ServedInTurn p n before ×
     HasSameReceipts before began × IsNumbered began × WasServed began ended × HasSameReceipts ended q
 
--- sessions were served there one after another, so many at most, and nothing else
+-- no receipt is held, unless 10^14 were let go
+abbrev pub HoldsNoReceipt : SeatState → Type 0
+HoldsNoReceipt s = (s.let_go ≡ length s.receipts) ⊎ (100000000000000 < s.let_go)
+
+-- sessions were served there one after another, so many at most, and nothing else; their receipts were let go
 pub record HasServedInTurn (most : ℕ) (p q : SessionSeatState) : Type 0 where
   pub same : HasSameSeat p q
+  pub let_go : (q ≡ p) ⊎ HoldsNoReceipt q.seat
   pub sessions : ℕ
   pub few : sessions ≤ most
   pub served : ServedInTurn p sessions q
@@ -95,11 +100,13 @@ pub record HasStored {T : Type 0} (took : T → Trace → T → Type 0) (first :
   pub count : s.events ≡ add_count 0 (length trace)
   pub run : IsRunOf seats trace s.commits
 
--- and the seats are those of sessions and of workers
-pub record IsServerRun {T : Type 0} (took : T → Trace → T → Type 0) (first : T) (mode : Mode) (s : ServerRun T) :
-    Type 0 where
+-- and the seats are those of so many sessions at once and of so many workers
+pub record IsServerRun {T : Type 0} (took : T → Trace → T → Type 0) (first : T) (mode : Mode)
+    (session_count worker_count : ℕ) (s : ServerRun T) : Type 0 where
   pub sessions : List SessionSeatState
   pub workers : List SeatState
+  pub all_sessions : length sessions ≡ session_count
+  pub all_workers : length workers ≡ worker_count
   pub served : All (IsOfSessions (most_sessions mode)) sessions
   pub worked : All (IsOfWorker mode) workers
   pub run : HasStored took first (latch_seats sessions ++ workers) s

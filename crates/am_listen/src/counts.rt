@@ -1,5 +1,7 @@
 //! What is told of a server while it runs.
 
+ghost use Rattle.std.specs.Prelude.{Bool};
+
 use am_doors::SessionCounts;
 use am_parts::Figures;
 use am_pieces::TraceCounts;
@@ -19,6 +21,12 @@ pub struct Counts {
 
 /// Looks at how a server does, some ten times a second, and once when all its sessions have ended.
 pub trait Watcher {
+    ghost use Rattle.am_listen.specs.declared.counts.Counts.{Counts};
+
+    // From the one state to the other it saw these counts, and whether they were the last.
+    ghost saw: { Self → Counts → Bool → Self → Type 0 };
+
     /// Looks at the counts. The last time all sessions have ended.
-    fn look(&mut self, counts: &Counts, is_last: bool);
+    fn look(&mut self, counts: &Counts, is_last: bool)
+        ensures { saw self.old counts.now is_last self.new };
 }

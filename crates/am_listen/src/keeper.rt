@@ -1,9 +1,10 @@
 //! The thread that takes what the latch hands out.
 
-ghost use Rattle.std.specs.Prelude.{◌≡◌, [], length, IsSome};
+ghost use Rattle.std.specs.Prelude.{◌≡◌, ◌+◌, [], length, true, None, IsSome};
+ghost use Rattle.am_serial.specs.Trace.{Trace};
 ghost use Rattle.am_pieces.specs.Events.{add_count, AreCountsOf};
 ghost use Rattle.am_engine.specs.Sizes.{AreFiguresAt};
-ghost use Rattle.am_listen.specs.Told.{AreCountsBehind};
+ghost use Rattle.am_listen.specs.Told.{AreCountsBehind, Looked};
 ghost use Rattle.am_listen.specs.Pieces.{HasTaken};
 ghost use Rattle.am_listen.specs.Stops.{is_over};
 
@@ -66,7 +67,9 @@ impl<L: LatchName, T: PieceTaker + Drop, V: Watcher + Drop> Keeper<L, T, V> {
         grace: Option<Duration>,
     ) -> Keeper<L, T, V>
         requires { taker ≡ [] }
-        ensures { (result.taker ≡ taker) × (result.pieces ≡ pieces) × (result.events ≡ 0) }
+        ensures taken { (result.taker ≡ taker) × (result.pieces ≡ pieces) × (result.events ≡ 0) }
+        ensures watcher { result.watcher ≡ watcher }
+        ensures grace { (result.grace ≡ grace) × (result.stopped_at ≡ None) }
     {
         Keeper {
             taker,
@@ -83,8 +86,10 @@ impl<L: LatchName, T: PieceTaker + Drop, V: Watcher + Drop> Keeper<L, T, V> {
     /// Takes what the latch keeps, some ten times a second, until all sessions have ended, and cuts those that are
     /// late.
     pub(crate) fn keep<R: Wait + Clock>(self, rt: &R, latch: &Latch<L>, house: &House<'_>) -> Self
-        ensures { HasTaken T.took self.taker self.pieces self.events result.taker result.pieces
+        ensures taken { HasTaken T.took self.taker self.pieces self.events result.taker result.pieces
             result.events }
+        ensures last { (watcher : V) × (before : Trace) × Looked V.saw watcher before result.taker
+            (T.has_lost result.pieces) true result.watcher }
     {
         let mut keeper = self;
         'rounds: for _ in rt.forever() {
@@ -103,8 +108,11 @@ impl<L: LatchName, T: PieceTaker + Drop, V: Watcher + Drop> Keeper<L, T, V> {
 
     // Takes what the latch keeps.
     fn take_piece<R: Wait>(&mut self, rt: &R, latch: &Latch<L>, house: &House<'_>, is_last: bool)
-        ensures { HasTaken T.took self.old.taker self.old.pieces self.old.events self.new.taker self.new.pieces
+        ensures taken { HasTaken T.took self.old.taker self.old.pieces self.old.events self.new.taker self.new.pieces
             self.new.events }
+        ensures looked { Looked V.saw self.old.watcher self.old.taker self.new.taker (T.has_lost self.new.pieces)
+            is_last self.new.watcher }
+        ensures same { (self.new.grace ≡ self.old.grace) × (self.new.stopped_at ≡ self.old.stopped_at) }
     {
         let kept = self.pass_piece(rt, latch);
         let counts = self.counts(house.tally.counts(), kept);
@@ -113,8 +121,11 @@ impl<L: LatchName, T: PieceTaker + Drop, V: Watcher + Drop> Keeper<L, T, V> {
 
     // Passes on what the latch keeps, and answers how many events these are.
     fn pass_piece<R: Wait>(&mut self, rt: &R, latch: &Latch<L>) -> usize
-        ensures { HasTaken T.took self.old.taker self.old.pieces self.old.events self.new.taker self.new.pieces
+        ensures taken { HasTaken T.took self.old.taker self.old.pieces self.old.events self.new.taker self.new.pieces
             self.new.events }
+        ensures came { length self.new.taker ≡ length self.old.taker + result }
+        ensures same { (self.new.watcher ≡ self.old.watcher) × (self.new.grace ≡ self.old.grace) ×
+            (self.new.stopped_at ≡ self.old.stopped_at) }
     {
         let Ok(piece) = latch.hand_out(rt, &mut self.taker) else {
             return 0;
@@ -147,6 +158,7 @@ impl<L: LatchName, T: PieceTaker + Drop, V: Watcher + Drop> Keeper<L, T, V> {
     fn since_stop<R: Clock>(&mut self, rt: &R, house: &House<'_>) -> SinceStop
         ensures kept { (self.new.taker ≡ self.old.taker) × (self.new.pieces ≡ self.old.pieces) ×
             (self.new.events ≡ self.old.events) }
+        ensures others { (self.new.watcher ≡ self.old.watcher) × (self.new.grace ≡ self.old.grace) }
         ensures same { IsSome self.old.stopped_at → self.new.stopped_at ≡ self.old.stopped_at }
     {
         if !house.is_stopped() {

@@ -1,6 +1,7 @@
 //! A port of this machine.
 
-ghost use Rattle.std.specs.Prelude.{◌≡◌, ◌≤◌, ◌<◌, IfOk};
+ghost use Rattle.std.specs.Prelude.{◌≡◌, ◌≤◌, ◌<◌, ◌*◌, IfOk, is_some, None, if◌then◌else◌};
+ghost use Rattle.am_listen.specs.Listeners.{IsAtPort, IsAtSocket};
 ghost use Rattle.am_listen.specs.ServerRuns.{IsServerRun};
 
 use crate::counts::Watcher;
@@ -51,7 +52,10 @@ pub struct PortListener {
 pub fn bind<R: AllocGlobal + Net<Listener = TcpListener, Stream = TcpStream>>(
     rt: &R,
     port: u16,
-) -> Result<PortListener, BindFault> {
+) -> Result<PortListener, BindFault>
+    ensures port { IfOk result (λ l. IsAtPort l.port l.door) }
+    ensures alone { IfOk result (λ l. l.socket ≡ None) }
+{
     let Ok((listener, port)) = listen_at_port(rt, port) else {
         return Err(BindFault::CannotListen);
     };
@@ -66,7 +70,9 @@ pub fn bind<R: AllocGlobal + Net<Listener = TcpListener, Stream = TcpStream>>(
 
 impl PortListener {
     /// The port.
-    pub fn port(&self) -> u16 {
+    pub fn port(&self) -> u16
+        ensures { result ≡ self.now.port }
+    {
         self.port
     }
 
@@ -79,7 +85,10 @@ impl PortListener {
         self,
         rt: &R,
         path: &str,
-    ) -> Result<PortListener, BindFault> {
+    ) -> Result<PortListener, BindFault>
+        ensures socket { IfOk result (λ l. IsAtSocket path.now l.socket) }
+        ensures same { IfOk result (λ l. (l.port ≡ self.port) × (l.door ≡ self.door)) }
+    {
         let Ok(name) = String::from_str(rt.alloc(), path) else {
             return Err(BindFault::CannotListen);
         };
@@ -104,7 +113,10 @@ impl PortListener {
         }
     }
 
-    fn doors(&self) -> Doors<'_> {
+    fn doors(&self) -> Doors<'_>
+        ensures port { result.port.now ≡ self.now.door }
+        ensures socket { is_some result.socket ≡ is_some self.now.socket }
+    {
         Doors {
             port: &self.door,
             socket: self.socket.as_ref(),
@@ -135,7 +147,8 @@ impl PortListener {
     ) -> Result<ServerRun<T>, NoMemory>
         requires sessions { (1 ≤ sessions) × (sessions ≤ 256) }
         requires workers { workers ≤ 16 }
-        ensures { IfOk result (IsServerRun T.took keeping.pieces mode) }
+        ensures { IfOk result (IsServerRun T.took keeping.pieces mode
+            (if is_some self.now.socket then 2 * sessions else sessions) workers) }
     {
         let doors = self.doors();
         let seats = doors.seats(sessions);

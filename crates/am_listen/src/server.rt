@@ -1,6 +1,6 @@
 //! All sessions of a server, the workers and the keeper beside them.
 
-ghost use Rattle.std.specs.Prelude.{◌≡◌, ◌++◌, [], IfOk, All, length, vec_len, vec_capacity};
+ghost use Rattle.std.specs.Prelude.{◌≡◌, ◌≤◌, ◌-◌, ◌++◌, [], IfOk, All, length, vec_len, vec_capacity};
 ghost use Rattle.std.specs.List.{AllZip};
 ghost use Rattle.am_latch.specs.Receipts.{AreAll};
 ghost use Rattle.am_listen.specs.ServerRuns.{HasNewSeat, HasServedInTurn, HasStored, IsServerRun};
@@ -143,8 +143,9 @@ fn close_all<L: LatchName, T: PieceTaker + Drop, V: Watcher + Drop>(
     accepted_all: bool,
 ) -> ServerRun<T>
     requires { AreAll L.seats seats.items }
-    ensures { (first : T) → HasTaken T.took [] first 0 keeper.taker keeper.pieces keeper.events →
+    ensures stored { (first : T) → HasTaken T.took [] first 0 keeper.taker keeper.pieces keeper.events →
         HasStored T.took first seats.items result }
+    ensures accepted { result.accepted_all ≡ accepted_all }
 {
     pass_rest(latch, seats, keeper, accepted_all)
 }
@@ -157,7 +158,8 @@ fn pass_rest<L: LatchName, T: PieceTaker + Drop, V: Watcher + Drop>(
     accepted_all: bool,
 ) -> ServerRun<T>
     requires { AreAll L.seats seats.items }
-    ensures { HasClosed T.took seats.items keeper.taker keeper.pieces keeper.events result }
+    ensures closed { HasClosed T.took seats.items keeper.taker keeper.pieces keeper.events result }
+    ensures accepted { result.accepted_all ≡ accepted_all }
 {
     let Keeper {
         taker,
@@ -195,7 +197,11 @@ pub(crate) fn run<
 ) -> Result<ServerRun<T>, NoMemory>
     requires named { (blank.seats ≡ L.seats) × (blank.table ≡ L.table) }
     requires word_seats { All (λ h. h.of ≡ words.now) word_seats.items }
-    ensures { IfOk result (IsServerRun T.took keeping.pieces house.now.mode) }
+    requires few { length word_seats.items ≤ L.seats }
+    requires places { house.now.connections ≡ length word_seats.items }
+    requires idle { house.now.idle ≡ keeping.idle }
+    ensures { IfOk result (IsServerRun T.took keeping.pieces house.now.mode (length word_seats.items)
+        (L.seats - length word_seats.items)) }
 {
     let Ok((latch, seats, taker)) = Latch::<L>::open(blank, hash) else {
         return Err(NoMemory);

@@ -33,6 +33,8 @@ pub(crate) fn assign_seats<'a, L: LatchName>(
 ) -> Result<(Vec<SessionSeat<'a, L>>, Vec<Seat<L>>), NoMemory>
     requires word_seats { All (λ h. h.of ≡ words.now) word_seats.items }
     requires fresh { All IsNewSeat seats.items }
+    requires few { length word_seats.items ≤ length seats.items }
+    ensures count { IfOk result (λ r. length r.0.items ≡ length word_seats.items) }
     ensures sessions { IfOk result (λ r. All HasNewSeat r.0.items) }
     ensures workers { IfOk result (λ r. All IsNewSeat r.1.items) }
     ensures seats { IfOk result (λ r. session_seat_numbers r.0.items ++ seat_numbers r.1.items ≡

@@ -3,9 +3,10 @@
 ghost use Rattle.std.specs.Prelude.{◌≡◌, ◌+◌, ◌^◌, ◌<◌, false, None};
 ghost use Rattle.am_session.specs.Served.{Served, read_failures, write_failures, IsSentOn};
 ghost use Rattle.am_seating.specs.SessionSeats.{open_at, seat_meaning, IsNumbered, IsPublishedByReceipt};
+ghost use Rattle.am_doors.specs.Http.{IsInMode};
 ghost use Rattle.am_listen.specs.ServerRuns.{WasServed};
 
-use am_doors::{CountingSink, MergePacer};
+use am_doors::{CountingSink, House, NoHttp};
 use am_latch::LatchName;
 use am_seating::SessionSeat;
 use am_session::{End, PartingSink, serve};
@@ -44,16 +45,18 @@ pub fn serve_session<
     serve(rt, alloc, source, sink, session_seat, 0)
 }
 
-/// Serves one connection to its end. What comes from it is the source's.
-pub(crate) fn serve_connection<'a, W: Wait, S: Source, L: LatchName>(
+/// Serves one connection to its end. What comes from it is the source's, which looks for a request of HTTP where the
+/// server stays.
+pub(crate) fn serve_connection<'a, W: Wait, S: Source + Drop, L: LatchName>(
     rt: &W,
     alloc: Global,
+    house: &House<'_>,
     stream: &TcpStream,
-    source: &mut S,
-    pacer: &MergePacer,
+    source: &mut NoHttp<S>,
     session_seat: &mut SessionSeat<'a, L>,
 )
-    requires countable { S.failures source.old < 2 ^ 63 }
+    requires countable { ⟦<NoHttp<S> as Source>⟧.failures source.old < 2 ^ 63 }
+    requires mode { IsInMode house.now.mode source.old }
     requires idle { open_at session_seat.old ≡ None }
     requires numbered { IsNumbered session_seat.old }
     ensures idle { open_at session_seat.new ≡ None }
@@ -66,7 +69,7 @@ pub(crate) fn serve_connection<'a, W: Wait, S: Source, L: LatchName>(
         refuse(stream);
         return;
     };
-    let mut sink = CountingSink::new(Writing::new(writer), pacer);
+    let mut sink = CountingSink::new(Writing::new(writer), &house.pacer);
     if let End::NoMemory = serve_session(rt, alloc, source, &mut sink, session_seat) {
         refuse(stream);
     }

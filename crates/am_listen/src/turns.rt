@@ -52,12 +52,8 @@ fn serve_at_place<'a, R: Wait, L: LatchName>(
     };
     limit_idleness(&shared, house.idle);
     house.connections.enter(rt, place, other);
-    let mut source = if house.mode.stays() {
-        NoHttp::new(Reading::new(&*shared))
-    } else {
-        NoHttp::open(Reading::new(&*shared))
-    };
-    serve_connection(rt, alloc, &shared, &mut source, &house.pacer, session_seat);
+    let mut source = NoHttp::in_mode(Reading::new(&*shared), house.mode);
+    serve_connection(rt, alloc, house, &shared, &mut source, session_seat);
     house.connections.leave(rt, place);
 }
 

@@ -1,6 +1,6 @@
 //! A trace that is written while its server runs.
 
-ghost use Rattle.std.specs.Prelude.{◌≡◌, ◌^◌, ◌<◌, false, MatchBool};
+ghost use Rattle.std.specs.Prelude.{◌≡◌, ◌+◌, ◌^◌, ◌<◌, false, MatchBool, if◌then◌else◌};
 ghost use Rattle.am_stream.specs.Giving.{Gave, GaveBeginning};
 ghost use Rattle.am_trace.specs.Lines.{header};
 ghost use Rattle.am_trace.specs.declared.version.Version.TheVariants.{Two};
@@ -29,8 +29,9 @@ impl<K: Sink + Drop> TraceWriter<K> {
     /// Writes the first line. Where the sink fails, the trace is cut there.
     pub fn begin(alloc: Global, sink: K) -> TraceWriter<K>
         requires { K.failures sink < 2 ^ 63 }
-        ensures { MatchBool result.is_cut (GaveBeginning K.holds sink (header Two) result.sink)
+        ensures begun { MatchBool result.is_cut (GaveBeginning K.holds sink (header Two) result.sink)
             (Gave K.holds sink (header Two) result.sink) }
+        ensures cut { K.failures result.sink ≡ (if result.is_cut then K.failures sink + 1 else K.failures sink) }
     {
         let mut sink = sink;
         let is_cut = give_all(&mut sink, b"TRACE 2\n").is_err();
@@ -48,7 +49,7 @@ impl<K: Sink + Drop> TraceWriter<K> {
         self.sink
     }
 
-    // Writes the lines of these events, and sends them on.
+    // Writes the lines of these events.
     fn write(&mut self, events: &[(Step, Reply)])
         requires whole { self.old.is_cut ≡ false }
         ensures { TookLines K.holds self.old.sink self.old.is_cut events.now self.new.sink self.new.is_cut }

@@ -1,6 +1,6 @@
 //! The seats of one session at the server.
 
-ghost use Rattle.std.specs.Prelude.{◌≡◌, ◌≤◌, ℕ, Some, length};
+ghost use Rattle.std.specs.Prelude.{◌≡◌, ◌≤◌, ◌<◌, ℕ, Some, length};
 ghost use Rattle.am_latch.specs.Receipts.{last_commit_of};
 ghost use Rattle.am_seating.specs.SessionSeats.{published, seat_meaning, HasDrawn};
 
@@ -76,6 +76,7 @@ impl<'a, L: LatchName> SessionSeat<'a, L> {
             (self.new.seat.number ≡ self.old.seat.number) × (self.new.seat.receipts ≡ self.old.seat.receipts) }
         ensures gone { self.old.seat.let_go ≤ 100000000000000 →
             self.new.seat.let_go ≡ length self.old.seat.receipts }
+        ensures kept { 100000000000000 < self.old.seat.let_go → self.new ≡ self.old }
     {
         self.seat.let_go();
     }

@@ -112,6 +112,8 @@ impl<'a, R: Eprint + Clock + Wait> Console<'a, R> {
 }
 
 impl<'a, R: Eprint + Clock + Wait> Watcher for Console<'a, R> {
+    ghost saw = { λ _ _ _ _. Unit {0} };
+
     fn look(&mut self, counts: &Counts, is_last: bool) {
         self.tell_accept(&counts.sessions);
         self.tell_cut(counts);

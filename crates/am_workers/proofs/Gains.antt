@@ -2,10 +2,8 @@
 use Rattle.std.proofs.Common.{◌≡◌, ℕ, suc, ◌+◌, ◌<◌, ◌≤◌, List, [], ◌∷◌, ◌++◌, length, get_or, refl, sym, ap, ◌∙◌}
 use Rattle.std.proofs.Common.{arith, append_assoc, append-nil, length-append, Bool, true, false, MatchBool, subst}
 use Rattle.std.proofs.Common.{inl, inr, Option, Some, None, ◌⊎◌}
-use Rattle.std.specs.Prelude.{flat_map}
-use Rattle.std.specs.List.{AllZip, AllByRecursion}
+use Rattle.std.specs.List.{AllZip}
 use Rattle.std.proofs.lemmas.Grind.{flat_map-append}
-use Rattle.std.proofs.lemmas.List.Elements.{All-nil, All-push, All-append}
 use Rattle.std.proofs.lemmas.List.Sums.{sum_by-cons, sum_by-append}
 use Rattle.am_record.specs.Interval.{Interval}
 use Rattle.am_record.specs.declared.step.Step.{Step}
@@ -21,10 +19,11 @@ use Rattle.am_latch.specs.Receipts.{SeatState, receipt, moved_in, GetsReceipt, H
 use Rattle.am_latch.specs.Ties.{open_of}
 use Rattle.am_latch.proofs.Tying.{open_from-snoc}
 use Rattle.am_workers.specs.declared.upkeep.Upkeep.{Upkeep}
-use Rattle.am_workers.specs.declared.upkeep.Upkeep.TheVariants.{MergeOnly, MergeAndClean}
+use Rattle.am_workers.specs.declared.upkeep.Upkeep.TheVariants.{MergeAndClean}
 use Rattle.am_workers.specs.declared.cleaning.Place.{Place}
 use Rattle.am_workers.specs.Turns.{IsTurn, AreOfTurns, HasTakenTurns, all_moved}
 use Rattle.am_workers.specs.Cleaning.{HasCleaned}
+use Rattle.am_workers.specs.Turning.{HasLetGo, may_clean, OnlyMerged, ThenCleaned, TakesTurn, TakesTurns}
 
 -- the seat has one receipt more, of a Clean of at most 64, or none
 abbrev pub MayHaveCleaned : SeatState → SeatState → Type 0
@@ -165,6 +164,31 @@ pub may_have_cleaned : (seats : ℕ) (from to : Place) (s t : SeatState) (reply 
     HasCleaned seats from s reply to t → MayHaveCleaned s t
 may_have_cleaned seats from to s t (Some r) h = cleaned_either_way s t h.range r (is_stored r) h.called
 may_have_cleaned seats from to s t None h = inl h.same
+
+-- a turn has a merge, and perhaps a Clean behind it
+goes_on : (upkeep : Upkeep) (limit seats : ℕ) (from to : Place) (s t u v : SeatState) (merge reply : Reply) →
+    HasLetGo s t → HasReceiptOf t (Merge limit) merge u →
+    MatchBool (may_clean upkeep merge) (ThenCleaned seats from u merge reply to v)
+    (OnlyMerged from u merge reply to v) →
+    HasTakenTurns upkeep limit 1 s v
+goes_on MergeAndClean limit seats from to s t u v Idle reply f c h =
+    merged_and_cleaned MergeAndClean limit s t u v Idle refl refl f.number f.receipts c
+    (may_have_cleaned seats from to u v h.cleaned h.cleans)
+goes_on upkeep limit seats from to s t u v merge reply f c h =
+    subst (λ (w : SeatState). HasTakenTurns upkeep limit 1 s w) (sym h.same)
+    (merged upkeep limit s t u merge f.number f.receipts c)
+
+pub one_taken : (upkeep : Upkeep) (limit seats : ℕ) (from to : Place) (s t : SeatState) (reply : Reply) →
+    TakesTurn upkeep limit seats from s reply to t → HasTakenTurns upkeep limit 1 s t
+one_taken upkeep limit seats from to s t reply h =
+    goes_on upkeep limit seats from to s h.free h.behind t h.merged reply h.freed h.merges h.goes_on
+
+pub one_turn_more : (upkeep : Upkeep) (limit seats n : ℕ) (s u t : SeatState) (from to : Place) (reply : Reply) →
+    TakesTurns upkeep limit seats n s from u → TakesTurn upkeep limit seats from u reply to t →
+    TakesTurns upkeep limit seats (n + 1) s to t
+one_turn_more upkeep limit seats n s u t from to reply f h =
+    let e : suc n ≡ n + 1 = omega arith in
+    subst (λ (k : ℕ). TakesTurns upkeep limit seats k s to t) e (from, u, reply, f, h)
 
 -- a look changes no seat
 pub receipt_of_same : (s t u : SeatState) (step : Step) (r : Reply) → t ≡ s → HasReceiptOf t step r u →

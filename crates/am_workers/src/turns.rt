@@ -1,6 +1,9 @@
 //! The turns of one worker.
 
+ghost use Rattle.std.specs.Prelude.{◌≡◌, ℕ, ◌≤◌};
 ghost use Rattle.am_workers.specs.Turns.{HasTakenTurns};
+ghost use Rattle.am_workers.specs.Turning.{may_clean, TakesTurn, TakesTurns};
+ghost use Rattle.am_workers.specs.declared.cleaning.Place.{Place};
 
 use crate::cleaning::{Place, clean};
 use crate::pacer::Pacer;
@@ -20,7 +23,9 @@ pub(crate) fn take_turns<L: LatchName, R: Wait, G: Pacer>(
     upkeep: Upkeep,
     pacer: &G,
 )
-    ensures { HasTakenTurns upkeep limit turns seat.old seat.new }
+    ensures turned { HasTakenTurns upkeep limit turns seat.old seat.new }
+    ensures on { (count : ℕ) × (count ≤ turns) × (to : Place) ×
+        TakesTurns upkeep limit L.seats count seat.old to seat.new }
 {
     let mut place = Place::front_of(0);
     for turn in 0..turns {
@@ -43,16 +48,20 @@ fn take_turn<L: LatchName, R: Wait>(
     upkeep: Upkeep,
     place: &mut Place,
 ) -> Reply
-    ensures { HasTakenTurns upkeep limit 1 seat.old seat.new }
+    ensures { TakesTurn upkeep limit L.seats place.old seat.old result place.new seat.new }
 {
     // The receipts of the turn before.
     seat.let_go();
     let merged = seat.call(rt, latch, Step::Merge(limit));
-    let Reply::Idle = &merged else {
+    if !may_clean(upkeep, &merged) {
         return merged;
-    };
-    match upkeep {
-        Upkeep::MergeOnly => merged,
-        Upkeep::MergeAndClean => clean(rt, latch, seat, place).unwrap_or(merged),
     }
+    clean(rt, latch, seat, place).unwrap_or(merged)
+}
+
+// Whether a worker cleans behind this answer to its merge: where that is asked for, and nothing is left to merge.
+fn may_clean(upkeep: Upkeep, merged: &Reply) -> bool
+    ensures { result ≡ may_clean upkeep merged.now }
+{
+    matches!((upkeep, merged), (Upkeep::MergeAndClean, Reply::Idle))
 }

@@ -11,7 +11,7 @@ use Rattle.am_listen.proofs.server.work_beside.Goals as goal
 
 pub join-keeper-requires-send-F : goal.join-keeper-requires-send-F
 join-keeper-requires-send-F g c κs within = param_send _ _ (arg_send _ no _ (captures_send _ _ _ _ _
-    (keeper.the_send (param 0 g.row.L) (param 2 g.row.T) (param 3 g.row.V) g.L.LatchName g.T.PieceTaker
+    (keeper.the_send (param 0 g.row.L) (param 2 g.row.T) (param 3 g.row.V) g.L.LatchName g.T.PieceTaker g.V.Watcher
     (search (c.type_bounds, sendable) depth 10) (search (c.type_bounds, sendable) depth 10))
     (shr_send _ _ (param 1 g.row.R) (search (c.type_bounds, sendable) depth 10))
     (shr_send _ _ (Latch.the_row (param 0 g.row.L) g.L.LatchName) (latch_sync (param 0 g.row.L) g.L.LatchName))

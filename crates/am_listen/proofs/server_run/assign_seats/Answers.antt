@@ -2,7 +2,7 @@ use Rattle.std.proofs.Common.{rules, ◌≡◌}
 use Rattle.std.proofs.lemmas.List.Elements.{All-push}
 use Rattle.am_words.specs.Words.{WordHistory}
 use Rattle.am_listen.specs.ServerRuns.{HasNewSeat, IsNewSeat}
-use Rattle.am_listen.proofs.Seatings.{place_more, worker_more, none_there, all_init, all_rest, all_first}
+use Rattle.am_listen.proofs.Seatings.{one_placed, place_more, worker_more, none_there, all_init, all_rest, all_first}
 use Rattle.am_listen.proofs.server_run.assign_seats.Goals as goal
 
 pub loop-seat-preserved-in-loop-seat : goal.loop-seat-preserved-in-loop-seat
@@ -13,6 +13,9 @@ loop-seat-preserved-in-loop-seat g c =
       finite = tt;
       word_seats = all_init (λ (h : WordHistory). h.of ≡ c.args.words.now) _ _ _ c.pop.ensures.items
           c.loop-seat.invariant.word_seats;
+      count = one_placed _ _ _ _ _ _ _ _ c.in_ok-push.ensures.items c.in-Some-pop.is c.pop.ensures.items
+          c.loop-seat.invariant.count;
+      none = λ lt. search rules;
       sessions = rw c.in_ok-push.ensures.items (rw c.new.ensures
           (All-push HasNewSeat _ _ c.loop-seat.invariant.sessions new));
       workers = search rules;
@@ -31,6 +34,8 @@ loop-seat-preserved g c =
       can = tt;
       finite = tt;
       word_seats = search rules;
+      count = search rules;
+      none = search rules;
       sessions = search rules;
       workers = rw c.in_ok-push-2.ensures.items (All-push IsNewSeat _ _ c.loop-seat.invariant.workers new);
       left = all_rest IsNewSeat _ _ _ next c.loop-seat.invariant.left;

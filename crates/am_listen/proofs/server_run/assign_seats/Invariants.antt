@@ -1,4 +1,4 @@
-use Rattle.std.proofs.Common.{◌≡◌, ◌++◌, All}
+use Rattle.std.proofs.Common.{◌≡◌, ◌+◌, ◌<◌, ◌++◌, length, All}
 use Rattle.std.specs.Vec.Iter.{into_iter_items}
 use Rattle.am_listen.specs.ServerRuns.{HasNewSeat, IsNewSeat, seat_numbers, session_seat_numbers}
 use Rattle.am_listen.proofs.server_run.assign_seats.Given as goal
@@ -8,6 +8,8 @@ invariant-loop-seat g l = record {
   can : (goal.iterator-loop-seat g).can_next l.seat-iterator;
   finite : (goal.iterator-loop-seat g).is_finite l.seat-iterator;
   word_seats : All (λ h. h.of ≡ l.words) l.word_seats.items;
+  count : length l.session_seats.items + length l.word_seats.items ≡ length l.fn.word_seats.items;
+  none : 0 < length l.worker_seats.items → length l.word_seats.items ≡ 0;
   sessions : All HasNewSeat l.session_seats.items;
   workers : All IsNewSeat l.worker_seats.items;
   left : All IsNewSeat (into_iter_items l.seat-iterator);
