@@ -139,8 +139,10 @@ impl RawLeaf {
     #[tactic(auto, using(crate::proofs::Leaves::counted))]
     pub fn record(&self, at: usize) -> (Key, Value)
         requires { at < length self.now.entries }
-        ensures { (d : Entry) → result ≡ ((slice_index_or self.now.entries at d).key,
-            (slice_index_or self.now.entries at d).value) }
+        ensures { (d : Entry) → result ≡ (
+          (slice_index_or self.now.entries at d).key,
+          (slice_index_or self.now.entries at d).value,
+        ) }
     {
         let place = self.places.get(at);
         (place.1, self.values.get(at))
