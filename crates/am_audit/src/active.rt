@@ -1,11 +1,15 @@
 //! The active transactions of a trace.
 
-ghost use Rattle.std.specs.Prelude.{◌≡◌, ◌==◌, not, map, filter, length, true, false, IfSome, IfNone, OnOk};
+ghost use Rattle.std.specs.Prelude.{◌≡◌, ◌==◌, not, map, filter, length, true, false, [], IfSome, IfNone, IfOk, OnOk};
 ghost use Rattle.am_locks.specs.Table.{is_owner, without_owner};
 ghost use Rattle.am_audit.specs.Progress.{listed, is_listed, own_in, placed_answer, with_own};
 
 use crate::held_locks::HeldLocks;
 use am_record::{NoMemory, Op, Reply};
+use std::alloc::Global;
+
+/// So many operations of a transaction have their room from its begin.
+const FIRST_OPERATIONS: usize = 16;
 
 /// An answered operation with its reply, until its transaction ends.
 #[derive(Drop)]
@@ -22,6 +26,16 @@ pub(crate) struct Active {
     pub(crate) number: u64,
     /// Its answered operations.
     pub(crate) own: Vec<OwnAnswer>,
+}
+
+impl Active {
+    /// A transaction without operations, with room for its first ones.
+    pub(crate) fn new(alloc: Global, number: u64) -> Result<Active, NoMemory>
+        ensures { IfOk result (λ active. listed active ≡ (number, [])) }
+    {
+        let own = Vec::with_capacity(alloc, FIRST_OPERATIONS)?;
+        Ok(Active { number, own })
+    }
 }
 
 /// Whether the transaction is active.
@@ -66,7 +80,8 @@ pub(crate) fn keep(all: &mut [Active], tx: u64, kept: OwnAnswer) -> Result<(), N
 {
     for active in all.iter_mut() {
         if active.number == tx {
-            active.own.push(kept)?;
+            active.own.reserve(1)?;
+            active.own.push_reserved(kept);
             return Ok(());
         }
     }

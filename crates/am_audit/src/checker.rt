@@ -85,10 +85,8 @@ impl Checker {
             return Err(EventFault::Form);
         }
         if let Reply::Begun(tx) = reply {
-            self.active.push(Active {
-                number: *tx,
-                own: Vec::new(alloc),
-            })?;
+            let active = Active::new(alloc, *tx)?;
+            self.active.push(active)?;
             self.locks.enter(*tx)?;
             self.begun = *tx;
         }

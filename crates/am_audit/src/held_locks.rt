@@ -17,7 +17,7 @@ use std::alloc::Global;
 use std::marker::Model;
 
 /// Who holds which locks, as a table of locks has them. The locks of an only owner meet nobody's: what it asks for is
-/// listed, and comes into the table with the next owner.
+/// listed, and comes into the table with the next owner, where the list is full, and where a refusal is looked at.
 #[derive(Drop)]
 pub(crate) struct HeldLocks {
     table: LockTable,

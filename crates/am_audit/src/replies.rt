@@ -1,6 +1,7 @@
 //! Replies compared.
 
-ghost use Rattle.std.specs.Prelude.{◌≡◌, ◌↔◌, IsTrue};
+ghost use Rattle.std.specs.Prelude.{◌≡◌, ◌↔◌, IsTrue, option_copied};
+ghost use Rattle.am_record.specs.Plain.{found};
 
 use am_record::{Key, Pairs, Refusal, Reply, Value};
 
@@ -25,6 +26,17 @@ pub(crate) fn is_same(a: &Reply, b: &Reply) -> bool
         (Reply::Cleaned(a), Reply::Cleaned(b)) => a == b,
         (Reply::NoMark, Reply::NoMark) => true,
         (Reply::Refused(a), Reply::Refused(b)) => is_same_refusal(*a, *b),
+        _ => false,
+    }
+}
+
+/// Whether the reply is that of a Get which reads this.
+pub(crate) fn is_read(value: Option<&Value>, reply: &Reply) -> bool
+    ensures { IsTrue result ↔ (found (option_copied value.entry) ≡ reply.now) }
+{
+    match (value, reply) {
+        (Some(value), Reply::Found(found)) => is_same_value(value, found),
+        (None, Reply::Absent) => true,
         _ => false,
     }
 }

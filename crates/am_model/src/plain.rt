@@ -1,6 +1,6 @@
 //! A map that answers operations.
 
-ghost use Rattle.std.specs.Prelude.{◌≡◌, Option, None, Some, false, IfOk, OnOk, OnErr};
+ghost use Rattle.std.specs.Prelude.{◌≡◌, Option, None, Some, false, option_copied, IfOk, OnOk, OnErr};
 ghost use Rattle.std.specs.FinMap as map;
 ghost use Rattle.am_record.specs.Plain.{answer, draft_after, answers, left, fresh, insert_all};
 ghost use Rattle.am_record.specs.declared.step.Op.TheVariants.{Insert, Replace, Delete, Load, Mark, Back};
@@ -66,6 +66,13 @@ impl Plain {
             Op::Mark => self.mark(),
             Op::Back => Ok(self.back()),
         }
+    }
+
+    /// The value under the key, where it stands: what a Get is answered.
+    pub fn value(&self, key: &Key) -> Option<&Value>
+        ensures { option_copied result ≡ map.get self.now.map key.now }
+    {
+        self.records.value(key)
     }
 
     fn insert(&mut self, key: Key, value: Value) -> Result<Reply, NoMemory>

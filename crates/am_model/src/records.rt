@@ -1,6 +1,7 @@
 //! Records by key.
 
 ghost use Rattle.std.specs.Prelude.{◌≡◌, Option, None, Some, cond, not, is_some, unwrap_or, IfOk, OnOk, OnErr};
+ghost use Rattle.std.specs.Prelude.{option_copied};
 ghost use Rattle.std.specs.FinMap as map;
 ghost use Rattle.am_record.specs.Plain.{scan_rows, least_taken};
 ghost use Rattle.am_model.specs.Least.{lesser_key};
@@ -47,6 +48,16 @@ impl Records {
         ensures { result ≡ map.get (live self.now) key }
     {
         self.slot(key).flatten()
+    }
+
+    /// The same where it stands.
+    pub(crate) fn value(&self, key: &Key) -> Option<&Value>
+        ensures { option_copied result ≡ map.get (live self.now) key.now }
+    {
+        match self.by_key.get(key) {
+            Some(slot) => slot.as_ref(),
+            None => None,
+        }
     }
 
     /// What stands under the key.

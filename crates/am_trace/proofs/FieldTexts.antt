@@ -47,7 +47,7 @@ byte_there b h =
     (digit_there (b / 16) high) (digit_there (b % 16) low))
     ∙ ap (λ n. Some n) whole
 
-byte_back : (x y b : ℕ) → byte_in x y ≡ Some b → (b < 256) × (x ≡ hex_digit (b / 16)) × (y ≡ hex_digit (b % 16))
+pub byte_back : (x y b : ℕ) → byte_in x y ≡ Some b → (b < 256) × (x ≡ hex_digit (b / 16)) × (y ≡ hex_digit (b % 16))
 byte_back x y b e =
     let m = mapped (λ (p : ℕ × ℕ). 16 * p.0 + p.1) (option_zip (digit_in x) (digit_in y)) b e in
     let z = zipped (digit_in x) (digit_in y) m.0 m.1 in

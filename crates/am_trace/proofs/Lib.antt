@@ -11,3 +11,5 @@ pub mod StepTexts
 pub mod WordTexts
 pub mod ReplyTexts
 pub mod EventTexts
+pub mod Fronts
+pub mod LaneDigits

@@ -43,7 +43,7 @@ stored_more v trace i n e next inside is before event h =
     subst (λ m. AreEvents v (take m trace)) (sym next)
     (with_one (IsEvent v) trace i e inside is (before split.0) (event split.1))
 
-pub all_behind : (P : Event → Type 0) (trace : List Event) (e : Event) → AllByRecursion P trace → P e →
+pub all_behind : {A : Type 0} (P : A → Type 0) (trace : List A) (e : A) → AllByRecursion P trace → P e →
     AllByRecursion P (trace ++ e ∷ [])
 all_behind P [] e h p = (p, tt)
 all_behind P (f ∷ trace) e h p = (h.0, all_behind P trace e h.1 p)

@@ -5,3 +5,4 @@ pub mod Steps
 pub mod Replies
 pub mod Lines
 pub mod Reading
+pub mod Lanes

@@ -4,6 +4,8 @@
 mod cut;
 mod event;
 mod field;
+mod front;
+mod lanes;
 mod print;
 mod read;
 mod read_reply;

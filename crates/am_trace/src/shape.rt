@@ -58,14 +58,14 @@ fn run(field: &[u8]) -> Option<u32>
     u32::try_from(number(field)?).ok()
 }
 
-fn digit(byte: u8) -> Option<u8>
+pub(crate) fn digit(byte: u8) -> Option<u8>
     ensures { result ≡ digit_in byte }
 {
     let number = DIGITS[byte as usize];
     if number < 16 { Some(number) } else { None }
 }
 
-fn byte(high: u8, low: u8) -> Option<u8>
+pub(crate) fn byte(high: u8, low: u8) -> Option<u8>
     ensures { result ≡ byte_in high low }
 {
     let high = digit(high)?;

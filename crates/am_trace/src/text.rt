@@ -7,6 +7,7 @@ ghost use Rattle.am_trace.specs.Lines.{event_lines, IsBadLine, BeginsNoEvent, Be
 
 use crate::cut::cut;
 use crate::event::read_event;
+use crate::front::front_event;
 use crate::print::Page;
 use crate::read::ReadFault;
 use crate::version::Version;
@@ -88,7 +89,26 @@ pub fn read_trace(alloc: Global, text: &[u8]) -> Result<Vec<(Step, Reply)>, Trac
 ///
 /// # Errors
 /// Bad, where the text begins with no line of an event; or NoMemory, where memory was refused.
+#[inline(never)]
 pub fn read_line(
+    alloc: Global,
+    version: Version,
+    text: &[u8],
+) -> Result<((Step, Reply), &[u8]), ReadFault>
+    ensures event { IfOk result (λ p. IsEvent version p.0 × (text.now ≡ with_lf (event_words version p.0) ++ p.1.now)) }
+    ensures bad { result ≡ Err ReadFault.Bad → BeginsNoEvent version text.now }
+{
+    if let Version::Two = version {
+        if let Some(read) = front_event(text) {
+            return Ok(read);
+        }
+    }
+    read_by_fields(alloc, version, text)
+}
+
+// The same of any line, whose fields are cut first and then read.
+#[inline(never)]
+fn read_by_fields(
     alloc: Global,
     version: Version,
     text: &[u8],

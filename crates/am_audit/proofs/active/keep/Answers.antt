@@ -1,6 +1,7 @@
-use Rattle.std.proofs.Common.{◌∷◌, ◌++◌, [], map, refl, sym, ap, ◌∙◌}
+use Rattle.std.proofs.Common.{List, ◌∷◌, ◌++◌, [], map, refl, sym, ap, ◌∙◌}
 use Rattle.std.proofs.lemmas.List.{map-append}
 use Rattle.am_audit.specs.declared.active.Active.{Active}
+use Rattle.am_audit.specs.declared.active.OwnAnswer.{OwnAnswer}
 use Rattle.am_audit.specs.Progress.{placed_answer}
 use Rattle.am_audit.proofs.Actives.{kept_here}
 use Rattle.am_audit.proofs.active.keep.Goals as goal
@@ -11,6 +12,8 @@ returns-then-active-tx c =
     c.active-item.result _ c.loop-active-test.true c.loop-active.invariant c.active-item.is
     (ap (λ (x : Active). x.number) c.active-item.is ∙ c.if-active-tx.true) refl
     (let number = ap (λ (x : Active). x.number) (sym c.active-item.is) in
-    let own = ap (map placed_answer) (c.in_ok-push.ensures.items ∙ ap (λ (x : Active). x.own.items ++ c.args.kept ∷ [])
+    let own = ap (map placed_answer) (c.push_reserved.ensures.items ∙
+    ap (λ (own : List OwnAnswer). own ++ c.args.kept ∷ []) c.reserve.ensures.items ∙
+    ap (λ (x : Active). x.own.items ++ c.args.kept ∷ [])
     (sym c.active-item.is)) ∙ map-append placed_answer c.active-item.result.own.items (c.args.kept ∷ []) in
     λ i. (number i, own i))

@@ -1,7 +1,6 @@
-use Rattle.std.proofs.Common.{◌≡◌, [], ◌∷◌, ◌++◌, map, List, refl, ap, ◌∙◌}
+use Rattle.std.proofs.Common.{◌≡◌, [], ◌∷◌, ◌++◌, map, refl, ap, ◌∙◌}
 use Rattle.std.proofs.lemmas.List.{map-append}
-use Rattle.am_audit.specs.declared.active.OwnAnswer.{OwnAnswer}
-use Rattle.am_audit.specs.Progress.{listed, placed_answer}
+use Rattle.am_audit.specs.Progress.{Listed, listed}
 use Rattle.am_audit.proofs.Takings.{takes_still, begin_nothing, may_begin_with, is_new, takes_begin}
 use Rattle.am_audit.proofs.checker.Checker.begin.Goals as goal
 
@@ -15,8 +14,7 @@ returns-in_ok-enter-clause-takes g c =
     (c.in-Begun.tx, []) ∷ [] =
     ap (map listed) c.in_ok-push.ensures.items
     ∙ map-append listed c.args.self.now.active.items _
-    ∙ ap (λ (own : List OwnAnswer). map listed c.args.self.now.active.items ++ (c.in-Begun.tx, map placed_answer own) ∷
-    []) c.new.ensures.items in
+    ∙ ap (λ (x : Listed). map listed c.args.self.now.active.items ++ x ∷ []) c.in_ok-active.ensures in
     takes_begin c.args.self.now g.here c.requires c.in-Begun.tx
     (may_begin_with g.here.state c.args.reply.now c.in-Begun.tx c.in-Begun.is (c.if-not-may_begin.ensures.0 refl))
     _ c.args.reply.now c.in-Begun.is refl refl refl active c.in_ok-enter.ensures refl

@@ -2,7 +2,7 @@ use Rattle.std.proofs.Common.{◌≡◌, Err, sym, ap, ◌∙◌, subst}
 use Rattle.am_trace.specs.Lines.{BeginsNoEvent}
 use Rattle.am_trace.specs.declared.read.ReadFault.TheVariants.{Bad}
 use Rattle.am_trace.proofs.EventTexts.{LineLaws, no_event}
-use Rattle.am_trace.proofs.text.read_line.Goals as goal
+use Rattle.am_trace.proofs.text.read_by_fields.Goals as goal
 
 pub returns-in-Err-clause-bad : goal.returns-in-Err-clause-bad
 returns-in-Err-clause-bad c = λ h.
