@@ -21,5 +21,4 @@ pub use door::{Door, listen_at_port, listen_at_socket};
 pub use house::{Doors, House};
 pub use http::NoHttp;
 pub use mode::Mode;
-pub use pacer::MergePacer;
 pub use tally::SessionCounts;

@@ -49,7 +49,8 @@ pub struct SessionCounts {
     pub first_refusal: Option<i32>,
 }
 
-// What is told where so many sessions began and ended, and so many connections were refused, the first with this number.
+// What is told where so many sessions began and ended, and so many connections were refused, the first of them with
+// this number.
 fn counts_of(begun: u64, ended: u64, refused: u64, first_refusal: i32) -> SessionCounts
     ensures { IsToldOf begun ended refused first_refusal result }
 {

@@ -9,6 +9,7 @@ ghost use Rattle.am_listen.specs.Pieces.{HasTaken};
 ghost use Rattle.am_listen.specs.Stops.{is_over};
 
 use crate::counts::{Counts, Watcher};
+use crate::server::Keeping;
 use am_doors::{House, SessionCounts};
 use am_engine::empty_figures;
 use am_latch::{Latch, LatchName, Taker};
@@ -60,17 +61,18 @@ pub(crate) struct Keeper<L: LatchName, T: PieceTaker + Drop, V: Watcher + Drop> 
 }
 
 impl<L: LatchName, T: PieceTaker + Drop, V: Watcher + Drop> Keeper<L, T, V> {
-    pub(crate) fn new(
-        taker: Taker<L>,
-        pieces: T,
-        watcher: V,
-        grace: Option<Duration>,
-    ) -> Keeper<L, T, V>
+    pub(crate) fn new(taker: Taker<L>, keeping: Keeping<T, V>) -> Keeper<L, T, V>
         requires { taker ≡ [] }
-        ensures taken { (result.taker ≡ taker) × (result.pieces ≡ pieces) × (result.events ≡ 0) }
-        ensures watcher { result.watcher ≡ watcher }
-        ensures grace { (result.grace ≡ grace) × (result.stopped_at ≡ None) }
+        ensures taken { (result.taker ≡ taker) × (result.pieces ≡ keeping.pieces) × (result.events ≡ 0) }
+        ensures watcher { result.watcher ≡ keeping.watcher }
+        ensures grace { (result.grace ≡ keeping.grace) × (result.stopped_at ≡ None) }
     {
+        let Keeping {
+            pieces,
+            watcher,
+            grace,
+            ..
+        } = keeping;
         Keeper {
             taker,
             pieces,

@@ -209,15 +209,9 @@ pub(crate) fn run<
     let mut all = Vec::new(alloc);
     all.reserve(seats.len())?;
     let (session_seats, worker_seats) = assign_seats(alloc, &latch, words, seats, word_seats)?;
-    let Keeping {
-        pieces,
-        watcher,
-        grace,
-        ..
-    } = keeping;
     let beside = Beside {
         worker_seats,
-        keeper: Keeper::new(taker, pieces, watcher, grace),
+        keeper: Keeper::new(taker, keeping),
     };
     // Where no second thread can be started the first of these comes last: it waits for the sessions.
     let (beside, session_seats) = thread::join(
