@@ -37,6 +37,8 @@ fn ask_twice<R: AllocGlobal + Net<Listener = TcpListener, Stream = TcpStream>>(
 struct Unwatched;
 
 impl Watcher for Unwatched {
+    ghost saw = { λ _ _ _ _. Unit {0} };
+
     fn look(&mut self, _counts: &Counts, _is_last: bool) {}
 }
 
