@@ -7,6 +7,7 @@ use am_locks::LockTable;
 use am_merge::{Wishes, merge_step};
 use am_parts::Parts;
 use am_record::{Key, Range, Reply};
+use am_undo::{Note, UndoLog};
 use std::alloc::Global;
 use std::process::Abort;
 
@@ -113,4 +114,50 @@ fn of_a_range_that_says_less_the_rest_stays(rt: HostRuntime) {
     begins(&rt, &parts, 310, 399, 5);
     begins(&rt, &parts, 0, 310, 4);
     begins(&rt, &parts, 399, 400, 4);
+}
+
+// Makes the keys from one number to another the next run, and notes it.
+fn load_noted(
+    rt: &impl Abort,
+    alloc: Global,
+    parts: &mut Parts<ListIndex>,
+    log: &mut UndoLog,
+    from: u64,
+    to: u64,
+) {
+    log.reserve_one().expect(rt, "memory");
+    loads_all(rt, alloc, parts, from, to, Reply::Done);
+    log.note(Note::RunMade(parts.runs()));
+}
+
+fn is_in_a_run(parts: &Parts<ListIndex>, number: u64) -> bool {
+    parts.live_in_runs(Key::of_u64(number)).is_some()
+}
+
+#[test]
+fn loads_that_are_taken_back_beside_a_merged_range(rt: HostRuntime) {
+    let alloc = rt.alloc();
+    let mut parts = three_runs(&rt, alloc);
+    merge(&rt, alloc, &mut parts, 0, 400);
+    let mut log = UndoLog::new(alloc);
+    load_noted(&rt, alloc, &mut parts, &mut log, 300, 349);
+    log.mark().expect(&rt, "memory");
+    load_noted(&rt, alloc, &mut parts, &mut log, 350, 399);
+    begins(&rt, &parts, 0, 400, 4);
+    // Back leaves the first of them, and an abort none. Both runs have their ghosts still.
+    assert!(rt; log.back(&mut parts));
+    begins(&rt, &parts, 0, 400, 4);
+    assert!(rt; is_in_a_run(&parts, 300) && !is_in_a_run(&parts, 350));
+    log.take_back(&mut parts);
+    begins(&rt, &parts, 0, 400, 4);
+    assert!(rt; !is_in_a_run(&parts, 300) && !is_in_a_run(&parts, 350));
+    // What comes again is looked for, and found.
+    loads_all(&rt, alloc, &mut parts, 300, 399, Reply::Done);
+    begins(&rt, &parts, 0, 400, 4);
+    assert!(rt; is_in_a_run(&parts, 300) && is_in_a_run(&parts, 399));
+    merge(&rt, alloc, &mut parts, 0, 400);
+    begins(&rt, &parts, 0, 400, 7);
+    for number in 0..400 {
+        assert!(rt; matches!(parts.find(0, Key::of_u64(number)), Some((_, false))));
+    }
 }
