@@ -2,6 +2,7 @@
 
 use crate::fault::Fault;
 use crate::filling::list_of_five;
+use crate::loading::loads_of_a_list;
 use crate::mapping::{plain_alone, plain_answers};
 use crate::texts::replies;
 use std::alloc::Global;
@@ -10,14 +11,16 @@ use std::alloc::Global;
 #[derive(Clone, Copy, Debug, PartialEq, Eq)]
 pub(crate) enum Call {
     ListOfFive,
+    LoadsOfAList,
     PlainAnswers,
     PlainAlone,
     Replies,
 }
 
 /// All calls.
-pub(crate) const CALLS: [Call; 4] = [
+pub(crate) const CALLS: [Call; 5] = [
     Call::ListOfFive,
+    Call::LoadsOfAList,
     Call::PlainAnswers,
     Call::PlainAlone,
     Call::Replies,
@@ -27,6 +30,7 @@ impl Call {
     pub(crate) fn name(self) -> &'static str {
         match self {
             Call::ListOfFive => "list_of_five",
+            Call::LoadsOfAList => "loads_of_a_list",
             Call::PlainAnswers => "plain_answers",
             Call::PlainAlone => "plain_alone",
             Call::Replies => "replies",
@@ -37,6 +41,7 @@ impl Call {
     pub(crate) fn make(self, alloc: Global) -> Result<(), Fault> {
         match self {
             Call::ListOfFive => list_of_five(alloc),
+            Call::LoadsOfAList => loads_of_a_list(alloc),
             Call::PlainAnswers => plain_answers(alloc),
             Call::PlainAlone => plain_alone(alloc),
             Call::Replies => replies(alloc),

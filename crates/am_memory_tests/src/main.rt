@@ -6,6 +6,7 @@
 mod call;
 mod fault;
 mod filling;
+mod loading;
 mod mapping;
 mod numbers;
 mod texts;
