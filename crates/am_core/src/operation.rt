@@ -45,8 +45,8 @@ impl<I: PartIndex + Drop> Inner<I> {
         ensures rooms { KeepRoom self.old.parts.roomy self.new.parts.roomy self.new.parts.entries }
     {
         am_list::runs_follow();
-        // Read here, the numbers of the active transactions are known to rise.
-        let _active = self.txs.active();
+        // Each call below then finds it without a search.
+        self.txs.seek(tx);
         if let Some(why) = refusal(&self.parts, &self.txs, tx, &op) {
             return Reply::Refused(why);
         }

@@ -37,6 +37,7 @@ impl<I: PartIndex + Drop> Inner<I> {
         ensures after { inner_state self.new ≡ state_after (inner_state self.old) (Commit tx) result }
         ensures parts { self.new.parts ≡ self.old.parts }
     {
+        self.txs.seek(tx);
         if !self.txs.is_active(tx) {
             return Reply::Refused(Refusal::NoSuchTx);
         }
@@ -54,6 +55,7 @@ impl<I: PartIndex + Drop> Inner<I> {
         ensures rooms { KeepRoom self.old.parts.roomy self.new.parts.roomy self.new.parts.entries }
     {
         am_effect::taking_back_is_known();
+        self.txs.seek(tx);
         if !self.txs.is_active(tx) {
             return Reply::Refused(Refusal::NoSuchTx);
         }

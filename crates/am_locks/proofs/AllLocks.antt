@@ -211,7 +211,7 @@ narrower p q ls h e = none_of p q (λ l f. false_from_ne_true (q l) (λ t. both_
 
 -- no lock is near the asked one but those of its owner
 pub nobody_near : (table : List OwnerLocks) (tx bucket : ℕ) (asked : Lock) → AreAllApart table →
-    bucket ≡ bucket_of asked → bucket ≢ 4096
+    bucket ≡ bucket_of asked → bucket ≢ 32768
     → count_by (may_clash asked.mode bucket) (all_locks table) ≤ count_by (is_near asked) (locks_owned table tx) →
     blockers table tx asked ≡ []
 nobody_near table tx bucket asked a is narrow few =
@@ -273,7 +273,7 @@ never Shared = refl
 never Exclusive = refl
 
 pub uncounted_free : (table : List OwnerLocks) (buckets : List Bucket) → AreCountsOf (all_locks table) buckets →
-    (key : OrderedKey) (d : Bucket) → (get_or buckets (key_bucket key) d).all ≡ 0 → (get_or buckets 4096 d).all ≡ 0 →
+    (key : OrderedKey) (d : Bucket) → (get_or buckets (key_bucket key) d).all ≡ 0 → (get_or buckets 32768 d).all ≡ 0 →
     any_within (all_locks table) key ≡ false
 uncounted_free table buckets counts key d one wide =
     let test = may_clash Exclusive (key_bucket key) in

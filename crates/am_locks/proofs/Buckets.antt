@@ -17,14 +17,14 @@ the_one_key r key one h =
     let parts = and_parts _ _ h in
     le_both key r.lo (ap (key_le key) one ∙ parts.1) parts.0
 
-pub key_bucket-few : (key : OrderedKey) → key_bucket key ≤ 4095
+pub key_bucket-few : (key : OrderedKey) → key_bucket key ≤ 32767
 key_bucket-few key = omega arith
 
-few : (b : Bool) (n : ℕ) → n ≤ 4095 → cond b n 4096 ≤ 4096
+few : (b : Bool) (n : ℕ) → n ≤ 32767 → cond b n 32768 ≤ 32768
 few true n h = omega (arith, h)
 few false n h = omega arith
 
-pub bucket_of-few : (l : Lock) → bucket_of l ≤ 4096
+pub bucket_of-few : (l : Lock) → bucket_of l ≤ 32768
 bucket_of-few l = few (has_one_key l) (key_bucket l.range.lo) (key_bucket-few l.range.lo)
 
 -- a lock of one key
@@ -35,24 +35,24 @@ pub record HasOneKey (l : Lock) : Type 0 where
 with_one : (l : Lock) → has_one_key l ≡ true → HasOneKey l
 with_one l e = record {
   ends = key_eq-exact _ _ e;
-  bucket = ap (λ b. cond b (key_bucket l.range.lo) 4096) e;
+  bucket = ap (λ b. cond b (key_bucket l.range.lo) 32768) e;
 }
 
-with_more : (l : Lock) → has_one_key l ≡ false → bucket_of l ≡ 4096
-with_more l e = ap (λ b. cond b (key_bucket l.range.lo) 4096) e
+with_more : (l : Lock) → has_one_key l ≡ false → bucket_of l ≡ 32768
+with_more l e = ap (λ b. cond b (key_bucket l.range.lo) 32768) e
 
 -- what is not in the last bucket has one key
-one_key : (l : Lock) (b : Bool) → has_one_key l ≡ b → bucket_of l ≢ 4096 → HasOneKey l
+one_key : (l : Lock) (b : Bool) → has_one_key l ≡ b → bucket_of l ≢ 32768 → HasOneKey l
 one_key l true e n = with_one l e
 one_key l false e n = absurd (n (with_more l e))
 
-pub HasOneKey-from_bucket : (l : Lock) (bucket : ℕ) → bucket ≡ bucket_of l → bucket ≢ 4096 → HasOneKey l
+pub HasOneKey-from_bucket : (l : Lock) (bucket : ℕ) → bucket ≡ bucket_of l → bucket ≢ 32768 → HasOneKey l
 HasOneKey-from_bucket l bucket e n = one_key l (has_one_key l) refl (λ w. n (e ∙ w))
 
 -- ---- what has a key in its range
 
 abbrev pub is_at : ℕ → Lock → Bool
-is_at bucket l = (bucket_of l == bucket) || (bucket_of l == 4096)
+is_at bucket l = (bucket_of l == bucket) || (bucket_of l == 32768)
 
 at_key : (l : Lock) (key : OrderedKey) (b : Bool) → has_one_key l ≡ b → within l.range key ≡ true →
     is_at (key_bucket key) l ≡ true
@@ -66,7 +66,7 @@ is_at-from_within l key w = at_key l key (has_one_key l) refl w
 
 -- ---- what is in the way of a lock of one key
 
-module _ (asked : Lock) (bucket : ℕ) (is : bucket ≡ bucket_of asked) (one : bucket ≢ 4096) where
+module _ (asked : Lock) (bucket : ℕ) (is : bucket ≡ bucket_of asked) (one : bucket ≢ 32768) where
   key : HasOneKey asked
   key = HasOneKey-from_bucket asked bucket is one
 

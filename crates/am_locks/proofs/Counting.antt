@@ -105,7 +105,7 @@ module _ (locks : List Lock) (lock : Lock) (buckets : List Bucket) (b : ℕ) (ne
     same_exclusive n d e inside = ap (λ (k : ℕ). (get_or (set buckets b new) k d).exclusive) e ∙
         ap (λ (x : Bucket). x.exclusive) (get_or-set_same buckets b new d inside)
 
-    pub AreCountsOf-add : AreCountsOf locks buckets → b < 4097 →
+    pub AreCountsOf-add : AreCountsOf locks buckets → b < 32769 →
         ((d : Bucket) → new.all ≡ (get_or buckets b d).all + 1) →
         ((d : Bucket) → new.exclusive ≡ (get_or buckets b d).exclusive + one (is_exclusive lock.mode)) →
         AreCountsOf (lock ∷ locks) (set buckets b new)
@@ -152,14 +152,14 @@ module _ (locks : List Lock) (lock : Lock) (buckets : List Bucket) (b : ℕ) (ne
 -- ---- what the counts of some locks are counts of too
 
 -- no locks
-pub AreCountsOf-none : (buckets : List Bucket) (none : Bucket) → buckets ≡ replicate 4097 none → none.all ≡ 0 →
+pub AreCountsOf-none : (buckets : List Bucket) (none : Bucket) → buckets ≡ replicate 32769 none → none.all ≡ 0 →
     none.exclusive ≡ 0 → AreCountsOf [] buckets
 AreCountsOf-none buckets none e all exclusive = record {
-  long = ap length e ∙ length-replicate 4097 none;
+  long = ap length e ∙ length-replicate 32769 none;
   all = λ n d less. ap (λ xs. (get_or xs n d).all) e ∙
-      ap (λ (x : Bucket). x.all) (get_or-replicate 4097 n none d less) ∙ all;
+      ap (λ (x : Bucket). x.all) (get_or-replicate 32769 n none d less) ∙ all;
   exclusive = λ n d less. ap (λ xs. (get_or xs n d).exclusive) e ∙
-      ap (λ (x : Bucket). x.exclusive) (get_or-replicate 4097 n none d less) ∙ exclusive;
+      ap (λ (x : Bucket). x.exclusive) (get_or-replicate 32769 n none d less) ∙ exclusive;
 }
 
 -- the same locks in another order, as far as counts tell
@@ -208,7 +208,7 @@ by_one false x y t = refl
 
 module _ (mode : Mode) (locks : List Lock) (buckets : List Bucket) (counts : AreCountsOf locks buckets) where
   -- a bucket tells how many of its locks don't go with the mode
-  clashing : (n : ℕ) (d : Bucket) → n < 4097 → counted_for mode (get_or buckets n d) ≡ count_by (clashes_in mode n)
+  clashing : (n : ℕ) (d : Bucket) → n < 32769 → counted_for mode (get_or buckets n d) ≡ count_by (clashes_in mode n)
       locks
   clashing n d less = by_kind mode
     where
@@ -218,14 +218,14 @@ module _ (mode : Mode) (locks : List Lock) (buckets : List Bucket) (counts : Are
       by_kind Shared = counts.exclusive n d less ∙ (λ i. count_by (λ l. sym (by_mode Shared l.mode (is_in n l)) i)
           locks)
 
-  pub may_clash-counted : (n : ℕ) (d e : Bucket) → n < 4096 →
-      counted_for mode (get_or buckets n d) + counted_for mode (get_or buckets 4096 e) ≡ count_by (may_clash mode n)
+  pub may_clash-counted : (n : ℕ) (d e : Bucket) → n < 32768 →
+      counted_for mode (get_or buckets n d) + counted_for mode (get_or buckets 32768 e) ≡ count_by (may_clash mode n)
       locks
   may_clash-counted n d e less =
-      (λ i. clashing n d (omega (arith, less)) i + clashing 4096 e (omega arith) i) ∙
-      sym (count_by-either (clashes_in mode n) (clashes_in mode 4096) (may_clash mode n) locks
-      (λ l. both_parts (is_in n l) (is_in 4096 l) (not (are_compatible mode l.mode)) (λ p q.
+      (λ i. clashing n d (omega (arith, less)) i + clashing 32768 e (omega arith) i) ∙
+      sym (count_by-either (clashes_in mode n) (clashes_in mode 32768) (may_clash mode n) locks
+      (λ l. both_parts (is_in n l) (is_in 32768 l) (not (are_compatible mode l.mode)) (λ p q.
       let same = eqb-true (bucket_of l) n p in
-      let last = eqb-true (bucket_of l) 4096 q in
+      let last = eqb-true (bucket_of l) 32768 q in
       absurd (omega (arith, less, same, last))))
-      (λ l. of_two (is_in n l) (is_in 4096 l) (not (are_compatible mode l.mode))))
+      (λ l. of_two (is_in n l) (is_in 32768 l) (not (are_compatible mode l.mode))))

@@ -7,7 +7,7 @@ use Rattle.std.proofs.lemmas.List.{get_or-set_same, get_or-set_other}
 use Rattle.std.proofs.lemmas.List.Folds.{list_any-append}
 use Rattle.am_record.specs.OrderedKey.{OrderedKey}
 use Rattle.am_record.specs.Interval.{key_le, within}
-use Rattle.am_record.specs.Locks.{conflicts, is_exclusive, are_compatible}
+use Rattle.am_record.specs.Locks.{conflicts, covers, is_covered, is_exclusive, are_compatible}
 use Rattle.am_record.specs.declared.lock.Lock.{Lock}
 use Rattle.am_locks.specs.declared.key_filter.KeyFilter.{KeyFilter}
 use Rattle.am_locks.specs.KeyCounts.{key_bucket, bucket_of}
@@ -17,7 +17,7 @@ use Rattle.am_locks.proofs.Buckets.{the_one_key, HasOneKey, HasOneKey-from_bucke
 -- ---- what is denied
 
 -- the lock is none of what stays denied once its slot is set
-module _ (key_filter : KeyFilter) (lock : Lock) (bucket i : ℕ) (is : bucket ≡ bucket_of lock) (narrow : bucket ≢ 4096)
+module _ (key_filter : KeyFilter) (lock : Lock) (bucket i : ℕ) (is : bucket ≡ bucket_of lock) (narrow : bucket ≢ 32768)
     (slot : i ≡ bucket % 256) (inside : i < length key_filter.slots) where
   abbrev pub with_slot : KeyFilter
   with_slot = record key_filter { slots = set key_filter.slots i true }
@@ -65,7 +65,7 @@ apart false false c e = refl
 
 -- a lock of one key that is denied conflicts with none
 pub denied_conflict : (key_filter : KeyFilter) (asked : Lock) (bucket : ℕ) (locks : List Lock) →
-    IsFilterOf locks key_filter → bucket ≡ bucket_of asked → bucket ≢ 4096 → denies key_filter bucket ≡ true →
+    IsFilterOf locks key_filter → bucket ≡ bucket_of asked → bucket ≢ 32768 → denies key_filter bucket ≡ true →
     list_any (conflicts asked) locks ≡ false
 denied_conflict key_filter asked bucket locks promise is narrow h =
     let one = HasOneKey-from_bucket asked bucket is narrow in
@@ -74,6 +74,18 @@ denied_conflict key_filter asked bucket locks promise is narrow h =
     (are_compatible asked.mode l.mode))
     ∙ apart (key_le l.range.lo asked.range.lo) (key_le asked.range.lo l.range.hi)
     (not (are_compatible asked.mode l.mode)) e)
+    locks (promise asked.range.lo (subst (λ n. denies key_filter n ≡ true) (is ∙ one.bucket) h))
+
+-- nor does one of them cover it
+pub denied_cover : (key_filter : KeyFilter) (asked : Lock) (bucket : ℕ) (locks : List Lock) →
+    IsFilterOf locks key_filter → bucket ≡ bucket_of asked → bucket ≢ 32768 → denies key_filter bucket ≡ true →
+    is_covered locks asked ≡ false
+denied_cover key_filter asked bucket locks promise is narrow h =
+    let one = HasOneKey-from_bucket asked bucket is narrow in
+    let goes = λ (l : Lock). is_exclusive l.mode || not (is_exclusive asked.mode) in
+    none_of (λ l. within l.range asked.range.lo) (λ l. covers l asked)
+    (λ l e. (λ i. (key_le l.range.lo asked.range.lo && key_le (sym one.ends i) l.range.hi) && goes l)
+    ∙ ap (λ b. b && goes l) e)
     locks (promise asked.range.lo (subst (λ n. denies key_filter n ≡ true) (is ∙ one.bucket) h))
 
 -- and no lock on it is exclusive

@@ -1,7 +1,10 @@
 -- The first locks of an owner, which are looked at one by one, and its later ones.
-use Rattle.std.proofs.Common.{◌≡◌, ℕ, List, [], ◌∷◌, take, drop, Bool, true, false, not, ◌&&◌, ◌||◌, refl, sym, ap, ◌∙◌}
+use Rattle.std.proofs.Common.{◌≡◌, ℕ, ◌<◌, ◌≤◌, ◌-◌, min, List, [], ◌∷◌, ◌++◌, length, take, drop, Bool, true, false}
+use Rattle.std.proofs.Common.{not}
+use Rattle.std.proofs.Common.{◌&&◌, ◌||◌, refl, sym, ap, ◌∙◌, arith}
+use Rattle.std.proofs.Math.Nat.{min_comm}
 use Rattle.std.specs.List.{list_any}
-use Rattle.std.proofs.lemmas.List.{take-append-drop}
+use Rattle.std.proofs.lemmas.List.{take-append-drop, take_min, drop_min, take_all, drop_all, length-drop, length-append}
 use Rattle.std.proofs.lemmas.List.Folds.{list_any-append}
 use Rattle.am_record.specs.OrderedKey.{OrderedKey}
 use Rattle.am_record.specs.Interval.{within}
@@ -20,6 +23,24 @@ module _ (test : Lock → Bool) (n : ℕ) (locks : List Lock) where
 
   pub none_first : list_any test (take n locks) ≡ false → list_any test locks ≡ list_any test (drop n locks)
   none_first h = in_parts ∙ ap (λ b. b || list_any test (drop n locks)) h
+
+-- ---- the first n locks, and those behind them
+
+pub first_taken : (n m : ℕ) (locks : List Lock) → m ≡ min (length locks) n → take m locks ≡ take n locks
+first_taken n m locks e = ap (λ k. take k locks) (e ∙ min_comm (length locks) n) ∙ take_min n locks
+
+pub later_taken : (n m : ℕ) (locks : List Lock) → m ≡ min (length locks) n →
+    take (length locks - m) (drop m locks) ≡ drop n locks
+later_taken n m locks e =
+    take_all (length locks - m) (drop m locks) (omega (arith, length-drop m locks)) ∙
+    ap (λ k. drop k locks) (e ∙ min_comm (length locks) n) ∙ drop_min n locks
+
+-- where there are fewer than n, one more is none of the later ones
+pub none_later : (n : ℕ) (locks : List Lock) (asked : Lock) → length locks < n →
+    drop n (locks ++ asked ∷ []) ≡ drop n locks
+none_later n locks asked few =
+    drop_all n (locks ++ asked ∷ []) (omega (arith, few, length-append locks (asked ∷ []))) ∙
+    sym (drop_all n locks (omega (arith, few)))
 
 -- ---- where no lock is exclusive
 

@@ -12,7 +12,7 @@ use Rattle.am_locks.specs.declared.key_counts.Bucket.{Bucket}
 
 -- the bucket of the locks that have this key alone
 abbrev pub key_bucket : OrderedKey → ℕ
-key_bucket key = key_mix key % 4096
+key_bucket key = key_mix key % 32768
 
 -- whether the lock has one key alone
 abbrev pub has_one_key : Lock → Bool
@@ -20,13 +20,13 @@ has_one_key l = eq_by_cmp key_cmp l.range.lo l.range.hi
 
 -- the bucket of a lock: that of its one key, and the last one where it has more keys
 abbrev pub bucket_of : Lock → ℕ
-bucket_of l = cond (has_one_key l) (key_bucket l.range.lo) 4096
+bucket_of l = cond (has_one_key l) (key_bucket l.range.lo) 32768
 
 -- each bucket has the number of its locks, and of the exclusive ones among them
 pub record AreCountsOf (locks : List Lock) (buckets : List Bucket) : Type 0 where
-  pub long : length buckets ≡ 4097
-  pub all : (n : ℕ) (d : Bucket) → n < 4097 → (slice_index_or buckets n d).all ≡ count_by (λ l. bucket_of l == n) locks
-  pub exclusive : (n : ℕ) (d : Bucket) → n < 4097 →
+  pub long : length buckets ≡ 32769
+  pub all : (n : ℕ) (d : Bucket) → n < 32769 → (slice_index_or buckets n d).all ≡ count_by (λ l. bucket_of l == n) locks
+  pub exclusive : (n : ℕ) (d : Bucket) → n < 32769 →
       (slice_index_or buckets n d).exclusive ≡ count_by (λ l. is_exclusive l.mode && (bucket_of l == n)) locks
 
 -- the locks of all owners
@@ -35,7 +35,7 @@ all_locks table = flat_map (λ h. h.locks) table
 
 -- whether the lock may have a key of this bucket, and its mode doesn't go with the asked one
 abbrev pub may_clash : Mode → ℕ → Lock → Bool
-may_clash asked bucket l = ((bucket_of l == bucket) || (bucket_of l == 4096)) && not (are_compatible asked l.mode)
+may_clash asked bucket l = ((bucket_of l == bucket) || (bucket_of l == 32768)) && not (are_compatible asked l.mode)
 
 -- the same of the asked lock's one key in place of its bucket, which is told sooner
 abbrev pub is_near : Lock → Lock → Bool

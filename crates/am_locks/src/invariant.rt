@@ -22,5 +22,5 @@ pub fn owners_never_conflict()
 pub fn uncounted_keys_are_free()
     ensures { (table : List OwnerLocks) (buckets : List Bucket) → AreCountsOf (all_locks table) buckets →
         (key : OrderedKey) (d : Bucket) → (slice_index_or buckets (key_bucket key) d).all ≡ 0 →
-        (slice_index_or buckets 4096 d).all ≡ 0 → any_within (all_locks table) key ≡ false }
+        (slice_index_or buckets 32768 d).all ≡ 0 → any_within (all_locks table) key ≡ false }
 {}

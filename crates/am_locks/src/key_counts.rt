@@ -10,7 +10,7 @@ use am_record::{Key, Lock, Mode, NoMemory};
 use std::alloc::Global;
 
 /// Locks that have one key alone are counted by the number of that key, in so many buckets.
-const BUCKETS: usize = 4096;
+const BUCKETS: usize = 32768;
 
 /// All other locks are counted in one bucket behind these.
 pub(crate) const WIDE: usize = BUCKETS;
@@ -45,8 +45,8 @@ impl KeyCounts {
 
     /// How many locks may have a key of the bucket and don't go with the mode.
     pub(crate) fn near(&self, bucket: usize, mode: Mode) -> usize
-        requires long { length self.now.buckets.items ≡ 4097 }
-        requires one_key { bucket < 4096 }
+        requires long { length self.now.buckets.items ≡ 32769 }
+        requires one_key { bucket < 32768 }
         ensures { (locks : List Lock) → AreCountsOf locks self.now.buckets.items
             → result ≡ count_by (may_clash mode bucket) locks }
     {
@@ -120,7 +120,7 @@ impl Bucket {
 /// The bucket that counts the lock.
 pub(crate) fn bucket_of(lock: &Lock) -> usize
     ensures bucket { result ≡ bucket_of lock.now }
-    ensures few { bucket_of lock.now ≤ 4096 }
+    ensures few { bucket_of lock.now ≤ 32768 }
 {
     let key = lock.range.lo();
     if key != lock.range.hi() {
@@ -132,7 +132,7 @@ pub(crate) fn bucket_of(lock: &Lock) -> usize
 /// The bucket that counts the locks which have this key alone.
 pub(crate) fn key_bucket(key: Key) -> usize
     ensures bucket { result ≡ key_bucket key }
-    ensures few { key_bucket key < 4096 }
+    ensures few { key_bucket key < 32768 }
 {
     (key.mixed() % BUCKETS as u64) as usize
 }

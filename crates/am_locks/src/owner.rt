@@ -23,10 +23,14 @@ use std::marker::Model;
 /// So many locks of a transaction take no memory.
 const INLINE_LOCKS: usize = 8;
 
+/// So many are looked at one by one, where the filter doesn't deny what is asked. That is quicker than to keep them in
+/// order, unless there are many.
+const FIRST_LOCKS: usize = 64;
+
 /// A transaction and its locks, the oldest first.
 ///
-/// The first ones are looked at one by one: that is quicker for few locks, and takes no memory. The later
-/// ones are searched. Where the filter denies the key of what is asked, neither is done.
+/// The first ones are looked at one by one, and the later ones searched. Where the filter denies the key of what is
+/// asked, neither is done.
 #[derive(Drop)]
 pub(crate) struct Owner {
     number: u64,
@@ -51,9 +55,9 @@ impl Model for Owner {
     ghost invariant = { λ o. (8 ≤ o.locks.capacity) × (length o.locks.items ≤ 256)
         × (o.has_exclusive ≡ any_exclusive o.locks.items)
         × IsFilterOf o.locks.items o.key_filter
-        × AreFrontsOf (drop 8 o.locks.items) o.later.all.ranges.items o.later.exclusive.ranges.items
-        × (length (drop 8 o.locks.items) ≤ vec_capacity o.later.all.ranges)
-        × (length (drop 8 o.locks.items) ≤ vec_capacity o.later.exclusive.ranges) };
+        × AreFrontsOf (drop 64 o.locks.items) o.later.all.ranges.items o.later.exclusive.ranges.items
+        × (length (drop 64 o.locks.items) ≤ vec_capacity o.later.all.ranges)
+        × (length (drop 64 o.locks.items) ≤ vec_capacity o.later.exclusive.ranges) };
 }
 
 impl Owner {
@@ -129,10 +133,14 @@ impl Owner {
         near_among(&self.locks, asked)
     }
 
-    /// Whether one of its locks makes the asked one needless.
-    pub(crate) fn covers(&self, asked: &Lock) -> bool
+    /// Whether one of its locks makes the asked one needless, whose bucket this is.
+    pub(crate) fn covers(&self, asked: &Lock, bucket: usize) -> bool
+        requires { bucket ≡ bucket_of asked.now }
         ensures { result ≡ is_covered self.now.locks asked.now }
     {
+        if bucket != WIDE && self.key_filter.denies(bucket) {
+            return false;
+        }
         covered_among(first_of(&self.locks), asked) || self.later.cover(asked)
     }
 
@@ -182,47 +190,50 @@ fn make_room(locks: &mut SmallVec<Lock, INLINE_LOCKS>, later: &mut Fronts) -> Re
     ensures all { later.new.all.ranges.items ≡ later.old.all.ranges.items }
     ensures exclusive { later.new.exclusive.ranges.items ≡ later.old.exclusive.ranges.items }
     ensures room { OnOk result (HasRoomFor locks.new 1) }
-    ensures later_room { OnOk result (8 ≤ length locks.old.items →
-        (length (drop 8 locks.old.items) < vec_capacity later.new.all.ranges)
-        × (length (drop 8 locks.old.items) < vec_capacity later.new.exclusive.ranges)) }
+    ensures later_room { OnOk result (64 ≤ length locks.old.items →
+        (length (drop 64 locks.old.items) < vec_capacity later.new.all.ranges)
+        × (length (drop 64 locks.old.items) < vec_capacity later.new.exclusive.ranges)) }
     ensures all_capacity { vec_capacity later.old.all.ranges ≤ vec_capacity later.new.all.ranges }
     ensures exclusive_capacity { vec_capacity later.old.exclusive.ranges ≤ vec_capacity later.new.exclusive.ranges }
     ensures memory { length locks.old.items < 8 → IsOk result }
 {
-    let Some(count) = locks.len().checked_sub(INLINE_LOCKS) else {
+    if locks.len() < INLINE_LOCKS {
+        return Ok(());
+    }
+    locks.reserve(1)?;
+    let Some(count) = locks.len().checked_sub(FIRST_LOCKS) else {
         return Ok(());
     };
-    locks.reserve(1)?;
     later.reserve(count + 1)
 }
 
 // Adds to the later ones the lock that comes behind these, if it is one.
 fn add_later(later: &mut Fronts, locks: &[Lock], asked: &Lock)
-    requires fronts { AreFrontsOf (drop 8 locks.now) later.old.all.ranges.items later.old.exclusive.ranges.items }
-    requires room { 8 ≤ length locks.now → (length (drop 8 locks.now) < vec_capacity later.old.all.ranges)
-        × (length (drop 8 locks.now) < vec_capacity later.old.exclusive.ranges) }
-    ensures fronts { AreFrontsOf (drop 8 (locks.now ++ asked.now ∷ []))
+    requires fronts { AreFrontsOf (drop 64 locks.now) later.old.all.ranges.items later.old.exclusive.ranges.items }
+    requires room { 64 ≤ length locks.now → (length (drop 64 locks.now) < vec_capacity later.old.all.ranges)
+        × (length (drop 64 locks.now) < vec_capacity later.old.exclusive.ranges) }
+    ensures fronts { AreFrontsOf (drop 64 (locks.now ++ asked.now ∷ []))
         later.new.all.ranges.items later.new.exclusive.ranges.items }
     ensures capacity { (vec_capacity later.new.all.ranges ≡ vec_capacity later.old.all.ranges)
         × (vec_capacity later.new.exclusive.ranges ≡ vec_capacity later.old.exclusive.ranges) }
 {
-    if locks.len() >= INLINE_LOCKS {
+    if locks.len() >= FIRST_LOCKS {
         later.add(asked);
     }
 }
 
 // The locks that are looked at one by one.
 fn first_of(locks: &[Lock]) -> &[Lock]
-    ensures { result.now ≡ take 8 locks.now }
+    ensures { result.now ≡ take 64 locks.now }
 {
-    &locks[..locks.len().min(INLINE_LOCKS)]
+    &locks[..locks.len().min(FIRST_LOCKS)]
 }
 
 // The locks that are searched.
 fn later_of(locks: &[Lock]) -> &[Lock]
-    ensures { result.now ≡ drop 8 locks.now }
+    ensures { result.now ≡ drop 64 locks.now }
 {
-    &locks[locks.len().min(INLINE_LOCKS)..]
+    &locks[locks.len().min(FIRST_LOCKS)..]
 }
 
 fn has_exclusive(locks: &[Lock]) -> bool

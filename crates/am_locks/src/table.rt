@@ -2,7 +2,7 @@
 
 ghost use Rattle.std.specs.Prelude.{◌≡◌, ◌≢◌, ◌<◌, ◌≤◌, ◌↔◌, ◌∷◌, [], false, true, length, take, slice_index_or};
 ghost use Rattle.std.specs.Prelude.{◌==◌, slice_set, List, MatchOption, IfOk};
-ghost use Rattle.std.specs.List.{list_any, position};
+ghost use Rattle.std.specs.List.{position};
 ghost use Rattle.std.specs.Option.{option_to_list};
 ghost use Rattle.am_record.specs.Locks.{is_covered, with_lock};
 ghost use Rattle.am_locks.specs.OwnerLocks.{OwnerLocks, blocks};
@@ -30,6 +30,8 @@ pub struct LockTable {
     owners: Vec<Owner>,
     // Their numbers, side by side, so that the place of an owner is found without a look at each.
     numbers: Vec<u64>,
+    // Where the owner stood that was sought last.
+    recent: usize,
     // Of the locks of all owners.
     counts: KeyCounts,
 }
@@ -67,6 +69,7 @@ impl LockTable {
         Ok(LockTable {
             owners: Vec::with_capacity(alloc, MAX_ACTIVE)?,
             numbers: Vec::with_capacity(alloc, MAX_ACTIVE)?,
+            recent: 0,
             counts: KeyCounts::new(alloc)?,
         })
     }
@@ -83,7 +86,16 @@ impl LockTable {
     pub fn is_owner(&self, tx: u64) -> bool
         ensures { result ≡ is_owner self.now tx }
     {
-        has_number(&self.numbers, tx)
+        self.place_of(tx).is_some()
+    }
+
+    /// Looks for an owner, so that the calls that follow find it at once. Nothing else comes of it.
+    pub fn seek(&mut self, tx: u64)
+        ensures same { self.new ≡ self.old }
+    {
+        if let Some(place) = self.place_of(tx) {
+            self.recent = place;
+        }
     }
 
     /// The place of the transaction among the owners, which stand in the order in which they entered.
@@ -91,7 +103,12 @@ impl LockTable {
         ensures place { result ≡ position (λ n. n == tx) (owner_numbers self.now) }
         ensures apart { AreAllApart self.now }
     {
-        self.numbers.iter().position(|number| *number == tx)
+        if let Some(number) = self.numbers.get(self.recent)
+            && *number == tx
+        {
+            return Some(self.recent);
+        }
+        position_in(&self.numbers, tx)
     }
 
     /// Makes the transaction an owner, the last one, which holds nothing yet. It takes no memory.
@@ -129,10 +146,10 @@ impl LockTable {
     {
         let slot = self.slot_of(tx);
         let own = &self.owners[slot];
-        if own.covers(&asked) {
+        let bucket = bucket_of(&asked);
+        if own.covers(&asked, bucket) {
             return Asked::Granted;
         }
-        let bucket = bucket_of(&asked);
         if let Some(holder) = self.least_blocker(own, &asked, bucket) {
             return Asked::Busy(holder);
         }
@@ -233,8 +250,8 @@ impl LockTable {
     }
 }
 
-fn has_number(numbers: &[u64], tx: u64) -> bool
-    ensures { result ≡ list_any (λ n. n == tx) numbers.now }
+fn position_in(numbers: &[u64], tx: u64) -> Option<usize>
+    ensures { result ≡ position (λ n. n == tx) numbers.now }
 {
-    numbers.iter().any(|number| *number == tx)
+    numbers.iter().position(|number| *number == tx)
 }

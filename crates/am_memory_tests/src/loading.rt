@@ -1,5 +1,6 @@
 //! Loads over a list.
 
+ghost use Rattle.std.specs.Prelude.{IfOk};
 ghost use Rattle.am_list.specs.Runs.{NothingAbove};
 
 use crate::fault::{Fault, expect, expect_unchanged};
@@ -93,48 +94,82 @@ fn next_run(alloc: Global, cut: &mut Cut<'_, Pairs>) -> Result<Run, Fault> {
     cut.next(alloc)?.ok_or(Fault::Differs)
 }
 
-// The runs of the records, as they are asked for one by one.
+// The next run is put behind those that came.
+fn take_run(alloc: Global, cut: &mut Cut<'_, Pairs>, runs: &mut Vec<Run>) -> Result<(), Fault> {
+    let run = next_run(alloc, cut)?;
+    push_to(runs, run)?;
+    Ok(())
+}
+
+// The records, cut into runs that are still to come.
+fn cut_of(alloc: Global, records: &Pairs) -> Result<Cut<'_, Pairs>, Fault> {
+    if let Some(cut) = settled(cut_source(alloc, records, RUN))? {
+        return Ok(cut);
+    }
+    settled(cut_source(alloc, records, RUN))?.ok_or(Fault::NoMemory)
+}
+
+// The two runs of the records, as they are asked for one by one.
 fn runs_of(alloc: Global, records: &Pairs) -> Result<Vec<Run>, Fault> {
-    let mut cut = match settled(cut_source(alloc, records, RUN))? {
-        Some(cut) => cut,
-        None => settled(cut_source(alloc, records, RUN))?.ok_or(Fault::NoMemory)?,
-    };
+    let mut cut = cut_of(alloc, records)?;
     let mut runs = Vec::new(alloc);
-    push_to(&mut runs, next_run(alloc, &mut cut)?)?;
-    push_to(&mut runs, next_run(alloc, &mut cut)?)?;
+    take_run(alloc, &mut cut, &mut runs)?;
+    take_run(alloc, &mut cut, &mut runs)?;
     expect(matches!(cut.next(alloc), Ok(None)))?;
     Ok(runs)
 }
 
 // The same, all at once.
 fn all_runs_of(alloc: Global, records: &[(Key, Value)]) -> Result<Vec<Run>, Fault> {
-    match settled(cut_runs(alloc, records, RUN))? {
-        Some(runs) => Ok(runs),
-        None => settled(cut_runs(alloc, records, RUN))?.ok_or(Fault::NoMemory),
+    if let Some(runs) = settled(cut_runs(alloc, records, RUN))? {
+        return Ok(runs);
     }
+    settled(cut_runs(alloc, records, RUN))?.ok_or(Fault::NoMemory)
 }
 
 // One run of all records.
 fn run_of_all(alloc: Global, records: &[(Key, Value)]) -> Result<Run, Fault> {
-    match settled(Run::sorted(alloc, records))? {
-        Some(run) => Ok(run),
-        None => settled(Run::sorted(alloc, records))?.ok_or(Fault::NoMemory),
+    if let Some(run) = settled(Run::sorted(alloc, records))? {
+        return Ok(run);
     }
+    settled(Run::sorted(alloc, records))?.ok_or(Fault::NoMemory)
+}
+
+// Two cuts of the same records are alike, and of two runs.
+fn are_alike(runs: &[Run], again: &[Run]) -> Result<(), Fault> {
+    expect(runs.len() == 2 && again.len() == 2)?;
+    expect(runs[0].pairs() == again[0].pairs() && runs[1].pairs() == again[1].pairs())
+}
+
+// Loads both runs into a list that has no entries.
+fn load_both(alloc: Global, runs: &[Run]) -> Result<Parts<ListIndex>, Fault>
+    ensures { IfOk result (λ parts. NothingAbove parts.runs parts.entries) }
+{
+    let [first, second] = runs else {
+        return Err(Fault::Differs);
+    };
+    let mut parts = Parts::new(alloc, ListIndex::new(alloc), HashKey::known());
+    load_run(&mut parts, first, &[])?;
+    load_run(&mut parts, second, &runs[..1])?;
+    expect(has_just(&parts, runs))?;
+    Ok(parts)
+}
+
+// A run of all records is refused, with memory or without, by the least of its keys.
+fn refuses(parts: &mut Parts<ListIndex>, all: &Run) -> Result<(), Fault>
+    requires { NothingAbove parts.old.runs parts.old.entries }
+{
+    expect(all.pairs().len() == 40)?;
+    expect(load(parts, all) == Reply::Exists(all.pairs()[0].0))
 }
 
 /// Records in no order are cut into two runs and loaded. Then a run of all of them is refused, with memory or without.
 pub(crate) fn loads_of_a_list(alloc: Global) -> Result<(), Fault> {
     let records = Pairs::new(records_in_no_order(alloc)?);
     let runs = runs_of(alloc, &records)?;
-    let again = all_runs_of(alloc, records.as_slice())?;
-    expect(runs.len() == 2 && again.len() == 2)?;
-    expect(runs[0].pairs() == again[0].pairs() && runs[1].pairs() == again[1].pairs())?;
-    let mut parts = Parts::new(alloc, ListIndex::new(alloc), HashKey::known());
-    load_run(&mut parts, &runs[0], &[])?;
-    load_run(&mut parts, &runs[1], &runs[..1])?;
-    expect(has_just(&parts, runs.as_slice()))?;
+    are_alike(&runs, &all_runs_of(alloc, records.as_slice())?)?;
     let all = run_of_all(alloc, records.as_slice())?;
-    expect(all.pairs().len() == 40)?;
-    expect(load(&mut parts, &all) == Reply::Exists(all.pairs()[0].0))?;
-    expect(has_just(&parts, runs.as_slice()))
+    let mut parts = load_both(alloc, &runs)?;
+    refuses(&mut parts, &all)?;
+    expect(has_just(&parts, &runs))
 }

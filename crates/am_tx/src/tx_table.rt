@@ -88,6 +88,14 @@ impl TxTable {
         self.locks.is_owner(tx)
     }
 
+    /// Looks for a transaction, so that the calls that follow find it at once. Nothing else comes of it.
+    pub fn seek(&mut self, tx: u64)
+        ensures same { self.new ≡ self.old }
+        ensures consistent { IsConsistent self.old }
+    {
+        self.locks.seek(tx);
+    }
+
     /// How many transactions are active.
     pub fn active(&self) -> usize
         ensures count { result ≡ length self.now.active }

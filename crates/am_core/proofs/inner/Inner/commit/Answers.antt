@@ -1,25 +1,33 @@
-use Rattle.std.proofs.Common.{true, false, ◌+◌, refl, sym, ◌∙◌, arith}
+use Rattle.std.proofs.Common.{true, false, ◌+◌, refl, sym, ap, ◌∙◌, arith}
+use Rattle.am_tx.specs.Active.{is_active_in}
+use Rattle.am_tx.specs.Txs.{Txs, txs_after_end}
 use Rattle.am_core.proofs.Reaching.{some_active}
 use Rattle.am_core.proofs.Endings.{is_in-inner, committed}
 use Rattle.am_core.proofs.inner.Inner.commit.Goals as goal
 
 pub returns-then-not-is_active-clause-says : goal.returns-then-not-is_active-clause-says
-returns-then-not-is_active-clause-says g c = is_in-inner c.args.self.now.txs c.args.tx false
-    (sym c.is_active.ensures.active ∙ c.if-not-is_active.true)
+returns-then-not-is_active-clause-says g c =
+    let sought = ap (λ (t : Txs). is_active_in t.active c.args.tx) (sym c.seek.ensures.same) in
+    is_in-inner c.args.self.now.txs c.args.tx false (sought ∙ sym c.is_active.ensures.active ∙ c.if-not-is_active.true)
 
 pub returns-clause-says : goal.returns-clause-says
-returns-clause-says g c = (
-  is_in-inner c.args.self.now.txs c.args.tx true (sym c.is_active.ensures.active ∙
-      c.if-not-is_active.false),
-  refl,
-)
+returns-clause-says g c =
+    let sought = ap (λ (t : Txs). is_active_in t.active c.args.tx) (sym c.seek.ensures.same) in (
+      is_in-inner c.args.self.now.txs c.args.tx true (sought ∙ sym c.is_active.ensures.active ∙
+          c.if-not-is_active.false),
+      refl,
+    )
 
 pub returns-clause-after : goal.returns-clause-after
-returns-clause-after g c = let old = c.args.self.now in committed old.parts old.txs old.wishes old.commits
-    c.end.new.self c.args.tx (old.commits + 1) c.end.ensures
+returns-clause-after g c =
+    let old = c.args.self.now in
+    committed old.parts old.txs old.wishes old.commits c.end.new.self c.args.tx (old.commits + 1)
+    (c.end.ensures ∙ ap (λ (t : Txs). txs_after_end t c.args.tx) c.seek.ensures.same)
 
 pub overflow_add-self : goal.overflow_add-self
 overflow_add-self g c =
     let old = c.args.self.now in
-    let some = some_active old.txs.active c.args.tx (sym c.is_active.ensures.active ∙ c.if-not-is_active.false) in
+    let sought = ap (λ (t : Txs). is_active_in t.active c.args.tx) (sym c.seek.ensures.same) in
+    let some = some_active old.txs.active c.args.tx (sought ∙ sym c.is_active.ensures.active ∙
+    c.if-not-is_active.false) in
     omega (arith, c.requires, some)

@@ -5,117 +5,144 @@ use Rattle.am_record.specs.Marks.{since_mark}
 use Rattle.am_undo.specs.Notes.{CanTakeBack, NotesFit}
 use Rattle.am_tx.specs.declared.transaction.Transaction.{Transaction}
 use Rattle.am_tx.specs.Active.{is_active_in, ops_in, log_in}
+use Rattle.am_tx.specs.Txs.{Txs, IsConsistent}
 use Rattle.am_effect.specs.Store.{with_wish}
+use Rattle.am_sound.specs.StoreState.{IsFit}
+use Rattle.am_core.specs.Keeping.{state_kept}
 use Rattle.am_core.specs.Admission.{IsLockRefusal, IsLockGranted}
 use Rattle.am_core.proofs.Operations.{cleared, says_first, says_lock, wants_lock, says_room, wants_room, idle}
 use Rattle.am_core.proofs.Operations.{says_done, after_done, active_then, few_then}
 use Rattle.am_core.proofs.Endings.{can_back, fits_abort}
 use Rattle.am_core.proofs.inner.Inner.operate.Goals as goal
 
+-- The table in which the transaction was sought is the old one, and all calls after that speak of it.
+
 pub returns-in-Some-clause-says : goal.returns-in-Some-clause-says
 returns-in-Some-clause-says g c =
     let old = c.args.self.now in
-    says_first old.parts old.txs old.wishes old.commits c.args.tx c.args.op c.in-Some.why
-    (sym c.in-Some.is ∙ c.refusal.ensures)
+    rw c.seek.ensures.same at
+    (says_first old.parts c.seek.new.self old.wishes old.commits c.args.tx c.args.op c.in-Some.why
+    (sym c.in-Some.is ∙ c.refusal.ensures))
 
 pub returns-in-Err-clause-says : goal.returns-in-Err-clause-says
 returns-in-Err-clause-says g c =
     let old = c.args.self.now in
-    says_lock old.parts old.txs old.wishes old.commits c.args.tx c.args.op c.in-Err.why
+    let txs = c.seek.new.self in
+    rw c.seek.ensures.same at
+    (says_lock old.parts txs old.wishes old.commits c.args.tx c.args.op c.in-Err.why
     (sym c.in_default.is ∙ c.refusal.ensures)
-    (subst (λ (a : Option Lock). IsLockRefusal old.txs c.args.tx a c.in-Err.why) c.asked_lock.ensures
-    c.in-Err.ensures.refused)
+    (subst (λ (a : Option Lock). IsLockRefusal txs c.args.tx a c.in-Err.why) c.asked_lock.ensures
+    c.in-Err.ensures.refused))
 
 pub returns-in-Err-clause-memory : goal.returns-in-Err-clause-memory
 returns-in-Err-clause-memory g c = λ is.
     let old = c.args.self.now in
-    wants_lock old.parts old.txs old.wishes old.commits c.args.tx c.args.op c.in-Err.why
+    let txs = c.seek.new.self in
+    rw c.seek.ensures.same at
+    (wants_lock old.parts txs old.wishes old.commits c.args.tx c.args.op c.in-Err.why
     (sym c.in_default.is ∙ c.refusal.ensures)
-    (subst (λ (a : Option Lock). IsLockRefusal old.txs c.args.tx a c.in-Err.why) c.asked_lock.ensures
-    c.in-Err.ensures.refused) is
+    (subst (λ (a : Option Lock). IsLockRefusal txs c.args.tx a c.in-Err.why) c.asked_lock.ensures
+    c.in-Err.ensures.refused) is)
 
 pub work-requires-clause-back : goal.work-requires-clause-back
 work-requires-clause-back g c =
     let old = c.args.self.now in
-    let clear = cleared (is_active_in old.txs.active c.args.tx) (ops_in old.txs.active c.args.tx) old.parts.runs
-    c.args.op (sym c.in_default.is ∙ c.refusal.ensures) in
+    let txs = c.seek.new.self in
+    let clear = cleared (is_active_in txs.active c.args.tx) (ops_in txs.active c.args.tx) old.parts.runs c.args.op
+    (sym c.in_default.is ∙ c.refusal.ensures) in
+    let fit = subst (λ (t : Txs). IsFit (state_kept old.parts t old.wishes old.commits)) (sym c.seek.ensures.same)
+    c.requires.fit in
     subst (λ (xs : List Transaction). CanTakeBack (since_mark (log_in xs c.args.tx).marks (log_in xs c.args.tx).notes)
     (find old.parts.entries)) (sym c.in-Ok.ensures.granted.locks.active)
-    (can_back old.parts old.txs old.wishes old.commits c.args.tx c.requires.fit clear.is_active)
+    (can_back old.parts txs old.wishes old.commits c.args.tx fit clear.is_active)
 
 pub work-requires-clause-noted : goal.work-requires-clause-noted
 work-requires-clause-noted g c =
     let old = c.args.self.now in
     subst (λ (xs : List Transaction). NotesFit old.parts.roomy (log_in xs c.args.tx).notes)
-    (sym c.in-Ok.ensures.granted.locks.active)
+    (sym (c.in-Ok.ensures.granted.locks.active ∙ (λ i. (c.seek.ensures.same i).active)))
     (fits_abort old.parts.roomy old.txs c.args.tx c.requires.room.noted)
 
 pub cut-requires-clause-active : goal.cut-requires-clause-active
 cut-requires-clause-active g c =
     let old = c.args.self.now in
-    let clear = cleared (is_active_in old.txs.active c.args.tx) (ops_in old.txs.active c.args.tx) old.parts.runs
-    c.args.op (sym c.in_default.is ∙ c.refusal.ensures) in
+    let txs = c.seek.new.self in
+    let clear = cleared (is_active_in txs.active c.args.tx) (ops_in txs.active c.args.tx) old.parts.runs c.args.op
+    (sym c.in_default.is ∙ c.refusal.ensures) in
     let stays = c.in_default-work.ensures.err in
-    active_then old.txs c.ask.new.txs c.work.new.txs c.args.tx stays.log c.in-Ok.ensures.granted.locks.active
-    stays.written clear.is_active
+    active_then txs c.ask.new.txs c.work.new.txs c.args.tx stays.log c.in-Ok.ensures.granted.locks.active stays.written
+    clear.is_active
 
 pub returns-in_default-work-clause-says : goal.returns-in_default-work-clause-says
 returns-in_default-work-clause-says g c =
     let old = c.args.self.now in
-    let grant = subst (λ (a : Option Lock). IsLockGranted old.txs c.args.tx a c.ask.new.txs) c.asked_lock.ensures
+    let txs = c.seek.new.self in
+    let grant = subst (λ (a : Option Lock). IsLockGranted txs c.args.tx a c.ask.new.txs) c.asked_lock.ensures
     c.in-Ok.ensures.granted in
-    says_room old.parts old.txs old.wishes old.commits c.args.tx c.args.op c.work.new.parts
+    rw c.seek.ensures.same at
+    (says_room old.parts txs old.wishes old.commits c.args.tx c.args.op c.work.new.parts
     (log_in c.ask.new.txs.active c.args.tx) (sym c.in_default.is ∙ c.refusal.ensures) grant.due
-    c.in_default-work.ensures.memory
+    c.in_default-work.ensures.memory)
 
 pub returns-in_default-work-clause-after : goal.returns-in_default-work-clause-after
 returns-in_default-work-clause-after g c =
     let old = c.args.self.now in
-    let grant = subst (λ (a : Option Lock). IsLockGranted old.txs c.args.tx a c.ask.new.txs) c.asked_lock.ensures
+    let txs = c.seek.new.self in
+    let grant = subst (λ (a : Option Lock). IsLockGranted txs c.args.tx a c.ask.new.txs) c.asked_lock.ensures
     c.in-Ok.ensures.granted in
-    idle old.parts old.txs old.wishes old.commits c.args.tx c.args.op c.ask.new.txs c.work.new.txs c.cut.new.self
-    c.work.new.parts c.in-Ok.held c.active-active.ensures.consistent grant.locks c.in_default-work.ensures.err
-    c.in-Ok.ensures.held c.cut.ensures
+    rw c.seek.ensures.same at
+    (idle old.parts txs old.wishes old.commits c.args.tx c.args.op c.ask.new.txs c.work.new.txs c.cut.new.self
+    c.work.new.parts c.in-Ok.held (subst IsConsistent (sym c.seek.ensures.same) c.seek.ensures.consistent) grant.locks
+    c.in_default-work.ensures.err c.in-Ok.ensures.held c.cut.ensures)
 
 pub returns-in_default-work-clause-memory : goal.returns-in_default-work-clause-memory
 returns-in_default-work-clause-memory g c = λ is.
     let old = c.args.self.now in
-    wants_room old.parts old.txs old.wishes old.commits c.args.tx c.args.op (log_in c.ask.new.txs.active c.args.tx)
+    rw c.seek.ensures.same at
+    (wants_room old.parts c.seek.new.self old.wishes old.commits c.args.tx c.args.op
+    (log_in c.ask.new.txs.active c.args.tx)
     (ap (λ (xs : List Transaction). log_in xs c.args.tx) c.in-Ok.ensures.granted.locks.active)
-    c.in_default-work.ensures.memory
+    c.in_default-work.ensures.memory)
 
 pub count_op-requires-clause-active : goal.count_op-requires-clause-active
 count_op-requires-clause-active g c =
     let old = c.args.self.now in
-    let clear = cleared (is_active_in old.txs.active c.args.tx) (ops_in old.txs.active c.args.tx) old.parts.runs
-    c.args.op (sym c.in_default.is ∙ c.refusal.ensures) in
+    let txs = c.seek.new.self in
+    let clear = cleared (is_active_in txs.active c.args.tx) (ops_in txs.active c.args.tx) old.parts.runs c.args.op
+    (sym c.in_default.is ∙ c.refusal.ensures) in
     let works = c.in-Ok-work.ensures.done in
-    active_then old.txs c.ask.new.txs c.work.new.txs c.args.tx works.log c.in-Ok.ensures.granted.locks.active
-    works.written clear.is_active
+    active_then txs c.ask.new.txs c.work.new.txs c.args.tx works.log c.in-Ok.ensures.granted.locks.active works.written
+    clear.is_active
 
 pub count_op-requires-clause-few : goal.count_op-requires-clause-few
 count_op-requires-clause-few g c =
     let old = c.args.self.now in
-    let clear = cleared (is_active_in old.txs.active c.args.tx) (ops_in old.txs.active c.args.tx) old.parts.runs
-    c.args.op (sym c.in_default.is ∙ c.refusal.ensures) in
+    let txs = c.seek.new.self in
+    let clear = cleared (is_active_in txs.active c.args.tx) (ops_in txs.active c.args.tx) old.parts.runs c.args.op
+    (sym c.in_default.is ∙ c.refusal.ensures) in
     let works = c.in-Ok-work.ensures.done in
-    few_then old.txs c.ask.new.txs c.work.new.txs c.args.tx works.log c.in-Ok.ensures.granted.locks.active works.written
+    few_then txs c.ask.new.txs c.work.new.txs c.args.tx works.log c.in-Ok.ensures.granted.locks.active works.written
     clear.few
 
 pub returns-clause-says : goal.returns-clause-says
 returns-clause-says g c =
     let old = c.args.self.now in
-    let grant = subst (λ (a : Option Lock). IsLockGranted old.txs c.args.tx a c.ask.new.txs) c.asked_lock.ensures
+    let txs = c.seek.new.self in
+    let grant = subst (λ (a : Option Lock). IsLockGranted txs c.args.tx a c.ask.new.txs) c.asked_lock.ensures
     c.in-Ok.ensures.granted in
-    says_done old.parts old.txs old.wishes old.commits c.args.tx c.args.op c.ask.new.txs c.work.new.txs c.work.new.parts
-    c.in-Ok-work.reply (sym c.in_default.is ∙ c.refusal.ensures) grant c.in-Ok-work.ensures.done
+    rw c.seek.ensures.same at
+    (says_done old.parts txs old.wishes old.commits c.args.tx c.args.op c.ask.new.txs c.work.new.txs c.work.new.parts
+    c.in-Ok-work.reply (sym c.in_default.is ∙ c.refusal.ensures) grant c.in-Ok-work.ensures.done)
 
 pub returns-clause-after : goal.returns-clause-after
 returns-clause-after g c =
     let old = c.args.self.now in
-    let grant = subst (λ (a : Option Lock). IsLockGranted old.txs c.args.tx a c.ask.new.txs) c.asked_lock.ensures
+    let txs = c.seek.new.self in
+    let grant = subst (λ (a : Option Lock). IsLockGranted txs c.args.tx a c.ask.new.txs) c.asked_lock.ensures
     c.in-Ok.ensures.granted in
     let wish = c.wish_for.ensures ∙ ap (with_wish old.wishes) c.wish_of-wish.ensures in
-    after_done old.parts old.txs old.wishes old.commits c.args.tx c.args.op c.ask.new.txs c.work.new.txs
-    c.count_op.new.self c.work.new.parts c.wish_for.new.wishes c.in-Ok-work.reply c.active-active.ensures.consistent
-    grant.locks c.in-Ok-work.ensures.done c.count_op.ensures wish
+    rw c.seek.ensures.same at
+    (after_done old.parts txs old.wishes old.commits c.args.tx c.args.op c.ask.new.txs c.work.new.txs
+    c.count_op.new.self c.work.new.parts c.wish_for.new.wishes c.in-Ok-work.reply
+    (subst IsConsistent (sym c.seek.ensures.same) c.seek.ensures.consistent) grant.locks c.in-Ok-work.ensures.done
+    c.count_op.ensures wish)

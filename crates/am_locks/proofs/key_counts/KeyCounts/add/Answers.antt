@@ -8,7 +8,7 @@ use Rattle.am_locks.proofs.key_counts.KeyCounts.add.Goals as goal
 
 pub returns : goal.returns
 returns c = λ locks counts.
-    let inside : c.args.bucket < 4097 = omega (arith, c.requires.bucket, bucket_of-few c.args.lock.now) in
+    let inside : c.args.bucket < 32769 = omega (arith, c.requires.bucket, bucket_of-few c.args.lock.now) in
     let read : (d : Bucket) → c.index_mut.result.now ≡ get_or c.args.self.now.buckets.items c.args.bucket d =
     get_or_read c.args.self.now.buckets.items c.args.bucket c.index_mut.result.now (omega (arith, inside, counts.long))
     c.index_mut.ensures.value in

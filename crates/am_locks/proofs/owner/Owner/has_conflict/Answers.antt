@@ -21,17 +21,17 @@ returns-then-denies c =
 pub returns-then-conflict_among : goal.returns-then-conflict_among
 returns-then-conflict_among c =
     let test = conflicts c.args.asked.now in
-    let first : list_any test (take 8 c.self.inside.locks.items) ≡ true = ap (λ ls. list_any test (take 8 ls))
+    let first : list_any test (take 64 c.self.inside.locks.items) ≡ true = ap (λ ls. list_any test (take 64 ls))
     (sym c.deref.ensures) ∙ ap (list_any test) (sym c.first_of.ensures) ∙ sym c.conflict_among.ensures ∙
     c.if-conflict_among.true in
-    c.if-conflict_among.true ∙ sym (found_first test 8 c.self.inside.locks.items first) ∙
+    c.if-conflict_among.true ∙ sym (found_first test 64 c.self.inside.locks.items first) ∙
     ap (has_conflict c.args.asked.now) c.self.view_is
 
 pub returns-else-conflict_among : goal.returns-else-conflict_among
 returns-else-conflict_among c =
     let test = conflicts c.args.asked.now in
-    let first : list_any test (take 8 c.self.inside.locks.items) ≡ false = ap (λ ls. list_any test (take 8 ls))
+    let first : list_any test (take 64 c.self.inside.locks.items) ≡ false = ap (λ ls. list_any test (take 64 ls))
     (sym c.deref.ensures) ∙ ap (list_any test) (sym c.first_of.ensures) ∙ sym c.conflict_among.ensures ∙
     c.if-conflict_among.false in
-    c.conflict.ensures (drop 8 c.self.inside.locks.items) c.self.invariant.4 ∙
-    sym (none_first test 8 c.self.inside.locks.items first) ∙ ap (has_conflict c.args.asked.now) c.self.view_is
+    c.conflict.ensures (drop 64 c.self.inside.locks.items) c.self.invariant.4 ∙
+    sym (none_first test 64 c.self.inside.locks.items first) ∙ ap (has_conflict c.args.asked.now) c.self.view_is

@@ -26,17 +26,17 @@ returns-then-not-self c =
 pub returns-then-is_exclusive_among : goal.returns-then-is_exclusive_among
 returns-then-is_exclusive_among c =
     let test = λ (l : Lock). is_exclusive l.mode && within l.range c.args.key in
-    let first : list_any test (take 8 c.self.inside.locks.items) ≡ true =
-    ap (λ ls. list_any test (take 8 ls)) (sym c.deref.ensures) ∙ ap (list_any test) (sym c.first_of.ensures) ∙
+    let first : list_any test (take 64 c.self.inside.locks.items) ≡ true =
+    ap (λ ls. list_any test (take 64 ls)) (sym c.deref.ensures) ∙ ap (list_any test) (sym c.first_of.ensures) ∙
     sym c.is_exclusive_among.ensures ∙ c.if-is_exclusive_among.true in
-    c.if-is_exclusive_among.true ∙ sym (found_first test 8 c.self.inside.locks.items first) ∙
+    c.if-is_exclusive_among.true ∙ sym (found_first test 64 c.self.inside.locks.items first) ∙
     ap (is_exclusive_at c.args.key) c.self.view_is
 
 pub returns-else-is_exclusive_among : goal.returns-else-is_exclusive_among
 returns-else-is_exclusive_among c =
     let test = λ (l : Lock). is_exclusive l.mode && within l.range c.args.key in
-    let first : list_any test (take 8 c.self.inside.locks.items) ≡ false =
-    ap (λ ls. list_any test (take 8 ls)) (sym c.deref.ensures) ∙ ap (list_any test) (sym c.first_of.ensures) ∙
+    let first : list_any test (take 64 c.self.inside.locks.items) ≡ false =
+    ap (λ ls. list_any test (take 64 ls)) (sym c.deref.ensures) ∙ ap (list_any test) (sym c.first_of.ensures) ∙
     sym c.is_exclusive_among.ensures ∙ c.if-is_exclusive_among.false in
-    c.is_exclusive_at.ensures (drop 8 c.self.inside.locks.items) c.self.invariant.4 ∙
-    sym (none_first test 8 c.self.inside.locks.items first) ∙ ap (is_exclusive_at c.args.key) c.self.view_is
+    c.is_exclusive_at.ensures (drop 64 c.self.inside.locks.items) c.self.invariant.4 ∙
+    sym (none_first test 64 c.self.inside.locks.items first) ∙ ap (is_exclusive_at c.args.key) c.self.view_is
