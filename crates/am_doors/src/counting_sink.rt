@@ -6,6 +6,7 @@ ghost use Rattle.am_stream.specs.Giving.{Gave};
 
 use crate::pacer::{MergePacer, TurnGiver};
 use am_stream::{Failed, Sink};
+use std::thread;
 
 /// A sink of a session, each of whose answers lets a worker have a turn once it was sent on.
 #[derive(Drop)]
@@ -84,6 +85,9 @@ impl<'a, K: Sink + Drop> Sink for CountingSink<'a, K> {
         self.sink.flush()?;
         self.turns.give(self.unsent);
         self.unsent = 0;
+        // Others may wait for a processor. A session and its client that always find one another awake would keep theirs,
+        // and answers to the others would be late by milliseconds.
+        thread::yield_now();
         Ok(())
     }
 }

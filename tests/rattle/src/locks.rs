@@ -243,6 +243,8 @@ fn do_both(
     plain: &mut PlainTable,
 ) {
     let tx = [1, 1, 2, 3][(dice.roll() % 4) as usize];
+    // Any transaction may have been sought last, or one that is no owner.
+    table.seek(dice.roll() % 5);
     match dice.roll() % 1000 {
         0 => begin_anew(rt, alloc, tx, table, plain),
         1..20 => cut_both(rt, alloc, tx, table, plain),
