@@ -85,8 +85,8 @@ impl<'a, K: Sink + Drop> Sink for CountingSink<'a, K> {
         self.sink.flush()?;
         self.turns.give(self.unsent);
         self.unsent = 0;
-        // Others may wait for a processor. A session and its client that always find one another awake would keep theirs,
-        // and answers to the others would be late by milliseconds.
+        // Others may wait for a processor. A session and its client that always find one another awake would keep
+        // theirs, and answers to the others would be late by milliseconds.
         thread::yield_now();
         Ok(())
     }
