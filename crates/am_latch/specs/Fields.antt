@@ -8,7 +8,7 @@ use Rattle.am_latch.specs.declared.seat.Seat.TheInside.{Inside as SeatFields}
 use Rattle.am_latch.specs.declared.state.LatchState.TheInside.{Inside as LatchStateFields}
 use Rattle.am_latch.specs.declared.taker.Taker.TheInside.{Inside as TakerFields}
 use Rattle.am_latch.specs.Receipts.{moved_in, last_commit_of, positions_of, AreBehind, most_let_go}
-use Rattle.am_latch.specs.Ties.{open_of, HasRoom, IsTied}
+use Rattle.am_latch.specs.Ties.{open_of, HasRoom, AreNumbered, IsTied}
 use Rattle.am_latch.specs.Tables.{LatchTables}
 use Rattle.am_latch.specs.declared.taken.TakenView.TheVariants.{Handed, Whole}
 use Rattle.am_latch.specs.Taken.{IsTakerView}
@@ -16,14 +16,15 @@ use Rattle.am_engine.specs.Traces.{AreMadeBelow, log_of}
 use Rattle.am_latch.specs.declared.views.View.TheVariants.{Minting, Log}
 use Rattle.am_latch.specs.Views.{seat_in, IsSeatView}
 
--- One token under the latch knows the trace, another what was handed out of it. One of the seats made each call, and
--- what is open in these is active
+-- One token under the latch knows the trace, another what was handed out of it. One of the seats made each call, which
+-- has its number among the seat's, and what is open in these is active
 pub record IsLatchState {L : Type 0} (tables : LatchTables) (seats : ℕ) (s : LatchStateFields L) : Type 0 where
   pub table_of : s.trace_token.table_id ≡ tables.calls
   pub knows : s.trace_token.views ≡ Log (log_of s.engine) ∷ []
   pub handed_of : s.handed_token.table_id ≡ tables.handed
   pub handed : s.handed_token.views ≡ Handed s.engine.handed.trace ∷ []
   pub made : AreMadeBelow seats s.engine.calls
+  pub numbered : AreNumbered [] s.engine.calls
   pub tied : IsTied (log_of s.engine)
 
 -- The token knows all receipts. The positions of those that weren't let go are held, with room for that of the end of

@@ -1,11 +1,13 @@
 -- The transaction of each seat, and how the seats' transactions are those that are active.
-use Rattle.std.specs.Prelude.{◌≡◌, ◌<◌, ◌≤◌, ℕ, List, [], ◌∷◌, true, Option, Some, None, slice_get}
+use Rattle.std.specs.Prelude.{◌≡◌, ◌<◌, ◌≤◌, ℕ, ◌+◌, ◌==◌, List, [], ◌∷◌, ◌++◌, true, Option, Some, None, slice_get}
+use Rattle.std.specs.Prelude.{if◌then◌else◌}
 use Rattle.am_record.specs.declared.step.Step.{Step}
 use Rattle.am_record.specs.declared.step.Step.TheVariants.{Begin, Do, Commit, Abort, Merge, Clean}
 use Rattle.am_record.specs.declared.step.Reply.{Reply}
 use Rattle.am_engine.specs.declared.change.Change.TheVariants.{Ends}
 use Rattle.am_engine.specs.Changes.{change, end_of, open_after, has, active_in_trace}
 use Rattle.am_latch.specs.declared.receipt.Receipt.{Receipt}
+use Rattle.am_engine.specs.declared.call_id.CallId.{CallId}
 use Rattle.am_engine.specs.Traces.{CallLog, EngineState, log_of, AreMadeBelow}
 use Rattle.am_latch.specs.Receipts.{SeatState, receipts_of}
 
@@ -33,9 +35,20 @@ open_in e k = open_of (receipts_of k e)
 abbrev pub IsTied : CallLog → Type 0
 IsTied e = AreTied (open_in e) (active_in_trace e.trace)
 
--- each call was made by one of the n seats of a latch, and what is open in them is what is active
+-- how many of these calls are that seat's
+abbrev pub calls_of : ℕ → List CallId → ℕ
+calls_of k [] = 0
+calls_of k (m ∷ ms) = (if m.seat == k then 1 else 0) + calls_of k ms
+
+-- behind the calls before, each of these has as its number how many of its seat are before it: a seat's are 0, 1, 2, ..
+abbrev pub AreNumbered : List CallId → List CallId → Type 0
+AreNumbered before [] = Unit {0}
+AreNumbered before (m ∷ ms) = (m.call ≡ calls_of m.seat before) × AreNumbered (before ++ m ∷ []) ms
+
+-- each call was made by one of the n seats of a latch, with the number that its receipt has, and what is open in them
+-- is what is active
 abbrev pub IsEngineOf : ℕ → EngineState → Type 0
-IsEngineOf n e = AreMadeBelow n e.calls × IsTied (log_of e)
+IsEngineOf n e = AreMadeBelow n e.calls × AreNumbered [] e.calls × IsTied (log_of e)
 
 -- the seat has the receipts of its calls that the engine stores
 abbrev pub HasReceiptsIn : EngineState → SeatState → Type 0

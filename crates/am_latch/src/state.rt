@@ -123,6 +123,7 @@ impl<L: LatchName> LatchState<L> {
             (token.old.table_id ≡ L.table.calls) }
         requires token { IsSeatView token.old.me.0 × (call_id.seat ≡ (seat_in token.old.me.0).seat) ×
             (call_id.seat < L.seats) }
+        requires number { call_id.call ≡ length (seat_in token.old.me.0).receipts }
         requires may { IsAllowed (open_of (seat_in token.old.me.0).receipts) step }
         requires copy { IsCopyOf step copy }
         ensures stepped { StoresCall self.old call_id step result.reply self.new }

@@ -1,7 +1,7 @@
 //! A session over any backend, line by line.
 
 ghost use Rattle.std.specs.Prelude.{◌≡◌, ℕ, ◌+◌, ◌^◌, ◌<◌, ◌≤◌, [], take, false, Option, Some, None, OnOk, OnErr, IfOk};
-ghost use Rattle.std.specs.Prelude.{IfSome, IfNone};
+ghost use Rattle.std.specs.Prelude.{IfSome, IfNone, true};
 ghost use Rattle.am_stream.specs.Giving.{Gave};
 ghost use Rattle.am_stream.specs.Lines.{has_lf, TookLine, TookPart};
 ghost use Rattle.am_stream.specs.Seen.{seen};
@@ -75,6 +75,7 @@ fn send<K: Sink>(sink: &mut K, input: &Input, response: &Response) -> Result<(),
     requires countable { K.failures sink.old < 2 ^ 63 }
     ensures given { OnOk result (Gave K.holds sink.old (response_text response.now) sink.new) }
     ensures sent { OnOk result (has_lf input.now ≡ false → K.pending sink.new ≡ false) }
+    ensures together { OnOk result (has_lf input.now ≡ true → K.pending sink.new ≡ true) }
     ensures ok { OnOk result (K.failures sink.new ≡ K.failures sink.old) }
     ensures failed { OnErr result (K.failures sink.new ≡ K.failures sink.old + 1) }
     ensures torn { OnErr result ((n : ℕ) × Gave K.holds sink.old (take n (response_text response.now)) sink.new) }
@@ -102,6 +103,7 @@ pub(crate) fn answer<W: Wait, K: Sink, B: Backend>(
     ensures answered { OnOk result (GivesAnswer K.holds B.means sink.old
         (backend.old, session.old.staged) parsed sink.new (backend.new, session.new.staged)) }
     ensures sent { OnOk result (has_lf input.now ≡ false → K.pending sink.new ≡ false) }
+    ensures together { OnOk result (has_lf input.now ≡ true → K.pending sink.new ≡ true) }
     ensures ok { OnOk result (K.failures sink.new ≡ K.failures sink.old) }
     ensures failed { OnErr result (K.failures sink.new ≡ K.failures sink.old + 1) }
     ensures torn { OnErr result (GivesTorn K.holds B.means sink.old

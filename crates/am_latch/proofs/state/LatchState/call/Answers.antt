@@ -3,12 +3,12 @@ use Rattle.std.proofs.Common.{rules, ap, sym, subst, ◌≡◌, ◌∙◌, [], �
 use Rattle.am_latch.specs.declared.receipt.Receipt.{Receipt}
 use Rattle.am_engine.specs.Traces.{CallLog, log_of, log_with, AreMadeBelow}
 use Rattle.am_latch.specs.Receipts.{receipts_of}
-use Rattle.am_latch.specs.Ties.{open_of, open_in, IsTied}
+use Rattle.am_latch.specs.Ties.{open_of, open_in, AreNumbered, IsTied}
 use Rattle.am_latch.specs.declared.taken.TakenView.TheVariants.{Handed}
 use Rattle.am_latch.specs.Views.{seat_in, log_in}
 use Rattle.am_latch.specs.declared.views.View.{View}
 use Rattle.am_latch.specs.declared.views.View.TheVariants.{Log}
-use Rattle.am_latch.proofs.Holding.{grown, below-snoc, only}
+use Rattle.am_latch.proofs.Holding.{grown, below-snoc, numbered-snoc, receipts_long, only}
 use Rattle.am_latch.proofs.Tying.{tied_more, ends_active}
 use Rattle.am_latch.proofs.state.LatchState.call.Goals as goal
 
@@ -66,6 +66,9 @@ invariant_of-self-2 g c =
           ap (λ (d : CallLog). Handed d.trace ∷ []) (sym c.step_with-reply.ensures.handed);
       made = subst (λ (d : CallLog). AreMadeBelow g.L.LatchName.seats d.calls) (sym after)
           (below-snoc _ _ _ i.made c.requires.token.2);
+      numbered = subst (λ (d : CallLog). AreNumbered [] d.calls) (sym after)
+          (numbered-snoc [] e.calls c.args.call_id i.numbered (c.requires.number ∙ ap length known ∙
+          receipts_long c.args.call_id.seat 0 0 e.trace e.calls even));
       tied = subst IsTied (sym after) (tied_more e c.args.call_id c.args.step c.step_with-reply.result even i.tied may
           c.step_with-reply.ensures.answers);
     }
