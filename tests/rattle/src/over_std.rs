@@ -88,6 +88,18 @@ fn a_reader_that_fails_once_is_not_asked_again(rt: HostRuntime) {
     assert_eq!(rt; source.take(&mut buffer), Ok(0));
 }
 
+#[test]
+fn a_reader_is_not_asked_behind_its_end(rt: HostRuntime) {
+    let sink = StopSink::new(rt.alloc(), 0);
+    let mut source = Reading::new(Script {
+        calls: [Call::GivesOne, Call::GivesNothing].as_slice(),
+        left: b"ab\n",
+        written: Vec::new(rt.alloc()),
+    });
+    let seen = lines_of(&rt, rt.alloc(), &mut source, &sink);
+    assert!(rt; seen.as_slice() == b"a$".as_slice());
+}
+
 // The reader has the lines that were seen of pieces.
 fn has_lines<W: Wait + Abort, S: Read + Drop>(rt: &W, alloc: Global, reader: S) {
     let sink = StopSink::new(alloc, 0);
