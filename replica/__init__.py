@@ -9,6 +9,6 @@
     replica       the log's blocks, into the store
     sessions      the lines of clients
     snapshots     the committed records beside the log, which is let go up to there
-    trace         the committed blocks as a stored run
+    trace         the committed blocks as a trace
     program       the words of the command line, and statuses
 """

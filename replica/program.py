@@ -87,7 +87,7 @@ def parser() -> argparse.ArgumentParser:
                        help="seconds that etcd is awaited (default: 10)")
     words.add_argument("--snapshot", type=number_of(int, 0, 999_999_999), default=100_000, metavar="BLOCKS",
                        help="that commit between snapshots (default: 100000); 0: this replica writes none")
-    words.add_argument("--trace", metavar="FILE", help="the committed blocks as a stored run, of a log from its beginning on")
+    words.add_argument("--trace", metavar="FILE", help="the committed blocks as a trace, of a log from its beginning on")
     words.add_argument("--cacert", metavar="FILE", help="the certificates that etcd's are signed by, for TLS")
     words.add_argument("--cert", metavar="FILE", help="this client's certificate, for TLS")
     words.add_argument("--key", metavar="FILE", help="the key of that")

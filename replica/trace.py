@@ -1,4 +1,4 @@
-"""The committed blocks as the text of a stored run, for an auditor."""
+"""The committed blocks as the text of a trace, for an auditor."""
 from __future__ import annotations
 
 from typing import List, TextIO
@@ -16,7 +16,7 @@ def pairs(fields: List[bytes]) -> str:
 
 
 def step_of(number: int, word: bytes, fields: List[bytes]) -> str:
-    """A step, as a stored run spells it."""
+    """A step, as a trace spells it."""
     if word == b"LOAD":
         return f"LOAD {number}" + pairs(fields)
     if word == b"SCAN":
@@ -27,7 +27,7 @@ def step_of(number: int, word: bytes, fields: List[bytes]) -> str:
 
 
 def reply_of(answer: bytes) -> str:
-    """A reply, as a stored run spells it."""
+    """A reply, as a trace spells it."""
     word, *fields = answer.split(b" ")
     if word == b"ROWS":
         return f"ROWS {fields[0].decode()}" + pairs(fields[1:])

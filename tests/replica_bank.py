@@ -180,7 +180,7 @@ def faults_of_records(bank: Bank, records: List[str]) -> List[str]:
 
 
 def faults_of_trace(bank: Bank, path: str, commits: int) -> List[str]:
-    """What isn't right of the stored run: each told commit stands once, at the number that was told, and all is legal."""
+    """What isn't right of the trace: each told commit stands once, at the number that was told, and all is legal."""
     with open(path, encoding="ascii") as file:
         text = file.read()
     places: Dict[str, int] = {}

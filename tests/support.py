@@ -41,7 +41,7 @@ def alone(lines: Sequence[str], *words: str) -> List[str]:
 
 
 def audit(trace: str) -> str:
-    """What the auditor says of a stored run, which has to go with its status."""
+    """What the auditor says of a trace, which has to go with its status."""
     run = subprocess.run([AMAUDIT, trace], capture_output=True, text=True, timeout=LIMIT, check=False)
     said = run.stdout.strip()
     wanted(f"the status of {said}", run.returncode == 0, said.startswith("LEGAL "))

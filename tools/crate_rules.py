@@ -14,8 +14,8 @@ from tree import TOP, crates, given_out, sources, text_of
 # called, and needs no place here.
 SURFACE = {
     "am_latch": {"Closed", "LatchFault", "Missing"},  # what `close` and `Latch::open` give
-    "am_listen": {"serve_session"},  # a session over any source and sink, whose contract is a promise
-    "am_words": {"WordsFault"},  # why `Words` are refused
+    "am_server": {"serve_session"},  # a session over any source and sink, whose contract is a promise
+    "am_counters": {"CountersFault"},  # why `Counters` are refused
 }
 
 

@@ -12,7 +12,7 @@ VERSIONS = {
     "crates/am_command/src/program_words.rt": r'VERSION: &str = "([^"]*)"',
     "c/tiuvrokk.h": r'#define TVK_VERSION "([^"]*)"',
     "python/tiuvrokk/__init__.py": r'(?m)^__version__ = "([^"]*)"',
-    "crates/am_server/stdout": r"amserve ([0-9.]+)",
+    "crates/am_serve_listen/stdout": r"amserve ([0-9.]+)",
     "CHANGELOG.md": r"(?m)^## ([0-9.]+)",
 }
 

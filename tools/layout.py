@@ -11,17 +11,17 @@ from typing import Dict, Iterable, List, NamedTuple, Optional
 
 TOP = os.path.dirname(os.path.dirname(os.path.abspath(__file__)))
 # The proved programs by their crates, and where each is installed.
-PROVED = {"am_alone": "lib/tiuvrokk/am_alone", "am_server": "lib/tiuvrokk/am_server", "am_auditor": "bin/amaudit"}
+PROVED = {"am_serve_alone": "lib/tiuvrokk/am_serve_alone", "am_serve_listen": "lib/tiuvrokk/am_serve_listen", "am_auditor": "bin/amaudit"}
 PYTHON_PROGRAMS = ["amload", "amdump", "amcli", "amdraw", "amreplica"]
 COMMANDS = ["amserve", "amaudit", *PYTHON_PROGRAMS]
 AMSERVE = """#!/bin/bash
-# Runs the proved program that the first word asks for: am_server for `listen`, and am_alone for all else. A server that stays is
+# Runs the proved program that the first word asks for: am_serve_listen for `listen`, and am_serve_alone for all else. A server that stays is
 # held by what passes signals on to it.
 here=$(dirname "$(readlink -f "${BASH_SOURCE[0]}")")
 case "${1-} $* " in
-listen*' --stay '*) exec "$here/stay" "$here/am_server" "$@" ;;
-'listen '*) exec -a amserve "$here/am_server" "$@" ;;
-*) exec -a amserve "$here/am_alone" "$@" ;;
+listen*' --stay '*) exec "$here/stay" "$here/am_serve_listen" "$@" ;;
+'listen '*) exec -a amserve "$here/am_serve_listen" "$@" ;;
+*) exec -a amserve "$here/am_serve_alone" "$@" ;;
 esac
 """
 

@@ -7,7 +7,7 @@ use crate::watch::{Timed, Watch};
 use crate::{map, store};
 use am_btree::BTree;
 use am_core::Store;
-use am_record::{HashKey, Key, Pairs, Value};
+use am_record::{HashKey, Key, Records, Value};
 use std::collections::BTreeMap;
 use std::time::Clock;
 
@@ -56,7 +56,7 @@ pub(crate) fn print_figures<R: AllocGlobal + Print + Clock>(
 fn print_load<R: Print + Clock>(
     rt: &R,
     store: &mut Store<BTree>,
-    runs: Vec<Pairs>,
+    runs: Vec<Records>,
     asked: &[Key],
     filled: Timed,
 ) -> Result<(), Fault> {

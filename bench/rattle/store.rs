@@ -4,7 +4,7 @@ use crate::fault::Fault;
 use crate::keys::{value_of, weight};
 use am_btree::BTree;
 use am_core::Store;
-use am_record::{Key, Lock, Mode, NoMemory, Op, Pairs, Range, Reply, Step};
+use am_record::{Key, Lock, Mode, NoMemory, Op, Records, Range, Reply, Step};
 use std::alloc::Global;
 
 /// How many keys one transaction reads.
@@ -32,14 +32,14 @@ fn all_keys() -> Range {
 }
 
 /// So many runs with all the keys, which rise: each run has every so many-th of them.
-pub(crate) fn runs_of(alloc: Global, rising: &[Key], runs: usize) -> Result<Vec<Pairs>, NoMemory> {
+pub(crate) fn runs_of(alloc: Global, rising: &[Key], runs: usize) -> Result<Vec<Records>, NoMemory> {
     let mut made = Vec::new(alloc);
     for run in 0..runs {
         let mut pairs = Vec::new(alloc);
         for key in rising.iter().skip(run).step_by(runs) {
             pairs.push((*key, value_of(*key)))?;
         }
-        if made.push(Pairs::new(pairs)).is_err() {
+        if made.push(Records::new(pairs)).is_err() {
             return Err(NoMemory);
         }
     }
@@ -47,7 +47,7 @@ pub(crate) fn runs_of(alloc: Global, rising: &[Key], runs: usize) -> Result<Vec<
 }
 
 /// Loads the runs, each in a transaction of its own, and answers how many records they have.
-pub(crate) fn load(store: &mut Store<BTree>, runs: Vec<Pairs>) -> Result<u64, Fault> {
+pub(crate) fn load(store: &mut Store<BTree>, runs: Vec<Records>) -> Result<u64, Fault> {
     let mut loaded: u64 = 0;
     for run in runs {
         loaded = loaded.saturating_add(run.as_slice().len() as u64);

@@ -2,7 +2,7 @@
 
 use crate::keys::{value_of, weight};
 use am_btree::BTree;
-use am_list::PartIndex;
+use am_index::PartIndex;
 use am_parts::Parts;
 use am_record::{Entry, Key, NoMemory, Range};
 use am_scan::scan;

@@ -1,4 +1,4 @@
-"""Draws how a store was merged, from a stored run: a picture as SVG on standard output, or with --text a table.
+"""Draws how a store was merged, from a trace: a picture as SVG on standard output, or with --text a table.
 
 TRACE is what `amserve listen --trace TRACE` stored (standard input, where none or - is named). Keys go from left to right, each
 record as wide as any other. Above stands each loaded run, a band that is thinned where its records left it, and pale where
@@ -21,7 +21,7 @@ from .program import Parser, read_file, run_program, write_all
 EPILOG = """status:
   0  the picture or the table was written
   2  the words of the command line are wrong
-  3  a line is none of a stored run
+  3  a line is none of a trace
   4  TRACE can't be read
   6  standard output can't be written
   7  there was no memory"""
@@ -221,7 +221,7 @@ def share_gone(run: Run, step: int) -> float:
 def words() -> argparse.Namespace:
     parser = Parser(NAME, __doc__, EPILOG)
     parser.add_argument("--text", action="store_true", help="write a table in place of a picture")
-    parser.add_argument("trace", nargs="?", default="-", metavar="TRACE", help="the stored run (default: standard input)")
+    parser.add_argument("trace", nargs="?", default="-", metavar="TRACE", help="the trace (default: standard input)")
     return parser.parse_args()
 
 

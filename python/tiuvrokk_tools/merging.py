@@ -1,7 +1,7 @@
-"""A stored run, followed as far as its partitions go: which records each run still has, and what went to the final partition.
+"""A trace, followed as far as its partitions go: which records each run still has, and what went to the final partition.
 
 A merge step works off the first records, by run and key, of the oldest of the 64 newest ranges that were read; so the text of a
-stored run tells where each record stands, though it names no partition but that of MOVED. A record that was deleted, or whose
+trace tells where each record stands, though it names no partition but that of MOVED. A record that was deleted, or whose
 transaction was aborted, is a ghost: it stands at its place, unseen, until a merge step of its run or CLEAN takes it away. CLEAN
 takes the first ghosts, by partition and key, whose keys nobody has locked exclusively."""
 
@@ -108,7 +108,7 @@ class Body:
 
 
 class Merging:
-    """What a stored run tells, step by step."""
+    """What a trace tells, step by step."""
 
     def __init__(self) -> None:
         self.steps = 0
@@ -283,7 +283,7 @@ def forget(ghosts: List[bytes], key: bytes) -> None:
 
 
 def key_of(word: bytes) -> bytes:
-    """A key as a stored run spells it, in either version."""
+    """A key as a trace spells it, in either version."""
     found = KEY.fullmatch(word)
     if not found:
         raise ValueError
@@ -291,11 +291,11 @@ def key_of(word: bytes) -> bytes:
 
 
 def followed(text: bytes) -> Merging:
-    """Follows the text of a stored run. The first line that is none of one ends all."""
+    """Follows the text of a trace. The first line that is none of one ends all."""
     merging = Merging()
     lines = text.split(b"\n")
     if lines[0] not in (b"TRACE 1", b"TRACE 2"):
-        raise Stop(3, "line 1: it names no version of a stored run")
+        raise Stop(3, "line 1: it names no version of a trace")
     for number, line in enumerate(lines[1:], 2):
         if not line and number == len(lines):
             break
@@ -305,5 +305,5 @@ def followed(text: bytes) -> Merging:
                 raise ValueError
             merging.take(found.group(1), found.group(2).split(), found.group(3), found.group(4).split())
         except (ValueError, IndexError, OverflowError):
-            raise Stop(3, f"line {number}: it is none of a stored run") from None
+            raise Stop(3, f"line {number}: it is none of a trace") from None
     return merging

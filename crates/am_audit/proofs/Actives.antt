@@ -7,7 +7,7 @@ use Rattle.std.proofs.lemmas.Bool.{cond-true, eq-eqb}
 use Rattle.std.proofs.lemmas.List.{map-append, drop_more, take_more_set, take-append-drop, drop-set-lt, drop_all}
 use Rattle.std.proofs.lemmas.List.{take_all, append-nil}
 use Rattle.std.specs.Vec.{with_items}
-use Rattle.am_record.proofs.Numbered.{without_number-map}
+use Rattle.am_record.proofs.ByNumber.{without_number-map}
 use Rattle.am_audit.specs.declared.active.Active.{Active}
 use Rattle.am_audit.specs.Progress.{PlacedAnswer, placed_answer, Listed, listed, with_own}
 

@@ -13,7 +13,7 @@ use Rattle.am_record.specs.declared.step.Step.TheVariants.{Begin, Do, Commit, Ab
 use Rattle.am_record.specs.declared.step.Reply.{Reply}
 use Rattle.am_record.specs.declared.step.Reply.TheVariants.{Begun, Committed, Aborted, Refused}
 use Rattle.am_record.proofs.Lists.{AllByRecursion-map, heads, tails}
-use Rattle.am_record.proofs.Numbered.{of_number-all, of_number-map, of_number-known}
+use Rattle.am_record.proofs.ByNumber.{of_number-all, of_number-map, of_number-known}
 use Rattle.am_record.specs.Events.{Event}
 use Rattle.am_serial.specs.Trace.{Trace, Answered, Answers, answered_to, effect, effect_of_do, effects, body, ops_of}
 use Rattle.am_serial.specs.Trace.{replies_of, IsAnsweredAlone}
@@ -23,7 +23,7 @@ use Rattle.am_audit.specs.declared.checker.Checker.{Checker}
 use Rattle.am_audit.specs.Faults.{IsFirstWrongAnswer}
 use Rattle.am_audit.specs.Progress.{PlacedAnswer, answers_from, answers_at, answered_of, Listed, listed, is_listed}
 use Rattle.am_audit.specs.Progress.{own_in, Bodies, list_of, Progress, IsAt, IsFirstWrong}
-use Rattle.am_audit.proofs.Takings.{is_active}
+use Rattle.am_audit.proofs.EventSteps.{is_active}
 
 -- ---- what is listed of an active transaction
 

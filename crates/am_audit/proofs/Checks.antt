@@ -10,7 +10,7 @@ use Rattle.am_record.specs.declared.step.Step.{Step}
 use Rattle.am_record.specs.declared.step.Reply.{Reply}
 use Rattle.am_record.specs.Events.{Event}
 use Rattle.am_serial.specs.Trace.{Trace, effects, committers}
-use Rattle.am_serial.specs.Formed.{IsFormed, FormedLaws}
+use Rattle.am_serial.specs.FormedTraces.{IsFormed, FormedLaws}
 use Rattle.am_serial.specs.Legal.{IsLegal}
 use Rattle.am_serial.specs.Machine.{State, start, after_run}
 use Rattle.am_audit.specs.declared.fault.Fault.{Fault}
@@ -19,8 +19,8 @@ use Rattle.am_audit.specs.declared.event_fault.EventFault.{EventFault}
 use Rattle.am_audit.specs.declared.event_fault.EventFault.TheVariants.{Form, Busy, Answer, NoMemory as Starved}
 use Rattle.am_audit.specs.declared.checker.Checker.{Checker}
 use Rattle.am_audit.specs.Faults.{IsTrueFault}
-use Rattle.am_audit.specs.declared.checking.Audit.{Audit}
-use Rattle.am_audit.specs.Judged.{IsSoFar, HasJudged}
+use Rattle.am_audit.specs.declared.trace_audit.Audit.{Audit}
+use Rattle.am_audit.specs.AuditStates.{IsSoFar, HasJudged}
 use Rattle.am_audit.specs.Progress.{answers_at, progress_of, IsAt, TakesEvent, IsEventFault, fault_of, position_told}
 use Rattle.am_audit.proofs.Bodies.{first_wrong}
 use Rattle.am_audit.proofs.OwnMoments.{own_moment, stands_own, takes_there, flaw_there}

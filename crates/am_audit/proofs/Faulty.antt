@@ -16,7 +16,7 @@ use Rattle.am_record.specs.Events.{Event}
 use Rattle.am_serial.specs.Trace.{Trace, Answered, Effect, Answers, Commits, answered_to, effect, effects, body, ops_of}
 use Rattle.am_serial.specs.Trace.{replies_of, committed, IsSerial, IsAnsweredAlone}
 use Rattle.am_serial.specs.Sound.{FormedAt, BusyRightAt}
-use Rattle.am_serial.specs.Formed.{IsFormed, IsNextInOrder, FormedLaws}
+use Rattle.am_serial.specs.FormedTraces.{IsFormed, IsNextInOrder, FormedLaws}
 use Rattle.am_audit.specs.declared.fault.FaultKind.{FaultKind}
 use Rattle.am_audit.specs.declared.fault.FaultKind.TheVariants.{Form, Busy, Answer}
 use Rattle.am_serial.specs.Legal.{IsLegal}

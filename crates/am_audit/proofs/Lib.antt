@@ -1,12 +1,12 @@
 pub mod Rows
 pub mod Actives
 pub mod Tables
-pub mod Held
+pub mod OnlyOwnerLocks
 pub mod OnlyOwners
 pub mod Replays
-pub mod Judging
+pub mod RightReplies
 pub mod Progresses
-pub mod Takings
+pub mod EventSteps
 pub mod Bodies
 pub mod Performs
 pub mod Moments

@@ -9,7 +9,7 @@ use Rattle.am_serial.specs.Trace.{Trace, Answered, Effect, Begins, Answers, Comm
 use Rattle.am_serial.specs.Trace.{committed, IsSerial, IsAnsweredAlone}
 use Rattle.am_serial.specs.Machine.{State, start, after_run, is_open, state_at}
 use Rattle.am_serial.specs.Sound.{FormedAt, BusyRightAt}
-use Rattle.am_serial.specs.Formed.{IsFormed, IsNextInOrder, FormedLaws}
+use Rattle.am_serial.specs.FormedTraces.{IsFormed, IsNextInOrder, FormedLaws}
 use Rattle.am_audit.specs.declared.event_fault.EventFault.{EventFault}
 use Rattle.am_audit.specs.declared.event_fault.EventFault.TheVariants.{Form, Busy, Answer, NoMemory}
 use Rattle.am_serial.specs.Legal.{IsLegal}

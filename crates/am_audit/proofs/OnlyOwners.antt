@@ -10,10 +10,10 @@ use Rattle.am_record.specs.declared.lock.Lock.{Lock}
 use Rattle.am_locks.specs.OwnerLocks.{OwnerLocks}
 use Rattle.am_locks.specs.Table.{is_owner, locks_owned, with_locks, blockers}
 use Rattle.am_serial.specs.Machine.{Transaction, is_open, locks_in, blocker}
-use Rattle.am_audit.specs.declared.listed.Listed.{Listed}
-use Rattle.am_audit.specs.Held.{locks_by, only_owner, lock_at, listed_locks}
+use Rattle.am_audit.specs.declared.asked_locks.Listed.{Listed}
+use Rattle.am_audit.specs.OnlyOwnerLocks.{locks_by, only_owner, lock_at, listed_locks}
 use Rattle.am_audit.specs.Progress.{owner_of}
-use Rattle.am_audit.proofs.Held.{its_locks, few_locks, meets_nobody, locks_by-push, the_owner}
+use Rattle.am_audit.proofs.OnlyOwnerLocks.{its_locks, few_locks, meets_nobody, locks_by-push, the_owner}
 use Rattle.am_audit.proofs.Tables.{owners_are, locks_are, free, free_of_nothing, not_full_is}
 
 pub few_listed : (listed : List Listed) → length listed < 256 → length (listed_locks listed) < 256

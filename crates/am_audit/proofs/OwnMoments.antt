@@ -10,7 +10,7 @@ use Rattle.am_record.specs.declared.step.Step.TheVariants.{Begin, Do, Commit, Ab
 use Rattle.am_record.specs.declared.step.Reply.{Reply}
 use Rattle.am_record.specs.declared.step.Reply.TheVariants.{Begun, Committed, Aborted, Refused}
 use Rattle.am_record.proofs.Lists.{AllByRecursion-map, AllByRecursion-push, AllByRecursion-filter, map-alike}
-use Rattle.am_record.proofs.Numbered.{each_there, of_number-none}
+use Rattle.am_record.proofs.ByNumber.{each_there, of_number-none}
 use Rattle.am_serial.specs.Trace.{Effect, Begins, Answers, Commits, Aborts, Nothing, effect}
 use Rattle.am_serial.specs.Machine.{State, Transaction, is_open, next}
 use Rattle.am_audit.specs.declared.event_fault.EventFault.{EventFault}
@@ -20,7 +20,7 @@ use Rattle.am_audit.specs.Progress.{PlacedAnswer, answered_of, Listed, listed, o
 use Rattle.am_audit.specs.Progress.{added, Progress, IsAt, FormedIn, IsRightIn, IsMisformedIn, IsWronglyBusyIn}
 use Rattle.am_audit.specs.Progress.{TakesEvent, IsEventFault, IsFirstWrong}
 use Rattle.am_audit.proofs.Progresses.{all_extended, open_below}
-use Rattle.am_audit.proofs.Takings.{listed_is}
+use Rattle.am_audit.proofs.EventSteps.{listed_is}
 use Rattle.am_audit.proofs.Bodies.{own_are}
 use Rattle.am_audit.proofs.Lifts.{commit_open}
 

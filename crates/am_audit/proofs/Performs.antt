@@ -23,7 +23,7 @@ use Rattle.am_audit.specs.Progress.{PlacedAnswer, answered_of, Listed, listed, i
 use Rattle.am_audit.specs.Progress.{Progress, IsAt, NextIn, IsRightOf, TakesEvent, IsEventFault, AreAnsweredOn}
 use Rattle.am_audit.specs.Progress.{left_by_all, IsFirstWrong, IsReplayFault, refused_of}
 use Rattle.am_audit.proofs.Progresses.{stands_behind, no_answer, answers, commits}
-use Rattle.am_audit.proofs.Takings.{takes_still, is_owned}
+use Rattle.am_audit.proofs.EventSteps.{takes_still, is_owned}
 use Rattle.am_audit.proofs.Bodies.{body_placed, own_placed, listed_open}
 
 -- ---- operations

@@ -13,11 +13,11 @@ use Rattle.am_record.specs.Asks.{lock_of, with_asked}
 use Rattle.am_record.specs.declared.step.Op.{Op}
 use Rattle.am_record.specs.declared.step.Step.{Step}
 use Rattle.am_record.specs.declared.step.Reply.{Reply}
-use Rattle.am_record.specs.Numbered.{has_number, with_changed}
+use Rattle.am_record.specs.ByNumber.{has_number, with_changed}
 use Rattle.am_record.proofs.Lists.{AllByRecursion-always, AllByRecursion-map, AllByRecursion-push}
 use Rattle.am_record.proofs.Lists.{AllByRecursion-filter}
-use Rattle.am_record.proofs.Numbered.{AreOnce, AreOnce-RiseBy, RiseBy-map, RiseBy-push, RiseBy-filter, number_of_one}
-use Rattle.am_record.proofs.Numbered.{RiseBy-with_changed, with_changed-none, with_changed-map, without_number-map}
+use Rattle.am_record.proofs.ByNumber.{AreOnce, AreOnce-RiseBy, RiseBy-map, RiseBy-push, RiseBy-filter, number_of_one}
+use Rattle.am_record.proofs.ByNumber.{RiseBy-with_changed, with_changed-none, with_changed-map, without_number-map}
 use Rattle.am_locks.specs.Table.{with_locks, entered, without_owner as released}
 use Rattle.am_record.specs.Events.{Event}
 use Rattle.am_serial.specs.Trace.{Trace, Answered, Effect, Begins, Answers, Commits, Aborts, Nothing, answered_to}

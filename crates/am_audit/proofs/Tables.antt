@@ -10,20 +10,20 @@ use Rattle.am_record.specs.Asks.{lock_of, with_asked, locks_of as locks_by}
 use Rattle.am_record.specs.declared.lock.Lock.{Lock}
 use Rattle.am_record.specs.declared.step.Op.{Op}
 use Rattle.am_record.specs.declared.step.Reply.{Reply}
-use Rattle.am_record.specs.Numbered.{with_changed}
+use Rattle.am_record.specs.ByNumber.{with_changed}
 use Rattle.am_record.specs.Owners.{blocker_among}
 use Rattle.am_record.proofs.Bodies.{locks_from_push, asked_behind}
 use Rattle.am_record.proofs.Lists.{AllByRecursion-map}
-use Rattle.am_record.proofs.Numbered.{has_number-map, of_number-map, of_number-told, RiseBy-map, AreOnce-RiseBy}
-use Rattle.am_record.proofs.Numbered.{each_found, with_changed-map, with_changed-twice, without_number-map}
+use Rattle.am_record.proofs.ByNumber.{has_number-map, of_number-map, of_number-told, RiseBy-map, AreOnce-RiseBy}
+use Rattle.am_record.proofs.ByNumber.{each_found, with_changed-map, with_changed-twice, without_number-map}
 use Rattle.am_record.proofs.Owners.{blocker_among-map, none_blocks}
 use Rattle.std.proofs.lemmas.Simd.{map-map}
 use Rattle.am_locks.specs.OwnerLocks.{OwnerLocks}
 use Rattle.am_locks.specs.Table.{is_owner, locks_owned, with_locks, without_owner as released, blockers}
 use Rattle.am_locks.specs.Table.{entered}
 use Rattle.am_locks.specs.Answers.{IsLeastOf, MatchBusy}
-use Rattle.am_locks.specs.declared.asked.Asked.{Asked}
-use Rattle.am_locks.specs.declared.asked.Asked.TheVariants.{Granted, Busy, TooManyLocks, NoMemory}
+use Rattle.am_locks.specs.declared.lock_answers.Asked.{Asked}
+use Rattle.am_locks.specs.declared.lock_answers.Asked.TheVariants.{Granted, Busy, TooManyLocks, NoMemory}
 use Rattle.am_locks.proofs.FirstOwners as firsts
 use Rattle.am_locks.proofs.Laws.{locks_owned-with_locks, is_owner-with_locks}
 use Rattle.am_serial.specs.Trace.{Answered, ops_of}

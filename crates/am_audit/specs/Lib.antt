@@ -1,4 +1,4 @@
 pub mod Faults
-pub mod Held
-pub mod Judged
+pub mod OnlyOwnerLocks
+pub mod AuditStates
 pub mod Progress

@@ -14,12 +14,12 @@ use Rattle.am_record.specs.declared.step.Step.TheVariants.{Do}
 use Rattle.am_record.specs.declared.step.Reply.{Reply}
 use Rattle.am_record.specs.declared.step.Reply.TheVariants.{Refused}
 use Rattle.am_locks.specs.OwnerLocks.{OwnerLocks}
-use Rattle.am_locks.specs.declared.asked.Asked.{Asked}
-use Rattle.am_locks.specs.declared.asked.Asked.TheVariants.{Granted, Busy as IsBlocked, TooManyLocks}
-use Rattle.am_locks.specs.declared.asked.Asked.TheVariants.{NoMemory as WantsMemory}
+use Rattle.am_locks.specs.declared.lock_answers.Asked.{Asked}
+use Rattle.am_locks.specs.declared.lock_answers.Asked.TheVariants.{Granted, Busy as IsBlocked, TooManyLocks}
+use Rattle.am_locks.specs.declared.lock_answers.Asked.TheVariants.{NoMemory as WantsMemory}
 use Rattle.am_serial.specs.Trace.{Trace, Answered, Effect, Commits, answered_to, effect, ops_of, replies_of}
 use Rattle.am_serial.specs.Trace.{IsAnsweredAlone}
-use Rattle.am_record.specs.Numbered.{has_number, of_number, RiseBy}
+use Rattle.am_record.specs.ByNumber.{has_number, of_number, RiseBy}
 use Rattle.am_record.specs.Refusals.{is_one_too_many}
 use Rattle.am_serial.specs.Machine.{State, Transaction, start, after_run, next, due_early, blocker, locks_in, body_in}
 use Rattle.am_serial.specs.Machine.{May}

@@ -6,11 +6,11 @@ ghost use Rattle.am_record.specs.Asks.{lock_of, with_asked};
 ghost use Rattle.am_record.specs.Plain.{is_orderly};
 ghost use Rattle.am_locks.specs.Table.{is_owner, entered, with_locks, without_owner};
 ghost use Rattle.am_serial.specs.Machine.{Transaction, is_open, locks_in};
-ghost use Rattle.am_audit.specs.Held.{only_owner, listed_locks};
+ghost use Rattle.am_audit.specs.OnlyOwnerLocks.{only_owner, listed_locks};
 ghost use Rattle.am_audit.specs.Progress.{owner_of, RiseByNumber, IsAnswerTo};
 
-use crate::asking::{ask, look};
-use crate::listed::Listed;
+use crate::asked_locks::Listed;
+use crate::lock_requests::{ask, look};
 use am_locks::{Asked, LockTable};
 use am_record::{Lock, MAX_LOCKS, NoMemory, Op};
 use std::alloc::Global;
@@ -32,7 +32,7 @@ impl Model for HeldLocks {
     ghost use Rattle.std.specs.Prelude.{◌≡◌, ◌≤◌, ◌∷◌, [], List, length, cond, true, vec_capacity};
     ghost use Rattle.std.specs.Coded.{coded_list};
     ghost use Rattle.am_locks.specs.OwnerLocks.{OwnerLocks, held_code};
-    ghost use Rattle.am_audit.specs.Held.{only_owner, listed_locks};
+    ghost use Rattle.am_audit.specs.OnlyOwnerLocks.{only_owner, listed_locks};
 
     ghost Value = { List OwnerLocks };
 

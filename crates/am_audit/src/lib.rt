@@ -2,21 +2,21 @@
 #![tactic(auto)]
 
 mod active;
-mod asking;
+mod asked_locks;
 mod checker;
-mod checking;
 mod early;
 mod event_fault;
 mod exclusion;
 mod fault;
 mod forms;
 mod held_locks;
-mod listed;
+mod lock_requests;
 mod operations;
 mod replay;
 mod replies;
+mod trace_audit;
 mod verdict;
 
-pub use checking::{Audit, check};
 pub use exclusion::first_faults_exclude;
 pub use fault::{Fault, FaultKind};
+pub use trace_audit::{Audit, check};

@@ -3,7 +3,7 @@
 ghost use Rattle.std.specs.Prelude.{◌≡◌, ◌↔◌, IsTrue, option_copied};
 ghost use Rattle.am_record.specs.Plain.{found};
 
-use am_record::{Key, Pairs, Refusal, Reply, Value};
+use am_record::{Key, Records, Refusal, Reply, Value};
 
 /// Whether the replies are the same.
 pub(crate) fn is_same(a: &Reply, b: &Reply) -> bool
@@ -53,7 +53,7 @@ fn is_same_value(a: &Value, b: &Value) -> bool
     a.bytes() == b.bytes()
 }
 
-fn are_same_rows(a: &Pairs, b: &Pairs) -> bool
+fn are_same_rows(a: &Records, b: &Records) -> bool
     ensures { IsTrue result ↔ (a.now ≡ b.now) }
 {
     a == b

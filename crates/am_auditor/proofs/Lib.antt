@@ -1,4 +1,4 @@
 mod Torn
-mod Reading
+mod TextAudits
 mod RecordLines
 mod WholeLines

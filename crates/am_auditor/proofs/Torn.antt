@@ -2,7 +2,7 @@
 use Rattle.std.proofs.Common.{ℕ, List, [], append-nil, length, Option, subst, arith}
 use Rattle.std.proofs.lemmas.List.{take_all}
 use Rattle.std.specs.Prelude.{Result, Ok, Err, OnErr}
-use Rattle.am_stream.specs.Giving.{Gave, GaveBeginning}
+use Rattle.am_stream.specs.SinkWrites.{Gave, GaveBeginning}
 use Rattle.am_stream.proofs.Streams.{gave_then}
 
 -- a line that was given whole, with nothing behind it, is a beginning of it too

@@ -2,8 +2,8 @@
 use Rattle.std.specs.Prelude.{ℕ, List, [], ◌∷◌, cond, Option}
 use Rattle.am_command.specs.declared.choice.Audited.{Audited}
 use Rattle.am_stream.specs.Lines.{has_lf}
-use Rattle.am_trace.specs.Lines.{header}
-use Rattle.am_trace.specs.declared.version.Version.TheVariants.{Two}
+use Rattle.am_trace_text.specs.Lines.{header}
+use Rattle.am_trace_text.specs.declared.version.Version.TheVariants.{Two}
 use Rattle.am_auditor.specs.Judgements.{SaysJudgement, IsBegun, TellsRecords, HasBegunRecords}
 
 -- the text up to its last LF, and with it

@@ -4,12 +4,12 @@ use Rattle.std.specs.FinMap.{entries}
 use Rattle.am_record.specs.OrderedKey.{OrderedKey, bytes_of}
 use Rattle.am_record.specs.Records.{Records}
 use Rattle.am_serial.specs.Trace.{Trace, effects, committers, committed}
-use Rattle.am_stream.specs.Giving.{Gave, GaveBeginning}
-use Rattle.am_trace.specs.Lines.{IsTextOf, IsBadLine}
+use Rattle.am_stream.specs.SinkWrites.{Gave, GaveBeginning}
+use Rattle.am_trace_text.specs.Lines.{IsTextOf, IsBadLine}
 use Rattle.am_serial.specs.Legal.{IsLegal}
 use Rattle.am_audit.specs.Faults.{IsFirstFault}
-use Rattle.am_audit.specs.Judged.{HasJudged}
-use Rattle.am_audit.specs.declared.checking.Audit.{Audit}
+use Rattle.am_audit.specs.AuditStates.{HasJudged}
+use Rattle.am_audit.specs.declared.trace_audit.Audit.{Audit}
 use Rattle.am_audit.specs.declared.fault.FaultKind.{FaultKind}
 use Rattle.am_audit.specs.declared.fault.FaultKind.TheVariants.{Form, Busy, Answer}
 use Rattle.am_auditor.specs.declared.judgement.Judgement.{Judgement}

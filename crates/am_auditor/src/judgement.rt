@@ -1,10 +1,10 @@
 //! What is said of a text.
 
 ghost use Rattle.std.specs.Prelude.{◌≡◌, ◌^◌, ◌<◌, ◌≤◌, ◌+◌, length, true, false, OnOk, OnErr, IfOk};
-ghost use Rattle.am_stream.specs.Giving.{Gave, GaveBeginning};
+ghost use Rattle.am_stream.specs.SinkWrites.{Gave, GaveBeginning};
 ghost use Rattle.std.specs.Prelude.{◌≢◌, ℕ, List, IfErr};
 ghost use Rattle.am_serial.specs.Trace.{Trace};
-ghost use Rattle.am_trace.specs.Lines.{IsTextOf};
+ghost use Rattle.am_trace_text.specs.Lines.{IsTextOf};
 ghost use Rattle.am_audit.specs.Faults.{IsTrueFault};
 ghost use Rattle.am_auditor.specs.Judgements.{IsTrueOf, SaysJudgement, IsBegun, judgement_line, judgement_status};
 ghost use Rattle.am_auditor.specs.Judgements.{HasText};
@@ -12,7 +12,7 @@ ghost use Rattle.am_auditor.specs.Judgements.{HasText};
 use am_audit::{Audit, Fault, FaultKind};
 use am_stream::{Failed, Sink, give_all};
 use am_text::Text;
-use am_trace::{ReadFault, read_header, read_line};
+use am_trace_text::{ReadFault, read_header, read_line};
 use std::alloc::Global;
 
 /// What is to be said of a text, or of one that can't be had.

@@ -12,9 +12,9 @@ use Rattle.am_record.specs.declared.entry.Entry.{Entry}
 use Rattle.am_record.specs.EntryOrder.{Place, place_of, place_cmp, place_cmp-total}
 use Rattle.am_record.proofs.Lists.{AllByRecursion-map, AllByRecursion-append}
 use Rattle.am_record.proofs.PlaceOrder.{turned_less, turned_greater}
-use Rattle.am_list.specs.Entries.{entry_at, find, first_such}
-use Rattle.am_list.specs.Places.{AllBelow, NoneBelow, AllAbove}
-use Rattle.am_list.proofs.Lists.{entry_at-append, entry_at_none}
+use Rattle.am_index.specs.Entries.{entry_at, find, first_such}
+use Rattle.am_index.specs.Places.{AllBelow, NoneBelow, AllAbove}
+use Rattle.am_index.proofs.Lists.{entry_at-append, entry_at_none}
 use Rattle.am_btree.specs.declared.separator.Separator.{Separator}
 use Rattle.am_btree.specs.Shape.{Shape}
 use Rattle.am_btree.specs.Separators.{separator_place, IsChildFor}

@@ -15,7 +15,7 @@ use Rattle.std.specs.List.{AllByRecursion, count_by, prefix_len, insert, remove}
 use Rattle.am_record.specs.OrderedKey.{OrderedKey, key_cmp}
 use Rattle.am_record.specs.KeyFront.{key_front}
 use Rattle.am_record.specs.EntryOrder.{Place, place_cmp, place_cmp-same}
-use Rattle.am_record.proofs.Fronting.{NeverFalls, falls-drop, lower_first, higher_last}
+use Rattle.am_record.proofs.NumberOrder.{NeverFalls, falls-drop, lower_first, higher_last}
 use Rattle.am_record.proofs.Lists.{AllByRecursion-map, AllByRecursion-append, AllByRecursion-take}
 use Rattle.am_record.proofs.Lists.{some_item}
 use Rattle.am_record.proofs.Orderings.{less_or_greater}
@@ -23,7 +23,7 @@ use Rattle.am_record.proofs.PlaceOrder.{turned_less, lower_part}
 use Rattle.am_btree.specs.declared.separator.Separator.{Separator}
 use Rattle.am_btree.specs.Separators.{separator_place, SeparatorsRise, IsReach}
 use Rattle.am_btree.specs.Fronts.{short_front, place_front, fronts_of}
-use Rattle.am_btree.proofs.Reaching.{reached_to, reached_all}
+use Rattle.am_btree.proofs.SeparatorReach.{reached_to, reached_all}
 
 -- ---- where the list is changed
 

@@ -9,16 +9,16 @@ use Rattle.am_record.specs.OrderedKey.{OrderedKey}
 use Rattle.am_record.specs.declared.entry.Entry.{Entry}
 use Rattle.am_record.specs.EntryOrder.{place_of, place_cmp}
 use Rattle.am_record.proofs.Lists.{AllByRecursion-map}
-use Rattle.am_list.specs.Entries.{first_such, next_ghost}
-use Rattle.am_list.specs.Places.{AllAbove}
-use Rattle.am_list.proofs.Lists.{next_ghost-append, next_ghost_front}
+use Rattle.am_index.specs.Entries.{first_such, next_ghost}
+use Rattle.am_index.specs.Places.{AllAbove}
+use Rattle.am_index.proofs.Lists.{next_ghost-append, next_ghost_front}
 use Rattle.am_btree.specs.declared.separator.Separator.{Separator}
 use Rattle.am_btree.specs.Shape.{Shape}
 use Rattle.am_btree.specs.Separators.{IsChildFor}
 use Rattle.am_btree.specs.Nodes.{all_entries, AreChildren}
-use Rattle.am_btree.proofs.Parting.{all_entries_cut, parted_lengths}
-use Rattle.am_btree.proofs.Seeking.{such_here, such_later}
-use Rattle.am_btree.proofs.Walking.{below, above}
+use Rattle.am_btree.proofs.ChildHalves.{all_entries_cut, parted_lengths}
+use Rattle.am_btree.proofs.Seeks.{such_here, such_later}
+use Rattle.am_btree.proofs.ChildWalks.{below, above}
 
 -- ---- the first ghost of several children
 

@@ -5,7 +5,7 @@ use Rattle.am_btree.specs.declared.separator.Separator.{Separator}
 use Rattle.am_btree.specs.Shape.{Shape}
 use Rattle.am_btree.specs.Separators.{SeparatorsRise}
 use Rattle.am_btree.specs.Nodes.{depth_of, IsInner}
-use Rattle.am_btree.proofs.Parting.{parted_lengths, children_rise}
+use Rattle.am_btree.proofs.ChildHalves.{parted_lengths, children_rise}
 
 -- an inner node, and the index of the child for a place
 module _ (separators : List Separator) (ks : List Shape) (rk : ℕ) (inner : IsInner separators ks rk) where

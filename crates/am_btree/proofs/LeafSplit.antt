@@ -10,10 +10,10 @@ use Rattle.am_record.specs.declared.entry.Entry.{Entry}
 use Rattle.am_record.specs.EntryOrder.{Place, place_of, place_cmp, place_cmp-total}
 use Rattle.am_record.proofs.Lists.{AllByRecursion-map}
 use Rattle.am_record.proofs.PlaceOrder.{turned_less}
-use Rattle.am_list.specs.Entries.{insert_entry, IsRising}
-use Rattle.am_list.specs.Places.{AllBelow, NoneBelow, IsGapFor}
-use Rattle.am_list.proofs.Lists.{rising_back, below_itself}
-use Rattle.am_list.proofs.Searches.{insert_gap, rising_insert_gap}
+use Rattle.am_index.specs.Entries.{insert_entry, IsRising}
+use Rattle.am_index.specs.Places.{AllBelow, NoneBelow, IsGapFor}
+use Rattle.am_index.proofs.Lists.{rising_back, below_itself}
+use Rattle.am_index.proofs.Searches.{insert_gap, rising_insert_gap}
 
 none_below_first : (r : Entry) (rs : List Entry) → IsRising (r ∷ rs) → NoneBelow (place_of r) (r ∷ rs)
 none_below_first r rs h = (

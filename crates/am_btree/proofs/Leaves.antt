@@ -8,9 +8,9 @@ use Rattle.am_record.specs.OrderedKey.{OrderedKey}
 use Rattle.am_record.specs.declared.entry.Entry.{Entry}
 use Rattle.am_record.specs.EntryOrder.{Place, place_of, place_cmp}
 use Rattle.am_record.proofs.Lists.{AllByRecursion-take, AllByRecursion-drop}
-use Rattle.am_list.specs.Entries.{set_entry, IsRising}
-use Rattle.am_list.specs.Places.{AllBelow, AllAbove, IsPlaceOf, IsGapFor}
-use Rattle.am_list.proofs.Searches.{set_found}
+use Rattle.am_index.specs.Entries.{set_entry, IsRising}
+use Rattle.am_index.specs.Places.{AllBelow, AllAbove, IsPlaceOf, IsGapFor}
+use Rattle.am_index.proofs.Searches.{set_found}
 use Rattle.am_leaf.specs.Changes.{set_at}
 
 -- the entry at an index

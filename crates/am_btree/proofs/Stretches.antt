@@ -5,17 +5,17 @@ use Rattle.std.proofs.Math.Seq.{take-add}
 use Rattle.std.specs.Prelude.{IsSome}
 use Rattle.am_record.specs.declared.entry.Entry.{Entry}
 use Rattle.am_record.proofs.Lists.{AllByRecursion-append, AllByRecursion-map}
-use Rattle.am_list.specs.Entries.{find, all_inserted, IsRising}
-use Rattle.am_list.proofs.Insertions.{AllFree, free_before}
-use Rattle.am_list.proofs.Rooms.{keep_on}
+use Rattle.am_index.specs.Entries.{find, all_inserted, IsRising}
+use Rattle.am_index.proofs.Insertions.{AllFree, free_before}
+use Rattle.am_index.proofs.Rooms.{keep_on}
 use Rattle.am_btree.specs.declared.separator.Separator.{Separator}
-use Rattle.am_btree.specs.Between.{GoesAmong}
+use Rattle.am_btree.specs.EntriesBetween.{GoesAmong}
 use Rattle.am_btree.specs.Shape.{Shape}
 use Rattle.am_btree.specs.Rooms.{IsRoomed, KeepsRoom}
 use Rattle.am_btree.specs.Nodes.{all_entries, all_roomy, depth_of, inner_shape, IsInner}
-use Rattle.am_btree.proofs.Between.{AreAmong, IsEnd, inserted_both, still_stands, among_further}
-use Rattle.am_btree.proofs.Between.{all_among, all_free, put_entries, put_depth, put_inner}
-use Rattle.am_btree.proofs.Rooming.{keeps_set}
+use Rattle.am_btree.proofs.EntriesBetween.{AreAmong, IsEnd, inserted_both, still_stands, among_further}
+use Rattle.am_btree.proofs.EntriesBetween.{all_among, all_free, put_entries, put_depth, put_inner}
+use Rattle.am_btree.proofs.ValueRooms.{keeps_set}
 
 -- the first so many of the entries were added below the bound to a node that was seen as that, which has these children
 -- now

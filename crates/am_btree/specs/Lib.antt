@@ -1,6 +1,6 @@
 pub mod Fronts
-pub mod Between
-pub mod Grown
+pub mod EntriesBetween
+pub mod InsertResults
 pub mod Splits
 pub mod Nodes
 pub mod NodesFall

@@ -5,9 +5,9 @@ use Rattle.std.specs.Vec.{vec_capacity}
 use denote.Param.Weighed.{most}
 use Rattle.am_record.specs.declared.entry.Entry.{Entry}
 use Rattle.am_record.specs.EntryOrder.{Place, place_of}
-use Rattle.am_list.specs.Entries.{IsRising}
-use Rattle.am_list.specs.Places.{AllBelow, NoneBelow}
-use Rattle.am_leaf.specs.Seen.{Seen, ValuesHaveRoom}
+use Rattle.am_index.specs.Entries.{IsRising}
+use Rattle.am_index.specs.Places.{AllBelow, NoneBelow}
+use Rattle.am_leaf.specs.LeafCode.{Seen, ValuesHaveRoom}
 use Rattle.am_btree.specs.Shape.{Shape}
 use Rattle.am_btree.specs.Rooms.{IsRoomed}
 use Rattle.am_btree.specs.Separators.{separator_place}

@@ -1,6 +1,6 @@
 -- Which room for values is in a subtree, and which an edit leaves there.
 use Rattle.std.specs.Prelude.{◌≡◌}
-use Rattle.am_list.specs.Rooms.{HaveRoom, KeepRoom}
+use Rattle.am_index.specs.Rooms.{HaveRoom, KeepRoom}
 use Rattle.am_btree.specs.Shape.{Shape}
 
 -- each value has the room that it takes, and there is room at places of entries alone

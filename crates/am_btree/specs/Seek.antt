@@ -5,8 +5,8 @@ use Rattle.std.specs.Ordering.{is_ge, is_gt}
 use Rattle.am_record.specs.OrderedKey.{OrderedKey}
 use Rattle.am_record.specs.EntryOrder.{place_of, place_cmp}
 use Rattle.am_record.specs.declared.entry.Entry.{Entry}
-use Rattle.am_list.specs.Entries.{first_such}
-use Rattle.am_list.specs.Places.{IsLowerBound, IsUpperBound}
+use Rattle.am_index.specs.Entries.{first_such}
+use Rattle.am_index.specs.Places.{IsLowerBound, IsUpperBound}
 use Rattle.am_btree.specs.declared.read.Start.{Start}
 use Rattle.am_btree.specs.declared.read.Start.TheVariants.{At, Above}
 

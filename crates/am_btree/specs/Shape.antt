@@ -4,7 +4,7 @@ use Rattle.std.specs.Coded.{Coded, code_by, coded×, coded_ℕ, coded_list}
 use Rattle.am_record.specs.OrderedKey.{key_code}
 use Rattle.am_record.specs.EntryOrder.{Place}
 use Rattle.am_record.specs.declared.entry.Entry.{Entry}
-use Rattle.am_list.specs.EntryCode.{entries_code}
+use Rattle.am_index.specs.EntryCode.{entries_code}
 
 -- how deep its leaves stand, its entries in order, and the places of those that have room for any value
 pub record Shape : Type 0 where

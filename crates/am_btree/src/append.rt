@@ -2,8 +2,8 @@
 
 ghost use Rattle.std.specs.Prelude.{◌≡◌, ◌<◌, ◌++◌, OnOk, OnErr};
 ghost use Rattle.std.specs.List.{AllByRecursion};
-ghost use Rattle.am_list.specs.Entries.{IsRising};
-ghost use Rattle.am_list.specs.Runs.{run_entries};
+ghost use Rattle.am_index.specs.Entries.{IsRising};
+ghost use Rattle.am_index.specs.Runs.{run_entries};
 ghost use Rattle.am_btree.specs.Rooms.{KeepsRoom};
 
 use crate::node::Subtree;

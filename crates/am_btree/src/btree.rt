@@ -1,12 +1,12 @@
 //! The tree as an index.
 
 ghost use Rattle.std.specs.Prelude.{◌≡◌, ◌<◌, ◌^◌, [], IfOk};
-ghost use Rattle.am_list.specs.Places.{only_of};
+ghost use Rattle.am_index.specs.Places.{only_of};
 
 use crate::insert::Obstacle;
 use crate::node::Subtree;
 use crate::read::Start;
-use am_list::{Batch, PartIndex};
+use am_index::{Batch, PartIndex};
 use am_record::{Entry, Key, NoMemory, Range, Value};
 use std::alloc::Global;
 use std::marker::Model;

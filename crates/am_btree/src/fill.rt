@@ -1,9 +1,9 @@
 //! Filling the last leaf.
 
 ghost use Rattle.std.specs.Prelude.{◌≡◌, ◌<◌, ◌≤◌, ◌++◌, length, take};
-ghost use Rattle.am_list.specs.Entries.{IsRising};
-ghost use Rattle.am_list.specs.Runs.{run_entries};
-ghost use Rattle.am_leaf.specs.Seen.{ValuesHaveRoom};
+ghost use Rattle.am_index.specs.Entries.{IsRising};
+ghost use Rattle.am_index.specs.Runs.{run_entries};
+ghost use Rattle.am_leaf.specs.LeafCode.{ValuesHaveRoom};
 ghost use Rattle.am_btree.specs.Rooms.{KeepsRoom};
 
 use crate::node::{Node, Subtree};

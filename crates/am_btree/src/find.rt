@@ -1,7 +1,7 @@
 //! Looking for a place.
 
 ghost use Rattle.std.specs.Prelude.{◌≡◌, ◌<◌, ◌^◌};
-ghost use Rattle.am_list.specs.Entries.{find, IsRising};
+ghost use Rattle.am_index.specs.Entries.{find, IsRising};
 ghost use Rattle.am_btree.specs.Rooms.{IsRoomed};
 
 use crate::node::{Node, Subtree};

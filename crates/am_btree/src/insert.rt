@@ -3,11 +3,11 @@
 ghost use Rattle.std.specs.Prelude.{◌≡◌, ◌+◌, ◌<◌, ◌≤◌, [], length, take, drop, None, Some, IsSome, IsErrOf, OnOk};
 ghost use Rattle.std.specs.Prelude.{OnErr, IfOk, IfSome, vec_len, vec_capacity};
 ghost use Rattle.std.specs.List.{insert};
-ghost use Rattle.am_list.specs.Entries.{find, insert_entry, IsRising};
-ghost use Rattle.am_list.specs.Places.{IsGapFor};
+ghost use Rattle.am_index.specs.Entries.{find, insert_entry, IsRising};
+ghost use Rattle.am_index.specs.Places.{IsGapFor};
 ghost use Rattle.am_record.specs.OrderedKey.{bytes_of};
-ghost use Rattle.am_leaf.specs.Seen.{Fits, SameRoom, ValuesHaveRoom};
-ghost use Rattle.am_btree.specs.Grown.{Grows, NowHolds, NowRoomed};
+ghost use Rattle.am_leaf.specs.LeafCode.{Fits, SameRoom, ValuesHaveRoom};
+ghost use Rattle.am_btree.specs.InsertResults.{Grows, NowHolds, NowRoomed};
 ghost use Rattle.am_btree.specs.Rooms.{KeepsRoom, IsWidened};
 ghost use Rattle.am_btree.specs.Nodes.{all_entries, depth_of, leaf_shape, inner_shape, AreFilledChildren, IsInner};
 ghost use Rattle.am_btree.specs.Splits.{lower_size};

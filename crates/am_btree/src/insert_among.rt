@@ -2,9 +2,9 @@
 
 ghost use Rattle.std.specs.Prelude.{◌≡◌, ◌≤◌, length, take, None, option_copied};
 ghost use Rattle.std.specs.List.{AllByRecursion};
-ghost use Rattle.am_list.specs.Entries.{find, all_inserted, IsRising};
-ghost use Rattle.am_leaf.specs.Seen.{ValuesHaveRoom};
-ghost use Rattle.am_btree.specs.Between.{is_below, GoesAmong, HasPut};
+ghost use Rattle.am_index.specs.Entries.{find, all_inserted, IsRising};
+ghost use Rattle.am_leaf.specs.LeafCode.{ValuesHaveRoom};
+ghost use Rattle.am_btree.specs.EntriesBetween.{is_below, GoesAmong, HasPut};
 ghost use Rattle.am_btree.specs.Rooms.{KeepsRoom};
 
 use crate::node::{Node, Subtree};

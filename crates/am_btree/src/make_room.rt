@@ -1,9 +1,9 @@
 //! Getting room for a longer value.
 
 ghost use Rattle.std.specs.Prelude.{◌≡◌, ◌≤◌, IsSome, OnOk, OnErr};
-ghost use Rattle.am_list.specs.Entries.{find, IsRising};
-ghost use Rattle.am_list.specs.Rooms.{HasRoom};
-ghost use Rattle.am_leaf.specs.Seen.{ValuesHaveRoom};
+ghost use Rattle.am_index.specs.Entries.{find, IsRising};
+ghost use Rattle.am_index.specs.Rooms.{HasRoom};
+ghost use Rattle.am_leaf.specs.LeafCode.{ValuesHaveRoom};
 ghost use Rattle.am_btree.specs.Nodes.{leaf_roomy};
 ghost use Rattle.am_btree.specs.Rooms.{IsWidened};
 

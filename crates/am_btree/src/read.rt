@@ -1,15 +1,15 @@
 //! Walks from a place on.
 
 ghost use Rattle.std.specs.Prelude.{◌≡◌, ◌<◌, ◌≤◌, ◌++◌, length, take, slice_get, OnOk, OnErr, vec_capacity};
-ghost use Rattle.am_list.specs.Entries.{first_such, next_ghost, IsRising};
-ghost use Rattle.am_list.specs.Content.{rows_in};
-ghost use Rattle.am_list.specs.Places.{IsUpperBound};
+ghost use Rattle.am_index.specs.Entries.{first_such, next_ghost, IsRising};
+ghost use Rattle.am_index.specs.Content.{rows_in};
+ghost use Rattle.am_index.specs.Places.{IsUpperBound};
 ghost use Rattle.am_btree.specs.Rooms.{IsRoomed};
 ghost use Rattle.am_btree.specs.Seek.{first_from, all_such, IsStart};
 
 use crate::node::{Node, Subtree};
+use am_index::Batch;
 use am_leaf::RawLeaf;
-use am_list::Batch;
 use am_record::{Entry, Key, NoMemory, Range, Value};
 
 // For how many rows room is got at once, where the rows of a range may go on behind a leaf: those of four.

@@ -1,8 +1,8 @@
 //! Taking entries out.
 
 ghost use Rattle.std.specs.Prelude.{◌≡◌, ◌+◌, ◌<◌, ◌≤◌, ◌++◌, [], length, take, drop, Some, IsSome, MatchBool};
-ghost use Rattle.am_list.specs.Entries.{find, entry_at, remove_from, IsRising};
-ghost use Rattle.am_leaf.specs.Seen.{ValuesHaveRoom};
+ghost use Rattle.am_index.specs.Entries.{find, entry_at, remove_from, IsRising};
+ghost use Rattle.am_leaf.specs.LeafCode.{ValuesHaveRoom};
 ghost use Rattle.am_btree.specs.Rooms.{KeepsRoom};
 
 use crate::node::{Node, Subtree};

@@ -1,10 +1,10 @@
 //! Writing over an entry.
 
 ghost use Rattle.std.specs.Prelude.{◌≡◌, ◌≤◌, IsSome, is_some, length};
-ghost use Rattle.am_list.specs.Entries.{find, set_entry, IsRising};
-ghost use Rattle.am_list.specs.Content.{live_value};
-ghost use Rattle.am_list.specs.Rooms.{HasRoom};
-ghost use Rattle.am_leaf.specs.Seen.{ValuesHaveRoom};
+ghost use Rattle.am_index.specs.Entries.{find, set_entry, IsRising};
+ghost use Rattle.am_index.specs.Content.{live_value};
+ghost use Rattle.am_index.specs.Rooms.{HasRoom};
+ghost use Rattle.am_leaf.specs.LeafCode.{ValuesHaveRoom};
 ghost use Rattle.am_btree.specs.Rooms.{KeepsRoom};
 
 use crate::node::{Node, Subtree};

@@ -28,8 +28,8 @@ use Rattle.core.proofs.cell.Inside.{Good}
 use Rattle.std.specs.contracts.alloc.Global as heap
 use Rattle.std.proofs.alloc.Global.TheLaws as heap_laws
 use Rattle.std.specs.contracts.impls.GlobalAllocator.TheImpl.{ghosts}
-use Rattle.am_c.proofs.Loosened.{both, al}
-use Rattle.am_c.specs.Held.{held_owns, store_row}
+use Rattle.am_c.proofs.LooseValues.{both, al}
+use Rattle.am_c.specs.Ownership.{held_owns, store_row}
 use Rattle.am_c.specs.contracts.handle.Handle as handle
 
 abbrev pub Z : RattleType

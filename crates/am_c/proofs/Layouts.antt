@@ -7,7 +7,7 @@ use Rattle.am_record.specs.OrderedKey.{OrderedKey}
 use Rattle.am_record.specs.Plain.{Records}
 use Rattle.am_c.specs.declared.status.Status.{Status}
 use Rattle.am_c.specs.declared.structs.Layout.{Layout}
-use Rattle.am_c.specs.Asking.{of_one}
+use Rattle.am_c.specs.AskedSteps.{of_one}
 use Rattle.am_c.specs.Texts.{of_both}
 use Rattle.am_c.specs.Structs.{struct_given, structs_given}
 

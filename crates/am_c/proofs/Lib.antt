@@ -1,8 +1,8 @@
-mod Cutting
-mod Given
+mod CutLines
+mod GivenRecords
 mod Handles
 mod Layouts
-mod Loosened
+mod LooseValues
 mod Rows
 mod Turns
 mod Wholes

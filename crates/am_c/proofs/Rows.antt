@@ -4,7 +4,7 @@ use Rattle.std.proofs.Common.{refl, ap, arith, sym, subst, ◌∙◌}
 use Rattle.am_record.specs.OrderedKey.{OrderedKey}
 use Rattle.am_c.specs.declared.text.Record.{Record}
 use Rattle.am_c.specs.Texts.{record_as_text}
-use Rattle.am_c.specs.Telling.{rows_in, rows_over}
+use Rattle.am_c.specs.AnswerParts.{rows_in, rows_over}
 use Rattle.std.specs.Prelude.{Option, None, Some, Result, Ok, Err}
 use Rattle.am_record.specs.Interval.{Interval}
 use Rattle.am_record.specs.declared.step.Op.TheVariants.{Scan}
@@ -12,11 +12,11 @@ use Rattle.am_record.specs.declared.step.Step.TheVariants.{Do}
 use Rattle.am_record.specs.declared.step.Reply.{Reply}
 use Rattle.am_record.specs.declared.step.Reply.TheVariants.{Rows}
 use Rattle.am_sound.specs.StoreState.{StoreState}
-use Rattle.am_core.specs.Standing.{IsWithin}
+use Rattle.am_core.specs.StoreSteps.{IsWithin}
 use Rattle.am_c.specs.declared.status.Status.{Status}
-use Rattle.am_c.specs.Asking.{scan_asked, of_one}
+use Rattle.am_c.specs.AskedSteps.{scan_asked, of_one}
 use Rattle.am_c.specs.Texts.{range_given}
-use Rattle.am_c.specs.Taking.{Answers}
+use Rattle.am_c.specs.StoreSteps.{Answers}
 
 pub next_row : (pairs : List (OrderedKey × List ℕ)) (old : List Record) (i : ℕ) (d : OrderedKey × List ℕ) →
     i < length pairs → length pairs ≤ length old

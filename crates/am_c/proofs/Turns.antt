@@ -13,8 +13,8 @@ use Rattle.am_record.specs.declared.step.Reply.TheVariants.{Done, Refused}
 use Rattle.am_record.specs.declared.step.Refusal.TheVariants.{NoMemory}
 use Rattle.am_runs.specs.Cuts.{AreRunsOf, records_of}
 use Rattle.am_sound.specs.StoreState.{StoreState}
-use Rattle.am_c.specs.Taking.{Takes}
-use Rattle.am_c.specs.Loading.{GoesOn, LoadInTurn}
+use Rattle.am_c.specs.StoreSteps.{Takes}
+use Rattle.am_c.specs.Loads.{GoesOn, LoadInTurn}
 
 -- the runs in front of the rest were loaded, which have so many records: loading the rest is loading all
 pub record IsLoading (tx : ℕ) (all : List Records) (old : StoreState) (rest : List Records) (records : ℕ)

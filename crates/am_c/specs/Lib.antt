@@ -1,10 +1,10 @@
-pub mod Asking
-pub mod Held
+pub mod AskedSteps
+pub mod Ownership
 pub mod Lines
-pub mod Loading
+pub mod Loads
 pub mod Statuses
 pub mod StoreFigures
 pub mod Structs
-pub mod Taking
-pub mod Telling
+pub mod StoreSteps
+pub mod AnswerParts
 pub mod Texts

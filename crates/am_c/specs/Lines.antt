@@ -11,7 +11,7 @@ use Rattle.am_c.specs.declared.lines.WrongLine.{WrongLine}
 use Rattle.am_c.specs.declared.runs.Fault.{Fault}
 use Rattle.am_c.specs.declared.status.Status.{Status}
 use Rattle.am_c.specs.declared.status.Status.TheVariants.{BadLine, NoMemory}
-use Rattle.am_c.specs.Loading.{TellsRuns}
+use Rattle.am_c.specs.Loads.{TellsRuns}
 use Rattle.am_c.specs.Texts.{of_both, key_given, value_given}
 
 abbrev pub is_lf : ℕ → Bool

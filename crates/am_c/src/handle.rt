@@ -3,9 +3,9 @@
 
 ghost use Rattle.std.specs.Prelude.{◌≡◌, Option as Maybe, None as Nothing, Some as Just};
 ghost use Rattle.am_sound.specs.StoreState.{StoreState};
-ghost use Rattle.am_core.specs.Keeping.{state_code};
+ghost use Rattle.am_core.specs.StoreContent.{state_code};
 ghost use Rattle.std.specs.Coded.{coded_option};
-ghost use Rattle.am_c.specs.Held.{IsSame};
+ghost use Rattle.am_c.specs.Ownership.{IsSame};
 
 use crate::loose::Loose;
 use am_btree::BTree;
@@ -24,7 +24,7 @@ pub struct Handle {
 }
 
 impl Model for Handle {
-    ghost use Rattle.am_c.specs.Held.{held_owns, store_row};
+    ghost use Rattle.am_c.specs.Ownership.{held_owns, store_row};
 
     ghost also_owns = { λ h. held_owns store_row h.alloc h.at h.held };
 }

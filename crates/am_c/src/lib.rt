@@ -1,7 +1,7 @@
 //! A store for C.
 #![tactic(auto)]
 
-mod asking;
+mod asked_steps;
 mod figures;
 mod handle;
 mod lines;
@@ -12,7 +12,7 @@ mod records;
 mod runs;
 mod status;
 mod store;
+mod store_steps;
 mod structs;
-mod taking;
 mod text;
 mod transactions;

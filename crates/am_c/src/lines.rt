@@ -6,7 +6,7 @@ ghost use Rattle.am_c.specs.Lines.{lines_of, record_of, line_given, text_given, 
 
 use crate::status::Status;
 use crate::text::{key_given, value_given};
-use am_record::{Key, Pairs, Value};
+use am_record::{Key, Records, Value};
 use std::alloc::Global;
 
 /// A line that is no record.
@@ -19,14 +19,14 @@ pub struct WrongLine {
 
 /// The pairs of a text, or what is wrong with the first line that isn't one; or NoMemory. The number of that line goes
 /// out, or 0.
-pub(crate) fn text_asked(alloc: Global, text: &[u8], line: &mut u64) -> Result<Pairs, Status>
+pub(crate) fn text_asked(alloc: Global, text: &[u8], line: &mut u64) -> Result<Records, Status>
     ensures { IsRead text.now result line.new }
 {
     let mut pairs = Vec::new(alloc);
     match add_lines(text, &mut pairs) {
         Ok(()) => {
             *line = 0;
-            Ok(Pairs::new(pairs))
+            Ok(Records::new(pairs))
         }
         Err(wrong) => {
             *line = wrong.number;

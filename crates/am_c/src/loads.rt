@@ -1,19 +1,19 @@
 //! The calls that load records in any order.
 
 ghost use Rattle.std.specs.Prelude.{◌≡◌};
-ghost use Rattle.am_c.specs.Asking.{pairs_given};
-ghost use Rattle.am_c.specs.Taking.{status, number};
+ghost use Rattle.am_c.specs.AskedSteps.{pairs_given};
+ghost use Rattle.am_c.specs.StoreSteps.{status, number};
 ghost use Rattle.am_c.specs.Lines.{TellsText};
-ghost use Rattle.am_c.specs.Loading.{TellsRuns, given_by, without_key, load_key_told};
+ghost use Rattle.am_c.specs.Loads.{TellsRuns, given_by, without_key, load_key_told};
 ghost use Rattle.am_c.specs.Structs.{structs_given};
 
-use crate::asking::pairs_asked;
+use crate::asked_steps::pairs_asked;
 use crate::handle::Handle;
 use crate::lines::text_asked;
 use crate::runs::{load_given, tell_load_key, without_key};
 use crate::status::Status;
+use crate::store_steps::{number_told, status_told};
 use crate::structs::{Layout, Structs, structs_asked};
-use crate::taking::{number_told, status_told};
 use crate::text::{KeyText, Record};
 use am_runs::RecordSource;
 use std::alloc::Global;

@@ -1,15 +1,15 @@
 //! The calls of ranges and of many records.
 
 ghost use Rattle.std.specs.Prelude.{◌≡◌, ◌≤◌, ◌+◌, length};
-ghost use Rattle.am_c.specs.Asking.{scan_asked, lock_asked, IsLoadAsked};
-ghost use Rattle.am_c.specs.Taking.{Tells, status, number};
-ghost use Rattle.am_c.specs.Telling.{all, without_first, rows_behind, rows_over, rows_told, count_told, key_told};
-ghost use Rattle.am_c.specs.Telling.{rows_in, TellsLoad};
+ghost use Rattle.am_c.specs.AskedSteps.{scan_asked, lock_asked, IsLoadAsked};
+ghost use Rattle.am_c.specs.StoreSteps.{Tells, status, number};
+ghost use Rattle.am_c.specs.AnswerParts.{all, without_first, rows_behind, rows_over, rows_told, count_told, key_told};
+ghost use Rattle.am_c.specs.AnswerParts.{rows_in, TellsLoad};
 
-use crate::asking::{load_asked, lock_asked, scan_asked};
+use crate::asked_steps::{load_asked, lock_asked, scan_asked};
 use crate::handle::Handle;
 use crate::status::Status;
-use crate::taking::{number_told, status_told, take_step, tell};
+use crate::store_steps::{number_told, status_told, take_step, tell};
 use crate::text::{KeyText, Record};
 use am_record::{Key, Reply, Value};
 use std::alloc::Global;

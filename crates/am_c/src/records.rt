@@ -1,14 +1,14 @@
 //! The calls of single records.
 
 ghost use Rattle.std.specs.Prelude.{◌≡◌};
-ghost use Rattle.am_c.specs.Asking.{get_asked, insert_asked, replace_asked, delete_asked};
-ghost use Rattle.am_c.specs.Taking.{Tells, status, number};
-ghost use Rattle.am_c.specs.Telling.{value_told};
+ghost use Rattle.am_c.specs.AskedSteps.{get_asked, insert_asked, replace_asked, delete_asked};
+ghost use Rattle.am_c.specs.StoreSteps.{Tells, status, number};
+ghost use Rattle.am_c.specs.AnswerParts.{value_told};
 
-use crate::asking::{delete_asked, get_asked, insert_asked, replace_asked};
+use crate::asked_steps::{delete_asked, get_asked, insert_asked, replace_asked};
 use crate::handle::Handle;
 use crate::status::Status;
-use crate::taking::{number_told, status_told, take_step, tell};
+use crate::store_steps::{number_told, status_told, take_step, tell};
 use crate::text::ValueText;
 use am_record::Reply;
 use std::alloc::Global;

@@ -2,15 +2,15 @@
 
 ghost use Rattle.std.specs.Prelude.{◌≡◌, ◌<◌, ◌^◌, [], Some, Ok, Err, length};
 ghost use Rattle.am_runs.specs.Cuts.{records_of};
-ghost use Rattle.am_c.specs.Loading.{fault_of, given_by, without_key, load_key_told, LoadInTurn, Loads};
+ghost use Rattle.am_c.specs.Loads.{fault_of, given_by, without_key, load_key_told, LoadInTurn, Loads};
 
 use crate::handle::Handle;
 use crate::status::Status;
-use crate::taking::take_there;
+use crate::store_steps::take_there;
 use crate::text::KeyText;
 use am_btree::BTree;
 use am_core::Store;
-use am_record::{Key, MAX_RUN_RECORDS, Op, Pairs, Refusal, Reply, Step};
+use am_record::{Key, MAX_RUN_RECORDS, Op, Records, Refusal, Reply, Step};
 use am_runs::{Cut, LoadFault, RecordSource, cut_source};
 use std::alloc::Global;
 
@@ -89,7 +89,7 @@ fn load_source<S: RecordSource>(
 fn load_none(alloc: Global, store: &mut Box<Store<BTree>>, tx: u64) -> Loaded
     ensures { Loads (Some store.old.value) tx (Ok []) result.records result.answer (Some store.new.value) }
 {
-    let none = Pairs::new(Vec::new(alloc));
+    let none = Records::new(Vec::new(alloc));
     Loaded {
         records: 0,
         answer: Ok(take_there(store, Step::Do(tx, Op::Load(none)))),
@@ -110,7 +110,7 @@ fn load_in_turn<S: RecordSource>(
     let mut records = 0;
     loop {
         let run = match runs.next(alloc) {
-            Ok(Some(run)) => Pairs::new(run.into_pairs()),
+            Ok(Some(run)) => Records::new(run.into_pairs()),
             Ok(None) => return (records, Reply::Done),
             Err(_) => return (records, Reply::Refused(Refusal::NoMemory)),
         };

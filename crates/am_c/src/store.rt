@@ -2,13 +2,13 @@
 
 ghost use Rattle.std.specs.Prelude.{◌≡◌, None, Ok, IfOk, length};
 ghost use Rattle.am_record.specs.declared.step.Step.TheVariants.{Merge};
-ghost use Rattle.am_c.specs.Asking.{clean_asked};
-ghost use Rattle.am_c.specs.Taking.{Tells, Opens, IsNew, Closes, Counts, status, number};
+ghost use Rattle.am_c.specs.AskedSteps.{clean_asked};
+ghost use Rattle.am_c.specs.StoreSteps.{Tells, Opens, IsNew, Closes, Counts, status, number};
 
-use crate::asking::clean_asked;
+use crate::asked_steps::clean_asked;
 use crate::handle::Handle;
 use crate::status::Status;
-use crate::taking::tell;
+use crate::store_steps::tell;
 use am_btree::BTree;
 use am_core::Store;
 use am_record::{HashKey, NoMemory, Step};

@@ -3,12 +3,12 @@
 ghost use Rattle.std.specs.Prelude.{◌≡◌, ◌≤◌, ◌↔◌, ◌⊎◌, ◌+◌, ◌*◌, [], nat_le, length, IsTrue};
 ghost use Rattle.std.specs.Prelude.{IsSome, IfSome, OnOk, IfErr, Ok, Err};
 ghost use Rattle.am_c.specs.declared.status.Status.TheVariants.{NoMemory};
-ghost use Rattle.am_c.specs.Asking.{IsCopied};
+ghost use Rattle.am_c.specs.AskedSteps.{IsCopied};
 ghost use Rattle.am_c.specs.Structs.{key_in, value_in, struct_given, structs_given, struct_at, IsSound};
 
 use crate::status::Status;
 use crate::text::{key_given, value_given};
-use am_record::{Key, MAX_KEY_LEN, MAX_VALUE_LEN, Pairs, Value};
+use am_record::{Key, MAX_KEY_LEN, MAX_VALUE_LEN, Records, Value};
 use am_runs::RecordSource;
 use std::alloc::Global;
 use std::marker::Model;
@@ -148,14 +148,14 @@ pub(crate) fn structs_asked(
     structs: &[u8],
     count: usize,
     layout: &Layout,
-) -> Result<Pairs, Status>
+) -> Result<Records, Status>
     ensures { IsCopied (structs_given layout.now structs.now count) result }
 {
     let Ok(mut pairs) = Vec::with_capacity(alloc, count) else {
         return Err(Status::NoMemory);
     };
     match add_structs(structs, count, layout, &mut pairs) {
-        Ok(()) => Ok(Pairs::new(pairs)),
+        Ok(()) => Ok(Records::new(pairs)),
         Err(why) => Err(why),
     }
 }

@@ -16,7 +16,7 @@ use Rattle.clap.proofs.OnLiterals.{clap_on_literals}
 use Rattle.am_command.specs.Faults.{IsFaultOf, Refuses, is_request}
 use Rattle.am_command.specs.Options.{IsCommand, Names, Selects, Sets, SetsIfGiven, amserve_app}
 use Rattle.am_command.specs.declared.amserve.Setting.{Setting}
-use Rattle.am_command.specs.Audited.{AsksFor, NamesAudited, amaudit_app}
+use Rattle.am_command.specs.AuditCommand.{AsksFor, NamesAudited, amaudit_app}
 use Rattle.am_command.specs.declared.choice.Audited.{Audited}
 use Rattle.am_command.specs.declared.choice.Options.{Options}
 use Rattle.am_command.specs.declared.fault.OptionsFault.{OptionsFault}

@@ -2,7 +2,7 @@
 
 ghost use Rattle.std.specs.Prelude.{◌≡◌, IfErr, IfOk, map};
 ghost use Rattle.clap.specs.Words.{app_of, found_of, rows_of};
-ghost use Rattle.am_command.specs.Audited.{AsksFor, NamesAudited, amaudit_app};
+ghost use Rattle.am_command.specs.AuditCommand.{AsksFor, NamesAudited, amaudit_app};
 ghost use Rattle.am_command.specs.Faults.{Refuses};
 
 use crate::amserve::flag;

@@ -8,13 +8,13 @@ use Rattle.am_record.specs.Asks.{lock_of, with_asked}
 use Rattle.am_record.specs.declared.lock.Lock.{Lock}
 use Rattle.am_record.specs.declared.step.Op.{Op}
 use Rattle.am_record.specs.declared.step.Reply.{Reply}
-use Rattle.am_record.specs.Numbered.{of_number, with_changed, without_number, RiseBy}
+use Rattle.am_record.specs.ByNumber.{of_number, with_changed, without_number, RiseBy}
 use Rattle.am_record.proofs.Bodies.{asked_behind}
 use Rattle.am_record.proofs.Lists.{AllByRecursion-map}
-use Rattle.am_record.proofs.Numbered.{has_number-map, of_number-map, of_number-told, of_number-known, of_number-none}
-use Rattle.am_record.proofs.Numbered.{map-there, with_changed-map, with_changed-twice, without_number-with_changed}
-use Rattle.am_record.proofs.Numbered.{without_number-map, has_number-without_number, RiseBy-map, RiseBy-map_back}
-use Rattle.am_record.proofs.Numbered.{AreOnce-RiseBy, each_found}
+use Rattle.am_record.proofs.ByNumber.{has_number-map, of_number-map, of_number-told, of_number-known, of_number-none}
+use Rattle.am_record.proofs.ByNumber.{map-there, with_changed-map, with_changed-twice, without_number-with_changed}
+use Rattle.am_record.proofs.ByNumber.{without_number-map, has_number-without_number, RiseBy-map, RiseBy-map_back}
+use Rattle.am_record.proofs.ByNumber.{AreOnce-RiseBy, each_found}
 use Rattle.std.proofs.lemmas.Simd.{map-map}
 use Rattle.am_locks.specs.OwnerLocks.{OwnerLocks}
 use Rattle.am_locks.specs.Table.{is_owner, locks_owned, entered, with_locks, without_owner}
@@ -30,7 +30,7 @@ use Rattle.am_effect.specs.Store.{notes_left, marks_left}
 use Rattle.am_sound.specs.StoreState.{Active, is_in, in_table, newcomer, without_tx, with_op}
 use Rattle.am_sound.specs.Tables.{owners_of}
 use Rattle.am_sound.specs.Tables as tables
-use Rattle.am_core.specs.Keeping.{active_with, actives}
+use Rattle.am_core.specs.StoreContent.{active_with, actives}
 use Rattle.am_core.specs.Admission.{HasLocks}
 
 -- ---- what is known of a transaction

@@ -16,7 +16,7 @@ use Rattle.am_tx.proofs.Consistent.{is_owner-is_active_in}
 use Rattle.am_record.specs.Refusals.{is_one_too_many, lock_refusal}
 use Rattle.am_sound.specs.StoreState.{Active, blocker_in}
 use Rattle.am_sound.specs.Tables.{TableLaws}
-use Rattle.am_core.specs.Keeping.{actives}
+use Rattle.am_core.specs.StoreContent.{actives}
 use Rattle.am_core.specs.Admission.{lock_refusal_for, IsLockRefusal, HasLocks, IsLockGranted}
 use Rattle.am_core.proofs.Actives.{owners_of-actives, rise-actives}
 

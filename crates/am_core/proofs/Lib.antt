@@ -1,9 +1,9 @@
 pub mod Actives
-pub mod Endings
+pub mod TransactionEnds
 pub mod Grants
 pub mod Operations
 pub mod Merges
-pub mod Reaching
+pub mod StepsKeep
 mod Rooms
-pub mod Standings
-pub mod Listings
+pub mod StoreSteps
+pub mod EntryWalks

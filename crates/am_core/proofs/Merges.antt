@@ -11,13 +11,14 @@ use Rattle.am_record.specs.declared.step.Step.TheVariants.{Merge, Clean}
 use Rattle.am_record.specs.declared.step.Reply.{Reply}
 use Rattle.am_record.specs.declared.step.Reply.TheVariants.{Refused}
 use Rattle.am_parts.specs.Partitions.{Partitions}
-use Rattle.am_merge.specs.Holding.{holder_of}
+use Rattle.am_merge.specs.LockHolders.{holder_of}
 use Rattle.am_tx.specs.Txs.{Txs, IsConsistent}
 use Rattle.am_record.specs.Refusals.{is_limit}
-use Rattle.am_effect.specs.Merging.{Holders, all_worked_off, MergeRight, merged_by, wishes_left, CleanRight, cleaned_by}
+use Rattle.am_effect.specs.MergeAnswers.{Holders, all_worked_off, MergeRight, merged_by, wishes_left, CleanRight}
+use Rattle.am_effect.specs.MergeAnswers.{cleaned_by}
 use Rattle.am_sound.specs.StoreState.{Active, holder_in, MayAnswer, state_after}
 use Rattle.am_sound.specs.Tables.{owners_of}
-use Rattle.am_core.specs.Keeping.{state_kept, actives}
+use Rattle.am_core.specs.StoreContent.{state_kept, actives}
 use Rattle.am_core.proofs.Actives.{owners_of-actives}
 
 -- ---- who holds what

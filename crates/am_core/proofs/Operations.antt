@@ -16,17 +16,17 @@ use Rattle.am_record.specs.declared.step.Op.TheVariants.{Get, Scan, Insert, Repl
 use Rattle.am_record.specs.declared.step.Step.TheVariants.{Do}
 use Rattle.am_record.specs.declared.step.Reply.{Reply}
 use Rattle.am_record.specs.declared.step.Reply.TheVariants.{Done, NoMark, Exists, Missing, Refused}
-use Rattle.am_list.specs.Entries.{find}
-use Rattle.am_list.specs.Content.{content}
-use Rattle.am_list.specs.Rooms.{needs_room}
+use Rattle.am_index.specs.Entries.{find}
+use Rattle.am_index.specs.Content.{content}
+use Rattle.am_index.specs.Rooms.{needs_room}
 use Rattle.am_parts.specs.Partitions.{Partitions}
 use Rattle.am_undo.specs.Log.{Log}
 use Rattle.am_record.specs.Marks.{since_mark, has_mark}
 use Rattle.am_locks.specs.Table.{locks_owned, with_locks}
 use Rattle.am_tx.specs.Active.{is_active_in, ops_in, log_in}
 use Rattle.am_tx.specs.Txs.{Txs, IsConsistent, with_log, txs_after_op}
-use Rattle.am_record.specs.Numbered.{with_changed}
-use Rattle.am_record.proofs.Numbered.{has_number-with_changed, of_number-kept}
+use Rattle.am_record.specs.ByNumber.{with_changed}
+use Rattle.am_record.proofs.ByNumber.{has_number-with_changed, of_number-kept}
 use Rattle.am_tx.specs.declared.transaction.Transaction.{Transaction}
 use Rattle.am_record.specs.Refusals.{refusal_before_lock, is_one_too_many, lock_refusal, or_else}
 use Rattle.am_serial.specs.Trace.{runs_made}
@@ -35,10 +35,10 @@ use Rattle.am_effect.specs.Store.{changed, noted, notes_left, marks_left, wished
 use Rattle.am_sound.specs.Represents.{stored_answer}
 use Rattle.am_sound.specs.StoreState.{StoreState, is_in, in_table, MayAnswer, refusal_in, takes_memory, state_after_op}
 use Rattle.am_sound.specs.StoreState.{with_op, taken_back_to_mark, blocker_in}
-use Rattle.am_core.specs.Keeping.{state_kept, actives}
+use Rattle.am_core.specs.StoreContent.{state_kept, actives}
 use Rattle.am_core.specs.Memory.{adds_ninth_lock, adds_fifth_note, adds_third_mark, outgrows_live, may_want_room}
 use Rattle.am_core.specs.Admission.{lock_refusal_for, IsLockRefusal, HasLocks, IsLockGranted, wish_of}
-use Rattle.am_core.specs.Doing.{MayWantRoom, Works, LeavesAllAlone}
+use Rattle.am_core.specs.OperationSteps.{MayWantRoom, Works, LeavesAllAlone}
 use Rattle.am_core.proofs.Actives.{is_in-actives, ops-actives, notes-actives, marks-actives, locks-actives, actives-did}
 use Rattle.am_core.proofs.Actives.{actives-undid}
 

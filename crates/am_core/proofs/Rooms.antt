@@ -13,23 +13,23 @@ use Rattle.am_record.specs.declared.step.Step.TheVariants.{Begin, Do, Commit, Ab
 use Rattle.am_record.specs.declared.step.Reply.{Reply}
 use Rattle.am_record.specs.declared.step.Reply.TheVariants.{Begun, Committed, Aborted, Done, Refused}
 use Rattle.am_record.proofs.Lists.{AllByRecursion-append}
-use Rattle.am_list.specs.Entries.{Slot, slot_of, find, IsRising}
-use Rattle.am_list.specs.Rooms.{HasRoom, HaveRoom, KeepRoom, needs_room}
-use Rattle.am_list.proofs.Rooms.{room_over}
-use Rattle.am_list.proofs.WalkLaws.{first_stands}
+use Rattle.am_index.specs.Entries.{Slot, slot_of, find, IsRising}
+use Rattle.am_index.specs.Rooms.{HasRoom, HaveRoom, KeepRoom, needs_room}
+use Rattle.am_index.proofs.Rooms.{room_over}
+use Rattle.am_index.proofs.WalkLaws.{first_stands}
 use Rattle.am_parts.specs.Partitions.{IsLiveEntry}
 use Rattle.am_undo.specs.declared.note.Note.{Note}
 use Rattle.am_undo.specs.Log.{Log}
 use Rattle.am_undo.specs.Notes.{NoteFits, NotesFit}
 use Rattle.am_undo.proofs.Fits.{fits_on, fits_until}
 use Rattle.am_effect.specs.Store.{find_live, noted, notes_left, note_of_slot, note_of_entry, is_live}
-use Rattle.am_record.proofs.Numbered.{of_number-none, of_number-without_other, has_number-without_number}
-use Rattle.am_record.proofs.Numbered.{changed_number}
+use Rattle.am_record.proofs.ByNumber.{of_number-none, of_number-without_other, has_number-without_number}
+use Rattle.am_record.proofs.ByNumber.{changed_number}
 use Rattle.am_sound.specs.StoreState.{Active, StoreState, IsFit, state_after, state_after_op, in_table, is_in, newcomer}
 use Rattle.am_sound.specs.StoreState.{with_op}
 use Rattle.am_sound.specs.StoreState.{without_tx}
 use Rattle.am_core.specs.Memory.{outgrows_live}
-use Rattle.am_core.specs.Doing.{MayWantRoom}
+use Rattle.am_core.specs.OperationSteps.{MayWantRoom}
 
 -- ---- what wants memory
 

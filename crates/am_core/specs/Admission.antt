@@ -11,7 +11,7 @@ use Rattle.am_locks.specs.Table.{is_owner, locks_owned}
 use Rattle.am_tx.specs.Txs.{Txs}
 use Rattle.am_record.specs.Refusals.{is_one_too_many, lock_refusal}
 use Rattle.am_sound.specs.StoreState.{blocker_in}
-use Rattle.am_core.specs.Keeping.{actives}
+use Rattle.am_core.specs.StoreContent.{actives}
 use Rattle.am_core.specs.Memory.{adds_ninth_lock}
 
 -- the refusal that is due for the lock that is asked for

@@ -1,7 +1,7 @@
 -- What the store's fields keep together.
 use Rattle.am_sound.specs.StoreState.{StoreState}
 use Rattle.am_core.specs.declared.inner.Inner.{Inner}
-use Rattle.am_core.specs.Keeping.{actives, state_kept}
+use Rattle.am_core.specs.StoreContent.{actives, state_kept}
 use Rattle.am_core.specs.Rooms.{HaveTheirRoom}
 
 abbrev pub inner_state : {I : Type 0} → Inner I → StoreState

@@ -1,8 +1,8 @@
-pub mod Doing
+pub mod OperationSteps
 pub mod Memory
 pub mod Rooms
-pub mod Keeping
+pub mod StoreContent
 pub mod InnerState
 pub mod Admission
-pub mod Standing
-pub mod Listing
+pub mod StoreSteps
+pub mod EntryWalks

@@ -9,9 +9,9 @@ use Rattle.am_record.specs.declared.step.Op.TheVariants.{Get, Scan, Insert, Repl
 use Rattle.am_record.specs.declared.step.Op.TheVariants.{Mark, Back}
 use Rattle.am_record.specs.declared.step.Step.{Step}
 use Rattle.am_record.specs.declared.step.Step.TheVariants.{Do, Merge}
-use Rattle.am_list.specs.Entries.{find}
-use Rattle.am_list.specs.Content.{content}
-use Rattle.am_list.specs.Rooms.{outgrows, needs_room}
+use Rattle.am_index.specs.Entries.{find}
+use Rattle.am_index.specs.Content.{content}
+use Rattle.am_index.specs.Rooms.{outgrows, needs_room}
 use Rattle.am_undo.specs.declared.note.Note.{Note}
 use Rattle.am_sound.specs.StoreState.{Active, StoreState, in_table}
 

@@ -1,6 +1,6 @@
 -- Room for the values that a store keeps, and for those that it may have to set back.
 use Rattle.std.specs.Prelude.{ℕ, List}
-use Rattle.am_list.specs.Rooms.{HaveRoom}
+use Rattle.am_index.specs.Rooms.{HaveRoom}
 use Rattle.am_parts.specs.Partitions.{Partitions}
 use Rattle.am_undo.specs.Notes.{NotesFit}
 use Rattle.am_sound.specs.StoreState.{Active, in_table}

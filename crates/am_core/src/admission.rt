@@ -6,7 +6,7 @@ ghost use Rattle.am_tx.specs.Active.{is_active_in, ops_in};
 ghost use Rattle.am_record.specs.Refusals.{refusal_before_lock};
 ghost use Rattle.am_core.specs.Admission.{IsLockRefusal, IsLockGranted, wish_of};
 
-use am_list::PartIndex;
+use am_index::PartIndex;
 use am_locks::Asked;
 use am_parts::Parts;
 use am_record::{Lock, Op, Range, Refusal};

@@ -3,7 +3,7 @@
 ghost use Rattle.std.specs.Prelude.{◌≡◌, ◌++◌, ◌∷◌, List, slice_get, IfOk};
 ghost use Rattle.am_record.specs.declared.entry.Entry.{Entry as TheEntry};
 
-use am_list::PartIndex;
+use am_index::PartIndex;
 use am_parts::Parts;
 use am_record::{Entry, Key, NoMemory};
 use std::alloc::Global;

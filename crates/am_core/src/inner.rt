@@ -2,13 +2,13 @@
 
 ghost use Rattle.std.specs.Prelude.{◌≡◌, ◌+◌, ◌≤◌, ◌^◌, length, true};
 ghost use Rattle.am_record.specs.declared.step.Refusal.TheVariants.{NoMemory};
-ghost use Rattle.am_list.specs.Rooms.{KeepRoom};
+ghost use Rattle.am_index.specs.Rooms.{KeepRoom};
 ghost use Rattle.am_sound.specs.StoreState.{MayAnswer, state_after, IsFit};
 ghost use Rattle.am_core.specs.Memory.{may_want_memory};
-ghost use Rattle.am_core.specs.Standing.{KeepsContent};
+ghost use Rattle.am_core.specs.StoreSteps.{KeepsContent};
 ghost use Rattle.am_core.specs.InnerState.{inner_state, HasRooms};
 
-use am_list::PartIndex;
+use am_index::PartIndex;
 use am_merge::Wishes;
 use am_parts::Parts;
 use am_record::{Reply, Step};

@@ -8,11 +8,11 @@ mod loads;
 mod maintenance;
 mod operation;
 mod reads;
-mod running;
 mod savepoints;
+mod step_lists;
 mod store;
 mod transactions;
 mod writes;
 
-pub use running::run;
+pub use step_lists::run;
 pub use store::Store;

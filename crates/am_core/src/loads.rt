@@ -2,14 +2,14 @@
 
 ghost use Rattle.std.specs.Prelude.{◌≡◌, ◌<◌, true, IfOk, OnErr};
 ghost use Rattle.am_record.specs.Plain.{is_rising};
-ghost use Rattle.am_list.specs.Rooms.{HaveRoom, KeepRoom};
-ghost use Rattle.am_list.specs.Runs.{NothingAbove};
-ghost use Rattle.am_core.specs.Doing.{IsDone, LeavesAlone};
+ghost use Rattle.am_index.specs.Rooms.{HaveRoom, KeepRoom};
+ghost use Rattle.am_index.specs.Runs.{NothingAbove};
+ghost use Rattle.am_core.specs.OperationSteps.{IsDone, LeavesAlone};
 ghost use Rattle.am_record.specs.declared.step.Op.TheVariants.{Load};
 
-use am_list::PartIndex;
+use am_index::PartIndex;
 use am_parts::Parts;
-use am_record::{NoMemory, Pairs, Reply};
+use am_record::{NoMemory, Records, Reply};
 use am_runs::{Run, load};
 use am_undo::{Note, UndoLog};
 
@@ -18,7 +18,7 @@ use am_undo::{Note, UndoLog};
 pub(crate) fn load_pairs<I: PartIndex + Drop>(
     parts: &mut Parts<I>,
     log: &mut UndoLog,
-    pairs: Pairs,
+    pairs: Records,
 ) -> Result<Reply, NoMemory>
     requires rising { is_rising pairs ≡ true }
     requires room { parts.old.runs < 65535 }

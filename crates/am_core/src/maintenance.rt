@@ -2,13 +2,13 @@
 
 ghost use Rattle.std.specs.Prelude.{◌≡◌};
 ghost use Rattle.am_record.specs.declared.step.Step.TheVariants.{Merge, Clean};
-ghost use Rattle.am_list.specs.Content.{content};
-ghost use Rattle.am_list.specs.Rooms.{KeepRoom};
+ghost use Rattle.am_index.specs.Content.{content};
+ghost use Rattle.am_index.specs.Rooms.{KeepRoom};
 ghost use Rattle.am_sound.specs.StoreState.{MayAnswer, state_after};
 ghost use Rattle.am_core.specs.InnerState.{inner_state, HasRooms};
 
 use crate::inner::Inner;
-use am_list::PartIndex;
+use am_index::PartIndex;
 use am_merge::{clean_step, merge_step};
 use am_record::{Range, Refusal, Reply, is_limit};
 

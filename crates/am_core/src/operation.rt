@@ -4,16 +4,16 @@ ghost use Rattle.std.specs.Prelude.{◌≡◌, true, false, ◌&&◌, nat_le, If
 ghost use Rattle.am_record.specs.Plain.{is_orderly};
 ghost use Rattle.am_record.specs.declared.step.Step.TheVariants.{Do};
 ghost use Rattle.am_record.specs.declared.step.Refusal.TheVariants.{NoMemory as OutOfMemory};
-ghost use Rattle.am_list.specs.Entries.{find};
-ghost use Rattle.am_list.specs.Rooms.{HaveRoom, KeepRoom};
+ghost use Rattle.am_index.specs.Entries.{find};
+ghost use Rattle.am_index.specs.Rooms.{HaveRoom, KeepRoom};
 ghost use Rattle.am_record.specs.Marks.{since_mark};
 ghost use Rattle.am_undo.specs.Notes.{CanTakeBack, NotesFit};
-ghost use Rattle.am_list.specs.Runs.{NothingAbove};
+ghost use Rattle.am_index.specs.Runs.{NothingAbove};
 ghost use Rattle.am_tx.specs.Active.{is_active_in, log_in};
 ghost use Rattle.am_record.specs.Refusals.{is_load};
 ghost use Rattle.am_sound.specs.StoreState.{MayAnswer, state_after, IsFit};
 ghost use Rattle.am_effect.specs.Store.{with_wish};
-ghost use Rattle.am_core.specs.Doing.{IsDone, LeavesAlone, MayWantRoom, Works, LeavesAllAlone};
+ghost use Rattle.am_core.specs.OperationSteps.{IsDone, LeavesAlone, MayWantRoom, Works, LeavesAllAlone};
 ghost use Rattle.am_core.specs.Memory.{may_want_memory};
 ghost use Rattle.am_core.specs.InnerState.{inner_state, HasRooms};
 
@@ -23,10 +23,10 @@ use crate::loads::load_pairs;
 use crate::reads::get;
 use crate::savepoints::go_back;
 use crate::writes::{delete, insert, replace};
-use am_list::PartIndex;
+use am_index::PartIndex;
 use am_merge::Wishes;
 use am_parts::Parts;
-use am_record::{NoMemory, Op, Pairs, Range, Refusal, Reply};
+use am_record::{NoMemory, Op, Range, Records, Refusal, Reply};
 use am_scan::scan;
 use am_tx::TxTable;
 use am_undo::UndoLog;
@@ -44,7 +44,7 @@ impl<I: PartIndex + Drop> Inner<I> {
         ensures memory { result ≡ Reply.Refused OutOfMemory → may_want_memory (inner_state self.old) (Do tx op) ≡ true }
         ensures rooms { KeepRoom self.old.parts.roomy self.new.parts.roomy self.new.parts.entries }
     {
-        am_list::runs_follow();
+        am_index::runs_follow();
         // Each call below then finds it without a search.
         self.txs.seek(tx);
         if let Some(why) = refusal(&self.parts, &self.txs, tx, &op) {
@@ -120,7 +120,7 @@ fn carry_out<I: PartIndex + Drop>(
         Op::Get(key) => Ok(get(parts, key)),
         Op::Scan(range, max) => {
             let rows = scan(alloc, parts, range, max)?;
-            Ok(Reply::Rows(Pairs::new(rows)))
+            Ok(Reply::Rows(Records::new(rows)))
         }
         Op::Insert(key, value) => insert(parts, log, key, value),
         Op::Replace(key, value) => replace(parts, log, key, value),

@@ -3,11 +3,11 @@
 ghost use Rattle.std.specs.Prelude.{◌≡◌, Some, None, IfSome, IfNone};
 ghost use Rattle.std.specs.FinMap.{get};
 ghost use Rattle.am_record.specs.Plain.{found};
-ghost use Rattle.am_list.specs.Content.{content};
+ghost use Rattle.am_index.specs.Content.{content};
 ghost use Rattle.am_parts.specs.Partitions.{AreWellFormed, IsLiveEntry};
 ghost use Rattle.am_effect.specs.Store.{find_live};
 
-use am_list::PartIndex;
+use am_index::PartIndex;
 use am_parts::Parts;
 use am_record::{Entry, Key, Reply};
 

@@ -1,14 +1,14 @@
 //! Mark and Back.
 
 ghost use Rattle.std.specs.Prelude.{◌≡◌, IfOk, OnErr};
-ghost use Rattle.am_list.specs.Entries.{find};
-ghost use Rattle.am_list.specs.Rooms.{KeepRoom};
+ghost use Rattle.am_index.specs.Entries.{find};
+ghost use Rattle.am_index.specs.Rooms.{KeepRoom};
 ghost use Rattle.am_record.specs.Marks.{since_mark};
 ghost use Rattle.am_undo.specs.Notes.{CanTakeBack, NotesFit};
-ghost use Rattle.am_core.specs.Doing.{IsDone};
+ghost use Rattle.am_core.specs.OperationSteps.{IsDone};
 ghost use Rattle.am_record.specs.declared.step.Op.TheVariants.{Back};
 
-use am_list::PartIndex;
+use am_index::PartIndex;
 use am_parts::Parts;
 use am_record::Reply;
 use am_undo::UndoLog;

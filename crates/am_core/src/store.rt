@@ -3,17 +3,17 @@
 ghost use Rattle.std.specs.Prelude.{◌≡◌, ◌+◌, ◌≤◌, ◌^◌, [], ◌∷◌, true, length, IfOk};
 ghost use Rattle.am_record.specs.declared.step.Refusal.{Refusal as TheRefusal};
 ghost use Rattle.am_record.specs.declared.step.Refusal.TheVariants.{NoMemory as OutOfMemory};
-ghost use Rattle.am_list.specs.Entries.{next_ghost};
-ghost use Rattle.am_list.specs.Rooms.{KeepRoom};
+ghost use Rattle.am_index.specs.Entries.{next_ghost};
+ghost use Rattle.am_index.specs.Rooms.{KeepRoom};
 ghost use Rattle.am_sound.specs.StoreState.{empty_state, IsFit, MayAnswer, state_after};
 ghost use Rattle.am_parts.specs.Figures.{AreFigures};
 ghost use Rattle.am_core.specs.Memory.{may_want_memory};
-ghost use Rattle.am_core.specs.Standing.{IsSoundAt, Extends, IsWithin, KeepsContent};
+ghost use Rattle.am_core.specs.StoreSteps.{IsSoundAt, Extends, IsWithin, KeepsContent};
 ghost use Rattle.am_core.specs.InnerState.{inner_state, HasRooms};
 
 use crate::entries::all_entries;
 use crate::inner::Inner;
-use am_list::PartIndex;
+use am_index::PartIndex;
 use am_merge::Wishes;
 use am_parts::{Figures, Parts};
 use am_record::{Entry, HashKey, Key, NoMemory, Reply, Step};
@@ -30,7 +30,7 @@ pub struct Store<I: PartIndex + Drop> {
 
 impl<I: PartIndex + Drop> Model for Store<I> {
     ghost use Rattle.am_sound.specs.StoreState.{StoreState};
-    ghost use Rattle.am_core.specs.Keeping.{state_code, IsReached};
+    ghost use Rattle.am_core.specs.StoreContent.{state_code, IsReached};
     ghost use Rattle.am_core.specs.InnerState.{inner_state, HasRooms};
 
     ghost Value = { StoreState };

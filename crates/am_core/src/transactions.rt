@@ -3,15 +3,15 @@
 ghost use Rattle.std.specs.Prelude.{◌≡◌, ◌+◌, ◌≤◌, ◌<◌, ◌^◌, length, true};
 ghost use Rattle.am_record.specs.declared.step.Step.TheVariants.{Begin, Commit, Abort};
 ghost use Rattle.am_sound.specs.StoreState.{MayAnswer, state_after, IsFit};
-ghost use Rattle.am_list.specs.Entries.{find};
-ghost use Rattle.am_list.specs.Rooms.{KeepRoom};
+ghost use Rattle.am_index.specs.Entries.{find};
+ghost use Rattle.am_index.specs.Rooms.{KeepRoom};
 ghost use Rattle.am_undo.specs.Notes.{TakesBack, CanTakeBack, NotesFit};
 ghost use Rattle.am_tx.specs.Active.{is_active_in, log_in};
-ghost use Rattle.am_core.specs.Doing.{HasNewLog};
+ghost use Rattle.am_core.specs.OperationSteps.{HasNewLog};
 ghost use Rattle.am_core.specs.InnerState.{inner_state, HasRooms};
 
 use crate::inner::Inner;
-use am_list::PartIndex;
+use am_index::PartIndex;
 use am_parts::Parts;
 use am_record::{Refusal, Reply};
 use am_tx::TxTable;

@@ -1,12 +1,12 @@
 //! Insert, Replace and Delete. Each gets the room for its note first, and then that for its value.
 
 ghost use Rattle.std.specs.Prelude.{◌≡◌, ◌≤◌, ◌∷◌, IfOk, OnErr};
-ghost use Rattle.am_list.specs.Rooms.{HaveRoom, KeepRoom};
-ghost use Rattle.am_core.specs.Doing.{IsDone, LeavesAlone, MayWantRoom};
+ghost use Rattle.am_index.specs.Rooms.{HaveRoom, KeepRoom};
+ghost use Rattle.am_core.specs.OperationSteps.{IsDone, LeavesAlone, MayWantRoom};
 ghost use Rattle.am_record.specs.declared.step.Op.TheVariants.{Insert, Replace, Delete};
 
 use crate::reads::find_live;
-use am_list::PartIndex;
+use am_index::PartIndex;
 use am_parts::{Parts, Vacancy};
 use am_record::{Entry, Key, NoMemory, Reply, Value};
 use am_undo::{Note, UndoLog};
@@ -25,7 +25,7 @@ pub(crate) fn insert<I: PartIndex + Drop>(
     ensures memory { OnErr result (MayWantRoom (Insert key value) parts.old.entries log.old) }
     ensures rooms { KeepRoom parts.old.roomy parts.new.roomy parts.new.entries }
 {
-    am_list::content_follows();
+    am_index::content_follows();
     let vacancy = parts.vacancy(key);
     if vacancy == Vacancy::Taken {
         return Ok(Reply::Exists(key));

@@ -3,7 +3,7 @@ use Rattle.std.proofs.Common.{◌≡◌, ℕ, zero, suc, ◌+◌, ◌<◌, ◌�
 use Rattle.std.proofs.Common.{subst, append_assoc, arith, refl}
 use Rattle.std.proofs.Math.Seq.{take-append-add}
 use Rattle.std.proofs.lemmas.List.{take-append-le, length-take-le}
-use Rattle.am_stream.specs.Taking.{Took}
+use Rattle.am_stream.specs.SourceReads.{Took}
 use Rattle.am_doors.specs.Http.{stage_behind}
 use Rattle.am_doors.specs.declared.http.Stage.TheVariants.{Open}
 use borrow.Rule.Slice.PartMut.{put_mid, post_of}

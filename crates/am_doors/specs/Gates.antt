@@ -1,5 +1,5 @@
 -- What is done with what comes to a gate, and what a worker does that waits for its turn.
-use Rattle.std.specs.Prelude.{ℕ, zero, suc, nat_lt, Bool, true, false, not, ◌&&◌, ◌||◌, if◌then◌else◌}
+use Rattle.std.specs.Prelude.{ℕ, ◌+◌, ◌/◌, min, zero, suc, nat_lt, Bool, true, false, not, ◌&&◌, ◌||◌, if◌then◌else◌}
 use Rattle.am_doors.specs.declared.mode.Mode.{Mode}
 use Rattle.am_doors.specs.declared.mode.Mode.TheVariants.{Bounded, Staying}
 use Rattle.am_doors.specs.declared.gate.Came.{Came}
@@ -8,12 +8,13 @@ use Rattle.am_doors.specs.declared.gate.Deed.{Deed}
 use Rattle.am_doors.specs.declared.pacer.Next.{Next}
 use Rattle.am_doors.specs.declared.pacer.Next.TheVariants as next
 use Rattle.am_doors.specs.Modes.{stays}
-use Rattle.am_doors.specs.declared.gate.Deed.TheVariants.{Serve, TryAgain, End}
+use Rattle.am_doors.specs.declared.gate.Deed.TheVariants.{Serve, TurnAway, TryAgain, End}
 
--- What is done with what came to the gate, by whether a stop was asked for: a connection is served, and after a failure
--- a server that stays waits for a further one, and a bounded one takes none; after a stop nothing is taken.
+-- What is done with what came to the gate, by whether a stop was asked for: a connection is served, and after a stop it
+-- is turned away; after a failure a server that stays waits for a further one, and a bounded one takes none.
 abbrev pub deed_of : {C : Type 0} → Mode → Came C → Bool → Deed C
-deed_of mode came true = End
+deed_of mode (Connection connection) true = TurnAway connection
+deed_of mode Failure true = End
 deed_of mode (Connection connection) false = Serve connection
 deed_of Staying Failure false = TryAgain
 deed_of Bounded Failure false = End
@@ -21,6 +22,10 @@ deed_of Bounded Failure false = End
 -- whether no further connection is waited for: after a stop, and in a bounded server after a failure
 abbrev pub is_closed : Mode → Bool → Bool → Bool
 is_closed mode accepted_all is_stopped = is_stopped || (not accepted_all && not (stays mode))
+
+-- whether a round of the keeper ends where so many lines are answered behind others: at each 1,024th
+abbrev pub ends_round : ℕ → ℕ → Bool
+ends_round before lines = nat_lt (before / 1024) (min 18446744073709551615 (before + lines) / 1024)
 
 -- what a worker does where so many sessions have not ended, so many turns were taken and so many lines answered: it has
 -- one turn for each line

@@ -1,6 +1,6 @@
 -- Requests of HTTP, and what a connection passes on whose first line is looked at.
 use Rattle.std.specs.Prelude.{◌≡◌, ◌≢◌, ◌⊎◌, ◌≤◌, ℕ, List, [], ◌∷◌, ◌++◌, All, Any, Contains, codes, length}
-use Rattle.am_stream.specs.Taking.{Took}
+use Rattle.am_stream.specs.SourceReads.{Took}
 use Rattle.am_doors.specs.declared.mode.Mode.{Mode}
 use Rattle.am_doors.specs.declared.mode.Mode.TheVariants.{Bounded, Staying}
 use Rattle.am_doors.specs.declared.http.NoHttp.{NoHttp}

@@ -1,4 +1,5 @@
 pub mod Http
 pub mod Modes
+pub mod Waits
 pub mod Gates
 pub mod Tallies

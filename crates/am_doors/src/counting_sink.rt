@@ -2,7 +2,7 @@
 
 ghost use Rattle.std.specs.Prelude.{◌≡◌, ◌==◌, ◌||◌, ◌+◌, ◌^◌, ◌<◌, ◌≤◌, false, [], length, take, min, count_by};
 ghost use Rattle.std.specs.Prelude.{nat_lt, OnOk, OnErr, IfOk};
-ghost use Rattle.am_stream.specs.Giving.{Gave};
+ghost use Rattle.am_stream.specs.SinkWrites.{Gave};
 
 use crate::pacer::{MergePacer, TurnGiver};
 use am_stream::{Failed, Sink};

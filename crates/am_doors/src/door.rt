@@ -40,6 +40,14 @@ impl Door {
         }
     }
 
+    /// Whether `accept` fails at once where no connection has come, and doesn't wait for one.
+    pub(crate) fn set_nonblocking(&self, nonblocking: bool) -> io::Result<()> {
+        match self {
+            Door::Port { listener, .. } => listener.set_nonblocking(nonblocking),
+            Door::Socket { listener, .. } => listener.set_nonblocking(nonblocking),
+        }
+    }
+
     /// Connects, so that a thread which waits for a connection gets this one. Whether it could.
     pub fn wake<R: Net<Listener = TcpListener, Stream = TcpStream>>(&self, rt: &R) -> bool {
         match self {

@@ -1,20 +1,28 @@
 //! Where connections come in.
 
-ghost use Rattle.std.specs.Prelude.{◌≡◌};
+ghost use Rattle.std.specs.Prelude.{◌≡◌, [], IfOk};
 ghost use Rattle.am_doors.specs.Gates.{deed_of, is_closed};
 
 use crate::door::Door;
 use crate::mode::Mode;
+use crate::rounds::round_length;
 use crate::tally::Tally;
+use crate::waiting::{MOST_WAITING, WaitingRoom, turn_away};
+use am_record::NoMemory;
+use std::alloc::Global;
+use std::io::ErrorKind;
 use std::net::TcpStream;
 use std::rt::Clock;
 use std::sync::Wait;
 use std::sync::atomic::{AtomicBool, Ordering};
 use std::thread;
-use std::time::Duration;
+use std::time::{Duration, Instant};
 
 /// How long nothing is accepted where a connection couldn't be.
 const PAUSE_MILLIS: u64 = 100;
+
+/// So many connections are accepted in a round at most.
+const MOST_EACH_ROUND: u32 = 4096;
 
 /// What came to the gate.
 #[derive(Drop)]
@@ -30,6 +38,8 @@ enum Came<C: Drop> {
 enum Deed<C: Drop> {
     /// The connection is served.
     Serve(C),
+    /// It is told that it isn't served, and nothing is taken any more.
+    TurnAway(C),
     /// A further connection is waited for, a little later.
     TryAgain,
     /// Nothing is taken any more.
@@ -41,7 +51,8 @@ fn deed_for<C: Drop>(mode: Mode, came: Came<C>, is_stopped: bool) -> Deed<C>
     ensures { result ≡ deed_of mode came is_stopped }
 {
     match (mode, came) {
-        _ if is_stopped => Deed::End,
+        (_, Came::Connection(connection)) if is_stopped => Deed::TurnAway(connection),
+        (_, Came::Failure) if is_stopped => Deed::End,
         (_, Came::Connection(connection)) => Deed::Serve(connection),
         (Mode::Staying, Came::Failure) => Deed::TryAgain,
         (Mode::Bounded, Came::Failure) => Deed::End,
@@ -61,38 +72,105 @@ pub struct Gate<'a> {
     door: &'a Door,
     is_stopped: &'a AtomicBool,
     mode: Mode,
+    // Those that were accepted while nobody waited for them.
+    waiting: WaitingRoom,
+    round_ended_at: Option<Instant>,
 }
 
 impl<'a> Gate<'a> {
     /// The gate at a door, which is closed where the flag says that a stop was asked for.
-    pub(crate) fn new(door: &'a Door, is_stopped: &'a AtomicBool, mode: Mode) -> Gate<'a>
-        ensures door { result.door ≡ door.entry }
-        ensures stop { result.is_stopped ≡ is_stopped.entry }
-        ensures mode { result.mode ≡ mode }
+    pub(crate) fn new(
+        alloc: Global,
+        door: &'a Door,
+        is_stopped: &'a AtomicBool,
+        mode: Mode,
+    ) -> Result<Gate<'a>, NoMemory>
+        ensures door { IfOk result (λ gate. gate.door ≡ door.entry) }
+        ensures stop { IfOk result (λ gate. gate.is_stopped ≡ is_stopped.entry) }
+        ensures mode { IfOk result (λ gate. gate.mode ≡ mode) }
+        ensures waiting { IfOk result (λ gate. gate.waiting.line.items ≡ []) }
     {
-        Gate {
+        Ok(Gate {
             door,
             is_stopped,
             mode,
-        }
+            waiting: WaitingRoom::new(alloc)?,
+            round_ended_at: None,
+        })
     }
 
-    /// The next connection. Where it can't be accepted, that is counted, and a server that stays waits for the next one
-    /// a little later; a bounded one takes no further one. None once a stop was asked for, also of the connection that
-    /// came meanwhile.
+    /// The next connection: the one that has waited longest, or the next that comes. Where that can't be accepted, it
+    /// is counted, and a server that stays waits for the next one a little later; a bounded one takes no further one.
+    /// None once a stop was asked for: the connection that came meanwhile is turned away.
     pub fn next<R: Wait + Clock>(&mut self, rt: &R, tally: &Tally) -> Option<TcpStream> {
         for _ in rt.forever() {
             if is_closed(self.mode, tally.accepted_all(), self.is_stopped()) {
                 return None;
             }
+            if let Some(stream) = self.waiting.take_oldest() {
+                return Some(stream);
+            }
             let came = self.accept(tally);
             match deed_for(self.mode, came, self.is_stopped()) {
                 Deed::Serve(stream) => return Some(stream),
+                Deed::TurnAway(stream) => {
+                    turn_away(stream);
+                    return None;
+                }
                 Deed::TryAgain => thread::sleep(rt, Duration::from_millis(PAUSE_MILLIS)),
                 Deed::End => return None,
             }
         }
         unreachable!()
+    }
+
+    /// While nobody waits at the gate: what came is accepted and waits, and what has waited for too long is turned
+    /// away, as all are after a stop. Before a stop a tenth of a second passes between two rounds of that.
+    pub(crate) fn receive<R: Clock>(&mut self, rt: &R, tally: &Tally) {
+        let is_stopped = self.is_stopped();
+        if !is_stopped && !self.is_round_over(rt) {
+            return;
+        }
+        self.admit_all(tally);
+        for _ in 0..MOST_WAITING {
+            match self.waiting.next_due(is_stopped) {
+                Some(stream) => turn_away(stream),
+                None => break,
+            }
+        }
+        self.waiting.end_round();
+        self.round_ended_at = Instant::now(rt).ok();
+    }
+
+    // Whether so much time has passed since the last round, or the clock doesn't tell.
+    fn is_round_over<R: Clock>(&self, rt: &R) -> bool {
+        match self.round_ended_at {
+            Some(at) => at.elapsed(rt).map_or(true, |past| past >= round_length()),
+            None => true,
+        }
+    }
+
+    // Accepts what came so far.
+    fn admit_all(&mut self, tally: &Tally) {
+        if self.door.set_nonblocking(true).is_err() {
+            return;
+        }
+        for _ in 0..MOST_EACH_ROUND {
+            match self.door.accept() {
+                Ok(stream) => {
+                    if let Some(gone) = self.waiting.enter(stream) {
+                        turn_away(gone);
+                    }
+                }
+                Err(fault) => {
+                    if fault.kind() != ErrorKind::WouldBlock {
+                        tally.note_refusal(fault.raw_os_error());
+                    }
+                    break;
+                }
+            }
+        }
+        let _ = self.door.set_nonblocking(false);
     }
 
     fn accept(&self, tally: &Tally) -> Came<TcpStream> {

@@ -10,12 +10,10 @@ use crate::pacer::MergePacer;
 use crate::tally::Tally;
 use am_record::NoMemory;
 use std::alloc::Global;
-use std::sync::atomic::{AtomicBool, AtomicU64, Ordering};
+use std::rt::Clock;
+use std::sync::atomic::{AtomicBool, Ordering};
 use std::sync::{Mutex, Wait};
 use std::time::Duration;
-
-/// How long a round of the keeper is, where nothing ends it.
-const ROUND_MILLIS: u64 = 100;
 
 /// The doors of a server.
 #[derive(Clone, Copy)]
@@ -57,8 +55,7 @@ pub struct House<'a> {
     /// How long a session may be idle, where that is limited.
     pub idle: Option<Duration>,
     is_stopped: &'a AtomicBool,
-    // 0 until all sessions have ended.
-    all_ended: AtomicU64,
+    all_ended: AtomicBool,
 }
 
 // Whether the seat of this place has the socket: the first ones, so many, have the port.
@@ -66,6 +63,13 @@ fn is_behind(seats: usize, place: usize) -> bool
     ensures { result ≡ nat_le seats place }
 {
     place >= seats
+}
+
+// Where a thread waits at the gate a seat is free, and nothing is done.
+fn receive_at<R: Clock>(rt: &R, gate: &Mutex<Gate<'_>>, tally: &Tally) {
+    if let Some(mut held) = gate.try_lock() {
+        held.receive(rt, tally);
+    }
 }
 
 impl<'a> House<'a> {
@@ -87,12 +91,12 @@ impl<'a> House<'a> {
         ensures socket { IfOk result (λ house. is_some house.socket ≡ is_some doors.entry.socket) }
     {
         let socket = match doors.socket {
-            Some(door) => Some(Mutex::new(Gate::new(door, is_stopped, mode))),
+            Some(door) => Some(Mutex::new(Gate::new(alloc, door, is_stopped, mode)?)),
             None => None,
         };
         let all = doors.seats(sessions);
         Ok(House {
-            port: Mutex::new(Gate::new(doors.port, is_stopped, mode)),
+            port: Mutex::new(Gate::new(alloc, doors.port, is_stopped, mode)?),
             socket,
             seats: sessions as usize,
             pacer: MergePacer::new(all),
@@ -101,7 +105,7 @@ impl<'a> House<'a> {
             mode,
             idle,
             is_stopped,
-            all_ended: AtomicU64::new(0),
+            all_ended: AtomicBool::new(false),
         })
     }
 
@@ -116,6 +120,19 @@ impl<'a> House<'a> {
         }
     }
 
+    /// In a server that stays: lets connections wait at the doors where no seat is free, for most of a second, and
+    /// turns away those that have waited for so long, or any after a stop. A thread that often asks for it has it done
+    /// ten times a second.
+    pub fn receive<R: Clock>(&self, rt: &R) {
+        if !self.mode.stays() {
+            return;
+        }
+        receive_at(rt, &self.port, &self.tally);
+        if let Some(socket) = &self.socket {
+            receive_at(rt, socket, &self.tally);
+        }
+    }
+
     /// Whether a stop was asked for.
     pub fn is_stopped(&self) -> bool {
         self.is_stopped.load(Ordering::SeqCst)
@@ -123,14 +140,14 @@ impl<'a> House<'a> {
 
     /// All sessions have ended.
     pub fn end(&self) {
-        self.all_ended.store(1, Ordering::SeqCst);
-        self.all_ended.wake_all();
+        self.all_ended.store(true, Ordering::SeqCst);
+        self.pacer.rounds.end();
     }
 
-    /// Returns after a round, or once all sessions have ended, and answers whether they have.
+    /// Returns after a round of the keeper: after a tenth of a second, or sooner where many lines were answered or all
+    /// sessions have ended. Answers whether they have.
     pub fn await_round<R: Wait>(&self, rt: &R) -> bool {
-        self.all_ended
-            .park_timeout(rt, 0, Duration::from_millis(ROUND_MILLIS));
-        self.all_ended.load(Ordering::SeqCst) != 0
+        self.pacer.rounds.await_end(rt);
+        self.all_ended.load(Ordering::SeqCst)
     }
 }

@@ -3,7 +3,7 @@
 ghost use Rattle.std.specs.Prelude.{◌≡◌, ◌↔◌, ◌+◌, ◌^◌, ◌<◌, ◌≤◌, [], length, take, slice_index, nat_eq, IfOk, OnOk};
 ghost use Rattle.std.specs.Prelude.{OnErr, IsOk, IsTrue, MatchOption, All};
 ghost use Rattle.std.specs.List.{list_any, starts_with};
-ghost use Rattle.am_stream.specs.Taking.{Took};
+ghost use Rattle.am_stream.specs.SourceReads.{Took};
 ghost use Rattle.am_doors.specs.Http.{may_come, BeginsRequest, BeginsGet, BeginsPath, IsOfWord, AreTelling};
 ghost use Rattle.am_doors.specs.Http.{IsEnough, TookFirst, IsInMode};
 ghost use Rattle.am_doors.specs.declared.http.Stage.TheVariants.{First, Open, Closed};

@@ -14,7 +14,9 @@ mod house;
 mod http;
 mod mode;
 mod pacer;
+mod rounds;
 mod tally;
+mod waiting;
 
 pub use counting_sink::CountingSink;
 pub use door::{Door, listen_at_port, listen_at_socket};
@@ -22,3 +24,4 @@ pub use house::{Doors, House};
 pub use http::NoHttp;
 pub use mode::Mode;
 pub use tally::SessionCounts;
+pub use waiting::turn_away;

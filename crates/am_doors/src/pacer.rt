@@ -3,6 +3,7 @@
 ghost use Rattle.std.specs.Prelude.{◌≡◌, ◌+◌, min};
 ghost use Rattle.am_doors.specs.Gates.{next_of};
 
+use crate::rounds::Rounds;
 use am_workers::Pacer;
 use std::sync::Wait;
 use std::sync::atomic::{AtomicU64, Ordering};
@@ -41,6 +42,8 @@ pub struct MergePacer {
     sessions: AtomicU64,
     // How many workers sleep or are about to: where there is none, nobody is woken.
     sleeping: AtomicU64,
+    /// The rounds of the keeper, which answers end too.
+    pub(crate) rounds: Rounds,
 }
 
 impl MergePacer {
@@ -51,12 +54,14 @@ impl MergePacer {
             taken: AtomicU64::new(0),
             sessions: AtomicU64::new(sessions),
             sleeping: AtomicU64::new(0),
+            rounds: Rounds::new(),
         }
     }
 
     /// So many lines were answered.
     pub(crate) fn count_answers(&self, lines: u64) {
-        self.answered.fetch_add(lines, Ordering::SeqCst);
+        let before = self.answered.fetch_add(lines, Ordering::SeqCst);
+        self.rounds.count_answers(before, lines);
         if self.sleeping.load(Ordering::SeqCst) == 0 {
             return;
         }

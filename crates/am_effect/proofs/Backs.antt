@@ -8,13 +8,14 @@ use Rattle.std.proofs.lemmas.Bool.{cases_Bool, cond-true, cond-false, both_ways,
 use Rattle.std.proofs.lemmas.Bool.{eqb-true, eqb-false}
 use Rattle.am_effect.proofs.Lists.{Stands, look-reslotted, look-reslotted_none, rising-reslotted, stands_all}
 use Rattle.am_effect.proofs.Lists.{tied_place}
-use Rattle.am_effect.proofs.Noted.{some_none, back, back-append, back_some, ghosted_stays, none_before, one_some}
-use Rattle.am_effect.proofs.Noted.{owned_more, run_before, run_later, some_or_none, unowned_leaves}
+use Rattle.am_effect.proofs.NotesAtPlaces.{some_none, back, back-append, back_some, ghosted_stays, none_before}
+use Rattle.am_effect.proofs.NotesAtPlaces.{one_some}
+use Rattle.am_effect.proofs.NotesAtPlaces.{owned_more, run_before, run_later, some_or_none, unowned_leaves}
 use Rattle.am_effect.specs.History.{Moment, left_at, or_made, wrote, wrote_by}
 use Rattle.am_effect.specs.Laws.{DescribeLaws, Describes, DifferAt, IsOfKey, taken_back}
 use Rattle.am_effect.specs.Places.{look, reslotted, with_slot}
-use Rattle.am_list.proofs.Edits.{one_place}
-use Rattle.am_list.specs.Entries.{IsRising, Slot, slot_of}
+use Rattle.am_index.proofs.Edits.{one_place}
+use Rattle.am_index.specs.Entries.{IsRising, Slot, slot_of}
 use Rattle.am_record.specs.EntryOrder.{Place, place_cmp, place_of}
 use Rattle.am_record.specs.OrderedKey.{OrderedKey}
 use Rattle.am_record.specs.Plain.{fresh}

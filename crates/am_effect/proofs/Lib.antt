@@ -1,11 +1,11 @@
 pub mod Lists
 pub mod Merges
 pub mod Maintenance
-pub mod Noted
+pub mod NotesAtPlaces
 pub mod Backs
 pub mod Marks
 pub mod TakenBack
-pub mod Lookings
-pub mod Knowing
+pub mod LookBacks
+pub mod KnownEdits
 pub mod Next
-pub mod Writing
+pub mod WrittenKeys

@@ -15,13 +15,14 @@ use Rattle.am_record.specs.EntryOrder.{Place, place_of, place_cmp, place_cmp-tot
 use Rattle.am_record.specs.Plain.{PlainMap}
 use Rattle.am_record.specs.declared.entry.Entry.{Entry}
 use Rattle.am_record.proofs.Lists.{AllByRecursion-map, AllByRecursion-filter}
-use Rattle.am_list.specs.Entries.{Slot, slot_of, entry_at, find, insert_entry, set_entry, remove_entry, IsRising}
-use Rattle.am_list.specs.Content.{content, OnePlace, HasContent}
-use Rattle.am_list.proofs.Edits.{one_place, place_cmp-itself, turned_apart, entry_at_inserted, entry_at_beside_inserted}
-use Rattle.am_list.proofs.Edits.{rising_inserted, entry_at_removed, entry_at_beside_removed, find_reset}
-use Rattle.am_list.proofs.Edits.{entry_at_beside_reset, rising_reset}
-use Rattle.am_list.proofs.Content.{all_found, content_live}
-use Rattle.am_list.proofs.ContentLaws.{content_laws}
+use Rattle.am_index.specs.Entries.{Slot, slot_of, entry_at, find, insert_entry, set_entry, remove_entry, IsRising}
+use Rattle.am_index.specs.Content.{content, OnePlace, HasContent}
+use Rattle.am_index.proofs.Edits.{one_place, place_cmp-itself, turned_apart, entry_at_inserted}
+use Rattle.am_index.proofs.Edits.{entry_at_beside_inserted}
+use Rattle.am_index.proofs.Edits.{rising_inserted, entry_at_removed, entry_at_beside_removed, find_reset}
+use Rattle.am_index.proofs.Edits.{entry_at_beside_reset, rising_reset}
+use Rattle.am_index.proofs.Content.{all_found, content_live}
+use Rattle.am_index.proofs.ContentLaws.{content_laws}
 use Rattle.am_effect.specs.Places.{look, put, with_slot, reslotted}
 
 -- ---- places

@@ -8,10 +8,11 @@ use Rattle.am_effect.proofs.Lists.{All-filter, rising-filter, stands_all}
 use Rattle.am_effect.proofs.Merges.{InRuns, all_keep, all_keep_ghosts, keeps, no_more, no_more_ghost, other_keys}
 use Rattle.am_effect.proofs.Merges.{rising-worked_off}
 use Rattle.am_effect.specs.Laws.{Maintains}
-use Rattle.am_effect.specs.Merging.{AnswersCandidates, AnswersFirst, Holders, MergeRight, all_worked_off, candidates}
-use Rattle.am_effect.specs.Merging.{cleanable, cleaned_by, merged_by, most, worked_off}
-use Rattle.am_list.specs.Entries.{IsRising}
-use Rattle.am_list.proofs.Lists.{rising-take}
+use Rattle.am_effect.specs.MergeAnswers.{AnswersCandidates, AnswersFirst, Holders, MergeRight, all_worked_off}
+use Rattle.am_effect.specs.MergeAnswers.{candidates}
+use Rattle.am_effect.specs.MergeAnswers.{cleanable, cleaned_by, merged_by, most, worked_off}
+use Rattle.am_index.specs.Entries.{IsRising}
+use Rattle.am_index.proofs.Lists.{rising-take}
 use Rattle.am_record.specs.Interval.{Interval, within}
 use Rattle.am_record.specs.OrderedKey.{OrderedKey}
 use Rattle.am_record.specs.declared.entry.Entry.{Entry}

@@ -4,12 +4,12 @@ use Rattle.std.proofs.Common.{sym, ap, ◌∙◌, subst, ⊎_elim, Option, Some,
 use Rattle.std.proofs.lemmas.Bool.{cases_Bool, cond-true, cond-false, or_cases, or_left, or_right, eq-eqb, false≢true}
 use Rattle.am_effect.proofs.Backs.{describe_laws, older_describe}
 use Rattle.am_effect.proofs.Lists.{look-reslotted, look-reslotted_none}
-use Rattle.am_effect.proofs.Noted.{back, back_some}
+use Rattle.am_effect.proofs.NotesAtPlaces.{back, back_some}
 use Rattle.am_effect.specs.History.{Moment, aborted, backed_by, from_mark, goes_back, gone_back, is_plain, left_at}
 use Rattle.am_effect.specs.History.{marked_by, moments_since, sets_mark, wrote, wrote_by}
 use Rattle.am_effect.specs.Laws.{BackLaws, Describes, DescribesEach}
 use Rattle.am_effect.specs.Places.{look}
-use Rattle.am_list.specs.Entries.{Slot}
+use Rattle.am_index.specs.Entries.{Slot}
 use Rattle.am_record.specs.EntryOrder.{Place}
 use Rattle.am_record.specs.OrderedKey.{OrderedKey}
 use Rattle.am_record.specs.declared.entry.Entry.{Entry}
@@ -22,7 +22,7 @@ use Rattle.am_serial.specs.Trace.{Answers, Effect}
 use Rattle.am_record.specs.Marks.{since, until, since_mark, has_mark}
 use Rattle.am_undo.specs.Undo.{is_noted_run}
 use Rattle.am_undo.specs.declared.note.Note.{Note}
-use Rattle.am_undo.proofs.Marking.{run_taken}
+use Rattle.am_undo.proofs.NotesSinceMarks.{run_taken}
 
 -- ---- moments
 

@@ -9,13 +9,13 @@ use Rattle.std.proofs.lemmas.Bool.{cases_Bool, cond-true, cond-false, both_ways}
 use Rattle.am_record.specs.OrderedKey.{OrderedKey}
 use Rattle.am_record.specs.EntryOrder.{Place, place_of, place_cmp}
 use Rattle.am_record.specs.declared.entry.Entry.{Entry}
-use Rattle.am_list.specs.Entries.{Slot, slot_of, remove_entry, IsRising}
-use Rattle.am_list.specs.Content.{content, OnePlace, HasContent, IsLiveAt}
-use Rattle.am_list.proofs.Edits.{one_place, place_cmp-itself, rising_removed, apart_places}
-use Rattle.am_list.proofs.Content.{content_live}
-use Rattle.am_list.proofs.ContentLaws.{content_laws, get_removed}
+use Rattle.am_index.specs.Entries.{Slot, slot_of, remove_entry, IsRising}
+use Rattle.am_index.specs.Content.{content, OnePlace, HasContent, IsLiveAt}
+use Rattle.am_index.proofs.Edits.{one_place, place_cmp-itself, rising_removed, apart_places}
+use Rattle.am_index.proofs.Content.{content_live}
+use Rattle.am_index.proofs.ContentLaws.{content_laws, get_removed}
 use Rattle.am_effect.specs.Places.{look, put}
-use Rattle.am_effect.specs.Merging.{worked_off, all_worked_off}
+use Rattle.am_effect.specs.MergeAnswers.{worked_off, all_worked_off}
 use Rattle.am_effect.proofs.Lists.{look-put, look-removed, tied_place, rising-put, Stands, content-put, back_again}
 
 abbrev slotted : List ℕ → Bool → Option Slot

@@ -9,11 +9,11 @@ use Rattle.am_record.specs.EntryOrder.{Place, place_of, place_cmp}
 use Rattle.am_record.specs.Interval.{Interval, within}
 use Rattle.am_record.specs.declared.entry.Entry.{Entry}
 use Rattle.am_record.proofs.Lists.{filter-no}
-use Rattle.am_list.specs.Entries.{find, insert_entry, set_entry, remove_entry, IsRising}
-use Rattle.am_list.specs.Edits.{same_place}
-use Rattle.am_list.proofs.Edits.{one_place, filter-removed}
+use Rattle.am_index.specs.Entries.{find, insert_entry, set_entry, remove_entry, IsRising}
+use Rattle.am_index.specs.Edits.{same_place}
+use Rattle.am_index.proofs.Edits.{one_place, filter-removed}
 use Rattle.am_effect.specs.Places.{put}
-use Rattle.am_effect.specs.Merging.{candidates, worked_off, all_worked_off}
+use Rattle.am_effect.specs.MergeAnswers.{candidates, worked_off, all_worked_off}
 use Rattle.am_effect.proofs.Merges.{rising-worked_off}
 
 -- what fails the test is put in

@@ -1,8 +1,8 @@
 -- Notes taken back in a list: the list is known.
 use Rattle.std.proofs.Common.{◌≡◌, List, sym, ◌∙◌}
 use Rattle.am_record.specs.declared.entry.Entry.{Entry}
-use Rattle.am_list.specs.Entries.{find, IsRising}
-use Rattle.am_list.proofs.EditLaws.{edit_laws}
+use Rattle.am_index.specs.Entries.{find, IsRising}
+use Rattle.am_index.proofs.EditLaws.{edit_laws}
 use Rattle.am_undo.specs.declared.note.Note.{Note}
 use Rattle.am_undo.specs.Notes.{TakesBack, CanTakeBack}
 use Rattle.am_undo.proofs.Slots.{back_none}

@@ -10,7 +10,7 @@ use Rattle.am_record.specs.declared.step.Op.{Op}
 use Rattle.am_record.specs.declared.step.Op.TheVariants.{Insert, Replace, Delete, Load, Mark, Back}
 use Rattle.am_record.specs.declared.step.Reply.{Reply}
 use Rattle.am_record.specs.declared.step.Reply.TheVariants.{Done}
-use Rattle.am_list.specs.Entries.{Slot}
+use Rattle.am_index.specs.Entries.{Slot}
 use Rattle.am_undo.specs.Notes.{ghosted}
 use Rattle.am_serial.specs.Trace.{Effect, Answers}
 use Rattle.am_effect.specs.Places.{look, reslotted}

@@ -6,8 +6,8 @@ use Rattle.am_record.specs.EntryOrder.{Place}
 use Rattle.am_record.specs.declared.entry.Entry.{Entry}
 use Rattle.am_record.specs.declared.step.Op.TheVariants.{Back}
 use Rattle.am_record.specs.declared.step.Reply.TheVariants.{Done}
-use Rattle.am_list.specs.Entries.{Slot, find, IsRising}
-use Rattle.am_list.specs.Content.{content, OnePlace}
+use Rattle.am_index.specs.Entries.{Slot, find, IsRising}
+use Rattle.am_index.specs.Content.{content, OnePlace}
 use Rattle.am_undo.specs.declared.note.Note.{Note}
 use Rattle.am_undo.specs.declared.note.Note.TheVariants.{New, Before, RunMade}
 use Rattle.am_undo.specs.Notes.{back_one, back_all}
@@ -15,7 +15,7 @@ use Rattle.am_undo.specs.Undo.{is_noted_run}
 use Rattle.am_record.specs.Marks.{since, since_mark, until_mark, older}
 use Rattle.am_serial.specs.Trace.{Effect, Answers}
 use Rattle.am_effect.specs.Places.{look, reslotted}
-use Rattle.am_effect.specs.Merging.{Holders}
+use Rattle.am_effect.specs.MergeAnswers.{Holders}
 use Rattle.am_effect.specs.History.{Moment, wrote_by, wrote, left_at, moments_since, gone_back}
 
 -- the note is of a key that passes the test, or of a run

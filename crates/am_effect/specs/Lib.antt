@@ -1,8 +1,8 @@
 pub mod Places
-pub mod Merging
+pub mod MergeAnswers
 pub mod History
 pub mod Laws
 pub mod Store
-pub mod Looking
-pub mod Known
-pub mod Written
+pub mod LookBacks
+pub mod KnownEdits
+pub mod WrittenKeys

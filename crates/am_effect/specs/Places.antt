@@ -3,7 +3,7 @@ use Rattle.std.specs.Prelude.{ℕ, List, map, Option, Some, None, is_some, if◌
 use Rattle.am_record.specs.OrderedKey.{OrderedKey}
 use Rattle.am_record.specs.EntryOrder.{Place}
 use Rattle.am_record.specs.declared.entry.Entry.{Entry}
-use Rattle.am_list.specs.Entries.{Slot, slot_of, find, insert_entry, set_entry}
+use Rattle.am_index.specs.Entries.{Slot, slot_of, find, insert_entry, set_entry}
 
 -- what stands at the place
 abbrev pub look : List Entry → Place → Option Slot

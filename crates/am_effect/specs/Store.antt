@@ -16,17 +16,18 @@ use Rattle.am_record.specs.declared.step.Step.{Step}
 use Rattle.am_record.specs.declared.step.Step.TheVariants.{Begin, Do, Abort, Merge, Clean}
 use Rattle.am_record.specs.declared.step.Reply.{Reply}
 use Rattle.am_record.specs.declared.step.Reply.TheVariants.{Begun, Done, Found, Absent, Rows, Aborted, Moved, Refused}
-use Rattle.am_list.specs.Entries.{Slot, first_such, find, set_entry}
+use Rattle.am_index.specs.Entries.{Slot, first_such, find, set_entry}
 use Rattle.am_undo.specs.declared.note.Note.{Note}
 use Rattle.am_undo.specs.declared.note.Note.TheVariants.{New, Before, RunMade}
 use Rattle.am_record.specs.Marks.{until_mark, older}
-use Rattle.am_list.specs.Runs.{live_entry, with_run}
+use Rattle.am_index.specs.Runs.{live_entry, with_run}
 use Rattle.am_record.specs.Events.{Event}
 use Rattle.am_serial.specs.Trace.{Trace, effect, ops_of}
 use Rattle.am_record.specs.Refusals.{is_limit}
 use Rattle.am_serial.specs.Machine.{State, Transaction, start, May, next}
 use Rattle.am_effect.specs.Places.{put}
-use Rattle.am_effect.specs.Merging.{Holders, all_worked_off, MergeRight, merged_by, wishes_left, CleanRight, cleaned_by}
+use Rattle.am_effect.specs.MergeAnswers.{Holders, all_worked_off, MergeRight, merged_by, wishes_left}
+use Rattle.am_effect.specs.MergeAnswers.{CleanRight, cleaned_by}
 use Rattle.am_effect.specs.History.{Moment, aborted, gone_back}
 
 -- what a trace says of the store: its transactions with their locks, its entries, its wishes with the oldest first,

@@ -6,18 +6,18 @@ ghost use Rattle.am_record.specs.EntryOrder.{Place};
 ghost use Rattle.am_record.specs.Interval.{Interval};
 ghost use Rattle.am_record.specs.declared.entry.Entry.{Entry};
 ghost use Rattle.am_record.specs.declared.step.Reply.{Reply};
-ghost use Rattle.am_list.specs.Entries.{find, IsRising};
-ghost use Rattle.am_list.specs.Content.{OnePlace};
+ghost use Rattle.am_index.specs.Entries.{find, IsRising};
+ghost use Rattle.am_index.specs.Content.{OnePlace};
 ghost use Rattle.am_undo.specs.declared.note.Note.{Note};
 ghost use Rattle.am_undo.specs.Notes.{TakesBack, CanTakeBack};
 ghost use Rattle.am_record.specs.Marks.{has_mark};
-ghost use Rattle.am_effect.specs.Merging.{Holders, all_worked_off, MergeRight, merged_by, cleaned_by};
+ghost use Rattle.am_effect.specs.MergeAnswers.{Holders, all_worked_off, MergeRight, merged_by, cleaned_by};
 ghost use Rattle.am_effect.specs.History.{Moment, wrote, left_at, moments_since};
-ghost use Rattle.am_effect.specs.Known.{KnownLaws};
-ghost use Rattle.am_effect.specs.Looking.{lists_since, looked_back};
+ghost use Rattle.am_effect.specs.KnownEdits.{KnownLaws};
+ghost use Rattle.am_effect.specs.LookBacks.{lists_since, looked_back};
 ghost use Rattle.am_serial.specs.Trace.{Trace};
 ghost use Rattle.am_effect.specs.Store.{opened, after_all};
-ghost use Rattle.am_effect.specs.Written.{TraceWritesKeys, HaveKeys};
+ghost use Rattle.am_effect.specs.WrittenKeys.{TraceWritesKeys, HaveKeys};
 ghost use Rattle.am_effect.specs.Laws.{Describes, DescribeLaws, DescribesEach, BackLaws, Maintains, taken_back};
 
 /// Merge and clean steps keep the content, keep each key live in one place at most, and leave every

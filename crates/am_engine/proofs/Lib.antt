@@ -1,5 +1,5 @@
-pub mod Fitting
+pub mod FittingReplies
 pub mod Replies
 pub mod Rooms
-pub mod Storing
-pub mod Wanting
+pub mod StoreAnswers
+pub mod MemoryWants

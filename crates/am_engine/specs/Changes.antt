@@ -2,7 +2,7 @@
 use Rattle.std.specs.Prelude.{◌≡◌, ℕ, ◌≤◌, nat_le, List, [], ◌∷◌, ◌++◌, length, map, Bool, true, false}
 use Rattle.std.specs.Prelude.{if◌then◌else◌, Option, Some, None}
 use Rattle.am_record.specs.Limits.{max_limit, max_rows}
-use Rattle.am_record.specs.Numbered.{has_number, without_number}
+use Rattle.am_record.specs.ByNumber.{has_number, without_number}
 use Rattle.am_record.specs.declared.step.Op.TheVariants.{Scan}
 use Rattle.am_record.specs.declared.step.Step.{Step}
 use Rattle.am_record.specs.declared.step.Step.TheVariants.{Begin, Do, Commit, Abort}
@@ -12,7 +12,7 @@ use Rattle.am_record.specs.declared.step.Reply.TheVariants.{Begun, Rows, Committ
 use Rattle.am_serial.specs.Trace.{Trace, Effect}
 use Rattle.am_serial.specs.Trace as effect
 use Rattle.am_sound.specs.StoreState.{Active, StoreState}
-use Rattle.am_core.specs.Standing.{IsSoundAt}
+use Rattle.am_core.specs.StoreSteps.{IsSoundAt}
 use Rattle.am_engine.specs.declared.change.Change.{Change}
 use Rattle.am_engine.specs.declared.change.Change.TheVariants.{Begins, Ends, Nothing}
 

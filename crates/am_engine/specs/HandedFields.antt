@@ -1,6 +1,6 @@
 -- What always holds of the fields of what was handed out.
 use Rattle.std.specs.Prelude.{◌≡◌, ◌<◌}
-use Rattle.am_engine.specs.declared.handed.Handed.TheInside.{Inside}
+use Rattle.am_engine.specs.declared.hand_outs.Handed.TheInside.{Inside}
 
 -- the token is one of the table
 pub record IsHanded (h : Inside) : Type 0 where

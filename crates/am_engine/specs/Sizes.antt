@@ -3,7 +3,7 @@ use Rattle.am_parts.specs.declared.figures.Figures.{Figures}
 use Rattle.am_parts.specs.Figures.{AreFigures}
 use Rattle.am_serial.specs.Trace.{Trace}
 use Rattle.am_sound.specs.StoreState.{StoreState}
-use Rattle.am_core.specs.Standing.{IsSoundAt}
+use Rattle.am_core.specs.StoreSteps.{IsSoundAt}
 
 -- the figures of a store to which the trace leads
 pub record AreFiguresAt (trace : Trace) (f : Figures) : Type 0 where

@@ -8,7 +8,7 @@ ghost use Rattle.am_record.specs.declared.step.Reply.TheVariants.{Refused};
 ghost use Rattle.am_record.specs.declared.step.Refusal.TheVariants.{NoMemory as OutOfMemory, SeatFull};
 ghost use Rattle.am_serial.specs.Trace.{Trace};
 ghost use Rattle.am_core.specs.Memory.{may_want_memory};
-ghost use Rattle.am_core.specs.Standing.{IsSoundAt};
+ghost use Rattle.am_core.specs.StoreSteps.{IsSoundAt};
 ghost use Rattle.am_sound.specs.Right.{IsSoundStore};
 ghost use Rattle.am_engine.specs.Changes.{active_in_trace, numbers_active, end_of, is_refused, is_stored};
 ghost use Rattle.am_engine.specs.Changes.{HasTrace, TakesStep, MayFollow, IsBoundedReply};
@@ -19,7 +19,7 @@ ghost use Rattle.am_engine.specs.Wants.{MayWantMemory, pairs_needed};
 
 use crate::call_id::CallId;
 use crate::change::{Change, change_by, starts_tx, tx_to_end, was_refused, was_stored};
-use crate::handed::Handed;
+use crate::hand_outs::Handed;
 use crate::room::{StepCopy, copy_reply};
 use am_btree::BTree;
 use am_core::Store;

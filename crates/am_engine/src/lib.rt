@@ -10,12 +10,12 @@ mod call_id;
 mod change;
 mod engine;
 mod figures;
-mod handed;
+mod hand_outs;
 mod room;
 
 pub use call_id::CallId;
 pub use change::{Change, change_by, tx_to_end, was_refused, was_stored};
 pub use engine::{Engine, Piece};
 pub use figures::empty_figures;
-pub use handed::Events;
+pub use hand_outs::Events;
 pub use room::StepCopy;

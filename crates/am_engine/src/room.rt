@@ -5,7 +5,7 @@ ghost use Rattle.am_engine.specs.Changes.{end_of, room_of, count_rows};
 ghost use Rattle.am_engine.specs.Copies.{IsCopyOf};
 ghost use Rattle.am_engine.specs.Wants.{takes_lists};
 
-use am_record::{Key, NoMemory, Op, Pairs, Reply, Step, Value};
+use am_record::{Key, NoMemory, Op, Records, Reply, Step, Value};
 use std::alloc::Global;
 use std::marker::Model;
 
@@ -38,7 +38,7 @@ impl Room {
 
     /// A copy of these pairs, which is kept as long as the trace is: so where it leaves room, and memory is found, it
     /// has memory of its own, and the room is given back whole.
-    fn fill(self, alloc: Global, pairs: &Pairs) -> Pairs
+    fn fill(self, alloc: Global, pairs: &Records) -> Records
         requires { length pairs.now ≤ self }
         ensures { result ≡ pairs.now }
     {
@@ -51,7 +51,7 @@ impl Room {
         let Ok(()) = items.extend_from_slice(pairs.as_slice()) else {
             unreachable!();
         };
-        Pairs::new(items)
+        Records::new(items)
     }
 }
 

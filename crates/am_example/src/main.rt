@@ -3,7 +3,7 @@
 
 use am_btree::BTree;
 use am_core::Store;
-use am_record::{HashKey, Key, Op, Pairs, Range, Reply, Step, Value};
+use am_record::{HashKey, Key, Op, Range, Records, Reply, Step, Value};
 use anyhow::{Context, Result, bail};
 use std::alloc::Global;
 
@@ -18,12 +18,12 @@ fn value(text: &str) -> Result<Value> {
     Value::new(text.as_bytes()).context("a value has at most 64 bytes")
 }
 
-fn run_of(alloc: Global, records: &[(&str, &str)]) -> Result<Pairs> {
+fn run_of(alloc: Global, records: &[(&str, &str)]) -> Result<Records> {
     let mut run = Vec::new(alloc);
     for (name, price) in records {
         run.push((key(name)?, value(price)?))?;
     }
-    Ok(Pairs::new(run))
+    Ok(Records::new(run))
 }
 
 /// Takes operations as one transaction, and answers the last reply.

@@ -1,11 +1,11 @@
 pub mod Crosses
-pub mod Calling
+pub mod CallResults
 pub mod Each
-pub mod Holding
-pub mod Keeping
+pub mod EngineAndToken
+pub mod SeatReceipts
 pub mod Opens
 pub mod Places
 pub mod Rules
 pub mod Seats
-pub mod Taking
-pub mod Tying
+pub mod RuleSteps
+pub mod SeatTransactions

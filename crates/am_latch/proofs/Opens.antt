@@ -11,7 +11,7 @@ use Rattle.am_engine.specs.declared.call_id.CallId.{CallId}
 use Rattle.am_engine.specs.Traces.{CallLog, AreMadeBelow}
 use Rattle.am_latch.specs.Receipts.{SeatState, receipt, receipts_from, AreAll, HaveReceiptsIn}
 use Rattle.am_latch.specs.Ties.{open_of, open_in, IsTied, SeatsAreTied}
-use Rattle.am_latch.proofs.Keeping.{there_is}
+use Rattle.am_latch.proofs.SeatReceipts.{there_is}
 
 passed : (b : Bool) (x : Receipt) (xs ys : List Receipt) → b ≡ false → ys ≡ [] → (if b then x ∷ xs else ys) ≡ []
 passed true x xs ys e h = absurd (cc)

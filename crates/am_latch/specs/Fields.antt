@@ -10,8 +10,8 @@ use Rattle.am_latch.specs.declared.taker.Taker.TheInside.{Inside as TakerFields}
 use Rattle.am_latch.specs.Receipts.{moved_in, last_commit_of, positions_of, AreBehind, most_let_go}
 use Rattle.am_latch.specs.Ties.{open_of, HasRoom, AreNumbered, IsTied}
 use Rattle.am_latch.specs.Tables.{LatchTables}
-use Rattle.am_latch.specs.declared.taken.TakenView.TheVariants.{Handed, Whole}
-use Rattle.am_latch.specs.Taken.{IsTakerView}
+use Rattle.am_latch.specs.declared.taker_tie.TakenView.TheVariants.{Handed, Whole}
+use Rattle.am_latch.specs.HandOutRule.{IsTakerView}
 use Rattle.am_engine.specs.Traces.{AreMadeBelow, log_of}
 use Rattle.am_latch.specs.declared.views.View.TheVariants.{Minting, Log}
 use Rattle.am_latch.specs.Views.{seat_in, IsSeatView}

@@ -2,6 +2,6 @@ pub mod Views
 pub mod Faults
 pub mod Receipts
 pub mod Tables
-pub mod Taken
+pub mod HandOutRule
 pub mod Ties
 pub mod Fields

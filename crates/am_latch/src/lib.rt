@@ -9,19 +9,19 @@
 //! store's active transactions, and its end always finds its room.
 #![tactic(auto)]
 
-mod closing;
 mod latch;
+mod latch_end;
 mod latch_name;
 mod receipt;
 mod seat;
 mod state;
-mod taken;
 mod taker;
+mod taker_tie;
 mod view_steps;
 mod views;
 
-pub use closing::{Closed, Missing, close};
 pub use latch::{Blank, Latch, LatchFault, MAX_SEATS};
+pub use latch_end::{Closed, Missing, close};
 pub use latch_name::LatchName;
 pub use receipt::{CommitReceipt, Receipt};
 pub use seat::Seat;

@@ -11,14 +11,14 @@ ghost use Rattle.am_engine.specs.Traces.{CallLog, EngineState, log_of, empty_log
 ghost use Rattle.am_latch.specs.Receipts.{receipts_of};
 ghost use Rattle.am_engine.specs.Sizes.{AreFiguresAt};
 ghost use Rattle.am_latch.specs.Ties.{open_of, EndsTx, IsTied, IsEngineOf};
-ghost use Rattle.am_latch.specs.declared.taken.TakenView.TheVariants.{Handed};
+ghost use Rattle.am_latch.specs.declared.taker_tie.TakenView.TheVariants.{Handed};
 ghost use Rattle.am_latch.specs.declared.views.View.TheVariants.{Log, Receipts};
 ghost use Rattle.am_latch.specs.Views.{seat_in, seat_with, IsSeatView};
 
 use crate::latch_name::LatchName;
 use crate::seat::Seat;
-use crate::taken::{TakenTable, TakenToken, TakenView, hand_over};
 use crate::taker::Taker;
+use crate::taker_tie::{TakenTable, TakenToken, TakenView, hand_over};
 use crate::view_steps::{append_call, compare_receipts};
 use crate::views::{Token, View, ViewTable};
 use am_engine::{CallId, Change, Engine, Piece, StepCopy, change_by, was_stored};

@@ -3,9 +3,9 @@ use Rattle.std.proofs.Common.{◌≡◌, ℕ, zero, suc, ◌<◌, ◌≤◌, Boo
 use Rattle.std.proofs.Common.{None, sym, ap, ◌∙◌, arith}
 use Rattle.std.proofs.lemmas.Bool.{cond-true, cond-false}
 use Rattle.am_record.specs.declared.entry.Entry.{Entry}
-use Rattle.am_list.specs.Entries.{first_such}
-use Rattle.am_list.proofs.Lists.{first_such_none}
-use Rattle.am_list.proofs.Searches.{all_drop}
+use Rattle.am_index.specs.Entries.{first_such}
+use Rattle.am_index.proofs.Lists.{first_such_none}
+use Rattle.am_index.proofs.Searches.{all_drop}
 use Rattle.am_leaf.specs.declared.leaf.RawLeaf.TheInside.{Inside}
 use Rattle.am_leaf.specs.Leaf.{entries, IsLeaf}
 use Rattle.am_leaf.specs.Bits.{has_bit, IsNextBit}

@@ -2,7 +2,7 @@
 use Rattle.std.proofs.Common.{◌≡◌, List, [], ◌^◌, ◌<◌, length, sym, ap, ◌∙◌, subst, arith}
 use Rattle.std.proofs.lemmas.List.{nil_from_length}
 use Rattle.am_record.specs.declared.entry.Entry.{Entry}
-use Rattle.am_list.specs.Entries.{IsRising}
+use Rattle.am_index.specs.Entries.{IsRising}
 use Rattle.am_leaf.specs.declared.leaf.RawLeaf.TheInside.{Inside}
 use Rattle.am_leaf.specs.Leaf.{entries, IsLeaf}
 use Rattle.am_leaf.proofs.BitLemmas.{pow_mono}

@@ -1,12 +1,12 @@
 pub mod Crosses
-pub mod Extending
-pub mod Fitting
+pub mod ExtendedLeaves
+pub mod FittingValues
 pub mod Ghosts
 pub mod Heap
 pub mod Leaves
 pub mod BitLemmas
 pub mod Memory
 pub mod Moves
-pub mod Rising
+pub mod RisingEntries
 pub mod Stretches
 pub mod Zips

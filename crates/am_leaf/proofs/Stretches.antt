@@ -9,12 +9,12 @@ use Rattle.std.specs.List.{AllByRecursion}
 use Rattle.am_record.specs.OrderedKey.{OrderedKey, key_cmp}
 use Rattle.am_record.specs.KeyFront.{key_front}
 use Rattle.am_record.specs.EntryOrder.{Place, place_of, place_cmp, place_cmp-total, place_cmp-part, place_cmp-same}
-use Rattle.am_record.proofs.Fronting.{NeverFalls, falls-drop, lower_first, higher_last}
+use Rattle.am_record.proofs.NumberOrder.{NeverFalls, falls-drop, lower_first, higher_last}
 use Rattle.am_record.proofs.Lists.{AllByRecursion-map, AllByRecursion-at, AllByRecursion-take, AllByRecursion-drop}
 use Rattle.am_record.proofs.Lists.{some_item}
 use Rattle.am_record.proofs.Orderings.{less_or_greater}
 use Rattle.am_record.proofs.PlaceOrder.{turned_less}
-use Rattle.am_list.specs.Entries.{IsRising}
+use Rattle.am_index.specs.Entries.{IsRising}
 use Rattle.am_leaf.specs.Fronts.{front_in_part, count_lower, count_alike}
 use Rattle.am_leaf.specs.Leaf.{entries_of}
 use Rattle.am_leaf.specs.Stretch.{PlacesRise, IsStretchFor}

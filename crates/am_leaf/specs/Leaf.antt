@@ -2,10 +2,10 @@
 use Rattle.std.specs.Prelude.{◌≡◌, ℕ, ◌/◌, ◌^◌, ◌<◌, ◌≤◌, List, [], ◌∷◌, length}
 use Rattle.am_record.specs.declared.entry.Entry.{Entry}
 use Rattle.am_record.specs.EntryOrder.{Place}
-use Rattle.am_list.specs.Entries.{IsRising}
+use Rattle.am_index.specs.Entries.{IsRising}
 use Rattle.am_leaf.specs.declared.leaf.RawLeaf.TheInside.{Inside}
 use Rattle.am_leaf.specs.Bits.{has_bit}
-use Rattle.am_leaf.specs.Seen.{Seen, NoneLonger}
+use Rattle.am_leaf.specs.LeafCode.{Seen, NoneLonger}
 
 -- places, values and bits, one by one
 abbrev pub entries_of : List Place → List (List ℕ) → ℕ → List Entry

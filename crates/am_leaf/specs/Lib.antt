@@ -3,7 +3,7 @@ pub mod Changes
 pub mod Columns
 pub mod Fronts
 pub mod Stretch
-pub mod Seen
+pub mod LeafCode
 pub mod Runs
 pub mod ValueKinds
 pub mod PlaceKinds

@@ -5,11 +5,11 @@ ghost use Rattle.std.specs.Prelude.{slice_index_or, MatchBool};
 ghost use Rattle.std.specs.List.{insert, remove};
 ghost use Rattle.am_record.specs.EntryOrder.{place_cmp, place_of};
 ghost use Rattle.am_record.specs.declared.entry.Entry.{Entry};
-ghost use Rattle.am_list.specs.Entries.{first_such, IsRising};
-ghost use Rattle.am_list.specs.Places.{IsPlaceOf, IsGapFor};
-ghost use Rattle.am_list.specs.Runs.{run_entries};
+ghost use Rattle.am_index.specs.Entries.{first_such, IsRising};
+ghost use Rattle.am_index.specs.Places.{IsPlaceOf, IsGapFor};
+ghost use Rattle.am_index.specs.Runs.{run_entries};
 ghost use Rattle.am_leaf.specs.Changes.{set_at};
-ghost use Rattle.am_leaf.specs.Seen.{SameRoom, Widened, Fits, KeysFit, ValuesFit, ValuesHaveRoom};
+ghost use Rattle.am_leaf.specs.LeafCode.{SameRoom, Widened, Fits, KeysFit, ValuesFit, ValuesHaveRoom};
 ghost use Rattle.am_record.specs.OrderedKey.{bytes_of};
 
 use crate::bits::{change_bit, has_bit, insert_bit, next_bit, remove_bit, split_bits};
@@ -34,7 +34,7 @@ pub struct RawLeaf {
 }
 
 impl Model for RawLeaf {
-    ghost use Rattle.am_leaf.specs.Seen.{Seen, seen_code};
+    ghost use Rattle.am_leaf.specs.LeafCode.{Seen, seen_code};
 
     ghost Value = { Seen };
 

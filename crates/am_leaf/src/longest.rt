@@ -1,7 +1,7 @@
 //! The longest keys and values of a run.
 
 ghost use Rattle.std.specs.Prelude.{◌≤◌};
-ghost use Rattle.am_leaf.specs.Seen.{KeysFit, ValuesFit};
+ghost use Rattle.am_leaf.specs.LeafCode.{KeysFit, ValuesFit};
 
 use am_record::{Key, Value};
 

@@ -6,7 +6,7 @@ ghost use Rattle.std.specs.List.{insert, remove};
 ghost use Rattle.am_record.specs.EntryOrder.{Place};
 ghost use Rattle.am_record.specs.OrderedKey.{bytes_of};
 ghost use Rattle.am_leaf.specs.Fronts.{front_in_part, count_lower, count_alike};
-ghost use Rattle.am_leaf.specs.Seen.{KeysFit};
+ghost use Rattle.am_leaf.specs.LeafCode.{KeysFit};
 ghost use Rattle.am_leaf.specs.Runs.{places_of};
 
 use crate::block::Block;

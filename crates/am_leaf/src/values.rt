@@ -3,7 +3,7 @@
 ghost use Rattle.std.specs.Prelude.{◌≡◌, ◌<◌, ◌≤◌, ◌+◌, ◌∷◌, ◌++◌, [], length, take, drop, slice_index_or, slice_set};
 ghost use Rattle.std.specs.Prelude.{◌⊎◌, IfOk, OnOk, OnErr};
 ghost use Rattle.std.specs.List.{insert, remove};
-ghost use Rattle.am_leaf.specs.Seen.{ValuesFit};
+ghost use Rattle.am_leaf.specs.LeafCode.{ValuesFit};
 ghost use Rattle.am_leaf.specs.Runs.{values_of};
 
 use crate::block::Block;

@@ -1,11 +1,11 @@
 //! The plain index: a sorted vector.
 
 ghost use Rattle.std.specs.Prelude.{◌≡◌, ◌<◌, ◌^◌, List, [], length, slice_get, ◌++◌, IfOk, IfErr, OnOk, OnErr};
-ghost use Rattle.am_list.specs.Entries.{IsRising};
-ghost use Rattle.am_list.specs.Places.{IsPlaceOf, IsGapFor, IsLowerBound, IsUpperBound, only_of};
-ghost use Rattle.am_list.specs.Runs.{run_entries};
+ghost use Rattle.am_index.specs.Entries.{IsRising};
+ghost use Rattle.am_index.specs.Places.{IsPlaceOf, IsGapFor, IsLowerBound, IsUpperBound, only_of};
+ghost use Rattle.am_index.specs.Runs.{run_entries};
 
-use am_list::{Batch, PartIndex};
+use am_index::{Batch, PartIndex};
 use am_record::{Entry, Key, NoMemory, Range, Value};
 use std::alloc::Global;
 use std::marker::Model;
@@ -19,8 +19,8 @@ pub struct ListIndex {
 impl Model for ListIndex {
     ghost use Rattle.std.specs.Prelude.{List};
     ghost use Rattle.am_record.specs.declared.entry.Entry.{Entry};
-    ghost use Rattle.am_list.specs.EntryCode.{entries_code};
-    ghost use Rattle.am_list.specs.Entries.{IsRising};
+    ghost use Rattle.am_index.specs.EntryCode.{entries_code};
+    ghost use Rattle.am_index.specs.Entries.{IsRising};
 
     ghost Value = { List Entry };
 

@@ -3,13 +3,13 @@
 ghost use Rattle.std.specs.Prelude.{◌≡◌, ◌<◌, ◌≤◌, ◌+◌, ◌-◌, ◌^◌, ◌++◌, length, take, min, Some, None, if◌then◌else◌};
 ghost use Rattle.std.specs.Prelude.{IsSome, is_some, is_none, IsErr, IfOk, OnOk, OnErr};
 ghost use Rattle.std.specs.List.{AllByRecursion, Contains};
-ghost use Rattle.am_list.specs.Entries.{find, entry_at, insert_entry, all_inserted, set_entry, remove_entry};
-ghost use Rattle.am_list.specs.Entries.{remove_from, IsRising};
-ghost use Rattle.am_list.specs.Content.{live_value};
-ghost use Rattle.am_list.specs.Runs.{run_entries};
-ghost use Rattle.am_list.specs.Rooms.{HasRoom, KeepRoom};
+ghost use Rattle.am_index.specs.Entries.{find, entry_at, insert_entry, all_inserted, set_entry, remove_entry};
+ghost use Rattle.am_index.specs.Entries.{remove_from, IsRising};
+ghost use Rattle.am_index.specs.Content.{live_value};
+ghost use Rattle.am_index.specs.Runs.{run_entries};
+ghost use Rattle.am_index.specs.Rooms.{HasRoom, KeepRoom};
 
-use am_list::{Batch, PartIndex};
+use am_index::{Batch, PartIndex};
 use am_record::{Entry, Key, NoMemory, Range, Value};
 use std::marker::Model;
 
@@ -24,7 +24,7 @@ pub struct Tight<I: PartIndex + Drop> {
 }
 
 impl<I: PartIndex + Drop> Model for Tight<I> {
-    ghost use Rattle.am_list_index.specs.Refusing.{Refusing, refusing_code};
+    ghost use Rattle.am_list_index.specs.RefusingIndex.{Refusing, refusing_code};
 
     ghost Value = { Refusing };
 
@@ -54,7 +54,7 @@ impl<I: PartIndex + Drop> Tight<I> {
     }
 }
 
-#[tactic(auto, using(am_list::proofs::Rooms::keep_all))]
+#[tactic(auto, using(am_index::proofs::Rooms::keep_all))]
 impl<I: PartIndex + Drop> PartIndex for Tight<I> {
     ghost entries = { λ t. t.entries };
 

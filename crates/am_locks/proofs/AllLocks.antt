@@ -25,11 +25,11 @@ use Rattle.am_locks.specs.KeyFilter.{any_within}
 use Rattle.am_locks.proofs.Apart.{Spares, Spares-own, filter_none}
 use Rattle.am_locks.proofs.Buckets.{may_clash-from_conflict, may_clash-from_near, may_clash-from_exclusive}
 use Rattle.am_locks.proofs.Buckets.{is_at-from_within}
-use Rattle.am_locks.proofs.Counting.{none_counted, count_by-le-count_by, one, one_more, may_clash-counted}
-use Rattle.am_locks.proofs.Counting.{AreCountsOf-same}
-use Rattle.am_locks.proofs.Filtering.{none_of}
+use Rattle.am_locks.proofs.LockCounts.{none_counted, count_by-le-count_by, one, one_more, may_clash-counted}
+use Rattle.am_locks.proofs.LockCounts.{AreCountsOf-same}
+use Rattle.am_locks.proofs.FilterAnswers.{none_of}
 use Rattle.am_record.proofs.Lists.{AllByRecursion-from_All}
-use Rattle.am_record.proofs.Numbered.{has_number-none, without_number-none}
+use Rattle.am_record.proofs.ByNumber.{has_number-none, without_number-none}
 
 -- ---- counts of the locks of all owners
 

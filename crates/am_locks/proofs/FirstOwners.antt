@@ -7,7 +7,7 @@ use Rattle.std.proofs.lemmas.List.Elements.{All-nil, All-cons, All-head, All-con
 use Rattle.am_record.specs.OrderedKey.{OrderedKey}
 use Rattle.am_record.specs.Locks.{conflicts}
 use Rattle.am_record.specs.Asks.{owns}
-use Rattle.am_record.specs.Numbered.{RiseBy}
+use Rattle.am_record.specs.ByNumber.{RiseBy}
 use Rattle.am_record.specs.Owners.{blocker_among, holder_among}
 use Rattle.am_record.specs.declared.lock.Lock.{Lock}
 use Rattle.am_locks.specs.OwnerLocks.{OwnerLocks, blocks, is_exclusive_at}

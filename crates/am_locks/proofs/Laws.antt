@@ -1,8 +1,8 @@
 -- What the calls leave of each owner, for proofs above.
 use Rattle.std.proofs.Common.{◌≡◌, ◌≢◌, ℕ, List, [], true, refl}
 use Rattle.am_record.specs.declared.lock.Lock.{Lock}
-use Rattle.am_record.proofs.Numbered.{has_number-with_changed, of_number-with_changed, of_number-with_changed_other}
-use Rattle.am_record.proofs.Numbered.{of_number-push_none, of_number-without_other}
+use Rattle.am_record.proofs.ByNumber.{has_number-with_changed, of_number-with_changed, of_number-with_changed_other}
+use Rattle.am_record.proofs.ByNumber.{of_number-push_none, of_number-without_other}
 use Rattle.am_locks.specs.OwnerLocks.{OwnerLocks}
 use Rattle.am_locks.specs.Table.{is_owner, locks_owned, entered, with_locks, without_owner}
 

@@ -2,8 +2,8 @@ pub mod Spans
 pub mod Puts
 pub mod FirstLocks
 pub mod Buckets
-pub mod Counting
-pub mod Filtering
+pub mod LockCounts
+pub mod FilterAnswers
 pub mod Conflicts
 pub mod Apart
 pub mod AllLocks

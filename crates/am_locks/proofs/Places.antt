@@ -11,7 +11,7 @@ use Rattle.std.proofs.lemmas.List.{length-map}
 use Rattle.std.proofs.lemmas.List.Elements.{All-weaker}
 use Rattle.am_record.specs.declared.lock.Lock.{Lock}
 use Rattle.am_record.proofs.Lists.{AllByRecursion-from_All}
-use Rattle.am_record.proofs.Numbered.{AreOnce, has_number-none, of_number-at, set-with_changed}
+use Rattle.am_record.proofs.ByNumber.{AreOnce, has_number-none, of_number-at, set-with_changed}
 use Rattle.am_locks.specs.OwnerLocks.{OwnerLocks, AreApart}
 use Rattle.am_locks.specs.Table.{is_owner, owner_numbers, locks_owned, with_locks, AreAllApart}
 

@@ -1,8 +1,8 @@
 -- What asking for a lock may answer.
 use Rattle.std.specs.Prelude.{ℕ, ◌≤◌, List}
 use Rattle.std.specs.List.{All, Contains}
-use Rattle.am_locks.specs.declared.asked.Asked.{Asked}
-use Rattle.am_locks.specs.declared.asked.Asked.TheVariants.{Granted, Busy, TooManyLocks, NoMemory}
+use Rattle.am_locks.specs.declared.lock_answers.Asked.{Asked}
+use Rattle.am_locks.specs.declared.lock_answers.Asked.TheVariants.{Granted, Busy, TooManyLocks, NoMemory}
 
 -- the number is one of these, and none of them is below it
 pub record IsLeastOf (numbers : List ℕ) (n : ℕ) : Type 0 where

@@ -2,7 +2,7 @@
 use Rattle.std.specs.Prelude.{ℕ, List, [], ◌∷◌, ◌++◌, Bool, map, filter}
 use Rattle.std.specs.List.{All}
 use Rattle.am_record.specs.OrderedKey.{OrderedKey}
-use Rattle.am_record.specs.Numbered.{has_number, of_number, with_changed, without_number}
+use Rattle.am_record.specs.ByNumber.{has_number, of_number, with_changed, without_number}
 use Rattle.am_record.specs.declared.lock.Lock.{Lock}
 use Rattle.am_locks.specs.OwnerLocks.{OwnerLocks, blocks, is_exclusive_at, AreApart}
 

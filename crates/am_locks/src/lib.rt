@@ -1,15 +1,15 @@
 //! The table of range locks: who holds which, and what is granted.
 #![tactic(auto)]
 
-mod asked;
 mod front;
 mod fronts;
 mod invariant;
 mod key_counts;
 mod key_filter;
+mod lock_answers;
 mod owner;
 mod table;
 
-pub use asked::Asked;
 pub use invariant::{owners_never_conflict, uncounted_keys_are_free};
+pub use lock_answers::Asked;
 pub use table::LockTable;

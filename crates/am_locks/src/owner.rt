@@ -11,10 +11,10 @@ ghost use Rattle.am_locks.specs.KeyCounts.{key_bucket, bucket_of, is_near};
 ghost use Rattle.am_locks.specs.KeyFilter.{IsFilterOf};
 ghost use Rattle.smallvec.specs.SmallVec.{HasRoomFor};
 
-use crate::asked::Asked;
 use crate::fronts::Fronts;
 use crate::key_counts::WIDE;
 use crate::key_filter::{KeyFilter, key_filter_of};
+use crate::lock_answers::Asked;
 use am_record::{Key, Lock, MAX_LOCKS};
 use smallvec::SmallVec;
 use std::alloc::{AllocError, Global};

@@ -13,8 +13,8 @@ ghost use Rattle.am_locks.specs.Table.{exclusive_holders};
 ghost use Rattle.am_locks.specs.Table.{AreAllApart};
 ghost use Rattle.am_locks.specs.Answers.{IsLeastOf, MatchBusy};
 
-use crate::asked::Asked;
 use crate::key_counts::{KeyCounts, WIDE, bucket_of, key_bucket};
+use crate::lock_answers::Asked;
 use crate::owner::Owner;
 use am_record::{Key, Lock, MAX_ACTIVE, Mode, NoMemory};
 use std::alloc::Global;

@@ -1,9 +1,9 @@
 //! The calls, in their order.
 
 use crate::fault::Fault;
-use crate::filling::list_of_five;
-use crate::loading::loads_of_a_list;
-use crate::mapping::{plain_alone, plain_answers};
+use crate::indexes::list_of_five;
+use crate::loads::loads_of_a_list;
+use crate::plain_map::{plain_alone, plain_answers};
 use crate::texts::replies;
 use std::alloc::Global;
 

@@ -5,10 +5,10 @@
 
 mod call;
 mod fault;
-mod filling;
-mod loading;
-mod mapping;
+mod indexes;
+mod loads;
 mod numbers;
+mod plain_map;
 mod texts;
 
 use call::{CALLS, Call};

@@ -2,7 +2,7 @@
 
 use crate::fault::{Fault, expect};
 use crate::numbers::pairs_of;
-use am_record::{NoMemory, Pairs, Reply};
+use am_record::{NoMemory, Records, Reply};
 use am_wire::reply_text;
 use std::alloc::Global;
 
@@ -15,6 +15,6 @@ fn text(alloc: Global, reply: &Reply) -> Result<Vec<u8>, NoMemory> {
 
 /// The text of a reply of rows.
 pub(crate) fn replies(alloc: Global) -> Result<(), Fault> {
-    let rows = Reply::Rows(Pairs::new(pairs_of(alloc, 0, 0)?));
+    let rows = Reply::Rows(Records::new(pairs_of(alloc, 0, 0)?));
     expect(text(alloc, &rows)?.as_slice() == b"ROWS 0\n".as_slice())
 }

@@ -10,9 +10,9 @@ use Rattle.am_record.specs.EntryOrder.{Place, place_of, place_cmp}
 use Rattle.am_record.specs.declared.entry.Entry.{Entry}
 use Rattle.am_record.proofs.Lists.{AllByRecursion-map}
 use Rattle.am_record.proofs.PlaceOrder.{turned_less}
-use Rattle.am_list.specs.Entries.{first_such, entry_at, IsRising}
-use Rattle.am_list.proofs.Lists.{first_such_none}
-use Rattle.am_list.proofs.Edits.{place_cmp-itself, first_such_all, none_such}
+use Rattle.am_index.specs.Entries.{first_such, entry_at, IsRising}
+use Rattle.am_index.proofs.Lists.{first_such_none}
+use Rattle.am_index.proofs.Edits.{place_cmp-itself, first_such_all, none_such}
 use Rattle.am_merge.specs.Walks.{is_from}
 
 -- whether a walk that stands at the first entry still comes to the second one; where it stands at none it has ended

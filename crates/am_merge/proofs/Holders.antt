@@ -5,8 +5,8 @@ use Rattle.am_record.specs.OrderedKey.{OrderedKey}
 use Rattle.am_locks.specs.OwnerLocks.{OwnerLocks, is_exclusive_at}
 use Rattle.am_locks.specs.Table.{exclusive_holders, AreAllApart}
 use Rattle.am_locks.proofs.Apart.{exclusive_holders-find}
-use Rattle.am_effect.specs.Merging.{Holders}
-use Rattle.am_merge.specs.Holding.{holder_of}
+use Rattle.am_effect.specs.MergeAnswers.{Holders}
+use Rattle.am_merge.specs.LockHolders.{holder_of}
 
 found_first : (table : List OwnerLocks) (key : OrderedKey) →
     holder_of table key ≡ option_map (λ (h : OwnerLocks). h.owner) (find (is_exclusive_at key) table)

@@ -1,12 +1,12 @@
 pub mod Holders
 pub mod Firsts
 pub mod Walks
-pub mod Homing
+pub mod EntriesGoHome
 mod Rooms
-pub mod Passing
-pub mod Skipping
+pub mod PassingPrefixes
+pub mod PassedRuns
 pub mod Stretches
-pub mod Leaving
-pub mod Merging
+pub mod LeftRuns
+pub mod MergeSteps
 pub mod Replies
-pub mod Cleaning
+pub mod CleanSteps

@@ -9,16 +9,16 @@ use Rattle.am_record.specs.declared.entry.Entry.{Entry}
 use Rattle.am_record.specs.declared.step.Refusal.TheVariants.{NoMemory}
 use Rattle.am_record.specs.declared.step.Reply.{Reply}
 use Rattle.am_record.specs.declared.step.Reply.TheVariants.{Moved, MergeDone, Ended, Refused}
-use Rattle.am_list.specs.Entries.{first_such}
-use Rattle.am_list.specs.Content.{content}
+use Rattle.am_index.specs.Entries.{first_such}
+use Rattle.am_index.specs.Content.{content}
 use Rattle.am_parts.specs.Partitions.{AreWellFormed}
-use Rattle.am_effect.specs.Merging.{Holders, candidates, all_worked_off, most, AnswersFirst, AnswersCandidates}
-use Rattle.am_effect.specs.Merging.{MergeRight, merged_by}
+use Rattle.am_effect.specs.MergeAnswers.{Holders, candidates, all_worked_off, most, AnswersFirst, AnswersCandidates}
+use Rattle.am_effect.specs.MergeAnswers.{MergeRight, merged_by}
 use Rattle.am_effect.proofs.Maintenance.{merge_maintains}
 use Rattle.am_merge.specs.Walks.{in_parts_from}
 use Rattle.am_merge.specs.Steps.{IsAsFar}
 use Rattle.am_merge.proofs.Firsts.{first_head, no_head, a_head}
-use Rattle.am_merge.proofs.Passing.{one_more}
+use Rattle.am_merge.proofs.PassingPrefixes.{one_more}
 use Rattle.am_merge.proofs.Stretches.{may_move}
 
 module _ (es : List Entry) (held : Holders) (limit : ℕ) (wishes : List Interval) (wish : Interval)

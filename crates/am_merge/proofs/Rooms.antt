@@ -6,16 +6,16 @@ use Rattle.std.proofs.lemmas.Bool.{cond-false, false≢true}
 use Rattle.am_record.specs.OrderedKey.{OrderedKey}
 use Rattle.am_record.specs.EntryOrder.{Place}
 use Rattle.am_record.specs.declared.entry.Entry.{Entry}
-use Rattle.am_list.specs.Entries.{Slot, slot_of, find, remove_entry, IsRising}
-use Rattle.am_list.specs.Edits.{same_place}
-use Rattle.am_list.specs.Rooms.{KeepRoom}
-use Rattle.am_list.proofs.Edits.{other_part}
-use Rattle.am_list.proofs.Rooms.{keep_on}
-use Rattle.am_effect.specs.Merging.{worked_off, all_worked_off}
+use Rattle.am_index.specs.Entries.{Slot, slot_of, find, remove_entry, IsRising}
+use Rattle.am_index.specs.Edits.{same_place}
+use Rattle.am_index.specs.Rooms.{KeepRoom}
+use Rattle.am_index.proofs.Edits.{other_part}
+use Rattle.am_index.proofs.Rooms.{keep_on}
+use Rattle.am_effect.specs.MergeAnswers.{worked_off, all_worked_off}
 use Rattle.am_effect.specs.Places.{look, put}
 use Rattle.am_effect.proofs.Lists.{look-put, look-removed}
 use Rattle.am_effect.proofs.Merges.{rising-worked_off}
-use Rattle.am_merge.proofs.Homing.{ghost_goes}
+use Rattle.am_merge.proofs.EntriesGoHome.{ghost_goes}
 
 less_stands : (b : Bool) (o : Option Slot) → IsSome (cond b None o) → IsSome o
 less_stands true o there = absurd (false≢true there)

@@ -20,12 +20,12 @@ use Rattle.am_record.specs.declared.entry.Entry.{Entry}
 use Rattle.am_record.proofs.KeyOrder.{key_le_trans}
 use Rattle.am_record.proofs.Lists.{AllByRecursion-always, AllByRecursion-map, filter-yes, filter-no}
 use Rattle.am_record.proofs.Outcomes.{same_test}
-use Rattle.am_list.specs.Entries.{first_such, all_from, IsRising}
-use Rattle.am_effect.specs.Merging.{Holders, candidates}
+use Rattle.am_index.specs.Entries.{first_such, all_from, IsRising}
+use Rattle.am_effect.specs.MergeAnswers.{Holders, candidates}
 use Rattle.am_merge.specs.Steps.{is_free_in}
 use Rattle.am_merge.specs.Walks.{in_part, in_parts_from}
 use Rattle.am_merge.proofs.Firsts.{All-passed, first_head, head_of}
-use Rattle.am_merge.proofs.Passing.{passing}
+use Rattle.am_merge.proofs.PassingPrefixes.{passing}
 use Rattle.am_merge.proofs.Walks.{le_part, same_part, ge_key}
 
 -- ---- the beginning of a list that passes a test

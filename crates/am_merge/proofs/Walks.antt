@@ -18,11 +18,11 @@ use Rattle.am_record.proofs.PlaceOrder.{lower_part}
 use Rattle.am_record.proofs.Outcomes.{same_test}
 use Rattle.am_record.proofs.Orderings.{le_not_greater, ge_reversed, le_not_gt, not_gt_le, gt_reversed, lt_le}
 use Rattle.am_record.proofs.KeyOrder.{key_le_trans}
-use Rattle.am_list.specs.Entries.{first_such, next_ghost, after, IsRising}
-use Rattle.am_list.proofs.Lists.{first_such_none}
-use Rattle.am_list.proofs.Edits.{first_such_all, first_such_passes, none_such}
-use Rattle.am_list.proofs.WalkLaws.{first_stands}
-use Rattle.am_parts.specs.Merged.{HasNoneBefore}
+use Rattle.am_index.specs.Entries.{first_such, next_ghost, after, IsRising}
+use Rattle.am_index.proofs.Lists.{first_such_none}
+use Rattle.am_index.proofs.Edits.{first_such_all, first_such_passes, none_such}
+use Rattle.am_index.proofs.WalkLaws.{first_stands}
+use Rattle.am_parts.specs.MergedRanges.{HasNoneBefore}
 use Rattle.am_parts.specs.Partitions.{AreWellFormed}
 use Rattle.am_merge.specs.Walks.{in_parts_from, later, is_from, ghost_from, GoesOnAt}
 use Rattle.am_merge.proofs.Firsts.{comes_to, All-zip, first_same, none_under, first_comes, first_is}

@@ -1,3 +1,3 @@
-pub mod Holding
+pub mod LockHolders
 pub mod Walks
 pub mod Steps

@@ -4,7 +4,7 @@ use Rattle.std.specs.List.{AllByRecursion}
 use Rattle.am_record.specs.Interval.{Interval, key_le, within}
 use Rattle.am_record.specs.EntryOrder.{Place}
 use Rattle.am_record.specs.declared.entry.Entry.{Entry}
-use Rattle.am_effect.specs.Merging.{Holders, most, FirstNeedsRoom}
+use Rattle.am_effect.specs.MergeAnswers.{Holders, most, FirstNeedsRoom}
 use Rattle.am_merge.specs.Walks.{is_from}
 
 -- n of the candidates cs are worked off: as many as may be, or fewer where the next one needs room

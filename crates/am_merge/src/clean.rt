@@ -1,15 +1,15 @@
 //! Clean steps.
 
 ghost use Rattle.std.specs.Prelude.{◌≡◌, ◌≤◌};
-ghost use Rattle.am_list.specs.Content.{content};
-ghost use Rattle.am_list.specs.Entries.{first_such};
-ghost use Rattle.am_list.specs.Rooms.{KeepRoom};
-ghost use Rattle.am_effect.specs.Merging.{CleanRight, cleaned_by, all_worked_off};
-ghost use Rattle.am_merge.specs.Holding.{holder_of};
+ghost use Rattle.am_index.specs.Content.{content};
+ghost use Rattle.am_index.specs.Entries.{first_such};
+ghost use Rattle.am_index.specs.Rooms.{KeepRoom};
+ghost use Rattle.am_effect.specs.MergeAnswers.{CleanRight, cleaned_by, all_worked_off};
+ghost use Rattle.am_merge.specs.LockHolders.{holder_of};
 ghost use Rattle.am_merge.specs.Steps.{is_cleanable, HasPassedNone};
 
 use crate::walk::{first_ghost, is_free, place_after};
-use am_list::PartIndex;
+use am_index::PartIndex;
 use am_locks::LockTable;
 use am_parts::Parts;
 use am_record::{Entry, Key, Range, Reply};

@@ -5,8 +5,8 @@ ghost use Rattle.std.specs.Option.{option_to_list};
 ghost use Rattle.am_record.specs.OrderedKey.{OrderedKey};
 ghost use Rattle.am_locks.specs.OwnerLocks.{OwnerLocks};
 ghost use Rattle.am_locks.specs.Table.{exclusive_holders, AreAllApart};
-ghost use Rattle.am_effect.specs.Merging.{Holders};
-ghost use Rattle.am_merge.specs.Holding.{holder_of};
+ghost use Rattle.am_effect.specs.MergeAnswers.{Holders};
+ghost use Rattle.am_merge.specs.LockHolders.{holder_of};
 
 /// A key's holder by a table of locks is the one owner with an exclusive lock on it, and whoever
 /// names the same owners at every key speaks of the same holders.

@@ -1,19 +1,19 @@
 //! Merge steps.
 
 ghost use Rattle.std.specs.Prelude.{◌≡◌, ◌≤◌, ◌+◌, true, Some, take, take_while, length};
-ghost use Rattle.am_list.specs.Content.{content};
-ghost use Rattle.am_list.specs.Entries.{first_such, all_from};
-ghost use Rattle.am_list.specs.Rooms.{HaveRoom, KeepRoom};
-ghost use Rattle.am_parts.specs.Merged.{HasNoneBefore};
+ghost use Rattle.am_index.specs.Content.{content};
+ghost use Rattle.am_index.specs.Entries.{first_such, all_from};
+ghost use Rattle.am_index.specs.Rooms.{HaveRoom, KeepRoom};
+ghost use Rattle.am_parts.specs.MergedRanges.{HasNoneBefore};
 ghost use Rattle.am_parts.specs.Partitions.{AreWellFormed};
-ghost use Rattle.am_effect.specs.Merging.{MergeRight, merged_by, wishes_left, all_worked_off, candidates};
-ghost use Rattle.am_merge.specs.Holding.{holder_of};
+ghost use Rattle.am_effect.specs.MergeAnswers.{MergeRight, merged_by, wishes_left, all_worked_off, candidates};
+ghost use Rattle.am_merge.specs.LockHolders.{holder_of};
 ghost use Rattle.am_merge.specs.Walks.{in_parts_from};
 ghost use Rattle.am_merge.specs.Steps.{IsAsFar, is_free_in, go_on_outside};
 
 use crate::walk::{first_in_runs, is_free, read_run};
 use crate::wishes::Wishes;
-use am_list::{Batch, PartIndex};
+use am_index::{Batch, PartIndex};
 use am_locks::LockTable;
 use am_parts::Parts;
 use am_record::{Entry, Range, Refusal, Reply};

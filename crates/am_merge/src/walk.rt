@@ -2,12 +2,12 @@
 
 ghost use Rattle.std.specs.Prelude.{◌≡◌, true, None, take, is_none, IfSome, IfNone};
 ghost use Rattle.am_record.specs.Interval.{key_le, within};
-ghost use Rattle.am_list.specs.Entries.{first_such, all_from};
+ghost use Rattle.am_index.specs.Entries.{first_such, all_from};
 ghost use Rattle.am_parts.specs.Partitions.{AreWellFormed};
 ghost use Rattle.am_merge.specs.Walks.{in_part, in_parts_from, later, ghost_from, GoesOnAt};
-ghost use Rattle.am_merge.specs.Holding.{holder_of};
+ghost use Rattle.am_merge.specs.LockHolders.{holder_of};
 
-use am_list::{Batch, PartIndex};
+use am_index::{Batch, PartIndex};
 use am_locks::LockTable;
 use am_parts::Parts;
 use am_record::{Entry, Key, Range};

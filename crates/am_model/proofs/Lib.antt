@@ -3,5 +3,5 @@ mod Leasts
 mod Live
 mod Maps
 mod Marks
-mod Ordered
-mod Sorted
+mod OrderedRanges
+mod SortedEntries

@@ -13,7 +13,7 @@ use Rattle.am_record.specs.Plain.{Records, PlainMap}
 use Rattle.am_record.proofs.Outcomes.{is_true}
 use Rattle.am_record.proofs.Orderings.{lt_not_eq}
 use Rattle.am_model.specs.Slots.{Cell, Cells, live, records_of_cells, record_before, with_cell, IsNoPlace}
-use Rattle.am_model.proofs.Sorted.{entries_stay}
+use Rattle.am_model.proofs.SortedEntries.{entries_stay}
 
 abbrev Entries : Type 0
 Entries = List (OrderedKey × Cell)

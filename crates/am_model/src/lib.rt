@@ -4,6 +4,6 @@
 mod log;
 mod note;
 mod plain;
-mod records;
+mod sorted_records;
 
 pub use plain::{Plain, alone};

@@ -7,7 +7,7 @@ ghost use Rattle.am_model.specs.Notes.{all_undone, CanUndo};
 ghost use Rattle.am_record.specs.Marks.{since_mark, until_mark, older, has_mark};
 
 use crate::note::{Note, Slot};
-use crate::records::Records;
+use crate::sorted_records::SortedRecords;
 use am_record::{Key, NoMemory};
 use std::alloc::Global;
 use std::marker::Model;
@@ -92,7 +92,7 @@ impl ChangeLog {
 
     /// Takes the notes since the newest mark back and drops the mark; where none stands it does nothing and answers
     /// false. Takes no memory.
-    pub(crate) fn back(&mut self, records: &mut Records) -> bool
+    pub(crate) fn back(&mut self, records: &mut SortedRecords) -> bool
         requires { CanUndo (since_mark self.old.marks self.old.notes) records.old }
         ensures stood { result ≡ has_mark self.old.marks }
         ensures records { records.new ≡ all_undone (since_mark self.old.marks self.old.notes) records.old }
@@ -108,7 +108,7 @@ impl ChangeLog {
 
     /// Drops the notes and marks with their memory. The places of deleted records that were kept for them go too. Takes
     /// no memory.
-    pub(crate) fn forget(&mut self, records: &mut Records)
+    pub(crate) fn forget(&mut self, records: &mut SortedRecords)
         ensures records { live records.new ≡ live records.old }
         ensures places { AllByRecursion (λ n. IsNoPlace records.new n.key) self.old.notes }
         ensures notes { self.new.notes ≡ [] }
@@ -122,7 +122,7 @@ impl ChangeLog {
 }
 
 // Takes the notes but for the oldest `mark` back, from the newest on.
-fn take_back_above(notes: &mut Vec<Note>, mark: usize, records: &mut Records)
+fn take_back_above(notes: &mut Vec<Note>, mark: usize, records: &mut SortedRecords)
     requires { CanUndo (reverse (drop mark notes.old.items)) records.old }
     ensures records { records.new ≡ all_undone (reverse (drop mark notes.old.items)) records.old }
     ensures notes { notes.new.items ≡ take mark notes.old.items }

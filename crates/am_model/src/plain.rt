@@ -8,8 +8,8 @@ ghost use Rattle.am_record.specs.Refusals.{is_load};
 ghost use Rattle.am_model.specs.Slots.{with_cell};
 
 use crate::log::ChangeLog;
-use crate::records::Records;
-use am_record::{Key, NoMemory, Op, Pairs, Reply, Value};
+use crate::sorted_records::SortedRecords;
+use am_record::{Key, NoMemory, Op, Records, Reply, Value};
 use std::alloc::Global;
 use std::marker::Model;
 
@@ -17,7 +17,7 @@ use std::marker::Model;
 /// locks, limits or refusals. No map is copied: of each change since a mark it keeps what was there before.
 #[derive(Drop)]
 pub struct Plain {
-    records: Records,
+    records: SortedRecords,
     log: ChangeLog,
 }
 
@@ -41,7 +41,7 @@ impl Plain {
         ensures { result ≡ fresh map.empty }
     {
         Plain {
-            records: Records::new(alloc),
+            records: SortedRecords::new(alloc),
             log: ChangeLog::new(alloc),
         }
     }
@@ -56,7 +56,7 @@ impl Plain {
             Op::Get(key) => Ok(self.records.get(*key).map_or(Reply::Absent, Reply::Found)),
             Op::Scan(range, max) => {
                 let alloc = self.log.allocator();
-                Ok(Reply::Rows(Pairs::new(self.records.rows(alloc, *range, *max)?)))
+                Ok(Reply::Rows(Records::new(self.records.rows(alloc, *range, *max)?)))
             }
             Op::Insert(key, value) => self.insert(*key, *value),
             Op::Replace(key, value) => self.replace(*key, *value),
@@ -156,7 +156,7 @@ impl Plain {
         Ok(Reply::Done)
     }
 
-    fn load(&mut self, pairs: &Pairs) -> Result<Reply, NoMemory>
+    fn load(&mut self, pairs: &Records) -> Result<Reply, NoMemory>
         ensures answer { IfOk result (λ reply. reply ≡ answer (Load pairs.now) self.old) }
         ensures after { OnOk result (self.new ≡ draft_after (Load pairs.now) self.old) }
     {

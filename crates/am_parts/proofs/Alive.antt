@@ -11,15 +11,15 @@ use Rattle.am_record.specs.OrderedKey.{OrderedKey}
 use Rattle.am_record.specs.Plain.{Records}
 use Rattle.am_record.specs.EntryOrder.{place_cmp, place_of}
 use Rattle.am_record.specs.declared.entry.Entry.{Entry}
-use Rattle.am_list.specs.Content.{live_value}
-use Rattle.am_list.proofs.Content.{slot_live}
-use Rattle.am_list.specs.Edits.{same_place}
-use Rattle.am_list.specs.Entries.{Slot, find, insert_entry, set_entry, remove_entry}
-use Rattle.am_list.specs.Runs.{run_entries}
-use Rattle.am_list.proofs.Edits.{find-hit, find-miss, remove-hit, remove-miss, set-hit, set-miss}
+use Rattle.am_index.specs.Content.{live_value}
+use Rattle.am_index.proofs.Content.{slot_live}
+use Rattle.am_index.specs.Edits.{same_place}
+use Rattle.am_index.specs.Entries.{Slot, find, insert_entry, set_entry, remove_entry}
+use Rattle.am_index.specs.Runs.{run_entries}
+use Rattle.am_index.proofs.Edits.{find-hit, find-miss, remove-hit, remove-miss, set-hit, set-miss}
 use Rattle.am_parts.specs.Catalogs.{left_in, live_in, AreListed, IsCatalog}
 use Rattle.am_parts.specs.declared.catalog.Catalog.{Catalog}
-use Rattle.am_parts.proofs.Listed.{listed_set}
+use Rattle.am_parts.proofs.ListedRuns.{listed_set}
 
 -- 1 where it is so, else 0
 abbrev pub one : Bool → ℕ

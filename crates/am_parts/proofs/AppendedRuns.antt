@@ -15,9 +15,9 @@ use Rattle.am_record.proofs.Lists.{AllByRecursion-map, AllByRecursion-append}
 use Rattle.am_record.proofs.PlaceOrder.{lower_part}
 use Rattle.am_record.proofs.Orderings.{is_less}
 use Rattle.am_record.proofs.FirstRows.{Record}
-use Rattle.am_list.specs.Entries.{insert_entry, IsRising}
-use Rattle.am_list.specs.Runs.{live_entry, run_entries, with_run}
-use Rattle.am_list.proofs.Lists.{insert_entry-append}
+use Rattle.am_index.specs.Entries.{insert_entry, IsRising}
+use Rattle.am_index.specs.Runs.{live_entry, run_entries, with_run}
+use Rattle.am_index.proofs.Lists.{insert_entry-append}
 
 module _ (part : ℕ) where
   -- the entry is below those of the records

@@ -11,8 +11,8 @@ use Rattle.am_record.specs.OrderedKey.{OrderedKey}
 use Rattle.am_record.specs.Plain.{PlainMap}
 use Rattle.am_record.specs.EntryOrder.{place_cmp, place_of}
 use Rattle.am_record.specs.declared.entry.Entry.{Entry}
-use Rattle.am_list.specs.Entries.{Slot, slot_of, find, insert_entry, set_entry, remove_entry}
-use Rattle.am_list.specs.Content.{content, HasContent, live_value, ContentLaws}
+use Rattle.am_index.specs.Entries.{Slot, slot_of, find, insert_entry, set_entry, remove_entry}
+use Rattle.am_index.specs.Content.{content, HasContent, live_value, ContentLaws}
 use Rattle.am_parts.specs.Partitions.{AreWellFormed, LivesNowhereElse, content_with, content_without, content_set}
 use Rattle.am_parts.specs.Partitions.{settled, brought_home}
 use Rattle.am_parts.proofs.Lives.{laws_of}

@@ -9,10 +9,10 @@ use Rattle.am_record.specs.OrderedKey.{OrderedKey}
 use Rattle.am_record.specs.Plain.{Records}
 use Rattle.am_record.specs.EntryOrder.{Place, place_cmp, place_of}
 use Rattle.am_record.specs.declared.entry.Entry.{Entry}
-use Rattle.am_list.specs.Entries.{find, insert_entry, set_entry, remove_entry}
-use Rattle.am_list.specs.Edits.{same_place}
-use Rattle.am_list.specs.Runs.{run_entries}
-use Rattle.am_list.proofs.Edits.{one_place, find-miss, remove-hit, remove-miss}
+use Rattle.am_index.specs.Entries.{find, insert_entry, set_entry, remove_entry}
+use Rattle.am_index.specs.Edits.{same_place}
+use Rattle.am_index.specs.Runs.{run_entries}
+use Rattle.am_index.proofs.Edits.{one_place, find-miss, remove-hit, remove-miss}
 use Rattle.am_parts.specs.Catalogs.{left_in}
 
 pub one_if : (a b : ℕ) → a ≡ b → ◌≡◌ {A = ℕ} (cond (a == b) 1 0) 1

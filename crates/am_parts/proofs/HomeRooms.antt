@@ -4,9 +4,9 @@ use Rattle.std.proofs.lemmas.Bool.{cases_Bool}
 use Rattle.am_record.specs.OrderedKey.{OrderedKey}
 use Rattle.am_record.specs.EntryOrder.{Place}
 use Rattle.am_record.specs.declared.entry.Entry.{Entry}
-use Rattle.am_list.specs.Entries.{Slot, find}
-use Rattle.am_list.specs.Rooms.{HasRoom, HaveRoom, outgrows, needs_room}
-use Rattle.am_list.proofs.Rooms.{room_over}
+use Rattle.am_index.specs.Entries.{Slot, find}
+use Rattle.am_index.specs.Rooms.{HasRoom, HaveRoom, outgrows, needs_room}
+use Rattle.am_index.proofs.Rooms.{room_over}
 
 -- a value that has no room at a place outgrows what stands there
 pub needs_where_none : (es : List Entry) (roomy : List Place) (part : ℕ) (key : OrderedKey) (value : List ℕ) →

@@ -3,11 +3,11 @@ use Rattle.std.proofs.Common.{◌≡◌, ◌≢◌, List, true, false, cond, Opt
 use Rattle.std.specs.Prelude.{is_some}
 use Rattle.std.proofs.lemmas.Bool.{cond-false}
 use Rattle.am_record.specs.declared.entry.Entry.{Entry}
-use Rattle.am_list.specs.Entries.{Slot, slot_of, find, insert_entry, set_entry, remove_entry, IsRising}
-use Rattle.am_list.specs.Edits.{same_place}
-use Rattle.am_list.specs.Content.{content, HasContent, IsLiveAt}
-use Rattle.am_list.proofs.Edits.{other_part}
-use Rattle.am_list.proofs.EditLaws.{edit_laws}
+use Rattle.am_index.specs.Entries.{Slot, slot_of, find, insert_entry, set_entry, remove_entry, IsRising}
+use Rattle.am_index.specs.Edits.{same_place}
+use Rattle.am_index.specs.Content.{content, HasContent, IsLiveAt}
+use Rattle.am_index.proofs.Edits.{other_part}
+use Rattle.am_index.proofs.EditLaws.{edit_laws}
 use Rattle.am_parts.specs.Partitions.{AreWellFormed, settled, brought_home}
 use Rattle.am_parts.proofs.Lives.{laws_of}
 

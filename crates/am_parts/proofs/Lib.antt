@@ -1,21 +1,21 @@
 pub mod AppendedRuns
 pub mod Counts
-pub mod Telling
+pub mod DirectoryAnswers
 pub mod Alive
 pub mod LiveRuns
-pub mod Listed
-pub mod Catalogued
-pub mod Counting
-pub mod Settling
-pub mod Appending
-pub mod Finding
+pub mod ListedRuns
+pub mod CatalogCalls
+pub mod CountedAtOnce
+pub mod SettledEntries
+pub mod OneRunMore
+pub mod KeyLooks
 pub mod Lives
-mod Emptied
+mod MergedKnowledge
 mod Homes
 mod Changes
-mod Standing
+mod StandingEntries
 mod HomeRooms
 pub mod Neighbours
 pub mod Looks
-pub mod Noting
-pub mod Putting
+pub mod NotedKeys
+pub mod ReplacedRanges

@@ -7,11 +7,11 @@ use Rattle.std.proofs.lemmas.Option.{none-some, same_Some}
 use Rattle.am_record.specs.OrderedKey.{OrderedKey}
 use Rattle.am_record.specs.EntryOrder.{Place}
 use Rattle.am_record.specs.declared.entry.Entry.{Entry}
-use Rattle.am_list.specs.Content.{live_value}
-use Rattle.am_list.specs.Edits.{same_place}
-use Rattle.am_list.specs.Entries.{Slot, slot_of, find, insert_entry, set_entry, remove_entry, IsRising}
-use Rattle.am_list.proofs.Edits.{one_place, find-hit, find-miss, same_place-itself}
-use Rattle.am_list.proofs.EditLaws.{edit_laws}
+use Rattle.am_index.specs.Content.{live_value}
+use Rattle.am_index.specs.Edits.{same_place}
+use Rattle.am_index.specs.Entries.{Slot, slot_of, find, insert_entry, set_entry, remove_entry, IsRising}
+use Rattle.am_index.proofs.Edits.{one_place, find-hit, find-miss, same_place-itself}
+use Rattle.am_index.proofs.EditLaws.{edit_laws}
 use Rattle.am_parts.specs.Partitions.{AreWellFormed, settled}
 use Rattle.am_parts.specs.Residences.{LivesInRun, OneRun}
 

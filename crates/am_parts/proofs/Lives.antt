@@ -4,11 +4,11 @@ use Rattle.std.proofs.lemmas.Option.{none-some}
 use Rattle.std.specs.FinMap.{get}
 use Rattle.am_record.specs.OrderedKey.{OrderedKey}
 use Rattle.am_record.specs.declared.entry.Entry.{Entry}
-use Rattle.am_list.specs.Content.{content, IsLiveAt, ContentLaws}
-use Rattle.am_list.proofs.ContentLaws.{content_laws}
+use Rattle.am_index.specs.Content.{content, IsLiveAt, ContentLaws}
+use Rattle.am_index.proofs.ContentLaws.{content_laws}
 use Rattle.am_parts.specs.Partitions.{AreWellFormed, LivesIn, LivesNowhereElse}
 
--- all that am_list says of their content
+-- all that am_index says of their content
 pub laws_of : {es : List Entry} → AreWellFormed es → ContentLaws es
 laws_of {es} sound = content_laws es sound.rising sound.one_place
 

@@ -6,9 +6,9 @@ use Rattle.std.proofs.lemmas.Option.{none-some, same_Some}
 use Rattle.std.specs.declared.cmp.Ordering.TheVariants.{Less}
 use Rattle.am_record.specs.EntryOrder.{place_of, place_cmp}
 use Rattle.am_record.specs.declared.entry.Entry.{Entry}
-use Rattle.am_list.specs.Entries.{Slot, slot_of, find, entry_at, first_such, IsRising}
-use Rattle.am_list.proofs.EditLaws.{same_entry}
-use Rattle.am_list.proofs.Edits.{first_such_all, entry_at_place}
+use Rattle.am_index.specs.Entries.{Slot, slot_of, find, entry_at, first_such, IsRising}
+use Rattle.am_index.proofs.EditLaws.{same_entry}
+use Rattle.am_index.proofs.Edits.{first_such_all, entry_at_place}
 
 -- ---- two tests of one list
 

@@ -19,31 +19,31 @@ use Rattle.am_record.specs.declared.entry.Entry.{Entry}
 use Rattle.am_record.proofs.Lists.{AllByRecursion-map, AllByRecursion-take, AllByRecursion-back}
 use Rattle.am_record.proofs.Lists.{filter-no}
 use Rattle.am_record.proofs.PlaceOrder.{lower_part, turned_less}
-use Rattle.am_list.specs.Content.{content, live_value}
-use Rattle.am_list.specs.Entries.{Slot, slot_of, entry_at, find, all_from, insert_entry, set_entry, remove_entry}
-use Rattle.am_list.specs.Entries.{remove_from, IsRising}
-use Rattle.am_list.specs.Edits.{same_place}
-use Rattle.am_list.specs.Places.{AllBelow, AllAbove, NoneBelow}
-use Rattle.am_list.proofs.Batches.{all_reached_front}
-use Rattle.am_list.proofs.Content.{slot_live}
-use Rattle.am_list.specs.Rooms.{needs_room}
-use Rattle.am_list.proofs.Edits.{other_key}
-use Rattle.am_list.proofs.Edits.{place_cmp-itself, find-hit, find-miss, set-hit, set-miss, insert-later, insert-here}
-use Rattle.am_list.proofs.Lists.{entry_at-append, entry_at_here, remove_entry-append, below_itself, rising_remove}
-use Rattle.am_list.proofs.Lists.{not_less, rising_above, rising_back, rising-take}
-use Rattle.am_list.proofs.ReadLaws.{pass_rising}
-use Rattle.am_list.proofs.Removals.{remove_from-at}
-use Rattle.am_parts.specs.Merged.{AreMerged}
-use Rattle.am_parts.specs.declared.merged.MergedRange.{MergedRange}
+use Rattle.am_index.specs.Content.{content, live_value}
+use Rattle.am_index.specs.Entries.{Slot, slot_of, entry_at, find, all_from, insert_entry, set_entry, remove_entry}
+use Rattle.am_index.specs.Entries.{remove_from, IsRising}
+use Rattle.am_index.specs.Edits.{same_place}
+use Rattle.am_index.specs.Places.{AllBelow, AllAbove, NoneBelow}
+use Rattle.am_index.proofs.Batches.{all_reached_front}
+use Rattle.am_index.proofs.Content.{slot_live}
+use Rattle.am_index.specs.Rooms.{needs_room}
+use Rattle.am_index.proofs.Edits.{other_key}
+use Rattle.am_index.proofs.Edits.{place_cmp-itself, find-hit, find-miss, set-hit, set-miss, insert-later, insert-here}
+use Rattle.am_index.proofs.Lists.{entry_at-append, entry_at_here, remove_entry-append, below_itself, rising_remove}
+use Rattle.am_index.proofs.Lists.{not_less, rising_above, rising_back, rising-take}
+use Rattle.am_index.proofs.ReadLaws.{pass_rising}
+use Rattle.am_index.proofs.Removals.{remove_from-at}
+use Rattle.am_parts.specs.MergedRanges.{AreMerged}
+use Rattle.am_parts.specs.declared.merged_ranges.MergedRange.{MergedRange}
 use Rattle.am_parts.specs.Partitions.{AreWellFormed, settled, settled_too, all_settled, brought_home, gone_home}
 use Rattle.am_parts.specs.Partitions.{all_gone_home, FirstNeedsRoom, IsStretch}
 use Rattle.am_parts.specs.Residences.{LivesInRun, OneRun, AreResidences}
 use Rattle.am_parts.specs.declared.residences.Residences.{Residences}
 use Rattle.am_parts.proofs.Changes.{IsAfter, homes, takes, without_ghost}
-use Rattle.am_parts.proofs.Emptied.{merged_home, merged_removed}
+use Rattle.am_parts.proofs.MergedKnowledge.{merged_home, merged_removed}
 use Rattle.am_parts.proofs.LiveRuns.{one_run, inserted_finds, reset_finds, removed_finds, fewer, none_dead}
 use Rattle.am_parts.proofs.LiveRuns.{rising_settled, fewer_settled}
-use Rattle.am_parts.proofs.Telling.{tells_fewer}
+use Rattle.am_parts.proofs.DirectoryAnswers.{tells_fewer}
 
 -- ---- an entry among its neighbours
 

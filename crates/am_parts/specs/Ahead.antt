@@ -6,7 +6,7 @@ use Rattle.am_record.specs.KeyNumber.{key_number}
 use Rattle.am_record.specs.declared.hash_key.HashKey.{HashKey}
 use Rattle.am_record.specs.declared.entry.Entry.{Entry}
 use Rattle.am_parts.specs.Partitions.{LivesInNoRun}
-use Rattle.am_parts.specs.declared.entering.Ahead.{Ahead}
+use Rattle.am_parts.specs.declared.run_entry.Ahead.{Ahead}
 
 -- where all of them ended at once, no key from the place on, up to where they reach, is live in a run
 abbrev pub AreFreeAhead : List Entry → Records → ℕ → Ahead → Type 0

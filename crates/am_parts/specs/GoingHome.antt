@@ -4,7 +4,7 @@ use Rattle.std.specs.Ordering.{is_lt}
 use Rattle.std.specs.List.{AllByRecursion}
 use Rattle.am_record.specs.EntryOrder.{place_cmp, place_of}
 use Rattle.am_record.specs.declared.entry.Entry.{Entry}
-use Rattle.am_list.specs.Entries.{IsRising}
+use Rattle.am_index.specs.Entries.{IsRising}
 
 -- the entry as a live one of the final partition
 abbrev pub home_of : Entry → Entry

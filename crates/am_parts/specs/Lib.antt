@@ -2,6 +2,6 @@ pub mod Ahead
 pub mod Catalogs
 pub mod Figures
 pub mod GoingHome
-pub mod Merged
+pub mod MergedRanges
 pub mod Partitions
 pub mod Residences

@@ -8,10 +8,10 @@ use Rattle.am_record.specs.OrderedKey.{OrderedKey, key_code}
 use Rattle.am_record.specs.Plain.{PlainMap, Records, is_key_of}
 use Rattle.am_record.specs.EntryOrder.{Place}
 use Rattle.am_record.specs.declared.entry.Entry.{Entry}
-use Rattle.am_list.specs.Entries.{Slot, find, all_from, insert_entry, set_entry, remove_entry, IsRising}
-use Rattle.am_list.specs.EntryCode.{entries_code}
-use Rattle.am_list.specs.Content.{content, OnePlace, IsLiveAt, live_value}
-use Rattle.am_list.specs.Rooms.{needs_room}
+use Rattle.am_index.specs.Entries.{Slot, find, all_from, insert_entry, set_entry, remove_entry, IsRising}
+use Rattle.am_index.specs.EntryCode.{entries_code}
+use Rattle.am_index.specs.Content.{content, OnePlace, IsLiveAt, live_value}
+use Rattle.am_index.specs.Rooms.{needs_room}
 use Rattle.am_parts.specs.declared.parts.Vacancy.{Vacancy}
 use Rattle.am_parts.specs.declared.parts.Vacancy.TheVariants.{Taken, Ghost, Free}
 

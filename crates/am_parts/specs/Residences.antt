@@ -5,7 +5,7 @@ use Rattle.am_record.specs.KeyNumber.{key_number}
 use Rattle.am_record.specs.Plain.{Records}
 use Rattle.am_record.specs.declared.hash_key.HashKey.{HashKey}
 use Rattle.am_record.specs.declared.entry.Entry.{Entry}
-use Rattle.am_list.specs.Content.{IsLiveAt}
+use Rattle.am_index.specs.Content.{IsLiveAt}
 use Rattle.am_directory.specs.Tables.{Table, label, residence_of, empty_in, HasEntered}
 use Rattle.am_directory.specs.declared.residence.Residence.{Residence}
 use Rattle.am_directory.specs.declared.residence.Residence.TheVariants.{Nowhere, In, Unknown}

@@ -8,9 +8,9 @@ ghost use Rattle.std.specs.List.{AllByRecursion};
 ghost use Rattle.am_record.specs.OrderedKey.{OrderedKey};
 ghost use Rattle.am_record.specs.Plain.{Records};
 ghost use Rattle.am_record.specs.declared.entry.Entry.{Entry};
-ghost use Rattle.am_list.specs.Entries.{find, insert_entry, all_inserted, set_entry, remove_entry};
-ghost use Rattle.am_list.specs.Content.{live_value};
-ghost use Rattle.am_list.specs.Runs.{run_entries};
+ghost use Rattle.am_index.specs.Entries.{find, insert_entry, all_inserted, set_entry, remove_entry};
+ghost use Rattle.am_index.specs.Content.{live_value};
+ghost use Rattle.am_index.specs.Runs.{run_entries};
 ghost use Rattle.am_parts.specs.GoingHome.{IsHome};
 ghost use Rattle.am_parts.specs.Catalogs.{parts_of, PartsRise, IsRunAt, IsGapAt, HasCounted, HasMore, IsNext, AreAll};
 

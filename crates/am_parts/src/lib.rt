@@ -2,14 +2,14 @@
 #![tactic(auto)]
 
 mod catalog;
-mod entering;
 mod fault;
 mod figures;
-mod homing;
-mod looking;
-mod merged;
+mod key_look;
+mod merged_ranges;
 mod parts;
 mod residences;
+mod run_entry;
+mod way_home;
 
 pub use fault::RunFault;
 pub use figures::Figures;

@@ -5,24 +5,24 @@ ghost use Rattle.std.specs.Prelude.{IsSome, is_some, IfSome, IfNone, Err, OnOk, 
 ghost use Rattle.std.specs.List.{AllByRecursion};
 ghost use Rattle.std.specs.FinMap.{get};
 ghost use Rattle.am_record.specs.Plain.{insert_all, is_rising};
-ghost use Rattle.am_list.specs.Entries.{find, next_any, next_ghost, next_from, after, all_from, all_after};
-ghost use Rattle.am_list.specs.Entries.{entry_at, insert_entry, set_entry, remove_entry, IsRising};
-ghost use Rattle.am_list.specs.Rooms.{HasRoom, HaveRoom, KeepRoom};
-ghost use Rattle.am_list.specs.Runs.{run_entries};
-ghost use Rattle.am_list.specs.Content.{content, rows_in, live_value, HasContent};
+ghost use Rattle.am_index.specs.Entries.{find, next_any, next_ghost, next_from, after, all_from, all_after};
+ghost use Rattle.am_index.specs.Entries.{entry_at, insert_entry, set_entry, remove_entry, IsRising};
+ghost use Rattle.am_index.specs.Rooms.{HasRoom, HaveRoom, KeepRoom};
+ghost use Rattle.am_index.specs.Runs.{run_entries};
+ghost use Rattle.am_index.specs.Content.{content, rows_in, live_value, HasContent};
 ghost use Rattle.am_parts.specs.Catalogs.{IsCatalog};
-ghost use Rattle.am_parts.specs.Merged.{HasNoneBefore};
+ghost use Rattle.am_parts.specs.MergedRanges.{HasNoneBefore};
 ghost use Rattle.am_parts.specs.Partitions.{vacancy_over, NoneLiveIn, AreAllAbsent};
 
 use crate::catalog::Catalog;
-use crate::entering::enter_run;
 use crate::fault::RunFault;
 use crate::figures::Figures;
-use crate::homing::{forget_all, remove_all, settle_all};
-use crate::looking::{live_at, live_by};
-use crate::merged::MergedRanges;
+use crate::key_look::{live_at, live_by};
+use crate::merged_ranges::MergedRanges;
 use crate::residences::Residences;
-use am_list::{Batch, PartIndex};
+use crate::run_entry::enter_run;
+use crate::way_home::{forget_all, remove_all, settle_all};
+use am_index::{Batch, PartIndex};
 use am_record::{Entry, HashKey, Key, NoMemory, Range, Value};
 use std::alloc::Global;
 use std::marker::Model;
@@ -52,9 +52,9 @@ pub struct Parts<I: PartIndex + Drop> {
 
 impl<I: PartIndex + Drop> Model for Parts<I> {
     ghost use Rattle.std.specs.Prelude.{◌≤◌};
-    ghost use Rattle.am_list.specs.Rooms.{HaveRoom};
+    ghost use Rattle.am_index.specs.Rooms.{HaveRoom};
     ghost use Rattle.am_parts.specs.Catalogs.{IsCatalog};
-    ghost use Rattle.am_parts.specs.Merged.{AreMerged};
+    ghost use Rattle.am_parts.specs.MergedRanges.{AreMerged};
     ghost use Rattle.am_parts.specs.Partitions.{Partitions, partitions_code, AreWellFormed};
     ghost use Rattle.am_parts.specs.Residences.{AreResidences};
 

@@ -6,7 +6,7 @@ use Rattle.std.proofs.lemmas.Bool.{and_right}
 use Rattle.am_record.specs.OrderedKey.{OrderedKey}
 use Rattle.am_record.specs.Asks.{clashes, owns}
 use Rattle.am_record.specs.declared.lock.Lock.{Lock}
-use Rattle.am_record.specs.Numbered.{has_number, of_number}
+use Rattle.am_record.specs.ByNumber.{has_number, of_number}
 use Rattle.am_record.specs.Owners.{blocker_among, holder_among}
 
 module _ {A B : Type 0} (number : A → ℕ) (of : B → ℕ) (locks : A → List Lock) (held : B → List Lock) (f : A → B)

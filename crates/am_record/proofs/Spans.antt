@@ -9,7 +9,7 @@ use Rattle.am_record.specs.Interval.{Interval, key_le, key_le-itself}
 use Rattle.am_record.specs.Plain.{Records, is_rising}
 use Rattle.am_record.specs.Asks.{last_key, span}
 use Rattle.am_record.proofs.FirstRows.{Record}
-use Rattle.am_record.proofs.Rising.{Below, sorted_parts}
+use Rattle.am_record.proofs.RisingRecords.{Below, sorted_parts}
 
 last_record : Record → Records → Record
 last_record r [] = r

@@ -21,4 +21,4 @@ pub mod Events
 pub mod Sessions
 pub mod Marks
 pub mod Owners
-pub mod Numbered
+pub mod ByNumber

@@ -9,8 +9,8 @@ ghost use Rattle.am_record.specs.Refusals.{is_bounded, is_limit, is_load, refusa
 use crate::key::Key;
 use crate::limits::{MAX_LIMIT, MAX_OPS, MAX_ROWS, MAX_RUNS};
 use crate::lock::Lock;
-use crate::pairs::is_rising;
 use crate::range::Range;
+use crate::records::is_rising;
 use crate::step::{Op, Refusal};
 use crate::value::Value;
 

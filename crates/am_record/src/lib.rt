@@ -9,8 +9,8 @@ mod laws;
 mod limits;
 mod lock;
 mod memory;
-mod pairs;
 mod range;
+mod records;
 mod step;
 mod value;
 
@@ -27,7 +27,7 @@ pub use limits::{
 };
 pub use lock::{Lock, Mode};
 pub use memory::NoMemory;
-pub use pairs::{Pairs, is_rising};
 pub use range::Range;
+pub use records::{Records, is_rising};
 pub use step::{Op, Refusal, Reply, Step};
 pub use value::{ShortValue, Value};

@@ -6,8 +6,8 @@ ghost use Rattle.am_record.specs.Copies.{has_pairs, step_has_pairs, has_rows};
 use crate::key::Key;
 use crate::lock::Lock;
 use crate::memory::NoMemory;
-use crate::pairs::Pairs;
 use crate::range::Range;
+use crate::records::Records;
 use crate::value::Value;
 use std::alloc::Global;
 
@@ -25,7 +25,7 @@ pub enum Op {
     /// A record goes: [`Reply::Done`], or [`Reply::Missing`] where there is none.
     Delete(Key),
     /// New records, all of them or none: [`Reply::Done`], or [`Reply::Exists`] with the least key that has one.
-    Load(Pairs),
+    Load(Records),
     /// The lock alone: [`Reply::Done`].
     Lock(Lock),
     /// A savepoint: [`Reply::Done`].
@@ -55,7 +55,7 @@ pub enum Reply {
     Done,
     Found(Value),
     Absent,
-    Rows(Pairs),
+    Rows(Records),
     Exists(Key),
     Missing,
     /// The number of the commit: they rise by one from 1.

@@ -18,8 +18,8 @@ use Rattle.am_record.specs.Plain.{Records}
 use Rattle.am_record.proofs.FirstRows.{Record}
 use Rattle.am_runs.specs.Cuts.{keys_of, times_among, records_of, AreRunsOf, NoneTwice, IsLeastTwice}
 use Rattle.am_runs.specs.Fronts.{times_of, is_among, fronts_in, with_fronts, AreShared}
-use Rattle.am_runs.specs.Sorting.{IsSpot, IsOrder, AreOrders, named, runs_named}
-use Rattle.am_runs.specs.declared.sorting.Spot.{Spot}
+use Rattle.am_runs.specs.RecordPlaces.{IsSpot, IsOrder, AreOrders, named, runs_named}
+use Rattle.am_runs.specs.declared.record_order.Spot.{Spot}
 use Rattle.am_runs.proofs.Pieces.{keys_of-append, runs_permuted}
 use Rattle.am_runs.proofs.Repeats.{one_where, times_of-cons, one_there}
 use Rattle.am_runs.proofs.Twice.{one_at, none_at, times_among-cons, found_permuted}

@@ -7,9 +7,9 @@ use Rattle.std.specs.Ordering.{ordering_reverse}
 use Rattle.am_record.specs.OrderedKey.{OrderedKey, key_cmp, key_cmp-total, key_cmp-exact}
 use Rattle.am_record.specs.Interval.{key_le}
 use Rattle.am_record.specs.declared.entry.Entry.{Entry}
-use Rattle.am_list.specs.Entries.{slot_of, entry_at, find, next_from}
-use Rattle.am_list.specs.Walks.{WalkLaws}
-use Rattle.am_list.proofs.Edits.{entry_at_slot}
+use Rattle.am_index.specs.Entries.{slot_of, entry_at, find, next_from}
+use Rattle.am_index.specs.Walks.{WalkLaws}
+use Rattle.am_index.proofs.Edits.{entry_at_slot}
 
 -- ---- places
 

@@ -14,11 +14,11 @@ use Rattle.am_record.specs.Plain.{Records}
 use Rattle.am_record.proofs.FirstRows.{Record}
 use Rattle.am_record.proofs.Lists.{AllByRecursion-map, AllByRecursion-append}
 use Rattle.am_record.proofs.Lists.{AllByRecursion-take, AllByRecursion-drop}
-use Rattle.am_record.proofs.Rising.{Below, sorted_parts, sorted_from, run_sorted, sorted_run}
+use Rattle.am_record.proofs.RisingRecords.{Below, sorted_parts, sorted_from, run_sorted, sorted_run}
 use Rattle.am_runs.specs.Cuts.{IsPieceFault}
-use Rattle.am_runs.specs.Sorting.{IsSpot, AreSpots, IsOrder, IsAdded, named}
+use Rattle.am_runs.specs.RecordPlaces.{IsSpot, AreSpots, IsOrder, IsAdded, named}
 use Rattle.am_runs.specs.declared.fault.LoadFault.{LoadFault}
-use Rattle.am_runs.specs.declared.sorting.Spot.{Spot}
+use Rattle.am_runs.specs.declared.record_order.Spot.{Spot}
 use Rattle.am_runs.proofs.Groups.{Climbs, alike, climbs_from, climbs_drop, group_alike, above_group, from_first}
 use Rattle.am_runs.proofs.Orders.{lower, named_long}
 use Rattle.am_runs.proofs.Pieces.{fault_permuted, fault_of_part}

@@ -7,10 +7,10 @@ pub mod Pieces
 pub mod GroupOrders
 pub mod Repeats
 pub mod Apart
-pub mod Taken
-pub mod Loaded
-pub mod Parting
+pub mod LeastTaken
+pub mod LoadProgress
+pub mod PartedRecords
 pub mod Beginnings
-pub mod Passing
-pub mod Settling
-pub mod Walking
+pub mod PassedEntries
+pub mod LeastLive
+pub mod PartitionWalks

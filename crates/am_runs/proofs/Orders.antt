@@ -18,12 +18,12 @@ use Rattle.am_record.specs.OrderedKey.{OrderedKey, key_cmp, key_least}
 use Rattle.am_record.specs.Plain.{Records}
 use Rattle.am_record.proofs.FirstRows.{Record}
 use Rattle.am_record.proofs.Lists.{AllByRecursion-push}
-use Rattle.am_record.proofs.Rising.{sorted_run, sorted_rises}
+use Rattle.am_record.proofs.RisingRecords.{sorted_run, sorted_rises}
 use Rattle.am_runs.specs.Cuts.{keys_of, NoneTwice, IsLeastTwice}
-use Rattle.am_runs.specs.Sorting.{IsSpot, AreSpots, IsOrder, IsByKey, AreOrders, keyed_by, keys_among, named}
-use Rattle.am_runs.specs.Sorting.{runs_named}
-use Rattle.am_runs.specs.Sorting.{spots_among}
-use Rattle.am_runs.specs.declared.sorting.Spot.{Spot}
+use Rattle.am_runs.specs.RecordPlaces.{IsSpot, AreSpots, IsOrder, IsByKey, AreOrders, keyed_by, keys_among, named}
+use Rattle.am_runs.specs.RecordPlaces.{runs_named}
+use Rattle.am_runs.specs.RecordPlaces.{spots_among}
+use Rattle.am_runs.specs.declared.record_order.Spot.{Spot}
 use Rattle.am_runs.proofs.Spots.{spots_permuted}
 use Rattle.am_runs.proofs.Twice.{Ascends, ascends_by, rising_of, found_permuted}
 

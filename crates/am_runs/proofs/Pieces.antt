@@ -12,7 +12,7 @@ use Rattle.am_runs.specs.declared.fault.LoadFault.{LoadFault}
 use Rattle.am_runs.specs.declared.fault.LoadFault.TheVariants.{NotRising, BadSize, Twice, NoMemory}
 use Rattle.am_runs.specs.Cuts.{keys_of, records_of, times_among, NoneTwice, IsRunOf, AreRunsOf}
 use Rattle.am_runs.specs.Cuts.{IsPieceFault, IsTwiceFault}
-use Rattle.am_runs.specs.Sorting.{piece}
+use Rattle.am_runs.specs.RecordPlaces.{piece}
 use Rattle.am_record.proofs.FirstRows.{Record}
 use Rattle.am_runs.proofs.Spots.{piece_long}
 use Rattle.am_runs.proofs.Twice.{times_among-append, times_among-permutation}

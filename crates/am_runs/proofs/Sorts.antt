@@ -9,7 +9,7 @@ use Rattle.am_record.specs.OrderedKey.{OrderedKey, key_cmp, key_eq-exact}
 use Rattle.am_record.specs.Plain.{Records, is_rising}
 use Rattle.am_runs.specs.Cuts.{keys_of, times_among, NoneTwice}
 use Rattle.am_record.proofs.FirstRows.{Record}
-use Rattle.am_record.proofs.Rising.{Below, sorted_parts, run_sorted}
+use Rattle.am_record.proofs.RisingRecords.{Below, sorted_parts, run_sorted}
 use Rattle.am_runs.proofs.Twice.{one_at, none_at, times_among-cons, found_permuted}
 
 -- ---- no key of rising records stands twice

@@ -9,8 +9,8 @@ use Rattle.std.proofs.lemmas.List.Sorted.{All-permutation, IsPermutation-map}
 use Rattle.am_record.specs.OrderedKey.{key_least}
 use Rattle.am_record.specs.Plain.{Records}
 use Rattle.am_record.proofs.Lists.{AllByRecursion-push}
-use Rattle.am_runs.specs.Sorting.{IsSpot, AreSpots, named, piece}
-use Rattle.am_runs.specs.declared.sorting.Spot.{Spot}
+use Rattle.am_runs.specs.RecordPlaces.{IsSpot, AreSpots, named, piece}
+use Rattle.am_runs.specs.declared.record_order.Spot.{Spot}
 
 pub all_permuted : (P : Spot → Type 0) (ss ts : List Spot) → IsPermutation ss ts → AllByRecursion P ss →
     AllByRecursion P ts

@@ -16,7 +16,7 @@ use Rattle.std.specs.FinMap.{is_sorted}
 use Rattle.am_record.specs.OrderedKey.{OrderedKey, key_cmp, key_cmp-total, key_eq-exact}
 use Rattle.am_record.specs.Interval.{key_le, key_le-itself}
 use Rattle.am_record.specs.Plain.{Records}
-use Rattle.am_record.proofs.Rising.{Below, sorted_from}
+use Rattle.am_record.proofs.RisingRecords.{Below, sorted_from}
 use Rattle.am_record.proofs.FirstRows.{key_eq-itself}
 use Rattle.am_record.proofs.Orderings.{not_lt_le_back}
 use Rattle.am_runs.specs.Cuts.{keys_of, times_among, NoneTwice, IsLeastTwice}

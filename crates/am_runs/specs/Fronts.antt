@@ -4,7 +4,7 @@ use Rattle.std.specs.List.{AllPairs, flat_map, list_any}
 use Rattle.std.specs.declared.alloc.Global.{Global}
 use Rattle.am_record.specs.KeyFront.{key_front}
 use Rattle.am_record.specs.OrderedKey.{OrderedKey}
-use Rattle.am_runs.specs.declared.sorting.Spot.{Spot}
+use Rattle.am_runs.specs.declared.record_order.Spot.{Spot}
 
 -- how often the number stands among the numbers
 abbrev pub times_of : ℕ → List ℕ → ℕ

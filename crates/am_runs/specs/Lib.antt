@@ -3,4 +3,4 @@ pub mod Fronts
 pub mod Loads
 pub mod Looks
 pub mod Walk
-pub mod Sorting
+pub mod RecordPlaces

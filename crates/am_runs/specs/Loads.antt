@@ -5,8 +5,8 @@ use Rattle.am_record.specs.Plain.{Records, insert_all, least_taken, exists_or_do
 use Rattle.am_record.specs.declared.step.Reply.{Reply}
 use Rattle.am_record.specs.declared.step.Reply.TheVariants.{Done, Refused}
 use Rattle.am_record.specs.declared.step.Refusal.TheVariants.{TooManyRuns, NoMemory}
-use Rattle.am_list.specs.Content.{content, HasContent}
-use Rattle.am_list.specs.Runs.{with_run}
+use Rattle.am_index.specs.Content.{content, HasContent}
+use Rattle.am_index.specs.Runs.{with_run}
 use Rattle.am_parts.specs.Partitions.{Partitions}
 
 -- the reply that is due, where memory is ample

@@ -5,7 +5,7 @@ use Rattle.std.specs.Ordering.{is_lt}
 use Rattle.am_record.specs.Interval.{key_le}
 use Rattle.am_record.specs.Plain.{Records, is_key_of}
 use Rattle.am_record.specs.declared.entry.Entry.{Entry}
-use Rattle.am_list.specs.Content.{IsLiveAt}
+use Rattle.am_index.specs.Content.{IsLiveAt}
 use Rattle.am_parts.specs.Partitions.{LivesIn, LivesInNoRun}
 
 -- the key is the least of the records' keys that are live in the partition

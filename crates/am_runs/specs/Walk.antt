@@ -3,7 +3,7 @@ use Rattle.std.specs.Prelude.{◌≡◌, ◌++◌, List, true, drop}
 use Rattle.am_record.specs.OrderedKey.{OrderedKey}
 use Rattle.am_record.specs.Interval.{key_le}
 use Rattle.am_record.specs.declared.entry.Entry.{Entry}
-use Rattle.am_list.specs.Entries.{first_such, next_from, all_after}
+use Rattle.am_index.specs.Entries.{first_such, next_from, all_after}
 use Rattle.am_runs.specs.declared.walk.Walk.{Walk}
 
 -- at any key from this one on, the partition's first entry is the first one among those that were read and not passed,

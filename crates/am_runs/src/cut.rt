@@ -3,13 +3,13 @@
 ghost use Rattle.std.specs.Prelude.{◌≡◌, ◌<◌, ℕ, drop, length, slice_get, IfOk, IfErr, OnOk, OnErr};
 ghost use Rattle.am_runs.specs.Cuts.{keys_of, AreRunsOf, IsCut, IsCutFault, IsPieceFault, IsTwiceFault};
 ghost use Rattle.am_runs.specs.Cuts.{IsRunSize, NoneTwice};
-ghost use Rattle.am_runs.specs.Sorting.{runs_named, AreOrders};
+ghost use Rattle.am_runs.specs.RecordPlaces.{runs_named, AreOrders};
 
 use crate::fault::LoadFault;
 use crate::fronts::{keys_with, shared_fronts};
+use crate::record_order::{Spot, order_of};
 use crate::record_source::{Listed, RecordSource};
 use crate::run::Run;
-use crate::sorting::{Spot, order_of};
 use crate::ties::{first_tie, over_all};
 use am_record::{Key, MAX_RUN_RECORDS, NoMemory, Value};
 use std::alloc::Global;
@@ -29,7 +29,7 @@ pub struct Cut<'a, S: RecordSource> {
 impl<'a, S: RecordSource> Model for Cut<'a, S> {
     ghost use Rattle.std.specs.Prelude.{List, drop};
     ghost use Rattle.am_record.specs.Plain.{Records};
-    ghost use Rattle.am_runs.specs.Sorting.{runs_named, runs_code, AreOrders};
+    ghost use Rattle.am_runs.specs.RecordPlaces.{runs_named, runs_code, AreOrders};
 
     ghost Value = { List Records };
 

@@ -5,10 +5,10 @@ ghost use Rattle.std.specs.List.{AllPairs, prefix_len};
 ghost use Rattle.std.specs.List.Sorted.{IsNonDecreasing};
 ghost use Rattle.am_runs.specs.Cuts.{keys_of, records_of};
 ghost use Rattle.am_runs.specs.Fronts.{fronts_in, is_among, with_fronts, AreShared};
-ghost use Rattle.am_runs.specs.Sorting.{named, runs_named, AreOrders, IsOrder};
+ghost use Rattle.am_runs.specs.RecordPlaces.{named, runs_named, AreOrders, IsOrder};
 
+use crate::record_order::Spot;
 use crate::record_source::RecordSource;
-use crate::sorting::Spot;
 use am_record::Key;
 use std::alloc::{AllocError, Global};
 

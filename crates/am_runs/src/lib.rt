@@ -4,16 +4,16 @@
 mod cut;
 mod fault;
 mod fronts;
-mod loading;
 mod look;
+mod record_order;
 mod record_source;
 mod run;
-mod sorting;
+mod run_load;
 mod ties;
 mod walk;
 
 pub use cut::{Cut, cut_runs, cut_source};
 pub use fault::LoadFault;
-pub use loading::load;
 pub use record_source::RecordSource;
 pub use run::Run;
+pub use run_load::load;

@@ -6,13 +6,13 @@ ghost use Rattle.std.specs.Ordering.{is_lt};
 ghost use Rattle.std.specs.FinMap.{is_sorted};
 ghost use Rattle.am_record.specs.OrderedKey.{key_cmp};
 ghost use Rattle.am_record.specs.Plain.{first_key, least_taken};
-ghost use Rattle.am_list.specs.Entries.{next_from};
-ghost use Rattle.am_list.specs.Content.{content};
+ghost use Rattle.am_index.specs.Entries.{next_from};
+ghost use Rattle.am_index.specs.Content.{content};
 ghost use Rattle.am_parts.specs.Partitions.{AreWellFormed, NoneLiveIn};
 ghost use Rattle.am_runs.specs.Looks.{IsLeastLiveIn, NoneInRuns, IsLeastInRuns};
 
 use crate::walk::Walk;
-use am_list::PartIndex;
+use am_index::PartIndex;
 use am_parts::Parts;
 use am_record::{Entry, Key, Value};
 

@@ -4,7 +4,7 @@ ghost use Rattle.std.specs.Prelude.{◌≡◌, ◌<◌, [], length, get_or};
 ghost use Rattle.am_record.specs.OrderedKey.{key_least};
 ghost use Rattle.am_record.specs.Plain.{Records};
 
-use am_record::{Key, Pairs, Value};
+use am_record::{Key, Records, Value};
 
 /// Records that are read one at a time, in any order. They needn't stand in memory as records: a caller's own structs,
 /// of which keys and values are parts, are read where they lie, and each is copied once, to where it stays.
@@ -49,7 +49,7 @@ impl<'a> RecordSource for Listed<'a> {
     }
 }
 
-impl RecordSource for Pairs {
+impl RecordSource for Records {
     ghost records = { λ pairs. pairs };
 
     fn len(&self) -> usize {

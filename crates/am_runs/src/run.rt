@@ -3,11 +3,11 @@
 ghost use Rattle.std.specs.Prelude.{◌≡◌, ◌↔◌, true, IsOk, IfOk, IfErr};
 ghost use Rattle.am_record.specs.Plain.{is_rising};
 ghost use Rattle.am_runs.specs.Cuts.{keys_of, IsRunOf, IsSortFault, NoneTwice};
-ghost use Rattle.am_runs.specs.Sorting.{named, IsOrder};
+ghost use Rattle.am_runs.specs.RecordPlaces.{named, IsOrder};
 
 use crate::fault::LoadFault;
+use crate::record_order::{Spot, gather, order_of};
 use crate::record_source::{Listed, RecordSource};
-use crate::sorting::{Spot, gather, order_of};
 use crate::ties::over_all;
 use am_record::{Key, Value, is_rising};
 use std::alloc::{AllocError, Global};

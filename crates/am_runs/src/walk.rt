@@ -4,9 +4,9 @@ ghost use Rattle.std.specs.Prelude.{◌≡◌, ◌++◌, [], ◌∷◌, List, tr
 ghost use Rattle.std.specs.Prelude.{option_copied, take};
 ghost use Rattle.am_record.specs.Interval.{key_le};
 ghost use Rattle.am_record.specs.declared.entry.Entry.{Entry as TheEntry};
-ghost use Rattle.am_list.specs.Entries.{next_from, all_after};
+ghost use Rattle.am_index.specs.Entries.{next_from, all_after};
 
-use am_list::{Batch, PartIndex};
+use am_index::{Batch, PartIndex};
 use am_parts::Parts;
 use am_record::{Entry, Key};
 

@@ -1,6 +1,6 @@
-mod Rising
-mod Moving
-mod Gathering
-mod Leading
-mod Merging
-mod Taking
+mod RisingRows
+mod HeadMoves
+mod GatheredHeads
+mod LeastHeads
+mod LeastRecords
+mod TakenRows

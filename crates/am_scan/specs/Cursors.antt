@@ -6,7 +6,7 @@ use Rattle.am_record.specs.OrderedKey.{OrderedKey}
 use Rattle.am_record.specs.Interval.{Interval, key_le, within}
 use Rattle.am_record.specs.Plain.{PlainMap, Records, rows_where}
 use Rattle.am_record.specs.declared.entry.Entry.{Entry}
-use Rattle.am_list.specs.Content.{IsLiveAt}
+use Rattle.am_index.specs.Content.{IsLiveAt}
 use Rattle.am_parts.specs.Partitions.{AreWellFormed}
 use Rattle.am_scan.specs.Heads.{Stand, head_cmp, IsHead}
 

@@ -9,7 +9,7 @@ use Rattle.am_record.specs.Interval.{Interval, within}
 use Rattle.am_record.specs.Plain.{Records}
 use Rattle.am_record.specs.Records.{records_code}
 use Rattle.am_record.specs.declared.entry.Entry.{Entry}
-use Rattle.am_list.specs.Content.{rows_in, IsLiveAt}
+use Rattle.am_index.specs.Content.{rows_in, IsLiveAt}
 
 -- where a head stands: in a partition, at the record, with the others read behind it, and whether those are all
 pub record Stand : Type 0 where

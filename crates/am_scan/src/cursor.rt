@@ -3,11 +3,11 @@
 ghost use Rattle.std.specs.Prelude.{◌≡◌, ◌≤◌, ◌++◌, IfOk, true, false, length, take, drop, slice_get};
 ghost use Rattle.am_record.specs.Interval.{within};
 ghost use Rattle.am_record.specs.Plain.{rows_where};
-ghost use Rattle.am_list.specs.Content.{content};
+ghost use Rattle.am_index.specs.Content.{content};
 
 use crate::head::Head;
 use crate::heads::{heads_of, keep_least, pop_least};
-use am_list::{PartIndex, content_follows, rows_follow};
+use am_index::{PartIndex, content_follows, rows_follow};
 use am_parts::Parts;
 use am_record::{Key, NoMemory, Range, Value};
 use std::alloc::Global;
@@ -35,7 +35,7 @@ impl<'a, I: PartIndex + Drop> Model for Cursor<'a, I> {
     ghost use Rattle.std.specs.List.{cons_option};
     ghost use Rattle.std.specs.BinaryHeap.{heap_items};
     ghost use Rattle.am_record.specs.Records.{Records, records_code};
-    ghost use Rattle.am_list.specs.Content.{content};
+    ghost use Rattle.am_index.specs.Content.{content};
 
     ghost Value = { Records };
 

@@ -3,10 +3,10 @@
 ghost use Rattle.std.specs.Prelude.{◌≡◌, ◌<◌, ◌≤◌, ◌↔◌, true, false, length, take, IfOk, IfSome, IfNone, IsTrue};
 ghost use Rattle.std.specs.Prelude.{vec_capacity};
 ghost use Rattle.am_record.specs.Interval.{key_le, within};
-ghost use Rattle.am_list.specs.Entries.{IsRising};
-ghost use Rattle.am_list.specs.Content.{rows_in};
+ghost use Rattle.am_index.specs.Entries.{IsRising};
+ghost use Rattle.am_index.specs.Content.{rows_in};
 
-use am_list::{PartIndex, rows_follow};
+use am_index::{PartIndex, rows_follow};
 use am_parts::Parts;
 use am_record::{Key, NoMemory, Range, Value, fronts_follow_keys};
 use std::alloc::Global;

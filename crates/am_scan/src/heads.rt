@@ -9,7 +9,7 @@ ghost use Rattle.am_scan.specs.Heads.{head_cmp};
 ghost use Rattle.am_scan.specs.Cursors.{AreAllHeads, IsLeastBeside};
 
 use crate::head::Head;
-use am_list::PartIndex;
+use am_index::PartIndex;
 use am_parts::Parts;
 use am_record::{NoMemory, Range};
 use std::alloc::Global;

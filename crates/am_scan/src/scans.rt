@@ -2,11 +2,11 @@
 
 ghost use Rattle.std.specs.Prelude.{◌≡◌, ◌<◌, ◌≤◌, IfOk, IfSome};
 ghost use Rattle.am_record.specs.Plain.{scan_rows};
-ghost use Rattle.am_list.specs.Content.{content, LivesInOne};
+ghost use Rattle.am_index.specs.Content.{content, LivesInOne};
 ghost use Rattle.am_parts.specs.Partitions.{AreWellFormed};
 
 use crate::Cursor;
-use am_list::{PartIndex, rows_follow};
+use am_index::{PartIndex, rows_follow};
 use am_parts::Parts;
 use am_record::{Key, NoMemory, Range, Value};
 use std::alloc::Global;

@@ -9,4 +9,4 @@ pub mod Overlays
 pub mod States
 pub mod Sound
 pub mod OneStep
-pub mod Formed
+pub mod FormedTraces

@@ -7,11 +7,11 @@ use Rattle.am_record.specs.declared.lock.Lock.{Lock}
 use Rattle.am_record.specs.declared.step.Refusal.TheVariants.{NoSuchTx}
 use Rattle.am_record.specs.Plain.{PlainMap, Draft, fresh, left_on}
 use Rattle.am_record.specs.Asks.{lock_of, locks_of}
-use Rattle.am_record.specs.Numbered.{with_changed}
+use Rattle.am_record.specs.ByNumber.{with_changed}
 use Rattle.am_record.proofs.Bodies.{left_on_push}
-use Rattle.am_record.proofs.Numbered.{has_number-push_own, has_number-push_other, of_number-push_none, of_number-none}
-use Rattle.am_record.proofs.Numbered.{has_number-with_changed, of_number-with_changed, of_number-with_changed_other}
-use Rattle.am_record.proofs.Numbered.{has_number-without_number, has_number-without_other, of_number-without_other}
+use Rattle.am_record.proofs.ByNumber.{has_number-push_own, has_number-push_other, of_number-push_none, of_number-none}
+use Rattle.am_record.proofs.ByNumber.{has_number-with_changed, of_number-with_changed, of_number-with_changed_other}
+use Rattle.am_record.proofs.ByNumber.{has_number-without_number, has_number-without_other, of_number-without_other}
 use Rattle.am_serial.specs.Trace.{Answered, ops_of}
 use Rattle.am_serial.specs.Machine.{State, Transaction, is_open, body_in, due_early, due_lock}
 use Rattle.am_serial.specs.Machine.{extended}

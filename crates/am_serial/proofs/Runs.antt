@@ -21,9 +21,9 @@ use Rattle.am_record.specs.OrderedKey.{OrderedKey}
 use Rattle.am_record.specs.Plain.{PlainMap, Draft, fresh, answer, left_on, is_orderly, found, exists_or_done}
 use Rattle.am_record.specs.Plain.{least_taken, went_back}
 use Rattle.am_record.specs.Asks.{lock_of, clashes, locks_of}
-use Rattle.am_record.specs.Numbered.{with_changed}
+use Rattle.am_record.specs.ByNumber.{with_changed}
 use Rattle.am_record.proofs.Lists.{AllByRecursion-always}
-use Rattle.am_record.proofs.Numbered.{of_number-told, with_changed-map, without_number-map}
+use Rattle.am_record.proofs.ByNumber.{of_number-told, with_changed-map, without_number-map}
 use Rattle.am_record.proofs.Owners as owners
 use Rattle.am_record.specs.Events.{Event}
 use Rattle.am_serial.specs.Trace.{Trace, Answered, Effect, Begins, Answers, Commits, Aborts, Nothing, effect}

@@ -10,9 +10,9 @@ use Rattle.std.proofs.lemmas.List.{append-nil}
 use Rattle.std.proofs.lemmas.List.Folds.{list_any-append}
 use Rattle.std.proofs.lemmas.List.Elements.{filter_map-append}
 use Rattle.am_record.specs.Plain.{PlainMap}
-use Rattle.am_record.specs.Numbered.{has_number}
-use Rattle.am_record.proofs.Numbered.{has_number-map, has_number-push_other, has_number-push_own, map-there}
-use Rattle.am_record.proofs.Numbered.{of_number-known, of_number-map}
+use Rattle.am_record.specs.ByNumber.{has_number}
+use Rattle.am_record.proofs.ByNumber.{has_number-map, has_number-push_other, has_number-push_own, map-there}
+use Rattle.am_record.proofs.ByNumber.{of_number-known, of_number-map}
 use Rattle.am_serial.specs.Trace.{Answered, Effect, Begins, Answers, Commits, Aborts, Nothing, begins, ends, commits}
 use Rattle.am_serial.specs.Trace.{answered_to, begun, ended, committers, body, runs, makes, runs_made, left_by_bodies}
 use Rattle.am_serial.specs.Machine.{State, Transaction, is_open, body_in}

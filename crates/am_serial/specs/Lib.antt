@@ -5,5 +5,5 @@ pub mod Steps
 pub mod Laws
 pub mod Sound
 pub mod Rows
-pub mod Formed
+pub mod FormedTraces
 pub mod Legal

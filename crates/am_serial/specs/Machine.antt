@@ -15,7 +15,7 @@ use Rattle.am_record.specs.declared.step.Reply.TheVariants.{Begun, Committed, Ab
 use Rattle.am_record.specs.declared.step.Reply.TheVariants.{Cleaned, Refused}
 use Rattle.am_record.specs.Plain.{PlainMap, Draft, fresh, answer, left_on}
 use Rattle.am_record.specs.Asks.{lock_of, locks_of, holds, owns}
-use Rattle.am_record.specs.Numbered.{has_number, of_number, with_changed, without_number}
+use Rattle.am_record.specs.ByNumber.{has_number, of_number, with_changed, without_number}
 use Rattle.am_record.specs.Owners.{blocker_among}
 use Rattle.am_record.specs.Refusals.{is_limit, refusal_before_lock, is_one_too_many, lock_refusal, or_else}
 use Rattle.am_serial.specs.Trace.{Trace, Answered, ops_of, Effect, Begins, Answers, Commits, Aborts, Nothing, effect}

@@ -12,7 +12,7 @@ use Rattle.am_record.specs.declared.step.Reply.{Reply}
 use Rattle.am_record.specs.declared.step.Reply.TheVariants.{Done, Begun, Committed, Aborted, Refused}
 use Rattle.am_record.specs.Plain.{PlainMap, answers, left}
 use Rattle.am_record.specs.Events.{Event}
-use Rattle.am_record.specs.Numbered.{has_number}
+use Rattle.am_record.specs.ByNumber.{has_number}
 use Rattle.am_record.specs.Asks.{locks_of}
 
 abbrev pub Trace : Type 0

@@ -7,7 +7,7 @@ ghost use Rattle.am_serial.specs.Machine.{State, Runs, start, after_run};
 ghost use Rattle.am_serial.specs.Steps.{StepLaws};
 ghost use Rattle.am_serial.specs.Laws.{IsMachineOf, OverlayLaws, ViewLaws};
 ghost use Rattle.am_serial.specs.Sound.{IsSound};
-ghost use Rattle.am_serial.specs.Formed.{IsFormed, FormedLaws};
+ghost use Rattle.am_serial.specs.FormedTraces.{IsFormed, FormedLaws};
 ghost use Rattle.am_serial.specs.Legal.{IsLegal};
 ghost use Rattle.am_serial.specs.Rows.{nested_marks, back_keeps_locks, back_forgotten};
 

@@ -1,2 +1,5 @@
-pub mod Faults
-pub mod Outboxes
+pub mod ServerRuns
+pub mod Pieces
+pub mod Stops
+pub mod Told
+pub mod Listeners

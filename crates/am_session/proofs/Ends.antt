@@ -1,8 +1,8 @@
 -- What an end says, by relations that follow from others.
 use Rattle.std.proofs.Common.{◌≡◌, ◌⊎◌, inl, inr, ℕ, List, [], Option, Some, None}
 use Rattle.am_serial.specs.Trace.{Trace}
-use Rattle.am_talk.specs.Exchanges.{Exchange}
-use Rattle.am_session.specs.Served.{EndsBy, IsEnded}
+use Rattle.am_dialogue.specs.Exchanges.{Exchange}
+use Rattle.am_session.specs.ServedSessions.{EndsBy, IsEnded}
 use Rattle.am_session.specs.declared.end.End.{End}
 use Rattle.am_session.specs.declared.end.End.TheVariants.{Quit, EndOfInput, ReadFailed, WriteFailed, NoMemory}
 

@@ -1,7 +1,7 @@
 pub mod Streams
-pub mod Hearing
-pub mod Talking
-pub mod Ending
+pub mod HeardLines
+pub mod SessionProgress
+pub mod LastAborts
 pub mod Solos
 pub mod Ends
-pub mod Speaking
+pub mod StoreSessions

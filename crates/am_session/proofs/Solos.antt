@@ -17,20 +17,20 @@ use Rattle.am_record.specs.declared.step.Reply.{Reply}
 use Rattle.am_record.specs.declared.step.Reply.TheVariants as reply
 use Rattle.am_record.specs.declared.step.Refusal.{Refusal}
 use Rattle.am_record.specs.declared.step.Refusal.TheVariants as why
-use Rattle.am_list.specs.Content.{content}
+use Rattle.am_index.specs.Content.{content}
 use Rattle.am_undo.specs.declared.note.Note.{Note}
 use Rattle.am_record.specs.Marks.{has_mark}
 use Rattle.am_sound.specs.Represents.{stored_answer}
-use Rattle.am_effect.specs.Merging.{Holders, candidates, AnswersFirst, AnswersCandidates, MergeRight}
+use Rattle.am_effect.specs.MergeAnswers.{Holders, candidates, AnswersFirst, AnswersCandidates, MergeRight}
 use Rattle.am_effect.specs.Store.{WithinLimit}
 use Rattle.am_record.specs.Refusals.{is_limit}
 use Rattle.am_sound.specs.StoreState.{Active, StoreState, is_in, in_table, newcomer, refusal_in, takes_memory}
 use Rattle.am_sound.specs.StoreState.{MayAnswer, with_op, state_after_op, state_after}
-use Rattle.am_record.specs.Numbered.{with_changed}
-use Rattle.am_record.proofs.Numbered.{has_number-push_own, has_number-with_changed}
-use Rattle.am_talk.specs.Session.{SessionState, session_after}
-use Rattle.am_talk.specs.Actions.{EndsAbort}
-use Rattle.am_talk.specs.Alone.{commits_after}
+use Rattle.am_record.specs.ByNumber.{with_changed}
+use Rattle.am_record.proofs.ByNumber.{has_number-push_own, has_number-with_changed}
+use Rattle.am_dialogue.specs.Session.{SessionState, session_after}
+use Rattle.am_dialogue.specs.Actions.{EndsAbort}
+use Rattle.am_dialogue.specs.Alone.{commits_after}
 use Rattle.am_session.specs.Solo.{IsOpen}
 
 -- ---- replies that begin and end nothing

@@ -3,8 +3,8 @@ use Rattle.std.proofs.Common.{◌≡◌, ℕ, List, [], ◌++◌, append_assoc, 
 use Rattle.std.proofs.Common.{Option, Some, None, subst, arith}
 use Rattle.std.proofs.lemmas.List.{take_all}
 use Rattle.std.specs.Io.KnownBytes.{Appends}
-use Rattle.am_stream.specs.Taking.{Took, TookAhead}
-use Rattle.am_stream.specs.Giving.{Gave}
+use Rattle.am_stream.specs.SourceReads.{Took, TookAhead}
+use Rattle.am_stream.specs.SinkWrites.{Gave}
 use Rattle.am_stream.proofs.Streams.{gave_then}
 
 pub appends_none : (a : Option (List ℕ)) → Appends a a []

@@ -1,5 +1,5 @@
-pub mod Answering
-pub mod Served
+pub mod OneAnswer
+pub mod ServedSessions
 pub mod Stops
 pub mod Solo
-pub mod Spoke
+pub mod StoreSessions

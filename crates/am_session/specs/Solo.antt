@@ -10,14 +10,14 @@ use Rattle.am_serial.specs.Trace.{Trace}
 use Rattle.am_serial.specs.Legal.{IsLegal}
 use Rattle.am_sound.specs.Right.{IsSoundStore}
 use Rattle.am_sound.specs.StoreState.{StoreState, empty_state, is_in, MayAnswer, state_after}
-use Rattle.am_core.specs.Keeping.{state_code}
+use Rattle.am_core.specs.StoreContent.{state_code}
 use Rattle.am_core.specs.Memory.{may_want_memory}
-use Rattle.am_core.specs.Standing.{Extends}
-use Rattle.am_talk.specs.Exchanges.{Exchange, with_torn}
-use Rattle.am_talk.specs.Backends.{BackendMeaning}
-use Rattle.am_talk.specs.Alone.{AnswersAlone}
-use Rattle.am_talk.specs.Responses.{response_text}
-use Rattle.am_talk.specs.Say.{Says}
+use Rattle.am_core.specs.StoreSteps.{Extends}
+use Rattle.am_dialogue.specs.Exchanges.{Exchange, with_torn}
+use Rattle.am_dialogue.specs.Backends.{BackendMeaning}
+use Rattle.am_dialogue.specs.Alone.{AnswersAlone}
+use Rattle.am_dialogue.specs.Responses.{response_text}
+use Rattle.am_dialogue.specs.Say.{Says}
 use Rattle.am_wire.specs.Replies.{IsOneLine}
 
 -- what the store keeps, and the transaction that is active in the session

@@ -1,12 +1,12 @@
 -- What a session did up to its stop, when no further line is answered and what is active isn't aborted yet.
 use Rattle.std.specs.Prelude.{ℕ, List, [], Option}
-use Rattle.am_stream.specs.Taking.{Took}
-use Rattle.am_stream.specs.Giving.{Gave}
-use Rattle.am_talk.specs.Backends.{BackendMeaning}
-use Rattle.am_talk.specs.Conversation.{SessionPoint, Converses}
-use Rattle.am_session.specs.Served.{StopsBy}
-use Rattle.am_session.specs.declared.serving.Stop.{Stop}
-use Rattle.am_session.specs.declared.serving.Stop.TheVariants.{Quit, ReadFailed, WriteFailed}
+use Rattle.am_stream.specs.SourceReads.{Took}
+use Rattle.am_stream.specs.SinkWrites.{Gave}
+use Rattle.am_dialogue.specs.Backends.{BackendMeaning}
+use Rattle.am_dialogue.specs.Conversation.{SessionPoint, Converses}
+use Rattle.am_session.specs.ServedSessions.{StopsBy}
+use Rattle.am_session.specs.declared.session.Stop.{Stop}
+use Rattle.am_session.specs.declared.session.Stop.TheVariants.{Quit, ReadFailed, WriteFailed}
 
 -- what was taken, given and answered up to the stop
 abbrev pub Talked : {S K B : Type 0} → (S → List ℕ → Type 0) → (K → Option (List ℕ)) → BackendMeaning B → ℕ → S → K →

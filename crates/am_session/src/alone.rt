@@ -1,11 +1,11 @@
 //! A session on a store of its own.
 
 ghost use Rattle.std.specs.Prelude.{◌≡◌, ◌+◌, ◌^◌, ◌<◌, ◌≤◌, false};
-ghost use Rattle.am_session.specs.Served.{read_failures, write_failures, IsSentOn};
-ghost use Rattle.am_session.specs.Spoke.{Spoke, WroteFor};
+ghost use Rattle.am_session.specs.ServedSessions.{read_failures, write_failures, IsSentOn};
+ghost use Rattle.am_session.specs.StoreSessions.{Spoke, WroteFor};
 
 use crate::end::End;
-use crate::serving::serve;
+use crate::session::serve;
 use crate::solo::SoloStore;
 use am_record::HashKey;
 use am_stream::{AnsweredSource, PieceSource, Sink, StopSink};
@@ -38,8 +38,8 @@ pub fn serve_alone<W: Wait, K: Sink, S: AnsweredSource<K>>(
 {
     am_sound::steps_lift();
     am_serial::sound_traces_are_legal();
-    am_talk::sound_dialogues_say();
-    am_talk::answers_are_lines();
+    am_dialogue::sound_dialogues_say();
+    am_dialogue::answers_are_lines();
     let Ok(mut store) = SoloStore::new(alloc, hash) else {
         return End::NoMemory;
     };

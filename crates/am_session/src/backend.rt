@@ -2,8 +2,8 @@
 
 ghost use Rattle.std.specs.Prelude.{◌≡◌};
 ghost use Rattle.am_record.specs.Sessions.{IsAllowed, active_after};
-ghost use Rattle.am_talk.specs.Actions.{EndsAbort};
-ghost use Rattle.am_talk.specs.Backends.{BackendMeaning};
+ghost use Rattle.am_dialogue.specs.Actions.{EndsAbort};
+ghost use Rattle.am_dialogue.specs.Backends.{BackendMeaning};
 
 use am_record::{Reply, Step};
 use std::sync::Wait;

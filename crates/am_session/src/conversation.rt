@@ -2,19 +2,19 @@
 
 ghost use Rattle.std.specs.Prelude.{◌≡◌, ℕ, ◌+◌, ◌^◌, ◌<◌, ◌≤◌, [], take, false, Option, Some, None, OnOk, OnErr, IfOk};
 ghost use Rattle.std.specs.Prelude.{IfSome, IfNone, true};
-ghost use Rattle.am_stream.specs.Giving.{Gave};
+ghost use Rattle.am_stream.specs.SinkWrites.{Gave};
 ghost use Rattle.am_stream.specs.Lines.{has_lf, TookLine, TookPart};
-ghost use Rattle.am_stream.specs.Seen.{seen};
-ghost use Rattle.am_stream.specs.Taking.{TookAhead, IsAtEnd};
-ghost use Rattle.am_talk.specs.Responses.{response_text};
+ghost use Rattle.am_stream.specs.LineAnswers.{seen};
+ghost use Rattle.am_stream.specs.SourceReads.{TookAhead, IsAtEnd};
+ghost use Rattle.am_dialogue.specs.Responses.{response_text};
 ghost use Rattle.am_serial.specs.Trace.{Trace};
-ghost use Rattle.am_talk.specs.Conversation.{AnswersParsed, MergesAfter};
-ghost use Rattle.am_session.specs.Answering.{GivesAnswer, GivesTorn};
+ghost use Rattle.am_dialogue.specs.Conversation.{AnswersParsed, MergesAfter};
+ghost use Rattle.am_session.specs.OneAnswer.{GivesAnswer, GivesTorn};
 
 use crate::backend::Backend;
+use am_dialogue::{Action, ParsedLine, Response, Session, put_response};
 use am_record::Step;
 use am_stream::{AnsweredSource, Failed, FoundLine, Input, LineBuffer, Sink, read_line};
-use am_talk::{Action, ParsedLine, Response, Session, put_response};
 use std::sync::Wait;
 
 /// Takes the next line. The source is asked only where no whole line is at hand, and then nothing is unsent.

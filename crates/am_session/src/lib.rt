@@ -4,15 +4,15 @@
 mod alone;
 mod backend;
 mod conversation;
-mod drawing;
 mod end;
-mod parting;
-mod serving;
+mod hash_key_draw;
+mod parting_sink;
+mod session;
 mod solo;
 
 pub use alone::{serve_alone, serve_in_memory};
 pub use backend::Backend;
-pub use drawing::draw_hash_key;
 pub use end::End;
-pub use parting::PartingSink;
-pub use serving::serve;
+pub use hash_key_draw::draw_hash_key;
+pub use parting_sink::PartingSink;
+pub use session::serve;

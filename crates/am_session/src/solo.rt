@@ -3,14 +3,14 @@
 ghost use Rattle.am_record.specs.Sessions.{IsAllowed, active_after};
 ghost use Rattle.std.specs.Prelude.{◌≡◌, None, IfOk};
 ghost use Rattle.am_sound.specs.StoreState.{empty_state};
-ghost use Rattle.am_talk.specs.Actions.{EndsAbort};
+ghost use Rattle.am_dialogue.specs.Actions.{EndsAbort};
 ghost use Rattle.am_session.specs.Solo.{solo_meaning};
 
 use crate::backend::Backend;
 use am_btree::BTree;
 use am_core::Store;
+use am_dialogue::active_behind;
 use am_record::{HashKey, NoMemory, Reply, Step};
-use am_talk::active_behind;
 use std::alloc::Global;
 use std::marker::Model;
 use std::sync::Wait;

@@ -14,15 +14,15 @@ use Rattle.am_effect.proofs.Lists.{All-filter}
 use Rattle.am_effect.proofs.Maintenance.{as_many, candidates_stand, merged_rise, merged_stand, moved_bound, of_run}
 use Rattle.am_effect.proofs.Merges.{InRuns, others_stand, rising-worked_off}
 use Rattle.am_effect.specs.History.{gone_back, left_at, moments_since}
-use Rattle.am_effect.specs.Merging.{Holders, MergeRight, all_worked_off, candidates, cleaned_by, merged_by, most}
-use Rattle.am_effect.specs.Merging.{wishes_left, worked_off}
+use Rattle.am_effect.specs.MergeAnswers.{Holders, MergeRight, all_worked_off, candidates, cleaned_by, merged_by, most}
+use Rattle.am_effect.specs.MergeAnswers.{wishes_left, worked_off}
 use Rattle.am_effect.specs.Places.{look, put, reslotted, with_slot}
 use Rattle.am_effect.specs.Store.{AskedAt, EachAsked, Follows, IsAsked, MayReply, Store, after_step, all_loaded_into}
 use Rattle.am_effect.specs.Store.{all_moved_from, asks_for, changed, entries_after, find_live, holder, loaded_into}
 use Rattle.am_effect.specs.Store.{moved_from, opened, reads, was_read, wished, wishes_after, with_ghost, with_value}
 use Rattle.am_effect.specs.Store.{with_wish}
-use Rattle.am_list.proofs.Edits.{find-miss, one_place}
-use Rattle.am_list.specs.Entries.{IsRising, Slot, find, insert_entry, remove_entry, set_entry, slot_of}
+use Rattle.am_index.proofs.Edits.{find-miss, one_place}
+use Rattle.am_index.specs.Entries.{IsRising, Slot, find, insert_entry, remove_entry, set_entry, slot_of}
 use Rattle.am_record.specs.EntryOrder.{Place, place_cmp, place_of}
 use Rattle.am_record.specs.Interval.{Interval, within}
 use Rattle.am_record.specs.OrderedKey.{OrderedKey}
@@ -36,7 +36,7 @@ use Rattle.am_record.specs.declared.step.Reply.TheVariants.{Aborted, Cleaned, Do
 use Rattle.am_record.specs.declared.step.Step.{Step}
 use Rattle.am_record.specs.declared.step.Step.TheVariants.{Abort, Clean, Do, Merge}
 use Rattle.am_record.proofs.Lists.{AllByRecursion-map, AllByRecursion-take, AllByRecursion-drop, AllByRecursion-push}
-use Rattle.am_list.specs.Runs.{live_entry, with_run}
+use Rattle.am_index.specs.Runs.{live_entry, with_run}
 use Rattle.am_record.specs.Events.{Event}
 use Rattle.am_serial.specs.Trace.{Trace}
 use Rattle.am_sound.proofs.Whole.{at_start, Right, by_limit, one_more}

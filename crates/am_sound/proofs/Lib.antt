@@ -1,6 +1,6 @@
-pub mod Representing
+pub mod RepresentsLaws
 pub mod Operations
-pub mod Keeping
+pub mod KeptEntries
 pub mod Whole
 pub mod Sounds
 pub mod Counts

@@ -6,22 +6,22 @@ use Rattle.std.proofs.lemmas.Bool.{cond-true, cond-false, both_ways}
 use Rattle.std.proofs.lemmas.Bool.{eq-eqb, ne_eqb, false≢true}
 use Rattle.std.proofs.lemmas.List.{map-append, length-map}
 use Rattle.std.proofs.lemmas.Simd.{map-map}
-use Rattle.am_record.specs.Numbered.{of_number, with_changed}
+use Rattle.am_record.specs.ByNumber.{of_number, with_changed}
 use Rattle.am_record.proofs.Lists.{AllByRecursion-always}
-use Rattle.am_record.proofs.Numbered.{has_number-map, of_number-map, of_number-told, of_number-known, map-there}
-use Rattle.am_record.proofs.Numbered.{with_changed-map, without_number-map}
+use Rattle.am_record.proofs.ByNumber.{has_number-map, of_number-map, of_number-told, of_number-known, map-there}
+use Rattle.am_record.proofs.ByNumber.{with_changed-map, without_number-map}
 use Rattle.am_record.proofs.Owners.{blocker_among-map, holder_among-map}
 use Rattle.am_effect.proofs.Backs.{describe_laws}
 use Rattle.am_effect.proofs.Marks.{back_laws, whole_describes}
 use Rattle.am_effect.specs.History.{aborted, goes_back, gone_back}
 use Rattle.am_effect.specs.Laws.{taken_back}
-use Rattle.am_effect.specs.Merging.{CleanRight, Holders, MergeRight, all_worked_off, cleaned_by}
+use Rattle.am_effect.specs.MergeAnswers.{CleanRight, Holders, MergeRight, all_worked_off, cleaned_by}
 use Rattle.am_effect.specs.Store.{Follows, MayReply, Store, WithinLimit, after_all, after_step, changed, holder}
 use Rattle.am_effect.specs.Store.{marks_after, marks_left, noted, notes_after, notes_left, opened, wished, with_wish}
-use Rattle.am_sound.proofs.Representing.{goes_on}
+use Rattle.am_sound.proofs.RepresentsLaws.{goes_on}
 use Rattle.am_sound.specs.Represents.{RepresentsNext, stored_answer}
-use Rattle.am_list.specs.Content.{content}
-use Rattle.am_list.specs.Entries.{find}
+use Rattle.am_index.specs.Content.{content}
+use Rattle.am_index.specs.Entries.{find}
 use Rattle.am_record.specs.Asks.{lock_of, locks_of}
 use Rattle.am_record.specs.Interval.{Interval}
 use Rattle.am_record.specs.OrderedKey.{OrderedKey}
@@ -46,14 +46,14 @@ use Rattle.am_serial.specs.Machine.{State, Transaction, blocker, body_in, due, e
 use Rattle.am_serial.specs.Machine.{view, without_transaction}
 use Rattle.am_record.specs.Events.{Event}
 use Rattle.am_serial.specs.Trace.{Answered, Trace, ops_of, runs_made}
-use Rattle.am_sound.proofs.Keeping.{not_begun}
+use Rattle.am_sound.proofs.KeptEntries.{not_begun}
 use Rattle.am_sound.proofs.Whole.{Right, changed_refused, either_way, marks_left_refused, noted_refused}
 use Rattle.am_sound.proofs.Whole.{notes_left_refused, right_at}
 use Rattle.am_sound.specs.StateOf.{IsStateOf, active_of, state_of}
 use Rattle.am_sound.specs.StoreState.{Active, IsFit, MayAnswer, StoreState, state_after, taken_back_to_mark, blocker_in}
 use Rattle.am_sound.specs.StoreState.{newcomer, with_op, refusal_in, without_tx, holder_in, in_table, is_in}
 use Rattle.am_sound.specs.StoreState.{takes_memory}
-use Rattle.am_undo.proofs.Marking.{mark_laws}
+use Rattle.am_undo.proofs.NotesSinceMarks.{mark_laws}
 use Rattle.am_record.specs.Marks.{since_mark, has_mark}
 use Rattle.am_undo.specs.Marks.{MarkLaws}
 use Rattle.am_undo.specs.Notes.{CanTakeBack}

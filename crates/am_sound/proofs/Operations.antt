@@ -24,21 +24,22 @@ use Rattle.am_record.specs.declared.step.Op.TheVariants.{Mark, Back}
 use Rattle.am_record.specs.declared.step.Reply.{Reply}
 use Rattle.am_record.specs.declared.step.Reply.TheVariants.{Done, Exists, Missing}
 use Rattle.am_record.proofs.FirstRows.{key_eq-itself}
-use Rattle.am_record.proofs.Rising.{run_sorted}
-use Rattle.am_list.specs.Entries.{Slot, slot_of, first_such, entry_at, find, insert_entry, set_entry, IsRising}
-use Rattle.am_list.specs.Edits.{IsChangedAt}
-use Rattle.am_list.specs.Content.{content, IsLiveAt, OnePlace, HasContent}
-use Rattle.am_list.proofs.Edits.{first_such_all, first_such_passes, entry_at_place, entry_at_beside_inserted, other_key}
-use Rattle.am_list.proofs.Edits.{apart_places}
-use Rattle.am_list.proofs.EditLaws.{edit_laws}
-use Rattle.am_list.proofs.Content.{content_found}
-use Rattle.am_list.proofs.ContentLaws.{content_laws}
+use Rattle.am_record.proofs.RisingRecords.{run_sorted}
+use Rattle.am_index.specs.Entries.{Slot, slot_of, first_such, entry_at, find, insert_entry, set_entry, IsRising}
+use Rattle.am_index.specs.Edits.{IsChangedAt}
+use Rattle.am_index.specs.Content.{content, IsLiveAt, OnePlace, HasContent}
+use Rattle.am_index.proofs.Edits.{first_such_all, first_such_passes, entry_at_place, entry_at_beside_inserted}
+use Rattle.am_index.proofs.Edits.{other_key}
+use Rattle.am_index.proofs.Edits.{apart_places}
+use Rattle.am_index.proofs.EditLaws.{edit_laws}
+use Rattle.am_index.proofs.Content.{content_found}
+use Rattle.am_index.proofs.ContentLaws.{content_laws}
 use Rattle.am_undo.specs.declared.note.Note.{Note}
 use Rattle.am_undo.specs.declared.note.Note.TheVariants.{New, Before, RunMade}
 use Rattle.am_undo.specs.Undo.{is_noted_run, Undoes}
-use Rattle.am_undo.proofs.Undoing.{undo_laws}
-use Rattle.am_list.specs.Runs.{live_entry, with_run}
-use Rattle.am_list.proofs.RunLaws.{run_laws}
+use Rattle.am_undo.proofs.TakeBacks.{undo_laws}
+use Rattle.am_index.specs.Runs.{live_entry, with_run}
+use Rattle.am_index.proofs.RunLaws.{run_laws}
 use Rattle.am_serial.specs.Trace.{Answers, runs_made}
 use Rattle.am_serial.proofs.Maps.{entries-retain_keys}
 use Rattle.am_serial.proofs.Keys.{in_point, in_span}

@@ -1,7 +1,7 @@
 -- What the table of locks answers is what a step owes.
 use Rattle.std.proofs.Common.{ℕ, List, refl, sym, ◌∙◌, Some}
 use Rattle.am_record.specs.declared.lock.Lock.{Lock}
-use Rattle.am_record.proofs.Numbered.{RiseBy-map}
+use Rattle.am_record.proofs.ByNumber.{RiseBy-map}
 use Rattle.am_record.proofs.Owners.{blocker_among-map, holder_among-map}
 use Rattle.am_locks.specs.OwnerLocks.{OwnerLocks}
 use Rattle.am_locks.proofs.FirstOwners.{blocked, free, held}

@@ -14,21 +14,22 @@ use Rattle.am_effect.proofs.Lists.{Stands, look-reslotted, look-reslotted_none, 
 use Rattle.am_effect.proofs.Maintenance.{candidates_stand, clean_maintains, merge_maintains}
 use Rattle.am_effect.proofs.Marks.{back_laws, backed_at, each_marked, each_next, taken_at, whole_describes, wrote_since}
 use Rattle.am_effect.proofs.Merges.{InRuns}
-use Rattle.am_effect.proofs.Noted.{run_dropped}
+use Rattle.am_effect.proofs.NotesAtPlaces.{run_dropped}
 use Rattle.am_effect.specs.History.{Moment, aborted, gone_back, is_plain, left_at, moments_since, wrote}
 use Rattle.am_effect.specs.Laws.{Maintains}
-use Rattle.am_effect.specs.Merging.{AnswersCandidates, AnswersFirst, Holders, MergeRight, all_worked_off, candidates}
-use Rattle.am_effect.specs.Merging.{cleanable, merged_by}
+use Rattle.am_effect.specs.MergeAnswers.{AnswersCandidates, AnswersFirst, Holders, MergeRight, all_worked_off}
+use Rattle.am_effect.specs.MergeAnswers.{candidates}
+use Rattle.am_effect.specs.MergeAnswers.{cleanable, merged_by}
 use Rattle.am_effect.specs.Places.{look}
 use Rattle.am_effect.specs.Store.{Follows, MayReply, Store, WithinLimit, after_all, after_step, changed, entries_after}
 use Rattle.am_effect.specs.Store.{holder, marks_after, marks_left, noted, notes_after, notes_left}
-use Rattle.am_sound.proofs.Representing.{goes_on, plain_told}
-use Rattle.am_sound.proofs.Representing as follows
+use Rattle.am_sound.proofs.RepresentsLaws.{goes_on, plain_told}
+use Rattle.am_sound.proofs.RepresentsLaws as follows
 use Rattle.am_effect.specs.Store.{opened}
 use Rattle.am_sound.specs.Represents.{RepresentsNext, Represents}
-use Rattle.am_list.proofs.ContentLaws.{empty_content}
-use Rattle.am_list.specs.Content.{OnePlace, content}
-use Rattle.am_list.specs.Entries.{IsRising, Slot, find, slot_of}
+use Rattle.am_index.proofs.ContentLaws.{empty_content}
+use Rattle.am_index.specs.Content.{OnePlace, content}
+use Rattle.am_index.specs.Entries.{IsRising, Slot, find, slot_of}
 use Rattle.am_record.specs.Asks.{locks_of, owns}
 use Rattle.am_record.specs.EntryOrder.{Place}
 use Rattle.am_record.specs.Interval.{Interval}
@@ -58,7 +59,7 @@ use Rattle.am_record.specs.Marks.{until_mark, older, has_mark}
 use Rattle.am_undo.specs.Undo.{is_noted_run}
 use Rattle.am_undo.specs.declared.note.Note.{Note}
 use Rattle.am_sound.proofs.Operations.{OpRight, op_right}
-use Rattle.am_sound.proofs.Keeping.{Keeps, quiet, not_begun, begins, answers, lockless, not_both}
+use Rattle.am_sound.proofs.KeptEntries.{Keeps, quiet, not_begun, begins, answers, lockless, not_both}
 
 -- ---- what a merge may answer is formed
 

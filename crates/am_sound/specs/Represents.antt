@@ -11,8 +11,8 @@ use Rattle.am_record.specs.declared.step.Op.{Op}
 use Rattle.am_record.specs.declared.step.Op.TheVariants.{Mark, Back}
 use Rattle.am_record.specs.declared.step.Reply.{Reply}
 use Rattle.am_record.specs.declared.step.Reply.TheVariants.{Done, NoMark}
-use Rattle.am_list.specs.Entries.{find}
-use Rattle.am_list.specs.Content.{content, HasContent}
+use Rattle.am_index.specs.Entries.{find}
+use Rattle.am_index.specs.Content.{content, HasContent}
 use Rattle.am_undo.specs.declared.note.Note.{Note}
 use Rattle.am_undo.specs.Notes.{TakesBack}
 use Rattle.am_undo.specs.Undo.{is_noted_run, Undoes}

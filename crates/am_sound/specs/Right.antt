@@ -4,8 +4,8 @@ use Rattle.am_record.specs.OrderedKey.{OrderedKey}
 use Rattle.am_record.specs.declared.step.Step.{Step}
 use Rattle.am_record.specs.declared.step.Step.TheVariants.{Merge, Clean}
 use Rattle.am_record.specs.declared.step.Reply.{Reply}
-use Rattle.am_list.specs.Entries.{find}
-use Rattle.am_list.specs.Content.{HasContent}
+use Rattle.am_index.specs.Entries.{find}
+use Rattle.am_index.specs.Content.{HasContent}
 use Rattle.am_undo.specs.Undo.{is_noted_run}
 use Rattle.am_serial.specs.Trace.{Trace, effects, overlay}
 use Rattle.am_serial.specs.Machine.{is_open}

@@ -5,7 +5,7 @@ use Rattle.am_record.specs.Limits.{max_active, max_begun}
 use Rattle.am_record.specs.OrderedKey.{OrderedKey}
 use Rattle.am_record.specs.Interval.{Interval}
 use Rattle.am_record.specs.Asks.{lock_of, with_asked}
-use Rattle.am_record.specs.Numbered.{has_number, of_number, with_changed, without_number}
+use Rattle.am_record.specs.ByNumber.{has_number, of_number, with_changed, without_number}
 use Rattle.am_record.specs.Owners.{blocker_among, holder_among}
 use Rattle.am_record.specs.declared.lock.Lock.{Lock}
 use Rattle.am_record.specs.declared.entry.Entry.{Entry}
@@ -18,14 +18,14 @@ use Rattle.am_record.specs.declared.step.Step.{Step}
 use Rattle.am_record.specs.declared.step.Step.TheVariants.{Begin, Do, Commit, Abort, Merge, Clean}
 use Rattle.am_record.specs.declared.step.Reply.{Reply}
 use Rattle.am_record.specs.declared.step.Reply.TheVariants.{Begun, Committed, Aborted, Refused}
-use Rattle.am_list.specs.Entries.{find, IsRising}
-use Rattle.am_list.specs.Content.{content, OnePlace}
+use Rattle.am_index.specs.Entries.{find, IsRising}
+use Rattle.am_index.specs.Content.{content, OnePlace}
 use Rattle.am_undo.specs.declared.note.Note.{Note}
 use Rattle.am_undo.specs.Notes.{CanTakeBack}
 use Rattle.am_record.specs.Marks.{since_mark}
 use Rattle.am_serial.specs.Trace.{runs_made}
 use Rattle.am_record.specs.Refusals.{refusal_before_lock, is_one_too_many, lock_refusal, or_else}
-use Rattle.am_effect.specs.Merging.{Holders, all_worked_off, MergeRight, merged_by, CleanRight, cleaned_by}
+use Rattle.am_effect.specs.MergeAnswers.{Holders, all_worked_off, MergeRight, merged_by, CleanRight, cleaned_by}
 use Rattle.am_effect.specs.Laws.{taken_back}
 use Rattle.am_effect.specs.Store.{WithinLimit, changed, noted, notes_left, marks_left, wishes_after}
 use Rattle.am_sound.specs.Represents.{stored_answer}

@@ -3,7 +3,7 @@ use Rattle.std.specs.Prelude.{◌≡◌, ℕ, List, [], map, Option, Some, None}
 use Rattle.std.specs.Option.{option_to_list}
 use Rattle.am_record.specs.OrderedKey.{OrderedKey}
 use Rattle.am_record.specs.declared.lock.Lock.{Lock}
-use Rattle.am_record.specs.Numbered.{RiseBy}
+use Rattle.am_record.specs.ByNumber.{RiseBy}
 use Rattle.am_locks.specs.OwnerLocks.{OwnerLocks}
 use Rattle.am_locks.specs.Table.{blockers, exclusive_holders}
 use Rattle.am_locks.specs.Answers.{IsLeastOf}

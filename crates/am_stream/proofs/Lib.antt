@@ -1,4 +1,4 @@
 pub mod Streams
-pub mod Cutting
+pub mod CutLines
 pub mod LineEnds
 pub mod ReadLines

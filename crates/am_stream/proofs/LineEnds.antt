@@ -5,7 +5,7 @@ use Rattle.std.specs.List.{position_or_len}
 use Rattle.std.proofs.lemmas.Bool.{cases_Bool, cond_both, false≢true, ltb-true, ltb-false}
 use Rattle.std.proofs.lemmas.List.{drop-take}
 use Rattle.am_stream.specs.Lines.{HasNoLf, has_lf, line_of, lines_of, CutsLine}
-use Rattle.am_stream.proofs.Cutting.{lines_of-ended}
+use Rattle.am_stream.proofs.CutLines.{lines_of-ended}
 
 abbrev place_of_lf : List ℕ → ℕ
 place_of_lf bytes = position_or_len (λ b. eqb b 10) bytes

@@ -3,9 +3,9 @@ use Rattle.std.proofs.Common.{◌≡◌, ◌≢◌, ℕ, List, [], ◌∷◌, �
 use Rattle.std.proofs.Common.{take, arith, true, false, Option, subst}
 use Rattle.std.proofs.lemmas.List.{length-take}
 use Rattle.am_stream.specs.Lines.{line_of, lines_of, HasNoLf, TookLine, TookPart}
-use Rattle.am_stream.specs.Taking.{TookAhead, IsAtEnd}
+use Rattle.am_stream.specs.SourceReads.{TookAhead, IsAtEnd}
 use Rattle.am_stream.proofs.Streams.{took_then}
-use Rattle.am_stream.proofs.Cutting.{line_of-front, take-push-front, lines_of-ended, lines_of-open, no_lf-push}
+use Rattle.am_stream.proofs.CutLines.{line_of-front, take-push-front, lines_of-ended, lines_of-open, no_lf-push}
 
 -- bytes of one line were taken, and its front is kept
 abbrev pub IsReading : {S : Type 0} → (S → List ℕ → Type 0) → List ℕ → S → List ℕ → List ℕ → S → Type 0

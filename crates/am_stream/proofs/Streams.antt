@@ -4,9 +4,9 @@ use Rattle.std.proofs.Common.{sym, subst, ◌∙◌, arith}
 use Rattle.std.proofs.Math.Seq.{take-append_seam, take-append-add}
 use Rattle.std.proofs.lemmas.Bool.{cases_lt}
 use Rattle.std.proofs.lemmas.List.{take_all, take-append-le}
-use Rattle.am_stream.specs.Taking.{TookAhead}
+use Rattle.am_stream.specs.SourceReads.{TookAhead}
 use Rattle.std.specs.Io.KnownBytes.{Appends}
-use Rattle.am_stream.specs.Giving.{Gave, GaveBeginning}
+use Rattle.am_stream.specs.SinkWrites.{Gave, GaveBeginning}
 
 appends_then : (a b c : Option (List ℕ)) (x y : List ℕ) → Appends a b x → Appends b c y → Appends a c (x ++ y)
 appends_then None b c x y f h = tt

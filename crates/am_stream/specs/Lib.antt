@@ -1,5 +1,5 @@
-pub mod Taking
-pub mod Giving
+pub mod SourceReads
+pub mod SinkWrites
 pub mod OverStd
 pub mod Lines
-pub mod Seen
+pub mod LineAnswers

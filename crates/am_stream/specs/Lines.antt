@@ -1,7 +1,7 @@
 -- Bytes, cut into lines.
 use Rattle.std.specs.Prelude.{◌≡◌, ◌≢◌, ℕ, List, [], ◌∷◌, ◌++◌, length, map, Bool, true, false, ◌==◌, nat_lt, Option}
 use Rattle.std.specs.Prelude.{Some, None, MatchBool, cond}
-use Rattle.am_stream.specs.Taking.{TookAhead, IsAtEnd}
+use Rattle.am_stream.specs.SourceReads.{TookAhead, IsAtEnd}
 
 -- a byte goes onto the front of the first line
 abbrev pub onto : ℕ → List (List ℕ) → List (List ℕ)

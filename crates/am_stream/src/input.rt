@@ -2,12 +2,12 @@
 
 ghost use Rattle.std.specs.Prelude.{◌≡◌, ℕ, ◌+◌, ◌-◌, ◌^◌, ◌<◌, ◌≤◌, List, [], ◌∷◌, ◌++◌, length, take, true, false};
 ghost use Rattle.std.specs.Prelude.{drop, is_some, OnOk, OnErr, IfOk, IfSome, IfNone, vec_len, option_to_list};
-ghost use Rattle.am_stream.specs.Taking.{TookAhead, IsAtEnd};
+ghost use Rattle.am_stream.specs.SourceReads.{TookAhead, IsAtEnd};
 ghost use Rattle.am_stream.specs.Lines.{HasNoLf, has_lf, CutsLine, TookLine, TookPart};
-ghost use Rattle.am_stream.specs.Seen.{seen};
+ghost use Rattle.am_stream.specs.LineAnswers.{seen};
 
-use crate::answered::AnsweredSource;
 use crate::line::{FoundLine, LineBuffer};
+use crate::peer_source::AnsweredSource;
 use crate::sink::Sink;
 use crate::source::Failed;
 use am_record::NoMemory;

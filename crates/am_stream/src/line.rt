@@ -3,7 +3,7 @@
 ghost use Rattle.std.specs.Prelude.{◌≡◌, ℕ, ◌+◌, ◌-◌, ◌<◌, ◌≤◌, ◌↔◌, List, [], ◌∷◌, ◌++◌, length, take, IfOk, IsTrue};
 ghost use Rattle.std.specs.Prelude.{vec_len};
 ghost use Rattle.am_stream.specs.Lines.{without_cr, line_of};
-ghost use Rattle.am_stream.specs.Seen.{seen};
+ghost use Rattle.am_stream.specs.LineAnswers.{seen};
 
 use am_record::NoMemory;
 use std::alloc::Global;

@@ -2,7 +2,7 @@
 
 ghost use Rattle.std.specs.Prelude.{◌≡◌, ℕ, ◌+◌, ◌-◌, ◌^◌, ◌<◌, ◌≤◌, ◌↔◌, List, [], ◌++◌, length, take, OnOk, OnErr};
 ghost use Rattle.std.specs.Prelude.{IfOk, IsErr, Option, Some, Bool, false, ◌||◌, nat_lt};
-ghost use Rattle.am_stream.specs.Giving.{Gave, GaveBeginning, Outgoing};
+ghost use Rattle.am_stream.specs.SinkWrites.{Gave, GaveBeginning, Outgoing};
 
 use crate::source::{Failed, falls_due};
 use std::alloc::Global;
@@ -69,7 +69,7 @@ pub struct StopSink {
 }
 
 impl Model for StopSink {
-    ghost use Rattle.am_stream.specs.Giving.{Outgoing};
+    ghost use Rattle.am_stream.specs.SinkWrites.{Outgoing};
 
     ghost Value = { Outgoing };
 

@@ -2,7 +2,7 @@
 
 ghost use Rattle.std.specs.Prelude.{◌≡◌, ℕ, ◌+◌, ◌-◌, ◌^◌, ◌<◌, ◌≤◌, ◌↔◌, List, [], length, take, drop, min, OnOk};
 ghost use Rattle.std.specs.Prelude.{OnErr, IfOk, IsErr, IsTrue};
-ghost use Rattle.am_stream.specs.Taking.{Took, Incoming, IsRest, next_size};
+ghost use Rattle.am_stream.specs.SourceReads.{Took, Incoming, IsRest, next_size};
 
 use std::marker::Model;
 
@@ -51,7 +51,7 @@ pub struct PieceSource<'a> {
 }
 
 impl<'a> Model for PieceSource<'a> {
-    ghost use Rattle.am_stream.specs.Taking.{Incoming};
+    ghost use Rattle.am_stream.specs.SourceReads.{Incoming};
 
     ghost Value = { Incoming };
 

@@ -4,13 +4,13 @@ use Rattle.std.proofs.Common.{cond, not, ◌==◌, All, ◌≢◌, subst, refl, 
 use Rattle.std.proofs.lemmas.List.{map-append, length-map}
 use Rattle.std.proofs.lemmas.List.Elements.{All-head, All-tail, All-push, All-filter, All-weaker, All-set}
 use Rattle.std.specs.List.{AllByRecursion}
-use Rattle.am_record.specs.Numbered.{has_number, with_changed, without_number}
+use Rattle.am_record.specs.ByNumber.{has_number, with_changed, without_number}
 use Rattle.am_record.specs.declared.lock.Lock.{Lock}
 use Rattle.am_record.proofs.Lists.{AllByRecursion-map}
-use Rattle.am_record.proofs.Numbered.{has_number-map, has_number-none, numbers-with_changed, RiseBy-with_changed}
-use Rattle.am_record.proofs.Numbered.{RiseBy-push, RiseBy-filter, without_number-map, length-without_number}
-use Rattle.am_locks.specs.declared.asked.Asked.{Asked}
-use Rattle.am_locks.specs.declared.asked.Asked.TheVariants.{Granted, Busy, TooManyLocks, NoMemory}
+use Rattle.am_record.proofs.ByNumber.{has_number-map, has_number-none, numbers-with_changed, RiseBy-with_changed}
+use Rattle.am_record.proofs.ByNumber.{RiseBy-push, RiseBy-filter, without_number-map, length-without_number}
+use Rattle.am_locks.specs.declared.lock_answers.Asked.{Asked}
+use Rattle.am_locks.specs.declared.lock_answers.Asked.TheVariants.{Granted, Busy, TooManyLocks, NoMemory}
 use Rattle.am_locks.specs.OwnerLocks.{OwnerLocks}
 use Rattle.am_locks.specs.Table.{is_owner, owner_numbers, with_locks}
 use Rattle.am_tx.specs.declared.transaction.Transaction.{Transaction}

@@ -1,6 +1,6 @@
 -- The active transactions, in the order in which they began.
 use Rattle.std.specs.Prelude.{ℕ, List, [], Bool, true, map}
-use Rattle.am_record.specs.Numbered.{has_number, of_number}
+use Rattle.am_record.specs.ByNumber.{has_number, of_number}
 use Rattle.am_undo.specs.Log.{Log}
 use Rattle.am_tx.specs.declared.transaction.Transaction.{Transaction}
 

@@ -1,3 +1,3 @@
 pub mod Active
 pub mod Txs
-pub mod Lending
+pub mod LentLogs

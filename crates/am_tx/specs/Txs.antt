@@ -4,7 +4,7 @@ use Rattle.std.specs.Prelude.{refl}
 use Rattle.std.specs.List.{All}
 use Rattle.std.specs.Coded.{Coded, code_by, coded×, coded_ℕ, coded_list}
 use Rattle.am_record.specs.Limits.{max_active, max_begun, max_ops}
-use Rattle.am_record.specs.Numbered.{with_changed, without_number, RiseBy}
+use Rattle.am_record.specs.ByNumber.{with_changed, without_number, RiseBy}
 use Rattle.am_locks.specs.OwnerLocks.{OwnerLocks, held_code}
 use Rattle.am_locks.specs.Table.{entered, without_owner}
 use Rattle.am_undo.specs.Log.{Log}

@@ -4,7 +4,7 @@ ghost use Rattle.std.specs.Prelude.{◌≡◌, ◌≢◌, ◌+◌, ◌<◌, ◌�
 ghost use Rattle.std.specs.Prelude.{slice_index_or, slice_set, if◌then◌else◌, IfOk};
 ghost use Rattle.std.specs.Borrow.{sem};
 ghost use Rattle.am_record.specs.Locks.{is_covered, with_lock};
-ghost use Rattle.am_record.specs.Numbered.{with_changed};
+ghost use Rattle.am_record.specs.ByNumber.{with_changed};
 ghost use Rattle.am_locks.specs.Table.{locks_owned, with_locks, blockers};
 ghost use Rattle.am_locks.specs.Answers.{IsLeastOf, MatchBusy};
 
@@ -45,7 +45,7 @@ impl TxTable {
     ghost use Rattle.am_tx.specs.declared.transaction.Transaction.{Transaction};
     ghost use Rattle.am_tx.specs.Active.{is_active_in, ops_in, log_in};
     ghost use Rattle.am_tx.specs.Txs.{IsConsistent, can_begin, txs_after_begin, txs_after_op, txs_after_end};
-    ghost use Rattle.am_tx.specs.Lending.{LendsLog};
+    ghost use Rattle.am_tx.specs.LentLogs.{LendsLog};
 
     /// A table of no transactions, and with room for all that there may be.
     ///

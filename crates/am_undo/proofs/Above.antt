@@ -7,7 +7,7 @@ use Rattle.std.proofs.Math.ListN.{drop_of_length-le}
 use Rattle.am_record.specs.OrderedKey.{OrderedKey}
 use Rattle.am_record.specs.EntryOrder.{Place}
 use Rattle.am_record.specs.declared.entry.Entry.{Entry}
-use Rattle.am_list.specs.Entries.{find, IsRising}
+use Rattle.am_index.specs.Entries.{find, IsRising}
 use Rattle.am_undo.specs.declared.note.Note.{Note}
 use Rattle.am_undo.specs.Notes.{back_one, back_at, Stands, OneLive, TakesBack, NoteFits, NotesFit}
 use Rattle.am_undo.proofs.Fits.{stood_before}

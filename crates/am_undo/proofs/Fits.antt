@@ -7,11 +7,11 @@ use Rattle.am_record.proofs.Lists.{AllByRecursion-take, AllByRecursion-drop}
 use Rattle.am_record.specs.OrderedKey.{OrderedKey}
 use Rattle.am_record.specs.EntryOrder.{Place}
 use Rattle.am_record.specs.declared.entry.Entry.{Entry}
-use Rattle.am_list.specs.Entries.{Slot, find, set_entry}
-use Rattle.am_list.specs.Edits.{same_place}
-use Rattle.am_list.specs.Rooms.{KeepRoom}
-use Rattle.am_list.proofs.Edits.{one_place}
-use Rattle.am_list.proofs.Rooms.{room_kept, keep_on}
+use Rattle.am_index.specs.Entries.{Slot, find, set_entry}
+use Rattle.am_index.specs.Edits.{same_place}
+use Rattle.am_index.specs.Rooms.{KeepRoom}
+use Rattle.am_index.proofs.Edits.{one_place}
+use Rattle.am_index.proofs.Rooms.{room_kept, keep_on}
 use Rattle.am_undo.specs.declared.note.Note.{Note}
 use Rattle.am_undo.specs.declared.note.Note.TheVariants.{New, Before, RunMade}
 use Rattle.am_undo.specs.Notes.{Slots, back_at, Stands, CanTakeBack, NoteFits, NotesFit}

@@ -1,8 +1,8 @@
 pub mod Slots
-pub mod Undoing
+pub mod TakeBacks
 mod Run
 mod Log
-pub mod Noting
+pub mod NoteChains
 mod Above
 pub mod Fits
-pub mod Marking
+pub mod NotesSinceMarks

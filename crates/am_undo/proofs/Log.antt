@@ -6,9 +6,9 @@ use Rattle.std.proofs.lemmas.Bool.{cases_Bool, cond-true, cond-false}
 use Rattle.am_record.specs.OrderedKey.{OrderedKey}
 use Rattle.am_record.specs.EntryOrder.{Place}
 use Rattle.am_record.specs.declared.entry.Entry.{Entry}
-use Rattle.am_list.specs.Entries.{Slot, find, set_entry, IsRising}
-use Rattle.am_list.specs.Edits.{same_place}
-use Rattle.am_list.proofs.Edits.{one_place, same_place-itself}
+use Rattle.am_index.specs.Entries.{Slot, find, set_entry, IsRising}
+use Rattle.am_index.specs.Edits.{same_place}
+use Rattle.am_index.proofs.Edits.{one_place, same_place-itself}
 use Rattle.am_parts.specs.Partitions.{LivesNowhereElse}
 use Rattle.am_undo.specs.declared.note.Note.{Note}
 use Rattle.am_undo.specs.declared.note.Note.TheVariants.{Before}

@@ -15,11 +15,11 @@ use Rattle.am_record.specs.EntryOrder.{Place, place_of, place_cmp, place_cmp-sam
 use Rattle.am_record.specs.declared.entry.Entry.{Entry}
 use Rattle.am_record.proofs.PlaceOrder.{turned_greater}
 use Rattle.am_record.proofs.Orderings.{is_less, is_greater}
-use Rattle.am_list.specs.Entries.{slot_of, first_such, entry_at, find, next_from, after, set_entry, IsRising}
-use Rattle.am_list.specs.Edits.{same_place}
-use Rattle.am_list.proofs.Edits.{one_place, place_cmp-itself, other_part, first_such_all, first_such_passes}
-use Rattle.am_list.proofs.Edits.{entry_at_place, find_reset, entry_at_beside_reset, turned_apart}
-use Rattle.am_list.proofs.Content.{all_found}
+use Rattle.am_index.specs.Entries.{slot_of, first_such, entry_at, find, next_from, after, set_entry, IsRising}
+use Rattle.am_index.specs.Edits.{same_place}
+use Rattle.am_index.proofs.Edits.{one_place, place_cmp-itself, other_part, first_such_all, first_such_passes}
+use Rattle.am_index.proofs.Edits.{entry_at_place, find_reset, entry_at_beside_reset, turned_apart}
+use Rattle.am_index.proofs.Content.{all_found}
 use Rattle.am_parts.proofs.Looks.{none_pass, first_of_both, entry_of}
 use Rattle.am_undo.specs.Notes.{ghosted}
 

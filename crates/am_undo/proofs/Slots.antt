@@ -8,10 +8,10 @@ use Rattle.std.proofs.lemmas.Option.{none-some}
 use Rattle.std.proofs.lemmas.Cmp.{nat_eq_equiv}
 use Rattle.am_record.specs.OrderedKey.{OrderedKey}
 use Rattle.am_record.specs.EntryOrder.{Place}
-use Rattle.am_list.specs.Entries.{Slot}
-use Rattle.am_list.specs.Edits.{same_place}
-use Rattle.am_list.specs.Content.{live_value}
-use Rattle.am_list.proofs.Edits.{one_place, other_key}
+use Rattle.am_index.specs.Entries.{Slot}
+use Rattle.am_index.specs.Edits.{same_place}
+use Rattle.am_index.specs.Content.{live_value}
+use Rattle.am_index.proofs.Edits.{one_place, other_key}
 use Rattle.am_undo.specs.declared.note.Note.{Note}
 use Rattle.am_undo.specs.declared.note.Note.TheVariants.{New, Before, RunMade}
 use Rattle.am_undo.specs.Notes.{Slots, ghosted, back_one, back_all, back_at, Stands, OneLive, CanTakeBack}

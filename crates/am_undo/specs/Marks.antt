@@ -6,8 +6,8 @@ use Rattle.am_record.specs.Marks.{since, since_mark, until_mark, older}
 use Rattle.am_record.specs.OrderedKey.{OrderedKey}
 use Rattle.am_record.specs.Plain.{PlainMap}
 use Rattle.am_record.specs.declared.entry.Entry.{Entry}
-use Rattle.am_list.specs.Content.{content, OnePlace}
-use Rattle.am_list.specs.Entries.{find}
+use Rattle.am_index.specs.Content.{content, OnePlace}
+use Rattle.am_index.specs.Entries.{find}
 use Rattle.am_undo.specs.declared.note.Note.{Note}
 use Rattle.am_undo.specs.Notes.{TakesBack, CanTakeBack}
 use Rattle.am_undo.specs.Undo.{Undoes, LeavesNoted}

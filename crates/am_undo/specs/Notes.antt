@@ -5,9 +5,9 @@ use Rattle.std.specs.List.{AllByRecursion}
 use Rattle.am_record.specs.OrderedKey.{OrderedKey}
 use Rattle.am_record.specs.EntryOrder.{Place}
 use Rattle.am_record.specs.declared.entry.Entry.{Entry}
-use Rattle.am_list.specs.Entries.{Slot, find, IsRising}
-use Rattle.am_list.specs.Edits.{same_place}
-use Rattle.am_list.specs.Rooms.{HasRoom}
+use Rattle.am_index.specs.Entries.{Slot, find, IsRising}
+use Rattle.am_index.specs.Edits.{same_place}
+use Rattle.am_index.specs.Rooms.{HasRoom}
 use Rattle.am_undo.specs.declared.note.Note.{Note}
 use Rattle.am_undo.specs.declared.note.Note.TheVariants.{New, Before, RunMade}
 

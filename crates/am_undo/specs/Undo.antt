@@ -4,8 +4,8 @@ use Rattle.std.specs.List.{AllByRecursion, list_any}
 use Rattle.std.specs.FinMap.{get}
 use Rattle.am_record.specs.OrderedKey.{OrderedKey}
 use Rattle.am_record.specs.declared.entry.Entry.{Entry}
-use Rattle.am_list.specs.Entries.{find, insert_entry, set_entry}
-use Rattle.am_list.specs.Content.{content, OnePlace, live_value, HasOne}
+use Rattle.am_index.specs.Entries.{find, insert_entry, set_entry}
+use Rattle.am_index.specs.Content.{content, OnePlace, live_value, HasOne}
 use Rattle.am_undo.specs.declared.note.Note.{Note}
 use Rattle.am_undo.specs.declared.note.Note.TheVariants.{New, Before, RunMade}
 use Rattle.am_undo.specs.Notes.{Slots, back_all, TakesBack, CanTakeBack}

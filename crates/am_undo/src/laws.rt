@@ -3,8 +3,8 @@
 ghost use Rattle.std.specs.Prelude.{◌≡◌, ℕ, List, [], Bool, Option, false, length};
 ghost use Rattle.am_record.specs.OrderedKey.{OrderedKey};
 ghost use Rattle.am_record.specs.declared.entry.Entry.{Entry};
-ghost use Rattle.am_list.specs.Entries.{IsRising};
-ghost use Rattle.am_list.specs.Content.{OnePlace};
+ghost use Rattle.am_index.specs.Entries.{IsRising};
+ghost use Rattle.am_index.specs.Content.{OnePlace};
 ghost use Rattle.am_undo.specs.Undo.{Undoes, UndoLaws};
 ghost use Rattle.am_undo.specs.Marks.{UndoesEach, MarkLaws};
 ghost use Rattle.am_record.specs.Plain.{PlainMap};

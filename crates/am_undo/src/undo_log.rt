@@ -3,15 +3,15 @@
 ghost use Rattle.std.specs.Prelude.{◌≡◌, ◌+◌, ◌<◌, ℕ, [], ◌∷◌, Bool, true, List, Option, length, reverse, drop, take};
 ghost use Rattle.std.specs.Prelude.{IsOk, OnOk, OnErr, IsSome, if◌then◌else◌, ◌==◌};
 ghost use Rattle.am_record.specs.OrderedKey.{OrderedKey};
-ghost use Rattle.am_list.specs.Entries.{find, IsRising};
-ghost use Rattle.am_list.specs.Edits.{same_place};
+ghost use Rattle.am_index.specs.Entries.{find, IsRising};
+ghost use Rattle.am_index.specs.Edits.{same_place};
 ghost use Rattle.am_record.specs.Marks.{since_mark, until_mark, older, has_mark};
-ghost use Rattle.am_list.specs.Rooms.{KeepRoom};
+ghost use Rattle.am_index.specs.Rooms.{KeepRoom};
 ghost use Rattle.am_undo.specs.Notes.{TakesBack, CanTakeBack, Stands, OneLive, NoteFits, NotesFit, back_at, back_one};
 ghost use Rattle.am_undo.specs.Notes.{ghosted};
 
 use crate::note::Note;
-use am_list::PartIndex;
+use am_index::PartIndex;
 use am_parts::Parts;
 use am_record::{Key, NoMemory};
 use smallvec::SmallVec;

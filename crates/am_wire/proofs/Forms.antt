@@ -13,7 +13,7 @@ use Rattle.am_wire.specs.Shapes.{some_records}
 use Rattle.am_wire.specs.Arguments.{Arguments, fields_of, AreProper}
 use Rattle.am_text.specs.Records.{RecordText, is_record_text, is_record_field, record_text}
 use Rattle.am_text.specs.Locks.{mode_word, mode_for}
-use Rattle.am_wire.specs.Reading.{arguments_in}
+use Rattle.am_wire.specs.LineReadings.{arguments_in}
 use Rattle.am_text.specs.Fields.{has_no_space}
 use Rattle.am_text.proofs.Keys.{is_key_text-Decides, IsKeyText-no_space}
 use Rattle.am_text.proofs.Values.{IsValueText-no_space}

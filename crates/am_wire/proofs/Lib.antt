@@ -1,6 +1,6 @@
 pub mod Texts
 pub mod Forms
-pub mod Readings
+pub mod GrammarReadings
 pub mod RowTexts
 pub mod Loads
 pub mod VisibleRequests

@@ -4,7 +4,7 @@ use Rattle.std.proofs.Common.{append-nil, Option, refl, sym, ap, subst, ◌∙�
 use Rattle.std.proofs.lemmas.List.{take_more, take-append-drop}
 use Rattle.am_record.specs.OrderedKey.{OrderedKey}
 use Rattle.am_record.specs.Records.{Records}
-use Rattle.am_stream.specs.Giving.{Gave, GaveBeginning}
+use Rattle.am_stream.specs.SinkWrites.{Gave, GaveBeginning}
 use Rattle.am_record.specs.declared.step.Reply.{Reply}
 use Rattle.am_record.specs.declared.step.Reply.TheVariants.{Rows}
 use Rattle.am_wire.specs.Replies.{row_words, rows_words, head_of, text_of}

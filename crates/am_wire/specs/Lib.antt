@@ -1,6 +1,6 @@
 pub mod Shapes
 pub mod Arguments
 pub mod Grammar
-pub mod Reading
+pub mod LineReadings
 pub mod Replies
 pub mod Visible

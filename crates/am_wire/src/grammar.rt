@@ -3,7 +3,7 @@
 ghost use Rattle.std.specs.Prelude.{◌≡◌, ◌≢◌, ◌^◌, ◌<◌, ℕ, List, Result, Ok, Err, decimal};
 ghost use Rattle.am_text.specs.Numbers.{numeral};
 ghost use Rattle.am_wire.specs.Grammar.{Form, IsProper, spelling, Reads};
-ghost use Rattle.am_wire.specs.Reading.{reading, MayRead};
+ghost use Rattle.am_wire.specs.LineReadings.{reading, MayRead};
 ghost use Rattle.am_wire.specs.Visible.{AsksVisible};
 
 use crate::request::Request;

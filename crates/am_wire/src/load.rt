@@ -2,15 +2,15 @@
 
 ghost use Rattle.std.specs.Prelude.{◌≡◌};
 ghost use Rattle.am_wire.specs.Shapes.{some_records};
-ghost use Rattle.am_wire.specs.Reading.{values_in, MayBeRefused, fault_behind};
+ghost use Rattle.am_wire.specs.LineReadings.{values_in, MayBeRefused, fault_behind};
 
-use am_record::Pairs;
+use am_record::Records;
 use am_text::{Fields, LineFault, parse_record_field};
 use std::alloc::Global;
 
 /// Records, one at least, in the fields after the verb. Where memory is refused for them, the further fields are judged
 /// all the same.
-pub fn parse_records(alloc: Global, mut fields: Fields<'_>) -> Result<Pairs, LineFault>
+pub fn parse_records(alloc: Global, mut fields: Fields<'_>) -> Result<Records, LineFault>
     ensures { MayBeRefused (values_in some_records fields.entry) result }
 {
     if fields.end().is_ok() {
@@ -25,7 +25,7 @@ pub fn parse_records(alloc: Global, mut fields: Fields<'_>) -> Result<Pairs, Lin
             return Err(judge_behind(LineFault::NoMemory, fields));
         }
     }
-    Ok(Pairs::new(items))
+    Ok(Records::new(items))
 }
 
 // The fault of a line that has one before these fields.

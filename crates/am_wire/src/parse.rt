@@ -2,7 +2,7 @@
 
 ghost use Rattle.std.specs.Prelude.{Some};
 ghost use Rattle.am_wire.specs.Grammar.{Reads};
-ghost use Rattle.am_wire.specs.Reading.{reading, fields_reading, verb_reading, MayRead};
+ghost use Rattle.am_wire.specs.LineReadings.{reading, fields_reading, verb_reading, MayRead};
 
 use crate::load::parse_records;
 use crate::request::Request;

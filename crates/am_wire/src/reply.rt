@@ -2,7 +2,7 @@
 
 ghost use Rattle.std.specs.Prelude.{◌≡◌, ◌+◌, ◌^◌, ◌<◌, ◌≤◌, length, true, OnOk, OnErr, IfOk};
 ghost use Rattle.am_record.specs.declared.step.Reply.{Reply};
-ghost use Rattle.am_stream.specs.Giving.{Gave, GaveBeginning};
+ghost use Rattle.am_stream.specs.SinkWrites.{Gave, GaveBeginning};
 ghost use Rattle.am_wire.specs.Replies.{refusal_words, row_words, rows_words, head_of, text_of, TellsVisible};
 ghost use Rattle.am_wire.specs.Replies.{IsOneLine};
 ghost use Rattle.am_text.specs.ReplyWords.{spaced};

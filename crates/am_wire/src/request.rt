@@ -1,6 +1,6 @@
 //! What a line asks for.
 
-use am_record::{Op, Pairs, Range};
+use am_record::{Op, Range, Records};
 
 /// What a line asks of its session.
 #[derive(Debug, PartialEq, Eq, Drop)]
@@ -9,7 +9,7 @@ pub enum Request {
     /// An operation of the active transaction.
     Do(Op),
     /// Records that wait in the session for its next load.
-    Stage(Pairs),
+    Stage(Records),
     Commit,
     Abort,
     /// Merge, at most so many entries.

@@ -2,7 +2,7 @@
 
 ghost use Rattle.std.specs.Prelude.{◌≡◌};
 ghost use Rattle.am_wire.specs.Shapes.{bare, one_key, one_record, one_number, range_and_number, mode_and_range};
-ghost use Rattle.am_wire.specs.Reading.{values_in, map_ok};
+ghost use Rattle.am_wire.specs.LineReadings.{values_in, map_ok};
 
 use crate::request::Request;
 use am_record::{Key, Lock, Range, Value};

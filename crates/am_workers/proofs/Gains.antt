@@ -17,13 +17,13 @@ use Rattle.am_latch.specs.declared.receipt.Receipt.{Receipt}
 use Rattle.am_engine.specs.Changes.{change, is_stored, open_after}
 use Rattle.am_latch.specs.Receipts.{SeatState, receipt, moved_in, GetsReceipt, HasReceiptOf}
 use Rattle.am_latch.specs.Ties.{open_of}
-use Rattle.am_latch.proofs.Tying.{open_from-snoc}
+use Rattle.am_latch.proofs.SeatTransactions.{open_from-snoc}
 use Rattle.am_workers.specs.declared.upkeep.Upkeep.{Upkeep}
 use Rattle.am_workers.specs.declared.upkeep.Upkeep.TheVariants.{MergeAndClean}
-use Rattle.am_workers.specs.declared.cleaning.Place.{Place}
+use Rattle.am_workers.specs.declared.clean_turn.Place.{Place}
 use Rattle.am_workers.specs.Turns.{IsTurn, AreOfTurns, HasTakenTurns, all_moved}
-use Rattle.am_workers.specs.Cleaning.{HasCleaned}
-use Rattle.am_workers.specs.Turning.{HasLetGo, may_clean, OnlyMerged, ThenCleaned, TakesTurn, TakesTurns}
+use Rattle.am_workers.specs.CleanTurns.{HasCleaned}
+use Rattle.am_workers.specs.WorkerTurns.{HasLetGo, may_clean, OnlyMerged, ThenCleaned, TakesTurn, TakesTurns}
 
 -- the seat has one receipt more, of a Clean of at most 64, or none
 abbrev pub MayHaveCleaned : SeatState → SeatState → Type 0

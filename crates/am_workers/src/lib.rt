@@ -6,7 +6,7 @@
 //! - [`WorkerSeats`]: the seats as their workers left them, and how many entries were moved.
 #![tactic(auto)]
 
-mod cleaning;
+mod clean_turn;
 mod pacer;
 mod turns;
 mod upkeep;

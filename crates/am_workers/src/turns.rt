@@ -2,10 +2,10 @@
 
 ghost use Rattle.std.specs.Prelude.{◌≡◌, ℕ, ◌≤◌};
 ghost use Rattle.am_workers.specs.Turns.{HasTakenTurns};
-ghost use Rattle.am_workers.specs.Turning.{may_clean, TakesTurn, TakesTurns};
-ghost use Rattle.am_workers.specs.declared.cleaning.Place.{Place};
+ghost use Rattle.am_workers.specs.WorkerTurns.{may_clean, TakesTurn, TakesTurns};
+ghost use Rattle.am_workers.specs.declared.clean_turn.Place.{Place};
 
-use crate::cleaning::{Place, clean};
+use crate::clean_turn::{Place, clean};
 use crate::pacer::Pacer;
 use crate::upkeep::Upkeep;
 use am_latch::{Latch, LatchName, Seat};

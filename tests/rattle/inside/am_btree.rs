@@ -2,7 +2,7 @@ use crate::BTree;
 use crate::insert::Obstacle;
 use crate::node::{Node, Subtree};
 use crate::read::Start;
-use am_list::PartIndex;
+use am_index::PartIndex;
 use am_record::{Entry, Key, NoMemory, Value};
 use std::alloc::Global;
 use std::test::Fail;

@@ -2,7 +2,7 @@
 
 use am_btree::BTree;
 use am_core::Store;
-use am_record::{Entry, HashKey, Key, NoMemory, Op, Pairs, Range, Refusal, Reply, Step, Value};
+use am_record::{Entry, HashKey, Key, NoMemory, Op, Range, Records, Refusal, Reply, Step, Value};
 use std::alloc::Global;
 use std::process::Abort;
 
@@ -26,26 +26,26 @@ fn value() -> Value {
 // The pair of the number alone, as a load of the transaction.
 fn load_one(alloc: Global, tx: u64, number: u64) -> Result<Step, NoMemory> {
     let pairs = vec![in alloc; (Key::of_u64(number), value())]?;
-    Ok(Step::Do(tx, Op::Load(Pairs::new(pairs))))
+    Ok(Step::Do(tx, Op::Load(Records::new(pairs))))
 }
 
 // The pairs of the numbers below 300 that leave this rest when parted by three.
-fn every_third(alloc: Global, rest: u64) -> Result<Pairs, NoMemory> {
+fn every_third(alloc: Global, rest: u64) -> Result<Records, NoMemory> {
     let mut pairs = Vec::new(alloc);
     for number in 0..300 {
         if number % 3 == rest {
             pairs.push((Key::of_u64(number), value()))?;
         }
     }
-    Ok(Pairs::new(pairs))
+    Ok(Records::new(pairs))
 }
 
-fn pairs_from_20_to_39(alloc: Global) -> Result<Pairs, NoMemory> {
+fn pairs_from_20_to_39(alloc: Global) -> Result<Records, NoMemory> {
     let mut pairs = Vec::new(alloc);
     for number in 20..40 {
         pairs.push((Key::of_u64(number), value()))?;
     }
-    Ok(Pairs::new(pairs))
+    Ok(Records::new(pairs))
 }
 
 // A store whose three runs hold the numbers below 300 in turn.

@@ -3,7 +3,7 @@
 use crate::workers::{Always, answer_of, begin, commit};
 use am_audit::check;
 use am_latch::{Blank, Latch, LatchName, Seat, close};
-use am_record::{HashKey, Key, Op, Pairs, Range, Reply, Step, Value};
+use am_record::{HashKey, Key, Op, Range, Records, Reply, Step, Value};
 use am_workers::{Upkeep, run_workers};
 use std::alloc::Global;
 use std::marker::Brand;
@@ -31,7 +31,7 @@ fn load<L: LatchName, R: Wait + Abort>(
         pairs.push((Key::of_u64(number), value))?;
     }
     begin(rt, latch, seat);
-    let reply = answer_of(rt, latch, seat, Op::Load(Pairs::new(pairs)));
+    let reply = answer_of(rt, latch, seat, Op::Load(Records::new(pairs)));
     assert!(rt; reply == Reply::Done, "{reply:?}");
     Ok(())
 }
@@ -55,7 +55,7 @@ fn counts<L: LatchName, R: Wait>(rt: &R, latch: &Latch<L>, seat: &mut Seat<L>) -
     (figures.entries, figures.ghosts, figures.runs)
 }
 
-// Turns of one worker that cleans.
+// Ten turns of one worker that cleans. It keeps the receipts of the last turn alone.
 fn work<L: LatchName + Send + Sync, R: Threads + Wait + Abort + Sync>(
     rt: &R,
     alloc: Global,
@@ -64,7 +64,9 @@ fn work<L: LatchName + Send + Sync, R: Threads + Wait + Abort + Sync>(
 ) -> Result<Seat<L>, Fail> {
     let workers = vec![in alloc; worker]?;
     let mut worked = run_workers(rt, latch, workers, 10, 16, Upkeep::MergeAndClean, &Always);
-    Ok(worked.seats.pop().ok_or("no seat")?)
+    let worker = worked.seats.pop().ok_or("no seat")?;
+    assert!(rt; worker.positions().len() <= 2);
+    Ok(worker)
 }
 
 // A run of which 20 records are deleted, and three whose loads were aborted.
@@ -179,13 +181,35 @@ fn a_locked_ghost_waits_alone(rt: HostRuntime) -> Result<(), Fail> {
     beside_a_locked_ghost::<Brand, HostRuntime>(&rt, rt.alloc(), Blank::new(rt.alloc(), 3)?)
 }
 
-// Of 1,100 entries one ghost is too few, and two are enough.
-fn among_many_records<L: LatchName + Send + Sync, R: Threads + Wait + Abort + Sync>(
+// A worker that merges alone leaves ghosts as they are.
+fn beside_a_worker_that_merges<L: LatchName + Send + Sync, R: Threads + Wait + Abort + Sync>(
     rt: &R,
     alloc: Global,
     blank: Blank,
 ) -> Result<(), Fail> {
     let (latch, mut seats, _taker) = Latch::<L>::open(blank, HashKey::known())?;
+    let worker = seats.pop().ok_or("no seat")?;
+    let mut writer = seats.pop().ok_or("no seat")?;
+    leave_ghosts(rt, alloc, &latch, &mut writer)?;
+    let workers = vec![in alloc; worker]?;
+    run_workers(rt, &latch, workers, 10, 16, Upkeep::MergeOnly, &Always);
+    assert_eq!(rt; counts(rt, &latch, &mut writer), (420, 320, 4));
+    Ok(())
+}
+
+#[test]
+fn a_worker_that_merges_leaves_ghosts(rt: HostRuntime) -> Result<(), Fail> {
+    beside_a_worker_that_merges::<Brand, HostRuntime>(&rt, rt.alloc(), Blank::new(rt.alloc(), 2)?)
+}
+
+// Of 1,100 entries one ghost is too few, and two are enough. They are cleaned from the first of them on, and no key
+// below it.
+fn among_many_records<L: LatchName + Send + Sync, R: Threads + Wait + Abort + Sync>(
+    rt: &R,
+    alloc: Global,
+    blank: Blank,
+) -> Result<(), Fail> {
+    let (latch, mut seats, taker) = Latch::<L>::open(blank, HashKey::known())?;
     let worker = seats.pop().ok_or("no seat")?;
     let mut writer = seats.pop().ok_or("no seat")?;
     load(rt, alloc, &latch, &mut writer, 0, 1_100)?;
@@ -195,8 +219,16 @@ fn among_many_records<L: LatchName + Send + Sync, R: Threads + Wait + Abort + Sy
     assert_eq!(rt; counts(rt, &latch, &mut writer), (1_100, 1, 1));
     delete(rt, &latch, &mut writer, 501);
     commit(rt, &latch, &mut writer);
-    work(rt, alloc, &latch, worker)?;
+    let worker = work(rt, alloc, &latch, worker)?;
     assert_eq!(rt; counts(rt, &latch, &mut writer), (1_098, 0, 1));
+    let Ok(closed) = close(latch, vec![in alloc; writer, worker]?, taker) else {
+        panic!(rt; "all seats are there")
+    };
+    for (step, _) in &closed.trace {
+        if let Step::Clean(range, _) = step {
+            assert!(rt; range.lo() == Key::of_u64(500));
+        }
+    }
     Ok(())
 }
 

@@ -1,6 +1,6 @@
 //! Entries of the tests, and partitions with them.
 
-use am_list::PartIndex;
+use am_index::PartIndex;
 use am_list_index::ListIndex;
 use am_parts::Parts;
 use am_record::{Entry, HashKey, Key, NoMemory, Value};

@@ -1,7 +1,7 @@
 //! Values of each length in a tree, whose leaves have room for short ones at first.
 
 use am_btree::BTree;
-use am_list::PartIndex;
+use am_index::PartIndex;
 use am_record::{Entry, Key, Range, Value};
 use std::alloc::Global;
 use std::process::Abort;

@@ -1,7 +1,7 @@
 //! The index that is a list.
 
 use crate::entries::{byte, dead, live};
-use am_list::{Batch, PartIndex};
+use am_index::{Batch, PartIndex};
 use am_list_index::ListIndex;
 use am_record::{Entry, Key, NoMemory, Range, Value};
 use std::alloc::Global;

@@ -2,7 +2,7 @@
 
 use crate::narrow::Narrow;
 use am_core::Store;
-use am_record::{HashKey, Key, NoMemory, Op, Pairs, Refusal, Reply, Step, Value};
+use am_record::{HashKey, Key, NoMemory, Op, Records, Refusal, Reply, Step, Value};
 use std::alloc::Global;
 use std::process::Abort;
 use std::test::Fail;
@@ -129,7 +129,7 @@ fn back_sets_the_long_value_of_a_run_back(rt: HostRuntime) -> Result<(), Fail> {
     // The run came with room for its value, so none is asked for.
     let mut store = with_short(rt.alloc(), &[1])?;
     let six = Key::of_u64(6);
-    let pairs = Pairs::new(vec![in rt.alloc(); (six, long(b'r'))]?);
+    let pairs = Records::new(vec![in rt.alloc(); (six, long(b'r'))]?);
     answers(
         &rt,
         &mut store,

@@ -1,7 +1,7 @@
 //! Merge steps, clean steps and their wishes.
 
 use am_btree::BTree;
-use am_list::PartIndex;
+use am_index::PartIndex;
 use am_list_index::ListIndex;
 use am_locks::{Asked, LockTable};
 use am_merge::{Wishes, clean_step, merge_step};

@@ -1,6 +1,6 @@
 //! An index that gets room for long values, unless memory is refused.
 
-use am_list::{Batch, PartIndex};
+use am_index::{Batch, PartIndex};
 use am_list_index::ListIndex;
 use am_record::{Entry, Key, NoMemory, Range, Value};
 use std::alloc::Global;

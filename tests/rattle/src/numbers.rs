@@ -1,6 +1,6 @@
 //! Operations that look drawn, always the same.
 
-use am_record::{Key, Lock, Mode, NoMemory, Op, Pairs, Range, Value};
+use am_record::{Key, Lock, Mode, NoMemory, Op, Range, Records, Value};
 use std::alloc::Global;
 
 /// How many keys there are: numbers from 0.
@@ -53,7 +53,7 @@ impl Numbers {
     }
 
     // Up to four pairs, whose keys rise.
-    fn pairs(&mut self, alloc: Global) -> Result<Pairs, NoMemory> {
+    fn pairs(&mut self, alloc: Global) -> Result<Records, NoMemory> {
         let mut pairs = Vec::new(alloc);
         let first = self.below(KEYS);
         for number in first..first + 4 {
@@ -61,7 +61,7 @@ impl Numbers {
                 pairs.push((Key::of_u64(number), self.value()))?;
             }
         }
-        Ok(Pairs::new(pairs))
+        Ok(Records::new(pairs))
     }
 
     // An operation of any kind.

@@ -1,7 +1,7 @@
 //! Partitions.
 
 use crate::entries::{add, byte, dead, live, over};
-use am_list::PartIndex;
+use am_index::PartIndex;
 use am_list_index::ListIndex;
 use am_parts::{Parts, RunFault};
 use am_record::{Entry, HashKey, Key};

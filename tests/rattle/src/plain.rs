@@ -2,14 +2,14 @@
 
 use crate::keys::{key, range, value};
 use am_model::{Plain, alone};
-use am_record::{NoMemory, Op, Pairs, Reply};
+use am_record::{NoMemory, Op, Records, Reply};
 use std::alloc::Global;
 use std::process::Abort;
 
 // The record of the key 9 with this value, as it is loaded and scanned.
-fn nine(rt: &impl Abort, alloc: Global, text: &[u8]) -> Pairs {
+fn nine(rt: &impl Abort, alloc: Global, text: &[u8]) -> Records {
     let pairs = Vec::from_array(alloc, [(key(rt, b"9"), value(rt, text))]);
-    Pairs::new(pairs.expect(rt, "memory"))
+    Records::new(pairs.expect(rt, "memory"))
 }
 
 // The operations are answered so by a plain map with nothing in it, from the one with this place on.

@@ -1,6 +1,6 @@
 //! Keys, values, ranges and locks.
 
-use am_record::{Key, Lock, Mode, Op, Pairs, Range, Reply, Step, Value};
+use am_record::{Key, Lock, Mode, Op, Range, Records, Reply, Step, Value};
 use std::alloc::Global;
 use std::process::Abort;
 
@@ -100,12 +100,12 @@ fn locks_by_range_and_mode(rt: HostRuntime) {
 }
 
 // Two records, the later key first.
-fn two_pairs(rt: &impl Abort, alloc: Global, value: Value) -> Pairs {
+fn two_pairs(rt: &impl Abort, alloc: Global, value: Value) -> Records {
     let items = vec![in alloc; (Key::of_u64(2), value), (Key::of_u64(1), value)];
-    Pairs::new(items.expect(rt, "memory"))
+    Records::new(items.expect(rt, "memory"))
 }
 
-fn is_copied(rt: &impl Abort, alloc: Global, pairs: &Pairs) {
+fn is_copied(rt: &impl Abort, alloc: Global, pairs: &Records) {
     let same = pairs.copy(alloc).expect(rt, "memory");
     assert!(rt; same == *pairs);
     assert!(rt; same.as_slice().len() == 2);
@@ -126,6 +126,6 @@ fn pairs_copied_and_given_back(rt: HostRuntime) {
     is_copied(&rt, rt.alloc(), &pairs);
     let mut rest = pairs.into_vec();
     assert!(rt; rest.pop() == Some((Key::of_u64(1), value)));
-    let rows = Reply::Rows(Pairs::new(rest));
+    let rows = Reply::Rows(Records::new(rest));
     assert!(rt; rows.copy(rt.alloc()).expect(&rt, "memory") == rows && rows != Reply::NoMark);
 }

@@ -2,18 +2,18 @@
 
 use am_btree::BTree;
 use am_core::Store;
-use am_list::PartIndex;
+use am_index::PartIndex;
 use am_list_index::{ListIndex, Tight};
-use am_record::{HashKey, Key, NoMemory, Op, Pairs, Range, Refusal, Reply, Step, Value};
+use am_record::{HashKey, Key, NoMemory, Op, Range, Records, Refusal, Reply, Step, Value};
 use std::alloc::Global;
 use std::test::Fail;
 
-fn pairs_to(alloc: Global, last: u64) -> Result<Pairs, NoMemory> {
+fn pairs_to(alloc: Global, last: u64) -> Result<Records, NoMemory> {
     let mut pairs = Vec::new(alloc);
     for number in 1..=last {
         pairs.push((Key::of_u64(number), Value::new(b"v").unwrap()))?;
     }
-    Ok(Pairs::new(pairs))
+    Ok(Records::new(pairs))
 }
 
 // A store with one run of the keys from 1 to the last one, which is asked for, and in which inserts of those numbers are

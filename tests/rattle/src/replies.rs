@@ -1,7 +1,7 @@
 //! The texts of replies.
 
 use crate::keys::{key, value};
-use am_record::{NoMemory, Pairs, Refusal, Reply};
+use am_record::{NoMemory, Records, Refusal, Reply};
 use am_stream::StopSink;
 use am_wire::{put_reply, reply_text};
 use std::alloc::Global;
@@ -59,13 +59,13 @@ fn replies_have_their_texts(rt: HostRuntime) {
 
 #[test]
 fn rows_are_one_line(rt: HostRuntime) {
-    let none = Reply::Rows(Pairs::new(Vec::new(rt.alloc())));
+    let none = Reply::Rows(Records::new(Vec::new(rt.alloc())));
     has_text(&rt, rt.alloc(), none, b"ROWS 0\n");
     let rows = vec![in rt.alloc();
         (key(&rt, b"a"), value(&rt, b"1")),
         (key(&rt, b"ab"), value(&rt, b"=2")),
     ];
-    let two = Reply::Rows(Pairs::new(rows.expect(&rt, "memory")));
+    let two = Reply::Rows(Records::new(rows.expect(&rt, "memory")));
     has_text(&rt, rt.alloc(), two, b"ROWS 2 a=1 ab==2\n");
 }
 

@@ -1,7 +1,7 @@
 //! What lines ask for.
 
 use crate::keys::{key, range, value};
-use am_record::{Lock, Mode, Op, Pairs};
+use am_record::{Lock, Mode, Op, Records};
 use am_text::LineFault;
 use am_wire::{Request, parse_line};
 use std::alloc::Global;
@@ -66,17 +66,17 @@ fn records_are_in_the_order_of_their_line(rt: HostRuntime) {
     let alloc = rt.alloc();
     let (nine, ten) = (key(&rt, b"9"), key(&rt, b"10"));
     let one = vec![in alloc; (nine, value(&rt, b"=="))];
-    let load = Op::Load(Pairs::new(one.expect(&rt, "memory")));
+    let load = Op::Load(Records::new(one.expect(&rt, "memory")));
     asks(&rt, alloc, b"LOAD 9===", Request::Do(load));
     let three = vec![in alloc;
         (nine, value(&rt, b"y")),
         (ten, value(&rt, b"x")),
         (nine, value(&rt, b"z")),
     ];
-    let load = Op::Load(Pairs::new(three.expect(&rt, "memory")));
+    let load = Op::Load(Records::new(three.expect(&rt, "memory")));
     asks(&rt, alloc, b"LOAD 9=y 10=x 9=z", Request::Do(load));
     let two = vec![in alloc; (nine, value(&rt, b"=")), (ten, value(&rt, b"x"))];
-    let stage = Request::Stage(Pairs::new(two.expect(&rt, "memory")));
+    let stage = Request::Stage(Records::new(two.expect(&rt, "memory")));
     asks(&rt, alloc, b"STAGE 9== 10=x", stage);
 }
 

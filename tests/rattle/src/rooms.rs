@@ -3,7 +3,7 @@
 use crate::entries::{add, byte, dead, live};
 use crate::narrow::Narrow;
 use am_btree::BTree;
-use am_list::PartIndex;
+use am_index::PartIndex;
 use am_parts::Parts;
 use am_record::{Entry, HashKey, Key, Value};
 use std::alloc::Global;

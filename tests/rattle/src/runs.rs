@@ -3,7 +3,7 @@
 use am_btree::BTree;
 use am_core::{Store, run};
 use am_record::{
-    Entry, HashKey, Key, Lock, Mode, NoMemory, Op, Pairs, Range, Refusal, Reply, Step, Value,
+    Entry, HashKey, Key, Lock, Mode, NoMemory, Op, Range, Records, Refusal, Reply, Step, Value,
 };
 use std::alloc::Global;
 use std::process::Abort;
@@ -121,13 +121,19 @@ fn a_load_is_scanned_marked_and_cleaned(rt: HostRuntime) -> Result<(), Fail> {
         (Key::of_u64(2), value(b'b')),
     ]?;
     take(&rt, &mut store, Step::Begin, Reply::Begun(1));
-    take_op(&rt, &mut store, 1, Op::Load(Pairs::new(pairs)), Reply::Done);
+    take_op(
+        &rt,
+        &mut store,
+        1,
+        Op::Load(Records::new(pairs)),
+        Reply::Done,
+    );
     take_op(&rt, &mut store, 1, Op::Mark, Reply::Done);
     take_op(&rt, &mut store, 1, Op::Delete(Key::of_u64(1)), Reply::Done);
     take_op(&rt, &mut store, 1, Op::Back, Reply::Done);
     let rows = vec![in rt.alloc(); (Key::of_u64(1), value(b'a'))]?;
     let scan = Op::Scan(Range::point(Key::of_u64(1)), 9);
-    take_op(&rt, &mut store, 1, scan, Reply::Rows(Pairs::new(rows)));
+    take_op(&rt, &mut store, 1, scan, Reply::Rows(Records::new(rows)));
     take(&rt, &mut store, Step::Abort(1), Reply::Aborted);
     take(&rt, &mut store, Step::Merge(1), Reply::Moved(1, 1));
     let range = Range::point(Key::of_u64(2));

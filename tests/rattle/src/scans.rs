@@ -2,7 +2,7 @@
 
 use crate::entries::{add, byte, dead, live, over};
 use am_btree::BTree;
-use am_list::PartIndex;
+use am_index::PartIndex;
 use am_list_index::ListIndex;
 use am_parts::Parts;
 use am_record::{Entry, HashKey, Key, NoMemory, Range, Value};

@@ -2,9 +2,9 @@
 
 use am_btree::BTree;
 use am_core::Store;
+use am_dialogue::{Action, Response, Session, parse, put_response};
 use am_record::{Entry, HashKey, NoMemory};
 use am_stream::{LineKind, MAX_LINE_LEN, StopSink};
-use am_talk::{Action, Response, Session, parse, put_response};
 use am_wire::reply_text;
 use std::alloc::Global;
 use std::process::Abort;

@@ -1,9 +1,9 @@
 //! Clients of a server, over sockets.
 
 use am_doors::Mode;
-use am_listen::{Counts, Keeping, ServerRun, Watcher, bind};
-use am_pieces::LetGo;
 use am_record::HashKey;
+use am_server::{Counts, Keeping, ServerRun, Watcher, bind};
+use am_trace_writer::LetGo;
 use std::io::{Read, Write};
 use std::net::{Ipv4Addr, Net, Shutdown, TcpListener, TcpStream};
 use std::test::Fail;

@@ -1,7 +1,7 @@
 //! The tree beside the list, as indexes.
 
 use am_btree::BTree;
-use am_list::{Batch, PartIndex};
+use am_index::{Batch, PartIndex};
 use am_list_index::ListIndex;
 use am_record::{Entry, Key, NoMemory, Range, Value};
 use std::alloc::Global;

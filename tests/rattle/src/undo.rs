@@ -1,7 +1,7 @@
 //! What a transaction changed, taken back.
 
 use crate::entries::{byte, dead, live, over};
-use am_list::PartIndex;
+use am_index::PartIndex;
 use am_parts::Parts;
 use am_record::{Entry, Key, NoMemory};
 use am_undo::{Note, UndoLog};

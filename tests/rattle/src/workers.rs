@@ -1,7 +1,7 @@
 //! Workers that merge on the seats of a latch.
 
 use am_latch::{Blank, Latch, LatchName, Seat, close};
-use am_record::{HashKey, Key, Lock, Mode, Op, Pairs, Range, Refusal, Reply, Step, Value};
+use am_record::{HashKey, Key, Lock, Mode, Op, Range, Records, Refusal, Reply, Step, Value};
 use am_workers::{Pacer, Upkeep, run_workers};
 use std::alloc::Global;
 use std::marker::Brand;
@@ -123,7 +123,7 @@ fn load_three<L: LatchName, R: Wait + Abort>(
     begin(rt, latch, seat);
     for number in 1..=3 {
         let record = (Key::of_u64(number), Value::new(b"a").ok_or("no value")?);
-        let load = Op::Load(Pairs::new(vec![in alloc; record]?));
+        let load = Op::Load(Records::new(vec![in alloc; record]?));
         let reply = answer_of(rt, latch, seat, load);
         assert!(rt; reply == Reply::Done, "{reply:?}");
     }

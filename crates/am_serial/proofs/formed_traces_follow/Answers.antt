@@ -1,4 +1,4 @@
-use Rattle.am_serial.proofs.Formed.{formed_laws}
+use Rattle.am_serial.proofs.FormedTraces.{formed_laws}
 use Rattle.am_serial.proofs.formed_traces_follow.Goals as goal
 
 pub returns : goal.returns

@@ -1,7 +1,7 @@
 use Rattle.std.proofs.Common.{[]}
-use Rattle.am_list.proofs.ContentLaws.{empty_content}
+use Rattle.am_index.proofs.ContentLaws.{empty_content}
 use Rattle.am_serial.proofs.OneStep.{step_laws}
-use Rattle.am_sound.proofs.Representing.{opened, goes_on}
+use Rattle.am_sound.proofs.RepresentsLaws.{opened, goes_on}
 use Rattle.am_sound.proofs.entries_represent.Goals as goal
 
 pub returns : goal.returns

@@ -4,8 +4,8 @@ use Rattle.std.proofs.lemmas.List.{map-append}
 use Rattle.std.proofs.Math.Seq.{take-suc}
 use Rattle.am_locks.specs.Table.{blockers}
 use Rattle.am_locks.specs.Answers.{IsLeastOf, MatchBusy}
-use Rattle.am_audit.specs.Held.{only_owner, lock_at, listed_locks}
-use Rattle.am_audit.proofs.Held.{never_busy, never_full, granted_to}
+use Rattle.am_audit.specs.OnlyOwnerLocks.{only_owner, lock_at, listed_locks}
+use Rattle.am_audit.proofs.OnlyOwnerLocks.{never_busy, never_full, granted_to}
 use Rattle.am_audit.proofs.OnlyOwners.{few_listed}
 use Rattle.am_audit.proofs.held_locks.enter_all.Goals as goal
 

@@ -1,5 +1,5 @@
 use Rattle.std.proofs.Common.{◌≡◌, ◌∷◌, [], take}
-use Rattle.am_audit.specs.Held.{only_owner, listed_locks}
+use Rattle.am_audit.specs.OnlyOwnerLocks.{only_owner, listed_locks}
 use Rattle.am_audit.proofs.held_locks.enter_all.Given as goal
 
 abbrev pub invariant-loop-asked : goal.invariant-loop-asked

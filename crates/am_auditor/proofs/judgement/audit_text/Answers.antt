@@ -1,7 +1,7 @@
 use Rattle.std.proofs.Common.{◌≡◌, ◌<◌, ◌^◌, length, arith, rules}
 use Rattle.std.proofs.lemmas.Bool.Decides.{nat_tests}
 use Rattle.std.proofs.lemmas.List.{nil_from_length}
-use Rattle.am_auditor.proofs.Reading.{is_short, can_judge, one_more, is_whole}
+use Rattle.am_auditor.proofs.TextAudits.{is_short, can_judge, one_more, is_whole}
 use Rattle.am_auditor.proofs.judgement.audit_text.Goals as goal
 
 pub judge-requires : goal.judge-requires

@@ -1,5 +1,5 @@
 use Rattle.std.proofs.Common.{length}
-use Rattle.am_auditor.proofs.Reading.{IsReadTo}
+use Rattle.am_auditor.proofs.TextAudits.{IsReadTo}
 use Rattle.am_auditor.proofs.judgement.audit_text.Given as goal
 
 abbrev pub invariant-lines : goal.invariant-lines

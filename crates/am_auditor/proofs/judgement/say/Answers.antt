@@ -1,5 +1,5 @@
 use Rattle.std.proofs.Common.{◌≡◌, ℕ, List, subst, rules}
-use Rattle.am_stream.specs.Giving.{Gave}
+use Rattle.am_stream.specs.SinkWrites.{Gave}
 use Rattle.am_auditor.specs.Judgements.{judgement_line}
 use Rattle.am_auditor.proofs.Torn.{begun_whole, at_error}
 use Rattle.am_auditor.proofs.judgement.say.Goals as goal

@@ -1,4 +1,4 @@
-use Rattle.am_btree.proofs.Filling.{front_rises}
+use Rattle.am_btree.proofs.LeafFills.{front_rises}
 use Rattle.am_btree.proofs.fill.fill_leaf.Goals as goal
 
 pub append-added-requires-clause-rising : goal.append-added-requires-clause-rising

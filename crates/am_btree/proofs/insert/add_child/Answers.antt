@@ -4,13 +4,13 @@ use Rattle.std.proofs.lemmas.List.Edits.{length-insert}
 use Rattle.std.specs.List.{insert}
 use Rattle.am_btree.specs.declared.separator.Separator.{Separator}
 use Rattle.am_btree.specs.Separators.{separator_place}
-use Rattle.am_list.specs.Places.{AllBelow, NoneBelow}
+use Rattle.am_index.specs.Places.{AllBelow, NoneBelow}
 use Rattle.am_btree.specs.Splits.{lower_size}
 use Rattle.am_btree.specs.Nodes.{all_entries, depth_of}
-use Rattle.am_btree.proofs.Halving.{half_stays, size_range}
-use Rattle.am_btree.proofs.Parting.{inner_from, depth_level, all_entries_cut, children_taken, children_dropped}
-use Rattle.am_btree.proofs.Parting.{parted_cut, parted_lengths, some_entries, many_entries, get_dropped}
-use Rattle.am_btree.proofs.Rooming.{same_children, cut_keeps}
+use Rattle.am_btree.proofs.Halves.{half_stays, size_range}
+use Rattle.am_btree.proofs.ChildHalves.{inner_from, depth_level, all_entries_cut, children_taken, children_dropped}
+use Rattle.am_btree.proofs.ChildHalves.{parted_cut, parted_lengths, some_entries, many_entries, get_dropped}
+use Rattle.am_btree.proofs.ValueRooms.{same_children, cut_keeps}
 use Rattle.am_btree.proofs.insert.add_child.Goals as goal
 
 pub returns-then-len-lt-ROOM-clause-inner : goal.returns-then-len-lt-ROOM-clause-inner

@@ -1,15 +1,15 @@
 use Rattle.std.proofs.Common.{◌≡◌, ◌≢◌, Option, None, Some, IsSome, ℕ, ◌<◌, List, [], ◌∷◌, zero, suc, length, get_or}
 use Rattle.std.proofs.Common.{refl, sym, ap, ◌∙◌, subst, length-take, arith}
 use Rattle.am_record.specs.EntryOrder.{place_of}
-use Rattle.am_list.specs.Entries.{find, IsRising}
-use Rattle.am_list.proofs.Searches.{insert_gap, rising_insert_gap, find_present, find_absent}
-use Rattle.am_list.proofs.Lists.{rising_front}
+use Rattle.am_index.specs.Entries.{find, IsRising}
+use Rattle.am_index.proofs.Searches.{insert_gap, rising_insert_gap, find_present, find_absent}
+use Rattle.am_index.proofs.Lists.{rising_front}
 use Rattle.std.specs.List.{insert}
 use Rattle.std.proofs.lemmas.List.Edits.{length-insert}
 use Rattle.am_btree.specs.Separators.{separator_place}
-use Rattle.am_btree.proofs.Rooming.{leaf_keeps, leaves_keep}
+use Rattle.am_btree.proofs.ValueRooms.{leaf_keeps, leaves_keep}
 use Rattle.am_btree.specs.Splits.{lower_size}
-use Rattle.am_btree.proofs.Halving.{half_stays, size_range}
+use Rattle.am_btree.proofs.Halves.{half_stays, size_range}
 use Rattle.am_btree.proofs.LeafSplit.{joined, rising_both, rising_upper, upper_long, parted_at}
 use Rattle.am_btree.proofs.insert.insert_fitting.Goals as goal
 

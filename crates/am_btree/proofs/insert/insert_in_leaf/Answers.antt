@@ -1,8 +1,8 @@
 use Rattle.std.proofs.Common.{rules}
-use Rattle.am_list.proofs.Searches.{find_absent}
-use Rattle.am_btree.specs.Grown.{Grows}
+use Rattle.am_index.proofs.Searches.{find_absent}
+use Rattle.am_btree.specs.InsertResults.{Grows}
 use Rattle.am_btree.specs.Nodes.{leaf_shape}
-use Rattle.am_btree.proofs.Widening.{grows_widened, if_ok_map}
+use Rattle.am_btree.proofs.WiderRooms.{grows_widened, if_ok_map}
 use Rattle.am_btree.proofs.insert.insert_in_leaf.Goals as goal
 
 pub returns-clause-ok : goal.returns-clause-ok

@@ -2,12 +2,12 @@ use Rattle.std.proofs.Common.{◌≡◌, ◌++◌, [], ◌∷◌, List, length, 
 use Rattle.std.specs.List.{insert}
 use Rattle.std.proofs.lemmas.List.Edits.{insert_end}
 use Rattle.am_record.specs.declared.entry.Entry.{Entry}
-use Rattle.am_list.specs.Entries.{IsRising}
-use Rattle.am_list.proofs.Searches.{insert_gap, rising_insert_gap}
-use Rattle.am_list.specs.Places.{NoneBelow}
+use Rattle.am_index.specs.Entries.{IsRising}
+use Rattle.am_index.proofs.Searches.{insert_gap, rising_insert_gap}
+use Rattle.am_index.specs.Places.{NoneBelow}
 use Rattle.am_btree.specs.Separators.{separator_place}
 use Rattle.am_btree.proofs.LeafSplit.{parted_at}
-use Rattle.am_btree.proofs.Rooming.{leaf_and_next}
+use Rattle.am_btree.proofs.ValueRooms.{leaf_and_next}
 use Rattle.am_btree.proofs.insert.leaf_behind.Goals as goal
 
 pub returns : goal.returns

@@ -1,8 +1,8 @@
 use Rattle.std.proofs.Common.{◌-◌, sym, ap, ◌∙◌, subst, arith}
 use Rattle.std.specs.List.{insert}
-use Rattle.am_list.specs.Places.{IsGapFor}
+use Rattle.am_index.specs.Places.{IsGapFor}
 use Rattle.am_btree.proofs.Leaves.{gap_taken, gap_dropped}
-use Rattle.am_btree.proofs.Halving.{take_lower, drop_lower, take_upper, drop_upper}
+use Rattle.am_btree.proofs.Halves.{take_lower, drop_lower, take_upper, drop_upper}
 use Rattle.am_btree.proofs.insert.split_insert.Goals as goal
 
 pub returns-then-at-keep-clause-front : goal.returns-then-at-keep-clause-front

@@ -4,10 +4,10 @@ use Rattle.std.proofs.Math.Seq.{drop-cons, take-add}
 use Rattle.std.specs.List.{AllByRecursion}
 use Rattle.am_record.proofs.Lists.{AllByRecursion-push}
 use Rattle.am_record.specs.declared.entry.Entry.{Entry}
-use Rattle.am_list.specs.Entries.{find, insert_entry, all_inserted}
-use Rattle.am_list.proofs.Insertions.{free_before, inserted_further}
-use Rattle.am_btree.specs.Between.{GoesAmong}
-use Rattle.am_btree.proofs.Between.{among_further}
+use Rattle.am_index.specs.Entries.{find, insert_entry, all_inserted}
+use Rattle.am_index.proofs.Insertions.{free_before, inserted_further}
+use Rattle.am_btree.specs.EntriesBetween.{GoesAmong}
+use Rattle.am_btree.proofs.EntriesBetween.{among_further}
 use Rattle.am_btree.proofs.insert_among.put_all_among.Goals as goal
 
 pub put-preserved : goal.put-preserved

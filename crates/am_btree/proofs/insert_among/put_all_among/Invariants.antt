@@ -1,8 +1,8 @@
 use Rattle.std.specs.Prelude.{option_copied}
 use Rattle.std.proofs.Common.{◌≡◌, ◌≤◌, ◌-◌, length, take, None}
 use Rattle.std.specs.List.{AllByRecursion}
-use Rattle.am_list.specs.Entries.{find, all_inserted}
-use Rattle.am_btree.specs.Between.{GoesAmong}
+use Rattle.am_index.specs.Entries.{find, all_inserted}
+use Rattle.am_btree.specs.EntriesBetween.{GoesAmong}
 use Rattle.am_btree.proofs.insert_among.put_all_among.Given as goal
 
 abbrev pub invariant-put : goal.invariant-put

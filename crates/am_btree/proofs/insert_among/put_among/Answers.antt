@@ -1,9 +1,9 @@
 use Rattle.std.proofs.Common.{◌≡◌, ◌<◌, true, length, inl, inr, sym, ◌∙◌, arith}
 use Rattle.std.specs.Prelude.{◌⊎◌, option_copied}
 use Rattle.std.proofs.lemmas.Bool.{not-false}
-use Rattle.am_list.proofs.Searches.{find_absent, insert_gap}
-use Rattle.am_btree.specs.Between.{is_below}
-use Rattle.am_btree.proofs.Between.{among_gap}
+use Rattle.am_index.proofs.Searches.{find_absent, insert_gap}
+use Rattle.am_btree.specs.EntriesBetween.{is_below}
+use Rattle.am_btree.proofs.EntriesBetween.{among_gap}
 use Rattle.am_btree.proofs.insert_among.put_among.Goals as goal
 use Rattle.am_btree.proofs.insert_among.put_among.Goals.{then-at-len, else-at-len}
 

@@ -1,10 +1,10 @@
 use Rattle.std.proofs.Common.{IsSome, sym, subst}
-use Rattle.am_list.specs.Entries.{find}
-use Rattle.am_list.specs.Rooms.{HasRoom}
-use Rattle.am_leaf.specs.Seen.{Fits}
+use Rattle.am_index.specs.Entries.{find}
+use Rattle.am_index.specs.Rooms.{HasRoom}
+use Rattle.am_leaf.specs.LeafCode.{Fits}
 use Rattle.am_btree.specs.Nodes.{leaf_roomy}
-use Rattle.am_btree.proofs.Rooming.{fits_leaf}
-use Rattle.am_btree.proofs.Widening.{if_ok_map}
+use Rattle.am_btree.proofs.ValueRooms.{fits_leaf}
+use Rattle.am_btree.proofs.WiderRooms.{if_ok_map}
 use Rattle.am_btree.proofs.make_room.widen_leaf.Goals as goal
 
 pub returns-clause-ok : goal.returns-clause-ok

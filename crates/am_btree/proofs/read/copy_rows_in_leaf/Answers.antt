@@ -4,7 +4,7 @@ use Rattle.am_record.specs.declared.entry.Entry.{Entry}
 use Rattle.am_record.specs.OrderedKey.{OrderedKey}
 use Rattle.am_record.proofs.Lists.{some_item}
 use Rattle.am_record.specs.Plain.{Records}
-use Rattle.am_list.proofs.Rows.{AreCopied, are_enough, none_copied, all_copied, ghost_passed, row_copied}
+use Rattle.am_index.proofs.Rows.{AreCopied, are_enough, none_copied, all_copied, ghost_passed, row_copied}
 use Rattle.am_btree.proofs.read.copy_rows_in_leaf.Goals as goal
 use Rattle.am_btree.proofs.read.copy_rows_in_leaf.Goals.{then-not-is_ghost+in_ok-push, else-not-is_ghost}
 

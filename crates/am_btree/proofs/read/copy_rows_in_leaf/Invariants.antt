@@ -1,5 +1,5 @@
 use Rattle.std.proofs.Common.{◌≤◌, vec_capacity}
-use Rattle.am_list.proofs.Rows.{AreCopied}
+use Rattle.am_index.proofs.Rows.{AreCopied}
 use Rattle.am_btree.proofs.read.copy_rows_in_leaf.Given as goal
 
 abbrev pub invariant-loop-at : goal.invariant-loop-at

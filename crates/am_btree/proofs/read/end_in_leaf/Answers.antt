@@ -1,6 +1,6 @@
 use Rattle.std.proofs.Common.{◌-◌, sym, ap, ◌∙◌, arith}
 use Rattle.std.specs.Ordering.{is_le}
-use Rattle.am_btree.proofs.Ending.{ends_at_last}
+use Rattle.am_btree.proofs.EndPlaces.{ends_at_last}
 use Rattle.am_btree.proofs.read.end_in_leaf.Goals as goal
 
 pub returns-then-is_le-clause-ends : goal.returns-then-is_le-clause-ends

@@ -1,5 +1,5 @@
 use Rattle.std.proofs.Common.{◌∙◌}
-use Rattle.am_list.proofs.Searches.{next_ghost_at}
+use Rattle.am_index.proofs.Searches.{next_ghost_at}
 use Rattle.am_btree.proofs.read.next_ghost_in_leaf.Goals as goal
 
 pub returns-clause-found : goal.returns-clause-found

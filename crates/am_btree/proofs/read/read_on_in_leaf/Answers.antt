@@ -4,8 +4,8 @@ use Rattle.std.proofs.lemmas.Bool.{eq-eqb, ne_eqb, eqb-true, true≢false}
 use Rattle.std.proofs.lemmas.List.{drop_all, length-append}
 use Rattle.std.specs.List.{take_while}
 use Rattle.am_record.specs.declared.entry.Entry.{Entry}
-use Rattle.am_list.proofs.Batches.{take_whole, take_full, passes_on, ends_here}
-use Rattle.am_btree.proofs.Seeking.{such_at}
+use Rattle.am_index.proofs.Batches.{take_whole, take_full, passes_on, ends_here}
+use Rattle.am_btree.proofs.Seeks.{such_at}
 use Rattle.am_btree.proofs.read.read_on_in_leaf.Goals as goal
 
 pub loop-at-init : goal.loop-at-init

@@ -1,5 +1,5 @@
 use Rattle.std.proofs.Common.{◌∙◌}
-use Rattle.am_btree.proofs.Seeking.{first_at}
+use Rattle.am_btree.proofs.Seeks.{first_at}
 use Rattle.am_btree.proofs.read.seek_in_leaf.Goals as goal
 
 pub returns-clause-found : goal.returns-clause-found

@@ -1,4 +1,4 @@
-use Rattle.am_btree.proofs.Seeking.{start_at, start_above, start_gap}
+use Rattle.am_btree.proofs.Seeks.{start_at, start_above, start_gap}
 use Rattle.am_btree.proofs.read.start_in_leaf.Goals as goal
 
 pub returns-in-At-clause-begins : goal.returns-in-At-clause-begins

@@ -1,7 +1,7 @@
 use Rattle.std.proofs.Common.{IsSome, ◌∙◌, subst}
 use mathlib.Core.Bool.{false≢true}
-use Rattle.am_list.proofs.Searches.{find_absent, entry_at_found}
-use Rattle.am_btree.proofs.Cutting.{cut_found}
+use Rattle.am_index.proofs.Searches.{find_absent, entry_at_found}
+use Rattle.am_btree.proofs.CutLeaves.{cut_found}
 use Rattle.am_btree.proofs.remove.remove_from_leaf.Goals as goal
 
 pub unreachable-requires : goal.unreachable-requires

@@ -1,6 +1,6 @@
 use Rattle.std.proofs.Common.{◌-◌, sym, ap, ◌∙◌, arith}
 use Rattle.std.specs.List.{insert}
-use Rattle.am_btree.proofs.Halving.{take_lower, drop_lower, take_upper, drop_upper}
+use Rattle.am_btree.proofs.Halves.{take_lower, drop_lower, take_upper, drop_upper}
 use Rattle.am_btree.proofs.room.split_put.Goals as goal
 
 pub returns-then-at-keep-clause-front : goal.returns-then-at-keep-clause-front

@@ -1,6 +1,6 @@
 use Rattle.std.proofs.Common.{◌+◌, ◌-◌, length, refl, sym, ◌∙◌, arith}
 use Rattle.am_record.specs.EntryOrder.{Place}
-use Rattle.am_btree.proofs.Reaching.{reached_to, reached_no_further, reached_all}
+use Rattle.am_btree.proofs.SeparatorReach.{reached_to, reached_no_further, reached_all}
 use Rattle.am_btree.proofs.separator.reached.Goals as goal
 
 pub returns-then-is_reached : goal.returns-then-is_reached

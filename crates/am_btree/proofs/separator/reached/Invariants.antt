@@ -1,5 +1,5 @@
 use Rattle.std.proofs.Common.{◌-◌, ◌≤◌, length}
-use Rattle.am_btree.proofs.Reaching.{AreReached}
+use Rattle.am_btree.proofs.SeparatorReach.{AreReached}
 use Rattle.am_btree.proofs.separator.reached.Given as goal
 
 abbrev pub invariant-loop-reach : goal.invariant-loop-reach

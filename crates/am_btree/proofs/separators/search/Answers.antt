@@ -2,7 +2,7 @@ use Rattle.std.proofs.Common.{◌+◌, ◌-◌, length, get_or, take, drop, nat_
 use Rattle.std.proofs.lemmas.List.{get_or_default}
 use Rattle.std.specs.List.{prefix_len}
 use Rattle.am_record.specs.EntryOrder.{Place}
-use Rattle.am_list.proofs.Searches.{whole_rest}
+use Rattle.am_index.proofs.Searches.{whole_rest}
 use Rattle.am_btree.specs.Separators.{SeparatorsRise, IsReach}
 use Rattle.am_btree.proofs.Fronts.{reach_whole, both_within, these_rise, reach_by_fronts}
 use Rattle.am_btree.proofs.separators.search.Goals as goal

@@ -2,11 +2,11 @@ use Rattle.std.proofs.Common.{IsSome, Option, get_or, sym, ap, ◌∙◌, subst}
 use Rattle.std.specs.Prelude.{is_some, not}
 use Rattle.std.proofs.lemmas.List.{get_or_default}
 use Rattle.am_record.specs.declared.entry.Entry.{Entry}
-use Rattle.am_list.specs.Content.{live_value}
+use Rattle.am_index.specs.Content.{live_value}
 use mathlib.Core.Bool.{false≢true}
-use Rattle.am_list.specs.Entries.{Slot, IsRising}
-use Rattle.am_list.proofs.Searches.{find_absent, find_found}
-use Rattle.am_list.proofs.Content.{slot_live}
+use Rattle.am_index.specs.Entries.{Slot, IsRising}
+use Rattle.am_index.proofs.Searches.{find_absent, find_found}
+use Rattle.am_index.proofs.Content.{slot_live}
 use Rattle.am_btree.proofs.Leaves.{set_at_found, rising_set_at}
 use Rattle.am_btree.proofs.set.set_in_leaf.Goals as goal
 

@@ -1,5 +1,5 @@
 use Rattle.std.proofs.Common.{length}
-use Rattle.am_c.proofs.Cutting.{IsReading}
+use Rattle.am_c.proofs.CutLines.{IsReading}
 use Rattle.am_c.proofs.lines.add_lines.Given as goal
 
 abbrev pub invariant-loop-rest : goal.invariant-loop-rest

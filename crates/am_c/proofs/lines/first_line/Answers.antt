@@ -2,7 +2,7 @@ use Rattle.std.proofs.Common.{List, ℕ, ◌∷◌, sym, ap, ◌∙◌, rules, t
 use Rattle.std.proofs.lemmas.Iterator.{YieldsList-from_slice}
 use Rattle.std.proofs.lemmas.Iterator.Search.{position_from_yields_List}
 use Rattle.am_c.specs.Lines.{is_lf, lines_of}
-use Rattle.am_c.proofs.Cutting.{behind, line_at, one_line}
+use Rattle.am_c.proofs.CutLines.{behind, line_at, one_line}
 use Rattle.am_c.proofs.lines.first_line.Goals as goal
 
 pub returns-in-Some-clause-line : goal.returns-in-Some-clause-line

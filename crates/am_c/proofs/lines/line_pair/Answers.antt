@@ -2,7 +2,7 @@ use Rattle.std.proofs.Common.{List, ℕ, sym, ap, ◌∙◌, rules, tests, take}
 use Rattle.std.proofs.lemmas.Iterator.{YieldsList-from_slice}
 use Rattle.std.proofs.lemmas.Iterator.Search.{position_from_yields_List}
 use Rattle.am_c.specs.Lines.{is_tab, record_of, cut_at}
-use Rattle.am_c.proofs.Cutting.{behind}
+use Rattle.am_c.proofs.CutLines.{behind}
 use Rattle.am_c.proofs.lines.line_pair.Goals as goal
 
 pub returns-in-Some : goal.returns-in-Some

@@ -1,5 +1,5 @@
 use Rattle.std.proofs.Common.{◌≡◌, length, take}
-use Rattle.am_c.specs.Telling.{rows_over}
+use Rattle.am_c.specs.AnswerParts.{rows_over}
 use Rattle.am_c.proofs.ranges.write_rows.Given as goal
 
 abbrev pub invariant-loop-at : goal.invariant-loop-at

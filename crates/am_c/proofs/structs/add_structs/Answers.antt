@@ -1,7 +1,7 @@
 use Rattle.std.proofs.Common.{◌≡◌, ◌-◌, take, drop, Ok, Err, sym, ap, ◌∙◌, inl}
 use Rattle.std.proofs.lemmas.List.{take_min, drop_min}
 use Rattle.am_c.specs.Structs.{struct_given, structs_given}
-use Rattle.am_c.proofs.Given.{pushed}
+use Rattle.am_c.proofs.GivenRecords.{pushed}
 use Rattle.am_c.proofs.Layouts.{in_front, one_struct, no_struct}
 use Rattle.am_c.proofs.structs.add_structs.Goals as goal
 

@@ -1,5 +1,5 @@
 use Rattle.std.proofs.Common.{◌≡◌, ◌++◌}
-use Rattle.am_c.specs.Asking.{of_one}
+use Rattle.am_c.specs.AskedSteps.{of_one}
 use Rattle.am_c.specs.Structs.{structs_given}
 use Rattle.am_c.proofs.structs.add_structs.Given as goal
 

@@ -1,5 +1,5 @@
 use Rattle.am_command.proofs.OptionsLemmas.{refused_by_clap, amaudit_free, names_audited}
-use Rattle.am_command.specs.Audited.{NamesAudited, amaudit_app}
+use Rattle.am_command.specs.AuditCommand.{NamesAudited, amaudit_app}
 use Rattle.am_command.proofs.amaudit.audited.Goals as goal
 
 pub returns-in-Ok-clause-accepted : goal.returns-in-Ok-clause-accepted

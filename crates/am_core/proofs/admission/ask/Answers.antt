@@ -1,7 +1,7 @@
 use Rattle.std.proofs.Common.{◌≡◌, ◌≤◌, refl, subst}
-use Rattle.am_locks.specs.declared.asked.Asked.{Asked}
-use Rattle.am_locks.specs.declared.asked.Asked.TheVariants.{Granted, TooManyLocks, NoMemory}
-use Rattle.am_core.specs.Keeping.{actives}
+use Rattle.am_locks.specs.declared.lock_answers.Asked.{Asked}
+use Rattle.am_locks.specs.declared.lock_answers.Asked.TheVariants.{Granted, TooManyLocks, NoMemory}
+use Rattle.am_core.specs.StoreContent.{actives}
 use Rattle.am_core.proofs.Grants.{granted_nothing, granted, refused_busy, refused_many, refused_memory}
 use Rattle.am_core.proofs.admission.ask.Goals as goal
 

@@ -1,7 +1,7 @@
 use Rattle.std.proofs.Common.{◌<◌, ◌-◌, List, length, subst, sym}
 use Rattle.am_record.specs.declared.entry.Entry.{Entry}
-use Rattle.am_core.specs.Listing.{IsListed}
-use Rattle.am_core.proofs.Listings.{starts, goes_on, goes_down, ends}
+use Rattle.am_core.specs.EntryWalks.{IsListed}
+use Rattle.am_core.proofs.EntryWalks.{starts, goes_on, goes_down, ends}
 use Rattle.am_core.proofs.entries.all_entries.Goals as goal
 
 pub loop-next-init : goal.loop-next-init

@@ -1,5 +1,5 @@
 use Rattle.std.proofs.Common.{◌-◌, length}
-use Rattle.am_core.specs.Listing.{IsListed}
+use Rattle.am_core.specs.EntryWalks.{IsListed}
 use Rattle.am_core.proofs.entries.all_entries.Given as goal
 
 abbrev pub invariant-loop-next : goal.invariant-loop-next

@@ -1,5 +1,5 @@
 use Rattle.std.proofs.Common.{sym, ◌∙◌}
-use Rattle.am_core.proofs.Listings.{here, there, nowhere}
+use Rattle.am_core.proofs.EntryWalks.{here, there, nowhere}
 use Rattle.am_core.proofs.entries.next_entry.Goals as goal
 
 pub returns-in-Some : goal.returns-in-Some

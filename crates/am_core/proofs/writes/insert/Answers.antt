@@ -1,6 +1,6 @@
 use Rattle.std.proofs.Common.{ℕ, true, subst}
 use Rattle.am_record.proofs.Outcomes.{OnErr-from}
-use Rattle.am_list.specs.Rooms.{HasRoom}
+use Rattle.am_index.specs.Rooms.{HasRoom}
 use Rattle.am_parts.specs.Partitions.{IsVacancy}
 use Rattle.am_core.proofs.Rooms.{insert_wants}
 use Rattle.am_core.proofs.writes.insert.Goals as goal

@@ -1,5 +1,5 @@
 use Rattle.std.proofs.Common.{◌≡◌, ◌≤◌, ◌-◌, length, take}
-use Rattle.am_stream.specs.Taking.{Took}
+use Rattle.am_stream.specs.SourceReads.{Took}
 use Rattle.am_doors.proofs.http.take_line.Given as goal
 
 abbrev pub invariant-bytes : goal.invariant-bytes

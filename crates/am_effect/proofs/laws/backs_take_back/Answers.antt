@@ -1,6 +1,6 @@
 use Rattle.am_effect.specs.History.{moments_since}
 use Rattle.am_effect.proofs.Marks.{back_laws}
-use Rattle.am_effect.proofs.Lookings.{left_is}
+use Rattle.am_effect.proofs.LookBacks.{left_is}
 use Rattle.am_effect.proofs.laws.backs_take_back.Goals as goal
 
 pub returns : goal.returns

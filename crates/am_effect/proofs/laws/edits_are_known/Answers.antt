@@ -1,4 +1,4 @@
-use Rattle.am_effect.proofs.Knowing.{known_laws}
+use Rattle.am_effect.proofs.KnownEdits.{known_laws}
 use Rattle.am_effect.proofs.laws.edits_are_known.Goals as goal
 
 pub returns : goal.returns

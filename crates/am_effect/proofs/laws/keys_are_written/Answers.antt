@@ -1,6 +1,6 @@
 use Rattle.std.proofs.Common.{◌≡◌, true}
 use Rattle.am_effect.specs.Store.{opened}
-use Rattle.am_effect.proofs.Writing.{keys_written}
+use Rattle.am_effect.proofs.WrittenKeys.{keys_written}
 use Rattle.am_effect.proofs.laws.keys_are_written.Goals as goal
 
 pub returns : goal.returns

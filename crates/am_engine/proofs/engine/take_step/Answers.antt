@@ -1,5 +1,5 @@
-use Rattle.am_engine.proofs.Storing.{goes, is_bounded_by}
-use Rattle.am_engine.proofs.Wanting.{never_full_by}
+use Rattle.am_engine.proofs.StoreAnswers.{goes, is_bounded_by}
+use Rattle.am_engine.proofs.MemoryWants.{never_full_by}
 use Rattle.am_engine.proofs.engine.take_step.Goals as goal
 
 pub returns-clause-goes : goal.returns-clause-goes

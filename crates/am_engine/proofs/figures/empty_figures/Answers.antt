@@ -1,6 +1,6 @@
 use Rattle.std.proofs.Common.{[], refl}
 use Rattle.am_sound.specs.StoreState.{empty_state}
-use Rattle.am_core.proofs.Standings.{stands_opened}
+use Rattle.am_core.proofs.StoreSteps.{stands_opened}
 use Rattle.am_engine.proofs.figures.empty_figures.Goals as goal
 
 pub returns : goal.returns

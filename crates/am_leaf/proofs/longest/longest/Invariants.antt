@@ -1,5 +1,5 @@
 use Rattle.std.proofs.Common.{◌≤◌, take}
-use Rattle.am_leaf.specs.Seen.{KeysFit, ValuesFit}
+use Rattle.am_leaf.specs.LeafCode.{KeysFit, ValuesFit}
 use Rattle.am_leaf.proofs.longest.longest.Given as goal
 
 abbrev pub invariant-loop-pair : goal.invariant-loop-pair

@@ -2,7 +2,7 @@ use Rattle.std.proofs.Common.{◌≤◌, [], ◌∷◌, ◌++◌, length, sym, s
 use Rattle.am_record.specs.OrderedKey.{bytes_of}
 use Rattle.am_record.proofs.FirstRows.{Record}
 use Rattle.am_record.proofs.Lists.{AllByRecursion-at}
-use Rattle.am_leaf.proofs.Extending.{places_so_far, next_place}
+use Rattle.am_leaf.proofs.ExtendedLeaves.{places_so_far, next_place}
 use Rattle.am_leaf.proofs.places.extend_short.Goals as goal
 
 pub shortened-requires : goal.shortened-requires

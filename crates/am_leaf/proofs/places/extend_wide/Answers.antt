@@ -1,5 +1,5 @@
 use Rattle.std.proofs.Common.{◌∙◌, arith}
-use Rattle.am_leaf.proofs.Extending.{places_so_far, next_place}
+use Rattle.am_leaf.proofs.ExtendedLeaves.{places_so_far, next_place}
 use Rattle.am_leaf.proofs.places.extend_wide.Goals as goal
 
 pub push-requires-clause-all : goal.push-requires-clause-all

@@ -1,7 +1,7 @@
 use Rattle.std.proofs.Common.{◌≤◌, [], ◌∷◌, ◌++◌, length, sym, subst, ap, ◌∙◌, arith}
 use Rattle.am_record.proofs.FirstRows.{Record}
 use Rattle.am_record.proofs.Lists.{AllByRecursion-at}
-use Rattle.am_leaf.proofs.Extending.{values_so_far, next_value}
+use Rattle.am_leaf.proofs.ExtendedLeaves.{values_so_far, next_value}
 use Rattle.am_leaf.proofs.values.extend_short.Goals as goal
 
 pub shortened-requires : goal.shortened-requires

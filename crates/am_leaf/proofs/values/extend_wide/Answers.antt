@@ -1,5 +1,5 @@
 use Rattle.std.proofs.Common.{◌∙◌, arith}
-use Rattle.am_leaf.proofs.Extending.{values_so_far, next_value}
+use Rattle.am_leaf.proofs.ExtendedLeaves.{values_so_far, next_value}
 use Rattle.am_leaf.proofs.values.extend_wide.Goals as goal
 
 pub push-requires-clause-all : goal.push-requires-clause-all

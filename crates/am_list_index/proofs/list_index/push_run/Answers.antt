@@ -1,7 +1,7 @@
 use Rattle.std.proofs.Common.{List, [], ◌∷◌, ◌++◌, sym, ap, ◌∙◌, add-one}
 use Rattle.am_record.specs.declared.entry.Entry.{Entry}
-use Rattle.am_list.specs.Runs.{live_entry}
-use Rattle.am_list.proofs.Runs.{one_more_pushed, pushed}
+use Rattle.am_index.specs.Runs.{live_entry}
+use Rattle.am_index.proofs.Runs.{one_more_pushed, pushed}
 use Rattle.am_list_index.proofs.list_index.push_run.Goals as goal
 
 pub loop-pair-preserved : goal.loop-pair-preserved

@@ -1,5 +1,5 @@
 use Rattle.std.proofs.Common.{◌≡◌, ◌++◌, take}
-use Rattle.am_list.specs.Runs.{run_entries}
+use Rattle.am_index.specs.Runs.{run_entries}
 use Rattle.am_list_index.proofs.list_index.push_run.Given as goal
 
 abbrev pub invariant-loop-pair : goal.invariant-loop-pair

@@ -1,7 +1,7 @@
 use Rattle.std.proofs.Common.{◌+◌, ◌∙◌, refl, arith}
-use Rattle.am_list.proofs.Rooms.{keep_all}
-use Rattle.am_merge.specs.Holding.{holder_of}
-use Rattle.am_merge.proofs.Cleaning.{clean_starts, all_clean, clean_full, is_there, clean_goes_on, clean_content}
+use Rattle.am_index.proofs.Rooms.{keep_all}
+use Rattle.am_merge.specs.LockHolders.{holder_of}
+use Rattle.am_merge.proofs.CleanSteps.{clean_starts, all_clean, clean_full, is_there, clean_goes_on, clean_content}
 use Rattle.am_merge.proofs.Rooms.{keep_removed}
 use Rattle.am_merge.proofs.clean.clean_step.Goals as goal
 

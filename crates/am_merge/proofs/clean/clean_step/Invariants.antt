@@ -1,8 +1,8 @@
 use Rattle.std.proofs.Common.{◌≡◌}
-use Rattle.am_list.specs.Rooms.{KeepRoom}
+use Rattle.am_index.specs.Rooms.{KeepRoom}
 use Rattle.am_parts.specs.Partitions.{AreWellFormed}
-use Rattle.am_merge.specs.Holding.{holder_of}
-use Rattle.am_merge.proofs.Cleaning.{IsCleaned}
+use Rattle.am_merge.specs.LockHolders.{holder_of}
+use Rattle.am_merge.proofs.CleanSteps.{IsCleaned}
 use Rattle.am_merge.proofs.clean.clean_step.Given as goal
 
 abbrev pub invariant-loop-cleaned : goal.invariant-loop-cleaned

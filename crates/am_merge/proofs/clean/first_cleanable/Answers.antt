@@ -1,6 +1,6 @@
 use Rattle.std.proofs.Common.{◌∙◌}
-use Rattle.am_merge.specs.Holding.{holder_of}
-use Rattle.am_merge.proofs.Cleaning.{inside, walk_ends, walk_finds, walk_goes_on, walk_stops, walk_goes_down}
+use Rattle.am_merge.specs.LockHolders.{holder_of}
+use Rattle.am_merge.proofs.CleanSteps.{inside, walk_ends, walk_finds, walk_goes_on, walk_stops, walk_goes_down}
 use Rattle.am_merge.proofs.clean.first_cleanable.Goals as goal
 
 pub returns-then-is_free : goal.returns-then-is_free

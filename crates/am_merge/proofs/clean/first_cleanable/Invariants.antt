@@ -1,6 +1,6 @@
-use Rattle.am_merge.specs.Holding.{holder_of}
+use Rattle.am_merge.specs.LockHolders.{holder_of}
 use Rattle.am_merge.specs.Steps.{HasPassedNone}
-use Rattle.am_merge.proofs.Cleaning.{ahead_of}
+use Rattle.am_merge.proofs.CleanSteps.{ahead_of}
 use Rattle.am_merge.proofs.clean.first_cleanable.Given as goal
 
 abbrev pub invariant-loop-entry : goal.invariant-loop-entry

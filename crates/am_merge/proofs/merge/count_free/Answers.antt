@@ -4,9 +4,9 @@ use Rattle.std.specs.Prelude.{is_none}
 use Rattle.std.proofs.lemmas.Bool.{and_from, and_left, and_right}
 use Rattle.am_record.specs.Interval.{within}
 use Rattle.am_record.specs.declared.entry.Entry.{Entry}
-use Rattle.am_merge.specs.Holding.{holder_of}
+use Rattle.am_merge.specs.LockHolders.{holder_of}
 use Rattle.am_merge.specs.Steps.{is_free_in}
-use Rattle.am_merge.proofs.Passing.{passing, first_passes, one_more, no_more, within_limit}
+use Rattle.am_merge.proofs.PassingPrefixes.{passing, first_passes, one_more, no_more, within_limit}
 use Rattle.am_merge.proofs.merge.count_free.Goals as goal
 use Rattle.am_merge.proofs.merge.count_free.Goals.{then-at-most-via-then-at-most}
 use Rattle.am_merge.proofs.merge.count_free.Goals.{then-at-most-via-else-at-most+then-not-contains}

@@ -1,7 +1,7 @@
 use Rattle.std.proofs.Common.{◌≤◌}
-use Rattle.am_merge.specs.Holding.{holder_of}
+use Rattle.am_merge.specs.LockHolders.{holder_of}
 use Rattle.am_merge.specs.Steps.{is_free_in}
-use Rattle.am_merge.proofs.Passing.{passing}
+use Rattle.am_merge.proofs.PassingPrefixes.{passing}
 use Rattle.am_merge.proofs.merge.count_free.Given as goal
 
 abbrev pub invariant-loop-at : goal.invariant-loop-at

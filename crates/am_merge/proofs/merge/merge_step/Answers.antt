@@ -1,7 +1,7 @@
 use Rattle.std.proofs.Common.{Some, None, take, subst, sym, ap, ◌∙◌, arith}
 use Rattle.am_record.specs.declared.step.Reply.TheVariants.{Moved}
-use Rattle.am_effect.specs.Merging.{all_worked_off, candidates}
-use Rattle.am_merge.specs.Holding.{holder_of}
+use Rattle.am_effect.specs.MergeAnswers.{all_worked_off, candidates}
+use Rattle.am_merge.specs.LockHolders.{holder_of}
 use Rattle.am_parts.specs.Partitions.{Partitions}
 use Rattle.am_merge.specs.Steps.{IsAsFar}
 use Rattle.am_locks.proofs.FirstOwners.{held}

@@ -1,13 +1,13 @@
 use Rattle.std.proofs.Common.{◌≡◌, ◌+◌, ◌-◌, take, length, refl, sym, ap, subst, ◌∙◌, arith}
 use Rattle.std.specs.Prelude.{true, take_while}
 use Rattle.std.proofs.lemmas.List.{take_rest}
-use Rattle.am_list.specs.Rooms.{KeepRoom}
-use Rattle.am_list.proofs.Rooms.{keep_all}
+use Rattle.am_index.specs.Rooms.{KeepRoom}
+use Rattle.am_index.proofs.Rooms.{keep_all}
 use Rattle.am_parts.specs.Partitions.{Partitions}
-use Rattle.am_merge.specs.Holding.{holder_of}
+use Rattle.am_merge.specs.LockHolders.{holder_of}
 use Rattle.am_merge.specs.Steps.{is_free_in, go_on_outside}
-use Rattle.am_merge.proofs.Merging.{starts, is_full, is_stretch, stands_first, within_all, goes_on, ends, keeps_room}
-use Rattle.am_merge.proofs.Merging.{has_none_left}
+use Rattle.am_merge.proofs.MergeSteps.{starts, is_full, is_stretch, stands_first, within_all, goes_on, ends, keeps_room}
+use Rattle.am_merge.proofs.MergeSteps.{has_none_left}
 use Rattle.am_merge.proofs.merge.work_off_run.Goals as goal
 
 pub loop-moved-init : goal.loop-moved-init

@@ -1,8 +1,8 @@
 use Rattle.std.proofs.Common.{◌≡◌, ◌-◌, take}
-use Rattle.am_list.specs.Entries.{all_from}
-use Rattle.am_list.specs.Rooms.{KeepRoom}
-use Rattle.am_merge.specs.Holding.{holder_of}
-use Rattle.am_merge.proofs.Merging.{IsOnTheWay}
+use Rattle.am_index.specs.Entries.{all_from}
+use Rattle.am_index.specs.Rooms.{KeepRoom}
+use Rattle.am_merge.specs.LockHolders.{holder_of}
+use Rattle.am_merge.proofs.MergeSteps.{IsOnTheWay}
 use Rattle.am_merge.proofs.merge.work_off_run.Given as goal
 
 abbrev pub invariant-loop-moved : goal.invariant-loop-moved

@@ -1,6 +1,6 @@
 use Rattle.std.proofs.Common.{◌≤◌, take, sym, ap, ◌∙◌, arith}
-use Rattle.am_list.specs.Entries.{all_from}
-use Rattle.am_merge.proofs.Skipping.{none_in, none_left, stands_in_run, look_finds, look_goes_past, look_past_all}
+use Rattle.am_index.specs.Entries.{all_from}
+use Rattle.am_merge.proofs.PassedRuns.{none_in, none_left, stands_in_run, look_finds, look_goes_past, look_past_all}
 use Rattle.am_merge.proofs.walk.first_from.Goals as goal
 
 pub returns-in-Some-first_in_run-clause-first : goal.returns-in-Some-first_in_run-clause-first

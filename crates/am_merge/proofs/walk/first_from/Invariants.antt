@@ -1,5 +1,5 @@
 use Rattle.std.proofs.Common.{◌≡◌, ◌-◌, ◌^◌}
-use Rattle.am_list.specs.Entries.{first_such}
+use Rattle.am_index.specs.Entries.{first_such}
 use Rattle.am_merge.specs.Walks.{in_parts_from}
 use Rattle.am_merge.proofs.walk.first_from.Given as goal
 

@@ -1,6 +1,6 @@
 use Rattle.std.proofs.Common.{◌≡◌, ◌-◌, ◌^◌, true}
 use Rattle.am_record.specs.Interval.{key_le}
-use Rattle.am_list.specs.Entries.{first_such}
+use Rattle.am_index.specs.Entries.{first_such}
 use Rattle.am_merge.specs.Walks.{ghost_from}
 use Rattle.am_merge.proofs.walk.first_ghost.Given as goal
 

@@ -1,7 +1,7 @@
 use Rattle.std.proofs.Common.{sym, subst, ◌∙◌}
-use Rattle.am_parts.specs.Merged.{HasNoneBefore}
+use Rattle.am_parts.specs.MergedRanges.{HasNoneBefore}
 use Rattle.am_merge.proofs.Walks.{look_passes, none_in_runs}
-use Rattle.am_merge.proofs.Skipping.{none_before}
+use Rattle.am_merge.proofs.PassedRuns.{none_before}
 use Rattle.am_merge.proofs.walk.first_in_runs.Goals as goal
 use Rattle.am_merge.proofs.walk.first_in_runs.Goals.{in-Some, in-None}
 

@@ -2,9 +2,9 @@ use Rattle.std.proofs.Common.{rules, ◌≡◌, true, false, arith}
 use Rattle.std.proofs.lemmas.Bool.{ltb-true, ltb-false}
 use Rattle.std.specs.List.Sorted.{IsPartitionPoint}
 use Rattle.std.proofs.lemmas.List.Sorted.{IsPartitionPoint-from_clause}
-use Rattle.am_list.proofs.Searches.{all_take, all_drop}
+use Rattle.am_index.proofs.Searches.{all_take, all_drop}
 use Rattle.am_parts.specs.declared.catalog.OpenRun.{OpenRun}
-use Rattle.am_parts.proofs.Catalogued.{is_under, partitioned}
+use Rattle.am_parts.proofs.CatalogCalls.{is_under, partitioned}
 use Rattle.am_parts.proofs.catalog.count_below.Goals as goal
 use Rattle.am_parts.proofs.catalog.count_below.Goals.{After-partition_point}
 

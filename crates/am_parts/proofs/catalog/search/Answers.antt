@@ -2,7 +2,7 @@ use Rattle.std.proofs.Common.{◌<◌, ◌≤◌, ℕ, take, drop, ◌∙◌, ap
 use Rattle.std.specs.List.{AllByRecursion}
 use Rattle.std.proofs.lemmas.List.{get_or_default}
 use Rattle.am_parts.specs.declared.catalog.OpenRun.{OpenRun}
-use Rattle.am_parts.proofs.Catalogued.{strictly}
+use Rattle.am_parts.proofs.CatalogCalls.{strictly}
 use Rattle.am_parts.proofs.catalog.search.Goals as goal
 
 pub returns-in_default-clause-absent : goal.returns-in_default-clause-absent

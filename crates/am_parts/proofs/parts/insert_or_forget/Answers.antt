@@ -3,11 +3,11 @@ use Rattle.std.specs.Prelude.{is_some}
 use Rattle.std.specs.Option.{option_map}
 use Rattle.am_record.specs.declared.entry.Entry.{Entry}
 use Rattle.am_record.proofs.Outcomes.{on_err}
-use Rattle.am_list.specs.Entries.{slot_of, insert_entry}
-use Rattle.am_list.specs.Content.{live_value}
-use Rattle.am_list.proofs.Edits.{entry_at_inserted, insert_back}
+use Rattle.am_index.specs.Entries.{slot_of, insert_entry}
+use Rattle.am_index.specs.Content.{live_value}
+use Rattle.am_index.proofs.Edits.{entry_at_inserted, insert_back}
 use Rattle.am_parts.specs.Catalogs.{IsCatalog}
-use Rattle.am_list.proofs.Content.{slot_live}
+use Rattle.am_index.proofs.Content.{slot_live}
 use Rattle.am_parts.proofs.parts.insert_or_forget.Goals as goal
 
 pub take-requires : goal.take-requires

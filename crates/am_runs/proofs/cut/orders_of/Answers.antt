@@ -4,8 +4,8 @@ use Rattle.std.specs.declared.alloc.Global.{Global}
 use Rattle.std.proofs.lemmas.List.{length-drop}
 use Rattle.am_record.specs.Plain.{Records}
 use Rattle.am_runs.specs.Cuts.{IsPieceFault, IsRunOf}
-use Rattle.am_runs.specs.Sorting.{AreOrders, named, piece, runs_named}
-use Rattle.am_runs.specs.declared.sorting.Spot.{Spot}
+use Rattle.am_runs.specs.RecordPlaces.{AreOrders, named, piece, runs_named}
+use Rattle.am_runs.specs.declared.record_order.Spot.{Spot}
 use Rattle.am_runs.proofs.Orders.{orders_more, runs_more}
 use Rattle.am_runs.proofs.Pieces.{IsCutting, cut_next, cut_whole, fault_of_piece}
 use Rattle.am_runs.proofs.cut.orders_of.Goals as goal

@@ -1,5 +1,5 @@
 use Rattle.std.proofs.Common.{◌≤◌, drop, length, ◌-◌}
-use Rattle.am_runs.specs.Sorting.{AreOrders, runs_named}
+use Rattle.am_runs.specs.RecordPlaces.{AreOrders, runs_named}
 use Rattle.am_runs.proofs.Pieces.{IsCutting}
 use Rattle.am_runs.proofs.cut.orders_of.Given as goal
 

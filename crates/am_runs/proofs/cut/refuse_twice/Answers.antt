@@ -4,7 +4,7 @@ use Rattle.std.specs.List.Sorted.{IsPermutation}
 use Rattle.am_record.specs.OrderedKey.{OrderedKey}
 use Rattle.am_runs.specs.Cuts.{keys_of, records_of}
 use Rattle.am_runs.specs.Fronts.{fronts_in, with_fronts, AreShared}
-use Rattle.am_runs.specs.Sorting.{runs_named}
+use Rattle.am_runs.specs.RecordPlaces.{runs_named}
 use Rattle.am_runs.proofs.Apart.{found_in_orders, apart_in_orders}
 use Rattle.am_runs.proofs.Orders.{runs_long}
 use Rattle.am_runs.proofs.Pieces.{few_apart}

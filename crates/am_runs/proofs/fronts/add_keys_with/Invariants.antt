@@ -1,7 +1,7 @@
 use Rattle.std.proofs.Common.{◌≡◌, ◌++◌, take}
 use Rattle.am_runs.specs.Cuts.{keys_of}
 use Rattle.am_runs.specs.Fronts.{with_fronts}
-use Rattle.am_runs.specs.Sorting.{named}
+use Rattle.am_runs.specs.RecordPlaces.{named}
 use Rattle.am_runs.proofs.fronts.add_keys_with.Given as goal
 
 abbrev pub invariant-loop-spot : goal.invariant-loop-spot

@@ -1,5 +1,5 @@
 use Rattle.std.proofs.Common.{◌≡◌, ◌++◌, map, take}
-use Rattle.am_runs.specs.declared.sorting.Spot.{Spot}
+use Rattle.am_runs.specs.declared.record_order.Spot.{Spot}
 use Rattle.am_runs.specs.Fronts.{fronts_in}
 use Rattle.am_runs.proofs.fronts.fronts_in.Given as goal
 

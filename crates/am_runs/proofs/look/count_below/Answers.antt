@@ -4,7 +4,7 @@ use Rattle.std.specs.List.Sorted.{IsPartitionPoint}
 use Rattle.std.proofs.lemmas.List.Sorted.{IsPartitionPoint-from_clause}
 use Rattle.am_record.specs.OrderedKey.{key_cmp}
 use Rattle.am_record.proofs.FirstRows.{Record}
-use Rattle.am_runs.proofs.Parting.{parted, point_of_front, partitioned_front, sorted_partitioned}
+use Rattle.am_runs.proofs.PartedRecords.{parted, point_of_front, partitioned_front, sorted_partitioned}
 use Rattle.am_runs.proofs.look.count_below.Goals as goal
 use Rattle.am_runs.proofs.look.count_below.Goals.{After-partition_point}
 

@@ -3,7 +3,7 @@ use Rattle.std.specs.Prelude.{is_some, IfSome, IfNone}
 use Rattle.std.proofs.lemmas.Bool.{true≢false}
 use Rattle.std.proofs.lemmas.List.{take_all}
 use Rattle.am_record.specs.declared.entry.Entry.{Entry}
-use Rattle.am_runs.proofs.Settling.{NoneSeen, one_more_seen, none_of_seen, is_key_at, none_below_at}
+use Rattle.am_runs.proofs.LeastLive.{NoneSeen, one_more_seen, none_of_seen, is_key_at, none_below_at}
 use Rattle.am_runs.proofs.look.first_in_runs.Goals as goal
 
 some_entry : {P : Entry → Type 0} (o : Option Entry) → is_some o ≡ true → IfSome o P → (e : Entry) × P e

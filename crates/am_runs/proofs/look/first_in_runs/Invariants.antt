@@ -1,5 +1,5 @@
 use Rattle.std.proofs.Common.{take}
-use Rattle.am_runs.proofs.Settling.{NoneSeen}
+use Rattle.am_runs.proofs.LeastLive.{NoneSeen}
 use Rattle.am_runs.proofs.look.first_in_runs.Given as goal
 
 abbrev pub invariant-loop-pair : goal.invariant-loop-pair

@@ -2,7 +2,7 @@ use Rattle.std.proofs.Common.{Option, Some, None, take}
 use Rattle.std.specs.Prelude.{MatchOption}
 use Rattle.am_record.specs.OrderedKey.{OrderedKey}
 use Rattle.am_runs.specs.Looks.{NoneInRuns, IsLeastInRuns}
-use Rattle.am_runs.proofs.Settling.{IsRunsAnswer, none_in_final, left_sorted, final_is_least, run_is_least}
+use Rattle.am_runs.proofs.LeastLive.{IsRunsAnswer, none_in_final, left_sorted, final_is_least, run_is_least}
 use Rattle.am_runs.proofs.look.first_live.Goals as goal
 
 pub returns-in_default : goal.returns-in_default

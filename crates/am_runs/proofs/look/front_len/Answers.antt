@@ -1,5 +1,5 @@
 use Rattle.std.proofs.Common.{sym, ◌∙◌, arith}
-use Rattle.am_runs.proofs.Parting.{none_below_from}
+use Rattle.am_runs.proofs.PartedRecords.{none_below_from}
 use Rattle.am_runs.proofs.look.front_len.Goals as goal
 
 pub returns-then-le-clause-all : goal.returns-then-le-clause-all

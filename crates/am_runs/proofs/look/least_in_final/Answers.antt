@@ -2,7 +2,7 @@ use Rattle.std.proofs.Common.{ℕ, sym, subst}
 use Rattle.std.specs.Prelude.{MatchOption}
 use Rattle.am_parts.specs.Partitions.{NoneLiveIn}
 use Rattle.am_runs.specs.Looks.{IsLeastLiveIn}
-use Rattle.am_runs.proofs.Settling.{empty_final, first_of_final, from_first}
+use Rattle.am_runs.proofs.LeastLive.{empty_final, first_of_final, from_first}
 use Rattle.am_runs.proofs.look.least_in_final.Goals as goal
 
 pub returns-in_err-first-clause-found : goal.returns-in_err-first-clause-found

@@ -4,11 +4,11 @@ use Rattle.std.proofs.lemmas.List.{take_all}
 use Rattle.std.specs.Option.{option_copied}
 use Rattle.am_record.specs.OrderedKey.{key_eq-exact}
 use Rattle.am_record.proofs.FirstRows.{key_eq}
-use Rattle.am_record.proofs.Rising.{sorted_parts}
-use Rattle.am_list.specs.Entries.{next_from}
-use Rattle.am_runs.proofs.Passing.{IsLeft, all_left, ends_here, found, passes_on, none_left, same_key, not_below}
-use Rattle.am_runs.proofs.Passing.{first_is_key}
-use Rattle.am_runs.proofs.Walking.{begins_along, goes_along}
+use Rattle.am_record.proofs.RisingRecords.{sorted_parts}
+use Rattle.am_index.specs.Entries.{next_from}
+use Rattle.am_runs.proofs.PassedEntries.{IsLeft, all_left, ends_here, found, passes_on, none_left, same_key, not_below}
+use Rattle.am_runs.proofs.PassedEntries.{first_is_key}
+use Rattle.am_runs.proofs.PartitionWalks.{begins_along, goes_along}
 use Rattle.am_runs.proofs.look.least_live_in.Given.{Over}
 use Rattle.am_runs.proofs.look.least_live_in.Goals as goal
 use Rattle.am_runs.proofs.look.least_live_in.Goals.{In-Some, After-entry, else-eq-via-then-eq+else-not-entry}

@@ -2,7 +2,7 @@ use Rattle.std.proofs.Common.{◌≡◌, true, length}
 use Rattle.am_record.specs.OrderedKey.{OrderedKey}
 use Rattle.am_record.specs.Plain.{is_key_of}
 use Rattle.am_runs.specs.Walk.{IsWalkFrom}
-use Rattle.am_runs.proofs.Passing.{IsLeft}
+use Rattle.am_runs.proofs.PassedEntries.{IsLeft}
 use Rattle.am_runs.proofs.look.least_live_in.Given as goal
 
 abbrev pub invariant-loop-pair : goal.invariant-loop-pair

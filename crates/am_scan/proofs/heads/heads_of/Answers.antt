@@ -2,8 +2,9 @@ use Rattle.std.proofs.Common.{ℕ, ◌≡◌, ◌⊎◌, ◌≤◌, IfSome, IfNo
 use Rattle.std.proofs.Math.Nat.{le-max_left}
 use Rattle.std.specs.BinaryHeap.{heap_items}
 use Rattle.am_scan.specs.Heads.{IsFirstHead, HasNoneLive}
-use Rattle.am_scan.proofs.Gathering.{AreHeadsBelow, none_yet, passes_part, passes_runs, max_one, takes_head, has_all}
-use Rattle.am_scan.proofs.Gathering.{has_all_numbers}
+use Rattle.am_scan.proofs.GatheredHeads.{AreHeadsBelow, none_yet, passes_part, passes_runs, max_one, takes_head}
+use Rattle.am_scan.proofs.GatheredHeads.{has_all}
+use Rattle.am_scan.proofs.GatheredHeads.{has_all_numbers}
 use Rattle.am_scan.proofs.heads.heads_of.Goals as goal
 use Rattle.am_scan.proofs.heads.heads_of.Goals.{in-Some+in_ok-first+in_default-checked_add, in-Some-first+in_ok-push}
 use Rattle.am_scan.proofs.heads.heads_of.Goals.{in_default-first, in_default}

@@ -1,6 +1,6 @@
 use Rattle.std.proofs.Common.{◌-◌, ◌^◌}
 use Rattle.std.specs.BinaryHeap.{heap_items}
-use Rattle.am_scan.proofs.Gathering.{AreHeadsBelow}
+use Rattle.am_scan.proofs.GatheredHeads.{AreHeadsBelow}
 use Rattle.am_scan.proofs.heads.heads_of.Given as goal
 
 abbrev pub invariant-loop-part : goal.invariant-loop-part

@@ -5,7 +5,7 @@ use Rattle.std.specs.BinaryHeap.{heap_items}
 use Rattle.std.specs.BinaryHeap.PeekMut.{peek_mut_top, peek_mut_rest}
 use Rattle.am_scan.specs.Heads.{Stand, head_cmp}
 use Rattle.am_scan.specs.Cursors.{IsLeastBeside}
-use Rattle.am_scan.proofs.Leading.{not_below_others, same_top, changed_places, bound_of_both}
+use Rattle.am_scan.proofs.LeastHeads.{not_below_others, same_top, changed_places, bound_of_both}
 use Rattle.am_scan.proofs.heads.keep_least.Goals as goal
 
 pub returns-then-le-clause-least : goal.returns-then-le-clause-least

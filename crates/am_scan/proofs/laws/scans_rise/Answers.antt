@@ -1,4 +1,4 @@
-use Rattle.am_scan.proofs.Rising.{scan_rises}
+use Rattle.am_scan.proofs.RisingRows.{scan_rises}
 use Rattle.am_scan.proofs.laws.scans_rise.Goals as goal
 
 pub returns : goal.returns

@@ -1,6 +1,6 @@
 use Rattle.std.proofs.Common.{◌+◌, ◌++◌, [], ◌∷◌, ◌∙◌, refl, ap, take, arith}
 use Rattle.am_record.specs.Plain.{Records}
-use Rattle.am_scan.proofs.Taking.{one_more, enough, no_more, all_at_once}
+use Rattle.am_scan.proofs.TakenRows.{one_more, enough, no_more, all_at_once}
 use Rattle.am_scan.proofs.scans.merge_rows.Goals as goal
 use Rattle.am_scan.proofs.scans.merge_rows.Goals.{else-loop-test, then-loop-test+in_ok-copy_rest+else-branch+in_default}
 use Rattle.am_scan.proofs.scans.merge_rows.Goals.{then-loop-test+in_ok-copy_rest+then-branch}

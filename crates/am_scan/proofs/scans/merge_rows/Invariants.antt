@@ -1,4 +1,4 @@
-use Rattle.am_scan.proofs.Taking.{AreTaken}
+use Rattle.am_scan.proofs.TakenRows.{AreTaken}
 use Rattle.am_scan.proofs.scans.merge_rows.Given as goal
 
 abbrev pub invariant-loop : goal.invariant-loop

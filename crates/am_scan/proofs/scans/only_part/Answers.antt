@@ -1,6 +1,6 @@
 use Rattle.std.proofs.Common.{◌≡◌, ◌⊎◌, ◌≤◌, ◌+◌, ◌∙◌, ℕ, false, Option, None, Some, sym, subst, ⊎_elim, inl, inr}
 use Rattle.std.specs.Option.{IfNone, is_some}
-use Rattle.am_scan.proofs.Gathering.{max_one, only_lives}
+use Rattle.am_scan.proofs.GatheredHeads.{max_one, only_lives}
 use Rattle.am_scan.proofs.scans.only_part.Goals as goal
 
 nothing : {A P : Type 0} (o : Option A) → is_some o ≡ false → IfNone o P → P

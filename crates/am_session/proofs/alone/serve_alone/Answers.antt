@@ -1,11 +1,11 @@
 use Rattle.std.proofs.Common.{◌≡◌, ℕ, List, []}
-use Rattle.am_stream.specs.Taking.{Took}
-use Rattle.am_stream.specs.Giving.{Gave}
-use Rattle.am_talk.specs.Conversation.{AnswersAll}
-use Rattle.am_session.specs.Served.{PartsBehind}
+use Rattle.am_stream.specs.SourceReads.{Took}
+use Rattle.am_stream.specs.SinkWrites.{Gave}
+use Rattle.am_dialogue.specs.Conversation.{AnswersAll}
+use Rattle.am_session.specs.ServedSessions.{PartsBehind}
 use Rattle.am_session.specs.Solo.{solo_meaning, IsSpoken}
 use Rattle.am_session.proofs.Ends.{ends_by}
-use Rattle.am_session.proofs.Speaking.{spoken}
+use Rattle.am_session.proofs.StoreSessions.{spoken}
 use Rattle.am_session.proofs.alone.serve_alone.Goals as goal
 
 pub returns-clause-spoke : goal.returns-clause-spoke

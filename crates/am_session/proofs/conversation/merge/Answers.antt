@@ -1,7 +1,7 @@
 use Rattle.std.proofs.Common.{ap}
 use Rattle.std.proofs.lemmas.Bool.{ne_eqb}
-use Rattle.am_talk.specs.Session.{SessionState}
-use Rattle.am_session.proofs.Hearing.{merged_once}
+use Rattle.am_dialogue.specs.Session.{SessionState}
+use Rattle.am_session.proofs.HeardLines.{merged_once}
 use Rattle.am_session.proofs.conversation.merge.Goals as goal
 
 pub returns-then-auto-ne0-clause-merged : goal.returns-then-auto-ne0-clause-merged

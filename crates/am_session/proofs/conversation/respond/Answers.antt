@@ -1,7 +1,7 @@
 use Rattle.std.proofs.Common.{[], ◌∷◌, refl, ap}
-use Rattle.am_talk.specs.Session.{SessionState}
-use Rattle.am_talk.specs.declared.action.Action.TheVariants.{Answer, Take, TellSeen}
-use Rattle.am_session.proofs.Hearing.{due_at}
+use Rattle.am_dialogue.specs.Session.{SessionState}
+use Rattle.am_dialogue.specs.declared.action.Action.TheVariants.{Answer, Take, TellSeen}
+use Rattle.am_session.proofs.HeardLines.{due_at}
 use Rattle.am_session.proofs.conversation.respond.Goals as goal
 
 pub returns-in-Answer-clause-responds : goal.returns-in-Answer-clause-responds

@@ -1,4 +1,4 @@
-use Rattle.am_talk.specs.Responses.{response_text}
+use Rattle.am_dialogue.specs.Responses.{response_text}
 use Rattle.am_session.proofs.Streams.{gave_whole}
 use Rattle.am_session.proofs.conversation.send.Goals as goal
 use Rattle.am_record.proofs.Outcomes.{OnErr-from}

@@ -1,7 +1,7 @@
 use Rattle.std.proofs.Common.{◌∙◌, sym}
 use Rattle.std.proofs.lemmas.Bool.{false≢true}
 use Rattle.std.proofs.lemmas.Result.{err_from_is_err_and}
-use Rattle.am_stream.specs.Seen.{seen}
+use Rattle.am_stream.specs.LineAnswers.{seen}
 use Rattle.am_stream.proofs.ReadLines.{reading_more, reading_ended, reading_none, reading_part, reading_open}
 use Rattle.am_stream.proofs.input.read_line.Goals as goal
 

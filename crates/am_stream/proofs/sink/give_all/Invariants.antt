@@ -1,5 +1,5 @@
 use Rattle.std.proofs.Common.{length, ◌-◌, ◌≡◌, ◌≤◌, ◌||◌, ltb, take}
-use Rattle.am_stream.specs.Giving.{Gave}
+use Rattle.am_stream.specs.SinkWrites.{Gave}
 use Rattle.am_stream.proofs.sink.give_all.Given as goal
 
 abbrev pub invariant-loop-done : goal.invariant-loop-done

@@ -1,4 +1,4 @@
-use Rattle.am_undo.proofs.Marking.{mark_laws}
+use Rattle.am_undo.proofs.NotesSinceMarks.{mark_laws}
 use Rattle.am_undo.proofs.laws.marks_follow.Goals as goal
 
 pub returns : goal.returns

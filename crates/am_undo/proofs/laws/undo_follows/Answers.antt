@@ -1,4 +1,4 @@
-use Rattle.am_undo.proofs.Undoing.{undo_laws, nothing_undone}
+use Rattle.am_undo.proofs.TakeBacks.{undo_laws, nothing_undone}
 use Rattle.am_undo.proofs.laws.undo_follows.Goals as goal
 
 pub returns-clause-nothing : goal.returns-clause-nothing

@@ -1,5 +1,5 @@
 use Rattle.std.proofs.Common.{◌∙◌, sym, ap}
-use Rattle.am_list.specs.Entries.{find}
+use Rattle.am_index.specs.Entries.{find}
 use Rattle.am_undo.proofs.Run.{buried}
 use Rattle.am_undo.proofs.undo_log.bury.Goals as goal
 

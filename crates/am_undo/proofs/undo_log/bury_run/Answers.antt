@@ -1,5 +1,5 @@
 use Rattle.std.proofs.Common.{◌∙◌, subst, refl}
-use Rattle.am_list.proofs.Rooms.{keep_all}
+use Rattle.am_index.proofs.Rooms.{keep_all}
 use Rattle.am_undo.proofs.Fits.{keep_set}
 use Rattle.am_undo.proofs.Run.{Buries, starts, stands, is_there, goes_on, goes_down}
 use Rattle.am_undo.proofs.undo_log.bury_run.Goals as goal

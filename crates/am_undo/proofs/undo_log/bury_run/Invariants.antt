@@ -1,5 +1,5 @@
 use Rattle.std.proofs.Common.{◌≡◌}
-use Rattle.am_list.specs.Rooms.{KeepRoom}
+use Rattle.am_index.specs.Rooms.{KeepRoom}
 use Rattle.am_undo.proofs.Run.{Buries, work}
 use Rattle.am_undo.proofs.undo_log.bury_run.Given as goal
 

@@ -1,5 +1,5 @@
 use Rattle.std.proofs.Common.{◌∙◌, ◌<◌, subst, reverse, drop}
-use Rattle.am_list.proofs.Rooms.{keep_on}
+use Rattle.am_index.proofs.Rooms.{keep_on}
 use Rattle.am_undo.proofs.Above.{above_goes_on, above_fits, above_stood}
 use Rattle.am_undo.proofs.Fits.{fits_on}
 use Rattle.am_undo.proofs.undo_log.take_back_above.Goals as goal

@@ -1,5 +1,5 @@
 use Rattle.std.proofs.Common.{◌≡◌, length, reverse, drop}
-use Rattle.am_list.specs.Rooms.{KeepRoom}
+use Rattle.am_index.specs.Rooms.{KeepRoom}
 use Rattle.am_undo.specs.Notes.{NotesFit}
 use Rattle.am_undo.proofs.Above.{Above}
 use Rattle.am_undo.proofs.undo_log.take_back_above.Given as goal

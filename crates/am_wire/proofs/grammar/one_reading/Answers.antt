@@ -1,5 +1,5 @@
 use Rattle.am_text.proofs.Numerals.{numeral-decimal}
-use Rattle.am_wire.proofs.Readings.{one_form, one_result, reads_reading, refused_records}
+use Rattle.am_wire.proofs.GrammarReadings.{one_form, one_result, reads_reading, refused_records}
 use Rattle.am_wire.proofs.VisibleRequests.{asks_visible}
 use Rattle.am_wire.proofs.grammar.one_reading.Goals as goal
 

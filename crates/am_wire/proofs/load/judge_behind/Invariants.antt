@@ -1,5 +1,5 @@
 use Rattle.std.proofs.Common.{◌≡◌, length}
-use Rattle.am_wire.specs.Reading.{fault_behind}
+use Rattle.am_wire.specs.LineReadings.{fault_behind}
 use Rattle.am_wire.proofs.load.judge_behind.Given as goal
 
 abbrev pub invariant-fields : goal.invariant-fields

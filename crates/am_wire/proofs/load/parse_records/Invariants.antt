@@ -1,6 +1,6 @@
 use Rattle.std.proofs.Common.{◌≡◌, length}
 use Rattle.am_wire.specs.Shapes.{some_records}
-use Rattle.am_wire.specs.Reading.{values_in}
+use Rattle.am_wire.specs.LineReadings.{values_in}
 use Rattle.am_wire.proofs.Loads.{due_with}
 use Rattle.am_wire.proofs.load.parse_records.Given as goal
 

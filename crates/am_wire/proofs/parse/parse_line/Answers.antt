@@ -1,6 +1,6 @@
 use Rattle.std.proofs.Common.{ℕ, List, subst}
-use Rattle.am_wire.specs.Reading.{fields_reading, MayRead}
-use Rattle.am_wire.proofs.Readings.{reads_what_may_be}
+use Rattle.am_wire.specs.LineReadings.{fields_reading, MayRead}
+use Rattle.am_wire.proofs.GrammarReadings.{reads_what_may_be}
 use Rattle.am_wire.proofs.parse.parse_line.Goals as goal
 
 pub returns-clause-grammar : goal.returns-clause-grammar

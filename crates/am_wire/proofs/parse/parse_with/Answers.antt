@@ -3,7 +3,7 @@ use Rattle.std.specs.Prelude.{IsOk}
 use Rattle.am_record.specs.Records.{Records}
 use Rattle.am_wire.specs.Shapes.{some_records}
 use Rattle.am_wire.specs.Grammar.{request_with, brings_records}
-use Rattle.am_wire.specs.Reading.{values_in, map_ok, verb_reading, MayBeRefused, MayRead}
+use Rattle.am_wire.specs.LineReadings.{values_in, map_ok, verb_reading, MayBeRefused, MayRead}
 use Rattle.am_text.specs.declared.verb.Verb.{Verb}
 use Rattle.am_text.specs.declared.verb.Verb.TheVariants as verb
 use Rattle.am_wire.specs.declared.request.Request.{Request}

@@ -1,6 +1,6 @@
 use Rattle.std.proofs.Common.{◌≡◌, ℕ, ◌<◌, List, length, subst, ◌∙◌, arith}
 use Rattle.std.proofs.lemmas.Result.{err_from_is_err_and}
-use Rattle.am_stream.specs.Giving.{Gave, GaveBeginning}
+use Rattle.am_stream.specs.SinkWrites.{Gave, GaveBeginning}
 use Rattle.am_wire.specs.Replies.{row_words}
 use Rattle.am_wire.proofs.RowTexts.{gave_row, torn_row}
 use Rattle.am_wire.proofs.reply.put_rows.Goals as goal

@@ -1,5 +1,5 @@
 use Rattle.am_workers.specs.Turns.{HasTakenTurns}
-use Rattle.am_workers.specs.Turning.{TakesTurns}
+use Rattle.am_workers.specs.WorkerTurns.{TakesTurns}
 use Rattle.am_workers.proofs.turns.take_turns.Given as goal
 
 abbrev pub invariant-loop-turn : goal.invariant-loop-turn

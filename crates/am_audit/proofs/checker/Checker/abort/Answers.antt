@@ -1,7 +1,7 @@
 use Rattle.std.proofs.Common.{refl, sym, ap, ◌∙◌}
 use Rattle.std.specs.Prelude.{map}
 use Rattle.am_audit.specs.Progress.{listed, is_listed}
-use Rattle.am_audit.proofs.Takings.{takes_still, abort_nothing, is_active, is_owned, takes_abort}
+use Rattle.am_audit.proofs.EventSteps.{takes_still, abort_nothing, is_active, is_owned, takes_abort}
 use Rattle.am_audit.proofs.checker.Checker.abort.Goals as goal
 
 pub may_abort-requires : goal.may_abort-requires

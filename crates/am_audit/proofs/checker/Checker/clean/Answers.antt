@@ -1,5 +1,5 @@
 use Rattle.std.proofs.Common.{refl}
-use Rattle.am_audit.proofs.Takings.{takes_still}
+use Rattle.am_audit.proofs.EventSteps.{takes_still}
 use Rattle.am_audit.proofs.checker.Checker.clean.Goals as goal
 
 pub returns-clause-takes : goal.returns-clause-takes

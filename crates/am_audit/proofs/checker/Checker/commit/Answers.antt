@@ -1,5 +1,5 @@
 use Rattle.std.proofs.Common.{refl, ◌∙◌}
-use Rattle.am_audit.proofs.Takings.{takes_still}
+use Rattle.am_audit.proofs.EventSteps.{takes_still}
 use Rattle.am_audit.proofs.Bodies.{listed_open}
 use Rattle.am_audit.proofs.Performs.{commit_nothing, owner_ends, listed_here, replay_flaw, takes_commit}
 use Rattle.am_audit.proofs.checker.Checker.commit.Goals as goal

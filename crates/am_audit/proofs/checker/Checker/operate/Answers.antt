@@ -1,7 +1,7 @@
 use Rattle.std.proofs.Common.{refl, sym, ◌∙◌}
 use Rattle.std.proofs.lemmas.Bool.{false≢true}
-use Rattle.am_audit.proofs.Judging.{early_right, early_wrong, early_unasked}
-use Rattle.am_audit.proofs.Takings.{takes_still, refused_nothing}
+use Rattle.am_audit.proofs.RightReplies.{early_right, early_wrong, early_unasked}
+use Rattle.am_audit.proofs.EventSteps.{takes_still, refused_nothing}
 use Rattle.am_audit.proofs.Bodies.{counted, not_counted}
 use Rattle.am_audit.proofs.checker.Checker.operate.Goals as goal
 

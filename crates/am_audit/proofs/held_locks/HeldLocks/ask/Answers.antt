@@ -4,7 +4,7 @@ use Rattle.am_record.specs.Asks.{with_asked}
 use Rattle.am_locks.specs.Table.{with_locks}
 use Rattle.am_serial.specs.Machine.{locks_in}
 use Rattle.am_record.specs.Asks.{lock_of}
-use Rattle.am_audit.specs.Held.{only_owner, listed_locks}
+use Rattle.am_audit.specs.OnlyOwnerLocks.{only_owner, listed_locks}
 use Rattle.am_audit.proofs.OnlyOwners.{few_listed, listed_granted, listed_free, listed_few}
 use Rattle.am_audit.proofs.held_locks.HeldLocks.ask.Goals as goal
 

@@ -1,8 +1,8 @@
 use Rattle.std.proofs.Common.{ap, ◌∙◌}
-use Rattle.am_list.specs.Entries.{after}
-use Rattle.am_list.specs.Places.{only_of}
+use Rattle.am_index.specs.Entries.{after}
+use Rattle.am_index.specs.Places.{only_of}
 use Rattle.am_btree.specs.Shape.{Shape}
-use Rattle.am_btree.proofs.Seeking.{after_is}
+use Rattle.am_btree.proofs.Seeks.{after_is}
 use Rattle.am_btree.proofs.btree.BTreePartIndex.after.Goals as goal
 
 pub returns-clause-found : goal.returns-clause-found

@@ -1,8 +1,8 @@
 use Rattle.std.proofs.Common.{ap, ◌∙◌}
-use Rattle.am_list.specs.Entries.{next_from}
-use Rattle.am_list.specs.Places.{only_of}
+use Rattle.am_index.specs.Entries.{next_from}
+use Rattle.am_index.specs.Places.{only_of}
 use Rattle.am_btree.specs.Shape.{Shape}
-use Rattle.am_btree.proofs.Seeking.{next_from_is}
+use Rattle.am_btree.proofs.Seeks.{next_from_is}
 use Rattle.am_btree.proofs.btree.BTreePartIndex.next_from.Goals as goal
 
 pub returns-clause-found : goal.returns-clause-found

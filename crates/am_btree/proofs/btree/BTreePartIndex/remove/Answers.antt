@@ -1,7 +1,7 @@
 use Rattle.std.proofs.Common.{ap, ◌∙◌}
 use Rattle.am_btree.specs.Shape.{Shape}
-use Rattle.am_list.specs.Entries.{remove_entry}
-use Rattle.am_btree.proofs.Cutting.{just_one}
+use Rattle.am_index.specs.Entries.{remove_entry}
+use Rattle.am_btree.proofs.CutLeaves.{just_one}
 use Rattle.am_btree.proofs.btree.BTreePartIndex.remove.Goals as goal
 
 pub returns-clause-others : goal.returns-clause-others

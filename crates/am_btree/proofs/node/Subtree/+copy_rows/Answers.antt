@@ -3,13 +3,13 @@ use Rattle.std.proofs.Common.{arith}
 use Rattle.std.proofs.lemmas.List.{drop_all}
 use Rattle.std.specs.Ordering.{is_le}
 use Rattle.am_record.specs.EntryOrder.{place_cmp}
-use Rattle.am_list.specs.Content.{rows_in}
-use Rattle.am_list.proofs.Batches.{take_full, take_whole}
+use Rattle.am_index.specs.Content.{rows_in}
+use Rattle.am_index.proofs.Batches.{take_full, take_whole}
 use Rattle.am_btree.specs.Separators.{separator_place, IsChildFor}
 use Rattle.am_btree.specs.Shape.{Shape}
 use Rattle.am_btree.specs.Nodes.{all_entries, shape_of, depth_of, IsTree, inner_shape}
 use Rattle.am_btree.proofs.Inner.{as_many, they_rise, some_separators}
-use Rattle.am_btree.proofs.Walking.{rows_from, next_rows, no_rows_left}
+use Rattle.am_btree.proofs.ChildWalks.{rows_from, next_rows, no_rows_left}
 use Rattle.am_btree.proofs.node.Subtree.+copy_rows.Goals as goal
 use Rattle.am_btree.proofs.node.Subtree.+copy_rows.Goals.{then-len-max-via-then-len-max}
 use Rattle.am_btree.proofs.node.Subtree.+copy_rows.Goals.{then-len-max-via-else-len-max+then-not-is_reached}

@@ -1,5 +1,5 @@
 use Rattle.std.proofs.Common.{◌≡◌, ◌++◌, ◌≤◌, take, drop, length, vec_capacity}
-use Rattle.am_list.specs.Content.{rows_in}
+use Rattle.am_index.specs.Content.{rows_in}
 use Rattle.am_btree.specs.Nodes.{all_entries}
 use Rattle.am_btree.proofs.node.Subtree.+copy_rows.Given as goal
 

@@ -1,13 +1,13 @@
 use Rattle.std.proofs.Common.{◌≡◌, ◌<◌, ◌-◌, ◌++◌, suc, length, set, take, sym, ap, ◌∙◌, subst, rules, arith}
-use Rattle.am_list.specs.Entries.{IsRising}
-use Rattle.am_list.specs.Runs.{run_entries}
+use Rattle.am_index.specs.Entries.{IsRising}
+use Rattle.am_index.specs.Runs.{run_entries}
 use Rattle.am_btree.specs.Shape.{Shape}
 use Rattle.am_btree.specs.Rooms.{KeepsRoom}
-use Rattle.am_btree.proofs.Rooming.{keeps_set, leaf_keeps}
+use Rattle.am_btree.proofs.ValueRooms.{keeps_set, leaf_keeps}
 use Rattle.am_btree.specs.Nodes.{shape_of, IsTree, inner_shape, leaf_shape}
 use Rattle.am_btree.proofs.Inner.{one_below}
-use Rattle.am_btree.proofs.Filling.{front_rises}
-use Rattle.am_btree.proofs.Extending.{last_some, last_rises, more_entries, more_depth, more_inner}
+use Rattle.am_btree.proofs.LeafFills.{front_rises}
+use Rattle.am_btree.proofs.LastChild.{last_some, last_rises, more_entries, more_depth, more_inner}
 use Rattle.am_btree.proofs.node.Subtree.+fill_last.Goals as goal
 use Rattle.am_btree.proofs.node.Subtree.+fill_last.Goals.{in-Leaf, in-Inner}
 

@@ -1,11 +1,11 @@
 use Rattle.std.proofs.Common.{◌≡◌, ◌<◌, sym, ap, ◌∙◌, subst, rules, arith}
-use Rattle.am_list.specs.Entries.{find}
+use Rattle.am_index.specs.Entries.{find}
 use Rattle.am_btree.specs.Shape.{Shape}
 use Rattle.am_btree.specs.Nodes.{shape_of, IsTree, inner_shape, leaf_shape}
 use Rattle.am_btree.proofs.Inner.{as_many, they_rise, some_separators, one_below}
-use Rattle.am_list.proofs.Searches.{find_absent, find_found}
+use Rattle.am_index.proofs.Searches.{find_absent, find_found}
 use Rattle.am_btree.proofs.Children.{find_in_child}
-use Rattle.am_btree.proofs.Rooming.{tree_roomed}
+use Rattle.am_btree.proofs.ValueRooms.{tree_roomed}
 use Rattle.am_btree.proofs.node.Subtree.+find.Goals as goal
 
 pub child_for-at-requires-clause-rising : goal.child_for-at-requires-clause-rising

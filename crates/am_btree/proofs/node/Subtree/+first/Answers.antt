@@ -2,7 +2,7 @@ use Rattle.std.proofs.Common.{◌≡◌, sym, ap, ◌∙◌, subst}
 use Rattle.am_btree.specs.Shape.{Shape}
 use Rattle.am_btree.specs.Nodes.{shape_of, IsTree, inner_shape}
 use Rattle.std.specs.List.{slice_get}
-use Rattle.am_btree.proofs.Walking.{first_of_all}
+use Rattle.am_btree.proofs.ChildWalks.{first_of_all}
 use Rattle.am_btree.proofs.node.Subtree.+first.Goals as goal
 
 pub returns-in-Inner : goal.returns-in-Inner

@@ -1,19 +1,19 @@
 use Rattle.std.proofs.Common.{◌≡◌, ◌<◌, List, length, length-drop, take, drop, sym, ap, ◌∙◌, subst, rules, arith}
 use Rattle.std.specs.Prelude.{option_copied}
 use Rattle.am_record.specs.declared.entry.Entry.{Entry}
-use Rattle.am_list.specs.Entries.{all_inserted, IsRising}
-use Rattle.am_list.proofs.Insertions.{AllFree}
-use Rattle.am_leaf.proofs.Rising.{rising-drop}
-use Rattle.am_list.proofs.Lists.{rising-take}
-use Rattle.am_list.proofs.Rooms.{keep_all}
-use Rattle.am_list.proofs.Searches.{whole_rest}
+use Rattle.am_index.specs.Entries.{all_inserted, IsRising}
+use Rattle.am_index.proofs.Insertions.{AllFree}
+use Rattle.am_leaf.proofs.RisingEntries.{rising-drop}
+use Rattle.am_index.proofs.Lists.{rising-take}
+use Rattle.am_index.proofs.Rooms.{keep_all}
+use Rattle.am_index.proofs.Searches.{whole_rest}
 use Rattle.am_btree.specs.Shape.{Shape}
 use Rattle.am_btree.specs.Rooms.{IsRoomed, KeepsRoom}
 use Rattle.am_btree.specs.Nodes.{all_entries, all_roomy, shape_of, IsTree, inner_shape, leaf_shape}
-use Rattle.am_btree.proofs.Between.{AreAmong, IsEnd, end_of, copied_or}
+use Rattle.am_btree.proofs.EntriesBetween.{AreAmong, IsEnd, end_of, copied_or}
 use Rattle.am_btree.proofs.Stretches.{added_further}
 use Rattle.am_btree.proofs.Inner.{as_many, they_rise, one_below}
-use Rattle.am_btree.proofs.Rooming.{all_have, leaf_keeps}
+use Rattle.am_btree.proofs.ValueRooms.{all_have, leaf_keeps}
 use Rattle.am_btree.proofs.node.Subtree.+insert_among.Goals as goal
 use Rattle.am_btree.proofs.node.Subtree.+insert_among.Goals.{in-Leaf, in-Inner+else-stretch-test}
 use Rattle.am_btree.proofs.node.Subtree.+insert_among.Goals.{in-Inner+then-stretch-test+then-added-more+else-is_below}

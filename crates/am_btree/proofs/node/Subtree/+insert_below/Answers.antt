@@ -3,19 +3,19 @@ use Rattle.std.proofs.Common.{Err, vec_len, sym, ap, ◌∙◌, subst, rules, ar
 use Rattle.std.specs.List.{insert}
 use Rattle.std.specs.Result.{IsErrAnd}
 use Rattle.am_btree.specs.declared.insert.Obstacle.TheVariants.{Taken}
-use Rattle.am_list.specs.Entries.{find, insert_entry}
+use Rattle.am_index.specs.Entries.{find, insert_entry}
 use Rattle.am_record.proofs.Outcomes.{OnErr-from}
 use Rattle.am_btree.specs.Shape.{Shape}
 use Rattle.am_btree.specs.Nodes.{all_entries, depth_of, leaf_shape, inner_shape, shape_of, IsTree, IsInner}
 use Rattle.am_btree.specs.Nodes.{AreFilledChildren}
-use Rattle.am_btree.specs.Grown.{Grows, NowHolds, NowRoomed}
+use Rattle.am_btree.specs.InsertResults.{Grows, NowHolds, NowRoomed}
 use Rattle.am_btree.specs.Rooms.{KeepsRoom, IsWidened}
-use Rattle.am_btree.proofs.Parting.{parted_lengths, children_rise}
+use Rattle.am_btree.proofs.ChildHalves.{parted_lengths, children_rise}
 use Rattle.am_btree.proofs.Children.{find_in_child}
-use Rattle.am_btree.proofs.Growing.{before, before_is, child_from_reach, one_inner, one_entries, two_children}
-use Rattle.am_btree.proofs.Growing.{two_entries, children_are, set_deep, within, length_lowered}
-use Rattle.am_btree.proofs.Rooming.{keeps_set, keeps_split, tree_roomed}
-use Rattle.am_btree.proofs.Widening.{now_after, leaf_widened, unchanged, widened_inner, widened_all, on_err_map}
+use Rattle.am_btree.proofs.ChildInserts.{before, before_is, child_from_reach, one_inner, one_entries, two_children}
+use Rattle.am_btree.proofs.ChildInserts.{two_entries, children_are, set_deep, within, length_lowered}
+use Rattle.am_btree.proofs.ValueRooms.{keeps_set, keeps_split, tree_roomed}
+use Rattle.am_btree.proofs.WiderRooms.{now_after, leaf_widened, unchanged, widened_inner, widened_all, on_err_map}
 use Rattle.am_btree.proofs.Inner.{one_below}
 use Rattle.am_btree.proofs.node.Subtree.+insert_below.Goals as goal
 use Rattle.am_btree.proofs.node.Subtree.+insert_below.Goals.{in-Leaf}

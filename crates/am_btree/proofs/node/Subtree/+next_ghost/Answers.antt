@@ -1,8 +1,8 @@
 use Rattle.std.proofs.Common.{◌≡◌, ◌+◌, ◌<◌, List, length, drop, sym, ap, ◌∙◌, subst, rules, arith}
-use Rattle.am_list.specs.Entries.{next_ghost}
+use Rattle.am_index.specs.Entries.{next_ghost}
 use Rattle.am_btree.specs.Shape.{Shape}
 use Rattle.am_btree.specs.Nodes.{all_entries, shape_of, depth_of, IsTree, inner_shape}
-use Rattle.am_list.proofs.Searches.{whole_rest}
+use Rattle.am_index.proofs.Searches.{whole_rest}
 use Rattle.am_btree.proofs.Inner.{as_many, they_rise, some_separators, one_below}
 use Rattle.am_btree.proofs.Ghosts.{first_ghost, no_ghost_left, ghost_here, ghost_later, ghost_in_child}
 use Rattle.am_btree.proofs.Ghosts.{ghost_after_child}

@@ -1,5 +1,5 @@
 use Rattle.std.proofs.Common.{◌≡◌, drop}
-use Rattle.am_list.specs.Entries.{next_ghost}
+use Rattle.am_index.specs.Entries.{next_ghost}
 use Rattle.am_btree.specs.Nodes.{all_entries}
 use Rattle.am_btree.proofs.Ghosts.{first_ghost}
 use Rattle.am_btree.proofs.node.Subtree.+next_ghost.Given as goal

@@ -6,9 +6,9 @@ use Rattle.std.proofs.Common.{◌++◌, take, drop, length-take}
 use Rattle.std.proofs.lemmas.List.{drop_all}
 use Rattle.std.proofs.lemmas.Bool.{eqb-true}
 use Rattle.am_btree.specs.Seek.{all_such}
-use Rattle.am_list.proofs.Batches.{take_full, take_whole}
+use Rattle.am_index.proofs.Batches.{take_full, take_whole}
 use Rattle.am_btree.specs.Nodes.{all_entries}
-use Rattle.am_btree.proofs.Walking.{read_from, next_child, nothing_left}
+use Rattle.am_btree.proofs.ChildWalks.{read_from, next_child, nothing_left}
 use Rattle.am_btree.proofs.node.Subtree.+read_on.Goals as goal
 use Rattle.am_btree.proofs.node.Subtree.+read_on.Goals.{then-is_full-via-then-is_full}
 use Rattle.am_btree.proofs.node.Subtree.+read_on.Goals.{then-is_full-via-else-is_full+then-get-part}

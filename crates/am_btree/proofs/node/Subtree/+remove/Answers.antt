@@ -1,17 +1,18 @@
 use Rattle.std.specs.List.{remove}
 use Rattle.std.proofs.Common.{◌≡◌, ◌+◌, ◌<◌, List, [], length, set, MatchBool, refl, sym, ap, ◌∙◌, subst, rules, arith}
-use Rattle.am_list.specs.Entries.{find, entry_at, remove_from}
+use Rattle.am_index.specs.Entries.{find, entry_at, remove_from}
 use Rattle.am_btree.specs.Shape.{Shape}
 use Rattle.am_btree.specs.Rooms.{KeepsRoom}
-use Rattle.am_btree.proofs.Rooming.{keeps_set, keeps_removed, leaf_keeps}
+use Rattle.am_btree.proofs.ValueRooms.{keeps_set, keeps_removed, leaf_keeps}
 use Rattle.am_btree.specs.Nodes.{all_entries, shape_of, depth_of, IsTree, inner_shape, leaf_shape}
 use Rattle.am_btree.proofs.Inner.{as_many, they_rise, some_separators, one_below}
 use Rattle.std.specs.Prelude.{IsSome}
 use Rattle.std.proofs.lemmas.Bool.{not-true, not-false}
 use Rattle.am_btree.proofs.Children.{find_in_child, entry_in_child}
-use Rattle.am_btree.proofs.Parting.{inner_with}
-use Rattle.am_btree.proofs.Editing.{removing, kept_inner, kept_entries, kept_depth, kept_some, kept_none, left_entries}
-use Rattle.am_btree.proofs.Editing.{left_children, left_long, left_depth, left_some, left_fewer, kept_fewer}
+use Rattle.am_btree.proofs.ChildHalves.{inner_with}
+use Rattle.am_btree.proofs.ChildEdits.{removing, kept_inner, kept_entries, kept_depth, kept_some, kept_none}
+use Rattle.am_btree.proofs.ChildEdits.{left_entries}
+use Rattle.am_btree.proofs.ChildEdits.{left_children, left_long, left_depth, left_some, left_fewer, kept_fewer}
 use Rattle.am_btree.proofs.node.Subtree.+remove.Goals as goal
 use Rattle.am_btree.proofs.node.Subtree.+remove.Goals.{in-Leaf, in-Inner+else-not-removed+else-len-eq1}
 use Rattle.am_btree.proofs.node.Subtree.+remove.Goals.{then-not-removed-via-then-not-removed}

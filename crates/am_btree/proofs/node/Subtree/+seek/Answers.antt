@@ -3,8 +3,8 @@ use Rattle.am_btree.specs.Shape.{Shape}
 use Rattle.am_btree.specs.Nodes.{shape_of, depth_of, IsTree, inner_shape}
 use Rattle.am_btree.proofs.Inner.{as_many, they_rise, some_separators, one_below}
 use Rattle.am_btree.specs.Seek.{first_from}
-use Rattle.am_btree.proofs.Walking.{found_here, found_next, found_nowhere}
-use Rattle.am_btree.proofs.Rooming.{tree_roomed}
+use Rattle.am_btree.proofs.ChildWalks.{found_here, found_next, found_nowhere}
+use Rattle.am_btree.proofs.ValueRooms.{tree_roomed}
 use Rattle.am_btree.proofs.node.Subtree.+seek.Goals as goal
 
 pub child_for-at-requires-clause-rising : goal.child_for-at-requires-clause-rising

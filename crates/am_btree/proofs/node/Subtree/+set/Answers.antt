@@ -1,16 +1,16 @@
 use Rattle.std.proofs.Common.{◌≡◌, ◌<◌, Option, length, set, refl, sym, ap, ◌∙◌, subst, rules, arith}
-use Rattle.am_list.specs.Entries.{Slot, find, set_entry}
-use Rattle.am_list.specs.Content.{live_value}
-use Rattle.am_list.specs.Rooms.{HasRoom}
+use Rattle.am_index.specs.Entries.{Slot, find, set_entry}
+use Rattle.am_index.specs.Content.{live_value}
+use Rattle.am_index.specs.Rooms.{HasRoom}
 use Rattle.am_btree.specs.Shape.{Shape}
 use Rattle.am_btree.specs.Rooms.{KeepsRoom}
-use Rattle.am_btree.proofs.Rooming.{room_child, keeps_set, leaf_fits, leaf_keeps}
+use Rattle.am_btree.proofs.ValueRooms.{room_child, keeps_set, leaf_fits, leaf_keeps}
 use Rattle.am_btree.specs.Nodes.{shape_of, depth_of, IsTree, inner_shape, leaf_shape}
 use Rattle.am_btree.proofs.Inner.{as_many, they_rise, some_separators, one_below}
 use Rattle.std.specs.Prelude.{IsSome, is_some}
 use Rattle.am_record.proofs.Lists.{AllByRecursion-at}
 use Rattle.am_btree.proofs.Children.{find_in_child}
-use Rattle.am_btree.proofs.Editing.{writing, written_long, kept_inner, kept_entries, kept_depth}
+use Rattle.am_btree.proofs.ChildEdits.{writing, written_long, kept_inner, kept_entries, kept_depth}
 use Rattle.am_btree.proofs.node.Subtree.+set.Goals as goal
 use Rattle.am_btree.proofs.node.Subtree.+set.Goals.{in-Leaf, in-Inner}
 

@@ -1,12 +1,13 @@
 use Rattle.std.proofs.Common.{◌≡◌, ◌<◌, IsSome, OnErr, length, set, sym, ap, ◌∙◌, subst, rules, arith}
-use Rattle.am_list.specs.Entries.{find, IsRising}
-use Rattle.am_list.specs.Rooms.{HasRoom}
+use Rattle.am_index.specs.Entries.{find, IsRising}
+use Rattle.am_index.specs.Rooms.{HasRoom}
 use Rattle.am_btree.specs.Shape.{Shape}
 use Rattle.am_btree.specs.Rooms.{IsWidened}
 use Rattle.am_btree.specs.Nodes.{all_roomy, shape_of, IsTree, inner_shape, leaf_shape}
 use Rattle.am_btree.proofs.Inner.{as_many, they_rise, some_separators, one_below}
 use Rattle.am_btree.proofs.Children.{find_in_child}
-use Rattle.am_btree.proofs.Widening.{if_ok_map, on_err_map, leaf_widened, widened_inner, widened_all, room_got, no_room}
+use Rattle.am_btree.proofs.WiderRooms.{if_ok_map, on_err_map, leaf_widened, widened_inner, widened_all, room_got}
+use Rattle.am_btree.proofs.WiderRooms.{no_room}
 use Rattle.am_btree.proofs.node.Subtree.+widen_below.Goals as goal
 use Rattle.am_btree.proofs.node.Subtree.+widen_below.Goals.{in-Leaf, in-Inner}
 

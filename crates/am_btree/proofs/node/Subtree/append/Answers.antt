@@ -4,17 +4,17 @@ use Rattle.std.proofs.lemmas.List.{get_or_default}
 use Rattle.am_record.specs.declared.entry.Entry.{Entry}
 use Rattle.am_record.proofs.Outcomes.{on_ok}
 use Rattle.am_record.proofs.FirstRows.{Record}
-use Rattle.am_list.specs.Entries.{insert_entry, IsRising}
-use Rattle.am_list.specs.Runs.{live_entry, run_entries}
-use Rattle.am_list.proofs.Rooms.{keep_all}
-use Rattle.am_list.proofs.Runs.{rising_with_run}
+use Rattle.am_index.specs.Entries.{insert_entry, IsRising}
+use Rattle.am_index.specs.Runs.{live_entry, run_entries}
+use Rattle.am_index.proofs.Rooms.{keep_all}
+use Rattle.am_index.proofs.Runs.{rising_with_run}
 use Rattle.am_btree.specs.Shape.{Shape}
-use Rattle.am_btree.proofs.Growing.{insert_some}
-use Rattle.am_btree.proofs.Rooted.{tree_rises}
-use Rattle.am_btree.proofs.Rooming.{tree_roomed, keeps_further}
-use Rattle.am_btree.proofs.Filling.{left_rise, further, within}
-use Rattle.am_btree.proofs.Appended.{put, stands, out}
-use Rattle.am_btree.proofs.Cutting.{just_one}
+use Rattle.am_btree.proofs.ChildInserts.{insert_some}
+use Rattle.am_btree.proofs.NewRoots.{tree_rises}
+use Rattle.am_btree.proofs.ValueRooms.{tree_roomed, keeps_further}
+use Rattle.am_btree.proofs.LeafFills.{left_rise, further, within}
+use Rattle.am_btree.proofs.AppendedRecords.{put, stands, out}
+use Rattle.am_btree.proofs.CutLeaves.{just_one}
 use Rattle.am_btree.proofs.node.Subtree.append.Goals as goal
 
 pub put-init : goal.put-init

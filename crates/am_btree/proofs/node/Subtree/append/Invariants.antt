@@ -1,5 +1,5 @@
 use Rattle.std.proofs.Common.{◌≡◌, ◌≤◌, ◌-◌, ◌++◌, length, take}
-use Rattle.am_list.specs.Runs.{run_entries}
+use Rattle.am_index.specs.Runs.{run_entries}
 use Rattle.am_btree.specs.Rooms.{KeepsRoom}
 use Rattle.am_btree.proofs.node.Subtree.append.Given as goal
 

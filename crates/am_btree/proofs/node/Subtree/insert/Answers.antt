@@ -1,14 +1,14 @@
 use Rattle.std.proofs.Common.{◌≡◌, ◌+◌, [], ◌∷◌, vec_items, vec_capacity, sym, ap, ◌∙◌, subst, arith}
 use Rattle.std.specs.List.{insert}
-use Rattle.am_list.specs.Entries.{insert_entry, IsRising}
+use Rattle.am_index.specs.Entries.{insert_entry, IsRising}
 use Rattle.am_btree.specs.Shape.{Shape}
 use Rattle.am_btree.specs.declared.separator.Separator.{Separator}
 use Rattle.am_btree.specs.declared.node.Node.TheVariants.{Inner}
 use Rattle.am_btree.specs.Nodes.{shape_of}
-use Rattle.am_btree.specs.Grown.{Grows}
-use Rattle.am_btree.proofs.Parting.{inner_from}
-use Rattle.am_btree.proofs.Growing.{rising_inserted}
-use Rattle.am_btree.proofs.Rooted.{tree_rises, root_children}
+use Rattle.am_btree.specs.InsertResults.{Grows}
+use Rattle.am_btree.proofs.ChildHalves.{inner_from}
+use Rattle.am_btree.proofs.ChildInserts.{rising_inserted}
+use Rattle.am_btree.proofs.NewRoots.{tree_rises, root_children}
 use Rattle.am_btree.proofs.node.Subtree.insert.Goals as goal
 
 pub invariant_of-self : goal.invariant_of-self

@@ -1,5 +1,5 @@
-use Rattle.am_btree.proofs.Rooming.{tree_roomed}
-use Rattle.am_btree.proofs.Widening.{unchanged}
+use Rattle.am_btree.proofs.ValueRooms.{tree_roomed}
+use Rattle.am_btree.proofs.WiderRooms.{unchanged}
 use Rattle.am_btree.proofs.node.Subtree.make_room.Goals as goal
 
 pub returns-then-bytes-le-SHORT_LEN-clause-widened : goal.returns-then-bytes-le-SHORT_LEN-clause-widened

@@ -22,7 +22,7 @@ use Rattle.std.proofs.raw_atomic.Walks.{proved_at, leaves}
 use Rattle.std.proofs.alloc.Global.TheLaws as heap_laws
 use Rattle.std.specs.contracts.impls.GlobalAllocator.TheImpl.{ghosts}
 use Rattle.std_alloc.proofs.ResultValues.{and_tt}
-use Rattle.am_c.proofs.Loosened.{both, al}
+use Rattle.am_c.proofs.LooseValues.{both, al}
 use Rattle.am_c.proofs.Handles.{R, Z, Handle, handle_in}
 use denote.Param.{layout}
 use mir.Val.{has_ty}

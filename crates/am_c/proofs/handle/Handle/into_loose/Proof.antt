@@ -28,8 +28,8 @@ use Rattle.std.proofs.alloc.Global.TheLaws as heap_laws
 use Rattle.std.specs.contracts.impls.GlobalAllocator.TheImpl.{ghosts}
 use Rattle.std.proofs.raw_atomic.Walks.{proved_at, leaves}
 use Rattle.std_alloc.proofs.ResultValues.{and_tt}
-use Rattle.am_c.specs.Held.{IsSame}
-use Rattle.am_c.proofs.Loosened.{both, Loose, loose_good, loose_in}
+use Rattle.am_c.specs.Ownership.{IsSame}
+use Rattle.am_c.proofs.LooseValues.{both, Loose, loose_good, loose_in}
 use Rattle.am_c.proofs.Handles.{R, Z, Handle, handle_out, either_held}
 use Rattle.am_c.specs.contracts.handle.Handle.into_loose.{ended, clauses}
 use Rattle.am_c.specs.contracts.handle.Handle.into_loose.Key.{name as #self}

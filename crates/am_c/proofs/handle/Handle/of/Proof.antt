@@ -20,7 +20,7 @@ use Rattle.std.specs.declared.option.Option.TheVariants.{Some}
 use Rattle.std.proofs.raw_atomic.Walks.{proved_at, leaves}
 use Rattle.std.proofs.alloc.Global.TheLaws as heap_laws
 use Rattle.std.specs.contracts.impls.GlobalAllocator.TheImpl.{ghosts}
-use Rattle.am_c.proofs.Loosened.{both, Loose, loose_good, loose_out}
+use Rattle.am_c.proofs.LooseValues.{both, Loose, loose_good, loose_out}
 use Rattle.am_c.proofs.Handles.{R, Z, Handle, handle_in}
 use Rattle.am_c.specs.contracts.handle.Handle.of.{ended, clauses}
 use Rattle.am_c.specs.contracts.handle.Handle.of.Key.{name as #self}

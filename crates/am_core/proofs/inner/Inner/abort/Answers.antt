@@ -1,11 +1,11 @@
 use Rattle.std.proofs.Common.{true, false, sym, ap, ◌∙◌, subst}
-use Rattle.am_list.proofs.Rooms.{keep_all}
+use Rattle.am_index.proofs.Rooms.{keep_all}
 use Rattle.am_undo.specs.Notes.{NotesFit}
 use Rattle.am_tx.specs.Active.{is_active_in, log_in}
 use Rattle.am_tx.specs.Txs.{Txs}
 use Rattle.am_sound.specs.StoreState.{IsFit}
-use Rattle.am_core.specs.Keeping.{state_kept}
-use Rattle.am_core.proofs.Endings.{is_in-inner, can_abort, fits_abort, still_active, aborted}
+use Rattle.am_core.specs.StoreContent.{state_kept}
+use Rattle.am_core.proofs.TransactionEnds.{is_in-inner, can_abort, fits_abort, still_active, aborted}
 use Rattle.am_core.proofs.inner.Inner.abort.Goals as goal
 
 pub returns-then-not-is_active-clause-says : goal.returns-then-not-is_active-clause-says

@@ -1,4 +1,4 @@
-use Rattle.am_core.proofs.Endings.{begun}
+use Rattle.am_core.proofs.TransactionEnds.{begun}
 use Rattle.am_core.proofs.inner.Inner.begin.Goals as goal
 
 pub returns-in-Some-clause-after : goal.returns-in-Some-clause-after

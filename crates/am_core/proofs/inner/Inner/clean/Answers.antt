@@ -1,7 +1,7 @@
 use Rattle.std.proofs.Common.{◌≡◌, List, sym, subst, ◌∙◌}
 use Rattle.am_locks.specs.OwnerLocks.{OwnerLocks}
-use Rattle.am_effect.specs.Merging.{CleanRight, cleaned_by, all_worked_off}
-use Rattle.am_merge.specs.Holding.{holder_of}
+use Rattle.am_effect.specs.MergeAnswers.{CleanRight, cleaned_by, all_worked_off}
+use Rattle.am_merge.specs.LockHolders.{holder_of}
 use Rattle.am_core.proofs.Merges.{says_bad_clean, says_clean, after_clean}
 use Rattle.am_core.proofs.inner.Inner.clean.Goals as goal
 

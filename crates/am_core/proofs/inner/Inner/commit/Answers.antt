@@ -1,8 +1,8 @@
 use Rattle.std.proofs.Common.{true, false, ◌+◌, refl, sym, ap, ◌∙◌, arith}
 use Rattle.am_tx.specs.Active.{is_active_in}
 use Rattle.am_tx.specs.Txs.{Txs, txs_after_end}
-use Rattle.am_core.proofs.Reaching.{some_active}
-use Rattle.am_core.proofs.Endings.{is_in-inner, committed}
+use Rattle.am_core.proofs.StepsKeep.{some_active}
+use Rattle.am_core.proofs.TransactionEnds.{is_in-inner, committed}
 use Rattle.am_core.proofs.inner.Inner.commit.Goals as goal
 
 pub returns-then-not-is_active-clause-says : goal.returns-then-not-is_active-clause-says

@@ -1,7 +1,7 @@
 use Rattle.std.proofs.Common.{List, sym, subst, ◌∙◌}
 use Rattle.am_locks.specs.OwnerLocks.{OwnerLocks}
-use Rattle.am_effect.specs.Merging.{MergeRight}
-use Rattle.am_merge.specs.Holding.{holder_of}
+use Rattle.am_effect.specs.MergeAnswers.{MergeRight}
+use Rattle.am_merge.specs.LockHolders.{holder_of}
 use Rattle.am_core.proofs.Merges.{says_bad_merge, after_bad_merge, says_merge, after_merge}
 use Rattle.am_core.proofs.inner.Inner.merge.Goals as goal
 

@@ -1,6 +1,6 @@
 use Rattle.std.proofs.Common.{Option, List, sym, ap, subst, ◌∙◌}
 use Rattle.am_record.specs.declared.lock.Lock.{Lock}
-use Rattle.am_list.specs.Entries.{find}
+use Rattle.am_index.specs.Entries.{find}
 use Rattle.am_record.specs.Marks.{since_mark}
 use Rattle.am_undo.specs.Notes.{CanTakeBack, NotesFit}
 use Rattle.am_tx.specs.declared.transaction.Transaction.{Transaction}
@@ -8,11 +8,11 @@ use Rattle.am_tx.specs.Active.{is_active_in, ops_in, log_in}
 use Rattle.am_tx.specs.Txs.{Txs, IsConsistent}
 use Rattle.am_effect.specs.Store.{with_wish}
 use Rattle.am_sound.specs.StoreState.{IsFit}
-use Rattle.am_core.specs.Keeping.{state_kept}
+use Rattle.am_core.specs.StoreContent.{state_kept}
 use Rattle.am_core.specs.Admission.{IsLockRefusal, IsLockGranted}
 use Rattle.am_core.proofs.Operations.{cleared, says_first, says_lock, wants_lock, says_room, wants_room, idle}
 use Rattle.am_core.proofs.Operations.{says_done, after_done, active_then, few_then}
-use Rattle.am_core.proofs.Endings.{can_back, fits_abort}
+use Rattle.am_core.proofs.TransactionEnds.{can_back, fits_abort}
 use Rattle.am_core.proofs.inner.Inner.operate.Goals as goal
 
 -- The table in which the transaction was sought is the old one, and all calls after that speak of it.

@@ -1,9 +1,9 @@
 use Rattle.std.proofs.Common.{sym, subst}
-use Rattle.am_list.specs.Rooms.{KeepRoom}
-use Rattle.am_list.proofs.Rooms.{keep_all}
+use Rattle.am_index.specs.Rooms.{KeepRoom}
+use Rattle.am_index.proofs.Rooms.{keep_all}
 use Rattle.am_parts.specs.Partitions.{Partitions}
 use Rattle.am_core.specs.InnerState.{inner_state}
-use Rattle.am_core.proofs.Reaching.{unwanted_begin, unwanted_commit, unwanted_abort, unwanted_clean}
+use Rattle.am_core.proofs.StepsKeep.{unwanted_begin, unwanted_commit, unwanted_abort, unwanted_clean}
 use Rattle.am_core.proofs.inner.Inner.step.Goals as goal
 
 pub returns-in-Begin-clause-memory : goal.returns-in-Begin-clause-memory

@@ -1,5 +1,5 @@
 use Rattle.std.proofs.Common.{rules}
-use Rattle.am_core.proofs.Standings.{stands_opened}
+use Rattle.am_core.proofs.StoreSteps.{stands_opened}
 use Rattle.am_core.proofs.store.Store.open.Goals as goal
 
 pub returns-clause-stands : goal.returns-clause-stands

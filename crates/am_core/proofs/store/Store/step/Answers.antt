@@ -1,9 +1,9 @@
 use Rattle.std.proofs.Common.{◌∙◌, ap, subst}
 use Rattle.am_sound.specs.StoreState.{StoreState, MayAnswer, state_after}
 use Rattle.am_core.specs.InnerState.{inner_state}
-use Rattle.am_core.proofs.Reaching.{reaches, few_commits}
+use Rattle.am_core.proofs.StepsKeep.{reaches, few_commits}
 use Rattle.am_core.proofs.Rooms.{have_room}
-use Rattle.am_core.proofs.Standings.{goes, within, stays}
+use Rattle.am_core.proofs.StoreSteps.{goes, within, stays}
 use Rattle.am_core.proofs.store.Store.step.Goals as goal
 
 pub step_there-requires-clause-fit : goal.step_there-requires-clause-fit

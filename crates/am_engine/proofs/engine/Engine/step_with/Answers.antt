@@ -9,8 +9,8 @@ use Rattle.am_engine.specs.EngineFields.{room_left, most_positions}
 use Rattle.am_engine.specs.Traces.{EngineState, ends_after}
 use Rattle.am_engine.specs.Wants.{MayWantMemory, pairs_needed}
 use Rattle.am_engine.proofs.Rooms.{room_step, room_less, ends_spent}
-use Rattle.am_engine.proofs.Storing.{active_from-snoc}
-use Rattle.am_engine.proofs.Wanting.{short, short_of, store_wants, by_reason, refused_so}
+use Rattle.am_engine.proofs.StoreAnswers.{active_from-snoc}
+use Rattle.am_engine.proofs.MemoryWants.{short, short_of, store_wants, by_reason, refused_so}
 use Rattle.am_engine.proofs.engine.Engine.step_with.Goals as goal
 
 pub push_reserved-requires : goal.push_reserved-requires

@@ -8,9 +8,9 @@ use Rattle.am_latch.specs.declared.views.View.{View}
 use Rattle.am_latch.specs.Receipts.{SeatState, receipt, moved_in, last_commit_of, positions_of, AreBehind}
 use Rattle.am_latch.specs.Views.{seat_in, IsSeatView}
 use Rattle.am_latch.specs.Ties.{open_of, HasRoom}
-use Rattle.am_latch.proofs.Calling.{where_true, received, last_commit-snoc, behind-snoc}
+use Rattle.am_latch.proofs.CallResults.{where_true, received, last_commit-snoc, behind-snoc}
 use Rattle.am_latch.proofs.Seats.{room_after, wider, moved_in-snoc}
-use Rattle.am_latch.proofs.Tying.{open_from-snoc}
+use Rattle.am_latch.proofs.SeatTransactions.{open_from-snoc}
 use Rattle.am_latch.proofs.seat.Seat.make_call.Goals as goal
 
 pub returns-clause-called : goal.returns-clause-called

@@ -4,12 +4,12 @@ use Rattle.am_latch.specs.declared.receipt.Receipt.{Receipt}
 use Rattle.am_engine.specs.Traces.{CallLog, log_of, log_with, AreMadeBelow}
 use Rattle.am_latch.specs.Receipts.{receipts_of}
 use Rattle.am_latch.specs.Ties.{open_of, open_in, AreNumbered, IsTied}
-use Rattle.am_latch.specs.declared.taken.TakenView.TheVariants.{Handed}
+use Rattle.am_latch.specs.declared.taker_tie.TakenView.TheVariants.{Handed}
 use Rattle.am_latch.specs.Views.{seat_in, log_in}
 use Rattle.am_latch.specs.declared.views.View.{View}
 use Rattle.am_latch.specs.declared.views.View.TheVariants.{Log}
-use Rattle.am_latch.proofs.Holding.{grown, below-snoc, numbered-snoc, receipts_long, only}
-use Rattle.am_latch.proofs.Tying.{tied_more, ends_active}
+use Rattle.am_latch.proofs.EngineAndToken.{grown, below-snoc, numbered-snoc, receipts_long, only}
+use Rattle.am_latch.proofs.SeatTransactions.{tied_more, ends_active}
 use Rattle.am_latch.proofs.state.LatchState.call.Goals as goal
 
 pub returns-then-not-was_stored-clause-ended : goal.returns-then-not-was_stored-clause-ended

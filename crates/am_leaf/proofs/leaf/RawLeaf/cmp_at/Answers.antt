@@ -3,7 +3,7 @@ use Rattle.std.specs.Ordering.{ordering_then}
 use Rattle.am_record.specs.EntryOrder.{Place, place_of, place_cmp}
 use Rattle.am_leaf.proofs.Zips.{entries_of-at}
 use Rattle.am_leaf.proofs.Leaves.{alike, counted}
-use Rattle.am_leaf.specs.Seen.{Seen}
+use Rattle.am_leaf.specs.LeafCode.{Seen}
 use Rattle.am_leaf.proofs.leaf.RawLeaf.cmp_at.Goals as goal
 
 pub returns : goal.returns

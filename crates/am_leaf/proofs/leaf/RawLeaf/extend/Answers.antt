@@ -1,13 +1,13 @@
 use Rattle.am_record.proofs.Lists.{AllByRecursion-append}
 use Rattle.std.proofs.Common.{ℕ, List, ◌+◌, ◌^◌, ◌<◌, ◌≤◌, length, sym, ap, ◌∙◌, subst, length-append, ◌++◌, arith}
-use Rattle.am_list.specs.Entries.{IsRising}
-use Rattle.am_list.specs.Runs.{run_entries}
+use Rattle.am_index.specs.Entries.{IsRising}
+use Rattle.am_index.specs.Runs.{run_entries}
 use Rattle.am_leaf.specs.Leaf.{entries_of}
 use Rattle.am_leaf.specs.Runs.{places_of, values_of}
-use Rattle.am_leaf.specs.Seen.{Seen}
-use Rattle.am_leaf.proofs.Fitting.{fit_now, fit_run, fit_run_more}
+use Rattle.am_leaf.specs.LeafCode.{Seen}
+use Rattle.am_leaf.proofs.FittingValues.{fit_now, fit_run, fit_run_more}
 use Rattle.am_leaf.proofs.BitLemmas.{pow_mono}
-use Rattle.am_leaf.proofs.Extending.{length-places_of, length-values_of, entries_of-extend}
+use Rattle.am_leaf.proofs.ExtendedLeaves.{length-places_of, length-values_of, entries_of-extend}
 use Rattle.am_leaf.proofs.Leaves.{alike, counted}
 use Rattle.am_leaf.proofs.leaf.RawLeaf.extend.Goals as goal
 

@@ -2,10 +2,10 @@ use Rattle.std.proofs.Common.{◌≡◌, ℕ, ◌+◌, ◌-◌, ◌/◌, ◌<◌
 use Rattle.std.specs.declared.cmp.Ordering.TheVariants.{Less, Greater}
 use Rattle.am_record.specs.EntryOrder.{Place, place_cmp}
 use Rattle.am_record.proofs.Lists.{some_item}
-use Rattle.am_list.specs.Places.{AllBelow, AllAbove}
-use Rattle.am_leaf.specs.Seen.{Seen}
+use Rattle.am_index.specs.Places.{AllBelow, AllAbove}
+use Rattle.am_leaf.specs.LeafCode.{Seen}
 use Rattle.am_leaf.proofs.Leaves.{alike, counted, rising}
-use Rattle.am_leaf.proofs.Rising.{all_below, all_above, below_here, above_here}
+use Rattle.am_leaf.proofs.RisingEntries.{all_below, all_above, below_here, above_here}
 use Rattle.am_leaf.proofs.Stretches.{places-rise, all-taken, all-dropped}
 use Rattle.am_leaf.proofs.leaf.RawLeaf.find.Goals as goal
 

@@ -1,5 +1,5 @@
 use Rattle.std.proofs.Common.{◌-◌, ◌≤◌, length, take, drop}
-use Rattle.am_list.specs.Places.{AllBelow, AllAbove}
+use Rattle.am_index.specs.Places.{AllBelow, AllAbove}
 use Rattle.am_leaf.proofs.leaf.RawLeaf.find.Given as goal
 
 -- below `low` stand entries below the place, and from `high` on entries above it

@@ -1,7 +1,7 @@
 use Rattle.std.proofs.Common.{sym, ◌∙◌, arith, ap}
 use Rattle.am_leaf.proofs.Ghosts.{no_ghost, ghost_within, ghost_is}
 use Rattle.am_leaf.proofs.Leaves.{counted}
-use Rattle.am_leaf.specs.Seen.{Seen}
+use Rattle.am_leaf.specs.LeafCode.{Seen}
 use Rattle.am_leaf.proofs.leaf.RawLeaf.ghost_from.Goals as goal
 
 pub next_bit-requires : goal.next_bit-requires

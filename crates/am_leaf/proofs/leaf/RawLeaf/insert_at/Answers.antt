@@ -3,13 +3,13 @@ use Rattle.std.proofs.lemmas.List.Edits.{length-insert}
 use Rattle.std.specs.List.{insert}
 use Rattle.am_leaf.specs.Bits.{inserted_bit}
 use Rattle.am_leaf.specs.Leaf.{entries_of}
-use Rattle.am_list.specs.Entries.{IsRising}
+use Rattle.am_index.specs.Entries.{IsRising}
 use Rattle.am_leaf.proofs.BitLemmas.{inserted_below}
-use Rattle.am_leaf.proofs.Rising.{rising-insert}
+use Rattle.am_leaf.proofs.RisingEntries.{rising-insert}
 use Rattle.am_leaf.proofs.Zips.{entries_of-insert}
 use Rattle.am_leaf.proofs.Leaves.{alike, counted}
-use Rattle.am_leaf.specs.Seen.{Seen}
-use Rattle.am_leaf.proofs.Fitting.{fit_now, fit_inserted}
+use Rattle.am_leaf.specs.LeafCode.{Seen}
+use Rattle.am_leaf.proofs.FittingValues.{fit_now, fit_inserted}
 use Rattle.am_leaf.proofs.leaf.RawLeaf.insert_at.Goals as goal
 
 longer : {X : Type 0} (xs : List X) (i : ℕ) (x : X) {ys : List X} {n : ℕ} → length xs ≡ n → ys ≡ insert xs i x → i ≤ n →

@@ -1,7 +1,7 @@
 use Rattle.std.proofs.Common.{sym, ap, subst}
 use Rattle.am_leaf.proofs.Leaves.{counted}
-use Rattle.am_leaf.proofs.Fitting.{entries_fit}
-use Rattle.am_leaf.specs.Seen.{Seen, ValuesHaveRoom}
+use Rattle.am_leaf.proofs.FittingValues.{entries_fit}
+use Rattle.am_leaf.specs.LeafCode.{Seen, ValuesHaveRoom}
 use Rattle.am_leaf.proofs.leaf.RawLeaf.len.Goals as goal
 
 pub returns-clause-all : goal.returns-clause-all

@@ -2,7 +2,7 @@ use Rattle.std.proofs.Common.{get_or, sym, ap, ◌∙◌, arith}
 use Rattle.am_record.specs.declared.entry.Entry.{Entry}
 use Rattle.am_leaf.proofs.Zips.{entries_of-at}
 use Rattle.am_leaf.proofs.Leaves.{alike, counted}
-use Rattle.am_leaf.specs.Seen.{Seen}
+use Rattle.am_leaf.specs.LeafCode.{Seen}
 use Rattle.am_leaf.proofs.leaf.RawLeaf.record.Goals as goal
 
 pub returns : goal.returns

@@ -2,13 +2,13 @@ use Rattle.std.proofs.Common.{◌≡◌, ℕ, ◌-◌, ◌^◌, ◌<◌, List, l
 use Rattle.std.proofs.lemmas.List.Edits.{length-remove}
 use Rattle.std.specs.List.{remove}
 use Rattle.am_leaf.specs.Leaf.{entries_of}
-use Rattle.am_list.specs.Entries.{IsRising}
+use Rattle.am_index.specs.Entries.{IsRising}
 use Rattle.am_leaf.proofs.BitLemmas.{removed_below}
-use Rattle.am_leaf.proofs.Rising.{rising-remove}
+use Rattle.am_leaf.proofs.RisingEntries.{rising-remove}
 use Rattle.am_leaf.proofs.Zips.{entry_of, entries_of-at, entries_of-remove}
 use Rattle.am_leaf.proofs.Leaves.{alike, counted}
-use Rattle.am_leaf.specs.Seen.{Seen}
-use Rattle.am_leaf.proofs.Fitting.{fit_now, fit_removed}
+use Rattle.am_leaf.specs.LeafCode.{Seen}
+use Rattle.am_leaf.proofs.FittingValues.{fit_now, fit_removed}
 use Rattle.am_leaf.proofs.leaf.RawLeaf.remove_at.Goals as goal
 
 shorter : {X : Type 0} (xs : List X) (i : ℕ) {ys : List X} {n : ℕ} → length xs ≡ n → ys ≡ remove xs i → i < n →

@@ -2,13 +2,13 @@ use Rattle.std.proofs.Common.{ℕ, length, ◌^◌, ◌<◌, sym, ap, ◌∙◌,
 use Rattle.std.proofs.lemmas.List.{length-set}
 use Rattle.am_leaf.specs.Leaf.{entries_of}
 use Rattle.am_leaf.specs.Changes.{set_at}
-use Rattle.am_list.specs.Entries.{IsRising}
+use Rattle.am_index.specs.Entries.{IsRising}
 use Rattle.am_leaf.proofs.BitLemmas.{changed_below}
-use Rattle.am_leaf.proofs.Rising.{rising-set_at}
+use Rattle.am_leaf.proofs.RisingEntries.{rising-set_at}
 use Rattle.am_leaf.proofs.Zips.{entries_of-set}
 use Rattle.am_leaf.proofs.Leaves.{alike, counted}
-use Rattle.am_leaf.specs.Seen.{Seen}
-use Rattle.am_leaf.proofs.Fitting.{fit_now, fit_set}
+use Rattle.am_leaf.specs.LeafCode.{Seen}
+use Rattle.am_leaf.proofs.FittingValues.{fit_now, fit_set}
 use Rattle.am_leaf.proofs.leaf.RawLeaf.set_at.Goals as goal
 
 pub returns-clause-entries : goal.returns-clause-entries

@@ -1,14 +1,14 @@
 use Rattle.std.proofs.Common.{ℕ, List, length, ◌-◌, ◌^◌, ◌<◌, ◌≤◌, take, drop, sym, ap, ◌∙◌, subst, arith}
 use Rattle.std.proofs.lemmas.List.{length-take-le, length-drop}
 use Rattle.am_leaf.specs.Leaf.{entries_of}
-use Rattle.am_list.specs.Entries.{IsRising}
-use Rattle.am_list.proofs.Lists.{rising-take}
+use Rattle.am_index.specs.Entries.{IsRising}
+use Rattle.am_index.proofs.Lists.{rising-take}
 use Rattle.am_leaf.proofs.BitLemmas.{cut_below, rest_below}
-use Rattle.am_leaf.proofs.Rising.{rising-drop}
+use Rattle.am_leaf.proofs.RisingEntries.{rising-drop}
 use Rattle.am_leaf.proofs.Zips.{entries_of-take, entries_of-drop}
 use Rattle.am_leaf.proofs.Leaves.{alike, counted, no_places, no_values}
-use Rattle.am_leaf.specs.Seen.{Seen}
-use Rattle.am_leaf.proofs.Fitting.{fit_now}
+use Rattle.am_leaf.specs.LeafCode.{Seen}
+use Rattle.am_leaf.proofs.FittingValues.{fit_now}
 use Rattle.am_record.proofs.Lists.{AllByRecursion-take, AllByRecursion-drop}
 use Rattle.am_leaf.proofs.leaf.RawLeaf.split_into.Goals as goal
 

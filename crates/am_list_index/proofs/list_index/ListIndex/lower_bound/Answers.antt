@@ -1,4 +1,4 @@
-use Rattle.am_list.proofs.Searches.{lower_from_place, lower_from_gap}
+use Rattle.am_index.proofs.Searches.{lower_from_place, lower_from_gap}
 use Rattle.am_list_index.proofs.list_index.ListIndex.lower_bound.Goals as goal
 
 pub returns-in-Ok-clause-bound : goal.returns-in-Ok-clause-bound

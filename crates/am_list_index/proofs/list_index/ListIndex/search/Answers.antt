@@ -1,7 +1,7 @@
 use Rattle.std.proofs.Common.{◌≡◌, refl, rules}
 use Rattle.std.proofs.lemmas.Fn.{answers_by}
 use Rattle.am_record.specs.EntryOrder.{place_of, place_cmp}
-use Rattle.am_list.proofs.Searches.{searched}
+use Rattle.am_index.proofs.Searches.{searched}
 use Rattle.am_list_index.proofs.list_index.ListIndex.search.Goals as goal
 
 -- the closure keeps the partition and the key that it captured

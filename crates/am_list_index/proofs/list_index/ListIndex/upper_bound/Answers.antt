@@ -1,5 +1,5 @@
 use Rattle.std.proofs.Common.{arith}
-use Rattle.am_list.proofs.Searches.{upper_from_place, upper_from_gap}
+use Rattle.am_index.proofs.Searches.{upper_from_place, upper_from_gap}
 use Rattle.am_list_index.proofs.list_index.ListIndex.upper_bound.Goals as goal
 
 pub overflow_add-result : goal.overflow_add-result

@@ -1,6 +1,6 @@
 use Rattle.std.proofs.Common.{◌∙◌}
-use Rattle.am_list.proofs.Searches.{after_at}
-use Rattle.am_list.proofs.Rooms.{all_have_room}
+use Rattle.am_index.proofs.Searches.{after_at}
+use Rattle.am_index.proofs.Rooms.{all_have_room}
 use Rattle.am_list_index.proofs.list_index.ListIndexPartIndex.after.Goals as goal
 
 pub returns-clause-found : goal.returns-clause-found

@@ -1,8 +1,8 @@
 use Rattle.std.proofs.Common.{◌<◌, List, sym, subst}
 use Rattle.std.specs.List.{AllByRecursion}
 use Rattle.am_record.specs.declared.entry.Entry.{Entry}
-use Rattle.am_list.proofs.Runs.{rising_either}
-use Rattle.am_list.proofs.Rooms.{all_keep_room}
+use Rattle.am_index.proofs.Runs.{rising_either}
+use Rattle.am_index.proofs.Rooms.{all_keep_room}
 use Rattle.am_list_index.proofs.list_index.ListIndexPartIndex.append_run.Goals as goal
 
 pub invariant_of-self : goal.invariant_of-self

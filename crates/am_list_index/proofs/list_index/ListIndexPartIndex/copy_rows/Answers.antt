@@ -1,6 +1,6 @@
 use Rattle.std.proofs.Common.{◌≡◌, ◌<◌, List, length, get_or, subst, arith}
 use Rattle.am_record.specs.declared.entry.Entry.{Entry}
-use Rattle.am_list.proofs.Rows.{are_enough, none_copied, all_copied, ghost_passed, row_copied}
+use Rattle.am_index.proofs.Rows.{are_enough, none_copied, all_copied, ghost_passed, row_copied}
 use Rattle.am_list_index.proofs.list_index.ListIndexPartIndex.copy_rows.Goals as goal
 use Rattle.am_list_index.proofs.list_index.ListIndexPartIndex.copy_rows.Goals.{then-not-entry+in_ok-push}
 use Rattle.am_list_index.proofs.list_index.ListIndexPartIndex.copy_rows.Goals.{else-not-entry}

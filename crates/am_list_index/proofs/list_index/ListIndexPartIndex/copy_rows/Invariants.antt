@@ -1,5 +1,5 @@
 use Rattle.std.proofs.Common.{◌≤◌, vec_capacity}
-use Rattle.am_list.proofs.Rows.{AreCopied}
+use Rattle.am_index.proofs.Rows.{AreCopied}
 use Rattle.am_list_index.proofs.list_index.ListIndexPartIndex.copy_rows.Given as goal
 
 abbrev pub invariant-loop-at : goal.invariant-loop-at

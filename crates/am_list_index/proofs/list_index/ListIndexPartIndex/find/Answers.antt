@@ -1,6 +1,6 @@
 use Rattle.std.proofs.Common.{sym}
-use Rattle.am_list.proofs.Searches.{find_found, find_absent}
-use Rattle.am_list.proofs.Rooms.{all_have_room}
+use Rattle.am_index.proofs.Searches.{find_found, find_absent}
+use Rattle.am_index.proofs.Rooms.{all_have_room}
 use Rattle.am_list_index.proofs.list_index.ListIndexPartIndex.find.Goals as goal
 
 pub returns-in-Ok-clause-found : goal.returns-in-Ok-clause-found

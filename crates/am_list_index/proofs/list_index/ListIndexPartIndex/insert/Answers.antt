@@ -1,6 +1,6 @@
 use Rattle.std.proofs.Common.{◌∙◌, refl}
-use Rattle.am_list.proofs.Searches.{find_present, insert_gap, rising_insert_gap}
-use Rattle.am_list.proofs.Rooms.{all_keep_room}
+use Rattle.am_index.proofs.Searches.{find_present, insert_gap, rising_insert_gap}
+use Rattle.am_index.proofs.Rooms.{all_keep_room}
 use Rattle.am_list_index.proofs.list_index.ListIndexPartIndex.insert.Goals as goal
 
 pub unreachable-requires : goal.unreachable-requires

@@ -1,8 +1,8 @@
 use Rattle.std.proofs.Common.{◌≡◌, ◌≢◌, false, Option, Some, None, Result, Ok, Err, refl, sym, ap, ◌∙◌}
 use Rattle.std.specs.Prelude.{is_none, OnErr}
-use Rattle.am_list.specs.Entries.{Slot}
-use Rattle.am_list.proofs.Searches.{find_absent, find_present, insert_gap, rising_insert_gap}
-use Rattle.am_list.proofs.Rooms.{all_keep_room}
+use Rattle.am_index.specs.Entries.{Slot}
+use Rattle.am_index.proofs.Searches.{find_absent, find_present, insert_gap, rising_insert_gap}
+use Rattle.am_index.proofs.Rooms.{all_keep_room}
 use Rattle.am_list_index.proofs.list_index.ListIndexPartIndex.insert_new.Goals as goal
 
 some_stands : (o : Option Slot) → o ≢ None → false ≡ is_none o

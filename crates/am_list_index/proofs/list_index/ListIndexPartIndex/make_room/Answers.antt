@@ -1,4 +1,4 @@
-use Rattle.am_list.proofs.Rooms.{all_has_room, all_keep_room}
+use Rattle.am_index.proofs.Rooms.{all_has_room, all_keep_room}
 use Rattle.am_list_index.proofs.list_index.ListIndexPartIndex.make_room.Goals as goal
 
 pub returns-clause-ok : goal.returns-clause-ok

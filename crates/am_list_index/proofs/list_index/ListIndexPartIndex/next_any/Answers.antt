@@ -1,5 +1,5 @@
 use Rattle.std.proofs.Common.{◌∙◌}
-use Rattle.am_list.proofs.Searches.{next_any_at}
+use Rattle.am_index.proofs.Searches.{next_any_at}
 use Rattle.am_list_index.proofs.list_index.ListIndexPartIndex.next_any.Goals as goal
 
 pub returns-clause-found : goal.returns-clause-found

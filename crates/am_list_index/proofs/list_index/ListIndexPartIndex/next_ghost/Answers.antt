@@ -6,8 +6,8 @@ use Rattle.std.proofs.lemmas.Iterator.Consumers.{YieldsList-from_copied}
 use Rattle.std.proofs.lemmas.Iterator.Search.{find_from_yields_List}
 use Rattle.std.specs.Slice.Iter.{iter_rest}
 use Rattle.am_record.specs.declared.entry.Entry.{Entry}
-use Rattle.am_list.specs.Entries.{first_such}
-use Rattle.am_list.proofs.Searches.{whole_rest, next_ghost_at}
+use Rattle.am_index.specs.Entries.{first_such}
+use Rattle.am_index.proofs.Searches.{whole_rest, next_ghost_at}
 use Rattle.am_list_index.proofs.list_index.ListIndexPartIndex.next_ghost.Goals as goal
 
 itself : (o : Option Entry) → option_map (λ e. e) o ≡ o

@@ -1,7 +1,7 @@
 use Rattle.std.proofs.Common.{ap, ◌∙◌, ◌++◌, ◌-◌, length, take, drop, eqb}
 use Rattle.std.specs.List.{take_while}
-use Rattle.am_list.proofs.Batches.{all_from_at}
-use Rattle.am_list.proofs.Searches.{whole_rest}
+use Rattle.am_index.proofs.Batches.{all_from_at}
+use Rattle.am_index.proofs.Searches.{whole_rest}
 use Rattle.am_list_index.proofs.list_index.ListIndexPartIndex.read_from.Goals as goal
 
 pub returns-clause-read : goal.returns-clause-read

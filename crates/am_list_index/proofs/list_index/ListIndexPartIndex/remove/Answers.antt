@@ -1,8 +1,8 @@
 use Rattle.std.proofs.Common.{ap, ◌∙◌}
 use mathlib.Core.Bool.{false≢true}
-use Rattle.am_list.specs.Entries.{remove_entry}
-use Rattle.am_list.proofs.Searches.{entry_at_found, find_absent, remove_found, rising_remove_found}
-use Rattle.am_list.proofs.Rooms.{all_keep_room}
+use Rattle.am_index.specs.Entries.{remove_entry}
+use Rattle.am_index.proofs.Searches.{entry_at_found, find_absent, remove_found, rising_remove_found}
+use Rattle.am_index.proofs.Rooms.{all_keep_room}
 use Rattle.am_list_index.proofs.list_index.ListIndexPartIndex.remove.Goals as goal
 
 pub unreachable-requires : goal.unreachable-requires

@@ -1,5 +1,5 @@
 use Rattle.std.proofs.Common.{◌+◌, length, sym, ap, ◌∙◌}
-use Rattle.am_list.proofs.Removals.{one_fewer, remove_one}
+use Rattle.am_index.proofs.Removals.{one_fewer, remove_one}
 use Rattle.am_list_index.proofs.list_index.ListIndexPartIndex.remove_from.Goals as goal
 
 pub returns-clause-counted : goal.returns-clause-counted

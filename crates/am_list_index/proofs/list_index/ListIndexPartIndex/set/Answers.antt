@@ -1,11 +1,11 @@
 use Rattle.std.proofs.Common.{get_or, Option, sym, ap, ◌∙◌}
 use Rattle.std.specs.Prelude.{is_some}
-use Rattle.am_list.specs.Content.{live_value}
+use Rattle.am_index.specs.Content.{live_value}
 use mathlib.Core.Bool.{false≢true}
-use Rattle.am_list.specs.Entries.{Slot, set_entry}
-use Rattle.am_list.proofs.Content.{slot_live}
-use Rattle.am_list.proofs.Searches.{find_absent, find_found, set_found, rising_set_found}
-use Rattle.am_list.proofs.Rooms.{all_keep_room}
+use Rattle.am_index.specs.Entries.{Slot, set_entry}
+use Rattle.am_index.proofs.Content.{slot_live}
+use Rattle.am_index.proofs.Searches.{find_absent, find_found, set_found, rising_set_found}
+use Rattle.am_index.proofs.Rooms.{all_keep_room}
 use Rattle.am_list_index.proofs.list_index.ListIndexPartIndex.set.Goals as goal
 
 pub unreachable-requires : goal.unreachable-requires

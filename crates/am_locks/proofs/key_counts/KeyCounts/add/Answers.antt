@@ -3,7 +3,7 @@ use Rattle.std.proofs.lemmas.List.{get_or_read}
 use Rattle.am_record.specs.Locks.{is_exclusive}
 use Rattle.am_locks.specs.declared.key_counts.Bucket.{Bucket}
 use Rattle.am_locks.proofs.Buckets.{bucket_of-few}
-use Rattle.am_locks.proofs.Counting.{AreCountsOf-add}
+use Rattle.am_locks.proofs.LockCounts.{AreCountsOf-add}
 use Rattle.am_locks.proofs.key_counts.KeyCounts.add.Goals as goal
 
 pub returns : goal.returns

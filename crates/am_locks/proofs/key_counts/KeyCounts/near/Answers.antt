@@ -1,5 +1,5 @@
 use Rattle.std.proofs.Common.{◌+◌, ap, ◌∙◌}
-use Rattle.am_locks.proofs.Counting.{counted_for, may_clash-counted}
+use Rattle.am_locks.proofs.LockCounts.{counted_for, may_clash-counted}
 use Rattle.am_locks.proofs.key_counts.KeyCounts.near.Goals as goal
 
 pub returns : goal.returns

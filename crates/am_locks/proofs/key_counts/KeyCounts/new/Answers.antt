@@ -1,5 +1,5 @@
 use Rattle.std.proofs.Common.{refl}
-use Rattle.am_locks.proofs.Counting.{AreCountsOf-none}
+use Rattle.am_locks.proofs.LockCounts.{AreCountsOf-none}
 use Rattle.am_locks.proofs.key_counts.KeyCounts.new.Goals as goal
 
 pub returns : goal.returns

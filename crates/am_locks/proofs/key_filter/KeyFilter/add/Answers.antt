@@ -1,5 +1,5 @@
 use Rattle.std.proofs.Common.{rules, ◌%◌, refl}
-use Rattle.am_locks.proofs.Filtering.{key_filter-point}
+use Rattle.am_locks.proofs.FilterAnswers.{key_filter-point}
 use Rattle.am_locks.proofs.key_filter.KeyFilter.add.Goals as goal
 
 pub returns-else-bucket-eq-WIDE : goal.returns-else-bucket-eq-WIDE

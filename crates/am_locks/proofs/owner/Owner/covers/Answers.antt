@@ -4,7 +4,7 @@ use Rattle.am_record.specs.Locks.{covers, is_covered}
 use Rattle.am_record.specs.declared.lock.Lock.{Lock}
 use Rattle.am_locks.specs.OwnerLocks.{OwnerLocks}
 use Rattle.am_locks.proofs.FirstLocks.{found_first, none_first}
-use Rattle.am_locks.proofs.Filtering.{denied_cover}
+use Rattle.am_locks.proofs.FilterAnswers.{denied_cover}
 use Rattle.am_locks.proofs.owner.Owner.covers.Goals as goal
 
 pub returns-then-denies : goal.returns-then-denies

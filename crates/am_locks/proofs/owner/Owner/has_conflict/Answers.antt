@@ -3,7 +3,7 @@ use Rattle.std.specs.List.{list_any}
 use Rattle.am_record.specs.Locks.{conflicts}
 use Rattle.am_locks.specs.OwnerLocks.{has_conflict}
 use Rattle.am_locks.proofs.FirstLocks.{found_first, none_first, none_conflicts}
-use Rattle.am_locks.proofs.Filtering.{denied_conflict}
+use Rattle.am_locks.proofs.FilterAnswers.{denied_conflict}
 use Rattle.am_locks.proofs.owner.Owner.has_conflict.Goals as goal
 
 pub returns-then-not-is_exclusive : goal.returns-then-not-is_exclusive

@@ -6,7 +6,7 @@ use Rattle.am_record.specs.declared.lock.Lock.{Lock}
 use Rattle.am_locks.specs.OwnerLocks.{is_exclusive_at}
 use Rattle.am_locks.specs.KeyFilter.{denies}
 use Rattle.am_locks.proofs.FirstLocks.{found_first, none_first, none_exclusive_at}
-use Rattle.am_locks.proofs.Filtering.{denied_exclusive}
+use Rattle.am_locks.proofs.FilterAnswers.{denied_exclusive}
 use Rattle.am_locks.proofs.owner.Owner.is_exclusive_at.Goals as goal
 use Rattle.am_locks.proofs.owner.Owner.is_exclusive_at.Goals.{then-not-self-via-then-not-self}
 use Rattle.am_locks.proofs.owner.Owner.is_exclusive_at.Goals.{then-not-self-via-else-not-self+then-denies}

@@ -5,8 +5,8 @@ use Rattle.std.proofs.lemmas.List.{length-set, set-get_or}
 use Rattle.std.proofs.lemmas.List.Elements.{All-set}
 use Rattle.am_record.specs.Locks.{is_covered, with_lock}
 use Rattle.am_record.specs.declared.lock.Lock.{Lock}
-use Rattle.am_locks.specs.declared.asked.Asked.{Asked}
-use Rattle.am_locks.specs.declared.asked.Asked.TheVariants.{Granted, Busy, TooManyLocks, NoMemory}
+use Rattle.am_locks.specs.declared.lock_answers.Asked.{Asked}
+use Rattle.am_locks.specs.declared.lock_answers.Asked.TheVariants.{Granted, Busy, TooManyLocks, NoMemory}
 use Rattle.am_locks.specs.Answers.{MatchBusy}
 use Rattle.am_locks.specs.OwnerLocks.{OwnerLocks, HasFew}
 use Rattle.am_locks.specs.KeyCounts.{all_locks, AreCountsOf}

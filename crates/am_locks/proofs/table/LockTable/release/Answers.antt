@@ -8,7 +8,7 @@ use Rattle.am_locks.proofs.Numbers.{numbers-removed}
 use Rattle.am_locks.specs.KeyCounts.{all_locks, AreCountsOf}
 use Rattle.am_locks.proofs.AllLocks.{AreCountsOf-released}
 use Rattle.am_locks.proofs.Apart.{AreAllApart-filter}
-use Rattle.am_record.proofs.Numbered.{remove-without_number}
+use Rattle.am_record.proofs.ByNumber.{remove-without_number}
 use Rattle.am_locks.proofs.Places.{AreOnce-AreAllApart, own_entry}
 use Rattle.am_locks.proofs.table.LockTable.release.Goals as goal
 

@@ -1,6 +1,6 @@
 use Rattle.std.proofs.Common.{◌≡◌, ◌==◌, position, IsSome, subst, sym, ◌∙◌}
 use Rattle.am_locks.specs.OwnerLocks.{OwnerLocks}
-use Rattle.am_record.proofs.Numbered.{position-map, position-found, position-number}
+use Rattle.am_record.proofs.ByNumber.{position-map, position-found, position-number}
 use Rattle.am_locks.proofs.Places.{entry_at, set-with_locks}
 use Rattle.am_locks.proofs.table.LockTable.slot_of.Goals as goal
 

@@ -1,8 +1,8 @@
 use Rattle.std.proofs.Common.{◌+◌, ℕ, subst, sym, arith}
-use Rattle.am_list.specs.Entries.{all_inserted}
+use Rattle.am_index.specs.Entries.{all_inserted}
 use Rattle.am_parts.specs.Catalogs.{AreListed}
 use Rattle.am_parts.proofs.Alive.{left_at_most, live_at_most}
-use Rattle.am_parts.proofs.Counting.{homes_listed, homes_long, homes_live}
+use Rattle.am_parts.proofs.CountedAtOnce.{homes_listed, homes_long, homes_live}
 use Rattle.am_parts.proofs.catalog.Catalog.add_homes.Goals as goal
 
 pub overflow_add-self : goal.overflow_add-self

@@ -1,8 +1,8 @@
 use Rattle.std.proofs.Common.{◌≡◌, ◌+◌, ◌∙◌, ℕ, subst, sym, rules}
-use Rattle.am_list.specs.Entries.{insert_entry}
+use Rattle.am_index.specs.Entries.{insert_entry}
 use Rattle.am_parts.specs.Catalogs.{AreListed, IsRunAt}
-use Rattle.am_parts.proofs.Listed.{final_more}
-use Rattle.am_parts.proofs.Catalogued.{more_at, as_before}
+use Rattle.am_parts.proofs.ListedRuns.{final_more}
+use Rattle.am_parts.proofs.CatalogCalls.{more_at, as_before}
 use Rattle.am_parts.proofs.catalog.Catalog.add_to_part.Goals as goal
 
 pub returns-then-part-eq0-clause-ok : goal.returns-then-part-eq0-clause-ok

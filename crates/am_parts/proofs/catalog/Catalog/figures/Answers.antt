@@ -1,6 +1,6 @@
 use Rattle.std.proofs.Common.{length, ap, arith}
 use Rattle.am_parts.proofs.Alive.{left_at_most, live_at_most}
-use Rattle.am_parts.proofs.Listed.{has_runs}
+use Rattle.am_parts.proofs.ListedRuns.{has_runs}
 use Rattle.am_parts.proofs.catalog.Catalog.figures.Goals as goal
 
 pub overflow_sub-result : goal.overflow_sub-result

@@ -4,7 +4,7 @@ use Rattle.am_parts.specs.declared.catalog.OpenRun.{OpenRun}
 use Rattle.am_record.specs.declared.entry.Entry.{Entry}
 use Rattle.am_parts.specs.Catalogs.{IsCatalog}
 use Rattle.am_parts.specs.Partitions.{AreEmptyFrom}
-use Rattle.am_parts.proofs.Finding.{empty_up_to, empty_from}
+use Rattle.am_parts.proofs.KeyLooks.{empty_up_to, empty_from}
 use Rattle.am_parts.proofs.catalog.Catalog.next_part.Goals as goal
 use Rattle.am_parts.proofs.catalog.Catalog.next_part.Goals.{else-from-eq0-via-then-from-eq0+else-has_final}
 use Rattle.am_parts.proofs.catalog.Catalog.next_part.Goals.{else-from-eq0-via-else-from-eq0}

@@ -1,6 +1,6 @@
 use Rattle.std.proofs.Common.{◌<◌, ℕ, sym, subst, refl}
 use Rattle.am_parts.specs.Catalogs.{AreListed, IsGapAt}
-use Rattle.am_parts.proofs.Listed.{opened}
+use Rattle.am_parts.proofs.ListedRuns.{opened}
 use Rattle.am_parts.proofs.catalog.Catalog.open.Goals as goal
 
 pub returns-clause-ok : goal.returns-clause-ok

@@ -1,8 +1,8 @@
 use Rattle.std.proofs.Common.{sym, subst, refl, arith}
-use Rattle.am_list.specs.Runs.{run_entries}
+use Rattle.am_index.specs.Runs.{run_entries}
 use Rattle.am_parts.specs.Catalogs.{AreListed}
 use Rattle.am_parts.proofs.Alive.{length_append, length_run, live_append, live_run}
-use Rattle.am_parts.proofs.Listed.{appended}
+use Rattle.am_parts.proofs.ListedRuns.{appended}
 use Rattle.am_parts.proofs.catalog.Catalog.push.Goals as goal
 
 pub returns : goal.returns

@@ -1,11 +1,11 @@
 use Rattle.std.proofs.Common.{◌≡◌, ◌<◌, ◌-◌, ℕ, sym, ap, ◌∙◌, subst, refl, arith}
 use Rattle.std.proofs.lemmas.List.{get_or_default}
 use Rattle.std.specs.Prelude.{IsSome}
-use Rattle.am_list.specs.Entries.{find}
+use Rattle.am_index.specs.Entries.{find}
 use Rattle.am_parts.specs.declared.catalog.OpenRun.{OpenRun}
 use Rattle.am_parts.specs.Catalogs.{AreListed, IsRunAt, IsGapAt}
-use Rattle.am_parts.proofs.Listed.{is_listed, not_one, no_run_at_gap, run_gone, some_left, final_less}
-use Rattle.am_parts.proofs.Catalogued.{less_at}
+use Rattle.am_parts.proofs.ListedRuns.{is_listed, not_one, no_run_at_gap, run_gone, some_left, final_less}
+use Rattle.am_parts.proofs.CatalogCalls.{less_at}
 use Rattle.am_parts.proofs.catalog.Catalog.take_from_part.Goals as goal
 
 pub unreachable-requires : goal.unreachable-requires

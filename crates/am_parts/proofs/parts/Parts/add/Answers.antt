@@ -2,7 +2,7 @@ use Rattle.std.proofs.Common.{refl, sym, ap, subst, arith}
 use Rattle.am_parts.specs.Partitions.{Partitions}
 use Rattle.am_parts.specs.Residences.{AreResidences}
 use Rattle.am_parts.proofs.Changes.{adds, adds_sound}
-use Rattle.am_parts.proofs.Emptied.{merged_where_added}
+use Rattle.am_parts.proofs.MergedKnowledge.{merged_where_added}
 use Rattle.am_parts.proofs.parts.Parts.add.Goals as goal
 
 pub insert_or_forget-requires-clause-counted : goal.insert_or_forget-requires-clause-counted

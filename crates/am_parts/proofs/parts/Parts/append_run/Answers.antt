@@ -3,15 +3,15 @@ use Rattle.std.specs.List.{AllByRecursion}
 use Rattle.am_record.specs.Plain.{insert_all}
 use Rattle.am_record.specs.declared.entry.Entry.{Entry}
 use Rattle.am_record.proofs.Outcomes.{on_ok}
-use Rattle.am_list.specs.Content.{content, HasContent}
-use Rattle.am_list.specs.Runs.{run_entries}
+use Rattle.am_index.specs.Content.{content, HasContent}
+use Rattle.am_index.specs.Runs.{run_entries}
 use Rattle.am_parts.specs.Catalogs.{IsCatalog}
-use Rattle.am_parts.specs.Merged.{AreMerged}
+use Rattle.am_parts.specs.MergedRanges.{AreMerged}
 use Rattle.am_parts.specs.Partitions.{Partitions, AreWellFormed, AreAllAbsent, LivesInNoRun, NoneLiveIn}
 use Rattle.am_parts.specs.Residences.{AreResidences}
-use Rattle.am_parts.proofs.Appending.{is_next, next_rises, next_content, next_sound}
-use Rattle.am_parts.proofs.Emptied.{merged_appended}
-use Rattle.am_parts.proofs.Noting.{all_absent, all_noted}
+use Rattle.am_parts.proofs.OneRunMore.{is_next, next_rises, next_content, next_sound}
+use Rattle.am_parts.proofs.MergedKnowledge.{merged_appended}
+use Rattle.am_parts.proofs.NotedKeys.{all_absent, all_noted}
 use Rattle.am_parts.proofs.parts.Parts.append_run.Goals as goal
 
 pub append_run-requires-clause-above : goal.append_run-requires-clause-above

@@ -2,17 +2,17 @@ use Rattle.std.proofs.Common.{List, take, drop, inl, inr, ⊎_elim, sym, ap, ◌
 use Rattle.std.specs.Prelude.{IsSome}
 use Rattle.am_record.specs.EntryOrder.{Place}
 use Rattle.am_record.specs.declared.entry.Entry.{Entry}
-use Rattle.am_list.specs.Content.{content, HasContent}
-use Rattle.am_list.specs.Entries.{find, IsRising}
-use Rattle.am_list.specs.Rooms.{KeepRoom}
-use Rattle.am_list.proofs.Rooms.{keep_on}
+use Rattle.am_index.specs.Content.{content, HasContent}
+use Rattle.am_index.specs.Entries.{find, IsRising}
+use Rattle.am_index.specs.Rooms.{KeepRoom}
+use Rattle.am_index.proofs.Rooms.{keep_on}
 use Rattle.am_parts.specs.Catalogs.{IsCatalog}
-use Rattle.am_parts.specs.Merged.{AreMerged}
+use Rattle.am_parts.specs.MergedRanges.{AreMerged}
 use Rattle.am_parts.specs.Partitions.{Partitions, AreWellFormed, IsStretch, FirstNeedsRoom, all_gone_home}
 use Rattle.am_parts.specs.Residences.{AreResidences}
 use Rattle.am_parts.proofs.Neighbours.{front_then, back_then, settled_is, settled_rise, home_is, at_home, one_run_then}
 use Rattle.am_parts.proofs.Neighbours.{told_then, merged_all_home, needs_before}
-use Rattle.am_parts.proofs.Standing.{between}
+use Rattle.am_parts.proofs.StandingEntries.{between}
 use Rattle.am_parts.proofs.parts.Parts.bring_home.Goals as goal
 
 pub remove_all-requires-clause-stand : goal.remove_all-requires-clause-stand

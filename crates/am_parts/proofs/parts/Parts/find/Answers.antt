@@ -1,7 +1,7 @@
 use Rattle.std.proofs.Common.{◌≡◌, None, sym, ap, ◌∙◌}
-use Rattle.am_list.specs.Entries.{find}
+use Rattle.am_index.specs.Entries.{find}
 use Rattle.am_parts.specs.Partitions.{Partitions}
-use Rattle.am_parts.proofs.Finding.{nothing_in_final}
+use Rattle.am_parts.proofs.KeyLooks.{nothing_in_final}
 use Rattle.am_parts.proofs.parts.Parts.find.Goals as goal
 
 pub returns-then-not-has_final-clause-found : goal.returns-then-not-has_final-clause-found

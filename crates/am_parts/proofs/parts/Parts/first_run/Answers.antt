@@ -1,5 +1,5 @@
 use Rattle.std.proofs.Common.{subst}
-use Rattle.am_parts.specs.Merged.{HasNoneBefore}
+use Rattle.am_parts.specs.MergedRanges.{HasNoneBefore}
 use Rattle.am_parts.specs.Partitions.{Partitions}
 use Rattle.am_parts.proofs.parts.Parts.first_run.Goals as goal
 

@@ -1,7 +1,7 @@
 use Rattle.std.proofs.Common.{sym, ap, ◌∙◌}
 use Rattle.std.specs.Prelude.{is_some}
-use Rattle.am_list.specs.Content.{live_value}
-use Rattle.am_parts.proofs.Finding.{stands_live, none_lives, of_none}
+use Rattle.am_index.specs.Content.{live_value}
+use Rattle.am_parts.proofs.KeyLooks.{stands_live, none_lives, of_none}
 use Rattle.am_parts.proofs.parts.Parts.live_entry.Goals as goal
 
 pub returns-in-Some-clause-live : goal.returns-in-Some-clause-live

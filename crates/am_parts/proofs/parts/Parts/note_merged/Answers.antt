@@ -1,7 +1,7 @@
 use Rattle.std.proofs.Common.{◌<◌, ◌≡◌, false, sym, subst, arith}
 use Rattle.am_record.specs.Interval.{within}
 use Rattle.am_record.proofs.Lists.{AllByRecursion-map}
-use Rattle.am_parts.specs.Merged.{HasNoneBefore}
+use Rattle.am_parts.specs.MergedRanges.{HasNoneBefore}
 use Rattle.am_parts.specs.Partitions.{Partitions}
 use Rattle.am_parts.proofs.parts.Parts.note_merged.Goals as goal
 

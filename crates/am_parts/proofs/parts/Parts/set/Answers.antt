@@ -1,13 +1,13 @@
 use Rattle.std.proofs.Common.{sym, subst, ap}
 use Rattle.std.specs.Prelude.{IsSome}
-use Rattle.am_list.specs.Entries.{find}
+use Rattle.am_index.specs.Entries.{find}
 use Rattle.am_parts.specs.Catalogs.{IsCatalog}
-use Rattle.am_parts.specs.Merged.{AreMerged}
+use Rattle.am_parts.specs.MergedRanges.{AreMerged}
 use Rattle.am_parts.specs.Partitions.{Partitions}
 use Rattle.am_parts.specs.Residences.{AreResidences}
 use Rattle.am_parts.proofs.LiveRuns.{one_run}
 use Rattle.am_parts.proofs.Changes.{marks}
-use Rattle.am_parts.proofs.Emptied.{merged_set}
+use Rattle.am_parts.proofs.MergedKnowledge.{merged_set}
 use Rattle.am_parts.proofs.parts.Parts.set.Goals as goal
 
 pub invariant_of-self : goal.invariant_of-self

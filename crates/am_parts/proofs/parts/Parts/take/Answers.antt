@@ -3,16 +3,16 @@ use Rattle.std.specs.Prelude.{is_some}
 use Rattle.std.specs.Option.{option_map}
 use Rattle.am_record.specs.EntryOrder.{Place}
 use Rattle.am_record.specs.declared.entry.Entry.{Entry}
-use Rattle.am_list.specs.Content.{live_value}
-use Rattle.am_list.specs.Entries.{slot_of, entry_at, remove_entry}
-use Rattle.am_list.proofs.Edits.{entry_at_place}
+use Rattle.am_index.specs.Content.{live_value}
+use Rattle.am_index.specs.Entries.{slot_of, entry_at, remove_entry}
+use Rattle.am_index.proofs.Edits.{entry_at_place}
 use Rattle.am_parts.specs.Catalogs.{IsCatalog}
-use Rattle.am_parts.specs.Merged.{AreMerged}
+use Rattle.am_parts.specs.MergedRanges.{AreMerged}
 use Rattle.am_parts.specs.Partitions.{Partitions}
 use Rattle.am_parts.specs.Residences.{AreResidences}
-use Rattle.am_list.proofs.Content.{slot_live}
+use Rattle.am_index.proofs.Content.{slot_live}
 use Rattle.am_parts.proofs.Changes.{takes}
-use Rattle.am_parts.proofs.Emptied.{merged_removed}
+use Rattle.am_parts.proofs.MergedKnowledge.{merged_removed}
 use Rattle.am_parts.proofs.LiveRuns.{one_run}
 use Rattle.am_parts.proofs.parts.Parts.take.Goals as goal
 

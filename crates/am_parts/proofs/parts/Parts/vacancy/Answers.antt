@@ -1,8 +1,8 @@
 use Rattle.std.proofs.Common.{sym, ap, ◌∙◌, subst}
 use Rattle.std.specs.Prelude.{is_some}
-use Rattle.am_list.specs.Content.{live_value}
+use Rattle.am_index.specs.Content.{live_value}
 use Rattle.am_parts.specs.Partitions.{IsVacancy, vacancy_over}
-use Rattle.am_parts.proofs.Finding.{taken_in_final, taken_in_run, vacant}
+use Rattle.am_parts.proofs.KeyLooks.{taken_in_final, taken_in_run, vacant}
 use Rattle.am_parts.proofs.parts.Parts.vacancy.Goals as goal
 use Rattle.am_parts.proofs.parts.Parts.vacancy.Goals.{then-is_live-via-then-is_live}
 use Rattle.am_parts.proofs.parts.Parts.vacancy.Goals.{then-is_live-via-else-is_live+then-is_some}

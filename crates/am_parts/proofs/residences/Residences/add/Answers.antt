@@ -1,9 +1,9 @@
 use Rattle.std.proofs.Common.{ℕ, Some, subst, refl, arith}
 use Rattle.am_directory.specs.Tables.{HasEntered}
-use Rattle.am_list.specs.Entries.{slot_of, insert_entry}
+use Rattle.am_index.specs.Entries.{slot_of, insert_entry}
 use Rattle.am_parts.specs.Residences.{LivesInRun}
 use Rattle.am_parts.proofs.LiveRuns.{changed, fewer, fewer_in_final, ghost_dead, inserted_finds}
-use Rattle.am_parts.proofs.Telling.{tells_fewer, tells_entered}
+use Rattle.am_parts.proofs.DirectoryAnswers.{tells_fewer, tells_entered}
 use Rattle.am_parts.proofs.residences.Residences.add.Goals as goal
 use Rattle.am_parts.proofs.residences.Residences.add.Goals.{else-entry-gt0-via-then-entry-gt0+else-not-entry}
 use Rattle.am_parts.proofs.residences.Residences.add.Goals.{else-entry-gt0-via-else-entry-gt0}

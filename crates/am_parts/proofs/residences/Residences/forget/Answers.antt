@@ -1,7 +1,7 @@
 use Rattle.std.proofs.Common.{ℕ, ◌∙◌, subst, arith, length}
 use Rattle.am_directory.specs.Tables.{HasLeft}
 use Rattle.am_parts.specs.Residences.{LivesWith, Tell}
-use Rattle.am_parts.proofs.Noting.{one_forgotten, all_forgotten}
+use Rattle.am_parts.proofs.NotedKeys.{one_forgotten, all_forgotten}
 use Rattle.am_parts.proofs.residences.Residences.forget.Goals as goal
 
 pub loop-pair-preserved : goal.loop-pair-preserved

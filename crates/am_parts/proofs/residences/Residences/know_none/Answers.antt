@@ -4,7 +4,7 @@ use Rattle.am_record.specs.KeyNumber.{key_number}
 use Rattle.am_record.specs.declared.entry.Entry.{Entry}
 use Rattle.am_directory.specs.Tables.{are_free, residence_of}
 use Rattle.am_directory.specs.declared.residence.Residence.TheVariants.{Nowhere}
-use Rattle.am_parts.proofs.Noting.{first_numbers}
+use Rattle.am_parts.proofs.NotedKeys.{first_numbers}
 use Rattle.am_parts.proofs.residences.Residences.know_none.Goals as goal
 
 pub returns-clause-free : goal.returns-clause-free

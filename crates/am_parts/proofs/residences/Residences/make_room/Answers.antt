@@ -1,5 +1,5 @@
 use Rattle.am_parts.specs.Residences.{LivesInRun}
-use Rattle.am_parts.proofs.Telling.{tells_fewer}
+use Rattle.am_parts.proofs.DirectoryAnswers.{tells_fewer}
 use Rattle.am_parts.proofs.residences.Residences.make_room.Goals as goal
 
 pub returns-clause-same : goal.returns-clause-same

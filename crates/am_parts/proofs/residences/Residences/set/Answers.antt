@@ -2,13 +2,13 @@ use Rattle.std.proofs.Common.{◌≡◌, ◌∙◌, ℕ, true, false, Some, sym,
 use Rattle.std.specs.Prelude.{not}
 use Rattle.std.proofs.lemmas.Bool.{cases_Bool}
 use Rattle.am_directory.specs.Tables.{HasEntered, HasLeft}
-use Rattle.am_list.specs.Entries.{set_entry}
+use Rattle.am_index.specs.Entries.{set_entry}
 use Rattle.am_parts.specs.Residences.{LivesInRun}
 use Rattle.am_parts.proofs.Alive.{differ, alike, contrary}
 use Rattle.am_parts.proofs.LiveRuns.{changed, fewer, fewer_in_final, fewer_still, gone_everywhere, ghost_dead}
 use Rattle.am_parts.proofs.LiveRuns.{reset_finds}
 use Rattle.am_parts.proofs.LiveRuns.{was_there}
-use Rattle.am_parts.proofs.Telling.{tells_fewer, tells_less, tells_entered}
+use Rattle.am_parts.proofs.DirectoryAnswers.{tells_fewer, tells_less, tells_entered}
 use Rattle.am_parts.proofs.residences.Residences.set.Goals as goal
 use Rattle.am_parts.proofs.residences.Residences.set.Goals.{then-part-eq0-via-then-part-eq0}
 use Rattle.am_parts.proofs.residences.Residences.set.Goals.{then-part-eq0-via-else-part-eq0+then-was_live-is_ghost}

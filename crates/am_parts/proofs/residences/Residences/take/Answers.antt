@@ -2,13 +2,13 @@ use Rattle.std.proofs.Common.{◌∙◌, ℕ, Option, None, ap, subst, refl, ari
 use Rattle.std.specs.Prelude.{is_some, not}
 use Rattle.std.specs.Option.{option_map}
 use Rattle.am_record.specs.declared.entry.Entry.{Entry}
-use Rattle.am_list.specs.Content.{live_value}
+use Rattle.am_index.specs.Content.{live_value}
 use Rattle.am_directory.specs.Tables.{HasLeft}
-use Rattle.am_list.specs.Entries.{slot_of, remove_entry}
+use Rattle.am_index.specs.Entries.{slot_of, remove_entry}
 use Rattle.am_parts.specs.Residences.{LivesInRun}
-use Rattle.am_list.proofs.Content.{slot_live}
+use Rattle.am_index.proofs.Content.{slot_live}
 use Rattle.am_parts.proofs.LiveRuns.{fewer, gone_everywhere, none_dead, removed_finds, was_there}
-use Rattle.am_parts.proofs.Telling.{tells_fewer, tells_less}
+use Rattle.am_parts.proofs.DirectoryAnswers.{tells_fewer, tells_less}
 use Rattle.am_parts.proofs.residences.Residences.take.Goals as goal
 
 pub returns-then-entry-eq0 : goal.returns-then-entry-eq0

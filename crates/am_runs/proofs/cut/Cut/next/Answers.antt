@@ -1,7 +1,7 @@
 use Rattle.std.proofs.Common.{◌<◌, Some, ap, ◌∙◌, sym, arith, length, drop, get_or}
 use Rattle.std.specs.Prelude.{slice_get}
 use Rattle.std.proofs.lemmas.List.{drop-drop}
-use Rattle.am_runs.specs.Sorting.{named, runs_named}
+use Rattle.am_runs.specs.RecordPlaces.{named, runs_named}
 use Rattle.am_runs.proofs.Orders.{next_run}
 use Rattle.am_runs.proofs.cut.Cut.next.Goals as goal
 

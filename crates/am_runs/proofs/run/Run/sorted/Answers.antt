@@ -2,7 +2,7 @@ use Rattle.std.proofs.Common.{◌-◌, length, arith, subst}
 use Rattle.std.specs.List.Sorted.{IsPermutation}
 use Rattle.std.proofs.lemmas.List.{take_all}
 use Rattle.am_record.specs.Plain.{Records}
-use Rattle.am_runs.specs.Sorting.{named}
+use Rattle.am_runs.specs.RecordPlaces.{named}
 use Rattle.am_runs.proofs.Sorts.{rising_apart}
 use Rattle.am_runs.proofs.run.Run.sorted.Goals as goal
 

@@ -1,6 +1,6 @@
 use Rattle.std.proofs.Common.{sym, ◌∙◌, ap}
-use Rattle.am_list.specs.Entries.{next_from}
-use Rattle.am_runs.proofs.Walking.{begins}
+use Rattle.am_index.specs.Entries.{next_from}
+use Rattle.am_runs.proofs.PartitionWalks.{begins}
 use Rattle.am_runs.proofs.walk.Walk.descend.Goals as goal
 
 pub returns-in-Some-clause-walk : goal.returns-in-Some-clause-walk

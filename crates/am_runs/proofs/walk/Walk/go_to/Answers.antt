@@ -1,7 +1,7 @@
 use Rattle.std.proofs.Common.{◌≡◌, [], sym, ap, ◌∙◌}
-use Rattle.am_list.specs.Entries.{next_from, all_after}
+use Rattle.am_index.specs.Entries.{next_from, all_after}
 use Rattle.am_runs.specs.Walk.{IsWalkFrom}
-use Rattle.am_runs.proofs.Walking.{comes_to, reads_on, ends, is_none}
+use Rattle.am_runs.proofs.PartitionWalks.{comes_to, reads_on, ends, is_none}
 use Rattle.am_runs.proofs.walk.Walk.go_to.Given.{Over}
 use Rattle.am_runs.proofs.walk.Walk.go_to.Goals as goal
 use Rattle.am_runs.proofs.walk.Walk.go_to.Goals.{After-pass_below-2, then-pass_below-2-via-then-pass_below-2}

@@ -3,7 +3,7 @@ use Rattle.std.specs.Prelude.{is_some}
 use Rattle.std.specs.List.{slice_get}
 use Rattle.std.proofs.lemmas.Option.{slice_get_read, slice_get_past}
 use Rattle.am_record.specs.declared.entry.Entry.{Entry}
-use Rattle.am_runs.proofs.Walking.{passes}
+use Rattle.am_runs.proofs.PartitionWalks.{passes}
 use Rattle.am_runs.proofs.walk.Walk.pass_below.Goals as goal
 use Rattle.am_runs.proofs.walk.Walk.pass_below.Goals.{In-Some, In_default}
 

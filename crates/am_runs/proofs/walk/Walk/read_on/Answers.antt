@@ -2,8 +2,8 @@ use Rattle.std.proofs.Common.{sym, ap, ◌∙◌, ◌++◌, ◌-◌, ◌≡◌, 
 use Rattle.std.proofs.lemmas.Bool.{eqb-false}
 use Rattle.std.specs.List.{slice_get}
 use Rattle.std.specs.Option.{option_copied}
-use Rattle.am_list.specs.Entries.{all_after}
-use Rattle.am_runs.proofs.Walking.{follows, none_read, no_rest}
+use Rattle.am_index.specs.Entries.{all_after}
+use Rattle.am_runs.proofs.PartitionWalks.{follows, none_read, no_rest}
 use Rattle.am_runs.proofs.walk.Walk.read_on.Given.{Over}
 use Rattle.am_runs.proofs.walk.Walk.read_on.Goals as goal
 use Rattle.am_runs.proofs.walk.Walk.read_on.Goals.{After-is_full, in-Some, in_default}

@@ -4,11 +4,11 @@ use Rattle.std.specs.List.{cons_option}
 use Rattle.std.specs.BinaryHeap.{heap_items, heap_len}
 use Rattle.am_record.specs.Interval.{Interval}
 use Rattle.am_record.specs.Plain.{Records}
-use Rattle.am_list.specs.Content.{content, rows_in}
+use Rattle.am_index.specs.Content.{content, rows_in}
 use Rattle.am_scan.specs.Heads.{Stand}
 use Rattle.am_scan.specs.Cursors.{AreAhead, rows_ahead}
-use Rattle.am_scan.proofs.Taking.{no_length}
-use Rattle.am_scan.proofs.Merging.{alone_rows}
+use Rattle.am_scan.proofs.TakenRows.{no_length}
+use Rattle.am_scan.proofs.LeastRecords.{alone_rows}
 use Rattle.am_scan.proofs.cursor.Cursor.copy_rest.Goals as goal
 
 pub returns-clause-copied : goal.returns-clause-copied

@@ -2,11 +2,12 @@ use Rattle.std.proofs.Common.{◌≡◌, [], ◌∷◌, Option, Some, slice_get,
 use Rattle.std.specs.Option.{MatchOption}
 use Rattle.std.specs.List.{cons_option}
 use Rattle.std.specs.BinaryHeap.{heap_items, IsUpperBound}
-use Rattle.am_list.specs.Content.{content}
+use Rattle.am_index.specs.Content.{content}
 use Rattle.am_scan.specs.Heads.{Stand, head_cmp}
 use Rattle.am_scan.specs.Cursors.{AreAhead, rows_ahead}
-use Rattle.am_scan.proofs.Merging.{at_end, none_left, standing, moves_on, moves_first, ends_on, ends_first, is_first}
-use Rattle.am_scan.proofs.Merging.{is_rest}
+use Rattle.am_scan.proofs.LeastRecords.{at_end, none_left, standing, moves_on, moves_first, ends_on, ends_first}
+use Rattle.am_scan.proofs.LeastRecords.{is_first}
+use Rattle.am_scan.proofs.LeastRecords.{is_rest}
 use Rattle.am_scan.proofs.cursor.Cursor.next.Goals as goal
 use Rattle.am_scan.proofs.cursor.Cursor.next.Goals.{in-Some-1, in-None-1}
 

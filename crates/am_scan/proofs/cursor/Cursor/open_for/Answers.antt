@@ -1,4 +1,4 @@
-use Rattle.am_scan.proofs.Merging.{begins, has_all_rows}
+use Rattle.am_scan.proofs.LeastRecords.{begins, has_all_rows}
 use Rattle.am_scan.proofs.cursor.Cursor.open_for.Goals as goal
 
 pub invariant_of-result : goal.invariant_of-result

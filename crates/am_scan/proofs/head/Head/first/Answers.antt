@@ -1,7 +1,7 @@
 use Rattle.std.proofs.Common.{take, ap, sym, ◌∙◌, arith}
 use Rattle.std.proofs.lemmas.Bool.{eqb-false}
-use Rattle.am_list.specs.Content.{rows_in}
-use Rattle.am_scan.proofs.Moving.{begins_at}
+use Rattle.am_index.specs.Content.{rows_in}
+use Rattle.am_scan.proofs.HeadMoves.{begins_at}
 use Rattle.am_scan.proofs.head.Head.first.Goals as goal
 
 pub returns-clause-some : goal.returns-clause-some

@@ -1,8 +1,8 @@
 use Rattle.std.proofs.Common.{ℕ, ◌<◌, ◌↔◌, IsTrue, length, take, vec_capacity, sym, ap, ◌∙◌, subst}
 use Rattle.am_record.specs.Interval.{Interval}
-use Rattle.am_list.specs.Content.{rows_in}
+use Rattle.am_index.specs.Content.{rows_in}
 use Rattle.am_scan.specs.Heads.{Stand, stand_at, HasReadSome}
-use Rattle.am_scan.proofs.Moving.{read_anew}
+use Rattle.am_scan.proofs.HeadMoves.{read_anew}
 use Rattle.am_scan.proofs.head.Head.look_ahead.Goals as goal
 
 pub returns-clause-ready : goal.returns-clause-ready

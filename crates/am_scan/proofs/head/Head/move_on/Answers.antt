@@ -1,7 +1,7 @@
 use Rattle.std.proofs.Common.{◌+◌, ◌<◌, ◌≤◌, length, sym, ap, ◌∙◌, subst, arith}
 use Rattle.am_record.specs.Interval.{within}
 use Rattle.am_scan.specs.Heads.{Stand, HasReadSome}
-use Rattle.am_scan.proofs.Moving.{ends_here, goes_on_here, same_old, none_of_old}
+use Rattle.am_scan.proofs.HeadMoves.{ends_here, goes_on_here, same_old, none_of_old}
 use Rattle.am_scan.proofs.head.Head.move_on.Goals as goal
 
 pub returns-then-self-len-clause-ended : goal.returns-then-self-len-clause-ended

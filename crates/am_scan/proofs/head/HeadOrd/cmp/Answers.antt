@@ -1,7 +1,7 @@
 use Rattle.std.proofs.Common.{ap, ◌∙◌}
 use Rattle.am_record.specs.KeyFront.{key_front}
 use Rattle.am_scan.specs.Heads.{Stand}
-use Rattle.am_scan.proofs.Leading.{fronts_tell}
+use Rattle.am_scan.proofs.LeastHeads.{fronts_tell}
 use Rattle.am_scan.proofs.head.HeadOrd.cmp.Goals as goal
 
 pub returns-in_default : goal.returns-in_default

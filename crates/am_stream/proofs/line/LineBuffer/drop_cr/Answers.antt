@@ -1,6 +1,6 @@
 use Rattle.std.proofs.Common.{◌≤◌, length, arith, ◌∙◌, sym, ap}
 use Rattle.am_stream.specs.Lines.{without_cr}
-use Rattle.am_stream.proofs.Cutting.{cr_there, cr_not_there}
+use Rattle.am_stream.proofs.CutLines.{cr_there, cr_not_there}
 use Rattle.am_stream.proofs.line.LineBuffer.drop_cr.Goals as goal
 
 pub returns-then-index-eq13 : goal.returns-then-index-eq13

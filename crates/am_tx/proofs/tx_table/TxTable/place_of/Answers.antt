@@ -1,7 +1,7 @@
 use Rattle.std.proofs.Common.{◌≡◌, ◌==◌, position, IsSome, subst, sym, ap, ◌∙◌}
-use Rattle.am_record.specs.Numbered.{RiseBy}
-use Rattle.am_record.proofs.Numbered.{AreOnce, AreOnce-RiseBy, position-map, position-found, position-number}
-use Rattle.am_record.proofs.Numbered.{of_number-at, set-with_changed}
+use Rattle.am_record.specs.ByNumber.{RiseBy}
+use Rattle.am_record.proofs.ByNumber.{AreOnce, AreOnce-RiseBy, position-map, position-found, position-number}
+use Rattle.am_record.proofs.ByNumber.{of_number-at, set-with_changed}
 use Rattle.am_tx.specs.declared.transaction.Transaction.{Transaction}
 use Rattle.am_tx.specs.Active.{no_notes, tx_numbers}
 use Rattle.am_tx.specs.Txs.{Txs}

@@ -1,6 +1,6 @@
 use Rattle.std.proofs.Common.{List, reverse, sym, ap, ◌∙◌, subst}
 use Rattle.am_record.proofs.Newest.{since_mark_is, until_mark_is}
-use Rattle.am_list.specs.Entries.{find}
+use Rattle.am_index.specs.Entries.{find}
 use Rattle.am_undo.specs.declared.note.Note.{Note}
 use Rattle.am_undo.specs.Log.{Log}
 use Rattle.am_undo.specs.Notes.{TakesBack, CanTakeBack, NotesFit}

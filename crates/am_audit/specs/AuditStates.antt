@@ -1,0 +1,24 @@
+-- Where an audit stands after the events that it has judged.
+use Rattle.std.specs.Prelude.{◌≡◌, ◌+◌, ◌<◌, ◌^◌, length, Option, Some, None}
+use Rattle.am_serial.specs.Trace.{Trace}
+use Rattle.am_serial.specs.Legal.{IsLegal}
+use Rattle.am_audit.specs.Faults.{IsTrueFault}
+use Rattle.am_audit.specs.Progress.{IsAt, progress_of}
+use Rattle.am_audit.specs.declared.fault.Fault.{Fault}
+use Rattle.am_audit.specs.declared.checker.Checker.{Checker}
+use Rattle.am_audit.specs.declared.trace_audit.Audit.{Audit}
+
+-- the events are legal and the audit stands behind them, or they have the fault
+abbrev pub IsSoFar : Option Fault → Checker → Trace → Type 0
+IsSoFar None checker seen = IsAt checker (progress_of seen) × IsLegal seen
+IsSoFar (Some fault) checker seen = IsTrueFault seen fault
+
+pub record HasJudged (a : Audit) (seen : Trace) : Type 0 where
+  pub count : a.seen ≡ length seen
+  pub so_far : IsSoFar a.fault a.checker seen
+
+-- it can go on
+pub record CanJudge (a : Audit) : Type 0 where
+  pub seen : Trace
+  pub judged : HasJudged a seen
+  pub room : length seen + 2 < 2 ^ 63

@@ -1,0 +1,46 @@
+-- A session alone: its backend may give any reply.
+use Rattle.std.specs.Prelude.{◌≡◌, ℕ, ◌+◌, List, Option, None}
+use Rattle.am_record.specs.Sessions.{active_after}
+use Rattle.am_record.specs.declared.step.Step.{Step}
+use Rattle.am_record.specs.declared.step.Step.TheVariants.{Commit}
+use Rattle.am_record.specs.declared.step.Reply.{Reply}
+use Rattle.am_record.specs.declared.step.Reply.TheVariants.{Committed}
+use Rattle.am_serial.specs.Trace.{Trace}
+use Rattle.am_dialogue.specs.Exchanges.{Exchange}
+use Rattle.am_dialogue.specs.Backends.{BackendMeaning}
+use Rattle.am_dialogue.specs.Conversation.{AnswersAll}
+
+-- its active transaction, and the commits so far
+pub record Alone : Type 0 where
+  pub active : Option ℕ
+  pub commits : ℕ
+
+abbrev pub alone_start : Alone
+alone_start = record { active = None; commits = 0 }
+
+-- how many commits there are after a step
+abbrev pub commits_after : ℕ → Step → Reply → ℕ
+commits_after commits (Commit tx) (Committed number) = commits + 1
+commits_after commits _ _ = commits
+
+abbrev pub alone_after : Alone → Step → Reply → Alone
+alone_after a step reply = record {
+  active = active_after a.active reply;
+  commits = commits_after a.commits step reply;
+}
+
+-- SEEN shows 0, a session alone, and the commits
+abbrev pub AloneShows : Alone → ℕ → ℕ → Alone → Type 0
+AloneShows old session commits new = (session ≡ 0) × (commits ≡ old.commits) × (new ≡ old)
+
+abbrev pub alone_meaning : BackendMeaning Alone
+alone_meaning = record {
+  active = λ a. a.active;
+  steps = λ old step reply new. new ≡ alone_after old step reply;
+  shows = AloneShows;
+}
+
+-- from its start on the lines were answered so, with these events
+abbrev pub AnswersAlone : ℕ → List Exchange → Option Exchange → Trace → Type 0
+AnswersAlone auto exchanges torn events = (end : Alone) ×
+    AnswersAll alone_meaning auto alone_start exchanges torn events end

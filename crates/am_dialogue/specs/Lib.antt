@@ -1,0 +1,10 @@
+pub mod ParsedLine
+pub mod Session
+pub mod Actions
+pub mod Responses
+pub mod Exchanges
+pub mod Backends
+pub mod Conversation
+pub mod Alone
+pub mod Say
+pub mod StagedLoads

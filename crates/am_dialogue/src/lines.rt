@@ -1,0 +1,40 @@
+//! What a line says.
+
+ghost use Rattle.std.specs.Prelude.{◌≡◌};
+ghost use Rattle.am_stream.specs.LineAnswers.{seen};
+ghost use Rattle.am_dialogue.specs.ParsedLine.{MayParse, is_quit};
+
+use am_stream::LineKind;
+use am_text::LineFault;
+use am_wire::{Request, parse_line};
+use std::alloc::Global;
+
+/// What a line says.
+#[derive(Debug, PartialEq, Eq, Drop)]
+pub enum ParsedLine {
+    Asked(Request),
+    Faulty(LineFault),
+    TooLong,
+}
+
+/// Reads a line that was cut from the input. Only the records that it brings take memory.
+pub fn parse(alloc: Global, kind: LineKind, line: &[u8]) -> ParsedLine
+    ensures { MayParse (seen kind line.now) result }
+{
+    match kind {
+        LineKind::Long => ParsedLine::TooLong,
+        LineKind::Text => match parse_line(alloc, line) {
+            Ok(request) => ParsedLine::Asked(request),
+            Err(fault) => ParsedLine::Faulty(fault),
+        },
+    }
+}
+
+impl ParsedLine {
+    /// Whether the session ends here.
+    pub fn is_quit(&self) -> bool
+        ensures { result ≡ is_quit self.now }
+    {
+        matches!(self, ParsedLine::Asked(Request::Quit))
+    }
+}

@@ -1,0 +1,64 @@
+//! When the keeper has its rounds.
+
+ghost use Rattle.std.specs.Prelude.{◌≡◌};
+ghost use Rattle.am_doors.specs.Gates.{ends_round};
+
+use std::sync::Wait;
+use std::sync::atomic::{AtomicU64, Ordering};
+use std::time::Duration;
+
+const ROUND_MILLIS: u64 = 100;
+
+/// So many answers end a round, so that what is kept of their steps stays small.
+const ANSWERS: u64 = 1024;
+
+/// How long a round is, where nothing ends it.
+pub(crate) fn round_length() -> Duration {
+    Duration::from_millis(ROUND_MILLIS)
+}
+
+// Whether a round ends where so many lines are answered behind others.
+fn ends_round(before: u64, lines: u64) -> bool
+    ensures { result ≡ ends_round before lines }
+{
+    before / ANSWERS < before.saturating_add(lines) / ANSWERS
+}
+
+/// Rounds one after another: each ends after a tenth of a second, or where many lines were answered.
+#[derive(Drop)]
+pub(crate) struct Rounds {
+    // Only rises, so that the keeper, which waits at the value it has seen, misses no end.
+    ended: AtomicU64,
+    seen: AtomicU64,
+}
+
+impl Rounds {
+    pub(crate) fn new() -> Rounds {
+        Rounds {
+            ended: AtomicU64::new(0),
+            seen: AtomicU64::new(0),
+        }
+    }
+
+    /// So many lines were answered, and before them so many.
+    pub(crate) fn count_answers(&self, before: u64, lines: u64) {
+        if ends_round(before, lines) {
+            self.end();
+        }
+    }
+
+    /// The round ends.
+    pub(crate) fn end(&self) {
+        self.ended.fetch_add(1, Ordering::SeqCst);
+        self.ended.wake_all();
+    }
+
+    /// Returns at the end of the round. One thread alone waits so.
+    pub(crate) fn await_end<R: Wait>(&self, rt: &R) {
+        let seen = self.seen.load(Ordering::SeqCst);
+        self.ended
+            .park_timeout(rt, (seen % (1 << 32)) as u32, round_length());
+        self.seen
+            .store(self.ended.load(Ordering::SeqCst), Ordering::SeqCst);
+    }
+}

@@ -1,5 +1,0 @@
-use Rattle.am_list.proofs.ReadLaws.{read_laws}
-use Rattle.am_list.proofs.laws.reads_follow.Goals as goal
-
-pub returns : goal.returns
-returns c = read_laws

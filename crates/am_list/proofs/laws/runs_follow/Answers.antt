@@ -1,5 +1,0 @@
-use Rattle.am_list.proofs.RunLaws.{run_laws}
-use Rattle.am_list.proofs.laws.runs_follow.Goals as goal
-
-pub returns : goal.returns
-returns c = λ es rising. run_laws es rising

@@ -1,5 +1,0 @@
-use Rattle.am_list.proofs.WalkLaws.{walk_laws}
-use Rattle.am_list.proofs.laws.walks_follow.Goals as goal
-
-pub returns : goal.returns
-returns c = walk_laws

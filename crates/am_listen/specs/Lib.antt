@@ -1,5 +1,0 @@
-pub mod ServerRuns
-pub mod Pieces
-pub mod Stops
-pub mod Told
-pub mod Listeners

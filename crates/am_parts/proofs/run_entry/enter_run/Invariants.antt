@@ -1,0 +1,18 @@
+use Rattle.std.proofs.Common.{◌≡◌, ◌+◌, ◌<◌, ◌≤◌, ℕ, false, length, get_or}
+use Rattle.am_record.proofs.FirstRows.{Record}
+use Rattle.am_parts.specs.Ahead.{AreFreeAhead, AreNumbersAhead}
+use Rattle.am_parts.specs.Partitions.{LivesInNoRun}
+use Rattle.am_parts.specs.Residences.{LivesWith, Tell, HasRoomFor}
+use Rattle.am_parts.proofs.run_entry.enter_run.Given as goal
+
+abbrev pub invariant-loop-at : goal.invariant-loop-at
+invariant-loop-at g l = record {
+  told : Tell (LivesWith (g.I.PartIndex.entries l.index) l.part l.pairs 0 l.at) l.residences;
+  dead : (i : ℕ) (r : Record) → i < l.at → LivesInNoRun (g.I.PartIndex.entries l.index) (get_or l.pairs i r).0;
+  room : (keys : ℕ) → keys + l.at ≤ length l.pairs → HasRoomFor l.residences keys;
+  reached : l.at ≤ l.ahead.end;
+  hash : l.residences.hash ≡ l.fn.residences.hash;
+  numbers : AreNumbersAhead l.fn.residences.hash l.pairs l.at l.ahead;
+  free : AreFreeAhead (g.I.PartIndex.entries l.index) l.pairs l.at l.ahead;
+  lost : l.fn.residences.directory.is_lost ≡ false → l.residences.directory.is_lost ≡ false;
+}

@@ -1,0 +1,125 @@
+//! What a server that stays says on standard error while it runs.
+
+use crate::fault::ListenFault;
+use crate::outbox::Outbox;
+use am_command::Listening;
+use am_doors::SessionCounts;
+use am_parts::Figures;
+use am_server::{Counts, Watcher};
+use am_trace_writer::{EventCounts, TraceCounts};
+use std::io;
+use std::rt::Clock;
+use std::sync::Wait;
+use std::time::{Duration, Instant};
+
+/// How often it is told how the server does.
+const LOG_SECONDS: u64 = 60;
+
+/// Says once what goes wrong, and each minute and at the end how the server does, where that is asked for.
+#[derive(Drop)]
+pub(crate) struct Console<'a, R> {
+    rt: &'a R,
+    outbox: &'a Outbox,
+    is_logged: bool,
+    told_at: Option<Instant>,
+    told_accept: bool,
+    told_cut: bool,
+}
+
+impl<'a, R: Eprint + Clock + Wait> Console<'a, R> {
+    /// Of a bounded server nothing is said while it runs.
+    pub(crate) fn new(rt: &'a R, outbox: &'a Outbox, listening: &Listening<'_>) -> Console<'a, R> {
+        Console {
+            rt,
+            outbox,
+            is_logged: listening.is_logged,
+            told_at: Instant::now(rt).ok(),
+            told_accept: !listening.stays,
+            told_cut: !listening.stays,
+        }
+    }
+
+    // Whether a minute has passed since it was told.
+    fn is_due(&self) -> bool {
+        match self.told_at {
+            Some(at) => at
+                .elapsed(self.rt)
+                .is_ok_and(|past| past >= Duration::from_secs(LOG_SECONDS)),
+            None => false,
+        }
+    }
+
+    fn log(&self, counts: &Counts) {
+        let Counts {
+            sessions,
+            trace: TraceCounts { events, kept, of },
+            index,
+            is_cut,
+        } = *counts;
+        let SessionCounts {
+            begun,
+            open,
+            refused_by_system: unaccepted,
+            ..
+        } = sessions;
+        let EventCounts {
+            commits,
+            busy,
+            too_many,
+            wrong,
+        } = of;
+        let Figures {
+            in_final,
+            in_runs,
+            runs,
+            ghosts,
+            ..
+        } = index;
+        let is_cut = is_cut || self.outbox.is_failed();
+        let trace = if is_cut { "cut" } else { "whole" };
+        let _ = eprint!(self.rt;
+            "sessions={begun} open={open} steps={events} commits={commits} busy={busy} "
+        );
+        let _ = eprint!(self.rt;
+            "too_many={too_many} wrong={wrong} in_final={in_final} in_runs={in_runs} runs={runs} "
+        );
+        let waiting = self.outbox.len(self.rt);
+        let _ = eprintln!(self.rt;
+            "ghosts={ghosts} kept={kept} waiting={waiting} unaccepted={unaccepted} trace={trace}"
+        );
+    }
+
+    // Says once that a connection couldn't be accepted, and why, as the system has it.
+    fn tell_accept(&mut self, sessions: &SessionCounts) {
+        if sessions.refused_by_system == 0 || self.told_accept {
+            return;
+        }
+        if let Some(number) = sessions.first_refusal {
+            let why = io::Error::from_raw_os_error(number);
+            let _ = eprintln!(self.rt; "amserve: a connection: {why}");
+        }
+        self.told_accept = true;
+        let _ = eprintln!(self.rt; "{}", ListenFault::CannotAccept.words());
+    }
+
+    // Says once that the trace is cut, unless its file said so.
+    fn tell_cut(&mut self, counts: &Counts) {
+        if counts.is_cut && !self.outbox.is_failed() && !self.told_cut {
+            self.told_cut = true;
+            let _ = eprintln!(self.rt; "{}", ListenFault::CannotWriteTrace.words());
+        }
+    }
+}
+
+impl<'a, R: Eprint + Clock + Wait> Watcher for Console<'a, R> {
+    ghost saw = { λ _ _ _ _. Unit {0} };
+
+    fn look(&mut self, counts: &Counts, is_last: bool) {
+        self.tell_accept(&counts.sessions);
+        self.tell_cut(counts);
+        if self.is_logged && (is_last || self.is_due()) {
+            self.log(counts);
+            self.told_at = Instant::now(self.rt).ok();
+        }
+    }
+}

@@ -1,0 +1,324 @@
+//! Serving at a port: what comes before the sessions, and behind them.
+//!
+//! Each part has a frame of its own, beside that of the words, so that none is large.
+
+ghost use Rattle.std.specs.Prelude.{◌≤◌};
+
+use crate::console::Console;
+use crate::fault::ListenFault;
+use crate::growing_file::GrowingFile;
+use crate::outbox::{Outbox, Sending};
+use crate::trace_file::TraceFile;
+use am_command::Listening;
+use am_doors::Mode;
+use am_server::{BindFault, Keeping, PortListener, Watcher, bind};
+use am_session::draw_hash_key;
+use am_trace_writer::{LetGo, PieceTaker, TraceWriter};
+use std::fs::File;
+use std::io::{BufRead, BufReader};
+use std::net::{Net, TcpListener, TcpStream};
+use std::process::ExitCode;
+use std::random::RandomSource;
+use std::rt::{Clock, Files};
+use std::sync::Wait;
+use std::thread::Threads;
+use std::time::Duration;
+use std::{fs, io};
+
+pub(crate) type Writer<'a, R> = TraceWriter<Sending<'a, R>>;
+
+/// What is there before the first connection: a port, and where one is named the file for the trace.
+#[derive(Drop)]
+pub(crate) struct Opened {
+    pub(crate) port: PortListener,
+    pub(crate) file: Option<TraceFile>,
+}
+
+/// Opens what is named, begins the trace with a writer of it, and says which port it is. Where that doesn't go it says
+/// why, and how the program ends.
+#[inline(never)]
+pub(crate) fn make_ready<
+    'a,
+    R: AllocGlobal
+        + Files<File = File>
+        + Net<Listener = TcpListener, Stream = TcpStream>
+        + Print
+        + Eprint
+        + Wait,
+>(
+    rt: &'a R,
+    listening: &Listening<'_>,
+    outbox: &'a Outbox,
+) -> Result<(Opened, Option<Writer<'a, R>>), io::Result<ExitCode>> {
+    let opened = match open(rt, listening, outbox) {
+        Ok(opened) => opened,
+        Err(fault) => return Err(tell(rt, fault)),
+    };
+    let writer = match begin_trace(rt, listening, outbox) {
+        Ok(writer) => writer,
+        // The file said what fails.
+        Err(fault) if outbox.is_failed() => return Err(Ok(ExitCode::from(fault.status()))),
+        Err(fault) => return Err(tell(rt, fault)),
+    };
+    match say_port(rt, &opened.port, listening, opened.file.as_ref()) {
+        Ok(()) => Ok((opened, writer)),
+        Err(fault) => Err(Err(fault)),
+    }
+}
+
+/// What a server did.
+#[derive(Clone, Copy, Debug)]
+pub(crate) struct Served {
+    events: u64,
+    commits: u64,
+    accepted_all: bool,
+    is_cut: bool,
+}
+
+// Says which port it is. Where that can't be said nothing is left of the trace and the socket.
+fn say_port<R: Files + Print>(
+    rt: &R,
+    port: &PortListener,
+    listening: &Listening<'_>,
+    file: Option<&TraceFile>,
+) -> io::Result<()> {
+    let said = println!(rt; "LISTEN {}", port.port());
+    if said.is_err() {
+        forget(rt, file);
+        remove_socket(rt, listening);
+    }
+    said
+}
+
+fn remove_socket<R: Files>(rt: &R, listening: &Listening<'_>) {
+    if let Some(path) = listening.socket {
+        let _ = fs::remove_file(rt, path);
+    }
+}
+
+// The file for the trace, where one is named, which the outbox gets, and then the port.
+#[inline(never)]
+fn open<
+    R: AllocGlobal
+        + Files<File = File>
+        + Net<Listener = TcpListener, Stream = TcpStream>
+        + Eprint
+        + Wait,
+>(rt: &R, listening: &Listening<'_>, outbox: &Outbox) -> Result<Opened, ListenFault> {
+    let name = name_to_tell(rt, listening)?;
+    let opened = match listening.trace {
+        Some(path) if listening.stays => Some(TraceFile::open_or_say(rt, path)?),
+        Some(path) => Some(TraceFile::open_beside(rt, path)?),
+        None => None,
+    };
+    let Ok(port) = open_doors(rt, listening) else {
+        if let Some((file, _)) = &opened {
+            file.forget(rt);
+        }
+        return Err(ListenFault::CannotListen);
+    };
+    let Some((file, grown)) = opened else {
+        return Ok(Opened { port, file: None });
+    };
+    outbox.give_file(rt, GrowingFile::new(grown, name));
+    Ok(Opened {
+        port,
+        file: Some(file),
+    })
+}
+
+// The writer of the trace, where a file is named, which has written its first line.
+#[inline(never)]
+fn begin_trace<'a, R: AllocGlobal + Files + Eprint + Wait>(
+    rt: &'a R,
+    listening: &Listening<'_>,
+    outbox: &'a Outbox,
+) -> Result<Option<Writer<'a, R>>, ListenFault> {
+    if listening.trace.is_none() {
+        return Ok(None);
+    }
+    let writer = TraceWriter::begin(rt.alloc(), Sending::new(rt, outbox));
+    if listening.stays && writer.is_cut() {
+        remove_socket(rt, listening);
+        return Err(ListenFault::CannotWriteTrace);
+    }
+    Ok(Some(writer))
+}
+
+// The name by which the file is told: a bounded server tells none.
+fn name_to_tell<R: AllocGlobal>(
+    rt: &R,
+    listening: &Listening<'_>,
+) -> Result<Option<String>, ListenFault> {
+    match listening.trace {
+        Some(path) if listening.stays => match String::from_str(rt.alloc(), path) {
+            Ok(name) => Ok(Some(name)),
+            Err(_) => Err(ListenFault::NoMemory),
+        },
+        _ => Ok(None),
+    }
+}
+
+// The port, and where one is named the socket.
+fn open_doors<R: AllocGlobal + Files + Net<Listener = TcpListener, Stream = TcpStream>>(
+    rt: &R,
+    listening: &Listening<'_>,
+) -> Result<PortListener, BindFault> {
+    let port = bind(rt, listening.port)?;
+    match listening.socket {
+        Some(path) => port.with_socket(rt, path),
+        None => Ok(port),
+    }
+}
+
+fn forget<R: Files>(rt: &R, file: Option<&TraceFile>) {
+    if let Some(file) = file {
+        file.forget(rt);
+    }
+}
+
+/// Has the server stop once a line STOP, or the end of standard input or a fault of it, has come.
+#[inline(never)]
+pub(crate) fn stop_at_word<
+    R: AllocGlobal + Input + Net<Listener = TcpListener, Stream = TcpStream> + Wait + Clock,
+>(rt: &R, port: &PortListener) {
+    await_stop(rt);
+    port.stop(rt);
+}
+
+fn await_stop<R: AllocGlobal + Input>(rt: &R) {
+    let Ok(input) = BufReader::new(rt.alloc(), rt.reader()) else {
+        return;
+    };
+    for line in input.lines(rt.alloc()) {
+        match line {
+            Ok(text) if text.as_str().trim_end() != "STOP" => {}
+            _ => return,
+        }
+    }
+}
+
+/// Serves so many sessions, or so many at once until a stop, with so many workers beside them, on a store whose hash
+/// key no stranger knows.
+#[inline(never)]
+pub(crate) fn serve<R: Threads + Wait + RandomSource + Clock + Eprint + Sync>(
+    rt: &R,
+    port: &PortListener,
+    listening: &Listening<'_>,
+    sessions: u64,
+    workers: u64,
+    outbox: &Outbox,
+    writer: Option<Writer<'_, R>>,
+) -> Result<Served, ListenFault>
+    requires sessions { (1 ≤ sessions) × (sessions ≤ 256) }
+    requires workers { workers ≤ 16 }
+{
+    match writer {
+        Some(writer) => serve_with(rt, port, listening, sessions, workers, outbox, writer),
+        None => serve_with(rt, port, listening, sessions, workers, outbox, LetGo),
+    }
+}
+
+fn serve_with<
+    R: Threads + Wait + RandomSource + Clock + Eprint + Sync,
+    T: PieceTaker + Drop + Send,
+>(
+    rt: &R,
+    port: &PortListener,
+    listening: &Listening<'_>,
+    sessions: u64,
+    workers: u64,
+    outbox: &Outbox,
+    pieces: T,
+) -> Result<Served, ListenFault>
+    requires sessions { (1 ≤ sessions) × (sessions ≤ 256) }
+    requires workers { workers ≤ 16 }
+{
+    let keeping = Keeping {
+        pieces,
+        watcher: Console::new(rt, outbox, listening),
+        grace: listening.grace.map(Duration::from_secs),
+        idle: listening.idle.map(Duration::from_secs),
+    };
+    let mode = if listening.stays {
+        Mode::Staying
+    } else {
+        Mode::Bounded
+    };
+    serve_kept(rt, port, mode, sessions, workers, keeping)
+}
+
+// Serves, whoever takes the trace and looks at the server.
+fn serve_kept<
+    R: Threads + Wait + RandomSource + Clock + Sync,
+    T: PieceTaker + Drop + Send,
+    V: Watcher + Drop + Send,
+>(
+    rt: &R,
+    port: &PortListener,
+    mode: Mode,
+    sessions: u64,
+    workers: u64,
+    keeping: Keeping<T, V>,
+) -> Result<Served, ListenFault>
+    requires sessions { (1 ≤ sessions) × (sessions ≤ 256) }
+    requires workers { workers ≤ 16 }
+{
+    match port.serve(rt, mode, sessions, workers, draw_hash_key(rt), keeping) {
+        Ok(run) => Ok(Served {
+            events: run.events,
+            commits: run.commits,
+            accepted_all: run.accepted_all,
+            is_cut: run.pieces.is_cut(),
+        }),
+        Err(_) => Err(ListenFault::NoMemory),
+    }
+}
+
+/// Stores the trace, unless some of its text could not be written, and tells what was done. The program's status.
+#[inline(never)]
+pub(crate) fn close<R: Files + Print + Eprint>(
+    rt: &R,
+    listening: &Listening<'_>,
+    file: Option<&TraceFile>,
+    is_failed: bool,
+    served: Result<Served, ListenFault>,
+) -> io::Result<ExitCode> {
+    remove_socket(rt, listening);
+    let stays = listening.stays;
+    let served = match served {
+        Ok(served) => served,
+        Err(fault) => {
+            forget(rt, file);
+            return tell(rt, fault);
+        }
+    };
+    let stored = store(rt, file, served.is_cut || is_failed);
+    if stays || stored.is_ok() {
+        println!(rt; "CLOSED {} {}", served.events, served.commits)?;
+    }
+    match stored {
+        // A server that stays said what fails when it failed.
+        Err(fault) if stays => Ok(ExitCode::from(fault.status())),
+        _ if !stays && !served.accepted_all => tell(rt, ListenFault::CannotAccept),
+        Err(fault) => tell(rt, fault),
+        Ok(()) => Ok(ExitCode::SUCCESS),
+    }
+}
+
+fn store<R: Files>(rt: &R, file: Option<&TraceFile>, is_cut: bool) -> Result<(), ListenFault> {
+    if is_cut {
+        forget(rt, file);
+        return Err(ListenFault::CannotWriteTrace);
+    }
+    match file {
+        Some(file) => file.keep(rt),
+        None => Ok(()),
+    }
+}
+
+// Says what is wrong, and answers the program's status.
+fn tell<R: Eprint>(rt: &R, fault: ListenFault) -> io::Result<ExitCode> {
+    eprintln!(rt; "{}", fault.words())?;
+    Ok(ExitCode::from(fault.status()))
+}

@@ -1,0 +1,112 @@
+-- What a server leaves, and what its sessions leave of their seats.
+use Rattle.std.specs.Prelude.{◌≡◌, ◌⊎◌, ℕ, zero, suc, ◌<◌, ◌≤◌, List, [], ◌++◌, map, length, All, Option}
+use Rattle.am_serial.specs.Trace.{Trace}
+use Rattle.am_sound.specs.Right.{IsSoundStore}
+use Rattle.am_serial.specs.Legal.{IsLegal}
+use Rattle.am_latch.specs.Receipts.{SeatState, AreReceiptsOf}
+use Rattle.am_core.specs.StoreSteps.{IsSoundAt}
+use Rattle.am_sound.specs.StoreState.{StoreState}
+use Rattle.am_dialogue.specs.Exchanges.{Exchange}
+use Rattle.am_dialogue.specs.Conversation.{AnswersAll}
+use Rattle.am_session_seat.specs.SessionSeats.{SessionSeatState, IsNumbered, seat_meaning}
+use Rattle.am_workers.specs.Turns.{AreOfTurns, HasTakenTurns}
+use Rattle.am_trace_writer.specs.Events.{add_count}
+use Rattle.am_doors.specs.Modes.{most_sessions, most_turns, upkeep_of}
+use Rattle.am_doors.specs.declared.mode.Mode.{Mode}
+use Rattle.am_server.specs.declared.server_run.ServerRun.{ServerRun}
+
+-- the numbers of seats, and of those of sessions
+abbrev pub seat_numbers : List SeatState → List ℕ
+seat_numbers seats = map (λ (s : SeatState). s.number) seats
+
+abbrev pub session_seat_numbers : List SessionSeatState → List ℕ
+session_seat_numbers session_seats = map (λ (p : SessionSeatState). p.seat.number) session_seats
+
+-- the seats of the latch
+abbrev pub latch_seats : List SessionSeatState → List SeatState
+latch_seats session_seats = map (λ (p : SessionSeatState). p.seat) session_seats
+
+-- there is no receipt yet
+abbrev pub IsNewSeat : SeatState → Type 0
+IsNewSeat s = s.receipts ≡ []
+
+abbrev pub HasNewSeat : SessionSeatState → Type 0
+HasNewSeat p = IsNewSeat p.seat
+
+abbrev pub HasSameSeat : SessionSeatState → SessionSeatState → Type 0
+HasSameSeat p q = q.seat.number ≡ p.seat.number
+
+-- lines were answered there, the last of them perhaps by an answer that was torn, and what was open was aborted; or
+-- none was
+abbrev pub WasServed : SessionSeatState → SessionSeatState → Type 0
+WasServed p q = (q ≡ p) ⊎
+    ((exchanges : List Exchange) × (torn : Option Exchange) × (events : Trace) ×
+    AnswersAll seat_meaning 0 p exchanges torn events q)
+
+-- the same seat, with the same receipts, whether they were let go or not
+pub record HasSameReceipts (p q : SessionSeatState) : Type 0 where
+  pub number : q.seat.number ≡ p.seat.number
+  pub receipts : q.seat.receipts ≡ p.seat.receipts
+
+-- So many sessions were served at the seat, one after another: each with a number that was drawn for it, and from the
+-- receipts that the one before left.
+abbrev pub ServedInTurn : SessionSeatState → ℕ → SessionSeatState → Type 0
+ServedInTurn p zero q = HasSameReceipts p q
+ServedInTurn p (suc n) q = (before began ended : SessionSeatState) × ServedInTurn p n before ×
+    HasSameReceipts before began × IsNumbered began × WasServed began ended × HasSameReceipts ended q
+
+-- no receipt is held, unless 10^14 were let go
+abbrev pub HoldsNoReceipt : SeatState → Type 0
+HoldsNoReceipt s = (s.let_go ≡ length s.receipts) ⊎ (100000000000000 < s.let_go)
+
+-- sessions were served there one after another, so many at most, and nothing else; their receipts were let go
+pub record HasServedInTurn (most : ℕ) (p q : SessionSeatState) : Type 0 where
+  pub same : HasSameSeat p q
+  pub let_go : (q ≡ p) ⊎ HoldsNoReceipt q.seat
+  pub sessions : ℕ
+  pub few : sessions ≤ most
+  pub served : ServedInTurn p sessions q
+
+-- a seat that had no receipt, and at which sessions were served one after another since then, so many at most
+pub record IsOfSessions (most : ℕ) (q : SessionSeatState) : Type 0 where
+  pub first : SessionSeatState
+  pub new : HasNewSeat first
+  pub served : HasServedInTurn most first q
+
+-- The trace is sound, with every merge and clean right, and legal; it leads to a store with so many commits; and it is
+-- that of the seats: each of their receipts stands in it, and each of its pairs has one.
+pub record IsRunOf (seats : List SeatState) (trace : Trace) (commits : ℕ) : Type 0 where
+  pub sound : IsSoundStore trace
+  pub legal : IsLegal trace
+  pub store : StoreState
+  pub stands : IsSoundAt trace store
+  pub committed : commits ≡ store.commits
+  pub receipts : AreReceiptsOf seats trace
+
+-- a worker had its turns there
+abbrev pub HasWorked : Mode → SeatState → SeatState → Type 0
+HasWorked mode s t = HasTakenTurns (upkeep_of mode) 16 (most_turns mode) s t
+
+-- a worker's turns were taken there, and nothing else
+abbrev pub IsOfWorker : Mode → SeatState → Type 0
+IsOfWorker mode s = AreOfTurns (upkeep_of mode) 16 (most_turns mode) s.receipts
+
+-- A trace was passed on from the first, in its order, and counted, and it is that of these seats (`IsRunOf`: sound,
+-- legal, with so many commits, each receipt in it).
+pub record HasStored {T : Type 0} (took : T → Trace → T → Type 0) (first : T) (seats : List SeatState)
+    (s : ServerRun T) : Type 0 where
+  pub trace : Trace
+  pub passed : took first trace s.pieces
+  pub count : s.events ≡ add_count 0 (length trace)
+  pub run : IsRunOf seats trace s.commits
+
+-- and the seats are those of so many sessions at once and of so many workers
+pub record IsServerRun {T : Type 0} (took : T → Trace → T → Type 0) (first : T) (mode : Mode)
+    (session_count worker_count : ℕ) (s : ServerRun T) : Type 0 where
+  pub sessions : List SessionSeatState
+  pub workers : List SeatState
+  pub all_sessions : length sessions ≡ session_count
+  pub all_workers : length workers ≡ worker_count
+  pub served : All (IsOfSessions (most_sessions mode)) sessions
+  pub worked : All (IsOfWorker mode) workers
+  pub run : HasStored took first (latch_seats sessions ++ workers) s

@@ -1,0 +1,21 @@
+//! The server: connections at a port, each a session on a thread and a seat of its own, and workers that merge beside
+//! them.
+//!
+//! - [`bind`], [`PortListener::serve`]: serves so many sessions, or stays until it is stopped ([`am_doors::Mode`]),
+//!   while a [`am_trace_writer::PieceTaker`] takes the trace of all their steps; answers a [`ServerRun`].
+//! - [`serve_session`]: one session at its [`am_session_seat::SessionSeat`], over any source and sink.
+#![tactic(auto)]
+
+mod counts;
+mod keeper;
+mod listener;
+mod server;
+mod server_run;
+mod sessions;
+mod turns;
+
+pub use counts::{Counts, Watcher};
+pub use listener::{BindFault, PortListener, bind};
+pub use server::Keeping;
+pub use server_run::ServerRun;
+pub use sessions::serve_session;

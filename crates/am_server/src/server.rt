@@ -1,0 +1,243 @@
+//! All sessions of a server, the workers and the keeper beside them.
+
+ghost use Rattle.std.specs.Prelude.{◌≡◌, ◌≤◌, ◌-◌, ◌++◌, [], IfOk, All, length, vec_len, vec_capacity};
+ghost use Rattle.std.specs.List.{AllZip};
+ghost use Rattle.am_latch.specs.Receipts.{AreAll};
+ghost use Rattle.am_server.specs.ServerRuns.{HasNewSeat, HasServedInTurn, HasStored, IsServerRun};
+ghost use Rattle.am_server.specs.ServerRuns.{HasWorked};
+ghost use Rattle.am_doors.specs.Modes.{most_sessions};
+ghost use Rattle.am_server.specs.Pieces.{HasTaken, HasClosed};
+
+use crate::counts::Watcher;
+use crate::keeper::Keeper;
+use crate::server_run::{ServerRun, assign_seats, take_seats};
+use crate::turns::serve_in_turn;
+use am_counters::{CounterSeat, Counters};
+use am_doors::House;
+use am_latch::{Blank, Latch, LatchName, Seat, close};
+use am_record::{HashKey, NoMemory};
+use am_session_seat::SessionSeat;
+use am_trace_writer::PieceTaker;
+use am_workers::{WorkerSeats, run_workers};
+use std::alloc::Global;
+use std::rt::Clock;
+use std::sync::Wait;
+use std::thread;
+use std::thread::Threads;
+use std::time::Duration;
+
+/// How many entries a turn may merge.
+const MERGE_LIMIT: u64 = 16;
+
+/// Who takes the trace of a server, who looks at the server, how long sessions may go on after a stop, and how long a
+/// session may be idle.
+#[derive(Drop)]
+pub struct Keeping<T: PieceTaker + Drop, V: Watcher + Drop> {
+    pub pieces: T,
+    pub watcher: V,
+    pub grace: Option<Duration>,
+    pub idle: Option<Duration>,
+}
+
+// Who works beside the sessions.
+#[derive(Drop)]
+struct Beside<L: LatchName, T: PieceTaker + Drop, V: Watcher + Drop> {
+    worker_seats: Vec<Seat<L>>,
+    keeper: Keeper<L, T, V>,
+}
+
+// Lets workers have their turns, until all sessions have ended.
+fn let_work<L: LatchName + Send + Sync, R: Threads + Wait + Sync>(
+    rt: &R,
+    latch: &Latch<L>,
+    house: &House<'_>,
+    worker_seats: Vec<Seat<L>>,
+) -> WorkerSeats<L>
+    ensures { AllZip (HasWorked house.now.mode) worker_seats.items result.seats.items }
+{
+    let upkeep = house.mode.upkeep();
+    let turns = house.mode.turns();
+    run_workers(
+        rt,
+        latch,
+        worker_seats,
+        turns,
+        MERGE_LIMIT,
+        upkeep,
+        &house.pacer,
+    )
+}
+
+// Lets workers merge and clean, and the keeper take the trace, until all sessions have ended.
+fn work_beside<
+    L: LatchName + Send + Sync,
+    R: Threads + Wait + Clock + Sync,
+    T: PieceTaker + Drop + Send,
+    V: Watcher + Drop + Send,
+>(rt: &R, latch: &Latch<L>, house: &House<'_>, beside: Beside<L, T, V>) -> Beside<L, T, V>
+    ensures taken { HasTaken T.took beside.keeper.taker beside.keeper.pieces beside.keeper.events result.keeper.taker
+        result.keeper.pieces result.keeper.events }
+    ensures worked { AllZip (HasWorked house.now.mode) beside.worker_seats.items
+        result.worker_seats.items }
+{
+    let Beside {
+        worker_seats,
+        keeper,
+    } = beside;
+    let (keeper, worked) = thread::join(
+        rt,
+        || -> Keeper<L, T, V>
+            ensures { HasTaken T.took keeper.taker keeper.pieces keeper.events result.taker
+                result.pieces result.events }
+        { keeper.keep(rt, latch, house) },
+        || -> WorkerSeats<L>
+            ensures { AllZip (HasWorked house.entry.now.mode) worker_seats.items
+                result.seats.items }
+        { let_work(rt, latch, house, worker_seats) },
+    );
+    Beside {
+        worker_seats: worked.seats,
+        keeper,
+    }
+}
+
+// Lets each seat have its sessions.
+fn serve_all<'a, L: LatchName + Send + Sync, R: Threads + Wait + Clock + Sync>(
+    rt: &R,
+    alloc: Global,
+    house: &House<'_>,
+    session_seats: Vec<SessionSeat<'a, L>>,
+) -> Vec<SessionSeat<'a, L>>
+    requires { All HasNewSeat session_seats.items }
+    ensures { AllZip (HasServedInTurn (most_sessions house.now.mode)) session_seats.entry.items result.items }
+{
+    let mut session_seats = session_seats;
+    serve_each(rt, alloc, house, session_seats.as_mut_slice());
+    house.end();
+    session_seats
+}
+
+fn serve_each<'a, L: LatchName + Send + Sync, R: Threads + Wait + Clock + Sync>(
+    rt: &R,
+    alloc: Global,
+    house: &House<'_>,
+    session_seats: &mut [SessionSeat<'a, L>],
+)
+    requires { All HasNewSeat session_seats.old }
+    ensures { AllZip (HasServedInTurn (most_sessions house.now.mode)) session_seats.old session_seats.new }
+{
+    let threads = session_seats.len().max(1);
+    thread::for_each_mut(
+        rt,
+        session_seats,
+        threads,
+        &|place, session_seat| serve_in_turn(rt, alloc, house, place, session_seat),
+    );
+}
+
+// Closes the latch, of which these are all seats, and has what it kept passed on too: behind all that was, all is.
+fn close_all<L: LatchName, T: PieceTaker + Drop, V: Watcher + Drop>(
+    latch: Latch<L>,
+    seats: Vec<Seat<L>>,
+    keeper: Keeper<L, T, V>,
+    accepted_all: bool,
+) -> ServerRun<T>
+    requires { AreAll L.seats seats.items }
+    ensures stored { (first : T) → HasTaken T.took [] first 0 keeper.taker keeper.pieces keeper.events →
+        HasStored T.took first seats.items result }
+    ensures accepted { result.accepted_all ≡ accepted_all }
+{
+    pass_rest(latch, seats, keeper, accepted_all)
+}
+
+// Closes the latch, of which these are all seats, and has what it kept passed on.
+fn pass_rest<L: LatchName, T: PieceTaker + Drop, V: Watcher + Drop>(
+    latch: Latch<L>,
+    seats: Vec<Seat<L>>,
+    keeper: Keeper<L, T, V>,
+    accepted_all: bool,
+) -> ServerRun<T>
+    requires { AreAll L.seats seats.items }
+    ensures closed { HasClosed T.took seats.items keeper.taker keeper.pieces keeper.events result }
+    ensures accepted { result.accepted_all ≡ accepted_all }
+{
+    let Keeper {
+        taker,
+        mut pieces,
+        events,
+        ..
+    } = keeper;
+    let Ok(closed) = close(latch, seats, taker) else {
+        unreachable!()
+    };
+    pieces.take(&closed.trace);
+    ServerRun {
+        events: events.saturating_add(closed.trace.len() as u64),
+        commits: closed.store.commits(),
+        accepted_all,
+        pieces,
+    }
+}
+
+/// Opens the latch, serves sessions at each seat of the counters, and closes the latch.
+pub(crate) fn run<
+    L: LatchName + Send + Sync,
+    R: Threads + Wait + Clock + Sync,
+    T: PieceTaker + Drop + Send,
+    V: Watcher + Drop + Send,
+>(
+    rt: &R,
+    alloc: Global,
+    hash: HashKey,
+    house: &House<'_>,
+    blank: Blank,
+    counters: &Counters,
+    counter_seats: Vec<CounterSeat>,
+    keeping: Keeping<T, V>,
+) -> Result<ServerRun<T>, NoMemory>
+    requires named { (blank.seats ≡ L.seats) × (blank.table ≡ L.table) }
+    requires counter_seats { All (λ h. h.of ≡ counters.now) counter_seats.items }
+    requires few { length counter_seats.items ≤ L.seats }
+    requires places { house.now.connections ≡ length counter_seats.items }
+    requires idle { house.now.idle ≡ keeping.idle }
+    ensures { IfOk result (IsServerRun T.took keeping.pieces house.now.mode (length counter_seats.items)
+        (L.seats - length counter_seats.items)) }
+{
+    let Ok((latch, seats, taker)) = Latch::<L>::open(blank, hash) else {
+        return Err(NoMemory);
+    };
+    let mut all = Vec::new(alloc);
+    all.reserve(seats.len())?;
+    let (session_seats, worker_seats) = assign_seats(
+        alloc,
+        &latch,
+        counters,
+        seats,
+        counter_seats,
+    )?;
+    let beside = Beside {
+        worker_seats,
+        keeper: Keeper::new(taker, keeping),
+    };
+    // Where no second thread can be started the first of these comes last: it waits for the sessions.
+    let (beside, session_seats) = thread::join(
+        rt,
+        || -> Beside<L, T, V>
+            ensures taken { HasTaken T.took beside.keeper.taker beside.keeper.pieces beside.keeper.events
+                result.keeper.taker result.keeper.pieces result.keeper.events }
+            ensures worked { AllZip (HasWorked house.entry.now.mode) beside.worker_seats.items
+                result.worker_seats.items }
+        { work_beside(rt, &latch, house, beside) },
+        || -> Vec<SessionSeat<'_, L>>
+            requires { All HasNewSeat session_seats.items }
+            ensures { AllZip (HasServedInTurn (most_sessions house.entry.now.mode)) session_seats.entry.items
+                result.items }
+        { serve_all(rt, alloc, house, session_seats) },
+    );
+    take_seats(&mut all, session_seats);
+    let mut worker_seats = beside.worker_seats;
+    let Ok(()) = all.append(&mut worker_seats) else {
+        unreachable!()
+    };
+    Ok(close_all(latch, all, beside.keeper, house.tally.accepted_all()))
+}

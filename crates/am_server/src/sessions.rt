@@ -1,0 +1,82 @@
+//! One session at its seat.
+
+ghost use Rattle.std.specs.Prelude.{◌≡◌, ◌+◌, ◌^◌, ◌<◌, false, None};
+ghost use Rattle.am_session.specs.ServedSessions.{Served, read_failures, write_failures, IsSentOn};
+ghost use Rattle.am_session_seat.specs.SessionSeats.{open_at, seat_meaning, IsNumbered, IsPublishedByReceipt};
+ghost use Rattle.am_doors.specs.Http.{IsInMode};
+ghost use Rattle.am_server.specs.ServerRuns.{WasServed};
+
+use am_doors::{CountingSink, House, NoHttp};
+use am_latch::LatchName;
+use am_session::{End, PartingSink, serve};
+use am_session_seat::SessionSeat;
+use am_stream::{AnsweredSource, Reading, Sink, Source, Writing};
+use std::alloc::Global;
+use std::io::{BufWriter, Write};
+use std::net::TcpStream;
+use std::sync::Wait;
+
+/// Answers the lines of a source at a seat, each by one line, and at the end aborts what is open there. The sink has
+/// nothing that isn't sent on, and the number of the session is drawn. The number of the seat stays, and what is
+/// published there is the commit of one of its receipts.
+pub fn serve_session<
+    'a,
+    W: Wait,
+    K: PartingSink<SessionSeat<'a, L>>,
+    S: AnsweredSource<K>,
+    L: LatchName,
+>(rt: &W, alloc: Global, source: &mut S, sink: &mut K, session_seat: &mut SessionSeat<'a, L>) -> End
+    requires source_countable { S.failures source.old < 2 ^ 63 }
+    requires sink_countable { K.failures sink.old < 2 ^ 63 }
+    requires sent { K.pending sink.old ≡ false }
+    requires idle { open_at session_seat.old ≡ None }
+    requires numbered { IsNumbered session_seat.old }
+    ensures served { Served S.comes K.holds K.parts seat_meaning 0 source.old sink.old session_seat.old
+        source.new sink.new session_seat.new result }
+    ensures idle { open_at session_seat.new ≡ None }
+    ensures sent { IsSentOn result (K.pending sink.new ≡ false) }
+    ensures source_failures { S.failures source.new ≡ S.failures source.old + read_failures result }
+    ensures sink_failures { K.failures sink.new ≡ K.failures sink.old + write_failures result }
+    ensures seat { session_seat.new.seat.number ≡ session_seat.old.seat.number }
+    ensures published { IsPublishedByReceipt session_seat.old → IsPublishedByReceipt session_seat.new }
+    ensures left { WasServed session_seat.old session_seat.new }
+{
+    am_session_seat::sessions_have_receipts();
+    serve(rt, alloc, source, sink, session_seat, 0)
+}
+
+/// Serves one connection to its end. What comes from it is the source's, which looks for a request of HTTP where the
+/// server stays.
+pub(crate) fn serve_connection<'a, W: Wait, S: Source + Drop, L: LatchName>(
+    rt: &W,
+    alloc: Global,
+    house: &House<'_>,
+    stream: &TcpStream,
+    source: &mut NoHttp<S>,
+    session_seat: &mut SessionSeat<'a, L>,
+)
+    requires countable { ⟦<NoHttp<S> as Source>⟧.failures source.old < 2 ^ 63 }
+    requires mode { IsInMode house.now.mode source.old }
+    requires idle { open_at session_seat.old ≡ None }
+    requires numbered { IsNumbered session_seat.old }
+    ensures idle { open_at session_seat.new ≡ None }
+    ensures seat { session_seat.new.seat.number ≡ session_seat.old.seat.number }
+    ensures left { WasServed session_seat.old session_seat.new }
+{
+    // Each answer is written whole, and goes out at once where the system can be told so.
+    let _ = stream.set_nodelay(true);
+    let Ok(writer) = BufWriter::new(alloc, stream) else {
+        refuse(stream);
+        return;
+    };
+    let mut sink = CountingSink::new(Writing::new(writer), &house.pacer);
+    if let End::NoMemory = serve_session(rt, alloc, source, &mut sink, session_seat) {
+        refuse(stream);
+    }
+}
+
+// Says that there was no memory for a session's buffers, before anything was read.
+pub(crate) fn refuse(stream: &TcpStream) {
+    let mut writer = stream;
+    let _ = writer.write_all(b"ERR MEMORY\n");
+}

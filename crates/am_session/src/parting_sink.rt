@@ -1,0 +1,35 @@
+//! How a session says BYE.
+
+ghost use Rattle.std.specs.Prelude.{◌≡◌, ℕ, ◌+◌, ◌^◌, ◌<◌, take, false, None, OnOk, OnErr};
+ghost use Rattle.am_stream.specs.SinkWrites.{Gave};
+ghost use Rattle.am_dialogue.specs.Responses.{bye};
+
+use crate::backend::Backend;
+use am_stream::{Failed, Sink, give_all};
+
+/// A sink at which BYE is said only while nothing is active in the backend: whoever says it shows the backend. Every
+/// sink is one beside every backend. Code over any such sink has no other way to part from it.
+pub trait PartingSink<B: Backend>: Sink {
+    // Beside which backend BYE was said, or a beginning of it, and at which sink, and what that left.
+    ghost parts: { B → Self → Self → Type 0 };
+
+    /// Answers QUIT, and sends the answer on. Who reads it knows that nothing is active any more.
+    fn say_bye(&mut self, backend: &B) -> Result<(), Failed>
+        requires countable { Self.failures self.old < 2 ^ 63 }
+        requires idle { B.means.active backend.now ≡ None }
+        ensures parted { parts backend.now self.old self.new }
+        ensures given { OnOk result (Gave Self.holds self.old bye self.new) }
+        ensures sent { OnOk result (Self.pending self.new ≡ false) }
+        ensures ok { OnOk result (Self.failures self.new ≡ Self.failures self.old) }
+        ensures failed { OnErr result (Self.failures self.new ≡ Self.failures self.old + 1) }
+        ensures torn { OnErr result ((n : ℕ) × Gave Self.holds self.old (take n bye) self.new) };
+}
+
+impl<B: Backend, K: Sink> PartingSink<B> for K {
+    ghost parts = { λ _ _ _. Unit {0} };
+
+    fn say_bye(&mut self, _backend: &B) -> Result<(), Failed> {
+        give_all(self, b"BYE\n")?;
+        self.flush()
+    }
+}

@@ -1,0 +1,7 @@
+use Rattle.am_dialogue.proofs.Conversations.{conversation_goes}
+use Rattle.am_session_seat.specs.SessionSeats.{seat_meaning, HasReceipts}
+use Rattle.am_session_seat.proofs.Receipts.{receipts_go}
+use Rattle.am_session_seat.proofs.laws.sessions_have_receipts.Goals as goal
+
+pub returns : goal.returns
+returns c = conversation_goes seat_meaning HasReceipts receipts_go

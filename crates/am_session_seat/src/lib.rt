@@ -1,0 +1,11 @@
+//! What a session of the server stands on: a seat of the latch, with a seat of the two shared counters.
+//!
+//! - [`SessionSeat`]: the two seats as the backend of a session. A commit is published before it is answered.
+//! - [`sessions_have_receipts`]: whatever a session is answered, its seat has the receipts.
+#![tactic(auto)]
+
+mod laws;
+mod session_seat;
+
+pub use laws::sessions_have_receipts;
+pub use session_seat::SessionSeat;

@@ -1,0 +1,124 @@
+//! The seats of one session at the server.
+
+ghost use Rattle.std.specs.Prelude.{◌≡◌, ◌≤◌, ◌<◌, ℕ, Some, length};
+ghost use Rattle.am_latch.specs.Receipts.{last_commit_of};
+ghost use Rattle.am_session_seat.specs.SessionSeats.{published, seat_meaning, HasDrawn};
+
+use am_counters::{CounterSeat, Counters};
+use am_latch::{Latch, LatchName, Seat};
+use am_record::{Reply, Step};
+use am_session::Backend;
+use std::marker::Model;
+use std::sync::Wait;
+
+/// The seats of one session: one of the latch, which all sessions step, one of the counters, and the number that
+/// was drawn for the session.
+#[derive(Drop)]
+pub struct SessionSeat<'a, L: LatchName> {
+    latch: &'a Latch<L>,
+    counters: &'a Counters,
+    seat: Seat<L>,
+    counter_seat: CounterSeat,
+    number: u64,
+}
+
+impl<'a, L: LatchName> Model for SessionSeat<'a, L> {
+    ghost use Rattle.std.specs.Prelude.{◌≡◌};
+    ghost use Rattle.std.specs.Coded.{codes};
+    ghost use Rattle.am_latch.specs.Receipts.{seat_state_code};
+    ghost use Rattle.am_session_seat.specs.SessionSeats.{SessionSeatState};
+
+    ghost Value = { SessionSeatState };
+
+    ghost coded = { Prim.hlevel (codes, seat_state_code) };
+
+    ghost view = { λ p. record { seat = p.seat; counter_seat = p.counter_seat; number = p.number } };
+
+    ghost invariant = { λ p. p.counter_seat.of ≡ p.counters.now };
+}
+
+impl<'a, L: LatchName> SessionSeat<'a, L> {
+    /// The session's number is not drawn yet.
+    pub fn new(
+        latch: &'a Latch<L>,
+        counters: &'a Counters,
+        seat: Seat<L>,
+        counter_seat: CounterSeat,
+    ) -> SessionSeat<'a, L>
+        requires { counter_seat.of ≡ counters.now }
+        ensures { result ≡ record { seat = seat; counter_seat = counter_seat; number = 0 } }
+    {
+        SessionSeat {
+            latch,
+            counters,
+            seat,
+            counter_seat,
+            number: 0,
+        }
+    }
+
+    /// Draws the number of the session. Whether there was one: a seat has 2 ^ 50 draws.
+    pub fn draw(&mut self) -> bool
+        ensures { HasDrawn self.old result self.new }
+    {
+        match self.counters.draw(&mut self.counter_seat) {
+            Some(number) => {
+                self.number = number;
+                true
+            }
+            None => false,
+        }
+    }
+
+    /// Lets the receipts of the latch's seat go: contracts know of them as before. Past 10^14 of them nothing happens.
+    pub fn let_go(&mut self)
+        ensures same { (self.new.number ≡ self.old.number) × (self.new.counter_seat ≡ self.old.counter_seat) ×
+            (self.new.seat.number ≡ self.old.seat.number) × (self.new.seat.receipts ≡ self.old.seat.receipts) }
+        ensures gone { self.old.seat.let_go ≤ 100000000000000 →
+            self.new.seat.let_go ≡ length self.old.seat.receipts }
+        ensures kept { 100000000000000 < self.old.seat.let_go → self.new ≡ self.old }
+    {
+        self.seat.let_go();
+    }
+
+    /// The seat of the latch, with its receipts.
+    pub fn into_seat(self) -> Seat<L>
+        ensures { result ≡ self.entry.seat }
+    {
+        self.seat
+    }
+}
+
+impl<'a, L: LatchName> Backend for SessionSeat<'a, L> {
+    ghost means = { seat_meaning };
+
+    // A commit is published before anybody hears of it.
+    fn call<W: Wait>(&mut self, rt: &W, step: Step) -> Reply {
+        let reply = self.seat.call(rt, self.latch, step);
+        publish(self.counters, &mut self.counter_seat, &self.seat, &reply);
+        reply
+    }
+
+    fn seen(&mut self) -> (u64, u64) {
+        let commits = self.counters.seen(&mut self.counter_seat);
+        (self.number, commits)
+    }
+}
+
+// Publishes the commit of the seat's last reply, where that is one.
+fn publish<L: LatchName>(
+    counters: &Counters,
+    counter_seat: &mut CounterSeat,
+    seat: &Seat<L>,
+    reply: &Reply,
+)
+    requires own { counter_seat.old.of ≡ counters.now }
+    requires last { (c : ℕ) → reply.now ≡ Reply.Committed c → last_commit_of seat.now.receipts ≡ Some c }
+    ensures { counter_seat.new ≡ published counter_seat.old reply.now }
+{
+    if let Reply::Committed(_) = reply
+        && let Some(receipt) = seat.last_commit()
+    {
+        counters.publish(counter_seat, &receipt);
+    }
+}

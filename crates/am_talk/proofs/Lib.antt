@@ -1,8 +1,0 @@
-pub mod Conversations
-pub mod Saying
-pub mod Dialogues
-pub mod VisibleMaps
-pub mod VisibleStores
-pub mod AnsweredLines
-pub mod FoundMemory
-pub mod StagedLines

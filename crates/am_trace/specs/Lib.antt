@@ -1,8 +1,0 @@
-pub mod Cuts
-pub mod Words
-pub mod Bounds
-pub mod Steps
-pub mod Replies
-pub mod Lines
-pub mod Reading
-pub mod Lanes

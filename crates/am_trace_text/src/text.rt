@@ -1,0 +1,148 @@
+//! The whole text.
+
+ghost use Rattle.std.specs.Prelude.{◌≡◌, ◌++◌, List, ℕ, IfOk, IfSome, IfNone, Err};
+ghost use Rattle.am_record.specs.Events.{Event};
+ghost use Rattle.am_trace_text.specs.Lines.{IsEvent, AreEvents, event_words, with_lf, header, trace_text, IsTextOf};
+ghost use Rattle.am_trace_text.specs.Lines.{event_lines, IsBadLine, BeginsNoEvent, BeginsNoHeader, CanBeStored};
+
+use crate::cut::cut;
+use crate::event::read_event;
+use crate::front::front_event;
+use crate::print::Page;
+use crate::read::ReadFault;
+use crate::version::Version;
+use am_record::{NoMemory, Reply, Step};
+use am_text::words_are_fields;
+use std::alloc::Global;
+use thiserror::Error;
+
+/// Why a text is no trace.
+#[derive(Clone, Copy, Debug, PartialEq, Eq, Error)]
+pub enum TraceFault {
+    /// This line, the first that isn't one of a trace. Lines count from 1, the header included.
+    #[error("line {0} is none of a trace")]
+    Bad(u64),
+    /// Memory was refused.
+    #[error("no memory")]
+    NoMemory,
+}
+
+/// The text of a trace, in version 2.
+///
+/// # Errors
+/// NoMemory, where memory was refused.
+#[inline(never)]
+pub fn trace_text(alloc: Global, trace: &[(Step, Reply)]) -> Result<Vec<u8>, NoMemory>
+    ensures text { IfOk result (λ text. text.items ≡ trace_text Version.Two trace.now) }
+    ensures events { IfOk result (λ text. CanBeStored trace.now → AreEvents Version.Two trace.now) }
+{
+    let mut page = Page::new(alloc);
+    page.put(b"TRACE 2\n")?;
+    for event in trace {
+        page.put_event(&event.0, &event.1)?;
+    }
+    Ok(page.into_bytes())
+}
+
+/// The lines of events, in version 2: what the text of a trace has more where they stand behind it.
+///
+/// # Errors
+/// NoMemory, where memory was refused.
+#[inline(never)]
+pub fn event_lines(alloc: Global, events: &[(Step, Reply)]) -> Result<Vec<u8>, NoMemory>
+    ensures { IfOk result (λ text. text.items ≡ event_lines Version.Two events.now) }
+{
+    let mut page = Page::new(alloc);
+    for event in events {
+        page.put_event(&event.0, &event.1)?;
+    }
+    Ok(page.into_bytes())
+}
+
+/// The trace of a text, which may come from anybody.
+///
+/// # Errors
+/// The first line that isn't one of a trace; or NoMemory, where memory was refused.
+#[inline(never)]
+pub fn read_trace(alloc: Global, text: &[u8]) -> Result<Vec<(Step, Reply)>, TraceFault>
+    ensures trace { IfOk result (λ trace. IsTextOf text.now trace.items) }
+    ensures bad { (n : ℕ) → result ≡ Err (TraceFault.Bad n) → IsBadLine text.now n }
+{
+    let (version, mut rest) = read_header(text).ok_or(TraceFault::Bad(1))?;
+    let mut trace = Vec::new(alloc);
+    'lines: while !rest.is_empty() {
+        match read_line(alloc, version, rest) {
+            Ok((event, further)) => {
+                if trace.push(event).is_err() {
+                    return Err(TraceFault::NoMemory);
+                }
+                rest = further;
+            }
+            Err(ReadFault::Bad) => return Err(TraceFault::Bad(trace.len() as u64 + 2)),
+            Err(ReadFault::NoMemory) => return Err(TraceFault::NoMemory),
+        }
+    }
+    Ok(trace)
+}
+
+/// The event of the first line, and the lines behind it: so a text is read a line at a time.
+///
+/// # Errors
+/// Bad, where the text begins with no line of an event; or NoMemory, where memory was refused.
+#[inline(never)]
+pub fn read_line(
+    alloc: Global,
+    version: Version,
+    text: &[u8],
+) -> Result<((Step, Reply), &[u8]), ReadFault>
+    ensures event { IfOk result (λ p. IsEvent version p.0 × (text.now ≡ with_lf (event_words version p.0) ++ p.1.now)) }
+    ensures bad { result ≡ Err ReadFault.Bad → BeginsNoEvent version text.now }
+{
+    if let Version::Two = version {
+        if let Some(read) = front_event(text) {
+            return Ok(read);
+        }
+    }
+    read_by_fields(alloc, version, text)
+}
+
+// The same of any line, whose fields are cut first and then read.
+#[inline(never)]
+fn read_by_fields(
+    alloc: Global,
+    version: Version,
+    text: &[u8],
+) -> Result<((Step, Reply), &[u8]), ReadFault>
+    ensures event { IfOk result (λ p. IsEvent version p.0 × (text.now ≡ with_lf (event_words version p.0) ++ p.1.now)) }
+    ensures bad { result ≡ Err ReadFault.Bad → BeginsNoEvent version text.now }
+{
+    words_are_fields();
+    let Some((line, further)) = cut(text, b'\n') else {
+        return Err(ReadFault::Bad);
+    };
+    match read_event(alloc, version, line) {
+        Ok(event) => Ok((event, further)),
+        Err(fault) => Err(fault),
+    }
+}
+
+/// The version that the header names, and what stands behind the header.
+pub fn read_header(text: &[u8]) -> Option<(Version, &[u8])>
+    ensures some { IfSome result (λ p. text.now ≡ header p.0 ++ p.1.now) }
+    ensures none { IfNone result (BeginsNoHeader text.now) }
+{
+    if let Some(rest) = text.strip_prefix(b"TRACE 1\n") {
+        return Some((Version::One, rest));
+    }
+    let rest = text.strip_prefix(b"TRACE 2\n")?;
+    Some((Version::Two, rest))
+}
+
+/// A text is that of one trace, and either the text of a trace or bad in one line.
+pub fn traces_are_texts()
+    ensures one_trace { (text : List ℕ) (a b : List Event) → IsTextOf text a → IsTextOf text b → a ≡ b }
+    ensures not_bad { (text : List ℕ) (trace : List Event) (n : ℕ) → IsTextOf text trace → IsBadLine text n → ⊥ }
+    ensures one_line { (text : List ℕ) (m n : ℕ) → IsBadLine text m → IsBadLine text n → m ≡ n }
+{
+    words_are_fields();
+}

@@ -1,0 +1,92 @@
+//! A trace that is written while its server runs.
+
+ghost use Rattle.std.specs.Prelude.{◌≡◌, ◌+◌, ◌^◌, ◌<◌, false, MatchBool, if◌then◌else◌};
+ghost use Rattle.am_stream.specs.SinkWrites.{Gave, GaveBeginning};
+ghost use Rattle.am_trace_text.specs.Lines.{header};
+ghost use Rattle.am_trace_text.specs.declared.version.Version.TheVariants.{Two};
+ghost use Rattle.am_trace_writer.specs.Writers.{TookLines};
+
+use crate::pieces::PieceTaker;
+use am_record::{NoMemory, Reply, Step};
+use am_stream::{Sink, give_all};
+use am_trace_text::event_lines;
+use std::alloc::Global;
+
+/// How many events are written at once: some 1 MB, where they have no long lists of records.
+const EVENTS_AT_ONCE: usize = 16_384;
+
+/// Writes a trace to a sink: at first the line that names its version, and then the lines of its events as they come.
+/// Where the sink fails, or memory is refused, the trace is cut there: nothing more is written.
+#[derive(Drop)]
+pub struct TraceWriter<K: Sink + Drop> {
+    sink: K,
+    is_cut: bool,
+    alloc: Global,
+    ghost countable: { is_cut ≡ false → K.failures sink < 2 ^ 63 },
+}
+
+impl<K: Sink + Drop> TraceWriter<K> {
+    /// Writes the first line. Where the sink fails, the trace is cut there.
+    pub fn begin(alloc: Global, sink: K) -> TraceWriter<K>
+        requires { K.failures sink < 2 ^ 63 }
+        ensures begun { MatchBool result.is_cut (GaveBeginning K.holds sink (header Two) result.sink)
+            (Gave K.holds sink (header Two) result.sink) }
+        ensures cut { K.failures result.sink ≡ (if result.is_cut then K.failures sink + 1 else K.failures sink) }
+    {
+        let mut sink = sink;
+        let is_cut = give_all(&mut sink, b"TRACE 2\n").is_err();
+        TraceWriter {
+            sink,
+            is_cut,
+            alloc,
+        }
+    }
+
+    /// The sink, with what it was given.
+    pub fn into_sink(self) -> K
+        ensures { result ≡ self.sink }
+    {
+        self.sink
+    }
+
+    // Writes the lines of these events.
+    fn write(&mut self, events: &[(Step, Reply)])
+        requires whole { self.old.is_cut ≡ false }
+        ensures { TookLines K.holds self.old.sink self.old.is_cut events.now self.new.sink self.new.is_cut }
+    {
+        let Ok(text) = event_lines(self.alloc, events) else {
+            self.is_cut = true;
+            return;
+        };
+        if give_all(&mut self.sink, &text).is_err() {
+            self.is_cut = true;
+        }
+    }
+}
+
+impl<K: Sink + Drop> PieceTaker for TraceWriter<K> {
+    ghost use Rattle.am_trace_writer.specs.Writers.{TookLines};
+    ghost use Rattle.am_trace_writer.specs.WriterLaws.{took_no_lines, took_lines_of_both};
+
+    ghost took = { λ a events b. TookLines K.holds a.sink a.is_cut events b.sink b.is_cut };
+
+    ghost has_lost = { λ a. a.is_cut };
+
+    fn take(&mut self, piece: &[(Step, Reply)]) {
+        let mut rest = piece;
+        'chunks: while !rest.is_empty() && !self.is_cut {
+            let (events, further) = rest.split_at(rest.len().min(EVENTS_AT_ONCE));
+            self.write(events);
+            rest = further;
+        }
+    }
+
+    fn is_cut(&self) -> bool {
+        self.is_cut
+    }
+
+    ghost took_none = { λ a. took_no_lines K.holds a.sink a.is_cut };
+
+    ghost took_both = { λ a b c x y f h.
+        took_lines_of_both K.holds a.sink b.sink c.sink a.is_cut b.is_cut c.is_cut x y f h };
+}

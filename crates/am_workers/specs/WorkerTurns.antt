@@ -1,0 +1,59 @@
+-- What a worker does in a turn, and in its turns one after another.
+use Rattle.std.specs.Prelude.{◌≡◌, ◌<◌, ◌≤◌, ℕ, zero, suc, length, Bool, true, false, Option, Some, None, MatchBool}
+use Rattle.am_record.specs.OrderedKey.{key_least}
+use Rattle.am_record.specs.declared.step.Step.TheVariants.{Merge}
+use Rattle.am_record.specs.declared.step.Reply.{Reply}
+use Rattle.am_record.specs.declared.step.Reply.TheVariants.{Idle}
+use Rattle.am_latch.specs.Receipts.{SeatState, HasReceiptOf}
+use Rattle.am_workers.specs.CleanTurns.{HasCleaned}
+use Rattle.am_workers.specs.declared.clean_turn.Place.{Place}
+use Rattle.am_workers.specs.declared.upkeep.Upkeep.{Upkeep}
+use Rattle.am_workers.specs.declared.upkeep.Upkeep.TheVariants.{MergeAndClean}
+
+-- the receipts of former turns are let go, unless 10^14 were
+pub record HasLetGo (s t : SeatState) : Type 0 where
+  pub number : t.number ≡ s.number
+  pub receipts : t.receipts ≡ s.receipts
+  pub gone : s.let_go ≤ 100000000000000 → t.let_go ≡ length s.receipts
+  pub kept : 100000000000000 < s.let_go → t ≡ s
+
+-- whether a worker cleans behind this answer to its merge
+abbrev pub may_clean : Upkeep → Reply → Bool
+may_clean MergeAndClean Idle = true
+may_clean _ _ = false
+
+-- what was answered last, where a merge was answered so and then a clean, if a step was taken
+abbrev pub last_reply : Option Reply → Reply → Reply
+last_reply (Some cleaned) merged = cleaned
+last_reply None merged = merged
+
+-- nothing is done behind the merge
+pub record OnlyMerged (from : Place) (s : SeatState) (merged reply : Reply) (to : Place) (t : SeatState) : Type 0 where
+  pub answer : reply ≡ merged
+  pub there : to ≡ from
+  pub same : t ≡ s
+
+-- behind the merge the worker cleans once, from its place on
+pub record ThenCleaned (seats : ℕ) (from : Place) (s : SeatState) (merged reply : Reply) (to : Place) (t : SeatState) :
+    Type 0 where
+  pub cleaned : Option Reply
+  pub cleans : HasCleaned seats from s cleaned to t
+  pub answer : reply ≡ last_reply cleaned merged
+
+-- One turn, from a place on: former receipts are let go, Merge(limit) is called, and where nothing is left to merge a
+-- worker that cleans does so once.
+pub record TakesTurn (upkeep : Upkeep) (limit seats : ℕ) (from : Place) (s : SeatState) (reply : Reply) (to : Place)
+    (t : SeatState) : Type 0 where
+  pub free : SeatState
+  pub merged : Reply
+  pub behind : SeatState
+  pub freed : HasLetGo s free
+  pub merges : HasReceiptOf free (Merge limit) merged behind
+  pub goes_on : MatchBool (may_clean upkeep merged) (ThenCleaned seats from behind merged reply to t)
+      (OnlyMerged from behind merged reply to t)
+
+-- so many turns, the first from the front of all partitions on, and each from where the one before it left off
+abbrev pub TakesTurns : Upkeep → ℕ → ℕ → ℕ → SeatState → Place → SeatState → Type 0
+TakesTurns upkeep limit seats zero s to t = (to ≡ record { part = 0; key = key_least }) × (t ≡ s)
+TakesTurns upkeep limit seats (suc n) s to t = (from : Place) × (u : SeatState) × (reply : Reply) ×
+    TakesTurns upkeep limit seats n s from u × TakesTurn upkeep limit seats from u reply to t
