@@ -23,9 +23,9 @@ deed_of Bounded Failure false = End
 abbrev pub is_closed : Mode → Bool → Bool → Bool
 is_closed mode accepted_all is_stopped = is_stopped || (not accepted_all && not (stays mode))
 
--- whether a round of the keeper ends where so many lines are answered behind others: at each 1,024th
+-- whether a round of the keeper ends where so many steps come behind others: at each 1,024th
 abbrev pub ends_round : ℕ → ℕ → Bool
-ends_round before lines = nat_lt (before / 1024) (min 18446744073709551615 (before + lines) / 1024)
+ends_round before steps = nat_lt (before / 1024) (min 18446744073709551615 (before + steps) / 1024)
 
 -- what a worker does where so many sessions have not ended, so many turns were taken and so many lines answered: it has
 -- one turn for each line

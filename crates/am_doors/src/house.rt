@@ -144,8 +144,8 @@ impl<'a> House<'a> {
         self.pacer.rounds.end();
     }
 
-    /// Returns after a round of the keeper: after a tenth of a second, or sooner where many lines were answered or all
-    /// sessions have ended. Answers whether they have.
+    /// Returns after a round of the keeper: after a tenth of a second, or sooner where many lines were answered, many
+    /// turns taken, or all sessions have ended. Answers whether they have.
     pub fn await_round<R: Wait>(&self, rt: &R) -> bool {
         self.pacer.rounds.await_end(rt);
         self.all_ended.load(Ordering::SeqCst)

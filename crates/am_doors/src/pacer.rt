@@ -61,7 +61,7 @@ impl MergePacer {
     /// So many lines were answered.
     pub(crate) fn count_answers(&self, lines: u64) {
         let before = self.answered.fetch_add(lines, Ordering::SeqCst);
-        self.rounds.count_answers(before, lines);
+        self.rounds.count(before, lines);
         if self.sleeping.load(Ordering::SeqCst) == 0 {
             return;
         }
@@ -88,12 +88,17 @@ impl MergePacer {
         self.sleeping.fetch_sub(1, Ordering::SeqCst);
     }
 
-    // Takes the turn behind `taken`, unless another worker has it.
+    // Takes the turn behind `taken`, unless another worker has it. What turns leave in the trace is small too.
     fn try_take(&self, taken: u64) -> bool {
         let next = taken.wrapping_add(1);
-        self.taken
+        let took = self
+            .taken
             .compare_exchange(taken, next, Ordering::SeqCst, Ordering::SeqCst)
-            .is_ok()
+            .is_ok();
+        if took {
+            self.rounds.count(taken, 1);
+        }
+        took
     }
 }
 

@@ -9,22 +9,22 @@ use std::time::Duration;
 
 const ROUND_MILLIS: u64 = 100;
 
-/// So many answers end a round, so that what is kept of their steps stays small.
-const ANSWERS: u64 = 1024;
+/// So many steps end a round, so that what is kept of them stays small.
+const STEPS: u64 = 1024;
 
 /// How long a round is, where nothing ends it.
 pub(crate) fn round_length() -> Duration {
     Duration::from_millis(ROUND_MILLIS)
 }
 
-// Whether a round ends where so many lines are answered behind others.
-fn ends_round(before: u64, lines: u64) -> bool
-    ensures { result ≡ ends_round before lines }
+// Whether a round ends where so many steps come behind others.
+fn ends_round(before: u64, steps: u64) -> bool
+    ensures { result ≡ ends_round before steps }
 {
-    before / ANSWERS < before.saturating_add(lines) / ANSWERS
+    before / STEPS < before.saturating_add(steps) / STEPS
 }
 
-/// Rounds one after another: each ends after a tenth of a second, or where many lines were answered.
+/// Rounds one after another: each ends after a tenth of a second, or where many lines were answered or turns taken.
 #[derive(Drop)]
 pub(crate) struct Rounds {
     // Only rises, so that the keeper, which waits at the value it has seen, misses no end.
@@ -40,9 +40,9 @@ impl Rounds {
         }
     }
 
-    /// So many lines were answered, and before them so many.
-    pub(crate) fn count_answers(&self, before: u64, lines: u64) {
-        if ends_round(before, lines) {
+    /// So many lines were answered, or turns taken, and before them so many.
+    pub(crate) fn count(&self, before: u64, steps: u64) {
+        if ends_round(before, steps) {
             self.end();
         }
     }

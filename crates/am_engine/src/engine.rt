@@ -29,6 +29,9 @@ use std::alloc::Global;
 use std::marker::Model;
 use std::mem;
 
+/// For so many pairs there is room at once, where pairs were handed out before.
+const PAIRS_AT_WORK: usize = 4096;
+
 /// Calls that stand in the trace side by side, in their order, and whose they are.
 #[derive(Drop)]
 pub struct Piece {
@@ -168,7 +171,7 @@ impl Engine {
     {
         let first = self.count;
         let figures = self.store.figures();
-        let Some((trace, calls)) = rooms_for(self.alloc, self.ends) else {
+        let Some((trace, calls)) = rooms_for(self.alloc, self.ends, self.trace.len()) else {
             return Err(NoMemory);
         };
         self.handed
@@ -277,15 +280,21 @@ fn is_kept(has_room: bool, reply: &Reply) -> bool
     }
 }
 
-// Room for so many pairs and their calls.
-fn rooms_for(alloc: Global, ends: usize) -> Option<(Vec<(Step, Reply)>, Vec<CallId>)>
+// Room for the pairs of so many ends, and behind a piece that had some for as many as may come until the next piece:
+// so a busy engine's lists are got and let go by whoever takes the pieces, and grow under no latch.
+fn rooms_for(alloc: Global, ends: usize, handed: usize) -> Option<(Vec<(Step, Reply)>, Vec<CallId>)>
     ensures room { IfSome result (λ r. (ends ≤ vec_capacity r.0) × (ends ≤ vec_capacity r.1)) }
     ensures empty { IfSome result (λ r. (r.0.items ≡ []) × (r.1.items ≡ [])) }
 {
-    let Ok(trace) = Vec::with_capacity(alloc, ends) else {
+    let pairs = if handed == 0 {
+        ends
+    } else {
+        ends.max(PAIRS_AT_WORK)
+    };
+    let Ok(trace) = Vec::with_capacity(alloc, pairs) else {
         return None;
     };
-    let Ok(calls) = Vec::with_capacity(alloc, ends) else {
+    let Ok(calls) = Vec::with_capacity(alloc, pairs) else {
         return None;
     };
     Some((trace, calls))

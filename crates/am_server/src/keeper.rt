@@ -85,8 +85,8 @@ impl<L: LatchName, T: PieceTaker + Drop, V: Watcher + Drop> Keeper<L, T, V> {
         }
     }
 
-    /// Takes what the latch keeps, ten times a second and at each 1,024th answer, until all sessions have ended, and
-    /// cuts those that are late.
+    /// Takes what the latch keeps, ten times a second and at each 1,024th answer or turn, until all sessions have
+    /// ended, and cuts those that are late.
     pub(crate) fn keep<R: Wait + Clock>(self, rt: &R, latch: &Latch<L>, house: &House<'_>) -> Self
         ensures taken { HasTaken T.took self.taker self.pieces self.events result.taker result.pieces
             result.events }

@@ -285,3 +285,12 @@ fn a_loaded_run_takes_inserts_in_its_middle(rt: HostRuntime) -> Result<(), Fail>
     }
     Ok(())
 }
+
+// A key between the new separator and the old one is reached by the new one.
+#[test]
+fn a_lowered_separator_is_reached_from_its_new_key_on(rt: HostRuntime) {
+    let mut separators = crate::separators::Separators::with_room(rt.alloc()).expect(&rt, "memory");
+    separators.put(0, crate::separator::Separator::of(&numbered(0, 5)));
+    separators.lower(0, &numbered(0, 3));
+    assert!(rt; separators.reached(0, Key::of_u64(4)) == 1);
+}

@@ -145,3 +145,14 @@ fn asks_for_no_more_words_than_it_may_have(rt: HostRuntime) -> Result<(), Fail> 
     assert!(rt; directory.residence_of(number(1)) == Residence::Nowhere);
     Ok(())
 }
+
+// A key that is entered is first looked for: where it is known, what is known of it is told and stays.
+#[test]
+fn a_known_key_is_told_and_stays(rt: HostRuntime) -> Result<(), Fail> {
+    let mut directory = Directory::new(rt.alloc());
+    assert!(rt; directory.reserve(1).is_ok());
+    assert!(rt; directory.enter_first(number(1), 1) == Residence::Nowhere);
+    assert!(rt; directory.enter_first(number(1), 2) == Residence::In(1));
+    assert!(rt; directory.residence_of(number(1)) == Residence::In(1));
+    Ok(())
+}

@@ -48,3 +48,4 @@ mod transactions;
 mod trees;
 mod undo;
 mod workers;
+mod writers;

@@ -274,3 +274,15 @@ fn table_beside_a_plain_list(rt: HostRuntime) {
     }
     assert!(rt; most == MAX_LOCKS);
 }
+
+// More locks of one key than a count holds, one after another: each is counted while it is held, and no longer.
+#[test]
+fn counts_end_with_their_locks(rt: HostRuntime) {
+    let mut table = table_of(&rt, rt.alloc(), 1);
+    for _ in 0..65_536 {
+        answers(&rt, &mut table, 1, exclusive(&rt, 7, 7), Asked::Granted);
+        release(&rt, &mut table, 1);
+        assert!(rt; table.owners() < MAX_ACTIVE && !table.is_owner(1));
+        table.enter(1);
+    }
+}

@@ -129,3 +129,15 @@ fn pairs_copied_and_given_back(rt: HostRuntime) {
     let rows = Reply::Rows(Records::new(rest));
     assert!(rt; rows.copy(rt.alloc()).expect(&rt, "memory") == rows && rows != Reply::NoMark);
 }
+
+#[test]
+fn a_value_of_16_bytes_is_short_and_one_of_17_is_not(rt: HostRuntime) {
+    let short = Value::new(&[7; 16]).expect(&rt, "16 bytes fit");
+    assert!(rt; short.short().map(|it| it.value()) == Some(short));
+    assert!(rt;
+        Value::new(&[7; 17])
+            .expect(&rt, "17 bytes fit")
+            .short()
+            .is_none()
+    );
+}

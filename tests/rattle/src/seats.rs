@@ -160,6 +160,11 @@ fn in_pieces<L: LatchName, R: Wait + Abort>(
         Reply::Committed(2)
     );
     assert_eq!(rt; seat.count_let_go(), 4);
+    // Calls are numbered on where receipts were let go.
+    assert_eq!(rt;
+        latch.look(rt, &mut seat, |engine| engine.kept_calls()[0].call),
+        4
+    );
     assert_eq!(rt; seat.positions().first().copied(), Some(4));
     assert!(rt; seat.last_commit().is_some());
     assert_eq!(rt;

@@ -395,3 +395,18 @@ fn neighbours_go_between_others_leaf_by_leaf(rt: HostRuntime) {
     assert!(rt; between == 843, "{between}");
     assert!(rt; same_walks(&tree, &list, 0, 1_001));
 }
+
+// Of a stretch that begins in a leaf only what is of that leaf goes into it, though it has room for more.
+#[test]
+fn a_stretch_parts_behind_a_leaf_with_room(rt: HostRuntime) {
+    let mut tree = BTree::new(rt.alloc()).expect(&rt, "memory");
+    add_tens_with_gaps(&rt, &mut tree);
+    let mut list = ListIndex::new(rt.alloc());
+    add_tens_with_gaps(&rt, &mut list);
+    let more = [325, 335].map(|number| numbered(0, number));
+    assert!(rt; tree.insert_among(&more) == 2);
+    for entry in more {
+        add(&mut list, entry).expect(&rt, "memory");
+    }
+    assert!(rt; same_walks(&tree, &list, 0, 200));
+}

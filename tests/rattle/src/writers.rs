@@ -1,0 +1,18 @@
+//! Traces that are written as they come.
+
+use am_record::{Reply, Step};
+use am_stream::StopSink;
+use am_trace_writer::{PieceTaker, TraceWriter};
+use std::test::Fail;
+
+// The sink takes the first line, fails once, and would take more.
+#[test]
+fn a_cut_trace_gets_nothing_more(rt: HostRuntime) -> Result<(), Fail> {
+    let mut writer = TraceWriter::begin(rt.alloc(), StopSink::new(rt.alloc(), 2));
+    let piece = [(Step::Begin, Reply::Begun(1))];
+    writer.take(&piece);
+    assert!(rt; writer.is_cut());
+    writer.take(&piece);
+    assert!(rt; writer.into_sink().bytes() == b"TRACE 2\n".as_slice());
+    Ok(())
+}
