@@ -1,6 +1,6 @@
 //! Connections that wait for a seat.
 
-ghost use Rattle.std.specs.Prelude.{◌≡◌, ◌≤◌, ◌++◌, ◌∷◌, [], drop, IfOk};
+ghost use Rattle.std.specs.Prelude.{◌≡◌, ◌≤◌, ◌+◌, ◌++◌, ◌∷◌, [], drop, min, IfOk};
 ghost use Rattle.std.specs.VecDeque.{deque_capacity, deque_len};
 ghost use Rattle.am_doors.specs.Waits.{due_of, gone_of, is_due, kept_of, left_of, oldest_of};
 
@@ -94,7 +94,8 @@ impl WaitingRoom {
 
     /// A round ends.
     pub(crate) fn end_round(&mut self)
-        ensures { self.new.line ≡ self.old.line }
+        ensures counted { self.new.round ≡ min 18446744073709551615 (self.old.round + 1) }
+        ensures same { self.new.line ≡ self.old.line }
     {
         self.round = self.round.saturating_add(1);
     }

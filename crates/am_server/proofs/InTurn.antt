@@ -11,9 +11,9 @@ use Rattle.am_latch.specs.Receipts.{SeatState}
 use Rattle.am_latch.specs.Ties.{open_of}
 use Rattle.am_session_seat.specs.SessionSeats.{SessionSeatState, HasDrawn, IsNumbered, open_at}
 use Rattle.am_doors.specs.declared.mode.Mode.{Mode}
-use Rattle.am_server.specs.ServerRuns.{HasNewSeat, WasServed, session_seat_numbers, seat_numbers}
-use Rattle.am_server.specs.ServerRuns.{HoldsNoReceipt}
-use Rattle.am_server.specs.ServerRuns.{HasSameReceipts, ServedInTurn, HasServedInTurn, HasWorked, IsOfSessions}
+use Rattle.am_server.specs.ServerTraces.{HasNewSeat, WasServed, session_seat_numbers, seat_numbers}
+use Rattle.am_server.specs.ServerTraces.{HoldsNoReceipt}
+use Rattle.am_server.specs.ServerTraces.{HasSameReceipts, ServedInTurn, HasServedInTurn, HasWorked, IsOfSessions}
 use Rattle.am_server.proofs.SeatOrder.{all_first, all_rest, same_worked}
 
 pub same_then : (p q r : SessionSeatState) → HasSameReceipts p q → HasSameReceipts q r → HasSameReceipts p r

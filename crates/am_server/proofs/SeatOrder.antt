@@ -15,9 +15,9 @@ use Rattle.am_session_seat.specs.SessionSeats.{SessionSeatState}
 use Rattle.am_counters.specs.Counters.{CounterHistory}
 use Rattle.am_workers.specs.Turns.{AreOfTurns}
 use Rattle.am_doors.specs.declared.mode.Mode.{Mode}
-use Rattle.am_server.specs.ServerRuns.{seat_numbers, session_seat_numbers, latch_seats, IsNewSeat, IsOfWorker}
+use Rattle.am_server.specs.ServerTraces.{seat_numbers, session_seat_numbers, latch_seats, IsNewSeat, IsOfWorker}
 use Rattle.am_doors.specs.Modes.{most_turns, upkeep_of}
-use Rattle.am_server.specs.ServerRuns.{HasWorked}
+use Rattle.am_server.specs.ServerTraces.{HasWorked}
 
 -- ---- numbers stay
 

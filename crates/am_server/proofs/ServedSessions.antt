@@ -7,7 +7,7 @@ use Rattle.am_session.specs.ServedSessions.{Served}
 use Rattle.am_session.specs.declared.end.End.{End}
 use Rattle.am_session.specs.declared.end.End.TheVariants.{Quit, EndOfInput, ReadFailed, WriteFailed, NoMemory}
 use Rattle.am_session_seat.specs.SessionSeats.{SessionSeatState, seat_meaning, HasReceipts, IsPublishedByReceipt}
-use Rattle.am_server.specs.ServerRuns.{HasSameSeat, WasServed}
+use Rattle.am_server.specs.ServerTraces.{HasSameSeat, WasServed}
 
 module _ {S K : Type 0} (comes : S → List ℕ → Type 0) (holds : K → Option (List ℕ)) (parts : SessionSeatState → K → K →
     Type 0) (s : S) (k : K) (b : SessionSeatState) (s' : S) (k' : K) (b' : SessionSeatState) where

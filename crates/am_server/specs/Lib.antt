@@ -1,4 +1,4 @@
-pub mod ServerRuns
+pub mod ServerTraces
 pub mod Pieces
 pub mod Stops
 pub mod Told

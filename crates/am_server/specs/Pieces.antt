@@ -3,8 +3,8 @@ use Rattle.std.specs.Prelude.{◌≡◌, ℕ, List, ◌++◌, length}
 use Rattle.am_serial.specs.Trace.{Trace}
 use Rattle.am_latch.specs.Receipts.{SeatState}
 use Rattle.am_trace_writer.specs.Events.{add_count}
-use Rattle.am_server.specs.ServerRuns.{IsRunOf}
-use Rattle.am_server.specs.declared.server_run.ServerRun.{ServerRun}
+use Rattle.am_server.specs.ServerTraces.{IsTraceOf}
+use Rattle.am_server.specs.declared.server_trace.ServerTrace.{ServerTrace}
 
 -- By what a latch's taker took before and after, by who takes the pieces, and by the count of events: some events more
 -- were taken, passed on and counted.
@@ -18,8 +18,8 @@ pub record HasTaken {T : Type 0} (took : T → Trace → T → Type 0) (before :
 -- The latch was closed: behind what was taken before stood a rest, which was passed on and counted, and all of it is
 -- the trace of these seats.
 pub record HasClosed {T : Type 0} (took : T → Trace → T → Type 0) (seats : List SeatState) (before : Trace) (a : T)
-    (m : ℕ) (s : ServerRun T) : Type 0 where
+    (m : ℕ) (s : ServerTrace T) : Type 0 where
   pub rest : Trace
   pub passed : took a rest s.pieces
   pub count : s.events ≡ add_count m (length rest)
-  pub run : IsRunOf seats (before ++ rest) s.commits
+  pub sound : IsTraceOf seats (before ++ rest) s.commits

@@ -2,7 +2,7 @@
 //! them.
 //!
 //! - [`bind`], [`PortListener::serve`]: serves so many sessions, or stays until it is stopped ([`am_doors::Mode`]),
-//!   while a [`am_trace_writer::PieceTaker`] takes the trace of all their steps; answers a [`ServerRun`].
+//!   while a [`am_trace_writer::PieceTaker`] takes the trace of all their steps; answers a [`ServerTrace`].
 //! - [`serve_session`]: one session at its [`am_session_seat::SessionSeat`], over any source and sink.
 #![tactic(auto)]
 
@@ -10,12 +10,12 @@ mod counts;
 mod keeper;
 mod listener;
 mod server;
-mod server_run;
+mod server_trace;
 mod sessions;
 mod turns;
 
 pub use counts::{Counts, Watcher};
 pub use listener::{BindFault, PortListener, bind};
 pub use server::Keeping;
-pub use server_run::ServerRun;
+pub use server_trace::ServerTrace;
 pub use sessions::serve_session;

@@ -2,11 +2,11 @@
 
 ghost use Rattle.std.specs.Prelude.{◌≡◌, ◌≤◌, ◌<◌, ◌*◌, IfOk, is_some, None, if◌then◌else◌};
 ghost use Rattle.am_server.specs.Listeners.{IsAtPort, IsAtSocket};
-ghost use Rattle.am_server.specs.ServerRuns.{IsServerRun};
+ghost use Rattle.am_server.specs.ServerTraces.{IsServerTrace};
 
 use crate::counts::Watcher;
 use crate::server::{Keeping, run};
-use crate::server_run::ServerRun;
+use crate::server_trace::ServerTrace;
 use am_counters::Counters;
 use am_doors::{Door, Doors, House, Mode, listen_at_port, listen_at_socket};
 use am_latch::Blank;
@@ -144,10 +144,10 @@ impl PortListener {
         workers: u64,
         hash: HashKey,
         keeping: Keeping<T, V>,
-    ) -> Result<ServerRun<T>, NoMemory>
+    ) -> Result<ServerTrace<T>, NoMemory>
         requires sessions { (1 ≤ sessions) × (sessions ≤ 256) }
         requires workers { workers ≤ 16 }
-        ensures { IfOk result (IsServerRun T.took keeping.pieces mode
+        ensures { IfOk result (IsServerTrace T.took keeping.pieces mode
             (if is_some self.now.socket then 2 * sessions else sessions) workers) }
     {
         let doors = self.doors();

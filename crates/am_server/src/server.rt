@@ -3,14 +3,14 @@
 ghost use Rattle.std.specs.Prelude.{◌≡◌, ◌≤◌, ◌-◌, ◌++◌, [], IfOk, All, length, vec_len, vec_capacity};
 ghost use Rattle.std.specs.List.{AllZip};
 ghost use Rattle.am_latch.specs.Receipts.{AreAll};
-ghost use Rattle.am_server.specs.ServerRuns.{HasNewSeat, HasServedInTurn, HasStored, IsServerRun};
-ghost use Rattle.am_server.specs.ServerRuns.{HasWorked};
+ghost use Rattle.am_server.specs.ServerTraces.{HasNewSeat, HasServedInTurn, HasStored, IsServerTrace};
+ghost use Rattle.am_server.specs.ServerTraces.{HasWorked};
 ghost use Rattle.am_doors.specs.Modes.{most_sessions};
 ghost use Rattle.am_server.specs.Pieces.{HasTaken, HasClosed};
 
 use crate::counts::Watcher;
 use crate::keeper::Keeper;
-use crate::server_run::{ServerRun, assign_seats, take_seats};
+use crate::server_trace::{ServerTrace, assign_seats, take_seats};
 use crate::turns::serve_in_turn;
 use am_counters::{CounterSeat, Counters};
 use am_doors::House;
@@ -141,7 +141,7 @@ fn close_all<L: LatchName, T: PieceTaker + Drop, V: Watcher + Drop>(
     seats: Vec<Seat<L>>,
     keeper: Keeper<L, T, V>,
     accepted_all: bool,
-) -> ServerRun<T>
+) -> ServerTrace<T>
     requires { AreAll L.seats seats.items }
     ensures stored { (first : T) → HasTaken T.took [] first 0 keeper.taker keeper.pieces keeper.events →
         HasStored T.took first seats.items result }
@@ -156,7 +156,7 @@ fn pass_rest<L: LatchName, T: PieceTaker + Drop, V: Watcher + Drop>(
     seats: Vec<Seat<L>>,
     keeper: Keeper<L, T, V>,
     accepted_all: bool,
-) -> ServerRun<T>
+) -> ServerTrace<T>
     requires { AreAll L.seats seats.items }
     ensures closed { HasClosed T.took seats.items keeper.taker keeper.pieces keeper.events result }
     ensures accepted { result.accepted_all ≡ accepted_all }
@@ -171,7 +171,7 @@ fn pass_rest<L: LatchName, T: PieceTaker + Drop, V: Watcher + Drop>(
         unreachable!()
     };
     pieces.take(&closed.trace);
-    ServerRun {
+    ServerTrace {
         events: events.saturating_add(closed.trace.len() as u64),
         commits: closed.store.commits(),
         accepted_all,
@@ -194,13 +194,13 @@ pub(crate) fn run<
     counters: &Counters,
     counter_seats: Vec<CounterSeat>,
     keeping: Keeping<T, V>,
-) -> Result<ServerRun<T>, NoMemory>
+) -> Result<ServerTrace<T>, NoMemory>
     requires named { (blank.seats ≡ L.seats) × (blank.table ≡ L.table) }
     requires counter_seats { All (λ h. h.of ≡ counters.now) counter_seats.items }
     requires few { length counter_seats.items ≤ L.seats }
     requires places { house.now.connections ≡ length counter_seats.items }
     requires idle { house.now.idle ≡ keeping.idle }
-    ensures { IfOk result (IsServerRun T.took keeping.pieces house.now.mode (length counter_seats.items)
+    ensures { IfOk result (IsServerTrace T.took keeping.pieces house.now.mode (length counter_seats.items)
         (L.seats - length counter_seats.items)) }
 {
     let Ok((latch, seats, taker)) = Latch::<L>::open(blank, hash) else {

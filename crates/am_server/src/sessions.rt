@@ -4,7 +4,7 @@ ghost use Rattle.std.specs.Prelude.{◌≡◌, ◌+◌, ◌^◌, ◌<◌, false,
 ghost use Rattle.am_session.specs.ServedSessions.{Served, read_failures, write_failures, IsSentOn};
 ghost use Rattle.am_session_seat.specs.SessionSeats.{open_at, seat_meaning, IsNumbered, IsPublishedByReceipt};
 ghost use Rattle.am_doors.specs.Http.{IsInMode};
-ghost use Rattle.am_server.specs.ServerRuns.{WasServed};
+ghost use Rattle.am_server.specs.ServerTraces.{WasServed};
 
 use am_doors::{CountingSink, House, NoHttp};
 use am_latch::LatchName;

@@ -2,7 +2,7 @@
 
 use am_doors::Mode;
 use am_record::HashKey;
-use am_server::{Counts, Keeping, ServerRun, Watcher, bind};
+use am_server::{Counts, Keeping, ServerTrace, Watcher, bind};
 use am_trace_writer::LetGo;
 use std::io::{Read, Write};
 use std::net::{Ipv4Addr, Net, Shutdown, TcpListener, TcpStream};
@@ -60,7 +60,7 @@ fn two_clients_beside_a_worker(rt: HostRuntime) -> Result<(), Fail> {
         || bound.serve(&rt, Mode::Bounded, 2, 1, HashKey::known(), nobody_keeps()),
         || ask_twice(&rt, port),
     );
-    let ServerRun {
+    let ServerTrace {
         events,
         commits,
         accepted_all,

@@ -5,10 +5,10 @@ use denote.Param.Send.{arg_send, param_send, shr_send, sendable}
 use Rattle.am_latch.proofs.Crosses.{latch_sync}
 use Rattle.am_latch.specs.contracts.latch.Latch as Latch
 use Rattle.am_doors.specs.contracts.house.House as House
-use Rattle.am_server.specs.ServerRuns.{IsNewSeat}
+use Rattle.am_server.specs.ServerTraces.{IsNewSeat}
 use Rattle.am_latch.specs.Receipts.{SeatState}
 use Rattle.am_doors.specs.Modes.{most_sessions}
-use Rattle.am_server.specs.ServerRuns.{HasStored}
+use Rattle.am_server.specs.ServerTraces.{HasStored}
 use Rattle.am_server.proofs.SeatOrder.{all_new, count_back, all_there, all_of_workers, joined_seats}
 use Rattle.am_server.proofs.SeatOrder.{length-numbered}
 use Rattle.am_server.proofs.InTurn.{all_came_back, all_of_turns, as_many_served}
@@ -111,7 +111,7 @@ returns g c =
       worked = all_of_workers c.args.house.now.mode c.in_ok-session_seats.worker_seats.items worked
           c.join-beside.ensures.first.1
           c.in_ok-session_seats.ensures.workers;
-      run = subst (λ (l : List SeatState). HasStored g.T.PieceTaker.took c.args.keeping.pieces l c.close_all.result)
+      stored = subst (λ (l : List SeatState). HasStored g.T.PieceTaker.took c.args.keeping.pieces l c.close_all.result)
           seats
           (c.close_all.ensures.stored c.args.keeping.pieces
           (taken_at_first g.T.PieceTaker.took _ _ _ _ _ _ _ (search rules) (search rules) (search rules)

@@ -1,4 +1,4 @@
-use Rattle.am_server.specs.ServerRuns.{HasSameReceipts, HoldsNoReceipt}
+use Rattle.am_server.specs.ServerTraces.{HasSameReceipts, HoldsNoReceipt}
 use Rattle.am_server.proofs.InTurn.{turn_served, turn_refused, all_let_go}
 use Rattle.am_server.proofs.turns.serve_in_turn.Goals.{then-drew, else-drew}
 use Rattle.am_server.proofs.turns.serve_in_turn.Goals as goal

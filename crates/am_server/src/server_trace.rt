@@ -1,8 +1,8 @@
-//! What a server leaves, and its seats before and behind that.
+//! What a server leaves: its trace, and its seats before and behind that.
 
 ghost use Rattle.std.specs.Prelude.{◌≡◌, ◌≤◌, ◌+◌, ◌++◌, IfOk, All, length, vec_len, vec_capacity};
-ghost use Rattle.am_server.specs.ServerRuns.{HasNewSeat, IsNewSeat, seat_numbers};
-ghost use Rattle.am_server.specs.ServerRuns.{session_seat_numbers, latch_seats};
+ghost use Rattle.am_server.specs.ServerTraces.{HasNewSeat, IsNewSeat, seat_numbers};
+ghost use Rattle.am_server.specs.ServerTraces.{session_seat_numbers, latch_seats};
 
 use am_counters::{CounterSeat, Counters};
 use am_latch::{Latch, LatchName, Seat};
@@ -10,10 +10,10 @@ use am_record::NoMemory;
 use am_session_seat::SessionSeat;
 use std::alloc::Global;
 
-/// What a server did.
+/// The trace of a server, by who took it, and what was counted of it.
 #[derive(Drop)]
-pub struct ServerRun<T: Drop> {
-    /// How many events its trace has: the steps of all sessions and workers.
+pub struct ServerTrace<T: Drop> {
+    /// How many events it has: the steps of all sessions and workers.
     pub events: u64,
     /// How many transactions committed.
     pub commits: u64,

@@ -13,7 +13,7 @@ use Rattle.am_workers.specs.Turns.{AreOfTurns, HasTakenTurns}
 use Rattle.am_trace_writer.specs.Events.{add_count}
 use Rattle.am_doors.specs.Modes.{most_sessions, most_turns, upkeep_of}
 use Rattle.am_doors.specs.declared.mode.Mode.{Mode}
-use Rattle.am_server.specs.declared.server_run.ServerRun.{ServerRun}
+use Rattle.am_server.specs.declared.server_trace.ServerTrace.{ServerTrace}
 
 -- the numbers of seats, and of those of sessions
 abbrev pub seat_numbers : List SeatState → List ℕ
@@ -75,7 +75,7 @@ pub record IsOfSessions (most : ℕ) (q : SessionSeatState) : Type 0 where
 
 -- The trace is sound, with every merge and clean right, and legal; it leads to a store with so many commits; and it is
 -- that of the seats: each of their receipts stands in it, and each of its pairs has one.
-pub record IsRunOf (seats : List SeatState) (trace : Trace) (commits : ℕ) : Type 0 where
+pub record IsTraceOf (seats : List SeatState) (trace : Trace) (commits : ℕ) : Type 0 where
   pub sound : IsSoundStore trace
   pub legal : IsLegal trace
   pub store : StoreState
@@ -91,22 +91,22 @@ HasWorked mode s t = HasTakenTurns (upkeep_of mode) 16 (most_turns mode) s t
 abbrev pub IsOfWorker : Mode → SeatState → Type 0
 IsOfWorker mode s = AreOfTurns (upkeep_of mode) 16 (most_turns mode) s.receipts
 
--- A trace was passed on from the first, in its order, and counted, and it is that of these seats (`IsRunOf`: sound,
+-- A trace was passed on from the first, in its order, and counted, and it is that of these seats (`IsTraceOf`: sound,
 -- legal, with so many commits, each receipt in it).
 pub record HasStored {T : Type 0} (took : T → Trace → T → Type 0) (first : T) (seats : List SeatState)
-    (s : ServerRun T) : Type 0 where
+    (s : ServerTrace T) : Type 0 where
   pub trace : Trace
   pub passed : took first trace s.pieces
   pub count : s.events ≡ add_count 0 (length trace)
-  pub run : IsRunOf seats trace s.commits
+  pub sound : IsTraceOf seats trace s.commits
 
 -- and the seats are those of so many sessions at once and of so many workers
-pub record IsServerRun {T : Type 0} (took : T → Trace → T → Type 0) (first : T) (mode : Mode)
-    (session_count worker_count : ℕ) (s : ServerRun T) : Type 0 where
+pub record IsServerTrace {T : Type 0} (took : T → Trace → T → Type 0) (first : T) (mode : Mode)
+    (session_count worker_count : ℕ) (s : ServerTrace T) : Type 0 where
   pub sessions : List SessionSeatState
   pub workers : List SeatState
   pub all_sessions : length sessions ≡ session_count
   pub all_workers : length workers ≡ worker_count
   pub served : All (IsOfSessions (most_sessions mode)) sessions
   pub worked : All (IsOfWorker mode) workers
-  pub run : HasStored took first (latch_seats sessions ++ workers) s
+  pub stored : HasStored took first (latch_seats sessions ++ workers) s
