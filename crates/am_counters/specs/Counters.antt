@@ -1,4 +1,4 @@
--- Two words that seats draw from, publish to and look at.
+-- Two counters that seats draw from, publish to and look at.
 use Rattle.std.specs.Prelude.{◌≡◌, ℕ, ◌+◌, ◌-◌, ◌*◌, ◌≤◌, ◌==◌, max, nat_lt, cond, List, [], ◌∷◌, ◌++◌, length}
 use mathlib.Core.Option.{some}
 use lib.ListN.{get_elem?}

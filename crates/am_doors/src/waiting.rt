@@ -45,7 +45,8 @@ pub(crate) struct WaitingRoom {
 impl WaitingRoom {
     /// Nobody waits. The room for all that ever do is got here.
     pub(crate) fn new(alloc: Global) -> Result<WaitingRoom, NoMemory>
-        ensures { IfOk result (λ room. room.line.items ≡ []) }
+        ensures none { IfOk result (λ room. room.line.items ≡ []) }
+        ensures round { IfOk result (λ room. room.round ≡ 0) }
     {
         let line = VecDeque::with_capacity(alloc, MOST_WAITING)?;
         Ok(WaitingRoom { line, round: 0 })

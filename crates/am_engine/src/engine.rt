@@ -281,7 +281,7 @@ fn is_kept(has_room: bool, reply: &Reply) -> bool
 }
 
 // Room for the pairs of so many ends, and behind a piece that had some for as many as may come until the next piece:
-// so a busy engine's lists are got and let go by whoever takes the pieces, and grow under no latch.
+// so a busy engine's lists are got and let go by whoever takes the pieces, and seldom grow under a latch.
 fn rooms_for(alloc: Global, ends: usize, handed: usize) -> Option<(Vec<(Step, Reply)>, Vec<CallId>)>
     ensures room { IfSome result (λ r. (ends ≤ vec_capacity r.0) × (ends ≤ vec_capacity r.1)) }
     ensures empty { IfSome result (λ r. (r.0.items ≡ []) × (r.1.items ≡ [])) }

@@ -55,15 +55,16 @@ fn counts<L: LatchName, R: Wait>(rt: &R, latch: &Latch<L>, seat: &mut Seat<L>) -
     (figures.entries, figures.ghosts, figures.runs)
 }
 
-// Ten turns of one worker that cleans. It keeps the receipts of the last turn alone.
+// Ten turns of one worker. It keeps the receipts of the last turn alone.
 fn work<L: LatchName + Send + Sync, R: Threads + Wait + Abort + Sync>(
     rt: &R,
     alloc: Global,
     latch: &Latch<L>,
     worker: Seat<L>,
+    upkeep: Upkeep,
 ) -> Result<Seat<L>, Fail> {
     let workers = vec![in alloc; worker]?;
-    let mut worked = run_workers(rt, latch, workers, 10, 16, Upkeep::MergeAndClean, &Always);
+    let mut worked = run_workers(rt, latch, workers, 10, 16, upkeep, &Always);
     let worker = worked.seats.pop().ok_or("no seat")?;
     assert!(rt; worker.positions().len() <= 2);
     Ok(worker)
@@ -168,10 +169,10 @@ fn beside_a_locked_ghost<L: LatchName + Send + Sync, R: Threads + Wait + Abort +
     load(rt, alloc, &latch, &mut loader, 1, 3)?;
     abort(rt, &latch, &mut loader);
     assert_eq!(rt; counts(rt, &latch, &mut loader), (4, 4, 1));
-    let worker = work(rt, alloc, &latch, worker)?;
+    let worker = work(rt, alloc, &latch, worker, Upkeep::MergeAndClean)?;
     assert_eq!(rt; counts(rt, &latch, &mut loader), (1, 1, 0));
     commit(rt, &latch, &mut deleter);
-    work(rt, alloc, &latch, worker)?;
+    work(rt, alloc, &latch, worker, Upkeep::MergeAndClean)?;
     assert_eq!(rt; counts(rt, &latch, &mut loader), (0, 0, 0));
     Ok(())
 }
@@ -191,8 +192,7 @@ fn beside_a_worker_that_merges<L: LatchName + Send + Sync, R: Threads + Wait + A
     let worker = seats.pop().ok_or("no seat")?;
     let mut writer = seats.pop().ok_or("no seat")?;
     leave_ghosts(rt, alloc, &latch, &mut writer)?;
-    let workers = vec![in alloc; worker]?;
-    run_workers(rt, &latch, workers, 10, 16, Upkeep::MergeOnly, &Always);
+    work(rt, alloc, &latch, worker, Upkeep::MergeOnly)?;
     assert_eq!(rt; counts(rt, &latch, &mut writer), (420, 320, 4));
     Ok(())
 }
@@ -215,11 +215,11 @@ fn among_many_records<L: LatchName + Send + Sync, R: Threads + Wait + Abort + Sy
     load(rt, alloc, &latch, &mut writer, 0, 1_100)?;
     delete(rt, &latch, &mut writer, 500);
     commit(rt, &latch, &mut writer);
-    let worker = work(rt, alloc, &latch, worker)?;
+    let worker = work(rt, alloc, &latch, worker, Upkeep::MergeAndClean)?;
     assert_eq!(rt; counts(rt, &latch, &mut writer), (1_100, 1, 1));
     delete(rt, &latch, &mut writer, 501);
     commit(rt, &latch, &mut writer);
-    let worker = work(rt, alloc, &latch, worker)?;
+    let worker = work(rt, alloc, &latch, worker, Upkeep::MergeAndClean)?;
     assert_eq!(rt; counts(rt, &latch, &mut writer), (1_098, 0, 1));
     let Ok(closed) = close(latch, vec![in alloc; writer, worker]?, taker) else {
         panic!(rt; "all seats are there")
