@@ -117,3 +117,27 @@ def faults_of_widths() -> Iterator[str]:
         for number, line in enumerate(text_of(path).splitlines(), 1):
             if len(line) > 120 and not (path.endswith(".rt") and '"' in line):
                 yield f"{os.path.relpath(path, TOP)}:{number}: a line of {len(line)} characters"
+
+
+def operation_files() -> Dict[str, List[str]]:
+    """The files of each kind that go through the operations one by one: they name both a write and a savepoint, outside their comments.
+    Worked traces and tests don't count."""
+    worked = re.compile(r"crates/(am_memory_tests|am_serial/specs/Rows|am_serial/proofs/worked_)")
+    found: Dict[str, List[str]] = {}
+    for kind, folder in {"sources": "src", "specifications": "specs", "files of proofs": "proofs"}.items():
+        files = [os.path.relpath(it, TOP) for it in sources(folder)]
+        found[kind] = [it for it in files if not worked.match(it) and names_each(text_of(it), "Replace", "Mark")]
+    return found
+
+
+def names_each(text: str, *names: str) -> bool:
+    """Whether the text names each outside its comments."""
+    code = re.sub(r"(--|//).*", "", text)
+    return all(re.search(rf"\b{it}\b", code) for it in names)
+
+
+def faults_of_operations() -> Iterator[str]:
+    """A new operation touches few files."""
+    for (kind, files), most in zip(operation_files().items(), (8, 10, 18)):
+        if len(files) > most:
+            yield f"tools/operation_files: {len(files)} {kind} go through the operations one by one, and {most} may"

@@ -8,7 +8,7 @@ use Rattle.std.proofs.lemmas.List.Elements.{filter_map-append}
 use Rattle.am_record.specs.Plain.{PlainMap, Draft, fresh, answer, draft_after, answers_on, left_on}
 use Rattle.am_record.specs.declared.step.Op.{Op}
 use Rattle.am_record.specs.declared.step.Step.{Step}
-use Rattle.am_record.specs.declared.step.Step.TheVariants.{Begin, Do, Commit, Abort, Merge, Clean}
+use Rattle.am_record.specs.declared.step.Step.TheVariants.{Do}
 use Rattle.am_record.specs.declared.step.Reply.{Reply}
 use Rattle.am_record.specs.declared.step.Reply.TheVariants.{Refused}
 use Rattle.am_record.proofs.Lists.{heads, tails}
@@ -101,11 +101,7 @@ busy_of_commit : (es : List Effect) (step : Step) (reply : Reply) (t : ℕ) → 
     BusyRightAt es step reply
 busy_of_commit es (Do u op) (Refused why) t e = absurd (cc)
 busy_of_commit es (Do u op) reply t e = absurd (cc)
-busy_of_commit es Begin reply t e = tt
-busy_of_commit es (Commit u) reply t e = tt
-busy_of_commit es (Abort u) reply t e = tt
-busy_of_commit es (Merge limit) reply t e = tt
-busy_of_commit es (Clean range limit) reply t e = tt
+busy_of_commit es step reply t e = tt
 
 one_wrong_answer : (trace : Trace) (t : ℕ) (m : PlainMap) (l k : ℕ) → IsFirstWrongAnswer trace t m l →
     IsFirstWrongAnswer trace t m k → l ≡ k

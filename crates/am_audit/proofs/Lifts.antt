@@ -2,7 +2,7 @@
 use Rattle.std.proofs.Common.{◌≡◌, ℕ, ◌+◌, List, [], ◌∷◌, ◌++◌, length, true, refl, sym, ap, ◌∙◌, subst}
 use Rattle.am_record.specs.Plain.{PlainMap, fresh}
 use Rattle.am_record.specs.declared.step.Step.{Step}
-use Rattle.am_record.specs.declared.step.Step.TheVariants.{Begin, Do, Commit, Abort, Merge, Clean}
+use Rattle.am_record.specs.declared.step.Step.TheVariants.{Begin, Do, Commit, Abort}
 use Rattle.am_record.specs.declared.step.Reply.{Reply}
 use Rattle.am_record.specs.declared.step.Reply.TheVariants.{Begun, Committed, Aborted, Refused}
 use Rattle.am_serial.specs.Trace.{Trace, Answered, Effect, Begins, Answers, Commits, Aborts, Nothing, effect, effects}
@@ -25,20 +25,12 @@ use Rattle.am_audit.proofs.Moments.{one_more_event, one_more_moment, last_moment
 to_formed : (es : List Effect) (step : Step) (reply : Reply) → FormedIn (state_at es) step reply →
     FormedAt es step reply
 to_formed es (Do t op) reply h = h
-to_formed es Begin reply h = h
-to_formed es (Commit t) reply h = h
-to_formed es (Abort t) reply h = h
-to_formed es (Merge limit) reply h = h
-to_formed es (Clean range limit) reply h = h
+to_formed es step reply h = h
 
 from_formed : (es : List Effect) (step : Step) (reply : Reply) → FormedAt es step reply →
     FormedIn (state_at es) step reply
 from_formed es (Do t op) reply h = h
-from_formed es Begin reply h = h
-from_formed es (Commit t) reply h = h
-from_formed es (Abort t) reply h = h
-from_formed es (Merge limit) reply h = h
-from_formed es (Clean range limit) reply h = h
+from_formed es step reply h = h
 
 to_early : (es : List Effect) (step : Step) (reply : Reply) → EarlyIn (state_at es) step reply →
     EarlyRightAt es step reply
@@ -60,10 +52,7 @@ module _ (trace : Trace) (laws : FormedLaws trace) where
     λ both. (b h).1 (both.0, (laws.least t op h).0 both.1),
   )
   to_busy Begin reply b = tt
-  to_busy (Commit t) reply b = tt
-  to_busy (Abort t) reply b = tt
-  to_busy (Merge limit) reply b = tt
-  to_busy (Clean range limit) reply b = tt
+  to_busy step reply b = tt
 
   from_busy : (step : Step) (reply : Reply) → BusyRightAt es step reply → BusyIn (state_at es) step reply
   from_busy (Do t op) reply b = λ h. (
@@ -71,10 +60,7 @@ module _ (trace : Trace) (laws : FormedLaws trace) where
     λ both. (b h).1 (both.0, (laws.least t op h).1 both.1),
   )
   from_busy Begin reply b = tt
-  from_busy (Commit t) reply b = tt
-  from_busy (Abort t) reply b = tt
-  from_busy (Merge limit) reply b = tt
-  from_busy (Clean range limit) reply b = tt
+  from_busy step reply b = tt
 
 -- a formed commit is one of an active transaction
 pub commit_open : (s : State) (step : Step) (reply : Reply) (t : ℕ) → effect step reply ≡ Commits t →

@@ -157,7 +157,7 @@ fn list(listed: &mut Vec<Listed>, op: &Op) -> bool
         Op::Insert(key, _) | Op::Replace(key, _) | Op::Delete(key) => {
             listed.push_reserved(Listed::Write(*key));
         }
-        Op::Scan(..) | Op::Load(_) | Op::Lock(_) | Op::Mark | Op::Back => {
+        _ => {
             if let Some(lock) = op.asked_lock() {
                 listed.push_reserved(Listed::Other(lock));
             }

@@ -1,4 +1,3 @@
-mod Torn
 mod TextAudits
 mod RecordLines
 mod WholeLines

@@ -1,7 +1,7 @@
 //! What is said of a text.
 
 ghost use Rattle.std.specs.Prelude.{◌≡◌, ◌^◌, ◌<◌, ◌≤◌, ◌+◌, length, true, false, OnOk, OnErr, IfOk};
-ghost use Rattle.am_stream.specs.SinkWrites.{Gave, GaveBeginning};
+ghost use Rattle.am_stream.specs.SinkWrites.{Wrote};
 ghost use Rattle.std.specs.Prelude.{◌≢◌, ℕ, List, IfErr};
 ghost use Rattle.am_serial.specs.Trace.{Trace};
 ghost use Rattle.am_trace_text.specs.Lines.{IsTextOf};
@@ -127,11 +127,8 @@ fn status(judgement: &Judgement) -> u8
 pub fn say<K: Sink>(judgement: &Judgement, sink: &mut K) -> Result<u8, Failed>
     requires countable { K.failures sink.old + 1 < 2 ^ 63 }
     ensures status { IfOk result (λ status. status ≡ judgement_status judgement.now) }
-    ensures said { OnOk result (Gave K.holds sink.old (judgement_line judgement.now) sink.new) }
+    ensures wrote { Wrote K.holds K.failures sink.old (judgement_line judgement.now) result sink.new }
     ensures sent { OnOk result (K.pending sink.new ≡ false) }
-    ensures ok { OnOk result (K.failures sink.new ≡ K.failures sink.old) }
-    ensures failed { OnErr result (K.failures sink.new ≡ K.failures sink.old + 1) }
-    ensures torn { OnErr result (GaveBeginning K.holds sink.old (judgement_line judgement.now) sink.new) }
 {
     give_all(sink, line(judgement).as_slice())?;
     sink.flush()?;

@@ -1,7 +1,6 @@
 //! The records that a stored trace leaves.
 
 ghost use Rattle.std.specs.Prelude.{◌≡◌, ◌^◌, ◌<◌, ◌+◌, ◌++◌, false, IfOk, IfErr, OnOk, OnErr};
-ghost use Rattle.am_stream.specs.SinkWrites.{Gave, GaveBeginning};
 ghost use Rattle.am_auditor.specs.Judgements.{HasRecords, IsAgainst, TellsRecords, HasBegunRecords};
 ghost use Rattle.am_auditor.specs.Judgements.{record_line, records_text};
 

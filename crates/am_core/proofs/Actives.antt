@@ -26,7 +26,7 @@ use Rattle.am_tx.specs.declared.transaction.Transaction.{Transaction}
 use Rattle.am_tx.specs.Active.{tx_numbers, is_active_in, ops_in, log_in, no_notes, new_transaction}
 use Rattle.am_tx.specs.Txs.{Txs, IsConsistent, txs_after_begin}
 use Rattle.am_tx.specs.Txs as txs
-use Rattle.am_effect.specs.Store.{notes_left, marks_left}
+use Rattle.am_effect.specs.Operations.{notes_left, marks_left}
 use Rattle.am_sound.specs.StoreState.{Active, is_in, in_table, newcomer, without_tx, with_op}
 use Rattle.am_sound.specs.Tables.{owners_of}
 use Rattle.am_sound.specs.Tables as tables

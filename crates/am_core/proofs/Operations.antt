@@ -1,9 +1,9 @@
 -- What an operation that is refused, that wants memory, and that is done leave of what is kept.
-use Rattle.std.proofs.Common.{◌≡◌, ◌≤◌, ◌<◌, ◌+◌, ◌++◌, ◌⊎◌, inl, inr, ℕ, List, length, take, Bool, true, false}
-use Rattle.std.proofs.Common.{cond, ◌||◌, Option, Some, None, refl, sym, ap, ◌∙◌, subst, ⊎_elim, arith}
+use Rattle.std.proofs.Common.{◌≡◌, ◌<◌, ◌+◌, ◌++◌, ◌⊎◌, inl, inr, ℕ, List, length, take, Bool, true, false}
+use Rattle.std.proofs.Common.{cond, Option, Some, None, refl, sym, ap, ◌∙◌, subst, ⊎_elim, arith}
 use Rattle.std.specs.Prelude.{nat_le, MatchOption}
 use Rattle.std.specs.FinMap.{get, contains_key}
-use Rattle.std.proofs.lemmas.Bool.{le-leb, leb-false, or_right, or_left}
+use Rattle.std.proofs.lemmas.Bool.{leb-false, or_right, or_left}
 use Rattle.am_record.specs.Interval.{Interval}
 use Rattle.am_record.specs.OrderedKey.{OrderedKey}
 use Rattle.am_record.specs.Plain.{PlainMap, found, exists_or_done, least_taken}
@@ -12,13 +12,11 @@ use Rattle.am_record.specs.declared.lock.Lock.{Lock as TheLock}
 use Rattle.am_record.specs.declared.step.Refusal.{Refusal}
 use Rattle.am_record.specs.declared.step.Refusal.TheVariants.{TooManyOps, NoMemory}
 use Rattle.am_record.specs.declared.step.Op.{Op}
-use Rattle.am_record.specs.declared.step.Op.TheVariants.{Get, Scan, Insert, Replace, Delete, Load, Lock, Mark, Back}
+use Rattle.am_record.specs.declared.step.Op.TheVariants.{Get, Insert, Replace, Delete, Load, Back}
 use Rattle.am_record.specs.declared.step.Step.TheVariants.{Do}
 use Rattle.am_record.specs.declared.step.Reply.{Reply}
 use Rattle.am_record.specs.declared.step.Reply.TheVariants.{Done, NoMark, Exists, Missing, Refused}
-use Rattle.am_index.specs.Entries.{find}
 use Rattle.am_index.specs.Content.{content}
-use Rattle.am_index.specs.Rooms.{needs_room}
 use Rattle.am_parts.specs.Partitions.{Partitions}
 use Rattle.am_undo.specs.Log.{Log}
 use Rattle.am_record.specs.Marks.{since_mark, has_mark}
@@ -31,12 +29,13 @@ use Rattle.am_tx.specs.declared.transaction.Transaction.{Transaction}
 use Rattle.am_record.specs.Refusals.{refusal_before_lock, is_one_too_many, lock_refusal, or_else}
 use Rattle.am_serial.specs.Trace.{runs_made}
 use Rattle.am_effect.specs.Laws.{taken_back}
-use Rattle.am_effect.specs.Store.{changed, noted, notes_left, marks_left, wished, with_wish}
+use Rattle.am_effect.specs.Store.{with_wish}
+use Rattle.am_effect.specs.Operations.{changed, noted, notes_left, marks_left, wished}
 use Rattle.am_sound.specs.Represents.{stored_answer}
 use Rattle.am_sound.specs.StoreState.{StoreState, is_in, in_table, MayAnswer, refusal_in, takes_memory, state_after_op}
 use Rattle.am_sound.specs.StoreState.{with_op, taken_back_to_mark, blocker_in}
 use Rattle.am_core.specs.StoreContent.{state_kept, actives}
-use Rattle.am_core.specs.Memory.{adds_ninth_lock, adds_fifth_note, adds_third_mark, outgrows_live, may_want_room}
+use Rattle.am_core.specs.Memory.{adds_ninth_lock, wants_room, may_want_room}
 use Rattle.am_core.specs.Admission.{lock_refusal_for, IsLockRefusal, HasLocks, IsLockGranted, wish_of}
 use Rattle.am_core.specs.OperationSteps.{MayWantRoom, Works, LeavesAllAlone}
 use Rattle.am_core.proofs.Actives.{is_in-actives, ops-actives, notes-actives, marks-actives, locks-actives, actives-did}
@@ -111,26 +110,10 @@ module _ (parts : Partitions) (t : Txs) (wishes : List Interval) (commits tx : �
   never None true e = cc
   never None false e = cc
 
-  by_lock : (op : Op) → adds_ninth_lock (in_table (actives t) tx).locks (lock_of op) ≡ true →
+  by_lock : adds_ninth_lock (in_table (actives t) tx).locks (lock_of op) ≡ true →
       may_want_room (state_kept parts t wishes commits) (in_table (actives t) tx) op ≡ true
-  by_lock (Get k) e = e
-  by_lock (Scan range max) e = refl
-  by_lock (Insert k v) e = or_right (needs_room (find parts.entries 0 k) v)
-      (adds_ninth_lock (in_table (actives t) tx).locks (lock_of (Insert k v)) || adds_fifth_note
-      (in_table (actives t) tx).notes)
-      (or_left (adds_ninth_lock (in_table (actives t) tx).locks (lock_of (Insert k v)))
-      (adds_fifth_note (in_table (actives t) tx).notes) e)
-  by_lock (Replace k v) e = or_right (outgrows_live (get (content parts.entries) k) v)
-      (adds_ninth_lock (in_table (actives t) tx).locks (lock_of (Replace k v)) || adds_fifth_note
-      (in_table (actives t) tx).notes)
-      (or_left (adds_ninth_lock (in_table (actives t) tx).locks (lock_of (Replace k v)))
-      (adds_fifth_note (in_table (actives t) tx).notes) e)
-  by_lock (Delete k) e = or_left (adds_ninth_lock (in_table (actives t) tx).locks (lock_of (Delete k)))
-      (adds_fifth_note (in_table (actives t) tx).notes) e
-  by_lock (Load pairs) e = refl
-  by_lock (Lock lock) e = e
-  by_lock Mark e = cc
-  by_lock Back e = cc
+  by_lock e = or_left (adds_ninth_lock (in_table (actives t) tx).locks (lock_of op))
+      (wants_room op parts.entries (in_table (actives t) tx).notes (in_table (actives t) tx).marks) e
 
   pub wants_lock : (why : Refusal) → None ≡ refusal_before_lock (is_active_in t.active tx) (ops_in t.active tx)
       parts.runs op → IsLockRefusal t tx (lock_of op) why → Refused why ≡ Refused NoMemory
@@ -141,14 +124,14 @@ module _ (parts : Partitions) (t : Txs) (wishes : List Interval) (commits tx : �
       ⊎_elim
       (λ due. absurd (never (blocker_in (actives t) tx (lock_of op))
       (is_one_too_many (locks_owned t.locks tx) (lock_of op)) (due ∙ ap Some same)))
-      (λ wants. by_lock op (ap (λ own. adds_ninth_lock own (lock_of op))
+      (λ wants. by_lock (ap (λ own. adds_ninth_lock own (lock_of op))
       (locks-actives (locks_owned t.locks) t.active tx a) ∙ wants.2))
       r
 
   -- ---- no memory beside the lock's
 
   room_needs : (op : Op) (log : Log) → MayWantRoom op parts.entries log → takes_memory op ≡ true
-  room_needs Back log w = absurd w
+  room_needs Back log w = cc
   room_needs op log w = refl
 
   pub says_room : (parts' : Partitions) (log : Log) → None ≡ refusal_before_lock (is_active_in t.active tx)
@@ -157,39 +140,14 @@ module _ (parts : Partitions) (t : Txs) (wishes : List Interval) (commits tx : �
   says_room parts' log e due w = subst (Says (Refused NoMemory)) (sym (due_then e ∙ due))
       (inr (refl, room_needs op log w))
 
-  five : (log : Log) → log.notes ≡ (in_table (actives t) tx).notes → 4 ≤ length log.notes →
-      adds_fifth_note (in_table (actives t) tx).notes ≡ true
-  five log e h = ap adds_fifth_note (sym e) ∙ le-leb 4 (length log.notes) h
-
-  -- the value needs room, or the note does
-  by_need : (asked : Option TheLock) (log : Log) → log.notes ≡ (in_table (actives t) tx).notes → (b : Bool) →
-      (b ≡ false → 4 ≤ length log.notes) →
-      (b || (adds_ninth_lock (in_table (actives t) tx).locks asked || adds_fifth_note
-      (in_table (actives t) tx).notes)) ≡ true
-  by_need asked log e true w = refl
-  by_need asked log e false w = or_right (adds_ninth_lock (in_table (actives t) tx).locks asked)
-      (adds_fifth_note (in_table (actives t) tx).notes) (five log e (w refl))
-
-  by_room : (op : Op) (log : Log) → log.notes ≡ (in_table (actives t) tx).notes →
-      log.marks ≡ (in_table (actives t) tx).marks → MayWantRoom op parts.entries log →
+  pub wants_memory : (log : Log) → log ≡ log_in t.active tx → MayWantRoom op parts.entries log →
       may_want_room (state_kept parts t wishes commits) (in_table (actives t) tx) op ≡ true
-  by_room (Get k) log e m w = absurd w
-  by_room (Scan range max) log e m w = refl
-  by_room (Insert k v) log e m w = by_need (lock_of (Insert k v)) log e (needs_room (find parts.entries 0 k) v) w
-  by_room (Replace k v) log e m w = by_need (lock_of (Replace k v)) log e
-      (outgrows_live (get (content parts.entries) k) v) w
-  by_room (Delete k) log e m w = or_right (adds_ninth_lock (in_table (actives t) tx).locks (lock_of (Delete k)))
-      (adds_fifth_note (in_table (actives t) tx).notes) (five log e w)
-  by_room (Load pairs) log e m w = refl
-  by_room (Lock lock) log e m w = absurd w
-  by_room Mark log e m w = ap adds_third_mark (sym m) ∙ le-leb 2 (length log.marks) w
-  by_room Back log e m w = absurd w
-
-  pub wants_room : (log : Log) → log ≡ log_in t.active tx → MayWantRoom op parts.entries log →
-      may_want_room (state_kept parts t wishes commits) (in_table (actives t) tx) op ≡ true
-  wants_room log e w =
-      by_room op log (ap (λ (l : Log). l.notes) e ∙ sym (notes-actives (locks_owned t.locks) t.active tx))
-      (ap (λ (l : Log). l.marks) e ∙ sym (marks-actives (locks_owned t.locks) t.active tx)) w
+  wants_memory log e w =
+      let notes = ap (λ (l : Log). l.notes) e ∙ sym (notes-actives (locks_owned t.locks) t.active tx) in
+      let marks = ap (λ (l : Log). l.marks) e ∙ sym (marks-actives (locks_owned t.locks) t.active tx) in
+      or_right (adds_ninth_lock (in_table (actives t) tx).locks (lock_of op))
+      (wants_room op parts.entries (in_table (actives t) tx).notes (in_table (actives t) tx).marks)
+      ((λ i. wants_room op parts.entries (sym notes i) (sym marks i)) ∙ w)
 
   pub idle : (t1 t2 t3 : Txs) (parts' : Partitions) (held : ℕ) → IsConsistent t →
       HasLocks t tx (with_asked (locks_owned t.locks tx) (lock_of op)) t1 → LeavesAllAlone parts t1 tx parts' t2
@@ -230,14 +188,12 @@ module _ (parts : Partitions) (t : Txs) (wishes : List Interval) (commits tx : �
 
   answered : (op : Op) (marks : List ℕ) (m : PlainMap) → IsAnswer (stored_answer op marks m)
   answered (Get k) marks m = answered_found (get m k)
-  answered (Scan range max) marks m = tt
   answered (Insert k v) marks m = answered_or (contains_key m k) (Exists k) Done tt tt
   answered (Replace k v) marks m = answered_or (contains_key m k) Done Missing tt tt
   answered (Delete k) marks m = answered_or (contains_key m k) Done Missing tt tt
   answered (Load pairs) marks m = answered_taken (least_taken pairs m)
-  answered (Lock lock) marks m = tt
-  answered Mark marks m = tt
   answered Back marks m = answered_or (has_mark marks) Done NoMark tt tt
+  answered op marks m = tt
 
   done_by : (reply : Reply) → IsAnswer reply → state_after_op (state_kept parts t wishes commits) tx op reply ≡ record {
     entries = changed (taken_back_to_mark (state_kept parts t wishes commits) tx) parts.runs op reply parts.entries;
@@ -256,14 +212,7 @@ module _ (parts : Partitions) (t : Txs) (wishes : List Interval) (commits tx : �
 
   wished_is : (op : Op) (marks : List ℕ) (m : PlainMap) → wished op (stored_answer op marks m) ≡ wish_of op
   wished_is (Get k) marks m = wished_found k (get m k)
-  wished_is (Scan range max) marks m = refl
-  wished_is (Insert k v) marks m = refl
-  wished_is (Replace k v) marks m = refl
-  wished_is (Delete k) marks m = refl
-  wished_is (Load pairs) marks m = refl
-  wished_is (Lock lock) marks m = refl
-  wished_is Mark marks m = refl
-  wished_is Back marks m = refl
+  wished_is op marks m = refl
 
   pub says_done : (t1 t2 : Txs) (parts' : Partitions) (reply : Reply) →
       None ≡ refusal_before_lock (is_active_in t.active tx) (ops_in t.active tx) parts.runs op →

@@ -33,7 +33,7 @@ use Rattle.am_tx.specs.declared.transaction.Transaction.{Transaction}
 use Rattle.am_tx.specs.Active.{is_active_in}
 use Rattle.am_tx.specs.Txs.{Txs}
 use Rattle.am_core.specs.StoreSteps.{IsWithin}
-use Rattle.am_effect.specs.Store.{noted}
+use Rattle.am_effect.specs.Operations.{noted}
 use Rattle.am_record.proofs.ByNumber.{length-without_number, length-without_one}
 use Rattle.am_core.proofs.Merges.{none_merged}
 
@@ -63,15 +63,11 @@ unwanted_clean p range limit reply says e = by_limit (is_limit limit)
 -- ---- a refused step
 
 pub refused_stays : (p : StoreState) (step : Step) (why : Refusal) → state_after p step (Refused why) ≡ p
-refused_stays p Begin why = refl
-refused_stays p (Do t op) why = refl
-refused_stays p (Commit t) why = refl
-refused_stays p (Abort t) why = refl
 refused_stays p (Merge limit) why = λ i. record p {
   entries = all_worked_off (none_merged p.entries p.wishes why i)
       p.entries;
 }
-refused_stays p (Clean range limit) why = refl
+refused_stays p step why = refl
 
 -- ---- numbers
 

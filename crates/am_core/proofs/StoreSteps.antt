@@ -4,7 +4,7 @@ use Rattle.std.proofs.Common.{length-append}
 use Rattle.std.proofs.lemmas.List.{append-nil}
 use Rattle.am_record.specs.declared.step.Refusal.{Refusal}
 use Rattle.am_record.specs.declared.step.Step.{Step}
-use Rattle.am_record.specs.declared.step.Step.TheVariants.{Begin, Do, Commit, Abort, Merge, Clean}
+use Rattle.am_record.specs.declared.step.Step.TheVariants.{Do, Merge}
 use Rattle.am_record.specs.declared.step.Reply.{Reply}
 use Rattle.am_record.specs.declared.step.Reply.TheVariants.{Refused}
 use Rattle.am_serial.specs.Trace.{Trace}
@@ -36,12 +36,9 @@ pub stays : (p p' : StoreState) (step : Step) (reply : Reply) → p' ≡ state_a
 stays p p' step reply e why is = e ∙ ap (state_after p step) is ∙ refused_stays p step why
 
 pub within : (p : StoreState) (step : Step) (reply : Reply) → MayAnswer p step reply → IsWithin step reply
-within p Begin reply says = tt
 within p (Do t op) reply says = within_do p t op reply says
-within p (Commit t) reply says = tt
-within p (Abort t) reply says = tt
 within p (Merge limit) reply says = within_merge p limit reply says
-within p (Clean range limit) reply says = tt
+within p step reply says = tt
 
 -- ---- steps one after another
 

@@ -5,13 +5,13 @@ use Rattle.am_record.specs.Locks.{is_covered}
 use Rattle.am_record.specs.Asks.{lock_of}
 use Rattle.am_record.specs.declared.lock.Lock.{Lock}
 use Rattle.am_record.specs.declared.step.Op.{Op}
-use Rattle.am_record.specs.declared.step.Op.TheVariants.{Get, Scan, Insert, Replace, Delete, Load, Lock as TakeLock}
-use Rattle.am_record.specs.declared.step.Op.TheVariants.{Mark, Back}
+use Rattle.am_record.specs.declared.step.Op.TheVariants.{Scan, Insert, Replace, Delete, Load, Mark}
 use Rattle.am_record.specs.declared.step.Step.{Step}
 use Rattle.am_record.specs.declared.step.Step.TheVariants.{Do, Merge}
 use Rattle.am_index.specs.Entries.{find}
 use Rattle.am_index.specs.Content.{content}
 use Rattle.am_index.specs.Rooms.{outgrows, needs_room}
+use Rattle.am_record.specs.declared.entry.Entry.{Entry}
 use Rattle.am_undo.specs.declared.note.Note.{Note}
 use Rattle.am_sound.specs.StoreState.{Active, StoreState, in_table}
 
@@ -33,20 +33,21 @@ abbrev pub outgrows_live : Option (List ℕ) → List ℕ → Bool
 outgrows_live None value = false
 outgrows_live (Some live) value = outgrows value live
 
--- whether the operation of that transaction may want memory. A Replace does where its value outgrows the live one, an
--- Insert where the key has no entry in the final partition yet, or where its value outgrows that of the ghost there
+-- whether the operation may want memory beside its lock's: a Scan and a Load do, a Replace where its value outgrows the
+-- live one, an Insert where the key has no entry in the final partition yet or where its value outgrows that of the
+-- ghost there, and each write for its note, a Mark for its mark
+abbrev pub wants_room : Op → List Entry → List Note → List ℕ → Bool
+wants_room (Scan range max) es notes marks = true
+wants_room (Insert k v) es notes marks = needs_room (find es 0 k) v || adds_fifth_note notes
+wants_room (Replace k v) es notes marks = outgrows_live (get (content es) k) v || adds_fifth_note notes
+wants_room (Delete k) es notes marks = adds_fifth_note notes
+wants_room (Load pairs) es notes marks = true
+wants_room Mark es notes marks = adds_third_mark marks
+wants_room op es notes marks = false
+
+-- whether the operation of that transaction may want memory: for its lock, or for what it does
 abbrev pub may_want_room : StoreState → Active → Op → Bool
-may_want_room p x (Get k) = adds_ninth_lock x.locks (lock_of (Get k))
-may_want_room p x (TakeLock lock) = adds_ninth_lock x.locks (Some lock)
-may_want_room p x (Replace k v) = outgrows_live (get (content p.entries) k) v ||
-    (adds_ninth_lock x.locks (lock_of (Replace k v)) || adds_fifth_note x.notes)
-may_want_room p x (Delete k) = adds_ninth_lock x.locks (lock_of (Delete k)) || adds_fifth_note x.notes
-may_want_room p x (Insert k v) = needs_room (find p.entries 0 k) v ||
-    (adds_ninth_lock x.locks (lock_of (Insert k v)) || adds_fifth_note x.notes)
-may_want_room p x (Scan range max) = true
-may_want_room p x (Load pairs) = true
-may_want_room p x Mark = adds_third_mark x.marks
-may_want_room p x Back = false
+may_want_room p x op = adds_ninth_lock x.locks (lock_of op) || wants_room op p.entries x.notes x.marks
 
 -- whether the step may be refused for want of memory: a Begin, a Commit, an Abort, a Clean and a Back never are
 abbrev pub may_want_memory : StoreState → Step → Bool

@@ -5,7 +5,7 @@ ghost use Rattle.std.specs.FinMap.{get};
 ghost use Rattle.am_record.specs.Plain.{found};
 ghost use Rattle.am_index.specs.Content.{content};
 ghost use Rattle.am_parts.specs.Partitions.{AreWellFormed, IsLiveEntry};
-ghost use Rattle.am_effect.specs.Store.{find_live};
+ghost use Rattle.am_effect.specs.Operations.{find_live};
 
 use am_index::PartIndex;
 use am_parts::Parts;

@@ -89,26 +89,12 @@ abbrev AreVisible : Records → Type 0
 AreVisible records = AllByRecursion IsVisibleRow records
 
 with_visible : (staged : Records) (o : Op) → AreVisible staged → WritesVisible o → WritesVisible (with_staged staged o)
-with_visible staged (op.Get k) v w = w
-with_visible staged (op.Scan range max) v w = w
-with_visible staged (op.Insert k value) v w = w
-with_visible staged (op.Replace k value) v w = w
-with_visible staged (op.Delete k) v w = w
 with_visible staged (op.Load records) v w = all_append IsVisibleRow staged records v w
-with_visible staged (op.Lock lock) v w = w
-with_visible staged op.Mark v w = w
-with_visible staged op.Back v w = w
+with_visible staged o v w = w
 
 left_visible : (staged : Records) (o : Op) → AreVisible staged → AreVisible (staged_left staged o)
-left_visible staged (op.Get k) v = v
-left_visible staged (op.Scan range max) v = v
-left_visible staged (op.Insert k value) v = v
-left_visible staged (op.Replace k value) v = v
-left_visible staged (op.Delete k) v = v
 left_visible staged (op.Load records) v = tt
-left_visible staged (op.Lock lock) v = v
-left_visible staged op.Mark v = v
-left_visible staged op.Back v = v
+left_visible staged o v = v
 
 either_visible : (b : Bool) (xs ys : Records) → AreVisible xs → AreVisible ys → AreVisible (cond b xs ys)
 either_visible true xs ys v w = v
@@ -120,21 +106,8 @@ asked_visible (Some tx) staged (request.Do o) v h = left_visible staged o v
 asked_visible (Some tx) staged (request.Stage records) v h = either_visible (may_wait staged records)
     (staged ++ records) staged (all_append IsVisibleRow staged records v h) v
 asked_visible None staged (request.Do o) v h = v
-asked_visible None staged (request.Stage records) v h = v
-asked_visible None staged request.Begin v h = v
-asked_visible (Some tx) staged request.Begin v h = v
-asked_visible None staged request.Commit v h = v
-asked_visible (Some tx) staged request.Commit v h = v
-asked_visible None staged request.Abort v h = v
-asked_visible (Some tx) staged request.Abort v h = v
-asked_visible None staged (request.Merge limit) v h = v
-asked_visible (Some tx) staged (request.Merge limit) v h = v
-asked_visible None staged (request.Clean range limit) v h = v
-asked_visible (Some tx) staged (request.Clean range limit) v h = v
-asked_visible None staged request.Seen v h = v
-asked_visible (Some tx) staged request.Seen v h = v
-asked_visible None staged request.Quit v h = v
-asked_visible (Some tx) staged request.Quit v h = v
+asked_visible None staged asked v h = v
+asked_visible (Some tx) staged asked v h = v
 
 after_reply : (staged : Records) (r : Reply) → AreVisible staged → AreVisible (staged_after staged r)
 after_reply staged (reply.Committed n) v = tt
@@ -165,22 +138,15 @@ request_visible : (active : Option ℕ) (staged : Records) (asked : Request) →
     IsVisibleDue (request_action active staged asked)
 request_visible None staged request.Begin v h = tt
 request_visible (Some tx) staged request.Begin v h = active_line
-request_visible None staged (request.Do o) v h = none_line
 request_visible (Some tx) staged (request.Do o) v h = with_visible staged o v h
-request_visible None staged (request.Stage records) v h = none_line
 request_visible (Some tx) staged (request.Stage records) v h = stage_line (may_wait staged records)
-request_visible None staged request.Commit v h = none_line
 request_visible (Some tx) staged request.Commit v h = commit_visible tx staged
-request_visible None staged request.Abort v h = none_line
-request_visible (Some tx) staged request.Abort v h = tt
 request_visible None staged (request.Merge limit) v h = tt
-request_visible (Some tx) staged (request.Merge limit) v h = tt
 request_visible None staged (request.Clean range limit) v h = tt
-request_visible (Some tx) staged (request.Clean range limit) v h = tt
 request_visible None staged request.Seen v h = tt
-request_visible (Some tx) staged request.Seen v h = tt
-request_visible None staged request.Quit v h = none_line
 request_visible (Some tx) staged request.Quit v h = none_line
+request_visible None staged asked v h = none_line
+request_visible (Some tx) staged asked v h = tt
 
 -- what is due is visible, and so is what waits on
 abbrev GoesVisibly : Action → SessionState → Type 0

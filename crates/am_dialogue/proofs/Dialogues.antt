@@ -17,17 +17,16 @@ use Rattle.am_record.specs.declared.step.Refusal.{Refusal}
 use Rattle.am_record.specs.declared.step.Refusal.TheVariants as why
 use Rattle.am_serial.specs.Trace.{Trace, Answered, ops_of, effect, effect_of_do, runs_made}
 use Rattle.am_serial.specs.Machine as machine
-use Rattle.am_serial.specs.Machine.{due as due_of, next, Runs, May, view}
+use Rattle.am_serial.specs.Machine.{next, Runs, May, view}
 use Rattle.am_dialogue.specs.ParsedLine.{Line, parsed, parsed_of, MayParse, is_upkeep}
 use Rattle.am_dialogue.specs.Session.{SessionState, staged_after}
 use Rattle.am_dialogue.specs.Actions.{may_wait, with_staged, staged_left, stage_response, action_for}
-use Rattle.am_dialogue.specs.Actions.{session_behind_line}
-use Rattle.am_dialogue.specs.Actions.{no_room, IsActionFor}
+use Rattle.am_dialogue.specs.Actions.{session_behind_line, no_room, IsActionFor}
 use Rattle.am_dialogue.specs.Exchanges.{Exchange}
 use Rattle.am_dialogue.specs.Conversation.{SessionPoint, session_at, Stays, TakesStep, AnswersAction, AnswersLine}
 use Rattle.am_dialogue.specs.Alone.{Alone, alone_after, alone_meaning}
 use Rattle.am_dialogue.specs.Say as say
-use Rattle.am_dialogue.specs.Say.{refusal_due, reply_due, refused_or, begin_due, state_did, wants_memory, response_due}
+use Rattle.am_dialogue.specs.Say.{refusal_due, reply_due, refused_or, state_did, wants_memory, response_due}
 use Rattle.am_dialogue.specs.Say.{state_after_line, state_refused, is_load_line, IsSaid, SaysFrom}
 use Rattle.am_wire.specs.declared.request.Request.{Request}
 use Rattle.am_wire.specs.declared.request.Request.TheVariants as request
@@ -179,14 +178,7 @@ module _ (begun commits runs : ℕ) (m : PlainMap) (staged : Records) where
 refused_keeps : (o : Op) (s : say.DialogueState) → record s { staged = staged_left s.staged o } ≡ state_refused s
     (said.Asked (request.Do o)) (Replied (reply.Refused why.NoMemory))
 refused_keeps (op.Get k) s = refl
-refused_keeps (op.Scan range max) s = refl
-refused_keeps (op.Insert k v) s = refl
-refused_keeps (op.Replace k v) s = refl
-refused_keeps (op.Delete k) s = refl
-refused_keeps (op.Load rows) s = refl
-refused_keeps (op.Lock lock) s = refl
-refused_keeps op.Mark s = refl
-refused_keeps op.Back s = refl
+refused_keeps o s = refl
 
 module _ (begun commits runs : ℕ) (m : PlainMap) (body : List Answered) (staged : Records) where
   abbrev busy : Where
@@ -409,16 +401,11 @@ module _ (begun commits runs : ℕ) (m : PlainMap) (staged : Records) where
 
   leads_free : (asked : Request) → Line_leads free (said.Asked asked)
   leads_free request.Begin = taken free staged step.Begin request.Begin (begins begun commits runs m staged)
-  leads_free (request.Do o) = at_once free staged (said.Asked (request.Do o)) response.NoTransaction refl refl refl
-  leads_free (request.Stage records) = at_once free staged (said.Asked (request.Stage records)) response.NoTransaction
-      refl refl refl
-  leads_free request.Commit = at_once free staged (said.Asked request.Commit) response.NoTransaction refl refl refl
-  leads_free request.Abort = at_once free staged (said.Asked request.Abort) response.NoTransaction refl refl refl
   leads_free (request.Merge limit) = taken free staged (step.Merge limit) (request.Merge limit) (merges free limit)
   leads_free (request.Clean range limit) = taken free staged (step.Clean range limit) (request.Clean range limit)
       (cleans free range limit)
   leads_free request.Seen = shown free refl refl
-  leads_free request.Quit = at_once free staged (said.Asked request.Quit) response.NoTransaction refl refl refl
+  leads_free asked = at_once free staged (said.Asked asked) response.NoTransaction refl refl refl
 
 -- with one
 module _ (begun commits runs : ℕ) (m : PlainMap) (body : List Answered) where

@@ -29,24 +29,12 @@ IsSaidOrUpkeep h due = ((is_upkeep h ≡ true) × (due ≡ None)) ⊎
 
 asked_is_said : (s : DialogueState) (own : Option (List Op)) (asked : Request) →
     IsSaidOrUpkeep (said.Asked asked) (answer_to s own asked)
-asked_is_said s None request.Begin = inr (refl, _, refl)
-asked_is_said s (Some ops) request.Begin = inr (refl, _, refl)
-asked_is_said s None (request.Do o) = inr (refl, _, refl)
-asked_is_said s (Some ops) (request.Do o) = inr (refl, _, refl)
-asked_is_said s None (request.Stage records) = inr (refl, _, refl)
-asked_is_said s (Some ops) (request.Stage records) = inr (refl, _, refl)
-asked_is_said s None request.Commit = inr (refl, _, refl)
-asked_is_said s (Some ops) request.Commit = inr (refl, _, refl)
-asked_is_said s None request.Abort = inr (refl, _, refl)
-asked_is_said s (Some ops) request.Abort = inr (refl, _, refl)
 asked_is_said s None (request.Merge limit) = inl (refl, refl)
 asked_is_said s (Some ops) (request.Merge limit) = inl (refl, refl)
 asked_is_said s None (request.Clean range limit) = inl (refl, refl)
 asked_is_said s (Some ops) (request.Clean range limit) = inl (refl, refl)
-asked_is_said s None request.Seen = inr (refl, _, refl)
-asked_is_said s (Some ops) request.Seen = inr (refl, _, refl)
-asked_is_said s None request.Quit = inr (refl, _, refl)
-asked_is_said s (Some ops) request.Quit = inr (refl, _, refl)
+asked_is_said s None asked = inr (refl, _, refl)
+asked_is_said s (Some ops) asked = inr (refl, _, refl)
 
 heard_is_said : (s : DialogueState) (h : ParsedLine) → IsSaidOrUpkeep h (response_due s h)
 heard_is_said s said.TooLong = inr (refl, _, refl)
@@ -131,15 +119,8 @@ abbrev IsEmpty : DialogueState → Type 0
 IsEmpty s = s.staged ≡ []
 
 left_empty : (staged : Records) (o : Op) → staged ≡ [] → staged_left staged o ≡ []
-left_empty staged (op.Get k) e = e
-left_empty staged (op.Scan range max) e = e
-left_empty staged (op.Insert k v) e = e
-left_empty staged (op.Replace k v) e = e
-left_empty staged (op.Delete k) e = e
 left_empty staged (op.Load rows) e = refl
-left_empty staged (op.Lock lock) e = e
-left_empty staged op.Mark e = e
-left_empty staged op.Back e = e
+left_empty staged o e = e
 
 did_empty : (s : DialogueState) (ops : List Op) (o : Op) (r : Reply) → IsEmpty s → IsEmpty (state_did s ops o r)
 did_empty s ops o (reply.Refused why) e = e
@@ -157,23 +138,13 @@ either_empty false s t e f = f
 asked_empty : (s : DialogueState) (own : Option (List Op)) (asked : Request) → is_stage (said.Asked asked) ≡ false →
     IsEmpty s → IsEmpty (state_asked s own asked)
 asked_empty s None request.Begin n e = either_empty _ s _ e e
-asked_empty s (Some ops) request.Begin n e = e
-asked_empty s None (request.Do o) n e = e
 asked_empty s (Some ops) (request.Do o) n e = did_empty (record s { staged = staged_left s.staged o }) ops
     (with_staged s.staged o) (reply_due s ops (with_staged s.staged o)) (left_empty s.staged o e)
 asked_empty s own (request.Stage records) n e = cc
-asked_empty s None request.Commit n e = e
 asked_empty s (Some ops) request.Commit n e = committed_empty s ops s.staged e
-asked_empty s None request.Abort n e = e
 asked_empty s (Some ops) request.Abort n e = refl
-asked_empty s None (request.Merge limit) n e = e
-asked_empty s (Some ops) (request.Merge limit) n e = e
-asked_empty s None (request.Clean range limit) n e = e
-asked_empty s (Some ops) (request.Clean range limit) n e = e
-asked_empty s None request.Seen n e = e
-asked_empty s (Some ops) request.Seen n e = e
-asked_empty s None request.Quit n e = e
-asked_empty s (Some ops) request.Quit n e = e
+asked_empty s (Some ops) asked n e = e
+asked_empty s None asked n e = e
 
 heard_empty : (s : DialogueState) (h : ParsedLine) → is_stage h ≡ false → IsEmpty s → IsEmpty (state_after_line s h)
 heard_empty s said.TooLong n e = e

@@ -22,12 +22,12 @@ use Rattle.am_record.specs.declared.step.Refusal.TheVariants as why
 use Rattle.am_serial.specs.Trace.{Answered, ops_of, Answers, Commits, Aborts, effect_of_do, runs_made}
 use Rattle.am_serial.specs.Machine as machine
 use Rattle.am_record.specs.Refusals.{refusal_before_lock, or_else, lock_refusal, is_one_too_many, is_bounded, is_load}
-use Rattle.am_serial.specs.Machine.{Transaction, due, due_early, due_lock, blocker, next, Runs, May, view}
+use Rattle.am_serial.specs.Machine.{Transaction, due, due_early, due_lock, next, view}
 use Rattle.am_dialogue.specs.Session.{staged_after}
 use Rattle.am_dialogue.specs.Alone.{Alone}
 use Rattle.am_dialogue.specs.Conversation.{SessionPoint}
 use Rattle.am_dialogue.specs.Say as say
-use Rattle.am_dialogue.specs.Say.{refusal_due, reply_due, begin_due, state_did, wants_memory}
+use Rattle.am_dialogue.specs.Say.{refusal_due, state_did, wants_memory}
 use Rattle.am_dialogue.specs.declared.response.Response.TheVariants.{Replied}
 
 -- a machine with one active transaction, or none: the one that was begun last, with its answered operations; and what
@@ -118,14 +118,12 @@ back_answers (m ∷ ms) = refl
 
 pub answer_answers : (op : Op) (d : Draft) → is_answer (answer op d) ≡ true
 answer_answers (op.Get k) d = found_answers (get d.map k)
-answer_answers (op.Scan range max) d = refl
 answer_answers (op.Insert k v) d = either_answers (contains_key d.map k) _ _ refl refl
 answer_answers (op.Replace k v) d = either_answers (contains_key d.map k) _ _ refl refl
 answer_answers (op.Delete k) d = either_answers (contains_key d.map k) _ _ refl refl
 answer_answers (op.Load pairs) d = load_answers (least_taken pairs d.map)
-answer_answers (op.Lock lock) d = refl
-answer_answers op.Mark d = refl
 answer_answers op.Back d = back_answers d.saved
+answer_answers o d = refl
 
 -- an answer wants no memory, is an operation of its transaction, and ends none
 pub record Counts (r : Reply) : Type 0 where

@@ -11,8 +11,7 @@ use Rattle.am_record.specs.declared.step.Op.TheVariants.{Load}
 use Rattle.am_record.specs.declared.step.Reply.{Reply}
 use Rattle.am_record.specs.declared.step.Reply.TheVariants.{Begun, Committed, Aborted, Refused}
 use Rattle.am_record.specs.declared.step.Refusal.{Refusal}
-use Rattle.am_record.specs.declared.step.Refusal.TheVariants.{TooManyTx}
-use Rattle.am_record.specs.declared.step.Refusal.TheVariants.{NoMemory}
+use Rattle.am_record.specs.declared.step.Refusal.TheVariants.{TooManyTx, NoMemory}
 use Rattle.am_serial.specs.Trace.{runs_made}
 use Rattle.am_record.specs.Refusals.{refusal_before_lock, is_one_too_many, lock_refusal, or_else}
 use Rattle.am_dialogue.specs.ParsedLine.{Line, parsed, is_upkeep, is_stage}
@@ -25,8 +24,7 @@ use Rattle.am_dialogue.specs.declared.lines.ParsedLine.{ParsedLine}
 use Rattle.am_dialogue.specs.declared.lines.ParsedLine.TheVariants as said
 use Rattle.am_dialogue.specs.declared.response.Response.{Response}
 use Rattle.am_dialogue.specs.declared.response.Response.TheVariants.{TooLong, Faulty, NoTransaction, Active}
-use Rattle.am_dialogue.specs.declared.response.Response.TheVariants.{StillStaged}
-use Rattle.am_dialogue.specs.declared.response.Response.TheVariants.{Replied, Seen}
+use Rattle.am_dialogue.specs.declared.response.Response.TheVariants.{StillStaged, Replied, Seen}
 
 -- how many transactions were begun and committed and how many runs were made, the map that the committed ones left, the
 -- operations of the active transaction, and the records that wait for its next load

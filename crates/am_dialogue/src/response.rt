@@ -1,7 +1,7 @@
 //! What a session writes for a line.
 
-ghost use Rattle.std.specs.Prelude.{◌≡◌, ◌+◌, ◌^◌, ◌<◌, true, OnOk, OnErr};
-ghost use Rattle.am_stream.specs.SinkWrites.{Gave, GaveBeginning};
+ghost use Rattle.std.specs.Prelude.{◌≡◌, ◌+◌, ◌^◌, ◌<◌, true, OnOk};
+ghost use Rattle.am_stream.specs.SinkWrites.{Wrote};
 ghost use Rattle.am_dialogue.specs.Responses.{response_text, fault_text, seen_text};
 
 use am_record::Reply;
@@ -33,11 +33,8 @@ pub enum Response {
 /// Writes the text of a response. It takes no memory. At an error a beginning of it went out.
 pub fn put_response<K: Sink>(response: &Response, sink: &mut K) -> Result<(), Failed>
     requires countable { K.failures sink.old < 2 ^ 63 }
-    ensures given { OnOk result (Gave K.holds sink.old (response_text response.now) sink.new) }
+    ensures wrote { Wrote K.holds K.failures sink.old (response_text response.now) result sink.new }
     ensures pending { OnOk result (K.pending sink.new ≡ true) }
-    ensures ok { OnOk result (K.failures sink.new ≡ K.failures sink.old) }
-    ensures failed { OnErr result (K.failures sink.new ≡ K.failures sink.old + 1) }
-    ensures torn { OnErr result (GaveBeginning K.holds sink.old (response_text response.now) sink.new) }
 {
     match response {
         Response::TooLong => give_all(sink, b"ERR LONG\n"),

@@ -15,14 +15,13 @@ use Rattle.am_index.specs.Entries.{Slot, slot_of, entry_at, find, remove_entry, 
 use Rattle.am_index.specs.Edits.{same_place}
 use Rattle.am_index.specs.Content.{content, IsLiveAt, OnePlace}
 use Rattle.am_index.proofs.Edits.{first_such_all, first_such_passes, entry_at_place, entry_at_beside_removed}
-use Rattle.am_index.proofs.Edits.{other_part}
-use Rattle.am_index.proofs.Edits.{none_such}
+use Rattle.am_index.proofs.Edits.{other_part, none_such}
 use Rattle.am_index.proofs.EditLaws.{edit_laws}
 use Rattle.am_index.proofs.Content.{content_live}
 use Rattle.am_effect.specs.Places.{put}
 use Rattle.am_effect.proofs.Next.{candidates-left}
 use Rattle.am_effect.specs.MergeAnswers.{candidates, worked_off, all_worked_off}
-use Rattle.am_effect.specs.Store.{is_live, find_live}
+use Rattle.am_effect.specs.Operations.{is_live, find_live}
 use Rattle.am_effect.specs.KnownEdits.{KnownLaws}
 use Rattle.am_effect.proofs.Lists.{Stands, stands_all, put_set, put_new}
 

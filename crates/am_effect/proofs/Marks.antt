@@ -5,8 +5,9 @@ use Rattle.std.proofs.lemmas.Bool.{cases_Bool, cond-true, cond-false, or_cases, 
 use Rattle.am_effect.proofs.Backs.{describe_laws, older_describe}
 use Rattle.am_effect.proofs.Lists.{look-reslotted, look-reslotted_none}
 use Rattle.am_effect.proofs.NotesAtPlaces.{back, back_some}
-use Rattle.am_effect.specs.History.{Moment, aborted, backed_by, from_mark, goes_back, gone_back, is_plain, left_at}
-use Rattle.am_effect.specs.History.{marked_by, moments_since, sets_mark, wrote, wrote_by}
+use Rattle.am_effect.specs.History.{Moment, aborted, backed_by, from_mark, gone_back, left_at}
+use Rattle.am_effect.specs.Operations.{goes_back, is_plain, sets_mark}
+use Rattle.am_effect.specs.History.{marked_by, moments_since, wrote, wrote_by}
 use Rattle.am_effect.specs.Laws.{BackLaws, Describes, DescribesEach}
 use Rattle.am_effect.specs.Places.{look}
 use Rattle.am_index.specs.Entries.{Slot}
@@ -14,7 +15,7 @@ use Rattle.am_record.specs.EntryOrder.{Place}
 use Rattle.am_record.specs.OrderedKey.{OrderedKey}
 use Rattle.am_record.specs.declared.entry.Entry.{Entry}
 use Rattle.am_record.specs.declared.step.Op.{Op}
-use Rattle.am_record.specs.declared.step.Op.TheVariants.{Back, Delete, Get, Insert, Load, Lock, Mark, Replace, Scan}
+use Rattle.am_record.specs.declared.step.Op.TheVariants.{Back, Mark}
 use Rattle.am_record.specs.declared.step.Reply.{Reply}
 use Rattle.am_record.specs.declared.step.Reply.TheVariants.{Done}
 use Rattle.am_record.proofs.Newest.{length-until, since-new, since-none, since-older, since-until}
@@ -216,22 +217,8 @@ whole_describes t past es notes n top (mark ∷ marks) u = whole_describes t pas
 
 pub plain_unmarked : (op : Op) (reply : Reply) → is_plain op ≡ true → sets_mark op reply ≡ false
 plain_unmarked Mark reply h = absurd (false≢true h)
-plain_unmarked Back reply h = refl
-plain_unmarked (Get k) reply h = refl
-plain_unmarked (Scan range max) reply h = refl
-plain_unmarked (Insert k v) reply h = refl
-plain_unmarked (Replace k v) reply h = refl
-plain_unmarked (Delete k) reply h = refl
-plain_unmarked (Load pairs) reply h = refl
-plain_unmarked (Lock lock) reply h = refl
+plain_unmarked op reply h = refl
 
 pub plain_unbacked : (op : Op) (reply : Reply) → is_plain op ≡ true → goes_back op reply ≡ false
-plain_unbacked Mark reply h = refl
 plain_unbacked Back reply h = absurd (false≢true h)
-plain_unbacked (Get k) reply h = refl
-plain_unbacked (Scan range max) reply h = refl
-plain_unbacked (Insert k v) reply h = refl
-plain_unbacked (Replace k v) reply h = refl
-plain_unbacked (Delete k) reply h = refl
-plain_unbacked (Load pairs) reply h = refl
-plain_unbacked (Lock lock) reply h = refl
+plain_unbacked op reply h = refl

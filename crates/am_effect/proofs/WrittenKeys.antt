@@ -1,6 +1,5 @@
 -- No entry stands under a key that no operation wrote.
-use Rattle.std.proofs.Common.{◌≡◌, ℕ, ◌+◌, zero, suc, List, [], ◌∷◌, ◌++◌, Bool, true, false, cond, take, filter, map}
-use Rattle.std.proofs.Common.{Option, Some, None, refl, sym, ap, ◌∙◌, subst}
+use Rattle.std.proofs.Common.{ℕ, ◌+◌, zero, suc, List, [], ◌∷◌, Bool, true, false, take, filter, Option, Some, None}
 use Rattle.std.specs.Prelude.{is_some, if◌then◌else◌}
 use Rattle.std.specs.Ordering.{is_eq, is_lt}
 use Rattle.std.specs.List.{AllByRecursion}
@@ -19,10 +18,10 @@ use Rattle.am_index.specs.Entries.{Slot, slot_of, find, insert_entry, set_entry,
 use Rattle.am_index.specs.Runs.{live_entry, with_run}
 use Rattle.am_serial.specs.Trace.{Trace}
 use Rattle.am_effect.specs.Places.{put, with_slot, reslotted}
-use Rattle.am_effect.specs.MergeAnswers.{candidates, worked_off, all_worked_off, merged_by, cleanable, cleaned_by}
+use Rattle.am_effect.specs.MergeAnswers.{candidates, worked_off, all_worked_off, merged_by, cleanable}
 use Rattle.am_effect.specs.History.{left_at, moments_since, gone_back}
-use Rattle.am_effect.specs.Store.{Store, find_live, with_value, with_ghost, changed, entries_after, after_step}
-use Rattle.am_effect.specs.Store.{after_all, holder}
+use Rattle.am_effect.specs.Store.{Store, entries_after, after_step, after_all, holder}
+use Rattle.am_effect.specs.Operations.{find_live, with_value, with_ghost, changed}
 use Rattle.am_effect.specs.WrittenKeys.{WritesKeys, StepWritesKeys, TraceWritesKeys, HaveKeys}
 
 module _ (P : OrderedKey → Type 0) where

@@ -1,27 +1,14 @@
 -- What an abort leaves: it looks back to the list before the transaction's first write to each key.
-use Rattle.std.specs.Prelude.{ℕ, zero, suc, ◌==◌, List, [], ◌∷◌, Bool, true, false, cond, ◌&&◌, Option, Some, None}
+use Rattle.std.specs.Prelude.{ℕ, zero, suc, ◌==◌, List, [], ◌∷◌, Bool, false, cond, ◌&&◌, Option, Some, None}
 use Rattle.std.specs.List.{list_any}
-use Rattle.std.specs.Ordering.{eq_by_cmp}
-use Rattle.am_record.specs.OrderedKey.{OrderedKey, key_cmp}
+use Rattle.am_record.specs.OrderedKey.{OrderedKey}
 use Rattle.am_record.specs.EntryOrder.{Place}
-use Rattle.am_record.specs.Plain.{is_key_of}
 use Rattle.am_record.specs.declared.entry.Entry.{Entry}
-use Rattle.am_record.specs.declared.step.Op.{Op}
-use Rattle.am_record.specs.declared.step.Op.TheVariants.{Insert, Replace, Delete, Load, Mark, Back}
-use Rattle.am_record.specs.declared.step.Reply.{Reply}
-use Rattle.am_record.specs.declared.step.Reply.TheVariants.{Done}
 use Rattle.am_index.specs.Entries.{Slot}
 use Rattle.am_undo.specs.Notes.{ghosted}
 use Rattle.am_serial.specs.Trace.{Effect, Answers}
 use Rattle.am_effect.specs.Places.{look, reslotted}
-
--- whether the operation, with this answer, wrote the key
-abbrev pub writes : Op → Reply → OrderedKey → Bool
-writes (Insert k v) Done q = eq_by_cmp key_cmp q k
-writes (Replace k v) Done q = eq_by_cmp key_cmp q k
-writes (Delete k) Done q = eq_by_cmp key_cmp q k
-writes (Load pairs) Done q = is_key_of pairs q
-writes _ _ q = false
+use Rattle.am_effect.specs.Operations.{writes, sets_mark, goes_back}
 
 -- whether the transaction wrote the key by the event
 abbrev pub wrote_by : ℕ → OrderedKey → Effect → Bool
@@ -55,14 +42,6 @@ aborted t past es = reslotted (λ part key s. left_at t (part, key) past es) es
 
 -- ---- marks
 
-abbrev pub sets_mark : Op → Reply → Bool
-sets_mark Mark Done = true
-sets_mark _ _ = false
-
-abbrev pub goes_back : Op → Reply → Bool
-goes_back Back Done = true
-goes_back _ _ = false
-
 -- whether the transaction set a mark, or went back to one, by the event
 abbrev pub marked_by : ℕ → Effect → Bool
 marked_by t (Answers u op reply) = (t == u) && sets_mark op reply
@@ -86,9 +65,3 @@ moments_since t (m ∷ past) n = cond (backed_by t m.0) (m ∷ moments_since t p
 -- the list after a Back of the transaction: what an abort leaves that looks back no further than to the mark
 abbrev pub gone_back : ℕ → List Moment → List Entry → List Entry
 gone_back t past es = aborted t (moments_since t past 0) es
-
--- whether the operation neither sets a mark nor goes back to one
-abbrev pub is_plain : Op → Bool
-is_plain Mark = false
-is_plain Back = false
-is_plain op = true

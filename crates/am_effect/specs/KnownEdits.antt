@@ -8,7 +8,7 @@ use Rattle.am_index.specs.Entries.{remove_entry}
 use Rattle.am_index.specs.Content.{content, IsLiveAt}
 use Rattle.am_effect.specs.Places.{put}
 use Rattle.am_effect.specs.MergeAnswers.{candidates, worked_off, all_worked_off}
-use Rattle.am_effect.specs.Store.{find_live}
+use Rattle.am_effect.specs.Operations.{find_live}
 
 pub record KnownLaws (es : List Entry) : Type 0 where
   -- the live entry of a key, and where there is none

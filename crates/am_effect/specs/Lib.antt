@@ -1,4 +1,5 @@
 pub mod Places
+pub mod Operations
 pub mod MergeAnswers
 pub mod History
 pub mod Laws

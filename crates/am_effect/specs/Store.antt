@@ -1,31 +1,25 @@
 -- The store that a trace describes: its entries, its wishes and its notes after each step, and the answers that it may
 -- give.
-use Rattle.std.specs.Prelude.{◌≡◌, ℕ, ◌+◌, ◌-◌, ◌≤◌, ◌==◌, length, List, [], ◌∷◌, ◌++◌, Bool, true, false, cond, not}
-use Rattle.std.specs.Prelude.{◌&&◌, drop, Option, Some, None, MatchBool}
+use Rattle.std.specs.Prelude.{◌≡◌, ℕ, ◌+◌, ◌-◌, ◌≤◌, ◌==◌, length, List, [], ◌∷◌, ◌++◌, Bool, true, false, cond}
+use Rattle.std.specs.Prelude.{drop, Option, Some, None, MatchBool}
 use Rattle.std.specs.List.{list_any, AllByRecursion}
-use Rattle.std.specs.Ordering.{eq_by_cmp}
-use Rattle.am_record.specs.OrderedKey.{OrderedKey, key_cmp}
-use Rattle.am_record.specs.Interval.{Interval, within, point}
+use Rattle.am_record.specs.OrderedKey.{OrderedKey}
+use Rattle.am_record.specs.Interval.{Interval, within}
 use Rattle.am_record.specs.Asks.{locks_of}
 use Rattle.am_record.specs.Owners.{holder_among}
 use Rattle.am_record.specs.declared.entry.Entry.{Entry}
 use Rattle.am_record.specs.declared.step.Refusal.TheVariants.{BadLimit}
-use Rattle.am_record.specs.declared.step.Op.{Op}
-use Rattle.am_record.specs.declared.step.Op.TheVariants.{Get, Scan, Insert, Replace, Delete, Load, Mark, Back}
+use Rattle.am_record.specs.declared.step.Op.TheVariants.{Load}
 use Rattle.am_record.specs.declared.step.Step.{Step}
 use Rattle.am_record.specs.declared.step.Step.TheVariants.{Begin, Do, Abort, Merge, Clean}
 use Rattle.am_record.specs.declared.step.Reply.{Reply}
-use Rattle.am_record.specs.declared.step.Reply.TheVariants.{Begun, Done, Found, Absent, Rows, Aborted, Moved, Refused}
-use Rattle.am_index.specs.Entries.{Slot, first_such, find, set_entry}
+use Rattle.am_record.specs.declared.step.Reply.TheVariants.{Begun, Done, Aborted, Moved, Refused}
 use Rattle.am_undo.specs.declared.note.Note.{Note}
-use Rattle.am_undo.specs.declared.note.Note.TheVariants.{New, Before, RunMade}
-use Rattle.am_record.specs.Marks.{until_mark, older}
-use Rattle.am_index.specs.Runs.{live_entry, with_run}
 use Rattle.am_record.specs.Events.{Event}
 use Rattle.am_serial.specs.Trace.{Trace, effect, ops_of}
 use Rattle.am_record.specs.Refusals.{is_limit}
 use Rattle.am_serial.specs.Machine.{State, Transaction, start, May, next}
-use Rattle.am_effect.specs.Places.{put}
+use Rattle.am_effect.specs.Operations.{wished, changed, noted, notes_left, marks_left}
 use Rattle.am_effect.specs.MergeAnswers.{Holders, all_worked_off, MergeRight, merged_by, wishes_left}
 use Rattle.am_effect.specs.MergeAnswers.{CleanRight, cleaned_by}
 use Rattle.am_effect.specs.History.{Moment, aborted, gone_back}
@@ -49,13 +43,6 @@ holder txs = holder_among (λ (x : Transaction). x.0) (λ (x : Transaction). loc
 
 -- ---- wishes
 
--- the wish that an answered read leaves
-abbrev pub wished : Op → Reply → Option Interval
-wished (Get k) (Found v) = Some (point k)
-wished (Get k) Absent = Some (point k)
-wished (Scan range max) (Rows rows) = Some range
-wished _ _ = None
-
 -- at the end of the ring of 64: the oldest is lost where 64 are there
 abbrev pub with_wish : List Interval → Option Interval → List Interval
 with_wish wishes None = wishes
@@ -68,31 +55,6 @@ wishes_after wishes _ _ = wishes
 
 -- ---- entries
 
--- the live entry of the key
-abbrev pub is_live : OrderedKey → Entry → Bool
-is_live k e = not e.is_ghost && eq_by_cmp key_cmp e.key k
-
-abbrev pub find_live : List Entry → OrderedKey → Option Entry
-find_live es k = first_such (is_live k) es
-
--- the list with another value in the entry, or with the entry as a ghost
-abbrev pub with_value : Option Entry → List ℕ → List Entry → List Entry
-with_value None v es = es
-with_value (Some e) v es = set_entry es e.part e.key v false
-
-abbrev pub with_ghost : Option Entry → List Entry → List Entry
-with_ghost None es = es
-with_ghost (Some e) es = set_entry es e.part e.key e.value true
-
--- what an operation with this answer does, after so many runs; Back leaves `back`
-abbrev pub changed : List Entry → ℕ → Op → Reply → List Entry → List Entry
-changed back runs (Insert k v) Done es = put (live_entry 0 (k, v)) es
-changed back runs (Replace k v) Done es = with_value (find_live es k) v es
-changed back runs (Delete k) Done es = with_ghost (find_live es k) es
-changed back runs (Load pairs) Done es = with_run (runs + 1) pairs es
-changed back runs Back Done es = back
-changed back runs _ _ es = es
-
 abbrev pub entries_after : Store → Step → Reply → List Entry
 entries_after s (Do t op) reply = changed (gone_back t s.past s.entries) s.state.runs op reply s.entries
 entries_after s (Abort t) Aborted = aborted t s.past s.entries
@@ -101,35 +63,7 @@ entries_after s (Clean range limit) reply = all_worked_off
     (cleaned_by s.entries (holder s.state.active) range reply) s.entries
 entries_after s _ _ = s.entries
 
--- ---- notes
-
--- the note of a change at the place, by what stands there before
-abbrev pub note_of_slot : ℕ → OrderedKey → Option Slot → Note
-note_of_slot p k None = New k
-note_of_slot p k (Some s) = Before p k s.0 s.1
-
-abbrev pub note_of_entry : Option Entry → List Note
-note_of_entry None = []
-note_of_entry (Some e) = Before e.part e.key e.value e.is_ghost ∷ []
-
--- what an operation with this answer notes
-abbrev pub noted : ℕ → Op → Reply → List Entry → List Note
-noted runs (Insert k v) Done es = note_of_slot 0 k (find es 0 k) ∷ []
-noted runs (Replace k v) Done es = note_of_entry (find_live es k)
-noted runs (Delete k) Done es = note_of_entry (find_live es k)
-noted runs (Load pairs) Done es = RunMade (runs + 1) ∷ []
-noted runs _ _ es = []
-
--- the notes that stay, by the marks: those taken back are gone
-abbrev pub notes_left : Op → Reply → List ℕ → List Note → List Note
-notes_left Back Done marks notes = until_mark marks notes
-notes_left _ _ marks notes = notes
-
--- the marks after, where there are so many notes: each is the number of notes at its Mark
-abbrev pub marks_left : Op → Reply → ℕ → List ℕ → List ℕ
-marks_left Mark Done count marks = count ∷ marks
-marks_left Back Done count marks = older marks
-marks_left _ _ count marks = marks
+-- ---- notes and marks
 
 abbrev pub notes_after : Store → Step → Reply → ℕ → List Note
 notes_after s Begin (Begun t) u = cond (t == u) [] (s.notes u)

@@ -3,17 +3,14 @@ use Rattle.std.proofs.Common.{◌≡◌, ◌⊎◌, inl, inr, ℕ, ◌+◌, ◌-
 use Rattle.std.proofs.Common.{List, Bool, true, false, cond, Option, Some, None, refl, subst, ⊎_elim, arith}
 use Rattle.std.proofs.lemmas.Bool.{ltb-true, ltb-false}
 use Rattle.am_record.specs.declared.step.Op.{Op}
-use Rattle.am_record.specs.declared.step.Op.TheVariants.{Get, Scan, Insert, Replace, Delete, Load, Lock as TakeLock}
-use Rattle.am_record.specs.declared.step.Op.TheVariants.{Mark, Back}
+use Rattle.am_record.specs.declared.step.Op.TheVariants.{Get}
 use Rattle.am_record.specs.declared.step.Step.{Step}
-use Rattle.am_record.specs.declared.step.Step.TheVariants.{Begin, Do, Commit, Abort, Merge, Clean}
+use Rattle.am_record.specs.declared.step.Step.TheVariants.{Do}
 use Rattle.am_record.specs.declared.step.Refusal.{Refusal}
-use Rattle.am_record.specs.declared.step.Refusal.TheVariants.{NoSuchTx, Busy, TooManyTx, TooManyLocks, TooManyOps}
+use Rattle.am_record.specs.declared.step.Refusal.TheVariants.{NoSuchTx, TooManyLocks, TooManyOps}
 use Rattle.am_record.specs.declared.step.Refusal.TheVariants.{TooManyRuns, NotRising, BadLimit, NoMemory, SeatFull}
 use Rattle.am_record.specs.declared.step.Reply.{Reply}
-use Rattle.am_record.specs.declared.step.Reply.TheVariants.{Begun, Done, Found, Absent, Rows, Exists, Missing}
-use Rattle.am_record.specs.declared.step.Reply.TheVariants.{Committed, Aborted, Moved, MergeDone, Ended, Idle, Cleaned}
-use Rattle.am_record.specs.declared.step.Reply.TheVariants.{NoMark, Refused}
+use Rattle.am_record.specs.declared.step.Reply.TheVariants.{Refused}
 use Rattle.am_record.specs.Asks.{lock_of}
 use Rattle.am_record.specs.Refusals.{is_one_too_many}
 use Rattle.am_serial.specs.Trace.{Trace, Effect}
@@ -32,32 +29,11 @@ why_unstored : (why : Refusal) → is_stored (Refused why) ≡ false → (Refuse
     (Refused why ≡ Refused SeatFull)
 why_unstored NoMemory e = inl refl
 why_unstored SeatFull e = inr refl
-why_unstored NoSuchTx e = absurd (cc)
-why_unstored (Busy h) e = absurd (cc)
-why_unstored TooManyTx e = absurd (cc)
-why_unstored TooManyLocks e = absurd (cc)
-why_unstored TooManyOps e = absurd (cc)
-why_unstored TooManyRuns e = absurd (cc)
-why_unstored NotRising e = absurd (cc)
-why_unstored BadLimit e = absurd (cc)
+why_unstored why e = absurd (cc)
 
 unstored : (r : Reply) → is_stored r ≡ false → (r ≡ Refused NoMemory) ⊎ (r ≡ Refused SeatFull)
 unstored (Refused why) e = why_unstored why e
-unstored (Begun t) e = absurd (cc)
-unstored Done e = absurd (cc)
-unstored (Found v) e = absurd (cc)
-unstored Absent e = absurd (cc)
-unstored (Rows rows) e = absurd (cc)
-unstored (Exists k) e = absurd (cc)
-unstored Missing e = absurd (cc)
-unstored (Committed c) e = absurd (cc)
-unstored Aborted e = absurd (cc)
-unstored (Moved n run) e = absurd (cc)
-unstored MergeDone e = absurd (cc)
-unstored (Ended k by) e = absurd (cc)
-unstored Idle e = absurd (cc)
-unstored (Cleaned n) e = absurd (cc)
-unstored NoMark e = absurd (cc)
+unstored reply e = absurd (cc)
 
 -- ---- no step of the store is answered that a seat is full
 
@@ -74,14 +50,7 @@ not_due false false false false false h = cc
 
 not_answered : (op : Op) → IsAnswerOf op (Refused SeatFull) → ⊥
 not_answered (Get k) a = a
-not_answered (Scan range max) a = a
-not_answered (Insert k v) a = a
-not_answered (Replace k v) a = a
-not_answered (Delete k) a = a
-not_answered (Load pairs) a = a
-not_answered (TakeLock l) a = a
-not_answered Mark a = a
-not_answered Back a = a
+not_answered op a = a
 
 not_done : (early : Option Refusal) (full : Bool) (op : Op) → (early ≡ Some SeatFull → ⊥) →
     FormedDo early full op (Refused SeatFull) → ⊥
@@ -99,11 +68,7 @@ not_done None false op never f =
 not_formed : (es : List Effect) (st : Step) → FormedAt es st (Refused SeatFull) → ⊥
 not_formed es (Do t op) f = not_done (due_early (state_at es) t op)
     (is_one_too_many (locks_in (state_at es).active t) (lock_of op)) op (not_due _ _ _ _ _) f
-not_formed es Begin f = f
-not_formed es (Commit t) f = f
-not_formed es (Abort t) f = f
-not_formed es (Merge limit) f = f
-not_formed es (Clean range limit) f = f
+not_formed es step f = f
 
 pub never_full_by : (h : Trace) (st : Step) (r : Reply) (p : StoreState) → IsSoundAt (h ++ (st, r) ∷ []) p →
     r ≡ Refused SeatFull → ⊥

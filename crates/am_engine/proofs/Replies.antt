@@ -13,64 +13,23 @@ use Rattle.am_engine.specs.Changes.{change, end_of, is_begin, is_refused, room_o
 
 pub refused_nothing : (r : Reply) (st : Step) → is_refused r ≡ true → change st r ≡ Nothing
 refused_nothing (Begun t) st h = absurd (cc)
-refused_nothing Done st h = absurd (cc)
-refused_nothing (Found v) st h = absurd (cc)
-refused_nothing Absent st h = absurd (cc)
-refused_nothing (Rows rows) st h = absurd (cc)
-refused_nothing (Exists k) st h = absurd (cc)
-refused_nothing Missing st h = absurd (cc)
-refused_nothing (Committed c) st h = absurd (cc)
-refused_nothing Aborted st h = absurd (cc)
-refused_nothing (Moved n run) st h = absurd (cc)
-refused_nothing MergeDone st h = absurd (cc)
-refused_nothing (Ended k by) st h = absurd (cc)
-refused_nothing Idle st h = absurd (cc)
-refused_nothing (Cleaned n) st h = absurd (cc)
-refused_nothing NoMark st h = absurd (cc)
 refused_nothing (Refused why) Begin h = refl
 refused_nothing (Refused why) (Do t op) h = refl
 refused_nothing (Refused why) (Commit t) h = refl
 refused_nothing (Refused why) (Abort t) h = refl
 refused_nothing (Refused why) (Merge limit) h = refl
 refused_nothing (Refused why) (Clean range limit) h = refl
+refused_nothing reply st h = absurd (cc)
 
 -- the reason of a refusal
 pub why_refused : (r : Reply) → is_refused r ≡ true → (why : Refusal) × (r ≡ Refused why)
-why_refused (Begun t) h = absurd (cc)
-why_refused Done h = absurd (cc)
-why_refused (Found v) h = absurd (cc)
-why_refused Absent h = absurd (cc)
-why_refused (Rows rows) h = absurd (cc)
-why_refused (Exists k) h = absurd (cc)
-why_refused Missing h = absurd (cc)
-why_refused (Committed c) h = absurd (cc)
-why_refused Aborted h = absurd (cc)
-why_refused (Moved n run) h = absurd (cc)
-why_refused MergeDone h = absurd (cc)
-why_refused (Ended k by) h = absurd (cc)
-why_refused Idle h = absurd (cc)
-why_refused (Cleaned n) h = absurd (cc)
-why_refused NoMark h = absurd (cc)
 why_refused (Refused why) h = (why, refl)
+why_refused reply h = absurd (cc)
 
 -- an operation neither begins nor ends a transaction
 pub did_nothing : (u : ℕ) (op : Op) (r : Reply) → change (Do u op) r ≡ Nothing
 did_nothing u op (Begun t) = refl
-did_nothing u op Done = refl
-did_nothing u op (Found v) = refl
-did_nothing u op Absent = refl
-did_nothing u op (Rows rows) = refl
-did_nothing u op (Exists k) = refl
-did_nothing u op Missing = refl
-did_nothing u op (Committed c) = refl
-did_nothing u op Aborted = refl
-did_nothing u op (Moved n run) = refl
-did_nothing u op MergeDone = refl
-did_nothing u op (Ended k by) = refl
-did_nothing u op Idle = refl
-did_nothing u op (Cleaned n) = refl
-did_nothing u op NoMark = refl
-did_nothing u op (Refused why) = refl
+did_nothing u op reply = refl
 
 pub begins_begin : (st : Step) (r : Reply) (t : ℕ) → change st r ≡ Begins t → (is_begin st ≡ true) × (end_of st ≡ None)
 begins_begin Begin r t e = (refl, refl)
@@ -128,46 +87,29 @@ ends_end (Cleaned n') Begin t e = absurd (cc)
 ends_end NoMark Begin t e = absurd (cc)
 ends_end (Refused why') Begin t e = absurd (cc)
 ends_end r (Do u op) t e = let none = did_nothing u op r in absurd (cc)
-ends_end (Begun t') (Commit u) t e = absurd (cc)
-ends_end Done (Commit u) t e = absurd (cc)
-ends_end (Found v') (Commit u) t e = absurd (cc)
-ends_end Absent (Commit u) t e = absurd (cc)
-ends_end (Rows rows') (Commit u) t e = absurd (cc)
-ends_end (Exists k') (Commit u) t e = absurd (cc)
-ends_end Missing (Commit u) t e = absurd (cc)
 ends_end (Committed c') (Commit u) t e = cc
 ends_end Aborted (Commit u) t e = absurd (cc)
-ends_end (Moved n' run') (Commit u) t e = absurd (cc)
-ends_end MergeDone (Commit u) t e = absurd (cc)
-ends_end (Ended k' h') (Commit u) t e = absurd (cc)
-ends_end Idle (Commit u) t e = absurd (cc)
-ends_end (Cleaned n') (Commit u) t e = absurd (cc)
-ends_end NoMark (Commit u) t e = absurd (cc)
-ends_end (Refused why') (Commit u) t e = absurd (cc)
-ends_end (Begun t') (Abort u) t e = absurd (cc)
-ends_end Done (Abort u) t e = absurd (cc)
-ends_end (Found v') (Abort u) t e = absurd (cc)
-ends_end Absent (Abort u) t e = absurd (cc)
-ends_end (Rows rows') (Abort u) t e = absurd (cc)
-ends_end (Exists k') (Abort u) t e = absurd (cc)
-ends_end Missing (Abort u) t e = absurd (cc)
 ends_end (Committed c') (Abort u) t e = absurd (cc)
 ends_end Aborted (Abort u) t e = cc
-ends_end (Moved n' run') (Abort u) t e = absurd (cc)
-ends_end MergeDone (Abort u) t e = absurd (cc)
-ends_end (Ended k' h') (Abort u) t e = absurd (cc)
-ends_end Idle (Abort u) t e = absurd (cc)
-ends_end (Cleaned n') (Abort u) t e = absurd (cc)
-ends_end NoMark (Abort u) t e = absurd (cc)
-ends_end (Refused why') (Abort u) t e = absurd (cc)
 ends_end r (Merge n) t e = absurd (cc)
 ends_end r (Clean range n) t e = absurd (cc)
+ends_end (Begun t') step t e = absurd (cc)
+ends_end Done step t e = absurd (cc)
+ends_end (Found v') step t e = absurd (cc)
+ends_end Absent step t e = absurd (cc)
+ends_end (Rows rows') step t e = absurd (cc)
+ends_end (Exists k') step t e = absurd (cc)
+ends_end Missing step t e = absurd (cc)
+ends_end (Moved n' run') step t e = absurd (cc)
+ends_end MergeDone step t e = absurd (cc)
+ends_end (Ended k' h') step t e = absurd (cc)
+ends_end Idle step t e = absurd (cc)
+ends_end (Cleaned n') step t e = absurd (cc)
+ends_end NoMark step t e = absurd (cc)
+ends_end (Refused why') step t e = absurd (cc)
 
 -- a step that is to end a transaction has no lists
 pub end_room : (st : Step) (t : ℕ) → end_of st ≡ Some t → room_of st ≡ 0
-end_room Begin t e = absurd (cc)
-end_room (Do u op) t e = absurd (cc)
 end_room (Commit u) t e = refl
 end_room (Abort u) t e = refl
-end_room (Merge n) t e = absurd (cc)
-end_room (Clean range n) t e = absurd (cc)
+end_room step t e = absurd (cc)

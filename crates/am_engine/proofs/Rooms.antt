@@ -1,6 +1,5 @@
 -- Room in the trace after a step.
-use Rattle.std.proofs.Common.{◌≡◌, ℕ, ◌+◌, ◌-◌, ◌<◌, ◌≤◌, min, if◌then◌else◌, List, [], ◌∷◌, length, Bool}
-use Rattle.std.proofs.Common.{true, false}
+use Rattle.std.proofs.Common.{◌≡◌, ℕ, ◌+◌, ◌-◌, ◌<◌, ◌≤◌, min, if◌then◌else◌, List, [], ◌∷◌, length, Bool, true, false}
 use Rattle.std.proofs.Common.{Option, Some, None, IsSome, refl, subst, arith, length-append}
 use Rattle.am_record.proofs.ByNumber.{length-without_one}
 use Rattle.am_record.specs.declared.step.Step.{Step}
@@ -9,8 +8,7 @@ use Rattle.am_record.specs.declared.step.Reply.{Reply}
 use Rattle.am_record.specs.declared.step.Reply.TheVariants.{Refused}
 use Rattle.am_engine.specs.declared.change.Change.{Change}
 use Rattle.am_engine.specs.declared.change.Change.TheVariants.{Begins, Ends, Nothing}
-use Rattle.am_engine.specs.Changes.{change, end_of, is_begin, is_refused, numbers_with, active_in_trace, has}
-use Rattle.am_engine.specs.Changes.{MayFollow}
+use Rattle.am_engine.specs.Changes.{change, end_of, is_begin, is_refused, numbers_with, active_in_trace, has, MayFollow}
 use Rattle.am_engine.specs.EngineFields.{most_positions}
 use Rattle.am_engine.specs.Traces.{ends_after}
 use Rattle.am_engine.specs.Wants.{pairs_needed}

@@ -5,8 +5,7 @@ use Rattle.std.specs.Prelude.{nat_le}
 use Rattle.std.proofs.lemmas.Bool.{and_parts, not-false}
 use Rattle.std.proofs.lemmas.List.{map-append}
 use Rattle.am_record.specs.declared.step.Op.{Op}
-use Rattle.am_record.specs.declared.step.Op.TheVariants.{Get, Scan, Insert, Replace, Delete, Load, Lock as TakeLock}
-use Rattle.am_record.specs.declared.step.Op.TheVariants.{Mark, Back}
+use Rattle.am_record.specs.declared.step.Op.TheVariants.{Get, Scan}
 use Rattle.am_record.specs.declared.step.Step.{Step}
 use Rattle.am_record.specs.declared.step.Step.TheVariants.{Begin, Do, Commit, Abort, Merge, Clean}
 use Rattle.am_record.specs.declared.step.Refusal.{Refusal}
@@ -55,71 +54,13 @@ ended_numbers t xs = sym (without_number-map (λ (x : Active). x.number) (λ u. 
 numbers_after : (p : StoreState) (st : Step) (r : Reply) → numbers_active (state_after p st r) ≡ numbers_with
     (numbers_active p) (change st r)
 numbers_after p Begin (Begun t) = map-append (λ (x : Active). x.number) p.active (newcomer t ∷ [])
-numbers_after p Begin Done = refl
-numbers_after p Begin (Found v) = refl
-numbers_after p Begin Absent = refl
-numbers_after p Begin (Rows rows) = refl
-numbers_after p Begin (Exists k) = refl
-numbers_after p Begin Missing = refl
-numbers_after p Begin (Committed c) = refl
-numbers_after p Begin Aborted = refl
-numbers_after p Begin (Moved n run) = refl
-numbers_after p Begin MergeDone = refl
-numbers_after p Begin (Ended k by) = refl
-numbers_after p Begin Idle = refl
-numbers_after p Begin (Cleaned n) = refl
-numbers_after p Begin NoMark = refl
-numbers_after p Begin (Refused why) = refl
-numbers_after p (Do u op) (Begun t) = did_numbers u op (Begun t) _ p.active
-numbers_after p (Do u op) Done = did_numbers u op Done _ p.active
-numbers_after p (Do u op) (Found v) = did_numbers u op (Found v) _ p.active
-numbers_after p (Do u op) Absent = did_numbers u op Absent _ p.active
-numbers_after p (Do u op) (Rows rows) = did_numbers u op (Rows rows) _ p.active
-numbers_after p (Do u op) (Exists k) = did_numbers u op (Exists k) _ p.active
-numbers_after p (Do u op) Missing = did_numbers u op Missing _ p.active
-numbers_after p (Do u op) (Committed c) = did_numbers u op (Committed c) _ p.active
-numbers_after p (Do u op) Aborted = did_numbers u op Aborted _ p.active
-numbers_after p (Do u op) (Moved n run) = did_numbers u op (Moved n run) _ p.active
-numbers_after p (Do u op) MergeDone = did_numbers u op MergeDone _ p.active
-numbers_after p (Do u op) (Ended k by) = did_numbers u op (Ended k by) _ p.active
-numbers_after p (Do u op) Idle = did_numbers u op Idle _ p.active
-numbers_after p (Do u op) (Cleaned n) = did_numbers u op (Cleaned n) _ p.active
-numbers_after p (Do u op) NoMark = did_numbers u op NoMark _ p.active
 numbers_after p (Do u op) (Refused why) = refl
-numbers_after p (Commit u) (Begun t) = refl
-numbers_after p (Commit u) Done = refl
-numbers_after p (Commit u) (Found v) = refl
-numbers_after p (Commit u) Absent = refl
-numbers_after p (Commit u) (Rows rows) = refl
-numbers_after p (Commit u) (Exists k) = refl
-numbers_after p (Commit u) Missing = refl
+numbers_after p (Do u op) reply = did_numbers u op reply _ p.active
 numbers_after p (Commit u) (Committed c) = ended_numbers u p.active
-numbers_after p (Commit u) Aborted = refl
-numbers_after p (Commit u) (Moved n run) = refl
-numbers_after p (Commit u) MergeDone = refl
-numbers_after p (Commit u) (Ended k by) = refl
-numbers_after p (Commit u) Idle = refl
-numbers_after p (Commit u) (Cleaned n) = refl
-numbers_after p (Commit u) NoMark = refl
-numbers_after p (Commit u) (Refused why) = refl
-numbers_after p (Abort u) (Begun t) = refl
-numbers_after p (Abort u) Done = refl
-numbers_after p (Abort u) (Found v) = refl
-numbers_after p (Abort u) Absent = refl
-numbers_after p (Abort u) (Rows rows) = refl
-numbers_after p (Abort u) (Exists k) = refl
-numbers_after p (Abort u) Missing = refl
-numbers_after p (Abort u) (Committed c) = refl
 numbers_after p (Abort u) Aborted = ended_numbers u p.active
-numbers_after p (Abort u) (Moved n run) = refl
-numbers_after p (Abort u) MergeDone = refl
-numbers_after p (Abort u) (Ended k by) = refl
-numbers_after p (Abort u) Idle = refl
-numbers_after p (Abort u) (Cleaned n) = refl
-numbers_after p (Abort u) NoMark = refl
-numbers_after p (Abort u) (Refused why) = refl
-numbers_after p (Merge limit) r = refl
-numbers_after p (Clean range limit) r = refl
+numbers_after p (Merge limit) reply = refl
+numbers_after p (Clean range limit) reply = refl
+numbers_after p step reply = refl
 
 -- ---- what begins and what ends
 
@@ -254,31 +195,10 @@ room_within false n max is le = absurd (cc)
 
 rows_answered : (t : ℕ) (op : Op) (r : Reply) → IsAnswerOf op r → is_bounded op ≡ true → IsWithin (Do t op) r →
     count_rows r ≤ room_of (Do t op)
-rows_answered t op (Begun t') a b w = omega arith
-rows_answered t op Done a b w = omega arith
-rows_answered t op (Found v') a b w = omega arith
-rows_answered t op Absent a b w = omega arith
-rows_answered t (Get k) (Rows rows) a b w = absurd a
 rows_answered t (Scan range max) (Rows rows) a b w = room_within (nat_le max 1000) (length rows) max
     (and_parts (nat_le 1 max) (nat_le max 1000) b).1 w
-rows_answered t (Insert k v) (Rows rows) a b w = absurd a
-rows_answered t (Replace k v) (Rows rows) a b w = absurd a
-rows_answered t (Delete k) (Rows rows) a b w = absurd a
-rows_answered t (Load pairs) (Rows rows) a b w = absurd a
-rows_answered t (TakeLock l) (Rows rows) a b w = absurd a
-rows_answered t Mark (Rows rows) a b w = absurd a
-rows_answered t Back (Rows rows) a b w = absurd a
-rows_answered t op (Exists k') a b w = omega arith
-rows_answered t op Missing a b w = omega arith
-rows_answered t op (Committed c') a b w = omega arith
-rows_answered t op Aborted a b w = omega arith
-rows_answered t op (Moved n' run') a b w = omega arith
-rows_answered t op MergeDone a b w = omega arith
-rows_answered t op (Ended k' h') a b w = omega arith
-rows_answered t op Idle a b w = omega arith
-rows_answered t op (Cleaned n') a b w = omega arith
-rows_answered t op NoMark a b w = omega arith
-rows_answered t op (Refused why') a b w = omega arith
+rows_answered t op (Rows rows) a b w = absurd a
+rows_answered t op reply a b w = omega arith
 
 refused_rows : (t : ℕ) (op : Op) (r : Reply) (why : Refusal) → r ≡ Refused why → count_rows r ≤ room_of (Do t op)
 refused_rows t op r why e = subst (λ (q : Reply). count_rows q ≤ room_of (Do t op)) (sym e) (omega arith)
@@ -299,112 +219,14 @@ rows_formed None false t op r f b w =
 rows_within : (es : List Effect) (st : Step) (r : Reply) → FormedAt es st r → IsWithin st r → count_rows r ≤ room_of st
 rows_within es (Do t op) r f w = rows_formed (due_early (state_at es) t op)
     (is_one_too_many (locks_in (state_at es).active t) (lock_of op)) t op r f (bounded_early es t op) w
-rows_within es Begin (Begun t') f w = omega arith
-rows_within es Begin Done f w = omega arith
-rows_within es Begin (Found v') f w = omega arith
-rows_within es Begin Absent f w = omega arith
 rows_within es Begin (Rows rows') f w = absurd f
-rows_within es Begin (Exists k') f w = omega arith
-rows_within es Begin Missing f w = omega arith
-rows_within es Begin (Committed c') f w = omega arith
-rows_within es Begin Aborted f w = omega arith
-rows_within es Begin (Moved n' run') f w = omega arith
-rows_within es Begin MergeDone f w = omega arith
-rows_within es Begin (Ended k' h') f w = omega arith
-rows_within es Begin Idle f w = omega arith
-rows_within es Begin (Cleaned n') f w = omega arith
-rows_within es Begin NoMark f w = omega arith
-rows_within es Begin (Refused why') f w = omega arith
-rows_within es (Commit t) (Begun t') f w = omega arith
-rows_within es (Commit t) Done f w = omega arith
-rows_within es (Commit t) (Found v') f w = omega arith
-rows_within es (Commit t) Absent f w = omega arith
-rows_within es (Commit t) (Rows rows') f w = absurd f
-rows_within es (Commit t) (Exists k') f w = omega arith
-rows_within es (Commit t) Missing f w = omega arith
-rows_within es (Commit t) (Committed c') f w = omega arith
-rows_within es (Commit t) Aborted f w = omega arith
-rows_within es (Commit t) (Moved n' run') f w = omega arith
-rows_within es (Commit t) MergeDone f w = omega arith
-rows_within es (Commit t) (Ended k' h') f w = omega arith
-rows_within es (Commit t) Idle f w = omega arith
-rows_within es (Commit t) (Cleaned n') f w = omega arith
-rows_within es (Commit t) NoMark f w = omega arith
-rows_within es (Commit t) (Refused why') f w = omega arith
-rows_within es (Abort t) (Begun t') f w = omega arith
-rows_within es (Abort t) Done f w = omega arith
-rows_within es (Abort t) (Found v') f w = omega arith
-rows_within es (Abort t) Absent f w = omega arith
-rows_within es (Abort t) (Rows rows') f w = absurd f
-rows_within es (Abort t) (Exists k') f w = omega arith
-rows_within es (Abort t) Missing f w = omega arith
-rows_within es (Abort t) (Committed c') f w = omega arith
-rows_within es (Abort t) Aborted f w = omega arith
-rows_within es (Abort t) (Moved n' run') f w = omega arith
-rows_within es (Abort t) MergeDone f w = omega arith
-rows_within es (Abort t) (Ended k' h') f w = omega arith
-rows_within es (Abort t) Idle f w = omega arith
-rows_within es (Abort t) (Cleaned n') f w = omega arith
-rows_within es (Abort t) NoMark f w = omega arith
-rows_within es (Abort t) (Refused why') f w = omega arith
-rows_within es (Merge limit) (Begun t') f w = omega arith
-rows_within es (Merge limit) Done f w = omega arith
-rows_within es (Merge limit) (Found v') f w = omega arith
-rows_within es (Merge limit) Absent f w = omega arith
-rows_within es (Merge limit) (Rows rows') f w = absurd f
-rows_within es (Merge limit) (Exists k') f w = omega arith
-rows_within es (Merge limit) Missing f w = omega arith
-rows_within es (Merge limit) (Committed c') f w = omega arith
-rows_within es (Merge limit) Aborted f w = omega arith
-rows_within es (Merge limit) (Moved n' run') f w = omega arith
-rows_within es (Merge limit) MergeDone f w = omega arith
-rows_within es (Merge limit) (Ended k' h') f w = omega arith
-rows_within es (Merge limit) Idle f w = omega arith
-rows_within es (Merge limit) (Cleaned n') f w = omega arith
-rows_within es (Merge limit) NoMark f w = omega arith
-rows_within es (Merge limit) (Refused why') f w = omega arith
-rows_within es (Clean range limit) (Begun t') f w = omega arith
-rows_within es (Clean range limit) Done f w = omega arith
-rows_within es (Clean range limit) (Found v') f w = omega arith
-rows_within es (Clean range limit) Absent f w = omega arith
-rows_within es (Clean range limit) (Rows rows') f w = absurd f
-rows_within es (Clean range limit) (Exists k') f w = omega arith
-rows_within es (Clean range limit) Missing f w = omega arith
-rows_within es (Clean range limit) (Committed c') f w = omega arith
-rows_within es (Clean range limit) Aborted f w = omega arith
-rows_within es (Clean range limit) (Moved n' run') f w = omega arith
-rows_within es (Clean range limit) MergeDone f w = omega arith
-rows_within es (Clean range limit) (Ended k' h') f w = omega arith
-rows_within es (Clean range limit) Idle f w = omega arith
-rows_within es (Clean range limit) (Cleaned n') f w = omega arith
-rows_within es (Clean range limit) NoMark f w = omega arith
-rows_within es (Clean range limit) (Refused why') f w = omega arith
+rows_within es step (Rows rows') f w = absurd f
+rows_within es step reply f w = omega arith
 
 moves_answered : (op : Op) (r : Reply) → IsAnswerOf op r → moves_in r ≤ 64
-moves_answered op (Begun t') a = omega arith
-moves_answered op Done a = omega arith
-moves_answered op (Found v') a = omega arith
-moves_answered op Absent a = omega arith
-moves_answered op (Rows rows') a = omega arith
-moves_answered op (Exists k') a = omega arith
-moves_answered op Missing a = omega arith
-moves_answered op (Committed c') a = omega arith
-moves_answered op Aborted a = omega arith
 moves_answered (Get k) (Moved n run) a = absurd a
-moves_answered (Scan range max) (Moved n run) a = absurd a
-moves_answered (Insert k v) (Moved n run) a = absurd a
-moves_answered (Replace k v) (Moved n run) a = absurd a
-moves_answered (Delete k) (Moved n run) a = absurd a
-moves_answered (Load pairs) (Moved n run) a = absurd a
-moves_answered (TakeLock l) (Moved n run) a = absurd a
-moves_answered Mark (Moved n run) a = absurd a
-moves_answered Back (Moved n run) a = absurd a
-moves_answered op MergeDone a = omega arith
-moves_answered op (Ended k' h') a = omega arith
-moves_answered op Idle a = omega arith
-moves_answered op (Cleaned n') a = omega arith
-moves_answered op NoMark a = omega arith
-moves_answered op (Refused why') a = omega arith
+moves_answered op (Moved n run) a = absurd a
+moves_answered op reply a = omega arith
 
 refused_moves : (r : Reply) (why : Refusal) → r ≡ Refused why → moves_in r ≤ 64
 refused_moves r why e = subst (λ (q : Reply). moves_in q ≤ 64) (sym e) (omega arith)
@@ -423,86 +245,9 @@ moves_formed None false op r f =
 moves_within : (es : List Effect) (st : Step) (r : Reply) → FormedAt es st r → IsWithin st r → moves_in r ≤ 64
 moves_within es (Do t op) r f w = moves_formed (due_early (state_at es) t op)
     (is_one_too_many (locks_in (state_at es).active t) (lock_of op)) op r f
-moves_within es Begin (Begun t') f w = omega arith
-moves_within es Begin Done f w = omega arith
-moves_within es Begin (Found v') f w = omega arith
-moves_within es Begin Absent f w = omega arith
-moves_within es Begin (Rows rows') f w = omega arith
-moves_within es Begin (Exists k') f w = omega arith
-moves_within es Begin Missing f w = omega arith
-moves_within es Begin (Committed c') f w = omega arith
-moves_within es Begin Aborted f w = omega arith
-moves_within es Begin (Moved n' run') f w = absurd f
-moves_within es Begin MergeDone f w = omega arith
-moves_within es Begin (Ended k' h') f w = omega arith
-moves_within es Begin Idle f w = omega arith
-moves_within es Begin (Cleaned n') f w = omega arith
-moves_within es Begin NoMark f w = omega arith
-moves_within es Begin (Refused why') f w = omega arith
-moves_within es (Commit t) (Begun t') f w = omega arith
-moves_within es (Commit t) Done f w = omega arith
-moves_within es (Commit t) (Found v') f w = omega arith
-moves_within es (Commit t) Absent f w = omega arith
-moves_within es (Commit t) (Rows rows') f w = omega arith
-moves_within es (Commit t) (Exists k') f w = omega arith
-moves_within es (Commit t) Missing f w = omega arith
-moves_within es (Commit t) (Committed c') f w = omega arith
-moves_within es (Commit t) Aborted f w = omega arith
-moves_within es (Commit t) (Moved n' run') f w = absurd f
-moves_within es (Commit t) MergeDone f w = omega arith
-moves_within es (Commit t) (Ended k' h') f w = omega arith
-moves_within es (Commit t) Idle f w = omega arith
-moves_within es (Commit t) (Cleaned n') f w = omega arith
-moves_within es (Commit t) NoMark f w = omega arith
-moves_within es (Commit t) (Refused why') f w = omega arith
-moves_within es (Abort t) (Begun t') f w = omega arith
-moves_within es (Abort t) Done f w = omega arith
-moves_within es (Abort t) (Found v') f w = omega arith
-moves_within es (Abort t) Absent f w = omega arith
-moves_within es (Abort t) (Rows rows') f w = omega arith
-moves_within es (Abort t) (Exists k') f w = omega arith
-moves_within es (Abort t) Missing f w = omega arith
-moves_within es (Abort t) (Committed c') f w = omega arith
-moves_within es (Abort t) Aborted f w = omega arith
-moves_within es (Abort t) (Moved n' run') f w = absurd f
-moves_within es (Abort t) MergeDone f w = omega arith
-moves_within es (Abort t) (Ended k' h') f w = omega arith
-moves_within es (Abort t) Idle f w = omega arith
-moves_within es (Abort t) (Cleaned n') f w = omega arith
-moves_within es (Abort t) NoMark f w = omega arith
-moves_within es (Abort t) (Refused why') f w = omega arith
-moves_within es (Merge limit) (Begun t') f w = omega arith
-moves_within es (Merge limit) Done f w = omega arith
-moves_within es (Merge limit) (Found v') f w = omega arith
-moves_within es (Merge limit) Absent f w = omega arith
-moves_within es (Merge limit) (Rows rows') f w = omega arith
-moves_within es (Merge limit) (Exists k') f w = omega arith
-moves_within es (Merge limit) Missing f w = omega arith
-moves_within es (Merge limit) (Committed c') f w = omega arith
-moves_within es (Merge limit) Aborted f w = omega arith
 moves_within es (Merge limit) (Moved n' run') f w = w
-moves_within es (Merge limit) MergeDone f w = omega arith
-moves_within es (Merge limit) (Ended k' h') f w = omega arith
-moves_within es (Merge limit) Idle f w = omega arith
-moves_within es (Merge limit) (Cleaned n') f w = omega arith
-moves_within es (Merge limit) NoMark f w = omega arith
-moves_within es (Merge limit) (Refused why') f w = omega arith
-moves_within es (Clean range limit) (Begun t') f w = omega arith
-moves_within es (Clean range limit) Done f w = omega arith
-moves_within es (Clean range limit) (Found v') f w = omega arith
-moves_within es (Clean range limit) Absent f w = omega arith
-moves_within es (Clean range limit) (Rows rows') f w = omega arith
-moves_within es (Clean range limit) (Exists k') f w = omega arith
-moves_within es (Clean range limit) Missing f w = omega arith
-moves_within es (Clean range limit) (Committed c') f w = omega arith
-moves_within es (Clean range limit) Aborted f w = omega arith
-moves_within es (Clean range limit) (Moved n' run') f w = absurd f
-moves_within es (Clean range limit) MergeDone f w = omega arith
-moves_within es (Clean range limit) (Ended k' h') f w = omega arith
-moves_within es (Clean range limit) Idle f w = omega arith
-moves_within es (Clean range limit) (Cleaned n') f w = omega arith
-moves_within es (Clean range limit) NoMark f w = omega arith
-moves_within es (Clean range limit) (Refused why') f w = omega arith
+moves_within es step (Moved n' run') f w = absurd f
+moves_within es step reply f w = omega arith
 
 pub last_event : (es : List Effect) (h : Trace) (st : Step) (r : Reply) → EachEvent FormedAt es (h ++ (st, r) ∷ []) →
     (fs : List Effect) × FormedAt fs st r

@@ -15,6 +15,7 @@ use Rattle.am_sound.specs.StoreState.{Active, StoreState}
 use Rattle.am_core.specs.StoreSteps.{IsSoundAt}
 use Rattle.am_engine.specs.declared.change.Change.{Change}
 use Rattle.am_engine.specs.declared.change.Change.TheVariants.{Begins, Ends, Nothing}
+use Rattle.am_engine.specs.declared.change.Stored.{Stored}
 
 -- what an effect does to the transactions that are active
 abbrev pub change_of : Effect → Change
@@ -45,6 +46,10 @@ abbrev pub is_stored : Reply → Bool
 is_stored (Refused NoMemory) = false
 is_stored (Refused SeatFull) = false
 is_stored _ = true
+
+-- what is told of a stored step that stands at the position in the trace; nothing of one that isn't stored
+abbrev pub stored_at : ℕ → Step → Reply → Option Stored
+stored_at position st r = if is_stored r then Some (record { change = change st r; position = position }) else None
 
 -- how many rows the reply to a step may have
 abbrev pub room_of : Step → ℕ

@@ -1,4 +1,4 @@
-//! What a step with its reply does to the transactions.
+//! What a step with its reply does to the transactions, and what is told of it.
 
 ghost use Rattle.std.specs.Prelude.{◌≡◌};
 ghost use Rattle.am_engine.specs.Changes.{change, end_of, is_begin, is_refused, is_stored};
@@ -13,8 +13,22 @@ pub enum Change {
     Nothing,
 }
 
+/// What came of a step: its reply, and where the two are stored, what is told of them.
+#[derive(Debug, Drop)]
+pub struct Outcome {
+    pub reply: Reply,
+    pub stored: Option<Stored>,
+}
+
+/// What a stored step did to the transactions, and where it stands in the trace.
+#[derive(Clone, Copy, Debug, PartialEq, Eq)]
+pub struct Stored {
+    pub change: Change,
+    pub position: u64,
+}
+
 /// What the step with this reply does to the transactions.
-pub fn change_by(step: &Step, reply: &Reply) -> Change
+pub(crate) fn change_by(step: &Step, reply: &Reply) -> Change
     ensures { result ≡ change step.now reply.now }
 {
     match (step, reply) {
@@ -43,7 +57,7 @@ pub(crate) fn starts_tx(step: &Step) -> bool
 }
 
 /// Whether the reply stands in the trace: all do but NoMemory and SeatFull.
-pub fn was_stored(reply: &Reply) -> bool
+pub(crate) fn was_stored(reply: &Reply) -> bool
     ensures { result ≡ is_stored reply.now }
 {
     !matches!(

@@ -11,14 +11,16 @@ ghost use Rattle.am_core.specs.Memory.{may_want_memory};
 ghost use Rattle.am_core.specs.StoreSteps.{IsSoundAt};
 ghost use Rattle.am_sound.specs.Right.{IsSoundStore};
 ghost use Rattle.am_engine.specs.Changes.{active_in_trace, numbers_active, end_of, is_refused, is_stored};
-ghost use Rattle.am_engine.specs.Changes.{HasTrace, TakesStep, MayFollow, IsBoundedReply};
+ghost use Rattle.am_engine.specs.Changes.{HasTrace, TakesStep, MayFollow, IsBoundedReply, stored_at};
 ghost use Rattle.am_engine.specs.Copies.{IsCopyOf};
 ghost use Rattle.am_engine.specs.Traces.{EngineState, log_of, empty_log, StoresCall, HandsOn, IsNextOf, ends_after};
 ghost use Rattle.am_engine.specs.Sizes.{AreFiguresAt};
 ghost use Rattle.am_engine.specs.Wants.{MayWantMemory, pairs_needed};
 
 use crate::call_id::CallId;
-use crate::change::{Change, change_by, starts_tx, tx_to_end, was_refused, was_stored};
+use crate::change::{
+    Change, Outcome, Stored, change_by, starts_tx, tx_to_end, was_refused, was_stored,
+};
 use crate::hand_outs::Handed;
 use crate::room::{StepCopy, copy_reply};
 use am_btree::BTree;
@@ -116,22 +118,24 @@ impl Engine {
         let Some(copy) = StepCopy::of(self.alloc, &step) else {
             return Reply::Refused(Refusal::NoMemory);
         };
-        self.step_with(call_id, step, copy)
+        self.step_with(call_id, step, copy).reply
     }
 
     /// Does the same with a copy of the step that was made before, so that it can be made without the latch.
     #[inline(never)]
-    pub fn step_with(&mut self, call_id: CallId, step: Step, copy: StepCopy) -> Reply
+    pub fn step_with(&mut self, call_id: CallId, step: Step, copy: StepCopy) -> Outcome
         requires { IsCopyOf step copy }
-        ensures stepped { StoresCall (log_of self.old) call_id step result (log_of self.new) }
+        ensures stepped { StoresCall (log_of self.old) call_id step result.reply (log_of self.new) }
+        ensures stored { result.stored ≡ stored_at (length self.old.trace) step result.reply }
         ensures handed { self.new.handed ≡ self.old.handed }
-        ensures memory { result ≡ Refused OutOfMemory → MayWantMemory self.old step }
+        ensures memory { result.reply ≡ Refused OutOfMemory → MayWantMemory self.old step }
         ensures room { self.old.room ≤ self.new.room + pairs_needed step }
-        ensures never_full { result ≢ Refused SeatFull }
-        ensures answers { MayFollow (active_in_trace self.old.trace) step result }
-        ensures bounded { IsBoundedReply step result }
-        ensures kept { is_stored result ≡ true → length self.new.handed.trace < length self.new.trace }
+        ensures never_full { result.reply ≢ Refused SeatFull }
+        ensures answers { MayFollow (active_in_trace self.old.trace) step result.reply }
+        ensures bounded { IsBoundedReply step result.reply }
+        ensures kept { is_stored result.reply ≡ true → length self.new.handed.trace < length self.new.trace }
     {
+        let position = self.len();
         let more = pairs_for(&step);
         let has_room = get_room(
             &mut self.trace,
@@ -141,18 +145,28 @@ impl Engine {
             more,
         );
         if !may_go_on(has_room, &step) {
-            return Reply::Refused(Refusal::NoMemory);
+            return Outcome {
+                reply: Reply::Refused(Refusal::NoMemory),
+                stored: None,
+            };
         }
         let StepCopy { step: copy, rows } = copy;
         let reply = take_step(&mut self.store, step);
         if !is_kept(has_room, &reply) {
-            return Reply::Refused(Refusal::NoMemory);
+            return Outcome {
+                reply: Reply::Refused(Refusal::NoMemory),
+                stored: None,
+            };
         }
-        self.ends = count_ends(self.ends, change_by(&copy, &reply));
+        let change = change_by(&copy, &reply);
+        self.ends = count_ends(self.ends, change);
         self.trace
             .push_reserved((copy, copy_reply(self.alloc, &reply, rows)));
         self.calls.push_reserved(call_id);
-        reply
+        Outcome {
+            reply,
+            stored: Some(Stored { change, position }),
+        }
     }
 
     /// Hands out all stored calls that are kept, which are the oldest that weren't handed out before. The trace is what

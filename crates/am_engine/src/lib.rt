@@ -2,6 +2,7 @@
 //!
 //! - [`Engine`]: takes steps, and stores each with its reply and its [`CallId`]. The end of an active transaction finds
 //!   its room.
+//! - [`Outcome`]: what came of a step.
 //! - [`Piece`]: what an engine hands out of its trace.
 //! - [`StepCopy`]: what the trace is to keep of a step, made before the step is taken.
 #![tactic(auto)]
@@ -14,7 +15,7 @@ mod hand_outs;
 mod room;
 
 pub use call_id::CallId;
-pub use change::{Change, change_by, tx_to_end, was_refused, was_stored};
+pub use change::{Change, Outcome, Stored, tx_to_end, was_refused};
 pub use engine::{Engine, Piece};
 pub use figures::empty_figures;
 pub use hand_outs::Events;

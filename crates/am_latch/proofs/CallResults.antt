@@ -1,18 +1,38 @@
 -- What a call leaves its seat with.
 use Rattle.std.proofs.Common.{◌≡◌, ℕ, suc, ◌-◌, List, [], ◌∷◌, ◌++◌, length, Bool, true, false, Some, MatchBool, refl}
 use Rattle.std.proofs.Common.{sym, ap, ◌∙◌, subst, arith, length-append, append_assoc}
-use Rattle.std.specs.Prelude.{slice_get}
+use Rattle.std.specs.Prelude.{slice_get, if◌then◌else◌, Option, None, is_some, not}
 use Rattle.std.proofs.lemmas.List.{map-append}
 use Rattle.am_record.specs.declared.step.Step.{Step}
 use Rattle.am_record.specs.declared.step.Reply.{Reply}
 use Rattle.am_latch.specs.declared.receipt.Receipt.{Receipt}
-use Rattle.am_engine.specs.Changes.{is_stored}
+use Rattle.am_engine.specs.Changes.{is_stored, change, stored_at}
+use Rattle.am_engine.specs.declared.change.Stored.{Stored}
 use Rattle.am_latch.specs.Receipts.{SeatState, seat_state, receipt, GetsReceipt, HasReceiptOf, commit_in, committed_by}
 use Rattle.am_latch.specs.Receipts.{last_commit_of, positions_of, AreBehind}
 
 pub where_true : (A B : Type 0) (b : Bool) → b ≡ true → MatchBool b A B → A
 where_true A B true e m = m
 where_true A B false e m = absurd (cc)
+
+-- what is told of a stored step, and that one of which nothing is told isn't stored
+told_by : (b : Bool) (x s : Stored) → (if b then Some x else None) ≡ Some s → (b ≡ true) × (s ≡ x)
+told_by true x s e = (refl, cc)
+told_by false x s e = absurd (cc)
+
+pub told_of : (position : ℕ) (st : Step) (r : Reply) (s : Stored) → stored_at position st r ≡ Some s →
+    (is_stored r ≡ true) × (s ≡ record { change = change st r; position = position })
+told_of position st r s e = told_by (is_stored r) (record { change = change st r; position = position }) s e
+
+is_told : (b : Bool) (x : Stored) → is_some (if b then Some x else None) ≡ true → b ≡ true
+is_told true x e = refl
+is_told false x e = absurd (cc)
+
+pub is_stored_where : (position : ℕ) (st : Step) (r : Reply) (told : Option Stored) (none : Bool) →
+    told ≡ stored_at position st r → is_some told ≡ not none → none ≡ false → is_stored r ≡ true
+is_stored_where position st r told none as_stored asked e =
+    is_told (is_stored r) (record { change = change st r; position = position })
+    (ap is_some (sym as_stored) ∙ asked ∙ ap not e)
 
 pub received : (s : SeatState) (number n position : ℕ) (xs ys : List Receipt) (st : Step) (r : Reply) →
     seat_state number xs n ≡ s → is_stored r ≡ true

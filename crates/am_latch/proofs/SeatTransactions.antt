@@ -10,8 +10,7 @@ use Rattle.am_record.specs.declared.step.Step.TheVariants.{Begin, Do, Commit, Ab
 use Rattle.am_record.specs.declared.step.Reply.{Reply}
 use Rattle.am_engine.specs.declared.change.Change.{Change}
 use Rattle.am_engine.specs.declared.change.Change.TheVariants.{Begins, Ends, Nothing}
-use Rattle.am_engine.specs.Changes.{change, end_of, numbers_with, active_in_trace, has, open_after}
-use Rattle.am_engine.specs.Changes.{MayFollow}
+use Rattle.am_engine.specs.Changes.{change, end_of, numbers_with, active_in_trace, has, open_after, MayFollow}
 use Rattle.am_latch.specs.declared.receipt.Receipt.{Receipt}
 use Rattle.am_engine.specs.declared.call_id.CallId.{CallId}
 use Rattle.am_engine.specs.Traces.{CallLog, log_with}
@@ -118,12 +117,9 @@ begins_free o (Merge n) r t may e = absurd (cc)
 begins_free o (Clean range n) r t may e = absurd (cc)
 
 pub end_is_open : (o : Option ℕ) (st : Step) (t : ℕ) → IsAllowed o st → end_of st ≡ Some t → o ≡ Some t
-end_is_open o Begin t may e = absurd (cc)
-end_is_open o (Do u op) t may e = absurd (cc)
 end_is_open o (Commit u) t may e = may ∙ e
 end_is_open o (Abort u) t may e = may ∙ e
-end_is_open o (Merge n) t may e = absurd (cc)
-end_is_open o (Clean range n) t may e = absurd (cc)
+end_is_open o step t may e = absurd (cc)
 
 pub open_from-snoc : (o : Option ℕ) (rs : List Receipt) (x : Receipt) → open_from o (rs ++ x ∷ []) ≡ open_after
     (open_from o rs) (change x.step x.reply)

@@ -4,8 +4,7 @@ ghost use Rattle.std.specs.Prelude.{vec_capacity};
 ghost use Rattle.am_record.specs.Sessions.{IsAllowed};
 ghost use Rattle.am_record.specs.declared.step.Reply.TheVariants.{Refused};
 ghost use Rattle.am_record.specs.declared.step.Refusal.TheVariants.{SeatFull};
-ghost use Rattle.am_engine.specs.Changes.{end_of, is_stored, open_after};
-ghost use Rattle.am_engine.specs.Changes.{IsBoundedReply};
+ghost use Rattle.am_engine.specs.Changes.{end_of, is_stored, open_after, IsBoundedReply};
 ghost use Rattle.am_latch.specs.Receipts.{SeatState, new_seat, HasReceiptOf, receipts_of, moved_in, last_commit_of};
 ghost use Rattle.am_latch.specs.Receipts.{held_by, positions_of, AreBehind};
 ghost use Rattle.am_latch.specs.Ties.{open_of, EndsTx, receipts_needed};
@@ -17,7 +16,7 @@ use crate::latch_name::LatchName;
 use crate::receipt::{CommitReceipt, commit_by, moved_by};
 use crate::view_steps::compare_receipts;
 use crate::views::{Token, ViewTable};
-use am_engine::{CallId, Change, StepCopy, tx_to_end, was_stored};
+use am_engine::{CallId, Change, StepCopy, tx_to_end};
 use am_record::{Refusal, Reply, Step};
 use std::alloc::Global;
 use std::marker::{Model, PhantomData};
@@ -180,13 +179,13 @@ impl<L: LatchName> Seat<L> {
         let outcome = latch
             .lock(rt)
             .call(&latch.table, &mut self.token, call_id, step, copy);
-        if !was_stored(&outcome.reply) {
+        let Some(stored) = outcome.stored else {
             return outcome.reply;
-        }
-        self.open_now = open_after(self.open_now, outcome.change);
+        };
+        self.open_now = open_after(self.open_now, stored.change);
         self.last_commit = commit_by(&outcome.reply);
         self.moved += moved_by(&outcome.reply);
-        self.positions.push_reserved(outcome.position);
+        self.positions.push_reserved(stored.position);
         outcome.reply
     }
 

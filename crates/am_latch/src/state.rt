@@ -4,8 +4,7 @@ ghost use Rattle.am_record.specs.Sessions.{IsAllowed};
 ghost use Rattle.am_record.specs.declared.step.Reply.TheVariants.{Refused};
 ghost use Rattle.am_record.specs.declared.step.Refusal.TheVariants.{SeatFull};
 ghost use Rattle.am_sound.specs.Right.{IsSoundStore};
-ghost use Rattle.am_engine.specs.Changes.{is_stored, change};
-ghost use Rattle.am_engine.specs.Changes.{IsBoundedReply};
+ghost use Rattle.am_engine.specs.Changes.{is_stored, stored_at, IsBoundedReply};
 ghost use Rattle.am_engine.specs.Copies.{IsCopyOf};
 ghost use Rattle.am_engine.specs.Traces.{CallLog, EngineState, log_of, empty_log, StoresCall, AreMadeBelow, IsNextOf};
 ghost use Rattle.am_latch.specs.Receipts.{receipts_of};
@@ -21,19 +20,11 @@ use crate::taker::Taker;
 use crate::taker_tie::{TakenTable, TakenToken, TakenView, hand_over};
 use crate::view_steps::{append_call, compare_receipts};
 use crate::views::{Token, View, ViewTable};
-use am_engine::{CallId, Change, Engine, Piece, StepCopy, change_by, was_stored};
+use am_engine::{CallId, Engine, Outcome, Piece, StepCopy};
 use am_record::{NoMemory, Reply, Step};
 use atomic_table::Badge;
 use std::marker::{Model, PhantomData};
 use std::mem;
-
-/// What came of a call: the reply, what the step did to the transactions, and where the pair stands in the trace.
-#[derive(Drop)]
-pub(crate) struct Outcome {
-    pub(crate) reply: Reply,
-    pub(crate) change: Change,
-    pub(crate) position: u64,
-}
 
 /// An engine, the token that knows its trace, and the one that knows what was handed out of it.
 #[derive(Drop)]
@@ -127,44 +118,33 @@ impl<L: LatchName> LatchState<L> {
         requires may { IsAllowed (open_of (seat_in token.old.me.0).receipts) step }
         requires copy { IsCopyOf step copy }
         ensures stepped { StoresCall self.old call_id step result.reply self.new }
+        ensures stored { result.stored ≡ stored_at (length self.old.trace) step result.reply }
         ensures never_full { result.reply ≢ Refused SeatFull }
         ensures ended { EndsTx step result.reply }
         ensures bounded { IsBoundedReply step result.reply }
-        ensures change { is_stored result.reply ≡ true → result.change ≡ change step result.reply }
-        ensures position { result.position ≡ length self.old.trace }
         ensures same { token.new.table_id ≡ token.old.table_id }
         ensures token { MatchBool (is_stored result.reply) (token.new.me ≡ (
-          Receipts (seat_with (seat_in token.old.me.0) step result.reply result.position),
+          Receipts (seat_with (seat_in token.old.me.0) step result.reply (length self.old.trace)),
           token.old.me.1,
         )) (token.new.me ≡ token.old.me) }
     {
         let trace_token = mem::replace(&mut self.trace_token, Badge::blank()).into_seat();
         let trace_token = compare_receipts(table, token, trace_token);
         let _calls = self.engine.kept_calls();
-        let position = self.engine.len();
-        let reply = self.engine.step_with(call_id, step, copy);
-        if !was_stored(&reply) {
+        let outcome = self.engine.step_with(call_id, step, copy);
+        if outcome.stored.is_none() {
             self.trace_token = trace_token.into_badge();
-            return Outcome {
-                reply,
-                change: Change::Nothing,
-                position,
-            };
+            return outcome;
         }
-        let (step, stored) = self.engine.newest();
-        let change = change_by(step, stored);
+        let (step, reply) = self.engine.newest();
         self.trace_token = append_call(
             table,
             token,
             trace_token,
             step,
-            stored,
+            reply,
             &call_id,
         ).into_badge();
-        Outcome {
-            reply,
-            change,
-            position,
-        }
+        outcome
     }
 }

@@ -1,7 +1,6 @@
 //! What the store speaks of: keys, values, ranges, entries, steps and replies.
 #![tactic(auto)]
 
-mod admission;
 mod entry;
 mod hash_key;
 mod key;
@@ -14,7 +13,6 @@ mod records;
 mod step;
 mod value;
 
-pub use admission::is_limit;
 pub use entry::Entry;
 pub use hash_key::HashKey;
 pub use key::{Key, ShortKey};
@@ -29,5 +27,5 @@ pub use lock::{Lock, Mode};
 pub use memory::NoMemory;
 pub use range::Range;
 pub use records::{Records, is_rising};
-pub use step::{Op, Refusal, Reply, Step};
+pub use step::{Op, Refusal, Reply, Step, is_limit};
 pub use value::{ShortValue, Value};

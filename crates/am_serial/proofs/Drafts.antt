@@ -66,10 +66,7 @@ pub still_has : (op : Op) (d : Draft) (q : OrderedKey) (m : PlainMap) → is_ord
     Has q m d → Has q m (draft_after op d)
 still_has (Get k) d q m o w h = h
 still_has (Scan range max) d q m o w h = h
-still_has (Insert k v) d q m o w h = record { map = after_frame (Insert k v) d.map q o w ∙ h.map; saved = h.saved }
-still_has (Replace k v) d q m o w h = record { map = after_frame (Replace k v) d.map q o w ∙ h.map; saved = h.saved }
-still_has (Delete k) d q m o w h = record { map = after_frame (Delete k) d.map q o w ∙ h.map; saved = h.saved }
-still_has (Load pairs) d q m o w h = record { map = after_frame (Load pairs) d.map q o w ∙ h.map; saved = h.saved }
 still_has (TakeLock lock) d q m o w h = h
 still_has Mark d q m o w h = record { map = h.map; saved = (h.map, h.saved) }
 still_has Back d q m o w h = back_has q m d.saved d h.saved h
+still_has op d q m o w h = record { map = after_frame op d.map q o w ∙ h.map; saved = h.saved }

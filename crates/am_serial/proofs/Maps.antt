@@ -122,9 +122,7 @@ answer_local (Insert k v) m n o a = ap (λ b. cond b (Exists k) Done) (contains_
 answer_local (Replace k v) m n o a = ap (λ b. cond b Done Missing) (contains_alike k a)
 answer_local (Delete k) m n o a = ap (λ b. cond b Done Missing) (contains_alike k a)
 answer_local (Load pairs) m n o a = ap exists_or_done (taken_alike pairs m n o a)
-answer_local (TakeLock lock) m n o a = refl
-answer_local Mark m n o a = refl
-answer_local Back m n o a = refl
+answer_local op m n o a = refl
 
 -- what agreed on a set that has those keys still does
 pub after_local : {S : OrderedKey → Bool} (op : Op) (m n : PlainMap) → is_orderly op ≡ true → Within (reads op) S →
@@ -166,8 +164,6 @@ get-cond false m n q x h k = k
 -- an operation leaves each key as it is that it hasn't exclusively locked
 pub after_frame : (op : Op) (m : PlainMap) (q : OrderedKey) → is_orderly op ≡ true → writes op q ≡ false →
     get (map_after op m) q ≡ get m q
-after_frame (Get k) m q o h = refl
-after_frame (Scan range max) m q o h = refl
 after_frame (Insert k v) m q o h = get-cond (contains_key m k) m (insert m k v) q (get m q) refl
     (get_beside_inserted m k v q (not_in_point q k h))
 after_frame (Replace k v) m q o h = get-cond (contains_key m k) (insert m k v) m q (get m q)
@@ -176,6 +172,4 @@ after_frame (Delete k) m q o h = get_beside_removed m k q (not_in_point q k h)
 after_frame (Load pairs) m q o h =
     get-load_other (least_taken pairs m) pairs m q
     (false_from_ne_true (is_key_of pairs q) (λ e. both_ways (within (span pairs) q) h ((load_within pairs o).at q e)))
-after_frame (TakeLock lock) m q o h = refl
-after_frame Mark m q o h = refl
-after_frame Back m q o h = refl
+after_frame op m q o h = refl

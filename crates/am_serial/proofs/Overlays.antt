@@ -9,8 +9,7 @@ use Rattle.std.proofs.lemmas.Bool.{ne_eqb, not_from_false}
 use Rattle.am_record.specs.OrderedKey.{OrderedKey, key_cmp-total, key_cmp-exact}
 use Rattle.am_record.specs.declared.lock.Lock.{Lock}
 use Rattle.am_record.specs.declared.step.Op.{Op}
-use Rattle.am_record.specs.declared.step.Op.TheVariants.{Get, Scan, Insert, Replace, Delete, Load, Lock as TakeLock}
-use Rattle.am_record.specs.declared.step.Op.TheVariants.{Mark, Back}
+use Rattle.am_record.specs.declared.step.Op.TheVariants.{Back}
 use Rattle.am_record.specs.Plain.{PlainMap, Draft, fresh, answer, draft_after, map_answer, map_after, left_on, left}
 use Rattle.am_record.specs.Plain.{is_orderly}
 use Rattle.am_record.specs.Asks.{lock_of, with_asked, clashes, locks_of, has_key, holds, owns}
@@ -123,26 +122,12 @@ module _ (f : ℕ → List Answered) where
 
 -- but for Back, an operation does to a draft's map what it does to a map, and is answered so
 after_map : (op : Op) (d : Draft) → is_back op ≡ false → (draft_after op d).map ≡ map_after op d.map
-after_map (Get k) d h = refl
-after_map (Scan range max) d h = refl
-after_map (Insert k v) d h = refl
-after_map (Replace k v) d h = refl
-after_map (Delete k) d h = refl
-after_map (Load pairs) d h = refl
-after_map (TakeLock lock) d h = refl
-after_map Mark d h = refl
 after_map Back d h = absurd (both_ways true h refl)
+after_map op d h = refl
 
 pub answer_map : (op : Op) (d : Draft) → is_back op ≡ false → answer op d ≡ map_answer op d.map
-answer_map (Get k) d h = refl
-answer_map (Scan range max) d h = refl
-answer_map (Insert k v) d h = refl
-answer_map (Replace k v) d h = refl
-answer_map (Delete k) d h = refl
-answer_map (Load pairs) d h = refl
-answer_map (TakeLock lock) d h = refl
-answer_map Mark d h = refl
 answer_map Back d h = absurd (both_ways true h refl)
+answer_map op d h = refl
 
 -- ---- an operation is granted
 

@@ -11,8 +11,7 @@ use Rattle.am_record.specs.declared.step.Refusal.{Refusal}
 use Rattle.am_record.specs.declared.step.Refusal.TheVariants.{NoSuchTx, TooManyTx, TooManyOps, NotRising, NoMemory}
 use Rattle.am_record.specs.declared.lock.Lock.{Lock}
 use Rattle.am_record.specs.declared.step.Op.{Op}
-use Rattle.am_record.specs.declared.step.Op.TheVariants.{Get, Scan, Insert, Replace, Delete, Load, Lock as TakeLock}
-use Rattle.am_record.specs.declared.step.Op.TheVariants.{Mark, Back}
+use Rattle.am_record.specs.declared.step.Op.TheVariants.{Get, Insert, Replace, Delete, Load, Back}
 use Rattle.am_record.specs.declared.step.Step.{Step}
 use Rattle.am_record.specs.declared.step.Step.TheVariants.{Begin, Do, Commit, Abort}
 use Rattle.am_record.specs.declared.step.Reply.{Reply}
@@ -30,8 +29,7 @@ use Rattle.am_serial.specs.Trace.{Trace, Answered, Effect, Begins, Answers, Comm
 use Rattle.am_serial.specs.Trace.{effect_of_do, effects, ops_of, left_by_bodies}
 use Rattle.am_record.specs.Refusals.{or_else, lock_refusal}
 use Rattle.am_serial.specs.Machine.{State, Transaction, start, is_open, locks_in, view, blocker, due_early, due_lock}
-use Rattle.am_serial.specs.Machine.{due, May}
-use Rattle.am_serial.specs.Machine.{extended, without_transaction, next, Runs, after_run}
+use Rattle.am_serial.specs.Machine.{due, May, extended, without_transaction, next, Runs, after_run}
 use Rattle.am_serial.proofs.Views.{View, view_of, view_of-push, push, among, active_in, committed_in, with_body}
 use Rattle.am_serial.proofs.Views.{state_of, is_open-with_body, body_in-with_body}
 use Rattle.am_serial.proofs.Serial.{Inv, MayAnswer, MayBe, push_inv, none, none_inv, same_committed_bodies}
@@ -168,7 +166,6 @@ answer_is_answer t (Get k) d = at_found (get d.map k)
     at_found : (o : Option (List ℕ)) → effect_of_do t (Get k) (found o) ≡ Answers t (Get k) (found o)
     at_found None = refl
     at_found (Some v) = refl
-answer_is_answer t (Scan range max) d = refl
 answer_is_answer t (Insert k v) d = elim (contains_key d.map k) as
     (λ b. effect_of_do t (Insert k v) (cond b (Exists k) Done) ≡ Answers t (Insert k v) (cond b (Exists k) Done))
     [ true ↦ refl | false ↦ refl ]
@@ -184,13 +181,12 @@ answer_is_answer t (Load pairs) d = at_taken (least_taken pairs d.map)
         (exists_or_done taken)
     at_taken None = refl
     at_taken (Some k) = refl
-answer_is_answer t (TakeLock lock) d = refl
-answer_is_answer t Mark d = refl
 answer_is_answer t Back d = at_saved d.saved
   where
     at_saved : (ms : List PlainMap) → effect_of_do t Back (went_back ms) ≡ Answers t Back (went_back ms)
     at_saved [] = refl
     at_saved (m ∷ ms) = refl
+answer_is_answer t op d = refl
 
 -- the operation is granted
 pub may_answer : (v : View) (t : ℕ) (op : Op) → due (state_of v) t op ≡ None →

@@ -12,10 +12,9 @@ use Rattle.am_record.specs.declared.step.Refusal.TheVariants.{NoSuchTx, Busy, To
 use Rattle.am_record.specs.declared.step.Refusal.TheVariants.{NotRising, BadLimit, NoMemory}
 use Rattle.am_record.specs.declared.lock.Lock.{Lock}
 use Rattle.am_record.specs.declared.step.Op.{Op}
-use Rattle.am_record.specs.declared.step.Op.TheVariants.{Get, Scan, Insert, Replace, Delete, Load, Lock as TakeLock}
-use Rattle.am_record.specs.declared.step.Op.TheVariants.{Mark, Back}
+use Rattle.am_record.specs.declared.step.Op.TheVariants.{Get, Insert, Replace, Delete, Load, Back}
 use Rattle.am_record.specs.declared.step.Step.{Step}
-use Rattle.am_record.specs.declared.step.Step.TheVariants.{Begin, Do, Commit, Abort, Merge, Clean}
+use Rattle.am_record.specs.declared.step.Step.TheVariants.{Begin, Do}
 use Rattle.am_record.specs.declared.step.Reply.{Reply}
 use Rattle.am_record.specs.declared.step.Reply.TheVariants.{Done, Exists, Missing, Refused}
 use Rattle.am_record.specs.Plain.{Records, PlainMap, Draft, fresh, answer, answers, left_on, found, exists_or_done}
@@ -67,7 +66,6 @@ answer_form (Get k) d = at (get d.map k)
     at : (o : Option (List ℕ)) → IsAnswerOf (Get k) (found o)
     at None = tt
     at (Some v) = tt
-answer_form (Scan range max) d = tt
 answer_form (Insert k v) d = elim (contains_key d.map k) as (λ b. IsAnswerOf (Insert k v) (cond b (Exists k) Done))
     [ true ↦ refl | false ↦ tt ]
 answer_form (Replace k v) d = elim (contains_key d.map k) as (λ b. IsAnswerOf (Replace k v) (cond b Done Missing))
@@ -75,13 +73,12 @@ answer_form (Replace k v) d = elim (contains_key d.map k) as (λ b. IsAnswerOf (
 answer_form (Delete k) d = elim (contains_key d.map k) as (λ b. IsAnswerOf (Delete k) (cond b Done Missing))
     [ true ↦ tt | false ↦ tt ]
 answer_form (Load pairs) d = taken_form pairs (rows_where (is_key_of pairs) d.map) (filtered_keys pairs (entries d.map))
-answer_form (TakeLock lock) d = tt
-answer_form Mark d = tt
 answer_form Back d = at d.saved
   where
     at : (ms : List PlainMap) → IsAnswerOf Back (went_back ms)
     at [] = tt
     at (m ∷ ms) = tt
+answer_form op d = tt
 
 -- ---- the cases of a reply to an operation
 
@@ -253,11 +250,7 @@ busy_at es inv _ reply m = tt
 
 formed_at : (es : List Effect) (step : Step) (reply : Reply) → May (state_at es) step reply → FormedAt es step reply
 formed_at es (Do t op) reply m = formed_from _ _ _ op (view (state_at es) t) reply m
-formed_at es Begin reply m = m
-formed_at es (Commit t) reply m = m
-formed_at es (Abort t) reply m = m
-formed_at es (Merge limit) reply m = m
-formed_at es (Clean range limit) reply m = m
+formed_at es step reply m = m
 
 pub sound_from : (trace : Trace) (es : List Effect) (s : State) → Follows es s → Runs s trace → IsSoundFrom es trace
 sound_from [] es s f r = record { serial = f.kept.serial; steady = f.kept.steady; busy = tt; formed = tt }
@@ -275,14 +268,7 @@ sound_from (e ∷ trace) es s f r =
 
 pub not_answer : (op : Op) (why : Refusal) → IsAnswerOf op (Refused why) → ⊥
 not_answer (Get k) why a = a
-not_answer (Scan range max) why a = a
-not_answer (Insert k v) why a = a
-not_answer (Replace k v) why a = a
-not_answer (Delete k) why a = a
-not_answer (Load pairs) why a = a
-not_answer (TakeLock lock) why a = a
-not_answer Mark why a = a
-not_answer Back why a = a
+not_answer op why a = a
 
 answer_effect : (t : ℕ) (op : Op) (reply : Reply) → IsAnswerOf op reply → effect_of_do t op reply ≡ Answers t op reply
 answer_effect t op (Refused why) a = absurd (not_answer op why a)
@@ -335,10 +321,7 @@ may_at es inv (Do t op) reply f b steady =
     steady_answer (view_of es) inv t op reply (active_early es t op early)
     (subst SteadyAt (view_of-push es (Answers t op reply)) at_answers))
 may_at es inv Begin reply f b steady = f
-may_at es inv (Commit t) reply f b steady = f
-may_at es inv (Abort t) reply f b steady = f
-may_at es inv (Merge limit) reply f b steady = f
-may_at es inv (Clean range limit) reply f b steady = f
+may_at es inv step reply f b steady = f
 
 first_moment : (P : List Effect → Type 0) (trace : Trace) (es : List Effect) → AtEachMoment P es trace → P es
 first_moment P [] es h = h

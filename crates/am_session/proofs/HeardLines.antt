@@ -22,14 +22,7 @@ use Rattle.am_dialogue.specs.Conversation.{SessionPoint, Stays, TakesStep, Answe
 -- what brings records is no QUIT
 no_quit : (asked : Request) → brings_records asked ≡ true → is_quit (Asked asked) ≡ false
 no_quit request.Quit e = cc
-no_quit request.Begin e = refl
-no_quit (request.Do op) e = refl
-no_quit (request.Stage records) e = refl
-no_quit request.Commit e = refl
-no_quit request.Abort e = refl
-no_quit (request.Merge limit) e = refl
-no_quit (request.Clean range limit) e = refl
-no_quit request.Seen e = refl
+no_quit asked e = refl
 
 -- want of memory hides no QUIT
 pub heard_quit : (line : Line) (h : ParsedLine) → MayParse line h → is_quit h ≡ is_quit (parsed line)

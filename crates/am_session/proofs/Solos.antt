@@ -56,14 +56,12 @@ load_plain (Some k) = λ s. refl
 
 told_plain : (o : Op) (marks : List ℕ) (m : PlainMap) → Plain (stored_answer o marks m)
 told_plain (op.Get k) marks m = found_plain (get m k)
-told_plain (op.Scan range max) marks m = λ s. refl
 told_plain (op.Insert k v) marks m = either_plain (contains_key m k) _ _ (λ s. refl) (λ s. refl)
 told_plain (op.Replace k v) marks m = either_plain (contains_key m k) _ _ (λ s. refl) (λ s. refl)
 told_plain (op.Delete k) marks m = either_plain (contains_key m k) _ _ (λ s. refl) (λ s. refl)
 told_plain (op.Load pairs) marks m = load_plain (least_taken pairs m)
-told_plain (op.Lock lock) marks m = λ s. refl
-told_plain op.Mark marks m = λ s. refl
 told_plain op.Back marks m = either_plain (has_mark marks) reply.Done reply.NoMark (λ s. refl) (λ s. refl)
+told_plain o marks m = λ s. refl
 
 do_plain : (p : StoreState) (t : ℕ) (o : Op) (r : Reply) → MayAnswer p (step.Do t o) r → Plain r
 do_plain p t o r = by_due (refusal_in p t o)
@@ -153,14 +151,11 @@ stays_open p a _ _ allowed h says = absurd says
 pub abort_ends : (p : StoreState) (a : Option ℕ) (s : Step) (r : Reply) → IsAllowed a s → IsOpen p a → MayAnswer p s r →
     EndsAbort s r
 abort_ends p a step.Begin r allowed h says = tt
-abort_ends p a (step.Do t o) r allowed h says = tt
-abort_ends p a (step.Commit t) r allowed h says = tt
 abort_ends p a (step.Abort t) reply.Aborted allowed h says = refl
 abort_ends p a (step.Abort t) (reply.Refused why.NoSuchTx) allowed h says =
     absurd (true≢false (sym (subst (IsOpen p) allowed h) ∙ says))
 abort_ends p a (step.Abort t) _ allowed h says = absurd says
-abort_ends p a (step.Merge limit) r allowed h says = tt
-abort_ends p a (step.Clean range limit) r allowed h says = tt
+abort_ends p a st r allowed h says = tt
 
 -- the commits are counted
 pub commits_are : (p : StoreState) (s : Step) (r : Reply) → MayAnswer p s r →

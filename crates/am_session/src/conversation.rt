@@ -1,8 +1,8 @@
 //! A session over any backend, line by line.
 
-ghost use Rattle.std.specs.Prelude.{◌≡◌, ℕ, ◌+◌, ◌^◌, ◌<◌, ◌≤◌, [], take, false, Option, Some, None, OnOk, OnErr, IfOk};
+ghost use Rattle.std.specs.Prelude.{◌≡◌, ◌+◌, ◌^◌, ◌<◌, [], false, Option, Some, None, OnOk, OnErr, IfOk};
 ghost use Rattle.std.specs.Prelude.{IfSome, IfNone, true};
-ghost use Rattle.am_stream.specs.SinkWrites.{Gave};
+ghost use Rattle.am_stream.specs.SinkWrites.{Wrote};
 ghost use Rattle.am_stream.specs.Lines.{has_lf, TookLine, TookPart};
 ghost use Rattle.am_stream.specs.LineAnswers.{seen};
 ghost use Rattle.am_stream.specs.SourceReads.{TookAhead, IsAtEnd};
@@ -73,12 +73,9 @@ fn respond<W: Wait, B: Backend>(
 // Writes a response, and sends on what was written, unless a whole line is at hand.
 fn send<K: Sink>(sink: &mut K, input: &Input, response: &Response) -> Result<(), Failed>
     requires countable { K.failures sink.old < 2 ^ 63 }
-    ensures given { OnOk result (Gave K.holds sink.old (response_text response.now) sink.new) }
+    ensures wrote { Wrote K.holds K.failures sink.old (response_text response.now) result sink.new }
     ensures sent { OnOk result (has_lf input.now ≡ false → K.pending sink.new ≡ false) }
     ensures together { OnOk result (has_lf input.now ≡ true → K.pending sink.new ≡ true) }
-    ensures ok { OnOk result (K.failures sink.new ≡ K.failures sink.old) }
-    ensures failed { OnErr result (K.failures sink.new ≡ K.failures sink.old + 1) }
-    ensures torn { OnErr result ((n : ℕ) × Gave K.holds sink.old (take n (response_text response.now)) sink.new) }
 {
     put_response(response, sink)?;
     if input.has_line() {

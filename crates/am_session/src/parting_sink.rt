@@ -1,7 +1,7 @@
 //! How a session says BYE.
 
-ghost use Rattle.std.specs.Prelude.{◌≡◌, ℕ, ◌+◌, ◌^◌, ◌<◌, take, false, None, OnOk, OnErr};
-ghost use Rattle.am_stream.specs.SinkWrites.{Gave};
+ghost use Rattle.std.specs.Prelude.{◌≡◌, ◌^◌, ◌<◌, false, None, OnOk};
+ghost use Rattle.am_stream.specs.SinkWrites.{Wrote};
 ghost use Rattle.am_dialogue.specs.Responses.{bye};
 
 use crate::backend::Backend;
@@ -18,11 +18,8 @@ pub trait PartingSink<B: Backend>: Sink {
         requires countable { Self.failures self.old < 2 ^ 63 }
         requires idle { B.means.active backend.now ≡ None }
         ensures parted { parts backend.now self.old self.new }
-        ensures given { OnOk result (Gave Self.holds self.old bye self.new) }
-        ensures sent { OnOk result (Self.pending self.new ≡ false) }
-        ensures ok { OnOk result (Self.failures self.new ≡ Self.failures self.old) }
-        ensures failed { OnErr result (Self.failures self.new ≡ Self.failures self.old + 1) }
-        ensures torn { OnErr result ((n : ℕ) × Gave Self.holds self.old (take n bye) self.new) };
+        ensures wrote { Wrote Self.holds Self.failures self.old bye result self.new }
+        ensures sent { OnOk result (Self.pending self.new ≡ false) };
 }
 
 impl<B: Backend, K: Sink> PartingSink<B> for K {

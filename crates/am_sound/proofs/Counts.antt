@@ -1,14 +1,12 @@
 -- How many entries stand in a run, and what was read: nothing is merged twice, and nothing that no read asked for.
 use Rattle.std.proofs.Common.{◌≡◌, ◌≢◌, ◌≤◌, ◌+◌, ◌-◌, ℕ, zero, suc, List, [], ◌∷◌, ◌++◌, length, take, drop, Bool}
 use Rattle.std.proofs.Common.{true, false, cond, ◌&&◌, refl, sym, ap, ◌∙◌, subst, ⊎_elim, Option, Some, None, arith}
-use Rattle.std.specs.Prelude.{◌==◌, nat_le, is_none}
+use Rattle.std.specs.Prelude.{◌==◌, nat_le, is_none, is_some}
 use Rattle.std.specs.List.{AllByRecursion}
-use Rattle.std.specs.Ordering.{eq_by_cmp}
+use Rattle.std.specs.Ordering.{eq_by_cmp, is_eq, is_lt}
 use Rattle.std.proofs.lemmas.Bool.{cases_Bool, cond-true, cond-false, and_parts, or_left, or_right, ne_eqb, eq-eqb}
 use Rattle.std.proofs.lemmas.Bool.{eqb-true, eqb-false}
 use Rattle.std.proofs.lemmas.List.Folds.{list_any-append}
-use Rattle.std.specs.Prelude.{is_some}
-use Rattle.std.specs.Ordering.{is_eq, is_lt}
 use Rattle.std.proofs.lemmas.Option.{none-some}
 use Rattle.am_effect.proofs.Lists.{All-filter}
 use Rattle.am_effect.proofs.Maintenance.{as_many, candidates_stand, merged_rise, merged_stand, moved_bound, of_run}
@@ -18,9 +16,9 @@ use Rattle.am_effect.specs.MergeAnswers.{Holders, MergeRight, all_worked_off, ca
 use Rattle.am_effect.specs.MergeAnswers.{wishes_left, worked_off}
 use Rattle.am_effect.specs.Places.{look, put, reslotted, with_slot}
 use Rattle.am_effect.specs.Store.{AskedAt, EachAsked, Follows, IsAsked, MayReply, Store, after_step, all_loaded_into}
-use Rattle.am_effect.specs.Store.{all_moved_from, asks_for, changed, entries_after, find_live, holder, loaded_into}
-use Rattle.am_effect.specs.Store.{moved_from, opened, reads, was_read, wished, wishes_after, with_ghost, with_value}
-use Rattle.am_effect.specs.Store.{with_wish}
+use Rattle.am_effect.specs.Store.{all_moved_from, asks_for, entries_after, holder, loaded_into}
+use Rattle.am_effect.specs.Operations.{changed, find_live, wished, with_ghost, with_value}
+use Rattle.am_effect.specs.Store.{moved_from, opened, reads, was_read, wishes_after, with_wish}
 use Rattle.am_index.proofs.Edits.{find-miss, one_place}
 use Rattle.am_index.specs.Entries.{IsRising, Slot, find, insert_entry, remove_entry, set_entry, slot_of}
 use Rattle.am_record.specs.EntryOrder.{Place, place_cmp, place_of}

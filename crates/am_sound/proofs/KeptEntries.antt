@@ -23,8 +23,8 @@ use Rattle.am_serial.specs.Steps.{StepLaws, IsGranted}
 use Rattle.am_serial.specs.Laws.{ViewLaws}
 use Rattle.am_serial.proofs.Bodies.{owns_holds, asked_keeps, asked_has, owns_key_up, not_held}
 use Rattle.am_serial.proofs.Keys.{in_point, in_span}
-use Rattle.am_effect.specs.History.{Moment, writes, wrote_by, wrote, sets_mark, goes_back, marked_by, backed_by}
-use Rattle.am_effect.specs.History.{is_plain}
+use Rattle.am_effect.specs.History.{Moment, wrote_by, wrote, marked_by, backed_by}
+use Rattle.am_effect.specs.Operations.{writes, sets_mark, goes_back, is_plain}
 use Rattle.am_effect.specs.Laws.{Describes, DescribesEach}
 use Rattle.am_effect.proofs.Backs.{describe_laws, unwritten}
 use Rattle.am_effect.proofs.Marks.{each_next, plain_unmarked, plain_unbacked}

@@ -2,8 +2,7 @@
 use Rattle.std.proofs.Common.{◌≡◌, ◌≤◌, ◌<◌, ◌+◌, ℕ, List, [], ◌∷◌, ◌++◌, length, map, Bool, true, false, cond, ◌≢◌}
 use Rattle.std.proofs.Common.{◌&&◌, refl, sym, ap, ◌∙◌, subst, ⊎_elim, inl, inr, ◌⊎◌, Option, Some, None, arith}
 use Rattle.std.specs.Prelude.{◌==◌, not, nat_le, MatchOption}
-use Rattle.std.proofs.lemmas.Bool.{cond-true, cond-false, both_ways}
-use Rattle.std.proofs.lemmas.Bool.{eq-eqb, ne_eqb, false≢true}
+use Rattle.std.proofs.lemmas.Bool.{cond-true, cond-false, both_ways, eq-eqb, ne_eqb, false≢true}
 use Rattle.std.proofs.lemmas.List.{map-append, length-map}
 use Rattle.std.proofs.lemmas.Simd.{map-map}
 use Rattle.am_record.specs.ByNumber.{of_number, with_changed}
@@ -13,11 +12,12 @@ use Rattle.am_record.proofs.ByNumber.{with_changed-map, without_number-map}
 use Rattle.am_record.proofs.Owners.{blocker_among-map, holder_among-map}
 use Rattle.am_effect.proofs.Backs.{describe_laws}
 use Rattle.am_effect.proofs.Marks.{back_laws, whole_describes}
-use Rattle.am_effect.specs.History.{aborted, goes_back, gone_back}
+use Rattle.am_effect.specs.History.{aborted, gone_back}
+use Rattle.am_effect.specs.Operations.{goes_back, changed, marks_left, noted, notes_left, wished}
 use Rattle.am_effect.specs.Laws.{taken_back}
 use Rattle.am_effect.specs.MergeAnswers.{CleanRight, Holders, MergeRight, all_worked_off, cleaned_by}
-use Rattle.am_effect.specs.Store.{Follows, MayReply, Store, WithinLimit, after_all, after_step, changed, holder}
-use Rattle.am_effect.specs.Store.{marks_after, marks_left, noted, notes_after, notes_left, opened, wished, with_wish}
+use Rattle.am_effect.specs.Store.{Follows, MayReply, Store, WithinLimit, after_all, after_step, holder}
+use Rattle.am_effect.specs.Store.{marks_after, notes_after, opened, with_wish}
 use Rattle.am_sound.proofs.RepresentsLaws.{goes_on}
 use Rattle.am_sound.specs.Represents.{RepresentsNext, stored_answer}
 use Rattle.am_index.specs.Content.{content}
@@ -29,7 +29,7 @@ use Rattle.am_record.specs.Plain.{answer, is_orderly}
 use Rattle.am_record.specs.declared.lock.Lock.{Lock as TheLock}
 use Rattle.am_record.specs.declared.entry.Entry.{Entry}
 use Rattle.am_record.specs.declared.step.Op.{Op}
-use Rattle.am_record.specs.declared.step.Op.TheVariants.{Back, Delete, Get, Insert, Load, Lock, Mark, Replace, Scan}
+use Rattle.am_record.specs.declared.step.Op.TheVariants.{Back, Delete, Get, Insert, Load, Replace}
 use Rattle.am_record.specs.declared.step.Refusal.{Refusal}
 use Rattle.am_record.specs.declared.step.Refusal.TheVariants.{BadLimit, NoMemory, NoSuchTx, NotRising, TooManyOps}
 use Rattle.am_record.specs.declared.step.Refusal.TheVariants.{TooManyRuns, TooManyTx}
@@ -195,14 +195,7 @@ changed_alike gone gone' runs op reply es h = refl
 
 wished_refused : (op : Op) (why : Refusal) → wished op (Refused why) ≡ None
 wished_refused (Get k) why = refl
-wished_refused (Scan range max) why = refl
-wished_refused (Insert k v) why = refl
-wished_refused (Replace k v) why = refl
-wished_refused (Delete k) why = refl
-wished_refused (Load pairs) why = refl
-wished_refused (Lock lock) why = refl
-wished_refused Mark why = refl
-wished_refused Back why = refl
+wished_refused op why = refl
 
 -- ---- the store at a trace
 
@@ -292,18 +285,16 @@ module _ (trace : Trace) (s : Store) (r : Right trace s) where
   pub may_reply : (step : Step) (reply : Reply) → MayAnswer (state_of s) step reply → MayReply s step reply
   may_reply Begin (Begun t) h = (h.0, subst (λ n. n < 64) long h.1, h.2)
   may_reply Begin (Refused TooManyTx) h = ⊎_elim (λ a. inl (subst (λ n. 64 ≤ n) long a)) (λ b. inr b) h
-  may_reply Begin reply h = absurd h
   may_reply (Do t op) reply h = may_do t op reply h
   may_reply (Commit t) (Committed c) h = (sym (same_open t) ∙ h.0, h.1)
   may_reply (Commit t) (Refused NoSuchTx) h = sym (same_open t) ∙ h
-  may_reply (Commit t) reply h = absurd h
   may_reply (Abort t) Aborted h = sym (same_open t) ∙ h
   may_reply (Abort t) (Refused NoSuchTx) h = sym (same_open t) ∙ h
-  may_reply (Abort t) reply h = absurd h
   may_reply (Merge limit) reply h = subst (λ hs. WithinLimit limit reply (MergeRight s.entries s.wishes hs limit reply))
       holders_are h
   may_reply (Clean range limit) reply h = subst
       (λ hs. WithinLimit limit reply (CleanRight s.entries hs range limit reply)) holders_are h
+  may_reply step reply h = absurd h
 
   -- what the step leaves
   unborn : (t : ℕ) → t ≡ s.state.begun + 1 → is_open s.state.active t ≡ false
@@ -437,16 +428,13 @@ module _ (trace : Trace) (s : Store) (r : Right trace s) where
       state_after (state_of s) step reply
   parts_after Begin (Begun t) h = begun_parts t h.0
   parts_after Begin (Refused why) h = refl
-  parts_after Begin reply h = absurd h
   parts_after (Do t op) reply h = do_parts t op reply h
   parts_after (Commit t) (Committed c) h = ended_parts t c
-  parts_after (Commit t) (Refused why) h = refl
-  parts_after (Commit t) reply h = absurd h
   parts_after (Abort t) Aborted h = aborted_parts t h
-  parts_after (Abort t) (Refused why) h = refl
-  parts_after (Abort t) reply h = absurd h
   parts_after (Merge limit) reply h = refl
   parts_after (Clean range limit) reply h = clean_parts range limit reply
+  parts_after step (Refused why) h = refl
+  parts_after step reply h = absurd h
 
 -- ---- whole traces
 

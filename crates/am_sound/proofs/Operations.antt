@@ -29,8 +29,7 @@ use Rattle.am_index.specs.Entries.{Slot, slot_of, first_such, entry_at, find, in
 use Rattle.am_index.specs.Edits.{IsChangedAt}
 use Rattle.am_index.specs.Content.{content, IsLiveAt, OnePlace, HasContent}
 use Rattle.am_index.proofs.Edits.{first_such_all, first_such_passes, entry_at_place, entry_at_beside_inserted}
-use Rattle.am_index.proofs.Edits.{other_key}
-use Rattle.am_index.proofs.Edits.{apart_places}
+use Rattle.am_index.proofs.Edits.{other_key, apart_places}
 use Rattle.am_index.proofs.EditLaws.{edit_laws}
 use Rattle.am_index.proofs.Content.{content_found}
 use Rattle.am_index.proofs.ContentLaws.{content_laws}
@@ -44,10 +43,11 @@ use Rattle.am_serial.specs.Trace.{Answers, runs_made}
 use Rattle.am_serial.proofs.Maps.{entries-retain_keys}
 use Rattle.am_serial.proofs.Keys.{in_point, in_span}
 use Rattle.am_effect.specs.Places.{look, put}
-use Rattle.am_effect.specs.History.{Moment, writes, wrote_by, is_plain}
+use Rattle.am_effect.specs.History.{Moment, wrote_by}
+use Rattle.am_effect.specs.Operations.{writes, is_plain}
 use Rattle.am_effect.specs.Laws.{Describes, DifferAt}
-use Rattle.am_effect.specs.Store.{is_live, find_live, with_value, with_ghost, changed, note_of_slot, note_of_entry}
-use Rattle.am_effect.specs.Store.{noted}
+use Rattle.am_effect.specs.Operations.{is_live, find_live, with_value, with_ghost, changed, note_of_slot, note_of_entry}
+use Rattle.am_effect.specs.Operations.{noted}
 use Rattle.am_effect.proofs.Lists.{Stands, stands_all, put_set, put_new, content-put}
 use Rattle.am_effect.proofs.Backs.{describe_laws}
 use Rattle.am_sound.specs.Represents.{may_write}

@@ -14,7 +14,6 @@ use Rattle.am_record.specs.Asks.{lock_of, with_asked, owns, owns_key}
 use Rattle.am_record.specs.declared.lock.Lock.{Lock}
 use Rattle.am_record.specs.declared.entry.Entry.{Entry}
 use Rattle.am_record.specs.declared.step.Op.{Op}
-use Rattle.am_record.specs.declared.step.Op.TheVariants.{Get, Scan, Insert, Replace, Delete, Load, Lock as TakeLock}
 use Rattle.am_record.specs.declared.step.Op.TheVariants.{Mark, Back}
 use Rattle.am_record.specs.declared.step.Reply.{Reply}
 use Rattle.am_record.specs.declared.step.Reply.TheVariants.{Done, NoMark}
@@ -35,45 +34,25 @@ use Rattle.am_serial.specs.Agreement.{AllAgree, AllHave}
 use Rattle.am_serial.specs.Steps.{StepLaws, IsGranted}
 use Rattle.am_serial.specs.Laws.{is_back, OverlayLaws, ViewLaws}
 use Rattle.am_serial.proofs.Bodies.{owns_holds, asked_keeps, asked_has, asked_only, owns_key_up, not_held}
-use Rattle.am_effect.specs.History.{is_plain}
+use Rattle.am_effect.specs.Operations.{is_plain}
 use Rattle.am_serial.proofs.Maps.{of_asked}
 use Rattle.am_sound.specs.Represents.{Represents, asks_own, stored_answer, may_write, KeepsRuns, Does, RepresentsNext}
 
 -- ---- operations
 
 pub plain_no_back : (op : Op) → is_plain op ≡ true → is_back op ≡ false
-plain_no_back Mark h = refl
 plain_no_back Back h = absurd (false≢true h)
-plain_no_back (Get k) h = refl
-plain_no_back (Scan range max) h = refl
-plain_no_back (Insert k v) h = refl
-plain_no_back (Replace k v) h = refl
-plain_no_back (Delete k) h = refl
-plain_no_back (Load pairs) h = refl
-plain_no_back (TakeLock lock) h = refl
+plain_no_back op h = refl
 
 pub plain_told : (op : Op) (marks : List ℕ) (m : PlainMap) → is_plain op ≡ true → stored_answer op marks m ≡ map_answer
     op m
-plain_told Mark marks m h = refl
 plain_told Back marks m h = absurd (false≢true h)
-plain_told (Get k) marks m h = refl
-plain_told (Scan range max) marks m h = refl
-plain_told (Insert k v) marks m h = refl
-plain_told (Replace k v) marks m h = refl
-plain_told (Delete k) marks m h = refl
-plain_told (Load pairs) marks m h = refl
-plain_told (TakeLock lock) marks m h = refl
+plain_told op marks m h = refl
 
 plain_saved : (op : Op) (d : Draft) → is_plain op ≡ true → (draft_after op d).saved ≡ d.saved
 plain_saved Mark d h = absurd (false≢true h)
 plain_saved Back d h = absurd (false≢true h)
-plain_saved (Get k) d h = refl
-plain_saved (Scan range max) d h = refl
-plain_saved (Insert k v) d h = refl
-plain_saved (Replace k v) d h = refl
-plain_saved (Delete k) d h = refl
-plain_saved (Load pairs) d h = refl
-plain_saved (TakeLock lock) d h = refl
+plain_saved op d h = refl
 
 pub same_ask : (a : Option Lock) (q : OrderedKey) → asks_own a q ≡ of_asked (owns_key q) a
 same_ask None q = refl
@@ -174,13 +153,7 @@ module _ (s : State) (o : OverlayLaws s) (w : ViewLaws s) (st : StepLaws s) (es 
       by_op Mark none = refl
       by_op Back none = let on = (st.granted t Back none).is_active in any_is es (notes t) (owns_in s t) s.committed
           (length (notes t)) (marks t) (view s t).saved (at.undoes t on)
-      by_op (Get k) none = plain (Get k) refl none
-      by_op (Scan range max) none = plain (Scan range max) refl none
-      by_op (Insert k v) none = plain (Insert k v) refl none
-      by_op (Replace k v) none = plain (Replace k v) refl none
-      by_op (Delete k) none = plain (Delete k) refl none
-      by_op (Load pairs) none = plain (Load pairs) refl none
-      by_op (TakeLock lock) none = plain (TakeLock lock) refl none
+      by_op op none = plain op refl none
 
   -- ---- an operation is answered
 

@@ -5,15 +5,14 @@ use Rattle.am_effect.specs.Store.{Follows, MayReply, Store, after_step, after_al
 use Rattle.am_index.specs.Content.{HasContent}
 use Rattle.am_record.specs.declared.step.Reply.{Reply}
 use Rattle.am_record.specs.declared.step.Step.{Step}
-use Rattle.am_record.specs.declared.step.Step.TheVariants.{Abort, Begin, Clean, Commit, Do, Merge}
+use Rattle.am_record.specs.declared.step.Step.TheVariants.{Clean, Merge}
 use Rattle.am_serial.proofs.Sound.{sound_is_run}
-use Rattle.am_serial.specs.Machine.{May, Runs}
+use Rattle.am_serial.specs.Machine.{May, Runs, overlay_in}
 use Rattle.am_serial.specs.Sound.{IsSound}
 use Rattle.am_serial.specs.Trace.{Trace, effects, overlay}
 use Rattle.am_sound.proofs.Whole.{right_at}
 use Rattle.am_sound.proofs.Counts.{asked}
 use Rattle.am_serial.proofs.States.{is_state_of}
-use Rattle.am_serial.specs.Machine.{overlay_in}
 use Rattle.am_sound.specs.Right.{IsMaintained, IsSoundStore, MaintainedAt}
 
 front : (s : Store) (before rest : Trace) → Follows s (before ++ rest) → Follows s before
@@ -21,12 +20,9 @@ front s [] rest f = tt
 front s (e ∷ before) rest f = (f.0, front (after_step s e.0 e.1) before rest f.1)
 
 maintained_from : (s : Store) (step : Step) (reply : Reply) → MayReply s step reply → MaintainedAt s step reply
-maintained_from s Begin reply h = tt
-maintained_from s (Do t op) reply h = tt
-maintained_from s (Commit t) reply h = tt
-maintained_from s (Abort t) reply h = tt
 maintained_from s (Merge limit) reply h = h
 maintained_from s (Clean range limit) reply h = h
+maintained_from s step reply h = tt
 
 all_maintained : (s : Store) (trace : Trace) → Follows s trace → IsMaintained s trace
 all_maintained s [] f = tt
@@ -60,12 +56,9 @@ sound_store trace f =
 
 reply_from : (s : Store) (step : Step) (reply : Reply) → May s.state step reply → MaintainedAt s step reply →
     MayReply s step reply
-reply_from s Begin reply m h = m
-reply_from s (Do t op) reply m h = m
-reply_from s (Commit t) reply m h = m
-reply_from s (Abort t) reply m h = m
 reply_from s (Merge limit) reply m h = h
 reply_from s (Clean range limit) reply m h = h
+reply_from s step reply m h = m
 
 follows_from : (s : Store) (trace : Trace) → Runs s.state trace → IsMaintained s trace → Follows s trace
 follows_from s [] r m = tt

@@ -15,17 +15,16 @@ use Rattle.am_effect.proofs.Maintenance.{candidates_stand, clean_maintains, merg
 use Rattle.am_effect.proofs.Marks.{back_laws, backed_at, each_marked, each_next, taken_at, whole_describes, wrote_since}
 use Rattle.am_effect.proofs.Merges.{InRuns}
 use Rattle.am_effect.proofs.NotesAtPlaces.{run_dropped}
-use Rattle.am_effect.specs.History.{Moment, aborted, gone_back, is_plain, left_at, moments_since, wrote}
+use Rattle.am_effect.specs.History.{Moment, aborted, gone_back, left_at, moments_since, wrote}
+use Rattle.am_effect.specs.Operations.{is_plain, changed, marks_left, noted, notes_left}
 use Rattle.am_effect.specs.Laws.{Maintains}
 use Rattle.am_effect.specs.MergeAnswers.{AnswersCandidates, AnswersFirst, Holders, MergeRight, all_worked_off}
-use Rattle.am_effect.specs.MergeAnswers.{candidates}
-use Rattle.am_effect.specs.MergeAnswers.{cleanable, merged_by}
+use Rattle.am_effect.specs.MergeAnswers.{candidates, cleanable, merged_by}
 use Rattle.am_effect.specs.Places.{look}
-use Rattle.am_effect.specs.Store.{Follows, MayReply, Store, WithinLimit, after_all, after_step, changed, entries_after}
-use Rattle.am_effect.specs.Store.{holder, marks_after, marks_left, noted, notes_after, notes_left}
+use Rattle.am_effect.specs.Store.{Follows, MayReply, Store, WithinLimit, after_all, after_step, entries_after}
+use Rattle.am_effect.specs.Store.{holder, marks_after, notes_after, opened}
 use Rattle.am_sound.proofs.RepresentsLaws.{goes_on, plain_told}
 use Rattle.am_sound.proofs.RepresentsLaws as follows
-use Rattle.am_effect.specs.Store.{opened}
 use Rattle.am_sound.specs.Represents.{RepresentsNext, Represents}
 use Rattle.am_index.proofs.ContentLaws.{empty_content}
 use Rattle.am_index.specs.Content.{OnePlace, content}
@@ -37,7 +36,7 @@ use Rattle.am_record.specs.OrderedKey.{OrderedKey}
 use Rattle.am_record.specs.Plain.{answer, is_orderly, map_answer}
 use Rattle.am_record.specs.declared.entry.Entry.{Entry}
 use Rattle.am_record.specs.declared.step.Op.{Op}
-use Rattle.am_record.specs.declared.step.Op.TheVariants.{Back, Delete, Get, Insert, Load, Lock, Mark, Replace, Scan}
+use Rattle.am_record.specs.declared.step.Op.TheVariants.{Back, Get, Mark}
 use Rattle.am_record.specs.declared.step.Refusal.{Refusal}
 use Rattle.am_record.specs.declared.step.Refusal.TheVariants.{BadLimit, NoMemory, NoSuchTx, NotRising, TooManyOps}
 use Rattle.am_record.specs.declared.step.Reply.{Reply}
@@ -126,10 +125,7 @@ may_of s rise below (Clean range limit) reply h = ⊎_elim
     (right.0, lesser limit (length (cleanable s.entries (holder s.state.active) range))))
     (λ bad. subst (May s.state (Clean range limit)) (sym bad.1) bad.0)
     (by_limit limit reply _ h)
-may_of s rise below Begin reply h = h
-may_of s rise below (Do t op) reply h = h
-may_of s rise below (Commit t) reply h = h
-may_of s rise below (Abort t) reply h = h
+may_of s rise below step reply h = h
 
 pub merged_bad : (s : Store) (limit : ℕ) (reply : Reply) → reply ≡ Refused BadLimit →
     entries_after s (Merge limit) reply ≡ s.entries
@@ -186,74 +182,34 @@ either_way false x = refl
 pub changed_refused : (gone : List Entry) (runs : ℕ) (op : Op) (why : Refusal) (es : List Entry) →
     changed gone runs op (Refused why) es ≡ es
 changed_refused gone runs (Get k) why es = refl
-changed_refused gone runs (Scan range max) why es = refl
-changed_refused gone runs (Insert k v) why es = refl
-changed_refused gone runs (Replace k v) why es = refl
-changed_refused gone runs (Delete k) why es = refl
-changed_refused gone runs (Load pairs) why es = refl
-changed_refused gone runs (Lock lock) why es = refl
-changed_refused gone runs Mark why es = refl
-changed_refused gone runs Back why es = refl
+changed_refused gone runs op why es = refl
 
 pub noted_refused : (runs : ℕ) (op : Op) (why : Refusal) (es : List Entry) → noted runs op (Refused why) es ≡ []
 noted_refused runs (Get k) why es = refl
-noted_refused runs (Scan range max) why es = refl
-noted_refused runs (Insert k v) why es = refl
-noted_refused runs (Replace k v) why es = refl
-noted_refused runs (Delete k) why es = refl
-noted_refused runs (Load pairs) why es = refl
-noted_refused runs (Lock lock) why es = refl
-noted_refused runs Mark why es = refl
-noted_refused runs Back why es = refl
+noted_refused runs op why es = refl
 
 pub notes_left_refused : (op : Op) (why : Refusal) (marks : List ℕ) (notes : List Note) →
     notes_left op (Refused why) marks notes ≡ notes
 notes_left_refused (Get k) why marks notes = refl
-notes_left_refused (Scan range max) why marks notes = refl
-notes_left_refused (Insert k v) why marks notes = refl
-notes_left_refused (Replace k v) why marks notes = refl
-notes_left_refused (Delete k) why marks notes = refl
-notes_left_refused (Load pairs) why marks notes = refl
-notes_left_refused (Lock lock) why marks notes = refl
-notes_left_refused Mark why marks notes = refl
-notes_left_refused Back why marks notes = refl
+notes_left_refused op why marks notes = refl
 
 pub marks_left_refused : (op : Op) (why : Refusal) (n : ℕ) (marks : List ℕ) → marks_left op (Refused why) n marks ≡
     marks
 marks_left_refused (Get k) why n marks = refl
-marks_left_refused (Scan range max) why n marks = refl
-marks_left_refused (Insert k v) why n marks = refl
-marks_left_refused (Replace k v) why n marks = refl
-marks_left_refused (Delete k) why n marks = refl
-marks_left_refused (Load pairs) why n marks = refl
-marks_left_refused (Lock lock) why n marks = refl
-marks_left_refused Mark why n marks = refl
-marks_left_refused Back why n marks = refl
+marks_left_refused op why n marks = refl
 
 -- Mark and Back aside, notes and marks stay
 notes_left_plain : (op : Op) (reply : Reply) (marks : List ℕ) (notes : List Note) → is_plain op ≡ true →
     notes_left op reply marks notes ≡ notes
-notes_left_plain (Get k) reply marks notes plain = refl
-notes_left_plain (Scan range max) reply marks notes plain = refl
-notes_left_plain (Insert k v) reply marks notes plain = refl
-notes_left_plain (Replace k v) reply marks notes plain = refl
-notes_left_plain (Delete k) reply marks notes plain = refl
-notes_left_plain (Load pairs) reply marks notes plain = refl
-notes_left_plain (Lock lock) reply marks notes plain = refl
 notes_left_plain Mark reply marks notes plain = absurd (false≢true plain)
 notes_left_plain Back reply marks notes plain = absurd (false≢true plain)
+notes_left_plain op reply marks notes plain = refl
 
 marks_left_plain : (op : Op) (reply : Reply) (n : ℕ) (marks : List ℕ) → is_plain op ≡ true →
     marks_left op reply n marks ≡ marks
-marks_left_plain (Get k) reply n marks plain = refl
-marks_left_plain (Scan range max) reply n marks plain = refl
-marks_left_plain (Insert k v) reply n marks plain = refl
-marks_left_plain (Replace k v) reply n marks plain = refl
-marks_left_plain (Delete k) reply n marks plain = refl
-marks_left_plain (Load pairs) reply n marks plain = refl
-marks_left_plain (Lock lock) reply n marks plain = refl
 marks_left_plain Mark reply n marks plain = absurd (false≢true plain)
 marks_left_plain Back reply n marks plain = absurd (false≢true plain)
+marks_left_plain op reply n marks plain = refl
 
 -- ---- the store at a trace
 
@@ -432,15 +388,9 @@ module _ (s : Store) (o : OverlayLaws s.state) (w : ViewLaws s.state)
       by_mark false e = subst (Next s (Do t Back)) (sym (told_is false e)) (no_mark t none e)
 
   granted : (t : ℕ) (op : Op) → due s.state t op ≡ None → Next s (Do t op) (answer op (view s.state t))
-  granted t (Get k) none = granted_plain t (Get k) none refl
-  granted t (Scan range max) none = granted_plain t (Scan range max) none refl
-  granted t (Insert k v) none = granted_plain t (Insert k v) none refl
-  granted t (Replace k v) none = granted_plain t (Replace k v) none refl
-  granted t (Delete k) none = granted_plain t (Delete k) none refl
-  granted t (Load pairs) none = granted_plain t (Load pairs) none refl
-  granted t (Lock lock) none = granted_plain t (Lock lock) none refl
   granted t Mark none = granted_mark t none
   granted t Back none = granted_back t none
+  granted t op none = granted_plain t op none refl
 
   -- a refused operation
   refused : (t : ℕ) (op : Op) (why : Refusal) → Next s (Do t op) (Refused why)
@@ -520,12 +470,9 @@ module _ (s : Store) (o : OverlayLaws s.state) (w : ViewLaws s.state)
     go.begun t (not_begun s.state w st s.entries s.past s.notes s.marks k t may.0),
     begins s.state w st s.entries s.past s.notes s.marks k t may.0,
   )
-  step_on Begin reply may = (at, nothing)
   step_on (Do t op) reply may = do_step t op reply may
   step_on (Commit t) (Committed c) may = commits t may.0
-  step_on (Commit t) reply may = (at, nothing)
   step_on (Abort t) Aborted may = aborts t may
-  step_on (Abort t) reply may = (at, nothing)
   step_on (Merge limit) reply may = ⊎_elim
       (λ right. maintained (entries_after s (Merge limit) reply)
       (merge_maintains s.entries s.wishes (holder s.state.active) limit reply rising right.1))
@@ -533,7 +480,7 @@ module _ (s : Store) (o : OverlayLaws s.state) (w : ViewLaws s.state)
       (by_limit limit reply _ may)
   step_on (Clean range limit) (Cleaned n) may = maintained (entries_after s (Clean range limit) (Cleaned n))
       (clean_maintains s.entries (holder s.state.active) range n rising)
-  step_on (Clean range limit) reply may = (at, nothing)
+  step_on step reply may = (at, nothing)
 
 -- ---- whole traces
 

@@ -20,7 +20,7 @@ use Rattle.am_record.specs.Marks.{since_mark, until_mark, older, has_mark}
 use Rattle.am_undo.specs.Marks.{UndoesEach}
 use Rattle.am_serial.specs.Trace.{Begins, Answers, Commits, Aborts}
 use Rattle.am_serial.specs.Machine.{State, is_open, view, due, next, overlay_in, owns_in}
-use Rattle.am_effect.specs.History.{is_plain}
+use Rattle.am_effect.specs.Operations.{is_plain}
 
 -- the entries rise, no key is live in two partitions, the content is the overlay, and each active transaction's notes
 -- undo what it did since each of its marks, and all that it did

@@ -10,8 +10,7 @@ use Rattle.am_record.specs.Owners.{blocker_among, holder_among}
 use Rattle.am_record.specs.declared.lock.Lock.{Lock}
 use Rattle.am_record.specs.declared.entry.Entry.{Entry}
 use Rattle.am_record.specs.declared.step.Refusal.{Refusal}
-use Rattle.am_record.specs.declared.step.Refusal.TheVariants.{NoSuchTx, TooManyTx}
-use Rattle.am_record.specs.declared.step.Refusal.TheVariants.{NoMemory}
+use Rattle.am_record.specs.declared.step.Refusal.TheVariants.{NoSuchTx, TooManyTx, NoMemory}
 use Rattle.am_record.specs.declared.step.Op.{Op}
 use Rattle.am_record.specs.declared.step.Op.TheVariants.{Back}
 use Rattle.am_record.specs.declared.step.Step.{Step}
@@ -27,7 +26,8 @@ use Rattle.am_serial.specs.Trace.{runs_made}
 use Rattle.am_record.specs.Refusals.{refusal_before_lock, is_one_too_many, lock_refusal, or_else}
 use Rattle.am_effect.specs.MergeAnswers.{Holders, all_worked_off, MergeRight, merged_by, CleanRight, cleaned_by}
 use Rattle.am_effect.specs.Laws.{taken_back}
-use Rattle.am_effect.specs.Store.{WithinLimit, changed, noted, notes_left, marks_left, wishes_after}
+use Rattle.am_effect.specs.Store.{WithinLimit, wishes_after}
+use Rattle.am_effect.specs.Operations.{changed, noted, notes_left, marks_left}
 use Rattle.am_sound.specs.Represents.{stored_answer}
 
 -- an active transaction; notes and marks stand with the newest first, and each mark is the number of notes at its Mark

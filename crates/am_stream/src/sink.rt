@@ -2,7 +2,7 @@
 
 ghost use Rattle.std.specs.Prelude.{◌≡◌, ℕ, ◌+◌, ◌-◌, ◌^◌, ◌<◌, ◌≤◌, ◌↔◌, List, [], ◌++◌, length, take, OnOk, OnErr};
 ghost use Rattle.std.specs.Prelude.{IfOk, IsErr, Option, Some, Bool, false, ◌||◌, nat_lt};
-ghost use Rattle.am_stream.specs.SinkWrites.{Gave, GaveBeginning, Outgoing};
+ghost use Rattle.am_stream.specs.SinkWrites.{Gave, Outgoing, Wrote};
 
 use crate::source::{Failed, falls_due};
 use std::alloc::Global;
@@ -45,12 +45,9 @@ pub trait Sink {
 /// Writes a whole piece. At a failure a beginning of it went out.
 pub fn give_all<K: Sink>(sink: &mut K, piece: &[u8]) -> Result<(), Failed>
     requires countable { K.failures sink.old < 2 ^ 63 }
-    ensures given { OnOk result (Gave K.holds sink.old piece.now sink.new) }
+    ensures wrote { Wrote K.holds K.failures sink.old piece.now result sink.new }
     ensures pending { OnOk result
         (K.pending sink.new ≡ (K.pending sink.old || nat_lt 0 (length piece.now))) }
-    ensures ok { OnOk result (K.failures sink.new ≡ K.failures sink.old) }
-    ensures failed { OnErr result (K.failures sink.new ≡ K.failures sink.old + 1) }
-    ensures torn { OnErr result (GaveBeginning K.holds sink.old piece.now sink.new) }
 {
     let mut done = 0;
     while done < piece.len() {

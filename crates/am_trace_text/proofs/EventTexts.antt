@@ -1,82 +1,38 @@
 -- The lines of events: each event has one, and no line is that of two.
-use Rattle.std.proofs.Common.{◌≡◌, ◌≢◌, ℕ, ◌^◌, ◌<◌, leb, eqb, not, ◌&&◌, Bool, true, false, List, [], ◌∷◌, ◌++◌}
+use Rattle.std.proofs.Common.{◌≡◌, ◌≢◌, ℕ, ◌^◌, ◌<◌, eqb, not, true, false, List, [], ◌∷◌, ◌++◌}
 use Rattle.std.proofs.Common.{length, map, Some, None, refl, sym, ap, ◌∙◌, subst, arith, append_assoc, decimal}
 use Rattle.std.specs.Prelude.{codes, Result, Ok, Err, IfOk}
 use Rattle.std.specs.List.{list_all, AllByRecursion, join_with_byte}
-use Rattle.std.proofs.lemmas.Bool.{and_parts, and_from}
-use Rattle.std.proofs.lemmas.Bool.Decides.{nat_tests}
-use Rattle.am_record.specs.OrderedKey.{OrderedKey}
-use Rattle.am_record.specs.Records.{Records}
-use Rattle.am_record.specs.declared.lock.Mode.{Mode}
-use Rattle.am_record.specs.declared.lock.Mode.TheVariants.{Shared, Exclusive}
-use Rattle.am_record.specs.declared.step.Op.{Op}
-use Rattle.am_record.specs.declared.step.Op.TheVariants as op
+use Rattle.std.proofs.lemmas.Bool.{and_from}
 use Rattle.am_record.specs.declared.step.Step.{Step}
 use Rattle.am_record.specs.declared.step.Step.TheVariants.{Begin, Do, Commit, Abort, Merge, Clean}
 use Rattle.am_record.specs.declared.step.Reply.{Reply}
 use Rattle.am_record.specs.declared.step.Reply.TheVariants as reply
 use Rattle.am_record.specs.declared.step.Refusal.{Refusal}
 use Rattle.am_record.specs.declared.step.Refusal.TheVariants as refusal
-use Rattle.am_text.specs.Locks.{mode_word}
 use Rattle.am_text.specs.Fields.{line_fields, has_no_space}
 use Rattle.am_text.specs.Verbs.{word_of}
-use Rattle.am_text.specs.declared.verb.Verb.{Verb}
 use Rattle.am_text.specs.declared.verb.Verb.TheVariants as verb
 use Rattle.am_trace_text.specs.Cuts.{has_no, IsParted}
 use Rattle.am_trace_text.specs.Words.{hex, key_word, record_word}
-use Rattle.am_trace_text.specs.Bounds.{IsNumber, IsKey, IsValue, AreRecords}
-use Rattle.am_trace_text.specs.Steps.{verb_of, argument_fields, step_fields, IsOp, IsStep}
+use Rattle.am_trace_text.specs.Bounds.{IsNumber}
+use Rattle.am_trace_text.specs.Steps.{verb_of, argument_fields, step_fields, IsStep, step_in}
 use Rattle.am_trace_text.specs.Replies.{refusal_fields, reply_fields, IsRefusal, IsReply}
 use Rattle.am_record.specs.Events.{Event}
 use Rattle.am_trace_text.specs.Lines.{IsEvent, AreEvents, step_words, reply_words, event_words, with_lf, event_lines}
-use Rattle.am_trace_text.specs.Lines.{BeginsNoEvent}
-use Rattle.am_trace_text.specs.FieldReadings.{step_in, reply_in, parts_in, IsReadAs}
+use Rattle.am_trace_text.specs.Lines.{BeginsNoEvent, parts_in}
+use Rattle.am_trace_text.specs.FieldReadings.{reply_in, IsReadAs}
 use Rattle.am_trace_text.specs.declared.read.ReadFault.{ReadFault}
 use Rattle.am_trace_text.specs.declared.read.ReadFault.TheVariants.{Bad, NoMemory}
 use Rattle.am_trace_text.specs.declared.version.Version.{Version}
 use Rattle.am_trace_text.proofs.CutLemmas.{has_no-append, one_cut, not_there, parts_by_cut}
 use Rattle.am_trace_text.proofs.IsText.{same_some, zipped, zip_of}
-use Rattle.am_trace_text.proofs.FieldTexts.{IsNoDigit, no_in_hex, no_in_decimal, no_in_key, no_in_record}
-use Rattle.am_trace_text.proofs.StepTexts.{WordLaws, step_text}
+use Rattle.am_trace_text.proofs.FieldTexts.{IsNoDigit, AllHaveNo, no_in_letters, is_letter, no_in_hex, no_in_decimal}
+use Rattle.am_trace_text.proofs.FieldTexts.{no_in_key, no_in_records}
+use Rattle.am_trace_text.proofs.StepTexts.{WordLaws, step_text, step_none}
 use Rattle.am_trace_text.proofs.ReplyTexts.{reply_text}
 
--- ---- words of letters
-
-abbrev is_letter : ℕ → Bool
-is_letter b = leb 65 b && leb b 90
-
-not_letter : (c b : ℕ) → IsNoDigit c → is_letter b ≡ true → not (eqb b c) ≡ true
-not_letter c b n h = grind (arith, nat_tests, n, h)
-
-no_in_letters : (c : ℕ) (text : List ℕ) → IsNoDigit c → list_all is_letter text ≡ true → has_no c text ≡ true
-no_in_letters c [] n h = refl
-no_in_letters c (b ∷ text) n h =
-    let p = and_parts (is_letter b) (list_all is_letter text) h in
-    and_from (not (eqb b c)) (has_no c text) (not_letter c b n p.0) (no_in_letters c text n p.1)
-
-verb_letters : (w : Verb) → list_all is_letter (word_of w) ≡ true
-verb_letters verb.Begin = refl
-verb_letters verb.Get = refl
-verb_letters verb.Scan = refl
-verb_letters verb.Insert = refl
-verb_letters verb.Replace = refl
-verb_letters verb.Delete = refl
-verb_letters verb.Load = refl
-verb_letters verb.Stage = refl
-verb_letters verb.Lock = refl
-verb_letters verb.Mark = refl
-verb_letters verb.Back = refl
-verb_letters verb.Commit = refl
-verb_letters verb.Abort = refl
-verb_letters verb.Merge = refl
-verb_letters verb.Clean = refl
-verb_letters verb.Seen = refl
-verb_letters verb.Quit = refl
-
--- ---- bytes that no field has
-
-abbrev AllHaveNo : ℕ → List (List ℕ) → Type 0
-AllHaveNo c fs = AllByRecursion (λ f. has_no c f ≡ true) fs
+-- ---- bytes that no field of a reply has, and no line
 
 module _ (laws : WordLaws) (c : ℕ) (n : IsNoDigit c) (other : eqb 61 c ≡ false) where
   abbrev letters : (text : List ℕ) → list_all is_letter text ≡ true → has_no c text ≡ true
@@ -84,45 +40,6 @@ module _ (laws : WordLaws) (c : ℕ) (n : IsNoDigit c) (other : eqb 61 c ≡ fal
 
   abbrev number : (m : ℕ) → IsNumber m → has_no c (decimal m) ≡ true
   number m h = no_in_decimal laws.numbers c m n h
-
-  abbrev key : (v : Version) (k : OrderedKey) → IsKey v k → has_no c (key_word v k) ≡ true
-  key v k h = no_in_key laws.numbers c v k n h
-
-  abbrev value : (w : List ℕ) → IsValue w → has_no c (hex w) ≡ true
-  value w h = no_in_hex c w n h.0
-
-  records_none : (v : Version) (rs : Records) → AreRecords v rs → AllHaveNo c (map (record_word v) rs)
-  records_none v [] h = tt
-  records_none v (r ∷ rs) h = (no_in_record laws.numbers c v r n other h.0, records_none v rs h.1)
-
-  mode_none : (m : Mode) → has_no c (mode_word m) ≡ true
-  mode_none Shared = letters (codes "S") refl
-  mode_none Exclusive = letters (codes "X") refl
-
-  arguments_none : (v : Version) (o : Op) → IsOp v o → AllHaveNo c (argument_fields v o)
-  arguments_none v (op.Get k) h = (key v k h, tt)
-  arguments_none v (op.Scan r max) h = (key v r.lo h.0.0.0, (key v r.hi h.0.0.1, (number max h.1, tt)))
-  arguments_none v (op.Insert k w) h = (key v k h.0, (value w h.1, tt))
-  arguments_none v (op.Replace k w) h = (key v k h.0, (value w h.1, tt))
-  arguments_none v (op.Delete k) h = (key v k h, tt)
-  arguments_none v (op.Load rs) h = records_none v rs h
-  arguments_none v (op.Lock lock) h = (
-    mode_none lock.mode,
-    (key v lock.range.lo h.0.0, (key v lock.range.hi h.0.1, tt)),
-  )
-  arguments_none v op.Mark h = tt
-  arguments_none v op.Back h = tt
-
-  verb_none : (w : Verb) → has_no c (word_of w) ≡ true
-  verb_none w = letters (word_of w) (verb_letters w)
-
-  step_none : (v : Version) (s : Step) → IsStep v s → AllHaveNo c (step_fields v s)
-  step_none v Begin h = (verb_none verb.Begin, tt)
-  step_none v (Do t o) h = (verb_none (verb_of o), (number t h.0, arguments_none v o h.1))
-  step_none v (Commit t) h = (verb_none verb.Commit, (number t h, tt))
-  step_none v (Abort t) h = (verb_none verb.Abort, (number t h, tt))
-  step_none v (Merge m) h = (verb_none verb.Merge, (number m h, tt))
-  step_none v (Clean r m) h = (verb_none verb.Clean, (key v r.lo h.0.0.0, (key v r.hi h.0.0.1, (number m h.1, tt))))
 
   refusal_none : (r : Refusal) → IsRefusal r → AllHaveNo c (refusal_fields r)
   refusal_none (refusal.Busy holder) h = (letters (codes "BUSY") refl, (number holder h, tt))
@@ -139,17 +56,21 @@ module _ (laws : WordLaws) (c : ℕ) (n : IsNoDigit c) (other : eqb 61 c ≡ fal
   reply_none : (v : Version) (r : Reply) → IsReply v r → AllHaveNo c (reply_fields v r)
   reply_none v (reply.Begun t) h = (letters (codes "BEGUN") refl, (number t h, tt))
   reply_none v reply.Done h = (letters (codes "OK") refl, tt)
-  reply_none v (reply.Found w) h = (letters (codes "VAL") refl, (value w h, tt))
+  reply_none v (reply.Found w) h = (letters (codes "VAL") refl, (no_in_hex c w n h.0, tt))
   reply_none v reply.Absent h = (letters (codes "NONE") refl, tt)
-  reply_none v (reply.Rows rs) h = (letters (codes "ROWS") refl, (number (length rs) h.1, records_none v rs h.0))
-  reply_none v (reply.Exists k) h = (letters (codes "EXISTS") refl, (key v k h, tt))
+  reply_none v (reply.Rows rs) h =
+      (letters (codes "ROWS") refl, (number (length rs) h.1, no_in_records laws.numbers c v rs n other h.0))
+  reply_none v (reply.Exists k) h = (letters (codes "EXISTS") refl, (no_in_key laws.numbers c v k n h, tt))
   reply_none v reply.Missing h = (letters (codes "MISSING") refl, tt)
   reply_none v (reply.Committed m) h = (letters (codes "COMMITTED") refl, (number m h, tt))
   reply_none v reply.Aborted h = (letters (codes "ABORTED") refl, tt)
   reply_none v (reply.Moved m run) h = let small : run < 2 ^ 32 = h.1 in
       (letters (codes "MOVED") refl, (number m h.0, (number run (omega (arith, small)), tt)))
   reply_none v reply.MergeDone h = (letters (codes "DONE") refl, tt)
-  reply_none v (reply.Ended k m) h = (letters (codes "ENDED") refl, (key v k h.0, (number m h.1, tt)))
+  reply_none v (reply.Ended k m) h = (
+    letters (codes "ENDED") refl,
+    (no_in_key laws.numbers c v k n h.0, (number m h.1, tt)),
+  )
   reply_none v reply.Idle h = (letters (codes "IDLE") refl, tt)
   reply_none v (reply.Cleaned m) h = (letters (codes "CLEANED") refl, (number m h, tt))
   reply_none v reply.NoMark h = (letters (codes "NOMARK") refl, tt)

@@ -1,11 +1,11 @@
 -- The texts of numbers, values, keys and records.
 use Rattle.std.proofs.Common.{◌≡◌, ℕ, zero, suc, ◌+◌, ◌*◌, ◌/◌, ◌%◌, ◌^◌, ◌<◌, ◌≤◌, ltb, leb, eqb, not, ◌||◌, true}
 use Rattle.std.proofs.Common.{false, List, [], ◌∷◌, ◌++◌, length, get_or, take, drop, Some, None, refl, sym, ap, ◌∙◌}
-use Rattle.std.proofs.Common.{subst, arith, option_map, decimal, inl, inr}
+use Rattle.std.proofs.Common.{subst, arith, option_map, decimal, inl, inr, ◌&&◌, Bool, map}
 use Rattle.std.specs.Prelude.{option_and_then}
 use Rattle.std.specs.Option.{option_zip}
 use Rattle.std.specs.Int.{w64, from_be_bytes, to_be_bytes}
-use Rattle.std.specs.List.{list_all, before_first, after_first, position_or_len}
+use Rattle.std.specs.List.{AllByRecursion, list_all, before_first, after_first, position_or_len}
 use Rattle.std.specs.Char.{is_ascii_digit}
 use Rattle.std.proofs.lemmas.Bool.{cond-true, ltb-true, lt-ltb, and_parts, and_from, cases_lt}
 use Rattle.std.proofs.lemmas.Bool.Decides.{nat_tests}
@@ -14,6 +14,7 @@ use Rattle.std.proofs.Math.ListN.{drop_of_length-le}
 use Rattle.std.proofs.lemmas.List.Sums.{split_at_first, passes_at_first}
 use Rattle.am_trace_text.proofs.CutLemmas.{has_no-append}
 use Rattle.std.proofs.lemmas.Nat.{be_bytes_8, from_be_bytes-to_be_bytes_8}
+use Rattle.am_record.specs.Records.{Records}
 use Rattle.am_record.specs.OrderedKey.{OrderedKey, key_of, bytes_of, number_key, key_of-bytes_of, bytes_of-key_of}
 use Rattle.am_record.proofs.Outcomes.{mapped, gate}
 use Rattle.am_text.specs.Numbers.{is_numeral, numeral_value, number_for, IsNumeralOf}
@@ -22,7 +23,7 @@ use Rattle.am_text.specs.Values.{value_for}
 use Rattle.am_text.specs.Records.{is_equals}
 use Rattle.am_trace_text.specs.Cuts.{has_no}
 use Rattle.am_trace_text.specs.Words.{hex_digit, hex_digits, hex, key_word, record_word}
-use Rattle.am_trace_text.specs.Bounds.{IsByteList, IsNumber, IsKey, IsValue, IsRecord}
+use Rattle.am_trace_text.specs.Bounds.{IsByteList, IsNumber, IsKey, IsValue, IsRecord, AreRecords}
 use Rattle.am_trace_text.specs.FieldReadings.{number_in, run_for, run_in, digit_in, byte_in, with_byte, bytes_for}
 use Rattle.am_trace_text.specs.FieldReadings.{value_for_digits, value_in, key_in, record_in}
 use Rattle.am_trace_text.specs.declared.version.Version.{Version}
@@ -225,7 +226,7 @@ module _ (laws : NumberLaws) where
   pub key_text : (v : Version) → IsText (key_in v) (key_word v) (IsKey v)
   key_text v = record { there = key_there v; back = key_back v }
 
--- ---- bytes that no such text has
+-- ---- bytes that no such text has, and no word of letters
 
 -- no digit of base 10 or 16, and no h
 abbrev pub IsNoDigit : ℕ → Type 0
@@ -260,6 +261,19 @@ no_in_digits c (b ∷ text) n h =
     let p = and_parts (is_ascii_digit b) (list_all is_ascii_digit text) h in
     and_from (not (eqb b c)) (has_no c text) (not_decimal c b n p.0) (no_in_digits c text n p.1)
 
+-- A to Z
+abbrev pub is_letter : ℕ → Bool
+is_letter b = leb 65 b && leb b 90
+
+not_letter : (c b : ℕ) → IsNoDigit c → is_letter b ≡ true → not (eqb b c) ≡ true
+not_letter c b n h = grind (arith, nat_tests, n, h)
+
+pub no_in_letters : (c : ℕ) (text : List ℕ) → IsNoDigit c → list_all is_letter text ≡ true → has_no c text ≡ true
+no_in_letters c [] n h = refl
+no_in_letters c (b ∷ text) n h =
+    let p = and_parts (is_letter b) (list_all is_letter text) h in
+    and_from (not (eqb b c)) (has_no c text) (not_letter c b n p.0) (no_in_letters c text n p.1)
+
 module _ (laws : NumberLaws) where
   pub no_in_decimal : (c n : ℕ) → IsNoDigit c → IsNumber n → has_no c (decimal n) ≡ true
   no_in_decimal c n d h = no_in_digits c (decimal n) d (laws.decimal n h).digits
@@ -269,6 +283,10 @@ module _ (laws : NumberLaws) where
   no_in_key c Two k n h = no_in_hex c (bytes_of k) n h.0
 
 -- ---- records
+
+-- no field of the list has the byte
+abbrev pub AllHaveNo : ℕ → List (List ℕ) → Type 0
+AllHaveNo c fs = AllByRecursion (λ f. has_no c f ≡ true) fs
 
 -- the first = stands behind the key
 place : (key value : List ℕ) → has_no 61 key ≡ true → position_or_len is_equals (key ++ 61 ∷ value) ≡ length key
@@ -327,3 +345,8 @@ module _ (laws : NumberLaws) where
   no_in_record c v r n other h =
       has_no-append c (key_word v r.0) (61 ∷ hex r.1) (no_in_key laws c v r.0 n h.0)
       (and_from (not (eqb 61 c)) (has_no c (hex r.1)) (ap not other) (no_in_hex c r.1 n h.1.0))
+
+  pub no_in_records : (c : ℕ) (v : Version) (rs : Records) → IsNoDigit c → eqb 61 c ≡ false → AreRecords v rs →
+      AllHaveNo c (map (record_word v) rs)
+  no_in_records c v [] n other h = tt
+  no_in_records c v (r ∷ rs) n other h = (no_in_record c v r n other h.0, no_in_records c v rs n other h.1)

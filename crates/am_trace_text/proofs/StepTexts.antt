@@ -1,13 +1,15 @@
--- The fields of steps: each step has its own, and each step is read of them.
+-- The fields of steps: each step has its own, each step is read of them, and some bytes are in none.
 use Rattle.std.proofs.Common.{◌≡◌, ℕ, List, [], ◌∷◌, map, Option, Some, None, refl, sym, ap, ◌∙◌, subst, option_map}
-use Rattle.std.proofs.Common.{decimal}
-use Rattle.std.specs.Prelude.{option_and_then}
+use Rattle.std.proofs.Common.{decimal, eqb, true, false}
+use Rattle.std.specs.Prelude.{option_and_then, codes}
 use Rattle.std.specs.Option.{option_zip}
+use Rattle.std.specs.List.{list_all}
 use Rattle.std.proofs.lemmas.Bool.{cond-true}
 use Rattle.am_record.specs.OrderedKey.{OrderedKey}
 use Rattle.am_record.specs.Interval.{Interval, key_le}
 use Rattle.am_record.specs.Records.{Records}
 use Rattle.am_record.specs.declared.lock.Mode.{Mode}
+use Rattle.am_record.specs.declared.lock.Mode.TheVariants.{Shared, Exclusive}
 use Rattle.am_record.specs.declared.lock.Lock.{Lock}
 use Rattle.am_record.specs.declared.step.Op.{Op}
 use Rattle.am_record.specs.declared.step.Op.TheVariants as op
@@ -18,20 +20,21 @@ use Rattle.am_text.specs.Locks.{mode_word, interval_for, mode_for}
 use Rattle.am_text.specs.Verbs.{word_of, verb_for}
 use Rattle.am_text.specs.declared.verb.Verb.{Verb}
 use Rattle.am_text.specs.declared.verb.Verb.TheVariants as verb
+use Rattle.am_trace_text.specs.Cuts.{has_no}
 use Rattle.am_trace_text.specs.Words.{hex, key_word, record_word}
 use Rattle.am_trace_text.specs.Bounds.{IsNumber, IsKey, IsValue, IsRecord, AreRecords, IsRange}
 use Rattle.am_trace_text.specs.Steps.{verb_of, argument_fields, step_fields, IsOp, IsStep, HasSavepoints}
+use Rattle.am_trace_text.specs.Steps.{op_in, do_in, step_of, step_with, step_in}
 use Rattle.am_trace_text.specs.FieldReadings.{number_in, key_in, value_in, record_in, range_in, nothing_in}
-use Rattle.am_trace_text.specs.FieldReadings.{one_number_in}
 use Rattle.am_trace_text.specs.FieldReadings.{one_key_in, key_and_value_in, range_and_number_in, lock_fields_in}
-use Rattle.am_trace_text.specs.FieldReadings.{lock_of_parts}
-use Rattle.am_trace_text.specs.FieldReadings.{records_of_fields, with_record, savepoint_in, op_in, do_in, step_of}
-use Rattle.am_trace_text.specs.FieldReadings.{step_with}
-use Rattle.am_trace_text.specs.FieldReadings.{step_in}
+use Rattle.am_trace_text.specs.FieldReadings.{lock_of_parts, one_number_in}
+use Rattle.am_trace_text.specs.FieldReadings.{records_of_fields, with_record, savepoint_in}
 use Rattle.am_trace_text.specs.declared.version.Version.{Version}
 use Rattle.am_trace_text.specs.declared.version.Version.TheVariants.{One, Two}
 use Rattle.am_trace_text.proofs.IsText.{IsText, zipped, zip_of, chained, same_some, one_field, two_fields}
 use Rattle.am_trace_text.proofs.FieldTexts.{NumberLaws, number_text, key_text, value_text, record_text}
+use Rattle.am_trace_text.proofs.FieldTexts.{IsNoDigit, AllHaveNo, is_letter, no_in_letters, no_in_hex, no_in_decimal}
+use Rattle.am_trace_text.proofs.FieldTexts.{no_in_key, no_in_records}
 
 -- what is known of the words that a session's lines have too
 pub record WordLaws : Type 0 where
@@ -208,27 +211,13 @@ module _ (laws : WordLaws) where
       let b = savepoint_back v fs m.0 m.1 in subst (IsOpOf v verb.Mark fs) m.2 (refl, b)
   op_back v verb.Back fs o e = let m = mapped (λ _. op.Back) (savepoint_in v fs) o e in
       let b = savepoint_back v fs m.0 m.1 in subst (IsOpOf v verb.Back fs) m.2 (refl, b)
-  op_back v verb.Begin fs o e = cc
-  op_back v verb.Commit fs o e = cc
-  op_back v verb.Abort fs o e = cc
-  op_back v verb.Merge fs o e = cc
-  op_back v verb.Clean fs o e = cc
-  op_back v verb.Stage fs o e = cc
-  op_back v verb.Seen fs o e = cc
-  op_back v verb.Quit fs o e = cc
+  op_back v other fs o e = cc
 
   -- ---- steps
 
   do_of : (v : Version) (o : Op) (fs : List (List ℕ)) → step_of v (verb_of o) fs ≡ do_in v (verb_of o) fs
   do_of v (op.Get k) fs = refl
-  do_of v (op.Scan r max) fs = refl
-  do_of v (op.Insert k w) fs = refl
-  do_of v (op.Replace k w) fs = refl
-  do_of v (op.Delete k) fs = refl
-  do_of v (op.Load rs) fs = refl
-  do_of v (op.Lock lock) fs = refl
-  do_of v op.Mark fs = refl
-  do_of v op.Back fs = refl
+  do_of v o fs = refl
 
   by_verb : (v : Version) (w : Verb) (fs : List (List ℕ)) → step_in v (word_of w ∷ fs) ≡ step_of v w fs
   by_verb v w fs = ap (λ o. step_with v o fs) (laws.verb_word w)
@@ -276,18 +265,7 @@ module _ (laws : WordLaws) where
   of_back v verb.Clean fs s e = let m = mapped (λ (p : Interval × ℕ). Clean p.0 p.1) (range_and_number_in v fs) s e in
       let b = (range_and_number v).back fs m.0 m.1 in subst (IsStepOf v verb.Clean fs) m.2
       (b.0, ap (λ (xs : List (List ℕ)). word_of verb.Clean ∷ xs) b.1)
-  of_back v verb.Get fs s e = do_back v verb.Get fs s e
-  of_back v verb.Scan fs s e = do_back v verb.Scan fs s e
-  of_back v verb.Insert fs s e = do_back v verb.Insert fs s e
-  of_back v verb.Replace fs s e = do_back v verb.Replace fs s e
-  of_back v verb.Delete fs s e = do_back v verb.Delete fs s e
-  of_back v verb.Load fs s e = do_back v verb.Load fs s e
-  of_back v verb.Stage fs s e = do_back v verb.Stage fs s e
-  of_back v verb.Lock fs s e = do_back v verb.Lock fs s e
-  of_back v verb.Mark fs s e = do_back v verb.Mark fs s e
-  of_back v verb.Back fs s e = do_back v verb.Back fs s e
-  of_back v verb.Seen fs s e = do_back v verb.Seen fs s e
-  of_back v verb.Quit fs s e = do_back v verb.Quit fs s e
+  of_back v other fs s e = do_back v other fs s e
 
   with_back : (v : Version) (f : List ℕ) (fs : List (List ℕ)) (s : Step) (o : Option Verb) → verb_for f ≡ o →
       step_with v o fs ≡ Some s → IsStep v s × (f ∷ fs ≡ step_fields v s)
@@ -303,3 +281,47 @@ module _ (laws : WordLaws) where
 
   pub step_text : (v : Version) → IsText (step_in v) (step_fields v) (IsStep v)
   step_text v = record { there = step_there v; back = step_back v }
+
+-- ---- bytes that no field of a step has
+
+verb_letters : (w : Verb) → list_all is_letter (word_of w) ≡ true
+verb_letters verb.Begin = refl
+verb_letters v = refl
+
+module _ (laws : WordLaws) (c : ℕ) (n : IsNoDigit c) (other : eqb 61 c ≡ false) where
+  abbrev key : (v : Version) (k : OrderedKey) → IsKey v k → has_no c (key_word v k) ≡ true
+  key v k h = no_in_key laws.numbers c v k n h
+
+  mode_none : (m : Mode) → has_no c (mode_word m) ≡ true
+  mode_none Shared = no_in_letters c (codes "S") n refl
+  mode_none Exclusive = no_in_letters c (codes "X") n refl
+
+  range_and_number_none : (v : Version) (r : Interval) (m : ℕ) → IsRange v r × IsNumber m →
+      AllHaveNo c (key_word v r.lo ∷ key_word v r.hi ∷ decimal m ∷ [])
+  range_and_number_none v r m h =
+      (key v r.lo h.0.0.0, (key v r.hi h.0.0.1, (no_in_decimal laws.numbers c m n h.1, tt)))
+
+  arguments_none : (v : Version) (o : Op) → IsOp v o → AllHaveNo c (argument_fields v o)
+  arguments_none v (op.Get k) h = (key v k h, tt)
+  arguments_none v (op.Scan r max) h = range_and_number_none v r max h
+  arguments_none v (op.Insert k w) h = (key v k h.0, (no_in_hex c w n h.1.0, tt))
+  arguments_none v (op.Replace k w) h = (key v k h.0, (no_in_hex c w n h.1.0, tt))
+  arguments_none v (op.Delete k) h = (key v k h, tt)
+  arguments_none v (op.Load rs) h = no_in_records laws.numbers c v rs n other h
+  arguments_none v (op.Lock lock) h = (
+    mode_none lock.mode,
+    (key v lock.range.lo h.0.0, (key v lock.range.hi h.0.1, tt)),
+  )
+  arguments_none v op.Mark h = tt
+  arguments_none v op.Back h = tt
+
+  verb_none : (w : Verb) → has_no c (word_of w) ≡ true
+  verb_none w = no_in_letters c (word_of w) n (verb_letters w)
+
+  pub step_none : (v : Version) (s : Step) → IsStep v s → AllHaveNo c (step_fields v s)
+  step_none v Begin h = (verb_none verb.Begin, tt)
+  step_none v (Do t o) h = (verb_none (verb_of o), (no_in_decimal laws.numbers c t n h.0, arguments_none v o h.1))
+  step_none v (Commit t) h = (verb_none verb.Commit, (no_in_decimal laws.numbers c t n h, tt))
+  step_none v (Abort t) h = (verb_none verb.Abort, (no_in_decimal laws.numbers c t n h, tt))
+  step_none v (Merge m) h = (verb_none verb.Merge, (no_in_decimal laws.numbers c m n h, tt))
+  step_none v (Clean r m) h = (verb_none verb.Clean, range_and_number_none v r m h)

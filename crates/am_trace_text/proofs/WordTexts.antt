@@ -9,29 +9,12 @@ use Rattle.am_trace_text.proofs.IsText.{same_some}
 use Rattle.am_text.specs.ReplyWords.{word_text, refusal_code}
 use Rattle.am_text.specs.declared.reply_word.ReplyWord.{ReplyWord}
 use Rattle.am_trace_text.specs.FieldReadings.{word_for, all_words, refusal_for, coded_refusals}
-use Rattle.am_text.specs.declared.reply_word.ReplyWord.TheVariants.{Begun, Done, Found, Absent, Rows, Exists, Missing}
-use Rattle.am_text.specs.declared.reply_word.ReplyWord.TheVariants.{Committed, Aborted, Moved, MergeDone, Ended, Idle}
-use Rattle.am_text.specs.declared.reply_word.ReplyWord.TheVariants.{Cleaned, NoMark, Busy, Error}
+use Rattle.am_text.specs.declared.reply_word.ReplyWord.TheVariants.{Begun, Done, Found}
 
 pub word_for-word_text : (w : ReplyWord) → word_for (word_text w) ≡ Some w
 unfolding word_for
 word_for-word_text Begun = refl
-word_for-word_text Done = refl
-word_for-word_text Found = refl
-word_for-word_text Absent = refl
-word_for-word_text Rows = refl
-word_for-word_text Exists = refl
-word_for-word_text Missing = refl
-word_for-word_text Committed = refl
-word_for-word_text Aborted = refl
-word_for-word_text Moved = refl
-word_for-word_text MergeDone = refl
-word_for-word_text Ended = refl
-word_for-word_text Idle = refl
-word_for-word_text Cleaned = refl
-word_for-word_text NoMark = refl
-word_for-word_text Busy = refl
-word_for-word_text Error = refl
+word_for-word_text word = refl
 
 -- an element that is found is one of the list, and passes the test
 module _ {A : Type 0} (test : A → Bool) (P : A → Type 0) where

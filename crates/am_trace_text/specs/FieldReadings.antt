@@ -7,11 +7,7 @@ use Rattle.am_record.specs.OrderedKey.{OrderedKey, number_key}
 use Rattle.am_record.specs.Interval.{Interval}
 use Rattle.am_record.specs.Records.{Records}
 use Rattle.am_record.specs.declared.lock.Lock.{Lock}
-use Rattle.am_record.specs.declared.step.Op.{Op}
-use Rattle.am_record.specs.declared.step.Op.TheVariants as op
 use Rattle.am_record.specs.declared.lock.Mode.{Mode}
-use Rattle.am_record.specs.declared.step.Step.{Step}
-use Rattle.am_record.specs.declared.step.Step.TheVariants.{Begin, Do, Commit, Abort, Merge, Clean}
 use Rattle.am_record.specs.declared.step.Reply.{Reply}
 use Rattle.am_record.specs.declared.step.Reply.TheVariants as reply
 use Rattle.am_record.specs.declared.step.Refusal.{Refusal}
@@ -21,16 +17,11 @@ use Rattle.am_text.specs.Keys.{key_for}
 use Rattle.am_text.specs.Values.{value_for}
 use Rattle.am_text.specs.Locks.{interval_for, lock_in, mode_for}
 use Rattle.am_text.specs.Records.{is_equals}
-use Rattle.am_text.specs.Fields.{line_fields}
-use Rattle.am_text.specs.Verbs.{verb_for}
 use Rattle.am_text.specs.ReplyWords.{word_text, refusal_code}
 use Rattle.am_text.specs.declared.reply_word.ReplyWord.{ReplyWord}
 use Rattle.am_text.specs.declared.reply_word.ReplyWord.TheVariants as word
-use Rattle.am_text.specs.declared.verb.Verb.{Verb}
-use Rattle.am_text.specs.declared.verb.Verb.TheVariants as verb
 use Rattle.am_trace_text.specs.declared.version.Version.{Version}
 use Rattle.am_trace_text.specs.declared.version.Version.TheVariants.{One, Two}
-use Rattle.am_record.specs.Events.{Event}
 use Rattle.am_trace_text.specs.declared.read.ReadFault.{ReadFault}
 use Rattle.am_trace_text.specs.declared.read.ReadFault.TheVariants.{Bad, NoMemory}
 
@@ -85,6 +76,10 @@ range_in v lo hi = option_and_then interval_for (option_zip (key_in v lo) (key_i
 abbrev pub nothing_in : List (List ℕ) → Option (Unit {0})
 nothing_in [] = Some tt
 nothing_in fs = None
+
+abbrev pub savepoint_in : Version → List (List ℕ) → Option (Unit {0})
+savepoint_in One fs = None
+savepoint_in Two fs = nothing_in fs
 
 -- the field, where there is just one; the two, and the three
 abbrev pub one_of : List (List ℕ) → Option (List ℕ)
@@ -168,48 +163,6 @@ refusal_for code = find (λ why. bytes_eq (refusal_code why) code) coded_refusal
 abbrev pub refusal_read : List (List ℕ) → Option Refusal
 refusal_read fs = field_in refusal_for fs
 
--- ---- steps
-
-abbrev pub savepoint_in : Version → List (List ℕ) → Option (Unit {0})
-savepoint_in One fs = None
-savepoint_in Two fs = nothing_in fs
-
--- an operation, but for a load, which takes memory
-abbrev pub small_op_in : Version → Verb → List (List ℕ) → Option Op
-small_op_in v verb.Get fs = option_map op.Get (one_key_in v fs)
-small_op_in v verb.Delete fs = option_map op.Delete (one_key_in v fs)
-small_op_in v verb.Scan fs = option_map (λ (p : Interval × ℕ). op.Scan p.0 p.1) (range_and_number_in v fs)
-small_op_in v verb.Insert fs = option_map (λ (r : OrderedKey × List ℕ). op.Insert r.0 r.1) (key_and_value_in v fs)
-small_op_in v verb.Replace fs = option_map (λ (r : OrderedKey × List ℕ). op.Replace r.0 r.1) (key_and_value_in v fs)
-small_op_in v verb.Lock fs = option_map op.Lock (lock_fields_in v fs)
-small_op_in v verb.Mark fs = option_map (λ _. op.Mark) (savepoint_in v fs)
-small_op_in v verb.Back fs = option_map (λ _. op.Back) (savepoint_in v fs)
-small_op_in v _ fs = None
-
-abbrev pub op_in : Version → Verb → List (List ℕ) → Option Op
-op_in v verb.Load fs = option_map op.Load (records_of_fields v fs)
-op_in v verb fs = small_op_in v verb fs
-
-abbrev pub do_in : Version → Verb → List (List ℕ) → Option Step
-do_in v verb [] = None
-do_in v verb (t ∷ fs) = option_map (λ (p : ℕ × Op). Do p.0 p.1) (option_zip (number_in t) (op_in v verb fs))
-
-abbrev pub step_of : Version → Verb → List (List ℕ) → Option Step
-step_of v verb.Begin fs = option_map (λ _. Begin) (nothing_in fs)
-step_of v verb.Commit fs = option_map Commit (one_number_in fs)
-step_of v verb.Abort fs = option_map Abort (one_number_in fs)
-step_of v verb.Merge fs = option_map Merge (one_number_in fs)
-step_of v verb.Clean fs = option_map (λ (p : Interval × ℕ). Clean p.0 p.1) (range_and_number_in v fs)
-step_of v verb fs = do_in v verb fs
-
-abbrev pub step_with : Version → Option Verb → List (List ℕ) → Option Step
-step_with v None fs = None
-step_with v (Some verb) fs = step_of v verb fs
-
-abbrev pub step_in : Version → List (List ℕ) → Option Step
-step_in v [] = None
-step_in v (f ∷ fs) = step_with v (verb_for f) fs
-
 -- ---- replies
 
 abbrev pub all_words : List ReplyWord
@@ -253,11 +206,7 @@ abbrev pub reply_in : Version → List (List ℕ) → Option Reply
 reply_in v [] = None
 reply_in v (f ∷ fs) = reply_with v (word_for f) fs
 
--- ---- lines
-
--- the step and the reply of the two parts of a line
-abbrev pub parts_in : Version → List ℕ → List ℕ → Option Event
-parts_in v step reply = option_zip (step_in v (line_fields step)) (reply_in v (line_fields reply))
+-- ---- what a reader answers
 
 -- this is what is due, or memory was refused
 abbrev pub IsReadAs : {A : Type 0} → Option A → Result A ReadFault → Type 0

@@ -1,13 +1,16 @@
 -- The text of a stored trace: a line that says its version, and one for each step with its reply.
-use Rattle.std.specs.Prelude.{◌≡◌, ◌≢◌, ◌⊎◌, ℕ, ◌+◌, List, [], ◌∷◌, ◌++◌, codes, length}
+use Rattle.std.specs.Prelude.{◌≡◌, ◌≢◌, ◌⊎◌, ℕ, ◌+◌, List, [], ◌∷◌, ◌++◌, codes, length, Option}
+use Rattle.std.specs.Option.{option_zip}
 use Rattle.std.specs.List.{join_with_byte, flat_map, AllByRecursion}
 use Rattle.am_record.specs.declared.step.Step.{Step}
 use Rattle.am_record.specs.declared.step.Reply.{Reply}
 use Rattle.am_record.specs.declared.step.Reply.TheVariants.{Refused}
 use Rattle.am_record.specs.declared.step.Refusal.TheVariants.{SeatFull}
 use Rattle.am_record.specs.Events.{Event}
-use Rattle.am_trace_text.specs.Steps.{step_fields, IsStep}
+use Rattle.am_text.specs.Fields.{line_fields}
+use Rattle.am_trace_text.specs.Steps.{step_fields, IsStep, step_in}
 use Rattle.am_trace_text.specs.Replies.{reply_fields, IsReply}
+use Rattle.am_trace_text.specs.FieldReadings.{reply_in}
 use Rattle.am_trace_text.specs.declared.version.Version.{Version}
 use Rattle.am_trace_text.specs.declared.version.Version.TheVariants.{One, Two}
 
@@ -31,6 +34,10 @@ reply_words v reply = join_with_byte 32 (reply_fields v reply)
 -- step and reply, parted by a space, a bar and a space
 abbrev pub event_words : Version → Event → List ℕ
 event_words v e = step_words v e.0 ++ codes " | " ++ reply_words v e.1
+
+-- the step and the reply of the two parts of a line
+abbrev pub parts_in : Version → List ℕ → List ℕ → Option Event
+parts_in v step reply = option_zip (step_in v (line_fields step)) (reply_in v (line_fields reply))
 
 -- each line is ended by an LF
 abbrev pub with_lf : List ℕ → List ℕ

@@ -1,15 +1,20 @@
--- A step as a stored trace writes it: its fields, which a space parts.
-use Rattle.std.specs.Prelude.{ℕ, List, [], ◌∷◌, map, decimal}
+-- A step as a stored trace writes it: its fields, which a space parts, and what they are read as.
+use Rattle.std.specs.Prelude.{ℕ, List, [], ◌∷◌, map, decimal, Option, Some, None, option_map}
+use Rattle.std.specs.Option.{option_zip}
+use Rattle.am_record.specs.OrderedKey.{OrderedKey}
+use Rattle.am_record.specs.Interval.{Interval}
 use Rattle.am_record.specs.declared.step.Op.{Op}
 use Rattle.am_record.specs.declared.step.Op.TheVariants.{Get, Scan, Insert, Replace, Delete, Load, Lock, Mark, Back}
 use Rattle.am_record.specs.declared.step.Step.{Step}
 use Rattle.am_record.specs.declared.step.Step.TheVariants.{Begin, Do, Commit, Abort, Merge, Clean}
-use Rattle.am_text.specs.Verbs.{word_of}
+use Rattle.am_text.specs.Verbs.{word_of, verb_for}
 use Rattle.am_text.specs.Locks.{mode_word}
 use Rattle.am_text.specs.declared.verb.Verb.{Verb}
 use Rattle.am_text.specs.declared.verb.Verb.TheVariants as verb
 use Rattle.am_trace_text.specs.Words.{key_word, record_word, hex}
 use Rattle.am_trace_text.specs.Bounds.{IsNumber, IsKey, IsRecord, AreRecords, IsRange}
+use Rattle.am_trace_text.specs.FieldReadings.{number_in, one_number_in, nothing_in, one_key_in, key_and_value_in}
+use Rattle.am_trace_text.specs.FieldReadings.{range_and_number_in, lock_fields_in, records_of_fields, savepoint_in}
 use Rattle.am_trace_text.specs.declared.version.Version.{Version}
 use Rattle.am_trace_text.specs.declared.version.Version.TheVariants.{One, Two}
 
@@ -73,3 +78,41 @@ IsStep v (Commit t) = IsNumber t
 IsStep v (Abort t) = IsNumber t
 IsStep v (Merge limit) = IsNumber limit
 IsStep v (Clean r limit) = IsRange v r × IsNumber limit
+
+-- ---- what the fields are read as
+
+-- an operation, but for a load, which takes memory
+abbrev pub small_op_in : Version → Verb → List (List ℕ) → Option Op
+small_op_in v verb.Get fs = option_map Get (one_key_in v fs)
+small_op_in v verb.Delete fs = option_map Delete (one_key_in v fs)
+small_op_in v verb.Scan fs = option_map (λ (p : Interval × ℕ). Scan p.0 p.1) (range_and_number_in v fs)
+small_op_in v verb.Insert fs = option_map (λ (r : OrderedKey × List ℕ). Insert r.0 r.1) (key_and_value_in v fs)
+small_op_in v verb.Replace fs = option_map (λ (r : OrderedKey × List ℕ). Replace r.0 r.1) (key_and_value_in v fs)
+small_op_in v verb.Lock fs = option_map Lock (lock_fields_in v fs)
+small_op_in v verb.Mark fs = option_map (λ _. Mark) (savepoint_in v fs)
+small_op_in v verb.Back fs = option_map (λ _. Back) (savepoint_in v fs)
+small_op_in v _ fs = None
+
+abbrev pub op_in : Version → Verb → List (List ℕ) → Option Op
+op_in v verb.Load fs = option_map Load (records_of_fields v fs)
+op_in v verb fs = small_op_in v verb fs
+
+abbrev pub do_in : Version → Verb → List (List ℕ) → Option Step
+do_in v verb [] = None
+do_in v verb (t ∷ fs) = option_map (λ (p : ℕ × Op). Do p.0 p.1) (option_zip (number_in t) (op_in v verb fs))
+
+abbrev pub step_of : Version → Verb → List (List ℕ) → Option Step
+step_of v verb.Begin fs = option_map (λ _. Begin) (nothing_in fs)
+step_of v verb.Commit fs = option_map Commit (one_number_in fs)
+step_of v verb.Abort fs = option_map Abort (one_number_in fs)
+step_of v verb.Merge fs = option_map Merge (one_number_in fs)
+step_of v verb.Clean fs = option_map (λ (p : Interval × ℕ). Clean p.0 p.1) (range_and_number_in v fs)
+step_of v verb fs = do_in v verb fs
+
+abbrev pub step_with : Version → Option Verb → List (List ℕ) → Option Step
+step_with v None fs = None
+step_with v (Some verb) fs = step_of v verb fs
+
+abbrev pub step_in : Version → List (List ℕ) → Option Step
+step_in v [] = None
+step_in v (f ∷ fs) = step_with v (verb_for f) fs

@@ -1,15 +1,15 @@
 //! Lines as they are read.
 
-ghost use Rattle.std.specs.Prelude.{◌≡◌, ◌≢◌, ◌++◌, List, ℕ, codes, IfOk, IfSome, IfNone, Err};
+ghost use Rattle.std.specs.Prelude.{◌≡◌, ◌≢◌, List, ℕ, IfOk, IfSome, IfNone, Err};
 ghost use Rattle.am_trace_text.specs.Cuts.{IsParted};
-ghost use Rattle.am_trace_text.specs.FieldReadings.{parts_in, IsReadAs};
+ghost use Rattle.am_trace_text.specs.FieldReadings.{IsReadAs};
 ghost use Rattle.am_record.specs.Events.{Event};
-ghost use Rattle.am_trace_text.specs.Lines.{IsEvent, event_words};
+ghost use Rattle.am_trace_text.specs.Lines.{IsEvent, event_words, parts_in};
 
 use crate::cut::cut;
 use crate::read::ReadFault;
 use crate::read_reply::read_reply;
-use crate::read_step::read_step;
+use crate::step_text::read_step;
 use crate::version::Version;
 use am_record::{Reply, Step};
 use am_text::{Fields, words_are_fields};

@@ -1,22 +1,17 @@
 //! Lines as they are written.
 
-ghost use Rattle.std.specs.Prelude.{◌≡◌, ◌≢◌, ◌++◌, [], ◌∷◌, map, codes, OnOk};
+ghost use Rattle.std.specs.Prelude.{◌≡◌, ◌≢◌, ◌++◌, [], ◌∷◌, map, OnOk};
 ghost use Rattle.std.specs.List.{join_with_byte, flat_map};
-ghost use Rattle.am_record.specs.declared.step.Refusal.{Refusal as TheRefusal};
 ghost use Rattle.am_record.specs.declared.step.Refusal.TheVariants.{SeatFull as FullSeat};
-ghost use Rattle.am_text.specs.Locks.{mode_word};
-ghost use Rattle.am_text.specs.Verbs.{word_of};
 ghost use Rattle.am_trace_text.specs.Bounds.{AreRecords};
 ghost use Rattle.am_trace_text.specs.Words.{record_word};
-ghost use Rattle.am_text.specs.ReplyWords.{word_text};
-ghost use Rattle.am_trace_text.specs.Steps.{IsStep, op_fields, verb_of};
 ghost use Rattle.am_trace_text.specs.Replies.{IsRefusal, IsReply, refusal_fields};
-ghost use Rattle.am_trace_text.specs.Lines.{step_words, reply_words, event_words, with_lf, IsEvent};
+ghost use Rattle.am_trace_text.specs.Lines.{reply_words, event_words, with_lf, IsEvent};
 
 use crate::field::Field;
 use crate::version::Version;
-use am_record::{Key, Mode, NoMemory, Op, Refusal, Reply, Step, Value};
-use am_text::{ReplyWord, Verb, refusal_code};
+use am_record::{Key, NoMemory, Refusal, Reply, Step, Value};
+use am_text::{ReplyWord, refusal_code};
 use std::alloc::Global;
 use std::marker::Model;
 
@@ -82,16 +77,16 @@ impl Page {
         Ok(())
     }
 
-    // Writes fields that a space parts, the first of them this word.
-    fn put_fields(&mut self, word: &[u8], fields: &[Field]) -> Result<(), NoMemory>
+    /// Writes fields that a space parts, the first of them this word.
+    pub(crate) fn put_fields(&mut self, word: &[u8], fields: &[Field]) -> Result<(), NoMemory>
         ensures { OnOk result (self.new ≡ self.old ++ join_with_byte 32 (word.now ∷ fields.now)) }
     {
         self.put(word)?;
         self.put_further(fields)
     }
 
-    // The same, with records behind them.
-    fn put_with_records(
+    /// The same, with records behind them.
+    pub(crate) fn put_with_records(
         &mut self,
         word: &[u8],
         fields: &[Field],
@@ -103,62 +98,6 @@ impl Page {
     {
         self.put_fields(word, fields)?;
         self.put_records(records)
-    }
-
-    fn put_op(&mut self, tx: u64, op: &Op) -> Result<(), NoMemory>
-        ensures text { OnOk result (self.new ≡ self.old ++ join_with_byte 32 (op_fields Version.Two tx op.now)) }
-        ensures op { OnOk result (IsStep Version.Two (Step.Do tx op.now)) }
-    {
-        let word = verb_of(op).word();
-        let tx = Field::number(tx);
-        match op {
-            Op::Get(key) | Op::Delete(key) => self.put_fields(word, &[tx, Field::key(*key)]),
-            Op::Scan(range, max) => self.put_fields(
-                word,
-                &[
-                    tx,
-                    Field::key(range.lo()),
-                    Field::key(range.hi()),
-                    Field::number(*max),
-                ],
-            ),
-            Op::Insert(key, value) | Op::Replace(key, value) => {
-                self.put_fields(word, &[tx, Field::key(*key), Field::value(*value)])
-            }
-            Op::Load(pairs) => self.put_with_records(word, &[tx], pairs.as_slice()),
-            Op::Lock(lock) => self.put_fields(
-                word,
-                &[
-                    tx,
-                    mode_field(lock.mode),
-                    Field::key(lock.range.lo()),
-                    Field::key(lock.range.hi()),
-                ],
-            ),
-            Op::Mark | Op::Back => self.put_fields(word, &[tx]),
-        }
-    }
-
-    /// Writes a step.
-    pub(crate) fn put_step(&mut self, step: &Step) -> Result<(), NoMemory>
-        ensures text { OnOk result (self.new ≡ self.old ++ step_words Version.Two step.now) }
-        ensures step { OnOk result (IsStep Version.Two step.now) }
-    {
-        match step {
-            Step::Begin => self.put_fields(Verb::Begin.word(), &[]),
-            Step::Do(tx, op) => self.put_op(*tx, op),
-            Step::Commit(tx) => self.put_fields(Verb::Commit.word(), &[Field::number(*tx)]),
-            Step::Abort(tx) => self.put_fields(Verb::Abort.word(), &[Field::number(*tx)]),
-            Step::Merge(limit) => self.put_fields(Verb::Merge.word(), &[Field::number(*limit)]),
-            Step::Clean(range, limit) => self.put_fields(
-                Verb::Clean.word(),
-                &[
-                    Field::key(range.lo()),
-                    Field::key(range.hi()),
-                    Field::number(*limit),
-                ],
-            ),
-        }
     }
 
     fn put_refusal(&mut self, refusal: Refusal) -> Result<(), NoMemory>
@@ -233,31 +172,5 @@ impl Page {
         self.put(b" | ")?;
         self.put_reply(reply)?;
         self.put(b"\n")
-    }
-}
-
-// The verb of an operation.
-fn verb_of(op: &Op) -> Verb
-    ensures { result ≡ verb_of op.now }
-{
-    match op {
-        Op::Get(_) => Verb::Get,
-        Op::Scan(_, _) => Verb::Scan,
-        Op::Insert(_, _) => Verb::Insert,
-        Op::Replace(_, _) => Verb::Replace,
-        Op::Delete(_) => Verb::Delete,
-        Op::Load(_) => Verb::Load,
-        Op::Lock(_) => Verb::Lock,
-        Op::Mark => Verb::Mark,
-        Op::Back => Verb::Back,
-    }
-}
-
-fn mode_field(mode: Mode) -> Field
-    ensures { result ≡ mode_word mode }
-{
-    match mode {
-        Mode::Shared => Field::new(b"S"),
-        Mode::Exclusive => Field::new(b"X"),
     }
 }

@@ -4,10 +4,9 @@ ghost use Rattle.std.specs.Prelude.{◌≡◌, option_map};
 ghost use Rattle.am_trace_text.specs.FieldReadings.{nothing_in, small_reply_in, reply_of, reply_in, IsReadAs};
 
 use crate::read::ReadFault;
-use crate::read_step::read_savepoint;
 use crate::shape::{
     next, read_counted_records, read_key, read_key_and_number, read_nothing, read_number,
-    read_number_and_run, read_refusal, read_value,
+    read_number_and_run, read_refusal, read_savepoint, read_value,
 };
 use crate::version::Version;
 use crate::word::word_for;

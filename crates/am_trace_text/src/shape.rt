@@ -3,7 +3,7 @@
 ghost use Rattle.std.specs.Prelude.{◌≡◌, ◌∷◌, [], option_map, MatchOption};
 ghost use Rattle.am_trace_text.specs.FieldReadings.{number_in, run_in, digit_in, byte_in};
 ghost use Rattle.am_trace_text.specs.FieldReadings.{value_for_digits, key_in, value_in};
-ghost use Rattle.am_trace_text.specs.FieldReadings.{record_in, range_in, nothing_in};
+ghost use Rattle.am_trace_text.specs.FieldReadings.{record_in, range_in, nothing_in, savepoint_in};
 ghost use Rattle.am_trace_text.specs.FieldReadings.{one_number_in, one_key_in, key_and_value_in};
 ghost use Rattle.am_trace_text.specs.FieldReadings.{one_value_in, range_and_number_in};
 ghost use Rattle.am_trace_text.specs.FieldReadings.{lock_fields_in, records_of_fields};
@@ -47,6 +47,16 @@ pub(crate) fn read_nothing(fields: Fields<'_>) -> Option<()>
     ensures { result ≡ nothing_in fields.entry }
 {
     fields.end().ok()
+}
+
+/// Nothing, where the version knows savepoints.
+pub(crate) fn read_savepoint(version: Version, fields: Fields<'_>) -> Option<()>
+    ensures { result ≡ savepoint_in version fields.entry }
+{
+    match version {
+        Version::One => None,
+        Version::Two => read_nothing(fields),
+    }
 }
 
 pub(crate) fn number(field: &[u8]) -> Option<u64>

@@ -4,9 +4,8 @@ use Rattle.std.proofs.Common.{inr, refl, sym, ap, subst, ◌∙◌}
 use Rattle.std.proofs.lemmas.List.Splits.{join_with_byte-slice_split}
 use Rattle.std.specs.List.{join_with_byte}
 use Rattle.am_text.specs.Verbs.{word_of, verb_for}
-use Rattle.am_wire.specs.Shapes.{verb_shape}
+use Rattle.am_wire.specs.Grammar.{verb_shape, Form, spelling, IsProper, request_with, request_of, Spells, Reads}
 use Rattle.am_wire.specs.Arguments.{Arguments, fields_of, values_for}
-use Rattle.am_wire.specs.Grammar.{Form, spelling, IsProper, request_with, request_of, Spells, Reads}
 use Rattle.am_text.specs.Fields.{line_fields}
 use Rattle.am_wire.specs.LineReadings.{arguments_in, judged, map_ok, verb_reading, fields_reading, reading, MayRead}
 use Rattle.am_text.specs.declared.verb.Verb.{Verb}

@@ -8,11 +8,10 @@ use Rattle.am_record.specs.OrderedKey.{OrderedKey}
 use Rattle.am_record.specs.Records.{Records}
 use Rattle.am_text.specs.Values.{IsVisible, value_for}
 use Rattle.am_text.specs.Keys.{key_for}
-use Rattle.am_wire.specs.Shapes.{verb_shape, bare, one_key, one_record, one_number, range_and_number, mode_and_range}
-use Rattle.am_wire.specs.Shapes.{some_records}
+use Rattle.am_wire.specs.Shapes.{bare, one_key, one_record, one_number, range_and_number, mode_and_range, some_records}
+use Rattle.am_wire.specs.Grammar.{verb_shape, request_with, Reads}
 use Rattle.am_wire.specs.Arguments.{Arguments, AreProper, records_for, values_for}
 use Rattle.am_text.specs.Records.{RecordText, IsRecordText, record_for}
-use Rattle.am_wire.specs.Grammar.{request_with, Reads}
 use Rattle.am_wire.specs.Replies.{IsVisibleRow}
 use Rattle.am_wire.specs.Visible.{AsksVisible}
 use Rattle.am_text.specs.declared.verb.Verb.{Verb}
@@ -60,7 +59,6 @@ told f (Some x) request h e =
 
 visible_with : (v : Verb) (a : Arguments (verb_shape v)) (request : Request) → AreProper (verb_shape v) a →
     option_map (request_with v) (values_for (verb_shape v) a) ≡ Some request → AsksVisible request
-visible_with verb.Begin a r h e = told (request_with verb.Begin) (values_for bare a) r (λ x f. tt) e
 visible_with verb.Get a r h e = told (request_with verb.Get) (values_for one_key a) r (λ x f. tt) e
 visible_with verb.Scan a r h e = told (request_with verb.Scan) (values_for range_and_number a) r (λ x f. tt) e
 visible_with verb.Insert a r h e = told (request_with verb.Insert) (values_for one_record a) r
@@ -73,14 +71,9 @@ visible_with verb.Load a r h e = told (request_with verb.Load) (values_for some_
 visible_with verb.Stage a r h e = told (request_with verb.Stage) (values_for some_records a) r
     (λ x f. records_visible a x h.1 f) e
 visible_with verb.Lock a r h e = told (request_with verb.Lock) (values_for mode_and_range a) r (λ x f. tt) e
-visible_with verb.Mark a r h e = told (request_with verb.Mark) (values_for bare a) r (λ x f. tt) e
-visible_with verb.Back a r h e = told (request_with verb.Back) (values_for bare a) r (λ x f. tt) e
-visible_with verb.Commit a r h e = told (request_with verb.Commit) (values_for bare a) r (λ x f. tt) e
-visible_with verb.Abort a r h e = told (request_with verb.Abort) (values_for bare a) r (λ x f. tt) e
 visible_with verb.Merge a r h e = told (request_with verb.Merge) (values_for one_number a) r (λ x f. tt) e
 visible_with verb.Clean a r h e = told (request_with verb.Clean) (values_for range_and_number a) r (λ x f. tt) e
-visible_with verb.Seen a r h e = told (request_with verb.Seen) (values_for bare a) r (λ x f. tt) e
-visible_with verb.Quit a r h e = told (request_with verb.Quit) (values_for bare a) r (λ x f. tt) e
+visible_with v a r h e = told (request_with v) (values_for bare a) r (λ x f. tt) e
 
 -- what is read of a line is visible
 pub asks_visible : (line : List ℕ) (request : Request) → Reads line (Ok request) → AsksVisible request

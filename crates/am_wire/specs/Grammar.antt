@@ -4,7 +4,8 @@ use Rattle.std.specs.Prelude.{option_map}
 use Rattle.std.specs.List.{join_with_byte}
 use Rattle.am_record.specs.declared.step.Op.TheVariants as op
 use Rattle.am_text.specs.Verbs.{word_of}
-use Rattle.am_wire.specs.Shapes.{verb_shape}
+use Rattle.am_wire.specs.Shapes.{VerbShape, bare, one_key, one_record, one_number, range_and_number, mode_and_range}
+use Rattle.am_wire.specs.Shapes.{some_records}
 use Rattle.am_wire.specs.Arguments.{Arguments, Values, fields_of, AreProper, values_for}
 use Rattle.am_text.specs.declared.verb.Verb.{Verb}
 use Rattle.am_text.specs.declared.verb.Verb.TheVariants as verb
@@ -13,6 +14,26 @@ use Rattle.am_wire.specs.declared.request.Request.TheVariants.{Begin, Do, Stage,
 use Rattle.am_wire.specs.declared.request.Request.TheVariants.{Quit}
 use Rattle.am_text.specs.declared.fault.LineFault.{LineFault}
 use Rattle.am_text.specs.declared.fault.LineFault.TheVariants.{Syntax, Range, NoMemory}
+
+-- what stands after each verb
+abbrev pub verb_shape : Verb → VerbShape
+verb_shape verb.Begin = bare
+verb_shape verb.Get = one_key
+verb_shape verb.Scan = range_and_number
+verb_shape verb.Insert = one_record
+verb_shape verb.Replace = one_record
+verb_shape verb.Delete = one_key
+verb_shape verb.Load = some_records
+verb_shape verb.Stage = some_records
+verb_shape verb.Lock = mode_and_range
+verb_shape verb.Mark = bare
+verb_shape verb.Back = bare
+verb_shape verb.Commit = bare
+verb_shape verb.Abort = bare
+verb_shape verb.Merge = one_number
+verb_shape verb.Clean = range_and_number
+verb_shape verb.Seen = bare
+verb_shape verb.Quit = bare
 
 -- what a line may say, with numbers, keys and values of any size
 pub record Form : Type 0 where

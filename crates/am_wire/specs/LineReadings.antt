@@ -7,11 +7,11 @@ use Rattle.am_text.specs.Keys.{is_key_text}
 use Rattle.am_text.specs.Fields.{line_fields}
 use Rattle.am_text.specs.Locks.{mode_for}
 use Rattle.am_text.specs.Verbs.{verb_for}
-use Rattle.am_wire.specs.Shapes.{verb_shape, VerbShape, bare, one_key, one_record, one_number, range_and_number}
+use Rattle.am_wire.specs.Shapes.{VerbShape, bare, one_key, one_record, one_number, range_and_number}
+use Rattle.am_wire.specs.Grammar.{verb_shape, request_with, brings_records}
 use Rattle.am_wire.specs.Shapes.{mode_and_range, some_records}
 use Rattle.am_wire.specs.Arguments.{Arguments, Values, values_for, records_for}
 use Rattle.am_text.specs.Records.{RecordText, record_text, is_record_text, is_record_field}
-use Rattle.am_wire.specs.Grammar.{request_with, brings_records}
 use Rattle.am_text.specs.declared.verb.Verb.{Verb}
 use Rattle.am_wire.specs.declared.request.Request.{Request}
 use Rattle.am_text.specs.declared.fault.LineFault.{LineFault}

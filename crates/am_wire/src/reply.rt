@@ -2,7 +2,7 @@
 
 ghost use Rattle.std.specs.Prelude.{◌≡◌, ◌+◌, ◌^◌, ◌<◌, ◌≤◌, length, true, OnOk, OnErr, IfOk};
 ghost use Rattle.am_record.specs.declared.step.Reply.{Reply};
-ghost use Rattle.am_stream.specs.SinkWrites.{Gave, GaveBeginning};
+ghost use Rattle.am_stream.specs.SinkWrites.{Wrote};
 ghost use Rattle.am_wire.specs.Replies.{refusal_words, row_words, rows_words, head_of, text_of, TellsVisible};
 ghost use Rattle.am_wire.specs.Replies.{IsOneLine};
 ghost use Rattle.am_text.specs.ReplyWords.{spaced};
@@ -81,10 +81,7 @@ fn row_words(row: &(Key, Value)) -> Text
 
 fn put_rows<K: Sink>(rows: &[(Key, Value)], sink: &mut K) -> Result<(), Failed>
     requires countable { K.failures sink.old < 2 ^ 63 }
-    ensures given { OnOk result (Gave K.holds sink.old (rows_words rows.now) sink.new) }
-    ensures ok { OnOk result (K.failures sink.new ≡ K.failures sink.old) }
-    ensures failed { OnErr result (K.failures sink.new ≡ K.failures sink.old + 1) }
-    ensures torn { OnErr result (GaveBeginning K.holds sink.old (rows_words rows.now) sink.new) }
+    ensures { Wrote K.holds K.failures sink.old (rows_words rows.now) result sink.new }
 {
     for row in rows {
         give_all(sink, row_words(row).as_slice())?;
@@ -97,11 +94,8 @@ fn put_rows<K: Sink>(rows: &[(Key, Value)], sink: &mut K) -> Result<(), Failed>
 #[inline(never)]
 pub fn put_reply<K: Sink>(reply: &Reply, sink: &mut K) -> Result<(), Failed>
     requires countable { K.failures sink.old < 2 ^ 63 }
-    ensures given { OnOk result (Gave K.holds sink.old (text_of reply.now) sink.new) }
+    ensures wrote { Wrote K.holds K.failures sink.old (text_of reply.now) result sink.new }
     ensures pending { OnOk result (K.pending sink.new ≡ true) }
-    ensures ok { OnOk result (K.failures sink.new ≡ K.failures sink.old) }
-    ensures failed { OnErr result (K.failures sink.new ≡ K.failures sink.old + 1) }
-    ensures torn { OnErr result (GaveBeginning K.holds sink.old (text_of reply.now) sink.new) }
 {
     match reply {
         Reply::Rows(rows) => {

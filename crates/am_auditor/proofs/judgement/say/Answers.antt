@@ -1,14 +1,11 @@
-use Rattle.std.proofs.Common.{◌≡◌, ℕ, List, subst, rules}
-use Rattle.am_stream.specs.SinkWrites.{Gave}
+use Rattle.std.proofs.Common.{◌≡◌, [], Err, append-nil, ◌∙◌, rules}
+use Rattle.am_stream.proofs.Streams.{wrote_torn, wrote_flushed}
 use Rattle.am_auditor.specs.Judgements.{judgement_line}
-use Rattle.am_auditor.proofs.Torn.{begun_whole, at_error}
 use Rattle.am_auditor.proofs.judgement.say.Goals as goal
 
-pub returns-in_err-flush-clause-torn : goal.returns-in_err-flush-clause-torn
-returns-in_err-flush-clause-torn g c =
+pub returns-in_err-flush-clause-wrote : goal.returns-in_err-flush-clause-wrote
+returns-in_err-flush-clause-wrote g c =
     let whole : c.as_slice.result.now ≡ judgement_line c.args.judgement.now = search rules in
-    let given = subst (λ (text : List ℕ). Gave g.K.Sink.holds c.args.sink.now text c.give_all.new.sink) whole
-    c.in_ok-give_all.ensures.given in
-    at_error c.from_residual-in_err-flush.result
-    (begun_whole g.K.Sink.holds c.args.sink.now c.give_all.new.sink c.flush.new.self
-    (judgement_line c.args.judgement.now) given c.flush.ensures.kept)
+    wrote_torn {A = Unit {0}} [] c.from_residual-in_err-flush.result (search rules) (append-nil _ ∙ whole)
+    (wrote_flushed (Err c.in_err-flush.field-0.0) c.in_ok-give_all.ensures.wrote c.flush.ensures.kept tt
+    c.in_err-flush.ensures.failed)

@@ -32,7 +32,7 @@ returns-in-Ok-say_bye-clause-served g c =
     c.args.source.now c.talk-stop.new.source c.args.sink.now c.talk-stop.new.sink c.args.backend.now
     (c.talk-stop.new.backend, c.talk-stop.new.session.staged) c.leave.new.backend c.active.result
     (c.active.ensures ∙ sym c.talk-stop.ensures.active) c.leave.ensures.left
-    c.say_bye.new.self (rw c.new-session.ensures at c.in-Quit.ensures.talked) c.in-Ok-say_bye.ensures.given
+    c.say_bye.new.self (rw c.new-session.ensures at c.in-Quit.ensures.talked) c.in-Ok-say_bye.ensures.wrote.given
     c.say_bye.ensures.parted
 
 pub returns-clause-served : goal.returns-clause-served
@@ -41,5 +41,5 @@ returns-clause-served g c =
     c.args.source.now c.talk-stop.new.source c.args.sink.now c.talk-stop.new.sink c.args.backend.now
     (c.talk-stop.new.backend, c.talk-stop.new.session.staged) c.leave.new.backend c.active.result
     (c.active.ensures ∙ sym c.talk-stop.ensures.active) c.leave.ensures.left
-    c.say_bye.new.self (rw c.new-session.ensures at c.in-Quit.ensures.talked) c.in-Err.ensures.torn
+    c.say_bye.new.self (rw c.new-session.ensures at c.in-Quit.ensures.talked) c.in-Err.ensures.wrote.torn
     c.say_bye.ensures.parted

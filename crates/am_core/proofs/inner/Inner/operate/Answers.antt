@@ -10,7 +10,7 @@ use Rattle.am_effect.specs.Store.{with_wish}
 use Rattle.am_sound.specs.StoreState.{IsFit}
 use Rattle.am_core.specs.StoreContent.{state_kept}
 use Rattle.am_core.specs.Admission.{IsLockRefusal, IsLockGranted}
-use Rattle.am_core.proofs.Operations.{cleared, says_first, says_lock, wants_lock, says_room, wants_room, idle}
+use Rattle.am_core.proofs.Operations.{cleared, says_first, says_lock, wants_lock, says_room, wants_memory, idle}
 use Rattle.am_core.proofs.Operations.{says_done, after_done, active_then, few_then}
 use Rattle.am_core.proofs.TransactionEnds.{can_back, fits_abort}
 use Rattle.am_core.proofs.inner.Inner.operate.Goals as goal
@@ -99,7 +99,7 @@ pub returns-in_default-work-clause-memory : goal.returns-in_default-work-clause-
 returns-in_default-work-clause-memory g c = λ is.
     let old = c.args.self.now in
     rw c.seek.ensures.same at
-    (wants_room old.parts c.seek.new.self old.wishes old.commits c.args.tx c.args.op
+    (wants_memory old.parts c.seek.new.self old.wishes old.commits c.args.tx c.args.op
     (log_in c.ask.new.txs.active c.args.tx)
     (ap (λ (xs : List Transaction). log_in xs c.args.tx) c.in-Ok.ensures.granted.locks.active)
     c.in_default-work.ensures.memory)

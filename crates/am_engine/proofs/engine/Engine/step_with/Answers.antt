@@ -58,7 +58,7 @@ invariant_of-self-2 c =
     sym (append_assoc before c.self.inside.trace.items ((st, r) ∷ [])) in
     let ends : c.count_ends-self-inside.result ≡ ends_after c.self.inside.ends (change st r) =
     c.count_ends-self-inside.ensures ∙ ap (ends_after c.self.inside.ends)
-    (c.change_by.ensures ∙ ap (λ (s : Step). change s r) c.requires.same) in
+    (c.change_by-change.ensures ∙ ap (λ (s : Step). change s r) c.requires.same) in
     let now : active_in_trace (before ++ c.push_reserved.new.self.items) ≡ numbers_with (active_in_trace old)
     (change st r) = ap active_in_trace pushed ∙ active_from-snoc [] old (st, r) in
     let a = (room_step (active_in_trace old) st r c.self.inside.ends c.pairs_for-more.result (vec_len room.new.trace)
@@ -146,7 +146,7 @@ returns-clause-room c =
     let r = c.take_step-reply.result in
     let ends : c.count_ends-self-inside.result ≡ ends_after inside.ends (change st r) =
     c.count_ends-self-inside.ensures ∙ ap (ends_after inside.ends)
-    (c.change_by.ensures ∙ ap (λ (s : Step). change s r) c.requires.same) in
+    (c.change_by-change.ensures ∙ ap (λ (s : Step). change s r) c.requires.same) in
     let spent = ends_spent st r inside.ends in
     let p = c.push_reserved.ensures in
     let q = c.push_reserved-2.ensures in

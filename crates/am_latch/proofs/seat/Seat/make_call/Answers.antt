@@ -3,12 +3,13 @@ use Rattle.std.proofs.Common.{◌++◌, Option, None, vec_len, vec_capacity, ref
 use Rattle.atomic_table.specs.Table.{Me}
 use Rattle.am_record.specs.Sessions.{IsAllowed}
 use Rattle.am_engine.specs.Changes.{change, end_of, open_after}
+use Rattle.am_engine.specs.declared.change.Stored.{Stored}
 use Rattle.am_latch.specs.declared.receipt.Receipt.{Receipt}
 use Rattle.am_latch.specs.declared.views.View.{View}
 use Rattle.am_latch.specs.Receipts.{SeatState, receipt, moved_in, last_commit_of, positions_of, AreBehind}
 use Rattle.am_latch.specs.Views.{seat_in, IsSeatView}
 use Rattle.am_latch.specs.Ties.{open_of, HasRoom}
-use Rattle.am_latch.proofs.CallResults.{where_true, received, last_commit-snoc, behind-snoc}
+use Rattle.am_latch.proofs.CallResults.{told_of, where_true, received, last_commit-snoc, behind-snoc}
 use Rattle.am_latch.proofs.Seats.{room_after, wider, moved_in-snoc}
 use Rattle.am_latch.proofs.SeatTransactions.{open_from-snoc}
 use Rattle.am_latch.proofs.seat.Seat.make_call.Goals as goal
@@ -16,11 +17,13 @@ use Rattle.am_latch.proofs.seat.Seat.make_call.Goals as goal
 pub returns-clause-called : goal.returns-clause-called
 returns-clause-called g c =
     let rs = (seat_in c.self.inside.token.me.0).receipts in
-    let stored = sym c.was_stored.ensures ∙ c.if-not-was_stored.false in
+    let told = told_of _ _ _ _ (sym c.call-outcome.ensures.stored ∙ c.in-Some-stored.is) in
+    let stored = told.0 in
+    let at = ap (λ (x : Stored). x.position) told.1 in
     let more = ap (λ (m : Me ℕ View). (seat_in m.0).receipts) (where_true _ _ _ stored c.call-outcome.ensures.token) ∙
-    (λ j. rs ++ receipt (c.self.invariant.seat j) (length rs) c.args.step c.call-outcome.result.reply
-    c.call-outcome.result.position ∷ []) in
-    received _ _ _ c.call-outcome.result.position rs _ _ _ c.self.view_is stored more
+    (λ j. rs ++ receipt (c.self.invariant.seat j) (length rs) c.args.step c.call-outcome.result.reply (sym at j) ∷
+    []) in
+    received _ _ _ c.in-Some-stored.stored.position rs _ _ _ c.self.view_is stored more
 
 pub invariant_of-self-2 : goal.invariant_of-self-2
 invariant_of-self-2 g c =
@@ -29,18 +32,22 @@ invariant_of-self-2 g c =
     let rs = (seat_in c.self.inside.token.me.0).receipts in
     let st = c.args.step in
     let r = c.call-outcome.result.reply in
-    let stored = sym c.was_stored.ensures ∙ c.if-not-was_stored.false in
-    let x : Receipt = receipt (seat_in c.self.inside.token.me.0).seat (length rs) st r c.call-outcome.result.position in
+    let told = told_of _ _ _ _ (sym c.call-outcome.ensures.stored ∙ c.in-Some-stored.is) in
+    let stored = told.0 in
+    let x : Receipt = receipt (seat_in c.self.inside.token.me.0).seat (length rs) st r
+    c.in-Some-stored.stored.position in
     let me = where_true _ _ _ stored c.call-outcome.ensures.token in
+    let at = ap (λ (y : Stored). y.position) told.1 in
     let more : (seat_in c.call-outcome.new.token.me.0).receipts ≡ rs ++ x ∷ [] =
-    ap (λ (m : Me ℕ View). (seat_in m.0).receipts) me in
+    ap (λ (m : Me ℕ View). (seat_in m.0).receipts) me ∙
+    (λ j. rs ++ receipt (seat_in c.self.inside.token.me.0).seat (length rs) st r (sym at j) ∷ []) in
     let was : rs ≡ c.args.self.now.receipts = ap (λ (s : SeatState). s.receipts) c.self.view_is in
     let gone : c.self.inside.let_go ≡ c.args.self.now.let_go = ap (λ (s : SeatState). s.let_go) c.self.view_is in
     let may : IsAllowed c.self.inside.open_now st = subst (λ (o : Option ℕ). IsAllowed o st)
     (ap open_of (sym was) ∙ sym i.open_tx) c.requires.may in
     let few : (end_of st ≡ None) → vec_len old < 1000000 = λ e. let f = c.requires.room e in
     omega (arith, ap (λ (l : List Receipt). length l) was, gone, i.count) in
-    let done : c.call-outcome.result.change ≡ change st r = c.call-outcome.ensures.change stored in
+    let done : c.in-Some-stored.stored.change ≡ change st r = ap (λ (x : Stored). x.change) told.1 in
     let now : c.open_after-self-inside.result ≡ open_after c.self.inside.open_now (change st r) =
     c.open_after-self-inside.ensures ∙ ap (open_after c.self.inside.open_now) done in
     let p = c.push_reserved.ensures in

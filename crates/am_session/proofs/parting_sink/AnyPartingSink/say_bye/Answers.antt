@@ -1,9 +1,6 @@
-use Rattle.am_dialogue.specs.Responses.{bye}
-use Rattle.am_session.proofs.Streams.{gave_whole}
+use Rattle.am_stream.proofs.Streams.{wrote_flushed}
 use Rattle.am_session.proofs.parting_sink.AnyPartingSink.say_bye.Goals as goal
-use Rattle.am_record.proofs.Outcomes.{OnErr-from}
 
-pub returns-clause-torn : goal.returns-clause-torn
-returns-clause-torn g c = OnErr-from c.flush.result
-    (gave_whole g.K.Sink.holds c.args.self.now c.give_all.new.sink c.flush.new.self bye c.in_ok-give_all.ensures.given
-    c.flush.ensures.kept)
+pub returns-clause-wrote : goal.returns-clause-wrote
+returns-clause-wrote g c = wrote_flushed c.flush.result c.in_ok-give_all.ensures.wrote c.flush.ensures.kept
+    c.flush.ensures.ok c.flush.ensures.failed

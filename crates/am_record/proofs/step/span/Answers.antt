@@ -2,7 +2,7 @@ use Rattle.std.proofs.Common.{IsSome, sym, ap, ◌∙◌, subst}
 use Rattle.std.specs.Option.{option_copied}
 use Rattle.std.proofs.lemmas.Bool.{false≢true}
 use Rattle.am_record.proofs.Spans.{ordered, spanned}
-use Rattle.am_record.proofs.admission.span.Goals as goal
+use Rattle.am_record.proofs.step.span.Goals as goal
 
 pub unreachable-requires-in_default-new : goal.unreachable-requires-in_default-new
 unreachable-requires-in_default-new c =
