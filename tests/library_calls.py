@@ -93,19 +93,19 @@ def keys_of_number(rng: random.Random, number: int, count: int) -> List[bytes]:
 
 
 def load_one_by_one(store: tiuvrokk.Store, keys: List[bytes]) -> float:
-    """Loads a run of one record for each key, and tells the seconds."""
-    began = time.perf_counter()
+    """Loads a run of one record for each key, and tells the seconds of processor, so that what runs beside counts for little."""
+    began = time.process_time()
     for at in range(0, len(keys), 4000):
         with store.transaction() as tx:
             tx.lock(b"", LAST, exclusive=True)
             assert tx.load(((key, b"1") for key in keys[at : at + 4000]), run=1) == len(keys[at : at + 4000])
-    return time.perf_counter() - began
+    return time.process_time() - began
 
 
 def seconds_of_loads(keys: List[bytes]) -> float:
-    """The seconds of such loads into a new store, the less of two tries."""
+    """The seconds of such loads into a new store, the least of three tries."""
     seconds = []
-    for _ in range(2):
+    for _ in range(3):
         with tiuvrokk.Store() as store:
             seconds.append(load_one_by_one(store, keys))
     return min(seconds)
@@ -135,13 +135,13 @@ def many_loads(rng: random.Random) -> None:
 
 
 def seconds_of_looks(store: tiuvrokk.Store, key: bytes) -> float:
-    """The seconds of 2,000 looks for a key that has no record, the least of five tries."""
+    """The seconds of processor of 2,000 looks for a key that has no record, the least of five tries."""
     seconds = []
     for _ in range(5):
         with store.transaction() as tx:
-            began = time.perf_counter()
+            began = time.process_time()
             assert all(tx.get(key) is None for _ in range(2000))
-            seconds.append(time.perf_counter() - began)
+            seconds.append(time.process_time() - began)
     return min(seconds)
 
 
