@@ -72,6 +72,21 @@ fn savepoints_are_nested(rt: HostRuntime) {
     answers(&rt, rt.alloc(), &ops, 6, &expected);
 }
 
+#[test]
+fn a_value_that_changed_twice_goes_back_to_the_mark(rt: HostRuntime) {
+    let a = key(&rt, b"a");
+    let (one, two, three) = (value(&rt, b"1"), value(&rt, b"2"), value(&rt, b"3"));
+    let ops = [
+        Op::Insert(a, one),
+        Op::Mark,
+        Op::Replace(a, two),
+        Op::Replace(a, three),
+        Op::Back,
+        Op::Get(a),
+    ];
+    answers(&rt, rt.alloc(), &ops, 5, &[Reply::Found(one)]);
+}
+
 fn is_answered(rt: &impl Abort, plain: &mut Plain, op: Op, reply: Reply) {
     assert!(rt; plain.answer(&op) == Ok(reply));
 }
