@@ -103,7 +103,7 @@ def load_one_by_one(store: tiuvrokk.Store, keys: List[bytes]) -> float:
 
 
 def seconds_of_loads(keys: List[bytes]) -> float:
-    """The seconds of such loads into a new store, the least of three tries."""
+    """The seconds of processor of such loads into a new store, the least of three tries."""
     seconds = []
     for _ in range(3):
         with tiuvrokk.Store() as store:
