@@ -2,18 +2,19 @@
 
 use am_record::{Reply, Step};
 use am_session::{Backend, End, serve};
-use am_stream::{PieceSource, StopSink};
+use am_stream::{Failed, PieceSource, Sink, StopSink};
 use std::sync::Wait;
+use std::sync::atomic::{AtomicU64, Ordering};
 use std::test::Fail;
 
-/// A store that begins and ends transactions, and notes how the last one ended.
+/// A store that begins and ends transactions, and counts those that it aborted.
 #[derive(Drop)]
-struct Noting {
+struct Noting<'a> {
     active: Option<u64>,
-    aborts: u64,
+    aborts: &'a AtomicU64,
 }
 
-impl Backend for Noting {
+impl<'a> Backend for Noting<'a> {
     ghost means = { record {
       active = λ b. b.active;
       steps = λ _ _ _ _. Unit {0};
@@ -32,7 +33,7 @@ impl Backend for Noting {
             }
             Step::Abort(_) => {
                 self.active = None;
-                self.aborts = self.aborts.saturating_add(1);
+                self.aborts.fetch_add(1, Ordering::SeqCst);
                 Reply::Aborted
             }
             Step::Do(_, _) => Reply::Done,
@@ -51,14 +52,61 @@ impl Backend for Noting {
 fn what_is_active_is_aborted(rt: HostRuntime) -> Result<(), Fail> {
     let lines = b"BEGIN\nGET 5\n".as_slice();
     for call in 0..=4 {
+        let aborts = AtomicU64::new(0);
         let mut backend = Noting {
             active: None,
-            aborts: 0,
+            aborts: &aborts,
         };
         let mut source = PieceSource::new(lines, &[], 0);
         let mut sink = StopSink::new(rt.alloc(), call);
         let end = serve(&rt, rt.alloc(), &mut source, &mut sink, &mut backend, 0);
-        assert!(rt; end == End::NoMemory || backend.aborts == 1);
+        assert!(rt; end == End::NoMemory || aborts.load(Ordering::SeqCst) == 1);
     }
+    Ok(())
+}
+
+/// A sink that notes how many transactions were aborted when BYE was said.
+#[derive(Drop)]
+struct Parting<'a> {
+    aborts: &'a AtomicU64,
+    at_bye: Option<u64>,
+}
+
+impl<'a> Sink for Parting<'a> {
+    ghost use Rattle.std.specs.Prelude.{None, false};
+
+    ghost holds = { λ _. None };
+
+    ghost failures = { λ _. 0 };
+
+    ghost pending = { λ _. false };
+
+    fn give(&mut self, piece: &[u8]) -> Result<usize, Failed> {
+        if piece.starts_with(b"BYE") {
+            self.at_bye = Some(self.aborts.load(Ordering::SeqCst));
+        }
+        Ok(piece.len())
+    }
+
+    fn flush(&mut self) -> Result<(), Failed> {
+        Ok(())
+    }
+}
+
+// Who reads BYE knows that nothing is active any more.
+#[test]
+fn what_is_active_is_aborted_before_bye(rt: HostRuntime) -> Result<(), Fail> {
+    let aborts = AtomicU64::new(0);
+    let mut backend = Noting {
+        active: None,
+        aborts: &aborts,
+    };
+    let mut source = PieceSource::new(b"BEGIN\nQUIT\n".as_slice(), &[], 0);
+    let mut sink = Parting {
+        aborts: &aborts,
+        at_bye: None,
+    };
+    let end = serve(&rt, rt.alloc(), &mut source, &mut sink, &mut backend, 0);
+    assert!(rt; end == End::Quit && sink.at_bye == Some(1));
     Ok(())
 }
