@@ -8,9 +8,10 @@ ghost use Rattle.am_core.specs.OperationSteps.{IsDone, LeavesAlone};
 ghost use Rattle.am_record.specs.declared.step.Op.TheVariants.{Load};
 
 use am_index::PartIndex;
+use am_loads::load;
 use am_parts::Parts;
 use am_record::{NoMemory, Records, Reply};
-use am_runs::{Run, load};
+use am_runs::Run;
 use am_undo::{Note, UndoLog};
 
 /// Makes the pairs a new run, where none of them is live.

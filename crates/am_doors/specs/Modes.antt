@@ -1,7 +1,7 @@
 -- What the mode of a server says of its seats and workers.
 use Rattle.std.specs.Prelude.{ℕ, Bool, true, false}
-use Rattle.am_workers.specs.declared.upkeep.Upkeep.{Upkeep}
-use Rattle.am_workers.specs.declared.upkeep.Upkeep.TheVariants.{MergeOnly, MergeAndClean}
+use Rattle.am_turns.specs.declared.upkeep.Upkeep.{Upkeep}
+use Rattle.am_turns.specs.declared.upkeep.Upkeep.TheVariants.{MergeOnly, MergeAndClean}
 use Rattle.am_doors.specs.declared.mode.Mode.{Mode}
 use Rattle.am_doors.specs.declared.mode.Mode.TheVariants.{Bounded, Staying}
 

@@ -3,7 +3,7 @@
 ghost use Rattle.std.specs.Prelude.{◌≡◌};
 ghost use Rattle.am_doors.specs.Modes.{most_sessions, most_turns, stays, upkeep_of};
 
-use am_workers::Upkeep;
+use am_turns::Upkeep;
 
 /// Whether a server serves so many connections and ends, or stays until it is stopped.
 #[derive(Clone, Copy, Debug, PartialEq, Eq)]

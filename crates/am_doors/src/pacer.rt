@@ -4,7 +4,7 @@ ghost use Rattle.std.specs.Prelude.{◌≡◌, ◌+◌, min};
 ghost use Rattle.am_doors.specs.Gates.{next_of};
 
 use crate::rounds::Rounds;
-use am_workers::Pacer;
+use am_turns::Pacer;
 use std::sync::Wait;
 use std::sync::atomic::{AtomicU64, Ordering};
 

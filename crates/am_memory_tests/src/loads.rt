@@ -5,9 +5,10 @@ ghost use Rattle.am_index.specs.Runs.{NothingAbove};
 
 use crate::fault::{Fault, expect, expect_unchanged};
 use am_list_index::ListIndex;
+use am_loads::load;
 use am_parts::Parts;
 use am_record::{Entry, HashKey, Key, NoMemory, Records, Refusal, Reply, Value};
-use am_runs::{Cut, LoadFault, Run, cut_runs, cut_source, load};
+use am_runs::{Cut, LoadFault, Run, cut_runs, cut_source};
 use std::alloc::Global;
 
 /// How many records make a run.

@@ -7,10 +7,3 @@ pub mod Pieces
 pub mod GroupOrders
 pub mod Repeats
 pub mod Apart
-pub mod LeastTaken
-pub mod LoadProgress
-pub mod PartedRecords
-pub mod Beginnings
-pub mod PassedEntries
-pub mod LeastLive
-pub mod PartitionWalks

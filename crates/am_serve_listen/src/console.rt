@@ -1,11 +1,10 @@
 //! What a server that stays says on standard error while it runs.
 
-use crate::fault::ListenFault;
-use crate::outbox::Outbox;
 use am_command::Listening;
 use am_doors::SessionCounts;
 use am_parts::Figures;
 use am_server::{Counts, Watcher};
+use am_trace_file::{ListenFault, Outbox};
 use am_trace_writer::{EventCounts, TraceCounts};
 use std::io;
 use std::rt::Clock;

@@ -4,16 +4,11 @@
 ghost use Rattle.std.specs.Prelude.{◌≤◌};
 
 mod console;
-mod fault;
-mod growing_file;
-mod outbox;
 mod port;
-mod trace_file;
 
 use am_command::{Options, OptionsFault, options, words};
 use am_stack::hold_stack;
-use fault::ListenFault;
-use outbox::Outbox;
+use am_trace_file::{ListenFault, Outbox};
 use port::{Opened, close, make_ready, serve, stop_at_word};
 use std::process::ExitCode;
 use std::{io, thread};

@@ -5,14 +5,11 @@
 ghost use Rattle.std.specs.Prelude.{◌≤◌};
 
 use crate::console::Console;
-use crate::fault::ListenFault;
-use crate::growing_file::GrowingFile;
-use crate::outbox::{Outbox, Sending};
-use crate::trace_file::TraceFile;
 use am_command::Listening;
 use am_doors::Mode;
 use am_server::{BindFault, Keeping, PortListener, Watcher, bind};
 use am_session::draw_hash_key;
+use am_trace_file::{GrowingFile, ListenFault, Outbox, Sending, TraceFile};
 use am_trace_writer::{LetGo, PieceTaker, TraceWriter};
 use std::fs::File;
 use std::io::{BufRead, BufReader};

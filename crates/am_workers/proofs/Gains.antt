@@ -18,8 +18,8 @@ use Rattle.am_engine.specs.Changes.{change, is_stored, open_after}
 use Rattle.am_latch.specs.Receipts.{SeatState, receipt, moved_in, GetsReceipt, HasReceiptOf}
 use Rattle.am_latch.specs.Ties.{open_of}
 use Rattle.am_latch.proofs.SeatTransactions.{open_from-snoc}
-use Rattle.am_workers.specs.declared.upkeep.Upkeep.{Upkeep}
-use Rattle.am_workers.specs.declared.upkeep.Upkeep.TheVariants.{MergeAndClean}
+use Rattle.am_turns.specs.declared.upkeep.Upkeep.{Upkeep}
+use Rattle.am_turns.specs.declared.upkeep.Upkeep.TheVariants.{MergeAndClean}
 use Rattle.am_workers.specs.declared.clean_turn.Place.{Place}
 use Rattle.am_workers.specs.Turns.{IsTurn, AreOfTurns, HasTakenTurns, all_moved}
 use Rattle.am_workers.specs.CleanTurns.{HasCleaned}

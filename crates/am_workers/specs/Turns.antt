@@ -7,8 +7,8 @@ use Rattle.am_record.specs.declared.step.Step.TheVariants.{Merge, Clean}
 use Rattle.am_latch.specs.declared.receipt.Receipt.{Receipt}
 use Rattle.am_latch.specs.Receipts.{SeatState, moved_in}
 use Rattle.am_latch.specs.Ties.{open_of}
-use Rattle.am_workers.specs.declared.upkeep.Upkeep.{Upkeep}
-use Rattle.am_workers.specs.declared.upkeep.Upkeep.TheVariants.{MergeAndClean}
+use Rattle.am_turns.specs.declared.upkeep.Upkeep.{Upkeep}
+use Rattle.am_turns.specs.declared.upkeep.Upkeep.TheVariants.{MergeAndClean}
 
 -- The receipts of one turn: that of Merge(limit). Where the worker cleans, that of a Clean of at most 64 may stand
 -- right behind it, if nothing was left to merge.

@@ -7,8 +7,8 @@ use Rattle.am_record.specs.declared.step.Reply.TheVariants.{Idle}
 use Rattle.am_latch.specs.Receipts.{SeatState, HasReceiptOf}
 use Rattle.am_workers.specs.CleanTurns.{HasCleaned}
 use Rattle.am_workers.specs.declared.clean_turn.Place.{Place}
-use Rattle.am_workers.specs.declared.upkeep.Upkeep.{Upkeep}
-use Rattle.am_workers.specs.declared.upkeep.Upkeep.TheVariants.{MergeAndClean}
+use Rattle.am_turns.specs.declared.upkeep.Upkeep.{Upkeep}
+use Rattle.am_turns.specs.declared.upkeep.Upkeep.TheVariants.{MergeAndClean}
 
 -- the receipts of former turns are let go, unless 10^14 were
 pub record HasLetGo (s t : SeatState) : Type 0 where

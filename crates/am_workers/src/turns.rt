@@ -6,10 +6,9 @@ ghost use Rattle.am_workers.specs.WorkerTurns.{may_clean, TakesTurn, TakesTurns}
 ghost use Rattle.am_workers.specs.declared.clean_turn.Place.{Place};
 
 use crate::clean_turn::{Place, clean};
-use crate::pacer::Pacer;
-use crate::upkeep::Upkeep;
 use am_latch::{Latch, LatchName, Seat};
 use am_record::{Refusal, Reply, Step};
+use am_turns::{Pacer, Upkeep};
 use std::sync::Wait;
 
 /// Takes a worker's turns.

@@ -4,10 +4,9 @@ ghost use Rattle.std.specs.Prelude.{◌≡◌, ◌+◌, ◌≤◌, length};
 ghost use Rattle.std.specs.List.{AllZip};
 ghost use Rattle.am_workers.specs.Turns.{HasTakenTurns, all_moved};
 
-use crate::pacer::Pacer;
 use crate::turns::take_turns;
-use crate::upkeep::Upkeep;
 use am_latch::{Latch, LatchName, MAX_SEATS, Seat};
+use am_turns::{Pacer, Upkeep};
 use std::sync::Wait;
 use std::thread;
 use std::thread::Threads;

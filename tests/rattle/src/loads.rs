@@ -2,9 +2,10 @@
 
 use crate::entries::{byte, dead, live};
 use am_list_index::ListIndex;
+use am_loads::load;
 use am_parts::Parts;
 use am_record::{Entry, HashKey, Key, MAX_RUNS, NoMemory, Refusal, Reply, Value};
-use am_runs::{LoadFault, Run, cut_runs, load};
+use am_runs::{LoadFault, Run, cut_runs};
 use std::alloc::Global;
 use std::process::Abort;
 

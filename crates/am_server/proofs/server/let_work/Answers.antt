@@ -1,6 +1,6 @@
 use Rattle.std.proofs.Common.{ℕ, subst}
 use Rattle.std.specs.List.{AllZip}
-use Rattle.am_workers.specs.declared.upkeep.Upkeep.{Upkeep}
+use Rattle.am_turns.specs.declared.upkeep.Upkeep.{Upkeep}
 use Rattle.am_workers.specs.Turns.{HasTakenTurns}
 use Rattle.am_doors.specs.Modes.{upkeep_of}
 use Rattle.am_server.proofs.server.let_work.Goals as goal

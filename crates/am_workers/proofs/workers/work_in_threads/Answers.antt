@@ -7,8 +7,8 @@ use Rattle.am_latch.proofs.Crosses.{latch_sync}
 use Rattle.am_latch.specs.contracts.latch.Latch as Latch
 use Rattle.am_workers.proofs.Crosses.{captures_sync}
 use Rattle.am_workers.proofs.Gains.{all_turned}
-use Rattle.am_workers.proofs.upkeep.Upkeep.TheSendSync as upkeep
-use Rattle.am_workers.specs.contracts.upkeep.Upkeep as Upkeep
+use Rattle.am_turns.proofs.upkeep.Upkeep.TheSendSync as upkeep
+use Rattle.am_turns.specs.contracts.upkeep.Upkeep as Upkeep
 use Rattle.am_workers.proofs.workers.work_in_threads.Goals as goal
 
 pub for_each_mut-requires-sync-F : goal.for_each_mut-requires-sync-F

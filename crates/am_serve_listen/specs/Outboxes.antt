@@ -1,9 +1,0 @@
--- What is known of the way of a trace to its file.
-use Rattle.std.specs.Prelude.{ℕ, Bool}
-use Rattle.am_serve_listen.specs.declared.outbox.Sending.{Sending}
-
-abbrev pub sending_failures : {R : Type 0} → Sending R → ℕ
-sending_failures s = s.failures
-
-abbrev pub is_unsent : {R : Type 0} → Sending R → Bool
-is_unsent s = s.is_pending

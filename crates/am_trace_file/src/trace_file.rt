@@ -1,0 +1,168 @@
+//! The file that gets the trace.
+
+use crate::fault::ListenFault;
+use crate::growing_file::say_why;
+use std::fs::{File, Metadata, OpenFile, OpenOptions};
+use std::io::ErrorKind;
+use std::rt::Files;
+use std::{fs, io};
+
+/// So many names are tried for what is written beside a file.
+const MOST_NAMES: u32 = 1000;
+
+/// A file that gets the trace.
+#[derive(Drop)]
+pub struct TraceFile {
+    path: String,
+    // What is written while the server runs, and gets the file's name at the end, so that no file is left half written.
+    // None where the file itself is written: one that grows, and what is no plain file, as a device or a pipe.
+    part: Option<String>,
+}
+
+impl TraceFile {
+    /// Opens the file itself, which grows. What it had is still there.
+    pub fn open_growing<R: AllocGlobal + Files<File = File>>(
+        rt: &R,
+        path: &str,
+    ) -> Result<(TraceFile, File), ListenFault> {
+        let named = TraceFile::of(rt, path, None)?;
+        match grow(rt, path) {
+            Ok(file) => Ok((named, file)),
+            Err(_) => Err(ListenFault::CannotWriteTrace),
+        }
+    }
+
+    /// Does the same, and says why where it can't be done.
+    pub fn open_or_say<R: AllocGlobal + Files<File = File> + Eprint>(
+        rt: &R,
+        path: &str,
+    ) -> Result<(TraceFile, File), ListenFault> {
+        let named = TraceFile::of(rt, path, None)?;
+        match grow(rt, path) {
+            Ok(file) => Ok((named, file)),
+            Err(fault) => {
+                say_why(rt, path, &fault);
+                Err(ListenFault::CannotWriteTrace)
+            }
+        }
+    }
+
+    /// Opens a file beside it, with a name that nobody has, for what will have its name at the end. Where it is a link,
+    /// that is done to the file that it leads to.
+    pub fn open_beside<R: AllocGlobal + Files<File = File>>(
+        rt: &R,
+        path: &str,
+    ) -> Result<(TraceFile, File), ListenFault> {
+        match fs::symlink_metadata(rt, path) {
+            Ok(found) if found.is_symlink() => {
+                let Ok(target) = fs::canonicalize(rt, path) else {
+                    return Err(ListenFault::CannotWriteTrace);
+                };
+                TraceFile::open_at(rt, target.as_str())
+            }
+            _ => TraceFile::open_at(rt, path),
+        }
+    }
+
+    // The same of what is no link.
+    fn open_at<R: AllocGlobal + Files<File = File>>(
+        rt: &R,
+        path: &str,
+    ) -> Result<(TraceFile, File), ListenFault> {
+        match fs::metadata(rt, path) {
+            Ok(found) if found.is_dir() => Err(ListenFault::CannotWriteTrace),
+            Ok(found) if !found.is_file() => TraceFile::open_growing(rt, path),
+            Ok(found) => TraceFile::create_beside(rt, path, Some(&found)),
+            Err(_) => TraceFile::create_beside(rt, path, None),
+        }
+    }
+
+    // A new file beside the path, which may be read and written as what was found there.
+    fn create_beside<R: AllocGlobal + Files<File = File>>(
+        rt: &R,
+        path: &str,
+        found: Option<&Metadata>,
+    ) -> Result<(TraceFile, File), ListenFault> {
+        for number in 1..MOST_NAMES {
+            let name = name_beside(rt, path, number)?;
+            let named = TraceFile::of(rt, path, Some(name))?;
+            match create_new(rt, named.first_place(), found) {
+                Ok(file) => return Ok((named, file)),
+                Err(fault) if fault.kind() == ErrorKind::AlreadyExists => {}
+                Err(_) => return Err(ListenFault::CannotWriteTrace),
+            }
+        }
+        Err(ListenFault::CannotWriteTrace)
+    }
+
+    fn of<R: AllocGlobal>(
+        rt: &R,
+        path: &str,
+        part: Option<String>,
+    ) -> Result<TraceFile, ListenFault> {
+        let path = String::from_str(rt.alloc(), path).map_err(|_| ListenFault::NoMemory)?;
+        Ok(TraceFile { path, part })
+    }
+
+    // Where the text is written first.
+    fn first_place(&self) -> &str {
+        match &self.part {
+            Some(name) => name.as_str(),
+            None => self.path.as_str(),
+        }
+    }
+
+    /// Gives what was written the file's name. Where that can't be done, the file is as it was. In a frame of its own:
+    /// the two names take 8 KB.
+    #[inline(never)]
+    pub fn keep<R: Files>(&self, rt: &R) -> Result<(), ListenFault> {
+        let Some(name) = &self.part else {
+            return Ok(());
+        };
+        fs::rename(rt, name.as_str(), self.path.as_str()).map_err(|_| {
+            self.forget(rt);
+            ListenFault::CannotWriteTrace
+        })
+    }
+
+    /// Removes what stands beside the file.
+    pub fn forget<R: Files>(&self, rt: &R) {
+        if let Some(name) = &self.part {
+            let _ = fs::remove_file(rt, name.as_str());
+        }
+    }
+}
+
+// The file itself, which needn't be there yet.
+fn grow<R: Files<File = File>>(rt: &R, path: &str) -> io::Result<File> {
+    OpenOptions::new().write(true).create(true).open(rt, path)
+}
+
+// A name beside the path: the first one with no number.
+fn name_beside<R: AllocGlobal>(rt: &R, path: &str, number: u32) -> Result<String, ListenFault> {
+    let name = if number == 1 {
+        format!(in rt.alloc(); "{path}.part")
+    } else {
+        format!(in rt.alloc(); "{path}.{number}.part")
+    };
+    name.map_err(|_| ListenFault::NoMemory)
+}
+
+// A file of that name, where there is none.
+fn create_new<R: Files<File = File>>(
+    rt: &R,
+    name: &str,
+    found: Option<&Metadata>,
+) -> io::Result<File> {
+    let file = OpenOptions::new()
+        .write(true)
+        .create_new(true)
+        .open(rt, name)?;
+    if let Some(found) = found
+        && let Err(fault) = file.set_permissions(found.permissions())
+    {
+        let _ = fs::remove_file(rt, name);
+        return Err(fault);
+    }
+    Ok(file)
+}
