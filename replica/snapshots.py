@@ -91,8 +91,16 @@ async def put_pieces(log: Log, floor: Event, name: str, pieces: List[bytes]) -> 
         if log.floor is not floor:
             return None
         if not found or decoded(found[0].get("value", "")) != piece:
-            raise StoreEnded("a piece of a snapshot isn't as it was written")
+            if await is_newest(log, floor):
+                raise StoreEnded("a piece of a snapshot isn't as it was written")
+            return None
     return [hashlib.sha256(piece).hexdigest() for piece in pieces]
+
+
+async def is_newest(log: Log, floor: Event) -> bool:
+    """Whether the cluster has no later floor. Who moves it lets go all other pieces, and that may be seen before it is heard of."""
+    kvs = (await log.etcd.get(floor.key)).get("kvs")
+    return floor.revision == (int(kvs[0]["mod_revision"]) if kvs else 0)
 
 
 async def move_floor(log: Log, floor: Event, generation: int, snapshot: Snapshot, sums: List[str]) -> None:

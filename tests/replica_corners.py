@@ -7,6 +7,7 @@ import os
 import signal
 import threading
 import time
+from types import SimpleNamespace
 from typing import Any, Callable, Dict, List, Tuple
 
 from cluster import STORE, Client, Cluster, until
@@ -14,6 +15,9 @@ from replica_ends import largest_block
 from support import fail, wanted
 
 from replica.etcd import Etcd, Refused, decoded, encoded
+from replica.log import Event
+from replica.snapshots import put_pieces
+from replica.store import StoreEnded
 
 NAME = "corners"
 LIMIT = 60
@@ -310,6 +314,32 @@ def ended_store(cluster: Cluster) -> None:
     wanted("the others", [sees(cluster, at, keys[-1]) for at in (1, 2)], [f"VAL {value}"] * 2)
 
 
+class WithoutPieces:
+    """A cluster that has let go all pieces of snapshots, and whose floor was put at that revision."""
+
+    def __init__(self, floor: int) -> None:
+        self.floor = floor
+
+    async def must(self, _path: str, _message: Dict[str, Any]) -> Dict[str, Any]:
+        return {}
+
+    async def get(self, key: str) -> Dict[str, Any]:
+        return {"kvs": [{"mod_revision": str(self.floor)}]} if key == f"{NAME}/floor" else {}
+
+
+def piece_let_go() -> None:
+    """A piece of a snapshot is gone where another one came first, of which was not heard yet. Else the store ends."""
+    def put(newest: int) -> str:
+        log: Any = SimpleNamespace(name=NAME, floor=Event(5, f"{NAME}/floor", ""), etcd=WithoutPieces(newest))
+        try:
+            return str(asyncio.run(put_pieces(log, log.floor, "mine", [b"piece"])))
+        except StoreEnded:
+            return "ended"
+
+    wanted("a piece that a later snapshot let go", put(6), "None")
+    wanted("a piece that nobody let go", put(5), "ended")
+
+
 def all_corners(cluster: Cluster) -> None:
     """Each of them, on one log."""
     for at in range(3):
@@ -326,6 +356,7 @@ def all_corners(cluster: Cluster) -> None:
         ("many runs", lambda: many_runs(one)),
         ("large answers", lambda: large_answers(one)),
         ("puts again", lambda: puts_again(cluster, one, two)),
+        ("a piece that is gone", piece_let_go),
         ("slept", lambda: slept(cluster, 1)),
         ("slept longer", lambda: slept(cluster, 3)),
         ("no majority", lambda: no_majority(cluster)),
