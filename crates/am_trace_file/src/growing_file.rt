@@ -23,6 +23,9 @@ impl GrowingFile {
     }
 
     /// Writes a piece behind the others.
+    ///
+    /// # Errors
+    /// Failed, where it could not be written whole.
     pub fn write<R: Eprint>(&mut self, rt: &R, piece: &[u8]) -> Result<(), Failed> {
         if let Err(fault) = self.file.write_all(piece) {
             let _ = self.file.set_len(self.len);
@@ -38,6 +41,6 @@ impl GrowingFile {
 }
 
 /// Says why a file can't be written.
-pub fn say_why<R: Eprint>(rt: &R, name: &str, fault: &io::Error) {
+pub(crate) fn say_why<R: Eprint>(rt: &R, name: &str, fault: &io::Error) {
     let _ = eprintln!(rt; "amserve: {name}: {fault}");
 }

@@ -2,8 +2,8 @@
 //!
 //! So a file that takes long holds up nobody but that thread, and what waits for it is text.
 
-ghost use Rattle.std.specs.Prelude.{◌≡◌};
-ghost use Rattle.am_trace_file.specs.Outboxes.{sending_failures};
+ghost use Rattle.std.specs.Prelude.{◌≡◌, false};
+ghost use Rattle.am_trace_file.specs.Outboxes.{sending_failures, is_unsent};
 
 use crate::growing_file::GrowingFile;
 use am_stream::{Failed, Sink};
@@ -163,8 +163,10 @@ pub struct Sending<'a, R> {
 }
 
 impl<'a, R> Sending<'a, R> {
+    /// A sink that has taken nothing yet.
     pub fn new(rt: &'a R, outbox: &'a Outbox) -> Sending<'a, R>
-        ensures { sending_failures result ≡ 0 }
+        ensures failures { sending_failures result ≡ 0 }
+        ensures sent { is_unsent result ≡ false }
     {
         Sending {
             rt,
@@ -177,7 +179,6 @@ impl<'a, R> Sending<'a, R> {
 
 impl<'a, R: Eprint + Wait> Sink for Sending<'a, R> {
     ghost use Rattle.std.specs.Prelude.{None};
-    ghost use Rattle.am_trace_file.specs.Outboxes.{sending_failures, is_unsent};
 
     ghost holds = { λ _. None };
 

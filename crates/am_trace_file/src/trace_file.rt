@@ -20,8 +20,8 @@ pub struct TraceFile {
 }
 
 impl TraceFile {
-    /// Opens the file itself, which grows. What it had is still there.
-    pub fn open_growing<R: AllocGlobal + Files<File = File>>(
+    // Opens the file itself, which grows. What it had is still there.
+    fn open_growing<R: AllocGlobal + Files<File = File>>(
         rt: &R,
         path: &str,
     ) -> Result<(TraceFile, File), ListenFault> {
@@ -32,7 +32,10 @@ impl TraceFile {
         }
     }
 
-    /// Does the same, and says why where it can't be done.
+    /// Opens the file itself, which grows, and says why where that can't be done. What it had is still there.
+    ///
+    /// # Errors
+    /// CannotWriteTrace, where the system refuses it; NoMemory, where memory was refused.
     pub fn open_or_say<R: AllocGlobal + Files<File = File> + Eprint>(
         rt: &R,
         path: &str,
@@ -49,6 +52,9 @@ impl TraceFile {
 
     /// Opens a file beside it, with a name that nobody has, for what will have its name at the end. Where it is a link,
     /// that is done to the file that it leads to.
+    ///
+    /// # Errors
+    /// CannotWriteTrace, where the system refuses it, or for a folder; NoMemory, where memory was refused.
     pub fn open_beside<R: AllocGlobal + Files<File = File>>(
         rt: &R,
         path: &str,
@@ -114,6 +120,9 @@ impl TraceFile {
 
     /// Gives what was written the file's name. Where that can't be done, the file is as it was. In a frame of its own:
     /// the two names take 8 KB.
+    ///
+    /// # Errors
+    /// CannotWriteTrace, where the system refuses the name; nothing is left beside the file then.
     #[inline(never)]
     pub fn keep<R: Files>(&self, rt: &R) -> Result<(), ListenFault> {
         let Some(name) = &self.part else {

@@ -18,7 +18,6 @@ pub(crate) fn no_entries(alloc: Global) -> Parts<ListIndex> {
 }
 
 // Adds the entry, unless it is one of a run that wasn't made, its place is taken or a live one's key is live elsewhere.
-#[tactic(auto, using(am_runs::proofs::Loaded::above_lemmas))]
 fn add(parts: &mut Parts<ListIndex>, entry: Entry) -> Result<(), NoMemory> {
     if entry.part > parts.runs() || parts.find(entry.part, entry.key).is_some() {
         return Ok(());
@@ -327,7 +326,6 @@ fn runs_are_limited(rt: HostRuntime) {
 }
 
 // Counts runs with no entries until there are so many, or no more may be made.
-#[tactic(auto, using(am_runs::proofs::Loaded::above_lemmas))]
 fn make_runs(parts: &mut Parts<ListIndex>, count: u32) {
     while parts.runs() < count.min(MAX_RUNS) {
         parts.count_run();
