@@ -12,7 +12,8 @@ ghost use Rattle.am_auditor.specs.Judgements.{HasText};
 use am_audit::{Audit, Fault, FaultKind};
 use am_stream::{Failed, Sink, give_all};
 use am_text::Text;
-use am_trace_text::{ReadFault, read_header, read_line};
+use am_trace_read::{read_header, read_line};
+use am_trace_text::ReadFault;
 use std::alloc::Global;
 
 /// What is to be said of a text, or of one that can't be had.

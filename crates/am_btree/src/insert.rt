@@ -23,7 +23,7 @@ use std::alloc::{AllocError, Global};
 use std::mem;
 
 /// Why an entry isn't added.
-#[derive(Clone, Copy, Debug, PartialEq, Eq)]
+#[derive(Clone, Copy, Debug)]
 pub(crate) enum Obstacle {
     NoMemory,
     /// Its place is taken.

@@ -16,7 +16,7 @@ use am_record::{Entry, Key, NoMemory, Range, Value};
 const ROWS_AHEAD: usize = 128;
 
 /// Where a walk begins.
-#[derive(Clone, Copy, Debug)]
+#[derive(Clone, Copy)]
 pub(crate) enum Start {
     /// With the entry of the place, where there is one.
     At,

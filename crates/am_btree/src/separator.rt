@@ -14,7 +14,7 @@ const STEP: usize = 8;
 const LAST_PART: u32 = 65_535;
 
 /// The least place that a child may hold.
-#[derive(Clone, Copy, Debug)]
+#[derive(Clone, Copy)]
 pub(crate) struct Separator {
     pub(crate) part: u32,
     pub(crate) key: Key,

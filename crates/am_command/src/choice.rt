@@ -1,7 +1,7 @@
 //! What command lines ask for.
 
 /// The program that was asked for, with its numbers.
-#[derive(Debug, Clone, Copy, PartialEq, Eq)]
+#[derive(Clone, Copy, PartialEq, Eq)]
 pub enum Options<'a> {
     /// One session over standard input and output, on a store of its own. After each answer at most `auto` entries are
     /// merged; 0 to 64.
@@ -11,7 +11,7 @@ pub enum Options<'a> {
 }
 
 /// How sessions are listened for and served.
-#[derive(Debug, Clone, Copy, PartialEq, Eq)]
+#[derive(Clone, Copy, PartialEq, Eq)]
 pub struct Listening<'a> {
     /// The port to listen at; 0 for any that is free.
     pub port: u16,
@@ -37,7 +37,7 @@ pub struct Listening<'a> {
 }
 
 /// What `amaudit` is asked for.
-#[derive(Debug, Clone, Copy, PartialEq, Eq)]
+#[derive(Clone, Copy, PartialEq, Eq)]
 pub struct Audited<'a> {
     /// The file whose text is read, where one is named.
     pub file: Option<&'a str>,

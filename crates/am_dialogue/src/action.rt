@@ -4,7 +4,7 @@ use crate::response::Response;
 use am_record::Step;
 
 /// What is due for a line.
-#[derive(Debug, PartialEq, Eq, Drop)]
+#[derive(Drop)]
 pub enum Action {
     /// A response at once.
     Answer(Response),

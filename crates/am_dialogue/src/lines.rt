@@ -10,7 +10,7 @@ use am_wire::{Request, parse_line};
 use std::alloc::Global;
 
 /// What a line says.
-#[derive(Debug, PartialEq, Eq, Drop)]
+#[derive(Drop)]
 pub enum ParsedLine {
     Asked(Request),
     Faulty(LineFault),

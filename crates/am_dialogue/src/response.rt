@@ -11,7 +11,7 @@ use am_wire::put_reply;
 
 /// What a session writes for a line: a fault of the line, or of its place in the session, the reply to its step, or
 /// what SEEN tells.
-#[derive(Debug, PartialEq, Eq, Drop)]
+#[derive(Drop)]
 pub enum Response {
     TooLong,
     Faulty(LineFault),

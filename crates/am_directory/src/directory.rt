@@ -25,7 +25,7 @@ const SPARE: usize = 5;
 
 /// Tells in which run a key is live, by the key's number. It is a hash table with linear probing (Knuth, The Art of
 /// Computer Programming 3, 6.4), of a word for each label, the upper 47 bits of a number.
-#[derive(Debug, Drop)]
+#[derive(Drop)]
 pub struct Directory {
     words: Vec<u64>,
     empty: usize,

@@ -1,7 +1,7 @@
 //! What a directory tells.
 
 /// What is known of the keys of a label.
-#[derive(Clone, Copy, Debug, PartialEq, Eq)]
+#[derive(Clone, Copy, PartialEq, Eq)]
 pub enum Residence {
     /// None of them is live in a run.
     Nowhere,

@@ -2,8 +2,7 @@
 
 ghost use Rattle.std.specs.Prelude.{◌≡◌, IfOk};
 
-use am_record::NoMemory;
-use std::alloc::Global;
+use std::alloc::{AllocError, Global};
 use std::marker::Model;
 use std::net::{Shutdown, TcpStream};
 use std::sync::atomic::{AtomicBool, Ordering};
@@ -28,7 +27,7 @@ impl Model for Connections {
 }
 
 impl Connections {
-    pub(crate) fn new(alloc: Global, count: usize) -> Result<Connections, NoMemory>
+    pub(crate) fn new(alloc: Global, count: usize) -> Result<Connections, AllocError>
         ensures { IfOk result (λ connections. connections ≡ count) }
     {
         let mut places = Vec::with_capacity(alloc, count)?;

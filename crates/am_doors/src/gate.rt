@@ -8,8 +8,7 @@ use crate::mode::Mode;
 use crate::rounds::round_length;
 use crate::tally::Tally;
 use crate::waiting::{MOST_WAITING, WaitingRoom, turn_away};
-use am_record::NoMemory;
-use std::alloc::Global;
+use std::alloc::{AllocError, Global};
 use std::io::ErrorKind;
 use std::net::TcpStream;
 use std::rt::Clock;
@@ -84,7 +83,7 @@ impl<'a> Gate<'a> {
         door: &'a Door,
         is_stopped: &'a AtomicBool,
         mode: Mode,
-    ) -> Result<Gate<'a>, NoMemory>
+    ) -> Result<Gate<'a>, AllocError>
         ensures door { IfOk result (λ gate. gate.door ≡ door.entry) }
         ensures stop { IfOk result (λ gate. gate.is_stopped ≡ is_stopped.entry) }
         ensures mode { IfOk result (λ gate. gate.mode ≡ mode) }

@@ -8,8 +8,7 @@ use crate::gate::Gate;
 use crate::mode::Mode;
 use crate::pacer::MergePacer;
 use crate::tally::Tally;
-use am_record::NoMemory;
-use std::alloc::Global;
+use std::alloc::{AllocError, Global};
 use std::rt::Clock;
 use std::sync::atomic::{AtomicBool, Ordering};
 use std::sync::{Mutex, Wait};
@@ -81,7 +80,7 @@ impl<'a> House<'a> {
         sessions: u64,
         mode: Mode,
         idle: Option<Duration>,
-    ) -> Result<House<'a>, NoMemory>
+    ) -> Result<House<'a>, AllocError>
         requires { sessions ≤ 256 }
         ensures mode { IfOk result (λ house. house.mode ≡ mode) }
         ensures idle { IfOk result (λ house. house.idle ≡ idle) }

@@ -74,7 +74,7 @@ fn are_telling(bytes: &[u8]) -> bool
 }
 
 /// Where a connection stands.
-#[derive(Clone, Copy, Debug, PartialEq, Eq)]
+#[derive(Clone, Copy, PartialEq, Eq)]
 enum Stage {
     /// Its first line has not come yet.
     First,

@@ -6,7 +6,7 @@ ghost use Rattle.am_doors.specs.Modes.{most_sessions, most_turns, stays, upkeep_
 use am_turns::Upkeep;
 
 /// Whether a server serves so many connections and ends, or stays until it is stopped.
-#[derive(Clone, Copy, Debug, PartialEq, Eq)]
+#[derive(Clone, Copy, PartialEq, Eq)]
 pub enum Mode {
     /// Each seat serves one connection at most. After one that can't be accepted no further one is taken.
     Bounded,

@@ -37,7 +37,7 @@ pub struct Tally {
 }
 
 /// How many sessions a server had, and how many connections the system refused.
-#[derive(Clone, Copy, Debug, PartialEq, Eq)]
+#[derive(Clone, Copy, PartialEq, Eq)]
 pub struct SessionCounts {
     /// How many sessions began.
     pub begun: u64,

@@ -4,8 +4,7 @@ ghost use Rattle.std.specs.Prelude.{◌≡◌, ◌≤◌, ◌+◌, ◌++◌, ◌
 ghost use Rattle.std.specs.VecDeque.{deque_capacity, deque_len};
 ghost use Rattle.am_doors.specs.Waits.{due_of, gone_of, is_due, kept_of, left_of, oldest_of};
 
-use am_record::NoMemory;
-use std::alloc::Global;
+use std::alloc::{AllocError, Global};
 use std::collections::VecDeque;
 use std::io::{Read, Write};
 use std::net::{Shutdown, TcpStream};
@@ -44,7 +43,7 @@ pub(crate) struct WaitingRoom {
 
 impl WaitingRoom {
     /// Nobody waits. The room for all that ever do is got here.
-    pub(crate) fn new(alloc: Global) -> Result<WaitingRoom, NoMemory>
+    pub(crate) fn new(alloc: Global) -> Result<WaitingRoom, AllocError>
         ensures none { IfOk result (λ room. room.line.items ≡ []) }
         ensures round { IfOk result (λ room. room.round ≡ 0) }
     {

@@ -1,7 +1,7 @@
 //! Whose call it is.
 
 /// Whose call a pair of the trace is.
-#[derive(Clone, Copy, Debug, PartialEq, Eq)]
+#[derive(Clone, Copy, PartialEq, Eq)]
 pub struct CallId {
     pub seat: u64,
     pub call: u64,

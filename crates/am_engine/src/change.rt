@@ -6,7 +6,7 @@ ghost use Rattle.am_engine.specs.Changes.{change, end_of, is_begin, is_refused, 
 use am_record::{Refusal, Reply, Step};
 
 /// What a step with its reply does to the transactions.
-#[derive(Clone, Copy, Debug, PartialEq, Eq)]
+#[derive(Clone, Copy, PartialEq, Eq)]
 pub enum Change {
     Begins(u64),
     Ends(u64),
@@ -14,14 +14,14 @@ pub enum Change {
 }
 
 /// What came of a step: its reply, and where the two are stored, what is told of them.
-#[derive(Debug, Drop)]
+#[derive(Drop)]
 pub struct Outcome {
     pub reply: Reply,
     pub stored: Option<Stored>,
 }
 
 /// What a stored step did to the transactions, and where it stands in the trace.
-#[derive(Clone, Copy, Debug, PartialEq, Eq)]
+#[derive(Clone, Copy, PartialEq, Eq)]
 pub struct Stored {
     pub change: Change,
     pub position: u64,

@@ -19,7 +19,7 @@ use am_record::NoMemory;
 use std::alloc::Global;
 
 /// A run that has entries left.
-#[derive(Clone, Copy, Debug)]
+#[derive(Clone, Copy)]
 pub(crate) struct OpenRun {
     pub(crate) part: u32,
     // How many entries are left in it.

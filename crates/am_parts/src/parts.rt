@@ -28,7 +28,7 @@ use std::alloc::Global;
 use std::marker::Model;
 
 /// What a new record of a key meets.
-#[derive(Clone, Copy, Debug, PartialEq, Eq)]
+#[derive(Clone, Copy, PartialEq, Eq)]
 pub enum Vacancy {
     /// The key is live.
     Taken,

@@ -7,7 +7,7 @@ use crate::value::Value;
 use std::cmp::Ordering;
 
 /// A record as it stands in the index. Entries are ordered by partition, then by key.
-#[derive(Clone, Copy, Debug, PartialEq, Eq, Hash)]
+#[derive(Clone, Copy, Debug, PartialEq, Eq)]
 pub struct Entry {
     /// The partition: 0 is the final one, runs are numbered from 1.
     pub part: u32,

@@ -6,14 +6,14 @@ use crate::key::Key;
 use crate::range::Range;
 
 /// How a lock is held.
-#[derive(Clone, Copy, Debug, PartialEq, Eq, Hash)]
+#[derive(Clone, Copy, Debug, PartialEq, Eq)]
 pub enum Mode {
     Shared,
     Exclusive,
 }
 
 /// A range of keys, absent ones included, and how it is locked.
-#[derive(Clone, Copy, Debug, PartialEq, Eq, Hash)]
+#[derive(Clone, Copy, Debug, PartialEq, Eq)]
 pub struct Lock {
     pub mode: Mode,
     pub range: Range,

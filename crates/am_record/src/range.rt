@@ -8,7 +8,7 @@ use crate::limits::MAX_KEY_LEN;
 use std::marker::Model;
 
 /// The keys from one to another, both included. It is never empty.
-#[derive(Clone, Copy, Debug, PartialEq, Eq, Hash)]
+#[derive(Clone, Copy, Debug, PartialEq, Eq)]
 pub struct Range {
     lo: Key,
     hi: Key,

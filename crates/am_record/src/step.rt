@@ -17,7 +17,7 @@ use crate::value::Value;
 use std::alloc::Global;
 
 /// What a transaction asks for.
-#[derive(Debug, PartialEq, Eq, Drop)]
+#[derive(PartialEq, Eq, Drop)]
 pub enum Op {
     /// The value under the key: [`Reply::Found`] or [`Reply::Absent`].
     Get(Key),
@@ -40,7 +40,7 @@ pub enum Op {
 }
 
 /// What the store is asked to do. A transaction is named by its number.
-#[derive(Debug, PartialEq, Eq, Drop)]
+#[derive(PartialEq, Eq, Drop)]
 pub enum Step {
     Begin,
     Do(u64, Op),
@@ -82,7 +82,7 @@ pub enum Reply {
 }
 
 /// Why a step was refused. A refused step changed nothing.
-#[derive(Clone, Copy, Debug, PartialEq, Eq, Hash)]
+#[derive(Clone, Copy, Debug, PartialEq, Eq)]
 pub enum Refusal {
     /// The named transaction isn't active.
     NoSuchTx,

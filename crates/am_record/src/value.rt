@@ -7,7 +7,7 @@ use crate::limits::{MAX_VALUE_LEN, SHORT_LEN};
 use std::marker::Model;
 
 /// At most 64 bytes. The bytes past its length are zero, so equal values are equal byte by byte.
-#[derive(Clone, Copy, Debug, PartialEq, Eq, PartialOrd, Ord, Hash)]
+#[derive(Clone, Copy, Debug, PartialEq, Eq)]
 pub struct Value {
     bytes: [u8; 64],
     len: u32,

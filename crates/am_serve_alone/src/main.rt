@@ -5,8 +5,9 @@ ghost use Rattle.std.specs.Prelude.{◌≤◌};
 
 mod ending;
 
+use am_alone::serve_alone;
 use am_command::{Options, OptionsFault, options, words};
-use am_session::{draw_hash_key, serve_alone};
+use am_session::draw_hash_key;
 use am_stack::hold_stack;
 use am_stream::{Reading, Writing};
 use ending::ending;

@@ -64,7 +64,7 @@ pub(crate) fn make_ready<
 }
 
 /// What a server did.
-#[derive(Clone, Copy, Debug)]
+#[derive(Clone, Copy)]
 pub(crate) struct Served {
     events: u64,
     commits: u64,

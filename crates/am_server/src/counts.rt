@@ -7,7 +7,7 @@ use am_parts::Figures;
 use am_trace_writer::TraceCounts;
 
 /// How a server does.
-#[derive(Clone, Copy, Debug, PartialEq, Eq)]
+#[derive(Clone, Copy, PartialEq, Eq)]
 pub struct Counts {
     /// What its sessions are.
     pub sessions: SessionCounts,

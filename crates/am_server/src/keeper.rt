@@ -20,7 +20,7 @@ use std::sync::Wait;
 use std::time::{Duration, Instant};
 
 /// How long ago a stop was asked for.
-#[derive(Clone, Copy, Debug, PartialEq, Eq)]
+#[derive(Clone, Copy, PartialEq, Eq)]
 enum SinceStop {
     /// None was.
     Unasked,

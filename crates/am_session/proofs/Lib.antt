@@ -2,6 +2,4 @@ pub mod Streams
 pub mod HeardLines
 pub mod SessionProgress
 pub mod LastAborts
-pub mod Solos
 pub mod Ends
-pub mod StoreSessions

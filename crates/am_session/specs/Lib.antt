@@ -1,5 +1,3 @@
 pub mod OneAnswer
 pub mod ServedSessions
 pub mod Stops
-pub mod Solo
-pub mod StoreSessions

@@ -17,7 +17,7 @@ use std::alloc::Global;
 use std::sync::Wait;
 
 /// Why no further line is answered.
-#[derive(Clone, Copy, Debug, PartialEq, Eq)]
+#[derive(Clone, Copy)]
 enum Stop {
     Quit,
     EndOfInput,

@@ -10,7 +10,6 @@ use Rattle.am_stream.specs.SourceReads.{TookAhead}
 use Rattle.std.specs.Io.KnownBytes.{Appends}
 use Rattle.am_stream.specs.SinkWrites.{Gave, GaveBeginning, Wrote}
 use Rattle.am_stream.specs.declared.source.Failed.{Failed}
-use Rattle.am_record.proofs.Outcomes.{OnErr-from}
 
 appends_then : (a b c : Option (List ℕ)) (x y : List ℕ) → Appends a b x → Appends b c y → Appends a c (x ++ y)
 appends_then None b c x y f h = tt
@@ -68,6 +67,11 @@ wrote_then {holds} {a} {b} {c} {x} {y} {r} f w = record {
   torn = on_err_weaker r (beginning_then holds a b c x y f.given) w.torn;
 }
 
+-- what always holds, holds at an error
+at_error : {A P : Type 0} (r : Result A Failed) → P → OnErr r P
+at_error (Ok x) p = tt
+at_error (Err e) p = p
+
 -- where writing a front of a text failed, writing the text did, whatever `Err` says so
 pub wrote_torn : {S A B : Type 0} {holds : S → Option (List ℕ)} {failures : S → ℕ} {a b : S} {x z : List ℕ}
     {e : Failed} (y : List ℕ) (r : Result B Failed) → IsErr r → x ++ y ≡ z →
@@ -75,8 +79,8 @@ pub wrote_torn : {S A B : Type 0} {holds : S → Option (List ℕ)} {failures : 
 wrote_torn {holds} {a} {b} {x} y r is all w = record {
   given = IfOk-from_err r _ is;
   ok = IfOk-from_err r _ is;
-  failed = OnErr-from r w.failed;
-  torn = OnErr-from r (subst (λ (z : List ℕ). GaveBeginning holds a z b) all (beginning_of_first holds a b x y w.torn));
+  failed = at_error r w.failed;
+  torn = at_error r (subst (λ (z : List ℕ). GaveBeginning holds a z b) all (beginning_of_first holds a b x y w.torn));
 }
 
 -- what was written is sent on, or that fails

@@ -10,8 +10,7 @@ use crate::line::{FoundLine, LineBuffer};
 use crate::peer_source::AnsweredSource;
 use crate::sink::Sink;
 use crate::source::Failed;
-use am_record::NoMemory;
-use std::alloc::Global;
+use std::alloc::{AllocError, Global};
 use std::marker::Model;
 use std::sync::Wait;
 
@@ -68,7 +67,7 @@ fn first_line(bytes: &[u8]) -> Option<&[u8]>
 
 impl Input {
     /// An input in which no byte waits. It gets all the memory that it will ever use.
-    pub fn new(alloc: Global) -> Result<Self, NoMemory>
+    pub fn new(alloc: Global) -> Result<Self, AllocError>
         ensures { IfOk result (λ i. i ≡ []) }
     {
         Ok(Input {

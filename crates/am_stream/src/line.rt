@@ -5,8 +5,7 @@ ghost use Rattle.std.specs.Prelude.{vec_len};
 ghost use Rattle.am_stream.specs.Lines.{without_cr, line_of};
 ghost use Rattle.am_stream.specs.LineAnswers.{seen};
 
-use am_record::NoMemory;
-use std::alloc::Global;
+use std::alloc::{AllocError, Global};
 use std::marker::Model;
 
 /// The most bytes that a line may have before its LF, a CR at its end counted.
@@ -43,7 +42,7 @@ fn write_front(room: &mut [u8], bytes: &[u8])
 
 impl LineBuffer {
     /// A buffer with no byte in it. It gets all the memory that it will ever use.
-    pub fn new(alloc: Global) -> Result<Self, NoMemory>
+    pub fn new(alloc: Global) -> Result<Self, AllocError>
         ensures { IfOk result (λ b. b ≡ []) }
     {
         Ok(LineBuffer {
@@ -129,7 +128,7 @@ impl LineBuffer {
 }
 
 /// What a line is.
-#[derive(Clone, Copy, Debug, PartialEq, Eq)]
+#[derive(Clone, Copy, PartialEq, Eq)]
 pub enum LineKind {
     /// Its bytes stand in the buffer, without one CR at the end.
     Text,
@@ -138,7 +137,7 @@ pub enum LineKind {
 }
 
 /// A line that was read.
-#[derive(Clone, Copy, Debug, PartialEq, Eq)]
+#[derive(Clone, Copy, PartialEq, Eq)]
 pub struct FoundLine {
     pub kind: LineKind,
     /// Whether an LF ended it. If not, the end of the input did: it was the last line, and one must not read again.

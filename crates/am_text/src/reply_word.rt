@@ -6,7 +6,7 @@ ghost use Rattle.am_text.specs.ReplyWords.{refusal_code, word_text};
 use am_record::Refusal;
 
 /// What a reply is, by its first word.
-#[derive(Clone, Copy, Debug, PartialEq, Eq)]
+#[derive(Clone, Copy, PartialEq, Eq)]
 pub enum ReplyWord {
     Begun,
     Done,

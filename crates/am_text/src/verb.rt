@@ -4,7 +4,7 @@ ghost use Rattle.std.specs.Prelude.{◌≡◌, Some, None, cond, bytes_eq};
 ghost use Rattle.am_text.specs.Verbs.{word_of, verb_for};
 
 /// What a line asks for, by its first word.
-#[derive(Clone, Copy, Debug, PartialEq, Eq)]
+#[derive(Clone, Copy, PartialEq, Eq)]
 pub enum Verb {
     Begin,
     Get,

@@ -1,15 +1,8 @@
-pub mod Hex
 pub mod CutLemmas
-pub mod Joins
 pub mod WrittenLines
-pub mod Digits
-pub mod DigitTable
-pub mod ReadRecords
 pub mod IsText
 pub mod FieldTexts
 pub mod StepTexts
 pub mod WordTexts
 pub mod ReplyTexts
 pub mod EventTexts
-pub mod Fronts
-pub mod LaneDigits

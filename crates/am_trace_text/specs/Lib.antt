@@ -5,4 +5,3 @@ pub mod FieldReadings
 pub mod Steps
 pub mod Replies
 pub mod Lines
-pub mod Lanes

@@ -7,7 +7,7 @@ ghost use Rattle.am_trace_writer.specs.Events.{AreCountsOf};
 use am_record::{Refusal, Reply, Step};
 
 /// How many events of a trace were commits, and how many were refused, by why.
-#[derive(Clone, Copy, Debug, PartialEq, Eq)]
+#[derive(Clone, Copy, PartialEq, Eq)]
 pub struct EventCounts {
     /// Transactions that committed.
     pub commits: u64,
@@ -21,7 +21,7 @@ pub struct EventCounts {
 }
 
 /// What a server's trace is made of.
-#[derive(Clone, Copy, Debug, PartialEq, Eq)]
+#[derive(Clone, Copy, PartialEq, Eq)]
 pub struct TraceCounts {
     /// How many events it has.
     pub events: u64,

@@ -9,7 +9,7 @@ ghost use Rattle.am_trace_writer.specs.Writers.{TookLines};
 use crate::pieces::PieceTaker;
 use am_record::{NoMemory, Reply, Step};
 use am_stream::{Sink, give_all};
-use am_trace_text::event_lines;
+use am_trace_print::event_lines;
 use std::alloc::Global;
 
 /// How many events are written at once: some 1 MB, where they have no long lists of records.

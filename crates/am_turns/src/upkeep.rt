@@ -1,7 +1,7 @@
 //! What workers do.
 
 /// What a worker does in its turns.
-#[derive(Clone, Copy, Debug, PartialEq, Eq)]
+#[derive(Clone, Copy, PartialEq, Eq)]
 pub enum Upkeep {
     /// It merges.
     MergeOnly,

@@ -6,7 +6,7 @@ use std::default::MadeWith;
 
 /// What one operation changed. Each operation that changed an entry notes one thing, and the notes
 /// are taken back from the newest to the oldest.
-#[derive(Clone, Copy, Debug, PartialEq, Eq)]
+#[derive(Clone, Copy)]
 pub enum Note {
     /// An entry was made in partition 0, where none of the key stood. Taken back, it is a ghost
     /// with the value that it then has.

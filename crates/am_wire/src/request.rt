@@ -3,7 +3,7 @@
 use am_record::{Op, Range, Records};
 
 /// What a line asks of its session.
-#[derive(Debug, PartialEq, Eq, Drop)]
+#[derive(PartialEq, Eq, Drop)]
 pub enum Request {
     Begin,
     /// An operation of the active transaction.

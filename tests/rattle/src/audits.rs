@@ -2,7 +2,7 @@
 
 use am_audit::{Fault, FaultKind, check};
 use am_record::{Key, NoMemory, Op, Refusal, Reply, Step};
-use am_trace_text::read_trace;
+use am_trace_read::read_trace;
 use std::alloc::Global;
 use std::process::Abort;
 

@@ -1,7 +1,8 @@
 //! The first session, its bytes cut and its streams failing.
 
+use am_alone::serve_in_memory;
 use am_record::{HashKey, NoMemory};
-use am_session::{End, serve_in_memory};
+use am_session::End;
 use am_stream::{PieceSource, StopSink};
 use std::alloc::Global;
 use std::process::Abort;

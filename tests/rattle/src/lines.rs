@@ -2,8 +2,9 @@
 
 use crate::rows;
 use crate::scene::Exchange;
+use am_alone::serve_in_memory;
 use am_record::{HashKey, NoMemory};
-use am_session::{End, serve_in_memory};
+use am_session::End;
 use am_stream::{PieceSource, StopSink};
 use std::alloc::Global;
 use std::process::Abort;

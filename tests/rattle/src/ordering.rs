@@ -1,7 +1,7 @@
 //! A sink that notes the calls to it.
 
+use am_alone::serve_alone;
 use am_record::HashKey;
-use am_session::serve_alone;
 use am_stream::{Failed, PieceSource, Sink, StopSink};
 use std::alloc::Global;
 use std::sync::Wait;

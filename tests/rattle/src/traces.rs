@@ -1,7 +1,8 @@
 //! The texts of stored traces.
 
 use am_record::{Key, Op, Reply, Step, Value};
-use am_trace_text::{TraceFault, read_trace, trace_text};
+use am_trace_print::trace_text;
+use am_trace_read::{TraceFault, read_trace};
 
 const STORED: &[u8] = b"TRACE 2
 SCAN 1 h h6162 18446744073709551615 | ROWS 2 h61=h h6162=h00ff

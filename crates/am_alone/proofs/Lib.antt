@@ -1,0 +1,2 @@
+pub mod Solos
+pub mod StoreSessions

@@ -1,0 +1,61 @@
+//! A store as its only session sees it.
+
+ghost use Rattle.am_record.specs.Sessions.{IsAllowed, active_after};
+ghost use Rattle.std.specs.Prelude.{◌≡◌, None, IfOk};
+ghost use Rattle.am_sound.specs.StoreState.{empty_state};
+ghost use Rattle.am_dialogue.specs.Actions.{EndsAbort};
+ghost use Rattle.am_alone.specs.Solo.{solo_meaning};
+
+use am_btree::BTree;
+use am_core::Store;
+use am_dialogue::active_behind;
+use am_record::{HashKey, NoMemory, Reply, Step};
+use am_session::Backend;
+use std::alloc::Global;
+use std::marker::Model;
+use std::sync::Wait;
+
+/// A store with one session, and the transaction that is active in it.
+#[derive(Drop)]
+pub(crate) struct SoloStore {
+    store: Store<BTree>,
+    active: Option<u64>,
+}
+
+impl Model for SoloStore {
+    ghost use Rattle.am_alone.specs.Solo.{Solo, solo_code, IsOpen};
+
+    ghost Value = { Solo };
+
+    ghost coded = { solo_code };
+
+    ghost view = { λ s. record { kept = s.store; active = s.active } };
+
+    ghost invariant = { λ s. IsOpen s.store s.active };
+}
+
+impl SoloStore {
+    pub(crate) fn new(alloc: Global, hash: HashKey) -> Result<SoloStore, NoMemory>
+        ensures { IfOk result (λ solo. solo ≡ record { kept = empty_state; active = None }) }
+    {
+        let store = Store::open(alloc, BTree::new(alloc)?, hash)?;
+        Ok(SoloStore {
+            store,
+            active: None,
+        })
+    }
+}
+
+impl Backend for SoloStore {
+    ghost means = { solo_meaning };
+
+    fn call<W: Wait>(&mut self, _rt: &W, step: Step) -> Reply {
+        let reply = self.store.step(step);
+        self.active = active_behind(self.active, &reply);
+        reply
+    }
+
+    fn seen(&mut self) -> (u64, u64) {
+        (0, self.store.commits())
+    }
+}

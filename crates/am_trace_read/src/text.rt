@@ -1,0 +1,104 @@
+//! The whole text, and one line of it.
+
+ghost use Rattle.std.specs.Prelude.{◌≡◌, ◌++◌, ℕ, IfOk, IfSome, IfNone, Err};
+ghost use Rattle.am_trace_text.specs.Lines.{IsEvent, event_words, with_lf, header, IsTextOf};
+ghost use Rattle.am_trace_text.specs.Lines.{IsBadLine, BeginsNoEvent, BeginsNoHeader};
+
+use crate::cut::cut;
+use crate::event::read_event;
+use crate::front::front_event;
+use am_record::{Reply, Step};
+use am_text::words_are_fields;
+use am_trace_text::{ReadFault, Version};
+use std::alloc::Global;
+use thiserror::Error;
+
+/// Why a text is no trace.
+#[derive(Clone, Copy, Debug, PartialEq, Eq, Error)]
+pub enum TraceFault {
+    /// This line, the first that isn't one of a trace. Lines count from 1, the header included.
+    #[error("line {0} is none of a trace")]
+    Bad(u64),
+    /// Memory was refused.
+    #[error("no memory")]
+    NoMemory,
+}
+
+/// The trace of a text, which may come from anybody.
+///
+/// # Errors
+/// The first line that isn't one of a trace; or NoMemory, where memory was refused.
+#[inline(never)]
+pub fn read_trace(alloc: Global, text: &[u8]) -> Result<Vec<(Step, Reply)>, TraceFault>
+    ensures trace { IfOk result (λ trace. IsTextOf text.now trace.items) }
+    ensures bad { (n : ℕ) → result ≡ Err (TraceFault.Bad n) → IsBadLine text.now n }
+{
+    let (version, mut rest) = read_header(text).ok_or(TraceFault::Bad(1))?;
+    let mut trace = Vec::new(alloc);
+    'lines: while !rest.is_empty() {
+        match read_line(alloc, version, rest) {
+            Ok((event, further)) => {
+                if trace.push(event).is_err() {
+                    return Err(TraceFault::NoMemory);
+                }
+                rest = further;
+            }
+            Err(ReadFault::Bad) => return Err(TraceFault::Bad(trace.len() as u64 + 2)),
+            Err(ReadFault::NoMemory) => return Err(TraceFault::NoMemory),
+        }
+    }
+    Ok(trace)
+}
+
+/// The event of the first line, and the lines behind it: so a text is read a line at a time.
+///
+/// # Errors
+/// Bad, where the text begins with no line of an event; or NoMemory, where memory was refused.
+#[inline(never)]
+pub fn read_line(
+    alloc: Global,
+    version: Version,
+    text: &[u8],
+) -> Result<((Step, Reply), &[u8]), ReadFault>
+    ensures event { IfOk result (λ p. IsEvent version p.0 × (text.now ≡ with_lf (event_words version p.0) ++ p.1.now)) }
+    ensures bad { result ≡ Err ReadFault.Bad → BeginsNoEvent version text.now }
+{
+    if let Version::Two = version {
+        if let Some(read) = front_event(text) {
+            return Ok(read);
+        }
+    }
+    read_by_fields(alloc, version, text)
+}
+
+// The same of any line, whose fields are cut first and then read.
+#[inline(never)]
+fn read_by_fields(
+    alloc: Global,
+    version: Version,
+    text: &[u8],
+) -> Result<((Step, Reply), &[u8]), ReadFault>
+    ensures event { IfOk result (λ p. IsEvent version p.0 × (text.now ≡ with_lf (event_words version p.0) ++ p.1.now)) }
+    ensures bad { result ≡ Err ReadFault.Bad → BeginsNoEvent version text.now }
+{
+    words_are_fields();
+    let Some((line, further)) = cut(text, b'\n') else {
+        return Err(ReadFault::Bad);
+    };
+    match read_event(alloc, version, line) {
+        Ok(event) => Ok((event, further)),
+        Err(fault) => Err(fault),
+    }
+}
+
+/// The version that the header names, and what stands behind the header.
+pub fn read_header(text: &[u8]) -> Option<(Version, &[u8])>
+    ensures some { IfSome result (λ p. text.now ≡ header p.0 ++ p.1.now) }
+    ensures none { IfNone result (BeginsNoHeader text.now) }
+{
+    if let Some(rest) = text.strip_prefix(b"TRACE 1\n") {
+        return Some((Version::One, rest));
+    }
+    let rest = text.strip_prefix(b"TRACE 2\n")?;
+    Some((Version::Two, rest))
+}

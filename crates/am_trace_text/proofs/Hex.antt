@@ -1,1 +1,0 @@
--- Digits of base 16, as they are written and as they are read.
