@@ -13,7 +13,7 @@ TOP = os.path.dirname(os.path.dirname(os.path.abspath(__file__)))
 # Names that are taken from the inside of the kit, and its version for which they are known to be right.
 KNOWN = "rattle-kit-13"
 TAKEN_OF_RT = ["Crate", "handles_of"]
-TAKEN_OF_LIBRARY = ["KIT", "RATTLE", "Crate", "crates_below", "files_of", "guarded", "help_of", "kit_sources", "lock", "number_in", "text_of"]
+TAKEN_OF_LIBRARY = ["KIT", "RATTLE", "Crate", "crates_below", "files_of", "guarded", "kit_sources", "lock", "number_in", "text_of"]
 
 
 def module_of(path: str, name: str) -> types.ModuleType:

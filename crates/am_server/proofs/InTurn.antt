@@ -11,10 +11,11 @@ use Rattle.am_latch.specs.Receipts.{SeatState}
 use Rattle.am_latch.specs.Ties.{open_of}
 use Rattle.am_session_seat.specs.SessionSeats.{SessionSeatState, HasDrawn, IsNumbered, open_at}
 use Rattle.am_doors.specs.declared.mode.Mode.{Mode}
-use Rattle.am_server.specs.ServerTraces.{HasNewSeat, WasServed, session_seat_numbers, seat_numbers}
-use Rattle.am_server.specs.ServerTraces.{HoldsNoReceipt}
+use Rattle.am_session_seat.specs.Seats.{HasNewSeat, session_seat_numbers, seat_numbers}
+use Rattle.am_server.specs.ServerTraces.{WasServed, HoldsNoReceipt}
 use Rattle.am_server.specs.ServerTraces.{HasSameReceipts, ServedInTurn, HasServedInTurn, HasWorked, IsOfSessions}
-use Rattle.am_server.proofs.SeatOrder.{all_first, all_rest, same_worked}
+use Rattle.am_session_seat.proofs.SeatOrder.{all_first, all_rest}
+use Rattle.am_server.proofs.WorkedSeats.{same_worked}
 
 pub same_then : (p q r : SessionSeatState) → HasSameReceipts p q → HasSameReceipts q r → HasSameReceipts p r
 same_then p q r f h = record { number = h.number ∙ f.number; receipts = h.receipts ∙ f.receipts }

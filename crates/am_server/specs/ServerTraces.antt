@@ -1,5 +1,5 @@
 -- What a server leaves, and what its sessions leave of their seats.
-use Rattle.std.specs.Prelude.{◌≡◌, ◌⊎◌, ℕ, zero, suc, ◌<◌, ◌≤◌, List, [], ◌++◌, map, length, All, Option}
+use Rattle.std.specs.Prelude.{◌≡◌, ◌⊎◌, ℕ, zero, suc, ◌<◌, ◌≤◌, List, ◌++◌, length, All, Option}
 use Rattle.am_serial.specs.Trace.{Trace}
 use Rattle.am_sound.specs.Right.{IsSoundStore}
 use Rattle.am_serial.specs.Legal.{IsLegal}
@@ -8,30 +8,13 @@ use Rattle.am_core.specs.StoreSteps.{IsSoundAt}
 use Rattle.am_sound.specs.StoreState.{StoreState}
 use Rattle.am_dialogue.specs.Exchanges.{Exchange}
 use Rattle.am_dialogue.specs.Conversation.{AnswersAll}
+use Rattle.am_session_seat.specs.Seats.{latch_seats, HasNewSeat}
 use Rattle.am_session_seat.specs.SessionSeats.{SessionSeatState, IsNumbered, seat_meaning}
 use Rattle.am_workers.specs.Turns.{AreOfTurns, HasTakenTurns}
 use Rattle.am_trace_writer.specs.Events.{add_count}
 use Rattle.am_doors.specs.Modes.{most_sessions, most_turns, upkeep_of}
 use Rattle.am_doors.specs.declared.mode.Mode.{Mode}
 use Rattle.am_server.specs.declared.server_trace.ServerTrace.{ServerTrace}
-
--- the numbers of seats, and of those of sessions
-abbrev pub seat_numbers : List SeatState → List ℕ
-seat_numbers seats = map (λ (s : SeatState). s.number) seats
-
-abbrev pub session_seat_numbers : List SessionSeatState → List ℕ
-session_seat_numbers session_seats = map (λ (p : SessionSeatState). p.seat.number) session_seats
-
--- the seats of the latch
-abbrev pub latch_seats : List SessionSeatState → List SeatState
-latch_seats session_seats = map (λ (p : SessionSeatState). p.seat) session_seats
-
--- there is no receipt yet
-abbrev pub IsNewSeat : SeatState → Type 0
-IsNewSeat s = s.receipts ≡ []
-
-abbrev pub HasNewSeat : SessionSeatState → Type 0
-HasNewSeat p = IsNewSeat p.seat
 
 abbrev pub HasSameSeat : SessionSeatState → SessionSeatState → Type 0
 HasSameSeat p q = q.seat.number ≡ p.seat.number

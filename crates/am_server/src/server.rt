@@ -3,20 +3,20 @@
 ghost use Rattle.std.specs.Prelude.{◌≡◌, ◌≤◌, ◌-◌, ◌++◌, [], IfOk, All, length, vec_len, vec_capacity};
 ghost use Rattle.std.specs.List.{AllZip};
 ghost use Rattle.am_latch.specs.Receipts.{AreAll};
-ghost use Rattle.am_server.specs.ServerTraces.{HasNewSeat, HasServedInTurn, HasStored, IsServerTrace};
-ghost use Rattle.am_server.specs.ServerTraces.{HasWorked};
+ghost use Rattle.am_session_seat.specs.Seats.{HasNewSeat};
+ghost use Rattle.am_server.specs.ServerTraces.{HasServedInTurn, HasStored, HasWorked, IsServerTrace};
 ghost use Rattle.am_doors.specs.Modes.{most_sessions};
 ghost use Rattle.am_server.specs.Pieces.{HasTaken, HasClosed};
 
 use crate::counts::Watcher;
 use crate::keeper::Keeper;
-use crate::server_trace::{ServerTrace, assign_seats, take_seats};
+use crate::server_trace::ServerTrace;
 use crate::turns::serve_in_turn;
 use am_counters::{CounterSeat, Counters};
 use am_doors::House;
 use am_latch::{Blank, Latch, LatchName, Seat, close};
 use am_record::{HashKey, NoMemory};
-use am_session_seat::SessionSeat;
+use am_session_seat::{SessionSeat, assign_seats, take_seats};
 use am_trace_writer::PieceTaker;
 use am_workers::{WorkerSeats, run_workers};
 use std::alloc::Global;

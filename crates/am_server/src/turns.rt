@@ -2,7 +2,8 @@
 
 ghost use Rattle.std.specs.Prelude.{◌≡◌, ◌^◌, ◌<◌, None};
 ghost use Rattle.am_session_seat.specs.SessionSeats.{open_at, IsNumbered};
-ghost use Rattle.am_server.specs.ServerTraces.{WasServed, HasNewSeat, HasServedInTurn};
+ghost use Rattle.am_session_seat.specs.Seats.{HasNewSeat};
+ghost use Rattle.am_server.specs.ServerTraces.{WasServed, HasServedInTurn};
 ghost use Rattle.am_doors.specs.Modes.{most_sessions};
 
 use crate::sessions::{refuse, serve_connection};

@@ -1,3 +1,4 @@
 pub mod Crosses
 pub mod Receipts
 pub mod Calls
+pub mod SeatOrder

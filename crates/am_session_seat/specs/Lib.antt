@@ -1,1 +1,2 @@
 pub mod SessionSeats
+pub mod Seats

@@ -5,12 +5,12 @@ use denote.Param.Send.{arg_send, param_send, shr_send, sendable}
 use Rattle.am_latch.proofs.Crosses.{latch_sync}
 use Rattle.am_latch.specs.contracts.latch.Latch as Latch
 use Rattle.am_doors.specs.contracts.house.House as House
-use Rattle.am_server.specs.ServerTraces.{IsNewSeat}
+use Rattle.am_session_seat.specs.Seats.{IsNewSeat}
 use Rattle.am_latch.specs.Receipts.{SeatState}
 use Rattle.am_doors.specs.Modes.{most_sessions}
 use Rattle.am_server.specs.ServerTraces.{HasStored}
-use Rattle.am_server.proofs.SeatOrder.{all_new, count_back, all_there, all_of_workers, joined_seats}
-use Rattle.am_server.proofs.SeatOrder.{length-numbered}
+use Rattle.am_session_seat.proofs.SeatOrder.{all_new, count_back, all_there, joined_seats, length-numbered}
+use Rattle.am_server.proofs.WorkedSeats.{all_of_workers}
 use Rattle.am_server.proofs.InTurn.{all_came_back, all_of_turns, as_many_served}
 use Rattle.am_server.proofs.TakenPieces.{taken_at_first}
 use Rattle.am_server.proofs.Crosses.{captures_send}

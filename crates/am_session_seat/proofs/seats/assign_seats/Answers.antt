@@ -1,9 +1,10 @@
 use Rattle.std.proofs.Common.{rules, ◌≡◌}
 use Rattle.std.proofs.lemmas.List.Elements.{All-push}
 use Rattle.am_counters.specs.Counters.{CounterHistory}
-use Rattle.am_server.specs.ServerTraces.{HasNewSeat, IsNewSeat}
-use Rattle.am_server.proofs.SeatOrder.{one_placed, place_more, worker_more, none_there, all_init, all_rest, all_first}
-use Rattle.am_server.proofs.server_trace.assign_seats.Goals as goal
+use Rattle.am_session_seat.specs.Seats.{HasNewSeat, IsNewSeat}
+use Rattle.am_session_seat.proofs.SeatOrder.{one_placed, place_more, worker_more, none_there}
+use Rattle.am_session_seat.proofs.SeatOrder.{all_init, all_rest, all_first}
+use Rattle.am_session_seat.proofs.seats.assign_seats.Goals as goal
 
 pub loop-seat-preserved-in-loop-seat : goal.loop-seat-preserved-in-loop-seat
 loop-seat-preserved-in-loop-seat g c =

@@ -1,7 +1,7 @@
 use Rattle.std.proofs.Common.{◌≡◌, ◌++◌, ◌+◌, ◌≤◌, length, vec_len, vec_capacity}
 use Rattle.std.specs.Vec.Iter.{into_iter_items}
-use Rattle.am_server.specs.ServerTraces.{latch_seats}
-use Rattle.am_server.proofs.server_trace.take_seats.Given as goal
+use Rattle.am_session_seat.specs.Seats.{latch_seats}
+use Rattle.am_session_seat.proofs.seats.take_seats.Given as goal
 
 abbrev pub invariant-loop-session_seat : goal.invariant-loop-session_seat
 invariant-loop-session_seat g l = record {

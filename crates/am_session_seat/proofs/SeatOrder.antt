@@ -3,30 +3,17 @@ use Rattle.std.proofs.Common.{◌≡◌, ℕ, zero, suc, ◌+◌, ◌<◌, ◌�
 use Rattle.std.proofs.Common.{arith, append_assoc, length-append, append-nil, subst, Option, Some, None, All, Bool}
 use Rattle.std.proofs.Common.{true, false, nat_lt}
 use Rattle.std.specs.Prelude.{slice_get, option_to_list}
-use Rattle.std.specs.List.{AllZip}
 use Rattle.std.proofs.lemmas.List.{map-append, length-map}
-use Rattle.std.proofs.lemmas.List.Elements.{All-nil, All-push, All-cons}
+use Rattle.std.proofs.lemmas.List.Elements.{All-nil, All-push}
 use Rattle.std.proofs.lemmas.Bool.{ltb-true, ltb-false}
 use Rattle.std.proofs.Math.ListN.{get_or-append}
 use Rattle.std.proofs.Math.Seq.{get_or-append_seam}
-use Rattle.am_latch.specs.declared.receipt.Receipt.{Receipt}
 use Rattle.am_latch.specs.Receipts.{SeatState, new_seat, numbered, AreAll}
 use Rattle.am_session_seat.specs.SessionSeats.{SessionSeatState}
 use Rattle.am_counters.specs.Counters.{CounterHistory}
-use Rattle.am_workers.specs.Turns.{AreOfTurns}
-use Rattle.am_doors.specs.declared.mode.Mode.{Mode}
-use Rattle.am_server.specs.ServerTraces.{seat_numbers, session_seat_numbers, latch_seats, IsNewSeat, IsOfWorker}
-use Rattle.am_doors.specs.Modes.{most_turns, upkeep_of}
-use Rattle.am_server.specs.ServerTraces.{HasWorked}
+use Rattle.am_session_seat.specs.Seats.{seat_numbers, session_seat_numbers, latch_seats, IsNewSeat}
 
--- ---- numbers stay
-
-pub same_worked : (mode : Mode) (xs ys : List SeatState) → AllZip (HasWorked mode) xs ys →
-    seat_numbers ys ≡ seat_numbers xs
-same_worked mode [] [] h = refl
-same_worked mode [] (y ∷ ys) h = absurd h
-same_worked mode (x ∷ xs) [] h = absurd h
-same_worked mode (x ∷ xs) (y ∷ ys) h = λ i. h.0.number i ∷ same_worked mode xs ys h.1 i
+-- ---- as many
 
 pub count_seats : (xs : List SeatState) → length (seat_numbers xs) ≡ length xs
 count_seats xs = length-map xs (λ (s : SeatState). s.number)
@@ -141,26 +128,6 @@ pub all_counted : (left words placed worked seats : ℕ) → placed + left ≡ w
     placed + worked ≡ seats → words ≤ seats → placed ≡ words
 all_counted left words placed zero seats e none all few = omega (arith, e, all, few)
 all_counted left words placed (suc worked) seats e none all few = omega (arith, e, none (omega arith))
-
--- ---- what each seat is left with
-
-pub all_of_workers : (mode : Mode) (xs ys : List SeatState) → AllZip (HasWorked mode) xs ys → All IsNewSeat xs →
-    All (IsOfWorker mode) ys
-all_of_workers mode [] [] h new = All-nil (IsOfWorker mode)
-all_of_workers mode [] (y ∷ ys) h new = absurd h
-all_of_workers mode (x ∷ xs) [] h new = absurd h
-all_of_workers mode (x ∷ xs) (y ∷ ys) h new =
-    All-cons (IsOfWorker mode) y ys
-    (subst (AreOfTurns (upkeep_of mode) 16 (most_turns mode))
-    (sym (h.0.longer ∙ ap (λ (l : List Receipt). l ++ h.0.more) (all_first IsNewSeat x xs (x ∷ xs) refl new)))
-    h.0.turns)
-    (all_of_workers mode xs ys h.1 (all_rest IsNewSeat x xs (x ∷ xs) refl new))
-
-pub as_many : (mode : Mode) (xs ys : List SeatState) → AllZip (HasWorked mode) xs ys → length ys ≡ length xs
-as_many mode [] [] h = refl
-as_many mode [] (y ∷ ys) h = absurd h
-as_many mode (x ∷ xs) [] h = absurd h
-as_many mode (x ∷ xs) (y ∷ ys) h = omega (arith, as_many mode xs ys h.1)
 
 -- ---- all seats of a latch
 

@@ -1,7 +1,7 @@
 use Rattle.std.proofs.Common.{◌≡◌, ◌+◌, ◌<◌, ◌++◌, length, All}
 use Rattle.std.specs.Vec.Iter.{into_iter_items}
-use Rattle.am_server.specs.ServerTraces.{HasNewSeat, IsNewSeat, seat_numbers, session_seat_numbers}
-use Rattle.am_server.proofs.server_trace.assign_seats.Given as goal
+use Rattle.am_session_seat.specs.Seats.{HasNewSeat, IsNewSeat, seat_numbers, session_seat_numbers}
+use Rattle.am_session_seat.proofs.seats.assign_seats.Given as goal
 
 abbrev pub invariant-loop-seat : goal.invariant-loop-seat
 invariant-loop-seat g l = record {

@@ -1,0 +1,20 @@
+use Rattle.std.proofs.Common.{◌≡◌, ◌∙◌, codes, rules, true, false}
+use Rattle.std.proofs.lemmas.Result.{IfOk-weaker}
+use Rattle.clap.specs.Words.{new_app, new_rule, rule_of}
+use Rattle.am_command.specs.Options.{IsCommand}
+use Rattle.am_command.proofs.OptionsLemmas.{arg_added}
+use Rattle.am_command.proofs.amaudit.of_file.Goals as goal
+
+pub returns : goal.returns
+returns c =
+    let plain = new_app (codes "amaudit") in
+    let created : IsCommand (record plain { top = record plain.top { has_version = true } }) c.version.result = (
+      search rules,
+      (λ i. (c.version.ensures i).has_globals) ∙ (λ i. (c.about.ensures i).has_globals) ∙
+          c.new-2.ensures.local,
+    ) in
+    let file : (rule_of c.help-file.result ≡ record (new_rule (codes "file")) { value_names = 1 })
+    × (c.help-file.result.global ≡ false) = (search rules, search rules) in
+    IfOk-weaker c.arg.result _ _
+    (λ command adds. arg_added c.version.result command c.help-file.result _ _ created file adds)
+    c.arg.ensures

@@ -1,0 +1,19 @@
+use Rattle.std.proofs.Common.{◌∙◌, codes, rules}
+use Rattle.std.proofs.lemmas.Result.{IfOk-weaker}
+use Rattle.clap.specs.Words.{new_app}
+use Rattle.am_command.specs.Options.{IsCommand}
+use Rattle.am_command.proofs.OptionsLemmas.{arg_added}
+use Rattle.am_command.proofs.amserve.listen_counted.Goals as goal
+
+pub returns : goal.returns
+returns c =
+    let created : IsCommand (new_app (codes "listen")) c.about.result =
+    (search rules, (λ i. (c.about.ensures i).has_globals) ∙ c.new.ensures.local) in
+    let with_port = arg_added c.about.result c.in_ok-arg.field-0 c.number.result _ _ created c.number.ensures
+    c.in_ok-arg.ensures in
+    let with_sessions = arg_added c.in_ok-arg.field-0 c.in_ok-arg-2.field-0 c.number-2.result _ _ with_port
+    c.number-2.ensures c.in_ok-arg-2.ensures in
+    IfOk-weaker c.arg-3.result _ _
+    (λ command adds. arg_added c.in_ok-arg-2.field-0 command c.number-3.result _ _ with_sessions c.number-3.ensures
+    adds)
+    c.arg-3.ensures
