@@ -4,17 +4,13 @@ use Rattle.clap.specs.Words.{App, Row, Text, fault_of, first_of, matches_of, new
 use Rattle.am_command.specs.Options.{flag_rule}
 use Rattle.am_command.specs.declared.choice.Audited.{Audited}
 
--- `amaudit [FILE]`, which has a version
-abbrev pub of_file_app : App
-of_file_app =
-    let plain = new_app (codes "amaudit") in
-    let with_version = record plain { top = record plain.top { has_version = true } } in
-    with_rule with_version (record (new_rule (codes "file")) { value_names = 1 })
-
--- and `[--records] [--open]`
+-- `amaudit [--records] [--open] [FILE]`, which has a version
 abbrev pub amaudit_app : App
 amaudit_app =
-    let with_records = with_rule of_file_app (flag_rule (codes "records")) in
+    let plain = new_app (codes "amaudit") in
+    let with_version = record plain { top = record plain.top { has_version = true } } in
+    let with_file = with_rule with_version (record (new_rule (codes "file")) { value_names = 1 }) in
+    let with_records = with_rule with_file (flag_rule (codes "records")) in
     with_rule with_records (flag_rule (codes "open"))
 
 -- the rows name this file, or none, and say whether records are to be told, and whether the run isn't ended

@@ -57,30 +57,22 @@ alone_app = with_rule (new_app (codes "alone")) (number_rule (option_rule (codes
 abbrev pub flag_rule : Text → Rule
 flag_rule name = record (new_rule name) { long = Some name; action = Some SetTrue }
 
--- `listen --port P [--sessions N] [--workers W]`
-abbrev pub counted_app : App
-counted_app =
-    let with_port = with_rule (new_app (codes "listen")) (number_rule (option_rule (codes "port")) port) in
-    let with_sessions = with_rule with_port (number_rule (option_rule (codes "sessions")) sessions) in
-    with_rule with_sessions (number_rule (option_rule (codes "workers")) workers)
-
--- and `[--trace FILE] [--stop]`
+-- `listen --port P [--sessions N] [--workers W] [--trace FILE] [--stop]`
 abbrev pub common_app : App
 common_app =
-    let with_trace = with_rule counted_app (option_rule (codes "trace")) in
+    let with_port = with_rule (new_app (codes "listen")) (number_rule (option_rule (codes "port")) port) in
+    let with_sessions = with_rule with_port (number_rule (option_rule (codes "sessions")) sessions) in
+    let with_workers = with_rule with_sessions (number_rule (option_rule (codes "workers")) workers) in
+    let with_trace = with_rule with_workers (option_rule (codes "trace")) in
     with_rule with_trace (flag_rule (codes "stop"))
 
--- and `[--stay] [--grace S] [--idle S]`
-abbrev pub staying_app : App
-staying_app =
-    let with_stay = with_rule common_app (flag_rule (codes "stay")) in
-    let with_grace = with_rule with_stay (number_rule (option_rule (codes "grace")) grace) in
-    with_rule with_grace (number_rule (option_rule (codes "idle")) idle)
-
--- and `[--socket PATH] [--log]`
+-- and `[--stay] [--grace S] [--idle S] [--socket PATH] [--log]`
 abbrev pub listen_app : App
 listen_app =
-    let with_socket = with_rule staying_app (option_rule (codes "socket")) in
+    let with_stay = with_rule common_app (flag_rule (codes "stay")) in
+    let with_grace = with_rule with_stay (number_rule (option_rule (codes "grace")) grace) in
+    let with_idle = with_rule with_grace (number_rule (option_rule (codes "idle")) idle) in
+    let with_socket = with_rule with_idle (option_rule (codes "socket")) in
     with_rule with_socket (flag_rule (codes "log"))
 
 -- the command is this one, with no global argument
@@ -94,12 +86,10 @@ amserve_shape = record (new_app (codes "amserve")).top {
   subcommand_required = true;
 }
 
--- with the first of its two subcommands
-abbrev pub amserve_alone_app : App
-amserve_alone_app = with_subcommand (record { top = amserve_shape; subs = [] }) alone_app.top
-
 abbrev pub amserve_app : App
-amserve_app = with_subcommand amserve_alone_app listen_app.top
+amserve_app =
+    let with_alone = with_subcommand (record { top = amserve_shape; subs = [] }) alone_app.top in
+    with_subcommand with_alone listen_app.top
 
 -- the number that the text writes, or the default where there is no text
 abbrev pub Gives : Setting → Option Text → ℕ → Type 0

@@ -2,9 +2,8 @@
 
 ghost use Rattle.std.specs.Prelude.{◌≡◌, IfErr, IfOk, map};
 ghost use Rattle.clap.specs.Words.{app_of, found_of, rows_of};
-ghost use Rattle.am_command.specs.AuditCommand.{AsksFor, NamesAudited, amaudit_app, of_file_app};
+ghost use Rattle.am_command.specs.AuditCommand.{AsksFor, NamesAudited, amaudit_app};
 ghost use Rattle.am_command.specs.Faults.{Refuses};
-ghost use Rattle.am_command.specs.Options.{IsCommand};
 
 use crate::amserve::flag;
 use crate::choice::Audited;
@@ -47,7 +46,13 @@ fn audited_in<'a>(given: &ArgMatches<'a>) -> Audited<'a>
 fn amaudit<'a>(alloc: Global) -> Result<Command<'a>, AllocError>
     ensures { IfOk result (λ command. app_of command ≡ amaudit_app) }
 {
-    of_file(alloc)?
+    let file = Arg::new(alloc, "file").value_name("FILE").help(
+        "The stored trace; standard input where none or - is named",
+    );
+    Command::new(alloc, "amaudit")
+        .about(ABOUT)
+        .version(VERSION)
+        .arg(file)?
         .arg(flag(
             alloc,
             "records",
@@ -58,17 +63,4 @@ fn amaudit<'a>(alloc: Global) -> Result<Command<'a>, AllocError>
             "open",
             "The run isn't ended: leave out what stands behind the last line's end",
         ))
-}
-
-/// `amaudit [FILE]`.
-fn of_file<'a>(alloc: Global) -> Result<Command<'a>, AllocError>
-    ensures { IfOk result (λ command. IsCommand of_file_app command) }
-{
-    let file = Arg::new(alloc, "file").value_name("FILE").help(
-        "The stored trace; standard input where none or - is named",
-    );
-    Command::new(alloc, "amaudit")
-        .about(ABOUT)
-        .version(VERSION)
-        .arg(file)
 }

@@ -5,8 +5,8 @@ ghost use Rattle.std.specs.Prelude.{codes, false, map, option_map};
 ghost use Rattle.clap.specs.Words.{app_of, first_of, found_of, rows_of, rule_of, subcommand_rows_of};
 ghost use Rattle.am_command.specs.Faults.{Refuses};
 ghost use Rattle.am_command.specs.Options.{IsCommand, Names, NamesListening, Selects, Sets, SetsIfGiven};
-ghost use Rattle.am_command.specs.Options.{alone_app, amserve_alone_app, amserve_app, common_app, counted_app};
-ghost use Rattle.am_command.specs.Options.{flag_rule, listen_app, number_rule, option_rule, staying_app};
+ghost use Rattle.am_command.specs.Options.{alone_app, amserve_app, common_app, flag_rule, listen_app, number_rule};
+ghost use Rattle.am_command.specs.Options.{option_rule};
 
 use crate::choice::{Listening, Options};
 use crate::fault::{OptionsFault, fault_of};
@@ -96,18 +96,12 @@ pub fn options<'a, S: AsStr>(alloc: Global, words: &'a [S]) -> Result<Options<'a
 fn amserve<'a>(alloc: Global) -> Result<Command<'a>, AllocError>
     ensures { IfOk result (λ command. app_of command ≡ amserve_app) }
 {
-    amserve_alone(alloc)?.subcommand(listen(alloc)?)
-}
-
-/// `amserve`, with the first of its subcommands.
-fn amserve_alone<'a>(alloc: Global) -> Result<Command<'a>, AllocError>
-    ensures { IfOk result (λ command. app_of command ≡ amserve_alone_app) }
-{
     Command::new(alloc, "amserve")
         .about("A transactional keyed store that answers lines")
         .version(VERSION)
         .subcommand_required(true)
-        .subcommand(alone(alloc)?)
+        .subcommand(alone(alloc)?)?
+        .subcommand(listen(alloc)?)
 }
 
 /// `alone [--auto N]`.
@@ -125,30 +119,11 @@ fn alone<'a>(alloc: Global) -> Result<Command<'a>, AllocError>
         ))
 }
 
-/// `listen`, with what each server takes and what goes with one that stays, `[--socket PATH] [--log]` the last of it.
-/// It has a frame of its own, so that none is large. The options are added a few at a time: the proof of a chain takes
-/// more than twice as long where it is twice as long.
+/// `listen`, with what each server takes and what goes with one that stays:
+/// `[--stay] [--grace S] [--idle S] [--socket PATH] [--log]`. It has a frame of its own, so that none is large.
 #[inline(never)]
 fn listen<'a>(alloc: Global) -> Result<Command<'a>, AllocError>
     ensures { IfOk result (λ command. IsCommand listen_app command) }
-{
-    listen_staying(alloc)?
-        .arg(option(
-            alloc,
-            "socket",
-            "PATH",
-            "With --stay: listen at this socket of the file system too, which its owner alone may open",
-        ))?
-        .arg(flag(
-            alloc,
-            "log",
-            "With --stay: tell on standard error each minute, and at the end, how the server does",
-        ))
-}
-
-/// `listen`, with what each server takes, and `[--stay] [--grace S] [--idle S]`.
-fn listen_staying<'a>(alloc: Global) -> Result<Command<'a>, AllocError>
-    ensures { IfOk result (λ command. IsCommand staying_app command) }
 {
     listen_common(alloc)?
         .arg(flag(
@@ -169,30 +144,23 @@ fn listen_staying<'a>(alloc: Global) -> Result<Command<'a>, AllocError>
             "S",
             "With --stay: end a session from which nothing came for S seconds, 1 to 43200",
             IDLE,
+        ))?
+        .arg(option(
+            alloc,
+            "socket",
+            "PATH",
+            "With --stay: listen at this socket of the file system too, which its owner alone may open",
+        ))?
+        .arg(flag(
+            alloc,
+            "log",
+            "With --stay: tell on standard error each minute, and at the end, how the server does",
         ))
 }
 
 /// `listen --port P [--sessions N] [--workers W] [--trace FILE] [--stop]`.
 fn listen_common<'a>(alloc: Global) -> Result<Command<'a>, AllocError>
     ensures { IfOk result (λ command. IsCommand common_app command) }
-{
-    listen_counted(alloc)?
-        .arg(option(
-            alloc,
-            "trace",
-            "FILE",
-            "The file that gets the trace; none by default",
-        ))?
-        .arg(flag(
-            alloc,
-            "stop",
-            "Serve until a line STOP, or the end, comes on standard input",
-        ))
-}
-
-/// `listen --port P [--sessions N] [--workers W]`.
-fn listen_counted<'a>(alloc: Global) -> Result<Command<'a>, AllocError>
-    ensures { IfOk result (λ command. IsCommand counted_app command) }
 {
     Command::new(alloc, "listen")
         .about("Serves sessions over TCP, on one store")
@@ -216,6 +184,17 @@ fn listen_counted<'a>(alloc: Global) -> Result<Command<'a>, AllocError>
             "W",
             "How many workers merge, 0 to 16 [default: 1]",
             WORKERS,
+        ))?
+        .arg(option(
+            alloc,
+            "trace",
+            "FILE",
+            "The file that gets the trace; none by default",
+        ))?
+        .arg(flag(
+            alloc,
+            "stop",
+            "Serve until a line STOP, or the end, comes on standard input",
         ))
 }
 
