@@ -1,9 +1,11 @@
 //! Seats of one latch.
 
 use am_audit::check;
+use am_counters::Counters;
 use am_engine::was_refused;
 use am_latch::{Blank, Latch, LatchName, Seat, Taker, close};
 use am_record::{HashKey, Key, Op, Refusal, Reply, Step, Value};
+use am_session_seat::{assign_seats, take_seats};
 use std::alloc::Global;
 use std::marker::Brand;
 use std::process::Abort;
@@ -105,6 +107,35 @@ fn without_one<L: LatchName, R: Abort>(rt: &R, blank: Blank) -> Result<(), Fail>
 #[test]
 fn a_missing_seat_is_told(rt: HostRuntime) -> Result<(), Fail> {
     without_one::<Brand, HostRuntime>(&rt, Blank::new(rt.alloc(), 2)?)
+}
+
+// Of three seats two go to sessions and one to a worker. Taken back in that order they are all, which close the latch.
+fn assigned<L: LatchName, R: Abort>(rt: &R, alloc: Global, blank: Blank) -> Result<(), Fail> {
+    let (latch, seats, taker) = Latch::<L>::open(blank, HashKey::known())?;
+    let (counters, counter_seats) = Counters::open(alloc, 2)?;
+    let (session_seats, mut worker_seats) = assign_seats(
+        alloc,
+        &latch,
+        &counters,
+        seats,
+        counter_seats,
+    )?;
+    assert_eq!(rt; session_seats.len(), 2);
+    assert_eq!(rt; worker_seats.len(), 1);
+    let mut all = Vec::with_capacity(alloc, 3)?;
+    take_seats(&mut all, session_seats);
+    all.append(&mut worker_seats)?;
+    let Ok(closed) = close(latch, all, taker) else {
+        panic!(rt; "all seats are there")
+    };
+    assert_eq!(rt; closed.trace.len(), 0);
+    assert_eq!(rt; closed.seats.len(), 3);
+    Ok(())
+}
+
+#[test]
+fn the_first_seats_are_the_sessions(rt: HostRuntime) -> Result<(), Fail> {
+    assigned::<Brand, HostRuntime>(&rt, rt.alloc(), Blank::new(rt.alloc(), 3)?)
 }
 
 // How each of the seats is answered that begins a transaction.
