@@ -73,6 +73,9 @@ fn receive_at<R: Clock>(rt: &R, gate: &Mutex<Gate<'_>>, tally: &Tally) {
 
 impl<'a> House<'a> {
     /// A house for so many sessions at once at each door.
+    ///
+    /// # Errors
+    /// Memory was refused.
     pub fn new(
         alloc: Global,
         doors: Doors<'a>,

@@ -67,6 +67,9 @@ fn first_line(bytes: &[u8]) -> Option<&[u8]>
 
 impl Input {
     /// An input in which no byte waits. It gets all the memory that it will ever use.
+    ///
+    /// # Errors
+    /// Memory was refused.
     pub fn new(alloc: Global) -> Result<Self, AllocError>
         ensures { IfOk result (λ i. i ≡ []) }
     {

@@ -42,6 +42,9 @@ fn write_front(room: &mut [u8], bytes: &[u8])
 
 impl LineBuffer {
     /// A buffer with no byte in it. It gets all the memory that it will ever use.
+    ///
+    /// # Errors
+    /// Memory was refused.
     pub fn new(alloc: Global) -> Result<Self, AllocError>
         ensures { IfOk result (λ b. b ≡ []) }
     {

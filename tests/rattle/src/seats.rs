@@ -87,6 +87,21 @@ fn two_seats_on_two_threads(rt: HostRuntime) -> Result<(), Fail> {
     by_two_threads::<Brand, HostRuntime>(&rt, rt.alloc(), Blank::new(rt.alloc(), 2)?)
 }
 
+// All seats are there, so many, and no step was taken.
+fn closes<L: LatchName, R: Abort>(
+    rt: &R,
+    latch: Latch<L>,
+    seats: Vec<Seat<L>>,
+    taker: Taker<L>,
+    count: usize,
+) {
+    let Ok(closed) = close(latch, seats, taker) else {
+        panic!(rt; "all seats are there")
+    };
+    assert_eq!(rt; closed.trace.len(), 0);
+    assert_eq!(rt; closed.seats.len(), count);
+}
+
 fn without_one<L: LatchName, R: Abort>(rt: &R, blank: Blank) -> Result<(), Fail> {
     let (latch, mut seats, taker) = Latch::<L>::open(blank, HashKey::known())?;
     let second = seats.pop().ok_or("no seat")?;
@@ -96,11 +111,7 @@ fn without_one<L: LatchName, R: Abort>(rt: &R, blank: Blank) -> Result<(), Fail>
     let mut seats = missing.seats;
     assert_eq!(rt; seats.len(), 1);
     seats.push(second)?;
-    let Ok(closed) = close(missing.latch, seats, missing.taker) else {
-        panic!(rt; "all seats are there")
-    };
-    assert_eq!(rt; closed.trace.len(), 0);
-    assert_eq!(rt; closed.seats.len(), 2);
+    closes(rt, missing.latch, seats, missing.taker, 2);
     Ok(())
 }
 
@@ -109,7 +120,7 @@ fn a_missing_seat_is_told(rt: HostRuntime) -> Result<(), Fail> {
     without_one::<Brand, HostRuntime>(&rt, Blank::new(rt.alloc(), 2)?)
 }
 
-// Of three seats two go to sessions and one to a worker. Taken back in that order they are all, which close the latch.
+// Of three seats two go to sessions and one to a worker. Taken back they are all that the latch has, so it closes.
 fn assigned<L: LatchName, R: Abort>(rt: &R, alloc: Global, blank: Blank) -> Result<(), Fail> {
     let (latch, seats, taker) = Latch::<L>::open(blank, HashKey::known())?;
     let (counters, counter_seats) = Counters::open(alloc, 2)?;
@@ -125,11 +136,7 @@ fn assigned<L: LatchName, R: Abort>(rt: &R, alloc: Global, blank: Blank) -> Resu
     let mut all = Vec::with_capacity(alloc, 3)?;
     take_seats(&mut all, session_seats);
     all.append(&mut worker_seats)?;
-    let Ok(closed) = close(latch, all, taker) else {
-        panic!(rt; "all seats are there")
-    };
-    assert_eq!(rt; closed.trace.len(), 0);
-    assert_eq!(rt; closed.seats.len(), 3);
+    closes(rt, latch, all, taker, 3);
     Ok(())
 }
 
