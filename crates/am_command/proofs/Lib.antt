@@ -1,1 +1,1 @@
-mod OptionsLemmas
+pub mod CommandLemmas

@@ -1,7 +1,7 @@
 -- What a command line of `amaudit` asks for, by clap's meaning of its words.
 use Rattle.std.specs.Prelude.{◌≡◌, ◌↔◌, IsTrue, List, [], Some, codes, option_map, true}
 use Rattle.clap.specs.Words.{App, Row, Text, fault_of, first_of, matches_of, new_app, new_rule, with_rule}
-use Rattle.am_command.specs.Options.{flag_rule}
+use Rattle.am_command.specs.Arguments.{flag_rule}
 use Rattle.am_command.specs.declared.choice.Audited.{Audited}
 
 -- `amaudit [--records] [--open] [FILE]`, which has a version

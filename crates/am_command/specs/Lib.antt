@@ -1,3 +1,3 @@
 pub mod Faults
-pub mod Options
+pub mod Arguments
 pub mod AuditCommand

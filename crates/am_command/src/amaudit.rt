@@ -5,7 +5,7 @@ ghost use Rattle.clap.specs.Words.{app_of, found_of, rows_of};
 ghost use Rattle.am_command.specs.AuditCommand.{AsksFor, NamesAudited, amaudit_app};
 ghost use Rattle.am_command.specs.Faults.{Refuses};
 
-use crate::amserve::flag;
+use crate::arguments::flag;
 use crate::choice::Audited;
 use crate::fault::{OptionsFault, fault_of};
 use crate::program_words::{VERSION, text_in};

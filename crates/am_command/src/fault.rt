@@ -92,7 +92,7 @@ impl From<AllocError> for OptionsFault {
 }
 
 /// What clap says of the words.
-pub(crate) fn fault_of(alloc: Global, error: &Error) -> OptionsFault
+pub fn fault_of(alloc: Global, error: &Error) -> OptionsFault
     ensures { IsFaultOf (kind_of error.now) result }
 {
     let kind = error.kind();

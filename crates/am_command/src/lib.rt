@@ -1,15 +1,15 @@
-//! The command lines of `amserve` and `amaudit`: their words ([`words`]), and what they ask for ([`options`],
-//! [`audited`]).
+//! The words of a command line ([`words`]), the command line of `amaudit` ([`audited`]), and what that of `amserve` has
+//! in common with it.
 #![tactic(auto)]
 
 mod amaudit;
-mod amserve;
+mod arguments;
 mod choice;
 mod fault;
 mod program_words;
 
 pub use amaudit::audited;
-pub use amserve::options;
-pub use choice::{Audited, Listening, Options};
-pub use fault::OptionsFault;
-pub use program_words::words;
+pub use arguments::flag;
+pub use choice::Audited;
+pub use fault::{OptionsFault, fault_of};
+pub use program_words::{VERSION, text_in, words};

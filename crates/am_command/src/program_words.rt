@@ -9,7 +9,7 @@ use std::env::Env;
 use std::{env, io};
 
 /// What `--version` prints behind a program's name.
-pub(crate) const VERSION: &str = "1.1.0";
+pub const VERSION: &str = "1.1.0";
 
 /// The words of the command line, the program's name first.
 ///
@@ -24,7 +24,7 @@ pub fn words<R: AllocGlobal + Env>(rt: &R) -> Result<Vec<String>, OptionsFault> 
 }
 
 /// The text that an option was given.
-pub(crate) fn text_in<'a>(given: &ArgMatches<'a>, name: &str) -> Option<&'a str>
+pub fn text_in<'a>(given: &ArgMatches<'a>, name: &str) -> Option<&'a str>
     ensures { option_map (λ text. text.now) result ≡ first_of name.now (rows_of (found_of given.now)) }
 {
     given.get_str(name)

@@ -35,9 +35,11 @@ use Rattle.am_sound.specs.Represents.{stored_answer}
 use Rattle.am_sound.specs.StoreState.{StoreState, is_in, in_table, MayAnswer, refusal_in, takes_memory, state_after_op}
 use Rattle.am_sound.specs.StoreState.{with_op, taken_back_to_mark, blocker_in}
 use Rattle.am_core.specs.StoreContent.{state_kept, actives}
-use Rattle.am_core.specs.Memory.{adds_ninth_lock, wants_room, may_want_room}
+use Rattle.am_core.specs.Memory.{adds_ninth_lock, may_want_room}
+use Rattle.am_operations.specs.Memory.{wants_room}
 use Rattle.am_core.specs.Admission.{lock_refusal_for, IsLockRefusal, HasLocks, IsLockGranted, wish_of}
-use Rattle.am_core.specs.OperationSteps.{MayWantRoom, Works, LeavesAllAlone}
+use Rattle.am_operations.specs.OperationSteps.{MayWantRoom}
+use Rattle.am_core.specs.OperationSteps.{Works, LeavesAllAlone}
 use Rattle.am_core.proofs.Actives.{is_in-actives, ops-actives, notes-actives, marks-actives, locks-actives, actives-did}
 use Rattle.am_core.proofs.Actives.{actives-undid}
 

@@ -2,8 +2,7 @@
 use Rattle.std.proofs.Common.{◌≡◌, ℕ, List, [], ◌∷◌, ◌++◌, length, map, true, false, cond, ◌==◌}
 use Rattle.std.proofs.Common.{Option, Some, None, refl, sym, ap, ◌∙◌, subst, ⊎_elim}
 use Rattle.std.specs.Option.{option_map}
-use Rattle.std.proofs.lemmas.Bool.{cases_Bool, cond_both, eqb-true, eqb-false, or_left, true_from_ne_false}
-use Rattle.std.specs.FinMap.{get}
+use Rattle.std.proofs.lemmas.Bool.{cases_Bool, cond_both, eqb-true, eqb-false}
 use Rattle.am_record.specs.OrderedKey.{OrderedKey}
 use Rattle.am_record.specs.EntryOrder.{Place}
 use Rattle.am_record.specs.declared.entry.Entry.{Entry}
@@ -15,13 +14,9 @@ use Rattle.am_record.specs.declared.step.Reply.{Reply}
 use Rattle.am_record.specs.declared.step.Reply.TheVariants.{Begun, Committed, Aborted, Done, Refused}
 use Rattle.am_record.proofs.Lists.{AllByRecursion-append}
 use Rattle.am_index.specs.Entries.{Slot, slot_of, find, IsRising}
-use Rattle.am_index.specs.Content.{content}
-use Rattle.am_index.specs.Rooms.{HasRoom, HaveRoom, KeepRoom, needs_room}
-use Rattle.am_index.proofs.Rooms.{room_over}
+use Rattle.am_index.specs.Rooms.{HaveRoom, KeepRoom}
 use Rattle.am_index.proofs.WalkLaws.{first_stands}
-use Rattle.am_parts.specs.Partitions.{IsLiveEntry}
 use Rattle.am_undo.specs.declared.note.Note.{Note}
-use Rattle.am_undo.specs.Log.{Log}
 use Rattle.am_undo.specs.Notes.{NoteFits, NotesFit}
 use Rattle.am_undo.proofs.Fits.{fits_on, fits_until}
 use Rattle.am_effect.specs.Operations.{find_live, noted, notes_left, note_of_slot, note_of_entry, is_live}
@@ -29,37 +24,6 @@ use Rattle.am_record.proofs.ByNumber.{of_number-none, of_number-without_other, h
 use Rattle.am_record.proofs.ByNumber.{changed_number}
 use Rattle.am_sound.specs.StoreState.{Active, StoreState, IsFit, state_after, state_after_op, in_table, is_in, newcomer}
 use Rattle.am_sound.specs.StoreState.{with_op, without_tx}
-use Rattle.am_core.specs.Memory.{outgrows_live, adds_fifth_note}
-use Rattle.am_core.specs.OperationSteps.{MayWantRoom}
-
--- ---- what wants memory
-
--- the slot of a live entry
-stands_live : (es : List Entry) (key : OrderedKey) (e : Entry) → IsLiveEntry es key e → find es e.part e.key ≡
-    Some (e.value, false)
-stands_live es key e live = ap (find es e.part) live.key_is ∙ live.there.there
-
--- a live value has the room that it takes
-pub live_room : (es : List Entry) (roomy : List Place) (key : OrderedKey) (e : Entry) → HaveRoom es roomy →
-    IsLiveEntry es key e → HasRoom roomy e.part e.key (length e.value)
-live_room es roomy key e have live = have.values e.part e.key (e.value, false) (stands_live es key e live)
-
--- a value that has no room over a ghost outgrows it
-pub insert_wants : (es : List Entry) (roomy : List Place) (key : OrderedKey) (value : List ℕ) (slot : Slot)
-    (log : Log) → HaveRoom es roomy → find es 0 key ≡ Some slot → ¬ HasRoom roomy 0 key (length value) →
-    MayWantRoom (Insert key value) es log
-insert_wants es roomy key value slot log have there none = or_left (needs_room (find es 0 key) value)
-    (adds_fifth_note log.notes) (true_from_ne_false (needs_room (find es 0 key) value)
-    (λ fits. none (room_over es roomy 0 key slot value have there (sym (ap (λ o. needs_room o value) there) ∙ fits))))
-
--- and one that has none in place of the live one outgrows that
-pub replace_wants : (es : List Entry) (roomy : List Place) (key : OrderedKey) (value : List ℕ) (e : Entry)
-    (log : Log) → HaveRoom es roomy → IsLiveEntry es key e → ¬ HasRoom roomy e.part e.key (length value) →
-    MayWantRoom (Replace key value) es log
-replace_wants es roomy key value e log have live none = or_left (outgrows_live (get (content es) key) value)
-    (adds_fifth_note log.notes) (true_from_ne_false (outgrows_live (get (content es) key) value)
-    (λ fits. none (room_over es roomy e.part e.key (e.value, false) value have (stands_live es key e live)
-    (sym (ap (λ o. outgrows_live o value) live.has) ∙ fits))))
 
 -- ---- what is noted
 

@@ -1,49 +1,18 @@
 -- Which steps may be refused for want of memory.
 use Rattle.std.specs.Prelude.{ℕ, nat_le, length, List, Bool, true, false, not, ◌&&◌, ◌||◌, Option, Some, None}
-use Rattle.std.specs.FinMap.{get}
 use Rattle.am_record.specs.Locks.{is_covered}
 use Rattle.am_record.specs.Asks.{lock_of}
 use Rattle.am_record.specs.declared.lock.Lock.{Lock}
 use Rattle.am_record.specs.declared.step.Op.{Op}
-use Rattle.am_record.specs.declared.step.Op.TheVariants.{Scan, Insert, Replace, Delete, Load, Mark}
 use Rattle.am_record.specs.declared.step.Step.{Step}
 use Rattle.am_record.specs.declared.step.Step.TheVariants.{Do, Merge}
-use Rattle.am_index.specs.Entries.{find}
-use Rattle.am_index.specs.Content.{content}
-use Rattle.am_index.specs.Rooms.{outgrows, needs_room}
-use Rattle.am_record.specs.declared.entry.Entry.{Entry}
-use Rattle.am_undo.specs.declared.note.Note.{Note}
 use Rattle.am_sound.specs.StoreState.{Active, StoreState, in_table}
+use Rattle.am_operations.specs.Memory.{wants_room}
 
 -- the lock would be added to eight or more: eight stand in the table itself
 abbrev pub adds_ninth_lock : List Lock → Option Lock → Bool
 adds_ninth_lock own None = false
 adds_ninth_lock own (Some asked) = not (is_covered own asked) && nat_le 8 (length own)
-
--- a note would be added to four or more: four stand in the log itself
-abbrev pub adds_fifth_note : List Note → Bool
-adds_fifth_note notes = nat_le 4 (length notes)
-
--- a mark would be added to two or more: two stand in the log itself
-abbrev pub adds_third_mark : List ℕ → Bool
-adds_third_mark marks = nat_le 2 (length marks)
-
--- the value may want more room than the live one in whose place it comes: it is longer than 16 bytes and than that one
-abbrev pub outgrows_live : Option (List ℕ) → List ℕ → Bool
-outgrows_live None value = false
-outgrows_live (Some live) value = outgrows value live
-
--- whether the operation may want memory beside its lock's: a Scan and a Load do, a Replace where its value outgrows the
--- live one, an Insert where the key has no entry in the final partition yet or where its value outgrows that of the
--- ghost there, and each write for its note, a Mark for its mark
-abbrev pub wants_room : Op → List Entry → List Note → List ℕ → Bool
-wants_room (Scan range max) es notes marks = true
-wants_room (Insert k v) es notes marks = needs_room (find es 0 k) v || adds_fifth_note notes
-wants_room (Replace k v) es notes marks = outgrows_live (get (content es) k) v || adds_fifth_note notes
-wants_room (Delete k) es notes marks = adds_fifth_note notes
-wants_room (Load pairs) es notes marks = true
-wants_room Mark es notes marks = adds_third_mark marks
-wants_room op es notes marks = false
 
 -- whether the operation of that transaction may want memory: for its lock, or for what it does
 abbrev pub may_want_room : StoreState → Active → Op → Bool

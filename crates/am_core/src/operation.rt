@@ -13,23 +13,19 @@ ghost use Rattle.am_tx.specs.Active.{is_active_in, log_in};
 ghost use Rattle.am_record.specs.Refusals.{is_load};
 ghost use Rattle.am_sound.specs.StoreState.{MayAnswer, state_after, IsFit};
 ghost use Rattle.am_effect.specs.Store.{with_wish};
-ghost use Rattle.am_core.specs.OperationSteps.{IsDone, LeavesAlone, MayWantRoom, Works, LeavesAllAlone};
+ghost use Rattle.am_operations.specs.OperationSteps.{MayWantRoom};
+ghost use Rattle.am_core.specs.OperationSteps.{Works, LeavesAllAlone};
 ghost use Rattle.am_core.specs.Memory.{may_want_memory};
 ghost use Rattle.am_core.specs.InnerState.{inner_state, HasRooms};
 
 use crate::admission::{ask, refusal, wish_of};
 use crate::inner::Inner;
-use crate::loads::load_pairs;
-use crate::reads::get;
-use crate::savepoints::go_back;
-use crate::writes::{delete, insert, replace};
 use am_index::PartIndex;
 use am_merge::Wishes;
+use am_operations::carry_out;
 use am_parts::Parts;
-use am_record::{NoMemory, Op, Range, Records, Refusal, Reply};
-use am_scan::scan;
+use am_record::{NoMemory, Op, Range, Refusal, Reply};
 use am_tx::TxTable;
-use am_undo::UndoLog;
 use std::alloc::Global;
 
 impl<I: PartIndex + Drop> Inner<I> {
@@ -96,41 +92,4 @@ fn work<I: PartIndex + Drop>(
     ensures rooms { KeepRoom parts.old.roomy parts.new.roomy parts.new.entries }
 {
     carry_out(alloc, parts, txs.undo(tx), op)
-}
-
-// Does the operation, and notes it.
-fn carry_out<I: PartIndex + Drop>(
-    alloc: Global,
-    parts: &mut Parts<I>,
-    log: &mut UndoLog,
-    op: Op,
-) -> Result<Reply, NoMemory>
-    requires orderly { is_orderly op ≡ true }
-    requires room { (is_load op && nat_le 65535 parts.old.runs) ≡ false }
-    requires above { NothingAbove parts.old.runs parts.old.entries }
-    requires back { CanTakeBack (since_mark log.old.marks log.old.notes) (find parts.old.entries) }
-    requires noted { NotesFit parts.old.roomy log.old.notes }
-    requires values { HaveRoom parts.old.entries parts.old.roomy }
-    ensures done { IfOk result (λ reply. IsDone op reply parts.old log.old parts.new log.new) }
-    ensures err { OnErr result (LeavesAlone parts.old log.old parts.new log.new) }
-    ensures memory { OnErr result (MayWantRoom op parts.old.entries log.old) }
-    ensures rooms { KeepRoom parts.old.roomy parts.new.roomy parts.new.entries }
-{
-    match op {
-        Op::Get(key) => Ok(get(parts, key)),
-        Op::Scan(range, max) => {
-            let rows = scan(alloc, parts, range, max)?;
-            Ok(Reply::Rows(Records::new(rows)))
-        }
-        Op::Insert(key, value) => insert(parts, log, key, value),
-        Op::Replace(key, value) => replace(parts, log, key, value),
-        Op::Delete(key) => delete(parts, log, key),
-        Op::Load(pairs) => load_pairs(parts, log, pairs),
-        Op::Lock(_) => Ok(Reply::Done),
-        Op::Mark => {
-            log.mark()?;
-            Ok(Reply::Done)
-        }
-        Op::Back => Ok(go_back(parts, log)),
-    }
 }

@@ -6,12 +6,12 @@ ghost use Rattle.std.specs.Prelude.{◌≤◌};
 mod ending;
 
 use am_alone::serve_alone;
-use am_command::{Options, OptionsFault, options, words};
+use am_command::{OptionsFault, words};
+use am_serve_command::{Options, options};
 use am_session::draw_hash_key;
 use am_stack::hold_stack;
 use am_stream::{Reading, Writing};
 use ending::ending;
-use std::env::Env;
 use std::io;
 use std::io::BufWriter;
 use std::process::ExitCode;
@@ -46,25 +46,19 @@ fn alone<R: AllocGlobal + Input + Print + Eprint + Clock + RandomSource + Wait>(
     Ok(ExitCode::from(status))
 }
 
-fn selected<R: AllocGlobal + Input + Print + Eprint + Env + Clock + RandomSource + Wait>(
-    rt: &R,
-) -> io::Result<ExitCode> {
-    let words = match words(rt) {
-        Ok(words) => words,
-        Err(fault) => return fault.tell(rt, PROGRAM),
-    };
-    match options(rt.alloc(), words.as_slice()) {
-        Ok(Options::Alone { auto }) => alone(rt, auto),
-        Ok(Options::Listen(_)) => {
-            OptionsFault::Unserved("this program serves alone").tell(rt, PROGRAM)
-        }
-        Err(fault) => fault.tell(rt, PROGRAM),
-    }
-}
-
 fn main(rt: HostRuntime) -> io::Result<ExitCode> {
     if hold_stack(rt.alloc()).is_err() {
         return OptionsFault::NoMemory.tell(&rt, PROGRAM);
     }
-    selected(&rt)
+    let words = match words(&rt) {
+        Ok(words) => words,
+        Err(fault) => return fault.tell(&rt, PROGRAM),
+    };
+    match options(rt.alloc(), words.as_slice()) {
+        Ok(Options::Alone { auto }) => alone(&rt, auto),
+        Ok(Options::Listen(_)) => {
+            OptionsFault::Unserved("this program serves alone").tell(&rt, PROGRAM)
+        }
+        Err(fault) => fault.tell(&rt, PROGRAM),
+    }
 }

@@ -1,8 +1,8 @@
 //! What a server that stays says on standard error while it runs.
 
-use am_command::Listening;
 use am_doors::SessionCounts;
 use am_parts::Figures;
+use am_serve_command::Listening;
 use am_server::{Counts, Watcher};
 use am_trace_file::{ListenFault, Outbox};
 use am_trace_writer::{EventCounts, TraceCounts};

@@ -6,7 +6,8 @@ ghost use Rattle.std.specs.Prelude.{◌≤◌};
 mod console;
 mod port;
 
-use am_command::{Options, OptionsFault, options, words};
+use am_command::{OptionsFault, words};
+use am_serve_command::{Options, options};
 use am_stack::hold_stack;
 use am_trace_file::{ListenFault, Outbox};
 use port::{Opened, close, make_ready, serve, stop_at_word};

@@ -5,8 +5,8 @@
 ghost use Rattle.std.specs.Prelude.{◌≤◌};
 
 use crate::console::Console;
-use am_command::Listening;
 use am_doors::Mode;
+use am_serve_command::Listening;
 use am_server::{BindFault, Keeping, PortListener, Watcher, bind};
 use am_session::draw_hash_key;
 use am_trace_file::{GrowingFile, ListenFault, Outbox, Sending, TraceFile};

@@ -4,11 +4,9 @@ ghost use Rattle.std.specs.Prelude.{◌≡◌, ◌++◌, ℕ, IfOk, IfSome, IfNo
 ghost use Rattle.am_trace_text.specs.Lines.{IsEvent, event_words, with_lf, header, IsTextOf};
 ghost use Rattle.am_trace_text.specs.Lines.{IsBadLine, BeginsNoEvent, BeginsNoHeader};
 
-use crate::cut::cut;
-use crate::event::read_event;
-use crate::front::front_event;
 use am_record::{Reply, Step};
-use am_text::words_are_fields;
+use am_trace_fields::read_by_fields;
+use am_trace_front::front_event;
 use am_trace_text::{ReadFault, Version};
 use std::alloc::Global;
 use thiserror::Error;
@@ -69,26 +67,6 @@ pub fn read_line(
         }
     }
     read_by_fields(alloc, version, text)
-}
-
-// The same of any line, whose fields are cut first and then read.
-#[inline(never)]
-fn read_by_fields(
-    alloc: Global,
-    version: Version,
-    text: &[u8],
-) -> Result<((Step, Reply), &[u8]), ReadFault>
-    ensures event { IfOk result (λ p. IsEvent version p.0 × (text.now ≡ with_lf (event_words version p.0) ++ p.1.now)) }
-    ensures bad { result ≡ Err ReadFault.Bad → BeginsNoEvent version text.now }
-{
-    words_are_fields();
-    let Some((line, further)) = cut(text, b'\n') else {
-        return Err(ReadFault::Bad);
-    };
-    match read_event(alloc, version, line) {
-        Ok(event) => Ok((event, further)),
-        Err(fault) => Err(fault),
-    }
 }
 
 /// The version that the header names, and what stands behind the header.

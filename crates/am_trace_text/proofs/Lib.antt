@@ -6,3 +6,4 @@ pub mod StepTexts
 pub mod WordTexts
 pub mod ReplyTexts
 pub mod EventTexts
+pub mod DigitTable

@@ -1,8 +1,8 @@
 use Rattle.std.proofs.Common.{◌≡◌, ◌∙◌, codes, rules, true, false}
 use Rattle.std.proofs.lemmas.Result.{IfOk-weaker}
 use Rattle.clap.specs.Words.{new_app, new_rule, rule_of}
-use Rattle.am_command.specs.Options.{IsCommand}
-use Rattle.am_command.proofs.OptionsLemmas.{arg_added}
+use Rattle.am_command.specs.Arguments.{IsCommand}
+use Rattle.am_command.proofs.CommandLemmas.{arg_added}
 use Rattle.am_command.proofs.amaudit.amaudit.Goals as goal
 
 pub returns : goal.returns

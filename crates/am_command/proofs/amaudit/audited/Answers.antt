@@ -1,4 +1,4 @@
-use Rattle.am_command.proofs.OptionsLemmas.{refused_by_clap, amaudit_free, names_audited}
+use Rattle.am_command.proofs.CommandLemmas.{refused_by_clap, amaudit_free, names_audited}
 use Rattle.am_command.specs.AuditCommand.{NamesAudited, amaudit_app}
 use Rattle.am_command.proofs.amaudit.audited.Goals as goal
 

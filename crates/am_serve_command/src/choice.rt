@@ -1,0 +1,37 @@
+//! What a command line of `amserve` asks for.
+
+/// The program that was asked for, with its numbers.
+#[derive(Clone, Copy, PartialEq, Eq)]
+pub enum Options<'a> {
+    /// One session over standard input and output, on a store of its own. After each answer at most `auto` entries are
+    /// merged; 0 to 64.
+    Alone { auto: u64 },
+    /// Sessions over TCP, on one store.
+    Listen(Listening<'a>),
+}
+
+/// How sessions are listened for and served.
+#[derive(Clone, Copy, PartialEq, Eq)]
+pub struct Listening<'a> {
+    /// The port to listen at; 0 for any that is free.
+    pub port: u16,
+    /// How many sessions are served; where the server stays, how many at once; 1 to 256.
+    pub sessions: u64,
+    /// How many workers merge; 0 to 16.
+    pub workers: u64,
+    /// The file that gets the trace, where one is named; never the empty name.
+    pub trace: Option<&'a str>,
+    /// Whether the server goes on until a line `STOP`, or the end of its standard input, has come.
+    pub awaits_stop: bool,
+    /// Whether the server takes connections until it is stopped, any number in all.
+    pub stays: bool,
+    /// How many seconds sessions may go on after the stop of a server that stays, where that is limited; 0 to 3,600.
+    pub grace: Option<u64>,
+    /// After how many seconds in which nothing came a session of a server that stays ends, where it does; 1 to 43,200.
+    pub idle: Option<u64>,
+    /// The socket of the file system at which a server that stays listens too, where one is named; never the empty
+    /// name.
+    pub socket: Option<&'a str>,
+    /// Whether a server that stays tells each minute, and at the end, how it does.
+    pub is_logged: bool,
+}
