@@ -1,8 +1,11 @@
 //! The texts of stored traces.
 
 use am_record::{Key, Op, Reply, Step, Value};
+use am_trace_fields::read_by_fields;
+use am_trace_front::front_event;
 use am_trace_print::trace_text;
 use am_trace_read::{TraceFault, read_trace};
+use am_trace_text::{Version, byte_of, digit_of};
 
 const STORED: &[u8] = b"TRACE 2
 SCAN 1 h h6162 18446744073709551615 | ROWS 2 h61=h h6162=h00ff
@@ -15,6 +18,19 @@ BEGIN | BEGUN 1
 INS 1 5 h61 | OK
 SCAN 1 0 18446744073709551615 5 | ROWS 1 5=h61
 ";
+
+const BEHIND: &[u8] = b"BEGIN";
+
+// Lines of the shapes that come most often, each with the same behind it.
+const USUAL: [&[u8]; 7] = [
+    b"BEGIN | BEGUN 1\nBEGIN",
+    b"GET 1 h61 | VAL h62\nBEGIN",
+    b"GET 1 h61 | NONE\nBEGIN",
+    b"INS 1 h61 h62 | OK\nBEGIN",
+    b"REP 1 h61 h62 | OK\nBEGIN",
+    b"DEL 1 h61 | OK\nBEGIN",
+    b"COMMIT 1 | COMMITTED 2\nBEGIN",
+];
 
 // Texts that are none of a trace, each with its first bad line.
 const BAD: [(&[u8], u64); 24] = [
@@ -69,4 +85,21 @@ fn the_first_bad_line_is_named(rt: HostRuntime) {
         let fault = read_trace(rt.alloc(), text).err();
         assert!(rt; fault == Some(TraceFault::Bad(line)), "line {line}");
     }
+}
+
+#[test]
+fn usual_lines_are_read_alike(rt: HostRuntime) {
+    for line in USUAL {
+        let (event, rest) = front_event(line).expect(&rt, "a usual line");
+        let (read, further) = read_by_fields(rt.alloc(), Version::Two, line).expect(&rt, "a line");
+        assert!(rt; event == read);
+        assert!(rt; rest == BEHIND && further == BEHIND);
+    }
+    assert!(rt; front_event(b"MARK 1 | OK\n").is_none());
+}
+
+#[test]
+fn digits_have_small_letters(rt: HostRuntime) {
+    assert!(rt; digit_of(b'f') == Some(15) && digit_of(b'F').is_none());
+    assert!(rt; byte_of(b'0', b'a') == Some(10) && byte_of(b'0', b'g').is_none());
 }
