@@ -19,6 +19,7 @@ INS 1 5 h61 | OK
 SCAN 1 0 18446744073709551615 5 | ROWS 1 5=h61
 ";
 
+// What stands behind the first line.
 const BEHIND: &[u8] = b"BEGIN";
 
 // Lines of the shapes that come most often, each with the same behind it.
