@@ -18,11 +18,13 @@ use Rattle.am_record.specs.Events.{Event}
 use Rattle.am_serial.specs.Trace.{Trace, Answered, Answers, answered_to, effect, effect_of_do, effects, body, ops_of}
 use Rattle.am_serial.specs.Trace.{replies_of, IsAnsweredAlone}
 use Rattle.am_serial.specs.Machine.{State, Transaction, is_open, body_in}
-use Rattle.am_audit.specs.declared.active.Active.{Active}
+use Rattle.am_replies.specs.declared.active.Active.{Active}
 use Rattle.am_audit.specs.declared.checker.Checker.{Checker}
 use Rattle.am_audit.specs.Faults.{IsFirstWrongAnswer}
-use Rattle.am_audit.specs.Progress.{PlacedAnswer, answers_from, answers_at, answered_of, Listed, listed, is_listed}
-use Rattle.am_audit.specs.Progress.{own_in, Bodies, list_of, Progress, IsAt, IsFirstWrong}
+use Rattle.am_replies.specs.OwnAnswers.{PlacedAnswer, answered_of, Listed, listed, is_listed}
+use Rattle.am_audit.specs.Progress.{answers_from, answers_at}
+use Rattle.am_replies.specs.OwnAnswers.{own_in, IsFirstWrong}
+use Rattle.am_audit.specs.Progress.{Bodies, list_of, Progress, IsAt}
 use Rattle.am_audit.proofs.EventSteps.{is_active}
 
 -- ---- what is listed of an active transaction

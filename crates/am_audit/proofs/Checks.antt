@@ -15,8 +15,8 @@ use Rattle.am_serial.specs.Legal.{IsLegal}
 use Rattle.am_serial.specs.Machine.{State, start, after_run}
 use Rattle.am_audit.specs.declared.fault.Fault.{Fault}
 use Rattle.am_audit.specs.declared.fault.Fault.TheVariants.{Wrong, NoMemory}
-use Rattle.am_audit.specs.declared.event_fault.EventFault.{EventFault}
-use Rattle.am_audit.specs.declared.event_fault.EventFault.TheVariants.{Form, Busy, Answer, NoMemory as Starved}
+use Rattle.am_replies.specs.declared.event_fault.EventFault.{EventFault}
+use Rattle.am_replies.specs.declared.event_fault.EventFault.TheVariants.{Form, Busy, Answer, NoMemory as Starved}
 use Rattle.am_audit.specs.declared.checker.Checker.{Checker}
 use Rattle.am_audit.specs.Faults.{IsTrueFault}
 use Rattle.am_audit.specs.declared.trace_audit.Audit.{Audit}

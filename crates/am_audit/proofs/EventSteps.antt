@@ -17,9 +17,11 @@ use Rattle.am_locks.specs.Table.{is_owner, entered, without_owner as released}
 use Rattle.am_serial.specs.Trace.{Begins, Aborts, Nothing, effect}
 use Rattle.am_serial.specs.Machine.{State, Transaction, is_open, May}
 use Rattle.am_audit.specs.declared.checker.Checker.{Checker}
-use Rattle.am_audit.specs.Progress.{Listed, listed, is_listed, list_of, owner_of, Bodies, Progress, IsAt, NextIn}
+use Rattle.am_held_locks.specs.HeldLocks.{owner_of}
+use Rattle.am_replies.specs.OwnAnswers.{Listed, listed, is_listed}
+use Rattle.am_audit.specs.Progress.{list_of, Bodies, Progress, IsAt, NextIn}
 use Rattle.am_audit.specs.Progress.{IsRightOf, TakesEvent}
-use Rattle.am_audit.proofs.Tables.{owners_are}
+use Rattle.am_held_locks.proofs.Tables.{owners_are}
 use Rattle.am_audit.proofs.Progresses.{open_below, stands_still, stands_behind, no_answer, begins, aborts}
 
 -- ---- nothing is done

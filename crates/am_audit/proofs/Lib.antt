@@ -1,9 +1,3 @@
-pub mod Rows
-pub mod Actives
-pub mod Tables
-pub mod OnlyOwnerLocks
-pub mod OnlyOwners
-pub mod Replays
 pub mod RightReplies
 pub mod Progresses
 pub mod EventSteps

@@ -10,8 +10,8 @@ use Rattle.am_serial.specs.Trace.{committed, IsSerial, IsAnsweredAlone}
 use Rattle.am_serial.specs.Machine.{State, start, after_run, is_open, state_at}
 use Rattle.am_serial.specs.Sound.{FormedAt, BusyRightAt}
 use Rattle.am_serial.specs.FormedTraces.{IsFormed, IsNextInOrder, FormedLaws}
-use Rattle.am_audit.specs.declared.event_fault.EventFault.{EventFault}
-use Rattle.am_audit.specs.declared.event_fault.EventFault.TheVariants.{Form, Busy, Answer, NoMemory}
+use Rattle.am_replies.specs.declared.event_fault.EventFault.{EventFault}
+use Rattle.am_replies.specs.declared.event_fault.EventFault.TheVariants.{Form, Busy, Answer, NoMemory}
 use Rattle.am_serial.specs.Legal.{IsLegal}
 use Rattle.am_audit.specs.Faults.{EarlyRightAt, IsMisformed, IsWronglyBusy, IsFirstWrongAnswer, CommitsWrongly}
 use Rattle.am_audit.specs.Faults.{IsTrueFault}

@@ -13,12 +13,14 @@ use Rattle.am_record.proofs.Lists.{AllByRecursion-map, AllByRecursion-push, AllB
 use Rattle.am_record.proofs.ByNumber.{each_there, of_number-none}
 use Rattle.am_serial.specs.Trace.{Effect, Begins, Answers, Commits, Aborts, Nothing, effect}
 use Rattle.am_serial.specs.Machine.{State, Transaction, is_open, next}
-use Rattle.am_audit.specs.declared.event_fault.EventFault.{EventFault}
-use Rattle.am_audit.specs.declared.event_fault.EventFault.TheVariants.{Form, Busy, Answer, NoMemory}
+use Rattle.am_replies.specs.declared.event_fault.EventFault.{EventFault}
+use Rattle.am_replies.specs.declared.event_fault.EventFault.TheVariants.{Form, Busy, Answer, NoMemory}
 use Rattle.am_audit.specs.declared.checker.Checker.{Checker}
-use Rattle.am_audit.specs.Progress.{PlacedAnswer, answered_of, Listed, listed, own_in, Bodies, list_of, IsAtState}
+use Rattle.am_replies.specs.OwnAnswers.{PlacedAnswer, answered_of, Listed, listed, own_in}
+use Rattle.am_audit.specs.Progress.{Bodies, list_of, IsAtState}
 use Rattle.am_audit.specs.Progress.{added, Progress, IsAt, FormedIn, IsRightIn, IsMisformedIn, IsWronglyBusyIn}
-use Rattle.am_audit.specs.Progress.{TakesEvent, IsEventFault, IsFirstWrong}
+use Rattle.am_replies.specs.OwnAnswers.{IsFirstWrong}
+use Rattle.am_audit.specs.Progress.{TakesEvent, IsEventFault}
 use Rattle.am_audit.proofs.Progresses.{all_extended, open_below}
 use Rattle.am_audit.proofs.EventSteps.{listed_is}
 use Rattle.am_audit.proofs.Bodies.{own_are}

@@ -15,13 +15,15 @@ use Rattle.am_locks.specs.Table.{is_owner, with_locks, without_owner as released
 use Rattle.am_serial.specs.Trace.{Answered, Answers, Commits, Nothing, effect, runs_made, ops_of, replies_of}
 use Rattle.am_serial.specs.Trace.{IsAnsweredAlone}
 use Rattle.am_serial.specs.Machine.{State, is_open, body_in, locks_in, view, due_early, May}
-use Rattle.am_audit.specs.declared.event_fault.EventFault.{EventFault}
-use Rattle.am_audit.specs.declared.event_fault.EventFault.TheVariants.{Form, Busy, Answer, NoMemory}
-use Rattle.am_audit.specs.declared.active.Active.{Active}
+use Rattle.am_replies.specs.declared.event_fault.EventFault.{EventFault}
+use Rattle.am_replies.specs.declared.event_fault.EventFault.TheVariants.{Form, Busy, Answer, NoMemory}
+use Rattle.am_replies.specs.declared.active.Active.{Active}
 use Rattle.am_audit.specs.declared.checker.Checker.{Checker}
-use Rattle.am_audit.specs.Progress.{PlacedAnswer, answered_of, Listed, listed, is_listed, own_in, with_own}
-use Rattle.am_audit.specs.Progress.{Progress, IsAt, NextIn, IsRightOf, TakesEvent, IsEventFault, AreAnsweredOn}
-use Rattle.am_audit.specs.Progress.{left_by_all, IsFirstWrong, IsReplayFault, refused_of}
+use Rattle.am_replies.specs.OwnAnswers.{PlacedAnswer, answered_of, Listed, listed, is_listed, own_in, with_own}
+use Rattle.am_replies.specs.OwnAnswers.{AreAnsweredOn}
+use Rattle.am_audit.specs.Progress.{Progress, IsAt, NextIn, IsRightOf, TakesEvent, IsEventFault}
+use Rattle.am_replies.specs.OwnAnswers.{left_by_all, IsFirstWrong, IsReplayFault}
+use Rattle.am_replies.specs.Refused.{refused_of}
 use Rattle.am_audit.proofs.Progresses.{stands_behind, no_answer, answers, commits}
 use Rattle.am_audit.proofs.EventSteps.{takes_still, is_owned}
 use Rattle.am_audit.proofs.Bodies.{body_placed, own_placed, listed_open}

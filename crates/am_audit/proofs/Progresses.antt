@@ -26,10 +26,12 @@ use Rattle.am_serial.specs.Machine.{State, Transaction, start, after_run, is_ope
 use Rattle.am_serial.specs.Machine.{without_transaction, next}
 use Rattle.am_serial.proofs.Runs.{after_run-push}
 use Rattle.am_audit.specs.declared.checker.Checker.{Checker}
-use Rattle.am_audit.specs.Progress.{PlacedAnswer, answers_from, answers_at, answered_of, Listed, listed, with_own}
-use Rattle.am_audit.specs.Progress.{Bodies, list_of, owner_of, RiseByNumber, IsAtState, added, Progress, progress_of}
+use Rattle.am_replies.specs.OwnAnswers.{PlacedAnswer, answered_of, Listed, listed, with_own}
+use Rattle.am_audit.specs.Progress.{answers_from, answers_at}
+use Rattle.am_held_locks.specs.HeldLocks.{owner_of, RiseByNumber}
+use Rattle.am_audit.specs.Progress.{Bodies, list_of, IsAtState, added, Progress, progress_of}
 use Rattle.am_audit.specs.Progress.{progress_after, IsAt}
-use Rattle.am_audit.proofs.Tables.{relocked_done, entered_is, released_is}
+use Rattle.am_held_locks.proofs.Tables.{relocked_done, entered_is, released_is}
 
 -- ---- one more event
 

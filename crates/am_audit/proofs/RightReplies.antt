@@ -13,8 +13,9 @@ use Rattle.am_record.specs.Refusals.{is_one_too_many}
 use Rattle.am_serial.specs.Machine.{State, due_early, blocker, locks_in}
 use Rattle.am_serial.specs.Sound.{FormedDo}
 use Rattle.am_serial.proofs.Sound.{not_answer, same_refusal}
-use Rattle.am_audit.specs.Faults.{is_early}
-use Rattle.am_audit.specs.Progress.{FormedIn, EarlyIn, IsRightOf, IsMisformedIn, IsWronglyBusyIn, early_of, busy_of}
+use Rattle.am_replies.specs.Refused.{is_early}
+use Rattle.am_replies.specs.Refused.{early_of, busy_of}
+use Rattle.am_audit.specs.Progress.{FormedIn, EarlyIn, IsRightOf, IsMisformedIn, IsWronglyBusyIn}
 
 early_of_due : (a b c d e : Bool) (why : Refusal) →
     cond a (Some NoSuchTx) (cond b (Some TooManyOps)

@@ -1,8 +1,7 @@
 -- The first fault of a trace, and its line. The header is line 1, so an event behind n others stands on line n + 2.
-use Rattle.std.specs.Prelude.{◌≡◌, ◌≢◌, ◌↔◌, ℕ, ◌+◌, length, List, ◌∷◌, ◌++◌, Bool, true, false, Some}
+use Rattle.std.specs.Prelude.{◌≡◌, ◌≢◌, ◌↔◌, ℕ, ◌+◌, length, List, ◌∷◌, ◌++◌, true, Some}
 use Rattle.am_record.specs.Plain.{PlainMap, fresh, answer, left_on}
 use Rattle.am_record.specs.declared.step.Refusal.{Refusal}
-use Rattle.am_record.specs.declared.step.Refusal.TheVariants.{NoSuchTx, TooManyOps, NotRising, BadLimit, TooManyRuns}
 use Rattle.am_record.specs.declared.step.Op.{Op}
 use Rattle.am_record.specs.declared.step.Step.{Step}
 use Rattle.am_record.specs.declared.step.Step.TheVariants.{Do}
@@ -14,21 +13,13 @@ use Rattle.am_serial.specs.Trace.{IsAnsweredAlone}
 use Rattle.am_serial.specs.Machine.{state_at, due_early}
 use Rattle.am_serial.specs.Sound.{FormedAt, BusyRightAt}
 use Rattle.am_serial.specs.Legal.{IsLegal}
+use Rattle.am_replies.specs.Refused.{is_early}
 use Rattle.am_audit.specs.declared.fault.FaultKind.{FaultKind}
 use Rattle.am_audit.specs.declared.fault.FaultKind.TheVariants.{Form, Busy, Answer}
 use Rattle.am_audit.specs.declared.fault.Fault.{Fault}
 use Rattle.am_audit.specs.declared.fault.Fault.TheVariants.{Wrong, NoMemory}
 
--- whether the refusal is one of those that are tested before the lock is asked for
-abbrev pub is_early : Refusal → Bool
-is_early NoSuchTx = true
-is_early TooManyOps = true
-is_early NotRising = true
-is_early BadLimit = true
-is_early TooManyRuns = true
-is_early why = false
-
--- such a refusal is answered to an operation exactly where it is due
+-- a refusal that is tested before the lock is asked for is answered to an operation exactly where it is due
 abbrev pub EarlyRightAt : List Effect → Step → Reply → Type 0
 EarlyRightAt es (Do t op) reply = (why : Refusal) → is_early why ≡ true →
     (reply ≡ Refused why) ↔ (due_early (state_at es) t op ≡ Some why)

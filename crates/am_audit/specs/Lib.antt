@@ -1,4 +1,3 @@
 pub mod Faults
-pub mod OnlyOwnerLocks
 pub mod AuditStates
 pub mod Progress

@@ -1,19 +1,20 @@
 //! The audit of a trace, event by event.
 
-ghost use Rattle.std.specs.Prelude.{◌≡◌, ◌≤◌, ◌++◌, ◌∷◌, [], length, None, true, false, IfErr, IfOk, OnOk};
+ghost use Rattle.std.specs.Prelude.{◌≡◌, ◌==◌, not, map, filter, [], None, true, false, IfErr, IfOk, OnOk};
 ghost use Rattle.am_record.specs.declared.step.Step.TheVariants.{Begin, Do, Commit, Abort, Merge, Clean};
+ghost use Rattle.am_locks.specs.Table.{is_owner, without_owner};
 ghost use Rattle.am_serial.specs.Machine.{due_early};
+ghost use Rattle.am_replies.specs.OwnAnswers.{listed};
 
-use crate::active::{Active, OwnAnswer, end, is_active, keep, operations, own};
-use crate::early::{is_early, refusal};
-use crate::event_fault::EventFault;
-use crate::forms::{may_abort, may_begin, may_clean, may_commit, may_merge};
-use crate::held_locks::HeldLocks;
-use crate::operations::runs_made;
-use crate::replay::replay;
-use crate::verdict::{is_refusal, is_refused, verdict};
+use crate::verdict::verdict;
+use am_held_locks::HeldLocks;
 use am_model::Plain;
 use am_record::{NoMemory, Op, Range, Reply, Step};
+use am_replies::{
+    Active, EventFault, OwnAnswer, forget, is_active, is_early, is_refusal, is_refused, keep,
+    may_abort, may_begin, may_clean, may_commit, may_merge, operations, own, refusal, replay,
+    runs_made,
+};
 use std::alloc::Global;
 
 /// What the lines seen so far make.
@@ -29,7 +30,8 @@ pub(crate) struct Checker {
 }
 
 impl Checker {
-    ghost use Rattle.am_audit.specs.Progress.{early_of, Progress, progress_of, IsAt, TakesEvent, IsEventFault};
+    ghost use Rattle.am_replies.specs.Refused.{early_of};
+    ghost use Rattle.am_audit.specs.Progress.{Progress, progress_of, IsAt, TakesEvent, IsEventFault};
 
     /// No line is seen.
     ///
@@ -207,4 +209,14 @@ impl Checker {
         }
         Ok(())
     }
+}
+
+// Ends the transaction: it is not active any more, and its locks are gone.
+fn end(all: &mut Vec<Active>, locks: &mut HeldLocks, tx: u64)
+    requires { is_owner locks.old tx ≡ true }
+    ensures active { map listed all.new.items ≡ filter (λ x. not (x.0 == tx)) (map listed all.old.items) }
+    ensures locks { locks.new ≡ without_owner locks.old tx }
+{
+    locks.release(tx);
+    forget(all, tx);
 }

@@ -1,7 +1,7 @@
 //! What is found wrong of a trace.
 
 /// What is wrong of a line.
-#[derive(Clone, Copy, Debug, PartialEq, Eq, Hash)]
+#[derive(Clone, Copy, Debug, PartialEq, Eq)]
 pub enum FaultKind {
     /// The reply isn't one that the step can have there.
     Form,
@@ -12,7 +12,7 @@ pub enum FaultKind {
 }
 
 /// Why a trace isn't found legal.
-#[derive(Clone, Copy, Debug, PartialEq, Eq, Hash)]
+#[derive(Clone, Copy, Debug, PartialEq, Eq)]
 pub enum Fault {
     /// The line, counted from 1 with the header as the first, has the first fault, which is of this kind.
     Wrong(u64, FaultKind),

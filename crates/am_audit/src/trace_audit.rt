@@ -1,6 +1,6 @@
 //! Judging a trace.
 
-ghost use Rattle.std.specs.Prelude.{◌≡◌, ◌+◌, ◌<◌, ◌^◌, ◌++◌, ◌∷◌, [], length, IfOk, IfErr};
+ghost use Rattle.std.specs.Prelude.{◌≡◌, ◌+◌, ◌<◌, ◌^◌, ◌++◌, ◌∷◌, [], length, IfOk, IfErr, OnOk};
 ghost use Rattle.std.specs.FinMap.{entries};
 ghost use Rattle.am_serial.specs.Trace.{Trace, effects, committers, committed};
 ghost use Rattle.am_serial.specs.Legal.{IsLegal};
@@ -8,9 +8,9 @@ ghost use Rattle.am_audit.specs.Faults.{IsTrueFault};
 ghost use Rattle.am_audit.specs.Progress.{fault_of, position_told};
 
 use crate::checker::Checker;
-use crate::event_fault::EventFault;
 use crate::fault::{Fault, FaultKind};
 use am_record::{Key, NoMemory, Reply, Step, Value};
+use am_replies::EventFault;
 use std::alloc::Global;
 
 /// A trace that is judged as it comes, an event at a time. Of its events those alone are kept that belong to active
@@ -51,6 +51,19 @@ impl Audit {
             }
         }
         self.seen += 1;
+    }
+
+    // Judges copies of these events, the first ones.
+    fn judge_all(&mut self, alloc: Global, trace: &[(Step, Reply)]) -> Result<(), NoMemory>
+        requires { HasJudged self.old [] }
+        ensures { OnOk result (HasJudged self.new trace.now) }
+    {
+        for (step, reply) in trace {
+            let step = step.copy(alloc)?;
+            let reply = reply.copy(alloc)?;
+            self.judge(alloc, step, reply);
+        }
+        Ok(())
     }
 
     /// What is to be said of the events that were judged: how many transactions they commit.
@@ -104,12 +117,9 @@ pub fn check(alloc: Global, trace: &[(Step, Reply)]) -> Result<u64, Fault>
     let Ok(mut audit) = Audit::new(alloc) else {
         return Err(Fault::NoMemory);
     };
-    for (step, reply) in trace {
-        let (Ok(step), Ok(reply)) = (step.copy(alloc), reply.copy(alloc)) else {
-            return Err(Fault::NoMemory);
-        };
-        audit.judge(alloc, step, reply);
-    }
+    let Ok(()) = audit.judge_all(alloc, trace) else {
+        return Err(Fault::NoMemory);
+    };
     audit.verdict()
 }
 

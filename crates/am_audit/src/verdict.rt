@@ -1,17 +1,16 @@
 //! The verdict on an operation's reply.
 
-ghost use Rattle.std.specs.Prelude.{◌≡◌, ◌↔◌, None, false, IsTrue, IfErr, OnOk};
+ghost use Rattle.std.specs.Prelude.{◌≡◌, None, false, IfErr, OnOk};
 ghost use Rattle.am_record.specs.Asks.{lock_of};
 ghost use Rattle.am_record.specs.declared.step.Step.TheVariants.{Do};
-ghost use Rattle.am_record.specs.declared.step.Reply.TheVariants.{Refused};
 ghost use Rattle.am_serial.specs.Machine.{State, due_early};
-ghost use Rattle.am_audit.specs.Progress.{busy_of, early_of, refused_of, IsAnswerTo, IsRightOf, IsReplyFault};
+ghost use Rattle.am_held_locks.specs.HeldLocks.{IsAnswerTo};
+ghost use Rattle.am_replies.specs.Refused.{early_of, refused_of};
+ghost use Rattle.am_audit.specs.Progress.{IsRightOf, IsReplyFault};
 
-use crate::event_fault::EventFault;
-use crate::operations::is_answer;
-use crate::replies::is_same_refusal;
 use am_locks::Asked;
 use am_record::{Op, Refusal, Reply};
+use am_replies::{EventFault, is_answer, is_busy, is_refused};
 
 /// Judges the reply to an operation to which no early refusal is due, by what came of asking for its lock.
 ///
@@ -53,26 +52,4 @@ pub(crate) fn verdict(asked: Asked, tx: u64, op: &Op, reply: &Reply) -> Result<(
             Ok(())
         }
     }
-}
-
-/// Whether the reply is that refusal.
-pub(crate) fn is_refused(reply: &Reply, why: Refusal) -> bool
-    ensures { IsTrue result ↔ (reply.now ≡ Refused why) }
-{
-    match reply {
-        Reply::Refused(refusal) => is_same_refusal(*refusal, why),
-        _ => false,
-    }
-}
-
-fn is_busy(reply: &Reply) -> bool
-    ensures { result ≡ busy_of reply.now }
-{
-    matches!(reply, Reply::Refused(Refusal::Busy(_)))
-}
-
-pub(crate) fn is_refusal(reply: &Reply) -> bool
-    ensures { result ≡ refused_of reply.now }
-{
-    matches!(reply, Reply::Refused(_))
 }

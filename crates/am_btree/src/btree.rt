@@ -13,10 +13,17 @@ use std::marker::Model;
 
 /// An index that is a B-tree, seen as how deep its leaves stand, all of them alike, as its entries in order, and as the
 /// places of those that have room for any value.
-#[derive(Drop)]
 pub struct BTree {
     root: Subtree,
     alloc: Global,
+}
+
+// By hand: a crate above then need not prove once more how a tree is dropped.
+impl Drop for BTree {
+    fn drop(self) {
+        let BTree { root, alloc: _ } = self;
+        drop(root);
+    }
 }
 
 impl Model for BTree {

@@ -1,12 +1,12 @@
 //! Adding an entry.
 
-ghost use Rattle.std.specs.Prelude.{◌≡◌, ◌+◌, ◌<◌, ◌≤◌, [], length, take, drop, None, Some, IsSome, IsErrOf, OnOk};
+ghost use Rattle.std.specs.Prelude.{◌≡◌, ◌+◌, ◌<◌, ◌≤◌, length, take, drop, None, Some, IsSome, IsErrOf, OnOk};
 ghost use Rattle.std.specs.Prelude.{OnErr, IfOk, IfSome, vec_len, vec_capacity};
 ghost use Rattle.std.specs.List.{insert};
 ghost use Rattle.am_index.specs.Entries.{find, insert_entry, IsRising};
 ghost use Rattle.am_index.specs.Places.{IsGapFor};
 ghost use Rattle.am_record.specs.OrderedKey.{bytes_of};
-ghost use Rattle.am_leaf.specs.LeafCode.{Fits, SameRoom, ValuesHaveRoom};
+ghost use Rattle.am_leaf.specs.LeafCode.{Fits, ValuesHaveRoom};
 ghost use Rattle.am_btree.specs.InsertResults.{Grows, NowHolds, NowRoomed};
 ghost use Rattle.am_btree.specs.Rooms.{KeepsRoom, IsWidened};
 ghost use Rattle.am_btree.specs.Nodes.{all_entries, depth_of, leaf_shape, inner_shape, AreFilledChildren, IsInner};
@@ -225,11 +225,10 @@ fn insert_fitting(
         prove!(leaf.len() <= 32);
         return Ok(None);
     }
-    // The right half is of the same kind: what has room in the leaf has it there.
-    let mut upper = leaf.new_like(alloc)?;
     let spares = spares(alloc, wanted)?;
-    split_insert(leaf, keep_of(at), at, entry, &mut upper);
+    let split = split_insert(alloc, leaf, keep_of(at), at, entry);
     prove!(leaf.len() <= 32);
+    let upper = split?;
     prove!(upper.len() <= 32);
     let separator = Separator::of(&upper.get(0));
     let right = Subtree {
@@ -242,26 +241,33 @@ fn insert_fitting(
     }))
 }
 
-// Puts an entry at the index of a full leaf, the upper part of which is moved to an empty one.
-fn split_insert(leaf: &mut RawLeaf, keep: usize, at: usize, entry: &Entry, upper: &mut RawLeaf)
+// Puts an entry at the index of a full leaf, the upper part of which goes to a new one. What fits the leaf fits that.
+fn split_insert(
+    alloc: Global,
+    leaf: &mut RawLeaf,
+    keep: usize,
+    at: usize,
+    entry: &Entry,
+) -> Result<RawLeaf, NoMemory>
     requires full { length leaf.old.entries ≡ 32 }
     requires place { IsGapFor leaf.old.entries entry.now.part entry.now.key at }
     requires keeps { (0 < keep) × (keep ≤ 32) }
     requires room { at < keep → keep < 32 }
-    requires empty { upper.old.entries ≡ [] }
-    requires alike { SameRoom upper.old leaf.old }
     requires fits { Fits leaf.old (length (bytes_of entry.now.key)) (length entry.now.value) }
-    ensures front { leaf.new.entries ≡ take (lower_size keep at) (insert leaf.old.entries at entry.now) }
-    ensures back { upper.new.entries ≡ drop (lower_size keep at) (insert leaf.old.entries at entry.now) }
+    ensures front { OnOk result (leaf.new.entries ≡ take (lower_size keep at) (insert leaf.old.entries at entry.now)) }
+    ensures back { IfOk result (λ upper. upper.entries ≡
+        drop (lower_size keep at) (insert leaf.old.entries at entry.now)) }
+    ensures err { OnErr result (leaf.new.entries ≡ leaf.old.entries) }
     ensures room { leaf.new.value_room ≡ leaf.old.value_room }
-    ensures upper_room { upper.new.value_room ≡ leaf.old.value_room }
+    ensures upper_room { IfOk result (λ upper. upper.value_room ≡ leaf.old.value_room) }
 {
-    leaf.split_into(upper, keep);
+    let mut upper = leaf.split_off(alloc, keep)?;
     if at < keep {
         leaf.insert_at(at, *entry);
-    } else {
-        upper.insert_at(at - keep, *entry);
+        return Ok(upper);
     }
+    upper.insert_at(at - keep, *entry);
+    Ok(upper)
 }
 
 // Adds a child, and splits the node where it is full.

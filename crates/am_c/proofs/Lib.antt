@@ -1,8 +1,1 @@
-mod CutLines
-mod GivenRecords
-mod Handles
-mod Layouts
-mod LooseValues
 mod Rows
-mod Turns
-mod Wholes

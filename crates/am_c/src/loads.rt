@@ -1,21 +1,14 @@
 //! The calls that load records in any order.
 
 ghost use Rattle.std.specs.Prelude.{◌≡◌};
-ghost use Rattle.am_c.specs.AskedSteps.{pairs_given};
-ghost use Rattle.am_c.specs.StoreSteps.{status, number};
-ghost use Rattle.am_c.specs.Lines.{TellsText};
-ghost use Rattle.am_c.specs.Loads.{TellsRuns, given_by, without_key, load_key_told};
-ghost use Rattle.am_c.specs.Structs.{structs_given};
+ghost use Rattle.am_c_steps.specs.AskedSteps.{pairs_given};
+ghost use Rattle.am_c_steps.specs.LoadAnswers.{without_key, load_key_told};
+ghost use Rattle.am_c_steps.specs.Statuses.{status, number};
+ghost use Rattle.am_c_store.specs.Loads.{TellsRuns, TellsText};
+ghost use Rattle.am_c_steps.specs.Structs.{structs_given};
 
-use crate::asked_steps::pairs_asked;
-use crate::handle::Handle;
-use crate::lines::text_asked;
-use crate::runs::{load_given, tell_load_key, without_key};
-use crate::status::Status;
-use crate::store_steps::{number_told, status_told};
-use crate::structs::{Layout, Structs, structs_asked};
-use crate::text::{KeyText, Record};
-use am_runs::RecordSource;
+use am_c_steps::{KeyText, Layout, Record, Structs, pairs_asked, structs_asked, text_asked};
+use am_c_store::{Handle, tell_runs};
 use std::alloc::Global;
 
 /// Adds records in any order, as runs of 65,536 that are loaded in turn, until one is refused: how many records stand
@@ -83,26 +76,4 @@ pub extern "C" fn tiuvrokk_load_text(
 {
     let pairs = text_asked(alloc, text, line);
     tell_runs(alloc, store, tx, pairs, key, loaded, told)
-}
-
-// Loads what was given, and tells how that ended.
-fn tell_runs<S: RecordSource + Drop>(
-    alloc: Global,
-    store: &mut Handle,
-    tx: u64,
-    given: Result<S, Status>,
-    key: &mut KeyText,
-    loaded: &mut u64,
-    told: &mut u64,
-) -> u32
-    ensures { TellsRuns store.old.held tx (given_by S.records given) store.new.held
-        (λ n answer. (result ≡ status (without_key answer)) × (told.new ≡ number (without_key answer))
-        × (key.new ≡ load_key_told answer key.old) × (loaded.new ≡ n)) }
-{
-    let end = load_given(alloc, store, tx, given);
-    *loaded = end.records;
-    tell_load_key(&end.answer, key);
-    let answer = without_key(end.answer);
-    *told = number_told(&answer);
-    status_told(&answer)
 }

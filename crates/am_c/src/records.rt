@@ -1,16 +1,16 @@
 //! The calls of single records.
 
 ghost use Rattle.std.specs.Prelude.{◌≡◌};
-ghost use Rattle.am_c.specs.AskedSteps.{get_asked, insert_asked, replace_asked, delete_asked};
-ghost use Rattle.am_c.specs.StoreSteps.{Tells, status, number};
-ghost use Rattle.am_c.specs.AnswerParts.{value_told};
+ghost use Rattle.am_c_steps.specs.AskedSteps.{get_asked, insert_asked, replace_asked, delete_asked};
+ghost use Rattle.am_c_steps.specs.AnswerParts.{value_told};
+ghost use Rattle.am_c_steps.specs.Statuses.{status, number};
+ghost use Rattle.am_c_store.specs.StoreSteps.{Tells};
 
-use crate::asked_steps::{delete_asked, get_asked, insert_asked, replace_asked};
-use crate::handle::Handle;
-use crate::status::Status;
-use crate::store_steps::{number_told, status_told, take_step, tell};
-use crate::text::ValueText;
-use am_record::Reply;
+use am_c_steps::{
+    ValueText, delete_asked, get_asked, insert_asked, number_told, replace_asked, status_told,
+    tell_value,
+};
+use am_c_store::{Handle, take_step, tell};
 use std::alloc::Global;
 
 /// Reads a record: its value goes out where there is one.
@@ -30,14 +30,6 @@ pub extern "C" fn tiuvrokk_get(
     tell_value(&answer, value);
     *told = number_told(&answer);
     status_told(&answer)
-}
-
-fn tell_value(answer: &Result<Reply, Status>, value: &mut ValueText)
-    ensures { value.new ≡ value_told answer.now value.old }
-{
-    if let Ok(Reply::Found(found)) = answer {
-        *value = ValueText::of(found);
-    }
 }
 
 /// Adds a record where its key has none.

@@ -1,17 +1,17 @@
 //! The calls of a store itself: it is opened and closed, merged and cleaned, and counted.
 
-ghost use Rattle.std.specs.Prelude.{◌≡◌, None, Ok, IfOk, length};
+ghost use Rattle.std.specs.Prelude.{◌≡◌, None, Ok, length};
 ghost use Rattle.am_record.specs.declared.step.Step.TheVariants.{Merge};
-ghost use Rattle.am_c.specs.AskedSteps.{clean_asked};
-ghost use Rattle.am_c.specs.StoreSteps.{Tells, Opens, IsNew, Closes, Counts, status, number};
+ghost use Rattle.am_c_steps.specs.AskedSteps.{clean_asked};
+ghost use Rattle.am_c_steps.specs.Statuses.{status, number};
+ghost use Rattle.am_c_store.specs.StoreSteps.{Tells, Opens, Closes, Counts};
+ghost use Rattle.am_c_store.specs.StoreFigures.{TellsFigures};
 
-use crate::asked_steps::clean_asked;
-use crate::handle::Handle;
-use crate::status::Status;
-use crate::store_steps::tell;
-use am_btree::BTree;
-use am_core::Store;
-use am_record::{HashKey, NoMemory, Step};
+use am_c_steps::clean_asked;
+use am_c_store::{
+    Handle, StoreFigures, close_store, open_store, tell, tell_commits, tell_entries, tell_figures,
+};
+use am_record::{HashKey, Step};
 use std::alloc::Global;
 
 /// Opens an empty store behind a handle that has none. The two words are its hash key's.
@@ -19,24 +19,7 @@ use std::alloc::Global;
 pub extern "C" fn tiuvrokk_open(alloc: Global, store: &mut Handle, first: u64, second: u64) -> u32
     ensures { Opens store.old.held result store.new.held }
 {
-    if let Some(open) = store.take(alloc) {
-        store.put(open);
-        return Status::IsOpen.code();
-    }
-    match new_store(alloc, HashKey::new(first, second)) {
-        Ok(new) => {
-            store.put(new);
-            Status::Fine.code()
-        }
-        Err(NoMemory) => Status::NoMemory.code(),
-    }
-}
-
-fn new_store(alloc: Global, hash: HashKey) -> Result<Box<Store<BTree>>, NoMemory>
-    ensures { IfOk result (λ b. IsNew b.value) }
-{
-    let store = Store::open(alloc, BTree::new(alloc)?, hash)?;
-    Ok(Box::new(alloc, store)?)
+    open_store(alloc, store, HashKey::new(first, second))
 }
 
 /// Gives back all memory of the store, whatever is open in it, and leaves the handle without one.
@@ -45,13 +28,7 @@ pub extern "C" fn tiuvrokk_close(alloc: Global, store: &mut Handle) -> u32
     ensures told { Closes store.old.held result }
     ensures closed { store.new.held ≡ None }
 {
-    match store.take(alloc) {
-        Some(open) => {
-            drop(open);
-            Status::Fine.code()
-        }
-        None => Status::NoStore.code(),
-    }
+    close_store(alloc, store)
 }
 
 /// One merge step: the number told is how many entries were worked off, or who is in the way.
@@ -90,13 +67,7 @@ pub extern "C" fn tiuvrokk_commits(alloc: Global, store: &mut Handle, told: &mut
     ensures count { Counts (λ p. p.commits) store.old.held result told.new }
     ensures kept { store.new.held ≡ store.old.held }
 {
-    let Some(open) = store.take(alloc) else {
-        *told = 0;
-        return Status::NoStore.code();
-    };
-    *told = open.commits();
-    store.put(open);
-    Status::Fine.code()
+    tell_commits(alloc, store, told)
 }
 
 /// How many entries the index has, those marked as deleted too.
@@ -105,11 +76,18 @@ pub extern "C" fn tiuvrokk_entries(alloc: Global, store: &mut Handle, told: &mut
     ensures count { Counts (λ p. length p.entries) store.old.held result told.new }
     ensures kept { store.new.held ≡ store.old.held }
 {
-    let Some(open) = store.take(alloc) else {
-        *told = 0;
-        return Status::NoStore.code();
-    };
-    *told = open.figures().entries;
-    store.put(open);
-    Status::Fine.code()
+    tell_entries(alloc, store, told)
+}
+
+/// How large the store is: the index isn't looked into.
+#[unsafe(no_mangle)]
+pub extern "C" fn tiuvrokk_figures(
+    alloc: Global,
+    store: &mut Handle,
+    figures: &mut StoreFigures,
+) -> u32
+    ensures told { TellsFigures store.old.held figures.old result figures.new }
+    ensures kept { store.new.held ≡ store.old.held }
+{
+    tell_figures(alloc, store, figures)
 }

@@ -3,10 +3,10 @@
 ghost use Rattle.std.specs.Prelude.{◌≡◌, Ok};
 ghost use Rattle.am_record.specs.declared.step.Step.TheVariants.{Begin, Do, Commit, Abort};
 ghost use Rattle.am_record.specs.declared.step.Op.TheVariants.{Mark, Back};
-ghost use Rattle.am_c.specs.StoreSteps.{Tells, status, number};
+ghost use Rattle.am_c_steps.specs.Statuses.{status, number};
+ghost use Rattle.am_c_store.specs.StoreSteps.{Tells};
 
-use crate::handle::Handle;
-use crate::store_steps::tell;
+use am_c_store::{Handle, tell};
 use am_record::{Op, Step};
 use std::alloc::Global;
 

@@ -22,10 +22,17 @@ use std::alloc::Global;
 use std::marker::Model;
 
 /// A transactional store over a partitioned index.
-#[derive(Drop)]
 pub struct Store<I: PartIndex + Drop> {
     // On the heap, since it is large: so a store is moved by a pointer.
     inner: Box<Inner<I>>,
+}
+
+// By hand: a crate above then need not prove once more how each part of a store is dropped.
+impl<I: PartIndex + Drop> Drop for Store<I> {
+    fn drop(self) {
+        let Store { inner } = self;
+        drop(inner);
+    }
 }
 
 impl<I: PartIndex + Drop> Model for Store<I> {

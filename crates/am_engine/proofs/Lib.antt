@@ -1,5 +1,2 @@
-pub mod FittingReplies
-pub mod Replies
 pub mod Rooms
-pub mod StoreAnswers
 pub mod MemoryWants

@@ -6,13 +6,13 @@ use Rattle.am_record.specs.declared.step.Step.{Step}
 use Rattle.am_record.specs.declared.step.Refusal.TheVariants.{NoMemory}
 use Rattle.am_record.specs.declared.step.Reply.{Reply}
 use Rattle.am_record.specs.declared.step.Reply.TheVariants.{Refused}
-use Rattle.am_engine.specs.declared.change.Change.{Change}
-use Rattle.am_engine.specs.declared.change.Change.TheVariants.{Begins, Ends, Nothing}
-use Rattle.am_engine.specs.Changes.{change, end_of, is_begin, is_refused, numbers_with, active_in_trace, has, MayFollow}
+use Rattle.am_traced_steps.specs.declared.change.Change.{Change}
+use Rattle.am_traced_steps.specs.declared.change.Change.TheVariants.{Begins, Ends, Nothing}
+use Rattle.am_traced_steps.specs.Changes.{change, end_of, is_begin, is_refused, numbers_with, has, MayFollow}
 use Rattle.am_engine.specs.EngineFields.{most_positions}
 use Rattle.am_engine.specs.Traces.{ends_after}
 use Rattle.am_engine.specs.Wants.{pairs_needed}
-use Rattle.am_engine.proofs.Replies.{refused_nothing, begins_begin}
+use Rattle.am_traced_steps.proofs.Replies.{refused_nothing, begins_begin}
 
 -- the state of the room: so many pairs and ends, and so much capacity
 pub record Roomy (ts : List ℕ) (ends len cap : ℕ) : Type 0 where

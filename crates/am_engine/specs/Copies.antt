@@ -2,7 +2,7 @@
 use Rattle.std.specs.Prelude.{◌≡◌}
 use Rattle.am_record.specs.declared.step.Step.{Step}
 use Rattle.am_engine.specs.declared.room.StepCopy.{StepCopy}
-use Rattle.am_engine.specs.Changes.{room_of}
+use Rattle.am_traced_steps.specs.Changes.{room_of}
 
 -- it is the step, with room for the rows that its reply may have
 pub record IsCopyOf (step : Step) (copy : StepCopy) : Type 0 where

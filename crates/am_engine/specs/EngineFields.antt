@@ -1,7 +1,7 @@
 -- What always holds of the fields of an engine.
 use Rattle.std.specs.Prelude.{◌≡◌, ℕ, ◌≤◌, ◌+◌, ◌-◌, ◌++◌, min, length, vec_len, vec_capacity}
 use Rattle.am_engine.specs.declared.engine.Engine.TheInside.{Inside}
-use Rattle.am_engine.specs.Changes.{active_in_trace, HasTrace}
+use Rattle.am_traced_steps.specs.Changes.{active_in_trace, HasTrace}
 
 -- positions are below 2^64
 abbrev pub most_positions : ℕ

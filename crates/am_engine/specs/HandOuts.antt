@@ -3,9 +3,9 @@ use Rattle.std.specs.Prelude.{◌≡◌, ℕ, List, [], ◌++◌}
 use Rattle.atomic_table.specs.Table.{State, Me, Step}
 use Rattle.am_record.specs.declared.step.Step as step
 use Rattle.am_record.specs.declared.step.Reply.{Reply}
-use Rattle.am_engine.specs.declared.call_id.CallId.{CallId}
+use Rattle.am_ties.specs.declared.call_id.CallId.{CallId}
 use Rattle.am_engine.specs.declared.hand_outs.HandedView.{HandedView}
-use Rattle.am_engine.specs.Traces.{CallLog}
+use Rattle.am_ties.specs.CallLogs.{CallLog}
 
 abbrev pub no_view : HandedView
 no_view = record { trace = []; calls = [] }

@@ -1,4 +1,3 @@
-pub mod Changes
 pub mod Traces
 pub mod Copies
 pub mod EngineFields

@@ -1,22 +1,18 @@
--- Traces, and who made each of their pairs.
-use Rattle.std.specs.Coded.{Coded, code_by, coded×, coded_ℕ, coded_list}
+-- The calls that an engine stores.
+use Rattle.std.specs.Coded.{Coded, code_by, coded×, coded_ℕ}
 use Rattle.std.specs.Prelude.{refl, ◌≡◌, ℕ, ◌+◌, ◌-◌, ◌<◌, List, [], ◌∷◌, ◌++◌, length, MatchBool}
+use Rattle.std.specs.Prelude.{if◌then◌else◌, Option, Some, None}
 use Rattle.am_record.specs.declared.step.Step.{Step}
-use Rattle.am_record.specs.contracts.step.Step as the_step
-use Rattle.am_record.specs.contracts.step.Reply as the_reply
 use Rattle.am_record.specs.declared.step.Reply.{Reply}
-use Rattle.am_engine.specs.declared.change.Change.{Change}
-use Rattle.am_engine.specs.declared.change.Change.TheVariants.{Begins, Ends, Nothing}
-use Rattle.am_engine.specs.declared.call_id.CallId.{CallId}
-use Rattle.am_engine.specs.Changes.{is_stored}
+use Rattle.am_traced_steps.specs.declared.change.Change.{Change}
+use Rattle.am_traced_steps.specs.declared.change.Change.TheVariants.{Begins, Ends, Nothing}
+use Rattle.am_ties.specs.declared.call_id.CallId.{CallId}
+use Rattle.am_ties.specs.CallLogs.{CallLog, call_log_code, log_with}
+use Rattle.am_traced_steps.specs.Changes.{change, is_stored}
+use Rattle.am_engine.specs.declared.change.Stored.{Stored}
 
--- the calls that are stored
-pub record CallLog : Type 0 where
-  pub trace : List (Step × Reply)
-  pub calls : List CallId
-
--- what contracts see of an engine: these, the beginning of them that was handed out, and for how many pairs more there
--- is room, beside the ends that room is kept for
+-- what contracts see of an engine: the stored calls, the beginning of them that was handed out, and for how many pairs
+-- more there is room, beside the ends that room is kept for
 pub record EngineState : Type 0 where
   pub trace : List (Step × Reply)
   pub calls : List CallId
@@ -27,35 +23,19 @@ abbrev pub log_of : EngineState → CallLog
 log_of e = record { trace = e.trace; calls = e.calls }
 
 -- it is stored as its fields
-abbrev pub call_id_code : Coded CallId
-call_id_code = code_by (ℕ × ℕ) (coded× coded_ℕ coded_ℕ) (λ m. (m.seat, m.call)) (λ f. record { seat = f.0; call = f.1 })
-    (λ _. refl)
-
-abbrev pub call_log_code : Coded CallLog
-call_log_code =
-    code_by (List (Step × Reply) × List CallId) (coded× (coded_list
-    (coded× the_step.the_row.coded the_reply.the_row.coded)) (coded_list call_id_code))
-    (λ e. (e.trace, e.calls)) (λ f. record { trace = f.0; calls = f.1 }) (λ _. refl)
-
 abbrev pub engine_code : Coded EngineState
 engine_code =
     code_by ((CallLog × CallLog) × ℕ) (coded× (coded× call_log_code call_log_code) coded_ℕ)
     (λ e. ((log_of e, e.handed), e.room))
     (λ f. record { trace = f.0.0.trace; calls = f.0.0.calls; handed = f.0.1; room = f.1 }) (λ _. refl)
 
--- a list of events is stored as its pairs
-abbrev pub events_code : Coded (List (Step × Reply))
-events_code = coded_list (coded× the_step.the_row.coded the_reply.the_row.coded)
-
-abbrev pub empty_log : CallLog
-empty_log = record { trace = []; calls = [] }
-
-abbrev pub log_with : CallLog → CallId → Step → Reply → CallLog
-log_with e m s r = record { trace = e.trace ++ (s, r) ∷ []; calls = e.calls ++ m ∷ [] }
-
 -- the pair is stored with its call, or the answer is not one of the store's and nothing changed
 abbrev pub StoresCall : CallLog → CallId → Step → Reply → CallLog → Type 0
 StoresCall e m s r e' = MatchBool (is_stored r) (e' ≡ log_with e m s r) (e' ≡ e)
+
+-- what is told of a stored step that stands at the position in the trace; nothing of one that isn't stored
+abbrev pub stored_at : ℕ → Step → Reply → Option Stored
+stored_at position st r = if is_stored r then Some (record { change = change st r; position = position }) else None
 
 -- more was handed out, and the log is what it was
 pub record HandsOn (e : EngineState) (piece : CallLog) (e' : EngineState) : Type 0 where

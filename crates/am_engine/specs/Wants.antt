@@ -7,7 +7,7 @@ use Rattle.am_serial.specs.Trace.{Trace}
 use Rattle.am_sound.specs.StoreState.{StoreState}
 use Rattle.am_sound.specs.StateOf.{IsStateOf}
 use Rattle.am_core.specs.Memory.{may_want_memory}
-use Rattle.am_engine.specs.Changes.{is_begin}
+use Rattle.am_traced_steps.specs.Changes.{is_begin}
 use Rattle.am_engine.specs.Traces.{EngineState}
 
 -- for how many pairs a step wants room: a Begin gets that of its end too

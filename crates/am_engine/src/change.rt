@@ -1,17 +1,10 @@
 //! What a step with its reply does to the transactions, and what is told of it.
 
 ghost use Rattle.std.specs.Prelude.{◌≡◌};
-ghost use Rattle.am_engine.specs.Changes.{change, end_of, is_begin, is_refused, is_stored};
+ghost use Rattle.am_traced_steps.specs.Changes.{change, end_of, is_begin, is_refused, is_stored};
 
 use am_record::{Refusal, Reply, Step};
-
-/// What a step with its reply does to the transactions.
-#[derive(Clone, Copy, PartialEq, Eq)]
-pub enum Change {
-    Begins(u64),
-    Ends(u64),
-    Nothing,
-}
+use am_traced_steps::Change;
 
 /// What came of a step: its reply, and where the two are stored, what is told of them.
 #[derive(Drop)]

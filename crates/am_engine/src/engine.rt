@@ -7,26 +7,25 @@ ghost use Rattle.am_record.specs.declared.step.Reply.{Reply};
 ghost use Rattle.am_record.specs.declared.step.Reply.TheVariants.{Refused};
 ghost use Rattle.am_record.specs.declared.step.Refusal.TheVariants.{NoMemory as OutOfMemory, SeatFull};
 ghost use Rattle.am_serial.specs.Trace.{Trace};
-ghost use Rattle.am_core.specs.Memory.{may_want_memory};
 ghost use Rattle.am_core.specs.StoreSteps.{IsSoundAt};
 ghost use Rattle.am_sound.specs.Right.{IsSoundStore};
-ghost use Rattle.am_engine.specs.Changes.{active_in_trace, numbers_active, end_of, is_refused, is_stored};
-ghost use Rattle.am_engine.specs.Changes.{HasTrace, TakesStep, MayFollow, IsBoundedReply, stored_at};
+ghost use Rattle.am_traced_steps.specs.Changes.{active_in_trace, numbers_active, end_of, is_refused, is_stored};
+ghost use Rattle.am_traced_steps.specs.Changes.{MayFollow, IsBoundedReply};
 ghost use Rattle.am_engine.specs.Copies.{IsCopyOf};
-ghost use Rattle.am_engine.specs.Traces.{EngineState, log_of, empty_log, StoresCall, HandsOn, IsNextOf, ends_after};
+ghost use Rattle.am_ties.specs.CallLogs.{empty_log};
+ghost use Rattle.am_engine.specs.Traces.{EngineState, log_of, StoresCall, stored_at, HandsOn, IsNextOf, ends_after};
 ghost use Rattle.am_engine.specs.Sizes.{AreFiguresAt};
 ghost use Rattle.am_engine.specs.Wants.{MayWantMemory, pairs_needed};
 
-use crate::call_id::CallId;
-use crate::change::{
-    Change, Outcome, Stored, change_by, starts_tx, tx_to_end, was_refused, was_stored,
-};
+use crate::change::{Outcome, Stored, change_by, starts_tx, tx_to_end, was_refused, was_stored};
 use crate::hand_outs::Handed;
 use crate::room::{StepCopy, copy_reply};
 use am_btree::BTree;
 use am_core::Store;
 use am_parts::Figures;
 use am_record::{HashKey, NoMemory, Refusal, Reply, Step};
+use am_ties::CallId;
+use am_traced_steps::{Change, take_step};
 use std::alloc::Global;
 use std::marker::Model;
 use std::mem;
@@ -47,7 +46,6 @@ pub struct Piece {
 
 /// A store and its stored trace, with room in it for the end of each active transaction. The trace begins with what was
 /// handed out, and what is kept follows.
-#[derive(Drop)]
 pub struct Engine {
     store: Store<BTree>,
     handed: Handed,
@@ -58,6 +56,22 @@ pub struct Engine {
     /// For how many ends room is kept.
     ends: usize,
     alloc: Global,
+}
+
+// By hand: a crate above then need not prove once more how each part of an engine is dropped.
+impl Drop for Engine {
+    fn drop(self) {
+        let Engine {
+            store,
+            handed,
+            count: _,
+            trace,
+            calls,
+            ends: _,
+            alloc: _,
+        } = self;
+        drop((store, handed, trace, calls));
+    }
 }
 
 impl Model for Engine {
@@ -249,19 +263,18 @@ impl Engine {
         ensures active { numbers_active result.1 ≡ active_in_trace self.trace }
         ensures even { length self.calls ≡ length self.trace }
     {
-        (self.trace, self.store)
+        let Engine {
+            store,
+            handed,
+            count: _,
+            trace,
+            calls,
+            ends: _,
+            alloc: _,
+        } = self;
+        drop((handed, calls));
+        (trace, store)
     }
-}
-
-// Takes a step of the store, wherever it stands.
-fn take_step(store: &mut Store<BTree>, step: Step) -> Reply
-    ensures goes { (trace : Trace) → HasTrace trace store.old → TakesStep trace step result store.new }
-    ensures bounded { (trace : Trace) → HasTrace trace store.old → IsBoundedReply step result }
-    ensures own { (trace : Trace) → HasTrace trace store.old → result ≢ Refused SeatFull }
-    ensures memory { result ≡ Refused OutOfMemory → may_want_memory store.old step ≡ true }
-{
-    am_sound::steps_lift();
-    store.step(step)
 }
 
 // How many pairs need room: a Begin's end needs it too.

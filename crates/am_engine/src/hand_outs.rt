@@ -1,10 +1,10 @@
 //! What was handed out of an engine: known to contracts, and kept nowhere.
 ghost use Rattle.std.specs.Prelude.{◌≡◌, ◌++◌, ◌<◌, [], IfOk};
-ghost use Rattle.am_engine.specs.Traces.{CallLog, empty_log};
+ghost use Rattle.am_ties.specs.CallLogs.{CallLog, empty_log};
 ghost use Rattle.am_engine.specs.HandOuts.{view_with};
 
-use crate::call_id::CallId;
 use am_record::{NoMemory, Reply, Step};
+use am_ties::{CallId, Events};
 use atomic_table::{Play, Seat, Table, TableRule};
 use std::alloc::Global;
 use std::collections::LinkedList;
@@ -26,26 +26,6 @@ impl TableRule<u8, HandedView, ()> for AnyViews {
     ghost first = { λ _. no_view };
 }
 
-/// What is handed out next.
-pub trait Events {
-    ghost use Rattle.std.specs.Prelude.{List};
-    ghost use Rattle.am_engine.specs.declared.call_id.CallId.{CallId};
-    ghost use Rattle.am_record.specs.declared.step.Step.{Step};
-    ghost use Rattle.am_record.specs.declared.step.Reply.{Reply};
-
-    ghost trace: { List (Step × Reply) };
-
-    ghost calls: { List CallId };
-}
-
-impl Events for Brand {
-    ghost use Rattle.std.specs.Prelude.{[]};
-
-    ghost trace = { [] };
-
-    ghost calls = { [] };
-}
-
 pub struct HandOut<E> {
     of: PhantomData<E>,
 }
@@ -64,7 +44,7 @@ pub struct Handed {
 }
 
 impl Model for Handed {
-    ghost use Rattle.am_engine.specs.Traces.{call_log_code, CallLog};
+    ghost use Rattle.am_ties.specs.CallLogs.{call_log_code, CallLog};
     ghost use Rattle.am_engine.specs.HandedFields.{IsHanded};
     ghost use Rattle.am_engine.specs.HandOuts.{log_in};
 

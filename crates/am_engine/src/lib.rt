@@ -1,22 +1,19 @@
 //! A store with the trace of its calls, each with whose it is.
 //!
-//! - [`Engine`]: takes steps, and stores each with its reply and its [`CallId`]. The end of an active transaction finds
+//! - [`Engine`]: takes steps, and stores each with its reply and whose it is. The end of an active transaction finds
 //!   its room.
 //! - [`Outcome`]: what came of a step.
 //! - [`Piece`]: what an engine hands out of its trace.
 //! - [`StepCopy`]: what the trace is to keep of a step, made before the step is taken.
 #![tactic(auto)]
 
-mod call_id;
 mod change;
 mod engine;
 mod figures;
 mod hand_outs;
 mod room;
 
-pub use call_id::CallId;
-pub use change::{Change, Outcome, Stored, tx_to_end, was_refused};
+pub use change::{Outcome, Stored, tx_to_end, was_refused};
 pub use engine::{Engine, Piece};
 pub use figures::empty_figures;
-pub use hand_outs::Events;
 pub use room::StepCopy;

@@ -1,7 +1,7 @@
 //! Copies of steps and replies, for which room is got before the step.
 
 ghost use Rattle.std.specs.Prelude.{◌≡◌, ◌≤◌, IfOk, IsOk, IfSome, IsSome, [], length, false};
-ghost use Rattle.am_engine.specs.Changes.{end_of, room_of, count_rows};
+ghost use Rattle.am_traced_steps.specs.Changes.{end_of, room_of, count_rows};
 ghost use Rattle.am_engine.specs.Copies.{IsCopyOf};
 ghost use Rattle.am_engine.specs.Wants.{takes_lists};
 

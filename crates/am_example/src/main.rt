@@ -39,25 +39,42 @@ fn transact(store: &mut Store<BTree>, ops: Vec<Op>) -> Result<Reply> {
     Ok(last)
 }
 
-fn main(rt: HostRuntime) -> Result<()> {
-    let alloc = rt.alloc();
-    let mut store = Store::open(alloc, BTree::new(alloc)?, HashKey::known())?;
+/// Loads the prices, and answers how many records a scan finds, which asks for them to be merged.
+fn load_prices(alloc: Global, store: &mut Store<BTree>) -> Result<usize> {
     let fruit = Range::new(key("a")?, key("z")?).context(
         "a range goes from a key to a higher one",
     )?;
     let load = Op::Load(run_of(alloc, &PRICES)?);
-    if let Reply::Rows(rows) = transact(&mut store, vec![in alloc; load, Op::Scan(fruit, 10)]?)? {
-        println!(rt; "{} records, loaded as a run", rows.as_slice().len())?;
-    }
+    let reply = transact(store, vec![in alloc; load, Op::Scan(fruit, 10)]?)?;
+    let Reply::Rows(rows) = reply else {
+        bail!("the records aren't there");
+    };
+    Ok(rows.as_slice().len())
+}
+
+/// Changes a price, and answers what stands there then.
+fn change_price(alloc: Global, store: &mut Store<BTree>, name: &str, price: &str) -> Result<Value> {
+    let changed = Op::Replace(key(name)?, value(price)?);
+    let reply = transact(store, vec![in alloc; changed, Op::Get(key(name)?)]?)?;
+    let Reply::Found(found) = reply else {
+        bail!("the record isn't there");
+    };
+    Ok(found)
+}
+
+fn first_session(rt: &HostRuntime, store: &mut Store<BTree>) -> Result<()> {
+    let count = load_prices(rt.alloc(), store)?;
+    println!(rt; "{count} records, loaded as a run")?;
     if let Reply::Moved(entries, run) = store.step(Step::Merge(16)) {
         println!(rt; "{entries} of run {run} merged, since the scan asked for them")?;
     }
-    let dearer = Op::Replace(key("plum")?, value("10")?);
-    if let Reply::Found(price) = transact(
-        &mut store,
-        vec![in alloc; dearer, Op::Get(key("plum")?)]?,
-    )? {
-        println!(rt; "plum {}", str::from_utf8(price.bytes())?)?;
-    }
+    let price = change_price(rt.alloc(), store, "plum", "10")?;
+    println!(rt; "plum {}", str::from_utf8(price.bytes())?)?;
     Ok(())
+}
+
+fn main(rt: HostRuntime) -> Result<()> {
+    let alloc = rt.alloc();
+    let mut store = Store::open(alloc, BTree::new(alloc)?, HashKey::known())?;
+    first_session(&rt, &mut store)
 }

@@ -1,11 +1,7 @@
 pub mod Crosses
 pub mod CallResults
-pub mod Each
 pub mod EngineAndToken
 pub mod SeatReceipts
 pub mod Opens
-pub mod Places
-pub mod Rules
 pub mod Seats
-pub mod RuleSteps
 pub mod SeatTransactions

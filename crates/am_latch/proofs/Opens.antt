@@ -5,11 +5,13 @@ use Rattle.std.specs.Prelude.{slice_get}
 use Rattle.std.proofs.lemmas.Option.{slice_get_within}
 use Rattle.am_record.specs.declared.step.Step.{Step}
 use Rattle.am_record.specs.declared.step.Reply.{Reply}
-use Rattle.am_engine.specs.Changes.{active_in_trace}
-use Rattle.am_latch.specs.declared.receipt.Receipt.{Receipt}
-use Rattle.am_engine.specs.declared.call_id.CallId.{CallId}
-use Rattle.am_engine.specs.Traces.{CallLog, AreMadeBelow}
-use Rattle.am_latch.specs.Receipts.{SeatState, receipt, receipts_from, AreAll, HaveReceiptsIn}
+use Rattle.am_traced_steps.specs.Changes.{active_in_trace}
+use Rattle.am_ties.specs.declared.receipt.Receipt.{Receipt}
+use Rattle.am_ties.specs.declared.call_id.CallId.{CallId}
+use Rattle.am_ties.specs.CallLogs.{CallLog}
+use Rattle.am_engine.specs.Traces.{AreMadeBelow}
+use Rattle.am_ties.specs.Receipts.{receipt, receipts_from}
+use Rattle.am_latch.specs.Receipts.{SeatState, AreAll, HaveReceiptsIn}
 use Rattle.am_latch.specs.Ties.{open_of, open_in, IsTied, SeatsAreTied}
 use Rattle.am_latch.proofs.SeatReceipts.{there_is}
 

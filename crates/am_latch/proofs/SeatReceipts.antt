@@ -8,10 +8,12 @@ use Rattle.std.proofs.lemmas.Option.{slice_get_within, slice_get-get_or}
 use Rattle.std.proofs.lemmas.List.{set-get_or}
 use Rattle.am_record.specs.declared.step.Step.{Step}
 use Rattle.am_record.specs.declared.step.Reply.{Reply}
-use Rattle.am_latch.specs.declared.receipt.Receipt.{Receipt}
-use Rattle.am_engine.specs.declared.call_id.CallId.{CallId}
-use Rattle.am_engine.specs.Traces.{CallLog, AreMadeBelow}
-use Rattle.am_latch.specs.Receipts.{SeatState, receipt, receipts_from, receipts_of, AreReceiptsOf, AreAll}
+use Rattle.am_ties.specs.declared.receipt.Receipt.{Receipt}
+use Rattle.am_ties.specs.declared.call_id.CallId.{CallId}
+use Rattle.am_ties.specs.CallLogs.{CallLog}
+use Rattle.am_engine.specs.Traces.{AreMadeBelow}
+use Rattle.am_ties.specs.Receipts.{receipt, receipts_from, receipts_of}
+use Rattle.am_latch.specs.Receipts.{SeatState, AreReceiptsOf, AreAll}
 use Rattle.am_latch.specs.Receipts.{HaveReceiptsIn}
 
 -- the receipt r is at j, and q is its position

@@ -5,13 +5,13 @@ use Rattle.am_record.specs.Sessions.{IsAllowed}
 use Rattle.am_record.specs.declared.step.Step.{Step}
 use Rattle.am_record.specs.declared.step.Step.TheVariants.{Begin, Do, Commit, Abort, Merge, Clean}
 use Rattle.am_record.specs.declared.step.Reply.{Reply}
-use Rattle.am_engine.specs.declared.change.Change.{Change}
-use Rattle.am_engine.specs.declared.change.Change.TheVariants.{Ends}
-use Rattle.am_engine.specs.Changes.{change, end_of, open_after, moves_in}
-use Rattle.am_latch.specs.declared.receipt.Receipt.{Receipt}
+use Rattle.am_traced_steps.specs.declared.change.Change.{Change}
+use Rattle.am_traced_steps.specs.declared.change.Change.TheVariants.{Ends}
+use Rattle.am_traced_steps.specs.Changes.{change, end_of, open_after, moves_in}
+use Rattle.am_ties.specs.declared.receipt.Receipt.{Receipt}
 use Rattle.am_latch.specs.Receipts.{moved_in}
 use Rattle.am_latch.specs.Ties.{EndsTx, HasRoom, receipts_needed, receipts_with}
-use Rattle.am_engine.proofs.Replies.{did_nothing}
+use Rattle.am_traced_steps.proofs.Replies.{did_nothing}
 
 any_room : (o : Option ℕ) (len cap : ℕ) → len + 2 ≤ cap → len < 1000000 → HasRoom o (len + 1) cap
 any_room None len cap more few = omega arith

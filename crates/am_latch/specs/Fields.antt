@@ -10,11 +10,11 @@ use Rattle.am_latch.specs.declared.taker.Taker.TheInside.{Inside as TakerFields}
 use Rattle.am_latch.specs.Receipts.{moved_in, last_commit_of, positions_of, AreBehind, most_let_go}
 use Rattle.am_latch.specs.Ties.{open_of, HasRoom, AreNumbered, IsTied}
 use Rattle.am_latch.specs.Tables.{LatchTables}
-use Rattle.am_latch.specs.declared.taker_tie.TakenView.TheVariants.{Handed, Whole}
-use Rattle.am_latch.specs.HandOutRule.{IsTakerView}
+use Rattle.am_ties.specs.declared.taker_tie.TakenView.TheVariants.{Handed, Whole}
+use Rattle.am_ties.specs.HandOutRule.{IsTakerView}
 use Rattle.am_engine.specs.Traces.{AreMadeBelow, log_of}
-use Rattle.am_latch.specs.declared.views.View.TheVariants.{Minting, Log}
-use Rattle.am_latch.specs.Views.{seat_in, IsSeatView}
+use Rattle.am_ties.specs.declared.views.View.TheVariants.{Minting, Log}
+use Rattle.am_ties.specs.Views.{seat_in, IsSeatView}
 
 -- One token under the latch knows the trace, another what was handed out of it. One of the seats made each call, which
 -- has its number among the seat's, and what is open in these is active

@@ -1,16 +1,14 @@
 -- Seats and their receipts.
 use Rattle.std.specs.Coded.{Coded, code_by, coded×, coded_ℕ, coded_list}
 use Rattle.std.specs.Prelude.{refl, ◌≡◌, ℕ, zero, suc, ◌<◌, ◌+◌, ◌-◌, List, [], ◌∷◌, ◌++◌, length, map, slice_get}
-use Rattle.std.specs.Prelude.{Option, Some, None, MatchBool, ◌==◌, if◌then◌else◌}
+use Rattle.std.specs.Prelude.{Option, Some, None, MatchBool}
 use Rattle.am_record.specs.declared.step.Step.{Step}
-use Rattle.am_record.specs.contracts.step.Step as the_step
-use Rattle.am_record.specs.contracts.step.Reply as the_reply
 use Rattle.am_record.specs.declared.step.Reply.{Reply}
 use Rattle.am_record.specs.declared.step.Reply.TheVariants.{Committed}
-use Rattle.am_latch.specs.declared.receipt.Receipt.{Receipt}
-use Rattle.am_engine.specs.declared.call_id.CallId.{CallId}
-use Rattle.am_engine.specs.Changes.{is_stored, moves_in}
-use Rattle.am_engine.specs.Traces.{CallLog}
+use Rattle.am_ties.specs.declared.receipt.Receipt.{Receipt}
+use Rattle.am_ties.specs.CallLogs.{CallLog}
+use Rattle.am_ties.specs.Receipts.{receipt, receipt_code, receipts_of}
+use Rattle.am_traced_steps.specs.Changes.{is_stored, moves_in}
 
 -- what contracts see of a seat: all its receipts, and how many of them, the oldest, it let go
 pub record SeatState : Type 0 where
@@ -19,16 +17,6 @@ pub record SeatState : Type 0 where
   pub let_go : ℕ
 
 -- it is stored as its fields
-abbrev pub ReceiptFields : Type 0
-ReceiptFields = (ℕ × ℕ) × ((Step × Reply) × ℕ)
-
-abbrev pub receipt_code : Coded Receipt
-receipt_code =
-    code_by ReceiptFields (coded× (coded× coded_ℕ coded_ℕ)
-    (coded× (coded× the_step.the_row.coded the_reply.the_row.coded) coded_ℕ))
-    (λ r. ((r.seat, r.call), ((r.step, r.reply), r.position)))
-    (λ f. record { seat = f.0.0; call = f.0.1; step = f.1.0.0; reply = f.1.0.1; position = f.1.1 }) (λ _. refl)
-
 abbrev pub seat_state_code : Coded SeatState
 seat_state_code =
     code_by (ℕ × (List Receipt × ℕ)) (coded× coded_ℕ (coded× (coded_list receipt_code) coded_ℕ))
@@ -56,9 +44,6 @@ AreBehind n all xs = (gone : List ℕ) × (length gone ≡ n) × (all ≡ gone +
 abbrev pub new_seat : ℕ → SeatState
 new_seat k = seat_state k [] 0
 
-abbrev pub receipt : ℕ → ℕ → Step → Reply → ℕ → Receipt
-receipt number call st r position = record { seat = number; call = call; step = st; reply = r; position = position }
-
 -- how many entries the replies say were moved
 abbrev pub moved_in : List Receipt → ℕ
 moved_in [] = 0
@@ -80,16 +65,6 @@ last_commit_of rs = commit_in (slice_get rs (length rs - 1))
 abbrev pub numbered : ℕ → List SeatState
 numbered zero = []
 numbered (suc n) = numbered n ++ new_seat n ∷ []
-
--- the receipts of that seat, where the next position and call are these
-abbrev pub receipts_from : ℕ → ℕ → ℕ → List (Step × Reply) → List CallId → List Receipt
-receipts_from k position call [] ms = []
-receipts_from k position call (p ∷ ps) [] = []
-receipts_from k position call (p ∷ ps) (m ∷ ms) = if m.seat == k then receipt k call p.0 p.1 position ∷
-    receipts_from k (suc position) (suc call) ps ms else receipts_from k (suc position) call ps ms
-
-abbrev pub receipts_of : ℕ → CallLog → List Receipt
-receipts_of k e = receipts_from k 0 0 e.trace e.calls
 
 -- one receipt more, of the next call
 abbrev pub GetsReceipt : SeatState → Step → Reply → SeatState → Type 0

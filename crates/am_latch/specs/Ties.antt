@@ -4,12 +4,14 @@ use Rattle.std.specs.Prelude.{if◌then◌else◌}
 use Rattle.am_record.specs.declared.step.Step.{Step}
 use Rattle.am_record.specs.declared.step.Step.TheVariants.{Begin, Do, Commit, Abort, Merge, Clean}
 use Rattle.am_record.specs.declared.step.Reply.{Reply}
-use Rattle.am_engine.specs.declared.change.Change.TheVariants.{Ends}
-use Rattle.am_engine.specs.Changes.{change, end_of, open_after, has, active_in_trace}
-use Rattle.am_latch.specs.declared.receipt.Receipt.{Receipt}
-use Rattle.am_engine.specs.declared.call_id.CallId.{CallId}
-use Rattle.am_engine.specs.Traces.{CallLog, EngineState, log_of, AreMadeBelow}
-use Rattle.am_latch.specs.Receipts.{SeatState, receipts_of}
+use Rattle.am_traced_steps.specs.declared.change.Change.TheVariants.{Ends}
+use Rattle.am_traced_steps.specs.Changes.{change, end_of, open_after, has, active_in_trace}
+use Rattle.am_ties.specs.declared.receipt.Receipt.{Receipt}
+use Rattle.am_ties.specs.declared.call_id.CallId.{CallId}
+use Rattle.am_ties.specs.CallLogs.{CallLog}
+use Rattle.am_engine.specs.Traces.{EngineState, log_of, AreMadeBelow}
+use Rattle.am_ties.specs.Receipts.{receipts_of}
+use Rattle.am_latch.specs.Receipts.{SeatState}
 
 abbrev pub open_from : Option ℕ → List Receipt → Option ℕ
 open_from o [] = o

@@ -1,6 +1,8 @@
 //! The latch, round the engine.
-ghost use Rattle.std.specs.Prelude.{◌≡◌, ◌↔◌, ◌⊎◌, ◌<◌, ◌≤◌, [], ◌++◌, IfOk, IfErr, OnErr};
+ghost use Rattle.std.specs.Prelude.{◌≡◌, ◌↔◌, ◌⊎◌, ◌<◌, ◌≤◌, [], ◌++◌, IfOk, IfErr, OnErr, IfSome};
 ghost use Rattle.am_sound.specs.Right.{IsSoundStore};
+ghost use Rattle.am_ties.specs.declared.views.View.TheVariants.{Minting, Log};
+ghost use Rattle.am_ties.specs.CallLogs.{empty_log};
 ghost use Rattle.am_latch.specs.Receipts.{numbered};
 ghost use Rattle.am_latch.specs.Faults.{IsBadSeats};
 ghost use Rattle.am_latch.specs.Ties.{IsEngineOf, HasReceiptsIn};
@@ -11,11 +13,9 @@ use crate::latch_name::LatchName;
 use crate::seat::Seat;
 use crate::state::LatchState;
 use crate::taker::Taker;
-use crate::taker_tie::{TakenTable, TakenToken, split_taker};
-use crate::view_steps::{end_minting, mint_seat};
-use crate::views::{Token, ViewTable};
 use am_engine::{Engine, Piece};
 use am_record::{HashKey, NoMemory};
+use am_ties::{TakenTable, TakenToken, Token, ViewTable, end_minting, mint_seat, split_taker};
 use std::alloc::Global;
 use std::marker::{Model, PhantomData};
 use std::sync::{Mutex, MutexGuard, Wait};
@@ -131,20 +131,12 @@ impl<L: LatchName> Latch<L> {
             mut taken_token,
             alloc,
         } = blank;
+        let Some(seats) = mint_seats(alloc, &table, &mut trace_token, count) else {
+            return Err(LatchFault::NoMemory);
+        };
         let Ok(engine) = Engine::open(alloc, hash) else {
             return Err(LatchFault::NoMemory);
         };
-        let mut seats = Vec::new(alloc);
-        if seats.reserve(count as usize).is_err() {
-            return Err(LatchFault::NoMemory);
-        }
-        for number in 0..count {
-            let token = mint_seat(&table, &mut trace_token, number);
-            if seats.push(Seat::new(alloc, number, token)).is_err() {
-                return Err(LatchFault::NoMemory);
-            }
-        }
-        end_minting(&table, &mut trace_token, count);
         let handed_token = split_taker(&taken, &mut taken_token);
         let state = LatchState::new(engine, trace_token, handed_token);
         Ok((
@@ -210,6 +202,31 @@ impl<L: LatchName> Latch<L> {
     {
         self.lock(rt).hand_out(&self.taken, taker)
     }
+}
+
+// The seats by number, with no receipts. The token knows the trace from then on.
+fn mint_seats<L: LatchName>(
+    alloc: Global,
+    table: &ViewTable,
+    trace_token: &mut Token,
+    count: u64,
+) -> Option<Vec<Seat<L>>>
+    requires count { (count ≡ L.seats) × (count ≤ 1024) }
+    requires table { (table.now.shared.table_id ≡ L.table.calls) × (0 < table.now.shared.table_id.words) }
+    requires trace_token { (trace_token.old.table_id ≡ L.table.calls) × (trace_token.old.me ≡ (Minting 0, [])) }
+    ensures seats { IfSome result (λ seats. seats.items ≡ numbered count) }
+    ensures same { trace_token.new.table_id ≡ trace_token.old.table_id }
+    ensures trace_token { IfSome result (λ _. trace_token.new.me ≡ (Log empty_log, [])) }
+{
+    let Ok(mut seats) = Vec::with_capacity(alloc, count as usize) else {
+        return None;
+    };
+    for number in 0..count {
+        let token = mint_seat(table, trace_token, number);
+        seats.push_reserved(Seat::new(alloc, number, token));
+    }
+    end_minting(table, trace_token, count);
+    Some(seats)
 }
 
 // Lends the engine, once the seat's receipts were compared.

@@ -3,20 +3,19 @@ ghost use Rattle.std.specs.Prelude.{◌≡◌, ◌<◌, ◌++◌, ◌↔◌, [],
 ghost use Rattle.am_core.specs.StoreSteps.{IsSoundAt};
 ghost use Rattle.am_latch.specs.Receipts.{AreReceiptsOf, AreAll, NumberedBelow, HaveReceiptsIn};
 ghost use Rattle.am_latch.specs.Ties.{SeatsAreTied};
-ghost use Rattle.am_engine.specs.Changes.{active_in_trace, numbers_active};
+ghost use Rattle.am_traced_steps.specs.Changes.{active_in_trace, numbers_active};
 ghost use Rattle.am_serial.specs.Legal.{IsLegal};
-ghost use Rattle.am_latch.specs.Views.{IsLogView, log_in};
+ghost use Rattle.am_ties.specs.Views.{IsLogView, log_in};
 
 use crate::latch::Latch;
 use crate::latch_name::LatchName;
 use crate::seat::Seat;
 use crate::state::LatchState;
 use crate::taker::Taker;
-use crate::taker_tie::hand_over;
-use crate::views::{Token, ViewTable};
 use am_btree::BTree;
 use am_core::Store;
 use am_record::{Reply, Step};
+use am_ties::{Token, ViewTable, hand_over};
 
 /// What a latch leaves: what it keeps of the trace of its calls, the store where the whole trace leaves it, and the
 /// seats with their receipts. The trace is what was handed out and then what is kept.

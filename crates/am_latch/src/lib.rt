@@ -1,7 +1,7 @@
 //! A store under one latch, whose calls stand in one trace, and seats that keep a receipt for each call.
 //!
 //! - [`Blank`], [`Latch`]: an [`am_engine::Engine`] under a lock, and its seats.
-//! - [`Seat`]: calls through the latch, with a [`Receipt`] for each; [`CommitReceipt`] says that a commit stands.
+//! - [`Seat`]: calls through the latch, with a receipt for each; [`CommitReceipt`] says that a commit stands.
 //! - [`Taker`]: who takes what the latch hands out of its trace.
 //! - [`close`]: when the threads have ended, receipts and trace are the same.
 //!
@@ -16,13 +16,10 @@ mod receipt;
 mod seat;
 mod state;
 mod taker;
-mod taker_tie;
-mod view_steps;
-mod views;
 
 pub use latch::{Blank, Latch, LatchFault, MAX_SEATS};
 pub use latch_end::{Closed, Missing, close};
 pub use latch_name::LatchName;
-pub use receipt::{CommitReceipt, Receipt};
+pub use receipt::CommitReceipt;
 pub use seat::Seat;
 pub use taker::Taker;

@@ -1,22 +1,11 @@
 //! What a seat keeps of a call.
 
 ghost use Rattle.std.specs.Prelude.{◌≡◌};
-ghost use Rattle.am_engine.specs.Changes.{moves_in};
+ghost use Rattle.am_traced_steps.specs.Changes.{moves_in};
 ghost use Rattle.am_latch.specs.Receipts.{committed_by};
 
-use am_record::{Reply, Step};
+use am_record::Reply;
 use std::marker::Model;
-
-/// One call of a seat: the step and its reply, and where the pair stands in the trace. No value of it is made: the pair
-/// is stored in the trace alone, and a seat keeps the position.
-pub struct Receipt {
-    pub seat: u64,
-    /// The calls of a seat are numbered from 0.
-    pub call: u64,
-    pub step: Step,
-    pub reply: Reply,
-    pub position: u64,
-}
 
 /// Says that a commit stands in the trace. Contracts see it as the commit's number.
 #[derive(Drop)]

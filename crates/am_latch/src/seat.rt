@@ -1,23 +1,25 @@
 //! A seat, which keeps a receipt for each of its calls.
 ghost use Rattle.std.specs.Prelude.{◌≡◌, ◌≢◌, ◌↔◌, ◌<◌, ◌≤◌, ◌+◌, [], length, IsSome, Some, None, true, vec_len};
-ghost use Rattle.std.specs.Prelude.{vec_capacity};
+ghost use Rattle.std.specs.Prelude.{vec_capacity, IfSome};
 ghost use Rattle.am_record.specs.Sessions.{IsAllowed};
 ghost use Rattle.am_record.specs.declared.step.Reply.TheVariants.{Refused};
 ghost use Rattle.am_record.specs.declared.step.Refusal.TheVariants.{SeatFull};
-ghost use Rattle.am_engine.specs.Changes.{end_of, is_stored, open_after, IsBoundedReply};
-ghost use Rattle.am_latch.specs.Receipts.{SeatState, new_seat, HasReceiptOf, receipts_of, moved_in, last_commit_of};
+ghost use Rattle.am_traced_steps.specs.Changes.{end_of, is_stored, open_after, IsBoundedReply};
+ghost use Rattle.am_engine.specs.Copies.{IsCopyOf};
+ghost use Rattle.am_ties.specs.Receipts.{receipts_of};
+ghost use Rattle.am_latch.specs.Receipts.{SeatState, new_seat, HasReceiptOf, moved_in, last_commit_of};
 ghost use Rattle.am_latch.specs.Receipts.{held_by, positions_of, AreBehind};
 ghost use Rattle.am_latch.specs.Ties.{open_of, EndsTx, receipts_needed};
-ghost use Rattle.am_latch.specs.declared.views.View.TheVariants.{Receipts};
-ghost use Rattle.am_latch.specs.Views.{new_seat_view, log_in, IsLogView};
+ghost use Rattle.am_ties.specs.declared.views.View.TheVariants.{Receipts};
+ghost use Rattle.am_ties.specs.Views.{new_seat_view, log_in, IsLogView};
 
 use crate::latch::Latch;
 use crate::latch_name::LatchName;
 use crate::receipt::{CommitReceipt, commit_by, moved_by};
-use crate::view_steps::compare_receipts;
-use crate::views::{Token, ViewTable};
-use am_engine::{CallId, Change, StepCopy, tx_to_end};
+use am_engine::{StepCopy, tx_to_end};
 use am_record::{Refusal, Reply, Step};
+use am_ties::{CallId, Token, ViewTable, compare_receipts};
+use am_traced_steps::Change;
 use std::alloc::Global;
 use std::marker::{Model, PhantomData};
 use std::sync::Wait;
@@ -47,7 +49,7 @@ pub struct Seat<L: LatchName> {
 impl<L: LatchName> Model for Seat<L> {
     ghost use Rattle.am_latch.specs.Fields.{IsSeat};
     ghost use Rattle.am_latch.specs.Receipts.{seat_state_code, SeatState, seat_state};
-    ghost use Rattle.am_latch.specs.Views.{seat_in};
+    ghost use Rattle.am_ties.specs.Views.{seat_in};
 
     ghost Value = { SeatState };
 
@@ -156,7 +158,7 @@ impl<L: LatchName> Seat<L> {
         self.make_call(rt, latch, step)
     }
 
-    // Takes a step. What needs no latch comes before it: the room for the receipt, and the copy for the trace.
+    // Takes a step. What needs no latch comes before it.
     fn make_call<R: Wait>(&mut self, rt: &R, latch: &Latch<L>, step: Step) -> Reply
         requires may { IsAllowed (open_of self.old.receipts) step }
         requires room { end_of step ≡ None → held_by self.old < 1000000 }
@@ -165,11 +167,7 @@ impl<L: LatchName> Seat<L> {
         ensures ended { EndsTx step result }
         ensures bounded { IsBoundedReply step result }
     {
-        let receipts_needed = places_for(self.open_now, &step);
-        if !get_places(&mut self.positions, receipts_needed) {
-            return Reply::Refused(Refusal::NoMemory);
-        }
-        let Some(copy) = StepCopy::of(self.alloc, &step) else {
+        let Some(copy) = prepare(self.alloc, &mut self.positions, self.open_now, &step) else {
             return Reply::Refused(Refusal::NoMemory);
         };
         let call_id = CallId {
@@ -199,6 +197,28 @@ impl<L: LatchName> Seat<L> {
     {
         compare_receipts(table, &mut self.token, trace_token)
     }
+}
+
+// The room for the receipt, and the copy for the trace.
+fn prepare(
+    alloc: Global,
+    positions: &mut Vec<u64>,
+    open_now: Option<u64>,
+    step: &Step,
+) -> Option<StepCopy>
+    ensures same { positions.new.items ≡ positions.old.items }
+    ensures long { vec_len positions.new ≡ vec_len positions.old }
+    ensures kept { vec_capacity positions.old ≤ vec_capacity positions.new }
+    ensures got { IfSome result (λ _. vec_len positions.new + receipts_needed open_now step.now ≤
+        vec_capacity positions.new) }
+    ensures copies { IfSome result (IsCopyOf step.now) }
+    ensures ends { vec_len positions.old + receipts_needed open_now step.now ≤ vec_capacity positions.old →
+        IsSome (end_of step.now) → IsSome result }
+{
+    if !get_places(positions, places_for(open_now, step)) {
+        return None;
+    }
+    StepCopy::of(alloc, step)
 }
 
 // Room for so many receipts more.

@@ -4,24 +4,26 @@ ghost use Rattle.am_record.specs.Sessions.{IsAllowed};
 ghost use Rattle.am_record.specs.declared.step.Reply.TheVariants.{Refused};
 ghost use Rattle.am_record.specs.declared.step.Refusal.TheVariants.{SeatFull};
 ghost use Rattle.am_sound.specs.Right.{IsSoundStore};
-ghost use Rattle.am_engine.specs.Changes.{is_stored, stored_at, IsBoundedReply};
+ghost use Rattle.am_traced_steps.specs.Changes.{is_stored, IsBoundedReply};
 ghost use Rattle.am_engine.specs.Copies.{IsCopyOf};
-ghost use Rattle.am_engine.specs.Traces.{CallLog, EngineState, log_of, empty_log, StoresCall, AreMadeBelow, IsNextOf};
-ghost use Rattle.am_latch.specs.Receipts.{receipts_of};
+ghost use Rattle.am_ties.specs.CallLogs.{CallLog, empty_log};
+ghost use Rattle.am_engine.specs.Traces.{EngineState, log_of, StoresCall, stored_at, AreMadeBelow, IsNextOf};
+ghost use Rattle.am_ties.specs.Receipts.{receipts_of};
 ghost use Rattle.am_engine.specs.Sizes.{AreFiguresAt};
 ghost use Rattle.am_latch.specs.Ties.{open_of, EndsTx, IsTied, IsEngineOf};
-ghost use Rattle.am_latch.specs.declared.taker_tie.TakenView.TheVariants.{Handed};
-ghost use Rattle.am_latch.specs.declared.views.View.TheVariants.{Log, Receipts};
-ghost use Rattle.am_latch.specs.Views.{seat_in, seat_with, IsSeatView};
+ghost use Rattle.am_ties.specs.declared.taker_tie.TakenView.TheVariants.{Handed};
+ghost use Rattle.am_ties.specs.declared.views.View.TheVariants.{Log, Receipts};
+ghost use Rattle.am_ties.specs.Views.{seat_in, seat_with, IsSeatView};
 
 use crate::latch_name::LatchName;
 use crate::seat::Seat;
 use crate::taker::Taker;
-use crate::taker_tie::{TakenTable, TakenToken, TakenView, hand_over};
-use crate::view_steps::{append_call, compare_receipts};
-use crate::views::{Token, View, ViewTable};
-use am_engine::{CallId, Engine, Outcome, Piece, StepCopy};
+use am_engine::{Engine, Outcome, Piece, StepCopy};
 use am_record::{NoMemory, Reply, Step};
+use am_ties::{
+    CallId, TakenTable, TakenToken, TakenView, Token, View, ViewTable, append_call,
+    compare_receipts, hand_over,
+};
 use atomic_table::Badge;
 use std::marker::{Model, PhantomData};
 use std::mem;
@@ -36,7 +38,8 @@ pub(crate) struct LatchState<L: LatchName> {
 }
 
 impl<L: LatchName> Model for LatchState<L> {
-    ghost use Rattle.am_engine.specs.Traces.{call_log_code, CallLog, log_of};
+    ghost use Rattle.am_ties.specs.CallLogs.{call_log_code, CallLog};
+    ghost use Rattle.am_engine.specs.Traces.{log_of};
     ghost use Rattle.am_latch.specs.Fields.{IsLatchState};
 
     ghost Value = { CallLog };

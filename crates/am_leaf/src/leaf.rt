@@ -66,11 +66,8 @@ impl RawLeaf {
         })
     }
 
-    /// A leaf with no entries, and room for such keys and values as this one has room for.
-    ///
-    /// # Errors
-    /// NoMemory, where memory was refused.
-    pub fn new_like(&self, alloc: Global) -> Result<RawLeaf, NoMemory>
+    // A leaf with no entries, and room for such keys and values as this one has room for.
+    fn new_like(&self, alloc: Global) -> Result<RawLeaf, NoMemory>
         ensures entries { IfOk result (λ leaf. leaf.entries ≡ []) }
         ensures room { IfOk result (λ leaf. SameRoom leaf self.now) }
     {
@@ -283,9 +280,26 @@ impl RawLeaf {
         }
     }
 
-    /// Moves the entries from the index on to another leaf, which is empty.
+    /// Moves the entries from the index on to a new leaf, which has room for such keys and values as this one.
+    ///
+    /// # Errors
+    /// NoMemory, where memory was refused. The entries are as before then.
+    pub fn split_off(&mut self, alloc: Global, at: usize) -> Result<RawLeaf, NoMemory>
+        requires in_range { at ≤ length self.old.entries }
+        ensures front { OnOk result (self.new.entries ≡ take at self.old.entries) }
+        ensures back { IfOk result (λ upper. upper.entries ≡ drop at self.old.entries) }
+        ensures same_room { SameRoom self.new self.old }
+        ensures upper_room { IfOk result (λ upper. SameRoom upper self.old) }
+        ensures err { OnErr result (self.new.entries ≡ self.old.entries) }
+    {
+        let mut upper = self.new_like(alloc)?;
+        self.split_into(&mut upper, at);
+        Ok(upper)
+    }
+
+    // Moves the entries from the index on to another leaf, which is empty.
     #[tactic(auto, using(crate::proofs::Leaves::counted))]
-    pub fn split_into(&mut self, other: &mut RawLeaf, at: usize)
+    fn split_into(&mut self, other: &mut RawLeaf, at: usize)
         requires in_range { at ≤ length self.old.entries }
         requires empty { other.old.entries ≡ [] }
         requires alike { SameRoom other.old self.old }

@@ -142,16 +142,24 @@ fn are_alike(runs: &[Run], again: &[Run]) -> Result<(), Fault> {
     expect(runs[0].pairs() == again[0].pairs() && runs[1].pairs() == again[1].pairs())
 }
 
-// Loads both runs into a list that has no entries.
-fn load_both(alloc: Global, runs: &[Run]) -> Result<Parts<ListIndex>, Fault>
-    ensures { IfOk result (λ parts. NothingAbove parts.runs parts.entries) }
+// Loads both runs.
+fn load_in_turn(parts: &mut Parts<ListIndex>, runs: &[Run]) -> Result<(), Fault>
+    requires { NothingAbove parts.old.runs parts.old.entries }
+    ensures { NothingAbove parts.new.runs parts.new.entries }
 {
     let [first, second] = runs else {
         return Err(Fault::Differs);
     };
+    load_run(parts, first, &[])?;
+    load_run(parts, second, &runs[..1])
+}
+
+// Loads both runs into a list that has no entries.
+fn load_both(alloc: Global, runs: &[Run]) -> Result<Parts<ListIndex>, Fault>
+    ensures { IfOk result (λ parts. NothingAbove parts.runs parts.entries) }
+{
     let mut parts = Parts::new(alloc, ListIndex::new(alloc), HashKey::known());
-    load_run(&mut parts, first, &[])?;
-    load_run(&mut parts, second, &runs[..1])?;
+    load_in_turn(&mut parts, runs)?;
     expect(has_just(&parts, runs))?;
     Ok(parts)
 }
@@ -164,13 +172,18 @@ fn refuses(parts: &mut Parts<ListIndex>, all: &Run) -> Result<(), Fault>
     expect(load(parts, all) == Reply::Exists(all.pairs()[0].0))
 }
 
+// Cuts the records into the same runs at once, and loads these. Then a run of all records is refused.
+fn load_runs(alloc: Global, records: &[(Key, Value)], runs: &[Run]) -> Result<(), Fault> {
+    are_alike(runs, &all_runs_of(alloc, records)?)?;
+    let all = run_of_all(alloc, records)?;
+    let mut parts = load_both(alloc, runs)?;
+    refuses(&mut parts, &all)?;
+    expect(has_just(&parts, runs))
+}
+
 /// Records in no order are cut into two runs and loaded. Then a run of all of them is refused, with memory or without.
 pub(crate) fn loads_of_a_list(alloc: Global) -> Result<(), Fault> {
     let records = Records::new(records_in_no_order(alloc)?);
     let runs = runs_of(alloc, &records)?;
-    are_alike(&runs, &all_runs_of(alloc, records.as_slice())?)?;
-    let all = run_of_all(alloc, records.as_slice())?;
-    let mut parts = load_both(alloc, &runs)?;
-    refuses(&mut parts, &all)?;
-    expect(has_just(&parts, &runs))
+    load_runs(alloc, records.as_slice(), &runs)
 }

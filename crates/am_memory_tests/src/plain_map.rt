@@ -72,16 +72,21 @@ fn scan_some(alloc: Global, plain: &mut Plain) -> Result<(), Fault> {
     answers(plain, &scan, 20, &rows)
 }
 
+// Inserts, a scan, and deletes behind a savepoint.
+fn insert_and_go_back(alloc: Global, plain: &mut Plain) -> Result<(), Fault> {
+    insert_all(plain)?;
+    scan_some(alloc, plain)?;
+    answers(plain, &Op::Mark, 20, &Reply::Done)?;
+    delete_all(plain)?;
+    goes_back(plain, &Reply::Done)?;
+    goes_back(plain, &Reply::NoMark)?;
+    expect(has_below(plain, 20)?)
+}
+
 /// Inserts, a scan, and deletes behind a savepoint. After want of memory they are asked again.
 pub(crate) fn plain_answers(alloc: Global) -> Result<(), Fault> {
     let mut plain = Plain::new(alloc);
-    insert_all(&mut plain)?;
-    scan_some(alloc, &mut plain)?;
-    answers(&mut plain, &Op::Mark, 20, &Reply::Done)?;
-    delete_all(&mut plain)?;
-    goes_back(&mut plain, &Reply::Done)?;
-    goes_back(&mut plain, &Reply::NoMark)?;
-    expect(has_below(&mut plain, 20)?)
+    insert_and_go_back(alloc, &mut plain)
 }
 
 fn are_done(replies: &[Reply]) -> Result<(), Fault> {
@@ -95,11 +100,15 @@ fn body(alloc: Global) -> Result<[Op; 4], NoMemory> {
     Ok([load, Op::Mark, insert, Op::Back])
 }
 
+fn take_alone(alloc: Global, plain: &mut Plain, body: &[Op]) -> Result<(), Fault> {
+    let replies = alone(alloc, plain, body)?;
+    are_done(&replies)?;
+    expect(has_below(plain, 15)?)
+}
+
 /// A body with a load. After want of memory it begins anew.
 pub(crate) fn plain_alone(alloc: Global) -> Result<(), Fault> {
-    let mut plain = Plain::new(alloc);
     let body = body(alloc)?;
-    let replies = alone(alloc, &mut plain, &body)?;
-    are_done(&replies)?;
-    expect(has_below(&mut plain, 15)?)
+    let mut plain = Plain::new(alloc);
+    take_alone(alloc, &mut plain, &body)
 }

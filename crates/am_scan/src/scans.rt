@@ -1,6 +1,6 @@
 //! A scan: the first records of a range, over all partitions of an index.
 
-ghost use Rattle.std.specs.Prelude.{◌≡◌, ◌<◌, ◌≤◌, IfOk, IfSome};
+ghost use Rattle.std.specs.Prelude.{◌≡◌, ◌<◌, ◌≤◌, take, IfOk, IfSome};
 ghost use Rattle.am_record.specs.Plain.{scan_rows};
 ghost use Rattle.am_index.specs.Content.{content, LivesInOne};
 ghost use Rattle.am_parts.specs.Partitions.{AreWellFormed};
@@ -68,6 +68,17 @@ fn merge_rows<I: PartIndex + Drop>(
 {
     let rows_at_once = rows_at_once(parts, range, max);
     let mut cursor = Cursor::open_for(alloc, parts, range, rows_at_once)?;
+    take_rows(alloc, &mut cursor, max)
+}
+
+// Takes the first records that are still to come, as many as are asked for.
+fn take_rows<I: PartIndex + Drop>(
+    alloc: Global,
+    cursor: &mut Cursor<'_, I>,
+    max: u64,
+) -> Result<Vec<(Key, Value)>, NoMemory>
+    ensures { IfOk result (λ rows. rows.items ≡ take max cursor.old) }
+{
     let mut rows = Vec::new(alloc);
     rows.reserve(max.min(FIRST_ROOM) as usize)?;
     for _ in 0..max {

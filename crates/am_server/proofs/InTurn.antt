@@ -6,7 +6,7 @@ use Rattle.std.proofs.Common.{inl, inr, nat_lt}
 use Rattle.std.proofs.lemmas.Bool.{true≢false, ltb-true, ltb-false}
 use Rattle.std.specs.List.{AllZip}
 use Rattle.std.proofs.lemmas.List.Elements.{All-nil, All-cons}
-use Rattle.am_latch.specs.declared.receipt.Receipt.{Receipt}
+use Rattle.am_ties.specs.declared.receipt.Receipt.{Receipt}
 use Rattle.am_latch.specs.Receipts.{SeatState}
 use Rattle.am_latch.specs.Ties.{open_of}
 use Rattle.am_session_seat.specs.SessionSeats.{SessionSeatState, HasDrawn, IsNumbered, open_at}

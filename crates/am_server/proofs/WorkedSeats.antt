@@ -2,7 +2,7 @@
 use Rattle.std.proofs.Common.{◌≡◌, List, [], ◌∷◌, ◌++◌, ap, sym, ◌∙◌, refl, subst, All}
 use Rattle.std.specs.List.{AllZip}
 use Rattle.std.proofs.lemmas.List.Elements.{All-nil, All-cons}
-use Rattle.am_latch.specs.declared.receipt.Receipt.{Receipt}
+use Rattle.am_ties.specs.declared.receipt.Receipt.{Receipt}
 use Rattle.am_latch.specs.Receipts.{SeatState}
 use Rattle.am_session_seat.specs.Seats.{seat_numbers, IsNewSeat}
 use Rattle.am_session_seat.proofs.SeatOrder.{all_first, all_rest}

@@ -1,6 +1,6 @@
 //! A port of this machine.
 
-ghost use Rattle.std.specs.Prelude.{◌≡◌, ◌≤◌, ◌<◌, ◌*◌, IfOk, is_some, None, if◌then◌else◌};
+ghost use Rattle.std.specs.Prelude.{◌≡◌, ◌≤◌, ◌<◌, ◌*◌, IfOk, is_some, None, Some, if◌then◌else◌};
 ghost use Rattle.am_server.specs.Listeners.{IsAtPort, IsAtSocket};
 ghost use Rattle.am_server.specs.ServerTraces.{IsServerTrace};
 
@@ -89,16 +89,7 @@ impl PortListener {
         ensures socket { IfOk result (λ l. IsAtSocket path.now l.socket) }
         ensures same { IfOk result (λ l. (l.port ≡ self.port) × (l.door ≡ self.door)) }
     {
-        let Ok(name) = String::from_str(rt.alloc(), path) else {
-            return Err(BindFault::CannotListen);
-        };
-        let Ok(listener) = listen_at_socket(rt, path) else {
-            return Err(BindFault::CannotListen);
-        };
-        let socket = Some(Door::Socket {
-            listener,
-            path: name,
-        });
+        let socket = Some(door_at_socket(rt, path)?);
         Ok(PortListener { socket, ..self })
     }
 
@@ -177,6 +168,22 @@ impl PortListener {
             keeping,
         )
     }
+}
+
+// A door at a socket of the file system.
+fn door_at_socket<R: AllocGlobal + Files + Net>(rt: &R, path: &str) -> Result<Door, BindFault>
+    ensures { IfOk result (λ door. IsAtSocket path.now (Some door)) }
+{
+    let Ok(name) = String::from_str(rt.alloc(), path) else {
+        return Err(BindFault::CannotListen);
+    };
+    let Ok(listener) = listen_at_socket(rt, path) else {
+        return Err(BindFault::CannotListen);
+    };
+    Ok(Door::Socket {
+        listener,
+        path: name,
+    })
 }
 
 // Connects until it could, so that a thread which waits at the door sees that it is to stop.

@@ -9,10 +9,11 @@ use Rattle.am_record.specs.declared.step.Step.{Step}
 use Rattle.am_record.specs.declared.step.Step.TheVariants.{Begin, Abort}
 use Rattle.am_record.specs.declared.step.Reply.{Reply}
 use Rattle.am_record.specs.declared.step.Reply.TheVariants.{Begun, Committed, Aborted, Refused}
-use Rattle.am_latch.specs.declared.receipt.Receipt.{Receipt}
-use Rattle.am_engine.specs.declared.change.Change.TheVariants.{Ends}
-use Rattle.am_engine.specs.Changes.{change, open_after, is_stored, IsReplyTo, IsBoundedReply}
-use Rattle.am_latch.specs.Receipts.{SeatState, receipt, GetsReceipt, HasReceiptOf}
+use Rattle.am_ties.specs.declared.receipt.Receipt.{Receipt}
+use Rattle.am_traced_steps.specs.declared.change.Change.TheVariants.{Ends}
+use Rattle.am_traced_steps.specs.Changes.{change, open_after, is_stored, IsReplyTo, IsBoundedReply}
+use Rattle.am_ties.specs.Receipts.{receipt}
+use Rattle.am_latch.specs.Receipts.{SeatState, GetsReceipt, HasReceiptOf}
 use Rattle.am_latch.specs.Ties.{open_from, open_of, EndsTx as IsEnded}
 use Rattle.am_dialogue.specs.Actions.{EndsAbort}
 

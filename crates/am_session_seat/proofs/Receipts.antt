@@ -9,9 +9,10 @@ use Rattle.am_record.specs.declared.step.Step.{Step}
 use Rattle.am_record.specs.declared.step.Reply.{Reply}
 use Rattle.am_record.specs.declared.step.Reply.TheVariants.{Committed}
 use Rattle.am_serial.specs.Trace.{Trace}
-use Rattle.am_latch.specs.declared.receipt.Receipt.{Receipt}
-use Rattle.am_engine.specs.Changes.{is_stored}
-use Rattle.am_latch.specs.Receipts.{SeatState, GetsReceipt, receipt}
+use Rattle.am_ties.specs.declared.receipt.Receipt.{Receipt}
+use Rattle.am_traced_steps.specs.Changes.{is_stored}
+use Rattle.am_ties.specs.Receipts.{receipt}
+use Rattle.am_latch.specs.Receipts.{SeatState, GetsReceipt}
 use Rattle.am_dialogue.proofs.Conversations.{HoldsOfSteps}
 use Rattle.am_session_seat.specs.SessionSeats.{SessionSeatState, published, MakesCall, seat_meaning, HasReceipts, taken}
 use Rattle.am_session_seat.specs.SessionSeats.{stored_events}

@@ -4,8 +4,8 @@ use Rattle.am_record.specs.declared.step.Step.{Step}
 use Rattle.am_record.specs.declared.step.Reply.{Reply}
 use Rattle.am_record.specs.declared.step.Reply.TheVariants.{Committed}
 use Rattle.am_serial.specs.Trace.{Trace}
-use Rattle.am_latch.specs.declared.receipt.Receipt.{Receipt}
-use Rattle.am_engine.specs.Changes.{is_stored}
+use Rattle.am_ties.specs.declared.receipt.Receipt.{Receipt}
+use Rattle.am_traced_steps.specs.Changes.{is_stored}
 use Rattle.am_latch.specs.Receipts.{SeatState, HasReceiptOf}
 use Rattle.am_latch.specs.Ties.{open_of}
 use Rattle.am_counters.specs.Counters.{CounterHistory, most_draws}

@@ -11,11 +11,12 @@ use Rattle.am_record.specs.declared.step.Step.TheVariants.{Merge, Clean}
 use Rattle.am_record.specs.declared.step.Reply.{Reply}
 use Rattle.am_record.specs.declared.step.Reply.TheVariants.{Idle}
 use Rattle.am_record.proofs.Lists.{AllByRecursion-append}
-use Rattle.am_engine.specs.declared.change.Change.{Change}
-use Rattle.am_engine.specs.declared.change.Change.TheVariants.{Nothing}
-use Rattle.am_latch.specs.declared.receipt.Receipt.{Receipt}
-use Rattle.am_engine.specs.Changes.{change, is_stored, open_after}
-use Rattle.am_latch.specs.Receipts.{SeatState, receipt, moved_in, GetsReceipt, HasReceiptOf}
+use Rattle.am_traced_steps.specs.declared.change.Change.{Change}
+use Rattle.am_traced_steps.specs.declared.change.Change.TheVariants.{Nothing}
+use Rattle.am_ties.specs.declared.receipt.Receipt.{Receipt}
+use Rattle.am_traced_steps.specs.Changes.{change, is_stored, open_after}
+use Rattle.am_ties.specs.Receipts.{receipt}
+use Rattle.am_latch.specs.Receipts.{SeatState, moved_in, GetsReceipt, HasReceiptOf}
 use Rattle.am_latch.specs.Ties.{open_of}
 use Rattle.am_latch.proofs.SeatTransactions.{open_from-snoc}
 use Rattle.am_turns.specs.declared.upkeep.Upkeep.{Upkeep}

@@ -4,7 +4,7 @@ use Rattle.std.specs.List.{AllByRecursion}
 use Rattle.am_record.specs.Interval.{Interval}
 use Rattle.am_record.specs.declared.step.Reply.TheVariants.{Idle}
 use Rattle.am_record.specs.declared.step.Step.TheVariants.{Merge, Clean}
-use Rattle.am_latch.specs.declared.receipt.Receipt.{Receipt}
+use Rattle.am_ties.specs.declared.receipt.Receipt.{Receipt}
 use Rattle.am_latch.specs.Receipts.{SeatState, moved_in}
 use Rattle.am_latch.specs.Ties.{open_of}
 use Rattle.am_turns.specs.declared.upkeep.Upkeep.{Upkeep}

@@ -1,6 +1,6 @@
-use crate::CallId;
 use crate::engine::Engine;
 use am_record::{HashKey, Step};
+use am_ties::CallId;
 use std::test::Fail;
 
 // Where all that was stored is handed out, the end of an active transaction still has its room.

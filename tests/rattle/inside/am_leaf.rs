@@ -85,13 +85,10 @@ fn set(alloc: Global, leaf: &mut RawLeaf, at: usize, like: Entry) -> Result<(), 
     Ok(())
 }
 
-// Splits the leaf, where it is long enough.
+// Splits the leaf, at its end at most.
 fn split(alloc: Global, leaf: &mut RawLeaf, at: usize) -> Result<RawLeaf, NoMemory> {
-    let mut other = leaf.new_like(alloc)?;
-    if at <= leaf.len() {
-        leaf.split_into(&mut other, at);
-    }
-    Ok(other)
+    let end = leaf.len();
+    leaf.split_off(alloc, at.min(end))
 }
 
 #[test]

@@ -1,6 +1,6 @@
 //! Worked examples of the crates: of records, indexes, partitions, directories, loads, scans, locks, what is undone, transactions,
-//! merges, the plain map, lines, replies, streams, stored traces with their audits and command lines; of steps and lines that
-//! take several crates; of a long history; and of seats, words and workers on threads, and clients of a server.
+//! merges, the plain map, structs of C, lines, replies, streams, stored traces with their audits and command lines; of steps and
+//! lines that take several crates; of a long history; and of seats, words and workers on threads, and clients of a server.
 //!
 //! They are run by the kit's checked build, and not proved. Their files end in `.rs`, so that the gate doesn't read them.
 #![tactic(auto)]
@@ -43,6 +43,7 @@ mod seats;
 mod sockets;
 mod steps;
 mod streams;
+mod structs;
 mod traces;
 mod transactions;
 mod trees;

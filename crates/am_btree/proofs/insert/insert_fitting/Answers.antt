@@ -37,14 +37,14 @@ invariant_of-right c =
     let xs = c.args.leaf.now.entries in let x = c.args.entry.now in let i = c.in-Err.at in
     let gap = c.in-Err.ensures.absent
     in let m = lower_size c.keep_of.result i in
-    let out = c.split_insert.ensures in
+    let out = c.in_ok-upper.ensures in
     let range = size_range c.keep_of.result i c.keep_of.ensures.keeps c.keep_of.ensures.room in
-    let long = upper_long xs x i gap c.in-Err.ensures.rising m c.split_insert.new.leaf.entries
-    c.split_insert.new.upper.entries out.front out.back in (
+    let long = upper_long xs x i gap c.in-Err.ensures.rising m c.split_insert-split.new.leaf.entries
+    c.in_ok-upper.upper.entries out.front out.back in (
       omega (arith, c.len-len.ensures.most, c.len-len.ensures.all),
       (
-        rising_upper xs x i gap c.in-Err.ensures.rising m c.split_insert.new.leaf.entries
-            c.split_insert.new.upper.entries out.front out.back,
+        rising_upper xs x i gap c.in-Err.ensures.rising m c.split_insert-split.new.leaf.entries
+            c.in_ok-upper.upper.entries out.front out.back,
         c.len-3.ensures.room,
       ),
     )
@@ -54,10 +54,10 @@ get-requires c =
     let xs = c.args.leaf.now.entries in let x = c.args.entry.now in let i = c.in-Err.at in
     let gap = c.in-Err.ensures.absent
     in let m = lower_size c.keep_of.result i in
-    let out = c.split_insert.ensures in
+    let out = c.in_ok-upper.ensures in
     let range = size_range c.keep_of.result i c.keep_of.ensures.keeps c.keep_of.ensures.room in
-    let long = upper_long xs x i gap c.in-Err.ensures.rising m c.split_insert.new.leaf.entries
-    c.split_insert.new.upper.entries out.front out.back in
+    let long = upper_long xs x i gap c.in-Err.ensures.rising m c.split_insert-split.new.leaf.entries
+    c.in_ok-upper.upper.entries out.front out.back in
     omega (arith, c.len-len.ensures.all, c.if-len-lt-ROOM.false)
 
 pub returns-clause-ok : goal.returns-clause-ok
@@ -65,8 +65,8 @@ returns-clause-ok c =
     let xs = c.args.leaf.now.entries in let x = c.args.entry.now in let i = c.in-Err.at in
     let gap = c.in-Err.ensures.absent
     in let m = lower_size c.keep_of.result i in
-    let out = c.split_insert.ensures in let lower = c.split_insert.new.leaf.entries in
-    let upper = c.split_insert.new.upper.entries in
+    let out = c.in_ok-upper.ensures in let lower = c.split_insert-split.new.leaf.entries in
+    let upper = c.in_ok-upper.upper.entries in
     let range = size_range c.keep_of.result i c.keep_of.ensures.keeps c.keep_of.ensures.room in
     let long = upper_long xs x i gap c.in-Err.ensures.rising m lower upper out.front out.back in
     let longer = length-insert xs i x gap.in_range in
@@ -96,7 +96,7 @@ returns-clause-ok c =
       },
       (
         c.in_ok-spares.ensures,
-        leaves_keep c.args.leaf.now c.split_insert.new.leaf c.split_insert.new.upper c.len-2.ensures.room
+        leaves_keep c.args.leaf.now c.split_insert-split.new.leaf c.in_ok-upper.upper c.len-2.ensures.room
             c.len-3.ensures.room (omega (arith, out.room)) (omega (arith, out.upper_room)),
       ),
     )
@@ -111,9 +111,9 @@ returns-clause-rising c =
     let xs = c.args.leaf.now.entries in let x = c.args.entry.now in let i = c.in-Err.at in
     let gap = c.in-Err.ensures.absent
     in let m = lower_size c.keep_of.result i in
-    let out = c.split_insert.ensures in
-    rising_front c.split_insert.new.leaf.entries c.split_insert.new.upper.entries
-    (rising_both xs x i gap c.in-Err.ensures.rising m c.split_insert.new.leaf.entries c.split_insert.new.upper.entries
+    let out = c.in_ok-upper.ensures in
+    rising_front c.split_insert-split.new.leaf.entries c.in_ok-upper.upper.entries
+    (rising_both xs x i gap c.in-Err.ensures.rising m c.split_insert-split.new.leaf.entries c.in_ok-upper.upper.entries
     out.front out.back)
 
 is_some : {X : Type 0} (o : Option X) → o ≢ None → IsSome o

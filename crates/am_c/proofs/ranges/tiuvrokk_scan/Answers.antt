@@ -1,8 +1,8 @@
 use Rattle.std.proofs.Common.{length, subst}
 use Rattle.std.specs.Prelude.{Result}
 use Rattle.am_record.specs.declared.step.Step.{Step}
-use Rattle.am_c.specs.declared.status.Status.{Status}
-use Rattle.am_c.specs.StoreSteps.{Answers}
+use Rattle.am_c_steps.specs.declared.status.Status.{Status}
+use Rattle.am_c_store.specs.StoreSteps.{Answers}
 use Rattle.am_c.proofs.Rows.{rows_fit}
 use Rattle.am_c.proofs.ranges.tiuvrokk_scan.Goals as goal
 

@@ -2,14 +2,15 @@ use Rattle.std.proofs.Common.{rules, ap, sym, ◌≡◌, ◌∙◌, subst, lengt
 use Rattle.am_serial.specs.Trace.{Trace}
 use Rattle.am_serial.specs.Legal.{IsLegal}
 use Rattle.am_core.specs.StoreSteps.{IsSoundAt}
-use Rattle.am_engine.specs.Traces.{CallLog, log_of}
+use Rattle.am_ties.specs.CallLogs.{CallLog}
+use Rattle.am_engine.specs.Traces.{log_of}
 use Rattle.am_latch.specs.Receipts.{SeatState, AreAll, HaveReceiptsIn, AreReceiptsOf, NumberedBelow}
-use Rattle.am_latch.specs.Views.{log_in}
+use Rattle.am_ties.specs.Views.{log_in}
 use Rattle.am_latch.proofs.SeatReceipts.{kept, whole_again}
-use Rattle.am_engine.specs.Changes.{active_in_trace}
+use Rattle.am_traced_steps.specs.Changes.{active_in_trace}
 use Rattle.am_latch.specs.Ties.{SeatsAreTied}
 use Rattle.am_latch.proofs.Opens.{open_is}
-use Rattle.am_latch.specs.HandOutRule.{handed_in}
+use Rattle.am_ties.specs.HandOutRule.{handed_in}
 use Rattle.am_latch.proofs.EngineAndToken.{only}
 use Rattle.am_latch.proofs.latch_end.close.Given.{Over}
 use Rattle.am_latch.proofs.latch_end.close.Goals as goal

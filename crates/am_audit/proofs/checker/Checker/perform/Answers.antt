@@ -1,7 +1,7 @@
 use Rattle.std.proofs.Common.{refl, sym, ap, ◌∙◌, ◌+◌, map}
 use Rattle.std.proofs.lemmas.Result.{on_ok_weaker}
-use Rattle.am_audit.specs.Progress.{listed, with_own}
-use Rattle.am_audit.proofs.Actives.{items_kept}
+use Rattle.am_replies.specs.OwnAnswers.{listed, with_own}
+use Rattle.am_replies.proofs.Actives.{items_kept}
 use Rattle.am_audit.proofs.Performs.{takes_refused, takes_answer}
 use Rattle.am_audit.proofs.checker.Checker.perform.Goals as goal
 

@@ -4,12 +4,12 @@ use Rattle.am_record.specs.declared.step.Step.{Step}
 use Rattle.am_record.specs.declared.step.Reply.TheVariants.{Refused}
 use Rattle.am_record.specs.declared.step.Refusal.TheVariants.{NoMemory}
 use Rattle.am_serial.specs.Trace.{Trace}
-use Rattle.am_engine.specs.Changes.{active_in_trace, change, numbers_with, HasTrace, MayFollow}
+use Rattle.am_traced_steps.specs.Changes.{active_in_trace, change, numbers_with, HasTrace, MayFollow}
 use Rattle.am_engine.specs.EngineFields.{room_left, most_positions}
 use Rattle.am_engine.specs.Traces.{EngineState, ends_after}
 use Rattle.am_engine.specs.Wants.{MayWantMemory, pairs_needed}
 use Rattle.am_engine.proofs.Rooms.{room_step, room_less, ends_spent}
-use Rattle.am_engine.proofs.StoreAnswers.{active_from-snoc}
+use Rattle.am_traced_steps.proofs.StoreAnswers.{active_from-snoc}
 use Rattle.am_engine.proofs.MemoryWants.{short, short_of, store_wants, by_reason, refused_so}
 use Rattle.am_engine.proofs.engine.Engine.step_with.Goals as goal
 

@@ -1,14 +1,15 @@
 use Rattle.std.proofs.Common.{rules, arith, length, length-append, ap, sym, subst, ◌≡◌, ◌∙◌, ◌+◌, ◌<◌, ℕ, List, [], ◌∷◌}
-use Rattle.std.proofs.Common.{◌++◌, Option, None, vec_len, vec_capacity, refl}
+use Rattle.std.proofs.Common.{◌++◌, ◌≤◌, Option, None, IfSome, vec_len, vec_capacity, refl}
 use Rattle.atomic_table.specs.Table.{Me}
 use Rattle.am_record.specs.Sessions.{IsAllowed}
-use Rattle.am_engine.specs.Changes.{change, end_of, open_after}
+use Rattle.am_traced_steps.specs.Changes.{change, end_of, open_after}
 use Rattle.am_engine.specs.declared.change.Stored.{Stored}
-use Rattle.am_latch.specs.declared.receipt.Receipt.{Receipt}
-use Rattle.am_latch.specs.declared.views.View.{View}
-use Rattle.am_latch.specs.Receipts.{SeatState, receipt, moved_in, last_commit_of, positions_of, AreBehind}
-use Rattle.am_latch.specs.Views.{seat_in, IsSeatView}
-use Rattle.am_latch.specs.Ties.{open_of, HasRoom}
+use Rattle.am_ties.specs.declared.receipt.Receipt.{Receipt}
+use Rattle.am_ties.specs.declared.views.View.{View}
+use Rattle.am_ties.specs.Receipts.{receipt}
+use Rattle.am_latch.specs.Receipts.{SeatState, moved_in, last_commit_of, positions_of, AreBehind}
+use Rattle.am_ties.specs.Views.{seat_in, IsSeatView}
+use Rattle.am_latch.specs.Ties.{open_of, HasRoom, receipts_needed}
 use Rattle.am_latch.proofs.CallResults.{told_of, where_true, received, last_commit-snoc, behind-snoc}
 use Rattle.am_latch.proofs.Seats.{room_after, wider, moved_in-snoc}
 use Rattle.am_latch.proofs.SeatTransactions.{open_from-snoc}
@@ -51,15 +52,16 @@ invariant_of-self-2 g c =
     let now : c.open_after-self-inside.result ≡ open_after c.self.inside.open_now (change st r) =
     c.open_after-self-inside.ensures ∙ ap (open_after c.self.inside.open_now) done in
     let p = c.push_reserved.ensures in
-    let q = c.get_places.ensures in
+    let q = c.prepare.ensures in
     let items : c.push_reserved.new.self.items ≡ old.items ++ x.position ∷ [] = p.items ∙
     (λ j. q.same j ++ x.position ∷ []) in
     let moved = moved_in-snoc rs x in
     let here : HasRoom (open_after c.self.inside.open_now (change st r)) (vec_len old + 1)
-    (vec_capacity c.get_places.new.positions) = room_after c.self.inside.open_now st r (vec_len old)
-    (vec_capacity c.get_places.new.positions) may c.call-outcome.ensures.ended (wider _ _ _ _ i.room q.kept)
-    (let got = q.got c.if-not-get_places.false in
-    omega (arith, got, c.places_for-receipts_needed.ensures, q.long)) few in
+    (vec_capacity c.prepare.new.positions) = room_after c.self.inside.open_now st r (vec_len old)
+    (vec_capacity c.prepare.new.positions) may c.call-outcome.ensures.ended (wider _ _ _ _ i.room q.kept)
+    (let got = subst (λ o. IfSome o (λ _. vec_len c.prepare.new.positions + receipts_needed c.self.inside.open_now st ≤
+    vec_capacity c.prepare.new.positions)) c.in-Some.is q.got in
+    omega (arith, got, q.long)) few in
     let long : length (seat_in c.call-outcome.new.token.me.0).receipts ≡ length rs + 1 =
     ap (λ (l : List Receipt). length l) more ∙ length-append rs (x ∷ []) in record {
       table_of = search rules;

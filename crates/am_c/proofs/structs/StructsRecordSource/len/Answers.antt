@@ -1,5 +1,0 @@
-use Rattle.am_c.proofs.Wholes.{count_given}
-use Rattle.am_c.proofs.structs.StructsRecordSource.len.Goals as goal
-
-pub returns : goal.returns
-returns c = count_given _ _ _ c.self.invariant _ c.self.view_is

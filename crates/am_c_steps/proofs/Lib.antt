@@ -1,0 +1,5 @@
+mod CutLines
+mod GivenRecords
+mod Layouts
+mod Rows
+mod Wholes

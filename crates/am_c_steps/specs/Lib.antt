@@ -1,0 +1,7 @@
+pub mod AnswerParts
+pub mod AskedSteps
+pub mod Lines
+pub mod LoadAnswers
+pub mod Statuses
+pub mod Structs
+pub mod Texts

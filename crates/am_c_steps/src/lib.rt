@@ -1,0 +1,21 @@
+//! What a call of C asks for, as a step of the store, and what C is told of the answer.
+#![tactic(auto)]
+
+mod answers;
+mod asked_steps;
+mod lines;
+mod load_answers;
+mod status;
+mod structs;
+mod text;
+
+pub use answers::{tell_key, tell_rows, tell_rows_behind, tell_value};
+pub use asked_steps::{
+    clean_asked, delete_asked, get_asked, insert_asked, load_asked, lock_asked, pairs_asked,
+    replace_asked, scan_asked,
+};
+pub use lines::text_asked;
+pub use load_answers::{Fault, fault_of, tell_load_key, without_key};
+pub use status::{Status, number_told, status_told};
+pub use structs::{Layout, Structs, structs_asked};
+pub use text::{KeyText, Record, ValueText};

@@ -1,0 +1,3 @@
+mod Handles
+mod LooseValues
+mod Turns

@@ -1,0 +1,93 @@
+-- Records in any order: the runs that they are cut into, and loading these in turn.
+use Rattle.std.specs.Prelude.{◌≡◌, ◌⊎◌, ◌+◌, ℕ, List, [], ◌∷◌, length, Option, None, Some, Result, Ok, Err}
+use Rattle.am_record.specs.Limits.{max_run_records}
+use Rattle.am_record.specs.Plain.{Records}
+use Rattle.am_record.specs.declared.step.Op.TheVariants.{Load}
+use Rattle.am_record.specs.declared.step.Step.TheVariants.{Do}
+use Rattle.am_record.specs.declared.step.Reply.{Reply}
+use Rattle.am_record.specs.declared.step.Reply.TheVariants.{Done, Refused}
+use Rattle.am_record.specs.declared.step.Refusal.TheVariants.{NoMemory}
+use Rattle.am_runs.specs.Cuts.{keys_of, IsCut, IsLeastTwice}
+use Rattle.am_sound.specs.StoreState.{StoreState}
+use Rattle.am_c_steps.specs.declared.load_answers.Fault.{Fault}
+use Rattle.am_c_steps.specs.declared.load_answers.Fault.TheVariants.{Twice, Other}
+use Rattle.am_c_steps.specs.declared.status.Status.{Status}
+use Rattle.am_c_steps.specs.declared.status.Status.TheVariants as is
+use Rattle.am_c_steps.specs.Lines.{IsRead}
+use Rattle.am_c_store.specs.StoreSteps.{Takes}
+
+-- the records of what was given, where nothing is wrong with it
+abbrev pub given_by : {S : Type 0} → (S → Records) → Result S Status → Result Records Status
+given_by records (Ok source) = Ok (records source)
+given_by records (Err why) = Err why
+
+-- the runs of the pairs: of 65,536 each, and of no pairs one of none, which the store refuses
+abbrev pub AreRuns : Records → List Records → Type 0
+AreRuns [] runs = runs ≡ [] ∷ []
+AreRuns (p ∷ pairs) runs = IsCut max_run_records (p ∷ pairs) runs
+
+-- the runs of what was given, where nothing is wrong with it
+abbrev pub AreRunsGiven : Result Records Status → List Records → Type 0
+AreRunsGiven (Ok pairs) runs = AreRuns pairs runs
+AreRunsGiven (Err why) runs = ⊥
+
+-- why none is loaded: what is wrong with what was given, or the least key that stands twice, or memory was refused
+abbrev pub IsFault : Result Records Status → Fault → Type 0
+IsFault (Ok pairs) (Twice key) = IsLeastTwice (keys_of pairs) key
+IsFault (Ok pairs) (Other why) = why ≡ is.NoMemory
+IsFault (Err wrong) (Twice key) = ⊥
+IsFault (Err wrong) (Other why) = (why ≡ wrong) ⊎ (why ≡ is.NoMemory)
+
+-- behind the reply to the first run: where it is Done the others are loaded too, and else nothing is done any more
+abbrev pub GoesOn : Records → (StoreState → ℕ → Reply → StoreState → Type 0) → Reply → StoreState → ℕ → Reply →
+    StoreState → Type 0
+GoesOn run Others Done p loaded reply new = (more : ℕ) × (loaded ≡ length run + more) × Others p more reply new
+GoesOn run Others first p loaded reply new = (loaded ≡ 0) × (reply ≡ first) × (new ≡ p)
+
+-- memory was refused for the next run, so that nothing is done any more
+abbrev pub HasNoRoom : StoreState → ℕ → Reply → StoreState → Type 0
+HasNoRoom old loaded reply new = (loaded ≡ 0) × (reply ≡ Refused NoMemory) × (new ≡ old)
+
+-- the store took the next run by a step of its own, and what comes behind that
+abbrev pub TakesRun : ℕ → Records → (StoreState → ℕ → Reply → StoreState → Type 0) → StoreState → ℕ → Reply →
+    StoreState → Type 0
+TakesRun tx run Others old loaded reply new =
+    (first : Reply) × (p : StoreState) × Takes old (Do tx (Load run)) first p
+    × GoesOn run Others first p loaded reply new
+
+-- the runs are loaded in turn, until one is refused or has no room: `loaded` records stand in front of that one, and
+-- the reply is the last
+abbrev pub LoadInTurn : ℕ → List Records → StoreState → ℕ → Reply → StoreState → Type 0
+LoadInTurn tx [] old loaded reply new = (loaded ≡ 0) × (reply ≡ Done) × (new ≡ old)
+LoadInTurn tx (run ∷ runs) old loaded reply new =
+    HasNoRoom old loaded reply new ⊎ TakesRun tx run (LoadInTurn tx runs) old loaded reply new
+
+-- the runs of what was given were loaded so
+pub record LoadsRuns (old : StoreState) (tx : ℕ) (given : Result Records Status) (loaded : ℕ) (reply : Reply)
+    (held : Option StoreState) : Type 0 where
+  pub runs : List Records
+  pub are : AreRunsGiven given runs
+  pub new : StoreState
+  pub stands : held ≡ Some new
+  pub turns : LoadInTurn tx runs old loaded reply new
+
+-- without a store, or with a fault, nothing is done
+abbrev pub Loads : Option StoreState → ℕ → Result Records Status → ℕ → Result Reply Fault → Option StoreState → Type 0
+Loads None tx given loaded answer held = (loaded ≡ 0) × (answer ≡ Err (Other is.NoStore)) × (held ≡ None)
+Loads (Some p) tx given loaded (Err fault) held = (loaded ≡ 0) × IsFault given fault × (held ≡ Some p)
+Loads (Some p) tx given loaded (Ok reply) held = LoadsRuns p tx given loaded reply held
+
+-- what was given was loaded, and what C has of it is so
+pub record TellsRuns (old : Option StoreState) (tx : ℕ) (given : Result Records Status) (new : Option StoreState)
+    (So : ℕ → Result Reply Fault → Type 0) : Type 0 where
+  pub loaded : ℕ
+  pub answer : Result Reply Fault
+  pub loads : Loads old tx given loaded answer new
+  pub so : So loaded answer
+
+-- what was read of the text was loaded, and what C has of it is so
+pub record TellsText (old : Option StoreState) (tx : ℕ) (text : List ℕ) (line : ℕ) (new : Option StoreState)
+    (So : ℕ → Result Reply Fault → Type 0) : Type 0 where
+  pub read : Result Records Status
+  pub is_read : IsRead text read line
+  pub tells : TellsRuns old tx read new So

@@ -1,0 +1,139 @@
+//! Records in any order: they are cut into runs, and these are loaded in turn.
+
+ghost use Rattle.std.specs.Prelude.{◌≡◌, ◌<◌, ◌^◌, [], Some, Ok, Err, length};
+ghost use Rattle.am_runs.specs.Cuts.{records_of};
+ghost use Rattle.am_c_steps.specs.LoadAnswers.{without_key, load_key_told};
+ghost use Rattle.am_c_steps.specs.Statuses.{status, number};
+ghost use Rattle.am_c_store.specs.Loads.{given_by, LoadInTurn, Loads, TellsRuns};
+
+use crate::handle::Handle;
+use crate::store_steps::take_there;
+use am_btree::BTree;
+use am_c_steps::{
+    Fault, KeyText, Status, fault_of, number_told, status_told, tell_load_key, without_key,
+};
+use am_core::Store;
+use am_record::{MAX_RUN_RECORDS, Op, Records, Refusal, Reply, Step};
+use am_runs::{Cut, RecordSource, cut_source};
+use std::alloc::Global;
+
+/// Loads what was given, and tells how that ended.
+pub fn tell_runs<S: RecordSource + Drop>(
+    alloc: Global,
+    store: &mut Handle,
+    tx: u64,
+    given: Result<S, Status>,
+    key: &mut KeyText,
+    loaded: &mut u64,
+    told: &mut u64,
+) -> u32
+    ensures { TellsRuns store.old.held tx (given_by S.records given) store.new.held
+        (λ n answer. (result ≡ status (without_key answer)) × (told.new ≡ number (without_key answer))
+        × (key.new ≡ load_key_told answer key.old) × (loaded.new ≡ n)) }
+{
+    let end = load_given(alloc, store, tx, given);
+    *loaded = end.records;
+    tell_load_key(&end.answer, key);
+    let answer = without_key(end.answer);
+    *told = number_told(&answer);
+    status_told(&answer)
+}
+
+// How a load ended.
+#[derive(Drop)]
+struct Loaded {
+    // How many records were loaded.
+    records: u64,
+    // The store's reply to the last run that it was asked to load, or why there was none.
+    answer: Result<Reply, Fault>,
+}
+
+// Loads what was given, run after run, until one is refused.
+#[inline(never)]
+fn load_given<S: RecordSource + Drop>(
+    alloc: Global,
+    handle: &mut Handle,
+    tx: u64,
+    given: Result<S, Status>,
+) -> Loaded
+    ensures { Loads handle.old.held tx (given_by S.records given) result.records result.answer handle.new.held }
+{
+    let Some(mut store) = handle.take(alloc) else {
+        return not_loaded(Fault::Other(Status::NoStore));
+    };
+    let loaded = match given {
+        Ok(source) => load_source(alloc, &mut store, tx, &source),
+        Err(why) => not_loaded(Fault::Other(why)),
+    };
+    handle.put(store);
+    loaded
+}
+
+fn not_loaded(fault: Fault) -> Loaded
+    ensures records { result.records ≡ 0 }
+    ensures answer { result.answer ≡ Err fault }
+{
+    Loaded {
+        records: 0,
+        answer: Err(fault),
+    }
+}
+
+// Loads the records of a source. Of none the store is asked for a run of none, which it refuses.
+fn load_source<S: RecordSource>(
+    alloc: Global,
+    store: &mut Box<Store<BTree>>,
+    tx: u64,
+    source: &S,
+) -> Loaded
+    ensures { Loads (Some store.old.value) tx (Ok (S.records source.now)) result.records result.answer
+        (Some store.new.value) }
+{
+    if source.len() == 0 {
+        return load_none(alloc, store, tx);
+    }
+    match cut_source(alloc, source, MAX_RUN_RECORDS) {
+        Ok(runs) => {
+            let (records, reply) = load_in_turn(alloc, store, tx, runs);
+            let answer = Ok(reply);
+            Loaded { records, answer }
+        }
+        Err(why) => not_loaded(fault_of(why)),
+    }
+}
+
+fn load_none(alloc: Global, store: &mut Box<Store<BTree>>, tx: u64) -> Loaded
+    ensures { Loads (Some store.old.value) tx (Ok []) result.records result.answer (Some store.new.value) }
+{
+    let none = Records::new(Vec::new(alloc));
+    Loaded {
+        records: 0,
+        answer: Ok(take_there(store, Step::Do(tx, Op::Load(none)))),
+    }
+}
+
+// Each run by a step of its own: how many records were loaded, and the last reply.
+fn load_in_turn<S: RecordSource>(
+    alloc: Global,
+    store: &mut Box<Store<BTree>>,
+    tx: u64,
+    runs: Cut<'_, S>,
+) -> (u64, Reply)
+    requires { length (records_of runs) < 2 ^ 64 }
+    ensures { LoadInTurn tx runs.entry store.old.value result.0 result.1 store.new.value }
+{
+    let mut runs = runs;
+    let mut records = 0;
+    loop {
+        let run = match runs.next(alloc) {
+            Ok(Some(run)) => Records::new(run.into_pairs()),
+            Ok(None) => return (records, Reply::Done),
+            Err(_) => return (records, Reply::Refused(Refusal::NoMemory)),
+        };
+        let len = run.as_slice().len() as u64;
+        match take_there(store, Step::Do(tx, Op::Load(run))) {
+            Reply::Done => records += len,
+            refused => return (records, refused),
+        }
+    }
+}

@@ -1,0 +1,3 @@
+pub mod Tables
+mod OnlyOwnerLocks
+mod OnlyOwners

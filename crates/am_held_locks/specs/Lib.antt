@@ -1,0 +1,2 @@
+pub mod OnlyOwnerLocks
+pub mod HeldLocks

@@ -1,0 +1,4 @@
+pub mod Each
+pub mod Places
+pub mod Rules
+pub mod RuleSteps

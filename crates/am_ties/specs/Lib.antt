@@ -1,0 +1,4 @@
+pub mod CallLogs
+pub mod Receipts
+pub mod Views
+pub mod HandOutRule

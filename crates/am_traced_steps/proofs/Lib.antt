@@ -1,0 +1,4 @@
+pub mod Replies
+pub mod FittingReplies
+pub mod StoreAnswers
+pub mod FullSeats
