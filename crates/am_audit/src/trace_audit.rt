@@ -15,11 +15,23 @@ use std::alloc::Global;
 
 /// A trace that is judged as it comes, an event at a time. Of its events those alone are kept that belong to active
 /// transactions.
-#[derive(Drop)]
 pub struct Audit {
     checker: Checker,
     seen: usize,
     fault: Option<Fault>,
+}
+
+// By hand: a crate above then need not prove once more how an audit is dropped.
+impl Drop for Audit {
+    fn drop(self) {
+        let Audit {
+            checker,
+            seen: _,
+            fault,
+        } = self;
+        drop(checker);
+        drop(fault);
+    }
 }
 
 impl Audit {

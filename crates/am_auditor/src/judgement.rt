@@ -17,7 +17,7 @@ use am_trace_text::ReadFault;
 use std::alloc::Global;
 
 /// What is to be said of a text, or of one that can't be had.
-#[derive(Clone, Copy, Debug, PartialEq, Eq)]
+#[derive(Clone, Copy)]
 pub enum Judgement {
     /// A legal trace of so many commits.
     Legal(u64),

@@ -16,11 +16,22 @@ use std::marker::Model;
 
 /// Where a session stands between two lines: the transaction that is active in it, and the records that were staged for
 /// its next load.
-#[derive(Drop)]
 pub struct Session {
     active: Option<u64>,
     staged: Vec<(Key, Value)>,
     alloc: Global,
+}
+
+// By hand: a crate above then need not prove once more how a session is dropped.
+impl Drop for Session {
+    fn drop(self) {
+        let Session {
+            active: _,
+            staged,
+            alloc: _,
+        } = self;
+        drop(staged);
+    }
 }
 
 impl Model for Session {

@@ -18,7 +18,6 @@ use std::marker::Model;
 
 /// Who holds which locks, as a table of locks has them. The locks of an only owner meet nobody's: what it asks for is
 /// listed, and comes into the table with the next owner, where the list is full, and where a refusal is looked at.
-#[derive(Drop)]
 pub struct HeldLocks {
     table: LockTable,
     // Whether an owner is there and not in the table, which is empty then.
@@ -26,6 +25,20 @@ pub struct HeldLocks {
     number: u64,
     // What it asked for. It has room for as many as may be listed.
     listed: Vec<Listed>,
+}
+
+// By hand: a crate above then need not prove once more how held locks are dropped.
+impl Drop for HeldLocks {
+    fn drop(self) {
+        let HeldLocks {
+            table,
+            is_listed: _,
+            number: _,
+            listed,
+        } = self;
+        drop(table);
+        drop(listed);
+    }
 }
 
 impl Model for HeldLocks {

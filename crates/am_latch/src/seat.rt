@@ -30,7 +30,6 @@ const MOST_RECEIPTS: usize = 1_000_000;
 const MOST_LET_GO: u64 = 100_000_000_000_000;
 
 /// Makes calls through a latch, and has their receipts: it keeps the position of each in the trace, until it is let go.
-#[derive(Drop)]
 pub struct Seat<L: LatchName> {
     number: u64,
     /// Where the calls stand in the trace whose receipts weren't let go.
@@ -44,6 +43,25 @@ pub struct Seat<L: LatchName> {
     token: Token,
     alloc: Global,
     of: PhantomData<L>,
+}
+
+// By hand: a crate above then need not prove once more how a seat is dropped.
+impl<L: LatchName> Drop for Seat<L> {
+    fn drop(self) {
+        let Seat {
+            number: _,
+            positions,
+            let_go: _,
+            open_now: _,
+            last_commit: _,
+            moved: _,
+            token,
+            alloc: _,
+            of: _,
+        } = self;
+        drop(positions);
+        drop(token);
+    }
 }
 
 impl<L: LatchName> Model for Seat<L> {

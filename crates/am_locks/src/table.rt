@@ -24,7 +24,6 @@ use std::marker::Model;
 ///
 /// No lock of one owner conflicts with a lock of another. An asked lock of one key is looked up in the counts first.
 /// Only where these leave a doubt are the owners looked at, one after another.
-#[derive(Drop)]
 pub struct LockTable {
     // It has room for as many as there may be.
     owners: Vec<Owner>,
@@ -34,6 +33,21 @@ pub struct LockTable {
     recent: usize,
     // Of the locks of all owners.
     counts: KeyCounts,
+}
+
+// By hand: a crate above then need not prove once more how a table of locks is dropped.
+impl Drop for LockTable {
+    fn drop(self) {
+        let LockTable {
+            owners,
+            numbers,
+            recent: _,
+            counts,
+        } = self;
+        drop(owners);
+        drop(numbers);
+        drop(counts);
+    }
 }
 
 impl Model for LockTable {

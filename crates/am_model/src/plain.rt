@@ -15,10 +15,18 @@ use std::marker::Model;
 
 /// A map from keys to values, slow and plain, with the maps that Mark saved and Back hasn't gone back to. It knows no
 /// locks, limits or refusals. No map is copied: of each change since a mark it keeps what was there before.
-#[derive(Drop)]
 pub struct Plain {
     records: SortedRecords,
     log: ChangeLog,
+}
+
+// By hand: a crate above then need not prove once more how a plain map is dropped.
+impl Drop for Plain {
+    fn drop(self) {
+        let Plain { records, log } = self;
+        drop(records);
+        drop(log);
+    }
 }
 
 impl Model for Plain {

@@ -41,13 +41,29 @@ pub enum Vacancy {
 /// The partitions of an index, seen as its entries, the number of runs made, and the places of entries for which room
 /// for a value of any length was got. Partition 0 is the final one, run n is partition n. No key is live, that is not a
 /// ghost, in two partitions.
-#[derive(Drop)]
 pub struct Parts<I: PartIndex + Drop> {
     index: I,
     catalog: Catalog,
     residences: Residences,
     merged: MergedRanges,
     runs: u32,
+}
+
+// By hand: a crate above then need not prove once more how an index with its partitions is dropped.
+impl<I: PartIndex + Drop> Drop for Parts<I> {
+    fn drop(self) {
+        let Parts {
+            index,
+            catalog,
+            residences,
+            merged,
+            runs: _,
+        } = self;
+        drop(index);
+        drop(catalog);
+        drop(residences);
+        drop(merged);
+    }
 }
 
 impl<I: PartIndex + Drop> Model for Parts<I> {

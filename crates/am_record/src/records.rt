@@ -10,9 +10,17 @@ use std::alloc::Global;
 use std::marker::Model;
 
 /// Keys with their values, in any order.
-#[derive(Debug, Drop)]
+#[derive(Debug)]
 pub struct Records {
     items: Vec<(Key, Value)>,
+}
+
+// By hand: a crate above then need not prove once more how records are dropped.
+impl Drop for Records {
+    fn drop(self) {
+        let Records { items } = self;
+        drop(items);
+    }
 }
 
 impl Model for Records {
@@ -37,7 +45,8 @@ impl Records {
     pub fn into_vec(self) -> Vec<(Key, Value)>
         ensures { result.items ≡ self }
     {
-        self.items
+        let Records { items } = self;
+        items
     }
 
     pub fn as_slice(&self) -> &[(Key, Value)]

@@ -21,11 +21,18 @@ pub struct OwnAnswer {
 }
 
 /// An active transaction.
-#[derive(Drop)]
 pub struct Active {
     number: u64,
     /// Its answered operations.
     own: Vec<OwnAnswer>,
+}
+
+// By hand: a crate above then need not prove once more how a transaction is dropped.
+impl Drop for Active {
+    fn drop(self) {
+        let Active { number: _, own } = self;
+        drop(own);
+    }
 }
 
 impl Active {

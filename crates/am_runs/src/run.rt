@@ -14,9 +14,17 @@ use std::alloc::{AllocError, Global};
 use std::marker::Model;
 
 /// One record or more, their keys rising strictly.
-#[derive(Debug, Drop)]
+#[derive(Debug)]
 pub struct Run {
     pairs: Vec<(Key, Value)>,
+}
+
+// By hand: a crate above then need not prove once more how a run is dropped.
+impl Drop for Run {
+    fn drop(self) {
+        let Run { pairs } = self;
+        drop(pairs);
+    }
 }
 
 impl Model for Run {
@@ -108,6 +116,7 @@ impl Run {
     pub fn into_pairs(self) -> Vec<(Key, Value)>
         ensures { result.items ≡ self }
     {
-        self.pairs
+        let Run { pairs } = self;
+        pairs
     }
 }

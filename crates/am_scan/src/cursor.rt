@@ -20,7 +20,6 @@ const ROWS_AT_ONCE: usize = 16;
 /// A place in the records of a range, seen as the list of the records still to come. It merges the
 /// partitions as runs are merged in an external sort: each has a head at its next record, and the
 /// least of them has the next record of all.
-#[derive(Drop)]
 pub struct Cursor<'a, I: PartIndex + Drop> {
     parts: &'a Parts<I>,
     range: Range,
@@ -29,6 +28,20 @@ pub struct Cursor<'a, I: PartIndex + Drop> {
     least: Option<Head>,
     // Those of the other partitions that have a record left.
     others: BinaryHeap<Head>,
+}
+
+// By hand: a crate above then need not prove once more how a cursor is dropped.
+impl<'a, I: PartIndex + Drop> Drop for Cursor<'a, I> {
+    fn drop(self) {
+        let Cursor {
+            parts: _,
+            range: _,
+            least,
+            others,
+        } = self;
+        drop(least);
+        drop(others);
+    }
 }
 
 impl<'a, I: PartIndex + Drop> Model for Cursor<'a, I> {

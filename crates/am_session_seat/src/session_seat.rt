@@ -13,13 +13,27 @@ use std::sync::Wait;
 
 /// The seats of one session: one of the latch, which all sessions step, one of the counters, and the number that
 /// was drawn for the session.
-#[derive(Drop)]
 pub struct SessionSeat<'a, L: LatchName> {
     latch: &'a Latch<L>,
     counters: &'a Counters,
     seat: Seat<L>,
     counter_seat: CounterSeat,
     number: u64,
+}
+
+// By hand: a crate above then need not prove once more how a seat is dropped.
+impl<'a, L: LatchName> Drop for SessionSeat<'a, L> {
+    fn drop(self) {
+        let SessionSeat {
+            latch: _,
+            counters: _,
+            seat,
+            counter_seat,
+            number: _,
+        } = self;
+        drop(seat);
+        drop(counter_seat);
+    }
 }
 
 impl<'a, L: LatchName> Model for SessionSeat<'a, L> {
@@ -85,7 +99,15 @@ impl<'a, L: LatchName> SessionSeat<'a, L> {
     pub fn into_seat(self) -> Seat<L>
         ensures { result ≡ self.entry.seat }
     {
-        self.seat
+        let SessionSeat {
+            latch: _,
+            counters: _,
+            seat,
+            counter_seat,
+            number: _,
+        } = self;
+        drop(counter_seat);
+        seat
     }
 }
 

@@ -18,11 +18,22 @@ use std::sync::Wait;
 const PIECE_LEN: usize = 4096;
 
 /// Bytes that were taken from a source and wait to be used.
-#[derive(Drop)]
 pub struct Input {
     buffer: Vec<u8>,
     start: usize,
     end: usize,
+}
+
+// By hand: a crate above then need not prove once more how an input is dropped.
+impl Drop for Input {
+    fn drop(self) {
+        let Input {
+            buffer,
+            start: _,
+            end: _,
+        } = self;
+        drop(buffer);
+    }
 }
 
 impl Model for Input {

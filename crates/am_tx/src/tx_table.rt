@@ -19,12 +19,24 @@ use std::marker::Model;
 /// the locks of each.
 ///
 /// Transactions are numbered 1, 2, 3 in the order in which they begin.
-#[derive(Drop)]
 pub struct TxTable {
     begun: u64,
     // It has room for as many as there may be.
     active: Vec<Transaction>,
     locks: LockTable,
+}
+
+// By hand: a crate above then need not prove once more how a table of transactions is dropped.
+impl Drop for TxTable {
+    fn drop(self) {
+        let TxTable {
+            begun: _,
+            active,
+            locks,
+        } = self;
+        drop(active);
+        drop(locks);
+    }
 }
 
 impl Model for TxTable {

@@ -20,10 +20,18 @@ use std::marker::Model;
 
 /// The notes and marks of one transaction, seen with the newest first. Four notes and two marks
 /// stand in the value itself.
-#[derive(Drop)]
 pub struct UndoLog {
     notes: SmallVec<Note, 4>,
     marks: SmallVec<usize, 2>,
+}
+
+// By hand: a crate above then need not prove once more how a log is dropped.
+impl Drop for UndoLog {
+    fn drop(self) {
+        let UndoLog { notes, marks } = self;
+        drop(notes);
+        drop(marks);
+    }
 }
 
 impl Model for UndoLog {

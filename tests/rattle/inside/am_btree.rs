@@ -242,21 +242,26 @@ fn has_run(tree: &Subtree, many: usize, part: u32, pairs: &[(Key, Value)]) -> bo
         && pairs.iter().all(|(key, value)| tree.find(part, *key) == Some((*value, false)))
 }
 
+// A run of so many records is appended to a tree of so many entries.
+fn is_appended(rt: &impl Abort, alloc: Global, many: u64, length: u64) -> Result<(), Fail> {
+    let mut tree = with_scattered(alloc, many)?;
+    let before = leaves(&tree);
+    let pairs = records(alloc, length)?;
+    append(&mut tree, alloc, 1, &pairs)?;
+    assert!(rt; has_run(&tree, many as usize, 1, &pairs));
+    // The last leaf and the new ones are full, but for the last.
+    assert!(rt; leaves(&tree) <= before.saturating_add(pairs.len().div_ceil(32)));
+    assert!(rt; tree.depth_at(1, Key::least()) <= 3);
+    Ok(())
+}
+
 #[test]
 fn runs_are_appended(rt: HostRuntime) -> Result<(), Fail> {
-    for many in [0, 1000] {
-        for length in [1, 31, 32, 33, 1_025, 40_000] {
-            let mut tree = with_scattered(rt.alloc(), many)?;
-            let before = leaves(&tree);
-            let pairs = records(rt.alloc(), length)?;
-            append(&mut tree, rt.alloc(), 1, &pairs)?;
-            assert!(rt; has_run(&tree, many as usize, 1, &pairs));
-            // The last leaf and the new ones are full, but for the last.
-            assert!(rt; leaves(&tree) <= before.saturating_add(pairs.len().div_ceil(32)));
-            assert!(rt; tree.depth_at(1, Key::least()) <= 3);
-        }
+    for length in [1, 31, 32, 33, 1_025] {
+        is_appended(&rt, rt.alloc(), 0, length)?;
+        is_appended(&rt, rt.alloc(), 1000, length)?;
     }
-    Ok(())
+    is_appended(&rt, rt.alloc(), 1000, 40_000)
 }
 
 #[test]

@@ -259,7 +259,7 @@ fn do_both(
     assert!(rt; table.exclusive_at(key) == plain.exclusive_at(key));
 }
 
-// Fourteen hundred calls get what they get of a plain list of locks.
+// A thousand calls get what they get of a plain list of locks.
 #[test]
 fn table_beside_a_plain_list(rt: HostRuntime) {
     let mut table = table_of(&rt, rt.alloc(), 3);
@@ -268,7 +268,7 @@ fn table_beside_a_plain_list(rt: HostRuntime) {
     };
     let mut dice = Dice { state: 1 };
     let mut most = 0;
-    for _ in 0..1400 {
+    for _ in 0..1000 {
         do_both(&rt, rt.alloc(), &mut dice, &mut table, &mut plain);
         most = held(&rt, &table, 1).max(most);
     }

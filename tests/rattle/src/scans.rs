@@ -254,29 +254,3 @@ fn scans_of_any_limit_over_many_runs(rt: HostRuntime) {
         scans_by_limit(&rt, rt.alloc(), runs);
     }
 }
-
-// As many runs as there may be, of one record each.
-fn of_one_record_each(rt: &impl Abort, alloc: Global) -> Parts<BTree> {
-    let tree = BTree::new(alloc).expect(rt, "memory");
-    let mut parts = Parts::new(alloc, tree, HashKey::known());
-    for run in 0..65_535_u64 {
-        // The two have no divisor in common, so each number comes once.
-        let number = run * 7_919 % 65_535;
-        let appended = parts.append_run(&[row(number, b'a')]);
-        assert!(rt; appended == Ok(()));
-    }
-    parts
-}
-
-#[test]
-fn scans_over_as_many_runs_as_there_may_be(rt: HostRuntime) {
-    let alloc = rt.alloc();
-    let parts = of_one_record_each(&rt, alloc);
-    for (lo, hi, max) in [(0, 65_534, 1000), (300, 310, 10)] {
-        let mut rows = Vec::new(alloc);
-        for number in lo..lo + max {
-            rows.push(row(number, b'a')).expect(&rt, "memory");
-        }
-        scans(&rt, alloc, &parts, range(&rt, lo, hi), max, &rows);
-    }
-}

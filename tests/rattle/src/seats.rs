@@ -284,32 +284,3 @@ fn beside_two_seats<L: LatchName + Send + Sync, R: Threads + Wait + Abort + Sync
 fn a_taker_beside_two_seats(rt: HostRuntime) -> Result<(), Fail> {
     beside_two_seats::<Brand, HostRuntime>(&rt, rt.alloc(), Blank::new(rt.alloc(), 2)?)
 }
-
-// How a seat is answered that holds its most receipts, its transaction open, and then once it let them go.
-fn filled<L: LatchName, R: Wait + Abort>(rt: &R, blank: Blank) -> Result<(), Fail> {
-    let (latch, mut seats, _taker) = Latch::<L>::open(blank, HashKey::known())?;
-    let mut seat = seats.pop().ok_or("no seat")?;
-    assert!(rt; !was_refused(&seat.call(rt, &latch, Step::Begin)));
-    let tx = seat.open_tx().ok_or("no transaction")?;
-    for _ in 0..999_999 {
-        seat.call(rt, &latch, Step::Merge(16));
-    }
-    let full = seat.call(rt, &latch, Step::Merge(16));
-    assert_eq!(rt; full, Reply::Refused(Refusal::SeatFull));
-    seat.let_go();
-    assert_eq!(rt; seat.call(rt, &latch, Step::Merge(16)), Reply::Idle);
-    assert_eq!(rt;
-        seat.call(rt, &latch, Step::Commit(tx)),
-        Reply::Committed(1)
-    );
-    assert_eq!(rt; seat.positions().len(), 2);
-    assert_eq!(rt; seat.count_let_go(), 1_000_000);
-    Ok(())
-}
-
-// A full seat takes calls again, once it let its receipts go.
-// (long)
-#[test]
-fn a_full_seat_lets_go(rt: HostRuntime) -> Result<(), Fail> {
-    filled::<Brand, HostRuntime>(&rt, Blank::new(rt.alloc(), 1)?)
-}

@@ -208,23 +208,6 @@ fn a_limit_of_65(rt: HostRuntime) -> Result<(), Fail> {
     Ok(())
 }
 
-// A worker that finds nothing to merge goes on, and lets receipts go: so it has more turns than a seat holds receipts.
-// (long)
-#[test]
-fn a_worker_lets_receipts_go(rt: HostRuntime) -> Result<(), Fail> {
-    let blank = Blank::new(rt.alloc(), 1)?;
-    let answers = answers_of_one_worker::<Brand, HostRuntime>(
-        &rt,
-        rt.alloc(),
-        blank,
-        1_000_002,
-        16,
-    )?;
-    assert_eq!(rt; answers.len(), 1_000_002);
-    assert!(rt; answers.last() == Some(&Reply::Idle));
-    Ok(())
-}
-
 // How many turns so many seats have had in all, where each is to have two.
 fn turns_of<L: LatchName + Send + Sync, R: Threads + Wait + Abort + Sync>(
     rt: &R,
