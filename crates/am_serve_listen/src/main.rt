@@ -3,7 +3,6 @@
 
 ghost use Rattle.std.specs.Prelude.{◌≤◌};
 
-mod console;
 mod port;
 
 use am_command::{OptionsFault, words};

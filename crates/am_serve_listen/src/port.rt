@@ -4,15 +4,19 @@
 
 ghost use Rattle.std.specs.Prelude.{◌≤◌};
 
-use crate::console::Console;
+use am_console::{
+    Console, OpenedTrace, Writer, await_stop, begin_trace, forget_trace, remove_socket,
+    store_trace, tell,
+};
 use am_doors::Mode;
+use am_keeper::{Keeping, Watcher};
 use am_serve_command::Listening;
-use am_server::{BindFault, Keeping, PortListener, Watcher, bind};
+use am_server::{BindFault, PortListener, bind};
 use am_session::draw_hash_key;
-use am_trace_file::{GrowingFile, ListenFault, Outbox, Sending, TraceFile};
-use am_trace_writer::{LetGo, PieceTaker, TraceWriter};
+use am_trace_file::{ListenFault, Outbox, TraceFile};
+use am_trace_writer::{LetGo, PieceTaker};
 use std::fs::File;
-use std::io::{BufRead, BufReader};
+use std::io;
 use std::net::{Net, TcpListener, TcpStream};
 use std::process::ExitCode;
 use std::random::RandomSource;
@@ -20,9 +24,6 @@ use std::rt::{Clock, Files};
 use std::sync::Wait;
 use std::thread::Threads;
 use std::time::Duration;
-use std::{fs, io};
-
-pub(crate) type Writer<'a, R> = TraceWriter<Sending<'a, R>>;
 
 /// What is there before the first connection: a port, and where one is named the file for the trace.
 #[derive(Drop)]
@@ -81,16 +82,10 @@ fn say_port<R: Files + Print>(
 ) -> io::Result<()> {
     let said = println!(rt; "LISTEN {}", port.port());
     if said.is_err() {
-        forget(rt, file);
+        forget_trace(rt, file);
         remove_socket(rt, listening);
     }
     said
-}
-
-fn remove_socket<R: Files>(rt: &R, listening: &Listening<'_>) {
-    if let Some(path) = listening.socket {
-        let _ = fs::remove_file(rt, path);
-    }
 }
 
 // The file for the trace, where one is named, which the outbox gets, and then the port.
@@ -102,58 +97,13 @@ fn open<
         + Eprint
         + Wait,
 >(rt: &R, listening: &Listening<'_>, outbox: &Outbox) -> Result<Opened, ListenFault> {
-    let name = name_to_tell(rt, listening)?;
-    let opened = match listening.trace {
-        Some(path) if listening.stays => Some(TraceFile::open_or_say(rt, path)?),
-        Some(path) => Some(TraceFile::open_beside(rt, path)?),
-        None => None,
-    };
+    let trace = OpenedTrace::open(rt, listening)?;
     let Ok(port) = open_doors(rt, listening) else {
-        if let Some((file, _)) = &opened {
-            file.forget(rt);
-        }
+        trace.forget(rt);
         return Err(ListenFault::CannotListen);
     };
-    let Some((file, grown)) = opened else {
-        return Ok(Opened { port, file: None });
-    };
-    outbox.give_file(rt, GrowingFile::new(grown, name));
-    Ok(Opened {
-        port,
-        file: Some(file),
-    })
-}
-
-// The writer of the trace, where a file is named, which has written its first line.
-#[inline(never)]
-fn begin_trace<'a, R: AllocGlobal + Files + Eprint + Wait>(
-    rt: &'a R,
-    listening: &Listening<'_>,
-    outbox: &'a Outbox,
-) -> Result<Option<Writer<'a, R>>, ListenFault> {
-    if listening.trace.is_none() {
-        return Ok(None);
-    }
-    let writer = TraceWriter::begin(rt.alloc(), Sending::new(rt, outbox));
-    if listening.stays && writer.is_cut() {
-        remove_socket(rt, listening);
-        return Err(ListenFault::CannotWriteTrace);
-    }
-    Ok(Some(writer))
-}
-
-// The name by which the file is told: a bounded server tells none.
-fn name_to_tell<R: AllocGlobal>(
-    rt: &R,
-    listening: &Listening<'_>,
-) -> Result<Option<String>, ListenFault> {
-    match listening.trace {
-        Some(path) if listening.stays => match String::from_str(rt.alloc(), path) {
-            Ok(name) => Ok(Some(name)),
-            Err(_) => Err(ListenFault::NoMemory),
-        },
-        _ => Ok(None),
-    }
+    let file = trace.give_to(rt, outbox);
+    Ok(Opened { port, file })
 }
 
 // The port, and where one is named the socket.
@@ -168,12 +118,6 @@ fn open_doors<R: AllocGlobal + Files + Net<Listener = TcpListener, Stream = TcpS
     }
 }
 
-fn forget<R: Files>(rt: &R, file: Option<&TraceFile>) {
-    if let Some(file) = file {
-        file.forget(rt);
-    }
-}
-
 /// Has the server stop once a line STOP, or the end of standard input or a fault of it, has come.
 #[inline(never)]
 pub(crate) fn stop_at_word<
@@ -181,18 +125,6 @@ pub(crate) fn stop_at_word<
 >(rt: &R, port: &PortListener) {
     await_stop(rt);
     port.stop(rt);
-}
-
-fn await_stop<R: AllocGlobal + Input>(rt: &R) {
-    let Ok(input) = BufReader::new(rt.alloc(), rt.reader()) else {
-        return;
-    };
-    for line in input.lines(rt.alloc()) {
-        match line {
-            Ok(text) if text.as_str().trim_end() != "STOP" => {}
-            _ => return,
-        }
-    }
 }
 
 /// Serves so many sessions, or so many at once until a stop, with so many workers beside them, on a store whose hash
@@ -286,11 +218,11 @@ pub(crate) fn close<R: Files + Print + Eprint>(
     let served = match served {
         Ok(served) => served,
         Err(fault) => {
-            forget(rt, file);
+            forget_trace(rt, file);
             return tell(rt, fault);
         }
     };
-    let stored = store(rt, file, served.is_cut || is_failed);
+    let stored = store_trace(rt, file, served.is_cut || is_failed);
     if stays || stored.is_ok() {
         println!(rt; "CLOSED {} {}", served.events, served.commits)?;
     }
@@ -301,21 +233,4 @@ pub(crate) fn close<R: Files + Print + Eprint>(
         Err(fault) => tell(rt, fault),
         Ok(()) => Ok(ExitCode::SUCCESS),
     }
-}
-
-fn store<R: Files>(rt: &R, file: Option<&TraceFile>, is_cut: bool) -> Result<(), ListenFault> {
-    if is_cut {
-        forget(rt, file);
-        return Err(ListenFault::CannotWriteTrace);
-    }
-    match file {
-        Some(file) => file.keep(rt),
-        None => Ok(()),
-    }
-}
-
-// Says what is wrong, and answers the program's status.
-fn tell<R: Eprint>(rt: &R, fault: ListenFault) -> io::Result<ExitCode> {
-    eprintln!(rt; "{}", fault.words())?;
-    Ok(ExitCode::from(fault.status()))
 }

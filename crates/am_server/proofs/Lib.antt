@@ -1,5 +1,5 @@
 pub mod Crosses
 pub mod ServedSessions
 pub mod WorkedSeats
-pub mod TakenPieces
+pub mod StoredTraces
 pub mod InTurn

@@ -1,5 +1,3 @@
 pub mod ServerTraces
 pub mod Pieces
-pub mod Stops
-pub mod Told
 pub mod Listeners

@@ -6,16 +6,12 @@
 //! - [`serve_session`]: one session at its [`am_session_seat::SessionSeat`], over any source and sink.
 #![tactic(auto)]
 
-mod counts;
-mod keeper;
 mod listener;
 mod server;
 mod server_trace;
 mod sessions;
 mod turns;
 
-pub use counts::{Counts, Watcher};
 pub use listener::{BindFault, PortListener, bind};
-pub use server::Keeping;
 pub use server_trace::ServerTrace;
 pub use sessions::serve_session;

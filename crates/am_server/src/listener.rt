@@ -4,11 +4,11 @@ ghost use Rattle.std.specs.Prelude.{◌≡◌, ◌≤◌, ◌<◌, ◌*◌, IfOk
 ghost use Rattle.am_server.specs.Listeners.{IsAtPort, IsAtSocket};
 ghost use Rattle.am_server.specs.ServerTraces.{IsServerTrace};
 
-use crate::counts::Watcher;
-use crate::server::{Keeping, run};
+use crate::server::run;
 use crate::server_trace::ServerTrace;
 use am_counters::Counters;
 use am_doors::{Door, Doors, House, Mode, listen_at_port, listen_at_socket};
+use am_keeper::{Keeping, Watcher};
 use am_latch::Blank;
 use am_record::{HashKey, NoMemory};
 use am_trace_writer::PieceTaker;

@@ -6,14 +6,14 @@ ghost use Rattle.am_latch.specs.Receipts.{AreAll};
 ghost use Rattle.am_session_seat.specs.Seats.{HasNewSeat};
 ghost use Rattle.am_server.specs.ServerTraces.{HasServedInTurn, HasStored, HasWorked, IsServerTrace};
 ghost use Rattle.am_doors.specs.Modes.{most_sessions};
-ghost use Rattle.am_server.specs.Pieces.{HasTaken, HasClosed};
+ghost use Rattle.am_keeper.specs.Pieces.{HasTaken};
+ghost use Rattle.am_server.specs.Pieces.{HasClosed};
 
-use crate::counts::Watcher;
-use crate::keeper::Keeper;
 use crate::server_trace::ServerTrace;
 use crate::turns::serve_in_turn;
 use am_counters::{CounterSeat, Counters};
 use am_doors::House;
+use am_keeper::{Keeper, Keeping, Watcher};
 use am_latch::{Blank, Latch, LatchName, Seat, close};
 use am_record::{HashKey, NoMemory};
 use am_session_seat::{SessionSeat, assign_seats, take_seats};
@@ -24,20 +24,9 @@ use std::rt::Clock;
 use std::sync::Wait;
 use std::thread;
 use std::thread::Threads;
-use std::time::Duration;
 
 /// How many entries a turn may merge.
 const MERGE_LIMIT: u64 = 16;
-
-/// Who takes the trace of a server, who looks at the server, how long sessions may go on after a stop, and how long a
-/// session may be idle.
-#[derive(Drop)]
-pub struct Keeping<T: PieceTaker + Drop, V: Watcher + Drop> {
-    pub pieces: T,
-    pub watcher: V,
-    pub grace: Option<Duration>,
-    pub idle: Option<Duration>,
-}
 
 // Who works beside the sessions.
 #[derive(Drop)]

@@ -1,8 +1,9 @@
 //! Clients of a server, over sockets.
 
 use am_doors::Mode;
+use am_keeper::{Counts, Keeping, Watcher};
 use am_record::HashKey;
-use am_server::{Counts, Keeping, ServerTrace, Watcher, bind};
+use am_server::{ServerTrace, bind};
 use am_trace_writer::LetGo;
 use std::io::{Read, Write};
 use std::net::{Ipv4Addr, Net, Shutdown, TcpListener, TcpStream};

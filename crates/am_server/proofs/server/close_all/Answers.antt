@@ -1,4 +1,4 @@
-use Rattle.am_server.proofs.TakenPieces.{stored}
+use Rattle.am_server.proofs.StoredTraces.{stored}
 use Rattle.am_server.proofs.server.close_all.Goals as goal
 
 pub returns-clause-stored : goal.returns-clause-stored

@@ -12,7 +12,7 @@ use Rattle.am_server.specs.ServerTraces.{HasStored}
 use Rattle.am_session_seat.proofs.SeatOrder.{all_new, count_back, all_there, joined_seats, length-numbered}
 use Rattle.am_server.proofs.WorkedSeats.{all_of_workers}
 use Rattle.am_server.proofs.InTurn.{all_came_back, all_of_turns, as_many_served}
-use Rattle.am_server.proofs.TakenPieces.{taken_at_first}
+use Rattle.am_keeper.proofs.TakenPieces.{taken_at_first}
 use Rattle.am_server.proofs.Crosses.{captures_send}
 use Rattle.am_doors.proofs.house.House.TheSendSync as house
 use Rattle.am_server.proofs.server.Beside.TheSendSync as beside

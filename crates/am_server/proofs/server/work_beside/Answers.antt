@@ -6,7 +6,7 @@ use Rattle.am_latch.specs.contracts.latch.Latch as Latch
 use Rattle.am_doors.specs.contracts.house.House as House
 use Rattle.am_server.proofs.Crosses.{captures_send}
 use Rattle.am_doors.proofs.house.House.TheSendSync as house
-use Rattle.am_server.proofs.keeper.Keeper.TheSendSync as keeper
+use Rattle.am_keeper.proofs.keeper.Keeper.TheSendSync as keeper
 use Rattle.am_server.proofs.server.work_beside.Goals as goal
 
 pub join-keeper-requires-send-F : goal.join-keeper-requires-send-F

@@ -1,9 +1,11 @@
 //! What a server that stays says on standard error while it runs.
 
+ghost use Rattle.std.specs.Prelude.{◌≡◌, not};
+
 use am_doors::SessionCounts;
+use am_keeper::{Counts, Watcher};
 use am_parts::Figures;
 use am_serve_command::Listening;
-use am_server::{Counts, Watcher};
 use am_trace_file::{ListenFault, Outbox};
 use am_trace_writer::{EventCounts, TraceCounts};
 use std::io;
@@ -16,7 +18,7 @@ const LOG_SECONDS: u64 = 60;
 
 /// Says once what goes wrong, and each minute and at the end how the server does, where that is asked for.
 #[derive(Drop)]
-pub(crate) struct Console<'a, R> {
+pub struct Console<'a, R> {
     rt: &'a R,
     outbox: &'a Outbox,
     is_logged: bool,
@@ -27,7 +29,10 @@ pub(crate) struct Console<'a, R> {
 
 impl<'a, R: Eprint + Clock + Wait> Console<'a, R> {
     /// Of a bounded server nothing is said while it runs.
-    pub(crate) fn new(rt: &'a R, outbox: &'a Outbox, listening: &Listening<'_>) -> Console<'a, R> {
+    pub fn new(rt: &'a R, outbox: &'a Outbox, listening: &Listening<'_>) -> Console<'a, R>
+        ensures logged { result.is_logged ≡ listening.now.is_logged }
+        ensures told { (result.told_accept ≡ not listening.now.stays) × (result.told_cut ≡ not listening.now.stays) }
+    {
         Console {
             rt,
             outbox,

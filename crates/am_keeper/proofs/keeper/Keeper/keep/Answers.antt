@@ -1,6 +1,6 @@
 use Rattle.std.proofs.Common.{arith}
-use Rattle.am_server.proofs.TakenPieces.{taken_none, taken_both, taken_next}
-use Rattle.am_server.proofs.keeper.Keeper.keep.Goals as goal
+use Rattle.am_keeper.proofs.TakenPieces.{taken_none, taken_both, taken_next}
+use Rattle.am_keeper.proofs.keeper.Keeper.keep.Goals as goal
 
 pub rounds-init : goal.rounds-init
 rounds-init g c = taken_none g.T.PieceTaker.took _ _ _ (omega arith) (g.met.T.PieceTaker.took_none _)

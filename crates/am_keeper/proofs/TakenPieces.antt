@@ -2,16 +2,13 @@
 use Rattle.std.proofs.Common.{◌≡◌, ℕ, ◌+◌, ◌≤◌, List, [], ◌++◌, length, sym, ap, ◌∙◌, subst, arith}
 use Rattle.std.proofs.Common.{append_assoc, append-nil, length-append}
 use Rattle.am_serial.specs.Trace.{Trace}
-use Rattle.am_latch.specs.Receipts.{SeatState}
 use Rattle.am_trace_writer.specs.Events.{add_count}
-use Rattle.am_server.specs.ServerTraces.{IsTraceOf, HasStored}
-use Rattle.am_server.specs.Pieces.{HasTaken, HasClosed}
-use Rattle.am_server.specs.declared.server_trace.ServerTrace.{ServerTrace}
+use Rattle.am_keeper.specs.Pieces.{HasTaken}
 
 pub counted_both : (m x y : ℕ) → add_count (add_count m x) y ≡ add_count m (x + y)
 counted_both m x y = omega arith
 
-pub counted_none : (m : ℕ) → m ≤ 18446744073709551615 → m ≡ add_count m 0
+counted_none : (m : ℕ) → m ≤ 18446744073709551615 → m ≡ add_count m 0
 counted_none m few = omega (arith, few)
 
 module _ {T : Type 0} (took : T → Trace → T → Type 0) where
@@ -21,15 +18,6 @@ module _ {T : Type 0} (took : T → Trace → T → Type 0) where
     longer = sym (append-nil r);
     passed = none;
     count = counted_none m few;
-  }
-
-  pub taken_one : (r s : Trace) (a b : T) (m n : ℕ) (x : Trace) → s ≡ r ++ x → took a x b → n ≡ add_count m (length x) →
-      HasTaken took r a m s b n
-  taken_one r s a b m n x longer passed count = record {
-    piece = x;
-    longer = longer;
-    passed = passed;
-    count = count;
   }
 
   pub taken_both : ((a b c : T) (x y : Trace) → took a x b → took b y c → took a (x ++ y) c) → (r s t : Trace)
@@ -55,18 +43,7 @@ module _ {T : Type 0} (took : T → Trace → T → Type 0) where
         count = same.2 ∙ all.count;
       }
 
-  -- all that was taken from the first, and the rest
-  pub stored : ((a b c : T) (x y : Trace) → took a x b → took b y c → took a (x ++ y) c) → (all : Trace) (a b : T)
-      (n : ℕ) (seats : List SeatState) (s : ServerTrace T) → HasTaken took [] a 0 all b n →
-      HasClosed took seats all b n s → HasStored took a seats s
-  stored both all a b n seats s f h = record {
-    trace = f.piece ++ h.rest;
-    passed = both a b s.pieces f.piece h.rest f.passed h.passed;
-    count = h.count ∙ ap (λ k. add_count k (length h.rest)) f.count ∙
-        counted_both 0 (length f.piece) (length h.rest) ∙ ap (add_count 0) (sym (length-append f.piece h.rest));
-    sound = subst (λ (l : Trace). IsTraceOf seats (l ++ h.rest) s.commits) f.longer h.sound;
-  }
-
+  -- what was taken since a beginning, before which nothing was
   pub taken_at_first : (r s : Trace) (a b c : T) (m n : ℕ) → r ≡ [] → a ≡ c → m ≡ 0 → HasTaken took r a m s b n →
       HasTaken took [] c 0 s b n
   taken_at_first r s a b c m n none same new f = record {

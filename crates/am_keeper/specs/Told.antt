@@ -4,7 +4,7 @@ use Rattle.am_serial.specs.Trace.{Trace}
 use Rattle.am_engine.specs.Sizes.{AreFiguresAt}
 use Rattle.am_doors.specs.declared.tally.SessionCounts.{SessionCounts}
 use Rattle.am_trace_writer.specs.Events.{AreTraceCountsOf}
-use Rattle.am_server.specs.declared.counts.Counts.{Counts}
+use Rattle.am_keeper.specs.declared.counts.Counts.{Counts}
 
 -- Behind the events that were taken, of which so many came last, this is told of them, and how large the store is to
 -- which they lead. What its sessions are is told as it is given.

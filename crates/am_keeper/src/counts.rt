@@ -21,7 +21,7 @@ pub struct Counts {
 
 /// Looks at how a server does, ten times a second and more, and once when all its sessions have ended.
 pub trait Watcher {
-    ghost use Rattle.am_server.specs.declared.counts.Counts.{Counts};
+    ghost use Rattle.am_keeper.specs.declared.counts.Counts.{Counts};
 
     // From the one state to the other it saw these counts, and whether they were the last.
     ghost saw: { Self → Counts → Bool → Self → Type 0 };

@@ -4,12 +4,12 @@ ghost use Rattle.std.specs.Prelude.{◌≡◌, ◌+◌, [], length, true, None, 
 ghost use Rattle.am_serial.specs.Trace.{Trace};
 ghost use Rattle.am_trace_writer.specs.Events.{add_count, AreCountsOf};
 ghost use Rattle.am_engine.specs.Sizes.{AreFiguresAt};
-ghost use Rattle.am_server.specs.Told.{AreCountsBehind, Looked};
-ghost use Rattle.am_server.specs.Pieces.{HasTaken};
-ghost use Rattle.am_server.specs.Stops.{is_over};
+ghost use Rattle.am_keeper.specs.Told.{AreCountsBehind, Looked};
+ghost use Rattle.am_keeper.specs.Pieces.{HasTaken};
+ghost use Rattle.am_keeper.specs.Stops.{is_over};
 
 use crate::counts::{Counts, Watcher};
-use crate::server::Keeping;
+use crate::keeping::Keeping;
 use am_doors::{House, SessionCounts};
 use am_engine::empty_figures;
 use am_latch::{Latch, LatchName, Taker};
@@ -43,11 +43,13 @@ fn is_over(grace: Option<Duration>, since: SinceStop) -> bool
 
 /// Takes a latch's trace by pieces, and looks at the server beside that.
 #[derive(Drop)]
-pub(crate) struct Keeper<L: LatchName, T: PieceTaker + Drop, V: Watcher + Drop> {
-    pub(crate) taker: Taker<L>,
-    pub(crate) pieces: T,
-    // How many events were taken.
-    pub(crate) events: u64,
+pub struct Keeper<L: LatchName, T: PieceTaker + Drop, V: Watcher + Drop> {
+    /// Takes the trace of the latch.
+    pub taker: Taker<L>,
+    /// Who is passed the pieces.
+    pub pieces: T,
+    /// How many events were taken.
+    pub events: u64,
     counts: EventCounts,
     ghost numbered: { events ≡ add_count 0 (length taker) },
     ghost counted: { AreCountsOf taker counts },
@@ -61,7 +63,8 @@ pub(crate) struct Keeper<L: LatchName, T: PieceTaker + Drop, V: Watcher + Drop> 
 }
 
 impl<L: LatchName, T: PieceTaker + Drop, V: Watcher + Drop> Keeper<L, T, V> {
-    pub(crate) fn new(taker: Taker<L>, keeping: Keeping<T, V>) -> Keeper<L, T, V>
+    /// A keeper that has taken nothing yet.
+    pub fn new(taker: Taker<L>, keeping: Keeping<T, V>) -> Keeper<L, T, V>
         requires { taker ≡ [] }
         ensures taken { (result.taker ≡ taker) × (result.pieces ≡ keeping.pieces) × (result.events ≡ 0) }
         ensures watcher { result.watcher ≡ keeping.watcher }
@@ -87,7 +90,7 @@ impl<L: LatchName, T: PieceTaker + Drop, V: Watcher + Drop> Keeper<L, T, V> {
 
     /// Takes what the latch keeps, ten times a second and at each 1,024th answer or turn, until all sessions have
     /// ended, and cuts those that are late.
-    pub(crate) fn keep<R: Wait + Clock>(self, rt: &R, latch: &Latch<L>, house: &House<'_>) -> Self
+    pub fn keep<R: Wait + Clock>(self, rt: &R, latch: &Latch<L>, house: &House<'_>) -> Self
         ensures taken { HasTaken T.took self.taker self.pieces self.events result.taker result.pieces
             result.events }
         ensures last { (watcher : V) × (before : Trace) × Looked V.saw watcher before result.taker

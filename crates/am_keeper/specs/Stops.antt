@@ -2,8 +2,8 @@
 use Rattle.std.specs.Prelude.{Bool, true, false, Option, Some, None, nat_le}
 use Rattle.std.specs.Duration.{as_nanos}
 use Rattle.std.specs.declared.time.Duration.{Duration}
-use Rattle.am_server.specs.declared.keeper.SinceStop.{SinceStop}
-use Rattle.am_server.specs.declared.keeper.SinceStop.TheVariants.{Unasked, Ago, Untold}
+use Rattle.am_keeper.specs.declared.keeper.SinceStop.{SinceStop}
+use Rattle.am_keeper.specs.declared.keeper.SinceStop.TheVariants.{Unasked, Ago, Untold}
 
 -- whether sessions are cut: where they have a grace, once it has passed since the stop, and where no clock tells that
 abbrev pub is_over : Option Duration → SinceStop → Bool

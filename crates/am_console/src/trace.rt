@@ -1,0 +1,130 @@
+//! The file of a server's trace, from its opening until it has its name.
+
+ghost use Rattle.std.specs.Prelude.{◌≡◌, IfOk, is_some, true, false, None, Ok, Err};
+
+use crate::ending::remove_socket;
+use am_serve_command::Listening;
+use am_trace_file::{GrowingFile, ListenFault, Outbox, Sending, TraceFile};
+use am_trace_writer::{PieceTaker, TraceWriter};
+use std::fs::File;
+use std::rt::Files;
+use std::sync::Wait;
+
+/// Writes the trace to an outbox.
+pub type Writer<'a, R> = TraceWriter<Sending<'a, R>>;
+
+/// The file for the trace, where one is named. It still has what it had.
+#[derive(Drop)]
+pub struct OpenedTrace {
+    opened: Option<(TraceFile, File)>,
+    // The name by which the file is told.
+    name: Option<String>,
+}
+
+impl OpenedTrace {
+    /// Opens the file that is named: that of a server that stays grows, and that of a bounded one gets its name at the
+    /// end.
+    ///
+    /// # Errors
+    /// CannotWriteTrace, where the system refuses it; NoMemory, where memory was refused.
+    #[inline(never)]
+    pub fn open<R: AllocGlobal + Files<File = File> + Eprint>(
+        rt: &R,
+        listening: &Listening<'_>,
+    ) -> Result<OpenedTrace, ListenFault>
+        ensures { IfOk result (λ trace. is_some trace.opened ≡ is_some listening.now.trace) }
+    {
+        let name = name_to_tell(rt, listening)?;
+        let opened = match listening.trace {
+            Some(path) if listening.stays => Some(TraceFile::open_or_say(rt, path)?),
+            Some(path) => Some(TraceFile::open_beside(rt, path)?),
+            None => None,
+        };
+        Ok(OpenedTrace { opened, name })
+    }
+
+    /// Removes what stands beside the file.
+    pub fn forget<R: Files>(&self, rt: &R) {
+        if let Some((file, _)) = &self.opened {
+            file.forget(rt);
+        }
+    }
+
+    /// Gives the outbox the file, of which all that stood in it is forgotten. Answers the file by its name.
+    pub fn give_to<R: Wait>(self, rt: &R, outbox: &Outbox) -> Option<TraceFile>
+        ensures { is_some result ≡ is_some self.opened }
+    {
+        let OpenedTrace { opened, name } = self;
+        let (file, grown) = opened?;
+        outbox.give_file(rt, GrowingFile::new(grown, name));
+        Some(file)
+    }
+}
+
+// The name by which the file is told: a bounded server tells none.
+fn name_to_tell<R: AllocGlobal>(
+    rt: &R,
+    listening: &Listening<'_>,
+) -> Result<Option<String>, ListenFault>
+    ensures { listening.now.stays ≡ false → result ≡ Ok None }
+{
+    match listening.trace {
+        Some(path) if listening.stays => match String::from_str(rt.alloc(), path) {
+            Ok(name) => Ok(Some(name)),
+            Err(_) => Err(ListenFault::NoMemory),
+        },
+        _ => Ok(None),
+    }
+}
+
+/// The writer of the trace, where a file is named, which has written its first line.
+///
+/// # Errors
+/// CannotWriteTrace, where the server stays and the line can't be written; nothing is left of the socket then.
+#[inline(never)]
+pub fn begin_trace<'a, R: AllocGlobal + Files + Eprint + Wait>(
+    rt: &'a R,
+    listening: &Listening<'_>,
+    outbox: &'a Outbox,
+) -> Result<Option<Writer<'a, R>>, ListenFault>
+    ensures { IfOk result (λ writer. is_some writer ≡ is_some listening.now.trace) }
+{
+    if listening.trace.is_none() {
+        return Ok(None);
+    }
+    let writer = TraceWriter::begin(rt.alloc(), Sending::new(rt, outbox));
+    if listening.stays && writer.is_cut() {
+        remove_socket(rt, listening);
+        return Err(ListenFault::CannotWriteTrace);
+    }
+    Ok(Some(writer))
+}
+
+/// Removes what stands beside the file of the trace, where one is named.
+pub fn forget_trace<R: Files>(rt: &R, file: Option<&TraceFile>) {
+    if let Some(file) = file {
+        file.forget(rt);
+    }
+}
+
+/// Gives what was written the name of the file, where one is named. Of a trace that is cut nothing is left.
+///
+/// # Errors
+/// CannotWriteTrace, where the trace is cut, or the system refuses the name.
+pub fn store_trace<R: Files>(
+    rt: &R,
+    file: Option<&TraceFile>,
+    is_cut: bool,
+) -> Result<(), ListenFault>
+    ensures cut { is_cut ≡ true → result ≡ Err ListenFault.CannotWriteTrace }
+    ensures unnamed { file.entry ≡ None → is_cut ≡ false → result ≡ Ok tt }
+{
+    if is_cut {
+        forget_trace(rt, file);
+        return Err(ListenFault::CannotWriteTrace);
+    }
+    match file {
+        Some(file) => file.keep(rt),
+        None => Ok(()),
+    }
+}
