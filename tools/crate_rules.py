@@ -6,7 +6,7 @@ import re
 import shutil
 import subprocess
 from itertools import takewhile
-from typing import Dict, Iterator, List, Tuple
+from typing import Dict, Iterator, List, Set, Tuple
 
 from tree import TOP, crates, given_out, sources, text_of
 
@@ -76,14 +76,19 @@ def faults_of_surface() -> Iterator[str]:
     code = {it: [text_of(path) for path in glob.glob(f"{TOP}/crates/{it}/s*/**/*.*t", recursive=True)] for it in named}
     examples = [text_of(path) for path in glob.glob(f"{TOP}/tests/rattle/**/*.rs", recursive=True) + glob.glob(f"{TOP}/bench/rattle/*.rs")]
     proofs = {it: [text_of(path) for path in glob.glob(f"{TOP}/crates/{it}/proofs/**/*.antt", recursive=True)] for it in named}
+    # (one look at each text for all crates: there are many texts)
+    path = re.compile(rf"\b({'|'.join(named)})(?:::|\.)([\w:.]*\{{[^;]*?\}}|[\w:.]+)")
+    taken: Dict[str, Set[str]] = {it: set() for it in named}
+    for user, texts in [("", examples), *((it, code[it] + proofs[it]) for it in named)]:
+        for crate, names in path.findall("\n".join(texts)):
+            if crate != user:
+                taken[crate].update(re.findall(r"\w+", names))
     for crate in named:
-        others = "\n".join([*examples, *(text for it in named if it != crate for text in code[it] + proofs[it])])
-        taken = set(re.findall(r"\w+", " ".join(re.findall(rf"\b{crate}(?:::|\.)(?:[\w:.]*\{{[^;]*?\}}|[\w:.]+)", others))))
         laws = set(re.findall(r"(?m)^pub fn (\w+)(?:<[^>]*>)?\(\)$", "\n".join(code[crate])))
         exceptions, given = SURFACE.get(crate, set()), set(given_out(crate))
-        for name in sorted(given - taken - laws - exceptions):
+        for name in sorted(given - taken[crate] - laws - exceptions):
             yield f"crates/{crate}/src/lib.rt: no other crate names {name}"
-        for name in sorted(exceptions - given | exceptions & taken):
+        for name in sorted(exceptions - given | exceptions & taken[crate]):
             yield f"tools/crate_rules.py: {name} of {crate} is no exception"
 
 
