@@ -12,7 +12,7 @@ from typing import Optional
 TOP = os.path.dirname(os.path.dirname(os.path.abspath(__file__)))
 # Names that are taken from the inside of the kit, and its version for which they are known to be right.
 KNOWN = "rattle-kit-13"
-TAKEN_OF_RT = ["Crate", "handles_of"]
+TAKEN_OF_RT = ["Crate", "Kept", "STORE", "handles_of"]
 TAKEN_OF_LIBRARY = ["KIT", "RATTLE", "Crate", "crates_below", "files_of", "guarded", "kit_sources", "lock", "number_in", "text_of"]
 
 
@@ -29,7 +29,8 @@ def module_of(path: str, name: str) -> types.ModuleType:
 
 
 def kit() -> types.ModuleType:
-    """The kit's library of crates. Its crates are held to HANDLES, as the gate holds them, and none may call C."""
+    """The kit's library of crates, and in `gate` what the gate keeps. Its crates are held to HANDLES, as the gate holds them, and
+    none may call C."""
     command = shutil.which("rt")
     if command is None:
         sys.exit("rt, the Rattle toolchain, is not on the path")
@@ -42,6 +43,7 @@ def kit() -> types.ModuleType:
     library.guarded()
     rt.Crate.allowed = rt.handles_of(TOP)
     setattr(library, "Crate", rt.Crate)
+    setattr(library, "gate", rt)
     return library
 
 

@@ -1,7 +1,7 @@
 -- What a session on a store of its own did, by its end.
 use Rattle.std.specs.Prelude.{◌≡◌, ℕ, List, [], ◌++◌, Option}
 use Rattle.am_stream.specs.SourceReads.{Took}
-use Rattle.am_stream.specs.SinkWrites.{Gave}
+use Rattle.am_sink.specs.SinkWrites.{Gave}
 use Rattle.am_session.specs.ServedSessions.{EndsBy}
 use Rattle.am_alone.specs.Solo.{IsSpoken}
 use Rattle.am_session.specs.declared.end.End.{End}

@@ -7,7 +7,8 @@ ghost use Rattle.am_alone.specs.StoreSessions.{Spoke, WroteFor};
 use crate::solo::SoloStore;
 use am_record::HashKey;
 use am_session::{End, serve};
-use am_stream::{AnsweredSource, PieceSource, Sink, StopSink};
+use am_sink::{Sink, StopSink};
+use am_stream::{AnsweredSource, PieceSource};
 use std::alloc::Global;
 use std::sync::Wait;
 

@@ -1,10 +1,9 @@
 -- Where the last LF of a text stands.
 use Rattle.std.proofs.Common.{◌≡◌, ℕ, ◌<◌, List, [], ◌∷◌, zero, suc, length, get_or, take, drop, ap, ◌∙◌, sym, refl}
 use Rattle.std.proofs.Common.{true, false, Bool, ◌==◌, cond, arith}
-use Rattle.am_stream.specs.Lines.{has_lf}
 use Rattle.am_trace_text.specs.Lines.{header}
 use Rattle.am_trace_text.specs.declared.version.Version.TheVariants.{Two}
-use Rattle.am_auditor.specs.Answers.{whole_lines, whole_run}
+use Rattle.am_auditor.specs.Answers.{has_lf, whole_lines, whole_run}
 
 -- of a text that has no LF from a place on, one byte more
 pub none_before : (text : List ℕ) (i : ℕ) → i < length text → (get_or text i 0 == 10) ≡ false →

@@ -1,10 +1,14 @@
 -- What is answered to the words.
-use Rattle.std.specs.Prelude.{ℕ, List, [], ◌∷◌, cond, Option}
+use Rattle.std.specs.Prelude.{ℕ, List, [], ◌∷◌, Bool, true, false, ◌==◌, cond, Option}
 use Rattle.am_command.specs.declared.choice.Audited.{Audited}
-use Rattle.am_stream.specs.Lines.{has_lf}
 use Rattle.am_trace_text.specs.Lines.{header}
 use Rattle.am_trace_text.specs.declared.version.Version.TheVariants.{Two}
 use Rattle.am_auditor.specs.Judgements.{SaysJudgement, IsBegun, TellsRecords, HasBegunRecords}
+
+-- whether an LF stands in the text
+abbrev pub has_lf : List ℕ → Bool
+has_lf [] = false
+has_lf (b ∷ text) = cond (b == 10) true (has_lf text)
 
 -- the text up to its last LF, and with it
 abbrev pub whole_lines : List ℕ → List ℕ

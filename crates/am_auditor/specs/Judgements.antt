@@ -4,7 +4,7 @@ use Rattle.std.specs.FinMap.{entries}
 use Rattle.am_record.specs.OrderedKey.{OrderedKey, bytes_of}
 use Rattle.am_record.specs.Records.{Records}
 use Rattle.am_serial.specs.Trace.{Trace, effects, committers, committed}
-use Rattle.am_stream.specs.SinkWrites.{Gave, GaveBeginning}
+use Rattle.am_sink.specs.SinkWrites.{Gave, GaveBeginning}
 use Rattle.am_trace_text.specs.Lines.{IsTextOf, IsBadLine}
 use Rattle.am_serial.specs.Legal.{IsLegal}
 use Rattle.am_audit.specs.Faults.{IsFirstFault}

@@ -6,7 +6,7 @@ ghost use Rattle.am_auditor.specs.Answers.{Answers, HasBegunAnswer, whole_run};
 use crate::judgement::judge;
 use crate::records::tell_records;
 use am_command::Audited;
-use am_stream::{Failed, Sink};
+use am_sink::{Failed, Sink};
 use std::alloc::Global;
 
 /// Writes what is asked for of a stored trace: the line that says how its text is judged, or the records that it

@@ -1,7 +1,7 @@
 //! What is said of a text.
 
 ghost use Rattle.std.specs.Prelude.{◌≡◌, ◌^◌, ◌<◌, ◌≤◌, ◌+◌, length, true, false, OnOk, OnErr, IfOk};
-ghost use Rattle.am_stream.specs.SinkWrites.{Wrote};
+ghost use Rattle.am_sink.specs.SinkWrites.{Wrote};
 ghost use Rattle.std.specs.Prelude.{◌≢◌, ℕ, List, IfErr};
 ghost use Rattle.am_serial.specs.Trace.{Trace};
 ghost use Rattle.am_trace_text.specs.Lines.{IsTextOf};
@@ -10,7 +10,7 @@ ghost use Rattle.am_auditor.specs.Judgements.{IsTrueOf, SaysJudgement, IsBegun, 
 ghost use Rattle.am_auditor.specs.Judgements.{HasText};
 
 use am_audit::{Audit, Fault, FaultKind};
-use am_stream::{Failed, Sink, give_all};
+use am_sink::{Failed, Sink, give_all};
 use am_text::Text;
 use am_trace_read::{read_header, read_line};
 use am_trace_text::ReadFault;

@@ -5,9 +5,8 @@ mod answer;
 mod judgement;
 mod records;
 
-use am_command::{Audited, OptionsFault, audited, words};
-use am_stack::hold_stack;
-use am_stream::Writing;
+use am_command::{Audited, OptionsFault, audited, hold_stack, words};
+use am_sink::Writing;
 use answer::answer;
 use judgement::{Judgement, say};
 use std::io::Read;

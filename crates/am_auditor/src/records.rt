@@ -6,7 +6,7 @@ ghost use Rattle.am_auditor.specs.Judgements.{record_line, records_text};
 
 use crate::judgement::{Judgement, audit_text, judgement_of, say};
 use am_record::{Key, NoMemory, Value};
-use am_stream::{Failed, Sink, give_all};
+use am_sink::{Failed, Sink, give_all};
 use std::alloc::Global;
 
 /// Writes the records that the committed transactions of a stored trace leave, by rising key, a line each: key, TAB,

@@ -1,11 +1,11 @@
 //! What a session writes for a line.
 
 ghost use Rattle.std.specs.Prelude.{◌≡◌, ◌+◌, ◌^◌, ◌<◌, true, OnOk};
-ghost use Rattle.am_stream.specs.SinkWrites.{Wrote};
+ghost use Rattle.am_sink.specs.SinkWrites.{Wrote};
 ghost use Rattle.am_dialogue.specs.Responses.{response_text, fault_text, seen_text};
 
 use am_record::Reply;
-use am_stream::{Failed, Sink, give_all};
+use am_sink::{Failed, Sink, give_all};
 use am_text::{LineFault, Text};
 use am_wire::put_reply;
 

@@ -2,10 +2,10 @@
 
 ghost use Rattle.std.specs.Prelude.{◌≡◌, ◌==◌, ◌||◌, ◌+◌, ◌^◌, ◌<◌, ◌≤◌, false, [], length, take, min, count_by};
 ghost use Rattle.std.specs.Prelude.{nat_lt, OnOk, OnErr, IfOk};
-ghost use Rattle.am_stream.specs.SinkWrites.{Gave};
+ghost use Rattle.am_sink.specs.SinkWrites.{Gave};
 
 use crate::pacer::{MergePacer, TurnGiver};
-use am_stream::{Failed, Sink};
+use am_sink::{Failed, Sink};
 use std::thread;
 
 /// A sink of a session, each of whose answers lets a worker have a turn once it was sent on.

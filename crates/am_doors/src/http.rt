@@ -9,7 +9,8 @@ ghost use Rattle.am_doors.specs.Http.{IsEnough, TookFirst, IsInMode};
 ghost use Rattle.am_doors.specs.declared.http.Stage.TheVariants.{First, Open, Closed};
 
 use crate::mode::Mode;
-use am_stream::{Failed, Source};
+use am_sink::Failed;
+use am_stream::Source;
 
 /// The methods whose names are no words of a session, each with the space behind it.
 const METHODS: [&[u8]; 8] = [

@@ -6,11 +6,11 @@ ghost use Rattle.std.specs.Prelude.{◌≤◌};
 mod ending;
 
 use am_alone::serve_alone;
-use am_command::{OptionsFault, words};
+use am_command::{OptionsFault, hold_stack, words};
 use am_serve_command::{Options, options};
 use am_session::draw_hash_key;
-use am_stack::hold_stack;
-use am_stream::{Reading, Writing};
+use am_sink::Writing;
+use am_stream::Reading;
 use ending::ending;
 use std::io;
 use std::io::BufWriter;

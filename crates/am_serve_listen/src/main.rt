@@ -5,9 +5,8 @@ ghost use Rattle.std.specs.Prelude.{◌≤◌};
 
 mod port;
 
-use am_command::{OptionsFault, words};
+use am_command::{OptionsFault, hold_stack, words};
 use am_serve_command::{Options, options};
-use am_stack::hold_stack;
 use am_trace_file::{ListenFault, Outbox};
 use port::{Opened, close, make_ready, serve, stop_at_word};
 use std::process::ExitCode;

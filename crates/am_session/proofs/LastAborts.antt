@@ -1,8 +1,8 @@
 -- From where a line is awaited, with what was active aborted, to the end.
 use Rattle.std.proofs.Common.{◌≡◌, inl, inr, ℕ, List, [], ◌++◌, refl, take, Option, Some, None, subst, append-nil}
 use Rattle.am_serial.specs.Trace.{Trace}
-use Rattle.am_stream.specs.SinkWrites.{Gave}
-use Rattle.am_stream.proofs.Streams.{gave_then}
+use Rattle.am_sink.specs.SinkWrites.{Gave}
+use Rattle.am_sink.proofs.Writes.{gave_then}
 use Rattle.am_dialogue.specs.Responses.{bye}
 use Rattle.am_dialogue.specs.Exchanges.{Exchange, texts}
 use Rattle.am_dialogue.specs.Backends.{BackendMeaning}

@@ -5,8 +5,9 @@ use Rattle.std.proofs.lemmas.List.{map-append}
 use Rattle.am_serial.specs.Trace.{Trace}
 use Rattle.am_stream.specs.Lines.{lines_of, TookLine, TookPart}
 use Rattle.am_stream.specs.SourceReads.{Took, TookAhead, IsAtEnd}
-use Rattle.am_stream.specs.SinkWrites.{Gave}
-use Rattle.am_stream.proofs.Streams.{took_then, gave_then}
+use Rattle.am_sink.specs.SinkWrites.{Gave}
+use Rattle.am_sink.proofs.Writes.{gave_then}
+use Rattle.am_stream.proofs.Streams.{took_then}
 use Rattle.am_dialogue.specs.ParsedLine.{Line, parsed, is_quit, before_quit, quits}
 use Rattle.am_dialogue.specs.Responses.{response_text}
 use Rattle.am_dialogue.specs.Exchanges.{Exchange, asked, texts}

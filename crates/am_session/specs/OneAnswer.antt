@@ -1,7 +1,7 @@
 -- One line answered, or its answer torn.
 use Rattle.std.specs.Prelude.{ℕ, List, Option, take}
 use Rattle.am_serial.specs.Trace.{Trace}
-use Rattle.am_stream.specs.SinkWrites.{Gave}
+use Rattle.am_sink.specs.SinkWrites.{Gave}
 use Rattle.am_dialogue.specs.Responses.{response_text}
 use Rattle.am_dialogue.specs.Backends.{BackendMeaning}
 use Rattle.am_dialogue.specs.Conversation.{SessionPoint, AnswersParsed}

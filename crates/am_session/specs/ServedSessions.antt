@@ -2,7 +2,7 @@
 use Rattle.std.specs.Prelude.{◌≡◌, ℕ, List, [], ◌∷◌, ◌++◌, true, false, Option, Some, None, take, ◌⊎◌}
 use Rattle.am_stream.specs.Lines.{lines_of, HasNoLf}
 use Rattle.am_stream.specs.SourceReads.{Took}
-use Rattle.am_stream.specs.SinkWrites.{Gave}
+use Rattle.am_sink.specs.SinkWrites.{Gave}
 use Rattle.am_serial.specs.Trace.{Trace}
 use Rattle.am_dialogue.specs.ParsedLine.{before_quit, quits}
 use Rattle.am_dialogue.specs.Responses.{bye, response_text}

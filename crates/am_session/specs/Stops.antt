@@ -1,7 +1,7 @@
 -- What a session did up to its stop, when no further line is answered and what is active isn't aborted yet.
 use Rattle.std.specs.Prelude.{ℕ, List, [], Option}
 use Rattle.am_stream.specs.SourceReads.{Took}
-use Rattle.am_stream.specs.SinkWrites.{Gave}
+use Rattle.am_sink.specs.SinkWrites.{Gave}
 use Rattle.am_dialogue.specs.Backends.{BackendMeaning}
 use Rattle.am_dialogue.specs.Conversation.{SessionPoint, Converses}
 use Rattle.am_session.specs.ServedSessions.{StopsBy}

@@ -2,7 +2,7 @@
 
 ghost use Rattle.std.specs.Prelude.{◌≡◌, ◌+◌, ◌^◌, ◌<◌, [], false, Option, Some, None, OnOk, OnErr, IfOk};
 ghost use Rattle.std.specs.Prelude.{IfSome, IfNone, true};
-ghost use Rattle.am_stream.specs.SinkWrites.{Wrote};
+ghost use Rattle.am_sink.specs.SinkWrites.{Wrote};
 ghost use Rattle.am_stream.specs.Lines.{has_lf, TookLine, TookPart};
 ghost use Rattle.am_stream.specs.LineAnswers.{seen};
 ghost use Rattle.am_stream.specs.SourceReads.{TookAhead, IsAtEnd};
@@ -14,7 +14,8 @@ ghost use Rattle.am_session.specs.OneAnswer.{GivesAnswer, GivesTorn};
 use crate::backend::Backend;
 use am_dialogue::{Action, ParsedLine, Response, Session, put_response};
 use am_record::Step;
-use am_stream::{AnsweredSource, Failed, FoundLine, Input, LineBuffer, Sink, read_line};
+use am_sink::{Failed, Sink};
+use am_stream::{AnsweredSource, FoundLine, Input, LineBuffer, read_line};
 use std::sync::Wait;
 
 /// Takes the next line. The source is asked only where no whole line is at hand, and then nothing is unsent.

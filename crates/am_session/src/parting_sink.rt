@@ -1,11 +1,11 @@
 //! How a session says BYE.
 
 ghost use Rattle.std.specs.Prelude.{◌≡◌, ◌^◌, ◌<◌, false, None, OnOk};
-ghost use Rattle.am_stream.specs.SinkWrites.{Wrote};
+ghost use Rattle.am_sink.specs.SinkWrites.{Wrote};
 ghost use Rattle.am_dialogue.specs.Responses.{bye};
 
 use crate::backend::Backend;
-use am_stream::{Failed, Sink, give_all};
+use am_sink::{Failed, Sink, give_all};
 
 /// A sink at which BYE is said only while nothing is active in the backend: whoever says it shows the backend. Every
 /// sink is one beside every backend. Code over any such sink has no other way to part from it.

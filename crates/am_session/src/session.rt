@@ -12,7 +12,8 @@ use crate::end::End;
 use crate::parting_sink::PartingSink;
 use am_dialogue::{Session, parse};
 use am_record::Step;
-use am_stream::{AnsweredSource, Failed, Input, LineBuffer, Sink};
+use am_sink::{Failed, Sink};
+use am_stream::{AnsweredSource, Input, LineBuffer};
 use std::alloc::Global;
 use std::sync::Wait;
 

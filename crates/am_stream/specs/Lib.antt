@@ -1,5 +1,4 @@
 pub mod SourceReads
-pub mod SinkWrites
-pub mod OverStd
+pub mod OverReader
 pub mod Lines
 pub mod LineAnswers

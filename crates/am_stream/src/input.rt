@@ -8,8 +8,7 @@ ghost use Rattle.am_stream.specs.LineAnswers.{seen};
 
 use crate::line::{FoundLine, LineBuffer};
 use crate::peer_source::AnsweredSource;
-use crate::sink::Sink;
-use crate::source::Failed;
+use am_sink::{Failed, Sink};
 use std::alloc::{AllocError, Global};
 use std::marker::Model;
 use std::sync::Wait;

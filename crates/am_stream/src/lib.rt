@@ -1,16 +1,14 @@
-//! Streams of bytes, and the lines cut from them.
+//! Where bytes come from, and the lines cut from them.
 #![tactic(auto)]
 
 mod input;
 mod line;
-mod over_std;
 mod peer_source;
-mod sink;
+mod reading;
 mod source;
 
 pub use input::{Input, read_line};
 pub use line::{FoundLine, LineBuffer, LineKind, MAX_LINE_LEN};
-pub use over_std::{Reading, Writing, streams_are_those_of_std};
 pub use peer_source::AnsweredSource;
-pub use sink::{Sink, StopSink, give_all};
-pub use source::{Failed, PieceSource, Source};
+pub use reading::{Reading, streams_are_those_of_std};
+pub use source::{PieceSource, Source};

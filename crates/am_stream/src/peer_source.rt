@@ -3,8 +3,8 @@
 ghost use Rattle.std.specs.Prelude.{◌≡◌, ℕ, ◌+◌, ◌^◌, ◌<◌, ◌≤◌, List, [], length, take, false, OnOk, OnErr, IfOk};
 ghost use Rattle.am_stream.specs.SourceReads.{Took};
 
-use crate::sink::Sink;
-use crate::source::{Failed, Source};
+use crate::source::Source;
+use am_sink::{Failed, Sink};
 
 /// A source that is asked for more only while nothing that the sink was given is unsent: whoever asks it shows the
 /// sink. Every source is one beside every sink. Code over any such source has no other way to ask it.

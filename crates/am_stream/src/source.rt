@@ -1,14 +1,11 @@
 //! Where bytes come from.
 
 ghost use Rattle.std.specs.Prelude.{◌≡◌, ℕ, ◌+◌, ◌-◌, ◌^◌, ◌<◌, ◌≤◌, ◌↔◌, List, [], length, take, drop, min, OnOk};
-ghost use Rattle.std.specs.Prelude.{OnErr, IfOk, IsErr, IsTrue};
+ghost use Rattle.std.specs.Prelude.{OnErr, IfOk, IsErr};
 ghost use Rattle.am_stream.specs.SourceReads.{Took, Incoming, IsRest, next_size};
 
+use am_sink::{Failed, falls_due};
 use std::marker::Model;
-
-/// A source could not be read, or a sink could not be written.
-#[derive(Clone, Copy, Debug, PartialEq, Eq)]
-pub struct Failed;
 
 /// A stream of bytes that comes in pieces, each of a size that the source chooses.
 pub trait Source {
@@ -28,17 +25,6 @@ pub trait Source {
         ensures ok { OnOk result (failures self.new ≡ failures self.old) }
         ensures failed { OnErr result (failures self.new ≡ failures self.old + 1) }
         ensures kept { OnErr result (Took comes self.old [] self.new) };
-}
-
-/// Counts a call, and says whether it is the one that was waited for. `left` is how many calls there are up to that
-/// one, itself counted, and 0 where none is waited for.
-pub(crate) fn falls_due(left: &mut u64) -> bool
-    ensures due { IsTrue result ↔ (left.old ≡ 1) }
-    ensures left { left.new ≡ left.old - 1 }
-{
-    let is_due = *left == 1;
-    *left = left.saturating_sub(1);
-    is_due
 }
 
 /// A source over memory, which gives its bytes in pieces of given sizes, and can be made to fail once.

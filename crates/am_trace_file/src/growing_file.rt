@@ -1,7 +1,7 @@
 //! The file of a trace that grows while its server runs.
 
 use crate::fault::ListenFault;
-use am_stream::Failed;
+use am_sink::Failed;
 use std::fs::File;
 use std::io;
 use std::io::Write;

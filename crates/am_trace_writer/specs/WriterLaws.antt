@@ -4,8 +4,8 @@ use Rattle.std.proofs.Common.{subst, append_assoc, append-nil}
 use Rattle.std.proofs.lemmas.Bool.{true≢false}
 use Rattle.am_serial.specs.Trace.{Trace}
 use Rattle.std.specs.Io.KnownBytes.{Appends}
-use Rattle.am_stream.specs.SinkWrites.{Gave, GaveBeginning}
-use Rattle.am_stream.proofs.Streams.{gave_then, beginning_of_first, beginning_then}
+use Rattle.am_sink.specs.SinkWrites.{Gave, GaveBeginning}
+use Rattle.am_sink.proofs.Writes.{gave_then, beginning_of_first, beginning_then}
 use Rattle.am_trace_text.specs.Lines.{event_lines, event_words, with_lf}
 use Rattle.am_trace_text.specs.declared.version.Version.TheVariants.{Two}
 use Rattle.am_trace_writer.specs.Writers.{TookLines}

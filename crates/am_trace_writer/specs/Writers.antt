@@ -1,7 +1,7 @@
 -- What a writer of a trace made of the events that it took.
 use Rattle.std.specs.Prelude.{◌≡◌, ℕ, List, [], Bool, true, Option, MatchBool}
 use Rattle.am_serial.specs.Trace.{Trace}
-use Rattle.am_stream.specs.SinkWrites.{Gave, GaveBeginning}
+use Rattle.am_sink.specs.SinkWrites.{Gave, GaveBeginning}
 use Rattle.am_trace_text.specs.Lines.{event_lines}
 use Rattle.am_trace_text.specs.declared.version.Version.TheVariants.{Two}
 

@@ -1,14 +1,14 @@
 //! A trace that is written while its server runs.
 
 ghost use Rattle.std.specs.Prelude.{◌≡◌, ◌+◌, ◌^◌, ◌<◌, false, MatchBool, if◌then◌else◌};
-ghost use Rattle.am_stream.specs.SinkWrites.{Gave, GaveBeginning};
+ghost use Rattle.am_sink.specs.SinkWrites.{Gave, GaveBeginning};
 ghost use Rattle.am_trace_text.specs.Lines.{header};
 ghost use Rattle.am_trace_text.specs.declared.version.Version.TheVariants.{Two};
 ghost use Rattle.am_trace_writer.specs.Writers.{TookLines};
 
 use crate::pieces::PieceTaker;
 use am_record::{NoMemory, Reply, Step};
-use am_stream::{Sink, give_all};
+use am_sink::{Sink, give_all};
 use am_trace_print::event_lines;
 use std::alloc::Global;
 

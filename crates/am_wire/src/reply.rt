@@ -2,13 +2,13 @@
 
 ghost use Rattle.std.specs.Prelude.{◌≡◌, ◌+◌, ◌^◌, ◌<◌, ◌≤◌, length, true, OnOk, OnErr, IfOk};
 ghost use Rattle.am_record.specs.declared.step.Reply.{Reply};
-ghost use Rattle.am_stream.specs.SinkWrites.{Wrote};
+ghost use Rattle.am_sink.specs.SinkWrites.{Wrote};
 ghost use Rattle.am_wire.specs.Replies.{refusal_words, row_words, rows_words, head_of, text_of, TellsVisible};
 ghost use Rattle.am_wire.specs.Replies.{IsOneLine};
 ghost use Rattle.am_text.specs.ReplyWords.{spaced};
 
 use am_record::{Key, NoMemory, Refusal, Reply, Value};
-use am_stream::{Failed, Sink, StopSink, give_all};
+use am_sink::{Failed, Sink, StopSink, give_all};
 use am_text::{ReplyWord, Text, refusal_code};
 use std::alloc::Global;
 

@@ -3,7 +3,8 @@
 use am_alone::serve_in_memory;
 use am_record::{HashKey, NoMemory};
 use am_session::End;
-use am_stream::{PieceSource, StopSink};
+use am_sink::StopSink;
+use am_stream::PieceSource;
 use std::alloc::Global;
 use std::process::Abort;
 use std::sync::Wait;

@@ -2,7 +2,8 @@
 
 use am_alone::serve_alone;
 use am_record::HashKey;
-use am_stream::{Failed, PieceSource, Sink, StopSink};
+use am_sink::{Failed, Sink, StopSink};
+use am_stream::PieceSource;
 use std::alloc::Global;
 use std::sync::Wait;
 use std::test::Fail;

@@ -2,7 +2,8 @@
 
 use crate::streams::{LINES, SEEN, lines_of};
 use am_record::Reply;
-use am_stream::{Failed, Reading, Sink, Source, StopSink, Writing};
+use am_sink::{Failed, Sink, StopSink, Writing};
+use am_stream::{Reading, Source};
 use am_wire::put_reply;
 use std::alloc::Global;
 use std::io::{ErrorKind, Read, Write};

@@ -2,7 +2,8 @@
 
 use am_record::{Reply, Step};
 use am_session::{Backend, End, serve};
-use am_stream::{Failed, PieceSource, Sink, StopSink};
+use am_sink::{Failed, Sink, StopSink};
+use am_stream::PieceSource;
 use std::sync::Wait;
 use std::sync::atomic::{AtomicU64, Ordering};
 use std::test::Fail;

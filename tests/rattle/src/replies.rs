@@ -2,7 +2,7 @@
 
 use crate::keys::{key, value};
 use am_record::{NoMemory, Records, Refusal, Reply};
-use am_stream::StopSink;
+use am_sink::StopSink;
 use am_wire::{put_reply, reply_text};
 use std::alloc::Global;
 use std::process::Abort;

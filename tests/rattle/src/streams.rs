@@ -1,8 +1,7 @@
 //! Lines, however their bytes come.
 
-use am_stream::{
-    AnsweredSource, Input, LineBuffer, LineKind, PieceSource, Sink, StopSink, read_line,
-};
+use am_sink::{Sink, StopSink};
+use am_stream::{AnsweredSource, Input, LineBuffer, LineKind, PieceSource, read_line};
 use std::alloc::Global;
 use std::process::Abort;
 use std::sync::Wait;

@@ -1,6 +1,6 @@
 use Rattle.std.proofs.Common.{◌≡◌, ℕ, List, []}
 use Rattle.am_stream.specs.SourceReads.{Took}
-use Rattle.am_stream.specs.SinkWrites.{Gave}
+use Rattle.am_sink.specs.SinkWrites.{Gave}
 use Rattle.am_dialogue.specs.Conversation.{AnswersAll}
 use Rattle.am_session.specs.ServedSessions.{PartsBehind}
 use Rattle.am_alone.specs.Solo.{solo_meaning, IsSpoken}

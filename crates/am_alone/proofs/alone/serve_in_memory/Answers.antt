@@ -1,6 +1,6 @@
 use Rattle.std.proofs.Common.{◌≡◌, ◌++◌, [], Some, sym, refl}
 use Rattle.am_stream.specs.SourceReads.{Took}
-use Rattle.am_stream.specs.SinkWrites.{Gave}
+use Rattle.am_sink.specs.SinkWrites.{Gave}
 use Rattle.am_alone.specs.Solo.{IsSpoken}
 use Rattle.am_session.proofs.Ends.{ends_by}
 use Rattle.am_alone.proofs.alone.serve_in_memory.Goals as goal

@@ -1,5 +1,5 @@
 use Rattle.std.proofs.Common.{◌≡◌, ◌∙◌, ◌-◌, ◌<◌, ◌==◌, get_or, length, take, drop, ap, sym, arith, rules, true, suc}
-use Rattle.am_stream.specs.Lines.{has_lf}
+use Rattle.am_auditor.specs.Answers.{has_lf}
 use Rattle.am_auditor.proofs.WholeLines.{run_at}
 use Rattle.am_auditor.proofs.answer.whole_run.Goals as goal
 

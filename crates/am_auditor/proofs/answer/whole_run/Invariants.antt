@@ -1,5 +1,5 @@
 use Rattle.std.proofs.Common.{◌≡◌, ◌≤◌, length, drop, false}
-use Rattle.am_stream.specs.Lines.{has_lf}
+use Rattle.am_auditor.specs.Answers.{has_lf}
 use Rattle.am_auditor.proofs.answer.whole_run.Given as goal
 
 abbrev pub invariant-bytes : goal.invariant-bytes

@@ -1,5 +1,5 @@
 use Rattle.std.proofs.Common.{◌≡◌, [], Err, append-nil, ◌∙◌, rules}
-use Rattle.am_stream.proofs.Streams.{wrote_torn, wrote_flushed}
+use Rattle.am_sink.proofs.Writes.{wrote_torn, wrote_flushed}
 use Rattle.am_auditor.specs.Judgements.{judgement_line}
 use Rattle.am_auditor.proofs.judgement.say.Goals as goal
 

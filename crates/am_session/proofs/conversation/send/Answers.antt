@@ -1,4 +1,4 @@
-use Rattle.am_stream.proofs.Streams.{wrote_flushed}
+use Rattle.am_sink.proofs.Writes.{wrote_flushed}
 use Rattle.am_session.proofs.conversation.send.Goals as goal
 
 pub returns-clause-wrote : goal.returns-clause-wrote

@@ -1,6 +1,6 @@
 use Rattle.std.proofs.Common.{ℕ, List, [], ◌∷◌, ◌++◌, append_assoc, refl, sym, ap, subst, ◌∙◌, rules}
-use Rattle.am_stream.specs.SinkWrites.{Wrote}
-use Rattle.am_stream.proofs.Streams.{wrote_then, wrote_torn}
+use Rattle.am_sink.specs.SinkWrites.{Wrote}
+use Rattle.am_sink.proofs.Writes.{wrote_then, wrote_torn}
 use Rattle.am_wire.specs.Replies.{rows_words}
 use Rattle.am_wire.proofs.RowTexts.{in_pieces}
 use Rattle.am_wire.proofs.reply.put_reply.Goals as goal

@@ -1,7 +1,7 @@
 use Rattle.std.proofs.Common.{◌≡◌, ◌+◌, ◌<◌, ℕ, List, ◌++◌, length, take, drop, Ok, Err, sym, ap, subst, ◌∙◌, arith}
 use Rattle.std.proofs.Common.{rules}
-use Rattle.am_stream.specs.SinkWrites.{Wrote}
-use Rattle.am_stream.proofs.Streams.{wrote_then, wrote_torn}
+use Rattle.am_sink.specs.SinkWrites.{Wrote}
+use Rattle.am_sink.proofs.Writes.{wrote_then, wrote_torn}
 use Rattle.am_wire.specs.Replies.{row_words, rows_words}
 use Rattle.am_wire.proofs.RowTexts.{rows_words-more, around_row}
 use Rattle.am_wire.proofs.reply.put_rows.Goals as goal

@@ -1,5 +1,5 @@
 use Rattle.std.proofs.Common.{Ok, take}
-use Rattle.am_stream.specs.SinkWrites.{Wrote}
+use Rattle.am_sink.specs.SinkWrites.{Wrote}
 use Rattle.am_wire.specs.Replies.{rows_words}
 use Rattle.am_wire.proofs.reply.put_rows.Given as goal
 

@@ -2,9 +2,9 @@
 
 ghost use Rattle.std.specs.Prelude.{◌≡◌, ℕ, ◌+◌, ◌-◌, ◌^◌, ◌<◌, ◌≤◌, ◌↔◌, List, [], ◌++◌, length, take, OnOk, OnErr};
 ghost use Rattle.std.specs.Prelude.{IfOk, IsErr, Option, Some, Bool, false, ◌||◌, nat_lt};
-ghost use Rattle.am_stream.specs.SinkWrites.{Gave, Outgoing, Wrote};
+ghost use Rattle.am_sink.specs.SinkWrites.{Gave, Outgoing, Wrote};
 
-use crate::source::{Failed, falls_due};
+use crate::failed::{Failed, falls_due};
 use std::alloc::Global;
 use std::marker::Model;
 
@@ -66,7 +66,7 @@ pub struct StopSink {
 }
 
 impl Model for StopSink {
-    ghost use Rattle.am_stream.specs.SinkWrites.{Outgoing};
+    ghost use Rattle.am_sink.specs.SinkWrites.{Outgoing};
 
     ghost Value = { Outgoing };
 

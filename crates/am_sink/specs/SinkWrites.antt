@@ -1,7 +1,7 @@
 -- What is given to a sink.
 use Rattle.std.specs.Prelude.{◌≡◌, ℕ, ◌+◌, List, Bool, Option, Result, take, OnOk, OnErr}
 use Rattle.std.specs.Io.KnownBytes.{Appends}
-use Rattle.am_stream.specs.declared.source.Failed.{Failed}
+use Rattle.am_sink.specs.declared.failed.Failed.{Failed}
 
 -- `holds` says which bytes a sink holds, where they are known. These bytes were added at the end.
 abbrev pub Gave : {S : Type 0} → (S → Option (List ℕ)) → S → List ℕ → S → Type 0

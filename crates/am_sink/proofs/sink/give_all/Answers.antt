@@ -2,8 +2,8 @@ use Rattle.std.proofs.Common.{ℕ, ◌≡◌, ◌+◌, Bool, true, false, ◌||�
 use Rattle.std.proofs.Math.Seq.{take-add}
 use Rattle.std.proofs.lemmas.Bool.Decides.{nat_tests}
 use Rattle.std.proofs.lemmas.List.{take_rest}
-use Rattle.am_stream.proofs.Streams.{gave_then}
-use Rattle.am_stream.proofs.sink.give_all.Goals as goal
+use Rattle.am_sink.proofs.Writes.{gave_then}
+use Rattle.am_sink.proofs.sink.give_all.Goals as goal
 
 either : (a b : ℕ) → (ltb 0 a || ltb 0 b) ≡ ltb 0 (a + b)
 either a b = grind (arith, nat_tests)

@@ -1,4 +1,4 @@
-use Rattle.am_stack.proofs.+reached.Given as goal
+use Rattle.am_command.proofs.stack.+reached.Given as goal
 
 abbrev pub decreases-reached : goal.decreases-reached
 decreases-reached l = l.pages

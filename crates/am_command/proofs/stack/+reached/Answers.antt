@@ -1,6 +1,6 @@
 use Rattle.std.proofs.Common.{◌<◌, arith}
 use Rattle.std.proofs.lemmas.List.{get_or-replicate}
-use Rattle.am_stack.proofs.+reached.Goals as goal
+use Rattle.am_command.proofs.stack.+reached.Goals as goal
 
 pub returns : goal.returns
 returns t c =

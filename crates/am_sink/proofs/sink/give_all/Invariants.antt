@@ -1,6 +1,6 @@
 use Rattle.std.proofs.Common.{length, ◌-◌, ◌≡◌, ◌≤◌, ◌||◌, ltb, take}
-use Rattle.am_stream.specs.SinkWrites.{Gave}
-use Rattle.am_stream.proofs.sink.give_all.Given as goal
+use Rattle.am_sink.specs.SinkWrites.{Gave}
+use Rattle.am_sink.proofs.sink.give_all.Given as goal
 
 abbrev pub invariant-loop-done : goal.invariant-loop-done
 invariant-loop-done g l = record {

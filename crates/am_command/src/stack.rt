@@ -1,5 +1,4 @@
 //! The stack of a program's first thread, made sure of at its start.
-#![tactic(auto)]
 
 ghost use Rattle.std.specs.Prelude.{◌≡◌};
 

@@ -1,0 +1,3 @@
+pub mod SinkWrites
+pub mod Failures
+pub mod OverWriter
