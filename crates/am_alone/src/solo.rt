@@ -1,9 +1,7 @@
 //! A store as its only session sees it.
 
-ghost use Rattle.am_record.specs.Sessions.{IsAllowed, active_after};
 ghost use Rattle.std.specs.Prelude.{◌≡◌, None, IfOk};
 ghost use Rattle.am_sound.specs.StoreState.{empty_state};
-ghost use Rattle.am_dialogue.specs.Actions.{EndsAbort};
 ghost use Rattle.am_alone.specs.Solo.{solo_meaning};
 
 use am_btree::BTree;

@@ -11,9 +11,9 @@ use am_held_locks::HeldLocks;
 use am_model::Plain;
 use am_record::{NoMemory, Op, Range, Reply, Step};
 use am_replies::{
-    Active, EventFault, OwnAnswer, forget, is_active, is_early, is_refusal, is_refused, keep,
-    may_abort, may_begin, may_clean, may_commit, may_merge, operations, own, refusal, replay,
-    runs_made,
+    Active, EventFault, OwnAnswer, forget, is_active, is_early, is_refusal, is_refused,
+    keep_answer, may_abort, may_begin, may_clean, may_commit, may_merge, operation_count,
+    own_answers, refusal, replay, runs_made,
 };
 use std::alloc::Global;
 
@@ -123,7 +123,7 @@ impl Checker {
         let Reply::Committed(commit) = reply else {
             return Ok(());
         };
-        let Some(own) = own(&self.active, tx) else {
+        let Some(own) = own_answers(&self.active, tx) else {
             unreachable!()
         };
         if let Err(event_fault) = replay(&mut self.committed, own) {
@@ -142,7 +142,7 @@ impl Checker {
         ensures takes { OnOk result (TakesEvent here (Do tx op) reply self.new) }
         ensures event_fault { IfErr result (IsEventFault here (Do tx op) reply) }
     {
-        if let Some(why) = refusal(operations(&self.active, tx), self.runs, tx, &op) {
+        if let Some(why) = refusal(operation_count(&self.active, tx), self.runs, tx, &op) {
             if !is_refused(&reply, why) {
                 return Err(EventFault::Form);
             }
@@ -173,7 +173,7 @@ impl Checker {
             return Err(event_fault);
         }
         let made = runs_made(&op, &reply);
-        keep(
+        keep_answer(
             &mut self.active,
             tx,
             OwnAnswer {

@@ -1,6 +1,6 @@
 //! What is answered to the words.
 
-ghost use Rattle.std.specs.Prelude.{◌≡◌, ◌^◌, ◌<◌, ◌≤◌, ◌+◌, false, IfOk, OnOk, OnErr};
+ghost use Rattle.std.specs.Prelude.{◌≡◌, ◌^◌, ◌<◌, ◌+◌, false, IfOk, OnOk, OnErr};
 ghost use Rattle.am_auditor.specs.Answers.{Answers, HasBegunAnswer, whole_run};
 
 use crate::judgement::judge;

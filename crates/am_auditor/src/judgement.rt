@@ -1,6 +1,6 @@
 //! What is said of a text.
 
-ghost use Rattle.std.specs.Prelude.{◌≡◌, ◌^◌, ◌<◌, ◌≤◌, ◌+◌, length, true, false, OnOk, OnErr, IfOk};
+ghost use Rattle.std.specs.Prelude.{◌≡◌, ◌^◌, ◌<◌, ◌+◌, false, OnOk, OnErr, IfOk};
 ghost use Rattle.am_sink.specs.SinkWrites.{Wrote};
 ghost use Rattle.std.specs.Prelude.{◌≢◌, ℕ, List, IfErr};
 ghost use Rattle.am_serial.specs.Trace.{Trace};

@@ -1,7 +1,7 @@
 //! Getting room for a longer value.
 
 ghost use Rattle.std.specs.Prelude.{◌≡◌, ◌≤◌, IsSome, OnOk, OnErr};
-ghost use Rattle.am_index.specs.Entries.{find, IsRising};
+ghost use Rattle.am_index.specs.Entries.{find};
 ghost use Rattle.am_index.specs.Rooms.{HasRoom};
 ghost use Rattle.am_leaf.specs.LeafCode.{ValuesHaveRoom};
 ghost use Rattle.am_btree.specs.Nodes.{leaf_roomy};

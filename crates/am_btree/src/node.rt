@@ -1,7 +1,6 @@
 //! The nodes of a tree.
 
 ghost use Rattle.std.specs.Prelude.{◌≡◌, [], IfOk};
-ghost use Rattle.am_index.specs.Entries.{IsRising};
 
 use crate::separators::Separators;
 use am_leaf::RawLeaf;

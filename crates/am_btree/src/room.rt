@@ -1,6 +1,6 @@
 //! Vectors whose room was got once.
 
-ghost use Rattle.std.specs.Prelude.{◌≡◌, ◌+◌, ◌<◌, ◌≤◌, ◌==◌, [], ◌++◌, length, take, drop, vec_len};
+ghost use Rattle.std.specs.Prelude.{◌≡◌, ◌+◌, ◌<◌, ◌≤◌, ◌==◌, [], take, drop, vec_len};
 ghost use Rattle.std.specs.Prelude.{vec_capacity, IfOk, if◌then◌else◌};
 ghost use Rattle.std.specs.List.{insert, remove};
 ghost use Rattle.am_btree.specs.Splits.{lower_size};

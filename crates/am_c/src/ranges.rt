@@ -2,7 +2,7 @@
 
 ghost use Rattle.std.specs.Prelude.{◌≡◌, ◌+◌, length};
 ghost use Rattle.am_c_steps.specs.AnswerParts.{all, rows_behind, rows_told, count_told, key_told};
-ghost use Rattle.am_c_steps.specs.AskedSteps.{scan_asked, lock_asked, IsLoadAsked};
+ghost use Rattle.am_c_steps.specs.AskedSteps.{scan_asked, lock_asked};
 ghost use Rattle.am_c_steps.specs.Statuses.{status, number};
 ghost use Rattle.am_c_store.specs.StoreSteps.{Tells, TellsLoad};
 

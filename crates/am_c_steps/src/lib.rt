@@ -15,7 +15,7 @@ pub use asked_steps::{
     replace_asked, scan_asked,
 };
 pub use lines::text_asked;
-pub use load_answers::{Fault, fault_of, tell_load_key, without_key};
+pub use load_answers::{LoadFailure, failure_of, tell_load_key, without_key};
 pub use status::{Status, number_told, status_told};
 pub use structs::{Layout, Structs, structs_asked};
 pub use text::{KeyText, Record, ValueText};

@@ -9,8 +9,8 @@ use Rattle.am_record.specs.declared.step.Reply.TheVariants.{Done, Refused}
 use Rattle.am_record.specs.declared.step.Refusal.TheVariants.{NoMemory}
 use Rattle.am_runs.specs.Cuts.{keys_of, IsCut, IsLeastTwice}
 use Rattle.am_sound.specs.StoreState.{StoreState}
-use Rattle.am_c_steps.specs.declared.load_answers.Fault.{Fault}
-use Rattle.am_c_steps.specs.declared.load_answers.Fault.TheVariants.{Twice, Other}
+use Rattle.am_c_steps.specs.declared.load_answers.LoadFailure.{LoadFailure}
+use Rattle.am_c_steps.specs.declared.load_answers.LoadFailure.TheVariants.{Twice, Other}
 use Rattle.am_c_steps.specs.declared.status.Status.{Status}
 use Rattle.am_c_steps.specs.declared.status.Status.TheVariants as is
 use Rattle.am_c_steps.specs.Lines.{IsRead}
@@ -32,11 +32,11 @@ AreRunsGiven (Ok pairs) runs = AreRuns pairs runs
 AreRunsGiven (Err why) runs = ⊥
 
 -- why none is loaded: what is wrong with what was given, or the least key that stands twice, or memory was refused
-abbrev pub IsFault : Result Records Status → Fault → Type 0
-IsFault (Ok pairs) (Twice key) = IsLeastTwice (keys_of pairs) key
-IsFault (Ok pairs) (Other why) = why ≡ is.NoMemory
-IsFault (Err wrong) (Twice key) = ⊥
-IsFault (Err wrong) (Other why) = (why ≡ wrong) ⊎ (why ≡ is.NoMemory)
+abbrev pub IsFailure : Result Records Status → LoadFailure → Type 0
+IsFailure (Ok pairs) (Twice key) = IsLeastTwice (keys_of pairs) key
+IsFailure (Ok pairs) (Other why) = why ≡ is.NoMemory
+IsFailure (Err wrong) (Twice key) = ⊥
+IsFailure (Err wrong) (Other why) = (why ≡ wrong) ⊎ (why ≡ is.NoMemory)
 
 -- behind the reply to the first run: where it is Done the others are loaded too, and else nothing is done any more
 abbrev pub GoesOn : Records → (StoreState → ℕ → Reply → StoreState → Type 0) → Reply → StoreState → ℕ → Reply →
@@ -71,23 +71,24 @@ pub record LoadsRuns (old : StoreState) (tx : ℕ) (given : Result Records Statu
   pub stands : held ≡ Some new
   pub turns : LoadInTurn tx runs old loaded reply new
 
--- without a store, or with a fault, nothing is done
-abbrev pub Loads : Option StoreState → ℕ → Result Records Status → ℕ → Result Reply Fault → Option StoreState → Type 0
+-- without a store, or with a failure, nothing is done
+abbrev pub Loads : Option StoreState → ℕ → Result Records Status → ℕ → Result Reply LoadFailure → Option StoreState →
+    Type 0
 Loads None tx given loaded answer held = (loaded ≡ 0) × (answer ≡ Err (Other is.NoStore)) × (held ≡ None)
-Loads (Some p) tx given loaded (Err fault) held = (loaded ≡ 0) × IsFault given fault × (held ≡ Some p)
+Loads (Some p) tx given loaded (Err failure) held = (loaded ≡ 0) × IsFailure given failure × (held ≡ Some p)
 Loads (Some p) tx given loaded (Ok reply) held = LoadsRuns p tx given loaded reply held
 
 -- what was given was loaded, and what C has of it is so
 pub record TellsRuns (old : Option StoreState) (tx : ℕ) (given : Result Records Status) (new : Option StoreState)
-    (So : ℕ → Result Reply Fault → Type 0) : Type 0 where
+    (So : ℕ → Result Reply LoadFailure → Type 0) : Type 0 where
   pub loaded : ℕ
-  pub answer : Result Reply Fault
+  pub answer : Result Reply LoadFailure
   pub loads : Loads old tx given loaded answer new
   pub so : So loaded answer
 
 -- what was read of the text was loaded, and what C has of it is so
 pub record TellsText (old : Option StoreState) (tx : ℕ) (text : List ℕ) (line : ℕ) (new : Option StoreState)
-    (So : ℕ → Result Reply Fault → Type 0) : Type 0 where
+    (So : ℕ → Result Reply LoadFailure → Type 0) : Type 0 where
   pub read : Result Records Status
   pub is_read : IsRead text read line
   pub tells : TellsRuns old tx read new So

@@ -10,7 +10,7 @@ use crate::handle::Handle;
 use crate::store_steps::take_there;
 use am_btree::BTree;
 use am_c_steps::{
-    Fault, KeyText, Status, fault_of, number_told, status_told, tell_load_key, without_key,
+    KeyText, LoadFailure, Status, failure_of, number_told, status_told, tell_load_key, without_key,
 };
 use am_core::Store;
 use am_record::{MAX_RUN_RECORDS, Op, Records, Refusal, Reply, Step};
@@ -45,7 +45,7 @@ struct Loaded {
     // How many records were loaded.
     records: u64,
     // The store's reply to the last run that it was asked to load, or why there was none.
-    answer: Result<Reply, Fault>,
+    answer: Result<Reply, LoadFailure>,
 }
 
 // Loads what was given, run after run, until one is refused.
@@ -59,23 +59,23 @@ fn load_given<S: RecordSource + Drop>(
     ensures { Loads handle.old.held tx (given_by S.records given) result.records result.answer handle.new.held }
 {
     let Some(mut store) = handle.take(alloc) else {
-        return not_loaded(Fault::Other(Status::NoStore));
+        return not_loaded(LoadFailure::Other(Status::NoStore));
     };
     let loaded = match given {
         Ok(source) => load_source(alloc, &mut store, tx, &source),
-        Err(why) => not_loaded(Fault::Other(why)),
+        Err(why) => not_loaded(LoadFailure::Other(why)),
     };
     handle.put(store);
     loaded
 }
 
-fn not_loaded(fault: Fault) -> Loaded
+fn not_loaded(failure: LoadFailure) -> Loaded
     ensures records { result.records ≡ 0 }
-    ensures answer { result.answer ≡ Err fault }
+    ensures answer { result.answer ≡ Err failure }
 {
     Loaded {
         records: 0,
-        answer: Err(fault),
+        answer: Err(failure),
     }
 }
 
@@ -98,7 +98,7 @@ fn load_source<S: RecordSource>(
             let answer = Ok(reply);
             Loaded { records, answer }
         }
-        Err(why) => not_loaded(fault_of(why)),
+        Err(why) => not_loaded(failure_of(why)),
     }
 }
 

@@ -1,6 +1,6 @@
 //! The two counters, and their seats.
 
-ghost use Rattle.std.specs.Prelude.{◌≡◌, ℕ, ◌+◌, ◌*◌, ◌<◌, ◌≤◌, ◌∷◌, ◌++◌, [], All, IfErr, IfOk, MatchOption, OnOk};
+ghost use Rattle.std.specs.Prelude.{◌≡◌, ◌+◌, ◌<◌, ◌≤◌, ◌∷◌, ◌++◌, [], All, IfErr, IfOk, MatchOption, OnOk};
 ghost use Rattle.std.specs.Prelude.{length, max, vec_len, ◌⊎◌, ◌↔◌};
 ghost use Rattle.am_counters.specs.Counters.{CounterHistory, new_history, most_draws, HeldAtEnd};
 ghost use Rattle.am_counters.specs.Faults.{IsBadCount};

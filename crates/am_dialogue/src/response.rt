@@ -1,6 +1,6 @@
 //! What a session writes for a line.
 
-ghost use Rattle.std.specs.Prelude.{◌≡◌, ◌+◌, ◌^◌, ◌<◌, true, OnOk};
+ghost use Rattle.std.specs.Prelude.{◌≡◌, ◌^◌, ◌<◌, true, OnOk};
 ghost use Rattle.am_sink.specs.SinkWrites.{Wrote};
 ghost use Rattle.am_dialogue.specs.Responses.{response_text, fault_text, seen_text};
 

@@ -1,7 +1,7 @@
 //! Where a session stands between two lines, and what is due for the next one.
 
 ghost use Rattle.am_record.specs.Sessions.{active_after};
-ghost use Rattle.std.specs.Prelude.{◌≡◌, ◌≤◌, ℕ, Some, [], length};
+ghost use Rattle.std.specs.Prelude.{◌≡◌, ◌≤◌, Some, [], length};
 ghost use Rattle.am_dialogue.specs.Session.{at_start, session_after};
 ghost use Rattle.am_dialogue.specs.Actions.{IsActionFor, IsActionForRequest, MayStage, MayLoad, IsAllowedAction};
 

@@ -1,6 +1,5 @@
 //! How many sessions there were, and how many connections the system refused.
 
-ghost use Rattle.std.specs.Prelude.{◌≡◌};
 ghost use Rattle.am_doors.specs.Tallies.{IsToldOf};
 
 use std::sync::atomic::{AtomicI32, AtomicU64, Ordering};

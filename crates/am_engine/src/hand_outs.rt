@@ -1,5 +1,5 @@
 //! What was handed out of an engine: known to contracts, and kept nowhere.
-ghost use Rattle.std.specs.Prelude.{◌≡◌, ◌++◌, ◌<◌, [], IfOk};
+ghost use Rattle.std.specs.Prelude.{◌≡◌, ◌++◌, ◌<◌, IfOk};
 ghost use Rattle.am_ties.specs.CallLogs.{CallLog, empty_log};
 ghost use Rattle.am_engine.specs.HandOuts.{view_with};
 

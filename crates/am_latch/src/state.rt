@@ -1,5 +1,5 @@
 //! What lies under the latch: the engine, with the token that knows its trace.
-ghost use Rattle.std.specs.Prelude.{◌≡◌, ◌≢◌, ◌<◌, [], ◌∷◌, ◌++◌, true, length, IfOk, OnErr, MatchBool};
+ghost use Rattle.std.specs.Prelude.{◌≡◌, ◌≢◌, ◌<◌, [], ◌++◌, length, IfOk, OnErr, MatchBool};
 ghost use Rattle.am_record.specs.Sessions.{IsAllowed};
 ghost use Rattle.am_record.specs.declared.step.Reply.TheVariants.{Refused};
 ghost use Rattle.am_record.specs.declared.step.Refusal.TheVariants.{SeatFull};
@@ -7,10 +7,10 @@ ghost use Rattle.am_sound.specs.Right.{IsSoundStore};
 ghost use Rattle.am_traced_steps.specs.Changes.{is_stored, IsBoundedReply};
 ghost use Rattle.am_engine.specs.Copies.{IsCopyOf};
 ghost use Rattle.am_ties.specs.CallLogs.{CallLog, empty_log};
-ghost use Rattle.am_engine.specs.Traces.{EngineState, log_of, StoresCall, stored_at, AreMadeBelow, IsNextOf};
+ghost use Rattle.am_engine.specs.Traces.{EngineState, log_of, StoresCall, stored_at, IsNextOf};
 ghost use Rattle.am_ties.specs.Receipts.{receipts_of};
 ghost use Rattle.am_engine.specs.Sizes.{AreFiguresAt};
-ghost use Rattle.am_latch.specs.Ties.{open_of, EndsTx, IsTied, IsEngineOf};
+ghost use Rattle.am_latch.specs.Ties.{open_of, EndsTx, IsEngineOf};
 ghost use Rattle.am_ties.specs.declared.taker_tie.TakenView.TheVariants.{Handed};
 ghost use Rattle.am_ties.specs.declared.views.View.TheVariants.{Log, Receipts};
 ghost use Rattle.am_ties.specs.Views.{seat_in, seat_with, IsSeatView};

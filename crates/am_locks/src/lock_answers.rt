@@ -1,7 +1,5 @@
 //! Answers to asking for a lock.
 
-ghost use Rattle.std.specs.Prelude.{◌≡◌};
-
 /// What comes of asking for a lock. Only `Granted` changes the table.
 #[derive(Clone, Copy, Debug, PartialEq, Eq)]
 pub enum Asked {

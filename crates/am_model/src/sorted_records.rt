@@ -13,7 +13,6 @@ use crate::note::{Note, Slot};
 use am_record::{Key, NoMemory, Range, Value};
 use std::alloc::Global;
 use std::collections::BTreeMap;
-use std::collections::btree_map::Entry;
 use std::marker::Model;
 
 /// A finite map from keys to slots: records, and the places of deleted ones.

@@ -1,6 +1,5 @@
 //! Mark and Back.
 
-ghost use Rattle.std.specs.Prelude.{◌≡◌, IfOk, OnErr};
 ghost use Rattle.am_index.specs.Entries.{find};
 ghost use Rattle.am_index.specs.Rooms.{KeepRoom};
 ghost use Rattle.am_record.specs.Marks.{since_mark};

@@ -1,6 +1,6 @@
 //! Insert, Replace and Delete. Each gets the room for its note first, and then that for its value.
 
-ghost use Rattle.std.specs.Prelude.{◌≡◌, ◌≤◌, ◌∷◌, IfOk, OnErr};
+ghost use Rattle.std.specs.Prelude.{◌≡◌, IfOk, OnErr};
 ghost use Rattle.am_index.specs.Rooms.{HaveRoom, KeepRoom};
 ghost use Rattle.am_operations.specs.OperationSteps.{IsDone, LeavesAlone, MayWantRoom};
 ghost use Rattle.am_record.specs.declared.step.Op.TheVariants.{Insert, Replace, Delete};

@@ -1,6 +1,6 @@
 //! The runs that have entries left, and how many entries there are.
 
-ghost use Rattle.std.specs.Prelude.{◌≡◌, ◌+◌, ◌<◌, ◌≤◌, ◌++◌, ◌^◌, ℕ, Bool, List, [], length, take, drop, true, false};
+ghost use Rattle.std.specs.Prelude.{◌≡◌, ◌+◌, ◌<◌, ◌≤◌, ◌++◌, ◌^◌, ℕ, List, [], length, take, drop, false};
 ghost use Rattle.std.specs.Prelude.{not, is_some, IsSome, IsTrue, IfSome, IfNone, IfOk, IfErr, OnOk, OnErr, vec_len};
 ghost use Rattle.std.specs.Prelude.{◌↔◌};
 ghost use Rattle.std.specs.Prelude.{vec_capacity};
@@ -12,7 +12,7 @@ ghost use Rattle.am_index.specs.Entries.{find, insert_entry, all_inserted, set_e
 ghost use Rattle.am_index.specs.Content.{live_value};
 ghost use Rattle.am_index.specs.Runs.{run_entries};
 ghost use Rattle.am_parts.specs.GoingHome.{IsHome};
-ghost use Rattle.am_parts.specs.Catalogs.{parts_of, PartsRise, IsRunAt, IsGapAt, HasCounted, HasMore, IsNext, AreAll};
+ghost use Rattle.am_parts.specs.Catalogs.{parts_of, PartsRise, IsRunAt, IsGapAt, HasCounted, HasMore, IsNext};
 
 use crate::figures::Figures;
 use am_record::NoMemory;

@@ -6,7 +6,7 @@ ghost use Rattle.std.specs.List.{AllByRecursion};
 ghost use Rattle.std.specs.FinMap.{get};
 ghost use Rattle.am_record.specs.Plain.{insert_all, is_rising};
 ghost use Rattle.am_index.specs.Entries.{find, next_any, next_ghost, next_from, after, all_from, all_after};
-ghost use Rattle.am_index.specs.Entries.{entry_at, insert_entry, set_entry, remove_entry, IsRising};
+ghost use Rattle.am_index.specs.Entries.{entry_at, insert_entry, set_entry, remove_entry};
 ghost use Rattle.am_index.specs.Rooms.{HasRoom, HaveRoom, KeepRoom};
 ghost use Rattle.am_index.specs.Runs.{run_entries};
 ghost use Rattle.am_index.specs.Content.{content, rows_in, live_value, HasContent};

@@ -49,14 +49,14 @@ impl Active {
 pub fn is_active(all: &[Active], tx: u64) -> bool
     ensures { result ≡ is_listed (map listed all.now) tx }
 {
-    match own(all, tx) {
+    match own_answers(all, tx) {
         Some(_) => true,
         None => false,
     }
 }
 
 /// The transaction's answered operations, where it is active.
-pub fn own(all: &[Active], tx: u64) -> Option<&[OwnAnswer]>
+pub fn own_answers(all: &[Active], tx: u64) -> Option<&[OwnAnswer]>
     ensures found { IfSome result (λ own. (is_listed (map listed all.now) tx ≡ true) ×
         (map placed_answer own.now ≡ own_in (map listed all.now) tx)) }
     ensures none { IfNone result (is_listed (map listed all.now) tx ≡ false) }
@@ -70,19 +70,19 @@ pub fn own(all: &[Active], tx: u64) -> Option<&[OwnAnswer]>
 }
 
 /// How many operations of the transaction were answered, where it is active.
-pub fn operations(all: &[Active], tx: u64) -> Option<usize>
+pub fn operation_count(all: &[Active], tx: u64) -> Option<usize>
     ensures found { IfSome result (λ n. (is_listed (map listed all.now) tx ≡ true) ×
         (n ≡ length (own_in (map listed all.now) tx))) }
     ensures none { IfNone result (is_listed (map listed all.now) tx ≡ false) }
 {
-    match own(all, tx) {
+    match own_answers(all, tx) {
         Some(own) => Some(own.len()),
         None => None,
     }
 }
 
 /// Keeps one more answered operation of the transaction, where it is active.
-pub fn keep(all: &mut [Active], tx: u64, kept: OwnAnswer) -> Result<(), NoMemory>
+pub fn keep_answer(all: &mut [Active], tx: u64, kept: OwnAnswer) -> Result<(), NoMemory>
     ensures { OnOk result (map listed all.new ≡ with_own tx (placed_answer kept) (map listed all.old)) }
 {
     for active in all.iter_mut() {

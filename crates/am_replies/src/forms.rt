@@ -1,6 +1,6 @@
 //! The form of replies, by what the lines before make.
 
-ghost use Rattle.std.specs.Prelude.{◌≡◌, ◌↔◌, true, length, IsTrue};
+ghost use Rattle.std.specs.Prelude.{◌≡◌, ◌↔◌, length, IsTrue};
 ghost use Rattle.am_record.specs.declared.step.Step.TheVariants.{Begin, Commit, Abort, Merge, Clean};
 ghost use Rattle.am_serial.specs.Machine.{State, May, is_open};
 

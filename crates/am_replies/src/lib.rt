@@ -9,7 +9,7 @@ mod event_fault;
 mod forms;
 mod replies;
 
-pub use active::{Active, OwnAnswer, forget, is_active, keep, operations, own};
+pub use active::{Active, OwnAnswer, forget, is_active, keep_answer, operation_count, own_answers};
 pub use answers::{is_answer, runs_made};
 pub use body_replay::replay;
 pub use early::{is_early, refusal};

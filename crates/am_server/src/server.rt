@@ -1,6 +1,6 @@
 //! All sessions of a server, the workers and the keeper beside them.
 
-ghost use Rattle.std.specs.Prelude.{◌≡◌, ◌≤◌, ◌-◌, ◌++◌, [], IfOk, All, length, vec_len, vec_capacity};
+ghost use Rattle.std.specs.Prelude.{◌≡◌, ◌≤◌, ◌-◌, [], IfOk, All, length};
 ghost use Rattle.std.specs.List.{AllZip};
 ghost use Rattle.am_latch.specs.Receipts.{AreAll};
 ghost use Rattle.am_session_seat.specs.Seats.{HasNewSeat};

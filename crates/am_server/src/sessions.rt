@@ -11,7 +11,7 @@ use am_latch::LatchName;
 use am_session::{End, PartingSink, serve};
 use am_session_seat::SessionSeat;
 use am_sink::{Sink, Writing};
-use am_stream::{AnsweredSource, Reading, Source};
+use am_stream::{AnsweredSource, Source};
 use std::alloc::Global;
 use std::io::{BufWriter, Write};
 use std::net::TcpStream;

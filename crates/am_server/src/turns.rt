@@ -1,6 +1,6 @@
 //! Sessions one after another at one seat.
 
-ghost use Rattle.std.specs.Prelude.{◌≡◌, ◌^◌, ◌<◌, None};
+ghost use Rattle.std.specs.Prelude.{◌≡◌, ◌<◌, None};
 ghost use Rattle.am_session_seat.specs.SessionSeats.{open_at, IsNumbered};
 ghost use Rattle.am_session_seat.specs.Seats.{HasNewSeat};
 ghost use Rattle.am_server.specs.ServerTraces.{WasServed, HasServedInTurn};

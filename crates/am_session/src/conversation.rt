@@ -1,6 +1,6 @@
 //! A session over any backend, line by line.
 
-ghost use Rattle.std.specs.Prelude.{◌≡◌, ◌+◌, ◌^◌, ◌<◌, [], false, Option, Some, None, OnOk, OnErr, IfOk};
+ghost use Rattle.std.specs.Prelude.{◌≡◌, ◌+◌, ◌^◌, ◌<◌, [], false, Option, Some, OnOk, OnErr, IfOk};
 ghost use Rattle.std.specs.Prelude.{IfSome, IfNone, true};
 ghost use Rattle.am_sink.specs.SinkWrites.{Wrote};
 ghost use Rattle.am_stream.specs.Lines.{has_lf, TookLine, TookPart};

@@ -3,9 +3,8 @@
 ghost use Rattle.std.specs.Prelude.{◌≡◌, ◌<◌, [], ◌∷◌, ◌++◌, codes, decimal, length, IfSome};
 ghost use Rattle.am_trace_text.specs.Words.{hex, hex_digits, key_word};
 ghost use Rattle.am_trace_text.specs.Bounds.{IsByteList, IsNumber, IsKey, IsValue, IsRecord};
-ghost use Rattle.am_trace_text.specs.Steps.{IsStep};
 ghost use Rattle.am_trace_text.specs.Replies.{IsReply};
-ghost use Rattle.am_trace_text.specs.Lines.{IsEvent, step_words, reply_words, event_words, with_lf};
+ghost use Rattle.am_trace_text.specs.Lines.{IsEvent, reply_words, event_words, with_lf};
 
 use crate::lanes::sixteen_bytes;
 use am_record::{Key, Op, Reply, Step, Value};

@@ -1,7 +1,6 @@
 //! Fields of a line, built in place.
 
-ghost use Rattle.std.specs.Prelude.{◌≡◌, ◌+◌, ◌*◌, ◌≤◌, ◌<◌, [], ◌∷◌, ◌++◌, length, decimal};
-ghost use Rattle.am_record.specs.OrderedKey.{bytes_of};
+ghost use Rattle.std.specs.Prelude.{◌≡◌, ◌+◌, ◌*◌, ◌≤◌, ◌<◌, ◌++◌, length, decimal};
 ghost use Rattle.am_trace_text.specs.Words.{hex_digit, hex, key_word, record_word};
 ghost use Rattle.am_trace_text.specs.Bounds.{IsByteList, IsNumber, IsKey, IsValue, IsRecord};
 

@@ -7,7 +7,7 @@ ghost use Rattle.am_trace_text.specs.declared.version.Version.TheVariants.{Two};
 ghost use Rattle.am_trace_writer.specs.Writers.{TookLines};
 
 use crate::pieces::PieceTaker;
-use am_record::{NoMemory, Reply, Step};
+use am_record::{Reply, Step};
 use am_sink::{Sink, give_all};
 use am_trace_print::event_lines;
 use std::alloc::Global;

@@ -1,6 +1,6 @@
 //! The laws of undo notes, for the proofs of whoever keeps them. Their functions do nothing.
 
-ghost use Rattle.std.specs.Prelude.{◌≡◌, ℕ, List, [], Bool, Option, false, length};
+ghost use Rattle.std.specs.Prelude.{ℕ, List, [], Bool, Option, false, length};
 ghost use Rattle.am_record.specs.OrderedKey.{OrderedKey};
 ghost use Rattle.am_record.specs.declared.entry.Entry.{Entry};
 ghost use Rattle.am_index.specs.Entries.{IsRising};

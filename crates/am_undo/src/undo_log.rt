@@ -1,6 +1,6 @@
 //! The notes of one transaction.
 
-ghost use Rattle.std.specs.Prelude.{◌≡◌, ◌+◌, ◌<◌, ℕ, [], ◌∷◌, Bool, true, List, Option, length, reverse, drop, take};
+ghost use Rattle.std.specs.Prelude.{◌≡◌, ◌+◌, ◌<◌, ℕ, [], ◌∷◌, true, length, reverse, drop, take};
 ghost use Rattle.std.specs.Prelude.{IsOk, OnOk, OnErr, IsSome, if◌then◌else◌, ◌==◌};
 ghost use Rattle.am_record.specs.OrderedKey.{OrderedKey};
 ghost use Rattle.am_index.specs.Entries.{find, IsRising};

@@ -1,6 +1,6 @@
 //! The texts of replies.
 
-ghost use Rattle.std.specs.Prelude.{◌≡◌, ◌+◌, ◌^◌, ◌<◌, ◌≤◌, length, true, OnOk, OnErr, IfOk};
+ghost use Rattle.std.specs.Prelude.{◌≡◌, ◌^◌, ◌<◌, ◌≤◌, length, true, OnOk, IfOk};
 ghost use Rattle.am_record.specs.declared.step.Reply.{Reply};
 ghost use Rattle.am_sink.specs.SinkWrites.{Wrote};
 ghost use Rattle.am_wire.specs.Replies.{refusal_words, row_words, rows_words, head_of, text_of, TellsVisible};

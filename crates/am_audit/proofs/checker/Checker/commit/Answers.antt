@@ -20,7 +20,7 @@ returns-in_default g c = record {
 pub unreachable-requires : goal.unreachable-requires
 unreachable-requires g c =
     listed_here c.args.self.now g.here c.requires c.args.tx c.args.reply.now c.in-Committed.commit c.in-Committed.is
-    (c.if-not-may_commit.ensures.0 refl) _ c.deref-2.ensures.value c.in_default-own.ensures.none
+    (c.if-not-may_commit.ensures.0 refl) _ c.deref-2.ensures.value c.in_default-own_answers.ensures.none
 
 pub returns-in-Err-clause-event_fault : goal.returns-in-Err-clause-event_fault
 returns-in-Err-clause-event_fault g c =

@@ -9,10 +9,10 @@ pub refusal-requires : goal.refusal-requires
 refusal-requires g c = (
   c.requires.0.runs,
   (
-    counted c.args.self.now g.here c.requires.0 _ c.deref.ensures.value c.args.tx c.operations.result
-        c.operations.ensures.found,
-    not_counted c.args.self.now g.here c.requires.0 _ c.deref.ensures.value c.args.tx c.operations.result
-        c.operations.ensures.none,
+    counted c.args.self.now g.here c.requires.0 _ c.deref.ensures.value c.args.tx c.operation_count.result
+        c.operation_count.ensures.found,
+    not_counted c.args.self.now g.here c.requires.0 _ c.deref.ensures.value c.args.tx c.operation_count.result
+        c.operation_count.ensures.none,
   ),
 )
 

@@ -18,7 +18,7 @@ returns-clause-takes g c =
     takes_answer c.args.self.now g.here c.requires.0 c.args.tx c.args.op c.requires.1.1.0 _ c.args.reply c.args.position
     _ c.requires.1.0 refl answered c.in_default.ensures.right
     refl refl (ap (λ n. c.args.self.now.runs + n) c.runs_made-made.ensures)
-    (ap (map listed) (items_kept c.args.self.now.active c.keep.new.all c.deref_mut.result.now c.deref_mut.ensures.value
-    c.keep.auto.all) ∙ c.in_ok-keep.ensures ∙ ap (λ all. with_own c.args.tx
+    (ap (map listed) (items_kept c.args.self.now.active c.keep_answer.new.all c.deref_mut.result.now
+    c.deref_mut.ensures.value c.keep_answer.auto.all) ∙ c.in_ok-keep_answer.ensures ∙ ap (λ all. with_own c.args.tx
     (c.args.position, (c.args.op, c.args.reply)) (map listed all)) c.deref_mut.ensures.value)
     (c.ask-asked.ensures.granted (c.in_default.ensures.granted answered)) refl

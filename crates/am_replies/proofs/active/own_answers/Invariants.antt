@@ -1,7 +1,7 @@
 use Rattle.std.proofs.Common.{◌≡◌, map}
 use Rattle.std.specs.Prelude.{drop}
 use Rattle.am_replies.specs.OwnAnswers.{listed, is_listed, own_in}
-use Rattle.am_replies.proofs.active.own.Given as goal
+use Rattle.am_replies.proofs.active.own_answers.Given as goal
 
 abbrev pub invariant-loop-active : goal.invariant-loop-active
 invariant-loop-active l = record {

@@ -4,7 +4,7 @@ use Rattle.am_replies.specs.declared.active.Active.{Active}
 use Rattle.am_replies.specs.declared.active.OwnAnswer.{OwnAnswer}
 use Rattle.am_replies.specs.OwnAnswers.{placed_answer}
 use Rattle.am_replies.proofs.Actives.{kept_here}
-use Rattle.am_replies.proofs.active.keep.Goals as goal
+use Rattle.am_replies.proofs.active.keep_answer.Goals as goal
 
 pub returns-then-active-tx : goal.returns-then-active-tx
 returns-then-active-tx c =
