@@ -11,7 +11,7 @@ import socket
 import subprocess
 import sys
 import time
-from typing import Any, Callable, Dict, List, Optional, Sequence
+from typing import Any, Callable, Dict, List, Optional, Sequence, Set
 
 from support import AMAUDIT, AMSERVE, LIMIT, TOP
 
@@ -40,6 +40,18 @@ def until(holds: Callable[[], Any], limit: float = LIMIT) -> bool:
             return False
         time.sleep(0.05)
     return True
+
+
+def states_of(pid: int) -> Set[str]:
+    """The states of a process's threads, by the system's letters."""
+    states = set()
+    for thread in os.listdir(f"/proc/{pid}/task"):
+        try:
+            with open(f"/proc/{pid}/task/{thread}/stat", encoding="utf-8", errors="replace") as file:
+                states.add(file.read().rpartition(")")[2].split()[0])
+        except OSError:
+            pass  # it has ended meanwhile
+    return states
 
 
 def listens(port: int) -> bool:
@@ -91,7 +103,11 @@ class Cluster:
         self.member(at).wait()
 
     def stop_member(self, at: int) -> None:
-        self.member(at).send_signal(signal.SIGSTOP)
+        """None of its threads runs once this has returned: on a busy machine they run on for a while."""
+        process = self.member(at)
+        process.send_signal(signal.SIGSTOP)
+        if not until(lambda: states_of(process.pid) == {"T"}):
+            raise TimeoutError(f"member {at} runs on")
 
     def continue_member(self, at: int) -> None:
         self.member(at).send_signal(signal.SIGCONT)
