@@ -1,9 +1,10 @@
 /* The calls of tiuvrokk.h over the exports of crates/am_c, which take no null pointer: here each pointer is tested, and each
- * limit, so that all faults of a call's arguments are told before the store is asked; and a store gets its hash key. Nothing
- * else is done. */
+ * limit, so that all faults of a call's arguments are told before the store is asked; a store gets its hash key; and a commit
+ * cleans some of what was deleted. Nothing else is done. */
 #define _DEFAULT_SOURCE /* getentropy */
 #include "tiuvrokk.h"
 
+#include <stdatomic.h>
 #include <time.h>
 #include <unistd.h>
 #ifdef __APPLE__
@@ -108,6 +109,8 @@ const char *tvk_name(tvk_status status) { return statuses[place_of(status)].name
 
 const char *tvk_text(tvk_status status) { return statuses[place_of(status)].text; }
 
+const char *tvk_version(void) { return TVK_VERSION; }
+
 /* The words of a hash key: the system's random bytes. Where it gives none, the clock and an address, which differ from run to
  * run, and which a stranger may guess: then keys can be chosen that take longer to look for. No memory is taken. */
 static void draw_words(uint64_t words[2]) {
@@ -134,9 +137,38 @@ tvk_status tvk_begin(tvk_store *store, uint64_t *told) {
     return tiuvrokk_begin(store, told);
 }
 
+static atomic_int cleans = 1;
+
+void tvk_upkeep(int on) { atomic_store(&cleans, on); }
+
+/* One clean step finds 64 ghosts at most, and walks to them from the beginning of the index: so it is made where one entry of
+ * 64 is a ghost. A transaction deletes no more records than so many steps clean, so they don't become more and more. */
+#define FEWEST_GHOSTS 64
+#define ENTRIES_TO_A_GHOST 64
+#define MOST_STEPS (TVK_MAX_OPS / TVK_MAX_LIMIT + 1)
+
+/* Whether so many entries are ghosts that a clean step pays. Those that an active transaction has locked stay: beside one,
+ * only some commits look. */
+static int pays_to_clean(tvk_store *store) {
+    tvk_counts counts;
+    if (tiuvrokk_figures(store, &counts)) return 0;
+    if (counts.ghosts < FEWEST_GHOSTS || counts.ghosts < counts.entries / ENTRIES_TO_A_GHOST) return 0;
+    return !counts.active || counts.commits % FEWEST_GHOSTS == 0;
+}
+
+static void clean_some(tvk_store *store) {
+    uint64_t cleaned = TVK_MAX_LIMIT;
+    int steps;
+    for (steps = 0; steps < MOST_STEPS && cleaned == TVK_MAX_LIMIT && pays_to_clean(store); steps++)
+        if (tiuvrokk_clean(store, no_bytes, 0, TVK_GREATEST_KEY, TVK_MAX_KEY, TVK_MAX_LIMIT, &cleaned)) return;
+}
+
 tvk_status tvk_commit(tvk_store *store, uint64_t tx, uint64_t *told) {
+    tvk_status status;
     BEGIN;
-    return tiuvrokk_commit(store, tx, told);
+    status = tiuvrokk_commit(store, tx, told);
+    if (status == TVK_OK && atomic_load_explicit(&cleans, memory_order_relaxed)) clean_some(store);
+    return status;
 }
 
 tvk_status tvk_abort(tvk_store *store, uint64_t tx) {

@@ -41,8 +41,9 @@
  * until the transaction ends. A lock is granted or refused at once: no call waits. TVK_BUSY names the transaction that is
  * in the way; the caller may do something else, abort, or try again once that one has ended.
  *
- * UPKEEP. Loaded records are merged where tvk_merge is called, and deleted ones stay, marked, until tvk_clean takes them away;
- * reads pass over both, so a program calls the two now and then, as after each commit. Neither changes what anybody reads.
+ * UPKEEP. Loaded records are merged where tvk_merge is called; reads pass over what isn't, so a program calls it now and then, as
+ * after each commit. Deleted records stay, marked, and reads pass over them, too: a commit takes some of them away where one
+ * entry of 64 is one, unless tvk_upkeep says otherwise, and tvk_clean does. None of this changes what anybody reads.
  *
  * BAD USE that the library can see is answered by a status and changes nothing: a null pointer, a handle without a store,
  * a length, limit or mode out of bounds. What it can't see is the caller's to uphold: a handle is TVK_CLOSED before it is
@@ -68,6 +69,13 @@
 #include <stdint.h>
 
 #define TVK_VERSION "1.1.0"
+/* Ten thousand times the major version, a hundred times the minor one, and the patch: what a program was compiled against. */
+#define TVK_VERSION_NUMBER 10100
+
+/* The greatest key, of TVK_MAX_KEY bytes: TVK_GREATEST_KEY, TVK_MAX_KEY ends a range that has no end. */
+#define TVK_GREATEST_KEY \
+    "\xff\xff\xff\xff\xff\xff\xff\xff\xff\xff\xff\xff\xff\xff\xff\xff" \
+    "\xff\xff\xff\xff\xff\xff\xff\xff\xff\xff\xff\xff\xff\xff\xff\xff"
 
 #ifdef __cplusplus
 extern "C" {
@@ -167,6 +175,16 @@ const char *tvk_name(tvk_status status);
 
 /** What a status says, as "another transaction holds a lock that is in the way". It is a constant. */
 const char *tvk_text(tvk_status status);
+
+/** The version of the library that is linked, as TVK_VERSION has that of the header. It is a constant. */
+const char *tvk_version(void);
+
+/** Whether commits take away what was deleted, of all stores of the program, as they do at first. A commit takes away 4,160 entries
+ * at most, and none where fewer than one of 64, or than 64, are marked as deleted.
+ *
+ * @param on  0 leaves it to tvk_clean
+ */
+void tvk_upkeep(int on);
 
 /** Opens an empty store.
  *

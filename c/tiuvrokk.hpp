@@ -27,6 +27,10 @@
 #ifndef TIUVROKK_HPP
 #define TIUVROKK_HPP
 
+#if !defined(_MSVC_LANG) && __cplusplus < 201703L
+#error "tiuvrokk.hpp needs C++17 (-std=c++17); tiuvrokk.h serves any older C++"
+#endif
+
 #include <tiuvrokk.h>
 
 #include <algorithm>

@@ -6,16 +6,16 @@ _tiuvrokk_words() {
     amserve)
         case ${COMP_WORDS[1]-} in
         alone) echo '--auto --help' ;;
-        listen) echo '--port --sessions --workers --trace --stop --stay --grace --idle --socket --log --help' ;;
+        listen) echo '--port --sessions --workers --hold --trace --stop --stay --grace --idle --socket --log --help' ;;
         *) echo 'alone listen help --help --version' ;;
         esac
         ;;
     amaudit) echo '--records --open --help --version' ;;
-    amload) echo '--run --skip-empty --port --wait --help --version' ;;
-    amdump) echo '--port --wait --help --version' ;;
-    amcli) echo '--port --wait --store --raw --strict --history --help --version' ;;
+    amload) echo '--run --skip-empty --skip --escape --key-bytes --value-bytes --port --wait --hold --tries --help --version' ;;
+    amdump) echo '--escape --port --wait --hold --tries --help --version' ;;
+    amcli) echo '--port --wait --store --escape --raw --strict --history --help --version' ;;
     amdraw) echo '--text --help --version' ;;
-    amreplica) echo '--port --log --store --reads --limit --snapshot --trace --cacert --cert --key --user --help --version' ;;
+    amreplica) echo '--port --log --store --reads --limit --snapshot --trace --stats --cacert --cert --key --user --help --version' ;;
     esac
 }
 
@@ -23,13 +23,13 @@ _tiuvrokk() {
     local program=${1##*/} word=$2 before=$3
     COMPREPLY=()
     case $before in
-    --port | --sessions | --workers | --grace | --idle | --auto | --run | --wait | --log | --limit | --snapshot | --user) return ;;
+    --port | --sessions | --workers | --hold | --tries | --grace | --idle | --auto | --run | --key-bytes | --value-bytes | --wait | --log | --limit | --snapshot | --user) return ;;
     --reads) mapfile -t COMPREPLY < <(compgen -W 'log local' -- "$word") ;;
     --trace | --store | --history | --cacert | --cert | --key) mapfile -t COMPREPLY < <(compgen -f -- "$word") ;;
     *)
         if [[ $word == -* || ($program == amserve && $COMP_CWORD == 1) ]]; then
             mapfile -t COMPREPLY < <(compgen -W "$(_tiuvrokk_words "$program")" -- "$word")
-        elif [[ $program == amaudit || $program == amload || $program == amdraw ]]; then
+        elif [[ $program == amaudit || $program == amload || $program == amdump || $program == amdraw ]]; then
             mapfile -t COMPREPLY < <(compgen -f -- "$word")
         fi
         ;;

@@ -62,10 +62,15 @@ def documents(tag: str, licence: Optional[bytes]) -> Dict[str, bytes]:
 
 def write_wheel(folder: str, platform: str, library: Optional[bytes], licence: Optional[bytes], epoch: int) -> str:
     """Makes a wheel for a platform, and tells its name."""
-    tag = f"py3-none-{platform}"
     files = modules()
     if library is not None:
         files[f"tiuvrokk/{shared_name()}"] = library
+    return write_files(folder, platform, files, licence, epoch)
+
+
+def write_files(folder: str, platform: str, files: Dict[str, bytes], licence: Optional[bytes], epoch: int) -> str:
+    """Makes a wheel of some files."""
+    tag = f"py3-none-{platform}"
     files.update(documents(tag, licence))
     record = f"tiuvrokk-{version()}.dist-info/RECORD"
     lines = [f"{path},sha256={sum_of(data)},{len(data)}\n" for path, data in files.items()]
@@ -86,6 +91,15 @@ def found_library() -> Optional[bytes]:
     beside = os.path.join(PACKAGE, shared_name())
     named = os.environ.get("TIUVROKK_LIBRARY") or (beside if os.path.exists(beside) else None)
     return None if named is None else bytes_of(named)
+
+
+def get_requires_for_build_editable(config_settings: Any = None) -> List[str]:
+    return []
+
+
+def build_editable(wheel_directory: str, config_settings: Any = None, metadata_directory: Optional[str] = None) -> str:
+    """What `pip install -e ./python` installs: the name of this folder, where the package is looked for."""
+    return write_files(wheel_directory, "any", {"tiuvrokk.pth": f"{HERE}\n".encode()}, None, EARLIEST)
 
 
 def get_requires_for_build_wheel(config_settings: Any = None) -> List[str]:

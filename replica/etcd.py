@@ -50,6 +50,11 @@ def put_of(key: str, value: bytes) -> Message:
     return {"key": encoded(key.encode()), "value": encoded(value)}
 
 
+def deletion_of(key: str, end: str) -> Message:
+    """The operation that deletes the range of keys up to `end`."""
+    return {"requestDeleteRange": {"key": encoded(key.encode()), "range_end": encoded(end.encode())}}
+
+
 def refusal_of(body: bytes) -> str:
     """What an answer that is none says."""
     try:
@@ -264,10 +269,11 @@ class Etcd:
             message["range_end"] = encoded(end.encode())
         return await self.must("/v3/kv/range", message)
 
-    async def delete(self, key: str, end: str) -> None:
-        await self.must("/v3/kv/deleterange", {"key": encoded(key.encode()), "range_end": encoded(end.encode())})
+    async def do_if(self, compare: Message, operations: List[Message]) -> bool:
+        """Operations that are done together, where the comparison holds then: whether it did."""
+        answer = await self.must("/v3/kv/txn", {"compare": [compare], "success": operations})
+        return bool(answer.get("succeeded"))
 
     async def put_if(self, compare: Message, put: Message) -> bool:
         """One compared put: whether it was done."""
-        answer = await self.must("/v3/kv/txn", {"compare": [compare], "success": [{"requestPut": put}]})
-        return bool(answer.get("succeeded"))
+        return await self.do_if(compare, [{"requestPut": put}])

@@ -4,7 +4,7 @@ Keys, under the log's name:
     NAME/floor                  the newest snapshot (a text), and the number of the generation that began with it
     NAME/log/GENERATION/ID.N    the pieces of an entry; the last of them, whose name ends in `.!`, is its head
     NAME/tail                   put together with each head, whose entry it names: its revision is the log's end
-    NAME/snap/ID/N              pieces of snapshots (snapshots.py)
+    NAME/snap/ID/N              pieces of snapshots (snapshots.py); the ID begins with the generation
     NAME/claim/GENERATION       the replica that writes the next snapshot, by a lease
 
 An entry has its place by the revision that made its head. Puts are plain, and tried until one is answered, so they may come
@@ -129,6 +129,8 @@ class Log:
     def take(self, event: Event) -> Optional[Entry]:
         """An event, in its turn: the entry whose head it is."""
         if event.key == self.floor.key:
+            if event.revision <= self.floor.revision:
+                return None  # who wrote the snapshot that was begun by had read it
             told = json.loads(event.value)
             if told["since"] != self.floor.revision:
                 raise WentBack("the floor before this one isn't the one that was read")

@@ -9,7 +9,7 @@ import shlex
 import signal
 import ssl
 import sys
-from typing import Any, Callable, Coroutine, List, NoReturn, Optional
+from typing import Any, Callable, Coroutine, Dict, List, NoReturn, Optional
 
 from .etcd import Access, Etcd, Refused
 from .log import LeftBehind, Log, WentBack
@@ -18,6 +18,8 @@ from .sessions import Connection, Session
 from .store import Store, StoreEnded
 from .trace import Trace, TraceFault
 
+# Seconds between two lines of --stats.
+MINUTE = 60.0
 TOP = os.path.dirname(os.path.dirname(os.path.realpath(__file__)))
 DESCRIPTION = """A replica of a store, whose transactions an etcd cluster orders. It serves sessions over TCP at 127.0.0.1, by
 docs/protocol.md and docs/replicas.md, and writes `LISTEN p` with its port once it has all that the log has."""
@@ -88,6 +90,7 @@ def parser() -> argparse.ArgumentParser:
     words.add_argument("--snapshot", type=number_of(int, 0, 999_999_999), default=100_000, metavar="BLOCKS",
                        help="that commit between snapshots (default: 100000); 0: this replica writes none")
     words.add_argument("--trace", metavar="FILE", help="the committed blocks as a trace, of a log from its beginning on")
+    words.add_argument("--stats", action="store_true", help="say each minute on standard error how it does, and at the end")
     words.add_argument("--cacert", metavar="FILE", help="the certificates that etcd's are signed by, for TLS")
     words.add_argument("--cert", metavar="FILE", help="this client's certificate, for TLS")
     words.add_argument("--key", metavar="FILE", help="the key of that")
@@ -117,7 +120,7 @@ class Program:
     """One life of a replica."""
 
     def __init__(self, asked: argparse.Namespace) -> None:
-        self.asked, self.sessions = asked, 0
+        self.asked, self.sessions, self.open = asked, 0, 0
         self.access = access_of(asked)
         self.end: "asyncio.Future[None]" = asyncio.get_running_loop().create_future()
         self.store = Store(shlex.split(asked.store))
@@ -143,6 +146,7 @@ class Program:
 
     async def serve(self, connection: Connection, reader: asyncio.StreamReader, writer: asyncio.StreamWriter) -> None:
         self.sessions += 1
+        self.open += 1
         session = Session(self.replica, self.sessions, self.asked.reads == "local", self.asked.limit, writer)
         connection.session = session
         try:
@@ -152,7 +156,20 @@ class Program:
         except Exception as fault:
             self.fail(fault)
         finally:
+            self.open -= 1
             writer.close()
+
+    def tell_stats(self) -> None:
+        """How it does, if that was asked for."""
+        if self.asked.stats:
+            figures: Dict[str, object] = {"sessions": self.sessions, "open": self.open, **self.replica.figures()}
+            text = " ".join(f"{name}={figure}" for name, figure in figures.items())
+            print(f"STAT {text}", file=sys.stderr, flush=True)
+
+    async def watch(self) -> None:
+        while True:
+            await asyncio.sleep(MINUTE)
+            self.tell_stats()
 
     async def run(self) -> None:
         """Until the store, the log or a signal ends it."""
@@ -160,7 +177,11 @@ class Program:
         for ending in (signal.SIGTERM, signal.SIGINT):
             loop.add_signal_handler(ending, lambda: self.fail(Ending(0, "")))
         self.must_last(self.begin())
-        await self.end
+        self.must_last(self.watch())
+        try:
+            await self.end
+        finally:
+            self.tell_stats()
 
     def must_last(self, work: Coroutine[Any, Any, None]) -> None:
         """Work whose end is the program's."""

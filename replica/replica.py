@@ -69,6 +69,7 @@ class Replica:
         self.commits = 0
         self.applied = 0  # the revision of the newest entry that was
         self.blocks = 0  # that committed since the newest snapshot
+        self.conflicts = self.unknown = self.unreachable = 0  # blocks of the log that didn't commit, and own ones told so
         self.name = uuid.uuid4().hex
         self.entries = 0
         self.queue: List[Waiting] = []
@@ -107,6 +108,8 @@ class Replica:
         if waiting in self.queue:
             self.queue.remove(waiting)
             end = UNREACHABLE
+        self.unknown += len(waiting.blocks) * (end is UNKNOWN)
+        self.unreachable += len(waiting.blocks) * (end is UNREACHABLE)
         waiting.settle([Outcome([], end)] * len(waiting.blocks))
 
     def hand_over(self) -> None:
@@ -168,7 +171,7 @@ class Replica:
     def take(self, event: Event) -> None:
         """An event of the log, in its turn."""
         entry = self.log.take(event)
-        if event.key == self.log.floor.key:
+        if event is self.log.floor:
             self.blocks = max(0, self.commits - int(json.loads(event.value)["commits"]))
             for name in self.on_way:  # they weren't read while their generation was
                 self.write(name)
@@ -181,13 +184,14 @@ class Replica:
         if entry.name in self.on_way:
             self.tell(self.on_way.pop(entry.name), outcomes)
         self.store.flush()
-        if self.is_snapshot_due():
+        if self.is_snapshot_due() and (self.snapshot is None or self.snapshot.done()):
             self.snapshot = asyncio.ensure_future(snapshots.write(self))
             self.snapshot.add_done_callback(self.tasks.put_nowait)
 
     def is_snapshot_due(self) -> bool:
-        is_free = self.has_begun and (self.snapshot is None or self.snapshot.done())
-        return is_free and 0 < self.blocks_between_snapshots <= self.blocks and self.applied > self.log.floor.revision
+        """Whether enough blocks have committed since the newest snapshot, which an entry has followed."""
+        is_enough = 0 < self.blocks_between_snapshots <= self.blocks
+        return self.has_begun and is_enough and self.applied > self.log.floor.revision
 
     def tell(self, waitings: List[Waiting], outcomes: List[Outcome]) -> None:
         """Tells each session of an entry what became of its blocks. What waits goes on its way, with what they bring next."""
@@ -277,6 +281,7 @@ class Replica:
             return self.commit_later(block, answers)
         self.store.ask_later(b"ABORT", lambda answer: None)
         self.store.has_ghosts = True
+        self.conflicts += 1
         return Outcome([CONFLICT] * (block.number - block.told), CONFLICT)
 
     def commit_later(self, block: Block, answers: List[bytes]) -> Outcome:
@@ -299,6 +304,15 @@ class Replica:
         return Outcome(answers, b"COMMITTED %d" % self.commits)
 
     # Life
+
+    def figures(self) -> Dict[str, object]:
+        """How it does, for who watches it."""
+        on_way = [waiting for some in self.on_way.values() for waiting in some]
+        return {"commits": self.commits, "conflicts": self.conflicts, "unknown": self.unknown, "unreachable": self.unreachable,
+                "waiting": sum(len(waiting.blocks) for waiting in self.queue),
+                "on_way": sum(len(waiting.blocks) for waiting in on_way), "since_snapshot": self.blocks,
+                "generation": self.log.generation, "revision": self.log.seen, "age": f"{self.ends.age():.1f}",
+                "runs": self.store.runs, "member": self.log.etcd.host}
 
     async def start(self) -> "asyncio.Task[None]":
         """The newest snapshot, and all that the log has by now; the task that goes on so."""

@@ -36,6 +36,7 @@ class Session:
         self.begun = 0
         self.transaction: Optional[Transaction] = None
         self.out: List[Union[bytes, Block]] = []  # answers, and blocks in the place of theirs
+        self.told: List[bytes] = []  # answers that go with the next ones that are sent, in this turn of the loop
         self.ahead = 0  # bytes of those blocks
         self.is_current: Optional[bool] = None  # whether the log's end was reached since the last lines came, once that was asked
         self.rests = False  # all lines that came were taken
@@ -59,7 +60,7 @@ class Session:
         if data != b"COMMIT\n" or not transaction.is_told():
             return False
         self.transaction = None
-        self.fly([transaction.block()], lambda outcomes: self.writer.write(outcomes[0].end + b"\n"))
+        self.fly([transaction.block()], lambda outcomes: self.tell(outcomes[0].end + b"\n"))
         return True
 
     def take_ahead(self, data: bytes) -> bool:
@@ -74,7 +75,7 @@ class Session:
             for block, outcome in zip(blocks, outcomes):
                 self.begun += 1
                 answers = outcome.answers or [outcome.end] * block.number
-                self.writer.write(b"BEGUN %d\n%s\n%s\n" % (self.begun, b"\n".join(answers), outcome.end))
+                self.tell(b"BEGUN %d\n%s\n%s\n" % (self.begun, b"\n".join(answers), outcome.end))
 
         self.fly(blocks, tell)
         return True
@@ -121,8 +122,19 @@ class Session:
 
     def send(self) -> None:
         """Sends the answers that stand; no block waits before them."""
-        self.writer.write(b"".join(answer + b"\n" for answer in self.out if isinstance(answer, bytes)))
+        self.flush(b"".join(answer + b"\n" for answer in self.out if isinstance(answer, bytes)))
         self.out = []
+
+    def tell(self, answers: bytes) -> None:
+        """Answers to blocks of an entry, which are sent together."""
+        if not self.told:
+            asyncio.get_running_loop().call_soon(self.flush)
+        self.told.append(answers)
+
+    def flush(self, answers: bytes = b"") -> None:
+        """Sends what was told, and answers."""
+        told, self.told = self.told, []
+        self.writer.write(b"".join(told) + answers)
 
     # Lines
 
@@ -166,6 +178,8 @@ class Session:
             self.out.append(b"ABORTED")
         elif b"\r" in line:
             self.out.append(b"ERR SYNTAX")
+        elif line == b"REPLICA" and self.transaction is None:
+            self.out.append(b"REPLICA")
         elif line == b"SEEN":
             self.out.append(b"SEEN %d %d" % (self.number, self.replica.commits))
         else:
@@ -251,7 +265,7 @@ class Session:
             self.begun += 1
             return b"BEGUN %d" % self.begun
 
-        self.writer.write(BEGUN.sub(number, answers).replace(b"\nABORTED\n", b"\nCOMMITTED %d\n" % self.replica.commits))
+        self.flush(BEGUN.sub(number, answers).replace(b"\nABORTED\n", b"\nCOMMITTED %d\n" % self.replica.commits))
         return text[found.end():]
 
 

@@ -1,7 +1,10 @@
 """Snapshots: all committed records, beside the log, as lines that load them; the log up to there is let go.
 
 A snapshot is the floor's text that names it, written once all its pieces are and were read again. What isn't named there
-is nobody's, and goes with the next one."""
+is nobody's, and goes with the next one.
+
+Requests may come late and more than once, after others have moved the floor. So what is let go is deleted together, and only
+where the floor still is the one that was read. Pieces of a later generation stay even then: the floor may name them next."""
 from __future__ import annotations
 
 import asyncio
@@ -11,9 +14,9 @@ import sys
 import time
 import uuid
 import zlib
-from typing import TYPE_CHECKING, List, NamedTuple, Optional
+from typing import TYPE_CHECKING, Dict, List, NamedTuple, Optional, Tuple
 
-from .etcd import Message, Refused, decoded, put_of
+from .etcd import Message, Refused, decoded, deletion_of, encoded, put_of
 from .log import Event, Log
 from .store import StoreEnded, runs_of
 from .trace import TraceFault
@@ -23,6 +26,8 @@ if TYPE_CHECKING:
 
 # Seconds: who writes a snapshot has to be done by then, or another may try too. The compared put lets one of them be it.
 LEASE = 20
+# Seconds behind which who waits for pieces of a snapshot says so, and between two such lines.
+FIRST_NOTE, NEXT_NOTE = 5.0, 60.0
 
 
 class Snapshot(NamedTuple):
@@ -43,16 +48,25 @@ def pieces_of(records: List[bytes]) -> List[bytes]:
     return [zlib.compress(piece, 1) for piece in runs_of(records)]
 
 
+def new_name(generation: int) -> str:
+    """Of the snapshot that begins a generation. It sorts behind those of earlier ones, and behind hexadecimal digits alone,
+    which names once were."""
+    return f"g{generation:08d}-{uuid.uuid4().hex}"
+
+
 async def write(replica: Replica) -> None:
-    """Writes a snapshot, unless another replica does."""
+    """Writes a snapshot, unless another replica does, or has since this was begun."""
     log = replica.log
     floor, generation = log.floor, log.generation
+    if not replica.is_snapshot_due():
+        return
     if not await claim(log, generation, replica.name) or log.floor is not floor:
         await asyncio.sleep(1)
         return
     begun = time.monotonic()
     # Nothing else is done meanwhile: the records are one state.
-    snapshot = Snapshot(uuid.uuid4().hex, replica.applied, log.first(replica.applied), replica.commits, replica.store.records())
+    snapshot = Snapshot(new_name(generation + 1), replica.applied, log.first(replica.applied), replica.commits,
+                        replica.store.records())
     stood = time.monotonic() - begun
     pieces = await asyncio.get_running_loop().run_in_executor(None, pieces_of, snapshot.records)
     sums = await put_pieces(log, floor, snapshot.name, pieces)
@@ -61,11 +75,8 @@ async def write(replica: Replica) -> None:
     while log.floor is floor:
         log.moved.clear()
         await log.moved.wait()
-    mine = f"{log.name}/snap/{snapshot.name}/"
-    if json.loads(log.floor.value)["id"] != snapshot.name:
-        await log.etcd.delete(mine, mine[:-1] + "0")
+    if not await let_go(log, generation, snapshot):
         return
-    await let_go(log, generation, snapshot)
     note(f"snapshot of {len(snapshot.records)} records at commit {snapshot.commits}, {len(pieces)} pieces, "
          f"stood still for {stood:.3f} s, {time.monotonic() - begun:.3f} s in all")
 
@@ -98,7 +109,7 @@ async def put_pieces(log: Log, floor: Event, name: str, pieces: List[bytes]) -> 
 
 
 async def is_newest(log: Log, floor: Event) -> bool:
-    """Whether the cluster has no later floor. Who moves it lets go all other pieces, and that may be seen before it is heard of."""
+    """Whether the cluster has no later floor. Who moves it lets go other pieces, and that may be seen before it is heard of."""
     kvs = (await log.etcd.get(floor.key)).get("kvs")
     return floor.revision == (int(kvs[0]["mod_revision"]) if kvs else 0)
 
@@ -111,47 +122,91 @@ async def move_floor(log: Log, floor: Event, generation: int, snapshot: Snapshot
     await log.etcd.put_if({"key": put["key"], "target": "MOD", "mod_revision": str(floor.revision)}, put)
 
 
-async def let_go(log: Log, generation: int, snapshot: Snapshot) -> None:
-    """What stands under the generation before the last is in this snapshot, which began after that one had ended."""
-    mine = f"{log.name}/snap/{snapshot.name}/"
-    await log.etcd.delete(f"{log.name}/log/", f"{log.name}/log/{generation:08d}/")
-    await log.etcd.delete(f"{log.name}/claim/", f"{log.name}/claim/{generation + 1:08d}")
-    await log.etcd.delete(f"{log.name}/snap/", mine)
-    await log.etcd.delete(mine[:-1] + "0", f"{log.name}/snap0")
+async def let_go(log: Log, generation: int, snapshot: Snapshot) -> bool:
+    """Once the floor has moved: what it made nobody's. Whether it moved to this snapshot."""
+    floor = log.floor
+    mine, end = f"{log.name}/snap/{snapshot.name}/", f"{log.name}/snap/{snapshot.name}0"
+    if json.loads(floor.value)["id"] != snapshot.name:
+        await delete_if_newest(log, floor, [(mine, end)])
+        return False
+    # What stands under the generation before the last is in this snapshot, which began after that one had ended.
+    areas = [(f"{log.name}/log/", f"{log.name}/log/{generation:08d}/"),
+             (f"{log.name}/claim/", f"{log.name}/claim/{generation + 1:08d}"),
+             (f"{log.name}/snap/", mine), (end, f"{log.name}/snap/g{generation + 2:08d}")]
+    if await delete_if_newest(log, floor, areas):
+        await compact(log, snapshot.after)
+    return True
+
+
+async def delete_if_newest(log: Log, floor: Event, areas: List[Tuple[str, str]]) -> bool:
+    """Deletes ranges of keys, all at once; where the floor has moved on nothing is, whenever and as often as this arrives."""
+    is_newest = {"key": encoded(floor.key.encode()), "target": "VALUE", "value": floor.text}
+    return await log.etcd.do_if(is_newest, [deletion_of(key, end) for key, end in areas])
+
+
+async def compact(log: Log, revision: int) -> None:
     try:
-        await log.etcd.must("/v3/kv/compaction", {"revision": str(snapshot.after)})
+        await log.etcd.must("/v3/kv/compaction", {"revision": str(revision)})
     except Refused as fault:  # another has compacted further
         note(f"compaction: {fault}")
 
 
 async def read(replica: Replica) -> int:
     """The newest snapshot into the store; the revision behind which the log has to be read."""
-    log = replica.log
+    log, found = replica.log, Found()
     while True:
         kvs = (await log.etcd.get(log.floor.key)).get("kvs")
         if not kvs:
             return 0
         told: Message = json.loads(decoded(kvs[0]["value"]))
-        found = await pieces_named(log, told)
-        if found is not None:
+        if await found.have_all(log, told):
             break
         await asyncio.sleep(0.2)  # another has taken its place
     if replica.trace:
         raise TraceFault("the log's beginning is in a snapshot, so no run can be stored")
-    replica.store.load([zlib.decompress(piece) for piece in found])
+    replica.store.load([zlib.decompress(found.pieces[digest]) for digest in told["pieces"]])
     replica.commits, replica.applied = told["commits"], told["revision"]
     # The floor's own event comes once more, behind that.
     log.floor, log.generation = Event(int(told["since"]), log.floor.key, ""), int(told["generation"]) - 1
     return min(int(told["after"]), int(kvs[0]["mod_revision"]) - 1)
 
 
-async def pieces_named(log: Log, told: Message) -> Optional[List[bytes]]:
-    """The pieces that the floor names, where all are there."""
-    found: List[bytes] = []
-    for number, digest in enumerate(told["pieces"]):
-        kvs = (await log.etcd.get(f"{log.name}/snap/{told['id']}/{number:08d}")).get("kvs")
-        piece = decoded(kvs[0]["value"]) if kvs else b""
-        if hashlib.sha256(piece).hexdigest() != digest:
-            return None
-        found.append(piece)
-    return found
+class Found:
+    """Pieces by their digests, as far as a replica that begins has found them. It says so where others stay away."""
+
+    def __init__(self) -> None:
+        self.pieces: Dict[str, bytes] = {}
+        self.name = ""  # of the snapshot that isn't whole
+        self.silent_until = 0.0
+
+    async def have_all(self, log: Log, told: Message) -> bool:
+        """Looks for the pieces that a floor names: whether all are there."""
+        self.pieces = {digest: self.pieces[digest] for digest in told["pieces"] if digest in self.pieces}
+        for number in range(len(told["pieces"])):
+            if not await self.have(log, told, number):
+                await self.say(log, told)
+                return False
+        return True
+
+    async def have(self, log: Log, told: Message, number: int) -> bool:
+        digest = told["pieces"][number]
+        if digest not in self.pieces:
+            kvs = (await log.etcd.get(f"{log.name}/snap/{told['id']}/{number:08d}")).get("kvs")
+            piece = decoded(kvs[0]["value"]) if kvs else b""
+            if hashlib.sha256(piece).hexdigest() == digest:
+                self.pieces[digest] = piece
+        return digest in self.pieces
+
+    async def say(self, log: Log, told: Message) -> None:
+        """Says which pieces aren't there, once they have been awaited for a while, and then from time to time."""
+        now = time.monotonic()
+        if told["id"] != self.name:
+            self.name, self.silent_until = told["id"], now + FIRST_NOTE
+        if now < self.silent_until:
+            return
+        self.silent_until = now + NEXT_NOTE
+        count = len(told["pieces"])
+        missing = [str(number) for number in range(count) if not await self.have(log, told, number)]
+        numbers = " ".join(missing[:9]) + (" .." if len(missing) > 9 else "")
+        note(f"the newest snapshot, {log.name}/snap/{told['id']}/ at commit {told['commits']}, isn't whole: "
+             f"of its {count} pieces etcd lacks {numbers}; waiting")

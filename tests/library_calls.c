@@ -382,6 +382,8 @@ static void test_bad_use(void) {
     EXPECT(TVK_NO_STORE, tvk_get(&closed, 1, "a", 1, &value, NULL));
     EXPECT(TVK_NO_STORE, tvk_commits(&closed, &told));
     EXPECT(TVK_NO_STORE, tvk_entries(&closed, &told));
+    if (strcmp(tvk_version(), TVK_VERSION) || TVK_VERSION_NUMBER / 10000 != atoi(TVK_VERSION)) fail("the version");
+    if (sizeof TVK_GREATEST_KEY != TVK_MAX_KEY + 1 || (unsigned char)TVK_GREATEST_KEY[TVK_MAX_KEY - 1] != 0xff) fail("the greatest key");
     EXPECT(TVK_NO_STORE, tvk_figures(&closed, NULL));
     EXPECT(TVK_NULL, tvk_figures(&store, NULL));
     EXPECT(TVK_IS_OPEN, tvk_open(&store));

@@ -2,8 +2,10 @@
 """Random transactions through the Python package, compared with plain dictionaries: tests/library_calls.py CALLS SEED"""
 
 import itertools
+import os
 import random
 import sys
+import tempfile
 import time
 from typing import Any, Callable, Dict, List, Tuple, Type
 
@@ -147,6 +149,7 @@ def seconds_of_looks(store: tiuvrokk.Store, key: bytes) -> float:
 
 def ghosts_in_many_runs() -> None:
     """A key that stands as deleted in 8,192 runs is looked for as fast as one that never stood anywhere."""
+    tiuvrokk.upkeep(False)
     with tiuvrokk.Store() as store:
         for _ in range(8192):
             tx = store.transaction()
@@ -158,10 +161,34 @@ def ghosts_in_many_runs() -> None:
         with store.transaction() as tx:
             tx[b"ant"] = b"7"
             assert tx[b"ant"] == b"7"
+    tiuvrokk.upkeep(True)
+
+
+# Ten times as many records as other tests have.
+MILLIONS = 3_000_000
+
+
+def millions(path: str) -> None:
+    """A text of so many lines is taken whole, and 2,000 records go in among its records, and are found."""
+    with open(path, "wb") as file:
+        file.writelines(b"%07d\tv\n" % number for number in range(MILLIONS))
+    with tiuvrokk.Store() as store:
+        assert store.load_file(path) == MILLIONS == store.entries()
+        further = [b"%07d+" % number for number in range(0, MILLIONS, MILLIONS // 2000)]
+        with store.transaction() as tx:
+            tx.lock(b"", LAST, exclusive=True)
+            for key in further:
+                tx.insert(key, b"w")
+        with store.transaction() as tx:
+            tx.lock(b"", LAST)
+            assert all(tx[key] == b"w" and tx[key[:7]] == b"v" for key in further[::10])
+        assert store.entries() == MILLIONS + len(further)
 
 
 def main(calls: int, seed: int) -> None:
     rng = random.Random(seed)
+    with tempfile.TemporaryDirectory() as folder:
+        millions(os.path.join(folder, "lines"))
     chosen_keys(rng)
     many_loads(rng)
     ghosts_in_many_runs()

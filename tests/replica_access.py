@@ -5,7 +5,6 @@ import asyncio
 import os
 import subprocess
 import sys
-import threading
 from typing import Any, Callable, List, Tuple
 
 from cluster import STORE, Cluster, until
@@ -36,7 +35,7 @@ def statuses(cluster: Cluster) -> None:
     wanted("a trace that can't be written", run("--trace", "/nowhere/trace", "--store", STORE, endpoint)[::2],
            (4, "amreplica: /nowhere/trace: No such file or directory\n"))
     wanted("a store that isn't there", run("--store", "/nowhere/store", endpoint)[0], 3)
-    cluster.start_replica(0, "--log", "statuses", "--snapshot", "1")
+    cluster.start_replica(0, "--log", "statuses", "--snapshot", "1", "--stats")
     wanted("a replica", cluster.is_ready(0), True)
     port = str(cluster.ports[0])
     wanted("a port in use", run("--log", "statuses", "--store", STORE, "--port", port, endpoint)[::2],
@@ -52,6 +51,7 @@ def statuses(cluster: Cluster) -> None:
         wanted("leaves its file", file.read(), "earlier\n")
     cluster.replicas[0].terminate()
     wanted("its end by SIGTERM", cluster.replicas[0].wait(LIMIT), 0)
+    wanted("how it did", "\nSTAT sessions=" in cluster.notes(0) and " commits=1 conflicts=0 unknown=0 " in cluster.notes(0), True)
 
 
 def certificates(folder: str) -> List[str]:
@@ -153,72 +153,73 @@ def filler(number: int) -> List[str]:
 
 
 def transactions(cluster: Cluster) -> None:
-    """The Python package: what conflicts runs again, up to a bound, and what only sets never conflicts."""
-    from tiuvrokk.replica import Conflict, Refused, Session, Transaction
+    """The Python package: all that a transaction of an embedded store has, what conflicts runs again, up to a bound, and what only
+    sets never conflicts."""
+    import tiuvrokk
+    from client_cases import all_cases, counters, emptied
+    from tiuvrokk.replica import Session
 
     for at in (0, 1):
         cluster.start_replica(at, "--log", "python", "--limit", "60")
     wanted("replicas", [cluster.is_ready(at) for at in (0, 1)], [True, True])
-
-    def begin(tx: Transaction) -> None:
-        for name in "abc":
-            tx[name] = 100
-
-    def add(tx: Transaction) -> None:
-        tx["a"] = int(tx["a"]) + 1
-
-    def work(at: int) -> None:
-        with Session(cluster.ports[at]) as session:
-            for _ in range(20):
-                session.transaction(add, tries=10_000)
-
+    ones: List[Callable[[], Any]] = [lambda: tiuvrokk.connect(port=cluster.ports[0]), lambda: tiuvrokk.connect(port=cluster.ports[1])]
+    all_cases(lambda: emptied(ones[0]), 400)
+    counters([*ones, *ones], 20)
+    with ones[0]() as client:
+        wanted("what it is", client.is_replica, True)
+        wanted("what all added", client.run(lambda tx: tx["count"]), b"80")
+        client.run(lambda tx: tx.update(b="3"))
+        refusals(client, cluster)
     with Session(cluster.ports[0]) as session:
-        session.transaction(begin)
-        threads = [threading.Thread(target=work, args=(at,)) for at in (0, 0, 1, 1)]
-        for thread in threads:
-            thread.start()
-        for thread in threads:
-            thread.join()
-        wanted("what all made of it", session.transaction(lambda tx: tx["a"]), b"180")
-        refusals(session, cluster, Conflict, Refused)
+        session.transaction(lambda tx: tx.update(named="1"))
+        wanted("by its former name", session.transaction(lambda tx: tx["named"]), b"1")
 
 
-def refusals(session: Any, cluster: Cluster, conflict: Any, refused: Any) -> None:
+def refusals(client: Any, cluster: Cluster) -> None:
     """Ends of transactions that don't commit, and many records."""
+    import tiuvrokk
+
     tried: List[int] = []
 
     def meddled(tx: Any) -> None:
         tried.append(len(tried))
         value = int(tx["b"])
         cluster.client(1).ask("BEGIN", f"REP b {len(tried)}", "COMMIT")
-        tx["b"] = value + 1000
+        tx["b"] = str(value + 1000)
 
-    raises("a conflict at each try", conflict, lambda: session.transaction(meddled, tries=3))
+    raises("a conflict at each try", tiuvrokk.Conflict, lambda: client.run(meddled, tries=3))
     wanted("tries", len(tried), 3)
-    raises("a key that isn't there", KeyError, lambda: session.transaction(lambda tx: tx.__delitem__("none")))
-    raises("a key that is none", ValueError, lambda: session.transaction(lambda tx: tx.get("a b")))
 
-    def many(tx: Any) -> None:
-        for number in range(2000):
-            tx[f"m{number:04}"] = number
+    def set_many(prefix: str, number: int) -> Callable[[Any], Any]:
+        return lambda tx: tx.update((f"{prefix}{at:04}", str(at)) for at in range(number))
 
-    def too_many(tx: Any) -> None:
-        for number in range(3000):
-            tx[f"n{number:04}"] = number
-
-    session.transaction(many)
-    raises("more operations than a transaction has", refused, lambda: session.transaction(too_many))
-    found = session.transaction(lambda tx: list(tx.scan("m", "n~")))
+    client.run(set_many("m", 2000))
+    raises("more operations than a transaction has", tiuvrokk.TooMany, lambda: client.run(set_many("n", 3000)))
+    found = client.run(lambda tx: list(tx.scan("m", "n~")))
     wanted("records", found, [(b"m%04d" % number, b"%d" % number) for number in range(2000)])
+    never_conflicts(client, cluster)
 
-    def change(tx: Any) -> Tuple[bool, bool, Any]:
-        del tx["m0000"]
-        tx.discard("m0001")
-        tx.discard("m0001")
-        return tx.insert("m0002", 1), "m0001" in tx, tx.get("b")
 
-    wanted("changes", session.transaction(change), (False, False, b"3"))
-    wanted("what is left", len(session.transaction(lambda tx: list(tx.scan("m", "m~")))), 1998)
+def never_conflicts(client: Any, cluster: Cluster) -> None:
+    """A transaction that only sets is one send."""
+    asked: List[int] = []
+    ask = client._wire.ask
+
+    def counted(lines: List[bytes]) -> Any:
+        asked.append(len(lines))
+        return ask(lines)
+
+    client._wire.ask = counted
+
+    def set_only(tx: Any) -> None:
+        cluster.client(1).ask("BEGIN", f"REP b {len(asked)}", "COMMIT")
+        for number in range(100):
+            tx[f"s{number}"] = "1"
+        tx.discard("s5")
+
+    client.run(set_only, tries=1)
+    wanted("sends", [it for it in asked if it], [204])
+    wanted("what was set", client.run(lambda tx: tx.count("s", "s~")), 99)
 
 
 def raises(what: str, kind: Any, call: Callable[[], Any]) -> None:

@@ -3,6 +3,7 @@ connections, delays what is sent, and delivers requests once more, late."""
 from __future__ import annotations
 
 import random
+import signal
 import socket
 import threading
 import time
@@ -11,7 +12,7 @@ from typing import Callable, Dict, List
 
 from cluster import Cluster
 
-KINDS = ("replica", "replica", "member", "stop", "both", "cut", "delay", "late")
+KINDS = ("replica", "replica", "member", "stop", "both", "cut", "delay", "late", "sleep")
 # The replica that reaches etcd through proxies.
 PROXIED = 1
 
@@ -126,6 +127,9 @@ class Faults:
         if kind == "stop":
             cluster.stop_member(member)
             mending.append(lambda: cluster.continue_member(member))
+        if kind == "sleep":
+            cluster.replicas[at].send_signal(signal.SIGSTOP)
+            mending.append(lambda: cluster.replicas[at].send_signal(signal.SIGCONT))
         if kind == "cut":
             proxy.cut()
             mending.append(lambda: setattr(proxy, "is_cut", False))

@@ -2,12 +2,14 @@
 
 import os
 import random
+import signal
 import socket
 import subprocess
 import sys
 import threading
+import time
 from collections import deque
-from typing import Any, Deque, Iterable, List, NoReturn, Optional, Sequence, Tuple
+from typing import Any, Callable, Deque, Iterable, List, NoReturn, Optional, Sequence, Tuple
 
 TOP = os.path.dirname(os.path.dirname(os.path.abspath(__file__)))
 AMSERVE = os.path.join(TOP, "amserve")
@@ -27,6 +29,39 @@ def wanted(what: str, found: Any, right: Any) -> None:
     """Fails unless what was found is right."""
     if found != right:
         fail(f"{what}: {str(found)[:300]!r} and not {str(right)[:300]!r}")
+
+
+class Interrupted(BaseException):
+    """What an interrupt raises here."""
+
+
+def interrupted(seconds: float, call: Callable[[], Any]) -> None:
+    """Does a call again and again, until an interrupt ends that so many seconds later; a second one comes a hundredth of a second
+    behind it. One that comes within a `__del__` is passed over, and told to nobody. No third one comes, however slow the machine
+    is: it would meet what stands behind this."""
+    left = 2
+
+    def interrupt(_number: int, _frame: object) -> None:
+        nonlocal left
+        left -= 1
+        if left:
+            signal.setitimer(signal.ITIMER_REAL, 0.01)
+        raise Interrupted
+
+    hook, sys.unraisablehook = sys.unraisablehook, lambda told: None if told.exc_type is Interrupted else hook(told)
+    before = signal.signal(signal.SIGALRM, interrupt)
+    end = time.monotonic() + seconds + 0.1
+    try:
+        try:
+            signal.setitimer(signal.ITIMER_REAL, seconds)
+            while time.monotonic() < end:
+                call()
+        finally:
+            signal.setitimer(signal.ITIMER_REAL, 0)
+    except Interrupted:
+        pass
+    signal.signal(signal.SIGALRM, before)
+    sys.unraisablehook = hook
 
 
 def built(crate: str) -> str:

@@ -5,6 +5,7 @@ import os
 import re
 import shutil
 import subprocess
+import tempfile
 from itertools import takewhile
 from typing import Dict, Iterator, List, Set, Tuple
 
@@ -93,14 +94,16 @@ def faults_of_surface() -> Iterator[str]:
 
 
 def faults_of_layout() -> Iterator[str]:
-    """What `rt fmt` would lay out otherwise."""
-    command = shutil.which("rt")
-    if command is None:
-        yield "rt, the Rattle toolchain, is not on the path"
-        return
-    compiler = os.path.join(os.path.dirname(os.path.realpath(command)), "rattle")
-    told = subprocess.run([compiler, "fmt", "--check", *sources("s*", "proofs")], stderr=subprocess.PIPE, text=True, check=False).stderr
-    yield from told.splitlines()
+    """What `rt fmt` would lay out otherwise. It is tried on copies, in a folder of one crate."""
+    with tempfile.TemporaryDirectory() as folder:
+        copies = {path: f"{folder}/src/{os.path.relpath(path, TOP)}" for path in sources("s*", "proofs")}
+        for path, copied in copies.items():
+            os.makedirs(os.path.dirname(copied), exist_ok=True)
+            shutil.copy(path, copied)
+        ran = subprocess.run(["rt", "fmt"], cwd=folder, capture_output=True, text=True, check=False)
+        if ran.returncode:
+            yield from ran.stderr.splitlines()
+        yield from (f"{os.path.relpath(path, TOP)} is not in the layout" for path, copied in copies.items() if text_of(path) != text_of(copied))
 
 
 def faults_of_edits() -> Iterator[str]:

@@ -11,17 +11,21 @@ from typing import Dict, Iterable, List, NamedTuple, Optional
 
 TOP = os.path.dirname(os.path.dirname(os.path.abspath(__file__)))
 # The proved programs by their crates, and where each is installed.
-PROVED = {"am_serve_alone": "lib/tiuvrokk/am_serve_alone", "am_serve_listen": "lib/tiuvrokk/am_serve_listen", "am_auditor": "bin/amaudit"}
+PROVED = {"am_serve_alone": "lib/tiuvrokk/alone/amserve", "am_serve_listen": "lib/tiuvrokk/listen/amserve", "am_auditor": "bin/amaudit"}
 PYTHON_PROGRAMS = ["amload", "amdump", "amcli", "amdraw", "amreplica"]
 COMMANDS = ["amserve", "amaudit", *PYTHON_PROGRAMS]
 AMSERVE = """#!/bin/bash
-# Runs the proved program that the first word asks for: am_serve_listen for `listen`, and am_serve_alone for all else. A server that stays is
-# held by what passes signals on to it.
+# Runs the proved program that the first word asks for, that of `listen` or that of all else. A server that stays is held by what
+# passes signals on to it. Where a limit on the size of files is reached, a write fails, and the program says so; the system's
+# signal would end it.
 here=$(dirname "$(readlink -f "${BASH_SOURCE[0]}")")
+trap '' XFSZ
+# (a socket of the file system is its owner's from the first moment on)
+case "$* " in *' --socket'[\ =]*) umask 077 ;; esac
 case "${1-} $* " in
-listen*' --stay '*) exec "$here/stay" "$here/am_serve_listen" "$@" ;;
-'listen '*) exec -a amserve "$here/am_serve_listen" "$@" ;;
-*) exec -a amserve "$here/am_serve_alone" "$@" ;;
+listen*' --stay '*) exec "$here/stay" "$here/listen/amserve" "$@" ;;
+'listen '*) exec -a amserve "$here/listen/amserve" "$@" ;;
+*) exec -a amserve "$here/alone/amserve" "$@" ;;
 esac
 """
 

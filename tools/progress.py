@@ -2,9 +2,10 @@
 and the time that is left."""
 
 import os
+import selectors
 import sys
 import time
-from typing import Callable, Collection, Dict, Iterable, Mapping, Optional
+from typing import IO, Callable, Collection, Dict, Iterable, Iterator, Mapping, Optional
 
 # Seconds between two looks at the time, and the width of a line where the terminal tells none.
 PAUSE, WIDTH = 1.0, 80
@@ -76,13 +77,38 @@ class Progress:
             print(f"\r{text:{self.shown}}", end="", file=sys.stderr, flush=True)
             self.shown = len(text)
 
+    def clear(self) -> None:
+        """Takes back what was shown."""
+        if self.shown:
+            print(f"\r{'':{self.shown}}\r", end="", file=sys.stderr, flush=True)
+            self.shown = 0
+
     def say(self, lines: Iterable[str]) -> None:
         """Lines that stay, in place of what was shown."""
-        if self.shown:
-            print(f"\r{'':{self.shown}}\r", end="", file=sys.stderr)
-            self.shown = 0
+        self.clear()
         for line in lines:
-            print(line, file=sys.stderr, flush=True)
+            tell(line)
+
+
+def tell(text: str) -> None:
+    """Tells a line on standard error."""
+    print(text, file=sys.stderr, flush=True)
+
+
+def lines_as_they_come(pipe: IO[bytes], waiting: Callable[[], None]) -> Iterator[str]:
+    """The lines that a program writes. While none comes, another call is made each second."""
+    with selectors.DefaultSelector() as ready:
+        ready.register(pipe, selectors.EVENT_READ)
+        rest = b""
+        while True:
+            if not ready.select(PAUSE):
+                waiting()
+                continue
+            piece = os.read(pipe.fileno(), 65_536)
+            *whole, rest = (rest + piece).split(b"\n")
+            yield from (it.decode(errors="replace") for it in whole)
+            if not piece:
+                return
 
 
 def columns() -> int:

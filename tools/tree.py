@@ -1,5 +1,6 @@
 """The tree: its files and texts, the crates with those that they name, and the names that each crate gives out."""
 
+import functools
 import glob
 import os
 import re
@@ -15,14 +16,35 @@ def text_of(path: str) -> str:
         return file.read()
 
 
+@functools.lru_cache(maxsize=None)
+def lines() -> Dict[str, str]:
+    """The line of each crate in crates.txt, in order."""
+    found = [it for it in text_of("crates.txt").splitlines() if it and not it.startswith("#")]
+    return {re.split(r"[ :]", line)[0]: line for line in found}
+
+
 def crates() -> Dict[str, List[str]]:
     """The crates in order, each with the others that it names."""
-    found = {}
-    for line in text_of("crates.txt").splitlines():
-        if line and not line.startswith("#"):
-            head, _, tail = line.partition(":")
-            found[head.split()[0]] = [word for word in tail.split() if word.startswith("am_")]
+    return {name: [word for word in line.partition(":")[2].split() if word in lines()] for name, line in lines().items()}
+
+
+@functools.lru_cache(maxsize=None)
+def below(crate: str) -> List[str]:
+    """The crates that a crate stands on, each after those that it stands on itself."""
+    found: List[str] = []
+    for other in crates()[crate]:
+        found += [it for it in [*below(other), other] if it not in found]
     return found
+
+
+def is_static(crate: str) -> bool:
+    """Whether it is a library for C."""
+    return "staticlib" in lines()[crate].partition(":")[0].split()
+
+
+def is_program(crate: str) -> bool:
+    """Whether it has a `main`."""
+    return os.path.isfile(f"{TOP}/crates/{crate}/src/main.rt")
 
 
 def sources(*folders: str, kinds: str = "rt antt") -> List[str]:

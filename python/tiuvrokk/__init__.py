@@ -13,26 +13,35 @@ Keys are up to 32 bytes, values up to 64: bytes, bytearray, memoryview, or a `st
 ordered byte by byte. Whatever transactions did, the committed ones read and wrote as if they had run one after another in the
 order of their commits.
 
+`tiuvrokk.connect(port=7070)` is a client of a server (`amserve listen`) or of a replica (`amreplica`), whose transactions have
+the same calls and the same exceptions:
+
+    with tiuvrokk.connect(port=7070) as client:
+        client.run(lambda tx: tx.update(ant="6"))
+
 Each operation locks the keys that it speaks of until its transaction ends. A lock is granted or refused at once, by `Busy`,
 which names the transaction that is in the way. A store is used by the thread that opened it, and raises `WrongThread` on any
-other.
+other, unless it was opened by `Store(check_same_thread=False)`.
 
 This package calls the shared library of `tiuvrokk.h`: the one that the environment's TIUVROKK_LIBRARY names, else the one
 beside this file, as a wheel has it, else the one that the system finds. Where there is none, the first `Store` raises an
 ImportError.
 """
 
+from ._client import Client, RemoteTransaction, connect
+from ._library import upkeep
 from ._store import Figures, Store, Transaction
 from .errors import (
-    MAX_KEY, MAX_LIMIT, MAX_VALUE, Absent, Bad, BadLine, Busy, Closed, Error, Exists, NoMark, NotRising, NoTransaction,
-    OutOfMemory, Status, TooMany, Twice, WrongThread,
+    MAX_KEY, MAX_LIMIT, MAX_VALUE, Absent, Bad, BadLine, Busy, Closed, Conflict, Error, Exists, Held, NoMark, NotRising,
+    NoTransaction, OutOfMemory, Refused, Status, TooMany, Twice, Unknown, Unreachable, WrongThread,
 )
 
 __version__ = "1.1.0"
 
 __all__ = [
-    "MAX_KEY", "MAX_VALUE", "MAX_LIMIT", "Store", "Transaction", "Figures", "Status", "Error", "Absent", "Exists", "Busy", "NoTransaction",
-    "NoMark", "TooMany", "NotRising", "Twice", "Bad", "BadLine", "Closed", "OutOfMemory", "WrongThread",
+    "MAX_KEY", "MAX_VALUE", "MAX_LIMIT", "Store", "Transaction", "Figures", "connect", "Client", "RemoteTransaction", "upkeep", "Status",
+    "Error", "Absent", "Exists", "Busy", "NoTransaction", "NoMark", "TooMany", "NotRising", "Twice", "Bad", "BadLine", "Closed",
+    "OutOfMemory", "Refused", "Conflict", "Unreachable", "Unknown", "Held", "WrongThread",
 ]
 
 # A traceback names an exception as a program does.

@@ -16,7 +16,7 @@ from collections.abc import Callable
 _LONG = ["open", "close", "abort", "load", "load_structs", "load_text"]
 _SHORT = [
     "begin", "commit", "mark", "back", "get", "insert", "replace", "delete", "scan", "scan_behind", "lock", "merge", "clean",
-    "commits", "entries", "figures",
+    "commits", "entries", "figures", "upkeep",
 ]
 
 _ADVICE = "./install-library PREFIX installs it from the sources, and TIUVROKK_LIBRARY=PREFIX/lib/libtiuvrokk.so names it"
@@ -49,26 +49,35 @@ def library_path() -> str:
 
 
 @functools.lru_cache(None)
-def _calls() -> dict[str, Call]:
+def _calls(holds: bool) -> dict[str, Call]:
     """All calls. They are passed what C takes, made beforehand, and so have no types of their own: these would be looked at
     for each argument anew, which takes as long as a call."""
     path = library_path()
     try:
         holding, freeing = ctypes.PyDLL(path), ctypes.CDLL(path)
         found: dict[str, Call] = {name: holding[f"tvk_{name}"] for name in _SHORT}
-        found.update((name, freeing[f"tvk_{name}"]) for name in _LONG)
+        found.update((name, (holding if holds else freeing)[f"tvk_{name}"]) for name in _LONG)
     except (OSError, AttributeError) as error:
         raise ImportError(f"the library of tiuvrokk can't be loaded: {error}. {_ADVICE}", name="tiuvrokk", path=path) from None
     return found
 
 
 class Calls:
-    """The calls of the library by their names, without `tvk_`."""
+    """The calls of the library by their names, without `tvk_`. Where they are to hold the interpreter's lock, long ones do, too."""
+
+    def __init__(self, holds: bool) -> None:
+        self._holds = holds
 
     def __getattr__(self, name: str) -> Call:
-        call = _calls()[name]
+        call = _calls(self._holds)[name]
         setattr(self, name, call)
         return call
 
 
-calls = Calls()
+calls, holding_calls = Calls(False), Calls(True)
+
+
+def upkeep(on: bool) -> None:
+    """Whether commits of all stores of this program clean some of what was deleted, as they do at first. Without that who deletes
+    calls `Store.clean` from time to time: scans pass over what is marked as deleted."""
+    calls.upkeep(ctypes.c_int(on))

@@ -7,14 +7,15 @@ import io
 import itertools
 import os
 import warnings
-from collections import deque
-from collections.abc import Callable, Iterable, Iterator, Mapping
+import weakref
+from collections.abc import Callable, Iterable, Iterator
 from operator import index
-from threading import get_ident
+from threading import current_thread, get_ident, main_thread
 from types import TracebackType
-from typing import Any, NamedTuple, NoReturn, Optional, TypeVar, Union, overload
+from typing import Any, NamedTuple, Optional, TypeVar, Union, overload
 
-from ._library import Call, Counts, Handle, Number, calls
+from ._library import Call, Counts, Handle, Number, calls, holding_calls
+from ._mapping import MAX_PAGE, RUN, Mapped, Runner
 from ._records import GREATEST, SIZES, Key, Page, Place, Record, Records, Text, Value, bad_line, below, bytes_of, double_line
 from ._records import first_double, layout_of, lent, line_runs, packed, plain_text, range_of, runs_of, text_of
 from .errors import MAX_LIMIT, Absent, Bad, Closed, Exists, NotRising, Status, Twice, WrongThread, bad_limit, bad_range, error_of
@@ -23,18 +24,8 @@ Default = TypeVar("Default")
 Row = TypeVar("Row")
 Made = TypeVar("Made")
 
-MAX_PAGE = 999
-RUN = 65536
 _LOCKED_RUNS = 255
-_REQUIRED: Any = object()
 _ABSENT, _EXISTS = int(Status.ABSENT), int(Status.EXISTS)
-
-
-class _Unique:
-    """What stands once, in the memory of its process."""
-
-    def __reduce_ex__(self, protocol: Any) -> NoReturn:
-        raise TypeError(f"a {type(self).__name__} stands in the memory of its process, and can't be copied or pickled")
 
 
 class Figures(NamedTuple):
@@ -56,20 +47,39 @@ class Figures(NamedTuple):
     """Transactions that committed."""
 
 
-class Store(_Unique):
-    """An empty store, which is open until `close`, or until the end of a `with` block. It belongs to the thread that opens it:
-    on any other each call raises `WrongThread`."""
+# Stores that are open, with their handles: an interrupt may keep `__del__` of one from its end, and then the next one sees to it.
+_open: dict[int, tuple[weakref.ref[Store], Handle]] = {}
 
-    def __init__(self) -> None:
-        opening = calls.open
+
+def _close_dropped() -> None:
+    """Closes stores that nobody has any more. Interrupts meet the main thread, so only there any are left."""
+    for at, (store, handle) in list(_open.items()):
+        # (who takes it from there closes it)
+        if store() is None and _open.pop(at, (None, None))[1] is not None:
+            calls.close(ctypes.byref(handle))
+
+
+class Store(Runner["Transaction"]):
+    """An empty store, which is open until `close`, or until the end of a `with` block. It belongs to the thread that opens it:
+    on any other each call raises `WrongThread`. `check_same_thread=False` lets any thread use it, one at a time: who asks for
+    that sees to it that no two threads are in one transaction at once, and loads don't let other threads run."""
+
+    def __init__(self, check_same_thread: bool = True) -> None:
+        if _open and current_thread() is main_thread():
+            _close_dropped()
+        self._calls = calls if check_same_thread else holding_calls
         self._end = calls.close
         self._handle = Handle()
         self._at = ctypes.byref(self._handle)
         self._thread = get_ident()
-        self._active = 0
-        # Transactions that were dropped on other threads: this one aborts them.
-        self._dropped: deque[int] = deque()
-        if status := opening(self._at):
+        self._is_shared = not check_same_thread
+        # The transactions that were begun, with where the library tells their numbers. One that was dropped, or whose end was
+        # interrupted, is aborted when the next one begins.
+        self._begun: dict[int, tuple[weakref.ref[Transaction], ctypes.c_uint64]] = {}
+        _open[id(self._handle)] = (weakref.ref(self), self._handle)
+        status = self._calls.open(self._at)
+        if status:
+            _open.pop(id(self._handle), None)
             raise error_of(status)
 
     def close(self) -> None:
@@ -77,6 +87,7 @@ class Store(_Unique):
         if self._handle.at:
             self._stay()
             self._end(self._at)
+        _open.pop(id(self._handle), None)
 
     def __enter__(self) -> Store:
         return self
@@ -86,35 +97,41 @@ class Store(_Unique):
     ) -> None:
         self.close()
 
-    def __del__(self) -> None:
+    def __del__(self, opened: Any = _open, here: Callable[[], int] = get_ident, main: Any = main_thread()) -> None:
         # (nobody else has the store any more, so this may be any thread)
-        if hasattr(self, "_dropped") and self._handle.at:
+        if not hasattr(self, "_begun"):
+            return
+        if here() != main.ident:
+            opened.pop(id(self._handle), None)
+        if self._handle.at:
             self._end(self._at)
+        opened.pop(id(self._handle), None)
 
     def __repr__(self) -> str:
         if not self._handle.at:
             return "<tiuvrokk.Store, closed>"
-        return f"<tiuvrokk.Store, open, {self._active} transaction{'' if self._active == 1 else 's'} active>"
+        active = sum(1 for tx, _ in list(self._begun.values()) if tx() is not None)
+        return f"<tiuvrokk.Store, open, {active} transaction{'' if active == 1 else 's'} active>"
 
     def transaction(self) -> Transaction:
         """Begins a transaction. As the head of a `with` block it commits at the end of the block, and aborts where an
         exception leaves the block. One that is dropped before its end is aborted, with a ResourceWarning."""
         if self._thread != get_ident():
             self._stay()
-        if self._dropped:
+        if self._begun:
             self._abort_dropped()
-        told = Number()
-        if status := calls.begin(self._at, told):
+        tx = Transaction(self)
+        if status := self._calls.begin(self._at, ctypes.byref(tx._tx)):
+            tx._over()
             raise error_of(status)
-        self._active += 1
-        return Transaction(self, told[0])
+        return tx
 
     def merge(self, limit: int = MAX_LIMIT) -> Optional[int]:
         """One merge step: works off at most `limit` entries of the oldest range that was read, whose records go to their final
         place. Answers how many they were, 0 where that range is forgotten, since nothing is left of it or its next key is
         locked, and None where no range is waiting."""
         told = Number()
-        status = calls.merge(self._use(), _limit(limit), told)
+        status = self._calls.merge(self._use(), _limit(limit), told)
         if status in (Status.DONE, Status.ENDED):
             return 0
         if status == Status.IDLE:
@@ -127,7 +144,7 @@ class Store(_Unique):
         """One clean step: takes away at most `limit` entries that are marked as deleted, and answers how many."""
         at, low, high = self._use(), bytes_of(lo), bytes_of(hi)
         most, told = _limit(limit), Number()
-        status = calls.clean(at, low, SIZES[len(low)], high, SIZES[len(high)], most, told)
+        status = self._calls.clean(at, low, SIZES[len(low)], high, SIZES[len(high)], most, told)
         if status:
             raise error_of(status, texts=[low, high])
         return told[0]
@@ -135,16 +152,16 @@ class Store(_Unique):
     @property
     def commits(self) -> int:
         """How many transactions committed."""
-        return self._count(calls.commits)
+        return self._count(self._calls.commits)
 
     def entries(self) -> int:
         """How many entries the index has, those marked as deleted too."""
-        return self._count(calls.entries)
+        return self._count(self._calls.entries)
 
     def figures(self) -> Figures:
         """How large the store is."""
         counts = Counts()
-        if status := calls.figures(self._use(), counts):
+        if status := self._calls.figures(self._use(), counts):
             raise error_of(status)
         return Figures(*counts)
 
@@ -167,7 +184,7 @@ class Store(_Unique):
 
     def _stay(self) -> None:
         """Raises where another thread than the store's is at work."""
-        if self._thread != get_ident():
+        if self._thread != get_ident() and not self._is_shared:
             raise WrongThread(self._thread, get_ident())
 
     def _use(self) -> Any:
@@ -175,7 +192,7 @@ class Store(_Unique):
         self._stay()
         if not self._handle.at:
             raise Closed
-        if self._dropped:
+        if self._begun:
             self._abort_dropped()
         return self._at
 
@@ -186,31 +203,47 @@ class Store(_Unique):
         return told[0]
 
     def _abort_dropped(self) -> None:
-        while self._dropped:
-            calls.abort(self._at, ctypes.c_uint64(self._dropped.popleft()))
-            self._active -= 1
+        """Aborts the transactions that nobody has any more, and those that an interrupt kept from their end."""
+        for at, (reference, number) in list(self._begun.items()):
+            tx = reference()
+            if tx is None or tx._is_leaving:
+                if number.value:
+                    self._calls.abort(self._at, number)
+                if tx is not None:
+                    tx._is_over = True
+                self._begun.pop(at, None)
 
 
-class Transaction(_Unique):
+class Transaction(Mapped):
     """A transaction of a store, by `Store.transaction`. It reads and writes like a mapping of bytes that is sorted by key.
 
     Its operations raise `Busy`, `TooMany`, `OutOfMemory`, and `NoTransaction` once it has ended; what was refused changed
     nothing, and the transaction goes on. Keys and values are bytes, bytearray, memoryview or str, which is taken for its
     UTF-8; anything else is a TypeError."""
 
-    _is_over = True  # (until it is begun)
+    _is_leaving = False  # (its end was begun)
 
-    def __init__(self, store: Store, number: int) -> None:
+    def __init__(self, store: Store) -> None:
         self._store = store
+        self._calls = store._calls
         self._thread = store._thread
         self._at = store._at
-        self._tx = ctypes.c_uint64(number)
-        self._end = calls.abort
-        self.number = number
-        """The number by which `Busy.holder` names the transaction."""
-        self.commit_number = 0
-        """The number of its commit, or 0 before that."""
+        self._end = store._calls.abort
         self._is_over = False
+        # (the library writes both numbers there, so no interrupt comes between)
+        self._commit_number = ctypes.c_uint64()
+        self._tx = ctypes.c_uint64()
+        store._begun[id(self._tx)] = (weakref.ref(self), self._tx)
+
+    @property
+    def number(self) -> int:
+        """The number by which `Busy.holder` names the transaction."""
+        return self._tx.value
+
+    @property
+    def commit_number(self) -> int:
+        """The number of its commit, or 0 before that."""
+        return self._commit_number.value
 
     @property
     def is_active(self) -> bool:
@@ -223,23 +256,24 @@ class Transaction(_Unique):
     def __exit__(
         self, kind: Optional[type[BaseException]], error: Optional[BaseException], trace: Optional[TracebackType]
     ) -> None:
-        if self._is_over or not self._store._handle.at:
+        if self._is_over:
             return
+        self._is_leaving = True
         if kind is None:
+            # (a store that was closed meanwhile says so here)
             self.commit()
-        else:
+        elif self._store._handle.at:
             self.abort()
 
     def __del__(self, warn: Callable[..., None] = warnings.warn, here: Callable[[], int] = get_ident) -> None:
-        if self._is_over or not self.is_active:
+        if not hasattr(self, "_tx") or not self.is_active or not self._tx.value:
             return
         told = f"{self!r} was dropped, and is aborted"
+        # (else its own thread may be at work in the library, and aborts it at its next call)
         if self._thread == here():
             self._end(self._at, self._tx)
             self._over()
-        else:
-            # (its own thread may be at work in the library)
-            self._store._dropped.append(self.number)
+        self._is_leaving = True
         warn(told, ResourceWarning, source=self)
 
     def __repr__(self) -> str:
@@ -252,25 +286,26 @@ class Transaction(_Unique):
         """Commits, and answers the number of the commit: they rise by one from 1."""
         if self._thread != get_ident():
             self._store._stay()
-        told = Number()
-        if status := calls.commit(self._at, self._tx, told):
+        if status := self._calls.commit(self._at, self._tx, ctypes.byref(self._commit_number)):
             raise error_of(status, self.number)
-        self.commit_number = told[0]
         self._over()
-        return self.commit_number
+        return self._commit_number.value
 
     def abort(self) -> None:
         """Takes back what was written, and ends the transaction."""
-        self._plain(calls.abort)
+        self._plain(self._calls.abort)
         self._over()
 
     def mark(self) -> None:
         """Sets a savepoint."""
-        self._plain(calls.mark)
+        self._plain(self._calls.mark)
+        self._marks += 1
 
     def back(self) -> None:
         """Takes back what was written since the newest savepoint, which goes. Locks stay. Raises `NoMark`."""
-        self._plain(calls.back)
+        self._read = None
+        self._plain(self._calls.back)
+        self._marks -= 1
 
     @overload
     def get(self, key: Text) -> Optional[bytes]: ...
@@ -284,92 +319,42 @@ class Transaction(_Unique):
             self._store._stay()
         text = key if type(key) is bytes else bytes_of(key)
         value = Value()
-        status = calls.get(self._at, self._tx, text, SIZES[len(text)], value, None)
+        status = self._calls.get(self._at, self._tx, text, SIZES[len(text)], value, None)
         if status > _ABSENT:
-            status = self._ask(calls.get, Number(), text, SIZES[len(text)], value)
+            status = self._ask(self._calls.get, Number(), text, SIZES[len(text)], value)
         if status:
             return default
         return text_of(value)
-
-    @overload
-    def __getitem__(self, key: Text) -> bytes: ...
-
-    @overload
-    def __getitem__(self, key: slice) -> list[Record]: ...
-
-    def __getitem__(self, key: Union[Text, slice]) -> Union[bytes, list[Record]]:
-        """The value under the key, which has one, or else `Absent` is raised. `tx[lo:hi]` is a list of the records from `lo` on
-        and below `hi`; either may be missing."""
-        if isinstance(key, slice):
-            return self._between(key)
-        value = self.get(key)
-        if value is None:
-            raise Absent(bytes_of(key))
-        return value
-
-    def __contains__(self, key: Text) -> bool:
-        return self.get(key) is not None
 
     def __setitem__(self, key: Text, value: Text) -> None:
         """Sets the value under the key, whether it has one or not."""
         text = key if type(key) is bytes else bytes_of(key)
         new = value if type(value) is bytes else bytes_of(value)
-        if self._write(calls.replace, text, new):
-            self._write(calls.insert, text, new)
+        if self._write(self._calls.replace, text, new):
+            self._write(self._calls.insert, text, new)
 
     def __delitem__(self, key: Text) -> None:
         """Takes the record away. Raises `Absent` where there is none."""
         self._stay()
+        self._read = None
         text = bytes_of(key)
-        status = calls.delete(self._at, self._tx, text, SIZES[len(text)], None)
+        status = self._calls.delete(self._at, self._tx, text, SIZES[len(text)], None)
         if status > _ABSENT:
-            status = self._ask(calls.delete, Number(), text, SIZES[len(text)])
+            status = self._ask(self._calls.delete, Number(), text, SIZES[len(text)])
         if status:
             raise Absent(text)
 
     def insert(self, key: Text, value: Text) -> None:
         """Adds a record. Raises `Exists` where the key has one."""
         text = key if type(key) is bytes else bytes_of(key)
-        if self._write(calls.insert, text, value if type(value) is bytes else bytes_of(value)):
+        if self._write(self._calls.insert, text, value if type(value) is bytes else bytes_of(value)):
             raise Exists(text)
 
     def replace(self, key: Text, value: Text) -> None:
         """Gives a record another value. Raises `Absent` where there is none."""
         text = key if type(key) is bytes else bytes_of(key)
-        if self._write(calls.replace, text, value if type(value) is bytes else bytes_of(value)):
+        if self._write(self._calls.replace, text, value if type(value) is bytes else bytes_of(value)):
             raise Absent(text)
-
-    def setdefault(self, key: Text, default: Text) -> bytes:
-        """The value under the key, which is set to `default` first where there is none."""
-        text, new = bytes_of(key), bytes_of(default)
-        value = self.get(text)
-        if value is None:
-            self.insert(text, new)
-        return new if value is None else value
-
-    @overload
-    def pop(self, key: Text) -> bytes: ...
-
-    @overload
-    def pop(self, key: Text, default: Default) -> Union[bytes, Default]: ...
-
-    def pop(self, key: Text, default: Any = _REQUIRED) -> Any:
-        """Takes the record away and answers its value, or `default` where there is none; without one `Absent` is raised."""
-        text = bytes_of(key)
-        value = self.get(text)
-        if value is not None:
-            del self[text]
-            return value
-        if default is _REQUIRED:
-            raise Absent(text)
-        return default
-
-    def update(self, records: Records = (), /, **named: Text) -> None:
-        """Sets the value under each key of a mapping, or of pairs, and of the arguments that are named. Each is a write, and
-        locks its key: `lock` and `load` serve many."""
-        pairs = records.items() if isinstance(records, Mapping) else records
-        for key, value in itertools.chain(pairs, named.items()):
-            self[key] = value
 
     def load(self, records: Records, run: int = RUN) -> int:
         """Adds the records of a mapping, or pairs, in any order, cut into runs of at most `run` records, each sorted and added
@@ -398,9 +383,10 @@ class Transaction(_Unique):
             return 0
         if number > _LOCKED_RUNS * RUN:
             self.lock(b"", GREATEST, exclusive=True)
+        self._read = None
         found, loaded = Key(), Number()
         try:
-            status = self._ask(calls.load_structs, Number(), room, ctypes.c_size_t(number), layout, found, loaded)
+            status = self._ask(self._calls.load_structs, Number(), room, ctypes.c_size_t(number), layout, found, loaded)
         except Twice:
             raise Twice(text_of(found)) from None
         if status:
@@ -412,31 +398,13 @@ class Transaction(_Unique):
         and twice as many each time after. Each time locks the range from the next key to `hi`."""
         return self._rows(Page.records, lo, hi, page)
 
-    def items(self, lo: Text = b"", hi: Text = GREATEST) -> Iterator[Record]:
-        """The records of `scan`. `dict(tx.items())` is one scan, where `dict(tx)` would read each record by itself."""
-        return self._rows(Page.records, lo, hi)
-
-    def keys(self, lo: Text = b"", hi: Text = GREATEST) -> Iterator[bytes]:
-        """The keys of `scan`."""
-        return self._rows(Page.keys, lo, hi)
-
     def values(self, lo: Text = b"", hi: Text = GREATEST) -> Iterator[bytes]:
         """The values of `scan`."""
         return self._rows(Page.values, lo, hi)
 
-    def __iter__(self) -> Iterator[bytes]:
-        return self.keys()
-
     def count(self, lo: Text = b"", hi: Text = GREATEST) -> int:
         """How many records there are from `lo` to `hi`, both included. All are read to be counted."""
         return sum(self._rows(lambda _, count: [count], lo, hi, MAX_PAGE))
-
-    def __len__(self) -> int:
-        return self.count()
-
-    def __bool__(self) -> bool:
-        # (not by `__len__`, which reads and locks all)
-        return True
 
     def lock(self, lo: Text, hi: Optional[Text] = None, exclusive: bool = False) -> None:
         """Locks the range from `lo` to `hi`, or one key: to read it, or to write it where the lock is exclusive."""
@@ -444,7 +412,7 @@ class Transaction(_Unique):
         low = bytes_of(lo)
         high = low if hi is None else bytes_of(hi)
         mode = ctypes.c_uint(bool(exclusive))
-        self._ask(calls.lock, Number(), mode, low, SIZES[len(low)], high, SIZES[len(high)])
+        self._ask(self._calls.lock, Number(), mode, low, SIZES[len(low)], high, SIZES[len(high)])
 
     def _stay(self) -> None:
         if self._thread != get_ident():
@@ -452,7 +420,7 @@ class Transaction(_Unique):
 
     def _over(self) -> None:
         self._is_over = True
-        self._store._active -= 1
+        self._store._begun.pop(id(self._tx), None)
 
     def _plain(self, call: Call) -> None:
         """A call that speaks of the transaction alone."""
@@ -464,13 +432,14 @@ class Transaction(_Unique):
         """The status of a write: OK, ABSENT or EXISTS."""
         if self._thread != get_ident():
             self._store._stay()
+        self._read = None
         status = call(self._at, self._tx, key, SIZES[len(key)], value, SIZES[len(value)], None)
         return self._ask(call, Number(), key, SIZES[len(key)], value, SIZES[len(value)]) if status > _EXISTS else status
 
     def _ask(self, call: Call, told: ctypes.Array[ctypes.c_uint64], *words: Any) -> int:
         """A call with room for the number that it tells. Reads and writes are made without at first, and made again so where
         they are refused, which changed nothing. Answers OK, ABSENT or EXISTS."""
-        if self._store._dropped:
+        if self._store._begun:
             self._store._abort_dropped()
         status = call(self._at, self._tx, *words, told)
         if status > _EXISTS:
@@ -496,9 +465,10 @@ class Transaction(_Unique):
             return 0
         if plain.count(b"\n") >= _LOCKED_RUNS * RUN:
             self.lock(b"", GREATEST, exclusive=True)
+        self._read = None
         key, line, loaded = Key(), Number(), Number()
         try:
-            status = self._ask(calls.load_text, Number(), plain, SIZES[len(plain)], key, line, loaded)
+            status = self._ask(self._calls.load_text, Number(), plain, SIZES[len(plain)], key, line, loaded)
         except Twice:
             raise double_line(io.BytesIO(text), text_of(key)) or Twice(text_of(key)) from None
         except Bad as error:
@@ -508,10 +478,11 @@ class Transaction(_Unique):
         return loaded[0]
 
     def _load(self, records: list[Record]) -> None:
+        self._read = None
         rows, exists = packed(records), Key()
         room = (ctypes.c_char * len(rows)).from_buffer(rows)
         try:
-            status = self._ask(calls.load, Number(), room, ctypes.c_size_t(len(records)), exists)
+            status = self._ask(self._calls.load, Number(), room, ctypes.c_size_t(len(records)), exists)
         except NotRising:
             raise NotRising(first_double(records)) from None
         if status:
@@ -519,35 +490,39 @@ class Transaction(_Unique):
 
     def _rows(self, rows_of: Callable[[Page, int], list[Row]], lo: Text, hi: Text, page: int = 100) -> Iterator[Row]:
         """What is made of each page of the records from `lo` to `hi`."""
+        return itertools.chain.from_iterable(self._made_pages(rows_of, lo, hi, page))
+
+    def _record_pages(self, lo: Text, hi: Text) -> Iterator[list[Record]]:
+        return self._made_pages(Page.records, lo, hi, 100)
+
+    def _key_pages(self, lo: bytes) -> Iterator[list[bytes]]:
+        return self._made_pages(Page.keys, lo, GREATEST, 100)
+
+    def _made_pages(self, made: Callable[[Page, int], Made], lo: Text, hi: Text, page: int) -> Iterator[Made]:
         self._store._use()
         low, high = range_of(lo, hi)
         if low > high:
             raise bad_range(low, high)
         if not 1 <= index(page) <= MAX_PAGE:
             raise bad_limit(MAX_PAGE, page)
-        return itertools.chain.from_iterable(self._pages(rows_of, low, high, page))
+        return self._pages(made, low, high, page)
 
     def _pages(self, made: Callable[[Page, int], Made], low: bytes, high: bytes, size: int) -> Iterator[Made]:
-        told, call = Number(), calls.scan
+        told, call = Number(), self._calls.scan
         while True:
             page = Page(size)
             self._stay()
             self._ask(call, told, low, SIZES[len(low)], high, SIZES[len(high)], page.room, ctypes.c_size_t(size))
             count = told[0]
             if count:
-                low, call = page.last_key(count), calls.scan_behind
+                low, call = page.last_key(count), self._calls.scan_behind
             yield made(page, count)
             if count < size:
                 return
             size = min(2 * size, MAX_PAGE)
 
-    def _between(self, asked: slice) -> list[Record]:
-        """The records of a slice."""
-        if asked.step is not None:
-            raise TypeError("a slice of keys has no step")
-        low, end = range_of(b"" if asked.start is None else asked.start, GREATEST if asked.stop is None else asked.stop)
-        high = GREATEST if asked.stop is None else below(end) if end else b""
-        return [] if asked.stop is not None and end <= low else list(self._rows(Page.records, low, high, MAX_PAGE))
+    def _from_below(self, low: bytes, end: bytes) -> list[Record]:
+        return list(self._rows(Page.records, low, below(end) if end else b"", MAX_PAGE))
 
 
 def _run(run: int) -> int:

@@ -44,12 +44,12 @@ class Status(IntEnum):
     BAD_LINE = 25
 
 
-# How many of what there may be, by the status that says that there are as many.
+# How many of what there may be, by the status that says that there are as many, and what to do then.
 _LIMITS = {
-    Status.TOO_MANY_TX: (64, "transactions that are active at once"),
-    Status.TOO_MANY_LOCKS: (256, "locks of a transaction"),
-    Status.TOO_MANY_OPS: (4096, "operations of a transaction"),
-    Status.TOO_MANY_RUNS: (65535, "loads of a store"),
+    Status.TOO_MANY_TX: (64, "transactions that are active at once", "commit or abort one"),
+    Status.TOO_MANY_LOCKS: (256, "locks of a transaction", "tx.lock(lo, hi) first locks a range as one, tx.lock(lo, hi, exclusive=True) to write"),
+    Status.TOO_MANY_OPS: (4096, "operations of a transaction", "tx.load adds many records, and tx.scan reads many, as one; or commit, and go on in another"),
+    Status.TOO_MANY_RUNS: (65535, "loads of a store", "larger ones are fewer, and tx[key] = value is none"),
 }
 
 
@@ -144,15 +144,15 @@ class NoMark(Error):
 
 
 class TooMany(Error):
-    """A store or a transaction holds as many of something as it may: `limit` of `what`."""
+    """A store or a transaction holds as many of something as it may: `limit` of `what`. The text says what to do."""
 
     def __init__(self, status: Status) -> None:
         super().__init__(status)
         self.status = status
-        self.limit, self.what = _LIMITS[status]
+        self.limit, self.what, self._advice = _LIMITS[status]
 
     def _text(self) -> str:
-        return f"there are {self.limit} {self.what}, and may be no more"
+        return f"there are {self.limit} {self.what}, and may be no more: {self._advice}"
 
 
 class NotRising(Error):
@@ -223,6 +223,33 @@ class OutOfMemory(Error, MemoryError):
         return "memory was refused"
 
 
+class Refused(Error):
+    """A server or a replica answered otherwise than it has to for what was asked: `answer`."""
+
+    def __init__(self, answer: str) -> None:
+        super().__init__(answer)
+        self.answer = answer
+
+    def _text(self) -> str:
+        return f"the answer was {self.answer}"
+
+
+class Conflict(Refused):
+    """A replica's transaction met another one, which came between. It can't go on."""
+
+
+class Unreachable(Refused):
+    """A replica doesn't reach its cluster. The transaction did nothing."""
+
+
+class Unknown(Refused):
+    """The transaction's end was asked for, and isn't known: it may stand, or come to stand yet."""
+
+
+class Held(Refused):
+    """A server's other session holds it."""
+
+
 class WrongThread(Error, RuntimeError):
     """The store belongs to another thread, which opened it: `opener` and `user` are the two, as `threading.get_ident` has
     them. The library wasn't asked."""
@@ -234,6 +261,14 @@ class WrongThread(Error, RuntimeError):
 
     def _text(self) -> str:
         return f"the store was opened by thread {self.opener}, and is used by thread {self.user}"
+
+
+def bad_text(what: str, text: bytes) -> Bad:
+    """What the protocol doesn't carry."""
+    if what == "key":
+        form = f"a key is 1 to {MAX_KEY} visible characters of ASCII, none of them ="
+        return Bad(Status.BAD_KEY, f"{form}, where a server keeps it, and not {text!r}")
+    return Bad(Status.BAD_VALUE, f"a value is 1 to {MAX_VALUE} visible characters of ASCII, where a server keeps it, and not {text!r}")
 
 
 def bad_key(length: int) -> Bad:

@@ -42,16 +42,22 @@ class Completion:
         readline.set_history_length(MOST_LINES)
         try:
             readline.read_history_file(history)
+            if readline.get_current_history_length() >= MOST_LINES:
+                # (those that lie further back are left out)
+                readline.write_history_file(history)
         except OSError:
             pass
 
     def keep(self) -> str:
-        """Keeps what was typed, or says why it can't."""
+        """Keeps the line that was typed last, or says why it can't."""
         try:
-            if readline is not None:
-                readline.write_history_file(self.history)
+            if readline is not None and self.history:
+                with open(self.history, "ab"):
+                    pass
+                readline.append_history_file(1, self.history)
         except OSError as error:
-            return f"{self.history}: {error.strerror}"
+            told, self.history = f"{self.history}: {error.strerror}", ""
+            return told
         return ""
 
     def complete(self, text: str, state: int) -> "str | None":

@@ -1,15 +1,25 @@
 """Writes the committed records of a server's store, one a line, by rising key: the key, a TAB and the value.
 
-They are read by scans of one transaction, so they are those of one moment. What is written is what amload reads:
+They are read by scans under one shared lock, so they are those of one moment, and nobody writes meanwhile. For that lock the
+server is held first, so that no writer is in its way. What is written is what amload reads:
 
     ./amdump --port 7070 | ./amload --port 7071
 
-Where standard error is a terminal it says how far it is. One transaction reads 4,091,905 records at most. Python 3.9 is
+With --escape percent signs and the two digits behind each are written as the bytes that they stand for, as amload --escape reads
+them. A record with an end of a line, or with a TAB in its key, is written with its percent signs.
+
+Where FILE is named it appears once it is whole, and until then there is FILE.part. Else the records go to standard output; a
+plain file there is emptied again where the dump fails. Where standard error is a terminal it says how far it is. Python 3.9 is
 needed."""
 
 import argparse
-from typing import Callable, Iterator, List
+import contextlib
+import os
+import stat
+from typing import Callable, Iterator, List, Optional
 
+from .escapes import unescaped_lines
+from .holding import Tries, add_holding, hold, tries_of
 from .program import Parser, Stop, add_server, run_program, write_all
 from .progress import Progress
 from .sessions import Refused, Session, with_server
@@ -19,11 +29,14 @@ EPILOG = """status:
   1  the server answered a line otherwise: what was written isn't all
   2  the words of the command line are wrong
   5  the server can't be reached, went away or didn't answer in time: what was written isn't all
-  6  standard output can't be written
+  6  standard output, or FILE, can't be written
   7  there was no memory: what was written isn't all
 An interrupt ends it by SIGINT: what was written isn't all."""
 NAME = "amdump"
+HOLD_MILLIS = 2000
+TRIES = 5
 ROWS = 1000
+MOST_SCANS = 4000
 LEAST = b"!"
 GREATEST = b"~" * 32
 
@@ -36,12 +49,12 @@ def wanted_answer(session: Session, line: bytes, wanted: bytes) -> bytes:
     return answer[len(wanted) + 1 :]
 
 
-def scans(session: Session) -> Iterator[List[bytes]]:
+def scans(session: Session, lowest: bytes = LEAST, greatest: bytes = GREATEST) -> Iterator[List[bytes]]:
     """The rows of each scan, in a transaction. Each goes on from the last row's key, which comes once more. The first one
-    locks the range of all keys, so all are of one moment."""
-    lowest, repeated = LEAST, 0
+    locks the whole range, so all are of one moment."""
+    repeated = 0
     while True:
-        number, *rows = wanted_answer(session, b"SCAN %b %b %d" % (lowest, GREATEST, ROWS), b"ROWS").split(b" ")
+        number, *rows = wanted_answer(session, b"SCAN %b %b %d" % (lowest, greatest, ROWS), b"ROWS").split(b" ")
         yield rows[repeated:]
         if number != b"%d" % ROWS:
             return
@@ -72,23 +85,165 @@ def dump(session: Session, write: Callable[[bytes], object], progress: Progress)
     return records
 
 
+def writer(escapes: bool) -> Callable[[bytes], object]:
+    """What writes lines to standard output."""
+    return (lambda text: write_all(unescaped_lines(text))) if escapes else write_all
+
+
+class Pages:
+    """Scans of a moment's records, by two sessions in turn: a transaction has 4,096 operations, and before the one ends the
+    other has the same lock, so nobody writes between them."""
+
+    def __init__(self, session: Session, other: Callable[[], Session]) -> None:
+        self.session = session
+        self.make_other = other
+        self.other: Optional[Session] = None
+
+    def begin(self) -> None:
+        """A transaction that nobody writes beside."""
+        wanted_answer(self.session, b"BEGIN", b"BEGUN")
+        self.lock()
+
+    def lock(self) -> None:
+        answer = self.session.ask(b"LOCK S %b %b" % (LEAST, GREATEST))
+        if answer != b"OK":
+            raise Refused(answer)
+
+    def turn(self) -> None:
+        """The other session goes on."""
+        before, self.session = self.session, self.other or self.make_other()
+        self.other = before
+        self.begin()
+        wanted_answer(before, b"COMMIT", b"COMMITTED")
+
+    def rows(self) -> Iterator[List[bytes]]:
+        """The rows of each scan. Each goes on from the last row's key, which comes once more."""
+        lowest, repeated, scans_left = LEAST, 0, MOST_SCANS
+        while True:
+            line = b"SCAN %b %b %d" % (lowest, GREATEST, ROWS)
+            number, *rows = wanted_answer(self.session, line, b"ROWS").split(b" ")
+            yield rows[repeated:]
+            if number != b"%d" % ROWS:
+                return
+            lowest, repeated = rows[-1].partition(b"=")[0], 1
+            scans_left -= 1
+            if not scans_left:
+                self.turn()
+                scans_left = MOST_SCANS
+
+    def end(self) -> None:
+        wanted_answer(self.session, b"COMMIT", b"COMMITTED")
+
+    def leave(self) -> None:
+        for session in (self.session, self.other):
+            if session:
+                session.leave()
+
+
+def dump_pages(pages: Pages, write: Callable[[bytes], object], progress: Progress) -> None:
+    """Writes all records that are there under the lock."""
+    records = size = 0
+    for rows in pages.rows():
+        text = text_of(rows)
+        write(text)
+        records, size = records + len(rows), size + len(text)
+        progress.show(records, size)
+    pages.end()
+
+
+class Output:
+    """Where records go: standard output, or a file that appears once it is whole."""
+
+    def __init__(self, file: str, escapes: bool) -> None:
+        self.file = file
+        self.to_standard_output = writer(escapes)
+        self.escapes = escapes
+        self.part = f"{file}.part"
+        self.descriptor = self.opened() if file else 1
+        self.begun = self.size_of_file()
+
+    def opened(self) -> int:
+        try:
+            return os.open(self.part, os.O_WRONLY | os.O_CREAT | os.O_TRUNC, 0o666)
+        except OSError as error:
+            raise Stop(6, f"{self.part}: {error.strerror}") from None
+
+    def size_of_file(self) -> Optional[int]:
+        """What stands in a plain file before the records."""
+        with contextlib.suppress(OSError):
+            status = os.fstat(self.descriptor)
+            return status.st_size if stat.S_ISREG(status.st_mode) else None
+        return None
+
+    def write(self, data: bytes) -> None:
+        if not self.file:
+            self.to_standard_output(data)
+            return
+        rest = memoryview(unescaped_lines(data) if self.escapes else data)
+        try:
+            while rest:
+                rest = rest[os.write(self.descriptor, rest) :]
+        except OSError as error:
+            raise Stop(6, f"{self.part}: {error.strerror}") from None
+
+    def keep(self) -> None:
+        """All was written."""
+        if not self.file:
+            return
+        try:
+            os.close(self.descriptor)
+            os.replace(self.part, self.file)
+        except OSError as error:
+            raise Stop(6, f"{self.file}: {error.strerror}") from None
+
+    def drop(self) -> None:
+        """Not all was: nothing stays that looks like it."""
+        with contextlib.suppress(OSError):
+            if self.begun is not None:
+                os.ftruncate(self.descriptor, self.begun)
+            if self.file:
+                os.unlink(self.part)
+
+
+def begin_held(pages: Pages, millis: int) -> None:
+    """Begins once no other has a transaction, so that no lock is in the way. The hold ends after so long at most; others that
+    only read go on then."""
+    hold(pages.session, millis)
+    pages.begin()
+
+
+def dump_all(pages: Pages, output: Output, progress: Progress, millis: int, tries: Tries) -> None:
+    """Writes all records, or says why not."""
+    try:
+        tries.until_done(lambda: begin_held(pages, millis), pages.session.abort)
+        dump_pages(pages, output.write, progress)
+    except Refused as refused:
+        raise Stop(1, f"{refused}{tries.told()}: not all records were read") from None
+    output.keep()
+
+
 def words() -> argparse.Namespace:
     parser = Parser(NAME, __doc__, EPILOG)
+    parser.add_argument("--escape", action="store_true", help="write what percent signs stand for")
     add_server(parser, is_needed=True)
+    add_holding(parser, HOLD_MILLIS, TRIES)
+    parser.add_argument("file", nargs="?", default="", metavar="FILE", help="where the records go (default: standard output)")
     return parser.parse_args()
 
 
 def main() -> int:
     given = words()
     progress = Progress(NAME)
-    session = with_server(given.port, given.wait)
+    pages = Pages(with_server(given.port, given.wait), lambda: with_server(given.port, given.wait))
+    output = Output(given.file, given.escape)
     try:
-        dump(session, write_all, progress)
-    except Refused as refused:
-        raise Stop(1, f"{refused}: not all records were read") from None
+        dump_all(pages, output, progress, given.hold, tries_of(given))
+    except BaseException:
+        output.drop()
+        raise
     finally:
         progress.end()
-    session.leave()
+    pages.leave()
     return 0
 
 

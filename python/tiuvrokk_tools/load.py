@@ -6,16 +6,25 @@ there, and the transaction is committed only where every line was answered OK; e
 
     (./amload data.tsv; cat queries) | ./amserve alone
 
+With --port it holds the server first: nobody else begins meanwhile, so no lock is in the way of the load, and readers wait as
+long as it takes. Where another holds, or a transaction doesn't end in time, it tries again.
+
 A key is 1 to 32 visible characters of ASCII, none of them =, a value 1 to 64. The first line that is no record is told with
 its number, its text, why it is none, and how many more there are; so is a key that stands twice. Then nothing is sent. An
-empty last line is passed over. Where standard error is a terminal it says how far the load is. Python 3.9 is needed."""
+empty last line is passed over. With --escape other bytes are carried by percent signs, as %20 for a blank; --skip passes over
+what doesn't fit, and says how many lines those were, and why. What is sent waits in a file without a name until all was read,
+where the environment's TMPDIR says. Where standard error is a terminal it says how far the load is. Python 3.9 is needed."""
 
 import argparse
 import gc
+import itertools
+from typing import Iterable, Iterator, Tuple
 
-from .program import Parser, Stop, add_server, numbers, read_file, run_program, say, write_all
+from .holding import Tries, add_holding, hold, tries_of
+from .pieces import Pieces, Reading
+from .program import Parser, Stop, add_server, numbers, run_program, say, write_all
 from .progress import Progress
-from .records import MAX_RUN, Runs, parsed
+from .records import MAX_KEY, MAX_RUN, MAX_VALUE
 from .sessions import Refused, Session, with_server
 
 EPILOG = """status:
@@ -30,9 +39,11 @@ EPILOG = """status:
   7  there was no memory: nothing was loaded
 An interrupt ends it by SIGINT: nothing was loaded, unless it says otherwise."""
 NAME = "amload"
+HOLD_MILLIS = 2000
+TRIES = 5
 
 
-def write(runs: Runs, progress: Progress) -> None:
+def write(runs: Pieces, progress: Progress) -> None:
     """Writes the transaction's lines."""
     write_all(b"BEGIN\n" + runs.lock())
     size = 0
@@ -51,7 +62,7 @@ def hear(session: Session, left: int) -> None:
             raise Refused(answer)
 
 
-def load_runs(session: Session, begin: bytes, runs: Runs, progress: Progress) -> None:
+def load_runs(session: Session, begin: bytes, runs: Iterable[Tuple[int, bytes]], progress: Progress) -> None:
     """Has the lines of all runs answered, behind some that begin. One run is sent ahead of the answers."""
     session.send(begin)
     size = 0
@@ -63,9 +74,14 @@ def load_runs(session: Session, begin: bytes, runs: Runs, progress: Progress) ->
     hear(session, 0)
 
 
-def load(session: Session, runs: Runs, progress: Progress) -> None:
+def load(session: Session, runs: Pieces, progress: Progress) -> None:
     """Has the transaction's lines answered; COMMIT goes out once all others are."""
     load_runs(session, b"BEGIN\n" + runs.lock(), runs, progress)
+    commit(session)
+
+
+def commit(session: Session) -> None:
+    """Has COMMIT answered."""
     try:
         session.send(b"COMMIT\n")
         hear(session, 0)
@@ -73,13 +89,34 @@ def load(session: Session, runs: Runs, progress: Progress) -> None:
         raise KeyboardInterrupt("interrupted behind COMMIT: it isn't known whether it was committed") from None
 
 
-def bring(session: Session, runs: Runs, progress: Progress) -> None:
+def prepared(runs: Pieces) -> Iterator[Tuple[int, bytes]]:
+    """The lines of all runs, the first of which are made."""
+    made = iter(runs)
+    return itertools.chain([next(made)], made)
+
+
+def held_load(session: Session, runs: Pieces, progress: Progress, millis: int) -> None:
+    """Loads all while nobody else begins. What can be made before is. All keys are locked at once, so that nobody is in the
+    way either where the load takes longer than the hold."""
+    if not millis:
+        load(session, runs, progress)
+        return
+    begin, pieces = b"BEGIN\n" + runs.whole_lock(), prepared(runs)
+    hold(session, millis)
+    load_runs(session, begin, pieces, progress)
+    commit(session)
+
+
+def bring(session: Session, runs: Pieces, progress: Progress, millis: int, tries: Tries) -> None:
     """Loads all, or nothing."""
     try:
-        load(session, runs, progress)
+        tries.until_done(lambda: held_load(session, runs, progress, millis), session.abort)
     except Refused as refused:
         session.leave()
-        raise Stop(1, f"{refused}: nothing was loaded") from None
+        raise Stop(1, f"{refused}{tries.told()}: nothing was loaded") from None
+    if tries.done > 1:
+        progress.end()
+        say(f"amload: loaded{tries.told()}")
 
 
 def words() -> argparse.Namespace:
@@ -87,26 +124,46 @@ def words() -> argparse.Namespace:
     run = f"records of a run, 1 to {MAX_RUN} (default: {MAX_RUN})"
     parser.add_argument("--run", type=numbers(1, MAX_RUN), default=MAX_RUN, metavar="N", help=run)
     parser.add_argument("--skip-empty", action="store_true", help="pass over empty lines")
+    parser.add_argument("--skip", action="store_true", help="pass over lines that are no record, or have a key that was there, and say how many and why")
+    parser.add_argument("--escape", action="store_true", help="carry blanks and all other bytes by percent signs")
+    parser.add_argument("--key-bytes", type=numbers(1, MAX_KEY), default=0, metavar="N", help="cut keys at so many bytes")
+    parser.add_argument("--value-bytes", type=numbers(1, MAX_VALUE), default=0, metavar="N", help="cut values at so many bytes")
     add_server(parser, is_needed=False)
+    add_holding(parser, HOLD_MILLIS, TRIES)
     parser.add_argument("file", nargs="?", default="-", metavar="FILE", help="the records (default: standard input)")
     return parser.parse_args()
+
+
+def read(file: str, reading: Reading) -> Pieces:
+    """Reads all records, and says how far that is."""
+    progress = Progress(f"{NAME}: reading")
+
+    def show(records: int, size: int, whole: int) -> None:
+        progress.whole = whole
+        progress.show(records, size)
+
+    try:
+        return Pieces(file, reading, show)
+    finally:
+        progress.end()
 
 
 def main() -> int:
     asked = words()
     # What is made lives until the end, so a search for what can go finds nothing.
     gc.disable()
-    records = parsed(read_file(asked.file), asked.skip_empty)
-    if not records:
+    runs = read(asked.file, Reading(asked.run, asked.skip_empty, asked.skip, asked.escape, asked.key_bytes, asked.value_bytes))
+    if told := runs.told_faults():
+        say(f"amload: {told}")
+    if not runs.records():
         say("amload: no records")
         return 0
-    runs = Runs(records, asked.run)
-    progress = Progress(NAME, len(records), runs.size())
+    progress = Progress(NAME, runs.records(), runs.size())
     try:
         if asked.port is None:
             write(runs, progress)
         else:
-            bring(with_server(asked.port, asked.wait), runs, progress)
+            bring(with_server(asked.port, asked.wait), runs, progress, asked.hold, tries_of(asked))
     finally:
         progress.end()
     return 0

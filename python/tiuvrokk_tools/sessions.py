@@ -25,6 +25,7 @@ class Refused(Exception):
 
     def __init__(self, answer: bytes) -> None:
         super().__init__(f"answered {shown(answer)}")
+        self.answer = answer
 
 
 class Session:
@@ -66,6 +67,11 @@ class Session:
         """Passes over the answers to lines that were sent ahead."""
         while self.unheard:
             self.hear()
+
+    def abort(self) -> None:
+        """Ends a transaction that is active, behind the lines that were sent ahead."""
+        self.hear_all()
+        self.ask(b"ABORT")
 
     def leave(self) -> None:
         """Ends the session, unless the other side has. Its transaction is over once that is answered, behind the lines that

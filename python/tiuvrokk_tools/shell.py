@@ -5,15 +5,21 @@ LOAD outside a transaction are one each. Rows are shown as a table. Beside them:
 
     .load FILE    loads records, as amload reads them      .raw on|off   answers as the store's lines
     .dump FILE    writes all records, as amdump does       .time on|off  how long each answer took
-    .read FILE    reads lines from a file                  .quit         ends, as QUIT and the end of the input do
+    .read FILE    reads lines from a file                  .escape on|off  any bytes by percent signs, as --escape does
+    .count LO HI  counts records, or all                   .stats        the session's number, and the commits so far
+    .help VERB    tells a line or a command                .quit         ends, as QUIT, EXIT and the end of the input do
+
+With --escape what is typed may be any text: what has blanks stands between quotes, and percent signs carry it.
 
 At a terminal the prompt has the number of the active transaction, a TAB completes verbs and the keys that were seen, and what
-was typed is kept in a file. Elsewhere lines are read with no prompt. An interrupt drops the line that is typed, and ends a
-.load or a .dump; a second one ends all. Python 3.9 is needed."""
+was typed is kept in a file, line by line. A store that goes away is told of by the prompt, and the next line connects again.
+Elsewhere lines are read with no prompt, and one that has none of the forms is told with its number. An interrupt drops the line
+that is typed, and ends a .load or a .dump; a second one ends all. Python 3.9 is needed."""
 
 import argparse
 import contextlib
 import io
+import itertools
 import os
 import signal
 import sys
@@ -22,17 +28,19 @@ from typing import Callable, Dict, Iterator, List, Optional
 
 from . import TOP
 from .completion import Completion
-from .dump import dump, dump_rows
+from .dump import dump, dump_rows, scans, writer
+from .escapes import unescaped, unescaped_lines
 from .load import load, load_runs
-from .program import CLOSED, Parser, Stop, add_server, read_file, run_program, say, write_all
+from .pieces import Pieces, Reading
+from .program import CLOSED, Parser, Stop, add_server, read_file, run_program, say, visible, write_all
 from .progress import Progress
-from .records import MAX_RUN, Runs, parsed
 from .sessions import Refused, Session, shown, with_program, with_server
-from .verbs import ALONE, VERBS, help_of, help_of_all
+from .typed import spelled, words_of
+from .verbs import ALONE, VERBS, fault_of_line, help_of, help_of_all
 
 EPILOG = """status:
   0  the input was read to its end
-  1  with --strict: an answer was BUSY or ERR, or a command failed
+  1  a line of a pipe or of a file has none of the forms; with --strict also: an answer was BUSY or ERR, or a command failed
   2  the words of the command line are wrong
   5  the store can't be reached, went away or didn't answer in time
   6  standard output can't be written
@@ -54,9 +62,17 @@ class ShellProgress(Progress):
             raise Stop(1, "interrupted")
 
 
-def table(rows: List[bytes]) -> str:
+def text_of(text: bytes, escapes: bool) -> str:
+    """A key or a value as it is shown."""
+    if not escapes or b"%" not in text:
+        return shown(text)
+    return "".join(it if it.isprintable() else visible(it.encode()) for it in unescaped(text).decode("utf-8", "backslashreplace"))
+
+
+def table(rows: List[bytes], escapes: bool = False) -> str:
     """Rows as a table."""
-    records = [("key", "value"), *(tuple(shown(row).partition("=")[::2]) for row in rows)]
+    parted = [row.partition(b"=")[::2] for row in rows]
+    records = [("key", "value"), *((text_of(key, escapes), text_of(value, escapes)) for key, value in parted)]
     width = max(len(key) for key, _ in records)
     lines = [f"{key:{width}}  {value}" for key, value in records]
     number = len(rows)
@@ -66,22 +82,29 @@ def table(rows: List[bytes]) -> str:
 class Shell:
     """A session, and how its answers are shown."""
 
-    def __init__(self, session: Session, is_raw: bool) -> None:
-        self.session = session
+    def __init__(self, connect: Callable[[], Session], is_raw: bool, escapes: bool = False) -> None:
+        self.connect = connect
+        self.session = connect()
+        self.is_connected = True
         self.is_raw = is_raw
+        self.escapes = escapes
         self.is_timed = False
         self.transaction: Optional[str] = None
         self.has_failed = False
+        self.has_bad_line = False
         self.has_ended = False
         self.is_interrupted = False
+        self.place = ""
         self.files = 0
         self.completion = Completion()
         self.commands: Dict[str, Callable[[str], None]] = {
-            ".load": self.load, ".dump": self.dump, ".read": self.read, ".raw": self.set_raw, ".time": self.set_time,
-            ".help": self.help, ".quit": self.quit,
+            ".load": self.load, ".dump": self.dump, ".read": self.read, ".count": self.count, ".stats": self.stats, ".raw": self.set_raw,
+            ".escape": self.set_escape, ".time": self.set_time, ".help": self.help, ".quit": self.quit, ".exit": self.quit,
         }
 
     def prompt(self) -> str:
+        if not self.is_connected:
+            return "not connected> "
         return f"tiuvrokk {self.transaction}> " if self.transaction else "tiuvrokk> "
 
     def do(self, line: str) -> None:
@@ -89,29 +112,43 @@ class Shell:
         word, _, rest = line.strip().partition(" ")
         if not word or word.startswith("#"):
             return
-        command = self.help if word.upper() == "HELP" else self.commands.get(word.lower())
         begun = time.monotonic()
         try:
             with self.interrupts_noted():
-                if command:
-                    command(rest.strip())
-                elif word.startswith("."):
-                    raise Stop(2, f"{word} is no command: .help lists them")
-                else:
-                    self.show(self.answer(self.spelled(line)))
+                self.do_words(line, word, rest.strip())
         except Stop as stop:
             if stop.status >= 5:
+                self.is_connected, self.transaction = False, None
                 raise
+            self.has_bad_line |= stop.status == 2
             self.fail(str(stop))
         if self.is_timed:
             write_all(f"{(time.monotonic() - begun) * 1000:.1f} ms\n".encode())
 
+    def do_words(self, line: str, word: str, rest: str) -> None:
+        command = {"HELP": self.help, "EXIT": self.quit}.get(word.upper(), self.commands.get(word.lower()))
+        if not self.is_connected and command not in (self.help, self.quit):
+            self.session = self.connect()
+            self.is_connected = True
+        if command:
+            command(rest)
+        elif word.startswith("."):
+            raise Stop(2, f"{word} is no command: .help lists them")
+        else:
+            asked = self.spelled(line)
+            answer = self.answer(asked)
+            self.show(answer)
+            if answer in (b"ERR SYNTAX", b"ERR RANGE", b"ERR LONG", b"ERR LIMIT"):
+                raise Stop(2, fault_of_line(asked.decode("utf-8", "surrogateescape")))
+
     def fail(self, text: str) -> None:
         self.has_failed = True
-        say(f"{NAME}: {text}")
+        say(f"{NAME}: {self.place}{text}")
 
     def spelled(self, line: str) -> bytes:
         """The line as the protocol has it: its verb in upper case, and so the mode of a lock."""
+        if self.escapes:
+            line = spelled(line.rstrip("\r\n"))
         verb, *rest = line.rstrip("\r\n").strip(" ").split(" ")
         verb = verb.upper()
         if verb == "LOCK" and rest:
@@ -147,14 +184,18 @@ class Shell:
         """Shows an answer."""
         self.has_failed |= answer.startswith((b"ERR ", b"BUSY "))
         word, *rest = answer.split(b" ")
-        text = table(rest[1:]) if word == b"ROWS" and not self.is_raw else shown(answer)
-        write_all(f"{text}\n".encode())
+        text = shown(answer)
+        if word == b"ROWS" and not self.is_raw:
+            text = table(rest[1:], self.escapes)
+        elif word == b"VAL" and not self.is_raw:
+            text = f"VAL {text_of(answer[4:], self.escapes)}"
+        write_all(f"{text}\n".encode("utf-8", "backslashreplace"))
 
     def load(self, file: str) -> None:
         """Loads a file by a transaction of its own, where none is active."""
-        records = parsed(read_file(self.named(file)))
-        runs = Runs(records, MAX_RUN)
-        progress = ShellProgress(self, len(records), runs.size())
+        runs = self.read_records(self.named(file))
+        records = runs.records()
+        progress = ShellProgress(self, records, runs.size())
         try:
             if self.transaction:
                 load_runs(self.session, runs.lock(), runs, progress)
@@ -169,14 +210,31 @@ class Shell:
             raise Stop(1, f"{refused}: {kept}") from None
         finally:
             progress.end()
-        write_all(b"loaded %d\n" % len(records))
+        write_all(b"loaded %d\n" % records)
+
+    def read_records(self, name: str) -> Pieces:
+        """The records of a file; an interrupt is seen between two of its pieces."""
+        progress = ShellProgress(self)
+
+        def show(records: int, size: int, whole: int) -> None:
+            progress.whole = whole
+            progress.show(records, size)
+
+        try:
+            return Pieces(name, Reading(escapes=self.escapes), show)
+        finally:
+            progress.end()
 
     def dump(self, file: str) -> None:
         """Writes all records to a file, by a transaction of its own, where none is active."""
         name, progress = self.named(file), ShellProgress(self)
+        make = dump_rows if self.transaction else dump
         try:
+            if name == "-":
+                make(self.session, writer(self.escapes), progress)
+                return
             with open(name, "wb") as opened:
-                number = (dump_rows if self.transaction else dump)(self.session, opened.write, progress)
+                number = make(self.session, lambda text: opened.write(unescaped_lines(text) if self.escapes else text), progress)
         except OSError as error:
             self.abort_own()
             raise Stop(4, f"{name}: {error.strerror}") from None
@@ -200,11 +258,46 @@ class Shell:
         if self.files == MOST_FILES:
             raise Stop(2, f"{file}: {MOST_FILES} files are being read already")
         self.files += 1
-        for line in text.split("\n"):
-            if self.has_ended or self.is_interrupted:
-                break
-            self.do(line)
-        self.files -= 1
+        before = self.place
+        try:
+            for number, line in enumerate(text.split("\n"), 1):
+                if self.has_ended or self.is_interrupted:
+                    break
+                self.place = f"{file}: line {number}: "
+                self.do(line)
+        finally:
+            self.files -= 1
+            self.place = before
+
+    def count(self, words: str) -> None:
+        """Counts the records, or those of a range, by a transaction of its own, where none is active."""
+        is_one = len(words_of(words)) == 1 if self.escapes else " " not in words
+        lines = [self.spelled(f"LOCK S {words} {words}" if is_one else f"LOCK S {words}")] if words else []
+        try:
+            if not self.transaction:
+                self.wanted(b"BEGIN")
+            for line in lines:
+                self.wanted(line)
+            ends = lines[0].split(b" ")[2:] if lines else [b"!", b"~" * 32]
+            number = sum(map(len, scans(self.session, *ends)))
+            if not self.transaction:
+                self.wanted(b"COMMIT")
+        except Refused as refused:
+            self.abort_own()
+            raise Stop(1, f"{refused}: not all records were counted") from None
+        write_all(b"%d\n" % number)
+
+    def wanted(self, line: bytes) -> None:
+        """Asks a line, and goes on where it is done."""
+        answer = self.session.ask(line)
+        if not answer.startswith((b"BEGUN ", b"OK", b"COMMITTED ")):
+            raise Refused(answer)
+
+    def stats(self, _: str) -> None:
+        """What the session sees."""
+        _, number, commits = shown(self.session.ask(b"SEEN")).split(" ")
+        active = f"transaction {self.transaction}" if self.transaction else "no transaction"
+        write_all(f"session {number}, {commits} commits, {active} active\n".encode())
 
     def named(self, file: str) -> str:
         if not file:
@@ -213,6 +306,9 @@ class Shell:
 
     def set_raw(self, word: str) -> None:
         self.is_raw = self.switched(word, self.is_raw)
+
+    def set_escape(self, word: str) -> None:
+        self.escapes = self.switched(word, self.escapes)
 
     def set_time(self, word: str) -> None:
         self.is_timed = self.switched(word, self.is_timed)
@@ -224,7 +320,7 @@ class Shell:
         return word == "on" if word else not was
 
     def help(self, verb: str) -> None:
-        text = help_of(verb.upper()) if verb else help_of_all()
+        text = help_of(verb) if verb else help_of_all()
         if not text:
             raise Stop(2, f"{verb} is no verb: HELP lists them")
         write_all(f"{text}\n".encode())
@@ -254,7 +350,7 @@ class Shell:
 
 def from_terminal(shell: Shell, history: str) -> None:
     """Lines that are typed."""
-    shell.completion.begin([*VERBS, "HELP", *shell.commands], history)
+    shell.completion.begin([*VERBS, "HELP", "EXIT", *shell.commands], history)
     if isinstance(sys.stdin, io.TextIOWrapper):
         sys.stdin.reconfigure(errors="surrogateescape")
     while not shell.has_ended:
@@ -266,20 +362,26 @@ def from_terminal(shell: Shell, history: str) -> None:
         except EOFError:
             write_all(b"\n")
             break
-        shell.do(line)
-    fault = shell.completion.keep()
-    if fault:
-        say(f"{NAME}: {fault}")
+        fault = shell.completion.keep() if line.strip() else ""
+        if fault:
+            say(f"{NAME}: {fault}")
+        try:
+            shell.do(line)
+        except Stop as stop:
+            if stop.status != 5:
+                raise
+            shell.fail(str(stop))
 
 
 def from_lines(shell: Shell) -> None:
     """Lines of a pipe or of a file."""
     if CLOSED[0]:
         return
-    while not shell.has_ended:
+    for number in itertools.count(1):
         line = sys.stdin.buffer.readline()
-        if not line:
+        if not line or shell.has_ended:
             break
+        shell.place = f"line {number}: "
         shell.do(line.decode("utf-8", "surrogateescape").rstrip("\n"))
 
 
@@ -289,6 +391,7 @@ def words() -> argparse.Namespace:
     store, history = "the program of a store of its own (default: amserve)", "what was typed (default: ~/.tiuvrokk_history)"
     strict = "end with status 1 where an answer was BUSY or ERR, or a command failed"
     parser.add_argument("--store", metavar="FILE", default=os.path.join(TOP, "amserve"), help=store)
+    parser.add_argument("--escape", action="store_true", help="carry blanks and all other bytes by percent signs")
     parser.add_argument("--raw", action="store_true", help="show answers as the store's lines")
     parser.add_argument("--strict", action="store_true", help=strict)
     parser.add_argument("--history", metavar="FILE", default="~/.tiuvrokk_history", help=history)
@@ -297,14 +400,19 @@ def words() -> argparse.Namespace:
 
 def main() -> int:
     asked = words()
-    session = with_program([asked.store]) if asked.port is None else with_server(asked.port, asked.wait)
-    shell = Shell(session, asked.raw)
-    if os.isatty(0) and os.isatty(1):
+
+    def connect() -> Session:
+        return with_program([asked.store]) if asked.port is None else with_server(asked.port, asked.wait)
+
+    shell = Shell(connect, asked.raw, asked.escape)
+    is_typed = os.isatty(0) and os.isatty(1)
+    if is_typed:
         from_terminal(shell, os.path.expanduser(asked.history))
     else:
         from_lines(shell)
-    session.leave()
-    return 1 if asked.strict and shell.has_failed else 0
+    if shell.is_connected:
+        shell.session.leave()
+    return 1 if (asked.strict and shell.has_failed) or (shell.has_bad_line and not is_typed) else 0
 
 
 def start() -> None:

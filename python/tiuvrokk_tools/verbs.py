@@ -1,5 +1,8 @@
 """The lines of a session as docs/protocol.md has them in its table: the line, what it asks for, its answers."""
 
+import difflib
+import itertools
+import re
 from typing import List, Tuple
 
 ALONE = ("GET", "SCAN", "INS", "REP", "DEL", "LOAD")
@@ -32,20 +35,98 @@ TABLE: List[Tuple[str, str, str]] = [
     ),
     ("CLEAN lo hi n", "at most n deleted records' places to be freed, from 1 to 64", "CLEANED m"),
     ("SEEN", "what the session sees", "SEEN s c: its number, 0 where it is alone, and the commits so far"),
+    (
+        "HOLD n",
+        "the store to itself, for n milliseconds at most, from 1 to 60,000",
+        "OK, or ERR HELD s, s being a session that holds, or has a transaction that didn't end in so long",
+    ),
     ("QUIT", "the session's end", "BYE; bytes behind it are not answered"),
 ]
 VERBS: List[str] = [line.partition(" ")[0] for line, _, _ in TABLE]
 
 
+COMMANDS: List[Tuple[str, str]] = [
+    (".load FILE", "loads records, as amload reads them"),
+    (".dump FILE", "writes all records, as amdump does; - is standard output"),
+    (".read FILE", "reads lines from a file"),
+    (".count [LO HI]", "counts the records, or those of a range"),
+    (".stats", "tells the session's number, the commits so far, and what is active"),
+    (".raw on|off", "shows answers as the store's lines"),
+    (".escape on|off", "carries any bytes by percent signs; what has blanks is quoted"),
+    (".time on|off", "tells how long each answer took"),
+    (".help [VERB]", "lists all lines and commands, or tells one"),
+    (".quit", "ends, as QUIT, EXIT and the end of the input do"),
+]
+"""The commands of a shell."""
+WORDS = {"k": "the key", "lo": "the least key", "hi": "the greatest key", "v": "the value", "n": "the number"}
+
+
 def help_of_all() -> str:
-    """All lines, with what they ask for."""
-    width = max(len(line) for line, _, _ in TABLE)
-    lines = [f"{line:{width}}  {asks}" for line, asks, _ in TABLE]
-    more = "HELP VERB tells what it is answered; .load, .dump, .read, .raw, .time and .quit are this program's own."
-    return "\n".join([*lines, more])
+    """All lines, with what they ask for, and the shell's own commands."""
+    rows = [(line, asks) for line, asks, _ in TABLE] + COMMANDS
+    width = max(len(line) for line, _ in rows)
+    return "\n".join([*(f"{line:{width}}  {asks}" for line, asks in rows), "HELP VERB tells what a line is answered."])
 
 
 def help_of(verb: str) -> str:
-    """One line, what it asks for, and its answers; nothing, where there is no such verb."""
-    found = [row for row in TABLE if row[0].partition(" ")[0] == verb]
-    return "\n".join(f"{line}\n  asks for  {asks}\n  answers   {answers}" for line, asks, answers in found)
+    """One line, what it asks for, and its answers, or a command; nothing, where there is none."""
+    found = [row for row in TABLE if row[0].partition(" ")[0] == verb.upper()]
+    told = [f"{line}\n  asks for  {asks}\n  answers   {answers}" for line, asks, answers in found]
+    told += [f"{line}\n  {does}" for line, does in COMMANDS if line.partition(" ")[0] == verb.lower()]
+    return "\n".join(told)
+
+
+def forms_of(verb: str) -> List[str]:
+    """The forms of the lines that begin with the verb."""
+    return [form for line, _, _ in TABLE for form in line.split(", ") if form.partition(" ")[0] == verb]
+
+
+def fault_of_line(line: str) -> str:
+    """What is wrong with a line that has none of the forms, or goes beyond a bound: the word, and what is wanted."""
+    verb, *given = line.split(" ")
+    forms = forms_of(verb)
+    if not forms:
+        near = difflib.get_close_matches(verb, VERBS, 1)
+        return f"{verb} is no verb{f', but {near[0]} is' if near else ''}: HELP lists them"
+    fault = fault_of_words(verb, forms, given)
+    return f"{fault}: {' or '.join(forms)} is wanted" if fault else f"{' or '.join(forms)} is wanted"
+
+
+def fault_of_words(verb: str, forms: List[str], given: List[str]) -> str:
+    """The first word that is wrong."""
+    names = forms[0].split(" ")[1:]
+    if names[-1:] == [".."]:
+        names = ["k=v"] * max(1, len(given))
+    for name, word in itertools.zip_longest(names, given):
+        if word is None:
+            return f"{WORDS.get(name, name)} is missing"
+        if name is None:
+            return f"{word} is one word too many"
+        fault = fault_of_word(verb, name, word, forms)
+        if fault:
+            return fault
+    bounds = dict(zip(names, given))
+    return f"{bounds['lo']} is above {bounds['hi']}" if bounds.get("lo", "") > bounds.get("hi", "~" * 33) else ""
+
+
+def fault_of_word(verb: str, name: str, word: str, forms: List[str]) -> str:
+    """What is wrong with one word."""
+    if name == "n":
+        most = 1000 if verb == "SCAN" else 60_000 if verb == "HOLD" else 64
+        return "" if re.fullmatch("[1-9][0-9]{0,5}", word) and int(word) <= most else f"{word} is no number from 1 to {most:,}"
+    if name == "k=v":
+        key, equals, value = word.partition("=")
+        if not equals:
+            return f"{word} has no ="
+        return fault_of_word(verb, "k", key, forms) or fault_of_word(verb, "v", value, forms)
+    if name not in WORDS:
+        modes = [form.split(" ")[1] for form in forms]
+        return "" if word in modes else f"{word} is neither {' nor '.join(modes)}"
+    most, what = (64, "value") if name == "v" else (32, "key")
+    if not word:
+        return f"{WORDS[name]} is empty: one blank parts two words"
+    if len(word.encode("utf-8", "surrogateescape")) > most:
+        return f"{word[:most]}.. is too long: a {what} has at most {most} bytes"
+    if not re.fullmatch("[!-~]+", word):
+        return f"{word.encode('ascii', 'backslashreplace').decode()} isn't visible ASCII (.escape on carries any bytes)"
+    return f"the key {word} has a =" if what == "key" and "=" in word else ""

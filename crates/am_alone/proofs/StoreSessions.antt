@@ -31,6 +31,7 @@ is_alone = record {
     commits = (ap (λ (p : StoreState). p.commits) g.kept ∙ commits_are old.kept step reply g.says) i;
   };
   shows = λ old new session commits h. (h.0, h.1, ap alone_of h.2);
+  holds = λ s millis answer h. h;
 }
 
 -- ---- where the store stands

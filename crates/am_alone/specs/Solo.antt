@@ -15,7 +15,7 @@ use Rattle.am_core.specs.Memory.{may_want_memory}
 use Rattle.am_core.specs.StoreSteps.{Extends}
 use Rattle.am_dialogue.specs.Exchanges.{Exchange, with_torn}
 use Rattle.am_dialogue.specs.Backends.{BackendMeaning}
-use Rattle.am_dialogue.specs.Alone.{AnswersAlone}
+use Rattle.am_dialogue.specs.Alone.{AnswersAlone, AloneHolds}
 use Rattle.am_dialogue.specs.Responses.{response_text}
 use Rattle.am_dialogue.specs.Say.{Says}
 use Rattle.am_wire.specs.Replies.{IsOneLine}
@@ -56,7 +56,12 @@ abbrev pub SoloShows : Solo → ℕ → ℕ → Solo → Type 0
 SoloShows old session commits new = (session ≡ 0) × (commits ≡ old.kept.commits) × (new ≡ old)
 
 abbrev pub solo_meaning : BackendMeaning Solo
-solo_meaning = record { active = λ s. s.active; steps = SoloSteps; shows = SoloShows }
+solo_meaning = record {
+  active = λ s. s.active;
+  steps = SoloSteps;
+  shows = SoloShows;
+  holds = λ s millis answer. AloneHolds answer;
+}
 
 -- The exchanges and events of a session alone, with the one whose answer was torn, if one was: the events are a sound
 -- trace, with every merge and clean right, and a legal one; each response is one line, and all of them are those that

@@ -10,6 +10,7 @@ use am_session::{End, serve};
 use am_sink::{Sink, StopSink};
 use am_stream::{AnsweredSource, PieceSource};
 use std::alloc::Global;
+use std::rt::Clock;
 use std::sync::Wait;
 
 /// Answers the lines of a source up to the first QUIT, each by one line, on a store that begins with no records, and
@@ -19,7 +20,7 @@ use std::sync::Wait;
 /// line, the text of what was answered there. All answers but those to MERGE and CLEAN are those of the plain map,
 /// where memory was found; a line that was refused memory is answered ERR MEMORY and did nothing. Each merge and clean
 /// of the trace is right, and whoever judges the trace finds nothing wrong in it.
-pub fn serve_alone<W: Wait, K: Sink, S: AnsweredSource<K>>(
+pub fn serve_alone<W: Wait + Clock, K: Sink, S: AnsweredSource<K>>(
     rt: &W,
     alloc: Global,
     source: &mut S,
@@ -47,7 +48,7 @@ pub fn serve_alone<W: Wait, K: Sink, S: AnsweredSource<K>>(
 }
 
 /// The same over bytes in memory, of which contracts know all: so what is written is known byte for byte.
-pub fn serve_in_memory<W: Wait>(
+pub fn serve_in_memory<W: Wait + Clock>(
     rt: &W,
     alloc: Global,
     source: &mut PieceSource<'_>,

@@ -6,11 +6,12 @@ ghost use Rattle.am_alone.specs.Solo.{solo_meaning};
 
 use am_btree::BTree;
 use am_core::Store;
-use am_dialogue::active_behind;
+use am_dialogue::{HoldAnswer, active_behind};
 use am_record::{HashKey, NoMemory, Reply, Step};
 use am_session::Backend;
 use std::alloc::Global;
 use std::marker::Model;
+use std::rt::Clock;
 use std::sync::Wait;
 
 /// A store with one session, and the transaction that is active in it.
@@ -56,4 +57,19 @@ impl Backend for SoloStore {
     fn seen(&mut self) -> (u64, u64) {
         (0, self.store.commits())
     }
+
+    // Nobody else is there.
+    fn hold<W: Wait + Clock>(&self, _rt: &W, _millis: u64) -> HoldAnswer {
+        HoldAnswer::Granted
+    }
+
+    fn await_turn<W: Wait + Clock>(&self, _rt: &W) {}
+
+    fn is_kept(&self) -> bool {
+        false
+    }
+
+    fn end_turn(&self) {}
+
+    fn end_session<W: Wait>(&self, _rt: &W) {}
 }

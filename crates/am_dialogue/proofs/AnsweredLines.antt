@@ -25,7 +25,7 @@ use Rattle.am_wire.proofs.Texts.{HasNoLf-append, HasNoLf-decimal, HasNoLf-free, 
 use Rattle.am_dialogue.specs.ParsedLine.{Line, MayParse, parsed_of}
 use Rattle.am_dialogue.specs.Session.{SessionState, staged_after}
 use Rattle.am_dialogue.specs.Actions.{may_wait, with_staged, staged_left, commit_action, request_action, action_for}
-use Rattle.am_dialogue.specs.Actions.{no_room, staged_asked, session_behind_line, IsActionFor}
+use Rattle.am_dialogue.specs.Actions.{no_room, staged_asked, session_behind_line, IsActionFor, is_hold_time}
 use Rattle.am_dialogue.specs.Responses.{response_text, line}
 use Rattle.am_dialogue.specs.Exchanges.{Exchange}
 use Rattle.am_dialogue.specs.Backends.{BackendMeaning}
@@ -33,10 +33,13 @@ use Rattle.am_dialogue.specs.Conversation.{SessionPoint, session_at, TakesStep, 
 use Rattle.am_dialogue.specs.declared.lines.ParsedLine.{ParsedLine}
 use Rattle.am_dialogue.specs.declared.lines.ParsedLine.TheVariants as said
 use Rattle.am_dialogue.specs.declared.action.Action.{Action}
-use Rattle.am_dialogue.specs.declared.action.Action.TheVariants.{Answer, Take, TellSeen}
+use Rattle.am_dialogue.specs.declared.action.Action.TheVariants.{Answer, Take, TellSeen, AskHold}
 use Rattle.am_dialogue.specs.declared.response.Response.{Response}
 use Rattle.am_dialogue.specs.declared.response.Response.TheVariants.{TooLong, Faulty, NoTransaction, Active, Staged}
 use Rattle.am_dialogue.specs.declared.response.Response.TheVariants.{TooManyStaged, StillStaged, Replied, Seen}
+use Rattle.am_dialogue.specs.declared.response.Response.TheVariants.{Hold}
+use Rattle.am_dialogue.specs.declared.response.HoldAnswer.{HoldAnswer}
+use Rattle.am_dialogue.specs.declared.response.HoldAnswer.TheVariants.{Granted, OutOfBounds, HeldBy}
 use Rattle.am_dialogue.proofs.Conversations.{Between, HoldsOfLines}
 use Rattle.am_dialogue.proofs.VisibleMaps.{all_append}
 use Rattle.am_dialogue.proofs.VisibleStores.{IsVisibleStore, IsVisibleStep, after_visible, tells_visible}
@@ -80,6 +83,17 @@ seen_line session commits = (
   refl,
 )
 
+hold_line : (answer : HoldAnswer) → IsLine (Hold answer)
+unfolding is_free
+hold_line Granted = fixed (codes "OK") refl
+hold_line OutOfBounds = fixed (codes "ERR LIMIT") refl
+hold_line (HeldBy session) = (
+  codes "ERR HELD " ++ decimal session,
+  HasNoLf-append (codes "ERR HELD ") (decimal session) (HasNoLf-free (codes "ERR HELD ") refl)
+      (HasNoLf-decimal session),
+  refl,
+)
+
 reply_line : (r : Reply) → TellsVisible r → IsLine (Replied r)
 reply_line r h = (words_of r, HasNoLf-words_of r h, refl)
 
@@ -120,6 +134,11 @@ abbrev IsVisibleDue : Action → Type 0
 IsVisibleDue (Answer response) = IsLine response
 IsVisibleDue (Take what) = IsVisibleStep what
 IsVisibleDue TellSeen = Unit {0}
+IsVisibleDue (AskHold millis) = Unit {0}
+
+hold_visible : (millis : ℕ) (b : Bool) → IsVisibleDue (cond b (AskHold millis) (Answer (Hold OutOfBounds)))
+hold_visible millis true = tt
+hold_visible millis false = hold_line OutOfBounds
 
 stage_line : (b : Bool) → IsLine (cond b Staged TooManyStaged)
 unfolding is_free
@@ -144,6 +163,8 @@ request_visible (Some tx) staged request.Commit v h = commit_visible tx staged
 request_visible None staged (request.Merge limit) v h = tt
 request_visible None staged (request.Clean range limit) v h = tt
 request_visible None staged request.Seen v h = tt
+request_visible None staged (request.Hold millis) v h = hold_visible millis (is_hold_time millis)
+request_visible (Some tx) staged (request.Hold millis) v h = active_line
 request_visible (Some tx) staged request.Quit v h = none_line
 request_visible None staged asked v h = none_line
 request_visible (Some tx) staged asked v h = tt
@@ -244,6 +265,10 @@ module _ {B : Type 0} (means : BackendMeaning B) where
   acts old new TellSeen response events rest is a v = (
     subst IsLine (sym a.2) (seen_line a.0 a.1),
     rests old new events rest a.3.1 a.3.2 v,
+  )
+  acts old new (AskHold millis) response events rest is a v = (
+    subst IsLine (sym a.1) (hold_line a.0),
+    rests old new events rest a.2.1.0 (ap (λ (at : SessionPoint B). at.1) a.2.1.1) v,
   )
 
   answers : (old new : SessionPoint B) (e : Exchange) (events : Trace) → AnswersLine means old e events new →

@@ -13,8 +13,9 @@ use Rattle.am_dialogue.specs.Backends.{BackendMeaning}
 use Rattle.am_dialogue.specs.Conversation.{SessionPoint, Stays, TakesStep, AnswersAction, AnswersLine, MergesAfter}
 use Rattle.am_dialogue.specs.Conversation.{AnswersTorn, Converses, Leaves, AnswersAll}
 use Rattle.am_dialogue.specs.declared.action.Action.{Action}
-use Rattle.am_dialogue.specs.declared.action.Action.TheVariants.{Answer, Take, TellSeen}
+use Rattle.am_dialogue.specs.declared.action.Action.TheVariants.{Answer, Take, TellSeen, AskHold}
 use Rattle.am_dialogue.specs.declared.response.Response.{Response}
+use Rattle.am_dialogue.specs.declared.response.HoldAnswer.{HoldAnswer}
 
 -- ---- a map of backends that takes steps to steps takes conversations to conversations
 
@@ -24,6 +25,8 @@ pub record TakesSteps {B C : Type 0} (from : BackendMeaning B) (to : BackendMean
       to.steps (image old) step reply (image new)
   pub shows : (old new : B) (session commits : ℕ) → from.shows old session commits new →
       to.shows (image old) session commits (image new)
+  pub holds : (b : B) (millis : ℕ) (answer : HoldAnswer) → from.holds b millis answer →
+      to.holds (image b) millis answer
 
 module _ {B C : Type 0} (from : BackendMeaning B) (to : BackendMeaning C) (image : B → C)
     (takes : TakesSteps from to image) where
@@ -43,6 +46,11 @@ module _ {B C : Type 0} (from : BackendMeaning B) (to : BackendMeaning C) (image
     a.1,
     a.2,
     (takes.shows old.0 new.0 a.0 a.1 a.3.0, a.3.1, a.3.2),
+  )
+  action_taken old new (AskHold millis) response events a = (
+    a.0,
+    a.1,
+    (takes.holds old.0 millis a.0 a.2.0, (a.2.1.0, ap point a.2.1.1)),
   )
 
   line_taken : (old new : SessionPoint B) (e : Exchange) (events : Trace) → AnswersLine from old e events new →
@@ -187,6 +195,8 @@ module _ {B : Type 0} (means : BackendMeaning B) (Goes : B → Trace → B → T
   action_goes old new (Take step) response events a = stepped old.0 new.0 step a.0 events a.2.0 a.2.1
   action_goes old new TellSeen response events a = subst (λ (es : Trace). Goes old.0 es new.0) (sym a.3.1)
       (holds.shows old.0 new.0 a.0 a.1 a.3.0)
+  action_goes old new (AskHold millis) response events a = still old.0 new.0 events a.2.1.0
+      (ap (λ (at : SessionPoint B). at.0) a.2.1.1)
 
   abbrev between : Between B
   between old exchanges events new = Goes old.0 events new.0

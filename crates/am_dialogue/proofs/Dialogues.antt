@@ -21,7 +21,7 @@ use Rattle.am_serial.specs.Machine.{next, Runs, May, view}
 use Rattle.am_dialogue.specs.ParsedLine.{Line, parsed, parsed_of, MayParse, is_upkeep}
 use Rattle.am_dialogue.specs.Session.{SessionState, staged_after}
 use Rattle.am_dialogue.specs.Actions.{may_wait, with_staged, staged_left, stage_response, action_for}
-use Rattle.am_dialogue.specs.Actions.{session_behind_line, no_room, IsActionFor}
+use Rattle.am_dialogue.specs.Actions.{session_behind_line, no_room, IsActionFor, is_hold_time}
 use Rattle.am_dialogue.specs.Exchanges.{Exchange}
 use Rattle.am_dialogue.specs.Conversation.{SessionPoint, session_at, Stays, TakesStep, AnswersAction, AnswersLine}
 use Rattle.am_dialogue.specs.Alone.{Alone, alone_after, alone_meaning}
@@ -34,10 +34,11 @@ use Rattle.am_text.specs.declared.fault.LineFault.TheVariants as fault
 use Rattle.am_dialogue.specs.declared.lines.ParsedLine.{ParsedLine}
 use Rattle.am_dialogue.specs.declared.lines.ParsedLine.TheVariants as said
 use Rattle.am_dialogue.specs.declared.action.Action.{Action}
-use Rattle.am_dialogue.specs.declared.action.Action.TheVariants.{TellSeen}
+use Rattle.am_dialogue.specs.declared.action.Action.TheVariants.{Answer, TellSeen, AskHold}
 use Rattle.am_dialogue.specs.declared.response.Response.{Response}
 use Rattle.am_dialogue.specs.declared.response.Response.TheVariants as response
-use Rattle.am_dialogue.specs.declared.response.Response.TheVariants.{Replied, Seen, Faulty}
+use Rattle.am_dialogue.specs.declared.response.Response.TheVariants.{Replied, Seen, Faulty, Hold}
+use Rattle.am_dialogue.specs.declared.response.HoldAnswer.TheVariants.{Granted, OutOfBounds}
 use Rattle.am_record.specs.Interval.{Interval}
 use Rattle.am_dialogue.proofs.Conversations.{Between, HoldsOfLines}
 pub use Rattle.am_dialogue.proofs.SaidByMap.{Where, actives, machine_at, state_at, alone_at, point_at, is_answer}
@@ -100,6 +101,18 @@ shown : (w : Where) → response_due (state_at w) (said.Asked request.Seen) ≡ 
 shown w says same r own rest at' a = at_once w w.staged (said.Asked request.Seen) (Seen 0 w.commits) refl says same r
     own
     rest at' (a.2 ∙ (λ i. Seen (a.3.0.0 i) (a.3.0.1 i)), (a.3.1, λ i. (a.3.0.2 i, a.3.2 i)))
+
+-- who would hold, and is alone: by whether one may for so long
+holds_alone : (w : Where) (millis : ℕ) (b : Bool) → response_due (state_at w) (said.Asked (request.Hold millis)) ≡
+    Some (Hold (cond b Granted OutOfBounds)) →
+    state_at w ≡ state_after_line (state_at w) (said.Asked (request.Hold millis)) →
+    (r : Response) (own rest : Trace) (at' : SessionPoint Alone) →
+    AnswersAction alone_meaning (point_at w) (cond b (AskHold millis) (Answer (Hold OutOfBounds))) r own at' →
+    Runs (machine_at w) (own ++ rest) → Leads w (said.Asked (request.Hold millis)) r rest at'
+holds_alone w millis true says same r own rest at' a = at_once w w.staged (said.Asked (request.Hold millis))
+    (Hold Granted) refl says same r own rest at' (a.1 ∙ ap Hold a.2.0, a.2.1)
+holds_alone w millis false says same r own rest at' a = at_once w w.staged (said.Asked (request.Hold millis))
+    (Hold OutOfBounds) refl says same r own rest at' a
 
 -- a step that is told by a reply, and by what the machine may do
 abbrev After : Where → Step → Reply → Trace → Type 0
@@ -405,6 +418,7 @@ module _ (begun commits runs : ℕ) (m : PlainMap) (staged : Records) where
   leads_free (request.Clean range limit) = taken free staged (step.Clean range limit) (request.Clean range limit)
       (cleans free range limit)
   leads_free request.Seen = shown free refl refl
+  leads_free (request.Hold millis) = holds_alone free millis (is_hold_time millis) refl refl
   leads_free asked = at_once free staged (said.Asked asked) response.NoTransaction refl refl refl
 
 -- with one
@@ -434,6 +448,8 @@ module _ (begun commits runs : ℕ) (m : PlainMap) (body : List Answered) where
     leads_busy (request.Clean range limit) = taken held staged (step.Clean range limit) (request.Clean range limit)
         (cleans held range limit)
     leads_busy request.Seen = shown held refl refl
+    leads_busy (request.Hold millis) = at_once held staged (said.Asked (request.Hold millis)) response.Active refl refl
+        refl
     leads_busy request.Quit = at_once held staged (said.Asked request.Quit) response.NoTransaction refl refl refl
 
 leads : (begun commits runs : ℕ) (m : PlainMap) (own : Option (List Answered)) (staged : Records) (h : ParsedLine) →

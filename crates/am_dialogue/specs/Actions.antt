@@ -1,6 +1,6 @@
 -- What is due for a line, by where the session stands, and where it stands then.
-use Rattle.std.specs.Prelude.{◌≡◌, ◌⊎◌, ℕ, ◌+◌, nat_le, length, [], ◌∷◌, ◌++◌, Bool, true, false, cond, Option, Some}
-use Rattle.std.specs.Prelude.{None, Result, Ok, Err}
+use Rattle.std.specs.Prelude.{◌≡◌, ◌⊎◌, ℕ, ◌+◌, nat_le, ◌&&◌, length, [], ◌∷◌, ◌++◌, Bool, true, false, cond, Option}
+use Rattle.std.specs.Prelude.{Some, None, Result, Ok, Err}
 use Rattle.am_record.specs.Limits.{max_run_records}
 use Rattle.am_record.specs.Sessions.{IsAllowed}
 use Rattle.am_record.specs.Records.{Records}
@@ -13,14 +13,15 @@ use Rattle.am_record.specs.declared.step.Reply.TheVariants.{Aborted}
 use Rattle.am_text.specs.declared.fault.LineFault.TheVariants as fault
 use Rattle.am_wire.specs.declared.request.Request.{Request}
 use Rattle.am_wire.specs.declared.request.Request.TheVariants.{Begin, Do, Stage, Commit, Abort, Merge, Clean, Seen}
-use Rattle.am_wire.specs.declared.request.Request.TheVariants.{Quit}
+use Rattle.am_wire.specs.declared.request.Request.TheVariants.{Hold, Quit}
 use Rattle.am_dialogue.specs.Session.{SessionState}
 use Rattle.am_dialogue.specs.declared.lines.ParsedLine.{ParsedLine}
 use Rattle.am_dialogue.specs.declared.lines.ParsedLine.TheVariants as said
 use Rattle.am_dialogue.specs.declared.response.Response.{Response}
 use Rattle.am_dialogue.specs.declared.response.Response.TheVariants as response
+use Rattle.am_dialogue.specs.declared.response.HoldAnswer.TheVariants.{OutOfBounds}
 use Rattle.am_dialogue.specs.declared.action.Action.{Action}
-use Rattle.am_dialogue.specs.declared.action.Action.TheVariants.{Answer, Take, TellSeen}
+use Rattle.am_dialogue.specs.declared.action.Action.TheVariants.{Answer, Take, TellSeen, AskHold}
 
 -- ---- staged records
 
@@ -56,6 +57,13 @@ abbrev pub commit_action : ℕ → Records → Action
 commit_action tx [] = Take (step.Commit tx)
 commit_action tx (r ∷ rs) = Answer response.StillStaged
 
+-- whether one may ask to hold for so many milliseconds
+abbrev pub is_hold_time : ℕ → Bool
+is_hold_time millis = nat_le 1 millis && nat_le millis 60000
+
+abbrev pub hold_action : ℕ → Action
+hold_action millis = cond (is_hold_time millis) (AskHold millis) (Answer (response.Hold OutOfBounds))
+
 abbrev pub request_action : Option ℕ → Records → Request → Action
 request_action None staged Begin = Take step.Begin
 request_action (Some tx) staged Begin = Answer response.Active
@@ -70,6 +78,8 @@ request_action (Some tx) staged Abort = Take (step.Abort tx)
 request_action active staged (Merge limit) = Take (step.Merge limit)
 request_action active staged (Clean range limit) = Take (step.Clean range limit)
 request_action active staged Seen = TellSeen
+request_action None staged (Hold millis) = hold_action millis
+request_action (Some tx) staged (Hold millis) = Answer response.Active
 request_action active staged Quit = Answer response.NoTransaction
 
 abbrev pub action_for : SessionState → ParsedLine → Action

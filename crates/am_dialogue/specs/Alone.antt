@@ -7,6 +7,8 @@ use Rattle.am_record.specs.declared.step.Reply.{Reply}
 use Rattle.am_record.specs.declared.step.Reply.TheVariants.{Committed}
 use Rattle.am_serial.specs.Trace.{Trace}
 use Rattle.am_dialogue.specs.Exchanges.{Exchange}
+use Rattle.am_dialogue.specs.declared.response.HoldAnswer.{HoldAnswer}
+use Rattle.am_dialogue.specs.declared.response.HoldAnswer.TheVariants.{Granted}
 use Rattle.am_dialogue.specs.Backends.{BackendMeaning}
 use Rattle.am_dialogue.specs.Conversation.{AnswersAll}
 
@@ -33,11 +35,16 @@ alone_after a step reply = record {
 abbrev pub AloneShows : Alone → ℕ → ℕ → Alone → Type 0
 AloneShows old session commits new = (session ≡ 0) × (commits ≡ old.commits) × (new ≡ old)
 
+-- who is alone has the store to itself
+abbrev pub AloneHolds : HoldAnswer → Type 0
+AloneHolds answer = answer ≡ Granted
+
 abbrev pub alone_meaning : BackendMeaning Alone
 alone_meaning = record {
   active = λ a. a.active;
   steps = λ old step reply new. new ≡ alone_after old step reply;
   shows = AloneShows;
+  holds = λ a millis answer. AloneHolds answer;
 }
 
 -- from its start on the lines were answered so, with these events

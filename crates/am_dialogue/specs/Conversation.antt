@@ -14,9 +14,10 @@ use Rattle.am_dialogue.specs.Exchanges.{Exchange}
 use Rattle.am_dialogue.specs.Backends.{BackendMeaning}
 use Rattle.am_dialogue.specs.declared.lines.ParsedLine.{ParsedLine}
 use Rattle.am_dialogue.specs.declared.action.Action.{Action}
-use Rattle.am_dialogue.specs.declared.action.Action.TheVariants.{Answer, Take, TellSeen}
+use Rattle.am_dialogue.specs.declared.action.Action.TheVariants.{Answer, Take, TellSeen, AskHold}
 use Rattle.am_dialogue.specs.declared.response.Response.{Response}
-use Rattle.am_dialogue.specs.declared.response.Response.TheVariants.{Replied, Seen}
+use Rattle.am_dialogue.specs.declared.response.Response.TheVariants.{Replied, Seen, Hold}
+use Rattle.am_dialogue.specs.declared.response.HoldAnswer.{HoldAnswer}
 
 abbrev pub SessionPoint : Type 0 → Type 0
 SessionPoint B = B × Records
@@ -38,6 +39,10 @@ module _ {B : Type 0} (means : BackendMeaning B) where
   abbrev pub ShowsSeen : SessionPoint B → ℕ → ℕ → Trace → SessionPoint B → Type 0
   ShowsSeen old session commits events new = means.shows old.0 session commits new.0 × (events ≡ []) × (new.1 ≡ old.1)
 
+  -- the backend answered who would hold for so long
+  abbrev pub AnswersHold : SessionPoint B → ℕ → HoldAnswer → Trace → SessionPoint B → Type 0
+  AnswersHold old millis answer events new = means.holds old.0 millis answer × Stays old events new
+
   -- what was due was answered by this response, with these events
   abbrev pub AnswersAction : SessionPoint B → Action → Response → Trace → SessionPoint B → Type 0
   AnswersAction old (Answer due) response events new = (response ≡ due) × Stays old events new
@@ -45,6 +50,8 @@ module _ {B : Type 0} (means : BackendMeaning B) where
       TakesStep old step reply events new
   AnswersAction old TellSeen response events new = (session commits : ℕ) × (response ≡ Seen session commits) ×
       ShowsSeen old session commits events new
+  AnswersAction old (AskHold millis) response events new = (answer : HoldAnswer) × (response ≡ Hold answer) ×
+      AnswersHold old millis answer events new
 
   -- a line that was parsed so was answered, and these wait on
   abbrev pub AnswersParsed : SessionPoint B → ParsedLine → Response → Trace → SessionPoint B → Type 0

@@ -6,6 +6,9 @@ use Rattle.am_text.specs.declared.fault.LineFault.TheVariants.{Syntax, Range, No
 use Rattle.am_dialogue.specs.declared.response.Response.{Response}
 use Rattle.am_dialogue.specs.declared.response.Response.TheVariants.{TooLong, Faulty, NoTransaction, Active, Staged}
 use Rattle.am_dialogue.specs.declared.response.Response.TheVariants.{TooManyStaged, StillStaged, Replied, Seen}
+use Rattle.am_dialogue.specs.declared.response.Response.TheVariants.{Hold}
+use Rattle.am_dialogue.specs.declared.response.HoldAnswer.{HoldAnswer}
+use Rattle.am_dialogue.specs.declared.response.HoldAnswer.TheVariants.{Granted, OutOfBounds, HeldBy}
 
 -- the text as a line
 abbrev pub line : List ℕ → List ℕ
@@ -20,6 +23,12 @@ fault_text NoMemory = line (codes "ERR MEMORY")
 abbrev pub seen_text : ℕ → ℕ → List ℕ
 seen_text session commits = line (((codes "SEEN " ++ decimal session) ++ codes " ") ++ decimal commits)
 
+-- whether the session holds, and else why not
+abbrev pub hold_text : HoldAnswer → List ℕ
+hold_text Granted = line (codes "OK")
+hold_text OutOfBounds = line (codes "ERR LIMIT")
+hold_text (HeldBy session) = line (codes "ERR HELD " ++ decimal session)
+
 abbrev pub response_text : Response → List ℕ
 response_text TooLong = line (codes "ERR LONG")
 response_text (Faulty fault) = fault_text fault
@@ -30,6 +39,7 @@ response_text TooManyStaged = line (codes "ERR LIMIT")
 response_text StillStaged = line (codes "ERR STAGED")
 response_text (Replied reply) = text_of reply
 response_text (Seen session commits) = seen_text session commits
+response_text (Hold answer) = hold_text answer
 
 -- the answer to QUIT
 abbrev pub bye : List ℕ

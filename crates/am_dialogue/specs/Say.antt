@@ -15,7 +15,7 @@ use Rattle.am_record.specs.declared.step.Refusal.TheVariants.{TooManyTx, NoMemor
 use Rattle.am_serial.specs.Trace.{runs_made}
 use Rattle.am_record.specs.Refusals.{refusal_before_lock, is_one_too_many, lock_refusal, or_else}
 use Rattle.am_dialogue.specs.ParsedLine.{Line, parsed, is_upkeep, is_stage}
-use Rattle.am_dialogue.specs.Actions.{with_staged, staged_left, stage_response, may_wait}
+use Rattle.am_dialogue.specs.Actions.{with_staged, staged_left, stage_response, may_wait, is_hold_time}
 use Rattle.am_dialogue.specs.Exchanges.{Exchange}
 use Rattle.am_wire.specs.declared.request.Request.{Request}
 use Rattle.am_wire.specs.declared.request.Request.TheVariants as request
@@ -24,7 +24,8 @@ use Rattle.am_dialogue.specs.declared.lines.ParsedLine.{ParsedLine}
 use Rattle.am_dialogue.specs.declared.lines.ParsedLine.TheVariants as said
 use Rattle.am_dialogue.specs.declared.response.Response.{Response}
 use Rattle.am_dialogue.specs.declared.response.Response.TheVariants.{TooLong, Faulty, NoTransaction, Active}
-use Rattle.am_dialogue.specs.declared.response.Response.TheVariants.{StillStaged, Replied, Seen}
+use Rattle.am_dialogue.specs.declared.response.Response.TheVariants.{StillStaged, Replied, Seen, Hold}
+use Rattle.am_dialogue.specs.declared.response.HoldAnswer.TheVariants.{Granted, OutOfBounds}
 
 -- how many transactions were begun and committed and how many runs were made, the map that the committed ones left, the
 -- operations of the active transaction, and the records that wait for its next load
@@ -61,6 +62,10 @@ abbrev pub commit_response : DialogueState → Records → Response
 commit_response s [] = Replied (Committed (s.commits + 1))
 commit_response s (r ∷ rs) = StillStaged
 
+-- who is alone has the store to itself, for any time that may be asked for
+abbrev pub hold_response : ℕ → Response
+hold_response millis = Hold (cond (is_hold_time millis) Granted OutOfBounds)
+
 -- the answer to a request; MERGE and CLEAN are not said by the plain map. A session ends at QUIT, before it asks here
 abbrev pub answer_to : DialogueState → Option (List Op) → Request → Option Response
 answer_to s None request.Begin = Some (Replied (begin_due s))
@@ -70,6 +75,8 @@ answer_to s (Some ops) (request.Stage records) = Some (stage_response s.staged r
 answer_to s (Some ops) request.Commit = Some (commit_response s s.staged)
 answer_to s (Some ops) request.Abort = Some (Replied Aborted)
 answer_to s own request.Seen = Some (Seen 0 s.commits)
+answer_to s None (request.Hold millis) = Some (hold_response millis)
+answer_to s (Some ops) (request.Hold millis) = Some Active
 answer_to s own (request.Merge limit) = None
 answer_to s own (request.Clean range limit) = None
 answer_to s own _ = Some NoTransaction

@@ -12,4 +12,6 @@ pub enum Action {
     Take(Step),
     /// What SEEN tells.
     TellSeen,
+    /// What the backend answers who would hold it for so many milliseconds.
+    AskHold(u64),
 }

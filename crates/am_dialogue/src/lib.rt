@@ -10,5 +10,5 @@ mod session;
 pub use action::Action;
 pub use laws::{answers_are_lines, found_memory_is_said, sound_dialogues_say, staging_is_loading};
 pub use lines::{ParsedLine, parse};
-pub use response::{Response, put_response};
+pub use response::{HoldAnswer, Response, put_response};
 pub use session::{Session, active_behind};

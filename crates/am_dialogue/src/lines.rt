@@ -2,7 +2,7 @@
 
 ghost use Rattle.std.specs.Prelude.{◌≡◌};
 ghost use Rattle.am_stream.specs.LineAnswers.{seen};
-ghost use Rattle.am_dialogue.specs.ParsedLine.{MayParse, is_quit};
+ghost use Rattle.am_dialogue.specs.ParsedLine.{MayParse, is_quit, is_hold};
 
 use am_stream::LineKind;
 use am_text::LineFault;
@@ -36,5 +36,12 @@ impl ParsedLine {
         ensures { result ≡ is_quit self.now }
     {
         matches!(self, ParsedLine::Asked(Request::Quit))
+    }
+
+    /// Whether it would hold.
+    pub fn is_hold(&self) -> bool
+        ensures { result ≡ is_hold self.now }
+    {
+        matches!(self, ParsedLine::Asked(Request::Hold(_)))
     }
 }

@@ -2,15 +2,26 @@
 
 ghost use Rattle.std.specs.Prelude.{◌≡◌, ◌^◌, ◌<◌, true, OnOk};
 ghost use Rattle.am_sink.specs.SinkWrites.{Wrote};
-ghost use Rattle.am_dialogue.specs.Responses.{response_text, fault_text, seen_text};
+ghost use Rattle.am_dialogue.specs.Responses.{response_text, fault_text, seen_text, hold_text};
 
 use am_record::Reply;
 use am_sink::{Failed, Sink, give_all};
 use am_text::{LineFault, Text};
 use am_wire::put_reply;
 
-/// What a session writes for a line: a fault of the line, or of its place in the session, the reply to its step, or
-/// what SEEN tells.
+/// What a session hears that would have the store to itself for a while.
+#[derive(Clone, Copy, PartialEq, Eq)]
+pub enum HoldAnswer {
+    /// It has.
+    Granted,
+    /// No such time may be asked for.
+    OutOfBounds,
+    /// It has not: this session holds already, or has a transaction that didn't end in time.
+    HeldBy(u64),
+}
+
+/// What a session writes for a line: a fault of the line, or of its place in the session, the reply to its step, what
+/// SEEN tells, or what HOLD is answered.
 #[derive(Drop)]
 pub enum Response {
     TooLong,
@@ -28,6 +39,8 @@ pub enum Response {
     Replied(Reply),
     /// The number of the session, and the number of commits that it sees.
     Seen(u64, u64),
+    /// Whether the session holds.
+    Hold(HoldAnswer),
 }
 
 /// Writes the text of a response. It takes no memory. At an error a beginning of it went out.
@@ -49,6 +62,7 @@ pub fn put_response<K: Sink>(response: &Response, sink: &mut K) -> Result<(), Fa
             sink,
             text_of_seen(*session, *commits).as_slice(),
         ),
+        Response::Hold(answer) => give_all(sink, text_of_hold(*answer).as_slice()),
     }
 }
 
@@ -70,4 +84,14 @@ fn text_of_seen(session: u64, commits: u64) -> Text
         .then(b" ")
         .then_number(commits)
         .then(b"\n")
+}
+
+fn text_of_hold(answer: HoldAnswer) -> Text
+    ensures { result ≡ hold_text answer }
+{
+    match answer {
+        HoldAnswer::Granted => Text::new(b"OK\n"),
+        HoldAnswer::OutOfBounds => Text::new(b"ERR LIMIT\n"),
+        HoldAnswer::HeldBy(session) => Text::new(b"ERR HELD ").then_number(session).then(b"\n"),
+    }
 }

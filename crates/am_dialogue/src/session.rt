@@ -4,15 +4,19 @@ ghost use Rattle.am_record.specs.Sessions.{active_after};
 ghost use Rattle.std.specs.Prelude.{◌≡◌, ◌≤◌, Some, [], length};
 ghost use Rattle.am_dialogue.specs.Session.{at_start, session_after};
 ghost use Rattle.am_dialogue.specs.Actions.{IsActionFor, IsActionForRequest, MayStage, MayLoad, IsAllowedAction};
+ghost use Rattle.am_dialogue.specs.Actions.{hold_action};
 
 use crate::action::Action;
 use crate::lines::ParsedLine;
-use crate::response::Response;
+use crate::response::{HoldAnswer, Response};
 use am_record::{Key, MAX_RUN_RECORDS, NoMemory, Op, Records, Reply, Step, Value};
 use am_text::LineFault;
 use am_wire::Request;
 use std::alloc::Global;
 use std::marker::Model;
+
+/// The longest that a session may ask to hold.
+const MAX_HOLD_MILLIS: u64 = 60_000;
 
 /// Where a session stands between two lines: the transaction that is active in it, and the records that were staged for
 /// its next load.
@@ -120,6 +124,10 @@ impl Session {
             Request::Merge(limit) => Action::Take(Step::Merge(limit)),
             Request::Clean(range, limit) => Action::Take(Step::Clean(range, limit)),
             Request::Seen => Action::TellSeen,
+            Request::Hold(millis) => match self.active {
+                None => hold(millis),
+                Some(_) => Action::Answer(Response::Active),
+            },
             Request::Quit => Action::Answer(Response::NoTransaction),
         }
     }
@@ -175,6 +183,17 @@ impl Session {
         ensures left { self.new ≡ record { active = self.old.active; staged = [] } }
     {
         std::mem::replace(&mut self.staged, Vec::new(self.alloc))
+    }
+}
+
+// Who would hold for longer than anybody may, or not at all, is told so at once.
+fn hold(millis: u64) -> Action
+    ensures { result ≡ hold_action millis }
+{
+    if (1..=MAX_HOLD_MILLIS).contains(&millis) {
+        Action::AskHold(millis)
+    } else {
+        Action::Answer(Response::Hold(HoldAnswer::OutOfBounds))
     }
 }
 

@@ -1,7 +1,7 @@
 -- What a directory tells by the code of a label.
 use Rattle.std.proofs.Common.{◌≡◌, ◌≢◌, ⊎_elim, if◌then◌else◌, ℕ, Bool, true, false, List, [], sym, ap, ◌∙◌, ◌-◌, refl}
 use Rattle.std.proofs.Common.{subst, arith}
-use Rattle.std.proofs.Common.{◌<◌, ◌≤◌, ltb, eqb, cond, get_or, length}
+use Rattle.std.proofs.Common.{◌<◌, ◌≤◌, ltb, leb, eqb, cond, get_or, length}
 use Rattle.std.specs.List.{list_all}
 use Rattle.std.proofs.lemmas.Bool.{cases_Bool, cases_eq, ne_eqb, cond-false, cond-true, false≢true}
 use Rattle.std.proofs.lemmas.List.Folds.{list_all_at}
@@ -9,7 +9,7 @@ use Rattle.std.proofs.lemmas.Bool.Decides.{nat_tests}
 use Rattle.am_directory.specs.declared.residence.Residence.{Residence}
 use Rattle.am_directory.specs.declared.residence.Residence.TheVariants.{Nowhere, In, Unknown}
 use Rattle.am_directory.specs.Tables.{Table, label, code, code_of, residence_by, residence_of, left, HasPut, HasLeft}
-use Rattle.am_directory.specs.Tables.{is_free, are_free}
+use Rattle.am_directory.specs.Tables.{is_free, are_free, code_left, code_let_go, HasCode}
 use Rattle.am_directory.proofs.Looks.{code_of-free, code_of-none}
 
 pub residence_of-lost : (table : Table) (n : ℕ) → table.is_lost ≡ true → residence_of table n ≡ Unknown
@@ -21,28 +21,42 @@ pub residence_of-code : (table : Table) (n : ℕ) → table.is_lost ≡ false �
 unfolding residence_of
 residence_of-code table n whole = rw whole refl
 
+pub code_of-empty : (words : List ℕ) (sought : ℕ) → words ≡ [] → code_of words sought ≡ 0
+code_of-empty words sought empty = ap (λ (l : List ℕ). code_of l sought) empty ∙
+    code_of-none [] sought (λ i h. absurd (omega arith))
+
 pub residence_of-empty : (table : Table) (n : ℕ) → table.is_lost ≡ false → table.words ≡ [] →
     residence_of table n ≡ Nowhere
 residence_of-empty table n whole empty = residence_of-code table n whole ∙
-    ap residence_by (ap (λ (l : List ℕ). code_of l (label n)) empty ∙
-    code_of-none [] (label n) (λ i h. absurd (omega arith)))
+    ap residence_by (code_of-empty table.words (label n) empty)
 
--- where looks for all of the numbers end at once, nothing is known of them
-pub nowhere_if_free : (table : Table) (numbers : List ℕ) → are_free table numbers ≡ true → (k d : ℕ) →
-    k < length numbers → residence_of table (get_or numbers k d) ≡ Nowhere
-nowhere_if_free table numbers free k d lt =
-    let free_at = λ (n : ℕ). is_free table.words (label n) in
-    let all = list_all free_at numbers in
-    let n = get_or numbers k d in
-    ⊎_elim
-    (λ (lost : table.is_lost ≡ true). absurd (false≢true (sym (cond-true table.is_lost false all lost) ∙ free)))
-    (λ (whole : table.is_lost ≡ false). ⊎_elim
-    (λ (yes : free_at n ≡ true). residence_of-code table n whole ∙
-    ap residence_by (code_of-free table.words (label n) yes))
-    (λ (no : free_at n ≡ false). absurd (false≢true (sym (list_all_at free_at numbers k d lt no) ∙
-    (sym (cond-false table.is_lost false all whole) ∙ free))))
-    (cases_Bool (free_at n)))
-    (cases_Bool table.is_lost)
+-- where looks for all of the numbers end at once, no label of theirs has a word, and nothing is known of them
+module _ (table : Table) (numbers : List ℕ) (free : are_free table numbers ≡ true) where
+  free_at : ℕ → Bool
+  free_at n = is_free table.words (label n)
+
+  all_free : Bool
+  all_free = list_all free_at numbers
+
+  whole : table.is_lost ≡ false
+  unfolding all_free free_at
+  whole = ⊎_elim
+      (λ (lost : table.is_lost ≡ true). absurd (false≢true (sym (cond-true table.is_lost false all_free lost) ∙ free)))
+      (λ (whole : table.is_lost ≡ false). whole)
+      (cases_Bool table.is_lost)
+
+  pub none_if_free : (k d : ℕ) → k < length numbers → code_of table.words (label (get_or numbers k d)) ≡ 0
+  unfolding all_free free_at
+  none_if_free k d lt =
+      let n = get_or numbers k d in
+      ⊎_elim
+      (λ (yes : free_at n ≡ true). code_of-free table.words (label n) yes)
+      (λ (no : free_at n ≡ false). absurd (false≢true (sym (list_all_at free_at numbers k d lt no) ∙
+      (sym (cond-false table.is_lost false all_free whole) ∙ free))))
+      (cases_Bool (free_at n))
+
+  pub nowhere_if_free : (k d : ℕ) → k < length numbers → residence_of table (get_or numbers k d) ≡ Nowhere
+  nowhere_if_free k d lt = residence_of-code table (get_or numbers k d) whole ∙ ap residence_by (none_if_free k d lt)
 
 -- where the code of one label alone has changed, what is told of the others stays
 pub others_told : (old new : Table) (word : ℕ) → new.is_lost ≡ old.is_lost → HasPut old.words word new.words →
@@ -100,3 +114,27 @@ none_leaves table number none = record {
       (cases_Bool table.is_lost);
   others = λ n other. refl;
 }
+
+-- the codes of the others stay, and that of the label is the word's
+pub has_code : (old new : Table) (number word : ℕ) (Is : ℕ → Type 0) → HasPut old.words word new.words →
+    label word ≡ label number → Is (code word) → HasCode old number Is new
+has_code old new number word Is put same is = record {
+  now = subst Is (sym (ap (code_of new.words) (sym same) ∙ put.now)) is;
+  others = λ sought other. put.others sought (λ e. other (e ∙ same));
+}
+
+pub same_code : (table : Table) (number : ℕ) (Is : ℕ → Type 0) → Is (code_of table.words (label number)) →
+    HasCode table number Is table
+same_code table number Is is = record { now = is; others = λ sought other. refl }
+
+pub left_code : (c : ℕ) → 4 ≤ c → 2 ≡ code_left c
+left_code c ge = let test : leb 4 c ≡ true = grind (arith, nat_tests) in sym (cond-true (leb 4 c) 2 c test)
+
+pub left_as_was : (c : ℕ) → c < 4 → c ≡ code_left c
+left_as_was c lt = let test : leb 4 c ≡ false = grind (arith, nat_tests) in sym (cond-false (leb 4 c) 2 c test)
+
+pub let_go_code : (c : ℕ) → c ≡ 2 → 1 ≡ code_let_go c
+let_go_code c e = sym (ap code_let_go e)
+
+pub let_go_as_was : (c : ℕ) → c ≢ 2 → c ≡ code_let_go c
+let_go_as_was c n = sym (cond-false (eqb c 2) 1 c (ne_eqb c 2 n))

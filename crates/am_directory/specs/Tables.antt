@@ -1,5 +1,5 @@
 -- What a directory knows of the keys of a label.
-use Rattle.std.specs.Prelude.{◌≡◌, ◌≢◌, ℕ, ◌-◌, ◌*◌, ◌/◌, ◌%◌, ◌^◌, ◌<◌, ◌≤◌, ◌==◌, nat_lt, nat_le, Bool}
+use Rattle.std.specs.Prelude.{◌≡◌, ◌≢◌, ◌⊎◌, ℕ, ◌+◌, ◌-◌, ◌*◌, ◌/◌, ◌%◌, ◌^◌, ◌<◌, ◌≤◌, ◌==◌, nat_lt, nat_le, Bool}
 use Rattle.std.specs.Prelude.{List, [], ◌∷◌, ◌++◌, length, take, drop, slice_index, false, if◌then◌else◌}
 use Rattle.std.specs.List.{count_by, list_all}
 use Rattle.am_directory.specs.declared.residence.Residence.{Residence}
@@ -54,6 +54,22 @@ is_free words sought =
 -- so do the looks for all of these numbers
 abbrev pub are_free : Table → List ℕ → Bool
 are_free table numbers = if table.is_lost then false else list_all (λ n. is_free table.words (label n)) numbers
+
+-- the code of a label that was put down as live in the run: that one, or that nothing is known; or none had room
+abbrev pub IsEntered : ℕ → ℕ → ℕ → Type 0
+IsEntered before run after = (after ≡ before) ⊎ ((after ≡ 3) ⊎ (after ≡ run + 4))
+
+-- the code of a label where one of its keys left a run, and where its word is let go
+abbrev pub code_left : ℕ → ℕ
+code_left c = if nat_le 4 c then 2 else c
+
+abbrev pub code_let_go : ℕ → ℕ
+code_let_go c = if c == 2 then 1 else c
+
+-- the number's label has a code like this, and each other label the one that it had
+pub record HasCode (old : Table) (number : ℕ) (Is : ℕ → Type 0) (new : Table) : Type 0 where
+  pub now : Is (code_of new.words (label number))
+  pub others : (sought : ℕ) → sought ≢ label number → code_of new.words sought ≡ code_of old.words sought
 
 -- how many words are empty
 abbrev pub empty_in : List ℕ → ℕ

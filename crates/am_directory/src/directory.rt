@@ -1,12 +1,13 @@
 //! A directory of the keys that are live in runs.
 
-ghost use Rattle.std.specs.Prelude.{◌≡◌, ◌≢◌, ◌<◌, ◌≤◌, ◌+◌, ◌*◌, ◌^◌, ℕ, false, length, max, replicate, slice_index};
-ghost use Rattle.std.specs.Prelude.{slice_set, true, MatchOption, OnOk, OnErr, IfOk};
+ghost use Rattle.std.specs.Prelude.{◌≡◌, ◌≢◌, ◌⊎◌, ◌<◌, ◌≤◌, ◌+◌, ◌*◌, ◌/◌, ◌^◌, ℕ, false, length, max, replicate};
+ghost use Rattle.std.specs.Prelude.{slice_index, slice_set, true, MatchOption, OnOk, OnErr, IfOk};
 ghost use Rattle.am_directory.specs.declared.residence.Residence.TheVariants.{Nowhere};
 ghost use Rattle.std.specs.List.{All};
 ghost use Rattle.am_directory.specs.Tables.{are_free, code, code_of, empty_in, home_index, is_free, kept, label};
 ghost use Rattle.am_directory.specs.Tables.{residence_of};
-ghost use Rattle.am_directory.specs.Tables.{HasEntered, HasLeft, HasPut, IsEnd, ArePassed};
+ghost use Rattle.am_directory.specs.Tables.{code_left, code_let_go, IsEntered, HasCode, HasEntered, HasLeft, HasPut};
+ghost use Rattle.am_directory.specs.Tables.{IsEnd, ArePassed};
 
 use crate::seek::{count_kept, seek};
 use crate::{Residence, word};
@@ -47,6 +48,7 @@ impl Directory {
     /// An empty directory. Takes no memory.
     pub fn new(alloc: Global) -> Directory
         ensures empty { (n : ℕ) → residence_of result n ≡ Nowhere }
+        ensures none { (sought : ℕ) → code_of result.words sought ≡ 0 }
         ensures whole { result.is_lost ≡ false }
     {
         Directory {
@@ -73,6 +75,7 @@ impl Directory {
     pub fn are_free(&self, numbers: &[u64]) -> bool
         ensures exact { result ≡ are_free self.now numbers.now }
         ensures nowhere { result ≡ true → All (λ n. residence_of self.now n ≡ Nowhere) numbers.now }
+        ensures none { result ≡ true → All (λ n. code_of self.now.words (label n) ≡ 0) numbers.now }
     {
         let mut are_free = !self.is_lost;
         for number in numbers {
@@ -84,11 +87,15 @@ impl Directory {
     /// Gets room for so many labels more.
     ///
     /// # Errors
-    /// NoMemory, where memory was refused or more than 2^31 words would be needed; nothing is changed.
+    /// NoMemory, where memory was refused or more than 2^31 words would be needed; nothing is changed. One word of five
+    /// is empty beside that room, so that looks are short.
     pub fn reserve(&mut self, count: usize) -> Result<(), NoMemory>
         ensures same { (n : ℕ) → residence_of self.new n ≡ residence_of self.old n }
         ensures lost { self.new.is_lost ≡ self.old.is_lost }
+        ensures codes { (sought : ℕ) → (code_of self.new.words sought ≡ 0) ⊎
+            (code_of self.new.words sought ≡ code_of self.old.words sought) }
         ensures room { OnOk result (count ≤ empty_in self.new.words) }
+        ensures spare { OnOk result (count + length self.new.words / 5 ≤ empty_in self.new.words) }
         ensures size { length self.new.words ≤ max (length self.old.words)
             (max 64 (4 * (kept self.old.words + count))) }
         ensures err { OnErr result (self.new ≡ self.old) }
@@ -105,6 +112,7 @@ impl Directory {
     pub fn enter(&mut self, number: u64, run: u32)
         ensures entered { self.new.is_lost ≡ false → HasEntered self.old number run self.new }
         ensures lost { self.old.is_lost ≡ false → 0 < empty_in self.old.words → self.new.is_lost ≡ false }
+        ensures code { HasCode self.old number (IsEntered (code_of self.old.words (label number)) run) self.new }
         ensures room { empty_in self.old.words ≤ empty_in self.new.words + 1 }
     {
         let label = word::label(number);
@@ -125,6 +133,7 @@ impl Directory {
         ensures entered { result ≡ Nowhere → self.new.is_lost ≡ false → HasEntered self.old number run self.new }
         ensures same { result ≢ Nowhere → self.new ≡ self.old }
         ensures lost { self.old.is_lost ≡ false → 0 < empty_in self.old.words → self.new.is_lost ≡ false }
+        ensures code { HasCode self.old number (IsEntered (code_of self.old.words (label number)) run) self.new }
         ensures room { empty_in self.old.words ≤ empty_in self.new.words + 1 }
     {
         if self.is_lost {
@@ -147,6 +156,7 @@ impl Directory {
     /// entered again without room.
     pub fn leave(&mut self, number: u64)
         ensures left { HasLeft self.old number self.new }
+        ensures code { HasCode self.old number (λ c. c ≡ code_left (code_of self.old.words (label number))) self.new }
         ensures lost { self.new.is_lost ≡ self.old.is_lost }
         ensures room { empty_in self.new.words ≡ empty_in self.old.words }
         ensures labels { (i : ℕ) → label (slice_index self.new.words i) ≡ label (slice_index self.old.words i) }
@@ -163,6 +173,7 @@ impl Directory {
     /// label is live, the word stays.
     pub fn let_go(&mut self, number: u64)
         ensures same { (n : ℕ) → residence_of self.new n ≡ residence_of self.old n }
+        ensures code { HasCode self.old number (λ c. c ≡ code_let_go (code_of self.old.words (label number))) self.new }
         ensures lost { self.new.is_lost ≡ self.old.is_lost }
         ensures room { empty_in self.new.words ≡ empty_in self.old.words }
         ensures labels { (i : ℕ) → label (slice_index self.new.words i) ≡ label (slice_index self.old.words i) }
@@ -237,7 +248,9 @@ impl Directory {
     fn made_anew(&self, count: usize) -> Result<Directory, NoMemory>
         ensures same { IfOk result (λ d. (n : ℕ) → residence_of d n ≡ residence_of self.now n) }
         ensures lost { IfOk result (λ d. d.is_lost ≡ self.now.is_lost) }
-        ensures room { IfOk result (λ d. count ≤ empty_in d.words) }
+        ensures codes { IfOk result (λ d. (sought : ℕ) → (code_of d.words sought ≡ 0) ⊎
+            (code_of d.words sought ≡ code_of self.now.words sought)) }
+        ensures room { IfOk result (λ d. length d.words ≤ empty_in d.words + kept self.now.words) }
         ensures size { IfOk result (λ d. length d.words ≡ max 64 (2 * (kept self.now.words + count))) }
     {
         let mut anew = self.emptied(count)?;

@@ -3,3 +3,4 @@ pub mod Modes
 pub mod Waits
 pub mod Gates
 pub mod Tallies
+pub mod Turnstiles

@@ -8,6 +8,7 @@ use crate::gate::Gate;
 use crate::mode::Mode;
 use crate::pacer::MergePacer;
 use crate::tally::Tally;
+use crate::turnstile::Turnstile;
 use std::alloc::{AllocError, Global};
 use std::rt::Clock;
 use std::sync::atomic::{AtomicBool, Ordering};
@@ -36,6 +37,15 @@ impl<'a> Doors<'a> {
     }
 }
 
+/// What a session may take of a server's time.
+#[derive(Clone, Copy)]
+pub struct Limits {
+    /// How long a session may be idle, where that is limited.
+    pub idle: Option<Duration>,
+    /// For how many milliseconds at most a session may hold.
+    pub hold: u64,
+}
+
 /// What the threads of a server share, but for its store.
 #[derive(Drop)]
 pub struct House<'a> {
@@ -47,6 +57,8 @@ pub struct House<'a> {
     pub pacer: MergePacer,
     /// The connections that are open, by the places of their seats.
     pub connections: Connections,
+    /// Where sessions wait while one of them holds, by the places of their seats.
+    pub turnstile: Turnstile,
     /// What is counted.
     pub tally: Tally,
     /// How long it serves.
@@ -76,17 +88,19 @@ impl<'a> House<'a> {
     ///
     /// # Errors
     /// Memory was refused.
-    pub fn new(
+    pub fn new<R: Clock>(
+        rt: &R,
         alloc: Global,
         doors: Doors<'a>,
         is_stopped: &'a AtomicBool,
         sessions: u64,
         mode: Mode,
-        idle: Option<Duration>,
+        limits: Limits,
     ) -> Result<House<'a>, AllocError>
         requires { sessions ≤ 256 }
         ensures mode { IfOk result (λ house. house.mode ≡ mode) }
-        ensures idle { IfOk result (λ house. house.idle ≡ idle) }
+        ensures idle { IfOk result (λ house. house.idle ≡ limits.idle) }
+        ensures hold { IfOk result (λ house. house.turnstile ≡ limits.hold) }
         ensures seats { IfOk result (λ house. house.seats ≡ sessions) }
         ensures places { IfOk result (λ house. house.connections ≡
             (if is_some doors.entry.socket then 2 * sessions else sessions)) }
@@ -103,9 +117,10 @@ impl<'a> House<'a> {
             seats: sessions as usize,
             pacer: MergePacer::new(all),
             connections: Connections::new(alloc, all as usize)?,
+            turnstile: Turnstile::new(rt, alloc, all as usize, limits.hold)?,
             tally: Tally::new(),
             mode,
-            idle,
+            idle: limits.idle,
             is_stopped,
             all_ended: AtomicBool::new(false),
         })

@@ -2,6 +2,7 @@
 //!
 //! - [`listen_at_port`], [`listen_at_socket`]: a port of this machine, a socket of its file system ([`Door`]).
 //! - [`House`]: gates at which threads wait for connections, those that are open, what is counted, and workers' turns.
+//! - [`Turnstile`]: where sessions wait that have nothing begun, while one of them holds.
 //! - [`NoHttp`]: a connection whose bytes are passed on, unless it begins with a request of HTTP.
 //! - [`CountingSink`]: a sink of a session, whose answers let workers have turns.
 #![tactic(auto)]
@@ -12,16 +13,19 @@ mod door;
 mod gate;
 mod house;
 mod http;
+mod line;
 mod mode;
 mod pacer;
 mod rounds;
 mod tally;
+mod turnstile;
 mod waiting;
 
 pub use counting_sink::CountingSink;
 pub use door::{Door, listen_at_port, listen_at_socket};
-pub use house::{Doors, House};
+pub use house::{Doors, House, Limits};
 pub use http::NoHttp;
 pub use mode::Mode;
 pub use tally::SessionCounts;
+pub use turnstile::{HoldReply, Turnstile};
 pub use waiting::turn_away;

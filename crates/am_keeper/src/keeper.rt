@@ -107,6 +107,7 @@ impl<L: LatchName, T: PieceTaker + Drop, V: Watcher + Drop> Keeper<L, T, V> {
             let since = keeper.since_stop(rt, house);
             if is_over(keeper.grace, since) {
                 house.connections.cut_all(rt);
+                house.turnstile.open(rt);
             }
         }
         unreachable!()

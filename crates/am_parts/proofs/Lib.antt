@@ -1,6 +1,7 @@
 pub mod AppendedRuns
 pub mod Counts
 pub mod DirectoryAnswers
+pub mod KeptWords
 pub mod Alive
 pub mod LiveRuns
 pub mod ListedRuns

@@ -16,12 +16,12 @@ use Rattle.am_parts.specs.Partitions.{AreWellFormed, settled}
 use Rattle.am_parts.specs.Residences.{LivesInRun, OneRun}
 
 -- what is known of a place as one pair
-place_parts : (part part' : ℕ) (key key' : OrderedKey) → same_place part key part' key' ≡ true →
+pub place_parts : (part part' : ℕ) (key key' : OrderedKey) → same_place part key part' key' ≡ true →
     (part ≡ part') × (key ≡ key')
 place_parts part part' key key' h = let same : (part, key) ≡ (part', key') = one_place (part, key) (part', key') h in
     (ap (λ (q : Place). q.0) same, ap (λ (q : Place). q.1) same)
 
-lives : {es : List Entry} {key : OrderedKey} {part : ℕ} (value : List ℕ) → 0 < part →
+pub lives : {es : List Entry} {key : OrderedKey} {part : ℕ} (value : List ℕ) → 0 < part →
     find es part key ≡ Some (value, false) → LivesInRun es key part
 lives value some there = record { is_run = some; value = value; live = record { there = there } }
 

@@ -81,7 +81,7 @@ all_absent {es} sound (r ∷ rs) none dead = (
 
 -- ---- one key after another
 
-key_at : (rs : Records) (i : ℕ) (pair : Record) → i < length rs → pair ≡ get_or rs i pair → IsKeyAt rs i pair.0
+pub key_at : (rs : Records) (i : ℕ) (pair : Record) → i < length rs → pair ≡ get_or rs i pair → IsKeyAt rs i pair.0
 key_at rs i pair lt is = λ r. ap (λ (q : Record). q.0) (get_or_default rs i r pair lt ∙ sym is)
 
 -- where a key of a run is live

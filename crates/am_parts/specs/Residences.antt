@@ -1,12 +1,13 @@
 -- In which runs keys are live, and what a directory may tell of it.
-use Rattle.std.specs.Prelude.{◌≡◌, ◌≢◌, ◌⊎◌, ◌<◌, ◌≤◌, ℕ, List, false, get_or, map}
+use Rattle.std.specs.Prelude.{◌≡◌, ◌≢◌, ◌⊎◌, ◌+◌, ◌<◌, ◌≤◌, ℕ, List, false, get_or, map, IsSome}
 use Rattle.am_record.specs.OrderedKey.{OrderedKey}
 use Rattle.am_record.specs.KeyNumber.{key_number}
 use Rattle.am_record.specs.Plain.{Records}
 use Rattle.am_record.specs.declared.hash_key.HashKey.{HashKey}
 use Rattle.am_record.specs.declared.entry.Entry.{Entry}
 use Rattle.am_index.specs.Content.{IsLiveAt}
-use Rattle.am_directory.specs.Tables.{Table, label, residence_of, empty_in, HasEntered}
+use Rattle.am_index.specs.Entries.{find}
+use Rattle.am_directory.specs.Tables.{Table, label, code_of, residence_of, empty_in, HasCode, HasEntered, IsEntered}
 use Rattle.am_directory.specs.declared.residence.Residence.{Residence}
 use Rattle.am_directory.specs.declared.residence.Residence.TheVariants.{Nowhere, In, Unknown}
 use Rattle.am_parts.specs.declared.residences.Residences.{Residences}
@@ -41,9 +42,38 @@ Tell Lives r = Tells Lives r.hash r.directory
 abbrev pub AreResidences : List Entry → Residences → Type 0
 AreResidences es r = Tell (LivesInRun es) r
 
+-- the key has an entry in a run, live or a ghost
+pub record StandsInRun (es : List Entry) (key : OrderedKey) : Type 0 where
+  pub part : ℕ
+  pub is_run : 0 < part
+  pub there : IsSome (find es part key)
+
+-- a key of the label that meets this
+pub record HasKey (hash : HashKey) (sought : ℕ) (Meets : OrderedKey → Type 0) : Type 0 where
+  pub key : OrderedKey
+  pub labelled : label (key_number hash key) ≡ sought
+  pub meets : Meets key
+
+-- no word is kept in vain, but for those of labels of which nothing is known: where one names a run, a key of its label
+-- is live in that run, and where one says that none is live, a key of its label has an entry in a run
+pub record KeepsFor (Lives : OrderedKey → ℕ → Type 0) (Stands : OrderedKey → Type 0) (hash : HashKey) (t : Table) : Type
+    0 where
+  pub named : (sought run : ℕ) → code_of t.words sought ≡ run + 4 → HasKey hash sought (λ key. Lives key run)
+  pub asleep : (sought : ℕ) → code_of t.words sought ≡ 2 → HasKey hash sought Stands
+
+abbrev pub KeepNoneInVain : List Entry → Residences → Type 0
+KeepNoneInVain es r = KeepsFor (LivesInRun es) (StandsInRun es) r.hash r.directory
+
+-- what is told of the key's label alone may have changed
+abbrev pub OthersStay : Residences → OrderedKey → Residences → Type 0
+OthersStay old key new = (sought : ℕ) → sought ≢ label (key_number old.hash key) →
+    code_of new.directory.words sought ≡ code_of old.directory.words sought
+
 -- one more key is live in the run
 pub record HasNoted (old : Residences) (key : OrderedKey) (part : ℕ) (new : Residences) : Type 0 where
   pub hash : new.hash ≡ old.hash
+  pub code : HasCode old.directory (key_number old.hash key)
+      (IsEntered (code_of old.directory.words (label (key_number old.hash key))) part) new.directory
   pub entered : new.directory.is_lost ≡ false → HasEntered old.directory (key_number old.hash key) part new.directory
 
 -- there is room for so many live keys more
@@ -62,3 +92,8 @@ IsKeyAt rs i key = (r : OrderedKey × List ℕ) → (get_or rs i r).0 ≡ key
 abbrev pub LivesWith : List Entry → ℕ → Records → ℕ → ℕ → OrderedKey → ℕ → Type 0
 LivesWith es part rs from to key run =
     LivesInRun es key run ⊎ ((run ≡ part) × ((i : ℕ) × (from ≤ i) × (i < to) × IsKeyAt rs i key))
+
+-- the same while records from one place up to another are live in a run to come
+abbrev pub KeepNoneWith : List Entry → ℕ → Records → ℕ → ℕ → Residences → Type 0
+KeepNoneWith es part rs from to r =
+    KeepsFor (LivesWith es part rs from to) (StandsInRun es) r.hash r.directory

@@ -72,7 +72,7 @@ impl<I: PartIndex + Drop> Model for Parts<I> {
     ghost use Rattle.am_parts.specs.Catalogs.{IsCatalog};
     ghost use Rattle.am_parts.specs.MergedRanges.{AreMerged};
     ghost use Rattle.am_parts.specs.Partitions.{Partitions, partitions_code, AreWellFormed};
-    ghost use Rattle.am_parts.specs.Residences.{AreResidences};
+    ghost use Rattle.am_parts.specs.Residences.{AreResidences, KeepNoneInVain};
 
     ghost Value = { Partitions };
 
@@ -82,7 +82,8 @@ impl<I: PartIndex + Drop> Model for Parts<I> {
 
     ghost invariant = { λ p. AreWellFormed (I.entries p.index) × (p.runs ≤ 65535) ×
         IsCatalog (I.entries p.index) p.catalog × AreResidences (I.entries p.index) p.residences ×
-        AreMerged (I.entries p.index) p.runs p.merged.list.items × HaveRoom (I.entries p.index) (I.roomy p.index) };
+        AreMerged (I.entries p.index) p.runs p.merged.list.items × HaveRoom (I.entries p.index) (I.roomy p.index) ×
+        KeepNoneInVain (I.entries p.index) p.residences };
 }
 
 impl<I: PartIndex + Drop> Parts<I> {

@@ -1,6 +1,6 @@
 //! In which runs keys are live.
 
-ghost use Rattle.std.specs.Prelude.{◌≡◌, ◌≢◌, ◌+◌, ◌<◌, ℕ, List, [], Some, IsSome, is_some, true, false, length};
+ghost use Rattle.std.specs.Prelude.{◌≡◌, ◌≢◌, ◌+◌, ◌<◌, ℕ, List, [], Some, None, IsSome, is_some, true, false, length};
 ghost use Rattle.std.specs.Prelude.{◌≤◌, get_or, OnOk};
 ghost use Rattle.std.specs.List.{AllByRecursion};
 ghost use Rattle.std.specs.FinMap.{is_sorted};
@@ -9,11 +9,12 @@ ghost use Rattle.am_record.specs.KeyNumber.{key_number, numbers_of};
 ghost use Rattle.am_record.specs.declared.entry.Entry.{Entry};
 ghost use Rattle.am_index.specs.Entries.{find, entry_at, insert_entry, set_entry, remove_entry, IsRising};
 ghost use Rattle.am_index.specs.Content.{live_value};
-ghost use Rattle.am_directory.specs.Tables.{are_free, residence_of};
+ghost use Rattle.am_directory.specs.Tables.{are_free, code_of, label, residence_of};
 ghost use Rattle.am_directory.specs.declared.residence.Residence.TheVariants.{Nowhere};
 ghost use Rattle.am_parts.specs.Partitions.{LivesInNoRun};
 ghost use Rattle.am_parts.specs.Residences.{LivesInRun, OneRun, Allows, AreResidences, Tell, LivesWith};
-ghost use Rattle.am_parts.specs.Residences.{HasNoted, HasRoomFor, entry_numbers};
+ghost use Rattle.am_parts.specs.Residences.{HasNoted, HasRoomFor, KeepNoneInVain, KeepNoneWith, OthersStay};
+ghost use Rattle.am_parts.specs.Residences.{entry_numbers};
 
 use am_directory::{Directory, Residence};
 use am_record::{Entry, HashKey, Key, NoMemory, Value};
@@ -33,7 +34,8 @@ pub(crate) struct Residences {
 impl Residences {
     /// Those of an empty index. It takes no memory.
     pub(crate) fn new(alloc: Global, hash: HashKey) -> Residences
-        ensures { AreResidences [] result }
+        ensures told { AreResidences [] result }
+        ensures kept { KeepNoneInVain [] result }
     {
         Residences {
             directory: Directory::new(alloc),
@@ -57,6 +59,7 @@ impl Residences {
         ensures room { OnOk result (0 < part → HasRoomFor self.new keys) }
         ensures lost { self.new.directory.is_lost ≡ self.old.directory.is_lost }
         ensures same { (es : List Entry) → AreResidences es self.old → AreResidences es self.new }
+        ensures kept { (es : List Entry) → KeepNoneInVain es self.old → KeepNoneInVain es self.new }
     {
         if part == 0 {
             return Ok(());
@@ -69,6 +72,8 @@ impl Residences {
         requires room { 0 < entry.now.part → HasRoomFor self.old 1 }
         ensures added { (es : List Entry) → IsRising es → AreResidences es self.old →
             AreResidences (insert_entry es entry.now) self.new }
+        ensures kept { (es : List Entry) → IsRising es → find es entry.now.part entry.now.key ≡ None →
+            KeepNoneInVain es self.old → KeepNoneInVain (insert_entry es entry.now) self.new }
         ensures lost { self.old.directory.is_lost ≡ false → self.new.directory.is_lost ≡ false }
     {
         if entry.part > 0 && !entry.is_ghost {
@@ -79,9 +84,12 @@ impl Residences {
 
     /// Notes that an entry is written over, which was live or a ghost. Takes no memory.
     pub(crate) fn set(&mut self, part: u32, key: Key, was_live: bool, is_ghost: bool)
-        ensures { (es : List Entry) (value : List ℕ) → IsRising es → OneRun es → IsSome (find es part key) →
+        ensures told { (es : List Entry) (value : List ℕ) → IsRising es → OneRun es → IsSome (find es part key) →
             was_live ≡ is_some (live_value (find es part key)) → AreResidences es self.old →
             AreResidences (set_entry es part key value is_ghost) self.new }
+        ensures kept { (es : List Entry) (value : List ℕ) → IsRising es → IsSome (find es part key) →
+            was_live ≡ is_some (live_value (find es part key)) → KeepNoneInVain es self.old →
+            KeepNoneInVain (set_entry es part key value is_ghost) self.new }
     {
         if part == 0 || was_live != is_ghost {
             return;
@@ -94,11 +102,15 @@ impl Residences {
         }
     }
 
-    /// Notes that an entry is taken out. Takes no memory.
+    /// Notes that an entry is taken out. The word of its key is let go, unless another key of its label needs it.
+    /// Takes no memory.
     pub(crate) fn take(&mut self, entry: &Entry)
-        ensures { (es : List Entry) → IsRising es → OneRun es →
+        ensures told { (es : List Entry) → IsRising es → OneRun es →
             entry_at es entry.now.part entry.now.key ≡ Some entry.now → AreResidences es self.old →
             AreResidences (remove_entry es entry.now.part entry.now.key) self.new }
+        ensures kept { (es : List Entry) → IsRising es → entry_at es entry.now.part entry.now.key ≡ Some entry.now →
+            KeepNoneInVain es self.old → KeepNoneInVain (remove_entry es entry.now.part entry.now.key) self.new }
+        ensures others { OthersStay self.old entry.now.key self.new }
     {
         if entry.part == 0 {
             return;
@@ -137,6 +149,8 @@ impl Residences {
         ensures exact { result ≡ are_free self.now.directory (entry_numbers self.now.hash entries.now) }
         ensures free { result ≡ true → (i : ℕ) (e : Entry) → i < length entries.now →
             residence_of self.now.directory (key_number self.now.hash (get_or entries.now i e).key) ≡ Nowhere }
+        ensures none { result ≡ true → (i : ℕ) (e : Entry) → i < length entries.now →
+            code_of self.now.directory.words (label (key_number self.now.hash (get_or entries.now i e).key)) ≡ 0 }
     {
         let mut numbers = [0; AHEAD];
         for (at, entry) in entries.iter().enumerate() {
@@ -176,6 +190,8 @@ impl Residences {
         requires rising { is_sorted key_cmp pairs.now ≡ true }
         ensures forgot { (es : List Entry) (part : ℕ) → AllByRecursion (λ r. LivesInNoRun es r.0) pairs.now →
             Tell (LivesWith es part pairs.now 0 (length pairs.now)) self.old → AreResidences es self.new }
+        ensures kept { (es : List Entry) (part : ℕ) → KeepNoneWith es part pairs.now 0 (length pairs.now) self.old →
+            KeepNoneInVain es self.new }
         ensures lost { self.new.directory.is_lost ≡ self.old.directory.is_lost }
     {
         for pair in pairs {

@@ -11,6 +11,7 @@ ghost use Rattle.am_directory.specs.Tables.{residence_of};
 ghost use Rattle.am_parts.specs.Catalogs.{IsCatalog};
 ghost use Rattle.am_parts.specs.Partitions.{AreWellFormed, AreAllAbsent, IsLiveEntry, LivesInNoRun};
 ghost use Rattle.am_parts.specs.Residences.{LivesInRun, LivesWith, Allows, AreResidences, Tell, HasNoted, HasRoomFor};
+ghost use Rattle.am_parts.specs.Residences.{KeepNoneInVain, KeepNoneWith};
 
 use crate::catalog::Catalog;
 use crate::fault::RunFault;
@@ -85,13 +86,17 @@ pub(crate) fn enter_run<I: PartIndex + Drop>(
     requires sound { AreWellFormed (I.entries index.now) }
     requires counted { IsCatalog (I.entries index.now) catalog.now }
     requires told { AreResidences (I.entries index.now) residences.old }
+    requires kept { KeepNoneInVain (I.entries index.now) residences.old }
     requires room { HasRoomFor residences.old (length pairs.now) }
     requires sorted { is_sorted key_cmp pairs.now ≡ true }
     ensures entered { OnOk result (Tell (LivesWith (I.entries index.now) part pairs.now 0 (length pairs.now))
         residences.new) }
+    ensures kept { OnOk result (KeepNoneWith (I.entries index.now) part pairs.now 0 (length pairs.now)
+        residences.new) }
     ensures dead { OnOk result (AllByRecursion (λ r. LivesInNoRun (I.entries index.now) r.0) pairs.now) }
     ensures taken { IsErr result → ¬ AreAllAbsent (I.entries index.now) pairs.now }
     ensures same { OnErr result (AreResidences (I.entries index.now) residences.new) }
+    ensures none_in_vain { OnErr result (KeepNoneInVain (I.entries index.now) residences.new) }
     ensures lost { residences.old.directory.is_lost ≡ false → residences.new.directory.is_lost ≡ false }
 {
     let mut ahead = Ahead::none();

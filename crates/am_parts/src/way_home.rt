@@ -8,7 +8,7 @@ ghost use Rattle.am_index.specs.Rooms.{needs_room, HaveRoom, KeepRoom};
 ghost use Rattle.am_parts.specs.Catalogs.{IsCatalog};
 ghost use Rattle.am_parts.specs.GoingHome.{AreHomesOf, goes_behind};
 ghost use Rattle.am_parts.specs.Partitions.{settled_too, all_settled, FirstNeedsRoom};
-ghost use Rattle.am_parts.specs.Residences.{OneRun, AreResidences};
+ghost use Rattle.am_parts.specs.Residences.{OneRun, AreResidences, KeepNoneInVain};
 
 use crate::catalog::Catalog;
 use crate::residences::{AHEAD, Residences};
@@ -209,6 +209,9 @@ pub(crate) fn forget_all(catalog: &mut Catalog, residences: &mut Residences, ent
     ensures residences { (front back : List Entry) → IsRising (front ++ (entries.now ++ back)) →
         OneRun (front ++ (entries.now ++ back)) → AreResidences (front ++ (entries.now ++ back)) residences.old →
         AreResidences (front ++ back) residences.new }
+    ensures kept { (front back : List Entry) → IsRising (front ++ (entries.now ++ back)) →
+        KeepNoneInVain (front ++ (entries.now ++ back)) residences.old →
+        KeepNoneInVain (front ++ back) residences.new }
 {
     for entry in entries {
         catalog.take(entry.part, !entry.is_ghost);

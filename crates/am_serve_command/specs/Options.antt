@@ -36,6 +36,9 @@ idle = record { least = 1; most = 43200; default = Some 1 }
 abbrev pub workers : Setting
 workers = record { least = 0; most = 16; default = Some 1 }
 
+abbrev pub hold : Setting
+hold = record { least = 0; most = 60000; default = Some 60000 }
+
 -- `--NAME VALUE`
 abbrev pub option_rule : Text → Rule
 option_rule name = record (new_rule name) { long = Some name; value_names = 1 }
@@ -60,10 +63,11 @@ common_app =
     let with_trace = with_rule with_workers (option_rule (codes "trace")) in
     with_rule with_trace (flag_rule (codes "stop"))
 
--- and `[--stay] [--grace S] [--idle S] [--socket PATH] [--log]`
+-- and `[--hold MS] [--stay] [--grace S] [--idle S] [--socket PATH] [--log]`
 abbrev pub listen_app : App
 listen_app =
-    let with_stay = with_rule common_app (flag_rule (codes "stay")) in
+    let with_hold = with_rule common_app (number_rule (option_rule (codes "hold")) hold) in
+    let with_stay = with_rule with_hold (flag_rule (codes "stay")) in
     let with_grace = with_rule with_stay (number_rule (option_rule (codes "grace")) grace) in
     let with_idle = with_rule with_grace (number_rule (option_rule (codes "idle")) idle) in
     let with_socket = with_rule with_idle (option_rule (codes "socket")) in
@@ -104,6 +108,7 @@ pub record NamesListening (rows : List Row) (listening : Listening) : Type 0 whe
   pub sessions_set : Sets (cond listening.stays staying_sessions sessions) (first_of (codes "sessions") rows)
       listening.sessions
   pub workers_set : Sets workers (first_of (codes "workers") rows) listening.workers
+  pub hold_set : Sets hold (first_of (codes "hold") rows) listening.hold
   pub trace_named : option_map (λ file. file.now) listening.trace ≡ first_of (codes "trace") rows
   pub trace_has_name : first_of (codes "trace") rows ≢ Some []
   pub stop_awaited : IsTrue listening.awaits_stop ↔ (first_of (codes "stop") rows ≡ Some (codes "true"))

@@ -65,6 +65,13 @@ const IDLE: Setting = Setting {
     default: Some(1),
 };
 
+/// For how many milliseconds at most a session may hold.
+const HOLD: Setting = Setting {
+    least: 0,
+    most: 60_000,
+    default: Some(60_000),
+};
+
 /// How many workers merge.
 const WORKERS: Setting = Setting {
     least: 0,
@@ -119,13 +126,20 @@ fn alone<'a>(alloc: Global) -> Result<Command<'a>, AllocError>
         ))
 }
 
-/// `listen`, with what each server takes and what goes with one that stays:
+/// `listen`, with what each server takes, `[--hold MS]` too, and what goes with one that stays:
 /// `[--stay] [--grace S] [--idle S] [--socket PATH] [--log]`. It has a frame of its own, so that none is large.
 #[inline(never)]
 fn listen<'a>(alloc: Global) -> Result<Command<'a>, AllocError>
     ensures { IfOk result (λ command. IsCommand listen_app command) }
 {
     listen_common(alloc)?
+        .arg(number(
+            alloc,
+            "hold",
+            "MS",
+            "For how many milliseconds at most a session may HOLD, 0 to 60000 [default: 60000]",
+            HOLD,
+        ))?
         .arg(flag(
             alloc,
             "stay",
@@ -261,6 +275,7 @@ fn listening_in<'a>(given: &ArgMatches<'a>) -> Option<Listening<'a>>
         port: number_in(given, "port", PORT)?,
         sessions: u64::from(number_in(given, "sessions", sessions)?),
         workers: u64::from(number_in(given, "workers", WORKERS)?),
+        hold: u64::from(number_in(given, "hold", HOLD)?),
         trace: file_in(text_in(given, "trace"))?,
         awaits_stop: is_given(given, "stop"),
         stays,

@@ -19,6 +19,8 @@ pub struct Listening<'a> {
     pub sessions: u64,
     /// How many workers merge; 0 to 16.
     pub workers: u64,
+    /// For how many milliseconds at most a session may hold; 0 to 60,000.
+    pub hold: u64,
     /// The file that gets the trace, where one is named; never the empty name.
     pub trace: Option<&'a str>,
     /// Whether the server goes on until a line `STOP`, or the end of its standard input, has come.

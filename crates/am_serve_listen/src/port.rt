@@ -8,7 +8,7 @@ use am_console::{
     Console, OpenedTrace, Writer, await_stop, begin_trace, forget_trace, remove_socket,
     store_trace, tell,
 };
-use am_doors::Mode;
+use am_doors::{Limits, Mode};
 use am_keeper::{Keeping, Watcher};
 use am_serve_command::Listening;
 use am_server::{BindFault, PortListener, bind};
@@ -167,7 +167,10 @@ fn serve_with<
         pieces,
         watcher: Console::new(rt, outbox, listening),
         grace: listening.grace.map(Duration::from_secs),
-        idle: listening.idle.map(Duration::from_secs),
+        limits: Limits {
+            idle: listening.idle.map(Duration::from_secs),
+            hold: listening.hold,
+        },
     };
     let mode = if listening.stays {
         Mode::Staying

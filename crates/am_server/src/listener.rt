@@ -150,12 +150,13 @@ impl PortListener {
             return Err(NoMemory);
         };
         let house = House::new(
+            rt,
             self.alloc,
             doors,
             &self.is_stopped,
             sessions,
             mode,
-            keeping.idle,
+            keeping.limits,
         )?;
         run::<Brand, R, T, V>(
             rt,

@@ -188,7 +188,8 @@ pub(crate) fn run<
     requires counter_seats { All (λ h. h.of ≡ counters.now) counter_seats.items }
     requires few { length counter_seats.items ≤ L.seats }
     requires places { house.now.connections ≡ length counter_seats.items }
-    requires idle { house.now.idle ≡ keeping.idle }
+    requires idle { house.now.idle ≡ keeping.limits.idle }
+    requires hold { house.now.turnstile ≡ keeping.limits.hold }
     ensures { IfOk result (IsServerTrace T.took keeping.pieces house.now.mode (length counter_seats.items)
         (L.seats - length counter_seats.items)) }
 {
@@ -201,6 +202,7 @@ pub(crate) fn run<
         alloc,
         &latch,
         counters,
+        &house.turnstile,
         seats,
         counter_seats,
     )?;

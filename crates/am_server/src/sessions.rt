@@ -15,6 +15,7 @@ use am_stream::{AnsweredSource, Source};
 use std::alloc::Global;
 use std::io::{BufWriter, Write};
 use std::net::TcpStream;
+use std::rt::Clock;
 use std::sync::Wait;
 
 /// Answers the lines of a source at a seat, each by one line, and at the end aborts what is open there. The sink has
@@ -22,7 +23,7 @@ use std::sync::Wait;
 /// published there is the commit of one of its receipts.
 pub fn serve_session<
     'a,
-    W: Wait,
+    W: Wait + Clock,
     K: PartingSink<SessionSeat<'a, L>>,
     S: AnsweredSource<K>,
     L: LatchName,
@@ -48,7 +49,7 @@ pub fn serve_session<
 
 /// Serves one connection to its end. What comes from it is the source's, which looks for a request of HTTP where the
 /// server stays.
-pub(crate) fn serve_connection<'a, W: Wait, S: Source + Drop, L: LatchName>(
+pub(crate) fn serve_connection<'a, W: Wait + Clock, S: Source + Drop, L: LatchName>(
     rt: &W,
     alloc: Global,
     house: &House<'_>,

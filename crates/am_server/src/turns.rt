@@ -26,7 +26,7 @@ fn limit_idleness(stream: &TcpStream, idle: Option<Duration>) {
 }
 
 // Serves a connection to its end, where it can be cut.
-fn serve_at_place<'a, R: Wait, L: LatchName>(
+fn serve_at_place<'a, R: Wait + Clock, L: LatchName>(
     rt: &R,
     alloc: Global,
     house: &House<'_>,

@@ -1,11 +1,13 @@
 //! What a session stands on.
 
-ghost use Rattle.std.specs.Prelude.{◌≡◌};
+ghost use Rattle.std.specs.Prelude.{◌≡◌, None};
 ghost use Rattle.am_record.specs.Sessions.{IsAllowed, active_after};
 ghost use Rattle.am_dialogue.specs.Actions.{EndsAbort};
 ghost use Rattle.am_dialogue.specs.Backends.{BackendMeaning};
 
+use am_dialogue::HoldAnswer;
 use am_record::{Reply, Step};
+use std::rt::Clock;
 use std::sync::Wait;
 
 /// A store as one session sees it.
@@ -25,4 +27,23 @@ pub trait Backend {
     fn seen(&mut self) -> (u64, u64)
         ensures shows { means.shows self.old result.0 result.1 self.new }
         ensures active { means.active self.new ≡ means.active self.old };
+
+    /// Keeps others from their turns that have no transaction active, for so many milliseconds at most, as soon as none
+    /// has. Whether it does, and else why not. No step is taken.
+    fn hold<W: Wait + Clock>(&self, rt: &W, millis: u64) -> HoldAnswer
+        requires idle { means.active self.now ≡ None }
+        ensures holds { means.holds self.now millis result };
+
+    /// Returns once it is the session's turn, which has no transaction active: a line of it may be answered, and no
+    /// other holds.
+    fn await_turn<W: Wait + Clock>(&self, rt: &W);
+
+    /// Whether the session, which has no transaction active, would wait for its turn.
+    fn is_kept(&self) -> bool;
+
+    /// The turn is over: what a line asked for is done, and no transaction is active.
+    fn end_turn(&self);
+
+    /// The session ends. It has no turn any more, and holds no more.
+    fn end_session<W: Wait>(&self, rt: &W);
 }

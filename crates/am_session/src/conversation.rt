@@ -16,6 +16,7 @@ use am_dialogue::{Action, ParsedLine, Response, Session, put_response};
 use am_record::Step;
 use am_sink::{Failed, Sink};
 use am_stream::{AnsweredSource, FoundLine, Input, LineBuffer, read_line};
+use std::rt::Clock;
 use std::sync::Wait;
 
 /// Takes the next line. The source is asked only where no whole line is at hand, and then nothing is unsent.
@@ -46,7 +47,7 @@ pub(crate) fn next_line<W: Wait, K: Sink, S: AnsweredSource<K>>(
 }
 
 // Takes the step that is due for a line, if one is.
-fn respond<W: Wait, B: Backend>(
+fn respond<W: Wait + Clock, B: Backend>(
     rt: &W,
     backend: &mut B,
     session: &mut Session,
@@ -68,26 +69,39 @@ fn respond<W: Wait, B: Backend>(
             let (session, commits) = backend.seen();
             Response::Seen(session, commits)
         }
+        Action::AskHold(millis) => Response::Hold(backend.hold(rt, millis)),
     }
 }
 
-// Writes a response, and sends on what was written, unless a whole line is at hand.
-fn send<K: Sink>(sink: &mut K, input: &Input, response: &Response) -> Result<(), Failed>
+// The session, which has no transaction active, has no turn any more. Whether it would wait for the next one.
+fn gives_way<B: Backend>(backend: &B) -> bool {
+    backend.end_turn();
+    backend.is_kept()
+}
+
+// Writes a response, and sends on what was written, unless a whole line is at hand that is answered at once.
+fn send<K: Sink>(
+    sink: &mut K,
+    input: &Input,
+    response: &Response,
+    is_kept: bool,
+) -> Result<(), Failed>
     requires countable { K.failures sink.old < 2 ^ 63 }
     ensures wrote { Wrote K.holds K.failures sink.old (response_text response.now) result sink.new }
     ensures sent { OnOk result (has_lf input.now ≡ false → K.pending sink.new ≡ false) }
-    ensures together { OnOk result (has_lf input.now ≡ true → K.pending sink.new ≡ true) }
+    ensures together { OnOk result (has_lf input.now ≡ true → is_kept ≡ false → K.pending sink.new ≡ true) }
+    ensures kept { OnOk result (is_kept ≡ true → K.pending sink.new ≡ false) }
 {
     put_response(response, sink)?;
-    if input.has_line() {
+    if input.has_line() && !is_kept {
         return Ok(());
     }
     sink.flush()
 }
 
-/// Answers a line, and sends the answers on, unless a whole line is at hand: answers to lines that came together go
-/// out together.
-pub(crate) fn answer<W: Wait, K: Sink, B: Backend>(
+/// Answers a line, and sends the answers on, unless a whole line is at hand and is answered at once: answers to lines
+/// that came together go out together.
+pub(crate) fn answer<W: Wait + Clock, K: Sink, B: Backend>(
     rt: &W,
     input: &Input,
     sink: &mut K,
@@ -101,14 +115,14 @@ pub(crate) fn answer<W: Wait, K: Sink, B: Backend>(
     ensures answered { OnOk result (GivesAnswer K.holds B.means sink.old
         (backend.old, session.old.staged) parsed sink.new (backend.new, session.new.staged)) }
     ensures sent { OnOk result (has_lf input.now ≡ false → K.pending sink.new ≡ false) }
-    ensures together { OnOk result (has_lf input.now ≡ true → K.pending sink.new ≡ true) }
     ensures ok { OnOk result (K.failures sink.new ≡ K.failures sink.old) }
     ensures failed { OnErr result (K.failures sink.new ≡ K.failures sink.old + 1) }
     ensures torn { OnErr result (GivesTorn K.holds B.means sink.old
         (backend.old, session.old.staged) parsed sink.new (backend.new, session.new.staged)) }
 {
     let response = respond(rt, backend, session, parsed);
-    send(sink, input, &response)
+    let is_kept = session.active().is_none() && gives_way(backend);
+    send(sink, input, &response, is_kept)
 }
 
 /// Merges once, unless `auto` is 0.

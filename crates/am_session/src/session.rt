@@ -10,11 +10,12 @@ use crate::backend::Backend;
 use crate::conversation::{answer, merge, next_line};
 use crate::end::End;
 use crate::parting_sink::PartingSink;
-use am_dialogue::{Session, parse};
+use am_dialogue::{ParsedLine, Session, parse};
 use am_record::Step;
 use am_sink::{Failed, Sink};
 use am_stream::{AnsweredSource, Input, LineBuffer};
 use std::alloc::Global;
+use std::rt::Clock;
 use std::sync::Wait;
 
 /// Why no further line is answered.
@@ -26,8 +27,20 @@ enum Stop {
     WriteFailed,
 }
 
+// Returns once the line may be answered. Who would hold hears at once where another does.
+fn await_turn<W: Wait + Clock, B: Backend>(
+    rt: &W,
+    backend: &B,
+    session: &Session,
+    parsed: &ParsedLine,
+) {
+    if session.active().is_none() && !parsed.is_hold() {
+        backend.await_turn(rt);
+    }
+}
+
 // Answers the lines of a source up to the first QUIT.
-fn talk<W: Wait, K: Sink, S: AnsweredSource<K>, B: Backend>(
+fn talk<W: Wait + Clock, K: Sink, S: AnsweredSource<K>, B: Backend>(
     rt: &W,
     alloc: Global,
     input: &mut Input,
@@ -58,6 +71,7 @@ fn talk<W: Wait, K: Sink, S: AnsweredSource<K>, B: Backend>(
             return Stop::EndOfInput;
         };
         let parsed = parse(alloc, found.kind, line.as_slice());
+        await_turn(rt, backend, session, &parsed);
         if parsed.is_quit() {
             return Stop::Quit;
         }
@@ -89,7 +103,7 @@ fn leave<W: Wait, B: Backend>(rt: &W, backend: &mut B, active: Option<u64>)
 /// The backend takes the steps of the lines, the merges and the last Abort; each line that is written is the text of a
 /// line's fault, or of the reply to its step, however the source cuts its bytes. Nothing is unsent whenever the source
 /// is asked ([`AnsweredSource`]). BYE is said behind all answers, while nothing is active ([`PartingSink`]).
-pub fn serve<W: Wait, K: PartingSink<B>, S: AnsweredSource<K>, B: Backend>(
+pub fn serve<W: Wait + Clock, K: PartingSink<B>, S: AnsweredSource<K>, B: Backend>(
     rt: &W,
     alloc: Global,
     source: &mut S,
@@ -128,6 +142,7 @@ pub fn serve<W: Wait, K: PartingSink<B>, S: AnsweredSource<K>, B: Backend>(
         auto,
     );
     leave(rt, backend, session.active());
+    backend.end_session(rt);
     match stop {
         Stop::EndOfInput => End::EndOfInput,
         Stop::ReadFailed => End::ReadFailed,

@@ -10,6 +10,8 @@ use Rattle.am_latch.specs.declared.latch_name.LatchName as latch_name
 use Rattle.am_counters.proofs.counters.Counters.TheSendSync as counters
 use Rattle.am_counters.proofs.counters.CounterSeat.TheSendSync as counter_seat
 use Rattle.am_counters.specs.contracts.counters.Counters as Counters
+use Rattle.am_doors.proofs.turnstile.Turnstile.TheSendSync as turnstile
+use Rattle.am_doors.specs.contracts.turnstile.Turnstile as Turnstile
 use Rattle.am_session_seat.specs.contracts.session_seat.SessionSeat as SessionSeat
 use Rattle.am_session_seat.specs.contracts.session_seat.SessionSeat.TheInside as Inside
 
@@ -22,7 +24,13 @@ place_send a T g = view_send (Inside.the_row a T g) _ _ _ _
         shr_send _ _ Counters.the_row counters.the_sync,
         (
           seat.the_send T g,
-          (counter_seat.the_send, (plain_send _ _ _ _ _, tt)),
+          (
+            counter_seat.the_send,
+            (
+              plain_send _ _ _ _ _,
+              (shr_send _ _ Turnstile.the_row turnstile.the_sync, (plain_send _ _ _ _ _, tt)),
+            ),
+          ),
         ),
       ),
     )))

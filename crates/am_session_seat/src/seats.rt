@@ -6,11 +6,13 @@ ghost use Rattle.am_session_seat.specs.Seats.{session_seat_numbers, latch_seats}
 
 use crate::session_seat::SessionSeat;
 use am_counters::{CounterSeat, Counters};
+use am_doors::Turnstile;
 use am_latch::{Latch, LatchName, Seat};
 use am_record::NoMemory;
 use std::alloc::Global;
 
-/// Gives the first seats of a latch to the sessions, one for each seat of the counters, and the others to workers.
+/// Gives the first seats of a latch to the sessions, one for each seat of the counters, and the others to workers. The
+/// place of each at the turnstile is its own among these.
 ///
 /// # Errors
 /// NoMemory, where memory was refused.
@@ -18,6 +20,7 @@ pub fn assign_seats<'a, L: LatchName>(
     alloc: Global,
     latch: &'a Latch<L>,
     counters: &'a Counters,
+    turnstile: &'a Turnstile,
     seats: Vec<Seat<L>>,
     counter_seats: Vec<CounterSeat>,
 ) -> Result<(Vec<SessionSeat<'a, L>>, Vec<Seat<L>>), NoMemory>
@@ -37,7 +40,15 @@ pub fn assign_seats<'a, L: LatchName>(
         if worker_seats.is_empty()
             && let Some(counter_seat) = counter_seats.pop()
         {
-            session_seats.push(SessionSeat::new(latch, counters, seat, counter_seat))?;
+            let place = session_seats.len();
+            session_seats.push(SessionSeat::new(
+                latch,
+                counters,
+                seat,
+                counter_seat,
+                turnstile,
+                place,
+            ))?;
         } else {
             worker_seats.push(seat)?;
         }

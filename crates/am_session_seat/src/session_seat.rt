@@ -5,20 +5,25 @@ ghost use Rattle.am_latch.specs.Receipts.{last_commit_of};
 ghost use Rattle.am_session_seat.specs.SessionSeats.{published, seat_meaning, HasDrawn};
 
 use am_counters::{CounterSeat, Counters};
+use am_dialogue::HoldAnswer;
+use am_doors::{HoldReply, Turnstile};
 use am_latch::{Latch, LatchName, Seat};
 use am_record::{Reply, Step};
 use am_session::Backend;
 use std::marker::Model;
+use std::rt::Clock;
 use std::sync::Wait;
 
-/// The seats of one session: one of the latch, which all sessions step, one of the counters, and the number that
-/// was drawn for the session.
+/// The seats of one session: one of the latch, which all sessions step, one of the counters, the place at the turnstile
+/// of all, and the number that was drawn for the session.
 pub struct SessionSeat<'a, L: LatchName> {
     latch: &'a Latch<L>,
     counters: &'a Counters,
     seat: Seat<L>,
     counter_seat: CounterSeat,
     number: u64,
+    turnstile: &'a Turnstile,
+    place: usize,
 }
 
 // By hand: a crate above then need not prove once more how a seat is dropped.
@@ -30,6 +35,8 @@ impl<'a, L: LatchName> Drop for SessionSeat<'a, L> {
             seat,
             counter_seat,
             number: _,
+            turnstile: _,
+            place: _,
         } = self;
         drop(seat);
         drop(counter_seat);
@@ -58,6 +65,8 @@ impl<'a, L: LatchName> SessionSeat<'a, L> {
         counters: &'a Counters,
         seat: Seat<L>,
         counter_seat: CounterSeat,
+        turnstile: &'a Turnstile,
+        place: usize,
     ) -> SessionSeat<'a, L>
         requires { counter_seat.of ≡ counters.now }
         ensures { result ≡ record { seat = seat; counter_seat = counter_seat; number = 0 } }
@@ -68,6 +77,8 @@ impl<'a, L: LatchName> SessionSeat<'a, L> {
             seat,
             counter_seat,
             number: 0,
+            turnstile,
+            place,
         }
     }
 
@@ -105,6 +116,8 @@ impl<'a, L: LatchName> SessionSeat<'a, L> {
             seat,
             counter_seat,
             number: _,
+            turnstile: _,
+            place: _,
         } = self;
         drop(counter_seat);
         seat
@@ -118,12 +131,45 @@ impl<'a, L: LatchName> Backend for SessionSeat<'a, L> {
     fn call<W: Wait>(&mut self, rt: &W, step: Step) -> Reply {
         let reply = self.seat.call(rt, self.latch, step);
         publish(self.counters, &mut self.counter_seat, &self.seat, &reply);
+        end_hold_behind(rt, self.turnstile, self.place, &reply);
         reply
     }
 
     fn seen(&mut self) -> (u64, u64) {
         let commits = self.counters.seen(&mut self.counter_seat);
         (self.number, commits)
+    }
+
+    fn hold<W: Wait + Clock>(&self, rt: &W, millis: u64) -> HoldAnswer {
+        match self.turnstile.hold(rt, self.place, self.number, millis) {
+            HoldReply::Holds => HoldAnswer::Granted,
+            HoldReply::TooLong => HoldAnswer::OutOfBounds,
+            HoldReply::KeptBy(session) => HoldAnswer::HeldBy(session),
+        }
+    }
+
+    fn await_turn<W: Wait + Clock>(&self, rt: &W) {
+        self.turnstile.await_turn(rt, self.place, self.number);
+    }
+
+    fn is_kept(&self) -> bool {
+        self.turnstile.is_kept(self.place)
+    }
+
+    fn end_turn(&self) {
+        self.turnstile.end_turn(self.place);
+    }
+
+    fn end_session<W: Wait>(&self, rt: &W) {
+        self.turnstile.end_turn(self.place);
+        self.turnstile.end_hold(rt, self.place);
+    }
+}
+
+// A transaction's end is the end of the hold that its session has.
+fn end_hold_behind<W: Wait>(rt: &W, turnstile: &Turnstile, place: usize, reply: &Reply) {
+    if matches!(reply, Reply::Committed(_) | Reply::Aborted) {
+        turnstile.end_hold(rt, place);
     }
 }
 

@@ -22,10 +22,11 @@ pub enum Verb {
     Merge,
     Clean,
     Seen,
+    Hold,
     Quit,
 }
 
-const VERBS: [Verb; 17] = [
+const VERBS: [Verb; 18] = [
     Verb::Begin,
     Verb::Get,
     Verb::Scan,
@@ -42,6 +43,7 @@ const VERBS: [Verb; 17] = [
     Verb::Merge,
     Verb::Clean,
     Verb::Seen,
+    Verb::Hold,
     Verb::Quit,
 ];
 
@@ -67,6 +69,7 @@ impl Verb {
             Verb::Merge => b"MERGE",
             Verb::Clean => b"CLEAN",
             Verb::Seen => b"SEEN",
+            Verb::Hold => b"HOLD",
             Verb::Quit => b"QUIT",
         }
     }

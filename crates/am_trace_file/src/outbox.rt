@@ -38,12 +38,20 @@ pub struct Outbox {
     // 0 while nothing waits.
     has_come: AtomicU64,
     is_failed: AtomicBool,
+    most_waiting: usize,
     alloc: Global,
 }
 
 impl Outbox {
     /// An outbox that has no file yet.
     pub fn new(alloc: Global) -> Outbox {
+        Outbox::with_bound(alloc, MOST_WAITING)
+    }
+
+    /// The same, in which so many bytes may wait.
+    pub fn with_bound(alloc: Global, most_waiting: usize) -> Outbox
+        ensures { result.most_waiting ≡ most_waiting }
+    {
         Outbox {
             waiting: Mutex::new(Waiting {
                 file: None,
@@ -53,6 +61,7 @@ impl Outbox {
             }),
             has_come: AtomicU64::new(0),
             is_failed: AtomicBool::new(false),
+            most_waiting,
             alloc,
         }
     }
@@ -91,7 +100,7 @@ impl Outbox {
         let Ok(copy) = Vec::from_slice(self.alloc, piece) else {
             return Err(Failed);
         };
-        if len > MOST_WAITING || waiting.pieces.push(copy).is_err() {
+        if len > self.most_waiting || waiting.pieces.push(copy).is_err() {
             return Err(Failed);
         }
         waiting.len = len;

@@ -66,6 +66,7 @@ fn parse_with(alloc: Global, verb: Verb, fields: Fields<'_>) -> Result<Request, 
             Ok(Request::Clean(range, limit))
         }
         Verb::Seen => parse_bare(fields, Request::Seen),
+        Verb::Hold => Ok(Request::Hold(parse_one_number(fields)?)),
         Verb::Quit => parse_bare(fields, Request::Quit),
     }
 }

@@ -18,6 +18,8 @@ pub enum Request {
     Clean(Range, u64),
     /// The number of the session, and the commits that it sees.
     Seen,
+    /// Everybody else waits who has nothing begun, for at most so many milliseconds.
+    Hold(u64),
     /// The session ends.
     Quit,
 }

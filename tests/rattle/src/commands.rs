@@ -10,6 +10,7 @@ const DEFAULTS: Listening<'static> = Listening {
     port: 0,
     sessions: 1,
     workers: 1,
+    hold: 60_000,
     trace: None,
     awaits_stop: false,
     stays: false,
@@ -23,6 +24,7 @@ const MOST: Listening<'static> = Listening {
     port: 65535,
     sessions: 256,
     workers: 16,
+    hold: 0,
     trace: Some("t"),
     awaits_stop: true,
     stays: false,
@@ -42,7 +44,7 @@ const STAYING: Listening<'static> = Listening {
     ..DEFAULTS
 };
 
-const ASKED: [Asked<'static>; 26] = [
+const ASKED: [Asked<'static>; 27] = [
     (&["amserve", "alone"], Ok(Options::Alone { auto: 16 })),
     (
         &["amserve", "alone", "--auto", "0"],
@@ -68,6 +70,8 @@ const ASKED: [Asked<'static>; 26] = [
             "256",
             "--workers",
             "16",
+            "--hold",
+            "0",
             "--trace",
             "t",
             "--stop",
@@ -119,6 +123,10 @@ const ASKED: [Asked<'static>; 26] = [
     ),
     (
         &["amserve", "listen", "--port", "0", "--workers", "17"],
+        Err(2),
+    ),
+    (
+        &["amserve", "listen", "--port", "0", "--hold", "60001"],
         Err(2),
     ),
     (&["amserve", "listen", "--port", "0", "--auto", "3"], Err(2)),

@@ -7,6 +7,7 @@ use am_sink::StopSink;
 use am_stream::PieceSource;
 use std::alloc::Global;
 use std::process::Abort;
+use std::rt::Clock;
 use std::sync::Wait;
 use std::test::Fail;
 
@@ -15,7 +16,7 @@ const LINES: &[u8] = b"BEGIN\nINS 5 a\nGET 5\nCOMMIT\nQUIT\n";
 const ANSWERS: &[u8] = b"BEGUN 1\nOK\nVAL a\nCOMMITTED 1\nBYE\n";
 
 /// What a session writes for the lines, with a failure at these calls, and how it ends.
-fn session<R: Wait>(
+fn session<R: Wait + Clock>(
     rt: &R,
     alloc: Global,
     lines: &[u8],
@@ -32,7 +33,7 @@ fn session<R: Wait>(
 }
 
 /// Whether the session wrote a beginning of its answers.
-fn begins<R: Wait + Abort>(
+fn begins<R: Wait + Abort + Clock>(
     rt: &R,
     alloc: Global,
     read_fails: u64,

@@ -26,6 +26,7 @@ mod merges;
 mod narrow;
 mod numbers;
 mod ordering;
+mod outboxes;
 mod over_std;
 mod partitions;
 mod plain;

@@ -9,6 +9,7 @@ use am_sink::StopSink;
 use am_stream::PieceSource;
 use std::alloc::Global;
 use std::process::Abort;
+use std::rt::Clock;
 use std::sync::Wait;
 
 // Whether a line was answered with want of memory.
@@ -26,7 +27,7 @@ enum Failing {
 }
 
 // What a session on the input, which comes in pieces of these sizes and then byte by byte, writes, and how it ends.
-fn talk<R: Wait>(
+fn talk<R: Wait + Clock>(
     rt: &R,
     alloc: Global,
     input: &[u8],
@@ -59,7 +60,7 @@ fn wants_memory(failing: Failing, end: End) -> bool {
 }
 
 // Whether the session on the input, in one piece and byte by byte, writes just this.
-fn says<R: Wait + Abort>(
+fn says<R: Wait + Abort + Clock>(
     rt: &R,
     alloc: Global,
     auto: u64,
@@ -102,7 +103,12 @@ impl Script {
     }
 
     // Whether a session says this up to the end of its input.
-    fn is_said<R: Wait + Abort>(&self, rt: &R, alloc: Global, auto: u64) -> Result<(), NoMemory> {
+    fn is_said<R: Wait + Abort + Clock>(
+        &self,
+        rt: &R,
+        alloc: Global,
+        auto: u64,
+    ) -> Result<(), NoMemory> {
         let (input, output) = (self.input.as_slice(), self.output.as_slice());
         says(rt, alloc, auto, input, output, End::EndOfInput)
     }
@@ -154,7 +160,7 @@ fn quit_ends_the_session(rt: HostRuntime) -> Result<(), NoMemory> {
 }
 
 // Whether a line that begins so and goes on with this byte, so many times, and then the rest is answered so.
-fn long_lines_say<R: Wait + Abort>(
+fn long_lines_say<R: Wait + Abort + Clock>(
     rt: &R,
     alloc: Global,
     line: (&[u8], u8, usize),
@@ -206,7 +212,7 @@ fn a_failing_source_ends_the_session(rt: HostRuntime) -> Result<(), NoMemory> {
 }
 
 // Whether the first session ends so where that call fails, and writes a beginning of its text.
-fn breaks_off<R: Wait + Abort>(
+fn breaks_off<R: Wait + Abort + Clock>(
     rt: &R,
     alloc: Global,
     sizes: &[usize],

@@ -5,6 +5,7 @@ use am_record::HashKey;
 use am_sink::{Failed, Sink, StopSink};
 use am_stream::PieceSource;
 use std::alloc::Global;
+use std::rt::Clock;
 use std::sync::Wait;
 use std::test::Fail;
 
@@ -36,7 +37,12 @@ impl Sink for Noted {
 }
 
 // What a session calls its sink for, where the input comes in pieces of these sizes, and the text that it writes.
-fn calls<R: Wait>(rt: &R, alloc: Global, input: &[u8], sizes: &[usize]) -> (Vec<u8>, Vec<u8>) {
+fn calls<R: Wait + Clock>(
+    rt: &R,
+    alloc: Global,
+    input: &[u8],
+    sizes: &[usize],
+) -> (Vec<u8>, Vec<u8>) {
     let mut source = PieceSource::new(input, sizes, 0);
     let mut sink = Noted {
         sink: StopSink::new(alloc, 0),

@@ -1,9 +1,11 @@
 //! A backend that notes what is asked of it.
 
+use am_dialogue::HoldAnswer;
 use am_record::{Reply, Step};
 use am_session::{Backend, End, serve};
 use am_sink::{Failed, Sink, StopSink};
 use am_stream::PieceSource;
+use std::rt::Clock;
 use std::sync::Wait;
 use std::sync::atomic::{AtomicU64, Ordering};
 use std::test::Fail;
@@ -20,6 +22,7 @@ impl<'a> Backend for Noting<'a> {
       active = λ b. b.active;
       steps = λ _ _ _ _. Unit {0};
       shows = λ _ _ _ _. Unit {0};
+      holds = λ _ _ _. Unit {0};
     } };
 
     fn call<W: Wait>(&mut self, _rt: &W, step: Step) -> Reply {
@@ -46,6 +49,20 @@ impl<'a> Backend for Noting<'a> {
     fn seen(&mut self) -> (u64, u64) {
         (0, 0)
     }
+
+    fn hold<W: Wait + Clock>(&self, _rt: &W, _millis: u64) -> HoldAnswer {
+        HoldAnswer::Granted
+    }
+
+    fn await_turn<W: Wait + Clock>(&self, _rt: &W) {}
+
+    fn is_kept(&self) -> bool {
+        false
+    }
+
+    fn end_turn(&self) {}
+
+    fn end_session<W: Wait>(&self, _rt: &W) {}
 }
 
 // Wherever the transaction was active when a write failed, it was aborted.

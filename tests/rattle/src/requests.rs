@@ -30,6 +30,7 @@ fn lines_of_a_word_or_a_key_are_read(rt: HostRuntime) {
     asks(&rt, alloc, b"COMMIT", Request::Commit);
     asks(&rt, alloc, b"ABORT", Request::Abort);
     asks(&rt, alloc, b"SEEN", Request::Seen);
+    asks(&rt, alloc, b"HOLD 60001", Request::Hold(60_001));
     asks(&rt, alloc, b"QUIT", Request::Quit);
     let get = Op::Get(key(&rt, b"05"));
     asks(&rt, alloc, b"GET 05", Request::Do(get));

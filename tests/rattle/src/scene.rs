@@ -2,7 +2,7 @@
 
 use am_btree::BTree;
 use am_core::Store;
-use am_dialogue::{Action, Response, Session, parse, put_response};
+use am_dialogue::{Action, HoldAnswer, Response, Session, parse, put_response};
 use am_record::{Entry, HashKey, NoMemory};
 use am_sink::StopSink;
 use am_stream::{LineKind, MAX_LINE_LEN};
@@ -74,6 +74,8 @@ impl Scene {
                 reply_text(self.alloc, &reply)
             }
             Action::TellSeen => text_of(self.alloc, &Response::Seen(0, self.store.commits())),
+            // (a scene has no turnstile)
+            Action::AskHold(_) => text_of(self.alloc, &Response::Hold(HoldAnswer::Granted)),
         }
     }
 

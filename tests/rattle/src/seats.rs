@@ -2,6 +2,7 @@
 
 use am_audit::check;
 use am_counters::Counters;
+use am_doors::{Door, Doors, House, Limits, Mode, Turnstile, listen_at_port};
 use am_engine::was_refused;
 use am_latch::{Blank, Latch, LatchName, Seat, Taker, close};
 use am_record::{HashKey, Key, Op, Refusal, Reply, Step, Value};
@@ -10,6 +11,7 @@ use std::alloc::Global;
 use std::marker::Brand;
 use std::process::Abort;
 use std::sync::Wait;
+use std::sync::atomic::AtomicBool;
 use std::test::Fail;
 use std::thread;
 use std::thread::Threads;
@@ -121,13 +123,19 @@ fn a_missing_seat_is_told(rt: HostRuntime) -> Result<(), Fail> {
 }
 
 // Of three seats two go to sessions and one to a worker. Taken back they are all that the latch has, so it closes.
-fn assigned<L: LatchName, R: Abort>(rt: &R, alloc: Global, blank: Blank) -> Result<(), Fail> {
+fn assigned<L: LatchName, R: Abort>(
+    rt: &R,
+    alloc: Global,
+    blank: Blank,
+    turnstile: &Turnstile,
+) -> Result<(), Fail> {
     let (latch, seats, taker) = Latch::<L>::open(blank, HashKey::known())?;
     let (counters, counter_seats) = Counters::open(alloc, 2)?;
     let (session_seats, mut worker_seats) = assign_seats(
         alloc,
         &latch,
         &counters,
+        turnstile,
         seats,
         counter_seats,
     )?;
@@ -142,7 +150,28 @@ fn assigned<L: LatchName, R: Abort>(rt: &R, alloc: Global, blank: Blank) -> Resu
 
 #[test]
 fn the_first_seats_are_the_sessions(rt: HostRuntime) -> Result<(), Fail> {
-    assigned::<Brand, HostRuntime>(&rt, rt.alloc(), Blank::new(rt.alloc(), 3)?)
+    let (listener, port) = listen_at_port(&rt, 0)?;
+    let door = Door::Port { listener, port };
+    let doors = Doors {
+        port: &door,
+        socket: None,
+    };
+    let limits = Limits {
+        idle: None,
+        hold: 0,
+    };
+    let is_stopped = AtomicBool::new(false);
+    let house = House::new(
+        &rt,
+        rt.alloc(),
+        doors,
+        &is_stopped,
+        2,
+        Mode::Bounded,
+        limits,
+    )?;
+    let blank = Blank::new(rt.alloc(), 3)?;
+    assigned::<Brand, HostRuntime>(&rt, rt.alloc(), blank, &house.turnstile)
 }
 
 // How each of the seats is answered that begins a transaction.
@@ -283,4 +312,56 @@ fn beside_two_seats<L: LatchName + Send + Sync, R: Threads + Wait + Abort + Sync
 #[test]
 fn a_taker_beside_two_seats(rt: HostRuntime) -> Result<(), Fail> {
     beside_two_seats::<Brand, HostRuntime>(&rt, rt.alloc(), Blank::new(rt.alloc(), 2)?)
+}
+
+// A seat without receipts looks at what the others did, and is lent the engine of its latch.
+fn without_receipts<L: LatchName, R: Wait + Abort>(rt: &R, blank: Blank) -> Result<(), Fail> {
+    let (latch, mut seats, mut taker) = Latch::<L>::open(blank, HashKey::known())?;
+    let mut second = seats.pop().ok_or("no seat")?;
+    let mut first = seats.pop().ok_or("no seat")?;
+    assert!(rt; inserts(rt, &latch, &mut second, 5));
+    let seen = latch.look(rt, &mut first, |engine| {
+        (engine.len(), engine.kept().len(), engine.store().commits())
+    });
+    assert_eq!(rt; seen, (3, 3, 1));
+    assert_eq!(rt; latch.hand_out(rt, &mut taker)?.trace.len(), 3);
+    let seen = latch.look(rt, &mut first, |engine| (engine.len(), engine.kept().len()));
+    assert_eq!(rt; seen, (3, 0));
+    Ok(())
+}
+
+#[test]
+fn a_look_without_receipts(rt: HostRuntime) -> Result<(), Fail> {
+    without_receipts::<Brand, HostRuntime>(&rt, Blank::new(rt.alloc(), 2)?)
+}
+
+/// Many times as many pairs as a server keeps before they are handed out.
+const MANY: usize = 200_000;
+
+// An engine keeps so many pairs, and hands them out at once. After that it has room for the next.
+fn keeps_many<L: LatchName, R: Wait + Abort>(rt: &R, blank: Blank) -> Result<(), Fail> {
+    let (latch, mut seats, mut taker) = Latch::<L>::open(blank, HashKey::known())?;
+    let mut seat = seats.pop().ok_or("no seat")?;
+    for _ in 0..MANY {
+        assert!(rt; seat.call(rt, &latch, Step::Merge(1)) == Reply::Idle);
+    }
+    assert_eq!(rt;
+        latch.look(rt, &mut seat, |engine| engine.kept().len()),
+        MANY
+    );
+    assert_eq!(rt; latch.hand_out(rt, &mut taker)?.trace.len(), MANY);
+    for more in 1..4 {
+        assert!(rt; inserts(rt, &latch, &mut seat, more));
+        let piece = latch.hand_out(rt, &mut taker)?;
+        assert_eq!(rt;
+            (piece.first, piece.trace.len()),
+            (MANY as u64 + 3 * (more - 1), 3)
+        );
+    }
+    Ok(())
+}
+
+#[test]
+fn many_pairs_wait(rt: HostRuntime) -> Result<(), Fail> {
+    keeps_many::<Brand, HostRuntime>(&rt, Blank::new(rt.alloc(), 1)?)
 }

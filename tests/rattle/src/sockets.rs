@@ -1,6 +1,6 @@
 //! Clients of a server, over sockets.
 
-use am_doors::Mode;
+use am_doors::{Limits, Mode};
 use am_keeper::{Counts, Keeping, Watcher};
 use am_record::HashKey;
 use am_server::{ServerTrace, bind};
@@ -48,7 +48,10 @@ fn nobody_keeps() -> Keeping<LetGo, Unwatched> {
         pieces: LetGo,
         watcher: Unwatched,
         grace: None,
-        idle: None,
+        limits: Limits {
+            idle: None,
+            hold: 0,
+        },
     }
 }
 

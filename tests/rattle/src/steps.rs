@@ -245,6 +245,11 @@ fn a_commit_is_read_where_an_abort_came_behind(rt: HostRuntime) -> Result<(), No
         (S2, "GET 5", "ERR NOTX"),
         (S2, "MERGE 65", "ERR LIMIT"),
         (S2, "SEEN", "SEEN 0 1"),
+        (S2, "HOLD 0", "ERR LIMIT"),
+        (S2, "HOLD 60001", "ERR LIMIT"),
+        (S2, "HOLD 60000", "OK"),
+        (S2, "BEGIN", "BEGUN 3"),
+        (S2, "HOLD 0", "ERR ACTIVE"),
     ];
     let mut scene = Scene::open(rt.alloc())?;
     scene.takes(&rt, &row)?;

@@ -14,14 +14,17 @@ use Rattle.am_index.proofs.Searches.{all_drop, all_take}
 use Rattle.am_parts.specs.declared.residences.Residences.{Residences}
 use Rattle.am_parts.specs.Partitions.{LivesInNoRun}
 use Rattle.am_directory.specs.Tables.{residence_of}
-use Rattle.am_parts.specs.Residences.{Allows, LivesWith, Tell}
+use Rattle.am_parts.specs.Residences.{Allows, LivesWith, KeepNoneWith, Tell}
 use Rattle.am_parts.proofs.NotedKeys.{none_noted, one_noted, first_noted, sorted_taken}
+use Rattle.am_parts.proofs.KeptWords.{none_entered, one_entered, first_entered}
 use Rattle.am_parts.proofs.run_entry.enter_run.Goals as goal
 
 pub loop-at-init : goal.loop-at-init
 loop-at-init g c = record {
   told = none_noted (g.I.PartIndex.entries c.args.index.now) c.args.part c.args.pairs.now c.args.residences.now
       c.requires.told;
+  kept = none_entered (g.I.PartIndex.entries c.args.index.now) c.args.part c.args.pairs.now c.args.residences.now
+      c.requires.kept;
   dead = λ i r lt. absurd (omega (arith, lt));
   room = λ keys le. omega (arith, le, c.requires.room);
   reached = omega arith;
@@ -61,6 +64,16 @@ returns-then-not-enter_one-clause-same g c =
     (subst (λ (r : Residences). Tell (LivesWith es c.args.part c.args.pairs.now 0 at) r)
     (sym (c.enter_one.ensures.same c.if-not-enter_one.true)) c.loop-at.invariant.told))
 
+pub returns-then-not-enter_one-clause-none_in_vain : goal.returns-then-not-enter_one-clause-none_in_vain
+returns-then-not-enter_one-clause-none_in_vain g c =
+    let es = g.I.PartIndex.entries c.args.index.now in
+    let at = c.loop-at.at in
+    let le : at ≤ length c.args.pairs.now = omega (arith, c.loop-at-test.true) in
+    c.forget.ensures.kept es c.args.part
+    (first_entered es c.args.part c.args.pairs.now c.enter_one.new.residences at le
+    (subst (λ (r : Residences). KeepNoneWith es c.args.part c.args.pairs.now 0 at r)
+    (sym (c.enter_one.ensures.same c.if-not-enter_one.true)) c.loop-at.invariant.kept))
+
 pub loop-at-preserved : goal.loop-at-preserved
 loop-at-preserved g c =
     let es = g.I.PartIndex.entries c.args.index.now in
@@ -72,6 +85,9 @@ loop-at-preserved g c =
       told = one_noted es c.args.part c.args.pairs.now c.loop-at.residences c.enter_one.new.residences at pair
           c.loop-at-test.true c.index-pairs-at.is (c.enter_one.ensures.entered c.if-not-enter_one.false)
           c.loop-at.invariant.told;
+      kept = one_entered es c.args.part c.args.pairs.now c.loop-at.residences c.enter_one.new.residences at pair
+          c.loop-at-test.true c.index-pairs-at.is (c.enter_one.ensures.entered c.if-not-enter_one.false)
+          c.loop-at.invariant.kept;
       dead = λ i r lt. ⊎_elim
           (λ (same : i ≡ at). subst (λ (k : OrderedKey). LivesInNoRun es k)
           (ap (λ (q : Record). q.0) (c.index-pairs-at.is ∙ get_or_default c.args.pairs.now at pair r

@@ -2,12 +2,13 @@ use Rattle.std.proofs.Common.{◌≡◌, ◌+◌, ◌<◌, ◌≤◌, ℕ, false
 use Rattle.am_record.proofs.FirstRows.{Record}
 use Rattle.am_parts.specs.Ahead.{AreFreeAhead, AreNumbersAhead}
 use Rattle.am_parts.specs.Partitions.{LivesInNoRun}
-use Rattle.am_parts.specs.Residences.{LivesWith, Tell, HasRoomFor}
+use Rattle.am_parts.specs.Residences.{LivesWith, KeepNoneWith, Tell, HasRoomFor}
 use Rattle.am_parts.proofs.run_entry.enter_run.Given as goal
 
 abbrev pub invariant-loop-at : goal.invariant-loop-at
 invariant-loop-at g l = record {
   told : Tell (LivesWith (g.I.PartIndex.entries l.index) l.part l.pairs 0 l.at) l.residences;
+  kept : KeepNoneWith (g.I.PartIndex.entries l.index) l.part l.pairs 0 l.at l.residences;
   dead : (i : ℕ) (r : Record) → i < l.at → LivesInNoRun (g.I.PartIndex.entries l.index) (get_or l.pairs i r).0;
   room : (keys : ℕ) → keys + l.at ≤ length l.pairs → HasRoomFor l.residences keys;
   reached : l.at ≤ l.ahead.end;

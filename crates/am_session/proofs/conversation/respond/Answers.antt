@@ -1,6 +1,6 @@
 use Rattle.std.proofs.Common.{[], ◌∷◌, refl, ap}
 use Rattle.am_dialogue.specs.Session.{SessionState}
-use Rattle.am_dialogue.specs.declared.action.Action.TheVariants.{Answer, Take, TellSeen}
+use Rattle.am_dialogue.specs.declared.action.Action.TheVariants.{Answer, Take, TellSeen, AskHold}
 use Rattle.am_session.proofs.HeardLines.{due_at}
 use Rattle.am_session.proofs.conversation.respond.Goals as goal
 
@@ -41,5 +41,18 @@ returns-in-TellSeen-clause-responds g c = (
     due_at (g.B.Backend.means.active c.args.backend.now) c.args.session.now c.action.new.self c.args.parsed TellSeen
         c.requires c.action.ensures.active (rw c.in-TellSeen.is at c.action.ensures.action),
     (c.seen-session.result.0, c.seen-session.result.1, refl, (c.seen-session.ensures.shows, refl, refl)),
+  ),
+)
+
+pub returns-in-AskHold-clause-responds : goal.returns-in-AskHold-clause-responds
+returns-in-AskHold-clause-responds g c = (
+  [],
+  (
+    AskHold c.in-AskHold.millis,
+    c.action.new.self.staged,
+    due_at (g.B.Backend.means.active c.args.backend.now) c.args.session.now c.action.new.self c.args.parsed
+        (AskHold c.in-AskHold.millis) c.requires c.action.ensures.active
+        (rw c.in-AskHold.is at c.action.ensures.action),
+    (c.hold.result, refl, (c.hold.ensures.holds, (refl, refl))),
   ),
 )

@@ -116,5 +116,11 @@ returns-in_ok-range-in-Clean c = due verb.Clean c.args.verb c.args.fields _ c.in
 pub returns-in-Seen : goal.returns-in-Seen
 returns-in-Seen c = due verb.Seen c.args.verb c.args.fields _ c.in-Seen.is c.parse_bare-in-Seen.ensures
 
+pub returns-in_err-parse_one_number-in-Hold : goal.returns-in_err-parse_one_number-in-Hold
+returns-in_err-parse_one_number-in-Hold c = due verb.Hold c.args.verb c.args.fields _ c.in-Hold.is (search rules)
+
+pub returns-in_ok-parse_one_number-in-Hold : goal.returns-in_ok-parse_one_number-in-Hold
+returns-in_ok-parse_one_number-in-Hold c = due verb.Hold c.args.verb c.args.fields _ c.in-Hold.is (search rules)
+
 pub returns-in-Quit : goal.returns-in-Quit
 returns-in-Quit c = due verb.Quit c.args.verb c.args.fields _ c.in-Quit.is c.parse_bare-in-Quit.ensures

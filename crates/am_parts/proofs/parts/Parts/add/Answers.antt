@@ -1,6 +1,7 @@
-use Rattle.std.proofs.Common.{refl, sym, ap, subst, arith}
+use Rattle.std.proofs.Common.{◌≡◌, None, refl, sym, ap, subst, arith}
+use Rattle.am_index.specs.Entries.{find}
 use Rattle.am_parts.specs.Partitions.{Partitions}
-use Rattle.am_parts.specs.Residences.{AreResidences}
+use Rattle.am_parts.specs.Residences.{AreResidences, KeepNoneInVain}
 use Rattle.am_parts.proofs.Changes.{adds, adds_sound}
 use Rattle.am_parts.proofs.MergedKnowledge.{merged_where_added}
 use Rattle.am_parts.proofs.parts.Parts.add.Goals as goal
@@ -24,6 +25,11 @@ invariant_of-self-2 g c = (
       c.add-2.ensures.kept c.add-2.ensures.let_go c.insert_or_forget.ensures.ok c.insert_or_forget.ensures.err
       c.self.invariant.4,
   c.insert_or_forget.ensures.rooms.have,
+  subst (λ es. KeepNoneInVain es c.add-3.new.self) (sym c.in_ok-insert_or_forget.ensures.ok)
+      (c.add-3.ensures.kept (g.I.PartIndex.entries c.self.inside.index) c.self.invariant.0.rising
+      (subst (λ (p : Partitions). find p.entries c.args.entry.part c.args.entry.key ≡ None) (sym c.self.view_is)
+      c.requires.absent)
+      (c.make_room.ensures.kept (g.I.PartIndex.entries c.self.inside.index) c.self.invariant.6)),
 )
 
 pub invariant_of-self-in_err-insert_or_forget : goal.invariant_of-self-in_err-insert_or_forget
@@ -41,6 +47,8 @@ invariant_of-self-in_err-insert_or_forget g c = (
       c.add-2.ensures.kept c.add-2.ensures.let_go c.insert_or_forget.ensures.ok c.insert_or_forget.ensures.err
       c.self.invariant.4,
   c.insert_or_forget.ensures.rooms.have,
+  subst (λ es. KeepNoneInVain es c.make_room.new.self) (sym c.in_err-insert_or_forget.ensures.err)
+      (c.make_room.ensures.kept (g.I.PartIndex.entries c.self.inside.index) c.self.invariant.6),
 )
 
 pub returns-clause-content : goal.returns-clause-content

@@ -8,8 +8,9 @@ use Rattle.am_index.specs.Runs.{run_entries}
 use Rattle.am_parts.specs.Catalogs.{IsCatalog}
 use Rattle.am_parts.specs.MergedRanges.{AreMerged}
 use Rattle.am_parts.specs.Partitions.{Partitions, AreWellFormed, AreAllAbsent, LivesInNoRun, NoneLiveIn}
-use Rattle.am_parts.specs.Residences.{AreResidences}
-use Rattle.am_parts.proofs.OneRunMore.{is_next, next_rises, next_content, next_sound}
+use Rattle.am_parts.specs.Residences.{AreResidences, KeepNoneInVain}
+use Rattle.am_parts.proofs.KeptWords.{all_entered}
+use Rattle.am_parts.proofs.OneRunMore.{under_next, is_next, next_rises, next_content, next_sound}
 use Rattle.am_parts.proofs.MergedKnowledge.{merged_appended}
 use Rattle.am_parts.proofs.NotedKeys.{all_absent, all_noted}
 use Rattle.am_parts.proofs.parts.Parts.append_run.Goals as goal
@@ -50,6 +51,9 @@ invariant_of-self-2 g c =
           (merged_appended es c.self.inside.runs c.args.pairs.now c.reserve.new.self.list.items
           (subst (AreMerged es c.self.inside.runs) (sym c.reserve.ensures) c.self.invariant.4)),
       c.append_run.ensures.rooms.have,
+      subst (λ (es : List Entry). KeepNoneInVain es c.enter_run.new.residences) (sym is)
+          (all_entered es (c.self.inside.runs + 1) c.args.pairs.now (omega arith)
+          (under_next es c.self.inside.runs above) c.enter_run.new.residences c.in_ok-enter_run.ensures.kept),
     )
 
 pub returns-clause-dead : goal.returns-clause-dead

@@ -9,9 +9,10 @@ use Rattle.am_index.proofs.Rooms.{keep_on}
 use Rattle.am_parts.specs.Catalogs.{IsCatalog}
 use Rattle.am_parts.specs.MergedRanges.{AreMerged}
 use Rattle.am_parts.specs.Partitions.{Partitions, AreWellFormed, IsStretch, FirstNeedsRoom, all_gone_home}
-use Rattle.am_parts.specs.Residences.{AreResidences}
+use Rattle.am_parts.specs.Residences.{AreResidences, KeepNoneInVain}
 use Rattle.am_parts.proofs.Neighbours.{front_then, back_then, settled_is, settled_rise, home_is, at_home, one_run_then}
 use Rattle.am_parts.proofs.Neighbours.{told_then, merged_all_home, needs_before}
+use Rattle.am_parts.proofs.KeptWords.{kept_then}
 use Rattle.am_parts.proofs.StandingEntries.{between}
 use Rattle.am_parts.proofs.parts.Parts.bring_home.Goals as goal
 
@@ -69,6 +70,9 @@ invariant_of-self g c =
       subst (λ (l : List Entry). AreMerged l c.self.inside.runs c.self.inside.merged.list.items) home
           (merged_all_home (take n xs) es c.self.inside.runs c.self.inside.merged.list.items c.self.invariant.4),
       c.remove_all.ensures.rooms.have,
+      subst (λ (l : List Entry). KeepNoneInVain l c.forget_all.new.residences) (sym final)
+          (c.forget_all.ensures.kept front back rise
+          (kept_then sound xs stretch n le c.self.inside.residences c.self.invariant.6)),
     )
 
 pub returns-clause-entries : goal.returns-clause-entries

@@ -9,7 +9,7 @@ use Rattle.am_index.proofs.Edits.{entry_at_place}
 use Rattle.am_parts.specs.Catalogs.{IsCatalog}
 use Rattle.am_parts.specs.MergedRanges.{AreMerged}
 use Rattle.am_parts.specs.Partitions.{Partitions}
-use Rattle.am_parts.specs.Residences.{AreResidences}
+use Rattle.am_parts.specs.Residences.{AreResidences, KeepNoneInVain}
 use Rattle.am_index.proofs.Content.{slot_live}
 use Rattle.am_parts.proofs.Changes.{takes}
 use Rattle.am_parts.proofs.MergedKnowledge.{merged_removed}
@@ -46,11 +46,13 @@ invariant_of-self g c =
           (ap (λ (o : Option Entry). is_some (live_value (option_map slot_of o))) c.remove-entry.ensures.entry ∙
           slot_live x)),
       subst (λ es. AreResidences es c.take-2.new.self) (sym others)
-          (c.take-2.ensures es c.self.invariant.0.rising (one_run c.self.invariant.0) found c.self.invariant.3),
+          (c.take-2.ensures.told es c.self.invariant.0.rising (one_run c.self.invariant.0) found c.self.invariant.3),
       subst (λ es. AreMerged es c.self.inside.runs c.self.inside.merged.list.items) (sym c.remove-entry.ensures.others)
           (merged_removed es c.self.inside.runs c.args.part c.args.key c.self.inside.merged.list.items
           c.self.invariant.4),
       c.remove-entry.ensures.rooms.have,
+      subst (λ es. KeepNoneInVain es c.take-2.new.self) (sym others)
+          (c.take-2.ensures.kept es c.self.invariant.0.rising found c.self.invariant.6),
     )
 
 pub returns-clause-content : goal.returns-clause-content

@@ -1,8 +1,13 @@
-use Rattle.std.proofs.Common.{ℕ, Some, subst, refl, arith}
-use Rattle.am_directory.specs.Tables.{HasEntered}
-use Rattle.am_index.specs.Entries.{slot_of, insert_entry}
-use Rattle.am_parts.specs.Residences.{LivesInRun}
-use Rattle.am_parts.proofs.LiveRuns.{changed, fewer, fewer_in_final, ghost_dead, inserted_finds}
+use Rattle.std.proofs.Common.{◌∙◌, ℕ, inr, Some, sym, ap, subst, refl, arith}
+use Rattle.std.proofs.lemmas.Bool.{cond-true}
+use Rattle.std.proofs.lemmas.Option.{none-some}
+use Rattle.am_index.specs.Edits.{same_place}
+use Rattle.am_index.proofs.Edits.{same_place-itself}
+use Rattle.am_directory.specs.Tables.{label, code_of, HasCode, HasEntered, IsEntered}
+use Rattle.am_index.specs.Entries.{slot_of, find, insert_entry}
+use Rattle.am_parts.specs.Residences.{LivesInRun, StandsInRun}
+use Rattle.am_parts.proofs.KeptWords.{keeps_on, keeps_entered, live_unless, stand_still}
+use Rattle.am_parts.proofs.LiveRuns.{changed, fewer, fewer_in_final, ghost_dead, inserted_finds, lives}
 use Rattle.am_parts.proofs.DirectoryAnswers.{tells_fewer, tells_entered}
 use Rattle.am_parts.proofs.residences.Residences.add.Goals as goal
 use Rattle.am_parts.proofs.residences.Residences.add.Goals.{else-entry-gt0-via-then-entry-gt0+else-not-entry}
@@ -29,3 +34,34 @@ returns-else-entry-gt0-clause-added c = λ es rising was.
       | else-entry-gt0-via-else-entry-gt0 w ↦ fewer_in_final es (insert_entry es x) x.part x.key (Some (slot_of x))
           (inserted_finds es rising x) (omega (arith, w.if-entry-gt0.false))
     ]) (λ n. refl)
+
+-- ---- the words
+
+pub returns-then-not-entry-clause-kept : goal.returns-then-not-entry-clause-kept
+returns-then-not-entry-clause-kept c = λ es rising none was.
+    let x = c.args.entry.now in
+    let es' = insert_entry es x in
+    let finds = inserted_finds es rising x in
+    let old = c.args.self.now.directory in let new = c.enter.new.self in
+    keeps_entered c.args.self.now.hash (LivesInRun es) (LivesInRun es') (StandsInRun es) (StandsInRun es') old new was
+    x.key x.part
+    (λ key part it. live_unless es es' x.part x.key (Some (slot_of x)) finds key part
+    (λ at. absurd (none-some _ (sym none ∙ (λ i. find es (sym at.1 i) (sym at.0 i)) ∙ it.live.there))) it)
+    (λ key it. stand_still es es' x.part x.key (Some (slot_of x)) finds (slot_of x) refl key it)
+    (lives x.value (omega (arith, c.if-entry-gt0.true)) (finds x.part x.key ∙
+    cond-true (same_place x.part x.key x.part x.key) (Some (slot_of x)) (find es x.part x.key)
+    (same_place-itself x.part x.key) ∙ ap (λ b. Some (x.value, b)) c.if-not-entry.true))
+    (subst (λ (n : ℕ). HasCode old n (IsEntered (code_of old.words (label n)) x.part) new)
+    c.number.ensures c.enter.ensures.code)
+
+pub returns-else-entry-gt0-clause-kept : goal.returns-else-entry-gt0-clause-kept
+returns-else-entry-gt0-clause-kept c = λ es rising none was.
+    let x = c.args.entry.now in
+    let es' = insert_entry es x in
+    let finds = inserted_finds es rising x in
+    keeps_on c.args.self.now.hash (LivesInRun es) (LivesInRun es') (StandsInRun es) (StandsInRun es')
+    c.args.self.now.directory c.args.self.now.directory was
+    (λ key part it. live_unless es es' x.part x.key (Some (slot_of x)) finds key part
+    (λ at. absurd (none-some _ (sym none ∙ (λ i. find es (sym at.1 i) (sym at.0 i)) ∙ it.live.there))) it)
+    (λ key it. stand_still es es' x.part x.key (Some (slot_of x)) finds (slot_of x) refl key it)
+    (λ sought. inr refl)

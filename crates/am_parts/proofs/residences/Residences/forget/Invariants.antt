@@ -2,7 +2,7 @@ use Rattle.std.proofs.Common.{◌≡◌, ℕ, List, length}
 use Rattle.std.specs.List.{AllByRecursion}
 use Rattle.am_record.specs.declared.entry.Entry.{Entry}
 use Rattle.am_parts.specs.Partitions.{LivesInNoRun}
-use Rattle.am_parts.specs.Residences.{LivesWith, Tell}
+use Rattle.am_parts.specs.Residences.{KeepNoneWith, LivesWith, Tell}
 use Rattle.am_parts.proofs.residences.Residences.forget.Given as goal
 
 abbrev pub invariant-loop-pair : goal.invariant-loop-pair
@@ -12,4 +12,6 @@ invariant-loop-pair l = record {
   told : (es : List Entry) (part : ℕ) → AllByRecursion (λ r. LivesInNoRun es r.0) l.pairs →
       Tell (LivesWith es part l.pairs 0 (length l.pairs)) l.fn.self →
       Tell (LivesWith es part l.pairs l.pair-index (length l.pairs)) l.self;
+  kept : (es : List Entry) (part : ℕ) → KeepNoneWith es part l.pairs 0 (length l.pairs) l.fn.self →
+      KeepNoneWith es part l.pairs l.pair-index (length l.pairs) l.self;
 }

@@ -1,0 +1,315 @@
+"""What each transaction has as a mapping, and each store as what gives transactions: made of the calls that a store of this
+process and one at the other end of a connection answer in ways of their own."""
+
+from __future__ import annotations
+
+import itertools
+import random
+import time
+import weakref
+from collections import deque
+from collections.abc import Callable, Iterator, Mapping
+from contextlib import contextmanager
+from types import TracebackType
+from typing import Any, Deque, Generic, NoReturn, Optional, TypeVar, Union, overload
+
+from ._records import GREATEST, Record, Records, Text, all_bytes, bytes_of, range_of
+from .errors import Absent, Busy, Conflict, Held, Status, TooMany
+
+Default = TypeVar("Default")
+Result = TypeVar("Result")
+Tx = TypeVar("Tx", bound="Mapped")
+
+MAX_TRIES = 100
+"""How often `run` runs its function, unless it is told otherwise."""
+MAX_PAGE = 999
+RUN = 65536
+_REQUIRED: Any = object()
+# Seconds: the first pause is up to this long, each further one up to twice as long, and none longer than the other.
+_FIRST_PAUSE, _LONGEST_PAUSE = 0.001, 0.25
+# An update of more records takes one lock.
+_SINGLE_LOCKS = 64
+# So many values are kept of keys that were given.
+_MOST_KNOWN = 1_000_000
+
+
+class Unique:
+    """What stands once, in the memory of its process."""
+
+    def __reduce_ex__(self, protocol: Any) -> NoReturn:
+        raise TypeError(f"a {type(self).__name__} stands in the memory of its process, and can't be copied or pickled")
+
+
+def may_come_right(error: Exception) -> bool:
+    """Whether the same transaction may go well a little later."""
+    return isinstance(error, (Busy, Conflict, Held)) or (isinstance(error, TooMany) and error.status is Status.TOO_MANY_TX)
+
+
+class Runner(Unique, Generic[Tx]):
+    """What gives transactions."""
+
+    def transaction(self) -> Tx:
+        """Begins a transaction."""
+        raise NotImplementedError
+
+    def run(self, function: Callable[[Tx], Result], tries: int = MAX_TRIES) -> Result:
+        """Runs the function in a transaction, and answers what it answers, once that is committed. It runs again where another
+        transaction was in the way (`Busy`, `Conflict`, `Held`, and `TooMany` transactions), `tries` times at most, with pauses
+        that grow; then that is raised. Any other exception aborts the transaction and isn't held. So the function does
+        nothing but ask its transaction."""
+
+        def once() -> Result:
+            with self.transaction() as tx:
+                return function(tx)
+
+        return self._again(once, tries)
+
+    def _again(self, call: Callable[[], Result], tries: int) -> Result:
+        """What a call answers, at one of so many tries."""
+        if tries < 1:
+            raise ValueError(f"{tries} tries")
+        for tried in itertools.count(1):
+            try:
+                return call()
+            except (Busy, Conflict, Held, TooMany) as error:
+                if tried == tries or not may_come_right(error):
+                    raise
+            time.sleep(random.uniform(0, min(_FIRST_PAUSE * 2 ** min(tried - 1, 16), _LONGEST_PAUSE)))
+        raise AssertionError("not reached")
+
+
+class Walk:
+    """The pages of all keys, for an iterator. Who asks for the length of a transaction whose iterator was just made, as `list` does,
+    has it by pages that the iterator then gives, unless something is written meanwhile."""
+
+    def __init__(self, tx: Mapped) -> None:
+        self._tx = tx
+        self._pages: Optional[Iterator[list[bytes]]] = None
+        self._ahead: Deque[list[bytes]] = deque()
+        self._read: Optional[dict[bytes, bytes]] = None
+        self._last = b""
+
+    def __iter__(self) -> Walk:
+        return self
+
+    def __next__(self) -> list[bytes]:
+        self._tx._fresh = None
+        if self._ahead and self._read is not self._tx._read:
+            self._ahead.clear()
+            self._pages = self._behind(self._last)
+        elif self._pages is None:
+            self._pages = self._tx._key_pages(b"")
+        page = self._ahead.popleft() if self._ahead else next(self._pages)
+        self._last = page[-1] if page else self._last
+        return page
+
+    def _behind(self, last: bytes) -> Iterator[list[bytes]]:
+        """The pages behind a key that was given."""
+        for page in self._tx._key_pages(last):
+            yield page[1:] if last and page[:1] == [last] else page
+
+    def length(self) -> int:
+        """How many keys there are, before any was given."""
+        if not self._ahead or self._read is not self._tx._read:
+            self._ahead = deque(self._tx._key_pages(b""))
+            self._pages = iter(())
+            self._read = self._tx._read = {}
+        return sum(map(len, self._ahead))
+
+
+class Mapped(Unique):
+    """A transaction. It reads and writes like a mapping of bytes that is sorted by key."""
+
+    _marks = 0
+    """How many savepoints stand."""
+    _read: Optional[dict[bytes, bytes]] = None
+    """What was read and is known yet: each write has it be none."""
+    _fresh: Optional[weakref.ref[Walk]] = None
+    """The iterator that was made last, and hasn't begun."""
+
+    @property
+    def is_active(self) -> bool:
+        """Whether it can go on."""
+        raise NotImplementedError
+
+    def __enter__(self: Tx) -> Tx:
+        return self
+
+    def __exit__(
+        self, kind: Optional[type[BaseException]], error: Optional[BaseException], trace: Optional[TracebackType]
+    ) -> None:
+        raise NotImplementedError
+
+    @overload
+    def get(self, key: Text) -> Optional[bytes]: ...
+
+    @overload
+    def get(self, key: Text, default: Default) -> Union[bytes, Default]: ...
+
+    def get(self, key: Text, default: Any = None) -> Any:
+        """The value under the key, or `default` where there is none."""
+        raise NotImplementedError
+
+    @overload
+    def __getitem__(self, key: Text) -> bytes: ...
+
+    @overload
+    def __getitem__(self, key: slice) -> list[Record]: ...
+
+    def __getitem__(self, key: Union[Text, slice]) -> Union[bytes, list[Record]]:
+        """The value under the key, which has one, or else `Absent` is raised. `tx[lo:hi]` is a list of the records from `lo` on
+        and below `hi`; either may be missing."""
+        if isinstance(key, slice):
+            return self._between(key)
+        value = self._read.pop(key, None) if self._read and type(key) is bytes else None
+        if value is None:
+            value = self.get(key)
+        if value is None:
+            raise Absent(bytes_of(key))
+        return value
+
+    def __contains__(self, key: Text) -> bool:
+        return self.get(key) is not None
+
+    def __setitem__(self, key: Text, value: Text) -> None:
+        """Sets the value under the key, whether it has one or not."""
+        raise NotImplementedError
+
+    def __delitem__(self, key: Text) -> None:
+        """Takes the record away. Raises `Absent` where there is none."""
+        raise NotImplementedError
+
+    def insert(self, key: Text, value: Text) -> None:
+        """Adds a record. Raises `Exists` where the key has one."""
+        raise NotImplementedError
+
+    def lock(self, lo: Text, hi: Optional[Text] = None, exclusive: bool = False) -> None:
+        """Locks the range from `lo` to `hi`, or one key: to read it, or to write it where the lock is exclusive."""
+        raise NotImplementedError
+
+    def mark(self) -> None:
+        """Sets a savepoint."""
+        raise NotImplementedError
+
+    def back(self) -> None:
+        """Takes back what was written since the newest savepoint, which goes. Locks stay. Raises `NoMark`."""
+        raise NotImplementedError
+
+    def setdefault(self, key: Text, default: Text) -> bytes:
+        """The value under the key, which is set to `default` first where there is none."""
+        text, new = bytes_of(key), bytes_of(default)
+        value = self.get(text)
+        if value is None:
+            self.insert(text, new)
+        return new if value is None else value
+
+    @overload
+    def pop(self, key: Text) -> bytes: ...
+
+    @overload
+    def pop(self, key: Text, default: Default) -> Union[bytes, Default]: ...
+
+    def pop(self, key: Text, default: Any = _REQUIRED) -> Any:
+        """Takes the record away and answers its value, or `default` where there is none; without one `Absent` is raised."""
+        text = bytes_of(key)
+        value = self.get(text)
+        if value is not None:
+            del self[text]
+            return value
+        if default is _REQUIRED:
+            raise Absent(text)
+        return default
+
+    def discard(self, key: Text) -> None:
+        """Takes the record away, where there is one."""
+        try:
+            del self[key]
+        except Absent:
+            pass
+
+    def update(self, records: Records = (), /, **named: Text) -> None:
+        """Sets the value under each key of a mapping, or of pairs, and of the arguments that are named. More than 64 take one
+        lock, from the least key to the greatest."""
+        pairs = [*(records.items() if isinstance(records, Mapping) else records), *named.items()]
+        if len(pairs) > _SINGLE_LOCKS:
+            keys = all_bytes([key for key, _ in pairs])
+            self.lock(min(keys), max(keys), exclusive=True)
+        for key, value in pairs:
+            self[key] = value
+
+    @contextmanager
+    def savepoint(self) -> Iterator[None]:
+        """A block whose writes are taken back where an exception leaves it, which goes on to whoever holds it. What the block
+        locked stays locked."""
+        depth = self._marks
+        self.mark()
+        try:
+            yield
+        except BaseException:
+            # (blocks within this one that ended well have left theirs)
+            while self.is_active and self._marks > depth:
+                self.back()
+            raise
+
+    def scan(self, lo: Text = b"", hi: Text = GREATEST, page: int = 100) -> Iterator[Record]:
+        """The records from `lo` to `hi`, both included, by rising key. So many are read at a time: `page` at first, 999 at most,
+        and twice as many each time after. Each time locks the range from the next key to `hi`."""
+        raise NotImplementedError
+
+    def items(self, lo: Text = b"", hi: Text = GREATEST) -> Iterator[Record]:
+        """The records of `scan`."""
+        return self.scan(lo, hi)
+
+    def keys(self, lo: Text = b"", hi: Text = GREATEST) -> Iterator[bytes]:
+        """The keys of `scan`. Their values are kept until they are asked for, up to a million, or something is written: so `dict(tx)`
+        is one scan."""
+        return itertools.chain.from_iterable(self._known_keys(self._record_pages(lo, hi)))
+
+    def _known_keys(self, pages: Iterator[list[Record]]) -> Iterator[list[bytes]]:
+        known = self._read = {}
+        for page in pages:
+            if self._read is known and len(known) < _MOST_KNOWN:
+                known.update(page)
+            yield [key for key, _ in page]
+
+    def _record_pages(self, lo: Text, hi: Text) -> Iterator[list[Record]]:
+        """The pages of a scan."""
+        raise NotImplementedError
+
+    def _key_pages(self, lo: bytes) -> Iterator[list[bytes]]:
+        """The keys from one on, by pages."""
+        raise NotImplementedError
+
+    def values(self, lo: Text = b"", hi: Text = GREATEST) -> Iterator[bytes]:
+        """The values of `scan`."""
+        return (value for _, value in self.scan(lo, hi))
+
+    def __iter__(self) -> Iterator[bytes]:
+        walk = Walk(self)
+        self._fresh = weakref.ref(walk)
+        return itertools.chain.from_iterable(walk)
+
+    def count(self, lo: Text = b"", hi: Text = GREATEST) -> int:
+        """How many records there are from `lo` to `hi`, both included. All are read to be counted."""
+        return sum(1 for _ in self.scan(lo, hi, MAX_PAGE))
+
+    def __len__(self) -> int:
+        walk = self._fresh() if self._fresh else None
+        return walk.length() if walk else self.count()
+
+    def __bool__(self) -> bool:
+        # (not by `__len__`, which reads and locks all)
+        return True
+
+    def _between(self, asked: slice) -> list[Record]:
+        """The records of a slice."""
+        if asked.step is not None:
+            raise TypeError("a slice of keys has no step")
+        low, end = range_of(b"" if asked.start is None else asked.start, GREATEST if asked.stop is None else asked.stop)
+        if asked.stop is None:
+            return list(self.scan(low, GREATEST, MAX_PAGE))
+        return [] if end <= low else self._from_below(low, end)
+
+    def _from_below(self, low: bytes, end: bytes) -> list[Record]:
+        """The records from a key on and below another one, which is above it."""
+        raise NotImplementedError

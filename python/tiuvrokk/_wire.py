@@ -1,0 +1,157 @@
+"""Lines of the protocol, sent to a server or a replica, and the answers: what each says, or the exception that it is."""
+
+from __future__ import annotations
+
+import os
+import re
+import socket
+from collections.abc import Sequence
+from typing import Optional, Union
+
+from ._records import GREATEST, bytes_of
+from .errors import Absent, Bad, Busy, Conflict, Error, Exists, Held, NoMark, NotRising, NoTransaction, OutOfMemory, Refused
+from .errors import Status, TooMany, Unknown, Unreachable, bad_range, bad_text
+
+Path = Union[str, bytes, "os.PathLike[str]"]
+
+LEAST_KEY, GREATEST_KEY = b"!", b"~" * 32
+KEY = re.compile(rb"[!-<>-~]{1,32}")
+VALUE = re.compile(rb"[!-~]{1,64}")
+RECORDS = re.compile(rb"(?:[!-<>-~]{1,32}=[!-~]{1,64} )*")
+
+_LIMITS = {
+    b"ERR TXS": Status.TOO_MANY_TX, b"ERR LOCKS": Status.TOO_MANY_LOCKS, b"ERR OPS": Status.TOO_MANY_OPS,
+    b"ERR RUNS": Status.TOO_MANY_RUNS,
+}  # fmt: skip
+_REFUSALS: dict[bytes, type[Refused]] = {b"ERR CONFLICT": Conflict, b"ERR UNREACHABLE": Unreachable, b"ERR UNKNOWN": Unknown}
+_NUMBER = re.compile(rb"[0-9]{1,20}")
+
+
+def key_of(text: object) -> bytes:
+    """A key as lines have it."""
+    found = bytes_of(text)  # type: ignore[arg-type]
+    if not KEY.fullmatch(found):
+        raise bad_text("key", found)
+    return found
+
+
+def value_of(text: object) -> bytes:
+    """A value as lines have it."""
+    found = bytes_of(text)  # type: ignore[arg-type]
+    if not VALUE.fullmatch(found):
+        raise bad_text("value", found)
+    return found
+
+
+def ends_of(lo: object, hi: object) -> tuple[bytes, bytes]:
+    """The ends of a range as lines have them: the least and the greatest text stand for the least and the greatest key."""
+    given_low, given_high = bytes_of(lo), bytes_of(hi)  # type: ignore[arg-type]
+    low = key_of(given_low) if given_low else LEAST_KEY
+    high = GREATEST_KEY if given_high == GREATEST else key_of(given_high)
+    if low > high:
+        raise bad_range(low, high)
+    return low, high
+
+
+def below_key(key: bytes) -> bytes:
+    """The greatest key below another one; none, where that is the least."""
+    last = key[-1] - 1
+    if last < LEAST_KEY[0]:
+        return key[:-1]
+    return (key[:-1] + bytes([last - (last == b"="[0])])).ljust(32, b"~")
+
+
+def refusal(answer: bytes, line: bytes, transaction: int) -> Error:
+    """The exception for an answer that refuses a line."""
+    word, _, rest = answer.partition(b" ")
+    key = line.split(b" ", 2)[1].partition(b"=")[0] if b" " in line else b""
+    if word == b"BUSY" and _NUMBER.fullmatch(rest):
+        return Busy(int(rest))
+    if word == b"EXISTS":
+        return Exists(rest)
+    if answer in (b"MISSING", b"NONE"):
+        return Absent(key)
+    if answer == b"NOMARK":
+        return NoMark(transaction)
+    if answer == b"ERR NOTX":
+        return NoTransaction(transaction)
+    if answer in _LIMITS:
+        return TooMany(_LIMITS[answer])
+    if answer == b"ERR ORDER":
+        return NotRising(key)
+    if answer == b"ERR MEMORY":
+        return OutOfMemory()
+    if answer == b"ERR LIMIT":
+        return Bad(Status.BAD_LIMIT, "a number, or the size of the transaction, is out of bounds: the answer was ERR LIMIT")
+    shown = answer.decode("ascii", "backslashreplace")
+    if answer.startswith(b"ERR HELD"):
+        return Held(shown)
+    return _REFUSALS.get(answer, Refused)(shown)
+
+
+class Wire:
+    """A connection, by lines and their answers. Where anything comes between, an interrupt too, it is closed: answers that come
+    later would be taken for others'. The other side then aborts what was active."""
+
+    def __init__(self, port: Optional[int], path: Optional[Path], host: str, timeout: Optional[float]) -> None:
+        if path is None:
+            self._socket = socket.create_connection((host, port or 0), timeout)
+            self._socket.setsockopt(socket.IPPROTO_TCP, socket.TCP_NODELAY, 1)
+        else:
+            self._socket = socket.socket(socket.AF_UNIX, socket.SOCK_STREAM)
+            self._socket.settimeout(timeout)
+            try:
+                self._socket.connect(os.fspath(path))
+            except BaseException:
+                self._socket.close()
+                raise
+        self._answers = self._socket.makefile("rb")
+        self.is_open = True
+
+    def close(self) -> None:
+        self.is_open = False
+        self._answers.close()
+        self._socket.close()
+
+    def ask(self, lines: Sequence[bytes]) -> list[bytes]:
+        """The answers to lines that are sent together, a thousand at most at a time: those to lines that write are short, so
+        neither side waits for the other to read."""
+        answers: list[bytes] = []
+        try:
+            for at in range(0, len(lines), 1000):
+                part = lines[at : at + 1000]
+                self._socket.sendall(b"".join([line + b"\n" for line in part]))
+                answers += [self._heard() for _ in part]
+        except BaseException:
+            self.close()
+            raise
+        return answers
+
+    def _heard(self) -> bytes:
+        answer = self._answers.readline()
+        if not answer.endswith(b"\n"):
+            raise ConnectionResetError("the server went away")
+        return answer[:-1]
+
+
+def rest_of(answer: bytes, word: bytes) -> Optional[bytes]:
+    """What stands behind a word of an answer, where the answer begins with that."""
+    return answer[len(word) + 1 :] if answer.startswith(word + b" ") else None
+
+
+def number_of(answer: bytes, word: bytes) -> Optional[int]:
+    """The number behind a word of an answer."""
+    rest = rest_of(answer, word)
+    return int(rest) if rest is not None and _NUMBER.fullmatch(rest) else None
+
+
+def rows_of(answer: bytes, most: int) -> Optional[list[tuple[bytes, bytes]]]:
+    """The records of an answer to a scan, where it is one."""
+    rest = rest_of(answer, b"ROWS")
+    if rest is None:
+        return None
+    number, *rows = rest.split(b" ")
+    if number != b"%d" % len(rows) or len(rows) > most:
+        return None
+    parted = [row.partition(b"=") for row in rows]
+    return [(key, value) for key, equals, value in parted if equals] if all(it[1] for it in parted) else None

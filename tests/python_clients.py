@@ -1,0 +1,243 @@
+"""The Python package's client, at a server and at what answers oddly; tests/replicas has it at replicas."""
+
+import contextlib
+import os
+import random
+import socket
+import threading
+import warnings
+from typing import Any, Callable, Dict, Iterator, List
+
+from client_cases import all_cases, counters, emptied, raised
+from support import Server, fail, interrupted, wanted
+
+import tiuvrokk
+
+
+@contextlib.contextmanager
+def at_new_server() -> Iterator[Any]:
+    """A client of a server that has no records yet: to delete them line by line takes long on a busy machine."""
+    server = Server("--stay", "--stop", "--sessions", "2")
+    with tiuvrokk.connect(port=server.port) as client:
+        yield client
+    server.tell("STOP\n")
+    server.closed()
+
+
+def served(folder: str) -> None:
+    """The same as over an embedded store, by a port and by a path."""
+    path = os.path.join(folder, "socket")
+    server = Server("--stay", "--stop", "--sessions", "8", "--socket", path, trace=os.path.join(folder, "trace"))
+
+    def connected() -> Any:
+        return tiuvrokk.connect(port=server.port)
+
+    all_cases(at_new_server)
+    with tiuvrokk.connect(path=path) as one, tiuvrokk.connect(port=server.port) as other:
+        wanted("what they are", (one.is_replica, other.is_replica), (False, False))
+        at_once(one, other)
+        with emptied(connected) as empty:
+            texts(empty)
+        many_loads(one)
+    counters([connected] * 4, 50)
+    with connected() as client, client.transaction() as tx:
+        wanted("what all added", tx["count"], b"200")
+    interrupts(server)
+    dropped(server)
+    lost(server)
+    wrong_uses(server)
+    server.tell("STOP\n")
+    server.closed()
+
+
+def at_once(one: Any, other: Any) -> None:
+    """Two sessions: a lock in the way is Busy, at a write as at a read, and what `run` was kept from isn't written."""
+    with one.transaction() as tx:
+        tx["held"] = "1"
+        number = tx.number
+        with other.transaction() as late:
+            for call in (lambda: late.get("held"), lambda: late.update(held="2"), lambda: late.insert("held", "2"), lambda: late.load({"held": "2"}), lambda: late.lock("held"), lambda: list(late)):
+                wanted("who is in the way", raised(tiuvrokk.Busy, call).holder, number)
+        wanted("tries", raised(tiuvrokk.Busy, lambda: other.run(lambda it: it.update(held="2"), tries=3)).holder, number)
+    wanted("what is there", other.run(lambda it: it["held"]), b"1")
+    ended = threading.Timer(0.2, lambda: tx.commit())
+    one._thread = 0  # (its transaction ends on the timer's thread)
+    tx = one.transaction()
+    tx["held"] = "3"
+    ended.start()
+    wanted("run", other.run(lambda it: it.pop("held"), tries=1000), b"3")
+    ended.join()
+
+
+def texts(client: Any) -> None:
+    """What lines can't carry is refused before it is sent."""
+    with client.transaction() as tx:
+        for key in ("", "a b", "a=b", "é", "a\n"):
+            wanted("a key", raised(tiuvrokk.Bad, lambda: tx.get(key), key).name, "TVK_BAD_KEY")
+            raised(tiuvrokk.Bad, lambda: tx.load({"a": "1", key: "1"}), key)
+        for value in ("", "a b", "é", "a\n"):
+            wanted("a value", raised(tiuvrokk.Bad, lambda: tx.insert("a", value), value).name, "TVK_BAD_VALUE")
+            raised(tiuvrokk.Bad, lambda: tx.load({"a": value}), value)
+        wanted("what is there", dict(tx), {})
+    with client.transaction() as tx:
+        for number in range(256):
+            tx.get(f"k{number}")
+        if "tx.lock(" not in str(raised(tiuvrokk.TooMany, lambda: tx.get("another"))):
+            fail("the limit of locks doesn't say the way out")
+
+
+def many_loads(client: Any) -> None:
+    """A load in a transaction of its own, all or none, which holds where the server can be held."""
+    wanted("a load", client.load({f"l{number:04}": "1" for number in range(3000)}, run=1000), 3000)
+    raised(tiuvrokk.Exists, lambda: client.load([("a", "1"), ("b", "1"), ("l0001", "1")], run=1))
+    wanted("runs beyond locks", client.load(((f"m{number}", "1") for number in range(300)), run=1, hold=0), 300)
+    wanted("records", client.run(lambda tx: ("a" in tx, tx.count("l", "l~"), tx.count("m", "m~"))), (False, 3000, 300))
+    wanted("a merge and a clean step", ((client.merge() or 0) >= 0, client.clean() >= 0), (True, True))
+
+
+def interrupts(server: Server) -> None:
+    """300 interrupts at random moments: the client goes on by itself, and no transaction stays."""
+
+    def committed() -> None:
+        # (a server may take a while to see that a connection ended)
+        with contextlib.suppress(tiuvrokk.Busy), client.transaction() as tx:
+            tx["a"] = "1"
+            tx.get("b")
+
+    dice = random.Random(7)
+    with warnings.catch_warnings(), tiuvrokk.connect(port=server.port) as client:
+        warnings.simplefilter("ignore")
+        for _ in range(300):
+            interrupted(dice.uniform(1e-5, 2e-3), committed)
+        client.run(lambda tx: tx.lock(b"", b"\xff" * 32, exclusive=True), tries=1000)
+
+
+def dropped(server: Server) -> None:
+    """A transaction that is dropped is aborted before its client's next line, and so is one that stands before
+    the next one begins."""
+    with tiuvrokk.connect(port=server.port) as client, warnings.catch_warnings(record=True) as told:
+        warnings.simplefilter("always")
+        client.transaction().update(dropped="1")
+        wanted("a warning", [it.category for it in told if "dropped" in str(it.message)], [ResourceWarning])
+        wanted("what it wrote", client.run(lambda tx: "dropped" in tx), False)
+
+        def nested() -> None:
+            with client.transaction() as tx:
+                tx["dropped"] = "2"
+                with client.transaction() as other:
+                    wanted("what the one before wrote", "dropped" in other, False)
+
+        raised(tiuvrokk.NoTransaction, nested)
+
+
+def lost(server: Server) -> None:
+    """A connection that ends: the transaction raises, and the next one begins at another connection."""
+    with tiuvrokk.connect(port=server.port) as client:
+
+        def cut(tx: Any) -> None:
+            tx["lost"] = "1"
+            client._wire._socket.shutdown(socket.SHUT_RDWR)
+            with contextlib.suppress(OSError):
+                tx.get("a")
+
+        raised(tiuvrokk.NoTransaction, lambda: client.run(cut))
+        client.run(lambda tx: tx.lock("lost", exclusive=True), tries=1000)
+        wanted("what a lost transaction wrote", client.run(lambda tx: "lost" in tx), False)
+
+        def cut_at_the_end(tx: Any) -> None:
+            tx.get("a")
+            client._wire._socket.shutdown(socket.SHUT_WR)
+
+        raised(tiuvrokk.Unknown, lambda: client.run(cut_at_the_end))
+
+
+def wrong_uses(server: Server) -> None:
+    """Neither a port nor a path, another thread, a closed client, no server."""
+    raised(TypeError, tiuvrokk.connect)
+    raised(TypeError, lambda: tiuvrokk.connect(port=server.port, path="x"))
+    raised(OSError, lambda: tiuvrokk.connect(path="/nowhere"))
+    client = tiuvrokk.connect(port=server.port)
+    found: List[Any] = []
+    thread = threading.Thread(target=lambda: found.append(raised(tiuvrokk.WrongThread, client.transaction)))
+    thread.start()
+    thread.join()
+    wanted("another thread", len(found), 1)
+
+    def close_within() -> None:
+        with client.transaction() as tx:
+            tx["a"] = "2"
+            client.close()
+
+    raised(tiuvrokk.Closed, close_within)
+    client.close()
+    raised(tiuvrokk.Closed, client.transaction)
+    raised(tiuvrokk.Closed, lambda: client.commits)
+
+
+class Odd:
+    """A server that answers BEGIN, and each other line in one odd way."""
+
+    def __init__(self, answers: Dict[bytes, bytes]) -> None:
+        self.answers = answers
+        self.listener = socket.create_server(("127.0.0.1", 0))
+        self.port: int = self.listener.getsockname()[1]
+        self.lines: List[bytes] = []
+        threading.Thread(target=self.accept, daemon=True).start()
+
+    def accept(self) -> None:
+        with contextlib.suppress(OSError):
+            while True:
+                session, _ = self.listener.accept()
+                threading.Thread(target=self.serve, args=(session,), daemon=True).start()
+
+    def serve(self, session: socket.socket) -> None:
+        with session, contextlib.suppress(OSError), session.makefile("rb") as lines:
+            for line in lines:
+                self.lines.append(line[:-1])
+                session.sendall(self.answers.get(line.split()[0], b"OK") + b"\n")
+
+
+STILL = {b"REPLICA": b"ERR SYNTAX", b"BEGIN": b"BEGUN 1", b"ABORT": b"ABORTED", b"COMMIT": b"COMMITTED 1"}
+CALLS: Dict[bytes, Callable[[Any], Any]] = {
+    b"GET": lambda tx: tx.get("a"), b"SCAN": lambda tx: list(tx), b"INS": lambda tx: tx.insert("a", "1"), b"DEL": lambda tx: tx.discard("a"),
+    b"REP": lambda tx: tx.update(a="1"), b"LOAD": lambda tx: tx.load({"a": "1"}), b"LOCK": lambda tx: tx.lock("a"), b"MARK": lambda tx: tx.mark(),
+    b"BACK": lambda tx: tx.back(), b"COMMIT": lambda tx: None, b"BEGIN": lambda tx: None,
+}  # fmt: skip
+
+
+def odd_answers() -> None:
+    """Whatever a line is answered otherwise than it may be raises, and isn't committed."""
+    for verb, call in CALLS.items():
+        for answer in (b"", b"HELLO", b"BUSY 3", b"ERR WHAT", b"OK 5", b"VAL", b"ROWS 2 a=1", b"ROWS 1 a", b"\xff\xfe", b"BEGUN x", b"COMMITTED"):
+            odd = Odd({**STILL, verb: answer})
+            with tiuvrokk.connect(port=odd.port, timeout=5) as client:
+                error = raised(tiuvrokk.Error, lambda: client.run(call, tries=1), f"{verb!r} answered {answer!r}")
+                wanted(f"{verb!r} answered {answer!r}", isinstance(error, tiuvrokk.Busy if answer == b"BUSY 3" else tiuvrokk.Refused), True)
+            wanted("whether it was committed", b"COMMIT" in odd.lines, verb == b"COMMIT")
+            odd.listener.close()
+    odd = Odd({**STILL, b"REPLICA": b"ERR SESSIONS"})
+    wanted("no seat", raised(tiuvrokk.Refused, lambda: tiuvrokk.connect(port=odd.port)).answer, "ERR SESSIONS")
+    odd = Odd({**STILL, b"HOLD": b"ERR SYNTAX"})
+    with tiuvrokk.connect(port=odd.port) as client:
+        wanted("a load of a server that can't be held", client.load({"a": "1"}), 1)
+        raised(tiuvrokk.Refused, lambda: client.hold(100))
+    wanted("its lines", odd.lines[1:5], [b"HOLD 2000", b"BEGIN", b"LOAD a=1", b"COMMIT"])
+    odd = Odd({**STILL, b"HOLD": b"ERR HELD 4"})
+    with tiuvrokk.connect(port=odd.port) as client:
+        wanted("who holds", raised(tiuvrokk.Held, lambda: client.hold(100)).answer, "ERR HELD 4")
+
+
+def full_sessions() -> None:
+    """A session that had all its steps: the next transaction begins in another one."""
+    steps = {**STILL, b"BEGIN": b"ERR FULL"}
+    odd = Odd(steps)
+    with tiuvrokk.connect(port=odd.port) as client:
+        raised(tiuvrokk.Refused, client.transaction)
+    wanted("what was tried", odd.lines.count(b"BEGIN"), 2)
+
+
+def all_clients(folder: str) -> None:
+    """All of it."""
+    odd_answers()
+    full_sessions()
+    served(folder)
