@@ -1,6 +1,7 @@
 """What is known of lines before they are answered."""
 from __future__ import annotations
 
+import re
 from typing import FrozenSet
 
 # The longest line, without its LF.
@@ -11,6 +12,22 @@ LONGEST_SHORT = 110
 EVERYTHING = b"! " + b"~" * 32
 # Lines that write nothing, whatever they are answered.
 READS: FrozenSet[bytes] = frozenset((b"GET", b"SCAN", b"LOCK", b"MARK", b"BACK"))
+# A request of HTTP: two words or more and a version; how those lines begin that may end so too.
+REQUEST = re.compile(rb"[\t\f\r ]*[^\t\f\r ]+[\t\f\r ]+[^\t\f\r ].*[\t\f\r ]http/[0-9][0-9.]*[\t\f\r ]*", re.IGNORECASE | re.DOTALL)
+OWN_FRONTS = (b"INS ", b"REP ", b"LOCK S ", b"LOCK X ")
+
+
+def may_have_http(text: bytes) -> bool:
+    """Whether a line of HTTP may stand in a text."""
+    small = text.lower()
+    return b"http/" in small or b"host:" in small
+
+
+def is_of_http(line: bytes) -> bool:
+    """Whether a line is one of HTTP: a request, or the header that names a host. The same as a server of am_doors has it."""
+    if line[:5].lower() == b"host:":
+        return True
+    return len(line) <= LONGEST and not line.startswith(OWN_FRONTS) and REQUEST.fullmatch(line) is not None
 
 
 def longest_answer(line: bytes) -> int:

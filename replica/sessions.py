@@ -5,7 +5,7 @@ import asyncio
 import re
 from typing import Awaitable, Callable, List, Optional, Union
 
-from .lines import LONGEST
+from .lines import LONGEST, is_of_http, may_have_http
 from .replica import Outcome, Replica
 from .transaction import LIMIT, UNREACHABLE, Block, Transaction
 
@@ -39,6 +39,7 @@ class Session:
         self.told: List[bytes] = []  # answers that go with the next ones that are sent, in this turn of the loop
         self.ahead = 0  # bytes of those blocks
         self.is_current: Optional[bool] = None  # whether the log's end was reached since the last lines came, once that was asked
+        self.has_begun = False  # something has come
         self.rests = False  # all lines that came were taken
         self.flying = 0  # transactions that wait for their end with no task
         self.landed = asyncio.Event()  # none does
@@ -50,7 +51,7 @@ class Session:
             return False
         transaction = self.transaction
         if transaction is None and data != b"BEGIN\n":
-            return len(data) <= LONGEST and self.take_ahead(data)
+            return len(data) <= LONGEST and not may_have_http(data) and self.take_ahead(data)
         if self.flying:
             return False
         if transaction is None:
@@ -98,22 +99,30 @@ class Session:
         self.out.append(b"BEGUN %d" % self.begun)
 
     async def serve(self, reader: asyncio.StreamReader) -> None:
-        """All lines up to QUIT or the end of the input."""
+        """All lines up to QUIT, the end of the input, or what is no line of the protocol: as where the client is lost, nothing of
+        that is taken, and what isn't committed doesn't stand."""
         rest, data = b"", b"."
         while data:
             self.rests = not rest
             data = await reader.read(CHUNK)
             self.rests = False
+            if not self.has_begun and not data[:1].isupper():
+                return
+            self.has_begun = True
             while self.flying:
                 self.landed.clear()
                 await self.landed.wait()
             self.is_current = None
             rest = await self.take_reads(rest + data)
+            looks = may_have_http(rest)
             *lines, rest = rest.split(b"\n")
             rest = rest[:LONGEST + 1]
             if rest and not data:
                 lines.append(rest)
             for line in lines:
+                if looks and is_of_http(line):
+                    data = b""
+                    break
                 if not await self.take(line):
                     return
             await self.answer_all()
@@ -282,3 +291,5 @@ class Connection(asyncio.StreamReaderProtocol):
             if self.session is not None:
                 self.session.rests = False
             super().data_received(data)
+        else:
+            self.session.has_begun = True

@@ -3,11 +3,13 @@ from __future__ import annotations
 
 import asyncio
 import os
+import socket
 import subprocess
 import sys
 from typing import Any, Callable, List, Tuple
 
 from cluster import STORE, Cluster, until
+from other_protocols import other_protocols
 from support import LIMIT, TOP, fail, wanted
 
 from replica.etcd import Etcd, Refused, Unreachable, put_of
@@ -111,7 +113,8 @@ def exhausted(folder: str) -> None:
         wanted("without space", client.ask("BEGIN", "INS late 1", "COMMIT")[2], "ERR UNKNOWN")
         wanted("what is read", client.ask("BEGIN", "GET first", "COMMIT")[1:], ["VAL 1", "COMMITTED 1"])
         for words in (["compact", str(revision)], ["defrag"], ["alarm", "disarm"]):
-            wanted(f"etcdctl {words}", cluster.status(*words), 0)
+            # (its own limit is five seconds, which a busy disk may take)
+            wanted(f"etcdctl {words}", cluster.status(*words, f"--command-timeout={LIMIT}s"), 0)
         wanted("what was on its way", until(lambda: client.ask("BEGIN", "GET late", "COMMIT")[1] == "VAL 1"), True)
         wanted("a commit", client.ask("BEGIN", "INS next 1", "COMMIT")[2], "COMMITTED 3")
         ends = ["COMMITTED"]
@@ -173,6 +176,13 @@ def transactions(cluster: Cluster) -> None:
     with Session(cluster.ports[0]) as session:
         session.transaction(lambda tx: tx.update(named="1"))
         wanted("by its former name", session.transaction(lambda tx: tx["named"]), b"1")
+
+
+def speakers_of_others(cluster: Cluster) -> None:
+    """Connections that speak another protocol."""
+    cluster.start_replica(2, "--log", "others", "--limit", "60")
+    wanted("a replica", cluster.is_ready(2), True)
+    other_protocols(lambda: socket.create_connection(("127.0.0.1", cluster.ports[2])))
 
 
 def refusals(client: Any, cluster: Cluster) -> None:

@@ -13,6 +13,7 @@ VERSIONS = {
     "c/tiuvrokk.h": r'#define TVK_VERSION "([^"]*)"',
     "python/tiuvrokk/__init__.py": r'(?m)^__version__ = "([^"]*)"',
     "crates/am_serve_listen/stdout": r"amserve ([0-9.]+)",
+    "rust/Cargo.toml": r'(?m)^version = "([^"]*)"',
     "CHANGELOG.md": r"(?m)^## ([0-9.]+)",
 }
 

@@ -11,6 +11,8 @@ from typing import Dict, Iterable, List, NamedTuple, Optional
 
 TOP = os.path.dirname(os.path.dirname(os.path.abspath(__file__)))
 # The proved programs by their crates, and where each is installed.
+# The list of what was installed.
+LIST = "lib/tiuvrokk/installed"
 PROVED = {"am_serve_alone": "lib/tiuvrokk/alone/amserve", "am_serve_listen": "lib/tiuvrokk/listen/amserve", "am_auditor": "bin/amaudit"}
 PYTHON_PROGRAMS = ["amload", "amdump", "amcli", "amdraw", "amreplica"]
 COMMANDS = ["amserve", "amaudit", *PYTHON_PROGRAMS]
@@ -167,6 +169,28 @@ def write(entries: List[Entry], folder: str) -> None:
         for path in reversed(made):
             os.rmdir(path)
         raise
+
+
+def with_list(entries: List[Entry]) -> List[Entry]:
+    """The entries, and a list of them, by which they are removed again."""
+    return [*entries, Entry(LIST, "".join(f"{path}\n" for path in sorted(it.path for it in entries)).encode())]
+
+
+def remove(folder: str) -> None:
+    """Removes what was written below a folder by its list, and the folders that are empty then."""
+    with open(os.path.join(folder, LIST), encoding="utf-8") as file:
+        paths = [os.path.join(folder, line.rstrip("\n")) for line in [*file, LIST]]
+    folders = {os.path.dirname(path) for path in paths}
+    for path in filter(os.path.lexists, paths):
+        os.remove(path)
+    for at in folders:
+        # (what Python made of its sources)
+        shutil.rmtree(os.path.join(at, "__pycache__"), ignore_errors=True)
+    while folders:
+        emptied = {at for at in folders if at.startswith(folder) and os.path.isdir(at) and not os.listdir(at)}
+        for at in emptied:
+            os.rmdir(at)
+        folders = {os.path.dirname(at) for at in emptied}
 
 
 def make_folders(folder: str) -> List[str]:

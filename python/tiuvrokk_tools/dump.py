@@ -91,13 +91,12 @@ def writer(escapes: bool) -> Callable[[bytes], object]:
 
 
 class Pages:
-    """Scans of a moment's records, by two sessions in turn: a transaction has 4,096 operations, and before the one ends the
-    other has the same lock, so nobody writes between them."""
+    """Scans of a moment's records, by one session after another: a transaction has 4,096 operations, and before it ends the next
+    one has the same lock, so nobody writes between them. A session that is done goes, lest it be found idle."""
 
-    def __init__(self, session: Session, other: Callable[[], Session]) -> None:
-        self.session = session
-        self.make_other = other
-        self.other: Optional[Session] = None
+    def __init__(self, make_session: Callable[[], Session]) -> None:
+        self.make_session = make_session
+        self.session = make_session()
 
     def begin(self) -> None:
         """A transaction that nobody writes beside."""
@@ -110,11 +109,11 @@ class Pages:
             raise Refused(answer)
 
     def turn(self) -> None:
-        """The other session goes on."""
-        before, self.session = self.session, self.other or self.make_other()
-        self.other = before
+        """Another session goes on."""
+        before, self.session = self.session, self.make_session()
         self.begin()
         wanted_answer(before, b"COMMIT", b"COMMITTED")
+        before.leave()
 
     def rows(self) -> Iterator[List[bytes]]:
         """The rows of each scan. Each goes on from the last row's key, which comes once more."""
@@ -135,9 +134,7 @@ class Pages:
         wanted_answer(self.session, b"COMMIT", b"COMMITTED")
 
     def leave(self) -> None:
-        for session in (self.session, self.other):
-            if session:
-                session.leave()
+        self.session.leave()
 
 
 def dump_pages(pages: Pages, write: Callable[[bytes], object], progress: Progress) -> None:
@@ -234,7 +231,7 @@ def words() -> argparse.Namespace:
 def main() -> int:
     given = words()
     progress = Progress(NAME)
-    pages = Pages(with_server(given.port, given.wait), lambda: with_server(given.port, given.wait))
+    pages = Pages(lambda: with_server(given.port, given.wait))
     output = Output(given.file, given.escape)
     try:
         dump_all(pages, output, progress, given.hold, tries_of(given))

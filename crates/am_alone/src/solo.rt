@@ -65,11 +65,13 @@ impl Backend for SoloStore {
 
     fn await_turn<W: Wait + Clock>(&self, _rt: &W) {}
 
+    fn await_ticket<W: Wait + Clock>(&self, _rt: &W) {}
+
     fn is_kept(&self) -> bool {
         false
     }
 
-    fn end_turn(&self) {}
+    fn end_turn<W: Wait>(&self, _rt: &W) {}
 
     fn end_session<W: Wait>(&self, _rt: &W) {}
 }

@@ -45,7 +45,7 @@ fn audit<R: AllocGlobal + Files + Input + Print>(rt: &R, asked: &Audited<'_>) ->
 }
 
 fn main(rt: HostRuntime) -> io::Result<ExitCode> {
-    if hold_stack(rt.alloc()).is_err() {
+    if hold_stack(&rt).is_err() {
         return OptionsFault::NoMemory.tell(&rt, PROGRAM);
     }
     let words = match words(&rt) {

@@ -1,20 +1,27 @@
 //! What a server that stays says on standard error while it runs.
 
 ghost use Rattle.std.specs.Prelude.{◌≡◌, not};
+ghost use Rattle.am_console.specs.Logs.{is_due};
 
+use crate::log::log_text;
 use am_doors::SessionCounts;
 use am_keeper::{Counts, Watcher};
-use am_parts::Figures;
 use am_serve_command::Listening;
 use am_trace_file::{ListenFault, Outbox};
-use am_trace_writer::{EventCounts, TraceCounts};
 use std::io;
 use std::rt::Clock;
 use std::sync::Wait;
-use std::time::{Duration, Instant};
+use std::time::Instant;
 
 /// How often it is told how the server does.
 const LOG_SECONDS: u64 = 60;
+
+// Whether it is told how the server does, so many seconds after that was told.
+fn is_due(is_logged: bool, is_last: bool, past: u64) -> bool
+    ensures { result ≡ is_due is_logged is_last past }
+{
+    is_logged && (is_last || past >= LOG_SECONDS)
+}
 
 /// Says once what goes wrong, and each minute and at the end how the server does, where that is asked for.
 #[derive(Drop)]
@@ -27,7 +34,7 @@ pub struct Console<'a, R> {
     told_cut: bool,
 }
 
-impl<'a, R: Eprint + Clock + Wait> Console<'a, R> {
+impl<'a, R: AllocGlobal + Eprint + Clock + Wait> Console<'a, R> {
     /// Of a bounded server nothing is said while it runs.
     pub fn new(rt: &'a R, outbox: &'a Outbox, listening: &Listening<'_>) -> Console<'a, R>
         ensures logged { result.is_logged ≡ listening.now.is_logged }
@@ -43,54 +50,21 @@ impl<'a, R: Eprint + Clock + Wait> Console<'a, R> {
         }
     }
 
-    // Whether a minute has passed since it was told.
-    fn is_due(&self) -> bool {
-        match self.told_at {
-            Some(at) => at
-                .elapsed(self.rt)
-                .is_ok_and(|past| past >= Duration::from_secs(LOG_SECONDS)),
-            None => false,
-        }
+    // Whether it is time to tell.
+    fn is_due(&self, is_last: bool) -> bool {
+        let past = match self.told_at {
+            Some(at) => at.elapsed(self.rt).map_or(0, |past| past.as_secs()),
+            None => 0,
+        };
+        is_due(self.is_logged, is_last, past)
     }
 
     fn log(&self, counts: &Counts) {
-        let Counts {
-            sessions,
-            trace: TraceCounts { events, kept, of },
-            index,
-            is_cut,
-        } = *counts;
-        let SessionCounts {
-            begun,
-            open,
-            refused_by_system: unaccepted,
-            ..
-        } = sessions;
-        let EventCounts {
-            commits,
-            busy,
-            too_many,
-            wrong,
-        } = of;
-        let Figures {
-            in_final,
-            in_runs,
-            runs,
-            ghosts,
-            ..
-        } = index;
-        let is_cut = is_cut || self.outbox.is_failed();
-        let trace = if is_cut { "cut" } else { "whole" };
-        let _ = eprint!(self.rt;
-            "sessions={begun} open={open} steps={events} commits={commits} busy={busy} "
-        );
-        let _ = eprint!(self.rt;
-            "too_many={too_many} wrong={wrong} in_final={in_final} in_runs={in_runs} runs={runs} "
-        );
-        let waiting = self.outbox.len(self.rt);
-        let _ = eprintln!(self.rt;
-            "ghosts={ghosts} kept={kept} waiting={waiting} unaccepted={unaccepted} trace={trace}"
-        );
+        let is_cut = counts.is_cut || self.outbox.is_failed();
+        let waiting = self.outbox.len(self.rt) as u64;
+        if let Ok(text) = log_text(self.rt.alloc(), counts, waiting, is_cut) {
+            let _ = eprint!(self.rt; "{text}");
+        }
     }
 
     // Says once that a connection couldn't be accepted, and why, as the system has it.
@@ -115,13 +89,13 @@ impl<'a, R: Eprint + Clock + Wait> Console<'a, R> {
     }
 }
 
-impl<'a, R: Eprint + Clock + Wait> Watcher for Console<'a, R> {
+impl<'a, R: AllocGlobal + Eprint + Clock + Wait> Watcher for Console<'a, R> {
     ghost saw = { λ _ _ _ _. Unit {0} };
 
     fn look(&mut self, counts: &Counts, is_last: bool) {
         self.tell_accept(&counts.sessions);
         self.tell_cut(counts);
-        if self.is_logged && (is_last || self.is_due()) {
+        if self.is_due(is_last) {
             self.log(counts);
             self.told_at = Instant::now(self.rt).ok();
         }

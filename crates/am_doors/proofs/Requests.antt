@@ -1,97 +1,103 @@
--- What bytes begin with.
-use Rattle.std.proofs.Common.{◌≡◌, ◌∙◌, ℕ, ◌-◌, ◌<◌, ◌≤◌, List, ◌∷◌, ◌++◌, length, get_or}
-use Rattle.std.proofs.Common.{take, drop, All, Bool, true, false, IsTrue, nat_eq, nat_lt, refl, sym, ap, subst, arith}
-use Rattle.std.proofs.Common.{append_assoc, length-append}
-use Rattle.std.specs.Prelude.{codes, Any, ◌↔◌}
-use Rattle.std.specs.List.{starts_with, list_any}
-use Rattle.std.proofs.lemmas.Bool.{ltb-true, ltb-false}
-use Rattle.std.proofs.lemmas.Bool.Decides.{Decides-eqb}
-use Rattle.std.proofs.lemmas.Slice.Eq.{starts_is}
-use Rattle.std.proofs.lemmas.List.Folds.{Any-from_list_any}
-use Rattle.std.proofs.lemmas.List.{take-append-drop, get_or-take, length-take-le, take_rest}
-use Rattle.std.proofs.Math.ListN.{get_or-append}
-use Rattle.std.proofs.Math.Seq.{get_or-append_seam, drop-append_seam}
-use Rattle.am_doors.specs.Http.{BeginWith, BeginsPath, IsOfWord}
+-- Requests of HTTP, as browsers write them.
+use Rattle.std.proofs.Common.{◌≡◌, ◌∙◌, ℕ, ◌+◌, ◌-◌, ◌<◌, List, [], ◌∷◌, ◌++◌, length, take, drop}
+use Rattle.std.proofs.Common.{Bool, true, false, not, ◌&&◌, ◌||◌, cond, refl, sym, ap, arith, codes, length-append}
+use Rattle.std.specs.Prelude.{nat_eq}
+use Rattle.std.specs.Char.{is_ascii_whitespace}
+use Rattle.std.specs.List.{list_any, prefix_len, suffix_len, starts_with, after_last, before_last}
+use Rattle.std.proofs.lemmas.List.{reverse-append, take_all}
+use Rattle.std.proofs.lemmas.List.Sums.{suffix_len_is}
+use Rattle.std.proofs.lemmas.List.Folds.{list_any-append}
+use Rattle.std.proofs.Math.Seq.{take-append-add, take-append_seam, drop-append_seam, get_or-append_right}
+use Rattle.am_doors.specs.Http.{IsWord, RequestsAreSeen, is_version, has_two_words}
+use Rattle.am_doors.specs.Http.{without_blanks, own_fronts}
 
--- what stands right behind a word is a space
-space_behind : (word rest bytes : List ℕ) (d : ℕ) → bytes ≡ (word ++ codes " HTTP/") ++ rest →
-    get_or bytes (length word) d ≡ 32
-space_behind word rest bytes d e =
-    ap (λ (l : List ℕ). get_or l (length word) d) (e ∙ append_assoc word (codes " HTTP/") rest) ∙
-    get_or-append_seam word 32 (72 ∷ 84 ∷ 84 ∷ 80 ∷ 47 ∷ rest) d
+abbrev blank : ℕ → Bool
+blank = is_ascii_whitespace
 
-within : (word rest bytes : List ℕ) → bytes ≡ (word ++ codes " HTTP/") ++ rest → length word < length bytes
-within word rest bytes e =
-    omega (arith, ap length e, length-append (word ++ codes " HTTP/") rest, length-append word (codes " HTTP/"))
+-- what stands at the end of a request, and the same without its CR
+abbrev ending : List ℕ
+ending = codes " HTTP/1.1" ++ 13 ∷ []
 
--- no word is behind a word that is seen to end
-not_longer : (word rest bytes : List ℕ) (end : ℕ) (b : Bool) → nat_lt end (length word) ≡ b → All IsOfWord word →
-    bytes ≡ (word ++ codes " HTTP/") ++ rest → ¬ IsOfWord (get_or bytes end 0) → length word ≤ end
-not_longer word rest bytes end false is all e ends = ltb-false end (length word) is
-not_longer word rest bytes end true is all e ends =
-    let lt : end < length word = ltb-true end (length word) is in
-    absurd (ends (subst IsOfWord
-    (sym (ap (λ (l : List ℕ). get_or l end 0) (e ∙ append_assoc word (codes " HTTP/") rest) ∙
-    get_or-append word (codes " HTTP/" ++ rest) 0 end lt)) (all end 0 lt)))
+abbrev version : List ℕ
+version = codes "HTTP/1.1"
 
-not_shorter : (word rest bytes : List ℕ) (end : ℕ) (b : Bool) → nat_lt (length word) end ≡ b →
-    bytes ≡ (word ++ codes " HTTP/") ++ rest → All IsOfWord (take end bytes) → end ≤ length bytes → end ≤ length word
-not_shorter word rest bytes end false is e all fits = ltb-false (length word) end is
-not_shorter word rest bytes end true is e all fits =
-    let lt : length word < end = ltb-true (length word) end is in
-    absurd ((all (length word) 0 (omega (arith, length-take-le end bytes fits))).0
-    (get_or-take end bytes (length word) 0 lt ∙ space_behind word rest bytes 0 e))
+one_blank : (front : List ℕ) → suffix_len blank (front ++ ending) ≡ 1
+one_blank front = ap (prefix_len blank) (reverse-append front ending)
 
--- a word ends where it was seen to end
-ends_there : (word rest bytes : List ℕ) (end : ℕ) → bytes ≡ (word ++ codes " HTTP/") ++ rest → All IsOfWord word →
-    end < length bytes → All IsOfWord (take end bytes) → ¬ IsOfWord (get_or bytes end 0) → length word ≡ end
-ends_there word rest bytes end e word_all lt all ends =
-    omega (
+without_cr : (front : List ℕ) → without_blanks (front ++ ending) ≡ front ++ 32 ∷ version
+without_cr front =
+    ap (λ n. take (length (front ++ ending) - n) (front ++ ending)) (one_blank front) ∙
+    ap (λ n. take n (front ++ ending)) (omega (arith, length-append front ending)) ∙
+    take-append-add front ending 9
+
+last_eight : (front : List ℕ) → suffix_len (λ byte. not (blank byte)) (front ++ 32 ∷ version) ≡ 8
+last_eight front = ap (prefix_len (λ byte. not (blank byte))) (reverse-append front (32 ∷ version))
+
+last_is : (front : List ℕ) → after_last blank (front ++ 32 ∷ version) ≡ version
+last_is front =
+    ap (λ n. drop (length (front ++ 32 ∷ version) - n) (front ++ 32 ∷ version)) (last_eight front) ∙
+    ap (λ n. drop n (front ++ 32 ∷ version)) (omega (
       arith,
-      not_longer word rest bytes end (nat_lt end (length word)) refl word_all e ends,
-      not_shorter word rest bytes end (nat_lt (length word) end) refl e all (omega (arith, lt)),
-    )
+      length-append front (32 ∷ version),
+      length-append front (32 ∷ []),
+    )) ∙
+    ap (drop (length (front ++ 32 ∷ []))) (sym (append_one front version)) ∙
+    drop-append_seam (front ++ 32 ∷ []) version
+  where
+    append_one : (xs ys : List ℕ) → (xs ++ 32 ∷ []) ++ ys ≡ xs ++ 32 ∷ ys
+    append_one [] ys = refl
+    append_one (x ∷ xs) ys = ap (λ (l : List ℕ). x ∷ l) (append_one xs ys)
 
-behind_word : (word rest bytes : List ℕ) (end : ℕ) → bytes ≡ (word ++ codes " HTTP/") ++ rest → length word ≡ end →
-    drop end bytes ≡ codes " HTTP/" ++ rest
-behind_word word rest bytes end e same =
-    ap (λ (n : ℕ). drop n bytes) (sym same) ∙
-    ap (drop (length word)) (e ∙ append_assoc word (codes " HTTP/") rest) ∙
-    drop-append_seam word (codes " HTTP/" ++ rest)
+front_is : (front : List ℕ) → before_last blank (front ++ 32 ∷ version) ≡ front
+front_is front =
+    ap (λ n. take (length (front ++ 32 ∷ version) - n - 1) (front ++ 32 ∷ version)) (last_eight front) ∙
+    ap (λ n. take n (front ++ 32 ∷ version)) (omega (arith, length-append front (32 ∷ version))) ∙
+    take-append_seam front (32 ∷ version)
 
--- where a word was seen to end, what begins there tells
-pub path_there : (bytes : List ℕ) (end : ℕ) (r : Bool) → end < length bytes → All IsOfWord (take end bytes) →
-    ¬ IsOfWord (get_or bytes end 0) → r ≡ starts_with nat_eq (take (length bytes - end) (drop end bytes))
-    (codes " HTTP/")
-    → IsTrue r ↔ BeginsPath bytes
-path_there bytes end r lt all ends e =
-    let told = starts_is Decides-eqb (drop end bytes) (codes " HTTP/") r
-    (e ∙ ap (λ (l : List ℕ). starts_with nat_eq l (codes " HTTP/")) (take_rest bytes end)) in (
-      λ is. (
-        take end bytes,
-        all,
-        (
-          drop 6 (drop end bytes),
-          sym (take-append-drop end bytes) ∙ ap (λ (l : List ℕ). take end bytes ++ l) (told.0 is) ∙
-              sym (append_assoc (take end bytes) (codes " HTTP/") (drop 6 (drop end bytes))),
-        ),
-      ),
-      λ h. (told.1 h.2.0 (behind_word h.0 h.2.0 bytes end h.2.1
-          (ends_there h.0 h.2.0 bytes end h.2.1 h.1 lt all ends))),
-    )
+-- no blank stands before a first word, or behind a last one
+none_before : (word rest : List ℕ) → IsWord word → prefix_len blank (word ++ rest) ≡ 0
+none_before [] rest is = absurd (is.0 refl)
+none_before (byte ∷ word) rest is =
+    ap (λ b. cond b (1 + prefix_len blank (word ++ rest)) 0) (is.1 0 0 (omega arith))
 
-pub no_path : (bytes : List ℕ) → All IsOfWord bytes → ¬ BeginsPath bytes
-no_path bytes all h =
-    (all (length h.0) 0 (within h.0 h.2.0 bytes h.2.1)).0 (space_behind h.0 h.2.0 bytes 0 h.2.1)
+more_than_none : (word : List ℕ) → IsWord word → 0 < length word
+more_than_none [] is = absurd (is.0 refl)
+more_than_none (byte ∷ word) is = omega arith
 
--- bytes that were seen to begin with one of these begin with it
-pub begun_with : (bytes : List ℕ) (fronts : List (List ℕ)) → list_any (starts_with nat_eq bytes) fronts ≡ true →
-    Any (BeginWith bytes) fronts
-begun_with bytes fronts e =
-    let found = Any-from_list_any (starts_with nat_eq bytes) fronts e in (
-      found.0,
-      found.1,
-      found.2,
-      found.3,
-      (drop (length found.1) bytes, (starts_is Decides-eqb bytes found.1 true (sym found.4)).0 refl),
-    )
+none_behind : (front word : List ℕ) → IsWord word → suffix_len blank (front ++ word) ≡ 0
+none_behind front word is =
+    let some : 0 < length word = more_than_none word is in
+    let long : length (front ++ word) ≡ length front + length word = length-append front word in
+    suffix_len_is blank (front ++ word) (length (front ++ word)) 0 (omega arith)
+    (λ k past within. absurd (omega (arith, past, within)))
+    (λ _. ap blank (get_or-append_right front word (length (front ++ word) - 1) 0 (omega arith)) ∙
+    is.1 (length (front ++ word) - 1 - length front) 0 (omega arith)) ∙ omega arith
+
+two_words : (method target : List ℕ) → IsWord method → IsWord target → has_two_words (method ++ 32 ∷ target) ≡ true
+two_words method target is and =
+    let front : List ℕ = method ++ 32 ∷ target in
+    let behind : suffix_len blank front ≡ 0 =
+    ap (suffix_len blank) (sym (one_more method target)) ∙ none_behind (method ++ 32 ∷ []) target and in
+    ap (λ n. list_any blank (without_blanks (drop n front))) (none_before method (32 ∷ target) is) ∙
+    ap (λ n. list_any blank (take (length front - n) front)) behind ∙
+    ap (list_any blank) (take_all (length front - 0) front (omega arith)) ∙
+    list_any-append blank method (32 ∷ target) ∙ or_true (list_any blank method)
+  where
+    one_more : (xs ys : List ℕ) → (xs ++ 32 ∷ []) ++ ys ≡ xs ++ 32 ∷ ys
+    one_more [] ys = refl
+    one_more (x ∷ xs) ys = ap (λ (l : List ℕ). x ∷ l) (one_more xs ys)
+
+    or_true : (b : Bool) → (b || true) ≡ true
+    or_true b = elim b as (λ v. (v || true) ≡ true) [ true ↦ refl | false ↦ refl ]
+
+pub requests_are_seen : RequestsAreSeen
+requests_are_seen method target is and other =
+    let front : List ℕ = method ++ 32 ∷ target in
+    ap (λ (text : List ℕ). (is_version (after_last blank text) && has_two_words (before_last blank text)) &&
+    not (list_any (starts_with nat_eq (front ++ ending)) own_fronts)) (without_cr front) ∙
+    ap (λ (word : List ℕ). (is_version word && has_two_words (before_last blank (front ++ 32 ∷ version))) &&
+    not (list_any (starts_with nat_eq (front ++ ending)) own_fronts)) (last_is front) ∙
+    ap (λ (text : List ℕ). has_two_words text && not (list_any (starts_with nat_eq (front ++ ending)) own_fronts))
+    (front_is front) ∙
+    ap (λ b. b && not (list_any (starts_with nat_eq (front ++ ending)) own_fronts)) (two_words method target is and) ∙
+    ap not other

@@ -27,8 +27,13 @@ is_closed mode accepted_all is_stopped = is_stopped || (not accepted_all && not 
 abbrev pub ends_round : ℕ → ℕ → Bool
 ends_round before steps = nat_lt (before / 1024) (min 18446744073709551615 (before + steps) / 1024)
 
--- what a worker does where so many sessions have not ended, so many turns were taken and so many lines answered: it has
--- one turn for each line
+-- how many turns workers get for so many lines that were answered behind others: one for each, and while they rest one
+-- at each 1,024th
+abbrev pub turns_for : Bool → ℕ → ℕ → ℕ
+turns_for false before lines = lines
+turns_for true before lines = if ends_round before lines then 1 else 0
+
+-- what a worker does where so many sessions have not ended, and so many turns were taken of those that were given
 abbrev pub next_of : ℕ → ℕ → ℕ → Next
-next_of zero taken answered = next.End
-next_of (suc sessions) taken answered = if nat_lt taken answered then next.Take else next.Sleep
+next_of zero taken given = next.End
+next_of (suc sessions) taken given = if nat_lt taken given then next.Take else next.Sleep

@@ -1,83 +1,72 @@
--- Requests of HTTP, and what a connection passes on whose first line is looked at.
-use Rattle.std.specs.Prelude.{◌≡◌, ◌≢◌, ◌⊎◌, ◌≤◌, ℕ, List, [], ◌∷◌, ◌++◌, All, Any, Contains, codes, length}
-use Rattle.am_stream.specs.SourceReads.{Took}
-use Rattle.am_doors.specs.declared.mode.Mode.{Mode}
-use Rattle.am_doors.specs.declared.mode.Mode.TheVariants.{Bounded, Staying}
-use Rattle.am_doors.specs.declared.http.NoHttp.{NoHttp}
-use Rattle.am_doors.specs.declared.http.Stage.{Stage}
-use Rattle.am_doors.specs.declared.http.Stage.TheVariants.{First, Open, Closed}
+-- Lines of HTTP: its requests, and the header that names a host.
+use Rattle.std.specs.Prelude.{ℕ, nat_le, nat_eq, Bool, true, false, not, ◌&&◌, ◌||◌, ◌==◌, List, [], ◌∷◌, length, codes}
+use Rattle.std.specs.Prelude.{take, drop, ◌-◌, ◌≡◌, ◌≢◌, ◌++◌, All}
+use Rattle.std.specs.Char.{is_ascii_digit, is_ascii_whitespace, to_ascii_lowercase}
+use Rattle.std.specs.List.{list_any, list_all, prefix_len, suffix_len, starts_with, after_last, before_last}
 
--- the methods whose names are no words of a session, each with the space behind it
-abbrev pub methods : List (List ℕ)
-methods = codes "POST " ∷ codes "PUT " ∷ codes "HEAD " ∷ codes "PATCH " ∷ codes "DELETE " ∷ codes "OPTIONS " ∷
-    codes "CONNECT " ∷ codes "TRACE " ∷ []
+-- whether a text begins with these small letters, in any case
+abbrev pub begins_in_any_case : List ℕ → List ℕ → Bool
+begins_in_any_case text [] = true
+begins_in_any_case [] (letter ∷ letters) = false
+begins_in_any_case (byte ∷ text) (letter ∷ letters) =
+    (to_ascii_lowercase byte == letter) && begins_in_any_case text letters
 
-abbrev pub BeginWith : List ℕ → List ℕ → Type 0
-BeginWith bytes front = (rest : List ℕ) × (bytes ≡ front ++ rest)
+-- without the blanks at its end: spaces, TABs and the like
+abbrev pub without_blanks : List ℕ → List ℕ
+without_blanks text = take (length text - suffix_len is_ascii_whitespace text) text
 
--- neither a space nor a line's end
-abbrev pub IsOfWord : ℕ → Type 0
-IsOfWord byte = (byte ≢ 32) × (byte ≢ 10)
+-- and without those before it
+abbrev pub trimmed : List ℕ → List ℕ
+trimmed text = without_blanks (drop (prefix_len is_ascii_whitespace text) text)
 
--- bytes begin with a word, and " HTTP/" behind it
-abbrev pub BeginsPath : List ℕ → Type 0
-BeginsPath bytes = (word : List ℕ) × All IsOfWord word × BeginWith bytes (word ++ codes " HTTP/")
+-- whether a text has two words or more: a blank stands between two of its words
+abbrev pub has_two_words : List ℕ → Bool
+has_two_words text = list_any is_ascii_whitespace (trimmed text)
 
--- bytes begin with GET, a space, a word, and " HTTP/"
-abbrev pub BeginsGet : List ℕ → Type 0
-BeginsGet bytes = (rest : List ℕ) × (bytes ≡ codes "GET " ++ rest) × BeginsPath rest
+abbrev pub is_digit_or_dot : ℕ → Bool
+is_digit_or_dot byte = is_ascii_digit byte || byte == 46
 
--- bytes begin a request: with one of the methods and a space, or with GET, a word and " HTTP/"
-abbrev pub BeginsRequest : List ℕ → Type 0
-BeginsRequest bytes = Any (BeginWith bytes) methods ⊎ BeginsGet bytes
+-- a digit, and more digits and dots
+abbrev pub is_number : List ℕ → Bool
+is_number [] = false
+is_number (first ∷ rest) = is_ascii_digit first && list_all is_digit_or_dot rest
 
--- where a connection stands as it comes to a server: its first line is looked at where the server stays
-abbrev pub first_stage : Mode → Stage
-first_stage Staying = First
-first_stage Bounded = Open
+-- whether a word is a version of HTTP, as HTTP/1.1 and http/2
+abbrev pub is_version : List ℕ → Bool
+is_version word = begins_in_any_case word (codes "http/") && is_number (drop 5 word)
 
-abbrev pub IsInMode : {S : Type 0} → Mode → NoHttp S → Type 0
-IsInMode mode source = source.stage ≡ first_stage mode
+-- how those lines of the protocol begin that may end in a version: INS k v, REP k v and LOCK m lo hi
+abbrev pub own_fronts : List (List ℕ)
+own_fronts = codes "INS " ∷ codes "REP " ∷ codes "LOCK S " ∷ codes "LOCK X " ∷ []
 
--- the bytes that may come: all of the source's, or none where it begins with a request of HTTP
-abbrev pub may_come : (List ℕ → Type 0) → Stage → List ℕ → Type 0
-may_come comes First bytes = (bytes ≡ []) ⊎ comes bytes
-may_come comes Open bytes = comes bytes
-may_come comes Closed bytes = bytes ≡ []
+-- whether a text, which no blank ends, has two words or more, and a version behind them
+abbrev pub ends_request : List ℕ → Bool
+ends_request text =
+    is_version (after_last is_ascii_whitespace text) && has_two_words (before_last is_ascii_whitespace text)
 
--- bytes tell whether a request comes: they begin one, or the first line is whole
-abbrev pub AreTelling : List ℕ → Type 0
-AreTelling bytes = BeginsRequest bytes ⊎ Contains bytes 10
+-- A request of HTTP: a method, what it is asked of, and a version behind them.
+abbrev pub is_request_line : List ℕ → Bool
+is_request_line line =
+    ends_request (without_blanks line) && not (list_any (starts_with nat_eq line) own_fronts)
 
--- no more need be taken: the bytes are telling, there is room for no more, or no more comes
-abbrev pub IsEnough : {S : Type 0} → (S → List ℕ → Type 0) → ℕ → List ℕ → S → Type 0
-IsEnough comes room taken source = AreTelling taken ⊎ ((length taken ≡ room) ⊎ comes source [])
+-- the header that every request of a browser has
+abbrev pub is_host_line : List ℕ → Bool
+is_host_line line = begins_in_any_case line (codes "host:")
 
--- where a connection stands that passed its first bytes on
-abbrev pub stage_behind : List ℕ → Stage
-stage_behind [] = First
-stage_behind (byte ∷ bytes) = Open
+-- A line of HTTP. One of more than 4,096 bytes, which is told to be too long, is none that asks.
+unfoldable pub is_of_http : List ℕ → Bool
+is_of_http line = is_host_line line || (nat_le (length line) 4096 && is_request_line line)
 
--- Of a connection's first bytes these were taken, as many as are enough. Where they begin a request nothing is passed
--- on, and it is closed; where they don't, they are passed on as they are.
-pub record TookFirst {S : Type 0} (comes : S → List ℕ → Type 0) (old : S) (room : ℕ) (passed : List ℕ) (new : S)
-    (stage : Stage) : Type 0 where
-  pub taken : List ℕ
-  pub took : Took comes old taken new
-  pub fits : length taken ≤ room
-  pub enough : IsEnough comes room taken new
-  pub judged : (BeginsRequest taken × (passed ≡ []) × (stage ≡ Closed)) ⊎
-      ((BeginsRequest taken → ⊥) × (passed ≡ taken) × (stage ≡ stage_behind taken))
+-- a word has a byte or more, and none of them is blank
+abbrev pub IsWord : List ℕ → Type 0
+IsWord word = (word ≢ []) × All (λ byte. is_ascii_whitespace byte ≡ false) word
 
--- What a connection passes on by where it stands: its first bytes, if they begin no request; all that comes behind
--- these; and nothing once it is closed, from then on.
-abbrev pub Passes : {S : Type 0} → (S → List ℕ → Type 0) → Stage → S → ℕ → List ℕ → S → Stage → Type 0
-Passes comes First old room passed new stage = TookFirst comes old room passed new stage
-Passes comes Open old room passed new stage = Took comes old passed new × (stage ≡ Open)
-Passes comes Closed old room passed new stage = (passed ≡ []) × (new ≡ old) × (stage ≡ Closed)
+-- a request as browsers write it, before its LF
+abbrev pub request_of : List ℕ → List ℕ → List ℕ
+request_of method target = (method ++ 32 ∷ target) ++ (codes " HTTP/1.1" ++ 13 ∷ [])
 
--- where a connection stands that could not be read
-abbrev pub stage_after_failure : Stage → Stage
-stage_after_failure First = Closed
-stage_after_failure Open = Open
-stage_after_failure Closed = Closed
+-- such a request is seen to be one whatever its method and its target, unless it begins as those lines do
+abbrev pub RequestsAreSeen : Type 0
+RequestsAreSeen = (method target : List ℕ) → IsWord method → IsWord target →
+    list_any (starts_with nat_eq (request_of method target)) own_fronts ≡ false →
+    is_request_line (request_of method target) ≡ true

@@ -1,6 +1,9 @@
 pub mod Http
+pub mod OwnLines
 pub mod Modes
 pub mod Waits
 pub mod Gates
 pub mod Tallies
 pub mod Turnstiles
+pub mod Tickets
+pub mod WaitingLaws

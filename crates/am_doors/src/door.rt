@@ -3,11 +3,14 @@
 use std::fs::Permissions;
 use std::io::ErrorKind;
 use std::net::{Ipv4Addr, Net, TcpListener, TcpStream};
-use std::os::fd::OwnedFd;
+use std::os::fd::{AsRawFd, OwnedFd, RawFd};
 use std::os::unix::fs::{FileTypeExt, PermissionsExt};
 use std::os::unix::net::{UnixListener, UnixStream};
 use std::rt::Files;
 use std::{fs, io};
+
+/// So many connections may wait for the system to give them out, as far as it lets them: std asks for 128.
+const MOST_UNACCEPTED: i32 = 4096;
 
 /// So many connections at most may have come to a socket before its mode was set.
 const MOST_EARLY: u32 = 4096;
@@ -65,8 +68,14 @@ pub fn listen_at_port<R: Net<Listener = TcpListener, Stream = TcpStream>>(
     port: u16,
 ) -> io::Result<(TcpListener, u16)> {
     let listener = TcpListener::bind(rt, (Ipv4Addr::LOCALHOST, port))?;
+    let_wait(listener.as_raw_fd());
     let port = listener.local_addr()?.port();
     Ok((listener, port))
+}
+
+// Lets more connections wait there. Where the system refuses that as many wait as before.
+fn let_wait(listener: RawFd) {
+    let _ = libc::net::listen(listener, MOST_UNACCEPTED);
 }
 
 /// Listens at a socket of the file system that nobody but its owner may open. One of that name at which nobody listens
@@ -81,6 +90,7 @@ pub fn listen_at_socket<R: Files + Net>(rt: &R, path: &str) -> io::Result<UnixLi
     };
     fs::set_permissions(rt, path, Permissions::from_mode(0o600))?;
     close_early(&listener)?;
+    let_wait(listener.as_raw_fd());
     Ok(listener)
 }
 

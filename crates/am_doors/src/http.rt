@@ -1,215 +1,112 @@
-//! Requests of HTTP, which no session answers.
+//! Lines of HTTP, which no session answers.
 
-ghost use Rattle.std.specs.Prelude.{◌≡◌, ◌↔◌, ◌+◌, ◌^◌, ◌<◌, ◌≤◌, [], length, take, slice_index, nat_eq, IfOk, OnOk};
-ghost use Rattle.std.specs.Prelude.{OnErr, IsOk, IsTrue, MatchOption, All};
-ghost use Rattle.std.specs.List.{list_any, starts_with};
-ghost use Rattle.am_stream.specs.SourceReads.{Took};
-ghost use Rattle.am_doors.specs.Http.{may_come, BeginsRequest, BeginsGet, BeginsPath, IsOfWord, AreTelling};
-ghost use Rattle.am_doors.specs.Http.{IsEnough, TookFirst, IsInMode};
-ghost use Rattle.am_doors.specs.declared.http.Stage.TheVariants.{First, Open, Closed};
+ghost use Rattle.std.specs.Prelude.{◌≡◌, ◌-◌, ◌≤◌, length, not, true, nat_eq};
+ghost use Rattle.std.specs.Char.{is_ascii_whitespace};
+ghost use Rattle.std.specs.List.{list_any, list_all, starts_with, suffix_len};
+ghost use Rattle.am_doors.specs.Http.{begins_in_any_case, has_two_words, is_digit_or_dot, is_number, is_version};
+ghost use Rattle.am_doors.specs.Http.{ends_request, is_request_line, is_host_line, is_of_http};
 
-use crate::mode::Mode;
-use am_sink::Failed;
-use am_stream::Source;
+/// A longer line is answered as such, and none of HTTP.
+const MAX_LINE_LEN: usize = 4096;
 
-/// The methods whose names are no words of a session, each with the space behind it.
-const METHODS: [&[u8]; 8] = [
-    b"POST ",
-    b"PUT ",
-    b"HEAD ",
-    b"PATCH ",
-    b"DELETE ",
-    b"OPTIONS ",
-    b"CONNECT ",
-    b"TRACE ",
-];
+/// How those lines of the protocol begin that may end in a version.
+const OWN_FRONTS: [&[u8]; 4] = [b"INS ", b"REP ", b"LOCK S ", b"LOCK X "];
 
-// Whether bytes begin a request: by a method whose name is no word of a session, or by GET, a path and the version. In
-// a session no third word stands behind GET.
-fn is_http(bytes: &[u8]) -> bool
-    ensures { IsTrue result ↔ BeginsRequest bytes.now }
+/// Whether a line, which may have a CR at its end, is one of HTTP: a request, or the header that names a host.
+#[tactic(auto, unfolding(crate::specs::Http::is_of_http))]
+pub(crate) fn is_of_http(line: &[u8]) -> bool
+    ensures { result ≡ is_of_http line.now }
 {
-    begins_with_any(bytes, &METHODS) || is_http_get(bytes)
+    is_host_line(line) || (line.len() <= MAX_LINE_LEN && is_request_line(line))
 }
 
-fn begins_with_any(bytes: &[u8], fronts: &[&[u8]]) -> bool
-    ensures { result ≡ list_any (λ front. starts_with nat_eq bytes.now front.now) fronts.now }
+fn is_host_line(line: &[u8]) -> bool
+    ensures { result ≡ is_host_line line.now }
 {
-    fronts.iter().any(|front| bytes.starts_with(front))
+    begins_in_any_case(line, b"host:")
 }
 
-fn is_http_get(bytes: &[u8]) -> bool
-    ensures { IsTrue result ↔ BeginsGet bytes.now }
+fn is_request_line(line: &[u8]) -> bool
+    ensures { result ≡ is_request_line line.now }
 {
-    match bytes.strip_prefix(b"GET ") {
-        Some(rest) => begins_path(rest),
+    ends_request(line.trim_ascii_end()) && !begins_with_any(line, &OWN_FRONTS)
+}
+
+// Whether a text, which no blank ends, ends as a request does. Its last word nearly always tells.
+fn ends_request(text: &[u8]) -> bool
+    ensures { result ≡ ends_request text.now }
+{
+    let start = last_word_start(text);
+    is_version(&text[start..]) && has_two_words(&text[..start.saturating_sub(1)])
+}
+
+// Where the last word begins of a text that no blank ends.
+fn last_word_start(text: &[u8]) -> usize
+    ensures start { result ≡ length text.now - suffix_len (λ byte. not (is_ascii_whitespace byte)) text.now }
+    ensures within { result ≤ length text.now }
+{
+    let mut start = text.len();
+    'bytes: while start > 0 && !text[start - 1].is_ascii_whitespace() {
+        start -= 1;
+    }
+    start
+}
+
+fn has_two_words(text: &[u8]) -> bool
+    ensures { result ≡ has_two_words text.now }
+{
+    has_blank(text.trim_ascii())
+}
+
+fn has_blank(text: &[u8]) -> bool
+    ensures { result ≡ list_any is_ascii_whitespace text.now }
+{
+    text.iter().any(|byte| byte.is_ascii_whitespace())
+}
+
+fn is_version(word: &[u8]) -> bool
+    ensures { result ≡ is_version word.now }
+{
+    begins_in_any_case(word, b"http/") && is_number(&word[5..])
+}
+
+fn is_number(text: &[u8]) -> bool
+    ensures { result ≡ is_number text.now }
+{
+    match text.split_first() {
+        Some((first, rest)) => first.is_ascii_digit() && are_digits_and_dots(rest),
         None => false,
     }
 }
 
-// Whether bytes begin with a word and, behind it, the version.
-fn begins_path(bytes: &[u8]) -> bool
-    ensures { IsTrue result ↔ BeginsPath bytes.now }
+fn are_digits_and_dots(text: &[u8]) -> bool
+    ensures { result ≡ list_all is_digit_or_dot text.now }
 {
-    match word_end(bytes) {
-        Some(end) => bytes[end..].starts_with(b" HTTP/"),
-        None => false,
-    }
+    text.iter().all(|byte| is_digit_or_dot(*byte))
 }
 
-// Where the word ends that bytes begin with, if that is seen.
-fn word_end(bytes: &[u8]) -> Option<usize>
-    ensures { MatchOption result (All IsOfWord bytes.now) (λ end. (end < length bytes.now) ×
-        All IsOfWord (take end bytes.now) × ¬ IsOfWord (slice_index bytes.now end)) }
+fn is_digit_or_dot(byte: u8) -> bool
+    ensures { result ≡ is_digit_or_dot byte }
 {
-    bytes
-        .iter()
-        .position(|byte| *byte == b' ' || *byte == b'\n')
+    byte.is_ascii_digit() || byte == b'.'
 }
 
-// Whether bytes tell if a request comes.
-fn are_telling(bytes: &[u8]) -> bool
-    ensures { IsTrue result ↔ AreTelling bytes.now }
+// Whether a text begins with these small letters, in any case.
+fn begins_in_any_case(text: &[u8], letters: &[u8]) -> bool
+    ensures begins { result ≡ begins_in_any_case text.now letters.now }
+    ensures long { result ≡ true → length letters.now ≤ length text.now }
 {
-    is_http(bytes) || bytes.contains(&b'\n')
+    let Some((letter, letters)) = letters.split_first() else {
+        return true;
+    };
+    let Some((byte, text)) = text.split_first() else {
+        return false;
+    };
+    byte.to_ascii_lowercase() == *letter && begins_in_any_case(text, letters)
 }
 
-/// Where a connection stands.
-#[derive(Clone, Copy, PartialEq, Eq)]
-enum Stage {
-    /// Its first line has not come yet.
-    First,
-    /// It is a session.
-    Open,
-    /// It began with a request of HTTP, or failed before it was known.
-    Closed,
-}
-
-/// A source that ends at once where it begins with a request of HTTP: no byte of such a one is passed on.
-#[derive(Drop)]
-pub struct NoHttp<S: Source + Drop> {
-    source: S,
-    stage: Stage,
-}
-
-impl<S: Source + Drop> NoHttp<S> {
-    /// A source that is looked at.
-    pub fn new(source: S) -> NoHttp<S>
-        ensures { (result.source ≡ source) × (result.stage ≡ First) }
-    {
-        NoHttp {
-            source,
-            stage: Stage::First,
-        }
-    }
-
-    /// A source of which all is passed on.
-    pub fn open(source: S) -> NoHttp<S>
-        ensures { (result.source ≡ source) × (result.stage ≡ Open) }
-    {
-        NoHttp {
-            source,
-            stage: Stage::Open,
-        }
-    }
-
-    /// A source at a server: looked at where the server stays.
-    pub fn in_mode(source: S, mode: Mode) -> NoHttp<S>
-        ensures mode { IsInMode mode result }
-        ensures failures { S.failures result.source ≡ S.failures source }
-    {
-        if mode.stays() {
-            NoHttp::new(source)
-        } else {
-            NoHttp::open(source)
-        }
-    }
-
-    // Waits for the first line, or for as much of it as there is room for.
-    fn take_first(&mut self, into: &mut [u8]) -> Result<usize, Failed>
-        requires countable { S.failures self.old.source < 2 ^ 63 }
-        requires first { self.old.stage ≡ First }
-        ensures fits { IfOk result (λ n. n ≤ length into.new) }
-        ensures taken { IfOk result (λ n. Took (λ s. may_come (S.comes s.source) s.stage) self.old (take n into.new)
-            self.new) }
-        ensures end { IfOk result (λ n. n ≡ 0 → 0 < length into.new → may_come (S.comes self.new.source)
-            self.new.stage []) }
-        ensures ok { OnOk result (S.failures self.new.source ≡ S.failures self.old.source) }
-        ensures failed { OnErr result (S.failures self.new.source ≡ S.failures self.old.source + 1) }
-        ensures kept { OnErr result (Took (λ s. may_come (S.comes s.source) s.stage) self.old [] self.new) }
-        ensures passed { IfOk result (λ n. TookFirst S.comes self.old.source (length into.old) (take n into.new)
-            self.new.source self.new.stage) }
-        ensures closed { OnErr result (self.new.stage ≡ Closed) }
-    {
-        let Ok(len) = take_line(&mut self.source, into) else {
-            self.stage = Stage::Closed;
-            return Err(Failed);
-        };
-        if is_http(&into[..len]) {
-            self.stage = Stage::Closed;
-            return Ok(0);
-        }
-        if len > 0 {
-            self.stage = Stage::Open;
-        }
-        Ok(len)
-    }
-}
-
-// Takes bytes until a line's end is among them, no room is left, they begin a request, or the source has ended. After a
-// failure what was taken is lost.
-fn take_line<S: Source>(source: &mut S, into: &mut [u8]) -> Result<usize, Failed>
-    requires countable { S.failures source.old < 2 ^ 63 }
-    ensures len { length into.new ≡ length into.old }
-    ensures fits { IfOk result (λ n. n ≤ length into.new) }
-    ensures taken { IfOk result (λ n. Took S.comes source.old (take n into.new) source.new) }
-    ensures end { IfOk result (λ n. n ≡ 0 → 0 < length into.new → S.comes source.new []) }
-    ensures ok { OnOk result (S.failures source.new ≡ S.failures source.old) }
-    ensures failed { OnErr result (S.failures source.new ≡ S.failures source.old + 1) }
-    ensures enough { IfOk result (λ n. IsEnough S.comes (length into.new) (take n into.new) source.new) }
+fn begins_with_any(text: &[u8], fronts: &[&[u8]]) -> bool
+    ensures { result ≡ list_any (λ front. starts_with nat_eq text.now front.now) fronts.now }
 {
-    let mut len = 0;
-    'bytes: while len < into.len() {
-        let more = source.take(&mut into[len..])?;
-        if more == 0 {
-            return Ok(len);
-        }
-        len += more;
-        if are_telling(&into[..len]) {
-            return Ok(len);
-        }
-    }
-    Ok(len)
-}
-
-impl<S: Source + Drop> Source for NoHttp<S> {
-    ghost use Rattle.am_doors.specs.Http.{may_come, Passes, stage_after_failure};
-
-    ghost comes = { λ s bytes. may_come (S.comes s.source) s.stage bytes };
-
-    ghost failures = { λ s. S.failures s.source };
-
-    fn take(&mut self, into: &mut [u8]) -> Result<usize, Failed>
-        requires countable { S.failures self.old.source < 2 ^ 63 }
-        ensures fits { IfOk result (λ n. n ≤ length into.new) }
-        ensures taken { IfOk result (λ n. Took (λ s. may_come (S.comes s.source) s.stage) self.old (take n into.new)
-            self.new) }
-        ensures end { IfOk result (λ n. n ≡ 0 → 0 < length into.new → may_come (S.comes self.new.source)
-            self.new.stage []) }
-        ensures ok { OnOk result (S.failures self.new.source ≡ S.failures self.old.source) }
-        ensures failed { OnErr result (S.failures self.new.source ≡ S.failures self.old.source + 1) }
-        ensures kept { OnErr result (Took (λ s. may_come (S.comes s.source) s.stage) self.old [] self.new) }
-
-        // What it passes on, and where it stands then.
-        ensures passed { IfOk result (λ n. Passes S.comes self.old.stage self.old.source (length into.old)
-            (take n into.new) self.new.source self.new.stage) }
-        ensures stage { OnErr result (self.new.stage ≡ stage_after_failure self.old.stage) }
-        ensures closed { self.old.stage ≡ Closed → IsOk result }
-    {
-        match self.stage {
-            Stage::First => self.take_first(into),
-            Stage::Open => self.source.take(into),
-            Stage::Closed => Ok(0),
-        }
-    }
+    fronts.iter().any(|front| text.starts_with(front))
 }

@@ -88,6 +88,13 @@ impl Line {
         self.holder.is_some_and(|holder| holder.place != place)
     }
 
+    /// Whether it holds that stands at this place.
+    pub(crate) fn is_holder(&self, place: usize) -> bool
+        ensures { result ≡ is_holder self.now.holder place }
+    {
+        self.holder.is_some_and(|holder| holder.place == place)
+    }
+
     /// The session is to hold, unless another does: then it is told which.
     pub(crate) fn hold(&mut self, place: usize, session: u64) -> Option<u64>
         ensures kept { result ≡ kept_by self.old.holder place }

@@ -10,8 +10,7 @@ use am_turns::Upkeep;
 pub enum Mode {
     /// Each seat serves one connection at most. After one that can't be accepted no further one is taken.
     Bounded,
-    /// Each seat serves one connection after another. Where one can't be accepted the next one is waited for, and a
-    /// request of HTTP is no session.
+    /// Each seat serves one connection after another. Where one can't be accepted the next one is waited for.
     Staying,
 }
 

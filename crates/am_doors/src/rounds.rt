@@ -17,8 +17,8 @@ pub(crate) fn round_length() -> Duration {
     Duration::from_millis(ROUND_MILLIS)
 }
 
-// Whether a round ends where so many steps come behind others.
-fn ends_round(before: u64, steps: u64) -> bool
+/// Whether a round ends where so many steps come behind others.
+pub(crate) fn ends_round(before: u64, steps: u64) -> bool
     ensures { result ≡ ends_round before steps }
 {
     before / STEPS < before.saturating_add(steps) / STEPS

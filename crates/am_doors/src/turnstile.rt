@@ -1,10 +1,11 @@
-//! Where sessions wait that have nothing begun, while one of them has the store to itself.
+//! Where sessions wait that have nothing begun: while one of them has the store to itself, and for a ticket.
 
 ghost use Rattle.std.specs.Prelude.{◌≡◌, ◌≢◌, ◌<◌, ◌≤◌, IfOk};
 ghost use Rattle.am_doors.specs.declared.turnstile.HoldReply.{HoldReply};
 ghost use Rattle.am_doors.specs.Turnstiles.{mark_of, number_in};
 
 use crate::line::{Line, Wait as Waits, Waiter, wait_for};
+use crate::tickets::{PATIENCE_MICROS, TicketLine, Tickets, patience_end, rest_of};
 use std::alloc::{AllocError, Global};
 use std::marker::Model;
 use std::rt::Clock;
@@ -45,6 +46,8 @@ struct Place {
     inside: AtomicU64,
     // Only rises: who sleeps there sleeps at a value of it.
     calls: AtomicU64,
+    // Whether who is there begins a transaction, or has one, or waits for the ticket.
+    has_ticket: AtomicBool,
 }
 
 impl Place {
@@ -64,14 +67,27 @@ impl Place {
     }
 }
 
-/// Keeps sessions from their turns while one of them holds.
+/// Who holds and who waits for a turn, and who waits for a ticket.
+#[derive(Drop)]
+struct Lines {
+    turns: Line,
+    tickets: TicketLine,
+}
+
+/// Keeps sessions from their turns while one of them holds, and those that begin from their transactions while 64 are
+/// active.
 ///
 /// Who would hold says so first, and then looks who is inside. Who goes in says so first, and then looks who holds. So
 /// of two that come together at least one sees the other.
+///
+/// The turn comes first, and then the ticket. A session that waits for a ticket is outside, so it keeps nobody from
+/// holding, and is inside again as it gets one. No ticket is given while anybody holds. So all are free for who holds,
+/// once no other is inside.
 #[derive(Drop)]
 pub struct Turnstile {
     places: Vec<Place>,
-    line: Mutex<Line>,
+    lines: Mutex<Lines>,
+    tickets: Tickets,
     // The place that holds, and 1, or 0: as in the line, for those that only look.
     held_at: AtomicU64,
     is_open: AtomicBool,
@@ -107,11 +123,15 @@ impl Turnstile {
             places.push(Place {
                 inside: AtomicU64::new(0),
                 calls: AtomicU64::new(0),
+                has_ticket: AtomicBool::new(false),
             })?;
         }
+        let turns = Line::new(alloc)?;
+        let tickets = TicketLine::new(alloc)?;
         Ok(Turnstile {
             places,
-            line: Mutex::new(Line::new(alloc)?),
+            lines: Mutex::new(Lines { turns, tickets }),
+            tickets: Tickets::new(),
             held_at: AtomicU64::new(0),
             is_open: AtomicBool::new(false),
             longest,
@@ -143,10 +163,10 @@ impl Turnstile {
 
     // Whether who is inside may stay there. Else it is outside again, and waits in the line.
     fn enter_or_join<R: Wait + Clock>(&self, rt: &R, here: &Place, waiter: Waiter) -> bool {
-        let mut line = self.line.lock(rt);
-        line.look(self.now(rt));
-        self.let_go_on(&mut line);
-        if !line.is_kept(waiter.place) || !line.join(waiter) {
+        let mut lines = self.lines.lock(rt);
+        lines.turns.look(self.now(rt));
+        self.let_go_on(&mut lines);
+        if !lines.turns.is_kept(waiter.place) || !lines.turns.join(waiter) {
             return true;
         }
         self.go_out(here);
@@ -156,22 +176,99 @@ impl Turnstile {
     // How many microseconds one that waits sleeps. A hold whose time is over ends here.
     fn nap<R: Wait + Clock>(&self, rt: &R) -> u64 {
         let now = self.now(rt);
-        let mut line = self.line.lock(rt);
-        line.look(now);
-        self.let_go_on(&mut line);
-        line.nap(now)
+        let mut lines = self.lines.lock(rt);
+        lines.turns.look(now);
+        self.let_go_on(&mut lines);
+        lines.turns.nap(now)
     }
 
-    /// Whether a session at this place that has no transaction active would wait for its turn.
+    /// Returns once the session at this place, which has its turn, may begin a transaction: once it has a ticket, as it
+    /// has at once where fewer than 64 are taken and nobody waits. It waits behind those that came before it, for a
+    /// second at most in which nobody holds, and then takes one too many.
+    pub fn await_ticket<R: Wait + Clock>(&self, rt: &R, place: usize, session: u64) {
+        let Some(here) = self.places.get(place) else {
+            return;
+        };
+        here.has_ticket.store(true, Ordering::SeqCst);
+        let waiter = Waiter { place, session };
+        if self.tickets.try_take() || self.take_or_join(rt, here, waiter) {
+            return;
+        }
+        let mut end = self.now(rt).saturating_add(PATIENCE_MICROS);
+        for _ in rt.forever() {
+            let calls = here.calls.load(Ordering::SeqCst);
+            let Some(nap) = self.ticket_nap(rt, here, waiter, &mut end) else {
+                return;
+            };
+            here.sleep(rt, calls, nap);
+        }
+    }
+
+    // Whether who is inside has a ticket at once, as who holds does. Else it is outside, and waits for one.
+    fn take_or_join<R: Wait + Clock>(&self, rt: &R, here: &Place, waiter: Waiter) -> bool {
+        let mut lines = self.lines.lock(rt);
+        lines.turns.look(self.now(rt));
+        if lines.turns.is_holder(waiter.place) || !lines.tickets.join(waiter) {
+            self.tickets.take();
+            return true;
+        }
+        self.tickets.count(&lines.tickets);
+        self.go_out(here);
+        self.let_go_on(&mut lines);
+        false
+    }
+
+    // How many microseconds one that waits for a ticket sleeps. None once it has one, be it one too many: then it is
+    // inside.
+    fn ticket_nap<R: Wait + Clock>(
+        &self,
+        rt: &R,
+        here: &Place,
+        waiter: Waiter,
+        end: &mut u64,
+    ) -> Option<u64> {
+        let now = self.now(rt);
+        let mut lines = self.lines.lock(rt);
+        lines.turns.look(now);
+        self.let_go_on(&mut lines);
+        if here.inside.load(Ordering::SeqCst) != 0 {
+            return None;
+        }
+        let is_held = lines.turns.is_held();
+        *end = patience_end(is_held, now, *end);
+        match rest_of(now, *end) {
+            Some(rest) if !self.is_open.load(Ordering::SeqCst) => {
+                Some(if is_held { lines.turns.nap(now) } else { rest })
+            }
+            _ => {
+                lines.tickets.leave(waiter.place);
+                self.tickets.count(&lines.tickets);
+                self.tickets.take();
+                here.inside.store(mark_of(waiter.session), Ordering::SeqCst);
+                None
+            }
+        }
+    }
+
+    /// Whether a session at this place that has no transaction active would wait for its turn, or to begin.
     pub fn is_kept(&self, place: usize) -> bool {
         let held_at = self.held_at.load(Ordering::SeqCst);
-        held_at != 0 && held_at != mark_of(place as u64)
+        (held_at != 0 && held_at != mark_of(place as u64)) || self.tickets.are_gone()
     }
 
-    /// The session at this place has no turn any more, and no transaction.
-    pub fn end_turn(&self, place: usize) {
+    /// The session at this place has no turn any more, and no transaction, and so no ticket.
+    pub fn end_turn<R: Wait>(&self, rt: &R, place: usize) {
         if let Some(here) = self.places.get(place) {
+            self.give_ticket_back(rt, here);
             self.go_out(here);
+        }
+    }
+
+    // Who has waited longest has it next.
+    fn give_ticket_back<R: Wait>(&self, rt: &R, here: &Place) {
+        if here.has_ticket.swap(false, Ordering::SeqCst) && self.tickets.give_back() {
+            let mut lines = self.lines.lock(rt);
+            self.let_go_on(&mut lines);
         }
     }
 
@@ -213,14 +310,14 @@ impl Turnstile {
 
     // The session is to hold, unless another does, which is told.
     fn begin_hold<R: Wait + Clock>(&self, rt: &R, place: usize, session: u64) -> Option<u64> {
-        let mut line = self.line.lock(rt);
-        line.look(self.now(rt));
-        line.release(place);
-        self.let_go_on(&mut line);
+        let mut lines = self.lines.lock(rt);
+        lines.turns.look(self.now(rt));
+        lines.turns.release(place);
+        self.let_go_on(&mut lines);
         if self.is_open.load(Ordering::SeqCst) {
             return Some(session);
         }
-        let other = line.hold(place, session);
+        let other = lines.turns.hold(place, session);
         if other.is_none() {
             self.held_at.store(mark_of(place as u64), Ordering::SeqCst);
         }
@@ -262,9 +359,9 @@ impl Turnstile {
     fn grant<R: Wait + Clock>(&self, rt: &R, holder: Waiter, micros: u64) -> HoldReply
         ensures { result ≢ HoldReply.TooLong }
     {
-        let mut line = self.line.lock(rt);
+        let mut lines = self.lines.lock(rt);
         let until = self.now(rt).saturating_add(micros);
-        if line.grant(holder.place, until) {
+        if lines.turns.grant(holder.place, until) {
             HoldReply::Holds
         } else {
             HoldReply::KeptBy(holder.session)
@@ -276,17 +373,17 @@ impl Turnstile {
         if self.held_at.load(Ordering::SeqCst) != mark_of(place as u64) {
             return;
         }
-        let mut line = self.line.lock(rt);
-        line.release(place);
-        self.let_go_on(&mut line);
+        let mut lines = self.lines.lock(rt);
+        lines.turns.release(place);
+        self.let_go_on(&mut lines);
     }
 
     /// Nobody holds any more, and nobody will: sessions that wait here end as others do.
     pub fn open<R: Wait>(&self, rt: &R) {
         self.is_open.store(true, Ordering::SeqCst);
-        let mut line = self.line.lock(rt);
-        line.release_any();
-        self.let_go_on(&mut line);
+        let mut lines = self.lines.lock(rt);
+        lines.turns.release_any();
+        self.let_go_on(&mut lines);
         for place in &self.places {
             place.call();
         }
@@ -294,21 +391,31 @@ impl Turnstile {
 
     // Lets those that wait go on, in the order in which they came, while nobody holds. They are inside before anybody
     // can hold again.
-    fn let_go_on(&self, line: &mut Line) {
-        if line.is_held() {
-            return;
+    fn let_go_on(&self, lines: &mut Lines) {
+        let is_held = lines.turns.is_held();
+        if !is_held {
+            self.held_at.store(0, Ordering::SeqCst);
         }
-        self.held_at.store(0, Ordering::SeqCst);
         for _ in 0..self.places.len() {
-            let Some(waiter) = line.next() else {
+            let Some(waiter) = self.tickets.take_for_next(&mut lines.tickets, is_held) else {
+                break;
+            };
+            self.let_in(waiter);
+        }
+        for _ in 0..self.places.len() {
+            let Some(waiter) = lines.turns.next() else {
                 return;
             };
-            if let Some(place) = self.places.get(waiter.place) {
-                place
-                    .inside
-                    .store(mark_of(waiter.session), Ordering::SeqCst);
-                place.call();
-            }
+            self.let_in(waiter);
+        }
+    }
+
+    fn let_in(&self, waiter: Waiter) {
+        if let Some(place) = self.places.get(waiter.place) {
+            place
+                .inside
+                .store(mark_of(waiter.session), Ordering::SeqCst);
+            place.call();
         }
     }
 

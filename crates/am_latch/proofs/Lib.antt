@@ -5,3 +5,4 @@ pub mod SeatReceipts
 pub mod Opens
 pub mod Seats
 pub mod SeatTransactions
+pub mod ReceiptRooms

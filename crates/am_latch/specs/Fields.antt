@@ -8,7 +8,7 @@ use Rattle.am_latch.specs.declared.seat.Seat.TheInside.{Inside as SeatFields}
 use Rattle.am_latch.specs.declared.state.LatchState.TheInside.{Inside as LatchStateFields}
 use Rattle.am_latch.specs.declared.taker.Taker.TheInside.{Inside as TakerFields}
 use Rattle.am_latch.specs.Receipts.{moved_in, last_commit_of, positions_of, AreBehind, most_let_go}
-use Rattle.am_latch.specs.Ties.{open_of, HasRoom, AreNumbered, IsTied}
+use Rattle.am_latch.specs.Ties.{open_of, HasRoom, receipts_kept, receipt_room, AreNumbered, IsTied}
 use Rattle.am_latch.specs.Tables.{LatchTables}
 use Rattle.am_ties.specs.declared.taker_tie.TakenView.TheVariants.{Handed, Whole}
 use Rattle.am_ties.specs.HandOutRule.{IsTakerView}
@@ -28,7 +28,7 @@ pub record IsLatchState {L : Type 0} (tables : LatchTables) (seats : ℕ) (s : L
   pub tied : IsTied (log_of s.engine)
 
 -- The token knows all receipts. The positions of those that weren't let go are held, with room for that of the end of
--- an open transaction
+-- an open transaction, and as much as is got for these at once
 pub record IsSeat {L : Type 0} (table : TableId) (seats : ℕ) (s : SeatFields L) : Type 0 where
   pub table_of : s.token.table_id ≡ table
   pub view : IsSeatView s.token.me.0
@@ -40,6 +40,7 @@ pub record IsSeat {L : Type 0} (table : TableId) (seats : ℕ) (s : SeatFields L
   pub open_tx : s.open_now ≡ open_of (seat_in s.token.me.0).receipts
   pub last : s.last_commit ≡ last_commit_of (seat_in s.token.me.0).receipts
   pub room : HasRoom s.open_now (vec_len s.positions) (vec_capacity s.positions)
+  pub got : receipt_room (vec_len s.positions + receipts_kept s.open_now) ≤ vec_capacity s.positions
   pub moved : s.moved ≡ moved_in (seat_in s.token.me.0).receipts
   pub few : s.moved ≤ max_limit * length (seat_in s.token.me.0).receipts
   pub numbers : s.let_go ≤ most_let_go

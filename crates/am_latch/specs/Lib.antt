@@ -2,4 +2,5 @@ pub mod Faults
 pub mod Receipts
 pub mod Tables
 pub mod Ties
+pub mod Wants
 pub mod Fields

@@ -1,6 +1,7 @@
 -- The transaction of each seat, and how the seats' transactions are those that are active.
-use Rattle.std.specs.Prelude.{◌≡◌, ◌<◌, ◌≤◌, ℕ, ◌+◌, ◌==◌, List, [], ◌∷◌, ◌++◌, true, Option, Some, None, slice_get}
-use Rattle.std.specs.Prelude.{if◌then◌else◌}
+use Rattle.std.specs.Prelude.{◌≡◌, ◌<◌, ◌≤◌, ℕ, ◌+◌, ◌==◌, List, [], ◌∷◌, ◌++◌, true, Option, Some, None}
+use Rattle.std.specs.Prelude.{if◌then◌else◌, slice_get}
+use Rattle.std.specs.Int.{next_multiple_of}
 use Rattle.am_record.specs.declared.step.Step.{Step}
 use Rattle.am_record.specs.declared.step.Step.TheVariants.{Begin, Do, Commit, Abort, Merge, Clean}
 use Rattle.am_record.specs.declared.step.Reply.{Reply}
@@ -76,6 +77,15 @@ receipts_needed o (Abort t) = 1
 receipts_needed o (Do t op) = receipts_with o
 receipts_needed o (Merge limit) = receipts_with o
 receipts_needed o (Clean range limit) = receipts_with o
+
+-- for how many receipts room is kept: for that of the end of an open transaction
+abbrev pub receipts_kept : Option ℕ → ℕ
+receipts_kept (Some t) = 1
+receipts_kept None = 0
+
+-- room for receipts is got by 64 at a time: for so many there is room where n of them want it
+abbrev pub receipt_room : ℕ → ℕ
+receipt_room n = next_multiple_of n 64
 
 -- so many receipts, with room for one more while a transaction is open
 abbrev pub HasRoom : Option ℕ → ℕ → ℕ → Type 0

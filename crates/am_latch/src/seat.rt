@@ -1,15 +1,17 @@
 //! A seat, which keeps a receipt for each of its calls.
-ghost use Rattle.std.specs.Prelude.{◌≡◌, ◌≢◌, ◌↔◌, ◌<◌, ◌≤◌, ◌+◌, [], length, IsSome, Some, None, true, vec_len};
-ghost use Rattle.std.specs.Prelude.{vec_capacity, IfSome};
+ghost use Rattle.std.specs.Prelude.{◌≡◌, ◌≢◌, ◌↔◌, ◌⊎◌, ◌<◌, ◌≤◌, ◌+◌, [], length, IsSome, Some, None, true, false};
+ghost use Rattle.std.specs.Prelude.{vec_len, vec_capacity, IfSome, IfNone};
 ghost use Rattle.am_record.specs.Sessions.{IsAllowed};
 ghost use Rattle.am_record.specs.declared.step.Reply.TheVariants.{Refused};
-ghost use Rattle.am_record.specs.declared.step.Refusal.TheVariants.{SeatFull};
+ghost use Rattle.am_record.specs.declared.step.Refusal.TheVariants.{NoMemory, SeatFull};
 ghost use Rattle.am_traced_steps.specs.Changes.{end_of, is_stored, open_after, IsBoundedReply};
 ghost use Rattle.am_engine.specs.Copies.{IsCopyOf};
+ghost use Rattle.am_engine.specs.Wants.{takes_lists};
 ghost use Rattle.am_ties.specs.Receipts.{receipts_of};
 ghost use Rattle.am_latch.specs.Receipts.{SeatState, new_seat, HasReceiptOf, moved_in, last_commit_of};
 ghost use Rattle.am_latch.specs.Receipts.{held_by, positions_of, AreBehind};
-ghost use Rattle.am_latch.specs.Ties.{open_of, EndsTx, receipts_needed};
+ghost use Rattle.am_latch.specs.Ties.{open_of, EndsTx, receipts_needed, receipt_room};
+ghost use Rattle.am_latch.specs.Wants.{CallMayWant};
 ghost use Rattle.am_ties.specs.declared.views.View.TheVariants.{Receipts};
 ghost use Rattle.am_ties.specs.Views.{new_seat_view, log_in, IsLogView};
 
@@ -25,6 +27,9 @@ use std::marker::{Model, PhantomData};
 use std::sync::Wait;
 
 const MOST_RECEIPTS: usize = 1_000_000;
+
+/// For so many receipts room is got at a time.
+const PLACES_AT_ONCE: usize = 64;
 
 /// So many receipts let go are the most after which more are.
 const MOST_LET_GO: u64 = 100_000_000_000_000;
@@ -160,12 +165,14 @@ impl<L: LatchName> Seat<L> {
     ///
     /// The reply is SeatFull where the seat holds 1,000,000 receipts or more and the step is no Commit or Abort,
     /// and NoMemory where memory was refused: then the seat is unchanged, and nothing was stored. A Commit or Abort
-    /// gets neither: its room is kept from the Begin on.
+    /// gets neither: its room is kept from the Begin on. NoMemory comes only where the call may want memory: for a load
+    /// or a scan, for a receipt, of which 64 get their room at a time, or where the engine may want it for the step.
     #[inline(never)]
     pub fn call<R: Wait>(&mut self, rt: &R, latch: &Latch<L>, step: Step) -> Reply
         requires { IsAllowed (open_of self.old.receipts) step }
         ensures called { HasReceiptOf self.old step result self.new }
         ensures full { (result ≡ Refused SeatFull) ↔ ((1000000 ≤ held_by self.old) × (end_of step ≡ None)) }
+        ensures memory { result ≡ Refused NoMemory → CallMayWant L.seats self.old step }
         ensures ended { EndsTx step result }
         ensures neither { IsSome (end_of step) → is_stored result ≡ true }
         ensures bounded { IsBoundedReply step result }
@@ -182,6 +189,7 @@ impl<L: LatchName> Seat<L> {
         requires room { end_of step ≡ None → held_by self.old < 1000000 }
         ensures called { HasReceiptOf self.old step result self.new }
         ensures never_full { result ≢ Refused SeatFull }
+        ensures memory { result ≡ Refused NoMemory → CallMayWant L.seats self.old step }
         ensures ended { EndsTx step result }
         ensures bounded { IsBoundedReply step result }
     {
@@ -224,14 +232,17 @@ fn prepare(
     open_now: Option<u64>,
     step: &Step,
 ) -> Option<StepCopy>
+    requires { vec_len positions.old ≤ 1000001 }
     ensures same { positions.new.items ≡ positions.old.items }
     ensures long { vec_len positions.new ≡ vec_len positions.old }
     ensures kept { vec_capacity positions.old ≤ vec_capacity positions.new }
-    ensures got { IfSome result (λ _. vec_len positions.new + receipts_needed open_now step.now ≤
+    ensures got { IfSome result (λ _. receipt_room (vec_len positions.new + receipts_needed open_now step.now) ≤
         vec_capacity positions.new) }
     ensures copies { IfSome result (IsCopyOf step.now) }
-    ensures ends { vec_len positions.old + receipts_needed open_now step.now ≤ vec_capacity positions.old →
-        IsSome (end_of step.now) → IsSome result }
+    ensures ends { receipt_room (vec_len positions.old + receipts_needed open_now step.now) ≤
+        vec_capacity positions.old → IsSome (end_of step.now) → IsSome result }
+    ensures none { IfNone result ((takes_lists step.now ≡ true) ⊎
+        (vec_capacity positions.old < receipt_room (vec_len positions.old + receipts_needed open_now step.now))) }
 {
     if !get_places(positions, places_for(open_now, step)) {
         return None;
@@ -239,15 +250,20 @@ fn prepare(
     StepCopy::of(alloc, step)
 }
 
-// Room for so many receipts more.
+// Room for so many receipts more, and for as many as get it at once.
 fn get_places(positions: &mut Vec<u64>, receipts_needed: usize) -> bool
+    requires { vec_len positions.old + receipts_needed ≤ 1000003 }
     ensures same { positions.new.items ≡ positions.old.items }
     ensures long { vec_len positions.new ≡ vec_len positions.old }
     ensures kept { vec_capacity positions.old ≤ vec_capacity positions.new }
-    ensures got { result ≡ true → vec_len positions.new + receipts_needed ≤ vec_capacity positions.new }
-    ensures there { vec_len positions.old + receipts_needed ≤ vec_capacity positions.old → result ≡ true }
+    ensures got { result ≡ true → receipt_room (vec_len positions.new + receipts_needed) ≤ vec_capacity positions.new }
+    ensures there { receipt_room (vec_len positions.old + receipts_needed) ≤ vec_capacity positions.old →
+        result ≡ true }
+    ensures none { result ≡ false →
+        vec_capacity positions.old < receipt_room (vec_len positions.old + receipts_needed) }
 {
-    positions.reserve(receipts_needed).is_ok()
+    let wanted = (positions.len() + receipts_needed).next_multiple_of(PLACES_AT_ONCE);
+    positions.reserve(wanted - positions.len()).is_ok()
 }
 
 // How many receipts need room: that of the end of an open transaction too.

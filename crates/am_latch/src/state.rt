@@ -2,14 +2,15 @@
 ghost use Rattle.std.specs.Prelude.{◌≡◌, ◌≢◌, ◌<◌, [], ◌++◌, length, IfOk, OnErr, MatchBool};
 ghost use Rattle.am_record.specs.Sessions.{IsAllowed};
 ghost use Rattle.am_record.specs.declared.step.Reply.TheVariants.{Refused};
-ghost use Rattle.am_record.specs.declared.step.Refusal.TheVariants.{SeatFull};
+ghost use Rattle.am_record.specs.declared.step.Refusal.TheVariants.{NoMemory as OutOfMemory, SeatFull};
 ghost use Rattle.am_sound.specs.Right.{IsSoundStore};
 ghost use Rattle.am_traced_steps.specs.Changes.{is_stored, IsBoundedReply};
 ghost use Rattle.am_engine.specs.Copies.{IsCopyOf};
-ghost use Rattle.am_ties.specs.CallLogs.{CallLog, empty_log};
+ghost use Rattle.am_ties.specs.CallLogs.{empty_log};
 ghost use Rattle.am_engine.specs.Traces.{EngineState, log_of, StoresCall, stored_at, IsNextOf};
 ghost use Rattle.am_ties.specs.Receipts.{receipts_of};
 ghost use Rattle.am_engine.specs.Sizes.{AreFiguresAt};
+ghost use Rattle.am_engine.specs.Wants.{MayWantMemory};
 ghost use Rattle.am_latch.specs.Ties.{open_of, EndsTx, IsEngineOf};
 ghost use Rattle.am_ties.specs.declared.taker_tie.TakenView.TheVariants.{Handed};
 ghost use Rattle.am_ties.specs.declared.views.View.TheVariants.{Log, Receipts};
@@ -38,15 +39,14 @@ pub(crate) struct LatchState<L: LatchName> {
 }
 
 impl<L: LatchName> Model for LatchState<L> {
-    ghost use Rattle.am_ties.specs.CallLogs.{call_log_code, CallLog};
-    ghost use Rattle.am_engine.specs.Traces.{log_of};
+    ghost use Rattle.am_engine.specs.Traces.{engine_code, EngineState};
     ghost use Rattle.am_latch.specs.Fields.{IsLatchState};
 
-    ghost Value = { CallLog };
+    ghost Value = { EngineState };
 
-    ghost coded = { call_log_code };
+    ghost coded = { engine_code };
 
-    ghost view = { λ h. log_of h.engine };
+    ghost view = { λ h. h.engine };
 
     ghost invariant = { IsLatchState L.table L.seats };
 }
@@ -56,7 +56,7 @@ impl<L: LatchName> LatchState<L> {
         requires engine { (log_of engine ≡ empty_log) × (engine.handed ≡ empty_log) }
         requires trace_token { (trace_token.table_id ≡ L.table.calls) × (trace_token.me ≡ (Log empty_log, [])) }
         requires handed_token { (handed_token.table_id ≡ L.table.handed) × (handed_token.me ≡ (Handed [], [])) }
-        ensures { result ≡ empty_log }
+        ensures { log_of result ≡ empty_log }
     {
         LatchState {
             engine,
@@ -73,7 +73,7 @@ impl<L: LatchName> LatchState<L> {
         taker: &mut Taker<L>,
     ) -> Result<Piece, NoMemory>
         requires { (table.now.shared.table_id ≡ L.table.handed) × (0 < table.now.shared.table_id.words) }
-        ensures same { self.new ≡ self.old }
+        ensures same { log_of self.new ≡ log_of self.old }
         ensures taken { IfOk result (λ p. taker.new ≡ taker.old ++ p.trace.items) }
         ensures next { IfOk result (λ p. (engine : EngineState) × IsEngineOf L.seats engine ×
             IsSoundStore engine.trace × (engine.handed.trace ≡ taker.old) ×
@@ -98,7 +98,7 @@ impl<L: LatchName> LatchState<L> {
     pub(crate) fn audit(&mut self, table: &ViewTable, seat: &mut Seat<L>)
         requires { (table.now.shared.table_id ≡ L.table.calls) × (0 < table.now.shared.table_id.words) }
         ensures same { (self.new ≡ self.old) × (seat.new ≡ seat.old) }
-        ensures known { seat.old.receipts ≡ receipts_of seat.old.number self.old }
+        ensures known { seat.old.receipts ≡ receipts_of seat.old.number (log_of self.old) }
     {
         let trace_token = mem::replace(&mut self.trace_token, Badge::blank()).into_seat();
         self.trace_token = seat.audit(table, trace_token).into_badge();
@@ -120,8 +120,11 @@ impl<L: LatchName> LatchState<L> {
         requires number { call_id.call ≡ length (seat_in token.old.me.0).receipts }
         requires may { IsAllowed (open_of (seat_in token.old.me.0).receipts) step }
         requires copy { IsCopyOf step copy }
-        ensures stepped { StoresCall self.old call_id step result.reply self.new }
+        ensures stepped { StoresCall (log_of self.old) call_id step result.reply (log_of self.new) }
         ensures stored { result.stored ≡ stored_at (length self.old.trace) step result.reply }
+        ensures engine { IsEngineOf L.seats self.old × IsSoundStore self.old.trace }
+        ensures known { (seat_in token.old.me.0).receipts ≡ receipts_of call_id.seat (log_of self.old) }
+        ensures memory { result.reply ≡ Refused OutOfMemory → MayWantMemory self.old step }
         ensures never_full { result.reply ≢ Refused SeatFull }
         ensures ended { EndsTx step result.reply }
         ensures bounded { IsBoundedReply step result.reply }
@@ -133,6 +136,7 @@ impl<L: LatchName> LatchState<L> {
     {
         let trace_token = mem::replace(&mut self.trace_token, Badge::blank()).into_seat();
         let trace_token = compare_receipts(table, token, trace_token);
+        let _kept = self.engine.kept();
         let _calls = self.engine.kept_calls();
         let outcome = self.engine.step_with(call_id, step, copy);
         if outcome.stored.is_none() {

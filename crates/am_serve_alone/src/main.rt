@@ -47,7 +47,7 @@ fn alone<R: AllocGlobal + Input + Print + Eprint + Clock + RandomSource + Wait>(
 }
 
 fn main(rt: HostRuntime) -> io::Result<ExitCode> {
-    if hold_stack(rt.alloc()).is_err() {
+    if hold_stack(&rt).is_err() {
         return OptionsFault::NoMemory.tell(&rt, PROGRAM);
     }
     let words = match words(&rt) {

@@ -16,7 +16,7 @@ use std::{io, thread};
 const PROGRAM: &str = "amserve";
 
 fn main(rt: HostRuntime) -> io::Result<ExitCode> {
-    if hold_stack(rt.alloc()).is_err() {
+    if hold_stack(&rt).is_err() {
         return OptionsFault::NoMemory.tell(&rt, PROGRAM);
     }
     let words = match words(&rt) {

@@ -130,7 +130,7 @@ pub(crate) fn stop_at_word<
 /// Serves so many sessions, or so many at once until a stop, with so many workers beside them, on a store whose hash
 /// key no stranger knows.
 #[inline(never)]
-pub(crate) fn serve<R: Threads + Wait + RandomSource + Clock + Eprint + Sync>(
+pub(crate) fn serve<R: AllocGlobal + Threads + Wait + RandomSource + Clock + Eprint + Sync>(
     rt: &R,
     port: &PortListener,
     listening: &Listening<'_>,
@@ -149,7 +149,7 @@ pub(crate) fn serve<R: Threads + Wait + RandomSource + Clock + Eprint + Sync>(
 }
 
 fn serve_with<
-    R: Threads + Wait + RandomSource + Clock + Eprint + Sync,
+    R: AllocGlobal + Threads + Wait + RandomSource + Clock + Eprint + Sync,
     T: PieceTaker + Drop + Send,
 >(
     rt: &R,

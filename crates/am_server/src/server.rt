@@ -203,6 +203,8 @@ pub(crate) fn run<
         &latch,
         counters,
         &house.turnstile,
+        &house.pacer,
+        house.mode,
         seats,
         counter_seats,
     )?;

@@ -3,10 +3,9 @@
 ghost use Rattle.std.specs.Prelude.{◌≡◌, ◌+◌, ◌^◌, ◌<◌, false, None};
 ghost use Rattle.am_session.specs.ServedSessions.{Served, read_failures, write_failures, IsSentOn};
 ghost use Rattle.am_session_seat.specs.SessionSeats.{open_at, seat_meaning, IsNumbered, IsPublishedByReceipt};
-ghost use Rattle.am_doors.specs.Http.{IsInMode};
 ghost use Rattle.am_server.specs.ServerTraces.{WasServed};
 
-use am_doors::{CountingSink, House, NoHttp};
+use am_doors::{CountingSink, House, OwnLines};
 use am_latch::LatchName;
 use am_session::{End, PartingSink, serve};
 use am_session_seat::SessionSeat;
@@ -47,18 +46,16 @@ pub fn serve_session<
     serve(rt, alloc, source, sink, session_seat, 0)
 }
 
-/// Serves one connection to its end. What comes from it is the source's, which looks for a request of HTTP where the
-/// server stays.
+/// Serves one connection to its end. What comes from it is the source's, as far as that is lines of the protocol.
 pub(crate) fn serve_connection<'a, W: Wait + Clock, S: Source + Drop, L: LatchName>(
     rt: &W,
     alloc: Global,
     house: &House<'_>,
     stream: &TcpStream,
-    source: &mut NoHttp<S>,
+    source: &mut OwnLines<S>,
     session_seat: &mut SessionSeat<'a, L>,
 )
-    requires countable { ⟦<NoHttp<S> as Source>⟧.failures source.old < 2 ^ 63 }
-    requires mode { IsInMode house.now.mode source.old }
+    requires countable { ⟦<OwnLines<S> as Source>⟧.failures source.old < 2 ^ 63 }
     requires idle { open_at session_seat.old ≡ None }
     requires numbered { IsNumbered session_seat.old }
     ensures idle { open_at session_seat.new ≡ None }

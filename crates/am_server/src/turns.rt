@@ -7,7 +7,7 @@ ghost use Rattle.am_server.specs.ServerTraces.{WasServed, HasServedInTurn};
 ghost use Rattle.am_doors.specs.Modes.{most_sessions};
 
 use crate::sessions::{refuse, serve_connection};
-use am_doors::{House, NoHttp, turn_away};
+use am_doors::{House, OwnLines, turn_away};
 use am_latch::LatchName;
 use am_session_seat::SessionSeat;
 use am_stream::Reading;
@@ -51,9 +51,12 @@ fn serve_at_place<'a, R: Wait + Clock, L: LatchName>(
         refuse(&shared);
         return;
     };
+    let Ok(mut source) = OwnLines::new(alloc, Reading::new(&*shared)) else {
+        refuse(&shared);
+        return;
+    };
     limit_idleness(&shared, house.idle);
     house.connections.enter(rt, place, other);
-    let mut source = NoHttp::in_mode(Reading::new(&*shared), house.mode);
     serve_connection(rt, alloc, house, &shared, &mut source, session_seat);
     house.connections.leave(rt, place);
 }

@@ -38,11 +38,14 @@ pub trait Backend {
     /// other holds.
     fn await_turn<W: Wait + Clock>(&self, rt: &W);
 
-    /// Whether the session, which has no transaction active, would wait for its turn.
+    /// Returns once the session, which has its turn, may take the step that begins a transaction.
+    fn await_ticket<W: Wait + Clock>(&self, rt: &W);
+
+    /// Whether the session, which has no transaction active, would wait for its turn, or to begin one.
     fn is_kept(&self) -> bool;
 
     /// The turn is over: what a line asked for is done, and no transaction is active.
-    fn end_turn(&self);
+    fn end_turn<W: Wait>(&self, rt: &W);
 
     /// The session ends. It has no turn any more, and holds no more.
     fn end_session<W: Wait>(&self, rt: &W);

@@ -46,6 +46,13 @@ pub(crate) fn next_line<W: Wait, K: Sink, S: AnsweredSource<K>>(
     read_line(rt, input, source, sink, line)
 }
 
+// A session that would begin a transaction waits until it may.
+fn await_ticket<W: Wait + Clock, B: Backend>(rt: &W, backend: &B, step: &Step) {
+    if let Step::Begin = step {
+        backend.await_ticket(rt);
+    }
+}
+
 // Takes the step that is due for a line, if one is.
 fn respond<W: Wait + Clock, B: Backend>(
     rt: &W,
@@ -61,6 +68,7 @@ fn respond<W: Wait + Clock, B: Backend>(
     match session.action(parsed) {
         Action::Answer(response) => response,
         Action::Take(step) => {
+            await_ticket(rt, backend, &step);
             let reply = backend.call(rt, step);
             session.reply(&reply);
             Response::Replied(reply)
@@ -74,8 +82,8 @@ fn respond<W: Wait + Clock, B: Backend>(
 }
 
 // The session, which has no transaction active, has no turn any more. Whether it would wait for the next one.
-fn gives_way<B: Backend>(backend: &B) -> bool {
-    backend.end_turn();
+fn gives_way<W: Wait, B: Backend>(rt: &W, backend: &B) -> bool {
+    backend.end_turn(rt);
     backend.is_kept()
 }
 
@@ -121,7 +129,7 @@ pub(crate) fn answer<W: Wait + Clock, K: Sink, B: Backend>(
         (backend.old, session.old.staged) parsed sink.new (backend.new, session.new.staged)) }
 {
     let response = respond(rt, backend, session, parsed);
-    let is_kept = session.active().is_none() && gives_way(backend);
+    let is_kept = session.active().is_none() && gives_way(rt, backend);
     send(sink, input, &response, is_kept)
 }
 

@@ -1,5 +1,6 @@
 -- What is open in a seat behind a call.
 use Rattle.std.proofs.Common.{◌≡◌, ℕ, List, [], ◌∷◌, ◌++◌, Bool, true, false, Option, Some, None, length, refl, sym, ap}
+use Rattle.std.proofs.Common.{subst}
 use Rattle.std.proofs.Common.{◌∙◌, ◌-◌, arith, length-append}
 use Rattle.std.specs.Prelude.{MatchBool, slice_get}
 use Rattle.std.proofs.lemmas.Option.{slice_get-get_or}
@@ -14,8 +15,11 @@ use Rattle.am_traced_steps.specs.declared.change.Change.TheVariants.{Ends}
 use Rattle.am_traced_steps.specs.Changes.{change, open_after, is_stored, IsReplyTo, IsBoundedReply}
 use Rattle.am_ties.specs.Receipts.{receipt}
 use Rattle.am_latch.specs.Receipts.{SeatState, GetsReceipt, HasReceiptOf}
+use Rattle.am_latch.specs.Wants.{CallMayWant}
+use Rattle.am_record.specs.declared.step.Refusal.TheVariants.{NoMemory}
 use Rattle.am_latch.specs.Ties.{open_from, open_of, EndsTx as IsEnded}
 use Rattle.am_dialogue.specs.Actions.{EndsAbort}
+use Rattle.am_session_seat.specs.SessionSeats.{SessionSeatState, HasSameReceipts, MakesCall, published}
 
 open_behind : (o : Option ℕ) (rs : List Receipt) (r : Receipt) → open_from o (rs ++ r ∷ []) ≡ open_after
     (open_from o rs) (change r.step r.reply)
@@ -60,3 +64,19 @@ last_one rs r =
     ap (λ (n : ℕ). slice_get (rs ++ r ∷ []) n) (omega (arith, length-append rs (r ∷ []))) ∙
     slice_get-get_or (rs ++ r ∷ []) (length rs) r (omega (arith, length-append rs (r ∷ [])))
     ∙ ap Some (get_or-append_seam rs r [] r)
+
+-- a seat that may have let receipts go, and then made the call, by how it is seen
+pub makes_call : (seats : ℕ) (old shown new : SessionSeatState) (free : SeatState) (step : Step) (reply : Reply) →
+    shown ≡ old → HasSameReceipts shown.seat free → HasReceiptOf free step reply new.seat →
+    (reply ≡ Refused NoMemory → CallMayWant seats free step) → new.counter_seat ≡ published shown.counter_seat reply →
+    new.number ≡ shown.number → MakesCall old step reply new
+makes_call seats old shown new free step reply e freed called memory counted numbered =
+    subst (λ (p : SessionSeatState). MakesCall p step reply new) e
+    (record {
+      free = free;
+      freed = freed;
+      called = called;
+      memory = λ refused. (seats, memory refused);
+      counter_seat = counted;
+      number = numbered;
+    })

@@ -1,5 +1,5 @@
 -- A session's receipts, event by event.
-use Rattle.std.proofs.Common.{◌≡◌, ℕ, [], ◌∷◌, ◌++◌, Bool, true, false, length, refl, sym, ap}
+use Rattle.std.proofs.Common.{◌≡◌, ℕ, List, [], ◌∷◌, ◌++◌, Bool, true, false, length, refl, sym, ap}
 use Rattle.std.proofs.Common.{subst, ◌∙◌, append_assoc, inl, inr, ⊎_elim, arith}
 use Rattle.std.specs.Prelude.{MatchBool, cond, ◌⊎◌, max, nat_le}
 use Rattle.std.proofs.lemmas.Bool.{leb-true, leb-false}
@@ -96,11 +96,12 @@ behind s s' st r false h = (
 went : (old new : SessionSeatState) (st : Step) (r : Reply) → MakesCall old st r new →
     HasReceipts old ((st, r) ∷ []) new
 went old new st r h =
-    let b = behind old.seat new.seat st r (is_stored r) h.called in
+    let b = behind h.free new.seat st r (is_stored r) h.called in
+    let there = b.1 ∙ ap (λ (rs : List Receipt). taken rs ++ cond (is_stored r) ((st, r) ∷ []) []) h.freed.receipts in
     record {
-      seat = b.0;
-      receipts = b.1;
-      published = λ is. subst (λ (z : Trace × ℕ). IsPair z.0 z.1) (λ i. (sym b.1 i, (sym h.counter_seat i).published))
+      seat = b.0 ∙ h.freed.number;
+      receipts = there;
+      published = λ is. subst (λ (z : Trace × ℕ). IsPair z.0 z.1) (λ i. (sym there i, (sym h.counter_seat i).published))
           (publishes old.counter_seat (taken old.seat.receipts) st r is);
     }
 

@@ -2,12 +2,14 @@
 use Rattle.std.specs.Prelude.{◌≡◌, ◌≤◌, ◌⊎◌, ℕ, List, ◌∷◌, [], ◌++◌, Bool, Option, max, map, filter, length, MatchBool}
 use Rattle.am_record.specs.declared.step.Step.{Step}
 use Rattle.am_record.specs.declared.step.Reply.{Reply}
-use Rattle.am_record.specs.declared.step.Reply.TheVariants.{Committed}
+use Rattle.am_record.specs.declared.step.Reply.TheVariants.{Committed, Refused}
+use Rattle.am_record.specs.declared.step.Refusal.TheVariants.{NoMemory}
 use Rattle.am_serial.specs.Trace.{Trace}
 use Rattle.am_ties.specs.declared.receipt.Receipt.{Receipt}
 use Rattle.am_traced_steps.specs.Changes.{is_stored}
 use Rattle.am_latch.specs.Receipts.{SeatState, HasReceiptOf}
 use Rattle.am_latch.specs.Ties.{open_of}
+use Rattle.am_latch.specs.Wants.{CallMayWant}
 use Rattle.am_counters.specs.Counters.{CounterHistory, most_draws}
 use Rattle.am_dialogue.specs.Backends.{BackendMeaning}
 
@@ -25,9 +27,18 @@ abbrev pub published : CounterHistory → Reply → CounterHistory
 published counter_seat (Committed c) = record counter_seat { published = max counter_seat.published c }
 published counter_seat reply = counter_seat
 
--- the seat has a receipt of the call, and a commit is published
+-- its receipts are the same, some of which may have been let go
+pub record HasSameReceipts (s t : SeatState) : Type 0 where
+  pub number : t.number ≡ s.number
+  pub receipts : t.receipts ≡ s.receipts
+
+-- the seat, which may have let receipts go, has one of the call, memory is refused only to one that may want it at a
+-- latch with some number of seats, and a commit is published
 pub record MakesCall (old : SessionSeatState) (step : Step) (reply : Reply) (new : SessionSeatState) : Type 0 where
-  pub called : HasReceiptOf old.seat step reply new.seat
+  pub free : SeatState
+  pub freed : HasSameReceipts old.seat free
+  pub called : HasReceiptOf free step reply new.seat
+  pub memory : reply ≡ Refused NoMemory → (seats : ℕ) × CallMayWant seats free step
   pub counter_seat : new.counter_seat ≡ published old.counter_seat reply
   pub number : new.number ≡ old.number
 

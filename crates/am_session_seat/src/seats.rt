@@ -6,13 +6,14 @@ ghost use Rattle.am_session_seat.specs.Seats.{session_seat_numbers, latch_seats}
 
 use crate::session_seat::SessionSeat;
 use am_counters::{CounterSeat, Counters};
-use am_doors::Turnstile;
+use am_doors::{MergePacer, Mode, Turnstile};
 use am_latch::{Latch, LatchName, Seat};
 use am_record::NoMemory;
 use std::alloc::Global;
 
 /// Gives the first seats of a latch to the sessions, one for each seat of the counters, and the others to workers. The
-/// place of each at the turnstile is its own among these.
+/// place of each at the turnstile is its own among these, and each tells workers' pacer of the runs that it loads. In a
+/// server that stays they let their receipts go as they work.
 ///
 /// # Errors
 /// NoMemory, where memory was refused.
@@ -21,6 +22,8 @@ pub fn assign_seats<'a, L: LatchName>(
     latch: &'a Latch<L>,
     counters: &'a Counters,
     turnstile: &'a Turnstile,
+    pacer: &'a MergePacer,
+    mode: Mode,
     seats: Vec<Seat<L>>,
     counter_seats: Vec<CounterSeat>,
 ) -> Result<(Vec<SessionSeat<'a, L>>, Vec<Seat<L>>), NoMemory>
@@ -47,7 +50,9 @@ pub fn assign_seats<'a, L: LatchName>(
                 seat,
                 counter_seat,
                 turnstile,
+                pacer,
                 place,
+                mode.stays(),
             ))?;
         } else {
             worker_seats.push(seat)?;

@@ -2,20 +2,23 @@
 
 ghost use Rattle.std.specs.Prelude.{◌≡◌, ◌≤◌, ◌<◌, ℕ, Some, length};
 ghost use Rattle.am_latch.specs.Receipts.{last_commit_of};
-ghost use Rattle.am_session_seat.specs.SessionSeats.{published, seat_meaning, HasDrawn};
+ghost use Rattle.am_session_seat.specs.SessionSeats.{published, seat_meaning, HasDrawn, HasSameReceipts};
 
 use am_counters::{CounterSeat, Counters};
 use am_dialogue::HoldAnswer;
-use am_doors::{HoldReply, Turnstile};
+use am_doors::{HoldReply, MergePacer, Turnstile};
 use am_latch::{Latch, LatchName, Seat};
-use am_record::{Reply, Step};
+use am_record::{Op, Reply, Step};
 use am_session::Backend;
 use std::marker::Model;
 use std::rt::Clock;
 use std::sync::Wait;
 
+/// A seat of a server that stays lets its receipts go once it holds so many, so that it is never full.
+const MOST_HELD: usize = 1024;
+
 /// The seats of one session: one of the latch, which all sessions step, one of the counters, the place at the turnstile
-/// of all, and the number that was drawn for the session.
+/// of all, and the number that was drawn for the session. Workers are told of the runs that it loads.
 pub struct SessionSeat<'a, L: LatchName> {
     latch: &'a Latch<L>,
     counters: &'a Counters,
@@ -23,7 +26,10 @@ pub struct SessionSeat<'a, L: LatchName> {
     counter_seat: CounterSeat,
     number: u64,
     turnstile: &'a Turnstile,
+    pacer: &'a MergePacer,
     place: usize,
+    // Whether it lets receipts go as it works.
+    holds_few: bool,
 }
 
 // By hand: a crate above then need not prove once more how a seat is dropped.
@@ -36,7 +42,9 @@ impl<'a, L: LatchName> Drop for SessionSeat<'a, L> {
             counter_seat,
             number: _,
             turnstile: _,
+            pacer: _,
             place: _,
+            holds_few: _,
         } = self;
         drop(seat);
         drop(counter_seat);
@@ -59,14 +67,16 @@ impl<'a, L: LatchName> Model for SessionSeat<'a, L> {
 }
 
 impl<'a, L: LatchName> SessionSeat<'a, L> {
-    /// The session's number is not drawn yet.
+    /// The session's number is not drawn yet. Where the seat is to hold few receipts, it lets them go as it works.
     pub fn new(
         latch: &'a Latch<L>,
         counters: &'a Counters,
         seat: Seat<L>,
         counter_seat: CounterSeat,
         turnstile: &'a Turnstile,
+        pacer: &'a MergePacer,
         place: usize,
+        holds_few: bool,
     ) -> SessionSeat<'a, L>
         requires { counter_seat.of ≡ counters.now }
         ensures { result ≡ record { seat = seat; counter_seat = counter_seat; number = 0 } }
@@ -78,7 +88,9 @@ impl<'a, L: LatchName> SessionSeat<'a, L> {
             counter_seat,
             number: 0,
             turnstile,
+            pacer,
             place,
+            holds_few,
         }
     }
 
@@ -117,7 +129,9 @@ impl<'a, L: LatchName> SessionSeat<'a, L> {
             counter_seat,
             number: _,
             turnstile: _,
+            pacer: _,
             place: _,
+            holds_few: _,
         } = self;
         drop(counter_seat);
         seat
@@ -129,7 +143,12 @@ impl<'a, L: LatchName> Backend for SessionSeat<'a, L> {
 
     // A commit is published before anybody hears of it.
     fn call<W: Wait>(&mut self, rt: &W, step: Step) -> Reply {
+        let is_load = matches!(&step, Step::Do(_, Op::Load(_)));
+        hold_few(&mut self.seat, self.holds_few);
         let reply = self.seat.call(rt, self.latch, step);
+        if is_load && reply == Reply::Done {
+            self.pacer.add_work();
+        }
         publish(self.counters, &mut self.counter_seat, &self.seat, &reply);
         end_hold_behind(rt, self.turnstile, self.place, &reply);
         reply
@@ -152,17 +171,30 @@ impl<'a, L: LatchName> Backend for SessionSeat<'a, L> {
         self.turnstile.await_turn(rt, self.place, self.number);
     }
 
+    fn await_ticket<W: Wait + Clock>(&self, rt: &W) {
+        self.turnstile.await_ticket(rt, self.place, self.number);
+    }
+
     fn is_kept(&self) -> bool {
         self.turnstile.is_kept(self.place)
     }
 
-    fn end_turn(&self) {
-        self.turnstile.end_turn(self.place);
+    fn end_turn<W: Wait>(&self, rt: &W) {
+        self.turnstile.end_turn(rt, self.place);
     }
 
     fn end_session<W: Wait>(&self, rt: &W) {
-        self.turnstile.end_turn(self.place);
+        self.turnstile.end_turn(rt, self.place);
         self.turnstile.end_hold(rt, self.place);
+    }
+}
+
+// Lets receipts go where the seat is to hold few, and holds many.
+fn hold_few<L: LatchName>(seat: &mut Seat<L>, holds_few: bool)
+    ensures { HasSameReceipts seat.old seat.new }
+{
+    if holds_few && seat.positions().len() >= MOST_HELD {
+        seat.let_go();
     }
 }
 

@@ -23,7 +23,9 @@ use Rattle.am_turns.specs.declared.upkeep.Upkeep.{Upkeep}
 use Rattle.am_turns.specs.declared.upkeep.Upkeep.TheVariants.{MergeAndClean}
 use Rattle.am_workers.specs.declared.clean_turn.Place.{Place}
 use Rattle.am_workers.specs.Turns.{IsTurn, AreOfTurns, HasTakenTurns, all_moved}
-use Rattle.am_workers.specs.CleanTurns.{HasCleaned}
+use Rattle.am_serial.specs.Trace.{Trace}
+use Rattle.am_record.specs.declared.entry.Entry.{Entry}
+use Rattle.am_workers.specs.CleanTurns.{HasCleaned, IsSeen}
 use Rattle.am_workers.specs.WorkerTurns.{HasLetGo, may_clean, OnlyMerged, ThenCleaned, TakesTurn, TakesTurns}
 
 -- the seat has one receipt more, of a Clean of at most 64, or none
@@ -161,40 +163,46 @@ cleaned_either_way s t range r true c = inr (range, r, c)
 cleaned_either_way s t range r false e = inl e
 
 -- so one receipt is there more, or none
-pub may_have_cleaned : (seats : ℕ) (from to : Place) (s t : SeatState) (reply : Option Reply) →
-    HasCleaned seats from s reply to t → MayHaveCleaned s t
-may_have_cleaned seats from to s t (Some r) h = cleaned_either_way s t h.range r (is_stored r) h.called
-may_have_cleaned seats from to s t None h = inl h.same
+pub may_have_cleaned : (seats : ℕ) (from to : Place) (s t : SeatState) (works : Bool) (reply : Option Reply) →
+    HasCleaned seats from s works reply to t → MayHaveCleaned s t
+may_have_cleaned seats from to s t works (Some r) h = cleaned_either_way s t h.range r (is_stored r) h.called
+may_have_cleaned seats from to s t works None h = inl h.same
 
 -- a turn has a merge, and perhaps a Clean behind it
-goes_on : (upkeep : Upkeep) (limit seats : ℕ) (from to : Place) (s t u v : SeatState) (merge reply : Reply) →
+goes_on : (upkeep : Upkeep) (limit seats : ℕ) (from to : Place) (s t u v : SeatState) (works : Bool)
+    (merge reply : Reply) →
     HasLetGo s t → HasReceiptOf t (Merge limit) merge u →
-    MatchBool (may_clean upkeep merge) (ThenCleaned seats from u merge reply to v)
-    (OnlyMerged from u merge reply to v) →
+    MatchBool (may_clean upkeep merge) (ThenCleaned seats from u merge works reply to v)
+    (OnlyMerged from u merge works reply to v) →
     HasTakenTurns upkeep limit 1 s v
-goes_on MergeAndClean limit seats from to s t u v Idle reply f c h =
+goes_on MergeAndClean limit seats from to s t u v works Idle reply f c h =
     merged_and_cleaned MergeAndClean limit s t u v Idle refl refl f.number f.receipts c
-    (may_have_cleaned seats from to u v h.cleaned h.cleans)
-goes_on upkeep limit seats from to s t u v merge reply f c h =
+    (may_have_cleaned seats from to u v works h.cleaned h.cleans)
+goes_on upkeep limit seats from to s t u v works merge reply f c h =
     subst (λ (w : SeatState). HasTakenTurns upkeep limit 1 s w) (sym h.same)
     (merged upkeep limit s t u merge f.number f.receipts c)
 
-pub one_taken : (upkeep : Upkeep) (limit seats : ℕ) (from to : Place) (s t : SeatState) (reply : Reply) →
-    TakesTurn upkeep limit seats from s reply to t → HasTakenTurns upkeep limit 1 s t
-one_taken upkeep limit seats from to s t reply h =
-    goes_on upkeep limit seats from to s h.free h.behind t h.merged reply h.freed h.merges h.goes_on
+pub one_taken : (upkeep : Upkeep) (limit seats : ℕ) (from to : Place) (s t : SeatState) (works : Bool)
+    (reply : Reply) → TakesTurn upkeep limit seats from s works reply to t → HasTakenTurns upkeep limit 1 s t
+one_taken upkeep limit seats from to s t works reply h =
+    goes_on upkeep limit seats from to s h.free h.behind t works h.merged reply h.freed h.merges h.goes_on
 
-pub one_turn_more : (upkeep : Upkeep) (limit seats n : ℕ) (s u t : SeatState) (from to : Place) (reply : Reply) →
-    TakesTurns upkeep limit seats n s from u → TakesTurn upkeep limit seats from u reply to t →
-    TakesTurns upkeep limit seats (n + 1) s to t
-one_turn_more upkeep limit seats n s u t from to reply f h =
+pub one_turn_more : (upkeep : Upkeep) (limit seats n : ℕ) (s u t : SeatState) (from to : Place) (works : Bool)
+    (reply : Reply) → TakesTurns upkeep limit seats n s from u →
+    TakesTurn upkeep limit seats from u works reply to t → TakesTurns upkeep limit seats (n + 1) s to t
+one_turn_more upkeep limit seats n s u t from to works reply f h =
     let e : suc n ≡ n + 1 = omega arith in
-    subst (λ (k : ℕ). TakesTurns upkeep limit seats k s to t) e (from, u, reply, f, h)
+    subst (λ (k : ℕ). TakesTurns upkeep limit seats k s to t) e (from, u, works, reply, f, h)
 
 -- a look changes no seat
 pub receipt_of_same : (s t u : SeatState) (step : Step) (r : Reply) → t ≡ s → HasReceiptOf t step r u →
     HasReceiptOf s step r u
 receipt_of_same s t u step r same called = subst (λ (v : SeatState). HasReceiptOf v step r u) same called
+
+-- what was seen is seen by another name of the ghost
+pub seen_as : (from : Place) (trace : Trace) (ghost other : Option Entry) (works : Bool) → other ≡ ghost →
+    IsSeen from trace ghost works → IsSeen from trace other works
+seen_as from trace ghost other works e seen = subst (λ (x : Option Entry). IsSeen from trace x works) (sym e) seen
 
 -- ---- all seats
 

@@ -1,6 +1,6 @@
 -- Which ghost a worker cleans from, what it cleans, and where it goes on.
 use Rattle.std.specs.Prelude.{◌≡◌, ◌⊎◌, ℕ, ◌+◌, ◌*◌, ◌-◌, nat_le, nat_lt, min, List, length, Bool, false}
-use Rattle.std.specs.Prelude.{Option, Some, None, if◌then◌else◌}
+use Rattle.std.specs.Prelude.{Option, Some, None, if◌then◌else◌, ◌||◌, ◌&&◌}
 use Rattle.std.specs.Option.{option_or}
 use Rattle.am_record.specs.OrderedKey.{OrderedKey, key_least}
 use Rattle.am_record.specs.Interval.{Interval, IsFrom, key_le, key_greatest}
@@ -9,7 +9,7 @@ use Rattle.am_record.specs.declared.step.Reply.{Reply}
 use Rattle.am_record.specs.declared.step.Reply.TheVariants.{Cleaned}
 use Rattle.am_record.specs.declared.step.Step.TheVariants.{Clean}
 use Rattle.am_index.specs.Entries.{next_ghost}
-use Rattle.am_parts.specs.Catalogs.{live_in}
+use Rattle.am_parts.specs.Catalogs.{left_in, live_in}
 use Rattle.am_serial.specs.Trace.{Trace}
 use Rattle.am_sound.specs.StoreState.{StoreState}
 use Rattle.am_core.specs.StoreSteps.{IsSoundAt}
@@ -35,38 +35,45 @@ place_behind e (Cleaned n) =
     else record { part = e.part; key = e.key }
 place_behind e _ = record { part = e.part; key = e.key }
 
--- it is the ghost to clean, from a place on, in the store to which the trace leads
-pub record IsSeen (from : Place) (trace : Trace) (ghost : Option Entry) : Type 0 where
+-- Whether something may be to do before a run is loaded: a run has entries, which may be asked for, or there are
+-- ghosts, and many.
+abbrev pub has_work : List Entry → Bool
+has_work es = nat_lt (left_in 0 es) (length es) || (nat_lt 0 (length es - live_in es) && has_many_ghosts es)
+
+-- it is the ghost to clean, from a place on, in the store to which the trace leads, and whether there is work in it
+pub record IsSeen (from : Place) (trace : Trace) (ghost : Option Entry) (works : Bool) : Type 0 where
   pub store : StoreState
   pub stands : IsSoundAt trace store
   pub next : ghost ≡ ghost_to_clean store.entries from.part from.key
+  pub work : works ≡ has_work store.entries
 
 -- a look for one of the seats of a latch, of which there are so many, found this ghost to clean from a place on
-pub record Found (seats : ℕ) (from : Place) (s : SeatState) (ghost : Option Entry) : Type 0 where
+pub record Found (seats : ℕ) (from : Place) (s : SeatState) (works : Bool) (ghost : Option Entry) : Type 0 where
   pub engine : EngineState
   pub of : IsEngineOf seats engine
   pub own : HasReceiptsIn engine s
-  pub seen : IsSeen from engine.trace ghost
+  pub seen : IsSeen from engine.trace ghost works
 
 -- the ghost that was found, and all ghosts from its key on, 64 at most, were to be cleaned
-pub record CleanedFrom (seats : ℕ) (from : Place) (s : SeatState) (reply : Reply) (to : Place) (t : SeatState) :
-    Type 0 where
+pub record CleanedFrom (seats : ℕ) (from : Place) (s : SeatState) (works : Bool) (reply : Reply) (to : Place)
+    (t : SeatState) : Type 0 where
   pub ghost : Entry
-  pub found : Found seats from s (Some ghost)
+  pub found : Found seats from s works (Some ghost)
   pub range : Interval
   pub all : IsFrom ghost.key range
   pub called : HasReceiptOf s (Clean range 64) reply t
   pub behind : to ≡ place_behind ghost reply
 
 -- there was no ghost to clean, or no range begins at its key, and nothing changed
-pub record CleanedNone (seats : ℕ) (from : Place) (s : SeatState) (to : Place) (t : SeatState) : Type 0 where
+pub record CleanedNone (seats : ℕ) (from : Place) (s : SeatState) (works : Bool) (to : Place) (t : SeatState) :
+    Type 0 where
   pub ghost : Option Entry
-  pub found : Found seats from s ghost
+  pub found : Found seats from s works ghost
   pub none : (ghost ≡ None) ⊎ ((e : Entry) × (ghost ≡ Some e) × (key_le e.key key_greatest ≡ false))
   pub same : t ≡ s
   pub there : to ≡ from
 
--- from one place to the other, by the reply of the Clean, where a step was taken
-abbrev pub HasCleaned : ℕ → Place → SeatState → Option Reply → Place → SeatState → Type 0
-HasCleaned seats from s (Some reply) to t = CleanedFrom seats from s reply to t
-HasCleaned seats from s None to t = CleanedNone seats from s to t
+-- from one place to the other, by whether there was work and the reply of the Clean, where a step was taken
+abbrev pub HasCleaned : ℕ → Place → SeatState → Bool → Option Reply → Place → SeatState → Type 0
+HasCleaned seats from s works (Some reply) to t = CleanedFrom seats from s works reply to t
+HasCleaned seats from s works None to t = CleanedNone seats from s works to t

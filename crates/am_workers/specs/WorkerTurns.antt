@@ -27,33 +27,35 @@ abbrev pub last_reply : Option Reply → Reply → Reply
 last_reply (Some cleaned) merged = cleaned
 last_reply None merged = merged
 
--- nothing is done behind the merge
-pub record OnlyMerged (from : Place) (s : SeatState) (merged reply : Reply) (to : Place) (t : SeatState) : Type 0 where
+-- nothing is done behind the merge, and there may be more work
+pub record OnlyMerged (from : Place) (s : SeatState) (merged : Reply) (works : Bool) (reply : Reply) (to : Place)
+    (t : SeatState) : Type 0 where
+  pub more : works ≡ true
   pub answer : reply ≡ merged
   pub there : to ≡ from
   pub same : t ≡ s
 
 -- behind the merge the worker cleans once, from its place on
-pub record ThenCleaned (seats : ℕ) (from : Place) (s : SeatState) (merged reply : Reply) (to : Place) (t : SeatState) :
-    Type 0 where
+pub record ThenCleaned (seats : ℕ) (from : Place) (s : SeatState) (merged : Reply) (works : Bool) (reply : Reply)
+    (to : Place) (t : SeatState) : Type 0 where
   pub cleaned : Option Reply
-  pub cleans : HasCleaned seats from s cleaned to t
+  pub cleans : HasCleaned seats from s works cleaned to t
   pub answer : reply ≡ last_reply cleaned merged
 
 -- One turn, from a place on: former receipts are let go, Merge(limit) is called, and where nothing is left to merge a
--- worker that cleans does so once.
-pub record TakesTurn (upkeep : Upkeep) (limit seats : ℕ) (from : Place) (s : SeatState) (reply : Reply) (to : Place)
-    (t : SeatState) : Type 0 where
+-- worker that cleans does so once. Only such a one may see that there is no work.
+pub record TakesTurn (upkeep : Upkeep) (limit seats : ℕ) (from : Place) (s : SeatState) (works : Bool) (reply : Reply)
+    (to : Place) (t : SeatState) : Type 0 where
   pub free : SeatState
   pub merged : Reply
   pub behind : SeatState
   pub freed : HasLetGo s free
   pub merges : HasReceiptOf free (Merge limit) merged behind
-  pub goes_on : MatchBool (may_clean upkeep merged) (ThenCleaned seats from behind merged reply to t)
-      (OnlyMerged from behind merged reply to t)
+  pub goes_on : MatchBool (may_clean upkeep merged) (ThenCleaned seats from behind merged works reply to t)
+      (OnlyMerged from behind merged works reply to t)
 
 -- so many turns, the first from the front of all partitions on, and each from where the one before it left off
 abbrev pub TakesTurns : Upkeep → ℕ → ℕ → ℕ → SeatState → Place → SeatState → Type 0
 TakesTurns upkeep limit seats zero s to t = (to ≡ record { part = 0; key = key_least }) × (t ≡ s)
-TakesTurns upkeep limit seats (suc n) s to t = (from : Place) × (u : SeatState) × (reply : Reply) ×
-    TakesTurns upkeep limit seats n s from u × TakesTurn upkeep limit seats from u reply to t
+TakesTurns upkeep limit seats (suc n) s to t = (from : Place) × (u : SeatState) × (works : Bool) × (reply : Reply) ×
+    TakesTurns upkeep limit seats n s from u × TakesTurn upkeep limit seats from u works reply to t

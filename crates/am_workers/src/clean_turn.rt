@@ -1,8 +1,8 @@
 //! What a worker cleans where nothing is left to merge.
 
-ghost use Rattle.std.specs.Prelude.{◌≡◌, ◌*◌, nat_le};
+ghost use Rattle.std.specs.Prelude.{◌≡◌, ◌*◌, ◌&&◌, ◌||◌, nat_le, nat_lt};
 ghost use Rattle.am_record.specs.OrderedKey.{key_least};
-ghost use Rattle.am_workers.specs.CleanTurns.{ghost_to_clean, place_behind, IsSeen, HasCleaned};
+ghost use Rattle.am_workers.specs.CleanTurns.{ghost_to_clean, has_work, place_behind, IsSeen, HasCleaned};
 
 use am_btree::BTree;
 use am_core::Store;
@@ -53,32 +53,88 @@ impl Place {
     }
 }
 
-/// Cleans once, from the next ghost on, where there are enough ghosts. What was answered, where a step was taken.
+/// What a worker sees of the store.
+#[derive(Clone, Copy)]
+struct Seen {
+    /// The ghost to clean from.
+    next_ghost: Option<Entry>,
+    /// Whether something may be to merge or to clean before a run is loaded.
+    has_work: bool,
+}
+
+impl Seen {
+    fn ghost_to_clean(self) -> Option<Entry>
+        ensures { result ≡ self.next_ghost }
+    {
+        self.next_ghost
+    }
+}
+
+/// What a worker did that cleans.
+#[derive(Drop)]
+pub(crate) struct CleanTurn {
+    /// What was answered, where a step was taken.
+    pub(crate) reply: Option<Reply>,
+    /// Whether something may be to do before a run is loaded.
+    pub(crate) has_work: bool,
+}
+
+/// Cleans once, from the next ghost on, where there are enough ghosts.
 pub(crate) fn clean<L: LatchName, R: Wait>(
     rt: &R,
     latch: &Latch<L>,
     seat: &mut Seat<L>,
     place: &mut Place,
-) -> Option<Reply>
-    ensures { HasCleaned L.seats place.old seat.old result place.new seat.new }
+) -> CleanTurn
+    ensures { HasCleaned L.seats place.old seat.old result.has_work result.reply place.new seat.new }
 {
     let from = *place;
-    let found = latch.look(
+    let seen = latch.look(
         rt,
         seat,
-        |engine: &Engine| -> Option<Entry>
-            ensures { IsSeen from engine.now.trace result }
-        { ghost_to_clean(engine.store(), from) },
+        |engine: &Engine| -> Seen
+            ensures { IsSeen from engine.now.trace result.next_ghost result.has_work }
+        { see(engine.store(), from) },
     );
+    let has_work = seen.has_work;
+    let found = seen.ghost_to_clean();
     let Some(entry) = found else {
-        return None;
+        return CleanTurn {
+            reply: None,
+            has_work,
+        };
     };
     let Some(range) = Range::all_from(entry.key) else {
-        return None;
+        return CleanTurn {
+            reply: None,
+            has_work,
+        };
     };
     let reply = seat.call(rt, latch, Step::Clean(range, CLEAN_LIMIT));
     *place = Place::behind(&entry, &reply);
-    Some(reply)
+    CleanTurn {
+        reply: Some(reply),
+        has_work,
+    }
+}
+
+// What a worker sees that cleans from the place on.
+fn see(store: &Store<BTree>, from: Place) -> Seen
+    ensures next { result.next_ghost ≡ ghost_to_clean store.now.entries from.part from.key }
+    ensures work { result.has_work ≡ has_work store.now.entries }
+{
+    Seen {
+        next_ghost: ghost_to_clean(store, from),
+        has_work: has_work(store.figures()),
+    }
+}
+
+// Whether runs have entries, which may be asked for, or many are ghosts.
+fn has_work(figures: Figures) -> bool
+    ensures { result ≡ (nat_lt figures.in_final figures.entries ||
+        (nat_lt 0 figures.ghosts && nat_le figures.entries (1024 * figures.ghosts))) }
+{
+    figures.in_final < figures.entries || (figures.ghosts > 0 && are_many(figures))
 }
 
 // The first ghost from the place on, or else the first of all; none where ghosts are few.

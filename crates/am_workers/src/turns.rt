@@ -31,14 +31,25 @@ pub(crate) fn take_turns<L: LatchName, R: Wait, G: Pacer>(
         if !pacer.await_turn(rt, worker, turn) {
             return;
         }
-        let reply = take_turn(rt, latch, seat, limit, upkeep, &mut place);
-        if let Reply::Refused(Refusal::SeatFull) = reply {
+        let work = pacer.work();
+        let done = take_turn(rt, latch, seat, limit, upkeep, &mut place);
+        if let Reply::Refused(Refusal::SeatFull) = done.reply {
             return;
         }
+        pacer.note(work, done.has_work);
     }
 }
 
-// One turn: merges once and, where nothing is left to merge, cleans once if that is asked for. What was answered last.
+// What a worker did in a turn.
+#[derive(Drop)]
+struct Turn {
+    // What was answered last.
+    reply: Reply,
+    // Whether something may be to do before a run is loaded.
+    has_work: bool,
+}
+
+// One turn: merges once and, where nothing is left to merge, cleans once if that is asked for.
 fn take_turn<L: LatchName, R: Wait>(
     rt: &R,
     latch: &Latch<L>,
@@ -46,16 +57,23 @@ fn take_turn<L: LatchName, R: Wait>(
     limit: u64,
     upkeep: Upkeep,
     place: &mut Place,
-) -> Reply
-    ensures { TakesTurn upkeep limit L.seats place.old seat.old result place.new seat.new }
+) -> Turn
+    ensures { TakesTurn upkeep limit L.seats place.old seat.old result.has_work result.reply place.new seat.new }
 {
     // The receipts of the turn before.
     seat.let_go();
     let merged = seat.call(rt, latch, Step::Merge(limit));
     if !may_clean(upkeep, &merged) {
-        return merged;
+        return Turn {
+            reply: merged,
+            has_work: true,
+        };
     }
-    clean(rt, latch, seat, place).unwrap_or(merged)
+    let cleaned = clean(rt, latch, seat, place);
+    Turn {
+        reply: cleaned.reply.unwrap_or(merged),
+        has_work: cleaned.has_work,
+    }
 }
 
 // Whether a worker cleans behind this answer to its merge: where that is asked for, and nothing is left to merge.

@@ -56,11 +56,13 @@ impl<'a> Backend for Noting<'a> {
 
     fn await_turn<W: Wait + Clock>(&self, _rt: &W) {}
 
+    fn await_ticket<W: Wait + Clock>(&self, _rt: &W) {}
+
     fn is_kept(&self) -> bool {
         false
     }
 
-    fn end_turn(&self) {}
+    fn end_turn<W: Wait>(&self, _rt: &W) {}
 
     fn end_session<W: Wait>(&self, _rt: &W) {}
 }

@@ -2,7 +2,7 @@
 
 use am_audit::check;
 use am_counters::Counters;
-use am_doors::{Door, Doors, House, Limits, Mode, Turnstile, listen_at_port};
+use am_doors::{Door, Doors, House, Limits, Mode, listen_at_port};
 use am_engine::was_refused;
 use am_latch::{Blank, Latch, LatchName, Seat, Taker, close};
 use am_record::{HashKey, Key, Op, Refusal, Reply, Step, Value};
@@ -127,7 +127,7 @@ fn assigned<L: LatchName, R: Abort>(
     rt: &R,
     alloc: Global,
     blank: Blank,
-    turnstile: &Turnstile,
+    house: &House<'_>,
 ) -> Result<(), Fail> {
     let (latch, seats, taker) = Latch::<L>::open(blank, HashKey::known())?;
     let (counters, counter_seats) = Counters::open(alloc, 2)?;
@@ -135,7 +135,9 @@ fn assigned<L: LatchName, R: Abort>(
         alloc,
         &latch,
         &counters,
-        turnstile,
+        &house.turnstile,
+        &house.pacer,
+        house.mode,
         seats,
         counter_seats,
     )?;
@@ -171,7 +173,7 @@ fn the_first_seats_are_the_sessions(rt: HostRuntime) -> Result<(), Fail> {
         limits,
     )?;
     let blank = Blank::new(rt.alloc(), 3)?;
-    assigned::<Brand, HostRuntime>(&rt, rt.alloc(), blank, &house.turnstile)
+    assigned::<Brand, HostRuntime>(&rt, rt.alloc(), blank, &house)
 }
 
 // How each of the seats is answered that begins a transaction.

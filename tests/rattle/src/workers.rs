@@ -49,6 +49,12 @@ impl<'a, C: Clock> Pacer for Meeting<'a, C> {
             worker == 0
         }
     }
+
+    fn work(&self) -> u64 {
+        0
+    }
+
+    fn note(&self, _work: u64, _has_work: bool) {}
 }
 
 // The receipts of a seat, those that it let go among them.
@@ -85,6 +91,12 @@ impl Pacer for Always {
     fn await_turn<R: Wait>(&self, _rt: &R, _worker: u32, _turn: u64) -> bool {
         true
     }
+
+    fn work(&self) -> u64 {
+        0
+    }
+
+    fn note(&self, _work: u64, _has_work: bool) {}
 }
 
 pub(crate) fn begin<L: LatchName, R: Wait>(rt: &R, latch: &Latch<L>, seat: &mut Seat<L>) {

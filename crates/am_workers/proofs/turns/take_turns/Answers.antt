@@ -9,18 +9,18 @@ pub loop-turn-preserved : goal.loop-turn-preserved
 loop-turn-preserved g c =
     record {
       turned = turned_on _ _ _ _ _ _ _ c.loop-turn.invariant.turned
-          (one_taken _ _ _ _ _ _ _ _ c.take_turn-reply.ensures);
-      on = one_turn_more _ _ _ _ _ _ _ _ _ _ c.loop-turn.invariant.on c.take_turn-reply.ensures;
+          (one_taken _ _ _ _ _ _ _ _ _ c.take_turn-done.ensures);
+      on = one_turn_more _ _ _ _ _ _ _ _ _ _ _ c.loop-turn.invariant.on c.take_turn-done.ensures;
     }
 
 pub returns-in-Refused-SeatFull-clause-turned : goal.returns-in-Refused-SeatFull-clause-turned
 returns-in-Refused-SeatFull-clause-turned g c = at_most _ _ _ _ _ _ (omega (arith, c.loop-turn-test.true))
-    (turned_on _ _ _ _ _ _ _ c.loop-turn.invariant.turned (one_taken _ _ _ _ _ _ _ _ c.take_turn-reply.ensures))
+    (turned_on _ _ _ _ _ _ _ c.loop-turn.invariant.turned (one_taken _ _ _ _ _ _ _ _ _ c.take_turn-done.ensures))
 
 pub returns-in-Refused-SeatFull-clause-on : goal.returns-in-Refused-SeatFull-clause-on
 returns-in-Refused-SeatFull-clause-on g c = (
   _,
   omega (arith, c.loop-turn-test.true),
   _,
-  one_turn_more _ _ _ _ _ _ _ _ _ _ c.loop-turn.invariant.on c.take_turn-reply.ensures,
+  one_turn_more _ _ _ _ _ _ _ _ _ _ _ c.loop-turn.invariant.on c.take_turn-done.ensures,
 )

@@ -9,10 +9,11 @@ use Rattle.am_ties.specs.declared.views.View.{View}
 use Rattle.am_ties.specs.Receipts.{receipt}
 use Rattle.am_latch.specs.Receipts.{SeatState, moved_in, last_commit_of, positions_of, AreBehind}
 use Rattle.am_ties.specs.Views.{seat_in, IsSeatView}
-use Rattle.am_latch.specs.Ties.{open_of, HasRoom, receipts_needed}
+use Rattle.am_latch.specs.Ties.{open_of, HasRoom, receipts_kept, receipts_needed, receipt_room}
 use Rattle.am_latch.proofs.CallResults.{told_of, where_true, received, last_commit-snoc, behind-snoc}
 use Rattle.am_latch.proofs.Seats.{room_after, wider, moved_in-snoc}
 use Rattle.am_latch.proofs.SeatTransactions.{open_from-snoc}
+use Rattle.am_latch.proofs.ReceiptRooms.{enough, fewer, kept_after}
 use Rattle.am_latch.proofs.seat.Seat.make_call.Goals as goal
 
 pub returns-clause-called : goal.returns-clause-called
@@ -56,12 +57,17 @@ invariant_of-self-2 g c =
     let items : c.push_reserved.new.self.items ≡ old.items ++ x.position ∷ [] = p.items ∙
     (λ j. q.same j ++ x.position ∷ []) in
     let moved = moved_in-snoc rs x in
+    let needed = vec_len c.prepare.new.positions + receipts_needed c.self.inside.open_now st in
+    let got : receipt_room needed ≤ vec_capacity c.prepare.new.positions =
+    subst (λ o. IfSome o (λ _. receipt_room needed ≤ vec_capacity c.prepare.new.positions)) c.in-Some.is q.got in
+    let fits = enough needed in
+    let kept = kept_after c.self.inside.open_now st r may c.call-outcome.ensures.ended in
     let here : HasRoom (open_after c.self.inside.open_now (change st r)) (vec_len old + 1)
     (vec_capacity c.prepare.new.positions) = room_after c.self.inside.open_now st r (vec_len old)
     (vec_capacity c.prepare.new.positions) may c.call-outcome.ensures.ended (wider _ _ _ _ i.room q.kept)
-    (let got = subst (λ o. IfSome o (λ _. vec_len c.prepare.new.positions + receipts_needed c.self.inside.open_now st ≤
-    vec_capacity c.prepare.new.positions)) c.in-Some.is q.got in
-    omega (arith, got, q.long)) few in
+    (omega (arith, got, fits, q.long)) few in
+    let left : receipt_room (vec_len old + 1 + receipts_kept (open_after c.self.inside.open_now (change st r))) ≤
+    vec_capacity c.prepare.new.positions = fewer _ needed _ (omega (arith, kept, q.long)) got in
     let long : length (seat_in c.call-outcome.new.token.me.0).receipts ≡ length rs + 1 =
     ap (λ (l : List Receipt). length l) more ∙ length-append rs (x ∷ []) in record {
       table_of = search rules;
@@ -77,6 +83,8 @@ invariant_of-self-2 g c =
       last = c.commit_by-self-inside.ensures ∙ sym (last_commit-snoc rs x) ∙ ap last_commit_of (sym more);
       room = subst (λ (y : Option ℕ × ℕ × ℕ). HasRoom y.0 y.1 y.2)
           (λ j. (sym now j, (ap (λ (n : ℕ). n + 1) (sym q.long) ∙ sym p.len) j, sym p.capacity j)) here;
+      got = subst (λ (y : Option ℕ × ℕ × ℕ). receipt_room (y.1 + receipts_kept y.0) ≤ y.2)
+          (λ j. (sym now j, (ap (λ (n : ℕ). n + 1) (sym q.long) ∙ sym p.len) j, sym p.capacity j)) left;
       moved = (λ j. i.moved j + c.moved_by.ensures j) ∙ sym moved ∙ ap moved_in (sym more);
       few = omega (arith, i.few, c.call-outcome.ensures.bounded.moves, c.moved_by.ensures, long);
       numbers = i.numbers;
