@@ -7,6 +7,8 @@ from typing import Dict, Iterator, List, Set
 from tree import TOP, crates, documents, kept_files, text_of
 
 README_WORDS = 1600
+# Of docs/DECISIONS.md and docs/measurements.md together, and of one decision.
+DIARY_WORDS, DECISION_WORDS = 8000, 60
 # Where the version stands beside VERSION: the programs', the header's, Python's, and the newest of CHANGELOG.md.
 VERSIONS = {
     "crates/am_command/src/program_words.rt": r'VERSION: &str = "([^"]*)"',
@@ -87,10 +89,18 @@ def faults_of_definition(cells: List[str], crate: str) -> Iterator[str]:
 
 
 def faults_of_decisions() -> Iterator[str]:
-    """Each decision ends with its date."""
+    """Each decision ends with its date and is short, and the figures behind it are few."""
     for line in text_of("docs/DECISIONS.md").splitlines():
-        if line.startswith("- ") and not re.search(r" \(\d{4}-\d\d-\d\d\)$", line):
+        if not line.startswith("- "):
+            continue
+        told = re.sub(r" \(\d{4}-\d\d-\d\d\)$", "", line)
+        if told == line:
             yield f"docs/DECISIONS.md: no date ends {line[:60]!r}"
+        if len(told.split()) - 1 > DECISION_WORDS:
+            yield f"docs/DECISIONS.md: more than {DECISION_WORDS} words follow {line[:60]!r}"
+    words = sum(len(text_of(f"docs/{name}.md").split()) for name in ("DECISIONS", "measurements"))
+    if words > DIARY_WORDS:
+        yield f"docs/DECISIONS.md and docs/measurements.md have {words} words, and may have {DIARY_WORDS}"
 
 
 def faults_of_names() -> Iterator[str]:
