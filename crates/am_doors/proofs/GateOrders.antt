@@ -35,7 +35,7 @@ some_go left gone line kept same =
 gone_first : (line : List Waiting) → option_to_list (gone_of line) ++ streams (kept_of line) ≡ streams line
 gone_first [] = refl
 gone_first (first ∷ line) =
-    elim (ltb (length (first ∷ line)) 256) as
+    elim (ltb (length (first ∷ line)) 4096) as
     (λ b. option_to_list (cond b None (oldest_of (first ∷ line))) ++
     streams (cond b (first ∷ line) (drop 1 (first ∷ line)))
     ≡ streams (first ∷ line)) [ true ↦ refl | false ↦ refl ]

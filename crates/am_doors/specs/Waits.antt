@@ -22,10 +22,10 @@ abbrev pub left_of : List Waiting → ℕ → Bool → List Waiting
 left_of [] round is_stopped = []
 left_of (first ∷ others) round is_stopped = if is_due first.since round is_stopped then others else first ∷ others
 
--- who goes where one more comes: of 256 that wait the one that has waited longest
+-- who goes where one more comes: of 4,096 that wait the one that has waited longest
 abbrev pub gone_of : List Waiting → Option TcpStream
-gone_of line = if nat_lt (length line) 256 then None else oldest_of line
+gone_of line = if nat_lt (length line) 4096 then None else oldest_of line
 
 -- who of them waits on
 abbrev pub kept_of : List Waiting → List Waiting
-kept_of line = if nat_lt (length line) 256 then line else drop 1 line
+kept_of line = if nat_lt (length line) 4096 then line else drop 1 line

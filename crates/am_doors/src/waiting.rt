@@ -10,7 +10,7 @@ use std::io::{Read, Write};
 use std::net::{Shutdown, TcpStream};
 
 /// So many wait at most: where one more comes, the one that has waited longest goes.
-pub(crate) const MOST_WAITING: usize = 256;
+pub(crate) const MOST_WAITING: usize = 4096;
 
 /// For so many rounds one waits at most.
 const MOST_ROUNDS: u64 = 8;
@@ -36,8 +36,8 @@ fn is_due(since: u64, round: u64, is_stopped: bool) -> bool
 #[derive(Drop)]
 pub(crate) struct WaitingRoom {
     line: VecDeque<Waiting, Global>,
-    ghost room: { 256 ≤ deque_capacity line },
-    ghost few: { deque_len line ≤ 256 },
+    ghost room: { 4096 ≤ deque_capacity line },
+    ghost few: { deque_len line ≤ 4096 },
     round: u64,
 }
 
