@@ -1,4 +1,8 @@
 //! What a session answers: what each line says, what is due for it, and what a session on a store of its own says.
+//!
+//! A line is parsed to an [`Action`], which becomes a step or is answered as it is. Records that are staged wait in
+//! the [`Session`] until `LOAD`. What a session says is a list of responses, one for each line, and its text is
+//! theirs.
 #![tactic(auto)]
 
 mod action;

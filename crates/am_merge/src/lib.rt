@@ -1,4 +1,8 @@
-//! Merging runs where reads asked for it, and cleaning ghosts away.
+//! Merging runs where reads asked for it (adaptive merging: Graefe and Kuno, EDBT 2010), and cleaning ghosts away.
+//! - [`Wishes`]: the ranges that reads asked for, the oldest first, 64 at most.
+//! - [`merge_step`]: moves entries of the oldest wish's range into the final partition, by rising keys of one run
+//!   after another, stretches of neighbours at a time. A record that somebody has locked stays.
+//! - [`clean_step`]: takes ghosts out that nobody has locked, and goes from ghost to ghost.
 #![tactic(auto)]
 
 mod clean;

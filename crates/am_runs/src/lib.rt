@@ -1,4 +1,7 @@
 //! Runs: records that rise by key, and cutting records in any order into them.
+//!
+//! Records are sorted by the first eight bytes of their keys, as numbers, each with its record's place, and are
+//! copied once. Keys are compared only where two of these numbers are equal.
 #![tactic(auto)]
 
 mod cut;

@@ -1,4 +1,9 @@
 //! Scans: the records of a range of keys, over all partitions of an index.
+//!
+//! A [`Cursor`] has a head for each partition that may have rows: some rows, copied by one descent, about the
+//! partition's share of what is asked for. A heap gives the head with the least key. At its rows' end a head reads on
+//! from its last record, into the same room. Where one partition alone has rows they are copied from its leaves,
+//! without a heap.
 #![tactic(auto)]
 
 mod cursor;

@@ -1,4 +1,8 @@
 //! The locked machine, and what holds of each of its runs.
+//!
+//! The machine is the store without an index: a committed map, and for each active transaction its locks and what it
+//! was answered. Its runs are serial in the order of commit. Everything that is promised of the store is said of the
+//! traces of this machine.
 #![tactic(auto)]
 
 ghost use Rattle.std.specs.Prelude.{◌↔◌, []};
