@@ -84,9 +84,11 @@ def programs_package(programs: Dict[str, bytes]) -> Package:
 def library_package(name: str, shared: Entry) -> Package:
     version, major = layout.version(), layout.version().partition(".")[0]
     shlibs = Entry("shlibs", f"libtiuvrokk {major} {name} (>= {version})\n".encode())
+    # Since which version the library has each call, by which a program needs that version, and no newer one.
+    symbols = Entry("symbols", layout.bytes_of(f"packaging/{name}.symbols"))
     triggers = Entry("triggers", b"activate-noawait ldconfig\n")
     needs = [f"libc6 (>= {glibc_of([shared.data])})"]
-    return Package(name, "libs", needs, "This package has the shared library for C.", [shared], [shlibs, triggers])
+    return Package(name, "libs", needs, "This package has the shared library for C.", [shared], [shlibs, symbols, triggers])
 
 
 def development_package(library: str, rest: List[Entry]) -> Package:
