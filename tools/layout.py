@@ -10,6 +10,8 @@ import tempfile
 from typing import Dict, Iterable, List, NamedTuple, Optional
 
 TOP = os.path.dirname(os.path.dirname(os.path.abspath(__file__)))
+# (for what makes the Python package)
+sys.path.insert(0, os.path.join(TOP, "python"))
 # The proved programs by their crates, and where each is installed.
 # The list of what was installed.
 LIST = "lib/tiuvrokk/installed"
