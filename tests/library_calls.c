@@ -537,6 +537,33 @@ static void test_end(void) {
     if (figures.active != 1 || figures.commits != commits + 1) fail("other transactions in the end");
 }
 
+/* How many ghosts stand behind a commit that deleted 200 records of 200. */
+static uint64_t ghosts_left(void) {
+    tvk_store own = TVK_CLOSED;
+    tvk_figures_t figures;
+    uint64_t tx;
+    char key[8];
+    if (tvk_open(&own)) fail("no room for a small store");
+    for (int deletes = 0; deletes <= 1; deletes++) {
+        if (tvk_begin(&own, &tx)) fail("a small transaction");
+        for (int i = 0; i < 200; i++) {
+            size_t length = (size_t)snprintf(key, sizeof key, "%03d", i);
+            if (deletes ? tvk_delete(&own, tx, key, length, NULL) : tvk_insert(&own, tx, key, length, "v", 1, NULL))
+                fail("200 records, and none of them");
+        }
+        if (tvk_commit(&own, tx, NULL)) fail("the end of a small transaction");
+    }
+    if (tvk_figures(&own, &figures) || tvk_close(&own)) fail("a small store");
+    return figures.ghosts;
+}
+
+static void test_upkeep(void) {
+    if (ghosts_left() >= 64) fail("a commit doesn't clean");
+    tvk_upkeep(0);
+    if (ghosts_left() != 200) fail("a commit cleans where it is told not to");
+    tvk_upkeep(1);
+}
+
 /* Loads of more records than a session could stage: by rising key in one run, and in any order in five. */
 enum { MANY = 300000, RUN = 65536, LINE = 18 };
 
@@ -655,6 +682,7 @@ int main(int words, char **word) {
     if (tvk_close(&store) || store.at) fail("the store is not closed");
     if (tvk_close(&store) != TVK_NO_STORE) fail("a closed store is closed again");
     if (may_refuse) return 0;
+    test_upkeep();
     test_large_loads();
     printf("library: %ld calls, %llu commits, %llu loads;", number, (unsigned long long)commits, (unsigned long long)loads);
     for (int status = 0; status <= TVK_BAD_LINE; status++)
