@@ -1,4 +1,4 @@
-"""The Python package's client, at a server and at what answers oddly; tests/replicas has it at replicas."""
+"""The Python package's client, at a server and at what answers oddly; tests/replicas.py has it at replicas."""
 
 import asyncio
 import contextlib

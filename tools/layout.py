@@ -57,7 +57,7 @@ def built_programs(folder: Optional[str]) -> Dict[str, bytes]:
     """The proved programs: those of a folder, or those of the sources, which are built where they aren't."""
     names = list(PROVED)
     if folder is None:
-        told = subprocess.run([f"{TOP}/tools/built", *names], stdout=subprocess.PIPE, text=True, check=True).stdout
+        told = subprocess.run([f"{TOP}/tools/built.py", *names], stdout=subprocess.PIPE, text=True, check=True).stdout
         places = told.split("\n")
     else:
         places = [os.path.join(folder, name) for name in names]
@@ -114,7 +114,7 @@ def package_entries(package: str, place: str) -> List[Entry]:
 
 def manual_entries(sections: Iterable[int]) -> List[Entry]:
     """The manuals of some sections; that of the protocol is made from its document."""
-    made = subprocess.run([f"{TOP}/tools/protocol_manual"], stdout=subprocess.PIPE, check=True).stdout
+    made = subprocess.run([f"{TOP}/tools/protocol_manual.py"], stdout=subprocess.PIPE, check=True).stdout
     found = {os.path.basename(it): bytes_of(it) for it in sorted(glob.glob(f"{TOP}/man/*.[1-9]"))}
     found["tiuvrokk-protocol.7"] = made
     return [Entry(f"share/man/man{name[-1]}/{name}", text) for name, text in found.items() if int(name[-1]) in sections]

@@ -97,7 +97,7 @@ def check_lint(folder: str) -> None:
     for name in os.listdir(f"{TOP}/man"):
         shutil.copy(f"{TOP}/man/{name}", folder)
     with open(f"{folder}/tiuvrokk-protocol.7", "w", encoding="utf-8") as file:
-        subprocess.run([f"{TOP}/tools/protocol_manual"], stdout=file, timeout=LIMIT, check=True)
+        subprocess.run([f"{TOP}/tools/protocol_manual.py"], stdout=file, timeout=LIMIT, check=True)
     for name in sorted(os.listdir(folder)):
         words = ["mandoc", "-T", "lint", name]
         ran = subprocess.run(words, cwd=folder, capture_output=True, text=True, timeout=LIMIT, check=False)
