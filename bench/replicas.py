@@ -22,7 +22,7 @@ sys.path.insert(0, os.path.join(os.path.dirname(os.path.dirname(os.path.realpath
 
 from cluster import STORE, Client, Cluster, until
 
-from replica.etcd import Etcd, put_of
+from tiuvrokk_replica.etcd import Etcd, put_of
 
 RUN = 50_000
 

@@ -103,7 +103,7 @@ def program_entries(programs: Dict[str, bytes]) -> List[Entry]:
     entries += [Entry("lib/tiuvrokk/stay", bytes_of("tools/stay"), 0o755)]
     entries += [Entry(f"lib/tiuvrokk/{name}", bytes_of(name), 0o755) for name in PYTHON_PROGRAMS]
     entries += [Entry(f"bin/{name}", link=f"../lib/tiuvrokk/{name}") for name in ("amserve", *PYTHON_PROGRAMS)]
-    return entries + package_entries("python/tiuvrokk_tools", "lib/tiuvrokk/python") + package_entries("replica", "lib/tiuvrokk")
+    return [*entries, *(it for name in ("tools", "replica") for it in package_entries(f"python/tiuvrokk_{name}", "lib/tiuvrokk/python"))]
 
 
 def package_entries(package: str, place: str) -> List[Entry]:
