@@ -1,4 +1,4 @@
-/* Readers beside a batch a second, and writers beside dumps. Built and run by bench/beside.
+/* Readers beside a batch a second, and writers beside dumps. Built and run by bench/beside.py.
 
    beside lines PORT READERS get|scan BATCH LOADS LEAD    readers at `amserve listen`, for LEAD seconds alone, then beside loads
    beside sqlite FILE READERS get|scan BATCH LOADS LEAD   the same over a file of SQLite in WAL mode, a connection for each thread

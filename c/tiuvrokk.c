@@ -44,7 +44,7 @@ uint32_t tiuvrokk_clean(tvk_store *store, const void *lo, size_t lo_length, cons
                         uint64_t limit, uint64_t *told);
 uint32_t tiuvrokk_commits(tvk_store *store, uint64_t *told);
 uint32_t tiuvrokk_entries(tvk_store *store, uint64_t *told);
-uint32_t tiuvrokk_figures(tvk_store *store, tvk_counts *counts);
+uint32_t tiuvrokk_figures(tvk_store *store, tvk_figures_t *figures);
 
 /* What a text of no bytes points to, and a list of no records. */
 static const char no_bytes[1];
@@ -150,10 +150,10 @@ void tvk_upkeep(int on) { atomic_store(&cleans, on); }
 /* Whether so many entries are ghosts that a clean step pays. Those that an active transaction has locked stay: beside one,
  * only some commits look. */
 static int pays_to_clean(tvk_store *store) {
-    tvk_counts counts;
-    if (tiuvrokk_figures(store, &counts)) return 0;
-    if (counts.ghosts < FEWEST_GHOSTS || counts.ghosts < counts.entries / ENTRIES_TO_A_GHOST) return 0;
-    return !counts.active || counts.commits % FEWEST_GHOSTS == 0;
+    tvk_figures_t figures;
+    if (tiuvrokk_figures(store, &figures)) return 0;
+    if (figures.ghosts < FEWEST_GHOSTS || figures.ghosts < figures.entries / ENTRIES_TO_A_GHOST) return 0;
+    return !figures.active || figures.commits % FEWEST_GHOSTS == 0;
 }
 
 static void clean_some(tvk_store *store) {
@@ -335,8 +335,8 @@ tvk_status tvk_entries(tvk_store *store, uint64_t *told) {
     return tiuvrokk_entries(store, told);
 }
 
-tvk_status tvk_figures(tvk_store *store, tvk_counts *counts) {
+tvk_status tvk_figures(tvk_store *store, tvk_figures_t *figures) {
     if (!store || !store->at) return TVK_NO_STORE;
-    NEEDS(counts);
-    return tiuvrokk_figures(store, counts);
+    NEEDS(figures);
+    return tiuvrokk_figures(store, figures);
 }

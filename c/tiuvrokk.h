@@ -7,13 +7,10 @@
  *         tvk_store store = TVK_CLOSED;
  *         tvk_value value;
  *         uint64_t tx;
- *         if (tvk_open(&store)) return 1;
- *         tvk_begin(&store, &tx);
- *         tvk_insert(&store, tx, "ant", 3, "6", 1, NULL);
+ *         if (tvk_open(&store) || tvk_begin(&store, &tx) || tvk_insert(&store, tx, "ant", 3, "6", 1, NULL)) return 1;
  *         if (tvk_get(&store, tx, "ant", 3, &value, NULL) == TVK_OK)
  *             printf("%.*s\n", (int)value.length, (char *)value.bytes);
- *         tvk_commit(&store, tx, NULL);
- *         tvk_close(&store);
+ *         return tvk_commit(&store, tx, NULL) || tvk_close(&store);
  *     }
  *
  *     cc demo.c $(pkg-config --cflags --libs tiuvrokk)
@@ -77,6 +74,16 @@
     "\xff\xff\xff\xff\xff\xff\xff\xff\xff\xff\xff\xff\xff\xff\xff\xff" \
     "\xff\xff\xff\xff\xff\xff\xff\xff\xff\xff\xff\xff\xff\xff\xff\xff"
 
+/* Behind each call that may be refused: a compiler warns where its status isn't looked at. A program that defines this as nothing,
+ * before it includes the header, isn't warned. */
+#ifndef TVK_MUST_USE
+#if defined(__GNUC__)
+#define TVK_MUST_USE __attribute__((warn_unused_result))
+#else
+#define TVK_MUST_USE
+#endif
+#endif
+
 #ifdef __cplusplus
 extern "C" {
 #endif
@@ -121,12 +128,17 @@ enum {
     TVK_MAX_LIMIT = 64      /* entries of a merge or a clean */
 };
 
-/* A store. It is opened from TVK_CLOSED, which is all zeros, and is TVK_CLOSED again once it is closed. */
+/* A store. It is opened from TVK_CLOSED, which is all zeros, and is TVK_CLOSED again once it is closed. TVK_CLOSED initializes a
+ * handle and can be assigned to one. A static handle needs none, since it is all zeros; gcc -pedantic takes none there. */
 typedef struct tvk_store {
     void *at;
 } tvk_store;
 
-#define TVK_CLOSED { NULL }
+#ifdef __cplusplus
+#define TVK_CLOSED tvk_store()
+#else
+#define TVK_CLOSED ((tvk_store){ NULL })
+#endif
 
 /* A key, a value, and a record, each in full: the first `length` bytes count. What a call writes has zeros behind them. */
 typedef struct tvk_key {
@@ -155,7 +167,7 @@ typedef struct tvk_layout {
 } tvk_layout;
 
 /* How large a store is. */
-typedef struct tvk_counts {
+typedef struct tvk_figures_t {
     uint64_t entries;  /* of the index, those marked as deleted too */
     uint64_t in_final; /* those in the final partition */
     uint64_t in_runs;  /* those in loaded runs, from where merges move them */
@@ -163,7 +175,10 @@ typedef struct tvk_counts {
     uint64_t ghosts;   /* entries that are marked as deleted */
     uint64_t active;   /* transactions that are active */
     uint64_t commits;  /* transactions that committed */
-} tvk_counts;
+} tvk_figures_t;
+
+/* Its name in programs that were written before. */
+typedef tvk_figures_t tvk_counts;
 
 typedef enum tvk_mode {
     TVK_SHARED = 0,
@@ -195,7 +210,7 @@ void tvk_upkeep(int on);
  * @retval TVK_IS_OPEN    the handle has a store already, which stays
  * @retval TVK_NO_MEMORY  memory was refused
  */
-tvk_status tvk_open(tvk_store *store);
+tvk_status tvk_open(tvk_store *store) TVK_MUST_USE;
 
 /** Gives back all memory of the store, whatever is open in it. The handle is TVK_CLOSED then.
  *
@@ -215,7 +230,7 @@ tvk_status tvk_close(tvk_store *store);
  * @retval TVK_NO_STORE     the handle is NULL or has no store
  * @retval TVK_TOO_MANY_TX  TVK_MAX_TX transactions are active
  */
-tvk_status tvk_begin(tvk_store *store, uint64_t *tx);
+tvk_status tvk_begin(tvk_store *store, uint64_t *tx) TVK_MUST_USE;
 
 /** Commits a transaction. Its locks end.
  *
@@ -227,7 +242,7 @@ tvk_status tvk_begin(tvk_store *store, uint64_t *tx);
  * @retval TVK_NO_STORE  the handle is NULL or has no store
  * @retval TVK_NO_TX     no transaction of this number is active
  */
-tvk_status tvk_commit(tvk_store *store, uint64_t tx, uint64_t *commit);
+tvk_status tvk_commit(tvk_store *store, uint64_t tx, uint64_t *commit) TVK_MUST_USE;
 
 /** Takes back what a transaction wrote, and ends it. Its locks end.
  *
@@ -251,7 +266,7 @@ tvk_status tvk_abort(tvk_store *store, uint64_t tx);
  * @retval TVK_TOO_MANY_OPS  TVK_MAX_OPS operations of the transaction were answered
  * @retval TVK_NO_MEMORY     memory was refused
  */
-tvk_status tvk_mark(tvk_store *store, uint64_t tx);
+tvk_status tvk_mark(tvk_store *store, uint64_t tx) TVK_MUST_USE;
 
 /** Takes back what was written since the newest savepoint, which goes. Locks stay.
  *
@@ -264,7 +279,7 @@ tvk_status tvk_mark(tvk_store *store, uint64_t tx);
  * @retval TVK_TOO_MANY_OPS  TVK_MAX_OPS operations of the transaction were answered
  * @retval TVK_NO_MARK       the transaction has no savepoint
  */
-tvk_status tvk_back(tvk_store *store, uint64_t tx);
+tvk_status tvk_back(tvk_store *store, uint64_t tx) TVK_MUST_USE;
 
 /** Reads a record. Its key is locked, shared.
  *
@@ -286,7 +301,8 @@ tvk_status tvk_back(tvk_store *store, uint64_t tx);
  * @retval TVK_NO_MEMORY       memory was refused
  * @retval TVK_ABSENT          the key has no record
  */
-tvk_status tvk_get(tvk_store *store, uint64_t tx, const void *key, size_t key_length, tvk_value *value, uint64_t *holder);
+tvk_status tvk_get(tvk_store *store, uint64_t tx, const void *key, size_t key_length, tvk_value *value,
+                   uint64_t *holder) TVK_MUST_USE;
 
 /** Adds a record. Its key is locked, exclusive.
  *
@@ -311,7 +327,7 @@ tvk_status tvk_get(tvk_store *store, uint64_t tx, const void *key, size_t key_le
  * @retval TVK_EXISTS          the key has a record, which is as it was
  */
 tvk_status tvk_insert(tvk_store *store, uint64_t tx, const void *key, size_t key_length, const void *value,
-                      size_t value_length, uint64_t *holder);
+                      size_t value_length, uint64_t *holder) TVK_MUST_USE;
 
 /** Gives a record another value. Its key is locked, exclusive.
  *
@@ -336,7 +352,7 @@ tvk_status tvk_insert(tvk_store *store, uint64_t tx, const void *key, size_t key
  * @retval TVK_ABSENT          the key has no record, and gets none
  */
 tvk_status tvk_replace(tvk_store *store, uint64_t tx, const void *key, size_t key_length, const void *value,
-                       size_t value_length, uint64_t *holder);
+                       size_t value_length, uint64_t *holder) TVK_MUST_USE;
 
 /** Takes a record away. Its key is locked, exclusive.
  *
@@ -357,7 +373,7 @@ tvk_status tvk_replace(tvk_store *store, uint64_t tx, const void *key, size_t ke
  * @retval TVK_NO_MEMORY       memory was refused
  * @retval TVK_ABSENT          the key had no record
  */
-tvk_status tvk_delete(tvk_store *store, uint64_t tx, const void *key, size_t key_length, uint64_t *holder);
+tvk_status tvk_delete(tvk_store *store, uint64_t tx, const void *key, size_t key_length, uint64_t *holder) TVK_MUST_USE;
 
 /** Adds records as a new run, all of them or none. They can be read at once; merging brings them to their place later, where
  * they are read. The range from the first key to the last is locked, exclusive.
@@ -384,7 +400,7 @@ tvk_status tvk_delete(tvk_store *store, uint64_t tx, const void *key, size_t key
  * @retval TVK_EXISTS          a key has a record: `exists`
  */
 tvk_status tvk_load(tvk_store *store, uint64_t tx, const tvk_record *records, size_t number, tvk_key *exists,
-                    uint64_t *holder);
+                    uint64_t *holder) TVK_MUST_USE;
 
 /** Adds records in any order. The first 65,536 of them make the first run, the next 65,536 the second, and so on; each run is
  * sorted, and they are loaded in turn, each as by tvk_load, until one is refused. No savepoint is set: what was loaded before
@@ -419,7 +435,7 @@ tvk_status tvk_load(tvk_store *store, uint64_t tx, const tvk_record *records, si
  * @retval TVK_EXISTS          a key of the refused run has a record: `key`
  */
 tvk_status tvk_load_sorting(tvk_store *store, uint64_t tx, const tvk_record *records, size_t number, tvk_key *key,
-                            uint64_t *loaded, uint64_t *holder);
+                            uint64_t *loaded, uint64_t *holder) TVK_MUST_USE;
 
 /** Adds the records of an array of structs, as tvk_load_sorting does: each struct has its key and its value at the same places,
  * as `layout` says, so keys have one length, and values have one. Nothing is copied but these bytes.
@@ -451,7 +467,7 @@ tvk_status tvk_load_sorting(tvk_store *store, uint64_t tx, const tvk_record *rec
  * @retval TVK_EXISTS          a key of the refused run has a record: `key`
  */
 tvk_status tvk_load_structs(tvk_store *store, uint64_t tx, const void *structs, size_t number, const tvk_layout *layout,
-                            tvk_key *key, uint64_t *loaded, uint64_t *holder);
+                            tvk_key *key, uint64_t *loaded, uint64_t *holder) TVK_MUST_USE;
 
 /** Adds the records of a text, as tvk_load_sorting does: each line has a key, a TAB, a value and an LF, which the last line may
  * lack. The key is what stands in front of the line's first TAB, and the value is all behind it up to the LF, a CR too. Either
@@ -485,7 +501,7 @@ tvk_status tvk_load_structs(tvk_store *store, uint64_t tx, const void *structs, 
  * @retval TVK_EXISTS          a key of the refused run has a record: `key`
  */
 tvk_status tvk_load_text(tvk_store *store, uint64_t tx, const void *text, size_t length, tvk_key *key, uint64_t *line,
-                         uint64_t *loaded, uint64_t *holder);
+                         uint64_t *loaded, uint64_t *holder) TVK_MUST_USE;
 
 /** Reads the first records of a range by rising key: as many as there are, at most `limit`. The whole range is locked, shared.
  *
@@ -512,7 +528,7 @@ tvk_status tvk_load_text(tvk_store *store, uint64_t tx, const void *text, size_t
  * @retval TVK_NO_MEMORY       memory was refused
  */
 tvk_status tvk_scan(tvk_store *store, uint64_t tx, const void *lo, size_t lo_length, const void *hi, size_t hi_length,
-                    tvk_record *rows, size_t limit, uint64_t *told);
+                    tvk_record *rows, size_t limit, uint64_t *told) TVK_MUST_USE;
 
 /** Goes on with a scan: reads the first records behind `key`, the last key of the rows before. The range from `key` to `hi` is
  * locked, shared.
@@ -540,7 +556,7 @@ tvk_status tvk_scan(tvk_store *store, uint64_t tx, const void *lo, size_t lo_len
  * @retval TVK_NO_MEMORY       memory was refused
  */
 tvk_status tvk_scan_behind(tvk_store *store, uint64_t tx, const void *key, size_t key_length, const void *hi,
-                           size_t hi_length, tvk_record *rows, size_t limit, uint64_t *told);
+                           size_t hi_length, tvk_record *rows, size_t limit, uint64_t *told) TVK_MUST_USE;
 
 /** Locks a range, absent keys too.
  *
@@ -566,7 +582,7 @@ tvk_status tvk_scan_behind(tvk_store *store, uint64_t tx, const void *key, size_
  * @retval TVK_NO_MEMORY       memory was refused
  */
 tvk_status tvk_lock(tvk_store *store, uint64_t tx, tvk_mode mode, const void *lo, size_t lo_length, const void *hi,
-                    size_t hi_length, uint64_t *holder);
+                    size_t hi_length, uint64_t *holder) TVK_MUST_USE;
 
 /** Moves records of the oldest range that was read from loaded runs to their final place. No transaction sees a difference.
  *
@@ -627,13 +643,13 @@ tvk_status tvk_entries(tvk_store *store, uint64_t *told);
 /** Tells how large the store is. It takes no memory, and looks at no entry.
  *
  * @param[in,out] store  the store
- * @param[out] counts    the numbers, which a refused call leaves as they were
+ * @param[out] figures   the numbers, which a refused call leaves as they were
  *
  * @retval TVK_OK        they are told
  * @retval TVK_NO_STORE  the handle is NULL or has no store
- * @retval TVK_NULL      `counts` is NULL
+ * @retval TVK_NULL      `figures` is NULL
  */
-tvk_status tvk_figures(tvk_store *store, tvk_counts *counts);
+tvk_status tvk_figures(tvk_store *store, tvk_figures_t *figures);
 
 #ifdef __cplusplus
 }

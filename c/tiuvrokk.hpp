@@ -29,7 +29,7 @@
 
 #if !defined(_MSVC_LANG) && __cplusplus < 201703L
 #error "tiuvrokk.hpp needs C++17 (-std=c++17); tiuvrokk.h serves any older C++"
-#endif
+#else
 
 #include <tiuvrokk.h>
 
@@ -467,7 +467,7 @@ private:
 /* A store. It is open until it is closed or leaves its scope; its memory is given back then, whatever is open in it. */
 class Store {
 public:
-    Store() : store_(std::make_shared<tvk_store>(tvk_store TVK_CLOSED)) { detail::check(tvk_open(store_.get()), {}); }
+    Store() : store_(std::make_shared<tvk_store>(TVK_CLOSED)) { detail::check(tvk_open(store_.get()), {}); }
 
     Store(Store &&) noexcept = default;
 
@@ -517,10 +517,10 @@ public:
     std::uint64_t entries() const { return count(tvk_entries); }
 
     /* How large the store is. */
-    tvk_counts figures() const {
-        tvk_counts counts{};
-        detail::check(tvk_figures(store_.get(), &counts), {});
-        return counts;
+    tvk_figures_t figures() const {
+        tvk_figures_t figures{};
+        detail::check(tvk_figures(store_.get(), &figures), {});
+        return figures;
     }
 
     /* The handle, for the calls of tiuvrokk.h. It stays the store's. */
@@ -537,5 +537,7 @@ private:
 };
 
 }  // namespace tiuvrokk
+
+#endif
 
 #endif

@@ -1,14 +1,18 @@
-"""Makes the wheel of the package, for `pip install ./python`, which calls `build_wheel`, and for ./package. No C is compiled,
-and nothing but Python's own library is needed.
+"""Makes the wheel of the package, for `pip install ./python`, which calls `build_wheel`, and for ./package, and an archive of the
+package's own sources (`build_sdist`), of which pip makes the same wheel. No C is compiled, and nothing but Python's own library
+is needed.
 
 The library goes into the wheel where there is one: the one that the environment's TIUVROKK_LIBRARY names, or else the one that
 lies beside the package. Without one the wheel is for any machine, and the library is looked for where a program uses it."""
 
 import base64
+import gzip
 import hashlib
+import io
 import os
 import re
 import sysconfig
+import tarfile
 import time
 import zipfile
 from typing import Any, Dict, List, Optional
@@ -48,16 +52,25 @@ def sum_of(data: bytes) -> str:
     return base64.urlsafe_b64encode(hashlib.sha256(data).digest()).rstrip(b"=").decode()
 
 
+def metadata() -> bytes:
+    """What the package says of itself, wherever it is installed."""
+    about = f"Metadata-Version: 2.1\nName: tiuvrokk\nVersion: {version()}\nLicense: MIT\nRequires-Python: >=3.9\n"
+    return f"{about}Summary: {SUMMARY}\n".encode()
+
+
+def information_folder() -> str:
+    """Where that stands, beside the package."""
+    return f"tiuvrokk-{version()}.dist-info"
+
+
 def documents(tag: str, licence: Optional[bytes]) -> Dict[str, bytes]:
     """What a wheel says of itself."""
-    about = f"Metadata-Version: 2.1\nName: tiuvrokk\nVersion: {version()}\nLicense: MIT\nRequires-Python: >=3.9\n"
-    about += f"Summary: {SUMMARY}\n"
     is_pure = "true" if tag.endswith("-any") else "false"
     said = f"Wheel-Version: 1.0\nGenerator: tiuvrokk\nRoot-Is-Purelib: {is_pure}\nTag: {tag}\n"
-    found = {"METADATA": about.encode(), "WHEEL": said.encode()}
+    found = {"METADATA": metadata(), "WHEEL": said.encode()}
     if licence is not None:
         found["LICENSE"] = licence
-    return {f"tiuvrokk-{version()}.dist-info/{name}": data for name, data in found.items()}
+    return {f"{information_folder()}/{name}": data for name, data in found.items()}
 
 
 def write_wheel(folder: str, platform: str, library: Optional[bytes], licence: Optional[bytes], epoch: int) -> str:
@@ -72,7 +85,7 @@ def write_files(folder: str, platform: str, files: Dict[str, bytes], licence: Op
     """Makes a wheel of some files."""
     tag = f"py3-none-{platform}"
     files.update(documents(tag, licence))
-    record = f"tiuvrokk-{version()}.dist-info/RECORD"
+    record = f"{information_folder()}/RECORD"
     lines = [f"{path},sha256={sum_of(data)},{len(data)}\n" for path, data in files.items()]
     files[record] = f"{''.join(lines)}{record},,\n".encode()
     name = f"tiuvrokk-{version()}-{tag}.whl"
@@ -93,6 +106,17 @@ def found_library() -> Optional[bytes]:
     return None if named is None else bytes_of(named)
 
 
+def found_licence() -> Optional[bytes]:
+    """The licence: beside this file in the archive of the sources, and else at the top of the repository."""
+    places = [os.path.join(folder, "LICENSE") for folder in (HERE, os.path.dirname(HERE))]
+    return next((bytes_of(it) for it in places if os.path.exists(it)), None)
+
+
+def epoch_told() -> int:
+    """The time of all files, so that what is made of the same sources is the same to the bit."""
+    return int(os.environ.get("SOURCE_DATE_EPOCH", EARLIEST))
+
+
 def get_requires_for_build_editable(config_settings: Any = None) -> List[str]:
     return []
 
@@ -109,10 +133,27 @@ def get_requires_for_build_wheel(config_settings: Any = None) -> List[str]:
 def build_wheel(wheel_directory: str, config_settings: Any = None, metadata_directory: Optional[str] = None) -> str:
     library = found_library()
     platform = "any" if library is None else re.sub(r"\W", "_", sysconfig.get_platform())
-    licence = os.path.join(HERE, os.pardir, "LICENSE")
-    epoch = int(os.environ.get("SOURCE_DATE_EPOCH", EARLIEST))
-    return write_wheel(wheel_directory, platform, library, bytes_of(licence) if os.path.exists(licence) else None, epoch)
+    return write_wheel(wheel_directory, platform, library, found_licence(), epoch_told())
 
 
 def build_sdist(sdist_directory: str, config_settings: Any = None) -> str:
-    raise NotImplementedError("the sources are the repository")
+    return write_sources(sdist_directory, epoch_told())
+
+
+def write_sources(folder: str, epoch: int) -> str:
+    """Makes the archive of the sources, without a library, and tells its name."""
+    files = {name: bytes_of(os.path.join(HERE, name)) for name in ("building.py", "pyproject.toml")}
+    files.update(modules())
+    files["PKG-INFO"] = metadata()
+    licence = found_licence()
+    if licence is not None:
+        files["LICENSE"] = licence
+    name, made = f"tiuvrokk-{version()}", io.BytesIO()
+    with tarfile.open(fileobj=made, mode="w", format=tarfile.PAX_FORMAT) as file:
+        for path, data in sorted(files.items()):
+            told = tarfile.TarInfo(f"{name}/{path}")
+            told.mtime, told.mode, told.size = max(epoch, EARLIEST), 0o644, len(data)
+            file.addfile(told, io.BytesIO(data))
+    with open(os.path.join(folder, f"{name}.tar.gz"), "wb") as written:
+        written.write(gzip.compress(made.getvalue(), 9, mtime=0))
+    return f"{name}.tar.gz"

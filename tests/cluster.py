@@ -15,7 +15,7 @@ from typing import Any, Callable, Dict, List, Optional, Sequence, Set
 
 from support import AMAUDIT, AMSERVE, LIMIT, TOP
 
-sys.path.insert(0, TOP)
+sys.path.insert(0, os.path.join(TOP, "python"))
 
 STORE = os.environ.get("AMREPLICA_STORE", f"{shlex.quote(AMSERVE)} alone --auto 16")
 AUDITOR = shlex.split(os.environ.get("AMREPLICA_AUDITOR", shlex.quote(AMAUDIT)))

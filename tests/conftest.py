@@ -28,6 +28,6 @@ class Run(pytest.Item):  # type: ignore[misc]
 
 def pytest_collect_file(file_path: Path, parent: pytest.Collector) -> Optional[Script]:
     """Takes each script of this folder."""
-    if file_path.parent == Path(__file__).parent and not file_path.suffix and os.access(file_path, os.X_OK):
+    if file_path.parent == Path(__file__).parent and file_path.suffix in ("", ".py") and os.access(file_path, os.X_OK):
         return Script.from_parent(parent, path=file_path)  # type: ignore[no-any-return]
     return None

@@ -520,23 +520,48 @@ static void test_end(void) {
         ASK(tvk_get(&store, tx, keys[key].bytes, keys[key].length, &value, NULL));
         /* One transaction may hold no more locks than that. */
         if (got == TVK_TOO_MANY_LOCKS) {
-            tvk_commit(&store, tx, NULL);
-            tvk_begin(&store, &tx);
+            if (tvk_commit(&store, tx, NULL) || tvk_begin(&store, &tx)) fail("the next of the last transactions");
             ASK(tvk_get(&store, tx, keys[key].bytes, keys[key].length, &value, NULL));
         }
         if (got || !is_same(&value, &committed[key].value)) fail("another value in the end");
         due++;
     }
-    tvk_commit(&store, tx, NULL);
-    tvk_begin(&store, &tx);
+    if (tvk_commit(&store, tx, NULL) || tvk_begin(&store, &tx)) fail("the last transaction");
     ASK(tvk_scan(&store, tx, NULL, 0, keys[KEYS - 1].bytes, TVK_MAX_KEY, rows, TVK_MAX_ROWS, &told));
     if (got || told != due) fail("another number of records in the end");
     ASK(tvk_entries(&store, &told));
     if (got || told != due) fail("another number of entries in the end");
-    tvk_counts counts;
-    ASK(tvk_figures(&store, &counts));
-    if (got || counts.entries != due || counts.in_final + counts.in_runs != due || counts.ghosts) fail("other figures in the end");
-    if (counts.active != 1 || counts.commits != commits + 1) fail("other transactions in the end");
+    tvk_figures_t figures;
+    ASK(tvk_figures(&store, &figures));
+    if (got || figures.entries != due || figures.in_final + figures.in_runs != due || figures.ghosts) fail("other figures in the end");
+    if (figures.active != 1 || figures.commits != commits + 1) fail("other transactions in the end");
+}
+
+/* How many ghosts stand behind a commit that deleted 200 records of 200. */
+static uint64_t ghosts_left(void) {
+    tvk_store own = TVK_CLOSED;
+    tvk_figures_t figures;
+    uint64_t tx;
+    char key[8];
+    if (tvk_open(&own)) fail("no room for a small store");
+    for (int deletes = 0; deletes <= 1; deletes++) {
+        if (tvk_begin(&own, &tx)) fail("a small transaction");
+        for (int i = 0; i < 200; i++) {
+            size_t length = (size_t)snprintf(key, sizeof key, "%03d", i);
+            if (deletes ? tvk_delete(&own, tx, key, length, NULL) : tvk_insert(&own, tx, key, length, "v", 1, NULL))
+                fail("200 records, and none of them");
+        }
+        if (tvk_commit(&own, tx, NULL)) fail("the end of a small transaction");
+    }
+    if (tvk_figures(&own, &figures) || tvk_close(&own)) fail("a small store");
+    return figures.ghosts;
+}
+
+static void test_upkeep(void) {
+    if (ghosts_left() >= 64) fail("a commit doesn't clean");
+    tvk_upkeep(0);
+    if (ghosts_left() != 200) fail("a commit cleans where it is told not to");
+    tvk_upkeep(1);
 }
 
 /* Loads of more records than a session could stage: by rising key in one run, and in any order in five. */
@@ -615,11 +640,11 @@ static void test_large_loads(void) {
     end_large(tx, MANY);
 
     for (size_t more = 0; more <= 1; more++) {
-        tvk_counts counts;
+        tvk_figures_t figures;
         begin_large(&tx);
         if (tvk_load_structs(&large, tx, records, RUN + more, &layout, NULL, &loaded, NULL) || loaded != RUN + more)
             fail("65,536 structs, and one more");
-        if (tvk_figures(&large, &counts) || counts.runs != 1 + more) fail("the runs of 65,536 structs, and of one more");
+        if (tvk_figures(&large, &figures) || figures.runs != 1 + more) fail("the runs of 65,536 structs, and of one more");
         end_large(tx, RUN + more);
     }
 
@@ -657,6 +682,7 @@ int main(int words, char **word) {
     if (tvk_close(&store) || store.at) fail("the store is not closed");
     if (tvk_close(&store) != TVK_NO_STORE) fail("a closed store is closed again");
     if (may_refuse) return 0;
+    test_upkeep();
     test_large_loads();
     printf("library: %ld calls, %llu commits, %llu loads;", number, (unsigned long long)commits, (unsigned long long)loads);
     for (int status = 0; status <= TVK_BAD_LINE; status++)

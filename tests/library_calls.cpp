@@ -162,9 +162,9 @@ static void loads_and_scans() {
     std::uint64_t merged = 0;
     while (auto step = store.merge()) merged += *step;
     expect(merged >= 2999, "a merge of all");
-    tvk_counts counts = store.figures();
-    expect(counts.in_final == counts.entries && !counts.in_runs && !counts.runs, "nothing is left in runs");
-    expect(counts.entries - counts.ghosts == 2999, "the records beside ghosts");
+    tvk_figures_t figures = store.figures();
+    expect(figures.in_final == figures.entries && !figures.in_runs && !figures.runs, "nothing is left in runs");
+    expect(figures.entries - figures.ghosts == 2999, "the records beside ghosts");
     while (store.clean()) continue;
     expect(store.entries() == 2999, "a clean");
 }

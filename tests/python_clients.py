@@ -1,5 +1,6 @@
-"""The Python package's client, at a server and at what answers oddly; tests/replicas has it at replicas."""
+"""The Python package's client, at a server and at what answers oddly; tests/replicas.py has it at replicas."""
 
+import asyncio
 import contextlib
 import os
 import random
@@ -9,9 +10,10 @@ import warnings
 from typing import Any, Callable, Dict, Iterator, List
 
 from client_cases import all_cases, counters, emptied, raised
-from support import Server, fail, interrupted, wanted
+from support import LIMIT, Server, fail, interrupted, wanted
 
 import tiuvrokk
+import tiuvrokk.aio
 
 
 @contextlib.contextmanager
@@ -43,6 +45,7 @@ def served(folder: str) -> None:
     with connected() as client, client.transaction() as tx:
         wanted("what all added", tx["count"], b"200")
     interrupts(server)
+    asyncio.run(by_asyncio(server.port))
     dropped(server)
     lost(server)
     wrong_uses(server)
@@ -110,6 +113,93 @@ def interrupts(server: Server) -> None:
         for _ in range(300):
             interrupted(dice.uniform(1e-5, 2e-3), committed)
         client.run(lambda tx: tx.lock(b"", b"\xff" * 32, exclusive=True), tries=1000)
+
+
+async def by_asyncio(port: int) -> None:
+    """The client of asyncio: its calls, tasks that share a client and tasks of two, and tasks that are cancelled."""
+    async with tiuvrokk.aio.connect(port=port) as one, tiuvrokk.aio.connect(port=port) as other:
+        await awaited_calls(one, other)
+        await awaited_tasks(one, other)
+        await cancelled(one, other)
+    with contextlib.suppress(tiuvrokk.Closed):
+        await one.run(lambda tx: tx.get("a"))
+        fail("a client goes on behind its end")
+
+
+async def awaited_calls(one: tiuvrokk.aio.Client, other: tiuvrokk.aio.Client) -> None:
+    """Each call, and what is raised."""
+    wanted("a load", await one.ask(lambda it: it.load({f"async{n}": "1" for n in range(300)})), 300)
+    async with one.transaction() as tx:
+        await tx.put("async", "6")
+        wanted("what was set", (await tx.get("async"), await tx.get("asynchronous"), await tx.pop("async0"), await tx.pop("async0")), (b"6", None, b"1", None))
+        await tx.delete("async1")
+        await tx.update({"async2": "2"}, async3="3")
+        wanted("a count", await tx.count("async", "async~"), 299)
+        wanted("the first rows", [row async for row in tx.scan("async", "async~", page=7)][:2], [(b"async", b"6"), (b"async10", b"1")])
+        async with other.transaction() as late:
+            with contextlib.suppress(tiuvrokk.Busy):
+                await late.get("async")
+                fail("a lock is in nobody's way")
+        with contextlib.suppress(RuntimeError):
+            await one.ask(lambda it: it.merge())
+            fail("a client waits for its own transaction")
+    wanted("what an exception left", await taken_back(one, other), b"6")
+
+
+async def taken_back(one: tiuvrokk.aio.Client, other: tiuvrokk.aio.Client) -> Any:
+    """What is read behind an exception."""
+    with contextlib.suppress(ZeroDivisionError):
+        async with one.transaction() as tx:
+            await tx.put("async", str(1 // 1))
+            await tx.put("async", str(1 // 0))
+    return await other.run(lambda tx: tx.get("async"))
+
+
+async def add_one(tx: tiuvrokk.aio.Transaction) -> None:
+    await tx.put("async", str(int(await tx.get("async") or b"0") + 1))
+
+
+async def awaited_tasks(one: tiuvrokk.aio.Client, other: tiuvrokk.aio.Client) -> None:
+    """Tasks that share a client take turns, and those of two go again; others run while an answer is awaited."""
+
+    async def add_many(client: tiuvrokk.aio.Client) -> None:
+        for _ in range(25):
+            await client.run(add_one, tries=1000)
+
+    await asyncio.gather(*[add_many(it) for it in (one, one, other, other)])
+    wanted("what all added", await one.run(lambda tx: tx.get("async")), b"106")
+    await one.ask(lambda it: it.hold(400))
+    waits = asyncio.ensure_future(other.run(lambda tx: tx.get("async")))
+    turns = 0
+    while not waits.done() and turns < 1000:
+        turns += 1
+        await asyncio.sleep(0.01)
+    if turns < 5:
+        fail("no other task runs while an answer is awaited")
+    wanted("what was waited for", await waits, b"106")
+
+
+async def cancelled(one: tiuvrokk.aio.Client, other: tiuvrokk.aio.Client) -> None:
+    """A task that is cancelled leaves no transaction, at whichever moment it is."""
+    dice = random.Random(9)
+    for _ in range(200):
+        with contextlib.suppress(asyncio.TimeoutError):
+            await asyncio.wait_for(one.run(add_one), dice.uniform(1e-5, 2e-3))
+    held = asyncio.Event()
+
+    async def hold_on() -> None:
+        async with one.transaction() as tx:
+            await tx.put("async", "0")
+            held.set()
+            await asyncio.sleep(LIMIT)
+
+    task = asyncio.ensure_future(hold_on())
+    await held.wait()
+    task.cancel()
+    with contextlib.suppress(asyncio.CancelledError):
+        await task
+    await other.run(lambda tx: tx.lock(b"", b"\xff" * 32, exclusive=True), tries=1000)
+    wanted("what a cancelled task wrote", await other.run(lambda tx: tx.get("async")) != b"0", True)
 
 
 def dropped(server: Server) -> None:

@@ -12,7 +12,7 @@ from cluster import STORE, Cluster, until
 from other_protocols import other_protocols
 from support import LIMIT, TOP, fail, wanted
 
-from replica.etcd import Etcd, Refused, Unreachable, put_of
+from tiuvrokk_replica.etcd import Etcd, Refused, Unreachable, put_of
 
 sys.path.insert(0, os.path.join(TOP, "python"))
 

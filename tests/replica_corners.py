@@ -14,10 +14,10 @@ from cluster import STORE, Client, Cluster, until
 from replica_ends import largest_block
 from support import fail, wanted
 
-from replica.etcd import Etcd, Refused, decoded, encoded
-from replica.log import Event
-from replica.snapshots import put_pieces
-from replica.store import StoreEnded
+from tiuvrokk_replica.etcd import Etcd, Refused, decoded, encoded
+from tiuvrokk_replica.log import Event
+from tiuvrokk_replica.snapshots import put_pieces
+from tiuvrokk_replica.store import StoreEnded
 
 NAME = "corners"
 LIMIT = 60

@@ -10,11 +10,11 @@ from typing import Any, Awaitable, Dict, List, Optional, Set
 
 from support import built
 
-from replica.etcd import Etcd, Message, decoded, encoded
-from replica.log import Log
-from replica.replica import Replica
-from replica.store import Store
-from replica.transaction import EMPTY, Block
+from tiuvrokk_replica.etcd import Etcd, Message, decoded, encoded
+from tiuvrokk_replica.log import Log
+from tiuvrokk_replica.replica import Replica
+from tiuvrokk_replica.store import Store
+from tiuvrokk_replica.transaction import EMPTY, Block
 
 # Seconds that a step may take.
 PATIENCE = 60.0

@@ -17,9 +17,9 @@ from replica_running import PATIENCE, Running
 from stopped_requests import Stop, Way
 from support import fail, wanted
 
-from replica import snapshots
-from replica.etcd import decoded, put_of
-from replica.log import LeftBehind
+from tiuvrokk_replica import snapshots
+from tiuvrokk_replica.etcd import decoded, put_of
+from tiuvrokk_replica.log import LeftBehind
 
 # Blocks between snapshots, and those that the replica commits that is stopped: it writes three snapshots.
 EVERY, COMMITS, SNAPSHOTS = 2, 7, 3

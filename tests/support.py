@@ -66,7 +66,7 @@ def interrupted(seconds: float, call: Callable[[], Any]) -> None:
 
 def built(crate: str) -> str:
     """Where a program lies, which is built first where it has to be."""
-    return subprocess.run([f"{TOP}/tools/built", crate], capture_output=True, text=True, check=True).stdout.strip()
+    return subprocess.run([f"{TOP}/tools/built.py", crate], capture_output=True, text=True, check=True).stdout.strip()
 
 
 def alone(lines: Sequence[str], *words: str) -> List[str]:

@@ -1,8 +1,8 @@
-"""A wheel of the Python package with the library in it, and a .tar.gz of all, for systems that aren't Debian's."""
+"""A wheel of the Python package with the library in it, that package's own sources, and a .tar.gz of all, for systems that aren't
+Debian's."""
 
 import io
 import os
-import sys
 import tarfile
 from typing import Dict, List
 
@@ -10,8 +10,7 @@ import layout
 from debian import glibc_of, packed
 from layout import Entry
 
-sys.path.insert(0, os.path.join(layout.TOP, "python"))
-import building  # noqa: E402
+import building  # (layout says where it lies)
 
 
 def wheel(library: List[Entry], epoch: int, folder: str) -> str:
@@ -20,6 +19,11 @@ def wheel(library: List[Entry], epoch: int, folder: str) -> str:
     glibc = glibc_of([shared.data]).replace(".", "_")
     platform = f"manylinux_{glibc}_{os.uname().machine}"
     return os.path.join(folder, building.write_wheel(folder, platform, shared.data, layout.bytes_of("LICENSE"), epoch))
+
+
+def sources(epoch: int, folder: str) -> str:
+    """Makes the archive of the Python package's sources, and tells its name."""
+    return os.path.join(folder, building.write_sources(folder, epoch))
 
 
 def archive(programs: Dict[str, bytes], library: List[Entry], epoch: int, folder: str) -> str:

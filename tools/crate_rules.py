@@ -148,4 +148,4 @@ def faults_of_operations() -> Iterator[str]:
     """A new operation touches few files."""
     for (kind, files), most in zip(operation_files().items(), (8, 10, 18)):
         if len(files) > most:
-            yield f"tools/operation_files: {len(files)} {kind} go through the operations one by one, and {most} may"
+            yield f"tools/operation_files.py: {len(files)} {kind} go through the operations one by one, and {most} may"

@@ -12,6 +12,8 @@ from typing import Dict, Iterable, List, NamedTuple
 import layout
 from layout import Entry
 
+import building  # (layout says where it lies)
+
 MAINTAINER = "Tiuvrokk maintainers <maintainers@users.noreply.tiuvrokk.example>"
 ABOUT = """ Tiuvrokk keeps records in memory, and answers queries over freshly loaded
  data at once, before a whole index is built: loaded runs are merged where
@@ -84,9 +86,11 @@ def programs_package(programs: Dict[str, bytes]) -> Package:
 def library_package(name: str, shared: Entry) -> Package:
     version, major = layout.version(), layout.version().partition(".")[0]
     shlibs = Entry("shlibs", f"libtiuvrokk {major} {name} (>= {version})\n".encode())
+    # Since which version the library has each call, by which a program needs that version, and no newer one.
+    symbols = Entry("symbols", layout.bytes_of(f"packaging/{name}.symbols"))
     triggers = Entry("triggers", b"activate-noawait ldconfig\n")
     needs = [f"libc6 (>= {glibc_of([shared.data])})"]
-    return Package(name, "libs", needs, "This package has the shared library for C.", [shared], [shlibs, triggers])
+    return Package(name, "libs", needs, "This package has the shared library for C.", [shared], [shlibs, symbols, triggers])
 
 
 def development_package(library: str, rest: List[Entry]) -> Package:
@@ -99,12 +103,15 @@ def development_package(library: str, rest: List[Entry]) -> Package:
 
 def python_package(library: str) -> Package:
     entries = layout.package_entries("python/tiuvrokk", PYTHON)
+    # By which pip and importlib.metadata know the package, and pip that it is dpkg's to remove.
+    about = {"METADATA": building.metadata(), "INSTALLER": b"debian\n"}
+    entries += [Entry(f"{PYTHON}/{building.information_folder()}/{name}", data) for name, data in about.items()]
     entries.append(Entry("share/doc/python3-tiuvrokk/examples/embed.py", layout.bytes_of("examples/embed.py")))
     # What Python compiles where it may write is no file of the package, so it would stay.
     removal = Entry("prerm", f"#!/bin/sh\nset -e\nrm -rf /usr/{PYTHON}/tiuvrokk/__pycache__\n".encode(), 0o755)
     needs = ["python3 (>= 3.9)", f"{library} (>= {layout.version()})"]
-    about = "This package has the Python package."
-    return Package("python3-tiuvrokk", "python", needs, about, entries, [removal], is_for_all=True)
+    said = "This package has the Python package."
+    return Package("python3-tiuvrokk", "python", needs, said, entries, [removal], is_for_all=True)
 
 
 def documents(package: Package, epoch: int) -> List[Entry]:

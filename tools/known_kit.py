@@ -33,7 +33,7 @@ from builds import REFUSED, UNKNOWN, WRONG  # noqa: E402
 from progress import tell as say  # noqa: E402
 from tree import TOP  # noqa: E402
 
-# The kits with which tests/building passed by this file and by any_kit.py.
+# The kits with which tests/building.py passed by this file and by any_kit.py.
 KITS = ["rattle-kit-13b logic dac8208d650f15bf", "rattle-kit-13f logic dac8208d650f15bf"]
 STATED = "out/rlib/stated"
 # A crate is the kit's own.

@@ -10,6 +10,8 @@ import tempfile
 from typing import Dict, Iterable, List, NamedTuple, Optional
 
 TOP = os.path.dirname(os.path.dirname(os.path.abspath(__file__)))
+# (for what makes the Python package)
+sys.path.insert(0, os.path.join(TOP, "python"))
 # The proved programs by their crates, and where each is installed.
 # The list of what was installed.
 LIST = "lib/tiuvrokk/installed"
@@ -55,7 +57,7 @@ def built_programs(folder: Optional[str]) -> Dict[str, bytes]:
     """The proved programs: those of a folder, or those of the sources, which are built where they aren't."""
     names = list(PROVED)
     if folder is None:
-        told = subprocess.run([f"{TOP}/tools/built", *names], stdout=subprocess.PIPE, text=True, check=True).stdout
+        told = subprocess.run([f"{TOP}/tools/built.py", *names], stdout=subprocess.PIPE, text=True, check=True).stdout
         places = told.split("\n")
     else:
         places = [os.path.join(folder, name) for name in names]
@@ -101,7 +103,7 @@ def program_entries(programs: Dict[str, bytes]) -> List[Entry]:
     entries += [Entry("lib/tiuvrokk/stay", bytes_of("tools/stay"), 0o755)]
     entries += [Entry(f"lib/tiuvrokk/{name}", bytes_of(name), 0o755) for name in PYTHON_PROGRAMS]
     entries += [Entry(f"bin/{name}", link=f"../lib/tiuvrokk/{name}") for name in ("amserve", *PYTHON_PROGRAMS)]
-    return entries + package_entries("python/tiuvrokk_tools", "lib/tiuvrokk/python") + package_entries("replica", "lib/tiuvrokk")
+    return [*entries, *(it for name in ("tools", "replica") for it in package_entries(f"python/tiuvrokk_{name}", "lib/tiuvrokk/python"))]
 
 
 def package_entries(package: str, place: str) -> List[Entry]:
@@ -112,7 +114,7 @@ def package_entries(package: str, place: str) -> List[Entry]:
 
 def manual_entries(sections: Iterable[int]) -> List[Entry]:
     """The manuals of some sections; that of the protocol is made from its document."""
-    made = subprocess.run([f"{TOP}/tools/protocol_manual"], stdout=subprocess.PIPE, check=True).stdout
+    made = subprocess.run([f"{TOP}/tools/protocol_manual.py"], stdout=subprocess.PIPE, check=True).stdout
     found = {os.path.basename(it): bytes_of(it) for it in sorted(glob.glob(f"{TOP}/man/*.[1-9]"))}
     found["tiuvrokk-protocol.7"] = made
     return [Entry(f"share/man/man{name[-1]}/{name}", text) for name, text in found.items() if int(name[-1]) in sections]

@@ -11,7 +11,7 @@ from tree import TOP, kept_files
 PYTHON = "3.9"
 # Groups that are checked at once, each with the folders in which modules are looked for. Two scripts of one name are never
 # modules of one run.
-GROUPS = {"tools": "tools:python", "tests": "tests:tools:python:.", "others": "tests:tools:python:."}
+GROUPS = {"tools": "tools:python", "tests": "tests:tools:python", "others": "tests:tools:python"}
 # Programs for users of the library, which have no types.
 UNTYPED = "examples"
 

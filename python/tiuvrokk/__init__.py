@@ -19,6 +19,8 @@ the same calls and the same exceptions:
     with tiuvrokk.connect(port=7070) as client:
         client.run(lambda tx: tx.update(ant="6"))
 
+`tiuvrokk.aio` has that client for asyncio.
+
 Each operation locks the keys that it speaks of until its transaction ends. A lock is granted or refused at once, by `Busy`,
 which names the transaction that is in the way. A store is used by the thread that opened it, and raises `WrongThread` on any
 other, unless it was opened by `Store(check_same_thread=False)`.

@@ -28,7 +28,7 @@ Number: type[ctypes.Array[ctypes.c_uint64]] = ctypes.c_uint64 * 1
 """Where a call tells a number: an array, which C is passed the address of."""
 
 Counts: type[ctypes.Array[ctypes.c_uint64]] = ctypes.c_uint64 * 7
-"""`tvk_counts`."""
+"""`tvk_figures_t`."""
 
 
 class Handle(ctypes.Structure):

@@ -45,6 +45,11 @@ def may_come_right(error: Exception) -> bool:
     return isinstance(error, (Busy, Conflict, Held)) or (isinstance(error, TooMany) and error.status is Status.TOO_MANY_TX)
 
 
+def pause_behind(tried: int) -> float:
+    """How many seconds pass behind so many tries, by chance."""
+    return random.uniform(0, min(_FIRST_PAUSE * 2 ** min(tried - 1, 16), _LONGEST_PAUSE))
+
+
 class Runner(Unique, Generic[Tx]):
     """What gives transactions."""
 
@@ -74,7 +79,7 @@ class Runner(Unique, Generic[Tx]):
             except (Busy, Conflict, Held, TooMany) as error:
                 if tried == tries or not may_come_right(error):
                     raise
-            time.sleep(random.uniform(0, min(_FIRST_PAUSE * 2 ** min(tried - 1, 16), _LONGEST_PAUSE)))
+            time.sleep(pause_behind(tried))
         raise AssertionError("not reached")
 
 

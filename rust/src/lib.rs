@@ -42,7 +42,7 @@ use error::{check, Told};
 use library::Handle;
 
 pub use error::{Error, LoadError};
-pub use record::{Counts, Key, Layout, Record, Value, GREATEST};
+pub use record::{Figures, Key, Layout, Record, Value, GREATEST};
 
 /// So many rows are read at once at first, and twice as many each time after.
 const FIRST_PAGE: usize = 100;
@@ -136,11 +136,11 @@ impl Store {
     }
 
     /// How large it is. This takes no memory, and looks at no entry.
-    pub fn counts(&self) -> Counts {
-        let mut counts = Counts::default();
-        // SAFETY: the handle is open, and the counts are this function's.
-        unsafe { library::tvk_figures(self.at(), &mut counts) };
-        counts
+    pub fn figures(&self) -> Figures {
+        let mut figures = Figures::default();
+        // SAFETY: the handle is open, and the figures are this function's.
+        unsafe { library::tvk_figures(self.at(), &mut figures) };
+        figures
     }
 }
 
@@ -153,7 +153,7 @@ impl Drop for Store {
 
 impl fmt::Debug for Store {
     fn fmt(&self, f: &mut fmt::Formatter<'_>) -> fmt::Result {
-        f.debug_struct("Store").field("counts", &self.counts()).finish()
+        f.debug_struct("Store").field("figures", &self.figures()).finish()
     }
 }
 

@@ -2,7 +2,7 @@
 
 use std::ffi::{c_char, c_int, c_void};
 
-use crate::{Counts, Key, Layout, Record, Value};
+use crate::{Figures, Key, Layout, Record, Value};
 
 /// A store. It is closed where it is null.
 #[repr(C)]
@@ -127,5 +127,5 @@ extern "C" {
         limit: u64,
         told: *mut u64,
     ) -> c_int;
-    pub(crate) fn tvk_figures(store: *mut Handle, counts: *mut Counts) -> c_int;
+    pub(crate) fn tvk_figures(store: *mut Handle, figures: *mut Figures) -> c_int;
 }

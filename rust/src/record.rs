@@ -137,7 +137,7 @@ impl Layout {
 /// How large a store is.
 #[derive(Clone, Copy, Debug, Default, PartialEq, Eq)]
 #[repr(C)]
-pub struct Counts {
+pub struct Figures {
     /// Entries of the index, those marked as deleted too.
     pub entries: u64,
     /// Those in the final partition.

@@ -29,7 +29,7 @@ fn one_transaction() -> Result<(), Error> {
     let rows: Result<Vec<Record>, Error> = tx.scan("", GREATEST).collect();
     assert_eq!(rows?, [Record::new("ant", "6")?, Record::new("bee", "8")?]);
     tx.abort();
-    assert_eq!((store.counts().commits, store.counts().active), (1, 0));
+    assert_eq!((store.figures().commits, store.figures().active), (1, 0));
     Ok(())
 }
 
@@ -106,7 +106,7 @@ fn loads_in_each_form() -> Result<(), Error> {
     tx.commit()?;
     assert!(matches!(store.merge(64)?, Merge::Moved(64)));
     // Four runs of the first load, and one of each later one.
-    assert_eq!(store.counts().runs, 7);
+    assert_eq!(store.figures().runs, 7);
     Ok(())
 }
 
@@ -160,7 +160,7 @@ fn from_thread_to_thread() -> Result<(), Error> {
         .join()
         .expect("the thread ends")?;
     }
-    assert_eq!((store.counts().entries, store.counts().commits), (8, 8));
+    assert_eq!((store.figures().entries, store.figures().commits), (8, 8));
     assert_eq!(version(), env!("CARGO_PKG_VERSION"));
     Ok(())
 }

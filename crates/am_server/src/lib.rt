@@ -6,6 +6,7 @@
 //! - [`serve_session`]: one session at its [`am_session_seat::SessionSeat`], over any source and sink.
 #![tactic(auto)]
 
+mod answer_writer;
 mod listener;
 mod server;
 mod server_trace;

@@ -5,6 +5,7 @@ ghost use Rattle.am_session.specs.ServedSessions.{Served, read_failures, write_f
 ghost use Rattle.am_session_seat.specs.SessionSeats.{open_at, seat_meaning, IsNumbered, IsPublishedByReceipt};
 ghost use Rattle.am_server.specs.ServerTraces.{WasServed};
 
+use crate::answer_writer::AnswerWriter;
 use am_doors::{CountingSink, House, OwnLines};
 use am_latch::LatchName;
 use am_session::{End, PartingSink, serve};
@@ -64,7 +65,7 @@ pub(crate) fn serve_connection<'a, W: Wait + Clock, S: Source + Drop, L: LatchNa
 {
     // Each answer is written whole, and goes out at once where the system can be told so.
     let _ = stream.set_nodelay(true);
-    let Ok(writer) = BufWriter::new(alloc, stream) else {
+    let Ok(writer) = BufWriter::new(alloc, AnswerWriter::new(stream, house.idle.is_some())) else {
         refuse(stream);
         return;
     };

@@ -77,7 +77,7 @@ def check_documented_statuses() -> None:
 def check_library() -> None:
     """tiuvrokk(3) has each call as the header declares it, with its statuses, and each status."""
     header, manual = text_of("c/tiuvrokk.h"), text_of("man/tiuvrokk.3")
-    calls = re.findall(r"(?m)^[a-z_ ]+\*?(tvk_\w+)\(([^;]*)\);", header)
+    calls = re.findall(r"(?m)^[a-z_ ]+\*?(tvk_\w+)\(([^;]*?)\)(?: TVK_MUST_USE)?;", header)
     declared = [(name, re.sub(r"\s+", " ", words)) for name, words in calls]
     blocks = re.findall(r"(?s)\.Fo (\w+)\n(.*?)\.Fc", manual)
     told = [(name, ", ".join(re.findall(r'\.Fa "(.*?)"', words))) for name, words in blocks]
@@ -97,7 +97,7 @@ def check_lint(folder: str) -> None:
     for name in os.listdir(f"{TOP}/man"):
         shutil.copy(f"{TOP}/man/{name}", folder)
     with open(f"{folder}/tiuvrokk-protocol.7", "w", encoding="utf-8") as file:
-        subprocess.run([f"{TOP}/tools/protocol_manual"], stdout=file, timeout=LIMIT, check=True)
+        subprocess.run([f"{TOP}/tools/protocol_manual.py"], stdout=file, timeout=LIMIT, check=True)
     for name in sorted(os.listdir(folder)):
         words = ["mandoc", "-T", "lint", name]
         ran = subprocess.run(words, cwd=folder, capture_output=True, text=True, timeout=LIMIT, check=False)

@@ -1,5 +1,5 @@
 #!/usr/bin/env python3
-"""Prints where the programs or static libraries of crates lie: tools/built CRATE... Those are built first that weren't made from
+"""Prints where the programs or static libraries of crates lie: tools/built.py CRATE... Those are built first that weren't made from
 just what stands there now. With --by-gate, lines `CRATE SUM` on standard input say what the gate left there, a program or a library
 for other crates: it is taken as made from the sources of that sum."""
 
@@ -13,7 +13,7 @@ from tree import lines  # noqa: E402
 
 def complain(text: str) -> int:
     """Says what is wrong."""
-    print(f"tools/built: {text}", file=sys.stderr)
+    print(f"tools/built.py: {text}", file=sys.stderr)
     return 2
 
 

@@ -1,5 +1,5 @@
 #!/usr/bin/env python3
-"""Runs the worked examples in tests/rattle by the kit's checked build: tests/worked [--format | --layout] [NAME..].
+"""Runs the worked examples in tests/rattle by the kit's checked build: tests/worked.py [--format | --layout] [NAME..].
 
 The gate proves all that a crate of crates.txt has, its tests too, so these stand in files that it doesn't read. Here they are
 copied, with the crates' sources, into a folder of their own, as the crate am_worked. Tests that look inside a library go into its

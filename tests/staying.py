@@ -672,8 +672,8 @@ def idle_sessions() -> None:
 
 
 def peers_that_take_nothing() -> None:
-    """A session whose peer takes no answer is ended with its transaction."""
-    server = stay("--sessions", "2", "--workers", "0", "--idle", "1")
+    """A session whose peer takes no answer is ended with its transaction, so many seconds after the last byte that went out."""
+    server = stay("--sessions", "2", "--workers", "0", "--idle", "4")
     deaf, other = Client(server.port), Client(server.port)
     wanted("a transaction", deaf.ask_all(["BEGIN", "LOCK X a b", "LOAD " + " ".join(f"k{n:03}={'v' * 8}" for n in range(250))])[2], "OK")
     wanted("what it has locked", other.ask_all(["BEGIN", "INS a w"])[1], "BUSY 1")
@@ -684,6 +684,9 @@ def peers_that_take_nothing() -> None:
         if time.monotonic() - begun > LIMIT:
             fail("a session whose peer takes no answer isn't ended")
         time.sleep(0.1)
+    took = time.monotonic() - begun
+    if not 3.5 < took < 8:
+        fail(f"a session whose peer takes no answer is ended after {took:.1f} seconds, and not after 4")
     wanted("the other's end", other.ask("COMMIT"), "COMMITTED 1")
     other.quit()
     deaf.socket.close()

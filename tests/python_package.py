@@ -120,6 +120,11 @@ def check_bounds() -> None:
         for call in ranges:
             text = "the range begins at b, which is above its end a"
             wanted("a range", str(raised(tiuvrokk.Bad, call)), text)
+    with tiuvrokk.Store() as store, store.transaction() as tx:
+        for number in range(256):
+            tx.get(f"k{number}")
+        text = "there are 256 locks of a transaction, and may be no more: tx.lock(lo, hi) first locks a range as one"
+        wanted("the 257th key that is read", str(raised(tiuvrokk.TooMany, lambda: tx.get("another")))[: len(text)], text)
 
 
 def check_errors() -> None:

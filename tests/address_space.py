@@ -1,7 +1,7 @@
 #!/usr/bin/env python3
 """The programs where the address space is limited (RLIMIT_AS), from less than they start with to more than they need. Each
 serves, or says that it has no memory, by an answer or by its status; none is ended by a signal, and what a server stored is
-whole and legal: tests/address_space [--all]. Without --all a sample of the limits is taken."""
+whole and legal: tests/address_space.py [--all]. Without --all a sample of the limits is taken."""
 
 import argparse
 import os

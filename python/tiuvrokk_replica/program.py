@@ -20,7 +20,7 @@ from .trace import Trace, TraceFault
 
 # Seconds between two lines of --stats.
 MINUTE = 60.0
-TOP = os.path.dirname(os.path.dirname(os.path.realpath(__file__)))
+TOP = os.path.dirname(os.path.dirname(os.path.dirname(os.path.realpath(__file__))))
 DESCRIPTION = """A replica of a store, whose transactions an etcd cluster orders. It serves sessions over TCP at 127.0.0.1, by
 docs/protocol.md and docs/replicas.md, and writes `LISTEN p` with its port once it has all that the log has."""
 EPILOG = """status:

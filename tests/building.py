@@ -67,12 +67,12 @@ class Repository:
 
     def sum(self) -> bytes:
         """The sum of the program's sources."""
-        return subprocess.run([f"{self.folder}/tools/sum", "top"], stdout=subprocess.PIPE, check=True).stdout
+        return subprocess.run([f"{self.folder}/tools/sum.py", "top"], stdout=subprocess.PIPE, check=True).stdout
 
     def begin(self, crate: str = "top") -> "subprocess.Popen[str]":
         """A start, which builds what has to be built."""
         how = {"stdin": subprocess.DEVNULL, "stdout": subprocess.PIPE, "stderr": subprocess.PIPE, "text": True, "start_new_session": True}
-        return subprocess.Popen([f"{self.folder}/tools/built", crate], env=self.environment, **how)  # type: ignore[call-overload, no-any-return]
+        return subprocess.Popen([f"{self.folder}/tools/built.py", crate], env=self.environment, **how)  # type: ignore[call-overload, no-any-return]
 
     def built(self, crate: str = "top") -> Tuple[str, str, int]:
         """What a start prints and says, and its status."""

@@ -363,6 +363,24 @@ def at_a_terminal(folder: str) -> None:
     wanted("what was typed", lines, ["ins elephant grey", "BEGIN", "get elephant", ".time on", "scan a z 5", "commit"])
 
 
+def interrupted_load(folder: str) -> None:
+    """An interrupt ends a `.load` at once, while it reads as while it sends, and nothing is loaded."""
+    path = os.path.join(folder, "many")
+    with open(path, "w", encoding="ascii") as file:
+        file.writelines(f"{number:07}\tv\n" for number in range(200_000))
+    terminal = Terminal(AMCLI, "--store", AMSERVE, home=folder)
+    terminal.see("tiuvrokk> ")
+    for reads in (r" of [0-9.]+ MB, [0-9]+ records/s *\r", r"records/s, [0-9]+ s left"):
+        terminal.type(f".load {path}\n")
+        terminal.see(reads)
+        terminal.type("\x03")
+        terminal.see(r"amcli: interrupted.*\r\n.*tiuvrokk> ")
+    terminal.type(".count\n")
+    terminal.see(r"\n0\r\n.*tiuvrokk> ")
+    terminal.type("exit\n")
+    wanted("the end of a shell whose loads were interrupted", terminal.status(), 0)
+
+
 def progress_at_a_terminal(folder: str) -> None:
     """How far a load is, where standard error is a terminal."""
     path = os.path.join(folder, "some")
@@ -422,6 +440,7 @@ def main() -> None:
         any_text(folder)
         at_a_terminal(folder)
         server_comes_back(folder)
+        interrupted_load(folder)
         progress_at_a_terminal(folder)
         back_and_forth(folder)
     print("cli: all as expected")

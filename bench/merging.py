@@ -74,7 +74,7 @@ def main() -> None:
         for line in lines_of_loads(dice):
             answer = client.ask(line)
             if answer.startswith(("ERR", "BUSY", "EXISTS")):
-                sys.exit(f"bench/merging: {line[:20]}: {answer}")
+                sys.exit(f"bench/merging.py: {line[:20]}: {answer}")
         for number in range(QUERIES):
             query(client, other, number, dice)
         wanted("two ends", [client.ask("QUIT"), other.ask("QUIT")], ["BYE", "BYE"])

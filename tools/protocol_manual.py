@@ -1,5 +1,5 @@
 #!/usr/bin/env python3
-"""Prints docs/protocol.md as the manual tiuvrokk-protocol(7), in mdoc: tools/protocol_manual >tiuvrokk-protocol.7
+"""Prints docs/protocol.md as the manual tiuvrokk-protocol(7), in mdoc: tools/protocol_manual.py >tiuvrokk-protocol.7
 
 Headings, paragraphs, lists, tables and blocks of text are what that document has. ./install and ./package call it, so the
 manual says what the document says."""

@@ -1,5 +1,5 @@
 #!/usr/bin/env python3
-"""Breaks the lines of proofs that are longer than 120 characters: tools/fold [CRATE..], or in all crates.
+"""Breaks the lines of proofs that are longer than 120 characters: tools/fold.py [CRATE..], or in all crates.
 
 `rt fmt` lays out what was broken, and breaks nothing itself. So both take turns, until all lines fit. What goes on in a further
 line is indented deeper than its item. A line is broken at as few brackets deep as can be, behind an operator, or between the

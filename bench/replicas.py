@@ -1,5 +1,5 @@
 #!/usr/bin/env python3
-"""How fast replicas are, beside etcd's own puts and the store's own rate through a pipe, in one run: bench/replicas.
+"""How fast replicas are, beside etcd's own puts and the store's own rate through a pipe, in one run: bench/replicas.py.
 
 Three members of etcd and the replicas run on this machine, so the figures are ratios. --records N: of the store whose snapshot
 a replica begins with; 0 leaves that out."""
@@ -22,7 +22,7 @@ sys.path.insert(0, os.path.join(os.path.dirname(os.path.dirname(os.path.realpath
 
 from cluster import STORE, Client, Cluster, until
 
-from replica.etcd import Etcd, put_of
+from tiuvrokk_replica.etcd import Etcd, put_of
 
 RUN = 50_000
 
@@ -184,7 +184,7 @@ def main() -> None:
             for at in range(3):
                 cluster.start_replica(at, "--snapshot", "0", "--reads", "local" if at == 2 else "log")
             if not all(cluster.is_ready(at) for at in range(3)):
-                sys.exit("bench/replicas: a replica isn't ready")
+                sys.exit("bench/replicas.py: a replica isn't ready")
             figures_of_writes(cluster, asked.seconds)
             figures_of_reads(cluster, asked.seconds / 2)
             if asked.records:

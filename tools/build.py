@@ -1,5 +1,5 @@
 #!/usr/bin/env python3
-"""Proves and builds crates with all that they stand on: tools/build [CRATE..], or all libraries, for `rt check` to go on from.
+"""Proves and builds crates with all that they stand on: tools/build.py [CRATE..], or all libraries, for `rt check` to go on from.
 
 A line for each crate on standard error says what is done and how many are left; a terminal is also shown the share that is done
 and the time that is left. Where a crate is refused, what `rt` said of it follows, and the status is 1."""
@@ -17,7 +17,7 @@ def main(names: List[str]) -> int:
     """Builds these crates, and gives the status."""
     missing = [it for it in names if it not in lines()]
     if missing:
-        print(f"tools/build: crates.txt names no crate {' '.join(missing)}", file=sys.stderr)
+        print(f"tools/build.py: crates.txt names no crate {' '.join(missing)}", file=sys.stderr)
         return 2
     children.take_signals()
     return builds.build(names)

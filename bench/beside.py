@@ -1,5 +1,5 @@
 #!/usr/bin/env python3
-"""Readers beside a batch a second, and dumps beside sixteen writers, in one run: bench/beside. It is not part of ./test.
+"""Readers beside a batch a second, and dumps beside sixteen writers, in one run: bench/beside.py. It is not part of ./test.
 
 Over 200,000 old records a load of 20,000 or 65,536 new ones, spread evenly between them, comes in each second, 20 in all, beside
 readers that read a key, or scan a hundred, in a transaction each, and think for a millisecond. Each load holds, as amload does. Where

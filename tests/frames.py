@@ -1,5 +1,5 @@
 #!/usr/bin/env python3
-"""No function of the programs has a large stack frame: tests/frames [PROGRAM..], or the three that users start.
+"""No function of the programs has a large stack frame: tests/frames.py [PROGRAM..], or the three that users start.
 
 The first thread's stack grows when it is touched. It can't where the address space has been used up, and a signal would end the
 program. So tables stand on the heap, and moved or dropped values are small. The disassembly (objdump) tells frames: the bytes

@@ -1,5 +1,5 @@
 #!/usr/bin/env python3
-"""Prints the sum of all that a crate is made from: tools/sum CRATE, or of each of several with its name."""
+"""Prints the sum of all that a crate is made from: tools/sum.py CRATE, or of each of several with its name."""
 
 import sys
 from typing import List
@@ -14,7 +14,7 @@ def main(names: List[str]) -> int:
     """Prints the sums, and gives the status."""
     missing = [it for it in names if it not in lines()]
     if missing or not names:
-        print(f"crates.txt names no crate {' '.join(missing)}" if missing else "usage: tools/sum CRATE..", file=sys.stderr)
+        print(f"crates.txt names no crate {' '.join(missing)}" if missing else "usage: tools/sum.py CRATE..", file=sys.stderr)
         return 2
     for name in names:
         print(sums.sum_of(name) if len(names) == 1 else f"{name} {sums.sum_of(name)}")

@@ -42,7 +42,7 @@ def made(folder: str, given: List[str]) -> List[str]:
     same, _, _ = filecmp.cmpfiles(f"{folder}/one", f"{folder}/two", names, shallow=False)
     wanted("packages that are the same when they are made again", sorted(same), names)
     kinds = [re.sub(r"[0-9]*_.*", "", name) if name.endswith(".deb") else name.rpartition(".")[2] for name in names]
-    wanted("packages", sorted(kinds), ["gz", "libtiuvrokk", "libtiuvrokk-dev", "python3-tiuvrokk", "tiuvrokk", "whl"])
+    wanted("packages", sorted(kinds), ["gz", "gz", "libtiuvrokk", "libtiuvrokk-dev", "python3-tiuvrokk", "tiuvrokk", "whl"])
     return [os.path.join(folder, "one", name) for name in names]
 
 
@@ -116,16 +116,40 @@ def check_debian(packages: List[str], root: str) -> None:
     wanted("owners of the files", owners, {"root/root"})
     places = [words[5] for words in listed if not words[5].endswith("/")]
     wanted("files that are in two packages", sorted({it for it in places if places.count(it) > 1}), [])
+    library = next(it for it in names if re.search("/libtiuvrokk[0-9]+_", it))
+    run(["dpkg-deb", "-e", library, f"{root}/control"])
+    check_symbols(f"{root}/control/symbols", glob.glob(f"{root}/usr/lib/*/libtiuvrokk.so.*")[0])
+    shutil.rmtree(f"{root}/control")
     check_programs(f"{root}/usr/bin")
     libraries = os.path.dirname(glob.glob(f"{root}/usr/lib/*/libtiuvrokk.so")[0])
     check_library(root, f"{libraries}/pkgconfig", libraries)
-    example = f"{root}/usr/share/doc/python3-tiuvrokk/examples/embed.py"
-    out = run(["python3", "-B", example], PYTHONPATH=f"{root}/usr/lib/python3/dist-packages", LD_LIBRARY_PATH=libraries)
+    example, place = f"{root}/usr/share/doc/python3-tiuvrokk/examples/embed.py", f"{root}/usr/lib/python3/dist-packages"
+    out = run(["python3", "-B", example], PYTHONPATH=place, LD_LIBRARY_PATH=libraries)
     wanted("the Python package", out.partition(",")[0], "loaded 100000")
+    asked = "from importlib.metadata import distribution; it = distribution('tiuvrokk'); print(it.version, it.read_text('INSTALLER'), end='')"
+    with open(f"{TOP}/VERSION", encoding="ascii") as file:
+        wanted("what Python knows of it", run(["python3", "-B", "-c", asked], PYTHONPATH=place), f"{file.read().strip()} debian\n")
     for name in ("man1/amserve.1.gz", "man1/amreplica.1.gz", "man3/tiuvrokk.3.gz", "man7/tiuvrokk-protocol.7.gz"):
         wanted(f"the manual {name}", os.path.exists(f"{root}/usr/share/man/{name}"), True)
     check_units(root)
     check_removal(names, root)
+
+
+def check_symbols(path: str, library: str) -> None:
+    """Each call of the library has the version since which it is there, and nothing else has one."""
+    with open(path, encoding="utf-8") as file:
+        head, *rest = [line.split() for line in file]
+    wanted("whose symbols they are", (head[0], head[2]), (os.path.basename(library), "#MINVER#"))
+    calls = [line.split()[2] for line in run(["nm", "-D", "--defined-only", library]).splitlines()]
+    wanted("the symbols", [name for name, _ in rest], sorted(f"{it}@Base" for it in calls))
+    with open(f"{TOP}/VERSION", encoding="ascii") as file:
+        newest = numbers(file.read())
+    wanted("symbols of a version to come", [name for name, since in rest if numbers(since) > newest], [])
+
+
+def numbers(version: str) -> List[int]:
+    """A version, to be compared."""
+    return [int(it) for it in version.split(".")]
 
 
 def check_units(root: str) -> None:
@@ -168,15 +192,15 @@ def files_below(root: str) -> "set[str]":
     return {it for it in found if not it.startswith("var")}
 
 
-def check_wheel(wheel: str, library: str, root: str) -> None:
-    """The wheel, and the sources with a library, in an environment of their own, without a network."""
+def check_wheel(wheel: str, sources: str, library: str, root: str) -> None:
+    """The wheel, and the sources with a library, of an archive too, in an environment of their own, without a network."""
     # (the pip of this Python serves: one of its own would take most of the test's time)
     pip = [sys.executable, "-m", "pip", "--python", f"{root}/bin/python", "--disable-pip-version-check"]
     for words in ([sys.executable, "-m", "venv", "--without-pip", root], [*pip, "--version"]):
         if subprocess.run(words, capture_output=True, timeout=LIMIT, check=False).returncode:
             print("package: no environment can be made here, or no pip serves it")
             return
-    for given in (wheel, f"{TOP}/python"):
+    for given in (wheel, f"{TOP}/python", sources):
         run([*pip, "install", "--no-index", "--no-cache-dir", given], TIUVROKK_LIBRARY=library)
         out = run([f"{root}/bin/python", f"{TOP}/examples/embed.py"], folder=root, TIUVROKK_LIBRARY="")
         wanted(f"the package of {given}", out.partition(",")[0], "loaded 100000")
@@ -236,8 +260,10 @@ def main() -> None:
         check_debian(packages, os.path.join(folder, "root"))
         check_lint(packages)
         library = glob.glob(f"{folder}/root/usr/lib/*/libtiuvrokk.so.*")[0]
-        check_wheel(next(it for it in packages if it.endswith(".whl")), library, os.path.join(folder, "environment"))
-        check_archive(next(it for it in packages if it.endswith(".tar.gz")), os.path.join(folder, "archive"))
+        kinds = (r"\.whl$", r"/tiuvrokk-[0-9.]+\.tar\.gz$", r"-linux-[^/]*\.tar\.gz$")
+        wheel, sources, archive = (next(it for it in packages if re.search(kind, it)) for kind in kinds)
+        check_wheel(wheel, sources, library, os.path.join(folder, "environment"))
+        check_archive(archive, os.path.join(folder, "archive"))
         check_installation(folder, given)
     print("package: all as expected")
 
